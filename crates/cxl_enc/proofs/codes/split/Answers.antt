@@ -1,0 +1,8 @@
+use Rattle.cxl_enc.proofs.Tables.{factored}
+use Rattle.cxl_enc.proofs.codes.split.Goals as goal
+
+pub returns-then-ways-eq0-clause-product : goal.returns-then-ways-eq0-clause-product
+returns-then-ways-eq0-clause-product c = (factored c.args.ways c.requires).product
+
+pub returns-clause-product : goal.returns-clause-product
+returns-clause-product c = (factored c.args.ways c.requires).product

@@ -1,0 +1,10 @@
+-- Counts of faults: how each trait of the outside shows that it gave cause.
+use Rattle.std.specs.Prelude.{ℕ, ◌+◌, ◌-◌, ◌^◌, ◌≤◌, min, Result, OnErr}
+
+-- the count rose in a call: a count that has reached 2 ^ 64 - 1 stays there, and is taken as risen
+abbrev pub Rose : ℕ → ℕ → Type 0
+Rose before now = min (before + 1) (2 ^ 64 - 1) ≤ now
+
+-- a failure comes only where the count rose
+abbrev pub HasCause : {T E : Type 0} → Result T E → ℕ → ℕ → Type 0
+HasCause result before now = OnErr result (Rose before now)

@@ -1,0 +1,5 @@
+pub mod Codes
+pub mod Caps
+pub mod Name
+pub mod Faults
+pub mod NameInside
