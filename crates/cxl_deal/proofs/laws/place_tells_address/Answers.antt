@@ -1,0 +1,5 @@
+use Rattle.cxl_deal.proofs.Places.{same_address}
+use Rattle.cxl_deal.proofs.laws.place_tells_address.Goals as goal
+
+pub returns : goal.returns
+returns c = λ w h i is h_from i_from slots offsets. same_address w is h i h_from i_from slots offsets

@@ -1,0 +1,4 @@
+pub mod Maps
+pub mod Weaves
+pub mod WeaveInside
+pub mod Swaps

@@ -1,0 +1,56 @@
+ghost use Rattle.std.specs.Prelude.{◌+◌, ◌/◌, ◌^◌, ◌<◌, ◌≤◌};
+ghost use Rattle.cxl_deal.specs.Weaves.{chunk_size, weave_ways, turns_end};
+
+use super::*;
+use std::process::Abort;
+
+/// The address is dealt to this place, and gathered from it.
+fn check(rt: &impl Abort, weave: &Weave, h: u64, slot: u32, offset: u64)
+    requires from { weave.now.base ≤ h }
+    requires below { h < 2 ^ 52 }
+    requires slot_below { slot < weave_ways weave.now }
+    requires fits { turns_end weave.now (offset / chunk_size weave.now.gran + 1) ≤ 2 ^ 52 }
+{
+    assert_eq!(rt; deal(weave, h), Dealt { slot, offset }, "of {h}");
+    assert_eq!(rt; gather(weave, slot, offset), h, "of {slot} and {offset}");
+}
+
+/// Regions of a window with modulo arithmetic.
+#[test]
+fn deals_by_remainders(rt: HostRuntime) {
+    let three = Weave::new(0x1_0000_0000, 0, 0, true, 0, false, [0; 4]);
+    check(&rt, &three, 0x1_2fff_ffff, 2, 0xfff_ffff);
+    let six = Weave::new(0x1_0000_0000, 0, 0, true, 1, false, [0; 4]);
+    check(&rt, &six, 0x1_0000_0400, 4, 0);
+    check(&rt, &six, 0x1_0000_0600, 0, 0x100);
+    check(&rt, &six, 0x1_0000_0a00, 4, 0x100);
+    let twelve = Weave::new(0x1_0000_0000, 0, 1, true, 1, false, [0; 4]);
+    check(&rt, &twelve, 0x1_0000_0b00, 11, 0);
+    let sixteen = Weave::new(0x1_0000_0000, 0, 0, false, 4, false, [0; 4]);
+    check(&rt, &sixteen, 0x1_0000_0b00, 11, 0);
+    let four = Weave::new(0x10_0000_0000, 0, 1, false, 1, false, [0; 4]);
+    check(&rt, &four, 0x10f_ffff_ffff, 3, 0x3f_ffff_ffff);
+}
+
+/// Regions of a window with XOR arithmetic, whose map takes the bits 8, 14 and 22.
+#[test]
+fn deals_by_parities(rt: HostRuntime) {
+    let maps = [0x40_4100, 0, 0, 0];
+    let two = Weave::new(0x1_0000_0000, 0, 1, false, 0, true, maps);
+    check(&rt, &two, 0x1_0000_4000, 1, 0x2000);
+    let six = Weave::new(0x1_0000_0000, 0, 1, true, 0, true, maps);
+    check(&rt, &six, 0x1_0000_4200, 1, 0xb00);
+    // By hand: map 0 takes the bits 8 and 13 and gives the slot's bit 0, map 1 the bits 9 and 12.
+    let four = Weave::new(0x1_0000_0000, 0, 2, false, 0, true, [0x2100, 0x1200, 0, 0]);
+    check(&rt, &four, 0x1_0000_2000, 1, 0x800);
+    check(&rt, &four, 0x1_0000_1000, 2, 0x400);
+}
+
+#[test]
+fn states_laws() {
+    parities_tell_raw_bits();
+    slot_digits();
+    place_tells_address();
+    region_fills_slots();
+    chunks_deal_whole();
+}
