@@ -8,7 +8,8 @@ use Rattle.std.proofs.Math.Pow.{pow_pos}
 use Rattle.std.proofs.Math.Nat.{mod-lt, pow-suc}
 use Rattle.std.proofs.lemmas.Nat.{and_block, and_mask, shr_split, xor_shr, pow_below, shr-shr}
 use Rattle.std.proofs.lemmas.Bool.{and_parts, eqb-true, false≢true}
-use Rattle.cxl_deal.specs.Maps.{is_usable_map, are_usable_from, are_usable_maps, parity_under, parities, raw_bits, with_raw_bits}
+use Rattle.cxl_deal.specs.Maps.{is_usable_map, are_usable_from, are_usable_maps, parity_under, parities, with_raw_bits}
+use Rattle.cxl_deal.proofs.RawBits.{raw_bits}
 use Rattle.cxl_deal.proofs.RawBits.{with-quotient, quotient-parts, raw_bits-below}
 
 -- ---- digits

@@ -5,7 +5,8 @@ use Rattle.std.proofs.Math.Nat.{mod-lt, mul-le-mul_right}
 use Rattle.std.proofs.lemmas.Nat.{div-mul-add, mod-mul-add, div-add-mod'}
 use Rattle.cxl_deal.specs.Maps.{are_usable_maps, parities}
 use Rattle.cxl_deal.specs.Weaves.{WeaveFields, IsWeave, chunk_size, weave_ways, turns_end, dealt_chunk, dealt_low, dealt_slot, dealt_offset}
-use Rattle.cxl_deal.specs.Swaps.{swapped, plain_slot, plain_address}
+use Rattle.cxl_deal.specs.Swaps.{swapped}
+use Rattle.cxl_deal.proofs.Swapping.{plain_slot, plain_address}
 use Rattle.cxl_deal.proofs.Parities.{parities-chunk}
 use Rattle.cxl_deal.proofs.Chunks.{aligned-div}
 use Rattle.cxl_deal.proofs.Ways.{ways_by-pos, chunk_size-pow, chunk_size-pos}

@@ -3,7 +3,11 @@ use Rattle.std.proofs.Common.{◌≡◌, ℕ, ◌+◌, ◌-◌, ◌*◌, ◌/◌
 use Rattle.std.proofs.Math.Pow.{pow_pos}
 use Rattle.std.proofs.Math.Nat.{mod-lt, div-lt_iff_lt-mul}
 use Rattle.std.proofs.lemmas.Nat.{pow-add, shr-shr, shr_high, mod_low, shr_split, shr_below}
-use Rattle.cxl_deal.specs.Maps.{raw_bits, with_raw_bits}
+use Rattle.cxl_deal.specs.Maps.{with_raw_bits}
+
+-- the k bits of an address from its granularity on
+abbrev pub raw_bits : ℕ → ℕ → ℕ → ℕ
+raw_bits gran k h = h / 2 ^ (gran + 8) % 2 ^ k
 
 module _ (gran k h : ℕ) where
   -- the address in three parts

@@ -5,13 +5,24 @@ use Rattle.std.proofs.Math.Pow.{pow_pos, pow_mono}
 use Rattle.std.proofs.Math.Nat.{mul_comm, mod-lt, mod-eq_of_lt}
 use Rattle.std.proofs.lemmas.Nat.{shl_below}
 use Rattle.std.proofs.lemmas.Bool.{cond-true}
-use Rattle.cxl_deal.specs.Maps.{are_usable_maps, parities, raw_bits, with_raw_bits}
+use Rattle.cxl_deal.specs.Maps.{are_usable_maps, parities, with_raw_bits}
+use Rattle.cxl_deal.proofs.RawBits.{raw_bits}
 use Rattle.cxl_deal.specs.Weaves.{WeaveFields, IsWeave, unit, chunk_size, ways_by, weave_ways, dealt_chunk, dealt_low, dealt_slot, dealt_offset}
-use Rattle.cxl_deal.specs.Swaps.{swapped, plain_slot}
+use Rattle.cxl_deal.specs.Swaps.{swapped}
 use Rattle.cxl_deal.proofs.Ways.{ways_by-pos, few_bits, ways-parts, chunk_size-pow}
 use Rattle.cxl_deal.proofs.RawBits.{with-rest, with-with, with-same, with-below, with-moved, raw_bits-below}
 use Rattle.cxl_deal.proofs.Parities.{parities-below, parities-with_parities}
 use Rattle.cxl_deal.proofs.Chunks.{with-base, with-chunk, replaced-div, replaced-mod, low_within, place-low, place-upper, place_below}
+
+-- the slot with no maps
+abbrev pub plain_slot : WeaveFields → ℕ → ℕ
+plain_slot w h = dealt_chunk w h % weave_ways w
+
+-- the address that is dealt there with no maps
+abbrev pub plain_address : WeaveFields → ℕ → ℕ → ℕ
+plain_address w slot offset =
+    w.base + (offset / chunk_size w.gran * weave_ways w + slot) * chunk_size w.gran
+    + offset % chunk_size w.gran
 
 -- ---- one address, its raw bits replaced or not
 

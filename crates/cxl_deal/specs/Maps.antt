@@ -26,11 +26,7 @@ parities zero maps h = 0
 parities (suc k) [] h = 0
 parities (suc k) (map ∷ maps) h = parity_under map h + 2 * parities k maps h
 
--- the k bits of an address from its granularity on
-abbrev pub raw_bits : ℕ → ℕ → ℕ → ℕ
-raw_bits gran k h = h / 2 ^ (gran + 8) % 2 ^ k
-
--- the address with these bits replaced
+-- the address with its k bits from the granularity on replaced
 abbrev pub with_raw_bits : ℕ → ℕ → ℕ → ℕ → ℕ
 with_raw_bits gran k h raw =
     let low = gran + 8 in

@@ -7,9 +7,10 @@ use cxl_enc::Factors;
 use cxl_num::low_bits;
 use std::marker::Model;
 
-/// How the bytes of a region are dealt over its slots: chunk by chunk, at a base and a granularity code,
-/// over `t * 2^(root_bits + low_bits)` ways, t being 3 where `third` and else 1. Under XOR the parities
-/// under the first `root_bits` maps stand in place of as many chunk bits.
+/// How the bytes of a region are dealt over its slots: chunk by chunk, at a base address and a granularity
+/// code, over `t * 2^(root_bits + low_bits)` ways, t being 3 where `third` and else 1. Under XOR the
+/// parities under the first `root_bits` maps stand in place of as many chunk bits. (CXL interleave
+/// arithmetic, CXIMS.)
 #[derive(Clone, Copy, Debug, PartialEq, Eq)]
 pub struct Weave {
     base: u64,
@@ -76,7 +77,8 @@ impl Weave {
     }
 }
 
-/// Where an address is dealt. The base and the address are host addresses in bytes.
+/// Where a host address is dealt. (CXL interleave arithmetic; that the chunks are counted from the base,
+/// also for the remainder by three under XOR, is this project's rule.)
 pub fn deal(weave: &Weave, h: u64) -> Dealt
     requires from { weave.now.base ≤ h }
     requires below { h < 2 ^ 52 }
@@ -88,7 +90,7 @@ pub fn deal(weave: &Weave, h: u64) -> Dealt
     deal_along(factors(weave), weave.gran, along)
 }
 
-/// The one address that is dealt to a slot and an offset.
+/// The one host address that is dealt to a slot and an offset in bytes.
 pub fn gather(weave: &Weave, slot: u32, offset: u64) -> u64
     requires slot_below { slot < weave_ways weave.now }
     requires fits { turns_end weave.now (offset / chunk_size weave.now.gran + 1) ≤ 2 ^ 52 }

@@ -1,6 +1,7 @@
 use Rattle.std.proofs.Common.{ℕ, ◌*◌, ◌<◌, sym, subst}
 use Rattle.cxl_deal.specs.Weaves.{chunk_size}
-use Rattle.cxl_deal.specs.Swaps.{swapped, plain_address}
+use Rattle.cxl_deal.specs.Swaps.{swapped}
+use Rattle.cxl_deal.proofs.Swapping.{plain_address}
 use Rattle.cxl_deal.proofs.Swapping.{dealt_slot-below}
 use Rattle.cxl_deal.proofs.Places.{region_offset, region_within, gathered_from, gathered-slot, gathered-offset}
 use Rattle.cxl_deal.proofs.laws.region_fills_slots.Goals as goal

@@ -1,7 +1,8 @@
 use Rattle.std.proofs.Common.{◌≡◌, ◌+◌, ◌*◌, ◌/◌, ◌%◌, ℕ, sym, ap, ◌∙◌, subst, arith}
 use Rattle.cxl_deal.specs.Weaves.{WeaveFields, IsWeave, chunk_size, weave_ways, dealt_slot, dealt_offset}
 use Rattle.cxl_deal.specs.WeaveInside.{fields_of}
-use Rattle.cxl_deal.specs.Swaps.{swapped, plain_address}
+use Rattle.cxl_deal.specs.Swaps.{swapped}
+use Rattle.cxl_deal.proofs.Swapping.{plain_address}
 use Rattle.cxl_deal.proofs.Places.{plain_below, gathered_from, gathered_below, gathered-slot, gathered-offset, gathered-only}
 use Rattle.cxl_deal.proofs.weave.gather.Goals as goal
 
