@@ -2,8 +2,9 @@ use super::*;
 use std::test::Fail;
 use std::{fs, process};
 
+/// The last two words have a million digits.
 #[test]
-fn numbers_read(rt: HostRuntime) {
+fn numbers_read(rt: HostRuntime) -> Result<(), Fail> {
     let rows = [
         ("", Err(NumFault::Empty)),
         ("0x", Err(NumFault::Empty)),
@@ -24,6 +25,12 @@ fn numbers_read(rt: HostRuntime) {
     for (word, want) in rows {
         assert_eq!(rt; read_number(word.as_bytes()), want, "at {word}");
     }
+    let mut long = vec![in rt.alloc(); b'0'; 1_000_000]?;
+    long.push(b'7')?;
+    assert_eq!(rt; read_number(&long), Ok(7));
+    let nines = vec![in rt.alloc(); b'9'; 1_000_000]?;
+    assert_eq!(rt; read_number(&nines), Err(NumFault::TooLarge));
+    Ok(())
 }
 
 /// Each text is appended to what is there.
