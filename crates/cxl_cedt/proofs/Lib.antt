@@ -1,6 +1,6 @@
 pub mod Counts
 pub mod Places
-pub mod Tests
+pub mod RecordTests
 pub mod Sound
 pub mod Fronts
 pub mod Scanning
