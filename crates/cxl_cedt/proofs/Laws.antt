@@ -217,7 +217,7 @@ some_reading bytes =
 -- ---- what the reader answers
 
 -- the table's text is as long as its bytes
-texts_length : (text : List ℕ) (rs : List Record) → AreRecordTexts text rs → sum_by record_length rs ≡ length text
+pub texts_length : (text : List ℕ) (rs : List Record) → AreRecordTexts text rs → sum_by record_length rs ≡ length text
 texts_length text [] h = ap length (sym h)
 texts_length text (r ∷ rs) (first, next, whole, of_r, others) =
     sum_by-cons record_length r rs ∙ omega (arith, text_length first r of_r, texts_length next rs others, ap length whole, length-append first next)

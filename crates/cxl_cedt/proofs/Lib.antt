@@ -5,3 +5,4 @@ pub mod Sound
 pub mod Fronts
 pub mod Scanning
 pub mod Laws
+pub mod Spelled

@@ -11,7 +11,7 @@ use Rattle.cxl_cedt.proofs.Counts.{few_push}
 use Rattle.cxl_cedt.proofs.Sound.{spelled}
 use Rattle.cxl_cedt.proofs.Fronts.{HasRecord}
 
-texts_push : (front text : List ℕ) (rs : List Record) (r : Record) → AreRecordTexts front rs → IsRecordText text r → AreRecordTexts (front ++ text) (rs ++ r ∷ [])
+pub texts_push : (front text : List ℕ) (rs : List Record) (r : Record) → AreRecordTexts front rs → IsRecordText text r → AreRecordTexts (front ++ text) (rs ++ r ∷ [])
 texts_push front text [] r none h = (text, [], ap (λ (t : List ℕ). t ++ text) none ∙ sym (append-nil text), h, refl)
 texts_push front text (s ∷ rs) r (first, next, whole, of_s, others) h =
     (first, next ++ text, ap (λ (t : List ℕ). t ++ text) whole ∙ append_assoc first next text, of_s, texts_push next text rs r others h)
