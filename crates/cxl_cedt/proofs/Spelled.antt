@@ -1,5 +1,5 @@
 -- What the writer spells is a text of the record or the table.
-use Rattle.std.proofs.Common.{◌≡◌, ℕ, zero, suc, ◌+◌, ◌-◌, ◌*◌, ◌/◌, ◌%◌, ◌^◌, ◌<◌, ◌≤◌, Bool, true, false, cond, eqb, ltb, leb, ◌&&◌, List, [], ◌∷◌, ◌++◌, length, take, drop, set, get_or, sum, codes, Option, Some, refl, sym, ap, subst, ◌∙◌, inl, inr, append_assoc, arith, length-append, length-drop}
+use Rattle.std.proofs.Common.{◌≡◌, ℕ, suc, ◌+◌, ◌-◌, ◌*◌, ◌%◌, ◌^◌, ◌<◌, ◌≤◌, cond, ltb, leb, ◌&&◌, List, [], ◌∷◌, ◌++◌, length, take, set, get_or, sum, codes, Some, refl, sym, ap, subst, ◌∙◌, inl, inr, append_assoc, arith, length-append}
 use Rattle.std.proofs.lemmas.Bool.{cases_Bool, ltb-true, and_parts}
 use Rattle.std.proofs.lemmas.List.{take_at, drop_at, take_more, append-nil}
 use Rattle.std.proofs.lemmas.Grind.{flat_map-append}
@@ -15,8 +15,8 @@ use Rattle.cxl_cedt.specs.declared.cedt.Record.{Record}
 use Rattle.cxl_cedt.specs.declared.cedt.Record.TheVariants.{Chbs, Cfmws, Cxims, Other}
 use Rattle.cxl_cedt.specs.CedtFields.{CedtFields}
 use Rattle.cxl_cedt.specs.Fields.{CfmwsFields, CximsFields, OtherFields}
-use Rattle.cxl_cedt.specs.Records.{table_length, HasFewOfEach}
-use Rattle.cxl_cedt.specs.Table.{field, fields, bytes_at, HasFrame, IsChbsText, IsCfmwsText, IsCximsText, IsOtherText, IsRecordText, AreRecordTexts, IsTableText}
+use Rattle.cxl_cedt.specs.Records.{table_length}
+use Rattle.cxl_cedt.specs.Table.{field, fields, bytes_at, IsChbsText, IsCfmwsText, IsCximsText, IsOtherText, IsRecordText, AreRecordTexts, IsTableText}
 use Rattle.cxl_cedt.specs.Spelling.{number_bytes, numbers_bytes, chbs_spelling, window_range, window_codes, window_front, cfmws_spelling, maps_front, cxims_spelling, other_spelling, record_spelling, header, spelling_with, checksum_for, spelling}
 use Rattle.cxl_cedt.specs.Widths.{AreBelow, HeadFits, ChbsFits, CfmwsFits, CximsFits, OtherFits, RecordFits, HasText}
 use Rattle.cxl_cedt.proofs.Scanning.{texts_push}

@@ -1,5 +1,5 @@
 -- What fits the fields that it is written to.
-use Rattle.std.specs.Prelude.{◌≡◌, ℕ, ◌+◌, ◌^◌, ◌<◌, ◌≤◌, List, length, slice_index, Some}
+use Rattle.std.specs.Prelude.{◌≡◌, ℕ, ◌^◌, ◌<◌, ◌≤◌, List, length, slice_index, Some}
 use Rattle.cxl_enc.specs.Codes.{ways_of}
 use Rattle.cxl_cedt.specs.declared.chbs.Chbs as chbs
 use Rattle.cxl_cedt.specs.declared.cedt.Head.{Head}

@@ -148,7 +148,7 @@ fn xor_maps(rt: HostRuntime) -> Result<(), Fail> {
     Ok(())
 }
 
-/// A record of another type is kept.
+/// A record of another type is kept, and written as it was.
 #[test]
 fn other_records(rt: HostRuntime) -> Result<(), Fail> {
     let mut bytes = changed(rt.alloc(), &[(4, 0x98), (9, 0xa8)])?;
@@ -160,6 +160,7 @@ fn other_records(rt: HostRuntime) -> Result<(), Fail> {
     assert_eq!(rt; other.kind(), 4);
     assert_eq!(rt; other.reserved(), 0);
     assert_eq!(rt; other.body(), [0xaa, 0xbb, 0xcc, 0xdd].as_slice());
+    assert_eq!(rt; write(rt.alloc(), &cedt)?.as_slice(), bytes.as_slice());
     Ok(())
 }
 
@@ -178,5 +179,54 @@ fn many_bridges(rt: HostRuntime) -> Result<(), Fail> {
         read_few(rt.alloc(), &bytes).err(),
         Some(CedtFault::TooMany(2_084))
     );
+    Ok(())
+}
+
+/// Reserved fields are written as zero, and the checksum anew.
+#[test]
+fn written_again(rt: HostRuntime) -> Result<(), Fail> {
+    let bytes = changed(rt.alloc(), &[(37, 0x05), (9, 0xc5)])?;
+    let cedt = read_few(rt.alloc(), &bytes)?;
+    assert_eq!(rt;
+        write(rt.alloc(), &cedt)?.as_slice(),
+        TWO_BRIDGES.as_slice()
+    );
+    Ok(())
+}
+
+/// A bridge with version 1 and 64 KiB of registers.
+fn bridge(uid: u32, base: u64) -> Record {
+    Record::Chbs(Chbs {
+        uid,
+        version: 1,
+        base,
+        length: 0x1_0000,
+    })
+}
+
+/// A table made of its parts is written as its bytes.
+#[test]
+fn made(rt: HostRuntime) -> Result<(), Fail> {
+    let targets = vec![in rt.alloc(); 0, 1]?;
+    let window = Cfmws::new(0x1_0000_0000, 0x1_0000_0000, 1, true, 0, 0x000e, 0, targets);
+    let maps = Cxims::new(0, vec![in rt.alloc(); 0x40_4100]?);
+    let records = vec![in rt.alloc();
+        bridge(0, 0x8000_0000),
+        bridge(1, 0x8001_0000),
+        Record::Cfmws(window),
+        Record::Cxims(maps),
+    ]?;
+    let head = Head {
+        revision: 1,
+        oem_id: [0; 6],
+        oem_table: [0; 8],
+        oem_revision: 0,
+        creator: [0; 4],
+        creator_revision: 0,
+    };
+    let cedt = Cedt::new(head, records);
+    let mut bytes = changed(rt.alloc(), &[(4, 0xa0), (9, 0x25), (125, 0x01)])?;
+    bytes.extend_from_slice(&ONE_MAP)?;
+    assert_eq!(rt; write(rt.alloc(), &cedt)?.as_slice(), bytes.as_slice());
     Ok(())
 }

@@ -1,4 +1,4 @@
-use Rattle.std.proofs.Common.{◌≡◌, ◌≤◌, ◌%◌, ℕ, List, length, sum, sym, ap, subst, ◌∙◌}
+use Rattle.std.proofs.Common.{◌≤◌, ◌%◌, ℕ, List, length, sum, sym, ap, subst, ◌∙◌}
 use Rattle.cxl_cedt.specs.Table.{IsTableText}
 use Rattle.cxl_cedt.proofs.Laws.{one_table}
 use Rattle.cxl_cedt.proofs.Spelled.{spelled_table, spelled_fits, sealed}
