@@ -1,0 +1,14 @@
+-- What a table holds, and what it keeps.
+use Rattle.std.specs.Prelude.{◌≤◌, List}
+use Rattle.cxl_cedt.specs.declared.cedt.Head.{Head}
+use Rattle.cxl_cedt.specs.declared.cedt.Record.{Record}
+use Rattle.cxl_cedt.specs.Records.{HasFewOfEach, table_length}
+
+pub record CedtFields : Type 0 where
+  pub head : Head
+  pub records : List Record
+
+-- few records of each judged type, and few bytes
+pub record IsCedt (records : List Record) : Type 0 where
+  pub few : HasFewOfEach records
+  pub fits : table_length records ≤ 1048576

@@ -1,0 +1,76 @@
+ghost use Rattle.std.specs.Prelude.{◌≡◌, ◌≤◌, length};
+ghost use Rattle.cxl_cedt.specs.Records.{table_length, HasFewOfEach};
+
+use crate::cfmws::Cfmws;
+use crate::chbs::Chbs;
+use crate::cxims::Cxims;
+use crate::other::Other;
+use cxl_enc::FixedList;
+use std::marker::Model;
+
+/// The header's fields, but for the signature, the length and the checksum, which follow from the table.
+#[derive(Clone, Copy, Debug, PartialEq, Eq)]
+pub struct Head {
+    pub revision: u8,
+    pub oem_id: [u8; 6],
+    pub oem_table: [u8; 8],
+    pub oem_revision: u32,
+    pub creator: [u8; 4],
+    pub creator_revision: u32,
+}
+
+/// A record of the table.
+#[derive(Debug, Drop)]
+pub enum Record {
+    Chbs(Chbs),
+    Cfmws(Cfmws),
+    Cxims(Cxims),
+    Other(Other),
+}
+
+/// A CEDT: at most 64 records each are CHBS, CFMWS and CXIMS, and its text has at most 1,048,576 bytes.
+#[derive(Debug, Drop)]
+pub struct Cedt {
+    head: Head,
+    records: FixedList<Record>,
+}
+
+impl Model for Cedt {
+    ghost use Rattle.cxl_cedt.specs.CedtFields.{CedtFields, IsCedt};
+
+    ghost Value = { CedtFields };
+
+    ghost view = { λ c. record { head = c.head; records = c.records } };
+
+    ghost invariant = { λ c. IsCedt c.records };
+}
+
+impl Cedt {
+    /// The table of these records in order. Takes no memory.
+    pub fn new(head: Head, records: Vec<Record>) -> Cedt
+        requires few { HasFewOfEach records.items }
+        requires fits { table_length records.items ≤ 1048576 }
+        ensures { result ≡ record { head = head; records = records.items } }
+    {
+        Cedt {
+            head,
+            records: FixedList::new(records),
+        }
+    }
+
+    /// The header's fields.
+    pub fn head(&self) -> &Head
+        ensures { result.now ≡ self.now.head }
+    {
+        &self.head
+    }
+
+    /// The records in table order.
+    pub fn records(&self) -> &[Record]
+        ensures value { result.now ≡ self.now.records }
+        ensures few { HasFewOfEach self.now.records }
+        ensures fits { table_length self.now.records ≤ 1048576 }
+    {
+        self.records.items()
+    }
+}

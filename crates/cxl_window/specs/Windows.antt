@@ -1,0 +1,121 @@
+-- The windows of a table with their verdicts (CFMWS and CXIMS fields; the verdicts are this project's rule).
+use Rattle.std.specs.Prelude.{◌≡◌, ℕ, ◌+◌, ◌-◌, ◌*◌, ◌%◌, ◌^◌, ◌<◌, ◌≤◌, min, max, nat_lt, ◌==◌, ◌&&◌, ◌||◌, not, Bool, false, if◌then◌else◌, List, [], ◌∷◌, ◌++◌, length, take, replicate, position, find, Contains, slice_get, All, Option, Some, None, unwrap_or}
+use Rattle.std.specs.List.{filter_map, list_any}
+use Rattle.cxl_enc.specs.Codes.{ways_of, bits_of}
+use Rattle.cxl_cedt.specs.Fields.{CfmwsFields}
+use Rattle.cxl_cedt.specs.declared.cedt.Record.{Record}
+use Rattle.cxl_cedt.specs.declared.cedt.Record.TheVariants.{Chbs, Cfmws, Cxims, Other}
+use Rattle.cxl_window.specs.declared.window.Verdict.{Verdict}
+use Rattle.cxl_window.specs.declared.window.Verdict.TheVariants.{Usable, Align, Size, TooHigh, Overlap, Target, Repeat, Maps}
+use Rattle.cxl_window.specs.Fields.{WindowFields, unit, are_usable_maps, IsUsable}
+
+-- ---- the table's records
+
+abbrev pub cfmws_in : Record → Option CfmwsFields
+cfmws_in (Chbs c) = None
+cfmws_in (Cfmws c) = Some c
+cfmws_in (Cxims c) = None
+cfmws_in (Other c) = None
+
+-- a CXL 2.0 bridge of this UID
+abbrev pub is_bridge : ℕ → Record → Bool
+is_bridge uid (Chbs c) = (c.uid == uid) && (c.version == 1)
+is_bridge uid (Cfmws c) = false
+is_bridge uid (Cxims c) = false
+is_bridge uid (Other c) = false
+
+-- the maps of the first CXIMS of a granularity code
+abbrev pub maps_in : ℕ → List Record → Option (List ℕ)
+maps_in gran [] = None
+maps_in gran (Chbs c ∷ rs) = maps_in gran rs
+maps_in gran (Cfmws c ∷ rs) = maps_in gran rs
+maps_in gran (Cxims c ∷ rs) = if c.gran == gran then Some c.maps else maps_in gran rs
+maps_in gran (Other c ∷ rs) = maps_in gran rs
+
+-- ---- one window
+
+abbrev pub ways_in : CfmwsFields → ℕ
+ways_in c = unwrap_or (ways_of c.ways) 0
+
+-- the two hold a host address in common, their ends as whole numbers
+abbrev pub overlaps : CfmwsFields → CfmwsFields → Bool
+overlaps c d = nat_lt (max c.base d.base) (min (c.base + c.size) (d.base + d.size))
+
+-- a target that the table does not have as a CXL 2.0 bridge, or that the topology lacks
+abbrev pub is_missing : List Record → Option (List ℕ) → ℕ → Bool
+is_missing records None uid = not (list_any (is_bridge uid) records)
+is_missing records (Some uids) uid = not (list_any (is_bridge uid) records) || not (list_any (λ u. u == uid) uids)
+
+-- the first target that stands earlier in the list, behind those that stand before it
+abbrev pub first_repeat : List ℕ → List ℕ → Option ℕ
+first_repeat before [] = None
+first_repeat before (u ∷ us) = if list_any (λ v. v == u) before then Some u else first_repeat (before ++ u ∷ []) us
+
+-- under XOR, the maps that the window needs are not there
+abbrev pub lacks_maps : List Record → CfmwsFields → Bool
+lacks_maps records c =
+    let k = bits_of (ways_in c) in
+    c.xor && nat_lt 0 k && not (are_usable_maps c.gran k (unwrap_or (maps_in c.gran records) []))
+
+abbrev pub verdict_of_targets : List Record → Option (List ℕ) → CfmwsFields → Verdict
+verdict_of_targets records uids c = first_missing (find (is_missing records uids) c.targets)
+  where
+    first_other : Option ℕ → Verdict
+    first_other None = if lacks_maps records c then Maps else Usable
+    first_other (Some u) = Repeat u
+
+    first_missing : Option ℕ → Verdict
+    first_missing None = first_other (first_repeat [] c.targets)
+    first_missing (Some u) = Target u
+
+-- the first verdict that holds of a window behind those before it in the table
+abbrev pub verdict_of : List Record → Option (List ℕ) → List CfmwsFields → CfmwsFields → Verdict
+verdict_of records uids before c =
+    if not (c.base % unit == 0) then Align
+    else (if (c.size == 0) || not (c.size % (unit * ways_in c) == 0) then Size
+    else (if nat_lt (2 ^ 52) (c.base + c.size) then TooHigh
+    else first_overlap (position (overlaps c) before)))
+  where
+    first_overlap : Option ℕ → Verdict
+    first_overlap None = verdict_of_targets records uids c
+    first_overlap (Some i) = Overlap i
+
+-- four maps: those that an XOR window uses, and zeros
+abbrev pub maps_of : List Record → CfmwsFields → List ℕ
+maps_of records c =
+    let used = if c.xor then take (bits_of (ways_in c)) (unwrap_or (maps_in c.gran records) []) else [] in
+    used ++ replicate (4 - length used) 0
+
+abbrev pub window_of : List Record → Option (List ℕ) → List CfmwsFields → CfmwsFields → WindowFields
+window_of records uids before c = record {
+  index = length before;
+  base = c.base;
+  size = c.size;
+  ways = ways_in c;
+  gran = c.gran;
+  xor = c.xor;
+  maps = maps_of records c;
+  restrict = c.restrict;
+  targets = c.targets;
+  verdict = verdict_of records uids before c;
+}
+
+-- ---- the windows in table order
+
+abbrev pub windows_from : List Record → Option (List ℕ) → List CfmwsFields → List CfmwsFields → List WindowFields
+windows_from records uids before [] = []
+windows_from records uids before (c ∷ cs) = window_of records uids before c ∷ windows_from records uids (before ++ c ∷ []) cs
+
+abbrev pub windows_of : List Record → Option (List ℕ) → List WindowFields
+windows_of records uids = windows_from records uids [] (filter_map cfmws_in records)
+
+-- ---- windows made with a topology's bridges
+
+-- two usable ones share no address
+abbrev pub AreApart : WindowFields → WindowFields → Type 0
+AreApart w v = (h : ℕ) → w.verdict ≡ Usable → v.verdict ≡ Usable → w.base ≤ h → h < w.base + w.size → v.base ≤ h → h < v.base + v.size → w.index ≡ v.index
+
+pub record AreMadeWith (windows : List WindowFields) (bridges : List ℕ) : Type 0 where
+  pub indexed : (i : ℕ) (w : WindowFields) → slice_get windows i ≡ Some w → w.index ≡ i
+  pub usable : All (λ w. w.verdict ≡ Usable → IsUsable w × All (λ u. Contains bridges u) w.targets) windows
+  pub apart : (w v : WindowFields) → Contains windows w → Contains windows v → AreApart w v

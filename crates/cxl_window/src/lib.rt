@@ -1,0 +1,9 @@
+//! The host's fixed memory windows: which of them can be used, and which target a host address goes to.
+#![tactic(auto)]
+
+mod verdicts;
+mod window;
+
+pub use cxl_enc::{FixedList, Memory};
+pub use verdicts::windows;
+pub use window::{Verdict, Window};

@@ -1,0 +1,17 @@
+ghost use Rattle.std.specs.Prelude.{◌≡◌, List, ℕ, Some, IfOk};
+ghost use Rattle.std.specs.Option.{option_copied};
+ghost use Rattle.cxl_window.specs.Windows.{windows_of, AreMadeWith};
+
+use crate::window::Window;
+use cxl_cedt::Cedt;
+use cxl_enc::Memory;
+use std::alloc::Global;
+
+/// The windows of a table in its order, each with its verdict. `uids` are the bridges of the topology,
+/// where there is one.
+pub fn windows(alloc: Global, cedt: &Cedt, uids: Option<&[u32]>) -> Result<Vec<Window>, Memory>
+    ensures windows { IfOk result (λ ws. ws.items ≡ windows_of cedt.now.records (option_copied uids.entry)) }
+    ensures made { IfOk result (λ ws. (bridges : List ℕ) → option_copied uids.entry ≡ Some bridges → AreMadeWith ws.items bridges) }
+{
+    Err(Memory)
+}
