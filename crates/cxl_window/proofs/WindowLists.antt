@@ -15,12 +15,12 @@ use Rattle.cxl_window.specs.Judging.{is_no_bridge}
 use Rattle.cxl_window.specs.Windows.{cfmws_in, cxims_in, first_maps, maps_in, maps_of, overlaps, judged, ranges_meet, is_missing, window_with, window_of, windows_from}
 
 -- tests that agree find the same
-pub find-agree : (p q : ℕ → Bool) → ((x : ℕ) → p x ≡ q x) → (xs : List ℕ) → find p xs ≡ find q xs
+find-agree : (p q : ℕ → Bool) → ((x : ℕ) → p x ≡ q x) → (xs : List ℕ) → find p xs ≡ find q xs
 find-agree p q agree [] = refl
 find-agree p q agree (x ∷ xs) = ap (λ b. cond b (Some x) (find p xs)) (agree x) ∙ ap (λ r. cond (q x) (Some x) r) (find-agree p q agree xs)
 
 module _ (records : List Record) (uids : Option (List ℕ)) where
-  pub windows_from-push : (before cs : List CfmwsFields) (c : CfmwsFields)
+  windows_from-push : (before cs : List CfmwsFields) (c : CfmwsFields)
       → windows_from records uids before (cs ++ c ∷ []) ≡ windows_from records uids before cs ++ window_of records uids (before ++ cs) c ∷ []
   windows_from-push before [] c = ap (λ (b : List CfmwsFields). window_of records uids b c ∷ []) (sym (append-nil before))
   windows_from-push before (d ∷ cs) c =
@@ -40,7 +40,7 @@ module _ (records : List Record) (uids : Option (List ℕ)) where
   position_from-windows_from base size i before (c ∷ cs) =
       ap (λ r. cond (ranges_meet base size c.base c.size) (Some i) r) (position_from-windows_from base size (i + 1) (before ++ c ∷ []) cs)
 
-  pub position-windows_from : (base size : ℕ) (before cs : List CfmwsFields)
+  position-windows_from : (base size : ℕ) (before cs : List CfmwsFields)
       → position (λ (w : WindowFields). ranges_meet base size w.base w.size) (windows_from records uids before cs)
       ≡ position (λ (c : CfmwsFields). ranges_meet base size c.base c.size) cs
   position-windows_from base size before cs =
@@ -48,20 +48,31 @@ module _ (records : List Record) (uids : Option (List ℕ)) where
       ∙ position_from-windows_from base size 0 before cs
       ∙ sym (position_from-zero (λ (c : CfmwsFields). ranges_meet base size c.base c.size) cs)
 
+  -- one window more is the one of the next record
+  pub windows_from-next : (front next : List CfmwsFields) (c : CfmwsFields) (ws : List WindowFields) (w : WindowFields)
+      → ws ≡ windows_from records uids [] front → w ≡ window_of records uids front c → next ≡ front ++ c ∷ []
+      → ws ++ w ∷ [] ≡ windows_from records uids [] next
+  windows_from-next front next c ws w ws-are w-is next-is =
+      ap (λ (vs : List WindowFields). vs ++ w ∷ []) ws-are
+      ∙ ap (λ (v : WindowFields). windows_from records uids [] front ++ v ∷ []) w-is
+      ∙ sym (windows_from-push [] front c)
+      ∙ ap (windows_from records uids []) (sym next-is)
+
   -- the window that the code makes is the one of the table
-  pub window_with-judged : (cs : List CfmwsFields) (c : CfmwsFields) (ws : List WindowFields) (bridges : List ℕ) (tables : List CximsFields)
+  pub window_of-judged : (cs : List CfmwsFields) (c : CfmwsFields) (ws : List WindowFields) (bridges : List ℕ) (tables : List CximsFields) (w : WindowFields)
       → ws ≡ windows_from records uids [] cs → ((u : ℕ) → is_no_bridge bridges u ≡ is_missing records uids u) → tables ≡ filter_map cxims_in records
-      → window_with (length ws) (maps_of (first_maps c.gran tables) c)
+      → w ≡ window_with (length ws) (maps_of (first_maps c.gran tables) c)
       (judged (position (λ (v : WindowFields). ranges_meet c.base c.size v.base v.size) ws) (find (is_no_bridge bridges) c.targets) (first_maps c.gran tables) c) c
-      ≡ window_of records uids cs c
-  window_with-judged cs c ws bridges tables ws-is bridges-are tables-are =
-      let index : length ws ≡ length cs = ap length ws-is ∙ length-windows_from [] cs in
+      → w ≡ window_of records uids cs c
+  window_of-judged cs c ws bridges tables w ws-are bridges-are tables-are w-is =
+      let index : length ws ≡ length cs = ap length ws-are ∙ length-windows_from [] cs in
       let overlap_in : List WindowFields → Option ℕ = λ vs. position (λ (v : WindowFields). ranges_meet c.base c.size v.base v.size) vs in
-      let overlapped : overlap_in ws ≡ position (overlaps c) cs = ap overlap_in ws-is ∙ position-windows_from c.base c.size [] cs in
+      let overlapped : overlap_in ws ≡ position (overlaps c) cs = ap overlap_in ws-are ∙ position-windows_from c.base c.size [] cs in
       let missing = find-agree (is_no_bridge bridges) (is_missing records uids) bridges-are c.targets in
       let maps : first_maps c.gran tables ≡ maps_in c.gran records = ap (first_maps c.gran) tables-are in
       let made : ℕ → Option ℕ → Option ℕ → Option (List ℕ) → WindowFields = λ n o m ms. window_with n (maps_of ms c) (judged o m ms c) c in
-      ap (λ n. made n (overlap_in ws) (find (is_no_bridge bridges) c.targets) (first_maps c.gran tables)) index
+      w-is
+      ∙ ap (λ n. made n (overlap_in ws) (find (is_no_bridge bridges) c.targets) (first_maps c.gran tables)) index
       ∙ ap (λ o. made (length cs) o (find (is_no_bridge bridges) c.targets) (first_maps c.gran tables)) overlapped
       ∙ ap (λ m. made (length cs) (position (overlaps c) cs) m (first_maps c.gran tables)) missing
       ∙ ap (λ ms. made (length cs) (position (overlaps c) cs) (find (is_missing records uids) c.targets) ms) maps

@@ -9,6 +9,9 @@ mod window;
 mod xor_maps;
 
 pub use cxl_enc::{FixedList, Memory};
-pub use slot::slot_of;
+pub use slot::{positions, slot_of, unxor};
 pub use verdicts::windows;
 pub use window::{Verdict, Window};
+
+#[cfg(test)]
+mod tests;

@@ -1,5 +1,5 @@
 ghost use Rattle.std.specs.Prelude.{◌≡◌, ◌≤◌, IsTrue, length};
-ghost use Rattle.cxl_enc.specs.Codes.{is_ways};
+ghost use Rattle.cxl_enc.specs.Codes.{is_ways, bits_of};
 
 use crate::cfmws::ways_in;
 use cxl_cedt::Cfmws;
@@ -55,7 +55,7 @@ impl Model for Window {
 impl Window {
     ghost use Rattle.std.specs.Prelude.{IfOk};
     ghost use Rattle.cxl_window.specs.declared.window.Verdict.TheVariants.{Usable};
-    ghost use Rattle.cxl_window.specs.Fields.{IsWindow, IsUsable};
+    ghost use Rattle.cxl_window.specs.Fields.{IsWindow, IsUsable, are_usable_maps};
     ghost use Rattle.cxl_window.specs.Windows.{window_with};
 
     /// The window of a record with its index, its maps and its verdict.
@@ -133,6 +133,7 @@ impl Window {
     pub fn maps(&self) -> &[u64]
         ensures value { result.now ≡ self.now.maps }
         ensures four { length self.now.maps ≡ 4 }
+        ensures usable { self.now.verdict ≡ Usable → IsTrue self.now.xor → IsTrue (are_usable_maps self.now.gran (bits_of self.now.ways) self.now.maps) }
     {
         &self.maps
     }

@@ -1,4 +1,4 @@
-use Rattle.std.proofs.Common.{◌≡◌, List, [], ◌∷◌, ◌++◌, length, take, sym, ap, subst, ◌∙◌}
+use Rattle.std.proofs.Common.{◌≡◌, List, [], length, take, sym, ap, subst, ◌∙◌}
 use Rattle.std.proofs.lemmas.List.{take_all}
 use Rattle.cxl_cedt.specs.declared.cedt.Record.{Record}
 use Rattle.std.specs.List.{filter_map}
@@ -7,7 +7,7 @@ use Rattle.cxl_window.specs.Fields.{WindowFields}
 use Rattle.cxl_window.specs.Judging.{tables_behind}
 use Rattle.cxl_window.specs.Windows.{cfmws_in, windows_from, windows_of, AreMadeWith}
 use Rattle.cxl_window.proofs.FilterMaps.{filter_map_more_some, filter_map_more_none, cfmws_in-other}
-use Rattle.cxl_window.proofs.WindowLists.{windows_from-push, length-windows_from, window_with-judged, few_in_front}
+use Rattle.cxl_window.proofs.WindowLists.{windows_from-next, length-windows_from, window_of-judged, few_in_front}
 use Rattle.cxl_window.proofs.MadeWith.{windows_made}
 use Rattle.cxl_window.proofs.verdicts.windows.Goals as goal
 use Rattle.cxl_window.proofs.verdicts.windows.Goals.{in-Cfmws+in_ok-window+in_ok-push, in_default}
@@ -31,13 +31,10 @@ loop-record-preserved c =
           let cfmws = w.in-Cfmws.cfmws in
           let front = filter_map cfmws_in (take i records) in
           let more = filter_map_more_some cfmws_in records i c.record-item.result c.loop-record-test.true c.record-item.is cfmws (ap cfmws_in w.in-Cfmws.is) in
-          let made = window_with-judged records uids front cfmws c.loop-record.windows.items judge.bridges.items (tables_behind judge.tables.items) c.loop-record.invariant c.in_ok-judge.ensures.bridges c.in_ok-judge.ensures.tables in
-          let window_is = (rw w.deref.ensures.value at w.in_ok-window.ensures) ∙ made in
-          rw (w.windows-is, w.in_ok-push.ensures.items)
-          (ap (λ (ws : List WindowFields). ws ++ w.in_ok-window.window ∷ []) c.loop-record.invariant
-          ∙ ap (λ (v : WindowFields). windows_from records uids [] front ++ v ∷ []) window_is
-          ∙ sym (windows_from-push records uids [] front cfmws)
-          ∙ ap (windows_from records uids []) (sym more))
+          let window_is =
+          window_of-judged records uids front cfmws c.loop-record.windows.items judge.bridges.items (tables_behind judge.tables.items) w.in_ok-window.window
+          c.loop-record.invariant c.in_ok-judge.ensures.bridges c.in_ok-judge.ensures.tables (rw w.deref.ensures.value at w.in_ok-window.ensures) in
+          rw (w.windows-is, w.in_ok-push.ensures.items) (windows_from-next records uids front _ cfmws c.loop-record.windows.items w.in_ok-window.window c.loop-record.invariant window_is more)
       | in_default w ↦
           let more = filter_map_more_none cfmws_in records i c.record-item.result c.loop-record-test.true c.record-item.is (cfmws_in-other _ w.in_default.not-Cfmws) in
           rw w.windows-is (c.loop-record.invariant ∙ ap (windows_from records uids []) (sym more))
