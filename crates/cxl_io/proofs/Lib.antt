@@ -1,0 +1,4 @@
+pub mod ToldLemmas
+pub mod Values
+pub mod ReadBack
+pub mod HexText

@@ -1,0 +1,57 @@
+-- A number that is printed is read as the same number.
+use Rattle.std.proofs.Common.{◌≡◌, ℕ, zero, suc, ◌-◌, ◌^◌, ◌<◌, Bool, false, not, cond, List, [], ◌∷◌, ◌++◌, length, drop, replicate, Ok, None, refl, ap, ◌∙◌, arith}
+use Rattle.std.specs.Prelude.{codes, decimal}
+use Rattle.std.specs.List.{prefix_len}
+use Rattle.std.specs.Char.{is_digit}
+use Rattle.std.specs.Str.Parse.{AllDigits, IsNumeral, digits_value}
+use Rattle.std.proofs.lemmas.Fmt.{digits_is_IsNumeral, decimal_is_IsNumeral}
+use Rattle.cxl_io.specs.Numbers.{first_bad_place, number_in, number_of, is_hexadecimal}
+use Rattle.cxl_io.specs.Printed.{hex_of, padded_hex}
+
+passes_all : (base : ℕ) (ds : List ℕ) → AllDigits base ds → prefix_len (λ byte. not (not (is_digit byte base))) ds ≡ length ds
+passes_all base [] all = refl
+passes_all base (d ∷ ds) all = let rest = passes_all base ds all.1 in let h = all.0 in grind arith
+
+-- digits have no bad byte
+first_bad_place-none : (base : ℕ) (ds : List ℕ) → AllDigits base ds → first_bad_place base ds ≡ None
+first_bad_place-none base ds all = let e = passes_all base ds all in grind arith
+
+-- digits are read as their value
+number_in-digits : (base start n : ℕ) (ds : List ℕ) → IsNumeral base ds → digits_value base ds ≡ n → n < 2 ^ 64 → number_in base start ds ≡ Ok n
+number_in-digits base start n ds numeral value fits =
+    let none = first_bad_place-none base ds numeral.1 in let some = numeral.0 in grind arith
+
+-- decimal digits do not begin with `0x`
+decimal_word : (ds : List ℕ) → AllDigits 10 ds → is_hexadecimal ds ≡ false
+decimal_word [] all = refl
+decimal_word (a ∷ []) all = grind arith
+decimal_word (a ∷ b ∷ ds) all = let h = all.1.0 in grind arith
+
+pub number_of-decimal : (n : ℕ) → n < 2 ^ 64 → number_of (decimal n) ≡ Ok n
+number_of-decimal n fits =
+    let r = decimal_is_IsNumeral n fits in
+    ap (λ (hex : Bool). cond hex (number_in 16 2 (drop 2 (decimal n))) (number_in 10 0 (decimal n))) (decimal_word (decimal n) r.0.1)
+    ∙ number_in-digits 10 0 n (decimal n) r.0 r.1 fits
+
+-- zeros in front change no value
+behind_zeros : (k n : ℕ) (ds : List ℕ) → IsNumeral 16 ds → digits_value 16 ds ≡ n → IsNumeral 16 (replicate k 48 ++ ds) × (digits_value 16 (replicate k 48 ++ ds) ≡ n)
+behind_zeros zero n ds numeral value = (numeral, value)
+behind_zeros (suc k) n ds numeral value =
+    let rest = behind_zeros k n ds numeral value in
+    ((omega arith, (omega arith, rest.0.1)), rest.1)
+
+pub number_of-padded_hex : (n width : ℕ) → n < 2 ^ 64 → number_of (codes "0x" ++ padded_hex n width) ≡ Ok n
+number_of-padded_hex n width fits =
+    let r = digits_is_IsNumeral 16 false (omega arith) (omega arith) n (omega arith) in
+    let padded = behind_zeros (width - length (hex_of n)) n (hex_of n) r.0 r.1 in
+    number_in-digits 16 2 n (padded_hex n width) padded.0 padded.1 fits
+
+-- a number has a digit, so one digit at the least pads nothing
+pub padded_hex-one : (n : ℕ) → n < 2 ^ 64 → padded_hex n 1 ≡ hex_of n
+padded_hex-one n fits =
+    let some = (digits_is_IsNumeral 16 false (omega arith) (omega arith) n (omega arith)).0.0 in
+    let none : 1 - length (hex_of n) ≡ 0 = omega arith in
+    ap (λ k. replicate k 48 ++ hex_of n) none
+
+-- what is known of every number's text
+pub ruleset texts = (number_of-decimal, number_of-padded_hex, padded_hex-one)

@@ -1,0 +1,58 @@
+ghost use Rattle.std.specs.Prelude.{◌≡◌, ◌<◌, ◌≤◌, None, length, IfOk, OnOk, OnErr};
+ghost use Rattle.cxl_enc.specs.Faults.{HasCause};
+ghost use Rattle.cxl_io.specs.Counters.{next_count};
+
+use crate::sink::Sink;
+use cxl_enc::Failed;
+use std::marker::Model;
+
+/// Standard output. It tells nothing of what it took; contracts see it as how often it failed.
+#[derive(Drop)]
+pub struct StdSink<R> {
+    rt: R,
+    faults: u64,
+}
+
+impl<R> Model for StdSink<R> {
+    ghost use Rattle.std.specs.Prelude.{ℕ};
+
+    ghost Value = { ℕ };
+
+    ghost view = { λ s. s.faults };
+}
+
+impl<R: Print> StdSink<R> {
+    /// Writes by this runtime. Takes no memory.
+    pub fn new(rt: R) -> StdSink<R>
+        ensures { result ≡ 0 }
+    {
+        StdSink { rt, faults: 0 }
+    }
+}
+
+impl<R: Print> Sink for StdSink<R> {
+    ghost taken = { λ _. None };
+
+    ghost faults = { λ s. s };
+
+    /// One call of the system, and no buffer. A write that took nothing is a fault too.
+    fn write(&mut self, bytes: &[u8]) -> Result<usize, Failed>
+        requires { 0 < length bytes.now }
+        ensures some { IfOk result (λ n. 1 ≤ n) }
+        ensures within { IfOk result (λ n. n ≤ length bytes.now) }
+        ensures cause { HasCause result self.old self.new }
+        ensures counts { self.old ≤ self.new }
+
+        // The count rises with a failure and with nothing else.
+        ensures raised { OnErr result (self.new ≡ next_count self.old) }
+        ensures kept { OnOk result (self.new ≡ self.old) }
+    {
+        match self.rt.write_some(bytes) {
+            Ok(n) if n > 0 => Ok(n),
+            _ => {
+                self.faults = self.faults.saturating_add(1);
+                Err(Failed)
+            }
+        }
+    }
+}
