@@ -2,5 +2,8 @@ pub mod Fields
 pub mod Records
 pub mod CedtFields
 pub mod Table
+pub mod Found
+pub mod Decoding
+pub mod Scan
 pub use Rattle.cxl_enc.specs.Codes
 pub use Rattle.byteorder.specs.Endian

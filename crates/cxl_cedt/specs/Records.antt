@@ -1,5 +1,5 @@
 -- Records in a row: their types, their lengths, and how many of each type there are.
-use Rattle.std.specs.Prelude.{ℕ, ◌+◌, ◌*◌, ◌≤◌, ◌==◌, List, length, sum_by, count_by}
+use Rattle.std.specs.Prelude.{ℕ, ◌+◌, ◌*◌, ◌≤◌, nat_le, ◌==◌, ◌&&◌, Bool, List, length, sum_by, count_by}
 use Rattle.cxl_cedt.specs.declared.cedt.Record.{Record}
 use Rattle.cxl_cedt.specs.declared.cedt.Record.TheVariants.{Chbs, Cfmws, Cxims, Other}
 
@@ -24,6 +24,10 @@ table_length records = 36 + sum_by record_length records
 -- how many records of a type there are
 abbrev pub count_of : ℕ → List Record → ℕ
 count_of kind records = count_by (λ r. kind_of r == kind) records
+
+-- as many of a judged type as there may be
+abbrev pub is_full : ℕ → List Record → Bool
+is_full kind records = nat_le kind 2 && (count_of kind records == 64)
 
 -- at most 64 of each judged type
 pub record HasFewOfEach (records : List Record) : Type 0 where

@@ -10,7 +10,7 @@ use Rattle.cxl_cedt.specs.declared.fault.CedtFault.TheVariants.{Short, Signature
 use Rattle.std.specs.List.{starts_with}
 use Rattle.cxl_cedt.specs.CedtFields.{CedtFields}
 use Rattle.cxl_cedt.specs.Fields.{CfmwsFields, CximsFields, OtherFields}
-use Rattle.cxl_cedt.specs.Records.{count_of, HasFewOfEach}
+use Rattle.cxl_cedt.specs.Records.{is_full, HasFewOfEach}
 
 -- ---- places in a text
 
@@ -104,7 +104,7 @@ pub record IsTableText (bytes : List ℕ) (c : CedtFields) : Type 0 where
 -- ---- the first fault
 
 -- of the header, in this order
-abbrev pub header_fault : List ℕ → Option CedtFault
+unfoldable pub header_fault : List ℕ → Option CedtFault
 header_fault bytes =
     if nat_lt (length bytes) 36 then Some Short
     else (if not (has_signature bytes) then Some Signature
@@ -120,11 +120,11 @@ abbrev pub length_said : List ℕ → ℕ
 length_said rest = field rest 2 2
 
 -- fewer than four bytes are left, or fewer than the record's length says
-abbrev pub is_cut : List ℕ → Bool
+unfoldable pub is_cut : List ℕ → Bool
 is_cut rest = nat_lt (length rest) 4 || nat_lt (length rest) (length_said rest)
 
 -- a length that its type cannot have
-abbrev pub has_short_length : ℕ → ℕ → Bool
+unfoldable pub has_short_length : ℕ → ℕ → Bool
 has_short_length kind size =
     nat_lt size 4 || ((kind == 0) && not (size == 32)) || ((kind == 1) && nat_lt size 36) || ((kind == 2) && nat_lt size 8)
 
@@ -133,16 +133,16 @@ abbrev pub ways_said : List ℕ → Option ℕ
 ways_said rest = ways_of (field rest 24 1)
 
 -- a length that is not that of the window's ways or of the maps
-abbrev pub has_other_length : ℕ → List ℕ → Bool
+unfoldable pub has_other_length : ℕ → List ℕ → Bool
 has_other_length kind rest =
     ((kind == 1) && not (length_said rest == 36 + 4 * unwrap_or (ways_said rest) 0))
     || ((kind == 2) && not (length_said rest == 8 + 8 * field rest 7 1))
 
-abbrev pub has_unknown_gran : ℕ → List ℕ → Bool
+unfoldable pub has_unknown_gran : ℕ → List ℕ → Bool
 has_unknown_gran kind rest = ((kind == 1) && nat_lt 6 (field rest 28 4)) || ((kind == 2) && nat_lt 6 (field rest 6 1))
 
 -- of the record that begins at place `at`, where `rest` stands, behind the records `before`; in this order
-abbrev pub record_fault : List Record → List ℕ → ℕ → Option CedtFault
+unfoldable pub record_fault : List Record → List ℕ → ℕ → Option CedtFault
 record_fault before rest at =
     let kind = kind_said rest in
     if is_cut rest then Some (RecordCut at)
@@ -151,7 +151,7 @@ record_fault before rest at =
     else (if has_other_length kind rest then Some (RecordLength at)
     else (if has_unknown_gran kind rest then Some (GranCode at)
     else (if (kind == 1) && nat_lt 1 (field rest 25 1) then Some (Arithmetic at)
-    else (if nat_le kind 2 && (count_of kind before == 64) then Some (TooMany at)
+    else (if is_full kind before then Some (TooMany at)
     else None))))))
 
 -- Behind the texts of sound records, `front`, stands a record with this fault.
@@ -169,6 +169,14 @@ pub record IsRecordFault (bytes : List ℕ) (fault : CedtFault) : Type 0 where
 abbrev pub FirstTableFault : List ℕ → CedtFault → Type 0
 FirstTableFault bytes fault =
     (header_fault bytes ≡ Some fault) ⊎ ((header_fault bytes ≡ None) × IsRecordFault bytes fault)
+
+-- there is a table that the bytes spell
+abbrev pub HasTable : List ℕ → Type 0
+HasTable bytes = (c : CedtFields) × IsTableText bytes c
+
+-- there is a first fault
+abbrev pub HasFault : List ℕ → Type 0
+HasFault bytes = (fault : CedtFault) × FirstTableFault bytes fault
 
 -- ---- answers
 

@@ -1,3 +1,6 @@
+ghost use Rattle.std.specs.Prelude.{◌≡◌};
+ghost use Rattle.cxl_cedt.specs.declared.fault.CedtFault.TheVariants as faults;
+
 use thiserror::Error;
 
 /// Why bytes are no CEDT: the first fault from the front. A number is the byte place at which the record
@@ -26,4 +29,12 @@ pub enum CedtFault {
     TooMany(u32),
     #[error("out of memory")]
     Memory,
+}
+
+impl From<cxl_enc::Memory> for CedtFault {
+    ghost from_gives = { λ _ fault. fault ≡ faults.Memory };
+
+    fn from(_memory: cxl_enc::Memory) -> CedtFault {
+        CedtFault::Memory
+    }
 }

@@ -6,9 +6,14 @@ mod cedt;
 mod cfmws;
 mod chbs;
 mod cxims;
+mod decoding;
 mod fault;
+mod found;
+mod header;
+mod numbers;
 mod other;
 mod reading;
+mod record_faults;
 
 pub use cedt::{Cedt, Head, Record};
 pub use cfmws::Cfmws;
@@ -17,4 +22,7 @@ pub use cxims::Cxims;
 pub use cxl_enc::FixedList;
 pub use fault::CedtFault;
 pub use other::Other;
-pub use reading::read;
+pub use reading::{one_reading, read};
+
+#[cfg(test)]
+mod tests;

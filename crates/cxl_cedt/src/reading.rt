@@ -1,10 +1,15 @@
-ghost use Rattle.std.specs.Prelude.{◌≡◌, ◌≤◌, length, Ok, Err, IfOk, IfErr};
+ghost use Rattle.std.specs.Prelude.{◌≡◌, ℕ, ◌⊎◌, ◌≤◌, List, length, drop, Ok, Err, IfOk, IfErr};
 ghost use Rattle.cxl_cedt.specs.CedtFields.{CedtFields};
+ghost use Rattle.cxl_cedt.specs.Records.{HasFewOfEach};
 ghost use Rattle.cxl_cedt.specs.declared.fault.CedtFault.{CedtFault};
-ghost use Rattle.cxl_cedt.specs.Table.{IsTableText, FirstTableFault, IsFaultOf, IsAnswer};
+ghost use Rattle.cxl_cedt.specs.Table.{AreRecordTexts, IsTableText, IsRecordFault, FirstTableFault, HasTable, HasFault, IsFaultOf, IsAnswer};
 
-use crate::cedt::Cedt;
+use crate::cedt::{Cedt, Record};
+use crate::decoding::record_of;
 use crate::fault::CedtFault;
+use crate::found::Found;
+use crate::header::{head_of, header_fault};
+use crate::record_faults::{length_said, record_fault};
 use std::alloc::Global;
 
 /// The table that the bytes spell, or their first fault.
@@ -16,5 +21,51 @@ pub fn read(alloc: Global, bytes: &[u8]) -> Result<Cedt, CedtFault>
     ensures only_table { (cedt : CedtFields) → IsTableText bytes.now cedt → IsAnswer result (Ok cedt) }
     ensures only_fault { (fault : CedtFault) → FirstTableFault bytes.now fault → IsAnswer result (Err fault) }
 {
-    Err(CedtFault::Memory)
+    table_of(alloc, bytes)
+}
+
+/// Bytes spell one table at the most, or have one first fault: one of the two, and never both.
+pub fn one_reading()
+    ensures one_table { (bytes : List ℕ) (cedt other : CedtFields) →
+        IsTableText bytes cedt → IsTableText bytes other → cedt ≡ other }
+    ensures one_fault { (bytes : List ℕ) (fault other : CedtFault) →
+        FirstTableFault bytes fault → FirstTableFault bytes other → fault ≡ other }
+    ensures not_both { (bytes : List ℕ) (cedt : CedtFields) (fault : CedtFault) →
+        IsTableText bytes cedt → FirstTableFault bytes fault → ⊥ }
+    ensures some { (bytes : List ℕ) → HasTable bytes ⊎ HasFault bytes }
+{}
+
+fn table_of(alloc: Global, bytes: &[u8]) -> Result<Cedt, CedtFault>
+    requires { length bytes.now ≤ 1048576 }
+    ensures table { IfOk result (λ cedt. IsTableText bytes.now cedt) }
+    ensures fault { IfErr result (λ fault. IsFaultOf bytes.now fault) }
+{
+    if let Some(fault) = header_fault(bytes) {
+        return Err(fault);
+    }
+    let records = records_of(alloc, bytes)?;
+    Ok(Cedt::new(head_of(bytes), records))
+}
+
+/// The records behind the header, or the fault of the first that has one.
+fn records_of(alloc: Global, bytes: &[u8]) -> Result<Vec<Record>, CedtFault>
+    requires long { 36 ≤ length bytes.now }
+    requires short { length bytes.now ≤ 1048576 }
+    ensures texts { IfOk result (λ records. AreRecordTexts (drop 36 bytes.now) records.items) }
+    ensures few { IfOk result (λ records. HasFewOfEach records.items) }
+    ensures fault { IfErr result (λ fault. (fault ≡ CedtFault.Memory) ⊎ IsRecordFault bytes.now fault) }
+{
+    let mut found = Found::new(alloc);
+    let mut rest = &bytes[36..];
+    let mut at = 36;
+    while !rest.is_empty() {
+        if let Some(fault) = record_fault(&found, rest, at) {
+            return Err(fault);
+        }
+        let (text, after) = rest.split_at(length_said(rest) as usize);
+        found.push(record_of(alloc, text)?)?;
+        rest = after;
+        at += text.len() as u32;
+    }
+    Ok(found.into_records())
 }
