@@ -1,5 +1,5 @@
 -- What a window holds, and what each of them keeps.
-use Rattle.std.specs.Prelude.{◌≡◌, ℕ, ◌+◌, ◌-◌, ◌*◌, ◌/◌, ◌%◌, ◌^◌, ◌<◌, ◌≤◌, zero, suc, nat_lt, ◌==◌, ◌&&◌, Bool, true, false, IsTrue, List, [], ◌∷◌, length, slice_index, ◌≢◌}
+use Rattle.std.specs.Prelude.{◌≡◌, ℕ, ◌+◌, ◌-◌, ◌*◌, ◌/◌, ◌%◌, ◌^◌, ◌<◌, ◌≤◌, zero, suc, nat_lt, ◌==◌, ◌&&◌, Bool, true, false, IsTrue, List, [], ◌∷◌, length, AllPairs, ◌≢◌}
 use Rattle.cxl_enc.specs.Codes.{is_ways, bits_of}
 use Rattle.cxl_window.specs.declared.window.Verdict.{Verdict}
 use Rattle.cxl_window.specs.declared.window.Verdict.TheVariants.{Usable}
@@ -38,7 +38,7 @@ are_usable_maps gran k maps = are_usable_from gran k 0 k maps
 
 -- no number stands twice
 abbrev pub AreDistinct : List ℕ → Type 0
-AreDistinct ns = (i j : ℕ) → i < j → j < length ns → slice_index ns i ≢ slice_index ns j
+AreDistinct ns = AllPairs (λ a b. a ≢ b) ns
 
 -- what can be said of a window that can be used
 pub record IsUsable (w : WindowFields) : Type 0 where

@@ -1,4 +1,5 @@
 pub mod Fields
 pub mod Position
 pub mod Windows
+pub mod Judging
 pub use Rattle.cxl_enc.specs.Codes

@@ -1,8 +1,9 @@
 -- The windows of a table with their verdicts (CFMWS and CXIMS fields; the verdicts are this project's rule).
-use Rattle.std.specs.Prelude.{◌≡◌, ℕ, ◌+◌, ◌-◌, ◌*◌, ◌%◌, ◌^◌, ◌<◌, ◌≤◌, min, max, nat_lt, ◌==◌, ◌&&◌, ◌||◌, not, Bool, false, if◌then◌else◌, List, [], ◌∷◌, ◌++◌, length, take, replicate, position, find, Contains, slice_get, All, Option, Some, None, unwrap_or}
+use Rattle.std.specs.Prelude.{◌≡◌, ℕ, ◌+◌, ◌-◌, ◌*◌, ◌%◌, ◌^◌, ◌<◌, ◌≤◌, min, max, nat_lt, ◌==◌, ◌&&◌, ◌||◌, not, Bool, true, false, if◌then◌else◌, List, [], ◌∷◌, ◌++◌, length, take, replicate, position, find, Contains, slice_get, All, Option, Some, None, unwrap_or}
 use Rattle.std.specs.List.{filter_map, list_any}
+use Rattle.std.specs.Option.{option_map, option_map_or}
 use Rattle.cxl_enc.specs.Codes.{ways_of, bits_of}
-use Rattle.cxl_cedt.specs.Fields.{CfmwsFields}
+use Rattle.cxl_cedt.specs.Fields.{CfmwsFields, CximsFields}
 use Rattle.cxl_cedt.specs.declared.cedt.Record.{Record}
 use Rattle.cxl_cedt.specs.declared.cedt.Record.TheVariants.{Chbs, Cfmws, Cxims, Other}
 use Rattle.cxl_window.specs.declared.window.Verdict.{Verdict}
@@ -24,81 +25,92 @@ is_bridge uid (Cfmws c) = false
 is_bridge uid (Cxims c) = false
 is_bridge uid (Other c) = false
 
+abbrev pub cxims_in : Record → Option CximsFields
+cxims_in (Chbs c) = None
+cxims_in (Cfmws c) = None
+cxims_in (Cxims c) = Some c
+cxims_in (Other c) = None
+
 -- the maps of the first CXIMS of a granularity code
+abbrev pub first_maps : ℕ → List CximsFields → Option (List ℕ)
+first_maps gran tables = option_map (λ c. c.maps) (find (λ c. c.gran == gran) tables)
+
 abbrev pub maps_in : ℕ → List Record → Option (List ℕ)
-maps_in gran [] = None
-maps_in gran (Chbs c ∷ rs) = maps_in gran rs
-maps_in gran (Cfmws c ∷ rs) = maps_in gran rs
-maps_in gran (Cxims c ∷ rs) = if c.gran == gran then Some c.maps else maps_in gran rs
-maps_in gran (Other c ∷ rs) = maps_in gran rs
+maps_in gran records = first_maps gran (filter_map cxims_in records)
 
 -- ---- one window
 
 abbrev pub ways_in : CfmwsFields → ℕ
 ways_in c = unwrap_or (ways_of c.ways) 0
 
--- the two hold a host address in common, their ends as whole numbers
+-- two ranges of these bases and sizes hold an address in common, their ends as whole numbers
+abbrev pub ranges_meet : ℕ → ℕ → ℕ → ℕ → Bool
+ranges_meet base size other_base other_size = nat_lt (max base other_base) (min (base + size) (other_base + other_size))
+
 abbrev pub overlaps : CfmwsFields → CfmwsFields → Bool
-overlaps c d = nat_lt (max c.base d.base) (min (c.base + c.size) (d.base + d.size))
+overlaps c d = ranges_meet c.base c.size d.base d.size
+
+-- the topology has a bridge of this UID, where there is a topology
+abbrev pub topology_has : Option (List ℕ) → ℕ → Bool
+topology_has None uid = true
+topology_has (Some uids) uid = list_any (λ u. u == uid) uids
 
 -- a target that the table does not have as a CXL 2.0 bridge, or that the topology lacks
 abbrev pub is_missing : List Record → Option (List ℕ) → ℕ → Bool
-is_missing records None uid = not (list_any (is_bridge uid) records)
-is_missing records (Some uids) uid = not (list_any (is_bridge uid) records) || not (list_any (λ u. u == uid) uids)
+is_missing records uids uid = not (list_any (is_bridge uid) records) || not (topology_has uids uid)
 
 -- the first target that stands earlier in the list, behind those that stand before it
 abbrev pub first_repeat : List ℕ → List ℕ → Option ℕ
 first_repeat before [] = None
 first_repeat before (u ∷ us) = if list_any (λ v. v == u) before then Some u else first_repeat (before ++ u ∷ []) us
 
--- under XOR, the maps that the window needs are not there
-abbrev pub lacks_maps : List Record → CfmwsFields → Bool
-lacks_maps records c =
+-- under XOR, the maps that the window needs are not among those of its granularity
+abbrev pub lacks_maps : Option (List ℕ) → CfmwsFields → Bool
+lacks_maps maps c =
     let k = bits_of (ways_in c) in
-    c.xor && nat_lt 0 k && not (are_usable_maps c.gran k (unwrap_or (maps_in c.gran records) []))
+    c.xor && nat_lt 0 k && not (are_usable_maps c.gran k (unwrap_or maps []))
 
-abbrev pub verdict_of_targets : List Record → Option (List ℕ) → CfmwsFields → Verdict
-verdict_of_targets records uids c = first_missing (find (is_missing records uids) c.targets)
-  where
-    first_other : Option ℕ → Verdict
-    first_other None = if lacks_maps records c then Maps else Usable
-    first_other (Some u) = Repeat u
-
-    first_missing : Option ℕ → Verdict
-    first_missing None = first_other (first_repeat [] c.targets)
-    first_missing (Some u) = Target u
-
--- the first verdict that holds of a window behind those before it in the table
-abbrev pub verdict_of : List Record → Option (List ℕ) → List CfmwsFields → CfmwsFields → Verdict
-verdict_of records uids before c =
+-- The first verdict that holds of a window, by the earlier window that it overlaps, the target that is missing, and
+-- the maps of its granularity, where there are any.
+abbrev pub judged : Option ℕ → Option ℕ → Option (List ℕ) → CfmwsFields → Verdict
+judged overlapped missing maps c =
     if not (c.base % unit == 0) then Align
     else (if (c.size == 0) || not (c.size % (unit * ways_in c) == 0) then Size
     else (if nat_lt (2 ^ 52) (c.base + c.size) then TooHigh
-    else first_overlap (position (overlaps c) before)))
-  where
-    first_overlap : Option ℕ → Verdict
-    first_overlap None = verdict_of_targets records uids c
-    first_overlap (Some i) = Overlap i
+    else option_map_or Overlap overlapped
+    (option_map_or Target missing
+    (option_map_or Repeat (first_repeat [] c.targets)
+    (if lacks_maps maps c then Maps else Usable)))))
+
+-- of a window behind those before it in the table
+abbrev pub verdict_of : List Record → Option (List ℕ) → List CfmwsFields → CfmwsFields → Verdict
+verdict_of records uids before c =
+    judged (position (overlaps c) before) (find (is_missing records uids) c.targets) (maps_in c.gran records) c
 
 -- four maps: those that an XOR window uses, and zeros
-abbrev pub maps_of : List Record → CfmwsFields → List ℕ
-maps_of records c =
-    let used = if c.xor then take (bits_of (ways_in c)) (unwrap_or (maps_in c.gran records) []) else [] in
+abbrev pub maps_of : Option (List ℕ) → CfmwsFields → List ℕ
+maps_of maps c =
+    let used = if c.xor then take (bits_of (ways_in c)) (unwrap_or maps []) else [] in
     used ++ replicate (4 - length used) 0
 
-abbrev pub window_of : List Record → Option (List ℕ) → List CfmwsFields → CfmwsFields → WindowFields
-window_of records uids before c = record {
-  index = length before;
+-- the window of a record with its index, its maps and its verdict
+abbrev pub window_with : ℕ → List ℕ → Verdict → CfmwsFields → WindowFields
+window_with index maps verdict c = record {
+  index = index;
   base = c.base;
   size = c.size;
   ways = ways_in c;
   gran = c.gran;
   xor = c.xor;
-  maps = maps_of records c;
+  maps = maps;
   restrict = c.restrict;
   targets = c.targets;
-  verdict = verdict_of records uids before c;
+  verdict = verdict;
 }
+
+abbrev pub window_of : List Record → Option (List ℕ) → List CfmwsFields → CfmwsFields → WindowFields
+window_of records uids before c =
+    window_with (length before) (maps_of (maps_in c.gran records) c) (verdict_of records uids before c) c
 
 -- ---- the windows in table order
 

@@ -1,6 +1,9 @@
-ghost use Rattle.std.specs.Prelude.{◌≡◌, ◌<◌, ◌≤◌, ◌^◌, length, if◌then◌else◌};
-ghost use Rattle.cxl_enc.specs.Codes.{bits_of};
-ghost use Rattle.cxl_window.specs.Position.{slot_at, holds, is_usable, chunk_of, position_of, low_of, parities, parity_under};
+ghost use Rattle.std.specs.Prelude.{◌≡◌, ◌<◌, ◌≤◌, ◌^◌, ◌%◌, ℕ, length, Some, if◌then◌else◌};
+ghost use Rattle.std.specs.Bool.{OnTrue, OnFalse};
+ghost use Rattle.cxl_enc.specs.Codes.{bits_of, third_of};
+ghost use Rattle.cxl_window.specs.declared.window.Verdict.TheVariants.{Usable};
+ghost use Rattle.cxl_window.specs.Fields.{WindowFields, IsWindow};
+ghost use Rattle.cxl_window.specs.Position.{slot_at, holds, is_usable, chunk_of, position_of, low_of, parities, parity_under, parities_of, with_raw_bits};
 
 use crate::window::{Verdict, Window};
 use cxl_enc::split;
@@ -17,6 +20,33 @@ pub fn slot_of(window: &Window, h: u64) -> Option<u32>
         None
     }
 }
+
+/// The raw bits with which the address has these low parities: the k bits that, put in place of its bits
+/// from granularity on, give the parities `low`. Without XOR they are `low`.
+pub fn unxor(window: &Window, h: u64, low: u32) -> u32
+    requires usable { window.now.verdict ≡ Usable }
+    requires low { low < 2 ^ bits_of window.now.ways }
+    ensures few { result < 2 ^ bits_of window.now.ways }
+    ensures plain { OnFalse window.now.xor (result ≡ low) }
+    ensures parities { OnTrue window.now.xor (parities_of window.now (with_raw_bits window.now h result) ≡ low) }
+    ensures only { OnTrue window.now.xor ((raw : ℕ) → raw < 2 ^ bits_of window.now.ways → parities_of window.now (with_raw_bits window.now h raw) ≡ low → raw ≡ result) }
+{
+    if !window.xor() {
+        return low;
+    }
+    // Parity i is raw bit i, and the parity of the bits above the raw bits under map i.
+    let bits = split(window.ways()).bits;
+    let above = h - low_bits(h, window.gran() + 8 + bits);
+    low ^ parities_of(window.maps(), bits, above)
+}
+
+/// A law of positions: each is below the number of ways.
+#[tactic(auto, using(crate::proofs::BelowWays::positions_below))]
+pub fn positions()
+    ensures position { (w : WindowFields) (h : ℕ) → IsWindow w → position_of w h < w.ways }
+    ensures slot { (w : WindowFields) (h position : ℕ) → IsWindow w → slot_at w h ≡ Some position
+        → position < w.ways }
+{}
 
 fn is_usable(verdict: Verdict) -> bool
     ensures { result ≡ is_usable verdict }

@@ -2,8 +2,9 @@ ghost use Rattle.std.specs.Prelude.{◌≡◌, List, ℕ, Some, IfOk};
 ghost use Rattle.std.specs.Option.{option_copied};
 ghost use Rattle.cxl_window.specs.Windows.{windows_of, AreMadeWith};
 
+use crate::judge::Judge;
 use crate::window::Window;
-use cxl_cedt::Cedt;
+use cxl_cedt::{Cedt, Record};
 use cxl_enc::Memory;
 use std::alloc::Global;
 
@@ -13,5 +14,14 @@ pub fn windows(alloc: Global, cedt: &Cedt, uids: Option<&[u32]>) -> Result<Vec<W
     ensures windows { IfOk result (λ ws. ws.items ≡ windows_of cedt.now.records (option_copied uids.entry)) }
     ensures made { IfOk result (λ ws. (bridges : List ℕ) → option_copied uids.entry ≡ Some bridges → AreMadeWith ws.items bridges) }
 {
-    Err(Memory)
+    let records = cedt.records();
+    let judge = Judge::new(alloc, records, uids)?;
+    let mut windows = Vec::new(alloc);
+    for record in records {
+        if let Record::Cfmws(cfmws) = record {
+            let window = judge.window(alloc, &windows, cfmws)?;
+            windows.push(window)?;
+        }
+    }
+    Ok(windows)
 }

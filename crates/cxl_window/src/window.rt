@@ -1,7 +1,10 @@
 ghost use Rattle.std.specs.Prelude.{◌≡◌, ◌≤◌, IsTrue, length};
-ghost use Rattle.cxl_enc.specs.Codes.{is_ways};
+ghost use Rattle.cxl_enc.specs.Codes.{is_ways, bits_of};
 
-use cxl_enc::FixedList;
+use crate::cfmws::ways_in;
+use cxl_cedt::Cfmws;
+use cxl_enc::{FixedList, Memory};
+use std::alloc::Global;
 use std::marker::Model;
 
 /// Whether a window can be used, and else the first cause. (This project's rule.)
@@ -50,7 +53,36 @@ impl Model for Window {
 }
 
 impl Window {
-    ghost use Rattle.cxl_window.specs.Fields.{IsWindow};
+    ghost use Rattle.std.specs.Prelude.{IfOk};
+    ghost use Rattle.cxl_window.specs.declared.window.Verdict.TheVariants.{Usable};
+    ghost use Rattle.cxl_window.specs.Fields.{IsWindow, IsUsable, are_usable_maps};
+    ghost use Rattle.cxl_window.specs.Windows.{window_with};
+
+    /// The window of a record with its index, its maps and its verdict.
+    pub(crate) fn new(
+        alloc: Global,
+        index: u32,
+        cfmws: &Cfmws,
+        maps: [u64; 4],
+        verdict: Verdict,
+    ) -> Result<Window, Memory>
+        requires { verdict ≡ Usable → IsUsable (window_with index maps verdict cfmws.now) }
+        ensures { IfOk result (λ w. w ≡ window_with index maps verdict cfmws.now) }
+    {
+        let targets = Vec::from_slice(alloc, cfmws.targets())?;
+        Ok(Window {
+            index,
+            base: cfmws.base(),
+            size: cfmws.size(),
+            ways: ways_in(cfmws),
+            gran: cfmws.gran(),
+            xor: cfmws.xor(),
+            maps,
+            restrict: cfmws.restrict(),
+            targets: FixedList::new(targets),
+            verdict,
+        })
+    }
 
     /// Its place among the windows of the table.
     pub fn index(&self) -> u32
@@ -101,6 +133,7 @@ impl Window {
     pub fn maps(&self) -> &[u64]
         ensures value { result.now ≡ self.now.maps }
         ensures four { length self.now.maps ≡ 4 }
+        ensures usable { self.now.verdict ≡ Usable → IsTrue self.now.xor → IsTrue (are_usable_maps self.now.gran (bits_of self.now.ways) self.now.maps) }
     {
         &self.maps
     }

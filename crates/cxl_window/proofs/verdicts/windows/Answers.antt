@@ -1,0 +1,49 @@
+use Rattle.std.proofs.Common.{◌≡◌, List, [], length, take, sym, ap, subst, ◌∙◌}
+use Rattle.std.proofs.lemmas.List.{take_all}
+use Rattle.cxl_cedt.specs.declared.cedt.Record.{Record}
+use Rattle.std.specs.List.{filter_map}
+use Rattle.std.specs.Option.{option_copied}
+use Rattle.cxl_window.specs.Fields.{WindowFields}
+use Rattle.cxl_window.specs.Judging.{tables_behind}
+use Rattle.cxl_window.specs.Windows.{cfmws_in, windows_from, windows_of, AreMadeWith}
+use Rattle.cxl_window.proofs.FilterMaps.{filter_map_more_some, filter_map_more_none, cfmws_in-other}
+use Rattle.cxl_window.proofs.WindowLists.{windows_from-next, length-windows_from, window_of-judged, few_in_front}
+use Rattle.cxl_window.proofs.MadeWith.{windows_made}
+use Rattle.cxl_window.proofs.verdicts.windows.Goals as goal
+use Rattle.cxl_window.proofs.verdicts.windows.Goals.{in-Cfmws+in_ok-window+in_ok-push, in_default}
+
+pub window-requires : goal.window-requires
+window-requires c =
+    let records = c.records-records.result.now in
+    let i = c.loop-record.record-index in
+    let few = few_in_front records i (rw c.records-records.ensures.value c.records-records.ensures.few.cfmws) in
+    let same = ap length c.loop-record.invariant ∙ length-windows_from records (option_copied c.args.uids) [] (filter_map cfmws_in (take i records)) in
+    record { few = rw (c.deref.ensures.value, same) few }
+
+pub loop-record-preserved : goal.loop-record-preserved
+loop-record-preserved c =
+    let records = c.records-records.result.now in
+    let uids = option_copied c.args.uids in
+    let i = c.loop-record.record-index in
+    let judge = c.in_ok-judge.judge in
+    elim c.match-record.branch [
+      | in-Cfmws+in_ok-window+in_ok-push w ↦
+          let cfmws = w.in-Cfmws.cfmws in
+          let front = filter_map cfmws_in (take i records) in
+          let more = filter_map_more_some cfmws_in records i c.record-item.result c.loop-record-test.true c.record-item.is cfmws (ap cfmws_in w.in-Cfmws.is) in
+          let window_is =
+          window_of-judged records uids front cfmws c.loop-record.windows.items judge.bridges.items (tables_behind judge.tables.items) w.in_ok-window.window
+          c.loop-record.invariant c.in_ok-judge.ensures.bridges c.in_ok-judge.ensures.tables (rw w.deref.ensures.value at w.in_ok-window.ensures) in
+          rw (w.windows-is, w.in_ok-push.ensures.items) (windows_from-next records uids front _ cfmws c.loop-record.windows.items w.in_ok-window.window c.loop-record.invariant window_is more)
+      | in_default w ↦
+          let more = filter_map_more_none cfmws_in records i c.record-item.result c.loop-record-test.true c.record-item.is (cfmws_in-other _ w.in_default.not-Cfmws) in
+          rw w.windows-is (c.loop-record.invariant ∙ ap (windows_from records uids []) (sym more))
+    ]
+
+pub returns-clause-made : goal.returns-clause-made
+returns-clause-made c = λ bridges given.
+    let records = c.args.cedt.now.records in
+    let uids = option_copied c.args.uids in
+    let end : take c.loop-record.record-index records ≡ records = take_all c.loop-record.record-index records (rw (← c.records-records.ensures.value) c.loop-record-test.false) in
+    let all : c.loop-record.windows.items ≡ windows_of records uids = (rw c.records-records.ensures.value at c.loop-record.invariant) ∙ ap (λ (rs : List Record). windows_from records uids [] (filter_map cfmws_in rs)) end in
+    subst (λ (ws : List WindowFields). AreMadeWith ws bridges) (sym (all ∙ ap (windows_of records) given)) (windows_made records bridges)

@@ -1,0 +1,157 @@
+ghost use Rattle.std.specs.Prelude.{◌≡◌, ◌≤◌, ℕ, length, IfOk, find, position, unwrap_or, []};
+ghost use Rattle.std.specs.Option.{option_copied};
+ghost use Rattle.std.specs.List.{filter_map};
+ghost use Rattle.cxl_window.specs.Judging.{is_no_bridge, tables_behind};
+ghost use Rattle.cxl_window.specs.Windows.{is_missing, topology_has, cxims_in, first_maps, judged, ranges_meet, lacks_maps, maps_of, window_with};
+
+use crate::cfmws::{first_overlapped, first_repeat, is_aligned, is_too_high, is_uneven, ways_in};
+use crate::window::{Verdict, Window};
+use crate::xor_maps::{are_usable_maps, padded_maps};
+use cxl_cedt::{Cfmws, Cxims, Record};
+use cxl_enc::{Memory, split};
+use std::alloc::Global;
+
+/// What windows are judged against.
+#[derive(Drop)]
+pub(crate) struct Judge<'a> {
+    /// The UIDs of the bridges that can be targets.
+    bridges: Vec<u32>,
+    /// The tables of XOR maps, in table order.
+    tables: Vec<&'a Cxims>,
+}
+
+impl<'a> Judge<'a> {
+    /// The bridges and the XOR maps of a table. `uids` are the bridges of the topology, where there is one.
+    pub(crate) fn new(
+        alloc: Global,
+        records: &'a [Record],
+        uids: Option<&[u32]>,
+    ) -> Result<Judge<'a>, Memory>
+        ensures bridges { IfOk result (λ judge. (uid : ℕ) → is_no_bridge judge.bridges.items uid ≡ is_missing records.now (option_copied uids.entry) uid) }
+        ensures tables { IfOk result (λ judge. tables_behind judge.tables.items ≡ filter_map cxims_in records.now) }
+    {
+        let bridges = bridges_of(alloc, records, uids)?;
+        let tables = tables_of(alloc, records)?;
+        Ok(Judge { bridges, tables })
+    }
+
+    /// The window of a record behind those before it in the table.
+    pub(crate) fn window(
+        &self,
+        alloc: Global,
+        before: &[Window],
+        cfmws: &Cfmws,
+    ) -> Result<Window, Memory>
+        requires few { length before.now ≤ 64 }
+        ensures { IfOk result (λ w. w ≡ window_with (length before.now) (maps_of (first_maps cfmws.now.gran (tables_behind self.now.tables.items)) cfmws.now) (judged (position (λ v. ranges_meet cfmws.now.base cfmws.now.size v.base v.size) before.now) (find (is_no_bridge self.now.bridges.items) cfmws.now.targets) (first_maps cfmws.now.gran (tables_behind self.now.tables.items)) cfmws.now) cfmws.now) }
+    {
+        let verdict = self.verdict(before, cfmws);
+        let maps = self.used_maps(cfmws);
+        Window::new(alloc, before.len() as u32, cfmws, maps, verdict)
+    }
+
+    /// The first verdict that holds of a window behind those before it in the table.
+    fn verdict(&self, before: &[Window], cfmws: &Cfmws) -> Verdict
+        requires few { length before.now ≤ 64 }
+        ensures { result ≡ judged (position (λ w. ranges_meet cfmws.now.base cfmws.now.size w.base w.size) before.now) (find (is_no_bridge self.now.bridges.items) cfmws.now.targets) (first_maps cfmws.now.gran (tables_behind self.now.tables.items)) cfmws.now }
+    {
+        if !is_aligned(cfmws) {
+            return Verdict::Align;
+        }
+        if is_uneven(cfmws) {
+            return Verdict::Size;
+        }
+        if is_too_high(cfmws) {
+            return Verdict::TooHigh;
+        }
+        if let Some(index) = first_overlapped(before, cfmws) {
+            return Verdict::Overlap(index as u32);
+        }
+        if let Some(uid) = self.first_missing(cfmws.targets()) {
+            return Verdict::Target(uid);
+        }
+        if let Some(uid) = first_repeat(cfmws.targets()) {
+            return Verdict::Repeat(uid);
+        }
+        if self.lacks_maps(cfmws) {
+            return Verdict::Maps;
+        }
+        Verdict::Usable
+    }
+
+    /// The first target that is none of the bridges.
+    fn first_missing(&self, targets: &[u32]) -> Option<u32>
+        ensures { result ≡ find (is_no_bridge self.now.bridges.items) targets.now }
+    {
+        targets
+            .iter()
+            .copied()
+            .find(|uid| !self.bridges.contains(uid))
+    }
+
+    /// Whether the XOR maps that the window needs are missing, too few or not usable.
+    fn lacks_maps(&self, cfmws: &Cfmws) -> bool
+        ensures { result ≡ lacks_maps (first_maps cfmws.now.gran (tables_behind self.now.tables.items)) cfmws.now }
+    {
+        let bits = split(ways_in(cfmws)).bits;
+        cfmws.xor() && bits > 0 && !are_usable_maps(cfmws.gran(), bits, self.maps_of(cfmws.gran()))
+    }
+
+    /// The maps that the window uses, and zeros.
+    fn used_maps(&self, cfmws: &Cfmws) -> [u64; 4]
+        ensures { result ≡ maps_of (first_maps cfmws.now.gran (tables_behind self.now.tables.items)) cfmws.now }
+    {
+        if cfmws.xor() {
+            let bits = split(ways_in(cfmws)).bits;
+            return padded_maps(self.maps_of(cfmws.gran()), bits);
+        }
+        [0; 4]
+    }
+
+    /// The maps of the first table of a granularity code, none where there is no table.
+    fn maps_of(&self, gran: u8) -> &[u64]
+        ensures { result.now ≡ unwrap_or (first_maps gran (tables_behind self.now.tables.items)) [] }
+    {
+        for table in &self.tables {
+            if table.gran() == gran {
+                return table.maps();
+            }
+        }
+        &[]
+    }
+}
+
+/// The UIDs of the CXL 2.0 bridges of a table, those of the topology where there is one.
+fn bridges_of(alloc: Global, records: &[Record], uids: Option<&[u32]>) -> Result<Vec<u32>, Memory>
+    ensures { IfOk result (λ bridges. (uid : ℕ) → is_no_bridge bridges.items uid ≡ is_missing records.now (option_copied uids.entry) uid) }
+{
+    let mut bridges = Vec::new(alloc);
+    for record in records {
+        if let Record::Chbs(chbs) = record {
+            if chbs.version == 1 && topology_has(uids, chbs.uid) {
+                bridges.push(chbs.uid)?;
+            }
+        }
+    }
+    Ok(bridges)
+}
+
+/// Whether the topology has a bridge of this UID, where there is a topology.
+fn topology_has(uids: Option<&[u32]>, uid: u32) -> bool
+    ensures { result ≡ topology_has (option_copied uids.entry) uid }
+{
+    uids.is_none_or(|uids| uids.contains(&uid))
+}
+
+/// The tables of XOR maps, in table order.
+fn tables_of(alloc: Global, records: &[Record]) -> Result<Vec<&Cxims>, Memory>
+    ensures { IfOk result (λ tables. tables_behind tables.items ≡ filter_map cxims_in records.now) }
+{
+    let mut tables = Vec::new(alloc);
+    for record in records {
+        if let Record::Cxims(cxims) = record {
+            tables.push(cxims)?;
+        }
+    }
+    Ok(tables)
+}
