@@ -1,15 +1,14 @@
 -- Records at the front of a text: there is one way to read them.
-use Rattle.std.proofs.Common.{◌≡◌, ℕ, zero, suc, ◌+◌, ◌-◌, ◌*◌, ◌<◌, ◌≤◌, Bool, true, false, List, [], ◌∷◌, ◌++◌, length, take, drop, Option, Some, None, refl, sym, ap, subst, ◌∙◌, ◌⊎◌, inl, inr, append_assoc, arith, length-append, length-drop}
+use Rattle.std.proofs.Common.{◌≡◌, ℕ, ◌+◌, ◌*◌, ◌≤◌, false, List, [], ◌∷◌, ◌++◌, length, take, drop, Option, Some, None, refl, sym, ap, subst, ◌∙◌, ◌⊎◌, inl, inr, append_assoc, arith, length-append}
 use Rattle.std.proofs.lemmas.List.{take_at, drop_at, take-append-drop, append-nil, length-take-le}
 use Rattle.std.specs.Prelude.{unwrap_or}
 use Rattle.cxl_enc.specs.Codes.{ways_of}
 use Rattle.cxl_cedt.specs.declared.cedt.Record.{Record}
-use Rattle.cxl_cedt.specs.declared.fault.CedtFault.{CedtFault}
-use Rattle.cxl_cedt.specs.Records.{kind_of, count_of, is_full, HasFewOfEach}
+use Rattle.cxl_cedt.specs.Records.{kind_of, is_full}
 use Rattle.cxl_cedt.specs.Table.{field, IsRecordText, AreRecordTexts, kind_said, length_said, ways_said, record_fault}
 use Rattle.cxl_cedt.specs.Decoding.{ways_in, IsSoundText, record_of}
 use Rattle.cxl_cedt.proofs.Places.{field_front}
-use Rattle.cxl_cedt.proofs.Tests.{PassesTests, passes, no_fault, IsWhole, whole_from, not_cut, HasLength, length_from, not_short, ways_from, ways_known, HasSize, size_from, no_other_length, HasGran, gran_from, no_unknown_gran, arithmetic_from, arithmetic_known}
+use Rattle.cxl_cedt.proofs.RecordTests.{PassesTests, passes, no_fault, whole_from, not_cut, HasLength, length_from, not_short, ways_from, ways_known, size_from, no_other_length, gran_from, no_unknown_gran, arithmetic_from, arithmetic_known}
 use Rattle.cxl_cedt.proofs.Sound.{spelled, decoded, said_kind, is_sound}
 
 -- ---- a text and what follows it say the same of its record

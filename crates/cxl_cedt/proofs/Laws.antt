@@ -1,22 +1,21 @@
 -- Bytes have one table or one first fault, and never both.
-use Rattle.std.proofs.Common.{◌≡◌, ℕ, zero, suc, ◌+◌, ◌<◌, ◌≤◌, Bool, true, false, cond, eqb, ltb, not, ◌%◌, List, [], ◌∷◌, ◌++◌, length, take, drop, sum, sum_by, Option, Some, None, Result, Ok, Err, refl, sym, ap, subst, ◌∙◌, ◌⊎◌, inl, inr, arith, length-append, length-drop}
+use Rattle.std.proofs.Common.{◌≡◌, ℕ, zero, suc, ◌+◌, ◌≤◌, Bool, true, false, cond, eqb, not, ◌%◌, List, [], ◌∷◌, ◌++◌, length, take, drop, sum, sum_by, Option, Some, None, Result, Ok, Err, refl, sym, ap, subst, ◌∙◌, ◌⊎◌, inl, inr, arith, length-append, length-drop}
 use Rattle.std.specs.Prelude.{IfOk, IfErr}
 use Rattle.std.proofs.lemmas.List.{append-nil}
 use Rattle.std.proofs.lemmas.List.Sums.{sum_by-cons}
 use Rattle.std.proofs.lemmas.Option.{none-some, same_Some}
-use Rattle.std.proofs.lemmas.Bool.{ltb-false, le-ltb, eqb-true, eq-eqb, not-false, not_from_true, cases_lt}
+use Rattle.std.proofs.lemmas.Bool.{ltb-false, le-ltb, eqb-true, eq-eqb, not-false, not_from_true}
 use Rattle.cxl_cedt.specs.declared.cedt.Head.{Head}
 use Rattle.cxl_cedt.specs.declared.cedt.Record.{Record}
 use Rattle.cxl_cedt.specs.declared.fault.CedtFault.{CedtFault}
-use Rattle.cxl_cedt.specs.declared.fault.CedtFault.TheVariants.{Short, Signature, Length, Checksum}
 use Rattle.cxl_cedt.specs.CedtFields.{CedtFields}
 use Rattle.cxl_cedt.specs.Records.{kind_of, count_of, record_length, table_length, is_full, HasFewOfEach}
-use Rattle.cxl_cedt.specs.Table.{field, bytes_at, has_signature, IsRecordText, AreRecordTexts, IsTableText, length_said, header_fault, record_fault, IsRecordFault, FirstTableFault, HasTable, HasFault, IsFaultOf, IsAnswer}
+use Rattle.cxl_cedt.specs.Table.{field, bytes_at, has_signature, AreRecordTexts, IsTableText, length_said, header_fault, record_fault, IsRecordFault, FirstTableFault, HasTable, HasFault, IsFaultOf, IsAnswer}
 use Rattle.cxl_cedt.specs.Decoding.{record_of}
 use Rattle.cxl_cedt.specs.Scan.{AreReadTo}
 use Rattle.cxl_cedt.proofs.Counts.{one_of, one_of_same, count_of-push, count_of-append, room_from}
 use Rattle.cxl_cedt.proofs.Sound.{is_sound, text_length}
-use Rattle.cxl_cedt.proofs.Fronts.{no_fault_at_record, has_record, Leads, leads_from, leads_to_end, GoesOn, one_goes_on}
+use Rattle.cxl_cedt.proofs.Fronts.{no_fault_at_record, has_record, Leads, leads_from, leads_to_end, one_goes_on}
 use Rattle.cxl_cedt.proofs.Scanning.{read_none, read_more, fault_there, all_read}
 
 -- ---- no fault where another record follows
@@ -218,7 +217,7 @@ some_reading bytes =
 -- ---- what the reader answers
 
 -- the table's text is as long as its bytes
-texts_length : (text : List ℕ) (rs : List Record) → AreRecordTexts text rs → sum_by record_length rs ≡ length text
+pub texts_length : (text : List ℕ) (rs : List Record) → AreRecordTexts text rs → sum_by record_length rs ≡ length text
 texts_length text [] h = ap length (sym h)
 texts_length text (r ∷ rs) (first, next, whole, of_r, others) =
     sum_by-cons record_length r rs ∙ omega (arith, text_length first r of_r, texts_length next rs others, ap length whole, length-append first next)

@@ -1,9 +1,9 @@
 -- One record further, the first fault, and the end.
-use Rattle.std.proofs.Common.{◌≡◌, ℕ, zero, suc, ◌+◌, ◌<◌, ◌≤◌, Bool, true, false, List, [], ◌∷◌, ◌++◌, length, take, drop, Option, Some, None, refl, sym, ap, subst, ◌∙◌, append_assoc, arith, length-append, length-drop}
-use Rattle.std.proofs.lemmas.List.{take-append-drop, append-nil, length-take-le, drop-drop, drop_all}
+use Rattle.std.proofs.Common.{◌≡◌, ℕ, ◌+◌, ◌<◌, ◌≤◌, false, List, [], ◌∷◌, ◌++◌, length, take, drop, Some, refl, sym, ap, subst, ◌∙◌, append_assoc, arith, length-append, length-drop}
+use Rattle.std.proofs.lemmas.List.{take-append-drop, append-nil, length-take-le}
 use Rattle.cxl_cedt.specs.declared.cedt.Record.{Record}
 use Rattle.cxl_cedt.specs.declared.fault.CedtFault.{CedtFault}
-use Rattle.cxl_cedt.specs.Records.{kind_of, is_full, HasFewOfEach}
+use Rattle.cxl_cedt.specs.Records.{kind_of, is_full}
 use Rattle.cxl_cedt.specs.Table.{IsRecordText, AreRecordTexts, length_said, record_fault, IsRecordFault}
 use Rattle.cxl_cedt.specs.Decoding.{IsSoundText, record_of}
 use Rattle.cxl_cedt.specs.Scan.{AreReadTo}
@@ -11,7 +11,7 @@ use Rattle.cxl_cedt.proofs.Counts.{few_push}
 use Rattle.cxl_cedt.proofs.Sound.{spelled}
 use Rattle.cxl_cedt.proofs.Fronts.{HasRecord}
 
-texts_push : (front text : List ℕ) (rs : List Record) (r : Record) → AreRecordTexts front rs → IsRecordText text r → AreRecordTexts (front ++ text) (rs ++ r ∷ [])
+pub texts_push : (front text : List ℕ) (rs : List Record) (r : Record) → AreRecordTexts front rs → IsRecordText text r → AreRecordTexts (front ++ text) (rs ++ r ∷ [])
 texts_push front text [] r none h = (text, [], ap (λ (t : List ℕ). t ++ text) none ∙ sym (append-nil text), h, refl)
 texts_push front text (s ∷ rs) r (first, next, whole, of_s, others) h =
     (first, next ++ text, ap (λ (t : List ℕ). t ++ text) whole ∙ append_assoc first next text, of_s, texts_push next text rs r others h)

@@ -1,5 +1,5 @@
 -- A text without fault spells one record, and what spells a record is without fault.
-use Rattle.std.proofs.Common.{◌≡◌, ℕ, zero, suc, ◌+◌, ◌*◌, ◌<◌, ◌≤◌, Bool, true, false, cond, eqb, List, ◌++◌, length, drop, Option, Some, None, refl, sym, ap, subst, ◌∙◌, ◌⊎◌, inl, inr, arith, length-drop}
+use Rattle.std.proofs.Common.{◌≡◌, ℕ, zero, suc, ◌+◌, ◌*◌, ◌<◌, ◌≤◌, Bool, true, false, cond, eqb, List, length, drop, Option, Some, refl, sym, ap, subst, ◌∙◌, ◌⊎◌, inl, inr, arith, length-drop}
 use Rattle.std.specs.Prelude.{unwrap_or}
 use Rattle.std.proofs.lemmas.Bool.{eq-eqb, ne_eqb}
 use Rattle.cxl_enc.specs.Codes.{ways_of}
@@ -7,9 +7,9 @@ use Rattle.cxl_cedt.specs.declared.chbs.Chbs as chbs
 use Rattle.cxl_cedt.specs.declared.cedt.Record.{Record}
 use Rattle.cxl_cedt.specs.declared.cedt.Record.TheVariants.{Chbs, Cfmws, Cxims, Other}
 use Rattle.cxl_cedt.specs.Fields.{CfmwsFields, CximsFields, OtherFields}
-use Rattle.cxl_cedt.specs.Records.{kind_of, record_length, is_full}
+use Rattle.cxl_cedt.specs.Records.{kind_of, record_length}
 use Rattle.cxl_cedt.specs.Table.{field, fields, HasFrame, IsChbsText, IsCfmwsText, IsCximsText, IsOtherText, IsRecordText, kind_said, length_said, ways_said}
-use Rattle.cxl_cedt.specs.Decoding.{ways_in, IsSoundText, IsSoundWindow, AreSoundMaps, chbs_of, cfmws_of, cxims_of, other_of, record_of}
+use Rattle.cxl_cedt.specs.Decoding.{ways_in, IsSoundText, IsSoundWindow, chbs_of, cfmws_of, cxims_of, other_of, record_of}
 use Rattle.cxl_cedt.proofs.Places.{length-fields}
 
 -- ---- the type decides

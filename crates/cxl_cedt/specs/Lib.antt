@@ -5,5 +5,7 @@ pub mod Table
 pub mod Found
 pub mod Decoding
 pub mod Scan
+pub mod Spelling
+pub mod Widths
 pub use Rattle.cxl_enc.specs.Codes
 pub use Rattle.byteorder.specs.Endian

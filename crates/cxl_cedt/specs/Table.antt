@@ -1,5 +1,5 @@
 -- Which bytes spell a table (ACPI CEDT: CHBS, CFMWS and CXIMS), and the first fault of bytes that spell none.
-use Rattle.std.specs.Prelude.{◌≡◌, ℕ, zero, suc, ◌+◌, ◌*◌, ◌%◌, ◌<◌, ◌≤◌, nat_lt, nat_le, ◌==◌, ◌&&◌, ◌||◌, not, Bool, IsTrue, nat_eq, if◌then◌else◌, List, [], ◌∷◌, ◌++◌, length, take, drop, sum, codes, Option, Some, None, is_none, unwrap_or, Result, Err, ◌⊎◌}
+use Rattle.std.specs.Prelude.{◌≡◌, ℕ, zero, suc, ◌+◌, ◌*◌, ◌%◌, ◌<◌, ◌≤◌, nat_lt, ◌==◌, ◌&&◌, ◌||◌, not, Bool, IsTrue, nat_eq, if◌then◌else◌, List, [], ◌∷◌, ◌++◌, length, take, drop, sum, codes, Option, Some, None, is_none, unwrap_or, Result, Err, ◌⊎◌}
 use Rattle.cxl_enc.specs.Codes.{ways_of}
 use Rattle.byteorder.specs.Endian.{little_number}
 use Rattle.cxl_cedt.specs.declared.chbs.Chbs as chbs

@@ -82,10 +82,10 @@ impl Found {
     }
 }
 
-fn kind_of(record: &Record) -> u8
-    ensures { result ≡ kind_of record.now }
+fn kind_of(entry: &Record) -> u8
+    ensures { result ≡ kind_of entry.now }
 {
-    match record {
+    match entry {
         Record::Chbs(_) => 0,
         Record::Cfmws(_) => 1,
         Record::Cxims(_) => 2,

@@ -35,7 +35,7 @@ fn has_signature(bytes: &[u8]) -> bool
 }
 
 /// The sum of the bytes modulo 256.
-fn checksum(bytes: &[u8]) -> u8
+pub fn checksum(bytes: &[u8]) -> u8
     ensures { result ≡ sum bytes.now % 256 }
 {
     let mut total: u8 = 0;

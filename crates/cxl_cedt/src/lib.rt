@@ -14,6 +14,7 @@ mod numbers;
 mod other;
 mod reading;
 mod record_faults;
+mod writing;
 
 pub use cedt::{Cedt, Head, Record};
 pub use cfmws::Cfmws;
@@ -23,6 +24,7 @@ pub use cxl_enc::FixedList;
 pub use fault::CedtFault;
 pub use other::Other;
 pub use reading::{one_reading, read};
+pub use writing::write;
 
 #[cfg(test)]
 mod tests;

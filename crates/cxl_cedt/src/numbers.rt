@@ -1,7 +1,9 @@
 //! Numbers at places of a text, lowest byte first.
 
-ghost use Rattle.std.specs.Prelude.{◌≡◌, ◌+◌, ◌*◌, ◌≤◌, length, IfOk};
+ghost use Rattle.std.specs.Prelude.{◌≡◌, ◌+◌, ◌*◌, ◌^◌, ◌≤◌, ◌++◌, length, IfOk, OnOk};
 ghost use Rattle.cxl_cedt.specs.Table.{field, fields};
+ghost use Rattle.cxl_cedt.specs.Spelling.{number_bytes, numbers_bytes};
+ghost use Rattle.cxl_cedt.specs.Widths.{AreBelow};
 
 use byteorder::{ByteOrder, LittleEndian};
 use cxl_enc::Memory;
@@ -57,4 +59,59 @@ pub fn u64s_at(alloc: Global, text: &[u8], at: usize, count: usize) -> Result<Ve
         numbers.push(u64_at(text, at + 8 * i))?;
     }
     Ok(numbers)
+}
+
+/// Appends a number.
+#[tactic(auto, unfolding(crate::specs::Spelling::number_bytes))]
+pub fn put_u16(out: &mut Vec<u8>, number: u16) -> Result<(), Memory>
+    ensures { OnOk result (out.new.items ≡ out.old.items ++ number_bytes 2 number) }
+{
+    let mut bytes = [0; 2];
+    LittleEndian::write_u16(&mut bytes, number);
+    out.extend_from_slice(&bytes)?;
+    Ok(())
+}
+
+/// Appends a number.
+#[tactic(auto, unfolding(crate::specs::Spelling::number_bytes))]
+pub fn put_u32(out: &mut Vec<u8>, number: u32) -> Result<(), Memory>
+    ensures { OnOk result (out.new.items ≡ out.old.items ++ number_bytes 4 number) }
+{
+    let mut bytes = [0; 4];
+    LittleEndian::write_u32(&mut bytes, number);
+    out.extend_from_slice(&bytes)?;
+    Ok(())
+}
+
+/// Appends a number.
+#[tactic(auto, unfolding(crate::specs::Spelling::number_bytes))]
+pub fn put_u64(out: &mut Vec<u8>, number: u64) -> Result<(), Memory>
+    ensures { OnOk result (out.new.items ≡ out.old.items ++ number_bytes 8 number) }
+{
+    let mut bytes = [0; 8];
+    LittleEndian::write_u64(&mut bytes, number);
+    out.extend_from_slice(&bytes)?;
+    Ok(())
+}
+
+/// Appends numbers, one after the other.
+pub fn put_u32s(out: &mut Vec<u8>, numbers: &[u32]) -> Result<(), Memory>
+    ensures spelled { OnOk result (out.new.items ≡ out.old.items ++ numbers_bytes 4 numbers.now) }
+    ensures fits { AreBelow (2 ^ 32) numbers.now }
+{
+    for number in numbers {
+        put_u32(out, *number)?;
+    }
+    Ok(())
+}
+
+/// Appends numbers, one after the other.
+pub fn put_u64s(out: &mut Vec<u8>, numbers: &[u64]) -> Result<(), Memory>
+    ensures spelled { OnOk result (out.new.items ≡ out.old.items ++ numbers_bytes 8 numbers.now) }
+    ensures fits { AreBelow (2 ^ 64) numbers.now }
+{
+    for number in numbers {
+        put_u64(out, *number)?;
+    }
+    Ok(())
 }

@@ -47,6 +47,14 @@ fn seal(bytes: &mut [u8]) {
     bytes[9] = 0u8.wrapping_sub(sum);
 }
 
+/// Reads bytes that are few enough for a table.
+fn read_few(alloc: Global, bytes: &[u8]) -> Result<Cedt, CedtFault> {
+    if bytes.len() > 1_048_576 {
+        return Err(CedtFault::Memory);
+    }
+    read(alloc, bytes)
+}
+
 #[test]
 fn two_bridges(rt: HostRuntime) -> Result<(), Fail> {
     let cedt = read(rt.alloc(), &TWO_BRIDGES)?;
@@ -77,5 +85,98 @@ fn two_bridges(rt: HostRuntime) -> Result<(), Fail> {
     assert_eq!(rt; window.restrict(), 0x000e);
     assert_eq!(rt; window.qtg(), 0);
     assert_eq!(rt; window.targets(), [0, 1].as_slice());
+    Ok(())
+}
+
+/// One changed table for each fault, by places and bytes of the two bridges' table.
+#[test]
+fn faults(rt: HostRuntime) -> Result<(), Fail> {
+    let cases: [(&[(usize, u8)], CedtFault); 10] = [
+        (&[(0, 0x44)], CedtFault::Signature),
+        (&[(4, 0x91)], CedtFault::Length),
+        (&[(9, 0xcb)], CedtFault::Checksum),
+        (&[(102, 0x2d), (9, 0xc9)], CedtFault::RecordCut(100)),
+        (&[(38, 0x21), (9, 0xc9)], CedtFault::RecordLength(36)),
+        (&[(102, 0x28), (9, 0xce)], CedtFault::RecordLength(100)),
+        (&[(124, 0x05), (9, 0xc6)], CedtFault::WaysCode(100)),
+        (&[(128, 0x07), (9, 0xc3)], CedtFault::GranCode(100)),
+        (&[(125, 0x02), (9, 0xc8)], CedtFault::Arithmetic(100)),
+        (
+            &[(128, 0x07), (125, 0x02), (124, 0x05), (9, 0xbd)],
+            CedtFault::WaysCode(100),
+        ),
+    ];
+    for (changes, fault) in cases.iter() {
+        let bytes = changed(rt.alloc(), changes)?;
+        assert_eq!(rt;
+            read_few(rt.alloc(), &bytes).err(),
+            Some(*fault),
+            "{fault:?}"
+        );
+    }
+    Ok(())
+}
+
+/// Without its end the table is too short for a header, or its length is wrong.
+#[test]
+fn prefixes(rt: HostRuntime) {
+    for n in 0..144 {
+        let fault = if n < 36 {
+            CedtFault::Short
+        } else {
+            CedtFault::Length
+        };
+        assert_eq!(rt;
+            read(rt.alloc(), &TWO_BRIDGES[..n]).err(),
+            Some(fault),
+            "{n} bytes"
+        );
+    }
+}
+
+#[test]
+fn xor_maps(rt: HostRuntime) -> Result<(), Fail> {
+    let mut bytes = changed(rt.alloc(), &[(4, 0xa0), (9, 0x25), (125, 0x01)])?;
+    bytes.extend_from_slice(&ONE_MAP)?;
+    let cedt = read_few(rt.alloc(), &bytes)?;
+    let [_, _, Record::Cfmws(window), Record::Cxims(maps)] = cedt.records() else {
+        return Err(Fail::from("a window and its maps"));
+    };
+    assert!(rt; window.xor());
+    assert_eq!(rt; maps.gran(), 0);
+    assert_eq!(rt; maps.maps(), [0x40_4100].as_slice());
+    Ok(())
+}
+
+/// A record of another type is kept.
+#[test]
+fn other_records(rt: HostRuntime) -> Result<(), Fail> {
+    let mut bytes = changed(rt.alloc(), &[(4, 0x98), (9, 0xa8)])?;
+    bytes.extend_from_slice(&[0x04, 0, 0x08, 0, 0xaa, 0xbb, 0xcc, 0xdd])?;
+    let cedt = read_few(rt.alloc(), &bytes)?;
+    let [_, _, _, Record::Other(other)] = cedt.records() else {
+        return Err(Fail::from("another record"));
+    };
+    assert_eq!(rt; other.kind(), 4);
+    assert_eq!(rt; other.reserved(), 0);
+    assert_eq!(rt; other.body(), [0xaa, 0xbb, 0xcc, 0xdd].as_slice());
+    Ok(())
+}
+
+/// The 65th bridge is one too many, and the 64th is not.
+#[test]
+fn many_bridges(rt: HostRuntime) -> Result<(), Fail> {
+    let mut bytes = TWO_BRIDGES[..36].to_vec(rt.alloc())?;
+    for _ in 0..64 {
+        bytes.extend_from_slice(&TWO_BRIDGES[36..68])?;
+    }
+    seal(&mut bytes);
+    assert_eq!(rt; read_few(rt.alloc(), &bytes)?.records().len(), 64);
+    bytes.extend_from_slice(&TWO_BRIDGES[36..68])?;
+    seal(&mut bytes);
+    assert_eq!(rt;
+        read_few(rt.alloc(), &bytes).err(),
+        Some(CedtFault::TooMany(2_084))
+    );
     Ok(())
 }

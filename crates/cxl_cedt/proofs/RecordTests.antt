@@ -1,7 +1,7 @@
 -- The tests of a record, read as facts on numbers and back.
-use Rattle.std.proofs.Common.{◌≡◌, ℕ, ◌+◌, ◌*◌, ◌<◌, ◌≤◌, Bool, true, false, cond, eqb, ltb, leb, not, ◌&&◌, ◌||◌, List, length, Option, Some, None, refl, sym, ap, subst, ◌∙◌, inl, inr, arith}
+use Rattle.std.proofs.Common.{◌≡◌, ℕ, ◌+◌, ◌*◌, ◌≤◌, Bool, true, false, cond, eqb, ltb, not, ◌&&◌, List, length, Option, Some, None, refl, sym, ap, inl, inr}
 use Rattle.std.specs.Prelude.{is_none, unwrap_or}
-use Rattle.std.proofs.lemmas.Bool.{eqb-true, eqb-false, eq-eqb, ne_eqb, le-ltb, ltb-false, cases_Bool, and_left, or_parts, or_from, not-false, not_from_true, and_cases, false≢true}
+use Rattle.std.proofs.lemmas.Bool.{eqb-true, eq-eqb, le-ltb, ltb-false, cases_Bool, or_parts, or_from, not-false, not_from_true, false≢true}
 use Rattle.cxl_cedt.specs.declared.cedt.Record.{Record}
 use Rattle.cxl_cedt.specs.declared.fault.CedtFault.{CedtFault}
 use Rattle.cxl_cedt.specs.Records.{is_full}
