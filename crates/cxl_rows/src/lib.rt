@@ -1,0 +1,12 @@
+//! Worked rows of the whole program, as tests of `run` over files and a sink in memory. Each row is the
+//! words of a command line with the exit status and the text that they must give.
+#![tactic(auto)]
+
+#[cfg(test)]
+mod outside;
+#[cfg(test)]
+mod routes;
+#[cfg(test)]
+mod rows;
+#[cfg(test)]
+mod tables;

@@ -1,0 +1,6 @@
+pub mod WordCounts
+pub mod Holders
+pub mod FileTables
+pub mod Results
+pub mod Faults
+pub mod Runs

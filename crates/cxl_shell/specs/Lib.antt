@@ -1,0 +1,13 @@
+pub mod Exit
+pub mod Texts
+pub mod Request
+pub mod Words
+pub mod Asked
+pub mod Route
+pub mod Outcome
+pub mod Answers
+pub mod Tables
+pub mod Ends
+pub mod RouteLine
+pub use Rattle.cxl_enc.specs.Codes
+pub use Rattle.cxl_enc.specs.Faults

@@ -1,0 +1,6 @@
+-- The words of the command line as bytes.
+use Rattle.std.specs.Prelude.{ℕ, List, map, string_bytes, String}
+use Rattle.std.specs.declared.alloc.Global.{Global}
+
+abbrev pub bytes_of : List (String Global) → List (List ℕ)
+bytes_of words = map string_bytes words

@@ -1,0 +1,56 @@
+ghost use Rattle.std.specs.Prelude.{◌≡◌};
+ghost use Rattle.cxl_shell.specs.Asked.{asked};
+ghost use Rattle.cxl_shell.specs.Request.{request_of, route_request, alone};
+ghost use Rattle.cxl_shell.specs.Words.{bytes_of};
+
+use cxl_io::read_number;
+
+/// What the words of the command line ask for.
+#[derive(Clone, Copy, Debug, PartialEq, Eq)]
+pub(crate) enum Form<'a> {
+    /// The window, position and bridge of a host address, by the table in a file.
+    Route(&'a str, u64),
+    Help,
+    Version,
+    /// The words are none of the forms, or a word is no number that has to be one.
+    Unreadable,
+}
+
+/// Reads the words of the command line, without the name of the program.
+pub(crate) fn form_of(words: &[String]) -> Form<'_>
+    ensures { asked result ≡ request_of (bytes_of words.now) }
+{
+    let Some((verb, operands)) = words.split_first() else {
+        return Form::Unreadable;
+    };
+    match verb.as_str() {
+        "route" => route_form(operands),
+        "--help" => alone(Form::Help, operands),
+        "--version" => alone(Form::Version, operands),
+        _ => Form::Unreadable,
+    }
+}
+
+/// A form that has no words after its first.
+fn alone<'a>(form: Form<'a>, words: &[String]) -> Form<'a>
+    ensures { asked result ≡ alone (asked form.entry) (bytes_of words.now) }
+{
+    if words.is_empty() {
+        form
+    } else {
+        Form::Unreadable
+    }
+}
+
+/// The words after `route`: a file and a host address.
+fn route_form(words: &[String]) -> Form<'_>
+    ensures { asked result ≡ route_request (bytes_of words.now) }
+{
+    match words {
+        [file, address] => match read_number(address.as_bytes()) {
+            Ok(h) => Form::Route(file.as_str(), h),
+            Err(_) => Form::Unreadable,
+        },
+        _ => Form::Unreadable,
+    }
+}

@@ -1,0 +1,16 @@
+//! The command line of `cxlplan`, over files and a sink that are handed in.
+#![tactic(auto)]
+
+mod answer;
+mod command;
+mod form;
+mod help;
+mod selection;
+mod shell;
+mod status;
+mod table;
+mod texts;
+
+pub use help::{HELP, VERSION};
+pub use shell::run;
+pub use status::Status;

@@ -1,0 +1,44 @@
+ghost use Rattle.std.specs.Prelude.{◌≡◌};
+
+use cxl_cedt::CedtFault;
+
+/// How a run of the program ended. (This project's rule.)
+#[derive(Clone, Copy, Debug, PartialEq, Eq)]
+pub enum Status {
+    /// The command was carried out.
+    Done,
+    /// The words are no command.
+    Usage,
+    /// A file is not there, or reading it failed.
+    FetchFault,
+    /// The bytes of the CEDT spell no table. The fault is the first from the front.
+    BadTable(CedtFault),
+    /// The sink failed. A part of the text from the front may be written.
+    WriteFault,
+    /// The command has no answer: no window that can be used holds the address.
+    Refused,
+    /// Memory ran out.
+    Memory,
+    /// A file has more than 1,048,576 bytes.
+    TooLarge,
+}
+
+impl Status {
+    ghost use Rattle.cxl_shell.specs.Exit.{exit_code};
+
+    /// The exit status of the program.
+    pub fn code(&self) -> u8
+        ensures { result ≡ exit_code self.now }
+    {
+        match self {
+            Status::Done => 0,
+            Status::Usage => 1,
+            Status::FetchFault => 2,
+            Status::BadTable(_) => 3,
+            Status::WriteFault => 6,
+            Status::Refused => 8,
+            Status::Memory => 9,
+            Status::TooLarge => 12,
+        }
+    }
+}
