@@ -32,7 +32,6 @@ none_if : (b : Bool) (p : ℕ) → cond b (Some p) None ≡ None → b ≡ false
 none_if true p e = cc
 none_if false p e = refl
 
-
 pub position-from_slot : (w : WindowFields) (h position : ℕ) → slot_at w h ≡ Some position → position ≡ position_of w h
 position-from_slot w h position e = (some_if (is_usable w.verdict && holds w h) (position_of w h) position e).1
 

@@ -56,37 +56,36 @@ pub fn run<F: Fetch, K: Sink>(alloc: Global, words: &[String], files: &mut F, ou
     // run stops before.
     ensures bad_table { (fault : CedtFault) → result ≡ Status.BadTable fault
         → IfSome (told_table (request_of (bytes_of words.now)) (F.told files.old))
-            (λ bytes. IsFaulty bytes fault × ¬ (HasTable bytes)) }
+        (λ bytes. IsFaulty bytes fault × ¬ (HasTable bytes)) }
     ensures only_bad_table { (fault : CedtFault)
         → IfSome (told_table (request_of (bytes_of words.now)) (F.told files.old)) (λ bytes. IsFaulty bytes fault
-            → (result ≡ Status.BadTable fault)
-            ⊎ IsStopped result (F.faults files.old) (F.faults files.new) (K.faults out.old) (K.faults out.new)) }
+        → (result ≡ Status.BadTable fault)
+        ⊎ IsStopped result (F.faults files.old) (F.faults files.new) (K.faults out.old) (K.faults out.new)) }
 
     // Status 12 comes exactly where the file has more than 1,048,576 bytes, unless the run stops before.
     ensures too_large { result ≡ Status.TooLarge
         → IfSome (told_table (request_of (bytes_of words.now)) (F.told files.old)) (λ bytes. file_limit < length bytes) }
-    ensures only_too_large {
-        IfSome (told_table (request_of (bytes_of words.now)) (F.told files.old)) (λ bytes. file_limit < length bytes
-            → (result ≡ Status.TooLarge)
-            ⊎ IsStopped result (F.faults files.old) (F.faults files.new) (K.faults out.old) (K.faults out.new)) }
+    ensures only_too_large { IfSome (told_table (request_of (bytes_of words.now)) (F.told files.old)) (λ bytes. file_limit < length bytes
+        → (result ≡ Status.TooLarge)
+        ⊎ IsStopped result (F.faults files.old) (F.faults files.new) (K.faults out.old) (K.faults out.new)) }
 
     // Status 8 of `route` comes exactly where no window of the table that can be used holds the address,
     // unless the run stops before.
     ensures refused { (file : List ℕ) (h : ℕ) → request_of (bytes_of words.now) ≡ Route file h → result ≡ Status.Refused
         → IfSome (F.told files.old file) (λ bytes. (table : CedtFields) × IsReading bytes table
-            × IsNowhere (windows_of table.records None) h) }
+        × IsNowhere (windows_of table.records None) h) }
     ensures only_refused { (file : List ℕ) (h : ℕ) (table : CedtFields) → request_of (bytes_of words.now) ≡ Route file h
         → IfSome (F.told files.old file) (λ bytes. IsReading bytes table → IsNowhere (windows_of table.records None) h
-            → (result ≡ Status.Refused)
-            ⊎ IsStopped result (F.faults files.old) (F.faults files.new) (K.faults out.old) (K.faults out.new)) }
+        → (result ≡ Status.Refused)
+        ⊎ IsStopped result (F.faults files.old) (F.faults files.new) (K.faults out.old) (K.faults out.new)) }
 
     // Where the file has a table and nothing failed, the address's outcome by it is written, or memory
     // ran out.
     ensures complete { (file : List ℕ) (h : ℕ) (table : CedtFields) → request_of (bytes_of words.now) ≡ Route file h
         → IfSome (F.told files.old file) (λ bytes. IsReading bytes table
-            → ¬ (Rose (F.faults files.old) (F.faults files.new)) → ¬ (Rose (K.faults out.old) (K.faults out.new))
-            → (result ≡ Status.Memory)
-            ⊎ ((outcome : Outcome) × IsRouted table h outcome × IsWritten outcome result (K.taken out.old) (K.taken out.new))) }
+        → ¬ (Rose (F.faults files.old) (F.faults files.new)) → ¬ (Rose (K.faults out.old) (K.faults out.new))
+        → (result ≡ Status.Memory)
+        ⊎ ((outcome : Outcome) × IsRouted table h outcome × IsWritten outcome result (K.taken out.old) (K.taken out.new))) }
 
     // Want of memory is status 9 alone.
     ensures own_memory { result ≢ Status.BadTable CedtFault.Memory }
