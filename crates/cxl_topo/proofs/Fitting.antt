@@ -1,9 +1,9 @@
 -- No fault fits a legal tree.
-use Rattle.std.proofs.Common.{◌≡◌, ◌≢◌, ℕ, zero, suc, ◌+◌, ◌*◌, ◌<◌, ◌≤◌, ◌==◌, Bool, true, false, cond, not, ◌&&◌, ◌||◌, List, length, take, Option, Some, None, is_some, IsTrue, refl, sym, ap, subst, ◌∙◌, inl, inr, arith}
+use Rattle.std.proofs.Common.{◌≡◌, ◌≢◌, ℕ, ◌<◌, ◌==◌, Bool, true, false, not, ◌&&◌, ◌||◌, List, length, take, Option, Some, None, option_map, is_some, refl, sym, ap, ◌∙◌, inl, inr, arith}
 use Rattle.std.specs.Prelude.{slice_get, position, count_by, nat_le, nat_lt}
 use Rattle.std.specs.Option.{option_map_or, option_and_then}
-use Rattle.std.proofs.lemmas.Bool.{cases_Bool, false≢true, both_ways, or_from, and_parts, and_left, and_right, lt-leb, le-ltb, eqb-true, eq-eqb, not_from_true, not_from_false, false_from_ne_true}
-use Rattle.std.proofs.lemmas.Option.{none-some}
+use Rattle.std.proofs.lemmas.Bool.{cases_Bool, both_ways, or_from, and_parts, and_left, and_right, lt-leb, le-ltb, eq-eqb, not_from_true, false_from_ne_true}
+use Rattle.std.proofs.lemmas.Option.{none-some, slice_get_within}
 use Rattle.std.proofs.lemmas.Slice.Eq.{bytes_eq-Decides}
 use Rattle.cxl_enc.specs.Caps.{is_legal_cap}
 use Rattle.cxl_topo.specs.declared.node.Node.{Node}
@@ -12,52 +12,26 @@ use Rattle.cxl_topo.specs.declared.node.Capacity.{Capacity}
 use Rattle.cxl_topo.specs.declared.fault.TreeFault.{TreeFault}
 use Rattle.cxl_topo.specs.declared.fault.TreeFault.TheVariants as faults
 use Rattle.cxl_topo.specs.Kinds.{is_bridge, is_switch, is_endpoint, uid_of, capacity_of}
-use Rattle.cxl_topo.specs.Tree.{holds_at, forwards_at, is_switch_at, is_port_at, is_named, is_bridge_with, stands_at, stands_under, parent_of, first_child_of}
-use Rattle.cxl_topo.specs.Faults.{lacks_parent, has_taken_port, forks, has_taken_name, has_taken_uid, switches_above, is_too_deep, has_wrong_caps, placeholder_cap, has_wrong_capacity, is_capacity, fits, IsFirstTreeFault, IsTree, IsUnder}
-use Rattle.cxl_topo.proofs.Earlier.{PassesAt, PassesBefore, finds_earlier, earlier_holds}
-
--- what a test of the port above a node says of that port
-pub under_is : (node : Node) (n : ℕ) → stands_under n node ≡ true → (parent : Parent) × (node.parent ≡ Some parent) × (parent.node ≡ n)
-under_is node n passes = go node.parent refl passes
-  where
-    go : (o : Option Parent) → node.parent ≡ o → option_map_or (λ (parent : Parent). parent.node == n) o false ≡ true → (parent : Parent) × (node.parent ≡ Some parent) × (parent.node ≡ n)
-    go None e p = absurd (false≢true p)
-    go (Some parent) e p = (parent, e, eqb-true parent.node n p)
-
-same_parent : (own parent : Parent) → own.node ≡ parent.node → own.port ≡ parent.port → own ≡ parent
-same_parent own parent n p = λ i. record { node = n i; port = p i }
-
-at_is : (node : Node) (parent : Parent) → stands_at parent.node parent.port node ≡ true → node.parent ≡ Some parent
-at_is node parent passes = go node.parent refl passes
-  where
-    go : (o : Option Parent) → node.parent ≡ o → option_map_or (λ (own : Parent). (own.node == parent.node) && (own.port == parent.port)) o false ≡ true → node.parent ≡ Some parent
-    go None e p = absurd (false≢true p)
-    go (Some own) e p =
-        let parts = and_parts (own.node == parent.node) (own.port == parent.port) p in
-        e ∙ ap Some (same_parent own parent (eqb-true own.node parent.node parts.0) (eqb-true own.port parent.port parts.1))
-
-uid_is : (node : Node) (uid : ℕ) → is_bridge_with uid node ≡ true → uid_of node.kind ≡ Some uid
-uid_is node uid passes = go (uid_of node.kind) passes
-  where
-    go : (o : Option ℕ) → option_map_or (λ (own : ℕ). own == uid) o false ≡ true → o ≡ Some uid
-    go None p = absurd (false≢true p)
-    go (Some own) p = ap Some (eqb-true own uid p)
-
-parent_there : (nodes : List Node) (i : ℕ) (node : Node) (o : Option Parent) → slice_get nodes i ≡ Some node → node.parent ≡ o → parent_of nodes i ≡ o
-parent_there nodes i node o there is = rw there is
+use Rattle.cxl_topo.specs.Tree.{holds_at, forwards_at, is_port_at, is_named, is_bridge_with, stands_at, stands_under, first_child_of}
+use Rattle.cxl_topo.specs.Faults.{lacks_parent, has_taken_port, forks, has_taken_name, has_taken_uid, switches_above, is_too_deep, has_wrong_caps, placeholder_cap, has_wrong_capacity, is_capacity, fits, IsFirstTreeFault, IsTree}
+use Rattle.cxl_topo.proofs.Earlier.{finds_earlier, earlier_holds}
+use Rattle.cxl_topo.proofs.There.{held, parent_there, at_is, under_is, uid_is}
 
 module _ (nodes : List Node) (tree : IsTree nodes) (i : ℕ) (node : Node) (there : slice_get nodes i ≡ Some node) where
-  held : (test : Node → Bool) → holds_at nodes i test ≡ test node
-  held test = ap (λ (o : Option Node). option_map_or test o false) there
+  below : i < length nodes
+  below = slice_get_within nodes i node there
+
+  hold : (test : Node → Bool) → holds_at nodes i test ≡ test node
+  hold test = held nodes i node test there
 
   has_parent : lacks_parent (take i nodes) node ≡ false
   has_parent =
       elim (cases_Bool (is_bridge node.kind)) [
         | inl b ↦
-            let none : node.parent ≡ None = sym (parent_there nodes i node node.parent there refl) ∙ tree.bridges i (held (λ node. is_bridge node.kind) ∙ b) in
+            let none : node.parent ≡ None = sym (parent_there nodes i node node.parent there refl) ∙ tree.bridges i (hold (λ node. is_bridge node.kind) ∙ b) in
             rw (b, none)
         | inr b ↦
-            let one = tree.others i (held (λ node. not (is_bridge node.kind)) ∙ not_from_false (is_bridge node.kind) b) in
+            let one = tree.others i below (hold (λ node. is_bridge node.kind) ∙ b) in
             let is : node.parent ≡ Some one.0 = sym (parent_there nodes i node node.parent there refl) ∙ one.1 in
             let port : is_port_at (take i nodes) one.0.node ≡ true = earlier_holds nodes i one.0.node (λ node. not (is_endpoint node.kind)) one.2.earlier ∙ one.2.port in
             rw (b, is, port)
@@ -95,10 +69,10 @@ module _ (nodes : List Node) (tree : IsTree nodes) (i : ℕ) (node : Node) (ther
           parent_is_earlier parent e =
               elim (cases_Bool (is_bridge node.kind)) [
                 | inl b ↦
-                    let none = tree.bridges i (held (λ node. is_bridge node.kind) ∙ b) in
+                    let none = tree.bridges i (hold (λ node. is_bridge node.kind) ∙ b) in
                     absurd (none-some parent (sym none ∙ parent_there nodes i node (Some parent) there e))
                 | inr b ↦
-                    let one = tree.others i (held (λ node. not (is_bridge node.kind)) ∙ not_from_false (is_bridge node.kind) b) in
+                    let one = tree.others i below (hold (λ node. is_bridge node.kind) ∙ b) in
                     let earlier = one.2.earlier in
                     let same : Some one.0 ≡ Some parent = sym one.1 ∙ parent_there nodes i node (Some parent) there e in
                     let node_is : one.0.node ≡ parent.node = ap (λ (o : Option Parent). option_map_or (λ (p : Parent). p.node) o 0) same in
@@ -109,7 +83,7 @@ module _ (nodes : List Node) (tree : IsTree nodes) (i : ℕ) (node : Node) (ther
   free_name = false_from_ne_true _ (λ taken.
       let before = finds_earlier (is_named node.name) nodes i taken in
       let earlier = before.earlier in
-      let same : before.place ≡ i = tree.names before.place i before.at.node node before.at.there there ((bytes_eq-Decides before.at.node.name node.name).0 before.at.passes) in
+      let same : before.place ≡ i = tree.names before.place i node.name (ap (option_map (λ (node : Node). node.name)) before.at.there ∙ ap Some ((bytes_eq-Decides before.at.node.name node.name).0 before.at.passes)) (ap (option_map (λ (node : Node). node.name)) there) in
       omega arith)
 
   free_uid : has_taken_uid (take i nodes) node ≡ false
@@ -120,25 +94,25 @@ module _ (nodes : List Node) (tree : IsTree nodes) (i : ℕ) (node : Node) (ther
       go (Some uid) e = false_from_ne_true _ (λ taken.
           let before = finds_earlier (is_bridge_with uid) nodes i taken in
           let earlier = before.earlier in
-          let same : before.place ≡ i = tree.uids before.place i before.at.node node uid before.at.there there (uid_is before.at.node uid before.at.passes) e in
+          let same : before.place ≡ i = tree.uids before.place i uid (ap (option_and_then (λ (node : Node). uid_of node.kind)) before.at.there ∙ uid_is before.at.node uid before.at.passes) (ap (option_and_then (λ (node : Node). uid_of node.kind)) there ∙ e) in
           omega arith)
 
   not_deep : is_too_deep nodes i node ≡ false
   not_deep =
       elim (cases_Bool (is_switch node.kind)) [
         | inl s ↦
-            let few = tree.depths i (held (λ node. is_switch node.kind) ∙ s) in
+            let few = tree.depths i (hold (λ node. is_switch node.kind) ∙ s) in
             and_right (is_switch node.kind) (nat_le 4 (switches_above nodes i)) (lt-leb 4 (switches_above nodes i) few)
         | inr s ↦ and_left (is_switch node.kind) (nat_le 4 (switches_above nodes i)) s
       ]
 
   right_caps : has_wrong_caps node ≡ false
   right_caps = or_from (not (is_legal_cap node.cap (is_endpoint node.kind))) (node.forwards && (not (node.cap == placeholder_cap) || is_endpoint node.kind)) (not_from_true (is_legal_cap node.cap (is_endpoint node.kind)) (tree.caps i node there)) (elim (cases_Bool node.forwards) [
-      | inl f ↦
-          let own = tree.placeholders i node there f in
-          and_right node.forwards (not (node.cap == placeholder_cap) || is_endpoint node.kind) (or_from (not (node.cap == placeholder_cap)) (is_endpoint node.kind) (not_from_true (node.cap == placeholder_cap) (eq-eqb node.cap placeholder_cap own.0)) own.1)
-      | inr f ↦ and_left node.forwards (not (node.cap == placeholder_cap) || is_endpoint node.kind) f
-    ])
+    | inl f ↦
+        let own = tree.placeholders i node there f in
+        and_right node.forwards (not (node.cap == placeholder_cap) || is_endpoint node.kind) (or_from (not (node.cap == placeholder_cap)) (is_endpoint node.kind) (not_from_true (node.cap == placeholder_cap) (eq-eqb node.cap placeholder_cap own.0)) own.1)
+    | inr f ↦ and_left node.forwards (not (node.cap == placeholder_cap) || is_endpoint node.kind) f
+  ])
 
   right_capacity : has_wrong_capacity node ≡ false
   right_capacity = go (capacity_of node.kind) refl

@@ -1,17 +1,17 @@
 -- What the tests of a node say, one after another.
-use Rattle.std.proofs.Common.{◌≡◌, ℕ, zero, suc, ◌+◌, ◌*◌, ◌<◌, ◌≤◌, Bool, true, false, cond, List, [], ◌∷◌, length, get_or, take, Option, Some, None, refl, sym, ap, subst, ◌∙◌, inl, inr, arith}
+use Rattle.std.proofs.Common.{◌≡◌, ℕ, zero, suc, ◌+◌, ◌*◌, ◌<◌, ◌≤◌, Bool, true, false, List, [], ◌∷◌, length, get_or, Option, Some, None, refl, sym, ap, ◌∙◌, inl, inr, arith}
 use Rattle.std.specs.Prelude.{slice_get, nat_le, nat_lt, IfSome, IfNone}
 use Rattle.std.specs.Option.{option_map_or}
 use Rattle.std.proofs.lemmas.Bool.{cases_lt}
-use Rattle.std.proofs.lemmas.Option.{get_or_from_slice_get, slice_get_read}
+use Rattle.std.proofs.lemmas.Option.{get_or_from_slice_get}
 use Rattle.std.proofs.lemmas.Bool.Decides.{nat_tests}
 use Rattle.cxl_topo.specs.declared.node.Node.{Node}
 use Rattle.cxl_topo.specs.declared.node.Parent.{Parent}
 use Rattle.cxl_topo.specs.declared.node.NodeKind.TheVariants.{Switch}
 use Rattle.cxl_topo.specs.declared.fault.TreeFault.{TreeFault}
 use Rattle.cxl_topo.specs.declared.fault.TreeFault.TheVariants as faults
-use Rattle.cxl_topo.specs.Tree.{holds_at, parent_of, path_of, ports_above}
-use Rattle.cxl_topo.specs.Faults.{lacks_parent, is_too_deep, switches_above, are_too_many, fits, turn_of, NoneBefore, IsFirstTreeFault}
+use Rattle.cxl_topo.specs.Tree.{parent_of, path_of, ports_above}
+use Rattle.cxl_topo.specs.Faults.{is_too_deep, switches_above, are_too_many, fits, turn_of, NoneBefore, IsFirstTreeFault}
 use Rattle.cxl_topo.specs.Judging.{first_of, tests_of}
 use Rattle.cxl_topo.proofs.Sound.{no_lack}
 use Rattle.cxl_topo.proofs.WaysUp.{parent_under, length-ports_above, ports_above-more, ports_from, length-path_of}
@@ -155,11 +155,6 @@ none_from nodes i node (Some fault) here none e = tt
 pub some_from : (nodes : List Node) (i : ℕ) (node : Node) (result : Option TreeFault) → slice_get nodes i ≡ Some node → NoneBefore nodes (8 * i + 1) → result ≡ first_of (tests_of nodes i node) → IfSome result (λ fault. IsFirstTreeFault nodes fault)
 some_from nodes i node None here none e = tt
 some_from nodes i node (Some fault) here none e = some_at nodes i node here none fault (sym e)
-
-pub node_there : (nodes : List Node) (i : ℕ) → i < length nodes → (node : Node) × (slice_get nodes i ≡ Some node)
-node_there [] i lt = absurd (omega arith)
-node_there (node ∷ nodes) zero lt = (node, refl)
-node_there (node ∷ nodes) (suc i) lt = node_there nodes i (omega arith)
 
 -- no test holds
 pub none_hold : {a b c d e f g h : Bool} (i : ℕ) → a ≡ false → b ≡ false → c ≡ false → d ≡ false → e ≡ false → f ≡ false → g ≡ false → h ≡ false

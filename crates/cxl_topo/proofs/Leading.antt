@@ -1,18 +1,14 @@
 -- The path of a node leads from its bridge down to it.
-use Rattle.std.proofs.Common.{◌≡◌, ℕ, zero, suc, ◌+◌, ◌*◌, ◌<◌, ◌≤◌, Bool, true, false, not, List, [], ◌∷◌, ◌++◌, length, take, Option, Some, None, option_map, IsTrue, refl, sym, ap, subst, ◌∙◌, inl, inr, arith}
+use Rattle.std.proofs.Common.{◌≡◌, ℕ, zero, suc, ◌<◌, ◌≤◌, true, false, List, [], ◌∷◌, ◌++◌, length, take, Option, Some, None, option_map, refl, sym, ap, subst, ◌∙◌, inl, inr, arith}
 use Rattle.std.specs.Prelude.{slice_get}
-use Rattle.std.specs.Option.{option_map_or}
-use Rattle.std.proofs.lemmas.Bool.{cases_Bool, false≢true, not_from_false}
-use Rattle.std.proofs.lemmas.List.{length-append}
+use Rattle.std.proofs.lemmas.Bool.{cases_Bool}
 use Rattle.std.proofs.lemmas.Option.{none-some}
 use Rattle.cxl_topo.specs.declared.node.Node.{Node}
 use Rattle.cxl_topo.specs.declared.node.Parent.{Parent}
 use Rattle.cxl_topo.specs.declared.fault.TreeFault.TheVariants as faults
-use Rattle.cxl_topo.specs.Kinds.{is_bridge}
-use Rattle.cxl_topo.specs.Tree.{holds_at, is_switch_at, parent_of, ports_above, path_of, LeadsTo, IsPathTo}
-use Rattle.cxl_topo.specs.Faults.{lacks_parent, IsTree, NoneBefore}
-use Rattle.cxl_topo.proofs.WaysUp.{path_from, path_of-more, ports_above-few, length-path_of}
-use Rattle.cxl_topo.proofs.Judged.{node_there}
+use Rattle.cxl_topo.specs.Tree.{holds_at, is_bridge_at, parent_of, path_of, LeadsTo, IsPathTo}
+use Rattle.cxl_topo.specs.Faults.{lacks_parent, IsTree, IsUnder, NoneBefore}
+use Rattle.cxl_topo.proofs.WaysUp.{parent_under, path_from, path_of-more, ports_above-few, length-path_of}
 use Rattle.cxl_topo.proofs.Fitting.{tree_fits}
 
 -- one more node at the end
@@ -39,16 +35,16 @@ module _ (nodes : List Node) (tree : IsTree nodes) where
   none_before turn fault lt = tree_fits nodes tree fault
 
   -- a node without a parent is a bridge
-  root_is_bridge : (i : ℕ) → i < length nodes → parent_of nodes i ≡ None → holds_at nodes i (λ node. is_bridge node.kind) ≡ true
-  root_is_bridge i lt none =
-      let there = node_there nodes i lt in
-      let held : (test : Node → Bool) → holds_at nodes i test ≡ test there.0 = λ test. ap (λ (o : Option Node). option_map_or test o false) there.1 in
-      elim (cases_Bool (is_bridge there.0.kind)) [
-        | inl b ↦ held (λ node. is_bridge node.kind) ∙ b
-        | inr b ↦
-            let one = tree.others i (held (λ node. not (is_bridge node.kind)) ∙ not_from_false (is_bridge there.0.kind) b) in
-            absurd (none-some one.0 (sym none ∙ one.1))
+  root_is_bridge : (i : ℕ) → i < length nodes → parent_of nodes i ≡ None → is_bridge_at nodes i ≡ true
+  root_is_bridge i below none =
+      elim (cases_Bool (is_bridge_at nodes i)) [
+        | inl b ↦ b
+        | inr b ↦ let one = tree.others i below b in absurd (none-some one.0 (sym none ∙ one.1))
       ]
+
+  -- a parent is an earlier bridge or switch
+  pub parent_is_under : (i : ℕ) (parent : Parent) → parent_of nodes i ≡ Some parent → IsUnder nodes i parent
+  parent_is_under i parent is = (parent_under nodes i parent (sound i) is).1
 
   leads_within : (n i : ℕ) → i < n → i < length nodes → IsPathTo nodes i (path_of nodes i)
   leads_within zero i lt below = absurd (omega arith)
@@ -57,23 +53,8 @@ module _ (nodes : List Node) (tree : IsTree nodes) where
       go : (o : Option Parent) → parent_of nodes i ≡ o → ((k : ℕ) → k < n → k < length nodes → IsPathTo nodes k (path_of nodes k)) → IsPathTo nodes i (path_from nodes o ++ i ∷ [])
       go None e again = record { bridge = (i, refl, root_is_bridge i below e); leads = refl }
       go (Some parent) e again =
-          let other = not_bridge parent e in
-          let one = tree.others i other in
-          let earlier = one.2.earlier in
-          let same : Some one.0 ≡ Some parent = sym one.1 ∙ e in
-          let node_is : one.0.node ≡ parent.node = ap (λ (o : Option Parent). option_map_or (λ (p : Parent). p.node) o 0) same in
+          let earlier = (parent_is_under i parent e).earlier in
           path_more nodes i parent e (again parent.node (omega arith) (omega arith))
-        where
-          not_bridge : (parent : Parent) → parent_of nodes i ≡ Some parent → holds_at nodes i (λ node. not (is_bridge node.kind)) ≡ true
-          not_bridge parent e =
-              let there = node_there nodes i below in
-              let held : (test : Node → Bool) → holds_at nodes i test ≡ test there.0 = λ test. ap (λ (o : Option Node). option_map_or test o false) there.1 in
-              elim (cases_Bool (is_bridge there.0.kind)) [
-                | inl b ↦
-                    let none = tree.bridges i (held (λ node. is_bridge node.kind) ∙ b) in
-                    absurd (none-some parent (sym none ∙ e))
-                | inr b ↦ held (λ node. not (is_bridge node.kind)) ∙ not_from_false (is_bridge there.0.kind) b
-              ]
 
   pub path_leads : (i : ℕ) → i < length nodes → IsPathTo nodes i (path_of nodes i)
   path_leads i below = leads_within (suc i) i (omega arith) below

@@ -1,49 +1,23 @@
 -- Nodes are a legal tree exactly where no fault fits them.
-use Rattle.std.proofs.Common.{◌≡◌, ℕ, zero, suc, ◌+◌, ◌*◌, ◌<◌, ◌≤◌, ◌==◌, Bool, true, false, not, ◌&&◌, ◌||◌, List, length, take, Option, Some, None, is_some, IsTrue, refl, sym, ap, subst, ◌∙◌, inl, inr, arith}
-use Rattle.std.specs.Prelude.{slice_get, position, count_by, nat_le, nat_lt}
-use Rattle.std.specs.Option.{option_map_or, option_and_then}
-use Rattle.std.specs.Str.{bytes_eq}
-use Rattle.std.proofs.lemmas.Bool.{cases_lt, cases_order, false≢true, both_ways, not-true, not-false, and_parts, and_from, or_parts, or_from, ltb-false, leb-false, lt-leb, le-ltb, eqb-true, eq-eqb, and_right, not_from_true, false_from_ne_true}
-use Rattle.std.proofs.lemmas.Option.{none-some, slice_get_past}
+use Rattle.std.proofs.Common.{◌≡◌, ℕ, ◌+◌, ◌*◌, ◌<◌, ◌≤◌, ◌==◌, Bool, true, false, not, ◌&&◌, ◌||◌, List, length, take, Option, Some, is_some, IsTrue, refl, sym, ap, ◌∙◌, inl, inr, arith}
+use Rattle.std.specs.Prelude.{slice_get, position, count_by, nat_lt}
+use Rattle.std.specs.Option.{option_map_or}
+use Rattle.std.proofs.lemmas.Bool.{cases_lt, cases_order, false≢true, not-false, and_from, or_parts, ltb-false, eqb-true, eq-eqb}
+use Rattle.std.proofs.lemmas.Option.{slice_get_past}
 use Rattle.std.proofs.lemmas.Slice.Eq.{bytes_eq-Decides}
 use Rattle.cxl_enc.specs.Caps.{is_legal_cap}
 use Rattle.cxl_topo.specs.declared.node.Node.{Node}
 use Rattle.cxl_topo.specs.declared.node.Parent.{Parent}
 use Rattle.cxl_topo.specs.declared.node.Capacity.{Capacity}
-use Rattle.cxl_topo.specs.declared.node.NodeKind.{NodeKind}
-use Rattle.cxl_topo.specs.declared.node.NodeKind.TheVariants.{Bridge, Switch, Endpoint}
 use Rattle.cxl_topo.specs.declared.fault.TreeFault.{TreeFault}
 use Rattle.cxl_topo.specs.declared.fault.TreeFault.TheVariants as faults
-use Rattle.cxl_topo.specs.Kinds.{is_bridge, is_switch, is_endpoint, uid_of, capacity_of}
-use Rattle.cxl_topo.specs.Tree.{holds_at, forwards_at, is_switch_at, is_port_at, is_named, is_bridge_with, stands_at, stands_under, parent_of}
-use Rattle.cxl_topo.specs.Faults.{lacks_parent, has_taken_port, forks, has_taken_name, has_taken_uid, switches_above, is_too_deep, has_wrong_caps, placeholder_cap, has_wrong_capacity, is_capacity, are_too_many, fits, turn_of, NoneBefore, IsTree, IsUnder}
+use Rattle.cxl_topo.specs.Kinds.{is_bridge, is_endpoint, capacity_of}
+use Rattle.cxl_topo.specs.Tree.{holds_at, forwards_at, is_named, is_bridge_with, stands_at, stands_under, name_at, uid_at, parent_of}
+use Rattle.cxl_topo.specs.Faults.{lacks_parent, has_taken_port, forks, has_taken_name, has_taken_uid, is_too_deep, has_wrong_caps, placeholder_cap, has_wrong_capacity, is_capacity, fits, turn_of, NoneBefore, IsTree}
 use Rattle.cxl_topo.proofs.WaysUp.{parent_under, bridge_has_none, other_has_one}
 use Rattle.cxl_topo.proofs.Sound.{shallow}
-use Rattle.cxl_topo.proofs.Earlier.{PassesAt, PassesBefore, found_earlier, finds_earlier, earlier_holds}
-
--- ---- a node and its parent
-
--- the node at a place whose parent is known
-pub record StandsThere (nodes : List Node) (i : ℕ) (parent : Parent) : Type 0 where
-  pub node : Node
-  pub there : slice_get nodes i ≡ Some node
-  pub parent_is : node.parent ≡ Some parent
-
-stands_there : (nodes : List Node) (i : ℕ) (parent : Parent) → parent_of nodes i ≡ Some parent → StandsThere nodes i parent
-stands_there nodes i parent is = go (slice_get nodes i) refl
-  where
-    go : (o : Option Node) → slice_get nodes i ≡ o → StandsThere nodes i parent
-    go None e = absurd (none-some parent (sym (ap (option_and_then (λ (node : Node). node.parent)) e) ∙ is))
-    go (Some node) e = record { node = node; there = e; parent_is = rw e at is }
-
-held : (nodes : List Node) (i : ℕ) (node : Node) (test : Node → Bool) → slice_get nodes i ≡ Some node → holds_at nodes i test ≡ test node
-held nodes i node test there = ap (λ (o : Option Node). option_map_or test o false) there
-
-at_port : (node : Node) (parent : Parent) → node.parent ≡ Some parent → stands_at parent.node parent.port node ≡ true
-at_port node parent is = rw (is, eq-eqb parent.node parent.node refl, eq-eqb parent.port parent.port refl)
-
-at_node : (node : Node) (parent : Parent) (n : ℕ) → node.parent ≡ Some parent → parent.node ≡ n → stands_under n node ≡ true
-at_node node parent n is same = rw (is, eq-eqb parent.node n same)
+use Rattle.cxl_topo.proofs.Earlier.{found_earlier, earlier_holds}
+use Rattle.cxl_topo.proofs.There.{held, is_other, stands_there, named_there, bridge_there, at_port, at_node}
 
 -- ---- no fault fits, so the nodes are a tree
 
@@ -88,32 +62,36 @@ module _ (nodes : List Node) (none : (fault : TreeFault) → fits nodes fault �
         | inr (inr lt) ↦ absurd (later_fork j i other parent at_j at_i (sym same) forward lt)
       ]
 
-  later_name : (i j : ℕ) (node other : Node) → slice_get nodes i ≡ Some node → slice_get nodes j ≡ Some other → node.name ≡ other.name → i < j → ⊥
-  later_name i j node other at_i at_j same lt =
-      let free = fails j other (has_taken_name (take j nodes)) at_j (none (faults.NameTaken j)) in
-      false≢true (sym free ∙ found_earlier (is_named other.name) nodes j i node lt at_i ((bytes_eq-Decides node.name other.name).1 same))
+  later_name : (i j : ℕ) (name : List ℕ) → name_at nodes i ≡ Some name → name_at nodes j ≡ Some name → i < j → ⊥
+  later_name i j name at_i at_j lt =
+      let a = named_there nodes i name at_i in
+      let b = named_there nodes j name at_j in
+      let free = fails j b.node (has_taken_name (take j nodes)) b.there (none (faults.NameTaken j)) in
+      false≢true (sym free ∙ found_earlier (is_named b.node.name) nodes j i a.node lt a.there ((bytes_eq-Decides a.node.name b.node.name).1 (a.is ∙ sym b.is)))
 
-  names : (i j : ℕ) (node other : Node) → slice_get nodes i ≡ Some node → slice_get nodes j ≡ Some other → node.name ≡ other.name → i ≡ j
-  names i j node other at_i at_j same =
+  names : (i j : ℕ) (name : List ℕ) → name_at nodes i ≡ Some name → name_at nodes j ≡ Some name → i ≡ j
+  names i j name at_i at_j =
       elim (cases_order i j) [
         | inl e ↦ e
-        | inr (inl lt) ↦ absurd (later_name i j node other at_i at_j same lt)
-        | inr (inr lt) ↦ absurd (later_name j i other node at_j at_i (sym same) lt)
+        | inr (inl lt) ↦ absurd (later_name i j name at_i at_j lt)
+        | inr (inr lt) ↦ absurd (later_name j i name at_j at_i lt)
       ]
 
-  later_uid : (i j : ℕ) (node other : Node) (uid : ℕ) → slice_get nodes i ≡ Some node → slice_get nodes j ≡ Some other → uid_of node.kind ≡ Some uid → uid_of other.kind ≡ Some uid → i < j → ⊥
-  later_uid i j node other uid at_i at_j of_node of_other lt =
-      let free = fails j other (has_taken_uid (take j nodes)) at_j (none (faults.UidTaken j)) in
-      let own : is_bridge_with uid node ≡ true = ap (λ (o : Option ℕ). option_map_or (λ (own : ℕ). own == uid) o false) of_node ∙ eq-eqb uid uid refl in
+  later_uid : (i j uid : ℕ) → uid_at nodes i ≡ Some uid → uid_at nodes j ≡ Some uid → i < j → ⊥
+  later_uid i j uid at_i at_j lt =
+      let a = bridge_there nodes i uid at_i in
+      let b = bridge_there nodes j uid at_j in
+      let free = fails j b.node (has_taken_uid (take j nodes)) b.there (none (faults.UidTaken j)) in
+      let own : is_bridge_with uid a.node ≡ true = ap (λ (o : Option ℕ). option_map_or (λ (own : ℕ). own == uid) o false) a.is ∙ eq-eqb uid uid refl in
       let test : Option ℕ → Bool = λ o. option_map_or (λ (uid : ℕ). is_some (position (is_bridge_with uid) (take j nodes))) o false in
-      false≢true (sym (ap test (sym of_other) ∙ free) ∙ found_earlier (is_bridge_with uid) nodes j i node lt at_i own)
+      false≢true (sym (ap test (sym b.is) ∙ free) ∙ found_earlier (is_bridge_with uid) nodes j i a.node lt a.there own)
 
-  uids : (i j : ℕ) (node other : Node) (uid : ℕ) → slice_get nodes i ≡ Some node → slice_get nodes j ≡ Some other → uid_of node.kind ≡ Some uid → uid_of other.kind ≡ Some uid → i ≡ j
-  uids i j node other uid at_i at_j of_node of_other =
+  uids : (i j uid : ℕ) → uid_at nodes i ≡ Some uid → uid_at nodes j ≡ Some uid → i ≡ j
+  uids i j uid at_i at_j =
       elim (cases_order i j) [
         | inl e ↦ e
-        | inr (inl lt) ↦ absurd (later_uid i j node other uid at_i at_j of_node of_other lt)
-        | inr (inr lt) ↦ absurd (later_uid j i other node uid at_j at_i of_other of_node lt)
+        | inr (inl lt) ↦ absurd (later_uid i j uid at_i at_j lt)
+        | inr (inr lt) ↦ absurd (later_uid j i uid at_j at_i lt)
       ]
 
   caps : (i : ℕ) (node : Node) → slice_get nodes i ≡ Some node → (not (is_legal_cap node.cap (is_endpoint node.kind)) ≡ false) × ((node.forwards && (not (node.cap == placeholder_cap) || is_endpoint node.kind)) ≡ false)
@@ -136,7 +114,7 @@ module _ (nodes : List Node) (none : (fault : TreeFault) → fits nodes fault �
     few_nodes = few.0;
     few_bridges = few.1;
     bridges = λ i bridge. bridge_has_none nodes i (none (faults.NoParent i)) bridge;
-    others = λ i other. let one = other_has_one nodes i (none (faults.NoParent i)) other in (one.0, one.1, (parent_under nodes i one.0 (none (faults.NoParent i)) one.1).1);
+    others = λ i below other. let one = other_has_one nodes i (none (faults.NoParent i)) (is_other nodes i below other) in (one.0, one.1, (parent_under nodes i one.0 (none (faults.NoParent i)) one.1).1);
     ports = ports;
     forwarding = forwarding;
     names = names;

@@ -4,7 +4,9 @@ pub mod Sound
 pub mod PathSteps
 pub mod Judged
 pub mod Earlier
+pub mod There
 pub mod Legal
 pub mod Fitting
 pub mod Leading
 pub mod WaysDown
+pub mod Finding

@@ -1,14 +1,14 @@
 -- The steps of the walk from a node up to its bridge.
-use Rattle.std.proofs.Common.{◌≡◌, ℕ, zero, suc, ◌+◌, ◌-◌, ◌*◌, ◌<◌, ◌≤◌, false, List, [], ◌∷◌, ◌++◌, length, get_or, take, drop, Option, Some, None, refl, sym, ap, subst, ◌∙◌, arith, append_assoc, add-one}
-use Rattle.std.specs.Prelude.{replicate, slice_get}
+use Rattle.std.proofs.Common.{◌≡◌, ℕ, suc, ◌+◌, ◌-◌, ◌*◌, ◌<◌, ◌≤◌, false, List, [], ◌∷◌, ◌++◌, length, get_or, take, drop, Option, Some, refl, sym, ap, subst, ◌∙◌, arith, append_assoc, add-one}
+use Rattle.std.specs.Prelude.{replicate}
 use Rattle.std.specs.Option.{option_and_then}
 use Rattle.std.proofs.lemmas.List.{length-append, drop-take, take-replicate, take-take}
 use Rattle.std.proofs.lemmas.Option.{slice_get-get_or}
 use Rattle.cxl_topo.specs.declared.node.Node.{Node}
 use Rattle.cxl_topo.specs.declared.node.Parent.{Parent}
-use Rattle.cxl_topo.specs.Tree.{holds_at, parent_of, path_of, ports_above}
+use Rattle.cxl_topo.specs.Tree.{holds_at, parent_of, path_of}
 use Rattle.cxl_topo.specs.Faults.{lacks_parent, NoneBefore}
-use Rattle.cxl_topo.proofs.WaysUp.{path_from, height_of, height_falls, path_of-more, ports_above-few, length-path_of, parent_under}
+use Rattle.cxl_topo.proofs.WaysUp.{path_from, height_of, height_falls, path_of-more, ports_above-few, length-path_of}
 use Rattle.cxl_topo.proofs.Sound.{no_lack, shallow}
 
 -- six numbers, with one more before the first five

@@ -1,17 +1,16 @@
 -- The way from a node that forwards down to its landing.
-use Rattle.std.proofs.Common.{◌≡◌, ℕ, zero, suc, ◌+◌, ◌<◌, ◌≤◌, Bool, true, false, cond, List, length, get_or, Option, Some, None, refl, sym, ap, ◌∙◌, inl, inr, arith}
-use Rattle.std.specs.Prelude.{slice_get}
+use Rattle.std.proofs.Common.{◌≡◌, ℕ, zero, suc, ◌+◌, ◌<◌, ◌≤◌, true, false, cond, List, length, get_or, Option, Some, None, refl, sym, ap, ◌∙◌, inl, inr, arith}
 use Rattle.std.specs.Option.{option_and_then, option_map_or}
 use Rattle.std.proofs.lemmas.Bool.{cases_Bool}
 use Rattle.std.proofs.lemmas.Option.{slice_get_within, slice_get-get_or}
 use Rattle.cxl_topo.specs.declared.node.Node.{Node}
-use Rattle.cxl_topo.specs.declared.node.Parent.{Parent}
 use Rattle.cxl_topo.specs.declared.fault.TreeFault.TheVariants as faults
 use Rattle.cxl_topo.specs.Tree.{forwards_at, stands_under, parent_of, first_child_of, landing_within, landing_of}
 use Rattle.cxl_topo.specs.Faults.{IsTree}
 use Rattle.cxl_topo.proofs.WaysUp.{parent_under}
 use Rattle.cxl_topo.proofs.Earlier.{finds}
-use Rattle.cxl_topo.proofs.Fitting.{tree_fits, under_is}
+use Rattle.cxl_topo.proofs.Fitting.{tree_fits}
+use Rattle.cxl_topo.proofs.There.{under_is}
 
 -- a child comes after its parent
 pub record IsLater (nodes : List Node) (n child : ℕ) : Type 0 where

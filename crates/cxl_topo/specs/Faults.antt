@@ -1,5 +1,5 @@
 -- Which nodes are a legal tree, and what is the first fault of others.
-use Rattle.std.specs.Prelude.{◌≡◌, ℕ, ◌+◌, ◌*◌, ◌%◌, ◌^◌, ◌<◌, ◌≤◌, ◌==◌, nat_lt, nat_le, Bool, true, false, not, ◌&&◌, ◌||◌, List, length, take, count_by, Option, Some, None, is_some, IsTrue, slice_get, if◌then◌else◌}
+use Rattle.std.specs.Prelude.{◌≡◌, ℕ, ◌+◌, ◌*◌, ◌%◌, ◌^◌, ◌<◌, ◌≤◌, ◌==◌, nat_lt, nat_le, Bool, false, not, ◌&&◌, ◌||◌, List, length, take, count_by, Some, None, is_some, IsTrue, slice_get, if◌then◌else◌}
 use Rattle.std.specs.Option.{option_map_or}
 use Rattle.cxl_enc.specs.Caps.{is_legal_cap}
 use Rattle.cxl_topo.specs.declared.node.Node.{Node}
@@ -8,7 +8,7 @@ use Rattle.cxl_topo.specs.declared.node.Capacity.{Capacity}
 use Rattle.cxl_topo.specs.declared.fault.TreeFault.{TreeFault}
 use Rattle.cxl_topo.specs.declared.fault.TreeFault.TheVariants as faults
 use Rattle.cxl_topo.specs.Kinds.{is_bridge, is_switch, is_endpoint, uid_of, capacity_of}
-use Rattle.cxl_topo.specs.Tree.{holds_at, forwards_at, is_switch_at, is_port_at, node_named, bridge_with, child_of, first_child_of, parent_of, ports_above}
+use Rattle.cxl_topo.specs.Tree.{holds_at, forwards_at, is_bridge_at, is_switch_at, is_port_at, name_at, uid_at, node_named, bridge_with, child_of, first_child_of, parent_of, ports_above}
 
 -- ---- what each fault says of a node, given the earlier nodes
 
@@ -103,22 +103,26 @@ pub record IsFirstTreeFault (nodes : List Node) (fault : TreeFault) : Type 0 whe
 
 -- ---- legal trees
 
--- a node other than a bridge stands under an earlier bridge or switch
+-- the port is that of an earlier bridge or switch
 pub record IsUnder (nodes : List Node) (i : ℕ) (parent : Parent) : Type 0 where
   pub earlier : parent.node < i
   pub port : IsTrue (is_port_at nodes parent.node)
 
--- a legal tree: of no node holds what a fault says
+-- a legal tree
 pub record IsTree (nodes : List Node) : Type 0 where
   pub few_nodes : length nodes ≤ 1024
   pub few_bridges : count_by (λ node. is_bridge node.kind) nodes ≤ 64
-  pub bridges : (i : ℕ) → IsTrue (holds_at nodes i (λ node. is_bridge node.kind)) → parent_of nodes i ≡ None
-  pub others : (i : ℕ) → IsTrue (holds_at nodes i (λ node. not (is_bridge node.kind))) → (parent : Parent) × (parent_of nodes i ≡ Some parent) × IsUnder nodes i parent
+  -- a bridge has no parent, and any other node stands under an earlier bridge or switch
+  pub bridges : (i : ℕ) → IsTrue (is_bridge_at nodes i) → parent_of nodes i ≡ None
+  pub others : (i : ℕ) → i < length nodes → is_bridge_at nodes i ≡ false → (parent : Parent) × (parent_of nodes i ≡ Some parent) × IsUnder nodes i parent
+  -- a port has one child, and a node that forwards has one child in all
   pub ports : (i j : ℕ) (parent : Parent) → parent_of nodes i ≡ Some parent → parent_of nodes j ≡ Some parent → i ≡ j
   pub forwarding : (i j : ℕ) (parent other : Parent) → parent_of nodes i ≡ Some parent → parent_of nodes j ≡ Some other → parent.node ≡ other.node → IsTrue (forwards_at nodes parent.node) → i ≡ j
-  pub names : (i j : ℕ) (node other : Node) → slice_get nodes i ≡ Some node → slice_get nodes j ≡ Some other → node.name ≡ other.name → i ≡ j
-  pub uids : (i j : ℕ) (node other : Node) (uid : ℕ) → slice_get nodes i ≡ Some node → slice_get nodes j ≡ Some other → uid_of node.kind ≡ Some uid → uid_of other.kind ≡ Some uid → i ≡ j
+  pub names : (i j : ℕ) (name : List ℕ) → name_at nodes i ≡ Some name → name_at nodes j ≡ Some name → i ≡ j
+  pub uids : (i j uid : ℕ) → uid_at nodes i ≡ Some uid → uid_at nodes j ≡ Some uid → i ≡ j
+  -- at most four switches in a row
   pub depths : (i : ℕ) → IsTrue (is_switch_at nodes i) → switches_above nodes i < 4
+  -- capability words are legal, and a node that forwards has a placeholder's and is no endpoint
   pub caps : (i : ℕ) (node : Node) → slice_get nodes i ≡ Some node → IsTrue (is_legal_cap node.cap (is_endpoint node.kind))
   pub placeholders : (i : ℕ) (node : Node) → slice_get nodes i ≡ Some node → IsTrue node.forwards → (node.cap ≡ placeholder_cap) × (is_endpoint node.kind ≡ false)
   pub capacities : (i : ℕ) (node : Node) (capacity : Capacity) → slice_get nodes i ≡ Some node → capacity_of node.kind ≡ Some capacity → IsTrue (is_capacity capacity)

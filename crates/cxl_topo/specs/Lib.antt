@@ -5,3 +5,4 @@ pub mod Tables
 pub mod AreTables
 pub mod Judging
 pub mod Kept
+pub mod Laws

@@ -1,5 +1,5 @@
 -- A tree as the list of its nodes: who stands where, ways up and ways down.
-use Rattle.std.specs.Prelude.{◌≡◌, ℕ, zero, suc, IsTrue, ◌==◌, Bool, false, not, ◌&&◌, List, [], ◌∷◌, ◌++◌, length, map, reverse, position, find, Option, Some, None, option_map, slice_get, if◌then◌else◌}
+use Rattle.std.specs.Prelude.{◌≡◌, ℕ, zero, suc, IsTrue, ◌==◌, Bool, false, not, ◌&&◌, List, [], ◌∷◌, length, map, reverse, position, find, Option, Some, None, option_map, slice_get, if◌then◌else◌}
 use Rattle.std.specs.Option.{option_and_then, option_map_or}
 use Rattle.std.specs.Str.{bytes_eq}
 use Rattle.cxl_topo.specs.declared.node.Node.{Node}
@@ -18,12 +18,29 @@ holds_at nodes i test = option_map_or test (slice_get nodes i) false
 abbrev pub forwards_at : List Node → ℕ → Bool
 forwards_at nodes i = holds_at nodes i (λ node. node.forwards)
 
+abbrev pub is_bridge_at : List Node → ℕ → Bool
+is_bridge_at nodes i = holds_at nodes i (λ node. is_bridge node.kind)
+
 abbrev pub is_switch_at : List Node → ℕ → Bool
 is_switch_at nodes i = holds_at nodes i (λ node. is_switch node.kind)
+
+abbrev pub is_endpoint_at : List Node → ℕ → Bool
+is_endpoint_at nodes i = holds_at nodes i (λ node. is_endpoint node.kind)
 
 -- whether node i is a bridge or a switch
 abbrev pub is_port_at : List Node → ℕ → Bool
 is_port_at nodes i = holds_at nodes i (λ node. not (is_endpoint node.kind))
+
+abbrev pub name_at : List Node → ℕ → Option (List ℕ)
+name_at nodes i = option_map (λ node. node.name) (slice_get nodes i)
+
+-- the UID of node i, where it is a bridge
+abbrev pub uid_at : List Node → ℕ → Option ℕ
+uid_at nodes i = option_and_then (λ node. uid_of node.kind) (slice_get nodes i)
+
+-- the parent of node i, with the port there
+abbrev pub parent_of : List Node → ℕ → Option Parent
+parent_of nodes i = option_and_then (λ node. node.parent) (slice_get nodes i)
 
 -- ---- finding a node
 
@@ -59,10 +76,6 @@ first_child_of nodes n = position (stands_under n) nodes
 
 -- ---- ways up
 
--- the parent of node i, with the port there
-abbrev pub parent_of : List Node → ℕ → Option Parent
-parent_of nodes i = option_and_then (λ node. node.parent) (slice_get nodes i)
-
 -- this port, the port above it, and so on, n of them at the most
 abbrev pub ports_up : ℕ → List Node → Option Parent → List Parent
 ports_up zero nodes parent = []
@@ -85,7 +98,7 @@ LeadsTo nodes i (n ∷ m ∷ ns) = (option_map (λ parent. parent.node) (parent_
 
 -- the list from its bridge down to node i
 pub record IsPathTo (nodes : List Node) (i : ℕ) (path : List ℕ) : Type 0 where
-  pub bridge : (n : ℕ) × (slice_get path 0 ≡ Some n) × IsTrue (holds_at nodes n (λ node. is_bridge node.kind))
+  pub bridge : (n : ℕ) × (slice_get path 0 ≡ Some n) × IsTrue (is_bridge_at nodes n)
   pub leads : LeadsTo nodes i path
 
 -- the first port above node i whose node does not forward

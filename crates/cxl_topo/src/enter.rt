@@ -17,7 +17,11 @@ fn enter<K: Ord + Copy>(table: &mut BTreeMap<K, u32>, key: K, i: u32) -> Result<
 }
 
 /// Enters node `i` as the child at its parent's port.
-pub(crate) fn enter_child(table: &mut BTreeMap<Parent, u32>, nodes: &[Node], i: u32) -> Result<(), AllocError>
+pub(crate) fn enter_child(
+    table: &mut BTreeMap<Parent, u32>,
+    nodes: &[Node],
+    i: u32,
+) -> Result<(), AllocError>
     requires below { i < length nodes.now }
     requires listed { ListsChildren (take i nodes.now) table.old }
     ensures { OnOk result (ListsChildren (take (i + 1) nodes.now) table.new) }
@@ -30,7 +34,11 @@ pub(crate) fn enter_child(table: &mut BTreeMap<Parent, u32>, nodes: &[Node], i: 
 }
 
 /// Enters node `i` as the first child of its parent, unless there is one.
-pub(crate) fn enter_first_child(table: &mut BTreeMap<u32, u32>, nodes: &[Node], i: u32) -> Result<(), AllocError>
+pub(crate) fn enter_first_child(
+    table: &mut BTreeMap<u32, u32>,
+    nodes: &[Node],
+    i: u32,
+) -> Result<(), AllocError>
     requires below { i < length nodes.now }
     requires listed { ListsFirstChildren (take i nodes.now) table.old }
     ensures { OnOk result (ListsFirstChildren (take (i + 1) nodes.now) table.new) }
@@ -43,7 +51,11 @@ pub(crate) fn enter_first_child(table: &mut BTreeMap<u32, u32>, nodes: &[Node], 
 }
 
 /// Enters node `i` under its name.
-pub(crate) fn enter_name(table: &mut BTreeMap<NameKey, u32>, nodes: &[Node], i: u32) -> Result<(), AllocError>
+pub(crate) fn enter_name(
+    table: &mut BTreeMap<NameKey, u32>,
+    nodes: &[Node],
+    i: u32,
+) -> Result<(), AllocError>
     requires below { i < length nodes.now }
     requires listed { ListsNames (take i nodes.now) table.old }
     ensures { OnOk result (ListsNames (take (i + 1) nodes.now) table.new) }
@@ -53,7 +65,11 @@ pub(crate) fn enter_name(table: &mut BTreeMap<NameKey, u32>, nodes: &[Node], i: 
 }
 
 /// Enters node `i` under its UID, where it is a bridge.
-pub(crate) fn enter_bridge(table: &mut BTreeMap<u32, u32>, nodes: &[Node], i: u32) -> Result<(), AllocError>
+pub(crate) fn enter_bridge(
+    table: &mut BTreeMap<u32, u32>,
+    nodes: &[Node],
+    i: u32,
+) -> Result<(), AllocError>
     requires below { i < length nodes.now }
     requires listed { ListsBridges (take i nodes.now) table.old }
     ensures { OnOk result (ListsBridges (take (i + 1) nodes.now) table.new) }

@@ -141,7 +141,8 @@ fn forks(earlier: &[Node], tables: &Tables, node: &Node) -> bool
     ensures { ListsFirstChildren earlier.now tables.now.first_children → result ≡ forks earlier.now node.now }
 {
     match node.parent {
-        Some(parent) => forwards(earlier, parent.node) && tables.first_children.get(&parent.node).is_some(),
+        Some(parent) => forwards(earlier, parent.node)
+            && tables.first_children.get(&parent.node).is_some(),
         None => false,
     }
 }

@@ -5,6 +5,7 @@
 mod enter;
 mod fault;
 mod judge;
+mod laws;
 mod node;
 mod path;
 mod tables;
@@ -13,6 +14,10 @@ mod ways;
 
 pub use cxl_enc::{Caps, Name, cap_word, legal_cap};
 pub use fault::TreeFault;
+pub use laws::tree_laws;
 pub use node::{Capacity, Node, NodeKind, Parent};
 pub use path::Path;
 pub use topo::Topo;
+
+#[cfg(test)]
+mod tests;

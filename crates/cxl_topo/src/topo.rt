@@ -1,7 +1,8 @@
 ghost use Rattle.std.specs.Prelude.{◌≡◌, ◌≢◌, ◌+◌, ◌-◌, ◌≤◌, ◌<◌, ◌↔◌, ℕ, length, take, drop, replicate, slice_get, Some, IsTrue, IfOk, IfErr, Contains};
-ghost use Rattle.cxl_topo.specs.Tree.{Tree, child_of, node_named, bridge_with, path_of, IsPathTo, landing_of};
+ghost use Rattle.cxl_topo.specs.Tree.{Tree, child_of, name_at, uid_at, node_named, bridge_with, path_of, IsPathTo, landing_of};
 ghost use Rattle.cxl_topo.specs.Faults.{IsTree, IsFirstTreeFault};
 ghost use Rattle.cxl_topo.specs.Kept.{AreFrames};
+ghost use Rattle.cxl_topo.specs.Laws.{StandsAt};
 
 use crate::fault::TreeFault;
 use crate::judge::{are_too_many, tables_of};
@@ -83,7 +84,8 @@ impl Topo {
     /// The child of a node at a port.
     pub fn child(&self, node: u32, port: u8) -> Option<u32>
         requires { node < length self.now.nodes }
-        ensures { result ≡ child_of self.now.nodes node port }
+        ensures child { result ≡ child_of self.now.nodes node port }
+        ensures stands { (c : ℕ) → (result ≡ Some c) ↔ StandsAt self.now.nodes node port c }
     {
         let place = Parent { node, port };
         self.tables.children.get(&place).copied()
@@ -91,14 +93,16 @@ impl Topo {
 
     /// The node with a name.
     pub fn find(&self, name: &Name) -> Option<u32>
-        ensures { result ≡ node_named self.now.nodes name.now }
+        ensures found { result ≡ node_named self.now.nodes name.now }
+        ensures named { (i : ℕ) → (result ≡ Some i) ↔ (name_at self.now.nodes i ≡ Some name.now) }
     {
         self.tables.names.get(&NameKey(*name)).copied()
     }
 
     /// The bridge with a UID.
     pub fn bridge(&self, uid: u32) -> Option<u32>
-        ensures { result ≡ bridge_with self.now.nodes uid }
+        ensures bridge { result ≡ bridge_with self.now.nodes uid }
+        ensures owns { (i : ℕ) → (result ≡ Some i) ↔ (uid_at self.now.nodes i ≡ Some uid) }
     {
         self.tables.bridges.get(&uid).copied()
     }
@@ -106,6 +110,7 @@ impl Topo {
     /// The nodes from its bridge down to a node.
     pub fn path(&self, ep: u32) -> Path
         requires { ep < length self.now.nodes }
+        ensures len { result.len ≡ length (path_of self.now.nodes ep) }
         ensures path { take result.len result.nodes ≡ path_of self.now.nodes ep }
         ensures zeros { drop result.len result.nodes ≡ replicate (6 - result.len) 0 }
         ensures leads { IsPathTo self.now.nodes ep (path_of self.now.nodes ep) }

@@ -1,4 +1,5 @@
-use Rattle.cxl_topo.proofs.Judged.{none_from, some_from, node_there}
+use Rattle.cxl_topo.proofs.Judged.{none_from, some_from}
+use Rattle.cxl_topo.proofs.There.{node_there}
 use Rattle.cxl_topo.proofs.judge.judge.Goals as goal
 
 pub returns-clause-none : goal.returns-clause-none

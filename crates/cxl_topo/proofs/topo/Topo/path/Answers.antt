@@ -1,5 +1,4 @@
 use Rattle.std.proofs.Common.{◌+◌, ◌*◌}
-use Rattle.cxl_topo.specs.Tree.{path_of, IsPathTo}
 use Rattle.cxl_topo.proofs.Leading.{none_before, path_leads}
 use Rattle.cxl_topo.proofs.topo.Topo.path.Goals as goal
 
