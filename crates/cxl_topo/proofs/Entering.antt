@@ -1,0 +1,75 @@
+-- A table that is entered with one more node lists it too.
+use Rattle.std.proofs.Common.{◌≡◌, ℕ, suc, ◌+◌, ◌<◌, Bool, false, ◌&&◌, ◌==◌, cond, List, [], ◌∷◌, ◌++◌, length, get_or, take, Option, Some, None, refl, sym, ap, zero-add, ◌∙◌, inl, inr, arith}
+use Rattle.std.specs.Prelude.{position}
+use Rattle.std.specs.List.{position_from}
+use Rattle.std.specs.Option.{option_or}
+use Rattle.std.specs.declared.cmp.Ordering.{Ordering}
+use Rattle.std.specs.declared.cmp.Ordering.TheVariants.{Less, Equal, Greater}
+use Rattle.std.specs.Ordering.{is_eq, nat_cmp, ordering_then}
+use Rattle.std.specs.Cmp.{unsigned_ties}
+use Rattle.std.specs.Cmp.Lexicographic.{texts_ties}
+use Rattle.std.specs.BTreeMap.{BTreeMap, get, is_at}
+use Rattle.std.proofs.lemmas.Bool.{cases_Bool}
+use Rattle.std.proofs.lemmas.List.{take_more, length-take}
+use Rattle.std.proofs.lemmas.Iterator.Adapters.{position_from-zero}
+use Rattle.cxl_topo.specs.declared.node.Node.{Node}
+use Rattle.cxl_topo.specs.declared.node.NodeKind.TheVariants.{Bridge}
+use Rattle.cxl_topo.specs.declared.node.Parent.{Parent}
+use Rattle.cxl_topo.specs.declared.tables.NameKey.{NameKey}
+use Rattle.cxl_topo.specs.Tree.{stands_at, stands_under, is_bridge_with, is_named}
+use Rattle.cxl_topo.specs.Tables.{Enters, port_cmp, name_cmp}
+
+module _ {X : Type 0} (test : X → Bool) where
+  position_from_push : (xs : List X) (x : X) (i : ℕ) → position_from test i (xs ++ x ∷ []) ≡ option_or (position_from test i xs) (cond (test x) (Some (i + length xs)) None)
+  position_from_push [] x i = let here : i + 0 ≡ i = omega arith in rw here
+  position_from_push (y ∷ ys) x i =
+      let there : (i + 1) + length ys ≡ i + suc (length ys) = omega arith in
+      elim (cases_Bool (test y)) [
+        | inl e ↦ rw e
+        | inr e ↦ rw e (position_from_push ys x (i + 1) ∙ rw there)
+      ]
+
+  -- where a search ends, over a list with one more item
+  pub position_push : (xs : List X) (x : X) → position test (xs ++ x ∷ []) ≡ option_or (position test xs) (cond (test x) (Some (length xs)) None)
+  position_push xs x = position_from-zero test (xs ++ x ∷ []) ∙ position_from_push xs x 0 ∙ ap (λ (n : ℕ). option_or (position_from test 0 xs) (cond (test x) (Some n) None)) (zero-add (length xs)) ∙ rw (position_from-zero test xs)
+
+  -- the same, one place further in a list
+  pub position_more : (xs : List X) (i : ℕ) (d : X) → i < length xs → position test (take (i + 1) xs) ≡ option_or (position test (take i xs)) (cond (test (get_or xs i d)) (Some i) None)
+  position_more xs i d lt =
+      let long : length (take i xs) ≡ i = omega (arith, length-take i xs) in
+      ap (position test) (take_more xs i d lt) ∙ position_push (take i xs) (get_or xs i d) ∙ rw long
+
+module _ {K : Type 0} (cmp : K → K → Ordering) (test : K → Node → Bool) (nodes : List Node) (i : ℕ) (node : Node) (lt : i < length nodes) (is : node ≡ get_or nodes i node) where
+  here : (key : K) → position (test key) (take (i + 1) nodes) ≡ option_or (position (test key) (take i nodes)) (cond (test key node) (Some i) None)
+  here key = position_more (test key) nodes i node lt ∙ rw (← is)
+
+  -- the node is entered under its key
+  pub entered : (old new : BTreeMap K ℕ) (own : K) → ((key : K) → get cmp old key ≡ position (test key) (take i nodes)) → ((key : K) → test key node ≡ is_at (cmp own) key) → Enters cmp old new own i → (key : K) → get cmp new key ≡ position (test key) (take (i + 1) nodes)
+  entered old new own before fits enters key = enters key ∙ rw (before key, ← fits key) (sym (here key))
+
+  -- the node has no key
+  pub passed : (old : BTreeMap K ℕ) → ((key : K) → get cmp old key ≡ position (test key) (take i nodes)) → ((key : K) → test key node ≡ false) → (key : K) → get cmp old key ≡ position (test key) (take (i + 1) nodes)
+  passed old before misses key = before key ∙ go (position (test key) (take i nodes)) ∙ sym (here key ∙ rw (misses key))
+    where
+      go : (o : Option ℕ) → o ≡ option_or o None
+      go None = refl
+      go (Some j) = refl
+
+-- ---- a node has the key under which it is entered, and no other
+
+both_equal : (a b : Bool) (r s : Ordering) → a ≡ is_eq r → b ≡ is_eq s → (a && b) ≡ is_eq (ordering_then r s)
+both_equal a b Less s first second = rw first
+both_equal a b Equal s first second = rw first second
+both_equal a b Greater s first second = rw first
+
+pub stands_at-own : (node : Node) (own : Parent) → node.parent ≡ Some own → (key : Parent) → stands_at key.node key.port node ≡ is_at (port_cmp own) key
+stands_at-own node own is key = rw is (both_equal (own.node == key.node) (own.port == key.port) (nat_cmp own.node key.node) (nat_cmp own.port key.port) (unsigned_ties own.node key.node) (unsigned_ties own.port key.port))
+
+pub stands_under-own : (node : Node) (own : Parent) → node.parent ≡ Some own → (n : ℕ) → stands_under n node ≡ is_at (nat_cmp own.node) n
+stands_under-own node own is n = rw is (unsigned_ties own.node n)
+
+pub is_bridge_with-own : (node : Node) (own : ℕ) → node.kind ≡ Bridge own → (uid : ℕ) → is_bridge_with uid node ≡ is_at (nat_cmp own) uid
+is_bridge_with-own node own is uid = rw is (unsigned_ties own uid)
+
+pub is_named-own : (node : Node) (key : NameKey) → is_named key.0 node ≡ is_at (name_cmp (record { 0 = node.name })) key
+is_named-own node key = texts_ties node.name key.0

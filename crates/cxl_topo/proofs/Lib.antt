@@ -1,0 +1,12 @@
+pub mod Entering
+pub mod WaysUp
+pub mod Sound
+pub mod PathSteps
+pub mod Judged
+pub mod Earlier
+pub mod There
+pub mod Legal
+pub mod Fitting
+pub mod Leading
+pub mod WaysDown
+pub mod Finding

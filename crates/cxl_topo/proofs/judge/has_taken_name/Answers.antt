@@ -1,0 +1,6 @@
+use Rattle.std.proofs.Common.{arith}
+use Rattle.std.proofs.lemmas.Grind.{common_steps}
+use Rattle.cxl_topo.proofs.judge.has_taken_name.Goals as goal
+
+pub returns : goal.returns
+returns c = λ earlier listed. let here = listed (record { 0 = c.args.node.now.name }) in grind (arith, common_steps)

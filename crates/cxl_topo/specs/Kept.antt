@@ -1,0 +1,16 @@
+-- What every topology keeps.
+use Rattle.std.specs.Prelude.{ℕ, ◌≤◌, List}
+use Rattle.cxl_topo.specs.declared.node.Node.{Node}
+use Rattle.cxl_topo.specs.declared.tables.Tables.{Tables}
+use Rattle.cxl_topo.specs.Faults.{IsTree}
+use Rattle.cxl_topo.specs.AreTables.{AreTables}
+
+-- as many frames as a topology may state
+pub record AreFrames (frames : ℕ) : Type 0 where
+  pub some : 1 ≤ frames
+  pub few : frames ≤ 1048576
+
+pub record IsKept (nodes : List Node) (frames : ℕ) (tables : Tables) : Type 0 where
+  pub tree : IsTree nodes
+  pub few : AreFrames frames
+  pub listed : AreTables nodes tables

@@ -1,0 +1,126 @@
+-- A tree as the list of its nodes: who stands where, ways up and ways down.
+use Rattle.std.specs.Prelude.{◌≡◌, ℕ, zero, suc, IsTrue, ◌==◌, Bool, false, not, ◌&&◌, List, [], ◌∷◌, length, map, reverse, position, find, Option, Some, None, option_map, slice_get, if◌then◌else◌}
+use Rattle.std.specs.Option.{option_and_then, option_map_or}
+use Rattle.std.specs.Str.{bytes_eq}
+use Rattle.cxl_topo.specs.declared.node.Node.{Node}
+use Rattle.cxl_topo.specs.declared.node.Parent.{Parent}
+use Rattle.cxl_topo.specs.Kinds.{is_bridge, is_switch, is_endpoint, uid_of}
+
+-- a topology: its nodes, and how many frames of 256 bytes its devices have
+pub record Tree : Type 0 where
+  pub nodes : List Node
+  pub frames : ℕ
+
+-- whether the test holds of node i; it does not where there is no such node
+abbrev pub holds_at : List Node → ℕ → (Node → Bool) → Bool
+holds_at nodes i test = option_map_or test (slice_get nodes i) false
+
+abbrev pub forwards_at : List Node → ℕ → Bool
+forwards_at nodes i = holds_at nodes i (λ node. node.forwards)
+
+abbrev pub is_bridge_at : List Node → ℕ → Bool
+is_bridge_at nodes i = holds_at nodes i (λ node. is_bridge node.kind)
+
+abbrev pub is_switch_at : List Node → ℕ → Bool
+is_switch_at nodes i = holds_at nodes i (λ node. is_switch node.kind)
+
+abbrev pub is_endpoint_at : List Node → ℕ → Bool
+is_endpoint_at nodes i = holds_at nodes i (λ node. is_endpoint node.kind)
+
+-- whether node i is a bridge or a switch
+abbrev pub is_port_at : List Node → ℕ → Bool
+is_port_at nodes i = holds_at nodes i (λ node. not (is_endpoint node.kind))
+
+abbrev pub name_at : List Node → ℕ → Option (List ℕ)
+name_at nodes i = option_map (λ node. node.name) (slice_get nodes i)
+
+-- the UID of node i, where it is a bridge
+abbrev pub uid_at : List Node → ℕ → Option ℕ
+uid_at nodes i = option_and_then (λ node. uid_of node.kind) (slice_get nodes i)
+
+-- the parent of node i, with the port there
+abbrev pub parent_of : List Node → ℕ → Option Parent
+parent_of nodes i = option_and_then (λ node. node.parent) (slice_get nodes i)
+
+-- ---- finding a node
+
+abbrev pub is_named : List ℕ → Node → Bool
+is_named name node = bytes_eq node.name name
+
+-- the node with this name
+abbrev pub node_named : List Node → List ℕ → Option ℕ
+node_named nodes name = position (is_named name) nodes
+
+abbrev pub is_bridge_with : ℕ → Node → Bool
+is_bridge_with uid node = option_map_or (λ own. own == uid) (uid_of node.kind) false
+
+-- the bridge with this UID
+abbrev pub bridge_with : List Node → ℕ → Option ℕ
+bridge_with nodes uid = position (is_bridge_with uid) nodes
+
+-- whether a node's parent is node n, at port p
+abbrev pub stands_at : ℕ → ℕ → Node → Bool
+stands_at n p node = option_map_or (λ parent. (parent.node == n) && (parent.port == p)) node.parent false
+
+-- the child of node n at port p
+abbrev pub child_of : List Node → ℕ → ℕ → Option ℕ
+child_of nodes n p = position (stands_at n p) nodes
+
+-- whether a node's parent is node n
+abbrev pub stands_under : ℕ → Node → Bool
+stands_under n node = option_map_or (λ parent. parent.node == n) node.parent false
+
+-- the only child of node n, or the first where it has several
+abbrev pub first_child_of : List Node → ℕ → Option ℕ
+first_child_of nodes n = position (stands_under n) nodes
+
+-- ---- ways up
+
+-- this port, the port above it, and so on, n of them at the most
+abbrev pub ports_up : ℕ → List Node → Option Parent → List Parent
+ports_up zero nodes parent = []
+ports_up (suc n) nodes None = []
+ports_up (suc n) nodes (Some parent) = parent ∷ ports_up n nodes (parent_of nodes parent.node)
+
+-- the ports on the way from node i up to its bridge, nearest first; there are at most i, since a parent comes before its child
+abbrev pub ports_above : List Node → ℕ → List Parent
+ports_above nodes i = ports_up i nodes (parent_of nodes i)
+
+-- the nodes from its bridge down to node i
+abbrev pub path_of : List Node → ℕ → List ℕ
+path_of nodes i = reverse (i ∷ map (λ parent. parent.node) (ports_above nodes i))
+
+-- each node of the list is the parent of the next, and the last is i
+abbrev pub LeadsTo : List Node → ℕ → List ℕ → Type 0
+LeadsTo nodes i [] = ⊥
+LeadsTo nodes i (n ∷ []) = n ≡ i
+LeadsTo nodes i (n ∷ m ∷ ns) = (option_map (λ parent. parent.node) (parent_of nodes m) ≡ Some n) × LeadsTo nodes i (m ∷ ns)
+
+-- the list from its bridge down to node i
+pub record IsPathTo (nodes : List Node) (i : ℕ) (path : List ℕ) : Type 0 where
+  pub bridge : (n : ℕ) × (slice_get path 0 ≡ Some n) × IsTrue (is_bridge_at nodes n)
+  pub leads : LeadsTo nodes i path
+
+-- the first port above node i whose node does not forward
+abbrev pub decoding_port_of : List Node → ℕ → Option Parent
+decoding_port_of nodes i = find (λ parent. not (forwards_at nodes parent.node)) (ports_above nodes i)
+
+-- the nearest node above node i that does not forward
+abbrev pub decoding_parent_of : List Node → ℕ → Option ℕ
+decoding_parent_of nodes i = option_map (λ parent. parent.node) (decoding_port_of nodes i)
+
+-- the port at which the path of node i leaves its decoding parent
+abbrev pub leading_port_of : List Node → ℕ → Option ℕ
+leading_port_of nodes i = option_map (λ parent. parent.port) (decoding_port_of nodes i)
+
+-- ---- ways down
+
+-- the landing of node n, over fewer than k nodes that forward
+abbrev pub landing_within : ℕ → List Node → ℕ → Option ℕ
+landing_within zero nodes n = None
+landing_within (suc k) nodes n =
+    if forwards_at nodes n then option_and_then (landing_within k nodes) (first_child_of nodes n) else Some n
+
+-- node n itself where it does not forward, else the landing of its only child, and nothing where it has no child
+abbrev pub landing_of : List Node → ℕ → Option ℕ
+landing_of nodes n = landing_within (length nodes) nodes n

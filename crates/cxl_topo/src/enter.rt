@@ -1,0 +1,82 @@
+ghost use Rattle.std.specs.Prelude.{◌<◌, ◌+◌, OnOk, length, take};
+ghost use Rattle.cxl_topo.specs.Tables.{Enters, ListsChildren, ListsFirstChildren, ListsNames, ListsBridges};
+
+use crate::node::{Node, NodeKind, Parent};
+use crate::tables::NameKey;
+use std::alloc::AllocError;
+use std::collections::BTreeMap;
+
+/// Enters the number of a node, unless an earlier node has the key.
+fn enter<K: Ord + Copy>(table: &mut BTreeMap<K, u32>, key: K, i: u32) -> Result<(), AllocError>
+    ensures { OnOk result (Enters K.cmp table.old table.new key i) }
+{
+    if table.get(&key).is_none() {
+        table.insert(key, i)?;
+    }
+    Ok(())
+}
+
+/// Enters node `i` as the child at its parent's port.
+pub(crate) fn enter_child(
+    table: &mut BTreeMap<Parent, u32>,
+    nodes: &[Node],
+    i: u32,
+) -> Result<(), AllocError>
+    requires below { i < length nodes.now }
+    requires listed { ListsChildren (take i nodes.now) table.old }
+    ensures { OnOk result (ListsChildren (take (i + 1) nodes.now) table.new) }
+{
+    let node = &nodes[i as usize];
+    match node.parent {
+        Some(parent) => enter(table, parent, i),
+        None => Ok(()),
+    }
+}
+
+/// Enters node `i` as the first child of its parent, unless there is one.
+pub(crate) fn enter_first_child(
+    table: &mut BTreeMap<u32, u32>,
+    nodes: &[Node],
+    i: u32,
+) -> Result<(), AllocError>
+    requires below { i < length nodes.now }
+    requires listed { ListsFirstChildren (take i nodes.now) table.old }
+    ensures { OnOk result (ListsFirstChildren (take (i + 1) nodes.now) table.new) }
+{
+    let node = &nodes[i as usize];
+    match node.parent {
+        Some(parent) => enter(table, parent.node, i),
+        None => Ok(()),
+    }
+}
+
+/// Enters node `i` under its name.
+pub(crate) fn enter_name(
+    table: &mut BTreeMap<NameKey, u32>,
+    nodes: &[Node],
+    i: u32,
+) -> Result<(), AllocError>
+    requires below { i < length nodes.now }
+    requires listed { ListsNames (take i nodes.now) table.old }
+    ensures { OnOk result (ListsNames (take (i + 1) nodes.now) table.new) }
+{
+    let node = &nodes[i as usize];
+    enter(table, NameKey(node.name), i)
+}
+
+/// Enters node `i` under its UID, where it is a bridge.
+pub(crate) fn enter_bridge(
+    table: &mut BTreeMap<u32, u32>,
+    nodes: &[Node],
+    i: u32,
+) -> Result<(), AllocError>
+    requires below { i < length nodes.now }
+    requires listed { ListsBridges (take i nodes.now) table.old }
+    ensures { OnOk result (ListsBridges (take (i + 1) nodes.now) table.new) }
+{
+    let node = &nodes[i as usize];
+    match node.kind {
+        NodeKind::Bridge(uid) => enter(table, uid, i),
+        NodeKind::Switch | NodeKind::Endpoint(_) => Ok(()),
+    }
+}

@@ -1,0 +1,47 @@
+ghost use Rattle.std.specs.Prelude.{◌≡◌};
+ghost use Rattle.cxl_topo.specs.declared.fault.TreeFault.TheVariants.{Memory};
+
+use std::alloc::{AllocError, AllocFailed};
+
+/// Why nodes are no legal tree: the first fault of the least node, in the order of these variants. The
+/// number is that node's.
+#[derive(Clone, Copy, Debug, PartialEq, Eq)]
+pub enum TreeFault {
+    /// There are more than 1,024 nodes or more than 64 bridges.
+    TooMany,
+    /// The node is a bridge and has a parent, or it is another node and has none, or its parent is not
+    /// an earlier bridge or switch.
+    NoParent(u32),
+    /// An earlier node has the same parent and port.
+    PortTaken(u32),
+    /// The parent forwards, and has an earlier child.
+    Forks(u32),
+    /// An earlier node has the name.
+    NameTaken(u32),
+    /// The node is a bridge, and an earlier bridge has its UID.
+    UidTaken(u32),
+    /// The node is a switch and has four switches above it.
+    Depth(u32),
+    /// The capability word is none that this kind of node may have, or the node forwards and the word is
+    /// not that of a placeholder, or an endpoint forwards.
+    Caps(u32),
+    /// A capacity is no multiple of 256 MiB, or the sum of both exceeds 2^52.
+    Capacity(u32),
+    Memory,
+}
+
+impl From<AllocError> for TreeFault {
+    ghost from_gives = { λ _ e. e ≡ Memory };
+
+    fn from(_e: AllocError) -> TreeFault {
+        TreeFault::Memory
+    }
+}
+
+impl<T: Drop> From<AllocFailed<T>> for TreeFault {
+    ghost from_gives = { λ _ e. e ≡ Memory };
+
+    fn from(_e: AllocFailed<T>) -> TreeFault {
+        TreeFault::Memory
+    }
+}

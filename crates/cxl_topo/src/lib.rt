@@ -1,0 +1,23 @@
+//! The tree of host bridges, switches and endpoints: which trees are legal, and how to find a node in
+//! one.
+#![tactic(auto)]
+
+mod enter;
+mod fault;
+mod judge;
+mod laws;
+mod node;
+mod path;
+mod tables;
+mod topo;
+mod ways;
+
+pub use cxl_enc::{Caps, Name, cap_word, legal_cap};
+pub use fault::TreeFault;
+pub use laws::tree_laws;
+pub use node::{Capacity, Node, NodeKind, Parent};
+pub use path::Path;
+pub use topo::Topo;
+
+#[cfg(test)]
+mod tests;

@@ -1,0 +1,94 @@
+ghost use Rattle.std.specs.Prelude.{◌+◌, ◌<◌, length, take, OnOk};
+ghost use Rattle.std.specs.Cmp.{partial_order_from_own_ties};
+ghost use Rattle.std.specs.Cmp.Rules.{comparing};
+ghost use Rattle.std.specs.Cmp.Lexicographic.{slice_cmp, pointwise};
+ghost use Rattle.std.specs.Ordering.{nat_cmp, on, as_partial_cmp};
+ghost use Rattle.std.specs.Prelude.{nat_eq};
+ghost use Rattle.std.proofs.Common.{rules};
+
+use crate::enter::{enter_bridge, enter_child, enter_first_child, enter_name};
+use crate::node::{Node, Parent};
+use cxl_enc::Name;
+use std::alloc::{AllocError, Global};
+use std::cmp::Ordering;
+use std::collections::BTreeMap;
+
+/// A name as a key, in the order of its bytes.
+#[derive(Clone, Copy, Debug)]
+pub(crate) struct NameKey(pub(crate) Name);
+
+impl PartialEq for NameKey {
+    ghost eq = { on (λ key. key.0) (pointwise nat_eq) };
+
+    ghost laws = { Prim.search (comparing, rules) };
+
+    fn eq(&self, other: &NameKey) -> bool {
+        self.0.bytes() == other.0.bytes()
+    }
+}
+
+impl Eq for NameKey {
+    ghost laws = { Prim.search (comparing, rules) };
+}
+
+impl PartialOrd for NameKey {
+    ghost partial_cmp = { as_partial_cmp (on (λ key. key.0) (slice_cmp nat_cmp)) };
+
+    ghost laws = { partial_order_from_own_ties (Prim.search (comparing, rules)) (Prim.search (comparing, rules)) };
+
+    fn partial_cmp(&self, other: &NameKey) -> Option<Ordering> {
+        Some(self.cmp(other))
+    }
+}
+
+impl Ord for NameKey {
+    ghost cmp = { on (λ key. key.0) (slice_cmp nat_cmp) };
+
+    ghost total = { Prim.search (comparing, rules) };
+
+    ghost matches_partial_cmp = { Prim.search (comparing, rules) };
+
+    ghost matches_eq = { Prim.search (comparing, rules) };
+
+    fn cmp(&self, other: &NameKey) -> Ordering {
+        self.0.bytes().cmp(other.0.bytes())
+    }
+}
+
+/// Where to find the nodes of a tree, so that no search goes over all of them.
+#[derive(Debug, Drop)]
+pub(crate) struct Tables {
+    pub(crate) children: BTreeMap<Parent, u32>,
+    pub(crate) first_children: BTreeMap<u32, u32>,
+    pub(crate) names: BTreeMap<NameKey, u32>,
+    pub(crate) bridges: BTreeMap<u32, u32>,
+}
+
+impl Tables {
+    ghost use Rattle.cxl_topo.specs.AreTables.{AreTables};
+    ghost use Rattle.std.specs.Prelude.{[]};
+
+    /// The tables of no nodes.
+    pub(crate) fn new(alloc: Global) -> Tables
+        ensures { AreTables [] result }
+    {
+        Tables {
+            children: BTreeMap::new(alloc),
+            first_children: BTreeMap::new(alloc),
+            names: BTreeMap::new(alloc),
+            bridges: BTreeMap::new(alloc),
+        }
+    }
+
+    /// Enters node `i` after the earlier ones.
+    pub(crate) fn add(&mut self, nodes: &[Node], i: u32) -> Result<(), AllocError>
+        requires below { i < length nodes.now }
+        requires earlier { AreTables (take i nodes.now) self.old }
+        ensures { OnOk result (AreTables (take (i + 1) nodes.now) self.new) }
+    {
+        enter_child(&mut self.children, nodes, i)?;
+        enter_first_child(&mut self.first_children, nodes, i)?;
+        enter_name(&mut self.names, nodes, i)?;
+        enter_bridge(&mut self.bridges, nodes, i)
+    }
+}

@@ -1,0 +1,140 @@
+ghost use Rattle.std.specs.Prelude.{◌≡◌, ◌≢◌, ◌+◌, ◌-◌, ◌≤◌, ◌<◌, ◌↔◌, ℕ, length, take, drop, replicate, slice_get, Some, IsTrue, IfOk, IfErr, Contains};
+ghost use Rattle.cxl_topo.specs.Tree.{Tree, child_of, name_at, uid_at, node_named, bridge_with, path_of, IsPathTo, landing_of};
+ghost use Rattle.cxl_topo.specs.Faults.{IsTree, IsFirstTreeFault};
+ghost use Rattle.cxl_topo.specs.Kept.{AreFrames};
+ghost use Rattle.cxl_topo.specs.Laws.{StandsAt};
+
+use crate::fault::TreeFault;
+use crate::judge::{are_too_many, tables_of};
+use crate::node::{Node, Parent};
+use crate::path::Path;
+use crate::tables::{NameKey, Tables};
+use crate::ways::{landing, path_to};
+use cxl_enc::Name;
+use std::alloc::Global;
+use std::marker::Model;
+
+/// A legal tree of nodes, and the frames of 256 bytes that its devices share. Contracts see it as a
+/// `Tree`: the list of its nodes by number, and the frames. Numbers of nodes count from 0.
+#[derive(Debug, Drop)]
+pub struct Topo {
+    nodes: Vec<Node>,
+    frames: u32,
+    tables: Tables,
+}
+
+impl Model for Topo {
+    ghost use Rattle.cxl_topo.specs.Tree.{Tree};
+    ghost use Rattle.cxl_topo.specs.Kept.{IsKept};
+
+    ghost Value = { Tree };
+
+    ghost view = { λ topo. record { nodes = topo.nodes.items; frames = topo.frames } };
+
+    ghost invariant = { λ topo. IsKept topo.nodes.items topo.frames topo.tables };
+}
+
+impl Topo {
+    /// The tree of these nodes, each numbered by its place, or why they are none. (Which trees are legal
+    /// is this project's rule.) Takes memory.
+    pub fn new(alloc: Global, nodes: Vec<Node>, frames: u32) -> Result<Topo, TreeFault>
+        requires { AreFrames frames }
+        ensures value { IfOk result (λ topo. topo ≡ record { nodes = nodes.items; frames = frames }) }
+
+        // Ok comes for legal trees, and for them nothing else but want of memory.
+        ensures legal { IfOk result (λ _. IsTree nodes.items) }
+        ensures only { IsTree nodes.items → IfErr result (λ fault. fault ≡ TreeFault.Memory) }
+        ensures fault { IfErr result (λ fault. fault ≢ TreeFault.Memory → IsFirstTreeFault nodes.items fault) }
+    {
+        if are_too_many(&nodes) {
+            return Err(TreeFault::TooMany);
+        }
+        let tables = tables_of(alloc, &nodes)?;
+        Ok(Topo {
+            nodes,
+            frames,
+            tables,
+        })
+    }
+
+    /// How many nodes there are.
+    pub fn count(&self) -> u32
+        ensures count { result ≡ length self.now.nodes }
+        ensures tree { IsTree self.now.nodes }
+    {
+        self.nodes.len() as u32
+    }
+
+    /// How many frames of 256 bytes the devices share.
+    pub fn frames(&self) -> u32
+        ensures frames { result ≡ self.now.frames }
+        ensures range { AreFrames result }
+    {
+        self.frames
+    }
+
+    /// Node `i`.
+    pub fn node(&self, i: u32) -> &Node
+        requires { i < length self.now.nodes }
+        ensures { slice_get self.now.nodes i ≡ Some result.now }
+    {
+        &self.nodes[i as usize]
+    }
+
+    /// The child of a node at a port.
+    pub fn child(&self, node: u32, port: u8) -> Option<u32>
+        requires { node < length self.now.nodes }
+        ensures child { result ≡ child_of self.now.nodes node port }
+        ensures stands { (c : ℕ) → (result ≡ Some c) ↔ StandsAt self.now.nodes node port c }
+    {
+        let place = Parent { node, port };
+        self.tables.children.get(&place).copied()
+    }
+
+    /// The node with a name.
+    pub fn find(&self, name: &Name) -> Option<u32>
+        ensures found { result ≡ node_named self.now.nodes name.now }
+        ensures named { (i : ℕ) → (result ≡ Some i) ↔ (name_at self.now.nodes i ≡ Some name.now) }
+    {
+        self.tables.names.get(&NameKey(*name)).copied()
+    }
+
+    /// The bridge with a UID.
+    pub fn bridge(&self, uid: u32) -> Option<u32>
+        ensures bridge { result ≡ bridge_with self.now.nodes uid }
+        ensures owns { (i : ℕ) → (result ≡ Some i) ↔ (uid_at self.now.nodes i ≡ Some uid) }
+    {
+        self.tables.bridges.get(&uid).copied()
+    }
+
+    /// The nodes from its bridge down to a node.
+    pub fn path(&self, ep: u32) -> Path
+        requires { ep < length self.now.nodes }
+        ensures len { result.len ≡ length (path_of self.now.nodes ep) }
+        ensures path { take result.len result.nodes ≡ path_of self.now.nodes ep }
+        ensures zeros { drop result.len result.nodes ≡ replicate (6 - result.len) 0 }
+        ensures leads { IsPathTo self.now.nodes ep (path_of self.now.nodes ep) }
+        ensures few { length (path_of self.now.nodes ep) ≤ 6 }
+    {
+        path_to(&self.nodes, ep)
+    }
+
+    /// Whether a node stands on the path of another, or is that one.
+    pub fn under(&self, node: u32, ep: u32) -> bool
+        requires node { node < length self.now.nodes }
+        requires ep { ep < length self.now.nodes }
+        ensures { IsTrue result ↔ Contains (path_of self.now.nodes ep) node }
+    {
+        let path = path_to(&self.nodes, ep);
+        path.nodes[..path.len as usize].contains(&node)
+    }
+
+    /// Where an address that comes to a node is first decoded: the node itself where it does not
+    /// forward, else the landing of its only child. `None` where there is no such child.
+    pub fn landing(&self, node: u32) -> Option<u32>
+        requires { node < length self.now.nodes }
+        ensures { result ≡ landing_of self.now.nodes node }
+    {
+        landing(&self.nodes, &self.tables.first_children, node)
+    }
+}

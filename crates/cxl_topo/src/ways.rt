@@ -1,0 +1,42 @@
+ghost use Rattle.std.specs.Prelude.{◌≡◌, ◌+◌, ◌-◌, ◌*◌, ◌<◌, ◌≤◌, length, take, drop, replicate};
+ghost use Rattle.cxl_topo.specs.Tree.{path_of, landing_of};
+ghost use Rattle.cxl_topo.specs.Tables.{ListsFirstChildren};
+ghost use Rattle.cxl_topo.specs.Faults.{NoneBefore, IsTree};
+
+use crate::node::Node;
+use crate::path::Path;
+use std::collections::BTreeMap;
+
+/// The way down to node `i`, where nothing is wrong with it and the earlier nodes.
+pub(crate) fn path_to(nodes: &[Node], i: u32) -> Path
+    requires below { i < length nodes.now }
+    requires few { length nodes.now ≤ 1024 }
+    requires sound { NoneBefore nodes.now (8 * i + 9) }
+    ensures len { result.len ≡ length (path_of nodes.now i) }
+    ensures path { take result.len result.nodes ≡ path_of nodes.now i }
+    ensures zeros { drop result.len result.nodes ≡ replicate (6 - result.len) 0 }
+{
+    let mut room = [i, 0, 0, 0, 0, 0];
+    let mut len = 1;
+    let mut at = nodes[i as usize].parent;
+    while let Some(parent) = at {
+        room = [parent.node, room[0], room[1], room[2], room[3], room[4]];
+        len += 1;
+        at = nodes[parent.node as usize].parent;
+    }
+    Path { len, nodes: room }
+}
+
+/// The first node at or below node `i` that does not forward.
+pub(crate) fn landing(nodes: &[Node], first_children: &BTreeMap<u32, u32>, i: u32) -> Option<u32>
+    requires below { i < length nodes.now }
+    requires tree { IsTree nodes.now }
+    requires listed { ListsFirstChildren nodes.now first_children.now }
+    ensures { result ≡ landing_of nodes.now i }
+{
+    let mut at = i;
+    while nodes[at as usize].forwards {
+        at = *first_children.get(&at)?;
+    }
+    Some(at)
+}
