@@ -1,0 +1,4 @@
+pub mod Pool
+pub mod Chain
+pub mod Inside
+pub mod Lending

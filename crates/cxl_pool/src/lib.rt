@@ -1,0 +1,9 @@
+//! A fixed number of frames of 256 bytes, taken and given back in constant work.
+#![tactic(auto)]
+
+mod link;
+mod pool;
+#[cfg(test)]
+mod tests;
+
+pub use pool::{Frame, Pool};
