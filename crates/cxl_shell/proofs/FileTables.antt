@@ -1,5 +1,5 @@
 -- What reading a table from a file comes to.
-use Rattle.std.proofs.Common.{◌≡◌, ℕ, suc, ◌<◌, ◌≤◌, Option, Some, None, IfSome, Result, Ok, Err, IfOk, IfErr, List, length, replicate, refl, inl, inr, sym, subst, arith}
+use Rattle.std.proofs.Common.{◌≡◌, ℕ, suc, ◌<◌, Option, Some, None, IfSome, Result, Ok, Err, IfOk, IfErr, List, length, replicate, refl, inl, inr, sym, subst, arith}
 use Rattle.std.proofs.lemmas.List.{length-replicate}
 use Rattle.cxl_cedt.specs.CedtFields.{CedtFields}
 use Rattle.cxl_cedt.specs.Table.{FirstTableFault, IsFaultOf}
@@ -35,4 +35,4 @@ module _ (file : List ℕ) (told : Option (List ℕ)) (before now : ℕ) (IsAnsw
   outcome-none outcome (not_sound bytes fault same is) = given bytes (bad_table fault) same (faulty fault is)
 
   pub outcome-table : (table : CedtFields) (outcome : Outcome) → IsTableOf told table → IsAnswer table outcome → IsFileOutcome file told before now (λ bytes o. IsTableOutcome file bytes IsAnswer o) outcome
-  outcome-table table outcome of answer = given of.bytes outcome of.same (readable table outcome of.reading answer)
+  outcome-table table outcome of answer = given of.bytes outcome of.told_so (readable table outcome of.reading answer)

@@ -2,15 +2,15 @@
 use Rattle.std.proofs.Common.{◌≡◌, ◌≢◌, ℕ, ◌<◌, ◌≤◌, ◌⊎◌, Option, Some, None, IfSome, Result, Ok, Err, IfOk, OnErr, List, length, refl, sym, ap, subst, ◌∙◌, inl, inr, arith}
 use Rattle.cxl_enc.specs.Faults.{Rose}
 use Rattle.cxl_cedt.specs.CedtFields.{CedtFields}
-use Rattle.cxl_cedt.specs.Table.{IsTableText, FirstTableFault, HasTable}
+use Rattle.cxl_cedt.specs.Table.{IsTableText, FirstTableFault, HasTable, HasFault}
 use Rattle.cxl_cedt.specs.declared.fault.CedtFault.{CedtFault}
 use Rattle.cxl_cedt.specs.declared.fault.CedtFault.TheVariants.{Memory as NoMemory}
 use Rattle.cxl_io.specs.Files.{file_limit}
-use Rattle.cxl_io.specs.Told.{Takes, TakesPrefix}
+use Rattle.cxl_io.specs.Told.{Takes}
 use Rattle.cxl_window.specs.Windows.{windows_of}
-use Rattle.cxl_shell.specs.Answers.{IsReading, IsFaulty, IsTableOutcome, too_many_bytes, faulty, readable, IsRouteOutcome, IsFileOutcome, failed, given, Answers, told_table}
-use Rattle.cxl_shell.specs.Ends.{IsWritten, Ends, IsUnwritten, IsStopped}
-use Rattle.cxl_shell.specs.Outcome.{Outcome, unread, too_large, bad_table, routed, no_window, IsRouted, to_bridge, nowhere}
+use Rattle.cxl_shell.specs.Answers.{IsReading, IsFaulty, too_many_bytes, faulty, readable, failed, given, Answers, told_table}
+use Rattle.cxl_shell.specs.Ends.{IsWritten, Ends, IsStopped}
+use Rattle.cxl_shell.specs.Outcome.{Outcome, routed, no_window, IsRouted, to_bridge, nowhere}
 use Rattle.cxl_shell.specs.Request.{Request, Route, Help, Version, Unreadable}
 use Rattle.cxl_shell.specs.Route.{IsSelection, IsNowhere}
 use Rattle.cxl_shell.specs.RouteLine.{IsRouteLine}
@@ -29,6 +29,15 @@ if_some_at (Some x) P holds = holds x refl
 same_as_told : (told : Option (List ℕ)) (bytes other : List ℕ) → IfSome told (λ b. bytes ≡ b) → told ≡ Some other → bytes ≡ other
 same_as_told None bytes other same e = absurd (cc)
 same_as_told (Some b) bytes other same e = cc
+
+-- an address has one outcome by a table
+routed_is : (table : CedtFields) (h : ℕ) (s : Selection) → IsSelection (windows_of table.records None) h s → (outcome : Outcome) → IsRouted table h outcome → routed s ≡ outcome
+routed_is table h s selected outcome (to_bridge other again) = ap routed (one_selection (windows_of table.records None) h s other selected again)
+routed_is table h s selected outcome (nowhere none) = absurd (selection_and_none (windows_of table.records None) h s selected none)
+
+nowhere_is : (table : CedtFields) (h : ℕ) → IsNowhere (windows_of table.records None) h → (outcome : Outcome) → IsRouted table h outcome → no_window ≡ outcome
+nowhere_is table h none outcome (to_bridge s selected) = absurd (selection_and_none (windows_of table.records None) h s selected none)
+nowhere_is table h none outcome (nowhere again) = refl
 
 -- ---- how a run came to its status
 
@@ -205,7 +214,7 @@ module _ (told : List ℕ → Option (List ℕ)) (fb fn sb sn : ℕ) (old new : 
     route_line (file_unread e rose) is = absurd (cc)
     route_line (file_large f k bytes e of large) is = absurd (cc)
     route_line (table_faulty f k bytes fault e of faults) is = absurd (cc)
-    route_line (routes f k bytes other s e of reading selected taken) is = (route_text s, record { bytes = bytes; same = same_there f k bytes of; table = other; reading = reading; selection = s; selected = selected_there f k bytes other s of selected; text = refl }, taken)
+    route_line (routes f k bytes other s e of reading selected taken) is = (route_text s, record { bytes = bytes; told_so = same_there f k bytes of; table = other; reading = reading; selection = s; selected = selected_there f k bytes other s of selected; text = refl }, taken)
     route_line (refuses f k bytes other e of reading none taken) is = absurd (cc)
 
     pub refused_by : Ran (Route file h) → status ≡ Refused → (told_bytes : List ℕ) → told file ≡ Some told_bytes → (table : CedtFields) × IsReading told_bytes table × IsNowhere (windows_of table.records None) h
@@ -247,6 +256,17 @@ module _ (told : List ℕ → Option (List ℕ)) (fb fn sb sn : ℕ) (old new : 
     fault_comes request (routes f k bytes other s e of reading selected taken) first told_bytes there is = absurd (reading_and_fault bytes told_bytes other first (same_file request f k bytes of told_bytes there) reading is)
     fault_comes request (refuses f k bytes other e of reading none taken) first told_bytes there is = absurd (reading_and_fault bytes told_bytes other first (same_file request f k bytes of told_bytes there) reading is)
 
+    none_comes_by : (request : Request) → Ran request → (told_bytes : List ℕ) → told_table request told ≡ Some told_bytes → length told_bytes ≤ file_limit → ¬ (HasTable told_bytes) → HasTable told_bytes ⊎ HasFault told_bytes → ((fault : CedtFault) × (status ≡ BadTable fault)) ⊎ IsStopped status fb fn sb sn
+    none_comes_by request r told_bytes there within none (inl table) = absurd (none table)
+    none_comes_by request r told_bytes there within none (inr fault) = named (fault_comes request r fault.0 told_bytes there (record { within = within; first = fault.1 }))
+      where
+        named : (status ≡ BadTable fault.0) ⊎ IsStopped status fb fn sb sn → ((first : CedtFault) × (status ≡ BadTable first)) ⊎ IsStopped status fb fn sb sn
+        named (inl e) = inl (fault.0, e)
+        named (inr stopped) = inr stopped
+
+    pub none_comes : ((bytes : List ℕ) → HasTable bytes ⊎ HasFault bytes) → (request : Request) → Ran request → (told_bytes : List ℕ) → told_table request told ≡ Some told_bytes → length told_bytes ≤ file_limit → ¬ (HasTable told_bytes) → ((fault : CedtFault) × (status ≡ BadTable fault)) ⊎ IsStopped status fb fn sb sn
+    none_comes some request r told_bytes there within none = none_comes_by request r told_bytes there within none (some told_bytes)
+
     pub too_large_comes : (request : Request) → Ran request → (told_bytes : List ℕ) → told_table request told ≡ Some told_bytes → file_limit < length told_bytes → (status ≡ TooLarge) ⊎ IsStopped status fb fn sb sn
     too_large_comes request (out_of_memory e nothing) told_bytes there many = inr (inr (inr e))
     too_large_comes request (cut e rose) told_bytes there many = inr (inr (inl (e, rose)))
@@ -282,3 +302,18 @@ module _ (told : List ℕ → Option (List ℕ)) (fb fn sb sn : ℕ) (old new : 
     outcome_comes file h (table_faulty f k bytes fault e of faults) table told_bytes there read files_well sink_well = absurd (reading_and_fault told_bytes bytes table fault (sym (are_told file h f k bytes of told_bytes there)) read faults)
     outcome_comes file h (routes f k bytes other s e of reading selected taken) table told_bytes there read files_well sink_well = let same = same_reading bytes told_bytes other table (are_told file h f k bytes of told_bytes there) reading read in inr (routed s, to_bridge s (subst (λ t. IsSelection (windows_of t.records None) h s) same (selected_there file h f k bytes other s of selected)), (e, taken))
     outcome_comes file h (refuses f k bytes other e of reading none taken) table told_bytes there read files_well sink_well = let same = same_reading bytes told_bytes other table (are_told file h f k bytes of told_bytes there) reading read in inr (no_window, nowhere (subst (λ t. IsNowhere (windows_of t.records None) h) same (nowhere_there file h f k bytes other of none)), (e, taken))
+
+    written_as : (outcome other : Outcome) → outcome ≡ other → status ≡ outcome.status → Takes old new outcome.text → IsWritten other status old new
+    written_as outcome other same e taken = subst (λ o. IsWritten o status old new) same (e, taken)
+
+    pub routed_comes : (file : List ℕ) (h : ℕ) → Ran (Route file h) → (table : CedtFields) (outcome : Outcome) (told_bytes : List ℕ) → told file ≡ Some told_bytes → IsReading told_bytes table → IsRouted table h outcome → IsWritten outcome status old new ⊎ IsStopped status fb fn sb sn
+    routed_comes file h (out_of_memory e nothing) table outcome told_bytes there read answer = inr (inr (inr e))
+    routed_comes file h (cut e rose) table outcome told_bytes there read answer = inr (inr (inl (e, rose)))
+    routed_comes file h (misused e r) table outcome told_bytes there read answer = absurd (cc)
+    routed_comes file h (helped e r) table outcome told_bytes there read answer = absurd (cc)
+    routed_comes file h (version e r) table outcome told_bytes there read answer = absurd (cc)
+    routed_comes file h (file_unread e rose) table outcome told_bytes there read answer = inr (inl (e, rose))
+    routed_comes file h (file_large f k bytes e of large) table outcome told_bytes there read answer = absurd (few_and_many told_bytes bytes (sym (are_told file h f k bytes of told_bytes there)) read.within large)
+    routed_comes file h (table_faulty f k bytes fault e of faults) table outcome told_bytes there read answer = absurd (reading_and_fault told_bytes bytes table fault (sym (are_told file h f k bytes of told_bytes there)) read faults)
+    routed_comes file h (routes f k bytes other s e of reading selected taken) table outcome told_bytes there read answer = let same = same_reading bytes told_bytes other table (are_told file h f k bytes of told_bytes there) reading read in let is = routed_is table h s (subst (λ t. IsSelection (windows_of t.records None) h s) same (selected_there file h f k bytes other s of selected)) outcome answer in inl (written_as (routed s) outcome is e taken)
+    routed_comes file h (refuses f k bytes other e of reading none taken) table outcome told_bytes there read answer = let same = same_reading bytes told_bytes other table (are_told file h f k bytes of told_bytes there) reading read in let is = nowhere_is table h (subst (λ t. IsNowhere (windows_of t.records None) h) same (nowhere_there file h f k bytes other of none)) outcome answer in inl (written_as no_window outcome is e taken)

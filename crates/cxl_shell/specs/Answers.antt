@@ -8,6 +8,10 @@ use Rattle.cxl_io.specs.Files.{file_limit}
 use Rattle.cxl_shell.specs.Outcome.{Outcome, helped, version_told, misused, unread, too_large, bad_table, IsRouted}
 use Rattle.cxl_shell.specs.Request.{Request, Route, Help, Version, Unreadable}
 
+-- the bytes are those that are told, where any are
+abbrev pub AreTold : Option (List ℕ) → List ℕ → Type 0
+AreTold told bytes = IfSome told (λ b. bytes ≡ b)
+
 -- ---- the bytes of a table's file
 
 -- they spell this table, and are not too many
@@ -31,11 +35,10 @@ IsRouteOutcome file h bytes outcome = IsTableOutcome file bytes (λ table o. IsR
 
 -- ---- requests
 
--- A file is read: either that fails, which takes a fault of the files, or the outcome is that of its bytes, which are
--- those that are told of it where it is told.
+-- A file is read: either that fails, which takes a fault of the files, or the outcome is that of the file's bytes.
 pub data IsFileOutcome (file : List ℕ) (told : Option (List ℕ)) (before now : ℕ) (IsOutcome : List ℕ → Outcome → Type 0) : Outcome → Type 0 where
   failed : Rose before now → IsFileOutcome file told before now IsOutcome (unread file)
-  given : (bytes : List ℕ) (outcome : Outcome) → IfSome told (λ b. bytes ≡ b) → IsOutcome bytes outcome → IsFileOutcome file told before now IsOutcome outcome
+  given : (bytes : List ℕ) (outcome : Outcome) → AreTold told bytes → IsOutcome bytes outcome → IsFileOutcome file told before now IsOutcome outcome
 
 -- the outcome answers the request; `before` and `now` are the counts of faults of the files
 abbrev pub Answers : Request → (List ℕ → Option (List ℕ)) → ℕ → ℕ → Outcome → Type 0

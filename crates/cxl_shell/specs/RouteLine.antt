@@ -1,17 +1,16 @@
 -- The line that `route` writes.
-use Rattle.std.specs.Prelude.{◌≡◌, ℕ, Option, None, IfSome, List}
+use Rattle.std.specs.Prelude.{◌≡◌, ℕ, Option, None, List}
 use Rattle.cxl_cedt.specs.CedtFields.{CedtFields}
 use Rattle.cxl_window.specs.Windows.{windows_of}
-use Rattle.cxl_shell.specs.Answers.{IsReading}
-use Rattle.cxl_shell.specs.Route.{IsSelection, IsNowhere}
+use Rattle.cxl_shell.specs.Answers.{AreTold, IsReading}
+use Rattle.cxl_shell.specs.Route.{IsSelection}
 use Rattle.cxl_shell.specs.Texts.{route_text}
 use Rattle.cxl_shell.specs.declared.selection.Selection.{Selection}
 
--- It names the window, the position and the bridge of the address by a table that the file's bytes spell, those that are
--- told of it where it is told.
+-- it names the window, the position and the bridge of the address, by the table that the file's bytes spell
 pub record IsRouteLine (told : Option (List ℕ)) (h : ℕ) (line : List ℕ) : Type 0 where
   pub bytes : List ℕ
-  pub same : IfSome told (λ b. bytes ≡ b)
+  pub told_so : AreTold told bytes
   pub table : CedtFields
   pub reading : IsReading bytes table
   pub selection : Selection

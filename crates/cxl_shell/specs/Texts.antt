@@ -27,7 +27,7 @@ unread_text file = line (codes "error: cannot read " ++ file)
 abbrev pub too_large_text : List ℕ → List ℕ
 too_large_text file = line (codes "error: " ++ file ++ codes " too large")
 
--- a fault by its name, and the place of the record that has it
+-- a fault by its name, and the place of the record that has it; want of memory never is one
 abbrev pub fault_name : CedtFault → List ℕ
 fault_name Short = codes "short"
 fault_name Signature = codes "signature"

@@ -61,6 +61,10 @@ pub fn run<F: Fetch, K: Sink>(alloc: Global, words: &[String], files: &mut F, ou
         → IfSome (told_table (request_of (bytes_of words.now)) (F.told files.old)) (λ bytes. IsFaulty bytes fault
         → (result ≡ Status.BadTable fault)
         ⊎ IsStopped result (F.faults files.old) (F.faults files.new) (K.faults out.old) (K.faults out.new)) }
+    ensures no_table { IfSome (told_table (request_of (bytes_of words.now)) (F.told files.old)) (λ bytes.
+        length bytes ≤ file_limit → ¬ (HasTable bytes)
+        → ((fault : CedtFault) × (result ≡ Status.BadTable fault))
+        ⊎ IsStopped result (F.faults files.old) (F.faults files.new) (K.faults out.old) (K.faults out.new)) }
 
     // Status 12 comes exactly where the file has more than 1,048,576 bytes, unless the run stops before.
     ensures too_large { result ≡ Status.TooLarge
@@ -79,8 +83,15 @@ pub fn run<F: Fetch, K: Sink>(alloc: Global, words: &[String], files: &mut F, ou
         → (result ≡ Status.Refused)
         ⊎ IsStopped result (F.faults files.old) (F.faults files.new) (K.faults out.old) (K.faults out.new)) }
 
-    // Where the file has a table and nothing failed, the address's outcome by it is written, or memory
-    // ran out.
+    // Where the file has a table, the address's outcome by it is written, unless the run stops before.
+    ensures routed { (file : List ℕ) (h : ℕ) (table : CedtFields) (outcome : Outcome)
+        → request_of (bytes_of words.now) ≡ Route file h
+        → IfSome (F.told files.old file) (λ bytes. IsReading bytes table → IsRouted table h outcome
+        → IsWritten outcome result (K.taken out.old) (K.taken out.new)
+        ⊎ IsStopped result (F.faults files.old) (F.faults files.new) (K.faults out.old) (K.faults out.new)) }
+
+    // Where the file has a table and nothing failed, the address has an outcome by it, which is written,
+    // or memory ran out.
     ensures complete { (file : List ℕ) (h : ℕ) (table : CedtFields) → request_of (bytes_of words.now) ≡ Route file h
         → IfSome (F.told files.old file) (λ bytes. IsReading bytes table
         → ¬ (Rose (F.faults files.old) (F.faults files.new)) → ¬ (Rose (K.faults out.old) (K.faults out.new))

@@ -1,7 +1,4 @@
-use Rattle.std.proofs.Common.{None}
-use Rattle.cxl_window.specs.Windows.{windows_of}
 use Rattle.cxl_shell.specs.Outcome.{IsRouted, to_bridge, nowhere}
-use Rattle.cxl_shell.specs.Route.{IsSelection, IsNowhere}
 use Rattle.cxl_shell.proofs.Results.{if_ok_at}
 use Rattle.cxl_shell.proofs.command.routed.Goals as goal
 

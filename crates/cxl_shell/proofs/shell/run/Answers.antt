@@ -1,7 +1,7 @@
 use Rattle.cxl_shell.specs.Request.{request_of}
 use Rattle.cxl_shell.specs.Words.{bytes_of}
 use Rattle.std.proofs.Common.{subst}
-use Rattle.cxl_shell.proofs.Runs.{if_some_at, Ran, ran, memory_writes_nothing, usage_asked, fetch_rose, write_rose, route_line, fault_told, fault_comes, large_told, too_large_comes, refused_by, refused_comes, outcome_comes, memory_is_own}
+use Rattle.cxl_shell.proofs.Runs.{if_some_at, Ran, ran, memory_writes_nothing, usage_asked, fetch_rose, write_rose, route_line, fault_told, fault_comes, large_told, too_large_comes, refused_by, refused_comes, outcome_comes, routed_comes, memory_is_own, none_comes}
 use Rattle.cxl_shell.proofs.shell.run.Given.{Over}
 use Rattle.cxl_shell.proofs.shell.run.Goals as goal
 
@@ -50,3 +50,9 @@ returns-clause-complete g c = λ file h table asked. if_some_at _ _ (outcome_com
 
 pub returns-clause-own_memory : goal.returns-clause-own_memory
 returns-clause-own_memory g c = memory_is_own _ _ _ _ _ _ _ _ _ (ran_of g c)
+
+pub returns-clause-no_table : goal.returns-clause-no_table
+returns-clause-no_table g c = if_some_at _ _ (none_comes _ _ _ _ _ _ _ _ c.one_reading.ensures.one_table c.one_reading.ensures.one_fault c.one_reading.ensures.not_both c.one_reading.ensures.some _ (ran_of g c))
+
+pub returns-clause-routed : goal.returns-clause-routed
+returns-clause-routed g c = λ file h table outcome asked. if_some_at _ _ (routed_comes _ _ _ _ _ _ _ _ c.one_reading.ensures.one_table c.one_reading.ensures.one_fault c.one_reading.ensures.not_both file h (subst (Ran _ _ _ _ _ _ _ _) asked (ran_of g c)) table outcome)

@@ -1,0 +1,127 @@
+ghost use Rattle.std.specs.Prelude.{◌≡◌, ◌≤◌, [], Some, IfOk, OnOk, OnErr, is_err};
+ghost use Rattle.cxl_regs.specs.Blocks.{IsPlace, HasPlacesOf, word_in};
+ghost use Rattle.cxl_bus.specs.Failing.{Failing, fails_next, write_fails, after_read, after_write, one_more};
+
+use crate::regs::Regs;
+use crate::sent::Sent;
+use crate::sim::SimBus;
+use cxl_enc::{Failed, Memory};
+use cxl_regs::Block;
+use std::alloc::Global;
+use std::marker::Model;
+
+/// How many writes the trail has room for.
+const ROOM: usize = 65_536;
+
+/// A bus whose reads and writes fail at the calls of a list, numbered from 1 together, and a write also
+/// where 65,536 were answered `Ok` since it was powered on. Nothing else fails. It tells its trail.
+#[derive(Debug, Drop)]
+pub struct FailingBus {
+    bus: SimBus,
+    fails: Vec<u64>,
+    calls: u64,
+    faults: u64,
+    trail: Vec<Sent>,
+}
+
+impl Model for FailingBus {
+    ghost use Rattle.std.specs.Prelude.{◌<◌, ◌≤◌, length};
+    ghost use Rattle.std.specs.Vec.{vec_capacity};
+    ghost use Rattle.cxl_bus.specs.Failing.{Failing};
+
+    ghost Value = { Failing };
+
+    ghost view = { λ b. record { blocks = b.bus; fails = b.fails.items; calls = b.calls; faults = b.faults; trail = b.trail.items } };
+
+    // Where there are blocks to write to, the trail has all its room.
+    ghost invariant = { λ b. 0 < length b.bus → 65536 ≤ vec_capacity b.trail };
+}
+
+impl FailingBus {
+    /// A bus with no block, and the numbers of the calls that are to fail. Takes no memory.
+    pub fn new(alloc: Global, fails: Vec<u64>) -> FailingBus
+        ensures { result ≡ record { blocks = []; fails = fails.items; calls = 0; faults = 0; trail = [] } }
+    {
+        FailingBus {
+            bus: SimBus::new(alloc),
+            fails,
+            calls: 0,
+            faults: 0,
+            trail: Vec::new(alloc),
+        }
+    }
+
+    /// The writes that were answered `Ok` since it was powered on, in order.
+    pub fn trail(&self) -> &[Sent]
+        ensures { result.now ≡ self.now.trail }
+    {
+        &self.trail
+    }
+
+    /// Counts a call, and tells whether it is one that is to fail.
+    fn counts_failing_call(&mut self) -> bool
+        ensures counted { self.new ≡ record self.old { calls = one_more self.old.calls } }
+        ensures fails { result ≡ fails_next self.old }
+    {
+        self.calls = self.calls.saturating_add(1);
+        self.fails.contains(&self.calls)
+    }
+
+    /// Counts a fault.
+    fn fault(&mut self) -> Failed
+        ensures counted { self.new ≡ record self.old { faults = one_more self.old.faults } }
+        ensures rises { self.old.faults ≤ self.new.faults }
+    {
+        self.faults = self.faults.saturating_add(1);
+        Failed
+    }
+}
+
+impl Regs for FailingBus {
+    ghost blocks = { λ bus. bus.blocks };
+
+    ghost trail = { λ bus. Some bus.trail };
+
+    ghost faults = { λ bus. bus.faults };
+
+    fn power_on(&mut self, alloc: Global, start: &[Block]) -> Result<(), Memory>
+        // The calls and the faults are counted on.
+        ensures ok { OnOk result (self.new ≡ record self.old { blocks = start.now; trail = [] }) }
+        ensures as_before { OnErr result (self.new ≡ self.old) }
+    {
+        let trail = Vec::with_capacity(alloc, ROOM)?;
+        self.bus.power_on(alloc, start)?;
+        self.trail = trail;
+        Ok(())
+    }
+
+    fn read32(&mut self, node: u32, off: u32) -> Result<u32, Failed>
+        requires { IsPlace self.old.blocks node off }
+        ensures word { IfOk result (λ word. word_in self.old.blocks node off ≡ Some word) }
+        // It fails at the calls of its list, and nowhere else.
+        ensures fails { is_err result ≡ fails_next self.old }
+        ensures after { self.new ≡ after_read self.old }
+        ensures counts { self.old.faults ≤ self.new.faults }
+    {
+        if self.counts_failing_call() {
+            return Err(self.fault());
+        }
+        self.bus.read32(node, off)
+    }
+
+    fn write32(&mut self, node: u32, off: u32, value: u32) -> Result<(), Failed>
+        requires { IsPlace self.old.blocks node off }
+        // It fails at the calls of its list and where its trail is full, and nowhere else.
+        ensures fails { is_err result ≡ write_fails self.old }
+        ensures after { self.new ≡ after_write self.old node off value }
+        ensures same_places { HasPlacesOf self.old.blocks self.new.blocks }
+        ensures counts { self.old.faults ≤ self.new.faults }
+    {
+        if self.counts_failing_call() || self.trail.len() >= ROOM {
+            return Err(self.fault());
+        }
+        self.bus.write32(node, off, value)?;
+        self.trail.push_reserved(Sent { node, off, value });
+        Ok(())
+    }
+}

@@ -1,0 +1,7 @@
+/// A write that was answered `Ok`.
+#[derive(Clone, Copy, Debug, PartialEq, Eq)]
+pub struct Sent {
+    pub node: u32,
+    pub off: u32,
+    pub value: u32,
+}

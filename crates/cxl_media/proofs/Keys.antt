@@ -1,0 +1,58 @@
+-- The order of keys, and what a list of entries has at a key.
+use Rattle.std.proofs.Common.{◌≡◌, ◌≢◌, ◌⊎◌, ℕ, zero, suc, ◌+◌, ◌<◌, Bool, true, false, cond, List, [], ◌∷◌, length, get_or, Option, None, Some, is_some, refl, sym, ap, subst, ◌∙◌, inl, inr, arith}
+use Rattle.std.specs.declared.cmp.Ordering.{Ordering}
+use Rattle.std.specs.declared.cmp.Ordering.TheVariants.{Equal}
+use Rattle.std.specs.Ordering.{nat_cmp, eq_by_cmp, is_eq}
+use Rattle.std.specs.Cmp.{IsTotalOrder, nat_cmp_total, eq_by_cmp_equiv, Equal-is}
+use Rattle.std.proofs.lemmas.Cmp.{on_total, then_total}
+use Rattle.std.proofs.lemmas.Map.Lookups.{exact_pairs, exact_unsigned}
+use Rattle.std.proofs.lemmas.Bool.{cases_Bool, cond-true, cond-false, true≢false}
+use Rattle.std.specs.FinMap.{find}
+use Rattle.cxl_media.specs.Blocks.{Key, key_cmp}
+
+pub key_total : IsTotalOrder key_cmp
+key_total = then_total (on_total (λ (k : Key). k.0) nat_cmp_total) (on_total (λ (k : Key). k.1) nat_cmp_total)
+
+-- keys that compare alike are one
+pub key_exact : (a b : Key) → key_cmp a b ≡ Equal → a ≡ b
+key_exact = exact_pairs nat_cmp nat_cmp exact_unsigned exact_unsigned
+
+pub same_key : (a b : Key) → eq_by_cmp key_cmp a b ≡ true → a ≡ b
+same_key a b e = key_exact a b ((Equal-is (key_cmp a b)).0 e)
+
+pub key_itself : (a : Key) → eq_by_cmp key_cmp a a ≡ true
+key_itself a = (eq_by_cmp_equiv key_total).refl a
+
+pub key_is : (a b : Key) → a ≡ b → eq_by_cmp key_cmp a b ≡ true
+key_is a b e = ap (eq_by_cmp key_cmp a) (sym e) ∙ key_itself a
+
+pub key_is_not : (a b : Key) → a ≢ b → eq_by_cmp key_cmp a b ≡ false
+key_is_not a b other = elim (cases_Bool (eq_by_cmp key_cmp a b)) [ inl same ↦ absurd (other (same_key a b same)) | inr differs ↦ differs ]
+
+-- two keys are one or not
+pub keys_cases : (a b : Key) → (a ≡ b) ⊎ (a ≢ b)
+keys_cases a b =
+    elim (cases_Bool (eq_by_cmp key_cmp a b)) [
+      | inl same ↦ inl (same_key a b same)
+      | inr differs ↦ inr (λ e. true≢false (sym (key_is a b e) ∙ differs))
+    ]
+
+pub not_none : {X : Type 0} (x : X) → Some x ≢ None
+not_none x e = cc
+
+pub same_some : {X : Type 0} (x y : X) → Some x ≡ Some y → x ≡ y
+same_some x y e = cc
+
+module _ {X : Type 0} where
+  pub find_here : (q : Key) (e : Key × X) (es : List (Key × X)) → q ≡ e.0 → find key_cmp q (e ∷ es) ≡ Some e.1
+  find_here q e es same = cond-true _ (Some e.1) (find key_cmp q es) (key_is q e.0 same)
+
+  pub find_later : (q : Key) (e : Key × X) (es : List (Key × X)) → q ≢ e.0 → find key_cmp q (e ∷ es) ≡ find key_cmp q es
+  find_later q e es other = cond-false _ (Some e.1) (find key_cmp q es) (key_is_not q e.0 other)
+
+  -- a key that no entry has is not found
+  pub find_nowhere : (q : Key) (es : List (Key × X)) → ((k : ℕ) (d : Key × X) → k < length es → (get_or es k d).0 ≢ q) → find key_cmp q es ≡ None
+  find_nowhere q [] none = refl
+  find_nowhere q (e ∷ es) none =
+      find_later q e es (λ same. none 0 e (omega arith) (sym same))
+      ∙ find_nowhere q es (λ k d within. none (suc k) d (omega arith))

@@ -1,0 +1,13 @@
+pub mod Keys
+pub mod Entries
+pub mod Zeros
+pub mod Plain
+pub mod Tables
+pub mod Changes
+pub mod Gap
+pub mod Homes
+pub mod Indexed
+pub mod Values
+pub mod Sims
+pub mod SimCalls
+pub mod Scrubs

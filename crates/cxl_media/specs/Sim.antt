@@ -1,0 +1,37 @@
+-- What the shipped media holds: a frame pool, and the frame of each block.
+use Rattle.std.specs.Prelude.{◌≡◌, ℕ, ◌+◌, List, [], ◌∷◌, map, length, unwrap_or, Some, refl}
+use Rattle.std.specs.Coded.{Coded, code_by, coded×, coded_ℕ, coded_list, coded_option}
+use Rattle.std.specs.FinMap as fin
+use Rattle.std.specs.FinMap.{FinMap}
+use Rattle.cxl_pool.specs.Pool.{Frames, bytes_at, IsOut, free_count, zeros}
+use Rattle.cxl_media.specs.Blocks.{Key, key_cmp, Blocks}
+use Rattle.cxl_media.specs.Held.{coded_key}
+
+pub record Sim : Type 0 where
+  pub pool : Frames
+  -- the number of the frame of each block
+  pub frames : FinMap key_cmp ℕ
+
+abbrev pub coded_frames : Coded Frames
+coded_frames = coded_list (coded_option (coded_list coded_ℕ))
+
+-- as a pair
+abbrev pub coded_sim : Coded Sim
+coded_sim =
+    code_by (Frames × FinMap key_cmp ℕ) (coded× coded_frames (fin.code coded_key coded_ℕ)) (λ s. (s.pool, s.frames))
+    (λ p. record { pool = p.0; frames = p.1 }) (λ _. refl)
+
+-- a finite map with each value replaced
+abbrev pub map_values : {X Y : Type 0} → (X → Y) → FinMap key_cmp X → FinMap key_cmp Y
+map_values f m = fin.from_sorted (map (λ e. (e.0, f e.1)) (fin.entries m))
+
+-- each block has the bytes of its frame
+abbrev pub blocks_of : Sim → Blocks
+blocks_of s = map_values (λ n. unwrap_or (bytes_at s.pool n) zeros) s.frames
+
+-- the frames of the blocks are out of the pool and differ, and no other frame is out
+pub record IsSim (s : Sim) (room : ℕ) : Type 0 where
+  pub out : (q : Key) (n : ℕ) → fin.get s.frames q ≡ Some n → IsOut s.pool n
+  pub apart : (q r : Key) (n : ℕ) → fin.get s.frames q ≡ Some n → fin.get s.frames r ≡ Some n → q ≡ r
+  pub counted : free_count s.pool + fin.len s.frames ≡ length s.pool
+  pub size : length s.pool ≡ room

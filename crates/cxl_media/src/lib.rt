@@ -1,0 +1,17 @@
+//! Device memory in blocks of 256 bytes: the trait `Media`, a plain implementation, and the shipped one over a frame
+//! pool.
+#![tactic(auto)]
+
+mod bytes;
+mod index;
+mod map_media;
+mod media;
+mod place;
+mod probe;
+mod sim_media;
+#[cfg(test)]
+mod tests;
+
+pub use map_media::MapMedia;
+pub use media::{Full, Media};
+pub use sim_media::SimMedia;

@@ -1,0 +1,129 @@
+ghost use Rattle.std.specs.Prelude.{◌≡◌, ℕ, ◌+◌, ◌↔◌, IsSome, IsTrue, Some, IfSome, length};
+ghost use Rattle.std.specs.Option.{option_copied};
+ghost use Rattle.std.specs.FinMap as map;
+ghost use Rattle.cxl_pool.specs.Pool.{bytes_at, free_count};
+ghost use Rattle.cxl_media.specs.Blocks.{Key, key_of};
+
+use crate::bytes::{overwrite, read, read_zeros};
+use crate::index::Index;
+use crate::media::{Full, Media};
+use cxl_enc::Memory;
+use cxl_pool::{Frame, Pool};
+use std::alloc::Global;
+use std::marker::Model;
+
+/// The shipped media: each block stands in a frame of a pool, which an index finds.
+#[derive(Drop)]
+pub struct SimMedia {
+    pool: Pool,
+    index: Index,
+}
+
+impl Model for SimMedia {
+    ghost use Rattle.cxl_media.specs.Sim.{Sim, coded_sim};
+
+    ghost Value = { Sim };
+
+    ghost coded = { coded_sim };
+
+    ghost use Rattle.cxl_media.specs.Table.{frames_in};
+    ghost use Rattle.cxl_media.specs.Sim.{IsSim};
+
+    ghost view = { λ m. record { pool = m.pool; frames = frames_in m.index.places } };
+
+    ghost invariant = { λ m. IsSim (record { pool = m.pool; frames = frames_in m.index.places }) m.index.room };
+}
+
+impl SimMedia {
+    ghost use Rattle.std.specs.FinMap as map;
+
+    /// Media without a block and without a frame, until it is powered on. Takes no memory.
+    pub fn new(alloc: Global) -> SimMedia
+        ensures blocks { ⟦<SimMedia as Media>⟧.blocks result ≡ map.empty }
+        ensures free { ⟦<SimMedia as Media>⟧.free_frames result ≡ 0 }
+    {
+        SimMedia {
+            pool: Pool::empty(alloc),
+            index: Index::empty(alloc),
+        }
+    }
+
+    /// The pool in whose frames the blocks stand.
+    pub fn pool(&self) -> &Pool
+        ensures value { result.now ≡ self.now.pool }
+        ensures free { free_count result.now ≡ ⟦<SimMedia as Media>⟧.free_frames self.now }
+        ensures total { length result.now ≡ ⟦<SimMedia as Media>⟧.free_frames self.now + map.len (⟦<SimMedia as Media>⟧.blocks self.now) }
+    {
+        &self.pool
+    }
+
+    /// The frame of the block of a device address, where it is in the map.
+    pub fn frame(&self, ep: u32, dpa: u64) -> Option<&Frame>
+        ensures value { option_copied result ≡ map.get self.now.frames (key_of ep dpa) }
+        ensures there { IsSome result ↔ IsTrue (map.contains_key (⟦<SimMedia as Media>⟧.blocks self.now) (key_of ep dpa)) }
+        ensures bytes { IfSome result (λ frame. bytes_at self.now.pool frame.now ≡ map.get (⟦<SimMedia as Media>⟧.blocks self.now) (key_of ep dpa)) }
+        ensures apart { IfSome result (λ frame. (key : Key) → map.get self.now.frames key ≡ Some frame.now → key ≡ key_of ep dpa) }
+    {
+        self.index.find(ep, dpa / 256)
+    }
+}
+
+impl Media for SimMedia {
+    ghost use Rattle.cxl_media.specs.Sim.{blocks_of};
+    ghost use Rattle.cxl_pool.specs.Pool.{free_count};
+
+    ghost blocks = { blocks_of };
+
+    ghost free_frames = { λ m. free_count m.pool };
+
+    fn power_on(&mut self, alloc: Global, frames: u32) -> Result<(), Memory> {
+        let pool = Pool::new(alloc, frames)?;
+        let index = Index::new(alloc, frames)?;
+        self.pool = pool;
+        self.index = index;
+        Ok(())
+    }
+
+    fn get(&self, ep: u32, dpa: u64, into: &mut [u8]) {
+        let at = (dpa % 256) as usize;
+        match self.index.find(ep, dpa / 256) {
+            Some(frame) => read(self.pool.bytes(frame), at, into),
+            None => read_zeros(at, into),
+        }
+    }
+
+    fn need(&self, ep: u32, dpa: u64) -> u32 {
+        match self.index.find(ep, dpa / 256) {
+            Some(_) => 0,
+            None => 1,
+        }
+    }
+
+    fn put(&mut self, ep: u32, dpa: u64, bytes: &[u8]) -> Result<(), Full> {
+        let at = (dpa % 256) as usize;
+        let number = dpa / 256;
+        if let Some(frame) = self.index.find(ep, number) {
+            overwrite(self.pool.bytes_mut(frame), at, bytes);
+            return Ok(());
+        }
+        let Some(frame) = self.pool.take() else {
+            return Err(Full);
+        };
+        overwrite(self.pool.bytes_mut(&frame), at, bytes);
+        self.index.add(ep, number, frame);
+        Ok(())
+    }
+
+    fn scrub(&mut self, ep: u32, from: u64, to: u64) {
+        for at in (0..self.index.places()).rev() {
+            if self.index.has_between(at, ep, from, to) {
+                let frame = self.index.remove(at);
+                self.pool.give(frame);
+            }
+        }
+    }
+
+    fn free(&self) -> u32 {
+        self.pool.free()
+    }
+}

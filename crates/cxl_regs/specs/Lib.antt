@@ -1,0 +1,5 @@
+pub mod Registers
+pub mod Words
+pub mod Rules
+pub mod Writes
+pub mod Blocks

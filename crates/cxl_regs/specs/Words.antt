@@ -1,0 +1,73 @@
+-- The words of a decoder block (CXL HDM decoder capability).
+use Rattle.std.specs.Prelude.{◌≡◌, ℕ, ◌+◌, ◌-◌, ◌*◌, ◌/◌, ◌%◌, ◌^◌, ◌<◌, ◌==◌, nat_lt, Bool, ◌&&◌, if◌then◌else◌, List, [], ◌∷◌, length, slice_get, slice_index, Option, None, option_and_then}
+use Rattle.cxl_enc.specs.Caps.{bit_of}
+use Rattle.cxl_regs.specs.declared.decoder.Decoder.{Decoder}
+use Rattle.cxl_regs.specs.Registers.{Registers}
+
+-- bit k of a word
+abbrev pub has_bit : ℕ → ℕ → Bool
+has_bit n k = n / 2 ^ k % 2 == 1
+
+-- the two words of a number of 64 bits
+abbrev pub low_half : ℕ → ℕ
+low_half n = n % 2 ^ 32
+
+abbrev pub high_half : ℕ → ℕ
+high_half n = n / 2 ^ 32
+
+-- bits 3:0 granularity, 7:4 ways, 8 lock, 9 commit, 10 committed, 11 error, 12 host-only
+abbrev pub control_of : Decoder → ℕ
+control_of d =
+    d.gran + 16 * d.ways + 256 * bit_of d.lock + 512 * bit_of d.commit + 1024 * bit_of d.committed + 2048 * bit_of d.error
+    + 4096 * bit_of d.host_only
+
+-- base, size, control, tail; the eighth word is reserved
+abbrev pub words_of : Decoder → List ℕ
+words_of d =
+    low_half d.base ∷ high_half d.base ∷ low_half d.size ∷ high_half d.size ∷ control_of d ∷ low_half d.tail
+    ∷ high_half d.tail ∷ 0 ∷ []
+
+-- bits 31:28 of a word, those of a low word that count
+abbrev pub top_bits : ℕ → ℕ
+top_bits v = v / 2 ^ 28 * 2 ^ 28
+
+-- the registers that eight words stand for; bits that do not count are dropped
+unfoldable pub decoder_of : List ℕ → Bool → Decoder
+decoder_of words endpoint =
+    let at : ℕ → ℕ = slice_index words in
+    record {
+      base = at 1 * 2 ^ 32 + top_bits (at 0);
+      size = at 3 * 2 ^ 32 + top_bits (at 2);
+      gran = at 4 % 16;
+      ways = at 4 / 16 % 16;
+      lock = has_bit (at 4) 8;
+      commit = has_bit (at 4) 9;
+      committed = has_bit (at 4) 10;
+      error = has_bit (at 4) 11;
+      host_only = has_bit (at 4) 12;
+      tail = at 6 * 2 ^ 32 + (if endpoint then top_bits (at 5) else at 5);
+    }
+
+-- the words before the decoders: the capability, the global control, and two that are reserved
+abbrev pub head_words : Registers → List ℕ
+head_words block = block.cap ∷ 2 * bit_of (block.endpoint && block.enabled) ∷ 0 ∷ 0 ∷ []
+
+-- decoder i stands at 16 + 32 * i: the decoder of an offset, and the number of the word in it
+abbrev pub index_at : ℕ → ℕ
+index_at off = (off - 16) / 32
+
+abbrev pub place_at : ℕ → ℕ
+place_at off = (off - 16) % 32 / 4
+
+-- the word at an offset
+abbrev pub word_at : Registers → ℕ → Option ℕ
+word_at block off =
+    if off % 4 == 0 then
+    (if nat_lt off 16 then slice_get (head_words block) (off / 4)
+    else option_and_then (λ d. slice_get (words_of d) (place_at off)) (slice_get block.decoders (index_at off)))
+    else None
+
+-- the offset is one that reads
+pub record HasWord (block : Registers) (off : ℕ) : Type 0 where
+  pub whole : off % 4 ≡ 0
+  pub inside : off < 16 + 32 * length block.decoders

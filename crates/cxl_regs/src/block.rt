@@ -1,0 +1,359 @@
+ghost use Rattle.std.specs.Prelude.{◌≡◌, ◌<◌, ◌≤◌, ◌+◌, ◌-◌, ◌*◌, ◌/◌, ◌%◌, ◌↔◌, true, IsTrue, IsSome, Some, length, IfOk, IfSome, slice_get};
+ghost use Rattle.std.specs.List.{prefix_len};
+ghost use Rattle.cxl_enc.specs.Caps.{is_legal_cap};
+ghost use Rattle.cxl_regs.specs.Registers.{Registers, IsBlock, IsDecoder, IsSameShape, reset_block};
+ghost use Rattle.cxl_regs.specs.Words.{word_at, HasWord, index_at, place_at};
+ghost use Rattle.cxl_regs.specs.Rules.{first_broken_rule, before};
+ghost use Rattle.cxl_regs.specs.Writes.{WritesWord, any_committed, with_decoder, global_outcome, decoder_outcome, release_outcome, control_outcome, commit_outcome};
+
+use crate::decoder::Decoder;
+use crate::effect::{CommitRule, Effect};
+use crate::rules::{breaks_order, breaks_rise, codes_ok, decoder_count, select_bits, select_ok};
+use crate::words::{has_bit, words_of};
+use crate::writing::{with_control, with_word};
+use cxl_enc::Memory;
+use std::alloc::Global;
+use std::marker::Model;
+
+/// The bytes before the first decoder.
+const HEAD: u32 = 0x10;
+
+/// The HDM decoder block of a bridge, a switch (both are ports here) or an endpoint. Contracts see its
+/// registers as records.
+#[derive(Debug, Drop)]
+pub struct Block {
+    cap: u32,
+    endpoint: bool,
+    enabled: bool,
+    decoders: Vec<Decoder>,
+}
+
+impl Model for Block {
+    ghost use Rattle.cxl_regs.specs.Registers.{Registers, IsBlock};
+
+    ghost Value = { Registers };
+
+    ghost view = { λ b. record { cap = b.cap; endpoint = b.endpoint; enabled = b.enabled; decoders = b.decoders.items } };
+
+    ghost invariant = { λ b. IsBlock (record { cap = b.cap; endpoint = b.endpoint; enabled = b.enabled; decoders = b.decoders.items }) };
+}
+
+impl Block {
+    /// A block after reset. Takes memory.
+    pub fn new(alloc: Global, cap: u32, endpoint: bool) -> Result<Block, Memory>
+        requires { IsTrue (is_legal_cap cap endpoint) }
+        ensures { IfOk result (λ block. block ≡ reset_block cap endpoint) }
+    {
+        let decoders = vec![in alloc; Decoder::RESET; decoder_count(cap) as usize]?;
+        Ok(Block {
+            cap,
+            endpoint,
+            enabled: !endpoint,
+            decoders,
+        })
+    }
+
+    /// The block with these registers. Takes no memory.
+    pub fn with_decoders(cap: u32, endpoint: bool, enabled: bool, decoders: Vec<Decoder>) -> Block
+        requires { IsBlock (record { cap = cap; endpoint = endpoint; enabled = enabled; decoders = decoders.items }) }
+        ensures { result ≡ record { cap = cap; endpoint = endpoint; enabled = enabled; decoders = decoders.items } }
+    {
+        Block {
+            cap,
+            endpoint,
+            enabled,
+            decoders,
+        }
+    }
+
+    /// An equal block. Takes memory.
+    pub fn copy(&self, alloc: Global) -> Result<Block, Memory>
+        ensures { IfOk result (λ block. block ≡ self.now) }
+    {
+        let decoders = Vec::from_slice(alloc, self.decoders.as_slice())?;
+        Ok(Block {
+            cap: self.cap,
+            endpoint: self.endpoint,
+            enabled: self.enabled,
+            decoders,
+        })
+    }
+
+    /// The capability word.
+    pub fn cap(&self) -> u32
+        ensures value { result ≡ self.now.cap }
+        ensures block { IsBlock self.now }
+    {
+        self.cap
+    }
+
+    /// Whether the block is an endpoint's, and not a port's.
+    pub fn endpoint(&self) -> bool
+        ensures value { result ≡ self.now.endpoint }
+        ensures block { IsBlock self.now }
+    {
+        self.endpoint
+    }
+
+    /// Whether the block decodes. A port always does.
+    pub fn enabled(&self) -> bool
+        ensures value { result ≡ self.now.enabled }
+        ensures block { IsBlock self.now }
+    {
+        self.enabled
+    }
+
+    /// How many decoders the block has, 10 at the most.
+    pub fn count(&self) -> u8
+        ensures value { result ≡ length self.now.decoders }
+        ensures few { result ≤ 10 }
+        ensures block { IsBlock self.now }
+    {
+        self.decoders.len() as u8
+    }
+
+    /// How many committed decoders stand before the first that is not committed.
+    pub fn committed(&self) -> u8
+        ensures { result ≡ prefix_len (λ d. d.committed) self.now.decoders }
+    {
+        self.decoders.iter().take_while(|d| d.committed).count() as u8
+    }
+
+    /// The registers of decoder `i`.
+    pub fn decoder(&self, i: u8) -> Decoder
+        requires { i < length self.now.decoders }
+        ensures value { slice_get self.now.decoders i ≡ Some result }
+        ensures decoder { IsDecoder self.now.endpoint result }
+    {
+        self.decoders[i as usize]
+    }
+
+    /// The word at an offset, `None` exactly where the block has none there: the offset is no multiple of 4
+    /// or past the last decoder. (CXL HDM decoder capability.)
+    pub fn read32(&self, off: u32) -> Option<u32>
+        ensures word { result ≡ word_at self.now off }
+        ensures some { IsSome result ↔ HasWord self.now off }
+    {
+        if off % 4 != 0 {
+            return None;
+        }
+        match off {
+            0 => Some(self.cap),
+            4 => Some(if self.endpoint && self.enabled { 2 } else { 0 }),
+            8 | 12 => Some(0),
+            _ => {
+                let d = self.decoders.get(index_at(off))?;
+                Some(words_of(d)[place_at(off)])
+            }
+        }
+    }
+
+    /// Writes a word. What becomes of it is the first that fits of this project's write rules: words that
+    /// hold no value drop it, and so do those of a committed decoder; a decoder is committed in rising order
+    /// and released in falling order; a locked one stays. (CXL HDM decoder commit and lock.)
+    #[tactic(auto, unfolding(crate::specs::Writes::outcome_of))]
+    pub fn write32(&mut self, off: u32, value: u32) -> Effect
+        ensures write { WritesWord self.old off value self.new result }
+        ensures same_shape { IsSameShape self.old self.new }
+    {
+        if off % 4 != 0 {
+            return Effect::Dropped;
+        }
+        if off < HEAD {
+            if off == 4 && self.endpoint {
+                return self.write_global(value);
+            }
+            return Effect::Dropped;
+        }
+        let index = index_at(off);
+        match self.find(index) {
+            Some(d) => self.write_decoder(index, d, place_at(off) as u32, value),
+            None => Effect::Dropped,
+        }
+    }
+
+    fn find(&self, index: usize) -> Option<Decoder>
+        ensures value { result ≡ slice_get self.now.decoders index }
+        ensures here { IsSome result → index < length self.now.decoders }
+        ensures decoder { IfSome result (IsDecoder self.now.endpoint) }
+    {
+        self.decoders.get(index).copied()
+    }
+
+    /// A write to the global control of an endpoint.
+    fn write_global(&mut self, value: u32) -> Effect
+        requires { self.old.endpoint ≡ true }
+        ensures left { self.new ≡ (global_outcome self.old value).block }
+        ensures told { result ≡ (global_outcome self.old value).effect }
+    {
+        if has_bit(value, 1) {
+            self.enabled = true;
+            return Effect::Written;
+        }
+        if any_committed(&self.decoders) {
+            return Effect::Dropped;
+        }
+        self.enabled = false;
+        Effect::Written
+    }
+
+    /// A write to a word of a decoder.
+    fn write_decoder(&mut self, index: usize, d: Decoder, place: u32, value: u32) -> Effect
+        requires here { index < length self.old.decoders }
+        requires decoder { IsDecoder self.old.endpoint d }
+        ensures left { self.new ≡ (decoder_outcome self.old index d place value).block }
+        ensures told { result ≡ (decoder_outcome self.old index d place value).effect }
+    {
+        match place {
+            7 => Effect::Dropped,
+            4 if d.committed => self.release(index, d, value),
+            4 => self.configure(index, d, value),
+            _ if d.committed => Effect::Dropped,
+            _ => {
+                self.put(index, with_word(d, self.endpoint, place, value));
+                Effect::Written
+            }
+        }
+    }
+
+    /// A write to the control of a committed decoder.
+    fn release(&mut self, index: usize, d: Decoder, value: u32) -> Effect
+        requires here { index < length self.old.decoders }
+        requires decoder { IsDecoder self.old.endpoint d }
+        ensures left { self.new ≡ (release_outcome self.old index d value).block }
+        ensures told { result ≡ (release_outcome self.old index d value).effect }
+    {
+        if d.lock || has_bit(value, 9) || any_committed(&self.decoders[index + 1..]) {
+            return Effect::Dropped;
+        }
+        let released = Decoder {
+            commit: false,
+            committed: false,
+            ..d
+        };
+        self.put(index, released);
+        Effect::Released
+    }
+
+    /// A write to the control of a decoder that is not committed.
+    fn configure(&mut self, index: usize, d: Decoder, value: u32) -> Effect
+        requires here { index < length self.old.decoders }
+        requires decoder { IsDecoder self.old.endpoint d }
+        ensures left { self.new ≡ (control_outcome self.old index d value).block }
+        ensures told { result ≡ (control_outcome self.old index d value).effect }
+    {
+        let d = with_control(d, value);
+        if !has_bit(value, 9) {
+            let written = Decoder {
+                commit: false,
+                error: false,
+                ..d
+            };
+            self.put(index, written);
+            return Effect::Written;
+        }
+        self.commit(index, d)
+    }
+
+    /// Commits the decoder with these registers, or marks that it could not.
+    fn commit(&mut self, index: usize, d: Decoder) -> Effect
+        requires here { index < length self.old.decoders }
+        requires decoder { IsDecoder self.old.endpoint d }
+        ensures left { self.new ≡ (commit_outcome self.old index d (first_broken_rule self.old index d)).block }
+        ensures told { result ≡ (commit_outcome self.old index d (first_broken_rule self.old index d)).effect }
+    {
+        let broken = self.broken_rule(index, &d);
+        let marked = Decoder {
+            commit: true,
+            committed: broken.is_none(),
+            error: broken.is_some(),
+            ..d
+        };
+        self.put(index, marked);
+        match broken {
+            Some(rule) => Effect::NotCommitted(rule),
+            None => Effect::Committed,
+        }
+    }
+
+    /// The first commit rule that the decoder would break with these registers.
+    fn broken_rule(&self, index: usize, d: &Decoder) -> Option<CommitRule>
+        requires here { index < length self.now.decoders }
+        ensures { result ≡ first_broken_rule self.now index d.now }
+    {
+        if self.endpoint && !self.enabled {
+            return Some(CommitRule::NotEnabled);
+        }
+        if d.size == 0 {
+            return Some(CommitRule::ZeroSize);
+        }
+        let before = self.before(index);
+        if breaks_order(before) {
+            return Some(CommitRule::Order);
+        }
+        if breaks_rise(before, d) {
+            return Some(CommitRule::Rise);
+        }
+        if !codes_ok(self.cap, self.endpoint, d) {
+            return Some(CommitRule::Codes);
+        }
+        if !select_ok(self.cap, d.gran, select_bits(d.ways)) {
+            return Some(CommitRule::Select);
+        }
+        None
+    }
+
+    /// The decoder before, where there is one.
+    fn before(&self, index: usize) -> Option<Decoder>
+        requires here { index < length self.now.decoders }
+        ensures { result ≡ before self.now.decoders index }
+    {
+        if index == 0 {
+            return None;
+        }
+        Some(self.decoders[index - 1])
+    }
+
+    /// Gives the decoder these registers.
+    fn put(&mut self, index: usize, d: Decoder)
+        requires here { index < length self.old.decoders }
+        requires decoder { IsDecoder self.old.endpoint d }
+        ensures { self.new ≡ with_decoder self.old index d }
+    {
+        self.decoders[index] = d;
+    }
+}
+
+/// Equal blocks, in the same order. Takes memory.
+pub fn copies(alloc: Global, blocks: &[Block]) -> Result<Vec<Block>, Memory>
+    ensures { IfOk result (λ copies. copies.items ≡ blocks.now) }
+{
+    let mut copies = Vec::with_capacity(alloc, blocks.len())?;
+    for block in blocks {
+        copies.push(block.copy(alloc)?)?;
+    }
+    Ok(copies)
+}
+
+/// Which decoder stands at an offset past the head.
+fn index_at(off: u32) -> usize
+    requires { 16 ≤ off }
+    ensures { result ≡ index_at off }
+{
+    ((off - HEAD) / 0x20) as usize
+}
+
+/// Which of its decoder's eight words stands at an offset past the head.
+fn place_at(off: u32) -> usize
+    requires { 16 ≤ off }
+    ensures place { result ≡ place_at off }
+    ensures word { result < 8 }
+{
+    ((off - HEAD) % 0x20 / 4) as usize
+}
+
+fn any_committed(decoders: &[Decoder]) -> bool
+    ensures { result ≡ any_committed decoders.now }
+{
+    decoders.iter().any(|d| d.committed)
+}

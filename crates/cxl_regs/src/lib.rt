@@ -1,0 +1,19 @@
+//! The HDM decoder registers of one node, as its decoder block keeps them: which word stands at an
+//! offset, and what a write to a word does.
+#![tactic(auto)]
+
+mod block;
+mod decoder;
+mod effect;
+mod rules;
+mod words;
+mod writing;
+
+pub use block::{Block, copies};
+pub use decoder::Decoder;
+pub use effect::{CommitRule, Effect};
+pub use rules::{codes_ok, decoder_count, select_ok};
+pub use words::{decoder_of, words_of, words_stand_for_decoder};
+
+#[cfg(test)]
+mod tests;

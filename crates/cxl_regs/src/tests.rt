@@ -1,0 +1,110 @@
+use super::*;
+use crate::CommitRule::{Codes, NotEnabled, Order, Rise, Select, ZeroSize};
+use crate::Effect::{Committed, Dropped, NotCommitted, Released, Written};
+use std::process::Abort;
+use std::test::*;
+
+/// A write to a word, what becomes of it, and the word that is read there afterwards.
+#[derive(Clone, Copy)]
+struct Case {
+    off: u32,
+    value: u32,
+    effect: Effect,
+    word: u32,
+}
+
+const fn write(off: u32, value: u32, effect: Effect, word: u32) -> Case {
+    Case {
+        off,
+        value,
+        effect,
+        word,
+    }
+}
+
+fn carry_out(rt: &impl Abort, block: &mut Block, cases: &[Case]) {
+    for case in cases {
+        assert_eq!(rt; block.write32(case.off, case.value), case.effect);
+        assert_eq!(rt; block.read32(case.off), Some(case.word));
+    }
+}
+
+#[test]
+fn writes_to_an_endpoint(rt: HostRuntime) -> Result<(), Fail> {
+    let mut block = Block::new(rt.alloc(), 0x1b02, true)?;
+    let cases = [
+        write(0x20, 0x1200, NotCommitted(NotEnabled), 0x1a00),
+        write(0x04, 0x2, Written, 0x2),
+        write(0x20, 0x1200, NotCommitted(ZeroSize), 0x1a00),
+        write(0x18, 0x1fff_ffff, Written, 0x1000_0000),
+        write(0x38, 0x1000_0000, Written, 0x1000_0000),
+        write(0x40, 0x1200, NotCommitted(Order), 0x1a00),
+        write(0x20, 0x1200, Committed, 0x1600),
+        write(0x18, 0x2000_0000, Dropped, 0x1000_0000),
+        write(0x40, 0x1200, NotCommitted(Rise), 0x1a00),
+        write(0x30, 0x1000_0000, Written, 0x1000_0000),
+        write(0x40, 0x1247, NotCommitted(Codes), 0x1a47),
+        write(0x40, 0x1226, NotCommitted(Select), 0x1a26),
+        write(0x40, 0x1216, Committed, 0x1616),
+        write(0x20, 0x1000, Dropped, 0x1600),
+        write(0x40, 0x1000, Released, 0x1016),
+        write(0x04, 0x0, Dropped, 0x2),
+    ];
+    carry_out(&rt, &mut block, &cases);
+    Ok(())
+}
+
+#[test]
+fn writes_to_a_port(rt: HostRuntime) -> Result<(), Fail> {
+    let mut block = Block::new(rt.alloc(), 0x382, false)?;
+    let cases = [
+        write(0x04, 0x2, Dropped, 0x0),
+        write(0x20, 0x1200, NotCommitted(ZeroSize), 0x1a00),
+    ];
+    carry_out(&rt, &mut block, &cases);
+    Ok(())
+}
+
+#[test]
+fn a_block_and_its_words(rt: HostRuntime) -> Result<(), Fail> {
+    let mut block = Block::new(rt.alloc(), 0x1b02, true)?;
+    assert_eq!(rt; block.count(), 4);
+    assert_eq!(rt; block.cap(), 0x1b02);
+    assert!(rt; block.endpoint() && !block.enabled());
+    assert_eq!(rt; block.read32(0x90), None);
+    assert_eq!(rt; block.read32(0x8e), None);
+    assert_eq!(rt; block.read32(0x8c), Some(0));
+    let enabling = [
+        write(0x04, 0x2, Written, 0x2),
+        write(0x1c, 0x1, Written, 0x1),
+    ];
+    carry_out(&rt, &mut block, &enabling);
+    let committing = [
+        write(0x18, 0x4000_0000, Written, 0x4000_0000),
+        write(0x20, 0x1210, Committed, 0x1610),
+    ];
+    carry_out(&rt, &mut block, &committing);
+    let copy = block.copy(rt.alloc())?;
+    assert!(rt; copy.enabled());
+    assert_eq!(rt; copy.committed(), 1);
+    let decoder = copy.decoder(0);
+    let words = words_of(&decoder);
+    assert_eq!(rt; words, [0, 0, 0x4000_0000, 1, 0x1610, 0, 0, 0]);
+    words_stand_for_decoder();
+    assert_eq!(rt; decoder_of(&words, true), decoder);
+    let whole = Block::with_decoders(0x1b00, true, false, vec![in rt.alloc(); Decoder::RESET]?);
+    assert_eq!(rt; whole.read32(0x30), None);
+    Ok(())
+}
+
+#[test]
+fn codes_and_select_bits(rt: HostRuntime) {
+    let three_ways = Decoder {
+        ways: 8,
+        ..Decoder::RESET
+    };
+    assert!(rt; codes_ok(0x1b02, true, &three_ways));
+    assert!(rt; !codes_ok(0x382, false, &three_ways));
+    assert!(rt; select_ok(0x1b02, 6, 1));
+    assert!(rt; !select_ok(0x1b02, 6, 2));
+}

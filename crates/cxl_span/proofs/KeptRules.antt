@@ -1,0 +1,95 @@
+-- What each rule says of a committed decoder of a block that keeps the rules.
+use Rattle.std.proofs.Common.{◌≡◌, ℕ, ◌+◌, ◌*◌, ◌%◌, ◌^◌, ◌<◌, ◌≤◌, Bool, true, false, not, ◌&&◌, ◌||◌, List, take, Option, Some, sum_by, refl, sym, ap, ◌∙◌, arith}
+use Rattle.std.specs.Prelude.{slice_get, ◌==◌, nat_lt}
+use Rattle.std.proofs.lemmas.Bool.{eqb-true, eqb-false, ltb-false}
+use Rattle.cxl_enc.specs.declared.caps.MemKind.TheVariants.{Ram, Pmem}
+use Rattle.cxl_regs.specs.declared.decoder.Decoder.{Decoder}
+use Rattle.cxl_regs.specs.Registers.{Registers}
+use Rattle.cxl_regs.specs.Rules.{before, breaks_rise, breaks_order}
+use Rattle.cxl_span.specs.Spans.{span_step, span_length, decoder_ways}
+use Rattle.cxl_span.specs.Partitions.{lies_in}
+use Rattle.cxl_span.specs.Rules.{breaks_rule, size_unit}
+use Rattle.cxl_span.specs.Breaches.{breaks, BlockKeeps}
+use Rattle.cxl_span.proofs.BreaksAt.{breaks_here, before_next}
+
+-- tests that fail
+and_false : (a b : Bool) → (a && b) ≡ false → a ≡ true → b ≡ false
+and_false true b h t = h
+and_false false b h t = cc
+
+or_false : (a b : Bool) → (a || b) ≡ false → (a ≡ false) × (b ≡ false)
+or_false true b h = cc
+or_false false b h = (refl, h)
+
+not_false : (a : Bool) → not a ≡ false → a ≡ true
+not_false true h = refl
+not_false false h = cc
+
+pub and_true : (a b : Bool) → (a && b) ≡ true → (a ≡ true) × (b ≡ true)
+and_true true b h = (refl, h)
+and_true false b h = cc
+
+kept_here : (rule : ℕ) (block : Registers) (ram pmem i : ℕ) (d : Decoder) → BlockKeeps block ram pmem → slice_get block.decoders i ≡ Some d
+    → breaks_rule rule block ram pmem (before block.decoders i) (sum_by span_step (take i block.decoders) + d.tail) d ≡ false
+kept_here rule block ram pmem i d keeps here = sym (breaks_here rule block ram pmem i d here) ∙ keeps.each rule i
+
+-- with decoder b before it
+kept_after : (rule : ℕ) (block : Registers) (ram pmem i j : ℕ) (b d : Decoder) → BlockKeeps block ram pmem → j ≡ i + 1
+    → slice_get block.decoders i ≡ Some b → slice_get block.decoders j ≡ Some d
+    → breaks_rule rule block ram pmem (Some b) (sum_by span_step (take j block.decoders) + d.tail) d ≡ false
+kept_after rule block ram pmem i j b d keeps next at_b at_d =
+    let below : before block.decoders j ≡ Some b = ap (before block.decoders) next ∙ before_next block.decoders i b at_b in
+    ap (λ (o : Option Decoder). breaks_rule rule block ram pmem o (sum_by span_step (take j block.decoders) + d.tail) d) (sym below)
+    ∙ kept_here rule block ram pmem j d keeps at_d
+
+-- K2: the decoder before is committed
+pub committed_before_one : (block : Registers) (ram pmem i j : ℕ) (b d : Decoder) → BlockKeeps block ram pmem → j ≡ i + 1
+    → slice_get block.decoders i ≡ Some b → slice_get block.decoders j ≡ Some d → d.committed ≡ true → b.committed ≡ true
+committed_before_one block ram pmem i j b d keeps next at_b at_d committed =
+    not_false b.committed
+    (or_false (not b.committed) (not block.enabled)
+    (and_false d.committed (not b.committed || not block.enabled) (kept_after 2 block ram pmem i j b d keeps next at_b at_d) committed)).0
+
+-- K7: the decoder before ends at or below the base
+pub rises_from_one : (block : Registers) (ram pmem i j : ℕ) (b d : Decoder) → BlockKeeps block ram pmem → j ≡ i + 1
+    → slice_get block.decoders i ≡ Some b → slice_get block.decoders j ≡ Some d → d.committed ≡ true → b.base + b.size ≤ d.base
+rises_from_one block ram pmem i j b d keeps next at_b at_d committed =
+    ltb-false d.base (b.base + b.size)
+    (and_false d.committed (nat_lt d.base (b.base + b.size)) (kept_after 7 block ram pmem i j b d keeps next at_b at_d) committed)
+
+-- K6, part by part
+size_parts : (block : Registers) (ram pmem i : ℕ) (d : Decoder) → BlockKeeps block ram pmem → slice_get block.decoders i ≡ Some d → d.committed ≡ true
+    → ((d.size == 0) ≡ false) × (nat_lt (2 ^ 52) (d.base + d.size) ≡ false) × ((block.endpoint && not (d.size % size_unit d == 0)) ≡ false)
+size_parts block ram pmem i d keeps here committed =
+    let all = and_false d.committed ((d.size == 0) || nat_lt (2 ^ 52) (d.base + d.size) || (block.endpoint && not (d.size % size_unit d == 0)))
+    (kept_here 6 block ram pmem i d keeps here) committed in
+    let last = or_false ((d.size == 0) || nat_lt (2 ^ 52) (d.base + d.size)) (block.endpoint && not (d.size % size_unit d == 0)) all in
+    let first = or_false (d.size == 0) (nat_lt (2 ^ 52) (d.base + d.size)) last.0 in
+    (first.0, first.1, last.1)
+
+pub size_some : (block : Registers) (ram pmem i : ℕ) (d : Decoder) → BlockKeeps block ram pmem → slice_get block.decoders i ≡ Some d → d.committed ≡ true
+    → 0 < d.size
+size_some block ram pmem i d keeps here committed =
+    let none = eqb-false d.size 0 (size_parts block ram pmem i d keeps here committed).0 in omega arith
+
+pub size_ends : (block : Registers) (ram pmem i : ℕ) (d : Decoder) → BlockKeeps block ram pmem → slice_get block.decoders i ≡ Some d → d.committed ≡ true
+    → d.base + d.size ≤ 2 ^ 52
+size_ends block ram pmem i d keeps here committed = ltb-false (2 ^ 52) (d.base + d.size) (size_parts block ram pmem i d keeps here committed).1
+
+pub size_even : (block : Registers) (ram pmem i : ℕ) (d : Decoder) → BlockKeeps block ram pmem → slice_get block.decoders i ≡ Some d → d.committed ≡ true
+    → block.endpoint ≡ true → d.size % size_unit d ≡ 0
+size_even block ram pmem i d keeps here committed endpoint =
+    eqb-true (d.size % size_unit d) 0
+    (not_false (d.size % size_unit d == 0)
+    (and_false block.endpoint (not (d.size % size_unit d == 0)) (size_parts block ram pmem i d keeps here committed).2 endpoint))
+
+-- K8: in ram or in pmem
+pub in_ram_or_pmem : (block : Registers) (ram pmem i : ℕ) (d : Decoder) → BlockKeeps block ram pmem → slice_get block.decoders i ≡ Some d → d.committed ≡ true
+    → block.endpoint ≡ true
+    → (lies_in Ram ram pmem (sum_by span_step (take i block.decoders) + d.tail) (span_length d)
+    || lies_in Pmem ram pmem (sum_by span_step (take i block.decoders) + d.tail) (span_length d)) ≡ true
+in_ram_or_pmem block ram pmem i d keeps here committed endpoint =
+    let start : ℕ = sum_by span_step (take i block.decoders) + d.tail in
+    let inside : Bool = lies_in Ram ram pmem start (span_length d) || lies_in Pmem ram pmem start (span_length d) in
+    not_false inside
+    (and_false (block.endpoint && d.committed) (not inside) (kept_here 8 block ram pmem i d keeps here) (rw (endpoint, committed) refl))

@@ -1,0 +1,13 @@
+use Rattle.std.proofs.Common.{◌≡◌, ℕ, ◌*◌, ◌^◌, ◌<◌, ◌≤◌, false, take, sum_by}
+use Rattle.cxl_regs.specs.Rules.{before}
+use Rattle.cxl_span.specs.Spans.{span_step}
+use Rattle.cxl_span.specs.Breaches.{breaks}
+use Rattle.cxl_span.proofs.breach.first_breaking.Given as goal
+
+abbrev pub invariant-loop-i : goal.invariant-loop-i
+invariant-loop-i l = record {
+  taken : l.taken ≡ sum_by span_step (take l.i l.block.decoders);
+  small : l.taken ≤ l.i * 2 ^ 65;
+  below : l.below ≡ before l.block.decoders l.i;
+  kept : (k : ℕ) → k < l.i → breaks l.rule l.block l.ram l.pmem k ≡ false;
+}

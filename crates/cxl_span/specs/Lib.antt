@@ -1,0 +1,5 @@
+pub mod Spans
+pub mod Partitions
+pub mod Rules
+pub mod Breaches
+pub mod Allotting

@@ -1,0 +1,19 @@
+//! The bytes of its device that each decoder of an endpoint takes, the rules that a block keeps by
+//! itself, and where the next span stands.
+#![tactic(auto)]
+
+mod allotting;
+mod breach;
+mod laws;
+mod rules;
+mod spans;
+
+pub use allotting::{Room, Span, SpanFault, allot};
+pub use breach::{BlockBreach, block_breach};
+pub use laws::{
+    committed_stand_first, ranges_rise, spans_are_whole, spans_follow, spans_lie_in_partitions,
+};
+pub use spans::start_of;
+
+#[cfg(test)]
+mod tests;
