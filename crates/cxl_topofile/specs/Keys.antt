@@ -1,0 +1,37 @@
+-- The keys of a topology file.
+use Rattle.std.specs.Prelude.{codes, ℕ, Bool, false, not, ◌||◌, List, []}
+use Rattle.std.specs.List.{list_any}
+use Rattle.std.specs.Str.{bytes_eq}
+use Rattle.toml.specs.Data.{Members, no_members, member}
+use Rattle.cxl_topofile.specs.declared.key.Key.{Key}
+use Rattle.cxl_topofile.specs.declared.key.Key.TheVariants as keys
+
+-- a key as the file writes it
+abbrev pub text_of : Key → List ℕ
+text_of keys.Frames = codes "frames"
+text_of keys.Bridge = codes "bridge"
+text_of keys.Switch = codes "switch"
+text_of keys.Endpoint = codes "endpoint"
+text_of keys.Name = codes "name"
+text_of keys.Uid = codes "uid"
+text_of keys.Parent = codes "parent"
+text_of keys.Port = codes "port"
+text_of keys.Decoders = codes "decoders"
+text_of keys.Targets = codes "targets"
+text_of keys.Low = codes "low"
+text_of keys.High = codes "high"
+text_of keys.Passthrough = codes "passthrough"
+text_of keys.Ways3 = codes "ways3"
+text_of keys.Ways16 = codes "ways16"
+text_of keys.Ram = codes "ram"
+text_of keys.Pmem = codes "pmem"
+text_of keys.Unknown = []
+
+-- whether a text is one of these keys
+abbrev pub is_key : List ℕ → List Key → Bool
+is_key text keys = list_any (λ key. bytes_eq (text_of key) text) keys
+
+-- whether a table has a key beside these
+abbrev pub has_unknown : Members → List Key → Bool
+has_unknown no_members keys = false
+has_unknown (member text value rest) keys = not (is_key text keys) || has_unknown rest keys

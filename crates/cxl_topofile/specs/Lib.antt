@@ -1,0 +1,8 @@
+pub mod Keys
+pub mod Wrongs
+pub mod Values
+pub mod Drafts
+pub mod Groups
+pub mod Seen
+pub mod File
+pub mod Answers

@@ -1,0 +1,61 @@
+ghost use Rattle.std.specs.Prelude.{◌≡◌};
+ghost use Rattle.cxl_topofile.specs.Keys.{text_of, is_key};
+
+/// A key of a topology file, or one that no table of it has.
+#[derive(Clone, Copy, Debug, PartialEq, Eq)]
+pub enum Key {
+    Frames,
+    Bridge,
+    Switch,
+    Endpoint,
+    Name,
+    Uid,
+    Parent,
+    Port,
+    Decoders,
+    Targets,
+    Low,
+    High,
+    Passthrough,
+    Ways3,
+    Ways16,
+    Ram,
+    Pmem,
+    /// A key of a table that is none of its keys.
+    Unknown,
+}
+
+impl Key {
+    /// The key as a file writes it, and no text for `Unknown`.
+    pub(crate) fn text(self) -> &'static str
+        ensures { result.now ≡ text_of self }
+    {
+        match self {
+            Key::Frames => "frames",
+            Key::Bridge => "bridge",
+            Key::Switch => "switch",
+            Key::Endpoint => "endpoint",
+            Key::Name => "name",
+            Key::Uid => "uid",
+            Key::Parent => "parent",
+            Key::Port => "port",
+            Key::Decoders => "decoders",
+            Key::Targets => "targets",
+            Key::Low => "low",
+            Key::High => "high",
+            Key::Passthrough => "passthrough",
+            Key::Ways3 => "ways3",
+            Key::Ways16 => "ways16",
+            Key::Ram => "ram",
+            Key::Pmem => "pmem",
+            Key::Unknown => "",
+        }
+    }
+}
+
+/// Whether a text is one of these keys.
+pub(crate) fn is_key(text: &str, keys: &[Key]) -> bool
+    ensures { result ≡ is_key text.now keys.now }
+{
+    keys.iter().any(|key| key.text() == text)
+}

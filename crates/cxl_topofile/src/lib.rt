@@ -1,0 +1,19 @@
+//! A topology as a TOML file: the bridges, switches and endpoints that a tester describes.
+#![tactic(auto)]
+
+mod draft;
+mod fault;
+mod group;
+mod hang;
+mod key;
+mod read;
+mod sections;
+mod stated;
+mod value;
+
+pub use fault::{Place, Section, TopoFault};
+pub use key::Key;
+pub use read::read_topo;
+
+#[cfg(test)]
+mod tests;

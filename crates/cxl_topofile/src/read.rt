@@ -1,0 +1,73 @@
+ghost use Rattle.std.specs.Prelude.{◌≡◌, ◌≤◌, Some, IfOk, IfErr, MatchResult};
+ghost use Rattle.cxl_topo.specs.Tree.{Tree};
+ghost use Rattle.cxl_topo.specs.Faults.{IsTree};
+ghost use Rattle.toml.specs.View.{table_view};
+ghost use Rattle.cxl_topofile.specs.Seen.{seen_stated};
+ghost use Rattle.cxl_topofile.specs.File.{tree_of, IsDocument, IsTopologyFile, IsFirstTopoFault};
+ghost use Rattle.cxl_topofile.specs.Answers.{IsNoDocument, IsTreeRefusal};
+
+use crate::fault::TopoFault;
+use crate::hang::hang;
+use crate::sections::read_table;
+use crate::stated::Stated;
+use cxl_topo::{Topo, TreeFault};
+use std::alloc::Global;
+use toml::Table;
+
+/// How many nodes a tree has at the most.
+const MAX_NODES: usize = 1_024;
+
+/// The topology that a file stands for, or the file's first fault. Takes memory.
+pub fn read_topo(alloc: Global, bytes: &[u8]) -> Result<Topo, TopoFault>
+    ensures file { IfOk result (λ topo. IsTopologyFile bytes.now topo) }
+    ensures fault { IfErr result (λ fault. IsFirstTopoFault bytes.now fault) }
+
+    // A file that stands for a tree is read, unless memory runs out.
+    ensures only { (tree : Tree) → IsTopologyFile bytes.now tree
+        → MatchResult result (λ topo. topo ≡ tree) (λ fault. fault ≡ TopoFault.Memory) }
+{
+    let table = read_document(alloc, bytes)?;
+    let stated = read_table(alloc, &table)?;
+    plant(alloc, stated)
+}
+
+fn read_document(alloc: Global, bytes: &[u8]) -> Result<Table, TopoFault>
+    ensures document { IfOk result (λ table. IsDocument bytes.now (table_view table)) }
+    ensures none { IfErr result (λ fault. IsNoDocument bytes.now fault) }
+{
+    match toml::table_from_slice(alloc, bytes) {
+        Ok(table) => Ok(table),
+        Err(error) => {
+            if error.is_memory() {
+                Err(TopoFault::Memory)
+            } else {
+                Err(TopoFault::Toml)
+            }
+        }
+    }
+}
+
+/// The tree of these nodes, or its first fault.
+fn plant(alloc: Global, stated: Stated) -> Result<Topo, TopoFault>
+    requires some { 1 ≤ stated.frames }
+    requires few { stated.frames ≤ 1048576 }
+    ensures tree { IfOk result (λ topo. topo ≡ tree_of (seen_stated stated)) }
+    ensures legal { IfOk result (λ _. IsTree (tree_of (seen_stated stated)).nodes) }
+    ensures only { IsTree (tree_of (seen_stated stated)).nodes → IfErr result (λ fault. fault ≡ TopoFault.Memory) }
+    ensures fault { IfErr result (λ fault. IsTreeRefusal (tree_of (seen_stated stated)).nodes fault) }
+{
+    let Stated {
+        bridges,
+        drafts,
+        frames,
+    } = stated;
+    if bridges.len() > MAX_NODES || drafts.len() > MAX_NODES - bridges.len() {
+        return Err(TopoFault::Tree(TreeFault::TooMany));
+    }
+    let nodes = hang(bridges, &drafts)?;
+    match Topo::new(alloc, nodes, frames) {
+        Ok(topo) => Ok(topo),
+        Err(TreeFault::Memory) => Err(TopoFault::Memory),
+        Err(fault) => Err(TopoFault::Tree(fault)),
+    }
+}

@@ -1,0 +1,161 @@
+ghost use Rattle.std.specs.Prelude.{◌≡◌, ◌≤◌, ◌++◌, IsTrue, IfOk};
+ghost use Rattle.std.specs.List.{list_all};
+ghost use Rattle.toml.specs.Data.{as_array, no_items};
+ghost use Rattle.toml.specs.View.{view, table_view, items_view};
+ghost use Rattle.cxl_topofile.specs.Values.{value_at, Gives};
+ghost use Rattle.cxl_topofile.specs.Drafts.{bridge_of};
+ghost use Rattle.cxl_topofile.specs.Groups.{Reads, section_of, draft_of, all_of, are_tables, tables_of, tables_at, top_of, stated_of};
+ghost use Rattle.cxl_topofile.specs.Seen.{seen_top, seen_stated, is_table, AddsTable};
+ghost use Rattle.std.specs.Prelude.{Some};
+
+use crate::draft::{Draft, known, read_bridge};
+use crate::fault::{Section, TopoFault, Wrong};
+use crate::group::Group;
+use crate::key::Key;
+use crate::stated::{Stated, Top};
+use crate::value::{found, number};
+use cxl_topo::Node;
+use std::alloc::Global;
+use toml::{Table, Value};
+
+const TOP_KEYS: [Key; 4] = [Key::Frames, Key::Bridge, Key::Switch, Key::Endpoint];
+
+const DEFAULT_FRAMES: i64 = 65_536;
+
+const MAX_FRAMES: u64 = 1_048_576;
+
+/// The nodes and frames that a file states, or its first fault.
+#[tactic(auto, unfolding(crate::specs::Groups::stated_of))]
+pub(crate) fn read_table(alloc: Global, table: &Table) -> Result<Stated, TopoFault>
+    ensures stated { Reads seen_stated result (stated_of (table_view table.now)) }
+    ensures frames { IfOk result (λ stated. (1 ≤ stated.frames) × (stated.frames ≤ 1048576)) }
+{
+    let top = match read_top(table) {
+        Ok(top) => top,
+        Err(wrong) => return Err(wrong.at(Section::Top, 0)),
+    };
+    let bridges = read_bridges(alloc, top.bridges)?;
+    let mut drafts = read_drafts(alloc, Group::Switches, top.switches)?;
+    let endpoints = read_drafts(alloc, Group::Endpoints, top.endpoints)?;
+    drafts.extend_from_slice(&endpoints)?;
+    Ok(Stated {
+        bridges,
+        drafts,
+        frames: top.frames,
+    })
+}
+
+#[tactic(auto, unfolding(crate::specs::Groups::top_of))]
+fn read_top(table: &Table) -> Result<Top<'_>, Wrong>
+    ensures top { Gives seen_top result (top_of (table_view table.now)) }
+    ensures frames { IfOk result (λ top. (1 ≤ top.frames) × (top.frames ≤ 1048576)) }
+    ensures bridges { IfOk result (λ top. IsTrue (are_tables (items_view top.bridges.now))) }
+    ensures switches { IfOk result (λ top. IsTrue (are_tables (items_view top.switches.now))) }
+    ensures endpoints { IfOk result (λ top. IsTrue (are_tables (items_view top.endpoints.now))) }
+{
+    known(table, &TOP_KEYS)?;
+    let frames = number(table, Key::Frames, Some(DEFAULT_FRAMES), 1, MAX_FRAMES)?;
+    let bridges = tables(table, Key::Bridge)?;
+    let switches = tables(table, Key::Switch)?;
+    let endpoints = tables(table, Key::Endpoint)?;
+    Ok(Top {
+        frames: frames as u32,
+        bridges,
+        switches,
+        endpoints,
+    })
+}
+
+#[tactic(auto, unfolding(crate::specs::Groups::tables_at))]
+fn tables(table: &Table, key: Key) -> Result<&[Value], Wrong>
+    ensures tables { Gives (λ values. items_view values.now) result (tables_at (table_view table.now) key) }
+    ensures each { IfOk result (λ values. IsTrue (are_tables (items_view values.now))) }
+{
+    let values = array(table, key)?;
+    if !are_tables(values) {
+        return Err(Wrong::of_other_kind(key));
+    }
+    Ok(values)
+}
+
+fn array(table: &Table, key: Key) -> Result<&[Value], Wrong>
+    ensures { Gives (λ values. items_view values.now) result (value_at as_array (table_view table.now) key (Some no_items)) }
+{
+    match found(table, key) {
+        Some(value) => match value.as_array() {
+            Some(array) => Ok(array.as_slice()),
+            None => Err(Wrong::of_other_kind(key)),
+        },
+        None => Ok(&[]),
+    }
+}
+
+fn are_tables(values: &[Value]) -> bool
+    ensures { result ≡ are_tables (items_view values.now) }
+{
+    all_tables(values)
+}
+
+fn all_tables(values: &[Value]) -> bool
+    ensures { result ≡ list_all is_table values.now }
+{
+    values.iter().all(|value| value.is_table())
+}
+
+/// The bridges of these tables.
+fn read_bridges(alloc: Global, values: &[Value]) -> Result<Vec<Node>, TopoFault>
+    requires { IsTrue (are_tables (items_view values.now)) }
+    ensures { Reads (λ nodes. nodes.items) result (all_of Section.Bridge bridge_of 0 (tables_of (items_view values.now))) }
+{
+    // More tables than a 32-bit number counts are more than memory holds.
+    if values.len() > u32::MAX as usize {
+        return Err(TopoFault::Memory);
+    }
+    let mut nodes = Vec::new(alloc);
+    for (i, value) in values.iter().enumerate() {
+        add_bridge(&mut nodes, i as u32, value)?;
+    }
+    Ok(nodes)
+}
+
+fn add_bridge(nodes: &mut Vec<Node>, index: u32, value: &Value) -> Result<(), TopoFault>
+    requires { IsTrue (is_table value.now) }
+    ensures { AddsTable nodes.old.items nodes.new.items result Section.Bridge bridge_of index value.now }
+{
+    let table = value.as_table().unwrap();
+    match read_bridge(table) {
+        Ok(node) => Ok(nodes.push(node)?),
+        Err(wrong) => Err(wrong.at(Section::Bridge, index)),
+    }
+}
+
+/// The switches or the endpoints of these tables.
+fn read_drafts(alloc: Global, group: Group, values: &[Value]) -> Result<Vec<Draft>, TopoFault>
+    requires { IsTrue (are_tables (items_view values.now)) }
+    ensures { Reads (λ drafts. drafts.items) result (all_of (section_of group) (draft_of group) 0 (tables_of (items_view values.now))) }
+{
+    if values.len() > u32::MAX as usize {
+        return Err(TopoFault::Memory);
+    }
+    let mut drafts = Vec::new(alloc);
+    for (i, value) in values.iter().enumerate() {
+        add_draft(&mut drafts, group, i as u32, value)?;
+    }
+    Ok(drafts)
+}
+
+fn add_draft(
+    drafts: &mut Vec<Draft>,
+    group: Group,
+    index: u32,
+    value: &Value,
+) -> Result<(), TopoFault>
+    requires { IsTrue (is_table value.now) }
+    ensures { AddsTable drafts.old.items drafts.new.items result (section_of group) (draft_of group) index value.now }
+{
+    let table = value.as_table().unwrap();
+    match group.read(table) {
+        Ok(draft) => Ok(drafts.push(draft)?),
+        Err(wrong) => Err(wrong.at(group.section(), index)),
+    }
+}
