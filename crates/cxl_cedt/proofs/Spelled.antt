@@ -186,7 +186,7 @@ length-spelling checksum c has =
     omega (arith, length-append (header (table_length c.records) checksum c.head) (flat_map record_spelling c.records), length-header (table_length c.records) checksum c.head has.head, texts_length (flat_map record_spelling c.records) c.records has.texts)
 
 pub spelled_table : (c : CedtFields) → HasText c → IsTableText (spelling c) c
-unfolding number_bytes
+unfolding number_bytes spelling
 spelled_table c has =
     let fits = has.head in
     let short = has.short in
@@ -220,11 +220,12 @@ spelled_table c has =
     }
 
 pub spelled_fits : (c : CedtFields) → HasText c → length (spelling c) ≤ 1048576
+unfolding spelling
 spelled_fits c has = let short = has.short in omega (arith, length-spelling (checksum_for (sum (spelling_with 0 c))) c has)
 
 -- the ninth byte makes the sum 0
 pub sealed : (c : CedtFields) (bytes : List ℕ) (total : ℕ) → bytes ≡ spelling_with 0 c → total ≡ sum bytes % 256 → set bytes 9 ((0 + (256 - total)) % 256) ≡ spelling c
-unfolding number_bytes
+unfolding number_bytes spelling
 sealed c bytes total is total_is =
     let checksum : (0 + (256 - total)) % 256 ≡ checksum_for (sum (spelling_with 0 c)) = ap (λ (n : ℕ). (0 + (256 - n)) % 256) (total_is ∙ ap (λ (t : List ℕ). sum t % 256) is) ∙ ap (λ (n : ℕ). n % 256) (zero_first (256 - sum (spelling_with 0 c) % 256)) in
     ap (λ (t : List ℕ). set t 9 ((0 + (256 - total)) % 256)) is ∙ ap (λ (n : ℕ). set (spelling_with 0 c) 9 n) checksum

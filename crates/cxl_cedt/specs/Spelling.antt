@@ -82,5 +82,5 @@ abbrev pub checksum_for : ℕ → ℕ
 checksum_for total = (256 - total % 256) % 256
 
 -- the table with its own checksum
-abbrev pub spelling : CedtFields → List ℕ
+unfoldable pub spelling : CedtFields → List ℕ
 spelling c = spelling_with (checksum_for (sum (spelling_with 0 c))) c

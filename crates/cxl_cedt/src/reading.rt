@@ -12,7 +12,9 @@ use crate::header::{head_of, header_fault};
 use crate::record_faults::{length_said, record_fault};
 use std::alloc::Global;
 
-/// The table that the bytes spell, or their first fault.
+/// The table that the bytes spell, or their first fault: of the header in the order of `CedtFault`, and
+/// then of the first record that has one. What a record does not name may hold anything. Takes memory for
+/// the records. (ACPI CEDT; the order of faults and the limits are this project's rule.)
 pub fn read(alloc: Global, bytes: &[u8]) -> Result<Cedt, CedtFault>
     requires { length bytes.now ≤ 1048576 }
     ensures table { IfOk result (λ cedt. IsTableText bytes.now cedt) }

@@ -18,7 +18,8 @@ use crate::other::Other;
 use cxl_enc::Memory;
 use std::alloc::Global;
 
-/// The bytes of the table, with its true length and checksum, and with reserved fields zero.
+/// The bytes of the table, with its true length and checksum, and with reserved fields zero; a record of
+/// another type keeps its reserved byte. Takes memory for them. (ACPI CEDT.)
 pub fn write(alloc: Global, cedt: &Cedt) -> Result<Vec<u8>, Memory>
     ensures spelling { IfOk result (λ bytes. bytes.items ≡ spelling cedt.now) }
     ensures fits { IfOk result (λ bytes. length bytes.items ≤ 1048576) }

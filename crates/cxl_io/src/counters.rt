@@ -3,7 +3,7 @@ ghost use Rattle.cxl_io.specs.Counters.{next_count, fresh_counters, fails_next};
 
 use std::marker::Model;
 
-/// The counters of an object in memory, and the numbers of its calls that are to fail, next_count from 1.
+/// The counters of an object in memory, and the numbers of its calls that are to fail, counted from 1.
 #[derive(Debug, Drop)]
 pub struct FailingCalls {
     fails: Vec<u64>,

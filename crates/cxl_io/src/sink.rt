@@ -24,8 +24,8 @@ pub trait Sink {
         ensures counts { faults self.old ≤ faults self.new };
 }
 
-/// Writes all the bytes, in as many writes as the sink needs. After a failure some bytes from the front
-/// are taken. Takes no memory.
+/// Writes all the bytes, in as many writes as the sink needs. After a failure some bytes from the front,
+/// but not all, are taken. Takes no memory.
 pub fn write_all<K: Sink>(sink: &mut K, bytes: &[u8]) -> Result<(), Failed>
     ensures ok { OnOk result (Takes (K.taken sink.old) (K.taken sink.new) bytes.now) }
     ensures failed { OnErr result (TakesPrefix (K.taken sink.old) (K.taken sink.new) bytes.now) }

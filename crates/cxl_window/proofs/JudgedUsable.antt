@@ -1,5 +1,5 @@
 -- What a verdict of Usable says.
-use Rattle.std.proofs.Common.{◌≡◌, ◌≢◌, ℕ, zero, suc, ◌+◌, ◌*◌, ◌%◌, ◌^◌, ◌<◌, Bool, true, false, List, [], ◌∷◌, ◌++◌, length, get_or, take, Option, Some, None, ltb, refl, sym, subst, append_assoc, unwrap_or, replicate, ◌-◌, arith}
+use Rattle.std.proofs.Common.{◌≡◌, ◌≢◌, ℕ, zero, suc, ◌+◌, ◌*◌, ◌%◌, ◌^◌, ◌<◌, Bool, true, false, cond, List, [], ◌∷◌, ◌++◌, length, get_or, take, Option, Some, None, ltb, refl, sym, subst, append_assoc, unwrap_or, replicate, ◌-◌, arith}
 use Rattle.std.specs.Prelude.{◌==◌, ◌&&◌, not, nat_lt, IsTrue, if◌then◌else◌}
 use Rattle.std.specs.List.{list_any}
 use Rattle.std.specs.Option.{option_map_or}
@@ -41,10 +41,10 @@ no_cause false false false false None None None e =
 not_among : (before : List ℕ) (u : ℕ) → list_any (λ v. v == u) before ≡ false → (k d : ℕ) → k < length before → get_or before k d ≢ u
 not_among before u none k d inside same = both_ways _ none (list_any_at (λ v. v == u) before k d inside (eq-eqb (get_or before k d) u same))
 
--- nothing is found by a test that finds something, nor by the others
-first_fails : (found : Bool) (u : ℕ) (others : Option ℕ) → (if found then Some u else others) ≡ None → (found ≡ false) × (others ≡ None)
-first_fails true u others e = cc
-first_fails false u others e = (refl, e)
+-- where nothing is found, the first test fails, and the others find nothing
+pub first_fails : {X : Type 0} (found : Bool) (x : X) (others : Option X) → cond found (Some x) others ≡ None → (found ≡ false) × (others ≡ None)
+first_fails true x others e = cc
+first_fails false x others e = (refl, e)
 
 -- behind different targets stand others that no earlier one equals
 AreDistinct-first_repeat : (before us : List ℕ) → AreDistinct before → first_repeat before us ≡ None → AreDistinct (before ++ us)

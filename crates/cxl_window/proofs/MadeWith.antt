@@ -1,5 +1,5 @@
 -- The windows judged with a topology's bridges are made with them.
-use Rattle.std.proofs.Common.{◌≡◌, ℕ, zero, suc, ◌+◌, ◌<◌, ◌≤◌, min, max, Bool, true, false, cond, List, [], ◌∷◌, ◌++◌, length, get_or, Option, Some, None, ⊎_elim, refl, sym, ap, subst, ◌∙◌, arith}
+use Rattle.std.proofs.Common.{◌≡◌, ℕ, zero, suc, ◌+◌, ◌<◌, ◌≤◌, min, max, Bool, true, false, List, [], ◌∷◌, ◌++◌, length, get_or, Some, None, ⊎_elim, refl, sym, ap, subst, ◌∙◌, arith}
 use Rattle.std.specs.Prelude.{◌==◌, not, find, position, slice_get, All, Contains}
 use Rattle.std.specs.List.{list_any, position_from, filter_map}
 use Rattle.std.proofs.lemmas.List.{length-append}
@@ -14,25 +14,20 @@ use Rattle.cxl_window.specs.declared.window.Verdict.{Verdict}
 use Rattle.cxl_window.specs.declared.window.Verdict.TheVariants.{Usable}
 use Rattle.cxl_window.specs.Fields.{WindowFields, IsUsable}
 use Rattle.cxl_window.specs.Windows.{cfmws_in, maps_in, maps_of, is_bridge, is_missing, overlaps, ranges_meet, verdict_of, window_with, window_of, windows_from, windows_of, AreMadeWith}
-use Rattle.cxl_window.proofs.JudgedUsable.{judged-Usable, IsJudgedUsable}
+use Rattle.cxl_window.proofs.JudgedUsable.{first_fails, judged-Usable, IsJudgedUsable}
 
 -- ---- searches that find nothing
-
--- a first test that fails, and the others
-fails : {X : Type 0} (b : Bool) (x : X) (others : Option X) → cond b (Some x) others ≡ None → (b ≡ false) × (others ≡ None)
-fails true x others e = cc
-fails false x others e = (refl, e)
 
 find-none : (p : ℕ → Bool) (xs : List ℕ) → find p xs ≡ None → All (λ x. p x ≡ false) xs
 find-none p [] none = All-nil (λ x. p x ≡ false)
 find-none p (x ∷ xs) none =
-    let rest = fails (p x) x (find p xs) none in
+    let rest = first_fails (p x) x (find p xs) none in
     All-cons (λ y. p y ≡ false) x xs rest.0 (find-none p xs rest.1)
 
 position_from-none : {X : Type 0} (p : X → Bool) (i : ℕ) (xs : List X) → position_from p i xs ≡ None → All (λ x. p x ≡ false) xs
 position_from-none p i [] none = All-nil (λ x. p x ≡ false)
 position_from-none p i (x ∷ xs) none =
-    let rest = fails (p x) i (position_from p (i + 1) xs) none in
+    let rest = first_fails (p x) i (position_from p (i + 1) xs) none in
     All-cons (λ y. p y ≡ false) x xs rest.0 (position_from-none p (i + 1) xs rest.1)
 
 position-none : {X : Type 0} (p : X → Bool) (xs : List X) → position p xs ≡ None → All (λ x. p x ≡ false) xs

@@ -2,7 +2,7 @@
 use Rattle.std.proofs.Common.{◌≡◌, ℕ, suc, ◌+◌, ◌≤◌, Bool, cond, List, [], ◌∷◌, ◌++◌, length, take, drop, Option, Some, refl, sym, ap, ◌∙◌, append_assoc, arith}
 use Rattle.std.specs.Prelude.{position, find, ◌==◌}
 use Rattle.std.specs.List.{filter_map, position_from}
-use Rattle.std.proofs.lemmas.List.{append-nil, length-append, take-append-drop}
+use Rattle.std.proofs.lemmas.List.{append-nil, length-append, take-append-drop, take_all}
 use Rattle.std.proofs.lemmas.List.Elements.{filter_map-append}
 use Rattle.std.proofs.lemmas.List.Sums.{sum_by-cons}
 use Rattle.std.proofs.lemmas.Iterator.Adapters.{position_from-zero}
@@ -12,7 +12,7 @@ use Rattle.cxl_cedt.specs.declared.cedt.Record.{Record}
 use Rattle.cxl_cedt.specs.declared.cedt.Record.TheVariants.{Chbs, Cfmws, Cxims, Other}
 use Rattle.cxl_window.specs.Fields.{WindowFields}
 use Rattle.cxl_window.specs.Judging.{is_no_bridge}
-use Rattle.cxl_window.specs.Windows.{cfmws_in, cxims_in, first_maps, maps_in, maps_of, overlaps, judged, ranges_meet, is_missing, window_with, window_of, windows_from}
+use Rattle.cxl_window.specs.Windows.{cfmws_in, cxims_in, first_maps, maps_in, maps_of, overlaps, judged, ranges_meet, is_missing, window_with, window_of, windows_from, windows_of}
 
 -- tests that agree find the same
 find-agree : (p q : ℕ → Bool) → ((x : ℕ) → p x ≡ q x) → (xs : List ℕ) → find p xs ≡ find q xs
@@ -92,3 +92,12 @@ few_in_front records i few =
     let all : filter_map cfmws_in records ≡ front ++ filter_map cfmws_in (drop i records) =
     ap (filter_map cfmws_in) (sym (take-append-drop i records)) ∙ filter_map-append cfmws_in (take i records) (drop i records) in
     omega (arith, length-cfmws_in records, ap length all, length-append front (filter_map cfmws_in (drop i records)))
+
+-- at the end of the records stand all windows of the table
+pub windows_at_end : (records table : List Record) (uids : Option (List ℕ)) (i : ℕ) (ws : List WindowFields) → records ≡ table → length records ≤ i
+    → ws ≡ windows_from records uids [] (filter_map cfmws_in (take i records)) → ws ≡ windows_of table uids
+windows_at_end records table uids i ws same end ws-are =
+    ws-are ∙ ap (λ (rs : List Record). windows_from records uids [] (filter_map cfmws_in rs)) (take_all i records end) ∙ ap (λ (rs : List Record). windows_of rs uids) same
+
+pub length-windows_of : (records : List Record) (uids : Option (List ℕ)) → length (windows_of records uids) ≡ length (filter_map cfmws_in records)
+length-windows_of records uids = length-windows_from records uids [] (filter_map cfmws_in records)

@@ -1,8 +1,13 @@
--- What windows are judged against, as the code holds it.
-use Rattle.std.specs.Prelude.{ℕ, ◌==◌, not, Bool, List, map}
+-- What windows are judged against, as the code holds it, and what it makes of that.
+use Rattle.std.specs.Prelude.{◌≡◌, ℕ, ◌==◌, not, Bool, List, map, length, find, position, Option}
 use Rattle.std.specs.Borrow.{Bor}
-use Rattle.std.specs.List.{list_any}
-use Rattle.cxl_cedt.specs.Fields.{CximsFields}
+use Rattle.std.specs.List.{list_any, filter_map}
+use Rattle.cxl_cedt.specs.Fields.{CfmwsFields, CximsFields}
+use Rattle.cxl_cedt.specs.declared.cedt.Record.{Record}
+use Rattle.cxl_window.specs.declared.judge.Judge.{Judge}
+use Rattle.cxl_window.specs.declared.window.Verdict.{Verdict}
+use Rattle.cxl_window.specs.Fields.{WindowFields}
+use Rattle.cxl_window.specs.Windows.{cxims_in, is_missing, first_maps, maps_of, judged, ranges_meet, window_with}
 
 -- none of the bridges has the UID
 abbrev pub is_no_bridge : List ℕ → ℕ → Bool
@@ -11,3 +16,21 @@ is_no_bridge bridges uid = not (list_any (λ b. b == uid) bridges)
 -- the tables that the references point to
 abbrev pub tables_behind : List (Bor CximsFields) → List CximsFields
 tables_behind tables = map (λ c. c.now) tables
+
+-- the judge has the bridges that can be targets, and the tables of maps in their order
+pub record IsJudgeOf (judge : Judge) (records : List Record) (uids : Option (List ℕ)) : Type 0 where
+  pub bridges : (uid : ℕ) → is_no_bridge judge.bridges.items uid ≡ is_missing records uids uid
+  pub tables : tables_behind judge.tables.items ≡ filter_map cxims_in records
+
+-- the maps of a granularity code
+abbrev pub maps_known : Judge → ℕ → Option (List ℕ)
+maps_known judge gran = first_maps gran (tables_behind judge.tables.items)
+
+-- the verdict of a window behind those before it, and the window with it
+abbrev pub verdict_by : Judge → List WindowFields → CfmwsFields → Verdict
+verdict_by judge before c =
+    judged (position (λ w. ranges_meet c.base c.size w.base w.size) before)
+    (find (is_no_bridge judge.bridges.items) c.targets) (maps_known judge c.gran) c
+
+abbrev pub window_by : Judge → List WindowFields → CfmwsFields → WindowFields
+window_by judge before c = window_with (length before) (maps_of (maps_known judge c.gran) c) (verdict_by judge before c) c

@@ -125,7 +125,9 @@ windows_of records uids = windows_from records uids [] (filter_map cfmws_in reco
 
 -- two usable ones share no address
 abbrev pub AreApart : WindowFields → WindowFields → Type 0
-AreApart w v = (h : ℕ) → w.verdict ≡ Usable → v.verdict ≡ Usable → w.base ≤ h → h < w.base + w.size → v.base ≤ h → h < v.base + v.size → w.index ≡ v.index
+AreApart w v =
+    (h : ℕ) → w.verdict ≡ Usable → v.verdict ≡ Usable → w.base ≤ h → h < w.base + w.size
+    → v.base ≤ h → h < v.base + v.size → w.index ≡ v.index
 
 pub record AreMadeWith (windows : List WindowFields) (bridges : List ℕ) : Type 0 where
   pub indexed : (i : ℕ) (w : WindowFields) → slice_get windows i ≡ Some w → w.index ≡ i

@@ -1,8 +1,8 @@
-ghost use Rattle.std.specs.Prelude.{◌≡◌, ◌≤◌, ℕ, length, IfOk, find, position, unwrap_or, []};
+ghost use Rattle.std.specs.Prelude.{◌≡◌, ◌≤◌, ℕ, length, IfOk, find, unwrap_or, []};
 ghost use Rattle.std.specs.Option.{option_copied};
 ghost use Rattle.std.specs.List.{filter_map};
 ghost use Rattle.cxl_window.specs.Judging.{is_no_bridge, tables_behind};
-ghost use Rattle.cxl_window.specs.Windows.{is_missing, topology_has, cxims_in, first_maps, judged, ranges_meet, lacks_maps, maps_of, window_with};
+ghost use Rattle.cxl_window.specs.Windows.{is_missing, topology_has, cxims_in, lacks_maps, maps_of};
 
 use crate::cfmws::{first_overlapped, first_repeat, is_aligned, is_too_high, is_uneven, ways_in};
 use crate::window::{Verdict, Window};
@@ -21,14 +21,15 @@ pub(crate) struct Judge<'a> {
 }
 
 impl<'a> Judge<'a> {
+    ghost use Rattle.cxl_window.specs.Judging.{IsJudgeOf, maps_known, verdict_by, window_by};
+
     /// The bridges and the XOR maps of a table. `uids` are the bridges of the topology, where there is one.
     pub(crate) fn new(
         alloc: Global,
         records: &'a [Record],
         uids: Option<&[u32]>,
     ) -> Result<Judge<'a>, Memory>
-        ensures bridges { IfOk result (λ judge. (uid : ℕ) → is_no_bridge judge.bridges.items uid ≡ is_missing records.now (option_copied uids.entry) uid) }
-        ensures tables { IfOk result (λ judge. tables_behind judge.tables.items ≡ filter_map cxims_in records.now) }
+        ensures { IfOk result (λ judge. IsJudgeOf judge records.now (option_copied uids.entry)) }
     {
         let bridges = bridges_of(alloc, records, uids)?;
         let tables = tables_of(alloc, records)?;
@@ -43,7 +44,7 @@ impl<'a> Judge<'a> {
         cfmws: &Cfmws,
     ) -> Result<Window, Memory>
         requires few { length before.now ≤ 64 }
-        ensures { IfOk result (λ w. w ≡ window_with (length before.now) (maps_of (first_maps cfmws.now.gran (tables_behind self.now.tables.items)) cfmws.now) (judged (position (λ v. ranges_meet cfmws.now.base cfmws.now.size v.base v.size) before.now) (find (is_no_bridge self.now.bridges.items) cfmws.now.targets) (first_maps cfmws.now.gran (tables_behind self.now.tables.items)) cfmws.now) cfmws.now) }
+        ensures { IfOk result (λ w. w ≡ window_by self.now before.now cfmws.now) }
     {
         let verdict = self.verdict(before, cfmws);
         let maps = self.used_maps(cfmws);
@@ -53,7 +54,7 @@ impl<'a> Judge<'a> {
     /// The first verdict that holds of a window behind those before it in the table.
     fn verdict(&self, before: &[Window], cfmws: &Cfmws) -> Verdict
         requires few { length before.now ≤ 64 }
-        ensures { result ≡ judged (position (λ w. ranges_meet cfmws.now.base cfmws.now.size w.base w.size) before.now) (find (is_no_bridge self.now.bridges.items) cfmws.now.targets) (first_maps cfmws.now.gran (tables_behind self.now.tables.items)) cfmws.now }
+        ensures { result ≡ verdict_by self.now before.now cfmws.now }
     {
         if !is_aligned(cfmws) {
             return Verdict::Align;
@@ -91,7 +92,7 @@ impl<'a> Judge<'a> {
 
     /// Whether the XOR maps that the window needs are missing, too few or not usable.
     fn lacks_maps(&self, cfmws: &Cfmws) -> bool
-        ensures { result ≡ lacks_maps (first_maps cfmws.now.gran (tables_behind self.now.tables.items)) cfmws.now }
+        ensures { result ≡ lacks_maps (maps_known self.now cfmws.now.gran) cfmws.now }
     {
         let bits = split(ways_in(cfmws)).bits;
         cfmws.xor() && bits > 0 && !are_usable_maps(cfmws.gran(), bits, self.maps_of(cfmws.gran()))
@@ -99,7 +100,7 @@ impl<'a> Judge<'a> {
 
     /// The maps that the window uses, and zeros.
     fn used_maps(&self, cfmws: &Cfmws) -> [u64; 4]
-        ensures { result ≡ maps_of (first_maps cfmws.now.gran (tables_behind self.now.tables.items)) cfmws.now }
+        ensures { result ≡ maps_of (maps_known self.now cfmws.now.gran) cfmws.now }
     {
         if cfmws.xor() {
             let bits = split(ways_in(cfmws)).bits;
@@ -110,7 +111,7 @@ impl<'a> Judge<'a> {
 
     /// The maps of the first table of a granularity code, none where there is no table.
     fn maps_of(&self, gran: u8) -> &[u64]
-        ensures { result.now ≡ unwrap_or (first_maps gran (tables_behind self.now.tables.items)) [] }
+        ensures { result.now ≡ unwrap_or (maps_known self.now gran) [] }
     {
         for table in &self.tables {
             if table.gran() == gran {
@@ -123,14 +124,16 @@ impl<'a> Judge<'a> {
 
 /// The UIDs of the CXL 2.0 bridges of a table, those of the topology where there is one.
 fn bridges_of(alloc: Global, records: &[Record], uids: Option<&[u32]>) -> Result<Vec<u32>, Memory>
-    ensures { IfOk result (λ bridges. (uid : ℕ) → is_no_bridge bridges.items uid ≡ is_missing records.now (option_copied uids.entry) uid) }
+    ensures { IfOk result (λ bridges. (uid : ℕ)
+        → is_no_bridge bridges.items uid ≡ is_missing records.now (option_copied uids.entry) uid) }
 {
     let mut bridges = Vec::new(alloc);
     for record in records {
-        if let Record::Chbs(chbs) = record {
-            if chbs.version == 1 && topology_has(uids, chbs.uid) {
-                bridges.push(chbs.uid)?;
-            }
+        if let Record::Chbs(chbs) = record
+            && chbs.version == 1
+            && topology_has(uids, chbs.uid)
+        {
+            bridges.push(chbs.uid)?;
         }
     }
     Ok(bridges)

@@ -28,8 +28,11 @@ pub fn unxor(window: &Window, h: u64, low: u32) -> u32
     requires low { low < 2 ^ bits_of window.now.ways }
     ensures few { result < 2 ^ bits_of window.now.ways }
     ensures plain { OnFalse window.now.xor (result ≡ low) }
-    ensures parities { OnTrue window.now.xor (parities_of window.now (with_raw_bits window.now h result) ≡ low) }
-    ensures only { OnTrue window.now.xor ((raw : ℕ) → raw < 2 ^ bits_of window.now.ways → parities_of window.now (with_raw_bits window.now h raw) ≡ low → raw ≡ result) }
+    ensures parities { OnTrue window.now.xor
+        (parities_of window.now (with_raw_bits window.now h result) ≡ low) }
+    // No other raw bits give these parities.
+    ensures only { OnTrue window.now.xor ((raw : ℕ) → raw < 2 ^ bits_of window.now.ways
+        → parities_of window.now (with_raw_bits window.now h raw) ≡ low → raw ≡ result) }
 {
     if !window.xor() {
         return low;

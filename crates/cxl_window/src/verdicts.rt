@@ -1,6 +1,7 @@
-ghost use Rattle.std.specs.Prelude.{◌≡◌, List, ℕ, Some, IfOk};
+ghost use Rattle.std.specs.Prelude.{◌≡◌, List, ℕ, Some, length, vec_len, IfOk};
+ghost use Rattle.std.specs.List.{filter_map};
 ghost use Rattle.std.specs.Option.{option_copied};
-ghost use Rattle.cxl_window.specs.Windows.{windows_of, AreMadeWith};
+ghost use Rattle.cxl_window.specs.Windows.{cfmws_in, windows_of, AreMadeWith};
 
 use crate::judge::Judge;
 use crate::window::Window;
@@ -11,8 +12,12 @@ use std::alloc::Global;
 /// The windows of a table in its order, each with its verdict. `uids` are the bridges of the topology,
 /// where there is one.
 pub fn windows(alloc: Global, cedt: &Cedt, uids: Option<&[u32]>) -> Result<Vec<Window>, Memory>
-    ensures windows { IfOk result (λ ws. ws.items ≡ windows_of cedt.now.records (option_copied uids.entry)) }
-    ensures made { IfOk result (λ ws. (bridges : List ℕ) → option_copied uids.entry ≡ Some bridges → AreMadeWith ws.items bridges) }
+    ensures windows { IfOk result
+        (λ ws. ws.items ≡ windows_of cedt.now.records (option_copied uids.entry)) }
+    ensures one_each { IfOk result
+        (λ ws. vec_len ws ≡ length (filter_map cfmws_in cedt.now.records)) }
+    ensures made { IfOk result (λ ws. (bridges : List ℕ)
+        → option_copied uids.entry ≡ Some bridges → AreMadeWith ws.items bridges) }
 {
     let records = cedt.records();
     let judge = Judge::new(alloc, records, uids)?;

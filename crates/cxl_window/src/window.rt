@@ -133,7 +133,8 @@ impl Window {
     pub fn maps(&self) -> &[u64]
         ensures value { result.now ≡ self.now.maps }
         ensures four { length self.now.maps ≡ 4 }
-        ensures usable { self.now.verdict ≡ Usable → IsTrue self.now.xor → IsTrue (are_usable_maps self.now.gran (bits_of self.now.ways) self.now.maps) }
+        ensures usable { self.now.verdict ≡ Usable → IsTrue self.now.xor
+            → IsTrue (are_usable_maps self.now.gran (bits_of self.now.ways) self.now.maps) }
     {
         &self.maps
     }

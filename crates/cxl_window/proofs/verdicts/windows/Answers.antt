@@ -1,13 +1,11 @@
-use Rattle.std.proofs.Common.{◌≡◌, List, [], length, take, sym, ap, subst, ◌∙◌}
-use Rattle.std.proofs.lemmas.List.{take_all}
-use Rattle.cxl_cedt.specs.declared.cedt.Record.{Record}
+use Rattle.std.proofs.Common.{List, [], length, take, sym, ap, subst, ◌∙◌}
 use Rattle.std.specs.List.{filter_map}
 use Rattle.std.specs.Option.{option_copied}
 use Rattle.cxl_window.specs.Fields.{WindowFields}
 use Rattle.cxl_window.specs.Judging.{tables_behind}
 use Rattle.cxl_window.specs.Windows.{cfmws_in, windows_from, windows_of, AreMadeWith}
 use Rattle.cxl_window.proofs.FilterMaps.{filter_map_more_some, filter_map_more_none, cfmws_in-other}
-use Rattle.cxl_window.proofs.WindowLists.{windows_from-next, length-windows_from, window_of-judged, few_in_front}
+use Rattle.cxl_window.proofs.WindowLists.{windows_from-next, length-windows_from, window_of-judged, few_in_front, windows_at_end, length-windows_of}
 use Rattle.cxl_window.proofs.MadeWith.{windows_made}
 use Rattle.cxl_window.proofs.verdicts.windows.Goals as goal
 use Rattle.cxl_window.proofs.verdicts.windows.Goals.{in-Cfmws+in_ok-window+in_ok-push, in_default}
@@ -40,10 +38,18 @@ loop-record-preserved c =
           rw w.windows-is (c.loop-record.invariant ∙ ap (windows_from records uids []) (sym more))
     ]
 
+pub returns-clause-one_each : goal.returns-clause-one_each
+returns-clause-one_each c =
+    let table = c.args.cedt.now.records in
+    let uids = option_copied c.args.uids in
+    let ws = c.loop-record.windows in
+    let all = windows_at_end c.records-records.result.now table uids c.loop-record.record-index ws.items c.records-records.ensures.value c.loop-record-test.false c.loop-record.invariant in
+    ws.ok.0 ∙ ap length all ∙ length-windows_of table uids
+
 pub returns-clause-made : goal.returns-clause-made
 returns-clause-made c = λ bridges given.
-    let records = c.args.cedt.now.records in
+    let table = c.args.cedt.now.records in
     let uids = option_copied c.args.uids in
-    let end : take c.loop-record.record-index records ≡ records = take_all c.loop-record.record-index records (rw (← c.records-records.ensures.value) c.loop-record-test.false) in
-    let all : c.loop-record.windows.items ≡ windows_of records uids = (rw c.records-records.ensures.value at c.loop-record.invariant) ∙ ap (λ (rs : List Record). windows_from records uids [] (filter_map cfmws_in rs)) end in
-    subst (λ (ws : List WindowFields). AreMadeWith ws bridges) (sym (all ∙ ap (windows_of records) given)) (windows_made records bridges)
+    let ws = c.loop-record.windows.items in
+    let all = windows_at_end c.records-records.result.now table uids c.loop-record.record-index ws c.records-records.ensures.value c.loop-record-test.false c.loop-record.invariant in
+    subst (λ (vs : List WindowFields). AreMadeWith vs bridges) (sym (all ∙ ap (windows_of table) given)) (windows_made table bridges)
