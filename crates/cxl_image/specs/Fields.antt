@@ -35,11 +35,11 @@ abbrev pub has_magic : List ℕ → Bool
 has_magic bytes = starts_with nat_eq bytes (codes "CXLHDM01")
 
 -- the word at a byte place, lowest byte first
-abbrev pub word_from : List ℕ → ℕ → ℕ
+unfoldable pub word_from : List ℕ → ℕ → ℕ
 word_from bytes at = little_number 4 (drop at bytes)
 
 -- so many words, one after the other
-abbrev pub words_from : List ℕ → ℕ → ℕ → List ℕ
+unfoldable pub words_from : List ℕ → ℕ → ℕ → List ℕ
 words_from bytes at n = map (λ k. word_from bytes (at + 4 * k)) (range_with_len 0 n)
 
 -- the number of nodes that the file states

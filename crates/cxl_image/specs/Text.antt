@@ -10,7 +10,7 @@ unfoldable pub word_bytes : ℕ → List ℕ
 word_bytes n = little_bytes 4 n
 
 -- words, one after the other
-abbrev pub words_text : List ℕ → List ℕ
+unfoldable pub words_text : List ℕ → List ℕ
 words_text words = flat_map word_bytes words
 
 -- all words of a block, from offset 0 on

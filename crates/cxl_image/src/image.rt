@@ -5,9 +5,10 @@ ghost use Rattle.cxl_regs.specs.Writes.{outcome_of};
 ghost use Rattle.cxl_topo.specs.declared.node.Node.{Node};
 ghost use Rattle.cxl_image.specs.Images.{reset_blocks, IsImage, HasCapsOf};
 
+use crate::nodes::is_endpoint;
 use cxl_enc::Memory;
-use cxl_regs::{Block, Effect, copies};
-use cxl_topo::{NodeKind, Topo};
+use cxl_regs::{Block, Effect, copies, write_laws};
+use cxl_topo::Topo;
 use std::alloc::Global;
 use std::marker::Model;
 
@@ -38,8 +39,7 @@ impl Image {
         let mut blocks = Vec::with_capacity(alloc, topo.count() as usize)?;
         for i in 0..topo.count() {
             let node = topo.node(i);
-            let endpoint = matches!(node.kind, NodeKind::Endpoint(_));
-            blocks.push(Block::new(alloc, node.cap, endpoint)?)?;
+            blocks.push(Block::new(alloc, node.cap, is_endpoint(node))?)?;
         }
         Ok(Image { blocks })
     }
@@ -94,6 +94,7 @@ impl Image {
         ensures others { (i : ℕ) → i ≢ node → slice_get self.new i ≡ slice_get self.old i }
         ensures same_caps { (nodes : List Node) → HasCapsOf self.old nodes → HasCapsOf self.new nodes }
     {
+        write_laws();
         self.blocks[node as usize].write32(off, value)
     }
 }

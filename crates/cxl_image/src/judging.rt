@@ -1,13 +1,13 @@
 //! The first fault of an image file.
 
 ghost use Rattle.std.specs.Prelude.{◌≡◌, ◌+◌, ◌<◌, ◌≤◌, length, slice_get, Some, IfSome, IfNone};
-ghost use Rattle.cxl_image.specs.Fields.{start_of, end_of, block_size, has_magic};
+ghost use Rattle.cxl_image.specs.Fields.{start_of, end_of, has_magic};
 ghost use Rattle.cxl_image.specs.File.{AgreesUpTo, IsFirstImageFault};
 
 use crate::fault::ImageFault;
+use crate::nodes::block_size;
 use crate::words::{named_bits, word_from};
-use cxl_regs::decoder_count;
-use cxl_topo::{Node, Topo};
+use cxl_topo::Topo;
 
 /// The bytes that every image file begins with.
 pub const MAGIC: &[u8; 8] = b"CXLHDM01";
@@ -91,12 +91,4 @@ fn block_fault(bytes: &[u8], topo: &Topo, i: u32, at: usize) -> Option<ImageFaul
         return Some(ImageFault::Cut(len as u32));
     }
     None
-}
-
-/// How many bytes the words of a node's block take.
-pub fn block_size(node: &Node) -> usize
-    ensures size { result ≡ block_size node.now }
-    ensures few { result ≤ 336 }
-{
-    16 + 32 * decoder_count(node.cap) as usize
 }

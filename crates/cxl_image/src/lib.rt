@@ -5,13 +5,14 @@ mod fault;
 mod image;
 mod judging;
 mod laws;
+mod nodes;
 mod reading;
 mod words;
 mod writing;
 
 pub use fault::ImageFault;
 pub use image::Image;
-pub use laws::one_reading;
+pub use laws::{image_laws, one_reading};
 pub use reading::read_image;
 pub use writing::write_image;
 

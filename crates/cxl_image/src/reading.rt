@@ -1,22 +1,24 @@
 //! The reader.
 
-ghost use Rattle.std.specs.Prelude.{◌≡◌, ◌+◌, ◌*◌, ◌≤◌, IsTrue, List, length, map, All, Ok, Err, IfOk, IfErr};
+ghost use Rattle.std.specs.Prelude.{◌≡◌, ◌+◌, ◌*◌, ◌≤◌, IsTrue, not, ◌||◌, List, length, map, All, Ok, Err, IfOk, IfErr};
 ghost use Rattle.std.specs.List.{range_with_len};
 ghost use Rattle.cxl_enc.specs.Caps.{is_legal_cap};
 ghost use Rattle.cxl_regs.specs.Registers.{Registers, IsBlock, IsDecoder};
+ghost use Rattle.cxl_regs.specs.Words.{has_bit};
 ghost use Rattle.cxl_topo.specs.Kinds.{is_endpoint};
 ghost use Rattle.cxl_image.specs.declared.fault.ImageFault.{ImageFault};
 ghost use Rattle.cxl_image.specs.Images.{HasCapsOf};
-ghost use Rattle.cxl_image.specs.Fields.{end_of, block_size, decoder_from, block_from};
+ghost use Rattle.cxl_image.specs.Fields.{end_of, block_size, word_from, decoder_from, block_from};
 ghost use Rattle.cxl_image.specs.File.{AgreesUpTo, IsImageFile, IsFirstImageFault, IsFaultOf, IsAnswer};
 
 use crate::fault::ImageFault;
 use crate::image::Image;
-use crate::judging::{HEAD, block_size, first_fault};
+use crate::judging::{HEAD, first_fault};
+use crate::nodes::{block_size, is_endpoint};
 use crate::words::{decoder_words, word_from};
 use cxl_enc::Memory;
 use cxl_regs::{Block, Decoder, decoder_count, decoder_of};
-use cxl_topo::{Node, NodeKind, Topo};
+use cxl_topo::{Node, Topo};
 use std::alloc::Global;
 
 /// The image of a file for a topology, or the file's first fault. Reserved bits and words, all of a port's word 0x4 and
@@ -68,12 +70,19 @@ fn block_from(alloc: Global, bytes: &[u8], at: usize, node: &Node) -> Result<Blo
     ensures value { IfOk result (λ block. block ≡ block_from bytes.now at node.now) }
     ensures block { IfOk result (λ block. IsBlock block) }
 {
-    let endpoint = matches!(node.kind, NodeKind::Endpoint(_));
-    let control = word_from(bytes, at + 4);
-    let enabled = !endpoint || (control >> 1) & 1 == 1;
+    let endpoint = is_endpoint(node);
+    let enabled = decodes(bytes, at, endpoint);
     let count = decoder_count(node.cap) as usize;
     let decoders = decoders_from(alloc, bytes, at + 16, count, endpoint)?;
     Ok(Block::with_decoders(node.cap, endpoint, enabled, decoders))
+}
+
+/// Whether the block that begins at byte place `at` decodes.
+fn decodes(bytes: &[u8], at: usize, endpoint: bool) -> bool
+    requires { at + 8 ≤ length bytes.now }
+    ensures { result ≡ (not endpoint || has_bit (word_from bytes.now (at + 4)) 1) }
+{
+    !endpoint || (word_from(bytes, at + 4) >> 1) & 1 == 1
 }
 
 /// So many decoders, of which the first begins at byte place `at`.

@@ -8,6 +8,7 @@ use byteorder::{ByteOrder, LittleEndian};
 use cxl_enc::Memory;
 
 /// The word at a byte place.
+#[tactic(auto, unfolding(crate::specs::Fields::word_from))]
 pub fn word_from(bytes: &[u8], at: usize) -> u32
     requires { at + 4 ≤ length bytes.now }
     ensures { result ≡ word_from bytes.now at }
@@ -30,7 +31,9 @@ pub fn decoder_words(bytes: &[u8], at: usize) -> [u32; 8]
 pub fn named_bits(cap: u32) -> u32
     ensures { result ≡ named_bits cap }
 {
-    (cap & 0x3ff) + (cap & 0x1800)
+    let low = cap & 0x3ff;
+    let ways = (cap >> 11) & 0x3;
+    low + (ways << 11)
 }
 
 /// Appends a word.
@@ -45,6 +48,7 @@ pub fn put_word(out: &mut Vec<u8>, word: u32) -> Result<(), Memory>
 }
 
 /// Appends words, one after the other.
+#[tactic(auto, unfolding(crate::specs::Text::words_text))]
 pub fn put_words(out: &mut Vec<u8>, words: &[u32]) -> Result<(), Memory>
     ensures { OnOk result (out.new.items ≡ out.old.items ++ words_text words.now) }
 {
