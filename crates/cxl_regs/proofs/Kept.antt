@@ -69,7 +69,10 @@ low_tail false d v lt is = let wide = is.tail in record { base = is.base; size =
 
 high_tail : (endpoint : Bool) (d : Decoder) (v : ℕ) → v < 2 ^ 32 → IsDecoder endpoint d → IsDecoder endpoint (record d { tail = with_high d.tail v })
 high_tail endpoint d v lt is = record {
-  base = is.base; size = is.size; ways = is.ways; gran = is.gran;
+  base = is.base;
+  size = is.size;
+  ways = is.ways;
+  gran = is.gran;
   tail = omega arith;
   skip = λ e. let multiple = is.skip e in omega arith;
 }
@@ -106,12 +109,14 @@ dropped_sound : (block : Registers) → IsBlock block → IsSound (dropped block
 dropped_sound block is = record { block = is }
 
 put_sound : (block : Registers) (i : ℕ) (d : Decoder) (effect : Effect) → IsBlock block → IsDecoder block.endpoint d → IsSound record { block = with_decoder block i d; effect = effect }
-put_sound block i d effect is decoder = record { block = record {
-  cap = is.cap;
-  enabled = is.enabled;
-  count = length-set block.decoders i d ∙ is.count;
-  each = All-set (IsDecoder block.endpoint) block.decoders i d decoder is.each;
-} }
+put_sound block i d effect is decoder = record {
+  block = record {
+    cap = is.cap;
+    enabled = is.enabled;
+    count = length-set block.decoders i d ∙ is.count;
+    each = All-set (IsDecoder block.endpoint) block.decoders i d decoder is.each;
+  };
+}
 
 commit_sound : (block : Registers) (i : ℕ) (d : Decoder) (rule : Option CommitRule) → IsBlock block → IsDecoder block.endpoint d → IsSound (commit_outcome block i d rule)
 commit_sound block i d None is decoder = put_sound block i _ Committed is ((marks block.endpoint d decoder).marked true true false)
