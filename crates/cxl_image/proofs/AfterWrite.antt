@@ -1,10 +1,10 @@
 -- The blocks after a write to one of them.
-use Rattle.std.proofs.Common.{◌≡◌, ◌≢◌, ℕ, ◌+◌, ◌^◌, ◌<◌, ◌≤◌, List, length, Some, None, refl, sym, ap, subst, ◌∙◌, ◌⊎◌, inl, inr, arith}
+use Rattle.std.proofs.Common.{◌≡◌, ◌≢◌, ℕ, ◌^◌, ◌<◌, List, Some, sym, ap, subst, ◌∙◌, ◌⊎◌, inl, inr, arith}
 use Rattle.std.proofs.lemmas.Bool.{cases_lt}
 use Rattle.std.proofs.lemmas.List.{length-set}
 use Rattle.std.proofs.lemmas.List.Elements.{All-set}
 use Rattle.std.proofs.lemmas.Option.{same_Some, slice_get_within, slice_get_cases, get_or_from_slice_get}
-use Rattle.std.specs.Prelude.{slice_get, slice_set, All, IsSomeAnd}
+use Rattle.std.specs.Prelude.{slice_get, slice_set, IsSomeAnd}
 use Rattle.cxl_regs.specs.declared.effect.Effect.{Effect}
 use Rattle.cxl_regs.specs.Registers.{Registers, IsBlock, IsSameShape}
 use Rattle.cxl_regs.specs.Writes.{WritesWord, outcome_of}

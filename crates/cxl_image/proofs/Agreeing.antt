@@ -1,10 +1,10 @@
 -- How far a file agrees with its topology.
-use Rattle.std.proofs.Common.{◌≡◌, ℕ, ◌+◌, ◌<◌, ◌≤◌, List, length, Some, ap, sym, ◌∙◌, refl, subst, ◌⊎◌, inl, inr, arith}
+use Rattle.std.proofs.Common.{◌≡◌, ℕ, ◌+◌, ◌<◌, ◌≤◌, List, length, Some, ap, sym, ◌∙◌, refl, subst, inl, inr, arith}
 use Rattle.std.proofs.lemmas.Bool.{cases_lt}
 use Rattle.std.proofs.lemmas.Option.{same_Some}
 use Rattle.std.specs.Prelude.{slice_get}
 use Rattle.cxl_topo.specs.declared.node.Node.{Node}
-use Rattle.cxl_image.specs.Fields.{block_size, start_of, end_of, word_from, named_bits}
+use Rattle.cxl_image.specs.Fields.{block_size, start_of, word_from, named_bits}
 use Rattle.cxl_image.specs.File.{AgreesUpTo, IsCut}
 use Rattle.cxl_image.proofs.Places.{start_next, start_le, start_before, ends_within, block_long}
 

@@ -1,22 +1,19 @@
 -- Blocks one after the other: those of a file, those after reset, and those after a write.
-use Rattle.std.proofs.Common.{◌≡◌, ◌≢◌, ℕ, zero, suc, ◌+◌, ◌*◌, ◌^◌, ◌<◌, ◌≤◌, Bool, true, false, not, ◌||◌, IsTrue, List, [], ◌∷◌, ◌++◌, length, map, take, get_or, replicate, Some, None, refl, sym, ap, subst, ◌∙◌, inl, inr, arith}
-use Rattle.std.proofs.lemmas.Bool.{cases_lt, false≢true}
-use Rattle.std.proofs.lemmas.List.{length-set, length-replicate, length_push, take_more, map-append}
-use Rattle.std.proofs.lemmas.List.Elements.{All-nil, All-push, All-set, All-replicate}
-use Rattle.std.proofs.lemmas.Option.{none-some, same_Some, slice_get_within, slice_get-map, get_or_from_slice_get}
+use Rattle.std.proofs.Common.{◌≡◌, ◌≢◌, ℕ, zero, suc, ◌+◌, ◌<◌, Bool, true, false, not, IsTrue, List, [], ◌∷◌, ◌++◌, length, map, take, Some, refl, sym, ap, subst, ◌∙◌, inl, inr, arith}
+use Rattle.std.proofs.lemmas.Bool.{cases_lt}
+use Rattle.std.proofs.lemmas.List.{length-replicate, length_push, take_more, map-append}
+use Rattle.std.proofs.lemmas.List.Elements.{All-nil, All-push, All-replicate}
+use Rattle.std.proofs.lemmas.Option.{same_Some, slice_get_within, slice_get-map, get_or_from_slice_get}
 use Rattle.std.specs.Option.{option_map}
 use Rattle.std.proofs.lemmas.List.{length-map}
 use Rattle.std.specs.Prelude.{slice_get, slice_set, All}
 use Rattle.cxl_enc.specs.Caps.{is_legal_cap}
-use Rattle.cxl_regs.specs.declared.decoder.Decoder.{Decoder}
 use Rattle.cxl_regs.specs.Registers.{Registers, IsBlock, IsDecoder, reset_decoder, reset_block}
 use Rattle.cxl_topo.specs.declared.node.Node.{Node}
-use Rattle.cxl_topo.specs.Kinds.{is_endpoint}
-use Rattle.cxl_topo.specs.Faults.{IsTree}
-use Rattle.cxl_image.specs.Images.{reset_block_of, reset_blocks, IsImage, IsBlockOf, HasCapsOf}
+use Rattle.cxl_image.specs.Images.{reset_block_of, reset_blocks, HasCapsOf}
 use Rattle.cxl_image.specs.Fields.{start_of, end_of, block_size, block_from}
 use Rattle.cxl_image.specs.File.{AgreesUpTo, IsImageFile}
-use Rattle.cxl_image.proofs.Places.{start_next, ends_within}
+use Rattle.cxl_image.proofs.Places.{start_next}
 
 -- ---- one more element
 

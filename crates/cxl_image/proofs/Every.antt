@@ -1,16 +1,15 @@
 -- Bytes are a file of an image, or have a first fault.
-use Rattle.std.proofs.Common.{◌≡◌, ◌≢◌, ℕ, zero, suc, ◌+◌, ◌<◌, ◌≤◌, Bool, true, false, List, [], ◌∷◌, length, take, sum_by, Some, None, refl, sym, ap, subst, ◌∙◌, ◌⊎◌, inl, inr, arith}
+use Rattle.std.proofs.Common.{◌≡◌, ℕ, zero, suc, ◌+◌, ◌<◌, ◌≤◌, true, List, [], ◌∷◌, length, take, sum_by, Some, refl, ap, subst, ◌∙◌, ◌⊎◌, inl, inr, arith}
 use Rattle.std.proofs.lemmas.Bool.{cases_lt, cases_eq, cases_Bool}
 use Rattle.std.proofs.lemmas.List.Sums.{sum_by-cons}
-use Rattle.std.proofs.lemmas.Option.{none-some, same_Some, slice_get_cases, slice_get_within}
+use Rattle.std.proofs.lemmas.Option.{none-some, same_Some, slice_get_cases}
 use Rattle.std.specs.Prelude.{slice_get}
 use Rattle.cxl_regs.specs.Registers.{Registers}
 use Rattle.cxl_topo.specs.declared.node.Node.{Node}
-use Rattle.cxl_image.specs.declared.fault.ImageFault.{ImageFault}
 use Rattle.cxl_image.specs.declared.fault.ImageFault.TheVariants.{Magic, Cut, Nodes, Caps, Trailing}
 use Rattle.cxl_image.specs.Fields.{block_size, start_of, end_of, has_magic, count_said, word_from, named_bits, block_from}
-use Rattle.cxl_image.specs.File.{AgreesUpTo, IsImageFile, HasImage, HasFault}
-use Rattle.cxl_image.proofs.Places.{start_next, start_le}
+use Rattle.cxl_image.specs.File.{AgreesUpTo, HasImage, HasFault}
+use Rattle.cxl_image.proofs.Places.{start_next}
 use Rattle.cxl_image.proofs.Agreeing.{agrees_next, cut_before, cut_inside}
 
 -- the blocks of nodes, of which the first begins at a byte place

@@ -1,5 +1,5 @@
 -- Bytes are a file of one image or have one first fault, and never both.
-use Rattle.std.proofs.Common.{◌≡◌, ◌≢◌, ℕ, zero, suc, ◌+◌, ◌<◌, ◌≤◌, Bool, true, false, IsTrue, List, [], ◌∷◌, length, Some, None, Result, Ok, Err, IfOk, IfErr, refl, sym, ap, ◌∙◌, ◌⊎◌, inl, inr, arith}
+use Rattle.std.proofs.Common.{◌≡◌, ℕ, suc, ◌+◌, ◌<◌, ◌≤◌, List, [], ◌∷◌, length, Some, Result, Ok, Err, IfOk, IfErr, refl, sym, ap, ◌∙◌, inl, inr, arith}
 use Rattle.std.proofs.lemmas.Bool.{cases_lt, false≢true}
 use Rattle.std.proofs.lemmas.Option.{none-some, slice_get_cases, slice_get_past}
 use Rattle.std.specs.Prelude.{slice_get}
@@ -7,7 +7,7 @@ use Rattle.cxl_regs.specs.Registers.{Registers}
 use Rattle.cxl_topo.specs.declared.node.Node.{Node}
 use Rattle.cxl_image.specs.declared.fault.ImageFault.{ImageFault}
 use Rattle.cxl_image.specs.declared.fault.ImageFault.TheVariants.{Magic, Cut, Nodes, Caps, Trailing, Memory}
-use Rattle.cxl_image.specs.Fields.{start_of, end_of, has_magic}
+use Rattle.cxl_image.specs.Fields.{start_of, end_of}
 use Rattle.cxl_image.specs.File.{AgreesUpTo, IsImageFile, HasOtherMagic, HasOtherCount, HasOtherCaps, IsFirstImageFault, IsFaultOf, IsAnswer}
 use Rattle.cxl_image.specs.Images.{HasCapsOf}
 use Rattle.cxl_image.proofs.Places.{start_before, ends_within, block_long}

@@ -3,11 +3,11 @@ use Rattle.std.proofs.Common.{◌≡◌, ℕ, zero, suc, ◌+◌, ◌*◌, ◌/�
 use Rattle.std.proofs.lemmas.Bool.Decides.{nat_tests}
 use Rattle.std.proofs.lemmas.Bool.{and_parts, ltb-true}
 use Rattle.std.proofs.lemmas.Grind.{flat_map-append}
-use Rattle.std.proofs.lemmas.List.{same_lists, get_or_default, take_more, take_all, drop_at, drop_more, drop-drop, take-append-drop, append-nil}
+use Rattle.std.proofs.lemmas.List.{same_lists, get_or_default, take_more, take_all, drop_at, drop_more, drop-drop, take-append-drop}
 use Rattle.std.proofs.lemmas.List.Concat.{length-flat_map}
 use Rattle.std.proofs.lemmas.List.Elements.{All-nil, All-head, All-tail, All-append, All-from_recursion}
 use Rattle.std.proofs.lemmas.List.Sums.{sum_by-cons, sum_by-le}
-use Rattle.std.proofs.lemmas.Option.{same_Some, slice_get_within, slice_get_cases, get_or_from_slice_get}
+use Rattle.std.proofs.lemmas.Option.{slice_get_within, slice_get_cases, get_or_from_slice_get}
 use Rattle.std.specs.Prelude.{slice_get, All}
 use Rattle.std.specs.List.{flat_map, range_with_len}
 use Rattle.byteorder.specs.Endian.{little_number}
@@ -17,10 +17,9 @@ use Rattle.cxl_regs.specs.declared.decoder.Decoder.{Decoder}
 use Rattle.cxl_regs.specs.Registers.{Registers, IsBlock, IsDecoder}
 use Rattle.cxl_regs.specs.Words.{has_bit, low_half, high_half, control_of, words_of, decoder_of, head_words}
 use Rattle.cxl_topo.specs.declared.node.Node.{Node}
-use Rattle.cxl_topo.specs.Kinds.{is_endpoint}
 use Rattle.cxl_image.specs.Images.{IsImage, IsBlockOf, HasCapsOf}
-use Rattle.cxl_image.specs.Fields.{decoder_count, block_size, start_of, end_of, has_magic, word_from, words_from, count_said, named_bits, decoder_from, block_from}
-use Rattle.cxl_image.specs.File.{AgreesUpTo, IsImageFile}
+use Rattle.cxl_image.specs.Fields.{decoder_count, block_size, start_of, word_from, words_from, count_said, named_bits, decoder_from, block_from}
+use Rattle.cxl_image.specs.File.{IsImageFile}
 use Rattle.cxl_image.specs.Text.{word_bytes, words_text, block_words, block_text, image_text}
 use Rattle.cxl_image.proofs.Ranges.{range_at, length-range}
 use Rattle.cxl_image.proofs.AfterWrite.{block_there}

@@ -1,6 +1,6 @@
 -- The fields of an image file (this project's rule): eight bytes of magic, the number of nodes in four, and then for
 -- each node in order all words of its decoder block.
-use Rattle.std.specs.Prelude.{◌≡◌, ℕ, ◌+◌, ◌*◌, ◌/◌, ◌%◌, ◌^◌, Bool, not, ◌||◌, nat_eq, List, length, map, take, drop, sum_by, codes}
+use Rattle.std.specs.Prelude.{ℕ, ◌+◌, ◌*◌, ◌/◌, ◌%◌, ◌^◌, Bool, not, ◌||◌, nat_eq, List, length, map, take, drop, sum_by, codes}
 use Rattle.std.specs.List.{starts_with, range_with_len}
 use Rattle.byteorder.specs.Endian.{little_number}
 use Rattle.cxl_enc.specs.Caps.{decoders_code, decoders_of}

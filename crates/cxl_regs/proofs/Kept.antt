@@ -1,55 +1,19 @@
--- A write leaves a block of the same shape, and keeps what every block is.
-use Rattle.std.proofs.Common.{◌≡◌, ℕ, ◌+◌, ◌*◌, ◌/◌, ◌%◌, ◌^◌, ◌<◌, ◌==◌, Bool, true, false, cond, ◌&&◌, ◌||◌, not, ltb, drop, List, length, get_or, Option, Some, None, refl, sym, ap, ◌∙◌, subst, arith}
+-- A write keeps what every block is.
+use Rattle.std.proofs.Common.{◌≡◌, ℕ, ◌+◌, ◌%◌, ◌^◌, ◌<◌, ◌==◌, Bool, true, false, cond, ◌&&◌, ◌||◌, not, ltb, drop, Option, Some, None, refl, sym, ◌∙◌, subst, arith}
 use Rattle.std.proofs.lemmas.Bool.{false≢true}
 use Rattle.std.proofs.lemmas.List.{length-set}
 use Rattle.std.proofs.lemmas.List.Elements.{All-set}
 use Rattle.std.proofs.lemmas.Option.{slice_get_within, get_or_from_slice_get}
-use Rattle.std.specs.Prelude.{slice_get, slice_set, All}
+use Rattle.std.specs.Prelude.{slice_get}
 use Rattle.std.specs.Option.{option_map_or}
 use Rattle.cxl_regs.specs.declared.decoder.Decoder.{Decoder}
 use Rattle.cxl_regs.specs.declared.effect.CommitRule.{CommitRule}
 use Rattle.cxl_regs.specs.declared.effect.Effect.{Effect}
 use Rattle.cxl_regs.specs.declared.effect.Effect.TheVariants.{Written, Committed, Released, NotCommitted}
-use Rattle.cxl_regs.specs.Registers.{Registers, IsAligned, IsDecoder, IsBlock, IsSameShape}
+use Rattle.cxl_regs.specs.Registers.{Registers, IsAligned, IsDecoder, IsBlock}
 use Rattle.cxl_regs.specs.Words.{has_bit, top_bits, index_at, place_at}
 use Rattle.cxl_regs.specs.Rules.{first_broken_rule}
 use Rattle.cxl_regs.specs.Writes.{Outcome, dropped, any_committed, with_decoder, with_low, with_high, with_word, with_control, global_outcome, commit_outcome, control_outcome, release_outcome, decoder_outcome, outcome_of}
-use Rattle.cxl_regs.proofs.Shape.{decoder_shape}
-
--- ---- the shape
-
-record HasShapeOf (block : Registers) (o : Outcome) : Type 0 where
-  shape : IsSameShape block o.block
-
-either_shape : (block : Registers) (test : Bool) (x y : Outcome) → HasShapeOf block x → HasShapeOf block y → HasShapeOf block (cond test x y)
-either_shape block true x y p q = p
-either_shape block false x y p q = q
-
-same_shape : (block : Registers) → HasShapeOf block (dropped block)
-same_shape block = record { shape = record { cap = refl; endpoint = refl; count = refl } }
-
-flag_shape : (block : Registers) (enabled : Bool) (effect : Effect) → HasShapeOf block record { block = record block { enabled = enabled }; effect = effect }
-flag_shape block enabled effect = record { shape = record { cap = refl; endpoint = refl; count = refl } }
-
-global_shape : (block : Registers) (v : ℕ) → HasShapeOf block (global_outcome block v)
-global_shape block v =
-    either_shape block (has_bit v 1) _ _ (flag_shape block true Written)
-    (either_shape block (any_committed block.decoders) _ _ (same_shape block) (flag_shape block false Written))
-
-found_shape : (block : Registers) (off v : ℕ) (d : Option Decoder) → HasShapeOf block (option_map_or (λ d. decoder_outcome block (index_at off) d (place_at off) v) d (dropped block))
-found_shape block off v None = same_shape block
-found_shape block off v (Some d) = record { shape = decoder_shape block (index_at off) d (place_at off) v }
-
-word_shape : (block : Registers) (off v : ℕ) → HasShapeOf block (outcome_of block off v)
-unfolding outcome_of
-word_shape block off v =
-    either_shape block (not (off % 4 == 0)) _ _ (same_shape block)
-    (either_shape block (ltb off 16) _ _
-    (either_shape block ((off == 4) && block.endpoint) _ _ (global_shape block v) (same_shape block))
-    (found_shape block off v (slice_get block.decoders (index_at off))))
-
-pub outcome_shape : (block : Registers) (off v : ℕ) → IsSameShape block (outcome_of block off v).block
-outcome_shape block off v = (word_shape block off v).shape
 
 -- ---- decoders
 
@@ -148,13 +112,14 @@ found_sound block off v (Some d) here lt is =
     let decoder : IsDecoder block.endpoint d = subst (IsDecoder block.endpoint) (get_or_from_slice_get block.decoders (index_at off) d d here) (is.each (index_at off) d within) in
     decoder_sound block (index_at off) d (place_at off) v lt is decoder
 
--- a port's word 0x4 takes no value
+-- an endpoint's block may stop to decode
 global_sound : (block : Registers) (v : ℕ) → IsBlock block → block.endpoint ≡ true → IsSound (global_outcome block v)
 global_sound block v is endpoint =
     either_sound (has_bit v 1) _ _ (record { block = record { cap = is.cap; enabled = λ e. refl; count = is.count; each = is.each } })
     (either_sound (any_committed block.decoders) _ _ (dropped_sound block is)
     (record { block = record { cap = is.cap; enabled = λ port. absurd (false≢true (sym port ∙ endpoint)); count = is.count; each = is.each } }))
 
+-- a port's word 0x4 takes no value
 never : (b : Bool) → (b && false) ≡ false
 never true = refl
 never false = refl

@@ -1,4 +1,4 @@
-use Rattle.std.proofs.Common.{◌≡◌, ap, sym, ◌∙◌, subst, arith}
+use Rattle.std.proofs.Common.{◌≡◌, subst, arith}
 use Rattle.cxl_image.specs.Fields.{start_of, word_from, named_bits}
 use Rattle.cxl_image.specs.File.{AgreesUpTo}
 use Rattle.cxl_image.proofs.Places.{start_next}

@@ -1,4 +1,4 @@
-use Rattle.std.proofs.Common.{◌≡◌, ◌+◌, ◌≤◌, length, sym, subst, arith}
+use Rattle.std.proofs.Common.{◌≡◌, ◌+◌, sym, subst, arith}
 use Rattle.cxl_image.specs.Fields.{start_of}
 use Rattle.cxl_image.specs.File.{AgreesUpTo}
 use Rattle.cxl_image.proofs.Places.{start_next}

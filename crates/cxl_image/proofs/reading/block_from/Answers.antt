@@ -1,5 +1,4 @@
-use Rattle.std.proofs.Common.{◌≡◌, false, length, sym, ap, subst, ◌∙◌, refl, not, ◌||◌}
-use Rattle.cxl_enc.specs.Caps.{decoders_code, decoders_of}
+use Rattle.std.proofs.Common.{length, ap, ◌∙◌, refl}
 use Rattle.cxl_image.proofs.Ranges.{length-range}
 use Rattle.cxl_image.proofs.reading.block_from.Goals as goal
 

@@ -1,6 +1,4 @@
-use Rattle.std.proofs.Common.{◌≡◌, ◌+◌, List, ap, subst, arith}
-use Rattle.cxl_regs.specs.Registers.{Registers}
-use Rattle.cxl_image.specs.File.{IsImageFile}
+use Rattle.std.proofs.Common.{arith}
 use Rattle.cxl_image.proofs.Places.{ends_within}
 use Rattle.cxl_image.proofs.Blocks.{read_more, all_read}
 use Rattle.cxl_image.proofs.reading.sound_image.Goals as goal

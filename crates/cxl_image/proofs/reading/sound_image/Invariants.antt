@@ -1,8 +1,3 @@
-use Rattle.std.proofs.Common.{◌≡◌, ◌<◌, ℕ, length, Some}
-use Rattle.std.specs.Prelude.{slice_get, All}
-use Rattle.cxl_regs.specs.Registers.{IsBlock}
-use Rattle.cxl_topo.specs.declared.node.Node.{Node}
-use Rattle.cxl_image.specs.Fields.{start_of}
 use Rattle.cxl_image.proofs.Blocks.{AreReadTo}
 use Rattle.cxl_image.proofs.reading.sound_image.Given as goal
 

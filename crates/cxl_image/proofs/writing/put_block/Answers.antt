@@ -1,4 +1,4 @@
-use Rattle.std.proofs.Common.{sym, ap, ◌∙◌, List, ℕ, ◌++◌}
+use Rattle.std.proofs.Common.{ap, ◌∙◌, List, ℕ, ◌++◌}
 use Rattle.cxl_regs.specs.Words.{head_words}
 use Rattle.cxl_image.specs.Text.{words_text}
 use Rattle.cxl_image.proofs.Texts.{put_more}

@@ -1,7 +1,4 @@
-use Rattle.std.proofs.Common.{◌≡◌, ◌≤◌, List, ℕ, length, Result, Ok, Err, IfOk, sym, subst}
-use Rattle.cxl_regs.specs.Registers.{Registers}
-use Rattle.cxl_topo.specs.declared.node.Node.{Node}
-use Rattle.cxl_image.specs.Images.{HasCapsOf}
+use Rattle.std.proofs.Common.{◌≤◌, List, ℕ, length, Result, Ok, Err, IfOk, sym, subst}
 use Rattle.cxl_image.specs.File.{IsImageFile}
 use Rattle.cxl_image.proofs.Readings.{one_image}
 use Rattle.cxl_image.proofs.Texts.{image_is_file, image_short}

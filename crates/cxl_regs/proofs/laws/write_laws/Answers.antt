@@ -1,4 +1,5 @@
-use Rattle.cxl_regs.proofs.Kept.{outcome_shape, outcome_block}
+use Rattle.cxl_regs.proofs.Shape.{outcome_shape}
+use Rattle.cxl_regs.proofs.Kept.{outcome_block}
 use Rattle.cxl_regs.proofs.laws.write_laws.Goals as goal
 
 pub returns-clause-shape : goal.returns-clause-shape
