@@ -1,13 +1,16 @@
--- No write to a decoder changes the shape of its block.
-use Rattle.std.proofs.Common.{ℕ, ◌+◌, ◌==◌, Bool, true, false, cond, ◌||◌, drop, Option, Some, None, refl}
+-- No write changes the shape of its block.
+use Rattle.std.proofs.Common.{ℕ, ◌+◌, ◌%◌, ◌==◌, ltb, Bool, true, false, cond, not, ◌&&◌, ◌||◌, drop, Option, Some, None, refl}
 use Rattle.std.proofs.lemmas.List.{length-set}
+use Rattle.std.specs.Prelude.{slice_get}
+use Rattle.std.specs.Option.{option_map_or}
 use Rattle.cxl_regs.specs.declared.decoder.Decoder.{Decoder}
 use Rattle.cxl_regs.specs.declared.effect.CommitRule.{CommitRule}
 use Rattle.cxl_regs.specs.declared.effect.Effect.{Effect}
+use Rattle.cxl_regs.specs.declared.effect.Effect.TheVariants.{Written}
 use Rattle.cxl_regs.specs.Registers.{Registers, IsSameShape}
-use Rattle.cxl_regs.specs.Words.{has_bit}
+use Rattle.cxl_regs.specs.Words.{has_bit, index_at, place_at}
 use Rattle.cxl_regs.specs.Rules.{first_broken_rule}
-use Rattle.cxl_regs.specs.Writes.{Outcome, dropped, any_committed, with_decoder, with_control, commit_outcome, control_outcome, release_outcome, decoder_outcome}
+use Rattle.cxl_regs.specs.Writes.{Outcome, dropped, any_committed, with_decoder, with_control, global_outcome, commit_outcome, control_outcome, release_outcome, decoder_outcome, outcome_of}
 
 record Keeps (block : Registers) (o : Outcome) : Type 0 where
   shape : IsSameShape block o.block
@@ -42,3 +45,26 @@ decoder_keeps block i d place v =
 
 pub decoder_shape : (block : Registers) (i : ℕ) (d : Decoder) (place v : ℕ) → IsSameShape block (decoder_outcome block i d place v).block
 decoder_shape block i d place v = (decoder_keeps block i d place v).shape
+
+flag_keeps : (block : Registers) (enabled : Bool) (effect : Effect) → Keeps block record { block = record block { enabled = enabled }; effect = effect }
+flag_keeps block enabled effect = record { shape = record { cap = refl; endpoint = refl; count = refl } }
+
+global_keeps : (block : Registers) (v : ℕ) → Keeps block (global_outcome block v)
+global_keeps block v =
+    either block (has_bit v 1) _ _ (flag_keeps block true Written)
+    (either block (any_committed block.decoders) _ _ (keeps_all block) (flag_keeps block false Written))
+
+found_keeps : (block : Registers) (off v : ℕ) (d : Option Decoder) → Keeps block (option_map_or (λ d. decoder_outcome block (index_at off) d (place_at off) v) d (dropped block))
+found_keeps block off v None = keeps_all block
+found_keeps block off v (Some d) = decoder_keeps block (index_at off) d (place_at off) v
+
+word_keeps : (block : Registers) (off v : ℕ) → Keeps block (outcome_of block off v)
+unfolding outcome_of
+word_keeps block off v =
+    either block (not (off % 4 == 0)) _ _ (keeps_all block)
+    (either block (ltb off 16) _ _
+    (either block ((off == 4) && block.endpoint) _ _ (global_keeps block v) (keeps_all block))
+    (found_keeps block off v (slice_get block.decoders (index_at off))))
+
+pub outcome_shape : (block : Registers) (off v : ℕ) → IsSameShape block (outcome_of block off v).block
+outcome_shape block off v = (word_keeps block off v).shape

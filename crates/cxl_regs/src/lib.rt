@@ -5,6 +5,7 @@
 mod block;
 mod decoder;
 mod effect;
+mod laws;
 mod rules;
 mod words;
 mod writing;
@@ -12,6 +13,7 @@ mod writing;
 pub use block::{Block, copies};
 pub use decoder::Decoder;
 pub use effect::{CommitRule, Effect};
+pub use laws::write_laws;
 pub use rules::{codes_ok, decoder_count, select_ok};
 pub use words::{decoder_of, words_of, words_stand_for_decoder};
 

@@ -91,6 +91,7 @@ fn a_block_and_its_words(rt: HostRuntime) -> Result<(), Fail> {
     let words = words_of(&decoder);
     assert_eq!(rt; words, [0, 0, 0x4000_0000, 1, 0x1610, 0, 0, 0]);
     words_stand_for_decoder();
+    write_laws();
     assert_eq!(rt; decoder_of(&words, true), decoder);
     let whole = Block::with_decoders(0x1b00, true, false, vec![in rt.alloc(); Decoder::RESET]?);
     assert_eq!(rt; whole.read32(0x30), None);

@@ -1,0 +1,28 @@
+-- The decoder blocks of a topology's nodes, in node order.
+use Rattle.std.specs.Prelude.{◌≡◌, ℕ, ◌≤◌, List, length, map, All, slice_get, Some}
+use Rattle.cxl_regs.specs.Registers.{Registers, IsBlock, reset_block}
+use Rattle.cxl_topo.specs.declared.node.Node.{Node}
+use Rattle.cxl_topo.specs.Kinds.{is_endpoint}
+
+-- the block of a node after reset
+abbrev pub reset_block_of : Node → Registers
+reset_block_of node = reset_block node.cap (is_endpoint node.kind)
+
+-- the blocks of all nodes after reset
+abbrev pub reset_blocks : List Node → List Registers
+reset_blocks nodes = map reset_block_of nodes
+
+-- what every image is: the blocks of at most 1,024 nodes
+pub record IsImage (blocks : List Registers) : Type 0 where
+  pub few : length blocks ≤ 1024
+  pub each : All IsBlock blocks
+
+-- the block has the node's capability word, and is an endpoint's exactly where the node is an endpoint
+pub record IsBlockOf (node : Node) (block : Registers) : Type 0 where
+  pub cap : block.cap ≡ node.cap
+  pub endpoint : block.endpoint ≡ is_endpoint node.kind
+
+-- one block for each node
+pub record HasCapsOf (blocks : List Registers) (nodes : List Node) : Type 0 where
+  pub count : length blocks ≡ length nodes
+  pub each : (i : ℕ) (block : Registers) (node : Node) → slice_get blocks i ≡ Some block → slice_get nodes i ≡ Some node → IsBlockOf node block

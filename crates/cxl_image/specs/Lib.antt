@@ -1,0 +1,4 @@
+pub mod Images
+pub mod Fields
+pub mod File
+pub mod Text

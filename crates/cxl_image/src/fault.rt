@@ -1,0 +1,33 @@
+ghost use Rattle.std.specs.Prelude.{◌≡◌};
+ghost use Rattle.cxl_image.specs.declared.fault.ImageFault.TheVariants as faults;
+
+use thiserror::Error;
+
+/// Why bytes are no image file of a topology: the first fault from the front. (This project's rule.)
+#[derive(Clone, Copy, Debug, PartialEq, Eq, Error)]
+pub enum ImageFault {
+    #[error("the file does not begin with CXLHDM01")]
+    Magic,
+    /// The number is that of all bytes.
+    #[error("the file ends after {0} bytes, before its last field does")]
+    Cut(u32),
+    /// The number is the one that the file states.
+    #[error("the file is for {0} nodes")]
+    Nodes(u32),
+    /// The number is the node's.
+    #[error("the capability word of node {0} is not that of the topology")]
+    Caps(u32),
+    /// The number is the place of the first byte too many.
+    #[error("bytes follow the last block, from byte {0} on")]
+    Trailing(u32),
+    #[error("out of memory")]
+    Memory,
+}
+
+impl From<cxl_enc::Memory> for ImageFault {
+    ghost from_gives = { λ _ fault. fault ≡ faults.Memory };
+
+    fn from(_memory: cxl_enc::Memory) -> ImageFault {
+        ImageFault::Memory
+    }
+}

@@ -1,0 +1,67 @@
+//! The writer.
+
+ghost use Rattle.std.specs.Prelude.{◌≡◌, ◌++◌, ◌≤◌, List, length, IfOk, OnOk};
+ghost use Rattle.cxl_regs.specs.Registers.{Registers};
+ghost use Rattle.cxl_regs.specs.Words.{head_words};
+ghost use Rattle.cxl_topo.specs.declared.node.Node.{Node};
+ghost use Rattle.cxl_image.specs.Images.{IsImage, HasCapsOf};
+ghost use Rattle.cxl_image.specs.File.{IsImageFile};
+ghost use Rattle.cxl_image.specs.Text.{block_text, image_text};
+
+use crate::image::Image;
+use crate::judging::MAGIC;
+use crate::words::{put_word, put_words};
+use cxl_enc::Memory;
+use cxl_regs::{Block, words_of, words_stand_for_decoder};
+use std::alloc::Global;
+
+/// The file of an image, with zero wherever a reader drops what stands there. Takes memory for it. (This project's
+/// rule.)
+pub fn write_image(alloc: Global, image: &Image) -> Result<Vec<u8>, Memory>
+    ensures text { IfOk result (λ bytes. bytes.items ≡ image_text image.now) }
+    ensures fits { IfOk result (λ bytes. length bytes.items ≤ 1048576) }
+    // It is a file of the image and of no other, so that reading it gives the image back.
+    ensures file { IfOk result (λ bytes. (nodes : List Node) → HasCapsOf image.now nodes → IsImageFile bytes.items nodes image.now) }
+    ensures only { IfOk result (λ bytes. (nodes : List Node) (other : List Registers) → HasCapsOf image.now nodes → IsImageFile bytes.items nodes other → other ≡ image.now) }
+{
+    words_stand_for_decoder();
+    text_of(alloc, image)
+}
+
+fn text_of(alloc: Global, image: &Image) -> Result<Vec<u8>, Memory>
+    ensures text { IfOk result (λ bytes. bytes.items ≡ image_text image.now) }
+    ensures image { IsImage image.now }
+{
+    let mut out = Vec::new(alloc);
+    let count = image.count();
+    out.extend_from_slice(MAGIC)?;
+    put_word(&mut out, count)?;
+    for block in image.blocks() {
+        put_block(&mut out, block)?;
+    }
+    Ok(out)
+}
+
+/// Appends all words of a block.
+fn put_block(out: &mut Vec<u8>, block: &Block) -> Result<(), Memory>
+    ensures { OnOk result (out.new.items ≡ out.old.items ++ block_text block.now) }
+{
+    put_words(out, &head_words(block))?;
+    for i in 0..block.count() {
+        let decoder = block.decoder(i);
+        put_words(out, &words_of(&decoder))?;
+    }
+    Ok(())
+}
+
+/// The words before the decoders.
+fn head_words(block: &Block) -> [u32; 4]
+    ensures { result ≡ head_words block.now }
+{
+    let control = if block.endpoint() && block.enabled() {
+        2
+    } else {
+        0
+    };
+    [block.cap(), control, 0, 0]
+}
