@@ -17,6 +17,10 @@ split_at : (table : List Record) (i : ℕ) (r : Record) → i < length table →
 split_at table i r within is =
     sym (take-append-drop i table) ∙ ap (λ rest. take i table ++ rest) (drop-cons table i r within ∙ ap (λ x. x ∷ drop (suc i) table) (sym is))
 
+-- the lines behind that of the record r at place i
+abbrev pub lines_after : List Record → ℕ → Record → List ℕ
+lines_after table i r = lines_behind table (take i table ++ r ∷ []) (drop (suc i) table)
+
 module _ (table : List Record) where
   lines_behind-append : (before xs ys : List Record) → lines_behind table before (xs ++ ys) ≡ lines_behind table before xs ++ lines_behind table (before ++ xs) ys
   lines_behind-append before [] ys = ap (λ b. lines_behind table b ys) (sym (append-nil before))
@@ -41,7 +45,7 @@ module _ (table : List Record) where
         ∙ ap (λ t. first_lines table i ++ t) (append-nil (record_line table (take i table) r))
 
     -- the lines before it, its own, and those behind it
-    pub list_text-split : list_text table ≡ first_lines table i ++ (record_line table (take i table) r ++ lines_behind table (take i table ++ r ∷ []) (drop (suc i) table))
+    pub list_text-split : list_text table ≡ first_lines table i ++ (record_line table (take i table) r ++ lines_after table i r)
     list_text-split =
         ap (lines_behind table []) (split_at table i r within is) ∙ lines_behind-append [] (take i table) (r ∷ drop (suc i) table)
 
@@ -83,3 +87,7 @@ module _ (table : List Record) (windows : List WindowFields) (windows-are : wind
 -- all of the records
 pub first_lines_all : (table : List Record) (count : ℕ) → length table ≤ count → first_lines table count ≡ list_text table
 first_lines_all table count all = ap (lines_behind table []) (take_all count table all)
+
+-- what is appended to no bytes
+pub appended_to_none : (text items cleared added : List ℕ) → text ≡ items → items ≡ cleared ++ added → cleared ≡ [] → text ≡ added
+appended_to_none text items cleared added text-is items-are none = text-is ∙ items-are ∙ ap (λ front. front ++ added) none

@@ -42,6 +42,7 @@ fn write_table<K: Sink>(alloc: Global, table: &Cedt, out: &mut K) -> Status
     ensures listed { IsListed table.now.records (K.faults out.old) (K.faults out.new) (K.taken out.old) (K.taken out.new) result }
     ensures counts { K.faults out.old ≤ K.faults out.new }
 {
+    writes_join();
     match windows(alloc, table, None) {
         Ok(windows) => write_lines(alloc, table.records(), &windows, out),
         Err(Memory) => Status::Memory,
