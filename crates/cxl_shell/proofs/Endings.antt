@@ -1,5 +1,5 @@
 -- How a run ends, from what its calls promise.
-use Rattle.std.proofs.Common.{◌≡◌, ℕ, ◌+◌, ◌<◌, Option, List, [], Result, Ok, Err, IfOk, OnErr, refl, inl, inr}
+use Rattle.std.proofs.Common.{◌≡◌, ℕ, Option, List, Result, Ok, Err, IfOk, OnErr, refl, inl, inr}
 use Rattle.cxl_shell.specs.Answers.{Answers}
 use Rattle.cxl_shell.specs.Ends.{Ends}
 use Rattle.cxl_shell.specs.Listed.{IsListed, whole, sink_failed, out_of_memory}

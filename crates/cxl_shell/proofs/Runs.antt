@@ -18,7 +18,7 @@ use Rattle.cxl_shell.specs.RouteLine.{IsRouteLine}
 use Rattle.cxl_shell.specs.Run.{IsRun, ends, nothing, some_lines}
 use Rattle.cxl_shell.specs.Tables.{IsTableOf}
 use Rattle.cxl_shell.specs.TableTexts.{IsListText, IsNormalText}
-use Rattle.cxl_shell.specs.Texts.{route_text, no_window_text}
+use Rattle.cxl_shell.specs.Texts.{route_text}
 use Rattle.cxl_shell.specs.declared.selection.Selection.{Selection}
 use Rattle.cxl_shell.specs.declared.status.Status.{Status}
 use Rattle.cxl_shell.specs.declared.status.Status.TheVariants.{Done, Usage, FetchFault, BadTable, WriteFault, Refused, Memory, TooLarge}

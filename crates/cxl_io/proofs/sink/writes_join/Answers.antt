@@ -1,4 +1,4 @@
-use Rattle.std.proofs.Common.{Some, ap, sym, ◌∙◌}
+use Rattle.std.proofs.Common.{ap, sym, ◌∙◌}
 use Rattle.cxl_io.specs.Told.{told_with}
 use Rattle.cxl_io.proofs.ToldLemmas.{told_with-nil, told_with-told_with, TakesPrefix-first, TakesPrefix-second}
 use Rattle.cxl_io.proofs.sink.writes_join.Goals as goal

@@ -1,8 +1,8 @@
-use Rattle.std.proofs.Common.{◌≡◌, ◌++◌, List, ℕ, length, take, sym, ap, subst, ◌∙◌, arith}
+use Rattle.std.proofs.Common.{◌≡◌, ◌++◌, take, sym, ap, subst, ◌∙◌, arith}
 use Rattle.cxl_enc.specs.Faults.{Rose}
 use Rattle.cxl_io.specs.Told.{told_with, Takes, TakesPrefix}
 use Rattle.cxl_shell.specs.LinePlaces.{line_at}
-use Rattle.cxl_shell.specs.Lines.{first_lines, record_line, lines_behind}
+use Rattle.cxl_shell.specs.Lines.{first_lines, record_line}
 use Rattle.cxl_shell.specs.Listed.{whole, sink_failed, out_of_memory}
 use Rattle.cxl_shell.proofs.ListLines.{first_lines-next, list_text-split, place-next, place_within, line_at-record_line, first_lines_all, appended_to_none, lines_after}
 use Rattle.cxl_shell.proofs.Results.{on_ok_at, on_err_at}

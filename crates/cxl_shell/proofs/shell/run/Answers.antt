@@ -1,6 +1,6 @@
-use Rattle.std.proofs.Common.{◌≡◌, refl, subst}
-use Rattle.cxl_shell.specs.Request.{Request, Route, Listing, Normal, Help, Version, Unreadable, request_of}
-use Rattle.cxl_shell.specs.Outcome.{helped, version_told, listed, normalized}
+use Rattle.std.proofs.Common.{◌≡◌, subst}
+use Rattle.cxl_shell.specs.Request.{Request, Route, Help, Version, Unreadable, request_of}
+use Rattle.cxl_shell.specs.Outcome.{helped, version_told}
 use Rattle.cxl_shell.specs.Words.{bytes_of}
 use Rattle.cxl_shell.specs.Run.{IsRun}
 use Rattle.cxl_shell.proofs.Runs.{if_some_at, Ran, ran, answer_of, plain_comes, usage_comes, memory_writes_nothing, memory_in_list, usage_asked, fetch_rose, write_rose, route_line, list_written, normal_written, fault_told, fault_comes, large_told, too_large_comes, refuses_routes, refused_by, refused_comes, outcome_comes, answer_comes, listed_comes, normalized_comes, memory_is_own, none_comes}
