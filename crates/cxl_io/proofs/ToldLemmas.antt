@@ -1,8 +1,13 @@
 -- One write after another.
-use Rattle.std.proofs.Common.{◌≡◌, ℕ, ◌+◌, Option, Some, None, List, ◌++◌, length, take, drop, refl, sym, ap, ◌∙◌, arith, append_assoc, length-append}
+use Rattle.std.proofs.Common.{◌≡◌, ℕ, ◌+◌, Option, Some, None, List, [], ◌++◌, length, take, drop, refl, sym, ap, ◌∙◌, arith, append_assoc, length-append}
 use Rattle.std.proofs.Math.Seq.{take-add, take-append-add}
-use Rattle.std.proofs.lemmas.List.{take-append-le}
+use Rattle.std.proofs.lemmas.List.{take-append-le, append-nil}
 use Rattle.cxl_io.specs.Told.{told_with, Takes, TakesPrefix}
+
+-- no text
+pub told_with-nil : (told : Option (List ℕ)) → told_with told [] ≡ told
+told_with-nil None = refl
+told_with-nil (Some told) = ap (λ bytes. Some bytes) (append-nil told)
 
 -- two texts, one after the other
 pub told_with-told_with : (told : Option (List ℕ)) (xs ys : List ℕ) → told_with (told_with told xs) ys ≡ told_with told (xs ++ ys)

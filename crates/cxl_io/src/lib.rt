@@ -18,7 +18,7 @@ pub use mem_fetch::MemFetch;
 pub use mem_sink::MemSink;
 pub use number::{NumFault, read_number};
 pub use print::{put_hex, put_number};
-pub use sink::{Sink, write_all};
+pub use sink::{Sink, write_all, writes_join};
 pub use std_fetch::StdFetch;
 pub use std_sink::StdSink;
 

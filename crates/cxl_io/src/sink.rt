@@ -1,4 +1,4 @@
-ghost use Rattle.std.specs.Prelude.{◌≡◌, ℕ, ◌<◌, ◌≤◌, Option, List, length, take, IfOk, OnOk, OnErr};
+ghost use Rattle.std.specs.Prelude.{◌≡◌, ℕ, ◌<◌, ◌≤◌, Option, List, [], ◌++◌, length, take, IfOk, OnOk, OnErr};
 ghost use Rattle.cxl_enc.specs.Faults.{HasCause};
 ghost use Rattle.cxl_io.specs.Told.{Takes, TakesPrefix};
 
@@ -38,3 +38,15 @@ pub fn write_all<K: Sink>(sink: &mut K, bytes: &[u8]) -> Result<(), Failed>
     }
     Ok(())
 }
+
+/// A law of writes: two texts that are written one after the other are one text, and a failure in either
+/// leaves some bytes of it from the front.
+pub fn writes_join()
+    ensures nothing { (told : Option (List ℕ)) → Takes told told [] }
+    ensures both { (old mid new : Option (List ℕ)) (xs ys : List ℕ)
+        → Takes old mid xs → Takes mid new ys → Takes old new (xs ++ ys) }
+    ensures first { (old new : Option (List ℕ)) (xs ys : List ℕ)
+        → TakesPrefix old new xs → TakesPrefix old new (xs ++ ys) }
+    ensures second { (old mid new : Option (List ℕ)) (xs ys : List ℕ)
+        → Takes old mid xs → TakesPrefix mid new ys → TakesPrefix old new (xs ++ ys) }
+{}

@@ -3,7 +3,13 @@
 #![tactic(auto)]
 
 #[cfg(test)]
+mod listings;
+#[cfg(test)]
+mod lists;
+#[cfg(test)]
 mod outside;
+#[cfg(test)]
+mod real_tables;
 #[cfg(test)]
 mod routes;
 #[cfg(test)]

@@ -16,6 +16,11 @@ fn usage(rt: HostRuntime) -> Result<(), Fail> {
         "route table 0x",
         "route table 0x10000000g",
         "route table 18446744073709551616",
+        "list",
+        "list table table",
+        "lists table",
+        "normal",
+        "normal table 0",
         "--help route",
         "--version 0",
     ];
@@ -41,7 +46,9 @@ fn help_and_version(rt: HostRuntime) -> Result<(), Fail> {
     let alloc = rt.alloc();
     check(&rt, "--help", Vec::new(alloc), 0, HELP)?;
     check(&rt, "--version", Vec::new(alloc), 0, "cxlplan 0.1.0\n")?;
-    assert!(rt; HELP.contains("\ncxlplan route CEDT HPA "));
+    for form in ["route CEDT HPA ", "list CEDT ", "normal CEDT "] {
+        assert!(rt; HELP.contains(form), "{form}");
+    }
     Ok(())
 }
 
@@ -62,9 +69,11 @@ fn files(rt: HostRuntime) -> Result<(), Fail> {
         b"error: cannot read table\n".as_slice()
     );
 
-    let large = vec![in alloc; 0; 1_048_577]?;
-    let text = "error: table too large\n";
-    check(&rt, "route table 0x100000000", large, 12, text)
+    for words in ["route table 0x100000000", "list table", "normal table"] {
+        let large = vec![in alloc; 0; 1_048_577]?;
+        check(&rt, words, large, 12, "error: table too large\n")?;
+    }
+    Ok(())
 }
 
 /// A sink with room for five bytes, and one whose first write fails.
@@ -78,6 +87,23 @@ fn sinks(rt: HostRuntime) -> Result<(), Fail> {
         let end = run_words(alloc, "route table 0x100000000", table, sink)?;
         assert_eq!(rt; end.status.code(), 6);
         assert_eq!(rt; end.text.as_slice(), text);
+    }
+    Ok(())
+}
+
+/// A list whose second line has no room but for five bytes, and one whose second write fails: lines are
+/// written one by one.
+#[test]
+fn sinks_of_lines(rt: HostRuntime) -> Result<(), Fail> {
+    let line = "chbs 0 version 1 base 0x80000000 length 0x10000\n";
+    let part = "chbs 0 version 1 base 0x80000000 length 0x10000\nchbs ";
+    for (room, fails, text) in [(53, 0, part), (ROOM, 2, line)] {
+        let alloc = rt.alloc();
+        let table = file(alloc, "table", bytes(alloc, TWO_BRIDGES, &[])?, &[])?;
+        let sink = MemSink::new(alloc, room, vec![in alloc; fails]?)?;
+        let end = run_words(alloc, "list table", table, sink)?;
+        assert_eq!(rt; end.status.code(), 6);
+        assert_eq!(rt; end.text.as_slice(), text.as_bytes());
     }
     Ok(())
 }

@@ -64,10 +64,21 @@ pub(crate) fn check(
     code: u8,
     text: &str,
 ) -> Result<(), Fail> {
+    check_bytes(rt, words, table, code, text.as_bytes())
+}
+
+/// The same where they write these bytes.
+pub(crate) fn check_bytes(
+    rt: &(impl Abort + AllocGlobal),
+    words: &str,
+    table: Vec<u8>,
+    code: u8,
+    bytes: &[u8],
+) -> Result<(), Fail> {
     let alloc = rt.alloc();
     let sink = MemSink::new(alloc, ROOM, Vec::new(alloc))?;
     let end = run_words(alloc, words, file(alloc, "table", table, &[])?, sink)?;
     assert_eq!(rt; end.status.code(), code, "status of {words}");
-    assert_eq!(rt; end.text.as_slice(), text.as_bytes(), "text of {words}");
+    assert_eq!(rt; end.text.as_slice(), bytes, "text of {words}");
     Ok(())
 }

@@ -1,5 +1,5 @@
 -- What can be read off from how a run came to its status.
-use Rattle.std.proofs.Common.{◌≡◌, ◌≢◌, ℕ, ◌<◌, ◌≤◌, ◌⊎◌, Option, Some, None, IfSome, Result, Ok, Err, IfOk, OnErr, List, length, refl, sym, ap, subst, ◌∙◌, inl, inr, arith}
+use Rattle.std.proofs.Common.{◌≡◌, ◌≢◌, ℕ, ◌<◌, ◌≤◌, ◌⊎◌, Option, Some, None, IfSome, option_and_then, List, length, refl, sym, ap, subst, ◌∙◌, inl, inr, arith}
 use Rattle.cxl_enc.specs.Faults.{Rose}
 use Rattle.cxl_cedt.specs.CedtFields.{CedtFields}
 use Rattle.cxl_cedt.specs.Table.{IsTableText, FirstTableFault, HasTable, HasFault}
@@ -8,13 +8,17 @@ use Rattle.cxl_cedt.specs.declared.fault.CedtFault.TheVariants.{Memory as NoMemo
 use Rattle.cxl_io.specs.Files.{file_limit}
 use Rattle.cxl_io.specs.Told.{Takes}
 use Rattle.cxl_window.specs.Windows.{windows_of}
-use Rattle.cxl_shell.specs.Answers.{IsReading, IsFaulty, too_many_bytes, faulty, readable, failed, given, Answers, told_table}
-use Rattle.cxl_shell.specs.Ends.{IsWritten, Ends, IsStopped}
-use Rattle.cxl_shell.specs.Outcome.{Outcome, routed, no_window, IsRouted, to_bridge, nowhere}
-use Rattle.cxl_shell.specs.Request.{Request, Route, Help, Version, Unreadable}
+use Rattle.cxl_shell.specs.Answers.{IsReading, IsFaulty, too_many_bytes, faulty, readable, failed, given, Answers, IsAnswerOf, IsTableAnswer, table_file, told_table}
+use Rattle.cxl_shell.specs.Ends.{IsWritten, Ends, IsUnwritten, IsStopped}
+use Rattle.cxl_shell.specs.Listed.{TakesLines}
+use Rattle.cxl_shell.specs.Outcome.{Outcome, misused as misused_outcome, routed, no_window, listed, normalized, IsRouted, to_bridge, nowhere}
+use Rattle.cxl_shell.specs.Request.{Request, Route, Listing, Normal, Help, Version, Unreadable}
 use Rattle.cxl_shell.specs.Route.{IsSelection, IsNowhere}
 use Rattle.cxl_shell.specs.RouteLine.{IsRouteLine}
-use Rattle.cxl_shell.specs.Texts.{route_text, no_window_text}
+use Rattle.cxl_shell.specs.Run.{IsRun, ends, nothing, some_lines}
+use Rattle.cxl_shell.specs.Tables.{IsTableOf}
+use Rattle.cxl_shell.specs.TableTexts.{IsListText, IsNormalText}
+use Rattle.cxl_shell.specs.Texts.{route_text}
 use Rattle.cxl_shell.specs.declared.selection.Selection.{Selection}
 use Rattle.cxl_shell.specs.declared.status.Status.{Status}
 use Rattle.cxl_shell.specs.declared.status.Status.TheVariants.{Done, Usage, FetchFault, BadTable, WriteFault, Refused, Memory, TooLarge}
@@ -30,7 +34,8 @@ same_as_told : (told : Option (List ℕ)) (bytes other : List ℕ) → IfSome to
 same_as_told None bytes other same e = absurd (cc)
 same_as_told (Some b) bytes other same e = cc
 
--- an address has one outcome by a table
+-- ---- a request has one outcome by a table
+
 routed_is : (table : CedtFields) (h : ℕ) (s : Selection) → IsSelection (windows_of table.records None) h s → (outcome : Outcome) → IsRouted table h outcome → routed s ≡ outcome
 routed_is table h s selected outcome (to_bridge other again) = ap routed (one_selection (windows_of table.records None) h s other selected again)
 routed_is table h s selected outcome (nowhere none) = absurd (selection_and_none (windows_of table.records None) h s selected none)
@@ -39,43 +44,102 @@ nowhere_is : (table : CedtFields) (h : ℕ) → IsNowhere (windows_of table.reco
 nowhere_is table h none outcome (to_bridge s selected) = absurd (selection_and_none (windows_of table.records None) h s selected none)
 nowhere_is table h none outcome (nowhere again) = refl
 
+one_route : (table : CedtFields) (h : ℕ) (outcome other : Outcome) → IsRouted table h outcome → IsRouted table h other → outcome ≡ other
+one_route table h outcome other (to_bridge s selected) again = routed_is table h s selected other again
+one_route table h outcome other (nowhere none) again = nowhere_is table h none other again
+
+one_answer : (request : Request) (table : CedtFields) (outcome other : Outcome) → IsTableAnswer request table outcome → IsTableAnswer request table other → outcome ≡ other
+one_answer (Route file h) table outcome other answer again = one_route table h outcome other answer again
+one_answer (Listing file) table outcome other answer again = answer ∙ sym again
+one_answer (Normal file) table outcome other answer again = answer ∙ sym again
+one_answer Help table outcome other answer again = absurd answer
+one_answer Version table outcome other answer again = absurd answer
+one_answer Unreadable table outcome other answer again = absurd answer
+
+-- ---- which status an outcome by a table has
+
+module _ (table : CedtFields) (status : Status) where
+  route_status : (h : ℕ) (outcome : Outcome) → status ≡ outcome.status → IsRouted table h outcome → (status ≡ Done) ⊎ (status ≡ Refused)
+  route_status h outcome e (to_bridge s selected) = inl e
+  route_status h outcome e (nowhere none) = inr e
+
+  answer_status : (request : Request) (outcome : Outcome) → status ≡ outcome.status → IsTableAnswer request table outcome → (status ≡ Done) ⊎ (status ≡ Refused)
+  answer_status (Route file h) outcome e answer = route_status h outcome e answer
+  answer_status (Listing file) outcome e answer = inl (e ∙ ap (λ o. o.status) answer)
+  answer_status (Normal file) outcome e answer = inl (e ∙ ap (λ o. o.status) answer)
+  answer_status Help outcome e answer = absurd answer
+  answer_status Version outcome e answer = absurd answer
+  answer_status Unreadable outcome e answer = absurd answer
+
+  refused_selection : (h : ℕ) (outcome : Outcome) → status ≡ outcome.status → status ≡ Refused → IsRouted table h outcome → IsNowhere (windows_of table.records None) h
+  refused_selection h outcome e is (to_bridge s selected) = absurd (cc)
+  refused_selection h outcome e is (nowhere none) = none
+
+  refused_route : (request : Request) (outcome : Outcome) → status ≡ outcome.status → status ≡ Refused → IsTableAnswer request table outcome → (file : List ℕ) × (h : ℕ) × (request ≡ Route file h)
+  refused_route (Route file h) outcome e is answer = (file, h, refl)
+  refused_route (Listing file) outcome e is answer = let done = e ∙ ap (λ o. o.status) answer in absurd (cc)
+  refused_route (Normal file) outcome e is answer = let done = e ∙ ap (λ o. o.status) answer in absurd (cc)
+  refused_route Help outcome e is answer = absurd answer
+  refused_route Version outcome e is answer = absurd answer
+  refused_route Unreadable outcome e is answer = absurd answer
+
+  done_selection : (h : ℕ) (outcome : Outcome) → status ≡ outcome.status → status ≡ Done → IsRouted table h outcome → (s : Selection) × IsSelection (windows_of table.records None) h s × (outcome.text ≡ route_text s)
+  done_selection h outcome e is (to_bridge s selected) = (s, selected, refl)
+  done_selection h outcome e is (nowhere none) = absurd (cc)
+
 -- ---- how a run came to its status
 
 module _ (told : List ℕ → Option (List ℕ)) (fb fn sb sn : ℕ) (old new : Option (List ℕ)) (status : Status) where
-  -- the file of a route request, and its bytes
-  pub record IsFileOf (request : Request) (file : List ℕ) (h : ℕ) (bytes : List ℕ) : Type 0 where
-    pub asked : request ≡ Route file h
+  -- the file whose table a request asks about, and its bytes
+  pub record IsFileOf (request : Request) (file bytes : List ℕ) : Type 0 where
+    pub asked : table_file request ≡ Some file
     pub same : IfSome (told file) (λ b. bytes ≡ b)
+
+  -- the outcome by the table in the file, which is written
+  pub record IsAnswered (request : Request) : Type 0 where
+    pub file : List ℕ
+    pub bytes : List ℕ
+    pub table : CedtFields
+    pub outcome : Outcome
+    pub of : IsFileOf request file bytes
+    pub reading : IsReading bytes table
+    pub answer : IsTableAnswer request table outcome
+    pub written : IsWritten outcome status old new
 
   -- memory ran out, the sink failed, or the outcome is written
   pub data Ran (request : Request) : Type 0 where
     out_of_memory : status ≡ Memory → new ≡ old → Ran request
+    lines_cut : (file : List ℕ) → status ≡ Memory → request ≡ Listing file → TakesLines (told file) old new → Ran request
     cut : status ≡ WriteFault → Rose sb sn → Ran request
     misused : status ≡ Usage → request ≡ Unreadable → Ran request
     helped : status ≡ Done → request ≡ Help → Ran request
     version : status ≡ Done → request ≡ Version → Ran request
     file_unread : status ≡ FetchFault → Rose fb fn → Ran request
-    file_large : (file : List ℕ) (h : ℕ) (bytes : List ℕ) → status ≡ TooLarge → IsFileOf request file h bytes → file_limit < length bytes → Ran request
-    table_faulty : (file : List ℕ) (h : ℕ) (bytes : List ℕ) (fault : CedtFault) → status ≡ BadTable fault → IsFileOf request file h bytes → IsFaulty bytes fault → Ran request
-    routes : (file : List ℕ) (h : ℕ) (bytes : List ℕ) (table : CedtFields) (s : Selection) → status ≡ Done → IsFileOf request file h bytes → IsReading bytes table → IsSelection (windows_of table.records None) h s → Takes old new (route_text s) → Ran request
-    refuses : (file : List ℕ) (h : ℕ) (bytes : List ℕ) (table : CedtFields) → status ≡ Refused → IsFileOf request file h bytes → IsReading bytes table → IsNowhere (windows_of table.records None) h → Takes old new no_window_text → Ran request
+    file_large : (file bytes : List ℕ) → status ≡ TooLarge → IsFileOf request file bytes → file_limit < length bytes → Ran request
+    table_faulty : (file bytes : List ℕ) (fault : CedtFault) → status ≡ BadTable fault → IsFileOf request file bytes → IsFaulty bytes fault → Ran request
+    done : status ≡ Done → IsAnswered request → Ran request
+    refuses : status ≡ Refused → IsAnswered request → Ran request
 
   -- ---- from the clauses of the calls
 
-  of_file : (file : List ℕ) (h : ℕ) (outcome : Outcome) → Answers (Route file h) told fb fn outcome → IsWritten outcome status old new → Ran (Route file h)
-  of_file file h outcome (failed rose) written = file_unread written.0 rose
-  of_file file h outcome (given bytes o same (too_many_bytes large)) written = file_large file h bytes written.0 (record { asked = refl; same = same }) large
-  of_file file h outcome (given bytes o same (faulty fault is)) written = table_faulty file h bytes fault written.0 (record { asked = refl; same = same }) is
-  of_file file h outcome (given bytes o same (readable table r reading (to_bridge s selected))) written =
-      routes file h bytes table s written.0 (record { asked = refl; same = same }) reading selected written.1
-  of_file file h outcome (given bytes o same (readable table r reading (nowhere none))) written =
-      refuses file h bytes table written.0 (record { asked = refl; same = same }) reading none written.1
+  by_status : (request : Request) → (status ≡ Done) ⊎ (status ≡ Refused) → IsAnswered request → Ran request
+  by_status request (inl e) answered = done e answered
+  by_status request (inr e) answered = refuses e answered
+
+  of_file : (request : Request) (file : List ℕ) (outcome : Outcome) → table_file request ≡ Some file → IsAnswerOf request file (told file) fb fn outcome → IsWritten outcome status old new → Ran request
+  of_file request file outcome asked (failed rose) written = file_unread written.0 rose
+  of_file request file outcome asked (given bytes o same (too_many_bytes large)) written = file_large file bytes written.0 (record { asked = asked; same = same }) large
+  of_file request file outcome asked (given bytes o same (faulty fault is)) written = table_faulty file bytes fault written.0 (record { asked = asked; same = same }) is
+  of_file request file outcome asked (given bytes o same (readable table r reading answer)) written =
+      by_status request (answer_status table status request r written.0 answer) (record { file = file; bytes = bytes; table = table; outcome = r; of = record { asked = asked; same = same }; reading = reading; answer = answer; written = written })
 
   status_of : (outcome other : Outcome) → status ≡ outcome.status → outcome ≡ other → status ≡ other.status
   status_of outcome other e same = e ∙ ap (λ o. o.status) same
 
   of_written : (request : Request) (outcome : Outcome) → Answers request told fb fn outcome → IsWritten outcome status old new → Ran request
-  of_written (Route file h) outcome answers written = of_file file h outcome answers written
+  of_written (Route file h) outcome answers written = of_file (Route file h) file outcome refl answers written
+  of_written (Listing file) outcome answers written = of_file (Listing file) file outcome refl answers written
+  of_written (Normal file) outcome answers written = of_file (Normal file) file outcome refl answers written
   of_written Help outcome answers written = helped (status_of outcome _ written.0 answers) refl
   of_written Version outcome answers written = version (status_of outcome _ written.0 answers) refl
   of_written Unreadable outcome answers written = misused (status_of outcome _ written.0 answers) refl
@@ -84,150 +148,215 @@ module _ (told : List ℕ → Option (List ℕ)) (fb fn sb sn : ℕ) (old new : 
   of_ends request outcome answers (inl written) = of_written request outcome answers written
   of_ends request outcome answers (inr failed_at) = cut failed_at.0 failed_at.1
 
-  pub ran : {E : Type 0} (request : Request) (result : Result Outcome E) → IfOk result (λ o. Answers request told fb fn o) → IfOk result (λ o. Ends o status sb sn old new) → OnErr result (status ≡ Memory) → OnErr result (new ≡ old) → Ran request
-  ran request (Ok outcome) answers ends memory nothing = of_ends request outcome answers ends
-  ran request (Err e) answers ends memory nothing = out_of_memory memory nothing
+  pub ran : (request : Request) → IsRun request told fb fn sb sn old new status → Ran request
+  ran request (ends outcome answers ended) = of_ends request outcome answers ended
+  ran request (nothing is same) = out_of_memory is same
+  ran request (some_lines file asked is lines) = lines_cut file is asked lines
+
+  pub answer_of : (request : Request) → IsRun request told fb fn sb sn old new status → (status ≡ Memory) ⊎ ((outcome : Outcome) × Answers request told fb fn outcome × Ends outcome status sb sn old new)
+  answer_of request (ends outcome answers ended) = inr (outcome, answers, ended)
+  answer_of request (nothing is same) = inl is
+  answer_of request (some_lines file asked is lines) = inl is
+
+  -- a request that has one outcome, whatever the files hold
+  pub plain_comes : (request : Request) (fixed : Outcome) → ((o : Outcome) → Answers request told fb fn o → o ≡ fixed) → IsRun request told fb fn sb sn old new status → IsWritten fixed status old new ⊎ IsUnwritten status sb sn
+  plain_comes request fixed one (ends outcome answers (inl written)) = inl (subst (λ o. IsWritten o status old new) (one outcome answers) written)
+  plain_comes request fixed one (ends outcome answers (inr failed_at)) = inr (inl (failed_at.0, failed_at.1))
+  plain_comes request fixed one (nothing is same) = inr (inr is)
+  plain_comes request fixed one (some_lines file asked is lines) = inr (inr is)
+
+  pub usage_comes : IsRun Unreadable told fb fn sb sn old new status → (status ≡ Usage) ⊎ IsUnwritten status sb sn
+  usage_comes r = told_so (plain_comes Unreadable misused_outcome (λ o same. same) r)
+    where
+      told_so : IsWritten misused_outcome status old new ⊎ IsUnwritten status sb sn → (status ≡ Usage) ⊎ IsUnwritten status sb sn
+      told_so (inl written) = inl written.0
+      told_so (inr unwritten) = inr unwritten
 
   -- ---- what each status tells
 
-  pub memory_writes_nothing : (request : Request) → Ran request → status ≡ Memory → new ≡ old
-  memory_writes_nothing request (out_of_memory e nothing) is = nothing
-  memory_writes_nothing request (cut e rose) is = absurd (cc)
-  memory_writes_nothing request (misused e r) is = absurd (cc)
-  memory_writes_nothing request (helped e r) is = absurd (cc)
-  memory_writes_nothing request (version e r) is = absurd (cc)
-  memory_writes_nothing request (file_unread e rose) is = absurd (cc)
-  memory_writes_nothing request (file_large file h bytes e of large) is = absurd (cc)
-  memory_writes_nothing request (table_faulty file h bytes fault e of faults) is = absurd (cc)
-  memory_writes_nothing request (routes file h bytes table s e of reading selected taken) is = absurd (cc)
-  memory_writes_nothing request (refuses file h bytes table e of reading none taken) is = absurd (cc)
+  pub memory_writes : (request : Request) → Ran request → status ≡ Memory → (new ≡ old) ⊎ ((file : List ℕ) × (request ≡ Listing file) × TakesLines (told file) old new)
+  memory_writes request (out_of_memory e none) is = inl none
+  memory_writes request (lines_cut file e r lines) is = inr (file, r, lines)
+  memory_writes request (cut e rose) is = absurd (cc)
+  memory_writes request (misused e r) is = absurd (cc)
+  memory_writes request (helped e r) is = absurd (cc)
+  memory_writes request (version e r) is = absurd (cc)
+  memory_writes request (file_unread e rose) is = absurd (cc)
+  memory_writes request (file_large file bytes e of large) is = absurd (cc)
+  memory_writes request (table_faulty file bytes fault e of faults) is = absurd (cc)
+  memory_writes request (done e answered) is = absurd (cc)
+  memory_writes request (refuses e answered) is = absurd (cc)
 
   pub usage_asked : (request : Request) → Ran request → status ≡ Usage → request ≡ Unreadable
-  usage_asked request (out_of_memory e nothing) is = absurd (cc)
+  usage_asked request (out_of_memory e none) is = absurd (cc)
+  usage_asked request (lines_cut file e r lines) is = absurd (cc)
   usage_asked request (cut e rose) is = absurd (cc)
   usage_asked request (misused e r) is = r
   usage_asked request (helped e r) is = absurd (cc)
   usage_asked request (version e r) is = absurd (cc)
   usage_asked request (file_unread e rose) is = absurd (cc)
-  usage_asked request (file_large file h bytes e of large) is = absurd (cc)
-  usage_asked request (table_faulty file h bytes fault e of faults) is = absurd (cc)
-  usage_asked request (routes file h bytes table s e of reading selected taken) is = absurd (cc)
-  usage_asked request (refuses file h bytes table e of reading none taken) is = absurd (cc)
+  usage_asked request (file_large file bytes e of large) is = absurd (cc)
+  usage_asked request (table_faulty file bytes fault e of faults) is = absurd (cc)
+  usage_asked request (done e answered) is = absurd (cc)
+  usage_asked request (refuses e answered) is = absurd (cc)
 
   pub fetch_rose : (request : Request) → Ran request → status ≡ FetchFault → Rose fb fn
-  fetch_rose request (out_of_memory e nothing) is = absurd (cc)
+  fetch_rose request (out_of_memory e none) is = absurd (cc)
+  fetch_rose request (lines_cut file e r lines) is = absurd (cc)
   fetch_rose request (cut e rose) is = absurd (cc)
   fetch_rose request (misused e r) is = absurd (cc)
   fetch_rose request (helped e r) is = absurd (cc)
   fetch_rose request (version e r) is = absurd (cc)
   fetch_rose request (file_unread e rose) is = rose
-  fetch_rose request (file_large file h bytes e of large) is = absurd (cc)
-  fetch_rose request (table_faulty file h bytes fault e of faults) is = absurd (cc)
-  fetch_rose request (routes file h bytes table s e of reading selected taken) is = absurd (cc)
-  fetch_rose request (refuses file h bytes table e of reading none taken) is = absurd (cc)
+  fetch_rose request (file_large file bytes e of large) is = absurd (cc)
+  fetch_rose request (table_faulty file bytes fault e of faults) is = absurd (cc)
+  fetch_rose request (done e answered) is = absurd (cc)
+  fetch_rose request (refuses e answered) is = absurd (cc)
 
   pub write_rose : (request : Request) → Ran request → status ≡ WriteFault → Rose sb sn
-  write_rose request (out_of_memory e nothing) is = absurd (cc)
+  write_rose request (out_of_memory e none) is = absurd (cc)
+  write_rose request (lines_cut file e r lines) is = absurd (cc)
   write_rose request (cut e rose) is = rose
   write_rose request (misused e r) is = absurd (cc)
   write_rose request (helped e r) is = absurd (cc)
   write_rose request (version e r) is = absurd (cc)
   write_rose request (file_unread e rose) is = absurd (cc)
-  write_rose request (file_large file h bytes e of large) is = absurd (cc)
-  write_rose request (table_faulty file h bytes fault e of faults) is = absurd (cc)
-  write_rose request (routes file h bytes table s e of reading selected taken) is = absurd (cc)
-  write_rose request (refuses file h bytes table e of reading none taken) is = absurd (cc)
+  write_rose request (file_large file bytes e of large) is = absurd (cc)
+  write_rose request (table_faulty file bytes fault e of faults) is = absurd (cc)
+  write_rose request (done e answered) is = absurd (cc)
+  write_rose request (refuses e answered) is = absurd (cc)
 
   pub memory_is_own : (request : Request) → Ran request → status ≢ BadTable NoMemory
-  memory_is_own request (out_of_memory e nothing) = λ is. cc
+  memory_is_own request (out_of_memory e none) = λ is. cc
+  memory_is_own request (lines_cut file e r lines) = λ is. cc
   memory_is_own request (cut e rose) = λ is. cc
   memory_is_own request (misused e r) = λ is. cc
   memory_is_own request (helped e r) = λ is. cc
   memory_is_own request (version e r) = λ is. cc
   memory_is_own request (file_unread e rose) = λ is. cc
-  memory_is_own request (file_large file h bytes e of large) = λ is. cc
-  memory_is_own request (table_faulty file h bytes fault e of faults) = λ is. no_memory bytes fault faults.first (cc)
-  memory_is_own request (routes file h bytes table s e of reading selected taken) = λ is. cc
-  memory_is_own request (refuses file h bytes table e of reading none taken) = λ is. cc
+  memory_is_own request (file_large file bytes e of large) = λ is. cc
+  memory_is_own request (table_faulty file bytes fault e of faults) = λ is. no_memory bytes fault faults.first (cc)
+  memory_is_own request (done e answered) = λ is. cc
+  memory_is_own request (refuses e answered) = λ is. cc
+
+  pub answer_done : (request : Request) → Ran request → status ≡ Done → (wanted : List ℕ) → table_file request ≡ Some wanted → IsAnswered request
+  answer_done request (out_of_memory e none) is wanted asked = absurd (cc)
+  answer_done request (lines_cut file e r lines) is wanted asked = absurd (cc)
+  answer_done request (cut e rose) is wanted asked = absurd (cc)
+  answer_done request (misused e r) is wanted asked = absurd (cc)
+  answer_done request (helped e r) is wanted asked = let none = ap table_file r in absurd (cc)
+  answer_done request (version e r) is wanted asked = let none = ap table_file r in absurd (cc)
+  answer_done request (file_unread e rose) is wanted asked = absurd (cc)
+  answer_done request (file_large file bytes e of large) is wanted asked = absurd (cc)
+  answer_done request (table_faulty file bytes fault e of faults) is wanted asked = absurd (cc)
+  answer_done request (done e answered) is wanted asked = answered
+  answer_done request (refuses e answered) is wanted asked = absurd (cc)
+
+  pub answer_refused : (request : Request) → Ran request → status ≡ Refused → IsAnswered request
+  answer_refused request (out_of_memory e none) is = absurd (cc)
+  answer_refused request (lines_cut file e r lines) is = absurd (cc)
+  answer_refused request (cut e rose) is = absurd (cc)
+  answer_refused request (misused e r) is = absurd (cc)
+  answer_refused request (helped e r) is = absurd (cc)
+  answer_refused request (version e r) is = absurd (cc)
+  answer_refused request (file_unread e rose) is = absurd (cc)
+  answer_refused request (file_large file bytes e of large) is = absurd (cc)
+  answer_refused request (table_faulty file bytes fault e of faults) is = absurd (cc)
+  answer_refused request (done e answered) is = absurd (cc)
+  answer_refused request (refuses e answered) is = answered
+
+  pub refuses_routes : (request : Request) → Ran request → status ≡ Refused → (file : List ℕ) × (h : ℕ) × (request ≡ Route file h)
+  refuses_routes request r is =
+      let answered = answer_refused request r is in
+      refused_route answered.table status request answered.outcome answered.written.0 is answered.answer
+
+  -- ---- what memory left
+
+  no_list : (request : Request) → ((file : List ℕ) → request ≢ Listing file) → (new ≡ old) ⊎ ((file : List ℕ) × (request ≡ Listing file) × TakesLines (told file) old new) → new ≡ old
+  no_list request other (inl same) = same
+  no_list request other (inr some) = absurd (other some.0 some.1)
+
+  pub memory_writes_nothing : (request : Request) → Ran request → ((file : List ℕ) → request ≢ Listing file) → status ≡ Memory → new ≡ old
+  memory_writes_nothing request r other is = no_list request other (memory_writes request r is)
+
+  some_of : (file : List ℕ) → (new ≡ old) ⊎ ((f : List ℕ) × (Listing file ≡ Listing f) × TakesLines (told f) old new) → (new ≡ old) ⊎ TakesLines (told file) old new
+  some_of file (inl same) = inl same
+  some_of file (inr some) = let f : some.0 ≡ file = let e = some.1 in cc in inr (subst (λ g. TakesLines (told g) old new) f some.2)
+
+  pub memory_in_list : (file : List ℕ) → Ran (Listing file) → status ≡ Memory → (new ≡ old) ⊎ TakesLines (told file) old new
+  memory_in_list file r is = some_of file (memory_writes (Listing file) r is)
 
   -- ---- the request and its file
 
-  other_request : (request other : Request) → request ≡ other → told_table other told ≡ None → (bytes : List ℕ) → told_table request told ≡ Some bytes → ⊥
-  other_request request other r none bytes e = let same = ap (λ q. told_table q told) r in cc
+  no_file : (request other : Request) → request ≡ other → told_table other told ≡ None → (bytes : List ℕ) → told_table request told ≡ Some bytes → ⊥
+  no_file request other r none bytes e = let same = ap (λ q. told_table q told) r in cc
 
-  same_file : (request : Request) (file : List ℕ) (h : ℕ) (bytes : List ℕ) → IsFileOf request file h bytes → (told_bytes : List ℕ) → told_table request told ≡ Some told_bytes → bytes ≡ told_bytes
-  same_file request file h bytes of told_bytes e =
-      let there : told file ≡ Some told_bytes = sym (ap (λ q. told_table q told) of.asked) ∙ e in
+  same_file : (request : Request) (file bytes : List ℕ) → IsFileOf request file bytes → (told_bytes : List ℕ) → told_table request told ≡ Some told_bytes → bytes ≡ told_bytes
+  same_file request file bytes of told_bytes e =
+      let there : told file ≡ Some told_bytes = sym (ap (λ f. option_and_then told f) of.asked) ∙ e in
       same_as_told (told file) bytes told_bytes of.same there
 
   pub large_told : (request : Request) → Ran request → status ≡ TooLarge → (told_bytes : List ℕ) → told_table request told ≡ Some told_bytes → file_limit < length told_bytes
-  large_told request (out_of_memory e nothing) is told_bytes there = absurd (cc)
+  large_told request (out_of_memory e none) is told_bytes there = absurd (cc)
+  large_told request (lines_cut file e r lines) is told_bytes there = absurd (cc)
   large_told request (cut e rose) is told_bytes there = absurd (cc)
   large_told request (misused e r) is told_bytes there = absurd (cc)
   large_told request (helped e r) is told_bytes there = absurd (cc)
   large_told request (version e r) is told_bytes there = absurd (cc)
   large_told request (file_unread e rose) is told_bytes there = absurd (cc)
-  large_told request (file_large file h bytes e of large) is told_bytes there = subst (λ b. file_limit < length b) (same_file request file h bytes of told_bytes there) large
-  large_told request (table_faulty file h bytes fault e of faults) is told_bytes there = absurd (cc)
-  large_told request (routes file h bytes table s e of reading selected taken) is told_bytes there = absurd (cc)
-  large_told request (refuses file h bytes table e of reading none taken) is told_bytes there = absurd (cc)
+  large_told request (file_large file bytes e of large) is told_bytes there = subst (λ b. file_limit < length b) (same_file request file bytes of told_bytes there) large
+  large_told request (table_faulty file bytes fault e of faults) is told_bytes there = absurd (cc)
+  large_told request (done e answered) is told_bytes there = absurd (cc)
+  large_told request (refuses e answered) is told_bytes there = absurd (cc)
 
   pub fault_told : (request : Request) → Ran request → (first : CedtFault) → status ≡ BadTable first → (told_bytes : List ℕ) → told_table request told ≡ Some told_bytes → IsFaulty told_bytes first
-  fault_told request (out_of_memory e nothing) first is told_bytes there = absurd (cc)
+  fault_told request (out_of_memory e none) first is told_bytes there = absurd (cc)
+  fault_told request (lines_cut file e r lines) first is told_bytes there = absurd (cc)
   fault_told request (cut e rose) first is told_bytes there = absurd (cc)
   fault_told request (misused e r) first is told_bytes there = absurd (cc)
   fault_told request (helped e r) first is told_bytes there = absurd (cc)
   fault_told request (version e r) first is told_bytes there = absurd (cc)
   fault_told request (file_unread e rose) first is told_bytes there = absurd (cc)
-  fault_told request (file_large file h bytes e of large) first is told_bytes there = absurd (cc)
-  fault_told request (table_faulty file h bytes fault e of faults) first is told_bytes there = let same : fault ≡ first = cc in subst (λ f. IsFaulty told_bytes f) same (subst (λ b. IsFaulty b fault) (same_file request file h bytes of told_bytes there) faults)
-  fault_told request (routes file h bytes table s e of reading selected taken) first is told_bytes there = absurd (cc)
-  fault_told request (refuses file h bytes table e of reading none taken) first is told_bytes there = absurd (cc)
+  fault_told request (file_large file bytes e of large) first is told_bytes there = absurd (cc)
+  fault_told request (table_faulty file bytes fault e of faults) first is told_bytes there = let same : fault ≡ first = cc in subst (λ f. IsFaulty told_bytes f) same (subst (λ b. IsFaulty b fault) (same_file request file bytes of told_bytes there) faults)
+  fault_told request (done e answered) first is told_bytes there = absurd (cc)
+  fault_told request (refuses e answered) first is told_bytes there = absurd (cc)
 
-  -- ---- the file and the address of a route request
+  -- ---- what status 0 and status 8 tell
 
-  module _ (file : List ℕ) (h : ℕ) where
-    file_is : (f : List ℕ) (k : ℕ) (bytes : List ℕ) → IsFileOf (Route file h) f k bytes → f ≡ file
-    file_is f k bytes of = let asked = of.asked in cc
+  asked_file : (request : Request) (file : List ℕ) → table_file request ≡ Some file → (f bytes : List ℕ) → IsFileOf request f bytes → IfSome (told file) (λ b. bytes ≡ b)
+  asked_file request file asked f bytes of =
+      let same : f ≡ file = let e = of.asked in cc in
+      subst (λ g. IfSome (told g) (λ b. bytes ≡ b)) same of.same
 
-    address_is : (f : List ℕ) (k : ℕ) (bytes : List ℕ) → IsFileOf (Route file h) f k bytes → k ≡ h
-    address_is f k bytes of = let asked = of.asked in cc
+  is_table_of : (request : Request) (file : List ℕ) → table_file request ≡ Some file → (answered : IsAnswered request) → IsTableOf (told file) answered.table
+  is_table_of request file asked answered = record {
+    bytes = answered.bytes;
+    told_so = asked_file request file asked answered.file answered.bytes answered.of;
+    reading = answered.reading;
+  }
 
-    same_there : (f : List ℕ) (k : ℕ) (bytes : List ℕ) → IsFileOf (Route file h) f k bytes → IfSome (told file) (λ b. bytes ≡ b)
-    same_there f k bytes of = subst (λ g. IfSome (told g) (λ b. bytes ≡ b)) (file_is f k bytes of) of.same
+  pub route_line : (file : List ℕ) (h : ℕ) → Ran (Route file h) → status ≡ Done → (line : List ℕ) × IsRouteLine (told file) h line × Takes old new line
+  route_line file h r is =
+      let answered = answer_done (Route file h) r is file refl in
+      let of = is_table_of (Route file h) file refl answered in
+      let to = done_selection answered.table status h answered.outcome answered.written.0 is answered.answer in
+      (answered.outcome.text, record { bytes = of.bytes; told_so = of.told_so; table = answered.table; reading = of.reading; selection = to.0; selected = to.1; text = to.2 }, answered.written.1)
 
-    are_told : (f : List ℕ) (k : ℕ) (bytes : List ℕ) → IsFileOf (Route file h) f k bytes → (told_bytes : List ℕ) → told file ≡ Some told_bytes → bytes ≡ told_bytes
-    are_told f k bytes of told_bytes there = same_as_told (told file) bytes told_bytes (same_there f k bytes of) there
+  pub list_written : (file : List ℕ) → Ran (Listing file) → status ≡ Done → (text : List ℕ) × IsListText (told file) text × Takes old new text
+  list_written file r is =
+      let answered = answer_done (Listing file) r is file refl in
+      (answered.outcome.text, record { table = answered.table; is_table = is_table_of (Listing file) file refl answered; lines = ap (λ o. o.text) answered.answer }, answered.written.1)
 
-    selected_there : (f : List ℕ) (k : ℕ) (bytes : List ℕ) (table : CedtFields) (s : Selection) → IsFileOf (Route file h) f k bytes → IsSelection (windows_of table.records None) k s → IsSelection (windows_of table.records None) h s
-    selected_there f k bytes table s of selected = subst (λ x. IsSelection (windows_of table.records None) x s) (address_is f k bytes of) selected
+  pub normal_written : (file : List ℕ) → Ran (Normal file) → status ≡ Done → (bytes : List ℕ) × IsNormalText (told file) bytes × Takes old new bytes
+  normal_written file r is =
+      let answered = answer_done (Normal file) r is file refl in
+      (answered.outcome.text, record { table = answered.table; is_table = is_table_of (Normal file) file refl answered; spelled = ap (λ o. o.text) answered.answer }, answered.written.1)
 
-    nowhere_there : (f : List ℕ) (k : ℕ) (bytes : List ℕ) (table : CedtFields) → IsFileOf (Route file h) f k bytes → IsNowhere (windows_of table.records None) k → IsNowhere (windows_of table.records None) h
-    nowhere_there f k bytes table of none = subst (λ x. IsNowhere (windows_of table.records None) x) (address_is f k bytes of) none
-
-    pub route_line : Ran (Route file h) → status ≡ Done → (line : List ℕ) × IsRouteLine (told file) h line × Takes old new line
-    route_line (out_of_memory e nothing) is = absurd (cc)
-    route_line (cut e rose) is = absurd (cc)
-    route_line (misused e r) is = absurd (cc)
-    route_line (helped e r) is = absurd (cc)
-    route_line (version e r) is = absurd (cc)
-    route_line (file_unread e rose) is = absurd (cc)
-    route_line (file_large f k bytes e of large) is = absurd (cc)
-    route_line (table_faulty f k bytes fault e of faults) is = absurd (cc)
-    route_line (routes f k bytes other s e of reading selected taken) is = (route_text s, record { bytes = bytes; told_so = same_there f k bytes of; table = other; reading = reading; selection = s; selected = selected_there f k bytes other s of selected; text = refl }, taken)
-    route_line (refuses f k bytes other e of reading none taken) is = absurd (cc)
-
-    pub refused_by : Ran (Route file h) → status ≡ Refused → (told_bytes : List ℕ) → told file ≡ Some told_bytes → (table : CedtFields) × IsReading told_bytes table × IsNowhere (windows_of table.records None) h
-    refused_by (out_of_memory e nothing) is told_bytes there = absurd (cc)
-    refused_by (cut e rose) is told_bytes there = absurd (cc)
-    refused_by (misused e r) is told_bytes there = absurd (cc)
-    refused_by (helped e r) is told_bytes there = absurd (cc)
-    refused_by (version e r) is told_bytes there = absurd (cc)
-    refused_by (file_unread e rose) is told_bytes there = absurd (cc)
-    refused_by (file_large f k bytes e of large) is told_bytes there = absurd (cc)
-    refused_by (table_faulty f k bytes fault e of faults) is told_bytes there = absurd (cc)
-    refused_by (routes f k bytes other s e of reading selected taken) is told_bytes there = absurd (cc)
-    refused_by (refuses f k bytes other e of reading none taken) is told_bytes there = (other, subst (λ b. IsReading b other) (are_told f k bytes of told_bytes there) reading, nowhere_there f k bytes other of none)
+  pub refused_by : (file : List ℕ) (h : ℕ) → Ran (Route file h) → status ≡ Refused → (told_bytes : List ℕ) → told file ≡ Some told_bytes → (table : CedtFields) × IsReading told_bytes table × IsNowhere (windows_of table.records None) h
+  refused_by file h r is told_bytes there =
+      let answered = answer_refused (Route file h) r is in
+      (answered.table, subst (λ b. IsReading b answered.table) (same_file (Route file h) answered.file answered.bytes answered.of told_bytes there) answered.reading, refused_selection answered.table status h answered.outcome answered.written.0 is answered.answer)
 
   -- ---- where the file has one table, or one first fault
 
@@ -245,16 +374,17 @@ module _ (told : List ℕ → Option (List ℕ)) (fb fn sb sn : ℕ) (old new : 
     few_and_many bytes other same few many = let lengths = ap length same in omega arith
 
     pub fault_comes : (request : Request) → Ran request → (first : CedtFault) (told_bytes : List ℕ) → told_table request told ≡ Some told_bytes → IsFaulty told_bytes first → (status ≡ BadTable first) ⊎ IsStopped status fb fn sb sn
-    fault_comes request (out_of_memory e nothing) first told_bytes there is = inr (inr (inr e))
+    fault_comes request (out_of_memory e none) first told_bytes there is = inr (inr (inr e))
+    fault_comes request (lines_cut file e r lines) first told_bytes there is = inr (inr (inr e))
     fault_comes request (cut e rose) first told_bytes there is = inr (inr (inl (e, rose)))
-    fault_comes request (misused e r) first told_bytes there is = absurd (other_request request _ r refl told_bytes there)
-    fault_comes request (helped e r) first told_bytes there is = absurd (other_request request _ r refl told_bytes there)
-    fault_comes request (version e r) first told_bytes there is = absurd (other_request request _ r refl told_bytes there)
+    fault_comes request (misused e r) first told_bytes there is = absurd (no_file request _ r refl told_bytes there)
+    fault_comes request (helped e r) first told_bytes there is = absurd (no_file request _ r refl told_bytes there)
+    fault_comes request (version e r) first told_bytes there is = absurd (no_file request _ r refl told_bytes there)
     fault_comes request (file_unread e rose) first told_bytes there is = inr (inl (e, rose))
-    fault_comes request (file_large f k bytes e of large) first told_bytes there is = absurd (few_and_many told_bytes bytes (sym (same_file request f k bytes of told_bytes there)) is.within large)
-    fault_comes request (table_faulty f k bytes fault e of faults) first told_bytes there is = inl (e ∙ ap BadTable (same_fault bytes told_bytes fault first (same_file request f k bytes of told_bytes there) faults is))
-    fault_comes request (routes f k bytes other s e of reading selected taken) first told_bytes there is = absurd (reading_and_fault bytes told_bytes other first (same_file request f k bytes of told_bytes there) reading is)
-    fault_comes request (refuses f k bytes other e of reading none taken) first told_bytes there is = absurd (reading_and_fault bytes told_bytes other first (same_file request f k bytes of told_bytes there) reading is)
+    fault_comes request (file_large file bytes e of large) first told_bytes there is = absurd (few_and_many told_bytes bytes (sym (same_file request file bytes of told_bytes there)) is.within large)
+    fault_comes request (table_faulty file bytes fault e of faults) first told_bytes there is = inl (e ∙ ap BadTable (same_fault bytes told_bytes fault first (same_file request file bytes of told_bytes there) faults is))
+    fault_comes request (done e answered) first told_bytes there is = absurd (reading_and_fault answered.bytes told_bytes answered.table first (same_file request answered.file answered.bytes answered.of told_bytes there) answered.reading is)
+    fault_comes request (refuses e answered) first told_bytes there is = absurd (reading_and_fault answered.bytes told_bytes answered.table first (same_file request answered.file answered.bytes answered.of told_bytes there) answered.reading is)
 
     none_comes_by : (request : Request) → Ran request → (told_bytes : List ℕ) → told_table request told ≡ Some told_bytes → length told_bytes ≤ file_limit → ¬ (HasTable told_bytes) → HasTable told_bytes ⊎ HasFault told_bytes → ((fault : CedtFault) × (status ≡ BadTable fault)) ⊎ IsStopped status fb fn sb sn
     none_comes_by request r told_bytes there within none (inl table) = absurd (none table)
@@ -268,52 +398,64 @@ module _ (told : List ℕ → Option (List ℕ)) (fb fn sb sn : ℕ) (old new : 
     none_comes some request r told_bytes there within none = none_comes_by request r told_bytes there within none (some told_bytes)
 
     pub too_large_comes : (request : Request) → Ran request → (told_bytes : List ℕ) → told_table request told ≡ Some told_bytes → file_limit < length told_bytes → (status ≡ TooLarge) ⊎ IsStopped status fb fn sb sn
-    too_large_comes request (out_of_memory e nothing) told_bytes there many = inr (inr (inr e))
+    too_large_comes request (out_of_memory e none) told_bytes there many = inr (inr (inr e))
+    too_large_comes request (lines_cut file e r lines) told_bytes there many = inr (inr (inr e))
     too_large_comes request (cut e rose) told_bytes there many = inr (inr (inl (e, rose)))
-    too_large_comes request (misused e r) told_bytes there many = absurd (other_request request _ r refl told_bytes there)
-    too_large_comes request (helped e r) told_bytes there many = absurd (other_request request _ r refl told_bytes there)
-    too_large_comes request (version e r) told_bytes there many = absurd (other_request request _ r refl told_bytes there)
+    too_large_comes request (misused e r) told_bytes there many = absurd (no_file request _ r refl told_bytes there)
+    too_large_comes request (helped e r) told_bytes there many = absurd (no_file request _ r refl told_bytes there)
+    too_large_comes request (version e r) told_bytes there many = absurd (no_file request _ r refl told_bytes there)
     too_large_comes request (file_unread e rose) told_bytes there many = inr (inl (e, rose))
-    too_large_comes request (file_large f k bytes e of large) told_bytes there many = inl e
-    too_large_comes request (table_faulty f k bytes fault e of faults) told_bytes there many = absurd (few_and_many bytes told_bytes (same_file request f k bytes of told_bytes there) faults.within many)
-    too_large_comes request (routes f k bytes other s e of reading selected taken) told_bytes there many = absurd (few_and_many bytes told_bytes (same_file request f k bytes of told_bytes there) reading.within many)
-    too_large_comes request (refuses f k bytes other e of reading none taken) told_bytes there many = absurd (few_and_many bytes told_bytes (same_file request f k bytes of told_bytes there) reading.within many)
+    too_large_comes request (file_large file bytes e of large) told_bytes there many = inl e
+    too_large_comes request (table_faulty file bytes fault e of faults) told_bytes there many = absurd (few_and_many bytes told_bytes (same_file request file bytes of told_bytes there) faults.within many)
+    too_large_comes request (done e answered) told_bytes there many = absurd (few_and_many answered.bytes told_bytes (same_file request answered.file answered.bytes answered.of told_bytes there) answered.reading.within many)
+    too_large_comes request (refuses e answered) told_bytes there many = absurd (few_and_many answered.bytes told_bytes (same_file request answered.file answered.bytes answered.of told_bytes there) answered.reading.within many)
+
+    -- the answer by the table that the told bytes spell
+    answered_by : (request : Request) → IsAnswered request → (table : CedtFields) (told_bytes : List ℕ) → told_table request told ≡ Some told_bytes → IsReading told_bytes table → (outcome : Outcome) × IsTableAnswer request table outcome × IsWritten outcome status old new
+    answered_by request answered table told_bytes there reading =
+        let same = same_reading answered.bytes told_bytes answered.table table (same_file request answered.file answered.bytes answered.of told_bytes there) answered.reading reading in
+        (answered.outcome, subst (λ t. IsTableAnswer request t answered.outcome) same answered.answer, answered.written)
+
+    pub some_answer_comes : (request : Request) → Ran request → (table : CedtFields) (told_bytes : List ℕ) → told_table request told ≡ Some told_bytes → IsReading told_bytes table → ((outcome : Outcome) × IsTableAnswer request table outcome × IsWritten outcome status old new) ⊎ IsStopped status fb fn sb sn
+    some_answer_comes request (out_of_memory e none) table told_bytes there reading = inr (inr (inr e))
+    some_answer_comes request (lines_cut file e r lines) table told_bytes there reading = inr (inr (inr e))
+    some_answer_comes request (cut e rose) table told_bytes there reading = inr (inr (inl (e, rose)))
+    some_answer_comes request (misused e r) table told_bytes there reading = absurd (no_file request _ r refl told_bytes there)
+    some_answer_comes request (helped e r) table told_bytes there reading = absurd (no_file request _ r refl told_bytes there)
+    some_answer_comes request (version e r) table told_bytes there reading = absurd (no_file request _ r refl told_bytes there)
+    some_answer_comes request (file_unread e rose) table told_bytes there reading = inr (inl (e, rose))
+    some_answer_comes request (file_large file bytes e of large) table told_bytes there reading = absurd (few_and_many told_bytes bytes (sym (same_file request file bytes of told_bytes there)) reading.within large)
+    some_answer_comes request (table_faulty file bytes fault e of faults) table told_bytes there reading = absurd (reading_and_fault told_bytes bytes table fault (sym (same_file request file bytes of told_bytes there)) reading faults)
+    some_answer_comes request (done e answered) table told_bytes there reading = inl (answered_by request answered table told_bytes there reading)
+    some_answer_comes request (refuses e answered) table told_bytes there reading = inl (answered_by request answered table told_bytes there reading)
+
+    -- it is the answer of the request
+    pub answer_comes : (request : Request) → Ran request → (table : CedtFields) (outcome : Outcome) (told_bytes : List ℕ) → told_table request told ≡ Some told_bytes → IsReading told_bytes table → IsTableAnswer request table outcome → IsWritten outcome status old new ⊎ IsStopped status fb fn sb sn
+    answer_comes request r table outcome told_bytes there reading answer = is_it (some_answer_comes request r table told_bytes there reading)
+      where
+        is_it : ((o : Outcome) × IsTableAnswer request table o × IsWritten o status old new) ⊎ IsStopped status fb fn sb sn → IsWritten outcome status old new ⊎ IsStopped status fb fn sb sn
+        is_it (inl some) = inl (subst (λ o. IsWritten o status old new) (one_answer request table some.0 outcome some.1 answer) some.2)
+        is_it (inr stopped) = inr stopped
+
+    pub listed_comes : (file : List ℕ) → Ran (Listing file) → (table : CedtFields) (told_bytes : List ℕ) → told file ≡ Some told_bytes → IsReading told_bytes table → IsWritten (listed table) status old new ⊎ IsStopped status fb fn sb sn
+    listed_comes file r table told_bytes there reading = answer_comes (Listing file) r table (listed table) told_bytes there reading refl
+
+    pub normalized_comes : (file : List ℕ) → Ran (Normal file) → (table : CedtFields) (told_bytes : List ℕ) → told file ≡ Some told_bytes → IsReading told_bytes table → IsWritten (normalized table) status old new ⊎ IsStopped status fb fn sb sn
+    normalized_comes file r table told_bytes there reading = answer_comes (Normal file) r table (normalized table) told_bytes there reading refl
+
+    -- nothing failed
+    pub outcome_comes : (request : Request) → Ran request → (table : CedtFields) (told_bytes : List ℕ) → told_table request told ≡ Some told_bytes → IsReading told_bytes table → ¬ (Rose fb fn) → ¬ (Rose sb sn) → (status ≡ Memory) ⊎ ((outcome : Outcome) × IsTableAnswer request table outcome × IsWritten outcome status old new)
+    outcome_comes request r table told_bytes there reading files_well sink_well = unless (some_answer_comes request r table told_bytes there reading)
+      where
+        unless : ((o : Outcome) × IsTableAnswer request table o × IsWritten o status old new) ⊎ IsStopped status fb fn sb sn → (status ≡ Memory) ⊎ ((outcome : Outcome) × IsTableAnswer request table outcome × IsWritten outcome status old new)
+        unless (inl some) = inr some
+        unless (inr (inl unread)) = absurd (files_well unread.1)
+        unless (inr (inr (inl unwritten))) = absurd (sink_well unwritten.1)
+        unless (inr (inr (inr is))) = inl is
 
     pub refused_comes : (file : List ℕ) (h : ℕ) → Ran (Route file h) → (table : CedtFields) (told_bytes : List ℕ) → told file ≡ Some told_bytes → IsReading told_bytes table → IsNowhere (windows_of table.records None) h → (status ≡ Refused) ⊎ IsStopped status fb fn sb sn
-    refused_comes file h (out_of_memory e nothing) table told_bytes there read nowhere_is = inr (inr (inr e))
-    refused_comes file h (cut e rose) table told_bytes there read nowhere_is = inr (inr (inl (e, rose)))
-    refused_comes file h (misused e r) table told_bytes there read nowhere_is = absurd (cc)
-    refused_comes file h (helped e r) table told_bytes there read nowhere_is = absurd (cc)
-    refused_comes file h (version e r) table told_bytes there read nowhere_is = absurd (cc)
-    refused_comes file h (file_unread e rose) table told_bytes there read nowhere_is = inr (inl (e, rose))
-    refused_comes file h (file_large f k bytes e of large) table told_bytes there read nowhere_is = absurd (few_and_many told_bytes bytes (sym (are_told file h f k bytes of told_bytes there)) read.within large)
-    refused_comes file h (table_faulty f k bytes fault e of faults) table told_bytes there read nowhere_is = absurd (reading_and_fault told_bytes bytes table fault (sym (are_told file h f k bytes of told_bytes there)) read faults)
-    refused_comes file h (routes f k bytes other s e of reading selected taken) table told_bytes there read nowhere_is = let same = same_reading bytes told_bytes other table (are_told file h f k bytes of told_bytes there) reading read in absurd (selection_and_none (windows_of table.records None) h s (subst (λ t. IsSelection (windows_of t.records None) h s) same (selected_there file h f k bytes other s of selected)) nowhere_is)
-    refused_comes file h (refuses f k bytes other e of reading none taken) table told_bytes there read nowhere_is = inl e
-
-    pub outcome_comes : (file : List ℕ) (h : ℕ) → Ran (Route file h) → (table : CedtFields) (told_bytes : List ℕ) → told file ≡ Some told_bytes → IsReading told_bytes table → ¬ (Rose fb fn) → ¬ (Rose sb sn) → (status ≡ Memory) ⊎ ((outcome : Outcome) × IsRouted table h outcome × IsWritten outcome status old new)
-    outcome_comes file h (out_of_memory e nothing) table told_bytes there read files_well sink_well = inl e
-    outcome_comes file h (cut e rose) table told_bytes there read files_well sink_well = absurd (sink_well rose)
-    outcome_comes file h (misused e r) table told_bytes there read files_well sink_well = absurd (cc)
-    outcome_comes file h (helped e r) table told_bytes there read files_well sink_well = absurd (cc)
-    outcome_comes file h (version e r) table told_bytes there read files_well sink_well = absurd (cc)
-    outcome_comes file h (file_unread e rose) table told_bytes there read files_well sink_well = absurd (files_well rose)
-    outcome_comes file h (file_large f k bytes e of large) table told_bytes there read files_well sink_well = absurd (few_and_many told_bytes bytes (sym (are_told file h f k bytes of told_bytes there)) read.within large)
-    outcome_comes file h (table_faulty f k bytes fault e of faults) table told_bytes there read files_well sink_well = absurd (reading_and_fault told_bytes bytes table fault (sym (are_told file h f k bytes of told_bytes there)) read faults)
-    outcome_comes file h (routes f k bytes other s e of reading selected taken) table told_bytes there read files_well sink_well = let same = same_reading bytes told_bytes other table (are_told file h f k bytes of told_bytes there) reading read in inr (routed s, to_bridge s (subst (λ t. IsSelection (windows_of t.records None) h s) same (selected_there file h f k bytes other s of selected)), (e, taken))
-    outcome_comes file h (refuses f k bytes other e of reading none taken) table told_bytes there read files_well sink_well = let same = same_reading bytes told_bytes other table (are_told file h f k bytes of told_bytes there) reading read in inr (no_window, nowhere (subst (λ t. IsNowhere (windows_of t.records None) h) same (nowhere_there file h f k bytes other of none)), (e, taken))
-
-    written_as : (outcome other : Outcome) → outcome ≡ other → status ≡ outcome.status → Takes old new outcome.text → IsWritten other status old new
-    written_as outcome other same e taken = subst (λ o. IsWritten o status old new) same (e, taken)
-
-    pub routed_comes : (file : List ℕ) (h : ℕ) → Ran (Route file h) → (table : CedtFields) (outcome : Outcome) (told_bytes : List ℕ) → told file ≡ Some told_bytes → IsReading told_bytes table → IsRouted table h outcome → IsWritten outcome status old new ⊎ IsStopped status fb fn sb sn
-    routed_comes file h (out_of_memory e nothing) table outcome told_bytes there read answer = inr (inr (inr e))
-    routed_comes file h (cut e rose) table outcome told_bytes there read answer = inr (inr (inl (e, rose)))
-    routed_comes file h (misused e r) table outcome told_bytes there read answer = absurd (cc)
-    routed_comes file h (helped e r) table outcome told_bytes there read answer = absurd (cc)
-    routed_comes file h (version e r) table outcome told_bytes there read answer = absurd (cc)
-    routed_comes file h (file_unread e rose) table outcome told_bytes there read answer = inr (inl (e, rose))
-    routed_comes file h (file_large f k bytes e of large) table outcome told_bytes there read answer = absurd (few_and_many told_bytes bytes (sym (are_told file h f k bytes of told_bytes there)) read.within large)
-    routed_comes file h (table_faulty f k bytes fault e of faults) table outcome told_bytes there read answer = absurd (reading_and_fault told_bytes bytes table fault (sym (are_told file h f k bytes of told_bytes there)) read faults)
-    routed_comes file h (routes f k bytes other s e of reading selected taken) table outcome told_bytes there read answer = let same = same_reading bytes told_bytes other table (are_told file h f k bytes of told_bytes there) reading read in let is = routed_is table h s (subst (λ t. IsSelection (windows_of t.records None) h s) same (selected_there file h f k bytes other s of selected)) outcome answer in inl (written_as (routed s) outcome is e taken)
-    routed_comes file h (refuses f k bytes other e of reading none taken) table outcome told_bytes there read answer = let same = same_reading bytes told_bytes other table (are_told file h f k bytes of told_bytes there) reading read in let is = nowhere_is table h (subst (λ t. IsNowhere (windows_of t.records None) h) same (nowhere_there file h f k bytes other of none)) outcome answer in inl (written_as no_window outcome is e taken)
+    refused_comes file h r table told_bytes there reading none = refusal (answer_comes (Route file h) r table no_window told_bytes there reading (nowhere none))
+      where
+        refusal : IsWritten no_window status old new ⊎ IsStopped status fb fn sb sn → (status ≡ Refused) ⊎ IsStopped status fb fn sb sn
+        refusal (inl written) = inl written.0
+        refusal (inr stopped) = inr stopped

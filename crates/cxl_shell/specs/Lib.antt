@@ -4,10 +4,15 @@ pub mod Request
 pub mod Words
 pub mod Asked
 pub mod Route
+pub mod Lines
+pub mod LinePlaces
 pub mod Outcome
 pub mod Answers
 pub mod Tables
 pub mod Ends
+pub mod Listed
+pub mod Run
 pub mod RouteLine
+pub mod TableTexts
 pub use Rattle.cxl_enc.specs.Codes
 pub use Rattle.cxl_enc.specs.Faults

@@ -4,7 +4,7 @@ use crate::help::{HELP, VERSION};
 use crate::selection::Selection;
 use crate::status::Status;
 use crate::texts::{route_text, table_fault_text, too_large_text, unread_text};
-use cxl_cedt::CedtFault;
+use cxl_cedt::{Cedt, CedtFault, write};
 use cxl_io::Memory;
 use std::alloc::Global;
 use std::marker::Model;
@@ -13,20 +13,19 @@ use std::marker::Model;
 #[derive(Debug, Drop)]
 pub(crate) struct Answer {
     pub(crate) status: Status,
-    pub(crate) text: String,
+    pub(crate) text: Vec<u8>,
 }
 
 impl Model for Answer {
-    ghost use Rattle.std.specs.Prelude.{string_bytes};
     ghost use Rattle.cxl_shell.specs.Outcome.{Outcome};
 
     ghost Value = { Outcome };
 
-    ghost view = { λ a. record { status = a.status; text = string_bytes a.text } };
+    ghost view = { λ a. record { status = a.status; text = a.text.items } };
 }
 
 impl Answer {
-    ghost use Rattle.cxl_shell.specs.Outcome.{helped, version_told, misused, unread, too_large, bad_table, routed, no_window};
+    ghost use Rattle.cxl_shell.specs.Outcome.{helped, version_told, misused, unread, too_large, bad_table, routed, no_window, normalized};
 
     /// What the program can do.
     pub(crate) fn help(alloc: Global) -> Result<Answer, Memory>
@@ -96,10 +95,19 @@ impl Answer {
         Answer::new(alloc, Status::Refused, "no window\n")
     }
 
+    /// A table's bytes as the writer gives them.
+    pub(crate) fn normalized(alloc: Global, table: &Cedt) -> Result<Answer, Memory>
+        ensures { IfOk result (λ answer. answer ≡ normalized table.now) }
+    {
+        let text = write(alloc, table)?;
+        let status = Status::Done;
+        Ok(Answer { status, text })
+    }
+
     fn new(alloc: Global, status: Status, text: &str) -> Result<Answer, Memory>
         ensures { IfOk result (λ answer. answer ≡ record { status = status; text = text.now }) }
     {
-        let text = String::from_str(alloc, text)?;
+        let text = Vec::from_slice(alloc, text.as_bytes())?;
         Ok(Answer { status, text })
     }
 }

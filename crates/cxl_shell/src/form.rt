@@ -1,6 +1,6 @@
 ghost use Rattle.std.specs.Prelude.{◌≡◌};
 ghost use Rattle.cxl_shell.specs.Asked.{asked};
-ghost use Rattle.cxl_shell.specs.Request.{request_of, route_request, alone};
+ghost use Rattle.cxl_shell.specs.Request.{request_of, route_request, list_request, normal_request, alone};
 ghost use Rattle.cxl_shell.specs.Words.{bytes_of};
 
 use cxl_io::read_number;
@@ -10,6 +10,10 @@ use cxl_io::read_number;
 pub(crate) enum Form<'a> {
     /// The window, position and bridge of a host address, by the table in a file.
     Route(&'a str, u64),
+    /// A line for each record of the table in a file.
+    Listing(&'a str),
+    /// The bytes of the table in a file, as the writer gives them.
+    Normal(&'a str),
     Help,
     Version,
     /// The words are none of the forms, or a word is no number that has to be one.
@@ -25,6 +29,8 @@ pub(crate) fn form_of(words: &[String]) -> Form<'_>
     };
     match verb.as_str() {
         "route" => route_form(operands),
+        "list" => list_form(operands),
+        "normal" => normal_form(operands),
         "--help" => alone(Form::Help, operands),
         "--version" => alone(Form::Version, operands),
         _ => Form::Unreadable,
@@ -51,6 +57,26 @@ fn route_form(words: &[String]) -> Form<'_>
             Ok(h) => Form::Route(file.as_str(), h),
             Err(_) => Form::Unreadable,
         },
+        _ => Form::Unreadable,
+    }
+}
+
+/// The word after `list`: a file.
+fn list_form(words: &[String]) -> Form<'_>
+    ensures { asked result ≡ list_request (bytes_of words.now) }
+{
+    match words {
+        [file] => Form::Listing(file.as_str()),
+        _ => Form::Unreadable,
+    }
+}
+
+/// The word after `normal`: a file.
+fn normal_form(words: &[String]) -> Form<'_>
+    ensures { asked result ≡ normal_request (bytes_of words.now) }
+{
+    match words {
+        [file] => Form::Normal(file.as_str()),
         _ => Form::Unreadable,
     }
 }

@@ -3,6 +3,8 @@ pub const HELP: &str = "\
 cxlplan plans and checks CXL memory regions.
 
 cxlplan route CEDT HPA    the window, the position and the bridge of a host address
+cxlplan list CEDT         a line for each record of the table, windows with their verdicts
+cxlplan normal CEDT       the table's bytes with its reserved fields zero
 cxlplan --help            this text
 cxlplan --version         the version
 

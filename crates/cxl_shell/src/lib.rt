@@ -3,8 +3,13 @@
 
 mod answer;
 mod command;
+mod finish;
 mod form;
 mod help;
+mod lines;
+mod list;
+mod normal;
+mod route;
 mod selection;
 mod shell;
 mod status;

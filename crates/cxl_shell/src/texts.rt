@@ -1,4 +1,4 @@
-ghost use Rattle.std.specs.Prelude.{◌≡◌, IfOk, string_bytes};
+ghost use Rattle.std.specs.Prelude.{◌≡◌, IfOk};
 ghost use Rattle.cxl_shell.specs.Texts.{route_text, unread_text, too_large_text, table_fault_text};
 
 use crate::selection::Selection;
@@ -6,34 +6,34 @@ use cxl_cedt::CedtFault;
 use std::alloc::{AllocError, Global};
 use std::fmt;
 
-pub(crate) fn route_text(alloc: Global, selection: Selection) -> Result<String, AllocError>
-    ensures { IfOk result (λ text. string_bytes text ≡ route_text selection) }
+pub(crate) fn route_text(alloc: Global, selection: Selection) -> Result<Vec<u8>, AllocError>
+    ensures { IfOk result (λ text. text.items ≡ route_text selection) }
 {
     let Selection {
         window,
         position,
         bridge,
     } = selection;
-    format!(in alloc; "window {window} position {position} bridge {bridge}\n")
+    Ok(format!(in alloc; "window {window} position {position} bridge {bridge}\n")?.into_bytes())
 }
 
-pub(crate) fn unread_text(alloc: Global, file: &str) -> Result<String, AllocError>
-    ensures { IfOk result (λ text. string_bytes text ≡ unread_text file.now) }
+pub(crate) fn unread_text(alloc: Global, file: &str) -> Result<Vec<u8>, AllocError>
+    ensures { IfOk result (λ text. text.items ≡ unread_text file.now) }
 {
-    format!(in alloc; "error: cannot read {file}\n")
+    Ok(format!(in alloc; "error: cannot read {file}\n")?.into_bytes())
 }
 
-pub(crate) fn too_large_text(alloc: Global, file: &str) -> Result<String, AllocError>
-    ensures { IfOk result (λ text. string_bytes text ≡ too_large_text file.now) }
+pub(crate) fn too_large_text(alloc: Global, file: &str) -> Result<Vec<u8>, AllocError>
+    ensures { IfOk result (λ text. text.items ≡ too_large_text file.now) }
 {
-    format!(in alloc; "error: {file} too large\n")
+    Ok(format!(in alloc; "error: {file} too large\n")?.into_bytes())
 }
 
-pub(crate) fn table_fault_text(alloc: Global, fault: CedtFault) -> Result<String, AllocError>
-    ensures { IfOk result (λ text. string_bytes text ≡ table_fault_text fault) }
+pub(crate) fn table_fault_text(alloc: Global, fault: CedtFault) -> Result<Vec<u8>, AllocError>
+    ensures { IfOk result (λ text. text.items ≡ table_fault_text fault) }
 {
     let name = FaultName(fault);
-    format!(in alloc; "error: table {name}\n")
+    Ok(format!(in alloc; "error: table {name}\n")?.into_bytes())
 }
 
 /// A fault as the program names it.

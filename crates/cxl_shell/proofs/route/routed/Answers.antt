@@ -1,6 +1,6 @@
 use Rattle.cxl_shell.specs.Outcome.{IsRouted, to_bridge, nowhere}
 use Rattle.cxl_shell.proofs.Results.{if_ok_at}
-use Rattle.cxl_shell.proofs.command.routed.Goals as goal
+use Rattle.cxl_shell.proofs.route.routed.Goals as goal
 
 pub returns-in-Some : goal.returns-in-Some
 returns-in-Some c =
