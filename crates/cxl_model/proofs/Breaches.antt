@@ -1,15 +1,14 @@
 -- Where no decoder can break a rule, and the first breach among the places that are left.
-use Rattle.std.proofs.Common.{◌≡◌, ◌⊎◌, ℕ, zero, suc, ◌+◌, ◌<◌, ◌≤◌, Bool, true, false, not, ◌&&◌, List, [], length, Option, Some, None, refl, sym, ap, ◌∙◌, subst, inl, inr, arith, if◌then◌else◌}
-use Rattle.std.specs.Prelude.{slice_get, ◌==◌, nat_lt, option_map}
-use Rattle.std.specs.Option.{option_map_or, option_eq}
+use Rattle.std.proofs.Common.{◌≡◌, ◌⊎◌, ℕ, zero, suc, ◌+◌, ◌<◌, ◌≤◌, Bool, true, false, not, ◌&&◌, [], length, Option, Some, None, refl, sym, subst, inl, inr, arith, if◌then◌else◌}
+use Rattle.std.specs.Prelude.{slice_get, ◌==◌, nat_lt}
+use Rattle.std.specs.Option.{option_map_or}
 use Rattle.std.proofs.lemmas.Option.{slice_get_past}
-use Rattle.std.proofs.lemmas.Bool.{ne_eqb, eq-eqb, lt-ltb, le-ltb, cases_lt, cases_eq, cases_Bool}
+use Rattle.std.proofs.lemmas.Bool.{ne_eqb, le-ltb, cases_lt, cases_eq, cases_Bool}
 use Rattle.cxl_regs.specs.declared.decoder.Decoder.{Decoder}
 use Rattle.cxl_regs.specs.Registers.{Registers}
-use Rattle.cxl_topo.specs.declared.node.Node.{Node}
 use Rattle.cxl_span.specs.Breaches.{breaks as block_breaks}
 use Rattle.cxl_model.specs.System.{System, decoders_at, decoder_at, ram_at, pmem_at}
-use Rattle.cxl_model.specs.Accepted.{breaks, breaks_caps, breaks_block, breaks_at, IsAccepted, IsFirstBreach, HasFirstBreach}
+use Rattle.cxl_model.specs.Accepted.{breaks, breaks_caps, breaks_block, breaks_at, IsAccepted, HasFirstBreach}
 use Rattle.cxl_model.specs.Rules.{keeps_window, keeps_targets, keeps_reach, keeps_ways}
 
 -- ---- the first of some things
@@ -75,7 +74,7 @@ by_rule P s rule n i caps block window targets reach ways past =
 abbrev IsFalse : Bool → Type 0
 IsFalse b = b ≡ false
 
-caps_past_decoder : (s : System) (n i : ℕ) → 1 ≤ i → breaks_caps s n i ≡ false
+pub caps_past_decoder : (s : System) (n i : ℕ) → 1 ≤ i → breaks_caps s n i ≡ false
 caps_past_decoder s n i past = rw (ne_eqb i 0 (omega arith)) refl
 
 caps_past_node : (s : System) (n i : ℕ) → 1 + length s.nodes + length s.blocks ≤ n → breaks_caps s n i ≡ false

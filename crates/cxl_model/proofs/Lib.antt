@@ -1,3 +1,4 @@
 pub mod Breaches
 pub mod BreachesOfRanges
 pub mod BreachesWindows
+pub mod ExamplesTests

@@ -6,3 +6,4 @@ pub mod Accepted
 pub mod Regions
 pub mod Contents
 pub mod Plans
+pub mod Examples
