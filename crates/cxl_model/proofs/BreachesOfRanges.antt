@@ -1,14 +1,13 @@
 -- An image is accepted exactly where the rules on blocks hold of it and each committed range is whole.
-use Rattle.std.proofs.Common.{◌≡◌, ◌⊎◌, ◌↔◌, ℕ, ◌<◌, ◌≤◌, Bool, true, false, not, ◌&&◌, List, Option, Some, None, refl, inl, inr, arith}
-use Rattle.std.specs.Prelude.{slice_get, ◌==◌, nat_lt}
-use Rattle.std.specs.Option.{option_map_or}
+use Rattle.std.proofs.Common.{◌≡◌, ◌⊎◌, ◌↔◌, ℕ, ◌≤◌, Bool, true, false, List, Option, Some, None, refl, inl, inr, arith}
+use Rattle.std.specs.Prelude.{slice_get, ◌==◌}
 use Rattle.std.specs.List.{list_any}
 use Rattle.std.proofs.lemmas.Option.{slice_get_within, get_or_from_slice_get}
 use Rattle.std.proofs.lemmas.Bool.{ne_eqb, eq-eqb, le-ltb, cases_lt, cases_Bool}
 use Rattle.std.proofs.lemmas.List.Folds.{list_any-from_Any}
 use Rattle.cxl_regs.specs.declared.decoder.Decoder.{Decoder}
 use Rattle.cxl_model.specs.System.{System, decoders_at, decoder_at}
-use Rattle.cxl_model.specs.Ranges.{Range, range_of, has_range, serves, IsCommittedRange}
+use Rattle.cxl_model.specs.Ranges.{Range, range_of, has_range, IsCommittedRange}
 use Rattle.cxl_model.specs.Rules.{keeps_window, keeps_targets, keeps_reach, keeps_ways}
 use Rattle.cxl_model.specs.Accepted.{breaks, breaks_at, IsAccepted, KeepsBlocks, IsWhole}
 use Rattle.cxl_model.proofs.Breaches.{either}
@@ -37,7 +36,7 @@ kept_at_other s rule n i d high here other = from_nine (λ b. b ≡ false) s rul
 has_own_range : (d : Decoder) → d.committed ≡ true → has_range (range_of d) d ≡ true
 has_own_range d committed = rw (committed, eq-eqb d.base d.base refl, eq-eqb d.size d.size refl) refl
 
-passes_one : {X : Type 0} (p : X → Bool) (xs : List X) (i : ℕ) (x : X) → slice_get xs i ≡ Some x → p x ≡ true → list_any p xs ≡ true
+pub passes_one : {X : Type 0} (p : X → Bool) (xs : List X) (i : ℕ) (x : X) → slice_get xs i ≡ Some x → p x ≡ true → list_any p xs ≡ true
 passes_one p xs i x here passes = list_any-from_Any p xs (i, x, slice_get_within xs i x here, get_or_from_slice_get xs i x x here, passes)
 
 -- the range of a committed decoder is one of the image

@@ -113,7 +113,7 @@ some_past : (ram pmem i : ℕ) (o : Option Registers) → length (option_map_or 
 some_past ram pmem i None past = refl
 some_past ram pmem i (Some block) past = rw (slice_get_past block.decoders i past) refl
 
-block_kept : (s : System) (rule : ℕ) → blocks_hold s ≡ true → (n i : ℕ) → breaks_block s rule n i ≡ false
+pub block_kept : (s : System) (rule : ℕ) → blocks_hold s ≡ true → (n i : ℕ) → breaks_block s rule n i ≡ false
 block_kept s rule hold n i =
     some_in rule (ram_at s n) (pmem_at s n) i (slice_get s.blocks n)
     (none_below (breaks_some_at s) (length s.blocks) (λ m. length (decoders_at s m)) hold (λ m j past. rw (slice_get_past s.blocks m past) refl)

@@ -2,3 +2,4 @@ pub mod Breaches
 pub mod BreachesOfRanges
 pub mod BreachesWindows
 pub mod ExamplesTests
+pub mod ExamplesRegions

@@ -7,3 +7,4 @@ pub mod Regions
 pub mod Contents
 pub mod Plans
 pub mod Examples
+pub mod ExampleRegions

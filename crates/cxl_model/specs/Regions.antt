@@ -1,9 +1,8 @@
 -- The regions of an image, and which byte of a device each of their host bytes is carried to (CXL interleave
 -- arithmetic; how a slot's span is found on the tree is this project's rule).
-use Rattle.std.specs.Prelude.{◌≡◌, ℕ, ◌+◌, ◌-◌, ◌*◌, ◌/◌, ◌%◌, ◌^◌, ◌<◌, ◌≤◌, ◌==◌, Bool, true, if◌then◌else◌, List, length, slice_get, Some, IsSomeAnd}
+use Rattle.std.specs.Prelude.{◌≡◌, ℕ, ◌+◌, ◌-◌, ◌*◌, ◌/◌, ◌%◌, ◌^◌, ◌<◌, ◌≤◌, ◌==◌, true, if◌then◌else◌, length, slice_get, Some, IsSomeAnd}
 use Rattle.cxl_enc.specs.Codes.{third_of, bits_of}
 use Rattle.cxl_topo.specs.Tree.{forwards_at, is_port_at, is_endpoint_at, child_of, first_child_of, bridge_with}
-use Rattle.cxl_regs.specs.declared.decoder.Decoder.{Decoder}
 use Rattle.cxl_span.specs.Spans.{decoder_ways, span_start_of}
 use Rattle.cxl_window.specs.Fields.{WindowFields}
 use Rattle.cxl_deal.specs.Weaves.{WeaveFields, dealt_slot, dealt_offset}
