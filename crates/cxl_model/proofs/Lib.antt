@@ -3,3 +3,4 @@ pub mod BreachesOfRanges
 pub mod BreachesWindows
 pub mod ExamplesTests
 pub mod ExamplesRegions
+pub mod ExamplesSystems

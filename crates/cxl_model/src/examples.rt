@@ -8,6 +8,20 @@ ghost use Rattle.cxl_model.specs.Chain.{Chain, Missed};
 ghost use Rattle.cxl_model.specs.ExampleRegions.{region_of_two, region_of_four, region_of_six, region_by_map, window_of_three, window_of_six, with_map, route, step};
 ghost use Rattle.cxl_model.specs.Examples.{four_ways, forwarding_bridges, off_thirds, six_ways, two_bridges, window_of_both, with_committed_placeholder, with_error, with_repeated_port, with_stray_range, with_untargeted_bridge, with_window_code, with_wrong_code, without_hb1, without_ram};
 ghost use Rattle.cxl_model.specs.Regions.{IsRegionIn, Carries};
+ghost use Rattle.cxl_model.specs.System.{IsSystem};
+
+use cxl_topo::tree_laws;
+
+/// A law of systems: the accepted images stand over legal trees, with blocks and windows as the program makes
+/// them. So what is said of systems is said of something.
+pub fn examples_are_systems()
+    ensures two { IsSystem two_bridges }
+    ensures forwarding { IsSystem forwarding_bridges }
+    ensures four { IsSystem four_ways }
+    ensures six { IsSystem six_ways }
+{
+    tree_laws();
+}
 
 /// A law of rules: which of the worked images are accepted, and what each other one breaks first, by its
 /// rule, its node and its decoder.

@@ -15,7 +15,8 @@ pub use chain::{Miss, Step};
 pub use cxl_enc::{FixedList, MemKind, Memory, Name};
 pub use cxl_span::{Room, SpanFault};
 pub use examples::{
-    carried_on_examples, chains_on_examples, regions_on_examples, rules_on_examples,
+    carried_on_examples, chains_on_examples, examples_are_systems, regions_on_examples,
+    rules_on_examples,
 };
 pub use found::{Found, Place, weave_of};
 pub use laws::{accepted_or_breach, accepted_where_whole, one_outcome, one_window};
