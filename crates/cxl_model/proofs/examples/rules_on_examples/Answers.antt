@@ -1,0 +1,58 @@
+use Rattle.std.proofs.Common.{refl}
+use Rattle.cxl_span.specs.Breaches.{breaks as block_breaks}
+use Rattle.cxl_model.specs.Accepted.{breaks}
+use Rattle.cxl_model.specs.Examples.{two_bridges, forwarding_bridges, six_ways, four_ways, with_error, off_thirds, without_ram, without_hb1, with_repeated_port, with_stray_range, with_untargeted_bridge, with_committed_placeholder, with_wrong_code, with_window_code}
+use Rattle.cxl_model.proofs.ExamplesTests.{accepted_from, below_three, below_nine, below_ten, below_eleven, below_twelve, first_breach_from}
+use Rattle.cxl_model.proofs.examples.rules_on_examples.Goals as goal
+
+pub returns-clause-two_bridges : goal.returns-clause-two_bridges
+returns-clause-two_bridges c = accepted_from two_bridges refl refl refl refl refl refl
+
+pub returns-clause-forwarding_bridges : goal.returns-clause-forwarding_bridges
+returns-clause-forwarding_bridges c = accepted_from forwarding_bridges refl refl refl refl refl refl
+
+pub returns-clause-six_ways : goal.returns-clause-six_ways
+returns-clause-six_ways c = accepted_from six_ways refl refl refl refl refl refl
+
+pub returns-clause-four_ways : goal.returns-clause-four_ways
+returns-clause-four_ways c = accepted_from four_ways refl refl refl refl refl refl
+
+pub returns-clause-with_error : goal.returns-clause-with_error
+unfolding breaks block_breaks
+returns-clause-with_error c = first_breach_from with_error 3 3 0 (below_three with_error refl) refl refl refl
+
+pub returns-clause-off_thirds : goal.returns-clause-off_thirds
+unfolding breaks block_breaks
+returns-clause-off_thirds c = first_breach_from off_thirds 9 0 0 (below_nine off_thirds refl refl) refl refl refl
+
+pub returns-clause-without_ram : goal.returns-clause-without_ram
+unfolding breaks block_breaks
+returns-clause-without_ram c = first_breach_from without_ram 9 2 0 (below_nine without_ram refl refl) refl refl refl
+
+pub returns-clause-without_hb1 : goal.returns-clause-without_hb1
+unfolding breaks block_breaks
+returns-clause-without_hb1 c = first_breach_from without_hb1 10 0 0 (below_ten without_hb1 refl refl refl) refl refl refl
+
+pub returns-clause-with_repeated_port : goal.returns-clause-with_repeated_port
+unfolding breaks block_breaks
+returns-clause-with_repeated_port c = first_breach_from with_repeated_port 10 0 0 (below_ten with_repeated_port refl refl refl) refl refl refl
+
+pub returns-clause-with_stray_range : goal.returns-clause-with_stray_range
+unfolding breaks block_breaks
+returns-clause-with_stray_range c = first_breach_from with_stray_range 11 2 1 (below_eleven with_stray_range refl refl refl refl) refl refl refl
+
+pub returns-clause-with_untargeted_bridge : goal.returns-clause-with_untargeted_bridge
+unfolding breaks block_breaks
+returns-clause-with_untargeted_bridge c = first_breach_from with_untargeted_bridge 11 1 0 (below_eleven with_untargeted_bridge refl refl refl refl) refl refl refl
+
+pub returns-clause-with_committed_placeholder : goal.returns-clause-with_committed_placeholder
+unfolding breaks block_breaks
+returns-clause-with_committed_placeholder c = first_breach_from with_committed_placeholder 11 0 0 (below_eleven with_committed_placeholder refl refl refl refl) refl refl refl
+
+pub returns-clause-with_wrong_code : goal.returns-clause-with_wrong_code
+unfolding breaks block_breaks
+returns-clause-with_wrong_code c = first_breach_from with_wrong_code 12 2 0 (below_twelve with_wrong_code refl refl refl refl refl) refl refl refl
+
+pub returns-clause-with_window_code : goal.returns-clause-with_window_code
+unfolding breaks block_breaks
+returns-clause-with_window_code c = first_breach_from with_window_code 12 0 0 (below_twelve with_window_code refl refl refl refl refl) refl refl refl

@@ -1,0 +1,10 @@
+pub mod System
+pub mod Chain
+pub mod Ranges
+pub mod Rules
+pub mod Accepted
+pub mod Regions
+pub mod Contents
+pub mod Plans
+pub mod Examples
+pub mod ExampleRegions

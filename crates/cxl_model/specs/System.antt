@@ -1,0 +1,84 @@
+-- A register image over a tree of nodes, with the host's windows: what all definitions here speak of.
+use Rattle.std.specs.Prelude.{◌≡◌, ℕ, ◌+◌, ◌-◌, ◌/◌, ◌%◌, ◌^◌, nat_lt, nat_le, ◌&&◌, Bool, List, [], map, length, slice_get, All, Option, Some, option_and_then, IfSome}
+use Rattle.std.specs.Option.{option_map_or}
+use Rattle.std.specs.List.{filter_map, range_with_len}
+use Rattle.cxl_topo.specs.declared.node.Node.{Node}
+use Rattle.cxl_topo.specs.declared.node.Capacity.{Capacity}
+use Rattle.cxl_topo.specs.Kinds.{uid_of, is_endpoint, capacity_of}
+use Rattle.cxl_topo.specs.Faults.{IsTree}
+use Rattle.cxl_regs.specs.declared.decoder.Decoder.{Decoder}
+use Rattle.cxl_regs.specs.Registers.{Registers, IsBlock}
+use Rattle.cxl_span.specs.Spans.{decoder_ways, decoder_granularity}
+use Rattle.cxl_span.specs.Breaches.{BlockKeeps}
+use Rattle.cxl_window.specs.Fields.{WindowFields, IsWindow}
+use Rattle.cxl_window.specs.Windows.{AreMadeWith}
+
+-- the nodes by number, the block of each, and the windows by index
+pub record System : Type 0 where
+  pub nodes : List Node
+  pub blocks : List Registers
+  pub windows : List WindowFields
+
+-- the UIDs of a tree's bridges
+abbrev pub bridge_uids : List Node → List ℕ
+bridge_uids nodes = filter_map (λ node. uid_of node.kind) nodes
+
+-- (these two move to cxl_image)
+-- the block has the node's capability word, and is an endpoint's exactly where the node is an endpoint
+pub record IsBlockOf (node : Node) (block : Registers) : Type 0 where
+  pub cap : block.cap ≡ node.cap
+  pub endpoint : block.endpoint ≡ is_endpoint node.kind
+
+-- one block for each node
+pub record HasCapsOf (blocks : List Registers) (nodes : List Node) : Type 0 where
+  pub count : length blocks ≡ length nodes
+  pub each : (i : ℕ) (block : Registers) (node : Node) → slice_get blocks i ≡ Some block → slice_get nodes i ≡ Some node → IsBlockOf node block
+
+-- a legal tree, an image with its capability words, and windows made with its bridges
+pub record IsSystem (s : System) : Type 0 where
+  pub tree : IsTree s.nodes
+  pub blocks : All IsBlock s.blocks
+  pub caps : HasCapsOf s.blocks s.nodes
+  pub windows : All IsWindow s.windows
+  pub made : AreMadeWith s.windows (bridge_uids s.nodes)
+
+-- ---- a node's registers
+
+-- its decoders; a node without a block has none
+abbrev pub decoders_at : System → ℕ → List Decoder
+decoders_at s n = option_map_or (λ block. block.decoders) (slice_get s.blocks n) []
+
+abbrev pub decoder_at : System → ℕ → ℕ → Option Decoder
+decoder_at s n i = slice_get (decoders_at s n) i
+
+-- the bytes of ram and of pmem of its device; a port has none
+abbrev pub capacity_at : System → ℕ → Option Capacity
+capacity_at s n = option_and_then (λ node. capacity_of node.kind) (slice_get s.nodes n)
+
+abbrev pub ram_at : System → ℕ → ℕ
+ram_at s n = option_map_or (λ c. c.ram) (capacity_at s n) 0
+
+abbrev pub pmem_at : System → ℕ → ℕ
+pmem_at s n = option_map_or (λ c. c.pmem) (capacity_at s n) 0
+
+-- its block keeps the rules K2 to K8
+abbrev pub KeepsBlock : System → ℕ → Type 0
+KeepsBlock s n = IfSome (slice_get s.blocks n) (λ block. BlockKeeps block (ram_at s n) (pmem_at s n))
+
+-- ---- a decoder
+
+-- it is committed, and the address lies in its range
+abbrev pub holds_address : Decoder → ℕ → Bool
+holds_address d h = d.committed && nat_le d.base h && nat_lt h (d.base + d.size)
+
+-- entry i of a port's target list
+abbrev pub entry_at : Decoder → ℕ → ℕ
+entry_at d i = d.tail / 256 ^ i % 256
+
+-- the entries that it uses, one for each of its ways
+abbrev pub entries_of : Decoder → List ℕ
+entries_of d = map (entry_at d) (range_with_len 0 (decoder_ways d))
+
+-- the entry to which a port's decoder sends an address (CXL HDM decoder interleave)
+abbrev pub entry_of : Decoder → ℕ → ℕ
+entry_of d h = (h - d.base) / decoder_granularity d % decoder_ways d

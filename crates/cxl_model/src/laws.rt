@@ -1,0 +1,36 @@
+//! Laws of the definitions, each the contract of a function that does nothing.
+
+ghost use Rattle.std.specs.Prelude.{◌≡◌, ◌⊎◌, ◌↔◌, ℕ, ◌<◌, true, Contains};
+ghost use Rattle.cxl_window.specs.Fields.{WindowFields};
+ghost use Rattle.cxl_model.specs.System.{System, IsSystem};
+ghost use Rattle.cxl_model.specs.Chain.{Outcome, Chain};
+ghost use Rattle.cxl_model.specs.Ranges.{Range, IsCommittedRange, lies_within};
+ghost use Rattle.cxl_model.specs.Accepted.{IsAccepted, IsFirstBreach, HasFirstBreach, KeepsBlocks, IsWhole};
+
+/// A law of chains: an address has one outcome at the most.
+pub fn one_outcome()
+    ensures { (s : System) (h : ℕ) (one other : Outcome) → IsSystem s
+        → Chain s h one → Chain s h other → one ≡ other }
+{}
+
+/// A law of images: one is accepted, or it has a first breach, and not both; and it has one first breach
+/// at the most.
+pub fn accepted_or_breach()
+    ensures either { (s : System) → IsAccepted s ⊎ HasFirstBreach s }
+    ensures not_both { (s : System) → IsAccepted s → HasFirstBreach s → ⊥ }
+    ensures one { (s : System) (rule n i other m j : ℕ) → IsFirstBreach s rule n i
+        → IsFirstBreach s other m j → (rule ≡ other) × (n ≡ m) × (i ≡ j) }
+{}
+
+/// A law of images: one is accepted exactly where K1 to K8 hold of it and each committed range is whole.
+pub fn accepted_where_whole()
+    ensures { (s : System) → IsAccepted s
+        ↔ (KeepsBlocks s × ((r : Range) → IsCommittedRange s r → IsWhole s r)) }
+{}
+
+/// A law of windows: a range that has bytes lies in one usable window at the most.
+pub fn one_window()
+    ensures { (s : System) (r : Range) (w v : WindowFields) → IsSystem s → 0 < r.size
+        → Contains s.windows w → Contains s.windows v
+        → lies_within r w ≡ true → lies_within r v ≡ true → w ≡ v }
+{}

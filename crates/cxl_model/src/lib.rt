@@ -1,0 +1,25 @@
+//! What a register image over a tree of nodes means: where its decoders lead an address, which images are
+//! accepted, which regions an image has and where their bytes are carried, and which plans are legal. The
+//! types that the crates above share stand here too.
+#![tactic(auto)]
+
+mod chain;
+mod examples;
+mod found;
+mod laws;
+mod plan;
+mod poison;
+mod request;
+
+pub use chain::{Miss, Step};
+pub use cxl_enc::{FixedList, MemKind, Memory, Name};
+pub use cxl_span::{Room, SpanFault};
+pub use examples::{
+    carried_on_examples, chains_on_examples, examples_are_systems, regions_on_examples,
+    rules_on_examples,
+};
+pub use found::{Found, Place, weave_of};
+pub use laws::{accepted_or_breach, accepted_where_whole, one_outcome, one_window};
+pub use plan::{Plan, PlanFault, Reason, Row};
+pub use poison::{Entry, Part, PoisonList, Poisoned, Run, Wide};
+pub use request::Request;
