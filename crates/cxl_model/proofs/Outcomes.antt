@@ -1,9 +1,9 @@
 -- A node does one thing with an address.
-use Rattle.std.proofs.Common.{◌≡◌, ℕ, ◌+◌, ◌<◌, ◌≤◌, ◌⊎◌, Bool, true, false, not, ◌&&◌, if◌then◌else◌, List, [], ◌∷◌, length, Option, Some, None, refl, sym, ap, ◌∙◌, subst, inl, inr, arith}
+use Rattle.std.proofs.Common.{◌≡◌, ℕ, ◌+◌, ◌<◌, ◌≤◌, Bool, true, false, not, ◌&&◌, if◌then◌else◌, [], Option, Some, None, refl, sym, ap, ◌∙◌, subst, inl, inr, arith}
 use Rattle.std.specs.Prelude.{slice_get, nat_lt, nat_le, IsSomeAnd, IfSome}
 use Rattle.std.specs.Option.{option_map_or}
 use Rattle.std.proofs.lemmas.Bool.{cases_lt, leb-true, ltb-true}
-use Rattle.std.proofs.lemmas.Option.{slice_get_within, same_Some, none-some}
+use Rattle.std.proofs.lemmas.Option.{slice_get_within, same_Some}
 use Rattle.cxl_topo.specs.declared.node.Node.{Node}
 use Rattle.cxl_topo.specs.Kinds.{is_endpoint}
 use Rattle.cxl_topo.specs.Tree.{forwards_at, is_port_at, is_endpoint_at, child_of, first_child_of}
@@ -16,8 +16,8 @@ use Rattle.cxl_span.proofs.Committed.{ranges_rise}
 use Rattle.cxl_model.specs.declared.chain.Step.{Step}
 use Rattle.cxl_model.specs.declared.chain.Miss.{Miss}
 use Rattle.cxl_model.specs.declared.chain.Miss.TheVariants.{NoWindow, BadBlock, NoDecoder, NoChild}
-use Rattle.cxl_model.specs.System.{System, KeepsBlock, decoders_at, decoder_at, holds_address, entry_at, entry_of}
-use Rattle.cxl_model.specs.Chain.{Arrival, End, Arrives, Misses, Move, Forwards, Steps, Ends, Decodes, Chooses, IsStep, Places, IsArrival, IsBadBlock, LacksDecoder, ForwardsNowhere, ListsNoChild, Moves}
+use Rattle.cxl_model.specs.System.{System, decoders_at, decoder_at, holds_address, entry_at, entry_of}
+use Rattle.cxl_model.specs.Chain.{Arrival, Arrives, Misses, Move, Forwards, Steps, Ends, Decodes, Chooses, IsStep, Places, IsArrival, IsBadBlock, ListsNoChild, Moves}
 
 pub clash : (a : Bool) → a ≡ true → a ≡ false → ⊥
 clash a is_true is_false = cc

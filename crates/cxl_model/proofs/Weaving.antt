@@ -1,6 +1,6 @@
 -- What a region's weave needs: an aligned base, a known code, few ways and usable maps.
 use Rattle.std.proofs.Common.{◌≡◌, ℕ, zero, suc, ◌+◌, ◌-◌, ◌*◌, ◌%◌, ◌^◌, ◌<◌, ◌≤◌, ◌⊎◌, Bool, true, false, ◌&&◌, cond, if◌then◌else◌, List, [], ◌∷◌, length, get_or, Option, Some, None, refl, sym, ap, ◌∙◌, subst, inl, inr, arith}
-use Rattle.std.specs.Prelude.{slice_get, ◌==◌, nat_lt, nat_le, find, IsTrue}
+use Rattle.std.specs.Prelude.{◌==◌, nat_lt, nat_le, find, IsTrue}
 use Rattle.std.specs.Option.{option_map_or}
 use Rattle.std.proofs.lemmas.Bool.{eqb-false, ne_eqb, lt-ltb, cases_lt}
 use Rattle.std.proofs.lemmas.Option.{slice_get-get_or, none-some, same_Some}
@@ -8,7 +8,6 @@ use Rattle.cxl_enc.specs.Codes.{is_ways, third_of, bits_of}
 use Rattle.cxl_regs.specs.declared.decoder.Decoder.{Decoder}
 use Rattle.cxl_span.specs.Spans.{decoder_ways}
 use Rattle.cxl_span.proofs.KeptRules.{and_true}
-use Rattle.cxl_window.specs.declared.window.Verdict.{Verdict}
 use Rattle.cxl_window.specs.declared.window.Verdict.TheVariants.{Usable}
 use Rattle.cxl_window.specs.Position.{is_usable}
 use Rattle.cxl_window.specs.Fields.{WindowFields}
@@ -18,11 +17,11 @@ use Rattle.cxl_deal.specs.Weaves.{ways_by}
 use Rattle.cxl_model.specs.declared.found.Found.{Found}
 use Rattle.cxl_model.specs.declared.found.Place.{Place}
 use Rattle.cxl_model.specs.System.{System, IsSystem}
-use Rattle.cxl_model.specs.Ranges.{Range, lies_within, window_for, ways_above, first_decoder, range_ways, range_code}
+use Rattle.cxl_model.specs.Ranges.{Range, lies_within, window_for, ways_above, first_decoder, range_code}
 use Rattle.cxl_model.specs.Regions.{region_range, IsRegionIn}
 use Rattle.cxl_model.proofs.OutcomesWalks.{usable_is}
-use Rattle.cxl_model.proofs.WeavingWays.{each_ways, some_ways, decoder_ways_known, Divides, divides, usable_maps-same}
-use Rattle.cxl_model.proofs.WeavingServers.{Reaches, reached, Serves, has_parts, HasWays, has_ways, base_aligned, gran_known}
+use Rattle.cxl_model.proofs.WeavingWays.{some_ways, decoder_ways_known, Divides, divides, usable_maps-same}
+use Rattle.cxl_model.proofs.WeavingServers.{Reaches, reached, Serves, has_parts, has_ways, base_aligned, gran_known}
 
 -- ---- its ways
 

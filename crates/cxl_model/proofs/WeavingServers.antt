@@ -1,9 +1,9 @@
 -- What K4 and K12 say of an endpoint's decoder of a whole range, and how a slot's span leads to one.
-use Rattle.std.proofs.Common.{◌≡◌, ℕ, ◌+◌, ◌*◌, ◌%◌, ◌^◌, ◌<◌, ◌≤◌, ◌⊎◌, Bool, true, false, not, ◌&&◌, ◌||◌, if◌then◌else◌, List, [], ◌∷◌, length, get_or, Option, Some, None, refl, sym, ap, ◌∙◌, subst, inl, inr, arith}
-use Rattle.std.specs.Prelude.{slice_get, ◌==◌, nat_le, find, IsSomeAnd, All}
+use Rattle.std.proofs.Common.{◌≡◌, ℕ, ◌*◌, ◌%◌, ◌^◌, ◌≤◌, ◌⊎◌, Bool, true, false, not, ◌&&◌, ◌||◌, if◌then◌else◌, List, [], get_or, Option, Some, None, refl, sym, ap, ◌∙◌, subst, inl, inr, arith}
+use Rattle.std.specs.Prelude.{slice_get, ◌==◌, nat_le, IsSomeAnd, All}
 use Rattle.std.specs.Option.{option_map_or}
 use Rattle.std.proofs.lemmas.Bool.{eqb-true, leb-true}
-use Rattle.std.proofs.lemmas.Option.{slice_get_within, slice_get-get_or, get_or_from_slice_get, none-some, same_Some}
+use Rattle.std.proofs.lemmas.Option.{slice_get_within, slice_get-get_or, get_or_from_slice_get}
 use Rattle.std.proofs.lemmas.List.Elements.{All-get_or}
 use Rattle.std.proofs.lemmas.List.Quantifiers.{position-Some}
 use Rattle.cxl_topo.specs.Tree.{is_endpoint_at}
@@ -16,10 +16,10 @@ use Rattle.cxl_span.proofs.BreaksAt.{breaks_here}
 use Rattle.cxl_span.proofs.KeptRules.{and_true}
 use Rattle.cxl_window.specs.Fields.{WindowFields}
 use Rattle.cxl_model.specs.declared.found.Place.{Place}
-use Rattle.cxl_model.specs.System.{System, IsSystem, decoders_at, decoder_at, ram_at, pmem_at}
+use Rattle.cxl_model.specs.System.{System, decoders_at, decoder_at, ram_at, pmem_at}
 use Rattle.cxl_model.specs.Ranges.{Range, range_of, has_range, index_for, window_for, ways_above, span_kind, same_kind, range_ways, range_kind, range_code}
 use Rattle.cxl_model.specs.Rules.{keeps_ways, keeps_port_code}
-use Rattle.cxl_model.specs.Accepted.{breaks, breaks_at, KeepsBlocks, IsWhole}
+use Rattle.cxl_model.specs.Accepted.{breaks, KeepsBlocks, IsWhole}
 use Rattle.cxl_model.specs.Regions.{LeadsTo, past_forwarding, past_port, at_endpoint}
 
 -- ---- tests

@@ -1,4 +1,4 @@
-use Rattle.std.proofs.Common.{◌≡◌, ◌≤◌, ℕ, sym, ap, ◌∙◌, subst, arith}
+use Rattle.std.proofs.Common.{◌≡◌, ℕ, sym, ap, ◌∙◌, subst, arith}
 use Rattle.std.specs.Prelude.{IsTrue}
 use Rattle.cxl_enc.specs.Codes.{is_ways, third_of, bits_of}
 use Rattle.cxl_model.proofs.Weaving.{found_ways_known, told, window_divides, few_ways, found_gran_known, found_maps_usable, usable_front}
