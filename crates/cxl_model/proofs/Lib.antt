@@ -4,3 +4,8 @@ pub mod BreachesWindows
 pub mod ExamplesTests
 pub mod ExamplesRegions
 pub mod ExamplesSystems
+pub mod Outcomes
+pub mod OutcomesWalks
+pub mod WeavingWays
+pub mod WeavingServers
+pub mod Weaving

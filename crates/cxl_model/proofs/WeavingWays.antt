@@ -1,0 +1,87 @@
+-- Numbers of ways that divide each other, and the two spellings of usable maps.
+use Rattle.std.proofs.Common.{◌≡◌, ℕ, zero, suc, ◌*◌, ◌%◌, ◌<◌, ◌≤◌, Bool, true, false, not, ◌&&◌, ◌||◌, if◌then◌else◌, List, [], ◌∷◌, Option, Some, None, refl, sym, ap, ◌∙◌, subst, arith}
+use Rattle.std.specs.Prelude.{◌==◌, nat_le, IsTrue, is_some}
+use Rattle.std.specs.Option.{unwrap_or}
+use Rattle.std.proofs.lemmas.Bool.{eqb-true, leb-true, false≢true}
+use Rattle.std.proofs.Math.Nat.{mul-mod_right}
+use Rattle.cxl_enc.specs.Codes.{ways_of, is_ways, bits_of}
+use Rattle.cxl_enc.proofs.Tables.{code_is}
+use Rattle.cxl_regs.specs.declared.decoder.Decoder.{Decoder}
+use Rattle.cxl_span.specs.Spans.{decoder_ways}
+use Rattle.cxl_span.proofs.KeptRules.{and_true}
+use Rattle.cxl_window.specs.Fields as windows
+use Rattle.cxl_deal.specs.Maps as deals
+use Rattle.cxl_deal.specs.Weaves.{ways_by}
+
+-- ---- the numbers of the table
+
+ways_step : (P : ℕ → Type 0) (w n code : ℕ) (others : Option ℕ) → P n → (IsTrue (is_some others) → P w)
+    → IsTrue (is_some (if w == n then Some code else others)) → P w
+ways_step P w n code others first rest =
+    elim (w == n) as (λ b. (w == n) ≡ b → IsTrue (is_some (if b then Some code else others)) → P w) [
+      | true ↦ λ e known. subst P (sym (eqb-true w n e)) first
+      | false ↦ λ e known. rest known
+    ] refl
+
+pub each_ways : (P : ℕ → Type 0) (w : ℕ) → IsTrue (is_ways w) → P 1 → P 2 → P 4 → P 8 → P 16 → P 3 → P 6 → P 12 → P w
+each_ways P w known p1 p2 p4 p8 p16 p3 p6 p12 =
+    ways_step P w 1 0 _ p1 (ways_step P w 2 1 _ p2 (ways_step P w 4 2 _ p4 (ways_step P w 8 3 _ p8
+    (ways_step P w 16 4 _ p16 (ways_step P w 3 8 _ p3 (ways_step P w 6 9 _ p6 (ways_step P w 12 10 None p12
+    (λ none. absurd (false≢true none))))))))) known
+
+pub some_ways : (w : ℕ) → IsTrue (is_ways w) → 0 < w
+some_ways w known =
+    each_ways (λ n. 0 < n) w known (omega arith) (omega arith) (omega arith) (omega arith) (omega arith) (omega arith) (omega arith) (omega arith)
+
+known_ways : (code : ℕ) (found : Option ℕ) → ways_of code ≡ found → IsTrue (is_ways (unwrap_or found 1))
+known_ways code None is = refl
+known_ways code (Some w) is = ap (is_some {T = ℕ}) (code_is code w is)
+
+-- a decoder's ways are in the table
+pub decoder_ways_known : (d : Decoder) → IsTrue (is_ways (decoder_ways d))
+decoder_ways_known d = known_ways d.ways (ways_of d.ways) refl
+
+-- ---- one divides another
+
+-- ways b have no fewer bits than ways a where these divide them, and by the third of these they are at most 16
+abbrev goes_into : ℕ → ℕ → Bool
+goes_into a b = not (b % a == 0) || (nat_le (bits_of a) (bits_of b) && nat_le (ways_by (a % 3 == 0) (bits_of b)) 16)
+
+goes : (a b : ℕ) → IsTrue (is_ways a) → IsTrue (is_ways b) → goes_into a b ≡ true
+goes a b a_known b_known =
+    each_ways (λ x. goes_into x b ≡ true) a a_known
+    (each_ways (λ y. goes_into 1 y ≡ true) b b_known refl refl refl refl refl refl refl refl)
+    (each_ways (λ y. goes_into 2 y ≡ true) b b_known refl refl refl refl refl refl refl refl)
+    (each_ways (λ y. goes_into 4 y ≡ true) b b_known refl refl refl refl refl refl refl refl)
+    (each_ways (λ y. goes_into 8 y ≡ true) b b_known refl refl refl refl refl refl refl refl)
+    (each_ways (λ y. goes_into 16 y ≡ true) b b_known refl refl refl refl refl refl refl refl)
+    (each_ways (λ y. goes_into 3 y ≡ true) b b_known refl refl refl refl refl refl refl refl)
+    (each_ways (λ y. goes_into 6 y ≡ true) b b_known refl refl refl refl refl refl refl refl)
+    (each_ways (λ y. goes_into 12 y ≡ true) b b_known refl refl refl refl refl refl refl refl)
+
+pub record Divides (a b : ℕ) : Type 0 where
+  pub bits : bits_of a ≤ bits_of b
+  pub few : ways_by (a % 3 == 0) (bits_of b) ≤ 16
+
+divides_if : (a b : ℕ) → (b % a == 0) ≡ true → goes_into a b ≡ true → Divides a b
+divides_if a b none into =
+    let bits : Bool = nat_le (bits_of a) (bits_of b) in
+    let few : Bool = nat_le (ways_by (a % 3 == 0) (bits_of b)) 16 in
+    let parts = and_true bits few (ap (λ (x : Bool). not x || (bits && few)) (sym none) ∙ into) in
+    record { bits = leb-true (bits_of a) (bits_of b) parts.0; few = leb-true (ways_by (a % 3 == 0) (bits_of b)) 16 parts.1 }
+
+pub divides : (a b x : ℕ) → IsTrue (is_ways a) → IsTrue (is_ways b) → b ≡ a * x → Divides a b
+divides a b x a_known b_known product =
+    let none : (b % a == 0) ≡ true = ap (λ (n : ℕ). n % a == 0) product ∙ ap (λ (n : ℕ). n == 0) (mul-mod_right a x) in
+    divides_if a b none (goes a b a_known b_known)
+
+-- ---- maps
+
+pub usable_from-same : (gran k i n : ℕ) (maps : List ℕ) → windows.are_usable_from gran k i n maps ≡ deals.are_usable_from gran k i n maps
+usable_from-same gran k i zero maps = refl
+usable_from-same gran k i (suc n) [] = refl
+usable_from-same gran k i (suc n) (map ∷ maps) =
+    ap (λ (rest : Bool). deals.is_usable_map gran k i map && rest) (usable_from-same gran k (suc i) n maps)
+
+pub usable_maps-same : (gran k : ℕ) (maps : List ℕ) → windows.are_usable_maps gran k maps ≡ deals.are_usable_maps gran k maps
+usable_maps-same gran k maps = usable_from-same gran k 0 k maps
