@@ -12,7 +12,7 @@ use Rattle.cxl_model.specs.declared.found.Place.{Place}
 use Rattle.cxl_model.specs.System.{System, KeepsBlock, ram_at, pmem_at}
 use Rattle.cxl_model.specs.Ranges.{Range, IsCommittedRange}
 use Rattle.cxl_model.specs.Accepted.{IsAccepted, IsWhole}
-use Rattle.cxl_topo.specs.Tree.{is_port_at, is_endpoint_at, bridge_with}
+use Rattle.cxl_topo.specs.Tree.{forwards_at, is_port_at, is_endpoint_at, bridge_with}
 use Rattle.cxl_model.specs.Ranges.{index_for}
 use Rattle.cxl_span.specs.Spans.{span_start_of}
 use Rattle.cxl_model.specs.System.{decoders_at}
@@ -26,12 +26,12 @@ whole_from s r accepted committed = ((accepted_where_whole s).0 accepted).1 r co
 -- a span that is found behind a bridge with decoders of its own
 pub behind_bridge : (s : System) (w : WindowFields) (r : Range) (slot bridge : ℕ) (place : Place)
     → IsSomeAnd (slice_get w.targets (target_position w slot)) (λ uid. bridge_with s.nodes uid ≡ Some bridge)
-    → is_port_at s.nodes bridge ≡ true → LeadsSlot s w r slot bridge place.endpoint → is_endpoint_at s.nodes place.endpoint ≡ true
+    → forwards_at s.nodes bridge ≡ false → is_port_at s.nodes bridge ≡ true → LeadsSlot s w r slot bridge place.endpoint → is_endpoint_at s.nodes place.endpoint ≡ true
     → IsSomeAnd (index_for s r place.endpoint) (λ i. place.start ≡ span_start_of (decoders_at s place.endpoint) i) → HasSpan s w r slot place
-behind_bridge s w r slot bridge place target port leads endpoint start = record {
+behind_bridge s w r slot bridge place target own port leads endpoint start = record {
   bridge = bridge;
   target = target;
-  leads = past_port bridge place.endpoint place port leads (at_endpoint place endpoint start);
+  leads = past_port bridge place.endpoint place own port leads (at_endpoint place endpoint start);
 }
 
 -- the span of each slot below a number

@@ -20,7 +20,7 @@ use Rattle.cxl_window.specs.Fields.{WindowFields, IsUsable, AreDistinct}
 use Rattle.cxl_window.specs.declared.window.Verdict.TheVariants.{Usable}
 use Rattle.cxl_window.specs.Windows.{AreMadeWith}
 use Rattle.cxl_model.proofs.ExamplesRegions.{only_one}
-use Rattle.cxl_model.specs.System.{HasCapsOf}
+use Rattle.cxl_image.specs.Images.{HasCapsOf}
 
 -- no node has what a fault says of one
 abbrev pub none_has : List Node → (ℕ → Node → Bool) → Bool

@@ -83,7 +83,7 @@ at_place s r n (Some i) P endpoint is some = at_index s r n i endpoint is
 
 pub reached : (s : System) (w : WindowFields) (r : Range) (slot n : ℕ) (place : Place) → LeadsTo s w r slot n place → Reaches s r
 reached s w r slot n place (past_forwarding _ child _ forwards first leads) = reached s w r slot child place leads
-reached s w r slot n place (past_port _ child _ port way leads) = reached s w r slot child place leads
+reached s w r slot n place (past_port _ child _ own port way leads) = reached s w r slot child place leads
 reached s w r slot n place (at_endpoint _ endpoint start) =
     at_place s r place.endpoint (index_for s r place.endpoint) (λ (i : ℕ). place.start ≡ span_start_of (decoders_at s place.endpoint) i) endpoint refl start
 

@@ -4,10 +4,12 @@ use Rattle.std.specs.Option.{option_map_or}
 use Rattle.std.specs.List.{filter_map, range_with_len}
 use Rattle.cxl_topo.specs.declared.node.Node.{Node}
 use Rattle.cxl_topo.specs.declared.node.Capacity.{Capacity}
-use Rattle.cxl_topo.specs.Kinds.{uid_of, is_endpoint, capacity_of}
+use Rattle.cxl_topo.specs.Tree.{Tree}
+use Rattle.cxl_topo.specs.Kinds.{uid_of, capacity_of}
 use Rattle.cxl_topo.specs.Faults.{IsTree}
 use Rattle.cxl_regs.specs.declared.decoder.Decoder.{Decoder}
 use Rattle.cxl_regs.specs.Registers.{Registers, IsBlock}
+use Rattle.cxl_image.specs.Images.{HasCapsOf}
 use Rattle.cxl_span.specs.Spans.{decoder_ways, decoder_granularity}
 use Rattle.cxl_span.specs.Breaches.{BlockKeeps}
 use Rattle.cxl_window.specs.Fields.{WindowFields, IsWindow}
@@ -19,20 +21,13 @@ pub record System : Type 0 where
   pub blocks : List Registers
   pub windows : List WindowFields
 
+-- an image over a topology, with the host's windows
+abbrev pub system_of : List Registers → Tree → List WindowFields → System
+system_of blocks tree windows = record { nodes = tree.nodes; blocks = blocks; windows = windows }
+
 -- the UIDs of a tree's bridges
 abbrev pub bridge_uids : List Node → List ℕ
 bridge_uids nodes = filter_map (λ node. uid_of node.kind) nodes
-
--- (these two move to cxl_image)
--- the block has the node's capability word, and is an endpoint's exactly where the node is an endpoint
-pub record IsBlockOf (node : Node) (block : Registers) : Type 0 where
-  pub cap : block.cap ≡ node.cap
-  pub endpoint : block.endpoint ≡ is_endpoint node.kind
-
--- one block for each node
-pub record HasCapsOf (blocks : List Registers) (nodes : List Node) : Type 0 where
-  pub count : length blocks ≡ length nodes
-  pub each : (i : ℕ) (block : Registers) (node : Node) → slice_get blocks i ≡ Some block → slice_get nodes i ≡ Some node → IsBlockOf node block
 
 -- a legal tree, an image with its capability words, and windows made with its bridges
 pub record IsSystem (s : System) : Type 0 where

@@ -16,8 +16,8 @@ two_spans =
     one_more_span two_bridges window_of_both (region_range region_of_two) region_of_two.spans 1 (at 3)
     (one_more_span two_bridges window_of_both (region_range region_of_two) region_of_two.spans 0 (at 2)
     (no_spans two_bridges window_of_both (region_range region_of_two) region_of_two.spans)
-    refl (behind_bridge two_bridges window_of_both (region_range region_of_two) 0 0 (at 2) refl refl refl refl refl))
-    refl (behind_bridge two_bridges window_of_both (region_range region_of_two) 1 1 (at 3) refl refl refl refl refl)
+    refl (behind_bridge two_bridges window_of_both (region_range region_of_two) 0 0 (at 2) refl refl refl refl refl refl))
+    refl (behind_bridge two_bridges window_of_both (region_range region_of_two) 1 1 (at 3) refl refl refl refl refl refl)
 
 pub returns-clause-two : goal.returns-clause-two
 returns-clause-two c = record {
@@ -60,10 +60,10 @@ four_spans =
     (one_more_span four_ways window_of_both (region_range region_of_four) region_of_four.spans 1 (at 4)
     (one_more_span four_ways window_of_both (region_range region_of_four) region_of_four.spans 0 (at 2)
     (no_spans four_ways window_of_both (region_range region_of_four) region_of_four.spans)
-    refl (behind_bridge four_ways window_of_both (region_range region_of_four) 0 0 (at 2) refl refl refl refl refl))
-    refl (behind_bridge four_ways window_of_both (region_range region_of_four) 1 1 (at 4) refl refl refl refl refl))
-    refl (behind_bridge four_ways window_of_both (region_range region_of_four) 2 0 (at 3) refl refl refl refl refl))
-    refl (behind_bridge four_ways window_of_both (region_range region_of_four) 3 1 (at 5) refl refl refl refl refl)
+    refl (behind_bridge four_ways window_of_both (region_range region_of_four) 0 0 (at 2) refl refl refl refl refl refl))
+    refl (behind_bridge four_ways window_of_both (region_range region_of_four) 1 1 (at 4) refl refl refl refl refl refl))
+    refl (behind_bridge four_ways window_of_both (region_range region_of_four) 2 0 (at 3) refl refl refl refl refl refl))
+    refl (behind_bridge four_ways window_of_both (region_range region_of_four) 3 1 (at 5) refl refl refl refl refl refl)
 
 pub returns-clause-four : goal.returns-clause-four
 returns-clause-four c = record {
@@ -87,12 +87,12 @@ six_spans =
     (one_more_span six_ways window_of_three (region_range region_of_six) region_of_six.spans 1 (at 6)
     (one_more_span six_ways window_of_three (region_range region_of_six) region_of_six.spans 0 (at 3)
     (no_spans six_ways window_of_three (region_range region_of_six) region_of_six.spans)
-    refl (behind_bridge six_ways window_of_three (region_range region_of_six) 0 0 (at 3) refl refl refl refl refl))
-    refl (behind_bridge six_ways window_of_three (region_range region_of_six) 1 1 (at 6) refl refl refl refl refl))
-    refl (behind_bridge six_ways window_of_three (region_range region_of_six) 2 2 (at 7) refl refl refl refl refl))
-    refl (behind_bridge six_ways window_of_three (region_range region_of_six) 3 0 (at 4) refl refl refl refl refl))
-    refl (behind_bridge six_ways window_of_three (region_range region_of_six) 4 1 (at 5) refl refl refl refl refl))
-    refl (behind_bridge six_ways window_of_three (region_range region_of_six) 5 2 (at 8) refl refl refl refl refl)
+    refl (behind_bridge six_ways window_of_three (region_range region_of_six) 0 0 (at 3) refl refl refl refl refl refl))
+    refl (behind_bridge six_ways window_of_three (region_range region_of_six) 1 1 (at 6) refl refl refl refl refl refl))
+    refl (behind_bridge six_ways window_of_three (region_range region_of_six) 2 2 (at 7) refl refl refl refl refl refl))
+    refl (behind_bridge six_ways window_of_three (region_range region_of_six) 3 0 (at 4) refl refl refl refl refl refl))
+    refl (behind_bridge six_ways window_of_three (region_range region_of_six) 4 1 (at 5) refl refl refl refl refl refl))
+    refl (behind_bridge six_ways window_of_three (region_range region_of_six) 5 2 (at 8) refl refl refl refl refl refl)
 
 pub returns-clause-six : goal.returns-clause-six
 returns-clause-six c = record {
