@@ -35,8 +35,6 @@ found_ways_known s w found is =
 
 -- ---- an endpoint of it
 
--- ---- an endpoint of it
-
 pub first_reached : (s : System) (w : WindowFields) (found : Found) → IsRegionIn s w found → Reaches s (region_range found)
 first_reached s w found is =
     let some : 0 < found.ways = some_ways found.ways (found_ways_known s w found is) in
@@ -46,6 +44,7 @@ first_reached s w found is =
     let span = is.spans 0 place (slice_get-get_or found.spans 0 any (omega (arith, some, slots))) in
     reached s w (region_range found) 0 span.bridge place span.leads
 
+-- what that endpoint's decoder tells of the region
 pub record Told (s : System) (w : WindowFields) (found : Found) : Type 0 where
   pub base : found.base % 2 ^ 28 ≡ 0
   pub times : ℕ

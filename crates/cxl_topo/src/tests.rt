@@ -76,6 +76,8 @@ fn finds_nodes(rt: HostRuntime) -> Result<(), Fail> {
     assert_eq!(rt; topo.node(3).cap, ENDPOINT_CAP);
     assert_eq!(rt; topo.child(0, 0), Some(2));
     assert_eq!(rt; topo.child(0, 1), None);
+    assert_eq!(rt; topo.first_child(1), Some(3));
+    assert_eq!(rt; topo.first_child(2), None);
     assert_eq!(rt; topo.find(&Name::read(b"e1").ok_or("a name")?), Some(3));
     assert_eq!(rt; topo.find(&Name::read(b"e2").ok_or("a name")?), None);
     assert_eq!(rt; topo.bridge(1), Some(1));

@@ -1,5 +1,5 @@
 ghost use Rattle.std.specs.Prelude.{◌≡◌, ◌≢◌, ◌+◌, ◌-◌, ◌≤◌, ◌<◌, ◌↔◌, ℕ, length, take, drop, replicate, slice_get, Some, IsTrue, IfOk, IfErr, Contains};
-ghost use Rattle.cxl_topo.specs.Tree.{Tree, child_of, name_at, uid_at, node_named, bridge_with, path_of, IsPathTo, landing_of};
+ghost use Rattle.cxl_topo.specs.Tree.{Tree, child_of, first_child_of, name_at, uid_at, node_named, bridge_with, path_of, IsPathTo, landing_of};
 ghost use Rattle.cxl_topo.specs.Faults.{IsTree, IsFirstTreeFault};
 ghost use Rattle.cxl_topo.specs.Kept.{AreFrames};
 ghost use Rattle.cxl_topo.specs.Laws.{StandsAt};
@@ -89,6 +89,13 @@ impl Topo {
     {
         let place = Parent { node, port };
         self.tables.children.get(&place).copied()
+    }
+
+    /// The only child of a node, or the first where it has several.
+    pub fn first_child(&self, node: u32) -> Option<u32>
+        ensures { result ≡ first_child_of self.now.nodes node }
+    {
+        self.tables.first_children.get(&node).copied()
     }
 
     /// The node with a name.
