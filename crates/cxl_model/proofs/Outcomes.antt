@@ -2,7 +2,7 @@
 use Rattle.std.proofs.Common.{◌≡◌, ℕ, ◌+◌, ◌<◌, ◌≤◌, Bool, true, false, not, ◌&&◌, if◌then◌else◌, [], Option, Some, None, refl, sym, ap, ◌∙◌, subst, inl, inr, arith}
 use Rattle.std.specs.Prelude.{slice_get, nat_lt, nat_le, IsSomeAnd, IfSome}
 use Rattle.std.specs.Option.{option_map_or}
-use Rattle.std.proofs.lemmas.Bool.{cases_lt, leb-true, ltb-true}
+use Rattle.std.proofs.lemmas.Bool.{and_parts, cases_lt, leb-true, ltb-true}
 use Rattle.std.proofs.lemmas.Option.{slice_get_within, same_Some}
 use Rattle.cxl_topo.specs.declared.node.Node.{Node}
 use Rattle.cxl_topo.specs.Kinds.{is_endpoint}
@@ -11,8 +11,6 @@ use Rattle.cxl_regs.specs.declared.decoder.Decoder.{Decoder}
 use Rattle.cxl_regs.specs.Registers.{Registers}
 use Rattle.cxl_span.specs.Spans.{span_start_of, endpoint_place_of}
 use Rattle.cxl_span.specs.Breaches.{BlockKeeps}
-use Rattle.cxl_span.proofs.KeptRules.{and_true}
-use Rattle.cxl_span.proofs.Committed.{ranges_rise}
 use Rattle.cxl_model.specs.declared.chain.Step.{Step}
 use Rattle.cxl_model.specs.declared.chain.Miss.{Miss}
 use Rattle.cxl_model.specs.declared.chain.Miss.TheVariants.{NoWindow, BadBlock, NoDecoder, NoChild}
@@ -40,50 +38,56 @@ pub record Holds (d : Decoder) (h : ℕ) : Type 0 where
 
 pub holds_parts : (d : Decoder) (h : ℕ) → holds_address d h ≡ true → Holds d h
 holds_parts d h holds =
-    let outer = and_true (d.committed && nat_le d.base h) (nat_lt h (d.base + d.size)) holds in
-    let inner = and_true d.committed (nat_le d.base h) outer.0 in
+    let outer = and_parts (d.committed && nat_le d.base h) (nat_lt h (d.base + d.size)) holds in
+    let inner = and_parts d.committed (nat_le d.base h) outer.0 in
     record { committed = inner.0; from = leb-true d.base h inner.1; below = ltb-true h (d.base + d.size) outer.1 }
 
+-- what the law of ranges says of a block that keeps K2 to K8
+abbrev pub RangesRise : Type 0
+RangesRise =
+    (block : Registers) (ram pmem i j : ℕ) (d e : Decoder) → BlockKeeps block ram pmem → slice_get block.decoders i ≡ Some d
+    → slice_get block.decoders j ≡ Some e → i < j → e.committed ≡ true → d.base + d.size ≤ e.base
+
 -- no later decoder of the block holds the address as well
-not_above : (block : Registers) (ram pmem h i j : ℕ) (d e : Decoder) → BlockKeeps block ram pmem → slice_get block.decoders i ≡ Some d
+not_above : RangesRise → (block : Registers) (ram pmem h i j : ℕ) (d e : Decoder) → BlockKeeps block ram pmem → slice_get block.decoders i ≡ Some d
     → slice_get block.decoders j ≡ Some e → Holds d h → Holds e h → i < j → ⊥
-not_above block ram pmem h i j d e keeps at_d at_e one other above =
-    let rise = ranges_rise block ram pmem keeps j e at_e other.committed i d at_d above in
+not_above rise block ram pmem h i j d e keeps at_d at_e one other above =
+    let apart = rise block ram pmem i j d e keeps at_d at_e above other.committed in
     let below = one.below in
     let from = other.from in
-    omega (arith, rise, below, from)
+    omega (arith, apart, below, from)
 
-one_in_block : (block : Registers) (ram pmem h i j : ℕ) (d e : Decoder) → BlockKeeps block ram pmem → slice_get block.decoders i ≡ Some d
+one_in_block : RangesRise → (block : Registers) (ram pmem h i j : ℕ) (d e : Decoder) → BlockKeeps block ram pmem → slice_get block.decoders i ≡ Some d
     → slice_get block.decoders j ≡ Some e → Holds d h → Holds e h → i ≡ j
-one_in_block block ram pmem h i j d e keeps at_d at_e one other =
+one_in_block rise block ram pmem h i j d e keeps at_d at_e one other =
     elim (cases_lt i j) [
-      | inl above ↦ absurd (not_above block ram pmem h i j d e keeps at_d at_e one other above)
+      | inl above ↦ absurd (not_above rise block ram pmem h i j d e keeps at_d at_e one other above)
       | inr past ↦ elim (cases_lt j i) [
-        | inl below ↦ absurd (not_above block ram pmem h j i e d keeps at_e at_d other one below)
+        | inl below ↦ absurd (not_above rise block ram pmem h j i e d keeps at_e at_d other one below)
         | inr at ↦ omega arith
       ]
     ]
 
-one_if_some : (o : Option Registers) (ram pmem h i j : ℕ) (d e : Decoder) → IfSome o (λ block. BlockKeeps block ram pmem)
+one_if_some : RangesRise → (o : Option Registers) (ram pmem h i j : ℕ) (d e : Decoder) → IfSome o (λ block. BlockKeeps block ram pmem)
     → slice_get (option_map_or (λ block. block.decoders) o []) i ≡ Some d → slice_get (option_map_or (λ block. block.decoders) o []) j ≡ Some e
     → Holds d h → Holds e h → i ≡ j
-one_if_some None ram pmem h i j d e keeps at_d at_e one other =
+one_if_some rise None ram pmem h i j d e keeps at_d at_e one other =
     let within = slice_get_within [] i d at_d in
     absurd (omega arith)
-one_if_some (Some block) ram pmem h i j d e keeps at_d at_e one other = one_in_block block ram pmem h i j d e keeps at_d at_e one other
+one_if_some rise (Some block) ram pmem h i j d e keeps at_d at_e one other = one_in_block rise block ram pmem h i j d e keeps at_d at_e one other
 
 -- decoder d, with number i, holds the address
 pub record HoldsAt (s : System) (h n i : ℕ) (d : Decoder) : Type 0 where
   pub there : decoder_at s n i ≡ Some d
   pub holds : holds_address d h ≡ true
 
-pub one_number : (s : System) (h n i j : ℕ) (d e : Decoder) → Decodes s n → HoldsAt s h n i d → HoldsAt s h n j e → i ≡ j
-one_number s h n i j d e decodes one other =
-    one_if_some (slice_get s.blocks n) _ _ h i j d e decodes.sound one.there other.there (holds_parts d h one.holds) (holds_parts e h other.holds)
+pub one_number : RangesRise → (s : System) (h n i j : ℕ) (d e : Decoder) → Decodes s n → HoldsAt s h n i d → HoldsAt s h n j e → i ≡ j
+one_number rise s h n i j d e decodes one other =
+    one_if_some rise (slice_get s.blocks n) _ _ h i j d e decodes.sound one.there other.there (holds_parts d h one.holds) (holds_parts e h other.holds)
 
-pub one_decoder : (s : System) (h n i j : ℕ) (d e : Decoder) → Decodes s n → HoldsAt s h n i d → HoldsAt s h n j e → d ≡ e
-one_decoder s h n i j d e decodes one other =
-    let same : decoder_at s n j ≡ Some d = ap (decoder_at s n) (sym (one_number s h n i j d e decodes one other)) ∙ one.there in
+pub one_decoder : RangesRise → (s : System) (h n i j : ℕ) (d e : Decoder) → Decodes s n → HoldsAt s h n i d → HoldsAt s h n j e → d ≡ e
+one_decoder rise s h n i j d e decodes one other =
+    let same : decoder_at s n j ≡ Some d = ap (decoder_at s n) (sym (one_number rise s h n i j d e decodes one other)) ∙ one.there in
     one_value (decoder_at s n j) d e same other.there
 
 -- ---- a node is a port or an endpoint
@@ -198,26 +202,26 @@ does s h n (Ends (Misses (NoChild m))) (here, inl nowhere) =
     does_at s h n m NoChild here (forwarding nowhere.forwards (sym (ap (after_forwarding n) nowhere.childless)))
 does s h n (Ends (Misses (NoChild m))) (here, inr lists) = does_at s h n m NoChild here (does_list_no_child s h n lists)
 
-one_decision : (s : System) (h n : ℕ) (one other : Move) → Decodes s n → Decided s h n one → Decided s h n other → one ≡ other
-one_decision s h n one other decodes (by_none none is) (by_none _ at) = is ∙ sym at
-one_decision s h n one other decodes (by_none none is) (by_one i d held at) = absurd (clash (holds_address d h) held.holds (none i d held.there))
-one_decision s h n one other decodes (by_one i d held is) (by_none none at) = absurd (clash (holds_address d h) held.holds (none i d held.there))
-one_decision s h n one other decodes (by_one i d held is) (by_one j e holds at) =
+one_decision : RangesRise → (s : System) (h n : ℕ) (one other : Move) → Decodes s n → Decided s h n one → Decided s h n other → one ≡ other
+one_decision rise s h n one other decodes (by_none none is) (by_none _ at) = is ∙ sym at
+one_decision rise s h n one other decodes (by_none none is) (by_one i d held at) = absurd (clash (holds_address d h) held.holds (none i d held.there))
+one_decision rise s h n one other decodes (by_one i d held is) (by_none none at) = absurd (clash (holds_address d h) held.holds (none i d held.there))
+one_decision rise s h n one other decodes (by_one i d held is) (by_one j e holds at) =
     is
-    ∙ ap (λ (k : ℕ). by_decoder s h n k d) (one_number s h n i j d e decodes held holds)
-    ∙ ap (by_decoder s h n j) (one_decoder s h n i j d e decodes held holds)
+    ∙ ap (λ (k : ℕ). by_decoder s h n k d) (one_number rise s h n i j d e decodes held holds)
+    ∙ ap (by_decoder s h n j) (one_decoder rise s h n i j d e decodes held holds)
     ∙ sym at
 
-one_thing : (s : System) (h n : ℕ) (one other : Move) → Does s h n one → Does s h n other → one ≡ other
-one_thing s h n one other (forwarding a is) (forwarding b at) = is ∙ sym at
-one_thing s h n one other (forwarding a is) (refusing b at) = absurd (clash (forwards_at s.nodes n) a b.own)
-one_thing s h n one other (forwarding a is) (deciding b at) = absurd (clash (forwards_at s.nodes n) a b.own)
-one_thing s h n one other (refusing a is) (forwarding b at) = absurd (clash (forwards_at s.nodes n) b a.own)
-one_thing s h n one other (refusing a is) (refusing b at) = is ∙ sym at
-one_thing s h n one other (refusing a is) (deciding b at) = absurd (a.broken b.sound)
-one_thing s h n one other (deciding a is) (forwarding b at) = absurd (clash (forwards_at s.nodes n) b a.own)
-one_thing s h n one other (deciding a is) (refusing b at) = absurd (b.broken a.sound)
-one_thing s h n one other (deciding a is) (deciding b at) = one_decision s h n one other a is at
+one_thing : RangesRise → (s : System) (h n : ℕ) (one other : Move) → Does s h n one → Does s h n other → one ≡ other
+one_thing rise s h n one other (forwarding a is) (forwarding b at) = is ∙ sym at
+one_thing rise s h n one other (forwarding a is) (refusing b at) = absurd (clash (forwards_at s.nodes n) a b.own)
+one_thing rise s h n one other (forwarding a is) (deciding b at) = absurd (clash (forwards_at s.nodes n) a b.own)
+one_thing rise s h n one other (refusing a is) (forwarding b at) = absurd (clash (forwards_at s.nodes n) b a.own)
+one_thing rise s h n one other (refusing a is) (refusing b at) = is ∙ sym at
+one_thing rise s h n one other (refusing a is) (deciding b at) = absurd (a.broken b.sound)
+one_thing rise s h n one other (deciding a is) (forwarding b at) = absurd (clash (forwards_at s.nodes n) b a.own)
+one_thing rise s h n one other (deciding a is) (refusing b at) = absurd (b.broken a.sound)
+one_thing rise s h n one other (deciding a is) (deciding b at) = one_decision rise s h n one other a is at
 
-pub one_move : (s : System) (h n : ℕ) (one other : Move) → Moves s h n one → Moves s h n other → one ≡ other
-one_move s h n one other a b = one_thing s h n one other (does s h n one a) (does s h n other b)
+pub one_move : RangesRise → (s : System) (h n : ℕ) (one other : Move) → Moves s h n one → Moves s h n other → one ≡ other
+one_move rise s h n one other a b = one_thing rise s h n one other (does s h n one a) (does s h n other b)

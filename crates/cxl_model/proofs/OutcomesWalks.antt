@@ -1,7 +1,7 @@
 -- An address has one way down, and one outcome.
 use Rattle.std.proofs.Common.{◌≡◌, ℕ, ◌+◌, ◌<◌, ◌≤◌, Bool, true, false, ◌&&◌, if◌then◌else◌, List, ◌∷◌, Some, None, refl, sym, ap, ◌∙◌, subst, Contains}
 use Rattle.std.specs.Prelude.{slice_get, nat_lt, nat_le}
-use Rattle.std.proofs.lemmas.Bool.{leb-true, ltb-true}
+use Rattle.std.proofs.lemmas.Bool.{and_parts, leb-true, ltb-true}
 use Rattle.std.proofs.lemmas.Option.{slice_get_within, get_or_from_slice_get, none-some}
 use Rattle.std.proofs.lemmas.List.Elements.{Contains-get_or}
 use Rattle.cxl_topo.specs.Tree.{bridge_with}
@@ -9,11 +9,11 @@ use Rattle.cxl_window.specs.declared.window.Verdict.{Verdict}
 use Rattle.cxl_window.specs.declared.window.Verdict.TheVariants.{Usable, Align, Size, TooHigh, Overlap, Target, Repeat, Maps}
 use Rattle.cxl_window.specs.Fields.{WindowFields}
 use Rattle.cxl_window.specs.Position.{is_usable, holds, slot_at, position_of}
-use Rattle.cxl_span.proofs.KeptRules.{and_true}
+use Rattle.cxl_window.specs.Windows.{AreMadeWith}
 use Rattle.cxl_model.specs.declared.chain.Step.{Step}
-use Rattle.cxl_model.specs.System.{System, IsSystem}
+use Rattle.cxl_model.specs.System.{System, bridge_uids}
 use Rattle.cxl_model.specs.Chain.{End, Move, Forwards, Steps, Ends, Walk, on_forwarding, on_step, at_end, Outcome, outcome_by, Targets, Chain, unheld, held}
-use Rattle.cxl_model.proofs.Outcomes.{value_of, one_value, one_move}
+use Rattle.cxl_model.proofs.Outcomes.{RangesRise, value_of, one_value, one_move}
 
 -- ---- the way down
 
@@ -46,28 +46,28 @@ with_step steps others end other one two same way =
     let rest = way.steps in
     record { steps = λ i. same i ∷ rest i; end = way.end }
 
-one_way : (s : System) (h n : ℕ) (steps others : List Step) (end other : End) → Walk s h n steps end → Walk s h n others other → SameWay steps others end other
-one_way s h n steps others end other (on_forwarding _ child _ _ move walk) (on_forwarding _ second _ _ moves walks) =
-    let same : child ≡ second = ap (child_after n) (one_move s h n (Forwards child) (Forwards second) move moves) in
-    one_way s h child steps others end other walk (from_child s h child second others other same walks)
-one_way s h n steps others end other (on_forwarding _ child _ _ move walk) (on_step _ second step rest _ moves walks) =
-    let same : Forwards child ≡ Steps step second = one_move s h n (Forwards child) (Steps step second) move moves in absurd cc
-one_way s h n steps others end other (on_forwarding _ child _ _ move walk) (at_end _ _ moves) =
-    let same : Forwards child ≡ Ends other = one_move s h n (Forwards child) (Ends other) move moves in absurd cc
-one_way s h n steps others end other (on_step _ child step rest _ move walk) (on_forwarding _ second _ _ moves walks) =
-    let same : Steps step child ≡ Forwards second = one_move s h n (Steps step child) (Forwards second) move moves in absurd cc
-one_way s h n steps others end other (on_step _ child step rest _ move walk) (on_step _ second own more _ moves walks) =
-    let same : Steps step child ≡ Steps own second = one_move s h n (Steps step child) (Steps own second) move moves in
+one_way : RangesRise → (s : System) (h n : ℕ) (steps others : List Step) (end other : End) → Walk s h n steps end → Walk s h n others other → SameWay steps others end other
+one_way rise s h n steps others end other (on_forwarding _ child _ _ move walk) (on_forwarding _ second _ _ moves walks) =
+    let same : child ≡ second = ap (child_after n) (one_move rise s h n (Forwards child) (Forwards second) move moves) in
+    one_way rise s h child steps others end other walk (from_child s h child second others other same walks)
+one_way rise s h n steps others end other (on_forwarding _ child _ _ move walk) (on_step _ second step rest _ moves walks) =
+    let same : Forwards child ≡ Steps step second = one_move rise s h n (Forwards child) (Steps step second) move moves in absurd cc
+one_way rise s h n steps others end other (on_forwarding _ child _ _ move walk) (at_end _ _ moves) =
+    let same : Forwards child ≡ Ends other = one_move rise s h n (Forwards child) (Ends other) move moves in absurd cc
+one_way rise s h n steps others end other (on_step _ child step rest _ move walk) (on_forwarding _ second _ _ moves walks) =
+    let same : Steps step child ≡ Forwards second = one_move rise s h n (Steps step child) (Forwards second) move moves in absurd cc
+one_way rise s h n steps others end other (on_step _ child step rest _ move walk) (on_step _ second own more _ moves walks) =
+    let same : Steps step child ≡ Steps own second = one_move rise s h n (Steps step child) (Steps own second) move moves in
     with_step rest more end other step own (ap (step_of step) same)
-    (one_way s h child rest more end other walk (from_child s h child second more other (ap (child_after n) same) walks))
-one_way s h n steps others end other (on_step _ child step rest _ move walk) (at_end _ _ moves) =
-    let same : Steps step child ≡ Ends other = one_move s h n (Steps step child) (Ends other) move moves in absurd cc
-one_way s h n steps others end other (at_end _ _ move) (on_forwarding _ second _ _ moves walks) =
-    let same : Ends end ≡ Forwards second = one_move s h n (Ends end) (Forwards second) move moves in absurd cc
-one_way s h n steps others end other (at_end _ _ move) (on_step _ second step rest _ moves walks) =
-    let same : Ends end ≡ Steps step second = one_move s h n (Ends end) (Steps step second) move moves in absurd cc
-one_way s h n steps others end other (at_end _ _ move) (at_end _ _ moves) =
-    record { steps = refl; end = ap (end_of end) (one_move s h n (Ends end) (Ends other) move moves) }
+    (one_way rise s h child rest more end other walk (from_child s h child second more other (ap (child_after n) same) walks))
+one_way rise s h n steps others end other (on_step _ child step rest _ move walk) (at_end _ _ moves) =
+    let same : Steps step child ≡ Ends other = one_move rise s h n (Steps step child) (Ends other) move moves in absurd cc
+one_way rise s h n steps others end other (at_end _ _ move) (on_forwarding _ second _ _ moves walks) =
+    let same : Ends end ≡ Forwards second = one_move rise s h n (Ends end) (Forwards second) move moves in absurd cc
+one_way rise s h n steps others end other (at_end _ _ move) (on_step _ second step rest _ moves walks) =
+    let same : Ends end ≡ Steps step second = one_move rise s h n (Ends end) (Steps step second) move moves in absurd cc
+one_way rise s h n steps others end other (at_end _ _ move) (at_end _ _ moves) =
+    record { steps = refl; end = ap (end_of end) (one_move rise s h n (Ends end) (Ends other) move moves) }
 
 -- ---- the window
 
@@ -97,17 +97,17 @@ if_some false own position is = absurd (none-some position is)
 slotted : (w : WindowFields) (h position : ℕ) → slot_at w h ≡ Some position → Slotted w h position
 slotted w h position is =
     let parts = if_some (is_usable w.verdict && holds w h) (position_of w h) position is in
-    let tests = and_true (is_usable w.verdict) (holds w h) parts.0 in
-    let ends = and_true (nat_le w.base h) (nat_lt h (w.base + w.size)) tests.1 in
+    let tests = and_parts (is_usable w.verdict) (holds w h) parts.0 in
+    let ends = and_parts (nat_le w.base h) (nat_lt h (w.base + w.size)) tests.1 in
     record { usable = usable_is w.verdict tests.0; from = leb-true w.base h ends.0; below = ltb-true h (w.base + w.size) ends.1; position = parts.1 }
 
-one_held : (s : System) (h : ℕ) (w v : WindowFields) (position other bridge way : ℕ) → IsSystem s → Targets s h w position bridge
+one_held : (s : System) (h : ℕ) (w v : WindowFields) (position other bridge way : ℕ) → AreMadeWith s.windows (bridge_uids s.nodes) → Targets s h w position bridge
     → Targets s h v other way → w ≡ v
 one_held s h w v position other bridge way is one two =
     let a = slotted w h position one.holds in
     let b = slotted v h other two.holds in
     let index : w.index ≡ v.index =
-    is.made.apart w v (contains_at s.windows w.index w one.there) (contains_at s.windows v.index v two.there) h a.usable b.usable a.from a.below b.from b.below in
+    is.apart w v (contains_at s.windows w.index w one.there) (contains_at s.windows v.index v two.there) h a.usable b.usable a.from a.below b.from b.below in
     one_value (slice_get s.windows v.index) w v (ap (slice_get s.windows) (sym index) ∙ one.there) two.there
 
 -- the bridge at a position of a window
@@ -131,28 +131,28 @@ same_outcomes index position steps others end other way =
     let b = way.end in
     λ i. outcome_by index position (a i) (b i)
 
-one_of_window : (s : System) (h : ℕ) (w : WindowFields) (position other bridge way : ℕ) (steps others : List Step) (end ending : End)
+one_of_window : RangesRise → (s : System) (h : ℕ) (w : WindowFields) (position other bridge way : ℕ) (steps others : List Step) (end ending : End)
     → Targets s h w position bridge → Targets s h w other way → Walk s h bridge steps end → Walk s h way others ending
     → outcome_by w.index position steps end ≡ outcome_by w.index other others ending
-one_of_window s h w position other bridge way steps others end ending one two walk walks =
+one_of_window rise s h w position other bridge way steps others end ending one two walk walks =
     let place : position ≡ other = one_position s h w position other bridge way one two in
     let moved : Targets s h w other bridge = subst (λ (p : ℕ). Targets s h w p bridge) place one in
     let same : bridge ≡ way = one_bridge s h w other bridge way moved two in
     ap (λ (p : ℕ). outcome_by w.index p steps end) place
-    ∙ same_outcomes w.index other steps others end ending (one_way s h bridge steps others end ending walk (from_child s h bridge way others ending same walks))
+    ∙ same_outcomes w.index other steps others end ending (one_way rise s h bridge steps others end ending walk (from_child s h bridge way others ending same walks))
 
 not_held : (s : System) (h : ℕ) (w : WindowFields) (position bridge : ℕ)
     → ((i : ℕ) (v : WindowFields) → slice_get s.windows i ≡ Some v → slot_at v h ≡ None) → Targets s h w position bridge → ⊥
 not_held s h w position bridge none targets = none-some position (sym (none w.index w targets.there) ∙ targets.holds)
 
-pub one_chain : (s : System) (h : ℕ) (one other : Outcome) → IsSystem s → Chain s h one → Chain s h other → one ≡ other
-one_chain s h one other is (unheld none a) (unheld _ b) = a ∙ sym b
-one_chain s h one other is (unheld none a) (held w position bridge steps end targets walk b) = absurd (not_held s h w position bridge none targets)
-one_chain s h one other is (held w position bridge steps end targets walk a) (unheld none b) = absurd (not_held s h w position bridge none targets)
-one_chain s h one other is (held w position bridge steps end targets walk a) (held v place way others ending goals walks b) =
+pub one_chain : RangesRise → (s : System) (h : ℕ) (one other : Outcome) → AreMadeWith s.windows (bridge_uids s.nodes) → Chain s h one → Chain s h other → one ≡ other
+one_chain rise s h one other is (unheld none a) (unheld _ b) = a ∙ sym b
+one_chain rise s h one other is (unheld none a) (held w position bridge steps end targets walk b) = absurd (not_held s h w position bridge none targets)
+one_chain rise s h one other is (held w position bridge steps end targets walk a) (unheld none b) = absurd (not_held s h w position bridge none targets)
+one_chain rise s h one other is (held w position bridge steps end targets walk a) (held v place way others ending goals walks b) =
     let window : w ≡ v = one_held s h w v position place bridge way is targets goals in
     let moved : Targets s h v position bridge = subst (λ (x : WindowFields). Targets s h x position bridge) window targets in
     a
     ∙ ap (λ (x : WindowFields). outcome_by x.index position steps end) window
-    ∙ one_of_window s h v position place bridge way steps others end ending moved goals walk walks
+    ∙ one_of_window rise s h v position place bridge way steps others end ending moved goals walk walks
     ∙ sym b

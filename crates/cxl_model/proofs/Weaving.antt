@@ -2,12 +2,11 @@
 use Rattle.std.proofs.Common.{◌≡◌, ℕ, zero, suc, ◌+◌, ◌-◌, ◌*◌, ◌%◌, ◌^◌, ◌<◌, ◌≤◌, ◌⊎◌, Bool, true, false, ◌&&◌, cond, if◌then◌else◌, List, [], ◌∷◌, length, get_or, Option, Some, None, refl, sym, ap, ◌∙◌, subst, inl, inr, arith}
 use Rattle.std.specs.Prelude.{◌==◌, nat_lt, nat_le, find, IsTrue}
 use Rattle.std.specs.Option.{option_map_or}
-use Rattle.std.proofs.lemmas.Bool.{eqb-false, ne_eqb, lt-ltb, cases_lt}
+use Rattle.std.proofs.lemmas.Bool.{and_parts, eqb-false, ne_eqb, lt-ltb, cases_lt}
 use Rattle.std.proofs.lemmas.Option.{slice_get-get_or, none-some, same_Some}
 use Rattle.cxl_enc.specs.Codes.{is_ways, third_of, bits_of}
 use Rattle.cxl_regs.specs.declared.decoder.Decoder.{Decoder}
 use Rattle.cxl_span.specs.Spans.{decoder_ways}
-use Rattle.cxl_span.proofs.KeptRules.{and_true}
 use Rattle.cxl_window.specs.declared.window.Verdict.TheVariants.{Usable}
 use Rattle.cxl_window.specs.Position.{is_usable}
 use Rattle.cxl_window.specs.Fields.{WindowFields}
@@ -125,8 +124,8 @@ find_passes p (y ∷ ys) x is =
 usable_window : (s : System) (w : WindowFields) (r : Range) → window_for s r ≡ Some w → w.verdict ≡ Usable
 usable_window s w r is =
     let within = find_passes (lies_within r) s.windows w is in
-    let outer = and_true (is_usable w.verdict && nat_le w.base r.base) (nat_le (r.base + r.size) (w.base + w.size)) within in
-    let inner = and_true (is_usable w.verdict) (nat_le w.base r.base) outer.0 in
+    let outer = and_parts (is_usable w.verdict && nat_le w.base r.base) (nat_le (r.base + r.size) (w.base + w.size)) within in
+    let inner = and_parts (is_usable w.verdict) (nat_le w.base r.base) outer.0 in
     usable_is w.verdict inner.0
 
 -- a window of more than one way gives its code to the region

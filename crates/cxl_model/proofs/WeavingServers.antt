@@ -2,7 +2,7 @@
 use Rattle.std.proofs.Common.{◌≡◌, ℕ, ◌*◌, ◌%◌, ◌^◌, ◌≤◌, ◌⊎◌, Bool, true, false, not, ◌&&◌, ◌||◌, if◌then◌else◌, List, [], get_or, Option, Some, None, refl, sym, ap, ◌∙◌, subst, inl, inr, arith}
 use Rattle.std.specs.Prelude.{slice_get, ◌==◌, nat_le, IsSomeAnd, All}
 use Rattle.std.specs.Option.{option_map_or}
-use Rattle.std.proofs.lemmas.Bool.{eqb-true, leb-true}
+use Rattle.std.proofs.lemmas.Bool.{and_parts, eqb-true, leb-true}
 use Rattle.std.proofs.lemmas.Option.{slice_get_within, slice_get-get_or, get_or_from_slice_get}
 use Rattle.std.proofs.lemmas.List.Elements.{All-get_or}
 use Rattle.std.proofs.lemmas.List.Quantifiers.{position-Some}
@@ -12,8 +12,7 @@ use Rattle.cxl_regs.specs.Registers.{Registers, IsBlock, IsDecoder, reset_decode
 use Rattle.cxl_regs.specs.Rules.{codes_ok, endpoint_ways_ok, port_ways_ok}
 use Rattle.cxl_span.specs.Spans.{decoder_ways, span_start_of}
 use Rattle.cxl_span.specs.Breaches.{breaks as block_breaks}
-use Rattle.cxl_span.proofs.BreaksAt.{breaks_here}
-use Rattle.cxl_span.proofs.KeptRules.{and_true}
+use Rattle.cxl_span.specs.Rules.{breaks_codes}
 use Rattle.cxl_window.specs.Fields.{WindowFields}
 use Rattle.cxl_model.specs.declared.found.Place.{Place}
 use Rattle.cxl_model.specs.System.{System, decoders_at, decoder_at, ram_at, pmem_at}
@@ -49,8 +48,8 @@ pub record Has (r : Range) (d : Decoder) : Type 0 where
 
 pub has_parts : (r : Range) (d : Decoder) → has_range r d ≡ true → Has r d
 has_parts r d has =
-    let outer = and_true (d.committed && (d.base == r.base)) (d.size == r.size) has in
-    let inner = and_true d.committed (d.base == r.base) outer.0 in
+    let outer = and_parts (d.committed && (d.base == r.base)) (d.size == r.size) has in
+    let inner = and_parts d.committed (d.base == r.base) outer.0 in
     record { committed = inner.0; base = eqb-true d.base r.base inner.1; size = eqb-true d.size r.size outer.1 }
 
 pub same_range : (r : Range) (d : Decoder) → Has r d → range_of d ≡ r
@@ -122,13 +121,19 @@ unfolding breaks
 block_keeps s n i block at kept =
     sym (ap (λ (o : Option Registers). option_map_or (λ b. block_breaks 4 b (ram_at s n) (pmem_at s n) i) o false) at) ∙ kept
 
+-- K4 of a decoder of the block
+codes_here : (block : Registers) (ram pmem i : ℕ) (d : Decoder) → slice_get block.decoders i ≡ Some d
+    → block_breaks 4 block ram pmem i ≡ breaks_codes block d
+unfolding block_breaks
+codes_here block ram pmem i d at = rw at refl
+
 pub gran_known : (s : System) (n i : ℕ) (d : Decoder) → KeepsBlocks s → decoder_at s n i ≡ Some d → d.committed ≡ true → d.gran ≤ 6
 gran_known s n i d keeps there committed =
     let own = in_block s n i d there in
     let block : Registers = own.block in
     let kept = block_keeps s n i block own.at (keeps 4 n i (omega arith)) in
-    let codes = asked d.committed (codes_ok block.cap block.endpoint d) (sym (breaks_here 4 block (ram_at s n) (pmem_at s n) i d own.there) ∙ kept) committed in
-    let parts = and_true (nat_le d.gran 6) (if block.endpoint then endpoint_ways_ok block.cap d.ways else port_ways_ok block.cap d.ways) codes in
+    let codes = asked d.committed (codes_ok block.cap block.endpoint d) (sym (codes_here block (ram_at s n) (pmem_at s n) i d own.there) ∙ kept) committed in
+    let parts = and_parts (nat_le d.gran 6) (if block.endpoint then endpoint_ways_ok block.cap d.ways else port_ways_ok block.cap d.ways) codes in
     leb-true d.gran 6 parts.0
 
 -- ---- K12
@@ -157,9 +162,9 @@ has_ways_by s w r n i d test =
     let own : Bool = decoder_ways d == range_ways s r in
     let kind : Bool = same_kind (span_kind s n i) (range_kind s r) in
     let code : Bool = (decoder_ways d == 1) || (d.gran == range_code s w r) in
-    let outer = and_true (product && own && kind) code test in
-    let middle = and_true (product && own) kind outer.0 in
-    let inner = and_true product own middle.0 in
+    let outer = and_parts (product && own && kind) code test in
+    let middle = and_parts (product && own) kind outer.0 in
+    let inner = and_parts product own middle.0 in
     record {
       product = eqb-true (decoder_ways d) (w.ways * ways_above s r n) inner.0;
       ways = eqb-true (decoder_ways d) (range_ways s r) inner.1;

@@ -1,14 +1,12 @@
 -- Numbers of ways that divide each other, and the two spellings of usable maps.
-use Rattle.std.proofs.Common.{◌≡◌, ℕ, zero, suc, ◌*◌, ◌%◌, ◌<◌, ◌≤◌, Bool, true, false, not, ◌&&◌, ◌||◌, if◌then◌else◌, List, [], ◌∷◌, Option, Some, None, refl, sym, ap, ◌∙◌, subst, arith}
-use Rattle.std.specs.Prelude.{◌==◌, nat_le, IsTrue, is_some}
+use Rattle.std.proofs.Common.{◌≡◌, ℕ, zero, suc, ◌*◌, ◌%◌, ◌<◌, ◌≤◌, Bool, true, false, not, ◌&&◌, ◌||◌, if◌then◌else◌, List, [], ◌∷◌, Option, Some, None, refl, sym, ap, ◌∙◌, subst, inl, inr, arith}
+use Rattle.std.specs.Prelude.{◌==◌, nat_lt, nat_le, IsTrue, is_some}
 use Rattle.std.specs.Option.{unwrap_or}
-use Rattle.std.proofs.lemmas.Bool.{eqb-true, leb-true, false≢true}
+use Rattle.std.proofs.lemmas.Bool.{and_parts, agree_below_at, cases_lt, le-ltb, le-leb, eqb-true, leb-true, false≢true}
 use Rattle.std.proofs.Math.Nat.{mul-mod_right}
 use Rattle.cxl_enc.specs.Codes.{ways_of, is_ways, bits_of}
-use Rattle.cxl_enc.proofs.Tables.{code_is}
 use Rattle.cxl_regs.specs.declared.decoder.Decoder.{Decoder}
 use Rattle.cxl_span.specs.Spans.{decoder_ways}
-use Rattle.cxl_span.proofs.KeptRules.{and_true}
 use Rattle.cxl_window.specs.Fields as windows
 use Rattle.cxl_deal.specs.Maps as deals
 use Rattle.cxl_deal.specs.Weaves.{ways_by}
@@ -33,13 +31,24 @@ pub some_ways : (w : ℕ) → IsTrue (is_ways w) → 0 < w
 some_ways w known =
     each_ways (λ n. 0 < n) w known (omega arith) (omega arith) (omega arith) (omega arith) (omega arith) (omega arith) (omega arith) (omega arith)
 
-known_ways : (code : ℕ) (found : Option ℕ) → ways_of code ≡ found → IsTrue (is_ways (unwrap_or found 1))
-known_ways code None is = refl
-known_ways code (Some w) is = ap (is_some {T = ℕ}) (code_is code w is)
+-- each code below 11 stands for ways of the table, and the others count as one way
+abbrev has_known_ways : ℕ → Bool
+has_known_ways code = is_ways (unwrap_or (ways_of code) 1)
+
+known_ways : (code : ℕ) → has_known_ways code ≡ true
+known_ways code =
+    elim (cases_lt code 11) [
+      | inl below ↦ agree_below_at has_known_ways (λ n. true) 11 code refl below
+      | inr past ↦
+          let low : nat_lt code 5 ≡ false = le-ltb code 5 (omega arith) in
+          let from : nat_le 8 code ≡ true = le-leb 8 code (omega arith) in
+          let high : nat_lt code 11 ≡ false = le-ltb code 11 past in
+          rw (low, from, high) refl
+    ]
 
 -- a decoder's ways are in the table
 pub decoder_ways_known : (d : Decoder) → IsTrue (is_ways (decoder_ways d))
-decoder_ways_known d = known_ways d.ways (ways_of d.ways) refl
+decoder_ways_known d = known_ways d.ways
 
 -- ---- one divides another
 
@@ -67,7 +76,7 @@ divides_if : (a b : ℕ) → (b % a == 0) ≡ true → goes_into a b ≡ true �
 divides_if a b none into =
     let bits : Bool = nat_le (bits_of a) (bits_of b) in
     let few : Bool = nat_le (ways_by (a % 3 == 0) (bits_of b)) 16 in
-    let parts = and_true bits few (ap (λ (x : Bool). not x || (bits && few)) (sym none) ∙ into) in
+    let parts = and_parts bits few (ap (λ (x : Bool). not x || (bits && few)) (sym none) ∙ into) in
     record { bits = leb-true (bits_of a) (bits_of b) parts.0; few = leb-true (ways_by (a % 3 == 0) (bits_of b)) 16 parts.1 }
 
 pub divides : (a b x : ℕ) → IsTrue (is_ways a) → IsTrue (is_ways b) → b ≡ a * x → Divides a b

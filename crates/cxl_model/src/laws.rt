@@ -2,16 +2,22 @@
 
 ghost use Rattle.std.specs.Prelude.{◌≡◌, ◌⊎◌, ◌↔◌, ℕ, ◌<◌, true, Contains};
 ghost use Rattle.cxl_window.specs.Fields.{WindowFields};
-ghost use Rattle.cxl_model.specs.System.{System, IsSystem};
+ghost use Rattle.cxl_window.specs.Windows.{AreMadeWith};
+ghost use Rattle.cxl_model.specs.System.{System, IsSystem, bridge_uids};
 ghost use Rattle.cxl_model.specs.Chain.{Outcome, Chain};
 ghost use Rattle.cxl_model.specs.Ranges.{Range, IsCommittedRange, lies_within};
 ghost use Rattle.cxl_model.specs.Accepted.{IsAccepted, IsFirstBreach, HasFirstBreach, KeepsBlocks, IsWhole};
 
+use cxl_span::ranges_rise;
+
 /// A law of chains: an address has one outcome at the most.
 pub fn one_outcome()
-    ensures { (s : System) (h : ℕ) (one other : Outcome) → IsSystem s
+    ensures { (s : System) (h : ℕ) (one other : Outcome)
+        → AreMadeWith s.windows (bridge_uids s.nodes)
         → Chain s h one → Chain s h other → one ≡ other }
-{}
+{
+    ranges_rise();
+}
 
 /// A law of images: one is accepted, or it has a first breach, and not both; and it has one first breach
 /// at the most.
