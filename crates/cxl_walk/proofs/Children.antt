@@ -1,0 +1,56 @@
+-- A child comes after its parent, with one more port above it.
+use Rattle.std.proofs.Common.{◌≡◌, ℕ, suc, ◌<◌, Bool, true, false, List, [], ◌∷◌, length, Option, Some, None, refl, sym, ap, ◌∙◌, arith}
+use Rattle.std.specs.Prelude.{slice_get, option_map}
+use Rattle.std.specs.Option.{option_map_or, option_and_then}
+use Rattle.std.proofs.lemmas.Option.{none-some, same_Some, slice_get_within}
+use Rattle.cxl_topo.specs.declared.node.Node.{Node}
+use Rattle.cxl_topo.specs.declared.node.Parent.{Parent}
+use Rattle.cxl_topo.specs.Tree.{is_bridge_at, forwards_at, parent_of, child_of, first_child_of, ports_above}
+use Rattle.cxl_topo.specs.Faults.{IsTree}
+use Rattle.cxl_topo.specs.Laws.{AreTreeLaws}
+
+-- node c stands under node n
+pub record IsChild (nodes : List Node) (n c : ℕ) : Type 0 where
+  pub later : n < c
+  pub below : c < length nodes
+  pub deeper : length (ports_above nodes c) ≡ suc (length (ports_above nodes n))
+
+module _ (nodes : List Node) (tree : IsTree nodes) (laws : AreTreeLaws nodes) where
+  there : (c : ℕ) (parent : Parent) → parent_of nodes c ≡ Some parent → c < length nodes
+  there c parent is = go (slice_get nodes c) refl
+    where
+      go : (o : Option Node) → slice_get nodes c ≡ o → c < length nodes
+      go None e = absurd (none-some parent (sym (ap (option_and_then (λ (node : Node). node.parent)) e) ∙ is))
+      go (Some node) e = slice_get_within nodes c node e
+
+  no_bridge : (c : ℕ) (parent : Parent) → parent_of nodes c ≡ Some parent → is_bridge_at nodes c ≡ false
+  no_bridge c parent is = go (is_bridge_at nodes c) refl
+    where
+      go : (b : Bool) → is_bridge_at nodes c ≡ b → b ≡ false
+      go true e = absurd (none-some parent (sym (tree.bridges c e) ∙ is))
+      go false e = refl
+
+  stands : (n c : ℕ) (parent : Parent) → parent_of nodes c ≡ Some parent → parent.node ≡ n → IsChild nodes n c
+  stands n c parent is same =
+      let below = there c parent is in
+      let up = tree.others c below (no_bridge c parent is) in
+      let one : up.0 ≡ parent = same_Some up.0 parent (sym up.1 ∙ is) in
+      let at : up.0.node ≡ n = ap (λ (p : Parent). p.node) one ∙ same in
+      let earlier = up.2.earlier in
+      let ports : ports_above nodes c ≡ parent ∷ ports_above nodes parent.node =
+      laws.ports c ∙ ap (λ (o : Option Parent). option_map_or (λ p. p ∷ ports_above nodes p.node) o []) is in
+      record {
+        later = omega arith;
+        below = below;
+        deeper = ap length ports ∙ ap (λ (m : ℕ). suc (length (ports_above nodes m))) same;
+      }
+
+  pub child_at_port : (n p c : ℕ) → child_of nodes n p ≡ Some c → IsChild nodes n c
+  child_at_port n p c is = stands n c (record { node = n; port = p }) ((laws.children n p c).0 is) refl
+
+  pub only_child : (n c : ℕ) → forwards_at nodes n ≡ true → first_child_of nodes n ≡ Some c → IsChild nodes n c
+  only_child n c forwards is = go (parent_of nodes c) refl ((laws.only_children n c forwards).0 is)
+    where
+      go : (o : Option Parent) → parent_of nodes c ≡ o → option_map (λ parent. parent.node) o ≡ Some n → IsChild nodes n c
+      go None e same = absurd (none-some n same)
+      go (Some parent) e same = stands n c parent e (same_Some parent.node n same)

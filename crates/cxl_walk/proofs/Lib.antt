@@ -1,0 +1,6 @@
+pub mod Powers
+pub mod Kept
+pub mod Children
+pub mod Nodes
+pub mod Ways
+pub mod Targets

@@ -1,0 +1,119 @@
+ghost use Rattle.std.specs.Prelude.{◌≡◌, ◌+◌, ◌<◌, ◌≤◌, ◌^◌, [], true, false, length, slice_get, IfOk, IfErr, IsSomeAnd};
+ghost use Rattle.cxl_topo.specs.Tree.{forwards_at};
+ghost use Rattle.cxl_topo.specs.Faults.{IsTree};
+ghost use Rattle.cxl_span.specs.Breaches.{BlockKeeps};
+ghost use Rattle.cxl_image.specs.Images.{HasCapsOf};
+ghost use Rattle.cxl_model.specs.System.{holds_address, ram_at, pmem_at};
+ghost use Rattle.cxl_model.specs.System.{system_of};
+ghost use Rattle.cxl_walk.specs.Inside.{Makes, Stops, byte_at, move_of};
+
+use crate::decoding::{entry_at, entry_of, holder, place_of};
+use cxl_image::Image;
+use cxl_model::{Miss, Step};
+use cxl_regs::Block;
+use cxl_span::{block_breach, ranges_rise, spans_lie_in_partitions, start_of};
+use cxl_topo::{Capacity, NodeKind, Topo};
+
+/// A byte of an endpoint's device, with the decoder that leads to it and that decoder's first host address.
+#[derive(Clone, Copy)]
+pub(crate) struct DeviceByte {
+    pub(crate) endpoint: u32,
+    pub(crate) decoder: u8,
+    pub(crate) base: u64,
+    pub(crate) dpa: u64,
+}
+
+/// Where one node sends an address.
+#[derive(Clone, Copy)]
+pub(crate) enum Next {
+    /// The node forwards to its only child.
+    Forwards(u32),
+    /// A port's decoder sends it to a child.
+    Steps(Step, u32),
+    /// An endpoint's decoder sends it to a byte.
+    Arrives(DeviceByte),
+}
+
+/// What a node does with an address.
+pub(crate) fn move_at(image: &Image, topo: &Topo, node: u32, h: u64) -> Result<Next, Miss>
+    requires tree { IsTree topo.now.nodes }
+    requires caps { HasCapsOf image.now topo.now.nodes }
+    requires here { node < length topo.now.nodes }
+    ensures next { IfOk result (λ next. Makes image.now topo.now h node (move_of next)) }
+    ensures miss { IfErr result (λ miss. Stops image.now topo.now h node miss) }
+{
+    if !topo.node(node).forwards {
+        return decode(image, topo, node, h);
+    }
+    match topo.first_child(node) {
+        Some(child) => Ok(Next::Forwards(child)),
+        None => Err(Miss::NoChild(node)),
+    }
+}
+
+/// What a node that does not forward does with an address.
+fn decode(image: &Image, topo: &Topo, node: u32, h: u64) -> Result<Next, Miss>
+    requires tree { IsTree topo.now.nodes }
+    requires caps { HasCapsOf image.now topo.now.nodes }
+    requires here { node < length topo.now.nodes }
+    requires own { forwards_at topo.now.nodes node ≡ false }
+    ensures next { IfOk result (λ next. Makes image.now topo.now h node (move_of next)) }
+    ensures miss { IfErr result (λ miss. Stops image.now topo.now h node miss) }
+{
+    let block = image.block(node);
+    let capacity = capacity_at(topo, node);
+    if block_breach(block, capacity.ram, capacity.pmem).is_some() {
+        return Err(Miss::BadBlock(node));
+    }
+    let Some(i) = holder(block, h) else {
+        return Err(Miss::NoDecoder(node));
+    };
+    if block.endpoint() {
+        return Ok(Next::Arrives(arrive(block, &capacity, node, i, h)));
+    }
+    let d = block.decoder(i);
+    let entry = entry_of(&d, h);
+    let step = Step {
+        node,
+        decoder: i,
+        entry,
+    };
+    match topo.child(node, entry_at(&d, entry)) {
+        Some(child) => Ok(Next::Steps(step, child)),
+        None => Err(Miss::NoChild(node)),
+    }
+}
+
+/// The byte to which the decoder of an endpoint that holds the address sends it.
+fn arrive(block: &Block, capacity: &Capacity, node: u32, i: u8, h: u64) -> DeviceByte
+    requires small { capacity.now.ram + capacity.now.pmem ≤ 2 ^ 52 }
+    requires keeps { BlockKeeps block.now capacity.now.ram capacity.now.pmem }
+    requires endpoint { block.now.endpoint ≡ true }
+    requires holds { IsSomeAnd (slice_get block.now.decoders i) (λ d. holds_address d h ≡ true) }
+    ensures { IsSomeAnd (slice_get block.now.decoders i) (λ d. result ≡ byte_at block.now h node i d) }
+{
+    ranges_rise();
+    spans_lie_in_partitions();
+    let d = block.decoder(i);
+    let start = start_of(block, i);
+    DeviceByte {
+        endpoint: node,
+        decoder: i,
+        base: d.base,
+        dpa: place_of(start, &d, h),
+    }
+}
+
+/// The bytes of a node's device; a port has none.
+fn capacity_at(topo: &Topo, node: u32) -> Capacity
+    requires tree { IsTree topo.now.nodes }
+    requires here { node < length topo.now.nodes }
+    ensures ram { result.ram ≡ ram_at (system_of [] topo.now []) node }
+    ensures pmem { result.pmem ≡ pmem_at (system_of [] topo.now []) node }
+    ensures small { result.ram + result.pmem ≤ 2 ^ 52 }
+{
+    match topo.node(node).kind {
+        NodeKind::Endpoint(capacity) => capacity,
+        NodeKind::Bridge(_) | NodeKind::Switch => Capacity { ram: 0, pmem: 0 },
+    }
+}
