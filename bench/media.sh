@@ -9,6 +9,12 @@
 set -euo pipefail
 top="$(cd "$(dirname "${BASH_SOURCE[0]}")/.." && pwd)"
 [[ $# -gt 0 ]] || set -- 65536 1048576
+for frames in "$@"; do
+    if [[ ! "$frames" =~ ^[1-9][0-9]{2,6}$ ]] || ((frames > 1048576)); then
+        echo "media.sh: $frames is no number of frames from 100 to 1048576" >&2
+        exit 2
+    fi
+done
 work="$(mktemp -d)"
 trap 'rm -rf "$work"' EXIT
 program="$work/crates/media_bench"

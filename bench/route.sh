@@ -7,6 +7,10 @@
 # The tables are made in a folder that it takes away again, and each answer is compared with one worked out here.
 # README.md says what the columns mean.
 set -euo pipefail
+if [[ ! "${1:-10}" =~ ^[1-9][0-9]*$ ]]; then
+    echo "route.sh: $1 is no number of runs" >&2
+    exit 2
+fi
 top="$(cd "$(dirname "${BASH_SOURCE[0]}")/.." && pwd)"
 work="$(mktemp -d)"
 trap 'rm -rf "$work"' EXIT
