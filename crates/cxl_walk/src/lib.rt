@@ -13,4 +13,6 @@ pub use downward::down;
 pub use route::Route;
 
 #[cfg(test)]
+mod hosts;
+#[cfg(test)]
 mod tests;
