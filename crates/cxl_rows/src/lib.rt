@@ -1,11 +1,13 @@
 //! Worked rows of the whole program, as tests of `run` over files and a sink in memory. Each row is the
-//! words of a command line with the exit status and the text that they must give.
+//! words of a command line with the exit status and the text that they must give. And the messages of errors.
 #![tactic(auto)]
 
 #[cfg(test)]
 mod listings;
 #[cfg(test)]
 mod lists;
+#[cfg(test)]
+mod messages;
 #[cfg(test)]
 mod outside;
 #[cfg(test)]
