@@ -23,3 +23,6 @@ pub use laws::{accepted_or_breach, accepted_where_whole, one_outcome, one_window
 pub use plan::{Plan, PlanFault, Reason, Row};
 pub use poison::{Entry, Part, PoisonList, Poisoned, Run, Wide};
 pub use request::Request;
+
+#[cfg(test)]
+mod tests;
