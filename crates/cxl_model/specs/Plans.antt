@@ -1,12 +1,11 @@
 -- Which plans for a new region are legal (this project's rules).
-use Rattle.std.specs.Prelude.{◌≡◌, ◌≢◌, ◌↔◌, ℕ, ◌<◌, ◌==◌, nat_lt, not, Bool, true, false, if◌then◌else◌, List, [], ◌∷◌, length, fold, position, slice_get, slice_set, Contains, AllPairs, All, Option, Some, IfSome, unwrap_or}
+use Rattle.std.specs.Prelude.{◌≡◌, ◌≢◌, ℕ, ◌<◌, ◌==◌, nat_lt, not, true, false, if◌then◌else◌, List, fold, position, slice_get, slice_set, Contains, AllPairs, Some, IfSome, unwrap_or}
 use Rattle.std.specs.Option.{option_map_or}
 use Rattle.cxl_topo.specs.Tree.{forwards_at, is_endpoint_at, path_of}
 use Rattle.cxl_regs.specs.declared.decoder.Decoder.{Decoder}
 use Rattle.cxl_regs.specs.Registers.{Registers, IsDecoder}
 use Rattle.cxl_regs.specs.Words.{has_bit}
 use Rattle.cxl_window.specs.Fields.{WindowFields}
-use Rattle.cxl_model.specs.declared.found.Found.{Found}
 use Rattle.cxl_model.specs.declared.request.Request.{Request}
 use Rattle.cxl_model.specs.declared.plan.Row.{Row}
 use Rattle.cxl_model.specs.declared.plan.Plan.{Plan}
