@@ -2,4 +2,5 @@ pub mod Codes
 pub mod Caps
 pub mod Name
 pub mod Faults
+pub mod Limits
 pub mod NameInside

@@ -1,17 +1,21 @@
 //! What every crate of `cxlplan` speaks in: the codes of ways and granularity, names, capability
-//! words, lists that stay as they were made, and how a call says that it failed.
+//! words, limits, lists that stay as they were made, and how a call says that it failed.
 #![tactic(auto)]
 
 mod caps;
 mod codes;
 mod faults;
 mod fixed_list;
+mod limits;
 mod name;
 
 pub use caps::{Caps, MemKind, cap_word, legal_cap};
 pub use codes::{Factors, code_of, gran_code, gran_of, split, ways_of};
 pub use faults::{Failed, Memory};
 pub use fixed_list::FixedList;
+pub use limits::{
+    ADDRESS_LIMIT, BRIDGE_LIMIT, FILE_LIMIT, FRAME_LIMIT, NODE_LIMIT, PLACEHOLDER_CAP, UNIT,
+};
 pub use name::Name;
 
 #[cfg(test)]
