@@ -1,2 +1,3 @@
 pub mod Trail
+pub mod RegsState
 pub mod Failing

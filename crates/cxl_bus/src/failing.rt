@@ -57,11 +57,7 @@ impl FailingBus {
 }
 
 impl Regs for FailingBus {
-    ghost blocks = { λ bus. bus.blocks };
-
-    ghost trail = { λ bus. Some bus.trail };
-
-    ghost faults = { λ bus. bus.counters.faults };
+    ghost state = { λ bus. record { blocks = bus.blocks; trail = Some bus.trail; faults = bus.counters.faults } };
 
     fn power_on(&mut self, alloc: Global, start: &[Block]) -> Result<(), Memory>
         // The calls and the faults are counted on.

@@ -34,11 +34,7 @@ impl SimBus {
 }
 
 impl Regs for SimBus {
-    ghost blocks = { λ bus. bus };
-
-    ghost trail = { λ _. None };
-
-    ghost faults = { λ _. 0 };
+    ghost state = { λ bus. record { blocks = bus; trail = None; faults = 0 } };
 
     fn power_on(&mut self, alloc: Global, start: &[Block]) -> Result<(), Memory> {
         self.blocks = copies(alloc, start)?;

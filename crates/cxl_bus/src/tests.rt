@@ -1,16 +1,25 @@
-ghost use Rattle.cxl_regs.specs.Blocks.{IsPlace};
+ghost use Rattle.std.specs.Prelude.{◌≡◌, ◌≤◌, IfOk, OnErr};
+ghost use Rattle.cxl_enc.specs.Faults.{HasCause};
+ghost use Rattle.cxl_regs.specs.Blocks.{IsPlace, blocks_after};
 
 use super::*;
 use cxl_enc::Failed;
 use cxl_regs::Block;
 use std::test::*;
 
-/// Enables decoding in an endpoint's block and reads the word back, over any bus.
-fn enable<R: Regs>(regs: &mut R, node: u32) -> Result<u32, Failed>
-    requires { IsPlace (R.blocks regs.old) node 4 }
+/// Sets bits of a word, over any bus.
+fn set_bits<R: Regs>(regs: &mut R, node: u32, off: u32, bits: u32) -> Result<u32, Failed>
+    requires { IsPlace (R.state regs.old).blocks node off }
+    ensures ok { IfOk result (λ word.
+        (R.state regs.new).blocks ≡ blocks_after (R.state regs.old).blocks node off word) }
+    ensures err { OnErr result
+        (R.state regs.new ≡ record (R.state regs.old) { faults = (R.state regs.new).faults }) }
+    ensures cause { HasCause result (R.state regs.old).faults (R.state regs.new).faults }
+    ensures counts { (R.state regs.old).faults ≤ (R.state regs.new).faults }
 {
-    regs.write32(node, 0x04, 0x2)?;
-    regs.read32(node, 0x04)
+    let word = regs.read32(node, off)? | bits;
+    regs.write32(node, off, word)?;
+    Ok(word)
 }
 
 #[test]
@@ -20,7 +29,8 @@ fn the_simulators_bus(rt: HostRuntime) -> Result<(), Fail> {
     let port = Block::new(alloc, 0x382, false)?;
     let mut bus = SimBus::new(alloc);
     bus.power_on(alloc, &[endpoint, port])?;
-    assert_eq!(rt; enable(&mut bus, 0)?, 0x2);
+    assert_eq!(rt; bus.write32(0, 0x04, 0x2), Ok(()));
+    assert_eq!(rt; set_bits(&mut bus, 0, 0x04, 0x0)?, 0x2);
     Ok(())
 }
 

@@ -1,0 +1,17 @@
+-- What the registers of a system hold, as a bus reaches them.
+use Rattle.std.specs.Prelude.{◌≡◌, ℕ, List, Option}
+use Rattle.cxl_regs.specs.Registers.{Registers}
+use Rattle.cxl_bus.specs.declared.sent.Sent.{Sent}
+
+pub record RegsState : Type 0 where
+  -- a block a node, in node order
+  pub blocks : List Registers
+  -- the writes that were answered Ok since it was powered on, in order, where it tells them
+  pub trail : Option (List Sent)
+  -- how many faults there were; a count that has reached 2 ^ 64 - 1 stays there
+  pub faults : ℕ
+
+-- nothing but the count of faults may differ
+pub record IsUntouched (old new : RegsState) : Type 0 where
+  pub blocks : new.blocks ≡ old.blocks
+  pub trail : new.trail ≡ old.trail
