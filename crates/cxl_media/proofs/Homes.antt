@@ -1,11 +1,11 @@
--- A probe from any home meets an empty place.
+-- A probe from any home meets an empty cell.
 use Rattle.std.proofs.Common.{◌≡◌, ℕ, zero, suc, ◌+◌, ◌*◌, ◌/◌, ◌%◌, ◌^◌, ◌<◌, ◌≤◌, cond, List, [], ◌∷◌, length, Option, None, Some, IsSome, is_some, inl, inr, count_by, refl, sym, ap, ◌∙◌, arith}
 use Rattle.std.proofs.Math.Nat.{div-lt_iff_lt-mul}
 use Rattle.std.proofs.lemmas.Bool.{cases_lt, false≢true}
 use Rattle.std.proofs.lemmas.List.Sums.{sum_by-cons}
-use Rattle.cxl_media.specs.declared.place.Place.{Place}
+use Rattle.cxl_media.specs.declared.cell.Cell.{Cell}
 use Rattle.cxl_media.specs.Blocks.{Key}
-use Rattle.cxl_media.specs.Table.{Places, place_at, AreTaken, Stops, IsStop}
+use Rattle.cxl_media.specs.Table.{Cells, cell_at, AreTaken, StopsProbe, IsStop}
 use Rattle.cxl_media.specs.Hash.{mixed, home_of}
 use Rattle.cxl_media.specs.Index.{IsIndex}
 
@@ -23,28 +23,28 @@ home_below homes key some =
     below : (x h w : ℕ) → x < w → 0 < h → x * h < h * w
     below x h w lt pos = grind arith
 
--- from a place on no more are taken than are taken at all
-taken_from : (places : Places) (from : ℕ) → AreTaken places from (length places) → length places ≤ from + count_by is_some places
+-- from a cell on no more are taken than are taken at all
+taken_from : (cells : Cells) (from : ℕ) → AreTaken cells from (length cells) → length cells ≤ from + count_by is_some cells
 taken_from [] from taken = omega arith
 taken_from (o ∷ rest) (suc from) taken =
     let later = taken_from rest from (λ m low high. taken (suc m) (omega arith) (omega arith)) in
-    omega (arith, later, sum_by-cons (λ (p : Option Place). cond (is_some p) 1 0) o rest)
+    omega (arith, later, sum_by-cons (λ (p : Option Cell). cond (is_some p) 1 0) o rest)
 taken_from (None ∷ rest) zero taken = absurd (false≢true (taken 0 (omega arith) (omega arith)))
 taken_from (Some p ∷ rest) zero taken =
     let later = taken_from rest 0 (λ m low high. taken (suc m) (omega arith) (omega arith)) in
-    omega (arith, later, sum_by-cons (λ (p : Option Place). cond (is_some p) 1 0) (Some p) rest)
+    omega (arith, later, sum_by-cons (λ (p : Option Cell). cond (is_some p) 1 0) (Some p) rest)
 
 -- what does not stop a probe is taken
-pub passed_taken : (key : Key) (o : Option Place) → ¬ (Stops key o) → IsSome o
+pub passed_taken : (key : Key) (o : Option Cell) → ¬ (StopsProbe key o) → IsSome o
 passed_taken key None goes = absurd (goes tt)
 passed_taken key (Some p) goes = refl
 
--- a probe meets the block or an empty place
-pub stop_meets : (places : Places) (room : ℕ) (key : Key) (at : ℕ) → IsIndex places room → IsStop places (home_of (2 * room) key) key at → 0 < room → at < length places
-stop_meets places room key at index stop some =
-    elim (cases_lt at (length places)) [
+-- a probe meets the block or an empty cell
+pub stop_meets : (cells : Cells) (room : ℕ) (key : Key) (at : ℕ) → IsIndex cells room → IsStop cells (home_of (2 * room) key) key at → 0 < room → at < length cells
+stop_meets cells room key at index stop some =
+    elim (cases_lt at (length cells)) [
       | inl within ↦ within
       | inr past ↦
-          let taken = taken_from places (home_of (2 * room) key) (λ m low high. passed_taken key (place_at places m) (stop.passed m low (omega (arith, high, past)))) in
+          let taken = taken_from cells (home_of (2 * room) key) (λ m low high. passed_taken key (cell_at cells m) (stop.passed m low (omega (arith, high, past)))) in
           absurd (omega (arith, taken, home_below (2 * room) key (omega arith), index.few, index.size))
     ]

@@ -1,4 +1,4 @@
--- The order of keys, and what a list of entries has at a key.
+-- The order of keys, and what a list of items has at a key.
 use Rattle.std.proofs.Common.{◌≡◌, ◌≢◌, ◌⊎◌, ℕ, zero, suc, ◌+◌, ◌<◌, Bool, true, false, cond, List, [], ◌∷◌, length, get_or, Option, None, Some, is_some, refl, sym, ap, subst, ◌∙◌, inl, inr, arith}
 use Rattle.std.specs.declared.cmp.Ordering.{Ordering}
 use Rattle.std.specs.declared.cmp.Ordering.TheVariants.{Equal}
@@ -50,7 +50,7 @@ module _ {X : Type 0} where
   pub find_later : (q : Key) (e : Key × X) (es : List (Key × X)) → q ≢ e.0 → find key_cmp q (e ∷ es) ≡ find key_cmp q es
   find_later q e es other = cond-false _ (Some e.1) (find key_cmp q es) (key_is_not q e.0 other)
 
-  -- a key that no entry has is not found
+  -- a key that no item has is not found
   pub find_nowhere : (q : Key) (es : List (Key × X)) → ((k : ℕ) (d : Key × X) → k < length es → (get_or es k d).0 ≢ q) → find key_cmp q es ≡ None
   find_nowhere q [] none = refl
   find_nowhere q (e ∷ es) none =

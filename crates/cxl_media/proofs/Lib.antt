@@ -1,5 +1,5 @@
 pub mod Keys
-pub mod Entries
+pub mod Items
 pub mod Zeros
 pub mod Plain
 pub mod Tables

@@ -9,26 +9,26 @@ use Rattle.cxl_pool.specs.Pool.{zeros}
 use Rattle.cxl_media.specs.declared.map_media.Block.{Block}
 use Rattle.cxl_media.specs.Blocks.{Key, key_cmp, Blocks, block_at, frames_needed, is_between, scrubbed}
 use Rattle.cxl_media.specs.Held.{Held}
-use Rattle.cxl_media.specs.MapInside.{held_in, entry_of, entries_of, AreDistinct, IsPlaceOf, IsHeld}
+use Rattle.cxl_media.specs.MapInside.{held_in, item_of, items_of, AreKeysDistinct, IsItemAt, IsHeld}
 use Rattle.cxl_media.proofs.Keys.{key_total, key_exact}
-use Rattle.cxl_media.proofs.Entries.{find_at, distinct-set, distinct-push, distinct-filter, set_is_insert, filter_is_retain, len_distinct}
+use Rattle.cxl_media.proofs.Items.{find_at, distinct-set, distinct-push, distinct-filter, set_is_insert, filter_is_retain, len_distinct}
 
 -- the blocks of the map
 abbrev pub held : List Block → Blocks
-held items = fin.from_entries (entries_of items)
+held items = fin.from_entries (items_of items)
 
 module _ (items : List Block) (q : Key) where
   -- a block that stands at a place
-  module _ (at : ℕ) (is : IsPlaceOf (entries_of items) q at) (distinct : AreDistinct (entries_of items)) where
+  module _ (at : ℕ) (is : IsItemAt (items_of items) q at) (distinct : AreKeysDistinct (items_of items)) where
     pub place_within : at < length items
-    place_within = omega (arith, is.within, length-map items entry_of)
+    place_within = omega (arith, is.within, length-map items item_of)
 
     pub get_here : (d : Block) → fin.get (held items) q ≡ Some (get_or items at d).bytes
     get_here d =
-        let entry = get_or-map entry_of items at d (entry_of d) place_within in
-        fin.get-from_entries key_total (entries_of items) q
-        ∙ ap (λ k. find key_cmp k (entries_of items)) (sym (is.is (entry_of d)))
-        ∙ find_at (entries_of items) at (entry_of d) is.within distinct
+        let entry = get_or-map item_of items at d (item_of d) place_within in
+        fin.get-from_entries key_total (items_of items) q
+        ∙ ap (λ k. find key_cmp k (items_of items)) (sym (is.is (item_of d)))
+        ∙ find_at (items_of items) at (item_of d) is.within distinct
         ∙ ap (λ (e : Key × List ℕ). Some e.1) entry
 
     pub block_here : (d : Block) → block_at (held items) q ≡ (get_or items at d).bytes
@@ -38,9 +38,9 @@ module _ (items : List Block) (q : Key) where
     needed_here d = ap (λ (o : Option (List ℕ)). cond (is_some o) 0 1) (get_here d)
 
   -- one that stands nowhere
-  module _ (none : find key_cmp q (entries_of items) ≡ None) where
+  module _ (none : find key_cmp q (items_of items) ≡ None) where
     get_nowhere : fin.get (held items) q ≡ None
-    get_nowhere = fin.get-from_entries key_total (entries_of items) q ∙ none
+    get_nowhere = fin.get-from_entries key_total (items_of items) q ∙ none
 
     pub block_nowhere : block_at (held items) q ≡ zeros
     block_nowhere = ap (λ o. unwrap_or o zeros) get_nowhere
@@ -50,9 +50,9 @@ module _ (items : List Block) (q : Key) where
 
 -- the same, in the words of the code: h is what contracts see, and xs the blocks as a slice
 module _ (items xs : List Block) (room frames : ℕ) (h : Held) (q : Key) (view : held_in items frames ≡ h) (same : xs ≡ items) (inside : IsHeld items room frames) where
-  module _ (at : ℕ) (is : IsPlaceOf (entries_of xs) q at) where
-    is_here : IsPlaceOf (entries_of items) q at
-    is_here = subst (λ (bs : List Block). IsPlaceOf (entries_of bs) q at) same is
+  module _ (at : ℕ) (is : IsItemAt (items_of xs) q at) where
+    is_here : IsItemAt (items_of items) q at
+    is_here = subst (λ (bs : List Block). IsItemAt (items_of bs) q at) same is
 
     pub at_within : at < length items
     at_within = place_within items q at is_here inside.distinct
@@ -65,30 +65,30 @@ module _ (items xs : List Block) (room frames : ℕ) (h : Held) (q : Key) (view 
 
     -- another block under the same key is written over it
     module _ (b w : Block) (read : b ≡ get_or items at b) (ep : w.ep ≡ b.ep) (number : w.number ≡ b.number) where
-      entry_read : (get_or (entries_of items) at (entry_of b)).0 ≡ (b.ep, b.number)
-      entry_read = ap (λ (e : Key × List ℕ). e.0) (get_or-map entry_of items at b (entry_of b) at_within) ∙ ap (λ (c : Block). (c.ep, c.number)) (sym read)
+      item_read : (get_or (items_of items) at (item_of b)).0 ≡ (b.ep, b.number)
+      item_read = ap (λ (e : Key × List ℕ). e.0) (get_or-map item_of items at b (item_of b) at_within) ∙ ap (λ (c : Block). (c.ep, c.number)) (sym read)
 
-      key_kept : (entry_of w).0 ≡ (get_or (entries_of items) at (entry_of b)).0
-      key_kept = cc (entry_read, ep, number)
+      key_kept : (item_of w).0 ≡ (get_or (items_of items) at (item_of b)).0
+      key_kept = cc (item_read, ep, number)
 
       pub rewritten_blocks : held (set items at w) ≡ fin.insert h.blocks q w.bytes
       rewritten_blocks =
-          ap fin.from_entries (map-set entry_of items at w)
-          ∙ set_is_insert (entries_of items) at (entry_of w) (entry_of b) is_here.within key_kept inside.distinct
-          ∙ ap (λ k. fin.insert (held items) k w.bytes) (key_kept ∙ is_here.is (entry_of b))
+          ap fin.from_entries (map-set item_of items at w)
+          ∙ set_is_insert (items_of items) at (item_of w) (item_of b) is_here.within key_kept inside.distinct
+          ∙ ap (λ k. fin.insert (held items) k w.bytes) (key_kept ∙ is_here.is (item_of b))
           ∙ ap (λ (k : Held). fin.insert k.blocks q w.bytes) view
 
       pub rewritten_inside : IsHeld (set items at w) room frames
       rewritten_inside = record {
-        distinct = subst (λ (es : List (Key × List ℕ)). AreDistinct es) (sym (map-set entry_of items at w)) (distinct-set (entries_of items) at (entry_of w) (entry_of b) is_here.within key_kept inside.distinct);
+        distinct = subst (λ (es : List (Key × List ℕ)). AreKeysDistinct es) (sym (map-set item_of items at w)) (distinct-set (items_of items) at (item_of w) (item_of b) is_here.within key_kept inside.distinct);
         few = rw length-set inside.few;
         fits = inside.fits;
         small = inside.small;
       }
 
-  module _ (none : find key_cmp q (entries_of xs) ≡ None) where
-    none_here : find key_cmp q (entries_of items) ≡ None
-    none_here = subst (λ (bs : List Block). find key_cmp q (entries_of bs) ≡ None) same none
+  module _ (none : find key_cmp q (items_of xs) ≡ None) where
+    none_here : find key_cmp q (items_of items) ≡ None
+    none_here = subst (λ (bs : List Block). find key_cmp q (items_of bs) ≡ None) same none
 
     pub block_is_zeros : block_at h.blocks q ≡ zeros
     block_is_zeros = ap (λ (k : Held). block_at k.blocks q) (sym view) ∙ block_nowhere items q none_here
@@ -103,41 +103,41 @@ module _ (items xs : List Block) (room frames : ℕ) (h : Held) (q : Key) (view 
 
       pub added_blocks : held (items ++ w ∷ []) ≡ fin.insert h.blocks q w.bytes
       added_blocks =
-          ap fin.from_entries (map-append entry_of items (w ∷ []))
-          ∙ fin.from_entries_push key_total key_exact (entries_of items) (w.ep, w.number) w.bytes (ap (λ k. find key_cmp k (entries_of items)) key ∙ none_here)
+          ap fin.from_entries (map-append item_of items (w ∷ []))
+          ∙ fin.from_entries_push key_total key_exact (items_of items) (w.ep, w.number) w.bytes (ap (λ k. find key_cmp k (items_of items)) key ∙ none_here)
           ∙ ap (λ k. fin.insert (held items) k w.bytes) key
           ∙ ap (λ (k : Held). fin.insert k.blocks q w.bytes) view
 
       pub added_inside : length items < frames → IsHeld (items ++ w ∷ []) room frames
       added_inside more = record {
-        distinct = subst (λ (es : List (Key × List ℕ)). AreDistinct es) (sym (map-append entry_of items (w ∷ []))) (distinct-push (entries_of items) (w.ep, w.number) w.bytes (ap (λ k. find key_cmp k (entries_of items)) key ∙ none_here) inside.distinct);
+        distinct = subst (λ (es : List (Key × List ℕ)). AreKeysDistinct es) (sym (map-append item_of items (w ∷ []))) (distinct-push (items_of items) (w.ep, w.number) w.bytes (ap (λ k. find key_cmp k (items_of items)) key ∙ none_here) inside.distinct);
         few = omega (arith, length_push items w, more);
         fits = inside.fits;
         small = inside.small;
       }
 
--- the entries of the blocks that pass
-entries-filter : (p : Key → Bool) (items : List Block) → entries_of (filter (λ b. p (b.ep, b.number)) items) ≡ filter (λ e. p e.0) (entries_of items)
-entries-filter p [] = refl
-entries-filter p (b ∷ rest) =
-    let later = entries-filter p rest in
-    elim (p (b.ep, b.number)) as (λ t. entries_of (cond t (b ∷ filter (λ c. p (c.ep, c.number)) rest) (filter (λ c. p (c.ep, c.number)) rest)) ≡ cond t (entry_of b ∷ filter (λ e. p e.0) (entries_of rest)) (filter (λ e. p e.0) (entries_of rest))) [
-      | true ↦ ap (λ es. entry_of b ∷ es) later
+-- the items of the blocks that pass
+items-filter : (p : Key → Bool) (items : List Block) → items_of (filter (λ b. p (b.ep, b.number)) items) ≡ filter (λ e. p e.0) (items_of items)
+items-filter p [] = refl
+items-filter p (b ∷ rest) =
+    let later = items-filter p rest in
+    elim (p (b.ep, b.number)) as (λ t. items_of (cond t (b ∷ filter (λ c. p (c.ep, c.number)) rest) (filter (λ c. p (c.ep, c.number)) rest)) ≡ cond t (item_of b ∷ filter (λ e. p e.0) (items_of rest)) (filter (λ e. p e.0) (items_of rest))) [
+      | true ↦ ap (λ es. item_of b ∷ es) later
       | false ↦ later
     ]
 
 -- the blocks between two addresses of an endpoint are dropped
 module _ (items kept : List Block) (room frames : ℕ) (h : Held) (ep from to : ℕ) (view : held_in items frames ≡ h) (inside : IsHeld items room frames) (is : kept ≡ filter (λ b. not (is_between ep from to (b.ep, b.number))) items) where
-  entries_kept : entries_of kept ≡ filter (λ e. not (is_between ep from to e.0)) (entries_of items)
-  entries_kept = ap entries_of is ∙ entries-filter (λ k. not (is_between ep from to k)) items
+  items_kept : items_of kept ≡ filter (λ e. not (is_between ep from to e.0)) (items_of items)
+  items_kept = ap items_of is ∙ items-filter (λ k. not (is_between ep from to k)) items
 
-  distinct_kept : AreDistinct (entries_of kept)
-  distinct_kept = subst (λ (es : List (Key × List ℕ)). AreDistinct es) (sym entries_kept) (distinct-filter (λ k. not (is_between ep from to k)) (entries_of items) inside.distinct)
+  distinct_kept : AreKeysDistinct (items_of kept)
+  distinct_kept = subst (λ (es : List (Key × List ℕ)). AreKeysDistinct es) (sym items_kept) (distinct-filter (λ k. not (is_between ep from to k)) (items_of items) inside.distinct)
 
   pub kept_blocks : held kept ≡ scrubbed h.blocks ep from to
   kept_blocks =
-      ap fin.from_entries entries_kept
-      ∙ filter_is_retain (λ k. not (is_between ep from to k)) (entries_of items)
+      ap fin.from_entries items_kept
+      ∙ filter_is_retain (λ k. not (is_between ep from to k)) (items_of items)
       ∙ ap (λ (k : Held). scrubbed k.blocks ep from to) view
 
   few_kept : length kept ≤ length items
@@ -158,10 +158,10 @@ module _ (items kept : List Block) (room frames : ℕ) (h : Held) (ep from to : 
         arith,
         few_kept,
         inside.few,
-        len_distinct (entries_of kept) distinct_kept,
-        length-map kept entry_of,
-        len_distinct (entries_of items) inside.distinct,
-        length-map items entry_of,
+        len_distinct (items_of kept) distinct_kept,
+        length-map kept item_of,
+        len_distinct (items_of items) inside.distinct,
+        length-map items item_of,
         ap (λ (k : Held). k.free) view,
         ap (λ (k : Held). fin.len k.blocks) view,
       )

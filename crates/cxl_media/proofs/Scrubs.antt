@@ -1,4 +1,4 @@
--- The index is gone through from its last place down, and each block that passes a test is taken out.
+-- The index is gone through from its last cell down, and each block that passes a test is taken out.
 use Rattle.std.proofs.Common.{◌≡◌, ◌≢◌, ℕ, ◌+◌, ◌-◌, ◌<◌, ◌≤◌, Bool, true, false, cond, not, List, length, get_or, set, Option, None, Some, IsSome, is_some, refl, sym, ap, subst, ◌∙◌, inl, inr, arith}
 use Rattle.std.specs.Prelude.{IfSome}
 use Rattle.std.specs.Option.{option_map}
@@ -6,62 +6,62 @@ use Rattle.std.proofs.lemmas.Bool.{cases_eq, cases_Bool, false≢true, cond-true
 use Rattle.std.proofs.lemmas.List.{length-set}
 use Rattle.std.specs.FinMap as fin
 use Rattle.std.specs.FinMap.{FinMap, find}
-use Rattle.cxl_pool.specs.Pool.{Frames, bytes_at, IsOut, free_count, zeros}
-use Rattle.cxl_media.specs.declared.place.Place.{Place}
+use Rattle.cxl_pool.specs.Pool.{Frames, frame_bytes, IsOut, free_count, zeros}
+use Rattle.cxl_media.specs.declared.cell.Cell.{Cell}
 use Rattle.cxl_media.specs.Blocks.{Key, key_cmp, Blocks}
-use Rattle.cxl_media.specs.Table.{key_at, Places, place_at, listed, frames_in, passes, NonePass}
+use Rattle.cxl_media.specs.Table.{key_at, Cells, cell_at, items_in, frames_in, passes, NonePass}
 use Rattle.cxl_media.specs.Index.{Table}
 use Rattle.cxl_media.specs.Sim.{Sim, blocks_of, IsSim}
 use Rattle.cxl_media.proofs.Keys.{key_total, key_exact, not_none, same_some}
 use Rattle.cxl_media.proofs.Tables.{find_absent, get_frames}
-use Rattle.cxl_media.proofs.Gap.{place_within}
+use Rattle.cxl_media.proofs.Gap.{cell_within}
 use Rattle.cxl_media.proofs.Sims.{held_by, get_block, len_blocks, dropped_sim, dropped_other}
 
-abbrev pub sim_of : Frames → Places → Sim
-sim_of pool places = record { pool = pool; frames = frames_in places }
+abbrev pub sim_of : Frames → Cells → Sim
+sim_of pool cells = record { pool = pool; frames = frames_in cells }
 
--- the places from `at` on were gone through
+-- the cells from `at` on were gone through
 pub record IsScrubbing (test : Key → Bool) (first : Sim) (pool : Frames) (table : Table) (at : ℕ) : Type 0 where
-  pub sim : IsSim (sim_of pool table.places) table.room
+  pub sim : IsSim (sim_of pool table.cells) table.room
   pub total : length pool ≡ length first.pool
-  pub kept : (q : Key) → test q ≡ false → fin.get (blocks_of (sim_of pool table.places)) q ≡ fin.get (blocks_of first) q
-  pub none : NonePass test table.places at
+  pub kept : (q : Key) → test q ≡ false → fin.get (blocks_of (sim_of pool table.cells)) q ≡ fin.get (blocks_of first) q
+  pub none : NonePass test table.cells at
 
-pub scrubbing_first : (test : Key → Bool) (pool : Frames) (table : Table) (at : ℕ) → IsSim (sim_of pool table.places) table.room → length table.places ≤ at → IsScrubbing test (sim_of pool table.places) pool table at
+pub scrubbing_first : (test : Key → Bool) (pool : Frames) (table : Table) (at : ℕ) → IsSim (sim_of pool table.cells) table.room → length table.cells ≤ at → IsScrubbing test (sim_of pool table.cells) pool table at
 scrubbing_first test pool table at sim past = record {
   sim = sim;
   total = refl;
   kept = λ q outside. refl;
-  none = λ k p low is. absurd (omega (arith, past, low, place_within table.places k p is));
+  none = λ k p low is. absurd (omega (arith, past, low, cell_within table.cells k p is));
 }
 
 module _ (test : Key → Bool) (first : Sim) (pool : Frames) (table : Table) (at : ℕ) (before : IsScrubbing test first pool table (at + 1)) where
-  -- the block at this place stays, or there is none
-  pub scrub_skips : passes test (place_at table.places at) ≡ false → IsScrubbing test first pool table at
+  -- the block at this cell stays, or there is none
+  pub scrub_skips : passes test (cell_at table.cells at) ≡ false → IsScrubbing test first pool table at
   scrub_skips stays = record {
     sim = before.sim;
     total = before.total;
     kept = before.kept;
     none = λ k p low is. elim (cases_eq k at) [
-      | inl here ↦ ap (passes test) (sym is ∙ ap (place_at table.places) here) ∙ stays
+      | inl here ↦ ap (passes test) (sym is ∙ ap (cell_at table.cells) here) ∙ stays
       | inr other ↦ before.none k p (omega arith) is
     ];
   }
 
   -- it is taken out, and its frame is given back
-  module _ (goes : passes test (place_at table.places at) ≡ true) (n : ℕ) (after : Table) (frame : IfSome (place_at table.places at) (λ p. fin.get (frames_in table.places) (key_at p) ≡ Some n)) (removed : IfSome (place_at table.places at) (λ p. frames_in after.places ≡ fin.remove (frames_in table.places) (key_at p))) (later : (test : Key → Bool) → NonePass test table.places (at + 1) → NonePass test after.places at) (room : after.room ≡ table.room) where
-    here : (p : Place) × (place_at table.places at ≡ Some p)
-    here = by_case (place_at table.places at) refl goes
+  module _ (goes : passes test (cell_at table.cells at) ≡ true) (n : ℕ) (after : Table) (frame : IfSome (cell_at table.cells at) (λ p. fin.get (frames_in table.cells) (key_at p) ≡ Some n)) (removed : IfSome (cell_at table.cells at) (λ p. frames_in after.cells ≡ fin.remove (frames_in table.cells) (key_at p))) (later : (test : Key → Bool) → NonePass test table.cells (at + 1) → NonePass test after.cells at) (room : after.room ≡ table.room) where
+    here : (p : Cell) × (cell_at table.cells at ≡ Some p)
+    here = by_case (cell_at table.cells at) refl goes
       where
-        by_case : (o : Option Place) → place_at table.places at ≡ o → passes test o ≡ true → (p : Place) × (place_at table.places at ≡ Some p)
+        by_case : (o : Option Cell) → cell_at table.cells at ≡ o → passes test o ≡ true → (p : Cell) × (cell_at table.cells at ≡ Some p)
         by_case None is passed = absurd (false≢true passed)
         by_case (Some p) is passed = (p, is)
 
-    there : fin.get (frames_in table.places) (key_at here.0) ≡ Some n
-    there = subst (λ (o : Option Place). IfSome o (λ p. fin.get (frames_in table.places) (key_at p) ≡ Some n)) here.1 frame
+    there : fin.get (frames_in table.cells) (key_at here.0) ≡ Some n
+    there = subst (λ (o : Option Cell). IfSome o (λ p. fin.get (frames_in table.cells) (key_at p) ≡ Some n)) here.1 frame
 
-    left : frames_in after.places ≡ fin.remove (frames_in table.places) (key_at here.0)
-    left = subst (λ (o : Option Place). IfSome o (λ p. frames_in after.places ≡ fin.remove (frames_in table.places) (key_at p))) here.1 removed
+    left : frames_in after.cells ≡ fin.remove (frames_in table.cells) (key_at here.0)
+    left = subst (λ (o : Option Cell). IfSome o (λ p. frames_in after.cells ≡ fin.remove (frames_in table.cells) (key_at p))) here.1 removed
 
     tested : test (key_at here.0) ≡ true
     tested = sym (ap (passes test) here.1) ∙ goes
@@ -70,43 +70,43 @@ module _ (test : Key → Bool) (first : Sim) (pool : Frames) (table : Table) (at
     pub gone_out : IsOut pool n
     gone_out = before.sim.out (key_at here.0) n there
 
-    whole : ◌≡◌ {A = Sim} (sim_of (set pool n None) after.places) (record { pool = set pool n None; frames = fin.remove (frames_in table.places) (key_at here.0) })
+    whole : ◌≡◌ {A = Sim} (sim_of (set pool n None) after.cells) (record { pool = set pool n None; frames = fin.remove (frames_in table.cells) (key_at here.0) })
     whole = λ i. record { pool = set pool n None; frames = left i }
 
     pub scrub_drops : IsScrubbing test first (set pool n None) after at
     scrub_drops = record {
       sim =
           subst (λ (s : Sim). IsSim s after.room) (sym whole)
-          (subst (λ (r : ℕ). IsSim (record { pool = set pool n None; frames = fin.remove (frames_in table.places) (key_at here.0) }) r) (sym room)
-          (dropped_sim (sim_of pool table.places) table.room before.sim (key_at here.0) n there));
+          (subst (λ (r : ℕ). IsSim (record { pool = set pool n None; frames = fin.remove (frames_in table.cells) (key_at here.0) }) r) (sym room)
+          (dropped_sim (sim_of pool table.cells) table.room before.sim (key_at here.0) n there));
       total = length-set {A = Option (List ℕ)} pool n None ∙ before.total;
       kept = λ q outside.
           let other : q ≢ key_at here.0 = λ same. false≢true (sym outside ∙ ap test same ∙ tested) in
           ap (λ (s : Sim). fin.get (blocks_of s) q) whole
-          ∙ dropped_other (sim_of pool table.places) table.room before.sim (key_at here.0) n there q other
+          ∙ dropped_other (sim_of pool table.cells) table.room before.sim (key_at here.0) n there q other
           ∙ before.kept q outside;
       none = later test before.none;
     }
 
--- all places were gone through
+-- all cells were gone through
 module _ (test : Key → Bool) (first : Sim) (pool : Frames) (table : Table) (done : IsScrubbing test first pool table 0) where
-  passing_gone : (q : Key) → test q ≡ true → fin.get (frames_in table.places) q ≡ None
+  passing_gone : (q : Key) → test q ≡ true → fin.get (frames_in table.cells) q ≡ None
   passing_gone q passed =
-      get_frames table.places q
-      ∙ find_absent table.places q (λ k p is same. false≢true (sym (done.none k p (omega arith) is) ∙ ap test same ∙ passed))
+      get_frames table.cells q
+      ∙ find_absent table.cells q (λ k p is same. false≢true (sym (done.none k p (omega arith) is) ∙ ap test same ∙ passed))
 
-  pub scrubbed_blocks : blocks_of (sim_of pool table.places) ≡ fin.retain_keys (blocks_of first) (λ q. not (test q))
+  pub scrubbed_blocks : blocks_of (sim_of pool table.cells) ≡ fin.retain_keys (blocks_of first) (λ q. not (test q))
   scrubbed_blocks =
       fin.same_map key_total key_exact _ _ (λ q.
       let kept = fin.get-retain_keys (blocks_of first) (λ k. not (test k)) q (λ x tied. ap (λ k. not (test k)) (sym (key_exact q x tied))) in
       elim (cases_Bool (test q)) [
         | inl passed ↦
-            get_block (sim_of pool table.places) q ∙ ap (option_map (held_by pool)) (passing_gone q passed)
+            get_block (sim_of pool table.cells) q ∙ ap (option_map (held_by pool)) (passing_gone q passed)
             ∙ sym (ap (λ b. cond (not b) (fin.get (blocks_of first) q) None) passed) ∙ sym kept
         | inr outside ↦
             done.kept q outside
             ∙ sym (ap (λ b. cond (not b) (fin.get (blocks_of first) q) None) outside) ∙ sym kept
       ])
 
-  pub scrubbed_frames : (room : ℕ) → IsSim first room → free_count pool + fin.len (blocks_of (sim_of pool table.places)) ≡ free_count first.pool + fin.len (blocks_of first)
-  scrubbed_frames room sim = omega (arith, done.sim.counted, sim.counted, done.total, len_blocks (sim_of pool table.places), len_blocks first)
+  pub scrubbed_frames : (room : ℕ) → IsSim first room → free_count pool + fin.len (blocks_of (sim_of pool table.cells)) ≡ free_count first.pool + fin.len (blocks_of first)
+  scrubbed_frames room sim = omega (arith, done.sim.counted, sim.counted, done.total, len_blocks (sim_of pool table.cells), len_blocks first)

@@ -6,7 +6,7 @@ use Rattle.std.specs.Option.{option_map, option_copied}
 use Rattle.std.proofs.lemmas.List.{set-set, get_or-set_same}
 use Rattle.std.specs.FinMap as fin
 use Rattle.std.specs.FinMap.{FinMap}
-use Rattle.cxl_pool.specs.Pool.{Frames, bytes_at, IsOut, IsFree, free_count, zeros}
+use Rattle.cxl_pool.specs.Pool.{Frames, frame_bytes, IsOut, IsFree, free_count, zeros}
 use Rattle.cxl_media.specs.Blocks.{Key, key_cmp, Blocks, block_at, frames_needed}
 use Rattle.cxl_media.specs.Sim.{Sim, blocks_of, IsSim}
 use Rattle.cxl_media.proofs.Keys.{not_none, same_some}
@@ -14,7 +14,7 @@ use Rattle.cxl_media.proofs.Sims.{held_by, get_block, get_there, block_there, ne
 
 module _ (s t : Sim) (view : s ≡ t) (q : Key) where
   module _ (n : ℕ) (found : Some n ≡ fin.get s.frames q) where
-    pub in_block : (b : List ℕ) → bytes_at s.pool n ≡ Some b → block_at (blocks_of t) q ≡ b
+    pub in_block : (b : List ℕ) → frame_bytes s.pool n ≡ Some b → block_at (blocks_of t) q ≡ b
     in_block b is = ap (λ (u : Sim). block_at (blocks_of u) q) (sym view) ∙ block_there s q n (sym found) b is
 
     pub in_needed : frames_needed (blocks_of t) q ≡ 0
@@ -43,12 +43,12 @@ module _ (s t : Sim) (view : s ≡ t) (q : Key) where
       is_some_mapped (Some n) = refl
 
   -- the frame holds the bytes of the block
-  pub frame_bytes : (room : ℕ) (r : Option (Bor ℕ)) → IsSim s room → option_copied r ≡ fin.get s.frames q → IfSome r (λ frame. bytes_at t.pool frame.now ≡ fin.get (blocks_of t) q)
-  frame_bytes room None sim is = tt
-  frame_bytes room (Some frame) sim is =
+  pub frame_holds : (room : ℕ) (r : Option (Bor ℕ)) → IsSim s room → option_copied r ≡ fin.get s.frames q → IfSome r (λ frame. frame_bytes t.pool frame.now ≡ fin.get (blocks_of t) q)
+  frame_holds room None sim is = tt
+  frame_holds room (Some frame) sim is =
       let out = sim.out q frame.now (sym is) in
-      ap (λ (u : Sim). bytes_at u.pool frame.now) (sym view)
-      ∙ whole (bytes_at s.pool frame.now) out
+      ap (λ (u : Sim). frame_bytes u.pool frame.now) (sym view)
+      ∙ whole (frame_bytes s.pool frame.now) out
       ∙ sym (get_there s q frame.now (sym is))
       ∙ ap (λ (u : Sim). fin.get (blocks_of u) q) view
     where
@@ -82,8 +82,8 @@ module _ (s t : Sim) (view : s ≡ t) (room : ℕ) (sim : IsSim s room) (q : Key
   adds_free = omega (arith, ap free_count one_write, added_free s room sim q (sym none) n free b, out_needed s t view q none, ap (λ (u : Sim). free_count u.pool) view)
 
   -- the frame was zeroed
-  pub fresh_bytes : (old : List ℕ) → bytes_at pool n ≡ Some old → old ≡ zeros
-  fresh_bytes old is = same_some old zeros (sym is ∙ ap (λ p. bytes_at p n) taken ∙ get_or-set_same s.pool n (Some zeros) None free.0)
+  pub fresh_bytes : (old : List ℕ) → frame_bytes pool n ≡ Some old → old ≡ zeros
+  fresh_bytes old is = same_some old zeros (sym is ∙ ap (λ p. frame_bytes p n) taken ∙ get_or-set_same s.pool n (Some zeros) None free.0)
 
 -- no frame is free
 pub full_where : (s t : Sim) (view : s ≡ t) (q : Key) → None ≡ fin.get s.frames q → free_count s.pool ≡ 0 → (frames_needed (blocks_of t) q ≡ 1) × (free_count t.pool ≡ 0)

@@ -8,7 +8,7 @@ use Rattle.std.proofs.lemmas.List.{get_or-set_same, get_or-set_other, get_or_pas
 use Rattle.std.proofs.lemmas.List.Sums.{sum_by-set, sum_by-cons}
 use Rattle.std.specs.FinMap as fin
 use Rattle.std.specs.FinMap.{FinMap}
-use Rattle.cxl_pool.specs.Pool.{Frames, bytes_at, IsOut, IsFree, free_count, zeros}
+use Rattle.cxl_pool.specs.Pool.{Frames, frame_bytes, IsOut, IsFree, free_count, zeros}
 use Rattle.cxl_media.specs.Blocks.{Key, key_cmp, Blocks, block_at, frames_needed}
 use Rattle.cxl_media.specs.Sim.{Sim, blocks_of, IsSim}
 use Rattle.cxl_media.proofs.Keys.{key_total, key_exact, key_is, key_is_not, keys_cases, not_none, same_some}
@@ -16,7 +16,7 @@ use Rattle.cxl_media.proofs.Values.{get-values, len-values}
 
 -- the bytes of a frame
 abbrev pub held_by : Frames → ℕ → List ℕ
-held_by pool n = unwrap_or (bytes_at pool n) zeros
+held_by pool n = unwrap_or (frame_bytes pool n) zeros
 
 -- what the map has at a block
 pub get_block : (s : Sim) (q : Key) → fin.get (blocks_of s) q ≡ option_map (held_by s.pool) (fin.get s.frames q)
@@ -31,7 +31,7 @@ module _ (s : Sim) (q : Key) where
     pub get_there : fin.get (blocks_of s) q ≡ Some (held_by s.pool n)
     get_there = get_block s q ∙ ap (option_map (held_by s.pool)) there
 
-    pub block_there : (b : List ℕ) → bytes_at s.pool n ≡ Some b → block_at (blocks_of s) q ≡ b
+    pub block_there : (b : List ℕ) → frame_bytes s.pool n ≡ Some b → block_at (blocks_of s) q ≡ b
     block_there b is = ap (λ o. unwrap_or o zeros) get_there ∙ ap (λ o. unwrap_or o zeros) is
 
     pub needed_there : frames_needed (blocks_of s) q ≡ 0
@@ -56,7 +56,7 @@ out_within pool n out =
       | inr past ↦ absurd (false≢true (sym (ap is_some (get_or_past pool n None past)) ∙ out))
     ]
 
-count-set : (pool : Frames) (n : ℕ) (o : Option (List ℕ)) → n < length pool → free_count (set pool n o) + cond (is_none (bytes_at pool n)) 1 0 ≡ free_count pool + cond (is_none o) 1 0
+count-set : (pool : Frames) (n : ℕ) (o : Option (List ℕ)) → n < length pool → free_count (set pool n o) + cond (is_none (frame_bytes pool n)) 1 0 ≡ free_count pool + cond (is_none o) 1 0
 count-set pool n o within = sum_by-set (λ p. cond (is_none p) 1 0) pool n o None within
 
 out_counts : (o : Option (List ℕ)) → IsSome o → ◌≡◌ {A = ℕ} (cond (is_none o) 1 0) 0
@@ -105,7 +105,7 @@ module _ (s : Sim) (room : ℕ) (sim : IsSim s room) (k : Key) (n : ℕ) (there 
   pub rewritten_free : free_count (set s.pool n (Some b)) ≡ free_count s.pool
   rewritten_free =
       let out = sim.out k n there in
-      omega (arith, count-set s.pool n (Some b) (out_within s.pool n out), out_counts (bytes_at s.pool n) out)
+      omega (arith, count-set s.pool n (Some b) (out_within s.pool n out), out_counts (frame_bytes s.pool n) out)
 
 -- what a map has after a value was set
 insert_cases : (m : FinMap key_cmp ℕ) (k q : Key) (n x : ℕ) → fin.get (fin.insert m k n) q ≡ Some x → ((q ≡ k) × (x ≡ n)) ⊎ ((q ≢ k) × (fin.get m q ≡ Some x))
@@ -129,13 +129,13 @@ module _ (s : Sim) (room : ℕ) (sim : IsSim s room) (k : Key) (missing : fin.ge
 
   pub added_free : free_count (set s.pool n (Some b)) + 1 ≡ free_count s.pool
   added_free =
-      let was : ◌≡◌ {A = ℕ} (cond (is_none (bytes_at s.pool n)) 1 0) 1 = ap (λ (o : Option (List ℕ)). cond (is_none o) 1 0) free.1 in
+      let was : ◌≡◌ {A = ℕ} (cond (is_none (frame_bytes s.pool n)) 1 0) 1 = ap (λ (o : Option (List ℕ)). cond (is_none o) 1 0) free.1 in
       omega (arith, count-set s.pool n (Some b) free.0, was)
 
   added_out : (q : Key) (m : ℕ) → fin.get (fin.insert s.frames k n) q ≡ Some m → IsOut (set s.pool n (Some b)) m
   added_out q m is =
       elim (insert_cases s.frames k q n m is) [
-        | inl new ↦ ap is_some (ap (bytes_at (set s.pool n (Some b))) new.1 ∙ get_or-set_same s.pool n (Some b) None free.0)
+        | inl new ↦ ap is_some (ap (frame_bytes (set s.pool n (Some b))) new.1 ∙ get_or-set_same s.pool n (Some b) None free.0)
         | inr old ↦
             let other : m ≢ n = λ same. unused q (old.1 ∙ ap (λ (x : ℕ). Some x) same) in
             ap is_some (get_or-set_other s.pool n m (Some b) None other) ∙ sim.out q m old.1
@@ -193,7 +193,7 @@ module _ (s : Sim) (room : ℕ) (sim : IsSim s room) (k : Key) (n : ℕ) (there 
         let fewer : fin.len (fin.remove s.frames k) ≡ fin.len s.frames - 1 =
         fin.len-remove key_total s.frames k ∙ ap (λ (o : Option ℕ). cond (is_some o) (fin.len s.frames - 1) (fin.len s.frames)) there in
         let some : 0 < fin.len s.frames = some_len there in
-        omega (arith, fewer, some, sim.counted, length-set s.pool n slot, count-set s.pool n slot (out_within s.pool n out), out_counts (bytes_at s.pool n) out);
+        omega (arith, fewer, some, sim.counted, length-set s.pool n slot, count-set s.pool n slot (out_within s.pool n out), out_counts (frame_bytes s.pool n) out);
     size = length-set {A = Option (List ℕ)} s.pool n None ∙ sim.size;
   }
     where
@@ -204,7 +204,7 @@ module _ (s : Sim) (room : ℕ) (sim : IsSim s room) (k : Key) (n : ℕ) (there 
             | inr some ↦ omega (arith, some)
           ]
 
--- a map without entries has no blocks
+-- a map without items has no blocks
 pub no_blocks : (pool : Frames) (frames : FinMap key_cmp ℕ) → frames ≡ fin.empty → blocks_of (record { pool = pool; frames = frames }) ≡ fin.empty
 no_blocks pool frames none =
     fin.same_map key_total key_exact (blocks_of (record { pool = pool; frames = frames })) fin.empty (λ q.

@@ -1,31 +1,31 @@
 -- The index of the shipped media: a table with room for so many blocks.
 use Rattle.std.specs.Prelude.{◌≡◌, ℕ, ◌*◌, ◌^◌, ◌≤◌, length, count_by, is_some, refl}
 use Rattle.std.specs.Coded.{Coded, code_by, coded×, coded_ℕ, coded_list, coded_option}
-use Rattle.cxl_media.specs.declared.place.Place.{Place}
-use Rattle.cxl_media.specs.Table.{Places, IsTable}
+use Rattle.cxl_media.specs.declared.cell.Cell.{Cell}
+use Rattle.cxl_media.specs.Table.{Cells, IsTable}
 use Rattle.cxl_media.specs.Hash.{home_of}
 
 pub record Table : Type 0 where
-  pub places : Places
+  pub cells : Cells
   -- how many blocks there is room for
   pub room : ℕ
 
--- a place as a triple
-abbrev pub coded_place : Coded Place
-coded_place =
+-- a cell as a triple
+abbrev pub coded_cell : Coded Cell
+coded_cell =
     code_by (ℕ × (ℕ × ℕ)) (coded× coded_ℕ (coded× coded_ℕ coded_ℕ)) (λ p. (p.ep, (p.number, p.frame)))
     (λ t. record { ep = t.0; number = t.1.0; frame = t.1.1 }) (λ _. refl)
 
 -- as a pair
 abbrev pub coded_table : Coded Table
 coded_table =
-    code_by (Places × ℕ) (coded× (coded_list (coded_option coded_place)) coded_ℕ) (λ t. (t.places, t.room))
-    (λ p. record { places = p.0; room = p.1 }) (λ _. refl)
+    code_by (Cells × ℕ) (coded× (coded_list (coded_option coded_cell)) coded_ℕ) (λ t. (t.cells, t.room))
+    (λ p. record { cells = p.0; room = p.1 }) (λ _. refl)
 
--- two homes for each block that there is room for, and one place more for each, so that a probe from any home meets
--- an empty place
-pub record IsIndex (places : Places) (room : ℕ) : Type 0 where
-  pub table : IsTable (home_of (2 * room)) places
-  pub size : length places ≡ 3 * room
-  pub few : count_by is_some places ≤ room
+-- two homes for each block that there is room for, and one cell more for each, so that a probe from any home meets
+-- an empty cell
+pub record IsIndex (cells : Cells) (room : ℕ) : Type 0 where
+  pub table : IsTable (home_of (2 * room)) cells
+  pub size : length cells ≡ 3 * room
+  pub few : count_by is_some cells ≤ room
   pub small : room ≤ 2 ^ 20

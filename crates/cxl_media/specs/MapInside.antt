@@ -6,28 +6,28 @@ use Rattle.cxl_media.specs.Held.{Held}
 use Rattle.cxl_media.specs.declared.map_media.Block.{Block}
 
 -- the key of a block, and its bytes
-abbrev pub entry_of : Block → Key × List ℕ
-entry_of block = ((block.ep, block.number), block.bytes)
+abbrev pub item_of : Block → Key × List ℕ
+item_of block = ((block.ep, block.number), block.bytes)
 
-abbrev pub entries_of : List Block → List (Key × List ℕ)
-entries_of blocks = map entry_of blocks
+abbrev pub items_of : List Block → List (Key × List ℕ)
+items_of blocks = map item_of blocks
 
 -- no key stands twice
-abbrev pub AreDistinct : {X : Type 0} → List (Key × X) → Type 0
-AreDistinct [] = Unit {0}
-AreDistinct (e ∷ es) = (find key_cmp e.0 es ≡ None) × AreDistinct es
+abbrev pub AreKeysDistinct : {X : Type 0} → List (Key × X) → Type 0
+AreKeysDistinct [] = Unit {0}
+AreKeysDistinct (e ∷ es) = (find key_cmp e.0 es ≡ None) × AreKeysDistinct es
 
--- the entry at this place has this key
-pub record IsPlaceOf {X : Type 0} (es : List (Key × X)) (key : Key) (at : ℕ) : Type 0 where
+-- the item at this place has this key
+pub record IsItemAt {X : Type 0} (es : List (Key × X)) (key : Key) (at : ℕ) : Type 0 where
   pub within : at < length es
   pub is : (d : Key × X) → (slice_index_or es at d).0 ≡ key
 
 abbrev pub held_in : List Block → ℕ → Held
-held_in blocks frames = record { blocks = from_entries (entries_of blocks); free = frames - length blocks }
+held_in blocks frames = record { blocks = from_entries (items_of blocks); free = frames - length blocks }
 
 -- each block once, and room for as many as there are frames
 pub record IsHeld (blocks : List Block) (room frames : ℕ) : Type 0 where
-  pub distinct : AreDistinct (entries_of blocks)
+  pub distinct : AreKeysDistinct (items_of blocks)
   pub few : length blocks ≤ frames
   pub fits : frames ≤ room
   pub small : frames < 2 ^ 32

@@ -3,7 +3,7 @@ use Rattle.std.specs.Prelude.{◌≡◌, ℕ, ◌+◌, List, [], ◌∷◌, map,
 use Rattle.std.specs.Coded.{Coded, code_by, coded×, coded_ℕ, coded_list, coded_option}
 use Rattle.std.specs.FinMap as fin
 use Rattle.std.specs.FinMap.{FinMap}
-use Rattle.cxl_pool.specs.Pool.{Frames, bytes_at, IsOut, free_count, zeros}
+use Rattle.cxl_pool.specs.Pool.{Frames, frame_bytes, IsOut, free_count, zeros}
 use Rattle.cxl_media.specs.Blocks.{Key, key_cmp, Blocks}
 use Rattle.cxl_media.specs.Held.{coded_key}
 
@@ -27,7 +27,7 @@ map_values f m = fin.from_sorted (map (λ e. (e.0, f e.1)) (fin.entries m))
 
 -- each block has the bytes of its frame
 abbrev pub blocks_of : Sim → Blocks
-blocks_of s = map_values (λ n. unwrap_or (bytes_at s.pool n) zeros) s.frames
+blocks_of s = map_values (λ n. unwrap_or (frame_bytes s.pool n) zeros) s.frames
 
 -- the frames of the blocks are out of the pool and differ, and no other frame is out
 pub record IsSim (s : Sim) (room : ℕ) : Type 0 where

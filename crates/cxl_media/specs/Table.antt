@@ -1,70 +1,70 @@
--- The index of the shipped media: a table of places that is probed upwards from a block's home.
+-- The index of the shipped media: a table of cells that is probed upwards from a block's home.
 use Rattle.std.specs.Prelude.{◌≡◌, ◌≢◌, ℕ, ◌<◌, ◌≤◌, Bool, false, List, [], ◌∷◌, length, slice_index_or, Option, None, Some, IsSome}
 use Rattle.std.specs.FinMap.{FinMap, from_entries}
 use Rattle.cxl_media.specs.Blocks.{Key, key_cmp}
-use Rattle.cxl_media.specs.declared.place.Place.{Place}
+use Rattle.cxl_media.specs.declared.cell.Cell.{Cell}
 
-abbrev pub key_at : Place → Key
-key_at place = (place.ep, place.number)
+abbrev pub key_at : Cell → Key
+key_at cell = (cell.ep, cell.number)
 
-abbrev pub Places : Type 0
-Places = List (Option Place)
+abbrev pub Cells : Type 0
+Cells = List (Option Cell)
 
-abbrev pub place_at : Places → ℕ → Option Place
-place_at places at = slice_index_or places at None
+abbrev pub cell_at : Cells → ℕ → Option Cell
+cell_at cells at = slice_index_or cells at None
 
--- the blocks in the order of the places, each with the number of its frame
-abbrev pub listed : Places → List (Key × ℕ)
-listed [] = []
-listed (None ∷ rest) = listed rest
-listed (Some place ∷ rest) = (key_at place, place.frame) ∷ listed rest
+-- the blocks in the order of the cells, each with the number of its frame
+abbrev pub items_in : Cells → List (Key × ℕ)
+items_in [] = []
+items_in (None ∷ rest) = items_in rest
+items_in (Some cell ∷ rest) = (key_at cell, cell.frame) ∷ items_in rest
 
 -- the frame of each block
-abbrev pub frames_in : Places → FinMap key_cmp ℕ
-frames_in places = from_entries (listed places)
+abbrev pub frames_in : Cells → FinMap key_cmp ℕ
+frames_in cells = from_entries (items_in cells)
 
--- a block stands at the place and passes the test
-abbrev pub passes : (Key → Bool) → Option Place → Bool
+-- a block stands at the cell and passes the test
+abbrev pub passes : (Key → Bool) → Option Cell → Bool
 passes test None = false
-passes test (Some place) = test (key_at place)
+passes test (Some cell) = test (key_at cell)
 
 -- no block stands twice
-abbrev pub IsOnce : Places → Type 0
-IsOnce places = (k m : ℕ) (p q : Place) → place_at places k ≡ Some p → place_at places m ≡ Some q → key_at p ≡ key_at q → k ≡ m
+abbrev pub IsOnce : Cells → Type 0
+IsOnce cells = (k m : ℕ) (p q : Cell) → cell_at cells k ≡ Some p → cell_at cells m ≡ Some q → key_at p ≡ key_at q → k ≡ m
 
--- each place from one up to another is taken
-abbrev pub AreTaken : Places → ℕ → ℕ → Type 0
-AreTaken places from to = (m : ℕ) → from ≤ m → m < to → IsSome (place_at places m)
+-- each cell from one up to another is taken
+abbrev pub AreTaken : Cells → ℕ → ℕ → Type 0
+AreTaken cells from to = (m : ℕ) → from ≤ m → m < to → IsSome (cell_at cells m)
 
--- a probe from a block's home meets the block before an empty place
-pub record IsTable (home : Key → ℕ) (places : Places) : Type 0 where
-  pub once : IsOnce places
-  pub above : (k : ℕ) (p : Place) → place_at places k ≡ Some p → home (key_at p) ≤ k
-  pub reach : (k : ℕ) (p : Place) → place_at places k ≡ Some p → AreTaken places (home (key_at p)) k
+-- a probe from a block's home meets the block before an empty cell
+pub record IsTable (home : Key → ℕ) (cells : Cells) : Type 0 where
+  pub once : IsOnce cells
+  pub above : (k : ℕ) (p : Cell) → cell_at cells k ≡ Some p → home (key_at p) ≤ k
+  pub reach : (k : ℕ) (p : Cell) → cell_at cells k ≡ Some p → AreTaken cells (home (key_at p)) k
 
--- a probe for a block stops at the block and at an empty place
-abbrev pub Stops : Key → Option Place → Type 0
-Stops key None = Unit {0}
-Stops key (Some place) = key_at place ≡ key
+-- a probe for a block stops at the block and at an empty cell
+abbrev pub StopsProbe : Key → Option Cell → Type 0
+StopsProbe key None = Unit {0}
+StopsProbe key (Some cell) = key_at cell ≡ key
 
--- the first place from the home on at which a probe stops, or past the last place
-pub record IsStop (places : Places) (home : ℕ) (key : Key) (at : ℕ) : Type 0 where
-  pub within : at ≤ length places
-  pub passed : (m : ℕ) → home ≤ m → m < at → ¬ (Stops key (place_at places m))
-  pub stops : at < length places → (home ≤ at) × Stops key (place_at places at)
+-- the first cell from the home on at which a probe stops, or past the last cell
+pub record IsStop (cells : Cells) (home : ℕ) (key : Key) (at : ℕ) : Type 0 where
+  pub within : at ≤ length cells
+  pub passed : (m : ℕ) → home ≤ m → m < at → ¬ (StopsProbe key (cell_at cells m))
+  pub stops : at < length cells → (home ≤ at) × StopsProbe key (cell_at cells at)
 
--- each place from one up to another is taken but for a hole
-abbrev pub AreTakenBut : Places → ℕ → ℕ → ℕ → Type 0
-AreTakenBut places hole from to = (m : ℕ) → from ≤ m → m < to → m ≢ hole → IsSome (place_at places m)
+-- each cell from one up to another is taken but for a hole
+abbrev pub AreTakenBut : Cells → ℕ → ℕ → ℕ → Type 0
+AreTakenBut cells hole from to = (m : ℕ) → from ≤ m → m < to → m ≢ hole → IsSome (cell_at cells m)
 
 -- a table from which a block was taken out, and nothing was moved yet
-pub record HasHole (home : Key → ℕ) (places : Places) (hole : ℕ) : Type 0 where
-  pub within : hole < length places
-  pub empty : place_at places hole ≡ None
-  pub once : IsOnce places
-  pub above : (k : ℕ) (p : Place) → place_at places k ≡ Some p → home (key_at p) ≤ k
-  pub reach : (k : ℕ) (p : Place) → place_at places k ≡ Some p → AreTakenBut places hole (home (key_at p)) k
+pub record HasHole (home : Key → ℕ) (cells : Cells) (hole : ℕ) : Type 0 where
+  pub within : hole < length cells
+  pub empty : cell_at cells hole ≡ None
+  pub once : IsOnce cells
+  pub above : (k : ℕ) (p : Cell) → cell_at cells k ≡ Some p → home (key_at p) ≤ k
+  pub reach : (k : ℕ) (p : Cell) → cell_at cells k ≡ Some p → AreTakenBut cells hole (home (key_at p)) k
 
--- no block from a place on passes the test
-abbrev pub NonePass : (Key → Bool) → Places → ℕ → Type 0
-NonePass test places from = (k : ℕ) (p : Place) → from ≤ k → place_at places k ≡ Some p → test (key_at p) ≡ false
+-- no block from a cell on passes the test
+abbrev pub NonePass : (Key → Bool) → Cells → ℕ → Type 0
+NonePass test cells from = (k : ℕ) (p : Cell) → from ≤ k → cell_at cells k ≡ Some p → test (key_at p) ≡ false

@@ -3,7 +3,7 @@ ghost use Rattle.cxl_pool.specs.Pool.{zeros};
 ghost use Rattle.cxl_media.specs.Blocks.{bytes_from, overwritten, is_between};
 
 /// Reads the bytes of a block from a place on.
-pub fn read(block: &[u8], at: usize, into: &mut [u8])
+pub fn read_block(block: &[u8], at: usize, into: &mut [u8])
     requires { at + length into.old ≤ length block.now }
     ensures { into.new ≡ bytes_from block.now at (length into.old) }
 {

@@ -3,10 +3,10 @@
 #![tactic(auto)]
 
 mod bytes;
+mod cell;
 mod index;
 mod map_media;
 mod media;
-mod place;
 mod probe;
 mod sim_media;
 #[cfg(test)]

@@ -1,10 +1,10 @@
 ghost use Rattle.std.specs.Prelude.{◌≡◌, ◌+◌, ◌%◌, ◌≤◌, ◌↔◌, IsTrue, None, IfSome, IfNone, length, filter, not, vec_capacity};
 ghost use Rattle.std.specs.FinMap.{find};
 ghost use Rattle.cxl_media.specs.Blocks.{key_cmp, overwritten, is_between};
-ghost use Rattle.cxl_media.specs.MapInside.{entries_of, IsPlaceOf};
+ghost use Rattle.cxl_media.specs.MapInside.{items_of, IsItemAt};
 ghost use Rattle.cxl_pool.specs.Pool.{zeros};
 
-use crate::bytes::{is_between, overwrite, read, read_zeros};
+use crate::bytes::{is_between, overwrite, read_block, read_zeros};
 use crate::media::{Full, Media};
 use cxl_enc::Memory;
 use std::alloc::Global;
@@ -70,14 +70,14 @@ impl Media for MapMedia {
 
     fn get(&self, ep: u32, dpa: u64, into: &mut [u8]) {
         let at = (dpa % 256) as usize;
-        match place_of(&self.blocks, ep, dpa / 256) {
-            Some(place) => read(self.blocks[place].bytes(), at, into),
+        match index_of_block(&self.blocks, ep, dpa / 256) {
+            Some(place) => read_block(self.blocks[place].bytes(), at, into),
             None => read_zeros(at, into),
         }
     }
 
     fn need(&self, ep: u32, dpa: u64) -> u32 {
-        match place_of(&self.blocks, ep, dpa / 256) {
+        match index_of_block(&self.blocks, ep, dpa / 256) {
             Some(_) => 0,
             None => 1,
         }
@@ -86,7 +86,7 @@ impl Media for MapMedia {
     fn put(&mut self, ep: u32, dpa: u64, bytes: &[u8]) -> Result<(), Full> {
         let at = (dpa % 256) as usize;
         let number = dpa / 256;
-        if let Some(place) = place_of(&self.blocks, ep, number) {
+        if let Some(place) = index_of_block(&self.blocks, ep, number) {
             self.blocks[place].write(at, bytes);
             return Ok(());
         }
@@ -149,9 +149,9 @@ fn zero_bytes() -> [u8; 256]
 }
 
 // The place of a block, from the front.
-fn place_of(blocks: &[Block], ep: u32, number: u64) -> Option<usize>
-    ensures found { IfSome result (λ at. IsPlaceOf (entries_of blocks.now) (ep, number) at) }
-    ensures none { IfNone result (find key_cmp (ep, number) (entries_of blocks.now) ≡ None) }
+fn index_of_block(blocks: &[Block], ep: u32, number: u64) -> Option<usize>
+    ensures found { IfSome result (λ at. IsItemAt (items_of blocks.now) (ep, number) at) }
+    ensures none { IfNone result (find key_cmp (ep, number) (items_of blocks.now) ≡ None) }
 {
     for (at, block) in blocks.iter().enumerate() {
         if block.is_at(ep, number) {

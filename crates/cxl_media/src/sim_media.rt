@@ -1,10 +1,10 @@
 ghost use Rattle.std.specs.Prelude.{◌≡◌, ℕ, ◌+◌, ◌↔◌, IsSome, IsTrue, Some, IfSome, length};
 ghost use Rattle.std.specs.Option.{option_copied};
 ghost use Rattle.std.specs.FinMap as map;
-ghost use Rattle.cxl_pool.specs.Pool.{bytes_at, free_count};
+ghost use Rattle.cxl_pool.specs.Pool.{frame_bytes, free_count};
 ghost use Rattle.cxl_media.specs.Blocks.{Key, key_of};
 
-use crate::bytes::{overwrite, read, read_zeros};
+use crate::bytes::{overwrite, read_block, read_zeros};
 use crate::index::Index;
 use crate::media::{Full, Media};
 use cxl_enc::Memory;
@@ -29,9 +29,9 @@ impl Model for SimMedia {
     ghost use Rattle.cxl_media.specs.Table.{frames_in};
     ghost use Rattle.cxl_media.specs.Sim.{IsSim};
 
-    ghost view = { λ m. record { pool = m.pool; frames = frames_in m.index.places } };
+    ghost view = { λ m. record { pool = m.pool; frames = frames_in m.index.cells } };
 
-    ghost invariant = { λ m. IsSim (record { pool = m.pool; frames = frames_in m.index.places }) m.index.room };
+    ghost invariant = { λ m. IsSim (record { pool = m.pool; frames = frames_in m.index.cells }) m.index.room };
 }
 
 impl SimMedia {
@@ -61,7 +61,7 @@ impl SimMedia {
     pub fn frame(&self, ep: u32, dpa: u64) -> Option<&Frame>
         ensures value { option_copied result ≡ map.get self.now.frames (key_of ep dpa) }
         ensures there { IsSome result ↔ IsTrue (map.contains_key (⟦<SimMedia as Media>⟧.blocks self.now) (key_of ep dpa)) }
-        ensures bytes { IfSome result (λ frame. bytes_at self.now.pool frame.now ≡ map.get (⟦<SimMedia as Media>⟧.blocks self.now) (key_of ep dpa)) }
+        ensures bytes { IfSome result (λ frame. frame_bytes self.now.pool frame.now ≡ map.get (⟦<SimMedia as Media>⟧.blocks self.now) (key_of ep dpa)) }
         ensures apart { IfSome result (λ frame. (key : Key) → map.get self.now.frames key ≡ Some frame.now → key ≡ key_of ep dpa) }
     {
         self.index.find(ep, dpa / 256)
@@ -87,7 +87,7 @@ impl Media for SimMedia {
     fn get(&self, ep: u32, dpa: u64, into: &mut [u8]) {
         let at = (dpa % 256) as usize;
         match self.index.find(ep, dpa / 256) {
-            Some(frame) => read(self.pool.bytes(frame), at, into),
+            Some(frame) => read_block(self.pool.bytes(frame), at, into),
             None => read_zeros(at, into),
         }
     }
@@ -115,7 +115,7 @@ impl Media for SimMedia {
     }
 
     fn scrub(&mut self, ep: u32, from: u64, to: u64) {
-        for at in (0..self.index.places()).rev() {
+        for at in (0..self.index.cells()).rev() {
             if self.index.has_between(at, ep, from, to) {
                 let frame = self.index.remove(at);
                 self.pool.give(frame);

@@ -4,7 +4,7 @@ use Rattle.std.specs.Prelude.{is_none}
 use Rattle.std.proofs.lemmas.Bool.{cond-true, cond-false, false≢true}
 use Rattle.std.proofs.lemmas.List.{get_or-set_same, length-set, get_or_read}
 use Rattle.std.proofs.lemmas.List.Sums.{sum_by-set, sum_by-cons, count_by-le-length}
-use Rattle.cxl_pool.specs.Pool.{Frames, IsOut, free_count, out_count, IsFree, bytes_at}
+use Rattle.cxl_pool.specs.Pool.{Frames, IsOut, free_count, out_count, IsFree, frame_bytes}
 use Rattle.cxl_pool.specs.Chain.{next_of, chain, is_listed, AreNumbers, marked_from}
 use Rattle.cxl_pool.specs.Inside.{frames_of, IsPool}
 use Rattle.cxl_pool.proofs.Chains.{listed_past, listed_head, chain-set, length-marked, marked_at, marked-set, out_is}
@@ -86,7 +86,7 @@ module _ (frames : List (List ℕ)) (free first next : ℕ) (w read : List ℕ) 
       ∙ ap (λ n. set (frames_of frames n first) first (Some w)) (sym one_more)
 
 -- a frame that is out is given back, and names the one that was the first
-module _ (frames : List (List ℕ)) (free first number : ℕ) (w : List ℕ) (pool : IsPool frames free first) (out : IsSome (bytes_at (frames_of frames free first) number)) (names : next_of w ≡ first) where
+module _ (frames : List (List ℕ)) (free first number : ℕ) (w : List ℕ) (pool : IsPool frames free first) (out : IsSome (frame_bytes (frames_of frames free first) number)) (names : next_of w ≡ first) where
   given_within : (number < length frames) × (is_listed number (chain frames free first) ≡ false)
   given_within = out_is (chain frames free first) frames number out
 
@@ -108,7 +108,7 @@ module _ (frames : List (List ℕ)) (free first number : ℕ) (w : List ℕ) (po
   given_counted : free_count (set (frames_of frames free first) number None) ≡ suc free
   given_counted =
       let change = counted-set (frames_of frames free first) number None (omega (arith, length-marked 0 (chain frames free first) frames, given_within.0)) in
-      let was : ◌≡◌ {A = ℕ} (cond (is_none (bytes_at (frames_of frames free first) number)) 1 0) 0 = not_counted (bytes_at (frames_of frames free first) number) out in
+      let was : ◌≡◌ {A = ℕ} (cond (is_none (frame_bytes (frames_of frames free first) number)) 1 0) 0 = not_counted (frame_bytes (frames_of frames free first) number) out in
       omega (arith, change, was, pool.counted)
 
   pub given_pool : IsPool (set frames number w) (suc free) number
@@ -131,14 +131,14 @@ pub out_inside : (pool held : Frames) (n number : ℕ) → pool ≡ held → n �
 out_inside pool held n number same is out = rw (same, is) out
 
 -- a frame that is out is written
-module _ (frames : List (List ℕ)) (free first number : ℕ) (pool : IsPool frames free first) (out : IsSome (bytes_at (frames_of frames free first) number)) where
+module _ (frames : List (List ℕ)) (free first number : ℕ) (pool : IsPool frames free first) (out : IsSome (frame_bytes (frames_of frames free first) number)) where
   written_within : (number < length frames) × (is_listed number (chain frames free first) ≡ false)
   written_within = out_is (chain frames free first) frames number out
 
   pub out_within : number < length frames
   out_within = written_within.0
 
-  pub out_bytes : bytes_at (frames_of frames free first) number ≡ Some (get_or frames number [])
+  pub out_bytes : frame_bytes (frames_of frames free first) number ≡ Some (get_or frames number [])
   out_bytes =
       let old = chain frames free first in
       marked_at 0 old frames number out_within
@@ -155,7 +155,7 @@ module _ (frames : List (List ℕ)) (free first number : ℕ) (pool : IsPool fra
   written_pool w =
       let total : length (set frames number w) ≡ length frames = length-set frames number w in
       let change = counted-set (frames_of frames free first) number (Some w) (omega (arith, length-marked 0 (chain frames free first) frames, written_within.0)) in
-      let was : ◌≡◌ {A = ℕ} (cond (is_none (bytes_at (frames_of frames free first) number)) 1 0) 0 = not_counted (bytes_at (frames_of frames free first) number) out in
+      let was : ◌≡◌ {A = ℕ} (cond (is_none (frame_bytes (frames_of frames free first) number)) 1 0) 0 = not_counted (frame_bytes (frames_of frames free first) number) out in
       record {
         numbers = rw (total, chain-set frames number w free first written_within.1) pool.numbers;
         counted = ap free_count (written_frames w) ∙ omega (arith, change, was, pool.counted);

@@ -6,14 +6,14 @@ abbrev pub Frames : Type 0
 Frames = List (Option (List ℕ))
 
 -- the bytes of a frame that is out; None where it is free, or no frame has the number
-abbrev pub bytes_at : Frames → ℕ → Option (List ℕ)
-bytes_at pool number = slice_index_or pool number None
+abbrev pub frame_bytes : Frames → ℕ → Option (List ℕ)
+frame_bytes pool number = slice_index_or pool number None
 
 abbrev pub IsOut : Frames → ℕ → Type 0
-IsOut pool number = IsSome (bytes_at pool number)
+IsOut pool number = IsSome (frame_bytes pool number)
 
 abbrev pub IsFree : Frames → ℕ → Type 0
-IsFree pool number = (number < length pool) × (bytes_at pool number ≡ None)
+IsFree pool number = (number < length pool) × (frame_bytes pool number ≡ None)
 
 abbrev pub free_count : Frames → ℕ
 free_count pool = count_by is_none pool

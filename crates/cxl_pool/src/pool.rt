@@ -1,6 +1,6 @@
 ghost use Rattle.std.specs.Prelude.{◌≡◌, [], ◌+◌, ◌↔◌, ◌^◌, ◌<◌, length, replicate, slice_set, Some, None, IsNone, IfSome, IfNone, IfOk};
 ghost use Rattle.std.specs.Borrow.{sem};
-ghost use Rattle.cxl_pool.specs.Pool.{bytes_at, IsOut, IsFree, free_count, out_count, zeros};
+ghost use Rattle.cxl_pool.specs.Pool.{frame_bytes, IsOut, IsFree, free_count, out_count, zeros};
 ghost use Rattle.cxl_pool.specs.Lending.{LendsBytes};
 
 use crate::link::{link, next, zero};
@@ -108,7 +108,7 @@ impl Pool {
     /// The 256 bytes of a frame that is out of this pool.
     pub fn bytes(&self, frame: &Frame) -> &[u8]
         requires { IsOut self.now frame.now }
-        ensures value { bytes_at self.now frame.now ≡ Some result.now }
+        ensures value { frame_bytes self.now frame.now ≡ Some result.now }
         ensures length { length result.now ≡ 256 }
     {
         &self.frames[frame.number as usize]
@@ -118,7 +118,7 @@ impl Pool {
     pub fn bytes_mut(&mut self, frame: &Frame) -> &mut [u8]
         requires { IsOut self.old frame.now }
         ensures* writes_back { sem 𝓛 (LendsBytes self.entry frame.now result) }
-        ensures value { bytes_at self.old frame.now ≡ Some result.now }
+        ensures value { frame_bytes self.old frame.now ≡ Some result.now }
         ensures length { length result.now ≡ 256 }
     {
         prove!(self.bytes(frame).len() == 256);

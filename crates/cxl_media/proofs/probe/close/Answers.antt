@@ -2,7 +2,7 @@ use Rattle.std.proofs.Common.{◌≡◌, ℕ, ◌+◌, ◌<◌, ◌≤◌, lengt
 use Rattle.std.specs.Prelude.{swap}
 use Rattle.std.proofs.lemmas.List.{get_or_read}
 use Rattle.cxl_media.specs.Hash.{home_of}
-use Rattle.cxl_media.specs.Table.{Places, place_at, key_at}
+use Rattle.cxl_media.specs.Table.{Cells, cell_at, key_at}
 use Rattle.cxl_media.proofs.Tables.{same_frames}
 use Rattle.cxl_media.proofs.Gap.{IsClosing, closing_first, closed, skipped, moved}
 use Rattle.cxl_media.proofs.probe.close.Goals as goal
@@ -13,8 +13,8 @@ loop-at-init c = closing_first _ _ _ c.requires
 
 pub returns-in_default-clause-table : goal.returns-in_default-clause-table
 returns-in_default-clause-table c =
-    let within : c.loop-at.at < length c.loop-at.places = omega (arith, c.loop-at-test.true, c.loop-at.invariant.total) in
-    let empty : place_at c.loop-at.places c.loop-at.at ≡ None = sym (get_or_read c.loop-at.places c.loop-at.at c.index-places-at.result within c.index-places-at.is None) ∙ c.index-places-at.is ∙ c.in_default.is in
+    let within : c.loop-at.at < length c.loop-at.cells = omega (arith, c.loop-at-test.true, c.loop-at.invariant.total) in
+    let empty : cell_at c.loop-at.cells c.loop-at.at ≡ None = sym (get_or_read c.loop-at.cells c.loop-at.at c.index-cells-at.result within c.index-cells-at.is None) ∙ c.index-cells-at.is ∙ c.in_default.is in
     closed _ _ _ _ _ _ c.loop-at.invariant (inl empty)
 
 pub returns-in_default-clause-frames : goal.returns-in_default-clause-frames
@@ -22,17 +22,17 @@ returns-in_default-clause-frames c = same_frames _ _ c.requires.once c.loop-at.i
 
 pub loop-at-preserved : goal.loop-at-preserved
 loop-at-preserved c =
-    let within : c.loop-at.at < length c.loop-at.places = omega (arith, c.loop-at-test.true, c.loop-at.invariant.total) in
-    let here : place_at c.loop-at.places c.loop-at.at ≡ Some c.in-Some.place = sym (get_or_read c.loop-at.places c.loop-at.at c.index-places-at.result within c.index-places-at.is None) ∙ c.index-places-at.is ∙ c.in-Some.is in
+    let within : c.loop-at.at < length c.loop-at.cells = omega (arith, c.loop-at-test.true, c.loop-at.invariant.total) in
+    let here : cell_at c.loop-at.cells c.loop-at.at ≡ Some c.in-Some.cell = sym (get_or_read c.loop-at.cells c.loop-at.at c.index-cells-at.result within c.index-cells-at.is None) ∙ c.index-cells-at.is ∙ c.in-Some.is in
     elim c.if-home-hole.branch [
       | then-home-hole w ↦
-          let next = moved _ _ _ _ _ _ c.loop-at.invariant c.in-Some.place here within (omega (arith, c.home.ensures, w.if-home-hole.true)) in
-          subst (λ (ps : Places). IsClosing (home_of c.args.homes) c.args.places.now ps c.args.from c.if-home-hole.hole (c.loop-at.at + 1)) (sym (w.places-is ∙ w.swap.ensures.after))
-          (subst (λ (n : ℕ). IsClosing (home_of c.args.homes) c.args.places.now (swap c.loop-at.places c.loop-at.hole c.loop-at.at) c.args.from n (c.loop-at.at + 1)) (sym w.hole-is) next)
+          let next = moved _ _ _ _ _ _ c.loop-at.invariant c.in-Some.cell here within (omega (arith, c.home.ensures, w.if-home-hole.true)) in
+          subst (λ (ps : Cells). IsClosing (home_of c.args.homes) c.args.cells.now ps c.args.from c.if-home-hole.hole (c.loop-at.at + 1)) (sym (w.cells-is ∙ w.swap.ensures.after))
+          (subst (λ (n : ℕ). IsClosing (home_of c.args.homes) c.args.cells.now (swap c.loop-at.cells c.loop-at.hole c.loop-at.at) c.args.from n (c.loop-at.at + 1)) (sym w.hole-is) next)
       | else-home-hole w ↦
-          let next = skipped _ _ _ _ _ _ c.loop-at.invariant c.in-Some.place here within (omega (arith, c.home.ensures, w.if-home-hole.false)) in
-          subst (λ (ps : Places). IsClosing (home_of c.args.homes) c.args.places.now ps c.args.from c.if-home-hole.hole (c.loop-at.at + 1)) (sym w.places-is)
-          (subst (λ (n : ℕ). IsClosing (home_of c.args.homes) c.args.places.now c.loop-at.places c.args.from n (c.loop-at.at + 1)) (sym w.hole-is) next)
+          let next = skipped _ _ _ _ _ _ c.loop-at.invariant c.in-Some.cell here within (omega (arith, c.home.ensures, w.if-home-hole.false)) in
+          subst (λ (ps : Cells). IsClosing (home_of c.args.homes) c.args.cells.now ps c.args.from c.if-home-hole.hole (c.loop-at.at + 1)) (sym w.cells-is)
+          (subst (λ (n : ℕ). IsClosing (home_of c.args.homes) c.args.cells.now c.loop-at.cells c.args.from n (c.loop-at.at + 1)) (sym w.hole-is) next)
     ]
 
 pub returns-clause-table : goal.returns-clause-table

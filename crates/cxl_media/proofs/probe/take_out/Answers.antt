@@ -3,7 +3,7 @@ use Rattle.std.specs.Prelude.{IfSome}
 use Rattle.std.specs.FinMap.{remove, FinMap}
 use Rattle.std.proofs.lemmas.List.{get_or_read}
 use Rattle.cxl_media.specs.Blocks.{key_cmp}
-use Rattle.cxl_media.specs.Table.{place_at, frames_in, key_at}
+use Rattle.cxl_media.specs.Table.{cell_at, frames_in, key_at}
 use Rattle.cxl_media.proofs.Gap.{out_within, out_hole, out_frames, out_later}
 use Rattle.cxl_media.proofs.probe.take_out.Goals as goal
 
@@ -13,8 +13,8 @@ close-requires c = out_hole _ _ _ _ c.requires.table c.requires.taken c.replace-
 pub returns-clause-frames : goal.returns-clause-frames
 returns-clause-frames c =
     let within = out_within _ _ _ _ c.requires.table c.requires.taken c.replace-taken.ensures.after in
-    let read : c.replace-taken.result ≡ place_at c.args.places.now c.args.at =
-    c.replace-taken.ensures.value ∙ sym c.index-places-at.is ∙ get_or_read c.args.places.now c.args.at c.index-places-at.result within c.index-places-at.is None in
+    let read : c.replace-taken.result ≡ cell_at c.args.cells.now c.args.at =
+    c.replace-taken.ensures.value ∙ sym c.index-cells-at.is ∙ get_or_read c.args.cells.now c.args.at c.index-cells-at.result within c.index-cells-at.is None in
     rw c.close.ensures.frames (out_frames _ _ _ _ c.requires.table c.requires.taken c.replace-taken.ensures.after c.replace-taken.result read)
 
 pub returns-clause-later : goal.returns-clause-later

@@ -7,7 +7,7 @@ use Rattle.cxl_media.proofs.map_media.MapMediaMedia.get.Goals as goal
 pub returns-in-Some-clause-filled : goal.returns-in-Some-clause-filled
 returns-in-Some-clause-filled c =
     let block = block_is _ _ _ _ _ _ c.self.view_is c.deref.ensures.value c.self.invariant _ c.in-Some.ensures.found c.index.result.now c.index.ensures in
-    c.read.ensures ∙ ap (λ b. bytes_from b (c.args.dpa % 256) (length c.args.into.now)) (c.bytes.ensures.value ∙ sym block)
+    c.read_block.ensures ∙ ap (λ b. bytes_from b (c.args.dpa % 256) (length c.args.into.now)) (c.bytes.ensures.value ∙ sym block)
 
 pub returns-in-Some-clause-whole : goal.returns-in-Some-clause-whole
 returns-in-Some-clause-whole c =

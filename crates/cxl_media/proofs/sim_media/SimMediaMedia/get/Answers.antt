@@ -7,7 +7,7 @@ use Rattle.cxl_media.proofs.sim_media.SimMediaMedia.get.Goals as goal
 pub returns-in-Some-clause-filled : goal.returns-in-Some-clause-filled
 returns-in-Some-clause-filled c =
     let block = in_block _ _ c.self.view_is _ _ c.in-Some.ensures c.bytes.result.now c.bytes.ensures.value in
-    c.read.ensures ∙ ap (λ b. bytes_from b (c.args.dpa % 256) (length c.args.into.now)) (sym block)
+    c.read_block.ensures ∙ ap (λ b. bytes_from b (c.args.dpa % 256) (length c.args.into.now)) (sym block)
 
 pub returns-in-Some-clause-whole : goal.returns-in-Some-clause-whole
 returns-in-Some-clause-whole c =

@@ -7,9 +7,9 @@ use Rattle.cxl_media.proofs.sim_media.SimMediaMedia.power_on.Goals as goal
 
 pub invariant_of-self : goal.invariant_of-self
 invariant_of-self c =
-    new_sim c.in_ok-pool.pool (frames_in c.in_ok-index.index.places) c.in_ok-index.index.room c.in_ok-index.ensures.frames
+    new_sim c.in_ok-pool.pool (frames_in c.in_ok-index.index.cells) c.in_ok-index.index.room c.in_ok-index.ensures.frames
     (ap free_count c.in_ok-pool.ensures ∙ all_free c.args.frames ∙ sym (ap length c.in_ok-pool.ensures))
     (ap length c.in_ok-pool.ensures ∙ length-replicate c.args.frames _ ∙ sym c.in_ok-index.ensures.room)
 
 pub returns-clause-blocks : goal.returns-clause-blocks
-returns-clause-blocks c = no_blocks c.in_ok-pool.pool (frames_in c.in_ok-index.index.places) c.in_ok-index.ensures.frames
+returns-clause-blocks c = no_blocks c.in_ok-pool.pool (frames_in c.in_ok-index.index.cells) c.in_ok-index.ensures.frames

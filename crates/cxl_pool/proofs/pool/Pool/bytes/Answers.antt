@@ -1,6 +1,6 @@
 use Rattle.std.proofs.Common.{ap, ◌∙◌, Some, sym, arith}
 use Rattle.std.proofs.lemmas.List.{get_or_read}
-use Rattle.cxl_pool.specs.Pool.{bytes_at}
+use Rattle.cxl_pool.specs.Pool.{frame_bytes}
 use Rattle.cxl_pool.proofs.Steps.{out_inside, out_within, out_bytes}
 use Rattle.cxl_pool.proofs.pool.Pool.bytes.Goals as goal
 
@@ -13,7 +13,7 @@ returns-clause-value c =
     let frames = c.self.inside.frames.items in
     let out = out_inside _ _ _ _ c.self.view_is c.frame.view_is c.requires in
     let within = out_within frames c.self.inside.free c.self.inside.first c.frame.inside.number c.self.invariant out in
-    ap (λ pool. bytes_at pool c.args.frame.now) (sym c.self.view_is)
-    ∙ ap (bytes_at _) (sym c.frame.view_is)
+    ap (λ pool. frame_bytes pool c.args.frame.now) (sym c.self.view_is)
+    ∙ ap (frame_bytes _) (sym c.frame.view_is)
     ∙ out_bytes frames c.self.inside.free c.self.inside.first c.frame.inside.number c.self.invariant out
     ∙ ap Some (sym (get_or_read frames c.frame.inside.number c.index.result.now within c.index.ensures _))

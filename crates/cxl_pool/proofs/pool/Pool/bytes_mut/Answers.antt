@@ -1,6 +1,6 @@
 use Rattle.std.proofs.Common.{◌≡◌, ℕ, ap, ◌∙◌, Some, List, length, set, refl, sym, arith}
 use Rattle.std.proofs.lemmas.List.{get_or_read}
-use Rattle.cxl_pool.specs.Pool.{bytes_at}
+use Rattle.cxl_pool.specs.Pool.{frame_bytes}
 use Rattle.cxl_pool.proofs.Steps.{out_inside, out_within, out_bytes, written_pool, written_frames}
 use Rattle.cxl_pool.proofs.pool.Pool.bytes_mut.Goals as goal
 
@@ -21,15 +21,15 @@ returns c =
     let out = out_inside _ _ _ _ c.self.view_is c.frame.view_is c.requires in
     let within = out_within frames c.self.inside.free c.self.inside.first c.frame.inside.number c.self.invariant out in
     let written = written_frames frames c.self.inside.free c.self.inside.first c.frame.inside.number c.self.invariant out in
-    let value : bytes_at c.args.self.now c.args.frame.now ≡ Some c.as_mut_slice.result.now =
-    ap (λ pool. bytes_at pool c.args.frame.now) (sym c.self.view_is)
-    ∙ ap (bytes_at _) (sym c.frame.view_is)
+    let value : frame_bytes c.args.self.now c.args.frame.now ≡ Some c.as_mut_slice.result.now =
+    ap (λ pool. frame_bytes pool c.args.frame.now) (sym c.self.view_is)
+    ∙ ap (frame_bytes _) (sym c.frame.view_is)
     ∙ out_bytes frames c.self.inside.free c.self.inside.first c.frame.inside.number c.self.invariant out
     ∙ ap Some (sym (c.as_mut_slice.ensures.value ∙ get_or_read frames c.frame.inside.number c.index_mut.result.now within c.index_mut.ensures.value _)) in (
       (refl, λ w. written w ∙ ap (λ pool. set pool c.frame.inside.number (Some w)) c.self.view_is ∙ ap (λ n. set c.args.self.now n (Some w)) c.frame.view_is),
       record {
         writes_back = tt;
         value = value;
-        length = ap length (same_some _ _ (sym value ∙ ap (λ pool. bytes_at pool c.args.frame.now) (sym c.self.view_is) ∙ c.bytes.ensures.value)) ∙ c.bytes.ensures.length;
+        length = ap length (same_some _ _ (sym value ∙ ap (λ pool. frame_bytes pool c.args.frame.now) (sym c.self.view_is) ∙ c.bytes.ensures.value)) ∙ c.bytes.ensures.length;
       },
     )

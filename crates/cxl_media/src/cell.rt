@@ -5,7 +5,7 @@ use cxl_pool::Frame;
 
 /// A block of the map and the frame that holds its bytes.
 #[derive(Debug, Drop)]
-pub struct Place {
+pub struct Cell {
     /// The block's number.
     pub number: u64,
     /// The endpoint's node number.
@@ -13,7 +13,7 @@ pub struct Place {
     pub frame: Frame,
 }
 
-impl Place {
+impl Cell {
     /// Whether it is of this block.
     pub fn is_of(&self, ep: u32, number: u64) -> bool
         ensures { IsTrue result ↔ (key_at self.now ≡ (ep, number)) }

@@ -1,4 +1,4 @@
--- Lists of entries in which no key stands twice.
+-- Lists of items in which no key stands twice.
 use Rattle.std.proofs.Common.{◌≡◌, ◌≢◌, ℕ, zero, suc, ◌+◌, ◌<◌, Bool, true, false, cond, not, List, [], ◌∷◌, ◌++◌, length, get_or, set, Option, None, Some, is_some, refl, sym, ap, subst, ◌∙◌, inl, inr, arith, add-one}
 use Rattle.std.specs.Prelude.{filter}
 use Rattle.std.specs.declared.cmp.Ordering.TheVariants.{Equal}
@@ -8,12 +8,12 @@ use Rattle.std.specs.FinMap as map
 use Rattle.std.specs.FinMap.{find, FinMap}
 use Rattle.std.specs.FinMap.Entries.{find-append, find-where_key}
 use Rattle.cxl_media.specs.Blocks.{Key, key_cmp}
-use Rattle.cxl_media.specs.MapInside.{AreDistinct}
+use Rattle.cxl_media.specs.MapInside.{AreKeysDistinct}
 use Rattle.cxl_media.proofs.Keys.{key_total, key_exact, key_is, key_is_not, keys_cases, same_key, not_none, find_here, find_later}
 
 module _ {X : Type 0} where
   -- what stands at a place is found under its key
-  pub find_at : (es : List (Key × X)) (at : ℕ) (d : Key × X) → at < length es → AreDistinct es → find key_cmp (get_or es at d).0 es ≡ Some (get_or es at d).1
+  pub find_at : (es : List (Key × X)) (at : ℕ) (d : Key × X) → at < length es → AreKeysDistinct es → find key_cmp (get_or es at d).0 es ≡ Some (get_or es at d).1
   find_at [] at d within distinct = absurd (omega arith)
   find_at (e ∷ es) zero d within distinct = find_here e.0 e es refl
   find_at (e ∷ es) (suc at) d within distinct =
@@ -21,7 +21,7 @@ module _ {X : Type 0} where
       find_later (get_or es at d).0 e es (λ same. not_none (get_or es at d).1 (sym later ∙ ap (λ k. find key_cmp k es) same ∙ distinct.0)) ∙ later
 
   -- a place gets another value under its key
-  pub find-set : (es : List (Key × X)) (at : ℕ) (e d : Key × X) (q : Key) → at < length es → e.0 ≡ (get_or es at d).0 → AreDistinct es → find key_cmp q (set es at e) ≡ cond (eq_by_cmp key_cmp q e.0) (Some e.1) (find key_cmp q es)
+  pub find-set : (es : List (Key × X)) (at : ℕ) (e d : Key × X) (q : Key) → at < length es → e.0 ≡ (get_or es at d).0 → AreKeysDistinct es → find key_cmp q (set es at e) ≡ cond (eq_by_cmp key_cmp q e.0) (Some e.1) (find key_cmp q es)
   find-set [] at e d q within key distinct = absurd (omega arith)
   find-set (first ∷ es) zero e d q within key distinct =
       elim (cases_Bool (eq_by_cmp key_cmp q e.0)) [
@@ -44,7 +44,7 @@ module _ {X : Type 0} where
             ∙ ap (cond (eq_by_cmp key_cmp q e.0) (Some e.1)) (sym (find_later q first es other))
       ]
 
-  pub distinct-set : (es : List (Key × X)) (at : ℕ) (e d : Key × X) → at < length es → e.0 ≡ (get_or es at d).0 → AreDistinct es → AreDistinct (set es at e)
+  pub distinct-set : (es : List (Key × X)) (at : ℕ) (e d : Key × X) → at < length es → e.0 ≡ (get_or es at d).0 → AreKeysDistinct es → AreKeysDistinct (set es at e)
   distinct-set [] at e d within key distinct = tt
   distinct-set (first ∷ es) zero e d within key distinct = (ap (λ k. find key_cmp k es) key ∙ distinct.0, distinct.1)
   distinct-set (first ∷ es) (suc at) e d within key distinct =
@@ -53,7 +53,7 @@ module _ {X : Type 0} where
         distinct-set es at e d (omega arith) key distinct.1,
       )
 
-  pub distinct-push : (es : List (Key × X)) (k : Key) (v : X) → find key_cmp k es ≡ None → AreDistinct es → AreDistinct (es ++ (k, v) ∷ [])
+  pub distinct-push : (es : List (Key × X)) (k : Key) (v : X) → find key_cmp k es ≡ None → AreKeysDistinct es → AreKeysDistinct (es ++ (k, v) ∷ [])
   distinct-push [] k v none distinct = (refl, tt)
   distinct-push (first ∷ es) k v none distinct =
       let apart : k ≢ first.0 = λ same. not_none first.1 (sym (find_here k first es same) ∙ none) in
@@ -68,14 +68,14 @@ module _ {X : Type 0} where
       find-where_key key_cmp p q (λ x tied. ap p (sym (key_exact q x tied))) es
       ∙ elim (p q) as (λ b. cond b (find key_cmp q es) None ≡ None) [ true ↦ none | false ↦ refl ]
 
-  pub distinct-filter : (p : Key → Bool) (es : List (Key × X)) → AreDistinct es → AreDistinct (filter (λ e. p e.0) es)
+  pub distinct-filter : (p : Key → Bool) (es : List (Key × X)) → AreKeysDistinct es → AreKeysDistinct (filter (λ e. p e.0) es)
   distinct-filter p [] distinct = tt
   distinct-filter p (e ∷ es) distinct =
       let rest = distinct-filter p es distinct.1 in
-      elim (p e.0) as (λ b. AreDistinct (cond b (e ∷ filter (λ f. p f.0) es) (filter (λ f. p f.0) es))) [ true ↦ (none-filter p e.0 es distinct.0, rest) | false ↦ rest ]
+      elim (p e.0) as (λ b. AreKeysDistinct (cond b (e ∷ filter (λ f. p f.0) es) (filter (λ f. p f.0) es))) [ true ↦ (none-filter p e.0 es distinct.0, rest) | false ↦ rest ]
 
-  -- as many keys as entries
-  pub len_distinct : (es : List (Key × X)) → AreDistinct es → map.len (map.from_entries {R = key_cmp} es) ≡ length es
+  -- as many keys as items
+  pub len_distinct : (es : List (Key × X)) → AreKeysDistinct es → map.len (map.from_entries {R = key_cmp} es) ≡ length es
   len_distinct [] distinct = map.len-empty key_cmp X
   len_distinct (e ∷ es) distinct =
       map.len-insert key_total (map.from_entries es) e.0 e.1
@@ -87,7 +87,7 @@ module _ {X : Type 0} where
   maps_alike es m alike = map.same_map key_total key_exact _ _ (λ q. map.get-from_entries key_total es q ∙ alike q)
 
   -- a value is set at a key that is there
-  pub set_is_insert : (es : List (Key × X)) (at : ℕ) (e d : Key × X) → at < length es → e.0 ≡ (get_or es at d).0 → AreDistinct es → map.from_entries (set es at e) ≡ map.insert (map.from_entries {R = key_cmp} es) e.0 e.1
+  pub set_is_insert : (es : List (Key × X)) (at : ℕ) (e d : Key × X) → at < length es → e.0 ≡ (get_or es at d).0 → AreKeysDistinct es → map.from_entries (set es at e) ≡ map.insert (map.from_entries {R = key_cmp} es) e.0 e.1
   set_is_insert es at e d within key distinct =
       maps_alike (set es at e) _ (λ q.
       find-set es at e d q within key distinct
