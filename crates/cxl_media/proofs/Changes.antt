@@ -1,17 +1,15 @@
 -- A block is added to a table at the cell where its probe stops, or taken out of it.
-use Rattle.std.proofs.Common.{◌≡◌, ◌≢◌, ◌⊎◌, ℕ, zero, suc, ◌+◌, ◌<◌, ◌≤◌, Bool, true, false, cond, not, List, [], ◌∷◌, length, get_or, set, Option, None, Some, IsSome, is_some, count_by, refl, sym, ap, subst, ◌∙◌, inl, inr, arith}
+use Rattle.std.proofs.Common.{◌≡◌, ◌≢◌, ◌⊎◌, ℕ, suc, ◌+◌, ◌<◌, ◌≤◌, cond, length, set, Option, None, Some, IsSome, is_some, count_by, sym, ap, subst, ◌∙◌, inl, inr, arith}
 use Rattle.std.proofs.lemmas.Bool.{cases_eq, false≢true, cond-true, cond-false}
 use Rattle.std.proofs.lemmas.List.{get_or-set_same, get_or-set_other, length-set}
 use Rattle.std.proofs.lemmas.List.Sums.{sum_by-set}
-use Rattle.std.specs.Ordering.{eq_by_cmp}
 use Rattle.std.specs.FinMap as fin
-use Rattle.std.specs.FinMap.{find}
 use Rattle.cxl_media.specs.declared.cell.Cell.{Cell}
-use Rattle.cxl_media.specs.Blocks.{Key, key_cmp}
-use Rattle.cxl_media.specs.Table.{key_at, Cells, cell_at, items_in, frames_in, IsOnce, IsTable, AreTaken, AreTakenBut, HasHole}
+use Rattle.cxl_media.specs.Blocks.{Key}
+use Rattle.cxl_media.specs.Table.{key_at, Cells, cell_at, items_in, frames_in, IsOnce, IsTable, AreTaken, HasHole}
 use Rattle.cxl_media.proofs.Keys.{key_total, key_is, key_is_not, keys_cases, not_none, same_some}
 use Rattle.cxl_media.proofs.Items.{maps_alike}
-use Rattle.cxl_media.proofs.Tables.{Stands, find_stands, find_nowhere_stands, same_find, get_frames, len_frames}
+use Rattle.cxl_media.proofs.Tables.{Stands, find_stands, find_nowhere_stands, same_find, get_frames}
 
 pub taken_is_some : (o : Option Cell) (p : Cell) → o ≡ Some p → IsSome o
 taken_is_some o p e = ap is_some e

@@ -1,5 +1,5 @@
 -- The cells after a hole are gone through, and blocks that a probe would not meet any more are moved down into it.
-use Rattle.std.proofs.Common.{◌≡◌, ◌≢◌, ◌⊎◌, ℕ, zero, suc, ◌+◌, ◌<◌, ◌≤◌, List, [], ◌∷◌, length, get_or, set, Bool, Option, None, Some, IsSome, is_some, refl, sym, ap, subst, ◌∙◌, inl, inr, arith}
+use Rattle.std.proofs.Common.{◌≡◌, ◌≢◌, ◌⊎◌, ℕ, ◌+◌, ◌<◌, ◌≤◌, length, take, get_or, set, Bool, Option, None, Some, IsSome, refl, sym, ap, subst, ◌∙◌, inl, inr, arith}
 use Rattle.std.specs.Prelude.{swap, IfSome}
 use Rattle.std.specs.FinMap.{remove}
 use Rattle.std.proofs.lemmas.Bool.{cases_eq, cases_order, cases_lt, false≢true}
@@ -7,9 +7,10 @@ use Rattle.std.proofs.lemmas.List.{get_or_past}
 use Rattle.std.proofs.lemmas.List.Edits.{Swapped, swapped_from_swap, length-swap}
 use Rattle.cxl_media.specs.declared.cell.Cell.{Cell}
 use Rattle.cxl_media.specs.Blocks.{Key}
-use Rattle.cxl_media.specs.Table.{key_at, Cells, cell_at, frames_in, IsOnce, IsTable, AreTaken, AreTakenBut, HasHole, NonePass}
+use Rattle.cxl_media.specs.Table.{key_at, Cells, cell_at, frames_in, IsOnce, IsTable, HasHole, NonePass}
 use Rattle.cxl_media.proofs.Keys.{not_none, same_some}
-use Rattle.cxl_media.proofs.Tables.{Stands, same_frames}
+use Rattle.cxl_media.proofs.Tables.{Stands}
+use Rattle.cxl_media.proofs.Below.{take-swap}
 use Rattle.cxl_media.proofs.Changes.{taken_is_some, none_is_not, elsewhere, left_hole, left_frames}
 
 -- the cells from the first hole up to `at` were gone through, and the hole is now here
@@ -25,6 +26,7 @@ pub record IsClosing (home : Key → ℕ) (first cells : Cells) (from hole at : 
   pub reach : (k : ℕ) (p : Cell) → cell_at cells k ≡ Some p → (m : ℕ) → home (key_at p) ≤ m → m < k → (m ≢ hole) ⊎ (k < at) → IsSome (cell_at cells m)
   pub kept : (q : Key) (p : Cell) → Stands first q p → Stands cells q p
   pub back : (q : Key) (p : Cell) → Stands cells q p → Stands first q p
+  pub below : take from cells ≡ take from first
   -- what stands from the first hole on stood above it
   pub later : (k : ℕ) (p : Cell) → from ≤ k → cell_at cells k ≡ Some p → (m : ℕ) × (from < m) × (cell_at first m ≡ Some p)
 
@@ -48,6 +50,7 @@ closing_first home cells hole has = record {
   later = λ k p from is.
       let other : k ≢ hole = λ same. not_none p (sym is ∙ ap (cell_at cells) same ∙ has.empty) in
       (k, omega arith, is);
+  below = refl;
 }
 
 -- a block stands within the table
@@ -110,6 +113,7 @@ module _ (home : Key → ℕ) (first cells : Cells) (from hole at : ℕ) (closin
       kept = closing.kept;
       back = closing.back;
       later = closing.later;
+      below = closing.below;
     }
 
     -- the block at this cell goes into the hole
@@ -196,6 +200,7 @@ module _ (home : Key → ℕ) (first cells : Cells) (from hole at : ℕ) (closin
         reach = moved_reach;
         kept = λ q r s. moved_stands q r (closing.kept q r s);
         back = λ q r s. closing.back q r (stood q r s);
+        below = take-swap cells from hole at closing.low (omega (arith, closing.low, closing.high)) (omega (arith, closing.high, inside)) inside ∙ closing.below;
         later = λ k q low is. elim (new_cell k q is) [
           | inl one ↦
               let found = closing.later at p (omega (arith, closing.low, closing.high)) is_here in

@@ -1,16 +1,16 @@
 -- What the index has at a key, and what adding a block or taking one out does to it.
-use Rattle.std.proofs.Common.{◌≡◌, ◌≢◌, ℕ, zero, suc, ◌+◌, ◌-◌, ◌*◌, ◌<◌, ◌≤◌, Bool, true, false, cond, List, [], ◌++◌, length, take, drop, get_or, set, replicate, Option, None, Some, IsSome, is_some, count_by, refl, sym, ap, subst, ◌∙◌, inl, inr, arith}
-use Rattle.std.proofs.lemmas.Bool.{cases_order, false≢true}
+use Rattle.std.proofs.Common.{◌≡◌, ◌≢◌, ℕ, zero, suc, ◌-◌, ◌*◌, ◌<◌, ◌≤◌, Bool, true, false, cond, [], ◌++◌, length, take, drop, set, replicate, Option, None, Some, IsSome, refl, sym, ap, subst, ◌∙◌, inl, inr, arith}
+use Rattle.std.proofs.lemmas.Bool.{cases_order}
 use Rattle.std.proofs.lemmas.List.{length-set, take_at}
 use Rattle.std.specs.Prelude.{IfSome, IfNone}
 use Rattle.std.specs.FinMap as fin
 use Rattle.cxl_media.specs.declared.cell.Cell.{Cell}
 use Rattle.cxl_media.specs.Blocks.{Key}
-use Rattle.cxl_media.specs.Table.{key_at, Cells, cell_at, items_in, frames_in, IsOnce, IsTable, StopsProbe, IsStop}
+use Rattle.cxl_media.specs.Table.{key_at, Cells, cell_at, items_in, frames_in, IsTable, StopsProbe, IsStop}
 use Rattle.cxl_media.specs.Hash.{home_of}
 use Rattle.cxl_media.specs.Index.{Table, IsIndex}
-use Rattle.cxl_media.proofs.Keys.{not_none, same_some, key_total}
-use Rattle.cxl_media.proofs.Tables.{Stands, find_item, find_absent, get_frames, len_frames, stands_cases}
+use Rattle.cxl_media.proofs.Keys.{not_none, key_total}
+use Rattle.cxl_media.proofs.Tables.{Stands, find_item, find_absent, get_frames, len_frames}
 use Rattle.cxl_media.proofs.Changes.{none_is_not, added_table, added_frames, added_count}
 use Rattle.cxl_media.proofs.Gap.{cell_within}
 use Rattle.cxl_media.proofs.Homes.{stop_meets, passed_taken}

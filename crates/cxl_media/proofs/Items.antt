@@ -1,5 +1,5 @@
 -- Lists of items in which no key stands twice.
-use Rattle.std.proofs.Common.{◌≡◌, ◌≢◌, ℕ, zero, suc, ◌+◌, ◌<◌, Bool, true, false, cond, not, List, [], ◌∷◌, ◌++◌, length, get_or, set, Option, None, Some, is_some, refl, sym, ap, subst, ◌∙◌, inl, inr, arith, add-one}
+use Rattle.std.proofs.Common.{◌≡◌, ◌≢◌, ℕ, zero, suc, ◌+◌, ◌<◌, Bool, true, false, cond, List, [], ◌∷◌, ◌++◌, length, get_or, set, None, Some, is_some, refl, sym, ap, ◌∙◌, inl, inr, arith, add-one}
 use Rattle.std.specs.Prelude.{filter}
 use Rattle.std.specs.declared.cmp.Ordering.TheVariants.{Equal}
 use Rattle.std.specs.Ordering.{eq_by_cmp}
@@ -7,9 +7,9 @@ use Rattle.std.proofs.lemmas.Bool.{cond-true, cond-false, cases_Bool}
 use Rattle.std.specs.FinMap as map
 use Rattle.std.specs.FinMap.{find, FinMap}
 use Rattle.std.specs.FinMap.Entries.{find-append, find-where_key}
-use Rattle.cxl_media.specs.Blocks.{Key, key_cmp}
+use Rattle.cxl_media.specs.Blocks.{Key, key_cmp, Blocks, frames_needed}
 use Rattle.cxl_media.specs.MapInside.{AreKeysDistinct}
-use Rattle.cxl_media.proofs.Keys.{key_total, key_exact, key_is, key_is_not, keys_cases, same_key, not_none, find_here, find_later}
+use Rattle.cxl_media.proofs.Keys.{key_total, key_exact, key_is_not, keys_cases, not_none, find_here, find_later}
 
 module _ {X : Type 0} where
   -- what stands at a place is found under its key
@@ -101,3 +101,13 @@ module _ {X : Type 0} where
       find-where_key key_cmp p q alike es
       ∙ ap (λ o. cond (p q) o None) (sym (map.get-from_entries key_total es q))
       ∙ sym (map.get-retain_keys (map.from_entries es) p q alike))
+
+-- a block that is put takes as many frames as it needs
+pub put_counts : (old new : Blocks) (before after : ℕ) (key : Key) (bytes : List ℕ) → new ≡ map.insert old key bytes → after + frames_needed old key ≡ before → after + map.len new ≡ before + map.len old
+put_counts old new before after key bytes put taken =
+    let more : map.len new ≡ cond (map.contains_key old key) (map.len old) (map.len old + 1) = ap map.len put ∙ map.len-insert key_total old key bytes in
+    by_case (map.contains_key old key) more taken
+  where
+    by_case : (there : Bool) → map.len new ≡ cond there (map.len old) (map.len old + 1) → after + cond there 0 1 ≡ before → after + map.len new ≡ before + map.len old
+    by_case true more taken = omega arith
+    by_case false more taken = omega arith

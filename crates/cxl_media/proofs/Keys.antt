@@ -1,14 +1,15 @@
 -- The order of keys, and what a list of items has at a key.
-use Rattle.std.proofs.Common.{◌≡◌, ◌≢◌, ◌⊎◌, ℕ, zero, suc, ◌+◌, ◌<◌, Bool, true, false, cond, List, [], ◌∷◌, length, get_or, Option, None, Some, is_some, refl, sym, ap, subst, ◌∙◌, inl, inr, arith}
-use Rattle.std.specs.declared.cmp.Ordering.{Ordering}
+use Rattle.std.proofs.Common.{◌≡◌, ◌≢◌, ◌⊎◌, ℕ, suc, ◌*◌, ◌<◌, Bool, true, false, cond, not, ◌&&◌, eqb, leb, ltb, List, [], ◌∷◌, length, get_or, None, Some, refl, sym, ap, ◌∙◌, inl, inr, arith}
 use Rattle.std.specs.declared.cmp.Ordering.TheVariants.{Equal}
-use Rattle.std.specs.Ordering.{nat_cmp, eq_by_cmp, is_eq}
+use Rattle.std.specs.Ordering.{nat_cmp, eq_by_cmp}
 use Rattle.std.specs.Cmp.{IsTotalOrder, nat_cmp_total, eq_by_cmp_equiv, Equal-is}
 use Rattle.std.proofs.lemmas.Cmp.{on_total, then_total}
 use Rattle.std.proofs.lemmas.Map.Lookups.{exact_pairs, exact_unsigned}
+use Rattle.std.proofs.lemmas.Bool.Decides.{nat_tests}
 use Rattle.std.proofs.lemmas.Bool.{cases_Bool, cond-true, cond-false, true≢false}
 use Rattle.std.specs.FinMap.{find}
-use Rattle.cxl_media.specs.Blocks.{Key, key_cmp}
+use Rattle.std.specs.FinMap as fin
+use Rattle.cxl_media.specs.Blocks.{Key, key_cmp, Blocks, is_between, scrubbed}
 
 pub key_total : IsTotalOrder key_cmp
 key_total = then_total (on_total (λ (k : Key). k.0) nat_cmp_total) (on_total (λ (k : Key). k.1) nat_cmp_total)
@@ -56,3 +57,24 @@ module _ {X : Type 0} where
   find_nowhere q (e ∷ es) none =
       find_later q e es (λ same. none 0 e (omega arith) (sym same))
       ∙ find_nowhere q es (λ k d within. none (suc k) d (omega arith))
+
+-- between an address and itself stands no block
+none_between : (ep from to : ℕ) (key : Key) → from ≡ to → is_between ep from to key ≡ false
+none_between ep from to key same = by_number (256 * key.1)
+  where
+    outside : (n : ℕ) → (leb from n && ltb n to) ≡ false
+    outside n = grind (arith, nat_tests)
+
+    by_number : (n : ℕ) → (eqb key.0 ep && (leb from n && ltb n to)) ≡ false
+    by_number n = ap (λ b. eqb key.0 ep && b) (outside n) ∙ and_false (eqb key.0 ep)
+      where
+        and_false : (b : Bool) → (b && false) ≡ false
+        and_false true = refl
+        and_false false = refl
+
+-- nor is anything taken out
+pub scrubbed_none : (blocks : Blocks) (ep from to : ℕ) → from ≡ to → blocks ≡ scrubbed blocks ep from to
+scrubbed_none blocks ep from to same =
+    fin.same_map key_total key_exact blocks (scrubbed blocks ep from to) (λ q.
+    sym (fin.get-retain_keys blocks (λ k. not (is_between ep from to k)) q (λ x tied. ap (λ k. not (is_between ep from to k)) (sym (key_exact q x tied)))
+    ∙ ap (λ b. cond (not b) (fin.get blocks q) None) (none_between ep from to q same)))

@@ -3,6 +3,7 @@ pub mod Items
 pub mod Zeros
 pub mod Plain
 pub mod Tables
+pub mod Below
 pub mod Changes
 pub mod Gap
 pub mod Homes
@@ -10,4 +11,5 @@ pub mod Indexed
 pub mod Values
 pub mod Sims
 pub mod SimCalls
+pub mod Rolls
 pub mod Scrubs

@@ -1,5 +1,5 @@
 -- What plain media holds after a block was written, added or dropped.
-use Rattle.std.proofs.Common.{◌≡◌, ◌≢◌, ℕ, ◌+◌, ◌-◌, ◌<◌, ◌≤◌, ◌^◌, Bool, true, false, cond, not, List, [], ◌∷◌, ◌++◌, map, length, get_or, set, unwrap_or, Option, None, Some, is_some, refl, sym, ap, subst, ◌∙◌, arith}
+use Rattle.std.proofs.Common.{◌≡◌, ℕ, ◌+◌, ◌-◌, ◌<◌, ◌≤◌, Bool, true, false, cond, not, List, [], ◌∷◌, ◌++◌, length, get_or, set, unwrap_or, Option, None, Some, is_some, refl, sym, ap, subst, ◌∙◌, arith}
 use Rattle.std.specs.Prelude.{filter}
 use Rattle.std.proofs.lemmas.List.{map-set, map-append, get_or-map, length-map, length-set, length_push}
 use Rattle.std.proofs.lemmas.List.Sums.{length-filter, count_by-le-length}
@@ -8,8 +8,8 @@ use Rattle.std.specs.FinMap.{find}
 use Rattle.cxl_pool.specs.Pool.{zeros}
 use Rattle.cxl_media.specs.declared.map_media.Block.{Block}
 use Rattle.cxl_media.specs.Blocks.{Key, key_cmp, Blocks, block_at, frames_needed, is_between, scrubbed}
-use Rattle.cxl_media.specs.Held.{Held}
-use Rattle.cxl_media.specs.MapInside.{held_in, item_of, items_of, AreKeysDistinct, IsItemAt, IsHeld}
+use Rattle.cxl_media.specs.MediaState.{MediaState}
+use Rattle.cxl_media.specs.MapInside.{plain_state, item_of, items_of, AreKeysDistinct, IsItemAt, IsPlain}
 use Rattle.cxl_media.proofs.Keys.{key_total, key_exact}
 use Rattle.cxl_media.proofs.Items.{find_at, distinct-set, distinct-push, distinct-filter, set_is_insert, filter_is_retain, len_distinct}
 
@@ -48,8 +48,12 @@ module _ (items : List Block) (q : Key) where
     pub needed_nowhere : frames_needed (held items) q ≡ 1
     needed_nowhere = ap (λ (o : Option (List ℕ)). cond (is_some o) 0 1) get_nowhere
 
+-- what the fields stand for
+abbrev pub held_in : List Block → ℕ → MediaState
+held_in items frames = plain_state (record { items = items_of items; frames = frames })
+
 -- the same, in the words of the code: h is what contracts see, and xs the blocks as a slice
-module _ (items xs : List Block) (room frames : ℕ) (h : Held) (q : Key) (view : held_in items frames ≡ h) (same : xs ≡ items) (inside : IsHeld items room frames) where
+module _ (items xs : List Block) (room frames : ℕ) (h : MediaState) (q : Key) (view : held_in items frames ≡ h) (same : xs ≡ items) (inside : IsPlain items room frames) where
   module _ (at : ℕ) (is : IsItemAt (items_of xs) q at) where
     is_here : IsItemAt (items_of items) q at
     is_here = subst (λ (bs : List Block). IsItemAt (items_of bs) q at) same is
@@ -58,10 +62,10 @@ module _ (items xs : List Block) (room frames : ℕ) (h : Held) (q : Key) (view 
     at_within = place_within items q at is_here inside.distinct
 
     pub block_is : (b : Block) → b ≡ get_or items at b → block_at h.blocks q ≡ b.bytes
-    block_is b read = ap (λ (k : Held). block_at k.blocks q) (sym view) ∙ block_here items q at is_here inside.distinct b ∙ ap (λ (c : Block). c.bytes) (sym read)
+    block_is b read = ap (λ (k : MediaState). block_at k.blocks q) (sym view) ∙ block_here items q at is_here inside.distinct b ∙ ap (λ (c : Block). c.bytes) (sym read)
 
     pub none_needed : (b : Block) → frames_needed h.blocks q ≡ 0
-    none_needed b = ap (λ (k : Held). frames_needed k.blocks q) (sym view) ∙ needed_here items q at is_here inside.distinct b
+    none_needed b = ap (λ (k : MediaState). frames_needed k.blocks q) (sym view) ∙ needed_here items q at is_here inside.distinct b
 
     -- another block under the same key is written over it
     module _ (b w : Block) (read : b ≡ get_or items at b) (ep : w.ep ≡ b.ep) (number : w.number ≡ b.number) where
@@ -76,9 +80,9 @@ module _ (items xs : List Block) (room frames : ℕ) (h : Held) (q : Key) (view 
           ap fin.from_entries (map-set item_of items at w)
           ∙ set_is_insert (items_of items) at (item_of w) (item_of b) is_here.within key_kept inside.distinct
           ∙ ap (λ k. fin.insert (held items) k w.bytes) (key_kept ∙ is_here.is (item_of b))
-          ∙ ap (λ (k : Held). fin.insert k.blocks q w.bytes) view
+          ∙ ap (λ (k : MediaState). fin.insert k.blocks q w.bytes) view
 
-      pub rewritten_inside : IsHeld (set items at w) room frames
+      pub rewritten_inside : IsPlain (set items at w) room frames
       rewritten_inside = record {
         distinct = subst (λ (es : List (Key × List ℕ)). AreKeysDistinct es) (sym (map-set item_of items at w)) (distinct-set (items_of items) at (item_of w) (item_of b) is_here.within key_kept inside.distinct);
         few = rw length-set inside.few;
@@ -91,10 +95,10 @@ module _ (items xs : List Block) (room frames : ℕ) (h : Held) (q : Key) (view 
     none_here = subst (λ (bs : List Block). find key_cmp q (items_of bs) ≡ None) same none
 
     pub block_is_zeros : block_at h.blocks q ≡ zeros
-    block_is_zeros = ap (λ (k : Held). block_at k.blocks q) (sym view) ∙ block_nowhere items q none_here
+    block_is_zeros = ap (λ (k : MediaState). block_at k.blocks q) (sym view) ∙ block_nowhere items q none_here
 
     pub one_needed : frames_needed h.blocks q ≡ 1
-    one_needed = ap (λ (k : Held). frames_needed k.blocks q) (sym view) ∙ needed_nowhere items q none_here
+    one_needed = ap (λ (k : MediaState). frames_needed k.blocks q) (sym view) ∙ needed_nowhere items q none_here
 
     -- a block with this key is added
     module _ (w : Block) (ep : w.ep ≡ q.0) (number : w.number ≡ q.1) where
@@ -106,9 +110,9 @@ module _ (items xs : List Block) (room frames : ℕ) (h : Held) (q : Key) (view 
           ap fin.from_entries (map-append item_of items (w ∷ []))
           ∙ fin.from_entries_push key_total key_exact (items_of items) (w.ep, w.number) w.bytes (ap (λ k. find key_cmp k (items_of items)) key ∙ none_here)
           ∙ ap (λ k. fin.insert (held items) k w.bytes) key
-          ∙ ap (λ (k : Held). fin.insert k.blocks q w.bytes) view
+          ∙ ap (λ (k : MediaState). fin.insert k.blocks q w.bytes) view
 
-      pub added_inside : length items < frames → IsHeld (items ++ w ∷ []) room frames
+      pub added_inside : length items < frames → IsPlain (items ++ w ∷ []) room frames
       added_inside more = record {
         distinct = subst (λ (es : List (Key × List ℕ)). AreKeysDistinct es) (sym (map-append item_of items (w ∷ []))) (distinct-push (items_of items) (w.ep, w.number) w.bytes (ap (λ k. find key_cmp k (items_of items)) key ∙ none_here) inside.distinct);
         few = omega (arith, length_push items w, more);
@@ -127,7 +131,7 @@ items-filter p (b ∷ rest) =
     ]
 
 -- the blocks between two addresses of an endpoint are dropped
-module _ (items kept : List Block) (room frames : ℕ) (h : Held) (ep from to : ℕ) (view : held_in items frames ≡ h) (inside : IsHeld items room frames) (is : kept ≡ filter (λ b. not (is_between ep from to (b.ep, b.number))) items) where
+module _ (items kept : List Block) (room frames : ℕ) (h : MediaState) (ep from to : ℕ) (view : held_in items frames ≡ h) (inside : IsPlain items room frames) (is : kept ≡ filter (λ b. not (is_between ep from to (b.ep, b.number))) items) where
   items_kept : items_of kept ≡ filter (λ e. not (is_between ep from to e.0)) (items_of items)
   items_kept = ap items_of is ∙ items-filter (λ k. not (is_between ep from to k)) items
 
@@ -138,12 +142,12 @@ module _ (items kept : List Block) (room frames : ℕ) (h : Held) (ep from to : 
   kept_blocks =
       ap fin.from_entries items_kept
       ∙ filter_is_retain (λ k. not (is_between ep from to k)) (items_of items)
-      ∙ ap (λ (k : Held). scrubbed k.blocks ep from to) view
+      ∙ ap (λ (k : MediaState). scrubbed k.blocks ep from to) view
 
   few_kept : length kept ≤ length items
   few_kept = omega (arith, ap length is, length-filter (λ (b : Block). not (is_between ep from to (b.ep, b.number))) items, count_by-le-length (λ (b : Block). not (is_between ep from to (b.ep, b.number))) items)
 
-  pub kept_inside : (space : ℕ) → space ≡ room → IsHeld kept space frames
+  pub kept_inside : (space : ℕ) → space ≡ room → IsPlain kept space frames
   kept_inside space same = record {
     distinct = distinct_kept;
     few = omega (arith, few_kept, inside.few);
@@ -152,7 +156,7 @@ module _ (items kept : List Block) (room frames : ℕ) (h : Held) (ep from to : 
   }
 
   -- as many frames are freed as blocks are dropped
-  pub kept_frames : (frames - length kept) + fin.len (held kept) ≡ h.free + fin.len h.blocks
+  pub kept_frames : (frames - length (items_of kept)) + fin.len (held kept) ≡ h.free + fin.len h.blocks
   kept_frames =
       omega (
         arith,
@@ -162,6 +166,6 @@ module _ (items kept : List Block) (room frames : ℕ) (h : Held) (ep from to : 
         length-map kept item_of,
         len_distinct (items_of items) inside.distinct,
         length-map items item_of,
-        ap (λ (k : Held). k.free) view,
-        ap (λ (k : Held). fin.len k.blocks) view,
+        ap (λ (k : MediaState). k.free) view,
+        ap (λ (k : MediaState). fin.len k.blocks) view,
       )

@@ -1,16 +1,21 @@
 -- The facts of `Sims` in the words of the code: s is what the fields stand for, and t what contracts see.
-use Rattle.std.proofs.Common.{◌≡◌, ◌≢◌, ◌↔◌, ℕ, ◌+◌, ◌-◌, ◌<◌, ◌≤◌, Bool, true, false, cond, List, length, get_or, set, unwrap_or, Option, None, Some, IsSome, is_some, Bor, refl, sym, ap, subst, ◌∙◌, arith}
+use Rattle.std.proofs.Common.{◌≡◌, ◌↔◌, ℕ, ◌+◌, List, set, unwrap_or, Option, None, Some, IsSome, is_some, Bor, refl, sym, ap, ◌∙◌, arith}
 use Rattle.std.specs.Prelude.{IsTrue, IfSome}
 use Rattle.std.proofs.lemmas.Bool.{false≢true}
 use Rattle.std.specs.Option.{option_map, option_copied}
 use Rattle.std.proofs.lemmas.List.{set-set, get_or-set_same}
 use Rattle.std.specs.FinMap as fin
 use Rattle.std.specs.FinMap.{FinMap}
-use Rattle.cxl_pool.specs.Pool.{Frames, frame_bytes, IsOut, IsFree, free_count, zeros}
-use Rattle.cxl_media.specs.Blocks.{Key, key_cmp, Blocks, block_at, frames_needed}
-use Rattle.cxl_media.specs.Sim.{Sim, blocks_of, IsSim}
-use Rattle.cxl_media.proofs.Keys.{not_none, same_some}
+use Rattle.cxl_pool.specs.Pool.{Frames, frame_bytes, IsFree, free_count, zeros}
+use Rattle.cxl_media.specs.Table.{Cells}
+use Rattle.cxl_media.specs.Blocks.{Key, key_cmp, block_at, frames_needed}
+use Rattle.cxl_media.specs.Sim.{Shipped, Sim, sim_of, blocks_of, IsSim}
+use Rattle.cxl_media.proofs.Keys.{same_some}
 use Rattle.cxl_media.proofs.Sims.{held_by, get_block, get_there, block_there, needed_there, block_missing, needed_missing, rewritten_blocks, rewritten_free, added_sim, added_blocks, added_free}
+
+-- what the fields stand for, and what contracts see
+pub sim_view : (pool : Frames) (cells : Cells) (m : Shipped) → ◌≡◌ {A = Shipped} (record { pool = pool; cells = cells }) m → sim_of pool cells ≡ sim_of m.pool m.cells
+sim_view pool cells m view = ap (λ (u : Shipped). sim_of u.pool u.cells) view
 
 module _ (s t : Sim) (view : s ≡ t) (q : Key) where
   module _ (n : ℕ) (found : Some n ≡ fin.get s.frames q) where

@@ -1,15 +1,14 @@
 -- What the shipped media holds after a block was written, added or dropped.
-use Rattle.std.proofs.Common.{◌≡◌, ◌≢◌, ◌⊎◌, ℕ, zero, suc, ◌+◌, ◌-◌, ◌<◌, ◌≤◌, Bool, true, false, cond, not, List, length, replicate, get_or, set, unwrap_or, Option, None, Some, IsSome, is_some, count_by, refl, sym, ap, subst, ◌∙◌, inl, inr, arith}
+use Rattle.std.proofs.Common.{◌≡◌, ◌≢◌, ◌⊎◌, ℕ, zero, suc, ◌+◌, ◌-◌, ◌<◌, cond, List, length, replicate, set, unwrap_or, Option, None, Some, IsSome, is_some, refl, sym, ap, ◌∙◌, inl, inr, arith}
 use Rattle.std.specs.Prelude.{is_none}
 use Rattle.std.specs.Option.{option_map}
-use Rattle.std.specs.Ordering.{eq_by_cmp}
-use Rattle.std.proofs.lemmas.Bool.{cases_eq, cases_lt, cases_Bool, cond-true, cond-false, false≢true}
+use Rattle.std.proofs.lemmas.Bool.{cases_eq, cases_lt, cond-true, cond-false, false≢true}
 use Rattle.std.proofs.lemmas.List.{get_or-set_same, get_or-set_other, get_or_past, length-set}
 use Rattle.std.proofs.lemmas.List.Sums.{sum_by-set, sum_by-cons}
 use Rattle.std.specs.FinMap as fin
 use Rattle.std.specs.FinMap.{FinMap}
 use Rattle.cxl_pool.specs.Pool.{Frames, frame_bytes, IsOut, IsFree, free_count, zeros}
-use Rattle.cxl_media.specs.Blocks.{Key, key_cmp, Blocks, block_at, frames_needed}
+use Rattle.cxl_media.specs.Blocks.{Key, key_cmp, block_at, frames_needed}
 use Rattle.cxl_media.specs.Sim.{Sim, blocks_of, IsSim}
 use Rattle.cxl_media.proofs.Keys.{key_total, key_exact, key_is, key_is_not, keys_cases, not_none, same_some}
 use Rattle.cxl_media.proofs.Values.{get-values, len-values}

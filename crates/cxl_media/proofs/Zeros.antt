@@ -1,5 +1,5 @@
 -- The bytes of a block that is not in the map.
-use Rattle.std.proofs.Common.{◌≡◌, ℕ, ◌+◌, ◌-◌, ◌≤◌, length, replicate, take, drop, ap, ◌∙◌, sym, arith}
+use Rattle.std.proofs.Common.{◌≡◌, ℕ, ◌+◌, ◌-◌, ◌≤◌, length, replicate, take, ap, ◌∙◌, sym, arith}
 use Rattle.std.proofs.lemmas.List.{length-replicate, take-replicate, drop-replicate}
 use Rattle.cxl_pool.specs.Pool.{zeros}
 use Rattle.cxl_media.specs.Blocks.{bytes_from}

@@ -1,5 +1,6 @@
 pub mod Blocks
-pub mod Held
+pub mod MediaState
+pub mod Roll
 pub mod MapInside
 pub mod Table
 pub mod Hash

@@ -1,25 +1,35 @@
--- What the shipped media holds: a frame pool, and the frame of each block.
-use Rattle.std.specs.Prelude.{◌≡◌, ℕ, ◌+◌, List, [], ◌∷◌, map, length, unwrap_or, Some, refl}
+-- What the shipped media holds: a frame pool, and the cells of its index.
+use Rattle.std.specs.Prelude.{◌≡◌, ℕ, ◌+◌, List, map, length, unwrap_or, Option, Some, refl}
+use Rattle.std.specs.Option.{option_map}
 use Rattle.std.specs.Coded.{Coded, code_by, coded×, coded_ℕ, coded_list, coded_option}
 use Rattle.std.specs.FinMap as fin
 use Rattle.std.specs.FinMap.{FinMap}
 use Rattle.cxl_pool.specs.Pool.{Frames, frame_bytes, IsOut, free_count, zeros}
 use Rattle.cxl_media.specs.Blocks.{Key, key_cmp, Blocks}
-use Rattle.cxl_media.specs.Held.{coded_key}
+use Rattle.cxl_media.specs.MediaState.{MediaState}
+use Rattle.cxl_media.specs.Table.{Cells, key_at, frames_in}
+use Rattle.cxl_media.specs.Index.{coded_cells}
 
-pub record Sim : Type 0 where
+pub record Shipped : Type 0 where
   pub pool : Frames
-  -- the number of the frame of each block
-  pub frames : FinMap key_cmp ℕ
+  pub cells : Cells
 
 abbrev pub coded_frames : Coded Frames
 coded_frames = coded_list (coded_option (coded_list coded_ℕ))
 
 -- as a pair
-abbrev pub coded_sim : Coded Sim
-coded_sim =
-    code_by (Frames × FinMap key_cmp ℕ) (coded× coded_frames (fin.code coded_key coded_ℕ)) (λ s. (s.pool, s.frames))
-    (λ p. record { pool = p.0; frames = p.1 }) (λ _. refl)
+abbrev pub coded_shipped : Coded Shipped
+coded_shipped =
+    code_by (Frames × Cells) (coded× coded_frames coded_cells) (λ s. (s.pool, s.cells))
+    (λ p. record { pool = p.0; cells = p.1 }) (λ _. refl)
+
+-- a pool, and the number of the frame of each block
+pub record Sim : Type 0 where
+  pub pool : Frames
+  pub frames : FinMap key_cmp ℕ
+
+abbrev pub sim_of : Frames → Cells → Sim
+sim_of pool cells = record { pool = pool; frames = frames_in cells }
 
 -- a finite map with each value replaced
 abbrev pub map_values : {X Y : Type 0} → (X → Y) → FinMap key_cmp X → FinMap key_cmp Y
@@ -28,6 +38,16 @@ map_values f m = fin.from_sorted (map (λ e. (e.0, f e.1)) (fin.entries m))
 -- each block has the bytes of its frame
 abbrev pub blocks_of : Sim → Blocks
 blocks_of s = map_values (λ n. unwrap_or (frame_bytes s.pool n) zeros) s.frames
+
+abbrev pub shipped_blocks : Shipped → Blocks
+shipped_blocks s = blocks_of (sim_of s.pool s.cells)
+
+abbrev pub shipped_state : Shipped → MediaState
+shipped_state s = record { blocks = shipped_blocks s; free = free_count s.pool }
+
+-- a place for each cell
+abbrev pub shipped_roll : Shipped → List (Option Key)
+shipped_roll s = map (option_map key_at) s.cells
 
 -- the frames of the blocks are out of the pool and differ, and no other frame is out
 pub record IsSim (s : Sim) (room : ℕ) : Type 0 where

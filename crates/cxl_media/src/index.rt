@@ -1,8 +1,9 @@
-ghost use Rattle.std.specs.Prelude.{◌≡◌, ℕ, ◌+◌, ◌*◌, ◌%◌, ◌^◌, ◌<◌, ◌≤◌, Bool, [], None, IfOk, IsSome, Some, IfSome, IfNone, length};
+ghost use Rattle.std.specs.Prelude.{◌≡◌, ℕ, ◌+◌, ◌*◌, ◌%◌, ◌<◌, ◌≤◌, Bool, [], None, IfOk, IsSome, Some, IfSome, IfNone, is_some, length, take, if◌then◌else◌};
 ghost use Rattle.std.specs.Option.{option_copied};
 ghost use Rattle.std.specs.FinMap as map;
+ghost use Rattle.cxl_enc.specs.Limits.{frame_limit};
 ghost use Rattle.cxl_media.specs.Blocks.{Key, is_between};
-ghost use Rattle.cxl_media.specs.Table.{key_at, cell_at, frames_in, passes, IsStop, NonePass};
+ghost use Rattle.cxl_media.specs.Table.{key_at, cell_at, frames_in, passes, IsOnce, IsStop, NonePass};
 ghost use Rattle.cxl_media.specs.Hash.{home_of};
 
 use crate::bytes::is_between;
@@ -49,7 +50,7 @@ impl Index {
 
     /// An index with room for so many blocks.
     pub fn new(alloc: Global, room: u32) -> Result<Index, Memory>
-        requires { room ≤ 2 ^ 20 }
+        requires { room ≤ frame_limit }
         ensures frames { IfOk result (λ index. frames_in index.cells ≡ map.empty) }
         ensures room { IfOk result (λ index. index.room ≡ room) }
     {
@@ -94,9 +95,21 @@ impl Index {
 
     /// How many cells there are.
     pub fn cells(&self) -> usize
-        ensures { result ≡ length self.now.cells }
+        ensures count { result ≡ length self.now.cells }
+        ensures few { result ≤ 3 * frame_limit }
+        ensures once { IsOnce self.now.cells }
     {
         self.cells.len()
+    }
+
+    /// How many blocks stand at a cell: 1 or 0.
+    pub fn count_at(&self, at: usize) -> u32
+        ensures { result ≡ (if is_some (cell_at self.now.cells at) then 1 else 0) }
+    {
+        match self.at(at) {
+            Some(_) => 1,
+            None => 0,
+        }
     }
 
     /// Whether a block between two device addresses of an endpoint stands at a cell.
@@ -130,6 +143,7 @@ impl Index {
         ensures frames { IfSome (cell_at self.old.cells at) (λ cell.
             frames_in self.new.cells ≡ map.remove (frames_in self.old.cells) (key_at cell)) }
         ensures later { (test : Key → Bool) → NonePass test self.old.cells (at + 1) → NonePass test self.new.cells at }
+        ensures below { take at self.new.cells ≡ take at self.old.cells }
         ensures length { length self.new.cells ≡ length self.old.cells }
         ensures room { self.new.room ≡ self.old.room }
     {

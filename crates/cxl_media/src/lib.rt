@@ -1,5 +1,5 @@
-//! Device memory in blocks of 256 bytes: the trait `Media`, a plain implementation, and the shipped one over a frame
-//! pool.
+//! Device memory in blocks of 256 bytes: the traits `Media` and `Roll`, a plain implementation, and the shipped one
+//! over a frame pool.
 #![tactic(auto)]
 
 mod bytes;
@@ -8,10 +8,12 @@ mod index;
 mod map_media;
 mod media;
 mod probe;
+mod roll;
 mod sim_media;
 #[cfg(test)]
 mod tests;
 
 pub use map_media::MapMedia;
 pub use media::{Full, Media};
+pub use roll::{At, Roll};
 pub use sim_media::SimMedia;

@@ -6,6 +6,7 @@ ghost use Rattle.cxl_pool.specs.Pool.{zeros};
 
 use crate::bytes::{is_between, overwrite, read_block, read_zeros};
 use crate::media::{Full, Media};
+use crate::roll::{At, Roll};
 use cxl_enc::Memory;
 use std::alloc::Global;
 use std::marker::Model;
@@ -26,28 +27,26 @@ struct Block {
 }
 
 impl Model for MapMedia {
-    ghost use Rattle.cxl_media.specs.Held.{Held, coded_held};
+    ghost use Rattle.cxl_media.specs.MapInside.{Plain, coded_plain, items_of, IsPlain};
 
-    ghost Value = { Held };
+    ghost Value = { Plain };
 
-    ghost coded = { coded_held };
+    ghost coded = { coded_plain };
 
-    ghost use Rattle.cxl_media.specs.MapInside.{held_in, IsHeld};
     ghost use Rattle.std.specs.Prelude.{vec_capacity};
 
-    ghost view = { λ m. held_in m.blocks.items m.frames };
+    ghost view = { λ m. record { items = items_of m.blocks.items; frames = m.frames } };
 
-    ghost invariant = { λ m. IsHeld m.blocks.items (vec_capacity m.blocks) m.frames };
+    ghost invariant = { λ m. IsPlain m.blocks.items (vec_capacity m.blocks) m.frames };
 }
 
 impl MapMedia {
     ghost use Rattle.std.specs.FinMap.{empty};
-    ghost use Rattle.cxl_media.specs.Held.{Held};
 
-    /// Media without a block and without a frame, until it is powered on.
+    /// Media without a block and without a frame, until it is powered on. Takes no memory.
     pub fn new(alloc: Global) -> MapMedia
-        ensures blocks { result.blocks ≡ empty }
-        ensures free { result.free ≡ 0 }
+        ensures blocks { (⟦<MapMedia as Media>⟧.state result).blocks ≡ empty }
+        ensures free { (⟦<MapMedia as Media>⟧.state result).free ≡ 0 }
     {
         MapMedia {
             blocks: Vec::new(alloc),
@@ -57,9 +56,9 @@ impl MapMedia {
 }
 
 impl Media for MapMedia {
-    ghost blocks = { λ m. m.blocks };
+    ghost use Rattle.cxl_media.specs.MapInside.{plain_state};
 
-    ghost free_frames = { λ m. m.free };
+    ghost state = { plain_state };
 
     fn power_on(&mut self, alloc: Global, frames: u32) -> Result<(), Memory> {
         let blocks = Vec::with_capacity(alloc, frames as usize)?;
@@ -100,11 +99,32 @@ impl Media for MapMedia {
     }
 
     fn scrub(&mut self, ep: u32, from: u64, to: u64) {
+        if from == to {
+            return;
+        }
         keep_outside(&mut self.blocks, ep, from, to);
     }
 
     fn free(&self) -> u32 {
         (self.frames - self.blocks.len()) as u32
+    }
+}
+
+impl Roll for MapMedia {
+    ghost use Rattle.cxl_media.specs.MapInside.{plain_roll};
+
+    ghost roll = { plain_roll };
+
+    fn places(&self) -> u32 {
+        self.blocks.len() as u32
+    }
+
+    fn at(&self, i: u32) -> Option<At> {
+        let block = &self.blocks[i as usize];
+        Some(At {
+            ep: block.ep,
+            block: block.number,
+        })
     }
 }
 

@@ -1,4 +1,4 @@
-ghost use Rattle.std.specs.Prelude.{◌≡◌, ℕ, ◌+◌, ◌↔◌, Bool, IsTrue, IsSome, IfSome, length};
+ghost use Rattle.std.specs.Prelude.{◌≡◌, ℕ, ◌+◌, ◌↔◌, Bool, IsTrue, IsSome, IfSome, length, take};
 ghost use Rattle.std.specs.FinMap.{remove};
 ghost use Rattle.cxl_media.specs.Blocks.{Key};
 ghost use Rattle.cxl_media.specs.Table.{key_at, cell_at, frames_in, StopsProbe, IsStop, IsTable, HasHole, NonePass};
@@ -51,6 +51,7 @@ pub fn take_out(cells: &mut [Option<Cell>], homes: u32, at: usize) -> Option<Cel
     ensures table { IsTable (home_of homes) cells.new }
     ensures frames { IfSome result (λ cell. frames_in cells.new ≡ remove (frames_in cells.old) (key_at cell)) }
     ensures later { (test : Key → Bool) → NonePass test cells.old (at + 1) → NonePass test cells.new at }
+    ensures below { take at cells.new ≡ take at cells.old }
     ensures length { length cells.new ≡ length cells.old }
 {
     let taken = mem::replace(&mut cells[at], None);
@@ -65,6 +66,7 @@ fn close(cells: &mut [Option<Cell>], homes: u32, from: usize)
     ensures table { IsTable (home_of homes) cells.new }
     ensures frames { frames_in cells.new ≡ frames_in cells.old }
     ensures later { (test : Key → Bool) → NonePass test cells.old (from + 1) → NonePass test cells.new from }
+    ensures below { take from cells.new ≡ take from cells.old }
     ensures length { length cells.new ≡ length cells.old }
 {
     let mut hole = from;

@@ -7,6 +7,7 @@ ghost use Rattle.cxl_media.specs.Blocks.{Key, key_of};
 use crate::bytes::{overwrite, read_block, read_zeros};
 use crate::index::Index;
 use crate::media::{Full, Media};
+use crate::roll::{At, Roll};
 use cxl_enc::Memory;
 use cxl_pool::{Frame, Pool};
 use std::alloc::Global;
@@ -20,27 +21,26 @@ pub struct SimMedia {
 }
 
 impl Model for SimMedia {
-    ghost use Rattle.cxl_media.specs.Sim.{Sim, coded_sim};
+    ghost use Rattle.cxl_media.specs.Sim.{Shipped, coded_shipped, sim_of, IsSim};
 
-    ghost Value = { Sim };
+    ghost Value = { Shipped };
 
-    ghost coded = { coded_sim };
+    ghost coded = { coded_shipped };
 
-    ghost use Rattle.cxl_media.specs.Table.{frames_in};
-    ghost use Rattle.cxl_media.specs.Sim.{IsSim};
+    ghost view = { λ m. record { pool = m.pool; cells = m.index.cells } };
 
-    ghost view = { λ m. record { pool = m.pool; frames = frames_in m.index.cells } };
-
-    ghost invariant = { λ m. IsSim (record { pool = m.pool; frames = frames_in m.index.cells }) m.index.room };
+    ghost invariant = { λ m. IsSim (sim_of m.pool m.index.cells) m.index.room };
 }
 
 impl SimMedia {
     ghost use Rattle.std.specs.FinMap as map;
+    ghost use Rattle.cxl_media.specs.MediaState.{frame_count};
+    ghost use Rattle.cxl_media.specs.Table.{frames_in};
 
     /// Media without a block and without a frame, until it is powered on. Takes no memory.
     pub fn new(alloc: Global) -> SimMedia
-        ensures blocks { ⟦<SimMedia as Media>⟧.blocks result ≡ map.empty }
-        ensures free { ⟦<SimMedia as Media>⟧.free_frames result ≡ 0 }
+        ensures blocks { (⟦<SimMedia as Media>⟧.state result).blocks ≡ map.empty }
+        ensures free { (⟦<SimMedia as Media>⟧.state result).free ≡ 0 }
     {
         SimMedia {
             pool: Pool::empty(alloc),
@@ -51,30 +51,27 @@ impl SimMedia {
     /// The pool in whose frames the blocks stand.
     pub fn pool(&self) -> &Pool
         ensures value { result.now ≡ self.now.pool }
-        ensures free { free_count result.now ≡ ⟦<SimMedia as Media>⟧.free_frames self.now }
-        ensures total { length result.now ≡ ⟦<SimMedia as Media>⟧.free_frames self.now + map.len (⟦<SimMedia as Media>⟧.blocks self.now) }
+        ensures free { free_count result.now ≡ (⟦<SimMedia as Media>⟧.state self.now).free }
+        ensures total { length result.now ≡ frame_count (⟦<SimMedia as Media>⟧.state self.now) }
     {
         &self.pool
     }
 
     /// The frame of the block of a device address, where it is in the map.
     pub fn frame(&self, ep: u32, dpa: u64) -> Option<&Frame>
-        ensures value { option_copied result ≡ map.get self.now.frames (key_of ep dpa) }
-        ensures there { IsSome result ↔ IsTrue (map.contains_key (⟦<SimMedia as Media>⟧.blocks self.now) (key_of ep dpa)) }
-        ensures bytes { IfSome result (λ frame. frame_bytes self.now.pool frame.now ≡ map.get (⟦<SimMedia as Media>⟧.blocks self.now) (key_of ep dpa)) }
-        ensures apart { IfSome result (λ frame. (key : Key) → map.get self.now.frames key ≡ Some frame.now → key ≡ key_of ep dpa) }
+        ensures value { option_copied result ≡ map.get (frames_in self.now.cells) (key_of ep dpa) }
+        ensures there { IsSome result ↔ IsTrue (map.contains_key ((⟦<SimMedia as Media>⟧.state self.now).blocks) (key_of ep dpa)) }
+        ensures bytes { IfSome result (λ frame. frame_bytes self.now.pool frame.now ≡ map.get ((⟦<SimMedia as Media>⟧.state self.now).blocks) (key_of ep dpa)) }
+        ensures apart { IfSome result (λ frame. (key : Key) → map.get (frames_in self.now.cells) key ≡ Some frame.now → key ≡ key_of ep dpa) }
     {
         self.index.find(ep, dpa / 256)
     }
 }
 
 impl Media for SimMedia {
-    ghost use Rattle.cxl_media.specs.Sim.{blocks_of};
-    ghost use Rattle.cxl_pool.specs.Pool.{free_count};
+    ghost use Rattle.cxl_media.specs.Sim.{shipped_state};
 
-    ghost blocks = { blocks_of };
-
-    ghost free_frames = { λ m. free_count m.pool };
+    ghost state = { shipped_state };
 
     fn power_on(&mut self, alloc: Global, frames: u32) -> Result<(), Memory> {
         let pool = Pool::new(alloc, frames)?;
@@ -115,7 +112,16 @@ impl Media for SimMedia {
     }
 
     fn scrub(&mut self, ep: u32, from: u64, to: u64) {
+        if from == to {
+            return;
+        }
+        // How many blocks stand in the cells that are still ahead.
+        let mut ahead = self.pool.total() - self.pool.free();
         for at in (0..self.index.cells()).rev() {
+            if ahead == 0 {
+                return;
+            }
+            ahead -= self.index.count_at(at);
             if self.index.has_between(at, ep, from, to) {
                 let frame = self.index.remove(at);
                 self.pool.give(frame);
@@ -125,5 +131,25 @@ impl Media for SimMedia {
 
     fn free(&self) -> u32 {
         self.pool.free()
+    }
+}
+
+impl Roll for SimMedia {
+    ghost use Rattle.cxl_media.specs.Sim.{shipped_roll};
+
+    ghost roll = { shipped_roll };
+
+    fn places(&self) -> u32 {
+        self.index.cells() as u32
+    }
+
+    fn at(&self, i: u32) -> Option<At> {
+        match self.index.at(i as usize) {
+            Some(cell) => Some(At {
+                ep: cell.ep,
+                block: cell.number,
+            }),
+            None => None,
+        }
     }
 }

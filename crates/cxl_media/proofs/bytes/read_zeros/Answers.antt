@@ -1,4 +1,4 @@
-use Rattle.std.proofs.Common.{◌≡◌, ◌∙◌, refl, length}
+use Rattle.std.proofs.Common.{◌∙◌, length}
 use Rattle.cxl_media.proofs.Zeros.{zeros_from}
 use Rattle.cxl_media.proofs.bytes.read_zeros.Goals as goal
 

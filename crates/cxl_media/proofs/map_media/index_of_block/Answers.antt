@@ -1,4 +1,4 @@
-use Rattle.std.proofs.Common.{◌≡◌, ℕ, ◌<◌, List, length, get_or, below_more, sym, ap, ◌∙◌, arith}
+use Rattle.std.proofs.Common.{ℕ, List, below_more, sym, ap, ◌∙◌, arith}
 use Rattle.std.proofs.lemmas.Bool.{false≢true}
 use Rattle.std.proofs.lemmas.List.{get_or-map, length-map}
 use Rattle.cxl_media.specs.Blocks.{Key}

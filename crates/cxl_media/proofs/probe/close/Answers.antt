@@ -1,8 +1,8 @@
-use Rattle.std.proofs.Common.{◌≡◌, ℕ, ◌+◌, ◌<◌, ◌≤◌, length, None, Some, inl, inr, sym, ◌∙◌, subst, arith}
+use Rattle.std.proofs.Common.{◌≡◌, ℕ, ◌+◌, ◌<◌, length, None, Some, inl, inr, sym, ◌∙◌, subst, arith}
 use Rattle.std.specs.Prelude.{swap}
 use Rattle.std.proofs.lemmas.List.{get_or_read}
 use Rattle.cxl_media.specs.Hash.{home_of}
-use Rattle.cxl_media.specs.Table.{Cells, cell_at, key_at}
+use Rattle.cxl_media.specs.Table.{Cells, cell_at}
 use Rattle.cxl_media.proofs.Tables.{same_frames}
 use Rattle.cxl_media.proofs.Gap.{IsClosing, closing_first, closed, skipped, moved}
 use Rattle.cxl_media.proofs.probe.close.Goals as goal

@@ -1,9 +1,6 @@
-use Rattle.std.proofs.Common.{◌≡◌, ◌+◌, None, sym, ◌∙◌, subst}
-use Rattle.std.specs.Prelude.{IfSome}
-use Rattle.std.specs.FinMap.{remove, FinMap}
-use Rattle.std.proofs.lemmas.List.{get_or_read}
-use Rattle.cxl_media.specs.Blocks.{key_cmp}
-use Rattle.cxl_media.specs.Table.{cell_at, frames_in, key_at}
+use Rattle.std.proofs.Common.{◌≡◌, None, sym, ◌∙◌}
+use Rattle.std.proofs.lemmas.List.{get_or_read, take-set}
+use Rattle.cxl_media.specs.Table.{cell_at}
 use Rattle.cxl_media.proofs.Gap.{out_within, out_hole, out_frames, out_later}
 use Rattle.cxl_media.proofs.probe.take_out.Goals as goal
 
@@ -20,3 +17,6 @@ returns-clause-frames c =
 pub returns-clause-later : goal.returns-clause-later
 returns-clause-later c test later =
     c.close.ensures.later test (out_later _ _ _ _ c.requires.table c.requires.taken c.replace-taken.ensures.after test later)
+
+pub returns-clause-below : goal.returns-clause-below
+returns-clause-below c = c.close.ensures.below ∙ take-set c.args.cells.now c.args.at _

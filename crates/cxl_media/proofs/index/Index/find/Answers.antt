@@ -1,4 +1,4 @@
-use Rattle.std.proofs.Common.{◌≡◌, None, refl, sym, subst, rules}
+use Rattle.std.proofs.Common.{◌≡◌, None, sym, subst}
 use Rattle.std.specs.Prelude.{IfSome, IfNone, Some}
 use Rattle.std.specs.FinMap.{get}
 use Rattle.std.proofs.Common.{Option}

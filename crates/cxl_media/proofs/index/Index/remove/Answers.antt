@@ -1,5 +1,4 @@
-use Rattle.std.proofs.Common.{◌≡◌, ℕ, ◌+◌, Bool, ◌∙◌, subst, sym}
-use Rattle.cxl_media.specs.Blocks.{Key}
+use Rattle.std.proofs.Common.{◌+◌, ◌∙◌, ap, subst, sym, take}
 use Rattle.cxl_media.specs.Table.{Cells, NonePass, key_at}
 use Rattle.cxl_media.specs.Index.{Table}
 use Rattle.cxl_media.proofs.Indexed.{kept_index, kept_whole, frame_here}
@@ -19,3 +18,8 @@ returns-clause-later c test before =
 
 pub returns-clause-frame : goal.returns-clause-frame
 returns-clause-frame c = frame_here _ _ _ _ _ c.in-Some.cell c.self.view_is c.self.invariant c.deref_mut.ensures.value c.in-Some.ensures.value
+
+pub returns-clause-below : goal.returns-clause-below
+returns-clause-below c =
+    let whole = kept_whole _ _ _ _ _ c.self.invariant c.deref_mut.ensures.value c.self.inside.cells.ok.0 c.take_out.ensures.length in
+    ap (take c.args.at) (whole) ∙ c.take_out.ensures.below ∙ ap (take c.args.at) c.deref_mut.ensures.value ∙ ap (λ (t : Table). take c.args.at t.cells) c.self.view_is

@@ -1,4 +1,4 @@
-use Rattle.std.proofs.Common.{◌≡◌, ap, sym, ◌∙◌, length}
+use Rattle.std.proofs.Common.{ap, sym, ◌∙◌, length}
 use Rattle.std.proofs.lemmas.List.{length-replicate}
 use Rattle.cxl_pool.specs.Pool.{free_count}
 use Rattle.cxl_media.specs.Table.{frames_in}
