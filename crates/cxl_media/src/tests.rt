@@ -49,7 +49,7 @@ fn answers<M: Media>(media: &mut M, call: &Call) -> bool {
 }
 
 /// One list of calls over media of two frames: a block with bytes in two places, a full media, and scrubs.
-fn run_calls<M: Media>(rt: &impl Abort, media: &mut M) {
+fn run_calls<M: Roll>(rt: &impl Abort, media: &mut M) {
     let calls = [
         Call::Free(2),
         Call::Need(7, 0, 1),
@@ -85,6 +85,19 @@ fn run_calls<M: Media>(rt: &impl Abort, media: &mut M) {
     for (n, call) in calls.iter().enumerate() {
         assert!(rt; answers(media, call), "call {n}");
     }
+    assert_eq!(rt; places_of(media, Some(At { ep: 8, block: 0 })), 1);
+    assert_eq!(rt; places_of(media, None), media.places().saturating_sub(1));
+}
+
+/// How many places answer this.
+fn places_of<M: Roll>(media: &M, answer: Option<At>) -> u32 {
+    let mut count: u32 = 0;
+    for i in 0..media.places() {
+        if media.at(i) == answer {
+            count = count.saturating_add(1);
+        }
+    }
+    count
 }
 
 #[test]
