@@ -111,3 +111,7 @@ put_counts old new before after key bytes put taken =
     by_case : (there : Bool) → map.len new ≡ cond there (map.len old) (map.len old + 1) → after + cond there 0 1 ≡ before → after + map.len new ≡ before + map.len old
     by_case true more taken = omega arith
     by_case false more taken = omega arith
+
+-- an empty map has as many frames as are free
+pub empty_counts : (blocks : Blocks) (free frames : ℕ) → blocks ≡ map.empty → free ≡ frames → free + map.len blocks ≡ frames
+empty_counts blocks free frames none all = omega (arith, all, ap map.len none, map.len-empty key_cmp (List ℕ))

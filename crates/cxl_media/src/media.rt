@@ -27,6 +27,7 @@ pub trait Media {
         requires few { frames ≤ frame_limit }
         ensures blocks { OnOk result ((state self.new).blocks ≡ map.empty) }
         ensures free { OnOk result ((state self.new).free ≡ frames) }
+        ensures frames { OnOk result (frame_count (state self.new) ≡ frames) }
         ensures err { OnErr result (state self.new ≡ state self.old) };
 
     /// Fills `into` with the bytes from a device address on.

@@ -60,8 +60,8 @@ impl SimMedia {
     /// The frame of the block of a device address, where it is in the map.
     pub fn frame(&self, ep: u32, dpa: u64) -> Option<&Frame>
         ensures value { option_copied result ≡ map.get (frames_in self.now.cells) (key_of ep dpa) }
-        ensures there { IsSome result ↔ IsTrue (map.contains_key ((⟦<SimMedia as Media>⟧.state self.now).blocks) (key_of ep dpa)) }
-        ensures bytes { IfSome result (λ frame. frame_bytes self.now.pool frame.now ≡ map.get ((⟦<SimMedia as Media>⟧.state self.now).blocks) (key_of ep dpa)) }
+        ensures there { IsSome result ↔ IsTrue (map.contains_key (⟦<SimMedia as Media>⟧.state self.now).blocks (key_of ep dpa)) }
+        ensures bytes { IfSome result (λ frame. frame_bytes self.now.pool frame.now ≡ map.get (⟦<SimMedia as Media>⟧.state self.now).blocks (key_of ep dpa)) }
         ensures apart { IfSome result (λ frame. (key : Key) → map.get (frames_in self.now.cells) key ≡ Some frame.now → key ≡ key_of ep dpa) }
     {
         self.index.find(ep, dpa / 256)

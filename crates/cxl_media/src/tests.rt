@@ -1,4 +1,5 @@
-ghost use Rattle.std.specs.Prelude.{IsTrue};
+ghost use Rattle.std.specs.Prelude.{◌↔◌, IsTrue};
+ghost use Rattle.std.specs.FinMap.{contains_key};
 ghost use Rattle.cxl_media.specs.Blocks.{IsInOneBlock};
 
 use super::*;
@@ -85,8 +86,25 @@ fn run_calls<M: Roll>(rt: &impl Abort, media: &mut M) {
     for (n, call) in calls.iter().enumerate() {
         assert!(rt; answers(media, call), "call {n}");
     }
+    assert!(rt; is_told(media, 8, 0));
+    assert!(rt; !is_told(media, 7, 1));
     assert_eq!(rt; places_of(media, Some(At { ep: 8, block: 0 })), 1);
     assert_eq!(rt; places_of(media, None), media.places().saturating_sub(1));
+}
+
+/// Whether some place tells this block, over any media: going through all places finds each block of the map.
+fn is_told<M: Roll>(media: &M, ep: u32, block: u64) -> bool
+    ensures { IsTrue result ↔ IsTrue (contains_key (M.state media.now).blocks (ep, block)) }
+{
+    for i in 0..media.places() {
+        if let Some(at) = media.at(i)
+            && at.ep == ep
+            && at.block == block
+        {
+            return true;
+        }
+    }
+    false
 }
 
 /// How many places answer this.

@@ -2,6 +2,7 @@ use Rattle.std.proofs.Common.{ap, sym, ◌∙◌, length}
 use Rattle.std.proofs.lemmas.List.{length-replicate}
 use Rattle.cxl_pool.specs.Pool.{free_count}
 use Rattle.cxl_media.specs.Table.{frames_in}
+use Rattle.cxl_media.proofs.Items.{empty_counts}
 use Rattle.cxl_media.proofs.Sims.{no_blocks, new_sim, all_free}
 use Rattle.cxl_media.proofs.sim_media.SimMediaMedia.power_on.Goals as goal
 
@@ -13,3 +14,7 @@ invariant_of-self c =
 
 pub returns-clause-blocks : goal.returns-clause-blocks
 returns-clause-blocks c = no_blocks c.in_ok-pool.pool (frames_in c.in_ok-index.index.cells) c.in_ok-index.ensures.frames
+
+pub returns-clause-frames : goal.returns-clause-frames
+returns-clause-frames c =
+    empty_counts _ _ _ (returns-clause-blocks c) (ap free_count c.in_ok-pool.ensures ∙ all_free c.args.frames ∙ length-replicate c.args.frames _)
