@@ -1,6 +1,6 @@
 -- The windows of a table, one window more, and one of them from what the code holds.
 use Rattle.std.proofs.Common.{◌≡◌, ℕ, suc, ◌+◌, ◌≤◌, Bool, cond, List, [], ◌∷◌, ◌++◌, length, take, drop, Option, Some, refl, sym, ap, ◌∙◌, append_assoc, arith}
-use Rattle.std.specs.Prelude.{position, find, ◌==◌}
+use Rattle.std.specs.Prelude.{position, find, ◌==◌, All}
 use Rattle.std.specs.List.{filter_map, position_from}
 use Rattle.std.proofs.lemmas.List.{append-nil, length-append, take-append-drop, take_all}
 use Rattle.std.proofs.lemmas.List.Elements.{filter_map-append}
@@ -10,7 +10,7 @@ use Rattle.cxl_cedt.specs.Fields.{CfmwsFields, CximsFields}
 use Rattle.cxl_cedt.specs.Records.{kind_of, count_of}
 use Rattle.cxl_cedt.specs.declared.cedt.Record.{Record}
 use Rattle.cxl_cedt.specs.declared.cedt.Record.TheVariants.{Chbs, Cfmws, Cxims, Other}
-use Rattle.cxl_window.specs.Fields.{WindowFields}
+use Rattle.cxl_window.specs.Fields.{WindowFields, IsWindow}
 use Rattle.cxl_window.specs.Judging.{is_no_bridge}
 use Rattle.cxl_window.specs.Windows.{cfmws_in, cxims_in, first_maps, maps_in, maps_of, overlaps, judged, ranges_meet, is_missing, window_with, window_of, windows_from, windows_of}
 
@@ -76,6 +76,11 @@ module _ (records : List Record) (uids : Option (List ℕ)) where
       ∙ ap (λ o. made (length cs) o (find (is_no_bridge bridges) c.targets) (first_maps c.gran tables)) overlapped
       ∙ ap (λ m. made (length cs) (position (overlaps c) cs) m (first_maps c.gran tables)) missing
       ∙ ap (λ ms. made (length cs) (position (overlaps c) cs) (find (is_missing records uids) c.targets) ms) maps
+
+-- the windows of the first i records, each of which is one
+pub record IsSoFar (records : List Record) (uids : Option (List ℕ)) (i : ℕ) (ws : List WindowFields) : Type 0 where
+  pub are : ws ≡ windows_from records uids [] (filter_map cfmws_in (take i records))
+  pub windows : All IsWindow ws
 
 -- windows are counted among the records
 length-cfmws_in : (records : List Record) → length (filter_map cfmws_in records) ≤ count_of 1 records

@@ -1,5 +1,5 @@
 -- The windows of a table with their verdicts (CFMWS and CXIMS fields; the verdicts are this project's rule).
-use Rattle.std.specs.Prelude.{◌≡◌, ℕ, ◌+◌, ◌-◌, ◌*◌, ◌%◌, ◌^◌, ◌<◌, ◌≤◌, min, max, nat_lt, ◌==◌, ◌&&◌, ◌||◌, not, Bool, true, false, if◌then◌else◌, List, [], ◌∷◌, ◌++◌, length, take, replicate, position, find, Contains, slice_get, All, Option, Some, None, unwrap_or}
+use Rattle.std.specs.Prelude.{◌≡◌, ℕ, ◌+◌, ◌-◌, ◌*◌, ◌%◌, ◌<◌, ◌≤◌, min, max, nat_lt, ◌==◌, ◌&&◌, ◌||◌, not, Bool, true, false, if◌then◌else◌, List, [], ◌∷◌, ◌++◌, length, take, replicate, position, find, Contains, slice_get, All, Option, Some, None, unwrap_or}
 use Rattle.std.specs.List.{filter_map, list_any}
 use Rattle.std.specs.Option.{option_map, option_map_or}
 use Rattle.cxl_enc.specs.Codes.{ways_of, bits_of}
@@ -8,7 +8,9 @@ use Rattle.cxl_cedt.specs.declared.cedt.Record.{Record}
 use Rattle.cxl_cedt.specs.declared.cedt.Record.TheVariants.{Chbs, Cfmws, Cxims, Other}
 use Rattle.cxl_window.specs.declared.window.Verdict.{Verdict}
 use Rattle.cxl_window.specs.declared.window.Verdict.TheVariants.{Usable, Align, Size, TooHigh, Overlap, Target, Repeat, Maps}
-use Rattle.cxl_window.specs.Fields.{WindowFields, unit, are_usable_maps, IsUsable}
+use Rattle.cxl_enc.specs.Limits.{unit, address_limit}
+use Rattle.cxl_num.specs.Maps.{are_usable_maps}
+use Rattle.cxl_window.specs.Fields.{WindowFields, IsWindow, IsUsable}
 
 -- ---- the table's records
 
@@ -76,7 +78,7 @@ abbrev pub judged : Option ℕ → Option ℕ → Option (List ℕ) → CfmwsFie
 judged overlapped missing maps c =
     if not (c.base % unit == 0) then Align
     else (if (c.size == 0) || not (c.size % (unit * ways_in c) == 0) then Size
-    else (if nat_lt (2 ^ 52) (c.base + c.size) then TooHigh
+    else (if nat_lt address_limit (c.base + c.size) then TooHigh
     else option_map_or Overlap overlapped
     (option_map_or Target missing
     (option_map_or Repeat (first_repeat [] c.targets)
@@ -130,6 +132,7 @@ AreApart w v =
     → v.base ≤ h → h < v.base + v.size → w.index ≡ v.index
 
 pub record AreMadeWith (windows : List WindowFields) (bridges : List ℕ) : Type 0 where
+  pub each : All IsWindow windows
   pub indexed : (i : ℕ) (w : WindowFields) → slice_get windows i ≡ Some w → w.index ≡ i
   pub usable : All (λ w. w.verdict ≡ Usable → IsUsable w × All (λ u. Contains bridges u) w.targets) windows
   pub apart : (w v : WindowFields) → Contains windows w → Contains windows v → AreApart w v

@@ -1,15 +1,12 @@
-ghost use Rattle.std.specs.Prelude.{◌≡◌, ◌==◌, ◌<◌, ◌+◌, ◌*◌, ◌%◌, ◌^◌, ◌||◌, not, nat_lt, length, IsTrue, IfSome, [], position};
+ghost use Rattle.std.specs.Prelude.{◌≡◌, ◌==◌, ◌<◌, ◌+◌, ◌*◌, ◌%◌, ◌||◌, not, nat_lt, length, IsTrue, IfSome, [], position};
 ghost use Rattle.cxl_enc.specs.Codes.{is_ways};
-ghost use Rattle.cxl_window.specs.Fields.{unit};
+ghost use Rattle.cxl_enc.specs.Limits.{unit, address_limit};
 ghost use Rattle.cxl_window.specs.Windows.{ways_in, ranges_meet, first_repeat};
 
 use crate::window::Window;
 use cxl_cedt::Cfmws;
-use cxl_enc::ways_of;
+use cxl_enc::{ADDRESS_LIMIT, UNIT, ways_of};
 use cxl_num::checked_end;
-
-/// 256 MiB, of which a window's base and its size for each way are multiples.
-const UNIT: u64 = 0x1000_0000;
 
 /// The number of ways.
 pub(crate) fn ways_in(cfmws: &Cfmws) -> u8
@@ -35,9 +32,9 @@ pub(crate) fn is_uneven(cfmws: &Cfmws) -> bool
 
 /// Whether the end exceeds 2^52.
 pub(crate) fn is_too_high(cfmws: &Cfmws) -> bool
-    ensures { result ≡ nat_lt (2 ^ 52) (cfmws.now.base + cfmws.now.size) }
+    ensures { result ≡ nat_lt address_limit (cfmws.now.base + cfmws.now.size) }
 {
-    checked_end(cfmws.base(), cfmws.size()).is_none_or(|end| end > 1 << 52)
+    checked_end(cfmws.base(), cfmws.size()).is_none_or(|end| end > ADDRESS_LIMIT)
 }
 
 /// The place of the first window that shares an address with this one.

@@ -1,14 +1,16 @@
 ghost use Rattle.std.specs.Prelude.{◌≡◌, ◌≤◌, ℕ, length, IfOk, find, unwrap_or, []};
 ghost use Rattle.std.specs.Option.{option_copied};
 ghost use Rattle.std.specs.List.{filter_map};
+ghost use Rattle.cxl_window.specs.Fields.{IsWindow};
 ghost use Rattle.cxl_window.specs.Judging.{is_no_bridge, tables_behind};
 ghost use Rattle.cxl_window.specs.Windows.{is_missing, topology_has, cxims_in, lacks_maps, maps_of};
 
 use crate::cfmws::{first_overlapped, first_repeat, is_aligned, is_too_high, is_uneven, ways_in};
+use crate::padding::padded_maps;
 use crate::window::{Verdict, Window};
-use crate::xor_maps::{are_usable_maps, padded_maps};
 use cxl_cedt::{Cfmws, Cxims, Record};
 use cxl_enc::{Memory, split};
+use cxl_num::are_usable_maps;
 use std::alloc::Global;
 
 /// What windows are judged against.
@@ -44,7 +46,8 @@ impl<'a> Judge<'a> {
         cfmws: &Cfmws,
     ) -> Result<Window, Memory>
         requires few { length before.now ≤ 64 }
-        ensures { IfOk result (λ w. w ≡ window_by self.now before.now cfmws.now) }
+        ensures value { IfOk result (λ w. w ≡ window_by self.now before.now cfmws.now) }
+        ensures window { IfOk result IsWindow }
     {
         let verdict = self.verdict(before, cfmws);
         let maps = self.used_maps(cfmws);

@@ -1,11 +1,12 @@
 -- XOR maps: the parities of an address under them, and the address bits that they choose by (CXIMS).
 use Rattle.std.specs.Prelude.{ℕ, zero, suc, ◌+◌, ◌-◌, ◌*◌, ◌/◌, ◌%◌, ◌^◌, nat_lt, ◌==◌, ◌&&◌, bit_and, count_ones, Bool, true, false, List, [], ◌∷◌}
+use Rattle.cxl_enc.specs.Limits.{address_limit}
 
 -- Map i of a granularity code and k bits: its lowest set bit is bit code + 8 + i, no other bit up to
 -- code + 7 + k is set, and none above bit 51.
 abbrev pub is_usable_map : ℕ → ℕ → ℕ → ℕ → Bool
 is_usable_map gran k i map =
-    (map % 2 ^ (gran + 8 + i) == 0) && (map / 2 ^ (gran + 8 + i) % 2 ^ (k - i) == 1) && nat_lt map (2 ^ 52)
+    (map % 2 ^ (gran + 8 + i) == 0) && (map / 2 ^ (gran + 8 + i) % 2 ^ (k - i) == 1) && nat_lt map address_limit
 
 -- the maps from i on, up to k of them, are there and usable
 abbrev pub are_usable_from : ℕ → ℕ → ℕ → ℕ → List ℕ → Bool

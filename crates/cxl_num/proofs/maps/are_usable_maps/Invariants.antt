@@ -1,6 +1,6 @@
 use Rattle.std.proofs.Common.{◌≡◌, ◌-◌, drop}
-use Rattle.cxl_window.specs.Fields.{are_usable_from, are_usable_maps}
-use Rattle.cxl_window.proofs.xor_maps.are_usable_maps.Given as goal
+use Rattle.cxl_num.specs.Maps.{are_usable_from, are_usable_maps}
+use Rattle.cxl_num.proofs.maps.are_usable_maps.Given as goal
 
 -- the maps from i on decide
 abbrev pub invariant-loop-i : goal.invariant-loop-i

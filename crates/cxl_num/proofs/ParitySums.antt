@@ -2,7 +2,7 @@
 use Rattle.std.proofs.Common.{◌≡◌, ℕ, suc, ◌+◌, ◌-◌, ◌*◌, ◌^◌, ◌<◌, ◌≤◌, List, length, get_or, drop, ap, ◌∙◌, arith}
 use Rattle.std.proofs.Math.Seq.{drop-cons}
 use Rattle.std.proofs.Math.Nat.{pow-suc}
-use Rattle.cxl_window.specs.Position.{parities, parity_under}
+use Rattle.cxl_num.specs.Maps.{parities, parity_under}
 
 -- the parities under the maps from i on, by those under the maps behind it
 parities-drop : (maps : List ℕ) (h bits i : ℕ) → i < bits → bits ≤ length maps

@@ -1,7 +1,7 @@
 use Rattle.std.proofs.Common.{◌^◌}
 use Rattle.std.proofs.lemmas.Nat.{pow-add}
 use Rattle.std.proofs.Math.Nat.{mul_comm}
-use Rattle.cxl_window.proofs.slot.chunk_of.Goals as goal
+use Rattle.cxl_window.proofs.position.chunk_of.Goals as goal
 
 pub returns : goal.returns
 returns c =

@@ -3,7 +3,7 @@ use Rattle.std.proofs.Common.{◌≡◌, ℕ, suc, ◌-◌, ◌<◌, ◌≤◌, 
 use Rattle.std.specs.Prelude.{◌&&◌}
 use Rattle.std.proofs.Math.Seq.{drop-cons}
 use Rattle.std.proofs.lemmas.List.{drop_all}
-use Rattle.cxl_window.specs.Fields.{is_usable_map, are_usable_from}
+use Rattle.cxl_num.specs.Maps.{is_usable_map, are_usable_from}
 
 -- map i is there
 pub are_usable_from-there : (maps : List ℕ) (gran bits i map : ℕ) → i < bits → i < length maps → map ≡ get_or maps i map

@@ -1,9 +1,10 @@
 -- The raw bits of an address, read and replaced.
 use Rattle.std.proofs.Common.{◌≡◌, ℕ, ◌+◌, ◌-◌, ◌*◌, ◌/◌, ◌%◌, ◌^◌, ◌<◌, ◌≤◌, sym, ap, ◌∙◌, subst, arith}
-use Rattle.std.proofs.Math.Pow.{pow_pos}
-use Rattle.std.proofs.Math.Nat.{mod-lt, div-lt_iff_lt-mul}
-use Rattle.std.proofs.lemmas.Nat.{pow-add, shr-shr, shr_high, mod_low, shr_split, shr_below}
-use Rattle.cxl_deal.specs.Maps.{with_raw_bits}
+use Rattle.std.proofs.Math.Pow.{pow_pos, pow_mono}
+use Rattle.std.proofs.Math.Nat.{mod-lt, mod-eq_of_lt, div-lt_iff_lt-mul}
+use Rattle.std.proofs.lemmas.Nat.{pow-add, shr-shr, shr_high, mod_low, shr_split, shr_below, shl_below}
+use Rattle.cxl_num.specs.Maps.{with_raw_bits}
+use Rattle.cxl_num.specs.Laws.{RawBitsAreReplaced}
 
 -- the k bits of an address from its granularity on
 abbrev pub raw_bits : ℕ → ℕ → ℕ → ℕ
@@ -79,3 +80,38 @@ module _ (gran k h : ℕ) where
       let upper_too : with_raw_bits gran k h raw / 2 ^ (gran + 8 + k) < 2 ^ rest =
       subst (λ (j : ℕ). j < 2 ^ rest) (sym (with-above raw small)) upper in
       subst (λ (j : ℕ). with_raw_bits gran k h raw < j) whole_power ((div-lt_iff_lt-mul (pow_pos (gran + 8 + k))).0 upper_too)
+
+  pub with-chunk : (raw : ℕ) → with_raw_bits gran k h raw / 2 ^ (gran + 8)
+      ≡ h / 2 ^ (gran + 8) - h / 2 ^ (gran + 8) % 2 ^ k + raw
+  with-chunk raw = omega (arith, with-quotient raw, quotient-parts)
+
+pub raw_bits_replaced : RawBitsAreReplaced
+raw_bits_replaced = record {
+  chunk = λ gran k h raw. with-chunk gran k h raw;
+  rest = λ gran k h raw. with-rest gran k h raw;
+  own = λ gran k h. with-same gran k h;
+  again = λ gran k h raw other small. with-with gran k h raw other small;
+  below = λ gran k h limit raw within small fits. with-below gran k h limit raw within small fits;
+}
+
+-- ---- the step in the code
+
+-- raw bits moved up by the shift are a whole word
+pub raw_shift : (gran k raw : ℕ) → gran ≤ 6 → k ≤ 4 → raw < 2 ^ k
+    → (raw * 2 ^ (gran + 8) % 2 ^ 64 ≡ raw * 2 ^ (gran + 8)) × (raw * 2 ^ (gran + 8) < 2 ^ 18)
+raw_shift gran k raw known few small =
+    let within : k + (gran + 8) ≤ 18 = omega arith in
+    let below : raw * 2 ^ (gran + 8) < 2 ^ 18 =
+    omega (arith, shl_below raw k (gran + 8) small, pow_mono {i = k + (gran + 8)} {j = 18} within) in
+    let fits : raw * 2 ^ (gran + 8) < 2 ^ 64 = omega arith in
+    (mod-eq_of_lt fits, below)
+
+-- the word that the code makes
+pub with-words : (gran k h raw : ℕ) → gran ≤ 6 → k ≤ 4 → raw < 2 ^ k
+    → h - h / 2 ^ (gran + 8) % 2 ^ k * 2 ^ (gran + 8) % 2 ^ 64 + raw * 2 ^ (gran + 8) % 2 ^ 64 ≡ with_raw_bits gran k h raw
+with-words gran k h raw known few small =
+    let own_is = (raw_shift gran k (raw_bits gran k h) known few (raw_bits-below gran k h)).0 in
+    let raw_is = (raw_shift gran k raw known few small).0 in
+    ap (λ (j : ℕ). h - j + raw * 2 ^ (gran + 8) % 2 ^ 64) own_is
+    ∙ ap (λ (j : ℕ). h - raw_bits gran k h * 2 ^ (gran + 8) + j) raw_is
+    ∙ sym (with-moved gran k h raw)

@@ -8,9 +8,9 @@ use Rattle.std.proofs.Math.Pow.{pow_pos}
 use Rattle.std.proofs.Math.Nat.{mod-lt, pow-suc}
 use Rattle.std.proofs.lemmas.Nat.{and_block, and_mask, shr_split, xor_shr, pow_below, shr-shr}
 use Rattle.std.proofs.lemmas.Bool.{and_parts, eqb-true, false≢true}
-use Rattle.cxl_deal.specs.Maps.{is_usable_map, are_usable_from, are_usable_maps, parity_under, parities, with_raw_bits}
-use Rattle.cxl_deal.proofs.RawBits.{raw_bits}
-use Rattle.cxl_deal.proofs.RawBits.{with-quotient, quotient-parts, raw_bits-below}
+use Rattle.cxl_num.specs.Maps.{is_usable_map, are_usable_from, are_usable_maps, parity_under, parities, with_raw_bits}
+use Rattle.cxl_num.specs.Laws.{ParitiesTellRawBits}
+use Rattle.cxl_num.proofs.RawBits.{raw_bits, with-quotient, quotient-parts, raw_bits-below}
 
 -- ---- digits
 
@@ -181,3 +181,11 @@ module _ (gran k : ℕ) (maps : List ℕ) (usable : IsTrue (are_usable_maps gran
       let turned_too = parities_turned g bare x raw (sym same
       ∙ of_h) (with-quotient gran k h 0) (raw_bits-below gran k h) in
       turned ∙ sym turned_too
+
+pub parities_told : ParitiesTellRawBits
+parities_told = record {
+  below = λ k h maps. parities-below k maps h;
+  turned = λ gran k h raw maps usable small. parities-with gran k maps usable h raw small;
+  back = λ gran k h raw maps usable small. parities-with_parities gran k maps usable h raw small;
+  chunk = λ gran k h g maps usable same. parities-chunk gran k maps usable h g same;
+}

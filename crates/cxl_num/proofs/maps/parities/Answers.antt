@@ -1,6 +1,6 @@
 use Rattle.std.proofs.Common.{◌≡◌, ℕ, suc, ◌-◌, arith}
-use Rattle.cxl_window.proofs.Parities.{IsSumFrom-front}
-use Rattle.cxl_window.proofs.slot.parities_of.Goals as goal
+use Rattle.cxl_num.proofs.ParitySums.{IsSumFrom-front}
+use Rattle.cxl_num.proofs.maps.parities.Goals as goal
 
 pub loop-i-preserved : goal.loop-i-preserved
 loop-i-preserved c =

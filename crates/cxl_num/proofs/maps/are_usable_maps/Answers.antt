@@ -1,6 +1,6 @@
 use Rattle.std.proofs.Common.{◌≡◌, ◌<◌, ◌≤◌, length, get_or, sym, ◌∙◌, rules, add-one}
-use Rattle.cxl_window.proofs.MapTests.{are_usable_from-there, are_usable_from-past}
-use Rattle.cxl_window.proofs.xor_maps.are_usable_maps.Goals as goal
+use Rattle.cxl_num.proofs.MapTests.{are_usable_from-there, are_usable_from-past}
+use Rattle.cxl_num.proofs.maps.are_usable_maps.Goals as goal
 
 pub returns-in_default : goal.returns-in_default
 returns-in_default c =
