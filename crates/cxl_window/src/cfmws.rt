@@ -1,7 +1,7 @@
 ghost use Rattle.std.specs.Prelude.{◌≡◌, ◌==◌, ◌<◌, ◌+◌, ◌*◌, ◌%◌, ◌||◌, not, nat_lt, length, IsTrue, IfSome, [], position};
 ghost use Rattle.cxl_enc.specs.Codes.{is_ways};
 ghost use Rattle.cxl_enc.specs.Limits.{unit, address_limit};
-ghost use Rattle.cxl_window.specs.Windows.{ways_in, ranges_meet, first_repeat};
+ghost use Rattle.cxl_window.specs.Windows.{cfmws_ways, ranges_meet, first_repeat};
 
 use crate::window::Window;
 use cxl_cedt::Cfmws;
@@ -9,8 +9,8 @@ use cxl_enc::{ADDRESS_LIMIT, UNIT, ways_of};
 use cxl_num::checked_end;
 
 /// The number of ways.
-pub(crate) fn ways_in(cfmws: &Cfmws) -> u8
-    ensures value { result ≡ ways_in cfmws.now }
+pub(crate) fn cfmws_ways(cfmws: &Cfmws) -> u8
+    ensures value { result ≡ cfmws_ways cfmws.now }
     ensures known { IsTrue (is_ways result) }
     ensures targets { result ≡ length cfmws.now.targets }
 {
@@ -25,9 +25,9 @@ pub(crate) fn is_aligned(cfmws: &Cfmws) -> bool
 
 /// Whether there is no byte, or the bytes are no multiple of 256 MiB for each way.
 pub(crate) fn is_uneven(cfmws: &Cfmws) -> bool
-    ensures { result ≡ ((cfmws.now.size == 0) || not (cfmws.now.size % (unit * ways_in cfmws.now) == 0)) }
+    ensures { result ≡ ((cfmws.now.size == 0) || not (cfmws.now.size % (unit * cfmws_ways cfmws.now) == 0)) }
 {
-    cfmws.size() == 0 || cfmws.size() % (UNIT * u64::from(ways_in(cfmws))) != 0
+    cfmws.size() == 0 || cfmws.size() % (UNIT * u64::from(cfmws_ways(cfmws))) != 0
 }
 
 /// Whether the end exceeds 2^52.

@@ -1,7 +1,7 @@
 ghost use Rattle.std.specs.Prelude.{◌≡◌, ◌≤◌, IsTrue, length};
 ghost use Rattle.cxl_enc.specs.Codes.{is_ways, bits_of};
 
-use crate::cfmws::ways_in;
+use crate::cfmws::cfmws_ways;
 use cxl_cedt::Cfmws;
 use cxl_enc::{FixedList, Memory};
 use std::alloc::Global;
@@ -76,7 +76,7 @@ impl Window {
             index,
             base: cfmws.base(),
             size: cfmws.size(),
-            ways: ways_in(cfmws),
+            ways: cfmws_ways(cfmws),
             gran: cfmws.gran(),
             xor: cfmws.xor(),
             maps,

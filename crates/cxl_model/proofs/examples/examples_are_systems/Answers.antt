@@ -1,4 +1,4 @@
-use Rattle.std.proofs.Common.{refl, [], arith}
+use Rattle.std.proofs.Common.{refl, arith}
 use Rattle.std.proofs.lemmas.Bool.{false≢true}
 use Rattle.cxl_window.specs.Fields.{IsWindow, IsUsable}
 use Rattle.cxl_model.specs.System.{bridge_uids}

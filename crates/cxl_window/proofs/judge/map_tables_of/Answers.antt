@@ -3,8 +3,8 @@ use Rattle.std.proofs.lemmas.List.{map-append}
 use Rattle.cxl_cedt.specs.Fields.{CximsFields}
 use Rattle.cxl_window.proofs.FilterMaps.{filter_map_more_some, filter_map_more_none, cxims_in-other}
 use Rattle.cxl_window.specs.Windows.{cxims_in}
-use Rattle.cxl_window.proofs.judge.tables_of.Goals as goal
-use Rattle.cxl_window.proofs.judge.tables_of.Goals.{in-Cxims+in_ok-push, in_default}
+use Rattle.cxl_window.proofs.judge.map_tables_of.Goals as goal
+use Rattle.cxl_window.proofs.judge.map_tables_of.Goals.{in-Cxims+in_ok-push, in_default}
 
 pub loop-record-preserved : goal.loop-record-preserved
 loop-record-preserved c =
