@@ -4,9 +4,8 @@ use Rattle.std.proofs.Math.Arith.{mod-mul}
 use Rattle.std.proofs.Math.Pow.{pow_pos}
 use Rattle.std.proofs.Math.Nat.{mod-lt, mul_comm, div-div-eq-div-mul, add-mul-div_right, add-mul-mod_self_right}
 use Rattle.std.proofs.lemmas.Nat.{shr_split, mod-pow-add, div-mul-add, mod-mul-add, mul-add-lt}
-use Rattle.cxl_deal.specs.Maps.{with_raw_bits}
-use Rattle.cxl_deal.specs.Weaves.{unit}
-use Rattle.cxl_deal.proofs.RawBits.{with-quotient, quotient-parts}
+use Rattle.cxl_enc.specs.Limits.{unit}
+use Rattle.cxl_num.specs.Maps.{with_raw_bits}
 
 -- ---- an aligned base
 
@@ -15,7 +14,7 @@ aligned-parts : (base n : ℕ) → base % unit ≡ 0 → n ≤ 28 → base ≡ b
 aligned-parts base n aligned few =
     let rest = 28 - n in
     let whole : 28 ≡ rest + n = omega arith in
-    let low : base % 2 ^ 28 ≡ (base / 2 ^ n % 2 ^ rest) * 2 ^ n + base % 2 ^ n =
+    let low : base % unit ≡ (base / 2 ^ n % 2 ^ rest) * 2 ^ n + base % 2 ^ n =
     ap (λ (j : ℕ). base % 2 ^ j) whole ∙ mod-pow-add base rest n in
     omega (arith, shr_split base n)
 
@@ -44,11 +43,6 @@ with-base base gran k o raw aligned few =
     ∙ omega arith
 
 -- ---- chunk numbers by digits
-
--- the chunk of an address whose raw bits are replaced
-pub with-chunk : (gran k o raw : ℕ) → with_raw_bits gran k o raw / 2 ^ (gran + 8)
-    ≡ o / 2 ^ (gran + 8) - o / 2 ^ (gran + 8) % 2 ^ k + raw
-with-chunk gran k o raw = omega (arith, with-quotient gran k o raw, quotient-parts gran k o)
 
 module _ (c k v raw : ℕ) (some : 0 < v) (small : raw < 2 ^ k) where
   -- the low digits of a chunk number replaced

@@ -1,8 +1,7 @@
 pub mod Ways
-pub mod Parities
-pub mod RawBits
 pub mod Chunks
 pub mod Swapping
 pub mod Turns
 pub mod Places
+pub mod Digits
 pub mod StepLemmas

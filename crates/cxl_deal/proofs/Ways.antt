@@ -4,7 +4,11 @@ use Rattle.std.specs.Prelude.{Bool, true, false}
 use Rattle.std.proofs.Math.Pow.{pow_pos, pow_mono}
 use Rattle.std.proofs.lemmas.Bool.{cases_lt}
 use Rattle.std.proofs.lemmas.Nat.{pow-add}
-use Rattle.cxl_deal.specs.Weaves.{ways_by, chunk_size}
+use Rattle.cxl_num.specs.Interleave.{factor_of, ways_by, chunk_size}
+
+pub factor_of-pos : (third : Bool) → 0 < factor_of third
+factor_of-pos true = omega arith
+factor_of-pos false = omega arith
 
 pub ways_by-pos : (third : Bool) (k : ℕ) → 0 < ways_by third k
 ways_by-pos true k = omega (arith, pow_pos k)

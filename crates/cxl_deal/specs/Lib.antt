@@ -1,4 +1,3 @@
-pub mod Maps
 pub mod Weaves
 pub mod WeaveInside
 pub mod Swaps

@@ -1,7 +1,9 @@
 -- How a region's bytes are dealt over its slots (CXL interleave arithmetic; that chunks are counted from the
 -- region's base, also for the remainder by three under XOR, is this project's rule).
-use Rattle.std.specs.Prelude.{◌≡◌, ℕ, ◌+◌, ◌-◌, ◌*◌, ◌/◌, ◌%◌, ◌^◌, ◌≤◌, Bool, IsTrue, if◌then◌else◌, List}
-use Rattle.cxl_deal.specs.Maps.{are_usable_maps, parities}
+use Rattle.std.specs.Prelude.{◌≡◌, ℕ, ◌+◌, ◌-◌, ◌*◌, ◌/◌, ◌%◌, ◌≤◌, Bool, IsTrue, List}
+use Rattle.cxl_enc.specs.Limits.{unit}
+use Rattle.cxl_num.specs.Maps.{are_usable_maps}
+use Rattle.cxl_num.specs.Interleave.{chunk_size, chunk_from, factor_of, ways_by, low_by, position_by, slot_by}
 
 -- a region's base and granularity code, its ways, and the arithmetic and maps of its window
 pub record WeaveFields : Type 0 where
@@ -12,18 +14,6 @@ pub record WeaveFields : Type 0 where
   pub low_bits : ℕ
   pub xor : Bool
   pub maps : List ℕ
-
--- 256 MiB
-abbrev pub unit : ℕ
-unit = 2 ^ 28
-
--- bytes of a granularity code
-abbrev pub chunk_size : ℕ → ℕ
-chunk_size gran = 256 * 2 ^ gran
-
--- t * 2 ^ k, with t 3 or 1
-abbrev pub ways_by : Bool → ℕ → ℕ
-ways_by third k = (if third then 3 else 1) * 2 ^ k
 
 abbrev pub weave_ways : WeaveFields → ℕ
 weave_ways w = ways_by w.third (w.root_bits + w.low_bits)
@@ -41,16 +31,23 @@ pub record IsWeave (w : WeaveFields) : Type 0 where
 
 -- the number of the chunk that holds the address, from the base
 abbrev pub dealt_chunk : WeaveFields → ℕ → ℕ
-dealt_chunk w h = (h - w.base) / chunk_size w.gran
+dealt_chunk w h = chunk_from w.base w.gran h
 
 -- the root's part of the slot: the chunk's low bits, or the parities under XOR
 abbrev pub dealt_low : WeaveFields → ℕ → ℕ
-dealt_low w h = if w.xor then parities w.root_bits w.maps h else dealt_chunk w h % 2 ^ w.root_bits
+dealt_low w h = low_by w.xor w.root_bits w.maps h (dealt_chunk w h)
 
 -- the slot to which the address is dealt
 abbrev pub dealt_slot : WeaveFields → ℕ → ℕ
-dealt_slot w h = dealt_chunk w h % weave_ways w - dealt_chunk w h % 2 ^ w.root_bits + dealt_low w h
+dealt_slot w h = slot_by w.root_bits (weave_ways w) (dealt_low w h) (dealt_chunk w h)
 
 -- how far into the slot's span it is dealt
 abbrev pub dealt_offset : WeaveFields → ℕ → ℕ
 dealt_offset w h = dealt_chunk w h / weave_ways w * chunk_size w.gran + (h - w.base) % chunk_size w.gran
+
+-- The position of the address in a window that begins at `base` and has the weave's granularity, the root's
+-- ways, and the same arithmetic and maps.
+abbrev pub position_from : ℕ → WeaveFields → ℕ → ℕ
+position_from base w h =
+    let chunk = chunk_from base w.gran h in
+    position_by w.root_bits (factor_of w.third) (low_by w.xor w.root_bits w.maps h chunk) chunk

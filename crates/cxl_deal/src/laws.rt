@@ -1,22 +1,11 @@
 //! Laws of dealing, each the contract of a function that does nothing.
 
-ghost use Rattle.std.specs.Prelude.{◌≡◌, ℕ, ◌+◌, ◌-◌, ◌*◌, ◌/◌, ◌%◌, ◌^◌, ◌<◌, ◌≤◌, IsTrue, List, bit_xor};
-ghost use Rattle.cxl_deal.specs.Maps.{are_usable_maps, parities, with_raw_bits};
-ghost use Rattle.cxl_deal.specs.Weaves.{WeaveFields, IsWeave, chunk_size, ways_by, weave_ways, turns_end, dealt_chunk, dealt_low, dealt_slot, dealt_offset};
+ghost use Rattle.std.specs.Prelude.{◌≡◌, ℕ, ◌+◌, ◌-◌, ◌*◌, ◌/◌, ◌%◌, ◌^◌, ◌<◌, ◌≤◌};
+ghost use Rattle.cxl_enc.specs.Limits.{unit};
+ghost use Rattle.cxl_num.specs.Interleave.{chunk_size, factor_of, ways_by};
+ghost use Rattle.cxl_deal.specs.Weaves.{WeaveFields, IsWeave, weave_ways, turns_end, dealt_chunk, dealt_low, dealt_slot, dealt_offset, position_from};
 
-/// A law of XOR maps: with the rest of an address given, its raw bits and its parities tell each other.
-pub fn parities_tell_raw_bits()
-    ensures below { (k h : ℕ) (maps : List ℕ) → parities k maps h < 2 ^ k }
-    // Each raw bit turns the parity under its own map alone.
-    ensures turned { (gran k h raw : ℕ) (maps : List ℕ) → IsTrue (are_usable_maps gran k maps)
-        → raw < 2 ^ k
-        → parities k maps (with_raw_bits gran k h raw)
-        ≡ bit_xor raw (parities k maps (with_raw_bits gran k h 0)) }
-    // The parities, put as raw bits, have the raw bits as parities.
-    ensures back { (gran k h raw : ℕ) (maps : List ℕ) → IsTrue (are_usable_maps gran k maps)
-        → raw < 2 ^ k
-        → parities k maps (with_raw_bits gran k h (parities k maps (with_raw_bits gran k h raw))) ≡ raw }
-{}
+use cxl_num::{parities_tell_raw_bits, raw_bits_are_replaced, remainders_keep_digits};
 
 /// A law of dealing: the lowest `root_bits` digits of a slot are the root's part, and those above count
 /// the chunk's round of the root's places, modulo `t * 2^low_bits`.
@@ -24,13 +13,18 @@ pub fn slot_digits()
     ensures low { (w : WeaveFields) (h : ℕ) → dealt_slot w h % 2 ^ w.root_bits ≡ dealt_low w h }
     ensures upper { (w : WeaveFields) (h : ℕ) → dealt_slot w h / 2 ^ w.root_bits
         ≡ dealt_chunk w h / 2 ^ w.root_bits % ways_by w.third w.low_bits }
-{}
+{
+    parities_tell_raw_bits();
+}
 
 /// A law of dealing: slot and offset tell the address.
 pub fn place_tells_address()
     ensures { (w : WeaveFields) (h i : ℕ) → IsWeave w → w.base ≤ h → w.base ≤ i
         → dealt_slot w h ≡ dealt_slot w i → dealt_offset w h ≡ dealt_offset w i → h ≡ i }
-{}
+{
+    raw_bits_are_replaced();
+    parities_tell_raw_bits();
+}
 
 /// A law of dealing: the addresses of a region of n whole turns are those that are dealt to offsets
 /// below n chunks, and each such offset of each slot is hit.
@@ -44,7 +38,10 @@ pub fn region_fills_slots()
         → offset < n * chunk_size w.gran
         → (h : ℕ) × (w.base ≤ h) × (h < turns_end w n)
         × (dealt_slot w h ≡ slot) × (dealt_offset w h ≡ offset) }
-{}
+{
+    raw_bits_are_replaced();
+    parities_tell_raw_bits();
+}
 
 /// A law of dealing: the addresses of one chunk have one slot and offsets that follow each other.
 pub fn chunks_deal_whole()
@@ -54,4 +51,30 @@ pub fn chunks_deal_whole()
     ensures offset { (w : WeaveFields) (h d : ℕ) → IsWeave w → w.base ≤ h
         → (h - w.base) % chunk_size w.gran + d < chunk_size w.gran
         → dealt_offset w (h + d) ≡ dealt_offset w h + d }
-{}
+{
+    raw_bits_are_replaced();
+    parities_tell_raw_bits();
+}
+
+/// A law of dealing: a slot tells an address's position in the window, where the weave has the window's
+/// granularity, ways, arithmetic and maps for its root, and begins a multiple of 256 MiB (of three times
+/// that, where three divides the ways) behind the window's `base`.
+pub fn slots_keep_positions()
+    ensures { (w : WeaveFields) (base h : ℕ) → IsWeave w → base ≤ w.base
+        → (w.base - base) % (factor_of w.third * unit) ≡ 0 → w.base ≤ h
+        → position_from base w h ≡ dealt_slot w h % 2 ^ w.root_bits
+        + 2 ^ w.root_bits * (dealt_slot w h / 2 ^ w.root_bits % factor_of w.third) }
+{
+    parities_tell_raw_bits();
+}
+
+/// A law of dealing: where `q * p` divides `2^low_bits`, the digit of a slot at `2^root_bits * q` to the
+/// base p is the entry to which a port of p ways sends the address, whose granularity is as many chunks.
+pub fn slots_keep_entries()
+    ensures { (w : WeaveFields) (h q p m : ℕ) → 2 ^ w.low_bits ≡ m * (q * p)
+        → dealt_slot w h / (2 ^ w.root_bits * q) % p
+        ≡ (h - w.base) / (chunk_size w.gran * 2 ^ w.root_bits * q) % p }
+{
+    parities_tell_raw_bits();
+    remainders_keep_digits();
+}

@@ -9,7 +9,8 @@ mod steps;
 mod weave;
 
 pub use laws::{
-    chunks_deal_whole, parities_tell_raw_bits, place_tells_address, region_fills_slots, slot_digits,
+    chunks_deal_whole, place_tells_address, region_fills_slots, slot_digits, slots_keep_entries,
+    slots_keep_positions,
 };
 pub use steps::Dealt;
 pub use weave::{Weave, deal, gather};

@@ -1,5 +1,7 @@
-ghost use Rattle.std.specs.Prelude.{◌+◌, ◌/◌, ◌^◌, ◌<◌, ◌≤◌};
-ghost use Rattle.cxl_deal.specs.Weaves.{chunk_size, weave_ways, turns_end};
+ghost use Rattle.std.specs.Prelude.{◌+◌, ◌/◌, ◌<◌, ◌≤◌};
+ghost use Rattle.cxl_enc.specs.Limits.{address_limit};
+ghost use Rattle.cxl_num.specs.Interleave.{chunk_size};
+ghost use Rattle.cxl_deal.specs.Weaves.{weave_ways, turns_end};
 
 use super::*;
 use std::process::Abort;
@@ -7,9 +9,9 @@ use std::process::Abort;
 /// The address is dealt to this place, and gathered from it.
 fn check(rt: &impl Abort, weave: &Weave, h: u64, slot: u32, offset: u64)
     requires from { weave.now.base ≤ h }
-    requires below { h < 2 ^ 52 }
+    requires below { h < address_limit }
     requires slot_below { slot < weave_ways weave.now }
-    requires fits { turns_end weave.now (offset / chunk_size weave.now.gran + 1) ≤ 2 ^ 52 }
+    requires fits { turns_end weave.now (offset / chunk_size weave.now.gran + 1) ≤ address_limit }
 {
     assert_eq!(rt; deal(weave, h), Dealt { slot, offset }, "of {h}");
     assert_eq!(rt; gather(weave, slot, offset), h, "of {slot} and {offset}");
@@ -47,10 +49,24 @@ fn deals_by_parities(rt: HostRuntime) {
 }
 
 #[test]
+fn keeps_fields(rt: HostRuntime) {
+    let maps = [0x40_4100, 0, 0, 0];
+    let six = Weave::new(0x1_0000_0000, 0, 1, true, 0, true, maps);
+    assert_eq!(rt; (six.ways(), six.base(), six.gran()), (6, 0x1_0000_0000, 0));
+    assert_eq!(rt;
+        (six.root_bits(), six.third(), six.low_bits()),
+        (1, true, 0)
+    );
+    assert_eq!(rt; six.xor(), true);
+    assert_eq!(rt; six.maps(), maps);
+}
+
+#[test]
 fn states_laws() {
-    parities_tell_raw_bits();
     slot_digits();
     place_tells_address();
     region_fills_slots();
     chunks_deal_whole();
+    slots_keep_positions();
+    slots_keep_entries();
 }

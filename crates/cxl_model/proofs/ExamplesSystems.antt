@@ -16,7 +16,7 @@ use Rattle.cxl_topo.specs.Faults.{fits, are_too_many, lacks_parent, has_taken_po
 use Rattle.cxl_regs.specs.declared.decoder.Decoder.{Decoder}
 use Rattle.cxl_regs.specs.Registers.{Registers, IsAligned, IsDecoder, IsBlock}
 use Rattle.cxl_enc.specs.Caps.{is_legal_cap, decoders_code, decoders_of}
-use Rattle.cxl_window.specs.Fields.{WindowFields, IsUsable, AreDistinct}
+use Rattle.cxl_window.specs.Fields.{WindowFields, IsWindow, IsUsable, AreDistinct}
 use Rattle.cxl_window.specs.declared.window.Verdict.TheVariants.{Usable}
 use Rattle.cxl_window.specs.Windows.{AreMadeWith}
 use Rattle.cxl_model.proofs.ExamplesRegions.{only_one}
@@ -160,8 +160,9 @@ zero_at : (w v : WindowFields) (i : ℕ) → slice_get (w ∷ []) i ≡ Some v �
 zero_at w v i at = let within = slice_get_within (w ∷ []) i v at in omega arith
 
 -- a window alone in its table
-pub made_alone : (w : WindowFields) (bridges : List ℕ) → w.index ≡ 0 → IsUsable w → All (λ u. Contains bridges u) w.targets → AreMadeWith (w ∷ []) bridges
-made_alone w bridges first usable targets = record {
+pub made_alone : (w : WindowFields) (bridges : List ℕ) → w.index ≡ 0 → IsWindow w → IsUsable w → All (λ u. Contains bridges u) w.targets → AreMadeWith (w ∷ []) bridges
+made_alone w bridges first window usable targets = record {
+  each = All-cons IsWindow w [] window (All-nil IsWindow);
   indexed = λ i v at. ap (λ (x : WindowFields). x.index) (sym (only_one w v i at)) ∙ first ∙ sym (zero_at w v i at);
   usable = All-cons (λ v. v.verdict ≡ Usable → IsUsable v × All (λ u. Contains bridges u) v.targets) w [] (λ is. (usable, targets)) (All-nil _);
   apart = λ a b a_there b_there h ua ub a_from a_to b_from b_to. (

@@ -8,7 +8,7 @@ use Rattle.cxl_topo.specs.Tree.{bridge_with}
 use Rattle.cxl_window.specs.declared.window.Verdict.{Verdict}
 use Rattle.cxl_window.specs.declared.window.Verdict.TheVariants.{Usable, Align, Size, TooHigh, Overlap, Target, Repeat, Maps}
 use Rattle.cxl_window.specs.Fields.{WindowFields}
-use Rattle.cxl_window.specs.Position.{is_usable, holds, slot_at, position_of}
+use Rattle.cxl_window.specs.Position.{is_usable, holds, position_at, position_of}
 use Rattle.cxl_window.specs.Windows.{AreMadeWith}
 use Rattle.cxl_model.specs.declared.chain.Step.{Step}
 use Rattle.cxl_model.specs.System.{System, bridge_uids}
@@ -94,7 +94,7 @@ if_some : (test : Bool) (own position : ℕ) → (if test then Some own else Non
 if_some true own position is = (refl, cc)
 if_some false own position is = absurd (none-some position is)
 
-slotted : (w : WindowFields) (h position : ℕ) → slot_at w h ≡ Some position → Slotted w h position
+slotted : (w : WindowFields) (h position : ℕ) → position_at w h ≡ Some position → Slotted w h position
 slotted w h position is =
     let parts = if_some (is_usable w.verdict && holds w h) (position_of w h) position is in
     let tests = and_parts (is_usable w.verdict) (holds w h) parts.0 in
@@ -120,7 +120,7 @@ one_bridge s h w position bridge way one two =
 
 one_position : (s : System) (h : ℕ) (w : WindowFields) (position other bridge way : ℕ) → Targets s h w position bridge → Targets s h w other way
     → position ≡ other
-one_position s h w position other bridge way one two = one_value (slot_at w h) position other one.holds two.holds
+one_position s h w position other bridge way one two = one_value (position_at w h) position other one.holds two.holds
 
 -- ---- the outcome
 
@@ -142,7 +142,7 @@ one_of_window rise s h w position other bridge way steps others end ending one t
     ∙ same_outcomes w.index other steps others end ending (one_way rise s h bridge steps others end ending walk (from_child s h bridge way others ending same walks))
 
 not_held : (s : System) (h : ℕ) (w : WindowFields) (position bridge : ℕ)
-    → ((i : ℕ) (v : WindowFields) → slice_get s.windows i ≡ Some v → slot_at v h ≡ None) → Targets s h w position bridge → ⊥
+    → ((i : ℕ) (v : WindowFields) → slice_get s.windows i ≡ Some v → position_at v h ≡ None) → Targets s h w position bridge → ⊥
 not_held s h w position bridge none targets = none-some position (sym (none w.index w targets.there) ∙ targets.holds)
 
 pub one_chain : RangesRise → (s : System) (h : ℕ) (one other : Outcome) → AreMadeWith s.windows (bridge_uids s.nodes) → Chain s h one → Chain s h other → one ≡ other

@@ -10,16 +10,15 @@ use Rattle.cxl_span.specs.Spans.{decoder_ways}
 use Rattle.cxl_window.specs.declared.window.Verdict.TheVariants.{Usable}
 use Rattle.cxl_window.specs.Position.{is_usable}
 use Rattle.cxl_window.specs.Fields.{WindowFields}
-use Rattle.cxl_window.specs.Fields as windows
-use Rattle.cxl_deal.specs.Maps as deals
-use Rattle.cxl_deal.specs.Weaves.{ways_by}
+use Rattle.cxl_num.specs.Maps.{are_usable_maps}
+use Rattle.cxl_num.specs.Interleave.{ways_by}
 use Rattle.cxl_model.specs.declared.found.Found.{Found}
 use Rattle.cxl_model.specs.declared.found.Place.{Place}
 use Rattle.cxl_model.specs.System.{System, IsSystem}
 use Rattle.cxl_model.specs.Ranges.{Range, lies_within, window_for, ways_above, first_decoder, range_code}
 use Rattle.cxl_model.specs.Regions.{region_range, IsRegionIn}
 use Rattle.cxl_model.proofs.OutcomesWalks.{usable_is}
-use Rattle.cxl_model.proofs.WeavingWays.{some_ways, decoder_ways_known, Divides, divides, usable_maps-same}
+use Rattle.cxl_model.proofs.WeavingWays.{some_ways, decoder_ways_known, Divides, divides}
 use Rattle.cxl_model.proofs.WeavingServers.{Reaches, reached, Serves, has_parts, has_ways, base_aligned, gran_known}
 
 -- ---- its ways
@@ -143,19 +142,19 @@ root_code s w found system is more =
     ∙ ap (λ (b : Bool). if b then 0 else range_code s w (region_range found)) test
     ∙ ap (λ (b : Bool). if b then w.gran else option_map_or (λ (d : Decoder). if decoder_ways d == 1 then 0 else d.gran) (first_decoder s (region_range found)) 0) window
 
-no_maps : (gran ways : ℕ) (maps : List ℕ) → ways ≡ 1 → IsTrue (deals.are_usable_maps gran (bits_of ways) maps)
-no_maps gran ways maps one = subst (λ (n : ℕ). IsTrue (deals.are_usable_maps gran (bits_of n) maps)) (sym one) refl
+no_maps : (gran ways : ℕ) (maps : List ℕ) → ways ≡ 1 → IsTrue (are_usable_maps gran (bits_of ways) maps)
+no_maps gran ways maps one = subst (λ (n : ℕ). IsTrue (are_usable_maps gran (bits_of n) maps)) (sym one) refl
 
 pub found_maps_usable : (s : System) (w : WindowFields) (found : Found) → IsSystem s → IsRegionIn s w found → IsTrue (is_ways w.ways)
-    → (w.verdict ≡ Usable → IsTrue w.xor → IsTrue (windows.are_usable_maps w.gran (bits_of w.ways) w.maps))
-    → IsTrue w.xor → IsTrue (deals.are_usable_maps found.gran (bits_of w.ways) w.maps)
+    → (w.verdict ≡ Usable → IsTrue w.xor → IsTrue (are_usable_maps w.gran (bits_of w.ways) w.maps))
+    → IsTrue w.xor → IsTrue (are_usable_maps found.gran (bits_of w.ways) w.maps)
 found_maps_usable s w found system is known usable xor =
     let some = some_ways w.ways known in
     elim (cases_lt 1 w.ways) [
       | inl more ↦
           (let own = usable (usable_window s w (region_range found) is.window) xor in
-          subst (λ (g : ℕ). IsTrue (deals.are_usable_maps g (bits_of w.ways) w.maps)) (sym (root_code s w found system is more))
-          (sym (usable_maps-same w.gran (bits_of w.ways) w.maps) ∙ own))
+          subst (λ (g : ℕ). IsTrue (are_usable_maps g (bits_of w.ways) w.maps)) (sym (root_code s w found system is more))
+          own)
       | inr least ↦ no_maps found.gran w.ways w.maps (omega arith)
     ]
 
@@ -172,9 +171,9 @@ four (a ∷ b ∷ c ∷ []) is = absurd (omega arith)
 four (a ∷ b ∷ c ∷ d ∷ []) is = refl
 four (a ∷ b ∷ c ∷ d ∷ e ∷ rest) is = absurd (omega arith)
 
-pub usable_front : (gran k bits : ℕ) (maps own : List ℕ) → bits ≡ k → own ≡ maps → length maps ≡ 4 → IsTrue (deals.are_usable_maps gran k maps)
-    → IsTrue (deals.are_usable_maps gran bits (front own))
+pub usable_front : (gran k bits : ℕ) (maps own : List ℕ) → bits ≡ k → own ≡ maps → length maps ≡ 4 → IsTrue (are_usable_maps gran k maps)
+    → IsTrue (are_usable_maps gran bits (front own))
 usable_front gran k bits maps own bits_is is length_is usable =
     let same : front own ≡ maps = ap front is ∙ four maps length_is in
-    subst (λ (n : ℕ). IsTrue (deals.are_usable_maps gran n (front own))) (sym bits_is)
-    (subst (λ (l : List ℕ). IsTrue (deals.are_usable_maps gran k l)) (sym same) usable)
+    subst (λ (n : ℕ). IsTrue (are_usable_maps gran n (front own))) (sym bits_is)
+    (subst (λ (l : List ℕ). IsTrue (are_usable_maps gran k l)) (sym same) usable)

@@ -1,5 +1,5 @@
--- Numbers of ways that divide each other, and the two spellings of usable maps.
-use Rattle.std.proofs.Common.{◌≡◌, ℕ, zero, suc, ◌*◌, ◌%◌, ◌<◌, ◌≤◌, Bool, true, false, not, ◌&&◌, ◌||◌, if◌then◌else◌, List, [], ◌∷◌, Option, Some, None, refl, sym, ap, ◌∙◌, subst, inl, inr, arith}
+-- Numbers of ways that divide each other.
+use Rattle.std.proofs.Common.{◌≡◌, ℕ, ◌*◌, ◌%◌, ◌<◌, ◌≤◌, Bool, true, false, not, ◌&&◌, ◌||◌, if◌then◌else◌, Option, Some, None, refl, sym, ap, ◌∙◌, subst, inl, inr, arith}
 use Rattle.std.specs.Prelude.{◌==◌, nat_lt, nat_le, IsTrue, is_some}
 use Rattle.std.specs.Option.{unwrap_or}
 use Rattle.std.proofs.lemmas.Bool.{and_parts, agree_below_at, cases_lt, le-ltb, le-leb, eqb-true, leb-true, false≢true}
@@ -7,9 +7,7 @@ use Rattle.std.proofs.Math.Nat.{mul-mod_right}
 use Rattle.cxl_enc.specs.Codes.{ways_of, is_ways, bits_of}
 use Rattle.cxl_regs.specs.declared.decoder.Decoder.{Decoder}
 use Rattle.cxl_span.specs.Spans.{decoder_ways}
-use Rattle.cxl_window.specs.Fields as windows
-use Rattle.cxl_deal.specs.Maps as deals
-use Rattle.cxl_deal.specs.Weaves.{ways_by}
+use Rattle.cxl_num.specs.Interleave.{ways_by}
 
 -- ---- the numbers of the table
 
@@ -83,14 +81,3 @@ pub divides : (a b x : ℕ) → IsTrue (is_ways a) → IsTrue (is_ways b) → b 
 divides a b x a_known b_known product =
     let none : (b % a == 0) ≡ true = ap (λ (n : ℕ). n % a == 0) product ∙ ap (λ (n : ℕ). n == 0) (mul-mod_right a x) in
     divides_if a b none (goes a b a_known b_known)
-
--- ---- maps
-
-pub usable_from-same : (gran k i n : ℕ) (maps : List ℕ) → windows.are_usable_from gran k i n maps ≡ deals.are_usable_from gran k i n maps
-usable_from-same gran k i zero maps = refl
-usable_from-same gran k i (suc n) [] = refl
-usable_from-same gran k i (suc n) (map ∷ maps) =
-    ap (λ (rest : Bool). deals.is_usable_map gran k i map && rest) (usable_from-same gran k (suc i) n maps)
-
-pub usable_maps-same : (gran k : ℕ) (maps : List ℕ) → windows.are_usable_maps gran k maps ≡ deals.are_usable_maps gran k maps
-usable_maps-same gran k maps = usable_from-same gran k 0 k maps

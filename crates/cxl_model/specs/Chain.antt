@@ -6,7 +6,7 @@ use Rattle.cxl_topo.specs.Tree.{forwards_at, is_port_at, is_endpoint_at, child_o
 use Rattle.cxl_regs.specs.declared.decoder.Decoder.{Decoder}
 use Rattle.cxl_span.specs.Spans.{span_start_of, endpoint_place_of}
 use Rattle.cxl_window.specs.Fields.{WindowFields}
-use Rattle.cxl_window.specs.Position.{slot_at}
+use Rattle.cxl_window.specs.Position.{position_at}
 use Rattle.cxl_model.specs.declared.chain.Step.{Step}
 use Rattle.cxl_model.specs.declared.chain.Miss.{Miss}
 use Rattle.cxl_model.specs.declared.chain.Miss.TheVariants.{NoWindow, BadBlock, NoDecoder, NoChild}
@@ -127,10 +127,10 @@ outcome_by window position steps (Misses miss) = Missed miss
 -- the window holds the address, and its target at the position is this bridge
 pub record Targets (s : System) (h : ℕ) (w : WindowFields) (position bridge : ℕ) : Type 0 where
   pub there : slice_get s.windows w.index ≡ Some w
-  pub holds : slot_at w h ≡ Some position
+  pub holds : position_at w h ≡ Some position
   pub target : IsSomeAnd (slice_get w.targets position) (λ uid. bridge_with s.nodes uid ≡ Some bridge)
 
 -- the one route or the one miss of an address
 pub data Chain (s : System) (h : ℕ) (outcome : Outcome) : Type 0 where
-  unheld : ((i : ℕ) (w : WindowFields) → slice_get s.windows i ≡ Some w → slot_at w h ≡ None) → outcome ≡ Missed NoWindow → Chain s h outcome
+  unheld : ((i : ℕ) (w : WindowFields) → slice_get s.windows i ≡ Some w → position_at w h ≡ None) → outcome ≡ Missed NoWindow → Chain s h outcome
   held : (w : WindowFields) (position bridge : ℕ) (steps : List Step) (end : End) → Targets s h w position bridge → Walk s h bridge steps end → outcome ≡ outcome_by w.index position steps end → Chain s h outcome

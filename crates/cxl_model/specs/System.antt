@@ -12,7 +12,7 @@ use Rattle.cxl_regs.specs.Registers.{Registers, IsBlock}
 use Rattle.cxl_image.specs.Images.{HasCapsOf}
 use Rattle.cxl_span.specs.Spans.{decoder_ways, decoder_granularity}
 use Rattle.cxl_span.specs.Breaches.{BlockKeeps}
-use Rattle.cxl_window.specs.Fields.{WindowFields, IsWindow}
+use Rattle.cxl_window.specs.Fields.{WindowFields}
 use Rattle.cxl_window.specs.Windows.{AreMadeWith}
 
 -- the nodes by number, the block of each, and the windows by index
@@ -34,7 +34,6 @@ pub record IsSystem (s : System) : Type 0 where
   pub tree : IsTree s.nodes
   pub blocks : All IsBlock s.blocks
   pub caps : HasCapsOf s.blocks s.nodes
-  pub windows : All IsWindow s.windows
   pub made : AreMadeWith s.windows (bridge_uids s.nodes)
 
 -- ---- a node's registers

@@ -1,2 +1,5 @@
-pub mod SetBits
 pub mod ThirdsAndPowers
+pub mod RawBits
+pub mod ParityTurns
+pub mod ParitySums
+pub mod MapTests

@@ -1,4 +1,4 @@
-ghost use Rattle.std.specs.Prelude.{◌≡◌, ℕ, ◌+◌, ◌%◌, ◌^◌, ◌<◌, ◌↔◌, IsTrue, count_ones, bit_and};
+ghost use Rattle.std.specs.Prelude.{◌≡◌, ◌%◌, ◌^◌, ◌<◌, ◌↔◌, IsTrue, count_ones};
 
 /// Whether the number of set bits is odd, as an XOR map asks of the address bits that it takes. (ACPI
 /// CEDT, CXIMS.)
@@ -15,11 +15,3 @@ pub fn low_bits(word: u64, k: u8) -> u64
 {
     word & ((1 << k) - 1)
 }
-
-/// A law of set bits, for parities under XOR maps: numbers that share no bit keep all their set bits
-/// in their sum, and a power of two has one.
-#[tactic(auto, using(crate::proofs::SetBits::set_bits))]
-pub fn parity_of_disjoint()
-    ensures sum { (a b : ℕ) → bit_and a b ≡ 0 → count_ones (a + b) ≡ count_ones a + count_ones b }
-    ensures power { (k : ℕ) → count_ones (2 ^ k) ≡ 1 }
-{}

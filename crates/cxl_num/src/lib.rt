@@ -1,14 +1,20 @@
-//! Numbers for interleaving: parities, low bits, a number from its remainders, the end of a range,
-//! and the laws of remainders and binary digits that the layouts rest on.
+//! Numbers for interleaving: parities and XOR maps, raw bits, the factors of ways, low bits, a number from
+//! its remainders, and the end of a range.
 #![tactic(auto)]
 
 mod bits;
 mod ends;
+mod laws;
+mod maps;
 mod remainders;
+mod ways;
 
-pub use bits::{low_bits, parity, parity_of_disjoint};
+pub use bits::{low_bits, parity};
 pub use ends::checked_end;
-pub use remainders::{digits_of_remainder, join_thirds, remainders_join};
+pub use laws::{parities_tell_raw_bits, raw_bits_are_replaced, remainders_keep_digits};
+pub use maps::{are_usable_maps, parities, with_raw_bits};
+pub use remainders::join_thirds;
+pub use ways::{factor_of, ways_by};
 
 #[cfg(test)]
 mod tests;

@@ -1,4 +1,4 @@
-ghost use Rattle.std.specs.Prelude.{◌≡◌, ℕ, ◌*◌, ◌/◌, ◌%◌, ◌^◌, ◌<◌, ◌≤◌};
+ghost use Rattle.std.specs.Prelude.{◌≡◌, ℕ, ◌*◌, ◌%◌, ◌^◌, ◌<◌, ◌≤◌};
 
 /// The one number below `3 * 2^k` with the remainders `bits` modulo `2^k` and `third` modulo 3, as a
 /// place among the ways 3, 6 and 12 is made of low bits and a third. (This project's rule.)
@@ -16,17 +16,3 @@ pub fn join_thirds(bits: u32, k: u8, third: u8) -> u32
     let turns = (u32::from(third) + 2 * bits) * power % 3;
     bits + turns * power
 }
-
-/// A law of remainders: where `a * b` divides n, the digit of c at a to the base b is that of `c mod n`.
-#[tactic(auto, using(crate::proofs::ThirdsAndPowers::digit_of_remainder))]
-pub fn digits_of_remainder()
-    ensures { (c n a b q : ℕ) → 0 < a → 0 < b → n ≡ q * (a * b) → 0 < n
-        → ((c % n) / a) % b ≡ (c / a) % b }
-{}
-
-/// A law of remainders: below `3 * 2^k` the remainders modulo `2^k` and modulo 3 tell a number.
-#[tactic(auto, using(crate::proofs::ThirdsAndPowers::same_from_remainders))]
-pub fn remainders_join()
-    ensures { (k x y : ℕ) → k ≤ 4 → x < 3 * 2 ^ k → y < 3 * 2 ^ k
-        → x % 2 ^ k ≡ y % 2 ^ k → x % 3 ≡ y % 3 → x ≡ y }
-{}

@@ -1,4 +1,5 @@
 use super::*;
+use cxl_enc::Factors;
 
 #[test]
 fn joins_thirds(rt: HostRuntime) {
@@ -30,6 +31,36 @@ fn keeps_low_bits(rt: HostRuntime) {
     assert_eq!(rt; low_bits(u64::MAX, 63), 0x7fff_ffff_ffff_ffff);
 }
 
+/// The map of the worked XOR window takes the bits 8, 14 and 22.
+#[test]
+fn takes_parities(rt: HostRuntime) {
+    let maps = [0x40_4100, 0, 0, 0];
+    assert_eq!(rt; are_usable_maps(0, 1, &maps), true);
+    assert_eq!(rt; are_usable_maps(1, 1, &maps), false);
+    assert_eq!(rt; parities(&maps, 1, 0x1_0000_4000), 1);
+    assert_eq!(rt; with_raw_bits(0, 1, 0x1_0000_4000, 1), 0x1_0000_4100);
+    assert_eq!(rt; parities(&maps, 1, 0x1_0000_4100), 0);
+}
+
+#[test]
+fn multiplies_factors(rt: HostRuntime) {
+    assert_eq!(rt; factor_of(false), 1);
+    assert_eq!(rt;
+        ways_by(Factors {
+            third: true,
+            bits: 2
+        }),
+        12
+    );
+    assert_eq!(rt;
+        ways_by(Factors {
+            third: false,
+            bits: 4
+        }),
+        16
+    );
+}
+
 #[test]
 fn ends_below_2_64(rt: HostRuntime) {
     let rows = [
@@ -46,7 +77,7 @@ fn ends_below_2_64(rt: HostRuntime) {
 
 #[test]
 fn states_laws() {
-    digits_of_remainder();
-    remainders_join();
-    parity_of_disjoint();
+    remainders_keep_digits();
+    raw_bits_are_replaced();
+    parities_tell_raw_bits();
 }

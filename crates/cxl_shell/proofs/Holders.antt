@@ -6,7 +6,7 @@ use Rattle.std.proofs.lemmas.List.{take-append-drop}
 use Rattle.std.proofs.lemmas.Option.{slice_get-get_or}
 use Rattle.std.proofs.lemmas.List.Elements.{All-head, All-tail, All-more}
 use Rattle.cxl_window.specs.Fields.{WindowFields}
-use Rattle.cxl_window.specs.Position.{is_usable, holds, position_of, slot_at}
+use Rattle.cxl_window.specs.Position.{is_usable, holds, position_of, position_at}
 use Rattle.cxl_window.specs.declared.window.Verdict.{Verdict}
 use Rattle.cxl_window.specs.declared.window.Verdict.TheVariants.{Usable, Align, Size, TooHigh, Overlap, Target, Repeat, Maps}
 use Rattle.cxl_shell.specs.Route.{Holds, IsNowhere, IsSelection}
@@ -32,10 +32,10 @@ none_if : (b : Bool) (p : ℕ) → cond b (Some p) None ≡ None → b ≡ false
 none_if true p e = cc
 none_if false p e = refl
 
-pub position-from_slot : (w : WindowFields) (h position : ℕ) → slot_at w h ≡ Some position → position ≡ position_of w h
+pub position-from_slot : (w : WindowFields) (h position : ℕ) → position_at w h ≡ Some position → position ≡ position_of w h
 position-from_slot w h position e = (some_if (is_usable w.verdict && holds w h) (position_of w h) position e).1
 
-pub holds-from_slot : (w : WindowFields) (h position : ℕ) → slot_at w h ≡ Some position → Holds h w
+pub holds-from_slot : (w : WindowFields) (h position : ℕ) → position_at w h ≡ Some position → Holds h w
 holds-from_slot w h position e =
     let tests = and_parts (is_usable w.verdict) (holds w h) (some_if (is_usable w.verdict && holds w h) (position_of w h) position e).0 in
     let ends = and_parts (leb w.base h) (ltb h (w.base + w.size)) tests.1 in
@@ -45,7 +45,7 @@ holds-from_slot w h position e =
       to = ltb-true h (w.base + w.size) ends.1;
     }
 
-pub holds_not-from_none : (w : WindowFields) (h : ℕ) → slot_at w h ≡ None → ¬ (Holds h w)
+pub holds_not-from_none : (w : WindowFields) (h : ℕ) → position_at w h ≡ None → ¬ (Holds h w)
 holds_not-from_none w h e = λ held.
     let inside = and_from (leb w.base h) (ltb h (w.base + w.size)) (le-leb w.base h held.from) (lt-ltb h (w.base + w.size) held.to) in
     let usable : is_usable w.verdict ≡ true = ap is_usable held.usable in
@@ -58,7 +58,7 @@ split_at : (windows : List WindowFields) (i : ℕ) (w : WindowFields) → i < le
 split_at windows i w within is =
     sym (take-append-drop i windows) ∙ ap (λ rest. take i windows ++ rest) (drop-cons windows i w within ∙ ap (λ x. x ∷ drop (suc i) windows) (sym is))
 
-pub selection_at : (windows : List WindowFields) (h i position : ℕ) (w : WindowFields) (index bridge : ℕ) → i < length windows → w ≡ get_or windows i w → IsNowhere (take i windows) h → slot_at w h ≡ Some position → index ≡ w.index → slice_get w.targets (position_of w h) ≡ Some bridge → IsSelection windows h (record { window = index; position = position; bridge = bridge })
+pub selection_at : (windows : List WindowFields) (h i position : ℕ) (w : WindowFields) (index bridge : ℕ) → i < length windows → w ≡ get_or windows i w → IsNowhere (take i windows) h → position_at w h ≡ Some position → index ≡ w.index → slice_get w.targets (position_of w h) ≡ Some bridge → IsSelection windows h (record { window = index; position = position; bridge = bridge })
 selection_at windows h i position w index bridge within is earlier slot index-is bridge-is = record {
   window = w;
   first = record {
@@ -73,7 +73,7 @@ selection_at windows h i position w index bridge within is earlier slot index-is
   bridge = bridge-is;
 }
 
-pub nowhere-more : (windows : List WindowFields) (h i : ℕ) (w : WindowFields) → i < length windows → w ≡ get_or windows i w → IsNowhere (take i windows) h → slot_at w h ≡ None → IsNowhere (take (i + 1) windows) h
+pub nowhere-more : (windows : List WindowFields) (h i : ℕ) (w : WindowFields) → i < length windows → w ≡ get_or windows i w → IsNowhere (take i windows) h → position_at w h ≡ None → IsNowhere (take (i + 1) windows) h
 nowhere-more windows h i w within is earlier none =
     All-more (λ v. ¬ (Holds h v)) windows i w within earlier (subst (λ v. ¬ (Holds h v)) is (holds_not-from_none w h none))
 

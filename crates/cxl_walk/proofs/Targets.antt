@@ -11,7 +11,7 @@ use Rattle.cxl_regs.specs.Registers.{Registers}
 use Rattle.cxl_window.specs.declared.window.Verdict.{Verdict}
 use Rattle.cxl_window.specs.declared.window.Verdict.TheVariants.{Usable, Align, Size, TooHigh, Overlap, Target, Repeat, Maps}
 use Rattle.cxl_window.specs.Fields.{WindowFields, IsUsable}
-use Rattle.cxl_window.specs.Position.{is_usable, holds, position_of, slot_at}
+use Rattle.cxl_window.specs.Position.{is_usable, holds, position_of, position_at}
 use Rattle.cxl_window.specs.Windows.{AreMadeWith}
 use Rattle.cxl_model.specs.declared.chain.Step.{Step}
 use Rattle.cxl_model.specs.declared.chain.Miss.{Miss}
@@ -35,7 +35,7 @@ usable_is (Repeat uid) h = absurd (false≢true h)
 usable_is Maps h = absurd (false≢true h)
 
 -- a window that holds an address can be used
-usable_of : (w : WindowFields) (h position : ℕ) → slot_at w h ≡ Some position → w.verdict ≡ Usable
+usable_of : (w : WindowFields) (h position : ℕ) → position_at w h ≡ Some position → w.verdict ≡ Usable
 usable_of w h position there =
     usable_is w.verdict (and_parts (is_usable w.verdict) (holds w h) (cond_some (is_usable w.verdict && holds w h) (position_of w h) position there).0).0
 

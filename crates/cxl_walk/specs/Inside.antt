@@ -6,7 +6,7 @@ use Rattle.cxl_regs.specs.declared.decoder.Decoder.{Decoder}
 use Rattle.cxl_regs.specs.Registers.{Registers}
 use Rattle.cxl_span.specs.Spans.{span_start_of, endpoint_place_of}
 use Rattle.cxl_window.specs.Fields.{WindowFields}
-use Rattle.cxl_window.specs.Position.{slot_at}
+use Rattle.cxl_window.specs.Position.{position_at}
 use Rattle.cxl_model.specs.declared.chain.Step.{Step}
 use Rattle.cxl_model.specs.declared.chain.Miss.{Miss}
 use Rattle.cxl_model.specs.Chain.{Arrival, Move, End, Moves, Walk}
@@ -55,7 +55,7 @@ Fails blocks tree h n miss = (steps : List Step) × Leads blocks tree h n steps 
 -- the window holds the address at this position, and this is the UID of its target there
 pub record IsTargetIn (w : WindowFields) (h : ℕ) (target : Target) : Type 0 where
   pub index : target.window ≡ w.index
-  pub holds : slot_at w h ≡ Some target.position
+  pub holds : position_at w h ≡ Some target.position
   pub uid : slice_get w.targets target.position ≡ Some target.uid
 
 -- this is so of the window of its index

@@ -1,6 +1,6 @@
 ghost use Rattle.std.specs.Prelude.{◌≡◌, ℕ, Some, None, slice_get, IfSome, IfNone};
 ghost use Rattle.cxl_window.specs.Fields.{WindowFields};
-ghost use Rattle.cxl_window.specs.Position.{slot_at};
+ghost use Rattle.cxl_window.specs.Position.{position_at};
 ghost use Rattle.cxl_walk.specs.Inside.{IsTarget, IsTargetIn};
 
 use cxl_window::{Window, positions, slot_of};
@@ -19,7 +19,7 @@ pub(crate) struct Target {
 pub(crate) fn target_of(windows: &[Window], h: u64) -> Option<Target>
     requires { (i : ℕ) (w : WindowFields) → slice_get windows.now i ≡ Some w → w.index ≡ i }
     ensures some { IfSome result (λ target. (w : WindowFields) × IsTarget windows.now h target w) }
-    ensures none { IfNone result ((i : ℕ) (w : WindowFields) → slice_get windows.now i ≡ Some w → slot_at w h ≡ None) }
+    ensures none { IfNone result ((i : ℕ) (w : WindowFields) → slice_get windows.now i ≡ Some w → position_at w h ≡ None) }
 {
     for window in windows {
         if let Some(target) = target_in(window, h) {
@@ -31,7 +31,7 @@ pub(crate) fn target_of(windows: &[Window], h: u64) -> Option<Target>
 
 fn target_in(window: &Window, h: u64) -> Option<Target>
     ensures some { IfSome result (λ target. IsTargetIn window.now h target) }
-    ensures none { IfNone result (slot_at window.now h ≡ None) }
+    ensures none { IfNone result (position_at window.now h ≡ None) }
 {
     positions();
     let position = slot_of(window, h)?;

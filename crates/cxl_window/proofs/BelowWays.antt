@@ -1,13 +1,14 @@
 -- A position is below the number of ways.
-use Rattle.std.proofs.Common.{◌≡◌, ℕ, zero, suc, ◌+◌, ◌*◌, ◌/◌, ◌%◌, ◌^◌, ◌<◌, Bool, true, false, cond, eqb, List, [], ◌∷◌, Option, Some, None, refl, sym, subst, arith}
+use Rattle.std.proofs.Common.{◌≡◌, ℕ, ◌+◌, ◌*◌, ◌/◌, ◌%◌, ◌^◌, ◌<◌, Bool, true, false, cond, eqb, Option, Some, None, refl, sym, subst, arith}
 use Rattle.std.specs.Prelude.{IsTrue, is_some, ◌&&◌, if◌then◌else◌}
-use Rattle.std.proofs.Math.Nat.{mod-lt, pow-suc}
+use Rattle.std.proofs.Math.Nat.{mod-lt}
 use Rattle.std.proofs.Math.Pow.{pow_pos}
 use Rattle.std.proofs.lemmas.Bool.{false≢true, eqb-true, cond_both}
 use Rattle.std.proofs.lemmas.Nat.{mul-add-lt}
 use Rattle.cxl_enc.specs.Codes.{is_ways, third_of, bits_of}
+use Rattle.cxl_num.specs.Laws.{ParitiesTellRawBits}
 use Rattle.cxl_window.specs.Fields.{WindowFields, IsWindow}
-use Rattle.cxl_window.specs.Position.{parities, parities_of, chunk_of, low_of, position_of, slot_at, is_usable, holds}
+use Rattle.cxl_window.specs.Position.{parities_of, chunk_of, low_of, position_of, position_at, is_usable, holds}
 
 -- the factors of a number of ways
 IsFactored : ℕ → Type 0
@@ -30,17 +31,6 @@ module _ (n : ℕ) where
       (one_of 16 4 _ refl (one_of 3 8 _ refl (one_of 6 9 _ refl (one_of 12 10 _ refl
       (λ known. absurd (false≢true known)))))))))
 
--- so many bits as there are maps
-parities-lt : (k : ℕ) (maps : List ℕ) (h : ℕ) → parities k maps h < 2 ^ k
-parities-lt zero maps h = omega arith
-parities-lt (suc k) [] h = pow_pos (suc k)
-parities-lt (suc k) (map ∷ maps) h = omega (arith, parities-lt k maps h, pow-suc 2 k)
-
-low_of-lt : (w : WindowFields) (h : ℕ) → low_of w h < 2 ^ bits_of w.ways
-low_of-lt w h =
-    cond_both w.xor (parities_of w h) (chunk_of w h % 2 ^ bits_of w.ways) (λ low. low < 2 ^ bits_of w.ways)
-    (λ xor. parities-lt (bits_of w.ways) w.maps h) (λ plain. mod-lt (chunk_of w h) (pow_pos (bits_of w.ways)))
-
 third_of_pos : (n : ℕ) → 0 < third_of n
 third_of_pos n = cond_both (eqb (n % 3) 0) 3 1 (λ third. 0 < third) (λ e. omega arith) (λ e. omega arith)
 
@@ -48,19 +38,24 @@ third_of_pos n = cond_both (eqb (n % 3) 0) 3 1 (λ third. 0 < third) (λ e. omeg
 two_parts : (low third power thirds ways : ℕ) → low < power → third < thirds → ways ≡ thirds * power → low + power * third < ways
 two_parts low third power thirds ways p q product = omega (arith, mul-add-lt third power low thirds q p)
 
-pub position_of-lt : (w : WindowFields) (h : ℕ) → IsWindow w → position_of w h < w.ways
-unfolding IsFactored
-position_of-lt w h window =
-    two_parts (low_of w h) (chunk_of w h / 2 ^ bits_of w.ways % third_of w.ways) (2 ^ bits_of w.ways) (third_of w.ways) w.ways
-    (low_of-lt w h) (mod-lt (chunk_of w h / 2 ^ bits_of w.ways) (third_of_pos w.ways)) (factored w.ways window.ways_known)
-
 some_of : (b : Bool) (p position : ℕ) → (if b then Some p else None) ≡ Some position → p ≡ position
 some_of true p position e = cc
 some_of false p position e = cc
 
-pub slot_at-lt : (w : WindowFields) (h position : ℕ) → IsWindow w → slot_at w h ≡ Some position → position < w.ways
-slot_at-lt w h position window there =
-    let same = some_of (is_usable w.verdict && holds w h) (position_of w h) position there in
-    subst (λ (p : ℕ). p < w.ways) same (position_of-lt w h window)
+-- by the law of parities
+module _ (told : ParitiesTellRawBits) where
+  low_of-lt : (w : WindowFields) (h : ℕ) → low_of w h < 2 ^ bits_of w.ways
+  low_of-lt w h =
+      cond_both w.xor (parities_of w h) (chunk_of w h % 2 ^ bits_of w.ways) (λ low. low < 2 ^ bits_of w.ways)
+      (λ xor. told.below (bits_of w.ways) h w.maps) (λ plain. mod-lt (chunk_of w h) (pow_pos (bits_of w.ways)))
 
-pub ruleset positions_below = (position_of-lt, slot_at-lt)
+  pub position_of-lt : (w : WindowFields) (h : ℕ) → IsWindow w → position_of w h < w.ways
+  unfolding IsFactored
+  position_of-lt w h window =
+      two_parts (low_of w h) (chunk_of w h / 2 ^ bits_of w.ways % third_of w.ways) (2 ^ bits_of w.ways) (third_of w.ways) w.ways
+      (low_of-lt w h) (mod-lt (chunk_of w h / 2 ^ bits_of w.ways) (third_of_pos w.ways)) (factored w.ways window.ways_known)
+
+  pub position_at-lt : (w : WindowFields) (h position : ℕ) → IsWindow w → position_at w h ≡ Some position → position < w.ways
+  position_at-lt w h position window there =
+      let same = some_of (is_usable w.verdict && holds w h) (position_of w h) position there in
+      subst (λ (p : ℕ). p < w.ways) same (position_of-lt w h window)

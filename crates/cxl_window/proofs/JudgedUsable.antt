@@ -1,5 +1,5 @@
 -- What a verdict of Usable says.
-use Rattle.std.proofs.Common.{◌≡◌, ◌≢◌, ℕ, zero, suc, ◌+◌, ◌*◌, ◌%◌, ◌^◌, ◌<◌, Bool, true, false, cond, List, [], ◌∷◌, ◌++◌, length, get_or, take, Option, Some, None, ltb, refl, sym, subst, append_assoc, unwrap_or, replicate, ◌-◌, arith}
+use Rattle.std.proofs.Common.{◌≡◌, ◌≢◌, ℕ, zero, suc, ◌+◌, ◌*◌, ◌%◌, ◌<◌, Bool, true, false, cond, List, [], ◌∷◌, ◌++◌, length, get_or, take, Option, Some, None, ltb, refl, sym, subst, append_assoc, unwrap_or, replicate, ◌-◌, arith}
 use Rattle.std.specs.Prelude.{◌==◌, ◌&&◌, not, nat_lt, IsTrue, if◌then◌else◌}
 use Rattle.std.specs.List.{list_any}
 use Rattle.std.specs.Option.{option_map_or}
@@ -10,8 +10,10 @@ use Rattle.std.proofs.lemmas.List.Quantifiers.{all_pairs_push}
 use Rattle.cxl_enc.specs.Codes.{bits_of}
 use Rattle.cxl_cedt.specs.Fields.{CfmwsFields}
 use Rattle.cxl_window.specs.declared.window.Verdict.TheVariants.{Usable, Align, Size, TooHigh, Overlap, Target, Repeat, Maps}
-use Rattle.cxl_window.specs.Fields.{unit, is_usable_map, are_usable_from, are_usable_maps, AreDistinct, IsUsable}
-use Rattle.cxl_window.specs.Windows.{judged, ways_in, first_repeat, maps_of, window_with}
+use Rattle.cxl_enc.specs.Limits.{unit, address_limit}
+use Rattle.cxl_num.specs.Maps.{is_usable_map, are_usable_from, are_usable_maps}
+use Rattle.cxl_window.specs.Fields.{AreDistinct, IsUsable}
+use Rattle.cxl_window.specs.Windows.{first_verdict, cfmws_ways, first_repeat, maps_of, window_with}
 
 -- no cause holds
 record HasNoCause (unaligned uneven high lacking : Bool) (overlapped missing repeated : Option ℕ) : Type 0 where
@@ -80,18 +82,18 @@ pub record IsJudgedUsable (overlapped missing : Option ℕ) (maps : Option (List
   pub apart : overlapped ≡ None
   pub present : missing ≡ None
 
-pub judged-Usable : (overlapped missing : Option ℕ) (maps : Option (List ℕ)) (c : CfmwsFields) → judged overlapped missing maps c ≡ Usable → IsJudgedUsable overlapped missing maps c
+pub judged-Usable : (overlapped missing : Option ℕ) (maps : Option (List ℕ)) (c : CfmwsFields) → first_verdict overlapped missing maps c ≡ Usable → IsJudgedUsable overlapped missing maps c
 judged-Usable overlapped missing maps c usable =
     let none = no_cause _ _ _ _ overlapped missing _ usable in
-    let size = or_parts (c.size == 0) (not (c.size % (unit * ways_in c) == 0)) none.even in
+    let size = or_parts (c.size == 0) (not (c.size % (unit * cfmws_ways c) == 0)) none.even in
     record {
       usable = λ index. record {
         aligned = eqb-true (c.base % unit) 0 (not-false _ none.aligned);
         some = let some = eqb-false c.size 0 size.0 in omega arith;
-        even = eqb-true (c.size % (unit * ways_in c)) 0 (not-false _ size.1);
-        low = ltb-false (2 ^ 52) (c.base + c.size) none.low;
+        even = eqb-true (c.size % (unit * cfmws_ways c)) 0 (not-false _ size.1);
+        low = ltb-false address_limit (c.base + c.size) none.low;
         distinct = AreDistinct-first_repeat [] c.targets (λ i j d p q. absurd (omega arith)) none.distinct;
-        maps = usable_maps c.xor c.gran (bits_of (ways_in c)) (unwrap_or maps []) none.complete;
+        maps = usable_maps c.xor c.gran (bits_of (cfmws_ways c)) (unwrap_or maps []) none.complete;
       };
       apart = none.apart;
       present = none.present;

@@ -1,9 +1,6 @@
-pub mod Parities
 pub mod BelowWays
-pub mod RawBits
 pub mod WindowLists
 pub mod BridgeLists
 pub mod FilterMaps
 pub mod JudgedUsable
 pub mod MadeWith
-pub mod MapTests

@@ -12,8 +12,8 @@ use Rattle.cxl_cedt.specs.Fields.{CfmwsFields}
 use Rattle.cxl_cedt.specs.declared.cedt.Record.{Record}
 use Rattle.cxl_window.specs.declared.window.Verdict.{Verdict}
 use Rattle.cxl_window.specs.declared.window.Verdict.TheVariants.{Usable}
-use Rattle.cxl_window.specs.Fields.{WindowFields, IsUsable}
-use Rattle.cxl_window.specs.Windows.{cfmws_in, maps_in, maps_of, is_bridge, is_missing, overlaps, ranges_meet, verdict_of, window_with, window_of, windows_from, windows_of, AreMadeWith}
+use Rattle.cxl_window.specs.Fields.{WindowFields, IsWindow, IsUsable}
+use Rattle.cxl_window.specs.Windows.{cfmws_in, maps_in, maps_of, is_cxl2_bridge, is_missing, overlaps, ranges_meet, verdict_of, window_with, window_of, windows_from, windows_of, AreMadeWith}
 use Rattle.cxl_window.proofs.JudgedUsable.{first_fails, judged-Usable, IsJudgedUsable}
 
 -- ---- searches that find nothing
@@ -44,7 +44,7 @@ module _ (records : List Record) (bridges : List ℕ) where
   -- a target that is not missing is a bridge
   bridge_present : (u : ℕ) → is_missing records (Some bridges) u ≡ false → Contains bridges u
   bridge_present u present =
-      let parts = or_parts (not (list_any (is_bridge u) records)) (not (list_any (λ v. v == u) bridges)) present in
+      let parts = or_parts (not (list_any (is_cxl2_bridge u) records)) (not (list_any (λ v. v == u) bridges)) present in
       Contains-list_any bridges u (not-false (list_any (λ v. v == u) bridges) parts.1)
 
   judged_usable : (before : List CfmwsFields) (c : CfmwsFields) → verdict_of records (Some bridges) before c ≡ Usable
@@ -110,11 +110,12 @@ meet_at : (h base size other_base other_size : ℕ) → base ≤ h → h < base 
     → ranges_meet base size other_base other_size ≡ true
 meet_at h base size other_base other_size p q r s = lt-ltb (max base other_base) (min (base + size) (other_base + other_size)) (omega arith)
 
-pub windows_made : (records : List Record) (bridges : List ℕ) → AreMadeWith (windows_of records (Some bridges)) bridges
-windows_made records bridges =
+pub windows_made : (records : List Record) (bridges : List ℕ) → All IsWindow (windows_of records (Some bridges)) → AreMadeWith (windows_of records (Some bridges)) bridges
+windows_made records bridges are_windows =
     let cs : List CfmwsFields = filter_map cfmws_in records in
     let ws : List WindowFields = windows_of records (Some bridges) in
     record {
+      each = are_windows;
       indexed = λ i w there. omega (arith, indexed_made records bridges [] cs i w there);
       usable = all_usable_made records bridges [] cs;
       apart = λ w v w-in v-in h w-usable v-usable p q r s.

@@ -1,6 +1,6 @@
 -- The windows of a table, one window more, and one of them from what the code holds.
 use Rattle.std.proofs.Common.{◌≡◌, ℕ, suc, ◌+◌, ◌≤◌, Bool, cond, List, [], ◌∷◌, ◌++◌, length, take, drop, Option, Some, refl, sym, ap, ◌∙◌, append_assoc, arith}
-use Rattle.std.specs.Prelude.{position, find, ◌==◌}
+use Rattle.std.specs.Prelude.{position, find, ◌==◌, All}
 use Rattle.std.specs.List.{filter_map, position_from}
 use Rattle.std.proofs.lemmas.List.{append-nil, length-append, take-append-drop, take_all}
 use Rattle.std.proofs.lemmas.List.Elements.{filter_map-append}
@@ -10,9 +10,9 @@ use Rattle.cxl_cedt.specs.Fields.{CfmwsFields, CximsFields}
 use Rattle.cxl_cedt.specs.Records.{kind_of, count_of}
 use Rattle.cxl_cedt.specs.declared.cedt.Record.{Record}
 use Rattle.cxl_cedt.specs.declared.cedt.Record.TheVariants.{Chbs, Cfmws, Cxims, Other}
-use Rattle.cxl_window.specs.Fields.{WindowFields}
+use Rattle.cxl_window.specs.Fields.{WindowFields, IsWindow}
 use Rattle.cxl_window.specs.Judging.{is_no_bridge}
-use Rattle.cxl_window.specs.Windows.{cfmws_in, cxims_in, first_maps, maps_in, maps_of, overlaps, judged, ranges_meet, is_missing, window_with, window_of, windows_from, windows_of}
+use Rattle.cxl_window.specs.Windows.{cfmws_in, cxims_in, first_maps, maps_in, maps_of, overlaps, first_verdict, ranges_meet, is_missing, window_with, window_of, windows_from, windows_of}
 
 -- tests that agree find the same
 find-agree : (p q : ℕ → Bool) → ((x : ℕ) → p x ≡ q x) → (xs : List ℕ) → find p xs ≡ find q xs
@@ -62,7 +62,7 @@ module _ (records : List Record) (uids : Option (List ℕ)) where
   pub window_of-judged : (cs : List CfmwsFields) (c : CfmwsFields) (ws : List WindowFields) (bridges : List ℕ) (tables : List CximsFields) (w : WindowFields)
       → ws ≡ windows_from records uids [] cs → ((u : ℕ) → is_no_bridge bridges u ≡ is_missing records uids u) → tables ≡ filter_map cxims_in records
       → w ≡ window_with (length ws) (maps_of (first_maps c.gran tables) c)
-      (judged (position (λ (v : WindowFields). ranges_meet c.base c.size v.base v.size) ws) (find (is_no_bridge bridges) c.targets) (first_maps c.gran tables) c) c
+      (first_verdict (position (λ (v : WindowFields). ranges_meet c.base c.size v.base v.size) ws) (find (is_no_bridge bridges) c.targets) (first_maps c.gran tables) c) c
       → w ≡ window_of records uids cs c
   window_of-judged cs c ws bridges tables w ws-are bridges-are tables-are w-is =
       let index : length ws ≡ length cs = ap length ws-are ∙ length-windows_from [] cs in
@@ -70,12 +70,17 @@ module _ (records : List Record) (uids : Option (List ℕ)) where
       let overlapped : overlap_in ws ≡ position (overlaps c) cs = ap overlap_in ws-are ∙ position-windows_from c.base c.size [] cs in
       let missing = find-agree (is_no_bridge bridges) (is_missing records uids) bridges-are c.targets in
       let maps : first_maps c.gran tables ≡ maps_in c.gran records = ap (first_maps c.gran) tables-are in
-      let made : ℕ → Option ℕ → Option ℕ → Option (List ℕ) → WindowFields = λ n o m ms. window_with n (maps_of ms c) (judged o m ms c) c in
+      let made : ℕ → Option ℕ → Option ℕ → Option (List ℕ) → WindowFields = λ n o m ms. window_with n (maps_of ms c) (first_verdict o m ms c) c in
       w-is
       ∙ ap (λ n. made n (overlap_in ws) (find (is_no_bridge bridges) c.targets) (first_maps c.gran tables)) index
       ∙ ap (λ o. made (length cs) o (find (is_no_bridge bridges) c.targets) (first_maps c.gran tables)) overlapped
       ∙ ap (λ m. made (length cs) (position (overlaps c) cs) m (first_maps c.gran tables)) missing
       ∙ ap (λ ms. made (length cs) (position (overlaps c) cs) (find (is_missing records uids) c.targets) ms) maps
+
+-- the windows of the first i records, each of which is one
+pub record IsSoFar (records : List Record) (uids : Option (List ℕ)) (i : ℕ) (ws : List WindowFields) : Type 0 where
+  pub are : ws ≡ windows_from records uids [] (filter_map cfmws_in (take i records))
+  pub windows : All IsWindow ws
 
 -- windows are counted among the records
 length-cfmws_in : (records : List Record) → length (filter_map cfmws_in records) ≤ count_of 1 records

@@ -7,7 +7,7 @@ use Rattle.cxl_cedt.specs.declared.cedt.Record.{Record}
 use Rattle.cxl_window.specs.declared.judge.Judge.{Judge}
 use Rattle.cxl_window.specs.declared.window.Verdict.{Verdict}
 use Rattle.cxl_window.specs.Fields.{WindowFields}
-use Rattle.cxl_window.specs.Windows.{cxims_in, is_missing, first_maps, maps_of, judged, ranges_meet, window_with}
+use Rattle.cxl_window.specs.Windows.{cxims_in, is_missing, first_maps, maps_of, first_verdict, ranges_meet, window_with}
 
 -- none of the bridges has the UID
 abbrev pub is_no_bridge : List ℕ → ℕ → Bool
@@ -29,7 +29,7 @@ maps_known judge gran = first_maps gran (tables_behind judge.tables.items)
 -- the verdict of a window behind those before it, and the window with it
 abbrev pub verdict_by : Judge → List WindowFields → CfmwsFields → Verdict
 verdict_by judge before c =
-    judged (position (λ w. ranges_meet c.base c.size w.base w.size) before)
+    first_verdict (position (λ w. ranges_meet c.base c.size w.base w.size) before)
     (find (is_no_bridge judge.bridges.items) c.targets) (maps_known judge c.gran) c
 
 abbrev pub window_by : Judge → List WindowFields → CfmwsFields → WindowFields

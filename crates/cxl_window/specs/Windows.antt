@@ -1,5 +1,5 @@
 -- The windows of a table with their verdicts (CFMWS and CXIMS fields; the verdicts are this project's rule).
-use Rattle.std.specs.Prelude.{◌≡◌, ℕ, ◌+◌, ◌-◌, ◌*◌, ◌%◌, ◌^◌, ◌<◌, ◌≤◌, min, max, nat_lt, ◌==◌, ◌&&◌, ◌||◌, not, Bool, true, false, if◌then◌else◌, List, [], ◌∷◌, ◌++◌, length, take, replicate, position, find, Contains, slice_get, All, Option, Some, None, unwrap_or}
+use Rattle.std.specs.Prelude.{◌≡◌, ℕ, ◌+◌, ◌-◌, ◌*◌, ◌%◌, ◌<◌, ◌≤◌, min, max, nat_lt, ◌==◌, ◌&&◌, ◌||◌, not, Bool, true, false, if◌then◌else◌, List, [], ◌∷◌, ◌++◌, length, take, replicate, position, find, Contains, slice_get, All, Option, Some, None, unwrap_or}
 use Rattle.std.specs.List.{filter_map, list_any}
 use Rattle.std.specs.Option.{option_map, option_map_or}
 use Rattle.cxl_enc.specs.Codes.{ways_of, bits_of}
@@ -8,7 +8,9 @@ use Rattle.cxl_cedt.specs.declared.cedt.Record.{Record}
 use Rattle.cxl_cedt.specs.declared.cedt.Record.TheVariants.{Chbs, Cfmws, Cxims, Other}
 use Rattle.cxl_window.specs.declared.window.Verdict.{Verdict}
 use Rattle.cxl_window.specs.declared.window.Verdict.TheVariants.{Usable, Align, Size, TooHigh, Overlap, Target, Repeat, Maps}
-use Rattle.cxl_window.specs.Fields.{WindowFields, unit, are_usable_maps, IsUsable}
+use Rattle.cxl_enc.specs.Limits.{unit, address_limit}
+use Rattle.cxl_num.specs.Maps.{are_usable_maps}
+use Rattle.cxl_window.specs.Fields.{WindowFields, IsWindow, IsUsable}
 
 -- ---- the table's records
 
@@ -19,11 +21,11 @@ cfmws_in (Cxims c) = None
 cfmws_in (Other c) = None
 
 -- a CXL 2.0 bridge of this UID
-abbrev pub is_bridge : ℕ → Record → Bool
-is_bridge uid (Chbs c) = (c.uid == uid) && (c.version == 1)
-is_bridge uid (Cfmws c) = false
-is_bridge uid (Cxims c) = false
-is_bridge uid (Other c) = false
+abbrev pub is_cxl2_bridge : ℕ → Record → Bool
+is_cxl2_bridge uid (Chbs c) = (c.uid == uid) && (c.version == 1)
+is_cxl2_bridge uid (Cfmws c) = false
+is_cxl2_bridge uid (Cxims c) = false
+is_cxl2_bridge uid (Other c) = false
 
 abbrev pub cxims_in : Record → Option CximsFields
 cxims_in (Chbs c) = None
@@ -40,8 +42,8 @@ maps_in gran records = first_maps gran (filter_map cxims_in records)
 
 -- ---- one window
 
-abbrev pub ways_in : CfmwsFields → ℕ
-ways_in c = unwrap_or (ways_of c.ways) 0
+abbrev pub cfmws_ways : CfmwsFields → ℕ
+cfmws_ways c = unwrap_or (ways_of c.ways) 0
 
 -- two ranges of these bases and sizes hold an address in common, their ends as whole numbers
 abbrev pub ranges_meet : ℕ → ℕ → ℕ → ℕ → Bool
@@ -57,7 +59,7 @@ topology_has (Some uids) uid = list_any (λ u. u == uid) uids
 
 -- a target that the table does not have as a CXL 2.0 bridge, or that the topology lacks
 abbrev pub is_missing : List Record → Option (List ℕ) → ℕ → Bool
-is_missing records uids uid = not (list_any (is_bridge uid) records) || not (topology_has uids uid)
+is_missing records uids uid = not (list_any (is_cxl2_bridge uid) records) || not (topology_has uids uid)
 
 -- the first target that stands earlier in the list, behind those that stand before it
 abbrev pub first_repeat : List ℕ → List ℕ → Option ℕ
@@ -67,16 +69,16 @@ first_repeat before (u ∷ us) = if list_any (λ v. v == u) before then Some u e
 -- under XOR, the maps that the window needs are not among those of its granularity
 abbrev pub lacks_maps : Option (List ℕ) → CfmwsFields → Bool
 lacks_maps maps c =
-    let k = bits_of (ways_in c) in
+    let k = bits_of (cfmws_ways c) in
     c.xor && nat_lt 0 k && not (are_usable_maps c.gran k (unwrap_or maps []))
 
 -- The first verdict that holds of a window, by the earlier window that it overlaps, the target that is missing, and
 -- the maps of its granularity, where there are any.
-abbrev pub judged : Option ℕ → Option ℕ → Option (List ℕ) → CfmwsFields → Verdict
-judged overlapped missing maps c =
+abbrev pub first_verdict : Option ℕ → Option ℕ → Option (List ℕ) → CfmwsFields → Verdict
+first_verdict overlapped missing maps c =
     if not (c.base % unit == 0) then Align
-    else (if (c.size == 0) || not (c.size % (unit * ways_in c) == 0) then Size
-    else (if nat_lt (2 ^ 52) (c.base + c.size) then TooHigh
+    else (if (c.size == 0) || not (c.size % (unit * cfmws_ways c) == 0) then Size
+    else (if nat_lt address_limit (c.base + c.size) then TooHigh
     else option_map_or Overlap overlapped
     (option_map_or Target missing
     (option_map_or Repeat (first_repeat [] c.targets)
@@ -85,12 +87,12 @@ judged overlapped missing maps c =
 -- of a window behind those before it in the table
 abbrev pub verdict_of : List Record → Option (List ℕ) → List CfmwsFields → CfmwsFields → Verdict
 verdict_of records uids before c =
-    judged (position (overlaps c) before) (find (is_missing records uids) c.targets) (maps_in c.gran records) c
+    first_verdict (position (overlaps c) before) (find (is_missing records uids) c.targets) (maps_in c.gran records) c
 
 -- four maps: those that an XOR window uses, and zeros
 abbrev pub maps_of : Option (List ℕ) → CfmwsFields → List ℕ
 maps_of maps c =
-    let used = if c.xor then take (bits_of (ways_in c)) (unwrap_or maps []) else [] in
+    let used = if c.xor then take (bits_of (cfmws_ways c)) (unwrap_or maps []) else [] in
     used ++ replicate (4 - length used) 0
 
 -- the window of a record with its index, its maps and its verdict
@@ -99,7 +101,7 @@ window_with index maps verdict c = record {
   index = index;
   base = c.base;
   size = c.size;
-  ways = ways_in c;
+  ways = cfmws_ways c;
   gran = c.gran;
   xor = c.xor;
   maps = maps;
@@ -130,6 +132,7 @@ AreApart w v =
     → v.base ≤ h → h < v.base + v.size → w.index ≡ v.index
 
 pub record AreMadeWith (windows : List WindowFields) (bridges : List ℕ) : Type 0 where
+  pub each : All IsWindow windows
   pub indexed : (i : ℕ) (w : WindowFields) → slice_get windows i ≡ Some w → w.index ≡ i
   pub usable : All (λ w. w.verdict ≡ Usable → IsUsable w × All (λ u. Contains bridges u) w.targets) windows
   pub apart : (w v : WindowFields) → Contains windows w → Contains windows v → AreApart w v

@@ -1,19 +1,16 @@
-ghost use Rattle.std.specs.Prelude.{◌≡◌, ◌==◌, ◌<◌, ◌+◌, ◌*◌, ◌%◌, ◌^◌, ◌||◌, not, nat_lt, length, IsTrue, IfSome, [], position};
+ghost use Rattle.std.specs.Prelude.{◌≡◌, ◌==◌, ◌<◌, ◌+◌, ◌*◌, ◌%◌, ◌||◌, not, nat_lt, length, IsTrue, IfSome, [], position};
 ghost use Rattle.cxl_enc.specs.Codes.{is_ways};
-ghost use Rattle.cxl_window.specs.Fields.{unit};
-ghost use Rattle.cxl_window.specs.Windows.{ways_in, ranges_meet, first_repeat};
+ghost use Rattle.cxl_enc.specs.Limits.{unit, address_limit};
+ghost use Rattle.cxl_window.specs.Windows.{cfmws_ways, ranges_meet, first_repeat};
 
 use crate::window::Window;
 use cxl_cedt::Cfmws;
-use cxl_enc::ways_of;
+use cxl_enc::{ADDRESS_LIMIT, UNIT, ways_of};
 use cxl_num::checked_end;
 
-/// 256 MiB, of which a window's base and its size for each way are multiples.
-const UNIT: u64 = 0x1000_0000;
-
 /// The number of ways.
-pub(crate) fn ways_in(cfmws: &Cfmws) -> u8
-    ensures value { result ≡ ways_in cfmws.now }
+pub(crate) fn cfmws_ways(cfmws: &Cfmws) -> u8
+    ensures value { result ≡ cfmws_ways cfmws.now }
     ensures known { IsTrue (is_ways result) }
     ensures targets { result ≡ length cfmws.now.targets }
 {
@@ -28,16 +25,16 @@ pub(crate) fn is_aligned(cfmws: &Cfmws) -> bool
 
 /// Whether there is no byte, or the bytes are no multiple of 256 MiB for each way.
 pub(crate) fn is_uneven(cfmws: &Cfmws) -> bool
-    ensures { result ≡ ((cfmws.now.size == 0) || not (cfmws.now.size % (unit * ways_in cfmws.now) == 0)) }
+    ensures { result ≡ ((cfmws.now.size == 0) || not (cfmws.now.size % (unit * cfmws_ways cfmws.now) == 0)) }
 {
-    cfmws.size() == 0 || cfmws.size() % (UNIT * u64::from(ways_in(cfmws))) != 0
+    cfmws.size() == 0 || cfmws.size() % (UNIT * u64::from(cfmws_ways(cfmws))) != 0
 }
 
 /// Whether the end exceeds 2^52.
 pub(crate) fn is_too_high(cfmws: &Cfmws) -> bool
-    ensures { result ≡ nat_lt (2 ^ 52) (cfmws.now.base + cfmws.now.size) }
+    ensures { result ≡ nat_lt address_limit (cfmws.now.base + cfmws.now.size) }
 {
-    checked_end(cfmws.base(), cfmws.size()).is_none_or(|end| end > 1 << 52)
+    checked_end(cfmws.base(), cfmws.size()).is_none_or(|end| end > ADDRESS_LIMIT)
 }
 
 /// The place of the first window that shares an address with this one.

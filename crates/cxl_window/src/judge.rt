@@ -1,14 +1,18 @@
 ghost use Rattle.std.specs.Prelude.{◌≡◌, ◌≤◌, ℕ, length, IfOk, find, unwrap_or, []};
 ghost use Rattle.std.specs.Option.{option_copied};
 ghost use Rattle.std.specs.List.{filter_map};
+ghost use Rattle.cxl_window.specs.Fields.{IsWindow};
 ghost use Rattle.cxl_window.specs.Judging.{is_no_bridge, tables_behind};
 ghost use Rattle.cxl_window.specs.Windows.{is_missing, topology_has, cxims_in, lacks_maps, maps_of};
 
-use crate::cfmws::{first_overlapped, first_repeat, is_aligned, is_too_high, is_uneven, ways_in};
+use crate::cfmws::{
+    cfmws_ways, first_overlapped, first_repeat, is_aligned, is_too_high, is_uneven,
+};
+use crate::padding::padded_maps;
 use crate::window::{Verdict, Window};
-use crate::xor_maps::{are_usable_maps, padded_maps};
 use cxl_cedt::{Cfmws, Cxims, Record};
 use cxl_enc::{Memory, split};
+use cxl_num::are_usable_maps;
 use std::alloc::Global;
 
 /// What windows are judged against.
@@ -32,7 +36,7 @@ impl<'a> Judge<'a> {
         ensures { IfOk result (λ judge. IsJudgeOf judge records.now (option_copied uids.entry)) }
     {
         let bridges = bridges_of(alloc, records, uids)?;
-        let tables = tables_of(alloc, records)?;
+        let tables = map_tables_of(alloc, records)?;
         Ok(Judge { bridges, tables })
     }
 
@@ -44,7 +48,8 @@ impl<'a> Judge<'a> {
         cfmws: &Cfmws,
     ) -> Result<Window, Memory>
         requires few { length before.now ≤ 64 }
-        ensures { IfOk result (λ w. w ≡ window_by self.now before.now cfmws.now) }
+        ensures value { IfOk result (λ w. w ≡ window_by self.now before.now cfmws.now) }
+        ensures window { IfOk result IsWindow }
     {
         let verdict = self.verdict(before, cfmws);
         let maps = self.used_maps(cfmws);
@@ -94,7 +99,7 @@ impl<'a> Judge<'a> {
     fn lacks_maps(&self, cfmws: &Cfmws) -> bool
         ensures { result ≡ lacks_maps (maps_known self.now cfmws.now.gran) cfmws.now }
     {
-        let bits = split(ways_in(cfmws)).bits;
+        let bits = split(cfmws_ways(cfmws)).bits;
         cfmws.xor() && bits > 0 && !are_usable_maps(cfmws.gran(), bits, self.maps_of(cfmws.gran()))
     }
 
@@ -103,7 +108,7 @@ impl<'a> Judge<'a> {
         ensures { result ≡ maps_of (maps_known self.now cfmws.now.gran) cfmws.now }
     {
         if cfmws.xor() {
-            let bits = split(ways_in(cfmws)).bits;
+            let bits = split(cfmws_ways(cfmws)).bits;
             return padded_maps(self.maps_of(cfmws.gran()), bits);
         }
         [0; 4]
@@ -147,7 +152,7 @@ fn topology_has(uids: Option<&[u32]>, uid: u32) -> bool
 }
 
 /// The tables of XOR maps, in table order.
-fn tables_of(alloc: Global, records: &[Record]) -> Result<Vec<&Cxims>, Memory>
+fn map_tables_of(alloc: Global, records: &[Record]) -> Result<Vec<&Cxims>, Memory>
     ensures { IfOk result (λ tables. tables_behind tables.items ≡ filter_map cxims_in records.now) }
 {
     let mut tables = Vec::new(alloc);

@@ -3,13 +3,13 @@
 
 mod cfmws;
 mod judge;
-mod slot;
+mod padding;
+mod position;
 mod verdicts;
 mod window;
-mod xor_maps;
 
 pub use cxl_enc::{FixedList, Memory};
-pub use slot::{positions, slot_of, unxor};
+pub use position::{positions, slot_of, unxor};
 pub use verdicts::windows;
 pub use window::{Verdict, Window};
 

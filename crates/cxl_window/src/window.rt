@@ -1,7 +1,7 @@
 ghost use Rattle.std.specs.Prelude.{◌≡◌, ◌≤◌, IsTrue, length};
 ghost use Rattle.cxl_enc.specs.Codes.{is_ways, bits_of};
 
-use crate::cfmws::ways_in;
+use crate::cfmws::cfmws_ways;
 use cxl_cedt::Cfmws;
 use cxl_enc::{FixedList, Memory};
 use std::alloc::Global;
@@ -55,7 +55,8 @@ impl Model for Window {
 impl Window {
     ghost use Rattle.std.specs.Prelude.{IfOk};
     ghost use Rattle.cxl_window.specs.declared.window.Verdict.TheVariants.{Usable};
-    ghost use Rattle.cxl_window.specs.Fields.{IsWindow, IsUsable, are_usable_maps};
+    ghost use Rattle.cxl_num.specs.Maps.{are_usable_maps};
+    ghost use Rattle.cxl_window.specs.Fields.{IsWindow, IsUsable};
     ghost use Rattle.cxl_window.specs.Windows.{window_with};
 
     /// The window of a record with its index, its maps and its verdict.
@@ -67,14 +68,15 @@ impl Window {
         verdict: Verdict,
     ) -> Result<Window, Memory>
         requires { verdict ≡ Usable → IsUsable (window_with index maps verdict cfmws.now) }
-        ensures { IfOk result (λ w. w ≡ window_with index maps verdict cfmws.now) }
+        ensures value { IfOk result (λ w. w ≡ window_with index maps verdict cfmws.now) }
+        ensures window { IfOk result IsWindow }
     {
         let targets = Vec::from_slice(alloc, cfmws.targets())?;
         Ok(Window {
             index,
             base: cfmws.base(),
             size: cfmws.size(),
-            ways: ways_in(cfmws),
+            ways: cfmws_ways(cfmws),
             gran: cfmws.gran(),
             xor: cfmws.xor(),
             maps,

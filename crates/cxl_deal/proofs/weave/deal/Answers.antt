@@ -1,5 +1,7 @@
-use Rattle.std.proofs.Common.{◌≡◌, ◌+◌, ◌-◌, ◌*◌, ◌/◌, ◌%◌, ◌≤◌, ◌<◌, ◌^◌, ℕ, sym, ap, ◌∙◌, subst, arith}
-use Rattle.cxl_deal.specs.Weaves.{WeaveFields, chunk_size, weave_ways, dealt_slot, dealt_offset}
+use Rattle.std.proofs.Common.{◌≡◌, ◌+◌, ◌-◌, ◌*◌, ◌/◌, ◌%◌, ◌≤◌, ◌<◌, ℕ, sym, ap, ◌∙◌, subst, arith}
+use Rattle.cxl_enc.specs.Limits.{address_limit}
+use Rattle.cxl_num.specs.Interleave.{chunk_size}
+use Rattle.cxl_deal.specs.Weaves.{WeaveFields, weave_ways, dealt_slot, dealt_offset}
 use Rattle.cxl_deal.specs.WeaveInside.{fields_of}
 use Rattle.cxl_deal.specs.Swaps.{swapped}
 use Rattle.cxl_deal.proofs.Swapping.{from-swapped, swapped-below, dealt_slot-from, dealt_offset-from}
@@ -17,12 +19,12 @@ overflow_sub-along c =
     let w = fields_of c.weave.inside in
     let from = from_base w c.args.weave.now c.args.h c.weave.view_is c.requires.from in
     rw (swap-is w c.args.weave.now c.args.h c.swap.result c.weave.view_is c.swap.ensures)
-    (from-swapped w c.weave.invariant c.args.h from)
+    (from-swapped c.raw_bits_are_replaced.ensures c.parities_tell_raw_bits.ensures w c.weave.invariant c.args.h from)
 
 pub deal_along-requires-clause-below : goal.deal_along-requires-clause-below
 deal_along-requires-clause-below c =
     let w = fields_of c.weave.inside in
-    let below : swapped w c.args.h < 2 ^ 52 = swapped-below w c.weave.invariant c.args.h c.requires.below in
+    let below : swapped w c.args.h < address_limit = swapped-below c.raw_bits_are_replaced.ensures c.parities_tell_raw_bits.ensures w c.weave.invariant c.args.h c.requires.below in
     let is : c.swap.result ≡ swapped w c.args.h =
     swap-is w c.args.weave.now c.args.h c.swap.result c.weave.view_is c.swap.ensures in
     omega arith
@@ -36,7 +38,7 @@ returns-clause-slot c =
     c.deal_along.ensures.slot
     ∙ ap (λ (j : ℕ). (s - w.base) / chunk_size w.gran % j) (c.factors.ensures.ways
     ∙ ap weave_ways (sym c.weave.view_is))
-    ∙ dealt_slot-from w c.weave.invariant c.args.h from s (swap-is w v c.args.h s c.weave.view_is c.swap.ensures)
+    ∙ dealt_slot-from c.raw_bits_are_replaced.ensures c.parities_tell_raw_bits.ensures w c.weave.invariant c.args.h from s (swap-is w v c.args.h s c.weave.view_is c.swap.ensures)
     ∙ ap (λ (u : WeaveFields). dealt_slot u c.args.h) c.weave.view_is
 
 pub returns-clause-offset : goal.returns-clause-offset
@@ -49,5 +51,5 @@ returns-clause-offset c =
     c.deal_along.ensures.offset
     ∙ ap (λ (j : ℕ). (s - w.base) / g / j * g + (s - w.base) % g) (c.factors.ensures.ways
     ∙ ap weave_ways (sym c.weave.view_is))
-    ∙ dealt_offset-from w c.weave.invariant c.args.h from s (swap-is w v c.args.h s c.weave.view_is c.swap.ensures)
+    ∙ dealt_offset-from c.raw_bits_are_replaced.ensures c.parities_tell_raw_bits.ensures w c.weave.invariant c.args.h from s (swap-is w v c.args.h s c.weave.view_is c.swap.ensures)
     ∙ ap (λ (u : WeaveFields). dealt_offset u c.args.h) c.weave.view_is

@@ -1,5 +1,6 @@
 use Rattle.std.proofs.Common.{◌≡◌, ◌+◌, ◌*◌, ◌/◌, ◌%◌, ℕ, sym, ap, ◌∙◌, subst, arith}
-use Rattle.cxl_deal.specs.Weaves.{WeaveFields, IsWeave, chunk_size, weave_ways, dealt_slot, dealt_offset}
+use Rattle.cxl_num.specs.Interleave.{chunk_size}
+use Rattle.cxl_deal.specs.Weaves.{WeaveFields, IsWeave, weave_ways, dealt_slot, dealt_offset}
 use Rattle.cxl_deal.specs.WeaveInside.{fields_of}
 use Rattle.cxl_deal.specs.Swaps.{swapped}
 use Rattle.cxl_deal.proofs.Swapping.{plain_address}
@@ -23,7 +24,7 @@ swap-requires c =
     let is = subst IsWeave c.weave.view_is c.weave.invariant in
     rw (plain-is (fields_of c.weave.inside) v c.args.slot c.args.offset _ c.gather_along-along.result
     c.weave.view_is c.factors.ensures.ways c.gather_along-along.ensures)
-    (plain_below v is c.args.slot c.args.offset c.requires.slot_below c.requires.fits)
+    (plain_below c.raw_bits_are_replaced.ensures c.parities_tell_raw_bits.ensures v is c.args.slot c.args.offset c.requires.slot_below c.requires.fits)
 
 -- the result is the swapped address
 result-is : (c : goal.After-swap)
@@ -40,24 +41,24 @@ is_weave c = subst IsWeave c.weave.view_is c.weave.invariant
 
 pub returns-clause-from : goal.returns-clause-from
 returns-clause-from c =
-    rw (result-is c) (gathered_from c.args.weave.now (is_weave c) c.args.slot c.args.offset c.requires.slot_below)
+    rw (result-is c) (gathered_from c.raw_bits_are_replaced.ensures c.parities_tell_raw_bits.ensures c.args.weave.now (is_weave c) c.args.slot c.args.offset c.requires.slot_below)
 
 pub returns-clause-below : goal.returns-clause-below
 returns-clause-below c =
     rw (result-is c)
-    (gathered_below c.args.weave.now (is_weave c) c.args.slot c.args.offset c.requires.slot_below c.requires.fits)
+    (gathered_below c.raw_bits_are_replaced.ensures c.parities_tell_raw_bits.ensures c.args.weave.now (is_weave c) c.args.slot c.args.offset c.requires.slot_below c.requires.fits)
 
 pub returns-clause-slot : goal.returns-clause-slot
 returns-clause-slot c =
     ap (dealt_slot c.args.weave.now) (result-is c)
-    ∙ gathered-slot c.args.weave.now (is_weave c) c.args.slot c.args.offset c.requires.slot_below
+    ∙ gathered-slot c.raw_bits_are_replaced.ensures c.parities_tell_raw_bits.ensures c.args.weave.now (is_weave c) c.args.slot c.args.offset c.requires.slot_below
 
 pub returns-clause-offset : goal.returns-clause-offset
 returns-clause-offset c =
     ap (dealt_offset c.args.weave.now) (result-is c)
-    ∙ gathered-offset c.args.weave.now (is_weave c) c.args.slot c.args.offset c.requires.slot_below
+    ∙ gathered-offset c.raw_bits_are_replaced.ensures c.parities_tell_raw_bits.ensures c.args.weave.now (is_weave c) c.args.slot c.args.offset c.requires.slot_below
 
 pub returns-clause-only : goal.returns-clause-only
 returns-clause-only c = λ h from slot-is offset-is.
-    gathered-only c.args.weave.now (is_weave c) c.args.slot c.args.offset h from slot-is offset-is
+    gathered-only c.raw_bits_are_replaced.ensures c.parities_tell_raw_bits.ensures c.args.weave.now (is_weave c) c.args.slot c.args.offset h from slot-is offset-is
     ∙ sym (result-is c)

@@ -1,7 +1,7 @@
 use Rattle.std.proofs.Common.{refl, ◌≡◌, ℕ, [], ◌∷◌, subst}
 use Rattle.std.specs.Prelude.{None}
 use Rattle.cxl_window.specs.Fields.{WindowFields}
-use Rattle.cxl_window.specs.Position.{slot_at}
+use Rattle.cxl_window.specs.Position.{position_at}
 use Rattle.cxl_regs.specs.declared.decoder.Decoder.{Decoder}
 use Rattle.cxl_model.specs.declared.chain.Miss.TheVariants.{NoDecoder}
 use Rattle.cxl_model.specs.System.{decoders_at, holds_address}
@@ -64,4 +64,4 @@ returns-clause-past_region c =
 
 pub returns-clause-past_window : goal.returns-clause-past_window
 returns-clause-past_window c =
-    unheld (λ i w at. subst (λ (v : WindowFields). slot_at v 0x200000000 ≡ None) (only_one window_of_both w i at) refl) refl
+    unheld (λ i w at. subst (λ (v : WindowFields). position_at v 0x200000000 ≡ None) (only_one window_of_both w i at) refl) refl

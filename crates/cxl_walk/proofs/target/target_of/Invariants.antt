@@ -1,8 +1,8 @@
 use Rattle.std.proofs.Common.{◌≡◌, ℕ, ◌<◌, Some, None}
 use Rattle.std.specs.Prelude.{slice_get}
 use Rattle.cxl_window.specs.Fields.{WindowFields}
-use Rattle.cxl_window.specs.Position.{slot_at}
+use Rattle.cxl_window.specs.Position.{position_at}
 use Rattle.cxl_walk.proofs.target.target_of.Given as goal
 
 abbrev pub invariant-loop-window : goal.invariant-loop-window
-invariant-loop-window l = (k : ℕ) → k < l.window-index → (w : WindowFields) → slice_get l.windows k ≡ Some w → slot_at w l.h ≡ None
+invariant-loop-window l = (k : ℕ) → k < l.window-index → (w : WindowFields) → slice_get l.windows k ≡ Some w → position_at w l.h ≡ None

@@ -1,0 +1,4 @@
+pub mod Maps
+pub mod Interleave
+pub mod Laws
+pub use Rattle.cxl_enc.specs.Limits
