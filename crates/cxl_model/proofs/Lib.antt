@@ -9,3 +9,7 @@ pub mod OutcomesWalks
 pub mod WeavingWays
 pub mod WeavingServers
 pub mod Weaving
+pub mod CountingSums
+pub mod CountingTrees
+pub mod CountingRules
+pub mod Counting

@@ -8,3 +8,4 @@ pub mod Contents
 pub mod Plans
 pub mod Examples
 pub mod ExampleRegions
+pub mod Counts

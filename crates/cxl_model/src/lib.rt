@@ -9,6 +9,7 @@ mod found;
 mod laws;
 mod plan;
 mod poison;
+mod regions;
 mod request;
 
 pub use chain::{Miss, Step};
@@ -22,6 +23,7 @@ pub use found::{Found, Place, weave_of};
 pub use laws::{accepted_or_breach, accepted_where_whole, one_outcome, one_window};
 pub use plan::{Plan, PlanFault, Reason, Row};
 pub use poison::{Entry, Part, PoisonList, Poisoned, Run, Wide};
+pub use regions::endpoints_lie_evenly;
 pub use request::Request;
 
 #[cfg(test)]
