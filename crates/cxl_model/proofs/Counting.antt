@@ -197,6 +197,11 @@ at_endpoint s r w n system known whole window is =
 
 -- ---- at a node that forwards
 
+-- a node that forwards has no decoder of the range
+pub forwards_none : (s : System) (r : Range) (n : ℕ) → IsWhole s r → forwards_at s.nodes n ≡ true → decoder_for s r n ≡ None
+forwards_none s r n whole forwards =
+    no_decoder s r n (false_from_ne_true (serves s r n) (λ is. false≢true (sym (reached s r whole n is).0 ∙ forwards)))
+
 at_forwarding : (s : System) (r : Range) (w : WindowFields) (n : ℕ) → IsSystem s → KnownTree s.nodes → IsWhole s r → forwards_at s.nodes n ≡ true
     → (below : LandsBelow s r n) → Counts s r w below.child → Counts s r w n
 at_forwarding s r w n system known whole forwards below counted =
@@ -214,7 +219,7 @@ at_forwarding s r w n system known whole forwards below counted =
     not_serving is = false≢true (sym (reached s r whole n is).0 ∙ forwards)
 
     none : decoder_for s r below.own.node ≡ None
-    none = ap (decoder_for s r) below.node ∙ no_decoder s r n (false_from_ne_true (serves s r n) not_serving)
+    none = ap (decoder_for s r) below.node ∙ forwards_none s r n whole forwards
 
     ways : ways_above s r below.child ≡ ways_above s r n
     ways = ways_past s r known below.child below.own below.parent none ∙ ap (ways_above s r) below.node
@@ -281,7 +286,7 @@ leaves_by_entry rise s r n known whole at port own distinct m is =
         under_is known n m ∙ or_right (m == n) (is_above s.nodes n m) (leaves_above known n some.1 m some.4)
 
 -- p times a is p times b only where a is b
-times_tell : (p a b : ℕ) → 0 < p → p * a ≡ p * b → a ≡ b
+pub times_tell : (p a b : ℕ) → 0 < p → p * a ≡ p * b → a ≡ b
 times_tell p a b some same = sym (mul-div_cancel_left a some) ∙ ap (λ (k : ℕ). k / p) same ∙ mul-div_cancel_left b some
 
 regroup : (c p a w : ℕ) → c * (p * a * w) ≡ p * (c * (a * w))
@@ -311,7 +316,7 @@ at_port rise s r w n known whole at port own counted =
 
 -- ---- at each node
 
-counted_within : RangesRise → (s : System) (r : Range) (w : WindowFields) → IsSystem s → KnownTree s.nodes → IsWhole s r → window_for s r ≡ Some w
+pub counted_within : RangesRise → (s : System) (r : Range) (w : WindowFields) → IsSystem s → KnownTree s.nodes → IsWhole s r → window_for s r ≡ Some w
     → (k n : ℕ) → length s.nodes ≤ n + k → lands_on s r n ≡ true → Counts s r w n
 counted_within rise s r w system known whole window zero n past lands =
     let within = lands_within s r n system lands in

@@ -273,7 +273,7 @@ targeted_step s r known i p some =
     (root_step known i p some)
 
 -- where the parent decodes, it lists the node and is reached itself; else it is reached as the node is
-parent_reached : RangesRise → (s : System) (r : Range) → KnownTree s.nodes → IsWhole s r → (i : ℕ) (p : Parent) → parent_of s.nodes i ≡ Some p → is_reached s r i ≡ true
+pub parent_reached : RangesRise → (s : System) (r : Range) → KnownTree s.nodes → IsWhole s r → (i : ℕ) (p : Parent) → parent_of s.nodes i ≡ Some p → is_reached s r i ≡ true
     → (is_reached s r p.node ≡ true) × (forwards_at s.nodes p.node ≡ false → lists s r p ≡ true)
 parent_reached rise s r known whole i p some is =
     elim (cases_Bool (forwards_at s.nodes p.node)) [

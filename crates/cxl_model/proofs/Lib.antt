@@ -13,3 +13,7 @@ pub mod CountingSums
 pub mod CountingTrees
 pub mod CountingRules
 pub mod Counting
+pub mod SpansWindows
+pub mod SpansNumbers
+pub mod SpansSlots
+pub mod SpansApart
