@@ -24,7 +24,7 @@ use Rattle.cxl_model.specs.Counts.{is_under, is_endpoint_of, endpoints_of, endpo
 use Rattle.cxl_model.proofs.WeavingWays.{some_ways, decoder_ways_known}
 use Rattle.cxl_model.proofs.WeavingServers.{has_ways}
 use Rattle.cxl_model.proofs.CountingSums.{one, total, length-filter-total, filter-filter, total-same, total-zero, exchange, total_even, list_any-weaker, once}
-use Rattle.cxl_model.proofs.CountingTrees.{KnownTree, parent_is_port, ports_some, is_above, leaves_at, under_is, leaves_above, above_leaves, leaves_once, under_child, under_only, under_endpoint, port_no_endpoint, same_test}
+use Rattle.cxl_model.proofs.CountingTrees.{KnownTree, parent_is_port, ports_none, ports_some, is_above, leaves_at, under_is, leaves_above, above_leaves, leaves_once, under_child, under_only, under_endpoint, port_no_endpoint, same_test}
 use Rattle.cxl_model.proofs.CountingRules.{RangesRise, ServesAt, served, leads, no_decoder, reached, ListedBy, listed_by, all_listed}
 
 -- ---- ways above
@@ -42,6 +42,9 @@ pub ways_past : (s : System) (r : Range) → KnownTree s.nodes → (c : ℕ) (p 
 ways_past s r known c p child none =
     ap (λ (ps : List Parent). product (map decoder_ways (filter_map (λ parent. decoder_for s r parent.node) ps))) (ports_some known c p child)
     ∙ ap (λ (o : Option Decoder). product (map decoder_ways (cons_option o (ports_for s r p.node)))) none
+
+pub no_ways_above : (s : System) (r : Range) (b : ℕ) → KnownTree s.nodes → parent_of s.nodes b ≡ None → ways_above s r b ≡ 1
+no_ways_above s r b known top = ap (λ (ps : List Parent). product (map decoder_ways (filter_map (λ parent. decoder_for s r parent.node) ps))) (ports_none known b top)
 
 -- ---- where a range lands
 
@@ -169,18 +172,20 @@ is_number test n k within passes =
 pub record Counts (s : System) (r : Range) (w : WindowFields) (n : ℕ) : Type 0 where
   pub even : count_of s r (is_under s.nodes n) * (ways_above s r n * w.ways) ≡ range_ways s r
 
-one_at_endpoint : (s : System) (r : Range) (n : ℕ) → IsSystem s → KnownTree s.nodes → is_endpoint_of s r n ≡ true → count_of s r (is_under s.nodes n) ≡ 1
-one_at_endpoint s r n system known is =
-    same_count s r (is_under s.nodes n) (λ m. m == n) (λ m other. under_endpoint known n m parts.0)
-    ∙ once (λ m. is_endpoint_of s r m && (m == n)) same (numbers s) (numbers_differ 0 (length s.nodes))
-    ∙ ap one (is_number (λ m. is_endpoint_of s r m && (m == n)) (length s.nodes) n (serves_within s r n system parts.1) (and_from (is_endpoint_of s r n) (n == n) is (eq-eqb n n refl)))
+-- the endpoint is one of the range's endpoints
+pub one_there : (s : System) (r : Range) (n : ℕ) → IsSystem s → is_endpoint_of s r n ≡ true → count_of s r (λ m. m == n) ≡ 1
+one_there s r n system is =
+    once (λ m. is_endpoint_of s r m && (m == n)) same (numbers s) (numbers_differ 0 (length s.nodes))
+    ∙ ap one (is_number (λ m. is_endpoint_of s r m && (m == n)) (length s.nodes) n (serves_within s r n system (and_parts (is_endpoint_at s.nodes n) (serves s r n) is).1)
+      (and_from (is_endpoint_of s r n) (n == n) is (eq-eqb n n refl)))
   where
-    parts : (is_endpoint_at s.nodes n ≡ true) × (serves s r n ≡ true)
-    parts = and_parts (is_endpoint_at s.nodes n) (serves s r n) is
-
     same : (a b : ℕ) → (is_endpoint_of s r a && (a == n)) ≡ true → (is_endpoint_of s r b && (b == n)) ≡ true → a ≡ b
     same a b one other =
         eqb-true a n (and_parts (is_endpoint_of s r a) (a == n) one).1 ∙ sym (eqb-true b n (and_parts (is_endpoint_of s r b) (b == n) other).1)
+
+one_at_endpoint : (s : System) (r : Range) (n : ℕ) → IsSystem s → KnownTree s.nodes → is_endpoint_of s r n ≡ true → count_of s r (is_under s.nodes n) ≡ 1
+one_at_endpoint s r n system known is =
+    same_count s r (is_under s.nodes n) (λ m. m == n) (λ m other. under_endpoint known n m (and_parts (is_endpoint_at s.nodes n) (serves s r n) is).0) ∙ one_there s r n system is
 
 at_endpoint : (s : System) (r : Range) (w : WindowFields) (n : ℕ) → IsSystem s → KnownTree s.nodes → IsWhole s r → window_for s r ≡ Some w
     → is_endpoint_of s r n ≡ true → Counts s r w n
@@ -232,17 +237,18 @@ at_forwarding s r w n system known whole forwards below counted =
 
 -- ---- at a port
 
-record Child (s : System) (r : Range) (n e : ℕ) : Type 0 where
-  node : ℕ
-  parent : parent_of s.nodes node ≡ Some (record { node = n; port = e })
-  lands : lands_on s r node ≡ true
+pub record Child (s : System) (r : Range) (n e : ℕ) : Type 0 where
+  pub node : ℕ
+  pub stands : child_of s.nodes n e ≡ Some node
+  pub parent : parent_of s.nodes node ≡ Some (record { node = n; port = e })
+  pub lands : lands_on s r node ≡ true
 
-child_at : (s : System) (r : Range) (n e : ℕ) → KnownTree s.nodes → leads_on s r n e ≡ true → Child s r n e
+pub child_at : (s : System) (r : Range) (n e : ℕ) → KnownTree s.nodes → leads_on s r n e ≡ true → Child s r n e
 child_at s r n e known leads_there = go (child_of s.nodes n e) refl leads_there
   where
     go : (o : Option ℕ) → child_of s.nodes n e ≡ o → option_map_or (lands_on s r) o false ≡ true → Child s r n e
     go None at is = absurd (false≢true is)
-    go (Some c) at is = record { node = c; parent = (known.laws.children n e c).0 at; lands = is }
+    go (Some c) at is = record { node = c; stands = at; parent = (known.laws.children n e c).0 at; lands = is }
 
 -- what leaves the port at one of its entries
 count_leaving : (s : System) (r : Range) (w : WindowFields) (n e : ℕ) (d : Decoder) → KnownTree s.nodes → decoder_for s r n ≡ Some d → (child : Child s r n e) → Counts s r w child.node

@@ -1,10 +1,10 @@
 -- Sums over a list: how many of its elements pass a test, and two sums in either order.
-use Rattle.std.proofs.Common.{◌≡◌, ◌≢◌, ℕ, zero, suc, ◌+◌, ◌*◌, ◌<◌, Bool, true, false, not, ◌&&◌, ◌||◌, cond, List, [], ◌∷◌, length, get_or, refl, sym, ap, ◌∙◌, ◌⊎◌, inl, inr, arith}
+use Rattle.std.proofs.Common.{◌≡◌, ◌≢◌, ℕ, zero, suc, ◌+◌, ◌*◌, ◌<◌, ◌≤◌, Bool, true, false, not, ◌&&◌, ◌||◌, cond, List, [], ◌∷◌, length, get_or, refl, sym, ap, ◌∙◌, ◌⊎◌, inl, inr, arith}
 use Rattle.std.specs.Prelude.{◌==◌, filter, All, AllPairs}
 use Rattle.std.specs.List.{list_any}
 use Rattle.std.proofs.Math.Nat.{add-mul}
 use Rattle.std.proofs.lemmas.Bool.{and_parts, or_left, or_right, eq-eqb, false_from_ne_true, false≢true, not-true}
-use Rattle.std.proofs.lemmas.List.Elements.{All-head, All-tail}
+use Rattle.std.proofs.lemmas.List.Elements.{All-head, All-tail, All-nil, All-cons}
 use Rattle.cxl_model.specs.Rules.{are_distinct}
 
 abbrev pub one : Bool → ℕ
@@ -97,3 +97,20 @@ once q same [] distinct = refl
 once q same (n ∷ ns) distinct =
     let parts = and_parts (not (list_any (λ m. m == n) ns)) (are_distinct ns) distinct in
     once_step (q n) (list_any q ns) (total (λ n. one (q n)) ns) (once q same ns parts.1) (others_fail q same n ns parts.0)
+
+-- ---- sums of which one is nowhere above the other
+
+total-le : {X : Type 0} (f g : X → ℕ) → ((x : X) → f x ≤ g x) → (xs : List X) → total f xs ≤ total g xs
+total-le f g least [] = omega arith
+total-le f g least (x ∷ xs) =
+    let first = least x in
+    let rest = total-le f g least xs in
+    omega (arith, first, rest)
+
+-- equal sums have equal summands, where those of one are nowhere above those of the other
+pub summands_same : {X : Type 0} (f g : X → ℕ) → ((x : X) → f x ≤ g x) → (xs : List X) → total f xs ≡ total g xs → All (λ x. f x ≡ g x) xs
+summands_same f g least [] same = All-nil (λ x. f x ≡ g x)
+summands_same f g least (x ∷ xs) same =
+    let first = least x in
+    let rest = total-le f g least xs in
+    All-cons (λ x. f x ≡ g x) x xs (omega (arith, first, rest, same)) (summands_same f g least xs (omega (arith, first, rest, same)))

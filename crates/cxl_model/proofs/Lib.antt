@@ -17,3 +17,5 @@ pub mod SpansWindows
 pub mod SpansNumbers
 pub mod SpansSlots
 pub mod SpansApart
+pub mod SpansPlaces
+pub mod Spans

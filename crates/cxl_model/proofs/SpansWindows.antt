@@ -28,7 +28,7 @@ use Rattle.cxl_model.proofs.WeavingWays.{some_ways}
 use Rattle.cxl_model.proofs.CountingSums.{one, total, length-filter-total, total-same, total_even, list_any-weaker, once}
 use Rattle.cxl_model.proofs.CountingTrees.{KnownTree, up_tree, parent_within, ports_none, root_of, root_root, root_step, under_top}
 use Rattle.cxl_model.proofs.CountingRules.{RangesRise, ServesAt, served, leads, reached, is_reached, parent_reached, all_targeted, listed_by, in_window}
-use Rattle.cxl_model.proofs.Counting.{Counts, counted_within, lands_within, lands_here, numbers, count_of, count_parts, is_number, times_tell}
+use Rattle.cxl_model.proofs.Counting.{Counts, counted_within, lands_within, lands_here, numbers, count_of, count_parts, is_number, times_tell, no_ways_above}
 
 -- ---- the window
 
@@ -236,7 +236,7 @@ under_one_target rise s r w system known whole window m is =
     some =
         list_any-weaker (λ target. target == own.uid) (λ uid. under_target s uid m) (λ uid equal. ap (λ u. under_target s u m) (eqb-true uid own.uid equal) ∙ here) w.targets own.targeted
 
-count_all : (s : System) (r : Range) → length (endpoints_of s r) ≡ count_of s r (λ m. true)
+pub count_all : (s : System) (r : Range) → length (endpoints_of s r) ≡ count_of s r (λ m. true)
 count_all s r =
     length-filter-total (is_endpoint_of s r) (numbers s)
     ∙ total-same (λ m. one (is_endpoint_of s r m)) (λ m. one (is_endpoint_of s r m && true)) (λ m. ap one (sym (and_true (is_endpoint_of s r m)))) (numbers s)
@@ -251,15 +251,12 @@ pub counted_all : RangesRise → (s : System) (r : Range) (w : WindowFields) →
 counted_all rise s r w system known whole window committed =
     count_all s r ∙ times_tell w.ways (count_of s r (λ m. true)) (range_ways s r) (some_ways w.ways (has_window s r w system window).known.ways_known) scaled
   where
-    no_ways_above : (b : ℕ) → parent_of s.nodes b ≡ None → ways_above s r b ≡ 1
-    no_ways_above b top = ap (λ (ps : List Parent). product (map decoder_ways (filter_map (λ parent. decoder_for s r parent.node) ps))) (ports_none known b top)
-
     each : All (λ uid. count_of s r (under_target s uid) * w.ways ≡ range_ways s r) w.targets
     each = λ k d within.
         let target = targets rise s r w system known whole window committed k d within in
         let here : count_of s r (is_under s.nodes target.bridge) * (ways_above s r target.bridge * w.ways) ≡ range_ways s r =
         (counted_within rise s r w system known whole window (length s.nodes) target.bridge (omega arith) target.lands).even in
-        let alone : ways_above s r target.bridge ≡ 1 = no_ways_above target.bridge target.top in
+        let alone : ways_above s r target.bridge ≡ 1 = no_ways_above s r target.bridge known target.top in
         ap (λ (o : Option ℕ). count_of s r (λ m. option_map_or (λ b. is_under s.nodes b m) o false) * w.ways) target.found
         ∙ ap (λ (x : ℕ). count_of s r (is_under s.nodes target.bridge) * x) (sym (one-mul w.ways) ∙ ap (λ (x : ℕ). x * w.ways) (sym alone))
         ∙ here
