@@ -352,3 +352,7 @@ counted rise s r w system known whole window n lands =
     mul_assoc (length (endpoints_under s r n)) (ways_above s r n) w.ways
     ∙ ap (λ (k : ℕ). k * (ways_above s r n * w.ways)) (count_under s r n)
     ∙ (counted_within rise s r w system known whole window (length s.nodes) n (omega arith) lands).even
+
+-- a range lands on each node that serves it
+pub served_lands : (s : System) (r : Range) (n : ℕ) → IsSystem s → KnownTree s.nodes → IsWhole s r → serves s r n ≡ true → lands_on s r n ≡ true
+served_lands s r n system known whole is = lands_here s r n system known (reached s r whole n is).0 ∙ is

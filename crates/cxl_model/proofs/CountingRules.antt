@@ -159,7 +159,7 @@ one_of_range rise s r keeps n i j d e d_there e_there d_has e_has = go (slice_ge
 -- ---- the rules
 
 -- a rule that is kept of a committed decoder
-kept : (s : System) (n i : ℕ) (d : Decoder) (keeps : Decoder → Bool) → decoder_at s n i ≡ Some d → d.committed ≡ true → breaks_at s n i keeps ≡ false → keeps d ≡ true
+pub kept : (s : System) (n i : ℕ) (d : Decoder) (keeps : Decoder → Bool) → decoder_at s n i ≡ Some d → d.committed ≡ true → breaks_at s n i keeps ≡ false → keeps d ≡ true
 kept s n i d keeps there committed unbroken =
     asked d.committed (keeps d) (sym (ap (λ (o : Option Decoder). option_map_or (λ e. e.committed && not (keeps e)) o false) there) ∙ unbroken) committed
   where

@@ -19,3 +19,6 @@ pub mod SpansSlots
 pub mod SpansApart
 pub mod SpansPlaces
 pub mod Spans
+pub mod SpansRegions
+pub mod SpansKinds
+pub mod SpansShared

@@ -267,3 +267,10 @@ counted_all rise s r w system known whole window committed =
         ∙ ap (λ (x : ℕ). x * w.ways) (count_parts s r (λ m. true) (under_target s) w.targets (under_one_target rise s r w system known whole window))
         ∙ total_even (λ uid. count_of s r (under_target s uid)) w.ways (range_ways s r) w.targets each
         ∙ ap (λ (x : ℕ). x * range_ways s r) (has_window s r w system window).known.target_each_way
+
+-- the same of a range with no window named
+pub counted_endpoints : RangesRise → (s : System) (r : Range) → IsSystem s → KnownTree s.nodes → IsWhole s r → IsCommittedRange s r → length (endpoints_of s r) ≡ range_ways s r
+counted_endpoints rise s r system known whole committed =
+    let at = served s r committed.0 committed.1 in
+    let window = in_window s r whole committed.0 at.i at.d at.there at.has in
+    counted_all rise s r window.0 system known whole window.1 committed

@@ -9,3 +9,4 @@ pub mod Plans
 pub mod Examples
 pub mod ExampleRegions
 pub mod Counts
+pub mod Bytes

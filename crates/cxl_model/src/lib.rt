@@ -23,7 +23,9 @@ pub use found::{Found, Place, weave_of};
 pub use laws::{accepted_or_breach, accepted_where_whole, one_outcome, one_window};
 pub use plan::{Plan, PlanFault, Reason, Row};
 pub use poison::{Entry, Part, PoisonList, Poisoned, Run, Wide};
-pub use regions::endpoints_lie_evenly;
+pub use regions::{
+    endpoints_lie_evenly, regions_share_no_byte, slots_are_endpoints, whole_ranges_have_one_region,
+};
 pub use request::Request;
 
 #[cfg(test)]
