@@ -22,3 +22,5 @@ pub mod Spans
 pub mod SpansRegions
 pub mod SpansKinds
 pub mod SpansShared
+pub mod Staying
+pub mod Carrying

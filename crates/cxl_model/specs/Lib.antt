@@ -10,3 +10,4 @@ pub mod Examples
 pub mod ExampleRegions
 pub mod Counts
 pub mod Bytes
+pub mod Changes

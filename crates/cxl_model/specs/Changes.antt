@@ -1,0 +1,16 @@
+-- Images of one host that have the same decoders of a range.
+use Rattle.std.specs.Prelude.{◌≡◌, ℕ, ◌≤◌, true, Some}
+use Rattle.cxl_regs.specs.declared.decoder.Decoder.{Decoder}
+use Rattle.cxl_model.specs.System.{System, decoder_at}
+use Rattle.cxl_model.specs.Ranges.{Range, has_range}
+
+-- where decoder i of a node has the range, the other image has the same decoders of that node up to i
+abbrev pub KeepsDecoders : System → System → Range → Type 0
+KeepsDecoders s t r = (n i j : ℕ) (d : Decoder) → decoder_at s n i ≡ Some d → has_range r d ≡ true → j ≤ i → decoder_at t n j ≡ decoder_at s n j
+
+-- the same nodes and windows, and the same decoders of the range
+pub record HaveSameDecoders (s t : System) (r : Range) : Type 0 where
+  pub nodes : t.nodes ≡ s.nodes
+  pub windows : t.windows ≡ s.windows
+  pub there : KeepsDecoders s t r
+  pub back : KeepsDecoders t s r
