@@ -24,3 +24,4 @@ pub mod SpansKinds
 pub mod SpansShared
 pub mod Staying
 pub mod Carrying
+pub mod SpansListed

@@ -191,3 +191,31 @@ share_device follow s w v found other endpoint dpa known is also in_found in_oth
     let two = of_byte s v other endpoint dpa also in_other in
     one_region s w v found other known is also
     (same_by_decoder s (region_range found) (region_range other) endpoint one.i two.i one.d two.d one.there two.there one.has two.has (one_span follow (decoders_at s endpoint) one.i two.i dpa one.inside two.inside))
+
+-- ---- bases
+
+-- the first byte of a region is one of it
+pub range_has_bytes : RangesRise → (s : System) (w : WindowFields) (found : Found) → IsRegionIn s w found → InRange (region_range found) found.base
+range_has_bytes rise s w found is = go (slice_get s.blocks n) (each_block_keeps s is.whole.blocks n) at.there
+  where
+    n : ℕ
+    n = is.committed.0
+
+    at : ServesAt s (region_range found) n
+    at = served s (region_range found) n is.committed.1
+
+    own : Has (region_range found) at.d
+    own = has_parts (region_range found) at.d at.has
+
+    go : (o : Option Registers) → IfSome o (λ block. BlockKeeps block (ram_at s n) (pmem_at s n)) → slice_get (option_map_or (λ block. block.decoders) o []) at.i ≡ Some at.d → InRange (region_range found) found.base
+    go None kept d_at = absurd (none-some at.d d_at)
+    go (Some block) kept d_at =
+        let bytes = rise.some block (ram_at s n) (pmem_at s n) at.i at.d kept d_at own.committed in
+        let size = own.size in
+        record { from = omega arith; below = omega (arith, bytes, size) }
+
+-- regions of one base are one
+pub one_base : RangesRise → (s : System) (w v : WindowFields) (found other : Found) → IsSystem s → KnownTree s.nodes → IsRegionIn s w found → IsRegionIn s v other → found.base ≡ other.base → found ≡ other
+one_base rise s w v found other system known is also same =
+    share_host rise s w v found other found.base system known is also (range_has_bytes rise s w found is)
+    (subst (InRange (region_range other)) (sym same) (range_has_bytes rise s v other also))

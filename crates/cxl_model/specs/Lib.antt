@@ -11,3 +11,4 @@ pub mod ExampleRegions
 pub mod Counts
 pub mod Bytes
 pub mod Changes
+pub mod Listed

@@ -1,21 +1,25 @@
 //! Laws of the regions of an image that keeps K1 to K8, accepted or not, each the contract of a function that
 //! does nothing.
 
-ghost use Rattle.std.specs.Prelude.{◌≡◌, ℕ, ◌+◌, ◌*◌, ◌<◌, ◌≤◌, true, length, slice_get, Some};
+ghost use Rattle.std.specs.Prelude.{◌≡◌, ℕ, ◌+◌, ◌*◌, ◌<◌, ◌≤◌, true, List, length, Contains, slice_get, Some};
+ghost use Rattle.cxl_regs.specs.declared.decoder.Decoder.{Decoder};
 ghost use Rattle.cxl_span.specs.Partitions.{lies_in};
 ghost use Rattle.cxl_span.specs.Spans.{span_start_of};
 ghost use Rattle.cxl_window.specs.Fields.{WindowFields};
 ghost use Rattle.cxl_model.specs.declared.found.Found.{Found};
 ghost use Rattle.cxl_model.specs.declared.found.Place.{Place};
-ghost use Rattle.cxl_model.specs.System.{System, IsSystem, decoders_at, ram_at, pmem_at};
-ghost use Rattle.cxl_model.specs.Ranges.{Range, IsCommittedRange, serves, index_for, window_for, ways_above, range_ways};
+ghost use Rattle.cxl_model.specs.System.{System, IsSystem, decoders_at, decoder_at, ram_at, pmem_at};
+ghost use Rattle.cxl_model.specs.Ranges.{Range, IsCommittedRange, has_range, serves, index_for, window_for, ways_above, range_ways};
 ghost use Rattle.cxl_model.specs.Rules.{lands_on};
-ghost use Rattle.cxl_model.specs.Accepted.{IsWhole};
-ghost use Rattle.cxl_model.specs.Regions.{region_range, IsRegionIn};
+ghost use Rattle.cxl_model.specs.Accepted.{IsAccepted, KeepsBlocks, IsWhole, breaks};
+ghost use Rattle.cxl_model.specs.Regions.{region_range, IsRegionIn, Carries};
 ghost use Rattle.cxl_model.specs.Counts.{is_endpoint_of, endpoints_of, endpoints_under};
 ghost use Rattle.cxl_model.specs.Bytes.{slot_length, LiesInSpan};
+ghost use Rattle.cxl_model.specs.Changes.{HaveSameDecoders};
+ghost use Rattle.cxl_model.specs.Listed.{AreRegions, AreRegionsByBase};
 
-use cxl_span::{ranges_rise, spans_follow, spans_lie_in_partitions};
+use cxl_deal::{place_tells_address, region_fills_slots};
+use cxl_span::{ranges_rise, spans_are_whole, spans_follow, spans_lie_in_partitions};
 use cxl_topo::tree_laws;
 
 /// A law of counts: under a node to which a whole range leads lie as many of its endpoints as its ways divided
@@ -85,4 +89,51 @@ pub fn regions_share_no_byte()
     tree_laws();
     ranges_rise();
     spans_follow();
+}
+
+/// A law of regions: one carries its host bytes one to one onto the bytes of its spans.
+pub fn bytes_are_carried_one_to_one()
+    ensures apart { (s : System) (w : WindowFields) (found : Found) (h other endpoint dpa : ℕ) → IsSystem s
+        → IsRegionIn s w found → Carries found w h endpoint dpa → Carries found w other endpoint dpa
+        → h ≡ other }
+    ensures each { (s : System) (w : WindowFields) (found : Found) (h : ℕ) → IsSystem s
+        → IsRegionIn s w found → found.base ≤ h → h < found.base + found.size
+        → (endpoint : ℕ) × (dpa : ℕ) × Carries found w h endpoint dpa }
+    ensures inside { (s : System) (w : WindowFields) (found : Found) (h endpoint dpa : ℕ) → IsSystem s
+        → IsRegionIn s w found → Carries found w h endpoint dpa → LiesInSpan found endpoint dpa }
+    ensures onto { (s : System) (w : WindowFields) (found : Found) (endpoint dpa : ℕ) → IsSystem s
+        → IsRegionIn s w found → LiesInSpan found endpoint dpa → (h : ℕ) × Carries found w h endpoint dpa }
+{
+    tree_laws();
+    ranges_rise();
+    spans_are_whole();
+    place_tells_address();
+    region_fills_slots();
+}
+
+/// A law of changes: an image that keeps K1 to K8 and has the same decoders of a range as another one has the
+/// same region of it, and K9 to K12 say the same of those decoders.
+pub fn regions_stay()
+    ensures region { (s t : System) (w : WindowFields) (found : Found)
+        → HaveSameDecoders s t (region_range found) → KeepsBlocks t
+        → IsRegionIn s w found → IsRegionIn t w found }
+    ensures whole { (s t : System) (r : Range) → HaveSameDecoders s t r → KeepsBlocks t
+        → IsWhole s r → IsWhole t r }
+    ensures rules { (s t : System) (r : Range) (rule n i : ℕ) (d : Decoder) → HaveSameDecoders s t r
+        → 9 ≤ rule → decoder_at s n i ≡ Some d → has_range r d ≡ true
+        → breaks t rule n i ≡ breaks s rule n i }
+{}
+
+/// A law of images: the regions of an accepted image stand in one list by rising base, and in only one. Each
+/// list of them has each.
+pub fn regions_are_listed()
+    ensures some { (s : System) → IsSystem s → IsAccepted s
+        → (regions : List Found) × AreRegionsByBase s regions }
+    ensures one { (s : System) (regions others : List Found) → IsSystem s
+        → AreRegionsByBase s regions → AreRegionsByBase s others → regions ≡ others }
+    ensures each { (s : System) (w : WindowFields) (found : Found) (regions : List Found) → IsSystem s
+        → AreRegions s regions → IsRegionIn s w found → Contains regions found }
+{
+    tree_laws();
+    ranges_rise();
 }
