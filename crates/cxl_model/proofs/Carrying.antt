@@ -1,20 +1,18 @@
 -- A region carries its host bytes one to one onto its spans.
-use Rattle.std.proofs.Common.{◌≡◌, ℕ, zero, suc, ◌+◌, ◌-◌, ◌*◌, ◌/◌, ◌%◌, ◌^◌, ◌<◌, ◌≤◌, Bool, true, false, not, ◌&&◌, ◌||◌, if◌then◌else◌, List, [], ◌∷◌, length, get_or, map, Option, Some, None, refl, sym, ap, ◌∙◌, subst, inl, inr, arith, ◌⊎◌, pow-add}
-use Rattle.std.specs.Prelude.{slice_get, ◌==◌, nat_le, IsTrue, IsSomeAnd, IfSome, unwrap_or}
+use Rattle.std.proofs.Common.{◌≡◌, ℕ, zero, suc, ◌+◌, ◌-◌, ◌*◌, ◌/◌, ◌%◌, ◌^◌, ◌<◌, ◌≤◌, Bool, true, false, not, ◌&&◌, if◌then◌else◌, length, get_or, Option, Some, None, refl, sym, ap, ◌∙◌, subst, inl, inr, arith, pow-add}
+use Rattle.std.specs.Prelude.{slice_get, ◌==◌, nat_le, IsTrue, IfSome, unwrap_or}
 use Rattle.std.specs.Option.{option_map_or}
-use Rattle.std.specs.List.{filter_map}
 use Rattle.std.proofs.Math.Nat.{mul_comm, mul_assoc, mul_right_comm, mul-div_cancel_left, mul-mod_right, div-add-mod, pow-suc, one-mul, mul-one}
-use Rattle.std.proofs.lemmas.Bool.{cases_lt, cases_Bool, agree_below_at, and_parts, leb-true, eqb-true, eqb-false, eq-eqb, not-true, ne_eqb, false≢true, true≢false}
+use Rattle.std.proofs.lemmas.Bool.{cases_Bool, agree_below_at, and_parts, leb-true, eqb-true, eq-eqb, not-true, ne_eqb, false≢true, true≢false}
 use Rattle.std.proofs.lemmas.Option.{slice_get_within, slice_get-get_or, none-some, same_Some}
 use Rattle.cxl_enc.specs.Codes.{is_ways, third_of, bits_of, ways_of}
 use Rattle.cxl_enc.specs.Caps.{targets_of}
 use Rattle.cxl_topo.specs.declared.node.Node.{Node}
-use Rattle.cxl_topo.specs.declared.node.Parent.{Parent}
 use Rattle.cxl_topo.specs.Kinds.{is_endpoint}
-use Rattle.cxl_topo.specs.Tree.{is_port_at, is_endpoint_at, parent_of}
+use Rattle.cxl_topo.specs.Tree.{is_port_at}
 use Rattle.cxl_regs.specs.declared.decoder.Decoder.{Decoder}
-use Rattle.cxl_regs.specs.Registers.{Registers, IsBlock}
-use Rattle.cxl_regs.specs.Rules.{codes_ok, endpoint_ways_ok, port_ways_ok}
+use Rattle.cxl_regs.specs.Registers.{Registers}
+use Rattle.cxl_regs.specs.Rules.{endpoint_ways_ok, port_ways_ok}
 use Rattle.cxl_span.specs.Spans.{decoder_ways, span_length}
 use Rattle.cxl_span.specs.Breaches.{breaks as block_breaks, BlockKeeps}
 use Rattle.cxl_span.specs.Rules.{breaks_codes}
@@ -22,24 +20,23 @@ use Rattle.cxl_window.specs.Fields.{WindowFields}
 use Rattle.cxl_deal.specs.Weaves.{WeaveFields, IsWeave, chunk_size, ways_by, weave_ways, turns_end, dealt_slot, dealt_offset}
 use Rattle.cxl_model.specs.declared.found.Found.{Found}
 use Rattle.cxl_model.specs.declared.found.Place.{Place}
-use Rattle.cxl_model.specs.System.{System, IsSystem, decoders_at, decoder_at, ram_at, pmem_at}
-use Rattle.cxl_model.specs.Ranges.{Range, serves, decoder_for, window_for, ways_above, range_ways}
+use Rattle.cxl_model.specs.System.{System, IsSystem, ram_at, pmem_at}
+use Rattle.cxl_model.specs.Ranges.{Range, serves, ways_above}
 use Rattle.cxl_model.specs.Accepted.{IsWhole}
 use Rattle.cxl_model.specs.Regions.{region_range, IsRegionIn, weave_fields, Carries}
 use Rattle.cxl_model.specs.Bytes.{slot_length, LiesInSpan}
 use Rattle.cxl_model.proofs.Outcomes.{value_of, one_value}
 use Rattle.cxl_model.proofs.Weaving.{found_ways_known, first_reached, told, window_divides, found_gran_known, found_maps_usable}
-use Rattle.cxl_model.proofs.WeavingWays.{some_ways}
 use Rattle.cxl_model.proofs.WeavingServers.{Reaches, Has, has_parts, has_ways, InBlock, in_block}
-use Rattle.cxl_model.proofs.CountingTrees.{KnownTree, up_tree, parent_is_port, port_no_endpoint}
+use Rattle.cxl_model.proofs.CountingTrees.{KnownTree, up_tree, parent_is_port}
 use Rattle.cxl_model.proofs.CountingRules.{each_block_keeps, ServesAt, served, no_decoder}
 use Rattle.cxl_model.proofs.Counting.{ways_below, ways_past, no_ways_above}
-use Rattle.cxl_model.proofs.SpansWindows.{HasWindow, has_window}
+use Rattle.cxl_model.proofs.SpansWindows.{has_window}
 use Rattle.cxl_model.proofs.SpansNumbers.{ways_are}
 use Rattle.cxl_model.proofs.SpansApart.{power}
-use Rattle.cxl_model.proofs.SpansKinds.{OfPlace, of_place, endpoint_block}
+use Rattle.cxl_model.proofs.SpansKinds.{endpoint_block}
 use Rattle.cxl_model.proofs.SpansPlaces.{some_and}
-use Rattle.cxl_model.proofs.Spans.{slots_differ, slot_place}
+use Rattle.cxl_model.proofs.Spans.{slots_differ}
 
 -- ---- powers of two
 
@@ -100,7 +97,7 @@ port_block s n block system at port = go (slice_get s.nodes n) refl port
 port_ways : (s : System) (r : Range) (n : ℕ) → IsSystem s → IsWhole s r → is_port_at s.nodes n ≡ true → (at : ServesAt s r n) → decoder_ways at.d ≡ 2 ^ at.d.ways
 port_ways s r n system whole port at =
     port_code at.d (few_codes own.block at.d (port_block s n own.block system own.at port) (has_parts r at.d at.has).committed
-      (block_codes own.block (ram_at s n) (pmem_at s n) at.i at.d (keeps (slice_get s.blocks n) own.block own.at (each_block_keeps s whole.blocks n)) own.there))
+    (block_codes own.block (ram_at s n) (pmem_at s n) at.i at.d (keeps (slice_get s.blocks n) own.block own.at (each_block_keeps s whole.blocks n)) own.there))
   where
     own : InBlock s n at.i at.d
     own = in_block s n at.i at.d at.there
@@ -202,7 +199,7 @@ shares : SpansWhole → (s : System) (w : WindowFields) (found : Found) → IsSy
 shares spans s w found system is =
     record {
       all = ap (λ (n : ℕ). slot_length found * n) own_ways ∙ ap (λ (n : ℕ). n * decoder_ways d) (sym length_is)
-        ∙ spans.shares own.block (ram_at s n) (pmem_at s n) end.i d keeps endpoint own.there has.committed ∙ has.size;
+          ∙ spans.shares own.block (ram_at s n) (pmem_at s n) end.i d keeps endpoint own.there has.committed ∙ has.size;
       aligned = ap (λ (k : ℕ). k % 2 ^ 28) (sym length_is) ∙ spans.length_aligned own.block (ram_at s n) (pmem_at s n) end.i d keeps endpoint own.there has.committed;
     }
   where
@@ -314,15 +311,14 @@ each_carried laws s w found h system known is from below =
     let slots = is.slots in
     let within : slot < length found.spans = omega (arith, few, ways, slots) in
     let any : Place = record { endpoint = 0; start = 0 } in
-    let place : Place = get_or found.spans slot any in
-    (
+    let place : Place = get_or found.spans slot any in (
       place.endpoint,
       place.start + dealt_offset weave h,
       record {
         from = from;
         below = below;
         place = some_and (slice_get found.spans slot) place (λ (p : Place). (p.endpoint ≡ place.endpoint) × (p.start + dealt_offset weave h ≡ place.start + dealt_offset weave h))
-          (slice_get-get_or found.spans slot any within) (refl, refl);
+            (slice_get-get_or found.spans slot any within) (refl, refl);
       },
     )
 
@@ -366,13 +362,12 @@ each_reached laws spans s w found endpoint dpa system known is lies =
     let h : ℕ = hit.0 in
     let slot_is = hit.3 in
     let offset_is = hit.4 in
-    let byte : lies.place.start + dealt_offset weave h ≡ dpa = omega (arith, offset_is, from) in
-    (
+    let byte : lies.place.start + dealt_offset weave h ≡ dpa = omega (arith, offset_is, from) in (
       h,
       record {
         from = hit.1;
         below = subst (λ (n : ℕ). h < n) end hit.2;
         place = some_and (slice_get found.spans (dealt_slot weave h)) lies.place (λ (p : Place). (p.endpoint ≡ endpoint) × (p.start + dealt_offset weave h ≡ dpa))
-          (ap (slice_get found.spans) slot_is ∙ lies.there) (lies.here, byte);
+            (ap (slice_get found.spans) slot_is ∙ lies.there) (lies.here, byte);
       },
     )

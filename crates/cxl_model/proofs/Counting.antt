@@ -1,31 +1,31 @@
 -- The endpoints of a whole range under a node.
-use Rattle.std.proofs.Common.{◌≡◌, ℕ, zero, suc, ◌+◌, ◌*◌, ◌/◌, ◌<◌, ◌≤◌, Bool, true, false, not, ◌&&◌, ◌||◌, cond, if◌then◌else◌, List, [], ◌∷◌, length, get_or, map, Option, Some, None, refl, sym, ap, ◌∙◌, subst, inl, inr, arith, ◌⊎◌}
-use Rattle.std.specs.Prelude.{slice_get, ◌==◌, filter, All, option_map, IsTrue}
+use Rattle.std.proofs.Common.{◌≡◌, ℕ, zero, suc, ◌+◌, ◌*◌, ◌/◌, ◌<◌, ◌≤◌, Bool, true, false, not, ◌&&◌, ◌||◌, if◌then◌else◌, List, [], length, get_or, map, Option, Some, None, refl, sym, ap, ◌∙◌, subst, inl, inr, arith}
+use Rattle.std.specs.Prelude.{slice_get, ◌==◌, All, option_map}
 use Rattle.std.proofs.lemmas.List.Sums.{AllPass-from_list_all}
 use Rattle.std.specs.Option.{option_map_or, option_and_then}
 use Rattle.std.specs.List.{list_any, list_all, filter_map, cons_option, range_with_len}
 use Rattle.std.proofs.Math.Nat.{mul_comm, mul_assoc, mul_left_comm, mul-div_cancel_left}
-use Rattle.std.proofs.lemmas.Bool.{cases_lt, cases_Bool, and_parts, and_from, or_cases, or_right, eqb-true, eq-eqb, ne_eqb, false_from_ne_true, false≢true, true≢false, not_from_false}
+use Rattle.std.proofs.lemmas.Bool.{cases_lt, cases_Bool, and_parts, and_from, or_cases, or_right, eqb-true, eq-eqb, ne_eqb, false_from_ne_true, false≢true, not_from_false}
 use Rattle.std.proofs.lemmas.Option.{slice_get_past, none-some, same_Some}
 use Rattle.std.proofs.lemmas.List.Folds.{Any-from_list_any, list_any_at}
 use Rattle.std.proofs.lemmas.List.FromFn.{length-range_with_len, get_or-range_with_len, length-map-range_with_len}
 use Rattle.cxl_topo.specs.declared.node.Node.{Node}
 use Rattle.cxl_topo.specs.declared.node.Parent.{Parent}
-use Rattle.cxl_topo.specs.Tree.{forwards_at, is_port_at, is_endpoint_at, parent_of, child_of, first_child_of, landing_within, landing_of, ports_above}
+use Rattle.cxl_topo.specs.Tree.{forwards_at, is_endpoint_at, parent_of, child_of, first_child_of, landing_within, landing_of}
 use Rattle.cxl_regs.specs.declared.decoder.Decoder.{Decoder}
 use Rattle.cxl_regs.specs.Registers.{Registers}
 use Rattle.cxl_span.specs.Spans.{decoder_ways}
 use Rattle.cxl_window.specs.Fields.{WindowFields}
-use Rattle.cxl_model.specs.System.{System, IsSystem, decoders_at, decoder_at, entries_of, entry_at}
+use Rattle.cxl_model.specs.System.{System, IsSystem, entries_of, entry_at}
 use Rattle.cxl_model.specs.Ranges.{Range, has_range, serves, decoder_for, window_for, ports_for, product, ways_above, range_ways}
-use Rattle.cxl_model.specs.Rules.{are_distinct, lands_on, leads_on, lists}
+use Rattle.cxl_model.specs.Rules.{are_distinct, lands_on, leads_on}
 use Rattle.cxl_model.specs.Accepted.{IsWhole}
-use Rattle.cxl_model.specs.Counts.{is_under, is_endpoint_of, endpoints_of, endpoints_under}
+use Rattle.cxl_model.specs.Counts.{is_under, is_endpoint_of, endpoints_under}
 use Rattle.cxl_model.proofs.WeavingWays.{some_ways, decoder_ways_known}
 use Rattle.cxl_model.proofs.WeavingServers.{has_ways}
 use Rattle.cxl_model.proofs.CountingSums.{one, total, length-filter-total, filter-filter, total-same, total-zero, exchange, total_even, list_any-weaker, once}
-use Rattle.cxl_model.proofs.CountingTrees.{KnownTree, parent_is_port, ports_none, ports_some, is_above, leaves_at, under_is, leaves_above, above_leaves, leaves_once, under_child, under_only, under_endpoint, port_no_endpoint, same_test}
-use Rattle.cxl_model.proofs.CountingRules.{RangesRise, ServesAt, served, leads, no_decoder, reached, ListedBy, listed_by, all_listed}
+use Rattle.cxl_model.proofs.CountingTrees.{KnownTree, parent_is_port, ports_none, ports_some, is_above, leaves_at, under_is, leaves_above, above_leaves, leaves_once, under_child, under_only, under_endpoint, same_test}
+use Rattle.cxl_model.proofs.CountingRules.{RangesRise, ServesAt, served, leads, no_decoder, reached, listed_by, all_listed}
 
 -- ---- ways above
 
@@ -112,8 +112,8 @@ lands_here s r n system known own =
           ap (λ (o : Option ℕ). option_map_or (serves s r) o false) (known.laws.landings n within)
           ∙ ap (λ b. option_map_or (serves s r) (if b then option_and_then (landing_of s.nodes) (first_child_of s.nodes n) else Some n) false) own
       | inr past ↦ same_test (lands_on s r n) (serves s r n)
-        (λ lands. let within = lands_within s r n system lands in absurd (omega arith))
-        (λ is. let within = serves_within s r n system is in absurd (omega arith))
+          (λ lands. let within = lands_within s r n system lands in absurd (omega arith))
+          (λ is. let within = serves_within s r n system is in absurd (omega arith))
     ]
 
 -- ---- counts
@@ -177,7 +177,7 @@ pub one_there : (s : System) (r : Range) (n : ℕ) → IsSystem s → is_endpoin
 one_there s r n system is =
     once (λ m. is_endpoint_of s r m && (m == n)) same (numbers s) (numbers_differ 0 (length s.nodes))
     ∙ ap one (is_number (λ m. is_endpoint_of s r m && (m == n)) (length s.nodes) n (serves_within s r n system (and_parts (is_endpoint_at s.nodes n) (serves s r n) is).1)
-      (and_from (is_endpoint_of s r n) (n == n) is (eq-eqb n n refl)))
+    (and_from (is_endpoint_of s r n) (n == n) is (eq-eqb n n refl)))
   where
     same : (a b : ℕ) → (is_endpoint_of s r a && (a == n)) ≡ true → (is_endpoint_of s r b && (b == n)) ≡ true → a ≡ b
     same a b one other =
@@ -212,9 +212,9 @@ at_forwarding : (s : System) (r : Range) (w : WindowFields) (n : ℕ) → IsSyst
 at_forwarding s r w n system known whole forwards below counted =
     record {
       even =
-        ap (λ (k : ℕ). k * (ways_above s r n * w.ways)) (same_count s r (is_under s.nodes n) (is_under s.nodes below.child) same)
-        ∙ ap (λ (k : ℕ). count_of s r (is_under s.nodes below.child) * (k * w.ways)) (sym ways)
-        ∙ counted.even;
+          ap (λ (k : ℕ). k * (ways_above s r n * w.ways)) (same_count s r (is_under s.nodes n) (is_under s.nodes below.child) same)
+          ∙ ap (λ (k : ℕ). count_of s r (is_under s.nodes below.child) * (k * w.ways)) (sym ways)
+          ∙ counted.even;
     }
   where
     own_forwards : forwards_at s.nodes below.own.node ≡ true
@@ -316,7 +316,7 @@ at_port rise s r w n known whole at port own counted =
     scaled =
         sym (regroup (count_of s r (is_under s.nodes n)) (decoder_ways at.d) (ways_above s r n) w.ways)
         ∙ ap (λ (k : ℕ). k * (decoder_ways at.d * ways_above s r n * w.ways))
-          (count_parts s r (is_under s.nodes n) (leaves_at s.nodes n) (entries_of at.d) (leaves_by_entry rise s r n known whole at port own entries.0))
+        (count_parts s r (is_under s.nodes n) (leaves_at s.nodes n) (entries_of at.d) (leaves_by_entry rise s r n known whole at port own entries.0))
         ∙ total_even (λ e. count_of s r (leaves_at s.nodes n e)) (decoder_ways at.d * ways_above s r n * w.ways) (range_ways s r) (entries_of at.d) each
         ∙ ap (λ (k : ℕ). k * range_ways s r) (length-map-range_with_len (entry_at at.d) 0 (decoder_ways at.d))
 
@@ -340,8 +340,8 @@ counted_within rise s r w system known whole window (suc k) n past lands =
             | inl endpoint ↦ at_endpoint s r w n system known whole window (and_from (is_endpoint_at s.nodes n) (serves s r n) endpoint is)
             | inr port ↦
                 at_port rise s r w n known whole (served s r n is) port own (λ e child.
-                  let higher = (parent_is_port known child.node (record { node = n; port = e }) child.parent).0 in
-                  counted_within rise s r w system known whole window k child.node (omega (arith, higher)) child.lands)
+                let higher = (parent_is_port known child.node (record { node = n; port = e }) child.parent).0 in
+                counted_within rise s r w system known whole window k child.node (omega (arith, higher)) child.lands)
           ]
     ]
 

@@ -1,15 +1,15 @@
 -- What the rules of a whole range say of a node that serves it.
 use Rattle.std.proofs.Common.{◌≡◌, ℕ, ◌+◌, ◌<◌, ◌≤◌, Bool, true, false, not, ◌&&◌, ◌||◌, cond, List, [], ◌∷◌, length, get_or, Option, Some, None, refl, sym, ap, ◌∙◌, subst, inl, inr, arith, ◌⊎◌}
-use Rattle.std.specs.Prelude.{slice_get, ◌==◌, nat_lt, find, position, IfSome, option_map}
+use Rattle.std.specs.Prelude.{slice_get, ◌==◌, nat_lt, find, position, IfSome}
 use Rattle.std.specs.Option.{option_map_or, option_and_then}
 use Rattle.std.specs.List.{list_any, list_all, position_or_len}
-use Rattle.std.proofs.lemmas.Bool.{cases_lt, cases_Bool, and_parts, or_cases, or_parts, eqb-true, ne_eqb, lt-ltb, le-ltb, cond-true, false≢true, not-true, not-false, not_from_true, true≢false}
-use Rattle.std.proofs.lemmas.Option.{slice_get_past, slice_get_within, slice_get-get_or, get_or_from_slice_get, none-some, same_Some}
+use Rattle.std.proofs.lemmas.Bool.{cases_lt, cases_Bool, and_parts, or_cases, or_parts, eqb-true, ne_eqb, lt-ltb, cond-true, false≢true, not-true, not_from_true, true≢false}
+use Rattle.std.proofs.lemmas.Option.{slice_get-get_or, none-some, same_Some}
 use Rattle.std.proofs.lemmas.List.Folds.{Any-from_list_any, find_at}
 use Rattle.std.proofs.lemmas.List.Sums.{fails_before_first, passes_at_first}
 use Rattle.cxl_topo.specs.declared.node.Node.{Node}
 use Rattle.cxl_topo.specs.declared.node.Parent.{Parent}
-use Rattle.cxl_topo.specs.Tree.{forwards_at, is_endpoint_at, uid_at, parent_of, ports_above, path_of, decoding_port_of}
+use Rattle.cxl_topo.specs.Tree.{forwards_at, is_endpoint_at, uid_at, parent_of, decoding_port_of}
 use Rattle.cxl_regs.specs.declared.decoder.Decoder.{Decoder}
 use Rattle.cxl_regs.specs.Registers.{Registers, reset_decoder}
 use Rattle.cxl_regs.specs.Rules.{before}
@@ -19,11 +19,11 @@ use Rattle.cxl_span.specs.Breaches.{breaks as block_breaks, BlockKeeps}
 use Rattle.cxl_window.specs.Fields.{WindowFields}
 use Rattle.cxl_model.specs.System.{System, KeepsBlock, decoders_at, decoder_at, ram_at, pmem_at, entries_of}
 use Rattle.cxl_model.specs.Ranges.{Range, range_of, has_range, serves, decoder_for, index_for, window_for}
-use Rattle.cxl_model.specs.Rules.{keeps_window, keeps_targets, keeps_reach, are_distinct, leads_on, is_bridge_landing, targets_land, lists, uid_above, is_targeted}
+use Rattle.cxl_model.specs.Rules.{keeps_window, keeps_targets, keeps_reach, are_distinct, leads_on, is_bridge_landing, targets_land, lists, is_targeted}
 use Rattle.cxl_model.specs.Accepted.{breaks, breaks_at, breaks_block, KeepsBlocks, IsWhole}
 use Rattle.cxl_model.proofs.BreachesOfRanges.{passes_one}
 use Rattle.cxl_model.proofs.WeavingServers.{Has, has_parts, same_range}
-use Rattle.cxl_model.proofs.CountingTrees.{KnownTree, up_tree, ports_none, ports_some, leaves_at, leaves_root, leaves_step, root_of, root_root, root_step}
+use Rattle.cxl_model.proofs.CountingTrees.{KnownTree, up_tree, ports_none, ports_some, leaves_at, leaves_root, leaves_step, root_step}
 
 -- ---- blocks
 
@@ -35,9 +35,15 @@ no_such_rule : (rule : ℕ) (block : Registers) (ram pmem start : ℕ) (below : 
     → breaks_rule rule block ram pmem below start d ≡ false
 no_such_rule rule block ram pmem start below d other =
     let apart : (k : ℕ) → 2 ≤ k → k < 9 → rule ≡ k → ⊥ = λ k low high e. elim other [ inl less ↦ omega arith | inr more ↦ omega arith ] in
-    rw (ne_eqb rule 2 (apart 2 (omega arith) (omega arith)), ne_eqb rule 3 (apart 3 (omega arith) (omega arith)), ne_eqb rule 4 (apart 4 (omega arith) (omega arith)),
-      ne_eqb rule 5 (apart 5 (omega arith) (omega arith)), ne_eqb rule 6 (apart 6 (omega arith) (omega arith)), ne_eqb rule 7 (apart 7 (omega arith) (omega arith)),
-      ne_eqb rule 8 (apart 8 (omega arith) (omega arith))) refl
+    rw (
+      ne_eqb rule 2 (apart 2 (omega arith) (omega arith)),
+      ne_eqb rule 3 (apart 3 (omega arith) (omega arith)),
+      ne_eqb rule 4 (apart 4 (omega arith) (omega arith)),
+      ne_eqb rule 5 (apart 5 (omega arith) (omega arith)),
+      ne_eqb rule 6 (apart 6 (omega arith) (omega arith)),
+      ne_eqb rule 7 (apart 7 (omega arith) (omega arith)),
+      ne_eqb rule 8 (apart 8 (omega arith) (omega arith)),
+    ) refl
 
 no_rule : (rule : ℕ) (block : Registers) (ram pmem i : ℕ) → (rule < 2) ⊎ (9 ≤ rule) → block_breaks rule block ram pmem i ≡ false
 unfolding block_breaks
@@ -248,9 +254,9 @@ listed_by rise s r keeps p listed =
     record {
       serves = passes_one (has_range r) (decoders_at s p.node) some.i d some.at parts.0;
       entry = λ i e there has.
-        let same : some.i ≡ i = one_of_range rise s r keeps p.node some.i i d e some.at there parts.0 has in
-        let here : d ≡ e = same_Some d e (sym some.at ∙ ap (slice_get (decoders_at s p.node)) same ∙ there) in
-        subst (λ (x : Decoder). list_any (λ port. port == p.port) (entries_of x) ≡ true) here parts.1;
+          let same : some.i ≡ i = one_of_range rise s r keeps p.node some.i i d e some.at there parts.0 has in
+          let here : d ≡ e = same_Some d e (sym some.at ∙ ap (slice_get (decoders_at s p.node)) same ∙ there) in
+          subst (λ (x : Decoder). list_any (λ port. port == p.port) (entries_of x) ≡ true) here parts.1;
     }
 
 -- ---- ways up
@@ -297,16 +303,16 @@ all_listed rise s r known whole n e own =
     up_tree known (λ i. is_reached s r i ≡ true → leaves_at s.nodes n e i ≡ true → lists s r (record { node = n; port = e }) ≡ true)
     (λ i none is leaves. absurd (false≢true (sym (leaves_root known n e i none) ∙ leaves)))
     (λ i p some rest is leaves.
-      let up = parent_reached rise s r known whole i p some is in
-      elim (or_cases ((p.node == n) && (p.port == e)) (leaves_at s.nodes n e p.node) (sym (leaves_step known n e i p some) ∙ leaves)) [
-        | inl here ↦
-            let parts = and_parts (p.node == n) (p.port == e) here in
-            let node = eqb-true p.node n parts.0 in
-            let port = eqb-true p.port e parts.1 in
-            let listed : lists s r p ≡ true = up.1 (ap (forwards_at s.nodes) node ∙ own) in
-            ap (λ (q : Parent). lists s r q) (sym (same_port p n e node port)) ∙ listed
-        | inr higher ↦ rest up.0 higher
-      ])
+    let up = parent_reached rise s r known whole i p some is in
+    elim (or_cases ((p.node == n) && (p.port == e)) (leaves_at s.nodes n e p.node) (sym (leaves_step known n e i p some) ∙ leaves)) [
+      | inl here ↦
+          let parts = and_parts (p.node == n) (p.port == e) here in
+          let node = eqb-true p.node n parts.0 in
+          let port = eqb-true p.port e parts.1 in
+          let listed : lists s r p ≡ true = up.1 (ap (forwards_at s.nodes) node ∙ own) in
+          ap (λ (q : Parent). lists s r q) (sym (same_port p n e node port)) ∙ listed
+      | inr higher ↦ rest up.0 higher
+    ])
 
 -- the window targets the bridge above each node that is reached
 pub all_targeted : RangesRise → (s : System) (r : Range) → KnownTree s.nodes → IsWhole s r → (i : ℕ) → is_reached s r i ≡ true → is_targeted s r i ≡ true

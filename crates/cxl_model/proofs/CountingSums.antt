@@ -1,6 +1,6 @@
 -- Sums over a list: how many of its elements pass a test, and two sums in either order.
-use Rattle.std.proofs.Common.{◌≡◌, ◌≢◌, ℕ, zero, suc, ◌+◌, ◌*◌, ◌<◌, ◌≤◌, Bool, true, false, not, ◌&&◌, ◌||◌, cond, List, [], ◌∷◌, length, get_or, refl, sym, ap, ◌∙◌, ◌⊎◌, inl, inr, arith}
-use Rattle.std.specs.Prelude.{◌==◌, filter, All, AllPairs}
+use Rattle.std.proofs.Common.{◌≡◌, ℕ, ◌+◌, ◌*◌, ◌≤◌, Bool, true, false, not, ◌&&◌, ◌||◌, cond, List, [], ◌∷◌, length, refl, sym, ap, ◌∙◌, arith}
+use Rattle.std.specs.Prelude.{◌==◌, filter, All}
 use Rattle.std.specs.List.{list_any}
 use Rattle.std.proofs.Math.Nat.{add-mul}
 use Rattle.std.proofs.lemmas.Bool.{and_parts, or_left, or_right, eq-eqb, false_from_ne_true, false≢true, not-true}
@@ -89,7 +89,7 @@ others_fail : (q : ℕ → Bool) → ((a b : ℕ) → q a ≡ true → q b ≡ t
     → list_any q ns ≡ false
 others_fail q same n ns distinct passes =
     false_from_ne_true (list_any q ns) (λ any.
-      false≢true (sym (not-true (list_any (λ m. m == n) ns) distinct) ∙ list_any-weaker q (λ m. m == n) (λ m m_passes. eq-eqb m n (same m n m_passes passes)) ns any))
+    false≢true (sym (not-true (list_any (λ m. m == n) ns) distinct) ∙ list_any-weaker q (λ m. m == n) (λ m m_passes. eq-eqb m n (same m n m_passes passes)) ns any))
 
 pub once : (q : ℕ → Bool) → ((a b : ℕ) → q a ≡ true → q b ≡ true → a ≡ b) → (ns : List ℕ) → are_distinct ns ≡ true
     → total (λ n. one (q n)) ns ≡ one (list_any q ns)

@@ -1,29 +1,24 @@
 -- The spans of a region: different slots have different endpoints, and each endpoint of the range is a slot's.
-use Rattle.std.proofs.Common.{◌≡◌, ℕ, zero, suc, ◌+◌, ◌*◌, ◌/◌, ◌%◌, ◌^◌, ◌<◌, ◌≤◌, Bool, true, false, not, ◌&&◌, ◌||◌, if◌then◌else◌, List, [], ◌∷◌, length, get_or, map, Option, Some, None, refl, sym, ap, ◌∙◌, subst, inl, inr, arith, ◌⊎◌}
-use Rattle.std.specs.Prelude.{slice_get, ◌==◌, All, IsTrue, IfSome}
-use Rattle.std.specs.Option.{option_map_or}
-use Rattle.std.specs.List.{list_any, range_with_len}
+use Rattle.std.proofs.Common.{◌≡◌, ℕ, ◌*◌, ◌/◌, ◌%◌, ◌^◌, ◌<◌, ◌≤◌, Bool, true, false, ◌&&◌, List, length, get_or, map, Some, None, refl, sym, ap, ◌∙◌, subst, arith}
+use Rattle.std.specs.Prelude.{slice_get, ◌==◌, All, IsTrue}
+use Rattle.std.specs.List.{list_any}
 use Rattle.std.proofs.Math.Nat.{mul-one, one-mul, zero-add, mod-lt}
-use Rattle.std.proofs.lemmas.Bool.{cases_Bool, and_parts, and_from, eqb-true, eq-eqb, false≢true, true≢false}
-use Rattle.std.proofs.lemmas.Option.{slice_get_within, slice_get-get_or, get_or_from_slice_get, none-some, same_Some}
-use Rattle.std.proofs.lemmas.List.{length-map, get_or-map, get_or_default, same_lists}
+use Rattle.std.proofs.lemmas.Bool.{and_parts, eqb-true, false≢true}
+use Rattle.std.proofs.lemmas.Option.{slice_get_within, slice_get-get_or, get_or_from_slice_get}
+use Rattle.std.proofs.lemmas.List.{length-map, get_or-map, get_or_default}
 use Rattle.std.proofs.lemmas.List.Folds.{Any-from_list_any}
-use Rattle.std.proofs.lemmas.List.FromFn.{length-map-range_with_len, get_or-map-range_with_len, length-range_with_len, get_or-range_with_len}
-use Rattle.cxl_enc.specs.declared.caps.MemKind.{MemKind}
-use Rattle.cxl_enc.specs.declared.caps.MemKind.TheVariants.{Ram, Pmem}
+use Rattle.std.proofs.lemmas.List.FromFn.{length-range_with_len, get_or-range_with_len}
 use Rattle.cxl_enc.specs.Codes.{is_ways, third_of, bits_of}
 use Rattle.cxl_topo.specs.Tree.{is_endpoint_at, uid_at, parent_of, bridge_with}
-use Rattle.cxl_regs.specs.declared.decoder.Decoder.{Decoder}
-use Rattle.cxl_span.specs.Spans.{decoder_ways, span_start_of}
 use Rattle.cxl_window.specs.Fields.{WindowFields}
 use Rattle.cxl_model.specs.declared.found.Found.{Found}
 use Rattle.cxl_model.specs.declared.found.Place.{Place}
-use Rattle.cxl_model.specs.System.{System, IsSystem, decoders_at}
-use Rattle.cxl_model.specs.Ranges.{Range, IsCommittedRange, serves, window_for, ways_above, range_ways, range_kind, range_code}
+use Rattle.cxl_model.specs.System.{System, IsSystem}
+use Rattle.cxl_model.specs.Ranges.{Range, serves, window_for, ways_above, range_ways}
 use Rattle.cxl_model.specs.Rules.{are_distinct}
 use Rattle.cxl_model.specs.Accepted.{IsWhole}
 use Rattle.cxl_model.specs.Regions.{target_position, slots_an_entry, LeadsTo, HasSpan, region_range, IsRegionIn}
-use Rattle.cxl_model.specs.Counts.{is_under, is_endpoint_of, endpoints_of}
+use Rattle.cxl_model.specs.Counts.{is_endpoint_of}
 use Rattle.cxl_model.proofs.Outcomes.{value_of, one_value}
 use Rattle.cxl_model.proofs.Weaving.{found_ways_known}
 use Rattle.cxl_model.proofs.WeavingServers.{has_ways}
@@ -33,9 +28,8 @@ use Rattle.cxl_model.proofs.CountingRules.{RangesRise, served}
 use Rattle.cxl_model.proofs.Counting.{numbers, count_of, count_parts, one_there, no_ways_above, serves_within}
 use Rattle.cxl_model.proofs.SpansWindows.{HasWindow, has_window, uid_top, distinct_test, count_all, counted_all}
 use Rattle.cxl_model.proofs.SpansNumbers.{position_parts}
-use Rattle.cxl_model.proofs.SpansSlots.{IsPlace, is_place, leads_under, one_place}
-use Rattle.cxl_model.proofs.SpansApart.{Agree, agree, one_index, one_slot, position_below, power}
-use Rattle.cxl_model.proofs.SpansPlaces.{Spanned, spanned}
+use Rattle.cxl_model.proofs.SpansSlots.{IsPlace, is_place, leads_under}
+use Rattle.cxl_model.proofs.SpansApart.{Agree, agree, one_index, one_slot, power}
 
 -- ---- the bridge of a slot
 
@@ -142,13 +136,13 @@ no_place = record { endpoint = 0; start = 0 }
 ends_differ : (s : System) (w : WindowFields) (found : Found) → IsSystem s → KnownTree s.nodes → IsRegionIn s w found → are_distinct (ends found) ≡ true
 ends_differ s w found system known is =
     distinct_test (ends found) (λ i j d less within same.
-      let j_within : j < length found.spans = subst (λ (n : ℕ). j < n) (length-map found.spans (λ place. place.endpoint)) within in
-      let i_within : i < length found.spans = omega arith in
-      let p : Place = get_or found.spans i no_place in
-      let q : Place = get_or found.spans j no_place in
-      let one = slots_differ s w found system known is i j p q (slice_get-get_or found.spans i no_place i_within) (slice_get-get_or found.spans j no_place j_within)
-      (sym (get_or-map (λ place. place.endpoint) found.spans i no_place d i_within) ∙ same ∙ get_or-map (λ place. place.endpoint) found.spans j no_place d j_within) in
-      omega (arith, one))
+    let j_within : j < length found.spans = subst (λ (n : ℕ). j < n) (length-map found.spans (λ place. place.endpoint)) within in
+    let i_within : i < length found.spans = omega arith in
+    let p : Place = get_or found.spans i no_place in
+    let q : Place = get_or found.spans j no_place in
+    let one = slots_differ s w found system known is i j p q (slice_get-get_or found.spans i no_place i_within) (slice_get-get_or found.spans j no_place j_within)
+    (sym (get_or-map (λ place. place.endpoint) found.spans i no_place d i_within) ∙ same ∙ get_or-map (λ place. place.endpoint) found.spans j no_place d j_within) in
+    omega (arith, one))
 
 -- each of them counts as one endpoint of the range
 count_ends : (s : System) (w : WindowFields) (found : Found) → IsSystem s → KnownTree s.nodes → IsRegionIn s w found
@@ -177,8 +171,7 @@ pub slot_for : RangesRise → (s : System) (w : WindowFields) (found : Found) �
 slot_for rise s w found system known is m end =
     let some = Any-from_list_any (λ x. m == x) (ends found) there in
     let k : ℕ = some.0 in
-    let within : k < length found.spans = subst (λ (n : ℕ). k < n) (length-map found.spans (λ place. place.endpoint)) some.2 in
-    (
+    let within : k < length found.spans = subst (λ (n : ℕ). k < n) (length-map found.spans (λ place. place.endpoint)) some.2 in (
       k,
       get_or found.spans k no_place,
       slice_get-get_or found.spans k no_place within,

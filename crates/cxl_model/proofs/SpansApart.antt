@@ -1,35 +1,31 @@
 -- Slots that lead to one endpoint are one slot.
-use Rattle.std.proofs.Common.{◌≡◌, ℕ, zero, suc, ◌+◌, ◌*◌, ◌/◌, ◌%◌, ◌^◌, ◌<◌, ◌≤◌, Bool, true, false, not, ◌&&◌, ◌||◌, List, [], ◌∷◌, length, get_or, map, Option, Some, None, refl, sym, ap, ◌∙◌, subst, inl, inr, arith}
-use Rattle.std.specs.Prelude.{slice_get, ◌==◌, All, IsSomeAnd, IsTrue}
-use Rattle.std.specs.Option.{option_map_or}
-use Rattle.std.specs.List.{list_any, range_with_len}
-use Rattle.std.proofs.Math.Nat.{mul-one, mod-lt, mod-one, mul-pos, mul_assoc, mul_comm, mul_left_comm, one-mul, div-div-eq-div-mul, div-add-mod, div-lt_iff_lt-mul, pow-suc}
-use Rattle.std.proofs.lemmas.Bool.{cases_lt, cases_Bool, and_parts, eqb-true, eq-eqb, false≢true, not-true}
-use Rattle.std.proofs.lemmas.Option.{slice_get_within, get_or_from_slice_get, none-some, same_Some}
+use Rattle.std.proofs.Common.{◌≡◌, ℕ, zero, suc, ◌+◌, ◌*◌, ◌/◌, ◌%◌, ◌^◌, ◌<◌, true, false, not, List, [], ◌∷◌, length, get_or, Some, None, refl, sym, ap, ◌∙◌, subst, inl, inr, arith}
+use Rattle.std.specs.Prelude.{◌==◌, IsTrue}
+use Rattle.std.specs.List.{list_any}
+use Rattle.std.proofs.Math.Nat.{mul-one, mod-lt, mod-one, mul-pos, mul_assoc, mul_comm, div-div-eq-div-mul, div-add-mod, div-lt_iff_lt-mul, pow-suc}
+use Rattle.std.proofs.lemmas.Bool.{cases_lt, cases_Bool, and_parts, eq-eqb, false≢true, not-true}
+use Rattle.std.proofs.lemmas.Option.{none-some}
 use Rattle.std.proofs.lemmas.List.Folds.{list_any_at}
 use Rattle.std.proofs.lemmas.List.FromFn.{get_or-map-range_with_len, length-map-range_with_len}
 use Rattle.cxl_enc.specs.Codes.{is_ways, third_of, bits_of}
-use Rattle.cxl_topo.specs.declared.node.Parent.{Parent}
-use Rattle.cxl_topo.specs.Tree.{forwards_at, is_port_at, is_endpoint_at, uid_at, parent_of, child_of, first_child_of, bridge_with}
+use Rattle.cxl_topo.specs.Tree.{is_endpoint_at, child_of}
 use Rattle.cxl_regs.specs.declared.decoder.Decoder.{Decoder}
 use Rattle.cxl_span.specs.Spans.{decoder_ways}
 use Rattle.cxl_window.specs.Fields.{WindowFields}
 use Rattle.cxl_model.specs.declared.found.Place.{Place}
-use Rattle.cxl_model.specs.System.{System, IsSystem, decoders_at, entries_of, entry_at}
-use Rattle.cxl_model.specs.Ranges.{Range, serves, decoder_for, window_for, ways_above, range_ways}
+use Rattle.cxl_model.specs.System.{System, entries_of, entry_at}
+use Rattle.cxl_model.specs.Ranges.{Range, serves, decoder_for, ways_above}
 use Rattle.cxl_model.specs.Rules.{are_distinct}
 use Rattle.cxl_model.specs.Accepted.{IsWhole}
-use Rattle.cxl_model.specs.Regions.{target_position, slots_an_entry, LeadsSlot, LeadsTo, past_forwarding, past_port, at_endpoint, HasSpan}
+use Rattle.cxl_model.specs.Regions.{target_position, slots_an_entry, LeadsTo, past_forwarding, past_port, at_endpoint}
 use Rattle.cxl_model.specs.Counts.{is_under}
-use Rattle.cxl_model.proofs.Outcomes.{value_of, one_value}
+use Rattle.cxl_model.proofs.Outcomes.{one_value}
 use Rattle.cxl_model.proofs.WeavingWays.{some_ways, decoder_ways_known}
-use Rattle.cxl_model.proofs.WeavingServers.{has_ways}
-use Rattle.cxl_model.proofs.CountingTrees.{KnownTree, leaves_once, port_no_endpoint, under_top, root_of}
-use Rattle.cxl_model.proofs.CountingRules.{ServesAt, served, leads, no_decoder}
+use Rattle.cxl_model.proofs.CountingTrees.{KnownTree, leaves_once, port_no_endpoint}
+use Rattle.cxl_model.proofs.CountingRules.{served, leads, no_decoder}
 use Rattle.cxl_model.proofs.Counting.{ways_below, ways_past, forwards_none}
-use Rattle.cxl_model.proofs.SpansWindows.{HasWindow, has_window, uid_top, distinct_test}
-use Rattle.cxl_model.proofs.SpansNumbers.{digit_below, agree_by_product, position_parts, ways_are, some_third, remainders_tell}
-use Rattle.cxl_model.proofs.SpansSlots.{only_child, Goes, goes, entry_for, IsPlace, is_place, leads_under, leaves_for, from_forwarding, OnFrom, from_port, from_endpoint}
+use Rattle.cxl_model.proofs.SpansNumbers.{digit_below, agree_by_product, ways_are, some_third, remainders_tell}
+use Rattle.cxl_model.proofs.SpansSlots.{only_child, goes, entry_for, leads_under, leaves_for, from_forwarding, from_port}
 
 -- ---- numbers that differ
 
@@ -109,7 +105,7 @@ agree_step s w r a b n c m p some ways low rest = record {
   times = p * rest.times;
   some = mul-pos some rest.some;
   ways =
-    rest.ways ∙ ap (λ (k : ℕ). k * rest.times) (ways ∙ mul_comm p (ways_above s r n)) ∙ mul_assoc (ways_above s r n) p rest.times;
+      rest.ways ∙ ap (λ (k : ℕ). k * rest.times) (ways ∙ mul_comm p (ways_above s r n)) ∙ mul_assoc (ways_above s r n) p rest.times;
   digits = agree_by_product p rest.times (a / slots_an_entry s w r n) (b / slots_an_entry s w r n) some rest.some low high;
 }
   where

@@ -1,8 +1,8 @@
 -- Each span of a region lies in its device, in the partition of the region's kind.
-use Rattle.std.proofs.Common.{◌≡◌, ℕ, ◌+◌, ◌*◌, ◌/◌, ◌<◌, ◌≤◌, Bool, true, false, ◌&&◌, ◌||◌, if◌then◌else◌, List, [], length, Option, Some, None, refl, sym, ap, ◌∙◌, subst, arith}
+use Rattle.std.proofs.Common.{◌≡◌, ℕ, ◌*◌, ◌/◌, Bool, true, false, ◌&&◌, ◌||◌, if◌then◌else◌, List, [], Option, Some, None, refl, sym, ap, ◌∙◌, subst, arith}
 use Rattle.std.specs.Prelude.{slice_get, ◌==◌, IfSome}
 use Rattle.std.specs.Option.{option_map_or}
-use Rattle.std.proofs.lemmas.Bool.{and_parts, false≢true, true≢false}
+use Rattle.std.proofs.lemmas.Bool.{and_parts, false≢true}
 use Rattle.std.proofs.lemmas.Option.{none-some, same_Some}
 use Rattle.cxl_enc.specs.declared.caps.MemKind.{MemKind}
 use Rattle.cxl_enc.specs.declared.caps.MemKind.TheVariants.{Ram, Pmem}
@@ -17,15 +17,15 @@ use Rattle.cxl_span.specs.Breaches.{BlockKeeps}
 use Rattle.cxl_window.specs.Fields.{WindowFields}
 use Rattle.cxl_model.specs.declared.found.Found.{Found}
 use Rattle.cxl_model.specs.declared.found.Place.{Place}
-use Rattle.cxl_model.specs.System.{System, IsSystem, KeepsBlock, decoders_at, decoder_at, ram_at, pmem_at}
-use Rattle.cxl_model.specs.Ranges.{Range, range_of, has_range, serves, index_for, window_for, ways_above, span_kind, same_kind, range_ways, range_kind, range_code}
+use Rattle.cxl_model.specs.System.{System, IsSystem, decoders_at, decoder_at, ram_at, pmem_at}
+use Rattle.cxl_model.specs.Ranges.{Range, has_range, serves, index_for, window_for, ways_above, span_kind, same_kind, range_ways, range_kind, range_code}
 use Rattle.cxl_model.specs.Rules.{keeps_ways, keeps_port_code}
 use Rattle.cxl_model.specs.Accepted.{breaks, breaks_at, IsWhole}
 use Rattle.cxl_model.specs.Regions.{region_range, IsRegionIn}
 use Rattle.cxl_model.specs.Bytes.{slot_length}
 use Rattle.cxl_model.proofs.Outcomes.{one_value}
 use Rattle.cxl_model.proofs.WeavingServers.{has_parts, same_range, has_ways, InBlock, in_block}
-use Rattle.cxl_model.proofs.CountingRules.{each_block_keeps, ServesAt, served, kept}
+use Rattle.cxl_model.proofs.CountingRules.{each_block_keeps, served, kept}
 use Rattle.cxl_model.proofs.SpansSlots.{IsPlace}
 use Rattle.cxl_model.proofs.Spans.{slot_place}
 
@@ -89,8 +89,8 @@ has_kind s w r n i d whole window endpoint there has =
     let keeps : keeps_ways s n i d ≡ true = kept s n i d (keeps_ways s n i) there own.committed (sym (rule_twelve s n i) ∙ whole.range 12 n i d (omega arith) there has) in
     let test : end_test s w n i d r ≡ true =
     sym (ap (λ (q : Range). kind_test s n i d q (window_for s q) (is_endpoint_at s.nodes n)) (same_range r d own)
-      ∙ ap (λ (o : Option WindowFields). kind_test s n i d r o (is_endpoint_at s.nodes n)) window
-      ∙ ap (kind_test s n i d r (Some w)) endpoint)
+    ∙ ap (λ (o : Option WindowFields). kind_test s n i d r o (is_endpoint_at s.nodes n)) window
+    ∙ ap (kind_test s n i d r (Some w)) endpoint)
     ∙ keeps in
     let product : Bool = decoder_ways d == w.ways * ways_above s r n in
     let ways : Bool = decoder_ways d == range_ways s r in
@@ -155,9 +155,9 @@ slot_inside partitions s w found system is slot place at =
     subst (λ (kind : MemKind). lies_in kind (ram_at s place.endpoint) (pmem_at s place.endpoint) place.start (slot_length found) ≡ true)
     (has_kind s w r place.endpoint own.i own.d is.whole is.window own.endpoint own.there own.has ∙ sym is.kind)
     (subst (λ (start : ℕ). lies_in (span_kind s place.endpoint own.i) (ram_at s place.endpoint) (pmem_at s place.endpoint) start (slot_length found) ≡ true) (sym own.start)
-      (subst (λ (len : ℕ). lies_in (span_kind s place.endpoint own.i) (ram_at s place.endpoint) (pmem_at s place.endpoint) (span_start_of (decoders_at s place.endpoint) own.i) len ≡ true)
-        (own.length ∙ ap (λ (n : ℕ). found.size / n) (sym is.ways))
-        (in_own_kind partitions s r place.endpoint own.i own.d system is.whole own.endpoint own.there own.has)))
+    (subst (λ (len : ℕ). lies_in (span_kind s place.endpoint own.i) (ram_at s place.endpoint) (pmem_at s place.endpoint) (span_start_of (decoders_at s place.endpoint) own.i) len ≡ true)
+    (own.length ∙ ap (λ (n : ℕ). found.size / n) (sym is.ways))
+    (in_own_kind partitions s r place.endpoint own.i own.d system is.whole own.endpoint own.there own.has)))
   where
     r : Range
     r = region_range found

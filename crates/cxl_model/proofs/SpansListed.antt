@@ -1,14 +1,13 @@
 -- The regions of an accepted image as one list by rising base.
-use Rattle.std.proofs.Common.{◌≡◌, ◌≢◌, ℕ, zero, suc, ◌+◌, ◌<◌, ◌≤◌, Bool, true, false, List, [], ◌∷◌, length, get_or, Option, Some, None, refl, sym, ap, ◌∙◌, subst, inl, inr, arith, ◌⊎◌}
+use Rattle.std.proofs.Common.{◌≡◌, ◌≢◌, ℕ, zero, suc, ◌<◌, true, false, List, [], ◌∷◌, length, get_or, Some, refl, sym, ap, ◌∙◌, subst, inl, inr, arith, ◌⊎◌}
 use Rattle.std.specs.Prelude.{slice_get, All, AllPairs, Contains}
 use Rattle.std.proofs.lemmas.Bool.{cases_lt, cases_order, cases_Bool, eq-eqb, false≢true}
 use Rattle.std.proofs.lemmas.Option.{slice_get_within, get_or_from_slice_get, slice_get-get_or, same_Some}
 use Rattle.std.proofs.lemmas.List.Elements.{All-head, All-tail, All-nil, All-cons, All-contains}
 use Rattle.cxl_regs.specs.declared.decoder.Decoder.{Decoder}
-use Rattle.cxl_regs.specs.Registers.{Registers}
 use Rattle.cxl_window.specs.Fields.{WindowFields}
 use Rattle.cxl_model.specs.declared.found.Found.{Found}
-use Rattle.cxl_model.specs.System.{System, IsSystem, decoders_at, decoder_at}
+use Rattle.cxl_model.specs.System.{System, IsSystem, decoders_at}
 use Rattle.cxl_model.specs.Ranges.{Range, range_of, has_range, serves, IsCommittedRange}
 use Rattle.cxl_model.specs.Accepted.{IsAccepted, IsWhole}
 use Rattle.cxl_model.specs.Regions.{region_range, IsRegionIn, IsRegion}
@@ -99,13 +98,13 @@ insert s one f is (x ∷ xs) each rising =
           record { all = x ∷ xs; each = each; rising = rising; old = λ g there. there; own = subst (Contains (x ∷ xs)) (sym here) (contains_head x xs); only = λ g there. inr there }
       | inr apart ↦ elim apart [
         | inl below ↦ record {
-            all = f ∷ (x ∷ xs);
-            each = All-cons (IsRegion s) f (x ∷ xs) is each;
-            rising = (All-cons (λ y. f.base < y.base) x xs below (λ k d within. let up = rising.0 k d within in omega (arith, below, up)), rising);
-            old = λ g there. contains_tail f g (x ∷ xs) there;
-            own = contains_head f (x ∷ xs);
-            only = λ g there. contains_cases f g (x ∷ xs) there;
-          }
+          all = f ∷ (x ∷ xs);
+          each = All-cons (IsRegion s) f (x ∷ xs) is each;
+          rising = (All-cons (λ y. f.base < y.base) x xs below (λ k d within. let up = rising.0 k d within in omega (arith, below, up)), rising);
+          old = λ g there. contains_tail f g (x ∷ xs) there;
+          own = contains_head f (x ∷ xs);
+          only = λ g there. contains_cases f g (x ∷ xs) there;
+        }
         | inr above ↦
             let rest = insert s one f is xs (All-tail (IsRegion s) x xs each) rising.1 in
             record {
@@ -196,9 +195,9 @@ with_decoders s one regions old (d ∷ ds) ranges =
             has = λ i e at committed. first d ds (λ r. Has ((now.grown).new).all r) now.has (λ j x there known. (now.grown).more (range_of x) (rest.has j x there known)) i e at committed;
           }
       | inr other ↦ record {
-          grown = rest.grown;
-          has = λ i e at committed. others d ds other (λ r. Has ((rest.grown).new).all r) (λ j x there known. rest.has j x there known) i e at committed;
-        }
+        grown = rest.grown;
+        has = λ i e at committed. others d ds other (λ r. Has ((rest.grown).new).all r) (λ j x there known. rest.has j x there known) i e at committed;
+      }
     ]
   where
     first : (d : Decoder) (ds : List Decoder) (P : Range → Type 0) → P (range_of d) → ((j : ℕ) (x : Decoder) → slice_get ds j ≡ Some x → x.committed ≡ true → P (range_of x))
@@ -246,8 +245,7 @@ listed rise s system known accepted =
     let regions : Regions s = λ r committed. has_region rise s r system known (whole r committed) committed in
     let all = below s one regions (length s.nodes) in
     let list : Listed s = all.all in
-    let pairs = rising_pairs list.all list.rising in
-    (
+    let pairs = rising_pairs list.all list.rising in (
       list.all,
       record {
         listed = record {

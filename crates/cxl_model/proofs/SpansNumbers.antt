@@ -1,8 +1,8 @@
 -- Remainders that tell a slot.
-use Rattle.std.proofs.Common.{◌≡◌, ℕ, zero, suc, ◌+◌, ◌*◌, ◌/◌, ◌%◌, ◌^◌, ◌<◌, ◌≤◌, Bool, true, false, not, ◌&&◌, ◌||◌, if◌then◌else◌, refl, sym, ap, ◌∙◌, subst, inl, inr, arith, ◌⊎◌}
+use Rattle.std.proofs.Common.{◌≡◌, ℕ, ◌+◌, ◌*◌, ◌/◌, ◌%◌, ◌^◌, ◌<◌, ◌≤◌, Bool, true, false, not, ◌&&◌, ◌||◌, if◌then◌else◌, refl, sym, ap, ◌∙◌, subst, inl, inr, arith}
 use Rattle.std.specs.Prelude.{◌==◌, IsTrue}
-use Rattle.std.proofs.Math.Nat.{mul_comm, mul_assoc, mul-add, mul-le-mul_left, mul-add-mod_self_left, mul-add-div, mod-eq_of_lt, mod-lt, mod-mod, div-add-mod, div-lt_iff_lt-mul, mul-mod_right, mul-div_cancel_left, one-mul}
-use Rattle.std.proofs.lemmas.Bool.{cases_eq, eqb-true, eq-eqb, or_cases, and_parts, false≢true}
+use Rattle.std.proofs.Math.Nat.{mul_comm, mul_assoc, mul-add, mul-le-mul_left, mul-add-mod_self_left, mul-add-div, mod-eq_of_lt, mod-lt, div-add-mod, div-lt_iff_lt-mul, mul-mod_right, mul-div_cancel_left, one-mul}
+use Rattle.std.proofs.lemmas.Bool.{eqb-true, eq-eqb, or_cases, and_parts, false≢true}
 use Rattle.cxl_enc.specs.Codes.{is_ways, third_of, bits_of}
 use Rattle.cxl_model.proofs.WeavingWays.{each_ways, some_ways}
 
@@ -40,8 +40,7 @@ pub position_parts : (k x y : ℕ) → x < k → ((x + k * y) % k ≡ x) × ((x 
 position_parts k x y below =
     let some : 0 < k = omega arith in
     let turned : x + k * y ≡ k * y + x = omega arith in
-    let none : x / k ≡ 0 = quotient_none x k below in
-    (
+    let none : x / k ≡ 0 = quotient_none x k below in (
       ap (λ (z : ℕ). z % k) turned ∙ mul-add-mod_self_left k y x ∙ mod-eq_of_lt below,
       ap (λ (z : ℕ). z / k) turned ∙ mul-add-div some y x ∙ ap (λ (z : ℕ). y + z) none ∙ omega arith,
     )

@@ -1,8 +1,7 @@
 -- Each slot of a whole range has a span.
-use Rattle.std.proofs.Common.{◌≡◌, ℕ, zero, suc, ◌+◌, ◌*◌, ◌/◌, ◌%◌, ◌^◌, ◌<◌, ◌≤◌, Bool, true, false, not, ◌&&◌, List, [], ◌∷◌, length, get_or, map, Option, Some, None, refl, sym, ap, ◌∙◌, subst, inl, inr, arith}
+use Rattle.std.proofs.Common.{◌≡◌, ℕ, zero, suc, ◌+◌, ◌/◌, ◌<◌, ◌≤◌, true, false, not, List, [], ◌∷◌, length, get_or, Option, Some, None, refl, sym, ap, ◌∙◌, subst, inl, inr, arith}
 use Rattle.std.specs.Prelude.{slice_get, IsSomeAnd}
 use Rattle.std.specs.Option.{option_map_or}
-use Rattle.std.specs.List.{list_all, range_with_len}
 use Rattle.std.proofs.Math.Nat.{mod-lt}
 use Rattle.std.proofs.lemmas.Bool.{cases_Bool, not_from_false}
 use Rattle.std.proofs.lemmas.Option.{slice_get-get_or, none-some}
@@ -24,7 +23,7 @@ use Rattle.cxl_model.proofs.WeavingWays.{some_ways, decoder_ways_known}
 use Rattle.cxl_model.proofs.CountingTrees.{KnownTree, parent_is_port}
 use Rattle.cxl_model.proofs.CountingRules.{RangesRise, ServesAt, served, leads}
 use Rattle.cxl_model.proofs.Counting.{lands_within, lands_below, lands_here, Child, child_at}
-use Rattle.cxl_model.proofs.SpansWindows.{has_window, Target, targets}
+use Rattle.cxl_model.proofs.SpansWindows.{has_window, targets}
 use Rattle.cxl_model.proofs.SpansSlots.{entry_for}
 use Rattle.cxl_model.proofs.SpansApart.{position_below}
 
@@ -88,7 +87,7 @@ leading s w r system known whole slot (suc k) n past lands =
                 record {
                   place = rest.place;
                   leads = past_port n child.node rest.place own (port_at s.nodes n (lands_within s r n system lands) port)
-                    (some_and (decoder_for s r n) at.d (λ (d : Decoder). child_of s.nodes n (entry_at d (entry_for s w r slot n d)) ≡ Some child.node) at.first child.stands) rest.leads;
+                      (some_and (decoder_for s r n) at.d (λ (d : Decoder). child_of s.nodes n (entry_at d (entry_for s w r slot n d)) ≡ Some child.node) at.first child.stands) rest.leads;
                 }
           ]
     ]

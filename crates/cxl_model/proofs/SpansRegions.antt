@@ -1,11 +1,10 @@
 -- A whole range has one region.
-use Rattle.std.proofs.Common.{◌≡◌, ℕ, ◌+◌, ◌<◌, ◌≤◌, Bool, true, false, if◌then◌else◌, List, length, get_or, map, Option, Some, None, refl, sym, ap, ◌∙◌, subst, arith}
+use Rattle.std.proofs.Common.{◌≡◌, ℕ, ◌<◌, if◌then◌else◌, List, length, get_or, map, Some, refl, sym, ap, ◌∙◌, subst, arith}
 use Rattle.std.specs.Prelude.{slice_get, ◌==◌}
 use Rattle.std.specs.List.{range_with_len}
 use Rattle.std.proofs.lemmas.Option.{slice_get_within, slice_get-get_or, get_or_from_slice_get}
 use Rattle.std.proofs.lemmas.List.{same_lists}
 use Rattle.std.proofs.lemmas.List.FromFn.{length-map-range_with_len, get_or-map-range_with_len}
-use Rattle.cxl_enc.specs.declared.caps.MemKind.{MemKind}
 use Rattle.cxl_topo.specs.Tree.{bridge_with}
 use Rattle.cxl_window.specs.Fields.{WindowFields}
 use Rattle.cxl_model.specs.declared.found.Found.{Found}
@@ -19,7 +18,7 @@ use Rattle.cxl_model.proofs.CountingTrees.{KnownTree}
 use Rattle.cxl_model.proofs.CountingRules.{RangesRise, served, in_window}
 use Rattle.cxl_model.proofs.SpansSlots.{one_place}
 use Rattle.cxl_model.proofs.SpansPlaces.{Spanned, spanned}
-use Rattle.cxl_model.proofs.Spans.{Rooting, rooting}
+use Rattle.cxl_model.proofs.Spans.{rooting}
 
 -- ---- there is one
 
@@ -119,8 +118,8 @@ same_parts s w r found other known one two =
     let long : length found.spans ≡ length other.spans = one.slots ∙ ways ∙ sym two.slots in
     let spans : found.spans ≡ other.spans =
     same_lists found.spans other.spans long (λ k d within.
-      one_span s w r k (get_or found.spans k d) (get_or other.spans k d) known (one.spans k (get_or found.spans k d) (slice_get-get_or found.spans k d within))
-      (two.spans k (get_or other.spans k d) (slice_get-get_or other.spans k d (subst (λ (n : ℕ). k < n) long within)))) in
+    one_span s w r k (get_or found.spans k d) (get_or other.spans k d) known (one.spans k (get_or found.spans k d) (slice_get-get_or found.spans k d within))
+    (two.spans k (get_or other.spans k d) (slice_get-get_or other.spans k d (subst (λ (n : ℕ). k < n) long within)))) in
     λ k. record { base = base k; size = size k; window = window k; gran = gran k; ways = ways k; kind = kind k; spans = spans k }
 
 -- regions of one range are one region

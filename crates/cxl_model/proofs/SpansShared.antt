@@ -1,9 +1,9 @@
 -- Regions that share a host byte or a device byte are one region.
-use Rattle.std.proofs.Common.{◌≡◌, ℕ, ◌+◌, ◌/◌, ◌<◌, ◌≤◌, Bool, true, false, List, [], length, get_or, Option, Some, None, refl, sym, ap, ◌∙◌, subst, inl, inr, arith}
+use Rattle.std.proofs.Common.{◌≡◌, ℕ, ◌+◌, ◌/◌, ◌<◌, ◌≤◌, true, false, List, [], length, get_or, Option, Some, None, sym, ap, ◌∙◌, subst, inl, inr, arith}
 use Rattle.std.specs.Prelude.{slice_get, IfSome, Contains}
 use Rattle.std.specs.Option.{option_map_or}
 use Rattle.std.proofs.lemmas.Bool.{cases_lt, false≢true}
-use Rattle.std.proofs.lemmas.Option.{slice_get_within, slice_get-get_or, get_or_from_slice_get, none-some, same_Some}
+use Rattle.std.proofs.lemmas.Option.{slice_get_within, get_or_from_slice_get, none-some}
 use Rattle.cxl_topo.specs.Tree.{landing_of, bridge_with}
 use Rattle.cxl_regs.specs.declared.decoder.Decoder.{Decoder}
 use Rattle.cxl_regs.specs.Registers.{Registers}
@@ -13,9 +13,9 @@ use Rattle.cxl_window.specs.Fields.{WindowFields}
 use Rattle.cxl_model.specs.declared.found.Found.{Found}
 use Rattle.cxl_model.specs.declared.found.Place.{Place}
 use Rattle.cxl_model.specs.System.{System, IsSystem, decoders_at, decoder_at, ram_at, pmem_at}
-use Rattle.cxl_model.specs.Ranges.{Range, range_of, has_range, serves, window_for}
+use Rattle.cxl_model.specs.Ranges.{Range, range_of, has_range, serves}
 use Rattle.cxl_model.specs.Rules.{lands_on}
-use Rattle.cxl_model.specs.Accepted.{KeepsBlocks, IsWhole}
+use Rattle.cxl_model.specs.Accepted.{KeepsBlocks}
 use Rattle.cxl_model.specs.Regions.{region_range, IsRegionIn}
 use Rattle.cxl_model.specs.Bytes.{LiesInSpan, slot_length}
 use Rattle.cxl_model.proofs.Outcomes.{one_value}
@@ -23,9 +23,9 @@ use Rattle.cxl_model.proofs.WeavingWays.{some_ways}
 use Rattle.cxl_model.proofs.WeavingServers.{Has, has_parts, same_range}
 use Rattle.cxl_model.proofs.CountingTrees.{KnownTree}
 use Rattle.cxl_model.proofs.CountingRules.{RangesRise, each_block_keeps, ServesAt, served}
-use Rattle.cxl_model.proofs.SpansWindows.{HasWindow, has_window, Target, targets}
+use Rattle.cxl_model.proofs.SpansWindows.{HasWindow, has_window, targets}
 use Rattle.cxl_model.proofs.SpansRegions.{one_region}
-use Rattle.cxl_model.proofs.SpansKinds.{OfPlace, of_place}
+use Rattle.cxl_model.proofs.SpansKinds.{of_place}
 use Rattle.cxl_model.proofs.Spans.{slot_place}
 
 -- an address of a range

@@ -1,37 +1,27 @@
 -- A slot leads to one place, and different slots lead to different endpoints.
-use Rattle.std.proofs.Common.{◌≡◌, ℕ, zero, suc, ◌+◌, ◌*◌, ◌/◌, ◌%◌, ◌^◌, ◌<◌, ◌≤◌, Bool, true, false, not, ◌&&◌, ◌||◌, List, [], ◌∷◌, length, get_or, map, Option, Some, None, refl, sym, ap, ◌∙◌, subst, inl, inr, arith}
-use Rattle.std.specs.Prelude.{slice_get, ◌==◌, All, IsSomeAnd, IsTrue}
+use Rattle.std.proofs.Common.{◌≡◌, ℕ, ◌/◌, ◌%◌, true, false, List, get_or, Option, Some, None, refl, sym, ap, ◌∙◌, subst}
+use Rattle.std.specs.Prelude.{slice_get, ◌==◌}
 use Rattle.std.specs.Option.{option_map_or, option_map}
-use Rattle.std.specs.List.{range_with_len}
-use Rattle.std.proofs.Math.Nat.{mul-one, mod-lt, mod-one, mul-pos, mul_assoc, mul_comm, div-div-eq-div-mul, div-add-mod, div-lt_iff_lt-mul}
-use Rattle.std.proofs.lemmas.Bool.{and_parts, and_from, or_left, or_right, eqb-true, eq-eqb, false≢true}
-use Rattle.std.proofs.lemmas.Option.{slice_get_within, slice_get-get_or, get_or_from_slice_get, none-some, same_Some}
+use Rattle.std.proofs.lemmas.Bool.{and_from, or_right, eq-eqb, false≢true}
+use Rattle.std.proofs.lemmas.Option.{slice_get-get_or, none-some, same_Some}
 use Rattle.std.proofs.lemmas.List.Quantifiers.{position-Some}
-use Rattle.std.proofs.lemmas.List.FromFn.{get_or-map-range_with_len}
-use Rattle.cxl_enc.specs.Codes.{is_ways, third_of, bits_of}
 use Rattle.cxl_topo.specs.declared.node.Node.{Node}
 use Rattle.cxl_topo.specs.declared.node.Parent.{Parent}
-use Rattle.cxl_topo.specs.Tree.{forwards_at, is_port_at, is_endpoint_at, uid_at, parent_of, child_of, first_child_of, bridge_with}
+use Rattle.cxl_topo.specs.Tree.{forwards_at, is_port_at, is_endpoint_at, parent_of, child_of, first_child_of}
 use Rattle.cxl_topo.specs.Kinds.{is_endpoint}
 use Rattle.cxl_regs.specs.declared.decoder.Decoder.{Decoder}
 use Rattle.cxl_regs.specs.Registers.{reset_decoder}
 use Rattle.cxl_span.specs.Spans.{decoder_ways, span_start_of}
 use Rattle.cxl_window.specs.Fields.{WindowFields}
 use Rattle.cxl_model.specs.declared.found.Place.{Place}
-use Rattle.cxl_model.specs.System.{System, IsSystem, decoders_at, entries_of, entry_at}
-use Rattle.cxl_model.specs.Ranges.{Range, has_range, serves, decoder_for, index_for, window_for, ways_above, range_ways}
-use Rattle.cxl_model.specs.Rules.{are_distinct}
-use Rattle.cxl_model.specs.Accepted.{IsWhole}
-use Rattle.cxl_model.specs.Regions.{target_position, slots_an_entry, LeadsSlot, LeadsTo, past_forwarding, past_port, at_endpoint, HasSpan}
+use Rattle.cxl_model.specs.System.{System, decoders_at, entry_at}
+use Rattle.cxl_model.specs.Ranges.{Range, has_range, serves, decoder_for, index_for}
+use Rattle.cxl_model.specs.Regions.{slots_an_entry, LeadsSlot, LeadsTo, past_forwarding, past_port, at_endpoint}
 use Rattle.cxl_model.specs.Counts.{is_under, is_endpoint_of}
 use Rattle.cxl_model.proofs.Outcomes.{value_of, one_value}
 use Rattle.cxl_model.proofs.BreachesOfRanges.{passes_one}
-use Rattle.cxl_model.proofs.WeavingWays.{some_ways, decoder_ways_known}
-use Rattle.cxl_model.proofs.CountingTrees.{KnownTree, is_above, leaves_at, under_is, leaves_above, leaves_once, under_child, under_only, under_endpoint, port_no_endpoint, under_top}
-use Rattle.cxl_model.proofs.CountingRules.{ServesAt, served, leads, reached, no_decoder}
-use Rattle.cxl_model.proofs.Counting.{ways_below, ways_past}
-use Rattle.cxl_model.proofs.SpansWindows.{uid_top}
-use Rattle.cxl_model.proofs.SpansNumbers.{agree_by_product}
+use Rattle.cxl_model.proofs.CountingTrees.{KnownTree, is_above, leaves_at, under_is, leaves_above, under_child, under_only, under_endpoint, port_no_endpoint}
+use Rattle.cxl_model.proofs.CountingRules.{leads}
 
 -- ---- one move of a slot
 

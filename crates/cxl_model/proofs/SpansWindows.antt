@@ -1,12 +1,12 @@
 -- The window of a whole range, and its targets.
-use Rattle.std.proofs.Common.{◌≡◌, ◌≢◌, ℕ, zero, suc, ◌+◌, ◌*◌, ◌<◌, ◌≤◌, Bool, true, false, not, ◌&&◌, ◌||◌, if◌then◌else◌, List, [], ◌∷◌, length, get_or, map, Option, Some, None, refl, sym, ap, ◌∙◌, subst, inl, inr, arith, ◌⊎◌}
-use Rattle.std.specs.Prelude.{slice_get, ◌==◌, nat_le, find, filter, All, AllPairs, IsTrue, option_map}
+use Rattle.std.proofs.Common.{◌≡◌, ℕ, suc, ◌+◌, ◌*◌, ◌<◌, ◌≤◌, Bool, true, false, not, ◌&&◌, if◌then◌else◌, List, [], ◌∷◌, length, get_or, Option, Some, None, refl, sym, ap, ◌∙◌, subst, inl, inr, arith}
+use Rattle.std.specs.Prelude.{slice_get, ◌==◌, nat_le, find, All, option_map}
 use Rattle.std.specs.Option.{option_map_or, option_and_then}
-use Rattle.std.specs.List.{list_any, list_all, filter_map, position_or_len, range_with_len}
-use Rattle.std.proofs.Math.Nat.{mul_comm, mul-one, one-mul}
-use Rattle.std.proofs.lemmas.Bool.{cases_lt, cases_Bool, and_parts, and_from, leb-true, eqb-true, eq-eqb, false_from_ne_true, false≢true, true≢false, not_from_false}
+use Rattle.std.specs.List.{list_any, position_or_len}
+use Rattle.std.proofs.Math.Nat.{mul_comm, one-mul}
+use Rattle.std.proofs.lemmas.Bool.{cases_lt, cases_Bool, and_parts, and_from, leb-true, eqb-true, eq-eqb, false_from_ne_true, false≢true, not_from_false}
 use Rattle.std.proofs.lemmas.Option.{slice_get_past, slice_get_within, get_or_from_slice_get, none-some, same_Some}
-use Rattle.std.proofs.lemmas.List.Folds.{Any-from_list_any, list_any-from_Any, find_at}
+use Rattle.std.proofs.lemmas.List.Folds.{Any-from_list_any, find_at}
 use Rattle.std.proofs.lemmas.List.Sums.{AllPass-from_list_all}
 use Rattle.cxl_topo.specs.declared.node.Node.{Node}
 use Rattle.cxl_topo.specs.declared.node.NodeKind.{NodeKind}
@@ -18,17 +18,16 @@ use Rattle.cxl_window.specs.declared.window.Verdict.TheVariants.{Usable}
 use Rattle.cxl_window.specs.Fields.{WindowFields, IsWindow, IsUsable, AreDistinct}
 use Rattle.cxl_window.specs.Position.{is_usable}
 use Rattle.cxl_model.specs.System.{System, IsSystem}
-use Rattle.cxl_span.specs.Spans.{decoder_ways}
-use Rattle.cxl_model.specs.Ranges.{Range, serves, decoder_for, window_for, lies_within, product, ways_above, range_ways, IsCommittedRange}
-use Rattle.cxl_model.specs.Rules.{are_distinct, lands_on, is_bridge_landing, targets_land, is_targeted}
+use Rattle.cxl_model.specs.Ranges.{Range, serves, window_for, lies_within, ways_above, range_ways, IsCommittedRange}
+use Rattle.cxl_model.specs.Rules.{are_distinct, lands_on, is_bridge_landing, targets_land}
 use Rattle.cxl_model.specs.Accepted.{IsWhole}
 use Rattle.cxl_model.specs.Counts.{is_under, is_endpoint_of, endpoints_of}
 use Rattle.cxl_model.proofs.OutcomesWalks.{usable_is}
 use Rattle.cxl_model.proofs.WeavingWays.{some_ways}
 use Rattle.cxl_model.proofs.CountingSums.{one, total, length-filter-total, total-same, total_even, list_any-weaker, once}
-use Rattle.cxl_model.proofs.CountingTrees.{KnownTree, up_tree, parent_within, ports_none, root_of, root_root, root_step, under_top}
-use Rattle.cxl_model.proofs.CountingRules.{RangesRise, ServesAt, served, leads, reached, is_reached, parent_reached, all_targeted, listed_by, in_window}
-use Rattle.cxl_model.proofs.Counting.{Counts, counted_within, lands_within, lands_here, numbers, count_of, count_parts, is_number, times_tell, no_ways_above}
+use Rattle.cxl_model.proofs.CountingTrees.{KnownTree, up_tree, root_of, under_top}
+use Rattle.cxl_model.proofs.CountingRules.{RangesRise, served, leads, reached, is_reached, parent_reached, all_targeted, listed_by, in_window}
+use Rattle.cxl_model.proofs.Counting.{counted_within, lands_within, lands_here, numbers, count_of, count_parts, is_number, times_tell, no_ways_above}
 
 -- ---- the window
 
@@ -74,10 +73,10 @@ distinct_test [] distinct = refl
 distinct_test (n ∷ ns) distinct =
     and_from (not (list_any (λ m. m == n) ns)) (are_distinct ns)
     (not_from_false (list_any (λ m. m == n) ns) (false_from_ne_true (list_any (λ m. m == n) ns) (λ any.
-      let some = Any-from_list_any (λ m. m == n) ns any in
-      let k : ℕ = some.0 in
-      let within = some.2 in
-      distinct 0 (suc k) some.1 (omega arith) (omega arith) (sym (eqb-true some.1 n some.4) ∙ sym some.3))))
+    let some = Any-from_list_any (λ m. m == n) ns any in
+    let k : ℕ = some.0 in
+    let within = some.2 in
+    distinct 0 (suc k) some.1 (omega arith) (omega arith) (sym (eqb-true some.1 n some.4) ∙ sym some.3))))
     (distinct_test ns (λ i j d less within. distinct (suc i) (suc j) d (omega arith) (omega arith)))
 
 -- ---- bridges
@@ -106,11 +105,11 @@ above_lands rise s r system known whole =
     up_tree known (λ i. is_reached s r i ≡ true → lands_on s r i ≡ true → (b : ℕ) × (is_bridge_at s.nodes b ≡ true) × (lands_on s r b ≡ true))
     (λ i none is lands. (i, top i none (lands_within s r i system lands), lands))
     (λ i p some rest is lands.
-      let up = parent_reached rise s r known whole i p some is in
-      rest up.0 (elim (cases_Bool (forwards_at s.nodes p.node)) [
-        | inl forwards ↦ through i p some forwards lands
-        | inr own ↦ lands_here s r p.node system known own ∙ (listed_by rise s r whole.blocks p (up.1 own)).serves
-      ]))
+    let up = parent_reached rise s r known whole i p some is in
+    rest up.0 (elim (cases_Bool (forwards_at s.nodes p.node)) [
+      | inl forwards ↦ through i p some forwards lands
+      | inr own ↦ lands_here s r p.node system known own ∙ (listed_by rise s r whole.blocks p (up.1 own)).serves
+    ]))
   where
     top : (i : ℕ) → parent_of s.nodes i ≡ None → i < length s.nodes → is_bridge_at s.nodes i ≡ true
     top i none within =
@@ -132,8 +131,8 @@ above_lands rise s r system known whole =
         let within : p.node < length s.nodes = forwards_inside p.node forwards in
         ap (λ (o : Option ℕ). option_map_or (serves s r) o false)
         (known.laws.landings p.node within
-          ∙ ap (λ b. if b then option_and_then (landing_of s.nodes) (first_child_of s.nodes p.node) else Some p.node) forwards
-          ∙ ap (option_and_then (landing_of s.nodes)) child)
+        ∙ ap (λ b. if b then option_and_then (landing_of s.nodes) (first_child_of s.nodes p.node) else Some p.node) forwards
+        ∙ ap (option_and_then (landing_of s.nodes)) child)
         ∙ lands
 
 -- the landing of the bridge serves the range
@@ -146,8 +145,8 @@ landing_serves s r b bridge within lands = go (landing_of s.nodes b) refl lands
     go (Some q) at is = (
       q,
       is_number (λ c. is_bridge_at s.nodes c && option_map_or (λ m. m == q) (landing_of s.nodes c) false) (length s.nodes) b within
-      (and_from (is_bridge_at s.nodes b) (option_map_or (λ m. m == q) (landing_of s.nodes b) false) bridge
-        (ap (λ (o : Option ℕ). option_map_or (λ m. m == q) o false) at ∙ eq-eqb q q refl)),
+          (and_from (is_bridge_at s.nodes b) (option_map_or (λ m. m == q) (landing_of s.nodes b) false) bridge
+          (ap (λ (o : Option ℕ). option_map_or (λ m. m == q) o false) at ∙ eq-eqb q q refl)),
       is,
     )
 

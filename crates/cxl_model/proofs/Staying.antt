@@ -1,10 +1,10 @@
 -- Images with the same decoders of a range have the same region of it.
-use Rattle.std.proofs.Common.{◌≡◌, ℕ, zero, suc, ◌+◌, ◌*◌, ◌/◌, ◌%◌, ◌^◌, ◌<◌, ◌≤◌, Bool, true, false, not, ◌&&◌, ◌||◌, if◌then◌else◌, List, [], ◌∷◌, length, get_or, map, take, Option, Some, None, refl, sym, ap, ◌∙◌, subst, inl, inr, arith}
+use Rattle.std.proofs.Common.{◌≡◌, ℕ, ◌+◌, ◌*◌, ◌/◌, ◌%◌, ◌^◌, ◌<◌, ◌≤◌, Bool, true, false, not, ◌&&◌, ◌||◌, if◌then◌else◌, List, [], ◌∷◌, length, get_or, map, take, Option, Some, None, refl, sym, ap, ◌∙◌, subst, inl, inr, arith}
 use Rattle.std.specs.Prelude.{slice_get, ◌==◌, nat_lt, find, position, sum_by, IsSomeAnd}
 use Rattle.std.specs.Option.{option_map_or, option_and_then}
 use Rattle.std.specs.List.{list_any, list_all, filter_map, range_with_len}
 use Rattle.std.proofs.lemmas.Bool.{cases_lt, cases_Bool, and_parts, or_parts, false_from_ne_true, ne_eqb, le-ltb, false≢true}
-use Rattle.std.proofs.lemmas.Option.{slice_get_within, slice_get-get_or, get_or_from_slice_get, none-some, same_Some}
+use Rattle.std.proofs.lemmas.Option.{slice_get_within, slice_get-get_or, get_or_from_slice_get, same_Some}
 use Rattle.std.proofs.lemmas.List.{length-take-le, get_or-take, same_lists}
 use Rattle.std.proofs.lemmas.List.Folds.{list_any_at}
 use Rattle.std.proofs.lemmas.List.Quantifiers.{position-Some}
@@ -23,16 +23,16 @@ use Rattle.cxl_span.specs.Partitions.{lies_in}
 use Rattle.cxl_window.specs.Fields.{WindowFields}
 use Rattle.cxl_model.specs.declared.found.Found.{Found}
 use Rattle.cxl_model.specs.declared.found.Place.{Place}
-use Rattle.cxl_model.specs.System.{System, decoders_at, decoder_at, capacity_at, ram_at, pmem_at, entries_of, entry_at}
-use Rattle.cxl_model.specs.Ranges.{Range, range_of, has_range, serves, decoder_for, index_for, IsCommittedRange, lies_within, window_for, ports_for, product, ways_above, bits_above, first_endpoint, first_decoder, span_kind, same_kind, range_ways, range_kind, range_code}
-use Rattle.cxl_model.specs.Rules.{starts_in_thirds, permits, keeps_window, are_distinct, lands_on, is_bridge_landing, targets_land, keeps_targets, lists, uid_above, is_targeted, keeps_reach, keeps_ways}
+use Rattle.cxl_model.specs.System.{System, decoders_at, decoder_at, entries_of, entry_at}
+use Rattle.cxl_model.specs.Ranges.{Range, range_of, has_range, serves, decoder_for, index_for, lies_within, window_for, ports_for, product, ways_above, bits_above, first_endpoint, first_decoder, span_kind, same_kind, range_ways, range_kind, range_code}
+use Rattle.cxl_model.specs.Rules.{starts_in_thirds, permits, keeps_window, are_distinct, is_bridge_landing, keeps_targets, lists, uid_above, keeps_reach, keeps_ways}
 use Rattle.cxl_model.specs.Accepted.{breaks, breaks_at, KeepsBlocks, IsWhole}
-use Rattle.cxl_model.specs.Regions.{target_position, slots_an_entry, LeadsSlot, LeadsTo, past_forwarding, past_port, at_endpoint, HasSpan, region_range, IsRegionIn}
+use Rattle.cxl_model.specs.Regions.{target_position, LeadsTo, past_forwarding, past_port, at_endpoint, HasSpan, region_range, IsRegionIn}
 use Rattle.cxl_model.specs.Changes.{KeepsDecoders, HaveSameDecoders}
 use Rattle.cxl_model.proofs.BreachesOfRanges.{passes_one}
 use Rattle.cxl_model.proofs.WeavingServers.{has_parts, same_range}
 use Rattle.cxl_model.proofs.CountingTrees.{same_test}
-use Rattle.cxl_model.proofs.CountingRules.{FirstOf, first_of}
+use Rattle.cxl_model.proofs.CountingRules.{first_of}
 
 -- ---- lists with the same elements up to each that passes
 
@@ -121,9 +121,9 @@ same_start xs ys p i d keeps at passes =
 
     fronts : take i ys ≡ take i xs
     fronts = same_lists (take i ys) (take i xs) (ys_long ∙ sym xs_long) (λ k e within.
-      let below : k < i = subst (λ (n : ℕ). k < n) ys_long within in
-      let there : slice_get ys k ≡ Some (get_or xs k e) = keeps i k d at passes (omega arith) ∙ slice_get-get_or xs k e (omega (arith, xs_within)) in
-      get_or-take i ys k e below ∙ get_or_from_slice_get ys k (get_or xs k e) e there ∙ sym (get_or-take i xs k e below))
+        let below : k < i = subst (λ (n : ℕ). k < n) ys_long within in
+        let there : slice_get ys k ≡ Some (get_or xs k e) = keeps i k d at passes (omega arith) ∙ slice_get-get_or xs k e (omega (arith, xs_within)) in
+        get_or-take i ys k e below ∙ get_or_from_slice_get ys k (get_or xs k e) e there ∙ sym (get_or-take i xs k e below))
 
 -- ---- what two images have in common
 
@@ -292,9 +292,9 @@ told s r n i = record {
 abbrev ways_test : List Node → Option WindowFields → Told → ℕ → Decoder → Bool
 ways_test nodes window told n d =
     option_map_or (λ w.
-      if is_endpoint_at nodes n
-      then ((decoder_ways d == w.ways * told.above) && (decoder_ways d == told.ways) && same_kind told.own told.kind && ((decoder_ways d == 1) || (d.gran == told.code w)))
-      else ((decoder_ways d == 1) || (d.gran == told.code w + bits_of w.ways + told.bits)))
+    if is_endpoint_at nodes n
+    then ((decoder_ways d == w.ways * told.above) && (decoder_ways d == told.ways) && same_kind told.own told.kind && ((decoder_ways d == 1) || (d.gran == told.code w)))
+    else ((decoder_ways d == 1) || (d.gran == told.code w + bits_of w.ways + told.bits)))
     window true
 
 same_told : (s t : System) (r : Range) → Common s t r → (n i : ℕ) → span_kind t n i ≡ span_kind s n i → told t r n i ≡ told s r n i
@@ -348,8 +348,8 @@ pub whole_stays : (s t : System) (r : Range) → HaveSameDecoders s t r → Keep
 whole_stays s t r same keeps whole = record {
   blocks = keeps;
   range = λ rule n i d high there has.
-    let before : decoder_at s n i ≡ Some d = same.back n i i d there has (omega arith) ∙ there in
-    same_rules s t r same rule n i d high before has ∙ whole.range rule n i d high before has;
+      let before : decoder_at s n i ≡ Some d = same.back n i i d there has (omega arith) ∙ there in
+      same_rules s t r same rule n i d high before has ∙ whole.range rule n i d high before has;
 }
 
 -- ---- the spans

@@ -24,8 +24,8 @@ pub use laws::{accepted_or_breach, accepted_where_whole, one_outcome, one_window
 pub use plan::{Plan, PlanFault, Reason, Row};
 pub use poison::{Entry, Part, PoisonList, Poisoned, Run, Wide};
 pub use regions::{
-    bytes_are_carried_one_to_one, endpoints_lie_evenly, regions_are_listed, regions_share_no_byte, regions_stay,
-    slots_are_endpoints, whole_ranges_have_one_region,
+    bytes_are_carried_one_to_one, endpoints_lie_evenly, regions_are_listed, regions_share_no_byte,
+    regions_stay, slots_are_endpoints, whole_ranges_have_one_region,
 };
 pub use request::Request;
 
