@@ -29,7 +29,7 @@ use Rattle.cxl_model.proofs.Outcomes.{value_of, one_value}
 use Rattle.cxl_model.proofs.Weaving.{found_ways_known, first_reached, told, window_divides, found_gran_known, found_maps_usable}
 use Rattle.cxl_model.proofs.WeavingServers.{Reaches, Has, has_parts, has_ways, InBlock, in_block}
 use Rattle.cxl_model.proofs.CountingTrees.{KnownTree, up_tree, parent_is_port}
-use Rattle.cxl_model.proofs.CountingRules.{each_block_keeps, ServesAt, served, no_decoder}
+use Rattle.cxl_model.proofs.CountingRules.{block_keeps, not_broken, ServesAt, served, no_decoder}
 use Rattle.cxl_model.proofs.Counting.{ways_below, ways_past, no_ways_above}
 use Rattle.cxl_model.proofs.SpansWindows.{has_window}
 use Rattle.cxl_model.proofs.SpansNumbers.{ways_are}
@@ -78,14 +78,9 @@ block_codes block ram pmem i d keeps at = rw at at (keeps.each 4 i)
 few_codes : (block : Registers) (d : Decoder) → block.endpoint ≡ false → d.committed ≡ true → breaks_codes block d ≡ false → d.ways ≤ 3
 few_codes block d port committed kept =
     let ways : Bool = if block.endpoint then endpoint_ways_ok block.cap d.ways else port_ways_ok block.cap d.ways in
-    let parts = and_parts (nat_le d.gran 6) ways (asked d.committed (nat_le d.gran 6 && ways) kept committed) in
+    let parts = and_parts (nat_le d.gran 6) ways (not_broken d.committed (nat_le d.gran 6 && ways) kept committed) in
     let own : port_ways_ok block.cap d.ways ≡ true = sym (ap (λ b. if b then endpoint_ways_ok block.cap d.ways else port_ways_ok block.cap d.ways) port) ∙ parts.1 in
     leb-true d.ways 3 (and_parts (nat_le d.ways 3) (nat_le (2 ^ d.ways) (targets_of block.cap)) own).0
-  where
-    asked : (a b : Bool) → (a && not b) ≡ false → a ≡ true → b ≡ true
-    asked true true h is = refl
-    asked true false h is = absurd (true≢false h)
-    asked false b h is = absurd (false≢true is)
 
 port_block : (s : System) (n : ℕ) (block : Registers) → IsSystem s → slice_get s.blocks n ≡ Some block → is_port_at s.nodes n ≡ true → block.endpoint ≡ false
 port_block s n block system at port = go (slice_get s.nodes n) refl port
@@ -97,14 +92,10 @@ port_block s n block system at port = go (slice_get s.nodes n) refl port
 port_ways : (s : System) (r : Range) (n : ℕ) → IsSystem s → IsWhole s r → is_port_at s.nodes n ≡ true → (at : ServesAt s r n) → decoder_ways at.d ≡ 2 ^ at.d.ways
 port_ways s r n system whole port at =
     port_code at.d (few_codes own.block at.d (port_block s n own.block system own.at port) (has_parts r at.d at.has).committed
-    (block_codes own.block (ram_at s n) (pmem_at s n) at.i at.d (keeps (slice_get s.blocks n) own.block own.at (each_block_keeps s whole.blocks n)) own.there))
+    (block_codes own.block (ram_at s n) (pmem_at s n) at.i at.d (block_keeps s whole.blocks n own.block own.at) own.there))
   where
     own : InBlock s n at.i at.d
     own = in_block s n at.i at.d at.there
-
-    keeps : (o : Option Registers) (block : Registers) → o ≡ Some block → IfSome o (λ b. BlockKeeps b (ram_at s n) (pmem_at s n)) → BlockKeeps block (ram_at s n) (pmem_at s n)
-    keeps None block is kept = absurd (none-some block is)
-    keeps (Some b) block is kept = subst (λ (x : Registers). BlockKeeps x (ram_at s n) (pmem_at s n)) (same_Some b block is) kept
 
 -- the ways of the ports above a node are a power of two together
 power_above : (s : System) (r : Range) → IsSystem s → KnownTree s.nodes → IsWhole s r → (i : ℕ) → IsPower (ways_above s r i)
@@ -227,12 +218,8 @@ shares spans s w found system is =
     endpoint : own.block.endpoint ≡ true
     endpoint = endpoint_block s n own.block system own.at end.serves.endpoint
 
-    keeps_if : (o : Option Registers) (block : Registers) → o ≡ Some block → IfSome o (λ b. BlockKeeps b (ram_at s n) (pmem_at s n)) → BlockKeeps block (ram_at s n) (pmem_at s n)
-    keeps_if None block at kept = absurd (none-some block at)
-    keeps_if (Some b) block at kept = subst (λ (x : Registers). BlockKeeps x (ram_at s n) (pmem_at s n)) (same_Some b block at) kept
-
     keeps : BlockKeeps own.block (ram_at s n) (pmem_at s n)
-    keeps = keeps_if (slice_get s.blocks n) own.block own.at (each_block_keeps s is.whole.blocks n)
+    keeps = block_keeps s is.whole.blocks n own.block own.at
 
 -- each granularity divides 256 MiB
 abbrev fits_unit : ℕ → Bool

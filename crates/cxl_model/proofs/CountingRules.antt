@@ -21,8 +21,9 @@ use Rattle.cxl_model.specs.System.{System, KeepsBlock, decoders_at, decoder_at, 
 use Rattle.cxl_model.specs.Ranges.{Range, range_of, has_range, serves, decoder_for, index_for, window_for}
 use Rattle.cxl_model.specs.Rules.{keeps_window, keeps_targets, keeps_reach, are_distinct, leads_on, is_bridge_landing, targets_land, lists, is_targeted}
 use Rattle.cxl_model.specs.Accepted.{breaks, breaks_at, breaks_block, KeepsBlocks, IsWhole}
+use Rattle.cxl_model.proofs.Outcomes.{Holds}
 use Rattle.cxl_model.proofs.BreachesOfRanges.{passes_one}
-use Rattle.cxl_model.proofs.WeavingServers.{Has, has_parts, same_range}
+use Rattle.cxl_model.proofs.WeavingServers.{has_parts, same_range, in_block}
 use Rattle.cxl_model.proofs.CountingTrees.{KnownTree, up_tree, ports_none, ports_some, leaves_at, leaves_root, leaves_step, root_step}
 
 -- ---- blocks
@@ -54,25 +55,22 @@ no_rule rule block ram pmem i other = go (slice_get block.decoders i)
     go (Some d) = no_such_rule rule block ram pmem (span_start_of block.decoders i) (before block.decoders i) d other
 
 -- each block keeps the rules K2 to K8
-pub each_block_keeps : (s : System) → KeepsBlocks s → (n : ℕ) → KeepsBlock s n
-each_block_keeps s keeps n = go (slice_get s.blocks n) refl
-  where
-    rule_of : (block : Registers) → slice_get s.blocks n ≡ Some block → (rule i : ℕ) → 2 ≤ rule → rule < 9 → block_breaks rule block (ram_at s n) (pmem_at s n) i ≡ false
-    rule_of block at rule i low high =
-        sym (ap (λ (o : Option Registers). option_map_or (λ b. block_breaks rule b (ram_at s n) (pmem_at s n) i) o false) at)
-        ∙ sym (block_rule s rule n i low high) ∙ keeps rule n i high
+pub block_keeps : (s : System) → KeepsBlocks s → (n : ℕ) (block : Registers) → slice_get s.blocks n ≡ Some block → BlockKeeps block (ram_at s n) (pmem_at s n)
+block_keeps s keeps n block at = record {
+  each = λ rule i. elim (cases_lt rule 2) [
+    | inl low ↦ no_rule rule block (ram_at s n) (pmem_at s n) i (inl low)
+    | inr past ↦ elim (cases_lt rule 9) [
+      | inl within ↦
+          sym (ap (λ (o : Option Registers). option_map_or (λ b. block_breaks rule b (ram_at s n) (pmem_at s n) i) o false) at)
+          ∙ sym (block_rule s rule n i past within) ∙ keeps rule n i within
+      | inr high ↦ no_rule rule block (ram_at s n) (pmem_at s n) i (inr high)
+    ]
+  ];
+}
 
-    go : (o : Option Registers) → slice_get s.blocks n ≡ o → IfSome o (λ block. BlockKeeps block (ram_at s n) (pmem_at s n))
-    go None at = tt
-    go (Some block) at = record {
-      each = λ rule i. elim (cases_lt rule 2) [
-        | inl low ↦ no_rule rule block (ram_at s n) (pmem_at s n) i (inl low)
-        | inr past ↦ elim (cases_lt rule 9) [
-          | inl within ↦ rule_of block at rule i past within
-          | inr high ↦ no_rule rule block (ram_at s n) (pmem_at s n) i (inr high)
-        ]
-      ];
-    }
+-- a decoder of a node is one of the node's block
+pub at_in_block : (s : System) (n : ℕ) (block : Registers) → slice_get s.blocks n ≡ Some block → (i : ℕ) (d : Decoder) → decoder_at s n i ≡ Some d → slice_get block.decoders i ≡ Some d
+at_in_block s n block at i d there = sym (ap (λ (o : Option Registers). slice_get (option_map_or (λ b. b.decoders) o []) i) at) ∙ there
 
 -- ---- the decoder of the range
 
@@ -135,44 +133,61 @@ pub record RangesRise : Type 0 where
       → slice_get block.decoders j ≡ Some e → i < j → e.committed ≡ true → d.base + d.size ≤ e.base
   pub some : (block : Registers) (ram pmem i : ℕ) (d : Decoder) → BlockKeeps block ram pmem → slice_get block.decoders i ≡ Some d → d.committed ≡ true → 0 < d.size
 
+-- the same of the decoders of a node
+pub rise_at : RangesRise → (s : System) → KeepsBlocks s → (n i j : ℕ) (d e : Decoder) → decoder_at s n i ≡ Some d → decoder_at s n j ≡ Some e → i < j → e.committed ≡ true → d.base + d.size ≤ e.base
+rise_at rise s keeps n i j d e d_there e_there less committed =
+    let own = in_block s n i d d_there in
+    rise.apart own.block (ram_at s n) (pmem_at s n) i j d e (block_keeps s keeps n own.block own.at) own.there (at_in_block s n own.block own.at j e e_there) less committed
+
+pub bytes_at : RangesRise → (s : System) → KeepsBlocks s → (n i : ℕ) (d : Decoder) → decoder_at s n i ≡ Some d → d.committed ≡ true → 0 < d.size
+bytes_at rise s keeps n i d there committed =
+    let own = in_block s n i d there in
+    rise.some own.block (ram_at s n) (pmem_at s n) i d (block_keeps s keeps n own.block own.at) own.there committed
+
+-- committed decoders of a node that hold an address in common are one
+pub one_holder : RangesRise → (s : System) → KeepsBlocks s → (h n i j : ℕ) (d e : Decoder) → decoder_at s n i ≡ Some d → decoder_at s n j ≡ Some e → Holds d h → Holds e h → i ≡ j
+one_holder rise s keeps h n i j d e d_there e_there one other =
+    let d_from = one.from in
+    let d_below = one.below in
+    let e_from = other.from in
+    let e_below = other.below in
+    elim (cases_lt i j) [
+      | inl less ↦ let apart = rise_at rise s keeps n i j d e d_there e_there less other.committed in absurd (omega (arith, apart, d_below, e_from))
+      | inr past ↦ elim (cases_lt j i) [
+        | inl more ↦ let apart = rise_at rise s keeps n j i e d e_there d_there more one.committed in absurd (omega (arith, apart, e_below, d_from))
+        | inr at ↦ omega arith
+      ]
+    ]
+
+-- a decoder of a range holds its addresses, such as the first
+pub range_held : (r : Range) (d : Decoder) (h : ℕ) → has_range r d ≡ true → r.base ≤ h → h < r.base + r.size → Holds d h
+range_held r d h has from below =
+    let own = has_parts r d has in
+    let base = own.base in
+    let size = own.size in
+    record { committed = own.committed; from = omega (arith, base, from); below = omega (arith, base, size, below) }
+
 -- a node has one decoder of a range
-pub one_of_range : RangesRise → (s : System) (r : Range) → KeepsBlocks s → (n i j : ℕ) (d e : Decoder) → decoder_at s n i ≡ Some d → decoder_at s n j ≡ Some e
+one_of_range : RangesRise → (s : System) (r : Range) → KeepsBlocks s → (n i j : ℕ) (d e : Decoder) → decoder_at s n i ≡ Some d → decoder_at s n j ≡ Some e
     → has_range r d ≡ true → has_range r e ≡ true → i ≡ j
-one_of_range rise s r keeps n i j d e d_there e_there d_has e_has = go (slice_get s.blocks n) (each_block_keeps s keeps n) d_there e_there
-  where
-    one : Has r d
-    one = has_parts r d d_has
-
-    other : Has r e
-    other = has_parts r e e_has
-
-    go : (o : Option Registers) → IfSome o (λ block. BlockKeeps block (ram_at s n) (pmem_at s n)) → slice_get (option_map_or (λ block. block.decoders) o []) i ≡ Some d
-        → slice_get (option_map_or (λ block. block.decoders) o []) j ≡ Some e → i ≡ j
-    go None kept d_at e_at = absurd (none-some d d_at)
-    go (Some block) kept d_at e_at =
-        let base = one.base in
-        let other_base = other.base in
-        let bytes = rise.some block (ram_at s n) (pmem_at s n) i d kept d_at one.committed in
-        let other_bytes = rise.some block (ram_at s n) (pmem_at s n) j e kept e_at other.committed in
-        elim (cases_lt i j) [
-          | inl less ↦ let apart = rise.apart block (ram_at s n) (pmem_at s n) i j d e kept d_at e_at less other.committed in absurd (omega (arith, base, other_base, bytes, apart))
-          | inr past ↦ elim (cases_lt j i) [
-            | inl more ↦ let apart = rise.apart block (ram_at s n) (pmem_at s n) j i e d kept e_at d_at more one.committed in absurd (omega (arith, base, other_base, other_bytes, apart))
-            | inr at ↦ omega arith
-          ]
-        ]
+one_of_range rise s r keeps n i j d e d_there e_there d_has e_has =
+    let own = has_parts r d d_has in
+    let size = own.size in
+    let bytes = bytes_at rise s keeps n i d d_there own.committed in
+    let below : r.base < r.base + r.size = omega (arith, bytes, size) in
+    one_holder rise s keeps r.base n i j d e d_there e_there (range_held r d r.base d_has (omega arith) below) (range_held r e r.base e_has (omega arith) below)
 
 -- ---- the rules
+
+pub not_broken : (a b : Bool) → (a && not b) ≡ false → a ≡ true → b ≡ true
+not_broken true true h is = refl
+not_broken true false h is = cc
+not_broken false b h is = cc
 
 -- a rule that is kept of a committed decoder
 pub kept : (s : System) (n i : ℕ) (d : Decoder) (keeps : Decoder → Bool) → decoder_at s n i ≡ Some d → d.committed ≡ true → breaks_at s n i keeps ≡ false → keeps d ≡ true
 kept s n i d keeps there committed unbroken =
-    asked d.committed (keeps d) (sym (ap (λ (o : Option Decoder). option_map_or (λ e. e.committed && not (keeps e)) o false) there) ∙ unbroken) committed
-  where
-    asked : (a b : Bool) → (a && not b) ≡ false → a ≡ true → b ≡ true
-    asked true true h is = refl
-    asked true false h is = cc
-    asked false b h is = cc
+    not_broken d.committed (keeps d) (sym (ap (λ (o : Option Decoder). option_map_or (λ e. e.committed && not (keeps e)) o false) there) ∙ unbroken) committed
 
 rule_nine : (s : System) (n i : ℕ) → breaks s 9 n i ≡ breaks_at s n i (keeps_window s n i)
 unfolding breaks

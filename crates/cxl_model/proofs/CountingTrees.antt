@@ -76,6 +76,10 @@ ports_some {nodes} known i p some =
 
 -- ---- a test of the nodes of a path
 
+or_false : (a : Bool) → (a || false) ≡ a
+or_false true = refl
+or_false false = refl
+
 list_any-reverse : {X : Type 0} (p : X → Bool) (xs : List X) → list_any p (reverse xs) ≡ list_any p xs
 list_any-reverse p [] = refl
 list_any-reverse p (x ∷ xs) =
@@ -92,10 +96,6 @@ under_root {nodes} known n i none =
     list_any-reverse (λ q. q == n) (i ∷ map (λ parent. parent.node) (ports_above nodes i))
     ∙ ap (λ (ps : List Parent). (i == n) || list_any (λ q. q == n) (map (λ parent. parent.node) ps)) (ports_none known i none)
     ∙ or_false (i == n)
-  where
-    or_false : (a : Bool) → (a || false) ≡ a
-    or_false true = refl
-    or_false false = refl
 
 pub under_step : {nodes : List Node} → KnownTree nodes → (n i : ℕ) (p : Parent) → parent_of nodes i ≡ Some p → is_under nodes n i ≡ ((i == n) || is_under nodes n p.node)
 under_step {nodes} known n i p some =
@@ -127,19 +127,11 @@ leaves_step known n e i p some = ap (list_any (λ (parent : Parent). (parent.nod
 
 -- ---- under and above
 
-or_assoc : (a b c : Bool) → (a || (b || c)) ≡ ((a || b) || c)
-or_assoc true b c = refl
-or_assoc false b c = refl
-
 pub under_is : {nodes : List Node} → KnownTree nodes → (n i : ℕ) → is_under nodes n i ≡ ((i == n) || is_above nodes n i)
 under_is {nodes} known n =
     up_tree known (λ i. is_under nodes n i ≡ ((i == n) || is_above nodes n i))
     (λ i none. under_root known n i none ∙ sym (or_false (i == n)) ∙ ap (λ b. (i == n) || b) (sym (above_root known n i none)))
     (λ i p some rest. under_step known n i p some ∙ ap (λ b. (i == n) || b) (rest ∙ sym (above_step known n i p some)))
-  where
-    or_false : (a : Bool) → (a || false) ≡ a
-    or_false true = refl
-    or_false false = refl
 
 pub above_earlier : {nodes : List Node} → KnownTree nodes → (n i : ℕ) → is_above nodes n i ≡ true → n < i
 above_earlier {nodes} known n =
@@ -275,10 +267,6 @@ under_endpoint {nodes} known n i endpoint =
   where
     none : is_above nodes n i ≡ false
     none = false_from_ne_true (is_above nodes n i) (λ above. false≢true (sym (port_no_endpoint nodes n (above_port known n i above)) ∙ endpoint))
-
-    or_false : (a : Bool) → (a || false) ≡ a
-    or_false true = refl
-    or_false false = refl
 
 -- ---- the bridge on a path
 

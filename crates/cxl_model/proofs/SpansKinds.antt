@@ -25,7 +25,7 @@ use Rattle.cxl_model.specs.Regions.{region_range, IsRegionIn}
 use Rattle.cxl_model.specs.Bytes.{slot_length}
 use Rattle.cxl_model.proofs.Outcomes.{one_value}
 use Rattle.cxl_model.proofs.WeavingServers.{has_parts, same_range, has_ways, InBlock, in_block}
-use Rattle.cxl_model.proofs.CountingRules.{each_block_keeps, served, kept}
+use Rattle.cxl_model.proofs.CountingRules.{block_keeps, served, kept}
 use Rattle.cxl_model.proofs.SpansSlots.{IsPlace}
 use Rattle.cxl_model.proofs.Spans.{slot_place}
 
@@ -133,13 +133,9 @@ in_own_kind partitions s r n i d system whole endpoint there has =
     own : InBlock s n i d
     own = in_block s n i d there
 
-    keeps : (o : Option Registers) (block : Registers) → o ≡ Some block → IfSome o (λ b. BlockKeeps b (ram_at s n) (pmem_at s n)) → BlockKeeps block (ram_at s n) (pmem_at s n)
-    keeps None block at kept = absurd (none-some block at)
-    keeps (Some b) block at kept = subst (λ (x : Registers). BlockKeeps x (ram_at s n) (pmem_at s n)) (same_Some b block at) kept
-
     of_block : (kind : MemKind) × (lies_in kind (ram_at s n) (pmem_at s n) (span_start_of own.block.decoders i) (span_length d) ≡ true)
     of_block =
-        partitions own.block (ram_at s n) (pmem_at s n) i d (keeps (slice_get s.blocks n) own.block own.at (each_block_keeps s whole.blocks n)) (endpoint_block s n own.block system own.at endpoint) own.there
+        partitions own.block (ram_at s n) (pmem_at s n) i d (block_keeps s whole.blocks n own.block own.at) (endpoint_block s n own.block system own.at endpoint) own.there
         (has_parts r d has).committed
 
     same : own.block.decoders ≡ decoders_at s n

@@ -22,7 +22,7 @@ use Rattle.cxl_model.proofs.Outcomes.{one_value}
 use Rattle.cxl_model.proofs.WeavingWays.{some_ways}
 use Rattle.cxl_model.proofs.WeavingServers.{Has, has_parts, same_range}
 use Rattle.cxl_model.proofs.CountingTrees.{KnownTree}
-use Rattle.cxl_model.proofs.CountingRules.{RangesRise, each_block_keeps, ServesAt, served}
+use Rattle.cxl_model.proofs.CountingRules.{RangesRise, bytes_at, one_holder, range_held, served}
 use Rattle.cxl_model.proofs.SpansWindows.{HasWindow, has_window, targets}
 use Rattle.cxl_model.proofs.SpansRegions.{one_region}
 use Rattle.cxl_model.proofs.SpansKinds.{of_place}
@@ -35,36 +35,6 @@ pub record InRange (r : Range) (h : ℕ) : Type 0 where
 
 -- ---- one decoder of a node has an address in its range
 
-one_number : RangesRise → (s : System) (r q : Range) (h : ℕ) → KeepsBlocks s → (n i j : ℕ) (d e : Decoder) → decoder_at s n i ≡ Some d → decoder_at s n j ≡ Some e
-    → has_range r d ≡ true → has_range q e ≡ true → InRange r h → InRange q h → i ≡ j
-one_number rise s r q h keeps n i j d e d_there e_there d_has e_has in_r in_q = go (slice_get s.blocks n) (each_block_keeps s keeps n) d_there e_there
-  where
-    one : Has r d
-    one = has_parts r d d_has
-
-    other : Has q e
-    other = has_parts q e e_has
-
-    go : (o : Option Registers) → IfSome o (λ block. BlockKeeps block (ram_at s n) (pmem_at s n)) → slice_get (option_map_or (λ block. block.decoders) o []) i ≡ Some d
-        → slice_get (option_map_or (λ block. block.decoders) o []) j ≡ Some e → i ≡ j
-    go None kept d_at e_at = absurd (none-some d d_at)
-    go (Some block) kept d_at e_at =
-        let r_base = one.base in
-        let r_size = one.size in
-        let q_base = other.base in
-        let q_size = other.size in
-        let r_from = in_r.from in
-        let r_below = in_r.below in
-        let q_from = in_q.from in
-        let q_below = in_q.below in
-        elim (cases_lt i j) [
-          | inl less ↦ let apart = rise.apart block (ram_at s n) (pmem_at s n) i j d e kept d_at e_at less other.committed in absurd (omega (arith, r_base, r_size, q_base, r_below, q_from, apart))
-          | inr past ↦ elim (cases_lt j i) [
-            | inl more ↦ let apart = rise.apart block (ram_at s n) (pmem_at s n) j i e d kept e_at d_at more one.committed in absurd (omega (arith, r_base, q_base, q_size, q_below, r_from, apart))
-            | inr at ↦ omega arith
-          ]
-        ]
-
 same_by_decoder : (s : System) (r q : Range) (n i j : ℕ) (d e : Decoder) → decoder_at s n i ≡ Some d → decoder_at s n j ≡ Some e → has_range r d ≡ true → has_range q e ≡ true → i ≡ j → r ≡ q
 same_by_decoder s r q n i j d e d_there e_there d_has e_has same =
     let decoder : d ≡ e = one_value (decoder_at s n j) d e (ap (decoder_at s n) (sym same) ∙ d_there) e_there in
@@ -75,7 +45,8 @@ one_at_node : RangesRise → (s : System) (r q : Range) (h n : ℕ) → KeepsBlo
 one_at_node rise s r q h n keeps one other in_r in_q =
     let d = served s r n one in
     let e = served s q n other in
-    same_by_decoder s r q n d.i e.i d.d e.d d.there e.there d.has e.has (one_number rise s r q h keeps n d.i e.i d.d e.d d.there e.there d.has e.has in_r in_q)
+    same_by_decoder s r q n d.i e.i d.d e.d d.there e.there d.has e.has 
+    (one_holder rise s keeps h n d.i e.i d.d e.d d.there e.there (range_held r d.d h d.has in_r.from in_r.below) (range_held q e.d h e.has in_q.from in_q.below))
 
 -- ranges to which an address comes from one node, and that share an address, are one
 one_below : RangesRise → (s : System) (r q : Range) (h b : ℕ) → KeepsBlocks s → lands_on s r b ≡ true → lands_on s q b ≡ true → InRange r h → InRange q h → r ≡ q
@@ -196,23 +167,13 @@ share_device follow s w v found other endpoint dpa known is also in_found in_oth
 
 -- the first byte of a region is one of it
 pub range_has_bytes : RangesRise → (s : System) (w : WindowFields) (found : Found) → IsRegionIn s w found → InRange (region_range found) found.base
-range_has_bytes rise s w found is = go (slice_get s.blocks n) (each_block_keeps s is.whole.blocks n) at.there
-  where
-    n : ℕ
-    n = is.committed.0
-
-    at : ServesAt s (region_range found) n
-    at = served s (region_range found) n is.committed.1
-
-    own : Has (region_range found) at.d
-    own = has_parts (region_range found) at.d at.has
-
-    go : (o : Option Registers) → IfSome o (λ block. BlockKeeps block (ram_at s n) (pmem_at s n)) → slice_get (option_map_or (λ block. block.decoders) o []) at.i ≡ Some at.d → InRange (region_range found) found.base
-    go None kept d_at = absurd (none-some at.d d_at)
-    go (Some block) kept d_at =
-        let bytes = rise.some block (ram_at s n) (pmem_at s n) at.i at.d kept d_at own.committed in
-        let size = own.size in
-        record { from = omega arith; below = omega (arith, bytes, size) }
+range_has_bytes rise s w found is =
+    let n : ℕ = is.committed.0 in
+    let at = served s (region_range found) n is.committed.1 in
+    let own = has_parts (region_range found) at.d at.has in
+    let bytes = bytes_at rise s is.whole.blocks n at.i at.d at.there own.committed in
+    let size = own.size in
+    record { from = omega arith; below = omega (arith, bytes, size) }
 
 -- regions of one base are one
 pub one_base : RangesRise → (s : System) (w v : WindowFields) (found other : Found) → IsSystem s → KnownTree s.nodes → IsRegionIn s w found → IsRegionIn s v other → found.base ≡ other.base → found ≡ other

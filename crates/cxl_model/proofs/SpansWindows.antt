@@ -7,7 +7,7 @@ use Rattle.std.proofs.Math.Nat.{mul_comm, one-mul}
 use Rattle.std.proofs.lemmas.Bool.{cases_lt, cases_Bool, and_parts, and_from, leb-true, eqb-true, eq-eqb, false_from_ne_true, false≢true, not_from_false}
 use Rattle.std.proofs.lemmas.Option.{slice_get_past, slice_get_within, get_or_from_slice_get, none-some, same_Some}
 use Rattle.std.proofs.lemmas.List.Folds.{Any-from_list_any, find_at}
-use Rattle.std.proofs.lemmas.List.Sums.{AllPass-from_list_all}
+use Rattle.std.proofs.lemmas.List.Sums.{AllPass-from_list_all, passes_at_first}
 use Rattle.cxl_topo.specs.declared.node.Node.{Node}
 use Rattle.cxl_topo.specs.declared.node.NodeKind.{NodeKind}
 use Rattle.cxl_topo.specs.declared.node.NodeKind.TheVariants.{Bridge, Switch, Endpoint}
@@ -39,14 +39,6 @@ pub record HasWindow (s : System) (r : Range) (w : WindowFields) : Type 0 where
   pub from : w.base ≤ r.base
   pub to : r.base + r.size ≤ w.base + w.size
 
-find_passes : {X : Type 0} (p : X → Bool) (xs : List X) (x : X) → find p xs ≡ Some x → p x ≡ true
-find_passes p [] x is = absurd (none-some x is)
-find_passes p (y ∷ ys) x is =
-    elim (p y) as (λ b. p y ≡ b → (if b then Some y else find p ys) ≡ Some x → p x ≡ true) [
-      | true ↦ λ e at. subst (λ z. p z ≡ true) (same_Some y x at) e
-      | false ↦ λ e at. find_passes p ys x at
-    ] refl is
-
 pub has_window : (s : System) (r : Range) (w : WindowFields) → IsSystem s → window_for s r ≡ Some w → HasWindow s r w
 has_window s r w system is =
     let i : ℕ = position_or_len (lies_within r) s.windows in
@@ -54,7 +46,7 @@ has_window s r w system is =
     let within : i < length s.windows = slice_get_within s.windows i w at in
     let read : get_or s.windows i w ≡ w = get_or_from_slice_get s.windows i w w at in
     let own : IsWindow w = subst IsWindow read (system.windows i w within) in
-    let lies = find_passes (lies_within r) s.windows w is in
+    let lies : lies_within r w ≡ true = sym (ap (lies_within r) read) ∙ passes_at_first (lies_within r) s.windows w within in
     let outer = and_parts (is_usable w.verdict && nat_le w.base r.base) (nat_le (r.base + r.size) (w.base + w.size)) lies in
     let inner = and_parts (is_usable w.verdict) (nat_le w.base r.base) outer.0 in
     let verdict = usable_is w.verdict inner.0 in

@@ -228,16 +228,16 @@ same_window s t r both = ap (find (lies_within r)) both.windows
 abbrev lands_by : List Node → (ℕ → Bool) → ℕ → Bool
 lands_by nodes serve n = option_map_or serve (landing_of nodes n) false
 
-abbrev window_test : List Node → Option WindowFields → MemKind → ℕ → Range → Bool
-window_test nodes window kind n r = option_map_or (λ w. starts_in_thirds w r && (not (is_endpoint_at nodes n) || permits w kind)) window false
+abbrev nine_by : List Node → Option WindowFields → MemKind → ℕ → Range → Bool
+nine_by nodes window kind n r = option_map_or (λ w. starts_in_thirds w r && (not (is_endpoint_at nodes n) || permits w kind)) window false
 
-abbrev targets_test : List Node → (ℕ → Bool) → Option WindowFields → ℕ → Decoder → Bool
-targets_test nodes serve window n d =
+abbrev ten_by : List Node → (ℕ → Bool) → Option WindowFields → ℕ → Decoder → Bool
+ten_by nodes serve window n d =
     (is_endpoint_at nodes n || (are_distinct (entries_of d) && list_all (λ port. option_map_or (lands_by nodes serve) (child_of nodes n port) false) (entries_of d)))
     && (not (is_bridge_landing nodes n) || option_map_or (λ w. list_all (λ uid. option_map_or (lands_by nodes serve) (bridge_with nodes uid) false) w.targets) window true)
 
-abbrev reach_test : List Node → (Parent → Bool) → Option WindowFields → ℕ → Bool
-reach_test nodes list window n =
+abbrev eleven_by : List Node → (Parent → Bool) → Option WindowFields → ℕ → Bool
+eleven_by nodes list window n =
     not (forwards_at nodes n)
     && option_map_or list (decoding_port_of nodes n) (option_map_or (λ w. option_map_or (λ uid. list_any (λ target. target == uid) w.targets) (uid_above nodes n) false) window false)
 
@@ -245,9 +245,9 @@ same_nine : (s t : System) (r : Range) → Common s t r → (n i : ℕ) (d : Dec
 same_nine s t r both n i d own kind =
     let nodes = both.nodes in
     let window = same_window s t r both in
-    let before : keeps_window t n i d ≡ window_test t.nodes (window_for t r) (span_kind t n i) n r = ap (λ (q : Range). window_test t.nodes (window_for t q) (span_kind t n i) n q) own in
-    let after : keeps_window s n i d ≡ window_test s.nodes (window_for s r) (span_kind s n i) n r = ap (λ (q : Range). window_test s.nodes (window_for s q) (span_kind s n i) n q) own in
-    let middle : window_test t.nodes (window_for t r) (span_kind t n i) n r ≡ window_test s.nodes (window_for s r) (span_kind s n i) n r = λ k. window_test (nodes k) (window k) (kind k) n r in
+    let before : keeps_window t n i d ≡ nine_by t.nodes (window_for t r) (span_kind t n i) n r = ap (λ (q : Range). nine_by t.nodes (window_for t q) (span_kind t n i) n q) own in
+    let after : keeps_window s n i d ≡ nine_by s.nodes (window_for s r) (span_kind s n i) n r = ap (λ (q : Range). nine_by s.nodes (window_for s q) (span_kind s n i) n q) own in
+    let middle : nine_by t.nodes (window_for t r) (span_kind t n i) n r ≡ nine_by s.nodes (window_for s r) (span_kind s n i) n r = λ k. nine_by (nodes k) (window k) (kind k) n r in
     before ∙ middle ∙ sym after
 
 same_ten : (s t : System) (r : Range) → Common s t r → (n : ℕ) (d : Decoder) → range_of d ≡ r → keeps_targets t n d ≡ keeps_targets s n d
@@ -255,9 +255,9 @@ same_ten s t r both n d own =
     let nodes = both.nodes in
     let serve = both.serve in
     let window = same_window s t r both in
-    let before : keeps_targets t n d ≡ targets_test t.nodes (serves t r) (window_for t r) n d = ap (λ (q : Range). targets_test t.nodes (serves t q) (window_for t q) n d) own in
-    let after : keeps_targets s n d ≡ targets_test s.nodes (serves s r) (window_for s r) n d = ap (λ (q : Range). targets_test s.nodes (serves s q) (window_for s q) n d) own in
-    let middle : targets_test t.nodes (serves t r) (window_for t r) n d ≡ targets_test s.nodes (serves s r) (window_for s r) n d = λ k. targets_test (nodes k) (serve k) (window k) n d in
+    let before : keeps_targets t n d ≡ ten_by t.nodes (serves t r) (window_for t r) n d = ap (λ (q : Range). ten_by t.nodes (serves t q) (window_for t q) n d) own in
+    let after : keeps_targets s n d ≡ ten_by s.nodes (serves s r) (window_for s r) n d = ap (λ (q : Range). ten_by s.nodes (serves s q) (window_for s q) n d) own in
+    let middle : ten_by t.nodes (serves t r) (window_for t r) n d ≡ ten_by s.nodes (serves s r) (window_for s r) n d = λ k. ten_by (nodes k) (serve k) (window k) n d in
     before ∙ middle ∙ sym after
 
 same_eleven : (s t : System) (r : Range) → Common s t r → (n : ℕ) (d : Decoder) → range_of d ≡ r → keeps_reach t n d ≡ keeps_reach s n d
@@ -265,9 +265,9 @@ same_eleven s t r both n d own =
     let nodes = both.nodes in
     let list = both.list in
     let window = same_window s t r both in
-    let before : keeps_reach t n d ≡ reach_test t.nodes (lists t r) (window_for t r) n = ap (λ (q : Range). reach_test t.nodes (lists t q) (window_for t q) n) own in
-    let after : keeps_reach s n d ≡ reach_test s.nodes (lists s r) (window_for s r) n = ap (λ (q : Range). reach_test s.nodes (lists s q) (window_for s q) n) own in
-    let middle : reach_test t.nodes (lists t r) (window_for t r) n ≡ reach_test s.nodes (lists s r) (window_for s r) n = λ k. reach_test (nodes k) (list k) (window k) n in
+    let before : keeps_reach t n d ≡ eleven_by t.nodes (lists t r) (window_for t r) n = ap (λ (q : Range). eleven_by t.nodes (lists t q) (window_for t q) n) own in
+    let after : keeps_reach s n d ≡ eleven_by s.nodes (lists s r) (window_for s r) n = ap (λ (q : Range). eleven_by s.nodes (lists s q) (window_for s q) n) own in
+    let middle : eleven_by t.nodes (lists t r) (window_for t r) n ≡ eleven_by s.nodes (lists s r) (window_for s r) n = λ k. eleven_by (nodes k) (list k) (window k) n in
     before ∙ middle ∙ sym after
 
 -- what K12 looks at
@@ -289,8 +289,8 @@ told s r n i = record {
   code = λ w. range_code s w r;
 }
 
-abbrev ways_test : List Node → Option WindowFields → Told → ℕ → Decoder → Bool
-ways_test nodes window told n d =
+abbrev twelve_by : List Node → Option WindowFields → Told → ℕ → Decoder → Bool
+twelve_by nodes window told n d =
     option_map_or (λ w.
     if is_endpoint_at nodes n
     then ((decoder_ways d == w.ways * told.above) && (decoder_ways d == told.ways) && same_kind told.own told.kind && ((decoder_ways d == 1) || (d.gran == told.code w)))
@@ -310,9 +310,9 @@ same_twelve s t r both n i d own kind =
     let nodes = both.nodes in
     let window = same_window s t r both in
     let parts = same_told s t r both n i kind in
-    let before : keeps_ways t n i d ≡ ways_test t.nodes (window_for t r) (told t r n i) n d = ap (λ (q : Range). ways_test t.nodes (window_for t q) (told t q n i) n d) own in
-    let after : keeps_ways s n i d ≡ ways_test s.nodes (window_for s r) (told s r n i) n d = ap (λ (q : Range). ways_test s.nodes (window_for s q) (told s q n i) n d) own in
-    let middle : ways_test t.nodes (window_for t r) (told t r n i) n d ≡ ways_test s.nodes (window_for s r) (told s r n i) n d = λ k. ways_test (nodes k) (window k) (parts k) n d in
+    let before : keeps_ways t n i d ≡ twelve_by t.nodes (window_for t r) (told t r n i) n d = ap (λ (q : Range). twelve_by t.nodes (window_for t q) (told t q n i) n d) own in
+    let after : keeps_ways s n i d ≡ twelve_by s.nodes (window_for s r) (told s r n i) n d = ap (λ (q : Range). twelve_by s.nodes (window_for s q) (told s q n i) n d) own in
+    let middle : twelve_by t.nodes (window_for t r) (told t r n i) n d ≡ twelve_by s.nodes (window_for s r) (told s r n i) n d = λ k. twelve_by (nodes k) (window k) (parts k) n d in
     before ∙ middle ∙ sym after
 
 -- ---- the rules
