@@ -1,10 +1,10 @@
 -- What the rules of a whole range say of a node that serves it.
 use Rattle.std.proofs.Common.{◌≡◌, ℕ, ◌+◌, ◌<◌, ◌≤◌, Bool, true, false, not, ◌&&◌, ◌||◌, cond, List, [], ◌∷◌, length, get_or, Option, Some, None, refl, sym, ap, ◌∙◌, subst, inl, inr, arith, ◌⊎◌}
-use Rattle.std.specs.Prelude.{slice_get, ◌==◌, nat_lt, find, position, IfSome}
+use Rattle.std.specs.Prelude.{slice_get, ◌==◌, nat_lt, find, position}
 use Rattle.std.specs.Option.{option_map_or, option_and_then}
 use Rattle.std.specs.List.{list_any, list_all, position_or_len}
 use Rattle.std.proofs.lemmas.Bool.{cases_lt, cases_Bool, and_parts, or_cases, or_parts, eqb-true, ne_eqb, lt-ltb, cond-true, false≢true, not-true, not_from_true, true≢false}
-use Rattle.std.proofs.lemmas.Option.{slice_get-get_or, none-some, same_Some}
+use Rattle.std.proofs.lemmas.Option.{slice_get-get_or, same_Some}
 use Rattle.std.proofs.lemmas.List.Folds.{Any-from_list_any, find_at}
 use Rattle.std.proofs.lemmas.List.Sums.{fails_before_first, passes_at_first}
 use Rattle.cxl_topo.specs.declared.node.Node.{Node}
@@ -17,7 +17,7 @@ use Rattle.cxl_span.specs.Spans.{span_start_of}
 use Rattle.cxl_span.specs.Rules.{breaks_rule}
 use Rattle.cxl_span.specs.Breaches.{breaks as block_breaks, BlockKeeps}
 use Rattle.cxl_window.specs.Fields.{WindowFields}
-use Rattle.cxl_model.specs.System.{System, KeepsBlock, decoders_at, decoder_at, ram_at, pmem_at, entries_of}
+use Rattle.cxl_model.specs.System.{System, decoders_at, decoder_at, ram_at, pmem_at, entries_of}
 use Rattle.cxl_model.specs.Ranges.{Range, range_of, has_range, serves, decoder_for, index_for, window_for}
 use Rattle.cxl_model.specs.Rules.{keeps_window, keeps_targets, keeps_reach, are_distinct, leads_on, is_bridge_landing, targets_land, lists, is_targeted}
 use Rattle.cxl_model.specs.Accepted.{breaks, breaks_at, breaks_block, KeepsBlocks, IsWhole}

@@ -1,9 +1,8 @@
 -- Each span of a region lies in its device, in the partition of the region's kind.
 use Rattle.std.proofs.Common.{◌≡◌, ℕ, ◌*◌, ◌/◌, Bool, true, false, ◌&&◌, ◌||◌, if◌then◌else◌, List, [], Option, Some, None, refl, sym, ap, ◌∙◌, subst, arith}
-use Rattle.std.specs.Prelude.{slice_get, ◌==◌, IfSome}
+use Rattle.std.specs.Prelude.{slice_get, ◌==◌}
 use Rattle.std.specs.Option.{option_map_or}
 use Rattle.std.proofs.lemmas.Bool.{and_parts, false≢true}
-use Rattle.std.proofs.lemmas.Option.{none-some, same_Some}
 use Rattle.cxl_enc.specs.declared.caps.MemKind.{MemKind}
 use Rattle.cxl_enc.specs.declared.caps.MemKind.TheVariants.{Ram, Pmem}
 use Rattle.cxl_topo.specs.declared.node.Node.{Node}

@@ -1,18 +1,16 @@
 -- Regions that share a host byte or a device byte are one region.
-use Rattle.std.proofs.Common.{◌≡◌, ℕ, ◌+◌, ◌/◌, ◌<◌, ◌≤◌, true, false, List, [], length, get_or, Option, Some, None, sym, ap, ◌∙◌, subst, inl, inr, arith}
-use Rattle.std.specs.Prelude.{slice_get, IfSome, Contains}
+use Rattle.std.proofs.Common.{◌≡◌, ℕ, ◌+◌, ◌/◌, ◌<◌, ◌≤◌, true, false, List, length, get_or, Option, Some, None, sym, ap, ◌∙◌, subst, inl, inr, arith}
+use Rattle.std.specs.Prelude.{slice_get, Contains}
 use Rattle.std.specs.Option.{option_map_or}
 use Rattle.std.proofs.lemmas.Bool.{cases_lt, false≢true}
-use Rattle.std.proofs.lemmas.Option.{slice_get_within, get_or_from_slice_get, none-some}
+use Rattle.std.proofs.lemmas.Option.{slice_get_within, get_or_from_slice_get}
 use Rattle.cxl_topo.specs.Tree.{landing_of, bridge_with}
 use Rattle.cxl_regs.specs.declared.decoder.Decoder.{Decoder}
-use Rattle.cxl_regs.specs.Registers.{Registers}
 use Rattle.cxl_span.specs.Spans.{span_length, span_start_of, span_end_of}
-use Rattle.cxl_span.specs.Breaches.{BlockKeeps}
 use Rattle.cxl_window.specs.Fields.{WindowFields}
 use Rattle.cxl_model.specs.declared.found.Found.{Found}
 use Rattle.cxl_model.specs.declared.found.Place.{Place}
-use Rattle.cxl_model.specs.System.{System, IsSystem, decoders_at, decoder_at, ram_at, pmem_at}
+use Rattle.cxl_model.specs.System.{System, IsSystem, decoders_at, decoder_at}
 use Rattle.cxl_model.specs.Ranges.{Range, range_of, has_range, serves}
 use Rattle.cxl_model.specs.Rules.{lands_on}
 use Rattle.cxl_model.specs.Accepted.{KeepsBlocks}
@@ -20,7 +18,7 @@ use Rattle.cxl_model.specs.Regions.{region_range, IsRegionIn}
 use Rattle.cxl_model.specs.Bytes.{LiesInSpan, slot_length}
 use Rattle.cxl_model.proofs.Outcomes.{one_value}
 use Rattle.cxl_model.proofs.WeavingWays.{some_ways}
-use Rattle.cxl_model.proofs.WeavingServers.{Has, has_parts, same_range}
+use Rattle.cxl_model.proofs.WeavingServers.{has_parts, same_range}
 use Rattle.cxl_model.proofs.CountingTrees.{KnownTree}
 use Rattle.cxl_model.proofs.CountingRules.{RangesRise, bytes_at, one_holder, range_held, served}
 use Rattle.cxl_model.proofs.SpansWindows.{HasWindow, has_window, targets}
@@ -45,7 +43,7 @@ one_at_node : RangesRise → (s : System) (r q : Range) (h n : ℕ) → KeepsBlo
 one_at_node rise s r q h n keeps one other in_r in_q =
     let d = served s r n one in
     let e = served s q n other in
-    same_by_decoder s r q n d.i e.i d.d e.d d.there e.there d.has e.has 
+    same_by_decoder s r q n d.i e.i d.d e.d d.there e.there d.has e.has
     (one_holder rise s keeps h n d.i e.i d.d e.d d.there e.there (range_held r d.d h d.has in_r.from in_r.below) (range_held q e.d h e.has in_q.from in_q.below))
 
 -- ranges to which an address comes from one node, and that share an address, are one

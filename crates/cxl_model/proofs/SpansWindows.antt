@@ -1,6 +1,6 @@
 -- The window of a whole range, and its targets.
 use Rattle.std.proofs.Common.{◌≡◌, ℕ, suc, ◌+◌, ◌*◌, ◌<◌, ◌≤◌, Bool, true, false, not, ◌&&◌, if◌then◌else◌, List, [], ◌∷◌, length, get_or, Option, Some, None, refl, sym, ap, ◌∙◌, subst, inl, inr, arith}
-use Rattle.std.specs.Prelude.{slice_get, ◌==◌, nat_le, find, All, option_map}
+use Rattle.std.specs.Prelude.{slice_get, ◌==◌, nat_le, All, option_map}
 use Rattle.std.specs.Option.{option_map_or, option_and_then}
 use Rattle.std.specs.List.{list_any, position_or_len}
 use Rattle.std.proofs.Math.Nat.{mul_comm, one-mul}

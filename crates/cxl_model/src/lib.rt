@@ -9,6 +9,7 @@ mod found;
 mod laws;
 mod plan;
 mod poison;
+mod region_examples;
 mod regions;
 mod request;
 
@@ -23,6 +24,7 @@ pub use found::{Found, Place, weave_of};
 pub use laws::{accepted_or_breach, accepted_where_whole, one_outcome, one_window};
 pub use plan::{Plan, PlanFault, Reason, Row};
 pub use poison::{Entry, Part, PoisonList, Poisoned, Run, Wide};
+pub use region_examples::{changes_on_examples, endpoints_on_examples, spans_on_examples};
 pub use regions::{
     bytes_are_carried_one_to_one, endpoints_lie_evenly, regions_are_listed, regions_share_no_byte,
     regions_stay, slots_are_endpoints, whole_ranges_have_one_region,
