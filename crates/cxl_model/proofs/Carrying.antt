@@ -45,13 +45,7 @@ pub record IsPower (n : ℕ) : Type 0 where
   pub is : n ≡ 2 ^ k
 
 power_times : (k m n : ℕ) → m ≡ 2 ^ k → IsPower n → IsPower (m * n)
-power_times zero m n is power = record { k = power.k; is = ap (λ (x : ℕ). x * n) is ∙ one-mul n ∙ power.is }
-power_times (suc k) m n is power =
-    let rest = power_times k (2 ^ k) n refl power in
-    let half : 2 ^ k * n ≡ 2 ^ rest.k = rest.is in
-    let twice : 2 ^ suc k * n ≡ 2 * (2 ^ k * n) = ap (λ (x : ℕ). x * n) (pow-suc 2 k ∙ mul_comm (2 ^ k) 2) ∙ mul_assoc 2 (2 ^ k) n in
-    let up : 2 ^ suc rest.k ≡ 2 * 2 ^ rest.k = pow-suc 2 rest.k ∙ mul_comm (2 ^ rest.k) 2 in
-    record { k = suc rest.k; is = ap (λ (x : ℕ). x * n) is ∙ twice ∙ ap (λ (x : ℕ). 2 * x) half ∙ sym up }
+power_times k m n is power = record { k = k + power.k; is = ap (λ (x : ℕ). x * n) is ∙ ap (λ (x : ℕ). 2 ^ k * x) power.is ∙ sym (pow-add 2 k power.k) }
 
 -- three divides no power of two
 no_third : (k : ℕ) → 2 ^ k % 3 ≡ 0 → ⊥
@@ -182,11 +176,11 @@ pub record SpansWhole : Type 0 where
       → span_length d % 2 ^ 28 ≡ 0
 
 -- a slot has a multiple of 256 MiB, and all slots together the region's bytes
-record Shares (found : Found) : Type 0 where
-  all : slot_length found * found.ways ≡ found.size
-  aligned : slot_length found % 2 ^ 28 ≡ 0
+pub record Shares (found : Found) : Type 0 where
+  pub all : slot_length found * found.ways ≡ found.size
+  pub aligned : slot_length found % 2 ^ 28 ≡ 0
 
-shares : SpansWhole → (s : System) (w : WindowFields) (found : Found) → IsSystem s → IsRegionIn s w found → Shares found
+pub shares : SpansWhole → (s : System) (w : WindowFields) (found : Found) → IsSystem s → IsRegionIn s w found → Shares found
 shares spans s w found system is =
     record {
       all = ap (λ (n : ℕ). slot_length found * n) own_ways ∙ ap (λ (n : ℕ). n * decoder_ways d) (sym length_is)
@@ -229,7 +223,7 @@ chunks_fit : (gran : ℕ) → gran ≤ 6 → 2 ^ 28 ≡ chunk_size gran * 2 ^ (2
 chunks_fit gran known = eqb-true (2 ^ 28) (chunk_size gran * 2 ^ (20 - gran)) (agree_below_at fits_unit (λ g. true) 7 gran refl (omega arith))
 
 -- so many turns
-abbrev turns : Found → ℕ
+abbrev pub turns : Found → ℕ
 turns found = slot_length found / chunk_size found.gran
 
 turns_fill : (found : Found) → found.gran ≤ 6 → slot_length found % 2 ^ 28 ≡ 0 → turns found * chunk_size found.gran ≡ slot_length found
@@ -243,7 +237,7 @@ turns_fill found known aligned =
     let quotient : turns found ≡ times = ap (λ (x : ℕ). x / chunk) by_chunks ∙ mul-div_cancel_left times some in
     ap (λ (x : ℕ). x * chunk) quotient ∙ mul_comm times chunk ∙ sym by_chunks
 
-ends_with_turns : (s : System) (w : WindowFields) (found : Found) → IsSystem s → KnownTree s.nodes → IsRegionIn s w found → Shares found
+pub ends_with_turns : (s : System) (w : WindowFields) (found : Found) → IsSystem s → KnownTree s.nodes → IsRegionIn s w found → Shares found
     → turns_end (weave_fields found w) (turns found) ≡ found.base + found.size
 ends_with_turns s w found system known is own =
     let filled = turns_fill found (found_gran_known s w found system is) own.aligned in
@@ -260,13 +254,13 @@ pub record DealingLaws : Type 0 where
       → (h : ℕ) × (w.base ≤ h) × (h < turns_end w n) × (dealt_slot w h ≡ slot) × (dealt_offset w h ≡ offset)
 
 -- a host byte of a region with where it is carried
-record Carried (found : Found) (w : WindowFields) (h endpoint dpa : ℕ) : Type 0 where
-  place : Place
-  at : slice_get found.spans (dealt_slot (weave_fields found w) h) ≡ Some place
-  here : place.endpoint ≡ endpoint
-  byte : place.start + dealt_offset (weave_fields found w) h ≡ dpa
+pub record Carried (found : Found) (w : WindowFields) (h endpoint dpa : ℕ) : Type 0 where
+  pub place : Place
+  pub at : slice_get found.spans (dealt_slot (weave_fields found w) h) ≡ Some place
+  pub here : place.endpoint ≡ endpoint
+  pub byte : place.start + dealt_offset (weave_fields found w) h ≡ dpa
 
-carried : (found : Found) (w : WindowFields) (h endpoint dpa : ℕ) → Carries found w h endpoint dpa → Carried found w h endpoint dpa
+pub carried : (found : Found) (w : WindowFields) (h endpoint dpa : ℕ) → Carries found w h endpoint dpa → Carried found w h endpoint dpa
 carried found w h endpoint dpa carries =
     let own = value_of (slice_get found.spans (dealt_slot (weave_fields found w) h))
     (λ place. (place.endpoint ≡ endpoint) × (place.start + dealt_offset (weave_fields found w) h ≡ dpa)) carries.place in

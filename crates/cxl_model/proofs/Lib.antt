@@ -25,3 +25,4 @@ pub mod SpansShared
 pub mod Staying
 pub mod Carrying
 pub mod SpansListed
+pub mod CarryingPieces

@@ -1,7 +1,8 @@
 //! Laws of the regions of an image that keeps K1 to K8, accepted or not, each the contract of a function that
 //! does nothing.
 
-ghost use Rattle.std.specs.Prelude.{◌≡◌, ℕ, ◌+◌, ◌*◌, ◌<◌, ◌≤◌, true, List, length, Contains, slice_get, Some};
+ghost use Rattle.std.specs.Prelude.{◌≡◌, ℕ, ◌+◌, ◌-◌, ◌*◌, ◌/◌, ◌%◌, ◌<◌, ◌≤◌, true, List, length, Contains, slice_get, Some};
+ghost use Rattle.cxl_deal.specs.Weaves.{IsWeave, chunk_size, weave_ways, turns_end};
 ghost use Rattle.cxl_regs.specs.declared.decoder.Decoder.{Decoder};
 ghost use Rattle.cxl_span.specs.Partitions.{lies_in};
 ghost use Rattle.cxl_span.specs.Spans.{span_start_of};
@@ -12,13 +13,13 @@ ghost use Rattle.cxl_model.specs.System.{System, IsSystem, decoders_at, decoder_
 ghost use Rattle.cxl_model.specs.Ranges.{Range, IsCommittedRange, has_range, serves, index_for, window_for, ways_above, range_ways};
 ghost use Rattle.cxl_model.specs.Rules.{lands_on};
 ghost use Rattle.cxl_model.specs.Accepted.{IsAccepted, KeepsBlocks, IsWhole, breaks};
-ghost use Rattle.cxl_model.specs.Regions.{region_range, IsRegionIn, Carries};
+ghost use Rattle.cxl_model.specs.Regions.{region_range, IsRegionIn, weave_fields, Carries};
 ghost use Rattle.cxl_model.specs.Counts.{is_endpoint_of, endpoints_of, endpoints_under};
 ghost use Rattle.cxl_model.specs.Bytes.{slot_length, LiesInSpan};
 ghost use Rattle.cxl_model.specs.Changes.{HaveSameDecoders};
 ghost use Rattle.cxl_model.specs.Listed.{AreRegions, AreRegionsByBase};
 
-use cxl_deal::{place_tells_address, region_fills_slots};
+use cxl_deal::{chunks_deal_whole, place_tells_address, region_fills_slots};
 use cxl_span::{ranges_rise, spans_are_whole, spans_follow, spans_lie_in_partitions};
 use cxl_topo::tree_laws;
 
@@ -109,6 +110,39 @@ pub fn bytes_are_carried_one_to_one()
     spans_are_whole();
     place_tells_address();
     region_fills_slots();
+}
+
+/// A law of regions: one carries the bytes of each 256 from its base on to bytes that follow each other, and
+/// to 256 that start at a multiple of 256.
+pub fn pieces_are_carried_whole()
+    ensures aligned { (s : System) (w : WindowFields) (found : Found) (h endpoint dpa : ℕ) → IsSystem s
+        → IsRegionIn s w found → Carries found w h endpoint dpa → dpa % 256 ≡ (h - found.base) % 256 }
+    ensures together { (s : System) (w : WindowFields) (found : Found) (h k endpoint dpa : ℕ) → IsSystem s
+        → IsRegionIn s w found → Carries found w h endpoint dpa → (h - found.base) % 256 + k < 256
+        → Carries found w (h + k) endpoint (dpa + k) }
+{
+    tree_laws();
+    ranges_rise();
+    spans_are_whole();
+    chunks_deal_whole();
+}
+
+/// A law of weaves: a region's is one, it has the region's ways, and its turns fill the slots, which have the
+/// same number of bytes each.
+pub fn weaves_fill_their_regions()
+    ensures kept { (s : System) (w : WindowFields) (found : Found) → IsSystem s
+        → IsRegionIn s w found → IsWeave (weave_fields found w) }
+    ensures ways { (s : System) (w : WindowFields) (found : Found) → IsSystem s
+        → IsRegionIn s w found → weave_ways (weave_fields found w) ≡ found.ways }
+    ensures shares { (s : System) (w : WindowFields) (found : Found) → IsSystem s
+        → IsRegionIn s w found → slot_length found * found.ways ≡ found.size }
+    ensures turns { (s : System) (w : WindowFields) (found : Found) → IsSystem s
+        → IsRegionIn s w found
+        → turns_end (weave_fields found w) (slot_length found / chunk_size found.gran) ≡ found.base + found.size }
+{
+    tree_laws();
+    ranges_rise();
+    spans_are_whole();
 }
 
 /// A law of changes: an image that keeps K1 to K8 and has the same decoders of a range as another one has the
