@@ -2,7 +2,7 @@
 use Rattle.std.proofs.Common.{◌≡◌, ℕ, zero, suc, ◌+◌, ◌-◌, ◌*◌, ◌/◌, ◌%◌, ◌^◌, ◌<◌, ◌≤◌, Bool, true, false, not, ◌&&◌, if◌then◌else◌, length, get_or, Option, Some, None, refl, sym, ap, ◌∙◌, subst, inl, inr, arith, pow-add}
 use Rattle.std.specs.Prelude.{slice_get, ◌==◌, nat_le, IsTrue, unwrap_or}
 use Rattle.std.specs.Option.{option_map_or}
-use Rattle.std.proofs.Math.Nat.{mul_comm, mul_assoc, mul_right_comm, mul-div_cancel_left, mul-mod_right, div-add-mod, pow-suc, one-mul, mul-one}
+use Rattle.std.proofs.Math.Nat.{mul_comm, mul_assoc, mul_right_comm, mul-div_cancel_left, mul-mod_right, div-add-mod, pow-suc, mul-one}
 use Rattle.std.proofs.lemmas.Bool.{cases_Bool, agree_below_at, and_parts, leb-true, eqb-true, eq-eqb, not-true, ne_eqb, false≢true}
 use Rattle.std.proofs.lemmas.Option.{slice_get_within, slice_get-get_or}
 use Rattle.cxl_enc.specs.Codes.{is_ways, third_of, bits_of, ways_of}

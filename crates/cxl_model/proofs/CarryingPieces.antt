@@ -1,5 +1,5 @@
 -- A region carries each piece of 256 bytes whole, to a block of 256 bytes.
-use Rattle.std.proofs.Common.{◌≡◌, ℕ, ◌+◌, ◌-◌, ◌*◌, ◌/◌, ◌%◌, ◌^◌, ◌<◌, ◌≤◌, true, List, [], length, Some, refl, sym, ap, ◌∙◌, subst, arith}
+use Rattle.std.proofs.Common.{◌≡◌, ℕ, ◌+◌, ◌-◌, ◌*◌, ◌/◌, ◌%◌, ◌^◌, ◌<◌, ◌≤◌, true, List, [], Some, sym, ap, ◌∙◌, subst, arith}
 use Rattle.std.specs.Prelude.{slice_get, All}
 use Rattle.std.proofs.Math.Nat.{mul_comm, mul_assoc, mul-add-mod_self_left, mul-mod_right, mod-lt, div-add-mod, div-lt_iff_lt-mul}
 use Rattle.std.specs.Option.{option_map_or}
@@ -23,7 +23,7 @@ use Rattle.cxl_model.proofs.SpansApart.{power}
 use Rattle.cxl_model.proofs.SpansKinds.{of_place, endpoint_block}
 use Rattle.cxl_model.proofs.SpansPlaces.{some_and}
 use Rattle.cxl_model.proofs.Spans.{slot_place}
-use Rattle.cxl_model.proofs.Carrying.{SpansWhole, Shares, shares, is_weave, Carried, carried}
+use Rattle.cxl_model.proofs.Carrying.{SpansWhole, Shares, shares, is_weave, carried}
 
 -- ---- multiples of 256
 

@@ -4,8 +4,9 @@ use Rattle.std.specs.Prelude.{slice_get, ◌==◌, nat_le, All, option_map}
 use Rattle.std.specs.Option.{option_map_or, option_and_then}
 use Rattle.std.specs.List.{list_any, position_or_len}
 use Rattle.std.proofs.Math.Nat.{mul_comm, one-mul}
-use Rattle.std.proofs.lemmas.Bool.{cases_lt, cases_Bool, and_parts, and_from, leb-true, eqb-true, eq-eqb, false_from_ne_true, false≢true, not_from_false}
-use Rattle.std.proofs.lemmas.Option.{slice_get_past, slice_get_within, get_or_from_slice_get, none-some, same_Some}
+use Rattle.std.proofs.lemmas.Bool.{cases_Bool, and_parts, and_from, or_cases, leb-true, eqb-true, eq-eqb, false_from_ne_true, false≢true, not_from_false}
+use Rattle.std.proofs.lemmas.Option.{slice_get_within, get_or_from_slice_get, none-some, same_Some}
+use Rattle.std.proofs.lemmas.List.{nil_from_length}
 use Rattle.std.proofs.lemmas.List.Folds.{Any-from_list_any, find_at}
 use Rattle.std.proofs.lemmas.List.Sums.{AllPass-from_list_all, passes_at_first}
 use Rattle.cxl_topo.specs.declared.node.Node.{Node}
@@ -21,13 +22,13 @@ use Rattle.cxl_model.specs.System.{System, IsSystem}
 use Rattle.cxl_model.specs.Ranges.{Range, serves, window_for, lies_within, ways_above, range_ways, IsCommittedRange}
 use Rattle.cxl_model.specs.Rules.{are_distinct, lands_on, is_bridge_landing, targets_land}
 use Rattle.cxl_model.specs.Accepted.{IsWhole}
-use Rattle.cxl_model.specs.Counts.{is_under, is_endpoint_of, endpoints_of}
+use Rattle.cxl_model.specs.Counts.{is_under, is_endpoint_of, endpoints_of, endpoints_under}
 use Rattle.cxl_model.proofs.OutcomesWalks.{usable_is}
 use Rattle.cxl_model.proofs.WeavingWays.{some_ways}
-use Rattle.cxl_model.proofs.CountingSums.{one, total, length-filter-total, total-same, total_even, list_any-weaker, once}
-use Rattle.cxl_model.proofs.CountingTrees.{KnownTree, up_tree, root_of, under_top}
+use Rattle.cxl_model.proofs.CountingSums.{one, total, length-filter-total, total-same, total-zero, total_even, list_any-weaker, once}
+use Rattle.cxl_model.proofs.CountingTrees.{KnownTree, parent_within, parent_is_port, up_tree, under_root, under_step, root_of, under_top}
 use Rattle.cxl_model.proofs.CountingRules.{RangesRise, served, leads, reached, is_reached, parent_reached, all_targeted, listed_by, in_window}
-use Rattle.cxl_model.proofs.Counting.{counted_within, lands_within, lands_here, numbers, count_of, count_parts, is_number, times_tell, no_ways_above}
+use Rattle.cxl_model.proofs.Counting.{counted_within, lands_within, lands_here, served_lands, numbers, count_of, count_under, count_parts, is_number, times_tell, no_ways_above}
 
 -- ---- the window
 
@@ -90,18 +91,45 @@ uid_top {nodes} known b uid is =
 
 -- ---- the bridges of a range
 
+-- where an address that comes to a node comes to the range, one that comes to its parent does too
+parent_lands : RangesRise → (s : System) (r : Range) → IsSystem s → KnownTree s.nodes → IsWhole s r → (i : ℕ) (p : Parent) → parent_of s.nodes i ≡ Some p → is_reached s r i ≡ true → lands_on s r i ≡ true
+    → lands_on s r p.node ≡ true
+parent_lands rise s r system known whole i p some is lands =
+    elim (cases_Bool (forwards_at s.nodes p.node)) [
+      | inl forwards ↦ through forwards
+      | inr own ↦ lands_here s r p.node system known own ∙ (listed_by rise s r whole.blocks p ((parent_reached rise s r known whole i p some is).1 own)).serves
+    ]
+  where
+    through : forwards_at s.nodes p.node ≡ true → lands_on s r p.node ≡ true
+    through forwards =
+        let child : first_child_of s.nodes p.node ≡ Some i = (known.laws.only_children p.node i forwards).1 (ap (option_map (λ (parent : Parent). parent.node)) some) in
+        let higher = (parent_is_port known i p some).0 in
+        let below = parent_within s.nodes i p some in
+        ap (λ (o : Option ℕ). option_map_or (serves s r) o false)
+        (known.laws.landings p.node (omega arith)
+        ∙ ap (λ b. if b then option_and_then (landing_of s.nodes) (first_child_of s.nodes p.node) else Some p.node) forwards
+        ∙ ap (option_and_then (landing_of s.nodes)) child)
+        ∙ lands
+
 -- an address that comes to a node above one that is reached comes to the range
-pub above_lands : RangesRise → (s : System) (r : Range) → IsSystem s → KnownTree s.nodes → IsWhole s r → (i : ℕ) → is_reached s r i ≡ true → lands_on s r i ≡ true
+above_lands : RangesRise → (s : System) (r : Range) → IsSystem s → KnownTree s.nodes → IsWhole s r → (n i : ℕ) → is_reached s r i ≡ true → lands_on s r i ≡ true → is_under s.nodes n i ≡ true
+    → lands_on s r n ≡ true
+above_lands rise s r system known whole n =
+    up_tree known (λ i. is_reached s r i ≡ true → lands_on s r i ≡ true → is_under s.nodes n i ≡ true → lands_on s r n ≡ true)
+    (λ i none is lands under. ap (lands_on s r) (sym (eqb-true i n (sym (under_root known n i none) ∙ under))) ∙ lands)
+    (λ i p some rest is lands under.
+    elim (or_cases (i == n) (is_under s.nodes n p.node) (sym (under_step known n i p some) ∙ under)) [
+      | inl here ↦ ap (lands_on s r) (sym (eqb-true i n here)) ∙ lands
+      | inr higher ↦ rest (parent_reached rise s r known whole i p some is).0 (parent_lands rise s r system known whole i p some is lands) higher
+    ])
+
+-- so does one that comes to its bridge
+bridge_lands : RangesRise → (s : System) (r : Range) → IsSystem s → KnownTree s.nodes → IsWhole s r → (i : ℕ) → is_reached s r i ≡ true → lands_on s r i ≡ true
     → (b : ℕ) × (is_bridge_at s.nodes b ≡ true) × (lands_on s r b ≡ true)
-above_lands rise s r system known whole =
+bridge_lands rise s r system known whole =
     up_tree known (λ i. is_reached s r i ≡ true → lands_on s r i ≡ true → (b : ℕ) × (is_bridge_at s.nodes b ≡ true) × (lands_on s r b ≡ true))
     (λ i none is lands. (i, top i none (lands_within s r i system lands), lands))
-    (λ i p some rest is lands.
-    let up = parent_reached rise s r known whole i p some is in
-    rest up.0 (elim (cases_Bool (forwards_at s.nodes p.node)) [
-      | inl forwards ↦ through i p some forwards lands
-      | inr own ↦ lands_here s r p.node system known own ∙ (listed_by rise s r whole.blocks p (up.1 own)).serves
-    ]))
+    (λ i p some rest is lands. rest (parent_reached rise s r known whole i p some is).0 (parent_lands rise s r system known whole i p some is lands))
   where
     top : (i : ℕ) → parent_of s.nodes i ≡ None → i < length s.nodes → is_bridge_at s.nodes i ≡ true
     top i none within =
@@ -110,22 +138,23 @@ above_lands rise s r system known whole =
           | inr other ↦ let own = known.tree.others i within other in absurd (none-some own.0 (sym none ∙ own.1))
         ]
 
-    forwards_inside : (n : ℕ) → forwards_at s.nodes n ≡ true → n < length s.nodes
-    forwards_inside n forwards =
-        elim (cases_lt n (length s.nodes)) [
-          | inl within ↦ within
-          | inr past ↦ absurd (false≢true (sym (ap (λ (o : Option Node). option_map_or (λ node. node.forwards) o false) (slice_get_past s.nodes n past)) ∙ forwards))
-        ]
+-- under a node from which no address comes to the range lies none of its endpoints
+pub none_under : RangesRise → (s : System) (r : Range) → IsSystem s → KnownTree s.nodes → IsWhole s r → (n : ℕ) → lands_on s r n ≡ false → endpoints_under s r n ≡ []
+none_under rise s r system known whole n other =
+    nil_from_length (endpoints_under s r n)
+    (count_under s r n
+    ∙ total-same (λ m. one (is_endpoint_of s r m && is_under s.nodes n m)) (λ m. 0) (λ m. none (is_endpoint_of s r m) (is_under s.nodes n m) (apart m)) (numbers s)
+    ∙ total-zero (numbers s))
+  where
+    none : (a b : Bool) → (a ≡ true → b ≡ true → ⊥) → one (a && b) ≡ 0
+    none true true apart = absurd (apart refl refl)
+    none true false apart = refl
+    none false b apart = refl
 
-    through : (i : ℕ) (p : Parent) → parent_of s.nodes i ≡ Some p → forwards_at s.nodes p.node ≡ true → lands_on s r i ≡ true → lands_on s r p.node ≡ true
-    through i p some forwards lands =
-        let child : first_child_of s.nodes p.node ≡ Some i = (known.laws.only_children p.node i forwards).1 (ap (option_map (λ (parent : Parent). parent.node)) some) in
-        let within : p.node < length s.nodes = forwards_inside p.node forwards in
-        ap (λ (o : Option ℕ). option_map_or (serves s r) o false)
-        (known.laws.landings p.node within
-        ∙ ap (λ b. if b then option_and_then (landing_of s.nodes) (first_child_of s.nodes p.node) else Some p.node) forwards
-        ∙ ap (option_and_then (landing_of s.nodes)) child)
-        ∙ lands
+    apart : (m : ℕ) → is_endpoint_of s r m ≡ true → is_under s.nodes n m ≡ true → ⊥
+    apart m is under =
+        let serving = (and_parts (is_endpoint_at s.nodes m) (serves s r m) is).1 in
+        false≢true (sym other ∙ above_lands rise s r system known whole n m (reached s r whole m serving).1 (served_lands s r m system known whole serving) under)
 
 -- the landing of the bridge serves the range
 landing_serves : (s : System) (r : Range) (b : ℕ) → is_bridge_at s.nodes b ≡ true → b < length s.nodes → lands_on s r b ≡ true
@@ -164,7 +193,7 @@ pub targets : RangesRise → (s : System) (r : Range) (w : WindowFields) → IsS
 targets rise s r w system known whole window committed k d within =
     let n : ℕ = committed.0 in
     let up = reached s r whole n committed.1 in
-    let bridge = above_lands rise s r system known whole n up.1 (lands_here s r n system known up.0 ∙ committed.1) in
+    let bridge = bridge_lands rise s r system known whole n up.1 (lands_here s r n system known up.0 ∙ committed.1) in
     let landing = landing_serves s r bridge.0 bridge.1 (lands_within s r bridge.0 system bridge.2) bridge.2 in
     let at = served s r landing.0 landing.2 in
     let land : option_map_or (targets_land s r) (window_for s r) true ≡ true = (leads s r whole landing.0 at.i at.d at.there at.has).targets landing.1 in

@@ -1,7 +1,7 @@
 //! Laws of the regions of an image that keeps K1 to K8, accepted or not, each the contract of a function that
 //! does nothing.
 
-ghost use Rattle.std.specs.Prelude.{◌≡◌, ℕ, ◌+◌, ◌-◌, ◌*◌, ◌/◌, ◌%◌, ◌<◌, ◌≤◌, true, List, length, Contains, slice_get, Some};
+ghost use Rattle.std.specs.Prelude.{◌≡◌, ℕ, ◌+◌, ◌-◌, ◌*◌, ◌/◌, ◌%◌, ◌<◌, ◌≤◌, true, false, List, [], length, Contains, slice_get, Some};
 ghost use Rattle.cxl_deal.specs.Weaves.{IsWeave, chunk_size, weave_ways, turns_end};
 ghost use Rattle.cxl_regs.specs.declared.decoder.Decoder.{Decoder};
 ghost use Rattle.cxl_span.specs.Partitions.{lies_in};
@@ -25,11 +25,13 @@ use cxl_topo::tree_laws;
 
 /// A law of counts: under a node to which a whole range leads lie as many of its endpoints as its ways divided
 /// by the window's and by those of the ports above the node. The node has a committed decoder of the range, or
-/// passes it on to such a node. In all, the range has as many endpoints as ways.
+/// passes it on to such a node; under any other node lies none. In all, the range has as many endpoints as ways.
 pub fn endpoints_lie_evenly()
     ensures under { (s : System) (r : Range) (w : WindowFields) (n : ℕ) → IsSystem s → IsWhole s r
         → window_for s r ≡ Some w → lands_on s r n ≡ true
         → length (endpoints_under s r n) * ways_above s r n * w.ways ≡ range_ways s r }
+    ensures none { (s : System) (r : Range) (n : ℕ) → IsSystem s → IsWhole s r
+        → lands_on s r n ≡ false → endpoints_under s r n ≡ [] }
     ensures served { (s : System) (r : Range) (n : ℕ) → IsSystem s → IsWhole s r
         → serves s r n ≡ true → lands_on s r n ≡ true }
     ensures all { (s : System) (r : Range) → IsSystem s → IsWhole s r → IsCommittedRange s r

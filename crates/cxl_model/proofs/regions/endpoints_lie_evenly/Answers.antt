@@ -1,5 +1,5 @@
 use Rattle.cxl_model.proofs.Counting.{counted, served_lands}
-use Rattle.cxl_model.proofs.SpansWindows.{counted_endpoints}
+use Rattle.cxl_model.proofs.SpansWindows.{counted_endpoints, none_under}
 use Rattle.cxl_model.proofs.regions.endpoints_lie_evenly.Goals as goal
 
 pub returns-clause-under : goal.returns-clause-under
@@ -15,3 +15,8 @@ pub returns-clause-all : goal.returns-clause-all
 returns-clause-all c = λ s r system whole committed.
     counted_endpoints (record { apart = c.ranges_rise.ensures.apart; some = c.ranges_rise.ensures.some }) s r system
     (record { tree = system.tree; laws = c.tree_laws.ensures.laws s.nodes system.tree }) whole committed
+
+pub returns-clause-none : goal.returns-clause-none
+returns-clause-none c = λ s r n system whole other.
+    none_under (record { apart = c.ranges_rise.ensures.apart; some = c.ranges_rise.ensures.some }) s r system
+    (record { tree = system.tree; laws = c.tree_laws.ensures.laws s.nodes system.tree }) whole n other
