@@ -1,12 +1,12 @@
 -- The endpoints of a whole range under a node.
 use Rattle.std.proofs.Common.{◌≡◌, ℕ, zero, suc, ◌+◌, ◌*◌, ◌/◌, ◌<◌, ◌≤◌, Bool, true, false, not, ◌&&◌, ◌||◌, if◌then◌else◌, List, [], length, get_or, map, Option, Some, None, refl, sym, ap, ◌∙◌, subst, inl, inr, arith}
-use Rattle.std.specs.Prelude.{slice_get, ◌==◌, All, option_map}
+use Rattle.std.specs.Prelude.{slice_get, ◌==◌, All}
 use Rattle.std.proofs.lemmas.List.Sums.{AllPass-from_list_all}
 use Rattle.std.specs.Option.{option_map_or, option_and_then}
 use Rattle.std.specs.List.{list_any, list_all, filter_map, cons_option, range_with_len}
 use Rattle.std.proofs.Math.Nat.{mul_comm, mul_assoc, mul_left_comm, mul-div_cancel_left}
 use Rattle.std.proofs.lemmas.Bool.{cases_lt, cases_Bool, and_parts, and_from, or_cases, or_right, eqb-true, eq-eqb, ne_eqb, false_from_ne_true, false≢true, not_from_false}
-use Rattle.std.proofs.lemmas.Option.{slice_get_past, none-some, same_Some}
+use Rattle.std.proofs.lemmas.Option.{slice_get_past}
 use Rattle.std.proofs.lemmas.List.Folds.{Any-from_list_any, list_any_at}
 use Rattle.std.proofs.lemmas.List.FromFn.{length-range_with_len, get_or-range_with_len, length-map-range_with_len}
 use Rattle.cxl_topo.specs.declared.node.Node.{Node}
@@ -24,7 +24,7 @@ use Rattle.cxl_model.specs.Counts.{is_under, is_endpoint_of, endpoints_under}
 use Rattle.cxl_model.proofs.WeavingWays.{some_ways, decoder_ways_known}
 use Rattle.cxl_model.proofs.WeavingServers.{has_ways}
 use Rattle.cxl_model.proofs.CountingSums.{one, total, length-filter-total, filter-filter, total-same, total-zero, exchange, total_even, list_any-weaker, once}
-use Rattle.cxl_model.proofs.CountingTrees.{KnownTree, parent_is_port, ports_none, ports_some, is_above, leaves_at, under_is, leaves_above, above_leaves, leaves_once, under_child, under_only, under_endpoint, same_test}
+use Rattle.cxl_model.proofs.CountingTrees.{KnownTree, parent_is_port, ports_none, ports_some, is_above, leaves_at, under_is, leaves_above, above_leaves, leaves_once, under_child, under_only, under_endpoint, only_child, same_test}
 use Rattle.cxl_model.proofs.CountingRules.{RangesRise, ServesAt, served, leads, no_decoder, reached, listed_by, all_listed}
 
 -- ---- ways above
@@ -95,14 +95,10 @@ lands_below s r n system known forwards lands =
     (sym (ap (λ b. option_map_or (serves s r) (if b then option_and_then (landing_of s.nodes) (first_child_of s.nodes n) else Some n) false) forwards)
     ∙ sym (ap (λ (o : Option ℕ). option_map_or (serves s r) o false) (known.laws.landings n (lands_within s r n system lands))) ∙ lands)
   where
-    under : (c : ℕ) (o : Option Parent) → parent_of s.nodes c ≡ o → option_map (λ parent. parent.node) o ≡ Some n → (own : Parent) × (parent_of s.nodes c ≡ Some own) × (own.node ≡ n)
-    under c None at is = absurd (none-some n is)
-    under c (Some own) at is = (own, at, same_Some own.node n is)
-
     go : (o : Option ℕ) → first_child_of s.nodes n ≡ o → option_map_or (serves s r) (option_and_then (landing_of s.nodes) o) false ≡ true → LandsBelow s r n
     go None first lands_there = absurd (false≢true lands_there)
     go (Some c) first lands_there =
-        let parent = under c (parent_of s.nodes c) refl ((known.laws.only_children n c forwards).0 first) in
+        let parent = only_child known n c forwards first in
         record { child = c; first = first; own = parent.0; parent = parent.1; node = parent.2; lands = lands_there }
 
 pub lands_here : (s : System) (r : Range) (n : ℕ) → IsSystem s → KnownTree s.nodes → forwards_at s.nodes n ≡ false → lands_on s r n ≡ serves s r n

@@ -21,11 +21,11 @@ use Rattle.cxl_model.specs.Regions.{target_position, slots_an_entry, LeadsTo, pa
 use Rattle.cxl_model.specs.Counts.{is_under}
 use Rattle.cxl_model.proofs.Outcomes.{one_value}
 use Rattle.cxl_model.proofs.WeavingWays.{some_ways, decoder_ways_known}
-use Rattle.cxl_model.proofs.CountingTrees.{KnownTree, leaves_once, port_no_endpoint}
+use Rattle.cxl_model.proofs.CountingTrees.{KnownTree, leaves_once, only_child, port_no_endpoint}
 use Rattle.cxl_model.proofs.CountingRules.{served, leads, no_decoder}
 use Rattle.cxl_model.proofs.Counting.{ways_below, ways_past, forwards_none}
 use Rattle.cxl_model.proofs.SpansNumbers.{digit_below, agree_by_product, ways_are, some_third, remainders_tell}
-use Rattle.cxl_model.proofs.SpansSlots.{only_child, goes, entry_for, leads_under, leaves_for, from_forwarding, from_port}
+use Rattle.cxl_model.proofs.SpansSlots.{goes, entry_for, leads_under, leaves_for, from_forwarding, from_port}
 
 -- ---- numbers that differ
 

@@ -1,14 +1,11 @@
 -- A slot leads to one place, and different slots lead to different endpoints.
-use Rattle.std.proofs.Common.{◌≡◌, ℕ, ◌/◌, ◌%◌, true, false, List, get_or, Option, Some, None, refl, sym, ap, ◌∙◌, subst}
-use Rattle.std.specs.Prelude.{slice_get, ◌==◌}
-use Rattle.std.specs.Option.{option_map_or, option_map}
+use Rattle.std.proofs.Common.{◌≡◌, ℕ, ◌/◌, ◌%◌, true, false, List, get_or, Some, refl, sym, ap, ◌∙◌, subst}
+use Rattle.std.specs.Prelude.{◌==◌}
 use Rattle.std.proofs.lemmas.Bool.{and_from, or_right, eq-eqb, false≢true}
-use Rattle.std.proofs.lemmas.Option.{slice_get-get_or, none-some, same_Some}
+use Rattle.std.proofs.lemmas.Option.{slice_get-get_or}
 use Rattle.std.proofs.lemmas.List.Quantifiers.{position-Some}
 use Rattle.cxl_topo.specs.declared.node.Node.{Node}
-use Rattle.cxl_topo.specs.declared.node.Parent.{Parent}
-use Rattle.cxl_topo.specs.Tree.{forwards_at, is_port_at, is_endpoint_at, parent_of, child_of, first_child_of}
-use Rattle.cxl_topo.specs.Kinds.{is_endpoint}
+use Rattle.cxl_topo.specs.Tree.{forwards_at, is_port_at, is_endpoint_at, child_of, first_child_of}
 use Rattle.cxl_regs.specs.declared.decoder.Decoder.{Decoder}
 use Rattle.cxl_regs.specs.Registers.{reset_decoder}
 use Rattle.cxl_span.specs.Spans.{decoder_ways, span_start_of}
@@ -20,24 +17,10 @@ use Rattle.cxl_model.specs.Regions.{slots_an_entry, LeadsSlot, LeadsTo, past_for
 use Rattle.cxl_model.specs.Counts.{is_under, is_endpoint_of}
 use Rattle.cxl_model.proofs.Outcomes.{value_of, one_value}
 use Rattle.cxl_model.proofs.BreachesOfRanges.{passes_one}
-use Rattle.cxl_model.proofs.CountingTrees.{KnownTree, is_above, leaves_at, under_is, leaves_above, under_child, under_only, under_endpoint, port_no_endpoint}
+use Rattle.cxl_model.proofs.CountingTrees.{KnownTree, is_above, leaves_at, under_is, leaves_above, under_child, under_only, under_endpoint, only_child, forwards_no_endpoint, port_no_endpoint}
 use Rattle.cxl_model.proofs.CountingRules.{leads}
 
 -- ---- one move of a slot
-
-pub only_child : {nodes : List Node} → KnownTree nodes → (n c : ℕ) → forwards_at nodes n ≡ true → first_child_of nodes n ≡ Some c → (own : Parent) × (parent_of nodes c ≡ Some own) × (own.node ≡ n)
-only_child {nodes} known n c forwards first = go (parent_of nodes c) refl ((known.laws.only_children n c forwards).0 first)
-  where
-    go : (o : Option Parent) → parent_of nodes c ≡ o → option_map (λ parent. parent.node) o ≡ Some n → (own : Parent) × (parent_of nodes c ≡ Some own) × (own.node ≡ n)
-    go None at is = absurd (none-some n is)
-    go (Some own) at is = (own, at, same_Some own.node n is)
-
-pub forwards_no_endpoint : {nodes : List Node} → KnownTree nodes → (n : ℕ) → forwards_at nodes n ≡ true → is_endpoint_at nodes n ≡ false
-forwards_no_endpoint {nodes} known n forwards = go (slice_get nodes n) refl forwards
-  where
-    go : (o : Option Node) → slice_get nodes n ≡ o → option_map_or (λ node. node.forwards) o false ≡ true → option_map_or (λ node. is_endpoint node.kind) o false ≡ false
-    go None at is = refl
-    go (Some node) at is = (known.tree.placeholders n node at is).1
 
 -- the entry of a port's decoder to which a slot goes
 abbrev pub entry_for : System → WindowFields → Range → ℕ → ℕ → Decoder → ℕ
