@@ -17,7 +17,8 @@ use Rattle.cxl_span.specs.Spans.{decoder_ways, span_length}
 use Rattle.cxl_span.specs.Breaches.{breaks as block_breaks, BlockKeeps}
 use Rattle.cxl_span.specs.Rules.{breaks_codes}
 use Rattle.cxl_window.specs.Fields.{WindowFields}
-use Rattle.cxl_deal.specs.Weaves.{WeaveFields, IsWeave, chunk_size, ways_by, weave_ways, turns_end, dealt_slot, dealt_offset}
+use Rattle.cxl_num.specs.Interleave.{chunk_size, ways_by}
+use Rattle.cxl_deal.specs.Weaves.{WeaveFields, IsWeave, weave_ways, turns_end, dealt_slot, dealt_offset}
 use Rattle.cxl_model.specs.declared.found.Found.{Found}
 use Rattle.cxl_model.specs.declared.found.Place.{Place}
 use Rattle.cxl_model.specs.System.{System, IsSystem, ram_at, pmem_at}

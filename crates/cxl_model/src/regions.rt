@@ -2,7 +2,8 @@
 //! does nothing.
 
 ghost use Rattle.std.specs.Prelude.{◌≡◌, ℕ, ◌+◌, ◌-◌, ◌*◌, ◌/◌, ◌%◌, ◌<◌, ◌≤◌, true, false, List, [], length, Contains, slice_get, Some};
-ghost use Rattle.cxl_deal.specs.Weaves.{IsWeave, chunk_size, weave_ways, turns_end};
+ghost use Rattle.cxl_num.specs.Interleave.{chunk_size};
+ghost use Rattle.cxl_deal.specs.Weaves.{IsWeave, weave_ways, turns_end};
 ghost use Rattle.cxl_regs.specs.declared.decoder.Decoder.{Decoder};
 ghost use Rattle.cxl_span.specs.Partitions.{lies_in};
 ghost use Rattle.cxl_span.specs.Spans.{span_start_of};
