@@ -10,10 +10,11 @@ use Rattle.cxl_topo.specs.declared.node.Parent.{Parent}
 use Rattle.cxl_topo.specs.Tree.{forwards_at, is_bridge_at, is_endpoint_at, uid_at, child_of, bridge_with, path_of, decoding_port_of, landing_of}
 use Rattle.cxl_regs.specs.declared.decoder.Decoder.{Decoder}
 use Rattle.cxl_regs.specs.Words.{has_bit}
-use Rattle.cxl_span.specs.Spans.{decoder_ways}
+use Rattle.cxl_regs.specs.declared.reading.Range.{Range}
+use Rattle.cxl_regs.specs.Reading.{decoder_ways, entries_of, range_of, has_range}
 use Rattle.cxl_window.specs.Fields.{WindowFields}
-use Rattle.cxl_model.specs.System.{System, decoders_at, entries_of}
-use Rattle.cxl_model.specs.Ranges.{Range, range_of, has_range, serves, window_for, ways_above, bits_above, span_kind, same_kind, range_ways, range_kind, range_code}
+use Rattle.cxl_model.specs.System.{System, decoders_at}
+use Rattle.cxl_model.specs.Ranges.{serves, window_for, ways_above, bits_above, span_kind, same_kind, range_ways, range_kind, range_code}
 
 -- ---- K9, where a range lies
 

@@ -1,14 +1,14 @@
 ghost use Rattle.std.specs.Prelude.{◌≡◌, ◌<◌, ◌≤◌, ◌+◌, ◌-◌, ◌*◌, ◌/◌, ◌%◌, ◌↔◌, true, IsTrue, IsSome, Some, length, IfOk, IfSome, slice_get};
-ghost use Rattle.std.specs.List.{prefix_len};
 ghost use Rattle.cxl_enc.specs.Caps.{is_legal_cap};
 ghost use Rattle.cxl_regs.specs.Registers.{Registers, IsBlock, IsDecoder, IsSameShape, reset_block};
 ghost use Rattle.cxl_regs.specs.Words.{word_at, HasWord, index_at, place_at};
 ghost use Rattle.cxl_regs.specs.Rules.{first_broken_rule, before};
+ghost use Rattle.cxl_regs.specs.Reading.{committed_count};
 ghost use Rattle.cxl_regs.specs.Writes.{WritesWord, any_committed, with_decoder, global_outcome, decoder_outcome, release_outcome, control_outcome, commit_outcome};
 
 use crate::decoder::Decoder;
 use crate::effect::{CommitRule, Effect};
-use crate::rules::{breaks_order, breaks_rise, codes_ok, decoder_count, select_bits, select_ok};
+use crate::rules::{breaks_order, breaks_rise, codes_ok, decoder_count, select_ok};
 use crate::words::{has_bit, words_of};
 use crate::writing::{with_control, with_word};
 use cxl_enc::Memory;
@@ -114,7 +114,7 @@ impl Block {
 
     /// How many committed decoders stand before the first that is not committed.
     pub fn committed(&self) -> u8
-        ensures { result ≡ prefix_len (λ d. d.committed) self.now.decoders }
+        ensures { result ≡ committed_count self.now.decoders }
     {
         self.decoders.iter().take_while(|d| d.committed).count() as u8
     }
@@ -297,7 +297,7 @@ impl Block {
         if !codes_ok(self.cap, self.endpoint, d) {
             return Some(CommitRule::Codes);
         }
-        if !select_ok(self.cap, d.gran, select_bits(d.ways)) {
+        if !select_ok(self.cap, d.gran, d.select_bits()) {
             return Some(CommitRule::Select);
         }
         None

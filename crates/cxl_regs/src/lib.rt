@@ -6,6 +6,7 @@ mod block;
 mod decoder;
 mod effect;
 mod laws;
+mod reading;
 mod rules;
 mod words;
 mod writing;
@@ -14,7 +15,8 @@ pub use block::{Block, copies};
 pub use decoder::Decoder;
 pub use effect::{CommitRule, Effect};
 pub use laws::write_laws;
-pub use rules::{codes_ok, decoder_count, select_ok};
+pub use reading::Range;
+pub use rules::{breaks_order, breaks_rise, codes_ok, decoder_count, select_ok};
 pub use words::{decoder_of, words_of, words_stand_for_decoder};
 
 #[cfg(test)]

@@ -1,8 +1,7 @@
 -- The cursor: the end of the last committed span.
-use Rattle.std.proofs.Common.{◌≡◌, ℕ, zero, suc, ◌+◌, ◌-◌, ◌<◌, ◌≤◌, Bool, true, false, cond, List, [], ◌∷◌, take, length, get_or, Option, Some, sum_by, refl, sym, ap, ◌∙◌, inl, inr, arith}
+use Rattle.std.proofs.Common.{◌≡◌, ℕ, zero, suc, ◌+◌, ◌-◌, ◌<◌, ◌≤◌, Bool, true, false, cond, List, [], ◌∷◌, take, length, Option, Some, sum_by, refl, sym, ap, ◌∙◌, inl, inr, arith}
 use Rattle.std.specs.Prelude.{slice_get, ◌==◌}
 use Rattle.std.specs.Option.{option_map_or}
-use Rattle.std.specs.List.{prefix_len}
 use Rattle.std.proofs.lemmas.Bool.{ne_eqb, cases_lt}
 use Rattle.std.proofs.lemmas.List.Elements.{All-from_get_or}
 use Rattle.std.proofs.lemmas.List.Folds.{list_all_at}
@@ -11,8 +10,9 @@ use Rattle.cxl_enc.specs.declared.caps.MemKind.{MemKind}
 use Rattle.cxl_enc.specs.declared.caps.MemKind.TheVariants.{Ram, Pmem}
 use Rattle.cxl_regs.specs.declared.decoder.Decoder.{Decoder}
 use Rattle.cxl_regs.specs.Registers.{Registers}
-use Rattle.cxl_span.specs.Spans.{span_step, span_length, span_start_of, span_end_of, committed_count}
-use Rattle.cxl_span.specs.Partitions.{partition_start, partition_end}
+use Rattle.cxl_regs.specs.Reading.{span_length, committed_count}
+use Rattle.cxl_span.specs.Spans.{span_step, span_start_of, span_end_of}
+use Rattle.cxl_span.specs.Partitions.{partition_end}
 use Rattle.cxl_span.specs.Breaches.{BlockKeeps}
 use Rattle.cxl_span.specs.Allotting.{is_full, cursor_of}
 use Rattle.cxl_span.proofs.Committed.{counted_is_committed}

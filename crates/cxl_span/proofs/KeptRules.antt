@@ -1,15 +1,16 @@
 -- What each rule says of a committed decoder of a block that keeps the rules.
-use Rattle.std.proofs.Common.{◌≡◌, ℕ, ◌+◌, ◌*◌, ◌%◌, ◌^◌, ◌<◌, ◌≤◌, Bool, true, false, not, ◌&&◌, ◌||◌, List, take, Option, Some, sum_by, refl, sym, ap, ◌∙◌, arith}
+use Rattle.std.proofs.Common.{◌≡◌, ℕ, ◌+◌, ◌%◌, ◌^◌, ◌<◌, ◌≤◌, Bool, true, false, not, ◌&&◌, ◌||◌, take, Option, Some, sum_by, refl, sym, ap, ◌∙◌, arith}
 use Rattle.std.specs.Prelude.{slice_get, ◌==◌, nat_lt}
 use Rattle.std.proofs.lemmas.Bool.{eqb-true, eqb-false, ltb-false}
 use Rattle.cxl_enc.specs.declared.caps.MemKind.TheVariants.{Ram, Pmem}
 use Rattle.cxl_regs.specs.declared.decoder.Decoder.{Decoder}
 use Rattle.cxl_regs.specs.Registers.{Registers}
-use Rattle.cxl_regs.specs.Rules.{before, breaks_rise, breaks_order}
-use Rattle.cxl_span.specs.Spans.{span_step, span_length, decoder_ways}
+use Rattle.cxl_regs.specs.Rules.{before}
+use Rattle.cxl_regs.specs.Reading.{span_length}
+use Rattle.cxl_span.specs.Spans.{span_step}
 use Rattle.cxl_span.specs.Partitions.{lies_in}
 use Rattle.cxl_span.specs.Rules.{breaks_rule, size_unit}
-use Rattle.cxl_span.specs.Breaches.{breaks, BlockKeeps}
+use Rattle.cxl_span.specs.Breaches.{BlockKeeps}
 use Rattle.cxl_span.proofs.BreaksAt.{breaks_here, before_next}
 
 -- tests that fail

@@ -1,4 +1,5 @@
 pub mod Sums
+pub mod Turns
 pub mod BreaksAt
 pub mod KeptRules
 pub mod Committed

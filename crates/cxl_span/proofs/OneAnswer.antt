@@ -2,7 +2,7 @@
 use Rattle.std.proofs.Common.{◌≡◌, ℕ, ◌+◌, ◌-◌, ◌<◌, ◌≤◌, ◌↔◌, Bool, true, false, max, List, Result, Ok, Err, refl, sym, ap, ◌∙◌, subst, inl, inr, arith}
 use Rattle.std.proofs.lemmas.Bool.{cases_lt}
 use Rattle.cxl_enc.specs.declared.caps.MemKind.{MemKind}
-use Rattle.cxl_enc.specs.declared.caps.MemKind.TheVariants.{Ram, Pmem}
+use Rattle.cxl_enc.specs.declared.caps.MemKind.TheVariants.{Ram}
 use Rattle.cxl_regs.specs.declared.decoder.Decoder.{Decoder}
 use Rattle.cxl_span.specs.declared.allotting.Span.{Span}
 use Rattle.cxl_span.specs.declared.allotting.Room.{Room}

@@ -1,5 +1,5 @@
 -- Spans of an endpoint are whole units of 256 MiB, and stand at multiples of them.
-use Rattle.std.proofs.Common.{◌≡◌, ℕ, zero, suc, ◌+◌, ◌-◌, ◌*◌, ◌/◌, ◌%◌, ◌^◌, ◌<◌, ◌≤◌, Bool, true, false, cond, List, [], ◌∷◌, take, length, get_or, Option, Some, None, sum_by, refl, sym, ap, ◌∙◌, arith}
+use Rattle.std.proofs.Common.{◌≡◌, ℕ, zero, suc, ◌+◌, ◌-◌, ◌*◌, ◌/◌, ◌%◌, ◌^◌, ◌<◌, ◌≤◌, Bool, true, false, cond, List, [], ◌∷◌, take, length, get_or, Some, None, sum_by, refl, sym, ap, ◌∙◌, arith}
 use Rattle.std.specs.Prelude.{slice_get, nat_lt, nat_le, unwrap_or, ◌&&◌}
 use Rattle.std.proofs.lemmas.Nat.{pow_pos}
 use Rattle.std.proofs.lemmas.Option.{slice_get_within, slice_get-get_or, get_or_from_slice_get}
@@ -8,7 +8,8 @@ use Rattle.std.proofs.lemmas.List.Sums.{prefix_len-le-length}
 use Rattle.std.proofs.Math.Nat.{mul-div_cancel_left}
 use Rattle.cxl_regs.specs.declared.decoder.Decoder.{Decoder}
 use Rattle.cxl_regs.specs.Registers.{Registers, IsBlock, IsDecoder}
-use Rattle.cxl_span.specs.Spans.{span_step, span_length, span_start_of, decoder_ways, committed_count}
+use Rattle.cxl_regs.specs.Reading.{span_length, decoder_ways, committed_count}
+use Rattle.cxl_span.specs.Spans.{span_step, span_start_of}
 use Rattle.cxl_span.specs.Rules.{size_unit}
 use Rattle.cxl_span.specs.Breaches.{BlockKeeps}
 use Rattle.cxl_span.proofs.Sums.{taken_more}

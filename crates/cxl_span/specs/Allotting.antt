@@ -4,11 +4,12 @@ use Rattle.std.specs.List.{list_all}
 use Rattle.cxl_enc.specs.declared.caps.MemKind.{MemKind}
 use Rattle.cxl_enc.specs.declared.caps.MemKind.TheVariants.{Ram}
 use Rattle.cxl_regs.specs.declared.decoder.Decoder.{Decoder}
+use Rattle.cxl_regs.specs.Reading.{committed_count}
 use Rattle.cxl_span.specs.declared.allotting.Span.{Span}
 use Rattle.cxl_span.specs.declared.allotting.Room.{Room}
 use Rattle.cxl_span.specs.declared.allotting.SpanFault.{SpanFault}
 use Rattle.cxl_span.specs.declared.allotting.SpanFault.TheVariants.{NoDecoder, PastRam, NoRoom}
-use Rattle.cxl_span.specs.Spans.{committed_count, span_end_of}
+use Rattle.cxl_span.specs.Spans.{span_end_of}
 use Rattle.cxl_span.specs.Partitions.{partition_start, partition_end, lies_in}
 
 -- every decoder is committed

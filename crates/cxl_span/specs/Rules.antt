@@ -3,8 +3,8 @@ use Rattle.std.specs.Prelude.{ℕ, ◌+◌, ◌*◌, ◌%◌, ◌^◌, ◌==◌,
 use Rattle.cxl_enc.specs.declared.caps.MemKind.TheVariants.{Ram, Pmem}
 use Rattle.cxl_regs.specs.declared.decoder.Decoder.{Decoder}
 use Rattle.cxl_regs.specs.Registers.{Registers}
-use Rattle.cxl_regs.specs.Rules.{codes_ok, select_ok, select_bits, breaks_order, breaks_rise}
-use Rattle.cxl_span.specs.Spans.{decoder_ways, span_length}
+use Rattle.cxl_regs.specs.Rules.{codes_ok, select_ok, breaks_order, breaks_rise}
+use Rattle.cxl_regs.specs.Reading.{select_bits, decoder_ways, span_length}
 use Rattle.cxl_span.specs.Partitions.{lies_in}
 
 -- K2: a committed decoder whose predecessor is not committed, or whose block does not decode

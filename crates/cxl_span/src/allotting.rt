@@ -1,6 +1,6 @@
 ghost use Rattle.std.specs.Prelude.{◌≡◌, ◌+◌, ◌%◌, ◌^◌, ◌<◌, ◌≤◌, ◌⊎◌, ℕ, ◌↔◌, true, Result, IfOk, OnErr};
 ghost use Rattle.cxl_regs.specs.Registers.{IsBlock};
-ghost use Rattle.cxl_span.specs.Spans.{committed_count};
+ghost use Rattle.cxl_regs.specs.Reading.{committed_count};
 ghost use Rattle.cxl_span.specs.Partitions.{partition_start, partition_end};
 ghost use Rattle.cxl_span.specs.Breaches.{BlockKeeps};
 ghost use Rattle.cxl_span.specs.Allotting.{is_full, cursor_of, CanStart, Allots};

@@ -4,7 +4,8 @@ ghost use Rattle.std.specs.Prelude.{◌≡◌, ◌↔◌, ℕ, ◌+◌, ◌*◌,
 ghost use Rattle.cxl_enc.specs.declared.caps.MemKind.{MemKind};
 ghost use Rattle.cxl_regs.specs.declared.decoder.Decoder.{Decoder};
 ghost use Rattle.cxl_regs.specs.Registers.{Registers, IsBlock};
-ghost use Rattle.cxl_span.specs.Spans.{decoder_ways, span_length, span_start_of, span_end_of, committed_count};
+ghost use Rattle.cxl_regs.specs.Reading.{decoder_ways, span_length, committed_count};
+ghost use Rattle.cxl_span.specs.Spans.{span_start_of, span_end_of};
 ghost use Rattle.cxl_span.specs.Partitions.{lies_in};
 ghost use Rattle.cxl_span.specs.Breaches.{BlockKeeps};
 

@@ -13,7 +13,7 @@ pub use breach::{BlockBreach, block_breach};
 pub use laws::{
     committed_stand_first, ranges_rise, spans_are_whole, spans_follow, spans_lie_in_partitions,
 };
-pub use spans::start_of;
+pub use spans::{endpoint_place_of, start_of};
 
 #[cfg(test)]
 mod tests;

@@ -6,9 +6,10 @@ use Rattle.cxl_topo.specs.Tree.{Tree, ports_above}
 use Rattle.cxl_topo.specs.Faults.{IsTree}
 use Rattle.cxl_topo.specs.Laws.{AreTreeLaws}
 use Rattle.cxl_regs.specs.Registers.{Registers}
+use Rattle.cxl_regs.specs.Reading.{entry_at}
 use Rattle.cxl_model.specs.declared.chain.Step.{Step}
 use Rattle.cxl_model.specs.declared.chain.Miss.{Miss}
-use Rattle.cxl_model.specs.System.{decoder_at, entry_at}
+use Rattle.cxl_model.specs.System.{decoder_at}
 use Rattle.cxl_model.specs.Chain.{End, Forwards, Steps, Ends, Misses, on_forwarding, on_step, at_end, Chooses}
 use Rattle.cxl_model.specs.System.{system_of}
 use Rattle.cxl_walk.specs.Routes.{no_step}

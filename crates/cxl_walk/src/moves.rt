@@ -3,15 +3,16 @@ ghost use Rattle.cxl_topo.specs.Tree.{forwards_at};
 ghost use Rattle.cxl_topo.specs.Faults.{IsTree};
 ghost use Rattle.cxl_span.specs.Breaches.{BlockKeeps};
 ghost use Rattle.cxl_image.specs.Images.{HasCapsOf};
-ghost use Rattle.cxl_model.specs.System.{holds_address, ram_at, pmem_at};
+ghost use Rattle.cxl_regs.specs.Reading.{holds_address};
+ghost use Rattle.cxl_model.specs.System.{ram_at, pmem_at};
 ghost use Rattle.cxl_model.specs.System.{system_of};
 ghost use Rattle.cxl_walk.specs.Inside.{Makes, Stops, byte_at, move_of};
 
-use crate::decoding::{entry_at, entry_of, holder, place_of};
+use crate::decoding::holder;
 use cxl_image::Image;
 use cxl_model::{Miss, Step};
 use cxl_regs::Block;
-use cxl_span::{block_breach, ranges_rise, spans_lie_in_partitions, start_of};
+use cxl_span::{block_breach, endpoint_place_of, ranges_rise, spans_lie_in_partitions, start_of};
 use cxl_topo::{Capacity, NodeKind, Topo};
 
 /// A byte of an endpoint's device, with the decoder that leads to it and that decoder's first host address.
@@ -72,13 +73,13 @@ fn decode(image: &Image, topo: &Topo, node: u32, h: u64) -> Result<Next, Miss>
         return Ok(Next::Arrives(arrive(block, &capacity, node, i, h)));
     }
     let d = block.decoder(i);
-    let entry = entry_of(&d, h);
+    let entry = d.entry_of(h);
     let step = Step {
         node,
         decoder: i,
         entry,
     };
-    match topo.child(node, entry_at(&d, entry)) {
+    match topo.child(node, d.entry_at(entry)) {
         Some(child) => Ok(Next::Steps(step, child)),
         None => Err(Miss::NoChild(node)),
     }
@@ -100,7 +101,7 @@ fn arrive(block: &Block, capacity: &Capacity, node: u32, i: u8, h: u64) -> Devic
         endpoint: node,
         decoder: i,
         base: d.base,
-        dpa: place_of(start, &d, h),
+        dpa: endpoint_place_of(start, &d, h),
     }
 }
 

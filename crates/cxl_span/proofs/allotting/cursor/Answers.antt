@@ -1,9 +1,7 @@
-use Rattle.std.proofs.Common.{ℕ, ◌%◌, ◌^◌, ◌≤◌, ap, ◌∙◌, subst, arith}
-use Rattle.std.specs.Prelude.{sum_by, take, length}
+use Rattle.std.proofs.Common.{ℕ, ◌%◌, ◌^◌, ap, ◌∙◌, arith}
 use Rattle.std.proofs.lemmas.List.Sums.{prefix_len-le-length}
 use Rattle.cxl_regs.specs.declared.decoder.Decoder.{Decoder}
-use Rattle.cxl_span.specs.Spans.{span_step, committed_count}
-use Rattle.cxl_span.specs.Allotting.{cursor_of}
+use Rattle.cxl_regs.specs.Reading.{committed_count}
 use Rattle.cxl_span.proofs.Cursors.{taken_to_cursor, cursor_within}
 use Rattle.cxl_span.proofs.SpanLaws.{taken_same}
 use Rattle.cxl_span.proofs.Wholes.{taken_aligned}
