@@ -3,4 +3,4 @@ pub mod Caps
 pub mod Name
 pub mod Faults
 pub mod Limits
-pub mod NameInside
+pub mod inner

@@ -2,3 +2,4 @@ pub mod Fields
 pub mod Shape
 pub mod Kept
 pub mod TargetLists
+pub mod Places

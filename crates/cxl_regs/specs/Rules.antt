@@ -1,4 +1,5 @@
--- Which decoders a block can commit (CXL HDM decoder commit; the select rule is this project's).
+-- Which decoders a block can commit (CXL HDM decoder commit). That an endpoint has to decode, that a decoder has
+-- some bytes, the ways of ports, and on which address bits is selected are this project's rules.
 use Rattle.std.specs.Prelude.{ℕ, ◌+◌, ◌-◌, ◌^◌, ◌==◌, nat_lt, nat_le, Bool, false, not, ◌&&◌, ◌||◌, if◌then◌else◌, List, Option, Some, None, slice_get}
 use Rattle.std.specs.Option.{option_map_or}
 use Rattle.std.specs.List.{list_all, range_with_len}

@@ -16,7 +16,7 @@ pub fn decoder_count(cap: u32) -> u8
 }
 
 /// Whether a block with this capability word can commit the decoder's ways and granularity codes. (CXL
-/// HDM decoder control; that a port has no more than 8 ways is this project's rule.)
+/// HDM decoder control; that a port's ways are 1, 2, 4 or 8 is this project's rule.)
 pub fn codes_ok(cap: u32, endpoint: bool, d: &Decoder) -> bool
     ensures { result ≡ codes_ok cap endpoint d.now }
 {

@@ -3,6 +3,7 @@ pub mod Turns
 pub mod BreaksAt
 pub mod KeptRules
 pub mod Committed
+pub mod OneHolder
 pub mod SpanLaws
 pub mod Wholes
 pub mod Cursors

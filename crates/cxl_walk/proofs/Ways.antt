@@ -13,7 +13,7 @@ use Rattle.cxl_model.specs.System.{decoder_at}
 use Rattle.cxl_model.specs.Chain.{End, Forwards, Steps, Ends, Misses, on_forwarding, on_step, at_end, Chooses}
 use Rattle.cxl_model.specs.System.{system_of}
 use Rattle.cxl_walk.specs.Routes.{no_step}
-use Rattle.cxl_walk.specs.Inside.{Makes, Stops, Leads, Fails}
+use Rattle.cxl_walk.specs.inner.Calls.{Makes, Stops, Leads, Fails}
 use Rattle.cxl_walk.proofs.Children.{IsChild, child_at_port, only_child}
 use Rattle.cxl_walk.proofs.Nodes.{some_and}
 

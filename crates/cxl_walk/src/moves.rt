@@ -1,4 +1,5 @@
 ghost use Rattle.std.specs.Prelude.{◌≡◌, ◌+◌, ◌<◌, ◌≤◌, ◌^◌, [], true, false, length, slice_get, IfOk, IfErr, IsSomeAnd};
+ghost use Rattle.cxl_enc.specs.Limits.{address_limit};
 ghost use Rattle.cxl_topo.specs.Tree.{forwards_at};
 ghost use Rattle.cxl_topo.specs.Faults.{IsTree};
 ghost use Rattle.cxl_span.specs.Breaches.{BlockKeeps};
@@ -6,7 +7,7 @@ ghost use Rattle.cxl_image.specs.Images.{HasCapsOf};
 ghost use Rattle.cxl_regs.specs.Reading.{holds_address};
 ghost use Rattle.cxl_model.specs.System.{ram_at, pmem_at};
 ghost use Rattle.cxl_model.specs.System.{system_of};
-ghost use Rattle.cxl_walk.specs.Inside.{Makes, Stops, byte_at, move_of};
+ghost use Rattle.cxl_walk.specs.inner.Calls.{Makes, Stops, byte_at, move_of};
 
 use crate::decoding::holder;
 use cxl_image::Image;
@@ -87,7 +88,7 @@ fn decode(image: &Image, topo: &Topo, node: u32, h: u64) -> Result<Next, Miss>
 
 /// The byte to which the decoder of an endpoint that holds the address sends it.
 fn arrive(block: &Block, capacity: &Capacity, node: u32, i: u8, h: u64) -> DeviceByte
-    requires small { capacity.now.ram + capacity.now.pmem ≤ 2 ^ 52 }
+    requires small { capacity.now.ram + capacity.now.pmem ≤ address_limit }
     requires keeps { BlockKeeps block.now capacity.now.ram capacity.now.pmem }
     requires endpoint { block.now.endpoint ≡ true }
     requires holds { IsSomeAnd (slice_get block.now.decoders i) (λ d. holds_address d h ≡ true) }
@@ -111,7 +112,7 @@ fn capacity_at(topo: &Topo, node: u32) -> Capacity
     requires here { node < length topo.now.nodes }
     ensures ram { result.ram ≡ ram_at (system_of [] topo.now []) node }
     ensures pmem { result.pmem ≡ pmem_at (system_of [] topo.now []) node }
-    ensures small { result.ram + result.pmem ≤ 2 ^ 52 }
+    ensures small { result.ram + result.pmem ≤ address_limit }
 {
     match topo.node(node).kind {
         NodeKind::Endpoint(capacity) => capacity,

@@ -4,7 +4,7 @@ use Rattle.std.specs.Prelude.{slice_get}
 use Rattle.cxl_topo.specs.Tree.{child_of}
 use Rattle.cxl_regs.specs.declared.decoder.Decoder.{Decoder}
 use Rattle.cxl_regs.specs.Reading.{holds_address}
-use Rattle.cxl_walk.specs.Inside.{byte_at}
+use Rattle.cxl_walk.specs.inner.Calls.{byte_at}
 use Rattle.cxl_walk.proofs.Nodes.{some_and, none_then, some_not, here, bad_block, arrives, steps, lacks_child}
 use Rattle.cxl_walk.proofs.moves.decode.Goals as goal
 
