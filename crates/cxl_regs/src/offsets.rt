@@ -7,28 +7,34 @@ ghost use Rattle.cxl_regs.specs.Words.{offset_of, index_at, place_at, head_size}
 /// The offset of the global control of an endpoint.
 pub const GLOBAL_CONTROL: u32 = 4;
 
-/// The place of the low half of the base among a decoder's eight words. The places that follow are of the
-/// other words; the last is reserved.
+/// The place of the low half of the base among a decoder's eight words.
 pub const BASE_LOW: u32 = 0;
 
+/// The place of the high half of the base.
 pub const BASE_HIGH: u32 = 1;
 
+/// The place of the low half of the size.
 pub const SIZE_LOW: u32 = 2;
 
+/// The place of the high half of the size.
 pub const SIZE_HIGH: u32 = 3;
 
+/// The place of the control.
 pub const CONTROL: u32 = 4;
 
+/// The place of the low half of the target list, or of the skip.
 pub const TAIL_LOW: u32 = 5;
 
+/// The place of the high half of the target list, or of the skip.
 pub const TAIL_HIGH: u32 = 6;
 
+/// The place of the reserved word.
 pub const RESERVED: u32 = 7;
 
-/// The bytes before the words of the first decoder.
+/// How many bytes stand before the words of the first decoder.
 pub(crate) const HEAD_SIZE: u32 = 0x10;
 
-/// The bytes of a decoder's words.
+/// How many bytes a decoder's words take.
 const DECODER_SIZE: u32 = 0x20;
 
 /// The offset at which the word at a place of decoder `i` stands.

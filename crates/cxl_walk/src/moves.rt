@@ -7,7 +7,7 @@ ghost use Rattle.cxl_image.specs.Images.{HasCapsOf};
 ghost use Rattle.cxl_regs.specs.Reading.{holds_address};
 ghost use Rattle.cxl_model.specs.System.{ram_at, pmem_at};
 ghost use Rattle.cxl_model.specs.System.{system_of};
-ghost use Rattle.cxl_walk.specs.inner.Calls.{Makes, Stops, byte_at, move_of};
+ghost use Rattle.cxl_walk.specs.inner.Calls.{Makes, MissesAt, byte_at, move_of};
 
 use crate::decoding::holder;
 use cxl_image::Image;
@@ -42,7 +42,7 @@ pub(crate) fn move_at(image: &Image, topo: &Topo, node: u32, h: u64) -> Result<N
     requires caps { HasCapsOf image.now topo.now.nodes }
     requires here { node < length topo.now.nodes }
     ensures next { IfOk result (λ next. Makes image.now topo.now h node (move_of next)) }
-    ensures miss { IfErr result (λ miss. Stops image.now topo.now h node miss) }
+    ensures miss { IfErr result (λ miss. MissesAt image.now topo.now h node miss) }
 {
     if !topo.node(node).forwards {
         return decode(image, topo, node, h);
@@ -60,7 +60,7 @@ fn decode(image: &Image, topo: &Topo, node: u32, h: u64) -> Result<Next, Miss>
     requires here { node < length topo.now.nodes }
     requires own { forwards_at topo.now.nodes node ≡ false }
     ensures next { IfOk result (λ next. Makes image.now topo.now h node (move_of next)) }
-    ensures miss { IfErr result (λ miss. Stops image.now topo.now h node miss) }
+    ensures miss { IfErr result (λ miss. MissesAt image.now topo.now h node miss) }
 {
     let block = image.block(node);
     let capacity = capacity_at(topo, node);
