@@ -4,4 +4,4 @@ pub mod Name
 pub mod Faults
 pub mod Counters
 pub mod Limits
-pub mod NameInside
+pub mod inner

@@ -7,7 +7,7 @@ use Rattle.std.proofs.lemmas.Option.{same_Some, slice_get_within, slice_get_case
 use Rattle.std.specs.Prelude.{slice_get, slice_set, IsSomeAnd}
 use Rattle.cxl_regs.specs.declared.effect.Effect.{Effect}
 use Rattle.cxl_regs.specs.Registers.{Registers, IsBlock, IsSameShape}
-use Rattle.cxl_regs.specs.Writes.{WritesWord, outcome_of}
+use Rattle.cxl_regs.specs.Writes.{WritesWord, after_word}
 use Rattle.cxl_regs.specs.Blocks.{blocks_after}
 use Rattle.cxl_topo.specs.declared.node.Node.{Node}
 use Rattle.cxl_image.specs.Images.{IsImage, IsBlockOf, HasCapsOf}
@@ -17,7 +17,7 @@ pub after_left : (blocks : List Registers) (node off v : ℕ) (old new : Registe
 after_left blocks node off v old new effect here write = rw here (ap (slice_set blocks node) write.left)
 
 pub after_told : (blocks : List Registers) (node off v : ℕ) (old new : Registers) (effect : Effect) → slice_get blocks node ≡ Some old → WritesWord old off v new effect
-    → IsSomeAnd (slice_get blocks node) (λ block. effect ≡ (outcome_of block off v).effect)
+    → IsSomeAnd (slice_get blocks node) (λ block. effect ≡ (after_word block off v).effect)
 after_told blocks node off v old new effect here write = rw here write.told
 
 -- the new block is a block of the same node
@@ -58,14 +58,14 @@ block_there blocks node old is here = subst IsBlock (get_or_from_slice_get block
 
 -- ---- as laws
 
-pub law_caps : ((block : Registers) (off v : ℕ) → IsSameShape block (outcome_of block off v).block) → (blocks : List Registers) (nodes : List Node) (node off v : ℕ) → HasCapsOf blocks nodes → HasCapsOf (blocks_after blocks node off v) nodes
+pub law_caps : ((block : Registers) (off v : ℕ) → IsSameShape block (after_word block off v).block) → (blocks : List Registers) (nodes : List Node) (node off v : ℕ) → HasCapsOf blocks nodes → HasCapsOf (blocks_after blocks node off v) nodes
 law_caps shape blocks nodes node off v caps = elim (slice_get_cases blocks node).1 [
-  | inl here ↦ rw here.2 (after_caps blocks nodes node here.0 (outcome_of here.0 off v).block here.2 (shape here.0 off v) caps)
+  | inl here ↦ rw here.2 (after_caps blocks nodes node here.0 (after_word here.0 off v).block here.2 (shape here.0 off v) caps)
   | inr past ↦ rw past.1 caps
 ]
 
-pub law_image : ((block : Registers) (off v : ℕ) → IsBlock block → v < 2 ^ 32 → IsBlock (outcome_of block off v).block) → (blocks : List Registers) (node off v : ℕ) → IsImage blocks → v < 2 ^ 32 → IsImage (blocks_after blocks node off v)
+pub law_image : ((block : Registers) (off v : ℕ) → IsBlock block → v < 2 ^ 32 → IsBlock (after_word block off v).block) → (blocks : List Registers) (node off v : ℕ) → IsImage blocks → v < 2 ^ 32 → IsImage (blocks_after blocks node off v)
 law_image sound blocks node off v is lt = elim (slice_get_cases blocks node).1 [
-  | inl here ↦ rw here.2 (after_image blocks node (outcome_of here.0 off v).block is (sound here.0 off v (block_there blocks node here.0 is here.2) lt))
+  | inl here ↦ rw here.2 (after_image blocks node (after_word here.0 off v).block is (sound here.0 off v (block_there blocks node here.0 is here.2) lt))
   | inr past ↦ rw past.1 is
 ]

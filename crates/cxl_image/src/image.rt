@@ -1,7 +1,7 @@
 ghost use Rattle.std.specs.Prelude.{◌≡◌, ◌≢◌, ℕ, ◌<◌, List, length, slice_get, Some, IfOk, IsSomeAnd};
 ghost use Rattle.cxl_regs.specs.Registers.{IsBlock};
 ghost use Rattle.cxl_regs.specs.Blocks.{blocks_after};
-ghost use Rattle.cxl_regs.specs.Writes.{outcome_of};
+ghost use Rattle.cxl_regs.specs.Writes.{after_word};
 ghost use Rattle.cxl_topo.specs.declared.node.Node.{Node};
 ghost use Rattle.cxl_image.specs.Images.{reset_blocks, IsImage, HasCapsOf};
 
@@ -90,7 +90,7 @@ impl Image {
     pub fn write32(&mut self, node: u32, off: u32, value: u32) -> Effect
         requires { node < length self.old }
         ensures left { self.new ≡ blocks_after self.old node off value }
-        ensures told { IsSomeAnd (slice_get self.old node) (λ block. result ≡ (outcome_of block off value).effect) }
+        ensures told { IsSomeAnd (slice_get self.old node) (λ block. result ≡ (after_word block off value).effect) }
         ensures others { (i : ℕ) → i ≢ node → slice_get self.new i ≡ slice_get self.old i }
         ensures same_caps { (nodes : List Node) → HasCapsOf self.old nodes → HasCapsOf self.new nodes }
     {

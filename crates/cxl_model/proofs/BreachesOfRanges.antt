@@ -6,8 +6,10 @@ use Rattle.std.proofs.lemmas.Option.{slice_get_within, get_or_from_slice_get}
 use Rattle.std.proofs.lemmas.Bool.{ne_eqb, eq-eqb, le-ltb, cases_lt, cases_Bool}
 use Rattle.std.proofs.lemmas.List.Folds.{list_any-from_Any}
 use Rattle.cxl_regs.specs.declared.decoder.Decoder.{Decoder}
+use Rattle.cxl_regs.specs.declared.reading.Range.{Range}
+use Rattle.cxl_regs.specs.Reading.{range_of, has_range}
 use Rattle.cxl_model.specs.System.{System, decoders_at, decoder_at}
-use Rattle.cxl_model.specs.Ranges.{Range, range_of, has_range, IsCommittedRange}
+use Rattle.cxl_model.specs.Ranges.{IsCommittedRange}
 use Rattle.cxl_model.specs.Rules.{keeps_window, keeps_targets, keeps_reach, keeps_ways}
 use Rattle.cxl_model.specs.Accepted.{breaks, breaks_at, IsAccepted, KeepsBlocks, IsWhole}
 use Rattle.cxl_model.proofs.Breaches.{either}

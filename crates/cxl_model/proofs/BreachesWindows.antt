@@ -9,7 +9,8 @@ use Rattle.cxl_window.specs.declared.window.Verdict.TheVariants.{Usable, Align, 
 use Rattle.cxl_window.specs.Position.{is_usable}
 use Rattle.cxl_window.specs.Windows.{AreMadeWith}
 use Rattle.cxl_model.specs.System.{System, IsSystem, bridge_uids}
-use Rattle.cxl_model.specs.Ranges.{Range, lies_within}
+use Rattle.cxl_regs.specs.declared.reading.Range.{Range}
+use Rattle.cxl_model.specs.Ranges.{lies_within}
 
 usable_is : (v : Verdict) → is_usable v ≡ true → v ≡ Usable
 usable_is Usable h = refl

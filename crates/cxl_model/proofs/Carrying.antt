@@ -13,7 +13,8 @@ use Rattle.cxl_topo.specs.Tree.{is_port_at}
 use Rattle.cxl_regs.specs.declared.decoder.Decoder.{Decoder}
 use Rattle.cxl_regs.specs.Registers.{Registers}
 use Rattle.cxl_regs.specs.Rules.{endpoint_ways_ok, port_ways_ok}
-use Rattle.cxl_span.specs.Spans.{decoder_ways, span_length}
+use Rattle.cxl_regs.specs.declared.reading.Range.{Range}
+use Rattle.cxl_regs.specs.Reading.{decoder_ways, span_length}
 use Rattle.cxl_span.specs.Breaches.{breaks as block_breaks, BlockKeeps}
 use Rattle.cxl_span.specs.Rules.{breaks_codes}
 use Rattle.cxl_window.specs.Fields.{WindowFields}
@@ -22,7 +23,7 @@ use Rattle.cxl_deal.specs.Weaves.{WeaveFields, IsWeave, weave_ways, turns_end, d
 use Rattle.cxl_model.specs.declared.found.Found.{Found}
 use Rattle.cxl_model.specs.declared.found.Place.{Place}
 use Rattle.cxl_model.specs.System.{System, IsSystem, ram_at, pmem_at}
-use Rattle.cxl_model.specs.Ranges.{Range, serves, ways_above}
+use Rattle.cxl_model.specs.Ranges.{serves, ways_above}
 use Rattle.cxl_model.specs.Accepted.{IsWhole}
 use Rattle.cxl_model.specs.Regions.{region_range, IsRegionIn, weave_fields, Carries}
 use Rattle.cxl_model.specs.Bytes.{slot_length, LiesInSpan}

@@ -14,10 +14,11 @@ use Rattle.cxl_topo.specs.declared.node.Parent.{Parent}
 use Rattle.cxl_topo.specs.Tree.{forwards_at, is_endpoint_at, parent_of, child_of, first_child_of, landing_within, landing_of}
 use Rattle.cxl_regs.specs.declared.decoder.Decoder.{Decoder}
 use Rattle.cxl_regs.specs.Registers.{Registers}
-use Rattle.cxl_span.specs.Spans.{decoder_ways}
+use Rattle.cxl_regs.specs.declared.reading.Range.{Range}
+use Rattle.cxl_regs.specs.Reading.{decoder_ways, entries_of, entry_at, has_range}
 use Rattle.cxl_window.specs.Fields.{WindowFields}
-use Rattle.cxl_model.specs.System.{System, IsSystem, entries_of, entry_at}
-use Rattle.cxl_model.specs.Ranges.{Range, has_range, serves, decoder_for, window_for, ports_for, product, ways_above, range_ways}
+use Rattle.cxl_model.specs.System.{System, IsSystem}
+use Rattle.cxl_model.specs.Ranges.{serves, decoder_for, window_for, ports_for, product, ways_above, range_ways}
 use Rattle.cxl_model.specs.Rules.{are_distinct, lands_on, leads_on}
 use Rattle.cxl_model.specs.Accepted.{IsWhole}
 use Rattle.cxl_model.specs.Counts.{is_under, is_endpoint_of, endpoints_under}

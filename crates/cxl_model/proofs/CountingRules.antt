@@ -17,8 +17,10 @@ use Rattle.cxl_span.specs.Spans.{span_start_of}
 use Rattle.cxl_span.specs.Rules.{breaks_rule}
 use Rattle.cxl_span.specs.Breaches.{breaks as block_breaks, BlockKeeps}
 use Rattle.cxl_window.specs.Fields.{WindowFields}
-use Rattle.cxl_model.specs.System.{System, decoders_at, decoder_at, ram_at, pmem_at, entries_of}
-use Rattle.cxl_model.specs.Ranges.{Range, range_of, has_range, serves, decoder_for, index_for, window_for}
+use Rattle.cxl_regs.specs.declared.reading.Range.{Range}
+use Rattle.cxl_regs.specs.Reading.{entries_of, range_of, has_range}
+use Rattle.cxl_model.specs.System.{System, decoders_at, decoder_at, ram_at, pmem_at}
+use Rattle.cxl_model.specs.Ranges.{serves, decoder_for, index_for, window_for}
 use Rattle.cxl_model.specs.Rules.{keeps_window, keeps_targets, keeps_reach, are_distinct, leads_on, is_bridge_landing, targets_land, lists, is_targeted}
 use Rattle.cxl_model.specs.Accepted.{breaks, breaks_at, breaks_block, KeepsBlocks, IsWhole}
 use Rattle.cxl_model.proofs.Outcomes.{Holds}

@@ -6,11 +6,12 @@ use Rattle.std.specs.List.{list_any}
 use Rattle.std.proofs.lemmas.Bool.{cases_Bool, both_ways}
 use Rattle.std.proofs.lemmas.Option.{slice_get_within}
 use Rattle.cxl_regs.specs.Registers.{Registers}
+use Rattle.cxl_regs.specs.declared.reading.Range.{Range}
 use Rattle.cxl_span.specs.Breaches.{breaks as block_breaks, BlockKeeps}
 use Rattle.cxl_window.specs.Fields.{WindowFields}
 use Rattle.cxl_model.specs.declared.found.Place.{Place}
 use Rattle.cxl_model.specs.System.{System, KeepsBlock, ram_at, pmem_at}
-use Rattle.cxl_model.specs.Ranges.{Range, IsCommittedRange}
+use Rattle.cxl_model.specs.Ranges.{IsCommittedRange}
 use Rattle.cxl_model.specs.Accepted.{IsAccepted, IsWhole}
 use Rattle.cxl_topo.specs.Tree.{forwards_at, is_port_at, is_endpoint_at, bridge_with}
 use Rattle.cxl_model.specs.Ranges.{index_for}

@@ -9,12 +9,13 @@ use Rattle.cxl_topo.specs.Kinds.{is_endpoint}
 use Rattle.cxl_topo.specs.Tree.{forwards_at, is_port_at, is_endpoint_at, child_of, first_child_of}
 use Rattle.cxl_regs.specs.declared.decoder.Decoder.{Decoder}
 use Rattle.cxl_regs.specs.Registers.{Registers}
+use Rattle.cxl_regs.specs.Reading.{holds_address, entry_at, entry_of}
 use Rattle.cxl_span.specs.Spans.{span_start_of, endpoint_place_of}
 use Rattle.cxl_span.specs.Breaches.{BlockKeeps}
 use Rattle.cxl_model.specs.declared.chain.Step.{Step}
 use Rattle.cxl_model.specs.declared.chain.Miss.{Miss}
 use Rattle.cxl_model.specs.declared.chain.Miss.TheVariants.{NoWindow, BadBlock, NoDecoder, NoChild}
-use Rattle.cxl_model.specs.System.{System, decoders_at, decoder_at, holds_address, entry_at, entry_of}
+use Rattle.cxl_model.specs.System.{System, decoders_at, decoder_at}
 use Rattle.cxl_model.specs.Chain.{Arrival, Arrives, Misses, Move, Forwards, Steps, Ends, Decodes, Chooses, IsStep, Places, IsArrival, IsBadBlock, ListsNoChild, Moves}
 
 pub clash : (a : Bool) → a ≡ true → a ≡ false → ⊥

@@ -14,7 +14,8 @@ use Rattle.cxl_window.specs.Fields.{WindowFields}
 use Rattle.cxl_model.specs.declared.found.Found.{Found}
 use Rattle.cxl_model.specs.declared.found.Place.{Place}
 use Rattle.cxl_model.specs.System.{System, IsSystem}
-use Rattle.cxl_model.specs.Ranges.{Range, serves, window_for, ways_above, range_ways}
+use Rattle.cxl_regs.specs.declared.reading.Range.{Range}
+use Rattle.cxl_model.specs.Ranges.{serves, window_for, ways_above, range_ways}
 use Rattle.cxl_model.specs.Rules.{are_distinct}
 use Rattle.cxl_model.specs.Accepted.{IsWhole}
 use Rattle.cxl_model.specs.Regions.{target_position, slots_an_entry, LeadsTo, HasSpan, region_range, IsRegionIn}

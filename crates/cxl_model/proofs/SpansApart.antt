@@ -10,11 +10,12 @@ use Rattle.std.proofs.lemmas.List.FromFn.{get_or-map-range_with_len, length-map-
 use Rattle.cxl_enc.specs.Codes.{is_ways, third_of, bits_of}
 use Rattle.cxl_topo.specs.Tree.{is_endpoint_at, child_of}
 use Rattle.cxl_regs.specs.declared.decoder.Decoder.{Decoder}
-use Rattle.cxl_span.specs.Spans.{decoder_ways}
+use Rattle.cxl_regs.specs.declared.reading.Range.{Range}
+use Rattle.cxl_regs.specs.Reading.{decoder_ways, entries_of, entry_at}
 use Rattle.cxl_window.specs.Fields.{WindowFields}
 use Rattle.cxl_model.specs.declared.found.Place.{Place}
-use Rattle.cxl_model.specs.System.{System, entries_of, entry_at}
-use Rattle.cxl_model.specs.Ranges.{Range, serves, decoder_for, ways_above}
+use Rattle.cxl_model.specs.System.{System}
+use Rattle.cxl_model.specs.Ranges.{serves, decoder_for, ways_above}
 use Rattle.cxl_model.specs.Rules.{are_distinct}
 use Rattle.cxl_model.specs.Accepted.{IsWhole}
 use Rattle.cxl_model.specs.Regions.{target_position, slots_an_entry, LeadsTo, past_forwarding, past_port, at_endpoint}

@@ -10,14 +10,16 @@ use Rattle.cxl_topo.specs.Kinds.{is_endpoint}
 use Rattle.cxl_topo.specs.Tree.{is_endpoint_at}
 use Rattle.cxl_regs.specs.declared.decoder.Decoder.{Decoder}
 use Rattle.cxl_regs.specs.Registers.{Registers}
-use Rattle.cxl_span.specs.Spans.{decoder_ways, span_length, span_start_of}
+use Rattle.cxl_regs.specs.declared.reading.Range.{Range}
+use Rattle.cxl_regs.specs.Reading.{decoder_ways, span_length, has_range}
+use Rattle.cxl_span.specs.Spans.{span_start_of}
 use Rattle.cxl_span.specs.Partitions.{lies_in}
 use Rattle.cxl_span.specs.Breaches.{BlockKeeps}
 use Rattle.cxl_window.specs.Fields.{WindowFields}
 use Rattle.cxl_model.specs.declared.found.Found.{Found}
 use Rattle.cxl_model.specs.declared.found.Place.{Place}
 use Rattle.cxl_model.specs.System.{System, IsSystem, decoders_at, decoder_at, ram_at, pmem_at}
-use Rattle.cxl_model.specs.Ranges.{Range, has_range, serves, index_for, window_for, ways_above, span_kind, same_kind, range_ways, range_kind, range_code}
+use Rattle.cxl_model.specs.Ranges.{serves, index_for, window_for, ways_above, span_kind, same_kind, range_ways, range_kind, range_code}
 use Rattle.cxl_model.specs.Rules.{keeps_ways, keeps_port_code}
 use Rattle.cxl_model.specs.Accepted.{breaks, breaks_at, IsWhole}
 use Rattle.cxl_model.specs.Regions.{region_range, IsRegionIn}

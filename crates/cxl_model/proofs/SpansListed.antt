@@ -8,7 +8,9 @@ use Rattle.cxl_regs.specs.declared.decoder.Decoder.{Decoder}
 use Rattle.cxl_window.specs.Fields.{WindowFields}
 use Rattle.cxl_model.specs.declared.found.Found.{Found}
 use Rattle.cxl_model.specs.System.{System, IsSystem, decoders_at}
-use Rattle.cxl_model.specs.Ranges.{Range, range_of, has_range, serves, IsCommittedRange}
+use Rattle.cxl_regs.specs.Reading.{range_of, has_range}
+use Rattle.cxl_regs.specs.declared.reading.Range.{Range}
+use Rattle.cxl_model.specs.Ranges.{serves, IsCommittedRange}
 use Rattle.cxl_model.specs.Accepted.{IsAccepted, IsWhole}
 use Rattle.cxl_model.specs.Regions.{region_range, IsRegionIn, IsRegion}
 use Rattle.cxl_model.specs.Listed.{AreRegions, AreRegionsByBase}

@@ -11,11 +11,13 @@ use Rattle.cxl_topo.specs.declared.node.Node.{Node}
 use Rattle.cxl_topo.specs.Kinds.{is_endpoint}
 use Rattle.cxl_topo.specs.Tree.{forwards_at, is_port_at, is_endpoint_at, child_of, bridge_with}
 use Rattle.cxl_regs.specs.declared.decoder.Decoder.{Decoder}
-use Rattle.cxl_span.specs.Spans.{decoder_ways, span_start_of}
+use Rattle.cxl_regs.specs.declared.reading.Range.{Range}
+use Rattle.cxl_regs.specs.Reading.{decoder_ways, entries_of, entry_at}
+use Rattle.cxl_span.specs.Spans.{span_start_of}
 use Rattle.cxl_window.specs.Fields.{WindowFields}
 use Rattle.cxl_model.specs.declared.found.Place.{Place}
-use Rattle.cxl_model.specs.System.{System, IsSystem, decoders_at, entries_of, entry_at}
-use Rattle.cxl_model.specs.Ranges.{Range, IsCommittedRange, serves, decoder_for, index_for, window_for}
+use Rattle.cxl_model.specs.System.{System, IsSystem, decoders_at}
+use Rattle.cxl_model.specs.Ranges.{IsCommittedRange, serves, decoder_for, index_for, window_for}
 use Rattle.cxl_model.specs.Rules.{lands_on, leads_on}
 use Rattle.cxl_model.specs.Accepted.{IsWhole}
 use Rattle.cxl_model.specs.Regions.{target_position, slots_an_entry, LeadsTo, past_forwarding, past_port, at_endpoint, HasSpan}

@@ -10,7 +10,8 @@ use Rattle.cxl_window.specs.Fields.{WindowFields}
 use Rattle.cxl_model.specs.declared.found.Found.{Found}
 use Rattle.cxl_model.specs.declared.found.Place.{Place}
 use Rattle.cxl_model.specs.System.{System, IsSystem}
-use Rattle.cxl_model.specs.Ranges.{Range, IsCommittedRange, window_for, range_ways, range_kind, range_code}
+use Rattle.cxl_regs.specs.declared.reading.Range.{Range}
+use Rattle.cxl_model.specs.Ranges.{IsCommittedRange, window_for, range_ways, range_kind, range_code}
 use Rattle.cxl_model.specs.Accepted.{IsWhole}
 use Rattle.cxl_model.specs.Regions.{target_position, LeadsTo, HasSpan, region_range, IsRegionIn}
 use Rattle.cxl_model.proofs.Outcomes.{one_value}

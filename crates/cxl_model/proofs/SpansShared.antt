@@ -6,12 +6,14 @@ use Rattle.std.proofs.lemmas.Bool.{cases_lt, false≢true}
 use Rattle.std.proofs.lemmas.Option.{slice_get_within, get_or_from_slice_get}
 use Rattle.cxl_topo.specs.Tree.{landing_of, bridge_with}
 use Rattle.cxl_regs.specs.declared.decoder.Decoder.{Decoder}
-use Rattle.cxl_span.specs.Spans.{span_length, span_start_of, span_end_of}
+use Rattle.cxl_regs.specs.declared.reading.Range.{Range}
+use Rattle.cxl_regs.specs.Reading.{span_length, range_of, has_range}
+use Rattle.cxl_span.specs.Spans.{span_start_of, span_end_of}
 use Rattle.cxl_window.specs.Fields.{WindowFields}
 use Rattle.cxl_model.specs.declared.found.Found.{Found}
 use Rattle.cxl_model.specs.declared.found.Place.{Place}
 use Rattle.cxl_model.specs.System.{System, IsSystem, decoders_at, decoder_at}
-use Rattle.cxl_model.specs.Ranges.{Range, range_of, has_range, serves}
+use Rattle.cxl_model.specs.Ranges.{serves}
 use Rattle.cxl_model.specs.Rules.{lands_on}
 use Rattle.cxl_model.specs.Accepted.{KeepsBlocks}
 use Rattle.cxl_model.specs.Regions.{region_range, IsRegionIn}

@@ -8,11 +8,13 @@ use Rattle.cxl_topo.specs.declared.node.Node.{Node}
 use Rattle.cxl_topo.specs.Tree.{forwards_at, is_port_at, is_endpoint_at, child_of, first_child_of}
 use Rattle.cxl_regs.specs.declared.decoder.Decoder.{Decoder}
 use Rattle.cxl_regs.specs.Registers.{reset_decoder}
-use Rattle.cxl_span.specs.Spans.{decoder_ways, span_start_of}
+use Rattle.cxl_regs.specs.declared.reading.Range.{Range}
+use Rattle.cxl_regs.specs.Reading.{decoder_ways, entry_at, has_range}
+use Rattle.cxl_span.specs.Spans.{span_start_of}
 use Rattle.cxl_window.specs.Fields.{WindowFields}
 use Rattle.cxl_model.specs.declared.found.Place.{Place}
-use Rattle.cxl_model.specs.System.{System, decoders_at, entry_at}
-use Rattle.cxl_model.specs.Ranges.{Range, has_range, serves, decoder_for, index_for}
+use Rattle.cxl_model.specs.System.{System, decoders_at}
+use Rattle.cxl_model.specs.Ranges.{serves, decoder_for, index_for}
 use Rattle.cxl_model.specs.Regions.{slots_an_entry, LeadsSlot, LeadsTo, past_forwarding, past_port, at_endpoint}
 use Rattle.cxl_model.specs.Counts.{is_under, is_endpoint_of}
 use Rattle.cxl_model.proofs.Outcomes.{value_of, one_value}

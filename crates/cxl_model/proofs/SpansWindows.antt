@@ -19,7 +19,8 @@ use Rattle.cxl_window.specs.declared.window.Verdict.TheVariants.{Usable}
 use Rattle.cxl_window.specs.Fields.{WindowFields, IsWindow, IsUsable, AreDistinct}
 use Rattle.cxl_window.specs.Position.{is_usable}
 use Rattle.cxl_model.specs.System.{System, IsSystem}
-use Rattle.cxl_model.specs.Ranges.{Range, serves, window_for, lies_within, ways_above, range_ways, IsCommittedRange}
+use Rattle.cxl_regs.specs.declared.reading.Range.{Range}
+use Rattle.cxl_model.specs.Ranges.{serves, window_for, lies_within, ways_above, range_ways, IsCommittedRange}
 use Rattle.cxl_model.specs.Rules.{are_distinct, lands_on, is_bridge_landing, targets_land}
 use Rattle.cxl_model.specs.Accepted.{IsWhole}
 use Rattle.cxl_model.specs.Counts.{is_under, is_endpoint_of, endpoints_of, endpoints_under}

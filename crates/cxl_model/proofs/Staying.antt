@@ -17,14 +17,15 @@ use Rattle.cxl_topo.specs.Kinds.{capacity_of}
 use Rattle.cxl_topo.specs.Tree.{forwards_at, is_port_at, is_endpoint_at, child_of, first_child_of, bridge_with, landing_of, ports_above, decoding_port_of}
 use Rattle.cxl_regs.specs.declared.decoder.Decoder.{Decoder}
 use Rattle.cxl_regs.specs.Registers.{reset_decoder}
-use Rattle.cxl_regs.specs.Rules.{select_bits}
-use Rattle.cxl_span.specs.Spans.{decoder_ways, span_length, span_step, span_start_of}
+use Rattle.cxl_regs.specs.declared.reading.Range.{Range}
+use Rattle.cxl_regs.specs.Reading.{select_bits, decoder_ways, span_length, entries_of, entry_at, range_of, has_range}
+use Rattle.cxl_span.specs.Spans.{span_step, span_start_of}
 use Rattle.cxl_span.specs.Partitions.{lies_in}
 use Rattle.cxl_window.specs.Fields.{WindowFields}
 use Rattle.cxl_model.specs.declared.found.Found.{Found}
 use Rattle.cxl_model.specs.declared.found.Place.{Place}
-use Rattle.cxl_model.specs.System.{System, decoders_at, decoder_at, entries_of, entry_at}
-use Rattle.cxl_model.specs.Ranges.{Range, range_of, has_range, serves, decoder_for, index_for, lies_within, window_for, ports_for, product, ways_above, bits_above, first_endpoint, first_decoder, span_kind, same_kind, range_ways, range_kind, range_code}
+use Rattle.cxl_model.specs.System.{System, decoders_at, decoder_at}
+use Rattle.cxl_model.specs.Ranges.{serves, decoder_for, index_for, lies_within, window_for, ports_for, product, ways_above, bits_above, first_endpoint, first_decoder, span_kind, same_kind, range_ways, range_kind, range_code}
 use Rattle.cxl_model.specs.Rules.{starts_in_thirds, permits, keeps_window, are_distinct, is_bridge_landing, keeps_targets, lists, uid_above, keeps_reach, keeps_ways}
 use Rattle.cxl_model.specs.Accepted.{breaks, breaks_at, KeepsBlocks, IsWhole}
 use Rattle.cxl_model.specs.Regions.{target_position, LeadsTo, past_forwarding, past_port, at_endpoint, HasSpan, region_range, IsRegionIn}

@@ -6,7 +6,7 @@ use Rattle.std.proofs.lemmas.Bool.{and_parts, agree_below_at, cases_lt, le-ltb, 
 use Rattle.std.proofs.Math.Nat.{mul-mod_right}
 use Rattle.cxl_enc.specs.Codes.{ways_of, is_ways, bits_of}
 use Rattle.cxl_regs.specs.declared.decoder.Decoder.{Decoder}
-use Rattle.cxl_span.specs.Spans.{decoder_ways}
+use Rattle.cxl_regs.specs.Reading.{decoder_ways}
 use Rattle.cxl_num.specs.Interleave.{ways_by}
 
 -- ---- the numbers of the table

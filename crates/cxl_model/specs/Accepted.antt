@@ -2,9 +2,10 @@
 use Rattle.std.specs.Prelude.{◌≡◌, ℕ, ◌<◌, ◌≤◌, ◌==◌, nat_lt, ◌&&◌, not, Bool, true, false, if◌then◌else◌, length, slice_get, Some, option_map}
 use Rattle.std.specs.Option.{option_map_or, option_eq}
 use Rattle.cxl_regs.specs.declared.decoder.Decoder.{Decoder}
+use Rattle.cxl_regs.specs.declared.reading.Range.{Range}
+use Rattle.cxl_regs.specs.Reading.{has_range}
 use Rattle.cxl_span.specs.Breaches.{breaks as block_breaks}
 use Rattle.cxl_model.specs.System.{System, decoder_at, ram_at, pmem_at}
-use Rattle.cxl_model.specs.Ranges.{Range, has_range}
 use Rattle.cxl_model.specs.Rules.{keeps_window, keeps_targets, keeps_reach, keeps_ways}
 
 -- K1: one block for each node, with its capability word; where the number differs node 0 is named, and decoder 0 in either case

@@ -4,13 +4,14 @@
 use Rattle.std.specs.Prelude.{◌≡◌, ℕ, ◌⊎◌, true, false, List, [], ◌∷◌, slice_get, Option, Some, None, IsSomeAnd}
 use Rattle.cxl_topo.specs.Tree.{forwards_at, is_port_at, is_endpoint_at, child_of, first_child_of, bridge_with}
 use Rattle.cxl_regs.specs.declared.decoder.Decoder.{Decoder}
+use Rattle.cxl_regs.specs.Reading.{holds_address, entry_at, entry_of}
 use Rattle.cxl_span.specs.Spans.{span_start_of, endpoint_place_of}
 use Rattle.cxl_window.specs.Fields.{WindowFields}
 use Rattle.cxl_window.specs.Position.{position_at}
 use Rattle.cxl_model.specs.declared.chain.Step.{Step}
 use Rattle.cxl_model.specs.declared.chain.Miss.{Miss}
 use Rattle.cxl_model.specs.declared.chain.Miss.TheVariants.{NoWindow, BadBlock, NoDecoder, NoChild}
-use Rattle.cxl_model.specs.System.{System, KeepsBlock, decoders_at, decoder_at, holds_address, entry_at, entry_of}
+use Rattle.cxl_model.specs.System.{System, KeepsBlock, decoders_at, decoder_at}
 
 -- a byte of an endpoint's device, with the decoder that leads to it and that decoder's first host address
 pub record Arrival : Type 0 where

@@ -2,7 +2,8 @@
 use Rattle.std.specs.Prelude.{◌≡◌, ℕ, ◌≤◌, true, Some}
 use Rattle.cxl_regs.specs.declared.decoder.Decoder.{Decoder}
 use Rattle.cxl_model.specs.System.{System, decoder_at}
-use Rattle.cxl_model.specs.Ranges.{Range, has_range}
+use Rattle.cxl_regs.specs.Reading.{has_range}
+use Rattle.cxl_regs.specs.declared.reading.Range.{Range}
 
 -- where decoder i of a node has the range, the other image has the same decoders of that node up to i
 abbrev pub KeepsDecoders : System → System → Range → Type 0

@@ -4,7 +4,8 @@ use Rattle.std.specs.List.{list_any, range_with_len}
 use Rattle.cxl_topo.specs.declared.node.Node.{Node}
 use Rattle.cxl_topo.specs.Tree.{is_endpoint_at, path_of}
 use Rattle.cxl_model.specs.System.{System}
-use Rattle.cxl_model.specs.Ranges.{Range, serves}
+use Rattle.cxl_regs.specs.declared.reading.Range.{Range}
+use Rattle.cxl_model.specs.Ranges.{serves}
 
 -- node n stands on the path of node m, which may be itself
 abbrev pub is_under : List Node → ℕ → ℕ → Bool

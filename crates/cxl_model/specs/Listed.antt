@@ -2,7 +2,8 @@
 use Rattle.std.specs.Prelude.{◌≡◌, ◌≢◌, ◌<◌, List, All, AllPairs, Contains}
 use Rattle.cxl_model.specs.declared.found.Found.{Found}
 use Rattle.cxl_model.specs.System.{System}
-use Rattle.cxl_model.specs.Ranges.{Range, IsCommittedRange}
+use Rattle.cxl_regs.specs.declared.reading.Range.{Range}
+use Rattle.cxl_model.specs.Ranges.{IsCommittedRange}
 use Rattle.cxl_model.specs.Regions.{region_range, IsRegion}
 
 -- each is a region, each committed range has one, and none stands twice

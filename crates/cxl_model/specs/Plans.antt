@@ -5,12 +5,14 @@ use Rattle.cxl_topo.specs.Tree.{forwards_at, is_endpoint_at, path_of}
 use Rattle.cxl_regs.specs.declared.decoder.Decoder.{Decoder}
 use Rattle.cxl_regs.specs.Registers.{Registers, IsDecoder}
 use Rattle.cxl_regs.specs.Words.{has_bit}
+use Rattle.cxl_regs.specs.declared.reading.Range.{Range}
+use Rattle.cxl_regs.specs.Reading.{range_of}
 use Rattle.cxl_window.specs.Fields.{WindowFields}
 use Rattle.cxl_model.specs.declared.request.Request.{Request}
 use Rattle.cxl_model.specs.declared.plan.Row.{Row}
 use Rattle.cxl_model.specs.declared.plan.Plan.{Plan}
 use Rattle.cxl_model.specs.System.{System, decoders_at}
-use Rattle.cxl_model.specs.Ranges.{Range, range_of, serves}
+use Rattle.cxl_model.specs.Ranges.{serves}
 use Rattle.cxl_model.specs.Accepted.{IsAccepted}
 use Rattle.cxl_model.specs.Regions.{region_range, IsRegionIn}
 

@@ -7,24 +7,13 @@ use Rattle.cxl_enc.specs.declared.caps.MemKind.{MemKind}
 use Rattle.cxl_enc.specs.declared.caps.MemKind.TheVariants.{Ram, Pmem}
 use Rattle.cxl_topo.specs.Tree.{is_endpoint_at, ports_above}
 use Rattle.cxl_regs.specs.declared.decoder.Decoder.{Decoder}
-use Rattle.cxl_regs.specs.Rules.{select_bits}
-use Rattle.cxl_span.specs.Spans.{decoder_ways, span_length, span_start_of}
+use Rattle.cxl_regs.specs.declared.reading.Range.{Range}
+use Rattle.cxl_regs.specs.Reading.{decoder_ways, select_bits, has_range, span_length}
+use Rattle.cxl_span.specs.Spans.{span_start_of}
 use Rattle.cxl_span.specs.Partitions.{lies_in}
 use Rattle.cxl_window.specs.Fields.{WindowFields}
 use Rattle.cxl_window.specs.Position.{is_usable}
 use Rattle.cxl_model.specs.System.{System, decoders_at, decoder_at, ram_at, pmem_at}
-
--- a first host address and a number of bytes
-pub record Range : Type 0 where
-  pub base : ℕ
-  pub size : ℕ
-
-abbrev pub range_of : Decoder → Range
-range_of d = record { base = d.base; size = d.size }
-
--- the decoder is committed with this range
-abbrev pub has_range : Range → Decoder → Bool
-has_range r d = d.committed && (d.base == r.base) && (d.size == r.size)
 
 -- node n has a committed decoder of the range, which one, and its number
 abbrev pub serves : System → Range → ℕ → Bool

@@ -3,13 +3,15 @@
 use Rattle.std.specs.Prelude.{◌≡◌, ℕ, ◌+◌, ◌-◌, ◌*◌, ◌/◌, ◌%◌, ◌^◌, ◌<◌, ◌≤◌, ◌==◌, true, false, if◌then◌else◌, length, slice_get, Some, IsSomeAnd}
 use Rattle.cxl_enc.specs.Codes.{third_of, bits_of}
 use Rattle.cxl_topo.specs.Tree.{forwards_at, is_port_at, is_endpoint_at, child_of, first_child_of, bridge_with}
-use Rattle.cxl_span.specs.Spans.{decoder_ways, span_start_of}
+use Rattle.cxl_regs.specs.declared.reading.Range.{Range}
+use Rattle.cxl_regs.specs.Reading.{decoder_ways, entry_at}
+use Rattle.cxl_span.specs.Spans.{span_start_of}
 use Rattle.cxl_window.specs.Fields.{WindowFields}
 use Rattle.cxl_deal.specs.Weaves.{WeaveFields, dealt_slot, dealt_offset}
 use Rattle.cxl_model.specs.declared.found.Found.{Found}
 use Rattle.cxl_model.specs.declared.found.Place.{Place}
-use Rattle.cxl_model.specs.System.{System, decoders_at, entry_at}
-use Rattle.cxl_model.specs.Ranges.{Range, IsCommittedRange, decoder_for, index_for, window_for, ways_above, range_ways, range_kind, range_code}
+use Rattle.cxl_model.specs.System.{System, decoders_at}
+use Rattle.cxl_model.specs.Ranges.{IsCommittedRange, decoder_for, index_for, window_for, ways_above, range_ways, range_kind, range_code}
 use Rattle.cxl_model.specs.Accepted.{IsWhole}
 
 -- ---- the span of a slot

@@ -1,7 +1,7 @@
 -- A register image over a tree of nodes, with the host's windows: what all definitions here speak of.
-use Rattle.std.specs.Prelude.{ℕ, ◌+◌, ◌-◌, ◌/◌, ◌%◌, ◌^◌, nat_lt, nat_le, ◌&&◌, Bool, List, [], map, slice_get, All, Option, option_and_then, IfSome}
+use Rattle.std.specs.Prelude.{ℕ, List, [], slice_get, All, Option, option_and_then, IfSome}
 use Rattle.std.specs.Option.{option_map_or}
-use Rattle.std.specs.List.{filter_map, range_with_len}
+use Rattle.std.specs.List.{filter_map}
 use Rattle.cxl_topo.specs.declared.node.Node.{Node}
 use Rattle.cxl_topo.specs.declared.node.Capacity.{Capacity}
 use Rattle.cxl_topo.specs.Tree.{Tree}
@@ -10,7 +10,6 @@ use Rattle.cxl_topo.specs.Faults.{IsTree}
 use Rattle.cxl_regs.specs.declared.decoder.Decoder.{Decoder}
 use Rattle.cxl_regs.specs.Registers.{Registers, IsBlock}
 use Rattle.cxl_image.specs.Images.{HasCapsOf}
-use Rattle.cxl_span.specs.Spans.{decoder_ways, decoder_granularity}
 use Rattle.cxl_span.specs.Breaches.{BlockKeeps}
 use Rattle.cxl_window.specs.Fields.{WindowFields}
 use Rattle.cxl_window.specs.Windows.{AreMadeWith}
@@ -58,21 +57,3 @@ pmem_at s n = option_map_or (λ c. c.pmem) (capacity_at s n) 0
 -- its block keeps the rules K2 to K8
 abbrev pub KeepsBlock : System → ℕ → Type 0
 KeepsBlock s n = IfSome (slice_get s.blocks n) (λ block. BlockKeeps block (ram_at s n) (pmem_at s n))
-
--- ---- a decoder
-
--- it is committed, and the address lies in its range
-abbrev pub holds_address : Decoder → ℕ → Bool
-holds_address d h = d.committed && nat_le d.base h && nat_lt h (d.base + d.size)
-
--- entry i of a port's target list
-abbrev pub entry_at : Decoder → ℕ → ℕ
-entry_at d i = d.tail / 256 ^ i % 256
-
--- the entries that it uses, one for each of its ways
-abbrev pub entries_of : Decoder → List ℕ
-entries_of d = map (entry_at d) (range_with_len 0 (decoder_ways d))
-
--- the entry to which a port's decoder sends an address (CXL HDM decoder interleave)
-abbrev pub entry_of : Decoder → ℕ → ℕ
-entry_of d h = (h - d.base) / decoder_granularity d % decoder_ways d

@@ -5,7 +5,8 @@ ghost use Rattle.cxl_window.specs.Fields.{WindowFields};
 ghost use Rattle.cxl_window.specs.Windows.{AreMadeWith};
 ghost use Rattle.cxl_model.specs.System.{System, IsSystem, bridge_uids};
 ghost use Rattle.cxl_model.specs.Chain.{Outcome, Chain};
-ghost use Rattle.cxl_model.specs.Ranges.{Range, IsCommittedRange, lies_within};
+ghost use Rattle.cxl_regs.specs.declared.reading.Range.{Range};
+ghost use Rattle.cxl_model.specs.Ranges.{IsCommittedRange, lies_within};
 ghost use Rattle.cxl_model.specs.Accepted.{IsAccepted, IsFirstBreach, HasFirstBreach, KeepsBlocks, IsWhole};
 
 use cxl_span::ranges_rise;

@@ -15,6 +15,7 @@ mod request;
 
 pub use chain::{Miss, Step};
 pub use cxl_enc::{FixedList, MemKind, Memory, Name};
+pub use cxl_regs::Range;
 pub use cxl_span::{Room, SpanFault};
 pub use examples::{
     carried_on_examples, chains_on_examples, examples_are_systems, regions_on_examples,

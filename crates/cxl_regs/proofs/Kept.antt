@@ -13,7 +13,7 @@ use Rattle.cxl_regs.specs.declared.effect.Effect.TheVariants.{Written, Committed
 use Rattle.cxl_regs.specs.Registers.{Registers, IsAligned, IsDecoder, IsBlock}
 use Rattle.cxl_regs.specs.Words.{has_bit, top_bits, index_at, place_at}
 use Rattle.cxl_regs.specs.Rules.{first_broken_rule}
-use Rattle.cxl_regs.specs.Writes.{Outcome, dropped, any_committed, with_decoder, with_low, with_high, with_word, with_control, global_outcome, commit_outcome, control_outcome, release_outcome, decoder_outcome, outcome_of}
+use Rattle.cxl_regs.specs.Writes.{AfterWrite, dropped, any_committed, with_decoder, with_low, with_high, with_word, with_control, after_global, after_commit, after_control, after_release, after_decoder, after_word}
 
 -- ---- decoders
 
@@ -62,10 +62,10 @@ marks endpoint d is = record { marked = λ commit committed error. record { base
 
 -- ---- blocks
 
-record IsSound (o : Outcome) : Type 0 where
+record IsSound (o : AfterWrite) : Type 0 where
   block : IsBlock o.block
 
-either_sound : (test : Bool) (x y : Outcome) → IsSound x → IsSound y → IsSound (cond test x y)
+either_sound : (test : Bool) (x y : AfterWrite) → IsSound x → IsSound y → IsSound (cond test x y)
 either_sound true x y p q = p
 either_sound false x y p q = q
 
@@ -82,22 +82,22 @@ put_sound block i d effect is decoder = record {
   };
 }
 
-commit_sound : (block : Registers) (i : ℕ) (d : Decoder) (rule : Option CommitRule) → IsBlock block → IsDecoder block.endpoint d → IsSound (commit_outcome block i d rule)
+commit_sound : (block : Registers) (i : ℕ) (d : Decoder) (rule : Option CommitRule) → IsBlock block → IsDecoder block.endpoint d → IsSound (after_commit block i d rule)
 commit_sound block i d None is decoder = put_sound block i _ Committed is ((marks block.endpoint d decoder).marked true true false)
 commit_sound block i d (Some rule) is decoder = put_sound block i _ (NotCommitted rule) is ((marks block.endpoint d decoder).marked true false true)
 
-control_sound : (block : Registers) (i : ℕ) (d : Decoder) (v : ℕ) → IsBlock block → IsDecoder block.endpoint d → IsSound (control_outcome block i d v)
+control_sound : (block : Registers) (i : ℕ) (d : Decoder) (v : ℕ) → IsBlock block → IsDecoder block.endpoint d → IsSound (after_control block i d v)
 control_sound block i d v is decoder =
     let set = control_decoder block.endpoint d v decoder in
     either_sound (has_bit v 9) _ _ (commit_sound block i (with_control d v) (first_broken_rule block i (with_control d v)) is set)
     (put_sound block i _ Written is ((marks block.endpoint (with_control d v) set).marked false d.committed false))
 
-release_sound : (block : Registers) (i : ℕ) (d : Decoder) (v : ℕ) → IsBlock block → IsDecoder block.endpoint d → IsSound (release_outcome block i d v)
+release_sound : (block : Registers) (i : ℕ) (d : Decoder) (v : ℕ) → IsBlock block → IsDecoder block.endpoint d → IsSound (after_release block i d v)
 release_sound block i d v is decoder =
     either_sound (d.lock || has_bit v 9 || any_committed (drop (i + 1) block.decoders)) _ _ (dropped_sound block is)
     (put_sound block i _ Released is ((marks block.endpoint d decoder).marked false false d.error))
 
-decoder_sound : (block : Registers) (i : ℕ) (d : Decoder) (place v : ℕ) → v < 2 ^ 32 → IsBlock block → IsDecoder block.endpoint d → IsSound (decoder_outcome block i d place v)
+decoder_sound : (block : Registers) (i : ℕ) (d : Decoder) (place v : ℕ) → v < 2 ^ 32 → IsBlock block → IsDecoder block.endpoint d → IsSound (after_decoder block i d place v)
 decoder_sound block i d place v lt is decoder =
     either_sound (place == 7) _ _ (dropped_sound block is) (either_sound (place == 4) _ _
     (either_sound d.committed _ _ (release_sound block i d v is decoder) (control_sound block i d v is decoder))
@@ -105,7 +105,7 @@ decoder_sound block i d place v lt is decoder =
     (put_sound block i _ Written is (word_decoder block.endpoint d place v lt decoder))))
 
 found_sound : (block : Registers) (off v : ℕ) (d : Option Decoder) → slice_get block.decoders (index_at off) ≡ d → v < 2 ^ 32 → IsBlock block
-    → IsSound (option_map_or (λ d. decoder_outcome block (index_at off) d (place_at off) v) d (dropped block))
+    → IsSound (option_map_or (λ d. after_decoder block (index_at off) d (place_at off) v) d (dropped block))
 found_sound block off v None here lt is = dropped_sound block is
 found_sound block off v (Some d) here lt is =
     let within = slice_get_within block.decoders (index_at off) d here in
@@ -113,7 +113,7 @@ found_sound block off v (Some d) here lt is =
     decoder_sound block (index_at off) d (place_at off) v lt is decoder
 
 -- an endpoint's block may stop to decode
-global_sound : (block : Registers) (v : ℕ) → IsBlock block → block.endpoint ≡ true → IsSound (global_outcome block v)
+global_sound : (block : Registers) (v : ℕ) → IsBlock block → block.endpoint ≡ true → IsSound (after_global block v)
 global_sound block v is endpoint =
     either_sound (has_bit v 1) _ _ (record { block = record { cap = is.cap; enabled = λ e. refl; count = is.count; each = is.each } })
     (either_sound (any_committed block.decoders) _ _ (dropped_sound block is)
@@ -124,15 +124,15 @@ never : (b : Bool) → (b && false) ≡ false
 never true = refl
 never false = refl
 
-head_sound : (block : Registers) (off v : ℕ) (endpoint : Bool) → block.endpoint ≡ endpoint → IsBlock block → IsSound (cond ((off == 4) && endpoint) (global_outcome block v) (dropped block))
+head_sound : (block : Registers) (off v : ℕ) (endpoint : Bool) → block.endpoint ≡ endpoint → IsBlock block → IsSound (cond ((off == 4) && endpoint) (after_global block v) (dropped block))
 head_sound block off v true e is = either_sound ((off == 4) && true) _ _ (global_sound block v is e) (dropped_sound block is)
 head_sound block off v false e is =
-    subst (λ (test : Bool). IsSound (cond test (global_outcome block v) (dropped block))) (sym (never (off == 4))) (dropped_sound block is)
+    subst (λ (test : Bool). IsSound (cond test (after_global block v) (dropped block))) (sym (never (off == 4))) (dropped_sound block is)
 
-pub outcome_block : (block : Registers) (off v : ℕ) → IsBlock block → v < 2 ^ 32 → IsBlock (outcome_of block off v).block
-unfolding outcome_of
-outcome_block block off v is lt =
-    let sound : IsSound (outcome_of block off v) =
+pub after_word_block : (block : Registers) (off v : ℕ) → IsBlock block → v < 2 ^ 32 → IsBlock (after_word block off v).block
+unfolding after_word
+after_word_block block off v is lt =
+    let sound : IsSound (after_word block off v) =
     either_sound (not (off % 4 == 0)) _ _ (dropped_sound block is)
     (either_sound (ltb off 16) _ _ (head_sound block off v block.endpoint refl is)
     (found_sound block off v (slice_get block.decoders (index_at off)) refl lt is)) in

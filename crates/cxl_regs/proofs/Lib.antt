@@ -1,3 +1,5 @@
 pub mod Fields
 pub mod Shape
 pub mod Kept
+pub mod TargetLists
+pub mod Places

@@ -3,7 +3,7 @@ use Rattle.std.specs.Prelude.{ℕ, List, slice_get, slice_set, Option, option_an
 use Rattle.std.specs.Option.{option_map_or}
 use Rattle.cxl_regs.specs.Registers.{Registers}
 use Rattle.cxl_regs.specs.Words.{word_at, HasWord}
-use Rattle.cxl_regs.specs.Writes.{outcome_of}
+use Rattle.cxl_regs.specs.Writes.{after_word}
 
 -- the node is one of them, and its block has a word at the offset
 abbrev pub IsPlace : List Registers → ℕ → ℕ → Type 0
@@ -20,4 +20,4 @@ word_in blocks node off = option_and_then (λ block. word_at block off) (slice_g
 -- a write changes the block of its node and no other
 abbrev pub blocks_after : List Registers → ℕ → ℕ → ℕ → List Registers
 blocks_after blocks node off v =
-    option_map_or (λ block. slice_set blocks node (outcome_of block off v).block) (slice_get blocks node) blocks
+    option_map_or (λ block. slice_set blocks node (after_word block off v).block) (slice_get blocks node) blocks

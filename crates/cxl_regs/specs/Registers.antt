@@ -1,6 +1,7 @@
 -- What a decoder block holds, with its registers as records (CXL HDM decoder capability).
 use Rattle.std.specs.Prelude.{◌≡◌, ℕ, ◌%◌, ◌^◌, ◌<◌, Bool, true, false, not, IsTrue, List, length, All, replicate}
 use Rattle.cxl_enc.specs.Caps.{is_legal_cap, decoders_code, decoders_of}
+use Rattle.cxl_enc.specs.Limits.{unit}
 use Rattle.cxl_regs.specs.declared.decoder.Decoder.{Decoder}
 
 -- a capability word, whether the block is an endpoint's, whether it decodes, and its decoders in order
@@ -10,9 +11,9 @@ pub record Registers : Type 0 where
   pub enabled : Bool
   pub decoders : List Decoder
 
--- 64 bits, of which 27:0 are clear
+-- 64 bits, of which 27:0 are clear: a multiple of 256 MiB
 pub record IsAligned (n : ℕ) : Type 0 where
-  pub multiple : n % 2 ^ 28 ≡ 0
+  pub multiple : n % unit ≡ 0
   pub wide : n < 2 ^ 64
 
 -- what the words of a decoder can hold
@@ -23,9 +24,9 @@ pub record IsDecoder (endpoint : Bool) (d : Decoder) : Type 0 where
   pub gran : d.gran < 16
   pub tail : d.tail < 2 ^ 64
   -- an endpoint's skip counts its bits 63:28 alone, a port's target list all its bits
-  pub skip : endpoint ≡ true → d.tail % 2 ^ 28 ≡ 0
+  pub skip : endpoint ≡ true → d.tail % unit ≡ 0
 
--- what every block is: it has the decoders of its capability word, and a port always decodes
+-- what every block is: it has the decoders of its capability word, and a port always decodes (this project's rule)
 pub record IsBlock (block : Registers) : Type 0 where
   pub cap : IsTrue (is_legal_cap block.cap block.endpoint)
   pub enabled : block.endpoint ≡ false → block.enabled ≡ true

@@ -1,14 +1,15 @@
--- Which decoders a block can commit (CXL HDM decoder commit; the select rule is this project's).
+-- Which decoders a block can commit (CXL HDM decoder commit). That an endpoint has to decode, that a decoder has
+-- some bytes, the ways of ports, and on which address bits is selected are this project's rules.
 use Rattle.std.specs.Prelude.{ℕ, ◌+◌, ◌-◌, ◌^◌, ◌==◌, nat_lt, nat_le, Bool, false, not, ◌&&◌, ◌||◌, if◌then◌else◌, List, Option, Some, None, slice_get}
 use Rattle.std.specs.Option.{option_map_or}
 use Rattle.std.specs.List.{list_all, range_with_len}
 use Rattle.cxl_enc.specs.Caps.{targets_of}
-use Rattle.cxl_enc.specs.Codes.{ways_of, bits_of}
 use Rattle.cxl_regs.specs.declared.decoder.Decoder.{Decoder}
 use Rattle.cxl_regs.specs.declared.effect.CommitRule.{CommitRule}
 use Rattle.cxl_regs.specs.declared.effect.CommitRule.TheVariants.{NotEnabled, ZeroSize, Order, Rise, Codes, Select}
 use Rattle.cxl_regs.specs.Registers.{Registers}
 use Rattle.cxl_regs.specs.Words.{has_bit}
+use Rattle.cxl_regs.specs.Reading.{select_bits}
 
 -- a port's ways are 1, 2, 4 or 8, and no more than its targets
 abbrev pub port_ways_ok : ℕ → ℕ → Bool
@@ -32,10 +33,6 @@ selects cap bit =
 -- the address bits from gran + 8 on, so many of them
 abbrev pub select_ok : ℕ → ℕ → ℕ → Bool
 select_ok cap gran bits = list_all (selects cap) (range_with_len (gran + 8) bits)
-
--- the k of the ways t * 2 ^ k with this code
-abbrev pub select_bits : ℕ → ℕ
-select_bits ways = option_map_or bits_of (ways_of ways) 0
 
 -- the decoder before decoder i
 abbrev pub before : List Decoder → ℕ → Option Decoder

@@ -48,26 +48,68 @@ decoder_of words endpoint =
       tail = at 6 * 2 ^ 32 + (if endpoint then top_bits (at 5) else at 5);
     }
 
+-- ---- where they stand
+
+-- the bytes before the words of the first decoder, and the bytes of a decoder's words
+abbrev pub head_size : ℕ
+head_size = 0x10
+
+abbrev pub decoder_size : ℕ
+decoder_size = 0x20
+
+-- the offset of the global control of an endpoint
+abbrev pub global_control : ℕ
+global_control = 4
+
+-- the places of a decoder's words among its eight; the last is reserved
+abbrev pub base_low : ℕ
+base_low = 0
+
+abbrev pub base_high : ℕ
+base_high = 1
+
+abbrev pub size_low : ℕ
+size_low = 2
+
+abbrev pub size_high : ℕ
+size_high = 3
+
+abbrev pub control : ℕ
+control = 4
+
+abbrev pub tail_low : ℕ
+tail_low = 5
+
+abbrev pub tail_high : ℕ
+tail_high = 6
+
+abbrev pub reserved : ℕ
+reserved = 7
+
+-- the offset of the word at a place of decoder i
+abbrev pub offset_of : ℕ → ℕ → ℕ
+offset_of i place = head_size + decoder_size * i + 4 * place
+
+-- which decoder's word stands at an offset, and at which place
+abbrev pub index_at : ℕ → ℕ
+index_at off = (off - head_size) / decoder_size
+
+abbrev pub place_at : ℕ → ℕ
+place_at off = (off - head_size) % decoder_size / 4
+
 -- the words before the decoders: the capability, the global control, and two that are reserved
 abbrev pub head_words : Registers → List ℕ
 head_words block = block.cap ∷ 2 * bit_of (block.endpoint && block.enabled) ∷ 0 ∷ 0 ∷ []
-
--- decoder i stands at 16 + 32 * i: the decoder of an offset, and the number of the word in it
-abbrev pub index_at : ℕ → ℕ
-index_at off = (off - 16) / 32
-
-abbrev pub place_at : ℕ → ℕ
-place_at off = (off - 16) % 32 / 4
 
 -- the word at an offset
 abbrev pub word_at : Registers → ℕ → Option ℕ
 word_at block off =
     if off % 4 == 0 then
-    (if nat_lt off 16 then slice_get (head_words block) (off / 4)
+    (if nat_lt off head_size then slice_get (head_words block) (off / 4)
     else option_and_then (λ d. slice_get (words_of d) (place_at off)) (slice_get block.decoders (index_at off)))
     else None
 
 -- the offset is one that reads
 pub record HasWord (block : Registers) (off : ℕ) : Type 0 where
   pub whole : off % 4 ≡ 0
-  pub inside : off < 16 + 32 * length block.decoders
+  pub inside : off < head_size + decoder_size * length block.decoders

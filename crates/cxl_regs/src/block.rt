@@ -1,22 +1,20 @@
 ghost use Rattle.std.specs.Prelude.{◌≡◌, ◌<◌, ◌≤◌, ◌+◌, ◌-◌, ◌*◌, ◌/◌, ◌%◌, ◌↔◌, true, IsTrue, IsSome, Some, length, IfOk, IfSome, slice_get};
-ghost use Rattle.std.specs.List.{prefix_len};
 ghost use Rattle.cxl_enc.specs.Caps.{is_legal_cap};
 ghost use Rattle.cxl_regs.specs.Registers.{Registers, IsBlock, IsDecoder, IsSameShape, reset_block};
-ghost use Rattle.cxl_regs.specs.Words.{word_at, HasWord, index_at, place_at};
+ghost use Rattle.cxl_regs.specs.Words.{word_at, HasWord};
 ghost use Rattle.cxl_regs.specs.Rules.{first_broken_rule, before};
-ghost use Rattle.cxl_regs.specs.Writes.{WritesWord, any_committed, with_decoder, global_outcome, decoder_outcome, release_outcome, control_outcome, commit_outcome};
+ghost use Rattle.cxl_regs.specs.Reading.{committed_count};
+ghost use Rattle.cxl_regs.specs.Writes.{WritesWord, any_committed, with_decoder, after_global, after_decoder, after_release, after_control, after_commit};
 
 use crate::decoder::Decoder;
 use crate::effect::{CommitRule, Effect};
-use crate::rules::{breaks_order, breaks_rise, codes_ok, decoder_count, select_bits, select_ok};
+use crate::offsets::{CONTROL, GLOBAL_CONTROL, HEAD_SIZE, RESERVED, index_at, place_at};
+use crate::rules::{breaks_order, breaks_rise, codes_ok, decoder_count, select_ok};
 use crate::words::{has_bit, words_of};
 use crate::writing::{with_control, with_word};
 use cxl_enc::Memory;
 use std::alloc::Global;
 use std::marker::Model;
-
-/// The bytes before the first decoder.
-const HEAD: u32 = 0x10;
 
 /// The HDM decoder block of a bridge, a switch (both are ports here) or an endpoint. Contracts see its
 /// registers as records.
@@ -114,7 +112,7 @@ impl Block {
 
     /// How many committed decoders stand before the first that is not committed.
     pub fn committed(&self) -> u8
-        ensures { result ≡ prefix_len (λ d. d.committed) self.now.decoders }
+        ensures { result ≡ committed_count self.now.decoders }
     {
         self.decoders.iter().take_while(|d| d.committed).count() as u8
     }
@@ -139,11 +137,11 @@ impl Block {
         }
         match off {
             0 => Some(self.cap),
-            4 => Some(if self.endpoint && self.enabled { 2 } else { 0 }),
+            GLOBAL_CONTROL => Some(if self.endpoint && self.enabled { 2 } else { 0 }),
             8 | 12 => Some(0),
             _ => {
                 let d = self.decoders.get(index_at(off))?;
-                Some(words_of(d)[place_at(off)])
+                Some(words_of(d)[place_at(off) as usize])
             }
         }
     }
@@ -151,7 +149,7 @@ impl Block {
     /// Writes a word. What becomes of it is the first that fits of this project's write rules: words that
     /// hold no value drop it, and so do those of a committed decoder; a decoder is committed in rising order
     /// and released in falling order; a locked one stays. (CXL HDM decoder commit and lock.)
-    #[tactic(auto, unfolding(crate::specs::Writes::outcome_of))]
+    #[tactic(auto, unfolding(crate::specs::Writes::after_word))]
     pub fn write32(&mut self, off: u32, value: u32) -> Effect
         ensures write { WritesWord self.old off value self.new result }
         ensures same_shape { IsSameShape self.old self.new }
@@ -159,15 +157,15 @@ impl Block {
         if off % 4 != 0 {
             return Effect::Dropped;
         }
-        if off < HEAD {
-            if off == 4 && self.endpoint {
+        if off < HEAD_SIZE {
+            if off == GLOBAL_CONTROL && self.endpoint {
                 return self.write_global(value);
             }
             return Effect::Dropped;
         }
         let index = index_at(off);
         match self.find(index) {
-            Some(d) => self.write_decoder(index, d, place_at(off) as u32, value),
+            Some(d) => self.write_decoder(index, d, place_at(off), value),
             None => Effect::Dropped,
         }
     }
@@ -183,8 +181,8 @@ impl Block {
     /// A write to the global control of an endpoint.
     fn write_global(&mut self, value: u32) -> Effect
         requires { self.old.endpoint ≡ true }
-        ensures left { self.new ≡ (global_outcome self.old value).block }
-        ensures told { result ≡ (global_outcome self.old value).effect }
+        ensures left { self.new ≡ (after_global self.old value).block }
+        ensures told { result ≡ (after_global self.old value).effect }
     {
         if has_bit(value, 1) {
             self.enabled = true;
@@ -201,13 +199,13 @@ impl Block {
     fn write_decoder(&mut self, index: usize, d: Decoder, place: u32, value: u32) -> Effect
         requires here { index < length self.old.decoders }
         requires decoder { IsDecoder self.old.endpoint d }
-        ensures left { self.new ≡ (decoder_outcome self.old index d place value).block }
-        ensures told { result ≡ (decoder_outcome self.old index d place value).effect }
+        ensures left { self.new ≡ (after_decoder self.old index d place value).block }
+        ensures told { result ≡ (after_decoder self.old index d place value).effect }
     {
         match place {
-            7 => Effect::Dropped,
-            4 if d.committed => self.release(index, d, value),
-            4 => self.configure(index, d, value),
+            RESERVED => Effect::Dropped,
+            CONTROL if d.committed => self.release(index, d, value),
+            CONTROL => self.configure(index, d, value),
             _ if d.committed => Effect::Dropped,
             _ => {
                 self.put(index, with_word(d, self.endpoint, place, value));
@@ -220,8 +218,8 @@ impl Block {
     fn release(&mut self, index: usize, d: Decoder, value: u32) -> Effect
         requires here { index < length self.old.decoders }
         requires decoder { IsDecoder self.old.endpoint d }
-        ensures left { self.new ≡ (release_outcome self.old index d value).block }
-        ensures told { result ≡ (release_outcome self.old index d value).effect }
+        ensures left { self.new ≡ (after_release self.old index d value).block }
+        ensures told { result ≡ (after_release self.old index d value).effect }
     {
         if d.lock || has_bit(value, 9) || any_committed(&self.decoders[index + 1..]) {
             return Effect::Dropped;
@@ -239,8 +237,8 @@ impl Block {
     fn configure(&mut self, index: usize, d: Decoder, value: u32) -> Effect
         requires here { index < length self.old.decoders }
         requires decoder { IsDecoder self.old.endpoint d }
-        ensures left { self.new ≡ (control_outcome self.old index d value).block }
-        ensures told { result ≡ (control_outcome self.old index d value).effect }
+        ensures left { self.new ≡ (after_control self.old index d value).block }
+        ensures told { result ≡ (after_control self.old index d value).effect }
     {
         let d = with_control(d, value);
         if !has_bit(value, 9) {
@@ -259,8 +257,8 @@ impl Block {
     fn commit(&mut self, index: usize, d: Decoder) -> Effect
         requires here { index < length self.old.decoders }
         requires decoder { IsDecoder self.old.endpoint d }
-        ensures left { self.new ≡ (commit_outcome self.old index d (first_broken_rule self.old index d)).block }
-        ensures told { result ≡ (commit_outcome self.old index d (first_broken_rule self.old index d)).effect }
+        ensures left { self.new ≡ (after_commit self.old index d (first_broken_rule self.old index d)).block }
+        ensures told { result ≡ (after_commit self.old index d (first_broken_rule self.old index d)).effect }
     {
         let broken = self.broken_rule(index, &d);
         let marked = Decoder {
@@ -297,7 +295,7 @@ impl Block {
         if !codes_ok(self.cap, self.endpoint, d) {
             return Some(CommitRule::Codes);
         }
-        if !select_ok(self.cap, d.gran, select_bits(d.ways)) {
+        if !select_ok(self.cap, d.gran, d.select_bits()) {
             return Some(CommitRule::Select);
         }
         None
@@ -333,23 +331,6 @@ pub fn copies(alloc: Global, blocks: &[Block]) -> Result<Vec<Block>, Memory>
         copies.push(block.copy(alloc)?)?;
     }
     Ok(copies)
-}
-
-/// Which decoder stands at an offset past the head.
-fn index_at(off: u32) -> usize
-    requires { 16 ≤ off }
-    ensures { result ≡ index_at off }
-{
-    ((off - HEAD) / 0x20) as usize
-}
-
-/// Which of its decoder's eight words stands at an offset past the head.
-fn place_at(off: u32) -> usize
-    requires { 16 ≤ off }
-    ensures place { result ≡ place_at off }
-    ensures word { result < 8 }
-{
-    ((off - HEAD) % 0x20 / 4) as usize
 }
 
 fn any_committed(decoders: &[Decoder]) -> bool

@@ -13,11 +13,11 @@ pub enum Effect {
     NotCommitted(CommitRule),
 }
 
-/// The rules of a commit, in the order in which they are judged. (CXL HDM decoder commit; `Select` is
-/// this project's rule.)
+/// The rules of a commit, in the order in which they are judged. (CXL HDM decoder commit; `NotEnabled`,
+/// `ZeroSize` and `Select` are this project's rules.)
 #[derive(Clone, Copy, Debug, PartialEq, Eq)]
 pub enum CommitRule {
-    /// Decoding is not enabled.
+    /// The block is an endpoint's, and decoding is not enabled.
     NotEnabled,
     /// The size is 0.
     ZeroSize,

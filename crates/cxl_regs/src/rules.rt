@@ -1,10 +1,9 @@
 ghost use Rattle.std.specs.Prelude.{◌≡◌, ◌*◌, ◌%◌};
 ghost use Rattle.cxl_enc.specs.Caps.{decoders_code, decoders_of};
-ghost use Rattle.cxl_regs.specs.Rules.{port_ways_ok, endpoint_ways_ok, codes_ok, selects, select_ok, select_bits, breaks_order, breaks_rise};
+ghost use Rattle.cxl_regs.specs.Rules.{port_ways_ok, endpoint_ways_ok, codes_ok, selects, select_ok, breaks_order, breaks_rise};
 
 use crate::decoder::Decoder;
 use crate::words::has_bit;
-use cxl_enc::{split, ways_of};
 
 /// How many decoders a capability word states. (CXL HDM decoder capability.)
 pub fn decoder_count(cap: u32) -> u8
@@ -17,7 +16,7 @@ pub fn decoder_count(cap: u32) -> u8
 }
 
 /// Whether a block with this capability word can commit the decoder's ways and granularity codes. (CXL
-/// HDM decoder control; that a port has no more than 8 ways is this project's rule.)
+/// HDM decoder control; that a port's ways are 1, 2, 4 or 8 is this project's rule.)
 pub fn codes_ok(cap: u32, endpoint: bool, d: &Decoder) -> bool
     ensures { result ≡ codes_ok cap endpoint d.now }
 {
@@ -62,17 +61,6 @@ fn selects(cap: u32, bit: u32) -> bool
         8..=11 => has_bit(cap, 8),
         12..=14 => has_bit(cap, 9),
         _ => false,
-    }
-}
-
-/// How many address bits a decoder with this ways code selects on: the k of its ways `t * 2^k`, and 0
-/// where the code stands for none.
-pub fn select_bits(ways: u8) -> u8
-    ensures { result ≡ select_bits ways }
-{
-    match ways_of(ways) {
-        Some(ways) => split(ways).bits,
-        None => 0,
     }
 }
 

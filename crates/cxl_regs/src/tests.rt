@@ -92,6 +92,7 @@ fn a_block_and_its_words(rt: HostRuntime) -> Result<(), Fail> {
     assert_eq!(rt; words, [0, 0, 0x4000_0000, 1, 0x1610, 0, 0, 0]);
     words_stand_for_decoder();
     write_laws();
+    writes_keep_places();
     assert_eq!(rt; decoder_of(&words, true), decoder);
     let whole = Block::with_decoders(0x1b00, true, false, vec![in rt.alloc(); Decoder::RESET]?);
     assert_eq!(rt; whole.read32(0x30), None);
@@ -108,4 +109,59 @@ fn codes_and_select_bits(rt: HostRuntime) {
     assert!(rt; !codes_ok(0x382, false, &three_ways));
     assert!(rt; select_ok(0x1b02, 6, 1));
     assert!(rt; !select_ok(0x1b02, 6, 2));
+}
+
+/// A port's decoder of two ways at 512 bytes over 1 TiB.
+#[test]
+fn a_decoder_of_a_port(rt: HostRuntime) {
+    let port = Decoder {
+        base: 0x10_0000_0000,
+        size: 0x100_0000_0000,
+        ways: 1,
+        gran: 1,
+        committed: true,
+        tail: 0x0201,
+        ..Decoder::RESET
+    };
+    let range = Range {
+        base: 0x10_0000_0000,
+        size: 0x100_0000_0000,
+    };
+    assert_eq!(rt; port.interleave_ways(), 2);
+    assert_eq!(rt; port.interleave_granularity(), 512);
+    assert_eq!(rt; port.select_bits(), 1);
+    assert_eq!(rt; port.range(), range);
+    assert!(rt; port.has_range(&range));
+    assert!(rt; !Decoder::RESET.has_range(&Decoder::RESET.range()));
+    assert!(rt; port.holds_address(0x10f_ffff_ffff));
+    assert!(rt; !port.holds_address(0x110_0000_0000));
+    assert_eq!(rt; port.entry_of(0x10f_ffff_ffff), 1);
+    assert_eq!(rt; port.entry_of(0x10_0000_05ff), 0);
+    assert_eq!(rt; port.entry_at(0), 1);
+    assert_eq!(rt; port.entry_at(1), 2);
+    assert_eq!(rt; port.entry_at(8), 0);
+    assert!(rt; breaks_order(Some(Decoder::RESET)));
+    assert!(rt; breaks_rise(Some(port), &port));
+}
+
+/// An endpoint's decoder of six ways, and one with a code that stands for no ways.
+#[test]
+fn shares_of_ways(rt: HostRuntime) {
+    let six = Decoder {
+        size: 0x6000_0000,
+        ways: 9,
+        ..Decoder::RESET
+    };
+    assert_eq!(rt; six.interleave_ways(), 6);
+    assert_eq!(rt; six.select_bits(), 1);
+    assert_eq!(rt; six.span_length(), 0x1000_0000);
+    let none = Decoder { ways: 5, ..six };
+    assert_eq!(rt; none.span_length(), 0x6000_0000);
+}
+
+#[test]
+fn offsets(rt: HostRuntime) {
+    assert_eq!(rt; offset_of(0, BASE_LOW), 0x10);
+    assert_eq!(rt; offset_of(1, CONTROL), 0x40);
+    assert_eq!(rt; offset_of(3, TAIL_HIGH), 0x88);
 }

@@ -1,5 +1,6 @@
 ghost use Rattle.std.specs.Prelude.{◌≡◌, ◌<◌, ◌≤◌, ◌+◌, ◌*◌, ◌/◌, ◌%◌, ◌^◌, Bool, if◌then◌else◌};
 ghost use Rattle.cxl_enc.specs.Caps.{bit_of};
+ghost use Rattle.cxl_enc.specs.Limits.{unit};
 ghost use Rattle.cxl_regs.specs.declared.decoder.Decoder.{Decoder};
 ghost use Rattle.cxl_regs.specs.Registers.{IsDecoder};
 ghost use Rattle.cxl_regs.specs.Words.{words_of, control_of, low_half, high_half, top_bits, decoder_of, has_bit};
@@ -8,8 +9,8 @@ use crate::decoder::Decoder;
 
 /// The eight words of a decoder, from base low on. (CXL HDM decoder registers.)
 pub fn words_of(d: &Decoder) -> [u32; 8]
-    requires base { d.now.base % 2 ^ 28 ≡ 0 }
-    requires size { d.now.size % 2 ^ 28 ≡ 0 }
+    requires base { d.now.base % unit ≡ 0 }
+    requires size { d.now.size % unit ≡ 0 }
     requires ways { d.now.ways < 16 }
     requires gran { d.now.gran < 16 }
     ensures { result ≡ words_of d.now }

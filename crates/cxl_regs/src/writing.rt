@@ -3,6 +3,7 @@ ghost use Rattle.cxl_regs.specs.Registers.{IsDecoder};
 ghost use Rattle.cxl_regs.specs.Writes.{with_low, with_high, with_word, with_control};
 
 use crate::decoder::Decoder;
+use crate::offsets::{BASE_HIGH, BASE_LOW, SIZE_HIGH, SIZE_LOW, TAIL_LOW};
 use crate::words::{has_bit, high_half, joined, low_half, top_bits};
 
 /// The decoder whose word `place`, but not its control, took the bits of `value` that count.
@@ -11,23 +12,23 @@ pub fn with_word(d: Decoder, endpoint: bool, place: u32, value: u32) -> Decoder
     ensures decoder { IsDecoder endpoint d → IsDecoder endpoint result }
 {
     match place {
-        0 => Decoder {
+        BASE_LOW => Decoder {
             base: with_low(d.base, top_bits(value)),
             ..d
         },
-        1 => Decoder {
+        BASE_HIGH => Decoder {
             base: with_high(d.base, value),
             ..d
         },
-        2 => Decoder {
+        SIZE_LOW => Decoder {
             size: with_low(d.size, top_bits(value)),
             ..d
         },
-        3 => Decoder {
+        SIZE_HIGH => Decoder {
             size: with_high(d.size, value),
             ..d
         },
-        5 => Decoder {
+        TAIL_LOW => Decoder {
             tail: with_low(d.tail, if endpoint { top_bits(value) } else { value }),
             ..d
         },

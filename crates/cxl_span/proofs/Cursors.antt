@@ -1,8 +1,7 @@
 -- The cursor: the end of the last committed span.
-use Rattle.std.proofs.Common.{◌≡◌, ℕ, zero, suc, ◌+◌, ◌-◌, ◌<◌, ◌≤◌, Bool, true, false, cond, List, [], ◌∷◌, take, length, get_or, Option, Some, sum_by, refl, sym, ap, ◌∙◌, inl, inr, arith}
+use Rattle.std.proofs.Common.{◌≡◌, ℕ, zero, suc, ◌+◌, ◌-◌, ◌<◌, ◌≤◌, Bool, true, false, cond, List, [], ◌∷◌, take, length, Option, Some, sum_by, refl, sym, ap, ◌∙◌, inl, inr, arith}
 use Rattle.std.specs.Prelude.{slice_get, ◌==◌}
 use Rattle.std.specs.Option.{option_map_or}
-use Rattle.std.specs.List.{prefix_len}
 use Rattle.std.proofs.lemmas.Bool.{ne_eqb, cases_lt}
 use Rattle.std.proofs.lemmas.List.Elements.{All-from_get_or}
 use Rattle.std.proofs.lemmas.List.Folds.{list_all_at}
@@ -11,10 +10,11 @@ use Rattle.cxl_enc.specs.declared.caps.MemKind.{MemKind}
 use Rattle.cxl_enc.specs.declared.caps.MemKind.TheVariants.{Ram, Pmem}
 use Rattle.cxl_regs.specs.declared.decoder.Decoder.{Decoder}
 use Rattle.cxl_regs.specs.Registers.{Registers}
-use Rattle.cxl_span.specs.Spans.{span_step, span_length, span_start_of, span_end_of, committed_count}
-use Rattle.cxl_span.specs.Partitions.{partition_start, partition_end}
+use Rattle.cxl_regs.specs.Reading.{span_length, committed_count}
+use Rattle.cxl_span.specs.Spans.{span_step, span_start_of, span_end_of}
+use Rattle.cxl_span.specs.Partitions.{partition_end}
 use Rattle.cxl_span.specs.Breaches.{BlockKeeps}
-use Rattle.cxl_span.specs.Allotting.{is_full, cursor_of}
+use Rattle.cxl_span.specs.Allotting.{all_committed, cursor_of}
 use Rattle.cxl_span.proofs.Committed.{counted_is_committed}
 use Rattle.cxl_span.proofs.SpanLaws.{end_here, taken_same, lies_in_some, lies_in_means}
 use Rattle.cxl_span.proofs.Wholes.{at_place}
@@ -79,14 +79,14 @@ cursor_within block ram pmem keeps endpoint =
     ]
 
 -- every decoder is committed where all are counted
-pub full_from_count : (decoders : List Decoder) → committed_count decoders ≡ length decoders → is_full decoders ≡ true
+pub full_from_count : (decoders : List Decoder) → committed_count decoders ≡ length decoders → all_committed decoders ≡ true
 full_from_count [] all = refl
 full_from_count (first ∷ rest) all =
     list_all-from_AllPass (λ (x : Decoder). x.committed) (first ∷ rest)
     (All-from_get_or (λ (x : Decoder). x.committed ≡ true) (first ∷ rest) first
     (λ i within. prefix_len_passes (λ (x : Decoder). x.committed) (first ∷ rest) i first (omega arith)))
 
-pub left_from_count : (decoders : List Decoder) → committed_count decoders < length decoders → is_full decoders ≡ false
+pub left_from_count : (decoders : List Decoder) → committed_count decoders < length decoders → all_committed decoders ≡ false
 left_from_count [] some = absurd (omega arith)
 left_from_count (first ∷ rest) some =
     list_all_at (λ (x : Decoder). x.committed) (first ∷ rest) (committed_count (first ∷ rest)) first some

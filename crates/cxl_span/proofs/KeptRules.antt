@@ -1,15 +1,17 @@
 -- What each rule says of a committed decoder of a block that keeps the rules.
-use Rattle.std.proofs.Common.{◌≡◌, ℕ, ◌+◌, ◌*◌, ◌%◌, ◌^◌, ◌<◌, ◌≤◌, Bool, true, false, not, ◌&&◌, ◌||◌, List, take, Option, Some, sum_by, refl, sym, ap, ◌∙◌, arith}
+use Rattle.std.proofs.Common.{◌≡◌, ℕ, ◌+◌, ◌%◌, ◌<◌, ◌≤◌, Bool, true, false, not, ◌&&◌, ◌||◌, take, Option, Some, sum_by, refl, sym, ap, ◌∙◌, arith}
 use Rattle.std.specs.Prelude.{slice_get, ◌==◌, nat_lt}
 use Rattle.std.proofs.lemmas.Bool.{eqb-true, eqb-false, ltb-false}
 use Rattle.cxl_enc.specs.declared.caps.MemKind.TheVariants.{Ram, Pmem}
+use Rattle.cxl_enc.specs.Limits.{address_limit}
 use Rattle.cxl_regs.specs.declared.decoder.Decoder.{Decoder}
 use Rattle.cxl_regs.specs.Registers.{Registers}
-use Rattle.cxl_regs.specs.Rules.{before, breaks_rise, breaks_order}
-use Rattle.cxl_span.specs.Spans.{span_step, span_length, decoder_ways}
+use Rattle.cxl_regs.specs.Rules.{before}
+use Rattle.cxl_regs.specs.Reading.{span_length}
+use Rattle.cxl_span.specs.Spans.{span_step}
 use Rattle.cxl_span.specs.Partitions.{lies_in}
 use Rattle.cxl_span.specs.Rules.{breaks_rule, size_unit}
-use Rattle.cxl_span.specs.Breaches.{breaks, BlockKeeps}
+use Rattle.cxl_span.specs.Breaches.{BlockKeeps}
 use Rattle.cxl_span.proofs.BreaksAt.{breaks_here, before_next}
 
 -- tests that fail
@@ -59,12 +61,12 @@ rises_from_one block ram pmem i j b d keeps next at_b at_d committed =
 
 -- K6, part by part
 size_parts : (block : Registers) (ram pmem i : ℕ) (d : Decoder) → BlockKeeps block ram pmem → slice_get block.decoders i ≡ Some d → d.committed ≡ true
-    → ((d.size == 0) ≡ false) × (nat_lt (2 ^ 52) (d.base + d.size) ≡ false) × ((block.endpoint && not (d.size % size_unit d == 0)) ≡ false)
+    → ((d.size == 0) ≡ false) × (nat_lt address_limit (d.base + d.size) ≡ false) × ((block.endpoint && not (d.size % size_unit d == 0)) ≡ false)
 size_parts block ram pmem i d keeps here committed =
-    let all = and_false d.committed ((d.size == 0) || nat_lt (2 ^ 52) (d.base + d.size) || (block.endpoint && not (d.size % size_unit d == 0)))
+    let all = and_false d.committed ((d.size == 0) || nat_lt address_limit (d.base + d.size) || (block.endpoint && not (d.size % size_unit d == 0)))
     (kept_here 6 block ram pmem i d keeps here) committed in
-    let last = or_false ((d.size == 0) || nat_lt (2 ^ 52) (d.base + d.size)) (block.endpoint && not (d.size % size_unit d == 0)) all in
-    let first = or_false (d.size == 0) (nat_lt (2 ^ 52) (d.base + d.size)) last.0 in
+    let last = or_false ((d.size == 0) || nat_lt address_limit (d.base + d.size)) (block.endpoint && not (d.size % size_unit d == 0)) all in
+    let first = or_false (d.size == 0) (nat_lt address_limit (d.base + d.size)) last.0 in
     (first.0, first.1, last.1)
 
 pub size_some : (block : Registers) (ram pmem i : ℕ) (d : Decoder) → BlockKeeps block ram pmem → slice_get block.decoders i ≡ Some d → d.committed ≡ true
@@ -73,8 +75,8 @@ size_some block ram pmem i d keeps here committed =
     let none = eqb-false d.size 0 (size_parts block ram pmem i d keeps here committed).0 in omega arith
 
 pub size_ends : (block : Registers) (ram pmem i : ℕ) (d : Decoder) → BlockKeeps block ram pmem → slice_get block.decoders i ≡ Some d → d.committed ≡ true
-    → d.base + d.size ≤ 2 ^ 52
-size_ends block ram pmem i d keeps here committed = ltb-false (2 ^ 52) (d.base + d.size) (size_parts block ram pmem i d keeps here committed).1
+    → d.base + d.size ≤ address_limit
+size_ends block ram pmem i d keeps here committed = ltb-false address_limit (d.base + d.size) (size_parts block ram pmem i d keeps here committed).1
 
 pub size_even : (block : Registers) (ram pmem i : ℕ) (d : Decoder) → BlockKeeps block ram pmem → slice_get block.decoders i ≡ Some d → d.committed ≡ true
     → block.endpoint ≡ true → d.size % size_unit d ≡ 0

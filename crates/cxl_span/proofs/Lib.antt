@@ -1,7 +1,9 @@
 pub mod Sums
+pub mod Turns
 pub mod BreaksAt
 pub mod KeptRules
 pub mod Committed
+pub mod OneHolder
 pub mod SpanLaws
 pub mod Wholes
 pub mod Cursors

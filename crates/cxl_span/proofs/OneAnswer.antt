@@ -2,20 +2,20 @@
 use Rattle.std.proofs.Common.{◌≡◌, ℕ, ◌+◌, ◌-◌, ◌<◌, ◌≤◌, ◌↔◌, Bool, true, false, max, List, Result, Ok, Err, refl, sym, ap, ◌∙◌, subst, inl, inr, arith}
 use Rattle.std.proofs.lemmas.Bool.{cases_lt}
 use Rattle.cxl_enc.specs.declared.caps.MemKind.{MemKind}
-use Rattle.cxl_enc.specs.declared.caps.MemKind.TheVariants.{Ram, Pmem}
+use Rattle.cxl_enc.specs.declared.caps.MemKind.TheVariants.{Ram}
 use Rattle.cxl_regs.specs.declared.decoder.Decoder.{Decoder}
 use Rattle.cxl_span.specs.declared.allotting.Span.{Span}
 use Rattle.cxl_span.specs.declared.allotting.Room.{Room}
 use Rattle.cxl_span.specs.declared.allotting.SpanFault.{SpanFault}
 use Rattle.cxl_span.specs.declared.allotting.SpanFault.TheVariants.{NoDecoder, PastRam, NoRoom}
 use Rattle.cxl_span.specs.Partitions.{partition_start, partition_end}
-use Rattle.cxl_span.specs.Allotting.{is_full, cursor_of, CanStart, IsLeastSpan, IsPastRam, HasNoRoom, Allots}
+use Rattle.cxl_span.specs.Allotting.{all_committed, cursor_of, CanStart, IsLeastSpan, IsPastRam, HasNoRoom, Allots}
 use Rattle.cxl_span.proofs.SpanLaws.{lies_in_means, lies_in_from}
 
 clash : true ≡ false → ⊥
 clash e = cc
 
-full_and_left : (decoders : List Decoder) → is_full decoders ≡ true → is_full decoders ≡ false → ⊥
+full_and_left : (decoders : List Decoder) → all_committed decoders ≡ true → all_committed decoders ≡ false → ⊥
 full_and_left decoders full left = clash (sym full ∙ left)
 
 -- where ram is asked for and the cursor stands past it, no span can start
@@ -93,7 +93,7 @@ exactly decoders ram pmem kind len a allowed b =
     ((λ e. subst (Allots decoders ram pmem kind len) e allowed), (λ other. one_answer decoders ram pmem kind len a b allowed other))
 
 -- the least start is the cursor, or where the partition begins
-pub least_is_max : (decoders : List Decoder) (ram pmem : ℕ) (kind : MemKind) (len cursor start : ℕ) → is_full decoders ≡ false → cursor ≡ cursor_of decoders
+pub least_is_max : (decoders : List Decoder) (ram pmem : ℕ) (kind : MemKind) (len cursor start : ℕ) → all_committed decoders ≡ false → cursor ≡ cursor_of decoders
     → start ≡ max cursor (partition_start kind ram) → start + len ≤ partition_end kind ram pmem
     → IsLeastSpan decoders ram pmem kind len record { skip = start - cursor; start = start; len = len }
 least_is_max decoders ram pmem kind len cursor start left at least fits =

@@ -1,20 +1,18 @@
 -- Spans follow each other, in whole units, and each lies in one partition.
-use Rattle.std.proofs.Common.{◌≡◌, ℕ, zero, suc, ◌+◌, ◌-◌, ◌*◌, ◌/◌, ◌%◌, ◌^◌, ◌<◌, ◌≤◌, ◌⊎◌, Bool, true, false, not, ◌&&◌, ◌||◌, List, [], ◌∷◌, take, length, get_or, Option, Some, sum_by, refl, sym, ap, ◌∙◌, inl, inr, arith}
-use Rattle.std.specs.Prelude.{slice_get, nat_le, IsTrue, All}
+use Rattle.std.proofs.Common.{◌≡◌, ℕ, zero, suc, ◌+◌, ◌<◌, ◌≤◌, ◌⊎◌, Bool, true, false, ◌||◌, List, [], ◌∷◌, take, length, get_or, Some, sum_by, refl, ap, ◌∙◌, inl, inr, arith}
+use Rattle.std.specs.Prelude.{slice_get, nat_le, IsTrue}
 use Rattle.std.proofs.lemmas.Bool.{cases_lt, leb-true, le-leb}
-use Rattle.std.proofs.lemmas.Option.{slice_get_within, slice_get-get_or}
-use Rattle.std.proofs.Math.Nat.{mul-div_cancel_left}
+use Rattle.std.proofs.lemmas.Option.{slice_get-get_or}
 use Rattle.cxl_enc.specs.declared.caps.MemKind.{MemKind}
 use Rattle.cxl_enc.specs.declared.caps.MemKind.TheVariants.{Ram, Pmem}
 use Rattle.cxl_regs.specs.declared.decoder.Decoder.{Decoder}
-use Rattle.cxl_regs.specs.Registers.{Registers, IsBlock, IsDecoder}
-use Rattle.cxl_span.specs.Spans.{span_step, span_length, span_start_of, span_end_of, decoder_ways}
+use Rattle.cxl_regs.specs.Registers.{Registers}
+use Rattle.cxl_regs.specs.Reading.{span_length}
+use Rattle.cxl_span.specs.Spans.{span_step, span_start_of, span_end_of}
 use Rattle.cxl_span.specs.Partitions.{lies_in, partition_start, partition_end}
-use Rattle.cxl_span.specs.Rules.{size_unit}
 use Rattle.cxl_span.specs.Breaches.{BlockKeeps}
 use Rattle.cxl_span.proofs.Sums.{taken_more}
-use Rattle.cxl_span.proofs.KeptRules.{and_true, size_some, size_even, in_ram_or_pmem}
-use Rattle.cxl_span.proofs.Committed.{committed_before, one_below}
+use Rattle.cxl_span.proofs.KeptRules.{and_true, in_ram_or_pmem}
 
 pub start_here : (decoders : List Decoder) (i : ℕ) (d : Decoder) → slice_get decoders i ≡ Some d
     → span_start_of decoders i ≡ sum_by span_step (take i decoders) + d.tail

@@ -1,14 +1,16 @@
 -- Spans of an endpoint are whole units of 256 MiB, and stand at multiples of them.
-use Rattle.std.proofs.Common.{◌≡◌, ℕ, zero, suc, ◌+◌, ◌-◌, ◌*◌, ◌/◌, ◌%◌, ◌^◌, ◌<◌, ◌≤◌, Bool, true, false, cond, List, [], ◌∷◌, take, length, get_or, Option, Some, None, sum_by, refl, sym, ap, ◌∙◌, arith}
+use Rattle.std.proofs.Common.{◌≡◌, ℕ, zero, suc, ◌+◌, ◌-◌, ◌*◌, ◌/◌, ◌%◌, ◌^◌, ◌<◌, ◌≤◌, Bool, true, false, cond, List, [], ◌∷◌, take, length, get_or, Some, None, sum_by, refl, sym, ap, ◌∙◌, arith}
 use Rattle.std.specs.Prelude.{slice_get, nat_lt, nat_le, unwrap_or, ◌&&◌}
 use Rattle.std.proofs.lemmas.Nat.{pow_pos}
 use Rattle.std.proofs.lemmas.Option.{slice_get_within, slice_get-get_or, get_or_from_slice_get}
 use Rattle.std.proofs.lemmas.List.Elements.{All-get_or}
 use Rattle.std.proofs.lemmas.List.Sums.{prefix_len-le-length}
 use Rattle.std.proofs.Math.Nat.{mul-div_cancel_left}
+use Rattle.cxl_enc.specs.Limits.{unit}
 use Rattle.cxl_regs.specs.declared.decoder.Decoder.{Decoder}
 use Rattle.cxl_regs.specs.Registers.{Registers, IsBlock, IsDecoder}
-use Rattle.cxl_span.specs.Spans.{span_step, span_length, span_start_of, decoder_ways, committed_count}
+use Rattle.cxl_regs.specs.Reading.{span_length, decoder_ways, committed_count}
+use Rattle.cxl_span.specs.Spans.{span_step, span_start_of}
 use Rattle.cxl_span.specs.Rules.{size_unit}
 use Rattle.cxl_span.specs.Breaches.{BlockKeeps}
 use Rattle.cxl_span.proofs.Sums.{taken_more}
@@ -27,36 +29,36 @@ ways_some d =
     positive_of (nat_lt d.ways 5) (nat_le 8 d.ways && nat_lt d.ways 11) (2 ^ d.ways) (3 * 2 ^ (d.ways - 8)) (pow_pos d.ways) (omega (arith, power))
 
 -- a share of so many whole units
-share : (size w : ℕ) → 0 < w → size % (2 ^ 28 * w) ≡ 0 → size / w ≡ 2 ^ 28 * (size / (2 ^ 28 * w))
+share : (size w : ℕ) → 0 < w → size % (unit * w) ≡ 0 → size / w ≡ unit * (size / (unit * w))
 share size w some even =
-    let unit : ℕ = 2 ^ 28 * w in
-    let q : ℕ = size / unit in
-    let unit_some : 0 < unit = omega arith in
-    let parts : unit * q + size % unit ≡ size = omega arith in
-    let whole : size ≡ w * (2 ^ 28 * q) = omega (arith, parts, even) in
-    ap (λ (n : ℕ). n / w) whole ∙ mul-div_cancel_left (2 ^ 28 * q) some
+    let units : ℕ = unit * w in
+    let q : ℕ = size / units in
+    let some_units : 0 < units = omega arith in
+    let parts : units * q + size % units ≡ size = omega arith in
+    let whole : size ≡ w * (unit * q) = omega (arith, parts, even) in
+    ap (λ (n : ℕ). n / w) whole ∙ mul-div_cancel_left (unit * q) some
 
 pub length_units : (block : Registers) (ram pmem i : ℕ) (d : Decoder) → BlockKeeps block ram pmem → block.endpoint ≡ true
-    → slice_get block.decoders i ≡ Some d → d.committed ≡ true → span_length d ≡ 2 ^ 28 * (d.size / size_unit d)
+    → slice_get block.decoders i ≡ Some d → d.committed ≡ true → span_length d ≡ unit * (d.size / size_unit d)
 length_units block ram pmem i d keeps endpoint here committed =
     share d.size (decoder_ways d) (ways_some d) (size_even block ram pmem i d keeps here committed endpoint)
 
 pub length_aligned : (block : Registers) (ram pmem i : ℕ) (d : Decoder) → BlockKeeps block ram pmem → block.endpoint ≡ true
-    → slice_get block.decoders i ≡ Some d → d.committed ≡ true → span_length d % 2 ^ 28 ≡ 0
+    → slice_get block.decoders i ≡ Some d → d.committed ≡ true → span_length d % unit ≡ 0
 length_aligned block ram pmem i d keeps endpoint here committed =
     let units = length_units block ram pmem i d keeps endpoint here committed in
     let q : ℕ = d.size / size_unit d in
-    let even : (2 ^ 28 * q) % 2 ^ 28 ≡ 0 = omega arith in
-    ap (λ (n : ℕ). n % 2 ^ 28) units ∙ even
+    let even : (unit * q) % unit ≡ 0 = omega arith in
+    ap (λ (n : ℕ). n % unit) units ∙ even
 
 -- the shares of all ways make the size
-shares_whole : (size w : ℕ) → 0 < w → size % (2 ^ 28 * w) ≡ 0 → size / w * w ≡ size
+shares_whole : (size w : ℕ) → 0 < w → size % (unit * w) ≡ 0 → size / w * w ≡ size
 shares_whole size w some even =
-    let q : ℕ = size / (2 ^ 28 * w) in
-    let unit_some : 0 < 2 ^ 28 * w = omega arith in
-    let parts : 2 ^ 28 * w * q + size % (2 ^ 28 * w) ≡ size = omega arith in
+    let q : ℕ = size / (unit * w) in
+    let unit_some : 0 < unit * w = omega arith in
+    let parts : unit * w * q + size % (unit * w) ≡ size = omega arith in
     let one = share size w some even in
-    let times : size / w * w ≡ 2 ^ 28 * q * w = ap (λ (n : ℕ). n * w) one in
+    let times : size / w * w ≡ unit * q * w = ap (λ (n : ℕ). n * w) one in
     omega (arith, times, parts, even)
 
 pub length_times_ways : (block : Registers) (ram pmem i : ℕ) (d : Decoder) → BlockKeeps block ram pmem → block.endpoint ≡ true
@@ -74,19 +76,19 @@ length_some block ram pmem i d keeps endpoint here committed =
     none_of_nothing (span_length d) (decoder_ways d) d.size (length_times_ways block ram pmem i d keeps endpoint here committed)
     (size_some block ram pmem i d keeps here committed)
 
-skip_aligned : (block : Registers) (i : ℕ) (d : Decoder) → IsBlock block → block.endpoint ≡ true → slice_get block.decoders i ≡ Some d → d.tail % 2 ^ 28 ≡ 0
+skip_aligned : (block : Registers) (i : ℕ) (d : Decoder) → IsBlock block → block.endpoint ≡ true → slice_get block.decoders i ≡ Some d → d.tail % unit ≡ 0
 skip_aligned block i d is endpoint here =
     let each = All-get_or (IsDecoder block.endpoint) block.decoders i d (slice_get_within block.decoders i d here) is.each in
-    ap (λ (x : Decoder). x.tail % 2 ^ 28) (sym (get_or_from_slice_get block.decoders i d d here)) ∙ each.skip endpoint
+    ap (λ (x : Decoder). x.tail % unit) (sym (get_or_from_slice_get block.decoders i d d here)) ∙ each.skip endpoint
 
-aligned_sum : (a b c : ℕ) → a % 2 ^ 28 ≡ 0 → b % 2 ^ 28 ≡ 0 → c % 2 ^ 28 ≡ 0 → (a + (b + c)) % 2 ^ 28 ≡ 0
+aligned_sum : (a b c : ℕ) → a % unit ≡ 0 → b % unit ≡ 0 → c % unit ≡ 0 → (a + (b + c)) % unit ≡ 0
 aligned_sum a b c p q r = omega arith
 
 taken_aligned_more : (block : Registers) (ram pmem : ℕ) → IsBlock block → BlockKeeps block ram pmem → block.endpoint ≡ true
     → (i : ℕ) (d : Decoder) → slice_get block.decoders i ≡ Some d → d.committed ≡ true
-    → sum_by span_step (take i block.decoders) % 2 ^ 28 ≡ 0 → sum_by span_step (take (i + 1) block.decoders) % 2 ^ 28 ≡ 0
+    → sum_by span_step (take i block.decoders) % unit ≡ 0 → sum_by span_step (take (i + 1) block.decoders) % unit ≡ 0
 taken_aligned_more block ram pmem is keeps endpoint i d here committed so_far =
-    ap (λ (n : ℕ). n % 2 ^ 28) (taken_more block.decoders i d here)
+    ap (λ (n : ℕ). n % unit) (taken_more block.decoders i d here)
     ∙ aligned_sum (sum_by span_step (take i block.decoders)) d.tail (span_length d) so_far (skip_aligned block i d is endpoint here)
     (length_aligned block ram pmem i d keeps endpoint here committed)
 
@@ -95,26 +97,26 @@ pub at_place : (decoders : List Decoder) (i : ℕ) → i < length decoders → (
 at_place [] i within = absurd (omega arith)
 at_place (first ∷ rest) i within = (get_or (first ∷ rest) i first, slice_get-get_or (first ∷ rest) i first within)
 
-aligned_two : (a b : ℕ) → a % 2 ^ 28 ≡ 0 → b % 2 ^ 28 ≡ 0 → (a + b) % 2 ^ 28 ≡ 0
+aligned_two : (a b : ℕ) → a % unit ≡ 0 → b % unit ≡ 0 → (a + b) % unit ≡ 0
 aligned_two a b p q = omega arith
 
 -- what committed decoders skip and take is whole
 pub taken_aligned : (block : Registers) (ram pmem : ℕ) → IsBlock block → BlockKeeps block ram pmem → block.endpoint ≡ true
-    → (i : ℕ) → i ≤ committed_count block.decoders → sum_by span_step (take i block.decoders) % 2 ^ 28 ≡ 0
+    → (i : ℕ) → i ≤ committed_count block.decoders → sum_by span_step (take i block.decoders) % unit ≡ 0
 taken_aligned block ram pmem is keeps endpoint zero counted = refl
 taken_aligned block ram pmem is keeps endpoint (suc i) counted =
     let few = prefix_len-le-length (λ (x : Decoder). x.committed) block.decoders in
     let (d, here) = at_place block.decoders i (omega arith) in
     let next : suc i ≡ i + 1 = omega arith in
-    ap (λ (n : ℕ). n % 2 ^ 28) (taken_same block.decoders (suc i) (i + 1) next)
+    ap (λ (n : ℕ). n % unit) (taken_same block.decoders (suc i) (i + 1) next)
     ∙ taken_aligned_more block ram pmem is keeps endpoint i d here (counted_is_committed block.decoders i d here (omega arith))
     (taken_aligned block ram pmem is keeps endpoint i (omega arith))
 
 pub start_aligned : (block : Registers) (ram pmem i : ℕ) (d : Decoder) → IsBlock block → BlockKeeps block ram pmem → block.endpoint ≡ true
-    → slice_get block.decoders i ≡ Some d → d.committed ≡ true → span_start_of block.decoders i % 2 ^ 28 ≡ 0
+    → slice_get block.decoders i ≡ Some d → d.committed ≡ true → span_start_of block.decoders i % unit ≡ 0
 start_aligned block ram pmem i d is keeps endpoint here committed =
     let counted = committed_is_counted block ram pmem keeps i d here committed in
     let taken = taken_aligned block ram pmem is keeps endpoint i (omega arith) in
     let skip = skip_aligned block i d is endpoint here in
-    ap (λ (n : ℕ). n % 2 ^ 28) (start_here block.decoders i d here)
+    ap (λ (n : ℕ). n % unit) (start_here block.decoders i d here)
     ∙ aligned_two (sum_by span_step (take i block.decoders)) d.tail taken skip

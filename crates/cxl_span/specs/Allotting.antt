@@ -4,16 +4,17 @@ use Rattle.std.specs.List.{list_all}
 use Rattle.cxl_enc.specs.declared.caps.MemKind.{MemKind}
 use Rattle.cxl_enc.specs.declared.caps.MemKind.TheVariants.{Ram}
 use Rattle.cxl_regs.specs.declared.decoder.Decoder.{Decoder}
+use Rattle.cxl_regs.specs.Reading.{committed_count}
 use Rattle.cxl_span.specs.declared.allotting.Span.{Span}
 use Rattle.cxl_span.specs.declared.allotting.Room.{Room}
 use Rattle.cxl_span.specs.declared.allotting.SpanFault.{SpanFault}
 use Rattle.cxl_span.specs.declared.allotting.SpanFault.TheVariants.{NoDecoder, PastRam, NoRoom}
-use Rattle.cxl_span.specs.Spans.{committed_count, span_end_of}
+use Rattle.cxl_span.specs.Spans.{span_end_of}
 use Rattle.cxl_span.specs.Partitions.{partition_start, partition_end, lies_in}
 
 -- every decoder is committed
-abbrev pub is_full : List Decoder → Bool
-is_full decoders = list_all (λ d. d.committed) decoders
+abbrev pub all_committed : List Decoder → Bool
+all_committed decoders = list_all (λ d. d.committed) decoders
 
 -- the end of the last committed span, or 0 where none is committed
 abbrev pub cursor_of : List Decoder → ℕ
@@ -26,7 +27,7 @@ pub record CanStart (decoders : List Decoder) (ram pmem : ℕ) (kind : MemKind) 
 
 -- a decoder is left, and the span has the least start that it can have
 pub record IsLeastSpan (decoders : List Decoder) (ram pmem : ℕ) (kind : MemKind) (len : ℕ) (span : Span) : Type 0 where
-  pub left : is_full decoders ≡ false
+  pub left : all_committed decoders ≡ false
   pub can_start : CanStart decoders ram pmem kind len span.start
   pub least : (start : ℕ) → CanStart decoders ram pmem kind len start → span.start ≤ start
   pub skip : cursor_of decoders + span.skip ≡ span.start
@@ -34,14 +35,14 @@ pub record IsLeastSpan (decoders : List Decoder) (ram pmem : ℕ) (kind : MemKin
 
 -- a decoder is left, and the cursor stands past the ram that is asked for
 pub record IsPastRam (decoders : List Decoder) (ram : ℕ) (kind : MemKind) (cursor : ℕ) : Type 0 where
-  pub left : is_full decoders ≡ false
+  pub left : all_committed decoders ≡ false
   pub of_ram : kind ≡ Ram
   pub past : ram < cursor
   pub told : cursor ≡ cursor_of decoders
 
 -- a decoder is left, the cursor is not past ram where that is asked for, and the span would end past its partition
 pub record HasNoRoom (decoders : List Decoder) (ram pmem : ℕ) (kind : MemKind) (len : ℕ) (room : Room) : Type 0 where
-  pub left : is_full decoders ≡ false
+  pub left : all_committed decoders ≡ false
   pub not_past : kind ≡ Ram → cursor_of decoders ≤ ram
   pub start : room.start ≡ max (cursor_of decoders) (partition_start kind ram)
   pub limit : room.limit ≡ partition_end kind ram pmem
@@ -50,6 +51,6 @@ pub record HasNoRoom (decoders : List Decoder) (ram pmem : ℕ) (kind : MemKind)
 -- the answer to a call that asks for a span
 abbrev pub Allots : List Decoder → ℕ → ℕ → MemKind → ℕ → Result Span SpanFault → Type 0
 Allots decoders ram pmem kind len (Ok span) = IsLeastSpan decoders ram pmem kind len span
-Allots decoders ram pmem kind len (Err NoDecoder) = is_full decoders ≡ true
+Allots decoders ram pmem kind len (Err NoDecoder) = all_committed decoders ≡ true
 Allots decoders ram pmem kind len (Err (PastRam cursor)) = IsPastRam decoders ram kind cursor
 Allots decoders ram pmem kind len (Err (NoRoom room)) = HasNoRoom decoders ram pmem kind len room

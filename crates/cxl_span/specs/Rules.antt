@@ -1,10 +1,11 @@
 -- The rules K2 to K8 of a block, each as a test whether one of its decoders breaks it (this project's rules).
-use Rattle.std.specs.Prelude.{ℕ, ◌+◌, ◌*◌, ◌%◌, ◌^◌, ◌==◌, nat_lt, Bool, false, not, ◌&&◌, ◌||◌, if◌then◌else◌, Option}
+use Rattle.std.specs.Prelude.{ℕ, ◌+◌, ◌*◌, ◌%◌, ◌==◌, nat_lt, Bool, false, not, ◌&&◌, ◌||◌, if◌then◌else◌, Option}
 use Rattle.cxl_enc.specs.declared.caps.MemKind.TheVariants.{Ram, Pmem}
+use Rattle.cxl_enc.specs.Limits.{unit, address_limit}
 use Rattle.cxl_regs.specs.declared.decoder.Decoder.{Decoder}
 use Rattle.cxl_regs.specs.Registers.{Registers}
-use Rattle.cxl_regs.specs.Rules.{codes_ok, select_ok, select_bits, breaks_order, breaks_rise}
-use Rattle.cxl_span.specs.Spans.{decoder_ways, span_length}
+use Rattle.cxl_regs.specs.Rules.{codes_ok, select_ok, breaks_order, breaks_rise}
+use Rattle.cxl_regs.specs.Reading.{select_bits, decoder_ways, span_length}
 use Rattle.cxl_span.specs.Partitions.{lies_in}
 
 -- K2: a committed decoder whose predecessor is not committed, or whose block does not decode
@@ -25,12 +26,12 @@ breaks_select block d = d.committed && not (select_ok block.cap d.gran (select_b
 
 -- 256 MiB for each of the ways
 abbrev pub size_unit : Decoder → ℕ
-size_unit d = 2 ^ 28 * decoder_ways d
+size_unit d = unit * decoder_ways d
 
--- K6: a committed decoder with no bytes, or that ends past 2 ^ 52, or an endpoint's with uneven shares
+-- K6: a committed decoder with no bytes, or that ends past the address limit, or an endpoint's with uneven shares
 abbrev pub breaks_size : Registers → Decoder → Bool
 breaks_size block d =
-    d.committed && ((d.size == 0) || nat_lt (2 ^ 52) (d.base + d.size) || (block.endpoint && not (d.size % size_unit d == 0)))
+    d.committed && ((d.size == 0) || nat_lt address_limit (d.base + d.size) || (block.endpoint && not (d.size % size_unit d == 0)))
 
 -- K7: a committed decoder whose base lies below the end of the one before
 abbrev pub breaks_base_order : Option Decoder → Decoder → Bool

@@ -1,9 +1,10 @@
 ghost use Rattle.std.specs.Prelude.{◌≡◌, ◌+◌, ◌%◌, ◌^◌, ◌<◌, ◌≤◌, ◌⊎◌, ℕ, ◌↔◌, true, Result, IfOk, OnErr};
+ghost use Rattle.cxl_enc.specs.Limits.{unit, address_limit};
 ghost use Rattle.cxl_regs.specs.Registers.{IsBlock};
-ghost use Rattle.cxl_span.specs.Spans.{committed_count};
+ghost use Rattle.cxl_regs.specs.Reading.{committed_count};
 ghost use Rattle.cxl_span.specs.Partitions.{partition_start, partition_end};
 ghost use Rattle.cxl_span.specs.Breaches.{BlockKeeps};
-ghost use Rattle.cxl_span.specs.Allotting.{is_full, cursor_of, CanStart, Allots};
+ghost use Rattle.cxl_span.specs.Allotting.{all_committed, cursor_of, CanStart, Allots};
 
 use crate::spans::taken_before;
 use cxl_enc::MemKind;
@@ -46,15 +47,15 @@ pub enum SpanFault {
 pub fn allot(block: &Block, ram: u64, pmem: u64, kind: MemKind, len: u64) -> Result<Span, SpanFault>
     requires endpoint { block.now.endpoint ≡ true }
     requires keeps { BlockKeeps block.now ram pmem }
-    requires capacity { ram + pmem ≤ 2 ^ 52 }
-    requires short { len ≤ 2 ^ 52 }
+    requires capacity { ram + pmem ≤ address_limit }
+    requires short { len ≤ address_limit }
     // The answer is the one that the rules allow, and no other.
     ensures exact { (answer : Result Span SpanFault) → (result ≡ answer) ↔ Allots block.now.decoders ram pmem kind len answer }
     // It is refused only where no decoder is left or no span of this length can start.
-    ensures refused { OnErr result ((is_full block.now.decoders ≡ true)
+    ensures refused { OnErr result ((all_committed block.now.decoders ≡ true)
         ⊎ ((start : ℕ) → CanStart block.now.decoders ram pmem kind len start → ⊥)) }
     // Where ram is a multiple of 256 MiB, so are start and skip.
-    ensures aligned { ram % 2 ^ 28 ≡ 0 → IfOk result (λ span. (span.start % 2 ^ 28 ≡ 0) × (span.skip % 2 ^ 28 ≡ 0)) }
+    ensures aligned { ram % unit ≡ 0 → IfOk result (λ span. (span.start % unit ≡ 0) × (span.skip % unit ≡ 0)) }
 {
     let committed = block.committed();
     if committed == block.count() {
@@ -80,12 +81,12 @@ pub fn allot(block: &Block, ram: u64, pmem: u64, kind: MemKind, len: u64) -> Res
 fn cursor(block: &Block, committed: u8, ram: u64, pmem: u64) -> u64
     requires endpoint { block.now.endpoint ≡ true }
     requires keeps { BlockKeeps block.now ram pmem }
-    requires capacity { ram + pmem ≤ 2 ^ 52 }
+    requires capacity { ram + pmem ≤ address_limit }
     requires block { IsBlock block.now }
     requires counted { committed ≡ committed_count block.now.decoders }
     ensures value { result ≡ cursor_of block.now.decoders }
-    ensures within { result ≤ 2 ^ 52 }
-    ensures aligned { result % 2 ^ 28 ≡ 0 }
+    ensures within { result ≤ address_limit }
+    ensures aligned { result % unit ≡ 0 }
 {
     taken_before(block, committed) as u64
 }
@@ -110,7 +111,7 @@ fn partition_start(kind: MemKind, ram: u64) -> u64
 }
 
 fn partition_end(kind: MemKind, ram: u64, pmem: u64) -> u64
-    requires { ram + pmem ≤ 2 ^ 52 }
+    requires { ram + pmem ≤ address_limit }
     ensures { result ≡ partition_end kind ram pmem }
 {
     match kind {

@@ -2,9 +2,12 @@
 
 ghost use Rattle.std.specs.Prelude.{◌≡◌, ◌↔◌, ℕ, ◌+◌, ◌*◌, ◌%◌, ◌^◌, ◌<◌, ◌≤◌, true, List, length, Some, slice_get};
 ghost use Rattle.cxl_enc.specs.declared.caps.MemKind.{MemKind};
+ghost use Rattle.cxl_enc.specs.Limits.{unit, address_limit};
 ghost use Rattle.cxl_regs.specs.declared.decoder.Decoder.{Decoder};
+ghost use Rattle.cxl_regs.specs.declared.reading.Range.{Range};
 ghost use Rattle.cxl_regs.specs.Registers.{Registers, IsBlock};
-ghost use Rattle.cxl_span.specs.Spans.{decoder_ways, span_length, span_start_of, span_end_of, committed_count};
+ghost use Rattle.cxl_regs.specs.Reading.{decoder_ways, span_length, committed_count, holds_address, has_range};
+ghost use Rattle.cxl_span.specs.Spans.{span_start_of, span_end_of};
 ghost use Rattle.cxl_span.specs.Partitions.{lies_in};
 ghost use Rattle.cxl_span.specs.Breaches.{BlockKeeps};
 
@@ -27,7 +30,17 @@ pub fn ranges_rise()
     ensures some { (block : Registers) (ram pmem i : ℕ) (d : Decoder) → BlockKeeps block ram pmem
         → slice_get block.decoders i ≡ Some d → d.committed ≡ true → 0 < d.size }
     ensures ends { (block : Registers) (ram pmem i : ℕ) (d : Decoder) → BlockKeeps block ram pmem
-        → slice_get block.decoders i ≡ Some d → d.committed ≡ true → d.base + d.size ≤ 2 ^ 52 }
+        → slice_get block.decoders i ≡ Some d → d.committed ≡ true → d.base + d.size ≤ address_limit }
+{}
+
+/// A law of blocks: an address is held by one decoder at the most, and a range is that of one at the most.
+pub fn one_holder()
+    ensures address { (block : Registers) (ram pmem i j h : ℕ) (d e : Decoder) → BlockKeeps block ram pmem
+        → slice_get block.decoders i ≡ Some d → slice_get block.decoders j ≡ Some e
+        → holds_address d h ≡ true → holds_address e h ≡ true → i ≡ j }
+    ensures range { (block : Registers) (ram pmem i j : ℕ) (r : Range) (d e : Decoder) → BlockKeeps block ram pmem
+        → slice_get block.decoders i ≡ Some d → slice_get block.decoders j ≡ Some e
+        → has_range r d ≡ true → has_range r e ≡ true → i ≡ j }
 {}
 
 /// A law of spans: each ends at or below the start of every later one, so no two share a byte.
@@ -61,9 +74,9 @@ pub fn spans_are_whole()
         → span_length d * decoder_ways d ≡ d.size }
     ensures length_aligned { (block : Registers) (ram pmem i : ℕ) (d : Decoder) → BlockKeeps block ram pmem
         → block.endpoint ≡ true → slice_get block.decoders i ≡ Some d → d.committed ≡ true
-        → span_length d % 2 ^ 28 ≡ 0 }
+        → span_length d % unit ≡ 0 }
     ensures start_aligned { (block : Registers) (ram pmem i : ℕ) (d : Decoder) → IsBlock block
         → BlockKeeps block ram pmem → block.endpoint ≡ true
         → slice_get block.decoders i ≡ Some d → d.committed ≡ true
-        → span_start_of block.decoders i % 2 ^ 28 ≡ 0 }
+        → span_start_of block.decoders i % unit ≡ 0 }
 {}

@@ -1,17 +1,9 @@
 ghost use Rattle.std.specs.Prelude.{◌≡◌, ◌^◌, ◌<◌};
 ghost use Rattle.cxl_span.specs.Partitions.{lies_in};
 ghost use Rattle.cxl_span.specs.Rules.{breaks_commit_order, breaks_flags, breaks_codes, breaks_select, breaks_size, breaks_base_order, breaks_capacity, breaks_rule};
-ghost use Rattle.cxl_regs.specs.Rules.{select_bits};
 
-use crate::spans::{decoder_ways, span_length};
-use cxl_enc::{MemKind, split, ways_of};
-use cxl_regs::{Block, Decoder, codes_ok, select_ok};
-
-/// Decoders end there at the latest.
-const LAST_END: u64 = 1 << 52;
-
-/// 256 MiB.
-const UNIT: u64 = 1 << 28;
+use cxl_enc::{ADDRESS_LIMIT, MemKind, UNIT};
+use cxl_regs::{Block, Decoder, breaks_order, breaks_rise, codes_ok, select_ok};
 
 /// Whether a decoder with this one before it, and with a span that starts there, breaks the rule of this
 /// number.
@@ -42,7 +34,7 @@ pub(crate) fn breaks_rule(
 fn breaks_commit_order(block: &Block, below: Option<Decoder>, d: &Decoder) -> bool
     ensures { result ≡ breaks_commit_order block.now below d.now }
 {
-    d.committed && (below.is_some_and(|b| !b.committed) || !block.enabled())
+    d.committed && (breaks_order(below) || !block.enabled())
 }
 
 fn breaks_flags(d: &Decoder) -> bool
@@ -65,7 +57,7 @@ fn breaks_codes(block: &Block, d: &Decoder) -> bool
 fn breaks_select(block: &Block, d: &Decoder) -> bool
     ensures { result ≡ breaks_select block.now d.now }
 {
-    d.committed && !select_ok(block.cap(), d.gran, select_bits(d.ways))
+    d.committed && !select_ok(block.cap(), d.gran, d.select_bits())
 }
 
 fn breaks_size(block: &Block, d: &Decoder) -> bool
@@ -73,22 +65,22 @@ fn breaks_size(block: &Block, d: &Decoder) -> bool
 {
     d.committed
         && (d.size == 0
-            || d.base > LAST_END
-            || d.size > LAST_END - d.base
-            || (block.endpoint() && d.size % (UNIT * u64::from(decoder_ways(d))) != 0))
+            || d.base > ADDRESS_LIMIT
+            || d.size > ADDRESS_LIMIT - d.base
+            || (block.endpoint() && d.size % (UNIT * u64::from(d.interleave_ways())) != 0))
 }
 
 fn breaks_base_order(below: Option<Decoder>, d: &Decoder) -> bool
     ensures { result ≡ breaks_base_order below d.now }
 {
-    d.committed && below.is_some_and(|b| d.base < b.base || d.base - b.base < b.size)
+    d.committed && breaks_rise(below, d)
 }
 
 fn breaks_capacity(block: &Block, ram: u64, pmem: u64, start: u128, d: &Decoder) -> bool
     requires { start < 2 ^ 100 }
     ensures { result ≡ breaks_capacity block.now ram pmem start d.now }
 {
-    let len = span_length(d);
+    let len = d.span_length();
     block.endpoint()
         && d.committed
         && !(lies_in(MemKind::Ram, ram, pmem, start, len)
@@ -105,15 +97,5 @@ pub(crate) fn lies_in(kind: MemKind, ram: u64, pmem: u64, start: u128, len: u64)
     match kind {
         MemKind::Ram => end <= ram,
         MemKind::Pmem => ram <= start && end <= ram + u128::from(pmem),
-    }
-}
-
-/// How many address bits a decoder with this ways code selects on.
-fn select_bits(ways: u8) -> u8
-    ensures { result ≡ select_bits ways }
-{
-    match ways_of(ways) {
-        Some(ways) => split(ways).bits,
-        None => 0,
     }
 }

@@ -1,7 +1,7 @@
-ghost use Rattle.std.specs.Prelude.{◌≡◌, ◌+◌, ◌*◌, ◌^◌, ◌<◌, ◌≤◌, length, take, sum_by};
-ghost use Rattle.cxl_span.specs.Spans.{decoder_ways, span_length, span_step, span_start_of};
+ghost use Rattle.std.specs.Prelude.{◌≡◌, ◌+◌, ◌*◌, ◌/◌, ◌^◌, ◌<◌, ◌≤◌, if◌then◌else◌, length, take, sum_by};
+ghost use Rattle.cxl_span.specs.Spans.{span_step, span_start_of, endpoint_place_of};
 
-use cxl_enc::ways_of;
+use cxl_enc::split;
 use cxl_regs::{Block, Decoder};
 
 /// The device address at which the span of decoder `i` starts: the skips of all decoders up to it count.
@@ -36,20 +36,27 @@ pub(crate) fn span_step(d: &Decoder) -> u128
     ensures value { result ≡ span_step d.now }
     ensures small { result ≤ 2 ^ 65 }
 {
-    u128::from(d.tail) + u128::from(span_length(d))
+    u128::from(d.tail) + u128::from(d.span_length())
 }
 
-/// How many bytes of the device a decoder takes.
-pub(crate) fn span_length(d: &Decoder) -> u64
-    ensures { result ≡ span_length d.now }
+/// The device address to which an endpoint's decoder sends a host address, where its span starts there; an
+/// address below its base counts as the base. The condition on the granularity holds of each decoder of a
+/// block. (CXL endpoint decode.)
+pub fn endpoint_place_of(start: u64, d: &Decoder, h: u64) -> u64
+    requires gran { d.now.gran < 16 }
+    requires fits { start + h < 2 ^ 64 }
+    ensures { result ≡ endpoint_place_of start d.now h }
 {
-    d.size / u64::from(decoder_ways(d))
+    let factors = split(d.interleave_ways());
+    let offset = h.saturating_sub(d.base);
+    let shift = d.gran + 8;
+    let turn = third_part(offset >> (shift + factors.bits), factors.third);
+    start + (turn << shift) + offset % u64::from(d.interleave_granularity())
 }
 
-/// The ways of a decoder's code; a code that stands for none counts as one way.
-pub(crate) fn decoder_ways(d: &Decoder) -> u8
-    ensures value { result ≡ decoder_ways d.now }
-    ensures some { 0 < result }
+/// A third of a number where the ways are thrice a power of two, and else the number.
+fn third_part(n: u64, third: bool) -> u64
+    ensures { result ≡ n / (if third then 3 else 1) }
 {
-    ways_of(d.ways).unwrap_or(1)
+    if third { n / 3 } else { n }
 }

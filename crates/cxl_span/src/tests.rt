@@ -1,16 +1,14 @@
-ghost use Rattle.std.specs.Prelude.{◌+◌, ◌^◌, ◌<◌, ◌≤◌};
+ghost use Rattle.std.specs.Prelude.{◌+◌, ◌<◌, ◌≤◌};
+ghost use Rattle.cxl_enc.specs.Limits.{address_limit};
 
 use super::*;
-use cxl_enc::{MemKind, Memory};
-use cxl_regs::{Block, decoder_of};
+use cxl_enc::{MemKind, Memory, UNIT};
+use cxl_regs::{Block, Decoder, decoder_of};
 use std::alloc::Global;
 use std::process::Abort;
 use std::test::*;
 
 const GIB: u64 = 0x4000_0000;
-
-/// 256 MiB.
-const UNIT: u64 = 0x1000_0000;
 
 /// The words of a decoder, from base low to the reserved one.
 type Words = [u32; 8];
@@ -125,8 +123,8 @@ fn allotted(
     kind: MemKind,
     len: u64,
 ) -> Result<Span, SpanFault>
-    requires capacity { ram + pmem ≤ 2 ^ 52 }
-    requires short { len ≤ 2 ^ 52 }
+    requires capacity { ram + pmem ≤ address_limit }
+    requires short { len ≤ address_limit }
 {
     assert!(rt; block_breach(block, ram, pmem).is_none());
     assert!(rt; block.endpoint());
@@ -135,7 +133,7 @@ fn allotted(
 
 /// The start of a committed decoder of an endpoint's block that keeps the rules on such a device.
 fn started(rt: &impl Abort, block: &Block, ram: u64, pmem: u64, i: u8) -> u64
-    requires { ram + pmem ≤ 2 ^ 52 }
+    requires { ram + pmem ≤ address_limit }
 {
     assert!(rt; block_breach(block, ram, pmem).is_none());
     assert!(rt; block.endpoint());
@@ -188,10 +186,27 @@ fn shares_and_a_full_block(rt: HostRuntime) -> Result<(), Fail> {
     Ok(())
 }
 
+/// The bytes of a device to which decoders of three, four and six ways send an address.
+#[test]
+fn places_in_a_span(rt: HostRuntime) {
+    let at = |base, ways| Decoder {
+        base,
+        ways,
+        ..Decoder::RESET
+    };
+    let three = endpoint_place_of(0, &at(0x1_0000_0000, 8), 0x1_2fff_ffff);
+    assert_eq!(rt; three, 0xfff_ffff);
+    let four = endpoint_place_of(0, &at(0x10_0000_0000, 2), 0x10f_ffff_ffff);
+    assert_eq!(rt; four, 0x3f_ffff_ffff);
+    let six = endpoint_place_of(0x4000_0000, &at(0x1_0000_0000, 9), 0x1_0000_0600);
+    assert_eq!(rt; six, 0x4000_0100);
+}
+
 #[test]
 fn laws_are_called() {
     committed_stand_first();
     ranges_rise();
+    one_holder();
     spans_follow();
     spans_are_whole();
 }

@@ -1,5 +1,3 @@
-pub mod Powers
-pub mod Kept
 pub mod Children
 pub mod Nodes
 pub mod Ways

@@ -9,11 +9,12 @@ use Rattle.cxl_topo.specs.Kinds.{is_endpoint}
 use Rattle.cxl_topo.specs.Tree.{Tree, forwards_at, is_port_at, is_endpoint_at, child_of}
 use Rattle.cxl_regs.specs.declared.decoder.Decoder.{Decoder}
 use Rattle.cxl_regs.specs.Registers.{Registers}
+use Rattle.cxl_regs.specs.Reading.{holds_address, entry_at, entry_of}
 use Rattle.cxl_span.specs.Spans.{span_start_of, endpoint_place_of}
 use Rattle.cxl_span.specs.Breaches.{BlockKeeps}
 use Rattle.cxl_window.specs.Fields.{WindowFields}
 use Rattle.cxl_image.specs.Images.{HasCapsOf}
-use Rattle.cxl_model.specs.System.{KeepsBlock, ram_at, pmem_at, decoder_at, holds_address, entry_at, entry_of}
+use Rattle.cxl_model.specs.System.{KeepsBlock, ram_at, pmem_at, decoder_at}
 use Rattle.cxl_model.specs.Chain.{Decodes, IsStep, IsArrival, IsBadBlock, LacksDecoder, LacksChild}
 use Rattle.cxl_model.specs.System.{system_of}
 

@@ -20,7 +20,7 @@ use Rattle.cxl_model.specs.Chain.{Arrival, Arrives, Misses, Targets, Chain, held
 use Rattle.cxl_walk.specs.declared.route.Route.{Route}
 use Rattle.cxl_walk.specs.declared.target.Target as slots
 use Rattle.cxl_model.specs.System.{system_of}
-use Rattle.cxl_walk.specs.Inside.{Leads, Fails, IsTarget}
+use Rattle.cxl_walk.specs.inner.Calls.{Leads, Fails, IsTarget}
 use Rattle.cxl_walk.specs.Routes.{routing_of, outcome_of}
 use Rattle.cxl_walk.proofs.Nodes.{and_some}
 

@@ -6,13 +6,14 @@ use Rattle.cxl_topo.specs.Tree.{Tree, ports_above}
 use Rattle.cxl_topo.specs.Faults.{IsTree}
 use Rattle.cxl_topo.specs.Laws.{AreTreeLaws}
 use Rattle.cxl_regs.specs.Registers.{Registers}
+use Rattle.cxl_regs.specs.Reading.{entry_at}
 use Rattle.cxl_model.specs.declared.chain.Step.{Step}
 use Rattle.cxl_model.specs.declared.chain.Miss.{Miss}
-use Rattle.cxl_model.specs.System.{decoder_at, entry_at}
+use Rattle.cxl_model.specs.System.{decoder_at}
 use Rattle.cxl_model.specs.Chain.{End, Forwards, Steps, Ends, Misses, on_forwarding, on_step, at_end, Chooses}
 use Rattle.cxl_model.specs.System.{system_of}
 use Rattle.cxl_walk.specs.Routes.{no_step}
-use Rattle.cxl_walk.specs.Inside.{Makes, Stops, Leads, Fails}
+use Rattle.cxl_walk.specs.inner.Calls.{Makes, MissesAt, Leads, Fails}
 use Rattle.cxl_walk.proofs.Children.{IsChild, child_at_port, only_child}
 use Rattle.cxl_walk.proofs.Nodes.{some_and}
 
@@ -94,5 +95,5 @@ module _ (blocks : List Registers) (tree : Tree) (legal : IsTree tree.nodes) (la
   ends at len steps end on makes =
       subst (λ (made : List Step). Leads blocks tree h top made end) (append-nil (take len steps)) (on.leads [] end (λ windows. at_end at end (makes windows)))
 
-  pub fails : (at len : ℕ) (steps : List Step) (miss : Miss) → IsOnWay blocks tree h top at len steps → Stops blocks tree h at miss → Fails blocks tree h top miss
+  pub fails : (at len : ℕ) (steps : List Step) (miss : Miss) → IsOnWay blocks tree h top at len steps → MissesAt blocks tree h at miss → Fails blocks tree h top miss
   fails at len steps miss on stops = (take len steps, ends at len steps (Misses miss) on stops)

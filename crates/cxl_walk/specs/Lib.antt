@@ -1,2 +1,2 @@
 pub mod Routes
-pub mod Inside
+pub mod inner

@@ -1,17 +1,19 @@
 ghost use Rattle.std.specs.Prelude.{◌≡◌, ◌+◌, ◌<◌, ◌≤◌, ◌^◌, [], true, false, length, slice_get, IfOk, IfErr, IsSomeAnd};
+ghost use Rattle.cxl_enc.specs.Limits.{address_limit};
 ghost use Rattle.cxl_topo.specs.Tree.{forwards_at};
 ghost use Rattle.cxl_topo.specs.Faults.{IsTree};
 ghost use Rattle.cxl_span.specs.Breaches.{BlockKeeps};
 ghost use Rattle.cxl_image.specs.Images.{HasCapsOf};
-ghost use Rattle.cxl_model.specs.System.{holds_address, ram_at, pmem_at};
+ghost use Rattle.cxl_regs.specs.Reading.{holds_address};
+ghost use Rattle.cxl_model.specs.System.{ram_at, pmem_at};
 ghost use Rattle.cxl_model.specs.System.{system_of};
-ghost use Rattle.cxl_walk.specs.Inside.{Makes, Stops, byte_at, move_of};
+ghost use Rattle.cxl_walk.specs.inner.Calls.{Makes, MissesAt, byte_at, move_of};
 
-use crate::decoding::{entry_at, entry_of, holder, place_of};
+use crate::decoding::holder;
 use cxl_image::Image;
 use cxl_model::{Miss, Step};
 use cxl_regs::Block;
-use cxl_span::{block_breach, ranges_rise, spans_lie_in_partitions, start_of};
+use cxl_span::{block_breach, endpoint_place_of, ranges_rise, spans_lie_in_partitions, start_of};
 use cxl_topo::{Capacity, NodeKind, Topo};
 
 /// A byte of an endpoint's device, with the decoder that leads to it and that decoder's first host address.
@@ -40,7 +42,7 @@ pub(crate) fn move_at(image: &Image, topo: &Topo, node: u32, h: u64) -> Result<N
     requires caps { HasCapsOf image.now topo.now.nodes }
     requires here { node < length topo.now.nodes }
     ensures next { IfOk result (λ next. Makes image.now topo.now h node (move_of next)) }
-    ensures miss { IfErr result (λ miss. Stops image.now topo.now h node miss) }
+    ensures miss { IfErr result (λ miss. MissesAt image.now topo.now h node miss) }
 {
     if !topo.node(node).forwards {
         return decode(image, topo, node, h);
@@ -58,7 +60,7 @@ fn decode(image: &Image, topo: &Topo, node: u32, h: u64) -> Result<Next, Miss>
     requires here { node < length topo.now.nodes }
     requires own { forwards_at topo.now.nodes node ≡ false }
     ensures next { IfOk result (λ next. Makes image.now topo.now h node (move_of next)) }
-    ensures miss { IfErr result (λ miss. Stops image.now topo.now h node miss) }
+    ensures miss { IfErr result (λ miss. MissesAt image.now topo.now h node miss) }
 {
     let block = image.block(node);
     let capacity = capacity_at(topo, node);
@@ -72,13 +74,13 @@ fn decode(image: &Image, topo: &Topo, node: u32, h: u64) -> Result<Next, Miss>
         return Ok(Next::Arrives(arrive(block, &capacity, node, i, h)));
     }
     let d = block.decoder(i);
-    let entry = entry_of(&d, h);
+    let entry = d.entry_of(h);
     let step = Step {
         node,
         decoder: i,
         entry,
     };
-    match topo.child(node, entry_at(&d, entry)) {
+    match topo.child(node, d.entry_at(entry)) {
         Some(child) => Ok(Next::Steps(step, child)),
         None => Err(Miss::NoChild(node)),
     }
@@ -86,7 +88,7 @@ fn decode(image: &Image, topo: &Topo, node: u32, h: u64) -> Result<Next, Miss>
 
 /// The byte to which the decoder of an endpoint that holds the address sends it.
 fn arrive(block: &Block, capacity: &Capacity, node: u32, i: u8, h: u64) -> DeviceByte
-    requires small { capacity.now.ram + capacity.now.pmem ≤ 2 ^ 52 }
+    requires small { capacity.now.ram + capacity.now.pmem ≤ address_limit }
     requires keeps { BlockKeeps block.now capacity.now.ram capacity.now.pmem }
     requires endpoint { block.now.endpoint ≡ true }
     requires holds { IsSomeAnd (slice_get block.now.decoders i) (λ d. holds_address d h ≡ true) }
@@ -100,7 +102,7 @@ fn arrive(block: &Block, capacity: &Capacity, node: u32, i: u8, h: u64) -> Devic
         endpoint: node,
         decoder: i,
         base: d.base,
-        dpa: place_of(start, &d, h),
+        dpa: endpoint_place_of(start, &d, h),
     }
 }
 
@@ -110,7 +112,7 @@ fn capacity_at(topo: &Topo, node: u32) -> Capacity
     requires here { node < length topo.now.nodes }
     ensures ram { result.ram ≡ ram_at (system_of [] topo.now []) node }
     ensures pmem { result.pmem ≡ pmem_at (system_of [] topo.now []) node }
-    ensures small { result.ram + result.pmem ≤ 2 ^ 52 }
+    ensures small { result.ram + result.pmem ≤ address_limit }
 {
     match topo.node(node).kind {
         NodeKind::Endpoint(capacity) => capacity,

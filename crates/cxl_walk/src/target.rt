@@ -1,7 +1,7 @@
 ghost use Rattle.std.specs.Prelude.{◌≡◌, ℕ, Some, None, slice_get, IfSome, IfNone};
 ghost use Rattle.cxl_window.specs.Fields.{WindowFields};
 ghost use Rattle.cxl_window.specs.Position.{position_at};
-ghost use Rattle.cxl_walk.specs.Inside.{IsTarget, IsTargetIn};
+ghost use Rattle.cxl_walk.specs.inner.Calls.{IsTarget, IsTargetIn};
 
 use cxl_window::{Window, positions, slot_of};
 

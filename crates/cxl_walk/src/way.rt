@@ -3,7 +3,7 @@ ghost use Rattle.cxl_topo.specs.Faults.{IsTree};
 ghost use Rattle.cxl_image.specs.Images.{HasCapsOf};
 ghost use Rattle.cxl_model.specs.Chain.{Arrives};
 ghost use Rattle.cxl_walk.specs.Routes.{no_step};
-ghost use Rattle.cxl_walk.specs.Inside.{Leads, Fails, reached};
+ghost use Rattle.cxl_walk.specs.inner.Calls.{Leads, Fails, reached};
 
 use crate::moves::{DeviceByte, Next, move_at};
 use cxl_image::Image;

@@ -3,8 +3,9 @@ use Rattle.std.specs.Prelude.{None}
 use Rattle.cxl_window.specs.Fields.{WindowFields}
 use Rattle.cxl_window.specs.Position.{position_at}
 use Rattle.cxl_regs.specs.declared.decoder.Decoder.{Decoder}
+use Rattle.cxl_regs.specs.Reading.{holds_address}
 use Rattle.cxl_model.specs.declared.chain.Miss.TheVariants.{NoDecoder}
-use Rattle.cxl_model.specs.System.{decoders_at, holds_address}
+use Rattle.cxl_model.specs.System.{decoders_at}
 use Rattle.cxl_model.specs.Chain.{Arrival, Arrives, Misses, on_step, on_forwarding, at_end, held, unheld}
 use Rattle.cxl_model.specs.Examples.{two_bridges, forwarding_bridges, six_ways, window_of_both}
 use Rattle.cxl_model.specs.ExampleRegions.{window_of_three, step}

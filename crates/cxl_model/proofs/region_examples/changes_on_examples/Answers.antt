@@ -4,7 +4,7 @@ use Rattle.std.proofs.lemmas.Option.{none-some, same_Some}
 use Rattle.cxl_regs.specs.declared.decoder.Decoder.{Decoder}
 use Rattle.cxl_regs.specs.Registers.{reset_decoder}
 use Rattle.cxl_model.specs.System.{System, decoder_at}
-use Rattle.cxl_model.specs.Ranges.{has_range}
+use Rattle.cxl_regs.specs.Reading.{has_range}
 use Rattle.cxl_model.specs.Regions.{region_range}
 use Rattle.cxl_model.specs.Changes.{KeepsDecoders}
 use Rattle.cxl_model.specs.Examples.{two_bridges, with_stray_range, decoder}

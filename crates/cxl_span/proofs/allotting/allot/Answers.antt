@@ -1,10 +1,7 @@
-use Rattle.std.proofs.Common.{◌≡◌, ℕ, ◌+◌, ◌<◌, ◌≤◌, false, length, Ok, Err, sym, ap, ◌∙◌, inl, inr, max, arith}
-use Rattle.std.proofs.lemmas.Bool.{cases_lt}
+use Rattle.std.proofs.Common.{Err, inl, arith}
 use Rattle.std.proofs.lemmas.List.Sums.{prefix_len-le-length}
 use Rattle.cxl_regs.specs.declared.decoder.Decoder.{Decoder}
 use Rattle.cxl_span.specs.declared.allotting.SpanFault.TheVariants.{NoDecoder, PastRam, NoRoom}
-use Rattle.cxl_span.specs.Spans.{committed_count}
-use Rattle.cxl_span.specs.Allotting.{is_full}
 use Rattle.cxl_span.proofs.Cursors.{full_from_count, left_from_count}
 use Rattle.cxl_span.proofs.OneAnswer.{exactly, not_past_from, least_is_max}
 use Rattle.cxl_span.proofs.allotting.allot.Goals as goal

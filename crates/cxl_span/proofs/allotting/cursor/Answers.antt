@@ -1,9 +1,8 @@
-use Rattle.std.proofs.Common.{ℕ, ◌%◌, ◌^◌, ◌≤◌, ap, ◌∙◌, subst, arith}
-use Rattle.std.specs.Prelude.{sum_by, take, length}
+use Rattle.std.proofs.Common.{ℕ, ◌%◌, ap, ◌∙◌, arith}
 use Rattle.std.proofs.lemmas.List.Sums.{prefix_len-le-length}
+use Rattle.cxl_enc.specs.Limits.{unit}
 use Rattle.cxl_regs.specs.declared.decoder.Decoder.{Decoder}
-use Rattle.cxl_span.specs.Spans.{span_step, committed_count}
-use Rattle.cxl_span.specs.Allotting.{cursor_of}
+use Rattle.cxl_regs.specs.Reading.{committed_count}
 use Rattle.cxl_span.proofs.Cursors.{taken_to_cursor, cursor_within}
 use Rattle.cxl_span.proofs.SpanLaws.{taken_same}
 use Rattle.cxl_span.proofs.Wholes.{taken_aligned}
@@ -36,5 +35,5 @@ returns-clause-within c =
 pub returns-clause-aligned : goal.returns-clause-aligned
 returns-clause-aligned c =
     let counted = c.requires.counted in
-    ap (λ (n : ℕ). n % 2 ^ 28) c.taken_before.ensures.value
+    ap (λ (n : ℕ). n % unit) c.taken_before.ensures.value
     ∙ taken_aligned c.args.block.now c.args.ram c.args.pmem c.requires.block c.requires.keeps c.requires.endpoint c.args.committed (omega arith)

@@ -1,7 +1,7 @@
 use Rattle.std.proofs.Common.{◌≡◌, ℕ, ◌<◌, false, Some}
 use Rattle.std.specs.Prelude.{slice_get}
 use Rattle.cxl_regs.specs.declared.decoder.Decoder.{Decoder}
-use Rattle.cxl_model.specs.System.{holds_address}
+use Rattle.cxl_regs.specs.Reading.{holds_address}
 use Rattle.cxl_walk.proofs.decoding.holder.Given as goal
 
 abbrev pub invariant-loop-i : goal.invariant-loop-i

@@ -1,7 +1,7 @@
 use Rattle.std.proofs.lemmas.Result.{err_from_is_err_and}
 use Rattle.std.proofs.Common.{◌≡◌, Some, refl, sym, ◌∙◌}
 use Rattle.cxl_topo.specs.Tree.{bridge_with}
-use Rattle.cxl_walk.specs.Inside.{reached}
+use Rattle.cxl_walk.specs.inner.Calls.{reached}
 use Rattle.cxl_walk.proofs.Targets.{bridge_there, arrived, missed}
 use Rattle.cxl_walk.proofs.downward.lead.Goals as goal
 

@@ -1,11 +1,10 @@
-use Rattle.std.proofs.Common.{◌≡◌, ℕ, true, refl, sym, ap, ◌∙◌, arith}
+use Rattle.std.proofs.Common.{◌≡◌, ℕ, true, refl, sym, ap, ◌∙◌}
 use Rattle.std.proofs.lemmas.Option.{slice_get_within}
 use Rattle.std.specs.Prelude.{slice_get}
 use Rattle.cxl_topo.specs.Tree.{child_of}
 use Rattle.cxl_regs.specs.declared.decoder.Decoder.{Decoder}
-use Rattle.cxl_model.specs.System.{holds_address}
-use Rattle.cxl_walk.specs.Inside.{byte_at}
-use Rattle.cxl_walk.proofs.Kept.{committed_of, port_ways}
+use Rattle.cxl_regs.specs.Reading.{holds_address}
+use Rattle.cxl_walk.specs.inner.Calls.{byte_at}
 use Rattle.cxl_walk.proofs.Nodes.{some_and, none_then, some_not, here, bad_block, arrives, steps, lacks_child}
 use Rattle.cxl_walk.proofs.moves.decode.Goals as goal
 
@@ -13,15 +12,6 @@ pub decoder-d-requires : goal.decoder-d-requires
 decoder-d-requires c =
     let held = some_and (slice_get c.block-block.result.now.decoders c.in-Some.i) (λ (d : Decoder). holds_address d c.args.h ≡ true) c.in-Some.ensures.some in
     slice_get_within c.block-block.result.now.decoders c.in-Some.i held.0 held.1
-
-pub entry_at-requires : goal.entry_at-requires
-entry_at-requires c =
-    let d = c.decoder-d.result in
-    let holds = rw c.decoder-d.ensures.value at c.in-Some.ensures.some in
-    let kept = none_then c.block_breach.result _ c.block_breach.ensures.none (sym c.is_some.ensures ∙ c.if-is_some.false) in
-    let few = port_ways c.block-block.result.now _ _ c.in-Some.i d kept c.decoder-d.ensures.value (committed_of d c.args.h holds) (sym c.endpoint.ensures.value ∙ c.if-endpoint.false) in
-    let below = c.entry_of-entry.ensures.below in
-    omega arith
 
 pub returns-then-is_some-clause-miss : goal.returns-then-is_some-clause-miss
 returns-then-is_some-clause-miss c =
@@ -44,7 +34,7 @@ returns-in-Some-child-clause-next c =
     let d = c.decoder-d.result in
     let holds = rw c.decoder-d.ensures.value at c.in-Some.ensures.some in
     λ windows. steps c.args.topo.now c.args.image.now windows c.args.h c.args.node c.block-block.result.now c.capacity_at-capacity.result.ram c.capacity_at-capacity.result.pmem at c.in-Some.i c.entry_of-entry.result c.in-Some-child.child d kept (sym c.endpoint.ensures.value ∙ c.if-endpoint.false) c.decoder-d.ensures.value holds c.entry_of-entry.ensures.value
-    (ap (λ (p : ℕ). child_of c.args.topo.now.nodes c.args.node p) (sym c.entry_at.ensures) ∙ sym c.in-Some-child.ensures.child)
+    (ap (λ (p : ℕ). child_of c.args.topo.now.nodes c.args.node p) (sym c.entry_at.ensures.port) ∙ sym c.in-Some-child.ensures.child)
 
 pub returns-in-None-clause-miss : goal.returns-in-None-clause-miss
 returns-in-None-clause-miss c =
@@ -55,5 +45,5 @@ returns-in-None-clause-miss c =
     λ windows. (
       refl,
       lacks_child c.args.topo.now c.args.image.now windows c.args.h c.args.node c.block-block.result.now c.capacity_at-capacity.result.ram c.capacity_at-capacity.result.pmem at c.in-Some.i c.entry_of-entry.result d kept (sym c.endpoint.ensures.value ∙ c.if-endpoint.false) c.decoder-d.ensures.value holds c.entry_of-entry.ensures.value
-          (ap (λ (p : ℕ). child_of c.args.topo.now.nodes c.args.node p) (sym c.entry_at.ensures) ∙ sym c.in-None.ensures.child),
+          (ap (λ (p : ℕ). child_of c.args.topo.now.nodes c.args.node p) (sym c.entry_at.ensures.port) ∙ sym c.in-None.ensures.child),
     )

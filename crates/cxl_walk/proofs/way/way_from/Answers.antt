@@ -1,7 +1,7 @@
 use Rattle.std.proofs.lemmas.Result.{err_from_is_err_and}
 use Rattle.std.proofs.Common.{arith}
 use Rattle.cxl_model.specs.Chain as chain
-use Rattle.cxl_walk.specs.Inside.{reached}
+use Rattle.cxl_walk.specs.inner.Calls.{reached}
 use Rattle.cxl_walk.proofs.Ways.{forward_child, forwards_on, step_child, room_left, steps_on, ends, fails}
 use Rattle.cxl_walk.proofs.way.way_from.Goals as goal
 

@@ -37,8 +37,8 @@ abbrev pub Makes : List Registers → Tree → ℕ → ℕ → Move → Type 0
 Makes blocks tree h n move = (windows : List WindowFields) → Moves (system_of blocks tree windows) h n move
 
 -- node n is where the address goes no further
-abbrev pub Stops : List Registers → Tree → ℕ → ℕ → Miss → Type 0
-Stops blocks tree h n miss = Makes blocks tree h n (chain.Ends (chain.Misses miss))
+abbrev pub MissesAt : List Registers → Tree → ℕ → ℕ → Miss → Type 0
+MissesAt blocks tree h n miss = Makes blocks tree h n (chain.Ends (chain.Misses miss))
 
 -- ---- the way down from a node
 

@@ -1,0 +1,2 @@
+-- Definitions that only fields and proofs speak of.
+pub mod Name

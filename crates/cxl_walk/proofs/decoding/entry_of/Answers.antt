@@ -1,9 +1,0 @@
-use Rattle.std.proofs.Common.{◌^◌}
-use Rattle.std.proofs.lemmas.Nat.{pow-add}
-use Rattle.std.proofs.Math.Nat.{mul_comm}
-use Rattle.cxl_walk.proofs.decoding.entry_of.Goals as goal
-
-pub returns-clause-value : goal.returns-clause-value
-returns-clause-value c =
-    let gran = c.args.d.now.gran in
-    rw (c.from.ensures, c.ways_in.ensures.value, pow-add 2 gran 8, mul_comm (2 ^ gran) 256)
