@@ -26,3 +26,10 @@ pub mod Staying
 pub mod Carrying
 pub mod SpansListed
 pub mod CarryingPieces
+pub mod DealingNumbers
+pub mod DealingNodes
+pub mod DealingSteps
+pub mod DealingPositions
+pub mod DealingEnds
+pub mod DealingRoutes
+pub mod DealingRanges

@@ -133,7 +133,7 @@ many : (ways all times : ℕ) → 1 < ways → 0 < all → all ≡ ways * times 
 many ways all zero some positive product one = omega arith
 many ways all (suc times) some positive product one = omega arith
 
-root_code : (s : System) (w : WindowFields) (found : Found) → IsSystem s → IsRegionIn s w found → 1 < w.ways → found.gran ≡ w.gran
+pub root_code : (s : System) (w : WindowFields) (found : Found) → IsSystem s → IsRegionIn s w found → 1 < w.ways → found.gran ≡ w.gran
 root_code s w found system is more =
     let all = told s w found system is in
     let some = some_ways found.ways (found_ways_known s w found is) in

@@ -25,12 +25,12 @@ use Rattle.cxl_model.specs.Regions.{LeadsTo, past_forwarding, past_port, at_endp
 
 -- ---- tests
 
-or_true : (a b : Bool) → (a || b) ≡ true → (a ≡ true) ⊎ (b ≡ true)
+pub or_true : (a b : Bool) → (a || b) ≡ true → (a ≡ true) ⊎ (b ≡ true)
 or_true true b h = inl refl
 or_true false b h = inr h
 
 -- a test that is kept where it is asked for
-asked : (a b : Bool) → (a && not b) ≡ false → a ≡ true → b ≡ true
+pub asked : (a b : Bool) → (a && not b) ≡ false → a ≡ true → b ≡ true
 asked true true h is = refl
 asked true false h is = cc
 asked false b h is = cc
@@ -117,14 +117,14 @@ base_aligned s n i d blocks there =
     each.base.multiple
 
 -- K4: its granularity code is at most 6
-block_keeps : (s : System) (n i : ℕ) (block : Registers) → slice_get s.blocks n ≡ Some block → breaks s 4 n i ≡ false
+pub block_keeps : (s : System) (n i : ℕ) (block : Registers) → slice_get s.blocks n ≡ Some block → breaks s 4 n i ≡ false
     → block_breaks 4 block (ram_at s n) (pmem_at s n) i ≡ false
 unfolding breaks
 block_keeps s n i block at kept =
     sym (ap (λ (o : Option Registers). option_map_or (λ b. block_breaks 4 b (ram_at s n) (pmem_at s n) i) o false) at) ∙ kept
 
 -- K4 of a decoder of the block
-codes_here : (block : Registers) (ram pmem i : ℕ) (d : Decoder) → slice_get block.decoders i ≡ Some d
+pub codes_here : (block : Registers) (ram pmem i : ℕ) (d : Decoder) → slice_get block.decoders i ≡ Some d
     → block_breaks 4 block ram pmem i ≡ breaks_codes block d
 unfolding block_breaks
 codes_here block ram pmem i d at = rw at refl
@@ -141,14 +141,14 @@ gran_known s n i d keeps there committed =
 -- ---- K12
 
 -- the test of an endpoint's decoder, by its range
-abbrev endpoint_test : System → WindowFields → ℕ → ℕ → Decoder → Range → Bool
+abbrev pub endpoint_test : System → WindowFields → ℕ → ℕ → Decoder → Range → Bool
 endpoint_test s w n i d r =
     (decoder_ways d == w.ways * ways_above s r n)
     && (decoder_ways d == range_ways s r)
     && same_kind (span_kind s n i) (range_kind s r)
     && ((decoder_ways d == 1) || (d.gran == range_code s w r))
 
-abbrev ways_test : System → ℕ → ℕ → Decoder → Range → Option WindowFields → Bool → Bool
+abbrev pub ways_test : System → ℕ → ℕ → Decoder → Range → Option WindowFields → Bool → Bool
 ways_test s n i d r o endpoint =
     option_map_or (λ w. if endpoint then endpoint_test s w n i d r else keeps_port_code s w n d) o true
 
@@ -176,7 +176,7 @@ has_ways_by s w r n i d test =
       ];
     }
 
-rule_twelve : (s : System) (n i : ℕ) (d : Decoder) → decoder_at s n i ≡ Some d → breaks s 12 n i ≡ false
+pub rule_twelve : (s : System) (n i : ℕ) (d : Decoder) → decoder_at s n i ≡ Some d → breaks s 12 n i ≡ false
     → (d.committed && not (keeps_ways s n i d)) ≡ false
 unfolding breaks
 rule_twelve s n i d there kept =

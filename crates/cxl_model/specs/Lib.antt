@@ -5,6 +5,7 @@ pub mod Rules
 pub mod Accepted
 pub mod Regions
 pub mod Contents
+pub mod Dealing
 pub mod Plans
 pub mod Examples
 pub mod ExampleRegions

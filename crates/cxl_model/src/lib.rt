@@ -4,6 +4,7 @@
 #![tactic(auto)]
 
 mod chain;
+mod dealing;
 mod examples;
 mod found;
 mod laws;
@@ -17,6 +18,9 @@ pub use chain::{Miss, Step};
 pub use cxl_enc::{FixedList, MemKind, Memory, Name};
 pub use cxl_regs::Range;
 pub use cxl_span::{Room, SpanFault};
+pub use dealing::{
+    carries_where_chain_ends, chain_is_the_dealing, routes_are_of_regions, routes_lie_in_ranges,
+};
 pub use examples::{
     carried_on_examples, chains_on_examples, examples_are_systems, regions_on_examples,
     rules_on_examples,

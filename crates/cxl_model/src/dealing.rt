@@ -1,0 +1,75 @@
+//! Laws of where the chains of host bytes go, each the contract of a function that does nothing.
+
+ghost use Rattle.std.specs.Prelude.{◌≡◌, ℕ, ◌+◌, ◌<◌, ◌≤◌};
+ghost use Rattle.cxl_window.specs.Fields.{WindowFields};
+ghost use Rattle.cxl_model.specs.declared.found.Found.{Found};
+ghost use Rattle.cxl_model.specs.System.{System, IsSystem};
+ghost use Rattle.cxl_model.specs.Chain.{Routing, Outcome, Routed, Chain};
+ghost use Rattle.cxl_regs.specs.declared.reading.Range.{Range};
+ghost use Rattle.cxl_model.specs.Ranges.{IsCommittedRange};
+ghost use Rattle.cxl_model.specs.Accepted.{IsAccepted};
+ghost use Rattle.cxl_model.specs.Regions.{IsRegionIn, Carries};
+ghost use Rattle.cxl_model.specs.Dealing.{IsDealtRoute};
+
+use crate::laws::{accepted_where_whole, one_outcome};
+use crate::regions::{
+    bytes_are_carried_one_to_one, regions_share_no_byte, weaves_fill_their_regions,
+    whole_ranges_have_one_region,
+};
+use cxl_deal::{region_fills_slots, slots_keep_entries, slots_keep_positions};
+use cxl_topo::tree_laws;
+
+/// A law of regions: the chain of each of its host bytes is a route, over the target and by the steps of
+/// its slot, to the byte to which the region carries it, and nothing else.
+pub fn chain_is_the_dealing()
+    ensures route { (s : System) (w : WindowFields) (found : Found) (h : ℕ) → IsSystem s
+        → IsRegionIn s w found → found.base ≤ h → h < found.base + found.size
+        → (route : Routing) × Chain s h (Routed route) × IsDealtRoute s w found h route }
+    ensures only { (s : System) (w : WindowFields) (found : Found) (h : ℕ) (outcome : Outcome) → IsSystem s
+        → IsRegionIn s w found → found.base ≤ h → h < found.base + found.size → Chain s h outcome
+        → (route : Routing) × (outcome ≡ Routed route) × IsDealtRoute s w found h route }
+{
+    tree_laws();
+    region_fills_slots();
+    slots_keep_positions();
+    slots_keep_entries();
+    weaves_fill_their_regions();
+    one_outcome();
+}
+
+/// A law of chains: an address whose chain is a route lies in a committed range, with the route's base.
+pub fn routes_lie_in_ranges()
+    ensures { (s : System) (h : ℕ) (route : Routing) → Chain s h (Routed route)
+        → (r : Range) × IsCommittedRange s r × (r.base ≡ route.arrival.base) × (r.base ≤ h)
+        × (h < r.base + r.size) }
+{}
+
+/// A law of regions: a host byte is carried to one byte of one device, and there its chain ends.
+pub fn carries_where_chain_ends()
+    ensures one { (found : Found) (w : WindowFields) (h endpoint dpa other place : ℕ)
+        → Carries found w h endpoint dpa → Carries found w h other place
+        → (endpoint ≡ other) × (dpa ≡ place) }
+    ensures ends { (s : System) (w : WindowFields) (found : Found) (h endpoint dpa : ℕ) → IsSystem s
+        → IsRegionIn s w found → Carries found w h endpoint dpa → (route : Routing)
+        × Chain s h (Routed route) × (route.arrival.endpoint ≡ endpoint) × (route.arrival.dpa ≡ dpa) }
+{
+    chain_is_the_dealing();
+}
+
+/// A law of accepted images: the chain of an address is a route only on the host bytes of their regions, as
+/// the dealing says, and two addresses never come to one byte of a device.
+pub fn routes_are_of_regions()
+    ensures only { (s : System) (h : ℕ) (route : Routing) → IsSystem s → IsAccepted s
+        → Chain s h (Routed route) → (w : WindowFields) × (found : Found)
+        × IsRegionIn s w found × IsDealtRoute s w found h route }
+    ensures apart { (s : System) (h i : ℕ) (one other : Routing) → IsSystem s → IsAccepted s
+        → Chain s h (Routed one) → Chain s i (Routed other)
+        → one.arrival.endpoint ≡ other.arrival.endpoint → one.arrival.dpa ≡ other.arrival.dpa → h ≡ i }
+{
+    accepted_where_whole();
+    whole_ranges_have_one_region();
+    regions_share_no_byte();
+    chain_is_the_dealing();
+    routes_lie_in_ranges();
+    bytes_are_carried_one_to_one();
+}
