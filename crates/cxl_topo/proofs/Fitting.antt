@@ -6,6 +6,7 @@ use Rattle.std.proofs.lemmas.Bool.{cases_Bool, both_ways, or_from, and_parts, an
 use Rattle.std.proofs.lemmas.Option.{none-some, slice_get_within}
 use Rattle.std.proofs.lemmas.Slice.Eq.{bytes_eq-Decides}
 use Rattle.cxl_enc.specs.Caps.{is_legal_cap}
+use Rattle.cxl_enc.specs.Limits.{placeholder_cap}
 use Rattle.cxl_topo.specs.declared.node.Node.{Node}
 use Rattle.cxl_topo.specs.declared.node.Parent.{Parent}
 use Rattle.cxl_topo.specs.declared.node.Capacity.{Capacity}
@@ -13,7 +14,7 @@ use Rattle.cxl_topo.specs.declared.fault.TreeFault.{TreeFault}
 use Rattle.cxl_topo.specs.declared.fault.TreeFault.TheVariants as faults
 use Rattle.cxl_topo.specs.Kinds.{is_bridge, is_switch, is_endpoint, uid_of, capacity_of}
 use Rattle.cxl_topo.specs.Tree.{holds_at, forwards_at, is_port_at, is_named, is_bridge_with, stands_at, stands_under, first_child_of}
-use Rattle.cxl_topo.specs.Faults.{lacks_parent, has_taken_port, forks, has_taken_name, has_taken_uid, switches_above, is_too_deep, has_wrong_caps, placeholder_cap, has_wrong_capacity, is_capacity, fits, IsFirstTreeFault, IsTree}
+use Rattle.cxl_topo.specs.Faults.{lacks_parent, has_taken_port, forks, has_taken_name, has_taken_uid, switches_above, is_too_deep, has_wrong_caps, has_wrong_capacity, is_capacity, fits, IsFirstTreeFault, IsTree}
 use Rattle.cxl_topo.proofs.Earlier.{finds_earlier, earlier_holds}
 use Rattle.cxl_topo.proofs.There.{held, parent_there, at_is, under_is, uid_is}
 

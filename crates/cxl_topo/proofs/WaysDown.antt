@@ -59,7 +59,7 @@ module _ (nodes : List Node) (tree : IsTree nodes) where
               let later = one.later in
               landing_enough k (length nodes) child one.below (omega arith) (omega arith)
 
-  forwards_is : (n : ℕ) (d : Node) → n < length nodes → forwards_at nodes n ≡ (get_or nodes n d).forwards
+  pub forwards_is : (n : ℕ) (d : Node) → n < length nodes → forwards_at nodes n ≡ (get_or nodes n d).forwards
   forwards_is n d lt = ap (λ (o : Option Node). option_map_or (λ (node : Node). node.forwards) o false) (slice_get-get_or nodes n d lt)
 
   -- a step of the walk down to a landing, and its two ends

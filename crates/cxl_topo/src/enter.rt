@@ -1,4 +1,5 @@
-ghost use Rattle.std.specs.Prelude.{◌<◌, ◌+◌, OnOk, length, take};
+ghost use Rattle.std.specs.Prelude.{◌≡◌, ◌<◌, ◌+◌, OnOk, length, take};
+ghost use Rattle.cxl_topo.specs.Tree.{bridge_uids};
 ghost use Rattle.cxl_topo.specs.Tables.{Enters, ListsChildren, ListsFirstChildren, ListsNames, ListsBridges};
 
 use crate::node::{Node, NodeKind, Parent};
@@ -77,6 +78,19 @@ pub(crate) fn enter_bridge(
     let node = &nodes[i as usize];
     match node.kind {
         NodeKind::Bridge(uid) => enter(table, uid, i),
+        NodeKind::Switch | NodeKind::Endpoint(_) => Ok(()),
+    }
+}
+
+/// Adds the UID of node `i` at the end, where it is a bridge.
+pub(crate) fn add_uid(uids: &mut Vec<u32>, nodes: &[Node], i: u32) -> Result<(), AllocError>
+    requires below { i < length nodes.now }
+    requires listed { uids.old.items ≡ bridge_uids (take i nodes.now) }
+    ensures { OnOk result (uids.new.items ≡ bridge_uids (take (i + 1) nodes.now)) }
+{
+    let node = &nodes[i as usize];
+    match node.kind {
+        NodeKind::Bridge(uid) => Ok(uids.push(uid)?),
         NodeKind::Switch | NodeKind::Endpoint(_) => Ok(()),
     }
 }

@@ -1,5 +1,5 @@
-ghost use Rattle.std.specs.Prelude.{◌≡◌, ◌≢◌, ◌+◌, ◌-◌, ◌≤◌, ◌<◌, ◌↔◌, ℕ, length, take, drop, replicate, slice_get, Some, IsTrue, IfOk, IfErr, Contains};
-ghost use Rattle.cxl_topo.specs.Tree.{Tree, child_of, first_child_of, name_at, uid_at, node_named, bridge_with, path_of, IsPathTo, landing_of};
+ghost use Rattle.std.specs.Prelude.{◌≡◌, ◌≢◌, ◌+◌, ◌-◌, ◌≤◌, ◌<◌, ◌↔◌, ℕ, length, take, drop, replicate, slice_get, Some, IsTrue, false, IfSome, IfOk, IfErr, Contains};
+ghost use Rattle.cxl_topo.specs.Tree.{Tree, is_endpoint_at, is_port_at, forwards_at, child_of, first_child_of, name_at, uid_at, node_named, bridge_with, bridge_uids, path_of, IsPathTo, decoding_port_of, landing_of};
 ghost use Rattle.cxl_topo.specs.Faults.{IsTree, IsFirstTreeFault};
 ghost use Rattle.cxl_topo.specs.Kept.{AreFrames};
 ghost use Rattle.cxl_topo.specs.Laws.{StandsAt};
@@ -9,7 +9,7 @@ use crate::judge::{are_too_many, tables_of};
 use crate::node::{Node, Parent};
 use crate::path::Path;
 use crate::tables::{NameKey, Tables};
-use crate::ways::{landing, path_to};
+use crate::ways::{decoding_port, landing, path_to};
 use cxl_enc::Name;
 use std::alloc::Global;
 use std::marker::Model;
@@ -81,6 +81,30 @@ impl Topo {
         &self.nodes[i as usize]
     }
 
+    /// Whether a node is an endpoint.
+    pub fn is_endpoint(&self, node: u32) -> bool
+        requires { node < length self.now.nodes }
+        ensures { result ≡ is_endpoint_at self.now.nodes node }
+    {
+        self.nodes[node as usize].is_endpoint()
+    }
+
+    /// Whether a node is a port: a bridge or a switch.
+    pub fn is_port(&self, node: u32) -> bool
+        requires { node < length self.now.nodes }
+        ensures { result ≡ is_port_at self.now.nodes node }
+    {
+        !self.nodes[node as usize].is_endpoint()
+    }
+
+    /// Whether a node forwards.
+    pub fn forwards(&self, node: u32) -> bool
+        requires { node < length self.now.nodes }
+        ensures { result ≡ forwards_at self.now.nodes node }
+    {
+        self.nodes[node as usize].forwards
+    }
+
     /// The child of a node at a port.
     pub fn child(&self, node: u32, port: u8) -> Option<u32>
         requires { node < length self.now.nodes }
@@ -114,6 +138,13 @@ impl Topo {
         self.tables.bridges.get(&uid).copied()
     }
 
+    /// The UIDs of the bridges, in node order. They are kept, so this takes no time.
+    pub fn uids(&self) -> &[u32]
+        ensures { result.now ≡ bridge_uids self.now.nodes }
+    {
+        &self.tables.uids
+    }
+
     /// The nodes from its bridge down to a node.
     pub fn path(&self, ep: u32) -> Path
         requires { ep < length self.now.nodes }
@@ -136,8 +167,21 @@ impl Topo {
         path.nodes[..path.len as usize].contains(&node)
     }
 
+    /// The port through which addresses come to a node from its decoding parent, which is the nearest node
+    /// above that does not forward: that parent, and the port there at which the node's path leaves it.
+    /// `None` where all nodes above forward or there is none. At most five steps up.
+    pub fn decoding_port(&self, node: u32) -> Option<Parent>
+        requires { node < length self.now.nodes }
+        ensures port { result ≡ decoding_port_of self.now.nodes node }
+        ensures earlier { IfSome result (λ parent. parent.node < node) }
+        ensures decodes { IfSome result (λ parent. forwards_at self.now.nodes parent.node ≡ false) }
+    {
+        decoding_port(&self.nodes, node)
+    }
+
     /// Where an address that comes to a node is first decoded: the node itself where it does not
-    /// forward, else the landing of its only child. `None` where there is no such child.
+    /// forward, else the landing of its only child. `None` where there is no such child. At most five steps
+    /// down, each a look-up of a child.
     pub fn landing(&self, node: u32) -> Option<u32>
         requires { node < length self.now.nodes }
         ensures { result ≡ landing_of self.now.nodes node }

@@ -1,7 +1,7 @@
 -- The nodes that single tables state.
 use Rattle.std.specs.Prelude.{ℕ, ◌^◌, true, false, List, [], ◌∷◌, Some, None, pos, Result, Ok, Err, if◌then◌else◌}
 use Rattle.cxl_enc.specs.Caps.{word_of}
-use Rattle.cxl_topo.specs.Faults.{placeholder_cap}
+use Rattle.cxl_enc.specs.Limits.{placeholder_cap}
 use Rattle.cxl_topo.specs.declared.node.Node.{Node}
 use Rattle.cxl_topo.specs.declared.node.NodeKind.TheVariants as kinds
 use Rattle.toml.specs.Data.{Members}

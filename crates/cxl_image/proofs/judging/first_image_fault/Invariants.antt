@@ -1,7 +1,7 @@
 use Rattle.std.proofs.Common.{◌≡◌, ◌≤◌, length}
 use Rattle.cxl_image.specs.Fields.{start_of}
 use Rattle.cxl_image.specs.File.{AgreesUpTo}
-use Rattle.cxl_image.proofs.judging.first_fault.Given as goal
+use Rattle.cxl_image.proofs.judging.first_image_fault.Given as goal
 
 -- nothing is wrong before the block of node i
 abbrev pub invariant-loop-i : goal.invariant-loop-i

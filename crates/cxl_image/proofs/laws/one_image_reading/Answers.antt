@@ -1,6 +1,6 @@
 use Rattle.cxl_image.proofs.Readings.{one_image, one_fault, not_both}
 use Rattle.cxl_image.proofs.Every.{some_reading}
-use Rattle.cxl_image.proofs.laws.one_reading.Goals as goal
+use Rattle.cxl_image.proofs.laws.one_image_reading.Goals as goal
 
 pub returns-clause-one_image : goal.returns-clause-one_image
 returns-clause-one_image c = one_image

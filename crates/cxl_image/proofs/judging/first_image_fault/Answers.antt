@@ -1,8 +1,8 @@
-use Rattle.std.proofs.Common.{◌≡◌, ◌+◌, sym, subst, arith}
+use Rattle.std.proofs.Common.{◌≡◌, ◌+◌, length, sym, subst, arith}
 use Rattle.cxl_image.specs.Fields.{start_of}
 use Rattle.cxl_image.specs.File.{AgreesUpTo}
-use Rattle.cxl_image.proofs.Places.{start_next}
-use Rattle.cxl_image.proofs.judging.first_fault.Goals as goal
+use Rattle.cxl_image.proofs.Places.{start_next, start_le, end_few}
+use Rattle.cxl_image.proofs.judging.first_image_fault.Goals as goal
 
 pub loop-i-preserved : goal.loop-i-preserved
 loop-i-preserved c =
@@ -14,3 +14,9 @@ loop-i-preserved c =
       before = omega (arith, place, c.in_default-block_fault.ensures.whole);
       agrees = subst (AgreesUpTo c.args.bytes.now c.args.topo.now.nodes) (sym place) c.in_default-block_fault.ensures.agrees;
     }
+
+pub overflow_cast-result : goal.overflow_cast-result
+overflow_cast-result c =
+    let few = end_few c.args.topo.now.nodes c.count-i-end.ensures.tree in
+    let within = start_le c.args.topo.now.nodes c.loop-i.i (length c.args.topo.now.nodes) (omega (arith, c.count-i-end.ensures.count)) in
+    omega (arith, c.loop-i.invariant.place)
