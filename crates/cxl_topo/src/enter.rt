@@ -7,8 +7,8 @@ use crate::tables::NameKey;
 use std::alloc::AllocError;
 use std::collections::BTreeMap;
 
-/// Enters the number of a node, unless an earlier node has the key.
-fn enter<K: Ord + Copy>(table: &mut BTreeMap<K, u32>, key: K, i: u32) -> Result<(), AllocError>
+/// Enters the number of a node under a key, unless an earlier node has that key.
+pub fn enter_first<K: Ord + Copy>(table: &mut BTreeMap<K, u32>, key: K, i: u32) -> Result<(), AllocError>
     ensures { OnOk result (Enters K.cmp table.old table.new key i) }
 {
     if table.get(&key).is_none() {
@@ -29,7 +29,7 @@ pub(crate) fn enter_child(
 {
     let node = &nodes[i as usize];
     match node.parent {
-        Some(parent) => enter(table, parent, i),
+        Some(parent) => enter_first(table, parent, i),
         None => Ok(()),
     }
 }
@@ -46,7 +46,7 @@ pub(crate) fn enter_first_child(
 {
     let node = &nodes[i as usize];
     match node.parent {
-        Some(parent) => enter(table, parent.node, i),
+        Some(parent) => enter_first(table, parent.node, i),
         None => Ok(()),
     }
 }
@@ -62,7 +62,7 @@ pub(crate) fn enter_name(
     ensures { OnOk result (ListsNames (take (i + 1) nodes.now) table.new) }
 {
     let node = &nodes[i as usize];
-    enter(table, NameKey(node.name), i)
+    enter_first(table, NameKey(node.name), i)
 }
 
 /// Enters node `i` under its UID, where it is a bridge.
@@ -77,7 +77,7 @@ pub(crate) fn enter_bridge(
 {
     let node = &nodes[i as usize];
     match node.kind {
-        NodeKind::Bridge(uid) => enter(table, uid, i),
+        NodeKind::Bridge(uid) => enter_first(table, uid, i),
         NodeKind::Switch | NodeKind::Endpoint(_) => Ok(()),
     }
 }

@@ -13,9 +13,9 @@ use std::alloc::{AllocError, Global};
 use std::cmp::Ordering;
 use std::collections::BTreeMap;
 
-/// A name as a key, in the order of its bytes.
+/// A name as a key of a table, in the order of its bytes.
 #[derive(Clone, Copy, Debug)]
-pub(crate) struct NameKey(pub(crate) Name);
+pub struct NameKey(pub Name);
 
 impl PartialEq for NameKey {
     ghost eq = { on (λ key. key.0) (pointwise nat_eq) };

@@ -5,4 +5,5 @@ pub mod Drafts
 pub mod Groups
 pub mod Seen
 pub mod File
+pub mod Ports
 pub mod Answers

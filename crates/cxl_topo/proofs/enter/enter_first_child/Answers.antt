@@ -8,4 +8,4 @@ pub returns-in-Some : goal.returns-in-Some
 returns-in-Some c =
     let nodes = c.args.nodes.now in
     let node = c.index-nodes-i in
-    on_ok_weaker c.enter.result (entered nat_cmp stands_under nodes c.args.i node.result c.requires.below node.is c.args.table.now c.enter.new.table c.in-Some.parent.node c.requires.listed (stands_under-own node.result c.in-Some.parent c.in-Some.is)) c.enter.ensures
+    on_ok_weaker c.enter_first.result (entered nat_cmp stands_under nodes c.args.i node.result c.requires.below node.is c.args.table.now c.enter_first.new.table c.in-Some.parent.node c.requires.listed (stands_under-own node.result c.in-Some.parent c.in-Some.is)) c.enter_first.ensures
