@@ -1,24 +1,25 @@
 ghost use Rattle.std.specs.Prelude.{◌≡◌, [], ◌∷◌, ◌++◌, false, OnOk};
-ghost use Rattle.cxl_cedt.specs.Records.{kind_of, is_full, HasFewOfEach};
+ghost use Rattle.cxl_cedt.specs.Records.{kind_of, is_kind_full, HasFewOfEach};
 
 use crate::cedt::Record;
+use crate::layout::{CFMWS_KIND, CHBS_KIND, CXIMS_KIND, KIND_LIMIT};
 use cxl_enc::Memory;
 use std::alloc::Global;
 use std::marker::Model;
 
 /// The records found so far, counted by type.
 #[derive(Drop)]
-pub struct Found {
+pub struct CountedRecords {
     records: Vec<Record>,
     chbs: u8,
     cfmws: u8,
     cxims: u8,
 }
 
-impl Model for Found {
+impl Model for CountedRecords {
     ghost use Rattle.std.specs.Prelude.{List};
     ghost use Rattle.cxl_cedt.specs.declared.cedt.Record.{Record};
-    ghost use Rattle.cxl_cedt.specs.Found.{IsCounted};
+    ghost use Rattle.cxl_cedt.specs.inner.Counted.{IsCounted};
 
     ghost Value = { List Record };
 
@@ -27,11 +28,11 @@ impl Model for Found {
     ghost invariant = { λ found. IsCounted found.records.items found.chbs found.cfmws found.cxims };
 }
 
-impl Found {
-    pub fn new(alloc: Global) -> Found
+impl CountedRecords {
+    pub fn new(alloc: Global) -> CountedRecords
         ensures { result ≡ [] }
     {
-        Found {
+        CountedRecords {
             records: Vec::new(alloc),
             chbs: 0,
             cfmws: 0,
@@ -40,28 +41,28 @@ impl Found {
     }
 
     /// Whether no more records of this type may come.
-    pub fn is_full(&self, kind: u8) -> bool
-        ensures { result ≡ is_full kind self.now }
+    pub fn is_kind_full(&self, kind: u8) -> bool
+        ensures { result ≡ is_kind_full kind self.now }
     {
         match kind {
-            0 => self.chbs == 64,
-            1 => self.cfmws == 64,
-            2 => self.cxims == 64,
+            CHBS_KIND => self.chbs == KIND_LIMIT,
+            CFMWS_KIND => self.cfmws == KIND_LIMIT,
+            CXIMS_KIND => self.cxims == KIND_LIMIT,
             _ => false,
         }
     }
 
     /// Adds a record at the end.
     pub fn push(&mut self, next: Record) -> Result<(), Memory>
-        requires { is_full (kind_of next) self.old ≡ false }
+        requires { is_kind_full (kind_of next) self.old ≡ false }
         ensures { OnOk result (self.new ≡ self.old ++ next ∷ []) }
     {
         let kind = kind_of(&next);
         self.records.push(next)?;
         match kind {
-            0 => self.chbs += 1,
-            1 => self.cfmws += 1,
-            2 => self.cxims += 1,
+            CHBS_KIND => self.chbs += 1,
+            CFMWS_KIND => self.cfmws += 1,
+            CXIMS_KIND => self.cxims += 1,
             _ => {}
         }
         Ok(())
@@ -72,7 +73,7 @@ impl Found {
         ensures records { result.items ≡ self }
         ensures few { HasFewOfEach self }
     {
-        let Found {
+        let CountedRecords {
             records,
             chbs: _,
             cfmws: _,
@@ -82,13 +83,13 @@ impl Found {
     }
 }
 
-fn kind_of(entry: &Record) -> u8
-    ensures { result ≡ kind_of entry.now }
+pub fn kind_of(item: &Record) -> u8
+    ensures { result ≡ kind_of item.now }
 {
-    match entry {
-        Record::Chbs(_) => 0,
-        Record::Cfmws(_) => 1,
-        Record::Cxims(_) => 2,
+    match item {
+        Record::Chbs(_) => CHBS_KIND,
+        Record::Cfmws(_) => CFMWS_KIND,
+        Record::Cxims(_) => CXIMS_KIND,
         Record::Other(other) => other.kind(),
     }
 }

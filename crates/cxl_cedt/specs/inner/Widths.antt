@@ -1,6 +1,8 @@
 -- What fits the fields that it is written to.
 use Rattle.std.specs.Prelude.{◌≡◌, ℕ, ◌^◌, ◌<◌, ◌≤◌, List, length, slice_index, Some}
+use Rattle.cxl_cedt.specs.Layout.{cxims_kind}
 use Rattle.cxl_enc.specs.Codes.{ways_of}
+use Rattle.cxl_enc.specs.Limits.{file_limit}
 use Rattle.cxl_cedt.specs.declared.chbs.Chbs as chbs
 use Rattle.cxl_cedt.specs.declared.cedt.Head.{Head}
 use Rattle.cxl_cedt.specs.declared.cedt.Record.{Record}
@@ -45,7 +47,7 @@ pub record CximsFits (c : CximsFields) : Type 0 where
   pub maps : AreBelow (2 ^ 64) c.maps
 
 pub record OtherFits (c : OtherFields) : Type 0 where
-  pub kind : 2 < c.kind
+  pub kind : cxims_kind < c.kind
   pub few : length c.body ≤ 65531
 
 abbrev pub RecordFits : Record → Type 0
@@ -59,4 +61,4 @@ pub record HasText (c : CedtFields) : Type 0 where
   pub head : HeadFits c.head
   pub texts : AreRecordTexts (flat_map record_spelling c.records) c.records
   pub few : HasFewOfEach c.records
-  pub short : table_length c.records ≤ 1048576
+  pub short : table_length c.records ≤ file_limit

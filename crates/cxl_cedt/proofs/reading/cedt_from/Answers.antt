@@ -1,6 +1,6 @@
 use Rattle.std.proofs.Common.{sym}
 use Rattle.cxl_cedt.proofs.Laws.{header_from, fits_from}
-use Rattle.cxl_cedt.proofs.reading.table_of.Goals as goal
+use Rattle.cxl_cedt.proofs.reading.cedt_from.Goals as goal
 
 pub new-requires-clause-fits : goal.new-requires-clause-fits
 new-requires-clause-fits c = fits_from c.args.bytes.now c.in_ok-records.records.items c.in_default.ensures.long c.requires c.in_ok-records.ensures.texts
