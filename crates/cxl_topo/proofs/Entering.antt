@@ -19,7 +19,8 @@ use Rattle.cxl_topo.specs.declared.node.Parent.{Parent}
 use Rattle.cxl_topo.specs.declared.tables.NameKey.{NameKey}
 use Rattle.cxl_topo.specs.Kinds.{uid_of}
 use Rattle.cxl_topo.specs.Tree.{stands_at, stands_under, is_bridge_with, is_named, bridge_uids}
-use Rattle.cxl_topo.specs.Tables.{Enters, port_cmp, name_cmp}
+use Rattle.cxl_topo.specs.Keys.{Enters, name_cmp}
+use Rattle.cxl_topo.specs.inner.Tables.{port_cmp}
 
 module _ {X : Type 0} (test : X → Bool) where
   position_from_push : (xs : List X) (x : X) (i : ℕ) → position_from test i (xs ++ x ∷ []) ≡ option_or (position_from test i xs) (cond (test x) (Some (i + length xs)) None)

@@ -1,6 +1,7 @@
 ghost use Rattle.std.specs.Prelude.{◌≡◌, ◌<◌, ◌+◌, OnOk, length, take};
 ghost use Rattle.cxl_topo.specs.Tree.{bridge_uids};
-ghost use Rattle.cxl_topo.specs.Tables.{Enters, ListsChildren, ListsFirstChildren, ListsNames, ListsBridges};
+ghost use Rattle.cxl_topo.specs.Keys.{Enters};
+ghost use Rattle.cxl_topo.specs.inner.Tables.{ListsChildren, ListsFirstChildren, ListsNames, ListsBridges};
 
 use crate::node::{Node, NodeKind, Parent};
 use crate::tables::NameKey;
@@ -8,7 +9,11 @@ use std::alloc::AllocError;
 use std::collections::BTreeMap;
 
 /// Enters the number of a node under a key, unless an earlier node has that key.
-pub fn enter_first<K: Ord + Copy>(table: &mut BTreeMap<K, u32>, key: K, i: u32) -> Result<(), AllocError>
+pub fn enter_first<K: Ord + Copy>(
+    table: &mut BTreeMap<K, u32>,
+    key: K,
+    i: u32,
+) -> Result<(), AllocError>
     ensures { OnOk result (Enters K.cmp table.old table.new key i) }
 {
     if table.get(&key).is_none() {

@@ -3,9 +3,9 @@ ghost use Rattle.cxl_enc.specs.Limits.{node_limit};
 ghost use Rattle.cxl_topo.specs.declared.node.Node.{Node};
 ghost use Rattle.cxl_topo.specs.Tree.{is_port_at, forwards_at};
 ghost use Rattle.cxl_topo.specs.Faults.{are_too_many, lacks_parent, has_taken_port, forks, has_taken_name, has_taken_uid, is_too_deep, has_wrong_caps, has_wrong_capacity, is_capacity, NoneBefore, IsFirstTreeFault};
-ghost use Rattle.cxl_topo.specs.Tables.{ListsChildren, ListsFirstChildren, ListsNames, ListsBridges};
-ghost use Rattle.cxl_topo.specs.AreTables.{AreTables};
-ghost use Rattle.cxl_topo.specs.Judging.{first_of, tests_of};
+ghost use Rattle.cxl_topo.specs.inner.Tables.{ListsChildren, ListsFirstChildren, ListsNames, ListsBridges};
+ghost use Rattle.cxl_topo.specs.inner.AreTables.{AreTables};
+ghost use Rattle.cxl_topo.specs.inner.Judging.{first_of, tests_of};
 
 use crate::fault::TreeFault;
 use crate::node::{Capacity, Node, NodeKind};

@@ -66,7 +66,7 @@ pub(crate) struct Tables {
 }
 
 impl Tables {
-    ghost use Rattle.cxl_topo.specs.AreTables.{AreTables};
+    ghost use Rattle.cxl_topo.specs.inner.AreTables.{AreTables};
     ghost use Rattle.std.specs.Prelude.{[]};
 
     /// The tables of no nodes.

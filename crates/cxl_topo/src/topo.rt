@@ -1,7 +1,7 @@
 ghost use Rattle.std.specs.Prelude.{◌≡◌, ◌≢◌, ◌+◌, ◌-◌, ◌≤◌, ◌<◌, ◌↔◌, ℕ, length, take, drop, replicate, slice_get, Some, IsTrue, false, IfSome, IfOk, IfErr, Contains};
 ghost use Rattle.cxl_topo.specs.Tree.{Tree, is_endpoint_at, is_port_at, forwards_at, child_of, first_child_of, name_at, uid_at, node_named, bridge_with, bridge_uids, path_of, IsPathTo, decoding_port_of, landing_of};
 ghost use Rattle.cxl_topo.specs.Faults.{IsTree, IsFirstTreeFault};
-ghost use Rattle.cxl_topo.specs.Kept.{AreFrames};
+ghost use Rattle.cxl_topo.specs.Frames.{AreFrames};
 ghost use Rattle.cxl_topo.specs.Laws.{StandsAt};
 
 use crate::fault::TreeFault;
@@ -25,7 +25,7 @@ pub struct Topo {
 
 impl Model for Topo {
     ghost use Rattle.cxl_topo.specs.Tree.{Tree};
-    ghost use Rattle.cxl_topo.specs.Kept.{IsKept};
+    ghost use Rattle.cxl_topo.specs.inner.Kept.{IsKept};
 
     ghost Value = { Tree };
 

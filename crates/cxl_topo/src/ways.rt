@@ -1,7 +1,7 @@
 ghost use Rattle.std.specs.Prelude.{◌≡◌, ◌+◌, ◌-◌, ◌*◌, ◌<◌, ◌≤◌, length, take, drop, replicate, false, IfSome};
 ghost use Rattle.cxl_enc.specs.Limits.{node_limit};
 ghost use Rattle.cxl_topo.specs.Tree.{path_of, decoding_port_of, landing_of, forwards_at};
-ghost use Rattle.cxl_topo.specs.Tables.{ListsFirstChildren};
+ghost use Rattle.cxl_topo.specs.inner.Tables.{ListsFirstChildren};
 ghost use Rattle.cxl_topo.specs.Faults.{NoneBefore, IsTree};
 
 use crate::node::{Node, Parent};

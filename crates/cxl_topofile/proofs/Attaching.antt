@@ -9,14 +9,14 @@ use Rattle.std.proofs.lemmas.Bool.{cases_Bool, lt-ltb, or_left}
 use Rattle.std.proofs.lemmas.List.{drop_more, drop_all, length_push}
 use Rattle.std.proofs.lemmas.Iterator.Adapters.{position_from-zero}
 use Rattle.cxl_topo.specs.Kinds.{is_bridge, is_endpoint}
-use Rattle.cxl_topo.specs.Tables.{Enters, name_cmp}
+use Rattle.cxl_topo.specs.Keys.{Enters, name_cmp}
 use Rattle.cxl_topo.specs.declared.tables.NameKey.{NameKey}
 use Rattle.cxl_topo.specs.Faults.{IsTree, IsFirstTreeFault}
 use Rattle.cxl_topo.specs.declared.node.Node.{Node}
 use Rattle.cxl_topo.specs.declared.fault.TreeFault.TheVariants.{TooMany}
 use Rattle.cxl_topofile.specs.declared.draft.Draft.{Draft}
 use Rattle.cxl_topofile.specs.File.{is_port_named, node_under, attached}
-use Rattle.cxl_topofile.specs.Ports.{ListsPorts}
+use Rattle.cxl_topofile.specs.inner.Ports.{ListsPorts}
 
 pub attached_more : (nodes : List Node) (drafts : List Draft) (i : ℕ) (draft : Draft) → i < length drafts → draft ≡ get_or drafts i draft → attached nodes (drop i drafts) ≡ attached (nodes ++ node_under nodes draft ∷ []) (drop (i + 1) drafts)
 unfolding attached

@@ -3,7 +3,5 @@ pub mod Wrongs
 pub mod Values
 pub mod Drafts
 pub mod Groups
-pub mod Seen
 pub mod File
-pub mod Ports
-pub mod Answers
+pub mod inner

@@ -3,7 +3,7 @@
 ghost use Rattle.std.specs.Prelude.{◌≡◌, [], ◌∷◌, ◌++◌, ◌+◌, ◌<◌, ◌≤◌, length, position, IfOk, OnOk};
 ghost use Rattle.cxl_enc.specs.Limits.{node_limit};
 ghost use Rattle.cxl_topofile.specs.File.{is_port_named, node_under, attached};
-ghost use Rattle.cxl_topofile.specs.Ports.{ListsPorts};
+ghost use Rattle.cxl_topofile.specs.inner.Ports.{ListsPorts};
 
 use crate::draft::Draft;
 use cxl_topo::{Name, NameKey, Node, Parent, enter_first};
@@ -22,7 +22,7 @@ struct Attached {
 impl Model for Attached {
     ghost use Rattle.std.specs.Prelude.{List};
     ghost use Rattle.cxl_topo.specs.declared.node.Node.{Node};
-    ghost use Rattle.cxl_topofile.specs.Ports.{ListsPorts};
+    ghost use Rattle.cxl_topofile.specs.inner.Ports.{ListsPorts};
 
     ghost Value = { List Node };
 

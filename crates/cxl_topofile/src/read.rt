@@ -3,9 +3,9 @@ ghost use Rattle.cxl_enc.specs.Limits.{frame_limit};
 ghost use Rattle.cxl_topo.specs.Tree.{Tree};
 ghost use Rattle.cxl_topo.specs.Faults.{IsTree};
 ghost use Rattle.toml.specs.View.{table_view};
-ghost use Rattle.cxl_topofile.specs.Seen.{seen_stated};
+ghost use Rattle.cxl_topofile.specs.inner.Seen.{seen_stated};
 ghost use Rattle.cxl_topofile.specs.File.{tree_of, IsDocument, IsTopologyFile, IsFirstTopoFault};
-ghost use Rattle.cxl_topofile.specs.Answers.{IsNoDocument, IsTreeRefusal};
+ghost use Rattle.cxl_topofile.specs.inner.Answers.{IsNoDocument, IsTreeRefusal};
 
 use crate::attach::attach;
 use crate::fault::TopoFault;

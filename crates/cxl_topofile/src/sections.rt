@@ -6,7 +6,7 @@ ghost use Rattle.toml.specs.View.{view, table_view, items_view};
 ghost use Rattle.cxl_topofile.specs.Values.{value_at, Gives};
 ghost use Rattle.cxl_topofile.specs.Drafts.{bridge_of};
 ghost use Rattle.cxl_topofile.specs.Groups.{Reads, section_of, draft_of, all_of, are_tables, tables_of, tables_at, top_of, stated_of};
-ghost use Rattle.cxl_topofile.specs.Seen.{seen_top, seen_stated, is_table, AddsTable};
+ghost use Rattle.cxl_topofile.specs.inner.Seen.{seen_top, seen_stated, is_table, AddsTable};
 ghost use Rattle.std.specs.Prelude.{Some};
 
 use crate::draft::{Draft, known, read_bridge};

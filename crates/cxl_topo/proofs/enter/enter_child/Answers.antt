@@ -1,6 +1,6 @@
 use Rattle.std.proofs.lemmas.Result.{on_ok_weaker}
 use Rattle.cxl_topo.specs.Tree.{stands_at}
-use Rattle.cxl_topo.specs.Tables.{port_cmp}
+use Rattle.cxl_topo.specs.inner.Tables.{port_cmp}
 use Rattle.cxl_topo.proofs.Entering.{entered, stands_at-own}
 use Rattle.cxl_topo.proofs.enter.enter_child.Goals as goal
 

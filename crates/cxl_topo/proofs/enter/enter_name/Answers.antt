@@ -1,6 +1,6 @@
 use Rattle.std.proofs.lemmas.Result.{on_ok_weaker}
 use Rattle.cxl_topo.specs.Tree.{is_named}
-use Rattle.cxl_topo.specs.Tables.{name_cmp}
+use Rattle.cxl_topo.specs.Keys.{name_cmp}
 use Rattle.cxl_topo.proofs.Entering.{entered, is_named-own}
 use Rattle.cxl_topo.proofs.enter.enter_name.Goals as goal
 

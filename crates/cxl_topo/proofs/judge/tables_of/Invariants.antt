@@ -1,6 +1,6 @@
 use Rattle.std.proofs.Common.{◌+◌, ◌*◌, take}
 use Rattle.cxl_topo.specs.Faults.{NoneBefore}
-use Rattle.cxl_topo.specs.AreTables.{AreTables}
+use Rattle.cxl_topo.specs.inner.AreTables.{AreTables}
 use Rattle.cxl_topo.proofs.judge.tables_of.Given as goal
 
 abbrev pub invariant-loop-i : goal.invariant-loop-i

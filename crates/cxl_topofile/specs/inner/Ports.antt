@@ -3,7 +3,7 @@ use Rattle.std.specs.Prelude.{◌≡◌, ℕ, List, position}
 use Rattle.std.specs.BTreeMap.{BTreeMap, get}
 use Rattle.cxl_topo.specs.declared.node.Node.{Node}
 use Rattle.cxl_topo.specs.declared.tables.NameKey.{NameKey}
-use Rattle.cxl_topo.specs.Tables.{name_cmp}
+use Rattle.cxl_topo.specs.Keys.{name_cmp}
 use Rattle.cxl_topofile.specs.File.{is_port_named}
 
 -- what a search over the nodes would find, the table finds

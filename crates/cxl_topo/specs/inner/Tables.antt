@@ -1,26 +1,17 @@
 -- What the tables of a tree say of its nodes.
-use Rattle.std.specs.Prelude.{◌≡◌, ℕ, List, Some, None, if◌then◌else◌}
-use Rattle.std.specs.Option.{option_or}
+use Rattle.std.specs.Prelude.{◌≡◌, ℕ, List}
 use Rattle.std.specs.declared.cmp.Ordering.{Ordering}
 use Rattle.std.specs.Ordering.{nat_cmp, on, then_cmp}
-use Rattle.std.specs.Cmp.Lexicographic.{slice_cmp}
-use Rattle.std.specs.BTreeMap.{BTreeMap, get, is_at}
+use Rattle.std.specs.BTreeMap.{BTreeMap, get}
 use Rattle.cxl_topo.specs.declared.node.Node.{Node}
 use Rattle.cxl_topo.specs.declared.node.Parent.{Parent}
 use Rattle.cxl_topo.specs.declared.tables.NameKey.{NameKey}
+use Rattle.cxl_topo.specs.Keys.{name_cmp}
 use Rattle.cxl_topo.specs.Tree.{node_named, bridge_with, child_of, first_child_of}
 
 -- the order of ports: by node, then by port
 abbrev pub port_cmp : Parent → Parent → Ordering
 port_cmp = then_cmp (on (λ parent. parent.node) nat_cmp) (on (λ parent. parent.port) nat_cmp)
-
--- the order of names: by their bytes
-abbrev pub name_cmp : NameKey → NameKey → Ordering
-name_cmp = on (λ key. key.0) (slice_cmp nat_cmp)
-
--- the new map has what the old one has, and the number at the key where the old one has nothing there
-abbrev pub Enters : {K : Type 0} → (K → K → Ordering) → BTreeMap K ℕ → BTreeMap K ℕ → K → ℕ → Type 0
-Enters {K} cmp old new key i = (q : K) → get cmp new q ≡ option_or (get cmp old q) (if is_at (cmp key) q then Some i else None)
 
 -- what a search over the nodes would find, the table finds
 abbrev pub ListsChildren : List Node → BTreeMap Parent ℕ → Type 0

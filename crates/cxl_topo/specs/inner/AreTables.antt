@@ -3,7 +3,7 @@ use Rattle.std.specs.Prelude.{◌≡◌, List}
 use Rattle.cxl_topo.specs.declared.node.Node.{Node}
 use Rattle.cxl_topo.specs.declared.tables.Tables.{Tables}
 use Rattle.cxl_topo.specs.Tree.{bridge_uids}
-use Rattle.cxl_topo.specs.Tables.{ListsChildren, ListsFirstChildren, ListsNames, ListsBridges}
+use Rattle.cxl_topo.specs.inner.Tables.{ListsChildren, ListsFirstChildren, ListsNames, ListsBridges}
 
 pub record AreTables (nodes : List Node) (tables : Tables) : Type 0 where
   pub children : ListsChildren nodes tables.children

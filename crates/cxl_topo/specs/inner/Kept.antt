@@ -1,15 +1,10 @@
 -- What every topology keeps.
-use Rattle.std.specs.Prelude.{ℕ, ◌≤◌, List}
-use Rattle.cxl_enc.specs.Limits.{frame_limit}
+use Rattle.std.specs.Prelude.{ℕ, List}
 use Rattle.cxl_topo.specs.declared.node.Node.{Node}
 use Rattle.cxl_topo.specs.declared.tables.Tables.{Tables}
 use Rattle.cxl_topo.specs.Faults.{IsTree}
-use Rattle.cxl_topo.specs.AreTables.{AreTables}
-
--- as many frames as a topology may state
-pub record AreFrames (frames : ℕ) : Type 0 where
-  pub some : 1 ≤ frames
-  pub few : frames ≤ frame_limit
+use Rattle.cxl_topo.specs.Frames.{AreFrames}
+use Rattle.cxl_topo.specs.inner.AreTables.{AreTables}
 
 pub record IsKept (nodes : List Node) (frames : ℕ) (tables : Tables) : Type 0 where
   pub tree : IsTree nodes
