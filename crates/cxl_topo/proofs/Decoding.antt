@@ -1,9 +1,9 @@
 -- The way from a node up to its decoding parent.
-use Rattle.std.proofs.Common.{◌≡◌, ℕ, suc, ◌<◌, ◌≤◌, Bool, true, false, not, List, length, get_or, Option, Some, None, refl, sym, ap, subst, ◌∙◌, arith}
+use Rattle.std.proofs.Common.{◌≡◌, ℕ, suc, ◌<◌, ◌≤◌, Bool, true, false, not, List, length, get_or, Option, Some, sym, ap, subst, ◌∙◌, arith}
 use Rattle.std.specs.Prelude.{find}
 use Rattle.cxl_topo.specs.declared.node.Node.{Node}
 use Rattle.cxl_topo.specs.declared.node.Parent.{Parent}
-use Rattle.cxl_topo.specs.Tree.{forwards_at, parent_of, ports_above, decoding_port_of}
+use Rattle.cxl_topo.specs.Tree.{forwards_at, parent_of, decoding_port_of}
 use Rattle.cxl_topo.specs.Faults.{IsTree}
 use Rattle.cxl_topo.proofs.WaysUp.{ports_from, height_of, height_falls, ports_above-more}
 use Rattle.cxl_topo.proofs.WaysDown.{forwards_is}

@@ -9,7 +9,7 @@ use Rattle.cxl_topo.specs.declared.node.Capacity.{Capacity}
 use Rattle.cxl_topo.specs.declared.fault.TreeFault.{TreeFault}
 use Rattle.cxl_topo.specs.declared.fault.TreeFault.TheVariants as faults
 use Rattle.cxl_topo.specs.Kinds.{is_bridge, is_switch, is_endpoint, uid_of, capacity_of}
-use Rattle.cxl_topo.specs.Tree.{holds_at, forwards_at, is_bridge_at, is_switch_at, is_port_at, name_at, uid_at, node_named, bridge_with, child_of, first_child_of, parent_of, ports_above}
+use Rattle.cxl_topo.specs.Tree.{holds_at, forwards_at, is_bridge_at, is_switch_at, is_port_at, name_at, uid_at, node_named, bridge_with, child_of, least_child_of, parent_of, ports_above}
 
 -- ---- what each fault says of a node, given the earlier nodes
 
@@ -26,7 +26,7 @@ has_taken_port earlier node = option_map_or (λ parent. is_some (child_of earlie
 -- the parent forwards, and has an earlier child
 abbrev pub forks : List Node → Node → Bool
 forks earlier node =
-    option_map_or (λ parent. forwards_at earlier parent.node && is_some (first_child_of earlier parent.node)) node.parent false
+    option_map_or (λ parent. forwards_at earlier parent.node && is_some (least_child_of earlier parent.node)) node.parent false
 
 -- an earlier node has the name
 abbrev pub has_taken_name : List Node → Node → Bool

@@ -75,9 +75,9 @@ child_of nodes n p = position (stands_at n p) nodes
 abbrev pub stands_under : ℕ → Node → Bool
 stands_under n node = option_map_or (λ parent. parent.node == n) node.parent false
 
--- the only child of node n, or the first where it has several
-abbrev pub first_child_of : List Node → ℕ → Option ℕ
-first_child_of nodes n = position (stands_under n) nodes
+-- the child of node n that has the least number
+abbrev pub least_child_of : List Node → ℕ → Option ℕ
+least_child_of nodes n = position (stands_under n) nodes
 
 -- ---- ways up
 
@@ -124,7 +124,7 @@ leading_port_of nodes i = option_map (λ parent. parent.port) (decoding_port_of 
 abbrev pub landing_within : ℕ → List Node → ℕ → Option ℕ
 landing_within zero nodes n = None
 landing_within (suc k) nodes n =
-    if forwards_at nodes n then option_and_then (landing_within k nodes) (first_child_of nodes n) else Some n
+    if forwards_at nodes n then option_and_then (landing_within k nodes) (least_child_of nodes n) else Some n
 
 -- node n itself where it does not forward, else the landing of its only child, and nothing where it has no child
 abbrev pub landing_of : List Node → ℕ → Option ℕ

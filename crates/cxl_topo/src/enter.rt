@@ -1,7 +1,7 @@
 ghost use Rattle.std.specs.Prelude.{◌≡◌, ◌<◌, ◌+◌, OnOk, length, take};
 ghost use Rattle.cxl_topo.specs.Tree.{bridge_uids};
 ghost use Rattle.cxl_topo.specs.Keys.{Enters};
-ghost use Rattle.cxl_topo.specs.inner.Tables.{ListsChildren, ListsFirstChildren, ListsNames, ListsBridges};
+ghost use Rattle.cxl_topo.specs.inner.Tables.{ListsChildren, ListsLeastChildren, ListsNames, ListsBridges};
 
 use crate::node::{Node, NodeKind, Parent};
 use crate::tables::NameKey;
@@ -39,15 +39,15 @@ pub(crate) fn enter_child(
     }
 }
 
-/// Enters node `i` as the first child of its parent, unless there is one.
-pub(crate) fn enter_first_child(
+/// Enters node `i` as the least child of its parent, unless there is an earlier one.
+pub(crate) fn enter_least_child(
     table: &mut BTreeMap<u32, u32>,
     nodes: &[Node],
     i: u32,
 ) -> Result<(), AllocError>
     requires below { i < length nodes.now }
-    requires listed { ListsFirstChildren (take i nodes.now) table.old }
-    ensures { OnOk result (ListsFirstChildren (take (i + 1) nodes.now) table.new) }
+    requires listed { ListsLeastChildren (take i nodes.now) table.old }
+    ensures { OnOk result (ListsLeastChildren (take (i + 1) nodes.now) table.new) }
 {
     let node = &nodes[i as usize];
     match node.parent {

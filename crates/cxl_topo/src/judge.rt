@@ -3,7 +3,7 @@ ghost use Rattle.cxl_enc.specs.Limits.{node_limit};
 ghost use Rattle.cxl_topo.specs.declared.node.Node.{Node};
 ghost use Rattle.cxl_topo.specs.Tree.{is_port_at, forwards_at};
 ghost use Rattle.cxl_topo.specs.Faults.{are_too_many, lacks_parent, has_taken_port, forks, has_taken_name, has_taken_uid, is_too_deep, has_wrong_caps, has_wrong_capacity, is_capacity, NoneBefore, IsFirstTreeFault};
-ghost use Rattle.cxl_topo.specs.inner.Tables.{ListsChildren, ListsFirstChildren, ListsNames, ListsBridges};
+ghost use Rattle.cxl_topo.specs.inner.Tables.{ListsChildren, ListsLeastChildren, ListsNames, ListsBridges};
 ghost use Rattle.cxl_topo.specs.inner.AreTables.{AreTables};
 ghost use Rattle.cxl_topo.specs.inner.Judging.{first_of, tests_of};
 
@@ -25,7 +25,7 @@ pub(crate) fn are_too_many(nodes: &[Node]) -> bool
 }
 
 /// The tables of the nodes, or their first fault, where they are not too many.
-pub(crate) fn tables_of(alloc: Global, nodes: &[Node]) -> Result<Tables, TreeFault>
+pub(crate) fn tables_or_fault(alloc: Global, nodes: &[Node]) -> Result<Tables, TreeFault>
     requires { are_too_many nodes.now ≡ false }
     ensures tables { IfOk result (λ tables. AreTables nodes.now tables) }
     ensures none { OnOk result (NoneBefore nodes.now (8 * length nodes.now + 1)) }
@@ -117,11 +117,11 @@ fn has_taken_port(tables: &Tables, node: &Node) -> bool
 }
 
 fn forks(earlier: &[Node], tables: &Tables, node: &Node) -> bool
-    ensures { ListsFirstChildren earlier.now tables.now.first_children → result ≡ forks earlier.now node.now }
+    ensures { ListsLeastChildren earlier.now tables.now.least_children → result ≡ forks earlier.now node.now }
 {
     match node.parent {
         Some(parent) => forwards(earlier, parent.node)
-            && tables.first_children.get(&parent.node).is_some(),
+            && tables.least_children.get(&parent.node).is_some(),
         None => false,
     }
 }

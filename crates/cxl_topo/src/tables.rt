@@ -6,7 +6,7 @@ ghost use Rattle.std.specs.Ordering.{nat_cmp, on, as_partial_cmp};
 ghost use Rattle.std.specs.Prelude.{nat_eq};
 ghost use Rattle.std.proofs.Common.{rules};
 
-use crate::enter::{add_uid, enter_bridge, enter_child, enter_first_child, enter_name};
+use crate::enter::{add_uid, enter_bridge, enter_child, enter_least_child, enter_name};
 use crate::node::{Node, Parent};
 use cxl_enc::Name;
 use std::alloc::{AllocError, Global};
@@ -59,7 +59,7 @@ impl Ord for NameKey {
 #[derive(Debug, Drop)]
 pub(crate) struct Tables {
     pub(crate) children: BTreeMap<Parent, u32>,
-    pub(crate) first_children: BTreeMap<u32, u32>,
+    pub(crate) least_children: BTreeMap<u32, u32>,
     pub(crate) names: BTreeMap<NameKey, u32>,
     pub(crate) bridges: BTreeMap<u32, u32>,
     pub(crate) uids: Vec<u32>,
@@ -75,7 +75,7 @@ impl Tables {
     {
         Tables {
             children: BTreeMap::new(alloc),
-            first_children: BTreeMap::new(alloc),
+            least_children: BTreeMap::new(alloc),
             names: BTreeMap::new(alloc),
             bridges: BTreeMap::new(alloc),
             uids: Vec::new(alloc),
@@ -89,7 +89,7 @@ impl Tables {
         ensures { OnOk result (AreTables (take (i + 1) nodes.now) self.new) }
     {
         enter_child(&mut self.children, nodes, i)?;
-        enter_first_child(&mut self.first_children, nodes, i)?;
+        enter_least_child(&mut self.least_children, nodes, i)?;
         enter_name(&mut self.names, nodes, i)?;
         enter_bridge(&mut self.bridges, nodes, i)?;
         add_uid(&mut self.uids, nodes, i)

@@ -83,7 +83,7 @@ fn finds_nodes(rt: HostRuntime) -> Result<(), Fail> {
     assert_eq!(rt; topo.node(3).cap, 0x1b02);
     assert_eq!(rt; topo.child(1, 0), Some(3));
     assert_eq!(rt; topo.child(0, 1), None);
-    assert_eq!(rt; topo.first_child(0), Some(2));
+    assert_eq!(rt; topo.least_child(0), Some(2));
     assert_eq!(rt; topo.find(&Name::read(b"e0").ok_or("a name")?), Some(3));
     assert_eq!(rt; topo.bridge(7), Some(1));
     assert_eq!(rt; topo.uids(), [0, 7].as_slice());

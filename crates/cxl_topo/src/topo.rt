@@ -1,11 +1,11 @@
-ghost use Rattle.std.specs.Prelude.{◌≡◌, ◌≢◌, ◌+◌, ◌-◌, ◌≤◌, ◌<◌, ◌↔◌, ℕ, length, take, drop, replicate, slice_get, Some, IsTrue, false, IfSome, IfOk, IfErr, Contains};
-ghost use Rattle.cxl_topo.specs.Tree.{Tree, is_endpoint_at, is_port_at, forwards_at, child_of, first_child_of, name_at, uid_at, node_named, bridge_with, bridge_uids, path_of, IsPathTo, decoding_port_of, landing_of};
+ghost use Rattle.std.specs.Prelude.{◌≡◌, ◌≢◌, ◌+◌, ◌-◌, ◌≤◌, ◌<◌, ◌↔◌, ℕ, length, take, drop, replicate, slice_get, Some, IsTrue, false, IfSome, IsSomeAnd, IfOk, IfErr, Contains};
+ghost use Rattle.cxl_topo.specs.Tree.{Tree, is_endpoint_at, is_port_at, forwards_at, child_of, least_child_of, name_at, uid_at, node_named, bridge_with, bridge_uids, path_of, IsPathTo, decoding_port_of, landing_of};
 ghost use Rattle.cxl_topo.specs.Faults.{IsTree, IsFirstTreeFault};
 ghost use Rattle.cxl_topo.specs.Frames.{AreFrames};
-ghost use Rattle.cxl_topo.specs.Laws.{StandsAt};
+ghost use Rattle.cxl_topo.specs.Laws.{StandsAt, StandsBelow};
 
 use crate::fault::TreeFault;
-use crate::judge::{are_too_many, tables_of};
+use crate::judge::{are_too_many, tables_or_fault};
 use crate::node::{Node, Parent};
 use crate::path::Path;
 use crate::tables::{NameKey, Tables};
@@ -49,7 +49,7 @@ impl Topo {
         if are_too_many(&nodes) {
             return Err(TreeFault::TooMany);
         }
-        let tables = tables_of(alloc, &nodes)?;
+        let tables = tables_or_fault(alloc, &nodes)?;
         Ok(Topo {
             nodes,
             frames,
@@ -115,11 +115,13 @@ impl Topo {
         self.tables.children.get(&place).copied()
     }
 
-    /// The only child of a node, or the first where it has several.
-    pub fn first_child(&self, node: u32) -> Option<u32>
-        ensures { result ≡ first_child_of self.now.nodes node }
+    /// The child of a node that has the least number: the only child of one that forwards.
+    pub fn least_child(&self, node: u32) -> Option<u32>
+        ensures child { result ≡ least_child_of self.now.nodes node }
+        ensures below { IfSome result (λ c. StandsBelow self.now.nodes node c) }
+        ensures least { (c : ℕ) → StandsBelow self.now.nodes node c → IsSomeAnd result (λ least. least ≤ c) }
     {
-        self.tables.first_children.get(&node).copied()
+        self.tables.least_children.get(&node).copied()
     }
 
     /// The node with a name.
@@ -186,6 +188,6 @@ impl Topo {
         requires { node < length self.now.nodes }
         ensures { result ≡ landing_of self.now.nodes node }
     {
-        landing(&self.nodes, &self.tables.first_children, node)
+        landing(&self.nodes, &self.tables.least_children, node)
     }
 }

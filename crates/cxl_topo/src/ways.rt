@@ -1,7 +1,7 @@
 ghost use Rattle.std.specs.Prelude.{◌≡◌, ◌+◌, ◌-◌, ◌*◌, ◌<◌, ◌≤◌, length, take, drop, replicate, false, IfSome};
 ghost use Rattle.cxl_enc.specs.Limits.{node_limit};
 ghost use Rattle.cxl_topo.specs.Tree.{path_of, decoding_port_of, landing_of, forwards_at};
-ghost use Rattle.cxl_topo.specs.inner.Tables.{ListsFirstChildren};
+ghost use Rattle.cxl_topo.specs.inner.Tables.{ListsLeastChildren};
 ghost use Rattle.cxl_topo.specs.Faults.{NoneBefore, IsTree};
 
 use crate::node::{Node, Parent};
@@ -48,15 +48,15 @@ pub(crate) fn decoding_port(nodes: &[Node], i: u32) -> Option<Parent>
 }
 
 /// The first node at or below node `i` that does not forward.
-pub(crate) fn landing(nodes: &[Node], first_children: &BTreeMap<u32, u32>, i: u32) -> Option<u32>
+pub(crate) fn landing(nodes: &[Node], least_children: &BTreeMap<u32, u32>, i: u32) -> Option<u32>
     requires below { i < length nodes.now }
     requires tree { IsTree nodes.now }
-    requires listed { ListsFirstChildren nodes.now first_children.now }
+    requires listed { ListsLeastChildren nodes.now least_children.now }
     ensures { result ≡ landing_of nodes.now i }
 {
     let mut at = i;
     while nodes[at as usize].forwards {
-        at = *first_children.get(&at)?;
+        at = *least_children.get(&at)?;
     }
     Some(at)
 }

@@ -2,7 +2,7 @@ use Rattle.std.specs.Ordering.{nat_cmp}
 use Rattle.std.proofs.lemmas.Result.{on_ok_weaker}
 use Rattle.cxl_topo.specs.Tree.{stands_under}
 use Rattle.cxl_topo.proofs.Entering.{entered, stands_under-own}
-use Rattle.cxl_topo.proofs.enter.enter_first_child.Goals as goal
+use Rattle.cxl_topo.proofs.enter.enter_least_child.Goals as goal
 
 pub returns-in-Some : goal.returns-in-Some
 returns-in-Some c =

@@ -1,7 +1,7 @@
 use Rattle.std.proofs.Common.{◌+◌, ◌*◌, take}
 use Rattle.cxl_topo.specs.Faults.{NoneBefore}
 use Rattle.cxl_topo.specs.inner.AreTables.{AreTables}
-use Rattle.cxl_topo.proofs.judge.tables_of.Given as goal
+use Rattle.cxl_topo.proofs.judge.tables_or_fault.Given as goal
 
 abbrev pub invariant-loop-i : goal.invariant-loop-i
 invariant-loop-i l = record {
