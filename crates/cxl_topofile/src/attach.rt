@@ -100,7 +100,8 @@ fn enter_port(
     requires listed { ListsPorts earlier.now ports.old }
     ensures { OnOk result (ListsPorts (earlier.now ++ node.now ∷ []) ports.new) }
 {
-    if node.is_endpoint() {
+    let passed_over = node.is_endpoint();
+    if passed_over {
         return Ok(());
     }
     enter_first(ports, NameKey(node.name), earlier.len() as u32)
