@@ -3,8 +3,8 @@ use Rattle.std.proofs.Common.{◌≡◌, ℕ, ◌+◌, ◌<◌, ◌≤◌, true,
 use Rattle.std.proofs.lemmas.Bool.{eqb-true, eqb-false, eq-eqb, ne_eqb, le-leb, leb-true, cases_Bool}
 use Rattle.std.proofs.lemmas.List.Sums.{sum_by_push, sum_by-append}
 use Rattle.cxl_cedt.specs.declared.cedt.Record.{Record}
-use Rattle.cxl_cedt.specs.Records.{kind_of, count_of, is_full, HasFewOfEach}
-use Rattle.cxl_cedt.specs.Found.{IsCounted}
+use Rattle.cxl_cedt.specs.Records.{kind_of, count_of, is_kind_full, HasFewOfEach}
+use Rattle.cxl_cedt.specs.inner.Counted.{IsCounted}
 
 -- one more record counts where it is of the type
 abbrev pub one_of : ℕ → Record → ℕ
@@ -23,16 +23,16 @@ one_of_other : (kind : ℕ) (r : Record) → (kind_of r ≡ kind → ⊥) → on
 one_of_other kind r e = rw (ne_eqb (kind_of r) kind e) refl
 
 -- fewer than 64 where there is room
-pub room_at : (kind k : ℕ) (xs : List Record) → k ≤ 2 → kind ≡ k → is_full kind xs ≡ false → count_of k xs ≤ 64 → count_of k xs < 64
+pub room_at : (kind k : ℕ) (xs : List Record) → k ≤ 2 → kind ≡ k → is_kind_full kind xs ≡ false → count_of k xs ≤ 64 → count_of k xs < 64
 room_at kind k xs judged same room few =
     let judged_so : leb k 2 ≡ true = le-leb k 2 judged in
-    let room_so : is_full k xs ≡ false = subst (λ (x : ℕ). is_full x xs ≡ false) same room in
+    let room_so : is_kind_full k xs ≡ false = subst (λ (x : ℕ). is_kind_full x xs ≡ false) same room in
     let other : eqb (count_of k xs) 64 ≡ false = rw judged_so at room_so in
     let ne : count_of k xs ≡ 64 → ⊥ = eqb-false _ _ other in
     omega arith
 
 -- there is room where one more of the type makes few
-pub room_from : (kind : ℕ) (xs : List Record) → (kind ≤ 2 → count_of kind xs < 64) → is_full kind xs ≡ false
+pub room_from : (kind : ℕ) (xs : List Record) → (kind ≤ 2 → count_of kind xs < 64) → is_kind_full kind xs ≡ false
 room_from kind xs h =
     elim (cases_Bool (leb kind 2)) [
       | inl judged ↦
@@ -41,7 +41,7 @@ room_from kind xs h =
       | inr other ↦ rw other refl
     ]
 
-few_of : (k : ℕ) (xs : List Record) (y : Record) → k ≤ 2 → is_full (kind_of y) xs ≡ false → count_of k xs ≤ 64 → count_of k (xs ++ y ∷ []) ≤ 64
+few_of : (k : ℕ) (xs : List Record) (y : Record) → k ≤ 2 → is_kind_full (kind_of y) xs ≡ false → count_of k xs ≤ 64 → count_of k (xs ++ y ∷ []) ≤ 64
 few_of k xs y judged room few =
     elim (cases_Bool (eqb (kind_of y) k)) [
       | inl same ↦
@@ -53,7 +53,7 @@ few_of k xs y judged room few =
           omega (arith, count_of-push k xs y)
     ]
 
-pub few_push : (xs : List Record) (y : Record) → is_full (kind_of y) xs ≡ false → HasFewOfEach xs → HasFewOfEach (xs ++ y ∷ [])
+pub few_push : (xs : List Record) (y : Record) → is_kind_full (kind_of y) xs ≡ false → HasFewOfEach xs → HasFewOfEach (xs ++ y ∷ [])
 few_push xs y room few = record {
   chbs = few_of 0 xs y (omega arith) room few.chbs;
   cfmws = few_of 1 xs y (omega arith) room few.cfmws;
@@ -66,7 +66,7 @@ counted k kind m n xs y is of_k more =
     let one : one_of kind y ≡ cond (eqb k kind) 1 0 = ap (λ (x : ℕ). cond (eqb x kind) 1 0) of_k in
     omega (arith, count_of-push kind xs y)
 
-pub counted_push : (k : ℕ) (xs ys : List Record) (y : Record) (a b c a' b' c' : ℕ) → ys ≡ xs ++ y ∷ [] → is_full (kind_of y) xs ≡ false → IsCounted xs a b c → kind_of y ≡ k
+pub counted_push : (k : ℕ) (xs ys : List Record) (y : Record) (a b c a' b' c' : ℕ) → ys ≡ xs ++ y ∷ [] → is_kind_full (kind_of y) xs ≡ false → IsCounted xs a b c → kind_of y ≡ k
     → a' ≡ a + cond (eqb k 0) 1 0 → b' ≡ b + cond (eqb k 1) 1 0 → c' ≡ c + cond (eqb k 2) 1 0 → IsCounted ys a' b' c'
 counted_push k xs ys y a b c a' b' c' is room before of_k more_chbs more_cfmws more_cxims =
     subst (λ (l : List Record). IsCounted l a' b' c') (sym is) (record {

@@ -4,9 +4,9 @@ use Rattle.std.proofs.lemmas.List.{take_at, drop_at, take-append-drop, append-ni
 use Rattle.std.specs.Prelude.{unwrap_or}
 use Rattle.cxl_enc.specs.Codes.{ways_of}
 use Rattle.cxl_cedt.specs.declared.cedt.Record.{Record}
-use Rattle.cxl_cedt.specs.Records.{kind_of, is_full}
+use Rattle.cxl_cedt.specs.Records.{kind_of, is_kind_full}
 use Rattle.cxl_cedt.specs.Table.{field, IsRecordText, AreRecordTexts, kind_said, length_said, ways_said, record_fault}
-use Rattle.cxl_cedt.specs.Decoding.{ways_in, IsSoundText, record_of}
+use Rattle.cxl_cedt.specs.inner.Decoding.{known_ways, IsSoundText, record_of}
 use Rattle.cxl_cedt.proofs.Places.{field_front}
 use Rattle.cxl_cedt.proofs.RecordTests.{PassesTests, passes, no_fault, whole_from, not_cut, HasLength, length_from, not_short, ways_from, ways_known, size_from, no_other_length, gran_from, no_unknown_gran, arithmetic_from, arithmetic_known}
 use Rattle.cxl_cedt.proofs.Sound.{spelled, decoded, said_kind, is_sound}
@@ -22,7 +22,7 @@ length_front text more long = field_front text more 2 2 (omega arith)
 ways_front : (text more : List ℕ) → 36 ≤ length text → ways_said (text ++ more) ≡ ways_said text
 ways_front text more long = ap ways_of (field_front text more 24 1 (omega arith))
 
-count_front : (text more : List ℕ) → 36 ≤ length text → ways_in (text ++ more) ≡ ways_in text
+count_front : (text more : List ℕ) → 36 ≤ length text → known_ways (text ++ more) ≡ known_ways text
 count_front text more long = ap (λ (o : Option ℕ). unwrap_or o 0) (ways_front text more long)
 
 -- ---- a text without fault passes the tests, whatever follows it
@@ -35,7 +35,7 @@ at_least text h = record {
   maps = λ k. omega (arith, (h.maps k).size);
 }
 
-pub passes_from_sound : (before : List Record) (text more : List ℕ) → IsSoundText text → is_full (kind_said text) before ≡ false → PassesTests before (text ++ more)
+pub passes_from_sound : (before : List Record) (text more : List ℕ) → IsSoundText text → is_kind_full (kind_said text) before ≡ false → PassesTests before (text ++ more)
 passes_from_sound before text more h room =
     let long = h.long in
     let rest : List ℕ = text ++ more in
@@ -96,7 +96,7 @@ pub record HasRecord (before : List Record) (rest : List ℕ) : Type 0 where
   pub long : 4 ≤ length_said rest
   pub within : length_said rest ≤ length rest
   pub sound : IsSoundText (take (length_said rest) rest)
-  pub room : is_full (kind_of (record_of (take (length_said rest) rest))) before ≡ false
+  pub room : is_kind_full (kind_of (record_of (take (length_said rest) rest))) before ≡ false
 
 pub has_record : (before : List Record) (rest : List ℕ) (at : ℕ) → record_fault before rest at ≡ None → HasRecord before rest
 has_record before rest at e =
@@ -112,11 +112,11 @@ has_record before rest at e =
       long = (length_from (kind_said rest) n p.long).frame;
       within = within;
       sound = sound;
-      room = subst (λ (k : ℕ). is_full k before ≡ false) kind p.room;
+      room = subst (λ (k : ℕ). is_kind_full k before ≡ false) kind p.room;
     }
 
 -- what begins with the text of a record that may still come has no fault there
-pub no_fault_at_record : (before : List Record) (text more : List ℕ) (r : Record) (at : ℕ) → IsRecordText text r → is_full (kind_of r) before ≡ false → record_fault before (text ++ more) at ≡ None
+pub no_fault_at_record : (before : List Record) (text more : List ℕ) (r : Record) (at : ℕ) → IsRecordText text r → is_kind_full (kind_of r) before ≡ false → record_fault before (text ++ more) at ≡ None
 no_fault_at_record before text more r at h room =
     no_fault before (text ++ more) at (passes_from_sound before text more (is_sound text r h) (rw (said_kind text r h) room))
 

@@ -5,14 +5,15 @@ use Rattle.std.proofs.lemmas.List.{append-nil}
 use Rattle.std.proofs.lemmas.List.Sums.{sum_by-cons}
 use Rattle.std.proofs.lemmas.Option.{none-some, same_Some}
 use Rattle.std.proofs.lemmas.Bool.{ltb-false, le-ltb, eqb-true, eq-eqb, not-false, not_from_true}
+use Rattle.cxl_enc.specs.Limits.{file_limit}
 use Rattle.cxl_cedt.specs.declared.cedt.Head.{Head}
 use Rattle.cxl_cedt.specs.declared.cedt.Record.{Record}
 use Rattle.cxl_cedt.specs.declared.fault.CedtFault.{CedtFault}
 use Rattle.cxl_cedt.specs.CedtFields.{CedtFields}
-use Rattle.cxl_cedt.specs.Records.{kind_of, count_of, record_length, table_length, is_full, HasFewOfEach}
-use Rattle.cxl_cedt.specs.Table.{field, bytes_at, has_signature, AreRecordTexts, IsTableText, length_said, header_fault, record_fault, IsRecordFault, FirstTableFault, HasTable, HasFault, IsFaultOf, IsAnswer}
-use Rattle.cxl_cedt.specs.Decoding.{record_of}
-use Rattle.cxl_cedt.specs.Scan.{AreReadTo}
+use Rattle.cxl_cedt.specs.Records.{kind_of, count_of, record_length, table_length, is_kind_full, HasFewOfEach}
+use Rattle.cxl_cedt.specs.Table.{field, some_bytes, has_signature, AreRecordTexts, IsTableText, length_said, header_fault, record_fault, IsRecordFault, FirstTableFault, HasTable, HasFault, IsFaultOf, IsAnswer}
+use Rattle.cxl_cedt.specs.inner.Decoding.{record_of}
+use Rattle.cxl_cedt.specs.inner.Scan.{AreReadTo}
 use Rattle.cxl_cedt.proofs.Counts.{one_of, one_of_same, count_of-push, count_of-append, room_from}
 use Rattle.cxl_cedt.proofs.Sound.{is_sound, text_length}
 use Rattle.cxl_cedt.proofs.Fronts.{no_fault_at_record, has_record, Leads, leads_from, leads_to_end, one_goes_on}
@@ -26,7 +27,7 @@ few_each (suc zero) xs few le = few.cfmws
 few_each (suc (suc zero)) xs few le = few.cxims
 few_each (suc (suc (suc k))) xs few le = absurd (omega arith)
 
-room_for : (before more : List Record) (r : Record) → HasFewOfEach (before ++ r ∷ more) → is_full (kind_of r) before ≡ false
+room_for : (before more : List Record) (r : Record) → HasFewOfEach (before ++ r ∷ more) → is_kind_full (kind_of r) before ≡ false
 room_for before more r few =
     let k : ℕ = kind_of r in
     room_from k before (λ judged.
@@ -161,10 +162,10 @@ one_fault bytes f g (inr (none, h)) (inr (none', k)) = one_record_fault bytes f 
 head_in : List ℕ → Head
 head_in bytes = record {
   revision = field bytes 8 1;
-  oem_id = bytes_at bytes 10 6;
-  oem_table = bytes_at bytes 16 8;
+  oem_id = some_bytes bytes 10 6;
+  oem_table = some_bytes bytes 16 8;
   oem_revision = field bytes 24 4;
-  creator = bytes_at bytes 28 4;
+  creator = some_bytes bytes 28 4;
   creator_revision = field bytes 32 4;
 }
 
@@ -222,7 +223,7 @@ texts_length text [] h = ap length (sym h)
 texts_length text (r ∷ rs) (first, next, whole, of_r, others) =
     sum_by-cons record_length r rs ∙ omega (arith, text_length first r of_r, texts_length next rs others, ap length whole, length-append first next)
 
-pub fits_from : (bytes : List ℕ) (rs : List Record) → 36 ≤ length bytes → length bytes ≤ 1048576 → AreRecordTexts (drop 36 bytes) rs → table_length rs ≤ 1048576
+pub fits_from : (bytes : List ℕ) (rs : List Record) → 36 ≤ length bytes → length bytes ≤ file_limit → AreRecordTexts (drop 36 bytes) rs → table_length rs ≤ file_limit
 fits_from bytes rs long short h = omega (arith, texts_length (drop 36 bytes) rs h, length-drop 36 bytes)
 
 pub only_table : (bytes : List ℕ) (result : Result CedtFields CedtFault) → IfOk result (λ c. IsTableText bytes c) → IfErr result (λ f. IsFaultOf bytes f)

@@ -4,7 +4,7 @@ use Rattle.std.specs.Prelude.{is_none, unwrap_or}
 use Rattle.std.proofs.lemmas.Bool.{eqb-true, eq-eqb, le-ltb, ltb-false, cases_Bool, or_parts, or_from, not-false, not_from_true, false≢true}
 use Rattle.cxl_cedt.specs.declared.cedt.Record.{Record}
 use Rattle.cxl_cedt.specs.declared.fault.CedtFault.{CedtFault}
-use Rattle.cxl_cedt.specs.Records.{is_full}
+use Rattle.cxl_cedt.specs.Records.{is_kind_full}
 use Rattle.cxl_cedt.specs.Table.{field, kind_said, length_said, ways_said, is_cut, has_short_length, has_other_length, has_unknown_gran, record_fault}
 
 -- a test that only one type is put to
@@ -33,7 +33,7 @@ pub record PassesTests (before : List Record) (rest : List ℕ) : Type 0 where
   pub size : has_other_length (kind_said rest) rest ≡ false
   pub gran : has_unknown_gran (kind_said rest) rest ≡ false
   pub arithmetic : (eqb (kind_said rest) 1 && ltb 1 (field rest 25 1)) ≡ false
-  pub room : is_full (kind_said rest) before ≡ false
+  pub room : is_kind_full (kind_said rest) before ≡ false
 
 no_fault_here : (b : Bool) (f : CedtFault) (others : Option CedtFault) → cond b (Some f) others ≡ None → (b ≡ false) × (others ≡ None)
 no_fault_here true f others e = absurd cc

@@ -3,10 +3,10 @@ use Rattle.std.proofs.Common.{◌≡◌, ℕ, ◌+◌, ◌<◌, ◌≤◌, false
 use Rattle.std.proofs.lemmas.List.{take-append-drop, append-nil, length-take-le}
 use Rattle.cxl_cedt.specs.declared.cedt.Record.{Record}
 use Rattle.cxl_cedt.specs.declared.fault.CedtFault.{CedtFault}
-use Rattle.cxl_cedt.specs.Records.{kind_of, is_full}
+use Rattle.cxl_cedt.specs.Records.{kind_of, is_kind_full}
 use Rattle.cxl_cedt.specs.Table.{IsRecordText, AreRecordTexts, length_said, record_fault, IsRecordFault}
-use Rattle.cxl_cedt.specs.Decoding.{IsSoundText, record_of}
-use Rattle.cxl_cedt.specs.Scan.{AreReadTo}
+use Rattle.cxl_cedt.specs.inner.Decoding.{IsSoundText, record_of}
+use Rattle.cxl_cedt.specs.inner.Scan.{AreReadTo}
 use Rattle.cxl_cedt.proofs.Counts.{few_push}
 use Rattle.cxl_cedt.proofs.Sound.{spelled}
 use Rattle.cxl_cedt.proofs.Fronts.{HasRecord}
@@ -31,13 +31,13 @@ read_more bytes before rest at n r so_far has said is =
     let text : List ℕ = take n rest in
     let len : length text ≡ n = length-take-le n rest (rw said has.within) in
     let sound : IsSoundText text = rw said has.sound in
-    let room : is_full (kind_of (record_of text)) before ≡ false = rw said has.room in
+    let room : is_kind_full (kind_of (record_of text)) before ≡ false = rw said has.room in
     record {
       front = so_far.front ++ text;
       whole = so_far.whole ∙ ap (λ (t : List ℕ). so_far.front ++ t) (sym (take-append-drop n rest)) ∙ sym (append_assoc so_far.front text (drop n rest));
       place = omega (arith, so_far.place, len, length-append so_far.front text);
       texts = texts_push so_far.front text before r so_far.texts (subst (IsRecordText text) (sym is) (spelled text sound));
-      few = few_push before r (subst (λ (x : Record). is_full (kind_of x) before ≡ false) (sym is) room) so_far.few;
+      few = few_push before r (subst (λ (x : Record). is_kind_full (kind_of x) before ≡ false) (sym is) room) so_far.few;
     }
 
 pub fault_there : (bytes : List ℕ) (before : List Record) (rest : List ℕ) (at : ℕ) (fault : CedtFault) → AreReadTo bytes before rest at → 0 < length rest → record_fault before rest at ≡ Some fault → IsRecordFault bytes fault

@@ -9,7 +9,7 @@ use Rattle.cxl_cedt.specs.declared.cedt.Record.TheVariants.{Chbs, Cfmws, Cxims, 
 use Rattle.cxl_cedt.specs.Fields.{CfmwsFields, CximsFields, OtherFields}
 use Rattle.cxl_cedt.specs.Records.{kind_of, record_length}
 use Rattle.cxl_cedt.specs.Table.{field, fields, HasFrame, IsChbsText, IsCfmwsText, IsCximsText, IsOtherText, IsRecordText, kind_said, length_said, ways_said}
-use Rattle.cxl_cedt.specs.Decoding.{ways_in, IsSoundText, IsSoundWindow, chbs_of, cfmws_of, cxims_of, other_of, record_of}
+use Rattle.cxl_cedt.specs.inner.Decoding.{known_ways, IsSoundText, IsSoundWindow, chbs_of, cfmws_of, cxims_of, other_of, record_of}
 use Rattle.cxl_cedt.proofs.Places.{length-fields}
 
 -- ---- the type decides
@@ -57,8 +57,8 @@ spelled_cfmws : (text : List ℕ) → IsSoundText text → kind_said text ≡ 1 
 unfolding cfmws_of
 spelled_cfmws text h k =
     let w = h.window k in
-    let count : length (fields text 36 4 (ways_in text)) ≡ ways_in text = length-fields text 36 4 (ways_in text) in
-    let size : length text ≡ 36 + 4 * length (fields text 36 4 (ways_in text)) = omega (arith, count, w.size) in
+    let count : length (fields text 36 4 (known_ways text)) ≡ known_ways text = length-fields text 36 4 (known_ways text) in
+    let size : length text ≡ 36 + 4 * length (fields text 36 4 (known_ways text)) = omega (arith, count, w.size) in
     record {
       frame = record { kind_is = k; length_said = h.said ∙ size; length_is = size };
       base = refl;
@@ -133,7 +133,7 @@ same_other p q r = cc
 said_ways : (text : List ℕ) (c : CfmwsFields) → IsCfmwsText text c → ways_said text ≡ Some (length c.targets)
 said_ways text c h = ap ways_of h.ways ∙ h.ways_known
 
-count_ways : (text : List ℕ) (c : CfmwsFields) → IsCfmwsText text c → ways_in text ≡ length c.targets
+count_ways : (text : List ℕ) (c : CfmwsFields) → IsCfmwsText text c → known_ways text ≡ length c.targets
 count_ways text c h = ap (λ (o : Option ℕ). unwrap_or o 0) (said_ways text c h)
 
 chbs_is : (text : List ℕ) (c : chbs.Chbs) → IsChbsText text c → chbs_of text ≡ c

@@ -9,6 +9,7 @@ use Rattle.std.proofs.Math.Pow.{pow_mono}
 use Rattle.std.specs.List.{flat_map}
 use Rattle.cxl_enc.specs.Codes.{ways_of}
 use Rattle.byteorder.specs.Numbers.{little_number-reads_back, length-bytes_low_first}
+use Rattle.cxl_enc.specs.Limits.{file_limit}
 use Rattle.cxl_cedt.specs.declared.chbs.Chbs as chbs
 use Rattle.cxl_cedt.specs.declared.cedt.Head.{Head}
 use Rattle.cxl_cedt.specs.declared.cedt.Record.{Record}
@@ -16,9 +17,9 @@ use Rattle.cxl_cedt.specs.declared.cedt.Record.TheVariants.{Chbs, Cfmws, Cxims, 
 use Rattle.cxl_cedt.specs.CedtFields.{CedtFields}
 use Rattle.cxl_cedt.specs.Fields.{CfmwsFields, CximsFields, OtherFields}
 use Rattle.cxl_cedt.specs.Records.{table_length}
-use Rattle.cxl_cedt.specs.Table.{field, fields, bytes_at, IsChbsText, IsCfmwsText, IsCximsText, IsOtherText, IsRecordText, AreRecordTexts, IsTableText}
+use Rattle.cxl_cedt.specs.Table.{field, fields, some_bytes, IsChbsText, IsCfmwsText, IsCximsText, IsOtherText, IsRecordText, AreRecordTexts, IsTableText}
 use Rattle.cxl_cedt.specs.Spelling.{number_bytes, numbers_bytes, chbs_spelling, window_range, window_codes, window_front, cfmws_spelling, maps_front, cxims_spelling, other_spelling, record_spelling, header, spelling_with, checksum_for, spelling}
-use Rattle.cxl_cedt.specs.Widths.{AreBelow, HeadFits, ChbsFits, CfmwsFits, CximsFits, OtherFits, RecordFits, HasText}
+use Rattle.cxl_cedt.specs.inner.Widths.{AreBelow, HeadFits, ChbsFits, CfmwsFits, CximsFits, OtherFits, RecordFits, HasText}
 use Rattle.cxl_cedt.proofs.Scanning.{texts_push}
 use Rattle.cxl_cedt.proofs.Laws.{texts_length}
 
@@ -154,7 +155,7 @@ spelled_record (Other c) fits = spelled_other c fits
 
 -- ---- the table
 
-part_at : (front part rest : List ℕ) (at n : ℕ) → length front ≡ at → length part ≡ n → bytes_at (front ++ (part ++ rest)) at n ≡ part
+part_at : (front part rest : List ℕ) (at n : ℕ) → length front ≡ at → length part ≡ n → some_bytes (front ++ (part ++ rest)) at n ≡ part
 part_at front part rest at n before size = rw (drop_at front (part ++ rest) at before) (take_at part rest n size)
 
 -- bytes 0 to 9
@@ -210,16 +211,16 @@ spelled_table c has =
       length_said = little_number-reads_back 4 size [] (omega arith) ∙ sym long;
       checksum = ap (λ (n : ℕ). n % 256) (sum_with checksum c fits) ∙ cancels (sum (spelling_with 0 c));
       revision = byte_is head.revision;
-      oem_id = ap (λ (t : List ℕ). bytes_at t 10 6) at_id ∙ part_at front head.oem_id (head.oem_table ++ (revision_part ++ (head.creator ++ (last_part ++ records)))) 10 6 refl fits.oem_id;
-      oem_table = ap (λ (t : List ℕ). bytes_at t 16 8) at_table ∙ part_at (front ++ head.oem_id) head.oem_table (revision_part ++ (head.creator ++ (last_part ++ records))) 16 8 (simp length-append (omega (arith, fits.oem_id))) fits.oem_table;
+      oem_id = ap (λ (t : List ℕ). some_bytes t 10 6) at_id ∙ part_at front head.oem_id (head.oem_table ++ (revision_part ++ (head.creator ++ (last_part ++ records)))) 10 6 refl fits.oem_id;
+      oem_table = ap (λ (t : List ℕ). some_bytes t 16 8) at_table ∙ part_at (front ++ head.oem_id) head.oem_table (revision_part ++ (head.creator ++ (last_part ++ records))) 16 8 (simp length-append (omega (arith, fits.oem_id))) fits.oem_table;
       oem_revision = ap (λ (t : List ℕ). field t 24 4) at_revision ∙ field_at ((front ++ head.oem_id) ++ head.oem_table) (head.creator ++ (last_part ++ records)) 24 4 head.oem_revision (simp length-append (omega (arith, fits.oem_id, fits.oem_table))) fits.oem_revision;
-      creator = ap (λ (t : List ℕ). bytes_at t 28 4) at_creator ∙ part_at (((front ++ head.oem_id) ++ head.oem_table) ++ revision_part) head.creator (last_part ++ records) 28 4 (simp length-append (omega (arith, fits.oem_id, fits.oem_table))) fits.creator;
+      creator = ap (λ (t : List ℕ). some_bytes t 28 4) at_creator ∙ part_at (((front ++ head.oem_id) ++ head.oem_table) ++ revision_part) head.creator (last_part ++ records) 28 4 (simp length-append (omega (arith, fits.oem_id, fits.oem_table))) fits.creator;
       creator_revision = ap (λ (t : List ℕ). field t 32 4) at_last ∙ field_at ((((front ++ head.oem_id) ++ head.oem_table) ++ revision_part) ++ head.creator) records 32 4 head.creator_revision (simp length-append (omega (arith, fits.oem_id, fits.oem_table, fits.creator))) fits.creator_revision;
       texts = subst (λ (t : List ℕ). AreRecordTexts t c.records) (sym (drop_at (header size checksum head) records 36 (length-header size checksum head fits))) has.texts;
       few = has.few;
     }
 
-pub spelled_fits : (c : CedtFields) → HasText c → length (spelling c) ≤ 1048576
+pub spelled_fits : (c : CedtFields) → HasText c → length (spelling c) ≤ file_limit
 unfolding spelling
 spelled_fits c has = let short = has.short in omega (arith, length-spelling (checksum_for (sum (spelling_with 0 c))) c has)
 

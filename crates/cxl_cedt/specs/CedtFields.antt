@@ -1,5 +1,6 @@
 -- What a table holds, and what it keeps.
 use Rattle.std.specs.Prelude.{◌≤◌, List}
+use Rattle.cxl_enc.specs.Limits.{file_limit}
 use Rattle.cxl_cedt.specs.declared.cedt.Head.{Head}
 use Rattle.cxl_cedt.specs.declared.cedt.Record.{Record}
 use Rattle.cxl_cedt.specs.Records.{HasFewOfEach, table_length}
@@ -11,4 +12,4 @@ pub record CedtFields : Type 0 where
 -- few records of each judged type, and few bytes
 pub record IsCedt (records : List Record) : Type 0 where
   pub few : HasFewOfEach records
-  pub fits : table_length records ≤ 1048576
+  pub fits : table_length records ≤ file_limit

@@ -1,5 +1,6 @@
 -- What the records of a table hold, and what each of them keeps.
 use Rattle.std.specs.Prelude.{◌≡◌, ℕ, ◌<◌, ◌≤◌, Bool, List, length, Some}
+use Rattle.cxl_cedt.specs.Layout.{cxims_kind}
 use Rattle.cxl_enc.specs.Codes.{ways_of}
 
 -- a fixed memory window; ways and granularity are codes
@@ -36,5 +37,5 @@ pub record OtherFields : Type 0 where
 
 -- its type is none of the judged ones, and its length fits 16 bits
 pub record IsOther (kind : ℕ) (body : List ℕ) : Type 0 where
-  pub other : 2 < kind
+  pub other : cxims_kind < kind
   pub few : length body ≤ 65531

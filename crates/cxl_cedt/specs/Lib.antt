@@ -1,11 +1,9 @@
+pub mod Layout
 pub mod Fields
 pub mod Records
 pub mod CedtFields
 pub mod Table
-pub mod Found
-pub mod Decoding
-pub mod Scan
 pub mod Spelling
-pub mod Widths
+pub mod inner
 pub use Rattle.cxl_enc.specs.Codes
 pub use Rattle.byteorder.specs.Endian

@@ -1,5 +1,6 @@
 -- The one text of a table whose reserved fields are zero.
 use Rattle.std.specs.Prelude.{ℕ, ◌+◌, ◌-◌, ◌*◌, ◌%◌, Bool, if◌then◌else◌, List, [], ◌∷◌, ◌++◌, length, sum, codes}
+use Rattle.cxl_cedt.specs.Layout.{chbs_kind, cfmws_kind, cxims_kind, frame_size, chbs_size, window_front_size, maps_front_size}
 use Rattle.std.specs.List.{flat_map}
 use Rattle.byteorder.specs.Endian.{little_bytes}
 use Rattle.cxl_cedt.specs.declared.chbs.Chbs as chbs
@@ -26,13 +27,13 @@ frame kind second size = kind ∷ second ∷ number_bytes 2 size
 
 abbrev pub chbs_spelling : chbs.Chbs → List ℕ
 chbs_spelling c =
-    frame 0 0 32 ++ number_bytes 4 c.uid ++ number_bytes 4 c.version ++ number_bytes 4 0
+    frame chbs_kind 0 chbs_size ++ number_bytes 4 c.uid ++ number_bytes 4 c.version ++ number_bytes 4 0
     ++ number_bytes 8 c.base ++ number_bytes 8 c.length
 
 -- the first 24 bytes of a window with so many targets
 unfoldable pub window_range : ℕ → ℕ → ℕ → List ℕ
 window_range count base size =
-    frame 1 0 (36 + 4 * count) ++ number_bytes 4 0 ++ number_bytes 8 base ++ number_bytes 8 size
+    frame cfmws_kind 0 (window_front_size + 4 * count) ++ number_bytes 4 0 ++ number_bytes 8 base ++ number_bytes 8 size
 
 -- the next 8 bytes
 unfoldable pub window_codes : ℕ → Bool → ℕ → List ℕ
@@ -49,14 +50,14 @@ cfmws_spelling c = window_front c ++ numbers_bytes 4 c.targets
 
 -- up to the maps
 abbrev pub maps_front : CximsFields → List ℕ
-maps_front c = frame 2 0 (8 + 8 * length c.maps) ++ number_bytes 2 0 ++ c.gran ∷ [] ++ length c.maps ∷ []
+maps_front c = frame cxims_kind 0 (maps_front_size + 8 * length c.maps) ++ number_bytes 2 0 ++ c.gran ∷ [] ++ length c.maps ∷ []
 
 abbrev pub cxims_spelling : CximsFields → List ℕ
 cxims_spelling c = maps_front c ++ numbers_bytes 8 c.maps
 
 -- another type keeps its reserved byte and its body
 abbrev pub other_spelling : OtherFields → List ℕ
-other_spelling c = frame c.kind c.reserved (4 + length c.body) ++ c.body
+other_spelling c = frame c.kind c.reserved (frame_size + length c.body) ++ c.body
 
 abbrev pub record_spelling : Record → List ℕ
 record_spelling (Chbs c) = chbs_spelling c

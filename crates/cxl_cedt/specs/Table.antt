@@ -1,5 +1,6 @@
 -- Which bytes spell a table (ACPI CEDT: CHBS, CFMWS and CXIMS), and the first fault of bytes that spell none.
 use Rattle.std.specs.Prelude.{◌≡◌, ℕ, zero, suc, ◌+◌, ◌*◌, ◌%◌, ◌<◌, ◌≤◌, nat_lt, ◌==◌, ◌&&◌, ◌||◌, not, Bool, IsTrue, nat_eq, if◌then◌else◌, List, [], ◌∷◌, ◌++◌, length, take, drop, sum, codes, Option, Some, None, is_none, unwrap_or, Result, Err, ◌⊎◌}
+use Rattle.cxl_cedt.specs.Layout.{chbs_kind, cfmws_kind, cxims_kind, table_length_place, revision_place, oem_id_place, oem_table_place, oem_revision_place, creator_place, creator_revision_place, header_size, kind_place, reserved_place, length_place, frame_size, uid_place, version_place, register_base_place, register_length_place, chbs_size, window_base_place, window_size_place, ways_place, arithmetic_place, window_gran_place, restrict_place, qtg_place, window_front_size, maps_gran_place, maps_count_place, maps_front_size}
 use Rattle.cxl_enc.specs.Codes.{ways_of}
 use Rattle.byteorder.specs.Endian.{little_number}
 use Rattle.cxl_cedt.specs.declared.chbs.Chbs as chbs
@@ -10,7 +11,7 @@ use Rattle.cxl_cedt.specs.declared.fault.CedtFault.TheVariants.{Short, Signature
 use Rattle.std.specs.List.{starts_with}
 use Rattle.cxl_cedt.specs.CedtFields.{CedtFields}
 use Rattle.cxl_cedt.specs.Fields.{CfmwsFields, CximsFields, OtherFields}
-use Rattle.cxl_cedt.specs.Records.{is_full, HasFewOfEach}
+use Rattle.cxl_cedt.specs.Records.{is_kind_full, HasFewOfEach}
 
 -- ---- places in a text
 
@@ -24,8 +25,8 @@ fields text at width zero = []
 fields text at width (suc n) = field text at width ∷ fields text (at + width) width n
 
 -- `n` bytes from place `at`
-abbrev pub bytes_at : List ℕ → ℕ → ℕ → List ℕ
-bytes_at text at n = take n (drop at text)
+abbrev pub some_bytes : List ℕ → ℕ → ℕ → List ℕ
+some_bytes text at n = take n (drop at text)
 
 -- it begins with the four letters
 abbrev pub has_signature : List ℕ → Bool
@@ -35,43 +36,43 @@ has_signature bytes = starts_with nat_eq bytes (codes "CEDT")
 
 -- the type, and the length in the text and of it
 pub record HasFrame (text : List ℕ) (kind size : ℕ) : Type 0 where
-  pub kind_is : field text 0 1 ≡ kind
-  pub length_said : field text 2 2 ≡ size
+  pub kind_is : field text kind_place 1 ≡ kind
+  pub length_said : field text length_place 2 ≡ size
   pub length_is : length text ≡ size
 
 pub record IsChbsText (text : List ℕ) (c : chbs.Chbs) : Type 0 where
-  pub frame : HasFrame text 0 32
-  pub uid : field text 4 4 ≡ c.uid
-  pub version : field text 8 4 ≡ c.version
-  pub base : field text 16 8 ≡ c.base
-  pub register_length : field text 24 8 ≡ c.length
+  pub frame : HasFrame text chbs_kind chbs_size
+  pub uid : field text uid_place 4 ≡ c.uid
+  pub version : field text version_place 4 ≡ c.version
+  pub base : field text register_base_place 8 ≡ c.base
+  pub register_length : field text register_length_place 8 ≡ c.length
 
 pub record IsCfmwsText (text : List ℕ) (c : CfmwsFields) : Type 0 where
-  pub frame : HasFrame text 1 (36 + 4 * length c.targets)
-  pub base : field text 8 8 ≡ c.base
-  pub size : field text 16 8 ≡ c.size
-  pub ways : field text 24 1 ≡ c.ways
+  pub frame : HasFrame text cfmws_kind (window_front_size + 4 * length c.targets)
+  pub base : field text window_base_place 8 ≡ c.base
+  pub size : field text window_size_place 8 ≡ c.size
+  pub ways : field text ways_place 1 ≡ c.ways
   pub ways_known : ways_of c.ways ≡ Some (length c.targets)
-  pub arithmetic : field text 25 1 ≡ (if c.xor then 1 else 0)
-  pub gran : field text 28 4 ≡ c.gran
+  pub arithmetic : field text arithmetic_place 1 ≡ (if c.xor then 1 else 0)
+  pub gran : field text window_gran_place 4 ≡ c.gran
   pub gran_known : c.gran ≤ 6
-  pub restrict : field text 32 2 ≡ c.restrict
-  pub qtg : field text 34 2 ≡ c.qtg
-  pub targets : fields text 36 4 (length c.targets) ≡ c.targets
+  pub restrict : field text restrict_place 2 ≡ c.restrict
+  pub qtg : field text qtg_place 2 ≡ c.qtg
+  pub targets : fields text window_front_size 4 (length c.targets) ≡ c.targets
 
 pub record IsCximsText (text : List ℕ) (c : CximsFields) : Type 0 where
-  pub frame : HasFrame text 2 (8 + 8 * length c.maps)
-  pub gran : field text 6 1 ≡ c.gran
+  pub frame : HasFrame text cxims_kind (maps_front_size + 8 * length c.maps)
+  pub gran : field text maps_gran_place 1 ≡ c.gran
   pub gran_known : c.gran ≤ 6
-  pub count : field text 7 1 ≡ length c.maps
-  pub maps : fields text 8 8 (length c.maps) ≡ c.maps
+  pub count : field text maps_count_place 1 ≡ length c.maps
+  pub maps : fields text maps_front_size 8 (length c.maps) ≡ c.maps
 
 -- another type keeps its reserved byte and its body
 pub record IsOtherText (text : List ℕ) (c : OtherFields) : Type 0 where
-  pub frame : HasFrame text c.kind (4 + length c.body)
-  pub other : 2 < c.kind
-  pub reserved : field text 1 1 ≡ c.reserved
-  pub body : drop 4 text ≡ c.body
+  pub frame : HasFrame text c.kind (frame_size + length c.body)
+  pub other : cxims_kind < c.kind
+  pub reserved : field text reserved_place 1 ≡ c.reserved
+  pub body : drop frame_size text ≡ c.body
 
 abbrev pub IsRecordText : List ℕ → Record → Type 0
 IsRecordText text (Chbs c) = IsChbsText text c
@@ -88,17 +89,17 @@ AreRecordTexts text (r ∷ rs) = (first : List ℕ) × (rest : List ℕ) × (tex
 
 -- the bytes spell the table, each byte of them
 pub record IsTableText (bytes : List ℕ) (c : CedtFields) : Type 0 where
-  pub long : 36 ≤ length bytes
+  pub long : header_size ≤ length bytes
   pub signature : IsTrue (has_signature bytes)
-  pub length_said : field bytes 4 4 ≡ length bytes
+  pub length_said : field bytes table_length_place 4 ≡ length bytes
   pub checksum : sum bytes % 256 ≡ 0
-  pub revision : field bytes 8 1 ≡ c.head.revision
-  pub oem_id : bytes_at bytes 10 6 ≡ c.head.oem_id
-  pub oem_table : bytes_at bytes 16 8 ≡ c.head.oem_table
-  pub oem_revision : field bytes 24 4 ≡ c.head.oem_revision
-  pub creator : bytes_at bytes 28 4 ≡ c.head.creator
-  pub creator_revision : field bytes 32 4 ≡ c.head.creator_revision
-  pub texts : AreRecordTexts (drop 36 bytes) c.records
+  pub revision : field bytes revision_place 1 ≡ c.head.revision
+  pub oem_id : some_bytes bytes oem_id_place 6 ≡ c.head.oem_id
+  pub oem_table : some_bytes bytes oem_table_place 8 ≡ c.head.oem_table
+  pub oem_revision : field bytes oem_revision_place 4 ≡ c.head.oem_revision
+  pub creator : some_bytes bytes creator_place 4 ≡ c.head.creator
+  pub creator_revision : field bytes creator_revision_place 4 ≡ c.head.creator_revision
+  pub texts : AreRecordTexts (drop header_size bytes) c.records
   pub few : HasFewOfEach c.records
 
 -- ---- the first fault
@@ -106,40 +107,42 @@ pub record IsTableText (bytes : List ℕ) (c : CedtFields) : Type 0 where
 -- of the header, in this order
 unfoldable pub header_fault : List ℕ → Option CedtFault
 header_fault bytes =
-    if nat_lt (length bytes) 36 then Some Short
+    if nat_lt (length bytes) header_size then Some Short
     else (if not (has_signature bytes) then Some Signature
-    else (if not (field bytes 4 4 == length bytes) then Some Length
+    else (if not (field bytes table_length_place 4 == length bytes) then Some Length
     else (if not (sum bytes % 256 == 0) then Some Checksum
     else None)))
 
 -- what a record that begins here says of its type and its length
 abbrev pub kind_said : List ℕ → ℕ
-kind_said rest = field rest 0 1
+kind_said rest = field rest kind_place 1
 
 abbrev pub length_said : List ℕ → ℕ
-length_said rest = field rest 2 2
+length_said rest = field rest length_place 2
 
 -- fewer than four bytes are left, or fewer than the record's length says
 unfoldable pub is_cut : List ℕ → Bool
-is_cut rest = nat_lt (length rest) 4 || nat_lt (length rest) (length_said rest)
+is_cut rest = nat_lt (length rest) frame_size || nat_lt (length rest) (length_said rest)
 
 -- a length that its type cannot have
 unfoldable pub has_short_length : ℕ → ℕ → Bool
 has_short_length kind size =
-    nat_lt size 4 || ((kind == 0) && not (size == 32)) || ((kind == 1) && nat_lt size 36) || ((kind == 2) && nat_lt size 8)
+    nat_lt size frame_size || ((kind == chbs_kind) && not (size == chbs_size))
+    || ((kind == cfmws_kind) && nat_lt size window_front_size) || ((kind == cxims_kind) && nat_lt size maps_front_size)
 
 -- the number of ways that a window's code stands for
 abbrev pub ways_said : List ℕ → Option ℕ
-ways_said rest = ways_of (field rest 24 1)
+ways_said rest = ways_of (field rest ways_place 1)
 
 -- a length that is not that of the window's ways or of the maps
 unfoldable pub has_other_length : ℕ → List ℕ → Bool
 has_other_length kind rest =
-    ((kind == 1) && not (length_said rest == 36 + 4 * unwrap_or (ways_said rest) 0))
-    || ((kind == 2) && not (length_said rest == 8 + 8 * field rest 7 1))
+    ((kind == cfmws_kind) && not (length_said rest == window_front_size + 4 * unwrap_or (ways_said rest) 0))
+    || ((kind == cxims_kind) && not (length_said rest == maps_front_size + 8 * field rest maps_count_place 1))
 
 unfoldable pub has_unknown_gran : ℕ → List ℕ → Bool
-has_unknown_gran kind rest = ((kind == 1) && nat_lt 6 (field rest 28 4)) || ((kind == 2) && nat_lt 6 (field rest 6 1))
+has_unknown_gran kind rest =
+    ((kind == cfmws_kind) && nat_lt 6 (field rest window_gran_place 4)) || ((kind == cxims_kind) && nat_lt 6 (field rest maps_gran_place 1))
 
 -- of the record that begins at place `at`, where `rest` stands, behind the records `before`; in this order
 unfoldable pub record_fault : List Record → List ℕ → ℕ → Option CedtFault
@@ -147,11 +150,11 @@ record_fault before rest at =
     let kind = kind_said rest in
     if is_cut rest then Some (RecordCut at)
     else (if has_short_length kind (length_said rest) then Some (RecordLength at)
-    else (if (kind == 1) && is_none (ways_said rest) then Some (WaysCode at)
+    else (if (kind == cfmws_kind) && is_none (ways_said rest) then Some (WaysCode at)
     else (if has_other_length kind rest then Some (RecordLength at)
     else (if has_unknown_gran kind rest then Some (GranCode at)
-    else (if (kind == 1) && nat_lt 1 (field rest 25 1) then Some (Arithmetic at)
-    else (if is_full kind before then Some (TooMany at)
+    else (if (kind == cfmws_kind) && nat_lt 1 (field rest arithmetic_place 1) then Some (Arithmetic at)
+    else (if is_kind_full kind before then Some (TooMany at)
     else None))))))
 
 -- Behind the texts of sound records, `front`, stands a record with this fault.
@@ -159,11 +162,11 @@ pub record IsRecordFault (bytes : List ℕ) (fault : CedtFault) : Type 0 where
   pub before : List Record
   pub front : List ℕ
   pub rest : List ℕ
-  pub whole : drop 36 bytes ≡ front ++ rest
+  pub whole : drop header_size bytes ≡ front ++ rest
   pub sound : AreRecordTexts front before
   pub few : HasFewOfEach before
   pub more : 0 < length rest
-  pub fault_is : record_fault before rest (36 + length front) ≡ Some fault
+  pub fault_is : record_fault before rest (header_size + length front) ≡ Some fault
 
 -- the fault of the header, or else of the first record that has one
 abbrev pub FirstTableFault : List ℕ → CedtFault → Type 0

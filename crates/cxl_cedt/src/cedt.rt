@@ -1,9 +1,12 @@
 ghost use Rattle.std.specs.Prelude.{◌≡◌, ◌≤◌, length};
+ghost use Rattle.cxl_enc.specs.Limits.{file_limit};
 ghost use Rattle.cxl_cedt.specs.Records.{table_length, HasFewOfEach};
 
 use crate::cfmws::Cfmws;
 use crate::chbs::Chbs;
 use crate::cxims::Cxims;
+use crate::layout::{CFMWS_KIND, CHBS_KIND, CXIMS_KIND, KIND_LIMIT};
+use crate::lengths::{count_of, fits_file};
 use crate::other::Other;
 use cxl_enc::FixedList;
 use std::marker::Model;
@@ -46,10 +49,28 @@ impl Model for Cedt {
 }
 
 impl Cedt {
-    /// The table of these records in order. Takes no memory.
+    ghost use Rattle.std.specs.Prelude.{◌↔◌, IsTrue};
+    ghost use Rattle.std.specs.Bool.{OnTrue};
+    ghost use Rattle.cxl_cedt.specs.CedtFields.{IsCedt};
+
+    /// Whether a table may have these records: no more than 64 of each of the three types, and a text of
+    /// at most 1,048,576 bytes. (This project's rule.)
+    pub fn can_hold(records: &[Record]) -> bool
+        ensures exact { IsTrue result ↔ IsCedt records.now }
+        ensures few { OnTrue result (HasFewOfEach records.now) }
+        ensures fits { OnTrue result (table_length records.now ≤ file_limit) }
+    {
+        let limit = usize::from(KIND_LIMIT);
+        count_of(CHBS_KIND, records) <= limit
+            && count_of(CFMWS_KIND, records) <= limit
+            && count_of(CXIMS_KIND, records) <= limit
+            && fits_file(records)
+    }
+
+    /// The table of these records in order; `can_hold` tells whether there is one. Takes no memory.
     pub fn new(head: Head, records: Vec<Record>) -> Cedt
         requires few { HasFewOfEach records.items }
-        requires fits { table_length records.items ≤ 1048576 }
+        requires fits { table_length records.items ≤ file_limit }
         ensures { result ≡ record { head = head; records = records.items } }
     {
         Cedt {
@@ -69,7 +90,7 @@ impl Cedt {
     pub fn records(&self) -> &[Record]
         ensures value { result.now ≡ self.now.records }
         ensures few { HasFewOfEach self.now.records }
-        ensures fits { table_length self.now.records ≤ 1048576 }
+        ensures fits { table_length self.now.records ≤ file_limit }
     {
         self.records.items()
     }

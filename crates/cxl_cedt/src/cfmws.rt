@@ -109,7 +109,8 @@ impl Cfmws {
 
     /// The UIDs of the target bridges, one for each way.
     pub fn targets(&self) -> &[u32]
-        ensures { result.now ≡ self.now.targets }
+        ensures value { result.now ≡ self.now.targets }
+        ensures few { length self.now.targets ≤ 16 }
     {
         self.targets.items()
     }

@@ -2,80 +2,91 @@
 
 ghost use Rattle.std.specs.Prelude.{◌≡◌, ◌<◌, ◌≤◌, length, IfOk};
 ghost use Rattle.cxl_cedt.specs.Table.{kind_said};
-ghost use Rattle.cxl_cedt.specs.Decoding.{IsSoundText, IsSoundWindow, AreSoundMaps, chbs_of, cfmws_of, cxims_of, other_of, record_of};
+ghost use Rattle.cxl_cedt.specs.inner.Decoding.{IsSoundText, IsSoundWindow, AreSoundMaps, chbs_of, cfmws_of, cxims_of, other_of, record_of};
 
 use crate::cedt::Record;
 use crate::cfmws::Cfmws;
 use crate::chbs::Chbs;
 use crate::cxims::Cxims;
+use crate::layout::{
+    ARITHMETIC_PLACE, CFMWS_KIND, CHBS_KIND, CXIMS_KIND, FRAME_SIZE, KIND_PLACE, MAPS_COUNT_PLACE,
+    MAPS_FRONT_SIZE, MAPS_GRAN_PLACE, QTG_PLACE, REGISTER_BASE_PLACE, REGISTER_LENGTH_PLACE,
+    RESERVED_PLACE, RESTRICT_PLACE, UID_PLACE, VERSION_PLACE, WAYS_PLACE, WINDOW_BASE_PLACE,
+    WINDOW_FRONT_SIZE, WINDOW_GRAN_PLACE, WINDOW_SIZE_PLACE,
+};
 use crate::numbers::{u8_at, u16_at, u32_at, u32s_at, u64_at, u64s_at};
 use crate::other::Other;
 use cxl_enc::{Memory, ways_of};
 use std::alloc::Global;
 
-#[tactic(auto, unfolding(crate::specs::Decoding::record_of))]
+#[tactic(auto, unfolding(crate::specs::inner::Decoding::record_of))]
 pub fn record_of(alloc: Global, text: &[u8]) -> Result<Record, Memory>
     requires sound { IsSoundText text.now }
     requires few { length text.now ≤ 65535 }
     ensures { IfOk result (λ r. r ≡ record_of text.now) }
 {
-    match u8_at(text, 0) {
-        0 => Ok(Record::Chbs(chbs_of(text))),
-        1 => Ok(Record::Cfmws(cfmws_of(alloc, text)?)),
-        2 => Ok(Record::Cxims(cxims_of(alloc, text)?)),
+    match u8_at(text, KIND_PLACE) {
+        CHBS_KIND => Ok(Record::Chbs(chbs_of(text))),
+        CFMWS_KIND => Ok(Record::Cfmws(cfmws_of(alloc, text)?)),
+        CXIMS_KIND => Ok(Record::Cxims(cxims_of(alloc, text)?)),
         _ => Ok(Record::Other(other_of(alloc, text)?)),
     }
 }
 
-#[tactic(auto, unfolding(crate::specs::Decoding::chbs_of))]
+#[tactic(auto, unfolding(crate::specs::inner::Decoding::chbs_of))]
 fn chbs_of(text: &[u8]) -> Chbs
     requires { length text.now ≡ 32 }
     ensures { result ≡ chbs_of text.now }
 {
     Chbs {
-        uid: u32_at(text, 4),
-        version: u32_at(text, 8),
-        base: u64_at(text, 16),
-        length: u64_at(text, 24),
+        uid: u32_at(text, UID_PLACE),
+        version: u32_at(text, VERSION_PLACE),
+        base: u64_at(text, REGISTER_BASE_PLACE),
+        length: u64_at(text, REGISTER_LENGTH_PLACE),
     }
 }
 
-#[tactic(auto, unfolding(crate::specs::Decoding::cfmws_of))]
+#[tactic(auto, unfolding(crate::specs::inner::Decoding::cfmws_of))]
 fn cfmws_of(alloc: Global, text: &[u8]) -> Result<Cfmws, Memory>
     requires { IsSoundWindow text.now }
     ensures { IfOk result (λ c. c ≡ cfmws_of text.now) }
 {
-    let ways = u8_at(text, 24);
+    let ways = u8_at(text, WAYS_PLACE);
     let count = ways_of(ways).unwrap_or(0);
-    let targets = u32s_at(alloc, text, 36, count as usize)?;
+    let targets = u32s_at(alloc, text, WINDOW_FRONT_SIZE as usize, count as usize)?;
     Ok(Cfmws::new(
-        u64_at(text, 8),
-        u64_at(text, 16),
+        u64_at(text, WINDOW_BASE_PLACE),
+        u64_at(text, WINDOW_SIZE_PLACE),
         ways,
-        u8_at(text, 25) == 1,
-        u32_at(text, 28) as u8,
-        u16_at(text, 32),
-        u16_at(text, 34),
+        u8_at(text, ARITHMETIC_PLACE) == 1,
+        u32_at(text, WINDOW_GRAN_PLACE) as u8,
+        u16_at(text, RESTRICT_PLACE),
+        u16_at(text, QTG_PLACE),
         targets,
     ))
 }
 
-#[tactic(auto, unfolding(crate::specs::Decoding::cxims_of))]
+#[tactic(auto, unfolding(crate::specs::inner::Decoding::cxims_of))]
 fn cxims_of(alloc: Global, text: &[u8]) -> Result<Cxims, Memory>
     requires { AreSoundMaps text.now }
     ensures { IfOk result (λ c. c ≡ cxims_of text.now) }
 {
-    let maps = u64s_at(alloc, text, 8, u8_at(text, 7) as usize)?;
-    Ok(Cxims::new(u8_at(text, 6), maps))
+    let maps = u64s_at(
+        alloc,
+        text,
+        MAPS_FRONT_SIZE as usize,
+        u8_at(text, MAPS_COUNT_PLACE) as usize,
+    )?;
+    Ok(Cxims::new(u8_at(text, MAPS_GRAN_PLACE), maps))
 }
 
-#[tactic(auto, unfolding(crate::specs::Decoding::other_of))]
+#[tactic(auto, unfolding(crate::specs::inner::Decoding::other_of))]
 fn other_of(alloc: Global, text: &[u8]) -> Result<Other, Memory>
     requires other { 2 < kind_said text.now }
     requires long { 4 ≤ length text.now }
     requires few { length text.now ≤ 65535 }
     ensures { IfOk result (λ c. c ≡ other_of text.now) }
 {
-    let body = Vec::from_slice(alloc, &text[4..])?;
-    Ok(Other::new(u8_at(text, 0), u8_at(text, 1), body))
+    let body = Vec::from_slice(alloc, &text[FRAME_SIZE as usize..])?;
+    Ok(Other::new(u8_at(text, KIND_PLACE), u8_at(text, RESERVED_PLACE), body))
 }

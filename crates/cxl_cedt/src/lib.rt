@@ -5,11 +5,13 @@
 mod cedt;
 mod cfmws;
 mod chbs;
+mod counted;
 mod cxims;
 mod decoding;
 mod fault;
-mod found;
 mod header;
+mod layout;
+mod lengths;
 mod numbers;
 mod other;
 mod reading;

@@ -3,7 +3,7 @@
 ghost use Rattle.std.specs.Prelude.{◌≡◌, ◌+◌, ◌*◌, ◌^◌, ◌≤◌, ◌++◌, length, IfOk, OnOk};
 ghost use Rattle.cxl_cedt.specs.Table.{field, fields};
 ghost use Rattle.cxl_cedt.specs.Spelling.{number_bytes, numbers_bytes};
-ghost use Rattle.cxl_cedt.specs.Widths.{AreBelow};
+ghost use Rattle.cxl_cedt.specs.inner.Widths.{AreBelow};
 
 use byteorder::{ByteOrder, LittleEndian};
 use cxl_enc::Memory;

@@ -1,14 +1,17 @@
 ghost use Rattle.std.specs.Prelude.{◌≡◌, ℕ, ◌⊎◌, ◌≤◌, List, length, drop, Ok, Err, IfOk, IfErr};
+ghost use Rattle.cxl_enc.specs.Limits.{file_limit};
 ghost use Rattle.cxl_cedt.specs.CedtFields.{CedtFields};
+ghost use Rattle.cxl_cedt.specs.Layout.{header_size};
 ghost use Rattle.cxl_cedt.specs.Records.{HasFewOfEach};
 ghost use Rattle.cxl_cedt.specs.declared.fault.CedtFault.{CedtFault};
 ghost use Rattle.cxl_cedt.specs.Table.{AreRecordTexts, IsTableText, IsRecordFault, FirstTableFault, HasTable, HasFault, IsFaultOf, IsAnswer};
 
 use crate::cedt::{Cedt, Record};
+use crate::counted::CountedRecords;
 use crate::decoding::record_of;
 use crate::fault::CedtFault;
-use crate::found::Found;
 use crate::header::{head_of, header_fault};
+use crate::layout::HEADER_SIZE;
 use crate::record_faults::{length_said, record_fault};
 use std::alloc::Global;
 
@@ -16,14 +19,14 @@ use std::alloc::Global;
 /// then of the first record that has one. What a record does not name may hold anything. Takes memory for
 /// the records. (ACPI CEDT; the order of faults and the limits are this project's rule.)
 pub fn read(alloc: Global, bytes: &[u8]) -> Result<Cedt, CedtFault>
-    requires { length bytes.now ≤ 1048576 }
+    requires { length bytes.now ≤ file_limit }
     ensures table { IfOk result (λ cedt. IsTableText bytes.now cedt) }
     ensures fault { IfErr result (λ fault. IsFaultOf bytes.now fault) }
     // A table that the bytes spell is read, and a first fault is answered, unless memory runs out.
     ensures only_table { (cedt : CedtFields) → IsTableText bytes.now cedt → IsAnswer result (Ok cedt) }
     ensures only_fault { (fault : CedtFault) → FirstTableFault bytes.now fault → IsAnswer result (Err fault) }
 {
-    table_of(alloc, bytes)
+    cedt_from(alloc, bytes)
 }
 
 /// Bytes spell one table at the most, or have one first fault: one of the two, and never both.
@@ -37,8 +40,8 @@ pub fn one_reading()
     ensures some { (bytes : List ℕ) → HasTable bytes ⊎ HasFault bytes }
 {}
 
-fn table_of(alloc: Global, bytes: &[u8]) -> Result<Cedt, CedtFault>
-    requires { length bytes.now ≤ 1048576 }
+fn cedt_from(alloc: Global, bytes: &[u8]) -> Result<Cedt, CedtFault>
+    requires { length bytes.now ≤ file_limit }
     ensures table { IfOk result (λ cedt. IsTableText bytes.now cedt) }
     ensures fault { IfErr result (λ fault. IsFaultOf bytes.now fault) }
 {
@@ -51,15 +54,15 @@ fn table_of(alloc: Global, bytes: &[u8]) -> Result<Cedt, CedtFault>
 
 /// The records behind the header, or the fault of the first that has one.
 fn records_of(alloc: Global, bytes: &[u8]) -> Result<Vec<Record>, CedtFault>
-    requires long { 36 ≤ length bytes.now }
-    requires short { length bytes.now ≤ 1048576 }
-    ensures texts { IfOk result (λ records. AreRecordTexts (drop 36 bytes.now) records.items) }
+    requires long { header_size ≤ length bytes.now }
+    requires short { length bytes.now ≤ file_limit }
+    ensures texts { IfOk result (λ records. AreRecordTexts (drop header_size bytes.now) records.items) }
     ensures few { IfOk result (λ records. HasFewOfEach records.items) }
     ensures fault { IfErr result (λ fault. (fault ≡ CedtFault.Memory) ⊎ IsRecordFault bytes.now fault) }
 {
-    let mut found = Found::new(alloc);
-    let mut rest = &bytes[36..];
-    let mut at = 36;
+    let mut found = CountedRecords::new(alloc);
+    let mut rest = &bytes[HEADER_SIZE..];
+    let mut at = HEADER_SIZE as u32;
     while !rest.is_empty() {
         if let Some(fault) = record_fault(&found, rest, at) {
             return Err(fault);

@@ -4,25 +4,30 @@ ghost use Rattle.std.specs.Prelude.{◌≡◌, ◌+◌, ◌≤◌, ◌<◌, true
 ghost use Rattle.std.specs.Bool.{OnFalse};
 ghost use Rattle.cxl_cedt.specs.Table.{kind_said, length_said, ways_said, is_cut, has_short_length, has_other_length, has_unknown_gran, record_fault};
 
+use crate::counted::CountedRecords;
 use crate::fault::CedtFault;
-use crate::found::Found;
+use crate::layout::{
+    ARITHMETIC_PLACE, CFMWS_KIND, CHBS_KIND, CHBS_SIZE, CXIMS_KIND, FRAME_SIZE, KIND_PLACE,
+    LENGTH_PLACE, MAPS_COUNT_PLACE, MAPS_FRONT_SIZE, MAPS_GRAN_PLACE, WAYS_PLACE,
+    WINDOW_FRONT_SIZE, WINDOW_GRAN_PLACE,
+};
 use crate::numbers::{u8_at, u16_at, u32_at};
 use cxl_enc::ways_of;
 
 /// The fault of the record at the front of `rest`, which stands at byte `at` of the table, behind the
 /// records before it.
 #[tactic(auto, unfolding(crate::specs::Table::record_fault))]
-pub fn record_fault(before: &Found, rest: &[u8], at: u32) -> Option<CedtFault>
+pub fn record_fault(before: &CountedRecords, rest: &[u8], at: u32) -> Option<CedtFault>
     ensures { result ≡ record_fault before.now rest.now at }
 {
     if is_cut(rest) {
         return Some(CedtFault::RecordCut(at));
     }
-    let kind = u8_at(rest, 0);
+    let kind = u8_at(rest, KIND_PLACE);
     if has_short_length(kind, length_said(rest)) {
         return Some(CedtFault::RecordLength(at));
     }
-    if kind == 1 && ways_said(rest).is_none() {
+    if kind == CFMWS_KIND && ways_said(rest).is_none() {
         return Some(CedtFault::WaysCode(at));
     }
     if has_other_length(kind, rest) {
@@ -31,10 +36,10 @@ pub fn record_fault(before: &Found, rest: &[u8], at: u32) -> Option<CedtFault>
     if has_unknown_gran(kind, rest) {
         return Some(CedtFault::GranCode(at));
     }
-    if kind == 1 && u8_at(rest, 25) > 1 {
+    if kind == CFMWS_KIND && u8_at(rest, ARITHMETIC_PLACE) > 1 {
         return Some(CedtFault::Arithmetic(at));
     }
-    if before.is_full(kind) {
+    if before.is_kind_full(kind) {
         return Some(CedtFault::TooMany(at));
     }
     None
@@ -45,7 +50,7 @@ pub fn length_said(rest: &[u8]) -> u16
     requires { 4 ≤ length rest.now }
     ensures { result ≡ length_said rest.now }
 {
-    u16_at(rest, 2)
+    u16_at(rest, LENGTH_PLACE)
 }
 
 /// Whether the record passes the end.
@@ -55,7 +60,7 @@ fn is_cut(rest: &[u8]) -> bool
     ensures frame { OnFalse result (4 ≤ length rest.now) }
     ensures whole { OnFalse result (length_said rest.now ≤ length rest.now) }
 {
-    rest.len() < 4 || rest.len() < length_said(rest) as usize
+    rest.len() < FRAME_SIZE as usize || rest.len() < length_said(rest) as usize
 }
 
 /// Whether no record of this type has this length.
@@ -65,7 +70,10 @@ fn has_short_length(kind: u8, size: u16) -> bool
     ensures window { OnFalse result (kind ≡ 1 → 36 ≤ size) }
     ensures maps { OnFalse result (kind ≡ 2 → 8 ≤ size) }
 {
-    size < 4 || (kind == 0 && size != 32) || (kind == 1 && size < 36) || (kind == 2 && size < 8)
+    size < FRAME_SIZE
+        || (kind == CHBS_KIND && size != CHBS_SIZE)
+        || (kind == CFMWS_KIND && size < WINDOW_FRONT_SIZE)
+        || (kind == CXIMS_KIND && size < MAPS_FRONT_SIZE)
 }
 
 /// The ways of the window.
@@ -73,7 +81,7 @@ fn ways_said(rest: &[u8]) -> Option<u8>
     requires { 36 ≤ length rest.now }
     ensures { result ≡ ways_said rest.now }
 {
-    ways_of(u8_at(rest, 24))
+    ways_of(u8_at(rest, WAYS_PLACE))
 }
 
 /// Whether the length is not that of the window's ways or of the maps.
@@ -84,8 +92,10 @@ fn has_other_length(kind: u8, rest: &[u8]) -> bool
     ensures { result ≡ has_other_length kind rest.now }
 {
     match kind {
-        1 => u32::from(length_said(rest)) != 36 + 4 * u32::from(ways_said(rest).unwrap_or(0)),
-        2 => u32::from(length_said(rest)) != 8 + 8 * u32::from(u8_at(rest, 7)),
+        CFMWS_KIND => u32::from(length_said(rest))
+            != u32::from(WINDOW_FRONT_SIZE) + 4 * u32::from(ways_said(rest).unwrap_or(0)),
+        CXIMS_KIND => u32::from(length_said(rest))
+            != u32::from(MAPS_FRONT_SIZE) + 8 * u32::from(u8_at(rest, MAPS_COUNT_PLACE)),
         _ => false,
     }
 }
@@ -98,8 +108,8 @@ fn has_unknown_gran(kind: u8, rest: &[u8]) -> bool
     ensures { result ≡ has_unknown_gran kind rest.now }
 {
     match kind {
-        1 => u32_at(rest, 28) > 6,
-        2 => u8_at(rest, 6) > 6,
+        CFMWS_KIND => u32_at(rest, WINDOW_GRAN_PLACE) > 6,
+        CXIMS_KIND => u8_at(rest, MAPS_GRAN_PLACE) > 6,
         _ => false,
     }
 }

@@ -224,6 +224,7 @@ fn made(rt: HostRuntime) -> Result<(), Fail> {
         creator: [0; 4],
         creator_revision: 0,
     };
+    assert!(rt; Cedt::can_hold(&records));
     let cedt = Cedt::new(head, records);
     let mut bytes = changed(rt.alloc(), &[(4, 0xa0), (9, 0x25), (125, 0x01)])?;
     bytes.extend_from_slice(&ONE_MAP)?;

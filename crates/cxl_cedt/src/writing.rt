@@ -2,17 +2,23 @@
 
 ghost use Rattle.std.specs.Prelude.{◌≡◌, ◌++◌, ◌≤◌, ◌<◌, length, IfOk, OnOk};
 ghost use Rattle.std.specs.List.{flat_map};
+ghost use Rattle.cxl_enc.specs.Limits.{file_limit};
 ghost use Rattle.cxl_cedt.specs.CedtFields.{CedtFields};
-ghost use Rattle.cxl_cedt.specs.Records.{record_length, table_length};
+ghost use Rattle.cxl_cedt.specs.Records.{table_length};
 ghost use Rattle.cxl_cedt.specs.Table.{IsTableText, AreRecordTexts};
 ghost use Rattle.cxl_cedt.specs.Spelling.{frame, chbs_spelling, window_range, window_codes, cfmws_spelling, cxims_spelling, other_spelling, record_spelling, header, spelling_with, spelling};
-ghost use Rattle.cxl_cedt.specs.Widths.{HeadFits, ChbsFits, CfmwsFits, CximsFits, OtherFits, RecordFits, HasText};
+ghost use Rattle.cxl_cedt.specs.inner.Widths.{HeadFits, ChbsFits, CfmwsFits, CximsFits, OtherFits, RecordFits, HasText};
 
 use crate::cedt::{Cedt, Head, Record};
 use crate::cfmws::Cfmws;
 use crate::chbs::Chbs;
 use crate::cxims::Cxims;
 use crate::header::checksum;
+use crate::layout::{
+    CFMWS_KIND, CHBS_KIND, CHBS_SIZE, CHECKSUM_PLACE, CXIMS_KIND, FRAME_SIZE, MAPS_FRONT_SIZE,
+    WINDOW_FRONT_SIZE,
+};
+use crate::lengths::table_length;
 use crate::numbers::{put_u16, put_u32, put_u32s, put_u64, put_u64s};
 use crate::other::Other;
 use cxl_enc::Memory;
@@ -22,13 +28,13 @@ use std::alloc::Global;
 /// another type keeps its reserved byte. Takes memory for them. (ACPI CEDT.)
 pub fn write(alloc: Global, cedt: &Cedt) -> Result<Vec<u8>, Memory>
     ensures spelling { IfOk result (λ bytes. bytes.items ≡ spelling cedt.now) }
-    ensures fits { IfOk result (λ bytes. length bytes.items ≤ 1048576) }
+    ensures fits { IfOk result (λ bytes. length bytes.items ≤ file_limit) }
     // The bytes spell the table and no other, so that reading them gives it back.
     ensures table { IfOk result (λ bytes. IsTableText bytes.items cedt.now) }
     ensures only { IfOk result (λ bytes. (other : CedtFields) → IsTableText bytes.items other → other ≡ cedt.now) }
 {
     let mut out = without_checksum(alloc, cedt)?;
-    out[9] = 0u8.wrapping_sub(checksum(&out));
+    out[CHECKSUM_PLACE] = 0u8.wrapping_sub(checksum(&out));
     Ok(out)
 }
 
@@ -40,31 +46,8 @@ fn without_checksum(alloc: Global, cedt: &Cedt) -> Result<Vec<u8>, Memory>
     let size = table_length(cedt.records());
     let mut out = Vec::with_capacity(alloc, size as usize)?;
     put_header(&mut out, cedt.head(), size)?;
-    put_records(&mut out, cedt.records())?;
+    spell_records(&mut out, cedt.records())?;
     Ok(out)
-}
-
-fn table_length(records: &[Record]) -> u32
-    requires { table_length records.now ≤ 1048576 }
-    ensures { result ≡ table_length records.now }
-{
-    let mut size = 36;
-    for entry in records {
-        size += record_length(entry);
-    }
-    size
-}
-
-fn record_length(entry: &Record) -> u32
-    requires { record_length entry.now ≤ 1048576 }
-    ensures { result ≡ record_length entry.now }
-{
-    match entry {
-        Record::Chbs(_) => 32,
-        Record::Cfmws(window) => 36 + 4 * window.targets().len() as u32,
-        Record::Cxims(maps) => 8 + 8 * maps.maps().len() as u32,
-        Record::Other(other) => 4 + other.body().len() as u32,
-    }
 }
 
 /// Appends the header, with 0 in the place of its checksum.
@@ -83,25 +66,25 @@ fn put_header(out: &mut Vec<u8>, head: &Head, size: u32) -> Result<(), Memory>
     put_u32(out, head.creator_revision)
 }
 
-fn put_records(out: &mut Vec<u8>, records: &[Record]) -> Result<(), Memory>
+fn spell_records(out: &mut Vec<u8>, records: &[Record]) -> Result<(), Memory>
     ensures spelled { OnOk result (out.new.items ≡ out.old.items ++ flat_map record_spelling records.now) }
     ensures texts { OnOk result (AreRecordTexts (flat_map record_spelling records.now) records.now) }
 {
-    for entry in records {
-        put_record(out, entry)?;
+    for item in records {
+        spell_record(out, item)?;
     }
     Ok(())
 }
 
-fn put_record(out: &mut Vec<u8>, entry: &Record) -> Result<(), Memory>
-    ensures spelled { OnOk result (out.new.items ≡ out.old.items ++ record_spelling entry.now) }
-    ensures fits { OnOk result (RecordFits entry.now) }
+fn spell_record(out: &mut Vec<u8>, item: &Record) -> Result<(), Memory>
+    ensures spelled { OnOk result (out.new.items ≡ out.old.items ++ record_spelling item.now) }
+    ensures fits { OnOk result (RecordFits item.now) }
 {
-    match entry {
-        Record::Chbs(chbs) => put_chbs(out, chbs),
-        Record::Cfmws(window) => put_cfmws(out, window),
-        Record::Cxims(maps) => put_cxims(out, maps),
-        Record::Other(other) => put_other(out, other),
+    match item {
+        Record::Chbs(chbs) => spell_chbs(out, chbs),
+        Record::Cfmws(window) => spell_cfmws(out, window),
+        Record::Cxims(maps) => spell_cxims(out, maps),
+        Record::Other(other) => spell_other(out, other),
     }
 }
 
@@ -114,11 +97,11 @@ fn put_frame(out: &mut Vec<u8>, kind: u8, second: u8, size: u16) -> Result<(), M
     put_u16(out, size)
 }
 
-fn put_chbs(out: &mut Vec<u8>, chbs: &Chbs) -> Result<(), Memory>
+fn spell_chbs(out: &mut Vec<u8>, chbs: &Chbs) -> Result<(), Memory>
     ensures spelled { OnOk result (out.new.items ≡ out.old.items ++ chbs_spelling chbs.now) }
     ensures fits { OnOk result (ChbsFits chbs.now) }
 {
-    put_frame(out, 0, 0, 32)?;
+    put_frame(out, CHBS_KIND, 0, CHBS_SIZE)?;
     put_u32(out, chbs.uid)?;
     put_u32(out, chbs.version)?;
     put_u32(out, 0)?;
@@ -126,7 +109,7 @@ fn put_chbs(out: &mut Vec<u8>, chbs: &Chbs) -> Result<(), Memory>
     put_u64(out, chbs.length)
 }
 
-fn put_cfmws(out: &mut Vec<u8>, window: &Cfmws) -> Result<(), Memory>
+fn spell_cfmws(out: &mut Vec<u8>, window: &Cfmws) -> Result<(), Memory>
     ensures spelled { OnOk result (out.new.items ≡ out.old.items ++ cfmws_spelling window.now) }
     ensures fits { OnOk result (CfmwsFits window.now) }
 {
@@ -145,7 +128,7 @@ fn put_window_range(out: &mut Vec<u8>, count: usize, base: u64, size: u64) -> Re
     requires { count ≤ 16 }
     ensures { OnOk result (out.new.items ≡ out.old.items ++ window_range count base size) }
 {
-    put_frame(out, 1, 0, 36 + 4 * count as u16)?;
+    put_frame(out, CFMWS_KIND, 0, WINDOW_FRONT_SIZE + 4 * count as u16)?;
     put_u32(out, 0)?;
     put_u64(out, base)?;
     put_u64(out, size)
@@ -162,24 +145,29 @@ fn put_window_codes(out: &mut Vec<u8>, ways: u8, xor: bool, gran: u8) -> Result<
     put_u32(out, u32::from(gran))
 }
 
-fn put_cxims(out: &mut Vec<u8>, maps: &Cxims) -> Result<(), Memory>
+fn spell_cxims(out: &mut Vec<u8>, maps: &Cxims) -> Result<(), Memory>
     ensures spelled { OnOk result (out.new.items ≡ out.old.items ++ cxims_spelling maps.now) }
     ensures fits { OnOk result (CximsFits maps.now) }
 {
     let count = maps.maps().len();
-    put_frame(out, 2, 0, 8 + 8 * count as u16)?;
+    put_frame(out, CXIMS_KIND, 0, MAPS_FRONT_SIZE + 8 * count as u16)?;
     put_u16(out, 0)?;
     out.push(maps.gran())?;
     out.push(count as u8)?;
     put_u64s(out, maps.maps())
 }
 
-fn put_other(out: &mut Vec<u8>, other: &Other) -> Result<(), Memory>
+fn spell_other(out: &mut Vec<u8>, other: &Other) -> Result<(), Memory>
     ensures spelled { OnOk result (out.new.items ≡ out.old.items ++ other_spelling other.now) }
     ensures fits { OnOk result (OtherFits other.now) }
 {
     let body = other.body();
-    put_frame(out, other.kind(), other.reserved(), 4 + body.len() as u16)?;
+    put_frame(
+        out,
+        other.kind(),
+        other.reserved(),
+        FRAME_SIZE + body.len() as u16,
+    )?;
     out.extend_from_slice(body)?;
     Ok(())
 }

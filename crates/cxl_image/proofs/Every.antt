@@ -8,7 +8,7 @@ use Rattle.cxl_regs.specs.Registers.{Registers}
 use Rattle.cxl_topo.specs.declared.node.Node.{Node}
 use Rattle.cxl_image.specs.declared.fault.ImageFault.TheVariants.{Magic, Cut, Nodes, Caps, Trailing}
 use Rattle.cxl_image.specs.Fields.{block_size, start_of, end_of, has_magic, count_said, word_from, named_bits, block_from}
-use Rattle.cxl_image.specs.File.{AgreesUpTo, HasImage, HasFault}
+use Rattle.cxl_image.specs.File.{AgreesUpTo, HasImage, HasImageFault}
 use Rattle.cxl_image.proofs.Places.{start_next}
 use Rattle.cxl_image.proofs.Agreeing.{agrees_next, cut_before, cut_inside}
 
@@ -45,7 +45,7 @@ whole_image bytes nodes whole agrees = (
 )
 
 -- where it agrees up to block i
-blocks_judged : (bytes : List ℕ) (nodes : List Node) (left i : ℕ) → i + left ≡ length nodes → AgreesUpTo bytes nodes (start_of nodes i) → start_of nodes i ≤ length bytes → HasImage bytes nodes ⊎ HasFault bytes nodes
+blocks_judged : (bytes : List ℕ) (nodes : List Node) (left i : ℕ) → i + left ≡ length nodes → AgreesUpTo bytes nodes (start_of nodes i) → start_of nodes i ≤ length bytes → HasImage bytes nodes ⊎ HasImageFault bytes nodes
 blocks_judged bytes nodes zero i all agrees within =
     let e : i ≡ length nodes = omega arith in
     let up_to : AgreesUpTo bytes nodes (end_of nodes) = subst (λ (k : ℕ). AgreesUpTo bytes nodes (start_of nodes k)) e agrees in
@@ -95,7 +95,7 @@ head_judged bytes nodes is count = record {
   caps = λ i node here le. absurd (omega arith);
 }
 
-pub some_reading : (bytes : List ℕ) (nodes : List Node) → HasImage bytes nodes ⊎ HasFault bytes nodes
+pub some_reading : (bytes : List ℕ) (nodes : List Node) → HasImage bytes nodes ⊎ HasImageFault bytes nodes
 some_reading bytes nodes =
     let end : 12 ≤ end_of nodes = omega arith in
     elim (cases_lt (length bytes) 8) [

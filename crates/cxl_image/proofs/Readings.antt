@@ -8,7 +8,7 @@ use Rattle.cxl_topo.specs.declared.node.Node.{Node}
 use Rattle.cxl_image.specs.declared.fault.ImageFault.{ImageFault}
 use Rattle.cxl_image.specs.declared.fault.ImageFault.TheVariants.{Magic, Cut, Nodes, Caps, Trailing, Memory}
 use Rattle.cxl_image.specs.Fields.{start_of, end_of}
-use Rattle.cxl_image.specs.File.{AgreesUpTo, IsImageFile, HasOtherMagic, HasOtherCount, HasOtherCaps, IsFirstImageFault, IsFaultOf, IsAnswer}
+use Rattle.cxl_image.specs.File.{AgreesUpTo, IsImageFile, HasOtherMagic, HasOtherCount, HasOtherCaps, IsFirstImageFault, IsImageFaultOf, IsImageAnswer}
 use Rattle.cxl_image.specs.Images.{HasCapsOf}
 use Rattle.cxl_image.proofs.Places.{start_before, ends_within, block_long}
 use Rattle.cxl_image.proofs.Blocks.{file_caps}
@@ -110,16 +110,16 @@ not_both bytes nodes image (Trailing at) h k = omega (arith, k.more, h.whole)
 
 -- ---- answers
 
-pub only_image : (bytes : List ℕ) (nodes : List Node) (result : Result (List Registers) ImageFault) → IfOk result (λ image. IsImageFile bytes nodes image) → IfErr result (λ fault. IsFaultOf bytes nodes fault)
-    → (image : List Registers) → IsImageFile bytes nodes image → IsAnswer result (Ok image)
+pub only_image : (bytes : List ℕ) (nodes : List Node) (result : Result (List Registers) ImageFault) → IfOk result (λ image. IsImageFile bytes nodes image) → IfErr result (λ fault. IsImageFaultOf bytes nodes fault)
+    → (image : List Registers) → IsImageFile bytes nodes image → IsImageAnswer result (Ok image)
 only_image bytes nodes (Ok read) is none image h = inl (ap Ok (one_image bytes nodes read image is h))
 only_image bytes nodes (Err fault) none is image h = elim is [
   | inl memory ↦ inr (ap Err memory)
   | inr first ↦ absurd (not_both bytes nodes image fault h first)
 ]
 
-pub only_fault : (bytes : List ℕ) (nodes : List Node) (result : Result (List Registers) ImageFault) → IfOk result (λ image. IsImageFile bytes nodes image) → IfErr result (λ fault. IsFaultOf bytes nodes fault)
-    → (fault : ImageFault) → IsFirstImageFault bytes nodes fault → IsAnswer result (Err fault)
+pub only_fault : (bytes : List ℕ) (nodes : List Node) (result : Result (List Registers) ImageFault) → IfOk result (λ image. IsImageFile bytes nodes image) → IfErr result (λ fault. IsImageFaultOf bytes nodes fault)
+    → (fault : ImageFault) → IsFirstImageFault bytes nodes fault → IsImageAnswer result (Err fault)
 only_fault bytes nodes (Ok read) is none fault h = absurd (not_both bytes nodes read fault is h)
 only_fault bytes nodes (Err found) none is fault h = elim is [
   | inl memory ↦ inr (ap Err memory)

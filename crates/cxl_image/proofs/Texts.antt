@@ -18,11 +18,12 @@ use Rattle.cxl_regs.specs.Registers.{Registers, IsBlock, IsDecoder}
 use Rattle.cxl_regs.specs.Words.{has_bit, low_half, high_half, control_of, words_of, decoder_of, head_words}
 use Rattle.cxl_topo.specs.declared.node.Node.{Node}
 use Rattle.cxl_image.specs.Images.{IsImage, IsBlockOf, HasCapsOf}
-use Rattle.cxl_image.specs.Fields.{decoder_count, block_size, start_of, word_from, words_from, count_said, named_bits, decoder_from, block_from}
+use Rattle.cxl_image.specs.Fields.{decoder_count, block_size, start_of, word_from, words_from, count_said, named_bits, decoder_from, block_from, image_limit}
 use Rattle.cxl_image.specs.File.{IsImageFile}
 use Rattle.cxl_image.specs.Text.{word_bytes, words_text, block_words, block_text, image_text}
 use Rattle.cxl_image.proofs.Ranges.{range_at, length-range}
 use Rattle.cxl_image.proofs.AfterWrite.{block_there}
+use Rattle.cxl_image.proofs.Places.{few_decoders}
 
 -- ---- words one after the other
 
@@ -310,12 +311,12 @@ image_is_file back blocks nodes is caps = record {
 
 -- ---- and its length
 
-few_decoders : (cap : ℕ) → decoders_of (decoders_code cap) ≤ 30
-few_decoders cap = grind (arith, nat_tests)
-
-pub image_short : (blocks : List Registers) → IsImage blocks → length (image_text blocks) ≤ 1048576
+pub image_short : (blocks : List Registers) → IsImage blocks → length (image_text blocks) ≤ image_limit
 image_short blocks is =
-    let each : All (λ block. length (block_text block) ≤ 976) blocks = λ k d lt. let few = few_decoders (get_or blocks k d).cap in omega (arith, length-block_text (get_or blocks k d) (is.each k d lt)) in
-    let sum = sum_by-le (λ block. length (block_text block)) 976 blocks each in
+    let each : All (λ block. length (block_text block) ≤ 336) blocks = λ k d lt.
+    let block = is.each k d lt in
+    let few = few_decoders (get_or blocks k d).cap (get_or blocks k d).endpoint block.cap in
+    omega (arith, length-block_text (get_or blocks k d) block) in
+    let sum = sum_by-le (λ block. length (block_text block)) 336 blocks each in
     let few = is.few in
     omega (arith, length-image_text blocks, sum)

@@ -4,6 +4,7 @@ use Rattle.std.specs.Prelude.{ℕ, ◌+◌, ◌*◌, ◌/◌, ◌%◌, ◌^◌, 
 use Rattle.std.specs.List.{starts_with, range_with_len}
 use Rattle.byteorder.specs.Endian.{little_number}
 use Rattle.cxl_enc.specs.Caps.{decoders_code, decoders_of}
+use Rattle.cxl_enc.specs.Limits.{node_limit}
 use Rattle.cxl_regs.specs.declared.decoder.Decoder.{Decoder}
 use Rattle.cxl_regs.specs.Registers.{Registers}
 use Rattle.cxl_regs.specs.Words.{has_bit, decoder_of}
@@ -27,6 +28,10 @@ start_of nodes i = 12 + sum_by block_size (take i nodes)
 -- the byte place at which the last block ends
 abbrev pub end_of : List Node → ℕ
 end_of nodes = start_of nodes (length nodes)
+
+-- no image file is longer: twelve bytes, and the sixteen and ten decoders of 1,024 blocks
+abbrev pub image_limit : ℕ
+image_limit = 12 + node_limit * (16 + 32 * 10)
 
 -- ---- what stands there
 

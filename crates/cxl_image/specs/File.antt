@@ -66,17 +66,17 @@ IsFirstImageFault bytes nodes Memory = ⊥
 -- ---- answers
 
 -- an answer other than want of memory is the first fault
-abbrev pub IsFaultOf : List ℕ → List Node → ImageFault → Type 0
-IsFaultOf bytes nodes fault = (fault ≡ Memory) ⊎ IsFirstImageFault bytes nodes fault
+abbrev pub IsImageFaultOf : List ℕ → List Node → ImageFault → Type 0
+IsImageFaultOf bytes nodes fault = (fault ≡ Memory) ⊎ IsFirstImageFault bytes nodes fault
 
 -- this answer, unless memory ran out
-abbrev pub IsAnswer : Result (List Registers) ImageFault → Result (List Registers) ImageFault → Type 0
-IsAnswer result answer = (result ≡ answer) ⊎ (result ≡ Err Memory)
+abbrev pub IsImageAnswer : Result (List Registers) ImageFault → Result (List Registers) ImageFault → Type 0
+IsImageAnswer result answer = (result ≡ answer) ⊎ (result ≡ Err Memory)
 
 -- there is an image of which the bytes are a file
 abbrev pub HasImage : List ℕ → List Node → Type 0
 HasImage bytes nodes = (blocks : List Registers) × IsImageFile bytes nodes blocks
 
 -- there is a first fault
-abbrev pub HasFault : List ℕ → List Node → Type 0
-HasFault bytes nodes = (fault : ImageFault) × IsFirstImageFault bytes nodes fault
+abbrev pub HasImageFault : List ℕ → List Node → Type 0
+HasImageFault bytes nodes = (fault : ImageFault) × IsFirstImageFault bytes nodes fault

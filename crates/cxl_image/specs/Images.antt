@@ -1,5 +1,6 @@
 -- The decoder blocks of a topology's nodes, in node order.
 use Rattle.std.specs.Prelude.{◌≡◌, ℕ, ◌≤◌, List, length, map, All, slice_get, Some}
+use Rattle.cxl_enc.specs.Limits.{node_limit}
 use Rattle.cxl_regs.specs.Registers.{Registers, IsBlock, reset_block}
 use Rattle.cxl_topo.specs.declared.node.Node.{Node}
 use Rattle.cxl_topo.specs.Kinds.{is_endpoint}
@@ -12,9 +13,9 @@ reset_block_of node = reset_block node.cap (is_endpoint node.kind)
 abbrev pub reset_blocks : List Node → List Registers
 reset_blocks nodes = map reset_block_of nodes
 
--- what every image is: the blocks of at most 1,024 nodes
+-- what every image is: the blocks of as many nodes as a topology may have
 pub record IsImage (blocks : List Registers) : Type 0 where
-  pub few : length blocks ≤ 1024
+  pub few : length blocks ≤ node_limit
   pub each : All IsBlock blocks
 
 -- the block has the node's capability word, and is an endpoint's exactly where the node is an endpoint

@@ -5,7 +5,6 @@ ghost use Rattle.cxl_regs.specs.Writes.{after_word};
 ghost use Rattle.cxl_topo.specs.declared.node.Node.{Node};
 ghost use Rattle.cxl_image.specs.Images.{reset_blocks, IsImage, HasCapsOf};
 
-use crate::nodes::is_endpoint;
 use cxl_enc::Memory;
 use cxl_regs::{Block, Effect, copies, write_laws};
 use cxl_topo::Topo;
@@ -39,7 +38,7 @@ impl Image {
         let mut blocks = Vec::with_capacity(alloc, topo.count() as usize)?;
         for i in 0..topo.count() {
             let node = topo.node(i);
-            blocks.push(Block::new(alloc, node.cap, is_endpoint(node))?)?;
+            blocks.push(Block::new(alloc, node.cap, node.is_endpoint())?)?;
         }
         Ok(Image { blocks })
     }

@@ -1,6 +1,7 @@
 //! The first fault of an image file.
 
 ghost use Rattle.std.specs.Prelude.{◌≡◌, ◌+◌, ◌<◌, ◌≤◌, length, slice_get, Some, IfSome, IfNone};
+ghost use Rattle.cxl_topo.specs.Faults.{IsTree};
 ghost use Rattle.cxl_image.specs.Fields.{start_of, end_of, has_magic};
 ghost use Rattle.cxl_image.specs.File.{AgreesUpTo, IsFirstImageFault};
 
@@ -16,8 +17,7 @@ pub const MAGIC: &[u8; 8] = b"CXLHDM01";
 pub const HEAD: usize = 12;
 
 /// The first fault of a file, where it has one.
-pub fn first_fault(bytes: &[u8], topo: &Topo) -> Option<ImageFault>
-    requires { length bytes.now ≤ 1048576 }
+pub fn first_image_fault(bytes: &[u8], topo: &Topo) -> Option<ImageFault>
     ensures some { IfSome result (λ fault. IsFirstImageFault bytes.now topo.now.nodes fault) }
     ensures agrees { IfNone result (AgreesUpTo bytes.now topo.now.nodes (end_of topo.now.nodes)) }
     ensures whole { IfNone result (length bytes.now ≡ end_of topo.now.nodes) }
@@ -40,7 +40,6 @@ pub fn first_fault(bytes: &[u8], topo: &Topo) -> Option<ImageFault>
 
 /// The first fault of the magic and the number of nodes.
 fn head_fault(bytes: &[u8], topo: &Topo) -> Option<ImageFault>
-    requires { length bytes.now ≤ 1048576 }
     ensures some { IfSome result (λ fault. IsFirstImageFault bytes.now topo.now.nodes fault) }
     ensures agrees { IfNone result (AgreesUpTo bytes.now topo.now.nodes 12) }
     ensures whole { IfNone result (12 ≤ length bytes.now) }
@@ -70,7 +69,7 @@ fn has_magic(bytes: &[u8]) -> bool
 
 /// The first fault of the block of node `i`, which begins at byte place `at`, where nothing is wrong before.
 fn block_fault(bytes: &[u8], topo: &Topo, i: u32, at: usize) -> Option<ImageFault>
-    requires few { length bytes.now ≤ 1048576 }
+    requires tree { IsTree topo.now.nodes }
     requires node { i < length topo.now.nodes }
     requires place { at ≡ start_of topo.now.nodes i }
     requires before { at ≤ length bytes.now }

@@ -12,7 +12,7 @@ mod writing;
 
 pub use fault::ImageFault;
 pub use image::Image;
-pub use laws::{image_laws, one_reading};
+pub use laws::{image_laws, one_image_reading};
 pub use reading::read_image;
 pub use writing::write_image;
 

@@ -1,17 +1,10 @@
 //! What a node says of its block.
 
 ghost use Rattle.std.specs.Prelude.{◌≡◌, ◌≤◌};
-ghost use Rattle.cxl_topo.specs.Kinds.{is_endpoint};
 ghost use Rattle.cxl_image.specs.Fields.{block_size};
 
 use cxl_regs::decoder_count;
-use cxl_topo::{Node, NodeKind};
-
-pub fn is_endpoint(node: &Node) -> bool
-    ensures { result ≡ is_endpoint node.now.kind }
-{
-    matches!(node.kind, NodeKind::Endpoint(_))
-}
+use cxl_topo::Node;
 
 /// How many bytes the words of the node's block take.
 pub fn block_size(node: &Node) -> usize

@@ -9,12 +9,12 @@ ghost use Rattle.cxl_topo.specs.Kinds.{is_endpoint};
 ghost use Rattle.cxl_image.specs.declared.fault.ImageFault.{ImageFault};
 ghost use Rattle.cxl_image.specs.Images.{HasCapsOf};
 ghost use Rattle.cxl_image.specs.Fields.{end_of, block_size, word_from, decoder_from, block_from};
-ghost use Rattle.cxl_image.specs.File.{AgreesUpTo, IsImageFile, IsFirstImageFault, IsFaultOf, IsAnswer};
+ghost use Rattle.cxl_image.specs.File.{AgreesUpTo, IsImageFile, IsFirstImageFault, IsImageFaultOf, IsImageAnswer};
 
 use crate::fault::ImageFault;
 use crate::image::Image;
-use crate::judging::{HEAD, first_fault};
-use crate::nodes::{block_size, is_endpoint};
+use crate::judging::{HEAD, first_image_fault};
+use crate::nodes::block_size;
 use crate::words::{decoder_words, word_from};
 use cxl_enc::Memory;
 use cxl_regs::{Block, Decoder, decoder_count, decoder_of};
@@ -23,25 +23,24 @@ use std::alloc::Global;
 
 /// The image of a file for a topology, or the file's first fault. Reserved bits and words, all of a port's word 0x4 and
 /// the bits of a capability word that stand for nothing may hold anything and are dropped. A file may hold any register
-/// state, also one that no writes lead to. Takes memory. (This project's rule.)
+/// state, also one that no writes lead to. The bytes may be any, and any number of them: the first fault stands before
+/// byte 344,076, behind which no block of a topology ends. Takes memory. (This project's rule.)
 pub fn read_image(alloc: Global, bytes: &[u8], topo: &Topo) -> Result<Image, ImageFault>
-    requires { length bytes.now ≤ 1048576 }
     ensures image { IfOk result (λ image. IsImageFile bytes.now topo.now.nodes image) }
     ensures caps { IfOk result (λ image. HasCapsOf image topo.now.nodes) }
-    ensures fault { IfErr result (λ fault. IsFaultOf bytes.now topo.now.nodes fault) }
+    ensures fault { IfErr result (λ fault. IsImageFaultOf bytes.now topo.now.nodes fault) }
     // The image of a file is read, and a first fault is answered, unless memory runs out.
-    ensures only_image { (image : List Registers) → IsImageFile bytes.now topo.now.nodes image → IsAnswer result (Ok image) }
-    ensures only_fault { (fault : ImageFault) → IsFirstImageFault bytes.now topo.now.nodes fault → IsAnswer result (Err fault) }
+    ensures only_image { (image : List Registers) → IsImageFile bytes.now topo.now.nodes image → IsImageAnswer result (Ok image) }
+    ensures only_fault { (fault : ImageFault) → IsFirstImageFault bytes.now topo.now.nodes fault → IsImageAnswer result (Err fault) }
 {
     image_of(alloc, bytes, topo)
 }
 
 fn image_of(alloc: Global, bytes: &[u8], topo: &Topo) -> Result<Image, ImageFault>
-    requires { length bytes.now ≤ 1048576 }
     ensures image { IfOk result (λ image. IsImageFile bytes.now topo.now.nodes image) }
-    ensures fault { IfErr result (λ fault. IsFaultOf bytes.now topo.now.nodes fault) }
+    ensures fault { IfErr result (λ fault. IsImageFaultOf bytes.now topo.now.nodes fault) }
 {
-    if let Some(fault) = first_fault(bytes, topo) {
+    if let Some(fault) = first_image_fault(bytes, topo) {
         return Err(fault);
     }
     Ok(sound_image(alloc, bytes, topo)?)
@@ -70,7 +69,7 @@ fn block_from(alloc: Global, bytes: &[u8], at: usize, node: &Node) -> Result<Blo
     ensures value { IfOk result (λ block. block ≡ block_from bytes.now at node.now) }
     ensures block { IfOk result (λ block. IsBlock block) }
 {
-    let endpoint = is_endpoint(node);
+    let endpoint = node.is_endpoint();
     let enabled = decodes(bytes, at, endpoint);
     let count = decoder_count(node.cap) as usize;
     let decoders = decoders_from(alloc, bytes, at + 16, count, endpoint)?;

@@ -7,9 +7,6 @@ use std::test::*;
 
 const ENDPOINT_CAP: u32 = 0x1b02;
 
-/// The most bytes that are read.
-const LIMIT: usize = 1_048_576;
-
 fn bridge(name: &[u8], uid: u32, forwards: bool) -> Result<Node, Fail> {
     Ok(Node {
         name: Name::read(name).ok_or("a name")?,
@@ -51,13 +48,6 @@ fn topology(alloc: Global, forwards: bool) -> Result<Topo, Fail> {
     Ok(Topo::new(alloc, nodes, 65_536).ok().ok_or("a legal tree")?)
 }
 
-fn read(alloc: Global, bytes: &[u8], topo: &Topo) -> Result<Image, ImageFault> {
-    if bytes.len() > LIMIT {
-        return Err(ImageFault::Trailing(1_048_576));
-    }
-    read_image(alloc, bytes, topo)
-}
-
 fn reset_file(alloc: Global, topo: &Topo) -> Result<Vec<u8>, Fail> {
     Ok(write_image(alloc, &Image::new(alloc, topo)?)?)
 }
@@ -88,10 +78,10 @@ fn the_reset_image(rt: HostRuntime) -> Result<(), Fail> {
     let bytes = write_image(alloc, &image)?;
     assert_eq!(rt; bytes.len(), 588);
     assert!(rt; bytes.starts_with(b"CXLHDM01\x04\x00\x00\x00\x82\x03\x00\x00"));
-    let back = read(alloc, &bytes, &topo)?;
+    let back = read_image(alloc, &bytes, &topo)?;
     assert_eq!(rt; write_image(alloc, &back)?, bytes);
     assert_eq!(rt; reset_file(alloc, &topology(alloc, true)?)?.len(), 396);
-    one_reading();
+    one_image_reading();
     image_laws();
     Ok(())
 }
@@ -113,7 +103,7 @@ fn first_faults(rt: HostRuntime) -> Result<(), Fail> {
     ];
     for (at, byte, fault) in rows {
         let bytes = with_byte(alloc, &whole, at, byte)?;
-        assert_eq!(rt; read(alloc, &bytes, &topo).err(), Some(fault));
+        assert_eq!(rt; read_image(alloc, &bytes, &topo).err(), Some(fault));
     }
     Ok(())
 }
@@ -126,13 +116,19 @@ fn the_earlier_field_comes_first(rt: HostRuntime) -> Result<(), Fail> {
     let whole = reset_file(alloc, &topo)?;
     let other = with_byte(alloc, &whole, 12, 0)?;
     let two = with_byte(alloc, &other, 8, 5)?;
-    assert_eq!(rt; read(alloc, &two, &topo).err(), Some(ImageFault::Nodes(5)));
+    assert_eq!(rt;
+        read_image(alloc, &two, &topo).err(),
+        Some(ImageFault::Nodes(5))
+    );
     let cut = other.get(..20).ok_or("a prefix")?;
-    assert_eq!(rt; read(alloc, cut, &topo).err(), Some(ImageFault::Caps(0)));
+    assert_eq!(rt;
+        read_image(alloc, cut, &topo).err(),
+        Some(ImageFault::Caps(0))
+    );
     let mut more = whole;
     more.push(0)?;
     assert_eq!(rt;
-        read(alloc, &more, &topo).err(),
+        read_image(alloc, &more, &topo).err(),
         Some(ImageFault::Trailing(588))
     );
     Ok(())
@@ -146,7 +142,10 @@ fn each_prefix_is_cut(rt: HostRuntime) -> Result<(), Fail> {
     assert_eq!(rt; whole.len(), 588);
     for n in 0..588_u32 {
         let prefix = whole.get(..n as usize).ok_or("a prefix")?;
-        assert_eq!(rt; read(alloc, prefix, &topo).err(), Some(ImageFault::Cut(n)));
+        assert_eq!(rt;
+            read_image(alloc, prefix, &topo).err(),
+            Some(ImageFault::Cut(n))
+        );
     }
     Ok(())
 }
@@ -170,7 +169,7 @@ fn what_does_not_count_is_dropped(rt: HostRuntime) -> Result<(), Fail> {
     ];
     for (at, byte) in rows {
         let bytes = with_byte(alloc, &whole, at, byte)?;
-        let image = read(alloc, &bytes, &topo)?;
+        let image = read_image(alloc, &bytes, &topo)?;
         assert_eq!(rt; write_image(alloc, &image)?, whole);
     }
     Ok(())
@@ -183,7 +182,7 @@ fn any_registers_are_read(rt: HostRuntime) -> Result<(), Fail> {
     let topo = topology(alloc, false)?;
     let whole = reset_file(alloc, &topo)?;
     let bytes = with_byte(alloc, &with_byte(alloc, &whole, 365, 0x14)?, 361, 0x20)?;
-    let image = read(alloc, &bytes, &topo)?;
+    let image = read_image(alloc, &bytes, &topo)?;
     if image.count() > 2 && image.block(2).count() > 1 {
         let decoder = image.block(2).decoder(1);
         assert!(rt; decoder.committed && decoder.host_only);

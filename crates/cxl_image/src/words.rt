@@ -38,7 +38,7 @@ pub fn named_bits(cap: u32) -> u32
 
 /// Appends a word.
 #[tactic(auto, unfolding(crate::specs::Text::word_bytes))]
-pub fn put_word(out: &mut Vec<u8>, word: u32) -> Result<(), Memory>
+pub fn append_word(out: &mut Vec<u8>, word: u32) -> Result<(), Memory>
     ensures { OnOk result (out.new.items ≡ out.old.items ++ word_bytes word) }
 {
     let mut bytes = [0; 4];
@@ -49,11 +49,11 @@ pub fn put_word(out: &mut Vec<u8>, word: u32) -> Result<(), Memory>
 
 /// Appends words, one after the other.
 #[tactic(auto, unfolding(crate::specs::Text::words_text))]
-pub fn put_words(out: &mut Vec<u8>, words: &[u32]) -> Result<(), Memory>
+pub fn append_words(out: &mut Vec<u8>, words: &[u32]) -> Result<(), Memory>
     ensures { OnOk result (out.new.items ≡ out.old.items ++ words_text words.now) }
 {
     for word in words {
-        put_word(out, *word)?;
+        append_word(out, *word)?;
     }
     Ok(())
 }

@@ -5,21 +5,22 @@ ghost use Rattle.cxl_regs.specs.Registers.{Registers};
 ghost use Rattle.cxl_regs.specs.Words.{head_words};
 ghost use Rattle.cxl_topo.specs.declared.node.Node.{Node};
 ghost use Rattle.cxl_image.specs.Images.{IsImage, HasCapsOf};
+ghost use Rattle.cxl_image.specs.Fields.{image_limit};
 ghost use Rattle.cxl_image.specs.File.{IsImageFile};
 ghost use Rattle.cxl_image.specs.Text.{block_text, image_text};
 
 use crate::image::Image;
 use crate::judging::MAGIC;
-use crate::words::{put_word, put_words};
+use crate::words::{append_word, append_words};
 use cxl_enc::Memory;
 use cxl_regs::{Block, words_of, words_stand_for_decoder};
 use std::alloc::Global;
 
-/// The file of an image, with zero wherever a reader drops what stands there. Takes memory for it. (This project's
-/// rule.)
+/// The file of an image, at most 344,076 bytes, with zero wherever a reader drops what stands there. Takes memory for
+/// it. (This project's rule.)
 pub fn write_image(alloc: Global, image: &Image) -> Result<Vec<u8>, Memory>
     ensures text { IfOk result (λ bytes. bytes.items ≡ image_text image.now) }
-    ensures fits { IfOk result (λ bytes. length bytes.items ≤ 1048576) }
+    ensures fits { IfOk result (λ bytes. length bytes.items ≤ image_limit) }
     // It is a file of the image and of no other, so that reading it gives the image back.
     ensures file { IfOk result (λ bytes. (nodes : List Node) → HasCapsOf image.now nodes → IsImageFile bytes.items nodes image.now) }
     ensures only { IfOk result (λ bytes. (nodes : List Node) (other : List Registers) → HasCapsOf image.now nodes → IsImageFile bytes.items nodes other → other ≡ image.now) }
@@ -35,7 +36,7 @@ fn text_of(alloc: Global, image: &Image) -> Result<Vec<u8>, Memory>
     let mut out = Vec::new(alloc);
     let count = image.count();
     out.extend_from_slice(MAGIC)?;
-    put_word(&mut out, count)?;
+    append_word(&mut out, count)?;
     for block in image.blocks() {
         put_block(&mut out, block)?;
     }
@@ -46,10 +47,10 @@ fn text_of(alloc: Global, image: &Image) -> Result<Vec<u8>, Memory>
 fn put_block(out: &mut Vec<u8>, block: &Block) -> Result<(), Memory>
     ensures { OnOk result (out.new.items ≡ out.old.items ++ block_text block.now) }
 {
-    put_words(out, &head_words(block))?;
+    append_words(out, &head_words(block))?;
     for i in 0..block.count() {
         let decoder = block.decoder(i);
-        put_words(out, &words_of(&decoder))?;
+        append_words(out, &words_of(&decoder))?;
     }
     Ok(())
 }

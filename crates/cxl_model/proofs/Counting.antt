@@ -11,7 +11,7 @@ use Rattle.std.proofs.lemmas.List.Folds.{Any-from_list_any, list_any_at}
 use Rattle.std.proofs.lemmas.List.FromFn.{length-range_with_len, get_or-range_with_len, length-map-range_with_len}
 use Rattle.cxl_topo.specs.declared.node.Node.{Node}
 use Rattle.cxl_topo.specs.declared.node.Parent.{Parent}
-use Rattle.cxl_topo.specs.Tree.{forwards_at, is_endpoint_at, parent_of, child_of, first_child_of, landing_within, landing_of}
+use Rattle.cxl_topo.specs.Tree.{forwards_at, is_endpoint_at, parent_of, child_of, least_child_of, landing_within, landing_of}
 use Rattle.cxl_regs.specs.declared.decoder.Decoder.{Decoder}
 use Rattle.cxl_regs.specs.Registers.{Registers}
 use Rattle.cxl_regs.specs.declared.reading.Range.{Range}
@@ -77,14 +77,14 @@ lands_within s r n system lands =
     go zero past lands = false≢true lands
     go (suc k) past lands =
         let here : serves s r n ≡ true =
-        sym (ap (λ b. option_map_or (serves s r) (if b then option_and_then (landing_within k s.nodes) (first_child_of s.nodes n) else Some n) false) (forwards_within s.nodes n past)) ∙ lands in
+        sym (ap (λ b. option_map_or (serves s r) (if b then option_and_then (landing_within k s.nodes) (least_child_of s.nodes n) else Some n) false) (forwards_within s.nodes n past)) ∙ lands in
         let within = serves_within s r n system here in
         omega arith
 
 -- the only child of a node that forwards, on which the range lands as well
 pub record LandsBelow (s : System) (r : Range) (n : ℕ) : Type 0 where
   pub child : ℕ
-  pub first : first_child_of s.nodes n ≡ Some child
+  pub first : least_child_of s.nodes n ≡ Some child
   pub own : Parent
   pub parent : parent_of s.nodes child ≡ Some own
   pub node : own.node ≡ n
@@ -92,11 +92,11 @@ pub record LandsBelow (s : System) (r : Range) (n : ℕ) : Type 0 where
 
 pub lands_below : (s : System) (r : Range) (n : ℕ) → IsSystem s → KnownTree s.nodes → forwards_at s.nodes n ≡ true → lands_on s r n ≡ true → LandsBelow s r n
 lands_below s r n system known forwards lands =
-    go (first_child_of s.nodes n) refl
-    (sym (ap (λ b. option_map_or (serves s r) (if b then option_and_then (landing_of s.nodes) (first_child_of s.nodes n) else Some n) false) forwards)
+    go (least_child_of s.nodes n) refl
+    (sym (ap (λ b. option_map_or (serves s r) (if b then option_and_then (landing_of s.nodes) (least_child_of s.nodes n) else Some n) false) forwards)
     ∙ sym (ap (λ (o : Option ℕ). option_map_or (serves s r) o false) (known.laws.landings n (lands_within s r n system lands))) ∙ lands)
   where
-    go : (o : Option ℕ) → first_child_of s.nodes n ≡ o → option_map_or (serves s r) (option_and_then (landing_of s.nodes) o) false ≡ true → LandsBelow s r n
+    go : (o : Option ℕ) → least_child_of s.nodes n ≡ o → option_map_or (serves s r) (option_and_then (landing_of s.nodes) o) false ≡ true → LandsBelow s r n
     go None first lands_there = absurd (false≢true lands_there)
     go (Some c) first lands_there =
         let parent = only_child known n c forwards first in
@@ -107,7 +107,7 @@ lands_here s r n system known own =
     elim (cases_lt n (length s.nodes)) [
       | inl within ↦
           ap (λ (o : Option ℕ). option_map_or (serves s r) o false) (known.laws.landings n within)
-          ∙ ap (λ b. option_map_or (serves s r) (if b then option_and_then (landing_of s.nodes) (first_child_of s.nodes n) else Some n) false) own
+          ∙ ap (λ b. option_map_or (serves s r) (if b then option_and_then (landing_of s.nodes) (least_child_of s.nodes n) else Some n) false) own
       | inr past ↦ same_test (lands_on s r n) (serves s r n)
           (λ lands. let within = lands_within s r n system lands in absurd (omega arith))
           (λ is. let within = serves_within s r n system is in absurd (omega arith))

@@ -10,7 +10,7 @@ use Rattle.std.proofs.lemmas.List.Folds.{list_any-append}
 use Rattle.cxl_topo.specs.declared.node.Node.{Node}
 use Rattle.cxl_topo.specs.declared.node.Parent.{Parent}
 use Rattle.cxl_topo.specs.Kinds.{is_endpoint}
-use Rattle.cxl_topo.specs.Tree.{forwards_at, is_bridge_at, is_port_at, is_endpoint_at, parent_of, first_child_of, ports_above, path_of}
+use Rattle.cxl_topo.specs.Tree.{forwards_at, is_bridge_at, is_port_at, is_endpoint_at, parent_of, least_child_of, ports_above, path_of}
 use Rattle.cxl_topo.specs.Faults.{IsTree}
 use Rattle.cxl_topo.specs.Laws.{AreTreeLaws}
 use Rattle.cxl_model.specs.Counts.{is_under}
@@ -269,7 +269,7 @@ under_endpoint {nodes} known n i endpoint =
     none = false_from_ne_true (is_above nodes n i) (λ above. false≢true (sym (port_no_endpoint nodes n (above_port known n i above)) ∙ endpoint))
 
 -- a node that forwards is no endpoint, and the parent of its only child
-pub only_child : {nodes : List Node} → KnownTree nodes → (n c : ℕ) → forwards_at nodes n ≡ true → first_child_of nodes n ≡ Some c → (own : Parent) × (parent_of nodes c ≡ Some own) × (own.node ≡ n)
+pub only_child : {nodes : List Node} → KnownTree nodes → (n c : ℕ) → forwards_at nodes n ≡ true → least_child_of nodes n ≡ Some c → (own : Parent) × (parent_of nodes c ≡ Some own) × (own.node ≡ n)
 only_child {nodes} known n c forwards first = go (parent_of nodes c) refl ((known.laws.only_children n c forwards).0 first)
   where
     go : (o : Option Parent) → parent_of nodes c ≡ o → option_map (λ parent. parent.node) o ≡ Some n → (own : Parent) × (parent_of nodes c ≡ Some own) × (own.node ≡ n)

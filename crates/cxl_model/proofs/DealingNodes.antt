@@ -10,7 +10,7 @@ use Rattle.std.proofs.lemmas.List.Quantifiers.{position-Some}
 use Rattle.cxl_topo.specs.declared.node.Node.{Node}
 use Rattle.cxl_topo.specs.declared.node.Parent.{Parent}
 use Rattle.cxl_topo.specs.Kinds.{is_endpoint}
-use Rattle.cxl_topo.specs.Tree.{forwards_at, is_port_at, is_endpoint_at, parent_of, child_of, first_child_of, ports_above}
+use Rattle.cxl_topo.specs.Tree.{forwards_at, is_port_at, is_endpoint_at, parent_of, child_of, least_child_of, ports_above}
 use Rattle.cxl_topo.specs.Laws.{AreTreeLaws}
 use Rattle.cxl_regs.specs.declared.decoder.Decoder.{Decoder}
 use Rattle.cxl_regs.specs.Registers.{Registers, reset_decoder}
@@ -156,7 +156,7 @@ parent_is : (s : System) (n child : ℕ) (o : Option Parent) → parent_of s.nod
 parent_is s n child None is at = cc
 parent_is s n child (Some parent) is at = record { parent = parent; is = is; at = cc }
 
-pub under_forwarding : (s : System) (n child : ℕ) → AreTreeLaws s.nodes → forwards_at s.nodes n ≡ true → first_child_of s.nodes n ≡ Some child → IsUnder s n child
+pub under_forwarding : (s : System) (n child : ℕ) → AreTreeLaws s.nodes → forwards_at s.nodes n ≡ true → least_child_of s.nodes n ≡ Some child → IsUnder s n child
 under_forwarding s n child laws forwards is = parent_is s n child (parent_of s.nodes child) refl ((laws.only_children n child forwards).0 is)
 
 -- what is gathered of the nodes above a child begins with its parent's

@@ -9,7 +9,7 @@ use Rattle.std.proofs.lemmas.Nat.{pow-add}
 use Rattle.std.proofs.lemmas.List.{append_assoc, append-nil, reverse-append}
 use Rattle.std.proofs.lemmas.List.Sums.{sum_by-cons}
 use Rattle.cxl_enc.specs.Codes.{bits_of}
-use Rattle.cxl_topo.specs.Tree.{forwards_at, is_port_at, child_of, first_child_of, ports_above}
+use Rattle.cxl_topo.specs.Tree.{forwards_at, is_port_at, child_of, least_child_of, ports_above}
 use Rattle.cxl_topo.specs.Laws.{AreTreeLaws}
 use Rattle.cxl_regs.specs.declared.decoder.Decoder.{Decoder}
 use Rattle.cxl_regs.specs.declared.reading.Range.{Range}
@@ -49,7 +49,7 @@ pub record SameAbove (s : System) (w : WindowFields) (r : Range) (slot n child :
   pub steps : slot_steps s w r slot child ≡ slot_steps s w r slot n
 
 below_forwarding : (s : System) (w : WindowFields) (r : Range) (slot n child : ℕ) → Given s w r → forwards_at s.nodes n ≡ true
-    → first_child_of s.nodes n ≡ Some child → SameAbove s w r slot n child
+    → least_child_of s.nodes n ≡ Some child → SameAbove s w r slot n child
 below_forwarding s w r slot n child given forwards first =
     let none = owns_none s r n given.whole forwards in
     let under = under_forwarding s n child given.laws forwards first in
@@ -182,7 +182,7 @@ pub record GoesDown (s : System) (w : WindowFields) (r : Range) (slot h n endpoi
   pub sum : bits_above s r endpoint ≡ bits_above s r n + below
 
 past : (s : System) (w : WindowFields) (r : Range) (slot h n child endpoint : ℕ) (arrival : Arrival) → forwards_at s.nodes n ≡ true
-    → first_child_of s.nodes n ≡ Some child → SameAbove s w r slot n child → GoesDown s w r slot h child endpoint arrival → GoesDown s w r slot h n endpoint arrival
+    → least_child_of s.nodes n ≡ Some child → SameAbove s w r slot n child → GoesDown s w r slot h child endpoint arrival → GoesDown s w r slot h n endpoint arrival
 past s w r slot h n child endpoint arrival forwards first same goes = record {
   steps = goes.steps;
   walk = on_forwarding n child goes.steps (Arrives arrival) (forwards, first) goes.walk;

@@ -6,7 +6,7 @@ use Rattle.std.proofs.lemmas.Bool.{and_parts, cases_lt, leb-true, ltb-true}
 use Rattle.std.proofs.lemmas.Option.{slice_get_within, same_Some}
 use Rattle.cxl_topo.specs.declared.node.Node.{Node}
 use Rattle.cxl_topo.specs.Kinds.{is_endpoint}
-use Rattle.cxl_topo.specs.Tree.{forwards_at, is_port_at, is_endpoint_at, child_of, first_child_of}
+use Rattle.cxl_topo.specs.Tree.{forwards_at, is_port_at, is_endpoint_at, child_of, least_child_of}
 use Rattle.cxl_regs.specs.declared.decoder.Decoder.{Decoder}
 use Rattle.cxl_regs.specs.Registers.{Registers}
 use Rattle.cxl_regs.specs.Reading.{holds_address, entry_at, entry_of}
@@ -130,7 +130,7 @@ data Decided (s : System) (h n : ℕ) (move : Move) : Type 0 where
   by_one : (i : ℕ) (d : Decoder) → HoldsAt s h n i d → move ≡ by_decoder s h n i d → Decided s h n move
 
 data Does (s : System) (h n : ℕ) (move : Move) : Type 0 where
-  forwarding : forwards_at s.nodes n ≡ true → move ≡ after_forwarding n (first_child_of s.nodes n) → Does s h n move
+  forwarding : forwards_at s.nodes n ≡ true → move ≡ after_forwarding n (least_child_of s.nodes n) → Does s h n move
   refusing : IsBadBlock s n → move ≡ Ends (Misses (BadBlock n)) → Does s h n move
   deciding : Decodes s n → Decided s h n move → Does s h n move
 

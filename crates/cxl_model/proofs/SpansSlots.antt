@@ -5,7 +5,7 @@ use Rattle.std.proofs.lemmas.Bool.{and_from, or_right, eq-eqb, false≢true}
 use Rattle.std.proofs.lemmas.Option.{slice_get-get_or}
 use Rattle.std.proofs.lemmas.List.Quantifiers.{position-Some}
 use Rattle.cxl_topo.specs.declared.node.Node.{Node}
-use Rattle.cxl_topo.specs.Tree.{forwards_at, is_port_at, is_endpoint_at, child_of, first_child_of}
+use Rattle.cxl_topo.specs.Tree.{forwards_at, is_port_at, is_endpoint_at, child_of, least_child_of}
 use Rattle.cxl_regs.specs.declared.decoder.Decoder.{Decoder}
 use Rattle.cxl_regs.specs.Registers.{reset_decoder}
 use Rattle.cxl_regs.specs.declared.reading.Range.{Range}
@@ -60,7 +60,7 @@ is_place s w r slot n place (at_endpoint _ endpoint start) =
 
 -- ---- the place lies under the node
 
-under_first : {nodes : List Node} → KnownTree nodes → (n c m : ℕ) → forwards_at nodes n ≡ true → first_child_of nodes n ≡ Some c → is_under nodes c m ≡ true → is_under nodes n m ≡ true
+under_first : {nodes : List Node} → KnownTree nodes → (n c m : ℕ) → forwards_at nodes n ≡ true → least_child_of nodes n ≡ Some c → is_under nodes c m ≡ true → is_under nodes n m ≡ true
 under_first {nodes} known n c m forwards first under =
     let own = only_child known n c forwards first in
     let above : is_above nodes n m ≡ true =
@@ -83,9 +83,9 @@ leads_under s w r slot n place known (at_endpoint _ endpoint start) =
 -- ---- what leads on from a node of a kind
 
 pub from_forwarding : (s : System) (w : WindowFields) (r : Range) (slot n : ℕ) (place : Place) → KnownTree s.nodes → LeadsTo s w r slot n place → (c : ℕ) → forwards_at s.nodes n ≡ true
-    → first_child_of s.nodes n ≡ Some c → LeadsTo s w r slot c place
+    → least_child_of s.nodes n ≡ Some c → LeadsTo s w r slot c place
 from_forwarding s w r slot n place known (past_forwarding _ child _ forwards first leads) c is at =
-    subst (λ (m : ℕ). LeadsTo s w r slot m place) (one_value (first_child_of s.nodes n) child c first at) leads
+    subst (λ (m : ℕ). LeadsTo s w r slot m place) (one_value (least_child_of s.nodes n) child c first at) leads
 from_forwarding s w r slot n place known (past_port _ child _ own port way leads) c is at = absurd (false≢true (sym own ∙ is))
 from_forwarding s w r slot n place known (at_endpoint _ endpoint start) c is at = absurd (false≢true (sym (forwards_no_endpoint known place.endpoint is) ∙ endpoint))
 

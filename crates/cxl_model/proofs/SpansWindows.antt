@@ -14,7 +14,7 @@ use Rattle.cxl_topo.specs.declared.node.NodeKind.{NodeKind}
 use Rattle.cxl_topo.specs.declared.node.NodeKind.TheVariants.{Bridge, Switch, Endpoint}
 use Rattle.cxl_topo.specs.declared.node.Parent.{Parent}
 use Rattle.cxl_topo.specs.Kinds.{is_bridge, uid_of}
-use Rattle.cxl_topo.specs.Tree.{forwards_at, is_bridge_at, is_endpoint_at, uid_at, parent_of, first_child_of, landing_of, bridge_with}
+use Rattle.cxl_topo.specs.Tree.{forwards_at, is_bridge_at, is_endpoint_at, uid_at, parent_of, least_child_of, landing_of, bridge_with}
 use Rattle.cxl_window.specs.declared.window.Verdict.TheVariants.{Usable}
 use Rattle.cxl_window.specs.Fields.{WindowFields, IsWindow, IsUsable, AreDistinct}
 use Rattle.cxl_window.specs.Position.{is_usable}
@@ -103,12 +103,12 @@ parent_lands rise s r system known whole i p some is lands =
   where
     through : forwards_at s.nodes p.node ≡ true → lands_on s r p.node ≡ true
     through forwards =
-        let child : first_child_of s.nodes p.node ≡ Some i = (known.laws.only_children p.node i forwards).1 (ap (option_map (λ (parent : Parent). parent.node)) some) in
+        let child : least_child_of s.nodes p.node ≡ Some i = (known.laws.only_children p.node i forwards).1 (ap (option_map (λ (parent : Parent). parent.node)) some) in
         let higher = (parent_is_port known i p some).0 in
         let below = parent_within s.nodes i p some in
         ap (λ (o : Option ℕ). option_map_or (serves s r) o false)
         (known.laws.landings p.node (omega arith)
-        ∙ ap (λ b. if b then option_and_then (landing_of s.nodes) (first_child_of s.nodes p.node) else Some p.node) forwards
+        ∙ ap (λ b. if b then option_and_then (landing_of s.nodes) (least_child_of s.nodes p.node) else Some p.node) forwards
         ∙ ap (option_and_then (landing_of s.nodes)) child)
         ∙ lands
 

@@ -14,7 +14,7 @@ use Rattle.cxl_enc.specs.Codes.{bits_of}
 use Rattle.cxl_topo.specs.declared.node.Node.{Node}
 use Rattle.cxl_topo.specs.declared.node.Parent.{Parent}
 use Rattle.cxl_topo.specs.Kinds.{capacity_of}
-use Rattle.cxl_topo.specs.Tree.{forwards_at, is_port_at, is_endpoint_at, child_of, first_child_of, bridge_with, landing_of, ports_above, decoding_port_of}
+use Rattle.cxl_topo.specs.Tree.{forwards_at, is_port_at, is_endpoint_at, child_of, least_child_of, bridge_with, landing_of, ports_above, decoding_port_of}
 use Rattle.cxl_regs.specs.declared.decoder.Decoder.{Decoder}
 use Rattle.cxl_regs.specs.Registers.{reset_decoder}
 use Rattle.cxl_regs.specs.declared.reading.Range.{Range}
@@ -379,7 +379,7 @@ LeadsBy w slot n child nodes decode =
 
 leads_stays : (s t : System) (w : WindowFields) (r : Range) (slot n : ℕ) (place : Place) → HaveSameDecoders s t r → LeadsTo s w r slot n place → LeadsTo t w r slot n place
 leads_stays s t w r slot n place same (past_forwarding _ child _ forwards first leads) =
-    past_forwarding n child place (ap (λ (nodes : List Node). forwards_at nodes n) same.nodes ∙ forwards) (ap (λ (nodes : List Node). first_child_of nodes n) same.nodes ∙ first)
+    past_forwarding n child place (ap (λ (nodes : List Node). forwards_at nodes n) same.nodes ∙ forwards) (ap (λ (nodes : List Node). least_child_of nodes n) same.nodes ∙ first)
     (leads_stays s t w r slot child place same leads)
 leads_stays s t w r slot n place same (past_port _ child _ own port way leads) =
     let both = common s t r same in

@@ -2,7 +2,7 @@
 -- to a byte of a device, or to the first place that leads no further (CXL HDM decoders; that a node with a
 -- single port may forward, and which place is named, is this project's rule).
 use Rattle.std.specs.Prelude.{◌≡◌, ℕ, ◌⊎◌, true, false, List, [], ◌∷◌, slice_get, Option, Some, None, IsSomeAnd}
-use Rattle.cxl_topo.specs.Tree.{forwards_at, is_port_at, is_endpoint_at, child_of, first_child_of, bridge_with}
+use Rattle.cxl_topo.specs.Tree.{forwards_at, is_port_at, is_endpoint_at, child_of, least_child_of, bridge_with}
 use Rattle.cxl_regs.specs.declared.decoder.Decoder.{Decoder}
 use Rattle.cxl_regs.specs.Reading.{holds_address, entry_at, entry_of}
 use Rattle.cxl_span.specs.Spans.{span_start_of, endpoint_place_of}
@@ -75,7 +75,7 @@ pub record LacksDecoder (s : System) (h n : ℕ) : Type 0 where
 -- a node that forwards has no child
 pub record ForwardsNowhere (s : System) (n : ℕ) : Type 0 where
   pub forwards : forwards_at s.nodes n ≡ true
-  pub childless : first_child_of s.nodes n ≡ None
+  pub childless : least_child_of s.nodes n ≡ None
 
 -- a port lists a port at which no child stands
 pub record ListsNoChild (s : System) (h n : ℕ) : Type 0 where
@@ -93,7 +93,7 @@ StopsAt s h n (NoDecoder m) = (m ≡ n) × LacksDecoder s h n
 StopsAt s h n (NoChild m) = (m ≡ n) × LacksChild s h n
 
 abbrev pub Moves : System → ℕ → ℕ → Move → Type 0
-Moves s h n (Forwards child) = (forwards_at s.nodes n ≡ true) × (first_child_of s.nodes n ≡ Some child)
+Moves s h n (Forwards child) = (forwards_at s.nodes n ≡ true) × (least_child_of s.nodes n ≡ Some child)
 Moves s h n (Steps step child) = IsStep s h n step child
 Moves s h n (Ends (Arrives arrival)) = IsArrival s h n arrival
 Moves s h n (Ends (Misses miss)) = StopsAt s h n miss

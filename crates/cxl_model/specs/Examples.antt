@@ -2,7 +2,7 @@
 use Rattle.std.specs.Prelude.{ℕ, ◌+◌, ◌/◌, ◌%◌, true, false, List, [], ◌∷◌, replicate, Some, None}
 use Rattle.cxl_topo.specs.declared.node.Node.{Node}
 use Rattle.cxl_topo.specs.declared.node.NodeKind.TheVariants.{Bridge, Endpoint}
-use Rattle.cxl_topo.specs.Faults.{placeholder_cap}
+use Rattle.cxl_enc.specs.Limits.{placeholder_cap}
 use Rattle.cxl_regs.specs.declared.decoder.Decoder.{Decoder}
 use Rattle.cxl_regs.specs.Registers.{Registers, reset_decoder, reset_block}
 use Rattle.cxl_regs.specs.Words.{has_bit}

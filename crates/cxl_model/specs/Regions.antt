@@ -2,7 +2,7 @@
 -- arithmetic; how a slot's span is found on the tree is this project's rule).
 use Rattle.std.specs.Prelude.{◌≡◌, ℕ, ◌+◌, ◌-◌, ◌*◌, ◌/◌, ◌%◌, ◌^◌, ◌<◌, ◌≤◌, ◌==◌, true, false, if◌then◌else◌, length, slice_get, Some, IsSomeAnd}
 use Rattle.cxl_enc.specs.Codes.{third_of, bits_of}
-use Rattle.cxl_topo.specs.Tree.{forwards_at, is_port_at, is_endpoint_at, child_of, first_child_of, bridge_with}
+use Rattle.cxl_topo.specs.Tree.{forwards_at, is_port_at, is_endpoint_at, child_of, least_child_of, bridge_with}
 use Rattle.cxl_regs.specs.declared.reading.Range.{Range}
 use Rattle.cxl_regs.specs.Reading.{decoder_ways, entry_at}
 use Rattle.cxl_span.specs.Spans.{span_start_of}
@@ -31,7 +31,7 @@ LeadsSlot s w r slot n child =
 
 -- from node n on, a slot leads to this place of a device
 pub data LeadsTo (s : System) (w : WindowFields) (r : Range) (slot : ℕ) : ℕ → Place → Type 0 where
-  past_forwarding : (n child : ℕ) (place : Place) → forwards_at s.nodes n ≡ true → first_child_of s.nodes n ≡ Some child → LeadsTo s w r slot child place → LeadsTo s w r slot n place
+  past_forwarding : (n child : ℕ) (place : Place) → forwards_at s.nodes n ≡ true → least_child_of s.nodes n ≡ Some child → LeadsTo s w r slot child place → LeadsTo s w r slot n place
   past_port : (n child : ℕ) (place : Place) → forwards_at s.nodes n ≡ false → is_port_at s.nodes n ≡ true → LeadsSlot s w r slot n child → LeadsTo s w r slot child place → LeadsTo s w r slot n place
   at_endpoint : (place : Place) → is_endpoint_at s.nodes place.endpoint ≡ true → IsSomeAnd (index_for s r place.endpoint) (λ i. place.start ≡ span_start_of (decoders_at s place.endpoint) i) → LeadsTo s w r slot place.endpoint place
 

@@ -1,11 +1,11 @@
 -- A register image over a tree of nodes, with the host's windows: what all definitions here speak of.
 use Rattle.std.specs.Prelude.{ℕ, List, [], slice_get, All, Option, option_and_then, IfSome}
 use Rattle.std.specs.Option.{option_map_or}
-use Rattle.std.specs.List.{filter_map}
 use Rattle.cxl_topo.specs.declared.node.Node.{Node}
 use Rattle.cxl_topo.specs.declared.node.Capacity.{Capacity}
 use Rattle.cxl_topo.specs.Tree.{Tree}
-use Rattle.cxl_topo.specs.Kinds.{uid_of, capacity_of}
+pub use Rattle.cxl_topo.specs.Tree.{bridge_uids}
+use Rattle.cxl_topo.specs.Kinds.{capacity_of}
 use Rattle.cxl_topo.specs.Faults.{IsTree}
 use Rattle.cxl_regs.specs.declared.decoder.Decoder.{Decoder}
 use Rattle.cxl_regs.specs.Registers.{Registers, IsBlock}
@@ -23,10 +23,6 @@ pub record System : Type 0 where
 -- an image over a topology, with the host's windows
 abbrev pub system_of : List Registers → Tree → List WindowFields → System
 system_of blocks tree windows = record { nodes = tree.nodes; blocks = blocks; windows = windows }
-
--- the UIDs of a tree's bridges
-abbrev pub bridge_uids : List Node → List ℕ
-bridge_uids nodes = filter_map (λ node. uid_of node.kind) nodes
 
 -- a legal tree, an image with its capability words, and windows made with its bridges
 pub record IsSystem (s : System) : Type 0 where

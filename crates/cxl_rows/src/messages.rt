@@ -87,19 +87,19 @@ fn of_topologies(rt: HostRuntime) -> Result<(), Fail> {
         (TopoFault::Toml, "no TOML document"),
         (
             TopoFault::Key(SPEED),
-            "a key is missing or unknown: Place { section: Endpoint, index: 1, key: Unknown }",
+            "a key is missing or unknown: endpoint 1 unknown",
         ),
         (
             TopoFault::Kind(SPEED),
-            "a value is of the wrong kind: Place { section: Endpoint, index: 1, key: Unknown }",
+            "a value is of the wrong kind: endpoint 1 unknown",
         ),
         (
             TopoFault::Range(SPEED),
-            "a value is out of range: Place { section: Endpoint, index: 1, key: Unknown }",
+            "a value is out of range: endpoint 1 unknown",
         ),
         (
             TopoFault::Tree(TreeFault::NoParent(3)),
-            "the nodes are no legal tree: NoParent(3)",
+            "the nodes are no legal tree: node 3 does not stand under an earlier bridge or switch, or is a bridge under another node",
         ),
         (TopoFault::Memory, "out of memory"),
     ];

@@ -54,6 +54,32 @@ found_from test (own ∷ nodes) start (suc i) node e p =
 pub found : (test : Node → Bool) (nodes : List Node) (i : ℕ) (node : Node) → slice_get nodes i ≡ Some node → test node ≡ true → is_some (position test nodes) ≡ true
 found test nodes i node e p = ap is_some (position_from-zero test nodes) ∙ found_from test nodes 0 i node e p
 
+-- and it finds the least such place
+pub record FindsAtMost (place : Option ℕ) (i : ℕ) : Type 0 where
+  pub least : ℕ
+  pub is : place ≡ Some least
+  pub within : least ≤ i
+
+least_from : (test : Node → Bool) (nodes : List Node) (start i : ℕ) (node : Node) → slice_get nodes i ≡ Some node → test node ≡ true → FindsAtMost (position_from test start nodes) (start + i)
+least_from test [] start i node e p = absurd (none-some node e)
+least_from test (own ∷ nodes) start zero node e p =
+    let same : own ≡ node = cc in
+    record { least = start; is = rw (same, p) refl; within = omega arith }
+least_from test (own ∷ nodes) start (suc i) node e p =
+    elim (cases_Bool (test own)) [
+      | inl q ↦ record { least = start; is = rw q refl; within = omega arith }
+      | inr q ↦
+          let later = least_from test nodes (start + 1) i node e p in
+          let within = later.within in
+          record { least = later.least; is = rw q later.is; within = omega arith }
+    ]
+
+pub finds_least : (test : Node → Bool) (nodes : List Node) (i : ℕ) (node : Node) → slice_get nodes i ≡ Some node → test node ≡ true → FindsAtMost (position test nodes) i
+finds_least test nodes i node e p =
+    let one = least_from test nodes 0 i node e p in
+    let within = one.within in
+    record { least = one.least; is = position_from-zero test nodes ∙ one.is; within = omega arith }
+
 -- ---- the earlier nodes
 
 pub earlier_get : (nodes : List Node) (k i : ℕ) → i < k → slice_get (take k nodes) i ≡ slice_get nodes i

@@ -1,7 +1,7 @@
 -- A table that is entered with one more node lists it too.
 use Rattle.std.proofs.Common.{◌≡◌, ℕ, suc, ◌+◌, ◌<◌, Bool, false, ◌&&◌, ◌==◌, cond, List, [], ◌∷◌, ◌++◌, length, get_or, take, Option, Some, None, refl, sym, ap, zero-add, ◌∙◌, inl, inr, arith}
 use Rattle.std.specs.Prelude.{position}
-use Rattle.std.specs.List.{position_from}
+use Rattle.std.specs.List.{position_from, cons_option}
 use Rattle.std.specs.Option.{option_or}
 use Rattle.std.specs.declared.cmp.Ordering.{Ordering}
 use Rattle.std.specs.declared.cmp.Ordering.TheVariants.{Less, Equal, Greater}
@@ -11,13 +11,16 @@ use Rattle.std.specs.Cmp.Lexicographic.{texts_ties}
 use Rattle.std.specs.BTreeMap.{BTreeMap, get, is_at}
 use Rattle.std.proofs.lemmas.Bool.{cases_Bool}
 use Rattle.std.proofs.lemmas.List.{take_more, length-take}
+use Rattle.std.proofs.lemmas.List.Elements.{filter_map-append}
 use Rattle.std.proofs.lemmas.Iterator.Adapters.{position_from-zero}
 use Rattle.cxl_topo.specs.declared.node.Node.{Node}
 use Rattle.cxl_topo.specs.declared.node.NodeKind.TheVariants.{Bridge}
 use Rattle.cxl_topo.specs.declared.node.Parent.{Parent}
 use Rattle.cxl_topo.specs.declared.tables.NameKey.{NameKey}
-use Rattle.cxl_topo.specs.Tree.{stands_at, stands_under, is_bridge_with, is_named}
-use Rattle.cxl_topo.specs.Tables.{Enters, port_cmp, name_cmp}
+use Rattle.cxl_topo.specs.Kinds.{uid_of}
+use Rattle.cxl_topo.specs.Tree.{stands_at, stands_under, is_bridge_with, is_named, bridge_uids}
+use Rattle.cxl_topo.specs.Keys.{Enters, name_cmp}
+use Rattle.cxl_topo.specs.inner.Tables.{port_cmp}
 
 module _ {X : Type 0} (test : X → Bool) where
   position_from_push : (xs : List X) (x : X) (i : ℕ) → position_from test i (xs ++ x ∷ []) ≡ option_or (position_from test i xs) (cond (test x) (Some (i + length xs)) None)
@@ -73,3 +76,9 @@ is_bridge_with-own node own is uid = rw is (unsigned_ties own uid)
 
 pub is_named-own : (node : Node) (key : NameKey) → is_named key.0 node ≡ is_at (name_cmp (record { 0 = node.name })) key
 is_named-own node key = texts_ties node.name key.0
+
+-- ---- the UIDs of the bridges
+
+-- one more node has its UID at the end, where it is a bridge
+pub bridge_uids-more : (nodes : List Node) (i : ℕ) (node : Node) → i < length nodes → node ≡ get_or nodes i node → bridge_uids (take (i + 1) nodes) ≡ bridge_uids (take i nodes) ++ cons_option (uid_of node.kind) []
+bridge_uids-more nodes i node lt is = ap bridge_uids (take_more nodes i node lt) ∙ filter_map-append (λ (node : Node). uid_of node.kind) (take i nodes) (get_or nodes i node ∷ []) ∙ rw (← is)

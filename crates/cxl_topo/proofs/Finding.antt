@@ -1,6 +1,6 @@
 -- What is found in a legal tree is what stands there.
-use Rattle.std.proofs.Common.{◌≡◌, ℕ, ◌↔◌, Bool, true, List, [], ◌∷◌, Option, Some, None, option_map, is_some, IsTrue, refl, sym, ap, ◌∙◌, arith}
-use Rattle.std.specs.Prelude.{slice_get, position}
+use Rattle.std.proofs.Common.{◌≡◌, ℕ, ◌↔◌, Bool, true, List, [], ◌∷◌, Option, Some, None, option_map, is_some, IsTrue, refl, sym, ap, ◌∙◌, ◌≤◌, subst, arith}
+use Rattle.std.specs.Prelude.{slice_get, position, IfSome, IsSomeAnd}
 use Rattle.std.specs.Option.{option_map_or, option_and_then}
 use Rattle.std.proofs.lemmas.Bool.{false≢true}
 use Rattle.std.proofs.lemmas.Option.{none-some, same_Some}
@@ -8,10 +8,10 @@ use Rattle.std.proofs.lemmas.Slice.Eq.{bytes_eq-Decides}
 use Rattle.cxl_topo.specs.declared.node.Node.{Node}
 use Rattle.cxl_topo.specs.declared.node.Parent.{Parent}
 use Rattle.cxl_topo.specs.Kinds.{uid_of}
-use Rattle.cxl_topo.specs.Tree.{forwards_at, is_named, is_bridge_with, stands_at, stands_under, name_at, uid_at, parent_of, node_named, bridge_with, child_of, first_child_of, ports_above}
+use Rattle.cxl_topo.specs.Tree.{forwards_at, is_named, is_bridge_with, stands_at, stands_under, name_at, uid_at, parent_of, node_named, bridge_with, child_of, least_child_of, ports_above}
 use Rattle.cxl_topo.specs.Faults.{IsTree}
-use Rattle.cxl_topo.specs.Laws.{AreTreeLaws}
-use Rattle.cxl_topo.proofs.Earlier.{PassesAt, finds, found}
+use Rattle.cxl_topo.specs.Laws.{AreTreeLaws, StandsBelow}
+use Rattle.cxl_topo.proofs.Earlier.{PassesAt, FindsAtMost, finds, finds_least, found}
 use Rattle.cxl_topo.proofs.There.{stands_there, named_there, bridge_there, at_port, at_is, at_node, under_is, uid_is, with_uid}
 use Rattle.cxl_topo.proofs.WaysUp.{ports_above-more, ports_above-few, ports_from}
 use Rattle.cxl_topo.proofs.WaysDown.{landing_of-more}
@@ -40,16 +40,29 @@ module _ (nodes : List Node) (tree : IsTree nodes) where
   under_parent : (n c : ℕ) → PassesAt (stands_under n) nodes c → (parent : Parent) × (parent_of nodes c ≡ Some parent) × (parent.node ≡ n)
   under_parent n c at = let own = under_is at.node n at.passes in (own.0, ap (option_and_then (λ (node : Node). node.parent)) at.there ∙ own.1, own.2)
 
-  only_child_is : (n c : ℕ) → IsTrue (forwards_at nodes n) → (first_child_of nodes n ≡ Some c) ↔ (option_map (λ parent. parent.node) (parent_of nodes c) ≡ Some n)
+  -- the least child is one, and no other has a lesser number
+  pub is_below : (n c : ℕ) → least_child_of nodes n ≡ Some c → StandsBelow nodes n c
+  is_below n c e = let own = under_parent n c (finds (stands_under n) nodes c e) in ap (option_map (λ (parent : Parent). parent.node)) own.1 ∙ ap Some own.2
+
+  pub is_least : (n c : ℕ) → StandsBelow nodes n c → FindsAtMost (least_child_of nodes n) c
+  is_least n c is = go (parent_of nodes c) refl is
+    where
+      go : (o : Option Parent) → parent_of nodes c ≡ o → option_map (λ (parent : Parent). parent.node) o ≡ Some n → FindsAtMost (least_child_of nodes n) c
+      go None e h = absurd (none-some n h)
+      go (Some parent) e h =
+          let one = stands_there nodes c parent e in
+          finds_least (stands_under n) nodes c one.node one.there (at_node one.node parent n one.parent_is (same_Some parent.node n h))
+
+  only_child_is : (n c : ℕ) → IsTrue (forwards_at nodes n) → (least_child_of nodes n ≡ Some c) ↔ (option_map (λ parent. parent.node) (parent_of nodes c) ≡ Some n)
   only_child_is n c forward = (out, back)
     where
-      out : first_child_of nodes n ≡ Some c → option_map (λ (parent : Parent). parent.node) (parent_of nodes c) ≡ Some n
+      out : least_child_of nodes n ≡ Some c → option_map (λ (parent : Parent). parent.node) (parent_of nodes c) ≡ Some n
       out e = let own = under_parent n c (finds (stands_under n) nodes c e) in ap (option_map (λ (parent : Parent). parent.node)) own.1 ∙ ap Some own.2
 
-      back : option_map (λ (parent : Parent). parent.node) (parent_of nodes c) ≡ Some n → first_child_of nodes n ≡ Some c
+      back : option_map (λ (parent : Parent). parent.node) (parent_of nodes c) ≡ Some n → least_child_of nodes n ≡ Some c
       back is = go (parent_of nodes c) refl is
         where
-          go : (o : Option Parent) → parent_of nodes c ≡ o → option_map (λ (parent : Parent). parent.node) o ≡ Some n → first_child_of nodes n ≡ Some c
+          go : (o : Option Parent) → parent_of nodes c ≡ o → option_map (λ (parent : Parent). parent.node) o ≡ Some n → least_child_of nodes n ≡ Some c
           go None e h = absurd (none-some n h)
           go (Some parent) e h =
               let one = stands_there nodes c parent e in
@@ -102,3 +115,10 @@ module _ (nodes : List Node) (tree : IsTree nodes) where
 -- what holds of what is found holds of what was answered
 pub answered : (answer given : Option ℕ) (P : ℕ → Type 0) → answer ≡ given → ((i : ℕ) → (given ≡ Some i) ↔ P i) → (i : ℕ) → (answer ≡ Some i) ↔ P i
 answered answer given P e both i = (λ h. (both i).0 (sym e ∙ h), λ h. e ∙ (both i).1 h)
+
+pub if_found : (answer given : Option ℕ) (P : ℕ → Type 0) → answer ≡ given → ((i : ℕ) → given ≡ Some i → P i) → IfSome answer P
+if_found None given P e h = tt
+if_found (Some i) given P e h = h i (sym e)
+
+pub at_most : (answer given : Option ℕ) (i : ℕ) → answer ≡ given → FindsAtMost given i → IsSomeAnd answer (λ least. least ≤ i)
+at_most answer given i e finds = subst (λ (o : Option ℕ). IsSomeAnd o (λ least. least ≤ i)) (sym (e ∙ finds.is)) finds.within

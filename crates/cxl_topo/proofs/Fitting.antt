@@ -6,14 +6,15 @@ use Rattle.std.proofs.lemmas.Bool.{cases_Bool, both_ways, or_from, and_parts, an
 use Rattle.std.proofs.lemmas.Option.{none-some, slice_get_within}
 use Rattle.std.proofs.lemmas.Slice.Eq.{bytes_eq-Decides}
 use Rattle.cxl_enc.specs.Caps.{is_legal_cap}
+use Rattle.cxl_enc.specs.Limits.{placeholder_cap}
 use Rattle.cxl_topo.specs.declared.node.Node.{Node}
 use Rattle.cxl_topo.specs.declared.node.Parent.{Parent}
 use Rattle.cxl_topo.specs.declared.node.Capacity.{Capacity}
 use Rattle.cxl_topo.specs.declared.fault.TreeFault.{TreeFault}
 use Rattle.cxl_topo.specs.declared.fault.TreeFault.TheVariants as faults
 use Rattle.cxl_topo.specs.Kinds.{is_bridge, is_switch, is_endpoint, uid_of, capacity_of}
-use Rattle.cxl_topo.specs.Tree.{holds_at, forwards_at, is_port_at, is_named, is_bridge_with, stands_at, stands_under, first_child_of}
-use Rattle.cxl_topo.specs.Faults.{lacks_parent, has_taken_port, forks, has_taken_name, has_taken_uid, switches_above, is_too_deep, has_wrong_caps, placeholder_cap, has_wrong_capacity, is_capacity, fits, IsFirstTreeFault, IsTree}
+use Rattle.cxl_topo.specs.Tree.{holds_at, forwards_at, is_port_at, is_named, is_bridge_with, stands_at, stands_under, least_child_of}
+use Rattle.cxl_topo.specs.Faults.{lacks_parent, has_taken_port, forks, has_taken_name, has_taken_uid, switches_above, is_too_deep, has_wrong_caps, has_wrong_capacity, is_capacity, fits, IsFirstTreeFault, IsTree}
 use Rattle.cxl_topo.proofs.Earlier.{finds_earlier, earlier_holds}
 use Rattle.cxl_topo.proofs.There.{held, parent_there, at_is, under_is, uid_is}
 
@@ -52,10 +53,10 @@ module _ (nodes : List Node) (tree : IsTree nodes) (i : ℕ) (node : Node) (ther
   no_fork : forks (take i nodes) node ≡ false
   no_fork = go node.parent refl
     where
-      go : (o : Option Parent) → node.parent ≡ o → option_map_or (λ (parent : Parent). forwards_at (take i nodes) parent.node && is_some (first_child_of (take i nodes) parent.node)) o false ≡ false
+      go : (o : Option Parent) → node.parent ≡ o → option_map_or (λ (parent : Parent). forwards_at (take i nodes) parent.node && is_some (least_child_of (take i nodes) parent.node)) o false ≡ false
       go None e = refl
       go (Some parent) e = false_from_ne_true _ (λ both.
-          let parts = and_parts (forwards_at (take i nodes) parent.node) (is_some (first_child_of (take i nodes) parent.node)) both in
+          let parts = and_parts (forwards_at (take i nodes) parent.node) (is_some (least_child_of (take i nodes) parent.node)) both in
           let before = finds_earlier (stands_under parent.node) nodes i parts.1 in
           let earlier = before.earlier in
           let own = under_is before.at.node parent.node before.at.passes in

@@ -6,13 +6,13 @@ use Rattle.std.proofs.lemmas.Option.{none-some}
 use Rattle.cxl_topo.specs.declared.node.Node.{Node}
 use Rattle.cxl_topo.specs.declared.node.Parent.{Parent}
 use Rattle.cxl_topo.specs.declared.fault.TreeFault.TheVariants as faults
-use Rattle.cxl_topo.specs.Tree.{holds_at, is_bridge_at, parent_of, path_of, LeadsTo, IsPathTo}
+use Rattle.cxl_topo.specs.Tree.{holds_at, is_bridge_at, parent_of, path_of, GoesDownTo, IsPathTo}
 use Rattle.cxl_topo.specs.Faults.{lacks_parent, IsTree, IsUnder, NoneBefore}
 use Rattle.cxl_topo.proofs.WaysUp.{parent_under, path_from, path_of-more, ports_above-few, length-path_of}
 use Rattle.cxl_topo.proofs.Fitting.{tree_fits}
 
 -- one more node at the end
-leads_more : (nodes : List Node) (i : ℕ) (parent : Parent) (path : List ℕ) → parent_of nodes i ≡ Some parent → LeadsTo nodes parent.node path → LeadsTo nodes i (path ++ i ∷ [])
+leads_more : (nodes : List Node) (i : ℕ) (parent : Parent) (path : List ℕ) → parent_of nodes i ≡ Some parent → GoesDownTo nodes parent.node path → GoesDownTo nodes i (path ++ i ∷ [])
 leads_more nodes i parent [] is leads = absurd leads
 leads_more nodes i parent (n ∷ []) is leads = (ap (option_map (λ (parent : Parent). parent.node)) is ∙ ap Some (sym leads), refl)
 leads_more nodes i parent (n ∷ m ∷ ns) is leads = (leads.0, leads_more nodes i parent (m ∷ ns) is leads.1)

@@ -6,6 +6,7 @@ use Rattle.std.proofs.lemmas.Bool.{cases_lt, cases_order, false≢true, not-fals
 use Rattle.std.proofs.lemmas.Option.{slice_get_past}
 use Rattle.std.proofs.lemmas.Slice.Eq.{bytes_eq-Decides}
 use Rattle.cxl_enc.specs.Caps.{is_legal_cap}
+use Rattle.cxl_enc.specs.Limits.{placeholder_cap}
 use Rattle.cxl_topo.specs.declared.node.Node.{Node}
 use Rattle.cxl_topo.specs.declared.node.Parent.{Parent}
 use Rattle.cxl_topo.specs.declared.node.Capacity.{Capacity}
@@ -13,7 +14,7 @@ use Rattle.cxl_topo.specs.declared.fault.TreeFault.{TreeFault}
 use Rattle.cxl_topo.specs.declared.fault.TreeFault.TheVariants as faults
 use Rattle.cxl_topo.specs.Kinds.{is_bridge, is_endpoint, capacity_of}
 use Rattle.cxl_topo.specs.Tree.{holds_at, forwards_at, is_named, is_bridge_with, stands_at, stands_under, name_at, uid_at, parent_of}
-use Rattle.cxl_topo.specs.Faults.{lacks_parent, has_taken_port, forks, has_taken_name, has_taken_uid, is_too_deep, has_wrong_caps, placeholder_cap, has_wrong_capacity, is_capacity, fits, turn_of, NoneBefore, IsTree}
+use Rattle.cxl_topo.specs.Faults.{lacks_parent, has_taken_port, forks, has_taken_name, has_taken_uid, is_too_deep, has_wrong_caps, has_wrong_capacity, is_capacity, fits, turn_of, NoneBefore, IsTree}
 use Rattle.cxl_topo.proofs.WaysUp.{parent_under, bridge_has_none, other_has_one}
 use Rattle.cxl_topo.proofs.Sound.{shallow}
 use Rattle.cxl_topo.proofs.Earlier.{found_earlier, earlier_holds}

@@ -10,3 +10,4 @@ pub mod Fitting
 pub mod Leading
 pub mod WaysDown
 pub mod Finding
+pub mod Decoding

@@ -43,7 +43,7 @@ pub record IsWay (nodes : List Node) (i : ℕ) (at : Option Parent) (len : ℕ) 
   pub path : path_from nodes at ++ take len room ≡ path_of nodes i
   pub zeros : drop len room ≡ replicate (6 - len) 0
 
-parent_at : (nodes : List Node) (i : ℕ) (d : Node) → i < length nodes → parent_of nodes i ≡ (get_or nodes i d).parent
+pub parent_at : (nodes : List Node) (i : ℕ) (d : Node) → i < length nodes → parent_of nodes i ≡ (get_or nodes i d).parent
 parent_at nodes i d lt = ap (option_and_then (λ (node : Node). node.parent)) (slice_get-get_or nodes i d lt)
 
 module _ (nodes : List Node) (i : ℕ) (none : NoneBefore nodes (8 * i + 9)) where

@@ -1,14 +1,15 @@
 -- Which nodes are a legal tree, and what is the first fault of others.
-use Rattle.std.specs.Prelude.{◌≡◌, ℕ, ◌+◌, ◌*◌, ◌%◌, ◌^◌, ◌<◌, ◌≤◌, ◌==◌, nat_lt, nat_le, Bool, false, not, ◌&&◌, ◌||◌, List, length, take, count_by, Some, None, is_some, IsTrue, slice_get, if◌then◌else◌}
+use Rattle.std.specs.Prelude.{◌≡◌, ℕ, ◌+◌, ◌*◌, ◌%◌, ◌<◌, ◌≤◌, ◌==◌, nat_lt, nat_le, Bool, false, not, ◌&&◌, ◌||◌, List, length, take, count_by, Some, None, is_some, IsTrue, slice_get, if◌then◌else◌}
 use Rattle.std.specs.Option.{option_map_or}
 use Rattle.cxl_enc.specs.Caps.{is_legal_cap}
+use Rattle.cxl_enc.specs.Limits.{unit, address_limit, node_limit, bridge_limit, placeholder_cap}
 use Rattle.cxl_topo.specs.declared.node.Node.{Node}
 use Rattle.cxl_topo.specs.declared.node.Parent.{Parent}
 use Rattle.cxl_topo.specs.declared.node.Capacity.{Capacity}
 use Rattle.cxl_topo.specs.declared.fault.TreeFault.{TreeFault}
 use Rattle.cxl_topo.specs.declared.fault.TreeFault.TheVariants as faults
 use Rattle.cxl_topo.specs.Kinds.{is_bridge, is_switch, is_endpoint, uid_of, capacity_of}
-use Rattle.cxl_topo.specs.Tree.{holds_at, forwards_at, is_bridge_at, is_switch_at, is_port_at, name_at, uid_at, node_named, bridge_with, child_of, first_child_of, parent_of, ports_above}
+use Rattle.cxl_topo.specs.Tree.{holds_at, forwards_at, is_bridge_at, is_switch_at, is_port_at, name_at, uid_at, node_named, bridge_with, child_of, least_child_of, parent_of, ports_above}
 
 -- ---- what each fault says of a node, given the earlier nodes
 
@@ -25,7 +26,7 @@ has_taken_port earlier node = option_map_or (λ parent. is_some (child_of earlie
 -- the parent forwards, and has an earlier child
 abbrev pub forks : List Node → Node → Bool
 forks earlier node =
-    option_map_or (λ parent. forwards_at earlier parent.node && is_some (first_child_of earlier parent.node)) node.parent false
+    option_map_or (λ parent. forwards_at earlier parent.node && is_some (least_child_of earlier parent.node)) node.parent false
 
 -- an earlier node has the name
 abbrev pub has_taken_name : List Node → Node → Bool
@@ -43,10 +44,6 @@ switches_above nodes i = count_by (λ parent. is_switch_at nodes parent.node) (p
 abbrev pub is_too_deep : List Node → ℕ → Node → Bool
 is_too_deep nodes i node = is_switch node.kind && nat_le 4 (switches_above nodes i)
 
--- the capability word of a placeholder: one decoder and one target
-abbrev pub placeholder_cap : ℕ
-placeholder_cap = 0x10
-
 -- an illegal capability word, or a node that forwards and has another word than a placeholder's or is an endpoint
 abbrev pub has_wrong_caps : Node → Bool
 has_wrong_caps node =
@@ -55,7 +52,7 @@ has_wrong_caps node =
 
 -- multiples of 256 MiB, and no more than 2 ^ 52 in all
 abbrev pub is_capacity : Capacity → Bool
-is_capacity c = (c.ram % 2 ^ 28 == 0) && (c.pmem % 2 ^ 28 == 0) && nat_le (c.ram + c.pmem) (2 ^ 52)
+is_capacity c = (c.ram % unit == 0) && (c.pmem % unit == 0) && nat_le (c.ram + c.pmem) address_limit
 
 -- an endpoint with another capacity
 abbrev pub has_wrong_capacity : Node → Bool
@@ -64,7 +61,7 @@ has_wrong_capacity node = option_map_or (λ c. not (is_capacity c)) (capacity_of
 -- ---- the first fault
 
 abbrev pub are_too_many : List Node → Bool
-are_too_many nodes = nat_lt 1024 (length nodes) || nat_lt 64 (count_by (λ node. is_bridge node.kind) nodes)
+are_too_many nodes = nat_lt node_limit (length nodes) || nat_lt bridge_limit (count_by (λ node. is_bridge node.kind) nodes)
 
 -- whether what a fault says holds of the nodes
 abbrev pub fits : List Node → TreeFault → Bool
@@ -110,8 +107,8 @@ pub record IsUnder (nodes : List Node) (i : ℕ) (parent : Parent) : Type 0 wher
 
 -- a legal tree
 pub record IsTree (nodes : List Node) : Type 0 where
-  pub few_nodes : length nodes ≤ 1024
-  pub few_bridges : count_by (λ node. is_bridge node.kind) nodes ≤ 64
+  pub few_nodes : length nodes ≤ node_limit
+  pub few_bridges : count_by (λ node. is_bridge node.kind) nodes ≤ bridge_limit
   -- a bridge has no parent, and any other node stands under an earlier bridge or switch
   pub bridges : (i : ℕ) → IsTrue (is_bridge_at nodes i) → parent_of nodes i ≡ None
   pub others : (i : ℕ) → i < length nodes → is_bridge_at nodes i ≡ false → (parent : Parent) × (parent_of nodes i ≡ Some parent) × IsUnder nodes i parent

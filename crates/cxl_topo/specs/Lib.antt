@@ -1,8 +1,7 @@
 pub mod Kinds
 pub mod Tree
 pub mod Faults
-pub mod Tables
-pub mod AreTables
-pub mod Judging
-pub mod Kept
+pub mod Frames
+pub mod Keys
 pub mod Laws
+pub mod inner

@@ -1,5 +1,6 @@
 -- A tree as the list of its nodes: who stands where, ways up and ways down.
 use Rattle.std.specs.Prelude.{◌≡◌, ℕ, zero, suc, IsTrue, ◌==◌, Bool, false, not, ◌&&◌, List, [], ◌∷◌, length, map, reverse, position, find, Option, Some, None, option_map, slice_get, if◌then◌else◌}
+use Rattle.std.specs.List.{filter_map}
 use Rattle.std.specs.Option.{option_and_then, option_map_or}
 use Rattle.std.specs.Str.{bytes_eq}
 use Rattle.cxl_topo.specs.declared.node.Node.{Node}
@@ -58,6 +59,10 @@ is_bridge_with uid node = option_map_or (λ own. own == uid) (uid_of node.kind) 
 abbrev pub bridge_with : List Node → ℕ → Option ℕ
 bridge_with nodes uid = position (is_bridge_with uid) nodes
 
+-- the UIDs of the bridges, in node order
+abbrev pub bridge_uids : List Node → List ℕ
+bridge_uids nodes = filter_map (λ node. uid_of node.kind) nodes
+
 -- whether a node's parent is node n, at port p
 abbrev pub stands_at : ℕ → ℕ → Node → Bool
 stands_at n p node = option_map_or (λ parent. (parent.node == n) && (parent.port == p)) node.parent false
@@ -70,9 +75,9 @@ child_of nodes n p = position (stands_at n p) nodes
 abbrev pub stands_under : ℕ → Node → Bool
 stands_under n node = option_map_or (λ parent. parent.node == n) node.parent false
 
--- the only child of node n, or the first where it has several
-abbrev pub first_child_of : List Node → ℕ → Option ℕ
-first_child_of nodes n = position (stands_under n) nodes
+-- the child of node n that has the least number
+abbrev pub least_child_of : List Node → ℕ → Option ℕ
+least_child_of nodes n = position (stands_under n) nodes
 
 -- ---- ways up
 
@@ -91,15 +96,15 @@ abbrev pub path_of : List Node → ℕ → List ℕ
 path_of nodes i = reverse (i ∷ map (λ parent. parent.node) (ports_above nodes i))
 
 -- each node of the list is the parent of the next, and the last is i
-abbrev pub LeadsTo : List Node → ℕ → List ℕ → Type 0
-LeadsTo nodes i [] = ⊥
-LeadsTo nodes i (n ∷ []) = n ≡ i
-LeadsTo nodes i (n ∷ m ∷ ns) = (option_map (λ parent. parent.node) (parent_of nodes m) ≡ Some n) × LeadsTo nodes i (m ∷ ns)
+abbrev pub GoesDownTo : List Node → ℕ → List ℕ → Type 0
+GoesDownTo nodes i [] = ⊥
+GoesDownTo nodes i (n ∷ []) = n ≡ i
+GoesDownTo nodes i (n ∷ m ∷ ns) = (option_map (λ parent. parent.node) (parent_of nodes m) ≡ Some n) × GoesDownTo nodes i (m ∷ ns)
 
 -- the list from its bridge down to node i
 pub record IsPathTo (nodes : List Node) (i : ℕ) (path : List ℕ) : Type 0 where
   pub bridge : (n : ℕ) × (slice_get path 0 ≡ Some n) × IsTrue (is_bridge_at nodes n)
-  pub leads : LeadsTo nodes i path
+  pub leads : GoesDownTo nodes i path
 
 -- the first port above node i whose node does not forward
 abbrev pub decoding_port_of : List Node → ℕ → Option Parent
@@ -119,7 +124,7 @@ leading_port_of nodes i = option_map (λ parent. parent.port) (decoding_port_of 
 abbrev pub landing_within : ℕ → List Node → ℕ → Option ℕ
 landing_within zero nodes n = None
 landing_within (suc k) nodes n =
-    if forwards_at nodes n then option_and_then (landing_within k nodes) (first_child_of nodes n) else Some n
+    if forwards_at nodes n then option_and_then (landing_within k nodes) (least_child_of nodes n) else Some n
 
 -- node n itself where it does not forward, else the landing of its only child, and nothing where it has no child
 abbrev pub landing_of : List Node → ℕ → Option ℕ

@@ -1,13 +1,19 @@
-ghost use Rattle.std.specs.Prelude.{◌<◌, ◌+◌, OnOk, length, take};
-ghost use Rattle.cxl_topo.specs.Tables.{Enters, ListsChildren, ListsFirstChildren, ListsNames, ListsBridges};
+ghost use Rattle.std.specs.Prelude.{◌≡◌, ◌<◌, ◌+◌, OnOk, length, take};
+ghost use Rattle.cxl_topo.specs.Tree.{bridge_uids};
+ghost use Rattle.cxl_topo.specs.Keys.{Enters};
+ghost use Rattle.cxl_topo.specs.inner.Tables.{ListsChildren, ListsLeastChildren, ListsNames, ListsBridges};
 
 use crate::node::{Node, NodeKind, Parent};
 use crate::tables::NameKey;
 use std::alloc::AllocError;
 use std::collections::BTreeMap;
 
-/// Enters the number of a node, unless an earlier node has the key.
-fn enter<K: Ord + Copy>(table: &mut BTreeMap<K, u32>, key: K, i: u32) -> Result<(), AllocError>
+/// Enters the number of a node under a key, unless an earlier node has that key.
+pub fn enter_first<K: Ord + Copy>(
+    table: &mut BTreeMap<K, u32>,
+    key: K,
+    i: u32,
+) -> Result<(), AllocError>
     ensures { OnOk result (Enters K.cmp table.old table.new key i) }
 {
     if table.get(&key).is_none() {
@@ -28,24 +34,24 @@ pub(crate) fn enter_child(
 {
     let node = &nodes[i as usize];
     match node.parent {
-        Some(parent) => enter(table, parent, i),
+        Some(parent) => enter_first(table, parent, i),
         None => Ok(()),
     }
 }
 
-/// Enters node `i` as the first child of its parent, unless there is one.
-pub(crate) fn enter_first_child(
+/// Enters node `i` as the least child of its parent, unless there is an earlier one.
+pub(crate) fn enter_least_child(
     table: &mut BTreeMap<u32, u32>,
     nodes: &[Node],
     i: u32,
 ) -> Result<(), AllocError>
     requires below { i < length nodes.now }
-    requires listed { ListsFirstChildren (take i nodes.now) table.old }
-    ensures { OnOk result (ListsFirstChildren (take (i + 1) nodes.now) table.new) }
+    requires listed { ListsLeastChildren (take i nodes.now) table.old }
+    ensures { OnOk result (ListsLeastChildren (take (i + 1) nodes.now) table.new) }
 {
     let node = &nodes[i as usize];
     match node.parent {
-        Some(parent) => enter(table, parent.node, i),
+        Some(parent) => enter_first(table, parent.node, i),
         None => Ok(()),
     }
 }
@@ -61,7 +67,7 @@ pub(crate) fn enter_name(
     ensures { OnOk result (ListsNames (take (i + 1) nodes.now) table.new) }
 {
     let node = &nodes[i as usize];
-    enter(table, NameKey(node.name), i)
+    enter_first(table, NameKey(node.name), i)
 }
 
 /// Enters node `i` under its UID, where it is a bridge.
@@ -76,7 +82,20 @@ pub(crate) fn enter_bridge(
 {
     let node = &nodes[i as usize];
     match node.kind {
-        NodeKind::Bridge(uid) => enter(table, uid, i),
+        NodeKind::Bridge(uid) => enter_first(table, uid, i),
+        NodeKind::Switch | NodeKind::Endpoint(_) => Ok(()),
+    }
+}
+
+/// Adds the UID of node `i` at the end, where it is a bridge.
+pub(crate) fn add_uid(uids: &mut Vec<u32>, nodes: &[Node], i: u32) -> Result<(), AllocError>
+    requires below { i < length nodes.now }
+    requires listed { uids.old.items ≡ bridge_uids (take i nodes.now) }
+    ensures { OnOk result (uids.new.items ≡ bridge_uids (take (i + 1) nodes.now)) }
+{
+    let node = &nodes[i as usize];
+    match node.kind {
+        NodeKind::Bridge(uid) => Ok(uids.push(uid)?),
         NodeKind::Switch | NodeKind::Endpoint(_) => Ok(()),
     }
 }

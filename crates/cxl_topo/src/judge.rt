@@ -1,52 +1,31 @@
 ghost use Rattle.std.specs.Prelude.{◌≡◌, ◌+◌, ◌*◌, ◌<◌, ◌≤◌, ℕ, List, slice_get, length, take, IfNone, IfSome, IfOk, IfErr, OnOk, ◌≢◌, false};
+ghost use Rattle.cxl_enc.specs.Limits.{node_limit};
 ghost use Rattle.cxl_topo.specs.declared.node.Node.{Node};
-ghost use Rattle.cxl_topo.specs.Kinds.{is_bridge};
 ghost use Rattle.cxl_topo.specs.Tree.{is_port_at, forwards_at};
-ghost use Rattle.cxl_topo.specs.Faults.{are_too_many, lacks_parent, has_taken_port, forks, has_taken_name, has_taken_uid, is_too_deep, has_wrong_caps, has_wrong_capacity, is_capacity, placeholder_cap, NoneBefore, IsFirstTreeFault};
-ghost use Rattle.cxl_topo.specs.Tables.{ListsChildren, ListsFirstChildren, ListsNames, ListsBridges};
-ghost use Rattle.cxl_topo.specs.AreTables.{AreTables};
-ghost use Rattle.cxl_topo.specs.Judging.{first_of, tests_of};
+ghost use Rattle.cxl_topo.specs.Faults.{are_too_many, lacks_parent, has_taken_port, forks, has_taken_name, has_taken_uid, is_too_deep, has_wrong_caps, has_wrong_capacity, is_capacity, NoneBefore, IsFirstTreeFault};
+ghost use Rattle.cxl_topo.specs.inner.Tables.{ListsChildren, ListsLeastChildren, ListsNames, ListsBridges};
+ghost use Rattle.cxl_topo.specs.inner.AreTables.{AreTables};
+ghost use Rattle.cxl_topo.specs.inner.Judging.{first_of, tests_of};
 
 use crate::fault::TreeFault;
 use crate::node::{Capacity, Node, NodeKind};
 use crate::tables::{NameKey, Tables};
 use crate::ways::path_to;
-use cxl_enc::legal_cap;
+use cxl_enc::{ADDRESS_LIMIT, BRIDGE_LIMIT, NODE_LIMIT, PLACEHOLDER_CAP, UNIT, legal_cap};
 use std::alloc::Global;
-
-/// How many nodes a tree has at the most.
-const MAX_NODES: usize = 1_024;
-
-/// How many bridges.
-const MAX_BRIDGES: usize = 64;
 
 /// How many nodes the path of a switch's parent has at the most: a bridge and three switches.
 const MAX_ABOVE_SWITCH: u8 = 4;
-
-/// The capability word of a placeholder: one decoder and one target.
-const PLACEHOLDER_CAP: u32 = 0x10;
-
-/// 256 MiB, of which a capacity is a multiple.
-const CAPACITY_UNIT: u64 = 1 << 28;
-
-/// How many bytes an endpoint has at the most.
-const MAX_CAPACITY: u64 = 1 << 52;
 
 /// Whether there are more nodes or bridges than a tree may have.
 pub(crate) fn are_too_many(nodes: &[Node]) -> bool
     ensures { result ≡ are_too_many nodes.now }
 {
-    nodes.len() > MAX_NODES || nodes.iter().filter(|node| is_bridge(node)).count() > MAX_BRIDGES
-}
-
-fn is_bridge(node: &Node) -> bool
-    ensures { result ≡ is_bridge node.now.kind }
-{
-    matches!(node.kind, NodeKind::Bridge(_))
+    nodes.len() > NODE_LIMIT || nodes.iter().filter(|node| node.is_bridge()).count() > BRIDGE_LIMIT
 }
 
 /// The tables of the nodes, or their first fault, where they are not too many.
-pub(crate) fn tables_of(alloc: Global, nodes: &[Node]) -> Result<Tables, TreeFault>
+pub(crate) fn tables_or_fault(alloc: Global, nodes: &[Node]) -> Result<Tables, TreeFault>
     requires { are_too_many nodes.now ≡ false }
     ensures tables { IfOk result (λ tables. AreTables nodes.now tables) }
     ensures none { OnOk result (NoneBefore nodes.now (8 * length nodes.now + 1)) }
@@ -65,7 +44,7 @@ pub(crate) fn tables_of(alloc: Global, nodes: &[Node]) -> Result<Tables, TreeFau
 /// The first fault of node `i`, where the earlier nodes have none.
 pub(crate) fn judge(nodes: &[Node], i: u32, tables: &Tables) -> Option<TreeFault>
     requires below { i < length nodes.now }
-    requires few { length nodes.now ≤ 1024 }
+    requires few { length nodes.now ≤ node_limit }
     requires earlier { NoneBefore nodes.now (8 * i + 1) }
     requires tables { AreTables (take i nodes.now) tables.now }
     ensures none { IfNone result (NoneBefore nodes.now (8 * i + 9)) }
@@ -76,7 +55,7 @@ pub(crate) fn judge(nodes: &[Node], i: u32, tables: &Tables) -> Option<TreeFault
 
 fn first_fault(nodes: &[Node], i: u32, tables: &Tables) -> Option<TreeFault>
     requires below { i < length nodes.now }
-    requires few { length nodes.now ≤ 1024 }
+    requires few { length nodes.now ≤ node_limit }
     requires earlier { NoneBefore nodes.now (8 * i + 1) }
     requires tables { AreTables (take i nodes.now) tables.now }
     ensures { (node : Node) → slice_get nodes.now i ≡ Some node → result ≡ first_of (tests_of nodes.now i node) }
@@ -114,8 +93,8 @@ fn lacks_parent(earlier: &[Node], node: &Node) -> bool
     ensures { result ≡ lacks_parent earlier.now node.now }
 {
     match node.parent {
-        Some(parent) => is_bridge(node) || !is_port(earlier, parent.node),
-        None => !is_bridge(node),
+        Some(parent) => node.is_bridge() || !is_port(earlier, parent.node),
+        None => !node.is_bridge(),
     }
 }
 
@@ -123,7 +102,7 @@ fn is_port(nodes: &[Node], i: u32) -> bool
     ensures { result ≡ is_port_at nodes.now i }
 {
     match nodes.get(i as usize) {
-        Some(node) => !matches!(node.kind, NodeKind::Endpoint(_)),
+        Some(node) => !node.is_endpoint(),
         None => false,
     }
 }
@@ -138,11 +117,11 @@ fn has_taken_port(tables: &Tables, node: &Node) -> bool
 }
 
 fn forks(earlier: &[Node], tables: &Tables, node: &Node) -> bool
-    ensures { ListsFirstChildren earlier.now tables.now.first_children → result ≡ forks earlier.now node.now }
+    ensures { ListsLeastChildren earlier.now tables.now.least_children → result ≡ forks earlier.now node.now }
 {
     match node.parent {
         Some(parent) => forwards(earlier, parent.node)
-            && tables.first_children.get(&parent.node).is_some(),
+            && tables.least_children.get(&parent.node).is_some(),
         None => false,
     }
 }
@@ -173,7 +152,7 @@ fn has_taken_uid(tables: &Tables, node: &Node) -> bool
 
 fn is_too_deep(nodes: &[Node], i: u32, node: &Node) -> bool
     requires below { i < length nodes.now }
-    requires few { length nodes.now ≤ 1024 }
+    requires few { length nodes.now ≤ node_limit }
     requires sound { NoneBefore nodes.now (8 * i + 2) }
     requires here { slice_get nodes.now i ≡ Some node.now }
     ensures { result ≡ is_too_deep nodes.now i node.now }
@@ -187,7 +166,7 @@ fn is_too_deep(nodes: &[Node], i: u32, node: &Node) -> bool
 fn has_wrong_caps(node: &Node) -> bool
     ensures { result ≡ has_wrong_caps node.now }
 {
-    let endpoint = matches!(node.kind, NodeKind::Endpoint(_));
+    let endpoint = node.is_endpoint();
     !legal_cap(node.cap, endpoint) || (node.forwards && (node.cap != PLACEHOLDER_CAP || endpoint))
 }
 
@@ -203,8 +182,8 @@ fn has_wrong_capacity(node: &Node) -> bool
 fn is_capacity(capacity: &Capacity) -> bool
     ensures { result ≡ is_capacity capacity.now }
 {
-    capacity.ram % CAPACITY_UNIT == 0
-        && capacity.pmem % CAPACITY_UNIT == 0
-        && capacity.ram <= MAX_CAPACITY
-        && capacity.pmem <= MAX_CAPACITY - capacity.ram
+    capacity.ram % UNIT == 0
+        && capacity.pmem % UNIT == 0
+        && capacity.ram <= ADDRESS_LIMIT
+        && capacity.pmem <= ADDRESS_LIMIT - capacity.ram
 }

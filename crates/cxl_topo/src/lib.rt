@@ -13,10 +13,12 @@ mod topo;
 mod ways;
 
 pub use cxl_enc::{Caps, Name, cap_word, legal_cap};
+pub use enter::enter_first;
 pub use fault::TreeFault;
 pub use laws::tree_laws;
 pub use node::{Capacity, Node, NodeKind, Parent};
 pub use path::Path;
+pub use tables::NameKey;
 pub use topo::Topo;
 
 #[cfg(test)]

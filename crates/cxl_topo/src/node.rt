@@ -15,6 +15,25 @@ pub struct Node {
     pub forwards: bool,
 }
 
+impl Node {
+    ghost use Rattle.std.specs.Prelude.{◌≡◌};
+    ghost use Rattle.cxl_topo.specs.Kinds.{is_bridge, is_endpoint};
+
+    /// Whether it is a host bridge.
+    pub fn is_bridge(&self) -> bool
+        ensures { result ≡ is_bridge self.now.kind }
+    {
+        matches!(self.kind, NodeKind::Bridge(_))
+    }
+
+    /// Whether it is an endpoint; a node that is none is a port.
+    pub fn is_endpoint(&self) -> bool
+        ensures { result ≡ is_endpoint self.now.kind }
+    {
+        matches!(self.kind, NodeKind::Endpoint(_))
+    }
+}
+
 /// What a node is.
 #[derive(Clone, Copy, Debug, PartialEq, Eq)]
 pub enum NodeKind {

@@ -6,16 +6,16 @@ ghost use Rattle.std.specs.Ordering.{nat_cmp, on, as_partial_cmp};
 ghost use Rattle.std.specs.Prelude.{nat_eq};
 ghost use Rattle.std.proofs.Common.{rules};
 
-use crate::enter::{enter_bridge, enter_child, enter_first_child, enter_name};
+use crate::enter::{add_uid, enter_bridge, enter_child, enter_least_child, enter_name};
 use crate::node::{Node, Parent};
 use cxl_enc::Name;
 use std::alloc::{AllocError, Global};
 use std::cmp::Ordering;
 use std::collections::BTreeMap;
 
-/// A name as a key, in the order of its bytes.
+/// A name as a key of a table, in the order of its bytes.
 #[derive(Clone, Copy, Debug)]
-pub(crate) struct NameKey(pub(crate) Name);
+pub struct NameKey(pub Name);
 
 impl PartialEq for NameKey {
     ghost eq = { on (λ key. key.0) (pointwise nat_eq) };
@@ -55,17 +55,18 @@ impl Ord for NameKey {
     }
 }
 
-/// Where to find the nodes of a tree, so that no search goes over all of them.
+/// Where to find the nodes of a tree, so that no search goes over all of them, and the UIDs of its bridges.
 #[derive(Debug, Drop)]
 pub(crate) struct Tables {
     pub(crate) children: BTreeMap<Parent, u32>,
-    pub(crate) first_children: BTreeMap<u32, u32>,
+    pub(crate) least_children: BTreeMap<u32, u32>,
     pub(crate) names: BTreeMap<NameKey, u32>,
     pub(crate) bridges: BTreeMap<u32, u32>,
+    pub(crate) uids: Vec<u32>,
 }
 
 impl Tables {
-    ghost use Rattle.cxl_topo.specs.AreTables.{AreTables};
+    ghost use Rattle.cxl_topo.specs.inner.AreTables.{AreTables};
     ghost use Rattle.std.specs.Prelude.{[]};
 
     /// The tables of no nodes.
@@ -74,9 +75,10 @@ impl Tables {
     {
         Tables {
             children: BTreeMap::new(alloc),
-            first_children: BTreeMap::new(alloc),
+            least_children: BTreeMap::new(alloc),
             names: BTreeMap::new(alloc),
             bridges: BTreeMap::new(alloc),
+            uids: Vec::new(alloc),
         }
     }
 
@@ -87,8 +89,9 @@ impl Tables {
         ensures { OnOk result (AreTables (take (i + 1) nodes.now) self.new) }
     {
         enter_child(&mut self.children, nodes, i)?;
-        enter_first_child(&mut self.first_children, nodes, i)?;
+        enter_least_child(&mut self.least_children, nodes, i)?;
         enter_name(&mut self.names, nodes, i)?;
-        enter_bridge(&mut self.bridges, nodes, i)
+        enter_bridge(&mut self.bridges, nodes, i)?;
+        add_uid(&mut self.uids, nodes, i)
     }
 }

@@ -2,267 +2,268 @@ use super::*;
 use std::alloc::Global;
 use std::test::Fail;
 
-const PORT_CAP: u32 = 0x382;
-
-const ENDPOINT_CAP: u32 = 0x1b02;
-
-const PLACEHOLDER_CAP: u32 = 0x10;
-
-const FRAMES: u32 = 65_536;
-
-fn named(name: &[u8], kind: NodeKind, parent: Option<(u32, u8)>) -> Result<Node, Fail> {
-    let cap = match kind {
-        NodeKind::Bridge(_) | NodeKind::Switch => PORT_CAP,
-        NodeKind::Endpoint(_) => ENDPOINT_CAP,
-    };
-    Ok(Node {
-        name: Name::read(name).ok_or("a name")?,
-        kind,
-        parent: parent.map(|(node, port)| Parent { node, port }),
-        cap,
-        forwards: false,
-    })
+/// A node as a test states it.
+#[derive(Clone, Copy)]
+struct Row {
+    name: &'static str,
+    kind: NodeKind,
+    parent: Option<Parent>,
+    cap: u32,
+    forwards: bool,
 }
 
-fn bridge(name: &[u8], uid: u32) -> Result<Node, Fail> {
-    named(name, NodeKind::Bridge(uid), None)
-}
+const BRIDGE: Row = Row {
+    name: "hb0",
+    kind: NodeKind::Bridge(0),
+    parent: None,
+    cap: 0x382,
+    forwards: false,
+};
 
-fn switch(name: &[u8], node: u32, port: u8) -> Result<Node, Fail> {
-    named(name, NodeKind::Switch, Some((node, port)))
-}
+const OTHER_BRIDGE: Row = Row {
+    name: "hb1",
+    kind: NodeKind::Bridge(7),
+    parent: None,
+    cap: 0x382,
+    forwards: false,
+};
 
-fn endpoint(name: &[u8], node: u32, port: u8) -> Result<Node, Fail> {
-    let two_gib = Capacity {
+/// A switch at port 0 of the bridge.
+const SWITCH: Row = Row {
+    name: "s0",
+    kind: NodeKind::Switch,
+    parent: Some(Parent { node: 0, port: 0 }),
+    cap: 0x382,
+    forwards: false,
+};
+
+/// An endpoint at port 0 of the other bridge.
+const ENDPOINT: Row = Row {
+    name: "e0",
+    kind: NodeKind::Endpoint(Capacity {
         ram: 0x8000_0000,
         pmem: 0,
-    };
-    named(name, NodeKind::Endpoint(two_gib), Some((node, port)))
-}
+    }),
+    parent: Some(Parent { node: 1, port: 0 }),
+    cap: 0x1b02,
+    forwards: false,
+};
 
-fn forwarding(node: Node) -> Node {
-    Node {
-        cap: PLACEHOLDER_CAP,
-        forwards: true,
-        ..node
+const PLAIN: [Row; 4] = [BRIDGE, OTHER_BRIDGE, SWITCH, ENDPOINT];
+
+fn nodes_of(alloc: Global, rows: &[Row]) -> Result<Vec<Node>, Fail> {
+    let mut nodes = Vec::new(alloc);
+    for row in rows {
+        nodes.push(Node {
+            name: Name::read(row.name.as_bytes()).ok_or("a name")?,
+            kind: row.kind,
+            parent: row.parent,
+            cap: row.cap,
+            forwards: row.forwards,
+        })?;
     }
+    Ok(nodes)
 }
 
-fn tree(alloc: Global, nodes: &[Node]) -> Result<Topo, Fail> {
-    let nodes = nodes.to_vec(alloc)?;
-    Ok(Topo::new(alloc, nodes, FRAMES).ok().ok_or("a legal tree")?)
+fn topo_of(alloc: Global, rows: &[Row]) -> Result<Topo, Fail> {
+    let nodes = nodes_of(alloc, rows)?;
+    Ok(Topo::new(alloc, nodes, 65_536).ok().ok_or("a legal tree")?)
 }
 
-fn fault(alloc: Global, nodes: &[Node]) -> Result<Option<TreeFault>, Fail> {
-    let nodes = nodes.to_vec(alloc)?;
-    Ok(Topo::new(alloc, nodes, FRAMES).err())
-}
-
-/// Two bridges with an endpoint each.
-fn plain() -> Result<[Node; 4], Fail> {
-    Ok([
-        bridge(b"hb0", 0)?,
-        bridge(b"hb1", 1)?,
-        endpoint(b"e0", 0, 0)?,
-        endpoint(b"e1", 1, 0)?,
-    ])
+fn fault_of(alloc: Global, rows: &[Row]) -> Result<Option<TreeFault>, Fail> {
+    let nodes = nodes_of(alloc, rows)?;
+    Ok(Topo::new(alloc, nodes, 65_536).err())
 }
 
 #[test]
 fn finds_nodes(rt: HostRuntime) -> Result<(), Fail> {
-    let topo = tree(rt.alloc(), &plain()?)?;
+    let topo = topo_of(rt.alloc(), PLAIN.as_slice())?;
     assert_eq!(rt; topo.count(), 4);
-    assert_eq!(rt; topo.frames(), FRAMES);
-    assert_eq!(rt; topo.node(3).cap, ENDPOINT_CAP);
-    assert_eq!(rt; topo.child(0, 0), Some(2));
+    assert_eq!(rt; topo.frames(), 65_536);
+    assert_eq!(rt; topo.node(3).cap, 0x1b02);
+    assert_eq!(rt; topo.child(1, 0), Some(3));
     assert_eq!(rt; topo.child(0, 1), None);
-    assert_eq!(rt; topo.first_child(1), Some(3));
-    assert_eq!(rt; topo.first_child(2), None);
-    assert_eq!(rt; topo.find(&Name::read(b"e1").ok_or("a name")?), Some(3));
-    assert_eq!(rt; topo.find(&Name::read(b"e2").ok_or("a name")?), None);
-    assert_eq!(rt; topo.bridge(1), Some(1));
-    assert_eq!(rt; topo.bridge(2), None);
-    let path = topo.path(2);
+    assert_eq!(rt; topo.least_child(0), Some(2));
+    assert_eq!(rt; topo.find(&Name::read(b"e0").ok_or("a name")?), Some(3));
+    assert_eq!(rt; topo.bridge(7), Some(1));
+    assert_eq!(rt; topo.uids(), [0, 7].as_slice());
+    Ok(())
+}
+
+#[test]
+fn says_what_nodes_are(rt: HostRuntime) -> Result<(), Fail> {
+    let topo = topo_of(rt.alloc(), PLAIN.as_slice())?;
+    assert_eq!(rt; topo.count(), 4);
+    assert!(rt; topo.is_endpoint(3));
+    assert!(rt; topo.is_port(2));
+    assert!(rt; !topo.forwards(0));
+    let path = topo.path(3);
     assert_eq!(rt; path.len, 2);
-    assert_eq!(rt; path.nodes, [0, 2, 0, 0, 0, 0]);
-    assert!(rt; topo.under(0, 2));
-    assert!(rt; topo.under(2, 2));
-    assert!(rt; !topo.under(1, 2));
+    assert_eq!(rt; path.nodes, [1, 3, 0, 0, 0, 0]);
+    assert!(rt; topo.under(1, 3));
+    assert!(rt; !topo.under(0, 3));
     Ok(())
 }
 
+/// Landings and decoding ports of: two bridges that forward, of which one has a switch that forwards, and
+/// below it an endpoint; and a bridge that decodes.
 #[test]
-fn lands_below_what_forwards(rt: HostRuntime) -> Result<(), Fail> {
-    let nodes = [
-        forwarding(bridge(b"hb0", 0)?),
-        forwarding(bridge(b"hb1", 1)?),
-        bridge(b"hb2", 2)?,
-        forwarding(switch(b"s0", 0, 3)?),
-        endpoint(b"e0", 3, 0)?,
+fn passes_what_forwards(rt: HostRuntime) -> Result<(), Fail> {
+    let rows = [
+        BRIDGE,
+        Row {
+            cap: 0x10,
+            forwards: true,
+            ..OTHER_BRIDGE
+        },
+        Row {
+            cap: 0x10,
+            forwards: true,
+            ..SWITCH
+        },
+        Row {
+            parent: Some(Parent { node: 2, port: 9 }),
+            ..ENDPOINT
+        },
     ];
-    let topo = tree(rt.alloc(), &nodes)?;
-    let landings = [Some(4), None, Some(2), Some(4), Some(4)];
-    for (node, want) in landings.iter().enumerate() {
-        let node = node as u32;
-        if node < topo.count() {
-            assert_eq!(rt; topo.landing(node), *want, "node {node}");
-        }
-    }
+    let topo = topo_of(rt.alloc(), rows.as_slice())?;
+    assert_eq!(rt; topo.count(), 4);
+    assert_eq!(rt; topo.landing(0), Some(0));
+    assert_eq!(rt; topo.landing(1), None);
+    assert_eq!(rt; topo.landing(2), Some(3));
+    assert_eq!(rt; topo.decoding_port(0), None);
+    assert_eq!(rt; topo.decoding_port(3), Some(Parent { node: 0, port: 0 }));
     Ok(())
 }
 
-#[test]
-fn goes_down_four_switches(rt: HostRuntime) -> Result<(), Fail> {
-    let mut nodes = Vec::from_array(
-        rt.alloc(),
-        [
-            bridge(b"hb0", 0)?,
-            switch(b"s1", 0, 0)?,
-            switch(b"s2", 1, 0)?,
-            switch(b"s3", 2, 255)?,
-            switch(b"s4", 3, 0)?,
-            endpoint(b"e0", 4, 7)?,
-        ],
-    )?;
-    let topo = tree(rt.alloc(), &nodes)?;
-    if topo.count() == 6 {
-        assert_eq!(rt; topo.path(5).nodes, [0, 1, 2, 3, 4, 5]);
+/// The plain tree with one node changed.
+fn changed(alloc: Global, place: usize, row: Row) -> Result<Vec<Row>, Fail> {
+    let mut rows = Vec::new(alloc);
+    for (i, own) in PLAIN.iter().enumerate() {
+        rows.push(if i == place { row } else { *own })?;
     }
-    nodes.push(switch(b"s5", 4, 8)?)?;
-    assert_eq!(rt; fault(rt.alloc(), &nodes)?, Some(TreeFault::Depth(6)));
-    Ok(())
+    Ok(rows)
 }
 
-/// Each fault, and that the least node and then the order of the list decide between two.
+fn port(node: u32, port: u8) -> Option<Parent> {
+    Some(Parent { node, port })
+}
+
 #[test]
 fn first_faults(rt: HostRuntime) -> Result<(), Fail> {
-    let [hb0, hb1, e0, e1] = plain()?;
-    let small = Node {
-        kind: NodeKind::Endpoint(Capacity {
-            ram: 0x1000_0000,
-            pmem: 0x1800_0000,
-        }),
-        ..e0
+    let second = |name, uid| Row {
+        name,
+        kind: NodeKind::Bridge(uid),
+        ..OTHER_BRIDGE
     };
-    let vast = Node {
-        kind: NodeKind::Endpoint(Capacity {
-            ram: 1 << 52,
-            pmem: 0x1000_0000,
-        }),
-        ..e0
+    let sized = |ram, pmem| Row {
+        kind: NodeKind::Endpoint(Capacity { ram, pmem }),
+        ..ENDPOINT
     };
     let rows = [
         (
-            [
-                hb0,
-                Node {
-                    parent: Some(Parent { node: 0, port: 1 }),
-                    ..hb1
-                },
-                e0,
-                e1,
-            ],
+            1,
+            Row {
+                parent: port(0, 1),
+                ..OTHER_BRIDGE
+            },
             TreeFault::NoParent(1),
         ),
         (
-            [hb0, hb1, e0, Node { parent: None, ..e1 }],
-            TreeFault::NoParent(3),
-        ),
-        (
-            [hb0, hb1, e0, endpoint(b"e1", 2, 0)?],
-            TreeFault::NoParent(3),
-        ),
-        (
-            [hb0, hb1, endpoint(b"e0", 2, 0)?, e1],
+            2,
+            Row {
+                parent: port(3, 0),
+                ..SWITCH
+            },
             TreeFault::NoParent(2),
         ),
         (
-            [hb0, hb1, e0, endpoint(b"e1", 0, 0)?],
+            3,
+            Row {
+                parent: port(0, 0),
+                ..ENDPOINT
+            },
             TreeFault::PortTaken(3),
         ),
         (
-            [forwarding(hb0), hb1, e0, endpoint(b"e1", 0, 0)?],
-            TreeFault::PortTaken(3),
-        ),
-        (
-            [forwarding(hb0), forwarding(hb1), e0, endpoint(b"e1", 0, 1)?],
-            TreeFault::Forks(3),
-        ),
-        (
-            [hb0, hb1, e0, endpoint(b"hb0", 1, 0)?],
+            3,
+            Row {
+                name: "hb1",
+                ..ENDPOINT
+            },
             TreeFault::NameTaken(3),
         ),
-        ([hb0, bridge(b"hb1", 0)?, e0, e1], TreeFault::UidTaken(1)),
-        ([hb0, bridge(b"hb0", 0)?, e0, e1], TreeFault::NameTaken(1)),
+        (1, second("hb1", 0), TreeFault::UidTaken(1)),
+        (1, second("hb0", 0), TreeFault::NameTaken(1)),
         (
-            [
-                Node {
-                    cap: ENDPOINT_CAP,
-                    ..hb0
-                },
-                hb1,
-                e0,
-                e1,
-            ],
+            0,
+            Row {
+                cap: 0x1b02,
+                ..BRIDGE
+            },
             TreeFault::Caps(0),
         ),
         (
-            [
-                Node {
-                    forwards: true,
-                    ..hb0
-                },
-                hb1,
-                e0,
-                e1,
-            ],
-            TreeFault::Caps(0),
+            3,
+            Row {
+                forwards: true,
+                ..ENDPOINT
+            },
+            TreeFault::Caps(3),
         ),
-        (
-            [
-                hb0,
-                hb1,
-                Node {
-                    forwards: true,
-                    ..e0
-                },
-                e1,
-            ],
-            TreeFault::Caps(2),
-        ),
-        (
-            [hb0, hb1, small, endpoint(b"e1", 0, 0)?],
-            TreeFault::Capacity(2),
-        ),
-        ([hb0, hb1, vast, e1], TreeFault::Capacity(2)),
+        (3, sized(0x1800_0000, 0), TreeFault::Capacity(3)),
+        (3, sized(1 << 52, 0x1000_0000), TreeFault::Capacity(3)),
     ];
-    for (i, (nodes, want)) in rows.iter().enumerate() {
-        assert_eq!(rt;
-            fault(rt.alloc(), nodes.as_slice())?,
-            Some(*want),
-            "row {i}"
-        );
+    for (place, row, want) in rows {
+        let tree = changed(rt.alloc(), place, row)?;
+        assert_eq!(rt; fault_of(rt.alloc(), &tree)?, Some(want));
     }
-    let full = Node {
-        kind: NodeKind::Endpoint(Capacity {
-            ram: 1 << 51,
-            pmem: 1 << 51,
-        }),
-        ..e0
-    };
-    assert_eq!(rt; fault(rt.alloc(), &[hb0, hb1, full, e1])?, None);
+    let full = changed(rt.alloc(), 3, sized(1 << 51, 1 << 51))?;
+    assert_eq!(rt; fault_of(rt.alloc(), &full)?, None);
     Ok(())
 }
 
+/// Five switches in a row, a second child below a bridge that forwards, and too many nodes.
 #[test]
-fn too_many(rt: HostRuntime) -> Result<(), Fail> {
-    let bridges = Vec::from_elem(rt.alloc(), bridge(b"hb0", 0)?, 65)?;
-    assert_eq!(rt; fault(rt.alloc(), &bridges)?, Some(TreeFault::TooMany));
-    let switches = Vec::from_elem(rt.alloc(), switch(b"s0", 0, 0)?, 1_025)?;
-    assert_eq!(rt; fault(rt.alloc(), &switches)?, Some(TreeFault::TooMany));
+fn faults_of_shape(rt: HostRuntime) -> Result<(), Fail> {
+    let below = |name, node| Row {
+        name,
+        parent: port(node, 1),
+        ..SWITCH
+    };
+    let row = [
+        BRIDGE,
+        below("s1", 0),
+        below("s2", 1),
+        below("s3", 2),
+        below("s4", 3),
+        below("s5", 4),
+    ];
     assert_eq!(rt;
-        fault(rt.alloc(), &switches[..1_024])?,
-        Some(TreeFault::NoParent(0))
+        fault_of(rt.alloc(), row.as_slice())?,
+        Some(TreeFault::Depth(5))
     );
+    assert_eq!(rt; topo_of(rt.alloc(), &row[..5])?.count(), 5);
+    let top = Row {
+        cap: 0x10,
+        forwards: true,
+        ..BRIDGE
+    };
+    let fork = [
+        top,
+        below("s1", 0),
+        Row {
+            parent: port(0, 2),
+            ..ENDPOINT
+        },
+    ];
+    assert_eq!(rt;
+        fault_of(rt.alloc(), fork.as_slice())?,
+        Some(TreeFault::Forks(2))
+    );
+    let bridges = Vec::from_elem(rt.alloc(), BRIDGE, 65)?;
+    assert_eq!(rt; fault_of(rt.alloc(), &bridges)?, Some(TreeFault::TooMany));
+    let switches = Vec::from_elem(rt.alloc(), SWITCH, 1_025)?;
+    assert_eq!(rt; fault_of(rt.alloc(), &switches)?, Some(TreeFault::TooMany));
     Ok(())
 }

@@ -1,15 +1,15 @@
-ghost use Rattle.std.specs.Prelude.{◌≡◌, ◌≢◌, ◌+◌, ◌-◌, ◌≤◌, ◌<◌, ◌↔◌, ℕ, length, take, drop, replicate, slice_get, Some, IsTrue, IfOk, IfErr, Contains};
-ghost use Rattle.cxl_topo.specs.Tree.{Tree, child_of, first_child_of, name_at, uid_at, node_named, bridge_with, path_of, IsPathTo, landing_of};
+ghost use Rattle.std.specs.Prelude.{◌≡◌, ◌≢◌, ◌+◌, ◌-◌, ◌≤◌, ◌<◌, ◌↔◌, ℕ, length, take, drop, replicate, slice_get, Some, IsTrue, false, IfSome, IsSomeAnd, IfOk, IfErr, Contains};
+ghost use Rattle.cxl_topo.specs.Tree.{Tree, is_endpoint_at, is_port_at, forwards_at, child_of, least_child_of, name_at, uid_at, node_named, bridge_with, bridge_uids, path_of, IsPathTo, decoding_port_of, landing_of};
 ghost use Rattle.cxl_topo.specs.Faults.{IsTree, IsFirstTreeFault};
-ghost use Rattle.cxl_topo.specs.Kept.{AreFrames};
-ghost use Rattle.cxl_topo.specs.Laws.{StandsAt};
+ghost use Rattle.cxl_topo.specs.Frames.{AreFrames};
+ghost use Rattle.cxl_topo.specs.Laws.{StandsAt, StandsBelow};
 
 use crate::fault::TreeFault;
-use crate::judge::{are_too_many, tables_of};
+use crate::judge::{are_too_many, tables_or_fault};
 use crate::node::{Node, Parent};
 use crate::path::Path;
 use crate::tables::{NameKey, Tables};
-use crate::ways::{landing, path_to};
+use crate::ways::{decoding_port, landing, path_to};
 use cxl_enc::Name;
 use std::alloc::Global;
 use std::marker::Model;
@@ -25,7 +25,7 @@ pub struct Topo {
 
 impl Model for Topo {
     ghost use Rattle.cxl_topo.specs.Tree.{Tree};
-    ghost use Rattle.cxl_topo.specs.Kept.{IsKept};
+    ghost use Rattle.cxl_topo.specs.inner.Kept.{IsKept};
 
     ghost Value = { Tree };
 
@@ -49,7 +49,7 @@ impl Topo {
         if are_too_many(&nodes) {
             return Err(TreeFault::TooMany);
         }
-        let tables = tables_of(alloc, &nodes)?;
+        let tables = tables_or_fault(alloc, &nodes)?;
         Ok(Topo {
             nodes,
             frames,
@@ -81,6 +81,30 @@ impl Topo {
         &self.nodes[i as usize]
     }
 
+    /// Whether a node is an endpoint.
+    pub fn is_endpoint(&self, node: u32) -> bool
+        requires { node < length self.now.nodes }
+        ensures { result ≡ is_endpoint_at self.now.nodes node }
+    {
+        self.nodes[node as usize].is_endpoint()
+    }
+
+    /// Whether a node is a port: a bridge or a switch.
+    pub fn is_port(&self, node: u32) -> bool
+        requires { node < length self.now.nodes }
+        ensures { result ≡ is_port_at self.now.nodes node }
+    {
+        !self.nodes[node as usize].is_endpoint()
+    }
+
+    /// Whether a node forwards.
+    pub fn forwards(&self, node: u32) -> bool
+        requires { node < length self.now.nodes }
+        ensures { result ≡ forwards_at self.now.nodes node }
+    {
+        self.nodes[node as usize].forwards
+    }
+
     /// The child of a node at a port.
     pub fn child(&self, node: u32, port: u8) -> Option<u32>
         requires { node < length self.now.nodes }
@@ -91,11 +115,13 @@ impl Topo {
         self.tables.children.get(&place).copied()
     }
 
-    /// The only child of a node, or the first where it has several.
-    pub fn first_child(&self, node: u32) -> Option<u32>
-        ensures { result ≡ first_child_of self.now.nodes node }
+    /// The child of a node that has the least number: the only child of one that forwards.
+    pub fn least_child(&self, node: u32) -> Option<u32>
+        ensures child { result ≡ least_child_of self.now.nodes node }
+        ensures below { IfSome result (λ c. StandsBelow self.now.nodes node c) }
+        ensures least { (c : ℕ) → StandsBelow self.now.nodes node c → IsSomeAnd result (λ least. least ≤ c) }
     {
-        self.tables.first_children.get(&node).copied()
+        self.tables.least_children.get(&node).copied()
     }
 
     /// The node with a name.
@@ -112,6 +138,13 @@ impl Topo {
         ensures owns { (i : ℕ) → (result ≡ Some i) ↔ (uid_at self.now.nodes i ≡ Some uid) }
     {
         self.tables.bridges.get(&uid).copied()
+    }
+
+    /// The UIDs of the bridges, in node order. They are kept, so this takes no time.
+    pub fn uids(&self) -> &[u32]
+        ensures { result.now ≡ bridge_uids self.now.nodes }
+    {
+        &self.tables.uids
     }
 
     /// The nodes from its bridge down to a node.
@@ -136,12 +169,25 @@ impl Topo {
         path.nodes[..path.len as usize].contains(&node)
     }
 
+    /// The port through which addresses come to a node from its decoding parent, which is the nearest node
+    /// above that does not forward: that parent, and the port there at which the node's path leaves it.
+    /// `None` where all nodes above forward or there is none. At most five steps up.
+    pub fn decoding_port(&self, node: u32) -> Option<Parent>
+        requires { node < length self.now.nodes }
+        ensures port { result ≡ decoding_port_of self.now.nodes node }
+        ensures earlier { IfSome result (λ parent. parent.node < node) }
+        ensures decodes { IfSome result (λ parent. forwards_at self.now.nodes parent.node ≡ false) }
+    {
+        decoding_port(&self.nodes, node)
+    }
+
     /// Where an address that comes to a node is first decoded: the node itself where it does not
-    /// forward, else the landing of its only child. `None` where there is no such child.
+    /// forward, else the landing of its only child. `None` where there is no such child. At most five steps
+    /// down, each a look-up of a child.
     pub fn landing(&self, node: u32) -> Option<u32>
         requires { node < length self.now.nodes }
         ensures { result ≡ landing_of self.now.nodes node }
     {
-        landing(&self.nodes, &self.tables.first_children, node)
+        landing(&self.nodes, &self.tables.least_children, node)
     }
 }

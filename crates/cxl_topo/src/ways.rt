@@ -1,16 +1,17 @@
-ghost use Rattle.std.specs.Prelude.{◌≡◌, ◌+◌, ◌-◌, ◌*◌, ◌<◌, ◌≤◌, length, take, drop, replicate};
-ghost use Rattle.cxl_topo.specs.Tree.{path_of, landing_of};
-ghost use Rattle.cxl_topo.specs.Tables.{ListsFirstChildren};
+ghost use Rattle.std.specs.Prelude.{◌≡◌, ◌+◌, ◌-◌, ◌*◌, ◌<◌, ◌≤◌, length, take, drop, replicate, false, IfSome};
+ghost use Rattle.cxl_enc.specs.Limits.{node_limit};
+ghost use Rattle.cxl_topo.specs.Tree.{path_of, decoding_port_of, landing_of, forwards_at};
+ghost use Rattle.cxl_topo.specs.inner.Tables.{ListsLeastChildren};
 ghost use Rattle.cxl_topo.specs.Faults.{NoneBefore, IsTree};
 
-use crate::node::Node;
+use crate::node::{Node, Parent};
 use crate::path::Path;
 use std::collections::BTreeMap;
 
 /// The way down to node `i`, where nothing is wrong with it and the earlier nodes.
 pub(crate) fn path_to(nodes: &[Node], i: u32) -> Path
     requires below { i < length nodes.now }
-    requires few { length nodes.now ≤ 1024 }
+    requires few { length nodes.now ≤ node_limit }
     requires sound { NoneBefore nodes.now (8 * i + 9) }
     ensures len { result.len ≡ length (path_of nodes.now i) }
     ensures path { take result.len result.nodes ≡ path_of nodes.now i }
@@ -27,16 +28,35 @@ pub(crate) fn path_to(nodes: &[Node], i: u32) -> Path
     Path { len, nodes: room }
 }
 
-/// The first node at or below node `i` that does not forward.
-pub(crate) fn landing(nodes: &[Node], first_children: &BTreeMap<u32, u32>, i: u32) -> Option<u32>
+/// The first port above node `i` whose node does not forward.
+pub(crate) fn decoding_port(nodes: &[Node], i: u32) -> Option<Parent>
     requires below { i < length nodes.now }
     requires tree { IsTree nodes.now }
-    requires listed { ListsFirstChildren nodes.now first_children.now }
+    ensures port { result ≡ decoding_port_of nodes.now i }
+    ensures earlier { IfSome result (λ parent. parent.node < i) }
+    ensures decodes { IfSome result (λ parent. forwards_at nodes.now parent.node ≡ false) }
+{
+    let mut at = nodes[i as usize].parent;
+    while let Some(parent) = at {
+        let above = &nodes[parent.node as usize];
+        if !above.forwards {
+            return Some(parent);
+        }
+        at = above.parent;
+    }
+    None
+}
+
+/// The first node at or below node `i` that does not forward.
+pub(crate) fn landing(nodes: &[Node], least_children: &BTreeMap<u32, u32>, i: u32) -> Option<u32>
+    requires below { i < length nodes.now }
+    requires tree { IsTree nodes.now }
+    requires listed { ListsLeastChildren nodes.now least_children.now }
     ensures { result ≡ landing_of nodes.now i }
 {
     let mut at = i;
     while nodes[at as usize].forwards {
-        at = *first_children.get(&at)?;
+        at = *least_children.get(&at)?;
     }
     Some(at)
 }

@@ -1,4 +1,4 @@
 pub mod Unknowns
 pub mod Turns
-pub mod Hanging
+pub mod Attaching
 pub mod Whole

@@ -13,7 +13,7 @@ use Rattle.cxl_topofile.specs.declared.fault.TopoFault.{TopoFault}
 use Rattle.cxl_topofile.specs.declared.fault.TopoFault.TheVariants as faults
 use Rattle.cxl_topofile.specs.Values.{◌>>=◌}
 use Rattle.cxl_topofile.specs.Groups.{placed, FailsAs, all_of, are_tables, tables_of}
-use Rattle.cxl_topofile.specs.Seen.{is_table, AddsTable}
+use Rattle.cxl_topofile.specs.inner.Seen.{is_table, AddsTable}
 
 pub are_tables-view : (values : List Value) → list_all is_table values ≡ are_tables (items_view values)
 are_tables-view [] = refl

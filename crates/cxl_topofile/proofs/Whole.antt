@@ -17,7 +17,7 @@ use Rattle.cxl_topofile.specs.Values.{◌>>=◌}
 use Rattle.cxl_topofile.specs.Drafts.{bridge_of, switch_of, endpoint_of}
 use Rattle.cxl_topofile.specs.Groups.{by_cause, placed, FailsAs, all_of, tables_of, top_of, Stated, stated_of}
 use Rattle.cxl_topofile.specs.File.{tree_of, IsDocument, IsTopologyFile, IsFirstTopoFault}
-use Rattle.cxl_topofile.specs.Answers.{IsNoDocument, IsTreeRefusal}
+use Rattle.cxl_topofile.specs.inner.Answers.{IsNoDocument, IsTreeRefusal}
 
 -- ---- the faults of tables are of a key
 

@@ -1,7 +1,7 @@
 -- The nodes that single tables state.
-use Rattle.std.specs.Prelude.{ℕ, ◌^◌, true, false, List, [], ◌∷◌, Some, None, pos, Result, Ok, Err, if◌then◌else◌}
+use Rattle.std.specs.Prelude.{ℕ, true, false, List, [], ◌∷◌, Some, None, pos, Result, Ok, Err, if◌then◌else◌}
 use Rattle.cxl_enc.specs.Caps.{word_of}
-use Rattle.cxl_topo.specs.Faults.{placeholder_cap}
+use Rattle.cxl_enc.specs.Limits.{address_limit, placeholder_cap}
 use Rattle.cxl_topo.specs.declared.node.Node.{Node}
 use Rattle.cxl_topo.specs.declared.node.NodeKind.TheVariants as kinds
 use Rattle.toml.specs.Data.{Members}
@@ -12,7 +12,7 @@ use Rattle.cxl_topofile.specs.declared.draft.Draft.{Draft}
 use Rattle.cxl_topofile.specs.declared.draft.PortCaps.{PortCaps}
 use Rattle.cxl_topofile.specs.Keys.{has_unknown}
 use Rattle.cxl_topofile.specs.Wrongs.{missing}
-use Rattle.cxl_topofile.specs.Values.{◌>>=◌, number_at, is_within, flag_at, name_at, decoders_at, targets_at}
+use Rattle.cxl_topofile.specs.Values.{◌>>=◌, number_at, is_within, flag_at, stated_name, stated_decoders, stated_targets}
 
 -- a table with no other keys
 abbrev pub known_in : Members → List Key → Result (Unit {0}) Wrong
@@ -32,8 +32,8 @@ endpoint_keys =
 -- the capability word of a bridge or a switch: that of its keys, or a placeholder's where it forwards
 unfoldable pub port_caps_of : Members → Result PortCaps Wrong
 port_caps_of table = do
-  decoders ← decoders_at table
-  targets ← targets_at table
+  decoders ← stated_decoders table
+  targets ← stated_targets table
   low ← flag_at table keys.Low true
   high ← flag_at table keys.High true
   forwards ← flag_at table keys.Passthrough false
@@ -43,7 +43,7 @@ port_caps_of table = do
 -- the capability word of an endpoint
 unfoldable pub endpoint_cap_of : Members → Result ℕ Wrong
 endpoint_cap_of table = do
-  decoders ← decoders_at table
+  decoders ← stated_decoders table
   low ← flag_at table keys.Low true
   high ← flag_at table keys.High true
   ways3 ← flag_at table keys.Ways3 true
@@ -57,7 +57,7 @@ port_of table = number_at table keys.Port None (is_within 0 255)
 unfoldable pub bridge_of : Members → Result Node Wrong
 bridge_of table = do
   known ← known_in table bridge_keys
-  name ← name_at table keys.Name
+  name ← stated_name table keys.Name
   uid ← number_at table keys.Uid None (is_within 0 4294967295)
   caps ← port_caps_of table
   Ok (record { name = name; kind = kinds.Bridge uid; parent = None; cap = caps.cap; forwards = caps.forwards })
@@ -65,8 +65,8 @@ bridge_of table = do
 unfoldable pub switch_of : Members → Result Draft Wrong
 switch_of table = do
   known ← known_in table switch_keys
-  name ← name_at table keys.Name
-  parent ← name_at table keys.Parent
+  name ← stated_name table keys.Name
+  parent ← stated_name table keys.Parent
   port ← port_of table
   caps ← port_caps_of table
   Ok (record { name = name; kind = kinds.Switch; parent = parent; port = port; cap = caps.cap; forwards = caps.forwards })
@@ -74,10 +74,10 @@ switch_of table = do
 unfoldable pub endpoint_of : Members → Result Draft Wrong
 endpoint_of table = do
   known ← known_in table endpoint_keys
-  name ← name_at table keys.Name
-  parent ← name_at table keys.Parent
+  name ← stated_name table keys.Name
+  parent ← stated_name table keys.Parent
   port ← port_of table
   cap ← endpoint_cap_of table
-  ram ← number_at table keys.Ram (Some (pos 0)) (is_within 0 (2 ^ 52))
-  pmem ← number_at table keys.Pmem (Some (pos 0)) (is_within 0 (2 ^ 52))
+  ram ← number_at table keys.Ram (Some (pos 0)) (is_within 0 address_limit)
+  pmem ← number_at table keys.Pmem (Some (pos 0)) (is_within 0 address_limit)
   Ok (record { name = name; kind = kinds.Endpoint (record { ram = ram; pmem = pmem }); parent = parent; port = port; cap = cap; forwards = false })

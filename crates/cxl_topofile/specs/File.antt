@@ -30,13 +30,13 @@ node_under earlier draft = record {
 }
 
 -- these nodes, and after them the drafts, each under an earlier node
-unfoldable pub hung : List Node → List Draft → List Node
-hung nodes [] = nodes
-hung nodes (draft ∷ drafts) = hung (nodes ++ node_under nodes draft ∷ []) drafts
+unfoldable pub attached : List Node → List Draft → List Node
+attached nodes [] = nodes
+attached nodes (draft ∷ drafts) = attached (nodes ++ node_under nodes draft ∷ []) drafts
 
 -- the nodes numbered bridges first, then switches, then endpoints
 abbrev pub tree_of : Stated → Tree
-tree_of stated = record { nodes = hung stated.bridges stated.drafts; frames = stated.frames }
+tree_of stated = record { nodes = attached stated.bridges stated.drafts; frames = stated.frames }
 
 -- ---- whole files
 

@@ -1,5 +1,6 @@
 -- The nodes that the tables of a file state, in order.
 use Rattle.std.specs.Prelude.{◌≡◌, ℕ, ◌+◌, Bool, true, ◌&&◌, is_some, List, [], ◌∷◌, ◌++◌, Some, pos, Result, Ok, Err, if◌then◌else◌}
+use Rattle.cxl_enc.specs.Limits.{frame_limit}
 use Rattle.toml.specs.Data.{Items, no_items, item, Members, table, as_array, as_table}
 use Rattle.cxl_topo.specs.declared.node.Node.{Node}
 use Rattle.cxl_topofile.specs.declared.key.Key.{Key}
@@ -81,6 +82,10 @@ tables_at top key = do
 abbrev pub top_keys : List Key
 top_keys = keys.Frames ∷ keys.Bridge ∷ keys.Switch ∷ keys.Endpoint ∷ []
 
+-- the frames of a file that states none: 16 MiB
+abbrev pub default_frames : ℕ
+default_frames = 65536
+
 pub record Top : Type 0 where
   pub frames : ℕ
   pub bridges : Items
@@ -90,7 +95,7 @@ pub record Top : Type 0 where
 unfoldable pub top_of : Members → Result Top Wrong
 top_of top = do
   known ← known_in top top_keys
-  frames ← number_at top keys.Frames (Some (pos 65536)) (is_within 1 1048576)
+  frames ← number_at top keys.Frames (Some (pos default_frames)) (is_within 1 frame_limit)
   bridges ← tables_at top keys.Bridge
   switches ← tables_at top keys.Switch
   endpoints ← tables_at top keys.Endpoint

@@ -3,6 +3,5 @@ pub mod Wrongs
 pub mod Values
 pub mod Drafts
 pub mod Groups
-pub mod Seen
 pub mod File
-pub mod Answers
+pub mod inner

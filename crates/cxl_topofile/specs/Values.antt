@@ -22,12 +22,12 @@ Gives view (Ok x) read = read ≡ Ok (view x)
 Gives view (Err e) read = read ≡ Err e
 
 -- the value, which `take` reads out of data of its kind, or the default where there is none
-abbrev pub judged : {A : Type 0} → (Data → Option A) → Key → Option A → Option Data → Result A Wrong
-judged take key default None = ok_or default (missing key)
-judged take key default (Some value) = ok_or (take value) (of_other_kind key)
+abbrev pub taken_or : {A : Type 0} → (Data → Option A) → Key → Option A → Option Data → Result A Wrong
+taken_or take key default None = ok_or default (missing key)
+taken_or take key default (Some value) = ok_or (take value) (of_other_kind key)
 
 abbrev pub value_at : {A : Type 0} → (Data → Option A) → Members → Key → Option A → Result A Wrong
-value_at take table key default = judged take key default (get_member (text_of key) table)
+value_at take table key default = taken_or take key default (get_member (text_of key) table)
 
 -- a value that passes the test
 abbrev pub within : {A : Type 0} → Key → (A → Bool) → A → Result A Wrong
@@ -55,15 +55,15 @@ abbrev pub is_name : List ℕ → Bool
 is_name bytes = nat_lt 0 (length bytes) && nat_le (length bytes) 15 && list_all is_name_byte bytes
 
 -- a name
-unfoldable pub name_at : Members → Key → Result (List ℕ) Wrong
-name_at table key = do
+unfoldable pub stated_name : Members → Key → Result (List ℕ) Wrong
+stated_name table key = do
   text ← value_at as_str table key None
   within key is_name text
 
 -- how many decoders, 4 where it is not said
-abbrev pub decoders_at : Members → Result ℕ Wrong
-decoders_at table = number_at table keys.Decoders (Some (pos 4)) is_decoder_count
+abbrev pub stated_decoders : Members → Result ℕ Wrong
+stated_decoders table = number_at table keys.Decoders (Some (pos 4)) is_decoder_count
 
 -- how many targets, 8 where it is not said
-abbrev pub targets_at : Members → Result ℕ Wrong
-targets_at table = number_at table keys.Targets (Some (pos 8)) is_target_count
+abbrev pub stated_targets : Members → Result ℕ Wrong
+stated_targets table = number_at table keys.Targets (Some (pos 8)) is_target_count

@@ -8,19 +8,14 @@ ghost use Rattle.cxl_topofile.specs.Drafts.{port_caps_of, port_of, bridge_of, sw
 use crate::fault::Wrong;
 use crate::key::{Key, is_key};
 use crate::value::{decoders, flag, name, number, targets};
+use cxl_enc::{ADDRESS_LIMIT, PLACEHOLDER_CAP};
 use cxl_topo::{Capacity, Caps, Name, Node, NodeKind, cap_word};
 use toml::Table;
-
-/// The capability word of a placeholder: one decoder and one target.
-const PLACEHOLDER_CAP: u32 = 0x10;
 
 /// The most that a 32-bit number holds.
 const MAX_UID: u64 = 4_294_967_295;
 
 const MAX_PORT: u64 = 255;
-
-/// 2^52 bytes.
-const MAX_CAPACITY: u64 = 1 << 52;
 
 const BRIDGE_KEYS: [Key; 7] = [
     Key::Name,
@@ -192,8 +187,8 @@ pub(crate) fn read_endpoint(table: &Table) -> Result<Draft, Wrong>
     let parent = name(table, Key::Parent)?;
     let port = read_port(table)?;
     let cap = read_endpoint_cap(table)?;
-    let ram = number(table, Key::Ram, Some(0), 0, MAX_CAPACITY)?;
-    let pmem = number(table, Key::Pmem, Some(0), 0, MAX_CAPACITY)?;
+    let ram = number(table, Key::Ram, Some(0), 0, ADDRESS_LIMIT)?;
+    let pmem = number(table, Key::Pmem, Some(0), 0, ADDRESS_LIMIT)?;
     Ok(Draft {
         name: own,
         kind: NodeKind::Endpoint(Capacity { ram, pmem }),

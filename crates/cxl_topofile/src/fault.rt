@@ -4,6 +4,7 @@ ghost use Rattle.cxl_topofile.specs.declared.fault.TopoFault.TheVariants.{Memory
 use crate::key::Key;
 use cxl_topo::TreeFault;
 use std::alloc::{AllocError, AllocFailed};
+use std::fmt;
 use thiserror::Error;
 
 /// Why a file stands for no topology: the first fault of the text, then of the tables (the top table, the
@@ -14,16 +15,16 @@ pub enum TopoFault {
     #[error("no TOML document")]
     Toml,
     /// A key is missing and has no default, or it is none of its table's keys.
-    #[error("a key is missing or unknown: {0:?}")]
+    #[error("a key is missing or unknown: {0}")]
     Key(Place),
     /// The value of a key is of another kind.
-    #[error("a value is of the wrong kind: {0:?}")]
+    #[error("a value is of the wrong kind: {0}")]
     Kind(Place),
     /// The value of a key is out of its range.
-    #[error("a value is out of range: {0:?}")]
+    #[error("a value is out of range: {0}")]
     Range(Place),
     /// The nodes are no legal tree.
-    #[error("the nodes are no legal tree: {0:?}")]
+    #[error("the nodes are no legal tree: {0}")]
     Tree(TreeFault),
     #[error("out of memory")]
     Memory,
@@ -45,6 +46,19 @@ pub enum Section {
     Bridge,
     Switch,
     Endpoint,
+}
+
+impl fmt::Display for Place {
+    fn fmt<W: fmt::Write>(&self, f: &mut fmt::Formatter<W>) -> fmt::Result {
+        let index = self.index;
+        let key = self.key.shown();
+        match self.section {
+            Section::Top => write!(f, "top {key}"),
+            Section::Bridge => write!(f, "bridge {index} {key}"),
+            Section::Switch => write!(f, "switch {index} {key}"),
+            Section::Endpoint => write!(f, "endpoint {index} {key}"),
+        }
+    }
 }
 
 impl From<AllocError> for TopoFault {

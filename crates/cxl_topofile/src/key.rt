@@ -51,6 +51,14 @@ impl Key {
             Key::Unknown => "",
         }
     }
+
+    /// The key as a message names it.
+    pub(crate) fn shown(self) -> &'static str {
+        match self {
+            Key::Unknown => "unknown",
+            key => key.text(),
+        }
+    }
 }
 
 /// Whether a text is one of these keys.

@@ -1,10 +1,10 @@
 //! A topology as a TOML file: the bridges, switches and endpoints that a tester describes.
 #![tactic(auto)]
 
+mod attach;
 mod draft;
 mod fault;
 mod group;
-mod hang;
 mod key;
 mod read;
 mod sections;

@@ -1,21 +1,20 @@
 ghost use Rattle.std.specs.Prelude.{◌≡◌, ◌≤◌, Some, IfOk, IfErr, MatchResult};
+ghost use Rattle.cxl_enc.specs.Limits.{frame_limit};
 ghost use Rattle.cxl_topo.specs.Tree.{Tree};
 ghost use Rattle.cxl_topo.specs.Faults.{IsTree};
 ghost use Rattle.toml.specs.View.{table_view};
-ghost use Rattle.cxl_topofile.specs.Seen.{seen_stated};
+ghost use Rattle.cxl_topofile.specs.inner.Seen.{seen_stated};
 ghost use Rattle.cxl_topofile.specs.File.{tree_of, IsDocument, IsTopologyFile, IsFirstTopoFault};
-ghost use Rattle.cxl_topofile.specs.Answers.{IsNoDocument, IsTreeRefusal};
+ghost use Rattle.cxl_topofile.specs.inner.Answers.{IsNoDocument, IsTreeRefusal};
 
+use crate::attach::attach;
 use crate::fault::TopoFault;
-use crate::hang::hang;
 use crate::sections::read_table;
 use crate::stated::Stated;
+use cxl_enc::NODE_LIMIT;
 use cxl_topo::{Topo, TreeFault};
 use std::alloc::Global;
 use toml::Table;
-
-/// How many nodes a tree has at the most.
-const MAX_NODES: usize = 1_024;
 
 /// The topology that a file stands for, or the file's first fault. Takes memory.
 pub fn read_topo(alloc: Global, bytes: &[u8]) -> Result<Topo, TopoFault>
@@ -28,7 +27,7 @@ pub fn read_topo(alloc: Global, bytes: &[u8]) -> Result<Topo, TopoFault>
 {
     let table = read_document(alloc, bytes)?;
     let stated = read_table(alloc, &table)?;
-    plant(alloc, stated)
+    tree_from(alloc, stated)
 }
 
 fn read_document(alloc: Global, bytes: &[u8]) -> Result<Table, TopoFault>
@@ -48,9 +47,9 @@ fn read_document(alloc: Global, bytes: &[u8]) -> Result<Table, TopoFault>
 }
 
 /// The tree of these nodes, or its first fault.
-fn plant(alloc: Global, stated: Stated) -> Result<Topo, TopoFault>
+fn tree_from(alloc: Global, stated: Stated) -> Result<Topo, TopoFault>
     requires some { 1 ≤ stated.frames }
-    requires few { stated.frames ≤ 1048576 }
+    requires few { stated.frames ≤ frame_limit }
     ensures tree { IfOk result (λ topo. topo ≡ tree_of (seen_stated stated)) }
     ensures legal { IfOk result (λ _. IsTree (tree_of (seen_stated stated)).nodes) }
     ensures only { IsTree (tree_of (seen_stated stated)).nodes → IfErr result (λ fault. fault ≡ TopoFault.Memory) }
@@ -61,10 +60,10 @@ fn plant(alloc: Global, stated: Stated) -> Result<Topo, TopoFault>
         drafts,
         frames,
     } = stated;
-    if bridges.len() > MAX_NODES || drafts.len() > MAX_NODES - bridges.len() {
+    if bridges.len() > NODE_LIMIT || drafts.len() > NODE_LIMIT - bridges.len() {
         return Err(TopoFault::Tree(TreeFault::TooMany));
     }
-    let nodes = hang(bridges, &drafts)?;
+    let nodes = attach(alloc, &bridges, &drafts)?;
     match Topo::new(alloc, nodes, frames) {
         Ok(topo) => Ok(topo),
         Err(TreeFault::Memory) => Err(TopoFault::Memory),

@@ -1,11 +1,12 @@
 ghost use Rattle.std.specs.Prelude.{◌≡◌, ◌≤◌, ◌++◌, IsTrue, IfOk};
 ghost use Rattle.std.specs.List.{list_all};
+ghost use Rattle.cxl_enc.specs.Limits.{frame_limit};
 ghost use Rattle.toml.specs.Data.{as_array, no_items};
 ghost use Rattle.toml.specs.View.{view, table_view, items_view};
 ghost use Rattle.cxl_topofile.specs.Values.{value_at, Gives};
 ghost use Rattle.cxl_topofile.specs.Drafts.{bridge_of};
 ghost use Rattle.cxl_topofile.specs.Groups.{Reads, section_of, draft_of, all_of, are_tables, tables_of, tables_at, top_of, stated_of};
-ghost use Rattle.cxl_topofile.specs.Seen.{seen_top, seen_stated, is_table, AddsTable};
+ghost use Rattle.cxl_topofile.specs.inner.Seen.{seen_top, seen_stated, is_table, AddsTable};
 ghost use Rattle.std.specs.Prelude.{Some};
 
 use crate::draft::{Draft, known, read_bridge};
@@ -14,21 +15,21 @@ use crate::group::Group;
 use crate::key::Key;
 use crate::stated::{Stated, Top};
 use crate::value::{found, number};
+use cxl_enc::FRAME_LIMIT;
 use cxl_topo::Node;
 use std::alloc::Global;
 use toml::{Table, Value};
 
 const TOP_KEYS: [Key; 4] = [Key::Frames, Key::Bridge, Key::Switch, Key::Endpoint];
 
+/// The frames of a file that states none.
 const DEFAULT_FRAMES: i64 = 65_536;
-
-const MAX_FRAMES: u64 = 1_048_576;
 
 /// The nodes and frames that a file states, or its first fault.
 #[tactic(auto, unfolding(crate::specs::Groups::stated_of))]
 pub(crate) fn read_table(alloc: Global, table: &Table) -> Result<Stated, TopoFault>
     ensures stated { Reads seen_stated result (stated_of (table_view table.now)) }
-    ensures frames { IfOk result (λ stated. (1 ≤ stated.frames) × (stated.frames ≤ 1048576)) }
+    ensures frames { IfOk result (λ stated. (1 ≤ stated.frames) × (stated.frames ≤ frame_limit)) }
 {
     let top = match read_top(table) {
         Ok(top) => top,
@@ -48,13 +49,19 @@ pub(crate) fn read_table(alloc: Global, table: &Table) -> Result<Stated, TopoFau
 #[tactic(auto, unfolding(crate::specs::Groups::top_of))]
 fn read_top(table: &Table) -> Result<Top<'_>, Wrong>
     ensures top { Gives seen_top result (top_of (table_view table.now)) }
-    ensures frames { IfOk result (λ top. (1 ≤ top.frames) × (top.frames ≤ 1048576)) }
+    ensures frames { IfOk result (λ top. (1 ≤ top.frames) × (top.frames ≤ frame_limit)) }
     ensures bridges { IfOk result (λ top. IsTrue (are_tables (items_view top.bridges.now))) }
     ensures switches { IfOk result (λ top. IsTrue (are_tables (items_view top.switches.now))) }
     ensures endpoints { IfOk result (λ top. IsTrue (are_tables (items_view top.endpoints.now))) }
 {
     known(table, &TOP_KEYS)?;
-    let frames = number(table, Key::Frames, Some(DEFAULT_FRAMES), 1, MAX_FRAMES)?;
+    let frames = number(
+        table,
+        Key::Frames,
+        Some(DEFAULT_FRAMES),
+        1,
+        u64::from(FRAME_LIMIT),
+    )?;
     let bridges = tables(table, Key::Bridge)?;
     let switches = tables(table, Key::Switch)?;
     let endpoints = tables(table, Key::Endpoint)?;
@@ -107,7 +114,8 @@ fn read_bridges(alloc: Global, values: &[Value]) -> Result<Vec<Node>, TopoFault>
     requires { IsTrue (are_tables (items_view values.now)) }
     ensures { Reads (λ nodes. nodes.items) result (all_of Section.Bridge bridge_of 0 (tables_of (items_view values.now))) }
 {
-    // More tables than a 32-bit number counts are more than memory holds.
+    // A file within the limit has fewer tables. Where a longer one has more than a 32-bit number counts, no place
+    // could be told, so it is refused as if memory were short.
     if values.len() > u32::MAX as usize {
         return Err(TopoFault::Memory);
     }
@@ -134,6 +142,7 @@ fn read_drafts(alloc: Global, group: Group, values: &[Value]) -> Result<Vec<Draf
     requires { IsTrue (are_tables (items_view values.now)) }
     ensures { Reads (λ drafts. drafts.items) result (all_of (section_of group) (draft_of group) 0 (tables_of (items_view values.now))) }
 {
+    // As for bridges.
     if values.len() > u32::MAX as usize {
         return Err(TopoFault::Memory);
     }

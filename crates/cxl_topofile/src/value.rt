@@ -3,7 +3,7 @@ ghost use Rattle.cxl_enc.specs.Caps.{is_decoder_count, is_target_count};
 ghost use Rattle.toml.specs.Data.{get_member, as_integer, as_bool, as_str};
 ghost use Rattle.toml.specs.View.{view, table_view};
 ghost use Rattle.cxl_topofile.specs.Keys.{text_of};
-ghost use Rattle.cxl_topofile.specs.Values.{value_at, number_at, natural, is_within, within, is_name, flag_at, name_at, decoders_at, targets_at, Gives};
+ghost use Rattle.cxl_topofile.specs.Values.{value_at, number_at, natural, is_within, within, is_name, flag_at, stated_name, stated_decoders, stated_targets, Gives};
 
 use crate::fault::Wrong;
 use crate::key::Key;
@@ -46,9 +46,9 @@ fn text(table: &Table, key: Key) -> Result<&str, Wrong>
 }
 
 /// The name at a key.
-#[tactic(auto, unfolding(crate::specs::Values::name_at))]
+#[tactic(auto, unfolding(crate::specs::Values::stated_name))]
 pub(crate) fn name(table: &Table, key: Key) -> Result<Name, Wrong>
-    ensures { result ≡ name_at (table_view table.now) key }
+    ensures { result ≡ stated_name (table_view table.now) key }
 {
     read_name(key, text(table, key)?)
 }
@@ -99,7 +99,7 @@ pub(crate) fn number(
 /// The number of decoders.
 #[tactic(auto, unfolding(crate::specs::Values::number_at))]
 pub(crate) fn decoders(table: &Table) -> Result<u8, Wrong>
-    ensures decoders { result ≡ decoders_at (table_view table.now) }
+    ensures decoders { result ≡ stated_decoders (table_view table.now) }
     ensures count { IfOk result (λ n. IsTrue (is_decoder_count n)) }
 {
     let key = Key::Decoders;
@@ -115,7 +115,7 @@ pub(crate) fn decoders(table: &Table) -> Result<u8, Wrong>
 /// The number of targets.
 #[tactic(auto, unfolding(crate::specs::Values::number_at))]
 pub(crate) fn targets(table: &Table) -> Result<u8, Wrong>
-    ensures targets { result ≡ targets_at (table_view table.now) }
+    ensures targets { result ≡ stated_targets (table_view table.now) }
     ensures count { IfOk result (λ n. IsTrue (is_target_count n)) }
 {
     let key = Key::Targets;

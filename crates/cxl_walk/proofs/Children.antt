@@ -5,7 +5,7 @@ use Rattle.std.specs.Option.{option_map_or, option_and_then}
 use Rattle.std.proofs.lemmas.Option.{none-some, same_Some, slice_get_within}
 use Rattle.cxl_topo.specs.declared.node.Node.{Node}
 use Rattle.cxl_topo.specs.declared.node.Parent.{Parent}
-use Rattle.cxl_topo.specs.Tree.{is_bridge_at, forwards_at, parent_of, child_of, first_child_of, ports_above}
+use Rattle.cxl_topo.specs.Tree.{is_bridge_at, forwards_at, parent_of, child_of, least_child_of, ports_above}
 use Rattle.cxl_topo.specs.Faults.{IsTree}
 use Rattle.cxl_topo.specs.Laws.{AreTreeLaws}
 
@@ -48,7 +48,7 @@ module _ (nodes : List Node) (tree : IsTree nodes) (laws : AreTreeLaws nodes) wh
   pub child_at_port : (n p c : ℕ) → child_of nodes n p ≡ Some c → IsChild nodes n c
   child_at_port n p c is = stands n c (record { node = n; port = p }) ((laws.children n p c).0 is) refl
 
-  pub only_child : (n c : ℕ) → forwards_at nodes n ≡ true → first_child_of nodes n ≡ Some c → IsChild nodes n c
+  pub only_child : (n c : ℕ) → forwards_at nodes n ≡ true → least_child_of nodes n ≡ Some c → IsChild nodes n c
   only_child n c forwards is = go (parent_of nodes c) refl ((laws.only_children n c forwards).0 is)
     where
       go : (o : Option Parent) → parent_of nodes c ≡ o → option_map (λ parent. parent.node) o ≡ Some n → IsChild nodes n c

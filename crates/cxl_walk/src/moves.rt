@@ -47,7 +47,7 @@ pub(crate) fn move_at(image: &Image, topo: &Topo, node: u32, h: u64) -> Result<N
     if !topo.node(node).forwards {
         return decode(image, topo, node, h);
     }
-    match topo.first_child(node) {
+    match topo.least_child(node) {
         Some(child) => Ok(Next::Forwards(child)),
         None => Err(Miss::NoChild(node)),
     }

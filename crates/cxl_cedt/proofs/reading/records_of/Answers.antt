@@ -1,6 +1,6 @@
 use Rattle.std.proofs.Common.{sym, ap, ◌∙◌, arith}
 use Rattle.std.proofs.lemmas.List.{take_rest}
-use Rattle.cxl_cedt.specs.Decoding.{record_of}
+use Rattle.cxl_cedt.specs.inner.Decoding.{record_of}
 use Rattle.cxl_cedt.proofs.Fronts.{has_record}
 use Rattle.cxl_cedt.proofs.Scanning.{read_none, read_more, place_of}
 use Rattle.cxl_cedt.proofs.reading.records_of.Goals as goal

@@ -1,5 +1,5 @@
 use Rattle.std.proofs.Common.{length}
-use Rattle.cxl_cedt.specs.Scan.{AreReadTo}
+use Rattle.cxl_cedt.specs.inner.Scan.{AreReadTo}
 use Rattle.cxl_cedt.proofs.reading.records_of.Given as goal
 
 -- the records so far stand in front of the rest

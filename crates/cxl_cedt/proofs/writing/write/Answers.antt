@@ -1,4 +1,5 @@
 use Rattle.std.proofs.Common.{◌≤◌, ◌%◌, ℕ, List, length, sum, sym, ap, subst, ◌∙◌}
+use Rattle.cxl_enc.specs.Limits.{file_limit}
 use Rattle.cxl_cedt.specs.Table.{IsTableText}
 use Rattle.cxl_cedt.proofs.Laws.{one_table}
 use Rattle.cxl_cedt.proofs.Spelled.{spelled_table, spelled_fits, sealed}
@@ -11,7 +12,7 @@ returns-clause-spelling c =
 pub returns-clause-fits : goal.returns-clause-fits
 returns-clause-fits c =
     let is = sealed c.args.cedt.now c.in_ok-out.out.items c.checksum.result c.in_ok-out.ensures.spelled (c.checksum.ensures ∙ ap (λ (t : List ℕ). sum t % 256) c.deref.ensures.value) in
-    subst (λ (t : List ℕ). length t ≤ 1048576) (sym is) (spelled_fits c.args.cedt.now c.in_ok-out.ensures.sound)
+    subst (λ (t : List ℕ). length t ≤ file_limit) (sym is) (spelled_fits c.args.cedt.now c.in_ok-out.ensures.sound)
 
 pub returns-clause-table : goal.returns-clause-table
 returns-clause-table c =

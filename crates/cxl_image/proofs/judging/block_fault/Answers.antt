@@ -1,7 +1,7 @@
 use Rattle.std.proofs.Common.{◌≡◌, subst, arith}
 use Rattle.cxl_image.specs.Fields.{start_of, word_from, named_bits}
 use Rattle.cxl_image.specs.File.{AgreesUpTo}
-use Rattle.cxl_image.proofs.Places.{start_next}
+use Rattle.cxl_image.proofs.Places.{start_next, block_long, place_few}
 use Rattle.cxl_image.proofs.Agreeing.{agrees_next, cut_before, cut_inside}
 use Rattle.cxl_image.proofs.judging.block_fault.Goals as goal
 
@@ -26,3 +26,14 @@ pub returns-clause-whole : goal.returns-clause-whole
 returns-clause-whole c =
     let next = start_next c.args.topo.now.nodes c.args.i c.node-node.result.now c.node-node.ensures in
     omega (arith, next, c.requires.place, c.if-len-at-2.false, c.block_size.ensures.size)
+
+pub overflow_cast-result : goal.overflow_cast-result
+overflow_cast-result c =
+    let few = place_few c.args.topo.now.nodes c.requires.tree c.args.i c.node-node.result.now c.node-node.ensures in
+    let long = block_long c.node-node.result.now in
+    omega (arith, c.requires.place, c.if-len-at.true)
+
+pub overflow_cast-result-then-len-at-2 : goal.overflow_cast-result-then-len-at-2
+overflow_cast-result-then-len-at-2 c =
+    let few = place_few c.args.topo.now.nodes c.requires.tree c.args.i c.node-node.result.now c.node-node.ensures in
+    omega (arith, c.requires.place, c.if-len-at-2.true, c.block_size.ensures.size)

@@ -1,4 +1,5 @@
 use Rattle.std.proofs.Common.{◌≤◌, List, ℕ, length, Result, Ok, Err, IfOk, sym, subst}
+use Rattle.cxl_image.specs.Fields.{image_limit}
 use Rattle.cxl_image.specs.File.{IsImageFile}
 use Rattle.cxl_image.proofs.Readings.{one_image}
 use Rattle.cxl_image.proofs.Texts.{image_is_file, image_short}
@@ -10,7 +11,7 @@ ok_then (Ok x) known next = next x known
 ok_then (Err e) known next = tt
 
 pub returns-clause-fits : goal.returns-clause-fits
-returns-clause-fits c = ok_then c.text_of.result c.text_of.ensures.text (λ bytes is. subst (λ (t : List ℕ). length t ≤ 1048576) (sym is) (image_short c.args.image.now c.text_of.ensures.image))
+returns-clause-fits c = ok_then c.text_of.result c.text_of.ensures.text (λ bytes is. subst (λ (t : List ℕ). length t ≤ image_limit) (sym is) (image_short c.args.image.now c.text_of.ensures.image))
 
 pub returns-clause-file : goal.returns-clause-file
 returns-clause-file c = ok_then c.text_of.result c.text_of.ensures.text (λ bytes is nodes caps.

@@ -8,4 +8,4 @@ pub returns-in-Bridge : goal.returns-in-Bridge
 returns-in-Bridge c =
     let nodes = c.args.nodes.now in
     let node = c.index-nodes-i in
-    on_ok_weaker c.enter.result (entered nat_cmp is_bridge_with nodes c.args.i node.result c.requires.below node.is c.args.table.now c.enter.new.table c.in-Bridge.uid c.requires.listed (is_bridge_with-own node.result c.in-Bridge.uid c.in-Bridge.is)) c.enter.ensures
+    on_ok_weaker c.enter_first.result (entered nat_cmp is_bridge_with nodes c.args.i node.result c.requires.below node.is c.args.table.now c.enter_first.new.table c.in-Bridge.uid c.requires.listed (is_bridge_with-own node.result c.in-Bridge.uid c.in-Bridge.is)) c.enter_first.ensures

@@ -11,7 +11,7 @@ returns c = λ node here.
     rw (node_is nodes c.args.i node own c.requires.below c.index-nodes-i.is here) (none_hold c.args.i
     (sym c.lacks_parent.ensures ∙ c.if-lacks_parent.false)
     (sym (c.has_taken_port.ensures earlier tables.children) ∙ c.if-has_taken_port.false)
-    (sym (c.forks.ensures tables.first_children) ∙ c.if-forks.false)
+    (sym (c.forks.ensures tables.least_children) ∙ c.if-forks.false)
     (sym (c.has_taken_name.ensures earlier tables.names) ∙ c.if-has_taken_name.false)
     (sym (c.has_taken_uid.ensures earlier tables.bridges) ∙ c.if-has_taken_uid.false)
     (sym c.is_too_deep.ensures ∙ c.if-is_too_deep.false)

@@ -1,0 +1,95 @@
+ghost use Rattle.std.specs.Prelude.{◌≡◌, [], ◌∷◌, ◌++◌, false, OnOk};
+ghost use Rattle.cxl_cedt.specs.Records.{kind_of, is_kind_full, HasFewOfEach};
+
+use crate::cedt::Record;
+use crate::layout::{CFMWS_KIND, CHBS_KIND, CXIMS_KIND, KIND_LIMIT};
+use cxl_enc::Memory;
+use std::alloc::Global;
+use std::marker::Model;
+
+/// The records found so far, counted by type.
+#[derive(Drop)]
+pub struct CountedRecords {
+    records: Vec<Record>,
+    chbs: u8,
+    cfmws: u8,
+    cxims: u8,
+}
+
+impl Model for CountedRecords {
+    ghost use Rattle.std.specs.Prelude.{List};
+    ghost use Rattle.cxl_cedt.specs.declared.cedt.Record.{Record};
+    ghost use Rattle.cxl_cedt.specs.inner.Counted.{IsCounted};
+
+    ghost Value = { List Record };
+
+    ghost view = { λ found. found.records.items };
+
+    ghost invariant = { λ found. IsCounted found.records.items found.chbs found.cfmws found.cxims };
+}
+
+impl CountedRecords {
+    pub fn new(alloc: Global) -> CountedRecords
+        ensures { result ≡ [] }
+    {
+        CountedRecords {
+            records: Vec::new(alloc),
+            chbs: 0,
+            cfmws: 0,
+            cxims: 0,
+        }
+    }
+
+    /// Whether no more records of this type may come.
+    pub fn is_kind_full(&self, kind: u8) -> bool
+        ensures { result ≡ is_kind_full kind self.now }
+    {
+        match kind {
+            CHBS_KIND => self.chbs == KIND_LIMIT,
+            CFMWS_KIND => self.cfmws == KIND_LIMIT,
+            CXIMS_KIND => self.cxims == KIND_LIMIT,
+            _ => false,
+        }
+    }
+
+    /// Adds a record at the end.
+    pub fn push(&mut self, next: Record) -> Result<(), Memory>
+        requires { is_kind_full (kind_of next) self.old ≡ false }
+        ensures { OnOk result (self.new ≡ self.old ++ next ∷ []) }
+    {
+        let kind = kind_of(&next);
+        self.records.push(next)?;
+        match kind {
+            CHBS_KIND => self.chbs += 1,
+            CFMWS_KIND => self.cfmws += 1,
+            CXIMS_KIND => self.cxims += 1,
+            _ => {}
+        }
+        Ok(())
+    }
+
+    /// The records in order.
+    pub fn into_records(self) -> Vec<Record>
+        ensures records { result.items ≡ self }
+        ensures few { HasFewOfEach self }
+    {
+        let CountedRecords {
+            records,
+            chbs: _,
+            cfmws: _,
+            cxims: _,
+        } = self;
+        records
+    }
+}
+
+pub fn kind_of(item: &Record) -> u8
+    ensures { result ≡ kind_of item.now }
+{
+    match item {
+        Record::Chbs(_) => CHBS_KIND,
+        Record::Cfmws(_) => CFMWS_KIND,
+        Record::Cxims(_) => CXIMS_KIND,
+        Record::Other(other) => other.kind(),
+    }
+}

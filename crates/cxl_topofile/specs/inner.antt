@@ -1,0 +1,4 @@
+-- Definitions that only the inner calls and the proofs speak of.
+pub mod Seen
+pub mod Answers
+pub mod Ports
