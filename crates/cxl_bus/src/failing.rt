@@ -1,11 +1,12 @@
 ghost use Rattle.std.specs.Prelude.{◌≡◌, ◌≤◌, [], Some, IfOk, OnOk, OnErr, is_err};
 ghost use Rattle.cxl_regs.specs.Blocks.{IsPlace, HasPlacesOf, word_in};
-ghost use Rattle.cxl_bus.specs.Failing.{Failing, fails_next, write_fails, after_read, after_write, one_more};
+ghost use Rattle.cxl_enc.specs.Counters.{fresh_counters, fails_next};
+ghost use Rattle.cxl_bus.specs.Failing.{is_write_failing, after_read, after_write};
 
 use crate::regs::Regs;
 use crate::sent::Sent;
 use crate::sim::SimBus;
-use cxl_enc::{Failed, Memory};
+use cxl_enc::{Failed, FailingCalls, Memory};
 use cxl_regs::Block;
 use std::alloc::Global;
 use std::marker::Model;
@@ -18,9 +19,7 @@ const ROOM: usize = 65_536;
 #[derive(Debug, Drop)]
 pub struct FailingBus {
     bus: SimBus,
-    fails: Vec<u64>,
-    calls: u64,
-    faults: u64,
+    counters: FailingCalls,
     trail: Vec<Sent>,
 }
 
@@ -31,7 +30,7 @@ impl Model for FailingBus {
 
     ghost Value = { Failing };
 
-    ghost view = { λ b. record { blocks = b.bus; fails = b.fails.items; calls = b.calls; faults = b.faults; trail = b.trail.items } };
+    ghost view = { λ b. record { blocks = b.bus; counters = b.counters; trail = b.trail.items } };
 
     // Where there are blocks to write to, the trail has all its room.
     ghost invariant = { λ b. 0 < length b.bus → 65536 ≤ vec_capacity b.trail };
@@ -40,13 +39,11 @@ impl Model for FailingBus {
 impl FailingBus {
     /// A bus with no block, and the numbers of the calls that are to fail. Takes no memory.
     pub fn new(alloc: Global, fails: Vec<u64>) -> FailingBus
-        ensures { result ≡ record { blocks = []; fails = fails.items; calls = 0; faults = 0; trail = [] } }
+        ensures { result ≡ record { blocks = []; counters = fresh_counters fails.items; trail = [] } }
     {
         FailingBus {
             bus: SimBus::new(alloc),
-            fails,
-            calls: 0,
-            faults: 0,
+            counters: FailingCalls::new(fails),
             trail: Vec::new(alloc),
         }
     }
@@ -57,24 +54,6 @@ impl FailingBus {
     {
         &self.trail
     }
-
-    /// Counts a call, and tells whether it is one that is to fail.
-    fn counts_failing_call(&mut self) -> bool
-        ensures counted { self.new ≡ record self.old { calls = one_more self.old.calls } }
-        ensures fails { result ≡ fails_next self.old }
-    {
-        self.calls = self.calls.saturating_add(1);
-        self.fails.contains(&self.calls)
-    }
-
-    /// Counts a fault.
-    fn fault(&mut self) -> Failed
-        ensures counted { self.new ≡ record self.old { faults = one_more self.old.faults } }
-        ensures rises { self.old.faults ≤ self.new.faults }
-    {
-        self.faults = self.faults.saturating_add(1);
-        Failed
-    }
 }
 
 impl Regs for FailingBus {
@@ -82,7 +61,7 @@ impl Regs for FailingBus {
 
     ghost trail = { λ bus. Some bus.trail };
 
-    ghost faults = { λ bus. bus.faults };
+    ghost faults = { λ bus. bus.counters.faults };
 
     fn power_on(&mut self, alloc: Global, start: &[Block]) -> Result<(), Memory>
         // The calls and the faults are counted on.
@@ -99,12 +78,13 @@ impl Regs for FailingBus {
         requires { IsPlace self.old.blocks node off }
         ensures word { IfOk result (λ word. word_in self.old.blocks node off ≡ Some word) }
         // It fails at the calls of its list, and nowhere else.
-        ensures fails { is_err result ≡ fails_next self.old }
+        ensures fails { is_err result ≡ fails_next self.old.counters }
         ensures after { self.new ≡ after_read self.old }
-        ensures counts { self.old.faults ≤ self.new.faults }
+        ensures counts { self.old.counters.faults ≤ self.new.counters.faults }
     {
-        if self.counts_failing_call() {
-            return Err(self.fault());
+        if self.counters.begin() {
+            self.counters.fault();
+            return Err(Failed);
         }
         self.bus.read32(node, off)
     }
@@ -112,13 +92,14 @@ impl Regs for FailingBus {
     fn write32(&mut self, node: u32, off: u32, value: u32) -> Result<(), Failed>
         requires { IsPlace self.old.blocks node off }
         // It fails at the calls of its list and where its trail is full, and nowhere else.
-        ensures fails { is_err result ≡ write_fails self.old }
+        ensures fails { is_err result ≡ is_write_failing self.old }
         ensures after { self.new ≡ after_write self.old node off value }
         ensures same_places { HasPlacesOf self.old.blocks self.new.blocks }
-        ensures counts { self.old.faults ≤ self.new.faults }
+        ensures counts { self.old.counters.faults ≤ self.new.counters.faults }
     {
-        if self.counts_failing_call() || self.trail.len() >= ROOM {
-            return Err(self.fault());
+        if self.counters.begin() || self.trail.len() >= ROOM {
+            self.counters.fault();
+            return Err(Failed);
         }
         self.bus.write32(node, off, value)?;
         self.trail.push_reserved(Sent { node, off, value });

@@ -2,5 +2,6 @@ pub mod Codes
 pub mod Caps
 pub mod Name
 pub mod Faults
+pub mod Counters
 pub mod Limits
 pub mod NameInside

@@ -1,9 +1,11 @@
 //! What every crate of `cxlplan` speaks in: the codes of ways and granularity, names, capability
-//! words, limits, lists that stay as they were made, and how a call says that it failed.
+//! words, limits, lists that stay as they were made, how a call says that it failed, and calls that are to
+//! fail.
 #![tactic(auto)]
 
 mod caps;
 mod codes;
+mod counters;
 mod faults;
 mod fixed_list;
 mod limits;
@@ -11,6 +13,7 @@ mod name;
 
 pub use caps::{Caps, MemKind, cap_word, legal_cap};
 pub use codes::{Factors, code_of, gran_code, gran_of, split, ways_of};
+pub use counters::FailingCalls;
 pub use faults::{Failed, Memory};
 pub use fixed_list::FixedList;
 pub use limits::{

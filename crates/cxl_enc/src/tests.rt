@@ -89,3 +89,13 @@ fn lists(rt: HostRuntime) -> Result<(), Fail> {
     assert_eq!(rt; list.items(), [3, 1, 2].as_slice());
     Ok(())
 }
+
+#[test]
+fn calls_that_fail(rt: HostRuntime) -> Result<(), Fail> {
+    let mut calls = FailingCalls::new([2, 4].to_vec(rt.alloc())?);
+    for fails in [false, true, false, true, false] {
+        assert_eq!(rt; calls.begin(), fails);
+    }
+    calls.fault();
+    Ok(())
+}
