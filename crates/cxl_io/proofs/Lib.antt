@@ -1,4 +1,4 @@
-pub mod ToldLemmas
+pub mod Writes
 pub mod Values
 pub mod ReadBack
 pub mod HexText

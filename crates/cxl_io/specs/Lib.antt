@@ -1,7 +1,7 @@
 pub mod Told
-pub mod Counters
 pub mod Numbers
 pub mod Printed
-pub mod Files
+pub mod Fetch
 pub mod MemoryFiles
+pub mod Sink
 pub mod MemorySink

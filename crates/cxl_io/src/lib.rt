@@ -2,7 +2,6 @@
 //! shows that it failed.
 #![tactic(auto)]
 
-mod counters;
 mod fetch;
 mod mem_fetch;
 mod mem_sink;

@@ -124,6 +124,20 @@ fn files_in_memory(rt: HostRuntime) -> Result<(), Fail> {
     Ok(())
 }
 
+/// The names are noted in order, whatever comes of them.
+#[test]
+fn names_in_memory(rt: HostRuntime) -> Result<(), Fail> {
+    let alloc = rt.alloc();
+    let mut memory = MemFetch::new(Vec::new(alloc), Vec::new(alloc));
+    for name in ["table", "image"] {
+        assert_eq!(rt; memory.fetch(alloc, name).err(), Some(FetchFault::Failed));
+    }
+    assert_eq!(rt; memory.asked().len(), 2);
+    assert_eq!(rt; memory.asked()[0].as_str(), "table");
+    assert_eq!(rt; memory.asked()[1].as_str(), "image");
+    Ok(())
+}
+
 /// A file of the system is read whole, a larger one than may be is refused, and so is a missing one.
 #[test]
 fn files_of_the_system(rt: HostRuntime) -> Result<(), Fail> {
