@@ -2,3 +2,5 @@ pub mod Writes
 pub mod Values
 pub mod ReadBack
 pub mod HexText
+pub mod LineBreaks
+pub mod Reading

@@ -5,3 +5,8 @@ pub mod Fetch
 pub mod MemoryFiles
 pub mod Sink
 pub mod MemorySink
+pub mod Source
+pub mod MemorySource
+pub mod Lines
+pub mod Reader
+pub mod ReaderSteps

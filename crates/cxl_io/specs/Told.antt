@@ -17,3 +17,8 @@ abbrev pub AreTold : Told → List ℕ → Type 0
 AreTold Untold bytes = Unit {0}
 AreTold Absent bytes = ⊥
 AreTold (Bytes told) bytes = bytes ≡ told
+
+-- what is told of a list, with these in front
+abbrev pub told_behind : {A : Type 0} → List A → Option (List A) → Option (List A)
+told_behind front None = None
+told_behind front (Some told) = Some (front ++ told)
