@@ -4,3 +4,4 @@ pub mod ReadBack
 pub mod HexText
 pub mod LineBreaks
 pub mod Reading
+pub mod HasRead

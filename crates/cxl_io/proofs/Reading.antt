@@ -3,12 +3,12 @@ use Rattle.std.proofs.Common.{◌≡◌, ℕ, zero, suc, ◌+◌, ◌-◌, ◌<�
 use Rattle.std.specs.Prelude.{nat_le, slice_index}
 use Rattle.std.specs.Str.Lines.{strip_carriage_return}
 use Rattle.std.proofs.lemmas.Bool.{leb-true, leb-false}
-use Rattle.std.proofs.lemmas.List.{append-nil, take_all, length-take, take_min, drop-take, drop-drop}
+use Rattle.std.proofs.lemmas.List.{append-nil, take_all, take-append-le, length-take, take_min, drop-take, drop-drop}
 use Rattle.std.proofs.Math.Seq.{take-append-add}
 use Rattle.cxl_enc.specs.Faults.{Rose}
 use Rattle.cxl_io.specs.Lines.{ended_lines}
-use Rattle.cxl_io.specs.Reader.{Reader, line_limit, script_limit, within_limit, TakesFrom, IsPassed, IsNext, ended, last, at_end, fails, too_much}
-use Rattle.cxl_io.specs.ReaderSteps.{kept_limit, kept_with, PassesBreak, PassesAll, Refills, judged}
+use Rattle.cxl_io.specs.Reader.{Reader, line_limit, script_limit, next_bytes, TakesFrom, IsPassed, IsNext, ended, last, at_end, fails, too_much}
+use Rattle.cxl_io.specs.ReaderSteps.{kept_limit, kept_with, PassesBreak, PassesAll, Refills, line_answer, last_answer}
 use Rattle.cxl_io.specs.Source.{SourceState, Gives, IsAtEnd}
 use Rattle.cxl_io.specs.Told.{told_behind}
 use Rattle.cxl_io.specs.declared.line_reader.Taken.{Taken}
@@ -47,8 +47,8 @@ not_over taken few = by (le_or_more taken script_limit)
     by (inr over) = absurd (few over)
 
 -- a reader with these fields
-unfoldable pub reader_with : ℕ → List ℕ → List ℕ → Bool → Reader
-reader_with taken held line failed = record { taken = taken; held = held; line = line; failed = failed }
+unfoldable pub reader_with : ℕ → List ℕ → List ℕ → Option Taken → Reader
+reader_with taken held line stop = record { taken = taken; held = held; line = line; stop = stop }
 
 -- the bytes of a block behind those that are passed
 pub held-drop : (block : List ℕ) (at end n : ℕ) → at + n ≤ end → drop n (take (end - at) (drop at block)) ≡ take (end - (at + n)) (drop (at + n) block)
@@ -85,32 +85,32 @@ judge_by : (t : Bool) (line : List ℕ) (new : Reader) (answer : Taken) → nat_
 judge_by true line new answer e is same = inl (leb-true (length line) line_limit e, same, is)
 judge_by false line new answer e is same = inr (leb-false (length line) line_limit e, is)
 
-passed_judged : (line : List ℕ) (new : Reader) (answer : Taken) → answer ≡ judged line → new.line ≡ line → IsPassed line new answer
-passed_judged line new answer is same = judge_by (nat_le (length line) line_limit) line new answer refl is same
+passed_line_answer : (line : List ℕ) (new : Reader) (answer : Taken) → answer ≡ line_answer line → new.line ≡ line → IsPassed line new answer
+passed_line_answer line new answer is same = judge_by (nat_le (length line) line_limit) line new answer refl is same
 
 -- a line of which not all is kept is too long
 long_by : (t : Bool) (kept line : List ℕ) (new : Reader) (answer : Taken) → nat_le (length kept) line_limit ≡ t → answer ≡ cond t Line Long → line_limit < length kept → line_limit < length line → IsPassed line new answer
 long_by true kept line new answer e is long long' = let short = leb-true (length kept) line_limit e in absurd (omega arith)
 long_by false kept line new answer e is long long' = inr (long', is)
 
-pub passed_ended : (piece : List ℕ) (new : Reader) (answer : Taken) → answer ≡ judged (strip_carriage_return (take kept_limit piece)) → new.line ≡ strip_carriage_return (take kept_limit piece) → IsPassed (strip_carriage_return piece) new answer
+pub passed_ended : (piece : List ℕ) (new : Reader) (answer : Taken) → answer ≡ line_answer (strip_carriage_return (take kept_limit piece)) → new.line ≡ strip_carriage_return (take kept_limit piece) → IsPassed (strip_carriage_return piece) new answer
 passed_ended piece new answer is same = by (le_or_more (length piece) kept_limit)
   where
     by : (length piece ≤ kept_limit) ⊎ (kept_limit < length piece) → IsPassed (strip_carriage_return piece) new answer
     by (inl few) =
         let whole : strip_carriage_return (take kept_limit piece) ≡ strip_carriage_return piece = ap strip_carriage_return (take_all kept_limit piece few) in
-        passed_judged (strip_carriage_return piece) new answer (is ∙ ap judged whole) (same ∙ whole)
+        passed_line_answer (strip_carriage_return piece) new answer (is ∙ ap line_answer whole) (same ∙ whole)
     by (inr many) =
         let kept = strip_carriage_return (take kept_limit piece) in
         long_by (nat_le (length kept) line_limit) kept (strip_carriage_return piece) new answer refl is
         (omega (arith, kept_limit-is, length-strip (take kept_limit piece), length-take kept_limit piece)) (omega (arith, kept_limit-is, length-strip piece))
 
-pub passed_last : (piece : List ℕ) (new : Reader) (answer : Taken) → answer ≡ judged (take kept_limit piece) → new.line ≡ take kept_limit piece → IsPassed piece new answer
+pub passed_last : (piece : List ℕ) (new : Reader) (answer : Taken) → answer ≡ line_answer (take kept_limit piece) → new.line ≡ take kept_limit piece → IsPassed piece new answer
 passed_last piece new answer is same = by (le_or_more (length piece) kept_limit)
   where
     by : (length piece ≤ kept_limit) ⊎ (kept_limit < length piece) → IsPassed piece new answer
     by (inl few) =
-        let whole = take_all kept_limit piece few in passed_judged piece new answer (is ∙ ap judged whole) (same ∙ whole)
+        let whole = take_all kept_limit piece few in passed_line_answer piece new answer (is ∙ ap line_answer whole) (same ∙ whole)
     by (inr many) =
         long_by (nat_le (length (take kept_limit piece)) line_limit) (take kept_limit piece) piece new answer refl is
         (omega (arith, kept_limit-is, length-take kept_limit piece)) (omega (arith, kept_limit-is))
@@ -135,8 +135,20 @@ take-nil : (k : ℕ) → take k (let none : List ℕ = [] in none) ≡ []
 take-nil zero = refl
 take-nil (suc k) = refl
 
+-- so many of two lists
+pub take-append : (n : ℕ) (xs ys : List ℕ) → take n (xs ++ ys) ≡ take n xs ++ take (n - length xs) ys
+take-append n xs ys = by (le_or_more (length xs) n)
+  where
+    by : (length xs ≤ n) ⊎ (n < length xs) → take n (xs ++ ys) ≡ take n xs ++ take (n - length xs) ys
+    by (inl few) =
+        let room : n ≡ length xs + (n - length xs) = omega arith in
+        ap (λ k. take k (xs ++ ys)) room ∙ take-append-add xs ys (n - length xs) ∙ ap (λ front. front ++ take (n - length xs) ys) (sym (take_all n xs few))
+    by (inr many) =
+        let none : n - length xs ≡ 0 = omega arith in
+        take-append-le n xs ys (omega arith) ∙ sym (append-nil (take n xs)) ∙ ap (λ k. take n xs ++ take k ys) (sym none)
+
 -- bytes up to the limit, and then others
-within-append : (taken : ℕ) (xs ys : List ℕ) → taken + length xs ≤ script_limit → within_limit taken (xs ++ ys) ≡ within_limit taken xs ++ within_limit (taken + length xs) ys
+within-append : (taken : ℕ) (xs ys : List ℕ) → taken + length xs ≤ script_limit → take (script_limit - taken) (xs ++ ys) ≡ take (script_limit - taken) xs ++ take (script_limit - (taken + length xs)) ys
 within-append taken xs ys few =
     let all : take (script_limit - taken) xs ≡ xs = take_all (script_limit - taken) xs (omega arith) in
     let room : script_limit - taken ≡ length xs + (script_limit - (taken + length xs)) = omega arith in
@@ -150,10 +162,10 @@ pub record IsReading (old now : Reader) (before after : SourceState) : Type 0 wh
   pub bytes : List ℕ
   pub takes : TakesFrom old now before after bytes
   pub piece : List ℕ
-  pub all : old.held ++ within_limit old.taken bytes ≡ piece ++ now.held
+  pub all : next_bytes old bytes ≡ piece ++ now.held
   pub unbroken : ended_lines piece ≡ []
   pub kept : now.line ≡ take kept_limit piece
-  pub going : now.failed ≡ false
+  pub going : now.stop ≡ None
 
 takes_as : (old now next : Reader) (before after : SourceState) (bytes : List ℕ) → next.taken ≡ now.taken → TakesFrom old now before after bytes → TakesFrom old next before after bytes
 takes_as old now next before after bytes same takes = record {
@@ -163,7 +175,7 @@ takes_as old now next before after bytes same takes = record {
   few = subst (λ n. n ≤ script_limit + 1) (sym same) takes.few;
 }
 
-pub reading-begin : (old now : Reader) (state : SourceState) → now ≡ record old { line = [] } → old.failed ≡ false → old.taken ≤ script_limit + 1 → IsReading old now state state
+pub reading-begin : (old now : Reader) (state : SourceState) → now ≡ record old { line = [] } → old.stop ≡ None → old.taken ≤ script_limit + 1 → IsReading old now state state
 reading-begin old now state is going few = record {
   bytes = [];
   takes = record {
@@ -176,7 +188,7 @@ reading-begin old now state is going few = record {
   all = ap (λ bytes. old.held ++ bytes) (take-nil (script_limit - old.taken)) ∙ append-nil old.held ∙ sym (ap (λ r. r.held) is);
   unbroken = refl;
   kept = ap (λ r. r.line) is ∙ sym (take-nil kept_limit);
-  going = ap (λ r. r.failed) is ∙ going;
+  going = ap (λ r. r.stop) is ∙ going;
 }
 
 pub reading-all : (old now next : Reader) (before after : SourceState) → IsReading old now before after → PassesAll now next → IsReading old next before after
@@ -187,7 +199,7 @@ reading-all old now next before after so_far passes = record {
   all = so_far.all ∙ sym (append-nil (so_far.piece ++ now.held)) ∙ ap (λ held. (so_far.piece ++ now.held) ++ held) (sym (ap (λ r. r.held) passes.after));
   unbroken = unbroken-append so_far.piece now.held so_far.unbroken passes.unbroken;
   kept = ap (λ r. r.line) passes.after ∙ ap (λ line. kept_with line now.held) so_far.kept ∙ kept_with-append [] so_far.piece now.held;
-  going = ap (λ r. r.failed) passes.after ∙ so_far.going;
+  going = ap (λ r. r.stop) passes.after ∙ so_far.going;
 }
 
 pub reading-refilled : (old now next : Reader) (before mid after : SourceState) (count : ℕ) → IsReading old now before mid → now.held ≡ [] → now.taken ≤ script_limit → Refills now next mid after count → IsReading old next before after
@@ -206,19 +218,19 @@ reading-refilled old now next before mid after count so_far none few fills =
       piece = so_far.piece;
       all =
           ap (λ bytes. old.held ++ bytes) (within-append old.taken so_far.bytes fills.bytes (omega arith))
-          ∙ sym (append_assoc old.held (within_limit old.taken so_far.bytes) (within_limit (old.taken + length so_far.bytes) fills.bytes))
-          ∙ ap (λ bytes. bytes ++ within_limit (old.taken + length so_far.bytes) fills.bytes) (so_far.all ∙ ap (λ held. so_far.piece ++ held) none ∙ append-nil so_far.piece)
-          ∙ ap (λ n. so_far.piece ++ within_limit n fills.bytes) (sym taken)
+          ∙ sym (append_assoc old.held (take (script_limit - old.taken) so_far.bytes) (take (script_limit - (old.taken + length so_far.bytes)) fills.bytes))
+          ∙ ap (λ bytes. bytes ++ take (script_limit - (old.taken + length so_far.bytes)) fills.bytes) (so_far.all ∙ ap (λ held. so_far.piece ++ held) none ∙ append-nil so_far.piece)
+          ∙ ap (λ n. so_far.piece ++ take (script_limit - n) fills.bytes) (sym taken)
           ∙ ap (λ held. so_far.piece ++ held) (sym (ap (λ r. r.held) fills.after_is));
       unbroken = so_far.unbroken;
       kept = ap (λ r. r.line) fills.after_is ∙ so_far.kept;
-      going = ap (λ r. r.failed) fills.after_is ∙ so_far.going;
+      going = ap (λ r. r.stop) fills.after_is ∙ so_far.going;
     }
 
 -- ---- how it ends
 
 -- `now` has passed the byte 10, and `new` is the same with its line
-pub next-ended : (old now mid new : Reader) (before after : SourceState) (answer : Taken) → IsReading old now before after → PassesBreak now mid → answer ≡ judged (strip_carriage_return mid.line) → new ≡ record mid { line = strip_carriage_return mid.line } → IsNext old new before after answer
+pub next-ended : (old now mid new : Reader) (before after : SourceState) (answer : Taken) → IsReading old now before after → PassesBreak now mid → answer ≡ line_answer (strip_carriage_return mid.line) → new ≡ record mid { line = strip_carriage_return mid.line } → IsNext old new before after answer
 next-ended old now mid new before after answer so_far passes is new_is =
     let piece = so_far.piece ++ passes.piece in
     let kept : mid.line ≡ take kept_limit piece = ap (λ r. r.line) passes.after ∙ ap (λ line. kept_with line passes.piece) so_far.kept ∙ kept_with-append [] so_far.piece passes.piece in
@@ -233,37 +245,42 @@ next-ended old now mid new before after answer so_far passes is new_is =
       unbroken = unbroken-append so_far.piece passes.piece so_far.unbroken passes.unbroken;
       line_is = refl;
     })
-    (passed_ended piece new answer (is ∙ ap (λ line. judged (strip_carriage_return line)) kept) (ap (λ r. r.line) new_is ∙ ap strip_carriage_return kept))
-    (ap (λ r. r.failed) new_is ∙ ap (λ r. r.failed) passes.after ∙ so_far.going)
+    (ap (λ r. r.stop) new_is ∙ ap (λ r. r.stop) passes.after ∙ so_far.going)
+    (passed_ended piece new answer (is ∙ ap (λ line. line_answer (strip_carriage_return line)) kept) (ap (λ r. r.line) new_is ∙ ap strip_carriage_return kept))
 
 module _ (old now : Reader) (before after : SourceState) (so_far : IsReading old now before after) (none : now.held ≡ []) where
-  whole : old.held ++ within_limit old.taken so_far.bytes ≡ so_far.piece
+  whole : next_bytes old so_far.bytes ≡ so_far.piece
   whole = so_far.all ∙ ap (λ held. so_far.piece ++ held) none ∙ append-nil so_far.piece
 
-  unbroken : ended_lines (old.held ++ within_limit old.taken so_far.bytes) ≡ []
+  unbroken : ended_lines (next_bytes old so_far.bytes) ≡ []
   unbroken = ap ended_lines whole ∙ so_far.unbroken
 
-  pub next-too_much : (answer : Taken) → script_limit < now.taken → answer ≡ TooMuch → IsNext old now before after answer
-  next-too_much answer over is =
-      too_much so_far.bytes so_far.takes unbroken (let few = so_far.takes.few in omega arith) none is so_far.going
+  takes_on : (new : Reader) (stop : Taken) → new ≡ record now { stop = Some stop } → TakesFrom old new before after so_far.bytes
+  takes_on new stop new_is = takes_as old now new before after so_far.bytes (ap (λ r. r.taken) new_is) so_far.takes
 
-  last_by : (piece : List ℕ) (answer : Taken) → IsAtEnd after → now.taken ≤ script_limit → so_far.piece ≡ piece → answer ≡ cond (length (take kept_limit piece) == 0) End (judged (take kept_limit piece)) → IsNext old now before after answer
-  last_by [] answer at_end_is few same is =
-      at_end so_far.bytes so_far.takes (whole ∙ same) at_end_is few none
-      (is ∙ ap (λ line. cond (length line == 0) End (judged line)) (take-nil kept_limit)) so_far.going
-  last_by (b ∷ piece) answer at_end_is few same is =
-      let kept : now.line ≡ take kept_limit (b ∷ piece) = so_far.kept ∙ ap (take kept_limit) same in
-      last so_far.bytes so_far.takes unbroken (λ e. let none_there = sym (whole ∙ same) ∙ e in cc) at_end_is few none
-      (subst (λ line. IsPassed line now answer) (sym (whole ∙ same)) (passed_last (b ∷ piece) now answer (is ∙ ap (λ t. cond t End (judged (take kept_limit (b ∷ piece)))) some) kept)) so_far.going
+  few_on : (new : Reader) (stop : Taken) → new ≡ record now { stop = Some stop } → now.taken ≤ script_limit → new.taken ≤ script_limit
+  few_on new stop new_is few = subst (λ n. n ≤ script_limit) (sym (ap (λ r. r.taken) new_is)) few
+
+  pub next-too_much : (new : Reader) (answer : Taken) → script_limit < now.taken → answer ≡ TooMuch → new ≡ record now { stop = Some TooMuch } → IsNext old new before after answer
+  next-too_much new answer over is new_is =
+      too_much so_far.bytes (takes_on new TooMuch new_is) unbroken (let few = so_far.takes.few in let same = ap (λ r. r.taken) new_is in omega arith) (ap (λ r. r.stop) new_is) is
+
+  last_by : (piece : List ℕ) (new : Reader) (answer : Taken) → IsAtEnd after → now.taken ≤ script_limit → so_far.piece ≡ piece → answer ≡ last_answer (take kept_limit piece) → new ≡ record now { stop = Some End } → IsNext old new before after answer
+  last_by [] new answer at_end_is few same is new_is =
+      at_end so_far.bytes (takes_on new End new_is) (whole ∙ same) at_end_is (few_on new End new_is few) (ap (λ r. r.stop) new_is)
+      (is ∙ ap last_answer (take-nil kept_limit))
+  last_by (b ∷ piece) new answer at_end_is few same is new_is =
+      let kept : new.line ≡ take kept_limit (b ∷ piece) = ap (λ r. r.line) new_is ∙ so_far.kept ∙ ap (take kept_limit) same in
+      last so_far.bytes (takes_on new End new_is) unbroken (λ e. let none_there = sym (whole ∙ same) ∙ e in cc) at_end_is (few_on new End new_is few) (ap (λ r. r.stop) new_is)
+      (subst (λ line. IsPassed line new answer) (sym (whole ∙ same)) (passed_last (b ∷ piece) new answer (is ∙ ap (λ t. cond t End (line_answer (take kept_limit (b ∷ piece)))) some) kept))
     where
       some : (length (take kept_limit (b ∷ piece)) == 0) ≡ false
       some = ne_eqb (length (take kept_limit (b ∷ piece))) 0 (omega (arith, kept_limit-is, length-take kept_limit (b ∷ piece)))
 
-  pub next-last : (answer : Taken) → IsAtEnd after → now.taken ≤ script_limit → answer ≡ cond (length now.line == 0) End (judged now.line) → IsNext old now before after answer
-  next-last answer at_end_is few is =
-      last_by so_far.piece answer at_end_is few refl (is ∙ ap (λ line. cond (length line == 0) End (judged line)) so_far.kept)
+  pub next-last : (new : Reader) (answer : Taken) → IsAtEnd after → now.taken ≤ script_limit → answer ≡ last_answer now.line → new ≡ record now { stop = Some End } → IsNext old new before after answer
+  next-last new answer at_end_is few is new_is = last_by so_far.piece new answer at_end_is few refl (is ∙ ap last_answer so_far.kept) new_is
 
-  pub next-fails : (new : Reader) (later : SourceState) (answer : Taken) → later.left ≡ after.left → Rose before.faults later.faults → now.taken ≤ script_limit → new ≡ record now { failed = true } → answer ≡ Fault → IsNext old new before later answer
+  pub next-fails : (new : Reader) (later : SourceState) (answer : Taken) → later.left ≡ after.left → Rose before.faults later.faults → now.taken ≤ script_limit → new ≡ record now { stop = Some Fault } → answer ≡ Fault → IsNext old new before later answer
   next-fails new later answer same rose few new_is is =
       let takes : TakesFrom old now before later so_far.bytes = record {
         going = so_far.takes.going;
@@ -272,7 +289,7 @@ module _ (old now : Reader) (before after : SourceState) (so_far : IsReading old
         few = so_far.takes.few;
       } in
       fails so_far.bytes (takes_as old now new before later so_far.bytes (ap (λ r. r.taken) new_is) takes) unbroken rose
-      (subst (λ n. n ≤ script_limit) (sym (ap (λ r. r.taken) new_is)) few) is (ap (λ r. r.failed) new_is)
+      (few_on new Fault new_is few) (ap (λ r. r.stop) new_is) is
 
 -- ---- a read
 
@@ -286,10 +303,10 @@ still_at_end mid after bytes given none at_end_is =
     subst (λ left. IfSome left (λ l. l ≡ [])) same at_end_is
 
 -- the source gives no byte
-pub next-at_end : (old now next : Reader) (before mid after : SourceState) (count : ℕ) (answer : Taken) → IsReading old now before mid → now.held ≡ [] → now.taken ≤ script_limit → Refills now next mid after count → count ≡ 0 → IsAtEnd mid → answer ≡ cond (length next.line == 0) End (judged next.line) → IsNext old next before after answer
-next-at_end old now next before mid after count answer so_far none few fills zero_is at_end_is is =
+pub next-at_end : (old now next new : Reader) (before mid after : SourceState) (count : ℕ) (answer : Taken) → IsReading old now before mid → now.held ≡ [] → now.taken ≤ script_limit → Refills now next mid after count → count ≡ 0 → IsAtEnd mid → answer ≡ last_answer next.line → new ≡ record next { stop = Some End } → IsNext old new before after answer
+next-at_end old now next new before mid after count answer so_far none few fills zero_is at_end_is is new_is =
     let bytes : fills.bytes ≡ [] = none_given fills.bytes (fills.counted ∙ zero_is) in
-    let held : next.held ≡ [] = ap (λ r. r.held) fills.after_is ∙ ap (within_limit now.taken) bytes ∙ take-nil (script_limit - now.taken) in
+    let held : next.held ≡ [] = ap (λ r. r.held) fills.after_is ∙ ap (take (script_limit - now.taken)) bytes ∙ take-nil (script_limit - now.taken) in
     let now_is = ap (λ r. r.taken) fills.after_is in
-    next-last old next before after (reading-refilled old now next before mid after count so_far none few fills) held answer
-    (still_at_end mid after fills.bytes fills.given bytes at_end_is) (omega arith) is
+    next-last old next before after (reading-refilled old now next before mid after count so_far none few fills) held new answer
+    (still_at_end mid after fills.bytes fills.given bytes at_end_is) (omega arith) is new_is

@@ -1,10 +1,10 @@
 -- The steps of a reader of lines within one answer.
-use Rattle.std.specs.Prelude.{◌≡◌, ℕ, ◌+◌, ◌≤◌, nat_le, if◌then◌else◌, List, [], ◌∷◌, ◌++◌, length, take}
+use Rattle.std.specs.Prelude.{◌≡◌, ℕ, ◌+◌, ◌-◌, ◌≤◌, nat_le, ◌==◌, if◌then◌else◌, List, [], ◌∷◌, ◌++◌, length, take}
 use Rattle.cxl_io.specs.Lines.{ended_lines}
-use Rattle.cxl_io.specs.Reader.{Reader, line_limit, script_limit, within_limit}
+use Rattle.cxl_io.specs.Reader.{Reader, line_limit, script_limit}
 use Rattle.cxl_io.specs.Source.{SourceState, Gives}
 use Rattle.cxl_io.specs.declared.line_reader.Taken.{Taken}
-use Rattle.cxl_io.specs.declared.line_reader.Taken.TheVariants.{Line, Long}
+use Rattle.cxl_io.specs.declared.line_reader.Taken.TheVariants.{Line, Long, End}
 
 -- how many bytes of a line are kept: two more than a line may have, so that a line is too long where they are all there
 unfoldable pub kept_limit : ℕ
@@ -33,8 +33,12 @@ pub record Refills (old new : Reader) (before after : SourceState) (count : ℕ)
   pub given : Gives before after bytes
   pub counted : length bytes ≡ count
   pub few : old.taken + count ≤ script_limit + 1
-  pub after_is : new ≡ record old { taken = old.taken + count; held = within_limit old.taken bytes }
+  pub after_is : new ≡ record old { taken = old.taken + count; held = take (script_limit - old.taken) bytes }
 
--- what a line comes to that is as long as this
-abbrev pub judged : List ℕ → Taken
-judged line = if nat_le (length line) line_limit then Line else Long
+-- what a line comes to, by its length
+abbrev pub line_answer : List ℕ → Taken
+line_answer line = if nat_le (length line) line_limit then Line else Long
+
+-- what a last line comes to
+abbrev pub last_answer : List ℕ → Taken
+last_answer line = if length line == 0 then End else line_answer line

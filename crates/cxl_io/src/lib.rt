@@ -17,14 +17,14 @@ mod std_source;
 
 pub use cxl_enc::{Failed, Memory, Name};
 pub use fetch::{Fetch, FetchFault};
-pub use line_reader::{LINE_LIMIT, LineReader, SCRIPT_LIMIT, Taken, lines_pass};
+pub use line_reader::{LINE_LIMIT, LineReader, SCRIPT_LIMIT, Taken, reader_goes_on};
 pub use mem_fetch::MemFetch;
 pub use mem_sink::MemSink;
 pub use mem_source::MemSource;
 pub use number::{NumFault, read_number};
 pub use print::{put_hex, put_number};
 pub use sink::{Sink, write_all, writes_join};
-pub use source::{Source, reads_join};
+pub use source::Source;
 pub use std_fetch::StdFetch;
 pub use std_sink::StdSink;
 pub use std_source::StdSource;

@@ -1,11 +1,10 @@
-ghost use Rattle.std.specs.Prelude.{◌≡◌, ◌≢◌, ℕ, ◌+◌, ◌<◌, ◌≤◌, ◌↔◌, ◌==◌, if◌then◌else◌, true, List, [], ◌∷◌, ◌++◌, length, take, IsTrue, IfOk, OnErr, position, vec_len, vec_capacity};
+ghost use Rattle.std.specs.Prelude.{◌≡◌, ◌≢◌, ℕ, ◌+◌, ◌<◌, ◌≤◌, ◌↔◌, ◌==◌, Some, List, [], ◌∷◌, ◌++◌, length, take, IsTrue, IfOk, OnErr, position, vec_len, vec_capacity};
 ghost use Rattle.std.specs.Bool.{OnTrue, OnFalse};
 ghost use Rattle.std.specs.Str.Lines.{strip_carriage_return};
 ghost use Rattle.cxl_enc.specs.Faults.{HasCause};
-ghost use Rattle.cxl_io.specs.Lines.{lines_of, ended_lines, IsFirstLine, HasPassed};
-ghost use Rattle.cxl_io.specs.Reader.{script_limit, fresh_reader, IsNext};
-ghost use Rattle.cxl_io.specs.ReaderSteps.{kept_with, PassesBreak, PassesAll, Refills, judged};
-ghost use Rattle.cxl_io.specs.Source.{Gives, IsAtEnd};
+ghost use Rattle.cxl_io.specs.Reader.{Reader, line_limit, script_limit, fresh_reader, IsNext, HasRead, HasStopped};
+ghost use Rattle.cxl_io.specs.ReaderSteps.{kept_with, PassesBreak, PassesAll, Refills, line_answer, last_answer};
+ghost use Rattle.cxl_io.specs.Source.{SourceState, Gives, IsAtEnd};
 
 use crate::source::Source;
 use cxl_enc::{Failed, Memory};
@@ -49,7 +48,8 @@ pub struct LineReader {
     at: usize,
     end: usize,
     taken: usize,
-    failed: bool,
+    /// What it answers from now on.
+    stop: Option<Taken>,
 }
 
 impl Model for LineReader {
@@ -62,7 +62,7 @@ impl Model for LineReader {
       taken = r.taken;
       held = take (r.end - r.at) (drop r.at r.block.items);
       line = r.line.items;
-      failed = r.failed;
+      stop = r.stop;
     } };
 
     ghost invariant = { λ r. (r.at ≤ r.end) × (r.end ≤ vec_len r.block) × (vec_len r.block ≡ 4096)
@@ -80,7 +80,7 @@ impl LineReader {
             at: 0,
             end: 0,
             taken: 0,
-            failed: false,
+            stop: None,
         })
     }
 
@@ -91,30 +91,27 @@ impl LineReader {
         self.line.as_slice()
     }
 
-    /// The next line. `Fault` and `TooMuch` come for good, once every line is passed on that ended before.
-    /// Takes no memory.
+    /// The next line. `End`, `Fault` and `TooMuch` come for good, once every line is passed on that ended
+    /// before. Takes no memory.
     pub fn next<S: Source>(&mut self, source: &mut S) -> Taken
         ensures next { IsNext self.old self.new (S.state source.old) (S.state source.new) result }
         ensures counts { (S.state source.old).faults ≤ (S.state source.new).faults }
     {
         self.begin();
-        if self.failed() {
-            return Taken::Fault;
+        if let Some(answer) = self.stopped() {
+            return answer;
         }
         'turns: loop {
             if self.pass_break() {
                 return self.ended();
             }
             if self.is_over() {
-                return Taken::TooMuch;
+                return self.stop(Taken::TooMuch);
             }
             match self.refill(source) {
                 Ok(0) => return self.last(),
                 Ok(_) => {}
-                Err(Failed) => {
-                    self.fail();
-                    return Taken::Fault;
-                }
+                Err(Failed) => return self.stop(Taken::Fault),
             }
         }
     }
@@ -126,16 +123,19 @@ impl LineReader {
         self.line.clear();
     }
 
-    fn failed(&self) -> bool
-        ensures { result ≡ self.now.failed }
+    fn stopped(&self) -> Option<Taken>
+        ensures { result ≡ self.now.stop }
     {
-        self.failed
+        self.stop
     }
 
-    fn fail(&mut self)
-        ensures { self.new ≡ record self.old { failed = true } }
+    /// Answers so from now on.
+    fn stop(&mut self, answer: Taken) -> Taken
+        ensures answer { result ≡ answer }
+        ensures after { self.new ≡ record self.old { stop = Some answer } }
     {
-        self.failed = true;
+        self.stop = Some(answer);
+        answer
     }
 
     /// Whether a byte came past the limit.
@@ -186,23 +186,25 @@ impl LineReader {
 
     /// A line that ended: a carriage return before the ending is no part of it.
     fn ended(&mut self) -> Taken
-        ensures answer { result ≡ judged (strip_carriage_return self.old.line) }
+        ensures answer { result ≡ line_answer (strip_carriage_return self.old.line) }
         ensures after { self.new ≡ record self.old { line = strip_carriage_return self.old.line } }
     {
         if self.line.last() == Some(&b'\r') {
             self.line.pop();
         }
-        judge(&self.line)
+        line_answer(&self.line)
     }
 
     /// The source has ended: a last line is given where it is not empty.
-    fn last(&self) -> Taken
-        ensures { result ≡ (if length self.now.line == 0 then Taken.End else judged self.now.line) }
+    fn last(&mut self) -> Taken
+        ensures answer { result ≡ last_answer self.old.line }
+        ensures after { self.new ≡ record self.old { stop = Some Taken.End } }
     {
+        self.stop = Some(Taken::End);
         if self.line.is_empty() {
             Taken::End
         } else {
-            judge(&self.line)
+            line_answer(&self.line)
         }
     }
 }
@@ -239,8 +241,8 @@ fn keep(line: &mut Vec<u8>, piece: &[u8])
     line.extend_from_slice(&piece[..n]).unwrap();
 }
 
-fn judge(line: &[u8]) -> Taken
-    ensures { result ≡ judged line.now }
+fn line_answer(line: &[u8]) -> Taken
+    ensures { result ≡ line_answer line.now }
 {
     if line.len() <= LINE_LIMIT {
         Taken::Line
@@ -249,20 +251,18 @@ fn judge(line: &[u8]) -> Taken
     }
 }
 
-/// A law of lines, by which the answers of a reader are joined: what it takes follows what it holds, and
-/// what it passes on leaves it. At the end all lines are passed on, and where it stops before, all that
-/// ended.
-pub fn lines_pass()
-    ensures begin { HasPassed [] [] [] }
-    ensures takes { (passed : List (List ℕ)) (bytes held more : List ℕ)
-        → HasPassed passed bytes held → HasPassed passed (bytes ++ more) (held ++ more) }
-    ensures line { (passed : List (List ℕ)) (bytes held line rest : List ℕ)
-        → HasPassed passed bytes held → IsFirstLine held line rest → HasPassed (passed ++ line ∷ []) bytes rest }
-    ensures last { (passed : List (List ℕ)) (bytes held : List ℕ)
-        → HasPassed passed bytes held → ended_lines held ≡ [] → held ≢ []
-        → lines_of bytes ≡ passed ++ held ∷ [] }
-    ensures end { (passed : List (List ℕ)) (bytes : List ℕ)
-        → HasPassed passed bytes [] → lines_of bytes ≡ passed }
-    ensures stops { (passed : List (List ℕ)) (bytes held : List ℕ)
-        → HasPassed passed bytes held → ended_lines held ≡ [] → ended_lines bytes ≡ passed }
+/// A law of readers: what a reader has passed on, answer by answer. At the end it is all lines of the
+/// source; where the source failed or a byte came past the limit, the lines that ended before.
+pub fn reader_goes_on()
+    ensures begin { (source : SourceState) → HasRead [] source fresh_reader source }
+    ensures line { (passed : List (List ℕ)) (start before after : SourceState) (old new : Reader)
+        → HasRead passed start old before → IsNext old new before after Taken.Line
+        → HasRead (passed ++ new.line ∷ []) start new after }
+    ensures long { (passed : List (List ℕ)) (start before after : SourceState) (old new : Reader)
+        → HasRead passed start old before → IsNext old new before after Taken.Long
+        → (line : List ℕ) × (line_limit < length line) × HasRead (passed ++ line ∷ []) start new after }
+    ensures stop { (passed : List (List ℕ)) (start before after : SourceState) (old new : Reader) (answer : Taken)
+        → HasRead passed start old before → IsNext old new before after answer
+        → answer ≢ Taken.Line → answer ≢ Taken.Long
+        → HasRead passed start new after × (new.stop ≡ Some answer) × HasStopped answer passed start after }
 {}

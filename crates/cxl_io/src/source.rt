@@ -1,4 +1,4 @@
-ghost use Rattle.std.specs.Prelude.{◌≡◌, ℕ, ◌<◌, ◌≤◌, Some, List, [], ◌++◌, length, take, IfOk, OnErr};
+ghost use Rattle.std.specs.Prelude.{◌≡◌, ◌<◌, ◌≤◌, Some, [], length, take, IfOk, OnErr};
 ghost use Rattle.cxl_enc.specs.Faults.{HasCause};
 ghost use Rattle.cxl_io.specs.Source.{SourceState, Gives, IsAtEnd};
 
@@ -20,10 +20,3 @@ pub trait Source {
         ensures cause { HasCause result (state self.old).faults (state self.new).faults }
         ensures counts { (state self.old).faults ≤ (state self.new).faults };
 }
-
-/// A law of reads: bytes that are taken one after another are taken together.
-pub fn reads_join()
-    ensures nothing { (state : SourceState) → Gives state state [] }
-    ensures both { (old mid new : SourceState) (xs ys : List ℕ)
-        → Gives old mid xs → Gives mid new ys → Gives old new (xs ++ ys) }
-{}
