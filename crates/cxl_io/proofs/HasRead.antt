@@ -3,16 +3,16 @@ use Rattle.std.proofs.Common.{◌≡◌, ◌≢◌, ℕ, ◌+◌, ◌-◌, ◌<�
 use Rattle.std.proofs.lemmas.List.{take_all}
 use Rattle.cxl_io.specs.Lines.{HasPassed, lines_of, ended_lines}
 use Rattle.cxl_io.specs.Reader.{Reader, fresh_reader, line_limit, script_limit, next_bytes, TakesFrom, IsPassed, IsNext, ended, last, at_end, fails, too_much, stopped, HasStopped, IsGoingOn, HasRead, goes_on, has_stopped}
-use Rattle.cxl_io.specs.Source.{SourceState, Gives}
+use Rattle.cxl_io.specs.Source.{SourceState, GivesFront}
 use Rattle.cxl_io.specs.declared.line_reader.Taken.{Taken}
 use Rattle.cxl_io.specs.declared.line_reader.Taken.TheVariants.{Line, Long, End, Fault, TooMuch}
 use Rattle.cxl_io.proofs.LineBreaks.{passed-more, passed-line, passed-last, passed-end, passed-stop}
-use Rattle.cxl_io.proofs.Reading.{Gives-same, Gives-append, take-append}
+use Rattle.cxl_io.proofs.Reading.{GivesFront-same, GivesFront-append, take-append}
 
 pub read-begin : (source : SourceState) → HasRead [] source fresh_reader source
 read-begin source = goes_on refl (record {
   bytes = [];
-  given = Gives-same source source refl;
+  given = GivesFront-same source source refl;
   count = refl;
   lines = record { lines = λ behind. refl; ended = λ behind. refl };
 })
@@ -26,7 +26,7 @@ module _ (passed : List (List ℕ)) (start before after : SourceState) (old new 
   -- the bytes so far, with those that are taken now
   record Grown (taken : List ℕ) : Type 0 where
     bytes : List ℕ
-    given : Gives start after bytes
+    given : GivesFront start after bytes
     count : new.taken ≡ length bytes
     lines : HasPassed passed (take script_limit bytes) (next_bytes old taken)
 
@@ -35,7 +35,7 @@ module _ (passed : List (List ℕ)) (start before after : SourceState) (old new 
       let was = going so_far takes.going in
       record {
         bytes = was.bytes ++ taken;
-        given = Gives-append start before after was.bytes taken was.given takes.given;
+        given = GivesFront-append start before after was.bytes taken was.given takes.given;
         count = takes.count ∙ ap (λ n. n + length taken) was.count ∙ sym (length-append was.bytes taken);
         lines =
             subst (λ bytes. HasPassed passed bytes (next_bytes old taken))

@@ -9,7 +9,7 @@ use Rattle.cxl_enc.specs.Faults.{Rose}
 use Rattle.cxl_io.specs.Lines.{ended_lines}
 use Rattle.cxl_io.specs.Reader.{Reader, line_limit, script_limit, next_bytes, TakesFrom, IsPassed, IsNext, ended, last, at_end, fails, too_much}
 use Rattle.cxl_io.specs.ReaderSteps.{kept_limit, kept_with, PassesBreak, PassesAll, Refills, line_answer, last_answer}
-use Rattle.cxl_io.specs.Source.{SourceState, Gives, IsAtEnd}
+use Rattle.cxl_io.specs.Source.{SourceState, GivesFront, IsAtEnd}
 use Rattle.cxl_io.specs.Told.{told_behind}
 use Rattle.cxl_io.specs.declared.line_reader.Taken.{Taken}
 use Rattle.cxl_io.specs.declared.line_reader.Taken.TheVariants.{Line, Long, End, Fault, TooMuch}
@@ -125,11 +125,11 @@ told_behind-append : (xs ys : List ℕ) (told : Option (List ℕ)) → told_behi
 told_behind-append xs ys None = refl
 told_behind-append xs ys (Some told) = ap (λ bytes. Some bytes) (sym (append_assoc xs ys told))
 
-pub Gives-same : (before after : SourceState) → after.left ≡ before.left → Gives before after []
-Gives-same before after same = sym same ∙ told_behind-nil after.left
+pub GivesFront-same : (before after : SourceState) → after.left ≡ before.left → GivesFront before after []
+GivesFront-same before after same = sym same ∙ told_behind-nil after.left
 
-pub Gives-append : (before mid after : SourceState) (xs ys : List ℕ) → Gives before mid xs → Gives mid after ys → Gives before after (xs ++ ys)
-Gives-append before mid after xs ys first second = first ∙ ap (told_behind xs) second ∙ told_behind-append xs ys after.left
+pub GivesFront-append : (before mid after : SourceState) (xs ys : List ℕ) → GivesFront before mid xs → GivesFront mid after ys → GivesFront before after (xs ++ ys)
+GivesFront-append before mid after xs ys first second = first ∙ ap (told_behind xs) second ∙ told_behind-append xs ys after.left
 
 take-nil : (k : ℕ) → take k (let none : List ℕ = [] in none) ≡ []
 take-nil zero = refl
@@ -209,7 +209,7 @@ reading-refilled old now next before mid after count so_far none few fills =
       bytes = so_far.bytes ++ fills.bytes;
       takes = record {
         going = so_far.takes.going;
-        given = Gives-append before mid after so_far.bytes fills.bytes so_far.takes.given fills.given;
+        given = GivesFront-append before mid after so_far.bytes fills.bytes so_far.takes.given fills.given;
         count =
             let now_is = ap (λ r. r.taken) fills.after_is in let more = fills.counted in
             omega (arith, length-append so_far.bytes fills.bytes);
@@ -297,7 +297,7 @@ none_given : (bytes : List ℕ) → length bytes ≡ 0 → bytes ≡ []
 none_given [] e = refl
 none_given (b ∷ bytes) e = absurd (omega arith)
 
-still_at_end : (mid after : SourceState) (bytes : List ℕ) → Gives mid after bytes → bytes ≡ [] → IsAtEnd mid → IsAtEnd after
+still_at_end : (mid after : SourceState) (bytes : List ℕ) → GivesFront mid after bytes → bytes ≡ [] → IsAtEnd mid → IsAtEnd after
 still_at_end mid after bytes given none at_end_is =
     let same : mid.left ≡ after.left = given ∙ ap (λ front. told_behind front after.left) none ∙ sym (told_behind-nil after.left) in
     subst (λ left. IfSome left (λ l. l ≡ [])) same at_end_is

@@ -2,7 +2,7 @@
 use Rattle.std.specs.Prelude.{◌≡◌, ◌≢◌, ℕ, ◌+◌, ◌-◌, ◌<◌, ◌≤◌, ◌⊎◌, Option, Some, None, List, [], ◌++◌, length, take}
 use Rattle.cxl_enc.specs.Faults.{Rose}
 use Rattle.cxl_io.specs.Lines.{lines_of, ended_lines, IsFirstLine, HasPassed}
-use Rattle.cxl_io.specs.Source.{SourceState, Gives, IsAtEnd}
+use Rattle.cxl_io.specs.Source.{SourceState, GivesFront, IsAtEnd}
 use Rattle.cxl_io.specs.declared.line_reader.Taken.{Taken}
 use Rattle.cxl_io.specs.declared.line_reader.Taken.TheVariants.{Line, Long, End, Fault, TooMuch}
 
@@ -37,7 +37,7 @@ next_bytes reader taken = reader.held ++ take (script_limit - reader.taken) take
 -- the reader took these bytes from the source, and never more than one past the limit
 pub record TakesFrom (old new : Reader) (before after : SourceState) (taken : List ℕ) : Type 0 where
   pub going : old.stop ≡ None
-  pub given : Gives before after taken
+  pub given : GivesFront before after taken
   pub count : new.taken ≡ old.taken + length taken
   pub few : new.taken ≤ script_limit + 1
 
@@ -67,14 +67,14 @@ pub data IsNext (old new : Reader) (before after : SourceState) (answer : Taken)
 abbrev pub HasStopped : Taken → List (List ℕ) → SourceState → SourceState → Type 0
 HasStopped Line passed start now = ⊥
 HasStopped Long passed start now = ⊥
-HasStopped End passed start now = (bytes : List ℕ) × Gives start now bytes × (length bytes ≤ script_limit) × IsAtEnd now × (lines_of bytes ≡ passed)
-HasStopped Fault passed start now = (bytes : List ℕ) × Gives start now bytes × (length bytes ≤ script_limit) × (ended_lines bytes ≡ passed)
-HasStopped TooMuch passed start now = (bytes : List ℕ) × Gives start now bytes × (length bytes ≡ script_limit + 1) × (ended_lines (take script_limit bytes) ≡ passed)
+HasStopped End passed start now = (bytes : List ℕ) × GivesFront start now bytes × (length bytes ≤ script_limit) × IsAtEnd now × (lines_of bytes ≡ passed)
+HasStopped Fault passed start now = (bytes : List ℕ) × GivesFront start now bytes × (length bytes ≤ script_limit) × (ended_lines bytes ≡ passed)
+HasStopped TooMuch passed start now = (bytes : List ℕ) × GivesFront start now bytes × (length bytes ≡ script_limit + 1) × (ended_lines (take script_limit bytes) ≡ passed)
 
 -- It has not come to its end: of the bytes within the limit the lines are passed on, and others are held.
 pub record IsGoingOn (passed : List (List ℕ)) (start : SourceState) (reader : Reader) (now : SourceState) : Type 0 where
   pub bytes : List ℕ
-  pub given : Gives start now bytes
+  pub given : GivesFront start now bytes
   pub count : reader.taken ≡ length bytes
   pub lines : HasPassed passed (take script_limit bytes) reader.held
 

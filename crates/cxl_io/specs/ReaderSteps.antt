@@ -2,7 +2,7 @@
 use Rattle.std.specs.Prelude.{◌≡◌, ℕ, ◌+◌, ◌-◌, ◌≤◌, nat_le, ◌==◌, if◌then◌else◌, List, [], ◌∷◌, ◌++◌, length, take}
 use Rattle.cxl_io.specs.Lines.{ended_lines}
 use Rattle.cxl_io.specs.Reader.{Reader, line_limit, script_limit}
-use Rattle.cxl_io.specs.Source.{SourceState, Gives}
+use Rattle.cxl_io.specs.Source.{SourceState, GivesFront}
 use Rattle.cxl_io.specs.declared.line_reader.Taken.{Taken}
 use Rattle.cxl_io.specs.declared.line_reader.Taken.TheVariants.{Line, Long, End}
 
@@ -30,7 +30,7 @@ pub record PassesAll (old new : Reader) : Type 0 where
 -- so many bytes are taken
 pub record Refills (old new : Reader) (before after : SourceState) (count : ℕ) : Type 0 where
   pub bytes : List ℕ
-  pub given : Gives before after bytes
+  pub given : GivesFront before after bytes
   pub counted : length bytes ≡ count
   pub few : old.taken + count ≤ script_limit + 1
   pub after_is : new ≡ record old { taken = old.taken + count; held = take (script_limit - old.taken) bytes }

@@ -9,8 +9,8 @@ pub record SourceState : Type 0 where
   pub faults : ℕ
 
 -- the bytes come from the front of those left, and no other is gone
-abbrev pub Gives : SourceState → SourceState → List ℕ → Type 0
-Gives old new bytes = old.left ≡ told_behind bytes new.left
+abbrev pub GivesFront : SourceState → SourceState → List ℕ → Type 0
+GivesFront old new bytes = old.left ≡ told_behind bytes new.left
 
 -- no byte is left
 abbrev pub IsAtEnd : SourceState → Type 0

@@ -4,7 +4,7 @@ ghost use Rattle.std.specs.Str.Lines.{strip_carriage_return};
 ghost use Rattle.cxl_enc.specs.Faults.{HasCause};
 ghost use Rattle.cxl_io.specs.Reader.{Reader, line_limit, script_limit, fresh_reader, IsNext, HasRead, HasStopped};
 ghost use Rattle.cxl_io.specs.ReaderSteps.{kept_with, PassesBreak, PassesAll, Refills, line_answer, last_answer};
-ghost use Rattle.cxl_io.specs.Source.{SourceState, Gives, IsAtEnd};
+ghost use Rattle.cxl_io.specs.Source.{SourceState, GivesFront, IsAtEnd};
 
 use crate::source::Source;
 use cxl_enc::{Failed, Memory};
@@ -214,7 +214,7 @@ fn read_front<S: Source>(source: &mut S, block: &mut [u8], room: usize) -> Resul
     requires some { 0 < room }
     requires within { room ≤ length block.old }
     ensures within { IfOk result (λ n. n ≤ room) }
-    ensures given { IfOk result (λ n. Gives (S.state source.old) (S.state source.new) (take n block.new)) }
+    ensures given { IfOk result (λ n. GivesFront (S.state source.old) (S.state source.new) (take n block.new)) }
     ensures end { IfOk result (λ n. n ≡ 0 → IsAtEnd (S.state source.old)) }
     ensures failed { OnErr result ((S.state source.new).left ≡ (S.state source.old).left) }
     ensures cause { HasCause result (S.state source.old).faults (S.state source.new).faults }

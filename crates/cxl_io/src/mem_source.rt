@@ -2,7 +2,7 @@ ghost use Rattle.std.specs.Prelude.{◌≡◌, ◌<◌, ◌≤◌, min, Some, []
 ghost use Rattle.cxl_enc.specs.Counters.{fresh_counters};
 ghost use Rattle.cxl_enc.specs.Faults.{HasCause};
 ghost use Rattle.cxl_io.specs.MemorySource.{state_of, read_answer, source_after};
-ghost use Rattle.cxl_io.specs.Source.{Gives, IsAtEnd};
+ghost use Rattle.cxl_io.specs.Source.{GivesFront, IsAtEnd};
 
 use crate::source::Source;
 use cxl_enc::{Failed, FailingCalls};
@@ -47,7 +47,7 @@ impl Source for MemSource {
     fn read(&mut self, into: &mut [u8]) -> Result<usize, Failed>
         requires { 0 < length into.old }
         ensures within { IfOk result (λ n. n ≤ length into.old) }
-        ensures given { IfOk result (λ n. Gives (state_of self.old) (state_of self.new) (take n into.new)) }
+        ensures given { IfOk result (λ n. GivesFront (state_of self.old) (state_of self.new) (take n into.new)) }
         ensures end { IfOk result (λ n. n ≡ 0 → IsAtEnd (state_of self.old)) }
         ensures only_end { IfOk result (λ n. (state_of self.old).left ≡ Some [] → n ≡ 0) }
         ensures failed { OnErr result ((state_of self.new).left ≡ (state_of self.old).left) }

@@ -1,6 +1,6 @@
 ghost use Rattle.std.specs.Prelude.{◌≡◌, ◌<◌, ◌≤◌, Some, [], length, take, IfOk, OnErr};
 ghost use Rattle.cxl_enc.specs.Faults.{HasCause};
-ghost use Rattle.cxl_io.specs.Source.{SourceState, Gives, IsAtEnd};
+ghost use Rattle.cxl_io.specs.Source.{SourceState, GivesFront, IsAtEnd};
 
 use cxl_enc::Failed;
 
@@ -13,7 +13,7 @@ pub trait Source {
     fn read(&mut self, into: &mut [u8]) -> Result<usize, Failed>
         requires { 0 < length into.old }
         ensures within { IfOk result (λ n. n ≤ length into.old) }
-        ensures given { IfOk result (λ n. Gives (state self.old) (state self.new) (take n into.new)) }
+        ensures given { IfOk result (λ n. GivesFront (state self.old) (state self.new) (take n into.new)) }
         ensures end { IfOk result (λ n. n ≡ 0 → IsAtEnd (state self.old)) }
         ensures only_end { IfOk result (λ n. (state self.old).left ≡ Some [] → n ≡ 0) }
         ensures failed { OnErr result ((state self.new).left ≡ (state self.old).left) }

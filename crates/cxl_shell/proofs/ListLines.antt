@@ -11,7 +11,7 @@ use Rattle.cxl_io.specs.Sink.{SinkState}
 use Rattle.cxl_window.specs.Fields.{WindowFields}
 use Rattle.cxl_window.specs.Windows.{cfmws_in, window_of, windows_from, windows_of}
 use Rattle.cxl_shell.specs.commands.LinePlaces.{window_line_at, line_at}
-use Rattle.cxl_shell.specs.commands.Lines.{record_line, lines_behind, lines_of}
+use Rattle.cxl_shell.specs.commands.Lines.{record_line, lines_behind, list_lines}
 use Rattle.cxl_shell.proofs.InBlocks.{concat-append, IsInBlocks, blocks-next}
 
 -- the record at a place, behind those before it
@@ -25,8 +25,8 @@ module _ (table : List Record) where
   length-lines_behind before (r ∷ rs) = ap suc (length-lines_behind (before ++ r ∷ []) rs)
 
   -- there is a line for each record
-  pub length-lines_of : length (lines_of table) ≡ length table
-  length-lines_of = length-lines_behind [] table
+  pub length-list_lines : length (list_lines table) ≡ length table
+  length-list_lines = length-lines_behind [] table
 
   line_behind : (before rs : List Record) (i : ℕ) (r : Record) (d : List ℕ) → i < length rs → r ≡ get_or rs i r → get_or (lines_behind table before rs) i d ≡ record_line table (before ++ take i rs) r
   line_behind before [] i r d within is = absurd (omega arith)
@@ -45,11 +45,11 @@ module _ (table : List Record) where
     take_next = take_more table i r within ∙ ap (λ x. take i table ++ x ∷ []) (sym is)
 
     -- one line more
-    pub lines-next : concat (take (i + 1) (lines_of table)) ≡ concat (take i (lines_of table)) ++ record_line table (take i table) r
+    pub lines-next : concat (take (i + 1) (list_lines table)) ≡ concat (take i (list_lines table)) ++ record_line table (take i table) r
     lines-next =
-        let there : i < length (lines_of table) = omega (arith, length-lines_of) in
-        ap concat (take_more (lines_of table) i [] there) ∙ concat-append (take i (lines_of table)) (get_or (lines_of table) i [] ∷ [])
-        ∙ ap (λ t. concat (take i (lines_of table)) ++ t) (append-nil (get_or (lines_of table) i []) ∙ line_behind [] table i r [] within is)
+        let there : i < length (list_lines table) = omega (arith, length-list_lines) in
+        ap concat (take_more (list_lines table) i [] there) ∙ concat-append (take i (list_lines table)) (get_or (list_lines table) i [] ∷ [])
+        ∙ ap (λ t. concat (take i (list_lines table)) ++ t) (append-nil (get_or (list_lines table) i []) ∙ line_behind [] table i r [] within is)
 
     windows_in_front : (c : CfmwsFields) → r ≡ Cfmws c → filter_map cfmws_in table ≡ filter_map cfmws_in (take i table) ++ c ∷ filter_map cfmws_in (drop (suc i) table)
     windows_in_front c window =
@@ -87,11 +87,11 @@ module _ (table : List Record) (windows : List WindowFields) (windows-are : wind
   line_at-record_line (Other c) is = refl
 
 -- the line of the record r, which stands at place i, behind those before it
-pub blocks-line : (table : List Record) (windows : List WindowFields) (windows-are : windows ≡ windows_of table None) (i place : ℕ) (place-is : place ≡ length (filter_map cfmws_in (take i table))) (within : i < length table) (r : Record) → r ≡ get_or table i r → (block block' : List ℕ) (old now : SinkState) → block' ≡ block ++ line_at windows place r → IsInBlocks (lines_of table) i block old now → IsInBlocks (lines_of table) (i + 1) block' old now
+pub blocks-line : (table : List Record) (windows : List WindowFields) (windows-are : windows ≡ windows_of table None) (i place : ℕ) (place-is : place ≡ length (filter_map cfmws_in (take i table))) (within : i < length table) (r : Record) → r ≡ get_or table i r → (block block' : List ℕ) (old now : SinkState) → block' ≡ block ++ line_at windows place r → IsInBlocks (list_lines table) i block old now → IsInBlocks (list_lines table) (i + 1) block' old now
 blocks-line table windows windows-are i place place-is within r is block block' old now more so_far =
-    blocks-next (lines_of table) i (record_line table (take i table) r) block block' old now (lines-next table i r within is)
+    blocks-next (list_lines table) i (record_line table (take i table) r) block block' old now (lines-next table i r within is)
     (more ∙ ap (λ l. block ++ l) (line_at-record_line table windows windows-are i place place-is within r is)) so_far
 
 -- all lines
-pub all_lines : (table : List Record) (i : ℕ) → length table ≤ i → concat (take i (lines_of table)) ≡ concat (lines_of table)
-all_lines table i all = ap concat (take_all i (lines_of table) (omega (arith, length-lines_of table)))
+pub all_lines : (table : List Record) (i : ℕ) → length table ≤ i → concat (take i (list_lines table)) ≡ concat (list_lines table)
+all_lines table i all = ap concat (take_all i (list_lines table) (omega (arith, length-list_lines table)))

@@ -6,9 +6,9 @@ use Rattle.cxl_cedt.specs.CedtFields.{CedtFields}
 use Rattle.cxl_io.specs.Sink.{SinkState, Takes}
 use Rattle.cxl_window.specs.Windows.{windows_of}
 use Rattle.cxl_shell.specs.Answers.{Answers, IsTableAnswer, IsAnswerOfFile}
-use Rattle.cxl_shell.specs.Ends.{IsWritten, IsCut, IsBehind, Ends, IsStopped}
+use Rattle.cxl_shell.specs.Ends.{IsWritten, IsCutShort, IsBehind, Ends, IsStopped}
 use Rattle.cxl_shell.specs.Form.{Form, Route, Listing, Normal, Help, Version, Unreadable, takes_memory}
-use Rattle.cxl_shell.specs.Outcome.{Outcome, text_of, one_piece}
+use Rattle.cxl_shell.specs.Outcome.{Outcome, whole_text, one_piece}
 use Rattle.cxl_shell.specs.Outside.{Outside}
 use Rattle.cxl_shell.specs.Run.{RunsOut, before, behind, IsRun, writes, is_cut, runs_out}
 use Rattle.cxl_shell.specs.commands.List.{IsListText, TakesLines}
@@ -29,8 +29,8 @@ record IsOnePiece (outcome : Outcome) : Type 0 where
   text : List ℕ
   is : outcome ≡ one_piece status text
 
-one_text : (outcome : Outcome) (status : Status) (text : List ℕ) → outcome ≡ one_piece status text → text_of outcome ≡ text
-one_text outcome status text is = ap text_of is ∙ append-nil text
+one_text : (outcome : Outcome) (status : Status) (text : List ℕ) → outcome ≡ one_piece status text → whole_text outcome ≡ text
+one_text outcome status text is = ap whole_text is ∙ append-nil text
 
 module _ (old new : SinkState) where
   none_of_one : (text : List ℕ) (count : ℕ) → count < 1 → Takes old new (concat (take count (text ∷ []))) → Takes old new []
@@ -84,7 +84,7 @@ module _ (old new : Outside) where
 
   pub fixed_ends : (form : Form) (fixed : Outcome) (status : Status) → takes_memory form ≡ false → ((o : Outcome) → Answers form old.files new.files o → o ≡ fixed) → IsRun form old new status → Ends fixed status old.out new.out
   fixed_ends form fixed status none one (writes outcome answers written) = inl (subst (λ o. IsWritten o status old.out new.out) (one outcome answers) written)
-  fixed_ends form fixed status none one (is_cut outcome answers is) = inr (subst (λ o. IsCut o status old.out new.out) (one outcome answers) is)
+  fixed_ends form fixed status none one (is_cut outcome answers is) = inr (subst (λ o. IsCutShort o status old.out new.out) (one outcome answers) is)
   fixed_ends form fixed status none one (runs_out takes is left) = absurd (cc)
 
   pub ends_or_memory : (form : Form) (status : Status) → IsRun form old new status → (status ≡ Memory) ⊎ ((outcome : Outcome) × Answers form old.files new.files outcome × Ends outcome status old.out new.out)
@@ -130,13 +130,13 @@ module _ (old new : Outside) where
   list_written file came =
       let answered = done_answer old new (Listing file) file refl came in
       let of = subst (λ f. IsTableOf (old.files.told f) answered.table) (same_file file answered.file answered.asked) answered.of in
-      (text_of answered.outcome, record { table = answered.table; is_table = of; lines = ap text_of answered.answer }, answered.written.taken)
+      (whole_text answered.outcome, record { table = answered.table; is_table = of; lines = ap whole_text answered.answer }, answered.written.taken)
 
   pub normal_written : (file : List ℕ) → Came old new (Normal file) Done → (bytes : List ℕ) × IsNormalText (old.files.told file) bytes × Takes old.out new.out bytes
   normal_written file came =
       let answered = done_answer old new (Normal file) file refl came in
       let of = subst (λ f. IsTableOf (old.files.told f) answered.table) (same_file file answered.file answered.asked) answered.of in
-      (text_of answered.outcome, record { table = answered.table; is_table = of; spelled = one_text answered.outcome Done _ answered.answer }, answered.written.taken)
+      (whole_text answered.outcome, record { table = answered.table; is_table = of; spelled = one_text answered.outcome Done _ answered.answer }, answered.written.taken)
 
 -- a refusal that is written
 pub refusal : (old new : Outside) (status : Status) → IsWritten no_window status old.out new.out ⊎ IsStopped status old new → (status ≡ Refused) ⊎ IsStopped status old new

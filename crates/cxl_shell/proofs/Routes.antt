@@ -1,9 +1,10 @@
 -- Where an address goes by one table.
-use Rattle.std.proofs.Common.{◌≡◌, ℕ, None, ap, ◌∙◌, sym, ◌⊎◌, inl, inr}
+use Rattle.std.proofs.Common.{◌≡◌, ℕ, Option, Some, None, Result, Ok, MatchOption, IfSome, IfOk, refl, ap, subst, ◌∙◌, sym, ◌⊎◌, inl, inr}
+use Rattle.std.proofs.lemmas.Result.{IfOk-weaker}
 use Rattle.cxl_cedt.specs.CedtFields.{CedtFields}
 use Rattle.cxl_window.specs.Windows.{windows_of}
 use Rattle.cxl_shell.specs.Outcome.{Outcome}
-use Rattle.cxl_shell.specs.commands.Route.{IsSelection, IsNowhere, routed, IsRouted, to_bridge, nowhere}
+use Rattle.cxl_shell.specs.commands.Route.{IsSelection, IsNowhere, routed, no_window, IsRouted, to_bridge, nowhere}
 use Rattle.cxl_shell.specs.declared.commands.selection.Selection.{Selection}
 use Rattle.cxl_shell.specs.declared.status.Status.TheVariants.{Done, Refused}
 use Rattle.cxl_shell.proofs.Holders.{one_selection, selection_and_none}
@@ -27,3 +28,8 @@ module _ (table : CedtFields) (h : ℕ) where
   pub refused_nowhere : (outcome : Outcome) → outcome.status ≡ Refused → IsRouted table h outcome → IsNowhere (windows_of table.records None) h
   refused_nowhere outcome refused (to_bridge s selected e) = let done = ap (λ o. o.status) e in absurd (cc)
   refused_nowhere outcome refused (nowhere none e) = none
+
+  -- what is answered of a selection
+  pub routed_by : {E : Type 0} (selection : Option Selection) (answer : Result Outcome E) → MatchOption selection (IsNowhere (windows_of table.records None) h) (λ s. IsSelection (windows_of table.records None) h s) → IfSome selection (λ s. IfOk answer (λ outcome. outcome ≡ routed s)) → (selection ≡ None → answer ≡ Ok no_window) → IfOk answer (IsRouted table h)
+  routed_by None answer selected some none = subst (λ r. IfOk r (IsRouted table h)) (sym (none refl)) (nowhere selected refl)
+  routed_by (Some s) answer selected some none = IfOk-weaker answer (λ o. o ≡ routed s) (IsRouted table h) (λ o e. to_bridge s selected e) some

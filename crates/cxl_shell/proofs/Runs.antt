@@ -8,7 +8,7 @@ use Rattle.cxl_cedt.specs.declared.fault.CedtFault.{CedtFault}
 use Rattle.cxl_io.specs.Fetch.{AsksFor, IsTooLarge}
 use Rattle.cxl_io.specs.Told.{Told, Absent, AreTold}
 use Rattle.cxl_shell.specs.Answers.{Answers, IsTableAnswer, IsAnswerOfFile}
-use Rattle.cxl_shell.specs.Ends.{IsWritten, IsCut, IsUnwritten}
+use Rattle.cxl_shell.specs.Ends.{IsWritten, IsCutShort, IsUnwritten}
 use Rattle.cxl_shell.specs.Form.{Form, Route, Listing, Normal, Help, Version, Unreadable, own_files, table_file, takes_memory}
 use Rattle.cxl_shell.specs.Outcome.{Outcome}
 use Rattle.cxl_shell.specs.Outside.{Outside}
@@ -49,7 +49,7 @@ module _ (old new : Outside) where
     faulty : (file : List ℕ) (fault : CedtFault) → table_file form ≡ Some file → AsksFor old.files new.files (file ∷ []) → IsFaultyFile (old.files.told file) fault → Came form (BadTable fault)
     done : IsAnswered form Done → Came form Done
     refuses : IsAnswered form Refused → Came form Refused
-    cut : (outcome : Outcome) → Answers form old.files new.files outcome → IsCut outcome WriteFault old.out new.out → Came form WriteFault
+    cut : (outcome : Outcome) → Answers form old.files new.files outcome → IsCutShort outcome WriteFault old.out new.out → Came form WriteFault
     out : takes_memory form ≡ true → RunsOut form old new → Came form Memory
 
   -- ---- from the relation
@@ -78,7 +78,7 @@ module _ (old new : Outside) where
 
   came : (form : Form) (status : Status) → IsRun form old new status → Came form status
   came form status (writes outcome answers written) = came_written form status outcome answers written
-  came form status (is_cut outcome answers is) = subst (Came form) (sym is.status_is) (cut outcome answers (subst (λ s. IsCut outcome s old.out new.out) is.status_is is))
+  came form status (is_cut outcome answers is) = subst (Came form) (sym is.status_is) (cut outcome answers (subst (λ s. IsCutShort outcome s old.out new.out) is.status_is is))
   came form status (runs_out takes is left) = subst (Came form) (sym is) (out takes left)
 
   -- how a run came to this status

@@ -3,7 +3,7 @@ use Rattle.std.specs.Prelude.{◌≡◌, ℕ, ◌<◌, ◌⊎◌, [], Result, Ok
 use Rattle.std.specs.List.{concat}
 use Rattle.cxl_enc.specs.Faults.{Rose}
 use Rattle.cxl_io.specs.Sink.{SinkState, Takes, TakesPrefix}
-use Rattle.cxl_shell.specs.Outcome.{Outcome, text_of}
+use Rattle.cxl_shell.specs.Outcome.{Outcome, whole_text}
 use Rattle.cxl_shell.specs.Outside.{Outside}
 use Rattle.cxl_shell.specs.declared.status.Status.{Status}
 use Rattle.cxl_shell.specs.declared.status.Status.TheVariants.{FetchFault, WriteFault, Memory}
@@ -15,13 +15,13 @@ use Rattle.cxl_shell.specs.declared.stop.Stop.TheVariants as stop
 -- the outcome's status, and all its pieces are written
 pub record IsWritten (outcome : Outcome) (status : Status) (old new : SinkState) : Type 0 where
   pub status_is : status ≡ outcome.status
-  pub taken : Takes old new (text_of outcome)
+  pub taken : Takes old new (whole_text outcome)
 
 -- the sink failed, which takes a fault there, behind a part of the text from the front
-pub record IsCut (outcome : Outcome) (status : Status) (old new : SinkState) : Type 0 where
+pub record IsCutShort (outcome : Outcome) (status : Status) (old new : SinkState) : Type 0 where
   pub status_is : status ≡ WriteFault
   pub rose : Rose old.faults new.faults
-  pub taken : TakesPrefix old new (text_of outcome)
+  pub taken : TakesPrefix old new (whole_text outcome)
 
 -- memory ran out behind whole pieces, but not all
 pub record IsBehind (outcome : Outcome) (old new : SinkState) : Type 0 where
@@ -30,7 +30,7 @@ pub record IsBehind (outcome : Outcome) (old new : SinkState) : Type 0 where
   pub taken : Takes old new (concat (take count outcome.pieces))
 
 abbrev pub Ends : Outcome → Status → SinkState → SinkState → Type 0
-Ends outcome status old new = IsWritten outcome status old new ⊎ IsCut outcome status old new
+Ends outcome status old new = IsWritten outcome status old new ⊎ IsCutShort outcome status old new
 
 -- what a command gives is written; where memory ran out, nothing is
 abbrev pub Finishes : Result Outcome Stop → Status → SinkState → SinkState → Type 0

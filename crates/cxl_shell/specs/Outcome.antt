@@ -9,8 +9,8 @@ pub record Outcome : Type 0 where
   pub pieces : List (List ℕ)
 
 -- its whole text
-abbrev pub text_of : Outcome → List ℕ
-text_of outcome = concat outcome.pieces
+abbrev pub whole_text : Outcome → List ℕ
+whole_text outcome = concat outcome.pieces
 
 abbrev pub one_piece : Status → List ℕ → Outcome
 one_piece status text = record { status = status; pieces = text ∷ [] }

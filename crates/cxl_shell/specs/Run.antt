@@ -2,7 +2,7 @@
 use Rattle.std.specs.Prelude.{◌≡◌, true, []}
 use Rattle.cxl_io.specs.Sink.{Takes}
 use Rattle.cxl_shell.specs.Answers.{Answers}
-use Rattle.cxl_shell.specs.Ends.{IsWritten, IsCut, IsBehind}
+use Rattle.cxl_shell.specs.Ends.{IsWritten, IsCutShort, IsBehind}
 use Rattle.cxl_shell.specs.Form.{Form, own_files, takes_memory}
 use Rattle.cxl_shell.specs.Outcome.{Outcome}
 use Rattle.cxl_shell.specs.Outside.{Outside}
@@ -19,7 +19,7 @@ pub data RunsOut (form : Form) (old new : Outside) : Type 0 where
 -- that takes any.
 pub data IsRun (form : Form) (old new : Outside) (status : Status) : Type 0 where
   writes : (outcome : Outcome) → Answers form old.files new.files outcome → IsWritten outcome status old.out new.out → IsRun form old new status
-  is_cut : (outcome : Outcome) → Answers form old.files new.files outcome → IsCut outcome status old.out new.out → IsRun form old new status
+  is_cut : (outcome : Outcome) → Answers form old.files new.files outcome → IsCutShort outcome status old.out new.out → IsRun form old new status
   runs_out : takes_memory form ≡ true → status ≡ Memory → RunsOut form old new → IsRun form old new status
 
 -- a fact of each run: its form, what the outside holds before it and after it, and its status

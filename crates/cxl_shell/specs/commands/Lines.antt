@@ -113,5 +113,5 @@ lines_behind table before [] = []
 lines_behind table before (r ∷ rs) = record_line table before r ∷ lines_behind table (before ++ r ∷ []) rs
 
 -- a line for each record
-abbrev pub lines_of : List Record → List (List ℕ)
-lines_of table = lines_behind table [] table
+abbrev pub list_lines : List Record → List (List ℕ)
+list_lines table = lines_behind table [] table

@@ -11,22 +11,22 @@ use cxl_window::{Verdict, Window};
 /// Appends the line of a record, before which so many of the windows stand.
 pub(crate) fn put_line(
     out: &mut Vec<u8>,
-    entry: &Record,
+    item: &Record,
     windows: &[Window],
     place: usize,
 ) -> Result<(), Memory>
-    requires { IsSome (cfmws_in entry.now) → place < length windows.now }
-    ensures { OnOk result (out.new.items ≡ out.old.items ++ line_at windows.now place entry.now) }
+    requires { IsSome (cfmws_in item.now) → place < length windows.now }
+    ensures { OnOk result (out.new.items ≡ out.old.items ++ line_at windows.now place item.now) }
 {
-    match entry {
-        Record::Chbs(chbs) => put_chbs(out, chbs),
-        Record::Cfmws(window) => put_window(out, &windows[place], window.qtg()),
-        Record::Cxims(maps) => put_cxims(out, maps),
-        Record::Other(other) => put_other(out, other),
+    match item {
+        Record::Chbs(chbs) => put_chbs_line(out, chbs),
+        Record::Cfmws(window) => put_window_line(out, &windows[place], window.qtg()),
+        Record::Cxims(maps) => put_cxims_line(out, maps),
+        Record::Other(other) => put_other_line(out, other),
     }
 }
 
-fn put_chbs(out: &mut Vec<u8>, chbs: &Chbs) -> Result<(), Memory>
+fn put_chbs_line(out: &mut Vec<u8>, chbs: &Chbs) -> Result<(), Memory>
     ensures { OnOk result (out.new.items ≡ out.old.items ++ chbs_line chbs.now) }
 {
     put_bridge(out, chbs)?;
@@ -56,7 +56,7 @@ fn put_registers(out: &mut Vec<u8>, chbs: &Chbs) -> Result<(), Memory>
 }
 
 /// Appends the line of a window whose record has this throttling group.
-fn put_window(out: &mut Vec<u8>, window: &Window, qtg: u16) -> Result<(), Memory>
+fn put_window_line(out: &mut Vec<u8>, window: &Window, qtg: u16) -> Result<(), Memory>
     ensures { OnOk result (out.new.items ≡ out.old.items ++ window_line window.now qtg) }
 {
     put_range(out, window)?;
@@ -124,18 +124,18 @@ fn put_verdict(out: &mut Vec<u8>, verdict: Verdict) -> Result<(), Memory>
     ensures { OnOk result (out.new.items ≡ out.old.items ++ verdict_text verdict) }
 {
     match verdict {
-        Verdict::Usable => put_word(out, b"usable"),
-        Verdict::Align => put_word(out, b"align"),
-        Verdict::Size => put_word(out, b"size"),
-        Verdict::TooHigh => put_word(out, b"too-high"),
+        Verdict::Usable => put_text(out, b"usable"),
+        Verdict::Align => put_text(out, b"align"),
+        Verdict::Size => put_text(out, b"size"),
+        Verdict::TooHigh => put_text(out, b"too-high"),
         Verdict::Overlap(index) => put_cause(out, b"overlap ", index),
         Verdict::Target(uid) => put_cause(out, b"target ", uid),
         Verdict::Repeat(uid) => put_cause(out, b"repeat ", uid),
-        Verdict::Maps => put_word(out, b"maps"),
+        Verdict::Maps => put_text(out, b"maps"),
     }
 }
 
-fn put_word(out: &mut Vec<u8>, word: &[u8]) -> Result<(), Memory>
+fn put_text(out: &mut Vec<u8>, word: &[u8]) -> Result<(), Memory>
     ensures { OnOk result (out.new.items ≡ out.old.items ++ word.now) }
 {
     out.extend_from_slice(word)?;
@@ -150,7 +150,7 @@ fn put_cause(out: &mut Vec<u8>, word: &[u8], number: u32) -> Result<(), Memory>
     put_number(out, u64::from(number))
 }
 
-fn put_cxims(out: &mut Vec<u8>, maps: &Cxims) -> Result<(), Memory>
+fn put_cxims_line(out: &mut Vec<u8>, maps: &Cxims) -> Result<(), Memory>
     ensures { OnOk result (out.new.items ≡ out.old.items ++ cxims_line maps.now) }
 {
     out.extend_from_slice(b"cxims gran ")?;
@@ -161,7 +161,7 @@ fn put_cxims(out: &mut Vec<u8>, maps: &Cxims) -> Result<(), Memory>
     Ok(())
 }
 
-fn put_other(out: &mut Vec<u8>, other: &Other) -> Result<(), Memory>
+fn put_other_line(out: &mut Vec<u8>, other: &Other) -> Result<(), Memory>
     ensures { OnOk result (out.new.items ≡ out.old.items ++ other_line other.now) }
 {
     out.extend_from_slice(b"other ")?;
@@ -201,7 +201,7 @@ fn put_maps(out: &mut Vec<u8>, maps: &[u64]) -> Result<(), Memory>
     ensures { OnOk result (out.new.items ≡ out.old.items ++ maps_text maps.now) }
 {
     match maps {
-        [] => put_word(out, b"none"),
+        [] => put_text(out, b"none"),
         [first, others @ ..] => {
             put_address(out, *first)?;
             put_more_maps(out, others)

@@ -78,12 +78,12 @@ fn write_lines<K: Sink>(
     writes_join();
     let mut block = Vec::new(alloc);
     let mut place = 0;
-    for entry in records {
-        put_line(&mut block, entry, windows, place)?;
+    for item in records {
+        put_line(&mut block, item, windows, place)?;
         if write_full(&mut block, out).is_err() {
             return Ok(Status::WriteFault);
         }
-        place += window_count(entry);
+        place += window_count(item);
     }
     if write_all(out, block.as_slice()).is_err() {
         return Ok(Status::WriteFault);
@@ -92,11 +92,11 @@ fn write_lines<K: Sink>(
 }
 
 /// How many windows a record is: one or none.
-fn window_count(entry: &Record) -> usize
-    ensures value { result ≡ length (filter_map cfmws_in (entry.now ∷ [])) }
+fn window_count(item: &Record) -> usize
+    ensures value { result ≡ length (filter_map cfmws_in (item.now ∷ [])) }
     ensures few { result ≤ 1 }
 {
-    match entry {
+    match item {
         Record::Cfmws(_) => 1,
         _ => 0,
     }

@@ -1,4 +1,4 @@
-ghost use Rattle.std.specs.Prelude.{◌≡◌, ℕ, ◌≤◌, ◌⊎◌, None, List, IfOk};
+ghost use Rattle.std.specs.Prelude.{◌≡◌, ℕ, ◌≤◌, ◌⊎◌, None, Ok, List, IfOk, IfSome};
 ghost use Rattle.cxl_cedt.specs.CedtFields.{CedtFields};
 ghost use Rattle.cxl_io.specs.Sink.{Takes};
 ghost use Rattle.cxl_io.specs.Told.{Bytes};
@@ -41,7 +41,15 @@ fn routed(alloc: Global, table: &Cedt, h: u64) -> Result<Outcome, Memory>
     ensures { IfOk result (IsRouted table.now h) }
 {
     let windows = windows(alloc, table, None)?;
-    match select(&windows, h) {
+    answer(alloc, select(&windows, h))
+}
+
+/// What an address's selection comes to. That there is none takes no memory to say.
+fn answer(alloc: Global, selection: Option<Selection>) -> Result<Outcome, Memory>
+    ensures some { IfSome selection (λ s. IfOk result (λ outcome. outcome ≡ routed s)) }
+    ensures none { selection ≡ None → result ≡ Ok no_window }
+{
+    match selection {
         Some(selection) => named(alloc, selection),
         None => Ok(no_window()),
     }
@@ -60,7 +68,7 @@ fn named(alloc: Global, selection: Selection) -> Result<Outcome, Memory>
     Ok(Outcome::made(Status::Done, text.into_bytes()))
 }
 
-/// An address goes nowhere. Takes no memory.
+/// An address goes nowhere.
 fn no_window() -> Outcome
     ensures { result ≡ no_window }
 {
