@@ -133,9 +133,10 @@ fn names_in_memory(rt: HostRuntime) -> Result<(), Fail> {
     for name in ["table", "image"] {
         assert_eq!(rt; memory.fetch(alloc, name).err(), Some(FetchFault::Failed));
     }
-    assert_eq!(rt; memory.asked().len(), 2);
-    assert_eq!(rt; memory.asked()[0].as_str(), "table");
-    assert_eq!(rt; memory.asked()[1].as_str(), "image");
+    let asked = memory.asked();
+    assert_eq!(rt; asked.len(), 2);
+    assert_eq!(rt; asked[0].as_str(), "table");
+    assert_eq!(rt; asked[1].as_str(), "image");
     Ok(())
 }
 

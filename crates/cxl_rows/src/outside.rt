@@ -136,8 +136,9 @@ fn names_of_files(rt: HostRuntime) -> Result<(), Fail> {
             line.push(String::from_str(alloc, word)?)?;
         }
         run(alloc, line.as_slice(), &mut files, &mut sink);
-        assert_eq!(rt; files.asked().len(), 1, "names of {words}");
-        assert_eq!(rt; files.asked()[0].as_str(), wanted);
+        let asked = files.asked();
+        assert_eq!(rt; asked.len(), 1, "names of {words}");
+        assert_eq!(rt; asked[0].as_str(), wanted);
     }
     Ok(())
 }

@@ -5,7 +5,7 @@ use Rattle.std.proofs.lemmas.List.{append-nil}
 use Rattle.cxl_cedt.specs.CedtFields.{CedtFields}
 use Rattle.cxl_io.specs.Sink.{SinkState, Takes}
 use Rattle.cxl_window.specs.Windows.{windows_of}
-use Rattle.cxl_shell.specs.Answers.{Answers, IsTableAnswer, IsAnswerOfFile}
+use Rattle.cxl_shell.specs.Answers.{AnswersFromFiles, IsTableAnswer, IsAnswerOfFile}
 use Rattle.cxl_shell.specs.Ends.{IsWritten, IsCutShort, IsBehind, Ends, IsStopped}
 use Rattle.cxl_shell.specs.Form.{Form, Route, Listing, Normal, Help, Version, Unreadable, takes_memory}
 use Rattle.cxl_shell.specs.Outcome.{Outcome, whole_text, one_piece}
@@ -57,7 +57,7 @@ module _ (old new : Outside) where
   one_of_route table h outcome (nowhere none e) = record { status = _; text = _; is = e }
 
   -- only a list has more pieces
-  one_piece_answers : (form : Form) (outcome : Outcome) → ((file : List ℕ) → form ≢ Listing file) → Answers form old.files new.files outcome → IsOnePiece outcome
+  one_piece_answers : (form : Form) (outcome : Outcome) → ((file : List ℕ) → form ≢ Listing file) → AnswersFromFiles form old.files new.files outcome → IsOnePiece outcome
   one_piece_answers (Route file h) outcome other answers = one_of_file (Route file h) file outcome (λ table answer. one_of_route table h outcome answer) answers
   one_piece_answers (Listing file) outcome other answers = absurd (other file refl)
   one_piece_answers (Normal file) outcome other answers = one_of_file (Normal file) file outcome (λ table answer. record { status = _; text = _; is = answer }) answers
@@ -82,12 +82,12 @@ module _ (old new : Outside) where
 
   -- ---- forms whose outcome is fixed
 
-  pub fixed_ends : (form : Form) (fixed : Outcome) (status : Status) → takes_memory form ≡ false → ((o : Outcome) → Answers form old.files new.files o → o ≡ fixed) → IsRun form old new status → Ends fixed status old.out new.out
+  pub fixed_ends : (form : Form) (fixed : Outcome) (status : Status) → takes_memory form ≡ false → ((o : Outcome) → AnswersFromFiles form old.files new.files o → o ≡ fixed) → IsRun form old new status → Ends fixed status old.out new.out
   fixed_ends form fixed status none one (writes outcome answers written) = inl (subst (λ o. IsWritten o status old.out new.out) (one outcome answers) written)
   fixed_ends form fixed status none one (is_cut outcome answers is) = inr (subst (λ o. IsCutShort o status old.out new.out) (one outcome answers) is)
   fixed_ends form fixed status none one (runs_out takes is left) = absurd (cc)
 
-  pub ends_or_memory : (form : Form) (status : Status) → IsRun form old new status → (status ≡ Memory) ⊎ ((outcome : Outcome) × Answers form old.files new.files outcome × Ends outcome status old.out new.out)
+  pub ends_or_memory : (form : Form) (status : Status) → IsRun form old new status → (status ≡ Memory) ⊎ ((outcome : Outcome) × AnswersFromFiles form old.files new.files outcome × Ends outcome status old.out new.out)
   ends_or_memory form status (writes outcome answers written) = inr (outcome, answers, inl written)
   ends_or_memory form status (is_cut outcome answers is) = inr (outcome, answers, inr is)
   ends_or_memory form status (runs_out takes is left) = inl is

@@ -7,7 +7,7 @@ use Rattle.cxl_cedt.specs.CedtFields.{CedtFields}
 use Rattle.cxl_cedt.specs.declared.fault.CedtFault.{CedtFault}
 use Rattle.cxl_io.specs.Fetch.{AsksFor, IsTooLarge}
 use Rattle.cxl_io.specs.Told.{Told, Absent, AreTold}
-use Rattle.cxl_shell.specs.Answers.{Answers, IsTableAnswer, IsAnswerOfFile}
+use Rattle.cxl_shell.specs.Answers.{AnswersFromFiles, IsTableAnswer, IsAnswerOfFile}
 use Rattle.cxl_shell.specs.Ends.{IsWritten, IsCutShort, IsUnwritten}
 use Rattle.cxl_shell.specs.Form.{Form, Route, Listing, Normal, Help, Version, Unreadable, own_files, table_file, takes_memory}
 use Rattle.cxl_shell.specs.Outcome.{Outcome}
@@ -49,7 +49,7 @@ module _ (old new : Outside) where
     faulty : (file : List ℕ) (fault : CedtFault) → table_file form ≡ Some file → AsksFor old.files new.files (file ∷ []) → IsFaultyFile (old.files.told file) fault → Came form (BadTable fault)
     done : IsAnswered form Done → Came form Done
     refuses : IsAnswered form Refused → Came form Refused
-    cut : (outcome : Outcome) → Answers form old.files new.files outcome → IsCutShort outcome WriteFault old.out new.out → Came form WriteFault
+    cut : (outcome : Outcome) → AnswersFromFiles form old.files new.files outcome → IsCutShort outcome WriteFault old.out new.out → Came form WriteFault
     out : takes_memory form ≡ true → RunsOut form old new → Came form Memory
 
   -- ---- from the relation
@@ -68,7 +68,7 @@ module _ (old new : Outside) where
   came_by_file form file status outcome asked (by_table table of answer) written =
       by_status form status (record { file = file; table = table; outcome = outcome; asked = asked; asks = answer.0; of = of; answer = answer.1; written = written }) (answer_status form table outcome answer.1)
 
-  came_written : (form : Form) (status : Status) (outcome : Outcome) → Answers form old.files new.files outcome → IsWritten outcome status old.out new.out → Came form status
+  came_written : (form : Form) (status : Status) (outcome : Outcome) → AnswersFromFiles form old.files new.files outcome → IsWritten outcome status old.out new.out → Came form status
   came_written (Route file h) status outcome answers written = came_by_file (Route file h) file status outcome refl answers written
   came_written (Listing file) status outcome answers written = came_by_file (Listing file) file status outcome refl answers written
   came_written (Normal file) status outcome answers written = came_by_file (Normal file) file status outcome refl answers written
@@ -96,7 +96,7 @@ module _ (old new : Outside) where
   asked_by_file form file outcome (no_table (not_sound fault is asks e)) = asks
   asked_by_file form file outcome (by_table table of answer) = answer.0
 
-  asked_answers : (form : Form) (outcome : Outcome) → Answers form old.files new.files outcome → AsksFor old.files new.files (own_files form)
+  asked_answers : (form : Form) (outcome : Outcome) → AnswersFromFiles form old.files new.files outcome → AsksFor old.files new.files (own_files form)
   asked_answers (Route file h) outcome answers = asked_by_file (Route file h) file outcome answers
   asked_answers (Listing file) outcome answers = asked_by_file (Listing file) file outcome answers
   asked_answers (Normal file) outcome answers = asked_by_file (Normal file) file outcome answers

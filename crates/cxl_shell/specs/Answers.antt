@@ -1,10 +1,11 @@
--- Which outcome answers a form, by what the files hold before it and after it.
+-- Which outcome answers a form, by what the outside holds before it and after it.
 use Rattle.std.specs.Prelude.{◌≡◌, ℕ, List, [], ◌∷◌, Result, Ok, Err}
 use Rattle.cxl_cedt.specs.CedtFields.{CedtFields}
 use Rattle.cxl_enc.specs.declared.faults.Memory.{Memory}
 use Rattle.cxl_io.specs.Fetch.{FetchState, AsksFor}
 use Rattle.cxl_shell.specs.Form.{Form, Route, Listing, Normal, Help, Version, Unreadable, own_files}
 use Rattle.cxl_shell.specs.Outcome.{Outcome}
+use Rattle.cxl_shell.specs.Outside.{Outside}
 use Rattle.cxl_shell.specs.commands.Help.{helped, version_told, misused}
 use Rattle.cxl_shell.specs.commands.List.{listed}
 use Rattle.cxl_shell.specs.commands.Normal.{normalized}
@@ -28,14 +29,18 @@ abbrev pub IsAnswerOfFile : Form → List ℕ → FetchState → FetchState → 
 IsAnswerOfFile form file old new outcome =
     IsByTable file old new (λ table o. AsksFor old new (file ∷ []) × IsTableAnswer form table o) outcome
 
--- the outcome answers the form
-abbrev pub Answers : Form → FetchState → FetchState → Outcome → Type 0
-Answers (Route file h) old new outcome = IsAnswerOfFile (Route file h) file old new outcome
-Answers (Listing file) old new outcome = IsAnswerOfFile (Listing file) file old new outcome
-Answers (Normal file) old new outcome = IsAnswerOfFile (Normal file) file old new outcome
-Answers Help old new outcome = (outcome ≡ helped) × AsksFor old new []
-Answers Version old new outcome = (outcome ≡ version_told) × AsksFor old new []
-Answers Unreadable old new outcome = (outcome ≡ misused) × AsksFor old new []
+-- the outcome answers the form by what the files hold
+abbrev pub AnswersFromFiles : Form → FetchState → FetchState → Outcome → Type 0
+AnswersFromFiles (Route file h) old new outcome = IsAnswerOfFile (Route file h) file old new outcome
+AnswersFromFiles (Listing file) old new outcome = IsAnswerOfFile (Listing file) file old new outcome
+AnswersFromFiles (Normal file) old new outcome = IsAnswerOfFile (Normal file) file old new outcome
+AnswersFromFiles Help old new outcome = (outcome ≡ helped) × AsksFor old new []
+AnswersFromFiles Version old new outcome = (outcome ≡ version_told) × AsksFor old new []
+AnswersFromFiles Unreadable old new outcome = (outcome ≡ misused) × AsksFor old new []
+
+-- by what the outside holds, of which these forms use the files alone
+abbrev pub Answers : Form → Outside → Outside → Outcome → Type 0
+Answers form old new outcome = AnswersFromFiles form old.files new.files outcome
 
 -- ---- commands that stop early
 
@@ -51,5 +56,5 @@ stop_of (Err memory) = stop.Memory
 
 -- a command gives an outcome that answers the form; or memory ran out behind the first of its files
 abbrev pub ComesTo : Form → FetchState → FetchState → Result Outcome Stop → Type 0
-ComesTo form old new (Ok outcome) = Answers form old new outcome
-ComesTo form old new (Err stop) = IsStop (Answers form old new) (AsksForSome (own_files form) old new) stop
+ComesTo form old new (Ok outcome) = AnswersFromFiles form old new outcome
+ComesTo form old new (Err stop) = IsStop (AnswersFromFiles form old new) (AsksForSome (own_files form) old new) stop

@@ -24,11 +24,11 @@ pub(crate) fn finish<K: Sink>(answer: Result<Outcome, Stop>, out: &mut K) -> Sta
 }
 
 /// Laws of each run: how it ends.
-pub fn ends()
+pub fn run_ends()
     // Unless memory ran out, an outcome that answers the form is written, or the sink failed behind a part
     // of its text.
     ensures answer { EachRun (λ form old new status. (status ≡ Status.Memory)
-        ⊎ ((outcome : Outcome) × Answers form old.files new.files outcome × Ends outcome status old.out new.out)) }
+        ⊎ ((outcome : Outcome) × Answers form old new outcome × Ends outcome status old.out new.out)) }
     // Status 6 comes only where the sink failed.
     ensures write_fault { EachRun (λ form old new status. status ≡ Status.WriteFault
         → Rose old.out.faults new.out.faults) }

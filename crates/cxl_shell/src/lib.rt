@@ -15,7 +15,7 @@ pub use commands::help::{HELP, VERSION, help_statuses};
 pub use commands::list::list_statuses;
 pub use commands::normal::normal_statuses;
 pub use commands::route::route_statuses;
-pub use finish::ends;
+pub use finish::run_ends;
 pub use inputs::file::file_statuses;
 pub use inputs::table::table_statuses;
 pub use shell::run;

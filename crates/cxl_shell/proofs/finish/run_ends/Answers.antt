@@ -1,7 +1,7 @@
 use Rattle.cxl_shell.specs.declared.status.Status.TheVariants.{WriteFault, Memory}
 use Rattle.cxl_shell.proofs.PerCommand.{memory_writes, ends_or_memory, no_memory_left}
 use Rattle.cxl_shell.proofs.Runs.{came_to, sink_rose, memory_left}
-use Rattle.cxl_shell.proofs.finish.ends.Goals as goal
+use Rattle.cxl_shell.proofs.finish.run_ends.Goals as goal
 
 pub returns-clause-answer : goal.returns-clause-answer
 returns-clause-answer c = λ form old new status run. ends_or_memory old new form status run
