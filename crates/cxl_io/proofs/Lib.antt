@@ -1,4 +1,7 @@
-pub mod ToldLemmas
+pub mod Writes
 pub mod Values
 pub mod ReadBack
 pub mod HexText
+pub mod LineBreaks
+pub mod Reading
+pub mod HasRead

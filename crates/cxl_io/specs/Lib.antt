@@ -1,7 +1,12 @@
 pub mod Told
-pub mod Counters
 pub mod Numbers
 pub mod Printed
-pub mod Files
+pub mod Fetch
 pub mod MemoryFiles
+pub mod Sink
 pub mod MemorySink
+pub mod Source
+pub mod MemorySource
+pub mod Lines
+pub mod Reader
+pub mod ReaderSteps

@@ -1,7 +1,8 @@
 -- A sink in memory with a fixed room.
-use Rattle.std.specs.Prelude.{ℕ, ◌-◌, min, Bool, ◌||◌, ◌==◌, if◌then◌else◌, Result, Ok, Err, List, ◌++◌, length, take}
+use Rattle.std.specs.Prelude.{ℕ, ◌-◌, Some, min, Bool, ◌||◌, ◌==◌, if◌then◌else◌, Result, Ok, Err, List, ◌++◌, length, take}
 use Rattle.cxl_enc.specs.declared.faults.Failed.{Failed}
-use Rattle.cxl_io.specs.Counters.{Counters, fails_next, counters_after}
+use Rattle.cxl_enc.specs.Counters.{Counters, fails_next, counters_after}
+use Rattle.cxl_io.specs.Sink.{SinkState}
 
 pub record MemorySink : Type 0 where
   -- those taken so far
@@ -9,6 +10,10 @@ pub record MemorySink : Type 0 where
   -- how many bytes it takes in all
   pub room : ℕ
   pub counters : Counters
+
+-- it tells what it took
+abbrev pub state_of : MemorySink → SinkState
+state_of sink = record { taken = Some sink.bytes; faults = sink.counters.faults }
 
 abbrev pub room_left : MemorySink → ℕ
 room_left sink = sink.room - length sink.bytes

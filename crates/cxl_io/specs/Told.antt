@@ -1,17 +1,24 @@
--- The bytes that a sink took, where it tells them.
-use Rattle.std.specs.Prelude.{◌≡◌, ℕ, ◌<◌, Option, Some, None, List, ◌++◌, length, take}
+-- What an object of the outside tells.
+use Rattle.std.specs.Prelude.{◌≡◌, ℕ, Option, Some, None, List, ◌++◌}
 
--- what is told, with these bytes at its end; where nothing is told, still nothing
-abbrev pub told_with : Option (List ℕ) → List ℕ → Option (List ℕ)
-told_with None bytes = None
-told_with (Some told) bytes = Some (told ++ bytes)
+-- what is told of a list, with these at its end; where nothing is told, still nothing
+abbrev pub told_with : {A : Type 0} → Option (List A) → List A → Option (List A)
+told_with None more = None
+told_with (Some told) more = Some (told ++ more)
 
--- the bytes are taken, and no other
-abbrev pub Takes : Option (List ℕ) → Option (List ℕ) → List ℕ → Type 0
-Takes old new bytes = new ≡ told_with old bytes
+-- what is told of a file by its name: nothing, that there is no such file, or its bytes
+pub data Told : Type 0 where
+  Untold : Told
+  Absent : Told
+  Bytes : (bytes : List ℕ) → Told
 
--- some bytes from the front are taken, but not all, and no other
-pub record TakesPrefix (old new : Option (List ℕ)) (bytes : List ℕ) : Type 0 where
-  pub count : ℕ
-  pub short : count < length bytes
-  pub taken : Takes old new (take count bytes)
+-- a file can have these bytes
+abbrev pub AreTold : Told → List ℕ → Type 0
+AreTold Untold bytes = Unit {0}
+AreTold Absent bytes = ⊥
+AreTold (Bytes told) bytes = bytes ≡ told
+
+-- what is told of a list, with these in front
+abbrev pub told_behind : {A : Type 0} → List A → Option (List A) → Option (List A)
+told_behind front None = None
+told_behind front (Some told) = Some (front ++ told)

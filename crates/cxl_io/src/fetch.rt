@@ -1,13 +1,10 @@
-ghost use Rattle.std.specs.Prelude.{◌≡◌, ℕ, ◌<◌, ◌≤◌, Option, Err, List, length, IfOk, IfSome};
+ghost use Rattle.std.specs.Prelude.{◌≡◌, ◌≤◌, ◌⊎◌, Err, [], ◌∷◌, IfOk};
 ghost use Rattle.cxl_enc.specs.Faults.{Rose};
-ghost use Rattle.cxl_io.specs.Files.{file_limit, IsFile};
+ghost use Rattle.cxl_io.specs.Fetch.{FetchState, AsksFor, IsFile, IsTooLarge};
 ghost use Rattle.cxl_io.specs.declared.fetch.FetchFault.TheVariants.{Memory};
 
 use std::alloc::{AllocError, Global};
 use thiserror::Error;
-
-/// The most bytes that a file may have. (This project's rule.)
-pub(crate) const FILE_LIMIT: usize = 1_048_576;
 
 /// Why a file was not given.
 #[derive(Clone, Copy, Debug, PartialEq, Eq, Error)]
@@ -32,18 +29,18 @@ impl From<AllocError> for FetchFault {
 
 /// Files by name.
 pub trait Fetch {
-    /// The bytes of the file of a name, where they are told. Names are bytes too.
-    ghost told: { Self → List ℕ → Option (List ℕ) };
+    ghost state: { Self → FetchState };
 
-    /// How often it failed; it stays at 2^64 - 1.
-    ghost faults: { Self → ℕ };
-
-    /// The whole file of that name, which has at most 1,048,576 bytes. (This project's rule.)
+    /// The whole file of that name, which has at most 1,048,576 bytes. (This project's rule.) A name that
+    /// is not there is a failure.
     fn fetch(&mut self, alloc: Global, name: &str) -> Result<Vec<u8>, FetchFault>
-        ensures ok { IfOk result (λ file. IsFile (told self.old name.now) file.items) }
-        ensures too_large { result ≡ Err FetchFault.TooLarge
-            → IfSome (told self.old name.now) (λ file. file_limit < length file) }
-        ensures failed { result ≡ Err FetchFault.Failed → Rose (faults self.old) (faults self.new) }
-        ensures counts { faults self.old ≤ faults self.new }
-        ensures stays { told self.new ≡ told self.old };
+        ensures ok { IfOk result (λ file. IsFile ((state self.old).told name.now) file.items) }
+        ensures too_large { result ≡ Err FetchFault.TooLarge → IsTooLarge ((state self.old).told name.now) }
+        ensures failed { result ≡ Err FetchFault.Failed
+            → Rose (state self.old).faults (state self.new).faults }
+        ensures counts { (state self.old).faults ≤ (state self.new).faults }
+        ensures stays { (state self.new).told ≡ (state self.old).told }
+        // The name is asked for, unless memory ran out before.
+        ensures asked { AsksFor (state self.old) (state self.new) (name.now ∷ [])
+            ⊎ ((result ≡ Err FetchFault.Memory) × AsksFor (state self.old) (state self.new) []) };
 }

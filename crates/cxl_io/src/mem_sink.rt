@@ -1,12 +1,11 @@
 ghost use Rattle.std.specs.Prelude.{◌≡◌, ◌<◌, ◌≤◌, Some, [], length, take, IfOk, OnErr};
 ghost use Rattle.cxl_enc.specs.Faults.{HasCause};
-ghost use Rattle.cxl_io.specs.Counters.{fresh_counters};
-ghost use Rattle.cxl_io.specs.MemorySink.{write_answer, sink_after};
-ghost use Rattle.cxl_io.specs.Told.{Takes};
+ghost use Rattle.cxl_enc.specs.Counters.{fresh_counters};
+ghost use Rattle.cxl_io.specs.MemorySink.{state_of, write_answer, sink_after};
+ghost use Rattle.cxl_io.specs.Sink.{Takes};
 
-use crate::counters::FailingCalls;
 use crate::sink::Sink;
-use cxl_enc::{Failed, Memory};
+use cxl_enc::{Failed, FailingCalls, Memory};
 use std::alloc::Global;
 use std::marker::Model;
 
@@ -52,15 +51,13 @@ impl MemSink {
 }
 
 impl Sink for MemSink {
-    ghost taken = { λ s. Some s.bytes };
-
-    ghost faults = { λ s. s.counters.faults };
+    ghost state = { state_of };
 
     fn write(&mut self, bytes: &[u8]) -> Result<usize, Failed>
         requires { 0 < length bytes.now }
         ensures some { IfOk result (λ n. 1 ≤ n) }
         ensures within { IfOk result (λ n. n ≤ length bytes.now) }
-        ensures taken { IfOk result (λ n. Takes (Some self.old.bytes) (Some self.new.bytes) (take n bytes.now)) }
+        ensures taken { IfOk result (λ n. Takes (state_of self.old) (state_of self.new) (take n bytes.now)) }
         ensures failed { OnErr result (Some self.new.bytes ≡ Some self.old.bytes) }
         ensures cause { HasCause result self.old.counters.faults self.new.counters.faults }
         ensures counts { self.old.counters.faults ≤ self.new.counters.faults }

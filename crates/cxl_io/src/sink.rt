@@ -1,16 +1,12 @@
-ghost use Rattle.std.specs.Prelude.{◌≡◌, ℕ, ◌<◌, ◌≤◌, Option, List, [], ◌++◌, length, take, IfOk, OnOk, OnErr};
+ghost use Rattle.std.specs.Prelude.{◌≡◌, ◌<◌, ◌≤◌, List, ℕ, [], ◌++◌, length, take, IfOk, OnOk, OnErr};
 ghost use Rattle.cxl_enc.specs.Faults.{HasCause};
-ghost use Rattle.cxl_io.specs.Told.{Takes, TakesPrefix};
+ghost use Rattle.cxl_io.specs.Sink.{SinkState, Takes, TakesPrefix};
 
 use cxl_enc::Failed;
 
 /// Where bytes go, as standard output.
 pub trait Sink {
-    /// The bytes taken so far, where the sink tells them.
-    ghost taken: { Self → Option (List ℕ) };
-
-    /// How often it failed; it stays at 2^64 - 1.
-    ghost faults: { Self → ℕ };
+    ghost state: { Self → SinkState };
 
     /// Takes some bytes from the front, one at the least, and answers how many. A sink that can take
     /// nothing answers `Failed`.
@@ -18,19 +14,19 @@ pub trait Sink {
         requires { 0 < length bytes.now }
         ensures some { IfOk result (λ n. 1 ≤ n) }
         ensures within { IfOk result (λ n. n ≤ length bytes.now) }
-        ensures taken { IfOk result (λ n. Takes (taken self.old) (taken self.new) (take n bytes.now)) }
-        ensures failed { OnErr result (taken self.new ≡ taken self.old) }
-        ensures cause { HasCause result (faults self.old) (faults self.new) }
-        ensures counts { faults self.old ≤ faults self.new };
+        ensures taken { IfOk result (λ n. Takes (state self.old) (state self.new) (take n bytes.now)) }
+        ensures failed { OnErr result ((state self.new).taken ≡ (state self.old).taken) }
+        ensures cause { HasCause result (state self.old).faults (state self.new).faults }
+        ensures counts { (state self.old).faults ≤ (state self.new).faults };
 }
 
 /// Writes all the bytes, in as many writes as the sink needs. After a failure some bytes from the front,
 /// but not all, are taken. Takes no memory.
 pub fn write_all<K: Sink>(sink: &mut K, bytes: &[u8]) -> Result<(), Failed>
-    ensures ok { OnOk result (Takes (K.taken sink.old) (K.taken sink.new) bytes.now) }
-    ensures failed { OnErr result (TakesPrefix (K.taken sink.old) (K.taken sink.new) bytes.now) }
-    ensures cause { HasCause result (K.faults sink.old) (K.faults sink.new) }
-    ensures counts { K.faults sink.old ≤ K.faults sink.new }
+    ensures ok { OnOk result (Takes (K.state sink.old) (K.state sink.new) bytes.now) }
+    ensures failed { OnErr result (TakesPrefix (K.state sink.old) (K.state sink.new) bytes.now) }
+    ensures cause { HasCause result (K.state sink.old).faults (K.state sink.new).faults }
+    ensures counts { (K.state sink.old).faults ≤ (K.state sink.new).faults }
 {
     let mut at = 0;
     while at < bytes.len() {
@@ -42,11 +38,11 @@ pub fn write_all<K: Sink>(sink: &mut K, bytes: &[u8]) -> Result<(), Failed>
 /// A law of writes: two texts that are written one after the other are one text, and a failure in either
 /// leaves some bytes of it from the front.
 pub fn writes_join()
-    ensures nothing { (told : Option (List ℕ)) → Takes told told [] }
-    ensures both { (old mid new : Option (List ℕ)) (xs ys : List ℕ)
+    ensures nothing { (state : SinkState) → Takes state state [] }
+    ensures both { (old mid new : SinkState) (xs ys : List ℕ)
         → Takes old mid xs → Takes mid new ys → Takes old new (xs ++ ys) }
-    ensures first { (old new : Option (List ℕ)) (xs ys : List ℕ)
+    ensures first { (old new : SinkState) (xs ys : List ℕ)
         → TakesPrefix old new xs → TakesPrefix old new (xs ++ ys) }
-    ensures second { (old mid new : Option (List ℕ)) (xs ys : List ℕ)
+    ensures second { (old mid new : SinkState) (xs ys : List ℕ)
         → Takes old mid xs → TakesPrefix mid new ys → TakesPrefix old new (xs ++ ys) }
 {}

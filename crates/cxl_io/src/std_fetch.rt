@@ -1,9 +1,11 @@
 ghost use Rattle.std.specs.Prelude.{◌≡◌, ◌≢◌, ◌≤◌, None, Err, IfOk};
 ghost use Rattle.cxl_enc.specs.Faults.{Rose};
-ghost use Rattle.cxl_io.specs.Counters.{next_count};
-ghost use Rattle.cxl_io.specs.Files.{IsFile};
+ghost use Rattle.cxl_enc.specs.Counters.{next_count};
+ghost use Rattle.cxl_io.specs.Fetch.{IsFile};
+ghost use Rattle.cxl_io.specs.Told.{Untold};
 
-use crate::fetch::{FILE_LIMIT, Fetch, FetchFault};
+use crate::fetch::{Fetch, FetchFault};
+use cxl_enc::FILE_LIMIT;
 use std::alloc::Global;
 use std::fs::File;
 use std::io;
@@ -11,7 +13,8 @@ use std::io::{ErrorKind, Read};
 use std::marker::Model;
 use std::rt::Files;
 
-/// The files of the system. It tells nothing of what they hold; contracts see it as how often it failed.
+/// The files of the system. It tells nothing of what they hold or of the names that were asked for;
+/// contracts see it as how often it failed.
 #[derive(Drop)]
 pub struct StdFetch<R> {
     rt: R,
@@ -36,12 +39,10 @@ impl<R: Files> StdFetch<R> {
 }
 
 impl<R: Files> Fetch for StdFetch<R> {
-    ghost told = { λ _ _. None };
-
-    ghost faults = { λ f. f };
+    ghost state = { λ faults. record { told = λ _. Untold; asked = None; faults = faults } };
 
     fn fetch(&mut self, alloc: Global, name: &str) -> Result<Vec<u8>, FetchFault>
-        ensures ok { IfOk result (λ file. IsFile None file.items) }
+        ensures ok { IfOk result (λ file. IsFile Untold file.items) }
         ensures failed { result ≡ Err FetchFault.Failed → Rose self.old self.new }
         ensures counts { self.old ≤ self.new }
 

@@ -1,9 +1,11 @@
 ghost use Rattle.std.specs.Prelude.{◌≡◌, ◌<◌, ◌≤◌, None, length, IfOk, OnOk, OnErr};
 ghost use Rattle.cxl_enc.specs.Faults.{HasCause};
-ghost use Rattle.cxl_io.specs.Counters.{next_count};
+ghost use Rattle.cxl_enc.specs.Counters.{next_count};
 
 use crate::sink::Sink;
 use cxl_enc::Failed;
+use std::io;
+use std::io::ErrorKind;
 use std::marker::Model;
 
 /// Standard output. It tells nothing of what it took; contracts see it as how often it failed.
@@ -31,11 +33,9 @@ impl<R: Print> StdSink<R> {
 }
 
 impl<R: Print> Sink for StdSink<R> {
-    ghost taken = { λ _. None };
+    ghost state = { λ faults. record { taken = None; faults = faults } };
 
-    ghost faults = { λ s. s };
-
-    /// One call of the system, and no buffer. A write that took nothing is a fault too.
+    /// One write of the system, and no buffer. A write that took nothing is a fault too.
     fn write(&mut self, bytes: &[u8]) -> Result<usize, Failed>
         requires { 0 < length bytes.now }
         ensures some { IfOk result (λ n. 1 ≤ n) }
@@ -47,7 +47,7 @@ impl<R: Print> Sink for StdSink<R> {
         ensures raised { OnErr result (self.new ≡ next_count self.old) }
         ensures kept { OnOk result (self.new ≡ self.old) }
     {
-        match self.rt.write_some(bytes) {
+        match write_some(&self.rt, bytes) {
             Ok(n) if n > 0 => Ok(n),
             _ => {
                 self.faults = self.faults.saturating_add(1);
@@ -55,4 +55,17 @@ impl<R: Print> Sink for StdSink<R> {
             }
         }
     }
+}
+
+/// One write of the system, which is made again as often as it is interrupted.
+fn write_some<R: Print>(rt: &R, bytes: &[u8]) -> io::Result<usize>
+    ensures { IfOk result (λ n. n ≤ length bytes.now) }
+{
+    for _ in 0..u64::MAX {
+        match rt.write_some(bytes) {
+            Err(e) if e.kind() == ErrorKind::Interrupted => {}
+            written => return written,
+        }
+    }
+    rt.write_some(bytes)
 }

@@ -1,4 +1,5 @@
 use super::*;
+use std::process::Abort;
 use std::test::Fail;
 use std::{fs, process};
 
@@ -124,6 +125,21 @@ fn files_in_memory(rt: HostRuntime) -> Result<(), Fail> {
     Ok(())
 }
 
+/// The names are noted in order, whatever comes of them.
+#[test]
+fn names_in_memory(rt: HostRuntime) -> Result<(), Fail> {
+    let alloc = rt.alloc();
+    let mut memory = MemFetch::new(Vec::new(alloc), Vec::new(alloc));
+    for name in ["table", "image"] {
+        assert_eq!(rt; memory.fetch(alloc, name).err(), Some(FetchFault::Failed));
+    }
+    let asked = memory.asked();
+    assert_eq!(rt; asked.len(), 2);
+    assert_eq!(rt; asked[0].as_str(), "table");
+    assert_eq!(rt; asked[1].as_str(), "image");
+    Ok(())
+}
+
 /// A file of the system is read whole, a larger one than may be is refused, and so is a missing one.
 #[test]
 fn files_of_the_system(rt: HostRuntime) -> Result<(), Fail> {
@@ -156,5 +172,106 @@ fn messages(rt: HostRuntime) -> Result<(), Fail> {
     assert_eq!(rt; bad.as_str(), "no digit at byte 2");
     let failed = format!(in alloc; "{}", FetchFault::Failed)?;
     assert_eq!(rt; failed.as_str(), "cannot read the file");
+    Ok(())
+}
+
+/// What a reader gives of a source: its lines, `-` for each that is too long, and what it came to.
+fn read_lines(
+    rt: &(impl Abort + AllocGlobal),
+    bytes: Vec<u8>,
+    fails: &[u64],
+    wanted: &[&str],
+    end: Taken,
+) -> Result<(), Fail> {
+    let alloc = rt.alloc();
+    let mut source = MemSource::new(bytes, fails.to_vec(alloc)?);
+    let mut reader = LineReader::new(alloc)?;
+    for line in wanted {
+        match reader.next(&mut source) {
+            Taken::Line => assert_eq!(rt; reader.line(), line.as_bytes()),
+            other => {
+                assert_eq!(rt; other, Taken::Long);
+                assert_eq!(rt; *line, "-");
+            }
+        }
+    }
+    assert_eq!(rt; reader.next(&mut source), end);
+    assert_eq!(rt; reader.next(&mut source), end);
+    Ok(())
+}
+
+/// Lines that end with 0x0a, with 0x0d 0x0a and with the source.
+#[test]
+fn lines(rt: HostRuntime) -> Result<(), Fail> {
+    let alloc = rt.alloc();
+    let rows: [(&str, &[&str]); 6] = [
+        ("", &[]),
+        ("\n", &[""]),
+        ("show a", &["show a"]),
+        ("show a\ndown 0x0\r\n", &["show a", "down 0x0"]),
+        ("a\r\r\n\r\n\nb\r", &["a\r", "", "", "b\r"]),
+        ("a\n\n", &["a", ""]),
+    ];
+    for (text, wanted) in rows {
+        let bytes = Vec::from_slice(alloc, text.as_bytes())?;
+        read_lines(&rt, bytes, &[], wanted, Taken::End)?;
+    }
+    Ok(())
+}
+
+/// A line of 4,097 bytes is passed over, one of 4,096 with its ending of two bytes is given, and a read
+/// that fails is final.
+#[test]
+fn long_lines_and_faults(rt: HostRuntime) -> Result<(), Fail> {
+    let alloc = rt.alloc();
+    for (len, wanted) in [(4_097, "-"), (20_000, "-")] {
+        let mut bytes = vec![in alloc; b'a'; len]?;
+        bytes.extend_from_slice(b"\nend")?;
+        read_lines(&rt, bytes, &[], &[wanted, "end"], Taken::End)?;
+    }
+    let mut bytes = vec![in alloc; b'a'; 4_096]?;
+    bytes.extend_from_slice(b"\r\n")?;
+    let mut source = MemSource::new(bytes, Vec::new(alloc));
+    let mut reader = LineReader::new(alloc)?;
+    assert_eq!(rt; reader.next(&mut source), Taken::Line);
+    assert_eq!(rt; reader.line().len(), 4_096);
+
+    read_lines(
+        &rt,
+        Vec::from_slice(alloc, b"a\nb")?,
+        &[1],
+        &[],
+        Taken::Fault,
+    )?;
+    read_lines(
+        &rt,
+        Vec::from_slice(alloc, b"a\nb")?,
+        &[2],
+        &["a"],
+        Taken::Fault,
+    )
+}
+
+/// A script of 16,777,216 bytes is read to its end; one byte more is too much.
+#[test]
+fn long_scripts(rt: HostRuntime) -> Result<(), Fail> {
+    for (len, end) in [(16_777_216, Taken::End), (16_777_217, Taken::TooMuch)] {
+        let mut bytes = vec![in rt.alloc(); b'\n'; 1]?;
+        bytes.resize(len, b'a')?;
+        let wanted: &[&str] = if end == Taken::End { &["", "-"] } else { &[""] };
+        read_lines(&rt, bytes, &[], wanted, end)?;
+    }
+    Ok(())
+}
+
+/// A reader of the system's interface, here over bytes in memory.
+#[test]
+fn source_of_the_system(rt: HostRuntime) -> Result<(), Fail> {
+    let bytes: &[u8] = b"show a\n";
+    let mut source = StdSource::new(bytes);
+    let mut reader = LineReader::new(rt.alloc())?;
+    assert_eq!(rt; reader.next(&mut source), Taken::Line);
+    assert_eq!(rt; reader.line(), b"show a".as_slice());
+    assert_eq!(rt; reader.next(&mut source), Taken::End);
     Ok(())
 }

@@ -1,5 +1,5 @@
 use crate::rows::{ROOM, bytes, check, file, run_words};
-use crate::tables::TWO_BRIDGES;
+use crate::tables::{HEADER_OF_OTHERS, TWO_BRIDGES};
 use cxl_io::{MemFetch, MemSink};
 use cxl_shell::{HELP, Status, run};
 use std::test::Fail;
@@ -91,19 +91,54 @@ fn sinks(rt: HostRuntime) -> Result<(), Fail> {
     Ok(())
 }
 
-/// A list whose second line has no room but for five bytes, and one whose second write fails: lines are
-/// written one by one.
+/// A list with room for its first line and five bytes of the second, and one whose first write fails.
 #[test]
 fn sinks_of_lines(rt: HostRuntime) -> Result<(), Fail> {
-    let line = "chbs 0 version 1 base 0x80000000 length 0x10000\n";
     let part = "chbs 0 version 1 base 0x80000000 length 0x10000\nchbs ";
-    for (room, fails, text) in [(53, 0, part), (ROOM, 2, line)] {
+    for (room, fails, text) in [(53, 0, part), (ROOM, 1, "")] {
         let alloc = rt.alloc();
         let table = file(alloc, "table", bytes(alloc, TWO_BRIDGES, &[])?, &[])?;
         let sink = MemSink::new(alloc, room, vec![in alloc; fails]?)?;
         let end = run_words(alloc, "list table", table, sink)?;
         assert_eq!(rt; end.status.code(), 6);
         assert_eq!(rt; end.text.as_slice(), text.as_bytes());
+    }
+    Ok(())
+}
+
+/// A list of 5,000 lines of 17 bytes goes out in two blocks. Where the second write fails, the first
+/// 3,856 lines are written, which are the first with 65,536 bytes or more.
+#[test]
+fn blocks_of_lines(rt: HostRuntime) -> Result<(), Fail> {
+    let alloc = rt.alloc();
+    for (fails, code, lines) in [(0, 0, 5_000), (2, 6, 3_856)] {
+        let mut table = bytes(alloc, HEADER_OF_OTHERS, &[])?;
+        for _ in 0..5_000 {
+            table.extend_from_slice(&[4, 0, 4, 0])?;
+        }
+        let sink = MemSink::new(alloc, ROOM, vec![in alloc; fails]?)?;
+        let end = run_words(alloc, "list table", file(alloc, "table", table, &[])?, sink)?;
+        assert_eq!(rt; end.status.code(), code);
+        assert_eq!(rt; end.text.len(), 17 * lines);
+    }
+    Ok(())
+}
+
+/// The one file of the words is asked for, once.
+#[test]
+fn names_of_files(rt: HostRuntime) -> Result<(), Fail> {
+    let alloc = rt.alloc();
+    for (words, wanted) in [("list table", "table"), ("normal missing", "missing")] {
+        let mut files = file(alloc, "table", bytes(alloc, TWO_BRIDGES, &[])?, &[])?;
+        let mut sink = MemSink::new(alloc, ROOM, Vec::new(alloc))?;
+        let mut line = Vec::new(alloc);
+        for word in words.split(' ') {
+            line.push(String::from_str(alloc, word)?)?;
+        }
+        run(alloc, line.as_slice(), &mut files, &mut sink);
+        let asked = files.asked();
+        assert_eq!(rt; asked.len(), 1, "names of {words}");
+        assert_eq!(rt; asked[0].as_str(), wanted);
     }
     Ok(())
 }

@@ -28,3 +28,9 @@ pub(crate) const HEADER_OF_MANY: &str = "\
 pub(crate) const CXL_1_1_BRIDGE: &str = "\
     0000200000000000000000000000000000000000000000000000000000000000\
 ";
+
+/// The header of a table with 5,000 records of type 4 that have no body.
+pub(crate) const HEADER_OF_OTHERS: &str = "\
+    43454454444e0000000e00000000000000000000000000000000000000000000\
+    00000000\
+";

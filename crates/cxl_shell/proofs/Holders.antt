@@ -9,8 +9,8 @@ use Rattle.cxl_window.specs.Fields.{WindowFields}
 use Rattle.cxl_window.specs.Position.{is_usable, holds, position_of, position_at}
 use Rattle.cxl_window.specs.declared.window.Verdict.{Verdict}
 use Rattle.cxl_window.specs.declared.window.Verdict.TheVariants.{Usable, Align, Size, TooHigh, Overlap, Target, Repeat, Maps}
-use Rattle.cxl_shell.specs.Route.{Holds, IsNowhere, IsSelection}
-use Rattle.cxl_shell.specs.declared.selection.Selection.{Selection}
+use Rattle.cxl_shell.specs.commands.Route.{Holds, IsNowhere, IsSelection}
+use Rattle.cxl_shell.specs.declared.commands.selection.Selection.{Selection}
 
 -- ---- one window
 

@@ -1,33 +1,38 @@
 -- The lines of a table's records, one record after another.
-use Rattle.std.proofs.Common.{◌≡◌, ℕ, suc, ◌+◌, ◌<◌, ◌≤◌, Some, None, IsSome, List, [], ◌∷◌, ◌++◌, length, get_or, take, drop, refl, sym, ap, ◌∙◌, append_assoc, drop-cons, length-append}
-use Rattle.std.specs.List.{filter_map, slice_get}
+use Rattle.std.proofs.Common.{◌≡◌, ℕ, zero, suc, ◌+◌, ◌<◌, ◌≤◌, Some, None, IsSome, List, [], ◌∷◌, ◌++◌, length, get_or, take, drop, refl, sym, ap, ◌∙◌, arith, append_assoc, drop-cons, length-append}
+use Rattle.std.specs.List.{concat, filter_map, slice_get}
 use Rattle.std.proofs.lemmas.List.{take-append-drop, take_more, take_all, append-nil}
 use Rattle.std.proofs.lemmas.List.Elements.{filter_map-append}
 use Rattle.std.proofs.lemmas.Option.{slice_get_within}
 use Rattle.cxl_cedt.specs.Fields.{CfmwsFields}
 use Rattle.cxl_cedt.specs.declared.cedt.Record.{Record}
 use Rattle.cxl_cedt.specs.declared.cedt.Record.TheVariants.{Chbs, Cfmws, Cxims, Other}
+use Rattle.cxl_io.specs.Sink.{SinkState}
 use Rattle.cxl_window.specs.Fields.{WindowFields}
 use Rattle.cxl_window.specs.Windows.{cfmws_in, window_of, windows_from, windows_of}
-use Rattle.cxl_shell.specs.LinePlaces.{window_line_at, line_at}
-use Rattle.cxl_shell.specs.Lines.{record_line, lines_behind, first_lines, list_text}
+use Rattle.cxl_shell.specs.commands.LinePlaces.{window_line_at, line_at}
+use Rattle.cxl_shell.specs.commands.Lines.{record_line, lines_behind, list_lines}
+use Rattle.cxl_shell.proofs.InBlocks.{concat-append, IsInBlocks, blocks-next}
 
 -- the record at a place, behind those before it
 split_at : (table : List Record) (i : ℕ) (r : Record) → i < length table → r ≡ get_or table i r → table ≡ take i table ++ r ∷ drop (suc i) table
 split_at table i r within is =
     sym (take-append-drop i table) ∙ ap (λ rest. take i table ++ rest) (drop-cons table i r within ∙ ap (λ x. x ∷ drop (suc i) table) (sym is))
 
--- the lines behind that of the record r at place i
-abbrev pub lines_after : List Record → ℕ → Record → List ℕ
-lines_after table i r = lines_behind table (take i table ++ r ∷ []) (drop (suc i) table)
-
 module _ (table : List Record) where
-  lines_behind-append : (before xs ys : List Record) → lines_behind table before (xs ++ ys) ≡ lines_behind table before xs ++ lines_behind table (before ++ xs) ys
-  lines_behind-append before [] ys = ap (λ b. lines_behind table b ys) (sym (append-nil before))
-  lines_behind-append before (x ∷ xs) ys =
-      ap (λ t. record_line table before x ++ t) (lines_behind-append (before ++ x ∷ []) xs ys)
-      ∙ sym (append_assoc (record_line table before x) (lines_behind table (before ++ x ∷ []) xs) (lines_behind table ((before ++ x ∷ []) ++ xs) ys))
-      ∙ ap (λ b. (record_line table before x ++ lines_behind table (before ++ x ∷ []) xs) ++ lines_behind table b ys) (append_assoc before (x ∷ []) xs)
+  length-lines_behind : (before rs : List Record) → length (lines_behind table before rs) ≡ length rs
+  length-lines_behind before [] = refl
+  length-lines_behind before (r ∷ rs) = ap suc (length-lines_behind (before ++ r ∷ []) rs)
+
+  -- there is a line for each record
+  pub length-list_lines : length (list_lines table) ≡ length table
+  length-list_lines = length-lines_behind [] table
+
+  line_behind : (before rs : List Record) (i : ℕ) (r : Record) (d : List ℕ) → i < length rs → r ≡ get_or rs i r → get_or (lines_behind table before rs) i d ≡ record_line table (before ++ take i rs) r
+  line_behind before [] i r d within is = absurd (omega arith)
+  line_behind before (x ∷ rs) zero r d within is = ap (record_line table before) (sym is) ∙ ap (λ b. record_line table b r) (sym (append-nil before))
+  line_behind before (x ∷ rs) (suc k) r d within is =
+      line_behind (before ++ x ∷ []) rs k r d (omega arith) is ∙ ap (λ b. record_line table b r) (append_assoc before (x ∷ []) (take k rs))
 
   -- the window behind others
   windows_from_at : (before xs ys : List CfmwsFields) (c : CfmwsFields) → slice_get (windows_from table None before (xs ++ c ∷ ys)) (length xs) ≡ Some (window_of table None (before ++ xs) c)
@@ -39,15 +44,12 @@ module _ (table : List Record) where
     take_next : take (i + 1) table ≡ take i table ++ r ∷ []
     take_next = take_more table i r within ∙ ap (λ x. take i table ++ x ∷ []) (sym is)
 
-    pub first_lines-next : first_lines table (i + 1) ≡ first_lines table i ++ record_line table (take i table) r
-    first_lines-next =
-        ap (lines_behind table []) take_next ∙ lines_behind-append [] (take i table) (r ∷ [])
-        ∙ ap (λ t. first_lines table i ++ t) (append-nil (record_line table (take i table) r))
-
-    -- the lines before it, its own, and those behind it
-    pub list_text-split : list_text table ≡ first_lines table i ++ (record_line table (take i table) r ++ lines_after table i r)
-    list_text-split =
-        ap (lines_behind table []) (split_at table i r within is) ∙ lines_behind-append [] (take i table) (r ∷ drop (suc i) table)
+    -- one line more
+    pub lines-next : concat (take (i + 1) (list_lines table)) ≡ concat (take i (list_lines table)) ++ record_line table (take i table) r
+    lines-next =
+        let there : i < length (list_lines table) = omega (arith, length-list_lines) in
+        ap concat (take_more (list_lines table) i [] there) ∙ concat-append (take i (list_lines table)) (get_or (list_lines table) i [] ∷ [])
+        ∙ ap (λ t. concat (take i (list_lines table)) ++ t) (append-nil (get_or (list_lines table) i []) ∙ line_behind [] table i r [] within is)
 
     windows_in_front : (c : CfmwsFields) → r ≡ Cfmws c → filter_map cfmws_in table ≡ filter_map cfmws_in (take i table) ++ c ∷ filter_map cfmws_in (drop (suc i) table)
     windows_in_front c window =
@@ -84,10 +86,12 @@ module _ (table : List Record) (windows : List WindowFields) (windows-are : wind
   line_at-record_line (Cxims c) is = refl
   line_at-record_line (Other c) is = refl
 
--- all of the records
-pub first_lines_all : (table : List Record) (count : ℕ) → length table ≤ count → first_lines table count ≡ list_text table
-first_lines_all table count all = ap (lines_behind table []) (take_all count table all)
+-- the line of the record r, which stands at place i, behind those before it
+pub blocks-line : (table : List Record) (windows : List WindowFields) (windows-are : windows ≡ windows_of table None) (i place : ℕ) (place-is : place ≡ length (filter_map cfmws_in (take i table))) (within : i < length table) (r : Record) → r ≡ get_or table i r → (block block' : List ℕ) (old now : SinkState) → block' ≡ block ++ line_at windows place r → IsInBlocks (list_lines table) i block old now → IsInBlocks (list_lines table) (i + 1) block' old now
+blocks-line table windows windows-are i place place-is within r is block block' old now more so_far =
+    blocks-next (list_lines table) i (record_line table (take i table) r) block block' old now (lines-next table i r within is)
+    (more ∙ ap (λ l. block ++ l) (line_at-record_line table windows windows-are i place place-is within r is)) so_far
 
--- what is appended to no bytes
-pub appended_to_none : (text items cleared added : List ℕ) → text ≡ items → items ≡ cleared ++ added → cleared ≡ [] → text ≡ added
-appended_to_none text items cleared added text-is items-are none = text-is ∙ items-are ∙ ap (λ front. front ++ added) none
+-- all lines
+pub all_lines : (table : List Record) (i : ℕ) → length table ≤ i → concat (take i (list_lines table)) ≡ concat (list_lines table)
+all_lines table i all = ap concat (take_all i (list_lines table) (omega (arith, length-list_lines table)))

@@ -1,74 +1,60 @@
--- Which outcome answers a request, over the files as they are told.
-use Rattle.std.specs.Prelude.{◌≡◌, ℕ, ◌<◌, ◌≤◌, Option, Some, None, IfSome, option_and_then, List, length}
-use Rattle.cxl_enc.specs.Faults.{Rose}
+-- Which outcome answers a form, by what the outside holds before it and after it.
+use Rattle.std.specs.Prelude.{◌≡◌, ℕ, List, [], ◌∷◌, Result, Ok, Err}
 use Rattle.cxl_cedt.specs.CedtFields.{CedtFields}
-use Rattle.cxl_cedt.specs.Table.{IsTableText, FirstTableFault}
-use Rattle.cxl_cedt.specs.declared.fault.CedtFault.{CedtFault}
-use Rattle.cxl_io.specs.Files.{file_limit}
-use Rattle.cxl_shell.specs.Outcome.{Outcome, helped, version_told, misused, unread, too_large, bad_table, IsRouted, listed, normalized}
-use Rattle.cxl_shell.specs.Request.{Request, Route, Listing, Normal, Help, Version, Unreadable}
+use Rattle.cxl_enc.specs.declared.faults.Memory.{Memory}
+use Rattle.cxl_io.specs.Fetch.{FetchState, AsksFor}
+use Rattle.cxl_shell.specs.Form.{Form, Route, Listing, Normal, Help, Version, Unreadable, own_files}
+use Rattle.cxl_shell.specs.Outcome.{Outcome}
+use Rattle.cxl_shell.specs.Outside.{Outside}
+use Rattle.cxl_shell.specs.commands.Help.{helped, version_told, misused}
+use Rattle.cxl_shell.specs.commands.List.{listed}
+use Rattle.cxl_shell.specs.commands.Normal.{normalized}
+use Rattle.cxl_shell.specs.commands.Route.{IsRouted}
+use Rattle.cxl_shell.specs.declared.stop.Stop.{Stop}
+use Rattle.cxl_shell.specs.declared.stop.Stop.TheVariants as stop
+use Rattle.cxl_shell.specs.inputs.File.{AsksForSome}
+use Rattle.cxl_shell.specs.inputs.Table.{IsByTable}
 
--- the bytes are those that are told, where any are
-abbrev pub AreTold : Option (List ℕ) → List ℕ → Type 0
-AreTold told bytes = IfSome told (λ b. bytes ≡ b)
-
--- ---- the bytes of a table's file
-
--- they spell this table, and are not too many
-pub record IsReading (bytes : List ℕ) (table : CedtFields) : Type 0 where
-  pub within : length bytes ≤ file_limit
-  pub spells : IsTableText bytes table
-
--- this is their first fault, and they are not too many
-pub record IsFaulty (bytes : List ℕ) (fault : CedtFault) : Type 0 where
-  pub within : length bytes ≤ file_limit
-  pub first : FirstTableFault bytes fault
-
--- What they come to: `IsAnswer` says it of the table that they spell.
-pub data IsTableOutcome (file bytes : List ℕ) (IsAnswer : CedtFields → Outcome → Type 0) : Outcome → Type 0 where
-  too_many_bytes : file_limit < length bytes → IsTableOutcome file bytes IsAnswer (too_large file)
-  faulty : (fault : CedtFault) → IsFaulty bytes fault → IsTableOutcome file bytes IsAnswer (bad_table fault)
-  readable : (table : CedtFields) (outcome : Outcome) → IsReading bytes table → IsAnswer table outcome → IsTableOutcome file bytes IsAnswer outcome
-
--- the outcome of a request by the table of its file
-abbrev pub IsTableAnswer : Request → CedtFields → Outcome → Type 0
+-- the outcome of a form by the table of its file
+abbrev pub IsTableAnswer : Form → CedtFields → Outcome → Type 0
 IsTableAnswer (Route file h) table outcome = IsRouted table h outcome
-IsTableAnswer (Listing file) table outcome = outcome ≡ listed table
+IsTableAnswer (Listing file) table outcome = outcome ≡ listed table.records
 IsTableAnswer (Normal file) table outcome = outcome ≡ normalized table
 IsTableAnswer Help table outcome = ⊥
 IsTableAnswer Version table outcome = ⊥
 IsTableAnswer Unreadable table outcome = ⊥
 
--- ---- requests
+-- a form whose one file has a table
+abbrev pub IsAnswerOfFile : Form → List ℕ → FetchState → FetchState → Outcome → Type 0
+IsAnswerOfFile form file old new outcome =
+    IsByTable file old new (λ table o. AsksFor old new (file ∷ []) × IsTableAnswer form table o) outcome
 
--- A file is read: either that fails, which takes a fault of the files, or the outcome is that of the file's bytes.
-pub data IsFileOutcome (file : List ℕ) (told : Option (List ℕ)) (before now : ℕ) (IsOutcome : List ℕ → Outcome → Type 0) : Outcome → Type 0 where
-  failed : Rose before now → IsFileOutcome file told before now IsOutcome (unread file)
-  given : (bytes : List ℕ) (outcome : Outcome) → AreTold told bytes → IsOutcome bytes outcome → IsFileOutcome file told before now IsOutcome outcome
+-- the outcome answers the form by what the files hold
+abbrev pub AnswersFromFiles : Form → FetchState → FetchState → Outcome → Type 0
+AnswersFromFiles (Route file h) old new outcome = IsAnswerOfFile (Route file h) file old new outcome
+AnswersFromFiles (Listing file) old new outcome = IsAnswerOfFile (Listing file) file old new outcome
+AnswersFromFiles (Normal file) old new outcome = IsAnswerOfFile (Normal file) file old new outcome
+AnswersFromFiles Help old new outcome = (outcome ≡ helped) × AsksFor old new []
+AnswersFromFiles Version old new outcome = (outcome ≡ version_told) × AsksFor old new []
+AnswersFromFiles Unreadable old new outcome = (outcome ≡ misused) × AsksFor old new []
 
--- A request about the table in a file: what its bytes come to, by the table's answer.
-abbrev pub IsAnswerOf : Request → List ℕ → Option (List ℕ) → ℕ → ℕ → Outcome → Type 0
-IsAnswerOf request file told before now outcome =
-    IsFileOutcome file told before now (λ bytes o. IsTableOutcome file bytes (λ table p. IsTableAnswer request table p) o) outcome
+-- by what the outside holds, of which these forms use the files alone
+abbrev pub Answers : Form → Outside → Outside → Outcome → Type 0
+Answers form old new outcome = AnswersFromFiles form old.files new.files outcome
 
--- the outcome answers the request; `before` and `now` are the counts of faults of the files
-abbrev pub Answers : Request → (List ℕ → Option (List ℕ)) → ℕ → ℕ → Outcome → Type 0
-Answers (Route file h) told before now outcome = IsAnswerOf (Route file h) file (told file) before now outcome
-Answers (Listing file) told before now outcome = IsAnswerOf (Listing file) file (told file) before now outcome
-Answers (Normal file) told before now outcome = IsAnswerOf (Normal file) file (told file) before now outcome
-Answers Help told before now outcome = outcome ≡ helped
-Answers Version told before now outcome = outcome ≡ version_told
-Answers Unreadable told before now outcome = outcome ≡ misused
+-- ---- commands that stop early
 
--- the file whose table a request asks about, where it asks about one
-abbrev pub table_file : Request → Option (List ℕ)
-table_file (Route file h) = Some file
-table_file (Listing file) = Some file
-table_file (Normal file) = Some file
-table_file Help = None
-table_file Version = None
-table_file Unreadable = None
+-- what stops a command: an outcome of this kind, or want of memory, where `IsOut` says what holds
+abbrev pub IsStop : (Outcome → Type 0) → Type 0 → Stop → Type 0
+IsStop IsOutcome IsOut (stop.Outcome outcome) = IsOutcome outcome
+IsStop IsOutcome IsOut stop.Memory = IsOut
 
--- the bytes of that file, where they are told
-abbrev pub told_table : Request → (List ℕ → Option (List ℕ)) → Option (List ℕ)
-told_table request told = option_and_then told (table_file request)
+-- an outcome, unless there was no memory to make it
+abbrev pub stop_of : Result Outcome Memory → Stop
+stop_of (Ok outcome) = stop.Outcome outcome
+stop_of (Err memory) = stop.Memory
+
+-- a command gives an outcome that answers the form; or memory ran out behind the first of its files
+abbrev pub ComesTo : Form → FetchState → FetchState → Result Outcome Stop → Type 0
+ComesTo form old new (Ok outcome) = AnswersFromFiles form old new outcome
+ComesTo form old new (Err stop) = IsStop (AnswersFromFiles form old new) (AsksForSome (own_files form) old new) stop

@@ -1,26 +1,49 @@
 -- How a run ends, and what stops it before its outcome is written.
-use Rattle.std.specs.Prelude.{◌≡◌, ℕ, ◌⊎◌, Option, List}
+use Rattle.std.specs.Prelude.{◌≡◌, ℕ, ◌<◌, ◌⊎◌, [], Result, Ok, Err, length, take}
+use Rattle.std.specs.List.{concat}
 use Rattle.cxl_enc.specs.Faults.{Rose}
-use Rattle.cxl_io.specs.Told.{Takes, TakesPrefix}
+use Rattle.cxl_io.specs.Sink.{SinkState, Takes, TakesPrefix}
+use Rattle.cxl_shell.specs.Outcome.{Outcome, whole_text}
+use Rattle.cxl_shell.specs.Outside.{Outside}
 use Rattle.cxl_shell.specs.declared.status.Status.{Status}
 use Rattle.cxl_shell.specs.declared.status.Status.TheVariants.{FetchFault, WriteFault, Memory}
-use Rattle.cxl_shell.specs.Outcome.{Outcome}
+use Rattle.cxl_shell.specs.declared.stop.Stop.{Stop}
+use Rattle.cxl_shell.specs.declared.stop.Stop.TheVariants as stop
 
--- the outcome's status, and the whole of its text is written
-abbrev pub IsWritten : Outcome → Status → Option (List ℕ) → Option (List ℕ) → Type 0
-IsWritten outcome status old new = (status ≡ outcome.status) × Takes old new outcome.text
+-- ---- an outcome is written
 
--- The outcome is written, or the sink failed, which takes a fault there, behind a part of the text from the front.
--- `before` and `now` are the counts of faults of the sink, `old` and `new` what it took.
-abbrev pub Ends : Outcome → Status → ℕ → ℕ → Option (List ℕ) → Option (List ℕ) → Type 0
-Ends outcome status before now old new =
-    IsWritten outcome status old new ⊎ ((status ≡ WriteFault) × Rose before now × TakesPrefix old new outcome.text)
+-- the outcome's status, and all its pieces are written
+pub record IsWritten (outcome : Outcome) (status : Status) (old new : SinkState) : Type 0 where
+  pub status_is : status ≡ outcome.status
+  pub taken : Takes old new (whole_text outcome)
+
+-- the sink failed, which takes a fault there, behind a part of the text from the front
+pub record IsCutShort (outcome : Outcome) (status : Status) (old new : SinkState) : Type 0 where
+  pub status_is : status ≡ WriteFault
+  pub rose : Rose old.faults new.faults
+  pub taken : TakesPrefix old new (whole_text outcome)
+
+-- memory ran out behind whole pieces, but not all
+pub record IsBehind (outcome : Outcome) (old new : SinkState) : Type 0 where
+  pub count : ℕ
+  pub short : count < length outcome.pieces
+  pub taken : Takes old new (concat (take count outcome.pieces))
+
+abbrev pub Ends : Outcome → Status → SinkState → SinkState → Type 0
+Ends outcome status old new = IsWritten outcome status old new ⊎ IsCutShort outcome status old new
+
+-- what a command gives is written; where memory ran out, nothing is
+abbrev pub Finishes : Result Outcome Stop → Status → SinkState → SinkState → Type 0
+Finishes (Ok outcome) status old new = Ends outcome status old new
+Finishes (Err (stop.Outcome outcome)) status old new = Ends outcome status old new
+Finishes (Err stop.Memory) status old new = (status ≡ Memory) × Takes old new []
+
+-- ---- what stops a run
 
 -- the sink failed, which takes a fault there, or memory ran out
-abbrev pub IsUnwritten : Status → ℕ → ℕ → Type 0
-IsUnwritten status before now = ((status ≡ WriteFault) × Rose before now) ⊎ (status ≡ Memory)
+abbrev pub IsUnwritten : Status → SinkState → SinkState → Type 0
+IsUnwritten status old new = ((status ≡ WriteFault) × Rose old.faults new.faults) ⊎ (status ≡ Memory)
 
 -- a file was not read, which takes a fault of the files, or the outcome is not written
-abbrev pub IsStopped : Status → ℕ → ℕ → ℕ → ℕ → Type 0
-IsStopped status files_before files_now sink_before sink_now =
-    ((status ≡ FetchFault) × Rose files_before files_now) ⊎ IsUnwritten status sink_before sink_now
+abbrev pub IsStopped : Status → Outside → Outside → Type 0
+IsStopped status old new = ((status ≡ FetchFault) × Rose old.files.faults new.files.faults) ⊎ IsUnwritten status old.out new.out

@@ -1,16 +1,27 @@
 -- How a run comes to its end.
-use Rattle.std.specs.Prelude.{◌≡◌, ℕ, Option, List}
+use Rattle.std.specs.Prelude.{◌≡◌, true, []}
+use Rattle.cxl_io.specs.Sink.{Takes}
 use Rattle.cxl_shell.specs.Answers.{Answers}
-use Rattle.cxl_shell.specs.Ends.{Ends}
-use Rattle.cxl_shell.specs.Listed.{TakesLines}
+use Rattle.cxl_shell.specs.Ends.{IsWritten, IsCutShort, IsBehind}
+use Rattle.cxl_shell.specs.Form.{Form, own_files, takes_memory}
 use Rattle.cxl_shell.specs.Outcome.{Outcome}
-use Rattle.cxl_shell.specs.Request.{Request, Listing}
+use Rattle.cxl_shell.specs.Outside.{Outside}
 use Rattle.cxl_shell.specs.declared.status.Status.{Status}
 use Rattle.cxl_shell.specs.declared.status.Status.TheVariants.{Memory}
+use Rattle.cxl_shell.specs.inputs.File.{AsksForSome}
 
--- An outcome that answers the request is written as `Ends` says; or memory ran out, and nothing is, or, in a list, the
--- lines of the first records are. The counts of faults of the files and the sink, before and now, and what the sink took.
-pub data IsRun (request : Request) (told : List ℕ → Option (List ℕ)) (files_before files_now sink_before sink_now : ℕ) (old new : Option (List ℕ)) (status : Status) : Type 0 where
-  ends : (outcome : Outcome) → Answers request told files_before files_now outcome → Ends outcome status sink_before sink_now old new → IsRun request told files_before files_now sink_before sink_now old new status
-  nothing : status ≡ Memory → new ≡ old → IsRun request told files_before files_now sink_before sink_now old new status
-  some_lines : (file : List ℕ) → request ≡ Listing file → status ≡ Memory → TakesLines (told file) old new → IsRun request told files_before files_now sink_before sink_now old new status
+-- Memory ran out: before there was an outcome, and nothing is written; or behind whole pieces of an outcome that answers.
+pub data RunsOut (form : Form) (old new : Outside) : Type 0 where
+  before : AsksForSome (own_files form) old.files new.files → Takes old.out new.out [] → RunsOut form old new
+  behind : (outcome : Outcome) → Answers form old new outcome → IsBehind outcome old.out new.out → RunsOut form old new
+
+-- An outcome that answers the form is written; or the sink failed behind a part of its text; or memory ran out, in a form
+-- that takes any.
+pub data IsRun (form : Form) (old new : Outside) (status : Status) : Type 0 where
+  writes : (outcome : Outcome) → Answers form old new outcome → IsWritten outcome status old.out new.out → IsRun form old new status
+  is_cut : (outcome : Outcome) → Answers form old new outcome → IsCutShort outcome status old.out new.out → IsRun form old new status
+  runs_out : takes_memory form ≡ true → status ≡ Memory → RunsOut form old new → IsRun form old new status
+
+-- a fact of each run: its form, what the outside holds before it and after it, and its status
+abbrev pub EachRun : (Form → Outside → Outside → Status → Type 0) → Type 0
+EachRun P = (form : Form) (old new : Outside) (status : Status) → IsRun form old new status → P form old new status

@@ -1,23 +1,41 @@
-ghost use Rattle.std.specs.Prelude.{◌≡◌, ◌≤◌, IfOk, OnErr};
-ghost use Rattle.cxl_shell.specs.Ends.{Ends};
+ghost use Rattle.std.specs.Prelude.{◌≡◌, ◌≢◌, ℕ, ◌≤◌, ◌⊎◌, false, List};
+ghost use Rattle.cxl_enc.specs.Faults.{Rose};
+ghost use Rattle.cxl_shell.specs.Answers.{Answers};
+ghost use Rattle.cxl_shell.specs.Ends.{Ends, Finishes};
+ghost use Rattle.cxl_shell.specs.Form.{Listing, takes_memory};
+ghost use Rattle.cxl_shell.specs.Outcome.{Outcome};
+ghost use Rattle.cxl_shell.specs.Run.{RunsOut, EachRun};
 
-use crate::answer::Answer;
+use crate::outcome::Outcome;
 use crate::status::Status;
-use cxl_io::{Memory, Sink, write_all};
+use crate::stop::Stop;
+use cxl_io::Sink;
 
-/// Writes the text of an answer, and says how the run ends.
-pub(crate) fn finish<K: Sink>(answer: Result<Answer, Memory>, out: &mut K) -> Status
-    ensures ends { IfOk answer (λ outcome.
-        Ends outcome result (K.faults out.old) (K.faults out.new) (K.taken out.old) (K.taken out.new)) }
-    ensures memory { OnErr answer (result ≡ Status.Memory) }
-    ensures nothing { OnErr answer (K.taken out.new ≡ K.taken out.old) }
-    ensures counts { K.faults out.old ≤ K.faults out.new }
+/// Writes what a command comes to, and says how the run ends.
+pub(crate) fn finish<K: Sink>(answer: Result<Outcome, Stop>, out: &mut K) -> Status
+    ensures finishes { Finishes answer result (K.state out.old) (K.state out.new) }
+    ensures counts { (K.state out.old).faults ≤ (K.state out.new).faults }
 {
     match answer {
-        Ok(answer) => match write_all(out, answer.text.as_slice()) {
-            Ok(()) => answer.status,
-            Err(_) => Status::WriteFault,
-        },
-        Err(_) => Status::Memory,
+        Ok(outcome) => outcome.write(out),
+        Err(Stop::Outcome(outcome)) => outcome.write(out),
+        Err(Stop::Memory) => Status::Memory,
     }
 }
+
+/// Laws of each run: how it ends.
+pub fn run_ends()
+    // Unless memory ran out, an outcome that answers the form is written, or the sink failed behind a part
+    // of its text.
+    ensures answer { EachRun (λ form old new status. (status ≡ Status.Memory)
+        ⊎ ((outcome : Outcome) × Answers form old new outcome × Ends outcome status old.out new.out)) }
+    // Status 6 comes only where the sink failed.
+    ensures write_fault { EachRun (λ form old new status. status ≡ Status.WriteFault
+        → Rose old.out.faults new.out.faults) }
+    // Where memory ran out, nothing is written, or whole pieces of an outcome that answers, which only a
+    // list has more than one of. A form that takes no memory never ends so.
+    ensures memory { EachRun (λ form old new status. status ≡ Status.Memory → RunsOut form old new) }
+    ensures memory_writes { EachRun (λ form old new status. ((file : List ℕ) → form ≢ Listing file)
+        → status ≡ Status.Memory → new.out.taken ≡ old.out.taken) }
+    ensures no_memory { EachRun (λ form old new status. takes_memory form ≡ false → status ≢ Status.Memory) }
+{}

@@ -1,6 +1,6 @@
 ghost use Rattle.std.specs.Prelude.{◌≡◌};
-ghost use Rattle.cxl_shell.specs.Asked.{asked};
-ghost use Rattle.cxl_shell.specs.Request.{request_of, route_request, list_request, normal_request, alone};
+ghost use Rattle.cxl_shell.specs.Plain.{plain};
+ghost use Rattle.cxl_shell.specs.Form.{form_of, route_form, list_form, normal_form, alone};
 ghost use Rattle.cxl_shell.specs.Words.{bytes_of};
 
 use cxl_io::read_number;
@@ -22,7 +22,7 @@ pub(crate) enum Form<'a> {
 
 /// Reads the words of the command line, without the name of the program.
 pub(crate) fn form_of(words: &[String]) -> Form<'_>
-    ensures { asked result ≡ request_of (bytes_of words.now) }
+    ensures { plain result ≡ form_of (bytes_of words.now) }
 {
     let Some((verb, operands)) = words.split_first() else {
         return Form::Unreadable;
@@ -39,7 +39,7 @@ pub(crate) fn form_of(words: &[String]) -> Form<'_>
 
 /// A form that has no words after its first.
 fn alone<'a>(form: Form<'a>, words: &[String]) -> Form<'a>
-    ensures { asked result ≡ alone (asked form.entry) (bytes_of words.now) }
+    ensures { plain result ≡ alone (plain form.entry) (bytes_of words.now) }
 {
     if words.is_empty() {
         form
@@ -50,7 +50,7 @@ fn alone<'a>(form: Form<'a>, words: &[String]) -> Form<'a>
 
 /// The words after `route`: a file and a host address.
 fn route_form(words: &[String]) -> Form<'_>
-    ensures { asked result ≡ route_request (bytes_of words.now) }
+    ensures { plain result ≡ route_form (bytes_of words.now) }
 {
     match words {
         [file, address] => match read_number(address.as_bytes()) {
@@ -63,7 +63,7 @@ fn route_form(words: &[String]) -> Form<'_>
 
 /// The word after `list`: a file.
 fn list_form(words: &[String]) -> Form<'_>
-    ensures { asked result ≡ list_request (bytes_of words.now) }
+    ensures { plain result ≡ list_form (bytes_of words.now) }
 {
     match words {
         [file] => Form::Listing(file.as_str()),
@@ -73,7 +73,7 @@ fn list_form(words: &[String]) -> Form<'_>
 
 /// The word after `normal`: a file.
 fn normal_form(words: &[String]) -> Form<'_>
-    ensures { asked result ≡ normal_request (bytes_of words.now) }
+    ensures { plain result ≡ normal_form (bytes_of words.now) }
 {
     match words {
         [file] => Form::Normal(file.as_str()),

@@ -1,21 +1,22 @@
 //! The command line of `cxlplan`, over files and a sink that are handed in.
 #![tactic(auto)]
 
-mod answer;
-mod command;
+mod blocks;
+mod commands;
 mod finish;
 mod form;
-mod help;
-mod lines;
-mod list;
-mod normal;
-mod route;
-mod selection;
+mod inputs;
+mod outcome;
 mod shell;
 mod status;
-mod table;
-mod texts;
+mod stop;
 
-pub use help::{HELP, VERSION};
+pub use commands::help::{HELP, VERSION, help_statuses};
+pub use commands::list::list_statuses;
+pub use commands::normal::normal_statuses;
+pub use commands::route::route_statuses;
+pub use finish::run_ends;
+pub use inputs::file::file_statuses;
+pub use inputs::table::table_statuses;
 pub use shell::run;
 pub use status::Status;

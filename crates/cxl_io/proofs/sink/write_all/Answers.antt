@@ -1,7 +1,7 @@
 use Rattle.std.proofs.Common.{◌-◌, length, take, drop, ap, ◌∙◌, arith, length-drop}
 use Rattle.std.proofs.lemmas.List.{take_all}
 use Rattle.cxl_io.specs.Told.{told_with}
-use Rattle.cxl_io.proofs.ToldLemmas.{told_with-take_drop}
+use Rattle.cxl_io.proofs.Writes.{told_with-take_drop}
 use Rattle.cxl_io.proofs.sink.write_all.Goals as goal
 
 pub loop-at-preserved : goal.loop-at-preserved

@@ -1,13 +1,12 @@
-use Rattle.std.proofs.Common.{ap, sym, ◌∙◌}
-use Rattle.cxl_io.specs.Told.{told_with}
-use Rattle.cxl_io.proofs.ToldLemmas.{told_with-nil, told_with-told_with, TakesPrefix-first, TakesPrefix-second}
+use Rattle.std.proofs.Common.{sym}
+use Rattle.cxl_io.proofs.Writes.{told_with-nil, Takes-append, TakesPrefix-first, TakesPrefix-second}
 use Rattle.cxl_io.proofs.sink.writes_join.Goals as goal
 
 pub returns-clause-nothing : goal.returns-clause-nothing
-returns-clause-nothing c = λ told. sym (told_with-nil told)
+returns-clause-nothing c = λ state. sym (told_with-nil state.taken)
 
 pub returns-clause-both : goal.returns-clause-both
-returns-clause-both c = λ old mid new xs ys first second. second ∙ ap (λ told. told_with told ys) first ∙ told_with-told_with old xs ys
+returns-clause-both c = λ old mid new xs ys first second. Takes-append old mid new xs ys first second
 
 pub returns-clause-first : goal.returns-clause-first
 returns-clause-first c = λ old new xs ys some. TakesPrefix-first ys some

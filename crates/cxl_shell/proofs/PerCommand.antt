@@ -1,0 +1,144 @@
+-- What each command's statuses tell.
+use Rattle.std.proofs.Common.{◌≡◌, ◌≢◌, ℕ, zero, suc, ◌<◌, ◌⊎◌, false, Some, None, List, [], ◌∷◌, take, refl, sym, ap, subst, ◌∙◌, inl, inr, arith}
+use Rattle.std.specs.List.{concat}
+use Rattle.std.proofs.lemmas.List.{append-nil}
+use Rattle.cxl_cedt.specs.CedtFields.{CedtFields}
+use Rattle.cxl_io.specs.Sink.{SinkState, Takes}
+use Rattle.cxl_window.specs.Windows.{windows_of}
+use Rattle.cxl_shell.specs.Answers.{AnswersFromFiles, IsTableAnswer, IsAnswerOfFile}
+use Rattle.cxl_shell.specs.Ends.{IsWritten, IsCutShort, IsBehind, Ends, IsStopped}
+use Rattle.cxl_shell.specs.Form.{Form, Route, Listing, Normal, Help, Version, Unreadable, takes_memory}
+use Rattle.cxl_shell.specs.Outcome.{Outcome, whole_text, one_piece}
+use Rattle.cxl_shell.specs.Outside.{Outside}
+use Rattle.cxl_shell.specs.Run.{RunsOut, before, behind, IsRun, writes, is_cut, runs_out}
+use Rattle.cxl_shell.specs.commands.List.{IsListText, TakesLines}
+use Rattle.cxl_shell.specs.commands.Normal.{IsNormalText}
+use Rattle.cxl_shell.specs.commands.Route.{IsNowhere, IsRouted, to_bridge, nowhere, no_window, IsRouteLine}
+use Rattle.cxl_shell.specs.declared.status.Status.{Status}
+use Rattle.cxl_shell.specs.declared.status.Status.TheVariants.{Done, Refused, Memory}
+use Rattle.cxl_shell.specs.inputs.File.{not_read, not_small}
+use Rattle.cxl_shell.specs.inputs.Table.{IsTableOf, no_table, by_table, no_bytes, not_sound}
+use Rattle.cxl_shell.proofs.Routes.{done_selection, refused_nowhere}
+use Rattle.cxl_shell.proofs.Runs.{Came, done_answer, refused_answer, memory_left}
+use Rattle.cxl_shell.proofs.Stops.{told-nothing_more}
+
+-- ---- outcomes of one piece
+
+record IsOnePiece (outcome : Outcome) : Type 0 where
+  status : Status
+  text : List ℕ
+  is : outcome ≡ one_piece status text
+
+one_text : (outcome : Outcome) (status : Status) (text : List ℕ) → outcome ≡ one_piece status text → whole_text outcome ≡ text
+one_text outcome status text is = ap whole_text is ∙ append-nil text
+
+module _ (old new : SinkState) where
+  none_of_one : (text : List ℕ) (count : ℕ) → count < 1 → Takes old new (concat (take count (text ∷ []))) → Takes old new []
+  none_of_one text zero short taken = taken
+  none_of_one text (suc k) short taken = absurd (omega arith)
+
+  -- no whole piece of one is behind, when it is not all
+  behind_one : (outcome : Outcome) → IsOnePiece outcome → IsBehind outcome old new → Takes old new []
+  behind_one outcome one lines =
+      let at = subst (λ o. IsBehind o old new) one.is lines in none_of_one one.text at.count at.short at.taken
+
+module _ (old new : Outside) where
+  nothing_taken : Takes old.out new.out [] → new.out.taken ≡ old.out.taken
+  nothing_taken taken = taken ∙ sym (told-nothing_more old.out.taken)
+
+  one_of_file : (form : Form) (file : List ℕ) (outcome : Outcome) → ((table : CedtFields) → IsTableAnswer form table outcome → IsOnePiece outcome) → IsAnswerOfFile form file old.files new.files outcome → IsOnePiece outcome
+  one_of_file form file outcome by (no_table (no_bytes (not_read rose asks e))) = record { status = _; text = _; is = e }
+  one_of_file form file outcome by (no_table (no_bytes (not_small many asks e))) = record { status = _; text = _; is = e }
+  one_of_file form file outcome by (no_table (not_sound fault is asks e)) = record { status = _; text = _; is = e }
+  one_of_file form file outcome by (by_table table of answer) = by table answer.1
+
+  one_of_route : (table : CedtFields) (h : ℕ) (outcome : Outcome) → IsRouted table h outcome → IsOnePiece outcome
+  one_of_route table h outcome (to_bridge s selected e) = record { status = _; text = _; is = e }
+  one_of_route table h outcome (nowhere none e) = record { status = _; text = _; is = e }
+
+  -- only a list has more pieces
+  one_piece_answers : (form : Form) (outcome : Outcome) → ((file : List ℕ) → form ≢ Listing file) → AnswersFromFiles form old.files new.files outcome → IsOnePiece outcome
+  one_piece_answers (Route file h) outcome other answers = one_of_file (Route file h) file outcome (λ table answer. one_of_route table h outcome answer) answers
+  one_piece_answers (Listing file) outcome other answers = absurd (other file refl)
+  one_piece_answers (Normal file) outcome other answers = one_of_file (Normal file) file outcome (λ table answer. record { status = _; text = _; is = answer }) answers
+  one_piece_answers Help outcome other answers = record { status = _; text = _; is = answers.0 }
+  one_piece_answers Version outcome other answers = record { status = _; text = _; is = answers.0 }
+  one_piece_answers Unreadable outcome other answers = record { status = _; text = _; is = answers.0 }
+
+  pub memory_writes : (form : Form) → ((file : List ℕ) → form ≢ Listing file) → RunsOut form old new → new.out.taken ≡ old.out.taken
+  memory_writes form other (before some none) = nothing_taken none
+  memory_writes form other (behind outcome answers lines) = nothing_taken (behind_one old.out new.out outcome (one_piece_answers form outcome other answers) lines)
+
+  lines_of_file : (file : List ℕ) (outcome : Outcome) → IsAnswerOfFile (Listing file) file old.files new.files outcome → IsBehind outcome old.out new.out → (new.out.taken ≡ old.out.taken) ⊎ TakesLines (old.files.told file) old.out new.out
+  lines_of_file file outcome (no_table (no_bytes (not_read rose asks e))) lines = inl (nothing_taken (behind_one old.out new.out outcome (record { status = _; text = _; is = e }) lines))
+  lines_of_file file outcome (no_table (no_bytes (not_small many asks e))) lines = inl (nothing_taken (behind_one old.out new.out outcome (record { status = _; text = _; is = e }) lines))
+  lines_of_file file outcome (no_table (not_sound fault is asks e)) lines = inl (nothing_taken (behind_one old.out new.out outcome (record { status = _; text = _; is = e }) lines))
+  lines_of_file file outcome (by_table table of answer) lines =
+      let at = subst (λ o. IsBehind o old.out new.out) answer.1 lines in inr (record { table = table; is_table = of; count = at.count; taken = at.taken })
+
+  pub memory_in_list : (file : List ℕ) → RunsOut (Listing file) old new → (new.out.taken ≡ old.out.taken) ⊎ TakesLines (old.files.told file) old.out new.out
+  memory_in_list file (before some none) = inl (nothing_taken none)
+  memory_in_list file (behind outcome answers lines) = lines_of_file file outcome answers lines
+
+  -- ---- forms whose outcome is fixed
+
+  pub fixed_ends : (form : Form) (fixed : Outcome) (status : Status) → takes_memory form ≡ false → ((o : Outcome) → AnswersFromFiles form old.files new.files o → o ≡ fixed) → IsRun form old new status → Ends fixed status old.out new.out
+  fixed_ends form fixed status none one (writes outcome answers written) = inl (subst (λ o. IsWritten o status old.out new.out) (one outcome answers) written)
+  fixed_ends form fixed status none one (is_cut outcome answers is) = inr (subst (λ o. IsCutShort o status old.out new.out) (one outcome answers) is)
+  fixed_ends form fixed status none one (runs_out takes is left) = absurd (cc)
+
+  pub ends_or_memory : (form : Form) (status : Status) → IsRun form old new status → (status ≡ Memory) ⊎ ((outcome : Outcome) × AnswersFromFiles form old.files new.files outcome × Ends outcome status old.out new.out)
+  ends_or_memory form status (writes outcome answers written) = inr (outcome, answers, inl written)
+  ends_or_memory form status (is_cut outcome answers is) = inr (outcome, answers, inr is)
+  ends_or_memory form status (runs_out takes is left) = inl is
+
+  pub no_memory_left : (form : Form) → takes_memory form ≡ false → Came old new form Memory → ⊥
+  no_memory_left form none came = let some = (memory_left old new form came).0 in cc
+
+  -- ---- status 0 and status 8
+
+  same_file : (file other : List ℕ) → Some file ≡ Some other → other ≡ file
+  same_file file other e = cc
+
+  pub route_line : (file : List ℕ) (h : ℕ) → Came old new (Route file h) Done → (text : List ℕ) × IsRouteLine (old.files.told file) h text × Takes old.out new.out text
+  route_line file h came =
+      let answered = done_answer old new (Route file h) file refl came in
+      let to = done_selection answered.table h answered.outcome (sym answered.written.status_is) answered.answer in
+      let of = subst (λ f. IsTableOf (old.files.told f) answered.table) (same_file file answered.file answered.asked) answered.of in
+      (_, record { table = answered.table; is_table = of; selection = to.0; selected = to.1; names = refl }, subst (Takes old.out new.out) (one_text answered.outcome Done _ to.2) answered.written.taken)
+
+  refused_form : (form : Form) (table : CedtFields) (outcome : Outcome) → outcome.status ≡ Refused → IsTableAnswer form table outcome → (file : List ℕ) × (h : ℕ) × (form ≡ Route file h)
+  refused_form (Route file h) table outcome is answer = (file, h, refl)
+  refused_form (Listing file) table outcome is answer = let done = ap (λ o. o.status) answer in absurd (cc)
+  refused_form (Normal file) table outcome is answer = let done = ap (λ o. o.status) answer in absurd (cc)
+  refused_form Help table outcome is answer = absurd answer
+  refused_form Version table outcome is answer = absurd answer
+  refused_form Unreadable table outcome is answer = absurd answer
+
+  pub refuses_routes : (form : Form) → Came old new form Refused → (file : List ℕ) × (h : ℕ) × (form ≡ Route file h)
+  refuses_routes form came =
+      let answered = refused_answer old new form came in
+      refused_form form answered.table answered.outcome (sym answered.written.status_is) answered.answer
+
+  pub refused_by : (file : List ℕ) (h : ℕ) → Came old new (Route file h) Refused → (table : CedtFields) × IsTableOf (old.files.told file) table × IsNowhere (windows_of table.records None) h
+  refused_by file h came =
+      let answered = refused_answer old new (Route file h) came in
+      let of = subst (λ f. IsTableOf (old.files.told f) answered.table) (same_file file answered.file answered.asked) answered.of in
+      (answered.table, of, refused_nowhere answered.table h answered.outcome (sym answered.written.status_is) answered.answer)
+
+  pub list_written : (file : List ℕ) → Came old new (Listing file) Done → (text : List ℕ) × IsListText (old.files.told file) text × Takes old.out new.out text
+  list_written file came =
+      let answered = done_answer old new (Listing file) file refl came in
+      let of = subst (λ f. IsTableOf (old.files.told f) answered.table) (same_file file answered.file answered.asked) answered.of in
+      (whole_text answered.outcome, record { table = answered.table; is_table = of; lines = ap whole_text answered.answer }, answered.written.taken)
+
+  pub normal_written : (file : List ℕ) → Came old new (Normal file) Done → (bytes : List ℕ) × IsNormalText (old.files.told file) bytes × Takes old.out new.out bytes
+  normal_written file came =
+      let answered = done_answer old new (Normal file) file refl came in
+      let of = subst (λ f. IsTableOf (old.files.told f) answered.table) (same_file file answered.file answered.asked) answered.of in
+      (whole_text answered.outcome, record { table = answered.table; is_table = of; spelled = one_text answered.outcome Done _ answered.answer }, answered.written.taken)
+
+-- a refusal that is written
+pub refusal : (old new : Outside) (status : Status) → IsWritten no_window status old.out new.out ⊎ IsStopped status old new → (status ≡ Refused) ⊎ IsStopped status old new
+refusal old new status (inl written) = inl written.status_is
+refusal old new status (inr stopped) = inr stopped

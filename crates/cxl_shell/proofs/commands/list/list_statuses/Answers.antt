@@ -1,0 +1,22 @@
+use Rattle.std.proofs.Common.{refl, subst}
+use Rattle.cxl_shell.specs.Form.{Listing}
+use Rattle.cxl_shell.specs.Run.{IsRun}
+use Rattle.cxl_shell.specs.commands.List.{listed}
+use Rattle.cxl_shell.specs.declared.status.Status.TheVariants.{Done, Memory}
+use Rattle.cxl_shell.proofs.PerCommand.{list_written, memory_in_list}
+use Rattle.cxl_shell.proofs.Readings.{by_bytes, answer_comes}
+use Rattle.cxl_shell.proofs.Runs.{came_at, came_to, memory_left}
+use Rattle.cxl_shell.proofs.commands.list.list_statuses.Goals as goal
+
+pub returns-clause-list : goal.returns-clause-list
+returns-clause-list c = λ form old new status run file is done.
+    list_written old new file (came_to old new (Listing file) status Done (subst (λ f. IsRun f old new status) is run) done)
+
+pub returns-clause-listed : goal.returns-clause-listed
+returns-clause-listed c = λ form old new status run file bytes table is there reading.
+    let by = by_bytes old new (Listing file) status (came_at old new (Listing file) status (subst (λ f. IsRun f old new status) is run)) file bytes refl there in
+    answer_comes old new c.one_reading.ensures.one_table c.one_reading.ensures.one_fault c.one_reading.ensures.not_both (Listing file) bytes status by table (listed table.records) reading refl
+
+pub returns-clause-memory : goal.returns-clause-memory
+returns-clause-memory c = λ form old new status run file is out.
+    memory_in_list old new file (memory_left old new (Listing file) (came_to old new (Listing file) status Memory (subst (λ f. IsRun f old new status) is run) out)).1

@@ -1,0 +1,78 @@
+-- What the words of the command line ask for.
+use Rattle.std.specs.Prelude.{ℕ, Bool, true, false, Option, Some, None, List, [], ◌∷◌, codes, bytes_eq, if◌then◌else◌, Result, Ok, Err}
+use Rattle.cxl_io.specs.Numbers.{number_of}
+use Rattle.cxl_io.specs.declared.number.NumFault.{NumFault}
+
+pub data Form : Type 0 where
+  -- which bridge a host address goes to, by the table in a file
+  Route : (file : List ℕ) (h : ℕ) → Form
+  -- a line for each record of the table in a file
+  Listing : (file : List ℕ) → Form
+  -- the bytes of the table in a file, as the writer gives them
+  Normal : (file : List ℕ) → Form
+  Help : Form
+  Version : Form
+  -- the words are none of the forms, or a word is no number that has to be one
+  Unreadable : Form
+
+abbrev pub route_to : List ℕ → Result ℕ NumFault → Form
+route_to file (Ok h) = Route file h
+route_to file (Err fault) = Unreadable
+
+-- the words after `route`: a file and a host address
+abbrev pub route_form : List (List ℕ) → Form
+route_form (file ∷ address ∷ []) = route_to file (number_of address)
+route_form words = Unreadable
+
+-- the word after `list` or `normal`: a file
+abbrev pub list_form : List (List ℕ) → Form
+list_form (file ∷ []) = Listing file
+list_form words = Unreadable
+
+abbrev pub normal_form : List (List ℕ) → Form
+normal_form (file ∷ []) = Normal file
+normal_form words = Unreadable
+
+-- a form that has no words after its first
+abbrev pub alone : Form → List (List ℕ) → Form
+alone form [] = form
+alone form (word ∷ words) = Unreadable
+
+abbrev pub form_of : List (List ℕ) → Form
+form_of [] = Unreadable
+form_of (word ∷ words) =
+    if bytes_eq word (codes "route") then route_form words
+    else (if bytes_eq word (codes "list") then list_form words
+    else (if bytes_eq word (codes "normal") then normal_form words
+    else (if bytes_eq word (codes "--help") then alone Help words
+    else (if bytes_eq word (codes "--version") then alone Version words
+    else Unreadable))))
+
+-- ---- what a form needs
+
+-- the names of its files, in the order of the words
+abbrev pub own_files : Form → List (List ℕ)
+own_files (Route file h) = file ∷ []
+own_files (Listing file) = file ∷ []
+own_files (Normal file) = file ∷ []
+own_files Help = []
+own_files Version = []
+own_files Unreadable = []
+
+-- the file whose table it asks about, where it asks about one
+abbrev pub table_file : Form → Option (List ℕ)
+table_file (Route file h) = Some file
+table_file (Listing file) = Some file
+table_file (Normal file) = Some file
+table_file Help = None
+table_file Version = None
+table_file Unreadable = None
+
+-- it takes memory; the other forms never want for any
+abbrev pub takes_memory : Form → Bool
+takes_memory (Route file h) = true
+takes_memory (Listing file) = true
+takes_memory (Normal file) = true
+takes_memory Help = false
+takes_memory Version = false
+takes_memory Unreadable = false

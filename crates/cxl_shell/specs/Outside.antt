@@ -1,0 +1,10 @@
+-- What the objects of the outside hold at one moment.
+use Rattle.cxl_io.specs.Fetch.{FetchState}
+use Rattle.cxl_io.specs.Sink.{SinkState}
+
+pub record Outside : Type 0 where
+  pub files : FetchState
+  pub out : SinkState
+
+abbrev pub outside : FetchState → SinkState → Outside
+outside files out = record { files = files; out = out }

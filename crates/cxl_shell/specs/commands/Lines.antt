@@ -1,0 +1,117 @@
+-- The text of `list`: a line for each record of a table, in table order.
+use Rattle.std.specs.Prelude.{ℕ, ◌+◌, ◌*◌, ◌^◌, Bool, if◌then◌else◌, None, List, [], ◌∷◌, ◌++◌, length, codes, decimal}
+use Rattle.std.specs.List.{filter_map, flat_map}
+use Rattle.cxl_cedt.specs.declared.chbs.Chbs as chbs
+use Rattle.cxl_cedt.specs.declared.cedt.Record.{Record}
+use Rattle.cxl_cedt.specs.declared.cedt.Record.TheVariants.{Chbs, Cfmws, Cxims, Other}
+use Rattle.cxl_cedt.specs.Fields.{CximsFields, OtherFields}
+use Rattle.cxl_io.specs.Printed.{hex_of, padded_hex}
+use Rattle.cxl_window.specs.Fields.{WindowFields}
+use Rattle.cxl_window.specs.Windows.{cfmws_in, window_of}
+use Rattle.cxl_window.specs.declared.window.Verdict.{Verdict}
+use Rattle.cxl_window.specs.declared.window.Verdict.TheVariants.{Usable, Align, Size, TooHigh, Overlap, Target, Repeat, Maps}
+use Rattle.cxl_shell.specs.Outcome.{line}
+
+-- ---- parts of lines
+
+-- an address or a length
+abbrev pub hex_text : ℕ → List ℕ
+hex_text n = codes "0x" ++ hex_of n
+
+-- the granularity of a code, in bytes
+abbrev pub gran_text : ℕ → List ℕ
+gran_text code = decimal (256 * 2 ^ code)
+
+-- UIDs, each behind a comma
+abbrev pub more_targets_text : List ℕ → List ℕ
+more_targets_text uids = flat_map (λ uid. codes "," ++ decimal uid) uids
+
+-- UIDs, separated by commas
+abbrev pub targets_text : List ℕ → List ℕ
+targets_text [] = []
+targets_text (uid ∷ uids) = decimal uid ++ more_targets_text uids
+
+-- XOR maps, each behind a comma
+abbrev pub more_maps_text : List ℕ → List ℕ
+more_maps_text maps = flat_map (λ map. codes "," ++ hex_text map) maps
+
+-- XOR maps, separated by commas, or the word for none
+abbrev pub maps_text : List ℕ → List ℕ
+maps_text [] = codes "none"
+maps_text (map ∷ maps) = hex_text map ++ more_maps_text maps
+
+abbrev pub arithmetic_text : Bool → List ℕ
+arithmetic_text xor = if xor then codes "xor" else codes "modulo"
+
+-- whether a window can be used, and else the first cause with what it names
+abbrev pub verdict_text : Verdict → List ℕ
+verdict_text Usable = codes "usable"
+verdict_text Align = codes "align"
+verdict_text Size = codes "size"
+verdict_text TooHigh = codes "too-high"
+verdict_text (Overlap index) = codes "overlap " ++ decimal index
+verdict_text (Target uid) = codes "target " ++ decimal uid
+verdict_text (Repeat uid) = codes "repeat " ++ decimal uid
+verdict_text Maps = codes "maps"
+
+-- which bridge it is
+unfoldable pub bridge_text : chbs.Chbs → List ℕ
+bridge_text c = codes "chbs " ++ decimal c.uid ++ codes " version " ++ decimal c.version
+
+-- the range of its registers
+unfoldable pub registers_text : chbs.Chbs → List ℕ
+registers_text c = codes " base " ++ hex_text c.base ++ codes " length " ++ hex_text c.length
+
+-- the range of a window
+unfoldable pub range_text : WindowFields → List ℕ
+range_text w = codes "window " ++ decimal w.index ++ codes " base " ++ hex_text w.base ++ codes " size " ++ hex_text w.size
+
+-- how a window interleaves
+unfoldable pub interleave_text : WindowFields → List ℕ
+interleave_text w = codes " ways " ++ decimal w.ways ++ codes " gran " ++ gran_text w.gran ++ codes " " ++ arithmetic_text w.xor
+
+-- restriction bits, always four digits
+unfoldable pub restrict_text : ℕ → List ℕ
+restrict_text restrict = codes "0x" ++ padded_hex restrict 4
+
+-- the restrictions, and the QoS throttling group
+unfoldable pub policy_text : ℕ → ℕ → List ℕ
+policy_text restrict qtg = codes " restrict " ++ restrict_text restrict ++ codes " qtg " ++ decimal qtg
+
+-- the targets, and whether the window can be used
+unfoldable pub use_text : WindowFields → List ℕ
+use_text w = codes " targets " ++ targets_text w.targets ++ codes " " ++ verdict_text w.verdict
+
+-- ---- the line of a record
+
+abbrev pub chbs_line : chbs.Chbs → List ℕ
+chbs_line c = line (bridge_text c ++ registers_text c)
+
+-- a window with its verdict, and the throttling group of its record
+abbrev pub window_line : WindowFields → ℕ → List ℕ
+window_line w qtg = line (range_text w ++ interleave_text w ++ policy_text w.restrict qtg ++ use_text w)
+
+abbrev pub cxims_line : CximsFields → List ℕ
+cxims_line c = line (codes "cxims gran " ++ gran_text c.gran ++ codes " maps " ++ maps_text c.maps)
+
+-- the type, and the length of the whole record
+abbrev pub other_line : OtherFields → List ℕ
+other_line c = line (codes "other " ++ decimal c.kind ++ codes " length " ++ decimal (4 + length c.body))
+
+-- the line of a record of a table, `before` being the records before it: a window is judged behind the windows before it
+unfoldable pub record_line : List Record → List Record → Record → List ℕ
+record_line table before (Chbs c) = chbs_line c
+record_line table before (Cfmws c) = window_line (window_of table None (filter_map cfmws_in before) c) c.qtg
+record_line table before (Cxims c) = cxims_line c
+record_line table before (Other c) = other_line c
+
+-- ---- the lines of a table
+
+-- the lines of records of a table, behind those before them
+abbrev pub lines_behind : List Record → List Record → List Record → List (List ℕ)
+lines_behind table before [] = []
+lines_behind table before (r ∷ rs) = record_line table before r ∷ lines_behind table (before ++ r ∷ []) rs
+
+-- a line for each record
+abbrev pub list_lines : List Record → List (List ℕ)
+list_lines table = lines_behind table [] table

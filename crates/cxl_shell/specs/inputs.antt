@@ -1,0 +1,3 @@
+-- The files that commands read: what asking for one and reading it comes to.
+pub mod File
+pub mod Table

@@ -1,0 +1,60 @@
+ghost use Rattle.std.specs.Prelude.{◌≡◌};
+ghost use Rattle.cxl_shell.specs.Ends.{Ends};
+ghost use Rattle.cxl_shell.specs.Form.{Help, Version, Unreadable};
+ghost use Rattle.cxl_shell.specs.Run.{EachRun};
+ghost use Rattle.cxl_shell.specs.commands.Help.{helped, version_told, misused};
+
+use crate::outcome::Outcome;
+use crate::status::Status;
+
+/// What `--help` writes.
+pub const HELP: &str = "\
+cxlplan plans and checks CXL memory regions.
+
+cxlplan route CEDT HPA    the window, the position and the bridge of a host address
+cxlplan list CEDT         a line for each record of the table, windows with their verdicts
+cxlplan normal CEDT       the table's bytes with its reserved fields zero
+cxlplan --help            this text
+cxlplan --version         the version
+
+CEDT is a file with the bytes of a CEDT table, 1,048,576 at the most. HPA is a host physical
+address, in decimal digits, or in hexadecimal digits after 0x.
+
+Exit status: 0 done, 1 the words are no command, 2 a file cannot be read, 3 the CEDT has a fault,
+6 writing failed, 8 no window that can be used holds the address, 9 out of memory, 12 a file is
+too large.
+";
+
+/// What `--version` writes.
+pub const VERSION: &str = "cxlplan 0.1.0\n";
+
+/// What the program can do. Takes no memory, as the two below.
+pub(crate) fn helped() -> Outcome
+    ensures { result ≡ helped }
+{
+    Outcome::fixed(Status::Done, HELP)
+}
+
+/// Which program it is.
+pub(crate) fn version_told() -> Outcome
+    ensures { result ≡ version_told }
+{
+    Outcome::fixed(Status::Done, VERSION)
+}
+
+/// The words are no command.
+pub(crate) fn misused() -> Outcome
+    ensures { result ≡ misused }
+{
+    Outcome::fixed(Status::Usage, "usage\n")
+}
+
+/// Laws of each run of `--help` and `--version`, and of words that are no command: the outcome is written,
+/// or the sink failed. None of them wants for memory.
+pub fn help_statuses()
+    ensures help { EachRun (λ form old new status. form ≡ Help → Ends helped status old.out new.out) }
+    ensures version { EachRun (λ form old new status. form ≡ Version → Ends version_told status old.out new.out) }
+    // Status 1 comes exactly where the words are no command, unless that is not written.
+    ensures usage { EachRun (λ form old new status. status ≡ Status.Usage → form ≡ Unreadable) }
+    ensures only_usage { EachRun (λ form old new status. form ≡ Unreadable → Ends misused status old.out new.out) }
+{}

@@ -1,0 +1,4 @@
+//! The files that commands read.
+
+pub(crate) mod file;
+pub(crate) mod table;
