@@ -1,5 +1,5 @@
 -- Nodes under earlier ones, one after another, and the table of those that others may stand under.
-use Rattle.std.proofs.Common.{◌≡◌, ℕ, suc, ◌+◌, ◌<◌, ◌≤◌, Bool, false, cond, List, [], ◌∷◌, ◌++◌, length, get_or, drop, Some, None, sym, ap, zero-add, ◌∙◌, inl, inr, arith}
+use Rattle.std.proofs.Common.{not, true, ◌≡◌, ℕ, suc, ◌+◌, ◌<◌, ◌≤◌, Bool, cond, List, [], ◌∷◌, ◌++◌, length, get_or, drop, Some, None, sym, ap, zero-add, ◌∙◌, inl, inr, arith}
 use Rattle.std.specs.Prelude.{nat_lt, count_by, position}
 use Rattle.std.specs.List.{position_from}
 use Rattle.std.specs.Option.{option_or}
@@ -65,7 +65,7 @@ module _ (test : Node → Bool) where
 
 module _ (nodes : List Node) (node : Node) (old : BTreeMap NameKey ℕ) (before : ListsPorts nodes old) where
   -- a bridge or a switch is entered under its name
-  pub port_entered : (new : BTreeMap NameKey ℕ) → is_endpoint node.kind ≡ false → Enters name_cmp old new (record { 0 = node.name }) (length nodes) → ListsPorts (nodes ++ node ∷ []) new
+  pub port_entered : (new : BTreeMap NameKey ℕ) → not (is_endpoint node.kind) ≡ true → Enters name_cmp old new (record { 0 = node.name }) (length nodes) → ListsPorts (nodes ++ node ∷ []) new
   port_entered new port enters key = enters key ∙ rw (before key, ← fits) (sym (position_push (is_port_named key.0) nodes node))
     where
       fits : is_port_named key.0 node ≡ is_at (name_cmp (record { 0 = node.name })) key

@@ -1,7 +1,8 @@
 //! Parents by name.
 
-ghost use Rattle.std.specs.Prelude.{◌≡◌, [], ◌∷◌, ◌++◌, ◌+◌, ◌<◌, ◌≤◌, length, position, IfOk, OnOk};
+ghost use Rattle.std.specs.Prelude.{◌≡◌, [], ◌∷◌, ◌++◌, ◌+◌, ◌<◌, ◌≤◌, length, not, position, IfOk, OnOk};
 ghost use Rattle.cxl_enc.specs.Limits.{node_limit};
+ghost use Rattle.cxl_topo.specs.Kinds.{is_endpoint};
 ghost use Rattle.cxl_topofile.specs.File.{is_port_named, node_under, attached};
 ghost use Rattle.cxl_topofile.specs.inner.Ports.{ListsPorts};
 
@@ -90,6 +91,13 @@ impl Attached {
     }
 }
 
+/// Whether other nodes may stand under a node.
+fn may_be_parent(node: &Node) -> bool
+    ensures { result ≡ not (is_endpoint node.now.kind) }
+{
+    !node.is_endpoint()
+}
+
 /// Enters a node behind the earlier ones, unless it is an endpoint or one of them has its name.
 fn enter_port(
     ports: &mut BTreeMap<NameKey, u32>,
@@ -100,8 +108,7 @@ fn enter_port(
     requires listed { ListsPorts earlier.now ports.old }
     ensures { OnOk result (ListsPorts (earlier.now ++ node.now ∷ []) ports.new) }
 {
-    let passed_over = node.is_endpoint();
-    if passed_over {
+    if !may_be_parent(node) {
         return Ok(());
     }
     enter_first(ports, NameKey(node.name), earlier.len() as u32)
