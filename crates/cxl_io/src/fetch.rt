@@ -29,6 +29,7 @@ impl From<AllocError> for FetchFault {
 
 /// Files by name.
 pub trait Fetch {
+    /// What is told of each name, the names that were asked for, and how often it failed.
     ghost state: { Self → FetchState };
 
     /// The whole file of that name, which has at most 1,048,576 bytes. (This project's rule.) A name that

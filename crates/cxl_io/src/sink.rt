@@ -6,6 +6,7 @@ use cxl_enc::Failed;
 
 /// Where bytes go, as standard output.
 pub trait Sink {
+    /// What it took, where it tells it, and how often it failed.
     ghost state: { Self → SinkState };
 
     /// Takes some bytes from the front, one at the least, and answers how many. A sink that can take

@@ -6,6 +6,7 @@ use cxl_enc::Failed;
 
 /// Where bytes come from, as standard input.
 pub trait Source {
+    /// What it has left, where it tells it, and how often it failed.
     ghost state: { Self → SourceState };
 
     /// Takes bytes from the front of those left, puts them in front into `into`, and answers how many:
