@@ -5,12 +5,15 @@ mod decoding;
 mod downward;
 mod moves;
 mod route;
+mod spans;
 mod target;
+mod upward;
 mod way;
 
 pub use cxl_model::{Miss, Step};
 pub use downward::down;
 pub use route::Route;
+pub use upward::{Host, up};
 
 #[cfg(test)]
 mod hosts;
