@@ -227,9 +227,9 @@ module _ (s : System) (ep dpa : ℕ) (block : Registers) (there : slice_get s.bl
           ];
     }
 
-    pub least : (o : Option Host) → IfSome o (IsFirstWay s ep dpa byte) → IfSome o (IsLeastHost s ep dpa)
-    least None is = tt
-    least (Some host) is = least_of host is
+    pub least_host : (o : Option Host) → IfSome o (IsFirstWay s ep dpa byte) → IfSome o (IsLeastHost s ep dpa)
+    least_host None is = tt
+    least_host (Some host) is = least_of host is
 
     pub none_at_all : (o : Option Host) → IfNone o ((k first : ℕ) → k < decoder_ways byte.decoder → ComesTo s ep dpa first (way_address byte.decoder byte.along k) → ⊥) → IfNone o (HasNoHost s ep dpa)
     none_at_all None none = no_way none

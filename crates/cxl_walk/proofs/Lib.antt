@@ -4,3 +4,4 @@ pub mod Ways
 pub mod Targets
 pub mod Places
 pub mod Comings
+pub mod Keepings

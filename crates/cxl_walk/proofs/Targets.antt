@@ -24,7 +24,7 @@ use Rattle.cxl_walk.specs.inner.Calls.{Leads, Fails, IsTarget}
 use Rattle.cxl_walk.specs.Routes.{routing_of, outcome_of}
 use Rattle.cxl_walk.proofs.Nodes.{and_some}
 
-usable_is : (verdict : Verdict) → is_usable verdict ≡ true → verdict ≡ Usable
+pub usable_is : (verdict : Verdict) → is_usable verdict ≡ true → verdict ≡ Usable
 usable_is Usable h = refl
 usable_is Align h = absurd (false≢true h)
 usable_is Size h = absurd (false≢true h)

@@ -3,6 +3,7 @@
 
 mod decoding;
 mod downward;
+mod kept;
 mod moves;
 mod route;
 mod spans;
@@ -12,6 +13,7 @@ mod way;
 
 pub use cxl_model::{Miss, Step};
 pub use downward::down;
+pub use kept::Kept;
 pub use route::Route;
 pub use upward::{Host, up};
 

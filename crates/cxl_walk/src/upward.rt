@@ -1,10 +1,15 @@
-ghost use Rattle.std.specs.Prelude.{◌≡◌, ℕ, ◌+◌, ◌<◌, true, IfSome, IfNone};
+ghost use Rattle.std.specs.Prelude.{◌≡◌, ℕ, ◌+◌, ◌<◌, true, IsSome, IfSome, IfNone};
 ghost use Rattle.cxl_enc.specs.Limits.{address_limit};
 ghost use Rattle.cxl_topo.specs.Tree.{is_endpoint_at};
 ghost use Rattle.cxl_regs.specs.Reading.{decoder_ways};
 ghost use Rattle.cxl_window.specs.Windows.{AreMadeWith};
 ghost use Rattle.cxl_image.specs.Images.{HasCapsOf};
+ghost use Rattle.cxl_window.specs.Fields.{WindowFields};
+ghost use Rattle.cxl_model.specs.declared.found.Found.{Found};
 ghost use Rattle.cxl_model.specs.System.{system_of, bridge_uids};
+ghost use Rattle.cxl_model.specs.Accepted.{IsAccepted};
+ghost use Rattle.cxl_model.specs.Regions.{IsRegionIn};
+ghost use Rattle.cxl_model.specs.Bytes.{LiesInSpan};
 ghost use Rattle.cxl_walk.specs.Hosts.{ComesTo, HasNoHost, IsLeastHost};
 ghost use Rattle.cxl_walk.specs.inner.WaysUp.{way_address, IsFirstWay};
 
@@ -12,6 +17,7 @@ use crate::downward::down;
 use crate::moves::capacity_at;
 use crate::spans::{SpanByte, span_byte};
 use cxl_image::Image;
+use cxl_model::{bytes_are_carried_one_to_one, carries_where_chain_ends, routes_are_of_regions};
 use cxl_span::{block_breach, spans_are_whole, spans_follow};
 use cxl_topo::Topo;
 use cxl_window::Window;
@@ -27,6 +33,31 @@ pub struct Host {
 /// The least host address that leads to a byte of an endpoint's device, and `None` exactly where none does.
 /// (CXL HDM decoders; that the least is named where images lead several to one byte is this project's rule.)
 pub fn up(image: &Image, topo: &Topo, windows: &[Window], ep: u32, dpa: u64) -> Option<Host>
+    requires caps { HasCapsOf image.now topo.now.nodes }
+    requires made { AreMadeWith windows.now (bridge_uids topo.now.nodes) }
+    requires endpoint { is_endpoint_at topo.now.nodes ep ≡ true }
+    ensures some { IfSome result (IsLeastHost (system_of image.now topo.now windows.now) ep dpa) }
+    ensures none { IfNone result (HasNoHost (system_of image.now topo.now windows.now) ep dpa) }
+    // Each byte of a region's spans has one.
+    ensures spans { (w : WindowFields) (found : Found) → IsRegionIn (system_of image.now topo.now windows.now) w found
+        → LiesInSpan found ep dpa → IsSome result }
+    // In an accepted image there is no other one, and none but for these bytes.
+    ensures one { IsAccepted (system_of image.now topo.now windows.now) → IfSome result (λ host. (first h : ℕ)
+        → ComesTo (system_of image.now topo.now windows.now) ep dpa first h → h ≡ host.h) }
+    ensures only { IsAccepted (system_of image.now topo.now windows.now) → IsSome result → (w : WindowFields) × (found : Found)
+        × IsRegionIn (system_of image.now topo.now windows.now) w found × LiesInSpan found ep dpa }
+{
+    carries_where_chain_ends();
+    bytes_are_carried_one_to_one();
+    routes_are_of_regions();
+    let nodes = topo.count();
+    let blocks = image.count();
+    prove!(nodes == blocks);
+    least(image, topo, windows, ep, dpa)
+}
+
+/// The same, by the spans of the endpoint's decoders.
+fn least(image: &Image, topo: &Topo, windows: &[Window], ep: u32, dpa: u64) -> Option<Host>
     requires caps { HasCapsOf image.now topo.now.nodes }
     requires made { AreMadeWith windows.now (bridge_uids topo.now.nodes) }
     requires endpoint { is_endpoint_at topo.now.nodes ep ≡ true }

@@ -1,59 +1,57 @@
-use Rattle.std.proofs.Common.{◌≡◌, ℕ, ◌*◌, ◌%◌, ◌<◌, ◌≤◌, true, List, length, Some, subst, sym, ◌∙◌}
-use Rattle.std.specs.Prelude.{slice_get}
-use Rattle.cxl_enc.specs.Limits.{unit}
-use Rattle.cxl_regs.specs.declared.decoder.Decoder.{Decoder}
-use Rattle.cxl_regs.specs.Registers.{Registers, IsBlock}
-use Rattle.cxl_regs.specs.Reading.{decoder_ways, span_length}
-use Rattle.cxl_span.specs.Spans.{span_start_of, span_end_of}
-use Rattle.cxl_span.specs.Breaches.{BlockKeeps}
-use Rattle.cxl_model.specs.System.{System, system_of, ram_at, pmem_at}
-use Rattle.cxl_walk.proofs.Nodes.{none_then, some_not}
-use Rattle.cxl_walk.proofs.Comings.{keeps, endpoint_block, SpanLaws, no_span, least, none_at_all}
+use Rattle.std.proofs.Common.{◌≡◌, ℕ, Option, Some, None, refl, sym, subst, ◌∙◌}
+use Rattle.std.specs.Prelude.{IsSome, IfSome, IfNone}
+use Rattle.cxl_window.specs.Fields.{WindowFields}
+use Rattle.cxl_model.specs.declared.found.Found.{Found}
+use Rattle.cxl_model.specs.System.{System, IsSystem, system_of}
+use Rattle.cxl_model.specs.Chain.{Routing}
+use Rattle.cxl_model.specs.Accepted.{IsAccepted}
+use Rattle.cxl_model.specs.Regions.{IsRegionIn, Carries}
+use Rattle.cxl_model.specs.Bytes.{LiesInSpan}
+use Rattle.cxl_walk.specs.declared.upward.Host.{Host}
+use Rattle.cxl_walk.specs.Hosts.{ComesTo, HasNoHost, IsLeastHost}
 use Rattle.cxl_walk.proofs.upward.up.Goals as goal
 
-pub returns-then-is_some-clause-none : goal.returns-then-is_some-clause-none
-returns-then-is_some-clause-none c = λ first h comes.
+some_of : (s : System) (ep dpa : ℕ) (o : Option Host) → IfNone o (HasNoHost s ep dpa) → (first h : ℕ) → ComesTo s ep dpa first h → IsSome o
+some_of s ep dpa None none first h comes = absurd (none first h comes)
+some_of s ep dpa (Some host) none first h comes = refl
+
+each_of : (s : System) (ep dpa : ℕ) (o : Option Host) → IfSome o (IsLeastHost s ep dpa)
+    → ((a first b other : ℕ) → ComesTo s ep dpa first a → ComesTo s ep dpa other b → a ≡ b)
+    → IfSome o (λ host. (first h : ℕ) → ComesTo s ep dpa first h → h ≡ host.h)
+each_of s ep dpa None is one = tt
+each_of s ep dpa (Some host) is one = λ first h comes. one h first host.h host.base comes is.comes
+
+host_of : (s : System) (ep dpa : ℕ) (o : Option Host) → IfSome o (IsLeastHost s ep dpa) → IsSome o → (host : Host) × IsLeastHost s ep dpa host
+host_of s ep dpa None is some = cc
+host_of s ep dpa (Some host) is some = (host, is)
+
+pub returns-clause-spans : goal.returns-clause-spans
+returns-clause-spans c = λ w found region lies.
     let s : System = system_of c.args.image.now c.args.topo.now c.args.windows.now in
-    let block = c.block-block.result.now in
-    let kept = keeps s c.args.ep c.args.dpa first h block c.block-block.ensures.value comes in
-    some_not c.block_breach.result _ c.block_breach.ensures.none (sym c.is_some.ensures ∙ c.if-is_some.true)
-    (subst (λ (r : ℕ). BlockKeeps block r c.capacity_at-capacity.result.pmem) (sym c.capacity_at-capacity.ensures.ram)
-    (subst (λ (p : ℕ). BlockKeeps block (ram_at s c.args.ep) p) (sym c.capacity_at-capacity.ensures.pmem) kept))
+    let system : IsSystem s = record { tree = c.count-nodes.ensures.tree; blocks = c.count-blocks.ensures.image.each; caps = c.requires.caps; made = c.requires.made } in
+    let carried = c.bytes_are_carried_one_to_one.ensures.onto s w found c.args.ep c.args.dpa system region lies in
+    let route = c.carries_where_chain_ends.ensures.ends s w found carried.0 c.args.ep c.args.dpa system region carried.1 in
+    some_of s c.args.ep c.args.dpa c.least.result c.least.ensures.none route.0.arrival.base carried.0
+    (record { routing = route.0; chain = route.1; endpoint = route.2; byte = route.3; base = refl })
 
--- what the laws of spans say of the endpoint's block
-module _ (block : Registers) (ram pmem : ℕ) (block_is : IsBlock block) (kept : BlockKeeps block ram pmem) (endpoint : block.endpoint ≡ true) where
-  laws_of :
-      ((decoders : List Decoder) (i j : ℕ) → i < j → j < length decoders → span_end_of decoders i ≤ span_start_of decoders j)
-      → ((b : Registers) (r p i : ℕ) (d : Decoder) → BlockKeeps b r p → b.endpoint ≡ true → slice_get b.decoders i ≡ Some d → d.committed ≡ true → span_length d * decoder_ways d ≡ d.size)
-      → ((b : Registers) (r p i : ℕ) (d : Decoder) → BlockKeeps b r p → b.endpoint ≡ true → slice_get b.decoders i ≡ Some d → d.committed ≡ true → span_length d % unit ≡ 0)
-      → SpanLaws block
-  laws_of follow shares aligned = record {
-    follow = follow block.decoders;
-    shares = λ i d. shares block ram pmem i d kept endpoint;
-    aligned = λ i d. aligned block ram pmem i d kept endpoint;
-    block_is = block_is;
-  }
+pub returns-clause-one : goal.returns-clause-one
+returns-clause-one c = λ accepted.
+    let s : System = system_of c.args.image.now c.args.topo.now c.args.windows.now in
+    let system : IsSystem s = record { tree = c.count-nodes.ensures.tree; blocks = c.count-blocks.ensures.image.each; caps = c.requires.caps; made = c.requires.made } in
+    each_of s c.args.ep c.args.dpa c.least.result c.least.ensures.some
+    (λ a first b other one two.
+    c.routes_are_of_regions.ensures.apart s a b one.routing two.routing system accepted one.chain two.chain (one.endpoint ∙ sym two.endpoint) (one.byte ∙ sym two.byte))
 
-pub returns-in_default-clause-none : goal.returns-in_default-clause-none
-returns-in_default-clause-none c =
-    let block = c.block-block.result.now in
-    let kept = none_then c.block_breach.result _ c.block_breach.ensures.none (sym c.is_some.ensures ∙ c.if-is_some.false) in
-    let endpoint = endpoint_block c.args.topo.now.nodes c.args.image.now c.args.ep block c.requires.caps c.requires.endpoint c.block-block.ensures.value in
-    let laws = laws_of block c.capacity_at-capacity.result.ram c.capacity_at-capacity.result.pmem c.block-block.ensures.block kept endpoint c.spans_follow.ensures c.spans_are_whole.ensures.shares c.spans_are_whole.ensures.length_aligned in
-    no_span (system_of c.args.image.now c.args.topo.now c.args.windows.now) c.args.ep c.args.dpa block c.block-block.ensures.value laws c.in_default.ensures.none
-
-pub returns-clause-some : goal.returns-clause-some
-returns-clause-some c =
-    let block = c.block-block.result.now in
-    let kept = none_then c.block_breach.result _ c.block_breach.ensures.none (sym c.is_some.ensures ∙ c.if-is_some.false) in
-    let endpoint = endpoint_block c.args.topo.now.nodes c.args.image.now c.args.ep block c.requires.caps c.requires.endpoint c.block-block.ensures.value in
-    let laws = laws_of block c.capacity_at-capacity.result.ram c.capacity_at-capacity.result.pmem c.block-block.ensures.block kept endpoint c.spans_follow.ensures c.spans_are_whole.ensures.shares c.spans_are_whole.ensures.length_aligned in
-    least (system_of c.args.image.now c.args.topo.now c.args.windows.now) c.args.ep c.args.dpa block c.block-block.ensures.value laws c.in-Some.byte c.in-Some.ensures.some c.first_way.result c.first_way.ensures.some
-
-pub returns-clause-none : goal.returns-clause-none
-returns-clause-none c =
-    let block = c.block-block.result.now in
-    let kept = none_then c.block_breach.result _ c.block_breach.ensures.none (sym c.is_some.ensures ∙ c.if-is_some.false) in
-    let endpoint = endpoint_block c.args.topo.now.nodes c.args.image.now c.args.ep block c.requires.caps c.requires.endpoint c.block-block.ensures.value in
-    let laws = laws_of block c.capacity_at-capacity.result.ram c.capacity_at-capacity.result.pmem c.block-block.ensures.block kept endpoint c.spans_follow.ensures c.spans_are_whole.ensures.shares c.spans_are_whole.ensures.length_aligned in
-    none_at_all (system_of c.args.image.now c.args.topo.now c.args.windows.now) c.args.ep c.args.dpa block c.block-block.ensures.value laws c.in-Some.byte c.in-Some.ensures.some c.first_way.result c.first_way.ensures.none
+pub returns-clause-only : goal.returns-clause-only
+returns-clause-only c = λ accepted some.
+    let s : System = system_of c.args.image.now c.args.topo.now c.args.windows.now in
+    let system : IsSystem s = record { tree = c.count-nodes.ensures.tree; blocks = c.count-blocks.ensures.image.each; caps = c.requires.caps; made = c.requires.made } in
+    let host = host_of s c.args.ep c.args.dpa c.least.result c.least.ensures.some some in
+    let comes = host.1.comes in
+    let region = c.routes_are_of_regions.ensures.only s host.0.h comes.routing system accepted comes.chain in
+    let w : WindowFields = region.0 in
+    let found : Found = region.1 in
+    let place : Carries found w host.0.h c.args.ep c.args.dpa =
+    subst (λ (n : ℕ). Carries found w host.0.h n c.args.dpa) comes.endpoint
+    (subst (λ (n : ℕ). Carries found w host.0.h comes.routing.arrival.endpoint n) comes.byte region.3.place) in
+    (w, found, region.2, c.bytes_are_carried_one_to_one.ensures.inside s w found host.0.h c.args.ep c.args.dpa system region.2 place)
