@@ -24,7 +24,7 @@ use Rattle.cxl_walk.specs.inner.Calls.{Leads, Fails, IsTarget}
 use Rattle.cxl_walk.specs.Routes.{routing_of, outcome_of}
 use Rattle.cxl_walk.proofs.Nodes.{and_some}
 
-usable_is : (verdict : Verdict) → is_usable verdict ≡ true → verdict ≡ Usable
+pub usable_is : (verdict : Verdict) → is_usable verdict ≡ true → verdict ≡ Usable
 usable_is Usable h = refl
 usable_is Align h = absurd (false≢true h)
 usable_is Size h = absurd (false≢true h)
@@ -39,7 +39,7 @@ usable_of : (w : WindowFields) (h position : ℕ) → position_at w h ≡ Some p
 usable_of w h position there =
     usable_is w.verdict (and_parts (is_usable w.verdict) (holds w h) (cond_some (is_usable w.verdict && holds w h) (position_of w h) position there).0).0
 
-all_at : {A : Type 0} (P : A → Type 0) (xs : List A) (i : ℕ) (x : A) → slice_get xs i ≡ Some x → All P xs → P x
+pub all_at : {A : Type 0} (P : A → Type 0) (xs : List A) (i : ℕ) (x : A) → slice_get xs i ≡ Some x → All P xs → P x
 all_at P xs i x there all =
     subst P (get_or_from_slice_get xs i x x there) (All-get_or P xs i x (slice_get_within xs i x there) all)
 

@@ -1,2 +1,4 @@
 pub mod Routes
+pub mod Hosts
+pub mod Keeping
 pub mod inner

@@ -3,14 +3,19 @@
 
 mod decoding;
 mod downward;
+mod kept;
 mod moves;
 mod route;
+mod spans;
 mod target;
+mod upward;
 mod way;
 
 pub use cxl_model::{Miss, Step};
 pub use downward::down;
+pub use kept::Kept;
 pub use route::Route;
+pub use upward::{Host, up};
 
 #[cfg(test)]
 mod hosts;

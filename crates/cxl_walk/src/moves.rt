@@ -107,7 +107,7 @@ fn arrive(block: &Block, capacity: &Capacity, node: u32, i: u8, h: u64) -> Devic
 }
 
 /// The bytes of a node's device; a port has none.
-fn capacity_at(topo: &Topo, node: u32) -> Capacity
+pub(crate) fn capacity_at(topo: &Topo, node: u32) -> Capacity
     requires tree { IsTree topo.now.nodes }
     requires here { node < length topo.now.nodes }
     ensures ram { result.ram ≡ ram_at (system_of [] topo.now []) node }
