@@ -6,6 +6,7 @@
 mod chain;
 mod dealing;
 mod examples;
+mod extent;
 mod found;
 mod laws;
 mod plan;
@@ -25,6 +26,7 @@ pub use examples::{
     carried_on_examples, chains_on_examples, examples_are_systems, regions_on_examples,
     rules_on_examples,
 };
+pub use extent::Extent;
 pub use found::{Found, Place, weave_of};
 pub use laws::{accepted_or_breach, accepted_where_whole, one_outcome, one_window};
 pub use plan::{Plan, PlanFault, Reason, Row};

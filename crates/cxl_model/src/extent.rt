@@ -1,0 +1,12 @@
+/// Host bytes that follow each other and lie on device bytes that do.
+#[derive(Clone, Copy, Debug, PartialEq, Eq)]
+pub struct Extent {
+    /// The first host address.
+    pub h: u64,
+    /// In bytes.
+    pub len: u32,
+    /// The slot on whose span they lie.
+    pub slot: u32,
+    /// The device address of the first byte.
+    pub dpa: u64,
+}
