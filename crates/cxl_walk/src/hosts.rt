@@ -42,7 +42,7 @@ const HEAD: Head = Head {
 
 /// So many bridges, so many endpoints under each of them, and one window with a target for each bridge.
 #[derive(Clone, Copy)]
-pub(crate) struct Host {
+pub(crate) struct Bridged {
     pub(crate) bridges: u8,
     pub(crate) under_each: u8,
     pub(crate) capacity: Capacity,
@@ -52,8 +52,8 @@ pub(crate) struct Host {
     pub(crate) xor: bool,
 }
 
-pub(crate) const fn server(bridges: u8, under_each: u8, ram: u64, size: u64) -> Host {
-    Host {
+pub(crate) const fn server(bridges: u8, under_each: u8, ram: u64, size: u64) -> Bridged {
+    Bridged {
         bridges,
         under_each,
         capacity: Capacity { ram, pmem: 0 },
@@ -126,7 +126,7 @@ pub(crate) fn node(
     })
 }
 
-pub(crate) fn nodes_of(alloc: Global, host: &Host) -> Result<Vec<Node>, Fail> {
+pub(crate) fn nodes_of(alloc: Global, host: &Bridged) -> Result<Vec<Node>, Fail> {
     let mut nodes = Vec::new(alloc);
     for bridge in 0..host.bridges {
         let kind = NodeKind::Bridge(u32::from(bridge));
@@ -164,7 +164,7 @@ fn uid_of(node: &Node) -> Option<u32>
 pub(crate) fn table_of(
     rt: &impl Abort,
     alloc: Global,
-    host: &Host,
+    host: &Bridged,
     uids: &[u32],
 ) -> Result<Cedt, Fail> {
     let mut records = Vec::new(alloc);

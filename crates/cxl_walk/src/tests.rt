@@ -1,6 +1,9 @@
+ghost use Rattle.std.specs.Prelude.{◌≡◌, true, IsTrue};
+ghost use Rattle.cxl_topo.specs.Tree.{is_endpoint_at};
+
 use super::*;
 use crate::hosts::{
-    BASE, GIB, Host, Range, UNIT, commit_all, node, nodes_of, over, server, table_of, uids_of,
+    BASE, Bridged, GIB, Range, UNIT, commit_all, node, nodes_of, over, server, table_of, uids_of,
 };
 use cxl_image::Image;
 use cxl_topo::{Capacity, Node, NodeKind, Parent, Topo};
@@ -12,7 +15,7 @@ use std::test::Fail;
 /// A host, the decoders that are committed in it, an address, and where that goes.
 #[derive(Clone, Copy)]
 struct Case<'a> {
-    host: Host,
+    host: Bridged,
     ranges: &'a [Range],
     h: u64,
     want: Result<Route, Miss>,
@@ -46,26 +49,51 @@ fn through(position: u32, base: u64, step: Step, endpoint: u32, dpa: u64) -> Rou
     }
 }
 
-/// Where the address of a case goes.
+/// Whether the node is an endpoint of the tree.
+fn is_device(topo: &Topo, node: u32) -> bool
+    ensures { IsTrue result → is_endpoint_at topo.now.nodes node ≡ true }
+{
+    node < topo.count() && matches!(topo.node(node).kind, NodeKind::Endpoint(_))
+}
+
+/// The host address that comes back from the byte to which a case goes.
+fn back(case: &Case) -> Option<Host> {
+    match case.want {
+        Ok(route) => Some(Host {
+            base: route.base,
+            h: case.h,
+        }),
+        Err(_) => None,
+    }
+}
+
+/// Where the address of a case goes, and which address comes back from there.
 fn led(
     rt: &impl Abort,
     alloc: Global,
     nodes: Vec<Node>,
     case: &Case,
-) -> Result<Result<Route, Miss>, Fail> {
+) -> Result<(Result<Route, Miss>, Option<Host>), Fail> {
     let uids = uids_of(alloc, &nodes)?;
     let table = table_of(rt, alloc, &case.host, &uids)?;
     let topo = Topo::new(alloc, nodes, 65_536)?;
     let windows = windows(alloc, &table, Some(&uids))?;
     let mut image = Image::new(alloc, &topo)?;
     commit_all(&mut image, case.ranges);
-    Ok(down(&image, &topo, &windows, case.h))
+    let way = down(&image, &topo, &windows, case.h);
+    let host = match way {
+        Ok(route) if is_device(&topo, route.endpoint) => {
+            up(&image, &topo, &windows, route.endpoint, route.dpa)
+        }
+        _ => None,
+    };
+    Ok((way, host))
 }
 
 #[test]
 fn routes(rt: HostRuntime) -> Result<(), Fail> {
     let two = server(2, 1, 2 * GIB, 0x1_0000_0000);
-    let large = Host {
+    let large = Bridged {
         base: 0x10_0000_0000,
         ..server(2, 2, 0x40_0000_0000, 0x100_0000_0000)
     };
@@ -120,7 +148,7 @@ fn routes(rt: HostRuntime) -> Result<(), Fail> {
         },
         // Two and six ways under XOR.
         Case {
-            host: Host { xor: true, ..two },
+            host: Bridged { xor: true, ..two },
             ranges: &[
                 over(0, 2, BASE, 0x2000_0000, 0, 0),
                 over(2, 4, BASE, 0x2000_0000, 0x10, 0),
@@ -129,7 +157,7 @@ fn routes(rt: HostRuntime) -> Result<(), Fail> {
             want: Ok(through(1, BASE, step(1, 0, 0), 3, 0x2000)),
         },
         Case {
-            host: Host {
+            host: Bridged {
                 xor: true,
                 ..server(6, 1, 2 * GIB, 0x6000_0000)
             },
@@ -152,7 +180,7 @@ fn routes(rt: HostRuntime) -> Result<(), Fail> {
         },
         // The second decoders, over a skip into persistent memory.
         Case {
-            host: Host {
+            host: Bridged {
                 capacity: Capacity {
                     ram: GIB,
                     pmem: GIB,
@@ -178,7 +206,7 @@ fn routes(rt: HostRuntime) -> Result<(), Fail> {
         },
         // Bridges that forward make no step.
         Case {
-            host: Host {
+            host: Bridged {
                 forwards: true,
                 ..two
             },
@@ -191,7 +219,7 @@ fn routes(rt: HostRuntime) -> Result<(), Fail> {
         let nodes = nodes_of(rt.alloc(), &case.host)?;
         assert_eq!(rt;
             led(&rt, rt.alloc(), nodes, case)?,
-            case.want,
+            (case.want, back(case)),
             "at {}",
             case.h
         );
@@ -256,14 +284,17 @@ fn a_route_of_five_steps(rt: HostRuntime) -> Result<(), Fail> {
         want: Ok(want),
     };
     let nodes = five_levels(rt.alloc())?;
-    assert_eq!(rt; led(&rt, rt.alloc(), nodes, &case)?, case.want);
+    assert_eq!(rt;
+        led(&rt, rt.alloc(), nodes, &case)?,
+        (case.want, back(&case))
+    );
     Ok(())
 }
 
 #[test]
 fn misses(rt: HostRuntime) -> Result<(), Fail> {
     let two = server(2, 1, 2 * GIB, 0x1_0000_0000);
-    let forwarding = Host {
+    let forwarding = Bridged {
         under_each: 0,
         forwards: true,
         ..two
@@ -291,7 +322,7 @@ fn misses(rt: HostRuntime) -> Result<(), Fail> {
         let nodes = nodes_of(rt.alloc(), &case.host)?;
         assert_eq!(rt;
             led(&rt, rt.alloc(), nodes, case)?,
-            case.want,
+            (case.want, back(case)),
             "at {}",
             case.h
         );
