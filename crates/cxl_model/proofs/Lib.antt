@@ -33,3 +33,4 @@ pub mod DealingPositions
 pub mod DealingEnds
 pub mod DealingRoutes
 pub mod DealingRanges
+pub mod Hosting

@@ -1,4 +1,5 @@
 pub mod System
+pub mod Hosts
 pub mod Chain
 pub mod Ranges
 pub mod Rules

@@ -1,13 +1,14 @@
 //! Laws of the definitions, each the contract of a function that does nothing.
 
-ghost use Rattle.std.specs.Prelude.{◌≡◌, ◌⊎◌, ◌↔◌, ℕ, ◌<◌, true, Contains};
+ghost use Rattle.std.specs.Prelude.{◌≡◌, ◌⊎◌, ◌↔◌, ℕ, ◌<◌, true, false, Contains};
 ghost use Rattle.cxl_window.specs.Fields.{WindowFields};
 ghost use Rattle.cxl_window.specs.Windows.{AreMadeWith};
 ghost use Rattle.cxl_model.specs.System.{System, IsSystem, bridge_uids};
+ghost use Rattle.cxl_model.specs.Hosts.{IsHost};
 ghost use Rattle.cxl_model.specs.Chain.{Outcome, Chain};
 ghost use Rattle.cxl_regs.specs.declared.reading.Range.{Range};
 ghost use Rattle.cxl_model.specs.Ranges.{IsCommittedRange, lies_within};
-ghost use Rattle.cxl_model.specs.Accepted.{IsAccepted, IsFirstBreach, HasFirstBreach, KeepsBlocks, IsWhole};
+ghost use Rattle.cxl_model.specs.Accepted.{breaks, IsAccepted, IsFirstBreach, HasFirstBreach, KeepsBlocks, IsWhole};
 
 use cxl_span::ranges_rise;
 
@@ -33,6 +34,13 @@ pub fn accepted_or_breach()
 pub fn accepted_where_whole()
     ensures { (s : System) → IsAccepted s
         ↔ (KeepsBlocks s × ((r : Range) → IsCommittedRange s r → IsWhole s r)) }
+{}
+
+/// A law of hosts: where K1 holds, one is a system; and K1 holds of each system.
+pub fn hosts_with_caps_are_systems()
+    ensures system { (s : System) → IsHost s → ((n i : ℕ) → breaks s 1 n i ≡ false) → IsSystem s }
+    ensures host { (s : System) → IsSystem s → IsHost s }
+    ensures caps { (s : System) (n i : ℕ) → IsSystem s → breaks s 1 n i ≡ false }
 {}
 
 /// A law of windows: a range that has bytes lies in one usable window at the most.

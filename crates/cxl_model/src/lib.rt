@@ -28,7 +28,9 @@ pub use examples::{
 };
 pub use extent::Extent;
 pub use found::{Found, Place, weave_of};
-pub use laws::{accepted_or_breach, accepted_where_whole, one_outcome, one_window};
+pub use laws::{
+    accepted_or_breach, accepted_where_whole, hosts_with_caps_are_systems, one_outcome, one_window,
+};
 pub use plan::{Plan, PlanFault, Reason, Row};
 pub use poison::{Entry, Part, PoisonList, Poisoned, Run, Wide};
 pub use region_examples::{changes_on_examples, endpoints_on_examples, spans_on_examples};

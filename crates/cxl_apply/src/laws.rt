@@ -1,0 +1,119 @@
+//! Laws of the writes of jobs, each the contract of a function that does nothing.
+
+ghost use Rattle.std.specs.Prelude.{◌≡◌, ◌≢◌, ℕ, true, None, List, All};
+ghost use Rattle.cxl_regs.specs.Registers.{Registers, IsBlock};
+ghost use Rattle.cxl_window.specs.Fields.{WindowFields};
+ghost use Rattle.cxl_model.specs.declared.plan.Row.{Row};
+ghost use Rattle.cxl_model.specs.declared.plan.Plan.{Plan};
+ghost use Rattle.cxl_model.specs.declared.found.Found.{Found};
+ghost use Rattle.cxl_model.specs.declared.request.Request.{Request};
+ghost use Rattle.cxl_model.specs.System.{System, IsSystem};
+ghost use Rattle.cxl_model.specs.Accepted.{KeepsBlocks, IsAccepted};
+ghost use Rattle.cxl_regs.specs.declared.reading.Range.{Range};
+ghost use Rattle.cxl_model.specs.Regions.{region_range, IsRegionIn};
+ghost use Rattle.cxl_model.specs.Changes.{HaveSameDecoders};
+ghost use Rattle.cxl_model.specs.Plans.{IsLegalPlan, with_rows};
+ghost use Rattle.cxl_apply.specs.declared.write.Write.{Write};
+ghost use Rattle.cxl_apply.specs.Jobs.{AreCreateWrites, AreReleaseWrites, AreTakenBack, AreOfDifferentNodes, CanCreate, CanRelease, blocks_after_writes, system_done};
+ghost use Rattle.cxl_apply.specs.Releases.{rows_of, first_locked, first_not_last, blocks_without, system_without};
+
+use cxl_model::{accepted_where_whole, regions_stay};
+use cxl_regs::words_stand_for_decoder;
+use cxl_span::committed_stand_first;
+
+/// A law of jobs: each write is taken back by its back value.
+pub fn writes_are_taken_back()
+    ensures create { (blocks : List Registers) (rows : List Row) (writes : List Write) → All IsBlock blocks
+        → All (CanCreate blocks) rows → AreCreateWrites blocks rows writes
+        → AreTakenBack blocks writes }
+    ensures release { (blocks : List Registers) (rows : List Row) (writes : List Write) → All IsBlock blocks
+        → All (CanRelease blocks) rows → AreReleaseWrites rows writes
+        → AreTakenBack blocks writes }
+{
+    words_stand_for_decoder();
+}
+
+/// A law of jobs: over an accepted image with every block enabled, all writes of a legal plan's create leave the
+/// image with its rows committed.
+pub fn create_commits_its_rows()
+    ensures rows { (s : System) (request : Request) (plan : Plan) → IsAccepted s → IsLegalPlan s request plan
+        → All (CanCreate s.blocks) plan.rows }
+    ensures apart { (s : System) (request : Request) (plan : Plan) → IsLegalPlan s request plan
+        → AreOfDifferentNodes plan.rows }
+    ensures committed { (s : System) (request : Request) (plan : Plan) (writes : List Write) → IsSystem s
+        → IsAccepted s → All (λ (block : Registers). block.enabled ≡ true) s.blocks
+        → IsLegalPlan s request plan → AreCreateWrites s.blocks plan.rows writes
+        → blocks_after_writes s.blocks writes ≡ (with_rows s plan.rows).blocks }
+{
+    words_stand_for_decoder();
+    committed_stand_first();
+}
+
+/// A law of jobs: all writes of a release of a region's decoders, of which none is locked and none below another
+/// that is committed, leave the image with them released.
+pub fn release_releases_its_rows()
+    ensures rows { (s : System) (found : Found) → KeepsBlocks s → first_locked s found ≡ None
+        → first_not_last s found ≡ None → All (CanRelease s.blocks) (rows_of s found) }
+    ensures apart { (s : System) (found : Found) → AreOfDifferentNodes (rows_of s found) }
+    ensures released { (s : System) (found : Found) (writes : List Write) → IsSystem s → KeepsBlocks s
+        → first_locked s found ≡ None → first_not_last s found ≡ None
+        → AreReleaseWrites (rows_of s found) writes
+        → blocks_after_writes s.blocks writes ≡ blocks_without s found }
+{
+    words_stand_for_decoder();
+}
+
+/// A law of jobs: between two writes of a legal plan's create the rules K1 to K8 hold, and every region of the image
+/// stays one, with its decoders, whatever is done of the job's own.
+pub fn regions_stay_in_a_create()
+    ensures keeps { (s : System) (request : Request) (plan : Plan) (writes : List Write) (n : ℕ) → IsSystem s
+        → IsAccepted s → All (λ (block : Registers). block.enabled ≡ true) s.blocks
+        → IsLegalPlan s request plan → AreCreateWrites s.blocks plan.rows writes
+        → KeepsBlocks (system_done s writes n) }
+    ensures decoders { (s : System) (request : Request) (plan : Plan) (writes : List Write) (n : ℕ) (w : WindowFields)
+        (found : Found) → IsSystem s
+        → IsAccepted s → All (λ (block : Registers). block.enabled ≡ true) s.blocks
+        → IsLegalPlan s request plan → AreCreateWrites s.blocks plan.rows writes → IsRegionIn s w found
+        → HaveSameDecoders s (system_done s writes n) (region_range found) }
+    ensures region { (s : System) (request : Request) (plan : Plan) (writes : List Write) (n : ℕ) (w : WindowFields)
+        (found : Found) → IsSystem s
+        → IsAccepted s → All (λ (block : Registers). block.enabled ≡ true) s.blocks
+        → IsLegalPlan s request plan → AreCreateWrites s.blocks plan.rows writes → IsRegionIn s w found
+        → IsRegionIn (system_done s writes n) w found }
+{
+    words_stand_for_decoder();
+    committed_stand_first();
+    regions_stay();
+}
+
+/// A law of jobs: between two writes of a region's release the rules K1 to K8 hold, and every other region of the
+/// image stays one, with its decoders.
+pub fn regions_stay_in_a_release()
+    ensures keeps { (s : System) (found : Found) (writes : List Write) (n : ℕ) → IsSystem s → KeepsBlocks s
+        → first_locked s found ≡ None → first_not_last s found ≡ None
+        → AreReleaseWrites (rows_of s found) writes → KeepsBlocks (system_done s writes n) }
+    ensures decoders { (s : System) (found : Found) (writes : List Write) (n : ℕ) (r : Range) → IsSystem s
+        → KeepsBlocks s → first_locked s found ≡ None → first_not_last s found ≡ None
+        → AreReleaseWrites (rows_of s found) writes → r ≢ region_range found
+        → HaveSameDecoders s (system_done s writes n) r }
+    ensures region { (s : System) (found : Found) (writes : List Write) (n : ℕ) (w : WindowFields) (other : Found)
+        → IsSystem s → KeepsBlocks s → first_locked s found ≡ None → first_not_last s found ≡ None
+        → AreReleaseWrites (rows_of s found) writes → region_range other ≢ region_range found
+        → IsRegionIn s w other → IsRegionIn (system_done s writes n) w other }
+{
+    words_stand_for_decoder();
+    regions_stay();
+}
+
+/// A law of images: one that is accepted is accepted again with a region's decoders released, where none of them is
+/// locked and none below another that is committed. What decoded then still does.
+pub fn released_image_is_accepted()
+    ensures accepted { (s : System) (found : Found) → IsSystem s → IsAccepted s → first_locked s found ≡ None
+        → first_not_last s found ≡ None → IsAccepted (system_without s found) }
+    ensures enabled { (s : System) (found : Found) → All (λ (block : Registers). block.enabled ≡ true) s.blocks
+        → All (λ (block : Registers). block.enabled ≡ true) (blocks_without s found) }
+{
+    words_stand_for_decoder();
+    accepted_where_whole();
+    regions_stay();
+}

@@ -1,0 +1,14 @@
+pub mod Searches
+pub mod Numbers
+pub mod Kept
+pub mod Trees
+pub mod CapWords
+pub mod WaysUp
+pub mod Marks
+pub mod FirstFacts
+pub mod RuleTests
+pub mod Leading
+pub mod Wholes
+pub mod FirstBreaches
+pub mod Keys
+pub mod Listing

@@ -1,0 +1,60 @@
+-- Searches over the numbers below k, and what the next number adds.
+use Rattle.std.proofs.Common.{◌≡◌, ℕ, zero, suc, ◌+◌, ◌<◌, ◌≤◌, Bool, true, false, ◌||◌, List, [], ◌∷◌, ◌++◌, length, Option, Some, None, refl, sym, ap, ◌∙◌, inl, inr, arith, if◌then◌else◌}
+use Rattle.std.specs.Prelude.{find}
+use Rattle.std.specs.Option.{option_or}
+use Rattle.std.specs.List.{list_any, range_with_len}
+use Rattle.std.proofs.lemmas.Bool.{cases_Bool}
+use Rattle.std.proofs.lemmas.Option.{none-some, same_Some}
+use Rattle.std.proofs.lemmas.List.Folds.{find-append, list_any-append}
+
+pub numbers_more : (a n : ℕ) → range_with_len a (n + 1) ≡ range_with_len a n ++ (a + n) ∷ []
+numbers_more a zero = let e : a + 0 ≡ a = omega arith in rw e refl
+numbers_more a (suc n) =
+    let e : suc n + 1 ≡ suc (n + 1) = omega arith in
+    let f : (a + 1) + n ≡ a + suc n = omega arith in
+    rw e (ap (λ (xs : List ℕ). a ∷ xs) (numbers_more (a + 1) n ∙ ap (λ (m : ℕ). range_with_len (a + 1) n ++ m ∷ []) f))
+
+module _ (p : ℕ → Bool) where
+  find_one : (k : ℕ) → find p (k ∷ []) ≡ (if p k then Some k else None)
+  find_one k = elim (cases_Bool (p k)) [ inl e ↦ rw e refl | inr e ↦ rw e refl ]
+
+  any_one : (k : ℕ) → list_any p (k ∷ []) ≡ p k
+  any_one k = elim (cases_Bool (p k)) [ inl e ↦ rw e refl | inr e ↦ rw e refl ]
+
+  pub find_more : (k : ℕ) → find p (range_with_len 0 (k + 1)) ≡ option_or (find p (range_with_len 0 k)) (if p k then Some k else None)
+  find_more k =
+      let e : 0 + k ≡ k = omega arith in
+      ap (find p) (numbers_more 0 k) ∙ find-append p (range_with_len 0 k) ((0 + k) ∷ []) ∙ rw e (rw (find_one k) refl)
+
+  pub any_more : (k : ℕ) → list_any p (range_with_len 0 (k + 1)) ≡ (list_any p (range_with_len 0 k) || p k)
+  any_more k =
+      let e : 0 + k ≡ k = omega arith in
+      ap (list_any p) (numbers_more 0 k) ∙ list_any-append p (range_with_len 0 k) ((0 + k) ∷ []) ∙ rw e (rw (any_one k) refl)
+
+  found_from : (a k n : ℕ) → find p (range_with_len a k) ≡ Some n → (n < a + k) × (p n ≡ true)
+  found_from a zero n is = absurd (none-some n is)
+  found_from a (suc k) n is =
+      elim (cases_Bool (p a)) [
+        | inl e ↦
+            let same : a ≡ n = same_Some a n (rw e at is) in
+            (omega arith, ap p (sym same) ∙ e)
+        | inr e ↦
+            let later = found_from (a + 1) k n (rw e at is) in
+            let below = later.0 in
+            (omega arith, later.1)
+      ]
+
+  -- what is found lies below k and passes
+  pub found : (k n : ℕ) → find p (range_with_len 0 k) ≡ Some n → (n < k) × (p n ≡ true)
+  found k n is = let at = found_from 0 k n is in let below = at.0 in (omega arith, at.1)
+
+-- entered once or twice under one number
+pub or_twice : {X : Type 0} (o : Option X) (x : X) (p q : Bool) → option_or (option_or o (if p then Some x else None)) (if q then Some x else None) ≡ option_or o (if p || q then Some x else None)
+or_twice (Some y) x true q = refl
+or_twice (Some y) x false q = refl
+or_twice None x true q = refl
+or_twice None x false q = refl
+
+pub or_none : {X : Type 0} (o : Option X) → option_or o None ≡ o
+or_none None = refl
+or_none (Some x) = refl

@@ -1,0 +1,126 @@
+-- How many ways and bits the ports above a node can have.
+use Rattle.std.proofs.Common.{◌≡◌, ℕ, zero, suc, ◌+◌, ◌*◌, ◌<◌, ◌≤◌, Bool, true, false, List, [], ◌∷◌, length, map, Option, Some, None, refl, sym, ap, ◌∙◌, inl, inr, arith}
+use Rattle.std.specs.Prelude.{slice_get, sum_by, nat_lt, nat_le}
+use Rattle.std.specs.Option.{option_map_or, unwrap_or}
+use Rattle.std.specs.List.{filter_map}
+use Rattle.std.proofs.lemmas.Bool.{agree_below_at, cases_lt, le-ltb, le-leb, leb-true}
+use Rattle.std.proofs.lemmas.List.Sums.{sum_by-cons}
+use Rattle.cxl_enc.specs.Codes.{ways_of, bits_of}
+use Rattle.cxl_topo.specs.declared.node.Node.{Node}
+use Rattle.cxl_topo.specs.declared.node.Parent.{Parent}
+use Rattle.cxl_topo.specs.Tree.{parent_of, ports_above}
+use Rattle.cxl_regs.specs.declared.decoder.Decoder.{Decoder}
+use Rattle.cxl_regs.specs.declared.reading.Range.{Range}
+use Rattle.cxl_regs.specs.Reading.{decoder_ways, select_bits}
+use Rattle.cxl_model.specs.System.{System}
+use Rattle.cxl_model.specs.Ranges.{decoder_for, product, ways_above, bits_above, first_decoder, range_ways}
+
+-- ---- one decoder
+
+abbrev has_few_ways : ℕ → Bool
+has_few_ways code = nat_le (unwrap_or (ways_of code) 1) 16
+
+abbrev has_few_bits : ℕ → Bool
+has_few_bits code = nat_le (select_bits code) 4
+
+no_code : (code : ℕ) → 11 ≤ code → ways_of code ≡ None
+no_code code past =
+    let low : nat_lt code 5 ≡ false = le-ltb code 5 (omega arith) in
+    let from : nat_le 8 code ≡ true = le-leb 8 code (omega arith) in
+    let high : nat_lt code 11 ≡ false = le-ltb code 11 past in
+    rw (low, from, high) refl
+
+pub few_ways : (d : Decoder) → decoder_ways d ≤ 16
+few_ways d =
+    elim (cases_lt d.ways 11) [
+      | inl below ↦ leb-true (decoder_ways d) 16 (agree_below_at has_few_ways (λ n. true) 11 d.ways refl below)
+      | inr past ↦ let none = no_code d.ways past in rw none (omega arith)
+    ]
+
+pub few_bits : (d : Decoder) → select_bits d.ways ≤ 4
+few_bits d =
+    elim (cases_lt d.ways 11) [
+      | inl below ↦ leb-true (select_bits d.ways) 4 (agree_below_at has_few_bits (λ n. true) 11 d.ways refl below)
+      | inr past ↦ let none = no_code d.ways past in rw none (omega arith)
+    ]
+
+-- ---- those in a row of ports
+
+abbrev sixteens : ℕ → ℕ
+sixteens zero = 1
+sixteens (suc m) = 16 * sixteens m
+
+some_sixteens : (m : ℕ) → 1 ≤ sixteens m
+some_sixteens zero = omega arith
+some_sixteens (suc m) = let some = some_sixteens m in omega arith
+
+times : (a b p q : ℕ) → a ≤ b → p ≤ q → a * p ≤ b * q
+times a b p q ab pq = grind arith
+
+product_step : (f : Parent → Option Decoder) (p : Parent) (ps : List Parent) (m : ℕ) (o : Option Decoder) → f p ≡ o → product (map decoder_ways (filter_map f ps)) ≤ sixteens m
+    → product (map decoder_ways (filter_map f (p ∷ ps))) ≤ sixteens (suc m)
+product_step f p ps m None e rest = rw e (omega arith)
+product_step f p ps m (Some d) e rest = rw e (times (decoder_ways d) 16 (product (map decoder_ways (filter_map f ps))) (sixteens m) (few_ways d) rest)
+
+product_few : (f : Parent → Option Decoder) (ps : List Parent) (m : ℕ) → length ps ≤ m → product (map decoder_ways (filter_map f ps)) ≤ sixteens m
+product_few f [] m few = some_sixteens m
+product_few f (p ∷ ps) zero few = absurd (omega arith)
+product_few f (p ∷ ps) (suc m) few = product_step f p ps m (f p) refl (product_few f ps m (omega arith))
+
+abbrev bits_of_all : List Decoder → ℕ
+bits_of_all ds = sum_by (λ (d : Decoder). select_bits d.ways) ds
+
+sum_step : (f : Parent → Option Decoder) (p : Parent) (ps : List Parent) (m : ℕ) (o : Option Decoder) → f p ≡ o → bits_of_all (filter_map f ps) ≤ 4 * m
+    → bits_of_all (filter_map f (p ∷ ps)) ≤ 4 * suc m
+sum_step f p ps m None e rest = rw e (omega arith)
+sum_step f p ps m (Some d) e rest =
+    let few = few_bits d in
+    let more : bits_of_all (d ∷ filter_map f ps) ≡ select_bits d.ways + bits_of_all (filter_map f ps) = sum_by-cons (λ (e : Decoder). select_bits e.ways) d (filter_map f ps) in
+    rw e (omega (arith, more, few, rest))
+
+sum_few : (f : Parent → Option Decoder) (ps : List Parent) (m : ℕ) → length ps ≤ m → bits_of_all (filter_map f ps) ≤ 4 * m
+sum_few f [] m few = omega arith
+sum_few f (p ∷ ps) zero few = absurd (omega arith)
+sum_few f (p ∷ ps) (suc m) few = sum_step f p ps m (f p) refl (sum_few f ps m (omega arith))
+
+module _ (s : System) (r : Range) where
+  pub ways_few : (n : ℕ) → length (ports_above s.nodes n) ≤ 4 → ways_above s r n ≤ 65536
+  ways_few n few = product_few (λ (parent : Parent). decoder_for s r parent.node) (ports_above s.nodes n) 4 few
+
+  pub bits_few : (n : ℕ) → length (ports_above s.nodes n) ≤ 4 → bits_above s r n ≤ 16
+  bits_few n few = sum_few (λ (parent : Parent). decoder_for s r parent.node) (ports_above s.nodes n) 4 few
+
+-- a decoder more
+pub ways_once_more : (a p : ℕ) → a ≤ 16 → p ≤ 65536 → a * p ≤ 1048576
+ways_once_more a p few rest = times a 16 p 65536 few rest
+
+-- above a parent stands one port fewer
+pub fewer : (nodes : List Node) (n : ℕ) (node : Node) (parent : Parent) → ports_above nodes n ≡ option_map_or (λ (p : Parent). p ∷ ports_above nodes p.node) (parent_of nodes n) []
+    → slice_get nodes n ≡ Some node → node.parent ≡ Some parent → length (ports_above nodes n) ≤ 5 → length (ports_above nodes parent.node) ≤ 4
+fewer nodes n node parent ports here is few =
+    let up : parent_of nodes n ≡ Some parent = rw here is in
+    let one : option_map_or (λ (p : Parent). p ∷ ports_above nodes p.node) (parent_of nodes n) [] ≡ parent ∷ ports_above nodes parent.node = rw up refl in
+    let longer : length (ports_above nodes n) ≡ suc (length (ports_above nodes parent.node)) = ap length (ports ∙ one) in
+    omega arith
+
+-- a range has at most 16 ways, and at least one
+pub range_ways_few : (s : System) (r : Range) → range_ways s r ≤ 16
+range_ways_few s r = go (first_decoder s r)
+  where
+    go : (o : Option Decoder) → option_map_or decoder_ways o 1 ≤ 16
+    go None = omega arith
+    go (Some d) = few_ways d
+
+some_ways_code : (code : ℕ) → 1 ≤ unwrap_or (ways_of code) 1
+some_ways_code code =
+    elim (cases_lt code 11) [
+      | inl below ↦ leb-true 1 (unwrap_or (ways_of code) 1) (agree_below_at (λ (n : ℕ). nat_le 1 (unwrap_or (ways_of n) 1)) (λ n. true) 11 code refl below)
+      | inr past ↦ let none = no_code code past in rw none (omega arith)
+    ]
+
+pub range_ways_some : (s : System) (r : Range) → 1 ≤ range_ways s r
+range_ways_some s r = go (first_decoder s r)
+  where
+    go : (o : Option Decoder) → 1 ≤ option_map_or decoder_ways o 1
+    go None = omega arith
+    go (Some d) = some_ways_code d.ways

@@ -1,0 +1,20 @@
+use Rattle.std.proofs.Common.{◌≡◌, ◌≤◌, ℕ, length, sym, ◌∙◌, arith}
+use Rattle.cxl_model.specs.System.{system_of}
+use Rattle.cxl_check.proofs.CapWords.{first_of_count, word_kept, all_kept, first_of_words}
+use Rattle.cxl_check.proofs.caps.caps_breach.Goals as goal
+
+pub returns-then-count-clause-first : goal.returns-then-count-clause-first
+returns-then-count-clause-first c =
+    first_of_count (system_of c.args.image.now c.args.topo.now c.args.windows.now) (λ same. c.if-count.true (c.count.ensures.count ∙ same ∙ sym c.count-2.ensures.count))
+
+pub returns-then-cap-node-clause-first : goal.returns-then-cap-node-clause-first
+returns-then-cap-node-clause-first c =
+    let count : length c.args.image.now ≡ length c.args.topo.now.nodes = omega (arith, c.count.ensures.count, c.count-2.ensures.count) in
+    first_of_words (system_of c.args.image.now c.args.topo.now c.args.windows.now) count c.loop-node.node c.block.result.now c.node.result.now c.block.ensures.value c.node.ensures
+    (λ same. c.if-cap-node.true (c.cap.ensures.value ∙ same)) c.loop-node.invariant
+
+pub returns-clause-none : goal.returns-clause-none
+returns-clause-none c =
+    let count : length c.args.image.now ≡ length c.args.topo.now.nodes = omega (arith, c.count.ensures.count, c.count-2.ensures.count) in
+    let past : length c.args.topo.now.nodes ≤ c.loop-node.node = omega arith in
+    all_kept (system_of c.args.image.now c.args.topo.now c.args.windows.now) count (λ n i below. c.loop-node.invariant n i (omega arith))

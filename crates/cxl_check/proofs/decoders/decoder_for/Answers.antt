@@ -1,0 +1,19 @@
+use Rattle.std.proofs.Common.{◌≡◌, ℕ, Option, Some, None, sym, ap, ◌∙◌}
+use Rattle.std.specs.Prelude.{find, position, slice_get}
+use Rattle.std.specs.Option.{option_and_then}
+use Rattle.cxl_regs.specs.Reading.{has_range}
+use Rattle.cxl_check.proofs.Searches.{find_by_position}
+use Rattle.cxl_check.proofs.decoders.decoder_for.Goals as goal
+
+pub returns-in_err-i : goal.returns-in_err-i
+returns-in_err-i c =
+    let decoders = c.block-block.result.now.decoders in
+    let none : position (has_range c.args.range.now) decoders ≡ None = sym c.index_in.ensures ∙ c.in_err-i.was in
+    let found : find (has_range c.args.range.now) decoders ≡ None = find_by_position (has_range c.args.range.now) decoders ∙ rw none in
+    rw (c.from_residual.ensures, c.block-block.ensures.value) (sym found)
+
+pub returns : goal.returns
+returns c =
+    let decoders = c.block-block.result.now.decoders in
+    let at : position (has_range c.args.range.now) decoders ≡ Some c.in_ok-i.i = sym c.index_in.ensures ∙ c.in_ok-i.was in
+    rw c.block-block.ensures.value (sym (find_by_position (has_range c.args.range.now) decoders ∙ ap (option_and_then (slice_get decoders)) at ∙ c.decoder.ensures.value))

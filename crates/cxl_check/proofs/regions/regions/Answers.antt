@@ -1,0 +1,43 @@
+use Rattle.std.proofs.Common.{◌≡◌, ◌+◌, ◌≤◌, ◌<◌, ◌++◌, ◌∷◌, [], List, length, get_or, take, sym, ap, subst, ◌∙◌, arith}
+use Rattle.std.specs.BTreeMap.{keys, ContainsKey}
+use Rattle.std.proofs.lemmas.List.{take_all}
+use Rattle.std.proofs.lemmas.Option.{slice_get-get_or, get_or_from_slice_get}
+use Rattle.cxl_model.specs.declared.found.Found.{Found}
+use Rattle.cxl_model.specs.System.{system_of}
+use Rattle.cxl_check.specs.declared.firsts.RangeKey.{RangeKey}
+use Rattle.cxl_check.specs.inner.Firsts.{key_cmp}
+use Rattle.cxl_check.proofs.Listing.{AreListed, one_listed, committed_at, are_regions}
+use Rattle.cxl_check.proofs.regions.regions.Goals as goal
+
+pub region_of-requires-clause-committed : goal.region_of-requires-clause-committed
+region_of-requires-clause-committed c =
+    let none : RangeKey = record { base = 0; size = 0 } in
+    let items : List RangeKey = c.deref-key-items.result.now in
+    let same : items ≡ keys c.args.firsts.now = c.deref-key-items.ensures.value ∙ c.in_ok-keys.ensures.keys in
+    let below : c.loop-key.key-index < length items = omega arith in
+    let lengths : length items ≡ length (keys c.args.firsts.now) = ap length same in
+    let there : ContainsKey key_cmp c.args.firsts.now (get_or items c.loop-key.key-index none) =
+    subst (λ (ks : List RangeKey). ContainsKey key_cmp c.args.firsts.now (get_or ks c.loop-key.key-index none)) (sym same) (c.in_ok-keys.ensures.found c.loop-key.key-index none (omega arith)) in
+    committed_at (system_of c.args.image.now c.args.topo.now c.args.windows.now) c.requires.ready c.requires.accepted c.args.firsts.now c.requires.firsts c.accepted_where_whole.ensures (get_or items c.loop-key.key-index none) there
+
+pub loop-key-preserved : goal.loop-key-preserved
+loop-key-preserved c =
+    let s = system_of c.args.image.now c.args.topo.now c.args.windows.now in
+    let none : RangeKey = record { base = 0; size = 0 } in
+    let items : List RangeKey = c.deref-key-items.result.now in
+    let i = c.loop-key.key-index in
+    let below : i < length items = omega arith in
+    let key : RangeKey = get_or items i none in
+    let is : key ≡ get_or items i key = sym (get_or_from_slice_get items i key key (slice_get-get_or items i none below)) in
+    subst (λ (regions : List Found). AreListed s (take (i + 1) items) regions) (sym c.in_ok-push.ensures.items)
+    (one_listed s items i key c.loop-key.regions.items c.in_ok-region.region c.loop-key.invariant below is c.in_ok-region.ensures.region c.in_ok-region.ensures.range)
+
+pub returns : goal.returns
+returns c =
+    let s = system_of c.args.image.now c.args.topo.now c.args.windows.now in
+    let items : List RangeKey = c.deref-key-items.result.now in
+    let same : items ≡ keys c.args.firsts.now = c.deref-key-items.ensures.value ∙ c.in_ok-keys.ensures.keys in
+    let past : length items ≤ c.loop-key.key-index = omega arith in
+    let whole : AreListed s (keys c.args.firsts.now) c.loop-key.regions.items =
+    subst (λ (ks : List RangeKey). AreListed s ks c.loop-key.regions.items) (take_all c.loop-key.key-index items past ∙ same) c.loop-key.invariant in
+    are_regions s c.requires.ready c.requires.accepted c.args.firsts.now c.requires.firsts c.in_ok-keys.ensures.ordered c.accepted_where_whole.ensures c.endpoints_lie_evenly.ensures.all c.regions_share_no_byte.ensures.host c.ranges_rise.ensures.some c.loop-key.regions.items whole

@@ -1,0 +1,54 @@
+use Rattle.std.proofs.Common.{◌≡◌, ℕ, Some, false, refl, sym, subst, ◌∙◌, arith}
+use Rattle.std.proofs.lemmas.Option.{same_Some}
+use Rattle.cxl_topo.specs.Tree.{is_endpoint_at}
+use Rattle.cxl_model.specs.System.{system_of}
+use Rattle.cxl_model.specs.Ranges.{index_for}
+use Rattle.cxl_model.specs.Regions.{LeadsTo}
+use Rattle.cxl_model.specs.declared.found.Place.{Place}
+use Rattle.cxl_check.specs.inner.Slots.{next_of}
+use Rattle.cxl_check.proofs.FirstFacts.{is_committed}
+use Rattle.cxl_check.proofs.Leading.{within, goes_on, leads_by_next, next_below}
+use Rattle.cxl_check.proofs.slots.+place_below.Goals as goal
+
+pub is_endpoint-requires : goal.is_endpoint-requires
+is_endpoint-requires t c =
+    within (system_of c.args.image.now c.args.topo.now c.args.windows.now) c.args.w.now c.args.range.now c.args.slot c.count-count.ensures.tree c.args.node c.requires.some.0 c.requires.some.1
+
+pub next_of-requires : goal.next_of-requires
+next_of-requires t c =
+    within (system_of c.args.image.now c.args.topo.now c.args.windows.now) c.args.w.now c.args.range.now c.args.slot c.count-count.ensures.tree c.args.node c.requires.some.0 c.requires.some.1
+
+pub span_start-requires-clause-committed : goal.span_start-requires-clause-committed
+span_start-requires-clause-committed t c =
+    let s = system_of c.args.image.now c.args.topo.now c.args.windows.now in
+    let at : index_for s c.args.range.now c.args.node ≡ Some c.unwrap-i.result = sym c.index_for.ensures ∙ c.unwrap-i.ensures in
+    is_committed s c.args.range.now c.args.node c.unwrap-i.result at
+
+pub unwrap-child-requires : goal.unwrap-child-requires
+unwrap-child-requires t c =
+    let s = system_of c.args.image.now c.args.topo.now c.args.windows.now in
+    let other : is_endpoint_at s.nodes c.args.node ≡ false = sym c.is_endpoint.ensures ∙ c.if-is_endpoint.false in
+    let goes = goes_on s c.args.w.now c.args.range.now c.args.slot c.count-count.ensures.tree c.args.node c.requires.some.0 other c.requires.some.1 in
+    rw (c.next_of.ensures ∙ goes.next) refl
+
+pub place_below-requires : goal.place_below-requires
+place_below-requires t c =
+    let s = system_of c.args.image.now c.args.topo.now c.args.windows.now in
+    let tree = c.count-count.ensures.tree in
+    let other : is_endpoint_at s.nodes c.args.node ≡ false = sym c.is_endpoint.ensures ∙ c.if-is_endpoint.false in
+    let goes = goes_on s c.args.w.now c.args.range.now c.args.slot tree c.args.node c.requires.some.0 other c.requires.some.1 in
+    let next : next_of s c.args.w.now c.args.range.now c.args.slot c.args.node ≡ Some c.unwrap-child.result = sym c.next_of.ensures ∙ c.unwrap-child.ensures in
+    let same : goes.child ≡ c.unwrap-child.result = same_Some goes.child c.unwrap-child.result (sym goes.next ∙ next) in
+    let below = next_below s c.args.w.now c.args.range.now c.args.slot tree (c.tree_laws.ensures.laws s.nodes tree) c.args.node c.unwrap-child.result next in
+    let later = below.later in
+    let inside = below.inside in
+    (omega (arith, c.decreases), (c.requires.ready, (c.requires.some.0, subst (λ (n : ℕ). LeadsTo s c.args.w.now c.args.range.now c.args.slot n c.requires.some.0) same goes.leads)))
+
+pub returns : goal.returns
+returns t c =
+    let s = system_of c.args.image.now c.args.topo.now c.args.windows.now in
+    let tree = c.count-count.ensures.tree in
+    let other : is_endpoint_at s.nodes c.args.node ≡ false = sym c.is_endpoint.ensures ∙ c.if-is_endpoint.false in
+    let next : next_of s c.args.w.now c.args.range.now c.args.slot c.args.node ≡ Some c.unwrap-child.result = sym c.next_of.ensures ∙ c.unwrap-child.ensures in
+    let below = within s c.args.w.now c.args.range.now c.args.slot tree c.args.node c.requires.some.0 c.requires.some.1 in
+    leads_by_next s c.args.w.now c.args.range.now c.args.slot tree c.args.node c.unwrap-child.result c.place_below.result below other next c.place_below.ensures

@@ -1,0 +1,43 @@
+//! The ports above a node.
+
+ghost use Rattle.std.specs.Prelude.{◌≡◌, ◌<◌, ◌≤◌, ◌^◌, [], length};
+ghost use Rattle.cxl_model.specs.System.{system_of};
+ghost use Rattle.cxl_model.specs.Ranges.{ways_above, bits_above};
+
+use crate::decoders::decoder_for;
+use cxl_image::Image;
+use cxl_regs::Range;
+use cxl_topo::{Topo, tree_laws};
+
+/// The decoders of a range in the ports on the way from a node up to its bridge, together.
+#[derive(Clone, Copy)]
+pub(crate) struct Above {
+    /// The product of their ways.
+    pub(crate) ways: u32,
+    /// How many address bits they select on.
+    pub(crate) bits: u32,
+}
+
+/// The ports above a node.
+pub(crate) fn ports_above(image: &Image, topo: &Topo, range: &Range, node: u32) -> Above
+    requires { node < length topo.now.nodes }
+    ensures ways { result.ways ≡ ways_above (system_of image.now topo.now []) range.now node }
+    ensures bits { result.bits ≡ bits_above (system_of image.now topo.now []) range.now node }
+    ensures some { 0 < result.ways }
+    ensures few_ways { result.ways ≤ 2 ^ 20 }
+    ensures few_bits { result.bits ≤ 20 }
+{
+    tree_laws();
+    let _count = topo.count();
+    let Some(parent) = topo.node(node).parent else {
+        return Above { ways: 1, bits: 0 };
+    };
+    let above = ports_above(image, topo, range, parent.node);
+    match decoder_for(image, range, parent.node) {
+        Some(d) => Above {
+            ways: u32::from(d.interleave_ways()) * above.ways,
+            bits: u32::from(d.select_bits()) + above.bits,
+        },
+        None => above,
+    }
+}

@@ -1,0 +1,64 @@
+//! What the first endpoint of a range says of it.
+
+ghost use Rattle.std.specs.Prelude.{◌≡◌, ◌==◌, length, if◌then◌else◌};
+ghost use Rattle.cxl_model.specs.System.{system_of};
+ghost use Rattle.cxl_check.specs.inner.Ready.{IsReady};
+ghost use Rattle.cxl_check.specs.inner.Firsts.{ListsFirsts};
+ghost use Rattle.cxl_check.specs.inner.Facts.{AreFacts};
+
+use crate::decoders::index_for;
+use crate::firsts::{RangeKey, first_of};
+use crate::kind::span_kind;
+use cxl_enc::MemKind;
+use cxl_image::Image;
+use cxl_regs::Range;
+use cxl_topo::Topo;
+use cxl_window::Window;
+use std::collections::BTreeMap;
+
+/// What the first endpoint of a range says of it: ways, the code in a window of one way, and the kind of memory.
+#[derive(Clone, Copy)]
+pub struct RangeFacts {
+    pub ways: u8,
+    pub code: u8,
+    pub kind: MemKind,
+}
+
+/// What the first endpoint of a range says of it; one without an endpoint counts as one way of ram.
+pub(crate) fn facts_of(
+    image: &Image,
+    topo: &Topo,
+    windows: &[Window],
+    firsts: &BTreeMap<RangeKey, u32>,
+    range: &Range,
+) -> RangeFacts
+    requires ready { IsReady (system_of image.now topo.now windows.now) }
+    requires firsts { ListsFirsts (system_of image.now topo.now windows.now) (length topo.now.nodes) firsts.now }
+    ensures { AreFacts (system_of image.now topo.now windows.now) range.now result }
+{
+    let none = RangeFacts {
+        ways: 1,
+        code: 0,
+        kind: MemKind::Ram,
+    };
+    let Some(first) = first_of(firsts, range) else {
+        return none;
+    };
+    let Some(i) = index_for(image, range, first) else {
+        return none;
+    };
+    let d = image.block(first).decoder(i);
+    let ways = d.interleave_ways();
+    RangeFacts {
+        ways,
+        code: own_code(ways, d.gran),
+        kind: span_kind(image, topo, windows, first, i),
+    }
+}
+
+/// The code of a range in a window of one way, by the ways and the code of its first endpoint.
+fn own_code(ways: u8, gran: u8) -> u8
+    ensures { result ≡ (if ways == 1 then 0 else gran) }
+{
+    if ways == 1 { 0 } else { gran }
+}

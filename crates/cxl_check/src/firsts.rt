@@ -1,0 +1,101 @@
+//! The first endpoint of each range.
+
+ghost use Rattle.std.specs.Prelude.{◌≡◌, ◌+◌, ◌<◌, [], length, None, Some, OnOk, IfOk, if◌then◌else◌};
+ghost use Rattle.std.specs.List.{list_any};
+ghost use Rattle.std.specs.Option.{option_or};
+ghost use Rattle.std.specs.BTreeMap.{get};
+ghost use Rattle.cxl_check.specs.declared.firsts.RangeKey.{RangeKey};
+ghost use Rattle.cxl_regs.specs.Reading.{has_range};
+ghost use Rattle.cxl_model.specs.System.{system_of};
+ghost use Rattle.cxl_check.specs.inner.Firsts.{key_cmp, range_at, ListsFirsts};
+
+use cxl_image::Image;
+use cxl_regs::{Block, Decoder, Range};
+use cxl_topo::{Topo, enter_first};
+use std::alloc::{AllocError, Global};
+use std::collections::BTreeMap;
+
+/// A range as the key of a table: by base, then by size.
+#[derive(Clone, Copy, Debug, PartialEq, Eq, PartialOrd, Ord)]
+pub struct RangeKey {
+    pub base: u64,
+    pub size: u64,
+}
+
+/// The endpoint that a table has for a range.
+pub(crate) fn first_of(firsts: &BTreeMap<RangeKey, u32>, range: &Range) -> Option<u32>
+    ensures { result ≡ get key_cmp firsts.now (record { base = range.now.base; size = range.now.size }) }
+{
+    let key = RangeKey {
+        base: range.base,
+        size: range.size,
+    };
+    firsts.get(&key).copied()
+}
+
+/// The first endpoint of each committed range that has one. Takes memory.
+pub(crate) fn first_endpoints(
+    alloc: Global,
+    image: &Image,
+    topo: &Topo,
+) -> Result<BTreeMap<RangeKey, u32>, AllocError>
+    ensures { IfOk result
+        (λ firsts. ListsFirsts (system_of image.now topo.now []) (length topo.now.nodes) firsts) }
+{
+    let mut firsts = BTreeMap::new(alloc);
+    for node in 0..topo.count() {
+        enter_node(&mut firsts, image, topo, node)?;
+    }
+    Ok(firsts)
+}
+
+/// Enters a node, where it is an endpoint, under the range of each of its committed decoders.
+fn enter_node(
+    firsts: &mut BTreeMap<RangeKey, u32>,
+    image: &Image,
+    topo: &Topo,
+    node: u32,
+) -> Result<(), AllocError>
+    requires here { node < length topo.now.nodes }
+    requires listed { ListsFirsts (system_of image.now topo.now []) node firsts.old }
+    ensures { OnOk result (ListsFirsts (system_of image.now topo.now []) (node + 1) firsts.new) }
+{
+    if !topo.is_endpoint(node) || node >= image.count() {
+        return Ok(());
+    }
+    enter_ranges(firsts, image.block(node), node)
+}
+
+/// Enters a node under the range of each committed decoder of its block.
+fn enter_ranges(
+    firsts: &mut BTreeMap<RangeKey, u32>,
+    block: &Block,
+    node: u32,
+) -> Result<(), AllocError>
+    ensures { OnOk result ((key : RangeKey) → get key_cmp firsts.new key ≡ option_or (get key_cmp firsts.old key)
+        (if list_any (has_range (range_at key)) block.now.decoders then Some node else None)) }
+{
+    for i in 0..block.count() {
+        enter_range(firsts, &block.decoder(i), node)?;
+    }
+    Ok(())
+}
+
+/// Enters a node under the range of a decoder that is committed, unless the range has an earlier node.
+fn enter_range(
+    firsts: &mut BTreeMap<RangeKey, u32>,
+    d: &Decoder,
+    node: u32,
+) -> Result<(), AllocError>
+    ensures { OnOk result ((key : RangeKey) → get key_cmp firsts.new key ≡ option_or (get key_cmp firsts.old key)
+        (if has_range (range_at key) d.now then Some node else None)) }
+{
+    if !d.committed {
+        return Ok(());
+    }
+    let key = RangeKey {
+        base: d.base,
+        size: d.size,
+    };
+    enter_first(firsts, key, node)
+}

@@ -1,0 +1,94 @@
+//! K11: what leads to a decoder.
+
+ghost use Rattle.std.specs.Prelude.{◌≡◌, ◌<◌, ◌==◌, ◌&&◌, [], length};
+ghost use Rattle.std.specs.List.{list_any};
+ghost use Rattle.cxl_regs.specs.Reading.{has_range, entries_of};
+ghost use Rattle.cxl_model.specs.System.{system_of};
+ghost use Rattle.cxl_model.specs.Rules.{lists, uid_above, is_targeted, keeps_reach};
+ghost use Rattle.cxl_check.specs.inner.Ready.{blocks_alone};
+
+use crate::window::window_for;
+use cxl_image::Image;
+use cxl_regs::{Decoder, Range};
+use cxl_topo::{NodeKind, Parent, Topo};
+use cxl_window::Window;
+
+/// K11 of a committed decoder: its node does not forward, and its decoding parent lists it for the range, or, where it has
+/// none, the range's window targets its bridge.
+pub(crate) fn keeps_reach(
+    image: &Image,
+    topo: &Topo,
+    windows: &[Window],
+    node: u32,
+    d: &Decoder,
+) -> bool
+    requires here { node < length topo.now.nodes }
+    ensures { result ≡ keeps_reach (system_of image.now topo.now windows.now) node d.now }
+{
+    if topo.forwards(node) {
+        return false;
+    }
+    let range = d.range();
+    match topo.decoding_port(node) {
+        Some(parent) => lists(image, &range, parent),
+        None => is_targeted(topo, windows, &range, node),
+    }
+}
+
+/// Whether a committed decoder of the range lists this port.
+fn lists(image: &Image, range: &Range, parent: Parent) -> bool
+    ensures { result ≡ lists (blocks_alone image.now) range.now parent }
+{
+    if parent.node >= image.count() {
+        return false;
+    }
+    let block = image.block(parent.node);
+    for i in 0..block.count() {
+        if lists_in_range(&block.decoder(i), range, parent.port) {
+            return true;
+        }
+    }
+    false
+}
+
+/// Whether a decoder is committed with the range and lists this port.
+fn lists_in_range(d: &Decoder, range: &Range, port: u8) -> bool
+    ensures { result ≡ (has_range range.now d.now && list_any (λ listed. listed == port) (entries_of d.now)) }
+{
+    d.has_range(range) && lists_port(d, port)
+}
+
+/// Whether a port stands at one of the entries that a decoder uses.
+fn lists_port(d: &Decoder, port: u8) -> bool
+    ensures { result ≡ list_any (λ listed. listed == port) (entries_of d.now) }
+{
+    for i in 0..d.interleave_ways() {
+        if d.entry_at(i) == port {
+            return true;
+        }
+    }
+    false
+}
+
+/// Whether the range's window targets the bridge on the path of a node.
+fn is_targeted(topo: &Topo, windows: &[Window], range: &Range, node: u32) -> bool
+    requires here { node < length topo.now.nodes }
+    ensures { result ≡ is_targeted (system_of [] topo.now windows.now) range.now node }
+{
+    match (window_for(windows, range), uid_above(topo, node)) {
+        (Some(w), Some(uid)) => w.targets().contains(&uid),
+        _ => false,
+    }
+}
+
+/// The UID of the bridge on the path of a node.
+fn uid_above(topo: &Topo, node: u32) -> Option<u32>
+    requires here { node < length topo.now.nodes }
+    ensures { result ≡ uid_above topo.now.nodes node }
+{
+    let bridge = topo.path(node).nodes[0];
+    match topo.node(bridge).kind {
+        NodeKind::Bridge(uid) => Some(uid),
+        NodeKind::Switch | NodeKind::Endpoint(_) => None,
+    }
+}

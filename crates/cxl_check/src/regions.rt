@@ -1,0 +1,104 @@
+//! The regions of an accepted image.
+
+ghost use Rattle.std.specs.Prelude.{◌≡◌, length, All, IfOk};
+ghost use Rattle.std.specs.BTreeMap.{keys, IsOrdered, ContainsKey};
+ghost use Rattle.cxl_model.specs.System.{system_of};
+ghost use Rattle.cxl_model.specs.Accepted.{IsAccepted, IsWhole};
+ghost use Rattle.cxl_model.specs.Ranges.{IsCommittedRange};
+ghost use Rattle.cxl_model.specs.Regions.{IsRegion, region_range};
+ghost use Rattle.cxl_model.specs.Listed.{AreRegionsByBase};
+ghost use Rattle.cxl_check.specs.inner.Ready.{IsReady};
+ghost use Rattle.cxl_check.specs.inner.Firsts.{key_cmp, ListsFirsts};
+
+use crate::facts::facts_of;
+use crate::firsts::RangeKey;
+use crate::slots::span_of;
+use crate::ways::region_code;
+use crate::window::window_for;
+use cxl_enc::FixedList;
+use cxl_image::Image;
+use cxl_model::{
+    Found, accepted_where_whole, endpoints_lie_evenly, regions_share_no_byte,
+    whole_ranges_have_one_region,
+};
+use cxl_regs::Range;
+use cxl_span::ranges_rise;
+use cxl_topo::Topo;
+use cxl_window::Window;
+use std::alloc::{AllocError, Global};
+use std::collections::BTreeMap;
+
+/// The regions of an accepted image, by rising base. Takes memory.
+pub(crate) fn regions(
+    alloc: Global,
+    image: &Image,
+    topo: &Topo,
+    windows: &[Window],
+    firsts: &BTreeMap<RangeKey, u32>,
+) -> Result<Vec<Found>, AllocError>
+    requires ready { IsReady (system_of image.now topo.now windows.now) }
+    requires accepted { IsAccepted (system_of image.now topo.now windows.now) }
+    requires firsts { ListsFirsts (system_of image.now topo.now windows.now) (length topo.now.nodes) firsts.now }
+    ensures { IfOk result
+        (λ regions. AreRegionsByBase (system_of image.now topo.now windows.now) regions.items) }
+{
+    accepted_where_whole();
+    endpoints_lie_evenly();
+    regions_share_no_byte();
+    ranges_rise();
+    let keys = keys_of(alloc, firsts)?;
+    let mut regions = Vec::with_capacity(alloc, keys.len())?;
+    for key in &keys {
+        let range = Range {
+            base: key.base,
+            size: key.size,
+        };
+        let region = region_of(alloc, image, topo, windows, firsts, &range)?;
+        regions.push(region)?;
+    }
+    Ok(regions)
+}
+
+/// The ranges of a table, by rising base. Takes memory.
+fn keys_of(alloc: Global, firsts: &BTreeMap<RangeKey, u32>) -> Result<Vec<RangeKey>, AllocError>
+    ensures keys { IfOk result (λ found. found.items ≡ keys firsts.now) }
+    ensures ordered { IsOrdered key_cmp firsts.now }
+    ensures found { All (ContainsKey key_cmp firsts.now) (keys firsts.now) }
+{
+    firsts.keys().copied().collect(alloc)
+}
+
+/// The region of a committed range that is whole. Takes memory.
+fn region_of(
+    alloc: Global,
+    image: &Image,
+    topo: &Topo,
+    windows: &[Window],
+    firsts: &BTreeMap<RangeKey, u32>,
+    range: &Range,
+) -> Result<Found, AllocError>
+    requires ready { IsReady (system_of image.now topo.now windows.now) }
+    requires firsts { ListsFirsts (system_of image.now topo.now windows.now) (length topo.now.nodes) firsts.now }
+    requires committed { IsCommittedRange (system_of image.now topo.now windows.now) range.now }
+    requires whole { IsWhole (system_of image.now topo.now windows.now) range.now }
+    ensures region { IfOk result (λ found. IsRegion (system_of image.now topo.now windows.now) found) }
+    ensures range { IfOk result (λ found. region_range found ≡ range.now) }
+{
+    whole_ranges_have_one_region();
+    let w = window_for(windows, range).unwrap();
+    let facts = facts_of(image, topo, windows, firsts, range);
+    let ways = facts.ways;
+    let mut spans = Vec::with_capacity(alloc, usize::from(ways))?;
+    for slot in 0..ways {
+        spans.push(span_of(image, topo, windows, range, w, slot))?;
+    }
+    Ok(Found {
+        base: range.base,
+        size: range.size,
+        window: w.index(),
+        gran: region_code(&facts, w),
+        ways,
+        kind: facts.kind,
+        spans: FixedList::new(spans),
+    })
+}

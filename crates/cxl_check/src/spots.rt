@@ -1,0 +1,130 @@
+//! The first decoder that breaks one of the rules K9 to K12.
+
+ghost use Rattle.std.specs.Prelude.{◌≡◌, ℕ, ◌<◌, ◌≤◌, ◌&&◌, not, true, false, Some, length, IfSome, IfNone};
+ghost use Rattle.cxl_model.specs.System.{system_of, decoder_at};
+ghost use Rattle.cxl_model.specs.Accepted.{breaks};
+ghost use Rattle.cxl_check.specs.Spots.{Keeps, IsFirstSpot};
+ghost use Rattle.cxl_check.specs.inner.Ready.{IsReady, IsCommitted};
+ghost use Rattle.cxl_check.specs.inner.Facts.{AreTables, keeps_rule};
+
+use crate::reach::keeps_reach;
+use crate::tables::Tables;
+use crate::targets::keeps_targets;
+use crate::ways::keeps_ways;
+use crate::window::keeps_window;
+use cxl_image::Image;
+use cxl_regs::Decoder;
+use cxl_topo::Topo;
+use cxl_window::Window;
+
+/// A decoder of a node.
+#[derive(Clone, Copy)]
+pub(crate) struct Spot {
+    pub(crate) node: u32,
+    pub(crate) decoder: u8,
+}
+
+/// The first decoder that breaks the rule of this number.
+pub(crate) fn first_spot(
+    image: &Image,
+    topo: &Topo,
+    windows: &[Window],
+    tables: &Tables,
+    rule: u8,
+) -> Option<Spot>
+    requires ready { IsReady (system_of image.now topo.now windows.now) }
+    requires tables { AreTables (system_of image.now topo.now windows.now) tables.now }
+    requires from { 9 ≤ rule }
+    requires to { rule < 13 }
+    ensures none { IfNone result (Keeps (system_of image.now topo.now windows.now) rule) }
+    ensures first { IfSome result
+        (λ spot. IsFirstSpot (system_of image.now topo.now windows.now) rule spot.node spot.decoder) }
+{
+    for node in 0..topo.count() {
+        if let Some(decoder) = first_decoder(image, topo, windows, tables, rule, node) {
+            return Some(Spot { node, decoder });
+        }
+    }
+    None
+}
+
+/// The first decoder of a node that breaks the rule.
+fn first_decoder(
+    image: &Image,
+    topo: &Topo,
+    windows: &[Window],
+    tables: &Tables,
+    rule: u8,
+    node: u32,
+) -> Option<u8>
+    requires ready { IsReady (system_of image.now topo.now windows.now) }
+    requires tables { AreTables (system_of image.now topo.now windows.now) tables.now }
+    requires from { 9 ≤ rule }
+    requires to { rule < 13 }
+    requires here { node < length topo.now.nodes }
+    ensures none { IfNone result ((i : ℕ) → breaks (system_of image.now topo.now windows.now) rule node i ≡ false) }
+    ensures broken { IfSome result (λ decoder. breaks (system_of image.now topo.now windows.now) rule node decoder ≡ true) }
+    ensures lower { IfSome result (λ decoder. (i : ℕ) → i < decoder → breaks (system_of image.now topo.now windows.now) rule node i ≡ false) }
+{
+    let block = image.block(node);
+    for i in 0..block.count() {
+        if breaks_rule(
+            image,
+            topo,
+            windows,
+            tables,
+            rule,
+            node,
+            i,
+            &block.decoder(i),
+        ) {
+            return Some(i);
+        }
+    }
+    None
+}
+
+/// Whether a decoder is committed and breaks the rule.
+fn breaks_rule(
+    image: &Image,
+    topo: &Topo,
+    windows: &[Window],
+    tables: &Tables,
+    rule: u8,
+    node: u32,
+    i: u8,
+    d: &Decoder,
+) -> bool
+    requires ready { IsReady (system_of image.now topo.now windows.now) }
+    requires tables { AreTables (system_of image.now topo.now windows.now) tables.now }
+    requires here { node < length topo.now.nodes }
+    requires there { decoder_at (system_of image.now topo.now windows.now) node i ≡ Some d.now }
+    ensures { result ≡ (d.now.committed && not (keeps_rule (system_of image.now topo.now windows.now) rule node i d.now)) }
+{
+    d.committed && !keeps_rule(image, topo, windows, tables, rule, node, i, d)
+}
+
+/// Whether a committed decoder keeps the rule.
+fn keeps_rule(
+    image: &Image,
+    topo: &Topo,
+    windows: &[Window],
+    tables: &Tables,
+    rule: u8,
+    node: u32,
+    i: u8,
+    d: &Decoder,
+) -> bool
+    requires ready { IsReady (system_of image.now topo.now windows.now) }
+    requires tables { AreTables (system_of image.now topo.now windows.now) tables.now }
+    requires here { node < length topo.now.nodes }
+    requires committed { IsCommitted (system_of image.now topo.now windows.now) node i d.now }
+    ensures { result ≡ keeps_rule (system_of image.now topo.now windows.now) rule node i d.now }
+{
+    match rule {
+        9 => keeps_window(image, topo, windows, node, i, d),
+        10 => keeps_targets(image, topo, windows, &tables.landings, node, d),
+        11 => keeps_reach(image, topo, windows, node, d),
+        _ => keeps_ways(image, topo, windows, &tables.firsts, node, i, d),
+    }
+}

@@ -1,0 +1,11 @@
+use crate::firsts::RangeKey;
+use std::collections::BTreeMap;
+
+/// What is looked up for many decoders, made once for an image.
+#[derive(Drop)]
+pub struct Tables {
+    /// Whether a node is the landing of a bridge.
+    pub landings: Vec<bool>,
+    /// The first endpoint of each committed range that has one.
+    pub firsts: BTreeMap<RangeKey, u32>,
+}

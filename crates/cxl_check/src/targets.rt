@@ -1,0 +1,157 @@
+//! K10: what a decoder leads to.
+
+ghost use Rattle.std.specs.Prelude.{◌≡◌, ◌+◌, ◌-◌, ◌<◌, ◌==◌, ◌&&◌, ◌||◌, not, true, false, [], length, map, find};
+ghost use Rattle.std.specs.List.{list_all, list_any, range_with_len};
+ghost use Rattle.std.specs.Option.{option_map_or};
+ghost use Rattle.cxl_topo.specs.Tree.{bridge_with, is_endpoint_at};
+ghost use Rattle.cxl_regs.specs.Reading.{decoder_ways, entry_at, entries_of};
+ghost use Rattle.cxl_model.specs.System.{system_of};
+ghost use Rattle.cxl_model.specs.Ranges.{lies_within};
+ghost use Rattle.cxl_model.specs.Rules.{are_distinct, lands_on, leads_on, targets_land, is_bridge_landing, keeps_targets};
+ghost use Rattle.cxl_check.specs.inner.Firsts.{AreLandings};
+
+use crate::decoders::serves;
+use crate::window::window_for;
+use cxl_image::Image;
+use cxl_regs::{Decoder, Range};
+use cxl_topo::Topo;
+use cxl_window::Window;
+
+/// K10 of a committed decoder: a port's entries differ, and each leads on; and where the node is the landing of a bridge,
+/// each target of the range's window lands on the range.
+pub(crate) fn keeps_targets(
+    image: &Image,
+    topo: &Topo,
+    windows: &[Window],
+    landings: &[bool],
+    node: u32,
+    d: &Decoder,
+) -> bool
+    requires here { node < length topo.now.nodes }
+    requires landings { AreLandings topo.now.nodes landings.now }
+    ensures { result ≡ keeps_targets (system_of image.now topo.now windows.now) node d.now }
+{
+    let range = d.range();
+    entries_differ_and_lead_on(image, topo, &range, node, d)
+        && targets_land_with(image, topo, windows, landings, &range, node)
+}
+
+/// Whether the node is an endpoint, or a port whose entries differ and lead on.
+fn entries_differ_and_lead_on(
+    image: &Image,
+    topo: &Topo,
+    range: &Range,
+    node: u32,
+    d: &Decoder,
+) -> bool
+    requires { node < length topo.now.nodes }
+    ensures { result ≡ (is_endpoint_at topo.now.nodes node
+        || (are_distinct (entries_of d.now) && list_all (leads_on (system_of image.now topo.now []) range.now node) (entries_of d.now))) }
+{
+    topo.is_endpoint(node) || (are_distinct(d) && entries_lead_on(image, topo, range, node, d))
+}
+
+/// Whether each target of the range's window lands on it, where the node is the landing of a bridge.
+fn targets_land_with(
+    image: &Image,
+    topo: &Topo,
+    windows: &[Window],
+    landings: &[bool],
+    range: &Range,
+    node: u32,
+) -> bool
+    requires here { node < length topo.now.nodes }
+    requires landings { AreLandings topo.now.nodes landings.now }
+    ensures { result ≡ (not (is_bridge_landing topo.now.nodes node)
+        || option_map_or (targets_land (system_of image.now topo.now []) range.now) (find (lies_within range.now) windows.now) true) }
+{
+    if !landings[node as usize] {
+        return true;
+    }
+    match window_for(windows, range) {
+        Some(w) => targets_land(image, topo, range, w),
+        None => true,
+    }
+}
+
+/// Whether no port stands at two of the entries that a decoder uses.
+fn are_distinct(d: &Decoder) -> bool
+    ensures { result ≡ are_distinct (entries_of d.now) }
+{
+    for i in 0..d.interleave_ways() {
+        if stands_later(d, i) {
+            return false;
+        }
+    }
+    true
+}
+
+/// Whether the port at entry `i` stands at a later one, too.
+fn stands_later(d: &Decoder, i: u8) -> bool
+    requires { i < decoder_ways d.now }
+    ensures { result ≡ list_any (λ port. port == entry_at d.now i)
+        (map (entry_at d.now) (range_with_len (i + 1) (decoder_ways d.now - (i + 1)))) }
+{
+    let ways = d.interleave_ways();
+    let port = d.entry_at(i);
+    for j in i + 1..ways {
+        if d.entry_at(j) == port {
+            return true;
+        }
+    }
+    false
+}
+
+/// Whether each entry of a port's decoder leads on.
+fn entries_lead_on(image: &Image, topo: &Topo, range: &Range, node: u32, d: &Decoder) -> bool
+    requires { node < length topo.now.nodes }
+    ensures { result ≡ list_all (leads_on (system_of image.now topo.now []) range.now node) (entries_of d.now) }
+{
+    for i in 0..d.interleave_ways() {
+        if !leads_on(image, topo, range, node, d.entry_at(i)) {
+            return false;
+        }
+    }
+    true
+}
+
+/// Whether a child stands at a port, and lands on the range.
+fn leads_on(image: &Image, topo: &Topo, range: &Range, node: u32, port: u8) -> bool
+    requires here { node < length topo.now.nodes }
+    ensures { result ≡ leads_on (system_of image.now topo.now []) range.now node port }
+{
+    match topo.child(node, port) {
+        Some(child) => lands_on(image, topo, range, child),
+        None => false,
+    }
+}
+
+/// Whether an address that comes to a node is first decoded at a node that serves the range.
+fn lands_on(image: &Image, topo: &Topo, range: &Range, node: u32) -> bool
+    requires here { node < length topo.now.nodes }
+    ensures { result ≡ lands_on (system_of image.now topo.now []) range.now node }
+{
+    match topo.landing(node) {
+        Some(landing) => serves(image, range, landing),
+        None => false,
+    }
+}
+
+/// Whether each target of a window is a bridge that lands on the range.
+fn targets_land(image: &Image, topo: &Topo, range: &Range, w: &Window) -> bool
+    ensures { result ≡ targets_land (system_of image.now topo.now []) range.now w.now }
+{
+    w.targets()
+        .iter()
+        .all(|uid| target_lands(image, topo, range, *uid))
+}
+
+/// Whether a UID is that of a bridge that lands on the range.
+fn target_lands(image: &Image, topo: &Topo, range: &Range, uid: u32) -> bool
+    ensures { result ≡ option_map_or (lands_on (system_of image.now topo.now []) range.now) (bridge_with topo.now.nodes uid) false }
+{
+    match topo.bridge(uid) {
+        Some(bridge) => lands_on(image, topo, range, bridge),
+        None => false,
+    }
+}

@@ -1,0 +1,200 @@
+//! K12: ways, kind and granularity.
+
+ghost use Rattle.std.specs.Prelude.{◌≡◌, ◌+◌, ◌*◌, ◌<◌, ◌==◌, ◌&&◌, ◌||◌, true, [], length, if◌then◌else◌};
+ghost use Rattle.cxl_enc.specs.Codes.{bits_of};
+ghost use Rattle.cxl_regs.specs.Reading.{decoder_ways, range_of};
+ghost use Rattle.cxl_topo.specs.Tree.{is_endpoint_at};
+ghost use Rattle.cxl_model.specs.System.{System, system_of};
+ghost use Rattle.cxl_model.specs.Ranges.{ways_above, bits_above, span_kind, same_kind, range_ways, range_kind, range_code};
+ghost use Rattle.cxl_model.specs.Rules.{keeps_endpoint_ways, keeps_port_code, keeps_ways};
+ghost use Rattle.cxl_check.specs.inner.Ready.{IsReady, IsCommitted};
+ghost use Rattle.cxl_check.specs.inner.Firsts.{ListsFirsts};
+ghost use Rattle.cxl_check.specs.inner.Facts.{AreFacts};
+ghost use Rattle.cxl_regs.specs.declared.reading.Range.{Range};
+
+use crate::above::ports_above;
+use crate::facts::{RangeFacts, facts_of};
+use crate::firsts::RangeKey;
+use crate::kind::span_kind;
+use crate::window::window_for;
+use cxl_enc::{MemKind, split};
+use cxl_image::Image;
+use cxl_regs::{Decoder, Range};
+use cxl_topo::Topo;
+use cxl_window::Window;
+use std::collections::BTreeMap;
+
+/// K12 of a committed decoder: an endpoint has the ways that its path gives it, those, the kind and the code of the range;
+/// a port has the code of its level.
+pub(crate) fn keeps_ways(
+    image: &Image,
+    topo: &Topo,
+    windows: &[Window],
+    firsts: &BTreeMap<RangeKey, u32>,
+    node: u32,
+    i: u8,
+    d: &Decoder,
+) -> bool
+    requires ready { IsReady (system_of image.now topo.now windows.now) }
+    requires firsts { ListsFirsts (system_of image.now topo.now windows.now) (length topo.now.nodes) firsts.now }
+    requires here { node < length topo.now.nodes }
+    requires committed { IsCommitted (system_of image.now topo.now windows.now) node i d.now }
+    ensures { result ≡ keeps_ways (system_of image.now topo.now windows.now) node i d.now }
+{
+    let range = d.range();
+    let Some(w) = window_for(windows, &range) else {
+        return true;
+    };
+    let facts = facts_of(image, topo, windows, firsts, &range);
+    if topo.is_endpoint(node) {
+        keeps_endpoint_ways(image, topo, windows, &facts, w, node, i, d)
+    } else {
+        keeps_port_code(image, topo, windows, &facts, w, node, d)
+    }
+}
+
+/// An endpoint has the window's ways times those of the ports above it, and the ways and kind of the range; with more than
+/// one way it has the range's code.
+fn keeps_endpoint_ways(
+    image: &Image,
+    topo: &Topo,
+    windows: &[Window],
+    facts: &RangeFacts,
+    w: &Window,
+    node: u32,
+    i: u8,
+    d: &Decoder,
+) -> bool
+    requires ready { IsReady (system_of image.now topo.now windows.now) }
+    requires facts { AreFacts (system_of image.now topo.now windows.now) (record { base = d.now.base; size = d.now.size }) facts.now }
+    requires here { node < length topo.now.nodes }
+    requires endpoint { is_endpoint_at topo.now.nodes node ≡ true }
+    requires committed { IsCommitted (system_of image.now topo.now windows.now) node i d.now }
+    ensures { result ≡ keeps_endpoint_ways (system_of image.now topo.now windows.now) w.now node i d.now }
+{
+    if !keeps_number(image, topo, facts, w, node, d) {
+        return false;
+    }
+    if !keeps_kind(image, topo, windows, facts, node, i, d) {
+        return false;
+    }
+    keeps_code(facts, w, d)
+}
+
+/// A decoder has the ways that its path gives it, and those of the range.
+fn keeps_number(
+    image: &Image,
+    topo: &Topo,
+    facts: &RangeFacts,
+    w: &Window,
+    node: u32,
+    d: &Decoder,
+) -> bool
+    requires { node < length topo.now.nodes }
+    ensures { (s : System) → AreFacts s (range_of d.now) facts.now
+        → result ≡ ((decoder_ways d.now == w.now.ways * ways_above (system_of image.now topo.now []) (range_of d.now) node)
+        && (decoder_ways d.now == range_ways s (range_of d.now))) }
+{
+    keeps_path_ways(image, topo, w, node, d) && d.interleave_ways() == facts.ways
+}
+
+/// The span of an endpoint's decoder is of the range's kind.
+fn keeps_kind(
+    image: &Image,
+    topo: &Topo,
+    windows: &[Window],
+    facts: &RangeFacts,
+    node: u32,
+    i: u8,
+    d: &Decoder,
+) -> bool
+    requires ready { IsReady (system_of image.now topo.now windows.now) }
+    requires facts { AreFacts (system_of image.now topo.now windows.now) (range_of d.now) facts.now }
+    requires endpoint { is_endpoint_at topo.now.nodes node ≡ true }
+    requires committed { IsCommitted (system_of image.now topo.now windows.now) node i d.now }
+    ensures { result ≡ same_kind (span_kind (system_of image.now topo.now windows.now) node i)
+        (range_kind (system_of image.now topo.now windows.now) (range_of d.now)) }
+{
+    same_kind(span_kind(image, topo, windows, node, i), facts.kind)
+}
+
+/// A decoder has the window's ways times those of the ports above its node.
+fn keeps_path_ways(image: &Image, topo: &Topo, w: &Window, node: u32, d: &Decoder) -> bool
+    requires { node < length topo.now.nodes }
+    ensures { result ≡ (decoder_ways d.now
+        == w.now.ways * ways_above (system_of image.now topo.now []) (range_of d.now) node) }
+{
+    let above = ports_above(image, topo, &d.range(), node);
+    u32::from(d.interleave_ways()) == u32::from(w.ways()) * above.ways
+}
+
+fn same_kind(kind: MemKind, other: MemKind) -> bool
+    ensures { result ≡ same_kind kind other }
+{
+    match (kind, other) {
+        (MemKind::Ram, MemKind::Ram) | (MemKind::Pmem, MemKind::Pmem) => true,
+        (MemKind::Ram, MemKind::Pmem) | (MemKind::Pmem, MemKind::Ram) => false,
+    }
+}
+
+/// A decoder with more than one way has the range's code.
+fn keeps_code(facts: &RangeFacts, w: &Window, d: &Decoder) -> bool
+    ensures { (s : System) (r : Range) → AreFacts s r facts.now
+        → result ≡ ((decoder_ways d.now == 1) || (d.now.gran == range_code s w.now r)) }
+{
+    d.interleave_ways() == 1 || d.gran == range_code(facts, w)
+}
+
+/// A port with more than one way has the range's code plus the k of the window and of each port above it.
+fn keeps_port_code(
+    image: &Image,
+    topo: &Topo,
+    windows: &[Window],
+    facts: &RangeFacts,
+    w: &Window,
+    node: u32,
+    d: &Decoder,
+) -> bool
+    requires facts { AreFacts (system_of image.now topo.now windows.now) (record { base = d.now.base; size = d.now.size }) facts.now }
+    requires here { node < length topo.now.nodes }
+    ensures { result ≡ keeps_port_code (system_of image.now topo.now windows.now) w.now node d.now }
+{
+    let level = port_level(image, topo, facts, w, &d.range(), node);
+    d.interleave_ways() == 1 || u32::from(d.gran) == level
+}
+
+/// The range's code plus the k of the window and of each port above a node.
+fn port_level(
+    image: &Image,
+    topo: &Topo,
+    facts: &RangeFacts,
+    w: &Window,
+    range: &Range,
+    node: u32,
+) -> u32
+    requires { node < length topo.now.nodes }
+    ensures { (s : System) → AreFacts s range.now facts.now → result
+        ≡ range_code s w.now range.now + bits_of w.now.ways + bits_above (system_of image.now topo.now []) range.now node }
+{
+    let above = ports_above(image, topo, range, node);
+    u32::from(range_code(facts, w)) + u32::from(split(w.ways()).bits) + above.bits
+}
+
+/// The code of a range's region: that of the range, and 0 at one way.
+pub(crate) fn region_code(facts: &RangeFacts, w: &Window) -> u8
+    ensures { (s : System) (r : Range) → AreFacts s r facts.now
+        → result ≡ (if facts.now.ways == 1 then 0 else range_code s w.now r) }
+{
+    if facts.ways == 1 {
+        0
+    } else {
+        range_code(facts, w)
+    }
+}
+
+/// The code of a range: the window's where that has more than one way, else the first endpoint's.
+fn range_code(facts: &RangeFacts, w: &Window) -> u8
+    ensures { (s : System) (r : Range) → AreFacts s r facts.now → result ≡ range_code s w.now r }
+{
+    if w.ways() > 1 { w.gran() } else { facts.code }
+}

@@ -1,0 +1,82 @@
+//! K9: where a range lies.
+
+ghost use Rattle.std.specs.Prelude.{◌≡◌, ◌<◌, ◌≤◌, true, length, find};
+ghost use Rattle.std.specs.Option.{option_copied};
+ghost use Rattle.cxl_regs.specs.Words.{has_bit};
+ghost use Rattle.cxl_topo.specs.Tree.{is_endpoint_at};
+ghost use Rattle.cxl_model.specs.System.{system_of};
+ghost use Rattle.cxl_model.specs.Ranges.{lies_within, span_kind};
+ghost use Rattle.cxl_model.specs.Rules.{starts_in_thirds, permits, keeps_window};
+ghost use Rattle.cxl_check.specs.inner.Ready.{IsReady, IsCommitted};
+
+use crate::kind::span_kind;
+use cxl_enc::{MemKind, UNIT};
+use cxl_image::Image;
+use cxl_regs::{Decoder, Range};
+use cxl_topo::Topo;
+use cxl_window::{Verdict, Window};
+
+/// K9 of a committed decoder: its range lies in a usable window, in thirds where it must, and an endpoint's span is of a
+/// kind that the window permits.
+pub(crate) fn keeps_window(
+    image: &Image,
+    topo: &Topo,
+    windows: &[Window],
+    node: u32,
+    i: u8,
+    d: &Decoder,
+) -> bool
+    requires ready { IsReady (system_of image.now topo.now windows.now) }
+    requires here { node < length topo.now.nodes }
+    requires committed { IsCommitted (system_of image.now topo.now windows.now) node i d.now }
+    ensures { result ≡ keeps_window (system_of image.now topo.now windows.now) node i d.now }
+{
+    let range = d.range();
+    let Some(w) = window_for(windows, &range) else {
+        return false;
+    };
+    starts_in_thirds(w, &range)
+        && (!topo.is_endpoint(node) || permits(w, span_kind(image, topo, windows, node, i)))
+}
+
+/// The usable window in which a range lies.
+pub(crate) fn window_for<'a>(windows: &'a [Window], range: &Range) -> Option<&'a Window>
+    ensures { option_copied result ≡ find (lies_within range.now) windows.now }
+{
+    windows.iter().find(|w| lies_within(range, w))
+}
+
+/// Whether a window can be used, and a range lies in it.
+fn lies_within(range: &Range, w: &Window) -> bool
+    ensures { result ≡ lies_within range.now w.now }
+{
+    let end = u128::from(range.base) + u128::from(range.size);
+    matches!(w.verdict(), Verdict::Usable)
+        && w.base() <= range.base
+        && end <= u128::from(w.base()) + u128::from(w.size())
+}
+
+/// Whether a range starts at a multiple of 768 MiB from the base of a window whose ways are divided by three.
+fn starts_in_thirds(w: &Window, range: &Range) -> bool
+    ensures { result ≡ starts_in_thirds w.now range.now }
+{
+    w.ways() % 3 != 0 || range.base.saturating_sub(w.base()) % (3 * UNIT) == 0
+}
+
+/// Whether the restrictions of a window permit spans of a kind.
+fn permits(w: &Window, kind: MemKind) -> bool
+    ensures { result ≡ permits w.now kind }
+{
+    let restrict = w.restrict();
+    match kind {
+        MemKind::Ram => has_bit(restrict, 1) && has_bit(restrict, 2),
+        MemKind::Pmem => has_bit(restrict, 1) && has_bit(restrict, 3),
+    }
+}
+
+fn has_bit(word: u16, place: u8) -> bool
+    requires { place < 16 }
+    ensures { result ≡ has_bit word place }
+{
+    (word >> place) % 2 == 1
+}

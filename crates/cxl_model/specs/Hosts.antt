@@ -1,0 +1,13 @@
+-- Any blocks over a tree and windows: a system, but for the capability words of its nodes.
+use Rattle.std.specs.Prelude.{All}
+use Rattle.cxl_topo.specs.Tree.{bridge_uids}
+use Rattle.cxl_topo.specs.Faults.{IsTree}
+use Rattle.cxl_regs.specs.Registers.{IsBlock}
+use Rattle.cxl_window.specs.Windows.{AreMadeWith}
+use Rattle.cxl_model.specs.System.{System}
+
+-- a legal tree, some blocks, and windows made with the tree's bridges
+pub record IsHost (s : System) : Type 0 where
+  pub tree : IsTree s.nodes
+  pub blocks : All IsBlock s.blocks
+  pub made : AreMadeWith s.windows (bridge_uids s.nodes)

@@ -1,0 +1,7 @@
+pub mod Words
+pub mod Short
+pub mod Texts
+pub mod Refusals
+pub mod Replies
+pub mod Told
+pub mod Plans

@@ -1,0 +1,206 @@
+-- The texts of replies that are no refusals (this project's rule).
+use Rattle.std.specs.Prelude.{ℕ, ◌*◌, ◌==◌, Bool, if◌then◌else◌, Option, Some, None, List, [], ◌∷◌, ◌++◌, length, map, take, codes, decimal, slice_get, unwrap_or}
+use Rattle.std.specs.Option.{option_map_or}
+use Rattle.std.specs.List.{flat_map, zip, enumerate_from}
+use Rattle.cxl_io.specs.Printed.{padded_hex}
+use Rattle.cxl_topo.specs.declared.node.Node.{Node}
+use Rattle.cxl_model.specs.declared.extent.Extent.{Extent}
+use Rattle.cxl_model.specs.declared.found.Found.{Found}
+use Rattle.cxl_model.specs.declared.found.Place.{Place}
+use Rattle.cxl_model.specs.declared.poison.Entry.{Entry}
+use Rattle.cxl_model.specs.declared.poison.Part.{Part}
+use Rattle.cxl_model.specs.declared.poison.Part.TheVariants as parts
+use Rattle.cxl_model.specs.declared.poison.PoisonList.{PoisonList}
+use Rattle.cxl_model.specs.declared.poison.Poisoned.{Poisoned}
+use Rattle.cxl_reply.specs.declared.told.Named.{Named}
+use Rattle.cxl_reply.specs.declared.told.Shown.{Shown}
+use Rattle.cxl_reply.specs.declared.told.ShownRow.{ShownRow}
+use Rattle.cxl_reply.specs.declared.told.Downed.{Downed}
+use Rattle.cxl_reply.specs.declared.told.Via.{Via}
+use Rattle.cxl_reply.specs.declared.told.Upped.{Upped}
+use Rattle.cxl_reply.specs.declared.told.Report.{Report}
+use Rattle.cxl_reply.specs.declared.told.Begun.{Begun}
+use Rattle.cxl_reply.specs.declared.told.Progress.{Progress}
+use Rattle.cxl_reply.specs.declared.told.Extents.{Extents}
+use Rattle.cxl_reply.specs.declared.told.Spread.{Spread}
+use Rattle.cxl_reply.specs.declared.told.Carried.{Carried}
+use Rattle.cxl_reply.specs.Words.{line, hex_text, gran_text, kind_text, node_text, bytes_text, spaced}
+
+-- ---- regions
+
+-- where a region lies, and how it interleaves
+abbrev pub layout_text : ℕ → ℕ → ℕ → ℕ → ℕ → List ℕ
+layout_text window base size gran ways =
+    codes "window " ++ decimal window ++ codes " base " ++ hex_text base ++ codes " size " ++ hex_text size
+    ++ codes " gran " ++ gran_text gran ++ codes " ways " ++ decimal ways
+
+abbrev pub created_text : Named → List ℕ
+created_text named =
+    line (codes "created " ++ named.name ++ codes " " ++ layout_text named.window named.base named.size named.gran named.ways)
+
+abbrev pub destroyed_text : List ℕ → List ℕ
+destroyed_text name = line (codes "destroyed " ++ name)
+
+abbrev pub word_text : ℕ → List ℕ
+word_text word = padded_hex word 8
+
+-- a decoder's seven words, eight digits each
+abbrev pub words_text : List ℕ → List ℕ
+words_text words = spaced (map word_text words)
+
+abbrev pub row_text : List Node → ShownRow → List ℕ
+row_text nodes row =
+    line (codes "node " ++ node_text nodes row.node ++ codes " " ++ decimal row.decoder ++ codes " " ++ words_text row.words)
+
+-- a slot with its endpoint and the start of its span
+abbrev pub slot_text : List Node → ℕ × Place → List ℕ
+slot_text nodes (slot, place) =
+    line (codes "slot " ++ decimal slot ++ codes " " ++ node_text nodes place.endpoint ++ codes " " ++ hex_text place.start)
+
+abbrev pub slots_text : List Node → List Place → List ℕ
+slots_text nodes places = flat_map (slot_text nodes) (enumerate_from 0 places)
+
+abbrev pub shown_head_text : Shown → List ℕ
+shown_head_text shown =
+    line (codes "region " ++ shown.name ++ codes " " ++ kind_text shown.found.kind ++ codes " "
+    ++ layout_text shown.found.window shown.found.base shown.found.size shown.found.gran shown.found.ways)
+
+abbrev pub shown_text : List Node → Shown → List ℕ
+shown_text nodes shown =
+    shown_head_text shown ++ flat_map (row_text nodes) shown.rows ++ slots_text nodes shown.found.spans
+
+-- ---- addresses
+
+-- a port on the way, by node, decoder and entry
+abbrev pub via_text : List Node → Via → List ℕ
+via_text nodes via = node_text nodes via.node ++ codes ":" ++ decimal via.decoder ++ codes ":" ++ decimal via.entry
+
+-- the ports on the way, or a dash where there is none
+abbrev pub vias_text : List Node → List Via → List ℕ
+vias_text nodes [] = codes "-"
+vias_text nodes (via ∷ vias) = spaced (map (via_text nodes) (via ∷ vias))
+
+abbrev pub down_head_text : Downed → List ℕ
+down_head_text downed =
+    codes "down " ++ hex_text downed.h ++ codes " region " ++ downed.name ++ codes " slot " ++ decimal downed.slot
+    ++ codes " position " ++ decimal downed.position ++ codes " via "
+
+abbrev pub down_end_text : List Node → Downed → List ℕ
+down_end_text nodes downed =
+    line (codes " endpoint " ++ node_text nodes downed.endpoint ++ codes " dpa " ++ hex_text downed.dpa)
+
+abbrev pub down_text : List Node → Downed → List ℕ
+down_text nodes downed =
+    down_head_text downed ++ vias_text nodes (take downed.len downed.via) ++ down_end_text nodes downed
+
+abbrev pub up_text : Upped → List ℕ
+up_text upped = line (codes "host " ++ hex_text upped.h ++ codes " region " ++ upped.name)
+
+-- ---- bytes
+
+abbrev pub loaded_text : List ℕ → List ℕ
+loaded_text bytes = line (codes "bytes " ++ bytes_text bytes)
+
+abbrev pub stored_text : ℕ → List ℕ
+stored_text len = line (codes "stored " ++ decimal len)
+
+-- ---- poison
+
+abbrev pub flag_text : Bool → List ℕ → List ℕ
+flag_text flag text = if flag then text else []
+
+abbrev pub overflow_text : Option ℕ → List ℕ
+overflow_text None = []
+overflow_text (Some timestamp) = codes " overflow " ++ decimal timestamp
+
+-- what a poison list says of itself
+abbrev pub flags_text : PoisonList → List ℕ
+flags_text list = flag_text list.more (codes " more") ++ overflow_text list.overflow ++ flag_text list.scanning (codes " scanning")
+
+abbrev pub list_text : List Node → ℕ → PoisonList → List ℕ
+list_text nodes endpoint list =
+    line (codes "poison " ++ node_text nodes endpoint ++ codes " records " ++ decimal (length list.records) ++ flags_text list)
+
+-- what found the poison (CXL media error record)
+abbrev pub source_text : ℕ → List ℕ
+source_text source =
+    if source == 0 then codes "unknown"
+    else (if source == 1 then codes "external"
+    else (if source == 2 then codes "internal"
+    else (if source == 3 then codes "injected"
+    else (if source == 7 then codes "vendor"
+    else decimal source))))
+
+abbrev pub entry_text : Entry → List ℕ
+entry_text entry =
+    line (codes "record " ++ hex_text entry.dpa ++ codes " length " ++ decimal (64 * entry.units) ++ codes " source " ++ source_text entry.source)
+
+-- a region by its place among the names
+abbrev pub region_text : List (List ℕ) → ℕ → List ℕ
+region_text names region = unwrap_or (slice_get names region) []
+
+abbrev pub part_text : List (List ℕ) → Part → List ℕ
+part_text names (parts.Run run) =
+    codes "run " ++ hex_text run.h ++ codes " " ++ decimal run.len ++ line (codes " region " ++ region_text names run.region)
+part_text names (parts.Wide wide) =
+    codes "wide " ++ hex_text wide.first ++ codes " " ++ hex_text wide.last ++ codes " " ++ decimal wide.count
+    ++ line (codes " region " ++ region_text names wide.region)
+
+abbrev pub unmapped_text : ℕ → List ℕ
+unmapped_text bytes = if bytes == 0 then [] else line (codes "unmapped " ++ decimal bytes)
+
+abbrev pub record_text : List (List ℕ) → Entry × Poisoned → List ℕ
+record_text names (entry, poisoned) =
+    entry_text entry ++ flat_map (part_text names) poisoned.parts ++ unmapped_text poisoned.unmapped
+
+abbrev pub report_text : List Node → Report → List ℕ
+report_text nodes report =
+    list_text nodes report.endpoint report.list ++ flat_map (record_text report.names) (zip report.list.records report.pieces)
+
+-- ---- jobs
+
+abbrev pub begun_text : Begun → List ℕ
+begun_text begun = line (codes "begun " ++ begun.name ++ codes " writes " ++ decimal begun.writes)
+
+abbrev pub progress_text : ℕ → ℕ → List ℕ
+progress_text done total = decimal done ++ codes " of " ++ decimal total
+
+abbrev pub stepped_text : Progress → List ℕ
+stepped_text progress = line (codes "stepped " ++ progress_text progress.done progress.total)
+
+abbrev pub aborted_text : List ℕ → List ℕ
+aborted_text name = line (codes "aborted " ++ name)
+
+-- ---- extents and spreads
+
+-- the endpoint of a slot
+abbrev pub slot_endpoint_text : List Node → List ℕ → ℕ → List ℕ
+slot_endpoint_text nodes endpoints slot = option_map_or (node_text nodes) (slice_get endpoints slot) []
+
+-- the host bytes of an extent
+unfoldable pub extent_bytes_text : Extent → List ℕ
+extent_bytes_text extent = codes "extent " ++ hex_text extent.h ++ codes " " ++ decimal extent.len
+
+abbrev pub extent_text : List Node → List ℕ → Extent → List ℕ
+extent_text nodes endpoints extent =
+    line (extent_bytes_text extent ++ codes " " ++ slot_endpoint_text nodes endpoints extent.slot ++ codes " " ++ hex_text extent.dpa)
+
+abbrev pub extents_text : List Node → Extents → List ℕ
+extents_text nodes extents = flat_map (extent_text nodes extents.endpoints) extents.extents
+
+abbrev pub share_text : List Node → ℕ × (ℕ × ℕ) → List ℕ
+share_text nodes (slot, (endpoint, bytes)) =
+    line (codes "slot " ++ decimal slot ++ codes " " ++ node_text nodes endpoint ++ codes " " ++ decimal bytes)
+
+-- one line for each slot
+abbrev pub shares_text : List Node → List ℕ → List ℕ → List ℕ
+shares_text nodes endpoints bytes = flat_map (share_text nodes) (enumerate_from 0 (zip endpoints bytes))
+
+abbrev pub spread_text : List Node → Spread → List ℕ
+spread_text nodes spread = shares_text nodes spread.endpoints spread.bytes
+
+-- ---- copies
+
+abbrev pub carried_text : List ℕ → Carried → List ℕ
+carried_text verb carried =
+    line (verb ++ codes " " ++ carried.from ++ codes " " ++ carried.to ++ codes " pieces " ++ decimal carried.pieces)

@@ -1,0 +1,32 @@
+//! The program's replies to commands: what each of them holds, and its text.
+#![tactic(auto)]
+
+mod address;
+mod changed;
+mod checked;
+mod plan;
+mod poison;
+mod refusal;
+mod region;
+mod reply;
+mod short_text;
+mod text;
+mod told;
+mod words;
+
+pub use changed::short;
+pub use checked::{put_breach, put_found};
+pub use cxl_enc::{FixedList, MemKind, Memory, Name};
+pub use cxl_model::{Extent, Found, PlanFault, PoisonList, Poisoned};
+pub use cxl_script::{BadLine, Why};
+pub use plan::put_plan;
+pub use reply::Reply;
+pub use short_text::ShortText;
+pub use text::put_reply;
+pub use told::{
+    Begun, Carried, Counted, Downed, Extents, Lack, Named, Pending, Progress, Report, Shown,
+    ShownRow, Sizes, Spot, Spread, Upped, Via,
+};
+
+#[cfg(test)]
+mod tests;

@@ -1,0 +1,177 @@
+ghost use Rattle.std.specs.Prelude.{◌≡◌, ◌<◌, ◌++◌, All, codes, length, OnOk};
+ghost use Rattle.std.specs.List.{flat_map, zip};
+ghost use Rattle.cxl_reply.specs.Words.{line};
+ghost use Rattle.cxl_reply.specs.Texts.{flag_text, overflow_text, flags_text, list_text, source_text, entry_text, region_text, part_text, unmapped_text, record_text, report_text};
+ghost use Rattle.cxl_reply.specs.Told.{region_of, IsToldReport};
+
+use crate::refusal::put_text;
+use crate::told::Report;
+use crate::words::{put_address, put_node};
+use cxl_enc::{Memory, Name};
+use cxl_io::put_number;
+use cxl_model::{Entry, Part, PoisonList, Poisoned};
+use cxl_topo::Topo;
+
+/// Appends a poison list, and for each record the host bytes that it touches.
+pub(crate) fn put_report(report: &Report, topo: &Topo, out: &mut Vec<u8>) -> Result<(), Memory>
+    requires { IsToldReport topo.now.nodes report.now }
+    ensures { OnOk result (out.new.items ≡ out.old.items ++ report_text topo.now.nodes report.now) }
+{
+    put_list(report.endpoint, &report.list, topo, out)?;
+    let records = report.list.records.items();
+    put_records(records, report.pieces.items(), report.names.items(), out)
+}
+
+fn put_list(endpoint: u32, list: &PoisonList, topo: &Topo, out: &mut Vec<u8>) -> Result<(), Memory>
+    requires { endpoint < length topo.now.nodes }
+    ensures { OnOk result (out.new.items ≡ out.old.items ++ list_text topo.now.nodes endpoint list.now) }
+{
+    out.extend_from_slice(b"poison ")?;
+    put_node(endpoint, topo, out)?;
+    out.extend_from_slice(b" records ")?;
+    put_number(out, list.records.items().len() as u64)?;
+    put_flags(list, out)?;
+    out.push(b'\n')?;
+    Ok(())
+}
+
+/// Appends what a poison list says of itself.
+fn put_flags(list: &PoisonList, out: &mut Vec<u8>) -> Result<(), Memory>
+    ensures { OnOk result (out.new.items ≡ out.old.items ++ flags_text list.now) }
+{
+    put_flag(list.more, b" more", out)?;
+    put_overflow(list.overflow, out)?;
+    put_flag(list.scanning, b" scanning", out)
+}
+
+fn put_flag(flag: bool, text: &[u8], out: &mut Vec<u8>) -> Result<(), Memory>
+    ensures { OnOk result (out.new.items ≡ out.old.items ++ flag_text flag text.now) }
+{
+    if flag { put_text(text, out) } else { Ok(()) }
+}
+
+fn put_overflow(overflow: Option<u64>, out: &mut Vec<u8>) -> Result<(), Memory>
+    ensures { OnOk result (out.new.items ≡ out.old.items ++ overflow_text overflow) }
+{
+    match overflow {
+        None => Ok(()),
+        Some(timestamp) => {
+            out.extend_from_slice(b" overflow ")?;
+            put_number(out, timestamp)
+        }
+    }
+}
+
+fn put_records(
+    records: &[Entry],
+    pieces: &[Poisoned],
+    names: &[Name],
+    out: &mut Vec<u8>,
+) -> Result<(), Memory>
+    requires len { length pieces.now ≡ length records.now }
+    requires regions { All (λ poisoned. All (λ part. region_of part < length names.now) poisoned.parts) pieces.now }
+    ensures { OnOk result (out.new.items ≡ out.old.items ++ flat_map (record_text names.now) (zip records.now pieces.now)) }
+{
+    for (i, entry) in records.iter().enumerate() {
+        put_record(entry, &pieces[i], names, out)?;
+    }
+    Ok(())
+}
+
+fn put_record(
+    entry: &Entry,
+    poisoned: &Poisoned,
+    names: &[Name],
+    out: &mut Vec<u8>,
+) -> Result<(), Memory>
+    requires { All (λ part. region_of part < length names.now) poisoned.now.parts }
+    ensures { OnOk result (out.new.items ≡ out.old.items ++ record_text names.now (entry.now, poisoned.now)) }
+{
+    put_entry(entry, out)?;
+    put_parts(poisoned.parts.items(), names, out)?;
+    put_unmapped(poisoned.unmapped, out)
+}
+
+fn put_entry(entry: &Entry, out: &mut Vec<u8>) -> Result<(), Memory>
+    ensures { OnOk result (out.new.items ≡ out.old.items ++ entry_text entry.now) }
+{
+    out.extend_from_slice(b"record ")?;
+    put_address(entry.dpa, out)?;
+    out.extend_from_slice(b" length ")?;
+    put_number(out, 64 * u64::from(entry.units))?;
+    out.extend_from_slice(b" source ")?;
+    put_source(entry.source, out)?;
+    out.push(b'\n')?;
+    Ok(())
+}
+
+/// Appends what found the poison, or the number of a source that has no name.
+fn put_source(source: u8, out: &mut Vec<u8>) -> Result<(), Memory>
+    ensures { OnOk result (out.new.items ≡ out.old.items ++ source_text source) }
+{
+    match source {
+        0 => put_text(b"unknown", out),
+        1 => put_text(b"external", out),
+        2 => put_text(b"internal", out),
+        3 => put_text(b"injected", out),
+        7 => put_text(b"vendor", out),
+        _ => put_number(out, u64::from(source)),
+    }
+}
+
+fn put_parts(parts: &[Part], names: &[Name], out: &mut Vec<u8>) -> Result<(), Memory>
+    requires { All (λ part. region_of part < length names.now) parts.now }
+    ensures { OnOk result (out.new.items ≡ out.old.items ++ flat_map (part_text names.now) parts.now) }
+{
+    for part in parts {
+        put_part(part, names, out)?;
+    }
+    Ok(())
+}
+
+fn put_part(part: &Part, names: &[Name], out: &mut Vec<u8>) -> Result<(), Memory>
+    requires { region_of part.now < length names.now }
+    ensures { OnOk result (out.new.items ≡ out.old.items ++ part_text names.now part.now) }
+{
+    match part {
+        Part::Run(run) => {
+            out.extend_from_slice(b"run ")?;
+            put_address(run.h, out)?;
+            out.push(b' ')?;
+            put_number(out, run.len)?;
+            put_region(run.region, names, out)
+        }
+        Part::Wide(wide) => {
+            out.extend_from_slice(b"wide ")?;
+            put_address(wide.first, out)?;
+            out.push(b' ')?;
+            put_address(wide.last, out)?;
+            out.push(b' ')?;
+            put_number(out, wide.count)?;
+            put_region(wide.region, names, out)
+        }
+    }
+}
+
+/// Appends the end of a line that tells a region by its place among the names.
+fn put_region(region: u32, names: &[Name], out: &mut Vec<u8>) -> Result<(), Memory>
+    requires { region < length names.now }
+    ensures { OnOk result (out.new.items ≡ out.old.items ++ line (codes " region " ++ region_text names.now region)) }
+{
+    out.extend_from_slice(b" region ")?;
+    out.extend_from_slice(names[region as usize].bytes())?;
+    out.push(b'\n')?;
+    Ok(())
+}
+
+fn put_unmapped(bytes: u64, out: &mut Vec<u8>) -> Result<(), Memory>
+    ensures { OnOk result (out.new.items ≡ out.old.items ++ unmapped_text bytes) }
+{
+    if bytes == 0 {
+        return Ok(());
+    }
+    out.extend_from_slice(b"unmapped ")?;
+    put_number(out, bytes)?;
+    out.push(b'\n')?;
+    Ok(())
+}

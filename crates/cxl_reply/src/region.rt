@@ -1,0 +1,121 @@
+ghost use Rattle.std.specs.Prelude.{◌≡◌, ◌<◌, ◌≤◌, ◌++◌, All, length, map, OnOk, OnErr};
+ghost use Rattle.std.specs.List.{flat_map, enumerate_from};
+ghost use Rattle.cxl_reply.specs.Words.{more_spaced};
+ghost use Rattle.cxl_reply.specs.Texts.{shown_head_text, layout_text, row_text, word_text, words_text, slot_text, slots_text, shown_text};
+ghost use Rattle.cxl_reply.specs.Told.{IsToldFound, IsToldShown};
+
+use crate::short_text::ShortText;
+use crate::told::{Shown, ShownRow};
+use crate::words::{kind_text, put_address, put_node};
+use cxl_enc::Memory;
+use cxl_io::{put_hex, put_number};
+use cxl_model::{Found, Place};
+use cxl_topo::Topo;
+
+/// Appends a region with its registers and its slots.
+pub(crate) fn put_shown(shown: &Shown, topo: &Topo, out: &mut Vec<u8>) -> Result<(), Memory>
+    requires { IsToldShown topo.now.nodes shown.now }
+    ensures { OnOk result (out.new.items ≡ out.old.items ++ shown_text topo.now.nodes shown.now) }
+{
+    put_shown_head(shown, out)?;
+    put_rows(shown.rows.items(), topo, out)?;
+    put_slots(shown.found.spans.items(), topo, out)
+}
+
+fn put_shown_head(shown: &Shown, out: &mut Vec<u8>) -> Result<(), Memory>
+    requires { shown.now.found.gran ≤ 6 }
+    ensures { OnOk result (out.new.items ≡ out.old.items ++ shown_head_text shown.now) }
+{
+    out.extend_from_slice(b"region ")?;
+    out.extend_from_slice(shown.name.bytes())?;
+    out.push(b' ')?;
+    out.extend_from_slice(kind_text(shown.found.kind))?;
+    out.push(b' ')?;
+    put_layout(&shown.found, out)?;
+    out.push(b'\n')?;
+    Ok(())
+}
+
+/// Appends where a region lies, and how it interleaves.
+pub(crate) fn put_layout(found: &Found, out: &mut Vec<u8>) -> Result<(), Memory>
+    requires { found.now.gran ≤ 6 }
+    ensures { OnOk result (out.new.items ≡ out.old.items ++ layout_text found.now.window found.now.base found.now.size found.now.gran found.now.ways) }
+{
+    let mut layout = ShortText::new();
+    layout.put_layout(found.window, found.base, found.size, found.gran, found.ways);
+    out.extend_from_slice(layout.bytes())?;
+    Ok(())
+}
+
+fn put_rows(rows: &[ShownRow], topo: &Topo, out: &mut Vec<u8>) -> Result<(), Memory>
+    requires { All (λ row. row.node < length topo.now.nodes) rows.now }
+    ensures { OnOk result (out.new.items ≡ out.old.items ++ flat_map (row_text topo.now.nodes) rows.now) }
+{
+    for row in rows {
+        put_row(row, topo, out)?;
+    }
+    Ok(())
+}
+
+fn put_row(row: &ShownRow, topo: &Topo, out: &mut Vec<u8>) -> Result<(), Memory>
+    requires { row.now.node < length topo.now.nodes }
+    ensures { OnOk result (out.new.items ≡ out.old.items ++ row_text topo.now.nodes row.now) }
+{
+    out.extend_from_slice(b"node ")?;
+    put_node(row.node, topo, out)?;
+    out.push(b' ')?;
+    put_number(out, u64::from(row.decoder))?;
+    out.push(b' ')?;
+    put_words(&row.words, out)?;
+    out.push(b'\n')?;
+    Ok(())
+}
+
+/// Appends words of eight hexadecimal digits, with spaces between.
+fn put_words(words: &[u32], out: &mut Vec<u8>) -> Result<(), Memory>
+    ensures { OnOk result (out.new.items ≡ out.old.items ++ words_text words.now) }
+{
+    match words {
+        [] => Ok(()),
+        [first, others @ ..] => {
+            put_hex(out, u64::from(*first), 8)?;
+            put_more_words(others, out)
+        }
+    }
+}
+
+/// Appends words of eight hexadecimal digits, each behind a space.
+fn put_more_words(words: &[u32], out: &mut Vec<u8>) -> Result<(), Memory>
+    ensures { OnOk result (out.new.items ≡ out.old.items ++ more_spaced (map word_text words.now)) }
+{
+    for word in words {
+        out.push(b' ')?;
+        put_hex(out, u64::from(*word), 8)?;
+    }
+    Ok(())
+}
+
+/// Appends a line for each slot.
+pub(crate) fn put_slots(places: &[Place], topo: &Topo, out: &mut Vec<u8>) -> Result<(), Memory>
+    requires { All (λ place. place.endpoint < length topo.now.nodes) places.now }
+    ensures { OnOk result (out.new.items ≡ out.old.items ++ slots_text topo.now.nodes places.now) }
+{
+    for (slot, place) in places.iter().enumerate() {
+        put_slot(slot, place, topo, out)?;
+    }
+    Ok(())
+}
+
+fn put_slot(slot: usize, place: &Place, topo: &Topo, out: &mut Vec<u8>) -> Result<(), Memory>
+    requires { place.now.endpoint < length topo.now.nodes }
+    ensures { OnOk result (out.new.items ≡ out.old.items ++ slot_text topo.now.nodes (slot, place.now)) }
+{
+    out.extend_from_slice(b"slot ")?;
+    put_number(out, slot as u64)?;
+    out.push(b' ')?;
+    put_node(place.endpoint, topo, out)?;
+    out.push(b' ')?;
+    put_address(place.start, out)?;
+    out.push(b'\n')?;
+    Ok(())
+}

@@ -1,0 +1,40 @@
+ghost use Rattle.std.specs.Prelude.{◌≡◌, ◌<◌, ◌≤◌, ◌++◌, length, OnOk};
+ghost use Rattle.cxl_reply.specs.Words.{hex_text, gran_text, kind_text, node_text};
+
+use cxl_enc::{MemKind, Memory, gran_of};
+use cxl_io::{put_hex, put_number};
+use cxl_topo::Topo;
+
+/// Appends a node's name.
+pub(crate) fn put_node(node: u32, topo: &Topo, out: &mut Vec<u8>) -> Result<(), Memory>
+    requires { node < length topo.now.nodes }
+    ensures { OnOk result (out.new.items ≡ out.old.items ++ node_text topo.now.nodes node) }
+{
+    out.extend_from_slice(topo.node(node).name.bytes())?;
+    Ok(())
+}
+
+/// Appends an address or a size in hexadecimal digits, behind `0x`.
+pub(crate) fn put_address(address: u64, out: &mut Vec<u8>) -> Result<(), Memory>
+    ensures { OnOk result (out.new.items ≡ out.old.items ++ hex_text address) }
+{
+    out.extend_from_slice(b"0x")?;
+    put_hex(out, address, 1)
+}
+
+/// Appends the bytes of a granularity code.
+pub(crate) fn put_gran(code: u8, out: &mut Vec<u8>) -> Result<(), Memory>
+    requires { code ≤ 6 }
+    ensures { OnOk result (out.new.items ≡ out.old.items ++ gran_text code) }
+{
+    put_number(out, u64::from(gran_of(code).unwrap()))
+}
+
+pub(crate) fn kind_text(kind: MemKind) -> &'static [u8]
+    ensures { result.now ≡ kind_text kind }
+{
+    match kind {
+        MemKind::Ram => b"ram",
+        MemKind::Pmem => b"pmem",
+    }
+}

@@ -1,0 +1,4 @@
+pub mod WordLemmas
+pub mod HexBytes
+pub mod Grans
+pub mod NameLists

@@ -1,0 +1,66 @@
+-- Each verb's arm: the word is the text that its bytes spell.
+use Rattle.std.proofs.Common.{sym, ap, arith, rules}
+use Rattle.std.specs.Prelude.{codes}
+use Rattle.std.proofs.lemmas.Slice.Eq.{text_from_reads}
+use Rattle.cxl_script.specs.Verbs.{verb_of}
+use Rattle.cxl_script.proofs.verb.verb_of.Goals as goal
+
+pub returns-in-create : goal.returns-in-create
+returns-in-create c =
+    sym (ap verb_of (text_from_reads c.args.word.now (codes "create") (omega arith) (omega arith, (omega arith, (omega arith, (omega arith, (omega arith, (omega arith, tt))))))))
+
+pub returns-in-destroy : goal.returns-in-destroy
+returns-in-destroy c =
+    sym (ap verb_of (text_from_reads c.args.word.now (codes "destroy") (omega arith) (omega arith, (omega arith, (omega arith, (omega arith, (omega arith, (omega arith, (omega arith, tt)))))))))
+
+pub returns-in-show : goal.returns-in-show
+returns-in-show c =
+    sym (ap verb_of (text_from_reads c.args.word.now (codes "show") (omega arith) (omega arith, (omega arith, (omega arith, (omega arith, tt))))))
+
+pub returns-in-down : goal.returns-in-down
+returns-in-down c =
+    sym (ap verb_of (text_from_reads c.args.word.now (codes "down") (omega arith) (omega arith, (omega arith, (omega arith, (omega arith, tt))))))
+
+pub returns-in-up : goal.returns-in-up
+returns-in-up c =
+    sym (ap verb_of (text_from_reads c.args.word.now (codes "up") (omega arith) (omega arith, (omega arith, tt))))
+
+pub returns-in-load : goal.returns-in-load
+returns-in-load c =
+    sym (ap verb_of (text_from_reads c.args.word.now (codes "load") (omega arith) (omega arith, (omega arith, (omega arith, (omega arith, tt))))))
+
+pub returns-in-store : goal.returns-in-store
+returns-in-store c =
+    sym (ap verb_of (text_from_reads c.args.word.now (codes "store") (omega arith) (omega arith, (omega arith, (omega arith, (omega arith, (omega arith, tt)))))))
+
+pub returns-in-poison : goal.returns-in-poison
+returns-in-poison c =
+    sym (ap verb_of (text_from_reads c.args.word.now (codes "poison") (omega arith) (omega arith, (omega arith, (omega arith, (omega arith, (omega arith, (omega arith, tt))))))))
+
+pub returns-in-begin : goal.returns-in-begin
+returns-in-begin c =
+    sym (ap verb_of (text_from_reads c.args.word.now (codes "begin") (omega arith) (omega arith, (omega arith, (omega arith, (omega arith, (omega arith, tt)))))))
+
+pub returns-in-step : goal.returns-in-step
+returns-in-step c =
+    sym (ap verb_of (text_from_reads c.args.word.now (codes "step") (omega arith) (omega arith, (omega arith, (omega arith, (omega arith, tt))))))
+
+pub returns-in-abort : goal.returns-in-abort
+returns-in-abort c =
+    sym (ap verb_of (text_from_reads c.args.word.now (codes "abort") (omega arith) (omega arith, (omega arith, (omega arith, (omega arith, (omega arith, tt)))))))
+
+pub returns-in-range : goal.returns-in-range
+returns-in-range c =
+    sym (ap verb_of (text_from_reads c.args.word.now (codes "range") (omega arith) (omega arith, (omega arith, (omega arith, (omega arith, (omega arith, tt)))))))
+
+pub returns-in-spread : goal.returns-in-spread
+returns-in-spread c =
+    sym (ap verb_of (text_from_reads c.args.word.now (codes "spread") (omega arith) (omega arith, (omega arith, (omega arith, (omega arith, (omega arith, (omega arith, tt))))))))
+
+pub returns-in-copy : goal.returns-in-copy
+returns-in-copy c =
+    sym (ap verb_of (text_from_reads c.args.word.now (codes "copy") (omega arith) (omega arith, (omega arith, (omega arith, (omega arith, tt))))))
+
+pub returns-in-move : goal.returns-in-move
+returns-in-move c =
+    sym (ap verb_of (text_from_reads c.args.word.now (codes "move") (omega arith) (omega arith, (omega arith, (omega arith, (omega arith, tt))))))

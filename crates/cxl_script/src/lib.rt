@@ -1,0 +1,20 @@
+//! Scripts: what a line asks for, or the first place at which it asks for nothing.
+#![tactic(auto)]
+
+mod command;
+mod create;
+mod fault;
+mod limits;
+mod line;
+mod reading;
+mod verb;
+mod words;
+
+pub use command::{Command, Create, Load, Pair, Poison, Reach, Store, Up};
+pub use cxl_enc::{FixedList, MemKind, Memory, Name};
+pub use fault::{BadLine, LineFault, Why};
+pub use limits::LINE_LIMIT;
+pub use line::read_command;
+
+#[cfg(test)]
+mod tests;
