@@ -22,7 +22,7 @@ pub use mem_fetch::MemFetch;
 pub use mem_sink::MemSink;
 pub use mem_source::MemSource;
 pub use number::{NumFault, read_number};
-pub use print::{put_hex, put_number};
+pub use print::{put_hex, put_number, write_hex};
 pub use sink::{Sink, write_all, writes_join};
 pub use source::Source;
 pub use std_fetch::StdFetch;

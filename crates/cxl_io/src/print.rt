@@ -38,7 +38,7 @@ pub fn put_hex(out: &mut Vec<u8>, n: u64, width: u8) -> Result<(), Memory>
 }
 
 /// Writes the hexadecimal digits at the end of the text, and answers where they start.
-fn write_hex(n: u64, text: &mut [u8; 16]) -> usize
+pub fn write_hex(n: u64, text: &mut [u8; 16]) -> usize
     ensures start { result + length (hex_of n) ≡ 16 }
     ensures written { drop result text.new ≡ hex_of n }
     ensures before { take result text.new ≡ take result text.old }
