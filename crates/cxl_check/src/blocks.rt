@@ -1,15 +1,15 @@
 //! K2 to K8: each block by itself.
 
-ghost use Rattle.std.specs.Prelude.{◌≡◌, ◌+◌, ◌<◌, ◌≤◌, [], length};
-ghost use Rattle.cxl_enc.specs.Limits.{address_limit};
+ghost use Rattle.std.specs.Prelude.{◌<◌, length};
 ghost use Rattle.cxl_image.specs.Images.{HasCapsOf};
-ghost use Rattle.cxl_model.specs.System.{System, system_of, ram_at, pmem_at};
+ghost use Rattle.cxl_model.specs.System.{System, system_of};
 ghost use Rattle.cxl_check.specs.inner.Blocks.{IsFoundOfNode, IsFoundBelow};
 
 use crate::fault::Breach;
 use cxl_image::Image;
+use cxl_model::capacity_at;
 use cxl_span::{BlockBreach, block_breach};
-use cxl_topo::{Capacity, NodeKind, Topo};
+use cxl_topo::Topo;
 use cxl_window::Window;
 
 /// The first breach of K2 to K8.
@@ -53,19 +53,4 @@ fn earlier(first: Option<Breach>, node: u32, found: Option<BlockBreach>) -> Opti
         node,
         decoder: found.decoder,
     })
-}
-
-/// The bytes of a node's device; a port has none.
-pub(crate) fn capacity_at(topo: &Topo, node: u32) -> Capacity
-    requires { node < length topo.now.nodes }
-    ensures ram { result.ram ≡ ram_at (system_of [] topo.now []) node }
-    ensures pmem { result.pmem ≡ pmem_at (system_of [] topo.now []) node }
-    ensures small { result.ram + result.pmem ≤ address_limit }
-{
-    // A legal tree has legal capacities.
-    let _count = topo.count();
-    match topo.node(node).kind {
-        NodeKind::Endpoint(capacity) => capacity,
-        NodeKind::Bridge(_) | NodeKind::Switch => Capacity { ram: 0, pmem: 0 },
-    }
 }

@@ -5,7 +5,7 @@ ghost use Rattle.cxl_model.specs.Accepted.{IsAccepted, IsFirstBreach, HasFirstBr
 ghost use Rattle.cxl_model.specs.Listed.{AreRegionsByBase};
 ghost use Rattle.cxl_check.specs.Spots.{TellsFirstBreach};
 ghost use Rattle.cxl_check.specs.inner.Ready.{IsReady};
-ghost use Rattle.cxl_check.specs.inner.Facts.{AreTables};
+ghost use Rattle.cxl_check.specs.inner.Facts.{AreSystemTables};
 
 use crate::blocks::blocks_breach;
 use crate::caps::caps_breach;
@@ -77,7 +77,7 @@ fn early_breach(image: &Image, topo: &Topo, windows: &[Window]) -> Option<Breach
 /// The first breach of K9 to K12, which speak of ranges.
 fn late_breach(image: &Image, topo: &Topo, windows: &[Window], tables: &Tables) -> Option<Breach>
     requires ready { IsReady (system_of image.now topo.now windows.now) }
-    requires tables { AreTables (system_of image.now topo.now windows.now) tables.now }
+    requires tables { AreSystemTables (system_of image.now topo.now windows.now) tables.now }
     ensures none { IfNone result (IsAccepted (system_of image.now topo.now windows.now)) }
     ensures first { IfSome result
         (λ b. IsFirstBreach (system_of image.now topo.now windows.now) b.rule b.node b.decoder) }

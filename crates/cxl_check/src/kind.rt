@@ -7,9 +7,9 @@ ghost use Rattle.cxl_model.specs.System.{system_of, decoders_at, decoder_at};
 ghost use Rattle.cxl_model.specs.Ranges.{span_kind};
 ghost use Rattle.cxl_check.specs.inner.Ready.{IsReady};
 
-use crate::blocks::capacity_at;
 use cxl_enc::MemKind;
 use cxl_image::Image;
+use cxl_model::capacity_at;
 use cxl_span::{spans_lie_in_partitions, start_of};
 use cxl_topo::Topo;
 use cxl_window::Window;

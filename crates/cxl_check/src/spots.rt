@@ -5,7 +5,7 @@ ghost use Rattle.cxl_model.specs.System.{system_of, decoder_at};
 ghost use Rattle.cxl_model.specs.Accepted.{breaks};
 ghost use Rattle.cxl_check.specs.Spots.{Keeps, IsFirstSpot};
 ghost use Rattle.cxl_check.specs.inner.Ready.{IsReady, IsCommitted};
-ghost use Rattle.cxl_check.specs.inner.Facts.{AreTables, keeps_rule};
+ghost use Rattle.cxl_check.specs.inner.Facts.{AreSystemTables, keeps_rule};
 
 use crate::reach::keeps_reach;
 use crate::tables::Tables;
@@ -33,7 +33,7 @@ pub(crate) fn first_spot(
     rule: u8,
 ) -> Option<Spot>
     requires ready { IsReady (system_of image.now topo.now windows.now) }
-    requires tables { AreTables (system_of image.now topo.now windows.now) tables.now }
+    requires tables { AreSystemTables (system_of image.now topo.now windows.now) tables.now }
     requires from { 9 ≤ rule }
     requires to { rule < 13 }
     ensures none { IfNone result (Keeps (system_of image.now topo.now windows.now) rule) }
@@ -58,7 +58,7 @@ fn first_decoder(
     node: u32,
 ) -> Option<u8>
     requires ready { IsReady (system_of image.now topo.now windows.now) }
-    requires tables { AreTables (system_of image.now topo.now windows.now) tables.now }
+    requires tables { AreSystemTables (system_of image.now topo.now windows.now) tables.now }
     requires from { 9 ≤ rule }
     requires to { rule < 13 }
     requires here { node < length topo.now.nodes }
@@ -96,7 +96,7 @@ fn breaks_rule(
     d: &Decoder,
 ) -> bool
     requires ready { IsReady (system_of image.now topo.now windows.now) }
-    requires tables { AreTables (system_of image.now topo.now windows.now) tables.now }
+    requires tables { AreSystemTables (system_of image.now topo.now windows.now) tables.now }
     requires here { node < length topo.now.nodes }
     requires there { decoder_at (system_of image.now topo.now windows.now) node i ≡ Some d.now }
     ensures { result ≡ (d.now.committed && not (keeps_rule (system_of image.now topo.now windows.now) rule node i d.now)) }
@@ -116,7 +116,7 @@ fn keeps_rule(
     d: &Decoder,
 ) -> bool
     requires ready { IsReady (system_of image.now topo.now windows.now) }
-    requires tables { AreTables (system_of image.now topo.now windows.now) tables.now }
+    requires tables { AreSystemTables (system_of image.now topo.now windows.now) tables.now }
     requires here { node < length topo.now.nodes }
     requires committed { IsCommitted (system_of image.now topo.now windows.now) node i d.now }
     ensures { result ≡ keeps_rule (system_of image.now topo.now windows.now) rule node i d.now }

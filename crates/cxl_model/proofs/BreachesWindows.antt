@@ -8,7 +8,7 @@ use Rattle.cxl_window.specs.declared.window.Verdict.{Verdict}
 use Rattle.cxl_window.specs.declared.window.Verdict.TheVariants.{Usable, Align, Size, TooHigh, Overlap, Target, Repeat, Maps}
 use Rattle.cxl_window.specs.Position.{is_usable}
 use Rattle.cxl_window.specs.Windows.{AreMadeWith}
-use Rattle.cxl_model.specs.System.{System, IsSystem, bridge_uids}
+use Rattle.cxl_model.specs.System.{System, bridge_uids}
 use Rattle.cxl_regs.specs.declared.reading.Range.{Range}
 use Rattle.cxl_model.specs.Ranges.{lies_within}
 
@@ -45,16 +45,15 @@ at_index windows w indexed there =
     let here : slice_get windows there.0 ≡ Some w = slice_get_read windows (length windows) there.0 w refl there.1 (sym there.2) in
     ap (slice_get windows) (indexed there.0 w here) ∙ here
 
-pub one_window : (s : System) (r : Range) (w v : WindowFields) → IsSystem s → 0 < r.size → Contains s.windows w → Contains s.windows v
+pub one_window : (s : System) (r : Range) (w v : WindowFields) → AreMadeWith s.windows (bridge_uids s.nodes) → 0 < r.size → Contains s.windows w → Contains s.windows v
     → lies_within r w ≡ true → lies_within r v ≡ true → w ≡ v
-one_window s r w v system some w_there v_there w_lies v_lies =
+one_window s r w v made some w_there v_there w_lies v_lies =
     let a = lies_in r w w_lies in
     let b = lies_in r v v_lies in
     let a_from = a.from in
     let a_to = a.to in
     let b_from = b.from in
     let b_to = b.to in
-    let made : AreMadeWith s.windows (bridge_uids s.nodes) = system.made in
     let same : w.index ≡ v.index = made.apart w v w_there v_there r.base a.usable b.usable a_from (omega (arith, a_to, some)) b_from (omega (arith, b_to, some)) in
     let w_at = at_index s.windows w made.indexed w_there in
     let v_at = at_index s.windows v made.indexed v_there in

@@ -4,7 +4,7 @@ use Rattle.std.proofs.lemmas.Bool.{eq-eqb}
 use Rattle.cxl_regs.specs.declared.decoder.Decoder.{Decoder}
 use Rattle.cxl_model.specs.declared.chain.Step.{Step}
 use Rattle.cxl_model.specs.System.{System, decoders_at, decoder_at}
-use Rattle.cxl_model.specs.Chain.{Arrival, End, Arrives, Misses, Places, IsArrival, Walk, on_forwarding, on_step, at_end, Routing, Routed, outcome_by, Chain, unheld, held}
+use Rattle.cxl_model.specs.Chain.{Arrival, End, Arrives, Misses, Places, IsArrival, Walk, on_forwarding, on_step, at_end, Routing, Routed, chain_end_by, Chain, unheld, held}
 use Rattle.cxl_regs.specs.Reading.{range_of, has_range}
 use Rattle.cxl_regs.specs.declared.reading.Range.{Range}
 use Rattle.cxl_model.specs.Ranges.{IsCommittedRange}
@@ -48,7 +48,7 @@ of_arrival s h n arrival is =
       below = parts.below;
     }
 
-by_end : (s : System) (h index position : ℕ) (steps : List Step) (end : End) (route : Routing) → Reached s h end → Routed route ≡ outcome_by index position steps end
+by_end : (s : System) (h index position : ℕ) (steps : List Step) (end : End) (route : Routing) → Reached s h end → Routed route ≡ chain_end_by index position steps end
     → InRange s h route.arrival.base
 by_end s h index position steps (Arrives arrival) route reached is =
     let same : route ≡ record { window = index; position = position; steps = steps; arrival = arrival } = cc in

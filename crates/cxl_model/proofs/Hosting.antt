@@ -9,7 +9,10 @@ use Rattle.cxl_topo.specs.Kinds.{is_endpoint}
 use Rattle.cxl_regs.specs.Registers.{Registers, IsBlock}
 use Rattle.cxl_model.specs.System.{System, IsSystem}
 use Rattle.cxl_model.specs.Hosts.{IsHost}
+use Rattle.cxl_window.specs.Fields.{WindowFields}
+use Rattle.cxl_model.specs.declared.found.Found.{Found}
 use Rattle.cxl_model.specs.Accepted.{breaks, breaks_caps}
+use Rattle.cxl_model.specs.Regions.{IsRegionIn}
 
 -- no targets are no number of targets that a port has
 some_targets : (n : ℕ) → (n == 0) ≡ true → is_target_count n ≡ true → ⊥
@@ -102,3 +105,7 @@ module _ (s : System) where
       item [] i lt = absurd (omega arith)
       item (x ∷ xs) zero lt = (x, refl)
       item (x ∷ xs) (suc i) lt = item xs i (omega arith)
+
+-- an image that has a region is a system
+pub region_system : (s : System) (w : WindowFields) (found : Found) → IsHost s → IsRegionIn s w found → IsSystem s
+region_system s w found host region = system s host (λ n i. region.whole.blocks 1 n i (omega (arith)))

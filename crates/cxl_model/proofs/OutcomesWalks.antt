@@ -1,4 +1,4 @@
--- An address has one way down, and one outcome.
+-- An address has one way down, and its chain one end.
 use Rattle.std.proofs.Common.{◌≡◌, ℕ, ◌+◌, ◌<◌, ◌≤◌, Bool, true, false, ◌&&◌, if◌then◌else◌, List, ◌∷◌, Some, None, refl, sym, ap, ◌∙◌, subst, Contains}
 use Rattle.std.specs.Prelude.{slice_get, nat_lt, nat_le}
 use Rattle.std.proofs.lemmas.Bool.{and_parts, leb-true, ltb-true}
@@ -12,7 +12,7 @@ use Rattle.cxl_window.specs.Position.{is_usable, holds, position_at, position_of
 use Rattle.cxl_window.specs.Windows.{AreMadeWith}
 use Rattle.cxl_model.specs.declared.chain.Step.{Step}
 use Rattle.cxl_model.specs.System.{System, bridge_uids}
-use Rattle.cxl_model.specs.Chain.{End, Move, Forwards, Steps, Ends, Walk, on_forwarding, on_step, at_end, Outcome, outcome_by, Targets, Chain, unheld, held}
+use Rattle.cxl_model.specs.Chain.{End, Move, Forwards, Steps, Ends, Walk, on_forwarding, on_step, at_end, ChainEnd, chain_end_by, Targets, Chain, unheld, held}
 use Rattle.cxl_model.proofs.Outcomes.{RangesRise, value_of, one_value, one_move}
 
 -- ---- the way down
@@ -122,30 +122,30 @@ one_position : (s : System) (h : ℕ) (w : WindowFields) (position other bridge 
     → position ≡ other
 one_position s h w position other bridge way one two = one_value (position_at w h) position other one.holds two.holds
 
--- ---- the outcome
+-- ---- the end
 
 same_outcomes : (index position : ℕ) (steps others : List Step) (end other : End) → SameWay steps others end other
-    → outcome_by index position steps end ≡ outcome_by index position others other
+    → chain_end_by index position steps end ≡ chain_end_by index position others other
 same_outcomes index position steps others end other way =
     let a = way.steps in
     let b = way.end in
-    λ i. outcome_by index position (a i) (b i)
+    λ i. chain_end_by index position (a i) (b i)
 
 one_of_window : RangesRise → (s : System) (h : ℕ) (w : WindowFields) (position other bridge way : ℕ) (steps others : List Step) (end ending : End)
     → Targets s h w position bridge → Targets s h w other way → Walk s h bridge steps end → Walk s h way others ending
-    → outcome_by w.index position steps end ≡ outcome_by w.index other others ending
+    → chain_end_by w.index position steps end ≡ chain_end_by w.index other others ending
 one_of_window rise s h w position other bridge way steps others end ending one two walk walks =
     let place : position ≡ other = one_position s h w position other bridge way one two in
     let moved : Targets s h w other bridge = subst (λ (p : ℕ). Targets s h w p bridge) place one in
     let same : bridge ≡ way = one_bridge s h w other bridge way moved two in
-    ap (λ (p : ℕ). outcome_by w.index p steps end) place
+    ap (λ (p : ℕ). chain_end_by w.index p steps end) place
     ∙ same_outcomes w.index other steps others end ending (one_way rise s h bridge steps others end ending walk (from_child s h bridge way others ending same walks))
 
 not_held : (s : System) (h : ℕ) (w : WindowFields) (position bridge : ℕ)
     → ((i : ℕ) (v : WindowFields) → slice_get s.windows i ≡ Some v → position_at v h ≡ None) → Targets s h w position bridge → ⊥
 not_held s h w position bridge none targets = none-some position (sym (none w.index w targets.there) ∙ targets.holds)
 
-pub one_chain : RangesRise → (s : System) (h : ℕ) (one other : Outcome) → AreMadeWith s.windows (bridge_uids s.nodes) → Chain s h one → Chain s h other → one ≡ other
+pub one_chain : RangesRise → (s : System) (h : ℕ) (one other : ChainEnd) → AreMadeWith s.windows (bridge_uids s.nodes) → Chain s h one → Chain s h other → one ≡ other
 one_chain rise s h one other is (unheld none a) (unheld _ b) = a ∙ sym b
 one_chain rise s h one other is (unheld none a) (held w position bridge steps end targets walk b) = absurd (not_held s h w position bridge none targets)
 one_chain rise s h one other is (held w position bridge steps end targets walk a) (unheld none b) = absurd (not_held s h w position bridge none targets)
@@ -153,6 +153,6 @@ one_chain rise s h one other is (held w position bridge steps end targets walk a
     let window : w ≡ v = one_held s h w v position place bridge way is targets goals in
     let moved : Targets s h v position bridge = subst (λ (x : WindowFields). Targets s h x position bridge) window targets in
     a
-    ∙ ap (λ (x : WindowFields). outcome_by x.index position steps end) window
+    ∙ ap (λ (x : WindowFields). chain_end_by x.index position steps end) window
     ∙ one_of_window rise s h v position place bridge way steps others end ending moved goals walk walks
     ∙ sym b

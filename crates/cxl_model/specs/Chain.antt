@@ -115,15 +115,15 @@ pub record Routing : Type 0 where
   pub steps : List Step
   pub arrival : Arrival
 
-pub data Outcome : Type 0 where
-  Routed : (routing : Routing) → Outcome
-  Missed : (miss : Miss) → Outcome
+pub data ChainEnd : Type 0 where
+  Routed : (routing : Routing) → ChainEnd
+  Missed : (miss : Miss) → ChainEnd
 
 -- what a walk from the target at a window's position comes to
-abbrev pub outcome_by : ℕ → ℕ → List Step → End → Outcome
-outcome_by window position steps (Arrives arrival) =
+abbrev pub chain_end_by : ℕ → ℕ → List Step → End → ChainEnd
+chain_end_by window position steps (Arrives arrival) =
     Routed (record { window = window; position = position; steps = steps; arrival = arrival })
-outcome_by window position steps (Misses miss) = Missed miss
+chain_end_by window position steps (Misses miss) = Missed miss
 
 -- the window holds the address, and its target at the position is this bridge
 pub record Targets (s : System) (h : ℕ) (w : WindowFields) (position bridge : ℕ) : Type 0 where
@@ -132,6 +132,6 @@ pub record Targets (s : System) (h : ℕ) (w : WindowFields) (position bridge : 
   pub target : IsSomeAnd (slice_get w.targets position) (λ uid. bridge_with s.nodes uid ≡ Some bridge)
 
 -- the one route or the one miss of an address
-pub data Chain (s : System) (h : ℕ) (outcome : Outcome) : Type 0 where
+pub data Chain (s : System) (h : ℕ) (outcome : ChainEnd) : Type 0 where
   unheld : ((i : ℕ) (w : WindowFields) → slice_get s.windows i ≡ Some w → position_at w h ≡ None) → outcome ≡ Missed NoWindow → Chain s h outcome
-  held : (w : WindowFields) (position bridge : ℕ) (steps : List Step) (end : End) → Targets s h w position bridge → Walk s h bridge steps end → outcome ≡ outcome_by w.index position steps end → Chain s h outcome
+  held : (w : WindowFields) (position bridge : ℕ) (steps : List Step) (end : End) → Targets s h w position bridge → Walk s h bridge steps end → outcome ≡ chain_end_by w.index position steps end → Chain s h outcome

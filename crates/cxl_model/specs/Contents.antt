@@ -1,5 +1,5 @@
 -- What a region holds: one flat row of bytes, kept in pieces of 256 (this project's rule).
-use Rattle.std.specs.Prelude.{◌≡◌, ℕ, ◌+◌, ◌*◌, ◌/◌, ◌%◌, ◌<◌, List, length, replicate, slice_index, Contains, Option, Some, unwrap_or}
+use Rattle.std.specs.Prelude.{◌≡◌, ℕ, ◌+◌, ◌*◌, ◌/◌, ◌%◌, ◌<◌, List, length, replicate, slice_index, All, Contains, Option, Some, unwrap_or}
 use Rattle.std.specs.Ordering.{nat_cmp}
 use Rattle.std.specs.FinMap as map
 use Rattle.cxl_window.specs.Fields.{WindowFields}
@@ -10,10 +10,11 @@ use Rattle.cxl_model.specs.Regions.{Carries}
 abbrev pub Contents : Type 0
 Contents = map.FinMap nat_cmp (List ℕ)
 
--- the pieces lie in the region and have 256 bytes each
+-- the pieces lie in the region and have 256 bytes each, and what they hold are bytes
 pub record AreContents (found : Found) (contents : Contents) : Type 0 where
   pub inside : (n : ℕ) (bytes : List ℕ) → map.get contents n ≡ Some bytes → n < found.size / 256
   pub whole : (n : ℕ) (bytes : List ℕ) → map.get contents n ≡ Some bytes → length bytes ≡ 256
+  pub bytes : (n : ℕ) (bytes : List ℕ) → map.get contents n ≡ Some bytes → All (λ byte. byte < 256) bytes
 
 -- the byte at an offset; one in no piece is zero
 abbrev pub content_at : Contents → ℕ → ℕ

@@ -4,7 +4,7 @@ use Rattle.cxl_enc.specs.declared.caps.MemKind.TheVariants.{Ram}
 use Rattle.cxl_window.specs.Fields.{WindowFields}
 use Rattle.cxl_model.specs.declared.found.Found.{Found}
 use Rattle.cxl_model.specs.declared.chain.Step.{Step}
-use Rattle.cxl_model.specs.Chain.{Outcome, Routed}
+use Rattle.cxl_model.specs.Chain.{ChainEnd, Routed}
 use Rattle.cxl_model.specs.Examples.{window}
 
 -- a region of ram in the first window at 256 bytes, with spans from device address 0 on of these endpoints
@@ -44,7 +44,7 @@ abbrev pub window_of_six : WindowFields
 window_of_six = window 0x60000000 6 (0 ∷ 1 ∷ 2 ∷ 3 ∷ 4 ∷ 5 ∷ [])
 
 -- a route by the first window to a byte of an endpoint's first decoder
-abbrev pub route : ℕ → List Step → ℕ → ℕ → Outcome
+abbrev pub route : ℕ → List Step → ℕ → ℕ → ChainEnd
 route position steps endpoint dpa =
     Routed (record {
       window = 0;

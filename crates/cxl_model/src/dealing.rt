@@ -4,14 +4,14 @@ ghost use Rattle.std.specs.Prelude.{◌≡◌, ℕ, ◌+◌, ◌<◌, ◌≤◌}
 ghost use Rattle.cxl_window.specs.Fields.{WindowFields};
 ghost use Rattle.cxl_model.specs.declared.found.Found.{Found};
 ghost use Rattle.cxl_model.specs.System.{System, IsSystem};
-ghost use Rattle.cxl_model.specs.Chain.{Routing, Outcome, Routed, Chain};
+ghost use Rattle.cxl_model.specs.Chain.{Routing, ChainEnd, Routed, Chain};
 ghost use Rattle.cxl_regs.specs.declared.reading.Range.{Range};
 ghost use Rattle.cxl_model.specs.Ranges.{IsCommittedRange};
 ghost use Rattle.cxl_model.specs.Accepted.{IsAccepted};
 ghost use Rattle.cxl_model.specs.Regions.{IsRegionIn, Carries};
 ghost use Rattle.cxl_model.specs.Dealing.{IsDealtRoute};
 
-use crate::laws::{accepted_where_whole, one_outcome};
+use crate::laws::{accepted_where_whole, chains_have_one_end};
 use crate::regions::{
     bytes_are_carried_one_to_one, regions_share_no_byte, weaves_fill_their_regions,
     whole_ranges_have_one_region,
@@ -25,7 +25,7 @@ pub fn chain_is_the_dealing()
     ensures route { (s : System) (w : WindowFields) (found : Found) (h : ℕ) → IsSystem s
         → IsRegionIn s w found → found.base ≤ h → h < found.base + found.size
         → (route : Routing) × Chain s h (Routed route) × IsDealtRoute s w found h route }
-    ensures only { (s : System) (w : WindowFields) (found : Found) (h : ℕ) (outcome : Outcome) → IsSystem s
+    ensures only { (s : System) (w : WindowFields) (found : Found) (h : ℕ) (outcome : ChainEnd) → IsSystem s
         → IsRegionIn s w found → found.base ≤ h → h < found.base + found.size → Chain s h outcome
         → (route : Routing) × (outcome ≡ Routed route) × IsDealtRoute s w found h route }
 {
@@ -34,7 +34,7 @@ pub fn chain_is_the_dealing()
     slots_keep_positions();
     slots_keep_entries();
     weaves_fill_their_regions();
-    one_outcome();
+    chains_have_one_end();
 }
 
 /// A law of chains: an address whose chain is a route lies in a committed range, with the route's base.

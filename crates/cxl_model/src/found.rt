@@ -1,5 +1,6 @@
 ghost use Rattle.std.specs.Prelude.{◌≡◌};
-ghost use Rattle.cxl_model.specs.System.{System, IsSystem};
+ghost use Rattle.cxl_model.specs.System.{System};
+ghost use Rattle.cxl_model.specs.Hosts.{IsHost};
 ghost use Rattle.cxl_model.specs.Regions.{IsRegionIn, weave_fields};
 
 use cxl_deal::Weave;
@@ -36,7 +37,7 @@ pub struct Place {
 /// The weave by which a region carries its bytes: its base and granularity, and the ways and arithmetic
 /// of its window. (CXL interleave arithmetic.)
 pub fn weave_of(found: &Found, window: &Window) -> Weave
-    requires region { (s : System) × IsSystem s × IsRegionIn s window.now found.now }
+    requires region { (s : System) × IsHost s × IsRegionIn s window.now found.now }
     ensures { result ≡ weave_fields found.now window.now }
 {
     let root = split(window.ways());

@@ -5,16 +5,16 @@ ghost use Rattle.cxl_window.specs.Fields.{WindowFields};
 ghost use Rattle.cxl_window.specs.Windows.{AreMadeWith};
 ghost use Rattle.cxl_model.specs.System.{System, IsSystem, bridge_uids};
 ghost use Rattle.cxl_model.specs.Hosts.{IsHost};
-ghost use Rattle.cxl_model.specs.Chain.{Outcome, Chain};
+ghost use Rattle.cxl_model.specs.Chain.{ChainEnd, Chain};
 ghost use Rattle.cxl_regs.specs.declared.reading.Range.{Range};
 ghost use Rattle.cxl_model.specs.Ranges.{IsCommittedRange, lies_within};
 ghost use Rattle.cxl_model.specs.Accepted.{breaks, IsAccepted, IsFirstBreach, HasFirstBreach, KeepsBlocks, IsWhole};
 
 use cxl_span::ranges_rise;
 
-/// A law of chains: an address has one outcome at the most.
-pub fn one_outcome()
-    ensures { (s : System) (h : ℕ) (one other : Outcome)
+/// A law of chains: an address's chain has one end at the most.
+pub fn chains_have_one_end()
+    ensures { (s : System) (h : ℕ) (one other : ChainEnd)
         → AreMadeWith s.windows (bridge_uids s.nodes)
         → Chain s h one → Chain s h other → one ≡ other }
 {
@@ -45,7 +45,8 @@ pub fn hosts_with_caps_are_systems()
 
 /// A law of windows: a range that has bytes lies in one usable window at the most.
 pub fn one_window()
-    ensures { (s : System) (r : Range) (w v : WindowFields) → IsSystem s → 0 < r.size
+    ensures { (s : System) (r : Range) (w v : WindowFields) → AreMadeWith s.windows (bridge_uids s.nodes)
+        → 0 < r.size
         → Contains s.windows w → Contains s.windows v
         → lies_within r w ≡ true → lies_within r v ≡ true → w ≡ v }
 {}

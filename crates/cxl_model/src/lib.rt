@@ -5,6 +5,7 @@
 
 mod chain;
 mod dealing;
+mod device;
 mod examples;
 mod extent;
 mod found;
@@ -22,6 +23,7 @@ pub use cxl_span::{Room, SpanFault};
 pub use dealing::{
     carries_where_chain_ends, chain_is_the_dealing, routes_are_of_regions, routes_lie_in_ranges,
 };
+pub use device::capacity_at;
 pub use examples::{
     carried_on_examples, chains_on_examples, examples_are_systems, regions_on_examples,
     rules_on_examples,
@@ -29,7 +31,7 @@ pub use examples::{
 pub use extent::Extent;
 pub use found::{Found, Place, weave_of};
 pub use laws::{
-    accepted_or_breach, accepted_where_whole, hosts_with_caps_are_systems, one_outcome, one_window,
+    accepted_or_breach, accepted_where_whole, hosts_with_caps_are_systems, chains_have_one_end, one_window,
 };
 pub use plan::{Plan, PlanFault, Reason, Row};
 pub use poison::{Entry, Part, PoisonList, Poisoned, Run, Wide};

@@ -4,6 +4,7 @@ use Rattle.std.specs.List.{starts_with}
 use Rattle.cxl_enc.specs.Codes.{gran_code_in_table}
 use Rattle.cxl_enc.specs.Limits.{address_limit}
 use Rattle.cxl_io.specs.Numbers.{number_of}
+use Rattle.cxl_io.specs.Reader.{line_limit}
 use Rattle.cxl_script.specs.declared.command.Command.{Command}
 use Rattle.cxl_script.specs.declared.command.Command.TheVariants as commands
 use Rattle.cxl_script.specs.declared.command.Create.{Create}
@@ -22,10 +23,7 @@ use Rattle.cxl_script.specs.Words.{Word, words_of}
 use Rattle.cxl_script.specs.Verbs.{verb_of}
 use Rattle.cxl_script.specs.Reading.{Read, ◌>>=◌, bad, word_in, ends, name_in, kind_in, behind, ranged, with_rest, number_in, address_in, bytes_in, is_name}
 
--- the most bytes of a line, of a load or a store, of a range and of a spread, and the most steps of one line
-abbrev pub line_limit : ℕ
-line_limit = 4096
-
+-- the most bytes of a load or a store, of a range and of a spread, and the most steps of one line
 abbrev pub access_limit : ℕ
 access_limit = 256
 

@@ -1,8 +1,5 @@
 //! The limits of a line (this project's rules), as `specs/Grammar.antt` names them for contracts.
 
-/// The most bytes of a line.
-pub const LINE_LIMIT: usize = 4_096;
-
 /// The most bytes of a load or a store.
 pub(crate) const ACCESS_LIMIT: u64 = 256;
 

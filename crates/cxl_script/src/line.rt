@@ -5,10 +5,11 @@ ghost use Rattle.cxl_script.specs.Grammar.{asked_in, command_in, asked_of, begin
 use crate::command::{Command, Load, Pair, Poison, Reach, Store, Up};
 use crate::create::create;
 use crate::fault::{BadLine, LineFault, Why};
-use crate::limits::{ACCESS_LIMIT, LINE_LIMIT, RANGE_LIMIT, STEP_LIMIT};
+use crate::limits::{ACCESS_LIMIT, RANGE_LIMIT, STEP_LIMIT};
 use crate::verb::{Verb, verb_of};
 use crate::words::{Word, Words};
 use cxl_enc::{ADDRESS_LIMIT, Name};
+use cxl_io::LINE_LIMIT;
 use std::alloc::Global;
 
 /// What a line of a script asks for, without its ending: nothing where it has no word, or where its first

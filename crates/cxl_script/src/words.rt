@@ -2,7 +2,7 @@ ghost use Rattle.std.specs.Prelude.{◌≡◌, ◌+◌, ◌<◌, ◌≤◌, [], 
 ghost use Rattle.std.specs.List.{position_or_len};
 ghost use Rattle.cxl_script.specs.Words.{is_blank, words_from, words_of};
 ghost use Rattle.cxl_script.specs.Reading.{behind, ends};
-ghost use Rattle.cxl_script.specs.Grammar.{line_limit};
+ghost use Rattle.cxl_io.specs.Reader.{line_limit};
 
 use crate::fault::{BadLine, Why};
 use std::marker::Model;
@@ -35,7 +35,7 @@ pub(crate) struct Words<'a> {
 impl<'a> Model for Words<'a> {
     ghost use Rattle.std.specs.Prelude.{◌≤◌, [], length, drop};
     ghost use Rattle.cxl_script.specs.Words.{Left, words_from};
-    ghost use Rattle.cxl_script.specs.Grammar.{line_limit};
+    ghost use Rattle.cxl_io.specs.Reader.{line_limit};
 
     ghost Value = { Left };
 

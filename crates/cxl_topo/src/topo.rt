@@ -25,13 +25,13 @@ pub struct Topo {
 
 impl Model for Topo {
     ghost use Rattle.cxl_topo.specs.Tree.{Tree};
-    ghost use Rattle.cxl_topo.specs.inner.Kept.{IsKept};
+    ghost use Rattle.cxl_topo.specs.inner.Kept.{IsKeptTree};
 
     ghost Value = { Tree };
 
     ghost view = { λ topo. record { nodes = topo.nodes.items; frames = topo.frames } };
 
-    ghost invariant = { λ topo. IsKept topo.nodes.items topo.frames topo.tables };
+    ghost invariant = { λ topo. IsKeptTree topo.nodes.items topo.frames topo.tables };
 }
 
 impl Topo {

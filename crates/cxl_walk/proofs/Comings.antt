@@ -16,7 +16,7 @@ use Rattle.cxl_image.specs.Images.{HasCapsOf}
 use Rattle.cxl_model.specs.declared.chain.Step.{Step}
 use Rattle.cxl_model.specs.declared.chain.Miss.{Miss}
 use Rattle.cxl_model.specs.System.{System, decoders_at, decoder_at, ram_at, pmem_at}
-use Rattle.cxl_model.specs.Chain.{Arrival, End, Arrives, Misses, Places, IsArrival, Walk, on_forwarding, on_step, at_end, Routing, Routed, Missed, outcome_by, Chain, unheld, held}
+use Rattle.cxl_model.specs.Chain.{Arrival, End, Arrives, Misses, Places, IsArrival, Walk, on_forwarding, on_step, at_end, Routing, Routed, Missed, chain_end_by, Chain, unheld, held}
 use Rattle.cxl_walk.specs.declared.upward.Host.{Host}
 use Rattle.cxl_walk.specs.declared.spans.SpanByte.{SpanByte}
 use Rattle.cxl_walk.specs.Hosts.{ComesTo, HasNoHost, IsLeastHost}
@@ -50,7 +50,7 @@ reached s h n steps end (on_step _ child step rest _ move walk) = reached s h ch
 reached s h n steps end (at_end _ (Arrives arrival) move) = (n, move)
 reached s h n steps end (at_end _ (Misses miss) move) = tt
 
-by_end : (s : System) (h index position : ℕ) (steps : List Step) (end : End) (route : Routing) → Reached s h end → Routed route ≡ outcome_by index position steps end
+by_end : (s : System) (h index position : ℕ) (steps : List Step) (end : End) (route : Routing) → Reached s h end → Routed route ≡ chain_end_by index position steps end
     → IsArrival s h route.arrival.endpoint route.arrival
 by_end s h index position steps (Arrives arrival) route at is =
     let same : route ≡ record { window = index; position = position; steps = steps; arrival = arrival } = cc in

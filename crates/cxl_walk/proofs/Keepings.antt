@@ -31,14 +31,14 @@ use Rattle.cxl_model.specs.declared.chain.Miss.{Miss}
 use Rattle.cxl_model.specs.declared.found.Found.{Found}
 use Rattle.cxl_model.specs.declared.found.Place.{Place}
 use Rattle.cxl_model.specs.System.{System, IsSystem, decoders_at, decoder_at, capacity_at, ram_at, pmem_at}
-use Rattle.cxl_model.specs.Chain.{Arrival, Routing, Outcome, Routed, Missed, Chain}
+use Rattle.cxl_model.specs.Chain.{Arrival, Routing, ChainEnd, Routed, Missed, Chain}
 use Rattle.cxl_model.specs.Ranges.{IsCommittedRange, lies_within, window_for, index_for}
 use Rattle.cxl_model.specs.Accepted.{KeepsBlocks, breaks, breaks_block}
 use Rattle.cxl_model.specs.Regions.{region_range, IsRegionIn, target_position, weave_fields}
 use Rattle.cxl_model.specs.Bytes.{slot_length}
 use Rattle.cxl_model.specs.Dealing.{slot_steps, IsDealtRoute}
 use Rattle.cxl_walk.specs.declared.route.Route.{Route}
-use Rattle.cxl_walk.specs.Routes.{routing_of, steps_of, outcome_of}
+use Rattle.cxl_walk.specs.Routes.{routing_of, steps_of, chain_end_of}
 use Rattle.cxl_walk.specs.Keeping.{KeptFields, IsFirstByte, IsSlotRoute}
 use Rattle.cxl_walk.proofs.Nodes.{some_and}
 use Rattle.cxl_walk.proofs.Targets.{all_at, usable_is}
@@ -247,7 +247,7 @@ module _ (s : System) (w : WindowFields) (found : Found) where
 -- what the law of dealing says of a region
 pub record RouteLaws (s : System) (w : WindowFields) (found : Found) : Type 0 where
   pub route : (h : ℕ) → found.base ≤ h → h < found.base + found.size → (r : Routing) × Chain s h (Routed r) × IsDealtRoute s w found h r
-  pub only : (h : ℕ) (outcome : Outcome) → found.base ≤ h → h < found.base + found.size → Chain s h outcome → (r : Routing) × (outcome ≡ Routed r) × IsDealtRoute s w found h r
+  pub only : (h : ℕ) (outcome : ChainEnd) → found.base ≤ h → h < found.base + found.size → Chain s h outcome → (r : Routing) × (outcome ≡ Routed r) × IsDealtRoute s w found h r
 
 module _ (s : System) (w : WindowFields) (found : Found) (laws : RouteLaws s w found) where
   dealt_by : (h : ℕ) (r : Routing) → found.base ≤ h → h < found.base + found.size → Chain s h (Routed r) → IsDealtRoute s w found h r
@@ -272,6 +272,6 @@ module _ (s : System) (w : WindowFields) (found : Found) (laws : RouteLaws s w f
       (p.0, ap (λ (k : ℕ). slice_get found.spans k) (sym own.is.of_slot) ∙ p.1, omega (arith, p.2.1, own.is.at_start))
 
   -- the chain of a host byte is no miss
-  pub found_route : (h : ℕ) (o : Result Route Miss) → found.base ≤ h → h < found.base + found.size → Chain s h (outcome_of o) → IsOk o
+  pub found_route : (h : ℕ) (o : Result Route Miss) → found.base ≤ h → h < found.base + found.size → Chain s h (chain_end_of o) → IsOk o
   found_route h (Ok route) from below chain = refl
   found_route h (Err miss) from below chain = let all = laws.only h (Missed miss) from below chain in cc (all.1)

@@ -21,7 +21,7 @@ use Rattle.cxl_walk.specs.declared.route.Route.{Route}
 use Rattle.cxl_walk.specs.declared.target.Target as slots
 use Rattle.cxl_model.specs.System.{system_of}
 use Rattle.cxl_walk.specs.inner.Calls.{Leads, Fails, IsTarget}
-use Rattle.cxl_walk.specs.Routes.{routing_of, outcome_of}
+use Rattle.cxl_walk.specs.Routes.{routing_of, chain_end_of}
 use Rattle.cxl_walk.proofs.Nodes.{and_some}
 
 pub usable_is : (verdict : Verdict) → is_usable verdict ≡ true → verdict ≡ Usable
@@ -83,6 +83,6 @@ module _ (blocks : List Registers) (tree : Tree) (windows : List WindowFields) (
 
 -- a route and a miss are both outcomes
 pub chain_of : (s : System) (h : ℕ) (result : Result Route Miss) → IfOk result (λ route. Chain s h (Routed (routing_of route)))
-    → IfErr result (λ miss. Chain s h (Missed miss)) → Chain s h (outcome_of result)
+    → IfErr result (λ miss. Chain s h (Missed miss)) → Chain s h (chain_end_of result)
 chain_of s h (Ok route) routed missed = routed
 chain_of s h (Err miss) routed missed = missed

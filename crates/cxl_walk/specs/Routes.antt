@@ -2,7 +2,7 @@
 use Rattle.std.specs.Prelude.{List, take, Result, Ok, Err}
 use Rattle.cxl_model.specs.declared.chain.Step.{Step}
 use Rattle.cxl_model.specs.declared.chain.Miss.{Miss}
-use Rattle.cxl_model.specs.Chain.{Arrival, Routing, Outcome, Routed, Missed}
+use Rattle.cxl_model.specs.Chain.{Arrival, Routing, ChainEnd, Routed, Missed}
 use Rattle.cxl_walk.specs.declared.route.Route.{Route}
 
 -- a place of a route that is no step
@@ -21,6 +21,6 @@ routing_of route =
     record { window = route.window; position = route.position; steps = steps_of route; arrival = arrival_of route }
 
 -- what an answer says of the chain
-abbrev pub outcome_of : Result Route Miss → Outcome
-outcome_of (Ok route) = Routed (routing_of route)
-outcome_of (Err miss) = Missed miss
+abbrev pub chain_end_of : Result Route Miss → ChainEnd
+chain_end_of (Ok route) = Routed (routing_of route)
+chain_end_of (Err miss) = Missed miss

@@ -2,15 +2,15 @@ ghost use Rattle.std.specs.Prelude.{◌≡◌, ◌-◌, ◌<◌, length, drop, r
 ghost use Rattle.cxl_window.specs.Windows.{AreMadeWith};
 ghost use Rattle.cxl_image.specs.Images.{HasCapsOf};
 ghost use Rattle.cxl_model.specs.System.{bridge_uids};
-ghost use Rattle.cxl_model.specs.Chain.{Outcome, Chain, Routed, Missed};
+ghost use Rattle.cxl_model.specs.Chain.{ChainEnd, Chain, Routed, Missed};
 ghost use Rattle.cxl_model.specs.System.{system_of};
-ghost use Rattle.cxl_walk.specs.Routes.{outcome_of, routing_of, no_step};
+ghost use Rattle.cxl_walk.specs.Routes.{chain_end_of, routing_of, no_step};
 
 use crate::route::Route;
 use crate::target::target_of;
 use crate::way::way_from;
 use cxl_image::Image;
-use cxl_model::{Miss, one_outcome};
+use cxl_model::{Miss, chains_have_one_end};
 use cxl_topo::Topo;
 use cxl_window::Window;
 
@@ -20,18 +20,18 @@ use cxl_window::Window;
 pub fn down(image: &Image, topo: &Topo, windows: &[Window], h: u64) -> Result<Route, Miss>
     requires caps { HasCapsOf image.now topo.now.nodes }
     requires made { AreMadeWith windows.now (bridge_uids topo.now.nodes) }
-    ensures chain { Chain (system_of image.now topo.now windows.now) h (outcome_of result) }
-    // The address has no other outcome.
-    ensures only { (outcome : Outcome) → Chain (system_of image.now topo.now windows.now) h outcome
-        → outcome ≡ outcome_of result }
+    ensures chain { Chain (system_of image.now topo.now windows.now) h (chain_end_of result) }
+    // The address's chain has no other end.
+    ensures only { (outcome : ChainEnd) → Chain (system_of image.now topo.now windows.now) h outcome
+        → outcome ≡ chain_end_of result }
     ensures zeros { IfOk result
         (λ route. drop route.len route.steps ≡ replicate (5 - route.len) no_step) }
 {
-    one_outcome();
+    chains_have_one_end();
     lead(image, topo, windows, h)
 }
 
-/// The same, by the one outcome that is found.
+/// The same, by the one end that is found.
 fn lead(image: &Image, topo: &Topo, windows: &[Window], h: u64) -> Result<Route, Miss>
     requires caps { HasCapsOf image.now topo.now.nodes }
     requires made { AreMadeWith windows.now (bridge_uids topo.now.nodes) }

@@ -15,7 +15,7 @@ use crate::route::Route;
 use cxl_deal::{Weave, deal, gather, region_fills_slots};
 use cxl_image::Image;
 use cxl_model::{
-    FixedList, Found, Memory, chain_is_the_dealing, one_outcome, slots_are_endpoints, weave_of,
+    FixedList, Found, Memory, chain_is_the_dealing, chains_have_one_end, slots_are_endpoints, weave_of,
     weaves_fill_their_regions,
 };
 use cxl_topo::Topo;

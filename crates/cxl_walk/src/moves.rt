@@ -5,16 +5,15 @@ ghost use Rattle.cxl_topo.specs.Faults.{IsTree};
 ghost use Rattle.cxl_span.specs.Breaches.{BlockKeeps};
 ghost use Rattle.cxl_image.specs.Images.{HasCapsOf};
 ghost use Rattle.cxl_regs.specs.Reading.{holds_address};
-ghost use Rattle.cxl_model.specs.System.{ram_at, pmem_at};
 ghost use Rattle.cxl_model.specs.System.{system_of};
 ghost use Rattle.cxl_walk.specs.inner.Calls.{Makes, MissesAt, byte_at, move_of};
 
 use crate::decoding::holder;
 use cxl_image::Image;
-use cxl_model::{Miss, Step};
+use cxl_model::{Miss, Step, capacity_at};
 use cxl_regs::Block;
 use cxl_span::{block_breach, endpoint_place_of, ranges_rise, spans_lie_in_partitions, start_of};
-use cxl_topo::{Capacity, NodeKind, Topo};
+use cxl_topo::{Capacity, Topo};
 
 /// A byte of an endpoint's device, with the decoder that leads to it and that decoder's first host address.
 #[derive(Clone, Copy)]
@@ -103,19 +102,5 @@ fn arrive(block: &Block, capacity: &Capacity, node: u32, i: u8, h: u64) -> Devic
         decoder: i,
         base: d.base,
         dpa: endpoint_place_of(start, &d, h),
-    }
-}
-
-/// The bytes of a node's device; a port has none.
-pub(crate) fn capacity_at(topo: &Topo, node: u32) -> Capacity
-    requires tree { IsTree topo.now.nodes }
-    requires here { node < length topo.now.nodes }
-    ensures ram { result.ram ≡ ram_at (system_of [] topo.now []) node }
-    ensures pmem { result.pmem ≡ pmem_at (system_of [] topo.now []) node }
-    ensures small { result.ram + result.pmem ≤ address_limit }
-{
-    match topo.node(node).kind {
-        NodeKind::Endpoint(capacity) => capacity,
-        NodeKind::Bridge(_) | NodeKind::Switch => Capacity { ram: 0, pmem: 0 },
     }
 }

@@ -14,10 +14,11 @@ ghost use Rattle.cxl_walk.specs.Hosts.{ComesTo, HasNoHost, IsLeastHost};
 ghost use Rattle.cxl_walk.specs.inner.WaysUp.{way_address, IsFirstWay};
 
 use crate::downward::down;
-use crate::moves::capacity_at;
 use crate::spans::{SpanByte, span_byte};
 use cxl_image::Image;
-use cxl_model::{bytes_are_carried_one_to_one, carries_where_chain_ends, routes_are_of_regions};
+use cxl_model::{
+    bytes_are_carried_one_to_one, capacity_at, carries_where_chain_ends, routes_are_of_regions,
+};
 use cxl_span::{block_breach, spans_are_whole, spans_follow};
 use cxl_topo::Topo;
 use cxl_window::Window;

@@ -32,6 +32,6 @@ pub record AreFacts (s : System) (r : Range) (facts : RangeFacts) : Type 0 where
   pub kind : facts.kind ≡ range_kind s r
 
 -- the tables are those of the image
-pub record AreTables (s : System) (tables : Tables) : Type 0 where
+pub record AreSystemTables (s : System) (tables : Tables) : Type 0 where
   pub landings : AreLandings s.nodes tables.landings.items
   pub firsts : ListsFirsts s (length s.nodes) tables.firsts

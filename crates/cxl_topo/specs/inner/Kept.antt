@@ -6,7 +6,7 @@ use Rattle.cxl_topo.specs.Faults.{IsTree}
 use Rattle.cxl_topo.specs.Frames.{AreFrames}
 use Rattle.cxl_topo.specs.inner.AreTables.{AreTables}
 
-pub record IsKept (nodes : List Node) (frames : ℕ) (tables : Tables) : Type 0 where
+pub record IsKeptTree (nodes : List Node) (frames : ℕ) (tables : Tables) : Type 0 where
   pub tree : IsTree nodes
   pub few : AreFrames frames
   pub listed : AreTables nodes tables

@@ -7,7 +7,7 @@ use Rattle.cxl_model.specs.Regions.{IsRegionIn, weave_fields}
 use Rattle.cxl_model.proofs.DealingRoutes.{Lower, HasRoute, route_of}
 use Rattle.cxl_model.proofs.dealing.chain_is_the_dealing.Goals as goal
 
-goal_of : (c : goal.After-one_outcome) (s : System) (w : WindowFields) (found : Found) (h : ℕ) → IsSystem s → IsRegionIn s w found → found.base ≤ h
+goal_of : (c : goal.After-chains_have_one_end) (s : System) (w : WindowFields) (found : Found) (h : ℕ) → IsSystem s → IsRegionIn s w found → found.base ≤ h
     → h < found.base + found.size → HasRoute s w found h
 goal_of c s w found h system is from below =
     let lower : Lower s w found = record {
@@ -28,4 +28,4 @@ returns-clause-route c = λ s w found h system is from below.
 pub returns-clause-only : goal.returns-clause-only
 returns-clause-only c = λ s w found h outcome system is from below chain.
     let all = goal_of c s w found h system is from below in
-    (all.route, c.one_outcome.ensures s h outcome (Routed all.route) system.made chain all.chain, all.dealt)
+    (all.route, c.chains_have_one_end.ensures s h outcome (Routed all.route) system.made chain all.chain, all.dealt)

@@ -8,5 +8,5 @@ returns-clause-chain c =
 
 pub returns-clause-only : goal.returns-clause-only
 returns-clause-only c = λ outcome is.
-    c.one_outcome.ensures (system_of c.args.image.now c.args.topo.now c.args.windows.now) c.args.h outcome _ c.requires.made is
+    c.chains_have_one_end.ensures (system_of c.args.image.now c.args.topo.now c.args.windows.now) c.args.h outcome _ c.requires.made is
     (chain_of (system_of c.args.image.now c.args.topo.now c.args.windows.now) c.args.h c.lead.result c.lead.ensures.route c.lead.ensures.miss)

@@ -7,7 +7,7 @@ use Rattle.cxl_model.specs.System.{System, IsSystem, system_of}
 use Rattle.cxl_model.specs.Chain.{Chain}
 use Rattle.cxl_model.specs.Regions.{IsRegionIn, weave_fields}
 use Rattle.cxl_walk.specs.declared.route.Route.{Route}
-use Rattle.cxl_walk.specs.Routes.{outcome_of}
+use Rattle.cxl_walk.specs.Routes.{chain_end_of}
 use Rattle.cxl_walk.specs.Keeping.{IsFirstByte}
 use Rattle.cxl_walk.proofs.Keepings.{facts, WeaveLaws, first_turn, first_below, RouteLaws, found_route}
 use Rattle.cxl_walk.proofs.kept.slot_route.Goals as goal
@@ -71,6 +71,6 @@ returns c = λ w is.
         of_slot = subst (λ (v : WeaveFields). dealt_slot v c.gather-h.result ≡ c.from.result) weave c.gather-h.ensures.slot ∙ c.from.ensures;
         at_start = start;
       };
-      chain = subst (λ (o : Result Route Miss). Chain s c.gather-h.result (outcome_of o)) c.unwrap.ensures c.down.ensures.chain;
+      chain = subst (λ (o : Result Route Miss). Chain s c.gather-h.result (chain_end_of o)) c.unwrap.ensures c.down.ensures.chain;
       zeros = rw c.unwrap.ensures at c.down.ensures.zeros;
     }

@@ -28,7 +28,7 @@ weave_of-requires c =
     let system : IsSystem s = record { tree = c.count-nodes.ensures.tree; blocks = c.count-blocks.ensures.image.each; caps = c.requires.caps; made = c.requires.made } in
     let region = c.requires.region in
     let same = window_at s region.0 c.index-windows-found.result c.args.found.now system region.1 c.index-windows-found.is in
-    record { region = (s, system, subst (λ (v : WindowFields). IsRegionIn s v c.args.found.now) (sym same) region.1) }
+    record { region = (s, record { tree = system.tree; blocks = system.blocks; made = system.made }, subst (λ (v : WindowFields). IsRegionIn s v c.args.found.now) (sym same) region.1) }
 
 pub returns-clause-weave : goal.returns-clause-weave
 returns-clause-weave c = λ w region.
