@@ -1,0 +1,5 @@
+pub mod Used
+pub mod Endpoints
+pub mod Windows
+pub mod Bases
+pub mod Stated
