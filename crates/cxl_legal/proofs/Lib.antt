@@ -1,0 +1,6 @@
+pub mod FittingTrees
+pub mod FittingSums
+pub mod FittingServers
+pub mod FittingRules
+pub mod FittingCounts
+pub mod FittingTargets
