@@ -4,3 +4,4 @@ pub mod FittingServers
 pub mod FittingRules
 pub mod FittingCounts
 pub mod FittingTargets
+pub mod FittingRows
