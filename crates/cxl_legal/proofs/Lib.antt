@@ -5,3 +5,4 @@ pub mod FittingRules
 pub mod FittingCounts
 pub mod FittingTargets
 pub mod FittingRows
+pub mod FittingUsed
