@@ -6,3 +6,5 @@ pub mod FittingCounts
 pub mod FittingTargets
 pub mod FittingRows
 pub mod FittingUsed
+pub mod FittingBlocks
+pub mod FittingPorts
