@@ -229,6 +229,8 @@ pub record ByRow (s : System) (request : Request) (r : Range) (rows : List Row) 
   pub first : decoder_for (with_rows s rows) r n ≡ Some (committed_row row)
   pub number : index_for (with_rows s rows) r n ≡ Some row.index
   pub at : decoder_at (with_rows s rows) n row.index ≡ Some (committed_row row)
+  pub within : row.index < length (decoders_at s n)
+  pub set_in : decoders_at (with_rows s rows) n ≡ set (decoders_at s n) row.index (committed_row row)
   pub others : (i : ℕ) → i ≢ row.index → decoder_at (with_rows s rows) n i ≡ decoder_at s n i
 
 pub by_row : (s : System) (request : Request) (r : Range) (rows : List Row) → Rowed s request r rows → (n : ℕ) → has_row s request n ≡ true → ByRow s request r rows n
@@ -253,6 +255,8 @@ by_row s request r rows rowed n is =
       first = ap (find (has_range r)) after ∙ passes.found;
       number = ap (position (has_range r)) after ∙ passes.place;
       at = ap (λ (ds : List Decoder). slice_get ds row.index) after ∙ get_same place.block.decoders row.index (committed_row row) place.within;
+      within = subst (λ (ds : List Decoder). row.index < length ds) (sym before) place.within;
+      set_in = after ∙ ap (λ (ds : List Decoder). set ds row.index (committed_row row)) (sym before);
       others = λ i other.
           ap (λ (ds : List Decoder). slice_get ds i) after ∙ get_other place.block.decoders row.index i (committed_row row) other
           ∙ ap (λ (ds : List Decoder). slice_get ds i) (sym before);

@@ -189,7 +189,7 @@ pub kept : (s : System) (n i : ℕ) (d : Decoder) (keeps : Decoder → Bool) →
 kept s n i d keeps there committed unbroken =
     not_broken d.committed (keeps d) (sym (ap (λ (o : Option Decoder). option_map_or (λ e. e.committed && not (keeps e)) o false) there) ∙ unbroken) committed
 
-rule_nine : (s : System) (n i : ℕ) → breaks s 9 n i ≡ breaks_at s n i (keeps_window s n i)
+pub rule_nine : (s : System) (n i : ℕ) → breaks s 9 n i ≡ breaks_at s n i (keeps_window s n i)
 unfolding breaks
 rule_nine s n i = refl
 
@@ -197,7 +197,7 @@ rule_ten : (s : System) (n i : ℕ) → breaks s 10 n i ≡ breaks_at s n i (kee
 unfolding breaks
 rule_ten s n i = refl
 
-rule_eleven : (s : System) (n i : ℕ) → breaks s 11 n i ≡ breaks_at s n i (keeps_reach s n)
+pub rule_eleven : (s : System) (n i : ℕ) → breaks s 11 n i ≡ breaks_at s n i (keeps_reach s n)
 unfolding breaks
 rule_eleven s n i = refl
 

@@ -8,3 +8,4 @@ pub mod FittingRows
 pub mod FittingUsed
 pub mod FittingBlocks
 pub mod FittingPorts
+pub mod FittingRoom
