@@ -100,7 +100,7 @@ row_first {s} at = ap (λ (m : ℕ). position (λ d. not d.committed) (decoders_
 pub used_within : {s : System} {request : Request} {w : WindowFields} {r : Range} {rows : List Row} → Planned s request w r rows → (n : ℕ) → is_used s request n ≡ true → n < length s.nodes
 used_within {s} {request} {w} {r} {rows} plan n used = lands_within (with_rows s rows) r n plan.system (used_lands plan n used)
 
-used_left : {s : System} {request : Request} {w : WindowFields} {r : Range} {rows : List Row} → Planned s request w r rows → IsAccepted s → (n : ℕ) → is_used s request n ≡ true
+pub used_left : {s : System} {request : Request} {w : WindowFields} {r : Range} {rows : List Row} → Planned s request w r rows → IsAccepted s → (n : ℕ) → is_used s request n ≡ true
     → all_committed (decoders_at s n) ≡ false
 used_left {s} {request} {w} {r} {rows} plan accepted n used =
     elim (cases_Bool (forwards_at s.nodes n)) [

@@ -9,3 +9,4 @@ pub mod FittingUsed
 pub mod FittingBlocks
 pub mod FittingPorts
 pub mod FittingRoom
+pub mod FittingEndpoints
