@@ -10,3 +10,4 @@ pub mod FittingBlocks
 pub mod FittingPorts
 pub mod FittingRoom
 pub mod FittingEndpoints
+pub mod FittingSelects
