@@ -11,3 +11,5 @@ pub mod FittingPorts
 pub mod FittingRoom
 pub mod FittingEndpoints
 pub mod FittingSelects
+pub mod FittingWindows
+pub mod FittingBases
