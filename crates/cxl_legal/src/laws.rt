@@ -16,6 +16,10 @@ ghost use Rattle.cxl_legal.specs.Windows.{FitsWindow};
 ghost use Rattle.cxl_legal.specs.Bases.{FitsBase};
 ghost use Rattle.cxl_legal.specs.Stated.{has_row, stated_row, stated_rows, planned_range, IsStatedPlan, Fits};
 
+use cxl_model::{endpoints_lie_evenly, slots_are_endpoints};
+use cxl_span::ranges_rise;
+use cxl_topo::tree_laws;
+
 /// A law of plans: where one is legal over an accepted image, the request keeps all that it has to, in its
 /// endpoints, in that window and at that base.
 pub fn legal_plans_fit()
@@ -28,7 +32,12 @@ pub fn legal_plans_fit()
     ensures base { (s : System) (request : Request) (w : WindowFields) (plan : Plan) → IsSystem s
         → HasBytePorts s.nodes → IsAccepted s → AreEndpoints s request → IsLegalPlanIn s request w plan
         → FitsBase s request w plan.found.base }
-{}
+{
+    tree_laws();
+    ranges_rise();
+    endpoints_lie_evenly();
+    slots_are_endpoints();
+}
 
 /// A law of plans: where a request keeps all that it has to over an accepted image, the rows that are stated for it
 /// are one for each used node that does not forward, their range is new, and with them every block keeps K1 to K8.
