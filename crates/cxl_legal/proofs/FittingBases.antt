@@ -1,29 +1,24 @@
 -- The base of a legal plan is one at which its region can start.
-use Rattle.std.proofs.Common.{◌≡◌, ◌≢◌, ℕ, zero, suc, ◌+◌, ◌-◌, ◌*◌, ◌%◌, ◌<◌, ◌≤◌, Bool, true, false, not, ◌&&◌, ◌||◌, cond, if◌then◌else◌, List, [], ◌∷◌, length, get_or, take, Option, Some, None, refl, sym, ap, ◌∙◌, subst, inl, inr, arith, ◌⊎◌}
+use Rattle.std.proofs.Common.{◌≡◌, ◌≢◌, ℕ, ◌+◌, ◌-◌, ◌*◌, ◌%◌, ◌≤◌, true, false, cond, if◌then◌else◌, List, [], ◌∷◌, get_or, Option, Some, refl, sym, ap, ◌∙◌, subst, inl, inr, arith}
 use Rattle.std.specs.Prelude.{slice_get, ◌==◌}
 use Rattle.std.specs.Option.{option_map_or}
-use Rattle.std.specs.List.{prefix_len}
-use Rattle.std.proofs.lemmas.Bool.{cases_Bool, cases_eq, cases_lt, and_parts, eqb-true, eq-eqb, ne_eqb, false≢true, not-true, cond-true, cond-false, true_from_ne_false}
-use Rattle.std.proofs.lemmas.Option.{slice_get-get_or, slice_get_within}
-use Rattle.std.proofs.lemmas.List.Quantifiers.{position-Some}
+use Rattle.std.proofs.lemmas.Bool.{cases_Bool, cases_eq, eqb-true, eq-eqb, ne_eqb, cond-true, cond-false}
+use Rattle.std.proofs.lemmas.Option.{slice_get-get_or}
 use Rattle.cxl_enc.specs.Limits.{unit}
 use Rattle.cxl_topo.specs.Tree.{forwards_at}
 use Rattle.cxl_regs.specs.declared.decoder.Decoder.{Decoder}
-use Rattle.cxl_regs.specs.declared.reading.Range.{Range}
 use Rattle.cxl_regs.specs.Registers.{reset_decoder}
 use Rattle.cxl_regs.specs.Reading.{committed_count}
 use Rattle.cxl_window.specs.Fields.{WindowFields}
-use Rattle.cxl_model.specs.declared.plan.Row.{Row}
 use Rattle.cxl_model.specs.declared.plan.Plan.{Plan}
 use Rattle.cxl_model.specs.declared.request.Request.{Request}
 use Rattle.cxl_model.specs.System.{System, decoders_at, decoder_at}
 use Rattle.cxl_model.specs.Accepted.{IsAccepted}
-use Rattle.cxl_model.specs.Rules.{starts_in_thirds}
 use Rattle.cxl_model.specs.Regions.{region_range}
 use Rattle.cxl_model.specs.Plans.{committed_row, with_rows}
 use Rattle.cxl_legal.specs.Used.{is_used}
-use Rattle.cxl_legal.specs.Bases.{last_end, base_step, IsBase, FitsBase}
-use Rattle.cxl_legal.proofs.FittingServers.{has_parts}
+use Rattle.cxl_legal.specs.Bases.{last_end, base_step, FitsBase}
+use Rattle.cxl_legal.proofs.FittingServers.{asked_or, has_parts}
 use Rattle.cxl_legal.proofs.FittingRules.{rise_at}
 use Rattle.cxl_legal.proofs.FittingTargets.{HasWindow, has_window}
 use Rattle.cxl_legal.proofs.FittingBlocks.{Kept, kept_of}
@@ -94,7 +89,7 @@ steps {s} {request} {w} {plan} legal =
     elim (cases_Bool (w.ways % 3 == 0)) [
       | inl thirds ↦
           ap (λ b. (plan.found.base - w.base) % (if b then 3 * unit else unit)) thirds
-          ∙ eqb-true ((plan.found.base - w.base) % (3 * unit)) 0 (asked_thirds (w.ways % 3 == 0) ((plan.found.base - w.base) % (3 * unit) == 0) lies.thirds thirds)
+          ∙ eqb-true ((plan.found.base - w.base) % (3 * unit)) 0 (asked_or (w.ways % 3 == 0) ((plan.found.base - w.base) % (3 * unit) == 0) lies.thirds thirds)
       | inr whole ↦
           ap (λ b. (plan.found.base - w.base) % (if b then 3 * unit else unit)) whole
           ∙ aligned plan.found.base w.base window.from (ap (λ (k : ℕ). k % unit) (sym first.has.base) ∙ kept.base) window.usable.aligned
@@ -114,10 +109,6 @@ steps {s} {request} {w} {plan} legal =
 
     lies : Lies (with_rows s plan.rows) w (region_range plan.found) (get_or request.endpoints 0 0) first.at.i
     lies = lies_there (with_rows s plan.rows) w (region_range plan.found) (get_or request.endpoints 0 0) first.at.i first.at.d fits.whole fits.window first.at.there first.at.has
-
-    asked_thirds : (a b : Bool) → (not a || b) ≡ true → a ≡ true → b ≡ true
-    asked_thirds true b either is = either
-    asked_thirds false b either is = absurd (false≢true is)
 
 -- ---- all of it
 

@@ -1,11 +1,11 @@
 -- What K2 to K8 say of a committed decoder of a node.
-use Rattle.std.proofs.Common.{◌≡◌, ℕ, ◌+◌, ◌*◌, ◌%◌, ◌^◌, ◌<◌, ◌≤◌, Bool, true, false, not, ◌&&◌, ◌||◌, cond, if◌then◌else◌, List, [], ◌∷◌, length, get_or, Option, Some, None, refl, sym, ap, ◌∙◌, subst, inl, inr, arith}
-use Rattle.std.specs.Prelude.{slice_get, ◌==◌, nat_le, nat_lt, IsTrue, unwrap_or}
+use Rattle.std.proofs.Common.{◌≡◌, ℕ, ◌+◌, ◌*◌, ◌%◌, ◌^◌, ◌<◌, ◌≤◌, Bool, true, false, not, ◌&&◌, ◌||◌, if◌then◌else◌, List, [], ◌∷◌, length, get_or, Option, Some, refl, sym, ap, ◌∙◌, arith}
+use Rattle.std.specs.Prelude.{slice_get, ◌==◌, nat_le, nat_lt, unwrap_or}
 use Rattle.std.specs.Option.{option_map_or}
-use Rattle.std.proofs.lemmas.Bool.{and_parts, or_parts, eqb-true, leb-true, agree_below_at, not-false, false≢true, true≢false, and_from, le-leb}
+use Rattle.std.proofs.lemmas.Bool.{and_parts, eqb-true, leb-true, agree_below_at, false≢true, true≢false}
 use Rattle.std.proofs.lemmas.Option.{slice_get_within, slice_get-get_or}
 use Rattle.cxl_enc.specs.Caps.{targets_of, is_target_count}
-use Rattle.cxl_enc.specs.Codes.{ways_of, bits_of}
+use Rattle.cxl_enc.specs.Codes.{ways_of}
 use Rattle.cxl_enc.specs.Limits.{unit, address_limit}
 use Rattle.cxl_topo.specs.declared.node.Node.{Node}
 use Rattle.cxl_topo.specs.Kinds.{is_endpoint}
@@ -19,7 +19,7 @@ use Rattle.cxl_span.specs.Rules.{breaks_codes, breaks_select, breaks_size, size_
 use Rattle.cxl_model.specs.System.{System, IsSystem, decoder_at, ram_at, pmem_at}
 use Rattle.cxl_model.specs.Accepted.{KeepsBlocks}
 use Rattle.cxl_legal.specs.Endpoints.{cap_at}
-use Rattle.cxl_legal.proofs.FittingServers.{All-at, asked, in_block, InBlock}
+use Rattle.cxl_legal.proofs.FittingServers.{All-at, asked, in_block}
 use Rattle.cxl_legal.proofs.FittingRules.{block_keeps}
 
 codes_here : (block : Registers) (ram pmem i : ℕ) (d : Decoder) → slice_get block.decoders i ≡ Some d

@@ -1,12 +1,12 @@
 -- A legal plan's request keeps what it has to in its endpoints.
-use Rattle.std.proofs.Common.{◌≡◌, ◌≢◌, ℕ, zero, suc, ◌+◌, ◌*◌, ◌/◌, ◌%◌, ◌<◌, ◌≤◌, Bool, true, false, not, ◌&&◌, List, [], ◌∷◌, length, get_or, set, Option, Some, None, refl, sym, ap, ◌∙◌, subst, inl, inr, arith}
+use Rattle.std.proofs.Common.{◌≡◌, ℕ, ◌+◌, ◌*◌, ◌/◌, ◌%◌, ◌≤◌, true, List, get_or, set, Some, sym, ap, ◌∙◌, subst, arith}
 use Rattle.std.specs.Prelude.{slice_get, ◌==◌, Contains}
 use Rattle.std.specs.List.{list_any}
 use Rattle.std.proofs.lemmas.Bool.{and_parts, eq-eqb}
 use Rattle.std.proofs.lemmas.Option.{same_Some}
 use Rattle.std.proofs.lemmas.List.Elements.{Contains-get_or}
 use Rattle.std.proofs.lemmas.List.Folds.{list_any_at}
-use Rattle.cxl_enc.specs.Limits.{unit, address_limit}
+use Rattle.cxl_enc.specs.Limits.{unit}
 use Rattle.cxl_topo.specs.declared.node.Node.{Node}
 use Rattle.cxl_topo.specs.Faults.{IsTree}
 use Rattle.cxl_topo.specs.Laws.{AreTreeLaws}
@@ -15,16 +15,15 @@ use Rattle.cxl_regs.specs.declared.decoder.Decoder.{Decoder}
 use Rattle.cxl_regs.specs.declared.reading.Range.{Range}
 use Rattle.cxl_regs.specs.Reading.{decoder_ways}
 use Rattle.cxl_span.specs.Spans.{span_start_of}
-use Rattle.cxl_span.specs.Allotting.{all_committed, cursor_of}
+use Rattle.cxl_span.specs.Allotting.{cursor_of}
 use Rattle.cxl_span.specs.Partitions.{lies_in}
 use Rattle.cxl_window.specs.Fields.{WindowFields}
 use Rattle.cxl_model.specs.declared.found.Found.{Found}
 use Rattle.cxl_model.specs.declared.found.Place.{Place}
-use Rattle.cxl_model.specs.declared.plan.Row.{Row}
 use Rattle.cxl_model.specs.declared.plan.Plan.{Plan}
 use Rattle.cxl_model.specs.declared.request.Request.{Request}
 use Rattle.cxl_model.specs.System.{System, IsSystem, decoders_at, ram_at, pmem_at}
-use Rattle.cxl_model.specs.Ranges.{serves, index_for, range_ways}
+use Rattle.cxl_model.specs.Ranges.{serves, index_for}
 use Rattle.cxl_model.specs.Regions.{region_range, IsRegionIn}
 use Rattle.cxl_model.specs.Bytes.{slot_length}
 use Rattle.cxl_model.specs.Accepted.{IsAccepted}
@@ -36,7 +35,7 @@ use Rattle.cxl_legal.proofs.FittingServers.{Has, has_parts, has_ways}
 use Rattle.cxl_legal.proofs.FittingRules.{RangesRise, ServesAt, served, bytes_at}
 use Rattle.cxl_legal.proofs.FittingTargets.{has_window}
 use Rattle.cxl_legal.proofs.FittingBlocks.{kept_of}
-use Rattle.cxl_legal.proofs.FittingRows.{Rowed, ByRow, still_system}
+use Rattle.cxl_legal.proofs.FittingRows.{Rowed, still_system}
 use Rattle.cxl_legal.proofs.FittingUsed.{CountLaw, Planned, ways_are, ways_known, some_requested, endpoint_is, endpoint_own, used_endpoint}
 use Rattle.cxl_legal.proofs.FittingPorts.{none_uneven}
 use Rattle.cxl_legal.proofs.FittingRoom.{own_row, row_first, first_is_count, none_lacking, used_left, past_cursor, least_span}

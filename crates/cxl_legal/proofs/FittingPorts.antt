@@ -1,13 +1,13 @@
 -- The used ports of the nodes of a legal plan, and how evenly the requested endpoints lie under them.
-use Rattle.std.proofs.Common.{◌≡◌, ◌≢◌, ℕ, zero, suc, ◌+◌, ◌*◌, ◌/◌, ◌%◌, ◌<◌, ◌≤◌, Bool, true, false, not, ◌&&◌, ◌||◌, cond, List, [], ◌∷◌, length, get_or, map, Option, Some, None, refl, sym, ap, ◌∙◌, subst, inl, inr, arith, ◌⊎◌}
-use Rattle.std.specs.Prelude.{slice_get, ◌==◌, nat_le, All, filter, find}
+use Rattle.std.proofs.Common.{◌≡◌, ◌≢◌, ℕ, zero, suc, ◌*◌, ◌<◌, Bool, true, false, not, ◌&&◌, cond, List, [], ◌∷◌, length, get_or, map, Option, Some, None, refl, sym, ap, ◌∙◌, subst, inl, inr, arith}
+use Rattle.std.specs.Prelude.{slice_get, ◌==◌, nat_le, All, find}
 use Rattle.std.specs.Option.{option_map_or}
 use Rattle.std.specs.List.{list_any, list_all, cons_option, filter_map, range_with_len}
 use Rattle.std.proofs.Math.Nat.{mul_comm, mul_assoc}
-use Rattle.std.proofs.lemmas.Bool.{cases_lt, cases_Bool, and_parts, and_from, or_parts, or_right, or_left, eqb-true, eq-eqb, false_from_ne_true, false≢true, true≢false, not-true, not_from_false, not_from_true}
+use Rattle.std.proofs.lemmas.Bool.{cases_Bool, and_parts, and_from, or_right, or_left, eqb-true, eq-eqb, false≢true, not_from_false, not_from_true}
 use Rattle.std.proofs.lemmas.Option.{none-some, same_Some}
 use Rattle.std.proofs.lemmas.List.{get_or-map}
-use Rattle.std.proofs.lemmas.List.FromFn.{length-range_with_len, get_or-range_with_len, length-map-range_with_len}
+use Rattle.std.proofs.lemmas.List.FromFn.{length-range_with_len, length-map-range_with_len}
 use Rattle.std.proofs.lemmas.List.Folds.{Any-from_list_any, list_any_at}
 use Rattle.std.proofs.lemmas.List.Elements.{filter_passes}
 use Rattle.std.proofs.lemmas.List.Sums.{AllPass-from_list_all, list_all-from_AllPass}
@@ -24,18 +24,17 @@ use Rattle.cxl_model.specs.declared.plan.Row.{Row}
 use Rattle.cxl_model.specs.declared.request.Request.{Request}
 use Rattle.cxl_model.specs.System.{System}
 use Rattle.cxl_model.specs.Ranges.{serves, decoder_for, ports_for, product, ways_above}
-use Rattle.cxl_model.specs.Rules.{are_distinct, lands_on, leads_on}
-use Rattle.cxl_model.specs.Counts.{is_under, is_endpoint_of}
+use Rattle.cxl_model.specs.Rules.{lands_on, leads_on}
+use Rattle.cxl_model.specs.Counts.{is_under}
 use Rattle.cxl_model.specs.Plans.{committed_row, with_rows}
 use Rattle.cxl_legal.specs.Used.{request_ways, is_used, count_under, is_port_used, used_ports, count_at_port}
 use Rattle.cxl_legal.specs.Endpoints.{cap_at, has_even_ports, has_even_children, first_bridge, has_bridge_share, is_uneven}
-use Rattle.cxl_legal.specs.Stated.{has_row}
 use Rattle.cxl_legal.proofs.FittingServers.{has_parts}
-use Rattle.cxl_legal.proofs.FittingSums.{one, total, length-filter-total, list_any-weaker, once}
+use Rattle.cxl_legal.proofs.FittingSums.{one, length-filter-total, once}
 use Rattle.cxl_legal.proofs.FittingTrees.{KnownTree, ports_some, leaves_at, under_child, port_no_endpoint, same_test}
 use Rattle.cxl_legal.proofs.FittingRules.{ServesAt, leads, reached, listed_by, all_listed}
 use Rattle.cxl_legal.proofs.FittingCounts.{Child, child_at, LandsBelow, lands_below, numbers_differ, is_number, times_tell, no_ways_above}
-use Rattle.cxl_legal.proofs.FittingBlocks.{Kept, kept_of, PortWays, port_ways}
+use Rattle.cxl_legal.proofs.FittingBlocks.{kept_of, port_ways}
 use Rattle.cxl_legal.proofs.FittingRows.{by_row}
 use Rattle.cxl_legal.proofs.FittingUsed.{Planned, listed_length, endpoint_is, even_at, used_lands, lands_used, some_requested}
 

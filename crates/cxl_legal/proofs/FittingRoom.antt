@@ -1,18 +1,18 @@
 -- The room that a legal plan shows in its nodes.
-use Rattle.std.proofs.Common.{◌≡◌, ◌≢◌, ℕ, zero, suc, ◌+◌, ◌-◌, ◌*◌, ◌/◌, ◌%◌, ◌<◌, ◌≤◌, Bool, true, false, not, ◌&&◌, ◌||◌, cond, if◌then◌else◌, List, [], ◌∷◌, length, get_or, set, take, Option, Some, None, refl, sym, ap, ◌∙◌, subst, inl, inr, arith}
-use Rattle.std.specs.Prelude.{slice_get, ◌==◌, nat_le, nat_lt, max, sum_by, position, All, Contains}
+use Rattle.std.proofs.Common.{◌≡◌, ◌≢◌, ℕ, zero, suc, ◌+◌, ◌-◌, ◌<◌, ◌≤◌, Bool, true, false, not, if◌then◌else◌, List, [], length, get_or, set, take, Option, Some, refl, sym, ap, ◌∙◌, inl, inr, arith}
+use Rattle.std.specs.Prelude.{slice_get, ◌==◌, nat_le, nat_lt, max, sum_by, position}
 use Rattle.std.specs.Option.{option_map_or}
-use Rattle.std.specs.List.{list_any, list_all, prefix_len, position_or_len}
-use Rattle.std.proofs.lemmas.Bool.{cases_lt, cases_Bool, and_parts, and_from, and_left, and_right, ne_eqb, ltb-true, leb-true, le-leb, false_from_ne_true, false≢true, true≢false, not-true, not_from_false}
-use Rattle.std.proofs.lemmas.Option.{cond_some, same_Some, slice_get-get_or, slice_get_within, get_or_from_slice_get}
+use Rattle.std.specs.List.{prefix_len, position_or_len}
+use Rattle.std.proofs.lemmas.Bool.{cases_Bool, and_parts, and_from, and_left, and_right, ne_eqb, leb-true, le-leb, false_from_ne_true, false≢true, not-true, not_from_false}
+use Rattle.std.proofs.lemmas.Option.{cond_some, slice_get-get_or, slice_get_within, get_or_from_slice_get}
 use Rattle.std.proofs.lemmas.List.{take-set}
-use Rattle.std.proofs.lemmas.List.Folds.{list_any_at, list_all_at}
+use Rattle.std.proofs.lemmas.List.Folds.{list_all_at}
 use Rattle.std.proofs.lemmas.List.Sums.{sum_by_more}
 use Rattle.std.proofs.lemmas.List.Quantifiers.{position-Some}
 use Rattle.cxl_enc.specs.declared.caps.MemKind.{MemKind}
 use Rattle.cxl_enc.specs.Caps.{decoders_of, decoders_code}
 use Rattle.cxl_enc.specs.Limits.{placeholder_cap}
-use Rattle.cxl_topo.specs.Tree.{forwards_at, is_endpoint_at}
+use Rattle.cxl_topo.specs.Tree.{forwards_at}
 use Rattle.cxl_regs.specs.declared.decoder.Decoder.{Decoder}
 use Rattle.cxl_regs.specs.declared.reading.Range.{Range}
 use Rattle.cxl_regs.specs.Registers.{Registers, IsBlock, reset_decoder, reset_block}
@@ -24,14 +24,12 @@ use Rattle.cxl_span.specs.Spans.{span_step, span_start_of, span_end_of}
 use Rattle.cxl_window.specs.Fields.{WindowFields}
 use Rattle.cxl_model.specs.declared.plan.Row.{Row}
 use Rattle.cxl_model.specs.declared.request.Request.{Request}
-use Rattle.cxl_model.specs.System.{System, IsSystem, decoders_at, decoder_at, ram_at, pmem_at}
+use Rattle.cxl_model.specs.System.{System, IsSystem, decoders_at, decoder_at}
 use Rattle.cxl_model.specs.Rules.{keeps_reach}
-use Rattle.cxl_model.specs.Ranges.{index_for}
 use Rattle.cxl_model.specs.Accepted.{IsAccepted}
-use Rattle.cxl_model.specs.Plans.{committed_row, with_rows}
+use Rattle.cxl_model.specs.Plans.{with_rows}
 use Rattle.cxl_legal.specs.Used.{is_used}
-use Rattle.cxl_legal.specs.Endpoints.{cap_at, lacks_decoder}
-use Rattle.cxl_legal.specs.Stated.{has_row}
+use Rattle.cxl_legal.specs.Endpoints.{lacks_decoder}
 use Rattle.cxl_legal.proofs.FittingServers.{All-at}
 use Rattle.cxl_legal.proofs.FittingRules.{kept, rule_eleven, is_reached}
 use Rattle.cxl_legal.proofs.FittingTrees.{KnownTree}

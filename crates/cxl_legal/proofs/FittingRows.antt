@@ -1,23 +1,20 @@
 -- The image with a plan's rows committed, node by node.
-use Rattle.std.proofs.Common.{◌≡◌, ◌≢◌, ℕ, zero, suc, ◌<◌, ◌≤◌, Bool, true, false, cond, not, ◌&&◌, List, [], ◌∷◌, length, get_or, set, Option, Some, None, refl, sym, ap, ◌∙◌, subst, inl, inr, arith, ◌⊎◌}
-use Rattle.std.specs.Prelude.{slice_get, slice_set, nat_lt, ◌==◌, All, AllPairs, Contains, fold, find, position, option_map, IsTrue}
+use Rattle.std.proofs.Common.{◌≡◌, ◌≢◌, ℕ, zero, suc, ◌<◌, Bool, true, false, cond, not, List, [], ◌∷◌, length, get_or, set, Option, Some, None, refl, sym, ap, ◌∙◌, subst, inl, inr, arith}
+use Rattle.std.specs.Prelude.{slice_get, slice_set, nat_lt, ◌==◌, All, AllPairs, Contains, fold, find, position, option_map}
 use Rattle.std.specs.Option.{option_map_or}
-use Rattle.std.specs.List.{list_any, position_or_len, range_with_len}
-use Rattle.std.proofs.lemmas.Bool.{cases_Bool, cases_eq, and_parts, and_from, or_parts, eqb-true, eq-eqb, false_from_ne_true, false≢true, not-true, not_from_false, lt-ltb, cond-true}
+use Rattle.std.specs.List.{list_any, position_or_len}
+use Rattle.std.proofs.lemmas.Bool.{cases_Bool, and_parts, and_from, eqb-true, eq-eqb, false_from_ne_true, false≢true, not-true, not_from_false, lt-ltb, cond-true}
 use Rattle.std.proofs.lemmas.List.{length-set, get_or-set_same, get_or-set_other}
-use Rattle.std.proofs.lemmas.List.Elements.{All-tail, All-set, All-contains}
+use Rattle.std.proofs.lemmas.List.Elements.{All-tail, All-set}
 use Rattle.std.proofs.lemmas.List.Folds.{Any-from_list_any, list_any_at, find_at}
 use Rattle.std.proofs.lemmas.List.Sums.{position_or_len_is}
 use Rattle.std.proofs.lemmas.List.Quantifiers.{position-Some}
-use Rattle.std.proofs.lemmas.Option.{slice_get_within, slice_get-get_or, get_or_from_slice_get, same_Some, none-some}
-use Rattle.cxl_topo.specs.Tree.{forwards_at, is_endpoint_at, path_of}
-use Rattle.cxl_topo.specs.Kinds.{is_endpoint}
-use Rattle.cxl_topo.specs.declared.node.Node.{Node}
+use Rattle.std.proofs.lemmas.Option.{slice_get_within, slice_get-get_or, get_or_from_slice_get, same_Some}
+use Rattle.cxl_topo.specs.Tree.{forwards_at, path_of}
 use Rattle.cxl_regs.specs.declared.decoder.Decoder.{Decoder}
 use Rattle.cxl_regs.specs.declared.reading.Range.{Range}
-use Rattle.cxl_regs.specs.Reading.{has_range, range_of}
+use Rattle.cxl_regs.specs.Reading.{has_range}
 use Rattle.cxl_regs.specs.Registers.{Registers, IsBlock, IsDecoder, reset_decoder}
-use Rattle.cxl_image.specs.Images.{HasCapsOf, IsBlockOf}
 use Rattle.cxl_model.specs.declared.plan.Row.{Row}
 use Rattle.cxl_model.specs.declared.request.Request.{Request}
 use Rattle.cxl_model.specs.System.{System, IsSystem, decoders_at, decoder_at}
@@ -26,7 +23,8 @@ use Rattle.cxl_model.specs.Counts.{is_under}
 use Rattle.cxl_model.specs.Plans.{committed_row, block_with_row, blocks_with_row, with_rows, IsUsed, AreRowsOf, IsRow}
 use Rattle.cxl_legal.specs.Used.{is_used}
 use Rattle.cxl_legal.specs.Stated.{has_row}
-use Rattle.cxl_legal.proofs.FittingServers.{All-at, InBlock, in_block}
+use Rattle.cxl_legal.proofs.FittingBlocks.{of_node}
+use Rattle.cxl_legal.proofs.FittingServers.{All-at, in_block}
 
 -- ---- lists with one element set
 
@@ -273,17 +271,6 @@ serves_row s request r rows rowed n =
 
 -- ---- the image is a system
 
-endpoint_at : (s : System) (n : ℕ) (block : Registers) → HasCapsOf s.blocks s.nodes → slice_get s.blocks n ≡ Some block → is_endpoint_at s.nodes n ≡ block.endpoint
-endpoint_at s n block caps here =
-    let low : n < length s.blocks = slice_get_within s.blocks n block here in
-    let count : length s.blocks ≡ length s.nodes = caps.count in
-    let node = some_within s.nodes n (omega (arith, low, count)) in
-    ap (λ (o : Option Node). option_map_or (λ (x : Node). is_endpoint x.kind) o false) node.1 ∙ sym (caps.each n block node.0 here node.1).endpoint
-  where
-    some_within : (xs : List Node) (k : ℕ) → k < length xs → (x : Node) × (slice_get xs k ≡ Some x)
-    some_within [] k low = absurd (omega arith)
-    some_within (x ∷ xs) k low = (get_or (x ∷ xs) k x, slice_get-get_or (x ∷ xs) k x low)
-
 -- each block is as it was, or has its row's decoder in place
 pub record ThenBlock (s : System) (r : Range) (n : ℕ) (block : Registers) : Type 0 where
   pub old : Registers
@@ -295,7 +282,7 @@ pub record ThenBlock (s : System) (r : Range) (n : ℕ) (block : Registers) : Ty
 row_block : (s : System) (r : Range) (row : Row) (block : Registers) → IsSystem s → slice_get s.blocks row.node ≡ Some block → IsRow s r row → IsBlock (block_with_row row block)
 row_block s r row block system here is =
     let own : IsBlock block = All-at IsBlock s.blocks row.node block here system.blocks in
-    let kept : IsDecoder block.endpoint row.decoder = subst (λ (b : Bool). IsDecoder b row.decoder) (endpoint_at s row.node block system.caps here) is.kept in
+    let kept : IsDecoder block.endpoint row.decoder = subst (λ (b : Bool). IsDecoder b row.decoder) (sym (of_node s row.node block system here).endpoint) is.kept in
     let committed : IsDecoder block.endpoint (committed_row row) = record { base = kept.base; size = kept.size; ways = kept.ways; gran = kept.gran; tail = kept.tail; skip = kept.skip } in
     record {
       cap = own.cap;

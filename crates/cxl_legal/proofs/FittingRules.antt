@@ -16,14 +16,13 @@ use Rattle.cxl_regs.specs.Rules.{before}
 use Rattle.cxl_span.specs.Spans.{span_start_of}
 use Rattle.cxl_span.specs.Rules.{breaks_rule}
 use Rattle.cxl_span.specs.Breaches.{breaks as block_breaks, BlockKeeps}
-use Rattle.cxl_window.specs.Fields.{WindowFields}
 use Rattle.cxl_regs.specs.declared.reading.Range.{Range}
-use Rattle.cxl_regs.specs.Reading.{entries_of, range_of, has_range}
+use Rattle.cxl_regs.specs.Reading.{entries_of, has_range}
 use Rattle.cxl_model.specs.System.{System, decoders_at, decoder_at, ram_at, pmem_at}
 use Rattle.cxl_model.specs.Ranges.{serves, decoder_for, index_for, window_for}
 use Rattle.cxl_model.specs.Rules.{keeps_window, keeps_targets, keeps_reach, are_distinct, leads_on, is_bridge_landing, targets_land, lists, is_targeted}
 use Rattle.cxl_model.specs.Accepted.{breaks, breaks_at, breaks_block, KeepsBlocks, IsWhole}
-use Rattle.cxl_legal.proofs.FittingServers.{Holds, passes_one, has_parts, same_range, in_block}
+use Rattle.cxl_legal.proofs.FittingServers.{asked, Holds, passes_one, has_parts, same_range, in_block}
 use Rattle.cxl_legal.proofs.FittingTrees.{KnownTree, up_tree, ports_none, ports_some, leaves_at, leaves_root, leaves_step, root_step}
 
 -- ---- blocks
@@ -179,15 +178,10 @@ one_of_range rise s r keeps n i j d e d_there e_there d_has e_has =
 
 -- ---- the rules
 
-pub not_broken : (a b : Bool) → (a && not b) ≡ false → a ≡ true → b ≡ true
-not_broken true true h is = refl
-not_broken true false h is = cc
-not_broken false b h is = cc
-
 -- a rule that is kept of a committed decoder
 pub kept : (s : System) (n i : ℕ) (d : Decoder) (keeps : Decoder → Bool) → decoder_at s n i ≡ Some d → d.committed ≡ true → breaks_at s n i keeps ≡ false → keeps d ≡ true
 kept s n i d keeps there committed unbroken =
-    not_broken d.committed (keeps d) (sym (ap (λ (o : Option Decoder). option_map_or (λ e. e.committed && not (keeps e)) o false) there) ∙ unbroken) committed
+    asked d.committed (keeps d) (sym (ap (λ (o : Option Decoder). option_map_or (λ e. e.committed && not (keeps e)) o false) there) ∙ unbroken) committed
 
 pub rule_nine : (s : System) (n i : ℕ) → breaks s 9 n i ≡ breaks_at s n i (keeps_window s n i)
 unfolding breaks
@@ -200,18 +194,6 @@ rule_ten s n i = refl
 pub rule_eleven : (s : System) (n i : ℕ) → breaks s 11 n i ≡ breaks_at s n i (keeps_reach s n)
 unfolding breaks
 rule_eleven s n i = refl
-
--- K9: the range lies in a window
-pub in_window : (s : System) (r : Range) → IsWhole s r → (n i : ℕ) (d : Decoder) → decoder_at s n i ≡ Some d → has_range r d ≡ true
-    → (w : WindowFields) × (window_for s r ≡ Some w)
-in_window s r whole n i d there has =
-    let own = has_parts r d has in
-    let keeps : keeps_window s n i d ≡ true = kept s n i d (keeps_window s n i) there own.committed (sym (rule_nine s n i) ∙ whole.range 9 n i d (omega arith) there has) in
-    go _ (window_for s (range_of d)) (ap (window_for s) (sym (same_range r d own))) keeps
-  where
-    go : (P : WindowFields → Bool) (o : Option WindowFields) → window_for s r ≡ o → option_map_or P o false ≡ true → (w : WindowFields) × (window_for s r ≡ Some w)
-    go P None is keeps = absurd (false≢true keeps)
-    go P (Some w) is keeps = (w, is)
 
 -- K10: a port's entries differ, and each leads on; the targets of the window land on the range, where the node is the landing of a bridge
 pub record Leads (s : System) (r : Range) (n : ℕ) (d : Decoder) : Type 0 where

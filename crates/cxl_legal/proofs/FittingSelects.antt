@@ -1,20 +1,20 @@
 -- The ways and codes that are planned for the nodes of a legal plan are those of its decoders.
-use Rattle.std.proofs.Common.{◌≡◌, ◌≢◌, ℕ, zero, suc, ◌+◌, ◌*◌, ◌<◌, ◌≤◌, Bool, true, false, not, ◌&&◌, ◌||◌, cond, if◌then◌else◌, List, [], ◌∷◌, length, get_or, map, Option, Some, None, refl, sym, ap, ◌∙◌, subst, inl, inr, arith, ◌⊎◌}
-use Rattle.std.specs.Prelude.{slice_get, ◌==◌, nat_le, sum_by, unwrap_or}
+use Rattle.std.proofs.Common.{◌≡◌, ◌≢◌, ℕ, ◌+◌, ◌*◌, ◌<◌, Bool, true, false, not, ◌&&◌, ◌||◌, if◌then◌else◌, List, length, get_or, Option, Some, None, refl, sym, ap, ◌∙◌, subst, inl, inr, arith, ◌⊎◌}
+use Rattle.std.specs.Prelude.{◌==◌, nat_le, sum_by, unwrap_or}
 use Rattle.std.specs.Option.{option_map_or}
-use Rattle.std.specs.List.{list_any, filter_map, cons_option, range_with_len}
+use Rattle.std.specs.List.{filter_map, cons_option, range_with_len}
 use Rattle.std.proofs.Math.Nat.{mul_assoc, mul_left_comm, dvd-mul_right, eq-one_of_dvd-one}
-use Rattle.std.proofs.lemmas.Bool.{cases_Bool, cases_eq, and_parts, and_from, or_cases, or_left, or_right, eqb-true, eqb-false, eq-eqb, ne_eqb, agree_below_at, leb-true, false≢true, true≢false, not_from_false, not_from_true, cond-true, cond-false, false_from_ne_true}
+use Rattle.std.proofs.lemmas.Bool.{cases_Bool, cases_eq, and_parts, and_from, or_cases, or_left, or_right, eqb-true, eq-eqb, ne_eqb, agree_below_at, leb-true, false≢true, not_from_false, cond-true, cond-false}
 use Rattle.std.proofs.lemmas.Option.{none-some, same_Some}
 use Rattle.std.proofs.lemmas.List.Elements.{filter_passes}
 use Rattle.std.proofs.lemmas.List.Sums.{sum_by-cons}
 use Rattle.cxl_enc.specs.Codes.{ways_of, bits_of, code_in_table}
 use Rattle.cxl_topo.specs.declared.node.Node.{Node}
 use Rattle.cxl_topo.specs.declared.node.Parent.{Parent}
-use Rattle.cxl_topo.specs.Tree.{forwards_at, is_endpoint_at, is_port_at, parent_of, ports_above}
+use Rattle.cxl_topo.specs.Tree.{forwards_at, is_endpoint_at, parent_of, ports_above}
 use Rattle.cxl_regs.specs.declared.decoder.Decoder.{Decoder}
 use Rattle.cxl_regs.specs.declared.reading.Range.{Range}
-use Rattle.cxl_regs.specs.Reading.{decoder_ways, select_bits, range_of, has_range}
+use Rattle.cxl_regs.specs.Reading.{decoder_ways, select_bits, has_range}
 use Rattle.cxl_regs.specs.Rules.{select_ok, endpoint_ways_ok}
 use Rattle.cxl_regs.specs.Words.{has_bit}
 use Rattle.cxl_window.specs.Fields.{WindowFields}
@@ -22,8 +22,8 @@ use Rattle.cxl_model.specs.declared.plan.Row.{Row}
 use Rattle.cxl_model.specs.declared.plan.Plan.{Plan}
 use Rattle.cxl_model.specs.declared.request.Request.{Request}
 use Rattle.cxl_model.specs.System.{System, decoder_at}
-use Rattle.cxl_model.specs.Ranges.{decoder_for, window_for, ports_for, ways_above, bits_above, range_ways, range_code}
-use Rattle.cxl_model.specs.Rules.{keeps_ways, keeps_port_code}
+use Rattle.cxl_model.specs.Ranges.{decoder_for, window_for, ports_for, ways_above, bits_above, range_code}
+use Rattle.cxl_model.specs.Rules.{keeps_ways}
 use Rattle.cxl_model.specs.Accepted.{IsWhole}
 use Rattle.cxl_model.specs.Counts.{is_under}
 use Rattle.cxl_model.specs.Regions.{region_range}
@@ -31,7 +31,7 @@ use Rattle.cxl_model.specs.Plans.{with_rows, plan_code}
 use Rattle.cxl_legal.specs.Used.{request_ways, is_used, count_under, is_port_used, used_ports, planned_ways, planned_bits_above, planned_code}
 use Rattle.cxl_legal.specs.Endpoints.{cap_at}
 use Rattle.cxl_legal.specs.Windows.{can_select, can_have_ways}
-use Rattle.cxl_legal.proofs.FittingServers.{asked, has_parts, same_range, has_ways, endpoint_test, ways_test, rule_twelve, or_true, some_ways, decoder_ways_known}
+use Rattle.cxl_legal.proofs.FittingServers.{asked, asked_or, has_parts, same_range, has_ways, endpoint_test, rule_twelve, or_true, some_ways, decoder_ways_known}
 use Rattle.cxl_legal.proofs.FittingSums.{list_any-weaker}
 use Rattle.cxl_legal.proofs.FittingTrees.{KnownTree, up_tree, ports_none, ports_some, is_above, under_is, under_root, under_step, forwards_no_endpoint}
 use Rattle.cxl_legal.proofs.FittingRules.{ServesAt}
@@ -288,10 +288,6 @@ low_code twelve eleven code ok =
           omega (arith, below)
     ]
 
-asked_code : (a b : Bool) → (not a || b) ≡ true → a ≡ true → b ≡ true
-asked_code true b either is = either
-asked_code false b either is = absurd (false≢true is)
-
 own_code_is : (o : Option ℕ) (code : ℕ) → option_map_or (λ c. c == code) o false ≡ true → o ≡ Some code
 own_code_is None code is = absurd (false≢true is)
 own_code_is (Some c) code is = ap Some (eqb-true c code is)
@@ -299,7 +295,7 @@ own_code_is (Some c) code is = ap Some (eqb-true c code is)
 code_back : (cap : ℕ) (d : Decoder) → endpoint_ways_ok cap d.ways ≡ true → code_in_table (decoder_ways d) ≡ Some d.ways
 code_back cap d ok =
     own_code_is (code_in_table (decoder_ways d)) d.ways
-    (asked_code (nat_le d.ways 3 || ((d.ways == 4) && has_bit cap 12) || (nat_le 8 d.ways && nat_le d.ways 10 && has_bit cap 11))
+    (asked_or (nat_le d.ways 3 || ((d.ways == 4) && has_bit cap 12) || (nat_le 8 d.ways && nat_le d.ways 10 && has_bit cap 11))
     (option_map_or (λ c. c == d.ways) (code_in_table (decoder_ways d)) false)
     (code_tested (has_bit cap 12) (has_bit cap 11) d.ways (low_code (has_bit cap 12) (has_bit cap 11) d.ways ok)) ok)
 

@@ -1,26 +1,23 @@
 -- What the rules say of an endpoint's decoder of a whole range.
-use Rattle.std.proofs.Common.{◌≡◌, ℕ, ◌+◌, ◌*◌, ◌%◌, ◌^◌, ◌<◌, ◌≤◌, ◌⊎◌, Bool, true, false, not, ◌&&◌, ◌||◌, if◌then◌else◌, List, [], get_or, Option, Some, None, refl, sym, ap, ◌∙◌, subst, inl, inr, arith}
-use Rattle.std.specs.Prelude.{slice_get, ◌==◌, nat_lt, nat_le, IsSomeAnd, All, IsTrue, is_some}
+use Rattle.std.proofs.Common.{◌≡◌, ℕ, ◌+◌, ◌*◌, ◌<◌, ◌≤◌, ◌⊎◌, Bool, true, false, not, ◌&&◌, ◌||◌, if◌then◌else◌, List, [], Option, Some, None, refl, sym, ap, ◌∙◌, subst, inl, inr, arith}
+use Rattle.std.specs.Prelude.{slice_get, ◌==◌, nat_lt, nat_le, All, IsTrue, is_some}
 use Rattle.std.specs.Option.{option_map_or, unwrap_or}
 use Rattle.std.specs.List.{list_any}
-use Rattle.std.proofs.lemmas.Bool.{and_parts, eqb-true, leb-true, agree_below_at, cases_lt, le-ltb, le-leb, false≢true}
-use Rattle.std.proofs.lemmas.Option.{slice_get_within, slice_get-get_or, get_or_from_slice_get}
+use Rattle.std.proofs.lemmas.Bool.{and_parts, eqb-true, agree_below_at, cases_lt, le-ltb, le-leb, false≢true}
+use Rattle.std.proofs.lemmas.Option.{slice_get_within, get_or_from_slice_get}
 use Rattle.std.proofs.lemmas.List.Elements.{All-get_or}
 use Rattle.std.proofs.lemmas.List.Folds.{list_any-from_Any}
 use Rattle.cxl_enc.specs.Codes.{ways_of, is_ways}
 use Rattle.cxl_topo.specs.Tree.{is_endpoint_at}
 use Rattle.cxl_regs.specs.declared.decoder.Decoder.{Decoder}
-use Rattle.cxl_regs.specs.Registers.{Registers, IsBlock, IsDecoder}
-use Rattle.cxl_regs.specs.Rules.{codes_ok, endpoint_ways_ok, port_ways_ok}
+use Rattle.cxl_regs.specs.Registers.{Registers}
 use Rattle.cxl_regs.specs.declared.reading.Range.{Range}
 use Rattle.cxl_regs.specs.Reading.{decoder_ways, range_of, has_range}
-use Rattle.cxl_span.specs.Breaches.{breaks as block_breaks}
-use Rattle.cxl_span.specs.Rules.{breaks_codes}
 use Rattle.cxl_window.specs.Fields.{WindowFields}
-use Rattle.cxl_model.specs.System.{System, decoder_at, ram_at, pmem_at}
+use Rattle.cxl_model.specs.System.{System, decoder_at}
 use Rattle.cxl_model.specs.Ranges.{window_for, ways_above, span_kind, same_kind, range_ways, range_kind, range_code}
 use Rattle.cxl_model.specs.Rules.{keeps_ways, keeps_port_code}
-use Rattle.cxl_model.specs.Accepted.{breaks, KeepsBlocks, IsWhole}
+use Rattle.cxl_model.specs.Accepted.{breaks, IsWhole}
 
 -- ---- the numbers of the table
 
@@ -72,6 +69,11 @@ pub asked : (a b : Bool) → (a && not b) ≡ false → a ≡ true → b ≡ tru
 asked true true h is = refl
 asked true false h is = cc
 asked false b h is = cc
+
+-- a test that is kept, where it is asked for or else is not
+pub asked_or : (a b : Bool) → (not a || b) ≡ true → a ≡ true → b ≡ true
+asked_or true b either is = either
+asked_or false b either is = absurd (false≢true is)
 
 -- ---- a decoder of a range
 
@@ -126,36 +128,6 @@ in_block s n i d there = in_block_if s n i d (slice_get s.blocks n) refl there
 pub All-at : {X : Type 0} (P : X → Type 0) (xs : List X) (i : ℕ) (x : X) → slice_get xs i ≡ Some x → All P xs → P x
 All-at P xs i x at each = subst P (get_or_from_slice_get xs i x x at) (All-get_or P xs i x (slice_get_within xs i x at) each)
 
--- its base is a multiple of 256 MiB
-pub base_aligned : (s : System) (n i : ℕ) (d : Decoder) → All IsBlock s.blocks → decoder_at s n i ≡ Some d → d.base % 2 ^ 28 ≡ 0
-base_aligned s n i d blocks there =
-    let own = in_block s n i d there in
-    let is = All-at IsBlock s.blocks n own.block own.at blocks in
-    let each = All-at (IsDecoder own.block.endpoint) own.block.decoders i d own.there is.each in
-    each.base.multiple
-
--- K4: its granularity code is at most 6
-pub block_keeps : (s : System) (n i : ℕ) (block : Registers) → slice_get s.blocks n ≡ Some block → breaks s 4 n i ≡ false
-    → block_breaks 4 block (ram_at s n) (pmem_at s n) i ≡ false
-unfolding breaks
-block_keeps s n i block at kept =
-    sym (ap (λ (o : Option Registers). option_map_or (λ b. block_breaks 4 b (ram_at s n) (pmem_at s n) i) o false) at) ∙ kept
-
--- K4 of a decoder of the block
-pub codes_here : (block : Registers) (ram pmem i : ℕ) (d : Decoder) → slice_get block.decoders i ≡ Some d
-    → block_breaks 4 block ram pmem i ≡ breaks_codes block d
-unfolding block_breaks
-codes_here block ram pmem i d at = rw at refl
-
-pub gran_known : (s : System) (n i : ℕ) (d : Decoder) → KeepsBlocks s → decoder_at s n i ≡ Some d → d.committed ≡ true → d.gran ≤ 6
-gran_known s n i d keeps there committed =
-    let own = in_block s n i d there in
-    let block : Registers = own.block in
-    let kept = block_keeps s n i block own.at (keeps 4 n i (omega arith)) in
-    let codes = asked d.committed (codes_ok block.cap block.endpoint d) (sym (codes_here block (ram_at s n) (pmem_at s n) i d own.there) ∙ kept) committed in
-    let parts = and_parts (nat_le d.gran 6) (if block.endpoint then endpoint_ways_ok block.cap d.ways else port_ways_ok block.cap d.ways) codes in
-    leb-true d.gran 6 parts.0
-
 -- ---- K12
 
 -- the test of an endpoint's decoder, by its range
@@ -199,9 +171,6 @@ pub rule_twelve : (s : System) (n i : ℕ) (d : Decoder) → decoder_at s n i �
 unfolding breaks
 rule_twelve s n i d there kept =
     sym (ap (λ (o : Option Decoder). option_map_or (λ e. e.committed && not (keeps_ways s n i e)) o false) there) ∙ kept
-
-keeps_test : (s : System) (n i : ℕ) (d : Decoder) → keeps_ways s n i d ≡ ways_test s n i d (range_of d) (window_for s (range_of d)) (is_endpoint_at s.nodes n)
-keeps_test s n i d = refl
 
 pub has_ways : (s : System) (w : WindowFields) (r : Range) (n i : ℕ) (d : Decoder) → IsWhole s r → window_for s r ≡ Some w → Serves s r n i d
     → HasWays s w r n d

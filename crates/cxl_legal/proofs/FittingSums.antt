@@ -1,10 +1,8 @@
 -- Sums over a list: how many of its elements pass a test, and two sums in either order.
-use Rattle.std.proofs.Common.{◌≡◌, ℕ, ◌+◌, ◌*◌, ◌≤◌, Bool, true, false, not, ◌&&◌, ◌||◌, cond, List, [], ◌∷◌, length, refl, sym, ap, ◌∙◌, arith}
-use Rattle.std.specs.Prelude.{◌==◌, filter, All}
+use Rattle.std.proofs.Common.{◌≡◌, ℕ, ◌+◌, Bool, true, false, not, ◌&&◌, ◌||◌, cond, List, [], ◌∷◌, length, refl, sym, ap, ◌∙◌, arith}
+use Rattle.std.specs.Prelude.{◌==◌, filter}
 use Rattle.std.specs.List.{list_any}
-use Rattle.std.proofs.Math.Nat.{add-mul}
 use Rattle.std.proofs.lemmas.Bool.{and_parts, or_left, or_right, eq-eqb, false_from_ne_true, false≢true, not-true}
-use Rattle.std.proofs.lemmas.List.Elements.{All-head, All-tail, All-nil, All-cons}
 use Rattle.cxl_model.specs.Rules.{are_distinct}
 
 abbrev pub one : Bool → ℕ
@@ -55,18 +53,6 @@ exchange F [] ys = sym (total-zero ys)
 exchange F (x ∷ xs) ys =
     ap (λ n. total (λ y. F x y) ys + n) (exchange F xs ys) ∙ sym (total-plus (λ y. F x y) (λ y. total (λ x. F x y) xs) ys)
 
--- where each summand times c is r, the sum times c is r as often as there are summands
-pub total_even : {X : Type 0} (f : X → ℕ) (c r : ℕ) (xs : List X) → All (λ x. f x * c ≡ r) xs → total f xs * c ≡ length xs * r
-total_even f c r [] each = omega arith
-total_even f c r (x ∷ xs) each =
-    let first = All-head (λ x. f x * c ≡ r) x xs each in
-    let rest = total_even f c r xs (All-tail (λ x. f x * c ≡ r) x xs each) in
-    let parts = add-mul (f x) (total f xs) c in
-    let more = add-mul 1 (length xs) r in
-    let suc_is : length (x ∷ xs) ≡ 1 + length xs = omega arith in
-    let right : length (x ∷ xs) * r ≡ (1 + length xs) * r = ap (λ n. n * r) suc_is in
-    omega (arith, first, rest, parts, more, right)
-
 -- ---- tests of lists
 
 weaker_step : (a b c d : Bool) → (a ≡ true → b ≡ true) → (c ≡ true → d ≡ true) → (a || c) ≡ true → (b || d) ≡ true
@@ -97,20 +83,3 @@ once q same [] distinct = refl
 once q same (n ∷ ns) distinct =
     let parts = and_parts (not (list_any (λ m. m == n) ns)) (are_distinct ns) distinct in
     once_step (q n) (list_any q ns) (total (λ n. one (q n)) ns) (once q same ns parts.1) (others_fail q same n ns parts.0)
-
--- ---- sums of which one is nowhere above the other
-
-total-le : {X : Type 0} (f g : X → ℕ) → ((x : X) → f x ≤ g x) → (xs : List X) → total f xs ≤ total g xs
-total-le f g least [] = omega arith
-total-le f g least (x ∷ xs) =
-    let first = least x in
-    let rest = total-le f g least xs in
-    omega (arith, first, rest)
-
--- equal sums have equal summands, where those of one are nowhere above those of the other
-pub summands_same : {X : Type 0} (f g : X → ℕ) → ((x : X) → f x ≤ g x) → (xs : List X) → total f xs ≡ total g xs → All (λ x. f x ≡ g x) xs
-summands_same f g least [] same = All-nil (λ x. f x ≡ g x)
-summands_same f g least (x ∷ xs) same =
-    let first = least x in
-    let rest = total-le f g least xs in
-    All-cons (λ x. f x ≡ g x) x xs (omega (arith, first, rest, same)) (summands_same f g least xs (omega (arith, first, rest, same)))

@@ -1,12 +1,10 @@
 -- The window of a whole range, and its targets.
-use Rattle.std.proofs.Common.{◌≡◌, ℕ, suc, ◌+◌, ◌*◌, ◌<◌, ◌≤◌, Bool, true, false, not, ◌&&◌, if◌then◌else◌, List, [], ◌∷◌, length, get_or, Option, Some, None, refl, sym, ap, ◌∙◌, subst, inl, inr, arith}
-use Rattle.std.specs.Prelude.{slice_get, ◌==◌, nat_le, All, option_map}
+use Rattle.std.proofs.Common.{◌≡◌, ℕ, suc, ◌+◌, ◌<◌, ◌≤◌, true, false, not, ◌&&◌, if◌then◌else◌, List, [], ◌∷◌, length, get_or, Option, Some, None, refl, sym, ap, ◌∙◌, subst, inl, inr, arith}
+use Rattle.std.specs.Prelude.{slice_get, ◌==◌, nat_le, option_map}
 use Rattle.std.specs.Option.{option_map_or, option_and_then}
 use Rattle.std.specs.List.{list_any, position_or_len}
-use Rattle.std.proofs.Math.Nat.{mul_comm, one-mul}
-use Rattle.std.proofs.lemmas.Bool.{cases_Bool, and_parts, and_from, or_cases, leb-true, eqb-true, eq-eqb, false_from_ne_true, false≢true, not_from_false}
-use Rattle.std.proofs.lemmas.Option.{slice_get_within, get_or_from_slice_get, none-some, same_Some}
-use Rattle.std.proofs.lemmas.List.{nil_from_length}
+use Rattle.std.proofs.lemmas.Bool.{cases_Bool, and_parts, and_from, leb-true, eqb-true, eq-eqb, false_from_ne_true, false≢true, not_from_false}
+use Rattle.std.proofs.lemmas.Option.{slice_get_within, get_or_from_slice_get, none-some}
 use Rattle.std.proofs.lemmas.List.Folds.{Any-from_list_any, find_at}
 use Rattle.std.proofs.lemmas.List.Sums.{AllPass-from_list_all, passes_at_first}
 use Rattle.cxl_topo.specs.declared.node.Node.{Node}
@@ -14,22 +12,19 @@ use Rattle.cxl_topo.specs.declared.node.NodeKind.{NodeKind}
 use Rattle.cxl_topo.specs.declared.node.NodeKind.TheVariants.{Bridge, Switch, Endpoint}
 use Rattle.cxl_topo.specs.declared.node.Parent.{Parent}
 use Rattle.cxl_topo.specs.Kinds.{is_bridge, uid_of}
-use Rattle.cxl_topo.specs.Tree.{forwards_at, is_bridge_at, is_endpoint_at, uid_at, parent_of, least_child_of, landing_of, bridge_with}
+use Rattle.cxl_topo.specs.Tree.{forwards_at, is_bridge_at, uid_at, parent_of, least_child_of, landing_of, bridge_with}
 use Rattle.cxl_window.specs.declared.window.Verdict.{Verdict}
 use Rattle.cxl_window.specs.declared.window.Verdict.TheVariants.{Usable, Align, Size, TooHigh, Overlap, Target, Repeat, Maps}
 use Rattle.cxl_window.specs.Fields.{WindowFields, IsWindow, IsUsable, AreDistinct}
 use Rattle.cxl_window.specs.Position.{is_usable}
 use Rattle.cxl_model.specs.System.{System, IsSystem}
 use Rattle.cxl_regs.specs.declared.reading.Range.{Range}
-use Rattle.cxl_model.specs.Ranges.{serves, window_for, lies_within, ways_above, range_ways, IsCommittedRange}
+use Rattle.cxl_model.specs.Ranges.{serves, window_for, lies_within, IsCommittedRange}
 use Rattle.cxl_model.specs.Rules.{are_distinct, lands_on, is_bridge_landing, targets_land}
 use Rattle.cxl_model.specs.Accepted.{IsWhole}
-use Rattle.cxl_model.specs.Counts.{is_under, is_endpoint_of, endpoints_of, endpoints_under}
-use Rattle.cxl_legal.proofs.FittingServers.{some_ways}
-use Rattle.cxl_legal.proofs.FittingSums.{one, total, length-filter-total, total-same, total-zero, total_even, list_any-weaker, once}
-use Rattle.cxl_legal.proofs.FittingTrees.{KnownTree, parent_within, parent_is_port, up_tree, under_root, under_step, root_of, under_top}
-use Rattle.cxl_legal.proofs.FittingRules.{RangesRise, served, leads, reached, is_reached, parent_reached, all_targeted, listed_by, in_window}
-use Rattle.cxl_legal.proofs.FittingCounts.{lands_within, lands_here, served_lands, numbers, count_of, count_under, count_parts, is_number, times_tell, no_ways_above}
+use Rattle.cxl_legal.proofs.FittingTrees.{KnownTree, parent_within, parent_is_port, up_tree, root_of}
+use Rattle.cxl_legal.proofs.FittingRules.{RangesRise, served, leads, reached, is_reached, parent_reached, all_targeted, listed_by}
+use Rattle.cxl_legal.proofs.FittingCounts.{lands_within, lands_here, is_number}
 
 -- ---- the window
 
@@ -122,18 +117,6 @@ parent_lands rise s r system known whole i p some is lands =
         ∙ ap (option_and_then (landing_of s.nodes)) child)
         ∙ lands
 
--- an address that comes to a node above one that is reached comes to the range
-above_lands : RangesRise → (s : System) (r : Range) → IsSystem s → KnownTree s.nodes → IsWhole s r → (n i : ℕ) → is_reached s r i ≡ true → lands_on s r i ≡ true → is_under s.nodes n i ≡ true
-    → lands_on s r n ≡ true
-above_lands rise s r system known whole n =
-    up_tree known (λ i. is_reached s r i ≡ true → lands_on s r i ≡ true → is_under s.nodes n i ≡ true → lands_on s r n ≡ true)
-    (λ i none is lands under. ap (lands_on s r) (sym (eqb-true i n (sym (under_root known n i none) ∙ under))) ∙ lands)
-    (λ i p some rest is lands under.
-    elim (or_cases (i == n) (is_under s.nodes n p.node) (sym (under_step known n i p some) ∙ under)) [
-      | inl here ↦ ap (lands_on s r) (sym (eqb-true i n here)) ∙ lands
-      | inr higher ↦ rest (parent_reached rise s r known whole i p some is).0 (parent_lands rise s r system known whole i p some is lands) higher
-    ])
-
 -- so does one that comes to its bridge
 bridge_lands : RangesRise → (s : System) (r : Range) → IsSystem s → KnownTree s.nodes → IsWhole s r → (i : ℕ) → is_reached s r i ≡ true → lands_on s r i ≡ true
     → (b : ℕ) × (is_bridge_at s.nodes b ≡ true) × (lands_on s r b ≡ true)
@@ -148,24 +131,6 @@ bridge_lands rise s r system known whole =
           | inl bridge ↦ bridge
           | inr other ↦ let own = known.tree.others i within other in absurd (none-some own.0 (sym none ∙ own.1))
         ]
-
--- under a node from which no address comes to the range lies none of its endpoints
-pub none_under : RangesRise → (s : System) (r : Range) → IsSystem s → KnownTree s.nodes → IsWhole s r → (n : ℕ) → lands_on s r n ≡ false → endpoints_under s r n ≡ []
-none_under rise s r system known whole n other =
-    nil_from_length (endpoints_under s r n)
-    (count_under s r n
-    ∙ total-same (λ m. one (is_endpoint_of s r m && is_under s.nodes n m)) (λ m. 0) (λ m. none (is_endpoint_of s r m) (is_under s.nodes n m) (apart m)) (numbers s)
-    ∙ total-zero (numbers s))
-  where
-    none : (a b : Bool) → (a ≡ true → b ≡ true → ⊥) → one (a && b) ≡ 0
-    none true true apart = absurd (apart refl refl)
-    none true false apart = refl
-    none false b apart = refl
-
-    apart : (m : ℕ) → is_endpoint_of s r m ≡ true → is_under s.nodes n m ≡ true → ⊥
-    apart m is under =
-        let serving = (and_parts (is_endpoint_at s.nodes m) (serves s r m) is).1 in
-        false≢true (sym other ∙ above_lands rise s r system known whole n m (reached s r whole m serving).1 (served_lands s r m system known whole serving) under)
 
 -- the landing of the bridge serves the range
 landing_serves : (s : System) (r : Range) (b : ℕ) → is_bridge_at s.nodes b ≡ true → b < length s.nodes → lands_on s r b ≡ true
@@ -232,4 +197,3 @@ rooted rise s r w known whole window m is =
     go : (o : Option ℕ) → root_of s.nodes m ≡ o → option_map_or (λ uid. list_any (λ target. target == uid) w.targets) (option_and_then (uid_at s.nodes) o) false ≡ true → Rooted s w m
     go None root any = absurd (false≢true any)
     go (Some b) root any = with_uid b root (uid_at s.nodes b) refl any
-

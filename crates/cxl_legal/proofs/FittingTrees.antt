@@ -3,7 +3,7 @@ use Rattle.std.proofs.Common.{◌≡◌, ℕ, zero, suc, ◌<◌, Bool, true, fa
 use Rattle.std.specs.Prelude.{slice_get, ◌==◌, option_map}
 use Rattle.std.specs.Option.{option_map_or, option_and_then}
 use Rattle.std.specs.List.{list_any}
-use Rattle.std.proofs.lemmas.Bool.{cases_lt, cases_Bool, and_parts, and_from, or_cases, or_left, or_right, eqb-true, eq-eqb, ne_eqb, false≢true, false_from_ne_true, not-true}
+use Rattle.std.proofs.lemmas.Bool.{cases_lt, cases_Bool, and_parts, and_from, or_cases, eqb-true, eq-eqb, ne_eqb, false≢true, false_from_ne_true, not-true}
 use Rattle.std.proofs.lemmas.Option.{slice_get_past, none-some, same_Some}
 use Rattle.std.proofs.lemmas.List.{reverse-append, length-reverse}
 use Rattle.std.proofs.lemmas.List.Folds.{list_any-append}
@@ -133,17 +133,6 @@ under_is {nodes} known n =
     (λ i none. under_root known n i none ∙ sym (or_false (i == n)) ∙ ap (λ b. (i == n) || b) (sym (above_root known n i none)))
     (λ i p some rest. under_step known n i p some ∙ ap (λ b. (i == n) || b) (rest ∙ sym (above_step known n i p some)))
 
-pub above_earlier : {nodes : List Node} → KnownTree nodes → (n i : ℕ) → is_above nodes n i ≡ true → n < i
-above_earlier {nodes} known n =
-    up_tree known (λ i. is_above nodes n i ≡ true → n < i)
-    (λ i none above. absurd (false≢true (sym (above_root known n i none) ∙ above)))
-    (λ i p some rest above.
-    let up : p.node < i = (parent_is_port known i p some).0 in
-    elim (or_cases (p.node == n) (is_above nodes n p.node) (sym (above_step known n i p some) ∙ above)) [
-      | inl here ↦ let same = eqb-true p.node n here in omega arith
-      | inr higher ↦ let lower = rest higher in omega arith
-    ])
-
 pub above_port : {nodes : List Node} → KnownTree nodes → (n i : ℕ) → is_above nodes n i ≡ true → is_port_at nodes n ≡ true
 above_port {nodes} known n =
     up_tree known (λ i. is_above nodes n i ≡ true → is_port_at nodes n ≡ true)
@@ -152,56 +141,6 @@ above_port {nodes} known n =
     elim (or_cases (p.node == n) (is_above nodes n p.node) (sym (above_step known n i p some) ∙ above)) [
       | inl here ↦ subst (λ (m : ℕ). is_port_at nodes m ≡ true) (eqb-true p.node n here) (parent_is_port known i p some).1
       | inr higher ↦ rest higher
-    ])
-
-pub leaves_above : {nodes : List Node} → KnownTree nodes → (n e i : ℕ) → leaves_at nodes n e i ≡ true → is_above nodes n i ≡ true
-leaves_above {nodes} known n e =
-    up_tree known (λ i. leaves_at nodes n e i ≡ true → is_above nodes n i ≡ true)
-    (λ i none leaves. absurd (false≢true (sym (leaves_root known n e i none) ∙ leaves)))
-    (λ i p some rest leaves. above_step known n i p some ∙
-    elim (or_cases ((p.node == n) && (p.port == e)) (leaves_at nodes n e p.node) (sym (leaves_step known n e i p some) ∙ leaves)) as (λ x. ((p.node == n) || is_above nodes n p.node) ≡ true) [
-      | inl here ↦ or_left (p.node == n) (is_above nodes n p.node) (and_parts (p.node == n) (p.port == e) here).0
-      | inr higher ↦ or_right (p.node == n) (is_above nodes n p.node) (rest higher)
-    ])
-
--- it leaves each node above at one port
-pub above_leaves : {nodes : List Node} → KnownTree nodes → (n i : ℕ) → is_above nodes n i ≡ true → (e : ℕ) × (leaves_at nodes n e i ≡ true)
-above_leaves {nodes} known n =
-    up_tree known (λ i. is_above nodes n i ≡ true → (e : ℕ) × (leaves_at nodes n e i ≡ true))
-    (λ i none above. absurd (false≢true (sym (above_root known n i none) ∙ above)))
-    (λ i p some rest above.
-    elim (or_cases (p.node == n) (is_above nodes n p.node) (sym (above_step known n i p some) ∙ above)) [
-      | inl here ↦
-          let now : ((p.node == n) && (p.port == p.port)) ≡ true = and_from (p.node == n) (p.port == p.port) here (eq-eqb p.port p.port refl) in
-          (p.port, leaves_step known n p.port i p some ∙ or_left ((p.node == n) && (p.port == p.port)) (leaves_at nodes n p.port p.node) now)
-      | inr higher ↦
-          let more = rest higher in
-          (more.0, leaves_step known n more.0 i p some ∙ or_right ((p.node == n) && (p.port == more.0)) (leaves_at nodes n more.0 p.node) more.1)
-    ])
-
-here_not_above : {nodes : List Node} → KnownTree nodes → (n e m : ℕ) → (m == n) ≡ true → leaves_at nodes n e m ≡ true → ⊥
-here_not_above known n e m here leaves =
-    let same = eqb-true m n here in
-    let lower = above_earlier known n m (leaves_above known n e m leaves) in
-    omega arith
-
-pub leaves_once : {nodes : List Node} → KnownTree nodes → (n e f i : ℕ) → leaves_at nodes n e i ≡ true → leaves_at nodes n f i ≡ true → e ≡ f
-leaves_once {nodes} known n e f =
-    up_tree known (λ i. leaves_at nodes n e i ≡ true → leaves_at nodes n f i ≡ true → e ≡ f)
-    (λ i none one other. absurd (false≢true (sym (leaves_root known n e i none) ∙ one)))
-    (λ i p some rest one other.
-    elim (or_cases ((p.node == n) && (p.port == e)) (leaves_at nodes n e p.node) (sym (leaves_step known n e i p some) ∙ one)) [
-      | inl here ↦
-          let parts = and_parts (p.node == n) (p.port == e) here in
-          elim (or_cases ((p.node == n) && (p.port == f)) (leaves_at nodes n f p.node) (sym (leaves_step known n f i p some) ∙ other)) [
-            | inl there ↦ sym (eqb-true p.port e parts.1) ∙ eqb-true p.port f (and_parts (p.node == n) (p.port == f) there).1
-            | inr higher ↦ absurd (here_not_above known n f p.node parts.0 higher)
-          ]
-      | inr higher ↦
-          elim (or_cases ((p.node == n) && (p.port == f)) (leaves_at nodes n f p.node) (sym (leaves_step known n f i p some) ∙ other)) [
-            | inl there ↦ absurd (here_not_above known n e p.node (and_parts (p.node == n) (p.port == f) there).0 higher)
-            | inr both ↦ rest higher both
-          ]
     ])
 
 -- ---- a child and what stands under it
@@ -235,21 +174,6 @@ under_child {nodes} known n e c child =
         let port = eqb-true p.port e parts.1 in
         let same : p ≡ own = λ k. record { node = node k; port = port k } in
         eq-eqb i c (known.tree.ports i c own (some ∙ ap Some same) child))
-
--- under the only child of a node that forwards stands what that node stands above
-pub under_only : {nodes : List Node} → KnownTree nodes → (c : ℕ) (own : Parent) → parent_of nodes c ≡ Some own → forwards_at nodes own.node ≡ true
-    → (i : ℕ) → is_under nodes c i ≡ is_above nodes own.node i
-under_only {nodes} known c own child forwards =
-    up_tree known (λ i. is_under nodes c i ≡ is_above nodes own.node i)
-    (λ i none. under_root known c i none ∙ ne_eqb i c (λ same. none-some own (sym none ∙ ap (parent_of nodes) same ∙ child)) ∙ sym (above_root known own.node i none))
-    (λ i p some rest.
-    under_step known c i p some ∙ ap (λ b. (i == c) || b) rest ∙ ap (λ b. b || is_above nodes own.node p.node) (turn i p some) ∙ sym (above_step known own.node i p some))
-  where
-    turn : (i : ℕ) (p : Parent) → parent_of nodes i ≡ Some p → (i == c) ≡ (p.node == own.node)
-    turn i p some =
-        same_test (i == c) (p.node == own.node)
-        (λ here. eq-eqb p.node own.node (ap (λ (q : Parent). q.node) (same_Some p own (sym some ∙ ap (parent_of nodes) (eqb-true i c here) ∙ child))))
-        (λ there. eq-eqb i c (known.tree.forwarding i c p own some child (eqb-true p.node own.node there) (subst (λ (m : ℕ). forwards_at nodes m ≡ true) (sym (eqb-true p.node own.node there)) forwards)))
 
 -- ---- ports and endpoints
 

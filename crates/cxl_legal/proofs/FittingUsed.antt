@@ -1,12 +1,12 @@
 -- The endpoints of a legal plan's range are those of its request, and the nodes to which the range leads are the used ones.
-use Rattle.std.proofs.Common.{◌≡◌, ◌≢◌, ℕ, zero, suc, ◌+◌, ◌*◌, ◌<◌, ◌≤◌, Bool, true, false, not, ◌&&◌, ◌||◌, cond, List, [], ◌∷◌, length, get_or, Option, Some, None, refl, sym, ap, ◌∙◌, subst, inl, inr, arith, ◌⊎◌}
-use Rattle.std.specs.Prelude.{slice_get, ◌==◌, All, AllPairs, Contains, filter, IsTrue}
+use Rattle.std.proofs.Common.{◌≡◌, ◌≢◌, ℕ, ◌*◌, ◌<◌, Bool, true, false, not, ◌&&◌, ◌||◌, cond, List, [], ◌∷◌, length, get_or, Option, Some, None, refl, sym, ap, ◌∙◌, subst, inl, inr, arith, ◌⊎◌}
+use Rattle.std.specs.Prelude.{◌==◌, All, AllPairs, filter, IsTrue}
 use Rattle.std.specs.Option.{option_map_or}
 use Rattle.std.specs.List.{list_any, range_with_len}
-use Rattle.std.proofs.lemmas.Bool.{cases_lt, cases_Bool, and_parts, and_from, or_parts, eqb-true, eq-eqb, false_from_ne_true, false≢true, true≢false, not-true, not_from_false}
+use Rattle.std.proofs.lemmas.Bool.{cases_lt, cases_Bool, and_parts, and_from, or_parts, eqb-true, eq-eqb, false_from_ne_true, false≢true, not_from_false}
 use Rattle.std.proofs.lemmas.Option.{slice_get_past}
-use Rattle.std.proofs.lemmas.List.Elements.{All-tail, All-head, Contains-get_or}
-use Rattle.std.proofs.lemmas.List.Folds.{Any-from_list_any, list_any_at}
+use Rattle.std.proofs.lemmas.List.Elements.{All-tail, All-head}
+use Rattle.std.proofs.lemmas.List.Folds.{Any-from_list_any}
 use Rattle.cxl_topo.specs.declared.node.Node.{Node}
 use Rattle.cxl_topo.specs.Kinds.{is_endpoint}
 use Rattle.cxl_topo.specs.Tree.{forwards_at, is_endpoint_at}
@@ -26,7 +26,7 @@ use Rattle.cxl_regs.specs.declared.decoder.Decoder.{Decoder}
 use Rattle.cxl_legal.specs.Used.{HasBytePorts, AreEndpoints, request_ways, is_used, count_under}
 use Rattle.cxl_legal.specs.Stated.{has_row}
 use Rattle.cxl_legal.proofs.FittingServers.{some_ways, decoder_ways_known}
-use Rattle.cxl_legal.proofs.FittingSums.{one, total, length-filter-total, total-same, total-zero, exchange, list_any-weaker, once}
+use Rattle.cxl_legal.proofs.FittingSums.{one, total, length-filter-total, total-same, exchange, list_any-weaker, once}
 use Rattle.cxl_legal.proofs.FittingTrees.{KnownTree, under_endpoint, forwards_no_endpoint, same_test}
 use Rattle.cxl_legal.proofs.FittingRules.{RangesRise}
 use Rattle.cxl_legal.proofs.FittingCounts.{numbers, count_of, numbers_differ, is_number}

@@ -1,19 +1,18 @@
 -- The window of a legal plan keeps what it has to.
-use Rattle.std.proofs.Common.{◌≡◌, ◌≢◌, ℕ, ◌+◌, ◌-◌, ◌*◌, ◌%◌, ◌<◌, ◌≤◌, Bool, true, false, not, ◌&&◌, ◌||◌, if◌then◌else◌, List, [], length, get_or, Option, Some, None, refl, sym, ap, ◌∙◌, subst, inl, inr, arith, ◌⊎◌}
-use Rattle.std.specs.Prelude.{slice_get, ◌==◌, nat_lt, nat_le, IfSome}
+use Rattle.std.proofs.Common.{◌≡◌, ◌≢◌, ℕ, ◌-◌, ◌*◌, Bool, true, false, not, ◌&&◌, ◌||◌, length, get_or, Option, Some, None, refl, sym, ap, ◌∙◌, inl, inr, arith}
+use Rattle.std.specs.Prelude.{◌==◌, nat_lt, IfSome}
 use Rattle.std.specs.Option.{option_map_or}
 use Rattle.std.specs.List.{list_any, list_all, range_with_len}
-use Rattle.std.proofs.lemmas.Bool.{cases_Bool, and_parts, and_from, or_left, or_right, ltb-true, eqb-true, eq-eqb, false≢true, not_from_false}
+use Rattle.std.proofs.lemmas.Bool.{cases_Bool, and_parts, and_from, or_left, or_right, ltb-true, eq-eqb, false≢true, not_from_false}
 use Rattle.std.proofs.lemmas.Option.{same_Some}
 use Rattle.std.proofs.lemmas.List.Folds.{Any-from_list_any, list_any_at}
 use Rattle.std.proofs.lemmas.List.Sums.{list_all-from_AllPass}
 use Rattle.cxl_enc.specs.declared.caps.MemKind.{MemKind}
 use Rattle.cxl_enc.specs.declared.caps.MemKind.TheVariants.{Ram, Pmem}
-use Rattle.cxl_topo.specs.Tree.{is_bridge_at, is_endpoint_at, uid_at, bridge_with}
+use Rattle.cxl_topo.specs.Tree.{is_bridge_at, is_endpoint_at, uid_at}
 use Rattle.cxl_regs.specs.declared.decoder.Decoder.{Decoder}
 use Rattle.cxl_regs.specs.declared.reading.Range.{Range}
-use Rattle.cxl_regs.specs.Reading.{decoder_ways, range_of, has_range}
-use Rattle.cxl_window.specs.declared.window.Verdict.{Verdict}
+use Rattle.cxl_regs.specs.Reading.{decoder_ways, has_range}
 use Rattle.cxl_window.specs.Fields.{WindowFields}
 use Rattle.cxl_window.specs.Position.{is_usable}
 use Rattle.cxl_model.specs.declared.plan.Plan.{Plan}
@@ -27,11 +26,11 @@ use Rattle.cxl_model.specs.Regions.{region_range}
 use Rattle.cxl_model.specs.Plans.{with_rows, AgreesOnCode}
 use Rattle.cxl_legal.specs.Used.{is_used}
 use Rattle.cxl_legal.specs.Windows.{is_used_bridge, is_target, has_used_bridges, agrees_on_gran, FitsWindow}
-use Rattle.cxl_legal.proofs.FittingServers.{asked, has_parts, same_range, endpoint_test, ways_test, rule_twelve}
+use Rattle.cxl_legal.proofs.FittingServers.{asked, asked_or, has_parts, same_range, endpoint_test, ways_test, rule_twelve}
 use Rattle.cxl_legal.proofs.FittingTrees.{under_top}
-use Rattle.cxl_legal.proofs.FittingRules.{ServesAt, served, kept, rule_nine}
+use Rattle.cxl_legal.proofs.FittingRules.{kept, rule_nine}
 use Rattle.cxl_legal.proofs.FittingTargets.{has_window, targets, rooted}
-use Rattle.cxl_legal.proofs.FittingUsed.{Planned, lands_used, endpoint_is}
+use Rattle.cxl_legal.proofs.FittingUsed.{lands_used, endpoint_is}
 use Rattle.cxl_legal.proofs.FittingEndpoints.{Legal, planned, first_requested}
 use Rattle.cxl_legal.proofs.FittingSelects.{all_select, all_have_ways}
 
@@ -45,10 +44,6 @@ pub record Lies (s : System) (w : WindowFields) (r : Range) (n i : ℕ) : Type 0
 abbrev window_test : System → ℕ → ℕ → Range → Option WindowFields → Bool
 window_test s n i r o = option_map_or (λ w. starts_in_thirds w r && (not (is_endpoint_at s.nodes n) || permits w (span_kind s n i))) o false
 
-asked_kind : (a b : Bool) → (not a || b) ≡ true → a ≡ true → b ≡ true
-asked_kind true b either is = either
-asked_kind false b either is = absurd (false≢true is)
-
 pub lies_there : (s : System) (w : WindowFields) (r : Range) (n i : ℕ) (d : Decoder) → IsWhole s r → window_for s r ≡ Some w → decoder_at s n i ≡ Some d → has_range r d ≡ true → Lies s w r n i
 lies_there s w r n i d whole window there has =
     let own = has_parts r d has in
@@ -56,7 +51,7 @@ lies_there s w r n i d whole window there has =
     let test : window_test s n i r (Some w) ≡ true =
     sym (ap (λ (q : Range). window_test s n i q (window_for s q)) (same_range r d own) ∙ ap (window_test s n i r) window) ∙ keeps in
     let parts = and_parts (starts_in_thirds w r) (not (is_endpoint_at s.nodes n) || permits w (span_kind s n i)) test in
-    record { thirds = parts.0; kind = asked_kind (is_endpoint_at s.nodes n) (permits w (span_kind s n i)) parts.1 }
+    record { thirds = parts.0; kind = asked_or (is_endpoint_at s.nodes n) (permits w (span_kind s n i)) parts.1 }
 
 -- ---- K12, of the kind
 
