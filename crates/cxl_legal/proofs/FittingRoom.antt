@@ -1,5 +1,5 @@
 -- The room that a legal plan shows in its nodes.
-use Rattle.std.proofs.Common.{◌≡◌, ◌≢◌, ℕ, zero, suc, ◌+◌, ◌-◌, ◌<◌, ◌≤◌, Bool, true, false, not, if◌then◌else◌, List, [], length, get_or, set, take, Option, Some, refl, sym, ap, ◌∙◌, inl, inr, arith}
+use Rattle.std.proofs.Common.{◌≡◌, ℕ, zero, suc, ◌+◌, ◌-◌, ◌<◌, ◌≤◌, Bool, true, false, not, if◌then◌else◌, List, [], length, get_or, set, take, Option, Some, refl, sym, ap, ◌∙◌, inl, inr, arith}
 use Rattle.std.specs.Prelude.{slice_get, ◌==◌, nat_le, nat_lt, max, sum_by, position}
 use Rattle.std.specs.Option.{option_map_or}
 use Rattle.std.specs.List.{prefix_len, position_or_len}
@@ -153,19 +153,20 @@ least_span ds ram pmem kind len start left after inside =
     let parts = and_parts (nat_le (partition_start kind ram) start) (nat_le (start + len) (partition_end kind ram pmem)) inside in
     let from : partition_start kind ram ≤ start = leb-true (partition_start kind ram) start parts.0 in
     let to : start + len ≤ partition_end kind ram pmem = leb-true (start + len) (partition_end kind ram pmem) parts.1 in
-    let least : ℕ = max (cursor_of ds) (partition_start kind ram) in
-    (record { skip = least - cursor_of ds; start = least; len = len },
-    record {
-      left = left;
-      can_start = record {
-        after = omega arith;
-        inside = and_from (nat_le (partition_start kind ram) least) (nat_le (least + len) (partition_end kind ram pmem))
-            (le-leb (partition_start kind ram) least (omega arith)) (le-leb (least + len) (partition_end kind ram pmem) (omega (arith, from, to, after)));
-      };
-      least = λ other can. least_of other can.after can.inside;
-      skip = omega arith;
-      length = refl;
-    })
+    let least : ℕ = max (cursor_of ds) (partition_start kind ram) in (
+      record { skip = least - cursor_of ds; start = least; len = len },
+      record {
+        left = left;
+        can_start = record {
+          after = omega arith;
+          inside = and_from (nat_le (partition_start kind ram) least) (nat_le (least + len) (partition_end kind ram pmem))
+              (le-leb (partition_start kind ram) least (omega arith)) (le-leb (least + len) (partition_end kind ram pmem) (omega (arith, from, to, after)));
+        };
+        least = λ other can. least_of other can.after can.inside;
+        skip = omega arith;
+        length = refl;
+      },
+    )
   where
     least_of : (other : ℕ) → cursor_of ds ≤ other → lies_in kind ram pmem other len ≡ true → max (cursor_of ds) (partition_start kind ram) ≤ other
     least_of other low lies =

@@ -1,4 +1,4 @@
-use Rattle.cxl_legal.proofs.FittingEndpoints.{Laws, Legal, fits_endpoints}
+use Rattle.cxl_legal.proofs.FittingEndpoints.{Laws, fits_endpoints}
 use Rattle.cxl_legal.proofs.FittingWindows.{fits_window}
 use Rattle.cxl_legal.proofs.FittingBases.{fits_base}
 use Rattle.cxl_legal.proofs.laws.legal_plans_fit.Goals as goal
