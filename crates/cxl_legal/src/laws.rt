@@ -16,6 +16,10 @@ ghost use Rattle.cxl_legal.specs.Windows.{FitsWindow};
 ghost use Rattle.cxl_legal.specs.Bases.{FitsBase};
 ghost use Rattle.cxl_legal.specs.Stated.{has_row, stated_row, stated_rows, planned_range, IsStatedPlan, Fits};
 
+use cxl_model::one_window;
+use cxl_span::{committed_stand_first, ranges_rise, spans_are_whole};
+use cxl_topo::tree_laws;
+
 /// A law of plans: where one is legal over an accepted image, the request keeps all that it has to, in its
 /// endpoints, in that window and at that base.
 pub fn legal_plans_fit()
@@ -50,7 +54,13 @@ pub fn stated_rows_keep_blocks()
         → KeepsBlocks (with_rows s (stated_rows s request w base)) }
     ensures system { (s : System) (request : Request) (w : WindowFields) (base : ℕ) → Fits s request w base
         → IsSystem (with_rows s (stated_rows s request w base)) }
-{}
+{
+    tree_laws();
+    committed_stand_first();
+    ranges_rise();
+    spans_are_whole();
+    one_window();
+}
 
 /// A law of plans: where a request keeps all that it has to over an accepted image, the plan that is stated for it
 /// is legal.

@@ -1,0 +1,3 @@
+pub mod RowsTrees
+pub mod RowsSystems
+pub mod RowsRanges

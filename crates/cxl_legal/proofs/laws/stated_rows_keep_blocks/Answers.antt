@@ -1,0 +1,32 @@
+use Rattle.std.proofs.Common.{◌≡◌, ℕ, true, false, Some, None}
+use Rattle.cxl_legal.proofs.RowsRanges.{Lower, new_range}
+use Rattle.cxl_legal.proofs.laws.stated_rows_keep_blocks.Goals as goal
+
+known : goal.After-one_window → Lower
+known c = record {
+  trees = c.tree_laws.ensures.laws;
+  counted = c.committed_stand_first.ensures.counted;
+  apart = c.ranges_rise.ensures.apart;
+  window = c.one_window.ensures;
+}
+
+pub returns-clause-rows : goal.returns-clause-rows
+returns-clause-rows c = ?
+
+pub returns-clause-each : goal.returns-clause-each
+returns-clause-each c = ?
+
+pub returns-clause-new : goal.returns-clause-new
+returns-clause-new c = λ s request w base n fits. new_range (known c) s request w base fits n
+
+pub returns-clause-decoders : goal.returns-clause-decoders
+returns-clause-decoders c = ?
+
+pub returns-clause-indices : goal.returns-clause-indices
+returns-clause-indices c = ?
+
+pub returns-clause-blocks : goal.returns-clause-blocks
+returns-clause-blocks c = ?
+
+pub returns-clause-system : goal.returns-clause-system
+returns-clause-system c = ?
