@@ -1,3 +1,4 @@
 pub mod RowsTrees
 pub mod RowsSystems
 pub mod RowsRanges
+pub mod RowsUsed

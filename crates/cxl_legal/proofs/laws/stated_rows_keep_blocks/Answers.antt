@@ -1,5 +1,6 @@
 use Rattle.std.proofs.Common.{◌≡◌, ℕ, true, false, Some, None}
 use Rattle.cxl_legal.proofs.RowsRanges.{Lower, new_range}
+use Rattle.cxl_legal.proofs.RowsUsed.{rows_of}
 use Rattle.cxl_legal.proofs.laws.stated_rows_keep_blocks.Goals as goal
 
 known : goal.After-one_window → Lower
@@ -11,7 +12,7 @@ known c = record {
 }
 
 pub returns-clause-rows : goal.returns-clause-rows
-returns-clause-rows c = ?
+returns-clause-rows c = λ s request w base fits. rows_of s request w base fits.system.tree (c.tree_laws.ensures.laws s.nodes fits.system.tree) fits.named
 
 pub returns-clause-each : goal.returns-clause-each
 returns-clause-each c = ?
