@@ -1,6 +1,7 @@
 use Rattle.std.proofs.Common.{◌≡◌, ℕ, true, false, Some, None}
 use Rattle.cxl_legal.proofs.RowsRanges.{Lower, new_range}
 use Rattle.cxl_legal.proofs.RowsUsed.{rows_of}
+use Rattle.cxl_legal.proofs.RowsImages.{decoder_for_range, index_for_range}
 use Rattle.cxl_legal.proofs.laws.stated_rows_keep_blocks.Goals as goal
 
 known : goal.After-one_window → Lower
@@ -21,10 +22,10 @@ pub returns-clause-new : goal.returns-clause-new
 returns-clause-new c = λ s request w base n fits. new_range (known c) s request w base fits n
 
 pub returns-clause-decoders : goal.returns-clause-decoders
-returns-clause-decoders c = ?
+returns-clause-decoders c = λ s request w base n fits. decoder_for_range (known c) s request w base fits n
 
 pub returns-clause-indices : goal.returns-clause-indices
-returns-clause-indices c = ?
+returns-clause-indices c = λ s request w base n fits. index_for_range (known c) s request w base fits n
 
 pub returns-clause-blocks : goal.returns-clause-blocks
 returns-clause-blocks c = ?
