@@ -4,3 +4,6 @@ pub mod RowsRanges
 pub mod RowsUsed
 pub mod RowsFolds
 pub mod RowsImages
+pub mod RowsNumbers
+pub mod RowsSpans
+pub mod RowsDecoders

@@ -119,7 +119,7 @@ rule_eleven : (s : System) (n i : ℕ) → breaks s 11 n i ≡ breaks_at s n i (
 unfolding breaks
 rule_eleven s n i = refl
 
-kept_of : (a b : Bool) → (a && not b) ≡ false → a ≡ true → b ≡ true
+pub kept_of : (a b : Bool) → (a && not b) ≡ false → a ≡ true → b ≡ true
 kept_of true true h is = refl
 kept_of true false h is = cc
 kept_of false b h is = cc

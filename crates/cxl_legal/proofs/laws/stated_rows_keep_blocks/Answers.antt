@@ -2,6 +2,8 @@ use Rattle.std.proofs.Common.{◌≡◌, ℕ, true, false, Some, None}
 use Rattle.cxl_legal.proofs.RowsRanges.{Lower, new_range}
 use Rattle.cxl_legal.proofs.RowsUsed.{rows_of}
 use Rattle.cxl_legal.proofs.RowsImages.{decoder_for_range, index_for_range}
+use Rattle.cxl_legal.proofs.RowsSpans.{SpanLaw}
+use Rattle.cxl_legal.proofs.RowsDecoders.{is_row}
 use Rattle.cxl_legal.proofs.laws.stated_rows_keep_blocks.Goals as goal
 
 known : goal.After-one_window → Lower
@@ -12,11 +14,14 @@ known c = record {
   window = c.one_window.ensures;
 }
 
+spans : goal.After-one_window → SpanLaw
+spans c = record { starts = c.spans_are_whole.ensures.start_aligned; lengths = c.spans_are_whole.ensures.length_aligned }
+
 pub returns-clause-rows : goal.returns-clause-rows
 returns-clause-rows c = λ s request w base fits. rows_of s request w base fits.system.tree (c.tree_laws.ensures.laws s.nodes fits.system.tree) fits.named
 
 pub returns-clause-each : goal.returns-clause-each
-returns-clause-each c = ?
+returns-clause-each c = λ s request w base row fits. is_row (known c) (spans c) s request w base fits row
 
 pub returns-clause-new : goal.returns-clause-new
 returns-clause-new c = λ s request w base n fits. new_range (known c) s request w base fits n
