@@ -7,3 +7,5 @@ pub mod RowsImages
 pub mod RowsNumbers
 pub mod RowsSpans
 pub mod RowsDecoders
+pub mod RowsRules
+pub mod RowsKept

@@ -84,7 +84,7 @@ served s r n is =
 
 -- ---- the end of all that is committed
 
-end_at : (n : ℕ) (o : Option Decoder) (d : Decoder) → 0 < n → o ≡ Some d → cond (n == 0) 0 (option_map_or (λ e. e.base + e.size) o 0) ≡ d.base + d.size
+pub end_at : (n : ℕ) (o : Option Decoder) (d : Decoder) → 0 < n → o ≡ Some d → cond (n == 0) 0 (option_map_or (λ e. e.base + e.size) o 0) ≡ d.base + d.size
 end_at n o d some is =
     ap (λ b. cond b 0 (option_map_or (λ e. e.base + e.size) o 0)) (ne_eqb n 0 (λ e. omega (arith, e))) ∙ ap (λ (x : Option Decoder). option_map_or (λ e. e.base + e.size) x 0) is
 

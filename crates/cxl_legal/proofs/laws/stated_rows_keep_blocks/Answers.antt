@@ -4,6 +4,7 @@ use Rattle.cxl_legal.proofs.RowsUsed.{rows_of}
 use Rattle.cxl_legal.proofs.RowsImages.{decoder_for_range, index_for_range}
 use Rattle.cxl_legal.proofs.RowsSpans.{SpanLaw}
 use Rattle.cxl_legal.proofs.RowsDecoders.{is_row}
+use Rattle.cxl_legal.proofs.RowsRules.{grown_keeps}
 use Rattle.cxl_legal.proofs.laws.stated_rows_keep_blocks.Goals as goal
 
 known : goal.After-one_window → Lower

@@ -1,0 +1,2 @@
+-- placeholder
+use Rattle.cxl_legal.proofs.RowsRules.{grown_keeps}
