@@ -4,7 +4,7 @@ use Rattle.cxl_legal.proofs.RowsUsed.{rows_of}
 use Rattle.cxl_legal.proofs.RowsImages.{decoder_for_range, index_for_range}
 use Rattle.cxl_legal.proofs.RowsSpans.{SpanLaw}
 use Rattle.cxl_legal.proofs.RowsDecoders.{is_row}
-use Rattle.cxl_legal.proofs.RowsRules.{grown_keeps}
+use Rattle.cxl_legal.proofs.RowsKept.{blocks_kept, system_kept}
 use Rattle.cxl_legal.proofs.laws.stated_rows_keep_blocks.Goals as goal
 
 known : goal.After-one_window → Lower
@@ -34,7 +34,7 @@ pub returns-clause-indices : goal.returns-clause-indices
 returns-clause-indices c = λ s request w base n fits. index_for_range (known c) s request w base fits n
 
 pub returns-clause-blocks : goal.returns-clause-blocks
-returns-clause-blocks c = ?
+returns-clause-blocks c = λ s request w base fits. blocks_kept (known c) (spans c) s request w base fits
 
 pub returns-clause-system : goal.returns-clause-system
-returns-clause-system c = ?
+returns-clause-system c = λ s request w base fits. system_kept (known c) (spans c) s request w base fits
