@@ -1,6 +1,6 @@
 -- The decoder that is stated for a used node: what its block can have, and that its words keep it.
-use Rattle.std.proofs.Common.{◌≡◌, ℕ, ◌+◌, ◌-◌, ◌*◌, ◌%◌, ◌^◌, ◌<◌, ◌≤◌, Bool, true, false, cond, not, ◌&&◌, ◌||◌, if◌then◌else◌, List, length, get_or, Option, Some, None, max, refl, sym, ap, ◌∙◌, subst, inl, inr, unwrap_or, arith}
-use Rattle.std.specs.Prelude.{slice_get, All, Contains, filter, position, nat_lt, nat_le, ◌==◌}
+use Rattle.std.proofs.Common.{◌≡◌, ℕ, ◌+◌, ◌-◌, ◌%◌, ◌^◌, ◌<◌, ◌≤◌, Bool, true, false, not, ◌&&◌, ◌||◌, List, length, get_or, Option, Some, None, refl, sym, ap, ◌∙◌, subst, inl, inr, unwrap_or, arith}
+use Rattle.std.specs.Prelude.{All, Contains, position, nat_lt, nat_le, ◌==◌}
 use Rattle.std.specs.Option.{option_map_or}
 use Rattle.std.specs.List.{range_with_len, position_or_len}
 use Rattle.std.proofs.lemmas.Bool.{and_parts, and_from, leb-true, cond-true, cond-false, lt-ltb, false≢true, not_from_true, not_from_false}
@@ -9,15 +9,13 @@ use Rattle.std.proofs.lemmas.List.FromFn.{length-range_with_len, get_or-range_wi
 use Rattle.std.proofs.lemmas.List.Sums.{position_or_len_is, prefix_len_passes, prefix_len_stops}
 use Rattle.cxl_enc.specs.Codes.{ways_of, code_in_table, is_ways, bits_of}
 use Rattle.cxl_enc.specs.Caps.{targets_of, is_target_count}
-use Rattle.cxl_enc.specs.Limits.{unit, address_limit}
 use Rattle.cxl_topo.specs.Laws.{AreTreeLaws}
 use Rattle.cxl_topo.specs.Tree.{is_endpoint_at, is_port_at}
 use Rattle.cxl_regs.specs.declared.decoder.Decoder.{Decoder}
-use Rattle.cxl_regs.specs.Registers.{Registers, IsDecoder, reset_decoder}
+use Rattle.cxl_regs.specs.Registers.{IsDecoder, reset_decoder}
 use Rattle.cxl_regs.specs.Reading.{committed_count, decoder_ways, select_bits}
 use Rattle.cxl_regs.specs.Rules.{endpoint_ways_ok, select_ok}
-use Rattle.cxl_span.specs.declared.allotting.Span.{Span}
-use Rattle.cxl_span.specs.Partitions.{partition_start, partition_end, lies_in}
+use Rattle.cxl_span.specs.Partitions.{lies_in}
 use Rattle.cxl_span.specs.Allotting.{cursor_of}
 use Rattle.cxl_window.specs.declared.window.Verdict.{Verdict}
 use Rattle.cxl_window.specs.declared.window.Verdict.TheVariants.{Usable, Align, Size, TooHigh, Overlap, Target, Repeat, Maps}
@@ -25,18 +23,17 @@ use Rattle.cxl_window.specs.Fields.{WindowFields, IsWindow, IsUsable}
 use Rattle.cxl_window.specs.Position.{is_usable}
 use Rattle.cxl_model.specs.declared.request.Request.{Request}
 use Rattle.cxl_model.specs.declared.plan.Row.{Row}
-use Rattle.cxl_model.specs.System.{System, IsSystem, decoders_at, ram_at, pmem_at}
+use Rattle.cxl_model.specs.System.{System, decoders_at, ram_at, pmem_at}
 use Rattle.cxl_model.specs.Plans.{IsRow}
 use Rattle.cxl_legal.specs.Used.{request_ways, is_used, is_port_used, used_ports, planned_ways, planned_code, planned_ways_code}
-use Rattle.cxl_legal.specs.Endpoints.{share_of, cap_at, has_even_ports, has_even_children, has_bridge_share, HasRoom}
-use Rattle.cxl_legal.specs.Bases.{base_step}
+use Rattle.cxl_legal.specs.Endpoints.{share_of, cap_at, has_even_ports, has_even_children, has_bridge_share}
 use Rattle.cxl_legal.specs.Stated.{Fits, planned_range, targets_word, stated_start, stated_tail, stated_decoder, stated_row, stated_rows, has_row}
 use Rattle.cxl_legal.proofs.RowsSystems.{HasBlock, at_place, block_keeps}
 use Rattle.cxl_legal.proofs.RowsRanges.{Lower, kept_of}
 use Rattle.cxl_legal.proofs.RowsUsed.{used_kind, row_is}
-use Rattle.cxl_legal.proofs.RowsImages.{HasRow, row_of}
+use Rattle.cxl_legal.proofs.RowsImages.{row_of}
 use Rattle.cxl_legal.proofs.RowsNumbers.{HasCode, code_of, count_is_ways, word_wide, of_ways, of_step}
-use Rattle.cxl_legal.proofs.RowsSpans.{SpanLaw, HasCapacity, capacity_known, least_start, end_within, cursor_aligned, skip_aligned}
+use Rattle.cxl_legal.proofs.RowsSpans.{SpanLaw, capacity_known, least_start, end_within, cursor_aligned, skip_aligned}
 
 usable_is : (v : Verdict) → is_usable v ≡ true → v ≡ Usable
 usable_is Usable h = refl

@@ -1,21 +1,20 @@
 -- An image with the stated rows of a request committed, node by node.
-use Rattle.std.proofs.Common.{◌≡◌, ◌≢◌, ℕ, ◌+◌, ◌<◌, ◌≤◌, Bool, true, false, cond, not, ◌&&◌, if◌then◌else◌, List, [], length, get_or, Option, Some, None, refl, sym, ap, ◌∙◌, subst, inl, inr, eq-eqb, arith}
-use Rattle.std.specs.Prelude.{slice_get, slice_set, All, Contains, find, position, option_map, ◌==◌}
+use Rattle.std.proofs.Common.{◌≡◌, ℕ, ◌<◌, true, false, not, ◌&&◌, if◌then◌else◌, List, [], length, get_or, Option, Some, None, refl, sym, ap, ◌∙◌, subst, inl, inr, eq-eqb}
+use Rattle.std.specs.Prelude.{slice_get, slice_set, find, position, option_map, ◌==◌}
 use Rattle.std.specs.Option.{option_map_or}
-use Rattle.std.proofs.lemmas.Bool.{cases_Bool, and_parts, and_from, cond-true, cond-false, false≢true, false_from_ne_true, true_from_ne_false}
+use Rattle.std.proofs.lemmas.Bool.{cases_Bool, and_parts, and_from, cond-true, cond-false, false≢true}
 use Rattle.std.proofs.lemmas.List.Elements.{Contains-get_or}
 use Rattle.cxl_topo.specs.Tree.{forwards_at}
 use Rattle.cxl_topo.specs.Laws.{AreTreeLaws}
 use Rattle.cxl_regs.specs.declared.decoder.Decoder.{Decoder}
-use Rattle.cxl_regs.specs.declared.reading.Range.{Range}
 use Rattle.cxl_regs.specs.Registers.{Registers, reset_decoder}
 use Rattle.cxl_regs.specs.Reading.{committed_count, has_range}
 use Rattle.cxl_span.specs.Allotting.{all_committed}
 use Rattle.cxl_window.specs.Fields.{WindowFields}
 use Rattle.cxl_model.specs.declared.request.Request.{Request}
 use Rattle.cxl_model.specs.declared.plan.Row.{Row}
-use Rattle.cxl_model.specs.System.{System, IsSystem, decoders_at}
-use Rattle.cxl_model.specs.Ranges.{serves, decoder_for, index_for}
+use Rattle.cxl_model.specs.System.{System, decoders_at}
+use Rattle.cxl_model.specs.Ranges.{decoder_for, index_for}
 use Rattle.cxl_model.specs.Plans.{committed_row, block_with_row, with_rows}
 use Rattle.cxl_legal.specs.Used.{is_used}
 use Rattle.cxl_legal.specs.Stated.{Fits, planned_range, has_row, stated_row, stated_rows}

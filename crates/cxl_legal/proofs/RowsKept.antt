@@ -1,24 +1,22 @@
 -- With the stated rows of a fitting request committed, every block keeps its rules, and the image is that of a system.
-use Rattle.std.proofs.Common.{◌≡◌, ◌≢◌, ℕ, ◌+◌, ◌-◌, ◌*◌, ◌/◌, ◌%◌, ◌^◌, ◌<◌, ◌≤◌, ◌⊎◌, Bool, true, false, cond, not, ◌&&◌, ◌||◌, if◌then◌else◌, List, [], length, get_or, set, Option, Some, None, max, refl, sym, ap, ◌∙◌, subst, inl, inr, unwrap_or, eq-eqb, arith}
-use Rattle.std.specs.Prelude.{slice_get, slice_set, All, Contains, option_map, nat_le, ◌==◌}
+use Rattle.std.proofs.Common.{◌≡◌, ℕ, ◌+◌, ◌-◌, ◌*◌, ◌/◌, ◌%◌, ◌^◌, ◌≤◌, ◌⊎◌, Bool, true, false, cond, ◌||◌, if◌then◌else◌, List, length, get_or, Option, Some, refl, sym, ap, ◌∙◌, subst, inl, inr, unwrap_or, eq-eqb, arith}
+use Rattle.std.specs.Prelude.{slice_get, slice_set, Contains, option_map, nat_le, ◌==◌}
 use Rattle.std.specs.Option.{option_map_or}
 use Rattle.std.proofs.Math.Nat.{le-max_left}
-use Rattle.std.proofs.lemmas.Bool.{cases_lt, cases_Bool, and_from, le-leb, cond-true, cond-false}
+use Rattle.std.proofs.lemmas.Bool.{cases_Bool, and_from, le-leb, cond-true, cond-false}
 use Rattle.std.proofs.lemmas.List.{length-set}
 use Rattle.std.proofs.lemmas.List.Elements.{All-set}
-use Rattle.std.proofs.lemmas.Option.{slice_get_within, slice_get_past, slice_get-get_or, same_Some}
+use Rattle.std.proofs.lemmas.Option.{slice_get-get_or, same_Some}
 use Rattle.cxl_enc.specs.declared.caps.MemKind.TheVariants.{Ram, Pmem}
-use Rattle.cxl_enc.specs.Codes.{ways_of, code_in_table, bits_of}
+use Rattle.cxl_enc.specs.Codes.{code_in_table}
 use Rattle.cxl_enc.specs.Caps.{targets_of}
-use Rattle.cxl_enc.specs.Limits.{unit, address_limit}
-use Rattle.cxl_topo.specs.declared.node.Node.{Node}
+use Rattle.cxl_enc.specs.Limits.{unit}
 use Rattle.cxl_topo.specs.Laws.{AreTreeLaws}
 use Rattle.cxl_topo.specs.Tree.{is_endpoint_at, is_port_at}
 use Rattle.cxl_regs.specs.declared.decoder.Decoder.{Decoder}
 use Rattle.cxl_regs.specs.Registers.{Registers, IsBlock, IsDecoder}
 use Rattle.cxl_regs.specs.Reading.{committed_count, decoder_ways, select_bits, span_length}
-use Rattle.cxl_regs.specs.Rules.{codes_ok, select_ok, endpoint_ways_ok, port_ways_ok}
-use Rattle.cxl_image.specs.Images.{HasCapsOf}
+use Rattle.cxl_regs.specs.Rules.{select_ok, endpoint_ways_ok, port_ways_ok}
 use Rattle.cxl_span.specs.Breaches.{BlockKeeps}
 use Rattle.cxl_span.specs.Partitions.{lies_in}
 use Rattle.cxl_span.specs.Allotting.{cursor_of}
@@ -27,7 +25,7 @@ use Rattle.cxl_model.specs.declared.request.Request.{Request}
 use Rattle.cxl_model.specs.System.{System, IsSystem, decoders_at, ram_at, pmem_at}
 use Rattle.cxl_model.specs.Accepted.{KeepsBlocks}
 use Rattle.cxl_model.specs.Plans.{committed_row, block_with_row}
-use Rattle.cxl_legal.specs.Used.{request_ways, is_used, used_ports, planned_ways, planned_code, planned_ways_code}
+use Rattle.cxl_legal.specs.Used.{request_ways, is_used, used_ports, planned_code, planned_ways_code}
 use Rattle.cxl_legal.specs.Endpoints.{share_of, cap_at}
 use Rattle.cxl_legal.specs.Bases.{last_end}
 use Rattle.cxl_legal.specs.Stated.{Fits, has_row, targets_word, stated_start, stated_tail, stated_decoder, stated_row, stated_rows}
@@ -35,9 +33,9 @@ use Rattle.cxl_legal.proofs.RowsSystems.{HasBlock, at_place, block_keeps, keeps_
 use Rattle.cxl_legal.proofs.RowsRanges.{Lower, end_at}
 use Rattle.cxl_legal.proofs.RowsUsed.{used_kind}
 use Rattle.cxl_legal.proofs.RowsFolds.{length_rows}
-use Rattle.cxl_legal.proofs.RowsImages.{HasRow, row_of, rows, after, block_with, block_same}
-use Rattle.cxl_legal.proofs.RowsNumbers.{HasExponent, exponent_of}
-use Rattle.cxl_legal.proofs.RowsSpans.{SpanLaw, HasLast, in_one}
+use Rattle.cxl_legal.proofs.RowsImages.{HasRow, row_of, after, block_with, block_same}
+use Rattle.cxl_legal.proofs.RowsNumbers.{exponent_of}
+use Rattle.cxl_legal.proofs.RowsSpans.{SpanLaw, in_one}
 use Rattle.cxl_legal.proofs.RowsDecoders.{end_low, even_ports, endpoint_ways, port_ways, own_code, selects, endpoint_can, span_room, kept_decoder}
 use Rattle.cxl_legal.proofs.RowsRules.{CanFollow, grown_keeps}
 

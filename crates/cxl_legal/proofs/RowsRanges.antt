@@ -1,11 +1,11 @@
 -- Where a request fits, no node has a committed decoder of its range.
-use Rattle.std.proofs.Common.{◌≡◌, ◌↔◌, ℕ, ◌+◌, ◌-◌, ◌<◌, ◌≤◌, ◌⊎◌, Bool, true, false, cond, not, ◌&&◌, List, [], length, get_or, Option, Some, None, refl, sym, ap, ◌∙◌, subst, inl, inr, arith}
-use Rattle.std.specs.Prelude.{slice_get, ◌==◌, nat_le, All, Contains, find}
+use Rattle.std.proofs.Common.{◌≡◌, ◌↔◌, ℕ, ◌+◌, ◌-◌, ◌<◌, ◌≤◌, Bool, true, false, cond, not, ◌&&◌, List, length, get_or, Option, Some, None, refl, sym, ap, ◌∙◌, inl, inr, arith}
+use Rattle.std.specs.Prelude.{slice_get, ◌==◌, nat_le, Contains, find}
 use Rattle.std.specs.Option.{option_map_or, option_and_then}
 use Rattle.std.specs.List.{list_any, list_all, position_or_len}
-use Rattle.std.proofs.lemmas.Bool.{cases_lt, cases_Bool, and_parts, and_from, le-leb, eqb-true, ne_eqb, false≢true, false_from_ne_true, not-true}
+use Rattle.std.proofs.lemmas.Bool.{cases_lt, and_parts, and_from, le-leb, eqb-true, ne_eqb, false≢true, false_from_ne_true}
 use Rattle.std.proofs.lemmas.Option.{slice_get_within, slice_get-get_or, slice_get_read, get_or_from_slice_get, none-some, same_Some}
-use Rattle.std.proofs.lemmas.List.Elements.{All-contains, Contains-get_or}
+use Rattle.std.proofs.lemmas.List.Elements.{All-contains}
 use Rattle.std.proofs.lemmas.List.Folds.{Any-from_list_any, list_any-from_Any, find_at}
 use Rattle.std.proofs.lemmas.List.Sums.{AllPass-from_list_all, passes_at_first, prefix_len-le-length}
 use Rattle.cxl_topo.specs.declared.node.Node.{Node}
@@ -27,11 +27,11 @@ use Rattle.cxl_model.specs.Rules.{keeps_reach, lists, is_targeted}
 use Rattle.cxl_model.specs.Accepted.{breaks, breaks_at, IsAccepted}
 use Rattle.cxl_model.specs.Counts.{is_under}
 use Rattle.cxl_legal.specs.Used.{is_used}
-use Rattle.cxl_legal.specs.Windows.{is_used_bridge, is_target}
+use Rattle.cxl_legal.specs.Windows.{is_used_bridge}
 use Rattle.cxl_legal.specs.Bases.{last_end}
 use Rattle.cxl_legal.specs.Stated.{Fits, planned_range}
 use Rattle.cxl_legal.proofs.RowsTrees.{from_lower, decoding_earlier, under_landing, root_of}
-use Rattle.cxl_legal.proofs.RowsSystems.{HasBlock, block_of, block_keeps, decoder_within}
+use Rattle.cxl_legal.proofs.RowsSystems.{block_of, block_keeps, decoder_within}
 
 -- ---- what lower laws say
 

@@ -1,6 +1,6 @@
 -- The blocks of a system, and the rules K1 to K8 of its image as those of each block.
-use Rattle.std.proofs.Common.{◌≡◌, ◌≢◌, ℕ, zero, suc, ◌+◌, ◌<◌, ◌≤◌, ◌⊎◌, Bool, true, false, not, ◌&&◌, if◌then◌else◌, List, [], ◌∷◌, length, Option, Some, None, refl, sym, ap, ◌∙◌, subst, inl, inr, arith}
-use Rattle.std.specs.Prelude.{slice_get, nat_lt, ◌==◌, option_map, All}
+use Rattle.std.proofs.Common.{◌≡◌, ◌≢◌, ℕ, zero, suc, ◌<◌, ◌≤◌, false, not, ◌&&◌, if◌then◌else◌, List, [], ◌∷◌, length, Option, Some, None, refl, sym, ap, ◌∙◌, subst, inl, inr, arith}
+use Rattle.std.specs.Prelude.{slice_get, ◌==◌, option_map, All}
 use Rattle.std.specs.Option.{option_map_or, option_eq}
 use Rattle.std.proofs.lemmas.Bool.{lt-ltb, cases_lt, cases_eq, ne_eqb}
 use Rattle.std.proofs.lemmas.Option.{slice_get_within, get_or_from_slice_get}
@@ -11,7 +11,6 @@ use Rattle.cxl_topo.specs.declared.node.Node.{Node}
 use Rattle.cxl_regs.specs.declared.decoder.Decoder.{Decoder}
 use Rattle.cxl_regs.specs.Registers.{Registers, IsBlock}
 use Rattle.cxl_regs.specs.Rules.{before}
-use Rattle.cxl_image.specs.Images.{HasCapsOf}
 use Rattle.cxl_span.specs.Spans.{span_start_of}
 use Rattle.cxl_span.specs.Rules.{breaks_rule}
 use Rattle.cxl_span.specs.Breaches.{BlockKeeps, breaks as block_breaks}

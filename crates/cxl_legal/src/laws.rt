@@ -46,10 +46,10 @@ pub fn stated_rows_keep_blocks()
         → serves s (planned_range request base) n ≡ false }
     ensures decoders { (s : System) (request : Request) (w : WindowFields) (base n : ℕ) → Fits s request w base
         → decoder_for (with_rows s (stated_rows s request w base)) (planned_range request base) n
-            ≡ (if has_row s request n then Some (committed_row (stated_row s request w base n)) else None) }
+        ≡ (if has_row s request n then Some (committed_row (stated_row s request w base n)) else None) }
     ensures indices { (s : System) (request : Request) (w : WindowFields) (base n : ℕ) → Fits s request w base
         → index_for (with_rows s (stated_rows s request w base)) (planned_range request base) n
-            ≡ (if has_row s request n then Some (committed_count (decoders_at s n)) else None) }
+        ≡ (if has_row s request n then Some (committed_count (decoders_at s n)) else None) }
     ensures blocks { (s : System) (request : Request) (w : WindowFields) (base : ℕ) → Fits s request w base
         → KeepsBlocks (with_rows s (stated_rows s request w base)) }
     ensures system { (s : System) (request : Request) (w : WindowFields) (base : ℕ) → Fits s request w base

@@ -1,4 +1,3 @@
-use Rattle.std.proofs.Common.{◌≡◌, ℕ, true, false, Some, None}
 use Rattle.cxl_legal.proofs.RowsRanges.{Lower, new_range}
 use Rattle.cxl_legal.proofs.RowsUsed.{rows_of}
 use Rattle.cxl_legal.proofs.RowsImages.{decoder_for_range, index_for_range}
