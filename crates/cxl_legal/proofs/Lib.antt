@@ -9,3 +9,4 @@ pub mod RowsSpans
 pub mod RowsDecoders
 pub mod RowsRules
 pub mod RowsKept
+pub mod RowsOthers

@@ -64,16 +64,16 @@ module _ (lower : Lower) (s : System) (request : Request) (w : WindowFields) (ba
   new_has_range : (n : ℕ) → has_range (planned_range request base) (committed_row (stated_row s request w base n)) ≡ true
   new_has_range n = and_from (base == base) (request.size == request.size) (eq-eqb base base refl) (eq-eqb request.size request.size refl)
 
-  decoders_with : (n : ℕ) → has_row s request n ≡ true → decoders_at after n ≡ slice_set (decoders_at s n) (committed_count (decoders_at s n)) (committed_row (stated_row s request w base n))
+  pub decoders_with : (n : ℕ) → has_row s request n ≡ true → decoders_at after n ≡ slice_set (decoders_at s n) (committed_count (decoders_at s n)) (committed_row (stated_row s request w base n))
   decoders_with n has =
       let row = row_of n has in
       decoders_are after n (block_with_row (stated_row s request w base n) row.own.block) (block_with n row.own.block has row.own.here)
       ∙ ap (λ (ds : List Decoder). slice_set ds (committed_count (decoders_at s n)) (committed_row (stated_row s request w base n))) (sym row.own.decoders)
 
-  left_at : (n : ℕ) → has_row s request n ≡ true → committed_count (decoders_at s n) < length (decoders_at s n)
+  pub left_at : (n : ℕ) → has_row s request n ≡ true → committed_count (decoders_at s n) < length (decoders_at s n)
   left_at n has = let row = row_of n has in subst (λ (ds : List Decoder). committed_count ds < length ds) (sym row.own.decoders) row.left
 
-  decoders_else : (n : ℕ) → has_row s request n ≡ false → decoders_at after n ≡ decoders_at s n
+  pub decoders_else : (n : ℕ) → has_row s request n ≡ false → decoders_at after n ≡ decoders_at s n
   decoders_else n none = ap (λ (o : Option Registers). option_map_or (λ (block : Registers). block.decoders) o []) (block_same n none)
 
   pub decoder_for_range : (n : ℕ) → decoder_for after (planned_range request base) n ≡ (if has_row s request n then Some (committed_row (stated_row s request w base n)) else None)

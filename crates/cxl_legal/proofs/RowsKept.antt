@@ -77,7 +77,7 @@ module _ (lower : Lower) (spans : SpanLaw) (s : System) (request : Request) (w :
       ]
 
   -- an endpoint's ways are those of the request
-  endpoint_decoder_ways : (n : ℕ) → is_used s request n ≡ true → is_endpoint_at s.nodes n ≡ true → decoder_ways (new_at n) ≡ request_ways request
+  pub endpoint_decoder_ways : (n : ℕ) → is_used s request n ≡ true → is_endpoint_at s.nodes n ≡ true → decoder_ways (new_at n) ≡ request_ways request
   endpoint_decoder_ways n used endpoint = (own_code lower spans s request w base fits n used).ways ∙ endpoint_ways lower spans s request w base fits n endpoint
 
   -- and its span is that of an allotment

@@ -94,7 +94,7 @@ same_start ds i j new low =
     ∙ ap (λ (o : Option Decoder). sum_by span_step (take j ds) + option_map_or (λ d. d.tail) o 0) (get_other ds i j new (λ e. omega (arith, e)))
 
 -- the span of the first that was not committed starts behind the cursor, past what it skips
-new_start : (ds : List Decoder) (new : Decoder) → committed_count ds < length ds → span_start_of (slice_set ds (committed_count ds) new) (committed_count ds) ≡ cursor_of ds + new.tail
+pub new_start : (ds : List Decoder) (new : Decoder) → committed_count ds < length ds → span_start_of (slice_set ds (committed_count ds) new) (committed_count ds) ≡ cursor_of ds + new.tail
 new_start ds new left =
     let n : ℕ = committed_count ds in
     ap (λ (xs : List Decoder). sum_by span_step xs + option_map_or (λ d. d.tail) (slice_get (slice_set ds n new) n) 0) (take-set-le n ds n new (omega arith))

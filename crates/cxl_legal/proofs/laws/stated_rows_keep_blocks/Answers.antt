@@ -4,6 +4,7 @@ use Rattle.cxl_legal.proofs.RowsImages.{decoder_for_range, index_for_range}
 use Rattle.cxl_legal.proofs.RowsSpans.{SpanLaw}
 use Rattle.cxl_legal.proofs.RowsDecoders.{is_row}
 use Rattle.cxl_legal.proofs.RowsKept.{blocks_kept, system_kept}
+use Rattle.cxl_legal.proofs.RowsOthers.{same_decoders, in_window, new_starts, new_kinds}
 use Rattle.cxl_legal.proofs.laws.stated_rows_keep_blocks.Goals as goal
 
 known : goal.After-one_window → Lower
@@ -37,3 +38,15 @@ returns-clause-blocks c = λ s request w base fits. blocks_kept (known c) (spans
 
 pub returns-clause-system : goal.returns-clause-system
 returns-clause-system c = λ s request w base fits. system_kept (known c) (spans c) s request w base fits
+
+pub returns-clause-others : goal.returns-clause-others
+returns-clause-others c = λ s request w base r fits. same_decoders (known c) s request w base fits r
+
+pub returns-clause-window : goal.returns-clause-window
+returns-clause-window c = λ s request w base fits. in_window (known c) s request w base fits
+
+pub returns-clause-starts : goal.returns-clause-starts
+returns-clause-starts c = λ s request w base m fits. new_starts (known c) s request w base fits m
+
+pub returns-clause-kinds : goal.returns-clause-kinds
+returns-clause-kinds c = λ s request w base m fits. new_kinds (known c) (spans c) c.spans_lie_in_partitions.ensures.one s request w base fits m
