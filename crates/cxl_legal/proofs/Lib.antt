@@ -13,3 +13,15 @@ pub mod FittingEndpoints
 pub mod FittingSelects
 pub mod FittingWindows
 pub mod FittingBases
+pub mod RowsTrees
+pub mod RowsSystems
+pub mod RowsRanges
+pub mod RowsUsed
+pub mod RowsFolds
+pub mod RowsImages
+pub mod RowsNumbers
+pub mod RowsSpans
+pub mod RowsDecoders
+pub mod RowsRules
+pub mod RowsKept
+pub mod RowsOthers

@@ -3,3 +3,4 @@ pub mod Endpoints
 pub mod Windows
 pub mod Bases
 pub mod Stated
+pub mod Examples

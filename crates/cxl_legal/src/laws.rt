@@ -1,20 +1,28 @@
 //! Laws of plans, each the contract of a function that does nothing.
 
-ghost use Rattle.std.specs.Prelude.{◌≡◌, ℕ, true, false, Some, None, if◌then◌else◌, Contains};
+ghost use Rattle.std.specs.Prelude.{◌≡◌, ◌≢◌, ℕ, true, false, Some, None, if◌then◌else◌, Contains};
+ghost use Rattle.cxl_topo.specs.Tree.{is_endpoint_at};
+ghost use Rattle.cxl_regs.specs.declared.reading.Range.{Range};
 ghost use Rattle.cxl_regs.specs.Reading.{committed_count};
+ghost use Rattle.cxl_span.specs.Spans.{span_start_of};
 ghost use Rattle.cxl_window.specs.Fields.{WindowFields};
 ghost use Rattle.cxl_model.specs.declared.plan.Plan.{Plan};
 ghost use Rattle.cxl_model.specs.declared.plan.Row.{Row};
 ghost use Rattle.cxl_model.specs.declared.request.Request.{Request};
 ghost use Rattle.cxl_model.specs.System.{System, IsSystem, decoders_at};
-ghost use Rattle.cxl_model.specs.Ranges.{serves, decoder_for, index_for};
+ghost use Rattle.cxl_model.specs.Ranges.{serves, decoder_for, index_for, window_for, span_kind};
+ghost use Rattle.cxl_model.specs.Changes.{HaveSameDecoders};
 ghost use Rattle.cxl_model.specs.Accepted.{IsAccepted, KeepsBlocks};
 ghost use Rattle.cxl_model.specs.Plans.{AreRowsOf, IsRow, IsLegalPlanIn, committed_row, with_rows};
-ghost use Rattle.cxl_legal.specs.Used.{AreEndpoints, HasBytePorts};
+ghost use Rattle.cxl_legal.specs.Used.{AreEndpoints, HasBytePorts, is_used};
 ghost use Rattle.cxl_legal.specs.Endpoints.{FitsEndpoints};
 ghost use Rattle.cxl_legal.specs.Windows.{FitsWindow};
 ghost use Rattle.cxl_legal.specs.Bases.{FitsBase};
-ghost use Rattle.cxl_legal.specs.Stated.{has_row, stated_row, stated_rows, planned_range, IsStatedPlan, Fits};
+ghost use Rattle.cxl_legal.specs.Stated.{has_row, stated_row, stated_rows, stated_start, planned_range, IsStatedPlan, Fits};
+
+use cxl_model::one_window;
+use cxl_span::{committed_stand_first, ranges_rise, spans_are_whole, spans_lie_in_partitions};
+use cxl_topo::tree_laws;
 
 use cxl_model::{endpoints_lie_evenly, slots_are_endpoints};
 use cxl_span::ranges_rise;
@@ -40,7 +48,9 @@ pub fn legal_plans_fit()
 }
 
 /// A law of plans: where a request keeps all that it has to over an accepted image, the rows that are stated for it
-/// are one for each used node that does not forward, their range is new, and with them every block keeps K1 to K8.
+/// are one for each used node that does not forward, their range is new, and with them every block keeps K1 to K8. The
+/// decoders of every other range are as they were; the new range lies in the window, and its spans in the memory of
+/// the kind, where they are stated to start.
 pub fn stated_rows_keep_blocks()
     ensures rows { (s : System) (request : Request) (w : WindowFields) (base : ℕ) → Fits s request w base
         → AreRowsOf s request (stated_rows s request w base) }
@@ -59,7 +69,27 @@ pub fn stated_rows_keep_blocks()
         → KeepsBlocks (with_rows s (stated_rows s request w base)) }
     ensures system { (s : System) (request : Request) (w : WindowFields) (base : ℕ) → Fits s request w base
         → IsSystem (with_rows s (stated_rows s request w base)) }
-{}
+    ensures others { (s : System) (request : Request) (w : WindowFields) (base : ℕ) (r : Range)
+        → Fits s request w base → r ≢ planned_range request base
+        → HaveSameDecoders s (with_rows s (stated_rows s request w base)) r }
+    ensures window { (s : System) (request : Request) (w : WindowFields) (base : ℕ) → Fits s request w base
+        → window_for (with_rows s (stated_rows s request w base)) (planned_range request base) ≡ Some w }
+    ensures starts { (s : System) (request : Request) (w : WindowFields) (base m : ℕ) → Fits s request w base
+        → is_endpoint_at s.nodes m ≡ true → is_used s request m ≡ true
+        → span_start_of (decoders_at (with_rows s (stated_rows s request w base)) m) (committed_count (decoders_at s m))
+        ≡ stated_start s request m }
+    ensures kinds { (s : System) (request : Request) (w : WindowFields) (base m : ℕ) → Fits s request w base
+        → is_endpoint_at s.nodes m ≡ true → is_used s request m ≡ true
+        → span_kind (with_rows s (stated_rows s request w base)) m (committed_count (decoders_at s m))
+        ≡ request.kind }
+{
+    tree_laws();
+    committed_stand_first();
+    ranges_rise();
+    spans_are_whole();
+    spans_lie_in_partitions();
+    one_window();
+}
 
 /// A law of plans: where a request keeps all that it has to over an accepted image, the plan that is stated for it
 /// is legal.
