@@ -20,12 +20,8 @@ ghost use Rattle.cxl_legal.specs.Windows.{FitsWindow};
 ghost use Rattle.cxl_legal.specs.Bases.{FitsBase};
 ghost use Rattle.cxl_legal.specs.Stated.{has_row, stated_row, stated_rows, stated_start, planned_range, IsStatedPlan, Fits};
 
-use cxl_model::one_window;
+use cxl_model::{endpoints_lie_evenly, one_window, slots_are_endpoints};
 use cxl_span::{committed_stand_first, ranges_rise, spans_are_whole, spans_lie_in_partitions};
-use cxl_topo::tree_laws;
-
-use cxl_model::{endpoints_lie_evenly, slots_are_endpoints};
-use cxl_span::ranges_rise;
 use cxl_topo::tree_laws;
 
 /// A law of plans: where one is legal over an accepted image, the request keeps all that it has to, in its
