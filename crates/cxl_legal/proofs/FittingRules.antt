@@ -167,7 +167,7 @@ range_held r d h has from below =
     record { committed = own.committed; from = omega (arith, base, from); below = omega (arith, base, size, below) }
 
 -- a node has one decoder of a range
-one_of_range : RangesRise → (s : System) (r : Range) → KeepsBlocks s → (n i j : ℕ) (d e : Decoder) → decoder_at s n i ≡ Some d → decoder_at s n j ≡ Some e
+pub one_of_range : RangesRise → (s : System) (r : Range) → KeepsBlocks s → (n i j : ℕ) (d e : Decoder) → decoder_at s n i ≡ Some d → decoder_at s n j ≡ Some e
     → has_range r d ≡ true → has_range r e ≡ true → i ≡ j
 one_of_range rise s r keeps n i j d e d_there e_there d_has e_has =
     let own = has_parts r d d_has in

@@ -3,7 +3,7 @@ use Rattle.std.proofs.Common.{◌≡◌, ℕ, zero, suc, ◌<◌, Bool, true, fa
 use Rattle.std.specs.Prelude.{slice_get, ◌==◌, option_map}
 use Rattle.std.specs.Option.{option_map_or, option_and_then}
 use Rattle.std.specs.List.{list_any}
-use Rattle.std.proofs.lemmas.Bool.{cases_lt, cases_Bool, and_parts, and_from, or_cases, eqb-true, eq-eqb, ne_eqb, false≢true, false_from_ne_true, not-true}
+use Rattle.std.proofs.lemmas.Bool.{cases_lt, cases_Bool, and_parts, and_from, or_cases, or_left, or_right, eqb-true, eq-eqb, ne_eqb, false≢true, false_from_ne_true, not-true}
 use Rattle.std.proofs.lemmas.Option.{slice_get_past, none-some, same_Some}
 use Rattle.std.proofs.lemmas.List.{reverse-append, length-reverse}
 use Rattle.std.proofs.lemmas.List.Folds.{list_any-append}
@@ -243,3 +243,52 @@ under_top {nodes} known b top =
       (λ under. root_step known i p some ∙ rest.0 (sym step ∙ under)),
       (λ root. step ∙ rest.1 (sym (root_step known i p some) ∙ root)),
     ))
+
+-- ---- leaving a node
+
+pub above_earlier : {nodes : List Node} → KnownTree nodes → (n i : ℕ) → is_above nodes n i ≡ true → n < i
+above_earlier {nodes} known n =
+    up_tree known (λ i. is_above nodes n i ≡ true → n < i)
+    (λ i none above. absurd (false≢true (sym (above_root known n i none) ∙ above)))
+    (λ i p some rest above.
+    let up : p.node < i = (parent_is_port known i p some).0 in
+    elim (or_cases (p.node == n) (is_above nodes n p.node) (sym (above_step known n i p some) ∙ above)) [
+      | inl here ↦ let same = eqb-true p.node n here in omega (arith, same, up)
+      | inr higher ↦ let lower = rest higher in omega (arith, lower, up)
+    ])
+
+pub leaves_above : {nodes : List Node} → KnownTree nodes → (n e i : ℕ) → leaves_at nodes n e i ≡ true → is_above nodes n i ≡ true
+leaves_above {nodes} known n e =
+    up_tree known (λ i. leaves_at nodes n e i ≡ true → is_above nodes n i ≡ true)
+    (λ i none leaves. absurd (false≢true (sym (leaves_root known n e i none) ∙ leaves)))
+    (λ i p some rest leaves. above_step known n i p some ∙
+    elim (or_cases ((p.node == n) && (p.port == e)) (leaves_at nodes n e p.node) (sym (leaves_step known n e i p some) ∙ leaves)) as (λ x. ((p.node == n) || is_above nodes n p.node) ≡ true) [
+      | inl here ↦ or_left (p.node == n) (is_above nodes n p.node) (and_parts (p.node == n) (p.port == e) here).0
+      | inr higher ↦ or_right (p.node == n) (is_above nodes n p.node) (rest higher)
+    ])
+
+here_not_above : {nodes : List Node} → KnownTree nodes → (n e m : ℕ) → (m == n) ≡ true → leaves_at nodes n e m ≡ true → ⊥
+here_not_above known n e m here leaves =
+    let same = eqb-true m n here in
+    let lower = above_earlier known n m (leaves_above known n e m leaves) in
+    omega arith
+
+-- a path leaves a node at one port
+pub leaves_once : {nodes : List Node} → KnownTree nodes → (n e f i : ℕ) → leaves_at nodes n e i ≡ true → leaves_at nodes n f i ≡ true → e ≡ f
+leaves_once {nodes} known n e f =
+    up_tree known (λ i. leaves_at nodes n e i ≡ true → leaves_at nodes n f i ≡ true → e ≡ f)
+    (λ i none one other. absurd (false≢true (sym (leaves_root known n e i none) ∙ one)))
+    (λ i p some rest one other.
+    elim (or_cases ((p.node == n) && (p.port == e)) (leaves_at nodes n e p.node) (sym (leaves_step known n e i p some) ∙ one)) [
+      | inl here ↦
+          let parts = and_parts (p.node == n) (p.port == e) here in
+          elim (or_cases ((p.node == n) && (p.port == f)) (leaves_at nodes n f p.node) (sym (leaves_step known n f i p some) ∙ other)) [
+            | inl there ↦ sym (eqb-true p.port e parts.1) ∙ eqb-true p.port f (and_parts (p.node == n) (p.port == f) there).1
+            | inr higher ↦ absurd (here_not_above known n f p.node parts.0 higher)
+          ]
+      | inr higher ↦
+          elim (or_cases ((p.node == n) && (p.port == f)) (leaves_at nodes n f p.node) (sym (leaves_step known n f i p some) ∙ other)) [
+            | inl there ↦ absurd (here_not_above known n e p.node (and_parts (p.node == n) (p.port == f) there).0 higher)
+            | inr both ↦ rest higher both
+          ]
+    ])

@@ -36,14 +36,14 @@ use Rattle.cxl_legal.proofs.FittingTargets.{distinct_test}
 
 -- ---- sums over numbers that are listed
 
-total_each : {X : Type 0} (f g : X → ℕ) (xs : List X) → All (λ x. f x ≡ g x) xs → total f xs ≡ total g xs
+pub total_each : {X : Type 0} (f g : X → ℕ) (xs : List X) → All (λ x. f x ≡ g x) xs → total f xs ≡ total g xs
 total_each f g [] each = refl
 total_each f g (x ∷ xs) each =
     let first = All-head (λ y. f y ≡ g y) x xs each in
     let rest = total_each f g xs (All-tail (λ y. f y ≡ g y) x xs each) in
     omega (arith, first, rest)
 
-length_total : {X : Type 0} (xs : List X) → total (λ (x : X). one true) xs ≡ length xs
+pub length_total : {X : Type 0} (xs : List X) → total (λ (x : X). one true) xs ≡ length xs
 length_total [] = refl
 length_total (x ∷ xs) = let rest = length_total xs in omega (arith, rest)
 

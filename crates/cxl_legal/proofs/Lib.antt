@@ -25,3 +25,6 @@ pub mod RowsDecoders
 pub mod RowsRules
 pub mod RowsKept
 pub mod RowsOthers
+pub mod StatedTrees
+pub mod StatedImages
+pub mod StatedPorts

@@ -71,7 +71,7 @@ has_parts r d has =
     let size = eqb-true d.size r.size outer.1 in
     record { committed = inner.0; is = λ k. record { base = base k; size = size k } }
 
-found_some : {X : Type 0} (p : X → Bool) (xs : List X) → list_any p xs ≡ true → find p xs ≡ None → ⊥
+pub found_some : {X : Type 0} (p : X → Bool) (xs : List X) → list_any p xs ≡ true → find p xs ≡ None → ⊥
 found_some p [] any none = false≢true any
 found_some p (x ∷ xs) any none =
     elim (or_cases (p x) (list_any p xs) any) [

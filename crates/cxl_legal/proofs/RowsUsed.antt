@@ -44,14 +44,14 @@ kept_at p (y ∷ ys) (suc k) x here passes =
 pub contains_at : {X : Type 0} (xs : List X) (k : ℕ) (x : X) → slice_get xs k ≡ Some x → Contains xs x
 contains_at xs k x here = (k, slice_get_within xs k x here, get_or_from_slice_get xs k x x here)
 
-numbers_rise : (n : ℕ) → AllPairs (λ a b. a < b) (range_with_len 0 n)
+pub numbers_rise : (n : ℕ) → AllPairs (λ a b. a < b) (range_with_len 0 n)
 numbers_rise n i j d less within =
     let long = length-range_with_len 0 n in
     let first = get_or-range_with_len 0 n i d (omega arith) in
     let next = get_or-range_with_len 0 n j d (omega arith) in
     omega arith
 
-number_at : (n k : ℕ) → k < n → slice_get (range_with_len 0 n) k ≡ Some k
+pub number_at : (n k : ℕ) → k < n → slice_get (range_with_len 0 n) k ≡ Some k
 number_at n k low =
     let long = length-range_with_len 0 n in
     slice_get-get_or (range_with_len 0 n) k 0 (omega arith) ∙ ap (λ (x : ℕ). Some x) (get_or-range_with_len 0 n k 0 low ∙ omega arith)
