@@ -28,3 +28,4 @@ pub mod RowsOthers
 pub mod StatedTrees
 pub mod StatedImages
 pub mod StatedPorts
+pub mod StatedCounts

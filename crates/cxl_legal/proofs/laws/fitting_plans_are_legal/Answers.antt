@@ -1,3 +1,4 @@
+use Rattle.cxl_legal.proofs.StatedCounts.{endpoint_ways}
 use Rattle.cxl_legal.proofs.StatedPorts.{entries_stated}
 use Rattle.cxl_legal.proofs.StatedTrees.{used_root}
 use Rattle.cxl_legal.proofs.laws.fitting_plans_are_legal.Goals as goal
