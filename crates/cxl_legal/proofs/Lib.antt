@@ -29,3 +29,5 @@ pub mod StatedTrees
 pub mod StatedImages
 pub mod StatedPorts
 pub mod StatedCounts
+pub mod StatedLands
+pub mod StatedWays

@@ -46,7 +46,7 @@ total_const f n (x ∷ xs) each =
 
 -- ---- the endpoints under a port
 
-requested_within : {s : System} {request : Request} {w : WindowFields} {base : ℕ} → Stated s request w base → (m : ℕ) → Contains request.endpoints m → (is_endpoint_at s.nodes m ≡ true) × (m < length s.nodes)
+pub requested_within : {s : System} {request : Request} {w : WindowFields} {base : ℕ} → Stated s request w base → (m : ℕ) → Contains request.endpoints m → (is_endpoint_at s.nodes m ≡ true) × (m < length s.nodes)
 requested_within {s} {request} c m there =
     let endpoint = All-contains (λ e. is_endpoint_at s.nodes e ≡ true) request.endpoints m c.fits.named there in
     (endpoint, endpoint_within s.nodes m endpoint)

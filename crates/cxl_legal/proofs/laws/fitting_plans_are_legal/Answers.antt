@@ -1,3 +1,4 @@
+use Rattle.cxl_legal.proofs.StatedWays.{ways_kept}
 use Rattle.cxl_legal.proofs.StatedCounts.{endpoint_ways}
 use Rattle.cxl_legal.proofs.StatedPorts.{entries_stated}
 use Rattle.cxl_legal.proofs.StatedTrees.{used_root}
