@@ -187,7 +187,7 @@ pub rule_nine : (s : System) (n i : ℕ) → breaks s 9 n i ≡ breaks_at s n i 
 unfolding breaks
 rule_nine s n i = refl
 
-rule_ten : (s : System) (n i : ℕ) → breaks s 10 n i ≡ breaks_at s n i (keeps_targets s n)
+pub rule_ten : (s : System) (n i : ℕ) → breaks s 10 n i ≡ breaks_at s n i (keeps_targets s n)
 unfolding breaks
 rule_ten s n i = refl
 

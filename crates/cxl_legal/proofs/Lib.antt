@@ -31,3 +31,4 @@ pub mod StatedPorts
 pub mod StatedCounts
 pub mod StatedLands
 pub mod StatedWays
+pub mod StatedRules

@@ -20,7 +20,7 @@ ghost use Rattle.cxl_legal.specs.Windows.{FitsWindow};
 ghost use Rattle.cxl_legal.specs.Bases.{FitsBase};
 ghost use Rattle.cxl_legal.specs.Stated.{has_row, stated_row, stated_rows, stated_start, planned_range, IsStatedPlan, Fits};
 
-use cxl_model::{endpoints_lie_evenly, one_window, slots_are_endpoints};
+use cxl_model::{accepted_where_whole, endpoints_lie_evenly, one_window, regions_stay, slots_are_endpoints};
 use cxl_span::{committed_stand_first, ranges_rise, spans_are_whole, spans_lie_in_partitions};
 use cxl_topo::tree_laws;
 
@@ -97,5 +97,12 @@ pub fn fitting_plans_are_legal()
     ensures there { (s : System) (request : Request) (w : WindowFields) (base : ℕ) → Fits s request w base
         → (plan : Plan) × IsStatedPlan s request w base plan }
 {
+    tree_laws();
+    committed_stand_first();
+    ranges_rise();
+    spans_are_whole();
+    one_window();
+    accepted_where_whole();
+    regions_stay();
     stated_rows_keep_blocks();
 }
