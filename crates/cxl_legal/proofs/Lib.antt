@@ -32,3 +32,5 @@ pub mod StatedCounts
 pub mod StatedLands
 pub mod StatedWays
 pub mod StatedRules
+pub mod StatedPlaces
+pub mod StatedRegions

@@ -1,5 +1,6 @@
 -- A request that fits, the image with its stated rows committed, and what lower laws say of both.
 use Rattle.std.proofs.Common.{◌≡◌, ◌≢◌, ℕ, true, false, if◌then◌else◌, Option, Some, None}
+use Rattle.std.specs.Prelude.{Contains}
 use Rattle.cxl_topo.specs.Tree.{is_endpoint_at}
 use Rattle.cxl_regs.specs.declared.reading.Range.{Range}
 use Rattle.cxl_regs.specs.Reading.{committed_count}
@@ -29,6 +30,9 @@ pub record Stated (s : System) (request : Request) (w : WindowFields) (base : �
   pub rise : RangesRise
   pub known : KnownTree s.nodes
   pub fits : Fits s request w base
+  pub rows : AreRowsOf s request (stated_rows s request w base)
+  pub each : (row : Row) → Contains (stated_rows s request w base) row → IsRow s (planned_range request base) row
+  pub new : (n : ℕ) → serves s (planned_range request base) n ≡ false
   pub decoders : (n : ℕ) → decoder_for (stated_image s request w base) (planned_range request base) n ≡ (if has_row s request n then Some (committed_row (stated_row s request w base n)) else None)
   pub indices : (n : ℕ) → index_for (stated_image s request w base) (planned_range request base) n ≡ (if has_row s request n then Some (committed_count (decoders_at s n)) else None)
   pub blocks : KeepsBlocks (stated_image s request w base)
