@@ -34,3 +34,4 @@ pub mod StatedWays
 pub mod StatedRules
 pub mod StatedPlaces
 pub mod StatedRegions
+pub mod StatedPlans

@@ -7,6 +7,7 @@ use Rattle.cxl_legal.specs.Stated.{Fits}
 use Rattle.cxl_legal.proofs.StatedImages.{stated_image, Stated}
 use Rattle.cxl_legal.proofs.StatedRules.{accepted}
 use Rattle.cxl_legal.proofs.StatedRegions.{legal}
+use Rattle.cxl_legal.proofs.StatedPlans.{plan_there}
 use Rattle.cxl_legal.proofs.laws.fitting_plans_are_legal.Goals as goal
 
 stated : goal.After-stated_rows_keep_blocks → (s : System) (request : Request) (w : WindowFields) (base : ℕ) → Fits s request w base → Stated s request w base
@@ -44,4 +45,4 @@ pub returns-clause-legal : goal.returns-clause-legal
 returns-clause-legal c = λ s request w base plan fits is. legal (stated c s request w base fits) (image_accepted c s request w base fits) is
 
 pub returns-clause-there : goal.returns-clause-there
-returns-clause-there c = ?
+returns-clause-there c = λ s request w base fits. plan_there (stated c s request w base fits)
