@@ -36,6 +36,7 @@ use Rattle.cxl_legal.proofs.FittingRules.{ServesAt, leads, reached, listed_by, a
 use Rattle.cxl_legal.proofs.FittingCounts.{Child, child_at, LandsBelow, lands_below, numbers_differ, is_number, times_tell, no_ways_above}
 use Rattle.cxl_legal.proofs.FittingBlocks.{kept_of, port_ways}
 use Rattle.cxl_legal.proofs.FittingRows.{by_row}
+use Rattle.cxl_legal.proofs.UsedPorts.{forwarding_ports}
 use Rattle.cxl_legal.proofs.FittingUsed.{Planned, listed_length, endpoint_is, even_at, used_lands, lands_used, some_requested}
 
 -- ---- the decoder of a used node
@@ -106,31 +107,6 @@ own_ports {s} {request} {w} {r} {rows} plan n at port own =
     listed_length 256 (is_port_used s request n) (entries_of at.d) ((leads (with_rows s rows) r plan.whole n at.i at.d at.there at.has).ways port).0 (entry_byte at.d) (port_used_is plan n at port own)
     ∙ length-map-range_with_len (entry_at at.d) 0 (decoder_ways at.d)
 
--- ---- the used port of a node that forwards
-
-pub forwarding_ports : {s : System} {request : Request} {w : WindowFields} {r : Range} {rows : List Row} → Planned s request w r rows → (n : ℕ) → is_used s request n ≡ true → forwards_at s.nodes n ≡ true
-    → length (used_ports s request n) ≡ 1
-forwarding_ports {s} {request} {w} {r} {rows} plan n used forwards =
-    length-filter-total (is_port_used s request n) (range_with_len 0 256)
-    ∙ once (is_port_used s request n) same (range_with_len 0 256) (numbers_differ 0 256)
-    ∙ ap one (is_number (is_port_used s request n) 256 below.own.port (plan.ports below.child below.own below.parent) there)
-  where
-    below : LandsBelow (with_rows s rows) r n
-    below = lands_below (with_rows s rows) r n plan.system plan.known forwards (used_lands plan n used)
-
-    own_is : below.own ≡ record { node = n; port = below.own.port }
-    own_is = let node = below.node in λ k. record { node = node k; port = below.own.port }
-
-    there : is_port_used s request n below.own.port ≡ true
-    there = child_used plan n below.own.port below.child ((plan.known.laws.children n below.own.port below.child).1 (below.parent ∙ ap Some own_is)) below.lands
-
-    same : (a b : ℕ) → is_port_used s request n a ≡ true → is_port_used s request n b ≡ true → a ≡ b
-    same a b one other =
-        let c = used_child plan n a one in
-        let d = used_child plan n b other in
-        let equal : c.node ≡ d.node = plan.known.tree.forwarding c.node d.node (record { node = n; port = a }) (record { node = n; port = b }) c.parent d.parent refl forwards in
-        ap (λ (p : Parent). p.port) (same_Some (record { node = n; port = a }) (record { node = n; port = b }) (sym c.parent ∙ ap (parent_of s.nodes) equal ∙ d.parent))
-
 -- ---- evenness
 
 same_factor : (a b k w n : ℕ) → a * k * w ≡ n → b * k * w ≡ n → 0 < n → a ≡ b
@@ -190,7 +166,7 @@ ports_even : {s : System} {request : Request} {w : WindowFields} {r : Range} {ro
 ports_even {s} {request} {w} {r} {rows} plan n port used =
     elim (cases_Bool (forwards_at s.nodes n)) [
       | inl forwards ↦
-          let long : length (used_ports s request n) ≡ 1 = forwarding_ports plan n used forwards in
+          let long : length (used_ports s request n) ≡ 1 = forwarding_ports s request plan.known plan.ports plan.named n forwards used in
           let cap : cap_at s n ≡ placeholder_cap = placeholder plan.known n forwards in
           λ k. is_target_count (long k) && nat_le (long k) (targets_of (cap k))
       | inr own ↦

@@ -33,12 +33,13 @@ use Rattle.cxl_legal.specs.Endpoints.{cap_at}
 use Rattle.cxl_legal.specs.Windows.{can_select, can_have_ways}
 use Rattle.cxl_legal.proofs.FittingServers.{asked, asked_or, has_parts, same_range, has_ways, endpoint_test, rule_twelve, or_true, some_ways, decoder_ways_known}
 use Rattle.cxl_legal.proofs.FittingSums.{list_any-weaker}
-use Rattle.cxl_legal.proofs.FittingTrees.{KnownTree, up_tree, ports_none, ports_some, is_above, under_is, under_root, under_step, forwards_no_endpoint}
+use Rattle.cxl_legal.proofs.FittingTrees.{under_self, under_parent, KnownTree, up_tree, ports_none, ports_some, is_above, under_is, under_root, under_step, forwards_no_endpoint}
 use Rattle.cxl_legal.proofs.FittingRules.{ServesAt}
 use Rattle.cxl_legal.proofs.FittingCounts.{ways_below, forwards_none}
 use Rattle.cxl_legal.proofs.FittingBlocks.{Kept, kept_of, gran_of, endpoint_ways}
+use Rattle.cxl_legal.proofs.UsedPorts.{forwarding_ports}
 use Rattle.cxl_legal.proofs.FittingUsed.{Planned, ways_are, even_at, used_endpoint}
-use Rattle.cxl_legal.proofs.FittingPorts.{own_serves, used_child, own_ports, forwarding_ports}
+use Rattle.cxl_legal.proofs.FittingPorts.{own_serves, used_child, own_ports}
 use Rattle.cxl_legal.proofs.FittingEndpoints.{Legal, planned, requested}
 
 -- ---- ways
@@ -57,7 +58,7 @@ own_ways {s} {request} {w} {r} {rows} plan n at own =
 pub forwarding_ways : {s : System} {request : Request} {w : WindowFields} {r : Range} {rows : List Row} → Planned s request w r rows → (n : ℕ) → is_used s request n ≡ true → forwards_at s.nodes n ≡ true
     → planned_ways s request n ≡ 1
 forwarding_ways {s} {request} plan n used forwards =
-    cond-false (is_endpoint_at s.nodes n) (request_ways request) (length (used_ports s request n)) (forwards_no_endpoint plan.known n forwards) ∙ forwarding_ports plan n used forwards
+    cond-false (is_endpoint_at s.nodes n) (request_ways request) (length (used_ports s request n)) (forwards_no_endpoint plan.known n forwards) ∙ forwarding_ports s request plan.known plan.ports plan.named n forwards used
 
 pub select_is : (d : Decoder) → bits_of (decoder_ways d) ≡ select_bits d.ways
 select_is d = go (ways_of d.ways)
@@ -67,23 +68,6 @@ select_is d = go (ways_of d.ways)
     go (Some n) = refl
 
 -- ---- the ports above
-
-under_self : {nodes : List Node} → KnownTree nodes → (n : ℕ) → is_under nodes n n ≡ true
-under_self {nodes} known n = under_is known n n ∙ or_left (n == n) (is_above nodes n n) (eq-eqb n n refl)
-
--- what lies under a node lies under its parent
-under_parent : {nodes : List Node} → KnownTree nodes → (n : ℕ) (p : Parent) → parent_of nodes n ≡ Some p → (m : ℕ) → is_under nodes n m ≡ true → is_under nodes p.node m ≡ true
-under_parent {nodes} known n p some =
-    up_tree known (λ m. is_under nodes n m ≡ true → is_under nodes p.node m ≡ true)
-    (λ m none under. absurd (none-some p (sym none ∙ ap (parent_of nodes) (eqb-true m n (sym (under_root known n m none) ∙ under)) ∙ some)))
-    (λ m q above rest under. under_step known p.node m q above ∙
-    or_right (m == p.node) (is_under nodes p.node q.node)
-    (elim (or_cases (m == n) (is_under nodes n q.node) (sym (under_step known n m q above) ∙ under)) as (λ x. is_under nodes p.node q.node ≡ true) [
-      | inl here ↦
-          let same : q ≡ p = same_Some q p (sym above ∙ ap (parent_of nodes) (eqb-true m n here) ∙ some) in
-          ap (λ (x : Parent). is_under nodes p.node x.node) same ∙ under_self known p.node
-      | inr higher ↦ rest higher
-    ]))
 
 -- the parent of a used node is used
 pub parent_used : {s : System} {request : Request} {w : WindowFields} {r : Range} {rows : List Row} → Planned s request w r rows → (n : ℕ) (p : Parent) → parent_of s.nodes n ≡ Some p → is_used s request n ≡ true

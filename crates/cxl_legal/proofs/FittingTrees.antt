@@ -143,6 +143,22 @@ above_port {nodes} known n =
       | inr higher ↦ rest higher
     ])
 
+pub under_self : {nodes : List Node} → KnownTree nodes → (i : ℕ) → is_under nodes i i ≡ true
+under_self {nodes} known i = under_is known i i ∙ or_left (i == i) (is_above nodes i i) (eq-eqb i i refl)
+
+-- what stands under a node stands under its parent
+pub under_parent : {nodes : List Node} → KnownTree nodes → (i : ℕ) (p : Parent) → parent_of nodes i ≡ Some p → (m : ℕ) → is_under nodes i m ≡ true → is_under nodes p.node m ≡ true
+under_parent {nodes} known i p some =
+    up_tree known (λ m. is_under nodes i m ≡ true → is_under nodes p.node m ≡ true)
+    (λ m none under. absurd (none-some p (sym none ∙ ap (parent_of nodes) (eqb-true m i (sym (under_root known i m none) ∙ under)) ∙ some)))
+    (λ m q own rest under. under_step known p.node m q own ∙ or_right (m == p.node) (is_under nodes p.node q.node)
+    (elim (or_cases (m == i) (is_under nodes i q.node) (sym (under_step known i m q own) ∙ under)) [
+      | inl here ↦
+          let same : q ≡ p = same_Some q p (sym own ∙ ap (parent_of nodes) (eqb-true m i here) ∙ some) in
+          ap (λ (x : Parent). is_under nodes p.node x.node) same ∙ under_self known p.node
+      | inr higher ↦ rest higher
+    ]))
+
 -- ---- a child and what stands under it
 
 pub same_test : (a b : Bool) → (a ≡ true → b ≡ true) → (b ≡ true → a ≡ true) → a ≡ b

@@ -1,5 +1,7 @@
 pub mod FittingTrees
 pub mod FittingSums
+pub mod UsedNodes
+pub mod UsedPorts
 pub mod FittingServers
 pub mod FittingRules
 pub mod FittingCounts
@@ -25,7 +27,6 @@ pub mod RowsDecoders
 pub mod RowsRules
 pub mod RowsKept
 pub mod RowsOthers
-pub mod StatedTrees
 pub mod StatedImages
 pub mod StatedPorts
 pub mod StatedCounts

@@ -24,16 +24,17 @@ use Rattle.cxl_model.specs.Counts.{is_under}
 use Rattle.cxl_legal.specs.Used.{request_ways, is_used, count_under, is_port_used, used_ports, count_at_port, planned_ways, planned_ways_above}
 use Rattle.cxl_legal.specs.Endpoints.{has_bridge_share, first_bridge}
 use Rattle.cxl_legal.specs.Windows.{is_used_bridge, is_target}
-use Rattle.cxl_legal.proofs.FittingTrees.{KnownTree, parent_is_port, up_tree, ports_none, ports_some, under_is, is_above, leaves_at, leaves_above, leaves_once, under_child, under_endpoint, under_top, root_of, same_test, port_no_endpoint}
+use Rattle.cxl_legal.proofs.FittingTrees.{under_self, KnownTree, parent_is_port, up_tree, ports_none, ports_some, under_is, is_above, leaves_at, leaves_above, leaves_once, under_child, under_endpoint, under_top, root_of, same_test, port_no_endpoint}
 use Rattle.cxl_legal.proofs.FittingSums.{one, total, length-filter-total, total-same, exchange, list_any-weaker, once}
 use Rattle.cxl_legal.proofs.FittingServers.{All-at, asked_or}
 use Rattle.cxl_legal.proofs.FittingCounts.{is_number}
 use Rattle.cxl_legal.proofs.FittingTargets.{distinct_test, uid_top, usable_is}
 use Rattle.cxl_legal.proofs.FittingUsed.{total_each, length_total, endpoint_within}
 use Rattle.cxl_legal.proofs.RowsOthers.{found_some}
-use Rattle.cxl_legal.proofs.StatedTrees.{child_to, above_requested, used_by, used_parent, used_root, under_self, top_bridge}
+use Rattle.cxl_legal.proofs.UsedNodes.{child_to, above_requested, used_by, used_parent, used_root, top_bridge}
 use Rattle.cxl_legal.proofs.StatedImages.{Stated}
-use Rattle.cxl_legal.proofs.StatedPorts.{port_used, port_child, listed_port, ports_pass, ports_distinct, even_at, port_ways}
+use Rattle.cxl_legal.proofs.UsedPorts.{port_used, port_child, listed_port, ports_pass, ports_distinct}
+use Rattle.cxl_legal.proofs.StatedPorts.{even_at, port_ways}
 
 -- ---- sums
 

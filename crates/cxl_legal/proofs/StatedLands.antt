@@ -25,9 +25,10 @@ use Rattle.cxl_legal.proofs.FittingServers.{passes_one}
 use Rattle.cxl_legal.proofs.FittingRules.{ServesAt, served, no_decoder, one_of_range, is_reached, decoding_none, decoding_here, decoding_past}
 use Rattle.cxl_legal.proofs.FittingCounts.{lands_here}
 use Rattle.cxl_legal.proofs.RowsUsed.{used_within}
-use Rattle.cxl_legal.proofs.StatedTrees.{used_child, used_parent, used_root}
+use Rattle.cxl_legal.proofs.UsedNodes.{used_child, used_parent, used_root}
 use Rattle.cxl_legal.proofs.StatedImages.{stated_image, Stated}
-use Rattle.cxl_legal.proofs.StatedPorts.{port_used, port_child, listed_port, ports_pass, ports_distinct, entries_stated}
+use Rattle.cxl_legal.proofs.UsedPorts.{port_used, port_child, listed_port, ports_pass, ports_distinct}
+use Rattle.cxl_legal.proofs.StatedPorts.{entries_stated}
 use Rattle.cxl_legal.proofs.StatedCounts.{targeted}
 
 -- ---- the decoders of the new range

@@ -25,7 +25,8 @@ use Rattle.cxl_legal.proofs.FittingTrees.{port_no_endpoint}
 use Rattle.cxl_legal.proofs.FittingServers.{All-at}
 use Rattle.cxl_legal.proofs.FittingUsed.{endpoint_own}
 use Rattle.cxl_legal.proofs.StatedImages.{stated_image, Stated}
-use Rattle.cxl_legal.proofs.StatedPorts.{ports_pass, ways_stated, entry_stated}
+use Rattle.cxl_legal.proofs.UsedPorts.{ports_pass}
+use Rattle.cxl_legal.proofs.StatedPorts.{ways_stated, entry_stated}
 use Rattle.cxl_legal.proofs.StatedLands.{own_row, row_decoder, row_index}
 use Rattle.cxl_legal.proofs.StatedWays.{above_is}
 

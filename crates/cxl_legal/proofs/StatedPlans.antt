@@ -25,7 +25,8 @@ use Rattle.cxl_legal.proofs.FittingUsed.{some_filtered}
 use Rattle.cxl_legal.proofs.RowsNumbers.{each_ways}
 use Rattle.cxl_legal.proofs.RowsUsed.{used_kind}
 use Rattle.cxl_legal.proofs.StatedImages.{Stated}
-use Rattle.cxl_legal.proofs.StatedPorts.{port_child, ports_pass, own_port, port_ways}
+use Rattle.cxl_legal.proofs.UsedPorts.{port_child, ports_pass, own_port}
+use Rattle.cxl_legal.proofs.StatedPorts.{port_ways}
 use Rattle.cxl_legal.proofs.StatedCounts.{known_window}
 use Rattle.cxl_legal.proofs.StatedLands.{used_in}
 
@@ -41,7 +42,7 @@ record Next (s : System) (request : Request) (w : WindowFields) (slot n : ℕ) :
 next_of : {s : System} {request : Request} {w : WindowFields} {base : ℕ} → Stated s request w base → (slot n : ℕ) → is_endpoint_at s.nodes n ≡ false → is_used s request n ≡ true → Next s request w slot n
 next_of {s} {request} {w} c slot n port used =
     let ways = port_ways s request n port in
-    let some : 0 < length (used_ports s request n) = some_filtered (is_port_used s request n) (range_with_len 0 256) (own_port c n port used) in
+    let some : 0 < length (used_ports s request n) = some_filtered (is_port_used s request n) (range_with_len 0 256) (own_port s request c.known c.fits.ports c.fits.named n port used) in
     let j : ℕ = slot / planned_slots_an_entry s request w n % planned_ways s request n in
     let least : 0 < planned_ways s request n = omega (arith, ways, some) in
     let below : slot / planned_slots_an_entry s request w n % planned_ways s request n < planned_ways s request n = mod-lt (slot / planned_slots_an_entry s request w n) least in

@@ -32,50 +32,9 @@ use Rattle.cxl_legal.proofs.FittingTargets.{distinct_test}
 use Rattle.cxl_legal.proofs.RowsRanges.{kept_of, passes_one}
 use Rattle.cxl_legal.proofs.RowsUsed.{kept_at, number_at, numbers_rise}
 use Rattle.cxl_legal.proofs.RowsDecoders.{own_code}
-use Rattle.cxl_legal.proofs.StatedTrees.{UsedChild, used_child}
+use Rattle.cxl_legal.proofs.UsedNodes.{UsedChild, used_child}
+use Rattle.cxl_legal.proofs.UsedPorts.{ports_small}
 use Rattle.cxl_legal.proofs.StatedImages.{Stated}
-
--- ---- used ports
-
-pub port_used : (s : System) (request : Request) → KnownTree s.nodes → (n e child : ℕ) → parent_of s.nodes child ≡ Some (record { node = n; port = e }) → is_used s request child ≡ true
-    → is_port_used s request n e ≡ true
-port_used s request known n e child parent used = ap (λ (o : Option ℕ). option_map_or (is_used s request) o false) ((known.laws.children n e child).1 parent) ∙ used
-
--- the child at a used port
-pub record PortChild (s : System) (request : Request) (n e : ℕ) : Type 0 where
-  pub child : ℕ
-  pub stands : child_of s.nodes n e ≡ Some child
-  pub parent : parent_of s.nodes child ≡ Some (record { node = n; port = e })
-  pub used : is_used s request child ≡ true
-
-pub port_child : (s : System) (request : Request) → KnownTree s.nodes → (n e : ℕ) → is_port_used s request n e ≡ true → PortChild s request n e
-port_child s request known n e used = go (child_of s.nodes n e) refl used
-  where
-    go : (o : Option ℕ) → child_of s.nodes n e ≡ o → option_map_or (is_used s request) o false ≡ true → PortChild s request n e
-    go None at is = absurd (false≢true is)
-    go (Some child) at is = record { child = child; stands = at; parent = (known.laws.children n e child).0 at; used = is }
-
--- a used port stands in the list of them
-pub listed_port : (s : System) (request : Request) (n e : ℕ) → e < 256 → is_port_used s request n e ≡ true → list_any (λ x. x == e) (used_ports s request n) ≡ true
-listed_port s request n e low used =
-    let kept = kept_at (is_port_used s request n) (range_with_len 0 256) e e (number_at 256 e low) used in
-    passes_one (λ x. x == e) (used_ports s request n) kept.0 e kept.1 (eq-eqb e e refl)
-
-pub ports_pass : (s : System) (request : Request) (n : ℕ) → All (λ e. is_port_used s request n e ≡ true) (used_ports s request n)
-ports_pass s request n = filter_passes (is_port_used s request n) (range_with_len 0 256)
-
-pub ports_small : (s : System) (request : Request) (n : ℕ) → All (λ e. e < 256) (used_ports s request n)
-ports_small s request n =
-    All-filter (is_port_used s request n) (λ (e : ℕ). e < 256) (range_with_len 0 256) (λ k d within.
-    let long = length-range_with_len 0 256 in
-    let at = get_or-range_with_len 0 256 k d (omega arith) in
-    omega arith)
-
-pub ports_distinct : (s : System) (request : Request) (n : ℕ) → are_distinct (used_ports s request n) ≡ true
-ports_distinct s request n =
-    distinct_test (used_ports s request n) (λ i j d less within same.
-    let rises = AllPairs-filter (λ a b. a < b) (is_port_used s request n) (range_with_len 0 256) (numbers_rise 256) i j d less within in
-    omega (arith, rises, same))
 
 -- ---- how evenly requested endpoints lie
 
@@ -91,28 +50,6 @@ even_at {s} {request} c n port used =
     let outer = and_parts (has_even_ports s request n && has_even_children s request n) (has_bridge_share s request n) all in
     let inner = and_parts (has_even_ports s request n) (has_even_children s request n) outer.0 in
     record { ports = (and_parts (is_target_count (length (used_ports s request n))) _ inner.0).0; children = inner.1; share = outer.1 }
-
--- a used node that is no endpoint has a used port
-pub own_port : {s : System} {request : Request} {w : WindowFields} {base : ℕ} → Stated s request w base → (n : ℕ) → is_endpoint_at s.nodes n ≡ false → is_used s request n ≡ true
-    → list_any (is_port_used s request n) (range_with_len 0 256) ≡ true
-own_port {s} {request} c n port used =
-    let next = used_child s request c.known c.fits.named n used port in
-    is_number (is_port_used s request n) 256 next.port (c.fits.ports next.child (record { node = n; port = next.port }) next.parent) (port_used s request c.known n next.port next.child next.parent next.used)
-
--- one that forwards has one
-pub forwarding_ports : {s : System} {request : Request} {w : WindowFields} {base : ℕ} → Stated s request w base → (n : ℕ) → forwards_at s.nodes n ≡ true → is_used s request n ≡ true
-    → length (used_ports s request n) ≡ 1
-forwarding_ports {s} {request} c n forwards used =
-    length-filter-total (is_port_used s request n) (range_with_len 0 256)
-    ∙ once (is_port_used s request n) same (range_with_len 0 256) (numbers_differ 0 256)
-    ∙ ap one (own_port c n (forwards_no_endpoint c.known n forwards) used)
-  where
-    same : (a b : ℕ) → is_port_used s request n a ≡ true → is_port_used s request n b ≡ true → a ≡ b
-    same a b first second =
-        let left = port_child s request c.known n a first in
-        let right = port_child s request c.known n b second in
-        let equal : left.child ≡ right.child = c.known.tree.forwarding left.child right.child (record { node = n; port = a }) (record { node = n; port = b }) left.parent right.parent refl forwards in
-        ap (λ (p : Parent). p.port) (same_Some (record { node = n; port = a }) (record { node = n; port = b }) (sym left.parent ∙ ap (parent_of s.nodes) equal ∙ right.parent))
 
 pub port_ways : (s : System) (request : Request) (n : ℕ) → is_endpoint_at s.nodes n ≡ false → planned_ways s request n ≡ length (used_ports s request n)
 port_ways s request n port = cond-false (is_endpoint_at s.nodes n) (request_ways request) (length (used_ports s request n)) port

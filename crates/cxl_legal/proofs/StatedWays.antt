@@ -23,7 +23,7 @@ use Rattle.cxl_model.specs.Rules.{keeps_ways, keeps_endpoint_ways, keeps_port_co
 use Rattle.cxl_model.specs.Plans.{committed_row, plan_code}
 use Rattle.cxl_legal.specs.Used.{request_ways, is_used, count_under, used_ports, planned_ways, planned_ways_above, planned_bits_above, planned_code}
 use Rattle.cxl_legal.specs.Stated.{has_row, stated_row, planned_range}
-use Rattle.cxl_legal.proofs.FittingTrees.{up_tree, parent_is_port, ports_none, ports_some, forwards_no_endpoint}
+use Rattle.cxl_legal.proofs.FittingTrees.{under_self, up_tree, parent_is_port, ports_none, ports_some, forwards_no_endpoint}
 use Rattle.cxl_legal.proofs.FittingServers.{some_ways}
 use Rattle.cxl_legal.proofs.FittingCounts.{is_number}
 use Rattle.cxl_legal.proofs.FittingPorts.{find_passes}
@@ -31,9 +31,10 @@ use Rattle.cxl_legal.proofs.FittingUsed.{endpoint_own}
 use Rattle.cxl_legal.proofs.RowsUsed.{used_kind}
 use Rattle.cxl_legal.proofs.RowsDecoders.{own_code}
 use Rattle.cxl_legal.proofs.RowsOthers.{found_some}
-use Rattle.cxl_legal.proofs.StatedTrees.{used_by, used_parent, used_child, under_self}
+use Rattle.cxl_legal.proofs.UsedNodes.{used_by, used_parent, used_child}
 use Rattle.cxl_legal.proofs.StatedImages.{stated_image, Stated}
-use Rattle.cxl_legal.proofs.StatedPorts.{forwarding_ports, port_ways, ways_stated}
+use Rattle.cxl_legal.proofs.UsedPorts.{forwarding_ports}
+use Rattle.cxl_legal.proofs.StatedPorts.{port_ways, ways_stated}
 use Rattle.cxl_legal.proofs.StatedCounts.{requested_within, count_child, count_down, endpoint_ways}
 use Rattle.cxl_legal.proofs.StatedLands.{own_row, row_parts, row_decoder, no_row_decoder, row_index, serves_row, used_in}
 
@@ -55,7 +56,7 @@ step_is {s} {request} {w} {base} c p used =
     elim (cases_Bool (forwards_at s.nodes p.node)) [
       | inl forwards ↦
           let none = no_row_decoder c p.node (no_row forwards) in
-          let single : planned_ways s request p.node ≡ 1 = port_ways s request p.node (forwards_no_endpoint c.known p.node forwards) ∙ forwarding_ports c p.node forwards used in
+          let single : planned_ways s request p.node ≡ 1 = port_ways s request p.node (forwards_no_endpoint c.known p.node forwards) ∙ forwarding_ports s request c.known c.fits.ports c.fits.named p.node forwards used in
           record {
             ways = ap (λ (o : Option Decoder). product (map decoder_ways (cons_option o above))) none ∙ sym (ap (λ (k : ℕ). k * product (map decoder_ways above)) single ∙ omega arith);
             bits = ap (λ (o : Option Decoder). sum_by (λ d. select_bits d.ways) (cons_option o above)) none ∙ sym (ap (λ (k : ℕ). bits_of k + sum_by (λ (d : Decoder). select_bits d.ways) above) single ∙ omega arith);

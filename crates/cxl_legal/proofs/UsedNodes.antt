@@ -13,25 +13,9 @@ use Rattle.cxl_model.specs.declared.request.Request.{Request}
 use Rattle.cxl_model.specs.System.{System}
 use Rattle.cxl_model.specs.Counts.{is_under}
 use Rattle.cxl_legal.specs.Used.{AreEndpoints, is_used}
-use Rattle.cxl_legal.proofs.FittingTrees.{KnownTree, parent_is_port, up_tree, under_root, under_step, under_is, is_above, above_root, above_step, root_of, root_root, root_step}
+use Rattle.cxl_legal.proofs.FittingTrees.{KnownTree, under_self, under_parent, parent_is_port, up_tree, under_root, under_step, under_is, is_above, above_root, above_step, root_of, root_root, root_step}
 
--- ---- under
-
-pub under_self : {nodes : List Node} → KnownTree nodes → (i : ℕ) → is_under nodes i i ≡ true
-under_self {nodes} known i = under_is known i i ∙ or_left (i == i) (is_above nodes i i) (eq-eqb i i refl)
-
--- what stands under a node stands under its parent
-pub under_parent : {nodes : List Node} → KnownTree nodes → (i : ℕ) (p : Parent) → parent_of nodes i ≡ Some p → (m : ℕ) → is_under nodes i m ≡ true → is_under nodes p.node m ≡ true
-under_parent {nodes} known i p some =
-    up_tree known (λ m. is_under nodes i m ≡ true → is_under nodes p.node m ≡ true)
-    (λ m none under. absurd (none-some p (sym none ∙ ap (parent_of nodes) (eqb-true m i (sym (under_root known i m none) ∙ under)) ∙ some)))
-    (λ m q own rest under. under_step known p.node m q own ∙ or_right (m == p.node) (is_under nodes p.node q.node)
-    (elim (or_cases (m == i) (is_under nodes i q.node) (sym (under_step known i m q own) ∙ under)) [
-      | inl here ↦
-          let same : q ≡ p = same_Some q p (sym own ∙ ap (parent_of nodes) (eqb-true m i here) ∙ some) in
-          ap (λ (x : Parent). is_under nodes p.node x.node) same ∙ under_self known p.node
-      | inr higher ↦ rest higher
-    ]))
+-- ---- ways down
 
 -- the child of node n on the way down to node m
 pub record ChildTo (nodes : List Node) (n m : ℕ) : Type 0 where
