@@ -37,6 +37,7 @@ use Rattle.cxl_legal.proofs.FittingTrees.{under_self, under_parent, KnownTree, u
 use Rattle.cxl_legal.proofs.FittingRules.{ServesAt}
 use Rattle.cxl_legal.proofs.FittingCounts.{ways_below, forwards_none}
 use Rattle.cxl_legal.proofs.FittingBlocks.{Kept, kept_of, gran_of, endpoint_ways}
+use Rattle.cxl_legal.proofs.UsedNodes.{used_parent}
 use Rattle.cxl_legal.proofs.UsedPorts.{forwarding_ports}
 use Rattle.cxl_legal.proofs.FittingUsed.{Planned, ways_are, even_at, used_endpoint}
 use Rattle.cxl_legal.proofs.FittingPorts.{own_serves, used_child, own_ports}
@@ -69,12 +70,6 @@ select_is d = go (ways_of d.ways)
 
 -- ---- the ports above
 
--- the parent of a used node is used
-pub parent_used : {s : System} {request : Request} {w : WindowFields} {r : Range} {rows : List Row} → Planned s request w r rows → (n : ℕ) (p : Parent) → parent_of s.nodes n ≡ Some p → is_used s request n ≡ true
-    → is_used s request p.node ≡ true
-parent_used {s} {request} plan n p some used =
-    list_any-weaker (is_under s.nodes n) (is_under s.nodes p.node) (under_parent plan.known n p some) request.endpoints used
-
 -- the bits of the ways of a used node
 own_bits : {s : System} {request : Request} {w : WindowFields} {r : Range} {rows : List Row} → Planned s request w r rows → (n : ℕ) → is_used s request n ≡ true → (ds : List Decoder)
     → sum_by (λ d. select_bits d.ways) (cons_option (decoder_for (with_rows s rows) r n) ds) ≡ bits_of (planned_ways s request n) + sum_by (λ d. select_bits d.ways) ds
@@ -100,7 +95,7 @@ bits_are {s} {request} {w} {r} {rows} plan =
     ap (sum_by (λ (parent : Parent). bits_of (planned_ways s request parent.node))) (ports_none plan.known n none)
     ∙ sym (ap (λ (ps : List Parent). sum_by (λ d. select_bits d.ways) (filter_map (λ parent. decoder_for (with_rows s rows) r parent.node) ps)) (ports_none plan.known n none)))
     (λ n p some rest used.
-    let up = parent_used plan n p some used in
+    let up = used_parent s request plan.known n p some used in
     ap (sum_by (λ (parent : Parent). bits_of (planned_ways s request parent.node))) (ports_some plan.known n p some)
     ∙ sum_by-cons (λ (parent : Parent). bits_of (planned_ways s request parent.node)) p (ports_above s.nodes p.node)
     ∙ ap (λ (k : ℕ). bits_of (planned_ways s request p.node) + k) (rest up)

@@ -29,7 +29,7 @@ use Rattle.cxl_legal.specs.Used.{request_ways, is_used, is_port_used, used_ports
 use Rattle.cxl_legal.specs.Endpoints.{share_of, cap_at, has_even_ports, has_even_children, has_bridge_share}
 use Rattle.cxl_legal.specs.Stated.{Fits, planned_range, targets_word, stated_start, stated_tail, stated_decoder, stated_row, stated_rows, has_row}
 use Rattle.cxl_legal.proofs.RowsSystems.{HasBlock, at_place, block_keeps}
-use Rattle.cxl_legal.proofs.RowsRanges.{Lower, kept_of}
+use Rattle.cxl_legal.proofs.RowsRanges.{Lower, known_tree, kept_of}
 use Rattle.cxl_legal.proofs.RowsUsed.{used_kind, row_is}
 use Rattle.cxl_legal.proofs.RowsImages.{row_of}
 use Rattle.cxl_legal.proofs.RowsNumbers.{HasCode, code_of, count_is_ways, word_wide, of_ways, of_step}
@@ -60,9 +60,6 @@ first_free ds left =
     (lt-ltb (position_or_len (λ (d : Decoder). not d.committed) ds) (length ds) (omega arith)) ∙ ap (λ (k : ℕ). Some k) place
 
 module _ (lower : Lower) (spans : SpanLaw) (s : System) (request : Request) (w : WindowFields) (base : ℕ) (fits : Fits s request w base) where
-  laws : AreTreeLaws s.nodes
-  laws = lower.trees s.nodes fits.system.tree
-
   known_window : IsUsable w
   known_window = (at_place IsWindow s.windows w.index w fits.window.there fits.system.made.each).usable (usable_is w.verdict fits.window.usable)
 
@@ -99,7 +96,7 @@ module _ (lower : Lower) (spans : SpanLaw) (s : System) (request : Request) (w :
 
   pub ways_known : (n : ℕ) → is_used s request n ≡ true → is_ways (planned_ways s request n) ≡ true
   ways_known n used =
-      elim (used_kind s request n fits.system.tree laws fits.named used) [
+      elim (used_kind s request n (known_tree lower s request w base fits) fits.named used) [
         | inl endpoint ↦ ap is_ways (endpoint_ways n endpoint.1) ∙ fits.endpoints.ways
         | inr port ↦ ap is_ways (port_ways n port.1) ∙ count_is_ways (length (used_ports s request n)) (even_ports n port.0 used).0
       ]
@@ -172,7 +169,7 @@ module _ (lower : Lower) (spans : SpanLaw) (s : System) (request : Request) (w :
 
   tail_of : (n : ℕ) → is_used s request n ≡ true → HasBlock s n → HasTail n
   tail_of n used own =
-      elim (used_kind s request n fits.system.tree laws fits.named used) [
+      elim (used_kind s request n (known_tree lower s request w base fits) fits.named used) [
         | inl endpoint ↦
             let is : stated_tail s request n ≡ stated_start s request n - cursor_of (decoders_at s n) =
             cond-true (is_endpoint_at s.nodes n) (stated_start s request n - cursor_of (decoders_at s n)) (targets_word (used_ports s request n)) endpoint.1 in

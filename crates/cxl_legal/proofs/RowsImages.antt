@@ -19,7 +19,7 @@ use Rattle.cxl_model.specs.Plans.{committed_row, block_with_row, with_rows}
 use Rattle.cxl_legal.specs.Used.{is_used}
 use Rattle.cxl_legal.specs.Stated.{Fits, planned_range, has_row, stated_row, stated_rows}
 use Rattle.cxl_legal.proofs.RowsSystems.{HasBlock, block_of, decoders_are}
-use Rattle.cxl_legal.proofs.RowsRanges.{Lower, new_range}
+use Rattle.cxl_legal.proofs.RowsRanges.{Lower, known_tree, new_range}
 use Rattle.cxl_legal.proofs.RowsUsed.{used_within, row_is, row_there, rows_rise}
 use Rattle.cxl_legal.proofs.RowsFolds.{find_set, find_none, position_set, position_none, count_below, block_else, block_here}
 
@@ -30,9 +30,6 @@ module _ (lower : Lower) (s : System) (request : Request) (w : WindowFields) (ba
   abbrev pub after : System
   after = with_rows s rows
 
-  pub laws : AreTreeLaws s.nodes
-  laws = lower.trees s.nodes fits.system.tree
-
   -- a used node that does not forward, with its block and the place of its row
   pub record HasRow (n : ℕ) : Type 0 where
     pub used : is_used s request n ≡ true
@@ -42,7 +39,7 @@ module _ (lower : Lower) (s : System) (request : Request) (w : WindowFields) (ba
   pub row_of : (n : ℕ) → has_row s request n ≡ true → HasRow n
   row_of n has =
       let used = (and_parts (is_used s request n) (not (forwards_at s.nodes n)) has).0 in
-      let own = block_of s n fits.system (used_within s request n fits.system.tree laws fits.named used) in
+      let own = block_of s n fits.system (used_within s request n (known_tree lower s request w base fits) fits.named used) in
       let free : all_committed (decoders_at s n) ≡ false = ap (λ b. b && all_committed (decoders_at s n)) (sym used) ∙ fits.endpoints.left n in
       record { used = used; own = own; left = count_below own.block.decoders (ap all_committed (sym own.decoders) ∙ free) }
 
@@ -50,7 +47,7 @@ module _ (lower : Lower) (s : System) (request : Request) (w : WindowFields) (ba
   pub block_with : (n : ℕ) (block : Registers) → has_row s request n ≡ true → slice_get s.blocks n ≡ Some block → slice_get after.blocks n ≡ Some (block_with_row (stated_row s request w base n) block)
   block_with n block has here =
       let used = (and_parts (is_used s request n) (not (forwards_at s.nodes n)) has).0 in
-      block_here rows s.blocks (stated_row s request w base n) (rows_rise s request w base) (row_there s request w base n (used_within s request n fits.system.tree laws fits.named used) has)
+      block_here rows s.blocks (stated_row s request w base n) (rows_rise s request w base) (row_there s request w base n (used_within s request n (known_tree lower s request w base fits) fits.named used) has)
       ∙ ap (option_map (block_with_row (stated_row s request w base n))) here
 
   pub block_same : (n : ℕ) → has_row s request n ≡ false → slice_get after.blocks n ≡ slice_get s.blocks n

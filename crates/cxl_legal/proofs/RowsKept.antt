@@ -30,7 +30,7 @@ use Rattle.cxl_legal.specs.Endpoints.{share_of, cap_at}
 use Rattle.cxl_legal.specs.Bases.{last_end}
 use Rattle.cxl_legal.specs.Stated.{Fits, has_row, targets_word, stated_start, stated_tail, stated_decoder, stated_row, stated_rows}
 use Rattle.cxl_legal.proofs.RowsSystems.{HasBlock, at_place, block_keeps, keeps_again}
-use Rattle.cxl_legal.proofs.RowsRanges.{Lower, end_at}
+use Rattle.cxl_legal.proofs.RowsRanges.{Lower, known_tree, end_at}
 use Rattle.cxl_legal.proofs.RowsUsed.{used_kind}
 use Rattle.cxl_legal.proofs.RowsFolds.{length_rows}
 use Rattle.cxl_legal.proofs.RowsImages.{HasRow, row_of, after, block_with, block_same}
@@ -40,9 +40,6 @@ use Rattle.cxl_legal.proofs.RowsDecoders.{end_low, even_ports, endpoint_ways, po
 use Rattle.cxl_legal.proofs.RowsRules.{CanFollow, grown_keeps}
 
 module _ (lower : Lower) (spans : SpanLaw) (s : System) (request : Request) (w : WindowFields) (base : ℕ) (fits : Fits s request w base) where
-  laws : AreTreeLaws s.nodes
-  laws = lower.trees s.nodes fits.system.tree
-
   keeps : KeepsBlocks s
   keeps = λ rule n i low. fits.accepted.each rule n i
 
@@ -67,7 +64,7 @@ module _ (lower : Lower) (spans : SpanLaw) (s : System) (request : Request) (w :
   ways_can : (n : ℕ) → is_used s request n ≡ true → (own : HasBlock s n)
       → (if own.block.endpoint then endpoint_ways_ok own.block.cap (planned_ways_code s request n) else port_ways_ok own.block.cap (planned_ways_code s request n)) ≡ true
   ways_can n used own =
-      elim (used_kind s request n fits.system.tree laws fits.named used) [
+      elim (used_kind s request n (known_tree lower s request w base fits) fits.named used) [
         | inl endpoint ↦
             cond-true own.block.endpoint (endpoint_ways_ok own.block.cap (planned_ways_code s request n)) (port_ways_ok own.block.cap (planned_ways_code s request n)) (sym own.endpoint ∙ endpoint.1)
             ∙ ap (λ (cap : ℕ). endpoint_ways_ok cap (planned_ways_code s request n)) (sym own.cap) ∙ endpoint_can lower spans s request w base fits n endpoint.1 used
@@ -85,7 +82,7 @@ module _ (lower : Lower) (spans : SpanLaw) (s : System) (request : Request) (w :
       → (lies_in Ram (ram_at s n) (pmem_at s n) (cursor_of own.block.decoders + stated_tail s request n) (span_length (new_at n))
       || lies_in Pmem (ram_at s n) (pmem_at s n) (cursor_of own.block.decoders + stated_tail s request n) (span_length (new_at n))) ≡ true
   span_can n used own endpoint =
-      let there : Contains request.endpoints n = elim (used_kind s request n fits.system.tree laws fits.named used) [ inl is ↦ is.0 | inr port ↦ absurd (both_ways endpoint port.1) ] in
+      let there : Contains request.endpoints n = elim (used_kind s request n (known_tree lower s request w base fits) fits.named used) [ inl is ↦ is.0 | inr port ↦ absurd (both_ways endpoint port.1) ] in
       let room = span_room lower spans s request w base fits n there in
       let tail : stated_tail s request n ≡ stated_start s request n - cursor_of (decoders_at s n) =
       cond-true (is_endpoint_at s.nodes n) (stated_start s request n - cursor_of (decoders_at s n)) (targets_word (used_ports s request n)) endpoint in

@@ -30,7 +30,7 @@ use Rattle.cxl_legal.specs.Used.{request_ways, is_used, used_ports}
 use Rattle.cxl_legal.specs.Endpoints.{share_of}
 use Rattle.cxl_legal.specs.Stated.{Fits, planned_range, has_row, targets_word, stated_start, stated_tail, stated_row}
 use Rattle.cxl_legal.proofs.RowsSystems.{block_of, block_keeps, decoder_within}
-use Rattle.cxl_legal.proofs.RowsRanges.{Lower, window_there, lies_in_window, passes_one, some_first}
+use Rattle.cxl_legal.proofs.RowsRanges.{Lower, known_tree, window_there, lies_in_window, passes_one, some_first}
 use Rattle.cxl_legal.proofs.RowsUsed.{used_kind}
 use Rattle.cxl_legal.proofs.RowsFolds.{get_same, get_other}
 use Rattle.cxl_legal.proofs.RowsImages.{after, decoders_with, left_at, decoders_else}
@@ -83,9 +83,6 @@ found_some p (x ∷ xs) any none =
     ]
 
 module _ (lower : Lower) (s : System) (request : Request) (w : WindowFields) (base : ℕ) (fits : Fits s request w base) where
-  laws : AreTreeLaws s.nodes
-  laws = lower.trees s.nodes fits.system.tree
-
   abbrev t : System
   t = after lower s request w base fits
 
@@ -177,7 +174,7 @@ module _ (lower : Lower) (spans : SpanLaw) (law : KindLaw) (s : System) (request
   new_kinds m endpoint used =
       let has = endpoint_row lower s request w base fits m endpoint used in
       let new : Decoder = committed_row (stated_row s request w base m) in
-      let there : Contains request.endpoints m = elim (used_kind s request m fits.system.tree (lower.trees s.nodes fits.system.tree) fits.named used) [ inl is ↦ is.0 | inr port ↦ absurd (false≢true (sym port.1 ∙ endpoint)) ] in
+      let there : Contains request.endpoints m = elim (used_kind s request m (known_tree lower s request w base fits) fits.named used) [ inl is ↦ is.0 | inr port ↦ absurd (false≢true (sym port.1 ∙ endpoint)) ] in
       let room = span_room lower spans s request w base fits m there in
       let at : decoder_at (after lower s request w base fits) m (committed_count (decoders_at s m)) ≡ Some new =
       ap (λ (ds : List Decoder). slice_get ds (committed_count (decoders_at s m))) (decoders_with lower s request w base fits m has)

@@ -30,7 +30,8 @@ use Rattle.cxl_legal.specs.Used.{is_used}
 use Rattle.cxl_legal.specs.Windows.{is_used_bridge}
 use Rattle.cxl_legal.specs.Bases.{last_end}
 use Rattle.cxl_legal.specs.Stated.{Fits, planned_range}
-use Rattle.cxl_legal.proofs.RowsTrees.{from_lower, decoding_earlier, under_landing, root_of}
+use Rattle.cxl_legal.proofs.FittingTrees.{KnownTree, from_lower, root_of}
+use Rattle.cxl_legal.proofs.RowsTrees.{decoding_earlier, under_landing}
 use Rattle.cxl_legal.proofs.RowsSystems.{block_of, block_keeps, decoder_within}
 
 -- ---- what lower laws say
@@ -160,8 +161,8 @@ module _ (lower : Lower) (s : System) (request : Request) (w : WindowFields) (ba
   abbrev pub r : Range
   r = planned_range request base
 
-  laws : AreTreeLaws s.nodes
-  laws = lower.trees s.nodes fits.system.tree
+  pub known_tree : KnownTree s.nodes
+  known_tree = record { tree = fits.system.tree; laws = lower.trees s.nodes fits.system.tree }
 
   pub window_there : Contains s.windows w
   window_there = (w.index, slice_get_within s.windows w.index w fits.window.there, get_or_from_slice_get s.windows w.index w w fits.window.there)
@@ -188,7 +189,7 @@ module _ (lower : Lower) (s : System) (request : Request) (w : WindowFields) (ba
           let some = Any-from_list_any (λ t. t == uid) w.targets target in
           let all = (and_parts (list_all (is_used_bridge s request) w.targets) _ fits.window.bridges).0 in
           let passes : is_used_bridge s request some.1 ≡ true = ap (is_used_bridge s request) (sym some.3) ∙ AllPass-from_list_all (is_used_bridge s request) w.targets all some.0 some.1 some.2 in
-          let found : bridge_with s.nodes some.1 ≡ Some b = (laws.bridges some.1 b).1 (is ∙ ap Some (sym (eqb-true some.1 uid some.4))) in
+          let found : bridge_with s.nodes some.1 ≡ Some b = (known_tree.laws.bridges some.1 b).1 (is ∙ ap Some (sym (eqb-true some.1 uid some.4))) in
           (b, root, sym (ap (λ (o : Option ℕ). option_map_or (is_used s request) o false) found) ∙ passes)
 
   -- a node of the range above which all is passed on is used
@@ -198,7 +199,7 @@ module _ (lower : Lower) (s : System) (request : Request) (w : WindowFields) (ba
       let some = Any-from_list_any (is_under s.nodes top.0) request.endpoints top.2 in
       let endpoint : is_endpoint_at s.nodes some.1 ≡ true = All-contains (λ m. is_endpoint_at s.nodes m ≡ true) request.endpoints some.1 fits.named (some.0, some.2, some.3) in
       list_any-from_Any (is_under s.nodes n) request.endpoints
-      (some.0, some.1, some.2, some.3, under_landing s.nodes fits.system.tree laws some.1 endpoint n top.0 passes top.1 some.4)
+      (some.0, some.1, some.2, some.3, under_landing known_tree some.1 endpoint n top.0 passes top.1 some.4)
 
   -- and all that is committed there ends at or below the base
   none_at_landing : (n : ℕ) → decoding_port_of s.nodes n ≡ None → is_targeted s r n ≡ true → serves s r n ≡ true → ⊥
@@ -216,7 +217,7 @@ module _ (lower : Lower) (s : System) (request : Request) (w : WindowFields) (ba
     where
       go : (n : ℕ) → ((m : ℕ) → m < n → serves s r m ≡ true → ⊥) → serves s r n ≡ true → (o : Option Parent) → decoding_port_of s.nodes n ≡ o → option_map_or (lists s r) o (is_targeted s r n) ≡ true → ⊥
       go n earlier is None passes targeted = none_at_landing n passes targeted is
-      go n earlier is (Some p) up lists_it = earlier p.node (decoding_earlier s.nodes fits.system.tree laws n p up) (listed s r p lists_it)
+      go n earlier is (Some p) up lists_it = earlier p.node (decoding_earlier known_tree n p up) (listed s r p lists_it)
 
   -- the range is new
   pub new_range : (n : ℕ) → serves s r n ≡ false

@@ -23,7 +23,9 @@ use Rattle.cxl_model.specs.Counts.{is_under}
 use Rattle.cxl_model.specs.Plans.{IsUsed, AreRowsOf}
 use Rattle.cxl_legal.specs.Used.{AreEndpoints, is_used}
 use Rattle.cxl_legal.specs.Stated.{has_row, stated_row, stated_rows}
-use Rattle.cxl_legal.proofs.RowsTrees.{on_path, port_no_endpoint}
+use Rattle.cxl_legal.proofs.FittingTrees.{KnownTree, port_no_endpoint}
+use Rattle.cxl_legal.proofs.FittingRows.{used_is, used_from}
+use Rattle.cxl_legal.proofs.RowsTrees.{on_path}
 
 -- ---- lists
 
@@ -67,34 +69,22 @@ port_within nodes n p is =
 
 -- ---- used nodes
 
-pub used_means : (s : System) (request : Request) (n : ℕ) → is_used s request n ≡ true → IsUsed s request n
-used_means s request n is =
-    let some = Any-from_list_any (is_under s.nodes n) request.endpoints is in
-    let on = Any-from_list_any (λ q. q == n) (path_of s.nodes some.1) some.4 in
-    let same : on.1 ≡ n = eqb-true on.1 n on.4 in
-    (some.1, (some.0, some.2, some.3), subst (Contains (path_of s.nodes some.1)) same (on.0, on.2, on.3))
-
-pub used_from : (s : System) (request : Request) (n : ℕ) → IsUsed s request n → is_used s request n ≡ true
-used_from s request n is =
-    list_any-from_Any (is_under s.nodes n) request.endpoints
-    (is.1.0, is.0, is.1.1, is.1.2, list_any-from_Any (λ q. q == n) (path_of s.nodes is.0) (is.2.0, n, is.2.1, is.2.2, eq-eqb n n refl))
-
 -- a used node is a requested endpoint or a port
-pub used_kind : (s : System) (request : Request) (n : ℕ) → IsTree s.nodes → AreTreeLaws s.nodes → AreEndpoints s request → is_used s request n ≡ true
+pub used_kind : (s : System) (request : Request) (n : ℕ) → KnownTree s.nodes → AreEndpoints s request → is_used s request n ≡ true
     → (Contains request.endpoints n × (is_endpoint_at s.nodes n ≡ true)) ⊎ ((is_port_at s.nodes n ≡ true) × (is_endpoint_at s.nodes n ≡ false))
-used_kind s request n tree laws named is =
+used_kind s request n known named is =
     let some = Any-from_list_any (is_under s.nodes n) request.endpoints is in
     let there : Contains request.endpoints some.1 = (some.0, some.2, some.3) in
-    elim (on_path s.nodes tree laws n some.1 some.4) [
+    elim (on_path known n some.1 some.4) [
       | inl same ↦
           let own : Contains request.endpoints n = subst (Contains request.endpoints) same there in
           inl (own, All-contains (λ m. is_endpoint_at s.nodes m ≡ true) request.endpoints n named own)
       | inr port ↦ inr (port, port_no_endpoint s.nodes n port)
     ]
 
-pub used_within : (s : System) (request : Request) (n : ℕ) → IsTree s.nodes → AreTreeLaws s.nodes → AreEndpoints s request → is_used s request n ≡ true → n < length s.nodes
-used_within s request n tree laws named is =
-    elim (used_kind s request n tree laws named is) [
+pub used_within : (s : System) (request : Request) (n : ℕ) → KnownTree s.nodes → AreEndpoints s request → is_used s request n ≡ true → n < length s.nodes
+used_within s request n known named is =
+    elim (used_kind s request n known named is) [
       | inl endpoint ↦ port_within s.nodes n (λ node. is_endpoint node.kind) endpoint.1
       | inr port ↦ port_within s.nodes n (λ node. not (is_endpoint node.kind)) port.0
     ]
@@ -127,16 +117,16 @@ rows_rise s request w base i j d less within =
     let next : (get_or (stated_rows s request w base) j d).node ≡ get_or kept j 0 = ap (λ (row : Row). row.node) (get_or-map (stated_row s request w base) kept j 0 d (omega arith)) in
     omega arith
 
-pub rows_of : (s : System) (request : Request) (w : WindowFields) (base : ℕ) → IsTree s.nodes → AreTreeLaws s.nodes → AreEndpoints s request → AreRowsOf s request (stated_rows s request w base)
-rows_of s request w base tree laws named = record {
+pub rows_of : (s : System) (request : Request) (w : WindowFields) (base : ℕ) → KnownTree s.nodes → AreEndpoints s request → AreRowsOf s request (stated_rows s request w base)
+rows_of s request w base known named = record {
   rising = rows_rise s request w base;
   used = λ row there.
       let is = row_is s request w base row there in
       let parts = and_parts (is_used s request is.0) (not (forwards_at s.nodes is.0)) is.1 in
       let node : is.0 ≡ row.node = ap (λ (x : Row). x.node) is.2 in
-      (subst (IsUsed s request) node (used_means s request is.0 parts.0), subst (λ (n : ℕ). forwards_at s.nodes n ≡ false) node (not-true (forwards_at s.nodes is.0) parts.1));
+      (subst (IsUsed s request) node (used_from s request is.0 parts.0), subst (λ (n : ℕ). forwards_at s.nodes n ≡ false) node (not-true (forwards_at s.nodes is.0) parts.1));
   all = λ n used own.
-      let is = used_from s request n used in
+      let is = used_is s request n used in
       let has : has_row s request n ≡ true = and_from (is_used s request n) (not (forwards_at s.nodes n)) is (not_from_false (forwards_at s.nodes n) own) in
-      (stated_row s request w base n, row_there s request w base n (used_within s request n tree laws named is) has, refl);
+      (stated_row s request w base n, row_there s request w base n (used_within s request n known named is) has, refl);
 }

@@ -92,7 +92,7 @@ stated_at {s} {request} {w} {base} c n i d there has =
 -- ---- K10
 
 pub used_in : {s : System} {request : Request} {w : WindowFields} {base : ℕ} → Stated s request w base → (n : ℕ) → is_used s request n ≡ true → n < length s.nodes
-used_in {s} {request} c n used = used_within s request n c.known.tree c.known.laws c.fits.named used
+used_in {s} {request} c n used = used_within s request n c.known c.fits.named used
 
 -- an address that comes to a used node comes to the range
 pub used_lands : {s : System} {request : Request} {w : WindowFields} {base : ℕ} → Stated s request w base → (n : ℕ) → is_used s request n ≡ true → lands_on (stated_image s request w base) (planned_range request base) n ≡ true

@@ -60,7 +60,7 @@ next_of {s} {request} {w} c slot n port used =
 reaches : {s : System} {request : Request} {w : WindowFields} {base : ℕ} → Stated s request w base → (slot k n : ℕ) → length s.nodes ≤ n + k → is_used s request n ≡ true → (m : ℕ) × Reaches s request w slot n m
 reaches {s} {request} c slot zero n past used = let within = used_in c n used in absurd (omega arith)
 reaches {s} {request} c slot (suc k) n past used =
-    elim (used_kind s request n c.known.tree c.known.laws c.fits.named used) [
+    elim (used_kind s request n c.known c.fits.named used) [
       | inl endpoint ↦ (n, at_endpoint n endpoint.1)
       | inr port ↦
           let next = next_of c slot n port.1 used in

@@ -281,7 +281,7 @@ pub ways_kept : {s : System} {request : Request} {w : WindowFields} {base : ℕ}
     → keeps_ways (stated_image s request w base) n (committed_count (decoders_at s n)) (committed_row (stated_row s request w base n)) ≡ true
 ways_kept {s} {request} {w} {base} c n row =
     ap (λ (o : Option WindowFields). option_map_or (λ v. if is_endpoint_at s.nodes n then keeps_endpoint_ways (stated_image s request w base) v n (committed_count (decoders_at s n)) own else keeps_port_code (stated_image s request w base) v n own) o true) c.window
-    ∙ elim (used_kind s request n c.known.tree c.known.laws c.fits.named used) as (λ x. (if is_endpoint_at s.nodes n then keeps_endpoint_ways (stated_image s request w base) w n (committed_count (decoders_at s n)) own else keeps_port_code (stated_image s request w base) w n own) ≡ true) [
+    ∙ elim (used_kind s request n c.known c.fits.named used) as (λ x. (if is_endpoint_at s.nodes n then keeps_endpoint_ways (stated_image s request w base) w n (committed_count (decoders_at s n)) own else keeps_port_code (stated_image s request w base) w n own) ≡ true) [
       | inl endpoint ↦
           cond-true (is_endpoint_at s.nodes n) (keeps_endpoint_ways (stated_image s request w base) w n (committed_count (decoders_at s n)) own) (keeps_port_code (stated_image s request w base) w n own) endpoint.1
           ∙ endpoint_kept c n endpoint.1 used endpoint.0

@@ -1,4 +1,4 @@
-use Rattle.cxl_legal.proofs.RowsRanges.{Lower, new_range}
+use Rattle.cxl_legal.proofs.RowsRanges.{Lower, known_tree, new_range}
 use Rattle.cxl_legal.proofs.RowsUsed.{rows_of}
 use Rattle.cxl_legal.proofs.RowsImages.{decoder_for_range, index_for_range}
 use Rattle.cxl_legal.proofs.RowsSpans.{SpanLaw}
@@ -19,7 +19,7 @@ spans : goal.After-one_window → SpanLaw
 spans c = record { starts = c.spans_are_whole.ensures.start_aligned; lengths = c.spans_are_whole.ensures.length_aligned }
 
 pub returns-clause-rows : goal.returns-clause-rows
-returns-clause-rows c = λ s request w base fits. rows_of s request w base fits.system.tree (c.tree_laws.ensures.laws s.nodes fits.system.tree) fits.named
+returns-clause-rows c = λ s request w base fits. rows_of s request w base (known_tree (known c) s request w base fits) fits.named
 
 pub returns-clause-each : goal.returns-clause-each
 returns-clause-each c = λ s request w base row fits. is_row (known c) (spans c) s request w base fits row
