@@ -47,7 +47,7 @@ not_any false b c d e is one two = absurd (false≢true one)
 
 -- ---- a committed decoder
 
-some_within : {X : Type 0} (xs : List X) (k : ℕ) → k < length xs → (x : X) × (slice_get xs k ≡ Some x)
+pub some_within : {X : Type 0} (xs : List X) (k : ℕ) → k < length xs → (x : X) × (slice_get xs k ≡ Some x)
 some_within [] k low = absurd (omega arith)
 some_within (x ∷ xs) k low = (get_or (x ∷ xs) k x, slice_get-get_or (x ∷ xs) k x low)
 

@@ -39,7 +39,7 @@ get_other (y ∷ ys) zero (suc k) x ne = refl
 get_other (y ∷ ys) (suc i) zero x ne = refl
 get_other (y ∷ ys) (suc i) (suc k) x ne = get_other ys i k x (λ e. ne (ap (λ (n : ℕ). suc n) e))
 
-none_at : {X : Type 0} (d : X) (p : X → Bool) (xs : List X) (k : ℕ) → list_any p xs ≡ false → k < length xs → p (get_or xs k d) ≡ false
+pub none_at : {X : Type 0} (d : X) (p : X → Bool) (xs : List X) (k : ℕ) → list_any p xs ≡ false → k < length xs → p (get_or xs k d) ≡ false
 none_at d p xs k none within = false_from_ne_true (p (get_or xs k d)) (λ passes. false≢true (sym none ∙ list_any_at p xs k d within passes))
 
 -- where no element passes, the one that is set is the first that does

@@ -1,5 +1,5 @@
 -- What the rules of a whole range say of a node that serves it.
-use Rattle.std.proofs.Common.{◌≡◌, ℕ, ◌+◌, ◌<◌, ◌≤◌, Bool, true, false, not, ◌&&◌, ◌||◌, cond, List, [], ◌∷◌, length, get_or, Option, Some, None, refl, sym, ap, ◌∙◌, subst, inl, inr, arith, ◌⊎◌}
+use Rattle.std.proofs.Common.{◌≡◌, ◌≢◌, ℕ, ◌+◌, ◌<◌, ◌≤◌, Bool, true, false, not, ◌&&◌, ◌||◌, cond, List, [], ◌∷◌, length, get_or, Option, Some, None, refl, sym, ap, ◌∙◌, subst, inl, inr, arith, ◌⊎◌}
 use Rattle.std.specs.Prelude.{slice_get, ◌==◌, nat_lt, find, position}
 use Rattle.std.specs.Option.{option_map_or, option_and_then}
 use Rattle.std.specs.List.{list_any, list_all, position_or_len}
@@ -27,9 +27,9 @@ use Rattle.cxl_legal.proofs.FittingTrees.{KnownTree, up_tree, ports_none, ports_
 
 -- ---- blocks
 
-block_rule : (s : System) (rule n i : ℕ) → 2 ≤ rule → rule < 9 → breaks s rule n i ≡ breaks_block s rule n i
+pub block_rule : (s : System) (rule n i : ℕ) → rule ≢ 1 → rule < 9 → breaks s rule n i ≡ breaks_block s rule n i
 unfolding breaks
-block_rule s rule n i low high = rw (ne_eqb rule 1 (omega arith), lt-ltb rule 9 high) refl
+block_rule s rule n i other high = rw (ne_eqb rule 1 other, lt-ltb rule 9 high) refl
 
 no_such_rule : (rule : ℕ) (block : Registers) (ram pmem start : ℕ) (below : Option Decoder) (d : Decoder) → (rule < 2) ⊎ (9 ≤ rule)
     → breaks_rule rule block ram pmem below start d ≡ false
@@ -61,7 +61,7 @@ block_keeps s keeps n block at = record {
     | inr past ↦ elim (cases_lt rule 9) [
       | inl within ↦
           sym (ap (λ (o : Option Registers). option_map_or (λ b. block_breaks rule b (ram_at s n) (pmem_at s n) i) o false) at)
-          ∙ sym (block_rule s rule n i past within) ∙ keeps rule n i within
+          ∙ sym (block_rule s rule n i (λ e. omega (arith, e)) within) ∙ keeps rule n i within
       | inr high ↦ no_rule rule block (ram_at s n) (pmem_at s n) i (inr high)
     ]
   ];

@@ -28,26 +28,15 @@ use Rattle.cxl_model.specs.Plans.{IsRow}
 use Rattle.cxl_legal.specs.Used.{request_ways, is_used, is_port_used, used_ports, planned_ways, planned_code, planned_ways_code}
 use Rattle.cxl_legal.specs.Endpoints.{share_of, cap_at, has_even_ports, has_even_children, has_bridge_share}
 use Rattle.cxl_legal.specs.Stated.{Fits, planned_range, targets_word, stated_start, stated_tail, stated_decoder, stated_row, stated_rows, has_row}
-use Rattle.cxl_legal.proofs.RowsSystems.{HasBlock, at_place, block_keeps}
-use Rattle.cxl_legal.proofs.RowsRanges.{Lower, known_tree, kept_of}
+use Rattle.cxl_legal.proofs.FittingServers.{All-at, asked, asked_or}
+use Rattle.cxl_legal.proofs.FittingRules.{block_keeps}
+use Rattle.cxl_legal.proofs.FittingTargets.{usable_is}
+use Rattle.cxl_legal.proofs.RowsSystems.{HasBlock}
+use Rattle.cxl_legal.proofs.RowsRanges.{Lower, known_tree}
 use Rattle.cxl_legal.proofs.RowsUsed.{used_kind, row_is}
 use Rattle.cxl_legal.proofs.RowsImages.{row_of}
 use Rattle.cxl_legal.proofs.RowsNumbers.{HasCode, code_of, count_is_ways, word_wide, of_ways, of_step}
 use Rattle.cxl_legal.proofs.RowsSpans.{SpanLaw, capacity_known, least_start, end_within, cursor_aligned, skip_aligned}
-
-usable_is : (v : Verdict) → is_usable v ≡ true → v ≡ Usable
-usable_is Usable h = refl
-usable_is Align h = absurd (false≢true h)
-usable_is Size h = absurd (false≢true h)
-usable_is TooHigh h = absurd (false≢true h)
-usable_is (Overlap i) h = absurd (false≢true h)
-usable_is (Target u) h = absurd (false≢true h)
-usable_is (Repeat u) h = absurd (false≢true h)
-usable_is Maps h = absurd (false≢true h)
-
-asked : (a b : Bool) → (not a || b) ≡ true → a ≡ true → b ≡ true
-asked true b h is = h
-asked false b h is = absurd (false≢true is)
 
 -- the first that is not committed stands behind those that are counted
 first_free : (ds : List Decoder) → committed_count ds < length ds → position (λ d. not d.committed) ds ≡ Some (committed_count ds)
@@ -61,7 +50,7 @@ first_free ds left =
 
 module _ (lower : Lower) (spans : SpanLaw) (s : System) (request : Request) (w : WindowFields) (base : ℕ) (fits : Fits s request w base) where
   known_window : IsUsable w
-  known_window = (at_place IsWindow s.windows w.index w fits.window.there fits.system.made.each).usable (usable_is w.verdict fits.window.usable)
+  known_window = (All-at IsWindow s.windows w.index w fits.window.there fits.system.made.each).usable (usable_is w.verdict fits.window.usable)
 
   -- ---- base and size
 
@@ -81,7 +70,7 @@ module _ (lower : Lower) (spans : SpanLaw) (s : System) (request : Request) (w :
 
   pub even_ports : (n : ℕ) → is_port_at s.nodes n ≡ true → is_used s request n ≡ true → (is_target_count (length (used_ports s request n)) ≡ true) × (length (used_ports s request n) ≤ targets_of (cap_at s n))
   even_ports n port used =
-      let all = kept_of (is_port_at s.nodes n && is_used s request n) (has_even_ports s request n && has_even_children s request n && has_bridge_share s request n) (fits.endpoints.even n)
+      let all = asked (is_port_at s.nodes n && is_used s request n) (has_even_ports s request n && has_even_children s request n && has_bridge_share s request n) (fits.endpoints.even n)
       (and_from (is_port_at s.nodes n) (is_used s request n) port used) in
       let outer = and_parts (has_even_ports s request n && has_even_children s request n) (has_bridge_share s request n) all in
       let inner = and_parts (has_even_ports s request n) (has_even_children s request n) outer.0 in
@@ -123,7 +112,7 @@ module _ (lower : Lower) (spans : SpanLaw) (s : System) (request : Request) (w :
   pub selects : (n : ℕ) → is_used s request n ≡ true → (planned_code s request w n ≤ 6) × (select_ok (cap_at s n) (planned_code s request w n) (bits_of (planned_ways s request n)) ≡ true)
   selects n used =
       let parts = and_parts (nat_le (planned_code s request w n) 6) (select_ok (cap_at s n) (planned_code s request w n) (bits_of (planned_ways s request n)))
-      (asked (is_used s request n) (nat_le (planned_code s request w n) 6 && select_ok (cap_at s n) (planned_code s request w n) (bits_of (planned_ways s request n))) (fits.window.selects n) used) in
+      (asked_or (is_used s request n) (nat_le (planned_code s request w n) 6 && select_ok (cap_at s n) (planned_code s request w n) (bits_of (planned_ways s request n))) (fits.window.selects n) used) in
       (leb-true (planned_code s request w n) 6 parts.0, parts.1)
 
   -- an endpoint can have the ways
@@ -132,7 +121,7 @@ module _ (lower : Lower) (spans : SpanLaw) (s : System) (request : Request) (w :
       let own = own_code n used in
       let table : code_in_table (request_ways request) ≡ Some own.own.code = ap code_in_table (sym (endpoint_ways n endpoint)) ∙ own.own.is in
       let can : option_map_or (endpoint_ways_ok (cap_at s n)) (code_in_table (request_ways request)) false ≡ true =
-      asked (is_endpoint_at s.nodes n && is_used s request n) (option_map_or (endpoint_ways_ok (cap_at s n)) (code_in_table (request_ways request)) false) (fits.window.ways n)
+      asked_or (is_endpoint_at s.nodes n && is_used s request n) (option_map_or (endpoint_ways_ok (cap_at s n)) (code_in_table (request_ways request)) false) (fits.window.ways n)
       (and_from (is_endpoint_at s.nodes n) (is_used s request n) endpoint used) in
       ap (endpoint_ways_ok (cap_at s n)) own.code ∙ sym (ap (λ (o : Option ℕ). option_map_or (endpoint_ways_ok (cap_at s n)) o false) table) ∙ can
 
@@ -175,7 +164,7 @@ module _ (lower : Lower) (spans : SpanLaw) (s : System) (request : Request) (w :
             cond-true (is_endpoint_at s.nodes n) (stated_start s request n - cursor_of (decoders_at s n)) (targets_word (used_ports s request n)) endpoint.1 in
             let room = span_room n endpoint.0 in
             let low = room.low in
-            let keeps = block_keeps s n own.block (λ rule m j few. fits.accepted.each rule m j) own.here in
+            let keeps = block_keeps s (λ rule m j few. fits.accepted.each rule m j) n own.block own.here in
             let cursor : cursor_of (decoders_at s n) % 2 ^ 28 ≡ 0 =
             ap (λ (ds : List Decoder). cursor_of ds % 2 ^ 28) own.decoders ∙ cursor_aligned spans lower.counted own.block (ram_at s n) (pmem_at s n) own.is keeps (sym own.endpoint ∙ endpoint.1) in
             record { wide = omega arith; skip = λ same. ap (λ (k : ℕ). k % 2 ^ 28) is ∙ skip_aligned request.kind (cursor_of (decoders_at s n)) (ram_at s n) cursor room.ram }

@@ -20,8 +20,10 @@ use Rattle.cxl_legal.specs.Used.{is_used}
 use Rattle.cxl_legal.specs.Stated.{Fits, planned_range, has_row, stated_row, stated_rows}
 use Rattle.cxl_legal.proofs.RowsSystems.{HasBlock, block_of, decoders_are}
 use Rattle.cxl_legal.proofs.RowsRanges.{Lower, known_tree, new_range}
-use Rattle.cxl_legal.proofs.RowsUsed.{used_within, row_is, row_there, rows_rise}
-use Rattle.cxl_legal.proofs.RowsFolds.{find_set, find_none, position_set, position_none, count_below, block_else, block_here}
+use Rattle.cxl_legal.proofs.RowsUsed.{used_within, row_is, row_there, rows_apart}
+use Rattle.cxl_legal.proofs.FittingRules.{no_decoder}
+use Rattle.cxl_legal.proofs.FittingRows.{set_passes, get_fold_none, get_fold_some}
+use Rattle.cxl_legal.proofs.RowsFolds.{position_none, count_below}
 
 module _ (lower : Lower) (s : System) (request : Request) (w : WindowFields) (base : ℕ) (fits : Fits s request w base) where
   abbrev pub rows : List Row
@@ -47,11 +49,11 @@ module _ (lower : Lower) (s : System) (request : Request) (w : WindowFields) (ba
   pub block_with : (n : ℕ) (block : Registers) → has_row s request n ≡ true → slice_get s.blocks n ≡ Some block → slice_get after.blocks n ≡ Some (block_with_row (stated_row s request w base n) block)
   block_with n block has here =
       let used = (and_parts (is_used s request n) (not (forwards_at s.nodes n)) has).0 in
-      block_here rows s.blocks (stated_row s request w base n) (rows_rise s request w base) (row_there s request w base n (used_within s request n (known_tree lower s request w base fits) fits.named used) has)
+      get_fold_some rows s.blocks (stated_row s request w base n) (rows_apart s request w base) (row_there s request w base n (used_within s request n (known_tree lower s request w base fits) fits.named used) has)
       ∙ ap (option_map (block_with_row (stated_row s request w base n))) here
 
   pub block_same : (n : ℕ) → has_row s request n ≡ false → slice_get after.blocks n ≡ slice_get s.blocks n
-  block_same n none = block_else rows s.blocks n (λ k d within e.
+  block_same n none = get_fold_none rows s.blocks n (λ k d within e.
       let is = row_is s request w base (get_or rows k d) (Contains-get_or rows k d within) in
       let same : is.0 ≡ n = ap (λ (x : Row). x.node) is.2 ∙ e in
       false≢true (sym none ∙ ap (has_row s request) (sym same) ∙ is.1))
@@ -78,12 +80,12 @@ module _ (lower : Lower) (s : System) (request : Request) (w : WindowFields) (ba
       elim (cases_Bool (has_row s request n)) [
         | inl has ↦
             ap (find (has_range (planned_range request base))) (decoders_with n has)
-            ∙ find_set (has_range (planned_range request base)) (decoders_at s n) (committed_count (decoders_at s n)) (committed_row (stated_row s request w base n))
-            (new_range lower s request w base fits n) (left_at n has) (new_has_range n)
+            ∙ (set_passes (has_range (planned_range request base)) (decoders_at s n) (committed_count (decoders_at s n)) (committed_row (stated_row s request w base n))
+            (new_range lower s request w base fits n) (left_at n has) (new_has_range n)).found
             ∙ sym (cond-true (has_row s request n) (Some (committed_row (stated_row s request w base n))) None has)
         | inr none ↦
             ap (find (has_range (planned_range request base))) (decoders_else n none)
-            ∙ find_none (has_range (planned_range request base)) (decoders_at s n) (new_range lower s request w base fits n)
+            ∙ no_decoder s (planned_range request base) n (new_range lower s request w base fits n)
             ∙ sym (cond-false (has_row s request n) (Some (committed_row (stated_row s request w base n))) None none)
       ]
 
@@ -92,8 +94,8 @@ module _ (lower : Lower) (s : System) (request : Request) (w : WindowFields) (ba
       elim (cases_Bool (has_row s request n)) [
         | inl has ↦
             ap (position (has_range (planned_range request base))) (decoders_with n has)
-            ∙ position_set (has_range (planned_range request base)) (decoders_at s n) (committed_count (decoders_at s n)) (committed_row (stated_row s request w base n))
-            (new_range lower s request w base fits n) (left_at n has) (new_has_range n)
+            ∙ (set_passes (has_range (planned_range request base)) (decoders_at s n) (committed_count (decoders_at s n)) (committed_row (stated_row s request w base n))
+            (new_range lower s request w base fits n) (left_at n has) (new_has_range n)).place
             ∙ sym (cond-true (has_row s request n) (Some (committed_count (decoders_at s n))) None has)
         | inr none ↦
             ap (position (has_range (planned_range request base))) (decoders_else n none)

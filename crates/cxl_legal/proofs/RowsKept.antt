@@ -29,10 +29,12 @@ use Rattle.cxl_legal.specs.Used.{request_ways, is_used, used_ports, planned_code
 use Rattle.cxl_legal.specs.Endpoints.{share_of, cap_at}
 use Rattle.cxl_legal.specs.Bases.{last_end}
 use Rattle.cxl_legal.specs.Stated.{Fits, has_row, targets_word, stated_start, stated_tail, stated_decoder, stated_row, stated_rows}
-use Rattle.cxl_legal.proofs.RowsSystems.{HasBlock, at_place, block_keeps, keeps_again}
+use Rattle.cxl_legal.proofs.FittingServers.{All-at}
+use Rattle.cxl_legal.proofs.FittingRules.{block_keeps}
+use Rattle.cxl_legal.proofs.FittingRows.{length-fold}
+use Rattle.cxl_legal.proofs.RowsSystems.{HasBlock, keeps_again}
 use Rattle.cxl_legal.proofs.RowsRanges.{Lower, known_tree, end_at}
 use Rattle.cxl_legal.proofs.RowsUsed.{used_kind}
-use Rattle.cxl_legal.proofs.RowsFolds.{length_rows}
 use Rattle.cxl_legal.proofs.RowsImages.{HasRow, row_of, after, block_with, block_same}
 use Rattle.cxl_legal.proofs.RowsNumbers.{exponent_of}
 use Rattle.cxl_legal.proofs.RowsSpans.{SpanLaw, in_one}
@@ -148,8 +150,8 @@ module _ (lower : Lower) (spans : SpanLaw) (s : System) (request : Request) (w :
         | inl new ↦
             let row = new.0 in
             subst (λ (x : Registers). BlockKeeps x (ram_at s n) (pmem_at s n)) (grown_is n row ∙ new.1)
-            (grown_keeps lower.counted row.own.block (ram_at s n) (pmem_at s n) (new_at n) (block_keeps s n row.own.block keeps row.own.here) row.left (can_follow n row))
-        | inr old ↦ block_keeps s n b keeps old
+            (grown_keeps lower.counted row.own.block (ram_at s n) (pmem_at s n) (new_at n) (block_keeps s keeps n row.own.block row.own.here) row.left (can_follow n row))
+        | inr old ↦ block_keeps s keeps n b old
       ]
 
   same_cap : (n : ℕ) → option_map (λ (b : Registers). b.cap) (slice_get (after lower s request w base fits).blocks n) ≡ option_map (λ (b : Registers). b.cap) (slice_get s.blocks n)
@@ -163,7 +165,7 @@ module _ (lower : Lower) (spans : SpanLaw) (s : System) (request : Request) (w :
 
   -- K1 to K8 hold of the new image
   pub blocks_kept : KeepsBlocks (after lower s request w base fits)
-  blocks_kept = keeps_again s (after lower s request w base fits).blocks keeps (length_rows (stated_rows s request w base) s.blocks) same_cap block_kept
+  blocks_kept = keeps_again s (after lower s request w base fits).blocks keeps (length-fold (stated_rows s request w base) s.blocks) same_cap block_kept
 
   -- ---- the system
 
@@ -188,7 +190,7 @@ module _ (lower : Lower) (spans : SpanLaw) (s : System) (request : Request) (w :
   block_is n b at =
       elim (block_cases n b at) [
         | inl new ↦ subst IsBlock new.1 (grown_block n new.0)
-        | inr old ↦ at_place IsBlock s.blocks n b old fits.system.blocks
+        | inr old ↦ All-at IsBlock s.blocks n b old fits.system.blocks
       ]
 
   pub system_kept : IsSystem (after lower s request w base fits)
@@ -196,7 +198,7 @@ module _ (lower : Lower) (spans : SpanLaw) (s : System) (request : Request) (w :
     tree = fits.system.tree;
     blocks = λ k d within. block_is k (get_or (after lower s request w base fits).blocks k d) (slice_get-get_or (after lower s request w base fits).blocks k d within);
     caps = record {
-      count = length_rows (stated_rows s request w base) s.blocks ∙ fits.system.caps.count;
+      count = length-fold (stated_rows s request w base) s.blocks ∙ fits.system.caps.count;
       each = λ n b node at named.
           elim (block_cases n b at) [
             | inl new ↦

@@ -7,49 +7,9 @@ use Rattle.std.proofs.lemmas.List.Elements.{All-head, All-tail}
 use Rattle.cxl_enc.specs.Codes.{ways_of, code_in_table, is_ways}
 use Rattle.cxl_enc.specs.Caps.{is_target_count}
 use Rattle.cxl_legal.specs.Stated.{targets_word}
+use Rattle.cxl_legal.proofs.FittingServers.{each_ways}
 
 -- ---- ways
-
--- what holds of each number of ways holds of one that has a code
-pub each_ways : (P : ℕ → Type 0) (p : ℕ) → is_ways p ≡ true → P 1 → P 2 → P 4 → P 8 → P 16 → P 3 → P 6 → P 12 → P p
-each_ways P p is p1 p2 p4 p8 p16 p3 p6 p12 =
-    elim (cases_eq p 1) [
-      | inl e ↦ subst P (sym e) p1
-      | inr n1 ↦
-          elim (cases_eq p 2) [
-            | inl e ↦ subst P (sym e) p2
-            | inr n2 ↦
-                elim (cases_eq p 4) [
-                  | inl e ↦ subst P (sym e) p4
-                  | inr n4 ↦
-                      elim (cases_eq p 8) [
-                        | inl e ↦ subst P (sym e) p8
-                        | inr n8 ↦
-                            elim (cases_eq p 16) [
-                              | inl e ↦ subst P (sym e) p16
-                              | inr n16 ↦
-                                  elim (cases_eq p 3) [
-                                    | inl e ↦ subst P (sym e) p3
-                                    | inr n3 ↦
-                                        elim (cases_eq p 6) [
-                                          | inl e ↦ subst P (sym e) p6
-                                          | inr n6 ↦
-                                              elim (cases_eq p 12) [
-                                                | inl e ↦ subst P (sym e) p12
-                                                | inr n12 ↦
-                                                    absurd (false≢true (sym (none n1 n2 n4 n8 n16 n3 n6 n12) ∙ is))
-                                              ]
-                                        ]
-                                  ]
-                            ]
-                      ]
-                ]
-          ]
-    ]
-  where
-    none : (p ≡ 1 → ⊥) → (p ≡ 2 → ⊥) → (p ≡ 4 → ⊥) → (p ≡ 8 → ⊥) → (p ≡ 16 → ⊥) → (p ≡ 3 → ⊥) → (p ≡ 6 → ⊥) → (p ≡ 12 → ⊥) → is_ways p ≡ false
-    none n1 n2 n4 n8 n16 n3 n6 n12 =
-        rw (ne_eqb p 1 n1, ne_eqb p 2 n2, ne_eqb p 4 n4, ne_eqb p 8 n8, ne_eqb p 16 n16, ne_eqb p 3 n3, ne_eqb p 6 n6, ne_eqb p 12 n12) refl
 
 pub each_count : (P : ℕ → Type 0) (p : ℕ) → is_target_count p ≡ true → P 1 → P 2 → P 4 → P 8 → P p
 each_count P p is p1 p2 p4 p8 =

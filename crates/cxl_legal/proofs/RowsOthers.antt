@@ -29,12 +29,14 @@ use Rattle.cxl_model.specs.Ranges.{lies_within, window_for, span_kind}
 use Rattle.cxl_legal.specs.Used.{request_ways, is_used, used_ports}
 use Rattle.cxl_legal.specs.Endpoints.{share_of}
 use Rattle.cxl_legal.specs.Stated.{Fits, planned_range, has_row, targets_word, stated_start, stated_tail, stated_row}
-use Rattle.cxl_legal.proofs.RowsSystems.{block_of, block_keeps, decoder_within}
-use Rattle.cxl_legal.proofs.RowsRanges.{Lower, known_tree, window_there, lies_in_window, passes_one, some_first}
+use Rattle.cxl_legal.proofs.FittingServers.{has_parts, same_range, passes_one}
+use Rattle.cxl_legal.proofs.FittingRules.{block_keeps}
+use Rattle.cxl_legal.proofs.RowsSystems.{block_of, decoder_within}
+use Rattle.cxl_legal.proofs.RowsRanges.{Lower, known_tree, window_there, lies_in_window, some_first}
 use Rattle.cxl_legal.proofs.RowsUsed.{used_kind}
-use Rattle.cxl_legal.proofs.RowsFolds.{get_same, get_other}
+use Rattle.cxl_legal.proofs.FittingRows.{get_same, get_other}
 use Rattle.cxl_legal.proofs.RowsImages.{after, decoders_with, left_at, decoders_else}
-use Rattle.cxl_legal.proofs.RowsNumbers.{each_ways}
+use Rattle.cxl_legal.proofs.FittingServers.{each_ways}
 use Rattle.cxl_legal.proofs.RowsSpans.{SpanLaw}
 use Rattle.cxl_legal.proofs.RowsDecoders.{span_room}
 use Rattle.cxl_legal.proofs.RowsKept.{endpoint_decoder_ways}
@@ -58,19 +60,6 @@ share_some size p known some =
     each_ways (λ n. size % (unit * n) ≡ 0 → 0 < size / n) p known
     (λ e. omega arith) (λ e. omega arith) (λ e. omega arith) (λ e. omega arith) (λ e. omega arith) (λ e. omega arith) (λ e. omega arith) (λ e. omega arith)
 
--- what it says that a decoder has a range
-record Has (r : Range) (d : Decoder) : Type 0 where
-  committed : d.committed ≡ true
-  is : range_of d ≡ r
-
-has_parts : (r : Range) (d : Decoder) → has_range r d ≡ true → Has r d
-has_parts r d has =
-    let outer = and_parts (d.committed && (d.base == r.base)) (d.size == r.size) has in
-    let inner = and_parts d.committed (d.base == r.base) outer.0 in
-    let base = eqb-true d.base r.base inner.1 in
-    let size = eqb-true d.size r.size outer.1 in
-    record { committed = inner.0; is = λ k. record { base = base k; size = size k } }
-
 pub found_some : {X : Type 0} (p : X → Bool) (xs : List X) → list_any p xs ≡ true → find p xs ≡ None → ⊥
 found_some p [] any none = false≢true any
 found_some p (x ∷ xs) any none =
@@ -90,7 +79,7 @@ module _ (lower : Lower) (s : System) (request : Request) (w : WindowFields) (ba
   committed_below : (n i : ℕ) (d : Decoder) → decoder_at s n i ≡ Some d → d.committed ≡ true → i < committed_count (decoders_at s n)
   committed_below n i d there set =
       let own = block_of s n fits.system (decoder_within s n i d fits.system there) in
-      let keeps = block_keeps s n own.block (λ rule m j low. fits.accepted.each rule m j) own.here in
+      let keeps = block_keeps s (λ rule m j low. fits.accepted.each rule m j) n own.block own.here in
       let mine : slice_get own.block.decoders i ≡ Some d = sym (ap (λ (ds : List Decoder). slice_get ds i) own.decoders) ∙ there in
       subst (λ (ds : List Decoder). i < committed_count ds) (sym own.decoders) ((lower.counted own.block (ram_at s n) (pmem_at s n) i d keeps mine).0 set)
 
@@ -114,7 +103,7 @@ module _ (lower : Lower) (s : System) (request : Request) (w : WindowFields) (ba
               ap (decoder_at t n) place ∙ ap (λ (ds : List Decoder). slice_get ds (committed_count (decoders_at s n))) (decoders_with lower s request w base fits n with)
               ∙ get_same (decoders_at s n) (committed_count (decoders_at s n)) (committed_row (stated_row s request w base n)) (left_at lower s request w base fits n with) in
               let same : d ≡ committed_row (stated_row s request w base n) = same_Some d (committed_row (stated_row s request w base n)) (sym at ∙ new) in
-              absurd (other (sym (has_parts r d has).is ∙ ap range_of same))
+              absurd (other (sym (same_range r d (has_parts r d has)) ∙ ap range_of same))
           | inr apart ↦
               sym (ap (λ (ds : List Decoder). slice_get ds i) (decoders_with lower s request w base fits n with)
               ∙ get_other (decoders_at s n) (committed_count (decoders_at s n)) i (committed_row (stated_row s request w base n)) apart) ∙ at

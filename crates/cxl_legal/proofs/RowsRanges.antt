@@ -24,7 +24,7 @@ use Rattle.cxl_model.specs.declared.request.Request.{Request}
 use Rattle.cxl_model.specs.System.{System, IsSystem, decoders_at, decoder_at, ram_at, pmem_at}
 use Rattle.cxl_model.specs.Ranges.{serves, lies_within, window_for}
 use Rattle.cxl_model.specs.Rules.{keeps_reach, lists, is_targeted}
-use Rattle.cxl_model.specs.Accepted.{breaks, breaks_at, IsAccepted}
+use Rattle.cxl_model.specs.Accepted.{breaks, breaks_at, IsAccepted, IsWhole}
 use Rattle.cxl_model.specs.Counts.{is_under}
 use Rattle.cxl_legal.specs.Used.{is_used}
 use Rattle.cxl_legal.specs.Windows.{is_used_bridge}
@@ -32,7 +32,9 @@ use Rattle.cxl_legal.specs.Bases.{last_end}
 use Rattle.cxl_legal.specs.Stated.{Fits, planned_range}
 use Rattle.cxl_legal.proofs.FittingTrees.{KnownTree, from_lower, root_of}
 use Rattle.cxl_legal.proofs.RowsTrees.{decoding_earlier, under_landing}
-use Rattle.cxl_legal.proofs.RowsSystems.{block_of, block_keeps, decoder_within}
+use Rattle.cxl_legal.proofs.FittingServers.{has_parts}
+use Rattle.cxl_legal.proofs.FittingRules.{block_keeps, served, reached}
+use Rattle.cxl_legal.proofs.RowsSystems.{block_of, decoder_within}
 
 -- ---- what lower laws say
 
@@ -55,34 +57,6 @@ pub record Lower : Type 0 where
   pub apart : ApartLaw
   pub window : WindowLaw
 
--- ---- a decoder of a range
-
-pub record Has (s : System) (r : Range) (n : ℕ) : Type 0 where
-  pub i : ℕ
-  pub d : Decoder
-  pub there : decoder_at s n i ≡ Some d
-  pub committed : d.committed ≡ true
-  pub base : d.base ≡ r.base
-  pub size : d.size ≡ r.size
-
-pub passes_one : {X : Type 0} (p : X → Bool) (xs : List X) (i : ℕ) (x : X) → slice_get xs i ≡ Some x → p x ≡ true → list_any p xs ≡ true
-passes_one p xs i x here passes = list_any-from_Any p xs (i, x, slice_get_within xs i x here, get_or_from_slice_get xs i x x here, passes)
-
-served : (s : System) (r : Range) (n : ℕ) → serves s r n ≡ true → Has s r n
-served s r n is =
-    let some = Any-from_list_any (has_range r) (decoders_at s n) is in
-    let d : Decoder = some.1 in
-    let outer = and_parts (d.committed && (d.base == r.base)) (d.size == r.size) some.4 in
-    let inner = and_parts d.committed (d.base == r.base) outer.0 in
-    record {
-      i = some.0;
-      d = d;
-      there = slice_get_read (decoders_at s n) (length (decoders_at s n)) some.0 d refl some.2 (sym some.3);
-      committed = inner.0;
-      base = eqb-true d.base r.base inner.1;
-      size = eqb-true d.size r.size outer.1;
-    }
-
 -- ---- the end of all that is committed
 
 pub end_at : (n : ℕ) (o : Option Decoder) (d : Decoder) → 0 < n → o ≡ Some d → cond (n == 0) 0 (option_map_or (λ e. e.base + e.size) o 0) ≡ d.base + d.size
@@ -95,7 +69,7 @@ ends_below lower s n i d system accepted there committed =
     let own = block_of s n system (decoder_within s n i d system there) in
     let ds : List Decoder = own.block.decoders in
     let count : ℕ = committed_count ds in
-    let keeps = block_keeps s n own.block (λ rule m j low. accepted.each rule m j) own.here in
+    let keeps = block_keeps s (λ rule m j low. accepted.each rule m j) n own.block own.here in
     let mine : slice_get ds i ≡ Some d = sym (ap (λ (xs : List Decoder). slice_get xs i) own.decoders) ∙ there in
     let low : i < count = (lower.counted own.block (ram_at s n) (pmem_at s n) i d keeps mine).0 committed in
     let few : count ≤ length ds = prefix_len-le-length (λ (x : Decoder). x.committed) ds in
@@ -116,27 +90,9 @@ ends_below lower s n i d system accepted there committed =
 
 -- ---- who is reached
 
-rule_eleven : (s : System) (n i : ℕ) → breaks s 11 n i ≡ breaks_at s n i (keeps_reach s n)
-unfolding breaks
-rule_eleven s n i = refl
-
-pub kept_of : (a b : Bool) → (a && not b) ≡ false → a ≡ true → b ≡ true
-kept_of true true h is = refl
-kept_of true false h is = cc
-kept_of false b h is = cc
-
-abbrev is_reached : System → Range → ℕ → Bool
-is_reached s r n = option_map_or (lists s r) (decoding_port_of s.nodes n) (is_targeted s r n)
-
-reached : (s : System) (r : Range) (n : ℕ) → IsAccepted s → serves s r n ≡ true → is_reached s r n ≡ true
-reached s r n accepted is =
-    let at = served s r n is in
-    let d : Decoder = at.d in
-    let base = at.base in
-    let size = at.size in
-    let same : range_of d ≡ r = λ k. record { base = base k; size = size k } in
-    let rule : (d.committed && not (keeps_reach s n d)) ≡ false = ap (λ (o : Option Decoder). option_map_or (λ e. e.committed && not (keeps_reach s n e)) o false) (sym at.there) ∙ sym (rule_eleven s n at.i) ∙ accepted.each 11 n at.i in
-    (and_parts (not (forwards_at s.nodes n)) (is_reached s r n) (ap (λ (q : Range). not (forwards_at s.nodes n) && is_reached s q n) (sym same) ∙ kept_of d.committed (keeps_reach s n d) rule at.committed)).1
+-- each range of an accepted image is whole
+all_whole : (s : System) (r : Range) → IsAccepted s → IsWhole s r
+all_whole s r accepted = record { blocks = λ rule n i low. accepted.each rule n i; range = λ rule n i d past there has. accepted.each rule n i }
 
 listed : (s : System) (r : Range) (p : Parent) → lists s r p ≡ true → serves s r p.node ≡ true
 listed s r p is =
@@ -205,15 +161,16 @@ module _ (lower : Lower) (s : System) (request : Request) (w : WindowFields) (ba
   none_at_landing : (n : ℕ) → decoding_port_of s.nodes n ≡ None → is_targeted s r n ≡ true → serves s r n ≡ true → ⊥
   none_at_landing n passes is serves_it =
       let at = served s r n serves_it in
-      let ends = ends_below lower s n at.i at.d fits.system fits.accepted at.there at.committed in
+      let ends = ends_below lower s n at.i at.d fits.system fits.accepted at.there (has_parts r at.d at.has).committed in
       let after = fits.starts.can.after n (landing_used n passes is) in
       let some = fits.endpoints.size.some in
-      let from = at.base in
-      let long = at.size in
+      let own = has_parts r at.d at.has in
+      let from = own.base in
+      let long = own.size in
       omega arith
 
   none_serves : (n : ℕ) → serves s r n ≡ true → ⊥
-  none_serves = from_lower (λ n. serves s r n ≡ true → ⊥) (λ n earlier is. go n earlier is (decoding_port_of s.nodes n) refl (reached s r n fits.accepted is))
+  none_serves = from_lower (λ n. serves s r n ≡ true → ⊥) (λ n earlier is. go n earlier is (decoding_port_of s.nodes n) refl (reached s r (all_whole s r fits.accepted) n is).1)
     where
       go : (n : ℕ) → ((m : ℕ) → m < n → serves s r m ≡ true → ⊥) → serves s r n ≡ true → (o : Option Parent) → decoding_port_of s.nodes n ≡ o → option_map_or (lists s r) o (is_targeted s r n) ≡ true → ⊥
       go n earlier is None passes targeted = none_at_landing n passes targeted is

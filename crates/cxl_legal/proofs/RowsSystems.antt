@@ -17,14 +17,9 @@ use Rattle.cxl_span.specs.Breaches.{BlockKeeps, breaks as block_breaks}
 use Rattle.cxl_model.specs.System.{System, IsSystem, decoders_at, decoder_at, ram_at, pmem_at}
 use Rattle.cxl_model.specs.Accepted.{breaks, breaks_caps, breaks_block, KeepsBlocks}
 use Rattle.cxl_legal.specs.Endpoints.{cap_at}
-
-pub at_place : {X : Type 0} (P : X → Type 0) (xs : List X) (i : ℕ) (x : X) → slice_get xs i ≡ Some x → All P xs → P x
-at_place P xs i x here each = subst P (get_or_from_slice_get xs i x x here) (All-get_or P xs i x (slice_get_within xs i x here) each)
-
-pub some_within : {X : Type 0} (xs : List X) (k : ℕ) → k < length xs → (x : X) × (slice_get xs k ≡ Some x)
-some_within [] k low = absurd (omega arith)
-some_within (x ∷ xs) zero low = (x, refl)
-some_within (x ∷ xs) (suc k) low = some_within xs k (omega arith)
+use Rattle.cxl_legal.proofs.FittingServers.{All-at}
+use Rattle.cxl_legal.proofs.FittingRules.{block_rule}
+use Rattle.cxl_legal.proofs.FittingBlocks.{some_within}
 
 -- ---- the block of a node
 
@@ -56,7 +51,7 @@ block_of s n system within =
       decoders = decoders_are s n block.0 block.1;
       cap = ap (λ (o : Option Node). option_map_or (λ x. x.cap) o 0) node.1 ∙ sym own.cap;
       endpoint = ap (λ (o : Option Node). option_map_or (λ (x : Node). is_endpoint x.kind) o false) node.1 ∙ sym own.endpoint;
-      is = at_place IsBlock s.blocks n block.0 block.1 system.blocks;
+      is = All-at IsBlock s.blocks n block.0 block.1 system.blocks;
     }
 
 -- a node with a decoder is one of the system
@@ -66,46 +61,6 @@ decoder_within s n i d system there = go (slice_get s.blocks n) refl there
     go : (o : Option Registers) → slice_get s.blocks n ≡ o → slice_get (option_map_or (λ block. block.decoders) o []) i ≡ Some d → n < length s.nodes
     go None is at = let none = slice_get_within [] i d at in absurd (omega arith)
     go (Some block) is at = let low = slice_get_within s.blocks n block is in let count = system.caps.count in omega arith
-
--- ---- the rules of a node's block
-
-past_caps : (s : System) (rule n i : ℕ) → rule ≢ 1 → rule < 9 → breaks s rule n i ≡ breaks_block s rule n i
-unfolding breaks
-past_caps s rule n i other low = rw (ne_eqb rule 1 other, lt-ltb rule 9 low) refl
-
--- numbers that are no rule's
-other_rule : (rule : ℕ) (block : Registers) (ram pmem start : ℕ) (below : Option Decoder) (d : Decoder) → ((k : ℕ) → 2 ≤ k → k < 9 → rule ≢ k) → breaks_rule rule block ram pmem below start d ≡ false
-other_rule rule block ram pmem start below d apart =
-    rw (
-      ne_eqb rule 2 (apart 2 (omega arith) (omega arith)),
-      ne_eqb rule 3 (apart 3 (omega arith) (omega arith)),
-      ne_eqb rule 4 (apart 4 (omega arith) (omega arith)),
-      ne_eqb rule 5 (apart 5 (omega arith) (omega arith)),
-      ne_eqb rule 6 (apart 6 (omega arith) (omega arith)),
-      ne_eqb rule 7 (apart 7 (omega arith) (omega arith)),
-      ne_eqb rule 8 (apart 8 (omega arith) (omega arith)),
-    ) refl
-
-no_rule : (rule : ℕ) (block : Registers) (ram pmem i : ℕ) → ((k : ℕ) → 2 ≤ k → k < 9 → rule ≢ k) → block_breaks rule block ram pmem i ≡ false
-unfolding block_breaks
-no_rule rule block ram pmem i apart = go (slice_get block.decoders i)
-  where
-    go : (o : Option Decoder) → option_map_or (breaks_rule rule block ram pmem (before block.decoders i) (span_start_of block.decoders i)) o false ≡ false
-    go None = refl
-    go (Some d) = other_rule rule block ram pmem (span_start_of block.decoders i) (before block.decoders i) d apart
-
-pub block_keeps : (s : System) (n : ℕ) (block : Registers) → KeepsBlocks s → slice_get s.blocks n ≡ Some block → BlockKeeps block (ram_at s n) (pmem_at s n)
-block_keeps s n block keeps here = record {
-  each = λ rule i. elim (cases_lt rule 2) [
-    | inl low ↦ no_rule rule block (ram_at s n) (pmem_at s n) i (λ k from below e. omega (arith, e))
-    | inr past ↦ elim (cases_lt rule 9) [
-      | inl within ↦
-          sym (past_caps s rule n i (λ e. omega (arith, e)) within ∙ ap (λ (o : Option Registers). option_map_or (λ b. block_breaks rule b (ram_at s n) (pmem_at s n) i) o false) here)
-          ∙ keeps rule n i within
-      | inr high ↦ no_rule rule block (ram_at s n) (pmem_at s n) i (λ k from below e. omega (arith, e))
-    ]
-  ];
-}
 
 -- ---- an image with other blocks of the same capability words
 
@@ -135,7 +90,7 @@ keeps_again s blocks keeps long caps each = λ rule n i low. elim (cases_eq rule
     first n i = caps_rule t n i ∙ same_caps s blocks n i long (caps n) ∙ sym (caps_rule s n i) ∙ keeps 1 n i (omega arith)
 
     later : (rule n i : ℕ) → rule ≢ 1 → rule < 9 → breaks t rule n i ≡ false
-    later rule n i other low = past_caps t rule n i other low ∙ go (slice_get blocks n) refl
+    later rule n i other low = block_rule t rule n i other low ∙ go (slice_get blocks n) refl
       where
         go : (o : Option Registers) → slice_get blocks n ≡ o → option_map_or (λ b. block_breaks rule b (ram_at s n) (pmem_at s n) i) o false ≡ false
         go None is = refl

@@ -24,7 +24,7 @@ use Rattle.cxl_model.specs.Plans.{IsUsed, AreRowsOf}
 use Rattle.cxl_legal.specs.Used.{AreEndpoints, is_used}
 use Rattle.cxl_legal.specs.Stated.{has_row, stated_row, stated_rows}
 use Rattle.cxl_legal.proofs.FittingTrees.{KnownTree, port_no_endpoint}
-use Rattle.cxl_legal.proofs.FittingRows.{used_is, used_from}
+use Rattle.cxl_legal.proofs.FittingRows.{AreApart, used_is, used_from}
 use Rattle.cxl_legal.proofs.RowsTrees.{on_path}
 
 -- ---- lists
@@ -116,6 +116,9 @@ rows_rise s request w base i j d less within =
     let first : (get_or (stated_rows s request w base) i d).node ≡ get_or kept i 0 = ap (λ (row : Row). row.node) (get_or-map (stated_row s request w base) kept i 0 d (omega arith)) in
     let next : (get_or (stated_rows s request w base) j d).node ≡ get_or kept j 0 = ap (λ (row : Row). row.node) (get_or-map (stated_row s request w base) kept j 0 d (omega arith)) in
     omega arith
+
+pub rows_apart : (s : System) (request : Request) (w : WindowFields) (base : ℕ) → AreApart (stated_rows s request w base)
+rows_apart s request w base i j d less within e = let rises = rows_rise s request w base i j d less within in omega (arith, e)
 
 pub rows_of : (s : System) (request : Request) (w : WindowFields) (base : ℕ) → KnownTree s.nodes → AreEndpoints s request → AreRowsOf s request (stated_rows s request w base)
 rows_of s request w base known named = record {

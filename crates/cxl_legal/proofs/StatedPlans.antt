@@ -22,7 +22,7 @@ use Rattle.cxl_legal.specs.Windows.{is_used_bridge}
 use Rattle.cxl_legal.specs.Stated.{stated_rows, stated_start, planned_slots_an_entry, planned_port, Reaches, at_endpoint, past_port, IsStatedPlace, IsStatedPlan}
 use Rattle.cxl_legal.proofs.FittingTrees.{parent_is_port}
 use Rattle.cxl_legal.proofs.FittingUsed.{some_filtered}
-use Rattle.cxl_legal.proofs.RowsNumbers.{each_ways}
+use Rattle.cxl_legal.proofs.FittingServers.{each_ways}
 use Rattle.cxl_legal.proofs.RowsUsed.{used_kind}
 use Rattle.cxl_legal.proofs.StatedImages.{Stated}
 use Rattle.cxl_legal.proofs.UsedPorts.{port_child, ports_pass, own_port}

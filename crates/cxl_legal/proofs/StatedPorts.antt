@@ -29,7 +29,7 @@ use Rattle.cxl_legal.proofs.FittingTrees.{KnownTree, port_no_endpoint, forwards_
 use Rattle.cxl_legal.proofs.FittingSums.{one, length-filter-total, once}
 use Rattle.cxl_legal.proofs.FittingCounts.{numbers_differ, is_number}
 use Rattle.cxl_legal.proofs.FittingTargets.{distinct_test}
-use Rattle.cxl_legal.proofs.RowsRanges.{kept_of, passes_one}
+use Rattle.cxl_legal.proofs.FittingServers.{asked}
 use Rattle.cxl_legal.proofs.RowsUsed.{kept_at, number_at, numbers_rise}
 use Rattle.cxl_legal.proofs.RowsDecoders.{own_code}
 use Rattle.cxl_legal.proofs.UsedNodes.{UsedChild, used_child}
@@ -45,7 +45,7 @@ pub record Even (s : System) (request : Request) (n : ℕ) : Type 0 where
 
 pub even_at : {s : System} {request : Request} {w : WindowFields} {base : ℕ} → Stated s request w base → (n : ℕ) → is_port_at s.nodes n ≡ true → is_used s request n ≡ true → Even s request n
 even_at {s} {request} c n port used =
-    let all = kept_of (is_port_at s.nodes n && is_used s request n) (has_even_ports s request n && has_even_children s request n && has_bridge_share s request n) (c.fits.endpoints.even n)
+    let all = asked (is_port_at s.nodes n && is_used s request n) (has_even_ports s request n && has_even_children s request n && has_bridge_share s request n) (c.fits.endpoints.even n)
     (and_from (is_port_at s.nodes n) (is_used s request n) port used) in
     let outer = and_parts (has_even_ports s request n && has_even_children s request n) (has_bridge_share s request n) all in
     let inner = and_parts (has_even_ports s request n) (has_even_children s request n) outer.0 in

@@ -29,7 +29,7 @@ use Rattle.cxl_legal.proofs.FittingTrees.{KnownTree, port_no_endpoint, forwards_
 use Rattle.cxl_legal.proofs.FittingSums.{one, length-filter-total, once}
 use Rattle.cxl_legal.proofs.FittingCounts.{numbers_differ, is_number}
 use Rattle.cxl_legal.proofs.FittingTargets.{distinct_test}
-use Rattle.cxl_legal.proofs.RowsRanges.{kept_of, passes_one}
+use Rattle.cxl_legal.proofs.FittingServers.{passes_one}
 use Rattle.cxl_legal.proofs.RowsUsed.{kept_at, number_at, numbers_rise}
 use Rattle.cxl_legal.proofs.UsedNodes.{UsedChild, used_child}
 
