@@ -3,7 +3,7 @@ use Rattle.std.proofs.Common.{◌≡◌, ℕ, zero, suc, ◌+◌, ◌*◌, ◌/�
 use Rattle.std.specs.Prelude.{slice_get, ◌==◌}
 use Rattle.std.specs.Option.{option_map_or, option_and_then}
 use Rattle.std.specs.List.{list_any, filter_map, cons_option, range_with_len}
-use Rattle.std.proofs.Math.Nat.{mul-div_cancel_left}
+use Rattle.std.proofs.Math.Nat.{dvd-mul_right, eq-one_of_dvd-one, mul-div_cancel_left}
 use Rattle.std.proofs.lemmas.Bool.{cases_lt, and_from, ne_eqb, false_from_ne_true, false≢true, not_from_false}
 use Rattle.std.proofs.lemmas.Option.{slice_get_past}
 use Rattle.std.proofs.lemmas.List.Folds.{list_any_at}
@@ -21,7 +21,7 @@ use Rattle.cxl_model.specs.Rules.{are_distinct, lands_on, leads_on}
 use Rattle.cxl_model.specs.Accepted.{IsWhole}
 use Rattle.cxl_model.specs.Counts.{is_under, is_endpoint_of, endpoints_under}
 use Rattle.cxl_legal.proofs.FittingSums.{one, total, length-filter-total, filter-filter}
-use Rattle.cxl_legal.proofs.FittingTrees.{KnownTree, ports_none, ports_some, only_child, same_test}
+use Rattle.cxl_legal.proofs.FittingTrees.{KnownTree, ports_none, ports_some, same_test}
 use Rattle.cxl_legal.proofs.FittingRules.{no_decoder, reached}
 
 -- ---- ways above
@@ -69,27 +69,6 @@ lands_within s r n system lands =
         sym (ap (λ b. option_map_or (serves s r) (if b then option_and_then (landing_within k s.nodes) (least_child_of s.nodes n) else Some n) false) (forwards_within s.nodes n past)) ∙ lands in
         let within = serves_within s r n system here in
         omega arith
-
--- the only child of a node that forwards, on which the range lands as well
-pub record LandsBelow (s : System) (r : Range) (n : ℕ) : Type 0 where
-  pub child : ℕ
-  pub first : least_child_of s.nodes n ≡ Some child
-  pub own : Parent
-  pub parent : parent_of s.nodes child ≡ Some own
-  pub node : own.node ≡ n
-  pub lands : lands_on s r child ≡ true
-
-pub lands_below : (s : System) (r : Range) (n : ℕ) → IsSystem s → KnownTree s.nodes → forwards_at s.nodes n ≡ true → lands_on s r n ≡ true → LandsBelow s r n
-lands_below s r n system known forwards lands =
-    go (least_child_of s.nodes n) refl
-    (sym (ap (λ b. option_map_or (serves s r) (if b then option_and_then (landing_of s.nodes) (least_child_of s.nodes n) else Some n) false) forwards)
-    ∙ sym (ap (λ (o : Option ℕ). option_map_or (serves s r) o false) (known.laws.landings n (lands_within s r n system lands))) ∙ lands)
-  where
-    go : (o : Option ℕ) → least_child_of s.nodes n ≡ o → option_map_or (serves s r) (option_and_then (landing_of s.nodes) o) false ≡ true → LandsBelow s r n
-    go None first lands_there = absurd (false≢true lands_there)
-    go (Some c) first lands_there =
-        let parent = only_child known n c forwards first in
-        record { child = c; first = first; own = parent.0; parent = parent.1; node = parent.2; lands = lands_there }
 
 pub lands_here : (s : System) (r : Range) (n : ℕ) → IsSystem s → KnownTree s.nodes → forwards_at s.nodes n ≡ false → lands_on s r n ≡ serves s r n
 lands_here s r n system known own =
@@ -151,6 +130,10 @@ child_at s r n e known leads_there = go (child_of s.nodes n e) refl leads_there
     go : (o : Option ℕ) → child_of s.nodes n e ≡ o → option_map_or (lands_on s r) o false ≡ true → Child s r n e
     go None at is = absurd (false≢true is)
     go (Some c) at is = record { node = c; stands = at; parent = (known.laws.children n e c).0 at; lands = is }
+
+-- a factor of 1 is 1
+pub factor_one : (p q : ℕ) → p * q ≡ 1 → p ≡ 1
+factor_one p q is = eq-one_of_dvd-one (rw is at (dvd-mul_right p q))
 
 -- p times a is p times b only where a is b
 pub times_tell : (p a b : ℕ) → 0 < p → p * a ≡ p * b → a ≡ b

@@ -30,10 +30,10 @@ use Rattle.cxl_model.specs.Plans.{committed_row, with_rows}
 use Rattle.cxl_legal.specs.Used.{request_ways, is_used, count_under, is_port_used, used_ports, count_at_port}
 use Rattle.cxl_legal.specs.Endpoints.{cap_at, has_even_ports, has_even_children, first_bridge, has_bridge_share, is_uneven}
 use Rattle.cxl_legal.proofs.FittingServers.{has_parts}
-use Rattle.cxl_legal.proofs.FittingSums.{one, length-filter-total, once}
+use Rattle.cxl_legal.proofs.FittingSums.{one}
 use Rattle.cxl_legal.proofs.FittingTrees.{KnownTree, ports_some, leaves_at, under_child, port_no_endpoint, same_test}
 use Rattle.cxl_legal.proofs.FittingRules.{ServesAt, leads, reached, listed_by, all_listed}
-use Rattle.cxl_legal.proofs.FittingCounts.{Child, child_at, LandsBelow, lands_below, numbers_differ, is_number, times_tell, no_ways_above}
+use Rattle.cxl_legal.proofs.FittingCounts.{Child, child_at, times_tell, no_ways_above}
 use Rattle.cxl_legal.proofs.FittingBlocks.{kept_of, port_ways}
 use Rattle.cxl_legal.proofs.FittingRows.{by_row}
 use Rattle.cxl_legal.proofs.UsedPorts.{forwarding_ports}

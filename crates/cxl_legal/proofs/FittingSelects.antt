@@ -3,15 +3,13 @@ use Rattle.std.proofs.Common.{◌≡◌, ◌≢◌, ℕ, ◌+◌, ◌*◌, ◌<�
 use Rattle.std.specs.Prelude.{◌==◌, nat_le, sum_by, unwrap_or}
 use Rattle.std.specs.Option.{option_map_or}
 use Rattle.std.specs.List.{filter_map, cons_option, range_with_len}
-use Rattle.std.proofs.Math.Nat.{mul_assoc, mul_left_comm, dvd-mul_right, eq-one_of_dvd-one}
-use Rattle.std.proofs.lemmas.Bool.{cases_Bool, cases_eq, and_parts, and_from, or_cases, or_left, or_right, eqb-true, eq-eqb, ne_eqb, agree_below_at, leb-true, false≢true, not_from_false, cond-true, cond-false}
-use Rattle.std.proofs.lemmas.Option.{none-some, same_Some}
+use Rattle.std.proofs.Math.Nat.{mul_assoc, mul_left_comm}
+use Rattle.std.proofs.lemmas.Bool.{cases_Bool, cases_eq, and_parts, and_from, or_cases, or_left, or_right, eqb-true, ne_eqb, agree_below_at, leb-true, false≢true, not_from_false, cond-true, cond-false}
 use Rattle.std.proofs.lemmas.List.Elements.{filter_passes}
 use Rattle.std.proofs.lemmas.List.Sums.{sum_by-cons}
 use Rattle.cxl_enc.specs.Codes.{ways_of, bits_of, code_in_table}
-use Rattle.cxl_topo.specs.declared.node.Node.{Node}
 use Rattle.cxl_topo.specs.declared.node.Parent.{Parent}
-use Rattle.cxl_topo.specs.Tree.{forwards_at, is_endpoint_at, parent_of, ports_above}
+use Rattle.cxl_topo.specs.Tree.{forwards_at, is_endpoint_at, ports_above}
 use Rattle.cxl_regs.specs.declared.decoder.Decoder.{Decoder}
 use Rattle.cxl_regs.specs.declared.reading.Range.{Range}
 use Rattle.cxl_regs.specs.Reading.{decoder_ways, select_bits, has_range}
@@ -25,17 +23,15 @@ use Rattle.cxl_model.specs.System.{System, decoder_at}
 use Rattle.cxl_model.specs.Ranges.{decoder_for, window_for, ports_for, ways_above, bits_above, range_code}
 use Rattle.cxl_model.specs.Rules.{keeps_ways}
 use Rattle.cxl_model.specs.Accepted.{IsWhole}
-use Rattle.cxl_model.specs.Counts.{is_under}
 use Rattle.cxl_model.specs.Regions.{region_range}
 use Rattle.cxl_model.specs.Plans.{with_rows, plan_code}
 use Rattle.cxl_legal.specs.Used.{request_ways, is_used, count_under, is_port_used, used_ports, planned_ways, planned_bits_above, planned_code}
 use Rattle.cxl_legal.specs.Endpoints.{cap_at}
 use Rattle.cxl_legal.specs.Windows.{can_select, can_have_ways}
 use Rattle.cxl_legal.proofs.FittingServers.{asked, asked_or, has_parts, same_range, has_ways, endpoint_test, rule_twelve, or_true, some_ways, decoder_ways_known}
-use Rattle.cxl_legal.proofs.FittingSums.{list_any-weaker}
-use Rattle.cxl_legal.proofs.FittingTrees.{under_self, under_parent, KnownTree, up_tree, ports_none, ports_some, is_above, under_is, under_root, under_step, forwards_no_endpoint}
+use Rattle.cxl_legal.proofs.FittingTrees.{up_tree, ports_none, ports_some, forwards_no_endpoint}
 use Rattle.cxl_legal.proofs.FittingRules.{ServesAt}
-use Rattle.cxl_legal.proofs.FittingCounts.{ways_below, forwards_none}
+use Rattle.cxl_legal.proofs.FittingCounts.{factor_one, ways_below, forwards_none}
 use Rattle.cxl_legal.proofs.FittingBlocks.{Kept, kept_of, gran_of, endpoint_ways}
 use Rattle.cxl_legal.proofs.UsedNodes.{used_parent}
 use Rattle.cxl_legal.proofs.UsedPorts.{forwarding_ports}
@@ -103,9 +99,6 @@ bits_are {s} {request} {w} {r} {rows} plan =
     ∙ sym (ap (λ (ps : List Parent). sum_by (λ d. select_bits d.ways) (filter_map (λ parent. decoder_for (with_rows s rows) r parent.node) ps)) (ports_some plan.known n p some)))
 
 -- ---- codes
-
-factor_one : (p q : ℕ) → p * q ≡ 1 → p ≡ 1
-factor_one p q is = eq-one_of_dvd-one (rw is at (dvd-mul_right p q))
 
 regroup : (c p a w : ℕ) → c * (p * a) * w ≡ p * (c * (a * w))
 regroup c p a w = mul_assoc c (p * a) w ∙ ap (λ (k : ℕ). c * k) (mul_assoc p a w) ∙ mul_left_comm c p (a * w)

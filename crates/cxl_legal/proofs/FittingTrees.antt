@@ -1,6 +1,6 @@
 -- Who stands under whom in a legal tree, as the laws of plans need it.
 use Rattle.std.proofs.Common.{◌≡◌, ℕ, zero, suc, ◌<◌, Bool, true, false, not, ◌&&◌, ◌||◌, List, [], ◌∷◌, ◌++◌, length, map, reverse, Option, Some, None, refl, sym, ap, ◌∙◌, subst, inl, inr, arith, ◌⊎◌}
-use Rattle.std.specs.Prelude.{slice_get, ◌==◌, option_map}
+use Rattle.std.specs.Prelude.{slice_get, ◌==◌}
 use Rattle.std.specs.Option.{option_map_or, option_and_then}
 use Rattle.std.specs.List.{list_any}
 use Rattle.std.proofs.lemmas.Bool.{cases_lt, cases_Bool, and_parts, and_from, or_cases, or_left, or_right, eqb-true, eq-eqb, ne_eqb, false≢true, false_from_ne_true, not-true}
@@ -10,7 +10,7 @@ use Rattle.std.proofs.lemmas.List.Folds.{list_any-append}
 use Rattle.cxl_topo.specs.declared.node.Node.{Node}
 use Rattle.cxl_topo.specs.declared.node.Parent.{Parent}
 use Rattle.cxl_topo.specs.Kinds.{is_endpoint}
-use Rattle.cxl_topo.specs.Tree.{forwards_at, is_bridge_at, is_port_at, is_endpoint_at, parent_of, least_child_of, ports_above, path_of}
+use Rattle.cxl_topo.specs.Tree.{forwards_at, is_bridge_at, is_port_at, is_endpoint_at, parent_of, ports_above, path_of}
 use Rattle.cxl_topo.specs.Faults.{IsTree}
 use Rattle.cxl_topo.specs.Laws.{AreTreeLaws}
 use Rattle.cxl_model.specs.Counts.{is_under}
@@ -208,14 +208,7 @@ under_endpoint {nodes} known n i endpoint =
     none : is_above nodes n i ≡ false
     none = false_from_ne_true (is_above nodes n i) (λ above. false≢true (sym (port_no_endpoint nodes n (above_port known n i above)) ∙ endpoint))
 
--- a node that forwards is no endpoint, and the parent of its only child
-pub only_child : {nodes : List Node} → KnownTree nodes → (n c : ℕ) → forwards_at nodes n ≡ true → least_child_of nodes n ≡ Some c → (own : Parent) × (parent_of nodes c ≡ Some own) × (own.node ≡ n)
-only_child {nodes} known n c forwards first = go (parent_of nodes c) refl ((known.laws.only_children n c forwards).0 first)
-  where
-    go : (o : Option Parent) → parent_of nodes c ≡ o → option_map (λ parent. parent.node) o ≡ Some n → (own : Parent) × (parent_of nodes c ≡ Some own) × (own.node ≡ n)
-    go None at is = absurd (none-some n is)
-    go (Some own) at is = (own, at, same_Some own.node n is)
-
+-- a node that forwards is no endpoint
 pub forwards_no_endpoint : {nodes : List Node} → KnownTree nodes → (n : ℕ) → forwards_at nodes n ≡ true → is_endpoint_at nodes n ≡ false
 forwards_no_endpoint {nodes} known n forwards = go (slice_get nodes n) refl forwards
   where

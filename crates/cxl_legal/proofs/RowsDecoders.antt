@@ -1,39 +1,33 @@
 -- The decoder that is stated for a used node: what its block can have, and that its words keep it.
-use Rattle.std.proofs.Common.{◌≡◌, ℕ, ◌+◌, ◌-◌, ◌%◌, ◌^◌, ◌<◌, ◌≤◌, Bool, true, false, not, ◌&&◌, ◌||◌, List, length, get_or, Option, Some, None, refl, sym, ap, ◌∙◌, subst, inl, inr, unwrap_or, arith}
-use Rattle.std.specs.Prelude.{All, Contains, position, nat_lt, nat_le, ◌==◌}
+use Rattle.std.proofs.Common.{◌≡◌, ℕ, ◌+◌, ◌-◌, ◌%◌, ◌^◌, ◌<◌, ◌≤◌, true, false, not, ◌&&◌, List, length, get_or, Option, Some, None, refl, sym, ap, ◌∙◌, subst, inl, inr, unwrap_or, arith}
+use Rattle.std.specs.Prelude.{Contains, position, nat_lt, nat_le, ◌==◌}
 use Rattle.std.specs.Option.{option_map_or}
-use Rattle.std.specs.List.{range_with_len, position_or_len}
+use Rattle.std.specs.List.{position_or_len}
 use Rattle.std.proofs.lemmas.Bool.{and_parts, and_from, leb-true, cond-true, cond-false, lt-ltb, false≢true, not_from_true, not_from_false}
-use Rattle.std.proofs.lemmas.List.Elements.{All-filter}
-use Rattle.std.proofs.lemmas.List.FromFn.{length-range_with_len, get_or-range_with_len}
 use Rattle.std.proofs.lemmas.List.Sums.{position_or_len_is, prefix_len_passes, prefix_len_stops}
 use Rattle.cxl_enc.specs.Codes.{ways_of, code_in_table, is_ways, bits_of}
-use Rattle.cxl_enc.specs.Caps.{targets_of, is_target_count}
-use Rattle.cxl_topo.specs.Laws.{AreTreeLaws}
-use Rattle.cxl_topo.specs.Tree.{is_endpoint_at, is_port_at}
+use Rattle.cxl_topo.specs.Tree.{is_endpoint_at}
 use Rattle.cxl_regs.specs.declared.decoder.Decoder.{Decoder}
 use Rattle.cxl_regs.specs.Registers.{IsDecoder, reset_decoder}
 use Rattle.cxl_regs.specs.Reading.{committed_count, decoder_ways, select_bits}
 use Rattle.cxl_regs.specs.Rules.{endpoint_ways_ok, select_ok}
 use Rattle.cxl_span.specs.Partitions.{lies_in}
 use Rattle.cxl_span.specs.Allotting.{cursor_of}
-use Rattle.cxl_window.specs.declared.window.Verdict.{Verdict}
-use Rattle.cxl_window.specs.declared.window.Verdict.TheVariants.{Usable, Align, Size, TooHigh, Overlap, Target, Repeat, Maps}
 use Rattle.cxl_window.specs.Fields.{WindowFields, IsWindow, IsUsable}
-use Rattle.cxl_window.specs.Position.{is_usable}
 use Rattle.cxl_model.specs.declared.request.Request.{Request}
 use Rattle.cxl_model.specs.declared.plan.Row.{Row}
 use Rattle.cxl_model.specs.System.{System, decoders_at, ram_at, pmem_at}
 use Rattle.cxl_model.specs.Plans.{IsRow}
-use Rattle.cxl_legal.specs.Used.{request_ways, is_used, is_port_used, used_ports, planned_ways, planned_code, planned_ways_code}
-use Rattle.cxl_legal.specs.Endpoints.{share_of, cap_at, has_even_ports, has_even_children, has_bridge_share}
+use Rattle.cxl_legal.specs.Used.{request_ways, is_used, used_ports, planned_ways, planned_code, planned_ways_code}
+use Rattle.cxl_legal.specs.Endpoints.{share_of, cap_at}
 use Rattle.cxl_legal.specs.Stated.{Fits, planned_range, targets_word, stated_start, stated_tail, stated_decoder, stated_row, stated_rows, has_row}
-use Rattle.cxl_legal.proofs.FittingServers.{All-at, asked, asked_or}
+use Rattle.cxl_legal.proofs.FittingServers.{All-at, asked_or}
 use Rattle.cxl_legal.proofs.FittingRules.{block_keeps}
 use Rattle.cxl_legal.proofs.FittingTargets.{usable_is}
 use Rattle.cxl_legal.proofs.RowsSystems.{HasBlock}
 use Rattle.cxl_legal.proofs.RowsRanges.{Lower, known_tree}
 use Rattle.cxl_legal.proofs.RowsUsed.{used_kind, row_is}
+use Rattle.cxl_legal.proofs.UsedPorts.{ports_small, port_ways, even_at}
 use Rattle.cxl_legal.proofs.RowsImages.{row_of}
 use Rattle.cxl_legal.proofs.RowsNumbers.{HasCode, code_of, count_is_ways, word_wide, of_ways, of_step}
 use Rattle.cxl_legal.proofs.RowsSpans.{SpanLaw, capacity_known, least_start, end_within, cursor_aligned, skip_aligned}
@@ -68,26 +62,14 @@ module _ (lower : Lower) (spans : SpanLaw) (s : System) (request : Request) (w :
 
   -- ---- ways and codes
 
-  pub even_ports : (n : ℕ) → is_port_at s.nodes n ≡ true → is_used s request n ≡ true → (is_target_count (length (used_ports s request n)) ≡ true) × (length (used_ports s request n) ≤ targets_of (cap_at s n))
-  even_ports n port used =
-      let all = asked (is_port_at s.nodes n && is_used s request n) (has_even_ports s request n && has_even_children s request n && has_bridge_share s request n) (fits.endpoints.even n)
-      (and_from (is_port_at s.nodes n) (is_used s request n) port used) in
-      let outer = and_parts (has_even_ports s request n && has_even_children s request n) (has_bridge_share s request n) all in
-      let inner = and_parts (has_even_ports s request n) (has_even_children s request n) outer.0 in
-      let parts = and_parts (is_target_count (length (used_ports s request n))) (nat_le (length (used_ports s request n)) (targets_of (cap_at s n))) inner.0 in
-      (parts.0, leb-true (length (used_ports s request n)) (targets_of (cap_at s n)) parts.1)
-
   pub endpoint_ways : (n : ℕ) → is_endpoint_at s.nodes n ≡ true → planned_ways s request n ≡ request_ways request
   endpoint_ways n endpoint = cond-true (is_endpoint_at s.nodes n) (request_ways request) (length (used_ports s request n)) endpoint
-
-  pub port_ways : (n : ℕ) → is_endpoint_at s.nodes n ≡ false → planned_ways s request n ≡ length (used_ports s request n)
-  port_ways n port = cond-false (is_endpoint_at s.nodes n) (request_ways request) (length (used_ports s request n)) port
 
   pub ways_known : (n : ℕ) → is_used s request n ≡ true → is_ways (planned_ways s request n) ≡ true
   ways_known n used =
       elim (used_kind s request n (known_tree lower s request w base fits) fits.named used) [
         | inl endpoint ↦ ap is_ways (endpoint_ways n endpoint.1) ∙ fits.endpoints.ways
-        | inr port ↦ ap is_ways (port_ways n port.1) ∙ count_is_ways (length (used_ports s request n)) (even_ports n port.0 used).0
+        | inr port ↦ ap is_ways (port_ways s request n port.1) ∙ count_is_ways (length (used_ports s request n)) (even_at s request fits.endpoints n port.0 used).count
       ]
 
   -- the code of its ways, which stands for them
@@ -145,13 +127,6 @@ module _ (lower : Lower) (spans : SpanLaw) (s : System) (request : Request) (w :
 
   -- ---- the tail
 
-  small_ports : (n : ℕ) → All (λ port. port < 256) (used_ports s request n)
-  small_ports n =
-      All-filter (is_port_used s request n) (λ (port : ℕ). port < 256) (range_with_len 0 256) (λ k d within.
-      let long = length-range_with_len 0 256 in
-      let at = get_or-range_with_len 0 256 k d (omega arith) in
-      omega arith)
-
   record HasTail (n : ℕ) : Type 0 where
     wide : stated_tail s request n < 2 ^ 64
     skip : is_endpoint_at s.nodes n ≡ true → stated_tail s request n % 2 ^ 28 ≡ 0
@@ -171,7 +146,7 @@ module _ (lower : Lower) (spans : SpanLaw) (s : System) (request : Request) (w :
         | inr port ↦
             let is : stated_tail s request n ≡ targets_word (used_ports s request n) =
             cond-false (is_endpoint_at s.nodes n) (stated_start s request n - cursor_of (decoders_at s n)) (targets_word (used_ports s request n)) port.1 in
-            let word = word_wide (used_ports s request n) (small_ports n) (even_ports n port.0 used).0 in
+            let word = word_wide (used_ports s request n) (ports_small s request n) (even_at s request fits.endpoints n port.0 used).count in
             record { wide = omega arith; skip = λ endpoint. absurd (false≢true (sym port.1 ∙ endpoint)) }
       ]
 

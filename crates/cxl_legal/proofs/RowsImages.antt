@@ -5,7 +5,6 @@ use Rattle.std.specs.Option.{option_map_or}
 use Rattle.std.proofs.lemmas.Bool.{cases_Bool, and_parts, and_from, cond-true, cond-false, false≢true}
 use Rattle.std.proofs.lemmas.List.Elements.{Contains-get_or}
 use Rattle.cxl_topo.specs.Tree.{forwards_at}
-use Rattle.cxl_topo.specs.Laws.{AreTreeLaws}
 use Rattle.cxl_regs.specs.declared.decoder.Decoder.{Decoder}
 use Rattle.cxl_regs.specs.Registers.{Registers, reset_decoder}
 use Rattle.cxl_regs.specs.Reading.{committed_count, has_range}

@@ -11,7 +11,6 @@ use Rattle.cxl_enc.specs.declared.caps.MemKind.TheVariants.{Ram, Pmem}
 use Rattle.cxl_enc.specs.Codes.{code_in_table}
 use Rattle.cxl_enc.specs.Caps.{targets_of}
 use Rattle.cxl_enc.specs.Limits.{unit}
-use Rattle.cxl_topo.specs.Laws.{AreTreeLaws}
 use Rattle.cxl_topo.specs.Tree.{is_endpoint_at, is_port_at}
 use Rattle.cxl_regs.specs.declared.decoder.Decoder.{Decoder}
 use Rattle.cxl_regs.specs.Registers.{Registers, IsBlock, IsDecoder}
@@ -35,10 +34,11 @@ use Rattle.cxl_legal.proofs.FittingRows.{length-fold}
 use Rattle.cxl_legal.proofs.RowsSystems.{HasBlock, keeps_again}
 use Rattle.cxl_legal.proofs.RowsRanges.{Lower, known_tree, end_at}
 use Rattle.cxl_legal.proofs.RowsUsed.{used_kind}
+use Rattle.cxl_legal.proofs.UsedPorts.{port_ways, even_at}
 use Rattle.cxl_legal.proofs.RowsImages.{HasRow, row_of, after, block_with, block_same}
 use Rattle.cxl_legal.proofs.RowsNumbers.{exponent_of}
 use Rattle.cxl_legal.proofs.RowsSpans.{SpanLaw, in_one}
-use Rattle.cxl_legal.proofs.RowsDecoders.{end_low, even_ports, endpoint_ways, port_ways, own_code, selects, endpoint_can, span_room, kept_decoder}
+use Rattle.cxl_legal.proofs.RowsDecoders.{end_low, endpoint_ways, own_code, selects, endpoint_can, span_room, kept_decoder}
 use Rattle.cxl_legal.proofs.RowsRules.{CanFollow, grown_keeps}
 
 module _ (lower : Lower) (spans : SpanLaw) (s : System) (request : Request) (w : WindowFields) (base : ℕ) (fits : Fits s request w base) where
@@ -54,12 +54,12 @@ module _ (lower : Lower) (spans : SpanLaw) (s : System) (request : Request) (w :
   -- a port has the ways
   port_can : (n : ℕ) → is_port_at s.nodes n ≡ true → is_endpoint_at s.nodes n ≡ false → is_used s request n ≡ true → port_ways_ok (cap_at s n) (planned_ways_code s request n) ≡ true
   port_can n port other used =
-      let even = even_ports lower spans s request w base fits n port used in
-      let own = exponent_of (length (used_ports s request n)) even.0 in
+      let even = even_at s request fits.endpoints n port used in
+      let own = exponent_of (length (used_ports s request n)) even.count in
       let code : planned_ways_code s request n ≡ own.code =
-      ap (λ (p : ℕ). unwrap_or (code_in_table p) 0) (port_ways lower spans s request w base fits n other) ∙ ap (λ (o : Option ℕ). unwrap_or o 0) own.is in
+      ap (λ (p : ℕ). unwrap_or (code_in_table p) 0) (port_ways s request n other) ∙ ap (λ (o : Option ℕ). unwrap_or o 0) own.is in
       let power = own.power in
-      let few = even.1 in
+      let few = even.few in
       ap (port_ways_ok (cap_at s n)) code
       ∙ and_from (nat_le own.code 3) (nat_le (2 ^ own.code) (targets_of (cap_at s n))) (le-leb own.code 3 own.small) (le-leb (2 ^ own.code) (targets_of (cap_at s n)) (omega (arith, power, few)))
 

@@ -53,11 +53,6 @@ all_rules block rule ram pmem start below d k2 k3 k4 k5 k6 k7 k8 =
 
 -- ---- a decoder that is not committed
 
-clean_flags : (d : Decoder) → breaks_flags d ≡ false → d.committed ≡ false → (d.error ≡ false) × (d.commit ≡ false)
-clean_flags d keeps free =
-    let parts = or_parts d.error (cond d.committed (not (d.commit && d.host_only)) d.commit) keeps in
-    (parts.0, subst (λ (b : Bool). cond b (not (d.commit && d.host_only)) d.commit ≡ false) free parts.1)
-
 clean_rules : (block : Registers) (rule ram pmem start : ℕ) (below : Option Decoder) (d : Decoder) → breaks_flags d ≡ false → d.committed ≡ false → breaks_rule rule block ram pmem below start d ≡ false
 clean_rules block rule ram pmem start below d flags free =
     all_rules block rule ram pmem start below d (and_left d.committed _ free) flags (and_left d.committed _ free) (and_left d.committed _ free) (and_left d.committed _ free) (and_left d.committed _ free)

@@ -1,21 +1,17 @@
 -- The blocks of a system, and the rules K1 to K8 of its image as those of each block.
-use Rattle.std.proofs.Common.{◌≡◌, ◌≢◌, ℕ, zero, suc, ◌<◌, ◌≤◌, false, not, ◌&&◌, if◌then◌else◌, List, [], ◌∷◌, length, Option, Some, None, refl, sym, ap, ◌∙◌, subst, inl, inr, arith}
-use Rattle.std.specs.Prelude.{slice_get, ◌==◌, option_map, All}
+use Rattle.std.proofs.Common.{◌≡◌, ◌≢◌, ℕ, ◌<◌, false, not, ◌&&◌, if◌then◌else◌, List, [], length, Option, Some, None, refl, sym, ap, ◌∙◌, subst, inl, inr, arith}
+use Rattle.std.specs.Prelude.{slice_get, ◌==◌, option_map}
 use Rattle.std.specs.Option.{option_map_or, option_eq}
-use Rattle.std.proofs.lemmas.Bool.{lt-ltb, cases_lt, cases_eq, ne_eqb}
-use Rattle.std.proofs.lemmas.Option.{slice_get_within, get_or_from_slice_get}
-use Rattle.std.proofs.lemmas.List.Elements.{All-get_or}
+use Rattle.std.proofs.lemmas.Bool.{cases_eq}
+use Rattle.std.proofs.lemmas.Option.{slice_get_within}
 use Rattle.cxl_topo.specs.Tree.{is_endpoint_at}
 use Rattle.cxl_topo.specs.Kinds.{is_endpoint}
 use Rattle.cxl_topo.specs.declared.node.Node.{Node}
 use Rattle.cxl_regs.specs.declared.decoder.Decoder.{Decoder}
 use Rattle.cxl_regs.specs.Registers.{Registers, IsBlock}
-use Rattle.cxl_regs.specs.Rules.{before}
-use Rattle.cxl_span.specs.Spans.{span_start_of}
-use Rattle.cxl_span.specs.Rules.{breaks_rule}
 use Rattle.cxl_span.specs.Breaches.{BlockKeeps, breaks as block_breaks}
 use Rattle.cxl_model.specs.System.{System, IsSystem, decoders_at, decoder_at, ram_at, pmem_at}
-use Rattle.cxl_model.specs.Accepted.{breaks, breaks_caps, breaks_block, KeepsBlocks}
+use Rattle.cxl_model.specs.Accepted.{breaks, breaks_caps, KeepsBlocks}
 use Rattle.cxl_legal.specs.Endpoints.{cap_at}
 use Rattle.cxl_legal.proofs.FittingServers.{All-at}
 use Rattle.cxl_legal.proofs.FittingRules.{block_rule}

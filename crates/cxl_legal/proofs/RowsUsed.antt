@@ -1,20 +1,18 @@
 -- The nodes that a request uses, and the list of their rows.
-use Rattle.std.proofs.Common.{◌≡◌, ℕ, zero, suc, ◌<◌, ◌⊎◌, Bool, true, false, cond, not, List, [], ◌∷◌, length, get_or, map, Option, Some, refl, sym, ap, ◌∙◌, subst, inl, inr, eq-eqb, arith}
-use Rattle.std.specs.Prelude.{slice_get, ◌==◌, AllPairs, Contains, filter}
+use Rattle.std.proofs.Common.{◌≡◌, ℕ, zero, suc, ◌<◌, ◌⊎◌, Bool, true, false, cond, not, List, [], ◌∷◌, length, get_or, map, Option, Some, refl, sym, ap, ◌∙◌, subst, inl, inr, arith}
+use Rattle.std.specs.Prelude.{slice_get, AllPairs, Contains, filter}
 use Rattle.std.specs.Option.{option_map, option_map_or}
 use Rattle.std.specs.List.{range_with_len}
-use Rattle.std.proofs.lemmas.Bool.{cases_lt, cases_Bool, and_parts, and_from, eqb-true, false≢true, not-true, not_from_false}
+use Rattle.std.proofs.lemmas.Bool.{cases_lt, cases_Bool, and_parts, and_from, false≢true, not-true, not_from_false}
 use Rattle.std.proofs.lemmas.Option.{slice_get_within, slice_get_past, slice_get-map, slice_get-get_or, get_or_from_slice_get, none-some}
 use Rattle.std.proofs.lemmas.List.{length-map, get_or-map}
 use Rattle.std.proofs.lemmas.List.Elements.{All-contains, All-map, filter_passes}
-use Rattle.std.proofs.lemmas.List.Folds.{Any-from_list_any, list_any-from_Any}
+use Rattle.std.proofs.lemmas.List.Folds.{Any-from_list_any}
 use Rattle.std.proofs.lemmas.List.FromFn.{length-range_with_len, get_or-range_with_len}
 use Rattle.std.proofs.lemmas.List.Kept.{AllPairs-filter}
 use Rattle.cxl_topo.specs.declared.node.Node.{Node}
-use Rattle.cxl_topo.specs.Faults.{IsTree}
-use Rattle.cxl_topo.specs.Laws.{AreTreeLaws}
 use Rattle.cxl_topo.specs.Kinds.{is_endpoint}
-use Rattle.cxl_topo.specs.Tree.{forwards_at, is_endpoint_at, is_port_at, path_of}
+use Rattle.cxl_topo.specs.Tree.{forwards_at, is_endpoint_at, is_port_at}
 use Rattle.cxl_window.specs.Fields.{WindowFields}
 use Rattle.cxl_model.specs.declared.request.Request.{Request}
 use Rattle.cxl_model.specs.declared.plan.Row.{Row}
@@ -30,14 +28,14 @@ use Rattle.cxl_legal.proofs.RowsTrees.{on_path}
 -- ---- lists
 
 -- an element that passes is kept
-pub kept_at : {X : Type 0} (p : X → Bool) (xs : List X) (k : ℕ) (x : X) → slice_get xs k ≡ Some x → p x ≡ true → (j : ℕ) × (slice_get (filter p xs) j ≡ Some x)
-kept_at p [] k x here passes = absurd (none-some x here)
-kept_at p (y ∷ ys) zero x here passes =
+pub filter_keeps : {X : Type 0} (p : X → Bool) (xs : List X) (k : ℕ) (x : X) → slice_get xs k ≡ Some x → p x ≡ true → (j : ℕ) × (slice_get (filter p xs) j ≡ Some x)
+filter_keeps p [] k x here passes = absurd (none-some x here)
+filter_keeps p (y ∷ ys) zero x here passes =
     let same : y ≡ x = cc in
     let own : p y ≡ true = ap p same ∙ passes in
     (zero, ap (λ b. slice_get (cond b (y ∷ filter p ys) (filter p ys)) zero) own ∙ here)
-kept_at p (y ∷ ys) (suc k) x here passes =
-    let rest = kept_at p ys k x here passes in
+filter_keeps p (y ∷ ys) (suc k) x here passes =
+    let rest = filter_keeps p ys k x here passes in
     elim (cases_Bool (p y)) [
       | inl here_too ↦ (suc rest.0, ap (λ b. slice_get (cond b (y ∷ filter p ys) (filter p ys)) (suc rest.0)) here_too ∙ rest.1)
       | inr dropped ↦ (rest.0, ap (λ b. slice_get (cond b (y ∷ filter p ys) (filter p ys)) rest.0) dropped ∙ rest.1)
@@ -104,7 +102,7 @@ row_is s request w base row there =
 
 pub row_there : (s : System) (request : Request) (w : WindowFields) (base n : ℕ) → n < length s.nodes → has_row s request n ≡ true → Contains (stated_rows s request w base) (stated_row s request w base n)
 row_there s request w base n low has =
-    let kept = kept_at (has_row s request) (range_with_len 0 (length s.nodes)) n n (number_at (length s.nodes) n low) has in
+    let kept = filter_keeps (has_row s request) (range_with_len 0 (length s.nodes)) n n (number_at (length s.nodes) n low) has in
     contains_at (stated_rows s request w base) kept.0 (stated_row s request w base n)
     (slice_get-map (stated_row s request w base) (filter (has_row s request) (range_with_len 0 (length s.nodes))) kept.0 ∙ ap (option_map (stated_row s request w base)) kept.1)
 

@@ -1,10 +1,10 @@
 -- How many requested endpoints lie under the used nodes of a request that fits.
-use Rattle.std.proofs.Common.{◌≡◌, ℕ, ◌+◌, ◌*◌, ◌<◌, Bool, true, false, not, ◌&&◌, ◌||◌, List, [], ◌∷◌, length, get_or, map, Option, Some, None, refl, sym, ap, ◌∙◌, subst, inl, inr, eq-eqb, arith}
-use Rattle.std.specs.Prelude.{slice_get, ◌==◌, All, Contains, filter}
+use Rattle.std.proofs.Common.{◌≡◌, ℕ, ◌*◌, ◌<◌, Bool, true, false, not, ◌&&◌, ◌||◌, List, [], ◌∷◌, length, get_or, map, Option, Some, None, refl, sym, ap, ◌∙◌, subst, eq-eqb, arith}
+use Rattle.std.specs.Prelude.{slice_get, ◌==◌, All, Contains}
 use Rattle.std.specs.Option.{option_map_or}
 use Rattle.std.specs.List.{list_any, list_all, range_with_len}
-use Rattle.std.proofs.lemmas.Bool.{and_parts, and_from, or_right, or_cases, eqb-true, false≢true, not_from_true}
-use Rattle.std.proofs.lemmas.Option.{none-some, same_Some}
+use Rattle.std.proofs.lemmas.Bool.{and_parts, and_from, or_right, eqb-true, false≢true}
+use Rattle.std.proofs.lemmas.Option.{same_Some}
 use Rattle.std.proofs.lemmas.List.Elements.{All-head, All-tail, All-contains, Contains-get_or}
 use Rattle.std.proofs.lemmas.List.Folds.{Any-from_list_any, list_any_at}
 use Rattle.std.proofs.lemmas.List.FromFn.{length-range_with_len, get_or-range_with_len}
@@ -14,7 +14,7 @@ use Rattle.cxl_topo.specs.declared.node.NodeKind.{NodeKind}
 use Rattle.cxl_topo.specs.declared.node.NodeKind.TheVariants.{Bridge, Switch, Endpoint}
 use Rattle.cxl_topo.specs.Kinds.{is_bridge, is_endpoint}
 use Rattle.cxl_topo.specs.declared.node.Parent.{Parent}
-use Rattle.cxl_topo.specs.Tree.{is_bridge_at, is_endpoint_at, is_port_at, uid_at, parent_of, child_of, bridge_with, ports_above}
+use Rattle.cxl_topo.specs.Tree.{is_bridge_at, is_endpoint_at, is_port_at, uid_at, parent_of, bridge_with}
 use Rattle.cxl_window.specs.Fields.{WindowFields, IsWindow}
 use Rattle.cxl_model.specs.declared.request.Request.{Request}
 use Rattle.cxl_model.specs.System.{System}
@@ -22,7 +22,7 @@ use Rattle.cxl_model.specs.Ranges.{product}
 use Rattle.cxl_model.specs.Rules.{are_distinct}
 use Rattle.cxl_model.specs.Counts.{is_under}
 use Rattle.cxl_legal.specs.Used.{request_ways, is_used, count_under, is_port_used, used_ports, count_at_port, planned_ways, planned_ways_above}
-use Rattle.cxl_legal.specs.Endpoints.{has_bridge_share, first_bridge}
+use Rattle.cxl_legal.specs.Endpoints.{first_bridge}
 use Rattle.cxl_legal.specs.Windows.{is_used_bridge, is_target}
 use Rattle.cxl_legal.proofs.FittingTrees.{under_self, KnownTree, parent_is_port, up_tree, ports_none, ports_some, under_is, is_above, leaves_at, leaves_above, leaves_once, under_child, under_endpoint, under_top, root_of, same_test, port_no_endpoint}
 use Rattle.cxl_legal.proofs.FittingSums.{one, total, length-filter-total, total-same, exchange, list_any-weaker, once}
@@ -33,8 +33,7 @@ use Rattle.cxl_legal.proofs.FittingUsed.{total_each, length_total, endpoint_with
 use Rattle.cxl_legal.proofs.RowsOthers.{found_some}
 use Rattle.cxl_legal.proofs.UsedNodes.{child_to, above_requested, used_by, used_parent, used_root, top_bridge}
 use Rattle.cxl_legal.proofs.StatedImages.{Stated}
-use Rattle.cxl_legal.proofs.UsedPorts.{port_used, port_child, listed_port, ports_pass, ports_distinct}
-use Rattle.cxl_legal.proofs.StatedPorts.{even_at, port_ways}
+use Rattle.cxl_legal.proofs.UsedPorts.{even_at, port_ways, port_used, port_child, listed_port, ports_pass, ports_distinct}
 
 -- ---- sums
 
@@ -99,7 +98,7 @@ pub count_child : {s : System} {request : Request} {w : WindowFields} {base : �
     → count_under s request p.node ≡ length (used_ports s request p.node) * count_under s request n
 count_child {s} {request} c n p parent used =
     let port = (parent_is_port c.known n p parent).1 in
-    let even = even_at c p.node port (used_parent s request c.known n p parent used) in
+    let even = even_at s request c.fits.endpoints p.node port (used_parent s request c.known n p parent used) in
     let own = Any-from_list_any (λ x. x == p.port) (used_ports s request p.node) (listed_port s request p.node p.port (c.fits.ports n p parent) (port_used s request c.known p.node p.port n parent used)) in
     let at : get_or (used_ports s request p.node) own.0 own.1 ≡ p.port = own.3 ∙ eqb-true own.1 p.port own.4 in
     count_ports c p.node (port_no_endpoint s.nodes p.node port)
@@ -136,7 +135,7 @@ shared : {s : System} {request : Request} {w : WindowFields} {base : ℕ} → St
 shared {s} {request} c n bridge used first at =
     eqb-true (count_under s request n) (count_under s request first)
     (sym (ap (λ (o : Option ℕ). option_map_or (λ f. count_under s request n == count_under s request f) o true) at)
-    ∙ asked_or (is_bridge_at s.nodes n) (option_map_or (λ f. count_under s request n == count_under s request f) (first_bridge s request) true) (even_at c n (bridge_port s.nodes n bridge) used).share bridge)
+    ∙ asked_or (is_bridge_at s.nodes n) (option_map_or (λ f. count_under s request n == count_under s request f) (first_bridge s request) true) (even_at s request c.fits.endpoints n (bridge_port s.nodes n bridge) used).share bridge)
 
 -- used bridges share the requested endpoints evenly
 same_share : {s : System} {request : Request} {w : WindowFields} {base : ℕ} → Stated s request w base → (a b : ℕ) → is_bridge_at s.nodes a ≡ true → is_used s request a ≡ true → a < length s.nodes
@@ -245,9 +244,9 @@ count_bridge {s} {request} {w} c b bridge used within =
 regroup : (n p a w : ℕ) → n * (p * a * w) ≡ p * n * (a * w)
 regroup n p a w = omega arith
 
-above_step : {s : System} {request : Request} {w : WindowFields} {base : ℕ} → Stated s request w base → (n : ℕ) (p : Parent) → parent_of s.nodes n ≡ Some p
+ways_step : {s : System} {request : Request} {w : WindowFields} {base : ℕ} → Stated s request w base → (n : ℕ) (p : Parent) → parent_of s.nodes n ≡ Some p
     → planned_ways_above s request n ≡ length (used_ports s request p.node) * planned_ways_above s request p.node
-above_step {s} {request} c n p some =
+ways_step {s} {request} c n p some =
     ap (λ (ps : List Parent). product (map (λ parent. planned_ways s request parent.node) ps)) (ports_some c.known n p some)
     ∙ ap (λ (k : ℕ). k * planned_ways_above s request p.node) (port_ways s request p.node (port_no_endpoint s.nodes p.node (parent_is_port c.known n p some).1))
 
@@ -264,7 +263,7 @@ count_down {s} {request} {w} c =
     (λ n p some rest within used.
     let up = parent_is_port c.known n p some in
     let higher = rest (omega (arith, up, within)) (used_parent s request c.known n p some used) in
-    ap (λ (k : ℕ). count_under s request n * (k * w.ways)) (above_step c n p some)
+    ap (λ (k : ℕ). count_under s request n * (k * w.ways)) (ways_step c n p some)
     ∙ regroup (count_under s request n) (length (used_ports s request p.node)) (planned_ways_above s request p.node) w.ways
     ∙ ap (λ (k : ℕ). k * (planned_ways_above s request p.node * w.ways)) (sym (count_child c n p some used))
     ∙ higher)

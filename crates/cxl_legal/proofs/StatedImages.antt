@@ -1,8 +1,7 @@
 -- A request that fits, the image with its stated rows committed, and what lower laws say of both.
-use Rattle.std.proofs.Common.{◌≡◌, ◌≢◌, ℕ, true, false, if◌then◌else◌, Option, Some, None}
+use Rattle.std.proofs.Common.{◌≡◌, ℕ, true, false, if◌then◌else◌, Some, None}
 use Rattle.std.specs.Prelude.{Contains}
 use Rattle.cxl_topo.specs.Tree.{is_endpoint_at}
-use Rattle.cxl_regs.specs.declared.reading.Range.{Range}
 use Rattle.cxl_regs.specs.Reading.{committed_count}
 use Rattle.cxl_span.specs.Spans.{span_start_of}
 use Rattle.cxl_window.specs.Fields.{WindowFields}
@@ -10,7 +9,6 @@ use Rattle.cxl_model.specs.declared.plan.Row.{Row}
 use Rattle.cxl_model.specs.declared.request.Request.{Request}
 use Rattle.cxl_model.specs.System.{System, IsSystem, decoders_at}
 use Rattle.cxl_model.specs.Ranges.{serves, decoder_for, index_for, window_for, span_kind}
-use Rattle.cxl_model.specs.Changes.{HaveSameDecoders}
 use Rattle.cxl_model.specs.Accepted.{KeepsBlocks}
 use Rattle.cxl_model.specs.Plans.{AreRowsOf, IsRow, committed_row, with_rows}
 use Rattle.cxl_legal.specs.Used.{is_used}

@@ -1,15 +1,14 @@
 -- With the stated rows committed an address of the new range that comes to a used node comes to a decoder of it, and each such decoder is reached.
-use Rattle.std.proofs.Common.{◌≡◌, ℕ, zero, suc, ◌+◌, ◌<◌, ◌≤◌, Bool, true, false, not, ◌&&◌, ◌||◌, if◌then◌else◌, List, length, get_or, Option, Some, None, refl, sym, ap, ◌∙◌, subst, inl, inr, arith}
-use Rattle.std.specs.Prelude.{slice_get, ◌==◌, option_map, All}
+use Rattle.std.proofs.Common.{◌≡◌, ℕ, zero, suc, ◌+◌, ◌<◌, ◌≤◌, Bool, true, false, not, ◌&&◌, ◌||◌, if◌then◌else◌, length, get_or, Option, Some, None, refl, sym, ap, ◌∙◌, subst, inl, inr, arith}
+use Rattle.std.specs.Prelude.{◌==◌, option_map}
 use Rattle.std.specs.Option.{option_map_or, option_and_then}
 use Rattle.std.specs.List.{list_any, list_all}
 use Rattle.std.proofs.lemmas.Bool.{cases_Bool, and_parts, and_from, or_left, or_right, cond-true, cond-false, false≢true, not-true, not_from_false}
 use Rattle.std.proofs.lemmas.Option.{none-some, same_Some}
 use Rattle.std.proofs.lemmas.List.Sums.{AllPass-from_list_all, list_all-from_AllPass}
 use Rattle.cxl_topo.specs.declared.node.Parent.{Parent}
-use Rattle.cxl_topo.specs.Tree.{forwards_at, is_endpoint_at, is_port_at, uid_at, parent_of, least_child_of, landing_of, bridge_with, decoding_port_of}
+use Rattle.cxl_topo.specs.Tree.{forwards_at, is_endpoint_at, is_port_at, uid_at, least_child_of, landing_of, bridge_with, decoding_port_of}
 use Rattle.cxl_regs.specs.declared.decoder.Decoder.{Decoder}
-use Rattle.cxl_regs.specs.declared.reading.Range.{Range}
 use Rattle.cxl_regs.specs.Reading.{committed_count, has_range, entries_of}
 use Rattle.cxl_window.specs.Fields.{WindowFields}
 use Rattle.cxl_model.specs.declared.request.Request.{Request}
@@ -22,7 +21,7 @@ use Rattle.cxl_legal.specs.Windows.{is_used_bridge}
 use Rattle.cxl_legal.specs.Stated.{has_row, stated_row, planned_range}
 use Rattle.cxl_legal.proofs.FittingTrees.{parent_is_port, up_tree, forwards_no_endpoint, port_no_endpoint, root_of}
 use Rattle.cxl_legal.proofs.FittingServers.{passes_one}
-use Rattle.cxl_legal.proofs.FittingRules.{ServesAt, served, no_decoder, one_of_range, is_reached, decoding_none, decoding_here, decoding_past}
+use Rattle.cxl_legal.proofs.FittingRules.{served, no_decoder, one_of_range, is_reached, decoding_none, decoding_here, decoding_past}
 use Rattle.cxl_legal.proofs.FittingCounts.{lands_here}
 use Rattle.cxl_legal.proofs.RowsUsed.{used_within}
 use Rattle.cxl_legal.proofs.UsedNodes.{used_child, used_parent, used_root}
@@ -33,8 +32,8 @@ use Rattle.cxl_legal.proofs.StatedCounts.{targeted}
 
 -- ---- the decoders of the new range
 
-pub own_row : (s : System) (request : Request) (n : ℕ) → is_used s request n ≡ true → forwards_at s.nodes n ≡ false → has_row s request n ≡ true
-own_row s request n used own = and_from (is_used s request n) (not (forwards_at s.nodes n)) used (not_from_false (forwards_at s.nodes n) own)
+pub gets_row : (s : System) (request : Request) (n : ℕ) → is_used s request n ≡ true → forwards_at s.nodes n ≡ false → has_row s request n ≡ true
+gets_row s request n used own = and_from (is_used s request n) (not (forwards_at s.nodes n)) used (not_from_false (forwards_at s.nodes n) own)
 
 pub row_parts : (s : System) (request : Request) (n : ℕ) → has_row s request n ≡ true → (is_used s request n ≡ true) × (forwards_at s.nodes n ≡ false)
 row_parts s request n row =
@@ -111,7 +110,7 @@ used_lands {s} {request} {w} {base} c n = go (length s.nodes) n (omega arith)
               ∙ ap (λ b. if b then option_and_then (landing_of s.nodes) (least_child_of s.nodes n) else Some n) forwards
               ∙ ap (option_and_then (landing_of s.nodes)) child)
               ∙ go k next.child (omega (arith, higher, past)) next.used
-          | inr own ↦ lands_here (stated_image s request w base) (planned_range request base) n c.system c.known own ∙ serves_row c n ∙ own_row s request n used own
+          | inr own ↦ lands_here (stated_image s request w base) (planned_range request base) n c.system c.known own ∙ serves_row c n ∙ gets_row s request n used own
         ]
 
 leads_used : {s : System} {request : Request} {w : WindowFields} {base : ℕ} → Stated s request w base → (n e : ℕ) → is_port_used s request n e ≡ true → leads_on (stated_image s request w base) (planned_range request base) n e ≡ true
@@ -189,7 +188,7 @@ listed_above {s} {request} c =
 -- the stated decoder lists it
 lists_it : {s : System} {request : Request} {w : WindowFields} {base : ℕ} → Stated s request w base → (p : Parent) → IsListed s request p → lists (stated_image s request w base) (planned_range request base) p ≡ true
 lists_it {s} {request} {w} {base} c p listed =
-    let row = own_row s request p.node listed.used listed.own in
+    let row = gets_row s request p.node listed.used listed.own in
     let at = served (stated_image s request w base) (planned_range request base) p.node (serves_row c p.node ∙ row) in
     let is = stated_at c p.node at.i at.d at.there at.has in
     let entries : entries_of at.d ≡ used_ports s request p.node = ap entries_of is.decoder ∙ entries_stated c p.node (port_no_endpoint s.nodes p.node listed.port) listed.used in

@@ -27,7 +27,7 @@ use Rattle.cxl_legal.proofs.FittingUsed.{endpoint_own}
 use Rattle.cxl_legal.proofs.StatedImages.{stated_image, Stated}
 use Rattle.cxl_legal.proofs.UsedPorts.{ports_pass}
 use Rattle.cxl_legal.proofs.StatedPorts.{ways_stated, entry_stated}
-use Rattle.cxl_legal.proofs.StatedLands.{own_row, row_decoder, row_index}
+use Rattle.cxl_legal.proofs.StatedLands.{gets_row, row_decoder, row_index}
 use Rattle.cxl_legal.proofs.StatedWays.{above_is}
 
 -- ---- at an endpoint
@@ -37,7 +37,7 @@ pub ends_there : {s : System} {request : Request} {w : WindowFields} {base : ℕ
 ends_there {s} {request} {w} {base} c slot place endpoint used start =
     at_endpoint place endpoint
     (subst (λ (o : Option ℕ). IsSomeAnd o (λ i. place.start ≡ span_start_of (decoders_at (stated_image s request w base) place.endpoint) i))
-    (sym (row_index c place.endpoint (own_row s request place.endpoint used (endpoint_own c.known place.endpoint endpoint))))
+    (sym (row_index c place.endpoint (gets_row s request place.endpoint used (endpoint_own c.known place.endpoint endpoint))))
     (start ∙ sym (c.starts place.endpoint endpoint used)))
 
 -- ---- past a port
@@ -63,7 +63,7 @@ leads_slot : {s : System} {request : Request} {w : WindowFields} {base : ℕ} �
     → LeadsSlot (stated_image s request w base) w (planned_range request base) slot n child
 leads_slot {s} {request} {w} {base} c slot n child port own used way =
     subst (λ (o : Option Decoder). IsSomeAnd o (λ d. child_of s.nodes n (entry_at d (slot / slots_an_entry (stated_image s request w base) w (planned_range request base) n % decoder_ways d)) ≡ Some child))
-    (sym (row_decoder c n (own_row s request n used own)))
+    (sym (row_decoder c n (gets_row s request n used own)))
     (ap (λ (k : ℕ). child_of s.nodes n (entry_at d (slot / (2 ^ bits_of w.ways * k) % decoder_ways d))) (above_is c n used).ways
     ∙ ap (λ (k : ℕ). child_of s.nodes n (entry_at d (slot / planned_slots_an_entry s request w n % k))) (ways_stated c n used)
     ∙ ap (child_of s.nodes n) (entry_stated c n (slot / planned_slots_an_entry s request w n % planned_ways s request n) way.port (port_no_endpoint s.nodes n port) way.planned)

@@ -9,7 +9,7 @@ use Rattle.std.proofs.lemmas.Option.{slice_get-get_or, slice_get_within, get_or_
 use Rattle.std.proofs.lemmas.List.FromFn.{length-map-range_with_len, get_or-map-range_with_len}
 use Rattle.std.proofs.lemmas.List.Sums.{AllPass-from_list_all}
 use Rattle.cxl_enc.specs.Codes.{is_ways, third_of, bits_of}
-use Rattle.cxl_topo.specs.Tree.{is_port_at, is_endpoint_at, child_of, bridge_with}
+use Rattle.cxl_topo.specs.Tree.{is_endpoint_at, child_of, bridge_with}
 use Rattle.cxl_window.specs.Fields.{WindowFields}
 use Rattle.cxl_model.specs.declared.found.Place.{Place}
 use Rattle.cxl_model.specs.declared.plan.Plan.{Plan}
@@ -25,8 +25,7 @@ use Rattle.cxl_legal.proofs.FittingUsed.{some_filtered}
 use Rattle.cxl_legal.proofs.FittingServers.{each_ways}
 use Rattle.cxl_legal.proofs.RowsUsed.{used_kind}
 use Rattle.cxl_legal.proofs.StatedImages.{Stated}
-use Rattle.cxl_legal.proofs.UsedPorts.{port_child, ports_pass, own_port}
-use Rattle.cxl_legal.proofs.StatedPorts.{port_ways}
+use Rattle.cxl_legal.proofs.UsedPorts.{port_ways, port_child, ports_pass, own_port}
 use Rattle.cxl_legal.proofs.StatedCounts.{known_window}
 use Rattle.cxl_legal.proofs.StatedLands.{used_in}
 
@@ -118,28 +117,30 @@ each_place {s} {request} {w} c slot place at =
 
 pub plan_there : {s : System} {request : Request} {w : WindowFields} {base : ℕ} → Stated s request w base → (plan : Plan) × IsStatedPlan s request w base plan
 unfolding places_of
-plan_there {s} {request} {w} {base} c =
-    (record {
-      name = request.name;
-      found = record {
-        base = base;
-        size = request.size;
-        window = w.index;
-        gran = plan_code request w (request_ways request);
-        ways = request_ways request;
-        kind = request.kind;
-        spans = places_of c;
-      };
-      rows = stated_rows s request w base;
-    }, record {
-      name = refl;
-      starts = refl;
-      size = refl;
-      window = refl;
-      code = refl;
-      ways = refl;
-      kind = refl;
-      slots = length-map-range_with_len (λ slot. (place_of c slot).0) 0 (request_ways request);
-      places = each_place c;
-      rows = refl;
-    })
+plan_there {s} {request} {w} {base} c = (
+  record {
+    name = request.name;
+    found = record {
+      base = base;
+      size = request.size;
+      window = w.index;
+      gran = plan_code request w (request_ways request);
+      ways = request_ways request;
+      kind = request.kind;
+      spans = places_of c;
+    };
+    rows = stated_rows s request w base;
+  },
+  record {
+    name = refl;
+    starts = refl;
+    size = refl;
+    window = refl;
+    code = refl;
+    ways = refl;
+    kind = refl;
+    slots = length-map-range_with_len (λ slot. (place_of c slot).0) 0 (request_ways request);
+    places = each_place c;
+    rows = refl;
+  },
+)

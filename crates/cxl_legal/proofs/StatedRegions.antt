@@ -1,6 +1,6 @@
 -- The plan that is stated for a request that fits is legal.
-use Rattle.std.proofs.Common.{◌≡◌, ℕ, ◌<◌, true, if◌then◌else◌, List, Option, Some, None, refl, sym, ap, ◌∙◌, subst, inl, inr}
-use Rattle.std.specs.Prelude.{slice_get, ◌==◌, nat_lt, Contains, IfSome}
+use Rattle.std.proofs.Common.{◌≡◌, ℕ, true, if◌then◌else◌, List, Option, Some, None, refl, sym, ap, ◌∙◌, subst, inl, inr}
+use Rattle.std.specs.Prelude.{◌==◌, nat_lt, Contains, IfSome}
 use Rattle.std.specs.Option.{option_map_or}
 use Rattle.std.proofs.lemmas.Bool.{cases_eq, cond-true, cond-false, eq-eqb, eqb-true, ne_eqb, lt-ltb}
 use Rattle.cxl_topo.specs.Tree.{is_endpoint_at}
@@ -16,7 +16,7 @@ use Rattle.cxl_model.specs.Accepted.{IsAccepted, IsWhole}
 use Rattle.cxl_model.specs.Regions.{region_range, LeadsTo, HasSpan, IsRegionIn}
 use Rattle.cxl_model.specs.Plans.{AgreesOnCode, AreRowsOf, IsRow, IsLegalPlanIn, plan_code, with_rows}
 use Rattle.cxl_legal.specs.Used.{request_ways, is_used}
-use Rattle.cxl_legal.specs.Stated.{stated_rows, stated_start, planned_range, Reaches, at_endpoint, past_port, IsStatedPlace, IsStatedPlan}
+use Rattle.cxl_legal.specs.Stated.{stated_start, planned_range, Reaches, at_endpoint, past_port, IsStatedPlace, IsStatedPlan}
 use Rattle.cxl_legal.proofs.FittingServers.{asked_or}
 use Rattle.cxl_legal.proofs.StatedImages.{stated_image, Stated}
 use Rattle.cxl_legal.proofs.StatedRules.{whole, committed}

@@ -1,27 +1,26 @@
 -- With the stated rows of a request that fits committed, the new range is whole, and the image is accepted.
-use Rattle.std.proofs.Common.{◌≡◌, ◌≢◌, ◌↔◌, ℕ, ◌+◌, ◌-◌, ◌*◌, ◌%◌, ◌<◌, ◌≤◌, Bool, true, false, not, ◌&&◌, ◌||◌, if◌then◌else◌, get_or, Option, Some, None, refl, sym, ap, ◌∙◌, subst, inl, inr, eq-eqb, arith}
-use Rattle.std.specs.Prelude.{slice_get, ◌==◌}
+use Rattle.std.proofs.Common.{◌≡◌, ◌≢◌, ◌↔◌, ℕ, ◌-◌, ◌*◌, ◌%◌, ◌≤◌, Bool, true, false, not, ◌&&◌, ◌||◌, if◌then◌else◌, get_or, Option, Some, refl, sym, ap, ◌∙◌, subst, inl, inr, eq-eqb, arith}
+use Rattle.std.specs.Prelude.{◌==◌}
 use Rattle.std.specs.Option.{option_map_or}
-use Rattle.std.proofs.lemmas.Bool.{cases_Bool, cases_eq, and_from, or_left, or_right, ne_eqb, le-ltb, not_from_false, not_from_true}
+use Rattle.std.proofs.lemmas.Bool.{cases_Bool, cases_eq, and_from, or_left, or_right, ne_eqb, le-ltb, not_from_false}
 use Rattle.cxl_enc.specs.declared.caps.MemKind.{MemKind}
 use Rattle.cxl_enc.specs.Limits.{unit}
 use Rattle.cxl_topo.specs.Tree.{is_endpoint_at}
 use Rattle.cxl_regs.specs.declared.decoder.Decoder.{Decoder}
 use Rattle.cxl_regs.specs.declared.reading.Range.{Range}
-use Rattle.cxl_regs.specs.Reading.{committed_count, has_range}
+use Rattle.cxl_regs.specs.Reading.{committed_count}
 use Rattle.cxl_window.specs.Fields.{WindowFields}
 use Rattle.cxl_model.specs.declared.request.Request.{Request}
 use Rattle.cxl_model.specs.System.{System, decoders_at, decoder_at}
-use Rattle.cxl_model.specs.Ranges.{IsCommittedRange, window_for, span_kind}
+use Rattle.cxl_model.specs.Ranges.{IsCommittedRange, span_kind}
 use Rattle.cxl_model.specs.Rules.{starts_in_thirds, permits, keeps_window, keeps_targets, keeps_reach, keeps_ways}
 use Rattle.cxl_model.specs.Changes.{HaveSameDecoders}
 use Rattle.cxl_model.specs.Accepted.{breaks, breaks_at, IsAccepted, KeepsBlocks, IsWhole}
 use Rattle.cxl_model.specs.Plans.{committed_row}
-use Rattle.cxl_legal.specs.Bases.{base_step}
 use Rattle.cxl_legal.specs.Stated.{has_row, stated_row, planned_range}
 use Rattle.cxl_legal.proofs.FittingRules.{rule_nine, rule_ten, rule_eleven}
 use Rattle.cxl_legal.proofs.StatedImages.{stated_image, Stated}
-use Rattle.cxl_legal.proofs.StatedLands.{IsStatedAt, stated_at, row_parts, serves_row, targets_kept, reach_kept}
+use Rattle.cxl_legal.proofs.StatedLands.{stated_at, row_parts, serves_row, targets_kept, reach_kept}
 use Rattle.cxl_legal.proofs.StatedWays.{some_requested, is_requested, ways_kept}
 
 -- ---- K9
@@ -127,13 +126,16 @@ other_whole {s} {request} {w} {base} c stay others r other =
 
 pub accepted : {s : System} {request : Request} {w : WindowFields} {base : ℕ} → Stated s request w base → WholeLaw → StayLaw → OthersLaw s request w base → IsAccepted (stated_image s request w base)
 accepted {s} {request} {w} {base} c law stay others =
-    (law (stated_image s request w base)).1 (c.blocks, λ r is.
-    elim (cases_eq r.base base) [
-      | inl from ↦ elim (cases_eq r.size request.size) [
-        | inl long ↦
-            let same : r ≡ planned_range request base = λ k. record { base = from k; size = long k } in
-            subst (IsWhole (stated_image s request w base)) (sym same) (whole c)
-        | inr longer ↦ other_whole c stay others r (λ e. longer (ap (λ (x : Range). x.size) e))
-      ]
-      | inr apart ↦ other_whole c stay others r (λ e. apart (ap (λ (x : Range). x.base) e))
-    ])
+    (law (stated_image s request w base)).1 (
+      c.blocks,
+      λ r is.
+          elim (cases_eq r.base base) [
+            | inl from ↦ elim (cases_eq r.size request.size) [
+              | inl long ↦
+                  let same : r ≡ planned_range request base = λ k. record { base = from k; size = long k } in
+                  subst (IsWhole (stated_image s request w base)) (sym same) (whole c)
+              | inr longer ↦ other_whole c stay others r (λ e. longer (ap (λ (x : Range). x.size) e))
+            ]
+            | inr apart ↦ other_whole c stay others r (λ e. apart (ap (λ (x : Range). x.base) e))
+          ],
+    )

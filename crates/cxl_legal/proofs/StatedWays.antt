@@ -1,5 +1,5 @@
 -- Ways, kind and code of the new range with the stated rows committed, and that each stated decoder has them.
-use Rattle.std.proofs.Common.{◌≡◌, ◌≢◌, ℕ, zero, suc, ◌+◌, ◌*◌, ◌<◌, Bool, true, false, not, ◌&&◌, ◌||◌, if◌then◌else◌, List, [], ◌∷◌, length, get_or, map, Option, Some, None, unwrap_or, sum_by, refl, sym, ap, ◌∙◌, inl, inr, eq-eqb, arith}
+use Rattle.std.proofs.Common.{◌≡◌, ◌≢◌, ℕ, ◌+◌, ◌*◌, ◌<◌, Bool, true, false, not, ◌&&◌, ◌||◌, if◌then◌else◌, List, length, get_or, map, Option, Some, None, unwrap_or, sum_by, refl, sym, ap, ◌∙◌, inl, inr, eq-eqb, arith}
 use Rattle.std.specs.Prelude.{◌==◌, nat_lt, Contains}
 use Rattle.std.specs.Option.{option_map_or, option_and_then}
 use Rattle.std.specs.List.{filter_map, cons_option, range_with_len}
@@ -11,21 +11,21 @@ use Rattle.cxl_enc.specs.declared.caps.MemKind.{MemKind}
 use Rattle.cxl_enc.specs.declared.caps.MemKind.TheVariants.{Ram, Pmem}
 use Rattle.cxl_enc.specs.Codes.{bits_of}
 use Rattle.cxl_topo.specs.declared.node.Parent.{Parent}
-use Rattle.cxl_topo.specs.Tree.{forwards_at, is_endpoint_at, parent_of, ports_above}
+use Rattle.cxl_topo.specs.Tree.{forwards_at, is_endpoint_at, ports_above}
 use Rattle.cxl_regs.specs.declared.decoder.Decoder.{Decoder}
 use Rattle.cxl_regs.specs.declared.reading.Range.{Range}
 use Rattle.cxl_regs.specs.Reading.{committed_count, decoder_ways, select_bits}
 use Rattle.cxl_window.specs.Fields.{WindowFields}
 use Rattle.cxl_model.specs.declared.request.Request.{Request}
 use Rattle.cxl_model.specs.System.{System, decoders_at}
-use Rattle.cxl_model.specs.Ranges.{serves, decoder_for, index_for, window_for, ports_for, product, ways_above, bits_above, span_kind, same_kind, first_endpoint, first_decoder, range_ways, range_kind, range_code}
+use Rattle.cxl_model.specs.Ranges.{serves, decoder_for, index_for, ports_for, product, ways_above, bits_above, span_kind, same_kind, first_endpoint, first_decoder, range_ways, range_kind, range_code}
 use Rattle.cxl_model.specs.Rules.{keeps_ways, keeps_endpoint_ways, keeps_port_code}
 use Rattle.cxl_model.specs.Plans.{committed_row, plan_code}
 use Rattle.cxl_legal.specs.Used.{request_ways, is_used, count_under, used_ports, planned_ways, planned_ways_above, planned_bits_above, planned_code}
 use Rattle.cxl_legal.specs.Stated.{has_row, stated_row, planned_range}
-use Rattle.cxl_legal.proofs.FittingTrees.{under_self, up_tree, parent_is_port, ports_none, ports_some, forwards_no_endpoint}
+use Rattle.cxl_legal.proofs.FittingTrees.{under_self, up_tree, ports_none, ports_some, forwards_no_endpoint}
 use Rattle.cxl_legal.proofs.FittingServers.{some_ways}
-use Rattle.cxl_legal.proofs.FittingCounts.{is_number}
+use Rattle.cxl_legal.proofs.FittingCounts.{factor_one, is_number}
 use Rattle.cxl_legal.proofs.FittingPorts.{find_passes}
 use Rattle.cxl_legal.proofs.FittingUsed.{endpoint_own}
 use Rattle.cxl_legal.proofs.RowsUsed.{used_kind}
@@ -33,10 +33,10 @@ use Rattle.cxl_legal.proofs.RowsDecoders.{own_code}
 use Rattle.cxl_legal.proofs.RowsOthers.{found_some}
 use Rattle.cxl_legal.proofs.UsedNodes.{used_by, used_parent, used_child}
 use Rattle.cxl_legal.proofs.StatedImages.{stated_image, Stated}
-use Rattle.cxl_legal.proofs.UsedPorts.{forwarding_ports}
-use Rattle.cxl_legal.proofs.StatedPorts.{port_ways, ways_stated}
+use Rattle.cxl_legal.proofs.UsedPorts.{port_ways, forwarding_ports}
+use Rattle.cxl_legal.proofs.StatedPorts.{ways_stated}
 use Rattle.cxl_legal.proofs.StatedCounts.{requested_within, count_child, count_down, endpoint_ways}
-use Rattle.cxl_legal.proofs.StatedLands.{own_row, row_parts, row_decoder, no_row_decoder, row_index, serves_row, used_in}
+use Rattle.cxl_legal.proofs.StatedLands.{gets_row, row_parts, row_decoder, no_row_decoder, row_index, serves_row, used_in}
 
 -- ---- the ports above a used node
 
@@ -62,7 +62,7 @@ step_is {s} {request} {w} {base} c p used =
             bits = ap (λ (o : Option Decoder). sum_by (λ d. select_bits d.ways) (cons_option o above)) none ∙ sym (ap (λ (k : ℕ). bits_of k + sum_by (λ (d : Decoder). select_bits d.ways) above) single ∙ omega arith);
           }
       | inr own ↦
-          let some = row_decoder c p.node (own_row s request p.node used own) in
+          let some = row_decoder c p.node (gets_row s request p.node used own) in
           let code = own_code c.lower c.spans s request w base c.fits p.node used in
           record {
             ways = ap (λ (o : Option Decoder). product (map decoder_ways (cons_option o above))) some ∙ ap (λ (k : ℕ). k * product (map decoder_ways above)) code.ways;
@@ -120,7 +120,7 @@ pub is_requested : {s : System} {request : Request} {w : WindowFields} {base : �
 is_requested {s} {request} c m there =
     let is = requested_within c m there in
     let used = used_by s request m m there (under_self c.known m) in
-    record { endpoint = is.0; used = used; row = own_row s request m used (endpoint_own c.known m is.0); within = is.1 }
+    record { endpoint = is.0; used = used; row = gets_row s request m used (endpoint_own c.known m is.0); within = is.1 }
 
 pub endpoint_stated : {s : System} {request : Request} {w : WindowFields} {base : ℕ} → Stated s request w base → (m : ℕ) → is_endpoint_at s.nodes m ≡ true → is_used s request m ≡ true
     → decoder_ways (committed_row (stated_row s request w base m)) ≡ request_ways request
@@ -238,11 +238,6 @@ endpoint_kept {s} {request} {w} {base} c m endpoint used there =
     ways : decoder_ways own ≡ request_ways request
     ways = endpoint_stated c m endpoint used
 
-one_factor : (p k : ℕ) → p * k ≡ 1 → p ≡ 1
-one_factor p zero is = absurd (omega (arith, is))
-one_factor zero (suc k) is = absurd (omega (arith, is))
-one_factor (suc p) (suc k) is = omega (arith, is)
-
 -- where a port has more than one way, so has the request
 more_ways : {s : System} {request : Request} {w : WindowFields} {base : ℕ} → Stated s request w base → (n : ℕ) → is_endpoint_at s.nodes n ≡ false → is_used s request n ≡ true → planned_ways s request n ≢ 1 → request_ways request ≢ 1
 more_ways {s} {request} {w} {base} c n port used more single =
@@ -250,7 +245,7 @@ more_ways {s} {request} {w} {base} c n port used more single =
     let own : count_under s request n ≡ length (used_ports s request n) * count_under s request next.child = count_child c next.child (record { node = n; port = next.port }) next.parent next.used in
     let down = count_down c n (used_in c n used) used in
     more (port_ways s request n port
-    ∙ one_factor (length (used_ports s request n)) (count_under s request next.child * (planned_ways_above s request n * w.ways))
+    ∙ factor_one (length (used_ports s request n)) (count_under s request next.child * (planned_ways_above s request n * w.ways))
     (sym (mul_assoc (length (used_ports s request n)) (count_under s request next.child) (planned_ways_above s request n * w.ways)) ∙ ap (λ (k : ℕ). k * (planned_ways_above s request n * w.ways)) (sym own) ∙ down ∙ single))
 
 port_kept : {s : System} {request : Request} {w : WindowFields} {base : ℕ} → Stated s request w base → (n : ℕ) → is_endpoint_at s.nodes n ≡ false → is_used s request n ≡ true

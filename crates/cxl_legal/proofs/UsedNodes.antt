@@ -1,9 +1,8 @@
 -- The used nodes of a tree: what stands above one is used, and so is a child of each that is no endpoint.
-use Rattle.std.proofs.Common.{◌≡◌, ℕ, ◌<◌, true, false, ◌||◌, List, length, Option, Some, None, refl, sym, ap, ◌∙◌, inl, inr, arith}
-use Rattle.std.specs.Prelude.{slice_get, ◌==◌, Contains}
-use Rattle.std.specs.List.{list_any}
-use Rattle.std.proofs.lemmas.Bool.{cases_Bool, or_cases, or_left, or_right, eqb-true, eq-eqb, false≢true}
-use Rattle.std.proofs.lemmas.Option.{none-some, same_Some}
+use Rattle.std.proofs.Common.{◌≡◌, ℕ, ◌<◌, true, false, List, length, Some, None, sym, ap, ◌∙◌, inl, inr, arith}
+use Rattle.std.specs.Prelude.{◌==◌, Contains}
+use Rattle.std.proofs.lemmas.Bool.{cases_Bool, or_cases, or_right, eqb-true, false≢true}
+use Rattle.std.proofs.lemmas.Option.{none-some}
 use Rattle.std.proofs.lemmas.List.Elements.{All-contains}
 use Rattle.std.proofs.lemmas.List.Folds.{Any-from_list_any, list_any-from_Any}
 use Rattle.cxl_topo.specs.declared.node.Node.{Node}
@@ -13,7 +12,7 @@ use Rattle.cxl_model.specs.declared.request.Request.{Request}
 use Rattle.cxl_model.specs.System.{System}
 use Rattle.cxl_model.specs.Counts.{is_under}
 use Rattle.cxl_legal.specs.Used.{AreEndpoints, is_used}
-use Rattle.cxl_legal.proofs.FittingTrees.{KnownTree, under_self, under_parent, parent_is_port, up_tree, under_root, under_step, under_is, is_above, above_root, above_step, root_of, root_root, root_step}
+use Rattle.cxl_legal.proofs.FittingTrees.{KnownTree, under_self, under_parent, parent_is_port, up_tree, under_step, under_is, is_above, above_root, above_step, root_of, root_root, root_step}
 
 -- ---- ways down
 
@@ -42,12 +41,12 @@ child_to {nodes} known n =
 -- ---- used nodes
 
 -- a requested endpoint under a node
-pub record Requested (s : System) (request : Request) (n : ℕ) : Type 0 where
+pub record EndpointUnder (s : System) (request : Request) (n : ℕ) : Type 0 where
   pub m : ℕ
   pub there : Contains request.endpoints m
   pub under : is_under s.nodes n m ≡ true
 
-pub requested_under : (s : System) (request : Request) (n : ℕ) → is_used s request n ≡ true → Requested s request n
+pub requested_under : (s : System) (request : Request) (n : ℕ) → is_used s request n ≡ true → EndpointUnder s request n
 requested_under s request n used =
     let some = Any-from_list_any (is_under s.nodes n) request.endpoints used in
     record { m = some.1; there = (some.0, some.2, some.3); under = some.4 }

@@ -1,37 +1,28 @@
 -- The used ports of a node: in rising order, with a used child at each, and one at a node that forwards.
-use Rattle.std.proofs.Common.{◌≡◌, ℕ, zero, suc, ◌*◌, ◌+◌, ◌-◌, ◌/◌, ◌%◌, ◌^◌, ◌<◌, ◌≤◌, Bool, true, false, not, ◌&&◌, List, [], ◌∷◌, length, get_or, map, Option, Some, None, refl, sym, ap, ◌∙◌, inl, inr, eq-eqb, arith}
-use Rattle.std.specs.Prelude.{slice_get, ◌==◌, nat_le, All}
+use Rattle.std.proofs.Common.{◌≡◌, ℕ, ◌<◌, ◌≤◌, true, false, ◌&&◌, length, Option, Some, None, refl, sym, ap, ◌∙◌, eq-eqb, arith}
+use Rattle.std.specs.Prelude.{◌==◌, nat_le, All}
 use Rattle.std.specs.Option.{option_map_or}
 use Rattle.std.specs.List.{list_any, range_with_len}
-use Rattle.std.proofs.Math.Nat.{pow-succ', div-div-eq-div-mul}
-use Rattle.std.proofs.lemmas.Bool.{and_parts, and_from, cond-false, eqb-true, false≢true}
-use Rattle.std.proofs.lemmas.Option.{slice_get_within, get_or_from_slice_get, same_Some}
-use Rattle.std.proofs.lemmas.List.{same_lists}
-use Rattle.std.proofs.lemmas.List.Elements.{All-head, All-tail, All-filter, filter_passes}
-use Rattle.std.proofs.lemmas.List.Folds.{Any-from_list_any}
-use Rattle.std.proofs.lemmas.List.FromFn.{length-range_with_len, get_or-range_with_len, length-map-range_with_len, get_or-map-range_with_len}
+use Rattle.std.proofs.lemmas.Bool.{leb-true, and_parts, and_from, cond-false, false≢true}
+use Rattle.std.proofs.lemmas.Option.{same_Some}
+use Rattle.std.proofs.lemmas.List.Elements.{All-filter, filter_passes}
+use Rattle.std.proofs.lemmas.List.FromFn.{length-range_with_len, get_or-range_with_len}
 use Rattle.std.proofs.lemmas.List.Kept.{AllPairs-filter}
-use Rattle.cxl_enc.specs.Caps.{is_target_count}
+use Rattle.cxl_enc.specs.Caps.{targets_of, is_target_count}
 use Rattle.cxl_topo.specs.declared.node.Parent.{Parent}
 use Rattle.cxl_topo.specs.Tree.{forwards_at, is_endpoint_at, is_port_at, parent_of, child_of}
-use Rattle.cxl_regs.specs.declared.decoder.Decoder.{Decoder}
-use Rattle.cxl_regs.specs.Reading.{decoder_ways, entry_at, entries_of}
-use Rattle.cxl_span.specs.Allotting.{cursor_of}
-use Rattle.cxl_window.specs.Fields.{WindowFields}
 use Rattle.cxl_model.specs.declared.request.Request.{Request}
-use Rattle.cxl_model.specs.System.{System, decoders_at}
+use Rattle.cxl_model.specs.System.{System}
 use Rattle.cxl_model.specs.Rules.{are_distinct}
-use Rattle.cxl_model.specs.Plans.{committed_row}
 use Rattle.cxl_legal.specs.Used.{HasBytePorts, AreEndpoints, request_ways, is_used, is_port_used, used_ports, planned_ways}
-use Rattle.cxl_legal.specs.Endpoints.{has_even_ports, has_even_children, has_bridge_share}
-use Rattle.cxl_legal.specs.Stated.{targets_word, stated_start, stated_tail, stated_row}
-use Rattle.cxl_legal.proofs.FittingTrees.{KnownTree, port_no_endpoint, forwards_no_endpoint}
+use Rattle.cxl_legal.specs.Endpoints.{FitsEndpoints, cap_at, has_even_ports, has_even_children, has_bridge_share}
+use Rattle.cxl_legal.proofs.FittingTrees.{KnownTree, forwards_no_endpoint}
 use Rattle.cxl_legal.proofs.FittingSums.{one, length-filter-total, once}
 use Rattle.cxl_legal.proofs.FittingCounts.{numbers_differ, is_number}
 use Rattle.cxl_legal.proofs.FittingTargets.{distinct_test}
-use Rattle.cxl_legal.proofs.FittingServers.{passes_one}
-use Rattle.cxl_legal.proofs.RowsUsed.{kept_at, number_at, numbers_rise}
-use Rattle.cxl_legal.proofs.UsedNodes.{UsedChild, used_child}
+use Rattle.cxl_legal.proofs.FittingServers.{asked, passes_one}
+use Rattle.cxl_legal.proofs.RowsUsed.{filter_keeps, number_at, numbers_rise}
+use Rattle.cxl_legal.proofs.UsedNodes.{used_child}
 
 -- ---- used ports
 
@@ -56,7 +47,7 @@ port_child s request known n e used = go (child_of s.nodes n e) refl used
 -- a used port stands in the list of them
 pub listed_port : (s : System) (request : Request) (n e : ℕ) → e < 256 → is_port_used s request n e ≡ true → list_any (λ x. x == e) (used_ports s request n) ≡ true
 listed_port s request n e low used =
-    let kept = kept_at (is_port_used s request n) (range_with_len 0 256) e e (number_at 256 e low) used in
+    let kept = filter_keeps (is_port_used s request n) (range_with_len 0 256) e e (number_at 256 e low) used in
     passes_one (λ x. x == e) (used_ports s request n) kept.0 e kept.1 (eq-eqb e e refl)
 
 pub ports_pass : (s : System) (request : Request) (n : ℕ) → All (λ e. is_port_used s request n e ≡ true) (used_ports s request n)
@@ -96,3 +87,24 @@ forwarding_ports s request known ports named n forwards used =
         let right = port_child s request known n b second in
         let equal : left.child ≡ right.child = known.tree.forwarding left.child right.child (record { node = n; port = a }) (record { node = n; port = b }) left.parent right.parent refl forwards in
         ap (λ (p : Parent). p.port) (same_Some (record { node = n; port = a }) (record { node = n; port = b }) (sym left.parent ∙ ap (parent_of s.nodes) equal ∙ right.parent))
+
+-- the ways that a port would have
+pub port_ways : (s : System) (request : Request) (n : ℕ) → is_endpoint_at s.nodes n ≡ false → planned_ways s request n ≡ length (used_ports s request n)
+port_ways s request n port = cond-false (is_endpoint_at s.nodes n) (request_ways request) (length (used_ports s request n)) port
+
+-- ---- how evenly requested endpoints lie
+
+pub record Even (s : System) (request : Request) (n : ℕ) : Type 0 where
+  pub count : is_target_count (length (used_ports s request n)) ≡ true
+  pub few : length (used_ports s request n) ≤ targets_of (cap_at s n)
+  pub children : has_even_children s request n ≡ true
+  pub share : has_bridge_share s request n ≡ true
+
+pub even_at : (s : System) (request : Request) → FitsEndpoints s request → (n : ℕ) → is_port_at s.nodes n ≡ true → is_used s request n ≡ true → Even s request n
+even_at s request fits n port used =
+    let all = asked (is_port_at s.nodes n && is_used s request n) (has_even_ports s request n && has_even_children s request n && has_bridge_share s request n) (fits.even n)
+    (and_from (is_port_at s.nodes n) (is_used s request n) port used) in
+    let outer = and_parts (has_even_ports s request n && has_even_children s request n) (has_bridge_share s request n) all in
+    let inner = and_parts (has_even_ports s request n) (has_even_children s request n) outer.0 in
+    let parts = and_parts (is_target_count (length (used_ports s request n))) (nat_le (length (used_ports s request n)) (targets_of (cap_at s n))) inner.0 in
+    record { count = parts.0; few = leb-true (length (used_ports s request n)) (targets_of (cap_at s n)) parts.1; children = inner.1; share = outer.1 }

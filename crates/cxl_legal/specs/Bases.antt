@@ -1,5 +1,5 @@
 -- Where a new region may start in a window (this project's rules).
-use Rattle.std.specs.Prelude.{◌≡◌, ℕ, ◌+◌, ◌-◌, ◌*◌, ◌%◌, ◌≤◌, ◌==◌, true, if◌then◌else◌, slice_get}
+use Rattle.std.specs.Prelude.{◌≡◌, ℕ, ◌+◌, ◌-◌, ◌*◌, ◌%◌, ◌≤◌, ◌==◌, true, if◌then◌else◌}
 use Rattle.std.specs.Option.{option_map_or}
 use Rattle.cxl_enc.specs.Limits.{unit}
 use Rattle.cxl_regs.specs.Reading.{committed_count}

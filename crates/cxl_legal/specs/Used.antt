@@ -1,5 +1,5 @@
 -- The nodes and ports of a tree that lead to the endpoints of a request (this project's rules).
-use Rattle.std.specs.Prelude.{◌≡◌, ℕ, ◌+◌, ◌*◌, ◌==◌, nat_lt, ◌&&◌, Bool, true, false, if◌then◌else◌, List, length, filter, sum_by, map, unwrap_or, Some, All, ◌<◌}
+use Rattle.std.specs.Prelude.{◌≡◌, ℕ, ◌+◌, ◌==◌, Bool, true, false, if◌then◌else◌, List, length, filter, sum_by, map, unwrap_or, Some, All, ◌<◌}
 use Rattle.std.specs.Option.{option_map_or}
 use Rattle.std.specs.List.{list_any, range_with_len}
 use Rattle.cxl_enc.specs.Codes.{bits_of, code_in_table}

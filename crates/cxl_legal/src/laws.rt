@@ -20,7 +20,9 @@ ghost use Rattle.cxl_legal.specs.Windows.{FitsWindow};
 ghost use Rattle.cxl_legal.specs.Bases.{FitsBase};
 ghost use Rattle.cxl_legal.specs.Stated.{has_row, stated_row, stated_rows, stated_start, planned_range, IsStatedPlan, Fits};
 
-use cxl_model::{accepted_where_whole, endpoints_lie_evenly, one_window, regions_stay, slots_are_endpoints};
+use cxl_model::{
+    accepted_where_whole, endpoints_lie_evenly, one_window, regions_stay, slots_are_endpoints,
+};
 use cxl_span::{committed_stand_first, ranges_rise, spans_are_whole, spans_lie_in_partitions};
 use cxl_topo::tree_laws;
 
