@@ -89,8 +89,8 @@ pub fn stated_rows_keep_blocks()
     one_window();
 }
 
-/// A law of plans: where a request keeps all that it has to over an accepted image, the plan that is stated for it
-/// is legal.
+/// A law of plans: where a request keeps all that it has to over an accepted image, the image with its stated rows
+/// committed is accepted, each plan that is stated for it is legal, and there is one.
 pub fn fitting_plans_are_legal()
     ensures accepted { (s : System) (request : Request) (w : WindowFields) (base : ℕ) → Fits s request w base
         → IsAccepted (with_rows s (stated_rows s request w base)) }
