@@ -1,4 +1,4 @@
--- The used ports of the nodes of a request that fits, and the target list that is stated for them.
+-- The target list that is stated for the used ports of a node, and the ways that stand in its decoder.
 use Rattle.std.proofs.Common.{◌≡◌, ℕ, zero, suc, ◌*◌, ◌+◌, ◌-◌, ◌/◌, ◌%◌, ◌^◌, ◌<◌, true, false, List, [], ◌∷◌, length, get_or, map, Some, refl, sym, ap, ◌∙◌, arith}
 use Rattle.std.specs.Prelude.{slice_get, All}
 use Rattle.std.specs.List.{range_with_len}

@@ -1,4 +1,4 @@
--- The used ports of a node: in rising order, with a used child at each, and one at a node that forwards.
+-- The used ports of a node: in rising order, a used child at each, one at a node that forwards, and how evenly requested endpoints lie under them.
 use Rattle.std.proofs.Common.{◌≡◌, ℕ, ◌<◌, ◌≤◌, true, false, ◌&&◌, length, Option, Some, None, refl, sym, ap, ◌∙◌, eq-eqb, arith}
 use Rattle.std.specs.Prelude.{◌==◌, nat_le, All}
 use Rattle.std.specs.Option.{option_map_or}
