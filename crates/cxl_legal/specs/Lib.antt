@@ -1,0 +1,6 @@
+pub mod Used
+pub mod Endpoints
+pub mod Windows
+pub mod Bases
+pub mod Stated
+pub mod Examples
