@@ -13,7 +13,7 @@ mod way;
 
 pub use cxl_model::{Miss, Step};
 pub use downward::down;
-pub use kept::Kept;
+pub use kept::{Kept, kept_routes_stay};
 pub use route::Route;
 pub use upward::{Host, up};
 
