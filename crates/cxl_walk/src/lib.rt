@@ -16,8 +16,3 @@ pub use downward::down;
 pub use kept::{Kept, kept_routes_stay};
 pub use route::Route;
 pub use upward::{Host, up};
-
-#[cfg(test)]
-mod hosts;
-#[cfg(test)]
-mod tests;
