@@ -1,10 +1,8 @@
-use Rattle.std.proofs.Common.{◌≡◌, ℕ, ◌+◌, ◌<◌, ◌≤◌, Some}
-use Rattle.std.specs.Prelude.{slice_get, ◌↔◌}
+use Rattle.std.proofs.Common.{ℕ, ◌+◌, ◌<◌, ◌≤◌}
 use Rattle.cxl_window.specs.Fields.{WindowFields}
 use Rattle.cxl_model.specs.declared.found.Found.{Found}
 use Rattle.cxl_model.specs.System.{System}
 use Rattle.cxl_model.specs.Chain.{Outcome, Routed, Chain}
-use Rattle.cxl_walk.specs.declared.route.Route.{Route}
 use Rattle.cxl_walk.specs.Routes.{routing_of}
 use Rattle.cxl_walk.specs.Keeping.{KeptFields, IsSlotRoute, IsKept}
 use Rattle.cxl_walk.proofs.kept.kept_routes_stay.Goals as goal
@@ -24,6 +22,6 @@ stays s t w found kept same is = record {
 
 pub returns : goal.returns
 returns c = λ s t w found kept system other same keeps is. (
-      stays s t w found kept (λ h outcome from below. (c.routes_stay.ensures.chain s t w found h outcome system other same keeps is from below).0),
-      stays t s w found kept (λ h outcome from below. (c.routes_stay.ensures.chain s t w found h outcome system other same keeps is from below).1),
-    )
+  stays s t w found kept (λ h outcome from below. (c.routes_stay.ensures.chain s t w found h outcome system other same keeps is from below).0),
+  stays t s w found kept (λ h outcome from below. (c.routes_stay.ensures.chain s t w found h outcome system other same keeps is from below).1),
+)

@@ -3,10 +3,7 @@ use Rattle.std.specs.Prelude.{IsSome, IfSome, IfNone}
 use Rattle.cxl_window.specs.Fields.{WindowFields}
 use Rattle.cxl_model.specs.declared.found.Found.{Found}
 use Rattle.cxl_model.specs.System.{System, IsSystem, system_of}
-use Rattle.cxl_model.specs.Chain.{Routing}
-use Rattle.cxl_model.specs.Accepted.{IsAccepted}
-use Rattle.cxl_model.specs.Regions.{IsRegionIn, Carries}
-use Rattle.cxl_model.specs.Bytes.{LiesInSpan}
+use Rattle.cxl_model.specs.Regions.{Carries}
 use Rattle.cxl_walk.specs.declared.upward.Host.{Host}
 use Rattle.cxl_walk.specs.Hosts.{ComesTo, HasNoHost, IsLeastHost}
 use Rattle.cxl_walk.proofs.upward.up.Goals as goal
