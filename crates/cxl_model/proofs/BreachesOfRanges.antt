@@ -35,7 +35,7 @@ kept_at_none s rule n i high none = from_nine (λ b. b ≡ false) s rule n i hig
 kept_at_other : (s : System) (rule n i : ℕ) (d : Decoder) → 9 ≤ rule → decoder_at s n i ≡ Some d → d.committed ≡ false → breaks s rule n i ≡ false
 kept_at_other s rule n i d high here other = from_nine (λ b. b ≡ false) s rule n i high (λ keeps. rw (here, other) refl) refl
 
-has_own_range : (d : Decoder) → d.committed ≡ true → has_range (range_of d) d ≡ true
+pub has_own_range : (d : Decoder) → d.committed ≡ true → has_range (range_of d) d ≡ true
 has_own_range d committed = rw (committed, eq-eqb d.base d.base refl, eq-eqb d.size d.size refl) refl
 
 pub passes_one : {X : Type 0} (p : X → Bool) (xs : List X) (i : ℕ) (x : X) → slice_get xs i ≡ Some x → p x ≡ true → list_any p xs ≡ true

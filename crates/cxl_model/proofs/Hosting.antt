@@ -1,7 +1,7 @@
 -- Where K1 holds, a host is a system, and K1 holds of each system.
 use Rattle.std.proofs.Common.{◌≡◌, ℕ, zero, suc, ◌<◌, Bool, true, false, not, ◌&&◌, List, [], ◌∷◌, length, Some, refl, sym, subst, ◌∙◌, inl, inr, arith}
 use Rattle.std.specs.Prelude.{slice_get, ◌==◌, nat_lt}
-use Rattle.std.proofs.lemmas.Bool.{and_parts, eqb-true, eq-eqb, ne_eqb, cases_Bool, cases_lt, false≢true}
+use Rattle.std.proofs.lemmas.Bool.{and_parts, eqb-true, eq-eqb, cases_Bool, cases_lt, false≢true}
 use Rattle.std.proofs.lemmas.Option.{get_or_from_slice_get, slice_get_within, slice_get_past}
 use Rattle.cxl_enc.specs.Caps.{is_legal_cap, has_named_bits, targets_of, is_target_count}
 use Rattle.cxl_topo.specs.declared.node.Node.{Node}

@@ -25,6 +25,7 @@ pub mod SpansShared
 pub mod Staying
 pub mod Carrying
 pub mod SpansListed
+pub mod SpansCommitted
 pub mod CarryingPieces
 pub mod DealingNumbers
 pub mod DealingNodes
@@ -33,4 +34,5 @@ pub mod DealingPositions
 pub mod DealingEnds
 pub mod DealingRoutes
 pub mod DealingRanges
+pub mod DealingStays
 pub mod Hosting

@@ -129,17 +129,17 @@ same_start xs ys p i d keeps at passes =
 -- ---- what two images have in common
 
 -- the kind of the span by which a node serves the range
-abbrev own_kind : System → Range → ℕ → MemKind
+abbrev pub own_kind : System → Range → ℕ → MemKind
 own_kind s r n = option_map_or (span_kind s n) (index_for s r n) Ram
 
-record Common (s t : System) (r : Range) : Type 0 where
-  nodes : t.nodes ≡ s.nodes
-  windows : t.windows ≡ s.windows
-  serve : serves t r ≡ serves s r
-  decode : decoder_for t r ≡ decoder_for s r
-  number : index_for t r ≡ index_for s r
-  list : lists t r ≡ lists s r
-  kinds : own_kind t r ≡ own_kind s r
+pub record Common (s t : System) (r : Range) : Type 0 where
+  pub nodes : t.nodes ≡ s.nodes
+  pub windows : t.windows ≡ s.windows
+  pub serve : serves t r ≡ serves s r
+  pub decode : decoder_for t r ≡ decoder_for s r
+  pub number : index_for t r ≡ index_for s r
+  pub list : lists t r ≡ lists s r
+  pub kinds : own_kind t r ≡ own_kind s r
 
 keeps_up_to : (s t : System) (r : Range) (n : ℕ) → KeepsDecoders s t r → KeepsUpTo (has_range r) (decoders_at s n) (decoders_at t n)
 keeps_up_to s t r n keeps = λ i j d at has below. keeps n i j d at has below
@@ -167,7 +167,7 @@ same_kinds s t r same n i d there has =
     let nodes = same.nodes in
     λ k. kind_by (nodes k) n (start k) (here k)
 
-common : (s t : System) (r : Range) → HaveSameDecoders s t r → Common s t r
+pub common : (s t : System) (r : Range) → HaveSameDecoders s t r → Common s t r
 common s t r same = record {
   nodes = same.nodes;
   windows = same.windows;
@@ -190,7 +190,7 @@ common s t r same = record {
 -- ---- ways, kinds and codes
 
 -- the decoders of the range in the ports above a node
-abbrev ports_by : List Node → (ℕ → Option Decoder) → ℕ → List Decoder
+abbrev pub ports_by : List Node → (ℕ → Option Decoder) → ℕ → List Decoder
 ports_by nodes decode n = filter_map (λ parent. decode parent.node) (ports_above nodes n)
 
 abbrev first_by : List Node → (ℕ → Bool) → Option ℕ

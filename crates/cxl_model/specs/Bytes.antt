@@ -1,7 +1,11 @@
--- The device bytes of a region.
-use Rattle.std.specs.Prelude.{◌≡◌, ℕ, ◌+◌, ◌/◌, ◌<◌, ◌≤◌, slice_get, Some}
+-- The device bytes of regions, and of committed decoders.
+use Rattle.std.specs.Prelude.{◌≡◌, ℕ, ◌+◌, ◌/◌, ◌<◌, ◌≤◌, true, slice_get, Some}
+use Rattle.cxl_regs.specs.declared.decoder.Decoder.{Decoder}
+use Rattle.cxl_regs.specs.Reading.{span_length}
+use Rattle.cxl_span.specs.Spans.{span_start_of}
 use Rattle.cxl_model.specs.declared.found.Found.{Found}
 use Rattle.cxl_model.specs.declared.found.Place.{Place}
+use Rattle.cxl_model.specs.System.{System, decoders_at, decoder_at}
 
 -- how many bytes of a device each slot has
 abbrev pub slot_length : Found → ℕ
@@ -15,3 +19,12 @@ pub record LiesInSpan (found : Found) (endpoint dpa : ℕ) : Type 0 where
   pub here : place.endpoint ≡ endpoint
   pub from : place.start ≤ dpa
   pub below : dpa < place.start + slot_length found
+
+-- it lies in the span of one of the committed decoders of the endpoint
+pub record LiesInCommittedSpan (s : System) (endpoint dpa : ℕ) : Type 0 where
+  pub i : ℕ
+  pub d : Decoder
+  pub there : decoder_at s endpoint i ≡ Some d
+  pub committed : d.committed ≡ true
+  pub from : span_start_of (decoders_at s endpoint) i ≤ dpa
+  pub below : dpa < span_start_of (decoders_at s endpoint) i + span_length d

@@ -1,19 +1,20 @@
 //! Laws of where the chains of host bytes go, each the contract of a function that does nothing.
 
-ghost use Rattle.std.specs.Prelude.{◌≡◌, ℕ, ◌+◌, ◌<◌, ◌≤◌};
+ghost use Rattle.std.specs.Prelude.{◌≡◌, ◌↔◌, ℕ, ◌+◌, ◌<◌, ◌≤◌};
 ghost use Rattle.cxl_window.specs.Fields.{WindowFields};
 ghost use Rattle.cxl_model.specs.declared.found.Found.{Found};
 ghost use Rattle.cxl_model.specs.System.{System, IsSystem};
 ghost use Rattle.cxl_model.specs.Chain.{Routing, ChainEnd, Routed, Chain};
 ghost use Rattle.cxl_regs.specs.declared.reading.Range.{Range};
 ghost use Rattle.cxl_model.specs.Ranges.{IsCommittedRange};
-ghost use Rattle.cxl_model.specs.Accepted.{IsAccepted};
-ghost use Rattle.cxl_model.specs.Regions.{IsRegionIn, Carries};
+ghost use Rattle.cxl_model.specs.Accepted.{IsAccepted, KeepsBlocks};
+ghost use Rattle.cxl_model.specs.Regions.{region_range, IsRegionIn, Carries};
 ghost use Rattle.cxl_model.specs.Dealing.{IsDealtRoute};
+ghost use Rattle.cxl_model.specs.Changes.{HaveSameDecoders};
 
 use crate::laws::{accepted_where_whole, chains_have_one_end};
 use crate::regions::{
-    bytes_are_carried_one_to_one, regions_share_no_byte, weaves_fill_their_regions,
+    bytes_are_carried_one_to_one, regions_share_no_byte, regions_stay, weaves_fill_their_regions,
     whole_ranges_have_one_region,
 };
 use cxl_deal::{region_fills_slots, slots_keep_entries, slots_keep_positions};
@@ -72,4 +73,19 @@ pub fn routes_are_of_regions()
     chain_is_the_dealing();
     routes_lie_in_ranges();
     bytes_are_carried_one_to_one();
+}
+
+/// A law of changes: images with the same decoders of a region's range deal its host bytes the same routes; and
+/// where the second image keeps K1 to K8, the chain of each of these bytes is the same in both.
+pub fn routes_stay()
+    ensures dealt { (s t : System) (w : WindowFields) (found : Found) (h : ℕ) (route : Routing)
+        → HaveSameDecoders s t (region_range found)
+        → (IsDealtRoute s w found h route) ↔ (IsDealtRoute t w found h route) }
+    ensures chain { (s t : System) (w : WindowFields) (found : Found) (h : ℕ) (outcome : ChainEnd) → IsSystem s
+        → IsSystem t → HaveSameDecoders s t (region_range found) → KeepsBlocks t
+        → IsRegionIn s w found → found.base ≤ h → h < found.base + found.size
+        → (Chain s h outcome) ↔ (Chain t h outcome) }
+{
+    regions_stay();
+    chain_is_the_dealing();
 }

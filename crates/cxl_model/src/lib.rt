@@ -22,6 +22,7 @@ pub use cxl_regs::Range;
 pub use cxl_span::{Room, SpanFault};
 pub use dealing::{
     carries_where_chain_ends, chain_is_the_dealing, routes_are_of_regions, routes_lie_in_ranges,
+    routes_stay,
 };
 pub use device::capacity_at;
 pub use examples::{
@@ -37,9 +38,9 @@ pub use plan::{Plan, PlanFault, Reason, Row};
 pub use poison::{Entry, Part, PoisonList, Poisoned, Run, Wide};
 pub use region_examples::{changes_on_examples, endpoints_on_examples, spans_on_examples};
 pub use regions::{
-    bytes_are_carried_one_to_one, endpoints_lie_evenly, pieces_are_carried_whole,
-    regions_are_listed, regions_share_no_byte, regions_stay, slots_are_endpoints,
-    weaves_fill_their_regions, whole_ranges_have_one_region,
+    bytes_are_carried_one_to_one, committed_spans_are_of_regions, endpoints_lie_evenly,
+    pieces_are_carried_whole, regions_are_listed, regions_share_no_byte, regions_stay,
+    slots_are_endpoints, weaves_fill_their_regions, whole_ranges_have_one_region,
 };
 pub use request::Request;
 

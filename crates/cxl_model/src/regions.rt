@@ -5,6 +5,7 @@ ghost use Rattle.std.specs.Prelude.{◌≡◌, ℕ, ◌+◌, ◌-◌, ◌*◌, �
 ghost use Rattle.cxl_num.specs.Interleave.{chunk_size};
 ghost use Rattle.cxl_deal.specs.Weaves.{IsWeave, weave_ways, turns_end};
 ghost use Rattle.cxl_regs.specs.declared.decoder.Decoder.{Decoder};
+ghost use Rattle.cxl_topo.specs.Tree.{is_endpoint_at};
 ghost use Rattle.cxl_span.specs.Partitions.{lies_in};
 ghost use Rattle.cxl_span.specs.Spans.{span_start_of};
 ghost use Rattle.cxl_window.specs.Fields.{WindowFields};
@@ -18,12 +19,13 @@ ghost use Rattle.cxl_model.specs.Rules.{lands_on};
 ghost use Rattle.cxl_model.specs.Accepted.{IsAccepted, KeepsBlocks, IsWhole, breaks};
 ghost use Rattle.cxl_model.specs.Regions.{region_range, IsRegionIn, weave_fields, Carries};
 ghost use Rattle.cxl_model.specs.Counts.{is_endpoint_of, endpoints_of, endpoints_under};
-ghost use Rattle.cxl_model.specs.Bytes.{slot_length, LiesInSpan};
+ghost use Rattle.cxl_model.specs.Bytes.{slot_length, LiesInSpan, LiesInCommittedSpan};
 ghost use Rattle.cxl_model.specs.Changes.{HaveSameDecoders};
 ghost use Rattle.cxl_model.specs.Listed.{AreRegions, AreRegionsByBase};
 
+use crate::laws::accepted_where_whole;
 use cxl_deal::{chunks_deal_whole, place_tells_address, region_fills_slots};
-use cxl_span::{ranges_rise, spans_are_whole, spans_follow, spans_lie_in_partitions};
+use cxl_span::{one_holder, ranges_rise, spans_are_whole, spans_follow, spans_lie_in_partitions};
 use cxl_topo::tree_laws;
 
 /// A law of counts: under a node to which a whole range leads lie as many of its endpoints as its ways divided
@@ -95,6 +97,21 @@ pub fn regions_share_no_byte()
     tree_laws();
     ranges_rise();
     spans_follow();
+}
+
+/// A law of spans: a byte of a region's spans lies in the span of one of the endpoint's committed decoders; and
+/// in an accepted image each byte of those is one of a region.
+pub fn committed_spans_are_of_regions()
+    ensures committed { (s : System) (w : WindowFields) (found : Found) (endpoint dpa : ℕ) → IsRegionIn s w found
+        → LiesInSpan found endpoint dpa → LiesInCommittedSpan s endpoint dpa }
+    ensures region { (s : System) (endpoint dpa : ℕ) → IsSystem s → IsAccepted s
+        → is_endpoint_at s.nodes endpoint ≡ true → LiesInCommittedSpan s endpoint dpa
+        → (w : WindowFields) × (found : Found) × IsRegionIn s w found × LiesInSpan found endpoint dpa }
+{
+    one_holder();
+    accepted_where_whole();
+    whole_ranges_have_one_region();
+    slots_are_endpoints();
 }
 
 /// A law of regions: one carries its host bytes one to one onto the bytes of its spans.

@@ -1,7 +1,10 @@
-//! Worked rows of the whole program, as tests of `run` over files and a sink in memory. Each row is the
-//! words of a command line with the exit status and the text that they must give. And the messages of errors.
+//! Worked rows of the whole program, as tests of `run` over files and a sink in memory: each is the words of a
+//! command line with the exit status and the text that they must give. And the messages of errors, and where
+//! addresses lead in worked hosts.
 #![tactic(auto)]
 
+#[cfg(test)]
+mod hosts;
 #[cfg(test)]
 mod listings;
 #[cfg(test)]
@@ -18,3 +21,5 @@ mod routes;
 mod rows;
 #[cfg(test)]
 mod tables;
+#[cfg(test)]
+mod walks;

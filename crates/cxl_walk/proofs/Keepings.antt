@@ -7,7 +7,7 @@ use Rattle.std.specs.List.{list_any}
 use Rattle.std.proofs.Math.Nat.{mul-pos, zero-mul, zero-div, div-mul-le_self, mul-le-mul_right}
 use Rattle.std.proofs.lemmas.Nat.{pow_pos}
 use Rattle.std.proofs.lemmas.Bool.{false≢true, and_parts, or_parts, or_cases, leb-true, eqb-true, eq-eqb, cases_lt, cases_Bool}
-use Rattle.std.proofs.lemmas.Option.{slice_get_within, slice_get-get_or, same_Some}
+use Rattle.std.proofs.lemmas.Option.{slice_get-get_or, same_Some}
 use Rattle.cxl_enc.specs.declared.caps.MemKind.{MemKind}
 use Rattle.cxl_enc.specs.declared.caps.MemKind.TheVariants.{Ram, Pmem}
 use Rattle.cxl_num.specs.Interleave.{chunk_size}
@@ -23,7 +23,7 @@ use Rattle.cxl_span.specs.Breaches.{breaks as block_breaks}
 use Rattle.cxl_enc.specs.Limits.{address_limit}
 use Rattle.cxl_span.specs.Rules.{size_unit}
 use Rattle.cxl_span.specs.Partitions.{partition_start, partition_end, lies_in}
-use Rattle.cxl_window.specs.Fields.{WindowFields, IsWindow, IsUsable}
+use Rattle.cxl_window.specs.Fields.{WindowFields, IsWindow}
 use Rattle.cxl_window.specs.Position.{is_usable}
 use Rattle.cxl_deal.specs.Weaves.{WeaveFields, weave_ways, turns_end, dealt_slot, dealt_offset}
 use Rattle.cxl_model.specs.declared.chain.Step.{Step}
@@ -32,13 +32,13 @@ use Rattle.cxl_model.specs.declared.found.Found.{Found}
 use Rattle.cxl_model.specs.declared.found.Place.{Place}
 use Rattle.cxl_model.specs.System.{System, IsSystem, decoders_at, decoder_at, capacity_at, ram_at, pmem_at}
 use Rattle.cxl_model.specs.Chain.{Arrival, Routing, ChainEnd, Routed, Missed, Chain}
-use Rattle.cxl_model.specs.Ranges.{IsCommittedRange, lies_within, window_for, index_for}
-use Rattle.cxl_model.specs.Accepted.{KeepsBlocks, breaks, breaks_block}
+use Rattle.cxl_model.specs.Ranges.{lies_within, index_for}
+use Rattle.cxl_model.specs.Accepted.{KeepsBlocks, breaks}
 use Rattle.cxl_model.specs.Regions.{region_range, IsRegionIn, target_position, weave_fields}
 use Rattle.cxl_model.specs.Bytes.{slot_length}
 use Rattle.cxl_model.specs.Dealing.{slot_steps, IsDealtRoute}
 use Rattle.cxl_walk.specs.declared.route.Route.{Route}
-use Rattle.cxl_walk.specs.Routes.{routing_of, steps_of, chain_end_of}
+use Rattle.cxl_walk.specs.Routes.{routing_of, chain_end_of}
 use Rattle.cxl_walk.specs.Keeping.{KeptFields, IsFirstByte, IsSlotRoute}
 use Rattle.cxl_walk.proofs.Nodes.{some_and}
 use Rattle.cxl_walk.proofs.Targets.{all_at, usable_is}

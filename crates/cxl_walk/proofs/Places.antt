@@ -1,6 +1,6 @@
 -- The numbers of the way up: an address is told by its place in a span and the way that it goes.
-use Rattle.std.proofs.Common.{◌≡◌, ℕ, ◌+◌, ◌-◌, ◌*◌, ◌/◌, ◌%◌, ◌^◌, ◌<◌, ◌≤◌, refl, sym, ap, ◌∙◌, subst, arith}
-use Rattle.std.proofs.Math.Nat.{mul_comm, mul_assoc, mul-add, add-mul, mul-le-mul_left, mul-le-mul_right, mul-add-mod_self_left, mod-eq_of_lt, mod-lt, div-add-mod, div-lt_iff_lt-mul, mul-add-div, div-div-eq-div-mul, one-mul}
+use Rattle.std.proofs.Common.{◌≡◌, ℕ, ◌+◌, ◌-◌, ◌*◌, ◌/◌, ◌%◌, ◌^◌, ◌<◌, ◌≤◌, sym, ap, ◌∙◌, subst, arith}
+use Rattle.std.proofs.Math.Nat.{mul_comm, mul_assoc, add-mul, mul-le-mul_right, mul-add-mod_self_left, mod-eq_of_lt, mod-lt, div-add-mod, div-lt_iff_lt-mul, mul-add-div, div-div-eq-div-mul, one-mul}
 use Rattle.std.proofs.lemmas.Nat.{pow-add}
 
 -- the quotient and the remainder of q chunks and r bytes

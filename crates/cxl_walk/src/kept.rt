@@ -1,4 +1,4 @@
-ghost use Rattle.std.specs.Prelude.{◌≡◌, ℕ, ◌+◌, ◌-◌, ◌<◌, ◌≤◌, length, drop, replicate, IfOk};
+ghost use Rattle.std.specs.Prelude.{◌≡◌, ◌↔◌, ℕ, ◌+◌, ◌-◌, ◌<◌, ◌≤◌, length, drop, replicate, IfOk};
 ghost use Rattle.cxl_window.specs.Fields.{WindowFields};
 ghost use Rattle.cxl_window.specs.Windows.{AreMadeWith};
 ghost use Rattle.cxl_image.specs.Images.{HasCapsOf};
@@ -6,17 +6,19 @@ ghost use Rattle.cxl_deal.specs.Weaves.{weave_ways};
 ghost use Rattle.cxl_model.specs.declared.found.Found.{Found};
 ghost use Rattle.cxl_model.specs.System.{System, IsSystem, system_of, bridge_uids};
 ghost use Rattle.cxl_model.specs.Chain.{Chain, Routed};
-ghost use Rattle.cxl_model.specs.Regions.{IsRegion, IsRegionIn, weave_fields};
+ghost use Rattle.cxl_model.specs.Accepted.{KeepsBlocks};
+ghost use Rattle.cxl_model.specs.Regions.{IsRegion, IsRegionIn, region_range, weave_fields};
+ghost use Rattle.cxl_model.specs.Changes.{HaveSameDecoders};
 ghost use Rattle.cxl_walk.specs.Routes.{routing_of, no_step};
-ghost use Rattle.cxl_walk.specs.Keeping.{IsSlotRoute, IsKept, IsKeptOf};
+ghost use Rattle.cxl_walk.specs.Keeping.{KeptFields, IsSlotRoute, IsKept, IsKeptOf};
 
 use crate::downward::down;
 use crate::route::Route;
 use cxl_deal::{Weave, deal, gather, region_fills_slots};
 use cxl_image::Image;
 use cxl_model::{
-    FixedList, Found, Memory, chain_is_the_dealing, chains_have_one_end, slots_are_endpoints, weave_of,
-    weaves_fill_their_regions,
+    FixedList, Found, Memory, chain_is_the_dealing, chains_have_one_end, routes_stay, slots_are_endpoints,
+    weave_of, weaves_fill_their_regions,
 };
 use cxl_topo::Topo;
 use cxl_window::Window;
@@ -99,6 +101,16 @@ impl Kept {
         route.dpa += dealt.offset;
         route
     }
+}
+
+/// A law of changes: the kept routes of a region are those of an image that keeps K1 to K8 and has the same
+/// decoders of the region's range, however its other decoders change.
+pub fn kept_routes_stay()
+    ensures { (s t : System) (w : WindowFields) (found : Found) (kept : KeptFields) → IsSystem s → IsSystem t
+        → HaveSameDecoders s t (region_range found) → KeepsBlocks t → IsRegionIn s w found
+        → (IsKept s w found kept) ↔ (IsKept t w found kept) }
+{
+    routes_stay();
 }
 
 /// The weave of a region of the image.

@@ -13,11 +13,6 @@ mod way;
 
 pub use cxl_model::{Miss, Step};
 pub use downward::down;
-pub use kept::Kept;
+pub use kept::{Kept, kept_routes_stay};
 pub use route::Route;
 pub use upward::{Host, up};
-
-#[cfg(test)]
-mod hosts;
-#[cfg(test)]
-mod tests;

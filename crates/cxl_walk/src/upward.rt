@@ -1,4 +1,4 @@
-ghost use Rattle.std.specs.Prelude.{◌≡◌, ℕ, ◌+◌, ◌<◌, true, IsSome, IfSome, IfNone};
+ghost use Rattle.std.specs.Prelude.{◌≡◌, ◌↔◌, ℕ, ◌+◌, ◌<◌, true, IsSome, IfSome, IfNone};
 ghost use Rattle.cxl_enc.specs.Limits.{address_limit};
 ghost use Rattle.cxl_topo.specs.Tree.{is_endpoint_at};
 ghost use Rattle.cxl_regs.specs.Reading.{decoder_ways};
@@ -9,7 +9,7 @@ ghost use Rattle.cxl_model.specs.declared.found.Found.{Found};
 ghost use Rattle.cxl_model.specs.System.{system_of, bridge_uids};
 ghost use Rattle.cxl_model.specs.Accepted.{IsAccepted};
 ghost use Rattle.cxl_model.specs.Regions.{IsRegionIn};
-ghost use Rattle.cxl_model.specs.Bytes.{LiesInSpan};
+ghost use Rattle.cxl_model.specs.Bytes.{LiesInSpan, LiesInCommittedSpan};
 ghost use Rattle.cxl_walk.specs.Hosts.{ComesTo, HasNoHost, IsLeastHost};
 ghost use Rattle.cxl_walk.specs.inner.WaysUp.{way_address, IsFirstWay};
 
@@ -17,7 +17,8 @@ use crate::downward::down;
 use crate::spans::{SpanByte, span_byte};
 use cxl_image::Image;
 use cxl_model::{
-    bytes_are_carried_one_to_one, capacity_at, carries_where_chain_ends, routes_are_of_regions,
+    bytes_are_carried_one_to_one, capacity_at, carries_where_chain_ends,
+    committed_spans_are_of_regions, routes_are_of_regions,
 };
 use cxl_span::{block_breach, spans_are_whole, spans_follow};
 use cxl_topo::Topo;
@@ -47,10 +48,14 @@ pub fn up(image: &Image, topo: &Topo, windows: &[Window], ep: u32, dpa: u64) -> 
         → ComesTo (system_of image.now topo.now windows.now) ep dpa first h → h ≡ host.h) }
     ensures only { IsAccepted (system_of image.now topo.now windows.now) → IsSome result → (w : WindowFields) × (found : Found)
         × IsRegionIn (system_of image.now topo.now windows.now) w found × LiesInSpan found ep dpa }
+    // There these are the bytes of the spans of the endpoint's committed decoders.
+    ensures committed { IsAccepted (system_of image.now topo.now windows.now)
+        → (IsSome result) ↔ (LiesInCommittedSpan (system_of image.now topo.now windows.now) ep dpa) }
 {
     carries_where_chain_ends();
     bytes_are_carried_one_to_one();
     routes_are_of_regions();
+    committed_spans_are_of_regions();
     let nodes = topo.count();
     let blocks = image.count();
     prove!(nodes == blocks);

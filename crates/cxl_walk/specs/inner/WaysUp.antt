@@ -1,6 +1,6 @@
 -- What the inner calls of the way up say: of a span that holds a device byte, and of the host addresses that its
 -- decoder sends to that byte, one for each of its ways.
-use Rattle.std.specs.Prelude.{◌≡◌, ℕ, ◌+◌, ◌*◌, ◌/◌, ◌%◌, ◌<◌, ◌≤◌, true, List, slice_get, Some}
+use Rattle.std.specs.Prelude.{◌≡◌, ℕ, ◌+◌, ◌*◌, ◌/◌, ◌%◌, ◌<◌, true, List, slice_get, Some}
 use Rattle.cxl_regs.specs.declared.decoder.Decoder.{Decoder}
 use Rattle.cxl_regs.specs.Reading.{decoder_ways, decoder_granularity, span_length}
 use Rattle.cxl_span.specs.Spans.{span_start_of}

@@ -1,14 +1,13 @@
-use Rattle.std.proofs.Common.{◌≡◌, ℕ, ◌+◌, ◌/◌, ◌<◌, ◌≤◌, ◌^◌, Result, Ok, sym, ap, subst, ◌∙◌, arith}
+use Rattle.std.proofs.Common.{◌≡◌, ◌+◌, ◌/◌, ◌≤◌, ◌^◌, Result, sym, subst, ◌∙◌}
 use Rattle.cxl_num.specs.Interleave.{chunk_size}
 use Rattle.cxl_window.specs.Fields.{WindowFields}
 use Rattle.cxl_deal.specs.Weaves.{WeaveFields, turns_end, dealt_slot, dealt_offset}
 use Rattle.cxl_model.specs.declared.chain.Miss.{Miss}
 use Rattle.cxl_model.specs.System.{System, IsSystem, system_of}
 use Rattle.cxl_model.specs.Chain.{Chain}
-use Rattle.cxl_model.specs.Regions.{IsRegionIn, weave_fields}
+use Rattle.cxl_model.specs.Regions.{weave_fields}
 use Rattle.cxl_walk.specs.declared.route.Route.{Route}
 use Rattle.cxl_walk.specs.Routes.{chain_end_of}
-use Rattle.cxl_walk.specs.Keeping.{IsFirstByte}
 use Rattle.cxl_walk.proofs.Keepings.{facts, WeaveLaws, first_turn, first_below, RouteLaws, found_route}
 use Rattle.cxl_walk.proofs.kept.slot_route.Goals as goal
 

@@ -1,4 +1,4 @@
-use Rattle.std.proofs.Common.{ℕ, ◌<◌, subst, sym, ◌∙◌, arith, below_more}
+use Rattle.std.proofs.Common.{ℕ, subst, sym, ◌∙◌, arith, below_more}
 use Rattle.cxl_model.specs.System.{system_of}
 use Rattle.cxl_walk.specs.Hosts.{ComesTo}
 use Rattle.cxl_walk.specs.inner.WaysUp.{way_address}

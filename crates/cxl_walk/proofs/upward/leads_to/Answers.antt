@@ -1,4 +1,3 @@
-use Rattle.std.proofs.Common.{◌∙◌, sym}
 use Rattle.cxl_model.specs.System.{system_of}
 use Rattle.cxl_model.specs.Chain.{Routed}
 use Rattle.cxl_walk.specs.Routes.{routing_of}

@@ -6,7 +6,7 @@ use Rattle.cxl_regs.specs.Registers.{Registers, IsBlock}
 use Rattle.cxl_regs.specs.Reading.{decoder_ways, span_length}
 use Rattle.cxl_span.specs.Spans.{span_start_of, span_end_of}
 use Rattle.cxl_span.specs.Breaches.{BlockKeeps}
-use Rattle.cxl_model.specs.System.{System, system_of, ram_at, pmem_at}
+use Rattle.cxl_model.specs.System.{System, system_of, ram_at}
 use Rattle.cxl_walk.proofs.Nodes.{none_then, some_not}
 use Rattle.cxl_walk.proofs.Comings.{keeps, endpoint_block, SpanLaws, no_span, least_host, none_at_all}
 use Rattle.cxl_walk.proofs.upward.least.Goals as goal

@@ -3,10 +3,7 @@ use Rattle.std.specs.Prelude.{IsSome, IfSome, IfNone}
 use Rattle.cxl_window.specs.Fields.{WindowFields}
 use Rattle.cxl_model.specs.declared.found.Found.{Found}
 use Rattle.cxl_model.specs.System.{System, IsSystem, system_of}
-use Rattle.cxl_model.specs.Chain.{Routing}
-use Rattle.cxl_model.specs.Accepted.{IsAccepted}
-use Rattle.cxl_model.specs.Regions.{IsRegionIn, Carries}
-use Rattle.cxl_model.specs.Bytes.{LiesInSpan}
+use Rattle.cxl_model.specs.Regions.{Carries}
 use Rattle.cxl_walk.specs.declared.upward.Host.{Host}
 use Rattle.cxl_walk.specs.Hosts.{ComesTo, HasNoHost, IsLeastHost}
 use Rattle.cxl_walk.proofs.upward.up.Goals as goal
@@ -55,3 +52,15 @@ returns-clause-only c = λ accepted some.
     subst (λ (n : ℕ). Carries found w host.0.h n c.args.dpa) comes.endpoint
     (subst (λ (n : ℕ). Carries found w host.0.h comes.routing.arrival.endpoint n) comes.byte region.3.place) in
     (w, found, region.2, c.bytes_are_carried_one_to_one.ensures.inside s w found host.0.h c.args.ep c.args.dpa system region.2 place)
+
+pub returns-clause-committed : goal.returns-clause-committed
+returns-clause-committed c = λ accepted.
+    let s : System = system_of c.args.image.now c.args.topo.now c.args.windows.now in
+    let system : IsSystem s = record { tree = c.count-nodes.ensures.tree; blocks = c.count-blocks.ensures.image.each; caps = c.requires.caps; made = c.requires.made } in (
+      λ some.
+          let region = returns-clause-only c accepted some in
+          c.committed_spans_are_of_regions.ensures.committed s region.0 region.1 c.args.ep c.args.dpa region.2 region.3,
+      λ lies.
+          let region = c.committed_spans_are_of_regions.ensures.region s c.args.ep c.args.dpa system accepted c.requires.endpoint lies in
+          returns-clause-spans c region.0 region.1 region.2 region.3,
+    )

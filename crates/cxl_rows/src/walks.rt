@@ -1,13 +1,18 @@
-ghost use Rattle.std.specs.Prelude.{◌≡◌, true, IsTrue};
-ghost use Rattle.cxl_topo.specs.Tree.{is_endpoint_at};
+//! Where addresses lead in worked hosts: by their registers, by kept routes, and back.
 
-use super::*;
+ghost use Rattle.std.specs.Prelude.{◌+◌, ◌<◌, ◌≤◌};
+ghost use Rattle.cxl_window.specs.Windows.{AreMadeWith};
+ghost use Rattle.cxl_image.specs.Images.{HasCapsOf};
+ghost use Rattle.cxl_model.specs.System.{system_of, bridge_uids};
+ghost use Rattle.cxl_model.specs.Regions.{IsRegion};
+
 use crate::hosts::{
-    BASE, Bridged, GIB, Range, UNIT, commit_all, node, nodes_of, over, server, table_of, uids_of,
+    BASE, Bridged, GIB, Range, UNIT, Worked, host_of, node, nodes_of, over, server,
 };
-use cxl_image::Image;
-use cxl_topo::{Capacity, Node, NodeKind, Parent, Topo};
-use cxl_window::windows;
+use cxl_check::{Breach, CheckFault, check};
+use cxl_model::{Found, Miss, Step};
+use cxl_topo::{Capacity, Node, NodeKind, Parent};
+use cxl_walk::{Host, Kept, Route, down, up};
 use std::alloc::Global;
 use std::process::Abort;
 use std::test::Fail;
@@ -49,45 +54,90 @@ fn through(position: u32, base: u64, step: Step, endpoint: u32, dpa: u64) -> Rou
     }
 }
 
-/// Whether the node is an endpoint of the tree.
-fn is_device(topo: &Topo, node: u32) -> bool
-    ensures { IsTrue result → is_endpoint_at topo.now.nodes node ≡ true }
-{
-    node < topo.count() && matches!(topo.node(node).kind, NodeKind::Endpoint(_))
-}
-
 /// The host address that comes back from the byte to which a case goes.
 fn back(case: &Case) -> Option<Host> {
-    match case.want {
-        Ok(route) => Some(Host {
-            base: route.base,
-            h: case.h,
-        }),
+    case.want.ok().map(|route| Host {
+        base: route.base,
+        h: case.h,
+    })
+}
+
+/// What is told of an address: where it goes by the registers and by kept routes, and which address comes back
+/// from there.
+#[derive(Clone, Copy, Debug, PartialEq, Eq)]
+struct Told {
+    way: Result<Route, Miss>,
+    kept: Option<Route>,
+    back: Option<Host>,
+}
+
+fn led(rt: &impl Abort, alloc: Global, nodes: Vec<Node>, case: &Case) -> Result<Told, Fail> {
+    let host = host_of(rt, alloc, nodes, &case.host, case.ranges)?;
+    let way = down(&host.image, &host.topo, &host.windows, case.h);
+    let back = match way {
+        Ok(route) => up_from(&host, route.endpoint, route.dpa),
         Err(_) => None,
+    };
+    let kept = kept_route(alloc, &host, case.h)?;
+    Ok(Told { way, kept, back })
+}
+
+/// The address that leads to the byte, where the node is an endpoint.
+fn up_from(host: &Worked, node: u32, dpa: u64) -> Option<Host>
+    requires caps { HasCapsOf host.now.image host.now.topo.nodes }
+    requires made { AreMadeWith host.now.windows.items (bridge_uids host.now.topo.nodes) }
+{
+    if node < host.topo.count() && host.topo.is_endpoint(node) {
+        up(&host.image, &host.topo, &host.windows, node, dpa)
+    } else {
+        None
     }
 }
 
-/// Where the address of a case goes, and which address comes back from there.
-fn led(
-    rt: &impl Abort,
-    alloc: Global,
-    nodes: Vec<Node>,
-    case: &Case,
-) -> Result<(Result<Route, Miss>, Option<Host>), Fail> {
-    let uids = uids_of(alloc, &nodes)?;
-    let table = table_of(rt, alloc, &case.host, &uids)?;
-    let topo = Topo::new(alloc, nodes, 65_536)?;
-    let windows = windows(alloc, &table, Some(&uids))?;
-    let mut image = Image::new(alloc, &topo)?;
-    commit_all(&mut image, case.ranges);
-    let way = down(&image, &topo, &windows, case.h);
-    let host = match way {
-        Ok(route) if is_device(&topo, route.endpoint) => {
-            up(&image, &topo, &windows, route.endpoint, route.dpa)
-        }
-        _ => None,
+/// The route that is kept for the address, where the image is accepted and a region holds it.
+fn kept_route(alloc: Global, host: &Worked, h: u64) -> Result<Option<Route>, Fail>
+    requires caps { HasCapsOf host.now.image host.now.topo.nodes }
+    requires made { AreMadeWith host.now.windows.items (bridge_uids host.now.topo.nodes) }
+{
+    let regions = match check(alloc, &host.image, &host.topo, &host.windows) {
+        Ok(regions) => regions,
+        Err(CheckFault::Breach(_)) => return Ok(None),
+        Err(CheckFault::Memory) => return Err(Fail::from("out of memory")),
     };
-    Ok((way, host))
+    for region in &regions {
+        if region.base <= h && h - region.base < region.size {
+            return Ok(Some(route_in(alloc, host, region, h)?));
+        }
+    }
+    Ok(None)
+}
+
+/// The route that is kept for an address of a region.
+fn route_in(alloc: Global, host: &Worked, region: &Found, h: u64) -> Result<Route, Fail>
+    requires caps { HasCapsOf host.now.image host.now.topo.nodes }
+    requires made { AreMadeWith host.now.windows.items (bridge_uids host.now.topo.nodes) }
+    requires region { IsRegion (system_of host.now.image host.now.topo host.now.windows.items) region.now }
+    requires from { region.now.base ≤ h }
+    requires below { h < region.now.base + region.now.size }
+{
+    let _nodes = host.topo.count();
+    let _blocks = host.image.count();
+    let kept = Kept::new(alloc, &host.image, &host.topo, &host.windows, region)?;
+    Ok(kept.route(h))
+}
+
+fn tells(rt: &impl Abort, alloc: Global, nodes: Vec<Node>, case: &Case) -> Result<(), Fail> {
+    assert_eq!(rt;
+        led(rt, alloc, nodes, case)?,
+        Told {
+            way: case.want,
+            kept: case.want.ok(),
+            back: back(case),
+        },
+        "at {}",
+        case.h
+    );
+    Ok(())
 }
 
 #[test]
@@ -113,6 +163,16 @@ fn routes(rt: HostRuntime) -> Result<(), Fail> {
         dpa: 0,
     };
     let cases = [
+        // Two ways.
+        Case {
+            host: two,
+            ranges: &[
+                over(0, 2, BASE, 0x2000_0000, 0, 0),
+                over(2, 4, BASE, 0x2000_0000, 0x10, 0),
+            ],
+            h: 0x1_0000_0100,
+            want: Ok(through(1, BASE, step(1, 0, 0), 3, 0)),
+        },
         // Three ways.
         Case {
             host: server(3, 1, UNIT, 0x3000_0000),
@@ -217,12 +277,7 @@ fn routes(rt: HostRuntime) -> Result<(), Fail> {
     ];
     for case in &cases {
         let nodes = nodes_of(rt.alloc(), &case.host)?;
-        assert_eq!(rt;
-            led(&rt, rt.alloc(), nodes, case)?,
-            (case.want, back(case)),
-            "at {}",
-            case.h
-        );
+        tells(&rt, rt.alloc(), nodes, case)?;
     }
     Ok(())
 }
@@ -284,11 +339,7 @@ fn a_route_of_five_steps(rt: HostRuntime) -> Result<(), Fail> {
         want: Ok(want),
     };
     let nodes = five_levels(rt.alloc())?;
-    assert_eq!(rt;
-        led(&rt, rt.alloc(), nodes, &case)?,
-        (case.want, back(&case))
-    );
-    Ok(())
+    tells(&rt, rt.alloc(), nodes, &case)
 }
 
 #[test]
@@ -320,12 +371,62 @@ fn misses(rt: HostRuntime) -> Result<(), Fail> {
     ];
     for case in &cases {
         let nodes = nodes_of(rt.alloc(), &case.host)?;
-        assert_eq!(rt;
-            led(&rt, rt.alloc(), nodes, case)?,
-            (case.want, back(case)),
-            "at {}",
-            case.h
-        );
+        tells(&rt, rt.alloc(), nodes, case)?;
+    }
+    Ok(())
+}
+
+/// Bytes of an endpoint's device, and the host address that comes back from each.
+#[test]
+fn ways_back(rt: HostRuntime) -> Result<(), Fail> {
+    let two = server(2, 1, 2 * GIB, 0x1_0000_0000);
+    let of_two = [
+        over(0, 2, BASE, 0x2000_0000, 0, 0),
+        over(2, 4, BASE, 0x2000_0000, 0x10, 0),
+    ];
+    let rows = [
+        (of_two.as_slice(), 3, 0, Some(0x1_0000_0100)),
+        (of_two.as_slice(), 3, 0xfff_ffff, Some(0x1_1fff_ffff)),
+        (of_two.as_slice(), 3, 0x1000_0000, None),
+        (&[], 3, 0, None),
+    ];
+    for (ranges, node, dpa, h) in &rows {
+        let nodes = nodes_of(rt.alloc(), &two)?;
+        let host = host_of(&rt, rt.alloc(), nodes, &two, ranges)?;
+        let want = h.map(|h| Host { base: BASE, h });
+        assert_eq!(rt; up_from(&host, *node, *dpa), want, "from {dpa}");
+    }
+    Ok(())
+}
+
+/// An endpoint of two ways below a bridge and a window of one: two addresses lead to each byte.
+#[test]
+fn the_least_of_two_that_meet(rt: HostRuntime) -> Result<(), Fail> {
+    let one = server(1, 1, GIB, 0x1_0000_0000);
+    let ranges = [
+        over(0, 1, BASE, 0x2000_0000, 0, 0),
+        over(1, 2, BASE, 0x2000_0000, 0x10, 0),
+    ];
+    let nodes = nodes_of(rt.alloc(), &one)?;
+    let host = host_of(&rt, rt.alloc(), nodes, &one, &ranges)?;
+    let breach = Breach {
+        rule: 12,
+        node: 1,
+        decoder: 0,
+    };
+    let fault = check(rt.alloc(), &host.image, &host.topo, &host.windows).err();
+    assert_eq!(rt; fault, Some(CheckFault::Breach(breach)));
+    for (low, high, dpa) in [(BASE, BASE + 0x100, 0), (BASE + 0x2ff, BASE + 0x3ff, 0x1ff)] {
+        let want = through(0, BASE, step(0, 0, 0), 1, dpa);
+        for h in [low, high] {
+            assert_eq!(rt;
+                down(&host.image, &host.topo, &host.windows, h),
+                Ok(want),
+                "at {h}"
+            );
+        }
+        let least = Host { base: BASE, h: low };
+        assert_eq!(rt; up_from(&host, 1, dpa), Some(least), "from {dpa}");
     }
     Ok(())
 }

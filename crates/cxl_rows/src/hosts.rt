@@ -1,17 +1,18 @@
-//! Hosts for tests: their nodes, their tables, and images that are made by register writes.
+//! Worked hosts: their nodes, their tables, and images that are made by register writes.
 
 ghost use Rattle.std.specs.Prelude.{◌≡◌, ◌≤◌, ◌*◌, List, length, sum_by, IsTrue, IfOk};
 ghost use Rattle.cxl_cedt.specs.Records.{record_length};
 ghost use Rattle.cxl_topo.specs.declared.node.Node.{Node};
-ghost use Rattle.cxl_topo.specs.Kinds.{uid_of};
+ghost use Rattle.cxl_window.specs.Windows.{AreMadeWith};
 ghost use Rattle.cxl_image.specs.Images.{HasCapsOf};
 ghost use Rattle.cxl_model.specs.System.{bridge_uids};
 
 use cxl_cedt::{Cedt, Cfmws, Chbs, Cxims, Head, Record};
 use cxl_enc::{Name, code_of};
 use cxl_image::Image;
-use cxl_topo::{Capacity, Node, NodeKind, Parent};
-use std::alloc::{AllocError, Global};
+use cxl_topo::{Capacity, Node, NodeKind, Parent, Topo};
+use cxl_window::{Window, windows};
+use std::alloc::Global;
 use std::process::Abort;
 use std::test::Fail;
 
@@ -145,28 +146,8 @@ pub(crate) fn nodes_of(alloc: Global, host: &Bridged) -> Result<Vec<Node>, Fail>
     Ok(nodes)
 }
 
-pub(crate) fn uids_of(alloc: Global, nodes: &[Node]) -> Result<Vec<u32>, AllocError>
-    ensures { IfOk result (λ uids. uids.items ≡ bridge_uids nodes.now) }
-{
-    nodes.iter().filter_map(uid_of).collect(alloc)
-}
-
-fn uid_of(node: &Node) -> Option<u32>
-    ensures { result ≡ uid_of node.now.kind }
-{
-    match node.kind {
-        NodeKind::Bridge(uid) => Some(uid),
-        NodeKind::Switch | NodeKind::Endpoint(_) => None,
-    }
-}
-
 /// The table with the bridges, the window over all of them, and a map.
-pub(crate) fn table_of(
-    rt: &impl Abort,
-    alloc: Global,
-    host: &Bridged,
-    uids: &[u32],
-) -> Result<Cedt, Fail> {
+fn table_of(rt: &impl Abort, alloc: Global, host: &Bridged, uids: &[u32]) -> Result<Cedt, Fail> {
     let mut records = Vec::new(alloc);
     for uid in uids {
         records.push(Record::Chbs(Chbs {
@@ -213,8 +194,39 @@ fn length_of(item: &Record) -> usize
 
 // ---- its image
 
+/// A worked host: its tree of nodes, its windows, and an image of its registers.
+#[derive(Drop)]
+pub(crate) struct Worked {
+    pub(crate) topo: Topo,
+    pub(crate) windows: Vec<Window>,
+    pub(crate) image: Image,
+}
+
+/// The host of these nodes, with these decoders committed.
+pub(crate) fn host_of(
+    rt: &impl Abort,
+    alloc: Global,
+    nodes: Vec<Node>,
+    host: &Bridged,
+    ranges: &[Range],
+) -> Result<Worked, Fail>
+    ensures caps { IfOk result (λ it. HasCapsOf it.image it.topo.nodes) }
+    ensures made { IfOk result (λ it. AreMadeWith it.windows.items (bridge_uids it.topo.nodes)) }
+{
+    let topo = Topo::new(alloc, nodes, 65_536)?;
+    let table = table_of(rt, alloc, host, topo.uids())?;
+    let windows = windows(alloc, &table, Some(topo.uids()))?;
+    let mut image = Image::new(alloc, &topo)?;
+    commit_all(&mut image, ranges);
+    Ok(Worked {
+        topo,
+        windows,
+        image,
+    })
+}
+
 /// Commits the decoders by register writes.
-pub(crate) fn commit_all(image: &mut Image, ranges: &[Range])
+fn commit_all(image: &mut Image, ranges: &[Range])
     ensures { (nodes : List Node) → HasCapsOf image.old nodes → HasCapsOf image.new nodes }
 {
     for range in ranges {
