@@ -1,0 +1,17 @@
+//! Worked hosts, images, regions and plans, and laws that compute what the definitions say of them. Only other worked
+//! examples rest on this crate.
+#![tactic(auto)]
+
+mod examples;
+mod plan_examples;
+mod region_examples;
+
+pub use examples::{
+    carried_on_examples, chains_on_examples, examples_are_systems, regions_on_examples,
+    rules_on_examples,
+};
+pub use plan_examples::stated_rows_on_examples;
+pub use region_examples::{changes_on_examples, endpoints_on_examples, spans_on_examples};
+
+#[cfg(test)]
+mod tests;
