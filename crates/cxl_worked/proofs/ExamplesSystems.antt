@@ -105,7 +105,7 @@ skip_from : (endpoint : Bool) (tail : ℕ) → (if endpoint then tail % 2 ^ 28 =
 skip_from true tail is of = eqb-true (tail % 2 ^ 28) 0 is
 skip_from false tail is of = absurd (false≢true of)
 
-decoder_from : (endpoint : Bool) (d : Decoder) → is_decoder endpoint d ≡ true → IsDecoder endpoint d
+pub decoder_from : (endpoint : Bool) (d : Decoder) → is_decoder endpoint d ≡ true → IsDecoder endpoint d
 decoder_from endpoint d is =
     let to_skip = and_parts _ _ is in
     let to_tail = and_parts _ _ to_skip.0 in

@@ -1,3 +1,5 @@
 pub mod Examples
 pub mod ExampleRegions
 pub mod ExamplePlans
+pub mod ExampleLayouts
+pub mod ExampleContents

@@ -1,14 +1,17 @@
-//! What the definitions say of worked images.
+//! What the definitions say of plans over worked hosts.
 
 ghost use Rattle.std.specs.Prelude.{◌≡◌, true, false, [], ◌∷◌};
 ghost use Rattle.cxl_model.specs.declared.request.Request.{Request};
+ghost use Rattle.cxl_model.specs.Plans.{IsLegalPlanIn};
 ghost use Rattle.cxl_worked.specs.ExampleRegions.{window_of_three};
 ghost use Rattle.cxl_worked.specs.Examples.{four_ways, forwarding_bridges, six_ways, two_bridges, window_of_both};
 ghost use Rattle.cxl_legal.specs.Bases.{last_end};
 ghost use Rattle.cxl_legal.specs.Endpoints.{is_uneven};
-ghost use Rattle.cxl_worked.specs.ExamplePlans.{blocks_planned, of_ram};
-ghost use Rattle.cxl_legal.specs.Stated.{stated_start};
+ghost use Rattle.cxl_worked.specs.ExamplePlans.{after_reset, blocks_planned, of_ram, plan_of_two, rows_of_two};
+ghost use Rattle.cxl_legal.specs.Stated.{stated_rows, stated_start};
 ghost use Rattle.cxl_legal.specs.Windows.{has_used_bridges};
+
+use crate::examples::{regions_on_examples, rules_on_examples};
 
 /// A law of plans: the rows that are stated for the endpoints of a worked image's region, in any order, over its host
 /// after reset, leave that image. And what is said of a further request over one of them.
@@ -28,3 +31,15 @@ pub fn stated_rows_on_examples()
     ensures other_bridges { (request : Request)
         → has_used_bridges six_ways (of_ram request 0x40000000 (3 ∷ 4 ∷ 5 ∷ 6 ∷ [])) window_of_three ≡ false }
 {}
+
+/// A law of plans: over the reset host with two bridges, the plan for both endpoints with its four rows is legal in the
+/// window of both, and these are the rows that are stated.
+pub fn legal_plan_on_examples()
+    ensures legal { (request : Request) → IsLegalPlanIn (after_reset two_bridges) (of_ram request 0x20000000 (2 ∷ 3 ∷ []))
+        window_of_both (plan_of_two request) }
+    ensures stated { (request : Request)
+        → stated_rows (after_reset two_bridges) (of_ram request 0x20000000 (2 ∷ 3 ∷ [])) window_of_both 0x100000000 ≡ rows_of_two }
+{
+    rules_on_examples();
+    regions_on_examples();
+}
