@@ -1,8 +1,10 @@
 //! Worked rows of the whole program, as tests of `run` over files and a sink in memory: each is the words of a
 //! command line with the exit status and the text that they must give. And the messages of errors, and where
-//! addresses lead in worked hosts.
+//! addresses lead in worked hosts, and which of their images break a rule.
 #![tactic(auto)]
 
+#[cfg(test)]
+mod breaches;
 #[cfg(test)]
 mod hosts;
 #[cfg(test)]

@@ -1,21 +1,81 @@
 //! Where addresses lead in worked hosts: by their registers, by kept routes, and back.
 
-ghost use Rattle.std.specs.Prelude.{◌+◌, ◌<◌, ◌≤◌};
+ghost use Rattle.std.specs.Prelude.{◌+◌, ◌<◌, ◌≤◌, IfOk};
 ghost use Rattle.cxl_window.specs.Windows.{AreMadeWith};
 ghost use Rattle.cxl_image.specs.Images.{HasCapsOf};
 ghost use Rattle.cxl_model.specs.System.{system_of, bridge_uids};
 ghost use Rattle.cxl_model.specs.Regions.{IsRegion};
 
 use crate::hosts::{
-    BASE, Bridged, GIB, Range, UNIT, Worked, host_of, node, nodes_of, over, server,
+    BASE, BRIDGE, FORWARDING, GIB, Range, Span, Spot, UNIT, Worked, device, host_of, over, switch,
+    window,
 };
 use cxl_check::{Breach, CheckFault, check};
 use cxl_model::{Found, Miss, Step};
-use cxl_topo::{Capacity, Node, NodeKind, Parent};
 use cxl_walk::{Host, Kept, Route, down, up};
 use std::alloc::Global;
 use std::process::Abort;
 use std::test::Fail;
+
+/// So many bridges, so many endpoints under each of them with these bytes of ram and of pmem, and one window with a
+/// target for each bridge.
+#[derive(Clone, Copy)]
+struct Bridged {
+    bridges: u8,
+    under_each: u8,
+    capacity: (u64, u64),
+    forwards: bool,
+    base: u64,
+    size: u64,
+    xor: bool,
+}
+
+const fn server(bridges: u8, under_each: u8, ram: u64, size: u64) -> Bridged {
+    Bridged {
+        bridges,
+        under_each,
+        capacity: (ram, 0),
+        forwards: false,
+        base: BASE,
+        size,
+        xor: false,
+    }
+}
+
+fn spots_of(alloc: Global, host: &Bridged) -> Result<Vec<Spot>, Fail> {
+    let mut spots = Vec::new(alloc);
+    for _ in 0..host.bridges {
+        spots.push(if host.forwards { FORWARDING } else { BRIDGE })?;
+    }
+    let (ram, pmem) = host.capacity;
+    for bridge in 0..host.bridges {
+        for port in 0..host.under_each {
+            spots.push(device(u32::from(bridge), port, ram, pmem))?;
+        }
+    }
+    Ok(spots)
+}
+
+/// The host of these nodes under the one window, with these decoders committed.
+fn host_under(
+    rt: &impl Abort,
+    alloc: Global,
+    spots: &[Spot],
+    host: &Bridged,
+    ranges: &[Range],
+) -> Result<Worked, Fail>
+    ensures caps { IfOk result (λ it. HasCapsOf it.image it.topo.nodes) }
+    ensures made { IfOk result (λ it. AreMadeWith it.windows.items (bridge_uids it.topo.nodes)) }
+{
+    let uids = [0, 1, 2, 3, 4, 5];
+    assert!(rt; host.bridges <= 6);
+    let span = Span {
+        base: host.base,
+        xor: host.xor,
+        ..window(host.size, &uids[..usize::from(host.bridges)])
+    };
+    host_of(rt, alloc, spots, &[span], ranges)
+}
 
 /// A host, the decoders that are committed in it, an address, and where that goes.
 #[derive(Clone, Copy)]
@@ -71,8 +131,8 @@ struct Told {
     back: Option<Host>,
 }
 
-fn led(rt: &impl Abort, alloc: Global, nodes: Vec<Node>, case: &Case) -> Result<Told, Fail> {
-    let host = host_of(rt, alloc, nodes, &case.host, case.ranges)?;
+fn led(rt: &impl Abort, alloc: Global, spots: &[Spot], case: &Case) -> Result<Told, Fail> {
+    let host = host_under(rt, alloc, spots, &case.host, case.ranges)?;
     let way = down(&host.image, &host.topo, &host.windows, case.h);
     let back = match way {
         Ok(route) => up_from(&host, route.endpoint, route.dpa),
@@ -126,9 +186,9 @@ fn route_in(alloc: Global, host: &Worked, region: &Found, h: u64) -> Result<Rout
     Ok(kept.route(h))
 }
 
-fn tells(rt: &impl Abort, alloc: Global, nodes: Vec<Node>, case: &Case) -> Result<(), Fail> {
+fn tells(rt: &impl Abort, alloc: Global, spots: &[Spot], case: &Case) -> Result<(), Fail> {
     assert_eq!(rt;
-        led(rt, alloc, nodes, case)?,
+        led(rt, alloc, spots, case)?,
         Told {
             way: case.want,
             kept: case.want.ok(),
@@ -241,10 +301,7 @@ fn routes(rt: HostRuntime) -> Result<(), Fail> {
         // The second decoders, over a skip into persistent memory.
         Case {
             host: Bridged {
-                capacity: Capacity {
-                    ram: GIB,
-                    pmem: GIB,
-                },
+                capacity: (GIB, GIB),
                 ..server(1, 1, GIB, 0x1_0000_0000)
             },
             ranges: &[
@@ -276,34 +333,22 @@ fn routes(rt: HostRuntime) -> Result<(), Fail> {
         },
     ];
     for case in &cases {
-        let nodes = nodes_of(rt.alloc(), &case.host)?;
-        tells(&rt, rt.alloc(), nodes, case)?;
+        let spots = spots_of(rt.alloc(), &case.host)?;
+        tells(&rt, rt.alloc(), &spots, case)?;
     }
     Ok(())
 }
 
 /// A bridge, four levels of switches with two ports each, and sixteen endpoints.
-fn five_levels(alloc: Global) -> Result<Vec<Node>, Fail> {
-    let mut nodes = Vec::new(alloc);
-    nodes.push(node(0, NodeKind::Bridge(0), None, false)?)?;
-    let root = Parent { node: 0, port: 0 };
-    nodes.push(node(1, NodeKind::Switch, Some(root), false)?)?;
+fn five_levels(alloc: Global) -> Result<Vec<Spot>, Fail> {
+    let mut spots = vec![in alloc; BRIDGE, switch(0, 0)]?;
     for i in 0..14_u8 {
-        let parent = Parent {
-            node: 1 + u32::from(i / 2),
-            port: i % 2,
-        };
-        nodes.push(node(nodes.len(), NodeKind::Switch, Some(parent), false)?)?;
+        spots.push(switch(1 + u32::from(i / 2), i % 2))?;
     }
     for i in 0..16_u8 {
-        let parent = Parent {
-            node: 8 + u32::from(i / 2),
-            port: i % 2,
-        };
-        let kind = NodeKind::Endpoint(Capacity { ram: UNIT, pmem: 0 });
-        nodes.push(node(nodes.len(), kind, Some(parent), false)?)?;
+        spots.push(device(8 + u32::from(i / 2), i % 2, UNIT, 0))?;
     }
-    Ok(nodes)
+    Ok(spots)
 }
 
 #[test]
@@ -338,8 +383,8 @@ fn a_route_of_five_steps(rt: HostRuntime) -> Result<(), Fail> {
         h: 0x1_0000_0b00,
         want: Ok(want),
     };
-    let nodes = five_levels(rt.alloc())?;
-    tells(&rt, rt.alloc(), nodes, &case)
+    let spots = five_levels(rt.alloc())?;
+    tells(&rt, rt.alloc(), &spots, &case)
 }
 
 #[test]
@@ -370,8 +415,8 @@ fn misses(rt: HostRuntime) -> Result<(), Fail> {
         missed(two, &failing, BASE, Miss::BadBlock(0)),
     ];
     for case in &cases {
-        let nodes = nodes_of(rt.alloc(), &case.host)?;
-        tells(&rt, rt.alloc(), nodes, case)?;
+        let spots = spots_of(rt.alloc(), &case.host)?;
+        tells(&rt, rt.alloc(), &spots, case)?;
     }
     Ok(())
 }
@@ -391,8 +436,8 @@ fn ways_back(rt: HostRuntime) -> Result<(), Fail> {
         (&[], 3, 0, None),
     ];
     for (ranges, node, dpa, h) in &rows {
-        let nodes = nodes_of(rt.alloc(), &two)?;
-        let host = host_of(&rt, rt.alloc(), nodes, &two, ranges)?;
+        let spots = spots_of(rt.alloc(), &two)?;
+        let host = host_under(&rt, rt.alloc(), &spots, &two, ranges)?;
         let want = h.map(|h| Host { base: BASE, h });
         assert_eq!(rt; up_from(&host, *node, *dpa), want, "from {dpa}");
     }
@@ -407,8 +452,8 @@ fn the_least_of_two_that_meet(rt: HostRuntime) -> Result<(), Fail> {
         over(0, 1, BASE, 0x2000_0000, 0, 0),
         over(1, 2, BASE, 0x2000_0000, 0x10, 0),
     ];
-    let nodes = nodes_of(rt.alloc(), &one)?;
-    let host = host_of(&rt, rt.alloc(), nodes, &one, &ranges)?;
+    let spots = spots_of(rt.alloc(), &one)?;
+    let host = host_under(&rt, rt.alloc(), &spots, &one, &ranges)?;
     let breach = Breach {
         rule: 12,
         node: 1,
