@@ -3,6 +3,12 @@
 #![tactic(auto)]
 
 #[cfg(test)]
+mod checks;
+#[cfg(test)]
+mod findings;
+#[cfg(test)]
+mod hosts;
+#[cfg(test)]
 mod listings;
 #[cfg(test)]
 mod lists;
@@ -11,10 +17,18 @@ mod messages;
 #[cfg(test)]
 mod outside;
 #[cfg(test)]
+mod real_hosts;
+#[cfg(test)]
+mod real_images;
+#[cfg(test)]
 mod real_tables;
 #[cfg(test)]
 mod routes;
 #[cfg(test)]
 mod rows;
 #[cfg(test)]
+mod stores;
+#[cfg(test)]
 mod tables;
+#[cfg(test)]
+mod walks;
