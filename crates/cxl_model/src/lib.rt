@@ -32,7 +32,8 @@ pub use examples::{
 pub use extent::Extent;
 pub use found::{Found, Place, weave_of};
 pub use laws::{
-    accepted_or_breach, accepted_where_whole, hosts_with_caps_are_systems, chains_have_one_end, one_window,
+    accepted_or_breach, accepted_where_whole, chains_have_one_end, hosts_with_caps_are_systems,
+    one_window,
 };
 pub use plan::{Plan, PlanFault, Reason, Row};
 pub use poison::{Entry, Part, PoisonList, Poisoned, Run, Wide};
