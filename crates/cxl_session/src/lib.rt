@@ -3,7 +3,9 @@
 
 mod examples;
 mod fault;
+mod laws;
 
 pub use cxl_check::Breach;
 pub use examples::regions_are_made;
 pub use fault::OpenFault;
+pub use laws::{commands_go_as_they_can, refusals_leave_the_machine};

@@ -1,0 +1,20 @@
+//! Laws of the answers, each the contract of a function that does nothing.
+
+ghost use Rattle.std.specs.Prelude.{◌≡◌, true};
+ghost use Rattle.cxl_script.specs.declared.command.Command.{Command};
+ghost use Rattle.cxl_session.specs.Machine.{Machine};
+ghost use Rattle.cxl_session.specs.Outcomes.{BusOutcome, can_go};
+ghost use Rattle.cxl_session.specs.Replies.{Answer, is_refusal};
+ghost use Rattle.cxl_session.specs.Answers.{Answers};
+
+/// A law of answers: a refused command leaves the machine as it is.
+pub fn refusals_leave_the_machine()
+    ensures { (m : Machine) (command : Command) (outcome : BusOutcome) (answer : Answer)
+        → Answers m command outcome answer → is_refusal answer.reply ≡ true → answer.machine ≡ m }
+{}
+
+/// A law of answers: a command goes as its kind can go.
+pub fn commands_go_as_they_can()
+    ensures { (m : Machine) (command : Command) (outcome : BusOutcome) (answer : Answer)
+        → Answers m command outcome answer → can_go command outcome ≡ true }
+{}
