@@ -6,6 +6,9 @@ ghost use Rattle.cxl_session.specs.Machine.{Machine};
 ghost use Rattle.cxl_session.specs.Outcomes.{BusOutcome, can_go};
 ghost use Rattle.cxl_session.specs.Replies.{Answer, is_refusal};
 ghost use Rattle.cxl_session.specs.Answers.{Answers};
+ghost use Rattle.cxl_session.specs.Sound.{IsMachine};
+
+use cxl_model::{bytes_are_carried_one_to_one, regions_share_no_byte};
 
 /// A law of answers: a refused command leaves the machine as it is.
 pub fn refusals_leave_the_machine()
@@ -18,3 +21,12 @@ pub fn commands_go_as_they_can()
     ensures { (m : Machine) (command : Command) (outcome : BusOutcome) (answer : Answer)
         → Answers m command outcome answer → can_go command outcome ≡ true }
 {}
+
+/// A law of answers: by a machine that a session can stand for, a command that went so has one answer at the most.
+pub fn one_answer()
+    ensures { (m : Machine) (command : Command) (outcome : BusOutcome) (answer other : Answer) → IsMachine m
+        → Answers m command outcome answer → Answers m command outcome other → answer ≡ other }
+{
+    bytes_are_carried_one_to_one();
+    regions_share_no_byte();
+}

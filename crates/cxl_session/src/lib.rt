@@ -8,4 +8,4 @@ mod laws;
 pub use cxl_check::Breach;
 pub use examples::regions_are_made;
 pub use fault::OpenFault;
-pub use laws::{commands_go_as_they_can, refusals_leave_the_machine};
+pub use laws::{commands_go_as_they_can, one_answer, refusals_leave_the_machine};
