@@ -132,3 +132,10 @@ releasing contents done = at_done (job_of_release contents) done (record (with_r
 -- as many regions as may live
 abbrev pub many_regions : Machine
 many_regions = record fresh { live = replicate 256 (region_r0 map.empty) }
+
+-- the region is gone, and its decoders keep their other registers
+abbrev pub released : Machine
+released = record fresh {
+  settled =
+      two_bridges_with (port_block (of_both 0x1000)) (port_block (of_both 0x1000)) (endpoint_block (of_both 0x1010)) (endpoint_block (of_both 0x1010));
+}

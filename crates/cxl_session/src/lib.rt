@@ -6,6 +6,9 @@ mod fault;
 mod laws;
 
 pub use cxl_check::Breach;
-pub use examples::{creates_on_examples, refused_creates_on_examples};
+pub use examples::{
+    creates_on_examples, refused_creates_on_examples, release_steps_on_examples, releases_on_examples,
+    steps_on_examples,
+};
 pub use fault::OpenFault;
 pub use laws::{commands_go_as_they_can, one_answer, refusals_leave_the_machine};

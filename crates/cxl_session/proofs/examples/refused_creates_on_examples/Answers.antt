@@ -1,7 +1,7 @@
 use Rattle.std.proofs.Common.{refl, Ok, Err, arith}
 use Rattle.cxl_model.specs.declared.plan.PlanFault.TheVariants as faults
 use Rattle.cxl_reply.specs.declared.reply.Reply.TheVariants as replies
-use Rattle.cxl_session.specs.Elsewhere.{NoWays, NoSet}
+use Rattle.cxl_session.specs.Elsewhere.{NoWays, NoSize, NoSet}
 use Rattle.cxl_session.specs.Examples.{r0, b, hb0}
 use Rattle.cxl_session.proofs.examples.refused_creates_on_examples.Goals as goal
 
@@ -24,4 +24,7 @@ pub returns-clause-pick_ways : goal.returns-clause-pick_ways
 returns-clause-pick_ways c = (Err (replies.Refused (faults.Ways 5)), (Err (NoWays 5), refl, refl), record { unfailing = refl; told = refl })
 
 pub returns-clause-pick_size : goal.returns-clause-pick_size
-returns-clause-pick_size c = (Err replies.NoSet, (Err NoSet, refl, refl), record { unfailing = refl; told = refl })
+returns-clause-pick_size c = (Err (replies.Refused faults.Size), (Err NoSize, refl, refl), record { unfailing = refl; told = refl })
+
+pub returns-clause-no_set : goal.returns-clause-no_set
+returns-clause-no_set c = (Err replies.NoSet, (Err NoSet, refl, refl), record { unfailing = refl; told = refl })
