@@ -4,3 +4,4 @@ pub mod LiveRegions
 pub mod Alike
 pub mod AlikePoison
 pub mod AlikeAnswers
+pub mod ExampleBytes

@@ -12,6 +12,7 @@ use Rattle.cxl_model.specs.Contents.{Contents}
 use Rattle.cxl_model.specs.Examples.{two_bridges, two_bridges_with, window_of_both, of_both, decoder, port_block, endpoint_block, endpoint_block_of_two, port_cap, endpoint_cap}
 use Rattle.cxl_model.specs.ExampleRegions.{region_of_two}
 use Rattle.cxl_reply.specs.declared.told.Named.{Named}
+use Rattle.cxl_reply.specs.declared.told.ShownRow.{ShownRow}
 use Rattle.cxl_session.specs.Machine.{Live, Job, Machine}
 use Rattle.cxl_session.specs.Jobs.{create_job, release_job, begun, at_done}
 use Rattle.cxl_session.specs.Planning.{plan_at}
@@ -139,3 +140,14 @@ released = record fresh {
   settled =
       two_bridges_with (port_block (of_both 0x1000)) (port_block (of_both 0x1000)) (endpoint_block (of_both 0x1010)) (endpoint_block (of_both 0x1010));
 }
+
+-- the second region has another size
+abbrev pub with_unequal : Machine
+with_unequal = record fresh {
+  live = region_r0 map.empty ∷ record { name = b; found = record found_b { size = 0x40000000 }; contents = map.empty } ∷ [];
+}
+
+-- the words of the first region's decoder in a node
+abbrev pub row_shown : ℕ → ℕ → ShownRow
+row_shown node control =
+    record { node = node; decoder = 0; words = 0 ∷ 1 ∷ 0x20000000 ∷ 0 ∷ control ∷ 0 ∷ 0 ∷ [] }

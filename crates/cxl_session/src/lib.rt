@@ -1,10 +1,12 @@
 //! Sessions: commands over the registers and the memory of a host, and what each of them is answered.
 #![tactic(auto)]
 
+mod access_examples;
 mod examples;
 mod fault;
 mod laws;
 
+pub use access_examples::{addresses_on_examples, bytes_on_examples, copies_on_examples};
 pub use cxl_check::Breach;
 pub use examples::{
     creates_on_examples, refused_creates_on_examples, release_steps_on_examples, releases_on_examples,
