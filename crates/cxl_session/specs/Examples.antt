@@ -1,5 +1,5 @@
 -- Worked machines over two bridges with one endpoint each: laws say what commands are answered by them.
-use Rattle.std.specs.Prelude.{ℕ, ◌+◌, true, false, List, [], ◌∷◌, codes, replicate, Option, Some, None}
+use Rattle.std.specs.Prelude.{ℕ, true, false, List, [], ◌∷◌, ◌++◌, codes, replicate, Option, Some, None}
 use Rattle.std.specs.FinMap as map
 use Rattle.cxl_enc.specs.declared.caps.MemKind.TheVariants.{Ram}
 use Rattle.cxl_regs.specs.declared.decoder.Decoder.{Decoder}
@@ -17,6 +17,7 @@ use Rattle.cxl_session.specs.Machine.{Live, Job, Machine}
 use Rattle.cxl_session.specs.Jobs.{create_job, release_job, begun, at_done}
 use Rattle.cxl_session.specs.Planning.{plan_at}
 use Rattle.cxl_session.specs.Requests.{request_for}
+use Rattle.cxl_session.specs.Sound.{auto_name}
 
 -- ---- names
 
@@ -151,3 +152,16 @@ with_unequal = record fresh {
 abbrev pub row_shown : ℕ → ℕ → ShownRow
 row_shown node control =
     record { node = node; decoder = 0; words = 0 ∷ 1 ∷ 0x20000000 ∷ 0 ∷ control ∷ 0 ∷ 0 ∷ [] }
+
+-- a poison list that says so many records and has one: two units from device address 0xfffffc0 on
+abbrev pub poison_bytes : ℕ → List ℕ
+poison_bytes said =
+    replicate 10 0 ++ said ∷ replicate 21 0
+    ++ 0xc2 ∷ 0xff ∷ 0xff ∷ 0x0f ∷ 0 ∷ 0 ∷ 0 ∷ 0 ∷ 2 ∷ 0 ∷ 0 ∷ 0 ∷ 0 ∷ 0 ∷ 0 ∷ 0 ∷ []
+
+-- the host with one region as it opens from its image
+abbrev pub opened : Machine
+opened = record fresh {
+  settled = two_bridges;
+  live = record { name = auto_name 0; found = region_of_two; contents = map.empty } ∷ [];
+}

@@ -18,3 +18,4 @@ pub mod Sound
 pub mod Trails
 pub mod Scripts
 pub mod Examples
+pub mod ExamplePlans

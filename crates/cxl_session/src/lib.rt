@@ -5,6 +5,8 @@ mod access_examples;
 mod examples;
 mod fault;
 mod laws;
+mod opening_examples;
+mod plan_examples;
 
 pub use access_examples::{addresses_on_examples, bytes_on_examples, copies_on_examples};
 pub use cxl_check::Breach;
@@ -13,4 +15,8 @@ pub use examples::{
     steps_on_examples,
 };
 pub use fault::OpenFault;
+pub use opening_examples::openings_on_examples;
+pub use plan_examples::{
+    plan_faults_on_examples, poison_on_examples, scripts_on_examples, trails_on_examples,
+};
 pub use laws::{commands_go_as_they_can, one_answer, refusals_leave_the_machine};
