@@ -13,7 +13,7 @@ use Rattle.cxl_model.specs.declared.poison.Poisoned.{Poisoned}
 use Rattle.cxl_model.specs.declared.request.Request.{Request}
 use Rattle.cxl_reply.specs.declared.reply.Reply.{Reply}
 use Rattle.cxl_reply.specs.declared.reply.Reply.TheVariants as replies
-use Rattle.cxl_session.specs.Machine.{Live, Job, Machine, holding_of}
+use Rattle.cxl_session.specs.Machine.{Live, RegionJob, Machine, holding_of}
 use Rattle.cxl_session.specs.Outcomes.{BusOutcome, NoFault, Undone, LeftPending, ReadFailed}
 use Rattle.cxl_session.specs.Replies.{Answer, stays, Gives, endpoint_named}
 use Rattle.cxl_session.specs.Accesses.{AnswersUp, TellsHost, no_endpoint, told}
@@ -36,57 +36,57 @@ gives outcome answer other given one two = one.told ∙ sym two.told
 -- ---- the job that is asked for
 
 module _ (m : Machine) where
-  one_plan : (request : Request) (asked other : Result Job Reply) → AsksPlan m request asked → AsksPlan m request other → asked ≡ other
+  one_plan : (request : Request) (asked other : Result RegionJob Reply) → AsksPlan m request asked → AsksPlan m request other → asked ≡ other
   one_plan request asked other (plan, planned, is) (plan', planned', is') = is ∙ ap (job_of_plan m) (planned ∙ sym planned') ∙ sym is'
 
-  one_over : (create : Create) (answer : Result (List ℕ) PickRefusal) (asked other : Result Job Reply) → AsksPlanOver m create answer asked
+  one_over : (create : Create) (answer : Result (List ℕ) PickRefusal) (asked other : Result RegionJob Reply) → AsksPlanOver m create answer asked
       → AsksPlanOver m create answer other → asked ≡ other
   one_over create (Ok endpoints) asked other one two = one_plan (request_for create endpoints) asked other one two
   one_over create (Err refusal) asked other one two = one ∙ sym two
 
-  one_unrefused : (create : Create) (ways : Option ℕ) (asked other : Result Job Reply) → AsksUnrefused m create ways asked → AsksUnrefused m create ways other
+  one_unrefused : (create : Create) (ways : Option ℕ) (asked other : Result RegionJob Reply) → AsksUnrefused m create ways asked → AsksUnrefused m create ways other
       → asked ≡ other
   one_unrefused create None asked other one two = one_plan (request_of m create) asked other one two
   one_unrefused create (Some ways) asked other (pick, picked, one) (pick', picked', two) =
       one_over create pick asked other one (subst (λ (p : Result (List ℕ) PickRefusal). AsksPlanOver m create p other) (picked' ∙ sym picked) two)
 
-  one_unless : (create : Create) (refusal : Option Reply) (asked other : Result Job Reply) → AsksUnless m create refusal asked → AsksUnless m create refusal other
+  one_unless : (create : Create) (refusal : Option Reply) (asked other : Result RegionJob Reply) → AsksUnless m create refusal asked → AsksUnless m create refusal other
       → asked ≡ other
   one_unless create (Some refusal) asked other one two = one ∙ sym two
   one_unless create None asked other one two = one_unrefused create create.ways asked other one two
 
-  one_asked : (create : Create) (asked other : Result Job Reply) → AsksCreate m create asked → AsksCreate m create other → asked ≡ other
+  one_asked : (create : Create) (asked other : Result RegionJob Reply) → AsksCreate m create asked → AsksCreate m create other → asked ≡ other
   one_asked create = one_unless create (refusal_of_create m create)
 
   -- ---- jobs
 
-  carried_out : (job : Job) (outcome : BusOutcome) (answer other : Answer) → CarriesOutWhole m job outcome answer → CarriesOutWhole m job outcome other
+  carried_out : (job : RegionJob) (outcome : BusOutcome) (answer other : Answer) → CarriesOutWhole m job outcome answer → CarriesOutWhole m job outcome other
       → answer ≡ other
   carried_out job NoFault answer other one two = one ∙ sym two
   carried_out job Undone answer other one two = one ∙ sym two
   carried_out job (LeftPending done) answer other one two = one.1 ∙ sym two.1
   carried_out job ReadFailed answer other one two = absurd one
 
-  whole : (asked : Result Job Reply) (outcome : BusOutcome) (answer other : Answer) → AnswersWhole m asked outcome answer → AnswersWhole m asked outcome other
+  whole : (asked : Result RegionJob Reply) (outcome : BusOutcome) (answer other : Answer) → AnswersWhole m asked outcome answer → AnswersWhole m asked outcome other
       → answer ≡ other
   whole (Ok job) outcome answer other one two = carried_out job outcome answer other one two
   whole (Err refusal) outcome answer other one two = gives outcome answer other _ one two
 
-  stepped : (job : Job) (steps : ℕ) (outcome : BusOutcome) (answer other : Answer) → Steps m job steps outcome answer → Steps m job steps outcome other
+  stepped : (job : RegionJob) (steps : ℕ) (outcome : BusOutcome) (answer other : Answer) → Steps m job steps outcome answer → Steps m job steps outcome other
       → answer ≡ other
   stepped job steps NoFault answer other one two = one ∙ sym two
   stepped job steps Undone answer other one two = absurd one
   stepped job steps (LeftPending done) answer other one two = one.1 ∙ sym two.1
   stepped job steps ReadFailed answer other one two = absurd one
 
-  aborted : (job : Job) (outcome : BusOutcome) (answer other : Answer) → Aborts m job outcome answer → Aborts m job outcome other → answer ≡ other
+  aborted : (job : RegionJob) (outcome : BusOutcome) (answer other : Answer) → Aborts m job outcome answer → Aborts m job outcome other → answer ≡ other
   aborted job NoFault answer other one two = one ∙ sym two
   aborted job Undone answer other one two = absurd one
   aborted job (LeftPending done) answer other one two = one.1 ∙ sym two.1
   aborted job ReadFailed answer other one two = absurd one
 
-  pending : (o : Option Job) (outcome : BusOutcome) (answer other : Answer) (goes : Answer → Job → Type 0)
-      → ((job : Job) → goes answer job → goes other job → answer ≡ other) → OfPending m o outcome answer (goes answer) → OfPending m o outcome other (goes other)
+  pending : (o : Option RegionJob) (outcome : BusOutcome) (answer other : Answer) (goes : Answer → RegionJob → Type 0)
+      → ((job : RegionJob) → goes answer job → goes other job → answer ≡ other) → OfPending m o outcome answer (goes answer) → OfPending m o outcome other (goes other)
       → answer ≡ other
   pending None outcome answer other goes each one two = gives outcome answer other _ one two
   pending (Some job) outcome answer other goes each one two = each job one two
@@ -137,7 +137,7 @@ module _ (laws : CarriageLaws) (m : Machine) (is : IsMachine m) where
 
   pub one_answer : (command : Command) (outcome : BusOutcome) (answer other : Answer) → Answers m command outcome answer → Answers m command outcome other → answer ≡ other
   one_answer (commands.Create create) outcome answer other (asked, asks, one) (asked', asks', two) =
-      whole m asked outcome answer other one (subst (λ (a : Result Job Reply). AnswersWhole m a outcome other) (one_asked m create asked' asked asks' asks) two)
+      whole m asked outcome answer other one (subst (λ (a : Result RegionJob Reply). AnswersWhole m a outcome other) (one_asked m create asked' asked asks' asks) two)
   one_answer (commands.Destroy name) outcome answer other one two = whole m _ outcome answer other one two
   one_answer (commands.Show name) outcome answer other one two = shown m name outcome answer other one two
   one_answer (commands.Down h) outcome answer other one two = gives outcome answer other _ one two
@@ -146,7 +146,7 @@ module _ (laws : CarriageLaws) (m : Machine) (is : IsMachine m) where
   one_answer (commands.Store store) outcome answer other one two = gives outcome answer other _ one two
   one_answer (commands.Poison asked) outcome answer other one two = poison asked answer other one.1 two.1
   one_answer (commands.BeginCreate create) outcome answer other (asked, asks, one) (asked', asks', two) =
-      gives outcome answer other (begin_answer m asked) one (subst (λ (a : Result Job Reply). Gives outcome other (begin_answer m a)) (one_asked m create asked' asked asks' asks) two)
+      gives outcome answer other (begin_answer m asked) one (subst (λ (a : Result RegionJob Reply). Gives outcome other (begin_answer m a)) (one_asked m create asked' asked asks' asks) two)
   one_answer (commands.BeginDestroy name) outcome answer other one two = gives outcome answer other _ one two
   one_answer (commands.Step steps) outcome answer other one two =
       pending m m.job outcome answer other (λ a job. Steps m job steps outcome a) (λ job. stepped m job steps outcome answer other) one two

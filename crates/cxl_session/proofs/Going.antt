@@ -3,7 +3,7 @@ use Rattle.std.proofs.Common.{◌≡◌, ℕ, Bool, true, Result, Ok, Err, Optio
 use Rattle.cxl_script.specs.declared.command.Command.{Command}
 use Rattle.cxl_script.specs.declared.command.Command.TheVariants as commands
 use Rattle.cxl_reply.specs.declared.reply.Reply.{Reply}
-use Rattle.cxl_session.specs.Machine.{Job, Machine}
+use Rattle.cxl_session.specs.Machine.{RegionJob, Machine}
 use Rattle.cxl_session.specs.Outcomes.{BusOutcome, NoFault, Undone, LeftPending, ReadFailed, can_go, of_whole_job, of_steps, of_reads, of_no_call}
 use Rattle.cxl_session.specs.Replies.{Answer, Gives}
 use Rattle.cxl_session.specs.Reports.{AnswersShow}
@@ -14,29 +14,29 @@ use Rattle.cxl_session.specs.Answers.{Answers}
 calm : (test : BusOutcome → Bool) (outcome : BusOutcome) → test NoFault ≡ true → outcome ≡ NoFault → test outcome ≡ true
 calm test outcome at is = subst (λ (o : BusOutcome). test o ≡ true) (sym is) at
 
-carried_out : (m : Machine) (job : Job) (outcome : BusOutcome) (answer : Answer) → CarriesOutWhole m job outcome answer → of_whole_job outcome ≡ true
+carried_out : (m : Machine) (job : RegionJob) (outcome : BusOutcome) (answer : Answer) → CarriesOutWhole m job outcome answer → of_whole_job outcome ≡ true
 carried_out m job NoFault answer is = refl
 carried_out m job Undone answer is = refl
 carried_out m job (LeftPending done) answer is = refl
 carried_out m job ReadFailed answer is = absurd is
 
-whole : (m : Machine) (asked : Result Job Reply) (outcome : BusOutcome) (answer : Answer) → AnswersWhole m asked outcome answer → of_whole_job outcome ≡ true
+whole : (m : Machine) (asked : Result RegionJob Reply) (outcome : BusOutcome) (answer : Answer) → AnswersWhole m asked outcome answer → of_whole_job outcome ≡ true
 whole m (Ok job) outcome answer is = carried_out m job outcome answer is
 whole m (Err refusal) outcome answer is = calm of_whole_job outcome refl is.unfailing
 
-stepped : (m : Machine) (job : Job) (steps : ℕ) (outcome : BusOutcome) (answer : Answer) → Steps m job steps outcome answer → of_steps outcome ≡ true
+stepped : (m : Machine) (job : RegionJob) (steps : ℕ) (outcome : BusOutcome) (answer : Answer) → Steps m job steps outcome answer → of_steps outcome ≡ true
 stepped m job steps NoFault answer is = refl
 stepped m job steps Undone answer is = absurd is
 stepped m job steps (LeftPending done) answer is = refl
 stepped m job steps ReadFailed answer is = absurd is
 
-aborted : (m : Machine) (job : Job) (outcome : BusOutcome) (answer : Answer) → Aborts m job outcome answer → of_steps outcome ≡ true
+aborted : (m : Machine) (job : RegionJob) (outcome : BusOutcome) (answer : Answer) → Aborts m job outcome answer → of_steps outcome ≡ true
 aborted m job NoFault answer is = refl
 aborted m job Undone answer is = absurd is
 aborted m job (LeftPending done) answer is = refl
 aborted m job ReadFailed answer is = absurd is
 
-pending : (m : Machine) (o : Option Job) (outcome : BusOutcome) (answer : Answer) (goes : Job → Type 0) → ((job : Job) → goes job → of_steps outcome ≡ true)
+pending : (m : Machine) (o : Option RegionJob) (outcome : BusOutcome) (answer : Answer) (goes : RegionJob → Type 0) → ((job : RegionJob) → goes job → of_steps outcome ≡ true)
     → OfPending m o outcome answer goes → of_steps outcome ≡ true
 pending m None outcome answer goes each is = calm of_steps outcome refl is.unfailing
 pending m (Some job) outcome answer goes each is = each job is

@@ -11,8 +11,8 @@ use Rattle.cxl_script.specs.declared.command.Poison.{Poison}
 use Rattle.cxl_script.specs.declared.command.Store.{Store}
 use Rattle.cxl_script.specs.declared.command.Up.{Up}
 use Rattle.cxl_reply.specs.declared.reply.Reply.{Reply}
-use Rattle.cxl_session.specs.Machine.{Live, Job, JobKind, Creates, Releases, Machine, live_named, live_at, free_frames}
-use Rattle.cxl_session.specs.Jobs.{total_of, begun, ended}
+use Rattle.cxl_session.specs.Machine.{Live, RegionJob, JobKind, Creates, Releases, Machine, live_named, live_at, free_frames}
+use Rattle.cxl_session.specs.Jobs.{total_of, begun, finished}
 use Rattle.cxl_session.specs.Outcomes.{BusOutcome, NoFault, Undone, LeftPending, ReadFailed}
 use Rattle.cxl_session.specs.Replies.{Answer, stays, becomes, Gives, is_refusal, at_name, at_host, within_region, ends_within}
 use Rattle.cxl_session.specs.Accesses.{store_into, frames_wanted, AnswersUp, no_endpoint, told}
@@ -59,41 +59,41 @@ module _ (m : Machine) where
       (λ refused. refl))
       (λ refused. refl)
 
-  done_reply : (job : Job) (kind : JobKind) → is_refusal (ended_reply job kind) ≡ false
+  done_reply : (job : RegionJob) (kind : JobKind) → is_refusal (ended_reply job kind) ≡ false
   done_reply job (Creates rows) = refl
   done_reply job (Releases place) = refl
 
-  done : (job : Job) (machine : Machine) → Leaves m (ended_answer job machine)
+  done : (job : RegionJob) (machine : Machine) → Leaves m (ended_answer job machine)
   done job machine refused = absurd (false≢true (sym (done_reply job job.kind) ∙ refused))
 
-  carried_out : (job : Job) (outcome : BusOutcome) (answer : Answer) → CarriesOutWhole m job outcome answer → Leaves m answer
+  carried_out : (job : RegionJob) (outcome : BusOutcome) (answer : Answer) → CarriesOutWhole m job outcome answer → Leaves m answer
   carried_out job NoFault answer is = given answer _ is (done job (begun job m))
   carried_out job Undone answer is = given answer _ is (λ refused. refl)
   carried_out job (LeftPending left) answer is = given answer _ is.1 (λ refused. absurd (false≢true refused))
   carried_out job ReadFailed answer is = absurd is
 
-  whole : (asked : Result Job Reply) (outcome : BusOutcome) (answer : Answer) → AnswersWhole m asked outcome answer → Leaves m answer
+  whole : (asked : Result RegionJob Reply) (outcome : BusOutcome) (answer : Answer) → AnswersWhole m asked outcome answer → Leaves m answer
   whole (Ok job) outcome answer is = carried_out job outcome answer is
   whole (Err refusal) outcome answer is = given answer _ is.told (λ refused. refl)
 
-  begins : (asked : Result Job Reply) → Leaves m (begin_answer m asked)
+  begins : (asked : Result RegionJob Reply) → Leaves m (begin_answer m asked)
   begins (Ok job) = λ refused. absurd (false≢true refused)
   begins (Err refusal) = λ refused. refl
 
-  stepped : (job : Job) (steps : ℕ) (outcome : BusOutcome) (answer : Answer) → Steps m job steps outcome answer → Leaves m answer
+  stepped : (job : RegionJob) (steps : ℕ) (outcome : BusOutcome) (answer : Answer) → Steps m job steps outcome answer → Leaves m answer
   stepped job steps NoFault answer is =
       given answer _ is (by_test (nat_le (total_of job) (job.done + steps)) _ _ (done job m) (λ refused. absurd (false≢true refused)))
   stepped job steps Undone answer is = absurd is
   stepped job steps (LeftPending left) answer is = given answer _ is.1 (λ refused. absurd (false≢true refused))
   stepped job steps ReadFailed answer is = absurd is
 
-  aborted : (job : Job) (outcome : BusOutcome) (answer : Answer) → Aborts m job outcome answer → Leaves m answer
+  aborted : (job : RegionJob) (outcome : BusOutcome) (answer : Answer) → Aborts m job outcome answer → Leaves m answer
   aborted job NoFault answer is = given answer _ is (λ refused. absurd (false≢true refused))
   aborted job Undone answer is = absurd is
   aborted job (LeftPending left) answer is = given answer _ is.1 (λ refused. absurd (false≢true refused))
   aborted job ReadFailed answer is = absurd is
 
-  pending : (o : Option Job) (outcome : BusOutcome) (answer : Answer) (goes : Job → Type 0) → ((job : Job) → goes job → Leaves m answer)
+  pending : (o : Option RegionJob) (outcome : BusOutcome) (answer : Answer) (goes : RegionJob → Type 0) → ((job : RegionJob) → goes job → Leaves m answer)
       → OfPending m o outcome answer goes → Leaves m answer
   pending None outcome answer goes each is = given answer _ is.told (λ refused. refl)
   pending (Some job) outcome answer goes each is = each job is

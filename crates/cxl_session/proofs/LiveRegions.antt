@@ -11,16 +11,16 @@ use Rattle.cxl_model.specs.declared.found.Found.{Found}
 use Rattle.cxl_model.specs.System.{System, IsSystem}
 use Rattle.cxl_model.specs.Ranges.{window_for, lies_within}
 use Rattle.cxl_model.specs.Regions.{region_range, IsRegion, IsRegionIn}
-use Rattle.cxl_session.specs.Machine.{Live, Machine, no_window, window_of, kept_regions, under_release}
+use Rattle.cxl_session.specs.Machine.{Live, Machine, absent_window, region_window, kept_regions, under_release}
 use Rattle.cxl_session.specs.Sound.{IsMachine}
 
 -- the region lies in the window of its number
-window_there : (s : System) (w : WindowFields) (found : Found) → IsSystem s → IsRegionIn s w found → window_of s found ≡ w
+window_there : (s : System) (w : WindowFields) (found : Found) → IsSystem s → IsRegionIn s w found → region_window s found ≡ w
 window_there s w found system is =
     let i : ℕ = position_or_len (lies_within (region_range found)) s.windows in
     let at : slice_get s.windows i ≡ Some w = sym (find_at (lies_within (region_range found)) s.windows) ∙ is.window in
     let place : found.window ≡ i = is.index ∙ system.made.indexed i w at in
-    ap (λ (n : ℕ). unwrap_or (slice_get s.windows n) no_window) place ∙ ap (λ (o : Option WindowFields). unwrap_or o no_window) at
+    ap (λ (n : ℕ). unwrap_or (slice_get s.windows n) absent_window) place ∙ ap (λ (o : Option WindowFields). unwrap_or o absent_window) at
 
 -- the found at a place of those kept is that of the live region there
 found_at : (m : Machine) (region : Live) (k : ℕ) (d : Found) → k < length m.live → get_or m.live k region ≡ region
@@ -34,7 +34,7 @@ kept_below : (m : Machine) (k : ℕ) → k < length m.live → k < length (map (
 kept_below m k below =
     omega (arith, length-map (kept_regions m) (λ (r : Live). r.found), length-append m.live (under_release m.job))
 
-pub live_is_region : (m : Machine) → IsMachine m → (region : Live) → Contains m.live region → IsRegionIn m.settled (window_of m.settled region.found) region.found
+pub live_is_region : (m : Machine) → IsMachine m → (region : Live) → Contains m.live region → IsRegionIn m.settled (region_window m.settled region.found) region.found
 live_is_region m is region (k, below, read) =
     let own : IsRegion m.settled region.found =
     subst (IsRegion m.settled) (found_at m region k region.found below read) (is.regions.all.each k region.found (kept_below m k below)) in

@@ -19,7 +19,7 @@ use Rattle.cxl_reply.specs.declared.reply.Reply.{Reply}
 use Rattle.cxl_reply.specs.declared.reply.Reply.TheVariants as replies
 use Rattle.cxl_reply.specs.declared.told.Downed.{Downed}
 use Rattle.cxl_reply.specs.declared.told.Via.{Via}
-use Rattle.cxl_session.specs.Machine.{Live, Machine, window_of, weave_of, free_frames, with_contents}
+use Rattle.cxl_session.specs.Machine.{Live, Machine, region_window, weave_of, free_frames, with_contents}
 use Rattle.cxl_session.specs.Bytes.{bytes_at, new_pieces, written}
 use Rattle.cxl_session.specs.Elsewhere.{extents_of, spread_of}
 use Rattle.cxl_session.specs.Replies.{Answer, stays, becomes, endpoint_named, at_host, within_region}
@@ -55,14 +55,14 @@ abbrev pub slot_of_host : Machine → Live → ℕ → ℕ
 slot_of_host m region h = dealt_slot (weave_of m.settled region.found) h
 
 -- the place of a slot; each slot has one
-abbrev pub place_at : Found → ℕ → Place
-place_at found slot = option_map_or (λ place. place) (slice_get found.spans slot) record { endpoint = 0; start = 0 }
+abbrev pub slot_place : Found → ℕ → Place
+slot_place found slot = option_map_or (λ place. place) (slice_get found.spans slot) record { endpoint = 0; start = 0 }
 
 -- the ports on the way of a host byte, from the bridge down, each with its decoder of the region and the entry
 abbrev pub steps_to : Machine → Live → ℕ → List Step
 steps_to m region h =
-    slot_steps m.settled (window_of m.settled region.found) (region_range region.found) (slot_of_host m region h)
-    (place_at region.found (slot_of_host m region h)).endpoint
+    slot_steps m.settled (region_window m.settled region.found) (region_range region.found) (slot_of_host m region h)
+    (slot_place region.found (slot_of_host m region h)).endpoint
 
 abbrev pub via_of : Step → Via
 via_of step = record { node = step.node; decoder = step.decoder; entry = step.entry }
@@ -78,11 +78,11 @@ downed m h region =
       h = h;
       name = region.name;
       slot = slot;
-      position = position_of (window_of m.settled region.found) h;
+      position = position_of (region_window m.settled region.found) h;
       len = length (steps_to m region h);
       via = five_vias (steps_to m region h);
-      endpoint = (place_at region.found slot).endpoint;
-      dpa = (place_at region.found slot).start + dealt_offset (weave_of m.settled region.found) h;
+      endpoint = (slot_place region.found slot).endpoint;
+      dpa = (slot_place region.found slot).start + dealt_offset (weave_of m.settled region.found) h;
     }
 
 abbrev pub down_answer : Machine → ℕ → Answer
@@ -93,7 +93,7 @@ down_answer m h = at_host m h (λ region. stays m (replies.Down (downed m h regi
 -- what a byte of an endpoint's device is answered: the host address that a live region carries to it, or that it lies in no
 -- live region's span
 pub data TellsHost (m : Machine) (endpoint dpa : ℕ) (reply : Reply) : Type 0 where
-  carried : (region : Live) (h : ℕ) → Contains m.live region → Carries region.found (window_of m.settled region.found) h endpoint dpa → reply ≡ replies.Up record { h = h; name = region.name } → TellsHost m endpoint dpa reply
+  carried : (region : Live) (h : ℕ) → Contains m.live region → Carries region.found (region_window m.settled region.found) h endpoint dpa → reply ≡ replies.Up record { h = h; name = region.name } → TellsHost m endpoint dpa reply
   unmapped : ((region : Live) → Contains m.live region → ¬ (LiesInSpan region.found endpoint dpa)) → reply ≡ replies.Unmapped → TellsHost m endpoint dpa reply
 
 pub data AnswersUp (m : Machine) (up : Up) (answer : Answer) : Type 0 where
@@ -108,13 +108,13 @@ endpoints_by_slot found = map (λ place. place.endpoint) found.spans
 abbrev pub range_answer : Machine → Reach → Answer
 range_answer m reach =
     within_region m reach.h reach.len (λ region. stays m (replies.Extents record {
-      extents = extents_of region.found (window_of m.settled region.found) reach.h reach.len;
+      extents = extents_of region.found (region_window m.settled region.found) reach.h reach.len;
       endpoints = endpoints_by_slot region.found;
     }))
 
 abbrev pub spread_answer : Machine → Reach → Answer
 spread_answer m reach =
     within_region m reach.h reach.len (λ region. stays m (replies.Spread record {
-      bytes = spread_of region.found (window_of m.settled region.found) reach.h reach.len;
+      bytes = spread_of region.found (region_window m.settled region.found) reach.h reach.len;
       endpoints = endpoints_by_slot region.found;
     }))

@@ -21,5 +21,5 @@ abbrev pub Picks : System → Want → Result (List ℕ) PickRefusal → Type 0
 Picks s want answer = answer ≡ picked s want
 
 -- the bytes of a poison list say this
-abbrev pub Reads : List ℕ → Payload → Type 0
-Reads bytes payload = payload ≡ payload_of bytes
+abbrev pub ReadsPoison : List ℕ → Payload → Type 0
+ReadsPoison bytes payload = payload ≡ payload_of bytes

@@ -13,7 +13,7 @@ use Rattle.cxl_model.specs.Examples.{two_bridges, two_bridges_with, window_of_bo
 use Rattle.cxl_model.specs.ExampleRegions.{region_of_two}
 use Rattle.cxl_reply.specs.declared.told.Named.{Named}
 use Rattle.cxl_reply.specs.declared.told.ShownRow.{ShownRow}
-use Rattle.cxl_session.specs.Machine.{Live, Job, Machine}
+use Rattle.cxl_session.specs.Machine.{Live, RegionJob, Machine}
 use Rattle.cxl_session.specs.Jobs.{create_job, release_job, begun, at_done}
 use Rattle.cxl_session.specs.Planning.{plan_at}
 use Rattle.cxl_session.specs.Requests.{request_for}
@@ -114,7 +114,7 @@ with_locked = record (with_r0 map.empty) { settled = locked_bridges }
 -- ---- jobs
 
 -- the second region is being made, with so many writes made
-abbrev pub job_b : Job
+abbrev pub job_b : RegionJob
 job_b = create_job two_bridges plan_b
 
 abbrev pub making_b : ℕ → Machine
@@ -125,7 +125,7 @@ abbrev pub making_r0 : ℕ → Machine
 making_r0 done = at_done (create_job reset_system plan_r0) done fresh
 
 -- the region with these bytes is being released, with so many writes made
-abbrev pub job_of_release : Contents → Job
+abbrev pub job_of_release : Contents → RegionJob
 job_of_release contents = release_job two_bridges 0 (region_r0 contents)
 
 abbrev pub releasing : Contents → ℕ → Machine
@@ -136,8 +136,8 @@ abbrev pub many_regions : Machine
 many_regions = record fresh { live = replicate 256 (region_r0 map.empty) }
 
 -- the region is gone, and its decoders keep their other registers
-abbrev pub released : Machine
-released = record fresh {
+abbrev pub without_r0 : Machine
+without_r0 = record fresh {
   settled =
       two_bridges_with (port_block (of_both 0x1000)) (port_block (of_both 0x1000)) (endpoint_block (of_both 0x1010)) (endpoint_block (of_both 0x1010));
 }

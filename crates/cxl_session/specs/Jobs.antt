@@ -9,7 +9,7 @@ use Rattle.cxl_model.specs.Plans.{with_rows}
 use Rattle.cxl_apply.specs.declared.write.Write.{Write}
 use Rattle.cxl_apply.specs.Jobs.{row_writes, release_write}
 use Rattle.cxl_apply.specs.Releases.{rows_of, system_without}
-use Rattle.cxl_session.specs.Machine.{Live, Job, JobKind, Creates, Releases, Machine}
+use Rattle.cxl_session.specs.Machine.{Live, RegionJob, JobKind, Creates, Releases, Machine}
 
 -- ---- the job of a plan and of a release
 
@@ -26,15 +26,15 @@ abbrev pub planned_region : Plan → Live
 planned_region plan = record { name = plan.name; found = plan.found; contents = map.empty }
 
 -- with no write made
-abbrev pub create_job : System → Plan → Job
+abbrev pub create_job : System → Plan → RegionJob
 create_job s plan =
     record { kind = Creates plan.rows; region = planned_region plan; writes = create_writes s plan.rows; done = 0 }
 
-abbrev pub release_job : System → ℕ → Live → Job
+abbrev pub release_job : System → ℕ → Live → RegionJob
 release_job s place region =
     record { kind = Releases place; region = region; writes = release_writes s region; done = 0 }
 
-abbrev pub total_of : Job → ℕ
+abbrev pub total_of : RegionJob → ℕ
 total_of job = length job.writes
 
 -- ---- the live regions
@@ -45,34 +45,34 @@ live_while (Creates rows) live = live
 live_while (Releases place) live = remove live place
 
 -- a region that was made is the last
-abbrev pub live_when_done : Job → JobKind → List Live → List Live
+abbrev pub live_when_done : RegionJob → JobKind → List Live → List Live
 live_when_done job (Creates rows) live = live ++ job.region ∷ []
 live_when_done job (Releases place) live = live
 
 -- a region whose release is undone is live again, at its old place
-abbrev pub live_when_undone : Job → JobKind → List Live → List Live
+abbrev pub live_when_undone : RegionJob → JobKind → List Live → List Live
 live_when_undone job (Creates rows) live = live
 live_when_undone job (Releases place) live = insert live place job.region
 
 -- the image with the rows committed, or with the region's decoders released
-abbrev pub settled_by : Job → JobKind → System → System
+abbrev pub settled_by : RegionJob → JobKind → System → System
 settled_by job (Creates rows) s = with_rows s rows
 settled_by job (Releases place) s = system_without s job.region.found
 
 -- ---- machines
 
 -- the job is pending, with so many of its writes made
-abbrev pub at_done : Job → ℕ → Machine → Machine
+abbrev pub at_done : RegionJob → ℕ → Machine → Machine
 at_done job done m = record m { job = Some (record job { done = done }) }
 
 -- the job is begun
-abbrev pub begun : Job → Machine → Machine
+abbrev pub begun : RegionJob → Machine → Machine
 begun job m = at_done job job.done (record m { live = live_while job.kind m.live })
 
 -- the job that is pending has made its last write
-abbrev pub ended : Job → Machine → Machine
-ended job m = record m { settled = settled_by job job.kind m.settled; live = live_when_done job job.kind m.live; job = None }
+abbrev pub finished : RegionJob → Machine → Machine
+finished job m = record m { settled = settled_by job job.kind m.settled; live = live_when_done job job.kind m.live; job = None }
 
 -- the job that is pending is undone whole
-abbrev pub undone : Job → Machine → Machine
+abbrev pub undone : RegionJob → Machine → Machine
 undone job m = record m { live = live_when_undone job job.kind m.live; job = None }

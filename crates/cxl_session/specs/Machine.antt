@@ -27,7 +27,7 @@ pub data JobKind : Type 0 where
   Releases : (place : ℕ) → JobKind
 
 -- a job with its region, its register writes in order, and how many of them are made
-pub record Job : Type 0 where
+pub record RegionJob : Type 0 where
   pub kind : JobKind
   pub region : Live
   pub writes : List Write
@@ -39,7 +39,7 @@ pub record Machine : Type 0 where
   pub settled : System
   pub live : List Live
   pub frames : ℕ
-  pub job : Option Job
+  pub job : Option RegionJob
 
 -- the most regions that live
 abbrev pub region_limit : ℕ
@@ -66,29 +66,29 @@ live_at m h = find (λ (region : Live). has_host region.found h) m.live
 -- ---- windows
 
 -- what is said of a window that is not there; each region has its window
-abbrev pub no_window : WindowFields
-no_window = record { index = 0; base = 0; size = 0; ways = 1; gran = 0; xor = false; maps = replicate 4 0; restrict = 0; targets = 0 ∷ []; verdict = Size }
+abbrev pub absent_window : WindowFields
+absent_window = record { index = 0; base = 0; size = 0; ways = 1; gran = 0; xor = false; maps = replicate 4 0; restrict = 0; targets = 0 ∷ []; verdict = Size }
 
 -- the window in which a region lies
-abbrev pub window_of : System → Found → WindowFields
-window_of s found = unwrap_or (slice_get s.windows found.window) no_window
+abbrev pub region_window : System → Found → WindowFields
+region_window s found = unwrap_or (slice_get s.windows found.window) absent_window
 
 -- how its bytes are dealt
 abbrev pub weave_of : System → Found → WeaveFields
-weave_of s found = weave_fields found (window_of s found)
+weave_of s found = weave_fields found (region_window s found)
 
 -- a region with its window and its bytes
 abbrev pub holding_of : System → Live → Holding
-holding_of s region = record { found = region.found; window = window_of s region.found; contents = region.contents }
+holding_of s region = record { found = region.found; window = region_window s region.found; contents = region.contents }
 
 -- ---- frames
 
 -- the region of a release keeps its bytes till the job is done
-abbrev pub region_released : Job → JobKind → List Live
+abbrev pub region_released : RegionJob → JobKind → List Live
 region_released job (Creates rows) = []
 region_released job (Releases place) = job.region ∷ []
 
-abbrev pub under_release : Option Job → List Live
+abbrev pub under_release : Option RegionJob → List Live
 under_release None = []
 under_release (Some job) = region_released job job.kind
 

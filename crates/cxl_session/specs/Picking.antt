@@ -15,7 +15,7 @@ use Rattle.cxl_model.specs.declared.request.Request.{Request}
 use Rattle.cxl_model.specs.Plans.{plan_code}
 use Rattle.cxl_model.specs.Rules.{permits}
 use Rattle.cxl_model.specs.System.{System, decoders_at}
-use Rattle.cxl_session.specs.Planning.{first_of, stands_in, is_size, cap_at, end_of_last, base_step, differs_in_code, span_fault_at}
+use Rattle.cxl_session.specs.Planning.{first_there, stands_in, is_size, cap_at, end_of_last, base_step, differs_in_code, span_fault_at}
 
 -- what is wanted: a kind, a size, a code where one is stated, and a number of ways
 pub record Want : Type 0 where
@@ -97,7 +97,7 @@ given_within (suc k) s want w latest endpoints n =
     let by = λ (ways : ℕ). given_by s want w latest n endpoints ways (filter_map (given_within k s want w latest (endpoints / ways)) (children_of s n)) in
     if is_endpoint_at s.nodes n
     then (if (endpoints == 1) && can_give s want w latest n then Some (n ∷ []) else None)
-    else first_of (by 8 ∷ by 4 ∷ by 2 ∷ by 1 ∷ [])
+    else first_there (by 8 ∷ by 4 ∷ by 2 ∷ by 1 ∷ [])
 
 -- what the bridge with a UID gives
 abbrev pub given_by_target : System → Want → WindowFields → ℕ → ℕ → Option (List ℕ)
@@ -127,4 +127,4 @@ abbrev pub picked : System → Want → Result (List ℕ) PickRefusal
 picked s want =
     if not (is_ways want.ways) then Err (NoWays want.ways)
     else (if not (is_size want.ways want.size) then Err NoSize
-    else set_or_none s (first_of (map (given_in s want) s.windows)))
+    else set_or_none s (first_there (map (given_in s want) s.windows)))

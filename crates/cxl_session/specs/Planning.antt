@@ -42,8 +42,8 @@ use Rattle.cxl_model.specs.Rules.{permits}
 use Rattle.cxl_model.specs.System.{System, decoders_at, ram_at, pmem_at}
 
 -- the first value that is there
-abbrev pub first_of : {A : Type 0} → List (Option A) → Option A
-first_of answers = slice_get (filter_map (λ answer. answer) answers) 0
+abbrev pub first_there : {A : Type 0} → List (Option A) → Option A
+first_there answers = slice_get (filter_map (λ answer. answer) answers) 0
 
 -- the least node of which the test holds
 abbrev pub least_node : System → (ℕ → Bool) → Option ℕ
@@ -213,18 +213,18 @@ reason_where holds reason = if holds then Some reason else None
 
 -- the first reason why a window does not take the region
 abbrev pub reason_of : System → Request → WindowFields → Option Reason
-reason_of s request w = first_of (
-  reason_where (not (is_usable w.verdict)) reasons.Unusable
-  ∷ reason_where (not (permits w request.kind)) reasons.Kind
-  ∷ reason_where (has_bit w.restrict 4) reasons.Fixed
-  ∷ reason_where (not (targets_used s request w)) reasons.Bridges
-  ∷ reason_where (differs_in_code request w) reasons.Gran
-  ∷ option_map reasons.Select (least_node s (cannot_select s request w))
-  ∷ option_map reasons.WaysCap (least_node s (lacks_ways s request))
-  ∷ reason_where (nat_lt (window_end w) (least_base s request w + request.size))
-  (reasons.NoBase record { start = least_base s request w; limit = window_end w })
-  ∷ []
-)
+reason_of s request w = first_there (
+    reason_where (not (is_usable w.verdict)) reasons.Unusable
+    ∷ reason_where (not (permits w request.kind)) reasons.Kind
+    ∷ reason_where (has_bit w.restrict 4) reasons.Fixed
+    ∷ reason_where (not (targets_used s request w)) reasons.Bridges
+    ∷ reason_where (differs_in_code request w) reasons.Gran
+    ∷ option_map reasons.Select (least_node s (cannot_select s request w))
+    ∷ option_map reasons.WaysCap (least_node s (lacks_ways s request))
+    ∷ reason_where (nat_lt (window_end w) (least_base s request w + request.size))
+    (reasons.NoBase record { start = least_base s request w; limit = window_end w })
+    ∷ []
+    )
 
 -- ---- the rows
 
@@ -310,15 +310,15 @@ fault_where holds fault = if holds then Some fault else None
 
 -- the first fault that does not speak of windows
 abbrev pub fault_before_windows : System → Request → Option PlanFault
-fault_before_windows s request = first_of (
-  option_map faults.Repeat (first_repeat [] request.endpoints)
-  ∷ fault_where (not (is_ways (ways_asked request))) (faults.Ways (ways_asked request))
-  ∷ fault_where (not (is_size (ways_asked request) request.size)) faults.Size
-  ∷ option_map faults.Uneven (least_node s (is_uneven s request))
-  ∷ option_map faults.NoDecoder (least_node s (lacks_decoder s request))
-  ∷ span_fault_of s request
-  ∷ []
-)
+fault_before_windows s request = first_there (
+    option_map faults.Repeat (first_repeat [] request.endpoints)
+    ∷ fault_where (not (is_ways (ways_asked request))) (faults.Ways (ways_asked request))
+    ∷ fault_where (not (is_size (ways_asked request) request.size)) faults.Size
+    ∷ option_map faults.Uneven (least_node s (is_uneven s request))
+    ∷ option_map faults.NoDecoder (least_node s (lacks_decoder s request))
+    ∷ span_fault_of s request
+    ∷ []
+    )
 
 -- the plan in the first window that has no reason against it, and else the reason of each
 abbrev pub in_first_window : System → Request → Option WindowFields → Result Plan PlanFault

@@ -26,12 +26,12 @@ abbrev pub poison_record : ℕ
 poison_record = 16
 
 -- the number in so many bytes, lowest first
-abbrev pub number_in : List ℕ → ℕ
-number_in [] = 0
-number_in (byte ∷ bytes) = byte + 256 * number_in bytes
+abbrev pub little_endian : List ℕ → ℕ
+little_endian [] = 0
+little_endian (byte ∷ bytes) = byte + 256 * little_endian bytes
 
 abbrev pub field_at : List ℕ → ℕ → ℕ → ℕ
-field_at bytes at len = number_in (take len (drop at bytes))
+field_at bytes at len = little_endian (take len (drop at bytes))
 
 -- how many records it says that it has, and for how many it has room
 abbrev pub records_said : List ℕ → ℕ

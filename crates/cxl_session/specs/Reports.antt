@@ -15,7 +15,7 @@ use Rattle.cxl_reply.specs.declared.told.Shown.{Shown}
 use Rattle.cxl_reply.specs.declared.told.ShownRow.{ShownRow}
 use Rattle.cxl_session.specs.Machine.{Live, Machine, live_named, holding_of}
 use Rattle.cxl_session.specs.Outcomes.{BusOutcome, NoFault, Undone, LeftPending, ReadFailed}
-use Rattle.cxl_session.specs.Elsewhere.{Payload, Tells, TooShort, TooFew, Reads, ArePieces, Pairwise}
+use Rattle.cxl_session.specs.Elsewhere.{Payload, Tells, TooShort, TooFew, ReadsPoison, ArePieces, Pairwise}
 use Rattle.cxl_session.specs.Replies.{Answer, stays, at_name, endpoint_named}
 
 -- ---- registers
@@ -57,4 +57,4 @@ TellsPoison m endpoint (Tells list) reply =
 
 pub data AnswersPoison (m : Machine) (poison : Poison) (answer : Answer) : Type 0 where
   no_endpoint : endpoint_named m.settled.nodes poison.endpoint ≡ None → answer ≡ stays m (replies.NoEndpoint poison.endpoint) → AnswersPoison m poison answer
-  told : (endpoint : ℕ) (payload : Payload) (reply : Reply) → endpoint_named m.settled.nodes poison.endpoint ≡ Some endpoint → Reads poison.bytes payload → TellsPoison m endpoint payload reply → answer ≡ stays m reply → AnswersPoison m poison answer
+  told : (endpoint : ℕ) (payload : Payload) (reply : Reply) → endpoint_named m.settled.nodes poison.endpoint ≡ Some endpoint → ReadsPoison poison.bytes payload → TellsPoison m endpoint payload reply → answer ≡ stays m reply → AnswersPoison m poison answer

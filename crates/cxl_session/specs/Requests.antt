@@ -12,17 +12,17 @@ use Rattle.cxl_apply.specs.Releases.{first_locked, first_not_last}
 use Rattle.cxl_reply.specs.declared.reply.Reply.{Reply}
 use Rattle.cxl_reply.specs.declared.reply.Reply.TheVariants as replies
 use Rattle.cxl_reply.specs.declared.told.Spot.{Spot}
-use Rattle.cxl_session.specs.Machine.{Live, Job, Machine, region_limit, live_named, place_named}
+use Rattle.cxl_session.specs.Machine.{Live, RegionJob, Machine, region_limit, live_named, place_named}
 use Rattle.cxl_session.specs.Jobs.{create_job, release_job}
 use Rattle.cxl_session.specs.Elsewhere.{Plans, Want, PickRefusal, NoWays, NoSize, NoSet, Picks}
-use Rattle.cxl_session.specs.Planning.{first_of}
+use Rattle.cxl_session.specs.Planning.{first_there}
 use Rattle.cxl_session.specs.Replies.{endpoint_named}
 
 -- ---- refusals, each where it holds
 
 -- a job is pending
 abbrev pub busy : Machine → Option Reply
-busy m = option_map (λ (job : Job). replies.Busy job.region.name) m.job
+busy m = option_map (λ (job : RegionJob). replies.Busy job.region.name) m.job
 
 -- a live region has the name
 abbrev pub name_taken : Machine → List ℕ → Option Reply
@@ -56,7 +56,7 @@ not_last m name =
 -- what is refused before a plan is sought
 abbrev pub refusal_of_create : Machine → Create → Option Reply
 refusal_of_create m create =
-    first_of (busy m ∷ name_taken m create.name ∷ no_endpoint m create.endpoints ∷ regions_full m ∷ [])
+    first_there (busy m ∷ name_taken m create.name ∷ no_endpoint m create.endpoints ∷ regions_full m ∷ [])
 
 -- the request for these endpoints
 abbrev pub request_for : Create → List ℕ → Request
@@ -71,7 +71,7 @@ abbrev pub want_of : Create → ℕ → Want
 want_of create ways = record { kind = create.kind; size = create.size; gran = create.gran; ways = ways }
 
 -- the job of the plan, or the fault as a refusal
-abbrev pub job_of_plan : Machine → Result Plan PlanFault → Result Job Reply
+abbrev pub job_of_plan : Machine → Result Plan PlanFault → Result RegionJob Reply
 job_of_plan m (Ok plan) = Ok (create_job m.settled plan)
 job_of_plan m (Err fault) = Err (replies.Refused fault)
 
@@ -81,45 +81,45 @@ pick_reply NoSize = replies.Refused faults.Size
 pick_reply NoSet = replies.NoSet
 
 -- a plan for the request is sought
-abbrev pub AsksPlan : Machine → Request → Result Job Reply → Type 0
+abbrev pub AsksPlan : Machine → Request → Result RegionJob Reply → Type 0
 AsksPlan m request asked = (answer : Result Plan PlanFault) × Plans m.settled request answer × (asked ≡ job_of_plan m answer)
 
 -- endpoints are picked, and a plan for them is sought
-abbrev pub AsksPlanOver : Machine → Create → Result (List ℕ) PickRefusal → Result Job Reply → Type 0
+abbrev pub AsksPlanOver : Machine → Create → Result (List ℕ) PickRefusal → Result RegionJob Reply → Type 0
 AsksPlanOver m create (Ok endpoints) asked = AsksPlan m (request_for create endpoints) asked
 AsksPlanOver m create (Err refusal) asked = asked ≡ Err (pick_reply refusal)
 
-abbrev pub AsksPick : Machine → Create → ℕ → Result Job Reply → Type 0
+abbrev pub AsksPick : Machine → Create → ℕ → Result RegionJob Reply → Type 0
 AsksPick m create ways asked = (answer : Result (List ℕ) PickRefusal) × Picks m.settled (want_of create ways) answer × AsksPlanOver m create answer asked
 
-abbrev pub AsksUnrefused : Machine → Create → Option ℕ → Result Job Reply → Type 0
+abbrev pub AsksUnrefused : Machine → Create → Option ℕ → Result RegionJob Reply → Type 0
 AsksUnrefused m create None asked = AsksPlan m (request_of m create) asked
 AsksUnrefused m create (Some ways) asked = AsksPick m create ways asked
 
-abbrev pub AsksUnless : Machine → Create → Option Reply → Result Job Reply → Type 0
+abbrev pub AsksUnless : Machine → Create → Option Reply → Result RegionJob Reply → Type 0
 AsksUnless m create (Some refusal) asked = asked ≡ Err refusal
 AsksUnless m create None asked = AsksUnrefused m create create.ways asked
 
 -- the job that a create line asks for, or why it is refused
-abbrev pub AsksCreate : Machine → Create → Result Job Reply → Type 0
+abbrev pub AsksCreate : Machine → Create → Result RegionJob Reply → Type 0
 AsksCreate m create asked = AsksUnless m create (refusal_of_create m create) asked
 
 -- ---- a release
 
 abbrev pub refusal_of_release : Machine → List ℕ → Option Reply
-refusal_of_release m name = first_of (busy m ∷ no_region m name ∷ locked m name ∷ not_last m name ∷ [])
+refusal_of_release m name = first_there (busy m ∷ no_region m name ∷ locked m name ∷ not_last m name ∷ [])
 
 -- the release of the live region at a place
-abbrev pub release_at : Machine → ℕ → Option Job
+abbrev pub release_at : Machine → ℕ → Option RegionJob
 release_at m place = option_map (release_job m.settled place) (slice_get m.live place)
 
-abbrev pub release_named : Machine → List ℕ → Option Job
+abbrev pub release_named : Machine → List ℕ → Option RegionJob
 release_named m name = option_and_then (release_at m) (place_named m name)
 
-abbrev pub job_unless : Machine → List ℕ → Option Reply → Result Job Reply
+abbrev pub job_unless : Machine → List ℕ → Option Reply → Result RegionJob Reply
 job_unless m name (Some refusal) = Err refusal
 job_unless m name None = option_map_or Ok (release_named m name) (Err (replies.NoRegion name))
 
 -- the job that a line asks for that ends a region, or why it is refused
-abbrev pub asked_release : Machine → List ℕ → Result Job Reply
+abbrev pub asked_release : Machine → List ℕ → Result RegionJob Reply
 asked_release m name = job_unless m name (refusal_of_release m name)

@@ -17,13 +17,13 @@ use Rattle.cxl_model.specs.Plans.{IsLegalPlan}
 use Rattle.cxl_model.specs.Contents.{Holding, AreContents, AreMediaOf}
 use Rattle.cxl_apply.specs.Jobs.{blocks_done}
 use Rattle.cxl_apply.specs.Releases.{first_locked, first_not_last}
-use Rattle.cxl_session.specs.Machine.{Live, Job, JobKind, Creates, Releases, Machine, region_limit, kept_regions, pieces_held, holding_of}
+use Rattle.cxl_session.specs.Machine.{Live, RegionJob, JobKind, Creates, Releases, Machine, region_limit, kept_regions, pieces_held, holding_of}
 use Rattle.cxl_session.specs.Jobs.{create_job, release_job, total_of}
 
 -- ---- a job
 
 -- the job of a legal plan, under a name that no live region has, while there is room for one more
-pub record IsCreate (m : Machine) (job : Job) : Type 0 where
+pub record IsCreate (m : Machine) (job : RegionJob) : Type 0 where
   pub plan : Plan
   pub request : Request
   pub legal : IsLegalPlan m.settled request plan
@@ -32,18 +32,18 @@ pub record IsCreate (m : Machine) (job : Job) : Type 0 where
   pub room : length m.live < region_limit
 
 -- the release of a region of the image that has no locked decoder and no committed one above, from a place that is there
-pub record IsRelease (m : Machine) (job : Job) (place : ℕ) : Type 0 where
+pub record IsRelease (m : Machine) (job : RegionJob) (place : ℕ) : Type 0 where
   pub made : job ≡ record (release_job m.settled place job.region) { done = job.done }
   pub unlocked : first_locked m.settled job.region.found ≡ None
   pub last : first_not_last m.settled job.region.found ≡ None
   pub there : place ≤ length m.live
 
-abbrev pub IsJobOf : Machine → Job → JobKind → Type 0
+abbrev pub IsJobOf : Machine → RegionJob → JobKind → Type 0
 IsJobOf m job (Creates rows) = IsCreate m job
 IsJobOf m job (Releases place) = IsRelease m job place
 
 -- it is one of these, and not all of its writes are made
-pub record IsJob (m : Machine) (job : Job) : Type 0 where
+pub record IsJob (m : Machine) (job : RegionJob) : Type 0 where
   pub kind : IsJobOf m job job.kind
   pub part : job.done < total_of job
 
@@ -73,7 +73,7 @@ pub record IsMachine (m : Machine) : Type 0 where
   pub frames : (1 ≤ m.frames) × (m.frames ≤ frame_limit)
 
 -- the registers: the settled image after the writes that are made
-abbrev pub blocks_with : List Registers → Option Job → List Registers
+abbrev pub blocks_with : List Registers → Option RegionJob → List Registers
 blocks_with blocks None = blocks
 blocks_with blocks (Some job) = blocks_done blocks job.writes job.done
 

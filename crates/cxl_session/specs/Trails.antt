@@ -6,7 +6,7 @@ use Rattle.cxl_script.specs.declared.command.Command.TheVariants as commands
 use Rattle.cxl_script.specs.declared.command.Create.{Create}
 use Rattle.cxl_apply.specs.declared.write.Write.{Write}
 use Rattle.cxl_reply.specs.declared.reply.Reply.{Reply}
-use Rattle.cxl_session.specs.Machine.{Job, Machine}
+use Rattle.cxl_session.specs.Machine.{RegionJob, Machine}
 use Rattle.cxl_session.specs.Jobs.{total_of}
 use Rattle.cxl_session.specs.Outcomes.{BusOutcome, NoFault, Undone, LeftPending, ReadFailed}
 use Rattle.cxl_session.specs.Requests.{AsksCreate, asked_release}
@@ -21,55 +21,55 @@ abbrev pub taken_back : Write → Sent
 taken_back write = record { node = write.node; off = write.off; value = write.back }
 
 -- the writes of a job behind so many, up to so many
-abbrev pub writes_between : Job → ℕ → ℕ → List Write
+abbrev pub writes_between : RegionJob → ℕ → ℕ → List Write
 writes_between job before upto = take (upto - before) (drop before job.writes)
 
 -- they are made in order
-abbrev pub forward : Job → ℕ → ℕ → List Sent
+abbrev pub forward : RegionJob → ℕ → ℕ → List Sent
 forward job before upto = map made (writes_between job before upto)
 
 -- they are taken back, the last one first
-abbrev pub backward : Job → ℕ → ℕ → List Sent
+abbrev pub backward : RegionJob → ℕ → ℕ → List Sent
 backward job before upto = map taken_back (reverse (writes_between job before upto))
 
 -- ---- whole jobs
 
 -- The first d writes are made, and of these all but so many are taken back, where not all were made.
-pub record GoesBackTo (job : Job) (kept : ℕ) (trail : List Sent) : Type 0 where
+pub record GoesBackTo (job : RegionJob) (kept : ℕ) (trail : List Sent) : Type 0 where
   pub turn : ℕ
   pub some : kept ≤ turn
   pub part : turn < total_of job
   pub sent : trail ≡ forward job 0 turn ++ backward job kept turn
 
-abbrev pub SendsWhole : Job → BusOutcome → List Sent → Type 0
+abbrev pub SendsWhole : RegionJob → BusOutcome → List Sent → Type 0
 SendsWhole job NoFault trail = trail ≡ forward job 0 (total_of job)
 SendsWhole job Undone trail = GoesBackTo job 0 trail
 SendsWhole job (LeftPending done) trail = GoesBackTo job done trail
 SendsWhole job ReadFailed trail = ⊥
 
-abbrev pub SendsAsked : Result Job Reply → BusOutcome → List Sent → Type 0
+abbrev pub SendsAsked : Result RegionJob Reply → BusOutcome → List Sent → Type 0
 SendsAsked (Ok job) outcome trail = SendsWhole job outcome trail
 SendsAsked (Err refusal) outcome trail = trail ≡ []
 
 abbrev pub SendsCreate : Machine → Create → BusOutcome → List Sent → Type 0
-SendsCreate m create outcome trail = (asked : Result Job Reply) × AsksCreate m create asked × SendsAsked asked outcome trail
+SendsCreate m create outcome trail = (asked : Result RegionJob Reply) × AsksCreate m create asked × SendsAsked asked outcome trail
 
 -- ---- steps
 
-abbrev pub SendsSteps : Job → ℕ → BusOutcome → List Sent → Type 0
+abbrev pub SendsSteps : RegionJob → ℕ → BusOutcome → List Sent → Type 0
 SendsSteps job steps NoFault trail = trail ≡ forward job job.done (min (job.done + steps) (total_of job))
 SendsSteps job steps Undone trail = ⊥
 SendsSteps job steps (LeftPending done) trail = trail ≡ forward job job.done done
 SendsSteps job steps ReadFailed trail = ⊥
 
-abbrev pub SendsAbort : Job → BusOutcome → List Sent → Type 0
+abbrev pub SendsAbort : RegionJob → BusOutcome → List Sent → Type 0
 SendsAbort job NoFault trail = trail ≡ backward job 0 job.done
 SendsAbort job Undone trail = ⊥
 SendsAbort job (LeftPending done) trail = trail ≡ backward job done job.done
 SendsAbort job ReadFailed trail = ⊥
 
 -- nothing is written where no job is pending
-abbrev pub SendsPending : Option Job → List Sent → (Job → Type 0) → Type 0
+abbrev pub SendsPending : Option RegionJob → List Sent → (RegionJob → Type 0) → Type 0
 SendsPending None trail sends = trail ≡ []
 SendsPending (Some job) trail sends = sends job
 

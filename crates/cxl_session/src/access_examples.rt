@@ -33,8 +33,16 @@ pub fn bytes_on_examples()
 /// A law of addresses: where host bytes and device bytes lie.
 pub fn addresses_on_examples()
     ensures down { Answers (with_r0 map.empty) (commands.Down 0x100000100) NoFault
-        (stays (with_r0 map.empty) (replies.Down record { h = 0x100000100; name = r0; slot = 1; position = 1; len = 1;
-            via = record { node = 1; decoder = 0; entry = 0 } ∷ replicate 4 record { node = 0; decoder = 0; entry = 0 }; endpoint = 3; dpa = 0 })) }
+        (stays (with_r0 map.empty) (replies.Down record {
+          h = 0x100000100;
+          name = r0;
+          slot = 1;
+          position = 1;
+          len = 1;
+          via = record { node = 1; decoder = 0; entry = 0 } ∷ replicate 4 record { node = 0; decoder = 0; entry = 0 };
+          endpoint = 3;
+          dpa = 0;
+        })) }
     ensures down_unmapped { Answers fresh (commands.Down 0x100000100) NoFault (stays fresh replies.Unmapped) }
     ensures up { Answers (with_r0 map.empty) (commands.Up record { endpoint = e1; dpa = 0 }) NoFault
         (stays (with_r0 map.empty) (replies.Up record { h = 0x100000100; name = r0 })) }
@@ -44,13 +52,17 @@ pub fn addresses_on_examples()
         (stays (with_r0 map.empty) (replies.NoEndpoint hb0)) }
     ensures range { Answers (with_r0 map.empty) (commands.Range record { h = 0x100000080; len = 256 }) NoFault
         (stays (with_r0 map.empty) (replies.Extents record {
-            extents = record { h = 0x100000080; len = 128; slot = 0; dpa = 0x80 } ∷ record { h = 0x100000100; len = 128; slot = 1; dpa = 0 } ∷ [];
-            endpoints = 2 ∷ 3 ∷ [] })) }
+          extents = record { h = 0x100000080; len = 128; slot = 0; dpa = 0x80 } ∷ record { h = 0x100000100; len = 128; slot = 1; dpa = 0 } ∷ [];
+          endpoints = 2 ∷ 3 ∷ [];
+        })) }
     ensures spread { Answers (with_r0 map.empty) (commands.Spread record { h = 0x100000080; len = 256 }) NoFault
         (stays (with_r0 map.empty) (replies.Spread record { bytes = 128 ∷ 128 ∷ replicate 14 0; endpoints = 2 ∷ 3 ∷ [] })) }
     ensures shown { Answers (with_r0 map.empty) (commands.Show r0) NoFault
-        (stays (with_r0 map.empty) (replies.Shown record { name = r0; found = region_of_two;
-            rows = row_shown 0 0x1600 ∷ row_shown 1 0x1600 ∷ row_shown 2 0x1610 ∷ row_shown 3 0x1610 ∷ [] })) }
+        (stays (with_r0 map.empty) (replies.Shown record {
+          name = r0;
+          found = region_of_two;
+          rows = row_shown 0 0x1600 ∷ row_shown 1 0x1600 ∷ row_shown 2 0x1610 ∷ row_shown 3 0x1610 ∷ [];
+        })) }
     ensures not_read { Answers (with_r0 map.empty) (commands.Show r0) ReadFailed (stays (with_r0 map.empty) replies.BusRead) }
 {}
 

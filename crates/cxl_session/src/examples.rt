@@ -10,7 +10,7 @@ ghost use Rattle.cxl_session.specs.Answers.{Answers};
 ghost use Rattle.cxl_session.specs.Machine.{Machine};
 ghost use Rattle.cxl_session.specs.Outcomes.{NoFault, Undone, LeftPending};
 ghost use Rattle.cxl_session.specs.Replies.{becomes, stays};
-ghost use Rattle.cxl_session.specs.Examples.{fresh, create_named, with_r0, with_both, with_locked, making_r0, making_b, releasing, released, named_at, r0, b, e1, hb0, many_regions};
+ghost use Rattle.cxl_session.specs.Examples.{fresh, create_named, with_r0, with_both, with_locked, making_r0, making_b, releasing, without_r0, named_at, r0, b, e1, hb0, many_regions};
 
 /// A law of regions: a create makes one, or is undone, or is left pending.
 pub fn creates_on_examples()
@@ -45,7 +45,7 @@ pub fn refused_creates_on_examples()
 
 /// A law of regions: a destroy ends one, or is undone, or is left pending; and each cause for which it is refused.
 pub fn releases_on_examples()
-    ensures destroyed { Answers (with_r0 map.empty) (commands.Destroy r0) NoFault (becomes released (replies.Destroyed r0)) }
+    ensures destroyed { Answers (with_r0 map.empty) (commands.Destroy r0) NoFault (becomes without_r0 (replies.Destroyed r0)) }
     ensures undone { Answers (with_r0 map.empty) (commands.Destroy r0) Undone (stays (with_r0 map.empty) replies.BusUndone) }
     ensures pending { Answers (with_r0 map.empty) (commands.Destroy r0) (LeftPending 3)
         (becomes (releasing map.empty 3) (replies.BusPending record { name = r0; done = 3; total = 4 })) }
@@ -92,5 +92,5 @@ pub fn release_steps_on_examples()
     ensures aborted { (contents : Contents) → Answers (releasing contents 1) commands.Abort NoFault
         (becomes (with_r0 contents) (replies.Aborted r0)) }
     ensures ended { (contents : Contents) → Answers (releasing contents 1) (commands.Step 9) NoFault
-        (becomes released (replies.Destroyed r0)) }
+        (becomes without_r0 (replies.Destroyed r0)) }
 {}

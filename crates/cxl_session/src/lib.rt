@@ -11,12 +11,12 @@ mod plan_examples;
 pub use access_examples::{addresses_on_examples, bytes_on_examples, copies_on_examples};
 pub use cxl_check::Breach;
 pub use examples::{
-    creates_on_examples, refused_creates_on_examples, release_steps_on_examples, releases_on_examples,
-    steps_on_examples,
+    creates_on_examples, refused_creates_on_examples, release_steps_on_examples,
+    releases_on_examples, steps_on_examples,
 };
 pub use fault::OpenFault;
+pub use laws::{commands_go_as_they_can, one_answer, refusals_leave_the_machine};
 pub use opening_examples::openings_on_examples;
 pub use plan_examples::{
     plan_faults_on_examples, poison_on_examples, scripts_on_examples, trails_on_examples,
 };
-pub use laws::{commands_go_as_they_can, one_answer, refusals_leave_the_machine};

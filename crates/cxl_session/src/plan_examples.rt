@@ -44,10 +44,11 @@ pub fn plan_faults_on_examples()
 pub fn poison_on_examples()
     ensures told { Answers (with_r0 map.empty) (commands.Poison record { endpoint = e0; bytes = poison_bytes 1 }) NoFault
         (stays (with_r0 map.empty) (replies.Poison record {
-            endpoint = 2;
-            list = record { more = false; overflow = None; scanning = false; records = record { dpa = 0xfffffc0; units = 2; source = 2 } ∷ [] };
-            pieces = record { parts = Run record { h = 0x11ffffec0; len = 64; region = 0 } ∷ []; unmapped = 64 } ∷ [];
-            names = r0 ∷ [] })) }
+          endpoint = 2;
+          list = record { more = false; overflow = None; scanning = false; records = record { dpa = 0xfffffc0; units = 2; source = 2 } ∷ [] };
+          pieces = record { parts = Run record { h = 0x11ffffec0; len = 64; region = 0 } ∷ []; unmapped = 64 } ∷ [];
+          names = r0 ∷ [];
+        })) }
     ensures short { Answers fresh (commands.Poison record { endpoint = e0; bytes = replicate 31 0 }) NoFault (stays fresh replies.PoisonShort) }
     ensures few { Answers fresh (commands.Poison record { endpoint = e0; bytes = poison_bytes 2 }) NoFault
         (stays fresh (replies.PoisonCount record { said = 2; room = 1 })) }
