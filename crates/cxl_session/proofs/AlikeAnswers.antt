@@ -1,5 +1,5 @@
 -- A command and how it went have one answer.
-use Rattle.std.proofs.Common.{◌≡◌, ℕ, suc, List, [], ◌∷◌, map, length, get_or, Result, Ok, Err, Option, Some, None, refl, sym, ap, ◌∙◌, subst, arith}
+use Rattle.std.proofs.Common.{◌≡◌, ℕ, suc, List, [], ◌∷◌, map, Result, Ok, Err, Option, Some, None, refl, sym, ap, ◌∙◌, subst, arith}
 use Rattle.std.specs.Prelude.{Contains}
 use Rattle.std.proofs.lemmas.Option.{none-some, same_Some}
 use Rattle.cxl_script.specs.declared.command.Command.{Command}
@@ -7,15 +7,13 @@ use Rattle.cxl_script.specs.declared.command.Command.TheVariants as commands
 use Rattle.cxl_script.specs.declared.command.Create.{Create}
 use Rattle.cxl_script.specs.declared.command.Poison.{Poison}
 use Rattle.cxl_script.specs.declared.command.Up.{Up}
-use Rattle.cxl_model.specs.declared.plan.Plan.{Plan}
-use Rattle.cxl_model.specs.declared.plan.PlanFault.{PlanFault}
 use Rattle.cxl_model.specs.declared.poison.Poisoned.{Poisoned}
 use Rattle.cxl_model.specs.declared.request.Request.{Request}
 use Rattle.cxl_reply.specs.declared.reply.Reply.{Reply}
 use Rattle.cxl_reply.specs.declared.reply.Reply.TheVariants as replies
 use Rattle.cxl_session.specs.Machine.{Live, RegionJob, Machine, holding_of}
 use Rattle.cxl_session.specs.Outcomes.{BusOutcome, NoFault, Undone, LeftPending, ReadFailed}
-use Rattle.cxl_session.specs.Replies.{Answer, stays, Gives, endpoint_named}
+use Rattle.cxl_session.specs.Replies.{Answer, stays, Gives}
 use Rattle.cxl_session.specs.Accesses.{AnswersUp, TellsHost, no_endpoint, told}
 use Rattle.cxl_session.specs.Reports.{AnswersShow, AnswersPoison, TellsPoison, held_live, live_names}
 use Rattle.cxl_session.specs.Reports as reports

@@ -1,6 +1,6 @@
 -- A record of a poison list touches one list of parts.
-use Rattle.std.proofs.Common.{◌≡◌, ℕ, ◌+◌, ◌-◌, ◌<◌, Bool, true, false, if◌then◌else◌, List, [], ◌∷◌, ◌++◌, map, length, Option, Some, None, refl, sym, ap, ◌∙◌, subst}
-use Rattle.std.specs.Prelude.{◌==◌, nat_lt, slice_get, Contains, IsSomeAnd}
+use Rattle.std.proofs.Common.{◌≡◌, ℕ, ◌+◌, ◌-◌, Bool, true, false, if◌then◌else◌, List, [], ◌∷◌, ◌++◌, length, Option, Some, None, refl, sym, ap, ◌∙◌}
+use Rattle.std.specs.Prelude.{◌==◌, nat_lt, slice_get, IsSomeAnd}
 use Rattle.std.specs.List.{cons_option, filter_map, flat_map, enumerate_from}
 use Rattle.std.proofs.lemmas.Bool.{false≢true}
 use Rattle.cxl_model.specs.declared.found.Place.{Place}
@@ -10,8 +10,8 @@ use Rattle.cxl_model.specs.declared.poison.Part.TheVariants.{Run, Wide}
 use Rattle.cxl_model.specs.declared.poison.Poisoned.{Poisoned}
 use Rattle.cxl_model.specs.System.{System, IsSystem}
 use Rattle.cxl_model.specs.Contents.{Holding}
-use Rattle.cxl_model.specs.Regions.{IsRegionIn, Carries}
-use Rattle.cxl_session.specs.Poisoning.{SpanOf, Cut, Pairwise, none, next, IsHostOf, IsRunOf, IsWideOf, ArePartsOf, one_by_one, wide, ArePieces, cuts_of, spans_on, spans_in, place_on, put_span, by_start, run_limit}
+use Rattle.cxl_model.specs.Regions.{IsRegionIn}
+use Rattle.cxl_session.specs.Poisoning.{SpanOf, Cut, Pairwise, none, next, IsHostOf, IsRunOf, IsWideOf, ArePartsOf, one_by_one, wide, ArePieces, cuts_of, spans_on, spans_in, place_on, put_span, by_start}
 use Rattle.cxl_session.proofs.Alike.{CarriageLaws}
 
 -- ---- lists

@@ -5,7 +5,7 @@ use Rattle.cxl_script.specs.declared.command.Command.TheVariants as commands
 use Rattle.cxl_reply.specs.declared.reply.Reply.{Reply}
 use Rattle.cxl_session.specs.Machine.{RegionJob, Machine}
 use Rattle.cxl_session.specs.Outcomes.{BusOutcome, NoFault, Undone, LeftPending, ReadFailed, can_go, of_whole_job, of_steps, of_reads, of_no_call}
-use Rattle.cxl_session.specs.Replies.{Answer, Gives}
+use Rattle.cxl_session.specs.Replies.{Answer}
 use Rattle.cxl_session.specs.Reports.{AnswersShow}
 use Rattle.cxl_session.specs.Regions.{CarriesOutWhole, AnswersWhole, Steps, Aborts, OfPending}
 use Rattle.cxl_session.specs.Answers.{Answers}

@@ -1,5 +1,5 @@
 -- A refusal leaves the machine.
-use Rattle.std.proofs.Common.{◌≡◌, ℕ, ◌+◌, Bool, true, false, if◌then◌else◌, Result, Ok, Err, Option, Some, None, List, refl, sym, ap, ◌∙◌, subst}
+use Rattle.std.proofs.Common.{◌≡◌, ℕ, ◌+◌, Bool, true, false, if◌then◌else◌, Result, Ok, Err, Option, Some, None, List, refl, sym, ◌∙◌, subst}
 use Rattle.std.proofs.lemmas.Bool.{false≢true}
 use Rattle.std.specs.Option.{option_map_or}
 use Rattle.std.specs.Prelude.{◌==◌, nat_lt, nat_le, not}
@@ -12,14 +12,14 @@ use Rattle.cxl_script.specs.declared.command.Store.{Store}
 use Rattle.cxl_script.specs.declared.command.Up.{Up}
 use Rattle.cxl_reply.specs.declared.reply.Reply.{Reply}
 use Rattle.cxl_session.specs.Machine.{Live, RegionJob, JobKind, Creates, Releases, Machine, live_named, live_at, free_frames}
-use Rattle.cxl_session.specs.Jobs.{total_of, begun, finished}
+use Rattle.cxl_session.specs.Jobs.{total_of, begun}
 use Rattle.cxl_session.specs.Outcomes.{BusOutcome, NoFault, Undone, LeftPending, ReadFailed}
-use Rattle.cxl_session.specs.Replies.{Answer, stays, becomes, Gives, is_refusal, at_name, at_host, within_region, ends_within}
+use Rattle.cxl_session.specs.Replies.{Answer, is_refusal, within_region, ends_within}
 use Rattle.cxl_session.specs.Accesses.{store_into, frames_wanted, AnswersUp, no_endpoint, told}
 use Rattle.cxl_session.specs.Reports.{AnswersShow, AnswersPoison}
 use Rattle.cxl_session.specs.Reports as reports
-use Rattle.cxl_session.specs.Regions.{CarriesOutWhole, AnswersWhole, begin_answer, ended_reply, ended_answer, stepped_answer, Steps, Aborts, OfPending}
-use Rattle.cxl_session.specs.Copies.{for_two, copy_between, move_between, frames_for, pieces_of}
+use Rattle.cxl_session.specs.Regions.{CarriesOutWhole, AnswersWhole, begin_answer, ended_reply, ended_answer, Steps, Aborts, OfPending}
+use Rattle.cxl_session.specs.Copies.{for_two, copy_between, frames_for, pieces_of}
 use Rattle.cxl_session.specs.Answers.{Answers}
 
 -- where it is a refusal, the machine stays

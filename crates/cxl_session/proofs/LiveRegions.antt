@@ -1,15 +1,14 @@
 -- The live regions of a machine are regions of its settled image, each once.
-use Rattle.std.proofs.Common.{◌≡◌, ◌≢◌, ℕ, ◌+◌, ◌<◌, ◌≤◌, List, [], ◌∷◌, ◌++◌, map, length, get_or, Option, Some, None, refl, sym, ap, ◌∙◌, subst, arith, inl, inr}
-use Rattle.std.specs.Prelude.{slice_get, unwrap_or, All, AllPairs, Contains}
+use Rattle.std.proofs.Common.{◌≡◌, ℕ, ◌<◌, map, length, get_or, Option, Some, sym, ap, ◌∙◌, subst, arith, inl, inr}
+use Rattle.std.specs.Prelude.{slice_get, unwrap_or, Contains}
 use Rattle.std.specs.List.{position_or_len}
 use Rattle.std.proofs.lemmas.Bool.{cases_lt}
-use Rattle.std.proofs.lemmas.Option.{slice_get_within, get_or_from_slice_get}
 use Rattle.std.proofs.lemmas.List.{get_or-map, get_or_append_left, get_or_default, length-map, length-append}
 use Rattle.std.proofs.lemmas.List.Folds.{find_at}
 use Rattle.cxl_window.specs.Fields.{WindowFields}
 use Rattle.cxl_model.specs.declared.found.Found.{Found}
 use Rattle.cxl_model.specs.System.{System, IsSystem}
-use Rattle.cxl_model.specs.Ranges.{window_for, lies_within}
+use Rattle.cxl_model.specs.Ranges.{lies_within}
 use Rattle.cxl_model.specs.Regions.{region_range, IsRegion, IsRegionIn}
 use Rattle.cxl_session.specs.Machine.{Live, Machine, absent_window, region_window, kept_regions, under_release}
 use Rattle.cxl_session.specs.Sound.{IsMachine}

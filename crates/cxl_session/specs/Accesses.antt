@@ -11,7 +11,6 @@ use Rattle.cxl_window.specs.Position.{position_of}
 use Rattle.cxl_model.specs.declared.chain.Step.{Step}
 use Rattle.cxl_model.specs.declared.found.Found.{Found}
 use Rattle.cxl_model.specs.declared.found.Place.{Place}
-use Rattle.cxl_model.specs.System.{System}
 use Rattle.cxl_model.specs.Bytes.{LiesInSpan}
 use Rattle.cxl_model.specs.Dealing.{slot_steps}
 use Rattle.cxl_model.specs.Regions.{region_range, Carries}

@@ -1,5 +1,5 @@
 -- Reading and writing the flat bytes of a region (this project's rules).
-use Rattle.std.specs.Prelude.{ℕ, ◌+◌, ◌-◌, ◌*◌, ◌/◌, ◌<◌, nat_lt, nat_le, ◌&&◌, not, if◌then◌else◌, List, length, map, fold, filter, slice_index}
+use Rattle.std.specs.Prelude.{ℕ, ◌+◌, ◌-◌, ◌*◌, ◌/◌, nat_lt, nat_le, ◌&&◌, not, if◌then◌else◌, List, length, map, fold, filter, slice_index}
 use Rattle.std.specs.List.{range_with_len}
 use Rattle.std.specs.FinMap as map
 use Rattle.cxl_model.specs.Contents.{Contents, content_at}

@@ -1,9 +1,8 @@
 -- Giving a region the bytes of another (this project's rules).
-use Rattle.std.specs.Prelude.{ℕ, ◌+◌, ◌==◌, nat_lt, not, Bool, true, false, ◌&&◌, if◌then◌else◌, List}
+use Rattle.std.specs.Prelude.{ℕ, ◌+◌, ◌==◌, nat_lt, not, if◌then◌else◌}
 use Rattle.std.specs.Str.{bytes_eq}
 use Rattle.std.specs.FinMap as map
 use Rattle.cxl_script.specs.declared.command.Pair.{Pair}
-use Rattle.cxl_reply.specs.declared.reply.Reply.{Reply}
 use Rattle.cxl_reply.specs.declared.reply.Reply.TheVariants as replies
 use Rattle.cxl_reply.specs.declared.told.Carried.{Carried}
 use Rattle.cxl_session.specs.Machine.{Live, Machine, free_frames, with_contents}

@@ -1,5 +1,5 @@
 -- Worked machines over two bridges with one endpoint each: laws say what commands are answered by them.
-use Rattle.std.specs.Prelude.{ℕ, true, false, List, [], ◌∷◌, ◌++◌, codes, replicate, Option, Some, None}
+use Rattle.std.specs.Prelude.{ℕ, true, false, List, [], ◌∷◌, ◌++◌, codes, replicate, None}
 use Rattle.std.specs.FinMap as map
 use Rattle.cxl_enc.specs.declared.caps.MemKind.TheVariants.{Ram}
 use Rattle.cxl_regs.specs.declared.decoder.Decoder.{Decoder}
@@ -14,7 +14,7 @@ use Rattle.cxl_model.specs.ExampleRegions.{region_of_two}
 use Rattle.cxl_reply.specs.declared.told.Named.{Named}
 use Rattle.cxl_reply.specs.declared.told.ShownRow.{ShownRow}
 use Rattle.cxl_session.specs.Machine.{Live, RegionJob, Machine}
-use Rattle.cxl_session.specs.Jobs.{create_job, release_job, begun, at_done}
+use Rattle.cxl_session.specs.Jobs.{create_job, release_job, at_done}
 use Rattle.cxl_session.specs.Planning.{plan_at}
 use Rattle.cxl_session.specs.Requests.{request_for}
 use Rattle.cxl_session.specs.Sound.{auto_name}

@@ -1,5 +1,5 @@
 -- How a machine changes with a job: it begins, some of its writes are made, it ends, or it is undone (this project's rules).
-use Rattle.std.specs.Prelude.{ℕ, List, [], ◌∷◌, ◌++◌, map, reverse, length, insert, remove, Option, Some, None}
+use Rattle.std.specs.Prelude.{ℕ, List, [], ◌∷◌, ◌++◌, map, reverse, length, insert, remove, Some, None}
 use Rattle.std.specs.List.{flat_map}
 use Rattle.std.specs.FinMap as map
 use Rattle.cxl_model.specs.declared.plan.Plan.{Plan}

@@ -1,9 +1,8 @@
 -- What a request comes to over an image: the plan in the first window that takes it, at the least base there, or the
 -- first fault (this project's rules).
-use Rattle.std.specs.Prelude.{◌≡◌, ℕ, zero, suc, ◌+◌, ◌-◌, ◌*◌, ◌/◌, ◌%◌, ◌^◌, ◌==◌, nat_lt, nat_le, max, ◌&&◌, ◌||◌, not, Bool, true, false, if◌then◌else◌, List, [], ◌∷◌, map, filter, find, position, length, fold, sum_by, slice_get, Option, Some, None, option_and_then, option_map, is_some, is_none, unwrap_or, Result, Ok, Err}
+use Rattle.std.specs.Prelude.{ℕ, zero, suc, ◌+◌, ◌-◌, ◌*◌, ◌/◌, ◌%◌, ◌==◌, nat_lt, nat_le, max, ◌&&◌, ◌||◌, not, Bool, true, false, if◌then◌else◌, List, [], ◌∷◌, map, filter, find, length, fold, sum_by, slice_get, Option, Some, None, option_and_then, option_map, is_some, is_none, unwrap_or, Result, Ok, Err}
 use Rattle.std.specs.Option.{option_map_or}
-use Rattle.std.specs.List.{list_any, list_all, filter_map, enumerate_from, range_with_len}
-use Rattle.cxl_enc.specs.declared.caps.MemKind.{MemKind}
+use Rattle.std.specs.List.{list_any, list_all, filter_map, range_with_len}
 use Rattle.cxl_enc.specs.declared.caps.MemKind.TheVariants.{Ram}
 use Rattle.cxl_enc.specs.Codes.{is_ways, code_in_table, bits_of, log2_of}
 use Rattle.cxl_enc.specs.Caps.{targets_of}

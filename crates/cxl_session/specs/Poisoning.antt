@@ -1,7 +1,6 @@
 -- What the bytes of a poison list say, and which host bytes a record of it touches (CXL Get Poison List output and media
 -- error records; how a record is cut into runs is this project's rule).
-use Rattle.std.specs.Prelude.{◌≡◌, ℕ, ◌+◌, ◌-◌, ◌*◌, ◌/◌, ◌%◌, ◌==◌, nat_lt, nat_le, min, max, true, false, if◌then◌else◌, List, [], ◌∷◌, ◌++◌, map, length, take, drop, sum_by, slice_get, slice_index, Option, Some, None, IsSomeAnd, unwrap_or}
-use Rattle.std.specs.Option.{option_map_or}
+use Rattle.std.specs.Prelude.{◌≡◌, ℕ, ◌+◌, ◌-◌, ◌*◌, ◌/◌, ◌%◌, ◌==◌, nat_lt, nat_le, min, max, true, false, if◌then◌else◌, List, [], ◌∷◌, map, length, take, drop, sum_by, slice_get, Option, Some, None, IsSomeAnd}
 use Rattle.std.specs.List.{filter_map, flat_map, enumerate_from, range_with_len}
 use Rattle.cxl_num.specs.Interleave.{chunk_size}
 use Rattle.cxl_regs.specs.Words.{has_bit}

@@ -1,5 +1,5 @@
 -- On which device bytes a range of host bytes lies, and how many of them on each slot (this project's rules).
-use Rattle.std.specs.Prelude.{ℕ, ◌+◌, ◌-◌, ◌*◌, ◌/◌, ◌==◌, min, max, if◌then◌else◌, List, [], ◌∷◌, map, count_by, slice_get}
+use Rattle.std.specs.Prelude.{ℕ, ◌+◌, ◌-◌, ◌*◌, ◌==◌, min, max, if◌then◌else◌, List, [], ◌∷◌, map, count_by, slice_get}
 use Rattle.std.specs.Option.{option_map_or}
 use Rattle.std.specs.List.{range_with_len}
 use Rattle.cxl_num.specs.Interleave.{chunk_size}

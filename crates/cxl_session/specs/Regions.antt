@@ -1,14 +1,13 @@
 -- Answers to commands that make and end regions, at once or write by write (this project's rules).
-use Rattle.std.specs.Prelude.{◌≡◌, ℕ, ◌+◌, nat_le, if◌then◌else◌, List, length, Option, Some, None, Result, Ok, Err}
+use Rattle.std.specs.Prelude.{◌≡◌, ℕ, ◌+◌, nat_le, if◌then◌else◌, Option, Some, None, Result, Ok, Err}
 use Rattle.cxl_script.specs.declared.command.Create.{Create}
-use Rattle.cxl_model.specs.declared.found.Found.{Found}
 use Rattle.cxl_reply.specs.declared.reply.Reply.{Reply}
 use Rattle.cxl_reply.specs.declared.reply.Reply.TheVariants as replies
 use Rattle.cxl_reply.specs.declared.told.Named.{Named}
 use Rattle.cxl_session.specs.Machine.{Live, RegionJob, JobKind, Creates, Releases, Machine}
 use Rattle.cxl_session.specs.Jobs.{total_of, at_done, begun, finished, undone}
 use Rattle.cxl_session.specs.Outcomes.{BusOutcome, NoFault, Undone, LeftPending, ReadFailed, IsLeftOfWhole, IsLeftOfSteps, IsLeftOfAbort}
-use Rattle.cxl_session.specs.Requests.{AsksCreate, asked_release}
+use Rattle.cxl_session.specs.Requests.{AsksCreate}
 use Rattle.cxl_session.specs.Replies.{Answer, stays, becomes, Gives}
 
 -- ---- the replies of a job

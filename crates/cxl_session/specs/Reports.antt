@@ -1,11 +1,8 @@
 -- What a region's registers are shown as, and what a poison list touches (this project's rules).
 use Rattle.std.specs.Prelude.{◌≡◌, ℕ, List, map, take, Some, None, IsSome}
-use Rattle.std.specs.Option.{option_map_or}
 use Rattle.cxl_regs.specs.Words.{words_of}
 use Rattle.cxl_script.specs.declared.command.Poison.{Poison}
 use Rattle.cxl_model.specs.declared.plan.Row.{Row}
-use Rattle.cxl_model.specs.declared.poison.Entry.{Entry}
-use Rattle.cxl_model.specs.declared.poison.PoisonList.{PoisonList}
 use Rattle.cxl_model.specs.declared.poison.Poisoned.{Poisoned}
 use Rattle.cxl_model.specs.Contents.{Holding}
 use Rattle.cxl_apply.specs.Releases.{rows_of}

@@ -14,7 +14,7 @@ use Rattle.cxl_model.specs.System.{System, IsSystem}
 use Rattle.cxl_model.specs.Accepted.{IsAccepted}
 use Rattle.cxl_model.specs.Listed.{AreRegions, AreRegionsByBase}
 use Rattle.cxl_model.specs.Plans.{IsLegalPlan}
-use Rattle.cxl_model.specs.Contents.{Holding, AreContents, AreMediaOf}
+use Rattle.cxl_model.specs.Contents.{AreContents, AreMediaOf}
 use Rattle.cxl_apply.specs.Jobs.{blocks_done}
 use Rattle.cxl_apply.specs.Releases.{first_locked, first_not_last}
 use Rattle.cxl_session.specs.Machine.{Live, RegionJob, JobKind, Creates, Releases, Machine, region_limit, kept_regions, pieces_held, holding_of}

@@ -1,14 +1,12 @@
-use Rattle.std.proofs.Common.{◌≡◌, ℕ, ◌+◌, ◌-◌, Bool, true, false, not, List, [], ◌∷◌, Option, Some, None, refl, sym, ap, ◌∙◌}
-use Rattle.std.specs.Prelude.{nat_lt, is_some, unwrap_or, slice_index, replicate}
-use Rattle.std.specs.FinMap as map
-use Rattle.cxl_session.specs.Bytes.{written, piece_after, new_pieces}
+use Rattle.std.proofs.Common.{◌≡◌, ℕ, ◌+◌, ◌-◌, List, [], ◌∷◌, refl, sym, ap, ◌∙◌}
+use Rattle.std.specs.Prelude.{nat_lt}
+use Rattle.cxl_session.specs.Bytes.{piece_after}
 use Rattle.cxl_session.specs.Machine.{free_frames}
 use Rattle.cxl_script.specs.declared.command.Store.{Store}
 use Rattle.cxl_reply.specs.declared.reply.Reply.TheVariants as replies
 use Rattle.cxl_session.specs.Replies.{stays}
 use Rattle.cxl_session.specs.Accesses.{frames_wanted, store_into}
-use Rattle.cxl_session.specs.Copies.{frames_for, pieces_of}
-use Rattle.cxl_session.specs.Examples.{with_r0, with_both, region_r0, region_b}
+use Rattle.cxl_session.specs.Examples.{with_r0, region_r0}
 use Rattle.cxl_session.proofs.ExampleBytes.{where_true, where_false, nothing, one_piece, get-nothing, len-nothing, get-one_piece, len-one_piece}
 use Rattle.cxl_session.proofs.access_examples.bytes_on_examples.Goals as goal
 

@@ -1,10 +1,8 @@
-use Rattle.std.proofs.Common.{◌≡◌, ℕ, ◌+◌, ◌-◌, Bool, true, false, List, [], ◌∷◌, refl, sym, ap, ◌∙◌}
+use Rattle.std.proofs.Common.{◌≡◌, ℕ, ◌+◌, ◌-◌, List, [], ◌∷◌, refl, sym, ap, ◌∙◌}
 use Rattle.std.specs.Prelude.{nat_lt}
-use Rattle.cxl_model.specs.Contents.{Contents}
 use Rattle.cxl_reply.specs.declared.reply.Reply.TheVariants as replies
 use Rattle.cxl_session.specs.Bytes.{piece_after}
-use Rattle.cxl_session.specs.Copies.{copied, moved, carried, copy_between, move_between, frames_for, pieces_of}
-use Rattle.cxl_session.specs.Machine.{free_frames}
+use Rattle.cxl_session.specs.Copies.{copy_between, move_between, frames_for, pieces_of}
 use Rattle.cxl_session.specs.Replies.{becomes, stays}
 use Rattle.cxl_session.specs.Examples.{with_both, region_r0, region_b, r0, b}
 use Rattle.cxl_session.proofs.ExampleBytes.{where_true, where_false, nothing, one_piece, len-nothing, len-one_piece}

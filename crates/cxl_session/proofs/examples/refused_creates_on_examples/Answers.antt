@@ -1,4 +1,4 @@
-use Rattle.std.proofs.Common.{refl, Ok, Err, arith}
+use Rattle.std.proofs.Common.{refl, Err}
 use Rattle.cxl_model.specs.declared.plan.PlanFault.TheVariants as faults
 use Rattle.cxl_reply.specs.declared.reply.Reply.TheVariants as replies
 use Rattle.cxl_session.specs.Elsewhere.{NoWays, NoSize, NoSet}

@@ -1,10 +1,10 @@
-use Rattle.std.proofs.Common.{◌≡◌, ◌≢◌, ℕ, zero, suc, ◌+◌, ◌<◌, ◌≤◌, Bool, true, false, ◌&&◌, ◌||◌, [], ◌∷◌, List, Option, Some, None, refl, sym, ap, ◌∙◌, subst, arith}
+use Rattle.std.proofs.Common.{◌≡◌, ◌≢◌, ℕ, zero, suc, ◌+◌, ◌<◌, Bool, true, false, ◌&&◌, ◌||◌, [], ◌∷◌, List, Some, refl, sym, ap, ◌∙◌, arith}
 use Rattle.std.specs.Fmt.{digits}
 use Rattle.std.specs.Prelude.{◌==◌, All, AllPairs, Contains}
 use Rattle.std.specs.Ordering.{nat_cmp}
 use Rattle.std.specs.FinMap as map
 use Rattle.std.specs.FinMap.{get-empty, len-empty}
-use Rattle.std.proofs.lemmas.Bool.{and_parts, eqb-true, false≢true}
+use Rattle.std.proofs.lemmas.Bool.{eqb-true, false≢true}
 use Rattle.std.proofs.lemmas.Option.{none-some}
 use Rattle.cxl_enc.specs.Name.{IsName}
 use Rattle.cxl_regs.specs.Registers.{Registers}
@@ -15,11 +15,10 @@ use Rattle.cxl_model.specs.Contents.{AreContents, Holding}
 use Rattle.cxl_model.specs.Examples.{two_bridges, window_of_both}
 use Rattle.cxl_model.specs.ExampleRegions.{region_of_two}
 use Rattle.cxl_model.specs.Listed.{AreRegions}
-use Rattle.cxl_model.specs.Ranges.{serves, IsCommittedRange}
+use Rattle.cxl_model.specs.Ranges.{serves}
 use Rattle.cxl_model.specs.Regions.{region_range, IsRegion, IsRegionIn}
 use Rattle.cxl_session.specs.Machine.{Live, holding_of}
 use Rattle.cxl_session.specs.Sound.{auto_name}
-use Rattle.cxl_session.specs.Examples.{opened}
 use Rattle.cxl_session.proofs.opening_examples.openings_on_examples.Goals as goal
 
 -- what holds of one item holds of all of a list of it
