@@ -2,6 +2,7 @@ pub mod Machine
 pub mod Jobs
 pub mod Outcomes
 pub mod Bytes
+pub mod Firsts
 pub mod Planning
 pub mod Picking
 pub mod Reaching

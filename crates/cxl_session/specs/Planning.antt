@@ -39,10 +39,7 @@ use Rattle.cxl_model.specs.Ranges.{decoder_for, index_for, same_kind}
 use Rattle.cxl_model.specs.Regions.{slots_an_entry, target_position}
 use Rattle.cxl_model.specs.Rules.{permits}
 use Rattle.cxl_model.specs.System.{System, decoders_at, ram_at, pmem_at}
-
--- the first value that is there
-abbrev pub first_there : {A : Type 0} → List (Option A) → Option A
-first_there answers = slice_get (filter_map (λ answer. answer) answers) 0
+use Rattle.cxl_session.specs.Firsts.{first_there}
 
 -- the least node of which the test holds
 abbrev pub least_node : System → (ℕ → Bool) → Option ℕ

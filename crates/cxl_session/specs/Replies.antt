@@ -14,13 +14,13 @@ pub record Answer : Type 0 where
   pub reply : Reply
   pub machine : Machine
 
--- the machine stays as it is
-abbrev pub stays : Machine → Reply → Answer
-stays m reply = record { reply = reply; machine = m }
-
--- the machine becomes another
+-- the machine after it is this one
 abbrev pub becomes : Machine → Reply → Answer
 becomes m reply = record { reply = reply; machine = m }
+
+-- it is the one before it
+abbrev pub stays : Machine → Reply → Answer
+stays m reply = becomes m reply
 
 -- no call of the bus failed, and the command is answered so
 pub record Gives (outcome : BusOutcome) (answer given : Answer) : Type 0 where

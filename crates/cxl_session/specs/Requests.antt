@@ -15,7 +15,7 @@ use Rattle.cxl_reply.specs.declared.told.Spot.{Spot}
 use Rattle.cxl_session.specs.Machine.{Live, RegionJob, Machine, region_limit, live_named, place_named}
 use Rattle.cxl_session.specs.Jobs.{create_job, release_job}
 use Rattle.cxl_session.specs.Elsewhere.{Plans, Want, PickRefusal, NoWays, NoSize, NoSet, Picks}
-use Rattle.cxl_session.specs.Planning.{first_there}
+use Rattle.cxl_session.specs.Firsts.{first_there}
 use Rattle.cxl_session.specs.Replies.{endpoint_named}
 
 -- ---- refusals, each where it holds

@@ -4,7 +4,6 @@ use Rattle.std.specs.Prelude.{◌≡◌, ◌≢◌, ℕ, ◌+◌, ◌<◌, ◌�
 use Rattle.std.specs.List.{enumerate_from}
 use Rattle.std.specs.FinMap as finmap
 use Rattle.cxl_enc.specs.Limits.{frame_limit}
-use Rattle.cxl_enc.specs.Name.{IsName}
 use Rattle.cxl_regs.specs.Registers.{Registers}
 use Rattle.cxl_media.specs.MediaState.{MediaState}
 use Rattle.cxl_model.specs.declared.found.Found.{Found}
@@ -53,7 +52,6 @@ pub record IsJob (m : Machine) (job : RegionJob) : Type 0 where
 pub record AreKept (m : Machine) (regions : List Live) : Type 0 where
   pub all : AreRegions m.settled (map (λ (region : Live). region.found) regions)
   pub names : AllPairs (λ (region other : Live). region.name ≢ other.name) regions
-  pub named : All (λ (region : Live). IsName region.name) regions
   pub contents : All (λ (region : Live). AreContents region.found region.contents) regions
   pub few : length regions ≤ region_limit
 

@@ -1,12 +1,10 @@
 use Rattle.std.proofs.Common.{◌≡◌, ◌≢◌, ℕ, zero, suc, ◌+◌, ◌<◌, Bool, true, false, ◌&&◌, ◌||◌, [], ◌∷◌, List, Some, refl, sym, ap, ◌∙◌, arith}
-use Rattle.std.specs.Fmt.{digits}
 use Rattle.std.specs.Prelude.{◌==◌, All, AllPairs, Contains}
 use Rattle.std.specs.Ordering.{nat_cmp}
 use Rattle.std.specs.FinMap as map
 use Rattle.std.specs.FinMap.{get-empty, len-empty}
 use Rattle.std.proofs.lemmas.Bool.{eqb-true, false≢true}
 use Rattle.std.proofs.lemmas.Option.{none-some}
-use Rattle.cxl_enc.specs.Name.{IsName}
 use Rattle.cxl_regs.specs.Registers.{Registers}
 use Rattle.cxl_regs.specs.declared.reading.Range.{Range}
 use Rattle.cxl_media.specs.Blocks.{key_cmp}
@@ -92,10 +90,6 @@ holds_nothing holding n bytes (zero, low, read) there =
     none-some bytes (sym (get-empty {X = List ℕ} nat_cmp n) ∙ ap (λ (h : Holding). map.get h.contents n) read ∙ there)
 holds_nothing holding n bytes (suc k, low, read) there = absurd (omega (arith, low))
 
-auto_is_name : IsName (auto_name 0)
-unfolding digits
-auto_is_name = record { some = omega arith; few = omega arith; each = refl }
-
 pub returns-clause-sound : goal.returns-clause-sound
 returns-clause-sound c = record {
   machine = record {
@@ -103,7 +97,6 @@ returns-clause-sound c = record {
     regions = record {
       all = regions c.regions_on_examples.ensures.two;
       names = pairs_of_one (λ (region other : Live). region.name ≢ other.name) opened_region;
-      named = all_of_one (λ (region : Live). IsName region.name) opened_region auto_is_name;
       contents = all_of_one (λ (region : Live). AreContents region.found region.contents) opened_region no_bytes;
       few = omega arith;
     };
