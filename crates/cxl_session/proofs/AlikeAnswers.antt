@@ -97,6 +97,14 @@ module _ (m : Machine) where
 
 -- ---- device bytes
 
+-- each live region is one of the image
+pub all_held : (m : Machine) → IsMachine m → (live : List Live) → ((region : Live) → Contains live region → Contains m.live region)
+    → Each (IsHeld m.settled) (map (holding_of m.settled) live)
+all_held m is [] old = no_item
+all_held m is (region ∷ live) old =
+    and_then (live_is_region m is region (old region (0, omega (arith), refl)))
+    (all_held m is live (λ other there. old other (suc there.0, omega (arith, there.1), there.2)))
+
 module _ (laws : CarriageLaws) (m : Machine) (is : IsMachine m) where
   up : (asked : Up) (answer other : Answer) → AnswersUp m asked answer → AnswersUp m asked other → answer ≡ other
   up asked answer other (no_endpoint none one) (no_endpoint none' two) = one ∙ sym two
@@ -107,20 +115,13 @@ module _ (laws : CarriageLaws) (m : Machine) (is : IsMachine m) where
       let replies_same = one_told laws m is endpoint' asked.dpa reply reply' (subst (λ (n : ℕ). TellsHost m n asked.dpa reply) same tells) tells' in
       one ∙ ap (stays m) replies_same ∙ sym two
 
-  -- each live region is one of the image
-  all_held : (live : List Live) → ((region : Live) → Contains live region → Contains m.live region) → Each (IsHeld m.settled) (map (holding_of m.settled) live)
-  all_held [] old = no_item
-  all_held (region ∷ live) old =
-      and_then (live_is_region m is region (old region (0, omega (arith), refl)))
-      (all_held live (λ other there. old other (suc there.0, omega (arith, there.1), there.2)))
-
   payload_told : (endpoint : ℕ) (payload : Payload) (reply other : Reply) → TellsPoison m endpoint payload reply → TellsPoison m endpoint payload other → reply ≡ other
   payload_told endpoint TooShort reply other one two = one ∙ sym two
   payload_told endpoint (TooFew said room) reply other one two = one ∙ sym two
   payload_told endpoint (Tells list) reply other (pieces, each, one) (pieces', each', two) =
       one
       ∙ ap (λ (all : List Poisoned). replies.Poison record { endpoint = endpoint; list = list; pieces = all; names = live_names m })
-      (one_list laws m.settled is.settled.system endpoint (held_live m) (all_held m.live (λ region there. there)) list.records pieces pieces' each each')
+      (one_list laws m.settled is.settled.system endpoint (held_live m) (all_held m is m.live (λ region there. there)) list.records pieces pieces' each each')
       ∙ sym two
 
   poison : (asked : Poison) (answer other : Answer) → AnswersPoison m asked answer → AnswersPoison m asked other → answer ≡ other

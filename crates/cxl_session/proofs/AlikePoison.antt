@@ -21,7 +21,7 @@ pub data Each {A : Type 0} (P : A → Type 0) : List A → Type 0 where
   no_item : Each P []
   and_then : {x : A} {xs : List A} → P x → Each P xs → Each P (x ∷ xs)
 
-each_append : {A : Type 0} (P : A → Type 0) (xs ys : List A) → Each P xs → Each P ys → Each P (xs ++ ys)
+pub each_append : {A : Type 0} (P : A → Type 0) (xs ys : List A) → Each P xs → Each P ys → Each P (xs ++ ys)
 each_append P [] ys no_item more = more
 each_append P (x ∷ xs) ys (and_then here rest) more = and_then here (each_append P xs ys rest more)
 
@@ -32,7 +32,7 @@ alike A B P R one no_item none none = refl
 alike A B P R one (and_then {x} here rest) (next {y = y} {ys = ys} first more) (next {y = z} other others) =
     ap (λ (item : B). item ∷ ys) (one x y z here first other) ∙ ap (λ (items : List B). z ∷ items) (alike A B P R one rest more others)
 
-any_item : {A : Type 0} (P : A → Type 0) (xs : List A) → ((x : A) → P x) → Each P xs
+pub any_item : {A : Type 0} (P : A → Type 0) (xs : List A) → ((x : A) → P x) → Each P xs
 any_item P [] each = no_item
 any_item P (x ∷ xs) each = and_then (each x) (any_item P xs each)
 

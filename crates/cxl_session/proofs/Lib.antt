@@ -5,3 +5,7 @@ pub mod Alike
 pub mod AlikePoison
 pub mod AlikeAnswers
 pub mod ExampleBytes
+pub mod Deciding
+pub mod Told
+pub mod ToldPoison
+pub mod ToldAnswers

@@ -3,7 +3,7 @@
 ghost use Rattle.std.specs.Prelude.{◌≡◌, true};
 ghost use Rattle.cxl_script.specs.declared.command.Command.{Command};
 ghost use Rattle.cxl_session.specs.Machine.{Machine};
-ghost use Rattle.cxl_session.specs.Outcomes.{BusOutcome, can_go};
+ghost use Rattle.cxl_session.specs.Outcomes.{BusOutcome, NoFault, can_go};
 ghost use Rattle.cxl_session.specs.Replies.{Answer, is_refusal};
 ghost use Rattle.cxl_session.specs.Answers.{Answers};
 ghost use Rattle.cxl_session.specs.Sound.{IsMachine};
@@ -21,6 +21,14 @@ pub fn commands_go_as_they_can()
     ensures { (m : Machine) (command : Command) (outcome : BusOutcome) (answer : Answer)
         → Answers m command outcome answer → can_go command outcome ≡ true }
 {}
+
+/// A law of answers: a machine that a session can stand for answers each command where no call of the bus failed.
+pub fn each_command_is_answered()
+    ensures { (m : Machine) (command : Command) → IsMachine m
+        → (answer : Answer) × Answers m command NoFault answer }
+{
+    bytes_are_carried_one_to_one();
+}
 
 /// A law of answers: by a machine that a session can stand for, a command that went so has one answer at the most.
 pub fn one_answer()

@@ -15,7 +15,9 @@ pub use examples::{
     releases_on_examples, steps_on_examples,
 };
 pub use fault::OpenFault;
-pub use laws::{commands_go_as_they_can, one_answer, refusals_leave_the_machine};
+pub use laws::{
+    commands_go_as_they_can, each_command_is_answered, one_answer, refusals_leave_the_machine,
+};
 pub use opening_examples::openings_on_examples;
 pub use plan_examples::{
     plan_faults_on_examples, poison_on_examples, scripts_on_examples, trails_on_examples,
