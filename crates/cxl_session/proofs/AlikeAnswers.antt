@@ -53,7 +53,7 @@ module _ (m : Machine) where
   one_unless create (Some refusal) asked other one two = one ∙ sym two
   one_unless create None asked other one two = one_unrefused create create.ways asked other one two
 
-  one_asked : (create : Create) (asked other : Result RegionJob Reply) → AsksCreate m create asked → AsksCreate m create other → asked ≡ other
+  pub one_asked : (create : Create) (asked other : Result RegionJob Reply) → AsksCreate m create asked → AsksCreate m create other → asked ≡ other
   one_asked create = one_unless create (refusal_of_create m create)
 
   -- ---- jobs

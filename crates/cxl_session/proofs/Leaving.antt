@@ -59,7 +59,7 @@ module _ (m : Machine) where
       (λ refused. refl))
       (λ refused. refl)
 
-  done_reply : (job : RegionJob) (kind : JobKind) → is_refusal (ended_reply job kind) ≡ false
+  pub done_reply : (job : RegionJob) (kind : JobKind) → is_refusal (ended_reply job kind) ≡ false
   done_reply job (Creates rows) = refl
   done_reply job (Releases place) = refl
 

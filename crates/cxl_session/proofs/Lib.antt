@@ -9,3 +9,5 @@ pub mod Deciding
 pub mod Told
 pub mod ToldPoison
 pub mod ToldAnswers
+pub mod GoingOn
+pub mod WritingNothing

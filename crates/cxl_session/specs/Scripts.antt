@@ -45,23 +45,45 @@ pub record Course : Type 0 where
 abbrev pub no_course : Machine → Course
 no_course m = record { machine = m; replies = []; faults = 0; trail = [] }
 
--- one more in front
-abbrev pub course_with : Reply → ℕ → List Sent → Course → Course
-course_with reply faults sent course = record {
+-- One of them: its reply, the machine after it, the faults and the words.
+pub record Turn : Type 0 where
+  pub reply : Reply
+  pub machine : Machine
+  pub faults : ℕ
+  pub trail : List Sent
+
+abbrev pub answer_of : Turn → Answer
+answer_of turn = record { reply = turn.reply; machine = turn.machine }
+
+-- a line that asks for nothing is answered by its fault, and a command as the bus lets it go
+abbrev pub TakesTurn : Machine → Asked → Turn → Type 0
+TakesTurn m (Err fault) turn = turn ≡ record { reply = replies.BadLine fault; machine = m; faults = 0; trail = [] }
+TakesTurn m (Ok command) turn =
+    (outcome : BusOutcome) × Answers m command outcome (answer_of turn) × TrailOf m command outcome turn.trail
+    × (turn.faults ≡ faults_of command outcome)
+
+-- a turn in front of others, and one behind them
+abbrev pub course_from : Turn → Course → Course
+course_from turn course = record {
   machine = course.machine;
-  replies = reply ∷ course.replies;
-  faults = faults + course.faults;
-  trail = sent ++ course.trail;
+  replies = turn.reply ∷ course.replies;
+  faults = turn.faults + course.faults;
+  trail = turn.trail ++ course.trail;
 }
 
--- each command is answered by the machine that the one before it left
+abbrev pub course_then : Course → Turn → Course
+course_then course turn = record {
+  machine = turn.machine;
+  replies = course.replies ++ turn.reply ∷ [];
+  faults = course.faults + turn.faults;
+  trail = course.trail ++ turn.trail;
+}
+
+-- each is answered by the machine that the one before it left
 abbrev pub Runs : Machine → List Asked → Course → Type 0
 Runs m [] course = course ≡ no_course m
-Runs m (Err fault ∷ more) course = (rest : Course) × Runs m more rest × (course ≡ course_with (replies.BadLine fault) 0 [] rest)
-Runs m (Ok command ∷ more) course =
-    (outcome : BusOutcome) × (answer : Answer) × (sent : List Sent) × (rest : Course) × Answers m command outcome answer
-    × TrailOf m command outcome sent × Runs answer.machine more rest
-    × (course ≡ course_with answer.reply (faults_of command outcome) sent rest)
+Runs m (one ∷ more) course =
+    (turn : Turn) × (rest : Course) × TakesTurn m one turn × Runs turn.machine more rest × (course ≡ course_from turn rest)
 
 -- ---- from replies to text
 

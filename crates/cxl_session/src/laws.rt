@@ -1,12 +1,15 @@
 //! Laws of the answers, each the contract of a function that does nothing.
 
-ghost use Rattle.std.specs.Prelude.{◌≡◌, true};
+ghost use Rattle.std.specs.Prelude.{◌≡◌, ℕ, true, List, [], ◌∷◌, ◌++◌};
+ghost use Rattle.cxl_bus.specs.declared.sent.Sent.{Sent};
 ghost use Rattle.cxl_script.specs.declared.command.Command.{Command};
 ghost use Rattle.cxl_session.specs.Machine.{Machine};
 ghost use Rattle.cxl_session.specs.Outcomes.{BusOutcome, NoFault, can_go};
 ghost use Rattle.cxl_session.specs.Replies.{Answer, is_refusal};
 ghost use Rattle.cxl_session.specs.Answers.{Answers};
+ghost use Rattle.cxl_session.specs.Scripts.{Asked, Course, Turn, Runs, TakesTurn, course_then, lines_asked};
 ghost use Rattle.cxl_session.specs.Sound.{IsMachine};
+ghost use Rattle.cxl_session.specs.Trails.{TrailOf};
 
 use cxl_model::{bytes_are_carried_one_to_one, regions_share_no_byte};
 
@@ -14,6 +17,23 @@ use cxl_model::{bytes_are_carried_one_to_one, regions_share_no_byte};
 pub fn refusals_leave_the_machine()
     ensures { (m : Machine) (command : Command) (outcome : BusOutcome) (answer : Answer)
         → Answers m command outcome answer → is_refusal answer.reply ≡ true → answer.machine ≡ m }
+{}
+
+/// A law of trails: a command that is refused without a fault of the bus writes no word.
+pub fn refusals_write_nothing()
+    ensures { (m : Machine) (command : Command) (answer : Answer) (trail : List Sent)
+        → Answers m command NoFault answer → is_refusal answer.reply ≡ true
+        → TrailOf m command NoFault trail → trail ≡ [] }
+{}
+
+/// A law of scripts: what is asked behind others is answered by the machine that they left, and lines behind others ask
+/// for what they ask for by themselves.
+pub fn scripts_go_on()
+    ensures one_more { (m : Machine) (asked : List Asked) (course : Course) (one : Asked) (turn : Turn)
+        → Runs m asked course → TakesTurn course.machine one turn
+        → Runs m (asked ++ one ∷ []) (course_then course turn) }
+    ensures lines { (lines others : List (List ℕ))
+        → lines_asked (lines ++ others) ≡ lines_asked lines ++ lines_asked others }
 {}
 
 /// A law of answers: a command goes as its kind can go.
