@@ -11,3 +11,4 @@ pub mod ToldPoison
 pub mod ToldAnswers
 pub mod GoingOn
 pub mod WritingNothing
+pub mod Writes

@@ -1,9 +1,15 @@
 //! Laws of the answers, each the contract of a function that does nothing.
 
-ghost use Rattle.std.specs.Prelude.{◌≡◌, ℕ, true, List, [], ◌∷◌, ◌++◌};
+ghost use Rattle.std.specs.Prelude.{◌≡◌, ℕ, ◌<◌, true, List, [], ◌∷◌, ◌++◌, AllPairs};
 ghost use Rattle.cxl_bus.specs.declared.sent.Sent.{Sent};
 ghost use Rattle.cxl_script.specs.declared.command.Command.{Command};
-ghost use Rattle.cxl_session.specs.Machine.{Machine};
+ghost use Rattle.cxl_model.specs.declared.plan.Row.{Row};
+ghost use Rattle.cxl_model.specs.System.{System};
+ghost use Rattle.cxl_apply.specs.declared.write.Write.{Write};
+ghost use Rattle.cxl_apply.specs.Jobs.{AreCreateWrites, AreReleaseWrites};
+ghost use Rattle.cxl_apply.specs.Releases.{rows_of};
+ghost use Rattle.cxl_session.specs.Machine.{Live, Machine};
+ghost use Rattle.cxl_session.specs.Jobs.{create_writes, release_writes};
 ghost use Rattle.cxl_session.specs.Outcomes.{BusOutcome, NoFault, can_go};
 ghost use Rattle.cxl_session.specs.Replies.{Answer, is_refusal};
 ghost use Rattle.cxl_session.specs.Answers.{Answers};
@@ -17,6 +23,16 @@ use cxl_model::{bytes_are_carried_one_to_one, regions_share_no_byte};
 pub fn refusals_leave_the_machine()
     ensures { (m : Machine) (command : Command) (outcome : BusOutcome) (answer : Answer)
         → Answers m command outcome answer → is_refusal answer.reply ≡ true → answer.machine ≡ m }
+{}
+
+/// A law of jobs: the writes of a create over rows in rising node order, and those of a region's release, are the ones that
+/// the machine's job has.
+pub fn jobs_have_one_list_of_writes()
+    ensures create { (s : System) (rows : List Row) (writes : List Write)
+        → AllPairs (λ (row next : Row). row.node < next.node) rows → AreCreateWrites s.blocks rows writes
+        → writes ≡ create_writes s rows }
+    ensures release { (s : System) (region : Live) (writes : List Write)
+        → AreReleaseWrites (rows_of s region.found) writes → writes ≡ release_writes s region }
 {}
 
 /// A law of trails: a command that is refused without a fault of the bus writes no word.
