@@ -169,8 +169,7 @@ module _ (onto : OntoLaw) (s : System) (system : IsSystem s) (endpoint : ℕ) wh
 
   some_pieces : (live : List Holding) → Each (IsHeld s) live → (entry : Entry) → (poisoned : Poisoned) × ArePieces endpoint live entry poisoned
   some_pieces live held entry =
-      let (spans, each) = paired SpanOf (List Part) IsOn (λ span parts. ArePartsOf endpoint span (cuts_of entry span) parts) (some_parts entry) (spans_on endpoint live) (sorted _ (listed 0 live held)) in
-      (
+      let (spans, each) = paired SpanOf (List Part) IsOn (λ span parts. ArePartsOf endpoint span (cuts_of entry span) parts) (some_parts entry) (spans_on endpoint live) (sorted _ (listed 0 live held)) in (
         record { parts = flat_map (λ parts. parts) spans; unmapped = 64 * entry.units - sum_by (touched_length entry) (spans_on endpoint live) },
         record { spans = spans; each = each; parts = refl; unmapped = refl },
       )

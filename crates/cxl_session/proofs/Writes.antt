@@ -44,8 +44,8 @@ rises_from low [] above pairs = tt
 rises_from low (row ∷ rows) above pairs = (
   above row (contains_head row rows),
   rises_from (row.node + 1) rows
-  (λ other there. let next : row.node < other.node = subst (λ (r : Row). row.node < r.node) there.2 (pairs 0 (suc there.0) other (omega arith) (omega (arith, there.1))) in omega arith)
-  (λ i j d before within. pairs (suc i) (suc j) d (omega (arith, before)) (omega (arith, within))),
+      (λ other there. let next : row.node < other.node = subst (λ (r : Row). row.node < r.node) there.2 (pairs 0 (suc there.0) other (omega arith) (omega (arith, there.1))) in omega arith)
+      (λ i j d before within. pairs (suc i) (suc j) d (omega (arith, before)) (omega (arith, within))),
 )
 
 above_low : (low : ℕ) (rows : List Row) → Rises low rows → (row : Row) → Contains rows row → low ≤ row.node

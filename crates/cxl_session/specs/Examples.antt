@@ -1,9 +1,11 @@
 -- Worked machines over two bridges with one endpoint each: laws say what commands are answered by them.
-use Rattle.std.specs.Prelude.{ℕ, true, false, List, [], ◌∷◌, ◌++◌, codes, replicate, None}
+use Rattle.std.specs.Prelude.{ℕ, true, false, List, [], ◌∷◌, ◌++◌, codes, replicate, Some, None}
 use Rattle.std.specs.FinMap as map
 use Rattle.cxl_enc.specs.declared.caps.MemKind.TheVariants.{Ram}
 use Rattle.cxl_regs.specs.declared.decoder.Decoder.{Decoder}
 use Rattle.cxl_regs.specs.Registers.{Registers, reset_decoder, reset_block}
+use Rattle.cxl_script.specs.declared.command.Command.{Command}
+use Rattle.cxl_script.specs.declared.command.Command.TheVariants as commands
 use Rattle.cxl_script.specs.declared.command.Create.{Create}
 use Rattle.cxl_model.specs.declared.found.Found.{Found}
 use Rattle.cxl_model.specs.declared.plan.Plan.{Plan}
@@ -13,6 +15,7 @@ use Rattle.cxl_model.specs.Examples.{two_bridges, two_bridges_with, window_of_bo
 use Rattle.cxl_model.specs.ExampleRegions.{region_of_two}
 use Rattle.cxl_reply.specs.declared.told.Named.{Named}
 use Rattle.cxl_reply.specs.declared.told.ShownRow.{ShownRow}
+use Rattle.cxl_session.specs.Bytes.{written}
 use Rattle.cxl_session.specs.Machine.{Live, RegionJob, Machine}
 use Rattle.cxl_session.specs.Jobs.{create_job, release_job, at_done}
 use Rattle.cxl_session.specs.Planning.{plan_at}
@@ -165,3 +168,37 @@ opened = record fresh {
   settled = two_bridges;
   live = record { name = auto_name 0; found = region_of_two; contents = map.empty } ∷ [];
 }
+
+-- ---- bytes and commands
+
+abbrev pub nothing : Contents
+nothing = map.empty
+
+-- 0x11 at the first address
+abbrev pub first_byte : Contents
+first_byte = written nothing 0 (0x11 ∷ [])
+
+abbrev pub load : ℕ → ℕ → Command
+load h len = commands.Load record { h = h; len = len }
+
+abbrev pub store : ℕ → List ℕ → Command
+store h bytes = commands.Store record { h = h; bytes = bytes }
+
+abbrev pub up : List ℕ → ℕ → Command
+up endpoint dpa = commands.Up record { endpoint = endpoint; dpa = dpa }
+
+abbrev pub poison : List ℕ → List ℕ → Command
+poison endpoint bytes = commands.Poison record { endpoint = endpoint; bytes = bytes }
+
+abbrev pub copy : List ℕ → List ℕ → Command
+copy from to = commands.Copy record { from = from; to = to }
+
+abbrev pub move : List ℕ → List ℕ → Command
+move from to = commands.Move record { from = from; to = to }
+
+-- over two endpoints, or over so many that are picked, with so many bytes
+abbrev pub create_of : ℕ → Command
+create_of size = commands.Create record (create_named r0) { size = size }
+
+abbrev pub create_picked : ℕ → ℕ → Command
+create_picked size ways = commands.Create record (create_named r0) { size = size; endpoints = []; ways = Some ways }

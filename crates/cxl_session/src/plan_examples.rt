@@ -14,7 +14,7 @@ ghost use Rattle.cxl_script.specs.declared.fault.Why.TheVariants as whys;
 ghost use Rattle.cxl_reply.specs.declared.reply.Reply.TheVariants as replies;
 ghost use Rattle.cxl_session.specs.Answers.{Answers};
 ghost use Rattle.cxl_session.specs.Elsewhere.{Plans};
-ghost use Rattle.cxl_session.specs.Examples.{fresh, create_named, with_r0, releasing, r0, e0, hb0, poison_bytes};
+ghost use Rattle.cxl_session.specs.Examples.{fresh, create_named, with_r0, releasing, r0, e0, hb0, poison_bytes, nothing, poison};
 ghost use Rattle.cxl_session.specs.ExamplePlans.{asks, asks_at, full_bridges, without_room, four_reset, three_reset};
 ghost use Rattle.cxl_session.specs.Outcomes.{NoFault, Undone};
 ghost use Rattle.cxl_session.specs.Replies.{stays};
@@ -42,17 +42,17 @@ pub fn plan_faults_on_examples()
 
 /// A law of poison lists: what one touches, and why one is refused.
 pub fn poison_on_examples()
-    ensures told { Answers (with_r0 map.empty) (commands.Poison record { endpoint = e0; bytes = poison_bytes 1 }) NoFault
-        (stays (with_r0 map.empty) (replies.Poison record {
+    ensures told { Answers (with_r0 nothing) (poison e0 (poison_bytes 1)) NoFault
+        (stays (with_r0 nothing) (replies.Poison record {
           endpoint = 2;
           list = record { more = false; overflow = None; scanning = false; records = record { dpa = 0xfffffc0; units = 2; source = 2 } ∷ [] };
           pieces = record { parts = Run record { h = 0x11ffffec0; len = 64; region = 0 } ∷ []; unmapped = 64 } ∷ [];
           names = r0 ∷ [];
         })) }
-    ensures short { Answers fresh (commands.Poison record { endpoint = e0; bytes = replicate 31 0 }) NoFault (stays fresh replies.PoisonShort) }
-    ensures few { Answers fresh (commands.Poison record { endpoint = e0; bytes = poison_bytes 2 }) NoFault
+    ensures short { Answers fresh (poison e0 (replicate 31 0)) NoFault (stays fresh replies.PoisonShort) }
+    ensures few { Answers fresh (poison e0 (poison_bytes 2)) NoFault
         (stays fresh (replies.PoisonCount record { said = 2; room = 1 })) }
-    ensures no_endpoint { Answers fresh (commands.Poison record { endpoint = hb0; bytes = poison_bytes 1 }) NoFault
+    ensures no_endpoint { Answers fresh (poison hb0 (poison_bytes 1)) NoFault
         (stays fresh (replies.NoEndpoint hb0)) }
 {}
 
@@ -62,8 +62,10 @@ pub fn trails_on_examples()
         (record { node = 3; off = 0x10; value = 0 } ∷ record { node = 3; off = 0x14; value = 1 }
         ∷ record { node = 3; off = 0x14; value = 0 } ∷ record { node = 3; off = 0x10; value = 0 } ∷ []) }
     ensures at_once { TrailOf fresh (commands.Create (create_named r0)) Undone [] }
-    ensures stepped { TrailOf (releasing map.empty 0) (commands.Step 1) NoFault (record { node = 0; off = 0x20; value = 0x1000 } ∷ []) }
-    ensures aborted { TrailOf (releasing map.empty 1) commands.Abort NoFault (record { node = 0; off = 0x20; value = 0x1200 } ∷ []) }
+    ensures stepped { TrailOf (releasing nothing 0) (commands.Step 1) NoFault
+        (record { node = 0; off = 0x20; value = 0x1000 } ∷ []) }
+    ensures aborted { TrailOf (releasing nothing 1) commands.Abort NoFault
+        (record { node = 0; off = 0x20; value = 0x1200 } ∷ []) }
     ensures refused { TrailOf fresh (commands.Destroy r0) NoFault [] }
 {}
 
