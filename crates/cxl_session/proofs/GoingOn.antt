@@ -1,10 +1,8 @@
 -- A script goes on: one more line behind others.
-use Rattle.std.proofs.Common.{◌≡◌, ℕ, ◌+◌, List, [], ◌∷◌, ◌++◌, Option, Some, None, Result, Ok, Err, refl, sym, ap, ◌∙◌, subst, add_assoc, append_assoc, zero-add, arith}
+use Rattle.std.proofs.Common.{◌≡◌, ℕ, ◌+◌, List, [], ◌∷◌, ◌++◌, Option, Some, None, Result, Ok, Err, refl, sym, ap, ◌∙◌, subst, append_assoc, arith}
 use Rattle.cxl_script.specs.declared.command.Command.{Command}
 use Rattle.cxl_script.specs.declared.fault.BadLine.{BadLine}
 use Rattle.cxl_script.specs.Grammar.{asked_in}
-use Rattle.cxl_reply.specs.declared.reply.Reply.{Reply}
-use Rattle.cxl_bus.specs.declared.sent.Sent.{Sent}
 use Rattle.cxl_session.specs.Machine.{Machine}
 use Rattle.cxl_session.specs.Scripts.{Asked, asked_before, lines_asked, Course, no_course, Turn, TakesTurn, course_from, course_then, Runs}
 

@@ -1,5 +1,5 @@
 -- Each command is answered where no call of the bus failed.
-use Rattle.std.proofs.Common.{◌≡◌, ℕ, List, [], ◌∷◌, map, length, Result, Ok, Err, Option, Some, None, refl, sym, ap, ◌∙◌, subst}
+use Rattle.std.proofs.Common.{◌≡◌, ℕ, List, Result, Ok, Err, Option, Some, None, refl}
 use Rattle.cxl_script.specs.declared.command.Command.{Command}
 use Rattle.cxl_script.specs.declared.command.Command.TheVariants as commands
 use Rattle.cxl_script.specs.declared.command.Create.{Create}
@@ -8,10 +8,10 @@ use Rattle.cxl_script.specs.declared.command.Up.{Up}
 use Rattle.cxl_model.specs.declared.request.Request.{Request}
 use Rattle.cxl_reply.specs.declared.reply.Reply.{Reply}
 use Rattle.cxl_reply.specs.declared.reply.Reply.TheVariants as replies
-use Rattle.cxl_session.specs.Machine.{Live, RegionJob, Machine}
+use Rattle.cxl_session.specs.Machine.{RegionJob, Machine}
 use Rattle.cxl_session.specs.Jobs.{begun}
-use Rattle.cxl_session.specs.Outcomes.{BusOutcome, NoFault}
-use Rattle.cxl_session.specs.Replies.{Answer, stays, becomes, Gives, endpoint_named}
+use Rattle.cxl_session.specs.Outcomes.{NoFault}
+use Rattle.cxl_session.specs.Replies.{Answer, stays, Gives, endpoint_named}
 use Rattle.cxl_session.specs.Accesses.{AnswersUp, no_endpoint, told}
 use Rattle.cxl_session.specs.Reports.{AnswersPoison, TellsPoison, held_live, live_names}
 use Rattle.cxl_session.specs.Reports as reports

@@ -1,6 +1,6 @@
 -- A record of a poison list touches some list of parts.
-use Rattle.std.proofs.Common.{◌≡◌, ℕ, zero, suc, ◌+◌, ◌-◌, ◌*◌, ◌/◌, ◌^◌, ◌<◌, ◌≤◌, min, max, Bool, true, false, if◌then◌else◌, List, [], ◌∷◌, ◌++◌, map, length, Option, Some, None, refl, sym, ap, ◌∙◌, subst, inl, inr, arith}
-use Rattle.std.specs.Prelude.{◌==◌, nat_lt, nat_le, slice_get, Contains, IsSomeAnd, sum_by}
+use Rattle.std.proofs.Common.{◌≡◌, ℕ, zero, suc, ◌+◌, ◌-◌, ◌*◌, ◌/◌, ◌<◌, ◌≤◌, min, max, Bool, true, false, if◌then◌else◌, List, [], ◌∷◌, map, length, Some, None, refl, sym, ◌∙◌, subst, inl, inr, arith}
+use Rattle.std.specs.Prelude.{◌==◌, nat_lt, nat_le, slice_get, IsSomeAnd, sum_by}
 use Rattle.std.specs.List.{cons_option, filter_map, flat_map, enumerate_from, range_with_len}
 use Rattle.std.proofs.Math.Nat.{mul-le-mul_right, div-mul-le_self}
 use Rattle.std.proofs.lemmas.Bool.{cases_Bool, false≢true, cases_lt, eqb-true, le-leb, ltb-true}
@@ -12,10 +12,9 @@ use Rattle.cxl_model.specs.declared.poison.Part.{Part}
 use Rattle.cxl_model.specs.declared.poison.Part.TheVariants.{Run, Wide}
 use Rattle.cxl_model.specs.declared.poison.Poisoned.{Poisoned}
 use Rattle.cxl_model.specs.System.{System, IsSystem}
-use Rattle.cxl_model.specs.Bytes.{LiesInSpan, slot_length}
+use Rattle.cxl_model.specs.Bytes.{slot_length}
 use Rattle.cxl_model.specs.Contents.{Holding}
-use Rattle.cxl_model.specs.Regions.{IsRegionIn, Carries}
-use Rattle.cxl_session.specs.Poisoning.{SpanOf, Cut, Pairwise, none, next, IsHostOf, IsRunOf, IsWideOf, ArePartsOf, one_by_one, wide, ArePieces, chunk_cut, cuts_between, cuts_of, spans_on, spans_in, place_on, put_span, by_start, run_limit, touched_from, touched_to, touched_length, entry_end}
+use Rattle.cxl_session.specs.Poisoning.{SpanOf, Cut, Pairwise, none, next, IsHostOf, IsRunOf, ArePartsOf, one_by_one, wide, ArePieces, chunk_cut, cuts_between, cuts_of, spans_on, spans_in, place_on, put_span, by_start, run_limit, touched_from, touched_to, touched_length, entry_end}
 use Rattle.cxl_session.proofs.AlikePoison.{Each, no_item, and_then, each_append, any_item, IsHeld}
 use Rattle.cxl_session.proofs.Told.{OntoLaw}
 

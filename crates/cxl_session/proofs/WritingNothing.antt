@@ -8,9 +8,9 @@ use Rattle.cxl_script.specs.declared.command.Command.TheVariants as commands
 use Rattle.cxl_reply.specs.declared.reply.Reply.{Reply}
 use Rattle.cxl_session.specs.Machine.{RegionJob, Machine}
 use Rattle.cxl_session.specs.Jobs.{total_of}
-use Rattle.cxl_session.specs.Outcomes.{BusOutcome, NoFault}
+use Rattle.cxl_session.specs.Outcomes.{NoFault}
 use Rattle.cxl_session.specs.Replies.{Answer, is_refusal}
-use Rattle.cxl_session.specs.Regions.{AnswersWhole, ended_answer, stepped_answer, Steps, Aborts, OfPending}
+use Rattle.cxl_session.specs.Regions.{AnswersWhole, stepped_answer, Steps, Aborts, OfPending}
 use Rattle.cxl_session.specs.Answers.{Answers}
 use Rattle.cxl_session.specs.Trails.{SendsAsked, SendsSteps, SendsAbort, SendsPending, TrailOf}
 use Rattle.cxl_session.proofs.AlikeAnswers.{one_asked}
