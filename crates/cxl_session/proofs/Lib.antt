@@ -12,3 +12,4 @@ pub mod ToldAnswers
 pub mod GoingOn
 pub mod WritingNothing
 pub mod Writes
+pub mod KeepingLists
