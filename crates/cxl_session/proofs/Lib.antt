@@ -13,3 +13,5 @@ pub mod GoingOn
 pub mod WritingNothing
 pub mod Writes
 pub mod KeepingLists
+pub mod KeepingBytes
+pub mod KeepingMachines
