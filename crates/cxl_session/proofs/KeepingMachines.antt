@@ -94,7 +94,7 @@ written_kept laws s w found system region contents offset bytes are some fits =
 
 -- ---- regions
 
-live_there : (m : Machine) (p : Live → Bool) (region : Live) → find p m.live ≡ Some region → Contains m.live region × (p region ≡ true)
+pub live_there : (m : Machine) (p : Live → Bool) (region : Live) → find p m.live ≡ Some region → Contains m.live region × (p region ≡ true)
 live_there m p region is =
     let i : ℕ = position_or_len p m.live in
     let at : slice_get m.live i ≡ Some region = sym (find_at p m.live) ∙ is in

@@ -15,3 +15,4 @@ pub mod Writes
 pub mod KeepingLists
 pub mod KeepingBytes
 pub mod KeepingMachines
+pub mod KeepingAccesses

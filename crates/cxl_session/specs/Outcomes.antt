@@ -86,3 +86,15 @@ abbrev pub faults_of : Command → BusOutcome → ℕ
 faults_of (commands.Create create) = faults_of_whole
 faults_of (commands.Destroy name) = faults_of_whole
 faults_of other = faults_of_part
+
+-- ---- accesses
+
+-- the command makes and ends no region, and no job
+abbrev pub is_access : Command → Bool
+is_access (commands.Create create) = false
+is_access (commands.Destroy name) = false
+is_access (commands.BeginCreate create) = false
+is_access (commands.BeginDestroy name) = false
+is_access (commands.Step n) = false
+is_access commands.Abort = false
+is_access other = true

@@ -10,14 +10,16 @@ ghost use Rattle.cxl_apply.specs.Jobs.{AreCreateWrites, AreReleaseWrites};
 ghost use Rattle.cxl_apply.specs.Releases.{rows_of};
 ghost use Rattle.cxl_session.specs.Machine.{Live, Machine};
 ghost use Rattle.cxl_session.specs.Jobs.{create_writes, release_writes};
-ghost use Rattle.cxl_session.specs.Outcomes.{BusOutcome, NoFault, can_go};
+ghost use Rattle.cxl_session.specs.Outcomes.{BusOutcome, NoFault, can_go, is_access};
 ghost use Rattle.cxl_session.specs.Replies.{Answer, is_refusal};
 ghost use Rattle.cxl_session.specs.Answers.{Answers};
 ghost use Rattle.cxl_session.specs.Scripts.{Asked, Course, Turn, Runs, TakesTurn, course_then, lines_asked};
 ghost use Rattle.cxl_session.specs.Sound.{IsMachine};
 ghost use Rattle.cxl_session.specs.Trails.{TrailOf};
 
-use cxl_model::{bytes_are_carried_one_to_one, regions_share_no_byte};
+use cxl_model::{
+    bytes_are_carried_one_to_one, regions_share_no_byte, weaves_fill_their_regions,
+};
 
 /// A law of answers: a refused command leaves the machine as it is.
 pub fn refusals_leave_the_machine()
@@ -73,4 +75,12 @@ pub fn one_answer()
 {
     bytes_are_carried_one_to_one();
     regions_share_no_byte();
+}
+
+/// A law of machines: from one that a session can stand for, a command that makes and ends no region leads to one.
+pub fn accesses_keep_machines()
+    ensures { (m : Machine) (command : Command) (outcome : BusOutcome) (answer : Answer) → IsMachine m
+        → is_access command ≡ true → Answers m command outcome answer → IsMachine answer.machine }
+{
+    weaves_fill_their_regions();
 }

@@ -16,7 +16,7 @@ pub use examples::{
 };
 pub use fault::OpenFault;
 pub use laws::{
-    commands_go_as_they_can, each_command_is_answered, jobs_have_one_list_of_writes, one_answer,
+    accesses_keep_machines, commands_go_as_they_can, each_command_is_answered, jobs_have_one_list_of_writes, one_answer,
     refusals_leave_the_machine, refusals_write_nothing, scripts_go_on,
 };
 pub use opening_examples::openings_on_examples;
