@@ -1,6 +1,6 @@
 -- An access leaves a machine that a session can stand for.
-use Rattle.std.proofs.Common.{◌≡◌, ℕ, ◌+◌, ◌-◌, ◌≤◌, Bool, true, false, not, if◌then◌else◌, List, length, Option, Some, None, refl, sym, ap, ◌∙◌, subst, inl, inr}
-use Rattle.std.specs.Prelude.{◌==◌, nat_le, nat_lt, Contains, find}
+use Rattle.std.proofs.Common.{◌≡◌, ℕ, ◌+◌, Bool, true, false, not, if◌then◌else◌, List, length, Option, Some, None, refl, sym, ap, ◌∙◌, subst, inl, inr}
+use Rattle.std.specs.Prelude.{◌==◌, nat_lt, Contains}
 use Rattle.std.specs.Option.{option_map_or}
 use Rattle.std.specs.Str.{bytes_eq}
 use Rattle.std.proofs.lemmas.Bool.{cases_Bool, false≢true, leb-true, eqb-true}
@@ -10,10 +10,9 @@ use Rattle.cxl_script.specs.declared.command.Pair.{Pair}
 use Rattle.cxl_script.specs.declared.command.Poison.{Poison}
 use Rattle.cxl_script.specs.declared.command.Store.{Store}
 use Rattle.cxl_script.specs.declared.command.Up.{Up}
-use Rattle.cxl_reply.specs.declared.reply.Reply.{Reply}
 use Rattle.cxl_session.specs.Machine.{Live, Machine, live_named, live_at, free_frames, with_contents}
 use Rattle.cxl_session.specs.Outcomes.{BusOutcome, NoFault, Undone, LeftPending, ReadFailed, is_access}
-use Rattle.cxl_session.specs.Replies.{Answer, stays, within_region, ends_within}
+use Rattle.cxl_session.specs.Replies.{Answer, within_region, ends_within}
 use Rattle.cxl_session.specs.Accesses.{store_into, frames_wanted, AnswersUp, no_endpoint, told}
 use Rattle.cxl_session.specs.Reports.{AnswersShow, AnswersPoison}
 use Rattle.cxl_session.specs.Reports as reports

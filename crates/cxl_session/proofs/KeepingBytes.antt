@@ -1,27 +1,15 @@
 -- A machine stays one where a live region holds other bytes.
-use Rattle.std.proofs.Common.{◌≡◌, ◌≢◌, ℕ, zero, suc, ◌+◌, ◌-◌, ◌*◌, ◌/◌, ◌%◌, ◌^◌, ◌<◌, ◌≤◌, Bool, true, false, cond, if◌then◌else◌, List, [], ◌∷◌, ◌++◌, map, length, get_or, Option, Some, None, refl, sym, ap, ◌∙◌, subst, inl, inr, arith}
-use Rattle.std.specs.Prelude.{All, AllPairs, Contains, slice_get, IfSome, nat_le, nat_lt, fold}
-use Rattle.std.specs.List.{position_or_len, range_with_len}
-use Rattle.std.specs.Ordering.{nat_cmp, eq_by_cmp}
-use Rattle.std.specs.Cmp.{nat_cmp_total}
-use Rattle.std.specs.FinMap as fin
-use Rattle.std.specs.FinMap.{get-insert}
+use Rattle.std.proofs.Common.{◌≡◌, ◌≢◌, ℕ, ◌+◌, ◌<◌, Bool, true, false, if◌then◌else◌, List, ◌++◌, map, length, get_or, Option, Some, None, refl, sym, ◌∙◌, subst, arith}
+use Rattle.std.specs.Prelude.{All, Contains, IfSome}
 use Rattle.std.specs.Str.{bytes_eq}
-use Rattle.std.proofs.Math.Nat.{mul_assoc, mul_comm, mul-div_cancel, div-lt_iff_lt-mul}
-use Rattle.std.proofs.lemmas.Bool.{cases_Bool, and_parts, leb-true, ltb-true}
 use Rattle.std.proofs.lemmas.Slice.Eq.{bytes_eq-Decides}
 use Rattle.std.proofs.lemmas.List.{get_or_append_left, get_or-append-add, length-map, length-append}
 use Rattle.std.proofs.lemmas.List.Elements.{All-append, All-map, Contains-get_or}
-use Rattle.std.proofs.lemmas.List.FromFn.{length-map-range_with_len}
-use Rattle.std.proofs.lemmas.Option.{same_Some}
-use Rattle.cxl_window.specs.Fields.{WindowFields}
-use Rattle.cxl_model.specs.declared.found.Found.{Found}
-use Rattle.cxl_model.specs.System.{System, IsSystem}
 use Rattle.cxl_model.specs.Contents.{Contents, AreContents}
 use Rattle.cxl_model.specs.Listed.{AreRegions}
-use Rattle.cxl_session.specs.Machine.{Live, RegionJob, JobKind, Creates, Releases, Machine, kept_regions, under_release, with_contents}
-use Rattle.cxl_session.specs.Sound.{IsMachine, IsJob, IsJobOf, IsCreate, IsRelease}
-use Rattle.cxl_session.proofs.KeepingLists.{changed, changed-found, changed-name, same_founds, same_names, own_names, one_named, HaveOwnNames}
+use Rattle.cxl_session.specs.Machine.{Live, RegionJob, JobKind, Creates, Releases, Machine, under_release, with_contents}
+use Rattle.cxl_session.specs.Sound.{IsMachine, IsJob, IsJobOf}
+use Rattle.cxl_session.proofs.KeepingLists.{changed, changed-name, same_founds, same_names, own_names}
 
 pub same_bytes : (a b : List ℕ) → bytes_eq a b ≡ true → a ≡ b
 same_bytes a b is = (bytes_eq-Decides a b).0 is
@@ -32,7 +20,7 @@ abbrev HoldsOwn : Live → Type 0
 HoldsOwn region = AreContents region.found region.contents
 
 module _ (m : Machine) (is : IsMachine m) (name : List ℕ) (contents : Contents)
-  (can : (region : Live) → Contains m.live region → bytes_eq region.name name ≡ true → AreContents region.found contents) where
+    (can : (region : Live) → Contains m.live region → bytes_eq region.name name ≡ true → AreContents region.found contents) where
   kept_at : (k : ℕ) (d : Live) → k < length m.live → HoldsOwn (get_or m.live k d)
   kept_at k d below =
       subst HoldsOwn (get_or_append_left m.live (under_release m.job) d k below)

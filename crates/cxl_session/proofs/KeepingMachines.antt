@@ -1,7 +1,6 @@
 -- Stores and copies leave a machine that a session can stand for.
-use Rattle.std.proofs.Common.{◌≡◌, ◌≢◌, ℕ, zero, suc, ◌+◌, ◌-◌, ◌*◌, ◌/◌, ◌%◌, ◌^◌, ◌<◌, ◌≤◌, Bool, true, false, not, cond, if◌then◌else◌, List, [], ◌∷◌, ◌++◌, map, length, get_or, Option, Some, None, refl, sym, ap, ◌∙◌, subst, inl, inr, arith, pow_pos}
-use Rattle.std.specs.Prelude.{All, Contains, slice_get, ◌==◌, nat_le, nat_lt, find, fold}
-use Rattle.std.specs.Option.{option_map_or}
+use Rattle.std.proofs.Common.{◌≡◌, ℕ, zero, suc, ◌+◌, ◌-◌, ◌*◌, ◌/◌, ◌^◌, ◌<◌, ◌≤◌, Bool, true, false, cond, List, length, get_or, Some, refl, sym, ap, ◌∙◌, subst, arith}
+use Rattle.std.specs.Prelude.{Contains, slice_get, nat_le, nat_lt, find, fold}
 use Rattle.std.specs.List.{position_or_len, range_with_len}
 use Rattle.std.specs.Ordering.{nat_cmp, eq_by_cmp}
 use Rattle.std.specs.Cmp.{nat_cmp_total, Equal-is}
@@ -9,7 +8,7 @@ use Rattle.std.specs.FinMap as fin
 use Rattle.std.specs.FinMap.{get-insert, get-empty, nat_cmp-IsAntisymmetric}
 use Rattle.std.specs.Str.{bytes_eq}
 use Rattle.std.proofs.Math.Nat.{mul_assoc, mul_comm, mul-div_cancel, div-lt_iff_lt-mul}
-use Rattle.std.proofs.lemmas.Bool.{cases_Bool, and_parts, leb-true, ltb-true, eqb-true}
+use Rattle.std.proofs.lemmas.Bool.{and_parts, leb-true, ltb-true}
 use Rattle.std.proofs.lemmas.List.{get_or_append_left, length-append}
 use Rattle.std.proofs.lemmas.List.Folds.{find_at}
 use Rattle.std.proofs.lemmas.List.Sums.{passes_at_first}
@@ -23,8 +22,8 @@ use Rattle.cxl_model.specs.System.{System, IsSystem}
 use Rattle.cxl_model.specs.Bytes.{slot_length}
 use Rattle.cxl_model.specs.Contents.{Contents, AreContents}
 use Rattle.cxl_model.specs.Regions.{IsRegionIn, weave_fields}
-use Rattle.cxl_session.specs.Bytes.{written, piece_after, byte_after, touched_pieces}
-use Rattle.cxl_session.specs.Machine.{Live, Machine, has_host, live_at, live_named, region_window, kept_regions, under_release, with_contents}
+use Rattle.cxl_session.specs.Bytes.{written, piece_after, byte_after}
+use Rattle.cxl_session.specs.Machine.{Live, Machine, has_host, live_at, region_window, kept_regions, under_release, with_contents}
 use Rattle.cxl_session.specs.Sound.{IsMachine}
 use Rattle.cxl_session.proofs.Deciding.{contains_at}
 use Rattle.cxl_session.proofs.KeepingLists.{one_named}

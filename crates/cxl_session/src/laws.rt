@@ -17,9 +17,7 @@ ghost use Rattle.cxl_session.specs.Scripts.{Asked, Course, Turn, Runs, TakesTurn
 ghost use Rattle.cxl_session.specs.Sound.{IsMachine};
 ghost use Rattle.cxl_session.specs.Trails.{TrailOf};
 
-use cxl_model::{
-    bytes_are_carried_one_to_one, regions_share_no_byte, weaves_fill_their_regions,
-};
+use cxl_model::{bytes_are_carried_one_to_one, regions_share_no_byte, weaves_fill_their_regions};
 
 /// A law of answers: a refused command leaves the machine as it is.
 pub fn refusals_leave_the_machine()
