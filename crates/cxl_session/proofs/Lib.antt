@@ -16,3 +16,4 @@ pub mod KeepingLists
 pub mod KeepingBytes
 pub mod KeepingMachines
 pub mod KeepingAccesses
+pub mod KeepingSteps

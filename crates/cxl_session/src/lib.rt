@@ -18,7 +18,7 @@ pub use fault::OpenFault;
 pub use laws::{
     accesses_keep_machines, commands_go_as_they_can, each_command_is_answered,
     jobs_have_one_list_of_writes, one_answer, refusals_leave_the_machine, refusals_write_nothing,
-    scripts_go_on,
+    scripts_go_on, steps_keep_machines,
 };
 pub use opening_examples::openings_on_examples;
 pub use plan_examples::{
