@@ -1,15 +1,15 @@
 -- A machine stays one while its job goes on and is not done.
-use Rattle.std.proofs.Common.{◌≡◌, ◌≢◌, ℕ, ◌+◌, ◌<◌, ◌≤◌, min, Bool, true, false, if◌then◌else◌, List, ◌++◌, map, length, Option, Some, None, refl, sym, ap, ◌∙◌, subst, inl, inr, arith}
+use Rattle.std.proofs.Common.{◌≡◌, ℕ, ◌+◌, ◌<◌, Bool, true, false, if◌then◌else◌, List, ◌++◌, Option, Some, None, refl, sym, ap, ◌∙◌, subst, arith}
 use Rattle.std.specs.Prelude.{nat_le, IfSome}
-use Rattle.std.proofs.lemmas.Bool.{cases_Bool, leb-false}
-use Rattle.std.proofs.lemmas.Option.{none-some, same_Some}
+use Rattle.std.proofs.lemmas.Bool.{leb-false}
+use Rattle.std.proofs.lemmas.Option.{none-some}
 use Rattle.cxl_session.specs.Machine.{Live, RegionJob, JobKind, Creates, Releases, Machine, kept_regions, region_released, under_release}
 use Rattle.cxl_session.specs.Jobs.{total_of, at_done}
 use Rattle.cxl_session.specs.Outcomes.{BusOutcome, NoFault, Undone, LeftPending, ReadFailed}
 use Rattle.cxl_reply.specs.declared.reply.Reply.TheVariants as replies
 use Rattle.cxl_session.specs.Replies.{Answer, becomes}
 use Rattle.cxl_session.specs.Regions.{ended_answer, stepped_answer, Steps, Aborts, OfPending}
-use Rattle.cxl_session.specs.Sound.{IsMachine, IsJob, IsJobOf, IsCreate, IsRelease, AreKept}
+use Rattle.cxl_session.specs.Sound.{IsMachine, IsJob, IsJobOf, AreKept}
 
 released_same : (job : RegionJob) (done : ℕ) (kind : JobKind) → region_released (record job { done = done }) kind ≡ region_released job kind
 released_same job done (Creates rows) = refl
