@@ -1,6 +1,6 @@
 //! K2 to K8: each block by itself.
 
-ghost use Rattle.std.specs.Prelude.{◌<◌, length};
+ghost use Rattle.std.specs.Prelude.{◌+◌, ◌<◌, length};
 ghost use Rattle.cxl_image.specs.Images.{HasCapsOf};
 ghost use Rattle.cxl_model.specs.System.{System, system_of};
 ghost use Rattle.cxl_check.specs.inner.Blocks.{IsFoundOfNode, IsFoundBelow};

@@ -4,6 +4,7 @@
 mod address;
 mod changed;
 mod checked;
+mod laws;
 mod plan;
 mod poison;
 mod refusal;
@@ -19,6 +20,7 @@ pub use checked::{put_breach, put_found};
 pub use cxl_enc::{FixedList, MemKind, Memory, Name};
 pub use cxl_model::{Extent, Found, PlanFault, PoisonList, Poisoned};
 pub use cxl_script::{BadLine, Why};
+pub use laws::findings_are_told;
 pub use plan::put_plan;
 pub use reply::Reply;
 pub use short_text::ShortText;
@@ -27,6 +29,7 @@ pub use told::{
     Begun, Carried, Counted, Downed, Extents, Lack, Named, Pending, Progress, Report, Shown,
     ShownRow, Sizes, Spot, Spread, Upped, Via,
 };
+pub use words::{put_address, put_gran};
 
 #[cfg(test)]
 mod tests;

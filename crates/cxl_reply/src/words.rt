@@ -1,8 +1,9 @@
-ghost use Rattle.std.specs.Prelude.{◌≡◌, ◌<◌, ◌≤◌, ◌++◌, length, OnOk};
+ghost use Rattle.std.specs.Prelude.{◌≡◌, ◌<◌, ◌≤◌, ◌++◌, length, OnOk, OnErr};
 ghost use Rattle.cxl_reply.specs.Words.{hex_text, gran_text, kind_text, node_text};
 
+use crate::short_text::ShortText;
 use cxl_enc::{MemKind, Memory, gran_of};
-use cxl_io::{put_hex, put_number};
+use cxl_io::put_number;
 use cxl_topo::Topo;
 
 /// Appends a node's name.
@@ -14,18 +15,24 @@ pub(crate) fn put_node(node: u32, topo: &Topo, out: &mut Vec<u8>) -> Result<(), 
     Ok(())
 }
 
-/// Appends an address or a size in hexadecimal digits, behind `0x`.
-pub(crate) fn put_address(address: u64, out: &mut Vec<u8>) -> Result<(), Memory>
-    ensures { OnOk result (out.new.items ≡ out.old.items ++ hex_text address) }
+/// Appends an address or a size in hexadecimal digits, behind `0x`. After `Memory` the text is as before.
+/// (This project's rule.) Takes memory.
+pub fn put_address(address: u64, out: &mut Vec<u8>) -> Result<(), Memory>
+    ensures ok { OnOk result (out.new.items ≡ out.old.items ++ hex_text address) }
+    ensures err { OnErr result (out.new.items ≡ out.old.items) }
 {
-    out.extend_from_slice(b"0x")?;
-    put_hex(out, address, 1)
+    let mut text = ShortText::new();
+    text.put_hex(address);
+    out.extend_from_slice(text.bytes())?;
+    Ok(())
 }
 
-/// Appends the bytes of a granularity code.
-pub(crate) fn put_gran(code: u8, out: &mut Vec<u8>) -> Result<(), Memory>
+/// Appends the bytes of a granularity code, in decimal digits. After `Memory` the text is as before. (This
+/// project's rule.) Takes memory.
+pub fn put_gran(code: u8, out: &mut Vec<u8>) -> Result<(), Memory>
     requires { code ≤ 6 }
-    ensures { OnOk result (out.new.items ≡ out.old.items ++ gran_text code) }
+    ensures ok { OnOk result (out.new.items ≡ out.old.items ++ gran_text code) }
+    ensures err { OnErr result (out.new.items ≡ out.old.items) }
 {
     put_number(out, u64::from(gran_of(code).unwrap()))
 }

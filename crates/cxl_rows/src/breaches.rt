@@ -5,6 +5,7 @@ ghost use Rattle.cxl_image.specs.Images.{HasCapsOf};
 ghost use Rattle.cxl_window.specs.Windows.{AreMadeWith};
 ghost use Rattle.cxl_model.specs.System.{bridge_uids};
 
+use crate::host_files::with_words;
 use crate::hosts::{
     BASE, BRIDGE, FORWARDING, GIB, Range, Spot, Worked, device, host_of, over, window,
 };
@@ -27,7 +28,7 @@ const fn endpoints() -> Range {
 }
 
 /// Two bridges with one endpoint each under a window over both, with these decoders committed.
-fn pair(
+fn two_bridges(
     rt: &impl Abort,
     alloc: Global,
     bridges: [Spot; 2],
@@ -49,19 +50,12 @@ fn pair(
 /// A word of the image file of four nodes with blocks of 144 bytes: the node, the offset and the value.
 type Word = (usize, usize, u32);
 
-/// The image with other words.
-fn with_words(
-    rt: &impl Abort,
-    alloc: Global,
-    host: &Worked,
-    words: &[Word],
-) -> Result<Image, Fail> {
+/// The host's image with other words.
+fn changed(rt: &impl Abort, alloc: Global, host: &Worked, words: &[Word]) -> Result<Image, Fail> {
     let mut bytes = write_image(alloc, &host.image)?;
     for (node, off, value) in words {
         assert!(rt; *node < 4 && *off < 144);
-        let at = 12 + 144 * node + off;
-        assert!(rt; at + 4 <= bytes.len());
-        bytes[at..at + 4].copy_from_slice(&value.to_le_bytes());
+        bytes = with_words(bytes, &[(12 + 144 * node + off, *value)])?;
     }
     assert!(rt; bytes.len() < 0x1_0000_0000);
     Ok(read_image(alloc, &bytes, &host.topo)?)
@@ -107,9 +101,9 @@ const ROWS: [(&[Word], (u8, u32, u8)); 11] = [
 #[test]
 fn breaches(rt: HostRuntime) -> Result<(), Fail> {
     let alloc = rt.alloc();
-    let host = pair(&rt, alloc, [BRIDGE; 2], &[bridges(), endpoints()])?;
+    let host = two_bridges(&rt, alloc, [BRIDGE; 2], &[bridges(), endpoints()])?;
     for (words, want) in ROWS {
-        let other = with_words(&rt, alloc, &host, words)?;
+        let other = changed(&rt, alloc, &host, words)?;
         assert_eq!(rt; breach(alloc, &host, &other)?, Some(want));
     }
     // A bridge that cannot select on address bits 14:12.
@@ -117,7 +111,7 @@ fn breaches(rt: HostRuntime) -> Result<(), Fail> {
         cap: 0x182,
         ..BRIDGE
     };
-    let other = pair(&rt, alloc, [BRIDGE, low], &[])?;
+    let other = two_bridges(&rt, alloc, [BRIDGE, low], &[])?;
     assert_eq!(rt; breach(alloc, &other, &host.image)?, Some((1, 1, 0)));
     Ok(())
 }
@@ -126,9 +120,12 @@ fn breaches(rt: HostRuntime) -> Result<(), Fail> {
 fn one_region(rt: HostRuntime) -> Result<(), Fail> {
     let alloc = rt.alloc();
     let forwarding = [FORWARDING; 2];
-    let host = pair(&rt, alloc, forwarding, &[])?;
-    assert_eq!(rt; check(alloc, &host.image, &host.topo, &host.windows)?.len(), 0);
-    let host = pair(&rt, alloc, forwarding, &[endpoints()])?;
+    let host = two_bridges(&rt, alloc, forwarding, &[])?;
+    assert_eq!(rt;
+        check(alloc, &host.image, &host.topo, &host.windows)?.len(),
+        0
+    );
+    let host = two_bridges(&rt, alloc, forwarding, &[endpoints()])?;
     let regions = check(alloc, &host.image, &host.topo, &host.windows)?;
     assert_eq!(rt; regions.len(), 1);
     let region = &regions[0];
@@ -141,7 +138,7 @@ fn one_region(rt: HostRuntime) -> Result<(), Fail> {
     assert_eq!(rt; (spans[1].endpoint, spans[1].start), (3, 0));
     // A bridge that forwards decodes nothing itself.
     let first = over(0, 1, BASE, SIZE, 0, 0);
-    let host = pair(&rt, alloc, forwarding, &[endpoints(), first])?;
+    let host = two_bridges(&rt, alloc, forwarding, &[endpoints(), first])?;
     assert_eq!(rt; breach(alloc, &host, &host.image)?, Some((11, 0, 0)));
     Ok(())
 }

@@ -11,8 +11,8 @@ use cxl_cedt::{Cedt, Cfmws, Chbs, Cxims, Head, Record};
 use cxl_enc::{Name, code_of};
 use cxl_image::Image;
 use cxl_regs::{
-    BASE_HIGH, BASE_LOW, CONTROL, Decoder, GLOBAL_CONTROL, SIZE_HIGH, SIZE_LOW, TAIL_HIGH, TAIL_LOW,
-    offset_of, words_of,
+    BASE_HIGH, BASE_LOW, CONTROL, Decoder, GLOBAL_CONTROL, SIZE_HIGH, SIZE_LOW, TAIL_HIGH,
+    TAIL_LOW, offset_of, words_of,
 };
 use cxl_topo::{Capacity, Node, NodeKind, Parent, Topo};
 use cxl_window::{Window, windows};
@@ -182,7 +182,7 @@ pub(crate) fn table_of(
         }))?;
     }
     for span in spans {
-        records.push(Record::Cfmws(cfmws_of(rt, alloc, span)?))?;
+        records.push(Record::Cfmws(window_record(rt, alloc, span)?))?;
     }
     let maps = [0x40_4100].to_vec(alloc)?;
     records.push(Record::Cxims(Cxims::new(0, maps)))?;
@@ -190,7 +190,7 @@ pub(crate) fn table_of(
     Ok(Cedt::new(HEAD, records))
 }
 
-fn cfmws_of(rt: &impl Abort, alloc: Global, span: &Span) -> Result<Cfmws, Fail> {
+fn window_record(rt: &impl Abort, alloc: Global, span: &Span) -> Result<Cfmws, Fail> {
     assert!(rt; span.targets.len() <= 16 && span.gran <= 6);
     let ways = code_of(span.targets.len() as u8).expect(rt, "a number of ways");
     let targets = Vec::from_slice(alloc, span.targets)?;
@@ -297,14 +297,19 @@ fn commit(rt: &impl Abort, image: &mut Image, range: &Range, node: u32)
         tail: range.tail,
         ..Decoder::RESET
     });
-    write(image, node, GLOBAL_CONTROL, 2);
+    write_word(image, node, GLOBAL_CONTROL, 2);
     for place in WRITTEN {
-        write(image, node, offset_of(range.decoder, place), words[place as usize]);
+        write_word(
+            image,
+            node,
+            offset_of(range.decoder, place),
+            words[place as usize],
+        );
     }
 }
 
 /// Writes a word, where there is such a node.
-fn write(image: &mut Image, node: u32, off: u32, value: u32)
+fn write_word(image: &mut Image, node: u32, off: u32, value: u32)
     ensures { (nodes : List Node) → HasCapsOf image.old nodes → HasCapsOf image.new nodes }
 {
     if node < image.count() {

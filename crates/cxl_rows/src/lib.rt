@@ -6,6 +6,14 @@
 #[cfg(test)]
 mod breaches;
 #[cfg(test)]
+mod checks;
+#[cfg(test)]
+mod findings;
+#[cfg(test)]
+mod guest_stores;
+#[cfg(test)]
+mod host_files;
+#[cfg(test)]
 mod hosts;
 #[cfg(test)]
 mod listings;
@@ -16,11 +24,17 @@ mod messages;
 #[cfg(test)]
 mod outside;
 #[cfg(test)]
+mod real_hosts;
+#[cfg(test)]
+mod real_images;
+#[cfg(test)]
 mod real_tables;
 #[cfg(test)]
 mod routes;
 #[cfg(test)]
 mod rows;
+#[cfg(test)]
+mod stores;
 #[cfg(test)]
 mod tables;
 #[cfg(test)]

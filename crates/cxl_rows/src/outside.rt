@@ -21,6 +21,9 @@ fn usage(rt: HostRuntime) -> Result<(), Fail> {
         "lists table",
         "normal",
         "normal table 0",
+        "check",
+        "check table table",
+        "check table table table table",
         "--help route",
         "--version 0",
     ];
@@ -46,7 +49,12 @@ fn help_and_version(rt: HostRuntime) -> Result<(), Fail> {
     let alloc = rt.alloc();
     check(&rt, "--help", Vec::new(alloc), 0, HELP)?;
     check(&rt, "--version", Vec::new(alloc), 0, "cxlplan 0.1.0\n")?;
-    for form in ["route CEDT HPA ", "list CEDT ", "normal CEDT "] {
+    for form in [
+        "route CEDT HPA ",
+        "list CEDT ",
+        "normal CEDT ",
+        "check CEDT TOPO IMAGE\n",
+    ] {
         assert!(rt; HELP.contains(form), "{form}");
     }
     Ok(())

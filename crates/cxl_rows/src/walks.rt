@@ -86,7 +86,7 @@ struct Case<'a> {
     want: Result<Route, Miss>,
 }
 
-const fn step(node: u32, decoder: u8, entry: u8) -> Step {
+const fn step_at(node: u32, decoder: u8, entry: u8) -> Step {
     Step {
         node,
         decoder,
@@ -231,7 +231,7 @@ fn routes(rt: HostRuntime) -> Result<(), Fail> {
                 over(2, 4, BASE, 0x2000_0000, 0x10, 0),
             ],
             h: 0x1_0000_0100,
-            want: Ok(through(1, BASE, step(1, 0, 0), 3, 0)),
+            want: Ok(through(1, BASE, step_at(1, 0, 0), 3, 0)),
         },
         // Three ways.
         Case {
@@ -241,20 +241,20 @@ fn routes(rt: HostRuntime) -> Result<(), Fail> {
                 over(3, 6, BASE, 0x3000_0000, 0x80, 0),
             ],
             h: 0x1_2fff_ffff,
-            want: Ok(through(2, BASE, step(2, 0, 0), 5, 0xfff_ffff)),
+            want: Ok(through(2, BASE, step_at(2, 0, 0), 5, 0xfff_ffff)),
         },
         // Six ways from three, two below each bridge.
         Case {
             host: server(3, 2, 2 * GIB, 0x6000_0000),
             ranges: &of_three,
             h: 0x1_0000_0400,
-            want: Ok(through(1, BASE, step(1, 0, 0), 5, 0)),
+            want: Ok(through(1, BASE, step_at(1, 0, 0), 5, 0)),
         },
         Case {
             host: server(3, 2, 2 * GIB, 0x6000_0000),
             ranges: &of_three,
             h: 0x1_0000_0600,
-            want: Ok(through(0, BASE, step(0, 0, 0), 3, 0x100)),
+            want: Ok(through(0, BASE, step_at(0, 0, 0), 3, 0x100)),
         },
         // Twelve ways from six.
         Case {
@@ -264,7 +264,7 @@ fn routes(rt: HostRuntime) -> Result<(), Fail> {
                 over(6, 18, BASE, 0xc000_0000, 0xa0, 0),
             ],
             h: 0x1_0000_0b00,
-            want: Ok(through(5, BASE, step(5, 0, 1), 17, 0)),
+            want: Ok(through(5, BASE, step_at(5, 0, 1), 17, 0)),
         },
         // Two and six ways under XOR.
         Case {
@@ -274,7 +274,7 @@ fn routes(rt: HostRuntime) -> Result<(), Fail> {
                 over(2, 4, BASE, 0x2000_0000, 0x10, 0),
             ],
             h: 0x1_0000_4000,
-            want: Ok(through(1, BASE, step(1, 0, 0), 3, 0x2000)),
+            want: Ok(through(1, BASE, step_at(1, 0, 0), 3, 0x2000)),
         },
         Case {
             host: Bridged {
@@ -286,7 +286,7 @@ fn routes(rt: HostRuntime) -> Result<(), Fail> {
                 over(6, 12, BASE, 0x6000_0000, 0x90, 0),
             ],
             h: 0x1_0000_4200,
-            want: Ok(through(1, BASE, step(1, 0, 0), 7, 0xb00)),
+            want: Ok(through(1, BASE, step_at(1, 0, 0), 7, 0xb00)),
         },
         // The last byte of 1 TiB.
         Case {
@@ -296,7 +296,7 @@ fn routes(rt: HostRuntime) -> Result<(), Fail> {
                 over(2, 6, 0x10_0000_0000, 0x100_0000_0000, 0x20, 0),
             ],
             h: 0x10f_ffff_ffff,
-            want: Ok(through(1, 0x10_0000_0000, step(1, 0, 1), 5, 0x3f_ffff_ffff)),
+            want: Ok(through(1, 0x10_0000_0000, step_at(1, 0, 1), 5, 0x3f_ffff_ffff)),
         },
         // The second decoders, over a skip into persistent memory.
         Case {
@@ -319,7 +319,7 @@ fn routes(rt: HostRuntime) -> Result<(), Fail> {
                 },
             ],
             h: 0x1_1000_0000,
-            want: Ok(through(0, 0x1_1000_0000, step(0, 1, 0), 1, 0x4000_0000)),
+            want: Ok(through(0, 0x1_1000_0000, step_at(0, 1, 0), 1, 0x4000_0000)),
         },
         // Bridges that forward make no step.
         Case {
@@ -360,11 +360,11 @@ fn a_route_of_five_steps(rt: HostRuntime) -> Result<(), Fail> {
         base: BASE,
         len: 5,
         steps: [
-            step(0, 0, 0),
-            step(1, 0, 1),
-            step(3, 0, 1),
-            step(7, 0, 0),
-            step(14, 0, 1),
+            step_at(0, 0, 0),
+            step_at(1, 0, 1),
+            step_at(3, 0, 1),
+            step_at(7, 0, 0),
+            step_at(14, 0, 1),
         ],
         endpoint: 29,
         decoder: 0,
@@ -462,7 +462,7 @@ fn the_least_of_two_that_meet(rt: HostRuntime) -> Result<(), Fail> {
     let fault = check(rt.alloc(), &host.image, &host.topo, &host.windows).err();
     assert_eq!(rt; fault, Some(CheckFault::Breach(breach)));
     for (low, high, dpa) in [(BASE, BASE + 0x100, 0), (BASE + 0x2ff, BASE + 0x3ff, 0x1ff)] {
-        let want = through(0, BASE, step(0, 0, 0), 1, dpa);
+        let want = through(0, BASE, step_at(0, 0, 0), 1, dpa);
         for h in [low, high] {
             assert_eq!(rt;
                 down(&host.image, &host.topo, &host.windows, h),

@@ -1,21 +1,13 @@
 -- The files of a form.
 use Rattle.std.proofs.Common.{◌≡◌, ℕ, Some, None, List, [], ◌∷◌, ap}
-use Rattle.cxl_shell.specs.Form.{Form, Route, Listing, Normal, Help, Version, Unreadable, own_files, table_file}
-
--- the file with the table is the form's one file
-pub own_file : (form : Form) (file : List ℕ) → table_file form ≡ Some file → own_files form ≡ file ∷ []
-own_file (Route f h) file asked = let same : f ≡ file = cc in ap (λ g. g ∷ []) same
-own_file (Listing f) file asked = let same : f ≡ file = cc in ap (λ g. g ∷ []) same
-own_file (Normal f) file asked = let same : f ≡ file = cc in ap (λ g. g ∷ []) same
-own_file Help file asked = absurd (cc)
-own_file Version file asked = absurd (cc)
-own_file Unreadable file asked = absurd (cc)
+use Rattle.cxl_shell.specs.Form.{Form, Route, Listing, Normal, Check, Help, Version, Unreadable, own_files, table_file}
 
 -- the first file is that with the table
 pub first_file : (form : Form) (file : List ℕ) (others : List (List ℕ)) → own_files form ≡ file ∷ others → table_file form ≡ Some file
 first_file (Route f h) file others own = let same : f ≡ file = cc in ap (λ g. Some g) same
 first_file (Listing f) file others own = let same : f ≡ file = cc in ap (λ g. Some g) same
 first_file (Normal f) file others own = let same : f ≡ file = cc in ap (λ g. Some g) same
+first_file (Check cedt topo image) file others own = let same : cedt ≡ file = cc in ap (λ g. Some g) same
 first_file Help file others own = absurd (cc)
 first_file Version file others own = absurd (cc)
 first_file Unreadable file others own = absurd (cc)

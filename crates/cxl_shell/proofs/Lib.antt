@@ -5,10 +5,16 @@ pub mod WordCounts
 pub mod Forms
 pub mod Stops
 pub mod Tables
+pub mod Topologies
+pub mod Images
+pub mod Hosts
 pub mod InBlocks
 pub mod ListLines
 pub mod Lists
+pub mod Regions
+pub mod Checks
 pub mod Routes
 pub mod Runs
+pub mod Steps
 pub mod Readings
 pub mod PerCommand

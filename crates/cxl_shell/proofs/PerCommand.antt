@@ -4,22 +4,31 @@ use Rattle.std.specs.List.{concat}
 use Rattle.std.proofs.lemmas.List.{append-nil}
 use Rattle.cxl_cedt.specs.CedtFields.{CedtFields}
 use Rattle.cxl_io.specs.Sink.{SinkState, Takes}
+use Rattle.cxl_model.specs.Accepted.{IsAccepted, HasFirstBreach}
+use Rattle.cxl_model.specs.System.{System}
+use Rattle.cxl_regs.specs.Registers.{Registers}
+use Rattle.cxl_topo.specs.Tree.{Tree}
 use Rattle.cxl_window.specs.Windows.{windows_of}
-use Rattle.cxl_shell.specs.Answers.{AnswersFromFiles, IsTableAnswer, IsAnswerOfFile}
+use Rattle.cxl_shell.specs.Answers.{AnswersFromFiles, IsTableAnswer, IsAnswerOfFile, IsAnswerOfHost}
 use Rattle.cxl_shell.specs.Ends.{IsWritten, IsCutShort, IsBehind, Ends, IsStopped}
-use Rattle.cxl_shell.specs.Form.{Form, Route, Listing, Normal, Help, Version, Unreadable, takes_memory}
+use Rattle.cxl_shell.specs.Form.{Form, Route, Listing, Normal, Check, Help, Version, Unreadable, has_many_pieces, takes_memory}
 use Rattle.cxl_shell.specs.Outcome.{Outcome, whole_text, one_piece}
 use Rattle.cxl_shell.specs.Outside.{Outside}
 use Rattle.cxl_shell.specs.Run.{RunsOut, before, behind, IsRun, writes, is_cut, runs_out}
+use Rattle.cxl_shell.specs.commands.Check.{IsChecked, regions_told, breach_told, IsRegionsText, IsBreachText, TakesRegions}
 use Rattle.cxl_shell.specs.commands.List.{IsListText, TakesLines}
 use Rattle.cxl_shell.specs.commands.Normal.{IsNormalText}
 use Rattle.cxl_shell.specs.commands.Route.{IsNowhere, IsRouted, to_bridge, nowhere, no_window, IsRouteLine}
 use Rattle.cxl_shell.specs.declared.status.Status.{Status}
 use Rattle.cxl_shell.specs.declared.status.Status.TheVariants.{Done, Refused, Memory}
-use Rattle.cxl_shell.specs.inputs.File.{not_read, not_small}
+use Rattle.cxl_shell.specs.inputs.File.{HasNoBytes, not_read, not_small}
+use Rattle.cxl_shell.specs.inputs.Host.{host_of, AreRead, HasNoHost}
+use Rattle.cxl_shell.specs.inputs.Host as hosts
+use Rattle.cxl_shell.specs.inputs.Image as images
 use Rattle.cxl_shell.specs.inputs.Table.{IsTableOf, no_table, by_table, no_bytes, not_sound}
+use Rattle.cxl_shell.specs.inputs.Topology as trees
 use Rattle.cxl_shell.proofs.Routes.{done_selection, refused_nowhere}
-use Rattle.cxl_shell.proofs.Runs.{Came, done_answer, refused_answer, memory_left}
+use Rattle.cxl_shell.proofs.Runs.{Came, IsHostAnswered, done_answer, refused_answer, check_done, check_refused, memory_left}
 use Rattle.cxl_shell.proofs.Stops.{told-nothing_more}
 
 -- ---- outcomes of one piece
@@ -56,16 +65,16 @@ module _ (old new : Outside) where
   one_of_route table h outcome (to_bridge s selected e) = record { status = _; text = _; is = e }
   one_of_route table h outcome (nowhere none e) = record { status = _; text = _; is = e }
 
-  -- only a list has more pieces
-  one_piece_answers : (form : Form) (outcome : Outcome) → ((file : List ℕ) → form ≢ Listing file) → AnswersFromFiles form old.files new.files outcome → IsOnePiece outcome
+  one_piece_answers : (form : Form) (outcome : Outcome) → has_many_pieces form ≡ false → AnswersFromFiles form old.files new.files outcome → IsOnePiece outcome
   one_piece_answers (Route file h) outcome other answers = one_of_file (Route file h) file outcome (λ table answer. one_of_route table h outcome answer) answers
-  one_piece_answers (Listing file) outcome other answers = absurd (other file refl)
+  one_piece_answers (Listing file) outcome other answers = absurd (cc)
+  one_piece_answers (Check cedt topo image) outcome other answers = absurd (cc)
   one_piece_answers (Normal file) outcome other answers = one_of_file (Normal file) file outcome (λ table answer. record { status = _; text = _; is = answer }) answers
   one_piece_answers Help outcome other answers = record { status = _; text = _; is = answers.0 }
   one_piece_answers Version outcome other answers = record { status = _; text = _; is = answers.0 }
   one_piece_answers Unreadable outcome other answers = record { status = _; text = _; is = answers.0 }
 
-  pub memory_writes : (form : Form) → ((file : List ℕ) → form ≢ Listing file) → RunsOut form old new → new.out.taken ≡ old.out.taken
+  pub memory_writes : (form : Form) → has_many_pieces form ≡ false → RunsOut form old new → new.out.taken ≡ old.out.taken
   memory_writes form other (before some none) = nothing_taken none
   memory_writes form other (behind outcome answers lines) = nothing_taken (behind_one old.out new.out outcome (one_piece_answers form outcome other answers) lines)
 
@@ -79,6 +88,36 @@ module _ (old new : Outside) where
   pub memory_in_list : (file : List ℕ) → RunsOut (Listing file) old new → (new.out.taken ≡ old.out.taken) ⊎ TakesLines (old.files.told file) old.out new.out
   memory_in_list file (before some none) = inl (nothing_taken none)
   memory_in_list file (behind outcome answers lines) = lines_of_file file outcome answers lines
+
+  -- an outcome of one piece is not begun where memory ran out
+  nothing_of_one : (outcome : Outcome) (status : Status) (text : List ℕ) → outcome ≡ one_piece status text → IsBehind outcome old.out new.out → new.out.taken ≡ old.out.taken
+  nothing_of_one outcome status text e lines = nothing_taken (behind_one old.out new.out outcome (record { status = status; text = text; is = e }) lines)
+
+  no_lines_of_bytes : (before : List (List ℕ)) (file : List ℕ) (outcome : Outcome) → HasNoBytes before file old.files new.files outcome → IsBehind outcome old.out new.out → new.out.taken ≡ old.out.taken
+  no_lines_of_bytes front file outcome (not_read rose asks e) lines = nothing_of_one outcome _ _ e lines
+  no_lines_of_bytes front file outcome (not_small many asks e) lines = nothing_of_one outcome _ _ e lines
+
+  no_lines_of_host : (cedt topo image : List ℕ) (outcome : Outcome) → HasNoHost cedt topo image old.files new.files outcome → IsBehind outcome old.out new.out → new.out.taken ≡ old.out.taken
+  no_lines_of_host cedt topo image outcome (hosts.no_table (no_bytes none)) lines = no_lines_of_bytes [] cedt outcome none lines
+  no_lines_of_host cedt topo image outcome (hosts.no_table (not_sound fault is asks e)) lines = nothing_of_one outcome _ _ e lines
+  no_lines_of_host cedt topo image outcome (hosts.no_tree table of (trees.no_bytes none)) lines = no_lines_of_bytes (cedt ∷ []) topo outcome none lines
+  no_lines_of_host cedt topo image outcome (hosts.no_tree table of (trees.not_sound fault is asks e)) lines = nothing_of_one outcome _ _ e lines
+  no_lines_of_host cedt topo image outcome (hosts.no_image table tree of of_tree (images.no_bytes none)) lines = no_lines_of_bytes (cedt ∷ topo ∷ []) image outcome none lines
+  no_lines_of_host cedt topo image outcome (hosts.no_image table tree of of_tree (images.not_sound fault is asks e)) lines = nothing_of_one outcome _ _ e lines
+
+  regions_of_check : (cedt topo image : List ℕ) (table : CedtFields) (tree : Tree) (blocks : List Registers) (outcome : Outcome) → AreRead old.files.told cedt topo image table tree blocks → IsChecked (host_of table tree blocks) outcome → IsBehind outcome old.out new.out → (new.out.taken ≡ old.out.taken) ⊎ TakesRegions old.files.told cedt topo image old.out new.out
+  regions_of_check cedt topo image table tree blocks outcome of (regions_told regions is listed e) lines =
+      let at = subst (λ o. IsBehind o old.out new.out) e lines in
+      inr (record { nodes = tree.nodes; regions = regions; found = record { table = table; tree = tree; blocks = blocks; read = of; over = refl; accepted = is; listed = listed }; count = at.count; taken = at.taken })
+  regions_of_check cedt topo image table tree blocks outcome of (breach_told rule node decoder first e) lines = inl (nothing_of_one outcome _ _ e lines)
+
+  regions_of_host : (cedt topo image : List ℕ) (outcome : Outcome) → IsAnswerOfHost (Check cedt topo image) cedt topo image old.files new.files outcome → IsBehind outcome old.out new.out → (new.out.taken ≡ old.out.taken) ⊎ TakesRegions old.files.told cedt topo image old.out new.out
+  regions_of_host cedt topo image outcome (hosts.no_host none) lines = inl (no_lines_of_host cedt topo image outcome none lines)
+  regions_of_host cedt topo image outcome (hosts.by_host table tree blocks of answer) lines = regions_of_check cedt topo image table tree blocks outcome of answer.1 lines
+
+  pub memory_in_check : (cedt topo image : List ℕ) → RunsOut (Check cedt topo image) old new → (new.out.taken ≡ old.out.taken) ⊎ TakesRegions old.files.told cedt topo image old.out new.out
+  memory_in_check cedt topo image (before some none) = inl (nothing_taken none)
+  memory_in_check cedt topo image (behind outcome answers lines) = regions_of_host cedt topo image outcome answers lines
 
   -- ---- forms whose outcome is fixed
 
@@ -102,43 +141,84 @@ module _ (old new : Outside) where
 
   pub route_line : (file : List ℕ) (h : ℕ) → Came old new (Route file h) Done → (text : List ℕ) × IsRouteLine (old.files.told file) h text × Takes old.out new.out text
   route_line file h came =
-      let answered = done_answer old new (Route file h) file refl came in
+      let answered = done_answer old new (Route file h) file refl refl came in
       let to = done_selection answered.table h answered.outcome (sym answered.written.status_is) answered.answer in
       let of = subst (λ f. IsTableOf (old.files.told f) answered.table) (same_file file answered.file answered.asked) answered.of in
       (_, record { table = answered.table; is_table = of; selection = to.0; selected = to.1; names = refl }, subst (Takes old.out new.out) (one_text answered.outcome Done _ to.2) answered.written.taken)
 
-  refused_form : (form : Form) (table : CedtFields) (outcome : Outcome) → outcome.status ≡ Refused → IsTableAnswer form table outcome → (file : List ℕ) × (h : ℕ) × (form ≡ Route file h)
-  refused_form (Route file h) table outcome is answer = (file, h, refl)
-  refused_form (Listing file) table outcome is answer = let done = ap (λ o. o.status) answer in absurd (cc)
-  refused_form (Normal file) table outcome is answer = let done = ap (λ o. o.status) answer in absurd (cc)
-  refused_form Help table outcome is answer = absurd answer
-  refused_form Version table outcome is answer = absurd answer
-  refused_form Unreadable table outcome is answer = absurd answer
-
-  pub refuses_routes : (form : Form) → Came old new form Refused → (file : List ℕ) × (h : ℕ) × (form ≡ Route file h)
-  refuses_routes form came =
-      let answered = refused_answer old new form came in
-      refused_form form answered.table answered.outcome (sym answered.written.status_is) answered.answer
-
   pub refused_by : (file : List ℕ) (h : ℕ) → Came old new (Route file h) Refused → (table : CedtFields) × IsTableOf (old.files.told file) table × IsNowhere (windows_of table.records None) h
   refused_by file h came =
-      let answered = refused_answer old new (Route file h) came in
+      let answered = refused_answer old new (Route file h) refl came in
       let of = subst (λ f. IsTableOf (old.files.told f) answered.table) (same_file file answered.file answered.asked) answered.of in
       (answered.table, of, refused_nowhere answered.table h answered.outcome (sym answered.written.status_is) answered.answer)
 
   pub list_written : (file : List ℕ) → Came old new (Listing file) Done → (text : List ℕ) × IsListText (old.files.told file) text × Takes old.out new.out text
   list_written file came =
-      let answered = done_answer old new (Listing file) file refl came in
+      let answered = done_answer old new (Listing file) file refl refl came in
       let of = subst (λ f. IsTableOf (old.files.told f) answered.table) (same_file file answered.file answered.asked) answered.of in
       (whole_text answered.outcome, record { table = answered.table; is_table = of; lines = ap whole_text answered.answer }, answered.written.taken)
 
   pub normal_written : (file : List ℕ) → Came old new (Normal file) Done → (bytes : List ℕ) × IsNormalText (old.files.told file) bytes × Takes old.out new.out bytes
   normal_written file came =
-      let answered = done_answer old new (Normal file) file refl came in
+      let answered = done_answer old new (Normal file) file refl refl came in
       let of = subst (λ f. IsTableOf (old.files.told f) answered.table) (same_file file answered.file answered.asked) answered.of in
       (whole_text answered.outcome, record { table = answered.table; is_table = of; spelled = one_text answered.outcome Done _ answered.answer }, answered.written.taken)
+
+  -- ---- check
+
+  -- the files of the form are those of the check that it is
+  files_of : (cedt topo image : List ℕ) (status : Status) (answered : IsHostAnswered old new (Check cedt topo image) status) → AreRead old.files.told cedt topo image answered.table answered.tree answered.blocks
+  files_of cedt topo image status answered =
+      let is = answered.is in
+      let one : answered.cedt ≡ cedt = cc in
+      let two : answered.topo ≡ topo = cc in
+      let three : answered.image ≡ image = cc in
+      subst (λ f. AreRead old.files.told f topo image answered.table answered.tree answered.blocks) one
+      (subst (λ f. AreRead old.files.told answered.cedt f image answered.table answered.tree answered.blocks) two
+      (subst (λ f. AreRead old.files.told answered.cedt answered.topo f answered.table answered.tree answered.blocks) three answered.of))
+
+  regions_written : (cedt topo image : List ℕ) (table : CedtFields) (tree : Tree) (blocks : List Registers) (outcome : Outcome) → AreRead old.files.told cedt topo image table tree blocks → IsChecked (host_of table tree blocks) outcome → IsWritten outcome Done old.out new.out → (text : List ℕ) × IsRegionsText old.files.told cedt topo image text × Takes old.out new.out text
+  regions_written cedt topo image table tree blocks outcome of (regions_told regions is listed e) written =
+      (whole_text outcome, record { nodes = tree.nodes; regions = regions; found = record { table = table; tree = tree; blocks = blocks; read = of; over = refl; accepted = is; listed = listed }; lines = ap whole_text e }, written.taken)
+  regions_written cedt topo image table tree blocks outcome of (breach_told rule node decoder first e) written =
+      let own = ap (λ o. o.status) e in let done = written.status_is in absurd (cc)
+
+  breach_written : (cedt topo image : List ℕ) (table : CedtFields) (tree : Tree) (blocks : List Registers) (outcome : Outcome) → AreRead old.files.told cedt topo image table tree blocks → IsChecked (host_of table tree blocks) outcome → IsWritten outcome Refused old.out new.out → (text : List ℕ) × IsBreachText old.files.told cedt topo image text × Takes old.out new.out text
+  breach_written cedt topo image table tree blocks outcome of (regions_told regions is listed e) written =
+      let own = ap (λ o. o.status) e in let refused = written.status_is in absurd (cc)
+  breach_written cedt topo image table tree blocks outcome of (breach_told rule node decoder first e) written =
+      (_, record { table = table; tree = tree; blocks = blocks; rule = rule; node = node; decoder = decoder; read = of; first = first; names = refl }, subst (Takes old.out new.out) (one_text outcome Refused _ e) written.taken)
+
+  pub check_accepted : (cedt topo image : List ℕ) → Came old new (Check cedt topo image) Done → (text : List ℕ) × IsRegionsText old.files.told cedt topo image text × Takes old.out new.out text
+  check_accepted cedt topo image came =
+      let answered = check_done old new cedt topo image came in
+      regions_written cedt topo image answered.table answered.tree answered.blocks answered.outcome (files_of cedt topo image Done answered) answered.answer answered.written
+
+  pub check_broken : (cedt topo image : List ℕ) → Came old new (Check cedt topo image) Refused → (text : List ℕ) × IsBreachText old.files.told cedt topo image text × Takes old.out new.out text
+  check_broken cedt topo image came =
+      let answered = check_refused old new cedt topo image came in
+      breach_written cedt topo image answered.table answered.tree answered.blocks answered.outcome (files_of cedt topo image Refused answered) answered.answer answered.written
 
 -- a refusal that is written
 pub refusal : (old new : Outside) (status : Status) → IsWritten no_window status old.out new.out ⊎ IsStopped status old new → (status ≡ Refused) ⊎ IsStopped status old new
 refusal old new status (inl written) = inl written.status_is
 refusal old new status (inr stopped) = inr stopped
+
+-- an accepted image's outcome, and that of one with a breach
+module _ (not_both : (s : System) → IsAccepted s → HasFirstBreach s → ⊥) (s : System) (outcome : Outcome) where
+  accepted_done : IsAccepted s → IsChecked s outcome → outcome.status ≡ Done
+  accepted_done is (regions_told regions again listed e) = ap (λ o. o.status) e
+  accepted_done is (breach_told rule node decoder first e) = absurd (not_both s is (rule, node, decoder, first))
+
+  broken_refused : HasFirstBreach s → IsChecked s outcome → outcome.status ≡ Refused
+  broken_refused breach (regions_told regions is listed e) = absurd (not_both s is breach)
+  broken_refused breach (breach_told rule node decoder first e) = ap (λ o. o.status) e
+
+module _ (not_both : (s : System) → IsAccepted s → HasFirstBreach s → ⊥) (old new : Outside) (status : Status) (s : System) where
+  pub accepted_comes : IsAccepted s → ((o : Outcome) × IsChecked s o × IsWritten o status old.out new.out) ⊎ IsStopped status old new → (status ≡ Done) ⊎ IsStopped status old new
+  accepted_comes is (inl some) = let written = some.2 in inl (written.status_is ∙ accepted_done not_both s some.0 is some.1)
+  accepted_comes is (inr stopped) = inr stopped
+
+  pub broken_comes : HasFirstBreach s → ((o : Outcome) × IsChecked s o × IsWritten o status old.out new.out) ⊎ IsStopped status old new → (status ≡ Refused) ⊎ IsStopped status old new
+  broken_comes breach (inl some) = let written = some.2 in inl (written.status_is ∙ broken_refused not_both s some.0 breach some.1)
+  broken_comes breach (inr stopped) = inr stopped

@@ -1,112 +1,239 @@
--- What comes where the bytes of the form's file are known.
-use Rattle.std.proofs.Common.{◌≡◌, ℕ, ◌<◌, ◌≤◌, ◌⊎◌, Some, List, length, refl, sym, ap, subst, ◌∙◌, inl, inr, arith}
+-- What comes where the bytes of a form's files are known.
+use Rattle.std.proofs.Common.{◌≡◌, ◌≢◌, ℕ, ◌⊎◌, Some, None, List, [], ◌∷◌, inl, inr, sym, ap, subst, ◌∙◌}
 use Rattle.cxl_enc.specs.Faults.{Rose}
-use Rattle.cxl_enc.specs.Limits.{file_limit}
 use Rattle.cxl_cedt.specs.CedtFields.{CedtFields}
-use Rattle.cxl_cedt.specs.Table.{IsTableText, FirstTableFault, HasTable, HasFault}
+use Rattle.cxl_cedt.specs.Table.{IsTableText, FirstTableFault}
 use Rattle.cxl_cedt.specs.declared.fault.CedtFault.{CedtFault}
-use Rattle.cxl_io.specs.Fetch.{IsTooLarge}
-use Rattle.cxl_io.specs.Told.{Told, Untold, Absent, Bytes, AreTold}
-use Rattle.cxl_shell.specs.Answers.{IsTableAnswer}
+use Rattle.cxl_image.specs.File.{IsImageFile, IsFirstImageFault}
+use Rattle.cxl_image.specs.declared.fault.ImageFault.{ImageFault}
+use Rattle.cxl_io.specs.Told.{Bytes}
+use Rattle.cxl_regs.specs.Registers.{Registers}
+use Rattle.cxl_topo.specs.Tree.{Tree}
+use Rattle.cxl_topo.specs.declared.node.Node.{Node}
+use Rattle.cxl_topofile.specs.File.{IsTopologyFile, IsFirstTopoFault}
+use Rattle.cxl_topofile.specs.declared.fault.TopoFault.{TopoFault}
+use Rattle.cxl_topofile.specs.declared.fault.TopoFault.TheVariants as faults
+use Rattle.cxl_shell.specs.Answers.{AnswersFromFiles, IsTableAnswer, IsHostAnswer, IsAnswerBy, IsAnswerOfFile, IsAnswerOfHost}
 use Rattle.cxl_shell.specs.Ends.{IsWritten, IsStopped}
-use Rattle.cxl_shell.specs.Form.{Form, Route, Listing, Normal, Help, Version, Unreadable, table_file}
+use Rattle.cxl_shell.specs.Form.{Form, Route, Listing, Normal, Check, Help, Version, Unreadable, table_file, topology_file, image_file}
 use Rattle.cxl_shell.specs.Outcome.{Outcome}
 use Rattle.cxl_shell.specs.Outside.{Outside}
+use Rattle.cxl_shell.specs.Readings.{KnowsTable, KnowsTree, KnowsImage, Readings, ByTable, ByHost, AreKnown}
+use Rattle.cxl_shell.specs.Run.{IsRun, writes, is_cut, runs_out}
 use Rattle.cxl_shell.specs.declared.status.Status.{Status}
-use Rattle.cxl_shell.specs.declared.status.Status.TheVariants.{BadTable, Memory, TooLarge}
+use Rattle.cxl_shell.specs.declared.status.Status.TheVariants.{BadTable, BadTopo, BadImage, Memory}
+use Rattle.cxl_shell.specs.inputs.Host as hosts
+use Rattle.cxl_shell.specs.inputs.Image.{IsImageReading, IsFaultyImage, IsFaultyImageFile}
+use Rattle.cxl_shell.specs.inputs.Image as images
 use Rattle.cxl_shell.specs.inputs.Table.{IsReading, IsFaulty}
-use Rattle.cxl_shell.proofs.Forms.{one_file, no_file}
+use Rattle.cxl_shell.specs.inputs.Table as tables
+use Rattle.cxl_shell.specs.inputs.Topology.{IsTreeReading, IsFaultyTree, IsTreeOf}
+use Rattle.cxl_shell.specs.inputs.Topology as trees
 use Rattle.cxl_shell.proofs.Routes.{one_route}
-use Rattle.cxl_shell.proofs.Runs.{Came, misused, helped, unread, large, faulty, done, refuses, cut, out, IsAnswered}
+use Rattle.cxl_shell.proofs.Steps.{same_bytes, HasOneReading, Step, failed, large, faulty, read, unwritten, no_bytes_step, next_step, unless_before}
 
--- the bytes are those that are known
-same_bytes : (told : Told) (bytes known : List ℕ) → AreTold told bytes → told ≡ Bytes known → bytes ≡ known
-same_bytes Untold bytes known is there = absurd (cc)
-same_bytes Absent bytes known is there = absurd is
-same_bytes (Bytes b) bytes known is there = cc
+-- ---- one reading of each kind of file
 
-too_many : (told : Told) (known : List ℕ) → IsTooLarge told → told ≡ Bytes known → file_limit < length known
-too_many told known is there = subst IsTooLarge there is
+pub one_table : ((bytes : List ℕ) (table other : CedtFields) → IsTableText bytes table → IsTableText bytes other → table ≡ other) → ((bytes : List ℕ) (fault other : CedtFault) → FirstTableFault bytes fault → FirstTableFault bytes other → fault ≡ other) → ((bytes : List ℕ) (table : CedtFields) (fault : CedtFault) → IsTableText bytes table → FirstTableFault bytes fault → ⊥) → HasOneReading CedtFields CedtFault IsReading IsFaulty
+one_table one one_fault not_both = record {
+  one = λ bytes x y a b. one bytes x y a.spells b.spells;
+  one_fault = λ bytes fault other a b. one_fault bytes fault other a.first b.first;
+  not_both = λ bytes x fault a b. not_both bytes x fault a.spells b.first;
+  few = λ bytes x a. a.within;
+  few_faulty = λ bytes fault a. a.within;
+}
 
-pub one_answer : (form : Form) (table : CedtFields) (outcome other : Outcome) → IsTableAnswer form table outcome → IsTableAnswer form table other → outcome ≡ other
-one_answer (Route file h) table outcome other answer again = one_route table h outcome other answer again
-one_answer (Listing file) table outcome other answer again = answer ∙ sym again
-one_answer (Normal file) table outcome other answer again = answer ∙ sym again
-one_answer Help table outcome other answer again = absurd answer
-one_answer Version table outcome other answer again = absurd answer
-one_answer Unreadable table outcome other answer again = absurd answer
+pub one_topology : ((bytes : List ℕ) (tree other : Tree) → IsTopologyFile bytes tree → IsTopologyFile bytes other → tree ≡ other) → ((bytes : List ℕ) (fault other : TopoFault) → fault ≢ faults.Memory → other ≢ faults.Memory → IsFirstTopoFault bytes fault → IsFirstTopoFault bytes other → fault ≡ other) → ((bytes : List ℕ) (tree : Tree) (fault : TopoFault) → fault ≢ faults.Memory → IsTopologyFile bytes tree → IsFirstTopoFault bytes fault → ⊥) → HasOneReading Tree TopoFault IsTreeReading IsFaultyTree
+one_topology one one_fault not_both = record {
+  one = λ bytes x y a b. one bytes x y a.stands b.stands;
+  one_fault = λ bytes fault other a b. one_fault bytes fault other a.real b.real a.first b.first;
+  not_both = λ bytes x fault a b. not_both bytes x fault b.real a.stands b.first;
+  few = λ bytes x a. a.within;
+  few_faulty = λ bytes fault a. a.within;
+}
 
-module _ (old new : Outside) where
-  -- what the known bytes come to
-  pub data IsByBytes (form : Form) (bytes : List ℕ) (status : Status) : Type 0 where
-    stops : IsStopped status old new → IsByBytes form bytes status
-    is_large : status ≡ TooLarge → file_limit < length bytes → IsByBytes form bytes status
-    is_faulty : (fault : CedtFault) → status ≡ BadTable fault → IsFaulty bytes fault → IsByBytes form bytes status
-    is_answered : (table : CedtFields) (outcome : Outcome) → IsReading bytes table → IsTableAnswer form table outcome → IsWritten outcome status old.out new.out → IsByBytes form bytes status
+-- the reading of an image's bytes over these nodes, and their fault
+abbrev pub ReadsImage : List Node → List ℕ → List Registers → Type 0
+ReadsImage nodes bytes blocks = IsImageReading bytes nodes blocks
 
-  there_too : (form : Form) (file other bytes : List ℕ) → table_file form ≡ Some file → old.files.told file ≡ Bytes bytes → table_file form ≡ Some other → old.files.told other ≡ Bytes bytes
-  there_too form file other bytes asked there again = ap old.files.told (sym (one_file form file other asked again)) ∙ there
+abbrev pub FailsImage : List Node → List ℕ → ImageFault → Type 0
+FailsImage nodes bytes fault = IsFaultyImage bytes nodes fault
 
-  answered_by : (form : Form) (file bytes : List ℕ) (status : Status) (answered : IsAnswered old new form status) → table_file form ≡ Some file → old.files.told file ≡ Bytes bytes → IsByBytes form bytes status
-  answered_by form file bytes status answered asked there =
-      let same = same_bytes (old.files.told answered.file) answered.of.bytes bytes answered.of.told_so (there_too form file answered.file bytes asked there answered.asked) in
-      is_answered answered.table answered.outcome (subst (λ b. IsReading b answered.table) same answered.of.reading) answered.answer answered.written
+pub one_image : ((bytes : List ℕ) (nodes : List Node) (image other : List Registers) → IsImageFile bytes nodes image → IsImageFile bytes nodes other → image ≡ other) → ((bytes : List ℕ) (nodes : List Node) (fault other : ImageFault) → IsFirstImageFault bytes nodes fault → IsFirstImageFault bytes nodes other → fault ≡ other) → ((bytes : List ℕ) (nodes : List Node) (image : List Registers) (fault : ImageFault) → IsImageFile bytes nodes image → IsFirstImageFault bytes nodes fault → ⊥) → (nodes : List Node) → HasOneReading (List Registers) ImageFault (ReadsImage nodes) (FailsImage nodes)
+one_image one one_fault not_both nodes = record {
+  one = λ bytes x y a b. one bytes nodes x y a.file b.file;
+  one_fault = λ bytes fault other a b. one_fault bytes nodes fault other a.first b.first;
+  not_both = λ bytes x fault a b. not_both bytes nodes x fault a.file b.first;
+  few = λ bytes x a. a.within;
+  few_faulty = λ bytes fault a. a.within;
+}
 
-  pub by_bytes : (form : Form) (status : Status) → Came old new form status → (file bytes : List ℕ) → table_file form ≡ Some file → old.files.told file ≡ Bytes bytes → IsByBytes form bytes status
-  by_bytes form status (misused is asks) file bytes asked there = absurd (no_file form Unreadable file is refl asked)
-  by_bytes form status (helped plain is own none asks) file bytes asked there = absurd (no_file form plain file is none asked)
-  by_bytes form status (unread other again asks rose) file bytes asked there = stops (inl (refl, rose))
-  by_bytes form status (large other again asks many) file bytes asked there = is_large refl (too_many (old.files.told other) bytes many (there_too form file other bytes asked there again))
-  by_bytes form status (faulty other fault again asks is) file bytes asked there =
-      is_faulty fault refl (subst (λ b. IsFaulty b fault) (same_bytes (old.files.told other) is.bytes bytes is.told_so (there_too form file other bytes asked there again)) is.faulty)
-  by_bytes form status (done answered) file bytes asked there = answered_by form file bytes status answered asked there
-  by_bytes form status (refuses answered) file bytes asked there = answered_by form file bytes status answered asked there
-  by_bytes form status (cut outcome answers is) file bytes asked there = stops (inr (inl (refl, is.rose)))
-  by_bytes form status (out takes left) file bytes asked there = stops (inr (inr refl))
+-- what the three kinds have in common
+pub record HaveOneReading : Type 0 where
+  pub of_table : HasOneReading CedtFields CedtFault IsReading IsFaulty
+  pub of_tree : HasOneReading Tree TopoFault IsTreeReading IsFaultyTree
+  pub of_image : (nodes : List Node) → HasOneReading (List Registers) ImageFault (ReadsImage nodes) (FailsImage nodes)
 
-  pub large_comes : (form : Form) (bytes : List ℕ) (status : Status) → IsByBytes form bytes status → file_limit < length bytes → (status ≡ TooLarge) ⊎ IsStopped status old new
-  large_comes form bytes status (stops is) many = inr is
-  large_comes form bytes status (is_large is more) many = inl is
-  large_comes form bytes status (is_faulty fault is spoiled) many = let few = spoiled.within in absurd (omega arith)
-  large_comes form bytes status (is_answered table outcome reading answer written) many = let few = reading.within in absurd (omega arith)
+-- the table's file is known to have these bytes
+pub knows_table : (old : Outside) (form : Form) (file bytes : List ℕ) (table : CedtFields) → table_file form ≡ Some file → old.files.told file ≡ Bytes bytes → IsReading bytes table → KnowsTable form old.files.told table
+knows_table old form file bytes table asked there reading = record { bytes = bytes; known = record { file = file; asked = asked; there = there }; reading = reading }
 
-  -- Bytes have one table, or one first fault.
-  module _ (one_table : (bytes : List ℕ) (table other : CedtFields) → IsTableText bytes table → IsTableText bytes other → table ≡ other) (one_fault : (bytes : List ℕ) (fault other : CedtFault) → FirstTableFault bytes fault → FirstTableFault bytes other → fault ≡ other) (not_both : (bytes : List ℕ) (table : CedtFields) (fault : CedtFault) → IsTableText bytes table → FirstTableFault bytes fault → ⊥) where
-    pub fault_comes : (form : Form) (bytes : List ℕ) (status : Status) → IsByBytes form bytes status → (first : CedtFault) → IsFaulty bytes first → (status ≡ BadTable first) ⊎ IsStopped status old new
-    fault_comes form bytes status (stops is) first faults = inr is
-    fault_comes form bytes status (is_large is more) first faults = let few = faults.within in absurd (omega arith)
-    fault_comes form bytes status (is_faulty fault is spoiled) first faults = inl (is ∙ ap BadTable (one_fault bytes fault first spoiled.first faults.first))
-    fault_comes form bytes status (is_answered table outcome reading answer written) first faults = absurd (not_both bytes table first reading.spells faults.first)
+-- ---- from a run, file by file
 
-    none_comes_by : (form : Form) (bytes : List ℕ) (status : Status) → IsByBytes form bytes status → length bytes ≤ file_limit → ¬ (HasTable bytes) → HasTable bytes ⊎ HasFault bytes → ((fault : CedtFault) × (status ≡ BadTable fault)) ⊎ IsStopped status old new
-    none_comes_by form bytes status by within none (inl table) = absurd (none table)
-    none_comes_by form bytes status by within none (inr fault) = named (fault_comes form bytes status by fault.0 (record { within = within; first = fault.1 }))
-      where
-        named : (status ≡ BadTable fault.0) ⊎ IsStopped status old new → ((first : CedtFault) × (status ≡ BadTable first)) ⊎ IsStopped status old new
-        named (inl e) = inl (fault.0, e)
-        named (inr stopped) = inr stopped
+module _ (old new : Outside) (status : Status) where
+  -- a form's outcome by its table is written, or by its host
+  abbrev pub AnsweredByTable : Form → CedtFields → Type 0
+  AnsweredByTable form table = (o : Outcome) × IsTableAnswer form table o × IsWritten o status old.out new.out
 
-    pub none_comes : ((bytes : List ℕ) → HasTable bytes ⊎ HasFault bytes) → (form : Form) (bytes : List ℕ) (status : Status) → IsByBytes form bytes status → length bytes ≤ file_limit → ¬ (HasTable bytes) → ((fault : CedtFault) × (status ≡ BadTable fault)) ⊎ IsStopped status old new
-    none_comes some form bytes status by within none = none_comes_by form bytes status by within none (some bytes)
+  abbrev pub AnsweredByHost : Form → CedtFields → Tree → List Registers → Type 0
+  AnsweredByHost form table tree blocks = (o : Outcome) × IsHostAnswer form table tree blocks o × IsWritten o status old.out new.out
 
-    -- the answer by the table that the bytes spell
-    pub some_answer_comes : (form : Form) (bytes : List ℕ) (status : Status) → IsByBytes form bytes status → (table : CedtFields) → IsReading bytes table → ((outcome : Outcome) × IsTableAnswer form table outcome × IsWritten outcome status old.out new.out) ⊎ IsStopped status old new
-    some_answer_comes form bytes status (stops is) table reading = inr is
-    some_answer_comes form bytes status (is_large is more) table reading = let few = reading.within in absurd (omega arith)
-    some_answer_comes form bytes status (is_faulty fault is spoiled) table reading = absurd (not_both bytes table fault reading.spells spoiled.first)
-    some_answer_comes form bytes status (is_answered read outcome again answer written) table reading =
-        inl (outcome, subst (λ t. IsTableAnswer form t outcome) (one_table bytes read table again.spells reading.spells) answer, written)
+  abbrev pub ImageStep : List ℕ → Form → CedtFields → Tree → Type 0
+  ImageStep image form table tree =
+      Step old new status (List Registers) ImageFault (ReadsImage tree.nodes) (FailsImage tree.nodes) BadImage (old.files.told image) (AnsweredByHost form table tree)
 
-    pub answer_comes : (form : Form) (bytes : List ℕ) (status : Status) → IsByBytes form bytes status → (table : CedtFields) (outcome : Outcome) → IsReading bytes table → IsTableAnswer form table outcome → IsWritten outcome status old.out new.out ⊎ IsStopped status old new
-    answer_comes form bytes status by table outcome reading answer = is_it (some_answer_comes form bytes status by table reading)
-      where
-        is_it : ((o : Outcome) × IsTableAnswer form table o × IsWritten o status old.out new.out) ⊎ IsStopped status old new → IsWritten outcome status old.out new.out ⊎ IsStopped status old new
-        is_it (inl some) = inl (subst (λ o. IsWritten o status old.out new.out) (one_answer form table some.0 outcome some.1 answer) some.2)
-        is_it (inr stopped) = inr stopped
+  abbrev pub AfterTree : Form → CedtFields → Tree → Type 0
+  AfterTree (Check cedt topo image) table tree = ImageStep image (Check cedt topo image) table tree
+  AfterTree form table tree = ⊥
+
+  abbrev pub TreeStep : List ℕ → Form → CedtFields → Type 0
+  TreeStep topo form table = Step old new status Tree TopoFault IsTreeReading IsFaultyTree BadTopo (old.files.told topo) (AfterTree form table)
+
+  abbrev pub AfterTable : Form → CedtFields → Type 0
+  AfterTable (Check cedt topo image) table = TreeStep topo (Check cedt topo image) table
+  AfterTable form table = AnsweredByTable form table
+
+  abbrev pub TableStep : List ℕ → Form → Type 0
+  TableStep file form = Step old new status CedtFields CedtFault IsReading IsFaulty BadTable (old.files.told file) (AfterTable form)
+
+  no_table_step : (file : List ℕ) (form : Form) (o : Outcome) → tables.HasNoTable file old.files new.files o → IsWritten o status old.out new.out → TableStep file form
+  no_table_step file form o (tables.no_bytes none) written = no_bytes_step old new status CedtFields CedtFault IsReading IsFaulty BadTable [] file o (AfterTable form) none written
+  no_table_step file form o (tables.not_sound fault is asks e) written = faulty is.bytes fault is.told_so is.faulty (written.status_is ∙ ap (λ x. x.status) e)
+
+  no_tree_step : (before : List (List ℕ)) (file : List ℕ) (form : Form) (table : CedtFields) (o : Outcome) → trees.HasNoTree before file old.files new.files o → IsWritten o status old.out new.out → TreeStep file form table
+  no_tree_step before file form table o (trees.no_bytes none) written = no_bytes_step old new status Tree TopoFault IsTreeReading IsFaultyTree BadTopo before file o (AfterTree form table) none written
+  no_tree_step before file form table o (trees.not_sound fault is asks e) written = faulty is.bytes fault is.told_so is.faulty (written.status_is ∙ ap (λ x. x.status) e)
+
+  no_image_step : (before : List (List ℕ)) (file : List ℕ) (form : Form) (table : CedtFields) (tree : Tree) (o : Outcome) → images.HasNoImage before file tree.nodes old.files new.files o → IsWritten o status old.out new.out → ImageStep file form table tree
+  no_image_step before file form table tree o (images.no_bytes none) written = no_bytes_step old new status (List Registers) ImageFault (ReadsImage tree.nodes) (FailsImage tree.nodes) BadImage before file o (AnsweredByHost form table tree) none written
+  no_image_step before file form table tree o (images.not_sound fault is asks e) written = faulty is.bytes fault is.told_so is.faulty (written.status_is ∙ ap (λ x. x.status) e)
+
+  host_step : (cedt topo image : List ℕ) (o : Outcome) → IsAnswerOfHost (Check cedt topo image) cedt topo image old.files new.files o → IsWritten o status old.out new.out → TableStep cedt (Check cedt topo image)
+  host_step cedt topo image o (hosts.no_host (hosts.no_table none)) written = no_table_step cedt (Check cedt topo image) o none written
+  host_step cedt topo image o (hosts.no_host (hosts.no_tree table of none)) written =
+      read of.bytes table of.told_so of.reading (no_tree_step (cedt ∷ []) topo (Check cedt topo image) table o none written)
+  host_step cedt topo image o (hosts.no_host (hosts.no_image table tree of of_tree none)) written =
+      read of.bytes table of.told_so of.reading (read of_tree.bytes tree of_tree.told_so of_tree.reading (no_image_step (cedt ∷ topo ∷ []) image (Check cedt topo image) table tree o none written))
+  host_step cedt topo image o (hosts.by_host table tree blocks is answer) written =
+      let of = is.of_table in
+      let of_tree = is.of_tree in
+      let of_image = is.of_image in
+      read of.bytes table of.told_so of.reading (read of_tree.bytes tree of_tree.told_so of_tree.reading (read of_image.bytes blocks of_image.told_so of_image.reading (o, answer.1, written)))
+
+  file_step : (form : Form) (file : List ℕ) (o : Outcome) → ((table : CedtFields) → AnsweredByTable form table → AfterTable form table) → IsAnswerOfFile form file old.files new.files o → IsWritten o status old.out new.out → TableStep file form
+  file_step form file o after (tables.no_table none) written = no_table_step file form o none written
+  file_step form file o after (tables.by_table table of answer) written = read of.bytes table of.told_so of.reading (after table (o, answer.1, written))
+
+  written_step : (form : Form) (file : List ℕ) → table_file form ≡ Some file → (o : Outcome) → AnswersFromFiles form old.files new.files o → IsWritten o status old.out new.out → TableStep file form
+  written_step (Route own h) file asked o answers written = let same : own ≡ file = cc in subst (λ f. TableStep f (Route own h)) same (file_step (Route own h) own o (λ table a. a) answers written)
+  written_step (Listing own) file asked o answers written = let same : own ≡ file = cc in subst (λ f. TableStep f (Listing own)) same (file_step (Listing own) own o (λ table a. a) answers written)
+  written_step (Normal own) file asked o answers written = let same : own ≡ file = cc in subst (λ f. TableStep f (Normal own)) same (file_step (Normal own) own o (λ table a. a) answers written)
+  written_step (Check cedt topo image) file asked o answers written = let same : cedt ≡ file = cc in subst (λ f. TableStep f (Check cedt topo image)) same (host_step cedt topo image o answers written)
+  written_step Help file asked o answers written = absurd (cc)
+  written_step Version file asked o answers written = absurd (cc)
+  written_step Unreadable file asked o answers written = absurd (cc)
+
+  -- the step of the table's file
+  pub table_step : (form : Form) (file : List ℕ) → table_file form ≡ Some file → IsRun form old new status → TableStep file form
+  table_step form file asked (writes o answers written) = written_step form file asked o answers written
+  table_step form file asked (is_cut o answers is) = unwritten (inl (is.status_is, is.rose))
+  table_step form file asked (runs_out takes is left) = unwritten (inr is)
+
+  -- the step of the topology's file
+  pub tree_step : (form : Form) (table : CedtFields) (file : List ℕ) → topology_file form ≡ Some file → AfterTable form table → TreeStep file form table
+  tree_step (Check cedt topo image) table file asked step = let same : topo ≡ file = cc in subst (λ f. TreeStep f (Check cedt topo image) table) same step
+  tree_step (Route own h) table file asked step = absurd (cc)
+  tree_step (Listing own) table file asked step = absurd (cc)
+  tree_step (Normal own) table file asked step = absurd (cc)
+  tree_step Help table file asked step = absurd (cc)
+  tree_step Version table file asked step = absurd (cc)
+  tree_step Unreadable table file asked step = absurd (cc)
+
+  -- the step of the image's file
+  pub image_step : (form : Form) (table : CedtFields) (tree : Tree) (file : List ℕ) → image_file form ≡ Some file → AfterTree form table tree → ImageStep file form table tree
+  image_step (Check cedt topo image) table tree file asked step = let same : image ≡ file = cc in subst (λ f. ImageStep f (Check cedt topo image) table tree) same step
+  image_step (Route own h) table tree file asked step = absurd step
+  image_step (Listing own) table tree file asked step = absurd step
+  image_step (Normal own) table tree file asked step = absurd step
+  image_step Help table tree file asked step = absurd step
+  image_step Version table tree file asked step = absurd step
+  image_step Unreadable table tree file asked step = absurd step
+
+  table_alone : (form : Form) (table : CedtFields) → topology_file form ≡ None → AfterTable form table → AnsweredByTable form table
+  table_alone (Check cedt topo image) table none step = absurd (cc)
+  table_alone (Route own h) table none step = step
+  table_alone (Listing own) table none step = step
+  table_alone (Normal own) table none step = step
+  table_alone Help table none step = step
+  table_alone Version table none step = step
+  table_alone Unreadable table none step = step
+
+  -- ---- where the files are known
+
+  pub after_table : HasOneReading CedtFields CedtFault IsReading IsFaulty → (form : Form) → IsRun form old new status → (table : CedtFields) → KnowsTable form old.files.told table → AfterTable form table ⊎ IsStopped status old new
+  after_table one form run table knows =
+      let known = knows.known in
+      next_step old new status CedtFields CedtFault IsReading IsFaulty BadTable (old.files.told known.file) (AfterTable form) one knows.bytes known.there table knows.reading (table_step form known.file known.asked run)
+
+  module _ (one : HaveOneReading) (form : Form) (run : IsRun form old new status) where
+    pub after_tree : (table : CedtFields) (tree : Tree) → KnowsTable form old.files.told table → KnowsTree form old.files.told tree → AfterTree form table tree ⊎ IsStopped status old new
+    after_tree table tree knows knows_tree =
+        let known = knows_tree.known in
+        unless_before old new status (after_table one.of_table form run table knows) (λ step.
+        next_step old new status Tree TopoFault IsTreeReading IsFaultyTree BadTopo (old.files.told known.file) (AfterTree form table) one.of_tree knows_tree.bytes known.there tree knows_tree.reading (tree_step form table known.file known.asked step))
+
+    pub after_image : (table : CedtFields) (tree : Tree) (blocks : List Registers) → KnowsTable form old.files.told table → KnowsTree form old.files.told tree → KnowsImage form old.files.told tree.nodes blocks → AnsweredByHost form table tree blocks ⊎ IsStopped status old new
+    after_image table tree blocks knows knows_tree knows_image =
+        let known = knows_image.known in
+        unless_before old new status (after_tree table tree knows knows_tree) (λ step.
+        next_step old new status (List Registers) ImageFault (ReadsImage tree.nodes) (FailsImage tree.nodes) BadImage (old.files.told known.file) (AnsweredByHost form table tree) (one.of_image tree.nodes) knows_image.bytes known.there blocks knows_image.reading (image_step form table tree known.file known.asked step))
+
+    -- the answer by what all files are read as
+    pub answer_comes : (readings : Readings) → AreKnown form old.files.told readings → ((o : Outcome) × IsAnswerBy form readings o × IsWritten o status old.out new.out) ⊎ IsStopped status old new
+    answer_comes (ByTable table) known = unless_before old new status (after_table one.of_table form run table known.1) (λ step. inl (table_alone form table known.0 step))
+    answer_comes (ByHost table tree blocks) known = after_image table tree blocks known.0 known.1 known.2
+
+  -- ---- one answer
+
+  one_answer : (form : Form) (table : CedtFields) (outcome other : Outcome) → IsTableAnswer form table outcome → IsTableAnswer form table other → outcome ≡ other
+  one_answer (Route file h) table outcome other answer again = one_route table h outcome other answer again
+  one_answer (Listing file) table outcome other answer again = answer ∙ sym again
+  one_answer (Normal file) table outcome other answer again = answer ∙ sym again
+  one_answer (Check cedt topo image) table outcome other answer again = absurd answer
+  one_answer Help table outcome other answer again = absurd answer
+  one_answer Version table outcome other answer again = absurd answer
+  one_answer Unreadable table outcome other answer again = absurd answer
+
+  -- the one answer by a known table
+  pub table_answer_comes : HasOneReading CedtFields CedtFault IsReading IsFaulty → (form : Form) → IsRun form old new status → topology_file form ≡ None → (table : CedtFields) (outcome : Outcome) → KnowsTable form old.files.told table → IsTableAnswer form table outcome → IsWritten outcome status old.out new.out ⊎ IsStopped status old new
+  table_answer_comes one form run none table outcome knows answer =
+      unless_before old new status (after_table one form run table knows) (λ step.
+      let some = table_alone form table none step in
+      inl (subst (λ o. IsWritten o status old.out new.out) (one_answer form table some.0 outcome some.1 answer) some.2))
+
+  -- the faulty image is over the known tree
+  pub known_tree : (form : Form) → HaveOneReading → (topo file : List ℕ) (told_tree tree : Tree) (fault : ImageFault) → topology_file form ≡ Some topo → IsTreeOf (old.files.told topo) told_tree → KnowsTree form old.files.told tree → IsFaultyImageFile (old.files.told file) told_tree.nodes fault → IsFaultyImageFile (old.files.told file) tree.nodes fault
+  known_tree form one topo file told_tree tree fault asked of knows is =
+      let known = knows.known in
+      let asked_too = known.asked in
+      let names : known.file ≡ topo = cc in
+      let there : old.files.told topo ≡ Bytes knows.bytes = subst (λ f. old.files.told f ≡ Bytes knows.bytes) names known.there in
+      let reading = subst (λ b. IsTreeReading b told_tree) (same_bytes (old.files.told topo) of.bytes knows.bytes of.told_so there) of.reading in
+      subst (λ (t : Tree). IsFaultyImageFile (old.files.told file) t.nodes fault) (one.of_tree.one knows.bytes told_tree tree reading knows.reading) is
 
   -- nothing failed
-  pub unless_stopped : {P : Type 0} (status : Status) → ¬ (Rose old.files.faults new.files.faults) → ¬ (Rose old.out.faults new.out.faults) → P ⊎ IsStopped status old new → (status ≡ Memory) ⊎ P
-  unless_stopped status files_well sink_well (inl some) = inr some
-  unless_stopped status files_well sink_well (inr (inl stopped)) = absurd (files_well stopped.1)
-  unless_stopped status files_well sink_well (inr (inr (inl unwritten))) = absurd (sink_well unwritten.1)
-  unless_stopped status files_well sink_well (inr (inr (inr is))) = inl is
+  pub unless_stopped : {P : Type 0} → ¬ (Rose old.files.faults new.files.faults) → ¬ (Rose old.out.faults new.out.faults) → P ⊎ IsStopped status old new → (status ≡ Memory) ⊎ P
+  unless_stopped files_well sink_well (inl some) = inr some
+  unless_stopped files_well sink_well (inr (inl stopped)) = absurd (files_well stopped.1)
+  unless_stopped files_well sink_well (inr (inr (inl failed_there))) = absurd (sink_well failed_there.1)
+  unless_stopped files_well sink_well (inr (inr (inr is))) = inl is

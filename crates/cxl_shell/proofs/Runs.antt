@@ -1,33 +1,51 @@
 -- How a run came to its status.
-use Rattle.std.proofs.Common.{◌≡◌, ◌≢◌, ℕ, true, ◌⊎◌, Some, None, List, [], ◌∷◌, length, refl, sym, ap, subst, ◌∙◌, inl, inr, arith}
+use Rattle.std.proofs.Common.{◌≡◌, ◌≢◌, ℕ, true, ◌⊎◌, Some, None, List, [], ◌∷◌, ◌++◌, length, refl, sym, ap, subst, ◌∙◌, inl, inr, arith}
 use Rattle.std.specs.List.{Contains}
 use Rattle.std.proofs.lemmas.List.{take_all}
 use Rattle.cxl_enc.specs.Faults.{Rose}
 use Rattle.cxl_cedt.specs.CedtFields.{CedtFields}
 use Rattle.cxl_cedt.specs.declared.fault.CedtFault.{CedtFault}
+use Rattle.cxl_image.specs.declared.fault.ImageFault.{ImageFault}
 use Rattle.cxl_io.specs.Fetch.{AsksFor, IsTooLarge}
-use Rattle.cxl_io.specs.Told.{Told, Absent, AreTold}
-use Rattle.cxl_shell.specs.Answers.{AnswersFromFiles, IsTableAnswer, IsAnswerOfFile}
-use Rattle.cxl_shell.specs.Ends.{IsWritten, IsCutShort, IsUnwritten}
-use Rattle.cxl_shell.specs.Form.{Form, Route, Listing, Normal, Help, Version, Unreadable, own_files, table_file, takes_memory}
+use Rattle.cxl_model.specs.declared.found.Found.{Found}
+use Rattle.cxl_regs.specs.Registers.{Registers}
+use Rattle.cxl_topo.specs.Tree.{Tree}
+use Rattle.cxl_topofile.specs.declared.fault.TopoFault.{TopoFault}
+use Rattle.cxl_shell.specs.Answers.{AnswersFromFiles, IsTableAnswer, IsHostAnswer, IsAnswerOfFile, IsAnswerOfHost}
+use Rattle.cxl_shell.specs.Ends.{IsWritten, IsCutShort}
+use Rattle.cxl_shell.specs.Form.{Form, Route, Listing, Normal, Check, Help, Version, Unreadable, own_files, table_file, topology_file, image_file, takes_memory}
 use Rattle.cxl_shell.specs.Outcome.{Outcome}
 use Rattle.cxl_shell.specs.Outside.{Outside}
 use Rattle.cxl_shell.specs.Run.{RunsOut, before, behind, IsRun, writes, is_cut, runs_out}
+use Rattle.cxl_shell.specs.commands.Check.{IsChecked, regions_told, breach_told}
 use Rattle.cxl_shell.specs.declared.status.Status.{Status}
-use Rattle.cxl_shell.specs.declared.status.Status.TheVariants.{Done, Usage, FetchFault, BadTable, WriteFault, Refused, Memory, TooLarge}
-use Rattle.cxl_shell.specs.inputs.File.{not_read, not_small, AsksForSome, HasFailed}
-use Rattle.cxl_shell.specs.inputs.Table.{IsTableOf, IsFaultyFile, no_table, by_table, no_bytes, not_sound}
-use Rattle.cxl_shell.proofs.Forms.{own_file, one_file, no_file}
+use Rattle.cxl_shell.specs.declared.status.Status.TheVariants.{Done, Usage, FetchFault, BadTable, BadTopo, WriteFault, Refused, Memory, BadImage, TooLarge}
+use Rattle.cxl_shell.specs.inputs.File.{HasNoBytes, not_read, not_small, AsksForSome, HasFailed}
+use Rattle.cxl_shell.specs.inputs.Host.{host_of, AreRead}
+use Rattle.cxl_shell.specs.inputs.Host as hosts
+use Rattle.cxl_shell.specs.inputs.Image.{IsFaultyImageFile}
+use Rattle.cxl_shell.specs.inputs.Image as images
+use Rattle.cxl_shell.specs.inputs.Table.{IsTableOf, IsFaultyFile}
+use Rattle.cxl_shell.specs.inputs.Table as tables
+use Rattle.cxl_shell.specs.inputs.Topology.{IsTreeOf, IsFaultyTreeFile}
+use Rattle.cxl_shell.specs.inputs.Topology as trees
+use Rattle.cxl_shell.proofs.Forms.{no_file}
 use Rattle.cxl_shell.proofs.Routes.{route_status}
 
 -- an outcome by a table has one of two statuses
-pub answer_status : (form : Form) (table : CedtFields) (outcome : Outcome) → IsTableAnswer form table outcome → (outcome.status ≡ Done) ⊎ (outcome.status ≡ Refused)
+answer_status : (form : Form) (table : CedtFields) (outcome : Outcome) → IsTableAnswer form table outcome → (outcome.status ≡ Done) ⊎ (outcome.status ≡ Refused)
 answer_status (Route file h) table outcome answer = route_status table h outcome answer
 answer_status (Listing file) table outcome answer = inl (ap (λ o. o.status) answer)
 answer_status (Normal file) table outcome answer = inl (ap (λ o. o.status) answer)
+answer_status (Check cedt topo image) table outcome answer = absurd answer
 answer_status Help table outcome answer = absurd answer
 answer_status Version table outcome answer = absurd answer
 answer_status Unreadable table outcome answer = absurd answer
+
+-- and so has one of a check
+check_status : (table : CedtFields) (tree : Tree) (blocks : List Registers) (outcome : Outcome) → IsChecked (host_of table tree blocks) outcome → (outcome.status ≡ Done) ⊎ (outcome.status ≡ Refused)
+check_status table tree blocks outcome (regions_told regions is listed e) = inl (ap (λ o. o.status) e)
+check_status table tree blocks outcome (breach_told rule node decoder first e) = inr (ap (λ o. o.status) e)
 
 module _ (old new : Outside) where
   -- the table in the form's file answers it, and the outcome is written
@@ -36,19 +54,39 @@ module _ (old new : Outside) where
     pub table : CedtFields
     pub outcome : Outcome
     pub asked : table_file form ≡ Some file
-    pub asks : AsksFor old.files new.files (file ∷ [])
+    pub alone : topology_file form ≡ None
+    pub asks : AsksFor old.files new.files (own_files form)
     pub of : IsTableOf (old.files.told file) table
     pub answer : IsTableAnswer form table outcome
     pub written : IsWritten outcome status old.out new.out
 
+  -- the table, the topology and the image in the form's files answer it, and the outcome is written
+  pub record IsHostAnswered (form : Form) (status : Status) : Type 0 where
+    pub cedt : List ℕ
+    pub topo : List ℕ
+    pub image : List ℕ
+    pub table : CedtFields
+    pub tree : Tree
+    pub blocks : List Registers
+    pub outcome : Outcome
+    pub is : form ≡ Check cedt topo image
+    pub asks : AsksFor old.files new.files (cedt ∷ topo ∷ image ∷ [])
+    pub of : AreRead old.files.told cedt topo image table tree blocks
+    pub answer : IsChecked (host_of table tree blocks) outcome
+    pub written : IsWritten outcome status old.out new.out
+
   pub data Came (form : Form) : Status → Type 0 where
-    misused : form ≡ Unreadable → AsksFor old.files new.files [] → Came form Usage
+    misused : form ≡ Unreadable → Came form Usage
     helped : (plain : Form) → form ≡ plain → own_files plain ≡ [] → table_file plain ≡ None → AsksFor old.files new.files [] → Came form Done
-    unread : (file : List ℕ) → table_file form ≡ Some file → AsksFor old.files new.files (file ∷ []) → Rose old.files.faults new.files.faults → Came form FetchFault
-    large : (file : List ℕ) → table_file form ≡ Some file → AsksFor old.files new.files (file ∷ []) → IsTooLarge (old.files.told file) → Came form TooLarge
-    faulty : (file : List ℕ) (fault : CedtFault) → table_file form ≡ Some file → AsksFor old.files new.files (file ∷ []) → IsFaultyFile (old.files.told file) fault → Came form (BadTable fault)
+    unread : HasFailed (own_files form) old.files new.files → Came form FetchFault
+    large : (file : List ℕ) → Contains (own_files form) file → IsTooLarge (old.files.told file) → Came form TooLarge
+    faulty : (file : List ℕ) (fault : CedtFault) → table_file form ≡ Some file → IsFaultyFile (old.files.told file) fault → Came form (BadTable fault)
+    faulty_tree : (file : List ℕ) (fault : TopoFault) → topology_file form ≡ Some file → IsFaultyTreeFile (old.files.told file) fault → Came form (BadTopo fault)
+    faulty_image : (topo file : List ℕ) (tree : Tree) (fault : ImageFault) → topology_file form ≡ Some topo → IsTreeOf (old.files.told topo) tree → image_file form ≡ Some file → IsFaultyImageFile (old.files.told file) tree.nodes fault → Came form (BadImage fault)
     done : IsAnswered form Done → Came form Done
     refuses : IsAnswered form Refused → Came form Refused
+    accepts : IsHostAnswered form Done → Came form Done
+    rejects : IsHostAnswered form Refused → Came form Refused
     cut : (outcome : Outcome) → AnswersFromFiles form old.files new.files outcome → IsCutShort outcome WriteFault old.out new.out → Came form WriteFault
     out : takes_memory form ≡ true → RunsOut form old new → Came form Memory
 
@@ -58,23 +96,50 @@ module _ (old new : Outside) where
   by_status form status answered (inl e) = let is = answered.written.status_is ∙ e in subst (Came form) (sym is) (done (subst (IsAnswered form) is answered))
   by_status form status answered (inr e) = let is = answered.written.status_is ∙ e in subst (Came form) (sym is) (refuses (subst (IsAnswered form) is answered))
 
-  came_by_file : (form : Form) (file : List ℕ) (status : Status) (outcome : Outcome) → table_file form ≡ Some file → IsAnswerOfFile form file old.files new.files outcome → IsWritten outcome status old.out new.out → Came form status
-  came_by_file form file status outcome asked (no_table (no_bytes (not_read rose asks e))) written =
-      subst (Came form) (sym (written.status_is ∙ ap (λ o. o.status) e)) (unread file asked asks rose)
-  came_by_file form file status outcome asked (no_table (no_bytes (not_small many asks e))) written =
-      subst (Came form) (sym (written.status_is ∙ ap (λ o. o.status) e)) (large file asked asks many)
-  came_by_file form file status outcome asked (no_table (not_sound fault is asks e)) written =
-      subst (Came form) (sym (written.status_is ∙ ap (λ o. o.status) e)) (faulty file fault asked asks is)
-  came_by_file form file status outcome asked (by_table table of answer) written =
-      by_status form status (record { file = file; table = table; outcome = outcome; asked = asked; asks = answer.0; of = of; answer = answer.1; written = written }) (answer_status form table outcome answer.1)
+  by_host_status : (form : Form) (status : Status) (answered : IsHostAnswered form status) → (answered.outcome.status ≡ Done) ⊎ (answered.outcome.status ≡ Refused) → Came form status
+  by_host_status form status answered (inl e) = let is = answered.written.status_is ∙ e in subst (Came form) (sym is) (accepts (subst (IsHostAnswered form) is answered))
+  by_host_status form status answered (inr e) = let is = answered.written.status_is ∙ e in subst (Came form) (sym is) (rejects (subst (IsHostAnswered form) is answered))
+
+  -- a file that gives no bytes
+  came_no_bytes : (form : Form) (before : List (List ℕ)) (file : List ℕ) (after : List (List ℕ)) → own_files form ≡ before ++ file ∷ after → Contains (own_files form) file → (status : Status) (outcome : Outcome) → HasNoBytes before file old.files new.files outcome → IsWritten outcome status old.out new.out → Came form status
+  came_no_bytes form front file after own there status outcome (not_read rose asks e) written =
+      subst (Came form) (sym (written.status_is ∙ ap (λ o. o.status) e)) (unread (record { before = front; file = file; after = after; own = own; asks = asks; rose = rose }))
+  came_no_bytes form front file after own there status outcome (not_small many asks e) written =
+      subst (Came form) (sym (written.status_is ∙ ap (λ o. o.status) e)) (large file there many)
+
+  came_no_table : (form : Form) (file : List ℕ) (after : List (List ℕ)) → own_files form ≡ file ∷ after → Contains (own_files form) file → table_file form ≡ Some file → (status : Status) (outcome : Outcome) → tables.HasNoTable file old.files new.files outcome → IsWritten outcome status old.out new.out → Came form status
+  came_no_table form file after own there asked status outcome (tables.no_bytes none) written = came_no_bytes form [] file after own there status outcome none written
+  came_no_table form file after own there asked status outcome (tables.not_sound fault is asks e) written =
+      subst (Came form) (sym (written.status_is ∙ ap (λ o. o.status) e)) (faulty file fault asked is)
+
+  came_by_file : (form : Form) (file : List ℕ) (status : Status) (outcome : Outcome) → own_files form ≡ file ∷ [] → table_file form ≡ Some file → topology_file form ≡ None → IsAnswerOfFile form file old.files new.files outcome → IsWritten outcome status old.out new.out → Came form status
+  came_by_file form file status outcome own asked alone (tables.no_table none) written =
+      came_no_table form file [] own (subst (λ names. Contains names file) (sym own) (0, omega arith, refl)) asked status outcome none written
+  came_by_file form file status outcome own asked alone (tables.by_table table of answer) written =
+      by_status form status (record { file = file; table = table; outcome = outcome; asked = asked; alone = alone; asks = subst (AsksFor old.files new.files) (sym own) answer.0; of = of; answer = answer.1; written = written }) (answer_status form table outcome answer.1)
+
+  came_by_host : (cedt topo image : List ℕ) (status : Status) (outcome : Outcome) → IsAnswerOfHost (Check cedt topo image) cedt topo image old.files new.files outcome → IsWritten outcome status old.out new.out → Came (Check cedt topo image) status
+  came_by_host cedt topo image status outcome (hosts.no_host (hosts.no_table none)) written =
+      came_no_table (Check cedt topo image) cedt (topo ∷ image ∷ []) refl (0, omega arith, refl) refl status outcome none written
+  came_by_host cedt topo image status outcome (hosts.no_host (hosts.no_tree table of (trees.no_bytes none))) written =
+      came_no_bytes (Check cedt topo image) (cedt ∷ []) topo (image ∷ []) refl (1, omega arith, refl) status outcome none written
+  came_by_host cedt topo image status outcome (hosts.no_host (hosts.no_tree table of (trees.not_sound fault is asks e))) written =
+      subst (Came (Check cedt topo image)) (sym (written.status_is ∙ ap (λ o. o.status) e)) (faulty_tree topo fault refl is)
+  came_by_host cedt topo image status outcome (hosts.no_host (hosts.no_image table tree of of_tree (images.no_bytes none))) written =
+      came_no_bytes (Check cedt topo image) (cedt ∷ topo ∷ []) image [] refl (2, omega arith, refl) status outcome none written
+  came_by_host cedt topo image status outcome (hosts.no_host (hosts.no_image table tree of of_tree (images.not_sound fault is asks e))) written =
+      subst (Came (Check cedt topo image)) (sym (written.status_is ∙ ap (λ o. o.status) e)) (faulty_image topo image tree fault refl of_tree refl is)
+  came_by_host cedt topo image status outcome (hosts.by_host table tree blocks of answer) written =
+      by_host_status (Check cedt topo image) status (record { cedt = cedt; topo = topo; image = image; table = table; tree = tree; blocks = blocks; outcome = outcome; is = refl; asks = answer.0; of = of; answer = answer.1; written = written }) (check_status table tree blocks outcome answer.1)
 
   came_written : (form : Form) (status : Status) (outcome : Outcome) → AnswersFromFiles form old.files new.files outcome → IsWritten outcome status old.out new.out → Came form status
-  came_written (Route file h) status outcome answers written = came_by_file (Route file h) file status outcome refl answers written
-  came_written (Listing file) status outcome answers written = came_by_file (Listing file) file status outcome refl answers written
-  came_written (Normal file) status outcome answers written = came_by_file (Normal file) file status outcome refl answers written
+  came_written (Route file h) status outcome answers written = came_by_file (Route file h) file status outcome refl refl refl answers written
+  came_written (Listing file) status outcome answers written = came_by_file (Listing file) file status outcome refl refl refl answers written
+  came_written (Normal file) status outcome answers written = came_by_file (Normal file) file status outcome refl refl refl answers written
+  came_written (Check cedt topo image) status outcome answers written = came_by_host cedt topo image status outcome answers written
   came_written Help status outcome answers written = subst (Came Help) (sym (written.status_is ∙ ap (λ o. o.status) answers.0)) (helped Help refl refl refl answers.1)
   came_written Version status outcome answers written = subst (Came Version) (sym (written.status_is ∙ ap (λ o. o.status) answers.0)) (helped Version refl refl refl answers.1)
-  came_written Unreadable status outcome answers written = subst (Came Unreadable) (sym (written.status_is ∙ ap (λ o. o.status) answers.0)) (misused refl answers.1)
+  came_written Unreadable status outcome answers written = subst (Came Unreadable) (sym (written.status_is ∙ ap (λ o. o.status) answers.0)) (misused refl)
 
   came : (form : Form) (status : Status) → IsRun form old new status → Came form status
   came form status (writes outcome answers written) = came_written form status outcome answers written
@@ -85,90 +150,157 @@ module _ (old new : Outside) where
   pub came_to : (form : Form) (status wanted : Status) → IsRun form old new status → status ≡ wanted → Came form wanted
   came_to form status wanted run is = subst (Came form) is (came form status run)
 
-  pub came_at : (form : Form) (status : Status) → IsRun form old new status → Came form status
-  came_at form status run = came form status run
-
   -- ---- the files that were asked for
 
+  bytes_asked : (before : List (List ℕ)) (file : List ℕ) (outcome : Outcome) → HasNoBytes before file old.files new.files outcome → AsksFor old.files new.files (before ++ file ∷ [])
+  bytes_asked front file outcome (not_read rose asks e) = asks
+  bytes_asked front file outcome (not_small many asks e) = asks
+
+  table_asked : (file : List ℕ) (outcome : Outcome) → tables.HasNoTable file old.files new.files outcome → AsksFor old.files new.files (file ∷ [])
+  table_asked file outcome (tables.no_bytes none) = bytes_asked [] file outcome none
+  table_asked file outcome (tables.not_sound fault is asks e) = asks
+
+  tree_asked : (before : List (List ℕ)) (file : List ℕ) (outcome : Outcome) → trees.HasNoTree before file old.files new.files outcome → AsksFor old.files new.files (before ++ file ∷ [])
+  tree_asked front file outcome (trees.no_bytes none) = bytes_asked front file outcome none
+  tree_asked front file outcome (trees.not_sound fault is asks e) = asks
+
+  image_asked : (before : List (List ℕ)) (file : List ℕ) (tree : Tree) (outcome : Outcome) → images.HasNoImage before file tree.nodes old.files new.files outcome → AsksFor old.files new.files (before ++ file ∷ [])
+  image_asked front file tree outcome (images.no_bytes none) = bytes_asked front file outcome none
+  image_asked front file tree outcome (images.not_sound fault is asks e) = asks
+
   asked_by_file : (form : Form) (file : List ℕ) (outcome : Outcome) → IsAnswerOfFile form file old.files new.files outcome → AsksFor old.files new.files (file ∷ [])
-  asked_by_file form file outcome (no_table (no_bytes (not_read rose asks e))) = asks
-  asked_by_file form file outcome (no_table (no_bytes (not_small many asks e))) = asks
-  asked_by_file form file outcome (no_table (not_sound fault is asks e)) = asks
-  asked_by_file form file outcome (by_table table of answer) = answer.0
+  asked_by_file form file outcome (tables.no_table none) = table_asked file outcome none
+  asked_by_file form file outcome (tables.by_table table of answer) = answer.0
 
-  asked_answers : (form : Form) (outcome : Outcome) → AnswersFromFiles form old.files new.files outcome → AsksFor old.files new.files (own_files form)
-  asked_answers (Route file h) outcome answers = asked_by_file (Route file h) file outcome answers
-  asked_answers (Listing file) outcome answers = asked_by_file (Listing file) file outcome answers
-  asked_answers (Normal file) outcome answers = asked_by_file (Normal file) file outcome answers
-  asked_answers Help outcome answers = answers.1
-  asked_answers Version outcome answers = answers.1
-  asked_answers Unreadable outcome answers = answers.1
+  asked_by_host : (form : Form) (cedt topo image : List ℕ) (outcome : Outcome) → IsAnswerOfHost form cedt topo image old.files new.files outcome → AsksForSome (cedt ∷ topo ∷ image ∷ []) old.files new.files
+  asked_by_host form cedt topo image outcome (hosts.no_host (hosts.no_table none)) = record { count = 1; asks = table_asked cedt outcome none }
+  asked_by_host form cedt topo image outcome (hosts.no_host (hosts.no_tree table of none)) = record { count = 2; asks = tree_asked (cedt ∷ []) topo outcome none }
+  asked_by_host form cedt topo image outcome (hosts.no_host (hosts.no_image table tree of of_tree none)) = record { count = 3; asks = image_asked (cedt ∷ topo ∷ []) image tree outcome none }
+  asked_by_host form cedt topo image outcome (hosts.by_host table tree blocks of answer) = record { count = 3; asks = answer.0 }
 
-  all_names : (names : List (List ℕ)) → AsksFor old.files new.files names → AsksForSome names old.files new.files
-  all_names names asks = record { count = length names; asks = subst (AsksFor old.files new.files) (sym (take_all (length names) names (omega arith))) asks }
+  one_name : (file : List ℕ) → AsksFor old.files new.files (file ∷ []) → AsksForSome (file ∷ []) old.files new.files
+  one_name file asks = record { count = 1; asks = asks }
+
+  no_name : AsksFor old.files new.files [] → AsksForSome [] old.files new.files
+  no_name asks = record { count = 0; asks = asks }
+
+  asked_answers : (form : Form) (outcome : Outcome) → AnswersFromFiles form old.files new.files outcome → AsksForSome (own_files form) old.files new.files
+  asked_answers (Route file h) outcome answers = one_name file (asked_by_file (Route file h) file outcome answers)
+  asked_answers (Listing file) outcome answers = one_name file (asked_by_file (Listing file) file outcome answers)
+  asked_answers (Normal file) outcome answers = one_name file (asked_by_file (Normal file) file outcome answers)
+  asked_answers (Check cedt topo image) outcome answers = asked_by_host (Check cedt topo image) cedt topo image outcome answers
+  asked_answers Help outcome answers = no_name answers.1
+  asked_answers Version outcome answers = no_name answers.1
+  asked_answers Unreadable outcome answers = no_name answers.1
+
+  one_file_asked : (form : Form) (file : List ℕ) (outcome : Outcome) → own_files form ≡ file ∷ [] → AnswersFromFiles form old.files new.files outcome → AsksFor old.files new.files (own_files form)
+  one_file_asked (Route own h) file outcome one answers = asked_by_file (Route own h) own outcome answers
+  one_file_asked (Listing own) file outcome one answers = asked_by_file (Listing own) own outcome answers
+  one_file_asked (Normal own) file outcome one answers = asked_by_file (Normal own) own outcome answers
+  one_file_asked (Check cedt topo image) file outcome one answers = absurd (cc)
+  one_file_asked Help file outcome one answers = absurd (cc)
+  one_file_asked Version file outcome one answers = absurd (cc)
+  one_file_asked Unreadable file outcome one answers = absurd (cc)
+
+  asked_left : (form : Form) → RunsOut form old new → AsksForSome (own_files form) old.files new.files
+  asked_left form (before some none) = some
+  asked_left form (behind outcome answers lines) = asked_answers form outcome answers
+
+  -- the first of its files are asked for, and no other
+  pub some_asked : (form : Form) (status : Status) → IsRun form old new status → AsksForSome (own_files form) old.files new.files
+  some_asked form status (writes outcome answers written) = asked_answers form outcome answers
+  some_asked form status (is_cut outcome answers is) = asked_answers form outcome answers
+  some_asked form status (runs_out takes is left) = asked_left form left
+
+  -- a form of one file asked for it, where memory did not run out
+  pub one_asked : (form : Form) (file : List ℕ) (status : Status) → own_files form ≡ file ∷ [] → IsRun form old new status → status ≢ Memory → AsksFor old.files new.files (file ∷ [])
+  one_asked form file status one (writes outcome answers written) other = subst (AsksFor old.files new.files) one (one_file_asked form file outcome one answers)
+  one_asked form file status one (is_cut outcome answers is) other = subst (AsksFor old.files new.files) one (one_file_asked form file outcome one answers)
+  one_asked form file status one (runs_out takes is left) other = absurd (other is)
+
+  host_asked : (form : Form) (status : Status) → IsHostAnswered form status → AsksFor old.files new.files (own_files form)
+  host_asked form status answered = subst (λ f. AsksFor old.files new.files (own_files f)) (sym answered.is) answered.asks
+
+  -- a form with an answer asked for all of its files
+  pub done_asked : (form : Form) → Came form Done → AsksFor old.files new.files (own_files form)
+  done_asked form (helped plain is own none asks) = subst (AsksFor old.files new.files) (sym (ap own_files is ∙ own)) asks
+  done_asked form (done answered) = answered.asks
+  done_asked form (accepts answered) = host_asked form Done answered
+
+  pub refused_asked : (form : Form) → Came form Refused → AsksFor old.files new.files (own_files form)
+  refused_asked form (refuses answered) = answered.asks
+  refused_asked form (rejects answered) = host_asked form Refused answered
 
   -- ---- what each status tells
 
   pub usage_asked : (form : Form) → Came form Usage → form ≡ Unreadable
-  usage_asked form (misused is asks) = is
+  usage_asked form (misused is) = is
 
   pub fetch_failed : (form : Form) → Came form FetchFault → HasFailed (own_files form) old.files new.files
-  fetch_failed form (unread file asked asks rose) =
-      record { before = []; file = file; after = []; own = own_file form file asked; asks = asks; rose = rose }
+  fetch_failed form (unread failed) = failed
 
   pub large_told : (form : Form) → Came form TooLarge → (file : List ℕ) × Contains (own_files form) file × IsTooLarge (old.files.told file)
-  large_told form (large file asked asks many) =
-      (file, subst (λ names. Contains names file) (sym (own_file form file asked)) (0, omega arith, refl), many)
+  large_told form (large file there many) = (file, there, many)
 
   pub sink_rose : (form : Form) → Came form WriteFault → Rose old.out.faults new.out.faults
   sink_rose form (cut outcome answers is) = is.rose
 
   pub fault_told : (form : Form) (fault : CedtFault) → Came form (BadTable fault) → (file : List ℕ) × (table_file form ≡ Some file) × IsFaultyFile (old.files.told file) fault
-  fault_told form fault (faulty file first asked asks is) = (file, asked, is)
+  fault_told form fault (faulty file first asked is) = (file, asked, is)
+
+  pub tree_fault_told : (form : Form) (fault : TopoFault) → Came form (BadTopo fault) → (file : List ℕ) × (topology_file form ≡ Some file) × IsFaultyTreeFile (old.files.told file) fault
+  tree_fault_told form fault (faulty_tree file first asked is) = (file, asked, is)
+
+  pub record IsImageFault (form : Form) (fault : ImageFault) : Type 0 where
+    pub topo : List ℕ
+    pub file : List ℕ
+    pub tree : Tree
+    pub asked_tree : topology_file form ≡ Some topo
+    pub of_tree : IsTreeOf (old.files.told topo) tree
+    pub asked : image_file form ≡ Some file
+    pub is : IsFaultyImageFile (old.files.told file) tree.nodes fault
+
+  pub image_fault_told : (form : Form) (fault : ImageFault) → Came form (BadImage fault) → IsImageFault form fault
+  image_fault_told form fault (faulty_image topo file tree first asked_tree of_tree asked is) =
+      record { topo = topo; file = file; tree = tree; asked_tree = asked_tree; of_tree = of_tree; asked = asked; is = is }
 
   pub memory_left : (form : Form) → Came form Memory → (takes_memory form ≡ true) × RunsOut form old new
   memory_left form (out takes left) = (takes, left)
 
-  pub refused_answer : (form : Form) → Came form Refused → IsAnswered form Refused
-  refused_answer form (refuses answered) = answered
+  host_none : (form : Form) (status : Status) → topology_file form ≡ None → IsHostAnswered form status → ⊥
+  host_none form status none answered = let some = ap topology_file answered.is in cc
 
-  asked_left : (form : Form) → RunsOut form old new → AsksForSome (own_files form) old.files new.files
-  asked_left form (before some none) = some
-  asked_left form (behind outcome answers lines) = all_names (own_files form) (asked_answers form outcome answers)
+  pub refused_answer : (form : Form) → topology_file form ≡ None → Came form Refused → IsAnswered form Refused
+  refused_answer form none (refuses answered) = answered
+  refused_answer form none (rejects answered) = absurd (host_none form Refused none answered)
 
-  -- the first of its files are asked for, and no other
-  pub some_asked : (form : Form) (status : Status) → IsRun form old new status → AsksForSome (own_files form) old.files new.files
-  some_asked form status (writes outcome answers written) = all_names (own_files form) (asked_answers form outcome answers)
-  some_asked form status (is_cut outcome answers is) = all_names (own_files form) (asked_answers form outcome answers)
-  some_asked form status (runs_out takes is left) = asked_left form left
+  pub done_answer : (form : Form) (file : List ℕ) → table_file form ≡ Some file → topology_file form ≡ None → Came form Done → IsAnswered form Done
+  done_answer form file asked alone (helped plain is own none asks) = absurd (no_file form plain file is none asked)
+  done_answer form file asked alone (done answered) = answered
+  done_answer form file asked alone (accepts answered) = absurd (host_none form Done alone answered)
 
-  -- where memory did not run out, all of today's forms have asked for theirs
-  pub all_asked : (form : Form) (status : Status) → IsRun form old new status → status ≢ Memory → AsksFor old.files new.files (own_files form)
-  all_asked form status (writes outcome answers written) other = asked_answers form outcome answers
-  all_asked form status (is_cut outcome answers is) other = asked_answers form outcome answers
-  all_asked form status (runs_out takes is left) other = absurd (other is)
+  table_none : (cedt topo image : List ℕ) (status : Status) → IsAnswered (Check cedt topo image) status → ⊥
+  table_none cedt topo image status answered = let alone = answered.alone in cc
 
-  -- the first file is known not to be there
-  not_told : (told : Told) (bytes : List ℕ) → AreTold told bytes → told ≡ Absent → ⊥
-  not_told told bytes is absent = subst (λ t. AreTold t bytes) absent is
+  pub check_done : (cedt topo image : List ℕ) → Came (Check cedt topo image) Done → IsHostAnswered (Check cedt topo image) Done
+  check_done cedt topo image (helped plain is own none asks) = absurd (no_file (Check cedt topo image) plain cedt is none refl)
+  check_done cedt topo image (done answered) = absurd (table_none cedt topo image Done answered)
+  check_done cedt topo image (accepts answered) = answered
 
-  not_large : (told : Told) → IsTooLarge told → told ≡ Absent → ⊥
-  not_large told is absent = subst IsTooLarge absent is
+  pub check_refused : (cedt topo image : List ℕ) → Came (Check cedt topo image) Refused → IsHostAnswered (Check cedt topo image) Refused
+  check_refused cedt topo image (refuses answered) = absurd (table_none cedt topo image Refused answered)
+  check_refused cedt topo image (rejects answered) = answered
 
-  absent_file : (form : Form) (file other : List ℕ) → table_file form ≡ Some file → old.files.told file ≡ Absent → table_file form ≡ Some other → old.files.told other ≡ Absent
-  absent_file form file other asked absent again = ap old.files.told (sym (one_file form file other asked again)) ∙ absent
-
-  pub absent_fails : (form : Form) (status : Status) → Came form status → (file : List ℕ) → table_file form ≡ Some file → old.files.told file ≡ Absent → (status ≡ FetchFault) ⊎ IsUnwritten status old.out new.out
-  absent_fails form status (misused is asks) file asked absent = absurd (no_file form Unreadable file is refl asked)
-  absent_fails form status (helped plain is own none asks) file asked absent = absurd (no_file form plain file is none asked)
-  absent_fails form status (unread other again asks rose) file asked absent = inl refl
-  absent_fails form status (large other again asks many) file asked absent = absurd (not_large (old.files.told other) many (absent_file form file other asked absent again))
-  absent_fails form status (faulty other fault again asks is) file asked absent = absurd (not_told (old.files.told other) is.bytes is.told_so (absent_file form file other asked absent again))
-  absent_fails form status (done answered) file asked absent = absurd (not_told (old.files.told answered.file) answered.of.bytes answered.of.told_so (absent_file form file answered.file asked absent answered.asked))
-  absent_fails form status (refuses answered) file asked absent = absurd (not_told (old.files.told answered.file) answered.of.bytes answered.of.told_so (absent_file form file answered.file asked absent answered.asked))
-  absent_fails form status (cut outcome answers is) file asked absent = inr (inl (refl, is.rose))
-  absent_fails form status (out takes left) file asked absent = inr (inr refl)
-
-  pub done_answer : (form : Form) (file : List ℕ) → table_file form ≡ Some file → Came form Done → IsAnswered form Done
-  done_answer form file asked (helped plain is own none asks) = absurd (no_file form plain file is none asked)
-  done_answer form file asked (done answered) = answered
+  -- which forms are refused
+  pub refuses_some : (form : Form) → Came form Refused → ((file : List ℕ) × (h : ℕ) × (form ≡ Route file h)) ⊎ ((cedt : List ℕ) × (topo : List ℕ) × (image : List ℕ) × (form ≡ Check cedt topo image))
+  refuses_some form (refuses answered) = inl (refused_form form answered.table answered.outcome (sym answered.written.status_is) answered.answer)
+    where
+      refused_form : (f : Form) (table : CedtFields) (outcome : Outcome) → outcome.status ≡ Refused → IsTableAnswer f table outcome → (file : List ℕ) × (h : ℕ) × (f ≡ Route file h)
+      refused_form (Route file h) table outcome is answer = (file, h, refl)
+      refused_form (Listing file) table outcome is answer = let own = ap (λ o. o.status) answer in absurd (cc)
+      refused_form (Normal file) table outcome is answer = let own = ap (λ o. o.status) answer in absurd (cc)
+      refused_form (Check cedt topo image) table outcome is answer = absurd answer
+      refused_form Help table outcome is answer = absurd answer
+      refused_form Version table outcome is answer = absurd answer
+      refused_form Unreadable table outcome is answer = absurd answer
+  refuses_some form (rejects answered) = inr (answered.cedt, answered.topo, answered.image, answered.is)

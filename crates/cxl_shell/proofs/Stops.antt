@@ -1,5 +1,5 @@
 -- Commands that stop early, and how a run ends that writes what they give.
-use Rattle.std.proofs.Common.{◌≡◌, true, Option, Some, None, List, ℕ, [], ◌∷◌, Result, Ok, Err, refl, sym, ap, subst, inl, inr}
+use Rattle.std.proofs.Common.{◌≡◌, true, Option, Some, None, List, ℕ, [], ◌∷◌, Result, Ok, Err, IfErr, refl, sym, ap, subst, inl, inr}
 use Rattle.std.proofs.lemmas.List.{append-nil}
 use Rattle.cxl_io.specs.Fetch.{FetchState, AsksFor}
 use Rattle.cxl_io.specs.Told.{told_with}
@@ -23,6 +23,11 @@ stop-weaker P Q M N stop.Memory follows out is = out is
 pub stop-memory : (P : Outcome → Type 0) (M : Type 0) (reason : Stop) → reason ≡ stop.Memory → M → IsStop P M reason
 stop-memory P M (stop.Outcome o) e out = absurd (cc)
 stop-memory P M stop.Memory e out = out
+
+-- a call that stops as a step before it did
+pub stopped-behind : {A : Type 0} (P Q : Outcome → Type 0) (M N : Type 0) (answer : Result A Stop) (reason : Stop) → answer ≡ Err reason → ((o : Outcome) → P o → Q o) → (M → N) → IsStop P M reason → IfErr answer (IsStop Q N)
+stopped-behind P Q M N answer reason e follows out is =
+    subst (λ r. IfErr r (IsStop Q N)) (sym e) (stop-weaker P Q M N reason follows out is)
 
 -- all of one file's names are asked for
 pub asks_one : (file : List ℕ) (old new : FetchState) → AsksFor old new (file ∷ []) → AsksForSome (file ∷ []) old new

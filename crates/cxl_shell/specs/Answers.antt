@@ -3,9 +3,13 @@ use Rattle.std.specs.Prelude.{◌≡◌, ℕ, List, [], ◌∷◌, Result, Ok, E
 use Rattle.cxl_cedt.specs.CedtFields.{CedtFields}
 use Rattle.cxl_enc.specs.declared.faults.Memory.{Memory}
 use Rattle.cxl_io.specs.Fetch.{FetchState, AsksFor}
-use Rattle.cxl_shell.specs.Form.{Form, Route, Listing, Normal, Help, Version, Unreadable, own_files}
+use Rattle.cxl_regs.specs.Registers.{Registers}
+use Rattle.cxl_topo.specs.Tree.{Tree}
+use Rattle.cxl_shell.specs.Form.{Form, Route, Listing, Normal, Check, Help, Version, Unreadable, own_files}
 use Rattle.cxl_shell.specs.Outcome.{Outcome}
 use Rattle.cxl_shell.specs.Outside.{Outside}
+use Rattle.cxl_shell.specs.Readings.{Readings, ByTable, ByHost}
+use Rattle.cxl_shell.specs.commands.Check.{IsChecked}
 use Rattle.cxl_shell.specs.commands.Help.{helped, version_told, misused}
 use Rattle.cxl_shell.specs.commands.List.{listed}
 use Rattle.cxl_shell.specs.commands.Normal.{normalized}
@@ -13,6 +17,7 @@ use Rattle.cxl_shell.specs.commands.Route.{IsRouted}
 use Rattle.cxl_shell.specs.declared.stop.Stop.{Stop}
 use Rattle.cxl_shell.specs.declared.stop.Stop.TheVariants as stop
 use Rattle.cxl_shell.specs.inputs.File.{AsksForSome}
+use Rattle.cxl_shell.specs.inputs.Host.{host_of, IsByHost}
 use Rattle.cxl_shell.specs.inputs.Table.{IsByTable}
 
 -- the outcome of a form by the table of its file
@@ -20,20 +25,37 @@ abbrev pub IsTableAnswer : Form → CedtFields → Outcome → Type 0
 IsTableAnswer (Route file h) table outcome = IsRouted table h outcome
 IsTableAnswer (Listing file) table outcome = outcome ≡ listed table.records
 IsTableAnswer (Normal file) table outcome = outcome ≡ normalized table
+IsTableAnswer (Check cedt topo image) table outcome = ⊥
 IsTableAnswer Help table outcome = ⊥
 IsTableAnswer Version table outcome = ⊥
 IsTableAnswer Unreadable table outcome = ⊥
+
+-- the outcome of a form by its table, its topology and its image
+abbrev pub IsHostAnswer : Form → CedtFields → Tree → List Registers → Outcome → Type 0
+IsHostAnswer (Check cedt topo image) table tree blocks outcome = IsChecked (host_of table tree blocks) outcome
+IsHostAnswer form table tree blocks outcome = ⊥
+
+-- the outcome of a form by what its files are read as
+abbrev pub IsAnswerBy : Form → Readings → Outcome → Type 0
+IsAnswerBy form (ByTable table) outcome = IsTableAnswer form table outcome
+IsAnswerBy form (ByHost table tree blocks) outcome = IsHostAnswer form table tree blocks outcome
 
 -- a form whose one file has a table
 abbrev pub IsAnswerOfFile : Form → List ℕ → FetchState → FetchState → Outcome → Type 0
 IsAnswerOfFile form file old new outcome =
     IsByTable file old new (λ table o. AsksFor old new (file ∷ []) × IsTableAnswer form table o) outcome
 
+-- a form whose three files are a table, a topology and an image
+abbrev pub IsAnswerOfHost : Form → List ℕ → List ℕ → List ℕ → FetchState → FetchState → Outcome → Type 0
+IsAnswerOfHost form cedt topo image old new outcome =
+    IsByHost cedt topo image old new (λ table tree blocks o. AsksFor old new (cedt ∷ topo ∷ image ∷ []) × IsHostAnswer form table tree blocks o) outcome
+
 -- the outcome answers the form by what the files hold
 abbrev pub AnswersFromFiles : Form → FetchState → FetchState → Outcome → Type 0
 AnswersFromFiles (Route file h) old new outcome = IsAnswerOfFile (Route file h) file old new outcome
 AnswersFromFiles (Listing file) old new outcome = IsAnswerOfFile (Listing file) file old new outcome
 AnswersFromFiles (Normal file) old new outcome = IsAnswerOfFile (Normal file) file old new outcome
+AnswersFromFiles (Check cedt topo image) old new outcome = IsAnswerOfHost (Check cedt topo image) cedt topo image old new outcome
 AnswersFromFiles Help old new outcome = (outcome ≡ helped) × AsksFor old new []
 AnswersFromFiles Version old new outcome = (outcome ≡ version_told) × AsksFor old new []
 AnswersFromFiles Unreadable old new outcome = (outcome ≡ misused) × AsksFor old new []

@@ -10,6 +10,8 @@ pub data Form : Type 0 where
   Listing : (file : List ℕ) → Form
   -- the bytes of the table in a file, as the writer gives them
   Normal : (file : List ℕ) → Form
+  -- whether an image over a topology is accepted, by the files of a table, a topology and an image
+  Check : (cedt topo image : List ℕ) → Form
   Help : Form
   Version : Form
   -- the words are none of the forms, or a word is no number that has to be one
@@ -33,6 +35,11 @@ abbrev pub normal_form : List (List ℕ) → Form
 normal_form (file ∷ []) = Normal file
 normal_form words = Unreadable
 
+-- the words after `check`: the files of a table, a topology and an image
+abbrev pub check_form : List (List ℕ) → Form
+check_form (cedt ∷ topo ∷ image ∷ []) = Check cedt topo image
+check_form words = Unreadable
+
 -- a form that has no words after its first
 abbrev pub alone : Form → List (List ℕ) → Form
 alone form [] = form
@@ -44,9 +51,10 @@ form_of (word ∷ words) =
     if bytes_eq word (codes "route") then route_form words
     else (if bytes_eq word (codes "list") then list_form words
     else (if bytes_eq word (codes "normal") then normal_form words
+    else (if bytes_eq word (codes "check") then check_form words
     else (if bytes_eq word (codes "--help") then alone Help words
     else (if bytes_eq word (codes "--version") then alone Version words
-    else Unreadable))))
+    else Unreadable)))))
 
 -- ---- what a form needs
 
@@ -55,6 +63,7 @@ abbrev pub own_files : Form → List (List ℕ)
 own_files (Route file h) = file ∷ []
 own_files (Listing file) = file ∷ []
 own_files (Normal file) = file ∷ []
+own_files (Check cedt topo image) = cedt ∷ topo ∷ image ∷ []
 own_files Help = []
 own_files Version = []
 own_files Unreadable = []
@@ -64,15 +73,33 @@ abbrev pub table_file : Form → Option (List ℕ)
 table_file (Route file h) = Some file
 table_file (Listing file) = Some file
 table_file (Normal file) = Some file
+table_file (Check cedt topo image) = Some cedt
 table_file Help = None
 table_file Version = None
 table_file Unreadable = None
+
+-- the file with the topology, where it reads one
+abbrev pub topology_file : Form → Option (List ℕ)
+topology_file (Check cedt topo image) = Some topo
+topology_file form = None
+
+-- the file with the image, where it reads one
+abbrev pub image_file : Form → Option (List ℕ)
+image_file (Check cedt topo image) = Some image
+image_file form = None
+
+-- its text may have more than one piece
+abbrev pub has_many_pieces : Form → Bool
+has_many_pieces (Listing file) = true
+has_many_pieces (Check cedt topo image) = true
+has_many_pieces form = false
 
 -- it takes memory; the other forms never want for any
 abbrev pub takes_memory : Form → Bool
 takes_memory (Route file h) = true
 takes_memory (Listing file) = true
 takes_memory (Normal file) = true
+takes_memory (Check cedt topo image) = true
 takes_memory Help = false
 takes_memory Version = false
 takes_memory Unreadable = false

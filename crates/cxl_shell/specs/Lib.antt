@@ -8,8 +8,10 @@ pub mod Outside
 pub mod Blocks
 pub mod inputs
 pub mod commands
+pub mod Readings
 pub mod Answers
 pub mod Ends
 pub mod Run
+pub mod inner
 pub use Rattle.cxl_enc.specs.Codes
 pub use Rattle.cxl_enc.specs.Faults

@@ -1,5 +1,5 @@
 -- What a command comes to.
-use Rattle.std.specs.Prelude.{ℕ, List, [], ◌∷◌, ◌++◌}
+use Rattle.std.specs.Prelude.{ℕ, List, [], ◌∷◌}
 use Rattle.std.specs.List.{concat}
 use Rattle.cxl_shell.specs.declared.status.Status.{Status}
 
@@ -14,7 +14,3 @@ whole_text outcome = concat outcome.pieces
 
 abbrev pub one_piece : Status → List ℕ → Outcome
 one_piece status text = record { status = status; pieces = text ∷ [] }
-
--- a text of one line, which ends with the byte 10
-abbrev pub line : List ℕ → List ℕ
-line text = text ++ 10 ∷ []

@@ -5,3 +5,4 @@ pub mod Lines
 pub mod LinePlaces
 pub mod List
 pub mod Normal
+pub mod Check

@@ -6,6 +6,7 @@ ghost use Rattle.cxl_shell.specs.Outside.{outside};
 ghost use Rattle.cxl_shell.specs.Plain.{plain};
 ghost use Rattle.cxl_shell.specs.Run.{IsRun};
 
+pub(crate) mod check;
 pub(crate) mod help;
 mod lines;
 pub(crate) mod list;
@@ -16,6 +17,7 @@ mod selection;
 use crate::finish::finish;
 use crate::form::Form;
 use crate::status::Status;
+use check::check;
 use cxl_io::{Fetch, Sink};
 use help::{helped, misused, version_told};
 use list::list;
@@ -41,6 +43,7 @@ pub(crate) fn carry_out<F: Fetch, K: Sink>(
         Form::Route(file, h) => finish(route(alloc, file, h, files), out),
         Form::Listing(file) => list(alloc, file, files, out),
         Form::Normal(file) => finish(normal(alloc, file, files), out),
+        Form::Check(cedt, topo, image) => check(alloc, cedt, topo, image, files, out),
         Form::Help => finish(Ok(helped()), out),
         Form::Version => finish(Ok(version_told()), out),
         Form::Unreadable => finish(Ok(misused()), out),

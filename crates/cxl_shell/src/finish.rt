@@ -1,15 +1,19 @@
 ghost use Rattle.std.specs.Prelude.{◌≡◌, ◌≢◌, ℕ, ◌≤◌, ◌⊎◌, false, List};
 ghost use Rattle.cxl_enc.specs.Faults.{Rose};
-ghost use Rattle.cxl_shell.specs.Answers.{Answers};
-ghost use Rattle.cxl_shell.specs.Ends.{Ends, Finishes};
-ghost use Rattle.cxl_shell.specs.Form.{Listing, takes_memory};
+ghost use Rattle.cxl_shell.specs.Answers.{Answers, IsAnswerBy};
+ghost use Rattle.cxl_shell.specs.Ends.{Ends, Finishes, IsWritten, IsStopped};
+ghost use Rattle.cxl_shell.specs.Form.{Route, Check, has_many_pieces, takes_memory};
 ghost use Rattle.cxl_shell.specs.Outcome.{Outcome};
+ghost use Rattle.cxl_shell.specs.Readings.{Readings, AreKnown};
 ghost use Rattle.cxl_shell.specs.Run.{RunsOut, EachRun};
 
 use crate::outcome::Outcome;
 use crate::status::Status;
 use crate::stop::Stop;
+use cxl_cedt::one_reading;
+use cxl_image::one_image_reading;
 use cxl_io::Sink;
+use cxl_topofile::one_topology_reading;
 
 /// Writes what a command comes to, and says how the run ends.
 pub(crate) fn finish<K: Sink>(answer: Result<Outcome, Stop>, out: &mut K) -> Status
@@ -29,13 +33,27 @@ pub fn run_ends()
     // of its text.
     ensures answer { EachRun (λ form old new status. (status ≡ Status.Memory)
         ⊎ ((outcome : Outcome) × Answers form old new outcome × Ends outcome status old.out new.out)) }
+    // Where all files of the form are known and have a reading, an outcome by what they are read as is
+    // written, unless the run stops before.
+    ensures answered { EachRun (λ form old new status. (readings : Readings)
+        → AreKnown form old.files.told readings
+        → ((outcome : Outcome) × IsAnswerBy form readings outcome × IsWritten outcome status old.out new.out)
+        ⊎ IsStopped status old new) }
+    // Status 8 comes of `route` and `check` alone.
+    ensures refused { EachRun (λ form old new status. status ≡ Status.Refused
+        → ((file : List ℕ) × (h : ℕ) × (form ≡ Route file h))
+        ⊎ ((cedt : List ℕ) × (topo : List ℕ) × (image : List ℕ) × (form ≡ Check cedt topo image))) }
     // Status 6 comes only where the sink failed.
     ensures write_fault { EachRun (λ form old new status. status ≡ Status.WriteFault
         → Rose old.out.faults new.out.faults) }
-    // Where memory ran out, nothing is written, or whole pieces of an outcome that answers, which only a
-    // list has more than one of. A form that takes no memory never ends so.
+    // Where memory ran out, nothing is written, or whole pieces of an outcome that answers, where the form
+    // may have more than one. A form that takes no memory never ends so.
     ensures memory { EachRun (λ form old new status. status ≡ Status.Memory → RunsOut form old new) }
-    ensures memory_writes { EachRun (λ form old new status. ((file : List ℕ) → form ≢ Listing file)
+    ensures memory_writes { EachRun (λ form old new status. has_many_pieces form ≡ false
         → status ≡ Status.Memory → new.out.taken ≡ old.out.taken) }
     ensures no_memory { EachRun (λ form old new status. takes_memory form ≡ false → status ≢ Status.Memory) }
-{}
+{
+    one_reading();
+    one_topology_reading();
+    one_image_reading();
+}

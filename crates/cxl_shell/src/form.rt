@@ -1,6 +1,6 @@
 ghost use Rattle.std.specs.Prelude.{◌≡◌};
 ghost use Rattle.cxl_shell.specs.Plain.{plain};
-ghost use Rattle.cxl_shell.specs.Form.{form_of, route_form, list_form, normal_form, alone};
+ghost use Rattle.cxl_shell.specs.Form.{form_of, route_form, list_form, normal_form, check_form, alone};
 ghost use Rattle.cxl_shell.specs.Words.{bytes_of};
 
 use cxl_io::read_number;
@@ -14,6 +14,9 @@ pub(crate) enum Form<'a> {
     Listing(&'a str),
     /// The bytes of the table in a file, as the writer gives them.
     Normal(&'a str),
+    /// The regions of an image over a topology, or its first breach, by the files of a table, a topology
+    /// and an image.
+    Check(&'a str, &'a str, &'a str),
     Help,
     Version,
     /// The words are none of the forms, or a word is no number that has to be one.
@@ -31,6 +34,7 @@ pub(crate) fn form_of(words: &[String]) -> Form<'_>
         "route" => route_form(operands),
         "list" => list_form(operands),
         "normal" => normal_form(operands),
+        "check" => check_form(operands),
         "--help" => alone(Form::Help, operands),
         "--version" => alone(Form::Version, operands),
         _ => Form::Unreadable,
@@ -77,6 +81,16 @@ fn normal_form(words: &[String]) -> Form<'_>
 {
     match words {
         [file] => Form::Normal(file.as_str()),
+        _ => Form::Unreadable,
+    }
+}
+
+/// The words after `check`: the files of a table, a topology and an image.
+fn check_form(words: &[String]) -> Form<'_>
+    ensures { plain result ≡ check_form (bytes_of words.now) }
+{
+    match words {
+        [cedt, topo, image] => Form::Check(cedt.as_str(), topo.as_str(), image.as_str()),
         _ => Form::Unreadable,
     }
 }

@@ -1,4 +1,7 @@
 //! The files that commands read.
 
 pub(crate) mod file;
+pub(crate) mod host;
+pub(crate) mod image;
 pub(crate) mod table;
+pub(crate) mod topology;

@@ -11,12 +11,15 @@ mod shell;
 mod status;
 mod stop;
 
+pub use commands::check::check_statuses;
 pub use commands::help::{HELP, VERSION, help_statuses};
 pub use commands::list::list_statuses;
 pub use commands::normal::normal_statuses;
 pub use commands::route::route_statuses;
 pub use finish::run_ends;
 pub use inputs::file::file_statuses;
+pub use inputs::image::image_statuses;
 pub use inputs::table::table_statuses;
+pub use inputs::topology::topology_statuses;
 pub use shell::run;
 pub use status::Status;

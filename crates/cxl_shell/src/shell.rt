@@ -1,22 +1,20 @@
-ghost use Rattle.std.specs.Prelude.{◌≡◌, ℕ, ◌≤◌, ◌⊎◌, Some, None, List};
-ghost use Rattle.cxl_cedt.specs.CedtFields.{CedtFields};
+ghost use Rattle.std.specs.Prelude.{◌≡◌, ℕ, ◌≤◌, ◌⊎◌, None, List};
 ghost use Rattle.cxl_enc.specs.Faults.{Rose};
 ghost use Rattle.cxl_io.specs.Sink.{Takes};
-ghost use Rattle.cxl_io.specs.Told.{Bytes};
-ghost use Rattle.cxl_shell.specs.Answers.{IsTableAnswer};
+ghost use Rattle.cxl_shell.specs.Answers.{IsAnswerBy};
 ghost use Rattle.cxl_shell.specs.Ends.{IsWritten};
 ghost use Rattle.cxl_shell.specs.Form.{Route, form_of, table_file};
 ghost use Rattle.cxl_shell.specs.Outcome.{Outcome};
 ghost use Rattle.cxl_shell.specs.Outside.{outside};
+ghost use Rattle.cxl_shell.specs.Readings.{Readings, AreKnown};
 ghost use Rattle.cxl_shell.specs.Run.{IsRun};
 ghost use Rattle.cxl_shell.specs.Words.{bytes_of};
 ghost use Rattle.cxl_shell.specs.commands.Route.{IsRouteLine};
-ghost use Rattle.cxl_shell.specs.inputs.Table.{IsReading};
 
 use crate::commands::carry_out;
 use crate::commands::route::route_statuses;
+use crate::finish::run_ends;
 use crate::form::form_of;
-use crate::inputs::table::table_statuses;
 use crate::status::Status;
 use cxl_io::{Fetch, Sink};
 use std::alloc::Global;
@@ -28,15 +26,14 @@ pub fn run<F: Fetch, K: Sink>(alloc: Global, words: &[String], files: &mut F, ou
     ensures run { IsRun (form_of (bytes_of words.now)) (outside (F.state files.old) (K.state out.old))
         (outside (F.state files.new) (K.state out.new)) result }
 
-    // Completeness: where the file that the words ask about has a table and nothing failed, the words have
-    // an outcome by it, which is written, or memory ran out.
-    ensures complete { (file bytes : List ℕ) (table : CedtFields)
-        → table_file (form_of (bytes_of words.now)) ≡ Some file
-        → (F.state files.old).told file ≡ Bytes bytes → IsReading bytes table
+    // Completeness: where all files that the words name are known and have a reading and nothing failed, the
+    // words have an outcome by it, which is written, or memory ran out.
+    ensures complete { (readings : Readings)
+        → AreKnown (form_of (bytes_of words.now)) (F.state files.old).told readings
         → ¬ (Rose (F.state files.old).faults (F.state files.new).faults)
         → ¬ (Rose (K.state out.old).faults (K.state out.new).faults)
         → (result ≡ Status.Memory)
-        ⊎ ((outcome : Outcome) × IsTableAnswer (form_of (bytes_of words.now)) table outcome
+        ⊎ ((outcome : Outcome) × IsAnswerBy (form_of (bytes_of words.now)) readings outcome
         × IsWritten outcome result (K.state out.old) (K.state out.new)) }
 
     // The headline, in its part on `route`: with status 0 exactly the line is written that names the
@@ -52,7 +49,7 @@ pub fn run<F: Fetch, K: Sink>(alloc: Global, words: &[String], files: &mut F, ou
     ensures told { (F.state files.new).told ≡ (F.state files.old).told }
     ensures idle { table_file (form_of (bytes_of words.now)) ≡ None → files.new ≡ files.old }
 {
-    table_statuses();
+    run_ends();
     route_statuses();
     carry_out(alloc, form_of(words), files, out)
 }

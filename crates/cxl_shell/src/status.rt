@@ -1,6 +1,8 @@
 ghost use Rattle.std.specs.Prelude.{◌≡◌};
 
 use cxl_cedt::CedtFault;
+use cxl_image::ImageFault;
+use cxl_topofile::TopoFault;
 
 /// How a run of the program ended. (This project's rule.)
 #[derive(Clone, Copy, Debug, PartialEq, Eq)]
@@ -13,12 +15,16 @@ pub enum Status {
     FetchFault,
     /// The bytes of the CEDT spell no table. The fault is the first from the front.
     BadTable(CedtFault),
+    /// The topology file stands for no tree. The fault is its first.
+    BadTopo(TopoFault),
     /// The sink failed. A part of the text from the front may be written.
     WriteFault,
-    /// The command has no answer: no window that can be used holds the address.
+    /// The command has no answer: no window that can be used holds the address, or the image has a breach.
     Refused,
     /// Memory ran out.
     Memory,
+    /// The image file is none of an image over the topology. The fault is the first from the front.
+    BadImage(ImageFault),
     /// A file has more than 1,048,576 bytes.
     TooLarge,
 }
@@ -35,9 +41,11 @@ impl Status {
             Status::Usage => 1,
             Status::FetchFault => 2,
             Status::BadTable(_) => 3,
+            Status::BadTopo(_) => 4,
             Status::WriteFault => 6,
             Status::Refused => 8,
             Status::Memory => 9,
+            Status::BadImage(_) => 10,
             Status::TooLarge => 12,
         }
     }

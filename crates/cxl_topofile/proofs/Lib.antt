@@ -2,3 +2,4 @@ pub mod Unknowns
 pub mod Turns
 pub mod Attaching
 pub mod Whole
+pub mod OneReading

@@ -89,7 +89,7 @@ tree_fault bytes m stated faults.Memory document states is = tt
 
 -- ---- a file that stands for a tree is refused for want of memory alone
 
-same_members : (bytes : List ℕ) (members other : Members) → IsDocument bytes members → IsDocument bytes other → members ≡ other
+pub same_members : (bytes : List ℕ) (members other : Members) → IsDocument bytes members → IsDocument bytes other → members ≡ other
 same_members bytes members other a b = same_Some members other (sym a.text ∙ b.text)
 
 pub document_memory : (bytes : List ℕ) (fault : TopoFault) (tree : Tree) → IsNoDocument bytes fault → IsTopologyFile bytes tree → fault ≡ faults.Memory

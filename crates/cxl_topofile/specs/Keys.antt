@@ -27,6 +27,11 @@ text_of keys.Ram = codes "ram"
 text_of keys.Pmem = codes "pmem"
 text_of keys.Unknown = []
 
+-- a key as a message names it
+abbrev pub shown_key : Key → List ℕ
+shown_key keys.Unknown = codes "unknown"
+shown_key key = text_of key
+
 -- whether a text is one of these keys
 abbrev pub is_key : List ℕ → List Key → Bool
 is_key text keys = list_any (λ key. bytes_eq (text_of key) text) keys

@@ -1,5 +1,5 @@
 ghost use Rattle.std.specs.Prelude.{◌≡◌};
-ghost use Rattle.cxl_topofile.specs.Keys.{text_of, is_key};
+ghost use Rattle.cxl_topofile.specs.Keys.{text_of, shown_key, is_key};
 
 /// A key of a topology file, or one that no table of it has.
 #[derive(Clone, Copy, Debug, PartialEq, Eq)]
@@ -53,7 +53,9 @@ impl Key {
     }
 
     /// The key as a message names it.
-    pub(crate) fn shown(self) -> &'static str {
+    pub(crate) fn shown(self) -> &'static str
+        ensures { result.now ≡ shown_key self }
+    {
         match self {
             Key::Unknown => "unknown",
             key => key.text(),

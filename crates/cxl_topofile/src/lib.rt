@@ -6,6 +6,7 @@ mod draft;
 mod fault;
 mod group;
 mod key;
+mod laws;
 mod read;
 mod sections;
 mod stated;
@@ -13,6 +14,7 @@ mod value;
 
 pub use fault::{Place, Section, TopoFault};
 pub use key::Key;
+pub use laws::one_topology_reading;
 pub use read::read_topo;
 
 #[cfg(test)]

@@ -17,8 +17,8 @@ use crate::route::Route;
 use cxl_deal::{Weave, deal, gather, region_fills_slots};
 use cxl_image::Image;
 use cxl_model::{
-    FixedList, Found, Memory, chain_is_the_dealing, chains_have_one_end, routes_stay, slots_are_endpoints,
-    weave_of, weaves_fill_their_regions,
+    FixedList, Found, Memory, chain_is_the_dealing, chains_have_one_end, routes_stay,
+    slots_are_endpoints, weave_of, weaves_fill_their_regions,
 };
 use cxl_topo::Topo;
 use cxl_window::Window;

@@ -1,6 +1,7 @@
 -- What the program says of itself, and to words that are no command.
 use Rattle.std.specs.Prelude.{codes}
-use Rattle.cxl_shell.specs.Outcome.{Outcome, one_piece, line}
+use Rattle.cxl_reply.specs.Words.{line}
+use Rattle.cxl_shell.specs.Outcome.{Outcome, one_piece}
 use Rattle.cxl_shell.specs.declared.commands.help.TheConstants.{HELP, VERSION}
 use Rattle.cxl_shell.specs.declared.status.Status.TheVariants.{Done, Usage}
 

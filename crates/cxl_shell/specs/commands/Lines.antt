@@ -1,26 +1,18 @@
 -- The text of `list`: a line for each record of a table, in table order.
-use Rattle.std.specs.Prelude.{ℕ, ◌+◌, ◌*◌, ◌^◌, Bool, if◌then◌else◌, None, List, [], ◌∷◌, ◌++◌, length, codes, decimal}
+use Rattle.std.specs.Prelude.{ℕ, ◌+◌, Bool, if◌then◌else◌, None, List, [], ◌∷◌, ◌++◌, length, codes, decimal}
 use Rattle.std.specs.List.{filter_map, flat_map}
 use Rattle.cxl_cedt.specs.declared.chbs.Chbs as chbs
 use Rattle.cxl_cedt.specs.declared.cedt.Record.{Record}
 use Rattle.cxl_cedt.specs.declared.cedt.Record.TheVariants.{Chbs, Cfmws, Cxims, Other}
 use Rattle.cxl_cedt.specs.Fields.{CximsFields, OtherFields}
-use Rattle.cxl_io.specs.Printed.{hex_of, padded_hex}
+use Rattle.cxl_io.specs.Printed.{padded_hex}
 use Rattle.cxl_window.specs.Fields.{WindowFields}
 use Rattle.cxl_window.specs.Windows.{cfmws_in, window_of}
 use Rattle.cxl_window.specs.declared.window.Verdict.{Verdict}
 use Rattle.cxl_window.specs.declared.window.Verdict.TheVariants.{Usable, Align, Size, TooHigh, Overlap, Target, Repeat, Maps}
-use Rattle.cxl_shell.specs.Outcome.{line}
+use Rattle.cxl_reply.specs.Words.{line, hex_text, gran_text}
 
 -- ---- parts of lines
-
--- an address or a length
-abbrev pub hex_text : ℕ → List ℕ
-hex_text n = codes "0x" ++ hex_of n
-
--- the granularity of a code, in bytes
-abbrev pub gran_text : ℕ → List ℕ
-gran_text code = decimal (256 * 2 ^ code)
 
 -- UIDs, each behind a comma
 abbrev pub more_targets_text : List ℕ → List ℕ

@@ -6,7 +6,8 @@ use Rattle.cxl_window.specs.Fields.{WindowFields}
 use Rattle.cxl_window.specs.Position.{position_of}
 use Rattle.cxl_window.specs.Windows.{windows_of}
 use Rattle.cxl_window.specs.declared.window.Verdict.TheVariants.{Usable}
-use Rattle.cxl_shell.specs.Outcome.{Outcome, one_piece, line}
+use Rattle.cxl_reply.specs.Words.{line}
+use Rattle.cxl_shell.specs.Outcome.{Outcome, one_piece}
 use Rattle.cxl_shell.specs.declared.commands.selection.Selection.{Selection}
 use Rattle.cxl_shell.specs.declared.status.Status.TheVariants.{Done, Refused}
 use Rattle.cxl_shell.specs.inputs.Table.{IsTableOf}

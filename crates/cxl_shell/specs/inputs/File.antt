@@ -2,7 +2,8 @@
 use Rattle.std.specs.Prelude.{◌≡◌, ℕ, List, [], ◌∷◌, ◌++◌, take, codes}
 use Rattle.cxl_enc.specs.Faults.{Rose}
 use Rattle.cxl_io.specs.Fetch.{FetchState, AsksFor, IsTooLarge}
-use Rattle.cxl_shell.specs.Outcome.{Outcome, one_piece, line}
+use Rattle.cxl_reply.specs.Words.{line}
+use Rattle.cxl_shell.specs.Outcome.{Outcome, one_piece}
 use Rattle.cxl_shell.specs.declared.status.Status.TheVariants.{FetchFault, TooLarge}
 
 -- the file was not read; its name stands as it was given

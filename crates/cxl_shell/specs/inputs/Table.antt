@@ -7,7 +7,8 @@ use Rattle.cxl_cedt.specs.declared.fault.CedtFault.TheVariants.{Short, Signature
 use Rattle.cxl_enc.specs.Limits.{file_limit}
 use Rattle.cxl_io.specs.Fetch.{FetchState, AsksFor}
 use Rattle.cxl_io.specs.Told.{Told, AreTold}
-use Rattle.cxl_shell.specs.Outcome.{Outcome, one_piece, line}
+use Rattle.cxl_reply.specs.Words.{line}
+use Rattle.cxl_shell.specs.Outcome.{Outcome, one_piece}
 use Rattle.cxl_shell.specs.declared.status.Status.TheVariants.{BadTable}
 use Rattle.cxl_shell.specs.inputs.File.{HasNoBytes}
 

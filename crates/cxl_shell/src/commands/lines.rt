@@ -1,11 +1,11 @@
-ghost use Rattle.std.specs.Prelude.{◌≡◌, ◌++◌, ◌*◌, ◌^◌, ◌<◌, ◌≤◌, IsSome, OnOk, length, codes, decimal};
+ghost use Rattle.std.specs.Prelude.{◌≡◌, ◌++◌, ◌<◌, IsSome, OnOk, length, codes, decimal};
 ghost use Rattle.cxl_shell.specs.commands.LinePlaces.{line_at};
-ghost use Rattle.cxl_shell.specs.commands.Lines.{hex_text, gran_text, more_targets_text, targets_text, more_maps_text, maps_text, verdict_text, bridge_text, registers_text, range_text, interleave_text, restrict_text, policy_text, use_text, chbs_line, window_line, cxims_line, other_line};
+ghost use Rattle.cxl_shell.specs.commands.Lines.{more_targets_text, targets_text, more_maps_text, maps_text, verdict_text, bridge_text, registers_text, range_text, interleave_text, restrict_text, policy_text, use_text, chbs_line, window_line, cxims_line, other_line};
 ghost use Rattle.cxl_window.specs.Windows.{cfmws_in};
 
 use cxl_cedt::{Chbs, Cxims, Other, Record};
-use cxl_enc::gran_of;
 use cxl_io::{Memory, put_hex, put_number};
+use cxl_reply::{put_address, put_gran};
 use cxl_window::{Verdict, Window};
 
 /// Appends the line of a record, before which so many of the windows stand.
@@ -50,9 +50,9 @@ fn put_registers(out: &mut Vec<u8>, chbs: &Chbs) -> Result<(), Memory>
     ensures { OnOk result (out.new.items ≡ out.old.items ++ registers_text chbs.now) }
 {
     out.extend_from_slice(b" base ")?;
-    put_address(out, chbs.base)?;
+    put_address(chbs.base, out)?;
     out.extend_from_slice(b" length ")?;
-    put_address(out, chbs.length)
+    put_address(chbs.length, out)
 }
 
 /// Appends the line of a window whose record has this throttling group.
@@ -74,9 +74,9 @@ fn put_range(out: &mut Vec<u8>, window: &Window) -> Result<(), Memory>
     out.extend_from_slice(b"window ")?;
     put_number(out, u64::from(window.index()))?;
     out.extend_from_slice(b" base ")?;
-    put_address(out, window.base())?;
+    put_address(window.base(), out)?;
     out.extend_from_slice(b" size ")?;
-    put_address(out, window.size())
+    put_address(window.size(), out)
 }
 
 #[tactic(auto, unfolding(crate::specs::commands::Lines::interleave_text))]
@@ -86,7 +86,7 @@ fn put_interleave(out: &mut Vec<u8>, window: &Window) -> Result<(), Memory>
     out.extend_from_slice(b" ways ")?;
     put_number(out, u64::from(window.ways()))?;
     out.extend_from_slice(b" gran ")?;
-    put_gran(out, window.gran())?;
+    put_gran(window.gran(), out)?;
     out.push(b' ')?;
     out.extend_from_slice(if window.xor() { b"xor" } else { b"modulo" })?;
     Ok(())
@@ -154,7 +154,7 @@ fn put_cxims_line(out: &mut Vec<u8>, maps: &Cxims) -> Result<(), Memory>
     ensures { OnOk result (out.new.items ≡ out.old.items ++ cxims_line maps.now) }
 {
     out.extend_from_slice(b"cxims gran ")?;
-    put_gran(out, maps.gran())?;
+    put_gran(maps.gran(), out)?;
     out.extend_from_slice(b" maps ")?;
     put_maps(out, maps.maps())?;
     out.push(b'\n')?;
@@ -203,7 +203,7 @@ fn put_maps(out: &mut Vec<u8>, maps: &[u64]) -> Result<(), Memory>
     match maps {
         [] => put_text(out, b"none"),
         [first, others @ ..] => {
-            put_address(out, *first)?;
+            put_address(*first, out)?;
             put_more_maps(out, others)
         }
     }
@@ -215,23 +215,7 @@ fn put_more_maps(out: &mut Vec<u8>, maps: &[u64]) -> Result<(), Memory>
 {
     for map in maps {
         out.push(b',')?;
-        put_address(out, *map)?;
+        put_address(*map, out)?;
     }
     Ok(())
-}
-
-/// Appends an address, a length or a map in hexadecimal digits.
-fn put_address(out: &mut Vec<u8>, n: u64) -> Result<(), Memory>
-    ensures { OnOk result (out.new.items ≡ out.old.items ++ hex_text n) }
-{
-    out.extend_from_slice(b"0x")?;
-    put_hex(out, n, 1)
-}
-
-/// Appends the granularity of a code, in bytes.
-fn put_gran(out: &mut Vec<u8>, code: u8) -> Result<(), Memory>
-    requires { code ≤ 6 }
-    ensures { OnOk result (out.new.items ≡ out.old.items ++ gran_text code) }
-{
-    put_number(out, u64::from(gran_of(code).unwrap()))
 }

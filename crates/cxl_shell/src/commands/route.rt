@@ -83,10 +83,8 @@ pub fn route_statuses()
         → status ≡ Status.Done
         → (text : List ℕ) × IsRouteLine (old.files.told file) h text × Takes old.out new.out text) }
 
-    // Status 8 comes of `route` alone, and exactly where no window of the table that can be used holds the
-    // address, unless the run stops before.
-    ensures refuses_routes { EachRun (λ form old new status. status ≡ Status.Refused
-        → (file : List ℕ) × (h : ℕ) × (form ≡ Route file h)) }
+    // Status 8 comes exactly where no window of the table that can be used holds the address, unless the run
+    // stops before.
     ensures refused { EachRun (λ form old new status. (file : List ℕ) (h : ℕ) → form ≡ Route file h
         → status ≡ Status.Refused
         → (table : CedtFields) × IsTableOf (old.files.told file) table

@@ -11,6 +11,7 @@ ghost use Rattle.cxl_shell.specs.inputs.File.{HasNoBytes, AsksForSome, HasFailed
 use crate::outcome::Outcome;
 use crate::status::Status;
 use crate::stop::Stop;
+use cxl_cedt::one_reading;
 use cxl_io::{Fetch, FetchFault, Memory};
 use std::alloc::Global;
 
@@ -75,4 +76,6 @@ pub fn file_statuses()
     ensures only_too_large { EachRun (λ form old new status. (file bytes : List ℕ) (others : List (List ℕ))
         → own_files form ≡ file ∷ others → old.files.told file ≡ Bytes bytes → file_limit < length bytes
         → (status ≡ Status.TooLarge) ⊎ IsStopped status old new) }
-{}
+{
+    one_reading();
+}

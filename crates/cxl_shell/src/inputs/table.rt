@@ -1,17 +1,15 @@
 ghost use Rattle.std.specs.Prelude.{◌≡◌, ◌≢◌, ℕ, ◌≤◌, ◌⊎◌, Some, List, [], ◌∷◌, length, IfOk, IfErr, OnOk};
-ghost use Rattle.cxl_cedt.specs.CedtFields.{CedtFields};
 ghost use Rattle.cxl_cedt.specs.Table.{HasTable};
 ghost use Rattle.cxl_cedt.specs.declared.fault.CedtFault.{CedtFault};
 ghost use Rattle.cxl_enc.specs.Limits.{file_limit};
 ghost use Rattle.cxl_io.specs.Fetch.{AsksFor};
 ghost use Rattle.cxl_io.specs.Told.{Bytes};
-ghost use Rattle.cxl_shell.specs.Answers.{IsStop, IsTableAnswer};
-ghost use Rattle.cxl_shell.specs.Ends.{IsWritten, IsStopped};
+ghost use Rattle.cxl_shell.specs.Answers.{IsStop};
+ghost use Rattle.cxl_shell.specs.Ends.{IsStopped};
 ghost use Rattle.cxl_shell.specs.Form.{table_file};
-ghost use Rattle.cxl_shell.specs.Outcome.{Outcome};
 ghost use Rattle.cxl_shell.specs.Run.{EachRun};
 ghost use Rattle.cxl_shell.specs.inputs.File.{AsksForSome};
-ghost use Rattle.cxl_shell.specs.inputs.Table.{IsReading, IsFaulty, IsTableOf, IsFaultyFile, HasNoTable, bad_table};
+ghost use Rattle.cxl_shell.specs.inputs.Table.{IsFaulty, IsTableOf, IsFaultyFile, HasNoTable, bad_table};
 
 use crate::inputs::file::fetch_file;
 use crate::outcome::Outcome;
@@ -65,12 +63,6 @@ pub fn table_statuses()
         → ((fault : CedtFault) × (status ≡ Status.BadTable fault)) ⊎ IsStopped status old new) }
     // Bytes with a fault spell no table.
     ensures not_both { (bytes : List ℕ) (fault : CedtFault) → IsFaulty bytes fault → ¬ (HasTable bytes) }
-
-    // Where the file has a table, an outcome by it is written, unless the run stops before.
-    ensures answered { EachRun (λ form old new status. (file bytes : List ℕ) (table : CedtFields)
-        → table_file form ≡ Some file → old.files.told file ≡ Bytes bytes → IsReading bytes table
-        → ((outcome : Outcome) × IsTableAnswer form table outcome × IsWritten outcome status old.out new.out)
-        ⊎ IsStopped status old new) }
 
     // Want of memory is status 9 alone.
     ensures own_memory { EachRun (λ form old new status. status ≢ Status.BadTable CedtFault.Memory) }

@@ -4,8 +4,8 @@ use Rattle.cxl_shell.specs.Run.{IsRun}
 use Rattle.cxl_shell.specs.commands.List.{listed}
 use Rattle.cxl_shell.specs.declared.status.Status.TheVariants.{Done, Memory}
 use Rattle.cxl_shell.proofs.PerCommand.{list_written, memory_in_list}
-use Rattle.cxl_shell.proofs.Readings.{by_bytes, answer_comes}
-use Rattle.cxl_shell.proofs.Runs.{came_at, came_to, memory_left}
+use Rattle.cxl_shell.proofs.Readings.{one_table, knows_table, table_answer_comes}
+use Rattle.cxl_shell.proofs.Runs.{came_to, memory_left}
 use Rattle.cxl_shell.proofs.commands.list.list_statuses.Goals as goal
 
 pub returns-clause-list : goal.returns-clause-list
@@ -14,8 +14,7 @@ returns-clause-list c = λ form old new status run file is done.
 
 pub returns-clause-listed : goal.returns-clause-listed
 returns-clause-listed c = λ form old new status run file bytes table is there reading.
-    let by = by_bytes old new (Listing file) status (came_at old new (Listing file) status (subst (λ f. IsRun f old new status) is run)) file bytes refl there in
-    answer_comes old new c.one_reading.ensures.one_table c.one_reading.ensures.one_fault c.one_reading.ensures.not_both (Listing file) bytes status by table (listed table.records) reading refl
+    table_answer_comes old new status (one_table c.one_reading.ensures.one_table c.one_reading.ensures.one_fault c.one_reading.ensures.not_both) (Listing file) (subst (λ f. IsRun f old new status) is run) refl table (listed table.records) (knows_table old (Listing file) file bytes table refl there reading) refl
 
 pub returns-clause-memory : goal.returns-clause-memory
 returns-clause-memory c = λ form old new status run file is out.

@@ -1,0 +1,25 @@
+-- What the answers of a session take from other subjects, in the words in which they speak of it: the plan of a request, the
+-- endpoints that are picked, poison lists, extents and spreads.
+use Rattle.std.specs.Prelude.{◌≡◌, ℕ, List, Result}
+use Rattle.cxl_model.specs.declared.plan.Plan.{Plan}
+use Rattle.cxl_model.specs.declared.plan.PlanFault.{PlanFault}
+use Rattle.cxl_model.specs.declared.request.Request.{Request}
+use Rattle.cxl_model.specs.System.{System}
+use Rattle.cxl_session.specs.Planning.{planned}
+use Rattle.cxl_session.specs.Picking.{Want, PickRefusal, picked}
+use Rattle.cxl_session.specs.Poisoning.{Payload, payload_of}
+pub use Rattle.cxl_session.specs.Picking.{Want, PickRefusal, NoWays, NoSize, NoSet}
+pub use Rattle.cxl_session.specs.Poisoning.{Payload, Tells, TooShort, TooFew, ArePieces, Pairwise}
+pub use Rattle.cxl_session.specs.Reaching.{extents_of, spread_of}
+
+-- a request over an image comes to this plan, or to this fault
+abbrev pub Plans : System → Request → Result Plan PlanFault → Type 0
+Plans s request answer = answer ≡ planned s request
+
+-- these endpoints are picked for a want, in rising order, or none for this cause
+abbrev pub Picks : System → Want → Result (List ℕ) PickRefusal → Type 0
+Picks s want answer = answer ≡ picked s want
+
+-- the bytes of a poison list say this
+abbrev pub ReadsPoison : List ℕ → Payload → Type 0
+ReadsPoison bytes payload = payload ≡ payload_of bytes

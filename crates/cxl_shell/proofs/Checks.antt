@@ -1,0 +1,55 @@
+-- How a run of `check` ends.
+use Rattle.std.proofs.Common.{◌≡◌, Some, List, ℕ, [], ◌∷◌, Result, Ok, Err, IfOk, refl, subst}
+use Rattle.cxl_cedt.specs.CedtFields.{CedtFields}
+use Rattle.cxl_enc.specs.declared.faults.Memory.{Memory as NoMemory}
+use Rattle.cxl_io.specs.Fetch.{AsksFor}
+use Rattle.cxl_io.specs.Sink.{SinkState}
+use Rattle.cxl_model.specs.Accepted.{IsFirstBreach}
+use Rattle.cxl_model.specs.System.{System, system_of, bridge_uids}
+use Rattle.cxl_regs.specs.Registers.{Registers}
+use Rattle.cxl_topo.specs.Tree.{Tree}
+use Rattle.cxl_window.specs.Fields.{WindowFields}
+use Rattle.cxl_window.specs.Windows.{windows_of}
+use Rattle.cxl_shell.specs.Answers.{AnswersFromFiles, IsStop, stop_of}
+use Rattle.cxl_shell.specs.Ends.{Finishes}
+use Rattle.cxl_shell.specs.Form.{Check}
+use Rattle.cxl_shell.specs.Outcome.{Outcome}
+use Rattle.cxl_shell.specs.Outside.{Outside}
+use Rattle.cxl_shell.specs.Run.{IsRun, runs_out, before, behind}
+use Rattle.cxl_shell.specs.commands.Check.{IsChecked, breach_told, broken}
+use Rattle.cxl_shell.specs.declared.status.Status.{Status}
+use Rattle.cxl_shell.specs.declared.stop.Stop.{Stop}
+use Rattle.cxl_shell.specs.declared.stop.Stop.TheVariants as stop
+use Rattle.cxl_shell.specs.inner.Reports.{IsReported, ended, cut, unmade}
+use Rattle.cxl_shell.specs.inputs.File.{AsksForSome}
+use Rattle.cxl_shell.specs.inputs.Host.{host_of, AreRead, HasNoHost, no_host, by_host}
+use Rattle.cxl_shell.proofs.Stops.{stop-weaker, run-ended, run-finished}
+
+-- the breach ends the command, or there was no memory to say so
+pub breach-stops : (s : System) (rule node decoder : ℕ) (made : Result Outcome NoMemory) → IsFirstBreach s rule node decoder → IfOk made (λ outcome. outcome ≡ broken s.nodes rule node decoder) → IsStop (IsChecked s) (Unit {0}) (stop_of made)
+breach-stops s rule node decoder (Ok outcome) first is = breach_told rule node decoder first is
+breach-stops s rule node decoder (Err e) first is = tt
+
+-- what stopped the check is written
+pub reported-stopped : (s : System) (reason : Stop) (status : Status) (old new : SinkState) → IsStop (IsChecked s) (Unit {0}) reason → Finishes (Err reason) status old new → IsReported s status old new
+reported-stopped s (stop.Outcome outcome) status old new is finishes = ended outcome is finishes
+reported-stopped s stop.Memory status old new is finishes = unmade finishes.0 finishes.1
+
+module _ (cedt topo image : List ℕ) (old new : Outside) (status : Status) where
+  reported : (table : CedtFields) (tree : Tree) (blocks : List Registers) → AreRead old.files.told cedt topo image table tree blocks → AsksFor old.files new.files (cedt ∷ topo ∷ image ∷ []) → IsReported (host_of table tree blocks) status old.out new.out → IsRun (Check cedt topo image) old new status
+  reported table tree blocks of asks (ended outcome is ends) =
+      run-ended (Check cedt topo image) old new status outcome (by_host table tree blocks of (asks, is)) ends
+  reported table tree blocks of asks (cut outcome is e lines) = runs_out refl e (behind outcome (by_host table tree blocks of (asks, is)) lines)
+  reported table tree blocks of asks (unmade e none) = runs_out refl e (before (record { count = 3; asks = asks }) none)
+
+  -- the check of a host that was read
+  pub run-reported : (table : CedtFields) (tree : Tree) (blocks : List Registers) (windows : List WindowFields) → AreRead old.files.told cedt topo image table tree blocks → windows ≡ windows_of table.records (Some (bridge_uids tree.nodes)) → AsksFor old.files new.files (cedt ∷ topo ∷ image ∷ []) → IsReported (system_of blocks tree windows) status old.out new.out → IsRun (Check cedt topo image) old new status
+  run-reported table tree blocks windows of made asks is =
+      reported table tree blocks of asks (subst (λ ws. IsReported (system_of blocks tree ws) status old.out new.out) made is)
+
+  -- a host without a reading
+  pub run-unread : (reason : Stop) → IsStop (HasNoHost cedt topo image old.files new.files) (AsksForSome (cedt ∷ topo ∷ image ∷ []) old.files new.files) reason → Finishes (Err reason) status old.out new.out → IsRun (Check cedt topo image) old new status
+  run-unread reason stops finishes =
+      run-finished (Check cedt topo image) old new status refl (Err reason)
+      (stop-weaker (HasNoHost cedt topo image old.files new.files) (AnswersFromFiles (Check cedt topo image) old.files new.files) (AsksForSome (cedt ∷ topo ∷ image ∷ []) old.files new.files) (AsksForSome (cedt ∷ topo ∷ image ∷ []) old.files new.files) reason (λ o none. no_host none) (λ out. out) stops)
+      finishes
