@@ -341,6 +341,9 @@ class BadInput(unittest.TestCase):
         self.assertIn(taken + "the kernel shows no decoder of it.", report)
         _, _, nodes = self.report_of(*one)
         self.assertEqual(nodes["hb16"]["decoders"], 1, "it is committed")
+        other = [removed(f"{HB16}/dport0"), leading(f"{HB16}/dport7", "../../../../pci0000:10/0000:10:00.0")]
+        _, _, nodes = self.report_of(*one, *idle, *other, holding(f"{HB16}/decoder2.0/target_list", "7"))
+        self.assertEqual((nodes["hb16"].get("passthrough"), nodes["mem0"]["port"]), (True, 7))
 
     def test_what_could_not_be_placed(self):
         decoders = [removed(f"{DEVICES}/decoder3.{i}") for i in range(4)]

@@ -139,6 +139,13 @@ class Machines(unittest.TestCase):
         with open(os.path.join(machines.TOP, "examples", "x4-pass-switch.tar.gz"), "rb") as example:
             self.assertEqual(machines.items_of(example.read()), machines.items_of(self.copies["x4-pass-switch"]))
 
+    def test_the_guide_shows_what_is_made(self):
+        with open(os.path.join(machines.TOP, "docs", "GUIDE.md"), encoding="utf-8") as guide:
+            text, made = guide.read(), self.files["x4-pass-switch"]
+        topology, report = made["topo.toml"].decode().splitlines(), made["report.txt"].decode().splitlines()
+        self.assertIn("\n$ head -22 host/topo.toml\n" + "\n".join(topology[:22]) + "\n$ tail -3", text)
+        self.assertIn("\n$ tail -3 host/report.txt\n" + "\n".join(report[-3:]) + "\n```", text)
+
     def test_python_3_9_alone(self):
         with open(machines.PROGRAM, encoding="ascii") as program:
             tree = ast.parse(program.read(), feature_version=(3, 9))

@@ -1,7 +1,7 @@
 """The files made of the six machines, given to cxlplan: its answers are what `cxl list` shows of the regions.
 
-The program is crates/cxlplan/out/cxlplan, which ./cxlplan at the top builds; CXLPLAN names another. Where there is
-none, these tests are skipped."""
+The program is the one that the variable CXLPLAN names, or else crates/cxlplan/out/cxlplan, which ./cxlplan at the top
+builds. Where the second is not there, these tests are skipped."""
 
 import os
 import subprocess
@@ -14,7 +14,8 @@ import machines
 CHECK_STANDS = False
 
 CAPTURE = machines.load_capture()
-CXLPLAN = os.environ.get("CXLPLAN", os.path.join(machines.TOP, "crates", "cxlplan", "out", "cxlplan"))
+BUILT = os.path.join(machines.TOP, "crates", "cxlplan", "out", "cxlplan")
+CXLPLAN = os.environ.get("CXLPLAN", BUILT)
 
 
 def cxlplan(*words):
@@ -22,7 +23,7 @@ def cxlplan(*words):
     return ran.returncode, ran.stdout.decode()
 
 
-@unittest.skipUnless(os.access(CXLPLAN, os.X_OK), f"{CXLPLAN} is not built; ./cxlplan --version builds it")
+@unittest.skipUnless(os.access(BUILT, os.X_OK) or "CXLPLAN" in os.environ, "./cxlplan --version builds the program")
 class Program(unittest.TestCase):
     def setUp(self):
         place = tempfile.TemporaryDirectory()
