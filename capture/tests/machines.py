@@ -164,8 +164,17 @@ def listed_nodes(machine):
     return nodes
 
 
+def slot_of(position, window_ways, ways):
+    """The first chunk of a region that goes to the device at a position of Linux. Below a window of three ways Linux
+    counts the first device of each bridge, then the second; but a bridge deals chunk s to entry s mod 2 of its list."""
+    if window_ways != 3:
+        return position
+    bridge, entry = position % 3, position // 3
+    return next(s for s in range(ways) if s % 3 == bridge and s % (ways // 3) == entry)
+
+
 def listed_regions(machine):
-    """The regions that `cxl list` shows, by base: their numbers, and their memory devices by position."""
+    """The regions that `cxl list` shows, by base: their numbers, and their memory devices by slot."""
     root = json.loads(data_of(machine, "cxl-list.json"))[0]
     decoders = {}
 
@@ -182,10 +191,11 @@ def listed_regions(machine):
     for window, decoder in enumerate(root["decoders:root0"]):
         targets = {target["id"]: target["position"] for target in decoder["targets"]}
         for region in decoder.get(f"regions:{decoder['decoder']}", []):
-            shares = sorted(region["mappings"], key=lambda mapping: mapping["position"])
+            ways = region["interleave_ways"]
+            shares = sorted(region["mappings"], key=lambda share: slot_of(share["position"], len(targets), ways))
             regions.append({
                 "window": window, "targets": targets, "base": region["resource"], "size": region["size"],
-                "ways": region["interleave_ways"], "gran": region["interleave_granularity"],
+                "ways": ways, "gran": region["interleave_granularity"],
                 "kind": decoders[shares[0]["decoder"]]["mode"],
                 "slots": [(share["memdev"], decoders[share["decoder"]]["dpa_resource"]) for share in shares]})
     return sorted(regions, key=lambda region: region["base"])

@@ -272,15 +272,19 @@ class BadInput(unittest.TestCase):
         with mock.patch.object(CAPTURE, "MOST_ITEMS", 200), mock.patch.object(CAPTURE, "MOST_NAME", 2000):
             self.assert_refused(["--from", self.archive(*members), self.made], "more than 200 files and folders")
 
-    def test_a_sparse_file(self):
-        """Old GNU tar writes a file of holes as a few bytes and a large size."""
-        member = tarfile.TarInfo("sys/holes")
-        head = bytearray(member.tobuf(tarfile.GNU_FORMAT))
-        head[156:157] = b"S"
-        head[483:495] = b"%011o\0" % (1 << 32)
-        head[148:156] = b" " * 8
-        head[148:156] = b"%06o\0 " % sum(head)
-        self.assert_packed(bytes(head) + bytes(1024), "sys/holes: no file, folder or symbolic link")
+    def test_headers_that_no_tar_writes_today(self):
+        """A file of holes, which a few bytes and a large size stand for; and a negative size, which can send a reader
+        back to the same header for ever."""
+        for at, field, wanted in [
+            (156, b"S", "sys/file: no file, folder or symbolic link"),
+            (124, b"\xff" * 11 + b"\0", "sys/file: more than 1048576 bytes, or 1000 in its name"),
+        ]:
+            head = bytearray(tarfile.TarInfo("sys/file").tobuf(tarfile.GNU_FORMAT))
+            head[483:495] = b"%011o\0" % (1 << 32)  # the size with its holes
+            head[at:at + len(field)] = field
+            head[148:156] = b" " * 8
+            head[148:156] = b"%06o\0 " % sum(head)
+            self.assert_packed(bytes(head) + bytes(1024), wanted)
 
     def assert_packed(self, data, wanted):
         file = os.path.join(self.place, "packed.tar.gz")
