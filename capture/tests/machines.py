@@ -30,7 +30,7 @@ def load_capture():
 
 
 def data_of(machine, file):
-    with open(os.path.join(HERE, "machines", machine, file), "rb") as opened:
+    with open(os.path.join(HERE, "data", machine, file), "rb") as opened:
         return opened.read()
 
 
