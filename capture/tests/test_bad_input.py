@@ -207,7 +207,8 @@ class BadInput(unittest.TestCase):
         self.assertEqual(run(["--from", host, taken]), (0, ""), "an empty folder may be there")
         self.assert_refused(["--from", host, taken], f"{taken}: there already")
         self.assert_refused(["--from", host, os.path.join(taken, "topo.toml")], "topo.toml: there already")
-        self.assert_refused(["--from", host, os.path.join(self.place, "none", "made")], "No such file or directory")
+        none = os.path.join(self.place, "none")
+        self.assert_refused(["--from", host, os.path.join(none, "made")], f"there already, or no folder {none}")
         self.assertEqual(sorted(os.listdir(taken)), ["image.bin", "report.txt", "table.cedt", "topo.toml"])
         with self.assertRaises(CAPTURE.BadInput):
             CAPTURE.write(os.path.join(taken, "topo.toml"), {"": b""})

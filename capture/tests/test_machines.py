@@ -6,6 +6,7 @@ import re
 import sys
 import tempfile
 import unittest
+from unittest import mock
 
 import machines
 
@@ -134,6 +135,19 @@ class Machines(unittest.TestCase):
             for name, data in self.files["odd-ids"].items():
                 with open(os.path.join(folder, "made", name), "rb") as made:
                     self.assertEqual(made.read(), data)
+
+    def test_the_forms_on_the_machine_itself(self):
+        with tempfile.TemporaryDirectory() as folder:
+            host = CAPTURE.Folder(machines.lay(machines.items_of(self.copies["x6"]), os.path.join(folder, "host")))
+            made, copy = os.path.join(folder, "made"), os.path.join(folder, "copy.tar.gz")
+            with mock.patch.object(CAPTURE, "Folder", lambda root: {"/": host}[root]):
+                self.assertEqual((CAPTURE.main([made]), CAPTURE.main(["--copy", copy])), (0, 0))
+            for name, data in self.files["x6"].items():
+                with open(os.path.join(made, name), "rb") as file:
+                    self.assertEqual(file.read(), data)
+            with open(copy, "rb") as file:
+                self.assertEqual(file.read(), self.copies["x6"])
+            self.assertEqual(sorted(os.listdir(folder)), ["copy.tar.gz", "host", "made"])
 
     def test_the_example_is_a_copy(self):
         with open(os.path.join(machines.TOP, "examples", "x4-pass-switch.tar.gz"), "rb") as example:
