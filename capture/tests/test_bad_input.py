@@ -48,7 +48,7 @@ def both(*spoils):
 SPOILED = {
     "a kernel without CXL": [
         (removed(DEVICES), "/sys/bus/cxl/devices: not there; this kernel shows no CXL"),
-        (removed(f"{DEVICES}/root0"), "/sys/bus/cxl/devices: 0 roots and 4 ports; there may be 1 and 1024"),
+        (removed(f"{DEVICES}/root0"), "/sys/bus/cxl/devices: 0 roots, not 1, or more than 1024 ports"),
     ],
     "the table": [
         (removed(TABLE), "/sys/firmware/acpi/tables/CEDT: No such file or directory"),
@@ -66,7 +66,7 @@ SPOILED = {
         (removed(f"{DEVICES}/endpoint3"), f"/sys/bus/cxl/devices/decoder3.0: {BELOW}.0 lies in no port's folder"),
         (removed(f"{DEVICES}/mem0"), f"/{ENDPOINT}/uport: /{MEM0} is no memory device"),
         (removed(f"{DEVICES}/decoder3.1"), f"/{ENDPOINT}: decoders are missing or elsewhere; there are decoder3.0, "),
-        (removed(f"{DEVICES}/decoder3.3"), f"/{ENDPOINT}: 1 of 3 decoders committed; a block has 1, 2, 4, 6, 8, 10"),
+        (removed(f"{DEVICES}/decoder3.3"), f"/{ENDPOINT}: 1 of 3 decoders committed; known are [1, 2, 4, 6, 8, 10]"),
         (removed(f"{ENDPOINT}/decoder3.3/size"), f"{BELOW}.3/size: No such file or directory"),
         (removed(f"{HB16}/decoder2.0/target_list"), f"/{HB16}/decoder2.0/target_list: No such file or directory"),
         (removed(f"{ENDPOINT}/decoders_committed"), f"/{ENDPOINT}/decoders_committed: No such file or directory"),
@@ -114,7 +114,7 @@ SPOILED = {
         (both(holding(f"{HB16}/decoder2.0/target_list", ",".join(map(str, range(12)))),
               holding(f"{HB16}/decoder2.0/interleave_ways", "12")),
          "decoder2.0/target_list: [0, 1, 2, 3, 4, 5, 6, 7, 8, 9, 10, 11] is more than the register holds: 8 numbers"),
-        (holding(f"{ENDPOINT}/decoders_committed", "5"), f"/{ENDPOINT}: 5 of 4 decoders committed; a block has 1, "),
+        (holding(f"{ENDPOINT}/decoders_committed", "5"), f"/{ENDPOINT}: 5 of 4 decoders committed; known are ["),
         (both(holding(f"{ENDPOINT}/decoders_committed", "2"), *[
             holding(f"{ENDPOINT}/decoder3.1/{name}", value) for name, value in {
                 "start": "0x130000000", "size": "0x10000000", "dpa_resource": "0x0", "dpa_size": "0x10000000",
@@ -261,7 +261,6 @@ class BadInput(unittest.TestCase):
             ([("sys/large", tarfile.REGTYPE, bytes(1048577))], "sys/large: more than 1048576 bytes, or 1000 in its na"),
             ([("sys/" + "d/" * 500, tarfile.DIRTYPE, "")], "more than 1048576 bytes, or 1000 in its name"),
             ([("sys/\x1b[2J\n\u00fc", tarfile.FIFOTYPE, "")], "sys/?[2J??: no file, folder or symbolic link"),
-            ([(f"sys/{i}", tarfile.REGTYPE, bytes(1 << 20)) for i in range(64)], "unpacks to more than 67108864 bytes"),
             ([], "/sys/bus/cxl/devices: not there"),
         ]:
             with self.subTest(wanted):
@@ -270,6 +269,9 @@ class BadInput(unittest.TestCase):
 
     def test_items_are_bounded(self):
         members = [("sys/" + "/".join(str(i) for i in range(300)) + f"/{n}", tarfile.DIRTYPE, "") for n in range(20)]
+        file = self.archive(*[(f"sys/{i}", tarfile.REGTYPE, bytes(1 << 20)) for i in range(9)])
+        with mock.patch.object(CAPTURE, "MOST_UNPACKED", 8 << 20):
+            self.assert_refused(["--from", file, self.made], "unpacks to more than 8388608 bytes")
         with mock.patch.object(CAPTURE, "MOST_ITEMS", 200), mock.patch.object(CAPTURE, "MOST_NAME", 2000):
             self.assert_refused(["--from", self.archive(*members), self.made], "more than 200 files and folders")
 
