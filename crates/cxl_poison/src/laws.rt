@@ -1,0 +1,17 @@
+//! Laws of poison lists, each the contract of a function that does nothing.
+
+ghost use Rattle.std.specs.Prelude.{◌≡◌, ℕ, List, ◌⊎◌};
+ghost use Rattle.cxl_model.specs.declared.poison.PoisonList.{PoisonList};
+ghost use Rattle.cxl_poison.specs.declared.fault.PoisonFault.{PoisonFault};
+ghost use Rattle.cxl_poison.specs.Payload.{IsPoisonPayload, IsPoisonFault, HasList, HasPoisonFault};
+
+/// A law of poison lists: bytes are one list at the most, or have one fault: one of the two, and never both.
+pub fn bytes_are_one_list()
+    ensures one_list { (bytes : List ℕ) (list other : PoisonList)
+        → IsPoisonPayload bytes list → IsPoisonPayload bytes other → list ≡ other }
+    ensures one_fault { (bytes : List ℕ) (fault other : PoisonFault)
+        → IsPoisonFault bytes fault → IsPoisonFault bytes other → fault ≡ other }
+    ensures not_both { (bytes : List ℕ) (list : PoisonList) (fault : PoisonFault)
+        → IsPoisonPayload bytes list → IsPoisonFault bytes fault → ⊥ }
+    ensures some { (bytes : List ℕ) → HasList bytes ⊎ HasPoisonFault bytes }
+{}
