@@ -1,7 +1,7 @@
 -- The chunks of a region fill its spans, and the bytes of a slot are host bytes of the region.
 use Rattle.std.proofs.Common.{◌≡◌, ℕ, zero, suc, ◌+◌, ◌*◌, ◌/◌, ◌%◌, ◌<◌, ◌≤◌, ◌^◌, Some, Option, refl, sym, ap, subst, ◌∙◌, arith}
 use Rattle.std.specs.Prelude.{slice_get, IsSomeAnd}
-use Rattle.std.proofs.Math.Nat.{zero-mul, mul-zero, mul_comm, le_antisymm, mul-le-mul_right, le_of_mul-le-mul_right, div-lt_iff_lt-mul, mod-eq_of_lt}
+use Rattle.std.proofs.Math.Nat.{zero-mul, mul-zero, le_antisymm, mul-le-mul_right, le_of_mul-le-mul_right, div-lt_iff_lt-mul, mod-eq_of_lt}
 use Rattle.std.proofs.Math.Pow.{pow_mono}
 use Rattle.std.proofs.lemmas.Nat.{pow_pos}
 use Rattle.cxl_num.specs.Interleave.{chunk_size}

@@ -1,11 +1,10 @@
 -- The parts of one span.
-use Rattle.std.proofs.Common.{◌≡◌, ℕ, ◌+◌, ◌-◌, ◌<◌, ◌≤◌, List, [], ◌∷◌, ◌++◌, length, map, Result, Ok, Err, OnOk, refl, sym, ap, subst, ◌∙◌, arith}
+use Rattle.std.proofs.Common.{◌≡◌, ℕ, ◌+◌, ◌-◌, ◌<◌, ◌≤◌, List, [], ◌∷◌, ◌++◌, length, map, Result, Ok, Err, OnOk, sym, ap, subst, ◌∙◌, arith}
 use Rattle.std.proofs.lemmas.List.{append-nil}
 use Rattle.cxl_window.specs.Fields.{WindowFields}
 use Rattle.cxl_model.specs.declared.found.Found.{Found}
 use Rattle.cxl_model.specs.declared.poison.Part.{Part}
 use Rattle.cxl_model.specs.declared.poison.Part.TheVariants as parts
-use Rattle.cxl_model.specs.declared.poison.Run.{Run}
 use Rattle.cxl_model.specs.declared.poison.Wide.{Wide}
 use Rattle.cxl_poison.specs.declared.live.LiveSpan.{LiveSpan}
 use Rattle.cxl_poison.specs.declared.cutting.Touched.{Touched}

@@ -1,6 +1,6 @@
 -- The stretches with touched bytes, and the cuts of all stretches.
-use Rattle.std.proofs.Common.{◌≡◌, ℕ, zero, suc, ◌+◌, ◌-◌, ◌*◌, ◌/◌, ◌<◌, ◌≤◌, List, [], ◌∷◌, ◌++◌, length, map, Option, Some, None, min, max, refl, sym, ap, subst, ◌∙◌, inl, inr, arith}
-use Rattle.std.specs.Prelude.{slice_get, nat_lt, if◌then◌else◌, IsSomeAnd}
+use Rattle.std.proofs.Common.{◌≡◌, ℕ, zero, suc, ◌+◌, ◌-◌, ◌*◌, ◌/◌, ◌<◌, ◌≤◌, List, [], ◌∷◌, ◌++◌, length, map, Option, Some, None, min, max, refl, ap, subst, ◌∙◌, arith}
+use Rattle.std.specs.Prelude.{slice_get}
 use Rattle.std.specs.List.{range_with_len, filter_map}
 use Rattle.std.proofs.Math.Nat.{mul-le-mul_right, div-mul-le_self, lt-div-mul-add, lt_of_mul-lt-mul_left, mul_comm, div-lt_iff_lt-mul}
 use Rattle.std.proofs.lemmas.Bool.{lt-ltb, le-ltb}
@@ -10,7 +10,7 @@ use Rattle.std.proofs.lemmas.List.{append-nil}
 use Rattle.cxl_poison.specs.declared.live.LiveSpan.{LiveSpan}
 use Rattle.cxl_poison.specs.declared.cutting.Touched.{Touched}
 use Rattle.cxl_poison.specs.Pieces.{Cut, cut_between, cut_at, cuts_between}
-use Rattle.cxl_poison.specs.inner.Cuts.{IsTouched, HasTouched, touched_cuts, first_stretch, last_stretch, stretch_cut, first_cuts}
+use Rattle.cxl_poison.specs.inner.Cuts.{HasTouched, touched_cuts, first_stretch, last_stretch, stretch_cut, first_cuts}
 
 -- ---- lists of numbers
 

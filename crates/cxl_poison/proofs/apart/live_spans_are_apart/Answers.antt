@@ -1,4 +1,3 @@
-use Rattle.std.proofs.Common.{◌≡◌, ℕ, ◌≤◌, ◌^◌, ◌%◌}
 use Rattle.cxl_model.specs.System.{System, IsSystem}
 use Rattle.cxl_poison.proofs.Filled.{some_length}
 use Rattle.cxl_poison.proofs.LiveLists.{RegionLaws, few_live, one_span, same_region, some_len}

@@ -1,6 +1,5 @@
-use Rattle.std.proofs.Common.{◌≡◌, ℕ, ◌+◌, ◌-◌, ◌/◌, ◌<◌, ◌≤◌, OnOk, ap, sym, subst, ◌∙◌, arith}
-use Rattle.cxl_poison.specs.Live.{IsSpanOf}
-use Rattle.cxl_poison.specs.inner.Cuts.{HasTouched, first_stretch, last_stretch, touched_cuts, first_cuts, AddsRuns, AddsParts}
+use Rattle.std.proofs.Common.{arith}
+use Rattle.cxl_poison.specs.inner.Cuts.{HasTouched}
 use Rattle.cxl_poison.proofs.PartLists.{on_ok, no_parts, few_parts, wide_part}
 use Rattle.cxl_poison.proofs.cutting.put_parts.Goals as goal
 

@@ -1,5 +1,4 @@
-use Rattle.std.proofs.Common.{◌≡◌, ℕ, ◌+◌, ◌-◌, ◌/◌, ◌<◌, ◌≤◌, OnOk, ap, sym, subst, ◌∙◌, arith}
-use Rattle.cxl_poison.specs.Live.{IsSpanOf}
+use Rattle.std.proofs.Common.{◌≡◌, ℕ, ◌+◌, ◌-◌, subst, arith}
 use Rattle.cxl_poison.specs.inner.Cuts.{first_stretch, last_stretch, first_cuts, AddsRuns}
 use Rattle.cxl_poison.proofs.RunLists.{no_runs, more_runs}
 use Rattle.cxl_poison.proofs.cutting.put_runs.Goals as goal

@@ -1,4 +1,4 @@
-use Rattle.std.proofs.Common.{◌≡◌, ℕ, ◌+◌, ◌-◌, ◌/◌, ◌<◌, ◌≤◌}
+use Rattle.std.proofs.Common.{ℕ, ◌-◌}
 use Rattle.cxl_poison.specs.Live.{IsSpanOf}
 use Rattle.cxl_poison.specs.inner.Cuts.{first_stretch, first_cuts, AddsRuns}
 use Rattle.cxl_poison.proofs.cutting.put_runs.Given as goal

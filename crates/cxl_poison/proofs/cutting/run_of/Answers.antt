@@ -1,6 +1,5 @@
-use Rattle.std.proofs.Common.{◌≡◌, ℕ, ◌+◌, ◌-◌, ◌*◌, ◌/◌, ◌<◌, ◌≤◌, ◌^◌, max, min, refl, sym, ap, subst, ◌∙◌, arith}
+use Rattle.std.proofs.Common.{ℕ, ◌+◌, refl, subst, arith}
 use Rattle.cxl_model.specs.Regions.{Carries}
-use Rattle.cxl_poison.specs.inner.Cuts.{stretch_cut}
 use Rattle.cxl_poison.proofs.Stretches.{touched_at}
 use Rattle.cxl_poison.proofs.cutting.run_of.Goals as goal
 

@@ -1,8 +1,7 @@
-use Rattle.std.proofs.Common.{◌≡◌, ℕ, ◌+◌, ◌-◌, ◌*◌, ◌/◌, ◌<◌, ◌≤◌, ◌^◌, List, length, Some, Option, max, refl, sym, ap, subst, ◌∙◌, arith}
-use Rattle.std.proofs.Math.Nat.{div-mul-le_self, lt-div-mul-add}
+use Rattle.std.proofs.Common.{◌≡◌, ℕ, ◌+◌, ◌-◌, ◌*◌, List, length, Some, Option, refl, sym, ap, subst, ◌∙◌, arith}
 use Rattle.std.specs.Prelude.{slice_get, IsSomeAnd}
 use Rattle.cxl_model.specs.Regions.{Carries}
-use Rattle.cxl_poison.specs.Pieces.{Cut, BeginsCut, IsWideOf}
+use Rattle.cxl_poison.specs.Pieces.{Cut, BeginsCut}
 use Rattle.cxl_poison.specs.inner.Cuts.{first_stretch, last_stretch, touched_cuts, stretch_cut, first_cuts}
 use Rattle.cxl_poison.proofs.Stretches.{cuts_are, count_cuts, cut_there, first_begins, last_begins}
 use Rattle.cxl_poison.proofs.cutting.wide_of.Goals as goal

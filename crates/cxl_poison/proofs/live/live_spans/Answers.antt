@@ -1,11 +1,11 @@
-use Rattle.std.proofs.Common.{rules, ◌≡◌, ℕ, ◌+◌, ◌<◌, ◌≤◌, List, length, Some, sym, ap, subst, ◌∙◌, arith}
+use Rattle.std.proofs.Common.{rules, ◌≡◌, ℕ, ◌+◌, List, length, Some, sym, ap, subst, ◌∙◌, arith}
 use Rattle.std.specs.Prelude.{slice_get}
 use Rattle.std.proofs.lemmas.Option.{slice_get-get_or}
 use Rattle.std.proofs.lemmas.List.Sorted.{IsNonDecreasingBy-from_sort_by_key}
 use Rattle.cxl_model.specs.declared.found.Found.{Found}
 use Rattle.cxl_model.specs.Regions.{IsRegion}
 use Rattle.cxl_poison.specs.declared.live.LiveSpan.{LiveSpan}
-use Rattle.cxl_poison.proofs.LiveLists.{AreSpansTo, none_yet, no_more, one_more, in_order}
+use Rattle.cxl_poison.proofs.LiveLists.{AreSpansTo, no_more, one_more, in_order}
 use Rattle.cxl_poison.proofs.live.live_spans.Goals as goal
 use Rattle.cxl_poison.proofs.live.live_spans.Goals.{in-Some+in_ok-push, in_default}
 

@@ -1,14 +1,13 @@
-use Rattle.std.proofs.Common.{◌≡◌, ℕ, ◌+◌, ◌-◌, ◌*◌, ◌<◌, ◌≤◌, List, [], ◌∷◌, ◌++◌, length, take, get_or, Some, refl, sym, ap, subst, ◌∙◌, arith}
+use Rattle.std.proofs.Common.{◌≡◌, ℕ, ◌+◌, ◌-◌, ◌*◌, List, [], ◌∷◌, ◌++◌, take, get_or, Some, sym, ap, subst, ◌∙◌, arith}
 use Rattle.std.specs.Prelude.{slice_get}
 use Rattle.std.proofs.lemmas.Option.{slice_get-get_or, slice_get_within, same_Some}
-use Rattle.std.proofs.lemmas.List.{take_more, take_all, get_or_default}
+use Rattle.std.proofs.lemmas.List.{take_more, get_or_default}
 use Rattle.cxl_window.specs.Fields.{WindowFields}
 use Rattle.cxl_model.specs.declared.found.Found.{Found}
 use Rattle.cxl_model.specs.declared.poison.Part.{Part}
-use Rattle.cxl_model.specs.declared.poison.Entry.{Entry}
 use Rattle.cxl_poison.specs.declared.live.LiveSpan.{LiveSpan}
 use Rattle.cxl_poison.specs.Live.{IsSpanOf, IsLiveSpan, AreLiveSpans}
-use Rattle.cxl_poison.specs.Pieces.{Cut, touched_from, touched_end, ArePartsOf, ArePartsIn, ArePartsInAll, unmapped_count}
+use Rattle.cxl_poison.specs.Pieces.{Cut, touched_from, touched_end, ArePartsOf, ArePartsInAll, unmapped_count}
 use Rattle.cxl_poison.proofs.Unmapped.{one_mapped, all_unmapped}
 use Rattle.cxl_poison.proofs.Pieced.{more_parts, none_so_far, same_cuts, lies_apart, window_within, span_in}
 use Rattle.cxl_poison.proofs.touching.pieces.Goals as goal

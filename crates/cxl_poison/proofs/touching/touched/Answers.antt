@@ -1,9 +1,7 @@
-use Rattle.std.proofs.Common.{◌≡◌, ℕ, ◌+◌, ◌-◌, ◌*◌, ◌/◌, ◌%◌, ◌<◌, ◌≤◌, ◌^◌, min, sym, ap, subst, ◌∙◌, arith}
+use Rattle.std.proofs.Common.{◌≡◌, ℕ, ◌*◌, ◌/◌, ◌<◌, sym, subst, arith}
 use Rattle.cxl_num.specs.Interleave.{chunk_size}
 use Rattle.cxl_window.specs.Fields.{WindowFields}
 use Rattle.cxl_model.specs.declared.found.Found.{Found}
-use Rattle.cxl_model.specs.Bytes.{slot_length}
-use Rattle.cxl_poison.specs.inner.Cuts.{IsTouched}
 use Rattle.cxl_poison.proofs.Filled.{Filled, some_chunk, chunks_whole, shifted}
 use Rattle.cxl_poison.proofs.touching.touched.Goals as goal
 
