@@ -6,3 +6,5 @@ pub mod PartLists
 pub mod LiveLists
 pub mod Unmapped
 pub mod Pieced
+pub mod OneTelling
+pub mod Named

@@ -34,17 +34,19 @@ module _ (there : WindowsThere) (windows : List WindowFields) (live : List Found
   pub window_within : (i : ℕ) (found : Found) → slice_get live i ≡ Some found → found.window < length windows
   window_within i found at = let region = region_at i found at in slice_get_within windows found.window region.0 (window_at found region)
 
+  pub region_in : (i : ℕ) (found : Found) (w : WindowFields) → slice_get live i ≡ Some found → slice_get windows found.window ≡ Some w → IsRegionIn are.s w found
+  region_in i found w at window =
+      let region = region_at i found at in
+      subst (λ (v : WindowFields). IsRegionIn are.s v found) (same_Some region.0 w (sym (window_at found region) ∙ window)) region.1
+
   pub span_in : (endpoint : ℕ) (span : LiveSpan) (found : Found) (w : WindowFields) → IsLiveSpan live endpoint span → slice_get live span.region ≡ Some found → slice_get windows found.window ≡ Some w → IsSpanIn found w span
-  span_in endpoint span found w is at window =
-      let region = region_at span.region found at in
-      let same : region.0 ≡ w = same_Some region.0 w (sym (window_at found region) ∙ window) in
-      record {
-        s = are.s;
-        system = are.system;
-        region = subst (λ (v : WindowFields). IsRegionIn are.s v found) same region.1;
-        endpoint = endpoint;
-        is = subst (λ (f : Found). IsSpanOf f endpoint span) (same_Some is.found found (sym is.there ∙ at)) is.here;
-      }
+  span_in endpoint span found w is at window = record {
+    s = are.s;
+    system = are.system;
+    region = region_in span.region found w at window;
+    endpoint = endpoint;
+    is = subst (λ (f : Found). IsSpanOf f endpoint span) (same_Some is.found found (sym is.there ∙ at)) is.here;
+  }
 
 -- ---- parts
 

@@ -1,6 +1,7 @@
 //! What a poison record touches of the live regions.
 
-ghost use Rattle.std.specs.Prelude.{◌≡◌, ℕ, ◌+◌, ◌-◌, ◌<◌, ◌≤◌, IfOk};
+ghost use Rattle.std.specs.Prelude.{◌≡◌, ℕ, ◌+◌, ◌-◌, ◌<◌, ◌≤◌, length, All, IfOk};
+ghost use Rattle.cxl_model.specs.Poison.{region_of};
 ghost use Rattle.cxl_poison.specs.Live.{AreLive};
 ghost use Rattle.cxl_poison.specs.Pieces.{touched_from, touched_end, stretch_size, ArePoisonedPieces};
 ghost use Rattle.cxl_poison.specs.inner.Cuts.{IsSpanIn, IsTouched};
@@ -27,7 +28,8 @@ pub fn pieces(
     windows: &[Window],
 ) -> Result<Poisoned, Memory>
     requires { AreLive windows.now live.now }
-    ensures { IfOk result (λ poisoned. ArePoisonedPieces entry.now endpoint live.now windows.now poisoned) }
+    ensures pieces { IfOk result (λ poisoned. ArePoisonedPieces entry.now endpoint live.now windows.now poisoned) }
+    ensures regions { IfOk result (λ poisoned. All (λ part. region_of part < length live.now) poisoned.parts) }
 {
     live_spans_are_apart();
     regions_lie_in_windows();

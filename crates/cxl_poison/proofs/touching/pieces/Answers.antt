@@ -1,5 +1,5 @@
-use Rattle.std.proofs.Common.{◌≡◌, ℕ, ◌+◌, ◌-◌, ◌*◌, List, [], ◌∷◌, ◌++◌, take, get_or, Some, sym, ap, subst, ◌∙◌, arith}
-use Rattle.std.specs.Prelude.{slice_get}
+use Rattle.std.proofs.Common.{◌<◌, ◌≡◌, ℕ, ◌+◌, ◌-◌, ◌*◌, List, [], ◌∷◌, ◌++◌, length, take, get_or, Some, sym, ap, subst, ◌∙◌, arith}
+use Rattle.std.specs.Prelude.{slice_get, All}
 use Rattle.std.proofs.lemmas.Option.{slice_get-get_or, slice_get_within, same_Some}
 use Rattle.std.proofs.lemmas.List.{take_more, get_or_default}
 use Rattle.cxl_window.specs.Fields.{WindowFields}
@@ -8,6 +8,8 @@ use Rattle.cxl_model.specs.declared.poison.Part.{Part}
 use Rattle.cxl_poison.specs.declared.live.LiveSpan.{LiveSpan}
 use Rattle.cxl_poison.specs.Live.{IsSpanOf, IsLiveSpan, AreLiveSpans}
 use Rattle.cxl_poison.specs.Pieces.{Cut, touched_from, touched_end, ArePartsOf, ArePartsInAll, unmapped_count}
+use Rattle.cxl_model.specs.Poison.{region_of}
+use Rattle.cxl_poison.proofs.Named.{all_named}
 use Rattle.cxl_poison.proofs.Unmapped.{one_mapped, all_unmapped}
 use Rattle.cxl_poison.proofs.Pieced.{more_parts, none_so_far, same_cuts, lies_apart, window_within, span_in}
 use Rattle.cxl_poison.proofs.touching.pieces.Goals as goal
@@ -141,3 +143,8 @@ loop-span-preserved c =
           })));
       unmapped = omega (arith, one, touched, c.saturating_sub-unmapped.ensures, c.loop-span.invariant.unmapped, rest);
     }
+
+pub returns-clause-regions : goal.returns-clause-regions
+returns-clause-regions c =
+    subst (λ (xs : List Part). All (λ part. region_of part < length c.args.live.now) xs) (sym c.new.ensures)
+    (all_named c.args.entry.now c.args.endpoint c.args.live.now c.args.windows.now (take c.loop-span.span-index c.deref-span-items.result.now) c.loop-span.parts.items c.loop-span.invariant.parts)
