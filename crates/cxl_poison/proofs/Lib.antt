@@ -8,3 +8,4 @@ pub mod Unmapped
 pub mod Pieced
 pub mod OneTelling
 pub mod Named
+pub mod RunBytes

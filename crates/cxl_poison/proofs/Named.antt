@@ -1,5 +1,5 @@
 -- The parts name live regions.
-use Rattle.std.proofs.Common.{◌≡◌, ℕ, zero, suc, ◌<◌, List, [], ◌∷◌, ◌++◌, length, map, Result, Ok, Err, IfOk, sym, subst, arith}
+use Rattle.std.proofs.Common.{ℕ, zero, suc, ◌<◌, List, [], ◌∷◌, length, map, arith}
 use Rattle.std.specs.Prelude.{All}
 use Rattle.std.proofs.lemmas.Option.{slice_get_within}
 use Rattle.std.proofs.lemmas.List.Elements.{All-append}
@@ -9,10 +9,9 @@ use Rattle.cxl_model.specs.declared.poison.Entry.{Entry}
 use Rattle.cxl_model.specs.declared.poison.Part.{Part}
 use Rattle.cxl_model.specs.declared.poison.Part.TheVariants as parts
 use Rattle.cxl_model.specs.declared.poison.Run.{Run}
-use Rattle.cxl_model.specs.declared.poison.Wide.{Wide}
 use Rattle.cxl_model.specs.Poison.{region_of}
 use Rattle.cxl_poison.specs.declared.live.LiveSpan.{LiveSpan}
-use Rattle.cxl_poison.specs.Pieces.{Cut, AreRunsOf, none, next, ArePartsOf, few, many, ArePartsIn, ArePartsInAll, ArePoisonedPieces}
+use Rattle.cxl_poison.specs.Pieces.{Cut, AreRunsOf, none, next, ArePartsOf, few, many, ArePartsInAll}
 
 abbrev Names : ℕ → List Part → Type 0
 Names n parts = All (λ part. region_of part < n) parts

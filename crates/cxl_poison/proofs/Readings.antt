@@ -7,7 +7,7 @@ use Rattle.cxl_model.specs.declared.poison.PoisonList.{PoisonList}
 use Rattle.cxl_poison.specs.declared.fault.PoisonFault.{PoisonFault}
 use Rattle.cxl_poison.specs.declared.fault.PoisonFault.TheVariants.{Short, Count, Memory}
 use Rattle.cxl_poison.specs.declared.fault.Said.{Said}
-use Rattle.cxl_poison.specs.Payload.{head_size, record_size, has_flag, timestamp_said, count_said, record_room, entries_from, IsPoisonPayload, LacksRecords, IsPoisonFault, IsPoisonFaultOf, IsPoisonAnswer, HasList, HasPoisonFault}
+use Rattle.cxl_poison.specs.Payload.{payload_head, record_size, has_flag, timestamp_said, records_said, record_room, entries_from, IsPoisonPayload, LacksRecords, IsPoisonFault, IsPoisonFaultOf, IsPoisonAnswer, HasList, HasPoisonFault}
 
 made : Bool → Option ℕ → Bool → List Entry → PoisonList
 made more overflow scanning records = record { more = more; overflow = overflow; scanning = scanning; records = records }
@@ -43,16 +43,16 @@ not_both bytes list Short h k = omega (arith, h.head, k)
 not_both bytes list (Count said) h k = omega (arith, h.room, k.short)
 
 pub some_reading : (bytes : List ℕ) → HasList bytes ⊎ HasPoisonFault bytes
-some_reading bytes = elim (cases_lt (length bytes) head_size) [
+some_reading bytes = elim (cases_lt (length bytes) payload_head) [
   | inl short ↦ inr (Short, short)
-  | inr head ↦ elim (cases_lt (length bytes) (head_size + record_size * count_said bytes)) [
-    | inl short ↦ inr (Count (record { said = count_said bytes; room = record_room bytes }), record { head = head; short = short; counted = refl; roomy = refl })
+  | inr head ↦ elim (cases_lt (length bytes) (payload_head + record_size * records_said bytes)) [
+    | inl short ↦ inr (Count (record { said = records_said bytes; room = record_room bytes }), record { head = head; short = short; counted = refl; roomy = refl })
     | inr room ↦ inl (
       record {
         more = has_flag bytes 0;
         overflow = if has_flag bytes 1 then Some (timestamp_said bytes) else None;
         scanning = has_flag bytes 2;
-        records = entries_from bytes (count_said bytes);
+        records = entries_from bytes (records_said bytes);
       },
       record { head = head; room = room; more = refl; overflow = refl; scanning = refl; records = refl },
     )

@@ -13,8 +13,8 @@ use Rattle.cxl_poison.specs.declared.fault.Said.{Said}
 -- ---- the fields
 
 -- the bytes before the first record, and those of each record
-abbrev pub head_size : ℕ
-head_size = 32
+abbrev pub payload_head : ℕ
+payload_head = 32
 
 abbrev pub record_size : ℕ
 record_size = 16
@@ -28,12 +28,12 @@ unfoldable pub timestamp_said : List ℕ → ℕ
 timestamp_said bytes = little_number 8 (drop 2 bytes)
 
 -- how many records there are, in two bytes at place 10
-unfoldable pub count_said : List ℕ → ℕ
-count_said bytes = little_number 2 (drop 10 bytes)
+unfoldable pub records_said : List ℕ → ℕ
+records_said bytes = little_number 2 (drop 10 bytes)
 
 -- for how many whole records the bytes behind the head have room
 abbrev pub record_room : List ℕ → ℕ
-record_room bytes = (length bytes - head_size) / record_size
+record_room bytes = (length bytes - payload_head) / record_size
 
 -- The record at a byte place: an address of eight bytes, of which bits 63:6 are those of the device address and bits
 -- 2:0 the source, and a length of four bytes in units of 64.
@@ -48,30 +48,30 @@ entry_from bytes at =
 
 -- so many records, one after the other behind the head
 abbrev pub entries_from : List ℕ → ℕ → List Entry
-entries_from bytes n = map (λ i. entry_from bytes (head_size + record_size * i)) (range_with_len 0 n)
+entries_from bytes n = map (λ i. entry_from bytes (payload_head + record_size * i)) (range_with_len 0 n)
 
 -- ---- a list
 
 -- the bytes are this list; those behind the counted records may be any
 pub record IsPoisonPayload (bytes : List ℕ) (list : PoisonList) : Type 0 where
-  pub head : head_size ≤ length bytes
-  pub room : head_size + record_size * count_said bytes ≤ length bytes
+  pub head : payload_head ≤ length bytes
+  pub room : payload_head + record_size * records_said bytes ≤ length bytes
   pub more : list.more ≡ has_flag bytes 0
   pub overflow : list.overflow ≡ (if has_flag bytes 1 then Some (timestamp_said bytes) else None)
   pub scanning : list.scanning ≡ has_flag bytes 2
-  pub records : list.records ≡ entries_from bytes (count_said bytes)
+  pub records : list.records ≡ entries_from bytes (records_said bytes)
 
 -- ---- why not
 
 -- there is room for fewer records than are said to be there
 pub record LacksRecords (bytes : List ℕ) (said : Said) : Type 0 where
-  pub head : head_size ≤ length bytes
-  pub short : length bytes < head_size + record_size * count_said bytes
-  pub counted : said.said ≡ count_said bytes
+  pub head : payload_head ≤ length bytes
+  pub short : length bytes < payload_head + record_size * records_said bytes
+  pub counted : said.said ≡ records_said bytes
   pub roomy : said.room ≡ record_room bytes
 
 abbrev pub IsPoisonFault : List ℕ → PoisonFault → Type 0
-IsPoisonFault bytes Short = length bytes < head_size
+IsPoisonFault bytes Short = length bytes < payload_head
 IsPoisonFault bytes (Count said) = LacksRecords bytes said
 IsPoisonFault bytes Memory = ⊥
 

@@ -26,7 +26,7 @@ pub(crate) struct Touched {
 }
 
 /// Appends the parts of one span: its runs, or where they are many the wide piece in their place.
-pub(crate) fn put_parts(
+pub(crate) fn put_span(
     found: &Found,
     window: &Window,
     span: &LiveSpan,

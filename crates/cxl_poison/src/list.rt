@@ -3,7 +3,7 @@
 ghost use Rattle.std.specs.Prelude.{◌≡◌, ◌+◌, ◌*◌, ◌<◌, ◌≤◌, if◌then◌else◌, List, length, Option, Some, None, Ok, Err, IfOk, IfErr, IfSome, IfNone};
 ghost use Rattle.cxl_model.specs.declared.poison.PoisonList.{PoisonList};
 ghost use Rattle.cxl_poison.specs.declared.fault.PoisonFault.{PoisonFault};
-ghost use Rattle.cxl_poison.specs.Payload.{head_size, record_size, has_flag, timestamp_said, count_said, entry_from, entries_from, IsPoisonPayload, IsPoisonFault, IsPoisonFaultOf, IsPoisonAnswer};
+ghost use Rattle.cxl_poison.specs.Payload.{payload_head, record_size, has_flag, timestamp_said, records_said, entry_from, entries_from, IsPoisonPayload, IsPoisonFault, IsPoisonFaultOf, IsPoisonAnswer};
 
 use crate::fault::{PoisonFault, Said};
 use byteorder::{ByteOrder, LittleEndian};
@@ -42,13 +42,13 @@ fn list_of(alloc: Global, bytes: &[u8]) -> Result<PoisonList, PoisonFault>
 /// Why the bytes are no list, where they are none.
 fn poison_fault(bytes: &[u8]) -> Option<PoisonFault>
     ensures some { IfSome result (λ fault. IsPoisonFault bytes.now fault) }
-    ensures head { IfNone result (head_size ≤ length bytes.now) }
-    ensures room { IfNone result (head_size + record_size * count_said bytes.now ≤ length bytes.now) }
+    ensures head { IfNone result (payload_head ≤ length bytes.now) }
+    ensures room { IfNone result (payload_head + record_size * records_said bytes.now ≤ length bytes.now) }
 {
     if bytes.len() < HEAD {
         return Some(PoisonFault::Short);
     }
-    let said = count_said(bytes);
+    let said = records_said(bytes);
     let behind = bytes.len() - HEAD;
     if RECORD * usize::from(said) > behind {
         return Some(PoisonFault::Count(Said {
@@ -61,11 +61,11 @@ fn poison_fault(bytes: &[u8]) -> Option<PoisonFault>
 
 /// The list of bytes that are one.
 fn sound_list(alloc: Global, bytes: &[u8]) -> Result<PoisonList, Memory>
-    requires head { head_size ≤ length bytes.now }
-    requires room { head_size + record_size * count_said bytes.now ≤ length bytes.now }
+    requires head { payload_head ≤ length bytes.now }
+    requires room { payload_head + record_size * records_said bytes.now ≤ length bytes.now }
     ensures { IfOk result (λ list. IsPoisonPayload bytes.now list) }
 {
-    let records = entries_from(alloc, bytes, count_said(bytes))?;
+    let records = entries_from(alloc, bytes, records_said(bytes))?;
     Ok(PoisonList {
         more: has_flag(bytes, 0),
         overflow: overflow(bytes),
@@ -76,7 +76,7 @@ fn sound_list(alloc: Global, bytes: &[u8]) -> Result<PoisonList, Memory>
 
 /// So many records behind the head.
 fn entries_from(alloc: Global, bytes: &[u8], count: u16) -> Result<Vec<Entry>, Memory>
-    requires { head_size + record_size * count ≤ length bytes.now }
+    requires { payload_head + record_size * count ≤ length bytes.now }
     ensures { IfOk result (λ entries. entries.items ≡ entries_from bytes.now count) }
 {
     let mut entries = Vec::with_capacity(alloc, usize::from(count))?;
@@ -101,10 +101,10 @@ fn entry_from(bytes: &[u8], at: usize) -> Entry
 }
 
 /// How many records there are said to be.
-#[tactic(auto, unfolding(crate::specs::Payload::count_said))]
-fn count_said(bytes: &[u8]) -> u16
-    requires { head_size ≤ length bytes.now }
-    ensures { result ≡ count_said bytes.now }
+#[tactic(auto, unfolding(crate::specs::Payload::records_said))]
+fn records_said(bytes: &[u8]) -> u16
+    requires { payload_head ≤ length bytes.now }
+    ensures { result ≡ records_said bytes.now }
 {
     LittleEndian::read_u16(&bytes[10..])
 }
@@ -112,7 +112,7 @@ fn count_said(bytes: &[u8]) -> u16
 /// When the device's list overflowed, where it did.
 #[tactic(auto, unfolding(crate::specs::Payload::timestamp_said))]
 fn overflow(bytes: &[u8]) -> Option<u64>
-    requires { head_size ≤ length bytes.now }
+    requires { payload_head ≤ length bytes.now }
     ensures { result ≡ (if has_flag bytes.now 1 then Some (timestamp_said bytes.now) else None) }
 {
     if has_flag(bytes, 1) {
@@ -123,7 +123,7 @@ fn overflow(bytes: &[u8]) -> Option<u64>
 }
 
 fn has_flag(bytes: &[u8], k: u8) -> bool
-    requires some { head_size ≤ length bytes.now }
+    requires some { payload_head ≤ length bytes.now }
     requires few { k < 8 }
     ensures { result ≡ has_flag bytes.now k }
 {

@@ -7,7 +7,7 @@ ghost use Rattle.cxl_poison.specs.Pieces.{touched_from, touched_end, stretch_siz
 ghost use Rattle.cxl_poison.specs.inner.Cuts.{IsSpanIn, IsTouched};
 
 use crate::apart::live_spans_are_apart;
-use crate::cutting::{Touched, put_parts};
+use crate::cutting::{Touched, put_span};
 use crate::live::{LiveSpan, live_spans};
 use cxl_model::{
     Entry, FixedList, Found, Memory, Poisoned, regions_lie_in_windows, weaves_fill_their_regions,
@@ -41,7 +41,7 @@ pub fn pieces(
         let window = &windows[found.window as usize];
         let touched = touched(entry, found, window, span);
         unmapped -= touched.end.saturating_sub(touched.from);
-        put_parts(found, window, span, &touched, &mut parts)?;
+        put_span(found, window, span, &touched, &mut parts)?;
     }
     Ok(Poisoned {
         parts: FixedList::new(parts),

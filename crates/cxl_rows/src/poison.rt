@@ -42,7 +42,7 @@ struct Range {
     tail: u32,
 }
 
-fn over(first: u32, end: u32, size: u32, codes: u32, tail: u32) -> Range {
+fn from_start(first: u32, end: u32, size: u32, codes: u32, tail: u32) -> Range {
     Range {
         first,
         end,
@@ -72,7 +72,7 @@ fn topo_of(alloc: Global, host: &Host) -> Result<Topo, Fail> {
     Ok(read_topo(alloc, text.as_bytes())?)
 }
 
-fn commit(image: &mut Image, range: &Range, node: u32) {
+fn commit_decoder(image: &mut Image, range: &Range, node: u32) {
     let at = 0x10 + 0x20 * (range.decoder % 2);
     let words = [
         (4, 2),
@@ -91,18 +91,18 @@ fn commit(image: &mut Image, range: &Range, node: u32) {
     }
 }
 
-fn image_of(alloc: Global, host: &Host, topo: &Topo) -> Result<Image, Fail> {
+fn committed(alloc: Global, host: &Host, topo: &Topo) -> Result<Image, Fail> {
     let mut image = Image::new(alloc, topo)?;
     for range in host.ranges {
         for node in range.first..range.end {
-            commit(&mut image, range, node);
+            commit_decoder(&mut image, range, node);
         }
     }
     Ok(image)
 }
 
 /// What the record touches of the regions of the image.
-fn touched(
+fn pieces_found(
     alloc: Global,
     image: &Image,
     topo: &Topo,
@@ -134,27 +134,27 @@ fn is_told(
     assert!(rt; table.len() <= 1_024);
     let topo = topo_of(alloc, host)?;
     let windows = windows(alloc, &read(alloc, &table)?, Some(topo.uids()))?;
-    let image = image_of(alloc, host, &topo)?;
+    let image = committed(alloc, host, &topo)?;
     let entry = Entry {
         dpa: record.0,
         units: record.1,
         source: 2,
     };
-    let told = touched(alloc, &image, &topo, &windows, endpoint, &entry)?;
+    let told = pieces_found(alloc, &image, &topo, &windows, endpoint, &entry)?;
     assert_eq!(rt; told.parts.items(), parts);
     assert_eq!(rt; told.unmapped, unmapped);
     Ok(())
 }
 
-fn run(h: u64, len: u64, region: u32) -> Part {
+fn told_run(h: u64, len: u64, region: u32) -> Part {
     Part::Run(Run { h, len, region })
 }
 
 #[test]
 fn chunks(rt: HostRuntime) -> Result<(), Fail> {
     let ranges = [
-        over(0, 2, 0x2000_0000, 0, 0),
-        over(2, 4, 0x2000_0000, 0x10, 0),
+        from_start(0, 2, 0x2000_0000, 0, 0),
+        from_start(2, 4, 0x2000_0000, 0x10, 0),
     ];
     let two = Host {
         bridges: 2,
@@ -165,14 +165,14 @@ fn chunks(rt: HostRuntime) -> Result<(), Fail> {
         ranges: &ranges,
     };
     // The last 64 bytes of a span, and 64 behind it.
-    let last = [run(0x1_1fff_fec0, 64, 0)];
+    let last = [told_run(0x1_1fff_fec0, 64, 0)];
     is_told(&rt, &two, 2, (0xfff_ffc0, 2), &last, 64)?;
     is_told(&rt, &two, 2, (0xfff_ffc0, 0), &[], 0)?;
     // A part of one chunk, a whole one and a part of the next.
     let three = [
-        run(0x1_0000_00c0, 64, 0),
-        run(0x1_0000_0200, 256, 0),
-        run(0x1_0000_0400, 64, 0),
+        told_run(0x1_0000_00c0, 64, 0),
+        told_run(0x1_0000_0200, 256, 0),
+        told_run(0x1_0000_0400, 64, 0),
     ];
     is_told(&rt, &two, 2, (0xc0, 6), &three, 0)?;
     // More than 64 chunks.
@@ -191,8 +191,8 @@ fn chunks(rt: HostRuntime) -> Result<(), Fail> {
 #[test]
 fn six_ways(rt: HostRuntime) -> Result<(), Fail> {
     let ranges = [
-        over(0, 3, 0x6000_0000, 0x10, 0x0100),
-        over(3, 9, 0x6000_0000, 0x90, 0),
+        from_start(0, 3, 0x6000_0000, 0x10, 0x0100),
+        from_start(3, 9, 0x6000_0000, 0x90, 0),
     ];
     let six = Host {
         bridges: 3,
@@ -202,7 +202,7 @@ fn six_ways(rt: HostRuntime) -> Result<(), Fail> {
         table: THREE_BRIDGES,
         ranges: &ranges,
     };
-    let two = [run(0x1_0000_0400, 256, 0), run(0x1_0000_0a00, 256, 0)];
+    let two = [told_run(0x1_0000_0400, 256, 0), told_run(0x1_0000_0a00, 256, 0)];
     is_told(&rt, &six, 5, (0, 8), &two, 0)
 }
 
@@ -211,7 +211,7 @@ fn whole_spans(rt: HostRuntime) -> Result<(), Fail> {
     let second = Range {
         decoder: 1,
         behind: 0x1000_0000,
-        ..over(0, 1, 0x1000_0000, 0, 0)
+        ..from_start(0, 1, 0x1000_0000, 0, 0)
     };
     let skipping = Range {
         first: 1,
@@ -219,7 +219,7 @@ fn whole_spans(rt: HostRuntime) -> Result<(), Fail> {
         tail: 0x3000_0000,
         ..second
     };
-    let ranges = [over(0, 2, 0x1000_0000, 0, 0), second, skipping];
+    let ranges = [from_start(0, 2, 0x1000_0000, 0, 0), second, skipping];
     let one = Host {
         bridges: 1,
         under_each: 1,
@@ -229,6 +229,6 @@ fn whole_spans(rt: HostRuntime) -> Result<(), Fail> {
         ranges: &ranges,
     };
     // One way: one run of each region, in the order of the device addresses, and the bytes between them.
-    let both = [run(0x1_0fff_ff80, 0x80, 0), run(0x1_1000_0000, 0x40, 1)];
+    let both = [told_run(0x1_0fff_ff80, 0x80, 0), told_run(0x1_1000_0000, 0x40, 1)];
     is_told(&rt, &one, 1, (0xfff_ff80, 0xc0_0003), &both, 0x3000_0000)
 }

@@ -83,8 +83,8 @@ overflow_sub-unmapped c =
     ap (λ (n : ℕ). n - c.touched-touched.result.from) c.touched-touched.ensures.end ∙ ap (λ (n : ℕ). touched_end c.args.entry.now x - n) c.touched-touched.ensures.from in
     omega (arith, one, touched, c.saturating_sub-unmapped.ensures, c.loop-span.invariant.unmapped)
 
-pub put_parts-requires-clause-span : goal.put_parts-requires-clause-span
-put_parts-requires-clause-span c =
+pub put_span-requires-clause-span : goal.put_span-requires-clause-span
+put_span-requires-clause-span c =
     let live : List Found = c.args.live.now in
     let endpoint : ℕ = c.args.endpoint in
     let items : List LiveSpan = c.deref-span-items.result.now in
@@ -124,12 +124,12 @@ loop-span-preserved c =
     let touched : c.touched-touched.result.end - c.touched-touched.result.from ≡ touched_end c.args.entry.now x - touched_from c.args.entry.now x =
     ap (λ (n : ℕ). n - c.touched-touched.result.from) c.touched-touched.ensures.end ∙ ap (λ (n : ℕ). touched_end c.args.entry.now x - n) c.touched-touched.ensures.from in
     let here : IsSpanOf found endpoint x = subst (λ (f : Found). IsSpanOf f endpoint x) (same_Some is.found found (sym is.there ∙ there)) is.here in
-    let adds = c.in_ok-put_parts.ensures endpoint here in
+    let adds = c.in_ok-put_span.ensures endpoint here in
     let more : take (k + 1) items ≡ take k items ++ x ∷ [] = take_more items k none c.loop-span-test.true in
     let rest = ap (λ (xs : List LiveSpan). unmapped_count c.args.entry.now xs) more in
     record {
       parts =
-          subst (λ (xs : List LiveSpan). ArePartsInAll c.args.entry.now endpoint live c.args.windows.now xs c.put_parts.new.parts.items) (sym more)
+          subst (λ (xs : List LiveSpan). ArePartsInAll c.args.entry.now endpoint live c.args.windows.now xs c.put_span.new.parts.items) (sym more)
           (subst (λ (xs : List Part). ArePartsInAll c.args.entry.now endpoint live c.args.windows.now (take k items ++ x ∷ []) xs) (sym adds.added)
           (more_parts c.args.entry.now endpoint live c.args.windows.now (take k items) c.loop-span.parts.items x adds.own c.loop-span.invariant.parts
           (record {

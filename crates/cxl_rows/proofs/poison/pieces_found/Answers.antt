@@ -2,7 +2,7 @@ use Rattle.std.proofs.Common.{refl, sym, subst}
 use Rattle.cxl_model.specs.System.{System, system_of}
 use Rattle.cxl_model.specs.Hosts.{IsHost}
 use Rattle.cxl_poison.specs.Live.{AreLive}
-use Rattle.cxl_rows.proofs.poison.touched.Goals as goal
+use Rattle.cxl_rows.proofs.poison.pieces_found.Goals as goal
 
 pub pieces-requires : goal.pieces-requires
 pieces-requires c =

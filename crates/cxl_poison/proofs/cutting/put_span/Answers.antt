@@ -1,7 +1,7 @@
 use Rattle.std.proofs.Common.{arith}
 use Rattle.cxl_poison.specs.inner.Cuts.{HasTouched}
 use Rattle.cxl_poison.proofs.PartLists.{on_ok, no_parts, few_parts, wide_part}
-use Rattle.cxl_poison.proofs.cutting.put_parts.Goals as goal
+use Rattle.cxl_poison.proofs.cutting.put_span.Goals as goal
 
 pub returns-then-touched : goal.returns-then-touched
 returns-then-touched c = λ endpoint is. no_parts c.args.found.now c.args.window.now endpoint c.args.span.now c.args.touched.now c.args.parts.now.items c.if-touched.true
