@@ -202,7 +202,10 @@ fn six_ways(rt: HostRuntime) -> Result<(), Fail> {
         table: THREE_BRIDGES,
         ranges: &ranges,
     };
-    let two = [told_run(0x1_0000_0400, 256, 0), told_run(0x1_0000_0a00, 256, 0)];
+    let two = [
+        told_run(0x1_0000_0400, 256, 0),
+        told_run(0x1_0000_0a00, 256, 0),
+    ];
     is_told(&rt, &six, 5, (0, 8), &two, 0)
 }
 
@@ -229,6 +232,9 @@ fn whole_spans(rt: HostRuntime) -> Result<(), Fail> {
         ranges: &ranges,
     };
     // One way: one run of each region, in the order of the device addresses, and the bytes between them.
-    let both = [told_run(0x1_0fff_ff80, 0x80, 0), told_run(0x1_1000_0000, 0x40, 1)];
+    let both = [
+        told_run(0x1_0fff_ff80, 0x80, 0),
+        told_run(0x1_1000_0000, 0x40, 1),
+    ];
     is_told(&rt, &one, 1, (0xfff_ff80, 0xc0_0003), &both, 0x3000_0000)
 }
