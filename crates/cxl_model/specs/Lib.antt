@@ -14,3 +14,4 @@ pub mod Counts
 pub mod Bytes
 pub mod Changes
 pub mod Listed
+pub mod Poison
