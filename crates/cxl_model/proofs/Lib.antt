@@ -14,6 +14,7 @@ pub mod CountingTrees
 pub mod CountingRules
 pub mod Counting
 pub mod SpansWindows
+pub mod RegionsInWindows
 pub mod SpansNumbers
 pub mod SpansSlots
 pub mod SpansApart

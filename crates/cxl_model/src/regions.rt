@@ -2,6 +2,7 @@
 //! does nothing.
 
 ghost use Rattle.std.specs.Prelude.{◌≡◌, ℕ, ◌+◌, ◌-◌, ◌*◌, ◌/◌, ◌%◌, ◌<◌, ◌≤◌, true, false, List, [], length, Contains, slice_get, Some};
+ghost use Rattle.cxl_enc.specs.Limits.{address_limit};
 ghost use Rattle.cxl_num.specs.Interleave.{chunk_size};
 ghost use Rattle.cxl_deal.specs.Weaves.{IsWeave, weave_ways, turns_end};
 ghost use Rattle.cxl_regs.specs.declared.decoder.Decoder.{Decoder};
@@ -165,6 +166,23 @@ pub fn weaves_fill_their_regions()
     tree_laws();
     ranges_rise();
     spans_are_whole();
+}
+
+/// A law of regions: one has some bytes, all of them in the window that stands at its index, and so below the
+/// limit of host addresses.
+pub fn regions_lie_in_windows()
+    ensures there { (s : System) (w : WindowFields) (found : Found) → IsSystem s
+        → IsRegionIn s w found → slice_get s.windows found.window ≡ Some w }
+    ensures some { (s : System) (w : WindowFields) (found : Found) → IsSystem s
+        → IsRegionIn s w found → 0 < found.size }
+    ensures from { (s : System) (w : WindowFields) (found : Found) → IsSystem s
+        → IsRegionIn s w found → w.base ≤ found.base }
+    ensures ends { (s : System) (w : WindowFields) (found : Found) → IsSystem s
+        → IsRegionIn s w found → found.base + found.size ≤ w.base + w.size }
+    ensures low { (s : System) (w : WindowFields) (found : Found) → IsSystem s
+        → IsRegionIn s w found → found.base + found.size ≤ address_limit }
+{
+    ranges_rise();
 }
 
 /// A law of changes: an image that keeps K1 to K8 and has the same decoders of a range as another one has the
