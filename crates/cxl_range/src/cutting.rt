@@ -82,10 +82,11 @@ fn extent_at(found: &Found, weave: &Weave, h: u64, len: u32) -> Extent
     region_fills_slots();
     let dealt = deal(weave, h);
     let place = found.spans.items()[dealt.slot as usize];
+    let dpa = place.start + dealt.offset;
     Extent {
         h,
         len,
         slot: dealt.slot,
-        dpa: place.start + dealt.offset,
+        dpa,
     }
 }

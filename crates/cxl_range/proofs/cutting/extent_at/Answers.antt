@@ -11,8 +11,8 @@ there : (found : Found) (spans : List Place) (ways slot : ℕ) (d : Place) → s
 there found spans ways slot d same ways_are slots below =
     slice_get-get_or found.spans slot d (omega (arith, ways_are, slots, below)) ∙ ap (λ (xs : List Place). Some (get_or xs slot d)) (sym same)
 
-pub overflow_add-result : goal.overflow_add-result
-overflow_add-result c =
+pub overflow_add-dpa : goal.overflow_add-dpa
+overflow_add-dpa c =
     let found : Found = c.args.found.now in
     let woven = c.requires.woven in
     let d : Place = record { endpoint = 0; start = 0 } in
