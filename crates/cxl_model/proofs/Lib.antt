@@ -22,6 +22,7 @@ pub mod SpansPlaces
 pub mod Spans
 pub mod SpansRegions
 pub mod SpansKinds
+pub mod SpansLow
 pub mod SpansShared
 pub mod Staying
 pub mod Carrying

@@ -60,7 +60,7 @@ pub fn whole_ranges_have_one_region()
 }
 
 /// A law of spans: a region's slots are the endpoints of its range, each once, and the span of each is that of
-/// the endpoint's decoder and lies in the partition of the region's kind.
+/// the endpoint's decoder and lies in the partition of the region's kind, below the limit of device addresses.
 pub fn slots_are_endpoints()
     ensures apart { (s : System) (w : WindowFields) (found : Found) (a b : ℕ) (p q : Place) → IsSystem s
         → IsRegionIn s w found → slice_get found.spans a ≡ Some p → slice_get found.spans b ≡ Some q
@@ -79,6 +79,9 @@ pub fn slots_are_endpoints()
     ensures inside { (s : System) (w : WindowFields) (found : Found) (slot : ℕ) (place : Place)
         → IsSystem s → IsRegionIn s w found → slice_get found.spans slot ≡ Some place
         → lies_in found.kind (ram_at s place.endpoint) (pmem_at s place.endpoint) place.start (slot_length found) ≡ true }
+    ensures low { (s : System) (w : WindowFields) (found : Found) (slot : ℕ) (place : Place) → IsSystem s
+        → IsRegionIn s w found → slice_get found.spans slot ≡ Some place
+        → place.start + slot_length found ≤ address_limit }
 {
     tree_laws();
     ranges_rise();
