@@ -11,6 +11,7 @@ pub mod CountingTrees
 pub mod CountingRules
 pub mod Counting
 pub mod SpansWindows
+pub mod RegionsInWindows
 pub mod SpansNumbers
 pub mod SpansSlots
 pub mod SpansApart
@@ -18,6 +19,7 @@ pub mod SpansPlaces
 pub mod Spans
 pub mod SpansRegions
 pub mod SpansKinds
+pub mod SpansLow
 pub mod SpansShared
 pub mod Staying
 pub mod Carrying

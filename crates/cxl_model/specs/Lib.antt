@@ -12,3 +12,4 @@ pub mod Counts
 pub mod Bytes
 pub mod Changes
 pub mod Listed
+pub mod Poison

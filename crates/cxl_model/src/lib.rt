@@ -33,7 +33,7 @@ pub use plan::{Plan, PlanFault, Reason, Row};
 pub use poison::{Entry, Part, PoisonList, Poisoned, Run, Wide};
 pub use regions::{
     bytes_are_carried_one_to_one, committed_spans_are_of_regions, endpoints_lie_evenly,
-    pieces_are_carried_whole, regions_are_listed, regions_share_no_byte, regions_stay,
-    slots_are_endpoints, weaves_fill_their_regions, whole_ranges_have_one_region,
+    pieces_are_carried_whole, regions_are_listed, regions_lie_in_windows, regions_share_no_byte,
+    regions_stay, slots_are_endpoints, weaves_fill_their_regions, whole_ranges_have_one_region,
 };
 pub use request::Request;

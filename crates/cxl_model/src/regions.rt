@@ -2,6 +2,7 @@
 //! does nothing.
 
 ghost use Rattle.std.specs.Prelude.{◌≡◌, ℕ, ◌+◌, ◌-◌, ◌*◌, ◌/◌, ◌%◌, ◌<◌, ◌≤◌, true, false, List, [], length, Contains, slice_get, Some};
+ghost use Rattle.cxl_enc.specs.Limits.{address_limit};
 ghost use Rattle.cxl_num.specs.Interleave.{chunk_size};
 ghost use Rattle.cxl_deal.specs.Weaves.{IsWeave, weave_ways, turns_end};
 ghost use Rattle.cxl_regs.specs.declared.decoder.Decoder.{Decoder};
@@ -59,7 +60,7 @@ pub fn whole_ranges_have_one_region()
 }
 
 /// A law of spans: a region's slots are the endpoints of its range, each once, and the span of each is that of
-/// the endpoint's decoder and lies in the partition of the region's kind.
+/// the endpoint's decoder and lies in the partition of the region's kind, below the limit of device addresses.
 pub fn slots_are_endpoints()
     ensures apart { (s : System) (w : WindowFields) (found : Found) (a b : ℕ) (p q : Place) → IsSystem s
         → IsRegionIn s w found → slice_get found.spans a ≡ Some p → slice_get found.spans b ≡ Some q
@@ -78,6 +79,9 @@ pub fn slots_are_endpoints()
     ensures inside { (s : System) (w : WindowFields) (found : Found) (slot : ℕ) (place : Place)
         → IsSystem s → IsRegionIn s w found → slice_get found.spans slot ≡ Some place
         → lies_in found.kind (ram_at s place.endpoint) (pmem_at s place.endpoint) place.start (slot_length found) ≡ true }
+    ensures low { (s : System) (w : WindowFields) (found : Found) (slot : ℕ) (place : Place) → IsSystem s
+        → IsRegionIn s w found → slice_get found.spans slot ≡ Some place
+        → place.start + slot_length found ≤ address_limit }
 {
     tree_laws();
     ranges_rise();
@@ -165,6 +169,23 @@ pub fn weaves_fill_their_regions()
     tree_laws();
     ranges_rise();
     spans_are_whole();
+}
+
+/// A law of regions: one has some bytes, all of them in the window that stands at its index, and so below the
+/// limit of host addresses.
+pub fn regions_lie_in_windows()
+    ensures there { (s : System) (w : WindowFields) (found : Found) → IsSystem s
+        → IsRegionIn s w found → slice_get s.windows found.window ≡ Some w }
+    ensures some { (s : System) (w : WindowFields) (found : Found) → IsSystem s
+        → IsRegionIn s w found → 0 < found.size }
+    ensures from { (s : System) (w : WindowFields) (found : Found) → IsSystem s
+        → IsRegionIn s w found → w.base ≤ found.base }
+    ensures ends { (s : System) (w : WindowFields) (found : Found) → IsSystem s
+        → IsRegionIn s w found → found.base + found.size ≤ w.base + w.size }
+    ensures low { (s : System) (w : WindowFields) (found : Found) → IsSystem s
+        → IsRegionIn s w found → found.base + found.size ≤ address_limit }
+{
+    ranges_rise();
 }
 
 /// A law of changes: an image that keeps K1 to K8 and has the same decoders of a range as another one has the

@@ -8,8 +8,7 @@ use Rattle.cxl_model.specs.declared.plan.PlanFault.{PlanFault}
 use Rattle.cxl_model.specs.declared.plan.PlanFault.TheVariants as plan_faults
 use Rattle.cxl_model.specs.declared.plan.Reason.{Reason}
 use Rattle.cxl_model.specs.declared.plan.Reason.TheVariants as reasons
-use Rattle.cxl_model.specs.declared.poison.Part.{Part}
-use Rattle.cxl_model.specs.declared.poison.Part.TheVariants as parts
+pub use Rattle.cxl_model.specs.Poison.{region_of}
 use Rattle.cxl_reply.specs.declared.reply.Reply.{Reply}
 use Rattle.cxl_reply.specs.declared.reply.Reply.TheVariants as replies
 use Rattle.cxl_reply.specs.declared.told.Downed.{Downed}
@@ -34,10 +33,6 @@ pub record IsToldDown (nodes : List Node) (downed : Downed) : Type 0 where
   pub few : downed.len ≤ 5
   pub ports : All (λ via. IsNode nodes via.node) (take downed.len downed.via)
   pub endpoint : IsNode nodes downed.endpoint
-
-abbrev pub region_of : Part → ℕ
-region_of (parts.Run run) = run.region
-region_of (parts.Wide wide) = wide.region
 
 -- one item of pieces for each record, and a name for each region
 pub record IsToldReport (nodes : List Node) (report : Report) : Type 0 where

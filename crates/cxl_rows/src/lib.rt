@@ -24,6 +24,8 @@ mod messages;
 #[cfg(test)]
 mod outside;
 #[cfg(test)]
+mod poison;
+#[cfg(test)]
 mod real_hosts;
 #[cfg(test)]
 mod real_images;

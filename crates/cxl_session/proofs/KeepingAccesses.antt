@@ -11,7 +11,8 @@ use Rattle.cxl_script.specs.declared.command.Poison.{Poison}
 use Rattle.cxl_script.specs.declared.command.Store.{Store}
 use Rattle.cxl_script.specs.declared.command.Up.{Up}
 use Rattle.cxl_session.specs.Machine.{Live, Machine, live_named, live_at, free_frames, with_contents}
-use Rattle.cxl_session.specs.Outcomes.{BusOutcome, NoFault, Undone, LeftPending, ReadFailed, is_access}
+use Rattle.cxl_session.specs.Outcomes.{BusOutcome, NoFault, Undone, LeftPending, ReadFailed, is_access, StoresBytes}
+use Rattle.cxl_session.specs.Bytes.{AreBytes}
 use Rattle.cxl_session.specs.Replies.{Answer, within_region, ends_within}
 use Rattle.cxl_session.specs.Accesses.{store_into, frames_wanted, AnswersUp, no_endpoint, told}
 use Rattle.cxl_session.specs.Reports.{AnswersShow, AnswersPoison}
@@ -37,10 +38,10 @@ by_region None answer other each none = none
 by_region (Some region) answer other each none = each region refl
 
 module _ (laws : TurnsLaw) (m : Machine) (is : IsMachine m) where
-  stored : (store : Store) (region : Live) → live_at m store.h ≡ Some region → ends_within region.found store.h (length store.bytes) ≡ true → Keeps (store_into m store region)
-  stored store region at fits =
+  stored : (store : Store) → AreBytes store.bytes → (region : Live) → live_at m store.h ≡ Some region → ends_within region.found store.h (length store.bytes) ≡ true → Keeps (store_into m store region)
+  stored store bytes region at fits =
       by_test (nat_lt (free_frames m) (frames_wanted region store)) _ _ (λ full. is)
-      (λ room. store_keeps laws m is store.h store.bytes region at (leb-true (store.h + length store.bytes) (region.found.base + region.found.size) fits))
+      (λ room. store_keeps laws m is store.h store.bytes bytes region at (leb-true (store.h + length store.bytes) (region.found.base + region.found.size) fits))
 
   inside : (h len : ℕ) (answer : Live → Answer) → ((region : Live) → live_at m h ≡ Some region → ends_within region.found h len ≡ true → Keeps (answer region))
       → Keeps (within_region m h len answer)
@@ -85,20 +86,20 @@ module _ (laws : TurnsLaw) (m : Machine) (is : IsMachine m) where
   poison asked answer (reports.no_endpoint none at) = given answer _ at is
   poison asked answer (reports.told endpoint payload reply there reads tells at) = given answer _ at is
 
-  pub access_keeps : (command : Command) (outcome : BusOutcome) (answer : Answer) → is_access command ≡ true → Answers m command outcome answer → IsMachine answer.machine
-  access_keeps (commands.Create create) outcome answer access at = absurd (false≢true access)
-  access_keeps (commands.Destroy name) outcome answer access at = absurd (false≢true access)
-  access_keeps (commands.BeginCreate create) outcome answer access at = absurd (false≢true access)
-  access_keeps (commands.BeginDestroy name) outcome answer access at = absurd (false≢true access)
-  access_keeps (commands.Step steps) outcome answer access at = absurd (false≢true access)
-  access_keeps commands.Abort outcome answer access at = absurd (false≢true access)
-  access_keeps (commands.Show name) outcome answer access at = shown name outcome answer at
-  access_keeps (commands.Down h) outcome answer access at = given answer _ at.told (by_region (live_at m h) _ _ (λ region there. is) is)
-  access_keeps (commands.Up asked) outcome answer access at = up asked answer at.1
-  access_keeps (commands.Load load) outcome answer access at = given answer _ at.told (inside load.h load.len _ (λ region there fits. is))
-  access_keeps (commands.Store store) outcome answer access at = given answer _ at.told (inside store.h _ _ (stored store))
-  access_keeps (commands.Poison asked) outcome answer access at = poison asked answer at.1
-  access_keeps (commands.Range reach) outcome answer access at = given answer _ at.told (inside reach.h reach.len _ (λ region there fits. is))
-  access_keeps (commands.Spread reach) outcome answer access at = given answer _ at.told (inside reach.h reach.len _ (λ region there fits. is))
-  access_keeps (commands.Copy pair) outcome answer access at = given answer _ at.told (between pair _ copied)
-  access_keeps (commands.Move pair) outcome answer access at = given answer _ at.told (between pair _ moved)
+  pub access_keeps : (command : Command) (outcome : BusOutcome) (answer : Answer) → is_access command ≡ true → StoresBytes command → Answers m command outcome answer → IsMachine answer.machine
+  access_keeps (commands.Create create) outcome answer access stores at = absurd (false≢true access)
+  access_keeps (commands.Destroy name) outcome answer access stores at = absurd (false≢true access)
+  access_keeps (commands.BeginCreate create) outcome answer access stores at = absurd (false≢true access)
+  access_keeps (commands.BeginDestroy name) outcome answer access stores at = absurd (false≢true access)
+  access_keeps (commands.Step steps) outcome answer access stores at = absurd (false≢true access)
+  access_keeps commands.Abort outcome answer access stores at = absurd (false≢true access)
+  access_keeps (commands.Show name) outcome answer access stores at = shown name outcome answer at
+  access_keeps (commands.Down h) outcome answer access stores at = given answer _ at.told (by_region (live_at m h) _ _ (λ region there. is) is)
+  access_keeps (commands.Up asked) outcome answer access stores at = up asked answer at.1
+  access_keeps (commands.Load load) outcome answer access stores at = given answer _ at.told (inside load.h load.len _ (λ region there fits. is))
+  access_keeps (commands.Store store) outcome answer access stores at = given answer _ at.told (inside store.h _ _ (stored store stores))
+  access_keeps (commands.Poison asked) outcome answer access stores at = poison asked answer at.1
+  access_keeps (commands.Range reach) outcome answer access stores at = given answer _ at.told (inside reach.h reach.len _ (λ region there fits. is))
+  access_keeps (commands.Spread reach) outcome answer access stores at = given answer _ at.told (inside reach.h reach.len _ (λ region there fits. is))
+  access_keeps (commands.Copy pair) outcome answer access stores at = given answer _ at.told (between pair _ copied)
+  access_keeps (commands.Move pair) outcome answer access stores at = given answer _ at.told (between pair _ moved)

@@ -1,8 +1,12 @@
 -- Reading and writing the flat bytes of a region (this project's rules).
-use Rattle.std.specs.Prelude.{ℕ, ◌+◌, ◌-◌, ◌*◌, ◌/◌, nat_lt, nat_le, ◌&&◌, not, if◌then◌else◌, List, length, map, fold, filter, slice_index}
+use Rattle.std.specs.Prelude.{ℕ, ◌+◌, ◌-◌, ◌*◌, ◌/◌, ◌<◌, nat_lt, nat_le, ◌&&◌, not, if◌then◌else◌, List, length, map, fold, filter, slice_index, All}
 use Rattle.std.specs.List.{range_with_len}
 use Rattle.std.specs.FinMap as map
 use Rattle.cxl_model.specs.Contents.{Contents, content_at}
+
+-- what a line stores are bytes
+abbrev pub AreBytes : List ℕ → Type 0
+AreBytes bytes = All (λ byte. byte < 256) bytes
 
 -- so many bytes from an offset on
 abbrev pub bytes_at : Contents → ℕ → ℕ → List ℕ

@@ -1,8 +1,9 @@
 -- How the bus let a command go, which commands can go so, and how many faults at the least that tells of (this project's
 -- rules).
-use Rattle.std.specs.Prelude.{ℕ, ◌+◌, ◌<◌, ◌≤◌, min, Bool, true, false}
+use Rattle.std.specs.Prelude.{ℕ, ◌+◌, ◌<◌, ◌≤◌, min, Bool, true, false, ⊤}
 use Rattle.cxl_script.specs.declared.command.Command.{Command}
 use Rattle.cxl_script.specs.declared.command.Command.TheVariants as commands
+use Rattle.cxl_session.specs.Bytes.{AreBytes}
 
 pub data BusOutcome : Type 0 where
   -- no call of the bus failed
@@ -98,3 +99,8 @@ is_access (commands.BeginDestroy name) = false
 is_access (commands.Step n) = false
 is_access commands.Abort = false
 is_access other = true
+
+-- what is stored, where the command is a store, are bytes
+abbrev pub StoresBytes : Command → Type 0
+StoresBytes (commands.Store store) = AreBytes store.bytes
+StoresBytes other = ⊤

@@ -11,7 +11,7 @@ ghost use Rattle.cxl_apply.specs.Jobs.{AreCreateWrites, AreReleaseWrites};
 ghost use Rattle.cxl_apply.specs.Releases.{rows_of};
 ghost use Rattle.cxl_session.specs.Machine.{Live, RegionJob, Machine};
 ghost use Rattle.cxl_session.specs.Jobs.{create_writes, release_writes};
-ghost use Rattle.cxl_session.specs.Outcomes.{BusOutcome, NoFault, can_go, is_access};
+ghost use Rattle.cxl_session.specs.Outcomes.{BusOutcome, NoFault, can_go, is_access, StoresBytes};
 ghost use Rattle.cxl_session.specs.Replies.{Answer, is_refusal};
 ghost use Rattle.cxl_session.specs.Answers.{Answers};
 ghost use Rattle.cxl_session.specs.Scripts.{Asked, Course, Turn, Runs, TakesTurn, course_then, lines_asked};
@@ -79,7 +79,8 @@ pub fn one_answer()
 /// A law of machines: from one that a session can stand for, a command that makes and ends no region leads to one.
 pub fn accesses_keep_machines()
     ensures { (m : Machine) (command : Command) (outcome : BusOutcome) (answer : Answer) → IsMachine m
-        → is_access command ≡ true → Answers m command outcome answer → IsMachine answer.machine }
+        → is_access command ≡ true → StoresBytes command → Answers m command outcome answer
+        → IsMachine answer.machine }
 {
     weaves_fill_their_regions();
 }

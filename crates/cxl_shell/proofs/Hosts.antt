@@ -1,5 +1,5 @@
 -- Reading one file behind others.
-use Rattle.std.proofs.Common.{◌≡◌, ◌≤◌, ◌⊎◌, ℕ, zero, suc, Option, Some, None, List, [], ◌∷◌, ◌++◌, take, refl, sym, ap, subst, ◌∙◌, inl, inr, arith, append_assoc}
+use Rattle.std.proofs.Common.{◌≡◌, ◌≤◌, ◌⊎◌, ℕ, zero, suc, Option, Some, None, List, [], ◌∷◌, ◌++◌, take, refl, ap, subst, ◌∙◌, inl, inr, arith, append_assoc}
 use Rattle.cxl_io.specs.Fetch.{FetchState, AsksFor, IsTooLarge}
 use Rattle.cxl_io.specs.Told.{Told, told_with}
 use Rattle.cxl_topo.specs.declared.node.Node.{Node}

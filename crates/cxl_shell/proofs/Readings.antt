@@ -30,7 +30,7 @@ use Rattle.cxl_shell.specs.inputs.Table as tables
 use Rattle.cxl_shell.specs.inputs.Topology.{IsTreeReading, IsFaultyTree, IsTreeOf}
 use Rattle.cxl_shell.specs.inputs.Topology as trees
 use Rattle.cxl_shell.proofs.Routes.{one_route}
-use Rattle.cxl_shell.proofs.Steps.{same_bytes, HasOneReading, Step, failed, large, faulty, read, unwritten, no_bytes_step, next_step, unless_before}
+use Rattle.cxl_shell.proofs.Steps.{same_bytes, HasOneReading, Step, faulty, read, unwritten, no_bytes_step, next_step, unless_before}
 
 -- ---- one reading of each kind of file
 

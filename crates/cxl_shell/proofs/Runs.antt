@@ -1,17 +1,15 @@
 -- How a run came to its status.
-use Rattle.std.proofs.Common.{◌≡◌, ◌≢◌, ℕ, true, ◌⊎◌, Some, None, List, [], ◌∷◌, ◌++◌, length, refl, sym, ap, subst, ◌∙◌, inl, inr, arith}
+use Rattle.std.proofs.Common.{◌≡◌, ◌≢◌, ℕ, true, ◌⊎◌, Some, None, List, [], ◌∷◌, ◌++◌, refl, sym, ap, subst, ◌∙◌, inl, inr, arith}
 use Rattle.std.specs.List.{Contains}
-use Rattle.std.proofs.lemmas.List.{take_all}
 use Rattle.cxl_enc.specs.Faults.{Rose}
 use Rattle.cxl_cedt.specs.CedtFields.{CedtFields}
 use Rattle.cxl_cedt.specs.declared.fault.CedtFault.{CedtFault}
 use Rattle.cxl_image.specs.declared.fault.ImageFault.{ImageFault}
 use Rattle.cxl_io.specs.Fetch.{AsksFor, IsTooLarge}
-use Rattle.cxl_model.specs.declared.found.Found.{Found}
 use Rattle.cxl_regs.specs.Registers.{Registers}
 use Rattle.cxl_topo.specs.Tree.{Tree}
 use Rattle.cxl_topofile.specs.declared.fault.TopoFault.{TopoFault}
-use Rattle.cxl_shell.specs.Answers.{AnswersFromFiles, IsTableAnswer, IsHostAnswer, IsAnswerOfFile, IsAnswerOfHost}
+use Rattle.cxl_shell.specs.Answers.{AnswersFromFiles, IsTableAnswer, IsAnswerOfFile, IsAnswerOfHost}
 use Rattle.cxl_shell.specs.Ends.{IsWritten, IsCutShort}
 use Rattle.cxl_shell.specs.Form.{Form, Route, Listing, Normal, Check, Help, Version, Unreadable, own_files, table_file, topology_file, image_file, takes_memory}
 use Rattle.cxl_shell.specs.Outcome.{Outcome}

@@ -8,7 +8,7 @@ use Rattle.cxl_shell.specs.Ends.{IsWritten, IsUnwritten, IsStopped}
 use Rattle.cxl_shell.specs.Outcome.{Outcome}
 use Rattle.cxl_shell.specs.Outside.{Outside}
 use Rattle.cxl_shell.specs.declared.status.Status.{Status}
-use Rattle.cxl_shell.specs.declared.status.Status.TheVariants.{FetchFault, Memory, TooLarge}
+use Rattle.cxl_shell.specs.declared.status.Status.TheVariants.{FetchFault, TooLarge}
 use Rattle.cxl_shell.specs.inputs.File.{HasNoBytes, not_read, not_small}
 
 -- the bytes are those that are known

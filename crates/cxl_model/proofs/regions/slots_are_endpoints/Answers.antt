@@ -1,5 +1,7 @@
 use Rattle.cxl_model.proofs.Spans.{slots_differ, slot_for, slot_place}
 use Rattle.cxl_model.proofs.SpansKinds.{slot_inside}
+use Rattle.cxl_model.proofs.SpansLow.{span_ends_low}
+use Rattle.cxl_model.specs.Bytes.{slot_length}
 use Rattle.cxl_model.proofs.regions.slots_are_endpoints.Goals as goal
 
 pub returns-clause-apart : goal.returns-clause-apart
@@ -21,3 +23,7 @@ returns-clause-start c = λ s w found slot place system is at.
 
 pub returns-clause-inside : goal.returns-clause-inside
 returns-clause-inside c = λ s w found slot place system is at. slot_inside c.spans_lie_in_partitions.ensures.some s w found system is slot place at
+
+pub returns-clause-low : goal.returns-clause-low
+returns-clause-low c = λ s w found slot place system is at.
+    span_ends_low s found.kind place.endpoint place.start (slot_length found) system.tree (slot_inside c.spans_lie_in_partitions.ensures.some s w found system is slot place at)

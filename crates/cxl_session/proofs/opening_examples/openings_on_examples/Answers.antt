@@ -79,6 +79,7 @@ no_bytes : AreContents region_of_two map.empty
 no_bytes = record {
   inside = λ n bytes there. absurd (none-some bytes (sym (get-empty {X = List ℕ} nat_cmp n) ∙ there));
   whole = λ n bytes there. absurd (none-some bytes (sym (get-empty {X = List ℕ} nat_cmp n) ∙ there));
+  bytes = λ n bytes there. absurd (none-some bytes (sym (get-empty {X = List ℕ} nat_cmp n) ∙ there));
 }
 
 -- the region of the image holds no piece

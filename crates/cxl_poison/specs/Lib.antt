@@ -1,0 +1,4 @@
+pub mod Payload
+pub mod Live
+pub mod Pieces
+pub mod inner

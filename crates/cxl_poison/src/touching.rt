@@ -1,0 +1,73 @@
+//! What a poison record touches of the live regions.
+
+ghost use Rattle.std.specs.Prelude.{◌≡◌, ℕ, ◌+◌, ◌-◌, ◌<◌, ◌≤◌, length, All, IfOk};
+ghost use Rattle.cxl_model.specs.Poison.{region_of};
+ghost use Rattle.cxl_poison.specs.Live.{AreLive};
+ghost use Rattle.cxl_poison.specs.Pieces.{touched_from, touched_end, stretch_size, ArePoisonedPieces};
+ghost use Rattle.cxl_poison.specs.inner.Cuts.{IsSpanIn, IsTouched};
+
+use crate::apart::live_spans_are_apart;
+use crate::cutting::{Touched, put_span};
+use crate::live::{LiveSpan, live_spans};
+use cxl_model::{
+    Entry, FixedList, Found, Memory, Poisoned, regions_lie_in_windows, weaves_fill_their_regions,
+};
+use cxl_window::Window;
+use std::alloc::Global;
+
+/// What a poison record of the endpoint's device touches of the live regions: for each live span of the device, in
+/// the order of its bytes, one run of host bytes at one way, and at more ways a run for each chunk; in place of
+/// more than 64 runs of a span one wide piece. The bytes that lie in no live span are counted. The live regions
+/// are those of one image, each at the most once, and the windows are that image's. Takes memory. (CXL media error
+/// record; how the bytes are told is this project's rule.)
+pub fn pieces(
+    alloc: Global,
+    entry: &Entry,
+    endpoint: u32,
+    live: &[Found],
+    windows: &[Window],
+) -> Result<Poisoned, Memory>
+    requires { AreLive windows.now live.now }
+    ensures pieces { IfOk result (λ poisoned. ArePoisonedPieces entry.now endpoint live.now windows.now poisoned) }
+    ensures regions { IfOk result (λ poisoned. All (λ part. region_of part < length live.now) poisoned.parts) }
+{
+    live_spans_are_apart();
+    regions_lie_in_windows();
+    let spans = live_spans(alloc, endpoint, live)?;
+    let mut parts = Vec::new(alloc);
+    let mut unmapped = 64 * u64::from(entry.units);
+    for span in &spans {
+        let found = &live[span.region as usize];
+        let window = &windows[found.window as usize];
+        let touched = touched(entry, found, window, span);
+        unmapped -= touched.end.saturating_sub(touched.from);
+        put_span(found, window, span, &touched, &mut parts)?;
+    }
+    Ok(Poisoned {
+        parts: FixedList::new(parts),
+        unmapped,
+    })
+}
+
+/// Which bytes of a span the record touches.
+fn touched(entry: &Entry, found: &Found, window: &Window, span: &LiveSpan) -> Touched
+    requires { IsSpanIn found.now window.now span.now }
+    ensures is { IsTouched span.now result }
+    ensures from { result.from ≡ touched_from entry.now span.now }
+    ensures end { result.end ≡ touched_end entry.now span.now }
+    ensures size { result.size ≡ stretch_size found.now span.now }
+{
+    weaves_fill_their_regions();
+    regions_lie_in_windows();
+    let end = u128::from(entry.dpa) + 64 * u128::from(entry.units);
+    let reach = end.saturating_sub(u128::from(span.start));
+    Touched {
+        from: entry.dpa.saturating_sub(span.start),
+        end: reach.min(u128::from(span.len)) as u64,
+        size: if found.ways == 1 {
+            span.len
+        } else {
+            256 << found.gran
+        },
+    }
+}

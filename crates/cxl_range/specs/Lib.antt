@@ -1,0 +1,4 @@
+pub mod Extents
+pub mod Carried
+pub mod Examples
+pub mod inner
