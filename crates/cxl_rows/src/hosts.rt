@@ -143,6 +143,31 @@ pub(crate) const fn over(
     }
 }
 
+/// So many bridges, so many endpoints under each of them with these bytes of ram and of pmem, and one window with a
+/// target for each bridge.
+#[derive(Clone, Copy)]
+pub(crate) struct Bridged {
+    pub(crate) bridges: u8,
+    pub(crate) under_each: u8,
+    pub(crate) capacity: (u64, u64),
+    pub(crate) forwards: bool,
+    pub(crate) base: u64,
+    pub(crate) size: u64,
+    pub(crate) xor: bool,
+}
+
+pub(crate) const fn server(bridges: u8, under_each: u8, ram: u64, size: u64) -> Bridged {
+    Bridged {
+        bridges,
+        under_each,
+        capacity: (ram, 0),
+        forwards: false,
+        base: BASE,
+        size,
+        xor: false,
+    }
+}
+
 // ---- its nodes and its table
 
 pub(crate) fn nodes_of(alloc: Global, spots: &[Spot]) -> Result<Vec<Node>, Fail> {
@@ -261,6 +286,41 @@ pub(crate) fn host_of(
         windows,
         image,
     })
+}
+
+pub(crate) fn spots_of(alloc: Global, host: &Bridged) -> Result<Vec<Spot>, Fail> {
+    let mut spots = Vec::new(alloc);
+    for _ in 0..host.bridges {
+        spots.push(if host.forwards { FORWARDING } else { BRIDGE })?;
+    }
+    let (ram, pmem) = host.capacity;
+    for bridge in 0..host.bridges {
+        for port in 0..host.under_each {
+            spots.push(device(u32::from(bridge), port, ram, pmem))?;
+        }
+    }
+    Ok(spots)
+}
+
+/// The host of these nodes under the one window, with these decoders committed.
+pub(crate) fn host_under(
+    rt: &impl Abort,
+    alloc: Global,
+    spots: &[Spot],
+    host: &Bridged,
+    ranges: &[Range],
+) -> Result<Worked, Fail>
+    ensures caps { IfOk result (λ it. HasCapsOf it.image it.topo.nodes) }
+    ensures made { IfOk result (λ it. AreMadeWith it.windows.items (bridge_uids it.topo.nodes)) }
+{
+    let uids = [0, 1, 2, 3, 4, 5];
+    assert!(rt; host.bridges <= 6);
+    let span = Span {
+        base: host.base,
+        xor: host.xor,
+        ..window(host.size, &uids[..usize::from(host.bridges)])
+    };
+    host_of(rt, alloc, spots, &[span], ranges)
 }
 
 // ---- its image

@@ -1,14 +1,14 @@
 //! Where addresses lead in worked hosts: by their registers, by kept routes, and back.
 
-ghost use Rattle.std.specs.Prelude.{◌+◌, ◌<◌, ◌≤◌, IfOk};
+ghost use Rattle.std.specs.Prelude.{◌+◌, ◌<◌, ◌≤◌};
 ghost use Rattle.cxl_window.specs.Windows.{AreMadeWith};
 ghost use Rattle.cxl_image.specs.Images.{HasCapsOf};
 ghost use Rattle.cxl_model.specs.System.{system_of, bridge_uids};
 ghost use Rattle.cxl_model.specs.Regions.{IsRegion};
 
 use crate::hosts::{
-    BASE, BRIDGE, FORWARDING, GIB, Range, Span, Spot, UNIT, Worked, device, host_of, over, switch,
-    window,
+    BASE, BRIDGE, Bridged, GIB, Range, Spot, UNIT, Worked, device, host_under, over, server,
+    spots_of, switch,
 };
 use cxl_check::{Breach, CheckFault, check};
 use cxl_model::{Found, Miss, Step};
@@ -16,66 +16,6 @@ use cxl_walk::{Host, Kept, Route, down, up};
 use std::alloc::Global;
 use std::process::Abort;
 use std::test::Fail;
-
-/// So many bridges, so many endpoints under each of them with these bytes of ram and of pmem, and one window with a
-/// target for each bridge.
-#[derive(Clone, Copy)]
-struct Bridged {
-    bridges: u8,
-    under_each: u8,
-    capacity: (u64, u64),
-    forwards: bool,
-    base: u64,
-    size: u64,
-    xor: bool,
-}
-
-const fn server(bridges: u8, under_each: u8, ram: u64, size: u64) -> Bridged {
-    Bridged {
-        bridges,
-        under_each,
-        capacity: (ram, 0),
-        forwards: false,
-        base: BASE,
-        size,
-        xor: false,
-    }
-}
-
-fn spots_of(alloc: Global, host: &Bridged) -> Result<Vec<Spot>, Fail> {
-    let mut spots = Vec::new(alloc);
-    for _ in 0..host.bridges {
-        spots.push(if host.forwards { FORWARDING } else { BRIDGE })?;
-    }
-    let (ram, pmem) = host.capacity;
-    for bridge in 0..host.bridges {
-        for port in 0..host.under_each {
-            spots.push(device(u32::from(bridge), port, ram, pmem))?;
-        }
-    }
-    Ok(spots)
-}
-
-/// The host of these nodes under the one window, with these decoders committed.
-fn host_under(
-    rt: &impl Abort,
-    alloc: Global,
-    spots: &[Spot],
-    host: &Bridged,
-    ranges: &[Range],
-) -> Result<Worked, Fail>
-    ensures caps { IfOk result (λ it. HasCapsOf it.image it.topo.nodes) }
-    ensures made { IfOk result (λ it. AreMadeWith it.windows.items (bridge_uids it.topo.nodes)) }
-{
-    let uids = [0, 1, 2, 3, 4, 5];
-    assert!(rt; host.bridges <= 6);
-    let span = Span {
-        base: host.base,
-        xor: host.xor,
-        ..window(host.size, &uids[..usize::from(host.bridges)])
-    };
-    host_of(rt, alloc, spots, &[span], ranges)
-}
 
 /// A host, the decoders that are committed in it, an address, and where that goes.
 #[derive(Clone, Copy)]
