@@ -3,3 +3,4 @@ pub mod ExampleRegions
 pub mod ExamplePlans
 pub mod ExampleLayouts
 pub mod ExampleContents
+pub mod ExampleRanges

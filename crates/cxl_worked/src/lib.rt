@@ -6,6 +6,7 @@ mod content_examples;
 mod examples;
 mod layout_examples;
 mod plan_examples;
+mod range_examples;
 mod region_examples;
 
 pub use content_examples::contents_on_examples;
@@ -18,6 +19,7 @@ pub use layout_examples::{
     rules_on_layouts,
 };
 pub use plan_examples::{legal_plan_on_examples, stated_rows_on_examples};
+pub use range_examples::{extents_on_examples, spreads_on_examples};
 pub use region_examples::{changes_on_examples, endpoints_on_examples, spans_on_examples};
 
 #[cfg(test)]
