@@ -11,6 +11,8 @@ mod messages;
 #[cfg(test)]
 mod outside;
 #[cfg(test)]
+mod plans;
+#[cfg(test)]
 mod real_tables;
 #[cfg(test)]
 mod routes;

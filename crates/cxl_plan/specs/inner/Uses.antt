@@ -1,10 +1,13 @@
 -- What is known of the tables of used nodes and ports.
-use Rattle.std.specs.Prelude.{◌≡◌, ℕ, ◌<◌, Vec, Global, List, [], length, filter, slice_get, Some, unwrap_or}
-use Rattle.std.specs.List.{range_with_len}
+use Rattle.std.specs.Prelude.{◌≡◌, ℕ, ◌<◌, Bool, true, false, Vec, List, [], length, filter, slice_get, slice_index_or, Some}
+use Rattle.std.specs.Global.{Global}
+use Rattle.std.specs.List.{range_with_len, list_any}
+use Rattle.cxl_enc.specs.Codes.{is_ways}
 use Rattle.cxl_topo.specs.declared.node.Node.{Node}
 use Rattle.cxl_model.specs.declared.request.Request.{Request}
 use Rattle.cxl_model.specs.System.{System}
-use Rattle.cxl_legal.specs.Used.{is_used, count_under, used_ports}
+use Rattle.cxl_model.specs.Counts.{is_under}
+use Rattle.cxl_legal.specs.Used.{is_used, used_ports, planned_ways}
 use Rattle.cxl_plan.specs.declared.used.Uses.{Uses}
 
 -- nodes alone, for what speaks of no block and no window
@@ -15,10 +18,15 @@ tree_alone nodes = record { nodes = nodes; blocks = []; windows = [] }
 abbrev pub used_nodes : List Node → Request → List ℕ
 used_nodes nodes request = filter (is_used (tree_alone nodes) request) (range_with_len 0 (length nodes))
 
--- how many requested endpoints lie under each node
-pub record AreCounts (nodes : List Node) (request : Request) (counts : List ℕ) : Type 0 where
+-- the nodes on the paths of the endpoints
+pub record AreMarks (nodes : List Node) (endpoints : List ℕ) (marks : List Bool) : Type 0 where
+  pub count : length marks ≡ length nodes
+  pub each : (n : ℕ) → n < length nodes → slice_index_or marks n false ≡ list_any (is_under nodes n) endpoints
+
+-- how many of the endpoints lie under each node
+pub record AreCounts (nodes : List Node) (endpoints : List ℕ) (counts : List ℕ) : Type 0 where
   pub count : length counts ≡ length nodes
-  pub each : (n : ℕ) → n < length nodes → slice_get counts n ≡ Some (count_under (tree_alone nodes) request n)
+  pub each : (n : ℕ) → n < length nodes → slice_index_or counts n 0 ≡ length (filter (is_under nodes n) endpoints)
 
 -- the used ports of each node
 pub record ArePorts (nodes : List Node) (request : Request) (ports : List (Vec ℕ Global)) : Type 0 where
@@ -26,6 +34,10 @@ pub record ArePorts (nodes : List Node) (request : Request) (ports : List (Vec �
   pub each : (n : ℕ) (own : Vec ℕ Global) → slice_get ports n ≡ Some own → own.items ≡ used_ports (tree_alone nodes) request n
 
 pub record AreUses (nodes : List Node) (request : Request) (uses : Uses) : Type 0 where
-  pub counts : AreCounts nodes request uses.counts.items
-  pub nodes : uses.nodes.items ≡ used_nodes nodes request
+  pub counts : AreCounts nodes request.endpoints uses.counts.items
+  pub listed : uses.nodes.items ≡ used_nodes nodes request
   pub ports : ArePorts nodes request uses.ports.items
+
+-- each used node would have a number of ways that a decoder can have
+abbrev pub HasWays : List Node → Request → Type 0
+HasWays nodes request = (n : ℕ) → is_used (tree_alone nodes) request n ≡ true → is_ways (planned_ways (tree_alone nodes) request n) ≡ true
