@@ -3,8 +3,8 @@
 ghost use Rattle.std.specs.Prelude.{◌≡◌, ◌<◌, ◌≤◌, ◌^◌, true, length, IsTrue};
 ghost use Rattle.cxl_enc.specs.Codes.{is_ways};
 ghost use Rattle.cxl_model.specs.Plans.{plan_code};
-ghost use Rattle.cxl_legal.specs.Used.{request_ways, is_used, planned_ways, planned_ways_above, planned_bits_above, planned_code};
-ghost use Rattle.cxl_plan.specs.inner.Uses.{tree_alone, AreUses, HasWays};
+ghost use Rattle.cxl_legal.specs.Used.{request_ways, is_used};
+ghost use Rattle.cxl_plan.specs.inner.Uses.{tree_alone, AreUses, HasWays, ways_at, ways_above_at, bits_above_at, code_at};
 
 use crate::used::Uses;
 use cxl_enc::split;
@@ -27,13 +27,13 @@ pub(crate) fn planned_ways(topo: &Topo, request: &Request, uses: &Uses, node: u3
     requires ways { HasWays topo.now.nodes request.now }
     requires here { node < length topo.now.nodes }
     requires used { is_used (tree_alone topo.now.nodes) request.now node ≡ true }
-    ensures value { result ≡ planned_ways (tree_alone topo.now.nodes) request.now node }
+    ensures value { result ≡ ways_at topo.now.nodes request.now node }
     ensures known { IsTrue (is_ways result) }
 {
     if topo.is_endpoint(node) {
         request.endpoints.items().len() as u8
     } else {
-        uses.ports[node as usize].len() as u8
+        uses.ports[node as usize].as_slice().len() as u8
     }
 }
 
@@ -43,8 +43,8 @@ pub(crate) fn ports_above(topo: &Topo, request: &Request, uses: &Uses, node: u32
     requires ways { HasWays topo.now.nodes request.now }
     requires here { node < length topo.now.nodes }
     requires used { is_used (tree_alone topo.now.nodes) request.now node ≡ true }
-    ensures ways { result.ways ≡ planned_ways_above (tree_alone topo.now.nodes) request.now node }
-    ensures bits { result.bits ≡ planned_bits_above (tree_alone topo.now.nodes) request.now node }
+    ensures ways { result.ways ≡ ways_above_at topo.now.nodes request.now node }
+    ensures bits { result.bits ≡ bits_above_at topo.now.nodes request.now node }
     ensures some { 0 < result.ways }
     ensures few_ways { result.ways ≤ 2 ^ 20 }
     ensures few_bits { result.bits ≤ 20 }
@@ -85,7 +85,7 @@ pub(crate) fn planned_code(topo: &Topo, request: &Request, uses: &Uses, w: &Wind
     requires ways { HasWays topo.now.nodes request.now }
     requires here { node < length topo.now.nodes }
     requires used { is_used (tree_alone topo.now.nodes) request.now node ≡ true }
-    ensures { result ≡ planned_code (tree_alone topo.now.nodes) request.now w.now node }
+    ensures { result ≡ code_at topo.now.nodes request.now w.now node }
 {
     if planned_ways(topo, request, uses, node) == 1 {
         return 0;

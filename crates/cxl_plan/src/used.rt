@@ -1,15 +1,16 @@
 //! Which nodes and ports of the tree lead to the endpoints of a request.
 
-ghost use Rattle.std.specs.Prelude.{◌≡◌, ℕ, ◌<◌, ◌≤◌, ◌==◌, nat_lt, ◌||◌, true, false, take, length, filter, slice_get, slice_index_or, Some, IfOk, All};
+ghost use Rattle.std.specs.Prelude.{◌≡◌, ℕ, ◌<◌, ◌≤◌, ◌==◌, nat_lt, ◌||◌, ◌&&◌, true, false, if◌then◌else◌, take, length, filter, slice_get, slice_index_or, Some, IfOk, All};
 ghost use Rattle.std.specs.List.{list_any, range_with_len};
-ghost use Rattle.cxl_topo.specs.Tree.{is_endpoint_at};
+ghost use Rattle.std.specs.Option.{option_map_or};
+ghost use Rattle.cxl_topo.specs.Tree.{is_endpoint_at, parent_of};
 ghost use Rattle.cxl_model.specs.declared.request.Request.{Request};
 ghost use Rattle.cxl_model.specs.Counts.{is_under};
-ghost use Rattle.cxl_legal.specs.Used.{HasBytePorts, used_ports, count_at_port};
-ghost use Rattle.cxl_plan.specs.inner.Uses.{tree_alone, used_nodes, AreMarks, AreCounts, ArePorts, AreUses};
+ghost use Rattle.cxl_legal.specs.Used.{HasBytePorts, count_at_port};
+ghost use Rattle.cxl_plan.specs.inner.Uses.{tree_alone, ports_at, used_nodes, AreMarks, AreCounts, ArePorts, AreUses};
 
 use cxl_model::Request;
-use cxl_topo::{Path, Topo, tree_laws};
+use cxl_topo::{Parent, Path, Topo, tree_laws};
 use std::alloc::{AllocError, Global};
 
 /// The nodes and ports that lead to the endpoints of a request.
@@ -48,20 +49,30 @@ fn marks(alloc: Global, topo: &Topo, endpoints: &[u32]) -> Result<Vec<bool>, All
 {
     let mut marks = vec![in alloc; false; topo.count() as usize]?;
     for endpoint in endpoints {
-        mark(marks.as_mut_slice(), &topo.path(*endpoint));
+        mark(&mut marks, &topo.path(*endpoint));
     }
     Ok(marks)
 }
 
 /// Marks the nodes of a path.
-fn mark(marks: &mut [bool], path: &Path)
-    ensures { (n : ℕ) → n < length marks.old → slice_index_or marks.new n false
-        ≡ (slice_index_or marks.old n false || list_any (λ q. q == n) (take path.now.len path.now.nodes)) }
+fn mark(marks: &mut Vec<bool>, path: &Path)
+    ensures count { length marks.new.items ≡ length marks.old.items }
+    ensures marked { (n : ℕ) → n < length marks.old.items → slice_index_or marks.new.items n false
+        ≡ (slice_index_or marks.old.items n false || list_any (λ q. q == n) (take path.now.len path.now.nodes)) }
 {
     for node in &path.nodes[..usize::from(path.len)] {
-        if let Some(mark) = marks.get_mut(*node as usize) {
-            *mark = true;
-        }
+        mark_node(marks, *node);
+    }
+}
+
+fn mark_node(marks: &mut Vec<bool>, node: u32)
+    ensures count { length marks.new.items ≡ length marks.old.items }
+    ensures marked { (n : ℕ) → n < length marks.old.items → slice_index_or marks.new.items n false
+        ≡ (slice_index_or marks.old.items n false || (node == n)) }
+{
+    let place = node as usize;
+    if place < marks.len() {
+        marks[place] = true;
     }
 }
 
@@ -74,14 +85,22 @@ fn counts(alloc: Global, topo: &Topo, endpoints: &[u32], marks: &[bool]) -> Resu
 {
     let mut counts = Vec::with_capacity(alloc, marks.len())?;
     for node in 0..topo.count() {
-        let count = if marks[node as usize] {
-            count_under(topo, endpoints, node)
-        } else {
-            0
-        };
-        counts.push(count)?;
+        counts.push(count_at(topo, endpoints, marks[node as usize], node))?;
     }
     Ok(counts)
+}
+
+/// How many of the endpoints lie under a node that is marked or not.
+fn count_at(topo: &Topo, endpoints: &[u32], marked: bool, node: u32) -> u8
+    requires named { All (λ m. is_endpoint_at topo.now.nodes m ≡ true) endpoints.now }
+    requires few { length endpoints.now ≤ 16 }
+    requires marked { marked ≡ list_any (is_under topo.now.nodes node) endpoints.now }
+    ensures { result ≡ length (filter (is_under topo.now.nodes node) endpoints.now) }
+{
+    if !marked {
+        return 0;
+    }
+    count_under(topo, endpoints, node)
 }
 
 /// How many of the endpoints lie under a node.
@@ -145,8 +164,10 @@ fn ports_of(alloc: Global, topo: &Topo, counts: &[u8], nodes: &[u32], node: u32)
     requires inside { All (λ n. n < length topo.now.nodes) nodes.now }
     ensures { (request : Request) → HasBytePorts topo.now.nodes → AreCounts topo.now.nodes request.endpoints counts.now
         → nodes.now ≡ used_nodes topo.now.nodes request
-        → IfOk result (λ own. own.items ≡ used_ports (tree_alone topo.now.nodes) request node) }
+        → IfOk result (λ own. own.items ≡ ports_at topo.now.nodes request node) }
 {
+    tree_laws();
+    let _count = topo.count();
     if counts[node as usize] == 0 {
         return Ok(Vec::new(alloc));
     }
@@ -166,22 +187,42 @@ pub(crate) fn counts_at_ports(topo: &Topo, counts: &[u8], nodes: &[u32], node: u
     let _count = topo.count();
     let mut at = [0; 256];
     for child in nodes {
-        if let Some(parent) = topo.node(*child).parent {
-            if parent.node == node {
-                at[usize::from(parent.port)] = counts[*child as usize];
-            }
-        }
+        enter(topo, counts, *child, node, &mut at);
     }
     at
 }
 
+/// Enters the count of a node at its port, where it is a child of this one.
+fn enter(topo: &Topo, counts: &[u8], child: u32, node: u32, at: &mut [u8; 256])
+    requires child { child < length topo.now.nodes }
+    requires count { length counts.now ≡ length topo.now.nodes }
+    ensures { (port : ℕ) → port < 256 → slice_index_or at.new port 0
+        ≡ (if option_map_or (λ parent. (parent.node == node) && (parent.port == port)) (parent_of topo.now.nodes child) false
+        then slice_index_or counts.now child 0 else slice_index_or at.old port 0) }
+{
+    if let Some(parent) = topo.node(child).parent {
+        enter_at(&parent, node, counts[child as usize], at);
+    }
+}
+
+/// Enters a count at the port of a parent, where that is this node.
+fn enter_at(parent: &Parent, node: u32, count: u8, at: &mut [u8; 256])
+    ensures { (port : ℕ) → port < 256 → slice_index_or at.new port 0
+        ≡ (if (parent.now.node == node) && (parent.now.port == port) then count else slice_index_or at.old port 0) }
+{
+    if parent.node == node {
+        at[usize::from(parent.port)] = count;
+    }
+}
+
 /// The ports with a count, in rising order. Takes memory.
 fn listed(alloc: Global, at: &[u8; 256]) -> Result<Vec<u8>, AllocError>
-    ensures { IfOk result (λ ports. ports.items
-        ≡ filter (λ port. nat_lt 0 (slice_index_or at.now port 0)) (range_with_len 0 256)) }
+    ensures sized { length at.now ≡ 256 }
+    ensures listed { IfOk result (λ ports. ports.items
+        ≡ filter (λ port. nat_lt 0 (slice_index_or at.now port 0)) (range_with_len 0 (length at.now))) }
 {
     let mut ports = Vec::new(alloc);
-    for port in 0..256usize {
+    for port in 0..at.len() {
         if at[port] > 0 {
             ports.push(port as u8)?;
         }

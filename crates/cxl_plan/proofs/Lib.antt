@@ -1,0 +1,4 @@
+pub mod Finding
+pub mod Trees
+pub mod Tables
+pub mod PlannedWays
