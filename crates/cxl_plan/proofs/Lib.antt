@@ -2,3 +2,6 @@ pub mod Finding
 pub mod Trees
 pub mod Tables
 pub mod PlannedWays
+pub mod UsedItems
+pub mod UnevenNodes
+pub mod KeptBlocks

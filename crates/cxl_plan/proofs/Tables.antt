@@ -337,7 +337,7 @@ ports_more nodes request old new k own count known is here n it there =
           ap (λ (v : Vec ℕ Global). v.items) (sym one) ∙ here ∙ ap (ports_at nodes request) (sym count ∙ sym same)
     ]
 
-used_inside : (p : ℕ → Bool) (a n : ℕ) → All (λ k. k < a + n) (filter p (range_with_len a n))
+pub used_inside : (p : ℕ → Bool) (a n : ℕ) → All (λ k. k < a + n) (filter p (range_with_len a n))
 used_inside p a zero = λ k d below. absurd (omega arith)
 used_inside p a (suc n) =
     let rest : All (λ k. k < a + suc n) (filter p (range_with_len (a + 1) n)) = λ k d below. let lower = used_inside p (a + 1) n k d below in omega arith in

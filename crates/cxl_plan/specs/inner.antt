@@ -1,3 +1,5 @@
 -- Definitions that only the inner calls and the proofs speak of.
 pub mod Uses
 pub mod AtPorts
+pub mod Judging
+pub mod Floors

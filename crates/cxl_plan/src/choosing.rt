@@ -28,7 +28,7 @@ pub(crate) fn choose(
     uses: &Uses,
 ) -> Result<Choice, AllocError>
 {
-    let floor = floor(image, uses);
+    let floor = floor(image, topo, windows, request, uses);
     let mut reasons = Vec::with_capacity(alloc, windows.len())?;
     for i in 0..windows.len() {
         match base_in(topo, request, uses, floor, &windows[i]) {
