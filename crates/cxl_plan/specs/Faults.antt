@@ -18,7 +18,7 @@ use Rattle.cxl_model.specs.System.{System, decoders_at, ram_at, pmem_at}
 use Rattle.cxl_model.specs.Rules.{permits}
 use Rattle.cxl_legal.specs.Used.{request_ways}
 use Rattle.cxl_legal.specs.Endpoints.{IsSize, share_of, is_uneven, lacks_decoder, HasRoom}
-use Rattle.cxl_legal.specs.Windows.{has_used_bridges, agrees_on_gran, can_select, can_have_ways}
+use Rattle.cxl_legal.specs.Windows.{FitsWindow, has_used_bridges, agrees_on_gran, can_select, can_have_ways}
 use Rattle.cxl_legal.specs.Bases.{IsLeastBase}
 
 -- the node of the least number that passes
@@ -32,6 +32,12 @@ pub record LacksRoom (s : System) (request : Request) (w : WindowFields) (room :
   pub start : IsLeastBase s request w room.start
   pub limit : room.limit ≡ w.base + w.size
   pub short : room.limit < room.start + request.size
+
+-- the window takes the request from this base on, the least that it can have there
+pub record Takes (s : System) (request : Request) (w : WindowFields) (base : ℕ) : Type 0 where
+  pub window : FitsWindow s request w
+  pub least : IsLeastBase s request w base
+  pub inside : base + request.size ≤ w.base + w.size
 
 -- what each reason says of a window
 abbrev pub SaysOfWindow : System → Request → WindowFields → Reason → Type 0

@@ -1,6 +1,6 @@
 //! Where a new region may start.
 
-ghost use Rattle.std.specs.Prelude.{◌≡◌, ℕ, ◌<◌, ◌≤◌, ◌+◌, ◌-◌, ◌*◌, ◌%◌, ◌==◌, if◌then◌else◌, slice_get};
+ghost use Rattle.std.specs.Prelude.{◌≡◌, ℕ, ◌<◌, ◌≤◌, ◌+◌, ◌-◌, ◌*◌, ◌%◌, ◌==◌, if◌then◌else◌, max, slice_get};
 ghost use Rattle.std.specs.Option.{option_map_or};
 ghost use Rattle.cxl_enc.specs.Limits.{unit, address_limit};
 ghost use Rattle.cxl_regs.specs.Reading.{committed_count};
@@ -17,7 +17,7 @@ use cxl_image::Image;
 use cxl_model::Request;
 use cxl_regs::Block;
 use cxl_span::{committed_stand_first, ranges_rise};
-use cxl_topo::Topo;
+use cxl_topo::{Topo, tree_laws};
 use cxl_window::Window;
 
 /// The end of all that is committed in the used nodes, or 0.
@@ -26,12 +26,21 @@ pub(crate) fn floor(image: &Image, topo: &Topo, windows: &[Window], request: &Re
     requires uses { AreUses topo.now.nodes request.now uses.now }
     ensures { IsFloor topo.now.nodes image.now request.now result }
 {
-    let _count = topo.count() as usize + windows.len() + request.endpoints.items().len();
+    let _count = topo.count();
+    let _windows = windows.len();
+    let _ways = request.endpoints.items().len();
+    tree_laws();
     let mut floor = 0;
     for node in &uses.nodes {
-        floor = last_end(image.block(*node)).max(floor);
+        floor = greater(last_end(image.block(*node)), floor);
     }
     floor
+}
+
+fn greater(a: u64, b: u64) -> u64
+    ensures { result ≡ max a b }
+{
+    if a < b { b } else { a }
 }
 
 /// The end of the range of a block's last committed decoder, or 0.
