@@ -5,3 +5,4 @@ pub mod PlannedWays
 pub mod UsedItems
 pub mod UnevenNodes
 pub mod KeptBlocks
+pub mod Reasons

@@ -78,6 +78,10 @@ stands q a (suc k) m from below passes =
           ]
     ]
 
+pub stands_in : (nodes : List Node) (request : Request) (items : List ℕ) → items ≡ used_nodes nodes request → (n : ℕ) → n < length nodes → is_used (tree_alone nodes) request n ≡ true → StandsAt items n
+stands_in nodes request items is n below used =
+    subst (λ (xs : List ℕ). StandsAt xs n) (sym is) (stands (is_used (tree_alone nodes) request) 0 (length nodes) n (omega arith) (omega arith) used)
+
 under_low : {nodes : List Node} → KnownTree nodes → (n m : ℕ) → is_under nodes n m ≡ true → n ≤ m
 under_low {nodes} known n =
     up_tree known (λ m. is_under nodes n m ≡ true → n ≤ m)

@@ -136,12 +136,11 @@ fn is_used_bridge(topo: &Topo, request: &Request, uses: &Uses, uid: u32) -> bool
     requires { AreUses topo.now.nodes request.now uses.now }
     ensures { result ≡ is_used_bridge (tree_alone topo.now.nodes) request.now uid }
 {
+    tree_laws();
+    let _count = topo.count();
     let _ways = request.endpoints.items().len();
     match topo.bridge(uid) {
-        Some(bridge) => match uses.counts.get(bridge as usize) {
-            Some(count) => *count > 0,
-            None => false,
-        },
+        Some(bridge) => uses.counts.as_slice()[bridge as usize] > 0,
         None => false,
     }
 }
