@@ -6,3 +6,5 @@ pub mod UsedItems
 pub mod UnevenNodes
 pub mod KeptBlocks
 pub mod Reasons
+pub mod Choices
+pub mod FaultOrder

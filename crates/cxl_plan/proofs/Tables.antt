@@ -310,12 +310,12 @@ not_counted nodes request counts n known below none =
 
 -- ---- the ports of each node
 
-slice_get_front : {X : Type 0} (xs ys : List X) (n : ℕ) → n < length xs → slice_get (xs ++ ys) n ≡ slice_get xs n
+pub slice_get_front : {X : Type 0} (xs ys : List X) (n : ℕ) → n < length xs → slice_get (xs ++ ys) n ≡ slice_get xs n
 slice_get_front [] ys n lt = absurd (omega arith)
 slice_get_front (y ∷ xs) ys zero lt = refl
 slice_get_front (y ∷ xs) ys (suc n) lt = slice_get_front xs ys n (omega arith)
 
-slice_get_end : {X : Type 0} (xs : List X) (x : X) → slice_get (xs ++ x ∷ []) (length xs) ≡ Some x
+pub slice_get_end : {X : Type 0} (xs : List X) (x : X) → slice_get (xs ++ x ∷ []) (length xs) ≡ Some x
 slice_get_end [] x = refl
 slice_get_end (y ∷ xs) x = slice_get_end xs x
 

@@ -1,9 +1,9 @@
 -- The parts of the test whether the endpoints lie unevenly under a node.
-use Rattle.std.proofs.Common.{◌≡◌, ℕ, zero, suc, ◌+◌, ◌<◌, ◌≤◌, Bool, true, false, not, ◌&&◌, ◌||◌, List, [], ◌∷◌, length, get_or, Option, Some, None, refl, sym, ap, subst, ◌∙◌, arith}
+use Rattle.std.proofs.Common.{◌≡◌, ℕ, zero, suc, ◌+◌, ◌<◌, ◌≤◌, Bool, true, false, not, ◌&&◌, ◌||◌, List, [], ◌∷◌, length, get_or, Option, Some, None, refl, sym, ap, subst, ◌∙◌, inl, inr, arith}
 use Rattle.std.specs.Prelude.{find, ◌==◌, nat_le, option_map}
 use Rattle.std.specs.Option.{option_map_or}
 use Rattle.std.specs.List.{range_with_len, All, list_all}
-use Rattle.std.proofs.lemmas.Bool.{and_parts}
+use Rattle.std.proofs.lemmas.Bool.{cases_Bool, and_parts, false≢true}
 use Rattle.cxl_enc.specs.Caps.{targets_of, is_target_count}
 use Rattle.cxl_topo.specs.declared.node.Node.{Node}
 use Rattle.cxl_topo.specs.Tree.{is_port_at, is_bridge_at}
@@ -85,3 +85,15 @@ module _ (nodes : List Node) (request : Request) (n : ℕ) where
       mapped : (m : ℕ) (o : Option ℕ) → option_map_or (λ first. m == first) (option_map (count_under (tree_alone nodes) request) o) true ≡ option_map_or (λ first. m == count_under (tree_alone nodes) request first) o true
       mapped m None = refl
       mapped m (Some b) = refl
+
+  -- a used port that is not uneven has 1, 2, 4 or 8 used ports
+  pub even_of : is_used (tree_alone nodes) request n ≡ true → is_port_at nodes n ≡ true → uneven_at nodes request n ≡ false → is_target_count (length (ports_at nodes request n)) ≡ true
+  even_of used port fails =
+      elim (cases_Bool (is_target_count (length (ports_at nodes request n)))) [
+        | inl is ↦ is
+        | inr is_not ↦
+            let uneven : (is_target_count (length (ports_at nodes request n)) && nat_le (length (ports_at nodes request n)) (targets_of (cap_at (tree_alone nodes) n))) ≡ even_at nodes request n =
+            even_tested (ports_at nodes request n) (cap_at (tree_alone nodes) n) refl refl in
+            let no_even : even_at nodes request n ≡ false = sym uneven ∙ ap (λ (b : Bool). b && nat_le (length (ports_at nodes request n)) (targets_of (cap_at (tree_alone nodes) n))) is_not in
+            absurd (false≢true (sym fails ∙ sym (uneven_tested used true false (same_at nodes request n) (has_bridge_share (tree_alone nodes) request n) (sym port) (sym no_even) refl refl)))
+      ]

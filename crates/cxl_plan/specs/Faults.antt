@@ -66,6 +66,11 @@ pub record IsReason (s : System) (request : Request) (w : WindowFields) (reason 
   pub holds : SaysOfWindow s request w reason
   pub first : (other : Reason) → SaysOfWindow s request w other → turn_of_reason reason ≤ turn_of_reason other
 
+-- and it is the first of the table that does: each before it has a reason
+pub record TakesFirst (s : System) (request : Request) (w : WindowFields) (base : ℕ) : Type 0 where
+  pub takes : Takes s request w base
+  pub before : (v : WindowFields) → slice_get s.windows v.index ≡ Some v → v.index < w.index → (reason : Reason) × IsReason s request v reason
+
 -- one reason for each window, in table order
 pub record AreReasons (s : System) (request : Request) (reasons : List Reason) : Type 0 where
   pub count : length reasons ≡ length s.windows

@@ -3,3 +3,4 @@ pub mod Uses
 pub mod AtPorts
 pub mod Judging
 pub mod Floors
+pub mod Choices

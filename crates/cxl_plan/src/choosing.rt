@@ -1,5 +1,11 @@
 //! The first window that takes a request.
 
+ghost use Rattle.std.specs.Prelude.{IfOk};
+ghost use Rattle.cxl_model.specs.System.{system_of};
+ghost use Rattle.cxl_plan.specs.inner.Uses.{AreUses, HasWays};
+ghost use Rattle.cxl_plan.specs.inner.Judging.{IsReady, IsSound};
+ghost use Rattle.cxl_plan.specs.inner.Choices.{IsChoice};
+
 use crate::base::floor;
 use crate::used::Uses;
 use crate::windows::base_in;
@@ -27,11 +33,16 @@ pub(crate) fn choose(
     request: &Request,
     uses: &Uses,
 ) -> Result<Choice, AllocError>
+    requires ready { IsReady (system_of image.now topo.now windows.now) request.now }
+    requires sound { IsSound request.now }
+    requires uses { AreUses topo.now.nodes request.now uses.now }
+    requires ways { HasWays topo.now.nodes request.now }
+    ensures { IfOk result (IsChoice (system_of image.now topo.now windows.now) request.now) }
 {
     let floor = floor(image, topo, windows, request, uses);
     let mut reasons = Vec::with_capacity(alloc, windows.len())?;
-    for i in 0..windows.len() {
-        match base_in(topo, request, uses, floor, &windows[i]) {
+    for (i, w) in windows.iter().enumerate() {
+        match base_in(topo, request, uses, floor, w) {
             Ok(base) => return Ok(Choice::Found(i, base)),
             Err(reason) => reasons.push(reason)?,
         }

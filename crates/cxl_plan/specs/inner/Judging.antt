@@ -8,12 +8,13 @@ use Rattle.cxl_regs.specs.Registers.{Registers}
 use Rattle.cxl_regs.specs.Words.{has_bit}
 use Rattle.cxl_window.specs.Fields.{WindowFields}
 use Rattle.cxl_window.specs.Position.{is_usable}
+use Rattle.cxl_window.specs.Windows.{first_repeat}
 use Rattle.cxl_model.specs.declared.request.Request.{Request}
 use Rattle.cxl_model.specs.System.{System, IsSystem}
 use Rattle.cxl_model.specs.Accepted.{KeepsBlocks}
 use Rattle.cxl_model.specs.Rules.{permits}
 use Rattle.cxl_legal.specs.Used.{AreEndpoints, HasBytePorts, request_ways}
-use Rattle.cxl_legal.specs.Endpoints.{has_even_ports, has_even_children, has_bridge_share, is_uneven}
+use Rattle.cxl_legal.specs.Endpoints.{IsSize, has_even_ports, has_even_children, has_bridge_share, is_uneven}
 use Rattle.cxl_legal.specs.Windows.{has_used_bridges, agrees_on_gran, can_select, can_have_ways}
 use Rattle.cxl_plan.specs.inner.Uses.{tree_alone}
 
@@ -59,3 +60,9 @@ pub record KeepsWindow (nodes : List Node) (request : Request) (w : WindowFields
   pub gran : agrees_on_gran request w ≡ true
   pub selects : find (λ m. not (selects_at nodes request w m)) (range_with_len 0 (length nodes)) ≡ None
   pub ways : find (λ m. not (can_have_ways (tree_alone nodes) request m)) (range_with_len 0 (length nodes)) ≡ None
+
+-- what is known of a request by itself
+pub record IsEarly (request : Request) : Type 0 where
+  pub distinct : first_repeat [] request.endpoints ≡ None
+  pub ways : is_ways (request_ways request) ≡ true
+  pub size : IsSize request
