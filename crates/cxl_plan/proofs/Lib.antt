@@ -8,3 +8,4 @@ pub mod KeptBlocks
 pub mod Reasons
 pub mod Choices
 pub mod FaultOrder
+pub mod Leading

@@ -3,7 +3,7 @@ use Rattle.std.proofs.Common.{◌≡◌, ℕ, zero, suc, ◌+◌, ◌-◌, ◌%�
 use Rattle.std.specs.Prelude.{slice_get, find, ◌==◌, nat_lt, nat_le}
 use Rattle.std.specs.Option.{option_map_or}
 use Rattle.std.specs.List.{list_all, range_with_len, All}
-use Rattle.std.proofs.lemmas.Bool.{cases_Bool, cases_eq, eqb-true, false≢true}
+use Rattle.std.proofs.lemmas.Bool.{cases_Bool, cases_eq, and_parts, leb-true, eqb-true, false≢true}
 use Rattle.std.proofs.lemmas.Option.{none-some, slice_get_within, option_and_then_some}
 use Rattle.cxl_enc.specs.Codes.{is_ways, bits_of, code_in_table, ways_of}
 use Rattle.cxl_topo.specs.declared.node.Node.{Node}
@@ -249,3 +249,14 @@ least_base_is nodes blocks windows request w floor start known from above step l
   can = record { from = from; after = λ n used. let low = known.above n used in omega arith; step = step };
   least = λ other is. lowest other is.from (known.least other (λ n used. is.after n used)) is.step;
 }
+
+-- ---- codes in a window that takes the request
+
+pub selecting_nodes : (s : System) (request : Request) (w : WindowFields) → FitsWindow s request w → (n : ℕ) → selects_at s.nodes request w n ≡ true
+unfolding selects_at
+selecting_nodes s request w fits n = fits.selects n
+
+pub code_low : (nodes : List Node) (request : Request) (w : WindowFields) (n : ℕ) → is_used (tree_alone nodes) request n ≡ true → selects_at nodes request w n ≡ true → code_at nodes request w n ≤ 6
+code_low nodes request w n used selects =
+    let both = selects_tested nodes request w n (code_at nodes request w n) (bits_of (ways_at nodes request n)) (cap_at (tree_alone nodes) n) used refl refl refl ∙ selects in
+    leb-true (code_at nodes request w n) 6 (and_parts (nat_le (code_at nodes request w n) 6) (select_ok (cap_at (tree_alone nodes) n) (code_at nodes request w n) (bits_of (ways_at nodes request n))) both).0

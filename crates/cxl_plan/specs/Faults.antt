@@ -12,6 +12,7 @@ use Rattle.cxl_span.specs.Allotting.{Allots}
 use Rattle.cxl_model.specs.declared.request.Request.{Request}
 use Rattle.cxl_model.specs.declared.plan.PlanFault.{PlanFault}
 use Rattle.cxl_model.specs.declared.plan.PlanFault.TheVariants as faults
+use Rattle.cxl_model.specs.declared.plan.Plan.{Plan}
 use Rattle.cxl_model.specs.declared.plan.Reason.{Reason}
 use Rattle.cxl_model.specs.declared.plan.Reason.TheVariants as reasons
 use Rattle.cxl_model.specs.System.{System, decoders_at, ram_at, pmem_at}
@@ -70,6 +71,12 @@ pub record IsReason (s : System) (request : Request) (w : WindowFields) (reason 
 pub record TakesFirst (s : System) (request : Request) (w : WindowFields) (base : ℕ) : Type 0 where
   pub takes : Takes s request w base
   pub before : (v : WindowFields) → slice_get s.windows v.index ≡ Some v → v.index < w.index → (reason : Reason) × IsReason s request v reason
+
+-- where the plan stands: in the first window that takes the request, at the least base there
+pub record IsFirstPlace (s : System) (request : Request) (plan : Plan) : Type 0 where
+  pub window : WindowFields
+  pub there : plan.found.window ≡ window.index
+  pub first : TakesFirst s request window plan.found.base
 
 -- one reason for each window, in table order
 pub record AreReasons (s : System) (request : Request) (reasons : List Reason) : Type 0 where

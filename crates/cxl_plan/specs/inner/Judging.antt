@@ -14,9 +14,10 @@ use Rattle.cxl_model.specs.System.{System, IsSystem}
 use Rattle.cxl_model.specs.Accepted.{KeepsBlocks}
 use Rattle.cxl_model.specs.Rules.{permits}
 use Rattle.cxl_legal.specs.Used.{AreEndpoints, HasBytePorts, request_ways}
-use Rattle.cxl_legal.specs.Endpoints.{IsSize, has_even_ports, has_even_children, has_bridge_share, is_uneven}
-use Rattle.cxl_legal.specs.Windows.{has_used_bridges, agrees_on_gran, can_select, can_have_ways}
-use Rattle.cxl_plan.specs.inner.Uses.{tree_alone}
+use Rattle.cxl_legal.specs.Endpoints.{FitsEndpoints, IsSize, has_even_ports, has_even_children, has_bridge_share, is_uneven}
+use Rattle.cxl_legal.specs.Windows.{FitsWindow, has_used_bridges, agrees_on_gran, can_select, can_have_ways}
+use Rattle.cxl_plan.specs.declared.used.Uses.{Uses}
+use Rattle.cxl_plan.specs.inner.Uses.{tree_alone, AreUses, HasWays}
 
 -- opaque, since the list of all ports is long
 unfoldable pub uneven_at : List Node → Request → ℕ → Bool
@@ -66,3 +67,11 @@ pub record IsEarly (request : Request) : Type 0 where
   pub distinct : first_repeat [] request.endpoints ≡ None
   pub ways : is_ways (request_ways request) ≡ true
   pub size : IsSize request
+
+-- a window that takes a request which keeps all that it has to in its nodes, with the tables of what it uses
+pub record IsSettled (s : System) (request : Request) (uses : Uses) (w : WindowFields) : Type 0 where
+  pub ready : IsReady s request
+  pub tables : AreUses s.nodes request uses
+  pub ways : HasWays s.nodes request
+  pub endpoints : FitsEndpoints s request
+  pub window : FitsWindow s request w

@@ -1,0 +1,6 @@
+use Rattle.std.proofs.Common.{◌<◌, length, ◌∙◌, arith}
+use Rattle.cxl_plan.proofs.UsedItems.{item_inside, item_used}
+use Rattle.cxl_plan.proofs.rows.rows.Goals as goal
+
+pub forwards-requires : goal.forwards-requires
+forwards-requires c = item_inside c.args.topo.now.nodes c.args.request.now c.deref-node-items.result.now (c.deref-node-items.ensures.value ∙ c.requires.tables.listed) c.loop-node.node-index (omega arith)
