@@ -1,9 +1,9 @@
 -- Faults in the order in which they are tried, and requests without one.
 use Rattle.std.proofs.Common.{◌≡◌, ◌≢◌, ℕ, zero, suc, ◌+◌, ◌<◌, ◌≤◌, Bool, true, false, not, ◌&&◌, List, [], ◌∷◌, ◌++◌, length, get_or, Option, Some, None, cond, refl, sym, ap, subst, ◌∙◌, inl, inr, arith, append_assoc}
-use Rattle.std.specs.Prelude.{slice_get, find, ◌==◌, AllPairs, Contains}
+use Rattle.std.specs.Prelude.{slice_get, nat_le, Err, find, ◌==◌, AllPairs, Contains}
 use Rattle.std.specs.Option.{option_map_or}
 use Rattle.std.specs.List.{list_any, range_with_len, All}
-use Rattle.std.proofs.lemmas.Bool.{cases_Bool, cases_eq, cases_lt, and_parts, eq-eqb, eqb-true, false≢true}
+use Rattle.std.proofs.lemmas.Bool.{cases_Bool, cases_eq, cases_lt, and_parts, leb-true, eq-eqb, eqb-true, false≢true}
 use Rattle.std.proofs.lemmas.Bool.Decides.{Decides-eqb}
 use Rattle.std.proofs.lemmas.List.{append-nil}
 use Rattle.std.proofs.lemmas.List.Folds.{list_any_at, Any-from_list_any}
@@ -22,10 +22,16 @@ use Rattle.cxl_window.specs.Fields.{WindowFields}
 use Rattle.cxl_model.specs.declared.request.Request.{Request}
 use Rattle.cxl_model.specs.declared.plan.PlanFault.{PlanFault}
 use Rattle.cxl_model.specs.declared.plan.PlanFault.TheVariants as faults
-use Rattle.cxl_model.specs.System.{System, decoders_at}
-use Rattle.cxl_span.specs.Allotting.{all_committed}
+use Rattle.cxl_model.specs.System.{System, decoders_at, ram_at, pmem_at}
+use Rattle.cxl_enc.specs.declared.caps.MemKind.{MemKind}
+use Rattle.cxl_regs.specs.declared.decoder.Decoder.{Decoder}
+use Rattle.cxl_span.specs.declared.allotting.Span.{Span}
+use Rattle.cxl_span.specs.declared.allotting.SpanFault.{SpanFault}
+use Rattle.cxl_span.specs.declared.allotting.SpanFault.TheVariants.{NoDecoder, PastRam, NoRoom}
+use Rattle.cxl_span.specs.Partitions.{partition_start, partition_end}
+use Rattle.cxl_span.specs.Allotting.{all_committed, Allots, IsLeastSpan}
 use Rattle.cxl_legal.specs.Used.{is_used, request_ways, used_ports}
-use Rattle.cxl_legal.specs.Endpoints.{IsSize, FitsEndpoints, HasRoom, is_uneven, lacks_decoder}
+use Rattle.cxl_legal.specs.Endpoints.{IsSize, share_of, FitsEndpoints, HasRoom, is_uneven, lacks_decoder}
 use Rattle.cxl_plan.specs.Faults.{SaysOfRequest, turn_of_fault, least}
 use Rattle.cxl_plan.specs.inner.Uses.{tree_alone, HasWays, ports_at, ways_at}
 use Rattle.cxl_plan.specs.inner.Judging.{uneven_at, over, IsEarly}
@@ -190,3 +196,41 @@ has_ways s known request named fits n used =
           let count = even_of s.nodes request n used (inside_port s.nodes n below other) (even_nodes s request fits n) in
           subst (λ (m : ℕ). is_ways m ≡ true) (sym (port_ways s.nodes request n other)) (target_ways (length (ports_at s.nodes request n)) count)
     ]
+
+-- ---- the faults before those of windows
+
+none_passes_at : (p : ℕ → Bool) (a k : ℕ) → ((n : ℕ) → p n ≡ false) → find p (range_with_len a k) ≡ None
+none_passes_at p a zero none = refl
+none_passes_at p a (suc k) none = let here : p a ≡ false = none a in rw here (none_passes_at p (a + 1) k none)
+
+-- where an endpoint has room, it is not refused
+pub not_refused : (decoders : List Decoder) (ram pmem : ℕ) (kind : MemKind) (len : ℕ) (fault : SpanFault) → Allots decoders ram pmem kind len (Err fault) → (span : Span) → IsLeastSpan decoders ram pmem kind len span → ⊥
+not_refused decoders ram pmem kind len NoDecoder full span room = false≢true (sym room.left ∙ full)
+not_refused decoders ram pmem kind len (PastRam cursor) past span room =
+    let inside = leb-true (span.start + len) (partition_end kind ram pmem) (and_parts (nat_le (partition_start kind ram) span.start) (nat_le (span.start + len) (partition_end kind ram pmem)) room.can_start.inside).1 in
+    let end : partition_end kind ram pmem ≡ ram = ap (λ (k : MemKind). partition_end k ram pmem) past.of_ram in
+    let after = room.can_start.after in
+    let low = past.past in
+    let told = past.told in
+    absurd (omega arith)
+not_refused decoders ram pmem kind len (NoRoom r) short span room =
+    let parts = and_parts (nat_le (partition_start kind ram) span.start) (nat_le (span.start + len) (partition_end kind ram pmem)) room.can_start.inside in
+    let from = leb-true (partition_start kind ram) span.start parts.0 in
+    let inside = leb-true (span.start + len) (partition_end kind ram pmem) parts.1 in
+    let after = room.can_start.after in
+    let start = short.start in
+    let limit = short.limit in
+    let less = short.short in
+    absurd (omega arith)
+
+no_span : (s : System) (request : Request) → ((m : ℕ) → Contains request.endpoints m → HasRoom s request m) → (other : PlanFault) → turn_of_fault other ≡ 5 → SaysOfRequest s request other → ⊥
+no_span s request kept (faults.Span m fault) e says =
+    let room = kept m says.asked in
+    not_refused (decoders_at s m) (ram_at s m) (pmem_at s m) request.kind (share_of request) fault says.refused room.0 room.1
+no_span s request kept other e says = absurd (omega arith)
+
+pub faults_6 : (s : System) (request : Request) → IsEarly request → FitsEndpoints s request → (other : PlanFault) → SaysOfRequest s request other → 6 ≤ turn_of_fault other
+faults_6 s request early fits =
+    onward s request 5
+    (faults_5 s request early (none_passes_at (is_uneven s request) 0 (length s.nodes) fits.even) (none_passes_at (lacks_decoder s request) 0 (length s.nodes) fits.left))
+    (no_span s request fits.room)

@@ -9,3 +9,4 @@ pub mod Reasons
 pub mod Choices
 pub mod FaultOrder
 pub mod Leading
+pub mod LegalPlans
