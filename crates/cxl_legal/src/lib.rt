@@ -3,5 +3,7 @@
 #![tactic(auto)]
 
 mod laws;
+mod ports;
 
 pub use laws::{fitting_plans_are_legal, legal_plans_fit, stated_rows_keep_blocks};
+pub use ports::ports_are_bytes;

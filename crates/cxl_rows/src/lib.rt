@@ -24,6 +24,8 @@ mod messages;
 #[cfg(test)]
 mod outside;
 #[cfg(test)]
+mod plans;
+#[cfg(test)]
 mod poison;
 #[cfg(test)]
 mod real_hosts;
