@@ -1,0 +1,7 @@
+mod Trees
+mod Sums
+mod Below
+mod Lists
+mod Numbers
+mod Shares
+mod Codes
