@@ -31,7 +31,7 @@ pub record LieEvenly (s : System) (request : Request) (w : WindowFields) : Type 
   pub children : (c : ℕ) (p : Parent) → parent_of s.nodes c ≡ Some p → is_used s request c ≡ true
       → length (used_ports s request p.node) * count_under s request c ≡ count_under s request p.node
 
-port_ways : (s : System) (request : Request) (n : ℕ) → is_port_at s.nodes n ≡ true → planned_ways s request n ≡ length (used_ports s request n)
+pub port_ways : (s : System) (request : Request) (n : ℕ) → is_port_at s.nodes n ≡ true → planned_ways s request n ≡ length (used_ports s request n)
 port_ways s request n port = ap (λ (b : Bool). if b then request_ways request else length (used_ports s request n)) (port_no_endpoint s.nodes n port)
 
 ways_below : {s : System} {request : Request} → Asked s request → (c : ℕ) (p : Parent) → parent_of s.nodes c ≡ Some p

@@ -4,4 +4,9 @@ mod Below
 mod Lists
 mod Numbers
 mod Shares
+mod Tops
 mod Codes
+mod Evenly
+mod Giving
+mod Serving
+mod Targets

@@ -1,8 +1,9 @@
 -- Lists of numbers that differ, and what is found in a list.
 use Rattle.std.proofs.Common.{◌≡◌, ◌≢◌, ℕ, zero, suc, ◌+◌, ◌<◌, ◌≤◌, ◌⊎◌, Bool, true, false, not, ◌&&◌, ◌||◌, cond, List, [], ◌∷◌, length, get_or, Option, Some, None, refl, sym, ap, ◌∙◌, subst, inl, inr, arith}
 use Rattle.std.specs.Prelude.{◌==◌, All, AllPairs, Contains, filter, find}
-use Rattle.std.specs.List.{list_any, range_with_len}
-use Rattle.std.proofs.lemmas.Bool.{cases_Bool, and_parts, and_from, or_parts, or_left, or_right, eqb-true, eq-eqb, ne_eqb, false_from_ne_true, false≢true, not_from_false}
+use Rattle.std.specs.List.{list_any, list_all, range_with_len}
+use Rattle.std.proofs.lemmas.List.Sums.{AllPass-from_list_all}
+use Rattle.std.proofs.lemmas.Bool.{cases_Bool, and_parts, and_from, or_parts, or_cases, or_left, or_right, eqb-true, eq-eqb, ne_eqb, false_from_ne_true, false≢true, not_from_false}
 use Rattle.std.proofs.lemmas.Option.{none-some, same_Some}
 use Rattle.std.proofs.lemmas.List.Elements.{All-head, All-tail}
 use Rattle.std.proofs.lemmas.List.Folds.{Any-from_list_any, list_any_at}
@@ -165,3 +166,30 @@ found_step false any y o rest is = rest is
 pub found : {X : Type 0} (p : X → Bool) (xs : List X) → list_any p xs ≡ true → (x : X) × (find p xs ≡ Some x)
 found p [] any = absurd (false≢true any)
 found p (y ∷ ys) any = found_step (p y) (list_any p ys) y (find p ys) (found p ys) any
+
+-- ---- members
+
+-- what all pass, one of them passes
+pub in_passes : (p : ℕ → Bool) (xs : List ℕ) (n : ℕ) → list_all p xs ≡ true → is_in n xs ≡ true → p n ≡ true
+in_passes p xs n all there =
+    let some = Any-from_list_any (λ m. m == n) xs there in
+    let at : get_or xs some.0 some.1 ≡ n = some.3 ∙ eqb-true some.1 n some.4 in
+    ap p (sym at) ∙ AllPass-from_list_all p xs all some.0 some.1 some.2
+
+kept_step : (p : ℕ → Bool) (n x : ℕ) (xs : List ℕ) (b : Bool) → p x ≡ b → p n ≡ true → (is_in n xs ≡ true → is_in n (filter p xs) ≡ true) → ((x == n) || is_in n xs) ≡ true
+    → is_in n (cond b (x ∷ filter p xs) (filter p xs)) ≡ true
+kept_step p n x xs true at passes rest is =
+    elim (or_cases (x == n) (is_in n xs) is) [
+      | inl here ↦ or_left (x == n) (is_in n (filter p xs)) here
+      | inr later ↦ or_right (x == n) (is_in n (filter p xs)) (rest later)
+    ]
+kept_step p n x xs false at passes rest is =
+    elim (or_cases (x == n) (is_in n xs) is) [
+      | inl here ↦ absurd (false≢true (sym at ∙ ap p (eqb-true x n here) ∙ passes))
+      | inr later ↦ rest later
+    ]
+
+-- a member that passes is kept
+pub kept_in : (p : ℕ → Bool) (xs : List ℕ) (n : ℕ) → is_in n xs ≡ true → p n ≡ true → is_in n (filter p xs) ≡ true
+kept_in p [] n there passes = absurd (false≢true there)
+kept_in p (x ∷ xs) n there passes = kept_step p n x xs (p x) refl passes (λ later. kept_in p xs n later passes) there

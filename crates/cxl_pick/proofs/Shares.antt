@@ -119,7 +119,7 @@ shares {s} {request} is n port =
     ∙ ap one (some_port is n port (get_or request.endpoints k d) (is.named k d within)))
     ∙ sym (length-filter-total (is_under s.nodes n) request.endpoints)
 
-total_same_each : {X : Type 0} (f : X → ℕ) (v : ℕ) (xs : List X) → All (λ x. f x ≡ v) xs → total f xs ≡ length xs * v
+pub total_same_each : {X : Type 0} (f : X → ℕ) (v : ℕ) (xs : List X) → All (λ x. f x ≡ v) xs → total f xs ≡ length xs * v
 total_same_each f v [] each = omega arith
 total_same_each f v (x ∷ xs) each =
     let first = All-head (λ y. f y ≡ v) x xs each in
