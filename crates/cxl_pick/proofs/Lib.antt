@@ -10,3 +10,7 @@ mod Evenly
 mod Giving
 mod Serving
 mod Targets
+mod Pieces
+mod Taking
+mod Parts
+mod Standing

@@ -105,6 +105,10 @@ bridge_of {nodes} known uid b is =
     let top = uid_top known b uid own in
     record { node = b; is = is; uid_is = own; bridge = top.0; top = top.1 }
 
+pub bridge_node : {nodes : List Node} → (known : KnownTree nodes) → (uid b : ℕ) → (is : bridge_with nodes uid ≡ Some b) → (bridge_of known uid b is).node ≡ b
+unfolding bridge_of
+bridge_node known uid b is = refl
+
 record Below (nodes : List Node) (uid i : ℕ) : Type 0 where
   pub own : BridgeOf nodes uid
   pub under : is_under nodes own.node i ≡ true

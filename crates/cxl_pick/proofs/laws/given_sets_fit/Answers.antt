@@ -1,0 +1,10 @@
+use Rattle.cxl_pick.proofs.Standing.{used_part}
+use Rattle.cxl_pick.proofs.Parts.{Picked, in_window, set_long}
+use Rattle.cxl_pick.proofs.laws.given_sets_fit.Goals as goal
+
+pub returns-clause-ways : goal.returns-clause-ways
+returns-clause-ways c = λ s want w given set system ports accepted ways there is rising.
+    set_long (record { laws = c.tree_laws.ensures.laws s.nodes system.tree; system = system; ports = ports; ways = ways; there = there; window = in_window s want w given is; rising = rising })
+
+pub returns-clause-fits : goal.returns-clause-fits
+returns-clause-fits c = ?
