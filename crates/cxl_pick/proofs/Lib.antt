@@ -14,3 +14,6 @@ mod Pieces
 mod Taking
 mod Parts
 mod Standing
+mod Facts
+mod Fitted
+mod FittedWindows

@@ -1,6 +1,6 @@
 //! Laws of picking, each the contract of a function that does nothing.
 
-ghost use Rattle.std.specs.Prelude.{◌≡◌, ℕ, true, List, length, slice_get, Some};
+ghost use Rattle.std.specs.Prelude.{◌≡◌, ℕ, ◌≤◌, true, List, length, slice_get, Some, IfSome};
 ghost use Rattle.cxl_enc.specs.Codes.{is_ways};
 ghost use Rattle.cxl_window.specs.Fields.{WindowFields};
 ghost use Rattle.cxl_model.specs.System.{System, IsSystem};
@@ -21,7 +21,7 @@ pub fn given_sets_fit()
         → given_in s want w ≡ Some given → AreRising given set → length set ≡ want.ways }
     ensures fits { (s : System) (want : Want) (w : WindowFields) (start : ℕ) (given set : List ℕ) → IsSystem s
         → HasBytePorts s.nodes → IsAccepted s → is_ways want.ways ≡ true → IsSize (asked want set)
-        → slice_get s.windows w.index ≡ Some w → given_in s want w ≡ Some given → AreRising given set
+        → IfSome want.gran (λ code. code ≤ 6) → slice_get s.windows w.index ≡ Some w → given_in s want w ≡ Some given → AreRising given set
         → latest_start want w ≡ Some start → Fits s (asked want set) w start }
 {
     tree_laws();
