@@ -2,7 +2,8 @@
 use Rattle.std.specs.Prelude.{◌≡◌, ℕ, zero, suc, ◌+◌, ◌-◌, ◌*◌, ◌/◌, ◌%◌, ◌<◌, ◌≤◌, ◌==◌, nat_lt, nat_le, ◌&&◌, ◌||◌, ◌↔◌, not, max, Bool, true, false, if◌then◌else◌, List, [], ◌∷◌, ◌++◌, length, map, take, find, slice_get, Contains, AllPairs, Option, Some, None, option_map, option_and_then}
 use Rattle.std.specs.Option.{option_map_or}
 use Rattle.std.specs.List.{filter_map, flat_map, range_with_len}
-use Rattle.cxl_enc.specs.Codes.{third_of, bits_of, log2_of, code_in_table}
+use Rattle.cxl_enc.specs.Codes.{third_of, bits_of, log2_of, code_in_table, is_ways}
+use Rattle.cxl_enc.specs.Limits.{unit, address_limit}
 use Rattle.cxl_enc.specs.Caps.{targets_of}
 use Rattle.cxl_topo.specs.Tree.{is_endpoint_at, child_of, bridge_with}
 use Rattle.cxl_regs.specs.Words.{has_bit}
@@ -19,10 +20,18 @@ use Rattle.cxl_legal.specs.Endpoints.{cap_at, share_of}
 use Rattle.cxl_legal.specs.Windows.{agrees_on_gran}
 use Rattle.cxl_legal.specs.Bases.{last_end, base_step}
 use Rattle.cxl_pick.specs.declared.want.Want.{Want}
+use Rattle.cxl_pick.specs.declared.fault.PickFault.{PickFault}
+use Rattle.cxl_pick.specs.declared.fault.PickFault.TheVariants as faults
 
 -- the request of these endpoints for what is wanted, under no name
 abbrev pub asked : Want → List ℕ → Request
 asked want endpoints = record { name = []; kind = want.kind; size = want.size; gran = want.gran; endpoints = endpoints }
+
+-- some bytes, a multiple of 256 MiB for each way, and no more than 2 ^ 52
+pub record IsWantedSize (want : Want) : Type 0 where
+  pub some : 0 < want.size
+  pub even : want.size % (unit * want.ways) ≡ 0
+  pub low : want.size ≤ address_limit
 
 -- ---- windows
 
@@ -125,3 +134,16 @@ pub record IsPicked (s : System) (want : Want) (w : WindowFields) (set : List �
   pub gives : given_in s want w ≡ Some given
   pub rising : AreRising given set
   pub first : (earlier : ℕ) (v : WindowFields) → earlier < place → slice_get s.windows earlier ≡ Some v → given_in s want v ≡ None
+
+-- ---- refusals
+
+-- no target bridges of a window all give something
+abbrev pub NothingGiven : System → Want → Type 0
+NothingGiven s want = (place : ℕ) (w : WindowFields) → slice_get s.windows place ≡ Some w → given_in s want w ≡ None
+
+-- what each fault says: ways that no region has, a size that none has, or nothing that is given in any window
+abbrev pub TellsPickFault : System → Want → PickFault → Type 0
+TellsPickFault s want (faults.Ways n) = (n ≡ want.ways) × (is_ways want.ways ≡ false)
+TellsPickFault s want faults.Size = (is_ways want.ways ≡ true) × (IsWantedSize want → ⊥)
+TellsPickFault s want faults.NoSet = (is_ways want.ways ≡ true) × IsWantedSize want × NothingGiven s want
+TellsPickFault s want faults.Memory = Unit {0}
