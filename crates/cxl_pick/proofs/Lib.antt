@@ -17,3 +17,7 @@ mod Standing
 mod Facts
 mod Fitted
 mod FittedWindows
+mod KeptBlocks
+mod Prefixes
+mod Rooms
+mod Levels
