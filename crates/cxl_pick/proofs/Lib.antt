@@ -21,3 +21,5 @@ mod KeptBlocks
 mod Prefixes
 mod Rooms
 mod Levels
+mod Entries
+mod Offering

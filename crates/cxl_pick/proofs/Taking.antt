@@ -53,7 +53,7 @@ pub record Serves (k : ℕ) (s : System) (want : Want) (w : WindowFields) (start
   pub can : can_serve_by s want w start n m (length (filter_map (offer k s want w start m u) (children_of s n))) u ≡ true
   pub is : first_pieces (offer k s want w start m u) (children_of s n) u ≡ xs
 
-find_in : (p : ℕ → Bool) (xs : List ℕ) (x : ℕ) → find p xs ≡ Some x → is_in x xs ≡ true
+pub find_in : (p : ℕ → Bool) (xs : List ℕ) (x : ℕ) → find p xs ≡ Some x → is_in x xs ≡ true
 find_in p [] x none = absurd (none-some x none)
 find_in p (y ∷ ys) x at = go (find_in p ys x) (p y) at
   where

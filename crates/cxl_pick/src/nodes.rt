@@ -135,7 +135,7 @@ pub(crate) fn can_serve_by(
     start: u64,
     node: u32,
     m: u8,
-    willing: u32,
+    willing: usize,
     u: u8,
 ) -> bool
     requires ready { IsReady (system_of image.now topo.now []) }
@@ -149,7 +149,7 @@ pub(crate) fn can_serve_by(
     is_open(image, topo, start, node)
         && m % u == 0
         && u32::from(u) <= cap / 16 % 16
-        && u32::from(u) <= willing
+        && usize::from(u) <= willing
         && (u == 1 || selects(cap, port_code(want, w, m), u))
 }
 

@@ -1,18 +1,18 @@
 //! What each node gives for each number of endpoints, in one window.
 
-ghost use Rattle.std.specs.Prelude.{◌≡◌, ℕ, ◌+◌, ◌-◌, ◌*◌, ◌/◌, ◌<◌, ◌≤◌, ◌==◌, not, if◌then◌else◌, [], ◌∷◌, true, false, List, length, take, find, slice_get, Some, IfOk, unwrap_or};
+ghost use Rattle.std.specs.Prelude.{◌≡◌, ℕ, ◌+◌, ◌-◌, ◌*◌, ◌/◌, ◌<◌, ◌≤◌, ◌==◌, ◌&&◌, not, if◌then◌else◌, [], ◌∷◌, true, false, List, length, take, find, slice_get, Some, IfOk, unwrap_or};
 ghost use Rattle.std.specs.List.{filter_map, flat_map, range_with_len};
 ghost use Rattle.cxl_topo.specs.Tree.{is_endpoint_at, child_of};
 ghost use Rattle.cxl_window.specs.Fields.{WindowFields};
 ghost use Rattle.cxl_model.specs.System.{system_of};
-ghost use Rattle.cxl_pick.specs.Picking.{can_serve_by};
+ghost use Rattle.cxl_pick.specs.Picking.{can_serve_itself, can_serve_by};
 ghost use Rattle.cxl_pick.specs.inner.Wanted.{IsSound, IsReady};
 ghost use Rattle.cxl_pick.specs.inner.Offers.{AreChildren, AreOffers, offered, entry_at, offers_at};
 
 use crate::nodes::{can_serve_by, can_serve_itself};
 use crate::want::Want;
 use cxl_image::Image;
-use cxl_topo::Topo;
+use cxl_topo::{Topo, tree_laws};
 use cxl_window::Window;
 use std::alloc::{AllocError, Global};
 
@@ -39,7 +39,7 @@ fn children_of(alloc: Global, topo: &Topo, node: u32) -> Result<Vec<u32>, AllocE
     if topo.is_endpoint(node) {
         return Ok(own);
     }
-    for port in 0..256 {
+    for port in 0..256u32 {
         if let Some(child) = topo.child(node, port as u8) {
             own.push(child)?;
         }
@@ -98,17 +98,29 @@ fn offer(
     requires below { (length topo.now.nodes - 1 - node) * 17 ≤ length table.now }
     ensures { IfOk result (λ own. 0 < m → own.items ≡ offered (system_of image.now topo.now []) want.now w.now start node m) }
 {
+    tree_laws();
     if m == 0 {
         return Ok(Vec::new(alloc));
     }
     if topo.is_endpoint(node) {
-        return own_offer(alloc, m == 1 && can_serve_itself(image, topo, want, w, start, node), node);
+        return own_offer(alloc, gives_itself(image, topo, want, w, start, node, m), node);
     }
-    let own = &children[node as usize];
+    let own = children[node as usize].as_slice();
     match ports_used(image, topo, want, w, start, own, table, node, m) {
         Some(u) => first_offers(alloc, topo.count(), own, table, m / u, u),
         None => Ok(Vec::new(alloc)),
     }
+}
+
+/// Whether an endpoint gives something for `m` endpoints.
+fn gives_itself(image: &Image, topo: &Topo, want: &Want, w: &Window, start: u64, node: u32, m: u8) -> bool
+    requires ready { IsReady (system_of image.now topo.now []) }
+    requires sound { IsSound want.now }
+    requires here { node < length topo.now.nodes }
+    requires endpoint { is_endpoint_at topo.now.nodes node ≡ true }
+    ensures { result ≡ ((m == 1) && can_serve_itself (system_of image.now topo.now []) want.now w.now start node) }
+{
+    m == 1 && can_serve_itself(image, topo, want, w, start, node)
 }
 
 /// The endpoint itself, where it gives something. Takes memory.
@@ -138,7 +150,6 @@ fn ports_used(
     requires here { node < length topo.now.nodes }
     requires some { 0 < m }
     requires few { m ≤ 16 }
-    requires children { length children.now ≤ 256 }
     ensures { result ≡ find (λ u. can_serve_by (system_of image.now topo.now []) want.now w.now start node m
         (length (offers_at table.now (length topo.now.nodes) children.now (m / u))) u) (8 ∷ 4 ∷ 2 ∷ 1 ∷ []) }
 {
@@ -159,8 +170,7 @@ fn ports_used(
 }
 
 /// How many children give something for `share` endpoints.
-fn willing(count: u32, children: &[u32], table: &[Vec<u32>], share: u8) -> u32
-    requires { length children.now ≤ 256 }
+fn willing(count: u32, children: &[u32], table: &[Vec<u32>], share: u8) -> usize
     ensures { result ≡ length (offers_at table.now count children.now share) }
 {
     let mut willing = 0;
