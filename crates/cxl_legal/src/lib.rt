@@ -5,3 +5,7 @@
 // The laws (src/laws.rt) are proved in other clones, and a library with holes does not build: in this clone they
 // are left out, so that crates above can be checked. Do not put them back here; the clauses of `plan` that follow
 // from them are added at the merge.
+
+mod ports;
+
+pub use ports::ports_are_bytes;

@@ -50,7 +50,7 @@ use Rattle.cxl_pick.proofs.Serving.{endpoint_code, used_port}
 use Rattle.cxl_pick.proofs.Pieces.{Source, Pieces, Apart, AllPieces, first_pieces, taken, all_pieces}
 use Rattle.cxl_pick.proofs.Taking.{GivesItself, gives_itself, offer, Serves, serves, Can, can_parts, whole_share, child_from, Given, offers_apart, given_is}
 
-use Rattle.cxl_pick.proofs.Parts.{Takes, at_target, InWindow, Picked, known_of, own_window, AtTarget, at_bridge, all_targets, in_given, in_set, given_endpoint, named, differ, set_asked, all_below, set_long}
+use Rattle.cxl_pick.proofs.Parts.{OfWindow, Takes, at_target, InWindow, Picked, known_of, own_window, AtTarget, at_bridge, all_targets, in_given, in_set, given_endpoint, named, differ, set_asked, all_below, set_long}
 use Rattle.cxl_pick.proofs.Standing.{Part, part_count, Share, Member, member, top_part, FromPort, from_port, child_part, used_part}
 
 -- ---- a used port
@@ -71,12 +71,12 @@ some_share u m whole some = go (m / u) whole
     go (suc v) is = omega arith
 
 pub port_facts : {s : System} {want : Want} {w : WindowFields} {given set : List ℕ} → (picked : Picked s want w given set) → (n : ℕ) → is_endpoint_at s.nodes n ≡ false → is_used s (asked want set) n ≡ true
-    → PortFacts s want w picked.window.start set n
+    → PortFacts s want w picked.of.window.start set n
 port_facts {s} {want} {w} {given} {set} picked n port used =
     let part = used_part picked n used in
-    let at = from_port s want w picked.window.start n part.m part.xs part.k port part.gave in
+    let at = from_port s want w picked.of.window.start n part.m part.xs part.k port part.gave in
     let all : count_under s (asked want set) n ≡ part.m = part_count picked n part in
-    let can = can_parts s want w picked.window.start n part.m (length (filter_map (offer at.k s want w picked.window.start part.m at.own.u) (children_of s n))) at.own.u at.own.can in
+    let can = can_parts s want w picked.of.window.start n part.m (length (filter_map (offer at.k s want w picked.of.window.start part.m at.own.u) (children_of s n))) at.own.u at.own.can in
     let whole : at.own.u * (part.m / at.own.u) ≡ part.m = whole_share at.own.u part.m at.own.count can.divides in
     let each : (c e : ℕ) → parent_of s.nodes c ≡ Some (record { node = n; port = e }) → is_used s (asked want set) c ≡ true → count_under s (asked want set) c ≡ part.m / at.own.u =
     λ c e child there.
@@ -94,15 +94,15 @@ port_facts {s} {want} {w} {given} {set} picked n port used =
     (mul_comm v (length (used_ports s (asked want set) n)) ∙ long ∙ all ∙ sym whole ∙ mul_comm at.own.u v) in
     record {
       u = at.own.u;
-      willing = length (filter_map (offer at.k s want w picked.window.start part.m at.own.u) (children_of s n));
+      willing = length (filter_map (offer at.k s want w picked.of.window.start part.m at.own.u) (children_of s n));
       count = at.own.count;
-      can = subst (λ (m : ℕ). Can s want w picked.window.start n m (length (filter_map (offer at.k s want w picked.window.start part.m at.own.u) (children_of s n))) at.own.u) (sym all) can;
+      can = subst (λ (m : ℕ). Can s want w picked.of.window.start n m (length (filter_map (offer at.k s want w picked.of.window.start part.m at.own.u) (children_of s n))) at.own.u) (sym all) can;
       ports = ports;
       shares = λ c e child there. each c e child there ∙ ap (λ (m : ℕ). m / at.own.u) (sym all);
     }
 
 -- each used port leads to as many
-pub port_share : {s : System} {want : Want} {w : WindowFields} {given set : List ℕ} → (picked : Picked s want w given set) → (n : ℕ) → (facts : PortFacts s want w picked.window.start set n)
+pub port_share : {s : System} {want : Want} {w : WindowFields} {given set : List ℕ} → (picked : Picked s want w given set) → (n : ℕ) → (facts : PortFacts s want w picked.of.window.start set n)
     → (e : ℕ) → is_port_used s (asked want set) n e ≡ true → count_at_port s (asked want set) n e ≡ count_under s (asked want set) n / facts.u
 port_share {s} {want} {w} {given} {set} picked n facts e used =
     let own = used_child (set_asked picked) n e used in
@@ -117,18 +117,18 @@ top_count picked b none used = let share = top_part picked b none used in part_c
 pub ways_whole : {s : System} {want : Want} {w : WindowFields} {given set : List ℕ} → (picked : Picked s want w given set) → want.ways / w.ways * w.ways ≡ want.ways
 ways_whole {s} {want} {w} picked =
     let split = div-add-mod' want.ways w.ways in
-    let even = picked.window.takes.divides in
+    let even = picked.of.window.takes.divides in
     omega (arith, split, even)
 
 pub set_evenly : {s : System} {want : Want} {w : WindowFields} {given set : List ℕ} → (picked : Picked s want w given set) → LieEvenly s (asked want set) w
 set_evenly {s} {want} {w} {given} {set} picked = record {
   asked = set_asked picked;
   known = ap is_ways (set_long picked) ∙ picked.ways;
-  ways = (own_window picked).known.ways_known;
+  ways = (own_window picked.of).known.ways_known;
   tops = λ b none used. ap (λ (k : ℕ). k * w.ways) (top_count picked b none used) ∙ ways_whole picked ∙ sym (set_long picked);
   counts = λ n port used. let facts = port_facts picked n (port_no_endpoint s.nodes n port) used in ap is_target_count facts.ports ∙ facts.count;
   children = λ c p child used.
-      let port = (parent_is_port (known_of picked) c p child).1 in
+      let port = (parent_is_port (known_of picked.of) c p child).1 in
       let facts = port_facts picked p.node (port_no_endpoint s.nodes p.node port) (used_parent (set_asked picked) c p child used) in
       ap (λ (k : ℕ). k * count_under s (asked want set) c) facts.ports
       ∙ ap (λ (k : ℕ). facts.u * k) (facts.shares c p.port child used)
@@ -144,21 +144,21 @@ pub record Itself (s : System) (want : Want) (w : WindowFields) (start n : ℕ) 
   pub room : has_room s want n ≡ true
 
 pub itself : {s : System} {want : Want} {w : WindowFields} {given set : List ℕ} → (picked : Picked s want w given set) → (n : ℕ) → is_endpoint_at s.nodes n ≡ true → is_used s (asked want set) n ≡ true
-    → Itself s want w picked.window.start n
+    → Itself s want w picked.of.window.start n
 itself {s} {want} {w} {given} {set} picked n endpoint used =
     let part = used_part picked n used in
     go part.k part.m part.xs part.gave
   where
-    go : (k m : ℕ) (xs : List ℕ) → gives_within k s want w picked.window.start n m ≡ Some xs → Itself s want w picked.window.start n
-    go zero m xs gave = absurd (none-some xs (sym (gives_none s want w picked.window.start n m) ∙ gave))
+    go : (k m : ℕ) (xs : List ℕ) → gives_within k s want w picked.of.window.start n m ≡ Some xs → Itself s want w picked.of.window.start n
+    go zero m xs gave = absurd (none-some xs (sym (gives_none s want w picked.of.window.start n m) ∙ gave))
     go (suc k) m xs gave =
-        let own = gives_itself k s want w picked.window.start n m xs endpoint gave in
-        let a = and_parts (is_open s picked.window.start n && option_map_or (endpoint_ways_ok (cap_at s n)) (code_in_table want.ways) false && select_ok (cap_at s n) (wanted_code want w) (bits_of want.ways)) (has_room s want n) own.serves in
-        let b = and_parts (is_open s picked.window.start n && option_map_or (endpoint_ways_ok (cap_at s n)) (code_in_table want.ways) false) (select_ok (cap_at s n) (wanted_code want w) (bits_of want.ways)) a.0 in
-        let c = and_parts (is_open s picked.window.start n) (option_map_or (endpoint_ways_ok (cap_at s n)) (code_in_table want.ways) false) b.0 in
+        let own = gives_itself k s want w picked.of.window.start n m xs endpoint gave in
+        let a = and_parts (is_open s picked.of.window.start n && option_map_or (endpoint_ways_ok (cap_at s n)) (code_in_table want.ways) false && select_ok (cap_at s n) (wanted_code want w) (bits_of want.ways)) (has_room s want n) own.serves in
+        let b = and_parts (is_open s picked.of.window.start n && option_map_or (endpoint_ways_ok (cap_at s n)) (code_in_table want.ways) false) (select_ok (cap_at s n) (wanted_code want w) (bits_of want.ways)) a.0 in
+        let c = and_parts (is_open s picked.of.window.start n) (option_map_or (endpoint_ways_ok (cap_at s n)) (code_in_table want.ways) false) b.0 in
         record { opened = c.0; ways = c.1; selects = b.1; room = a.1 }
 
-pub opened : {s : System} {want : Want} {w : WindowFields} {given set : List ℕ} → (picked : Picked s want w given set) → (n : ℕ) → is_used s (asked want set) n ≡ true → is_open s picked.window.start n ≡ true
+pub opened : {s : System} {want : Want} {w : WindowFields} {given set : List ℕ} → (picked : Picked s want w given set) → (n : ℕ) → is_used s (asked want set) n ≡ true → is_open s picked.of.window.start n ≡ true
 opened {s} {want} {w} {given} {set} picked n used =
     elim (cases_Bool (is_endpoint_at s.nodes n)) [
       | inl endpoint ↦ (itself picked n endpoint used).opened

@@ -50,7 +50,7 @@ use Rattle.cxl_pick.proofs.Serving.{endpoint_code, used_port}
 use Rattle.cxl_pick.proofs.Pieces.{Source, Pieces, Apart, AllPieces, first_pieces, taken, all_pieces}
 use Rattle.cxl_pick.proofs.Taking.{GivesItself, gives_itself, offer, Serves, serves, Can, can_parts, whole_share, child_from, Given, offers_apart, given_is}
 
-use Rattle.cxl_pick.proofs.Parts.{Takes, at_target, InWindow, Picked, known_of, own_window, AtTarget, at_bridge, all_targets, in_given, in_set, given_endpoint, named, differ, set_asked, all_below, set_long}
+use Rattle.cxl_pick.proofs.Parts.{OfWindow, Takes, at_target, InWindow, Picked, known_of, own_window, AtTarget, at_bridge, all_targets, in_given, in_set, given_endpoint, named, differ, set_asked, all_below, set_long}
 use Rattle.cxl_pick.proofs.Standing.{Part, part_count, Share, Member, member, top_part, FromPort, from_port, child_part, used_part}
 use Rattle.cxl_pick.proofs.Evenly.{told, number_passes, used_within}
 use Rattle.cxl_pick.proofs.Facts.{PortFacts, port_facts, port_share, top_count, ways_whole, set_evenly, Itself, itself, opened}
@@ -65,12 +65,12 @@ pub code_low : {s : System} {want : Want} {w : WindowFields} {given set : List �
 code_low {s} {want} {w} picked stated = go (want.ways == 1) (nat_lt 1 w.ways)
   where
     optional : (o : Option ℕ) → IfSome o (λ code. code ≤ 6) → unwrap_or o w.gran ≤ 6
-    optional None tells = (own_window picked).known.gran_known
+    optional None tells = (own_window picked.of).known.gran_known
     optional (Some code) low = low
 
     go : (one several : Bool) → (if one then 0 else (if several then w.gran else unwrap_or want.gran w.gran)) ≤ 6
     go true several = omega arith
-    go false true = (own_window picked).known.gran_known
+    go false true = (own_window picked.of).known.gran_known
     go false false = optional want.gran stated
 
 -- ---- the endpoints
@@ -99,7 +99,7 @@ bridge_share_is : {s : System} {want : Want} {w : WindowFields} {given set : Lis
 bridge_share_is {s} {want} {w} {given} {set} picked n used =
     elim (cases_Bool (is_bridge_at s.nodes n)) [
       | inl bridge ↦ or_right (not (is_bridge_at s.nodes n)) (option_map_or (λ first. count_under s (asked want set) n == count_under s (asked want set) first) (first_bridge s (asked want set)) true)
-          (go (picked.system.tree.bridges n bridge) (first_bridge s (asked want set)) refl)
+          (go (picked.of.system.tree.bridges n bridge) (first_bridge s (asked want set)) refl)
       | inr other ↦ or_left (not (is_bridge_at s.nodes n)) (option_map_or (λ first. count_under s (asked want set) n == count_under s (asked want set) first) (first_bridge s (asked want set)) true)
           (not_from_false (is_bridge_at s.nodes n) other)
     ]
@@ -108,7 +108,7 @@ bridge_share_is {s} {want} {w} {given} {set} picked n used =
     go top None at = refl
     go top (Some m) at =
         let parts = and_parts (is_bridge_at s.nodes m) (is_used s (asked want set) m) (find_passes (λ k. is_bridge_at s.nodes k && is_used s (asked want set) k) (range_with_len 0 (length s.nodes)) m at) in
-        eq-eqb (count_under s (asked want set) n) (count_under s (asked want set) m) (top_count picked n top used ∙ sym (top_count picked m (picked.system.tree.bridges m parts.0) parts.1))
+        eq-eqb (count_under s (asked want set) n) (count_under s (asked want set) m) (top_count picked n top used ∙ sym (top_count picked m (picked.of.system.tree.bridges m parts.0) parts.1))
 
 not_lacking : (p u a b c : Bool) → (p ≡ true → u ≡ true → (a ≡ true) × (b ≡ true) × (c ≡ true)) → (p && u && not (a && b && c)) ≡ false
 not_lacking true true a b c all =
@@ -129,7 +129,7 @@ not_both false b fails = refl
 self_used : {s : System} {want : Want} {w : WindowFields} {given set : List ℕ} → (picked : Picked s want w given set) → (m : ℕ) → is_in m set ≡ true → is_used s (asked want set) m ≡ true
 self_used {s} {want} {w} {given} {set} picked m there =
     let at = in_is set m there in
-    list_any_at (is_under s.nodes m) set at.0 m at.1 (subst (λ (i : ℕ). is_under s.nodes m i ≡ true) (sym at.2) (under_self (known_of picked) m))
+    list_any_at (is_under s.nodes m) set at.0 m at.1 (subst (λ (i : ℕ). is_under s.nodes m i ≡ true) (sym at.2) (under_self (known_of picked.of) m))
 
 -- its least span starts past what is committed, in its kind's partition
 least_span : (s : System) (want : Want) (set : List ℕ) (m : ℕ) → length set ≡ want.ways → all_committed (decoders_at s m) ≡ false → has_room s want m ≡ true → HasRoom s (asked want set) m
@@ -163,10 +163,10 @@ set_fits_endpoints {s} {want} {w} {given} {set} picked size = record {
   even = λ n.
       not_lacking (is_port_at s.nodes n) (is_used s (asked want set) n) (has_even_ports s (asked want set) n) (has_even_children s (asked want set) n) (has_bridge_share s (asked want set) n)
       (λ port used. (even_ports_is picked n port used, even_children_is picked n port used, bridge_share_is picked n used));
-  left = λ n. not_both (is_used s (asked want set) n) (all_committed (decoders_at s n)) (λ used. (left_of s picked.window.start n (opened picked n used)).0);
+  left = λ n. not_both (is_used s (asked want set) n) (all_committed (decoders_at s n)) (λ used. (left_of s picked.of.window.start n (opened picked n used)).0);
   room = λ m there.
       let inside = in_from set m there in
       let used = self_used picked m inside in
-      let endpoint = given_endpoint picked m (in_given picked m inside) in
-      least_span s want set m (set_long picked) (left_of s picked.window.start m (opened picked m used)).0 (itself picked m endpoint used).room;
+      let endpoint = given_endpoint picked.of m (in_given picked m inside) in
+      least_span s want set m (set_long picked) (left_of s picked.of.window.start m (opened picked m used)).0 (itself picked m endpoint used).room;
 }

@@ -50,7 +50,7 @@ use Rattle.cxl_pick.proofs.Serving.{endpoint_code, used_port}
 use Rattle.cxl_pick.proofs.Pieces.{Source, Pieces, Apart, AllPieces, first_pieces, taken, all_pieces}
 use Rattle.cxl_pick.proofs.Taking.{GivesItself, gives_itself, offer, Serves, serves, Can, can_parts, whole_share, child_from, Given, offers_apart, given_is}
 
-use Rattle.cxl_pick.proofs.Parts.{Takes, at_target, InWindow, Picked, known_of, own_window, AtTarget, at_bridge, all_targets, in_given, in_set, given_endpoint, named, differ, set_asked, all_below, set_long}
+use Rattle.cxl_pick.proofs.Parts.{OfWindow, Takes, at_target, InWindow, Picked, known_of, own_window, AtTarget, at_bridge, all_targets, in_given, in_set, given_endpoint, named, differ, set_asked, all_below, set_long}
 use Rattle.cxl_pick.proofs.Standing.{Part, part_count, Share, Member, member, top_part, FromPort, from_port, child_part, used_part}
 use Rattle.cxl_pick.proofs.Evenly.{told, number_passes, used_within}
 use Rattle.cxl_pick.proofs.Facts.{PortFacts, port_facts, port_share, top_count, ways_whole, set_evenly, Itself, itself, opened}
@@ -75,9 +75,9 @@ some_member (x ∷ xs) v long some = (x, or_left (x == x) (is_in x xs) (eq-eqb x
 
 target_used : {s : System} {want : Want} {w : WindowFields} {given set : List ℕ} → (picked : Picked s want w given set) → (uid : ℕ) → is_in uid w.targets ≡ true → is_used_bridge s (asked want set) uid ≡ true
 target_used {s} {want} {w} {given} {set} picked uid listed =
-    let own = (all_targets picked).each uid listed in
-    let at = at_bridge picked picked.window.start uid own.0 own.1 in
-    let gave = given_is s (known_of picked) (length s.nodes) want w picked.window.start at.own.node (want.ways / w.ways) own.0 at.gives in
+    let own = (all_targets picked.of).each uid listed in
+    let at = at_bridge picked.of picked.of.window.start uid own.0 own.1 in
+    let gave = given_is s (known_of picked.of) (length s.nodes) want w picked.of.window.start at.own.node (want.ways / w.ways) own.0 at.gives in
     let some = some_member own.0 (want.ways / w.ways) gave.count (some_each picked) in
     let inside = in_is set some.0 (in_set picked some.0 (own.2 some.0 some.1)) in
     ap (λ (o : Option ℕ). option_map_or (is_used s (asked want set)) o false) at.own.is
@@ -86,10 +86,10 @@ target_used {s} {want} {w} {given} {set} picked uid listed =
 top_target : {s : System} {want : Want} {w : WindowFields} {given set : List ℕ} → (picked : Picked s want w given set) → (n : ℕ) → parent_of s.nodes n ≡ None → is_used s (asked want set) n ≡ true → is_target s w n ≡ true
 top_target {s} {want} {w} {given} {set} picked n top used =
     let some = member s want set n used in
-    let source = (all_targets picked).pieces.from some.x (in_given picked some.x some.there) in
-    let at = at_bridge picked picked.window.start source.piece source.ys source.gives in
-    let lies = (given_is s (known_of picked) (length s.nodes) want w picked.window.start at.own.node (want.ways / w.ways) source.ys at.gives).under some.x source.there in
-    let same : at.own.node ≡ n = one_top (known_of picked) at.own.node n at.own.top top some.x lies some.under in
+    let source = (all_targets picked.of).pieces.from some.x (in_given picked some.x some.there) in
+    let at = at_bridge picked.of picked.of.window.start source.piece source.ys source.gives in
+    let lies = (given_is s (known_of picked.of) (length s.nodes) want w picked.of.window.start at.own.node (want.ways / w.ways) source.ys at.gives).under some.x source.there in
+    let same : at.own.node ≡ n = one_top (known_of picked.of) at.own.node n at.own.top top some.x lies some.under in
     let uid : uid_at s.nodes n ≡ Some source.piece = ap (uid_at s.nodes) (sym same) ∙ at.own.uid_is in
     ap (λ (o : Option ℕ). option_map_or (λ uid. list_any (λ target. target == uid) w.targets) o false) uid ∙ source.listed
 
@@ -107,7 +107,7 @@ bridges_are {s} {want} {w} {given} {set} picked =
     let n : ℕ = get_or (range_with_len 0 (length s.nodes)) k d in
     not_or (is_bridge_at s.nodes n && is_used s (asked want set) n) (is_target s w n) (λ both.
     let parts = and_parts (is_bridge_at s.nodes n) (is_used s (asked want set) n) both in
-    top_target picked n (picked.system.tree.bridges n parts.0) parts.1)))
+    top_target picked n (picked.of.system.tree.bridges n parts.0) parts.1)))
 
 -- ---- what the nodes select
 
@@ -123,7 +123,7 @@ port_selects : {s : System} {want : Want} {w : WindowFields} {given set : List �
     → (nat_le (planned_code s (asked want set) w n) 6 && select_ok (cap_at s n) (planned_code s (asked want set) w n) (bits_of (planned_ways s (asked want set) n))) ≡ true
 port_selects {s} {want} {w} {given} {set} picked n other used = go (facts.u == 1) refl
   where
-    facts : PortFacts s want w picked.window.start set n
+    facts : PortFacts s want w picked.of.window.start set n
     facts = port_facts picked n other used
 
     port : is_port_at s.nodes n ≡ true
@@ -168,12 +168,12 @@ ways_are {s} {want} {w} {given} {set} picked n =
 
 set_fits_window : {s : System} {want : Want} {w : WindowFields} {given set : List ℕ} → (picked : Picked s want w given set) → HasCode want → FitsWindow s (asked want set) w
 set_fits_window {s} {want} {w} {given} {set} picked stated = record {
-  there = picked.there;
-  usable = picked.window.takes.usable;
-  kind = picked.window.takes.kind;
-  open_to_plans = not-true (has_bit w.restrict 4) picked.window.takes.not_fixed;
+  there = picked.of.there;
+  usable = picked.of.window.takes.usable;
+  kind = picked.of.window.takes.kind;
+  open_to_plans = not-true (has_bit w.restrict 4) picked.of.window.takes.not_fixed;
   bridges = bridges_are picked;
-  gran = picked.window.takes.gran;
+  gran = picked.of.window.takes.gran;
   selects = selects_is picked stated;
   ways = ways_are picked;
 }
@@ -189,19 +189,19 @@ starts_are want w start is = go (nat_le want.size w.size) refl is
     go true small some = record { small = leb-true want.size w.size small; is = same_Some (w.base + (w.size - want.size) / base_step w * base_step w) start some }
     go false small none = absurd (none-some start none)
 
-set_fits_base : {s : System} {want : Want} {w : WindowFields} {given set : List ℕ} → (picked : Picked s want w given set) → FitsBase s (asked want set) w picked.window.start
+set_fits_base : {s : System} {want : Want} {w : WindowFields} {given set : List ℕ} → (picked : Picked s want w given set) → FitsBase s (asked want set) w picked.of.window.start
 set_fits_base {s} {want} {w} {given} {set} picked =
-    let start : ℕ = picked.window.start in
-    let starts = starts_are want w picked.window.start picked.window.starts in
+    let start : ℕ = picked.of.window.start in
+    let starts = starts_are want w picked.of.window.start picked.of.window.starts in
     let small = starts.small in
     let is = starts.is in
     let steps : ℕ = (w.size - want.size) / base_step w * base_step w in
     let split : steps + (w.size - want.size) % base_step w ≡ w.size - want.size = div-add-mod' (w.size - want.size) (base_step w) in
-    let apart : picked.window.start - w.base ≡ steps = omega (arith, is) in
+    let apart : picked.of.window.start - w.base ≡ steps = omega (arith, is) in
     record {
       can = record {
         from = omega (arith, is);
-        after = λ n used. (left_of s picked.window.start n (opened picked n used)).1;
+        after = λ n used. (left_of s picked.of.window.start n (opened picked n used)).1;
         step = ap (λ (k : ℕ). k % base_step w) apart ∙ mul-mod_left ((w.size - want.size) / base_step w) (base_step w);
       };
       inside = omega (arith, is, small, split);
@@ -210,9 +210,9 @@ set_fits_base {s} {want} {w} {given} {set} picked =
 pub given_fits : {s : System} {want : Want} {w : WindowFields} {given set : List ℕ} → (picked : Picked s want w given set) → IsAccepted s → IsSize (asked want set) → HasCode want → (start : ℕ) → latest_start want w ≡ Some start
     → Fits s (asked want set) w start
 given_fits {s} {want} {w} {given} {set} picked accepted size stated start is =
-    let same : picked.window.start ≡ start = same_Some picked.window.start start (sym picked.window.starts ∙ is) in
+    let same : picked.of.window.start ≡ start = same_Some picked.of.window.start start (sym picked.of.window.starts ∙ is) in
     subst (Fits s (asked want set) w) same (record {
-      system = picked.system;
+      system = picked.of.system;
       ports = picked.ports;
       accepted = accepted;
       named = named picked;

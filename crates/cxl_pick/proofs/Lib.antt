@@ -23,3 +23,4 @@ mod Rooms
 mod Levels
 mod Entries
 mod Offering
+mod Givings

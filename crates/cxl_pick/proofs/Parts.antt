@@ -78,55 +78,60 @@ in_window s want w given is = first (can_take want w) refl is
 
 -- ---- a pick
 
-pub record Picked (s : System) (want : Want) (w : WindowFields) (given set : List ℕ) : Type 0 where
+-- what a window of a system gives
+pub record OfWindow (s : System) (want : Want) (w : WindowFields) (given : List ℕ) : Type 0 where
   pub laws : AreTreeLaws s.nodes
   pub system : IsSystem s
-  pub ports : HasBytePorts s.nodes
-  pub ways : is_ways want.ways ≡ true
   pub there : slice_get s.windows w.index ≡ Some w
   pub window : InWindow s want w given
+
+-- and the same numbers in rising order
+pub record Picked (s : System) (want : Want) (w : WindowFields) (given set : List ℕ) : Type 0 where
+  pub of : OfWindow s want w given
+  pub ports : HasBytePorts s.nodes
+  pub ways : is_ways want.ways ≡ true
   pub rising : AreRising given set
 
-pub known_of : {s : System} {want : Want} {w : WindowFields} {given set : List ℕ} → Picked s want w given set → KnownTree s.nodes
-known_of picked = record { tree = picked.system.tree; laws = picked.laws }
+pub known_of : {s : System} {want : Want} {w : WindowFields} {given : List ℕ} → OfWindow s want w given → KnownTree s.nodes
+known_of of = record { tree = of.system.tree; laws = of.laws }
 
-pub own_window : {s : System} {want : Want} {w : WindowFields} {given set : List ℕ} → Picked s want w given set → Windowed w
-own_window {s} {want} {w} picked = windowed s w picked.system picked.there picked.window.takes.usable
+pub own_window : {s : System} {want : Want} {w : WindowFields} {given : List ℕ} → OfWindow s want w given → Windowed w
+own_window {s} {want} {w} of = windowed s w of.system of.there of.window.takes.usable
 
 pub record AtTarget (s : System) (want : Want) (w : WindowFields) (start uid : ℕ) (ys : List ℕ) : Type 0 where
   pub own : BridgeOf s.nodes uid
   pub gives : gives_within (length s.nodes) s want w start own.node (want.ways / w.ways) ≡ Some ys
 
-pub at_bridge : {s : System} {want : Want} {w : WindowFields} {given set : List ℕ} → Picked s want w given set → (start uid : ℕ) (ys : List ℕ) → at_target s want w start uid ≡ Some ys → AtTarget s want w start uid ys
-at_bridge {s} {want} {w} picked start uid ys is = go (bridge_with s.nodes uid) refl is
+pub at_bridge : {s : System} {want : Want} {w : WindowFields} {given : List ℕ} → OfWindow s want w given → (start uid : ℕ) (ys : List ℕ) → at_target s want w start uid ≡ Some ys → AtTarget s want w start uid ys
+at_bridge {s} {want} {w} of start uid ys is = go (bridge_with s.nodes uid) refl is
   where
     go : (o : Option ℕ) → bridge_with s.nodes uid ≡ o → option_and_then (λ b. gives s want w start b (want.ways / w.ways)) o ≡ Some ys → AtTarget s want w start uid ys
     go None at none = absurd (none-some ys none)
     go (Some b) at some = record {
-      own = bridge_of (known_of picked) uid b at;
-      gives = ap (λ (n : ℕ). gives_within (length s.nodes) s want w start n (want.ways / w.ways)) (bridge_node (known_of picked) uid b at) ∙ some;
+      own = bridge_of (known_of of) uid b at;
+      gives = ap (λ (n : ℕ). gives_within (length s.nodes) s want w start n (want.ways / w.ways)) (bridge_node (known_of of) uid b at) ∙ some;
     }
 
-apart_targets : {s : System} {want : Want} {w : WindowFields} {given set : List ℕ} → (picked : Picked s want w given set) → Apart (at_target s want w picked.window.start) w.targets (want.ways / w.ways)
-apart_targets {s} {want} {w} picked = record {
+apart_targets : {s : System} {want : Want} {w : WindowFields} {given : List ℕ} → (of : OfWindow s want w given) → Apart (at_target s want w of.window.start) w.targets (want.ways / w.ways)
+apart_targets {s} {want} {w} of = record {
   long = λ uid ys there is.
-      let at = at_bridge picked picked.window.start uid ys is in
-      (given_is s (known_of picked) (length s.nodes) want w picked.window.start at.own.node (want.ways / w.ways) ys at.gives).count;
+      let at = at_bridge of of.window.start uid ys is in
+      (given_is s (known_of of) (length s.nodes) want w of.window.start at.own.node (want.ways / w.ways) ys at.gives).count;
   single = λ uid ys there is.
-      let at = at_bridge picked picked.window.start uid ys is in
-      (given_is s (known_of picked) (length s.nodes) want w picked.window.start at.own.node (want.ways / w.ways) ys at.gives).distinct;
+      let at = at_bridge of of.window.start uid ys is in
+      (given_is s (known_of of) (length s.nodes) want w of.window.start at.own.node (want.ways / w.ways) ys at.gives).distinct;
   apart = λ c d x ys zs here there is also in_ys in_zs.
-      let at = at_bridge picked picked.window.start c ys is in
-      let other = at_bridge picked picked.window.start d zs also in
-      let first = (given_is s (known_of picked) (length s.nodes) want w picked.window.start at.own.node (want.ways / w.ways) ys at.gives).under x in_ys in
-      let second = (given_is s (known_of picked) (length s.nodes) want w picked.window.start other.own.node (want.ways / w.ways) zs other.gives).under x in_zs in
-      let same : at.own.node ≡ other.own.node = one_top (known_of picked) at.own.node other.own.node at.own.top other.own.top x first second in
+      let at = at_bridge of of.window.start c ys is in
+      let other = at_bridge of of.window.start d zs also in
+      let first = (given_is s (known_of of) (length s.nodes) want w of.window.start at.own.node (want.ways / w.ways) ys at.gives).under x in_ys in
+      let second = (given_is s (known_of of) (length s.nodes) want w of.window.start other.own.node (want.ways / w.ways) zs other.gives).under x in_zs in
+      let same : at.own.node ≡ other.own.node = one_top (known_of of) at.own.node other.own.node at.own.top other.own.top x first second in
       same_Some c d (sym at.own.uid_is ∙ ap (uid_at s.nodes) same ∙ other.own.uid_is);
-  differ = distinct_test w.targets (own_window picked).usable.distinct;
+  differ = distinct_test w.targets (own_window of).usable.distinct;
 }
 
-pub all_targets : {s : System} {want : Want} {w : WindowFields} {given set : List ℕ} → (picked : Picked s want w given set) → AllPieces (at_target s want w picked.window.start) w.targets (want.ways / w.ways) given
-all_targets {s} {want} {w} {given} picked = all_pieces (at_target s want w picked.window.start) w.targets (want.ways / w.ways) given (apart_targets picked) picked.window.all
+pub all_targets : {s : System} {want : Want} {w : WindowFields} {given : List ℕ} → (of : OfWindow s want w given) → AllPieces (at_target s want w of.window.start) w.targets (want.ways / w.ways) given
+all_targets {s} {want} {w} {given} of = all_pieces (at_target s want w of.window.start) w.targets (want.ways / w.ways) given (apart_targets of) of.window.all
 
 -- ---- the set
 
@@ -136,22 +141,22 @@ in_given {s} {want} {w} {given} {set} picked x there = in_from given x ((picked.
 pub in_set : {s : System} {want : Want} {w : WindowFields} {given set : List ℕ} → Picked s want w given set → (x : ℕ) → is_in x given ≡ true → is_in x set ≡ true
 in_set {s} {want} {w} {given} {set} picked x there = in_from set x ((picked.rising.same x).0 (in_is given x there))
 
-pub given_endpoint : {s : System} {want : Want} {w : WindowFields} {given set : List ℕ} → Picked s want w given set → (x : ℕ) → is_in x given ≡ true → is_endpoint_at s.nodes x ≡ true
-given_endpoint {s} {want} {w} {given} {set} picked x there =
-    let source = (all_targets picked).pieces.from x there in
-    let at = at_bridge picked picked.window.start source.piece source.ys source.gives in
-    (given_is s (known_of picked) (length s.nodes) want w picked.window.start at.own.node (want.ways / w.ways) source.ys at.gives).ends x source.there
+pub given_endpoint : {s : System} {want : Want} {w : WindowFields} {given : List ℕ} → OfWindow s want w given → (x : ℕ) → is_in x given ≡ true → is_endpoint_at s.nodes x ≡ true
+given_endpoint {s} {want} {w} {given} of x there =
+    let source = (all_targets of).pieces.from x there in
+    let at = at_bridge of of.window.start source.piece source.ys source.gives in
+    (given_is s (known_of of) (length s.nodes) want w of.window.start at.own.node (want.ways / w.ways) source.ys at.gives).ends x source.there
 
 pub named : {s : System} {want : Want} {w : WindowFields} {given set : List ℕ} → Picked s want w given set → AreEndpoints s (asked want set)
 named {s} {want} {w} {given} {set} picked = λ k d within.
     let x : ℕ = get_or set k d in
-    given_endpoint picked x (in_given picked x (list_any_at (λ m. m == x) set k d within (eq-eqb x x refl)))
+    given_endpoint picked.of x (in_given picked x (list_any_at (λ m. m == x) set k d within (eq-eqb x x refl)))
 
 pub differ : {s : System} {want : Want} {w : WindowFields} {given set : List ℕ} → Picked s want w given set → AllPairs (λ a b. a ≢ b) set
 differ picked = λ i j d less within same. let low = picked.rising.order i j d less within in omega (arith, low, same)
 
 pub set_asked : {s : System} {want : Want} {w : WindowFields} {given set : List ℕ} → Picked s want w given set → Asked s (asked want set)
-set_asked picked = record { known = known_of picked; ports = picked.ports; named = named picked }
+set_asked picked = record { known = known_of picked.of; ports = picked.ports; named = named picked }
 
 pub all_below : (s : System) (xs : List ℕ) → ((x : ℕ) → is_in x xs ≡ true → is_endpoint_at s.nodes x ≡ true) → All (λ x. x < length s.nodes) xs
 all_below s xs ends = λ k d within.
@@ -170,13 +175,13 @@ filter_all (x ∷ xs) = ap (λ ys. x ∷ ys) (filter_all xs)
 pub set_long : {s : System} {want : Want} {w : WindowFields} {given set : List ℕ} → Picked s want w given set → length set ≡ want.ways
 set_long {s} {want} {w} {given} {set} picked =
     ap (λ (xs : List ℕ). length xs) (sym (filter_all set))
-    ∙ same_length (length s.nodes) (λ x. true) set given (distinct_test set (differ picked)) (all_targets picked).pieces.distinct
-    (all_below s set (λ x there. given_endpoint picked x (in_given picked x there)))
-    (all_below s given (given_endpoint picked))
+    ∙ same_length (length s.nodes) (λ x. true) set given (distinct_test set (differ picked)) (all_targets picked.of).pieces.distinct
+    (all_below s set (λ x there. given_endpoint picked.of x (in_given picked x there)))
+    (all_below s given (given_endpoint picked.of))
     (λ x. and_true (is_in x set) ∙ same_test (is_in x set) (is_in x given) (in_given picked x) (in_set picked x))
-    ∙ (all_targets picked).long
-    ∙ ap (λ (k : ℕ). k * (want.ways / w.ways)) (own_window picked).known.target_each_way
-    ∙ whole w.ways want.ways (some_ways w.ways (own_window picked).known.ways_known) picked.window.takes.divides
+    ∙ (all_targets picked.of).long
+    ∙ ap (λ (k : ℕ). k * (want.ways / w.ways)) (own_window picked.of).known.target_each_way
+    ∙ whole w.ways want.ways (some_ways w.ways (own_window picked.of).known.ways_known) picked.of.window.takes.divides
   where
     whole : (a n : ℕ) → 0 < a → n % a ≡ 0 → a * (n / a) ≡ n
     whole a n some even = let split = div-add-mod n a in omega (arith, split, even)

@@ -19,6 +19,7 @@ use Rattle.cxl_model.specs.Plans.{plan_code}
 use Rattle.cxl_legal.specs.Endpoints.{cap_at, share_of}
 use Rattle.cxl_legal.specs.Windows.{agrees_on_gran}
 use Rattle.cxl_legal.specs.Bases.{last_end, base_step}
+use Rattle.cxl_legal.specs.Stated.{Fits}
 use Rattle.cxl_pick.specs.declared.want.Want.{Want}
 use Rattle.cxl_pick.specs.declared.fault.PickFault.{PickFault}
 use Rattle.cxl_pick.specs.declared.fault.PickFault.TheVariants as faults
@@ -147,3 +148,16 @@ TellsPickFault s want (faults.Ways n) = (n ≡ want.ways) × (is_ways want.ways 
 TellsPickFault s want faults.Size = (is_ways want.ways ≡ true) × (IsWantedSize want → ⊥)
 TellsPickFault s want faults.NoSet = (is_ways want.ways ≡ true) × IsWantedSize want × NothingGiven s want
 TellsPickFault s want faults.Memory = Unit {0}
+
+-- ---- what is picked fits
+
+-- the set keeps all that a request has to in a window at a base, and no set of so many endpoints does so in an earlier window
+pub record FitsFirst (s : System) (want : Want) (set : List ℕ) : Type 0 where
+  pub window : WindowFields
+  pub base : ℕ
+  pub fits : Fits s (asked want set) window base
+  pub first : (earlier : WindowFields) (other : List ℕ) (start : ℕ) → earlier.index < window.index → length other ≡ want.ways → Fits s (asked want other) earlier start → ⊥
+
+-- no set of so many endpoints keeps all that a request has to, in any window at any base
+abbrev pub NothingFits : System → Want → Type 0
+NothingFits s want = (w : WindowFields) (set : List ℕ) (base : ℕ) → length set ≡ want.ways → Fits s (asked want set) w base → ⊥
