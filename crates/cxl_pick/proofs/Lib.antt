@@ -24,3 +24,5 @@ mod Levels
 mod Entries
 mod Offering
 mod Givings
+mod Settled
+mod Picks

@@ -58,6 +58,19 @@ entry_is s want w start n c v table offers lower within below some few =
     ∙ offers.each place own.0 own.1 (omega (arith, rest, some))
     ∙ (λ i. offered s want w start (above i) (rest i))
 
+-- the same of any node, where the table is whole
+pub entry_whole : (s : System) (want : Want) (w : WindowFields) (start c v : ℕ) (table : List (Vec ℕ Global)) → AreOffers s want w start table → c < length s.nodes
+    → length table ≡ length s.nodes * 17 → 0 < v → v ≤ 16 → entry_at table (length s.nodes) c v ≡ offered s want w start c v
+entry_whole s want w start c v table offers within all some few =
+    let place : ℕ = place_of (length s.nodes) c v in
+    let inside : place < length table = omega (arith, within, all, few) in
+    let own = item table place inside in
+    let rest : place % 17 ≡ v = omega (arith, few) in
+    let above : length s.nodes - 1 - place / 17 ≡ c = omega (arith, few, within) in
+    ap (λ (o : Option (Vec ℕ Global)). option_map_or (λ own. own.items) o []) own.1
+    ∙ offers.each place own.0 own.1 (omega (arith, rest, some))
+    ∙ (λ i. offered s want w start (above i) (rest i))
+
 pub offers_are : (s : System) → KnownTree s.nodes → (want : Want) (w : WindowFields) (start n v : ℕ) (table : List (Vec ℕ Global)) → AreOffers s want w start table
     → (length s.nodes - 1 - n) * 17 ≤ length table → 0 < v → v ≤ 16
     → offers_at table (length s.nodes) (children_of s n) v ≡ filter_map (λ child. gives s want w start child v) (children_of s n)
@@ -75,7 +88,7 @@ no_part s want w start n m willing u some none =
     let zero_is : u * (m / u) ≡ 0 = ap (λ (k : ℕ). u * k) none ∙ omega arith in
     omega (arith, even, split, zero_is, some))
 
-quotient_low : (m u : ℕ) → m ≤ 16 → m / u ≤ 16
+pub quotient_low : (m u : ℕ) → m ≤ 16 → m / u ≤ 16
 quotient_low m u few =
     let low = div-le_self m u in
     omega (arith, low, few)

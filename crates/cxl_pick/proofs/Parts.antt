@@ -44,7 +44,7 @@ pub record Takes (want : Want) (w : WindowFields) : Type 0 where
   pub gran : agrees_on_gran (asked want []) w ≡ true
   pub divides : want.ways % w.ways ≡ 0
 
-take_parts : (want : Want) (w : WindowFields) → can_take want w ≡ true → Takes want w
+pub take_parts : (want : Want) (w : WindowFields) → can_take want w ≡ true → Takes want w
 take_parts want w can =
     let a = and_parts (is_usable w.verdict && permits w want.kind && not (has_bit w.restrict 4) && agrees_on_gran (asked want []) w) (want.ways % w.ways == 0) can in
     let b = and_parts (is_usable w.verdict && permits w want.kind && not (has_bit w.restrict 4)) (agrees_on_gran (asked want []) w) a.0 in

@@ -206,7 +206,7 @@ fn first_offers(
 }
 
 /// Whether a child gives something for `share` endpoints.
-fn gives(count: u32, table: &[Vec<u32>], child: u32, share: u8) -> bool
+pub(crate) fn gives(count: u32, table: &[Vec<u32>], child: u32, share: u8) -> bool
     ensures { result ≡ not (length (entry_at table.now count child share) == 0) }
 {
     !entry(count, table, child, share).is_empty()

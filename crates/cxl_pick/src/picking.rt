@@ -1,4 +1,5 @@
-ghost use Rattle.std.specs.Prelude.{◌≡◌, ◌≤◌, ◌<◌, ℕ, [], true, false, List, length, map, option_map, option_and_then, IfOk, IfErr, IfSome, MatchOption, All, Err};
+ghost use Rattle.std.specs.Prelude.{◌≡◌, ◌≤◌, ◌<◌, ◌==◌, ℕ, [], true, false, List, length, map, option_map, option_and_then, IfOk, IfErr, IfSome, MatchOption, All, Err};
+ghost use Rattle.std.specs.List.{list_any};
 ghost use Rattle.cxl_enc.specs.Codes.{is_ways};
 ghost use Rattle.cxl_topo.specs.Tree.{is_endpoint_at, bridge_with};
 ghost use Rattle.cxl_window.specs.Fields.{WindowFields};
@@ -11,7 +12,7 @@ ghost use Rattle.cxl_pick.specs.inner.Offers.{AreChildren, some_of, entry_at};
 
 use crate::fault::PickFault;
 use crate::laws::{fitting_sets_are_given, given_sets_fit};
-use crate::offers::{children, entry, offers};
+use crate::offers::{children, entry, gives, offers};
 use crate::terms::{can_take, has_known_ways, has_size, latest_start};
 use crate::want::Want;
 use cxl_image::Image;
@@ -97,9 +98,12 @@ fn pick_first(
     tree_laws();
     let children = children(alloc, topo)?;
     for w in windows {
-        if let Some(given) = pick_in(alloc, image, topo, want, w, &children)? {
-            let set = rising(alloc, topo.count(), &given)?;
-            return Ok(Some(set));
+        match pick_in(alloc, image, topo, want, w, &children)? {
+            Some(given) => {
+                let set = rising(alloc, topo.count(), &given)?;
+                return Ok(Some(set));
+            }
+            None => {}
         }
     }
     Ok(None)
@@ -149,11 +153,11 @@ fn all_given(
         let Some(bridge) = topo.bridge(*uid) else {
             return Ok(None);
         };
-        let own = entry(topo.count(), table, bridge, share);
-        if own.is_empty() {
+        let count = topo.count();
+        if !gives(count, table, bridge, share) {
             return Ok(None);
         }
-        given.extend_from_slice(own)?;
+        given.extend_from_slice(entry(count, table, bridge, share))?;
     }
     Ok(Some(given))
 }
@@ -165,9 +169,16 @@ fn rising(alloc: Global, count: u32, given: &[u32]) -> Result<Vec<u32>, AllocErr
 {
     let mut set = Vec::new(alloc);
     for node in 0..count {
-        if given.contains(&node) {
+        if holds(given, node) {
             set.push(node)?;
         }
     }
     Ok(set)
+}
+
+/// Whether the node is among the given ones.
+fn holds(given: &[u32], node: u32) -> bool
+    ensures { result ≡ list_any (λ n. n == node) given.now }
+{
+    given.contains(&node)
 }
