@@ -3,6 +3,8 @@
 #![tactic(auto)]
 
 #[cfg(test)]
+mod hosts;
+#[cfg(test)]
 mod listings;
 #[cfg(test)]
 mod lists;
@@ -10,6 +12,8 @@ mod lists;
 mod messages;
 #[cfg(test)]
 mod outside;
+#[cfg(test)]
+mod picks;
 #[cfg(test)]
 mod real_tables;
 #[cfg(test)]
