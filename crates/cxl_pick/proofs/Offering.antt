@@ -1,25 +1,21 @@
 -- What the table of offers tells of a node.
-use Rattle.std.proofs.Common.{◌≡◌, ℕ, zero, suc, ◌+◌, ◌-◌, ◌*◌, ◌/◌, ◌%◌, ◌<◌, ◌≤◌, ◌⊎◌, Bool, true, false, ◌&&◌, ◌||◌, if◌then◌else◌, cond, List, [], ◌∷◌, length, get_or, Option, Some, None, Vec, Global, Result, Ok, Err, refl, sym, ap, ◌∙◌, subst, inl, inr, arith}
-use Rattle.std.specs.Prelude.{◌==◌, nat_le, find, take, slice_get, option_map, unwrap_or, IfOk, ⊤}
+use Rattle.std.proofs.Common.{◌≡◌, ℕ, zero, suc, ◌-◌, ◌*◌, ◌/◌, ◌%◌, ◌<◌, ◌≤◌, Bool, true, false, ◌&&◌, if◌then◌else◌, cond, List, [], ◌∷◌, length, Option, Some, None, Vec, Global, Result, Ok, Err, refl, sym, ap, ◌∙◌, inl, inr, arith}
+use Rattle.std.specs.Prelude.{◌==◌, find, take, slice_get, option_map, unwrap_or, IfOk}
 use Rattle.std.specs.Option.{option_map_or}
-use Rattle.std.specs.List.{list_any, filter_map, flat_map}
+use Rattle.std.specs.List.{filter_map, flat_map}
 use Rattle.std.proofs.Math.Nat.{div-add-mod, div-le_self}
-use Rattle.std.proofs.lemmas.Bool.{cases_Bool, cases_lt, and_parts, or_left, or_right, eqb-true, eq-eqb, ne_eqb, false≢true, false_from_ne_true}
-use Rattle.std.proofs.lemmas.Option.{none-some, same_Some}
-use Rattle.cxl_enc.specs.Codes.{bits_of}
-use Rattle.cxl_enc.specs.Caps.{targets_of, is_target_count}
+use Rattle.std.proofs.lemmas.Bool.{cases_lt, false≢true, false_from_ne_true}
+use Rattle.cxl_enc.specs.Caps.{is_target_count}
 use Rattle.cxl_topo.specs.Tree.{is_endpoint_at}
-use Rattle.cxl_regs.specs.Rules.{select_ok}
 use Rattle.cxl_window.specs.Fields.{WindowFields}
 use Rattle.cxl_model.specs.System.{System}
-use Rattle.cxl_legal.specs.Endpoints.{cap_at}
 use Rattle.cxl_pick.specs.declared.want.Want.{Want}
-use Rattle.cxl_pick.specs.Picking.{is_open, can_serve_itself, can_serve_by, port_code, children_of, port_gives, gives}
+use Rattle.cxl_pick.specs.Picking.{can_serve_itself, can_serve_by, children_of, gives}
 use Rattle.cxl_pick.specs.inner.Offers.{AreOffers, offered, some_of, place_of, entry_at, offers_at}
 use Rattle.cxl_pick.proofs.Trees.{KnownTree}
-use Rattle.cxl_pick.proofs.Lists.{is_in, find_passes}
-use Rattle.cxl_pick.proofs.Numbers.{some_count, count_found}
-use Rattle.cxl_pick.proofs.Taking.{find_in, Can, can_parts, whole_share}
+use Rattle.cxl_pick.proofs.Lists.{find_passes}
+use Rattle.cxl_pick.proofs.Numbers.{count_found}
+use Rattle.cxl_pick.proofs.Taking.{find_in, can_parts}
 use Rattle.cxl_pick.proofs.Levels.{filter_map-same, child_later, gives_at_port, gives_at_endpoint, some_offered}
 
 pub item : {X : Type 0} (xs : List X) (i : ℕ) → i < length xs → (x : X) × (slice_get xs i ≡ Some x)

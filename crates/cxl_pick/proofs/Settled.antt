@@ -1,26 +1,24 @@
 -- An accepted image without its windows keeps K1 to K8, and what a window gives by the table of offers.
 use Rattle.std.proofs.Common.{◌≡◌, ℕ, zero, suc, ◌+◌, ◌*◌, ◌/◌, ◌%◌, ◌<◌, ◌≤◌, Bool, true, false, if◌then◌else◌, List, [], ◌∷◌, length, map, Option, Some, None, Vec, Global, refl, sym, ap, ◌∙◌, subst, inl, inr, arith}
-use Rattle.std.specs.Prelude.{◌==◌, slice_get, option_and_then, All, Contains, AllPairs}
+use Rattle.std.specs.Prelude.{option_and_then}
 use Rattle.std.specs.Option.{option_map_or}
-use Rattle.std.specs.List.{list_any}
-use Rattle.std.proofs.lemmas.Bool.{cases_eq, cases_lt, ne_eqb, false≢true}
+use Rattle.std.proofs.lemmas.Bool.{cases_eq, cases_lt, false≢true}
 use Rattle.std.proofs.lemmas.Option.{none-some, same_Some, slice_get_past}
 use Rattle.cxl_topo.specs.declared.node.Node.{Node}
 use Rattle.cxl_topo.specs.Kinds.{is_bridge}
 use Rattle.cxl_topo.specs.Tree.{is_bridge_at, bridge_with, bridge_uids}
-use Rattle.cxl_regs.specs.Registers.{Registers}
 use Rattle.cxl_window.specs.Fields.{WindowFields}
 use Rattle.cxl_window.specs.Windows.{AreMadeWith}
 use Rattle.cxl_model.specs.System.{System, IsSystem}
-use Rattle.cxl_model.specs.Accepted.{breaks, breaks_caps, breaks_block, IsAccepted, KeepsBlocks}
+use Rattle.cxl_model.specs.Accepted.{breaks, breaks_caps, IsAccepted}
 use Rattle.cxl_enc.specs.Codes.{is_ways}
 use Rattle.cxl_pick.specs.declared.want.Want.{Want}
 use Rattle.cxl_pick.specs.Picking.{can_take, latest_start, gives, all_given, given_in}
 use Rattle.cxl_pick.specs.inner.Wanted.{IsReady}
-use Rattle.cxl_pick.specs.inner.Offers.{AreOffers, offered, some_of, entry_at}
+use Rattle.cxl_pick.specs.inner.Offers.{AreOffers, some_of, entry_at}
 use Rattle.cxl_pick.proofs.Trees.{KnownTree}
 use Rattle.cxl_pick.proofs.Numbers.{some_ways, few_ways}
-use Rattle.cxl_pick.proofs.Tops.{BridgeOf, bridge_of}
+use Rattle.cxl_pick.proofs.Tops.{bridge_of}
 use Rattle.cxl_pick.proofs.KeptBlocks.{block_rule}
 use Rattle.cxl_pick.proofs.Parts.{take_parts}
 use Rattle.cxl_pick.proofs.Levels.{some_offered}

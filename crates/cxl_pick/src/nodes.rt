@@ -103,7 +103,13 @@ fn has_room(image: &Image, topo: &Topo, want: &Want, node: u32) -> bool
     ensures { result ≡ has_room (system_of image.now topo.now []) want.now node }
 {
     let capacity = capacity_at(topo, node);
-    match allot(image.block(node), capacity.ram, capacity.pmem, want.kind, share(want)) {
+    match allot(
+        image.block(node),
+        capacity.ram,
+        capacity.pmem,
+        want.kind,
+        share(want),
+    ) {
         Ok(_) => true,
         Err(_) => false,
     }

@@ -1,4 +1,4 @@
-use Rattle.std.proofs.Common.{◌≡◌, ℕ, false, length}
+use Rattle.std.proofs.Common.{◌≡◌, false, length}
 use Rattle.std.specs.List.{filter_map, range_with_len}
 use Rattle.cxl_topo.specs.Tree.{is_endpoint_at, child_of}
 use Rattle.cxl_pick.proofs.Entries.{EachOf}

@@ -1,4 +1,4 @@
-use Rattle.std.proofs.Common.{◌≡◌, ℕ, ◌≤◌, Vec, Global, sym, ap, subst, arith, ◌∙◌}
+use Rattle.std.proofs.Common.{◌≡◌, ℕ, Vec, Global, sym, ap, subst, arith, ◌∙◌}
 use Rattle.std.specs.List.{filter_map, range_with_len}
 use Rattle.cxl_topo.specs.Tree.{child_of}
 use Rattle.cxl_pick.proofs.Entries.{some_port, no_port}

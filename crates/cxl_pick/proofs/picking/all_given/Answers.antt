@@ -1,7 +1,6 @@
-use Rattle.std.proofs.Common.{◌≡◌, ℕ, ◌+◌, Bool, true, false, not, ◌++◌, List, get_or, length, drop, map, Option, Some, None, Vec, Global, refl, sym, ap, ◌∙◌}
+use Rattle.std.proofs.Common.{◌≡◌, ℕ, ◌+◌, Bool, true, false, not, ◌++◌, List, length, drop, map, Some, None, refl, sym, ap, ◌∙◌}
 use Rattle.std.specs.Prelude.{◌==◌, option_map, option_and_then, if◌then◌else◌}
 use Rattle.std.proofs.lemmas.Bool.{not-true}
-use Rattle.cxl_topo.specs.Tree.{bridge_with}
 use Rattle.cxl_pick.specs.Picking.{all_given}
 use Rattle.cxl_pick.specs.inner.Offers.{some_of, entry_at}
 use Rattle.cxl_pick.proofs.Givings.{at_uid, uid_step, uid_none}
