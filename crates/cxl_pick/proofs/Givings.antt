@@ -13,8 +13,8 @@ use Rattle.cxl_regs.specs.Registers.{Registers}
 use Rattle.cxl_window.specs.Fields.{WindowFields}
 use Rattle.cxl_model.specs.System.{System}
 use Rattle.cxl_pick.specs.declared.want.Want.{Want}
-use Rattle.cxl_pick.specs.Picking.{can_take, can_serve_itself, children_of, port_gives, gives_within, gives, latest_start, all_given, given_in, AreRising}
-use Rattle.cxl_pick.specs.inner.Offers.{some_of, entry_at}
+use Rattle.cxl_pick.specs.Picking.{can_take, can_serve_itself, children_of, port_gives, gives_within, gives, latest_start, all_given, given_in, AreInOrder}
+use Rattle.cxl_pick.specs.inner.Offers.{some_of, listed_at}
 use Rattle.cxl_pick.proofs.Lists.{is_in, in_from, in_is, is_number, kept_in}
 use Rattle.cxl_pick.proofs.Giving.{gives_none, gives_step}
 
@@ -43,7 +43,7 @@ same_given nodes blocks one other want w =
 
 -- what the table has for the bridge of this UID
 abbrev pub at_uid : List Node → List (Vec ℕ Global) → ℕ → ℕ → Option (List ℕ)
-at_uid nodes table share uid = option_and_then (λ b. some_of (entry_at table (length nodes) b share)) (bridge_with nodes uid)
+at_uid nodes table share uid = option_and_then (λ b. some_of (listed_at table (length nodes) b share)) (bridge_with nodes uid)
 
 next_uid : (nodes : List Node) (table : List (Vec ℕ Global)) (share i : ℕ) (uids : List ℕ) → i < length uids
     → all_given (map (at_uid nodes table share) (drop i uids))
@@ -120,8 +120,8 @@ numbers_rise n i j d less within =
     let next = get_or-range_with_len 0 n j d (omega arith) in
     omega arith
 
-pub are_rising : (count : ℕ) (given : List ℕ) → All (λ n. n < count) given → AreRising given (filter (λ n. is_in n given) (range_with_len 0 count))
-are_rising count given low = record {
+pub are_in_order : (count : ℕ) (given : List ℕ) → All (λ n. n < count) given → AreInOrder given (filter (λ n. is_in n given) (range_with_len 0 count))
+are_in_order count given low = record {
   order = AllPairs-filter (λ a b. a < b) (λ n. is_in n given) (range_with_len 0 count) (numbers_rise count);
   same = λ n. (
     (λ there.

@@ -16,7 +16,7 @@ use Rattle.cxl_model.specs.Rules.{permits}
 use Rattle.cxl_legal.specs.Used.{HasBytePorts, AreEndpoints}
 use Rattle.cxl_legal.specs.Windows.{agrees_on_gran}
 use Rattle.cxl_pick.specs.declared.want.Want.{Want}
-use Rattle.cxl_pick.specs.Picking.{asked, can_take, latest_start, gives, gives_within, all_given, given_in, AreRising}
+use Rattle.cxl_pick.specs.Picking.{asked, can_take, latest_start, gives, gives_within, all_given, given_in, AreInOrder}
 use Rattle.cxl_pick.proofs.Trees.{KnownTree, same_test}
 use Rattle.cxl_pick.proofs.Lists.{is_in, in_from, in_is, distinct_test, same_length}
 use Rattle.cxl_pick.proofs.Numbers.{some_ways}
@@ -81,7 +81,7 @@ pub record Picked (s : System) (want : Want) (w : WindowFields) (given set : Lis
   pub of : OfWindow s want w given
   pub ports : HasBytePorts s.nodes
   pub ways : is_ways want.ways ≡ true
-  pub rising : AreRising given set
+  pub rising : AreInOrder given set
 
 pub known_of : {s : System} {want : Want} {w : WindowFields} {given : List ℕ} → OfWindow s want w given → KnownTree s.nodes
 known_of of = record { tree = of.system.tree; laws = of.laws }

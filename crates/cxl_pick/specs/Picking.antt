@@ -123,7 +123,7 @@ given_in s want w =
     else None
 
 -- the same numbers in rising order
-pub record AreRising (given set : List ℕ) : Type 0 where
+pub record AreInOrder (given set : List ℕ) : Type 0 where
   pub order : AllPairs (λ a b. a < b) set
   pub same : (n : ℕ) → Contains given n ↔ Contains set n
 
@@ -133,7 +133,7 @@ pub record IsPicked (s : System) (want : Want) (w : WindowFields) (set : List �
   pub there : slice_get s.windows place ≡ Some w
   pub given : List ℕ
   pub gives : given_in s want w ≡ Some given
-  pub rising : AreRising given set
+  pub rising : AreInOrder given set
   pub first : (earlier : ℕ) (v : WindowFields) → earlier < place → slice_get s.windows earlier ≡ Some v → given_in s want v ≡ None
 
 -- ---- refusals

@@ -8,7 +8,7 @@ ghost use Rattle.cxl_window.specs.Fields.{WindowFields};
 ghost use Rattle.cxl_model.specs.System.{system_of};
 ghost use Rattle.cxl_pick.specs.Picking.{can_serve_itself, can_serve_by};
 ghost use Rattle.cxl_pick.specs.inner.Wanted.{IsSound, IsReady};
-ghost use Rattle.cxl_pick.specs.inner.Offers.{AreChildren, AreOffers, offered, entry_at, offers_at};
+ghost use Rattle.cxl_pick.specs.inner.Offers.{AreChildren, AreOffers, offered, listed_at, offers_at};
 
 use crate::nodes::{can_serve_by, can_serve_itself};
 use crate::want::Want;
@@ -237,7 +237,7 @@ fn first_offers(
     let mut left = u;
     for child in children {
         if left > 0 && gives(count, table, *child, share) {
-            given.extend_from_slice(entry(count, table, *child, share))?;
+            given.extend_from_slice(listed(count, table, *child, share))?;
             left -= 1;
         }
     }
@@ -246,14 +246,14 @@ fn first_offers(
 
 /// Whether a child gives something for `share` endpoints.
 pub(crate) fn gives(count: u32, table: &[Vec<u32>], child: u32, share: u8) -> bool
-    ensures { result ≡ not (length (entry_at table.now count child share) == 0) }
+    ensures { result ≡ not (length (listed_at table.now count child share) == 0) }
 {
-    !entry(count, table, child, share).is_empty()
+    !listed(count, table, child, share).is_empty()
 }
 
 /// What a node gives for `share` endpoints, by the table of `count` nodes.
-pub(crate) fn entry<'a>(count: u32, table: &'a [Vec<u32>], node: u32, share: u8) -> &'a [u32]
-    ensures { result.now ≡ entry_at table.now count node share }
+pub(crate) fn listed<'a>(count: u32, table: &'a [Vec<u32>], node: u32, share: u8) -> &'a [u32]
+    ensures { result.now ≡ listed_at table.now count node share }
 {
     let place = count.saturating_sub(1).saturating_sub(node) as usize * 17 + usize::from(share);
     match table.get(place) {

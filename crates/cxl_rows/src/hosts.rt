@@ -105,7 +105,12 @@ pub(crate) fn nodes_of(alloc: Global, spots: &[Spot]) -> Result<Vec<Node>, Fail>
     Ok(nodes)
 }
 
-pub(crate) fn table_of(rt: &impl Abort, alloc: Global, spans: &[Span], bridges: u32) -> Result<Cedt, Fail> {
+pub(crate) fn table_of(
+    rt: &impl Abort,
+    alloc: Global,
+    spans: &[Span],
+    bridges: u32,
+) -> Result<Cedt, Fail> {
     let mut records = Vec::new(alloc);
     for uid in 0..bridges {
         records.push(Record::Chbs(Chbs {

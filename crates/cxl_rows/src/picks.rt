@@ -1,6 +1,8 @@
 //! Picks over hosts of a few nodes, with regions that are made by register writes.
 
-use crate::hosts::{BRIDGE, DEVICE, FORWARDING, GIB, LARGE, PORT, Set, Span, Spot, UNIT, commit, device, nodes_of, server, table_of, window};
+use crate::hosts::{
+    BRIDGE, DEVICE, FORWARDING, GIB, PORT, Set, Span, Spot, UNIT, commit, device, nodes_of, server, table_of,
+};
 use cxl_check::check;
 use cxl_enc::MemKind;
 use cxl_image::Image;
@@ -11,14 +13,11 @@ use std::alloc::Global;
 use std::process::Abort;
 use std::test::Fail;
 
-/// The endpoints that are picked, or the fault.
-#[derive(Clone, Copy, Debug, PartialEq, Eq)]
-enum Told<'a> {
-    Set(&'a [u32]),
-    Fault(PickFault),
-}
+const BASE: u64 = 0x10_0000_0000;
 
-/// A host with its regions; how many bytes of ram are wanted, in how many ways; and what is told.
+const SIZE: u64 = 0x100_0000_0000;
+
+/// A host with its regions, and how many bytes of ram are wanted in how many ways.
 #[derive(Clone, Copy)]
 struct Case<'a> {
     nodes: &'a [Spot],
@@ -26,7 +25,6 @@ struct Case<'a> {
     sets: &'a [Set],
     size: u64,
     ways: u8,
-    told: Told<'a>,
 }
 
 /// The pick of a case over its image, which has to be accepted.
@@ -54,124 +52,159 @@ fn picked(rt: &impl Abort, alloc: Global, case: &Case) -> Result<Result<Vec<u32>
     Ok(pick(alloc, &image, &topo, &windows, &want))
 }
 
-fn answer<'a>(outcome: &'a Result<Vec<u32>, PickFault>) -> Told<'a> {
-    match outcome {
-        Ok(set) => Told::Set(set.as_slice()),
-        Err(fault) => Told::Fault(*fault),
+/// The endpoints that are picked are these.
+fn picks(rt: &impl Abort, alloc: Global, case: &Case, set: &[u32]) -> Result<(), Fail> {
+    match picked(rt, alloc, case)? {
+        Ok(own) => assert!(rt; own.as_slice() == set),
+        Err(fault) => return Err(Fail::from(fault)),
+    }
+    Ok(())
+}
+
+/// None are picked, for this fault.
+fn refuses(rt: &impl Abort, alloc: Global, case: &Case, fault: PickFault) -> Result<(), Fail> {
+    match picked(rt, alloc, case)? {
+        Ok(_) => assert!(rt; false),
+        Err(own) => assert!(rt; own == fault),
+    }
+    Ok(())
+}
+
+fn span(base: u64, size: u64, targets: &[u32]) -> Span<'_> {
+    Span {
+        base,
+        size,
+        gran: 0,
+        restrict: 0x000e,
+        targets,
     }
 }
 
-/// A region of all four endpoints of a server.
-fn of_four() -> [Set; 6] {
+/// A region of all four endpoints of a server, and behind it one of the first endpoint of each bridge.
+fn regions() -> [Set; 10] {
+    let next = BASE + GIB;
     [
-        (0, 0, LARGE.base, GIB, 0x11, 0x0100),
-        (1, 0, LARGE.base, GIB, 0x11, 0x0100),
-        (2, 0, LARGE.base, GIB, 0x20, 0),
-        (3, 0, LARGE.base, GIB, 0x20, 0),
-        (4, 0, LARGE.base, GIB, 0x20, 0),
-        (5, 0, LARGE.base, GIB, 0x20, 0),
+        (0, 0, BASE, GIB, 0x11, 0x0100),
+        (1, 0, BASE, GIB, 0x11, 0x0100),
+        (2, 0, BASE, GIB, 0x20, 0),
+        (3, 0, BASE, GIB, 0x20, 0),
+        (4, 0, BASE, GIB, 0x20, 0),
+        (5, 0, BASE, GIB, 0x20, 0),
+        (0, 1, next, 2 * UNIT, 0, 0),
+        (1, 1, next, 2 * UNIT, 0, 0),
+        (2, 1, next, 2 * UNIT, 0x10, 0),
+        (4, 1, next, 2 * UNIT, 0x10, 0),
     ]
-}
-
-/// Behind it, a region of the first endpoint of each bridge.
-fn of_two() -> [Set; 4] {
-    let base = LARGE.base + GIB;
-    [
-        (0, 1, base, 2 * UNIT, 0, 0),
-        (1, 1, base, 2 * UNIT, 0, 0),
-        (2, 1, base, 2 * UNIT, 0x10, 0),
-        (4, 1, base, 2 * UNIT, 0x10, 0),
-    ]
-}
-
-/// A server whose first endpoint has no ram.
-fn without_ram() -> [Spot; 6] {
-    let mut nodes = server();
-    nodes[2] = device(0, 0, 0, GIB);
-    nodes
 }
 
 #[test]
 fn servers(rt: HostRuntime) -> Result<(), Fail> {
     let alloc = rt.alloc();
-    let [a, b, c, d, e, f] = of_four();
-    let [p, q, r, s] = of_two();
-    let both = [a, b, c, d, e, f, p, q, r, s];
-    let short = [LARGE, Span { base: 0x200_0000_0000, targets: &[0], ..LARGE }];
-    let of = |sets, size, ways, told| (sets, size, ways, told);
-    let cases = [
-        of(&both[..0], GIB, 4, Told::Set(&[2, 3, 4, 5])),
-        of(&both[..6], 2 * UNIT, 2, Told::Set(&[2, 4])),
-        of(&both[..], 3 * UNIT, 3, Told::Fault(PickFault::NoSet)),
-        of(&both[..], 5 * UNIT, 5, Told::Fault(PickFault::Ways(5))),
-        of(&both[..], 3 * UNIT, 2, Told::Fault(PickFault::Size)),
-        of(&both[..], 0, 2, Told::Fault(PickFault::Size)),
-        of(&both[..], UNIT, 1, Told::Set(&[2])),
+    let nodes = server();
+    let windows = [span(BASE, SIZE, &[0, 1]), span(BASE + 2 * SIZE, SIZE, &[0])];
+    let sets = regions();
+    let none = Case {
+        nodes: &nodes,
+        windows: &windows,
+        sets: &sets[..0],
+        size: GIB,
+        ways: 4,
+    };
+    picks(&rt, alloc, &none, &[2, 3, 4, 5])?;
+    let one = Case {
+        sets: &sets[..6],
+        size: 2 * UNIT,
+        ways: 2,
+        ..none
+    };
+    picks(&rt, alloc, &one, &[2, 4])?;
+    let both = Case { sets: &sets, ..none };
+    let faults = [
+        (3 * UNIT, 3, PickFault::NoSet),
+        (5 * UNIT, 5, PickFault::Ways(5)),
+        (3 * UNIT, 2, PickFault::Size),
+        (0, 2, PickFault::Size),
     ];
-    for (sets, size, ways, told) in cases {
-        let case = Case { nodes: &server(), windows: &short, sets, size, ways, told };
-        let outcome = picked(&rt, alloc, &case)?;
-        assert_eq!(rt; answer(&outcome), told);
+    for (size, ways, fault) in faults {
+        refuses(&rt, alloc, &Case { size, ways, ..both }, fault)?;
     }
-    Ok(())
+    picks(&rt, alloc, &Case { size: UNIT, ways: 1, ..both }, &[2])
 }
 
 #[test]
 fn full_endpoints(rt: HostRuntime) -> Result<(), Fail> {
     let alloc = rt.alloc();
-    let windows = [LARGE];
-    let cases = [
-        (2, 2 * UNIT, Told::Set(&[3, 4])),
-        (4, GIB, Told::Fault(PickFault::NoSet)),
-    ];
-    for (ways, size, told) in cases {
-        let case = Case { nodes: &without_ram(), windows: &windows, sets: &[], size, ways, told };
-        let outcome = picked(&rt, alloc, &case)?;
-        assert_eq!(rt; answer(&outcome), told);
-    }
+
+    // The first endpoint has no ram.
+    let mut nodes = server();
+    nodes[2] = device(0, 0, 0, GIB);
+    let two = Case {
+        nodes: &nodes,
+        windows: &[span(BASE, SIZE, &[0, 1])],
+        sets: &[],
+        size: 2 * UNIT,
+        ways: 2,
+    };
+    picks(&rt, alloc, &two, &[3, 4])?;
+    refuses(&rt, alloc, &Case { size: GIB, ways: 4, ..two }, PickFault::NoSet)?;
 
     // The only decoder of the first endpoint is committed.
-    let one = Spot { cap: DEVICE - 2, ..device(0, 0, GIB, 0) };
-    let nodes = [BRIDGE, one, device(0, 1, GIB, 0)];
-    let own = window(GIB, &[0]);
-    let sets = [(0, 0, own.base, UNIT, 0, 0), (1, 0, own.base, UNIT, 0, 0)];
-    let case = Case { nodes: &nodes, windows: &[own], sets: &sets, size: UNIT, ways: 1, told: Told::Set(&[2]) };
-    let outcome = picked(&rt, alloc, &case)?;
-    assert_eq!(rt; answer(&outcome), case.told);
-    Ok(())
+    let mut single = device(0, 0, GIB, 0);
+    single.cap = DEVICE - 2;
+    let full = Case {
+        nodes: &[BRIDGE, single, device(0, 1, GIB, 0)],
+        windows: &[span(BASE, GIB, &[0])],
+        sets: &[(0, 0, BASE, UNIT, 0, 0), (1, 0, BASE, UNIT, 0, 0)],
+        size: UNIT,
+        ways: 1,
+    };
+    picks(&rt, alloc, &full, &[2])
+}
+
+/// A switch below a node at a port.
+fn below(parent: u32, port: u8) -> Spot {
+    Spot {
+        parent: Some((parent, port)),
+        device: None,
+        cap: PORT,
+        forwards: false,
+    }
 }
 
 #[test]
 fn switches(rt: HostRuntime) -> Result<(), Fail> {
     let alloc = rt.alloc();
-    let own = window(GIB, &[0]);
-    let below = |parent, port| Spot { parent: Some((parent, port)), cap: PORT, ..BRIDGE };
 
     // As many ports as can be are used, each for as few endpoints as can be.
-    let wide = [
-        BRIDGE,
-        below(0, 0),
-        below(0, 1),
-        device(1, 0, GIB, 0),
-        device(1, 1, GIB, 0),
-        device(2, 0, GIB, 0),
-        device(2, 1, GIB, 0),
-    ];
-    let case = Case { nodes: &wide, windows: &[own], sets: &[], size: 2 * UNIT, ways: 2, told: Told::Set(&[3, 5]) };
-    let outcome = picked(&rt, alloc, &case)?;
-    assert_eq!(rt; answer(&outcome), case.told);
+    let wide = Case {
+        nodes: &[
+            BRIDGE,
+            below(0, 0),
+            below(0, 1),
+            device(1, 0, GIB, 0),
+            device(1, 1, GIB, 0),
+            device(2, 0, GIB, 0),
+            device(2, 1, GIB, 0),
+        ],
+        windows: &[span(BASE, GIB, &[0])],
+        sets: &[],
+        size: 2 * UNIT,
+        ways: 2,
+    };
+    picks(&rt, alloc, &wide, &[3, 5])?;
 
     // A bridge that forwards leads to all by one port.
-    let narrow = [FORWARDING, below(0, 3), device(1, 5, GIB, 0), device(1, 2, GIB, 0), device(1, 7, GIB, 0)];
-    let cases = [
-        (1, UNIT, Told::Set(&[3])),
-        (2, 2 * UNIT, Told::Set(&[2, 3])),
-        (4, 4 * UNIT, Told::Fault(PickFault::NoSet)),
-    ];
-    for (ways, size, told) in cases {
-        let case = Case { nodes: &narrow, windows: &[own], sets: &[], size, ways, told };
-        let outcome = picked(&rt, alloc, &case)?;
-        assert_eq!(rt; answer(&outcome), told);
-    }
-    Ok(())
+    let narrow = Case {
+        nodes: &[
+            FORWARDING,
+            below(0, 3),
+            device(1, 5, GIB, 0),
+            device(1, 2, GIB, 0),
+            device(1, 7, GIB, 0),
+        ],
+        ..wide
+    };
+    picks(&rt, alloc, &narrow, &[2, 3])?;
+    picks(&rt, alloc, &Case { size: UNIT, ways: 1, ..narrow }, &[3])?;
+    refuses(&rt, alloc, &Case { size: 4 * UNIT, ways: 4, ..narrow }, PickFault::NoSet)
 }

@@ -30,8 +30,8 @@ abbrev pub place_of : ℕ → ℕ → ℕ → ℕ
 place_of count c v = (count - 1 - c) * 17 + v
 
 -- the list that stands there
-abbrev pub entry_at : List (Vec ℕ Global) → ℕ → ℕ → ℕ → List ℕ
-entry_at table count c v = option_map_or (λ own. own.items) (slice_get table (place_of count c v)) []
+abbrev pub listed_at : List (Vec ℕ Global) → ℕ → ℕ → ℕ → List ℕ
+listed_at table count c v = option_map_or (λ own. own.items) (slice_get table (place_of count c v)) []
 
 -- a list with some numbers
 abbrev pub some_of : List ℕ → Option (List ℕ)
@@ -39,4 +39,4 @@ some_of ns = if length ns == 0 then None else Some ns
 
 -- the lists that these children have for the number
 abbrev pub offers_at : List (Vec ℕ Global) → ℕ → List ℕ → ℕ → List (List ℕ)
-offers_at table count children v = filter_map (λ c. some_of (entry_at table count c v)) children
+offers_at table count children v = filter_map (λ c. some_of (listed_at table count c v)) children

@@ -3,7 +3,7 @@ use Rattle.std.specs.List.{filter_map, range_with_len}
 use Rattle.std.proofs.lemmas.List.{length-append}
 use Rattle.cxl_topo.specs.declared.node.Node.{Node}
 use Rattle.cxl_topo.specs.Tree.{is_endpoint_at, child_of}
-use Rattle.cxl_pick.proofs.Entries.{EachOf, each_push}
+use Rattle.cxl_pick.proofs.Tables.{EachOf, each_push}
 use Rattle.cxl_pick.proofs.offers.children.Goals as goal
 
 abbrev HasOwn : List Node → ℕ → Vec ℕ Global → Type 0

@@ -1,0 +1,7 @@
+use Rattle.std.proofs.Common.{List}
+use Rattle.cxl_topo.specs.declared.node.Node.{Node}
+use Rattle.cxl_image.specs.Images.{HasCapsOf}
+use Rattle.cxl_rows.proofs.hosts.commit.Given as goal
+
+abbrev pub invariant-loop-off : goal.invariant-loop-off
+invariant-loop-off l = (nodes : List Node) → HasCapsOf l.fn.image nodes → HasCapsOf l.image nodes
