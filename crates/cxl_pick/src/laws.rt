@@ -9,7 +9,7 @@ ghost use Rattle.cxl_legal.specs.Used.{HasBytePorts};
 ghost use Rattle.cxl_legal.specs.Endpoints.{IsSize};
 ghost use Rattle.cxl_legal.specs.Stated.{Fits};
 ghost use Rattle.cxl_pick.specs.declared.want.Want.{Want};
-ghost use Rattle.cxl_pick.specs.Picking.{asked, latest_start, given_in, AreRising};
+ghost use Rattle.cxl_pick.specs.Picking.{asked, latest_start, given_in, AreInOrder};
 
 use cxl_topo::tree_laws;
 
@@ -18,10 +18,10 @@ use cxl_topo::tree_laws;
 pub fn given_sets_fit()
     ensures ways { (s : System) (want : Want) (w : WindowFields) (given set : List ℕ) → IsSystem s
         → HasBytePorts s.nodes → IsAccepted s → is_ways want.ways ≡ true → slice_get s.windows w.index ≡ Some w
-        → given_in s want w ≡ Some given → AreRising given set → length set ≡ want.ways }
+        → given_in s want w ≡ Some given → AreInOrder given set → length set ≡ want.ways }
     ensures fits { (s : System) (want : Want) (w : WindowFields) (start : ℕ) (given set : List ℕ) → IsSystem s
         → HasBytePorts s.nodes → IsAccepted s → is_ways want.ways ≡ true → IsSize (asked want set)
-        → IfSome want.gran (λ code. code ≤ 6) → slice_get s.windows w.index ≡ Some w → given_in s want w ≡ Some given → AreRising given set
+        → IfSome want.gran (λ code. code ≤ 6) → slice_get s.windows w.index ≡ Some w → given_in s want w ≡ Some given → AreInOrder given set
         → latest_start want w ≡ Some start → Fits s (asked want set) w start }
 {
     tree_laws();

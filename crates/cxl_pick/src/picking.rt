@@ -6,13 +6,13 @@ ghost use Rattle.cxl_window.specs.Fields.{WindowFields};
 ghost use Rattle.cxl_window.specs.Windows.{AreMadeWith};
 ghost use Rattle.cxl_model.specs.System.{IsSystem, system_of, bridge_uids};
 ghost use Rattle.cxl_model.specs.Accepted.{IsAccepted};
-ghost use Rattle.cxl_pick.specs.Picking.{IsWantedSize, given_in, all_given, AreRising, IsPicked, NothingGiven, TellsPickFault, FitsFirst, NothingFits};
+ghost use Rattle.cxl_pick.specs.Picking.{IsWantedSize, given_in, all_given, AreInOrder, IsPicked, NothingGiven, TellsPickFault, FitsFirst, NothingFits};
 ghost use Rattle.cxl_pick.specs.inner.Wanted.{IsSound, IsReady};
-ghost use Rattle.cxl_pick.specs.inner.Offers.{AreChildren, some_of, entry_at};
+ghost use Rattle.cxl_pick.specs.inner.Offers.{AreChildren, some_of, listed_at};
 
 use crate::fault::PickFault;
 use crate::laws::{fitting_sets_are_given, given_sets_fit};
-use crate::offers::{children, entry, gives, offers};
+use crate::offers::{children, gives, listed, offers};
 use crate::terms::{can_take, has_known_ways, has_size, latest_start};
 use crate::want::Want;
 use cxl_image::Image;
@@ -100,7 +100,7 @@ fn pick_first(
     for w in windows {
         match pick_in(alloc, image, topo, want, w, &children)? {
             Some(given) => {
-                let set = rising(alloc, topo.count(), &given)?;
+                let set = in_order(alloc, topo.count(), &given)?;
                 return Ok(Some(set));
             }
             None => {}
@@ -145,7 +145,7 @@ fn all_given(
     share: u8,
 ) -> Result<Option<Vec<u32>>, AllocError>
     ensures { IfOk result (λ o. option_map (λ given. given.items) o
-        ≡ all_given (map (λ uid. option_and_then (λ b. some_of (entry_at table.now (length topo.now.nodes) b share))
+        ≡ all_given (map (λ uid. option_and_then (λ b. some_of (listed_at table.now (length topo.now.nodes) b share))
         (bridge_with topo.now.nodes uid)) targets.now)) }
 {
     let mut given = Vec::new(alloc);
@@ -157,19 +157,19 @@ fn all_given(
         if !gives(count, table, bridge, share) {
             return Ok(None);
         }
-        given.extend_from_slice(entry(count, table, bridge, share))?;
+        given.extend_from_slice(listed(count, table, bridge, share))?;
     }
     Ok(Some(given))
 }
 
 /// The same numbers of nodes in rising order. Takes memory.
-fn rising(alloc: Global, count: u32, given: &[u32]) -> Result<Vec<u32>, AllocError>
+fn in_order(alloc: Global, count: u32, given: &[u32]) -> Result<Vec<u32>, AllocError>
     requires { All (λ n. n < count) given.now }
-    ensures { IfOk result (λ set. AreRising given.now set.items) }
+    ensures { IfOk result (λ set. AreInOrder given.now set.items) }
 {
     let mut set = Vec::new(alloc);
     for node in 0..count {
-        if holds(given, node) {
+        if is_given(given, node) {
             set.push(node)?;
         }
     }
@@ -177,7 +177,7 @@ fn rising(alloc: Global, count: u32, given: &[u32]) -> Result<Vec<u32>, AllocErr
 }
 
 /// Whether the node is among the given ones.
-fn holds(given: &[u32], node: u32) -> bool
+fn is_given(given: &[u32], node: u32) -> bool
     ensures { result ≡ list_any (λ n. n == node) given.now }
 {
     given.contains(&node)
