@@ -15,7 +15,9 @@ use Rattle.cxl_window.specs.Position.{is_usable}
 use Rattle.cxl_model.specs.declared.request.Request.{Request}
 use Rattle.cxl_model.specs.System.{System, decoders_at, ram_at, pmem_at}
 use Rattle.cxl_model.specs.Rules.{permits}
-use Rattle.cxl_model.specs.Plans.{plan_code}
+use Rattle.cxl_model.specs.declared.plan.Plan.{Plan}
+use Rattle.cxl_model.specs.Plans.{plan_code, IsLegalPlanIn}
+use Rattle.cxl_legal.specs.Used.{AreEndpoints}
 use Rattle.cxl_legal.specs.Endpoints.{cap_at}
 use Rattle.cxl_legal.specs.Windows.{agrees_on_gran}
 use Rattle.cxl_legal.specs.Bases.{last_end, base_step}
@@ -161,3 +163,22 @@ pub record FitsFirst (s : System) (want : Want) (set : List ℕ) : Type 0 where
 -- no set of so many endpoints keeps all that a request has to, in any window at any base
 abbrev pub NothingFits : System → Want → Type 0
 NothingFits s want = (w : WindowFields) (set : List ℕ) (base : ℕ) → length set ≡ want.ways → Fits s (asked want set) w base → ⊥
+
+-- ---- what is picked has a legal plan
+
+-- a set of so many endpoints has a legal plan in this window
+pub record HasPlanIn (s : System) (want : Want) (w : WindowFields) (set : List ℕ) : Type 0 where
+  pub named : AreEndpoints s (asked want set)
+  pub count : length set ≡ want.ways
+  pub plan : Plan
+  pub legal : IsLegalPlanIn s (asked want set) w plan
+
+-- the set has one in a window, and no set of so many endpoints has one in an earlier window
+pub record PlansFirst (s : System) (want : Want) (set : List ℕ) : Type 0 where
+  pub window : WindowFields
+  pub has : HasPlanIn s want window set
+  pub first : (earlier : WindowFields) (other : List ℕ) → earlier.index < window.index → HasPlanIn s want earlier other → ⊥
+
+-- no set of so many endpoints has a legal plan in any window
+abbrev pub NothingPlans : System → Want → Type 0
+NothingPlans s want = (w : WindowFields) (set : List ℕ) → HasPlanIn s want w set → ⊥

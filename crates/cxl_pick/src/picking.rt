@@ -6,12 +6,12 @@ ghost use Rattle.cxl_window.specs.Fields.{WindowFields};
 ghost use Rattle.cxl_window.specs.Windows.{AreMadeWith};
 ghost use Rattle.cxl_model.specs.System.{IsSystem, system_of, bridge_uids};
 ghost use Rattle.cxl_model.specs.Accepted.{IsAccepted};
-ghost use Rattle.cxl_pick.specs.Picking.{IsWantedSize, given_in, all_given, AreInOrder, IsPicked, NothingGiven, TellsPickFault, FitsFirst, NothingFits};
+ghost use Rattle.cxl_pick.specs.Picking.{IsWantedSize, given_in, all_given, AreInOrder, IsPicked, NothingGiven, TellsPickFault, FitsFirst, NothingFits, PlansFirst, NothingPlans};
 ghost use Rattle.cxl_pick.specs.inner.Wanted.{IsSound, IsReady};
 ghost use Rattle.cxl_pick.specs.inner.Offers.{AreChildren, some_of, listed_at};
 
 use crate::fault::PickFault;
-use crate::laws::{fitting_sets_are_given, given_sets_fit};
+use crate::laws::{fitting_sets_are_given, fitting_sets_have_plans, given_sets_fit};
 use crate::offers::{children, gives, listed, offers};
 use crate::terms::{can_take, has_known_ways, has_size, latest_start};
 use crate::want::Want;
@@ -42,6 +42,9 @@ pub fn pick(
     // They keep all that a request has to in a window, and no set of so many endpoints does so in an earlier one.
     ensures fits { IfOk result (λ set. FitsFirst (system_of image.now topo.now windows.now) want.now set.items) }
 
+    // They have a legal plan there, and no set of so many endpoints has one in an earlier window.
+    ensures legal { IfOk result (λ set. PlansFirst (system_of image.now topo.now windows.now) want.now set.items) }
+
     // The first two faults come exactly where they hold, and the third where no set of so many endpoints keeps all
     // that a request has to.
     ensures ways { is_ways want.now.ways ≡ false → result ≡ Err (PickFault.Ways want.now.ways) }
@@ -49,7 +52,11 @@ pub fn pick(
     ensures fault { IfErr result (TellsPickFault (system_of image.now topo.now windows.now) want.now) }
     ensures nothing { IfErr result (λ fault. fault ≡ PickFault.NoSet
         → NothingFits (system_of image.now topo.now windows.now) want.now) }
+    // Then no set of so many endpoints has a legal plan in any window.
+    ensures none { IfErr result (λ fault. fault ≡ PickFault.NoSet
+        → NothingPlans (system_of image.now topo.now windows.now) want.now) }
 {
+    fitting_sets_have_plans();
     given_sets_fit();
     fitting_sets_are_given();
     tree_laws();
