@@ -28,7 +28,11 @@ struct Case<'a> {
 }
 
 /// The pick of a case over its image, which has to be accepted.
-fn picked(rt: &impl Abort, alloc: Global, case: &Case) -> Result<Result<Vec<u32>, PickFault>, Fail> {
+fn picked(
+    rt: &impl Abort,
+    alloc: Global,
+    case: &Case,
+) -> Result<Result<Vec<u32>, PickFault>, Fail> {
     let host = host_of(rt, alloc, case.nodes, case.windows, case.ranges)?;
     let _regions = check(alloc, &host.image, &host.topo, &host.windows)?;
     let want = Want {
@@ -126,7 +130,16 @@ fn servers(rt: HostRuntime) -> Result<(), Fail> {
     for (size, ways, fault) in faults {
         refuses(&rt, alloc, &Case { size, ways, ..both }, fault)?;
     }
-    picks(&rt, alloc, &Case { size: UNIT, ways: 1, ..both }, &[2])
+    picks(
+        &rt,
+        alloc,
+        &Case {
+            size: UNIT,
+            ways: 1,
+            ..both
+        },
+        &[2],
+    )
 }
 
 #[test]
@@ -144,7 +157,16 @@ fn full_endpoints(rt: HostRuntime) -> Result<(), Fail> {
         ways: 2,
     };
     picks(&rt, alloc, &two, &[3, 4])?;
-    refuses(&rt, alloc, &Case { size: GIB, ways: 4, ..two }, PickFault::NoSet)?;
+    refuses(
+        &rt,
+        alloc,
+        &Case {
+            size: GIB,
+            ways: 4,
+            ..two
+        },
+        PickFault::NoSet,
+    )?;
 
     // The only decoder of the first endpoint is committed.
     let mut single = device(0, 0, GIB, 0);
@@ -193,6 +215,24 @@ fn switches(rt: HostRuntime) -> Result<(), Fail> {
         ..wide
     };
     picks(&rt, alloc, &narrow, &[2, 3])?;
-    picks(&rt, alloc, &Case { size: UNIT, ways: 1, ..narrow }, &[3])?;
-    refuses(&rt, alloc, &Case { size: 4 * UNIT, ways: 4, ..narrow }, PickFault::NoSet)
+    picks(
+        &rt,
+        alloc,
+        &Case {
+            size: UNIT,
+            ways: 1,
+            ..narrow
+        },
+        &[3],
+    )?;
+    refuses(
+        &rt,
+        alloc,
+        &Case {
+            size: 4 * UNIT,
+            ways: 4,
+            ..narrow
+        },
+        PickFault::NoSet,
+    )
 }
