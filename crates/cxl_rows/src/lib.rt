@@ -24,6 +24,8 @@ mod messages;
 #[cfg(test)]
 mod outside;
 #[cfg(test)]
+mod picks;
+#[cfg(test)]
 mod plans;
 #[cfg(test)]
 mod poison;
