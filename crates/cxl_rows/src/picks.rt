@@ -17,6 +17,9 @@ const SIZE: u64 = 0x100_0000_0000;
 /// 256 GiB.
 const SHARE: u64 = 0x40_0000_0000;
 
+/// The capability word of an endpoint with one decoder.
+const ONE_DECODER: u32 = 0x1b00;
+
 /// A host with its regions, and how many bytes of ram are wanted in how many ways.
 #[derive(Clone, Copy)]
 struct Case<'a> {
@@ -170,7 +173,7 @@ fn full_endpoints(rt: HostRuntime) -> Result<(), Fail> {
 
     // The only decoder of the first endpoint is committed.
     let mut single = device(0, 0, GIB, 0);
-    single.cap -= 2;
+    single.cap = ONE_DECODER;
     let full = Case {
         nodes: &[BRIDGE, single, device(0, 1, GIB, 0)],
         windows: &[span(BASE, GIB, &[0])],
