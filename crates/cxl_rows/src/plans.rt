@@ -15,12 +15,9 @@ use std::alloc::Global;
 use std::process::Abort;
 use std::test::Fail;
 
-/// What is asked for: kind, size, granularity code and endpoints.
-type Asked<'a> = (MemKind, u64, Option<u8>, &'a [u32]);
-
 /// A plan's window, base, granularity code and ways; or the fault.
 #[derive(Clone, Copy, Debug, PartialEq, Eq)]
-enum Told<'a> {
+enum Told {
     Planned(u32, u64, u8, u8),
     Repeat(u32),
     Ways(u32),
@@ -28,27 +25,29 @@ enum Told<'a> {
     Uneven(u32),
     NoDecoder(u32),
     Span(u32, SpanFault),
-    NoWindow(&'a [Reason]),
+    NoWindow,
     Memory,
 }
 
+/// A host with its regions, and what is asked for: kind, size, granularity code and endpoints.
 #[derive(Clone, Copy)]
 struct Case<'a> {
     nodes: &'a [Spot],
     windows: &'a [Span<'a>],
     ranges: &'a [Range],
-    asked: Asked<'a>,
-    want: Told<'a>,
+    kind: MemKind,
+    size: u64,
+    gran: Option<u8>,
+    endpoints: &'a [u32],
 }
 
-fn request_of(alloc: Global, asked: &Asked) -> Result<Request, Fail> {
-    let (kind, size, gran, endpoints) = *asked;
+fn request_of(alloc: Global, case: &Case) -> Result<Request, Fail> {
     Ok(Request {
         name: Name::read(b"r0").ok_or("a name")?,
-        kind,
-        size,
-        gran,
-        endpoints: FixedList::new(Vec::from_slice(alloc, endpoints)?),
+        kind: case.kind,
+        size: case.size,
+        gran: case.gran,
+        endpoints: FixedList::new(Vec::from_slice(alloc, case.endpoints)?),
     })
 }
 
@@ -68,12 +67,12 @@ fn are_devices(topo: &Topo, endpoints: &[u32]) -> bool
 fn planned(rt: &impl Abort, alloc: Global, case: &Case) -> Result<Result<Plan, PlanFault>, Fail> {
     let host = host_of(rt, alloc, case.nodes, case.windows, case.ranges)?;
     let _regions = check(alloc, &host.image, &host.topo, &host.windows)?;
-    let request = request_of(alloc, &case.asked)?;
+    let request = request_of(alloc, case)?;
     assert!(rt; are_devices(&host.topo, request.endpoints.items()));
     Ok(plan(alloc, &host.image, &host.topo, &host.windows, &request))
 }
 
-fn answer<'a>(outcome: &'a Result<Plan, PlanFault>) -> Told<'a> {
+fn answer(outcome: &Result<Plan, PlanFault>) -> Told {
     match outcome {
         Ok(plan) => Told::Planned(
             plan.found.window,
@@ -87,9 +86,25 @@ fn answer<'a>(outcome: &'a Result<Plan, PlanFault>) -> Told<'a> {
         Err(PlanFault::Uneven(node)) => Told::Uneven(*node),
         Err(PlanFault::NoDecoder(node)) => Told::NoDecoder(*node),
         Err(PlanFault::Span(endpoint, fault)) => Told::Span(*endpoint, *fault),
-        Err(PlanFault::NoWindow(reasons)) => Told::NoWindow(reasons.items()),
+        Err(PlanFault::NoWindow(_)) => Told::NoWindow,
         Err(PlanFault::Memory) => Told::Memory,
     }
+}
+
+/// The answer to a case is this.
+fn tells(rt: &impl Abort, alloc: Global, case: &Case, want: Told) -> Result<(), Fail> {
+    let outcome = planned(rt, alloc, case)?;
+    assert_eq!(rt; answer(&outcome), want);
+    Ok(())
+}
+
+/// No window takes a case, for these reasons.
+fn tells_reasons(rt: &impl Abort, alloc: Global, case: &Case, want: &[Reason]) -> Result<(), Fail> {
+    match planned(rt, alloc, case)? {
+        Err(PlanFault::NoWindow(reasons)) => assert!(rt; reasons.items() == want),
+        _ => return Err(Fail::from("another answer")),
+    }
+    Ok(())
 }
 
 /// Two bridges with one endpoint of 2 GiB each.
@@ -130,61 +145,73 @@ fn named_endpoints(rt: HostRuntime) -> Result<(), Fail> {
         over(0, 2, LARGE.base, GIB, 0x11, 0x0100),
         over(2, 6, LARGE.base, GIB, 0x20, 0),
     ];
-    let mut bare = two_each();
-    bare[2] = device(0, 0, 0, 0);
-    let ram = MemKind::Ram;
+    let nodes = two_each();
+    let all = Case {
+        nodes: &nodes,
+        windows: &[LARGE],
+        ranges: &[],
+        kind: MemKind::Ram,
+        size: GIB,
+        gran: None,
+        endpoints: &[2, 3, 4, 5],
+    };
     let whole = Told::Planned(0, LARGE.base, 0, 4);
-    let rows: [(&[Spot], &[Range], Asked, Told); 8] = [
-        (&two_each(), &[], (ram, GIB, None, &[2, 3, 4, 5]), whole),
-        (&two_each(), &[], (ram, GIB, None, &[5, 2, 4, 3]), whole),
-        (
-            &two_each(),
-            &of_four,
-            (ram, 2 * UNIT, None, &[2, 4]),
-            Told::Planned(0, 0x10_4000_0000, 0, 2),
-        ),
-        (
-            &bare,
-            &[],
-            (ram, 2 * UNIT, None, &[3, 4]),
-            Told::Planned(0, LARGE.base, 0, 2),
-        ),
-        (
-            &two_each(),
-            &[],
-            (ram, UNIT, None, &[2, 2]),
-            Told::Repeat(2),
-        ),
-        (
-            &two_each(),
-            &[],
-            (ram, 3 * UNIT, None, &[2, 3, 4]),
-            Told::Uneven(1),
-        ),
-        (
-            &two_each(),
-            &[],
-            (ram, 2 * UNIT, None, &[2, 3]),
-            Told::NoWindow(&[Reason::Bridges]),
-        ),
-        (
-            &bare,
-            &[],
-            (ram, 4 * UNIT, None, &[2, 3, 4, 5]),
-            Told::Span(2, SpanFault::NoRoom(Room { start: 0, limit: 0 })),
-        ),
-    ];
-    for (nodes, ranges, asked, want) in rows {
-        let case = Case {
-            nodes,
-            windows: &[LARGE],
-            ranges,
-            asked,
-            want,
-        };
-        assert_eq!(rt; answer(&planned(&rt, alloc, &case)?), want);
-    }
-    Ok(())
+    tells(&rt, alloc, &all, whole)?;
+    let turned = Case {
+        endpoints: &[5, 2, 4, 3],
+        ..all
+    };
+    tells(&rt, alloc, &turned, whole)?;
+    let behind = Case {
+        ranges: &of_four,
+        size: 2 * UNIT,
+        endpoints: &[2, 4],
+        ..all
+    };
+    tells(&rt, alloc, &behind, Told::Planned(0, 0x10_4000_0000, 0, 2))?;
+    let twice = Case {
+        size: UNIT,
+        endpoints: &[2, 2],
+        ..all
+    };
+    tells(&rt, alloc, &twice, Told::Repeat(2))?;
+    let three = Case {
+        size: 3 * UNIT,
+        endpoints: &[2, 3, 4],
+        ..all
+    };
+    tells(&rt, alloc, &three, Told::Uneven(1))?;
+    let one_bridge = Case {
+        size: 2 * UNIT,
+        endpoints: &[2, 3],
+        ..all
+    };
+    tells_reasons(&rt, alloc, &one_bridge, &[Reason::Bridges])
+}
+
+/// The first endpoint has no memory.
+#[test]
+fn bare_endpoint(rt: HostRuntime) -> Result<(), Fail> {
+    let alloc = rt.alloc();
+    let mut nodes = two_each();
+    nodes[2] = device(0, 0, 0, 0);
+    let two = Case {
+        nodes: &nodes,
+        windows: &[LARGE],
+        ranges: &[],
+        kind: MemKind::Ram,
+        size: 2 * UNIT,
+        gran: None,
+        endpoints: &[3, 4],
+    };
+    tells(&rt, alloc, &two, Told::Planned(0, LARGE.base, 0, 2))?;
+    let four = Case {
+        size: 4 * UNIT,
+        endpoints: &[2, 3, 4, 5],
+        ..two
+    };
+    let room = Room { start: 0, limit: 0 };
+    tells(&rt, alloc, &four, Told::Span(2, SpanFault::NoRoom(room)))
 }
 
 /// One bridge with an endpoint of 1 GiB of each kind, and two regions of it.
@@ -202,90 +229,102 @@ fn one_endpoint(rt: HostRuntime) -> Result<(), Fail> {
         ..second
     };
     let ranges = [over(0, 2, BASE, UNIT, 0, 0), second, skipping];
-    let room = Room {
+    let both = Case {
+        nodes: &[BRIDGE, device(0, 0, GIB, GIB)],
+        windows: &[window(4 * GIB, &[0])],
+        ranges: &ranges,
+        kind: MemKind::Pmem,
+        size: UNIT,
+        gran: None,
+        endpoints: &[1],
+    };
+    let next = Case {
+        ranges: &ranges[..1],
+        ..both
+    };
+    tells(&rt, alloc, &next, Told::Planned(0, BASE + UNIT, 0, 1))?;
+    let ram = Case {
+        kind: MemKind::Ram,
+        ..both
+    };
+    let past = SpanFault::PastRam(0x5000_0000);
+    tells(&rt, alloc, &ram, Told::Span(1, past))?;
+    let large = Case { size: GIB, ..both };
+    let room = SpanFault::NoRoom(Room {
         start: 0x5000_0000,
         limit: 0x8000_0000,
+    });
+    tells(&rt, alloc, &large, Told::Span(1, room))?;
+    tells(&rt, alloc, &Case { size: 0, ..both }, Told::Size)
+}
+
+/// The rows of a plan over two endpoints: node, decoder and code of ways.
+fn has_rows(
+    rt: &impl Abort,
+    alloc: Global,
+    nodes: &[Spot],
+    want: &[(u32, u8, u8)],
+) -> Result<(), Fail> {
+    let case = Case {
+        nodes,
+        windows: &[window(4 * GIB, &[0, 1])],
+        ranges: &[],
+        kind: MemKind::Ram,
+        size: 2 * UNIT,
+        gran: None,
+        endpoints: &[2, 3],
     };
-    let rows: [(&[Range], Asked, Told); 4] = [
-        (
-            &ranges[..1],
-            (MemKind::Pmem, UNIT, None, &[1]),
-            Told::Planned(0, BASE + UNIT, 0, 1),
-        ),
-        (
-            &ranges,
-            (MemKind::Ram, UNIT, None, &[1]),
-            Told::Span(1, SpanFault::PastRam(0x5000_0000)),
-        ),
-        (
-            &ranges,
-            (MemKind::Pmem, GIB, None, &[1]),
-            Told::Span(1, SpanFault::NoRoom(room)),
-        ),
-        (&ranges, (MemKind::Ram, 0, None, &[1]), Told::Size),
-    ];
-    for (ranges, asked, want) in rows {
-        let case = Case {
-            nodes: &[BRIDGE, device(0, 0, GIB, GIB)],
-            windows: &[window(4 * GIB, &[0])],
-            ranges,
-            asked,
-            want,
-        };
-        assert_eq!(rt; answer(&planned(&rt, alloc, &case)?), want);
+    let plan = match planned(rt, alloc, &case)? {
+        Ok(plan) => plan,
+        Err(_) => return Err(Fail::from("refused")),
+    };
+    let spans = plan.found.spans.items();
+    assert_eq!(rt; spans.len(), 2);
+    assert_eq!(rt; (spans[0].endpoint, spans[1].endpoint), (2, 3));
+    assert_eq!(rt; (spans[0].start, spans[1].start), (0, 0));
+    let rows = plan.rows.items();
+    assert_eq!(rt; rows.len(), want.len());
+    for (row, (node, index, ways)) in rows.iter().zip(want) {
+        assert_eq!(rt;
+            (row.node, row.index, row.decoder.ways),
+            (*node, *index, *ways)
+        );
+        assert_eq!(rt; (row.decoder.base, row.decoder.size), (BASE, 2 * UNIT));
+        assert_eq!(rt; (row.decoder.gran, row.decoder.tail), (0, 0));
     }
     Ok(())
 }
 
-/// The rows of a plan over two endpoints, below bridges that decode and below bridges that forward.
+/// Below bridges that decode, and below bridges that forward.
 #[test]
 fn rows(rt: HostRuntime) -> Result<(), Fail> {
     let alloc = rt.alloc();
+    let nodes = one_each();
+    has_rows(
+        &rt,
+        alloc,
+        &nodes,
+        &[(0, 0, 0), (1, 0, 0), (2, 0, 1), (3, 0, 1)],
+    )?;
     let mut forwarding = one_each();
     forwarding[0] = FORWARDING;
     forwarding[1] = FORWARDING;
-    let want = [(0, 0, 0), (1, 0, 0), (2, 0, 1), (3, 0, 1)];
-    let cases: [(&[Spot], &[(u32, u8, u8)]); 2] = [(&one_each(), &want), (&forwarding, &want[2..])];
-    for (nodes, want) in cases {
-        let case = Case {
-            nodes,
-            windows: &[window(4 * GIB, &[0, 1])],
-            ranges: &[],
-            asked: (MemKind::Ram, 2 * UNIT, None, &[2, 3]),
-            want: Told::Planned(0, BASE, 0, 2),
-        };
-        let plan = match planned(&rt, alloc, &case)? {
-            Ok(plan) => plan,
-            Err(_) => return Err(Fail::from("refused")),
-        };
-        let spans = plan.found.spans.items();
-        assert_eq!(rt; spans.len(), 2);
-        assert_eq!(rt; (spans[0].endpoint, spans[1].endpoint), (2, 3));
-        assert_eq!(rt; (spans[0].start, spans[1].start), (0, 0));
-        let rows = plan.rows.items();
-        assert_eq!(rt; rows.len(), want.len());
-        for (row, (node, index, ways)) in rows.iter().zip(want) {
-            assert_eq!(rt;
-                (row.node, row.index, row.decoder.ways),
-                (*node, *index, *ways)
-            );
-            assert_eq!(rt; (row.decoder.base, row.decoder.size), (BASE, 2 * UNIT));
-            assert_eq!(rt; (row.decoder.gran, row.decoder.tail), (0, 0));
-        }
-    }
-    Ok(())
+    has_rows(&rt, alloc, &forwarding, &[(2, 0, 1), (3, 0, 1)])
 }
 
 /// The target lists of bridges with two endpoints each.
 #[test]
 fn target_lists(rt: HostRuntime) -> Result<(), Fail> {
     let alloc = rt.alloc();
+    let nodes = two_each();
     let case = Case {
-        nodes: &two_each(),
+        nodes: &nodes,
         windows: &[LARGE],
         ranges: &[],
-        asked: (MemKind::Ram, GIB, None, &[2, 3, 4, 5]),
-        want: Told::Planned(0, LARGE.base, 0, 4),
+        kind: MemKind::Ram,
+        size: GIB,
+        gran: None,
+        endpoints: &[2, 3, 4, 5],
     };
     let plan = match planned(&rt, alloc, &case)? {
         Ok(plan) => plan,
@@ -309,24 +348,60 @@ fn target_lists(rt: HostRuntime) -> Result<(), Fail> {
     Ok(())
 }
 
-/// The faults that no other row shows.
+/// All of the window is taken.
 #[test]
-fn faults(rt: HostRuntime) -> Result<(), Fail> {
+fn full_window(rt: HostRuntime) -> Result<(), Fail> {
     let alloc = rt.alloc();
-    let mut large = one_each();
-    large[2] = device(0, 0, 4 * GIB, 0);
-    large[3] = device(1, 0, 4 * GIB, 0);
-    let whole = [
+    let mut nodes = one_each();
+    nodes[2] = device(0, 0, 4 * GIB, 0);
+    nodes[3] = device(1, 0, 4 * GIB, 0);
+    let ranges = [
         over(0, 2, BASE, 4 * GIB, 0, 0),
         over(2, 4, BASE, 4 * GIB, 0x10, 0),
     ];
-    let mut single = one_each();
-    single[1].cap = 0x380;
-    let first = [
+    let case = Case {
+        nodes: &nodes,
+        windows: &[window(4 * GIB, &[0, 1])],
+        ranges: &ranges,
+        kind: MemKind::Ram,
+        size: 2 * UNIT,
+        gran: None,
+        endpoints: &[2, 3],
+    };
+    let room = Room {
+        start: 0x2_0000_0000,
+        limit: 0x2_0000_0000,
+    };
+    tells_reasons(&rt, alloc, &case, &[Reason::NoBase(room)])
+}
+
+/// The only decoder of a bridge is committed.
+#[test]
+fn full_bridge(rt: HostRuntime) -> Result<(), Fail> {
+    let alloc = rt.alloc();
+    let mut nodes = one_each();
+    nodes[1].cap = 0x380;
+    let ranges = [
         over(0, 2, BASE, 2 * UNIT, 0, 0),
         over(2, 4, BASE, 2 * UNIT, 0x10, 0),
     ];
-    let five = [
+    let case = Case {
+        nodes: &nodes,
+        windows: &[window(4 * GIB, &[0, 1])],
+        ranges: &ranges,
+        kind: MemKind::Ram,
+        size: 2 * UNIT,
+        gran: None,
+        endpoints: &[2, 3],
+    };
+    tells(&rt, alloc, &case, Told::NoDecoder(1))
+}
+
+/// Five endpoints below one bridge.
+#[test]
+fn five_endpoints(rt: HostRuntime) -> Result<(), Fail> {
+    let alloc = rt.alloc();
+    let nodes = [
         BRIDGE,
         device(0, 0, GIB, 0),
         device(0, 1, GIB, 0),
@@ -334,40 +409,21 @@ fn faults(rt: HostRuntime) -> Result<(), Fail> {
         device(0, 3, GIB, 0),
         device(0, 4, GIB, 0),
     ];
-    let no_base = Reason::NoBase(Room {
-        start: 0x2_0000_0000,
-        limit: 0x2_0000_0000,
-    });
-    let both = window(4 * GIB, &[0, 1]);
-    let rows: [(&[Spot], Span, &[Range], &[u32], Told); 4] = [
-        (&large, both, &whole, &[2, 3], Told::NoWindow(&[no_base])),
-        (&single, both, &first, &[2, 3], Told::NoDecoder(1)),
-        (
-            &five,
-            window(4 * GIB, &[0]),
-            &[],
-            &[1, 2, 3, 4, 5],
-            Told::Ways(5),
-        ),
-        (
-            &five,
-            window(4 * GIB, &[0]),
-            &[],
-            &[3, 4],
-            Told::Planned(0, BASE, 0, 2),
-        ),
-    ];
-    for (nodes, window, ranges, endpoints, want) in rows {
-        let case = Case {
-            nodes,
-            windows: &[window],
-            ranges,
-            asked: (MemKind::Ram, 2 * UNIT, None, endpoints),
-            want,
-        };
-        assert_eq!(rt; answer(&planned(&rt, alloc, &case)?), want);
-    }
-    Ok(())
+    let all = Case {
+        nodes: &nodes,
+        windows: &[window(4 * GIB, &[0])],
+        ranges: &[],
+        kind: MemKind::Ram,
+        size: 2 * UNIT,
+        gran: None,
+        endpoints: &[1, 2, 3, 4, 5],
+    };
+    tells(&rt, alloc, &all, Told::Ways(5))?;
+    let two = Case {
+        endpoints: &[3, 4],
+        ..all
+    };
+    tells(&rt, alloc, &two, Told::Planned(0, BASE, 0, 2))
 }
 
 const fn at<'a>(base: u64, span: Span<'a>) -> Span<'a> {
@@ -411,32 +467,30 @@ fn reasons(rt: HostRuntime) -> Result<(), Fail> {
     for (place, spot) in nodes[2..].iter_mut().enumerate() {
         *spot = device((place / 2) as u32, (place % 2) as u8, 0, 2 * GIB);
     }
-    let rows: [(&[u32], Told); 2] = [
-        (
-            &[2, 3, 4, 5],
-            Told::NoWindow(&[
-                Reason::Unusable,
-                Reason::Kind,
-                Reason::Fixed,
-                Reason::Bridges,
-                Reason::Gran,
-                Reason::Select(0),
-                Reason::Select(0),
-            ]),
-        ),
-        (&[2, 4], Told::Planned(5, BASE + 5 * GIB, 6, 2)),
+    let all = Case {
+        nodes: &nodes,
+        windows: &windows,
+        ranges: &[],
+        kind: MemKind::Pmem,
+        size: GIB,
+        gran: Some(6),
+        endpoints: &[2, 3, 4, 5],
+    };
+    let reasons = [
+        Reason::Unusable,
+        Reason::Kind,
+        Reason::Fixed,
+        Reason::Bridges,
+        Reason::Gran,
+        Reason::Select(0),
+        Reason::Select(0),
     ];
-    for (endpoints, want) in rows {
-        let case = Case {
-            nodes: &nodes,
-            windows: &windows,
-            ranges: &[],
-            asked: (MemKind::Pmem, GIB, Some(6), endpoints),
-            want,
-        };
-        assert_eq!(rt; answer(&planned(&rt, alloc, &case)?), want);
-    }
-    Ok(())
+    tells_reasons(&rt, alloc, &all, &reasons)?;
+    let two = Case {
+        endpoints: &[2, 4],
+        ..all
+    };
+    tells(&rt, alloc, &two, Told::Planned(5, BASE + 5 * GIB, 6, 2))
 }
 
 /// Three bridges whose endpoints cannot have three ways; and a first window that is taken before a second.
@@ -461,20 +515,20 @@ fn three_ways(rt: HostRuntime) -> Result<(), Fail> {
             ..first
         },
     ];
+    let able = Case {
+        nodes: &nodes,
+        windows: &windows,
+        ranges: &[],
+        kind: MemKind::Ram,
+        size: 3 * UNIT,
+        gran: None,
+        endpoints: &[5, 3, 4],
+    };
+    tells(&rt, alloc, &able, Told::Planned(0, BASE, 0, 3))?;
+    let unable = Case {
+        nodes: &plain,
+        ..able
+    };
     let cap = Reason::WaysCap(4);
-    let rows: [(&[Spot], Told); 2] = [
-        (&nodes, Told::Planned(0, BASE, 0, 3)),
-        (&plain, Told::NoWindow(&[cap, cap])),
-    ];
-    for (nodes, want) in rows {
-        let case = Case {
-            nodes,
-            windows: &windows,
-            ranges: &[],
-            asked: (MemKind::Ram, 3 * UNIT, None, &[5, 3, 4]),
-            want,
-        };
-        assert_eq!(rt; answer(&planned(&rt, alloc, &case)?), want);
-    }
-    Ok(())
+    tells_reasons(&rt, alloc, &unable, &[cap, cap])
 }
