@@ -22,6 +22,8 @@ mod messages;
 #[cfg(test)]
 mod outside;
 #[cfg(test)]
+mod plan_lines;
+#[cfg(test)]
 mod poison;
 #[cfg(test)]
 mod real_hosts;

@@ -7,17 +7,19 @@ use Rattle.cxl_io.specs.Sink.{SinkState, Takes}
 use Rattle.cxl_model.specs.Accepted.{IsAccepted, HasFirstBreach}
 use Rattle.cxl_model.specs.System.{System}
 use Rattle.cxl_regs.specs.Registers.{Registers}
+use Rattle.cxl_script.specs.declared.command.Create.{Create}
 use Rattle.cxl_topo.specs.Tree.{Tree}
 use Rattle.cxl_window.specs.Windows.{windows_of}
-use Rattle.cxl_shell.specs.Answers.{AnswersFromFiles, IsTableAnswer, IsAnswerOfFile, IsAnswerOfHost}
+use Rattle.cxl_shell.specs.Answers.{AnswersFromFiles, IsTableAnswer, IsAnswerOfFile, IsAnswerOfResetHost, IsAnswerOfHost}
 use Rattle.cxl_shell.specs.Ends.{IsWritten, IsCutShort, IsBehind, Ends, IsStopped}
-use Rattle.cxl_shell.specs.Form.{Form, Route, Listing, Normal, Check, Help, Version, Unreadable, has_many_pieces, takes_memory}
+use Rattle.cxl_shell.specs.Form.{Form, Route, Listing, Normal, Check, Plan, NoCreate, Help, Version, Unreadable, has_many_pieces, takes_memory}
 use Rattle.cxl_shell.specs.Outcome.{Outcome, whole_text, one_piece}
 use Rattle.cxl_shell.specs.Outside.{Outside}
 use Rattle.cxl_shell.specs.Run.{RunsOut, before, behind, IsRun, writes, is_cut, runs_out}
 use Rattle.cxl_shell.specs.commands.Check.{IsChecked, regions_told, breach_told, IsRegionsText, IsBreachText, TakesRegions}
 use Rattle.cxl_shell.specs.commands.List.{IsListText, TakesLines}
 use Rattle.cxl_shell.specs.commands.Normal.{IsNormalText}
+use Rattle.cxl_shell.specs.commands.Plan.{IsPlanned, plan_told, refusal_told}
 use Rattle.cxl_shell.specs.commands.Route.{IsNowhere, IsRouted, to_bridge, nowhere, no_window, IsRouteLine}
 use Rattle.cxl_shell.specs.declared.status.Status.{Status}
 use Rattle.cxl_shell.specs.declared.status.Status.TheVariants.{Done, Refused, Memory}
@@ -25,6 +27,8 @@ use Rattle.cxl_shell.specs.inputs.File.{HasNoBytes, not_read, not_small}
 use Rattle.cxl_shell.specs.inputs.Host.{host_of, AreRead, HasNoHost}
 use Rattle.cxl_shell.specs.inputs.Host as hosts
 use Rattle.cxl_shell.specs.inputs.Image as images
+use Rattle.cxl_shell.specs.inputs.ResetHost as resets
+use Rattle.cxl_shell.specs.inputs.ResetHost.{reset_host_of}
 use Rattle.cxl_shell.specs.inputs.Table.{IsTableOf, no_table, by_table, no_bytes, not_sound}
 use Rattle.cxl_shell.specs.inputs.Topology as trees
 use Rattle.cxl_shell.proofs.Routes.{done_selection, refused_nowhere}
@@ -65,11 +69,26 @@ module _ (old new : Outside) where
   one_of_route table h outcome (to_bridge s selected e) = record { status = _; text = _; is = e }
   one_of_route table h outcome (nowhere none e) = record { status = _; text = _; is = e }
 
+  one_of_plan : (table : CedtFields) (tree : Tree) (create : Create) (outcome : Outcome) → IsPlanned (reset_host_of table tree) create outcome → IsOnePiece outcome
+  one_of_plan table tree create outcome (plan_told plan is e) = record { status = _; text = _; is = e }
+  one_of_plan table tree create outcome (refusal_told reply is e) = record { status = _; text = _; is = e }
+
+  one_of_reset_host : (cedt topo : List ℕ) (create : Create) (outcome : Outcome) → IsAnswerOfResetHost (Plan cedt topo create) cedt topo old.files new.files outcome → IsOnePiece outcome
+  one_of_reset_host cedt topo create outcome (resets.no_reset_host (resets.no_table (no_bytes (not_read rose asks e)))) = record { status = _; text = _; is = e }
+  one_of_reset_host cedt topo create outcome (resets.no_reset_host (resets.no_table (no_bytes (not_small many asks e)))) = record { status = _; text = _; is = e }
+  one_of_reset_host cedt topo create outcome (resets.no_reset_host (resets.no_table (not_sound fault is asks e))) = record { status = _; text = _; is = e }
+  one_of_reset_host cedt topo create outcome (resets.no_reset_host (resets.no_tree table of (trees.no_bytes (not_read rose asks e)))) = record { status = _; text = _; is = e }
+  one_of_reset_host cedt topo create outcome (resets.no_reset_host (resets.no_tree table of (trees.no_bytes (not_small many asks e)))) = record { status = _; text = _; is = e }
+  one_of_reset_host cedt topo create outcome (resets.no_reset_host (resets.no_tree table of (trees.not_sound fault is asks e))) = record { status = _; text = _; is = e }
+  one_of_reset_host cedt topo create outcome (resets.by_reset_host table tree of answer) = one_of_plan table tree create outcome answer.1
+
   one_piece_answers : (form : Form) (outcome : Outcome) → has_many_pieces form ≡ false → AnswersFromFiles form old.files new.files outcome → IsOnePiece outcome
   one_piece_answers (Route file h) outcome other answers = one_of_file (Route file h) file outcome (λ table answer. one_of_route table h outcome answer) answers
   one_piece_answers (Listing file) outcome other answers = absurd (cc)
   one_piece_answers (Check cedt topo image) outcome other answers = absurd (cc)
   one_piece_answers (Normal file) outcome other answers = one_of_file (Normal file) file outcome (λ table answer. record { status = _; text = _; is = answer }) answers
+  one_piece_answers (Plan cedt topo create) outcome other answers = one_of_reset_host cedt topo create outcome answers
+  one_piece_answers NoCreate outcome other answers = record { status = _; text = _; is = answers.0 }
   one_piece_answers Help outcome other answers = record { status = _; text = _; is = answers.0 }
   one_piece_answers Version outcome other answers = record { status = _; text = _; is = answers.0 }
   one_piece_answers Unreadable outcome other answers = record { status = _; text = _; is = answers.0 }
@@ -125,6 +144,12 @@ module _ (old new : Outside) where
   fixed_ends form fixed status none one (writes outcome answers written) = inl (subst (λ o. IsWritten o status old.out new.out) (one outcome answers) written)
   fixed_ends form fixed status none one (is_cut outcome answers is) = inr (subst (λ o. IsCutShort o status old.out new.out) (one outcome answers) is)
   fixed_ends form fixed status none one (runs_out takes is left) = absurd (cc)
+
+  -- a form whose outcome is fixed, and that may want for memory
+  pub fixed_or_memory : (form : Form) (fixed : Outcome) (status : Status) → ((o : Outcome) → AnswersFromFiles form old.files new.files o → o ≡ fixed) → IsRun form old new status → (status ≡ Memory) ⊎ Ends fixed status old.out new.out
+  fixed_or_memory form fixed status one (writes outcome answers written) = inr (inl (subst (λ o. IsWritten o status old.out new.out) (one outcome answers) written))
+  fixed_or_memory form fixed status one (is_cut outcome answers is) = inr (inr (subst (λ o. IsCutShort o status old.out new.out) (one outcome answers) is))
+  fixed_or_memory form fixed status one (runs_out takes is left) = inl is
 
   pub ends_or_memory : (form : Form) (status : Status) → IsRun form old new status → (status ≡ Memory) ⊎ ((outcome : Outcome) × AnswersFromFiles form old.files new.files outcome × Ends outcome status old.out new.out)
   ends_or_memory form status (writes outcome answers written) = inr (outcome, answers, inl written)

@@ -16,7 +16,7 @@ use crate::commands::route::route_statuses;
 use crate::finish::run_ends;
 use crate::form::form_of;
 use crate::status::Status;
-use cxl_io::{Fetch, Sink};
+use cxl_io::{Fetch, Memory, Sink};
 use std::alloc::Global;
 
 /// Carries out the words of the command line, which are without the name of the program: reads files,
@@ -51,5 +51,8 @@ pub fn run<F: Fetch, K: Sink>(alloc: Global, words: &[String], files: &mut F, ou
 {
     run_ends();
     route_statuses();
-    carry_out(alloc, form_of(words), files, out)
+    match form_of(alloc, words) {
+        Ok(form) => carry_out(alloc, form, files, out),
+        Err(Memory) => Status::Memory,
+    }
 }

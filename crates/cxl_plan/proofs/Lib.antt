@@ -1,0 +1,12 @@
+pub mod Finding
+pub mod Trees
+pub mod Tables
+pub mod PlannedWays
+pub mod UsedItems
+pub mod UnevenNodes
+pub mod KeptBlocks
+pub mod Reasons
+pub mod Choices
+pub mod FaultOrder
+pub mod Leading
+pub mod LegalPlans

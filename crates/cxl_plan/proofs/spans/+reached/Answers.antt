@@ -1,0 +1,25 @@
+use Rattle.std.proofs.Common.{◌≡◌, ℕ, ◌-◌, ◌<◌, Some, true, length, sym, ap, subst, refl, ◌∙◌, arith}
+use Rattle.std.specs.Prelude.{IsSome}
+use Rattle.std.proofs.lemmas.Option.{same_Some}
+use Rattle.cxl_legal.specs.Used.{is_used}
+use Rattle.cxl_plan.specs.inner.Uses.{tree_alone}
+use Rattle.cxl_plan.proofs.Trees.{KnownTree}
+use Rattle.cxl_plan.proofs.Leading.{used_child}
+use Rattle.cxl_plan.proofs.spans.+reached.Goals as goal
+
+pub unwrap-child-requires : goal.unwrap-child-requires
+unwrap-child-requires t c =
+    let nodes = c.args.topo.now.nodes in
+    let tree : KnownTree nodes = record { tree = c.count-count.ensures.tree; laws = c.tree_laws.ensures.laws nodes c.count-count.ensures.tree } in
+    let child = used_child nodes tree c.args.request.now c.args.node c.port_of-port.result c.port_of-port.ensures in
+    subst (λ o. IsSome o) (sym (c.child.ensures.child ∙ child.1.is)) refl
+
+pub reached-requires : goal.reached-requires
+reached-requires t c =
+    let nodes = c.args.topo.now.nodes in
+    let tree : KnownTree nodes = record { tree = c.count-count.ensures.tree; laws = c.tree_laws.ensures.laws nodes c.count-count.ensures.tree } in
+    let child = used_child nodes tree c.args.request.now c.args.node c.port_of-port.result c.port_of-port.ensures in
+    let same : child.0 ≡ c.unwrap-child.result = same_Some child.0 c.unwrap-child.result (sym child.1.is ∙ sym c.child.ensures.child ∙ c.unwrap-child.ensures) in
+    let inside = child.1.inside in
+    let later = child.1.later in
+    (omega (arith, c.decreases), (c.requires.uses, (c.requires.ways, (omega arith, subst (λ (n : ℕ). is_used (tree_alone nodes) c.args.request.now n ≡ true) same child.1.used))))

@@ -1,0 +1,51 @@
+use Rattle.std.proofs.Common.{◌≡◌, ℕ, ◌<◌, ◌≤◌, List, Some, Ok, true, length, get_or, refl, sym, ap, subst, ◌∙◌, arith}
+use Rattle.std.specs.Prelude.{IsSome}
+use Rattle.std.specs.Result.{IsOk}
+use Rattle.std.specs.List.{list_all}
+use Rattle.std.proofs.lemmas.Bool.{and_parts}
+use Rattle.std.proofs.lemmas.Option.{same_Some}
+use Rattle.cxl_legal.specs.Used.{is_used}
+use Rattle.cxl_legal.specs.Windows.{is_used_bridge}
+use Rattle.cxl_plan.specs.inner.Uses.{tree_alone}
+use Rattle.cxl_plan.proofs.Trees.{KnownTree}
+use Rattle.cxl_plan.proofs.UsedItems.{used_asked}
+use Rattle.cxl_plan.proofs.Leading.{target_at, used_bridge}
+use Rattle.cxl_plan.proofs.spans.place_of.Goals as goal
+
+pub unwrap-bridge-requires : goal.unwrap-bridge-requires
+unwrap-bridge-requires c =
+    let nodes = c.args.topo.now.nodes in
+    let request = c.args.request.now in
+    let targets : List ℕ = c.targets.result.now in
+    let all : list_all (is_used_bridge (tree_alone nodes) request) targets ≡ true =
+    ap (list_all (is_used_bridge (tree_alone nodes) request)) c.targets.ensures.value ∙ (and_parts (list_all (is_used_bridge (tree_alone nodes) request) c.args.w.now.targets) _ c.requires.settled.window.bridges).0 in
+    let long = ap length c.targets.ensures.value in
+    let each = c.targets.ensures.each_way in
+    let within = c.target_position.ensures.within in
+    let from = c.from.ensures in
+    let bridge = used_bridge nodes request (get_or targets c.from.result 0) (target_at nodes request targets c.from.result all (omega arith)) in
+    subst (λ o. IsSome o) (sym (c.bridge.ensures.bridge ∙ bridge.1)) refl
+
+pub reached-endpoint-requires-clause-used : goal.reached-endpoint-requires-clause-used
+reached-endpoint-requires-clause-used c =
+    let nodes = c.args.topo.now.nodes in
+    let request = c.args.request.now in
+    let targets : List ℕ = c.targets.result.now in
+    let all : list_all (is_used_bridge (tree_alone nodes) request) targets ≡ true =
+    ap (list_all (is_used_bridge (tree_alone nodes) request)) c.targets.ensures.value ∙ (and_parts (list_all (is_used_bridge (tree_alone nodes) request) c.args.w.now.targets) _ c.requires.settled.window.bridges).0 in
+    let long = ap length c.targets.ensures.value in
+    let each = c.targets.ensures.each_way in
+    let within = c.target_position.ensures.within in
+    let from = c.from.ensures in
+    let bridge = used_bridge nodes request (get_or targets c.from.result 0) (target_at nodes request targets c.from.result all (omega arith)) in
+    let same : bridge.0 ≡ c.unwrap-bridge.result = same_Some bridge.0 c.unwrap-bridge.result (sym bridge.1 ∙ sym c.bridge.ensures.bridge ∙ c.unwrap-bridge.ensures) in
+    subst (λ (n : ℕ). is_used (tree_alone nodes) request n ≡ true) same bridge.2
+
+pub unwrap-requires : goal.unwrap-requires
+unwrap-requires c =
+    let nodes = c.args.topo.now.nodes in
+    let request = c.args.request.now in
+    let tree : KnownTree nodes = record { tree = c.count-count.ensures.tree; laws = c.tree_laws.ensures.laws nodes c.count-count.ensures.tree } in
+    let asked = used_asked nodes tree request c.requires.settled.ready.named c.reached-endpoint.result c.reached-endpoint.ensures.endpoint c.reached-endpoint.ensures.used in
+    let room = c.requires.settled.endpoints.room c.reached-endpoint.result asked in
+    subst (λ r. IsOk r) (sym ((c.span_of.ensures (Ok room.0)).1 room.1)) refl

@@ -1,0 +1,6 @@
+-- Definitions that only the inner calls and the proofs speak of.
+pub mod Uses
+pub mod AtPorts
+pub mod Judging
+pub mod Floors
+pub mod Choices

@@ -1,0 +1,101 @@
+//! Where a new region may start.
+
+ghost use Rattle.std.specs.Prelude.{◌≡◌, ℕ, ◌<◌, ◌≤◌, ◌+◌, ◌-◌, ◌*◌, ◌%◌, ◌==◌, if◌then◌else◌, max, slice_get};
+ghost use Rattle.std.specs.Option.{option_map_or};
+ghost use Rattle.cxl_enc.specs.Limits.{unit, address_limit};
+ghost use Rattle.cxl_regs.specs.Reading.{committed_count};
+ghost use Rattle.cxl_span.specs.Breaches.{BlockKeeps};
+ghost use Rattle.cxl_model.specs.System.{system_of};
+ghost use Rattle.cxl_legal.specs.Bases.{base_step};
+ghost use Rattle.cxl_plan.specs.inner.Uses.{AreUses};
+ghost use Rattle.cxl_plan.specs.inner.Judging.{IsReady};
+ghost use Rattle.cxl_plan.specs.inner.Floors.{IsFloor};
+
+use crate::used::Uses;
+use cxl_enc::UNIT;
+use cxl_image::Image;
+use cxl_model::Request;
+use cxl_regs::Block;
+use cxl_span::{committed_stand_first, ranges_rise};
+use cxl_topo::{Topo, tree_laws};
+use cxl_window::Window;
+
+/// The end of all that is committed in the used nodes, or 0.
+pub(crate) fn floor(image: &Image, topo: &Topo, windows: &[Window], request: &Request, uses: &Uses) -> u64
+    requires ready { IsReady (system_of image.now topo.now windows.now) request.now }
+    requires uses { AreUses topo.now.nodes request.now uses.now }
+    ensures { IsFloor topo.now.nodes image.now request.now result }
+{
+    let _count = topo.count();
+    let _windows = windows.len();
+    let _ways = request.endpoints.items().len();
+    tree_laws();
+    let mut floor = 0;
+    for node in &uses.nodes {
+        floor = greater(last_end(image.block(*node)), floor);
+    }
+    floor
+}
+
+fn greater(a: u64, b: u64) -> u64
+    ensures { result ≡ max a b }
+{
+    if a < b { b } else { a }
+}
+
+/// The end of the range of a block's last committed decoder, or 0.
+fn last_end(block: &Block) -> u64
+    requires { (ram : ℕ) × (pmem : ℕ) × BlockKeeps block.now ram pmem }
+    ensures value { result ≡ (if committed_count block.now.decoders == 0 then 0
+        else option_map_or (λ d. d.base + d.size) (slice_get block.now.decoders (committed_count block.now.decoders - 1)) 0) }
+    ensures low { result ≤ address_limit }
+{
+    committed_stand_first();
+    ranges_rise();
+    let committed = block.committed();
+    if committed == 0 {
+        return 0;
+    }
+    let last = block.decoder(committed - 1);
+    last.base + last.size
+}
+
+/// The least base in a window that is at or above `floor`.
+pub(crate) fn least_base(w: &Window, floor: u64) -> u64
+    requires base { w.now.base ≤ address_limit }
+    requires floor { floor ≤ address_limit }
+    ensures from { w.now.base ≤ result }
+    ensures above { floor ≤ result }
+    ensures step { (result - w.now.base) % base_step w.now ≡ 0 }
+    ensures least { (other : ℕ) → w.now.base ≤ other → floor ≤ other → (other - w.now.base) % base_step w.now ≡ 0 → result ≤ other }
+    ensures low { result ≤ 3 * address_limit }
+{
+    let least = floor.saturating_sub(w.base());
+    if w.ways() % 3 == 0 {
+        w.base() + three_units_up(least)
+    } else {
+        w.base() + units_up(least)
+    }
+}
+
+/// The least multiple of 256 MiB that is no less.
+fn units_up(n: u64) -> u64
+    requires { n ≤ address_limit }
+    ensures above { n ≤ result }
+    ensures aligned { result % unit ≡ 0 }
+    ensures least { (m : ℕ) → n ≤ m → m % unit ≡ 0 → result ≤ m }
+    ensures low { result ≤ 2 * address_limit }
+{
+    (n + (UNIT - 1)) / UNIT * UNIT
+}
+
+/// The least multiple of 768 MiB that is no less.
+fn three_units_up(n: u64) -> u64
+    requires { n ≤ address_limit }
+    ensures above { n ≤ result }
+    ensures aligned { result % (3 * unit) ≡ 0 }
+    ensures least { (m : ℕ) → n ≤ m → m % (3 * unit) ≡ 0 → result ≤ m }
+    ensures low { result ≤ 2 * address_limit }
+{
+    (n + (3 * UNIT - 1)) / (3 * UNIT) * (3 * UNIT)
+}

@@ -1,0 +1,51 @@
+//! The first window that takes a request.
+
+ghost use Rattle.std.specs.Prelude.{IfOk};
+ghost use Rattle.cxl_model.specs.System.{system_of};
+ghost use Rattle.cxl_plan.specs.inner.Uses.{AreUses, HasWays};
+ghost use Rattle.cxl_plan.specs.inner.Judging.{IsReady, IsSound};
+ghost use Rattle.cxl_plan.specs.inner.Choices.{IsChoice};
+
+use crate::base::floor;
+use crate::used::Uses;
+use crate::windows::base_in;
+use cxl_image::Image;
+use cxl_model::{Reason, Request};
+use cxl_topo::Topo;
+use cxl_window::Window;
+use std::alloc::{AllocError, Global};
+
+/// Where a region may stand.
+#[derive(Drop)]
+pub enum Choice {
+    /// The place of the window among all, and the base.
+    Found(usize, u64),
+    /// Why each window does not take it, in table order.
+    Nowhere(Vec<Reason>),
+}
+
+/// The first window that takes the request, with the least base there, or why none does. Takes memory.
+pub(crate) fn choose(
+    alloc: Global,
+    image: &Image,
+    topo: &Topo,
+    windows: &[Window],
+    request: &Request,
+    uses: &Uses,
+) -> Result<Choice, AllocError>
+    requires ready { IsReady (system_of image.now topo.now windows.now) request.now }
+    requires sound { IsSound request.now }
+    requires uses { AreUses topo.now.nodes request.now uses.now }
+    requires ways { HasWays topo.now.nodes request.now }
+    ensures { IfOk result (IsChoice (system_of image.now topo.now windows.now) request.now) }
+{
+    let floor = floor(image, topo, windows, request, uses);
+    let mut reasons = Vec::with_capacity(alloc, windows.len())?;
+    for (i, w) in windows.iter().enumerate() {
+        match base_in(topo, request, uses, floor, w) {
+            Ok(base) => return Ok(Choice::Found(i, base)),
+            Err(reason) => reasons.push(reason)?,
+        }
+    }
+    Ok(Choice::Nowhere(reasons))
+}

@@ -1,0 +1,17 @@
+//! Plans of new regions: the first window that takes a request, the least base there and the rows of registers,
+//! or why no legal plan exists.
+#![tactic(auto)]
+
+mod base;
+mod choosing;
+mod judge;
+mod planned;
+mod planning;
+mod rows;
+mod room;
+mod spans;
+mod used;
+mod windows;
+
+pub use cxl_model::{FixedList, Found, Place, Plan, PlanFault, Reason, Request, Row};
+pub use planning::plan;

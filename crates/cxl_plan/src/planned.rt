@@ -1,0 +1,98 @@
+//! The ways and the code that a used node's decoder would have.
+
+ghost use Rattle.std.specs.Prelude.{◌≡◌, ◌<◌, ◌≤◌, ◌^◌, true, length, IsTrue};
+ghost use Rattle.cxl_enc.specs.Codes.{is_ways};
+ghost use Rattle.cxl_model.specs.Plans.{plan_code};
+ghost use Rattle.cxl_legal.specs.Used.{request_ways, is_used};
+ghost use Rattle.cxl_plan.specs.inner.Uses.{tree_alone, AreUses, HasWays, ways_at, ways_above_at, bits_above_at, code_at};
+
+use crate::used::Uses;
+use cxl_enc::split;
+use cxl_model::Request;
+use cxl_topo::{Topo, tree_laws};
+use cxl_window::Window;
+
+/// The ways of the ports above a node, together.
+#[derive(Clone, Copy)]
+pub(crate) struct Above {
+    /// Their product.
+    pub(crate) ways: u32,
+    /// How many address bits they select on.
+    pub(crate) bits: u32,
+}
+
+/// The ways that a used node's decoder would have.
+pub(crate) fn planned_ways(topo: &Topo, request: &Request, uses: &Uses, node: u32) -> u8
+    requires uses { AreUses topo.now.nodes request.now uses.now }
+    requires ways { HasWays topo.now.nodes request.now }
+    requires here { node < length topo.now.nodes }
+    requires used { is_used (tree_alone topo.now.nodes) request.now node ≡ true }
+    ensures value { result ≡ ways_at topo.now.nodes request.now node }
+    ensures known { IsTrue (is_ways result) }
+{
+    if topo.is_endpoint(node) {
+        request.endpoints.items().len() as u8
+    } else {
+        uses.ports[node as usize].as_slice().len() as u8
+    }
+}
+
+/// The ports above a used node.
+pub(crate) fn ports_above(topo: &Topo, request: &Request, uses: &Uses, node: u32) -> Above
+    requires uses { AreUses topo.now.nodes request.now uses.now }
+    requires ways { HasWays topo.now.nodes request.now }
+    requires here { node < length topo.now.nodes }
+    requires used { is_used (tree_alone topo.now.nodes) request.now node ≡ true }
+    ensures ways { result.ways ≡ ways_above_at topo.now.nodes request.now node }
+    ensures bits { result.bits ≡ bits_above_at topo.now.nodes request.now node }
+    ensures some { 0 < result.ways }
+    ensures few_ways { result.ways ≤ 2 ^ 20 }
+    ensures few_bits { result.bits ≤ 20 }
+{
+    tree_laws();
+    let _count = topo.count();
+    let Some(parent) = topo.node(node).parent else {
+        return Above { ways: 1, bits: 0 };
+    };
+    let above = ports_above(topo, request, uses, parent.node);
+    let ways = planned_ways(topo, request, uses, parent.node);
+    Above {
+        ways: u32::from(ways) * above.ways,
+        bits: u32::from(split(ways).bits) + above.bits,
+    }
+}
+
+/// The code of the region in a window: the window's where that has more than one way, else the stated one. 0 at one
+/// way.
+pub(crate) fn region_code(request: &Request, w: &Window) -> u8
+    ensures { result ≡ plan_code request.now w.now (request_ways request.now) }
+{
+    if request.endpoints.items().len() == 1 {
+        return 0;
+    }
+    if w.ways() > 1 {
+        return w.gran();
+    }
+    match request.gran {
+        Some(code) => code,
+        None => w.gran(),
+    }
+}
+
+/// The code that a used node's decoder would have in a window. It may be one that no granularity has.
+pub(crate) fn planned_code(topo: &Topo, request: &Request, uses: &Uses, w: &Window, node: u32) -> u32
+    requires uses { AreUses topo.now.nodes request.now uses.now }
+    requires ways { HasWays topo.now.nodes request.now }
+    requires here { node < length topo.now.nodes }
+    requires used { is_used (tree_alone topo.now.nodes) request.now node ≡ true }
+    ensures { result ≡ code_at topo.now.nodes request.now w.now node }
+{
+    if planned_ways(topo, request, uses, node) == 1 {
+        return 0;
+    }
+    let code = u32::from(region_code(request, w));
+    if topo.is_endpoint(node) {
+        return code;
+    }
+    code + u32::from(split(w.ways()).bits) + ports_above(topo, request, uses, node).bits
+}

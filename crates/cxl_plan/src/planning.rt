@@ -1,0 +1,196 @@
+ghost use Rattle.std.specs.Prelude.{◌≡◌, ◌≢◌, ◌<◌, ◌≤◌, length, IfOk, IfErr, IfSome, IfNone, OnOk, slice_get, Some};
+ghost use Rattle.cxl_topo.specs.Tree.{bridge_uids};
+ghost use Rattle.cxl_image.specs.Images.{HasCapsOf};
+ghost use Rattle.cxl_window.specs.Windows.{AreMadeWith};
+ghost use Rattle.cxl_window.specs.Fields.{WindowFields};
+ghost use Rattle.cxl_model.specs.System.{System, system_of};
+ghost use Rattle.cxl_model.specs.Accepted.{IsAccepted};
+ghost use Rattle.cxl_legal.specs.Used.{AreEndpoints, HasBytePorts};
+ghost use Rattle.cxl_legal.specs.Endpoints.{FitsEndpoints};
+ghost use Rattle.cxl_plan.specs.Faults.{IsFirstPlanFault, IsFirstPlace};
+ghost use Rattle.cxl_plan.specs.inner.Uses.{tree_alone, AreUses};
+ghost use Rattle.cxl_plan.specs.inner.Judging.{IsReady, IsEarly, IsSettled};
+
+use crate::choosing::{Choice, choose};
+use crate::judge::{first_full, first_uneven, has_known_ways, has_size, repeated};
+use crate::planned::region_code;
+use crate::room::first_refused;
+use crate::rows::rows;
+use crate::spans::places;
+use crate::used::{Uses, uses_of};
+use cxl_enc::FixedList;
+use cxl_image::Image;
+use cxl_legal::ports_are_bytes;
+use cxl_model::{Found, Plan, PlanFault, Request};
+use cxl_topo::{Topo, tree_laws};
+use cxl_window::Window;
+use std::alloc::{AllocError, Global};
+
+/// The plan of a new region for the request: in the first window that takes it, at the least base there, with a row
+/// for each node that leads to one of its endpoints and does not forward; or the first cause why no plan is legal.
+/// The order of the endpoints does not matter. (Which plans are legal is this project's rule.) Takes memory.
+pub fn plan(
+    alloc: Global,
+    image: &Image,
+    topo: &Topo,
+    windows: &[Window],
+    request: &Request,
+) -> Result<Plan, PlanFault>
+    requires caps { HasCapsOf image.now topo.now.nodes }
+    requires made { AreMadeWith windows.now (bridge_uids topo.now.nodes) }
+    requires accepted { IsAccepted (system_of image.now topo.now windows.now) }
+    requires named { AreEndpoints (system_of image.now topo.now windows.now) request.now }
+    // But for want of memory, the answer to a request that has no plan is its first fault.
+    ensures fault { IfErr result (λ fault. fault ≢ PlanFault.Memory
+        → IsFirstPlanFault (system_of image.now topo.now windows.now) request.now fault) }
+    ensures endpoints { OnOk result (FitsEndpoints (system_of image.now topo.now windows.now) request.now) }
+    // A plan stands in the first window that takes the request, at the least base there.
+    ensures place { IfOk result (λ plan. IsFirstPlace (system_of image.now topo.now windows.now) request.now plan) }
+{
+    ports_are_bytes(topo);
+    let _count = topo.count();
+    let _blocks = image.count();
+    if let Some(fault) = early_fault(topo, request) {
+        return Err(fault);
+    }
+    plan_ready(alloc, image, topo, windows, request)
+}
+
+/// The plan for a request that is known to be sound by itself, or the first fault.
+fn plan_ready(
+    alloc: Global,
+    image: &Image,
+    topo: &Topo,
+    windows: &[Window],
+    request: &Request,
+) -> Result<Plan, PlanFault>
+    requires ready { IsReady (system_of image.now topo.now windows.now) request.now }
+    requires early { IsEarly request.now }
+    requires ports { HasBytePorts topo.now.nodes }
+    ensures fault { IfErr result (λ fault. fault ≢ PlanFault.Memory
+        → IsFirstPlanFault (system_of image.now topo.now windows.now) request.now fault) }
+    ensures endpoints { OnOk result (FitsEndpoints (system_of image.now topo.now windows.now) request.now) }
+    ensures place { IfOk result (λ plan. IsFirstPlace (system_of image.now topo.now windows.now) request.now plan) }
+{
+    let Ok(uses) = uses_of(alloc, topo, request) else {
+        return Err(PlanFault::Memory);
+    };
+    if let Some(fault) = node_fault(image, topo, windows, request, &uses) {
+        return Err(fault);
+    }
+    plan_fitting(alloc, image, topo, windows, request, &uses)
+}
+
+/// The plan for a request that keeps all that it has to in its nodes, or why no window takes it.
+fn plan_fitting(
+    alloc: Global,
+    image: &Image,
+    topo: &Topo,
+    windows: &[Window],
+    request: &Request,
+    uses: &Uses,
+) -> Result<Plan, PlanFault>
+    requires ready { IsReady (system_of image.now topo.now windows.now) request.now }
+    requires early { IsEarly request.now }
+    requires uses { AreUses topo.now.nodes request.now uses.now }
+    requires fits { FitsEndpoints (system_of image.now topo.now windows.now) request.now }
+    ensures fault { IfErr result (λ fault. fault ≢ PlanFault.Memory
+        → IsFirstPlanFault (system_of image.now topo.now windows.now) request.now fault) }
+    ensures endpoints { OnOk result (FitsEndpoints (system_of image.now topo.now windows.now) request.now) }
+    ensures place { IfOk result (λ plan. IsFirstPlace (system_of image.now topo.now windows.now) request.now plan) }
+{
+    tree_laws();
+    let _count = topo.count();
+    let Ok(choice) = choose(alloc, image, topo, windows, request, uses) else {
+        return Err(PlanFault::Memory);
+    };
+    match choice {
+        Choice::Found(i, base) => match planned(alloc, image, topo, windows, request, uses, i, base) {
+            Ok(plan) => Ok(plan),
+            Err(_) => Err(PlanFault::Memory),
+        },
+        Choice::Nowhere(reasons) => Err(PlanFault::NoWindow(FixedList::new(reasons))),
+    }
+}
+
+/// The first fault of a request by itself.
+fn early_fault(topo: &Topo, request: &Request) -> Option<PlanFault>
+    requires { AreEndpoints (tree_alone topo.now.nodes) request.now }
+    ensures some { IfSome result (λ fault. (s : System) → IsFirstPlanFault s request.now fault) }
+    ensures none { IfNone result (IsEarly request.now) }
+{
+    let _count = topo.count();
+    let endpoints = request.endpoints.items();
+    if let Some(endpoint) = repeated(endpoints) {
+        return Some(PlanFault::Repeat(endpoint));
+    }
+    if !has_known_ways(request) {
+        return Some(PlanFault::Ways(endpoints.len() as u32));
+    }
+    if !has_size(request) {
+        return Some(PlanFault::Size);
+    }
+    None
+}
+
+/// The first fault of the nodes that the request would use.
+fn node_fault(
+    image: &Image,
+    topo: &Topo,
+    windows: &[Window],
+    request: &Request,
+    uses: &Uses,
+) -> Option<PlanFault>
+    requires ready { IsReady (system_of image.now topo.now windows.now) request.now }
+    requires early { IsEarly request.now }
+    requires uses { AreUses topo.now.nodes request.now uses.now }
+    ensures some { IfSome result (IsFirstPlanFault (system_of image.now topo.now windows.now) request.now) }
+    ensures none { IfNone result (FitsEndpoints (system_of image.now topo.now windows.now) request.now) }
+{
+    tree_laws();
+    let _count = topo.count();
+    if let Some(node) = first_uneven(topo, request, uses) {
+        return Some(PlanFault::Uneven(node));
+    }
+    if let Some(node) = first_full(image, uses) {
+        return Some(PlanFault::NoDecoder(node));
+    }
+    match first_refused(image, topo, windows, request, uses) {
+        Some((endpoint, fault)) => Some(PlanFault::Span(endpoint, fault)),
+        None => None,
+    }
+}
+
+/// The plan in a window that takes the request, at a base. Takes memory.
+fn planned(
+    alloc: Global,
+    image: &Image,
+    topo: &Topo,
+    windows: &[Window],
+    request: &Request,
+    uses: &Uses,
+    i: usize,
+    base: u64,
+) -> Result<Plan, AllocError>
+    requires settled { (w : WindowFields) × (slice_get windows.now i ≡ Some w)
+        × IsSettled (system_of image.now topo.now windows.now) request.now uses.now w }
+    ensures base { IfOk result (λ plan. plan.found.base ≡ base) }
+    ensures window { IfOk result (λ plan. (w : WindowFields) → slice_get windows.now i ≡ Some w → plan.found.window ≡ w.index) }
+{
+    let w = &windows[i];
+    let spans = places(alloc, image, topo, windows, request, uses, w)?;
+    let rows = rows(alloc, image, topo, windows, request, uses, w, base)?;
+    Ok(Plan {
+        name: request.name,
+        found: Found {
+            base,
+            size: request.size,
+            window: w.index(),
+            gran: region_code(request, w),
+            ways: request.endpoints.items().len() as u8,
+            kind: request.kind,
+            spans: FixedList::new(spans),
+        },
+        rows: FixedList::new(rows),
+    })
+}

@@ -1,0 +1,123 @@
+//! The spans that endpoints give to a request.
+
+ghost use Rattle.std.specs.Prelude.{◌≡◌, ℕ, ◌<◌, ◌+◌, ◌≤◌, ◌↔◌, [], true, length, Contains, Result, Ok, Err, IfSome, IfNone};
+ghost use Rattle.cxl_enc.specs.Limits.{address_limit};
+ghost use Rattle.cxl_topo.specs.Tree.{is_endpoint_at};
+ghost use Rattle.cxl_span.specs.declared.allotting.Span.{Span};
+ghost use Rattle.cxl_span.specs.declared.allotting.SpanFault.{SpanFault};
+ghost use Rattle.cxl_span.specs.Allotting.{Allots};
+ghost use Rattle.cxl_model.specs.System.{system_of, decoders_at, ram_at, pmem_at};
+ghost use Rattle.cxl_legal.specs.Endpoints.{share_of, HasRoom};
+ghost use Rattle.cxl_plan.specs.Faults.{IsRefusedSpan};
+ghost use Rattle.cxl_plan.specs.inner.Uses.{AreUses};
+ghost use Rattle.cxl_plan.specs.inner.Judging.{IsReady, IsSound};
+
+use crate::used::Uses;
+use cxl_image::Image;
+use cxl_model::{Request, SpanFault};
+use cxl_span::{Span, allot};
+use cxl_topo::{Capacity, NodeKind, Topo, tree_laws};
+use cxl_window::Window;
+
+/// The span that an endpoint gives for its share of the request, or why it gives none.
+pub(crate) fn span_of(
+    image: &Image,
+    topo: &Topo,
+    windows: &[Window],
+    request: &Request,
+    endpoint: u32,
+) -> Result<Span, SpanFault>
+    requires ready { IsReady (system_of image.now topo.now windows.now) request.now }
+    requires sound { IsSound request.now }
+    requires endpoint { is_endpoint_at topo.now.nodes endpoint ≡ true }
+    ensures { (answer : Result Span SpanFault) → (result ≡ answer)
+        ↔ Allots (decoders_at (system_of image.now topo.now windows.now) endpoint) (ram_at (system_of image.now topo.now windows.now) endpoint)
+        (pmem_at (system_of image.now topo.now windows.now) endpoint) request.now.kind (share_of request.now) answer }
+{
+    let _windows = windows.len();
+    let capacity = capacity_at(topo, endpoint);
+    let share = share_of(request);
+    allot(
+        image.block(endpoint),
+        capacity.ram,
+        capacity.pmem,
+        request.kind,
+        share,
+    )
+}
+
+/// The bytes of each endpoint.
+fn share_of(request: &Request) -> u64
+    requires { IsSound request.now }
+    ensures value { result ≡ share_of request.now }
+    ensures low { result ≤ address_limit }
+{
+    request.size / request.endpoints.items().len() as u64
+}
+
+/// The bytes of a node's device; a port has none.
+fn capacity_at(topo: &Topo, node: u32) -> Capacity
+    requires { node < length topo.now.nodes }
+    ensures ram { result.ram ≡ ram_at (system_of [] topo.now []) node }
+    ensures pmem { result.pmem ≡ pmem_at (system_of [] topo.now []) node }
+    ensures small { result.ram + result.pmem ≤ address_limit }
+{
+    // A legal tree has legal capacities.
+    let _count = topo.count();
+    match topo.node(node).kind {
+        NodeKind::Endpoint(capacity) => capacity,
+        NodeKind::Bridge(_) | NodeKind::Switch => Capacity { ram: 0, pmem: 0 },
+    }
+}
+
+/// The least endpoint that gives no span, and why.
+pub(crate) fn first_refused(
+    image: &Image,
+    topo: &Topo,
+    windows: &[Window],
+    request: &Request,
+    uses: &Uses,
+) -> Option<(u32, SpanFault)>
+    requires ready { IsReady (system_of image.now topo.now windows.now) request.now }
+    requires sound { IsSound request.now }
+    requires uses { AreUses topo.now.nodes request.now uses.now }
+    ensures refused { IfSome result (λ r. IsRefusedSpan (system_of image.now topo.now windows.now) request.now r.0 r.1) }
+    ensures none { IfNone result ((m : ℕ) → Contains request.now.endpoints m
+        → HasRoom (system_of image.now topo.now windows.now) request.now m) }
+{
+    tree_laws();
+    let _count = topo.count();
+    for node in &uses.nodes {
+        if let Some(fault) = refusal(image, topo, windows, request, *node) {
+            return Some((*node, fault));
+        }
+    }
+    None
+}
+
+/// Why a node that is an endpoint gives no span.
+fn refusal(
+    image: &Image,
+    topo: &Topo,
+    windows: &[Window],
+    request: &Request,
+    node: u32,
+) -> Option<SpanFault>
+    requires ready { IsReady (system_of image.now topo.now windows.now) request.now }
+    requires sound { IsSound request.now }
+    requires here { node < length topo.now.nodes }
+    ensures endpoint { IfSome result (λ _. is_endpoint_at topo.now.nodes node ≡ true) }
+    ensures refused { IfSome result (λ fault. Allots (decoders_at (system_of image.now topo.now windows.now) node)
+        (ram_at (system_of image.now topo.now windows.now) node) (pmem_at (system_of image.now topo.now windows.now) node)
+        request.now.kind (share_of request.now) (Err fault)) }
+    ensures none { IfNone result (is_endpoint_at topo.now.nodes node ≡ true
+        → HasRoom (system_of image.now topo.now windows.now) request.now node) }
+{
+    if !topo.is_endpoint(node) {
+        return None;
+    }
+    match span_of(image, topo, windows, request, node) {
+        Ok(_) => None,
+        Err(fault) => Some(fault),
+    }
+}

@@ -1,0 +1,120 @@
+//! The spans of a plan, by slot.
+
+ghost use Rattle.std.specs.Prelude.{◌≡◌, ◌<◌, ◌≤◌, ◌^◌, true, false, length};
+ghost use Rattle.cxl_enc.specs.Codes.{bits_of};
+ghost use Rattle.cxl_topo.specs.Tree.{is_endpoint_at};
+ghost use Rattle.cxl_model.specs.System.{system_of};
+ghost use Rattle.cxl_model.specs.Regions.{target_position};
+ghost use Rattle.cxl_legal.specs.Used.{is_used, is_port_used};
+ghost use Rattle.cxl_plan.specs.inner.Uses.{tree_alone, AreUses, HasWays};
+ghost use Rattle.cxl_plan.specs.inner.Judging.{IsSettled};
+
+use crate::planned::{planned_ways, ports_above};
+use crate::room::span_of;
+use crate::used::Uses;
+use cxl_enc::split;
+use cxl_image::Image;
+use cxl_model::{Place, Request};
+use cxl_topo::{Topo, tree_laws};
+use cxl_window::Window;
+use std::alloc::{AllocError, Global};
+
+/// The place of each slot. Takes memory.
+pub(crate) fn places(
+    alloc: Global,
+    image: &Image,
+    topo: &Topo,
+    windows: &[Window],
+    request: &Request,
+    uses: &Uses,
+    w: &Window,
+) -> Result<Vec<Place>, AllocError>
+    requires { IsSettled (system_of image.now topo.now windows.now) request.now uses.now w.now }
+{
+    let ways = request.endpoints.items().len() as u8;
+    let mut places = Vec::with_capacity(alloc, usize::from(ways))?;
+    for slot in 0..ways {
+        places.push(place_of(image, topo, windows, request, uses, w, slot))?;
+    }
+    Ok(places)
+}
+
+/// The place of one slot, from the window's target down.
+fn place_of(
+    image: &Image,
+    topo: &Topo,
+    windows: &[Window],
+    request: &Request,
+    uses: &Uses,
+    w: &Window,
+    slot: u8,
+) -> Place
+    requires settled { IsSettled (system_of image.now topo.now windows.now) request.now uses.now w.now }
+    requires slot { slot < 16 }
+{
+    tree_laws();
+    let _count = topo.count();
+    let uid = w.targets()[usize::from(target_position(w, slot))];
+    let bridge = topo.bridge(uid).unwrap();
+    let endpoint = reached(topo, request, uses, w, slot, bridge);
+    Place {
+        endpoint,
+        start: span_of(image, topo, windows, request, endpoint).unwrap().start,
+    }
+}
+
+/// The position of the window's target to which a slot belongs.
+fn target_position(w: &Window, slot: u8) -> u8
+    requires { slot < 16 }
+    ensures value { result ≡ target_position w.now slot }
+    ensures within { result < w.now.ways }
+{
+    let factors = split(w.ways());
+    let third = slot >> factors.bits;
+    let turn = if factors.third { third % 3 } else { 0 };
+    slot % (1 << factors.bits) + (turn << factors.bits)
+}
+
+/// The endpoint to which the used ports lead a slot from a used node on.
+fn reached(topo: &Topo, request: &Request, uses: &Uses, w: &Window, slot: u8, node: u32) -> u32
+    requires uses { AreUses topo.now.nodes request.now uses.now }
+    requires ways { HasWays topo.now.nodes request.now }
+    requires here { node < length topo.now.nodes }
+    requires used { is_used (tree_alone topo.now.nodes) request.now node ≡ true }
+    ensures endpoint { is_endpoint_at topo.now.nodes result ≡ true }
+    ensures used { is_used (tree_alone topo.now.nodes) request.now result ≡ true }
+{
+    // A child comes after its parent.
+    tree_laws();
+    let _count = topo.count();
+    if topo.is_endpoint(node) {
+        return node;
+    }
+    let port = port_of(topo, request, uses, w, slot, node);
+    let child = topo.child(node, port).unwrap();
+    reached(topo, request, uses, w, slot, child)
+}
+
+/// The used port of a node to which a slot belongs.
+fn port_of(topo: &Topo, request: &Request, uses: &Uses, w: &Window, slot: u8, node: u32) -> u8
+    requires uses { AreUses topo.now.nodes request.now uses.now }
+    requires ways { HasWays topo.now.nodes request.now }
+    requires here { node < length topo.now.nodes }
+    requires used { is_used (tree_alone topo.now.nodes) request.now node ≡ true }
+    requires port { is_endpoint_at topo.now.nodes node ≡ false }
+    ensures { is_port_used (tree_alone topo.now.nodes) request.now node result ≡ true }
+{
+    let ports = uses.ports[node as usize].as_slice();
+    let ways = u32::from(planned_ways(topo, request, uses, node));
+    let shared = root_ways(w) * ports_above(topo, request, uses, node).ways;
+    ports[(u32::from(slot) / shared % ways) as usize]
+}
+
+/// How many positions of a window's targets share a remainder by three: 2 to the window's k.
+fn root_ways(w: &Window) -> u32
+    ensures value { result ≡ 2 ^ bits_of w.now.ways }
+    ensures some { 0 < result }
+    ensures few { result ≤ 16 }
+{
+    1 << split(w.ways()).bits
+}
