@@ -23,6 +23,3 @@ mod window;
 pub use checking::check;
 pub use cxl_model::{Found, Place};
 pub use fault::{Breach, CheckFault};
-
-#[cfg(test)]
-mod tests;

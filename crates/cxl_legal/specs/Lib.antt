@@ -3,4 +3,3 @@ pub mod Endpoints
 pub mod Windows
 pub mod Bases
 pub mod Stated
-pub mod Examples

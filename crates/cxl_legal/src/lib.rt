@@ -2,10 +2,8 @@
 //! base, with the plan that is then stated; and the laws that these are what a legal plan is.
 #![tactic(auto)]
 
-mod examples;
 mod laws;
 mod ports;
 
-pub use examples::stated_rows_on_examples;
 pub use laws::{fitting_plans_are_legal, legal_plans_fit, stated_rows_keep_blocks};
 pub use ports::ports_are_bytes;

@@ -1,9 +1,6 @@
 pub mod Breaches
 pub mod BreachesOfRanges
 pub mod BreachesWindows
-pub mod ExamplesTests
-pub mod ExamplesRegions
-pub mod ExamplesSystems
 pub mod Outcomes
 pub mod OutcomesWalks
 pub mod WeavingWays

@@ -8,8 +8,6 @@ pub mod Regions
 pub mod Contents
 pub mod Dealing
 pub mod Plans
-pub mod Examples
-pub mod ExampleRegions
 pub mod Counts
 pub mod Bytes
 pub mod Changes

@@ -1,9 +1,9 @@
 //! Laws of the definitions, each the contract of a function that does nothing.
 
-ghost use Rattle.std.specs.Prelude.{◌≡◌, ◌⊎◌, ◌↔◌, ℕ, ◌<◌, true, false, Contains};
+ghost use Rattle.std.specs.Prelude.{◌≡◌, ◌⊎◌, ◌↔◌, ℕ, ◌+◌, ◌<◌, ◌≤◌, true, false, length, Contains};
 ghost use Rattle.cxl_window.specs.Fields.{WindowFields};
 ghost use Rattle.cxl_window.specs.Windows.{AreMadeWith};
-ghost use Rattle.cxl_model.specs.System.{System, IsSystem, bridge_uids};
+ghost use Rattle.cxl_model.specs.System.{System, IsSystem, bridge_uids, decoders_at};
 ghost use Rattle.cxl_model.specs.Hosts.{IsHost};
 ghost use Rattle.cxl_model.specs.Chain.{ChainEnd, Chain};
 ghost use Rattle.cxl_regs.specs.declared.reading.Range.{Range};
@@ -28,6 +28,16 @@ pub fn accepted_or_breach()
     ensures not_both { (s : System) → IsAccepted s → HasFirstBreach s → ⊥ }
     ensures one { (s : System) (rule n i other m j : ℕ) → IsFirstBreach s rule n i
         → IsFirstBreach s other m j → (rule ≡ other) × (n ≡ m) × (i ≡ j) }
+{}
+
+/// A law of rules: nothing is broken past a node's decoders, past all nodes, nor past the last rule. So whether an
+/// image is accepted, and what it breaks first, is found by looking at the decoders that it has.
+pub fn breaches_lie_in_images()
+    ensures decoders { (s : System) (rule n i : ℕ) → 1 + length (decoders_at s n) ≤ i
+        → breaks s rule n i ≡ false }
+    ensures nodes { (s : System) (rule n i : ℕ) → 1 + length s.nodes + length s.blocks ≤ n
+        → breaks s rule n i ≡ false }
+    ensures rules { (s : System) (rule n i : ℕ) → 13 ≤ rule → breaks s rule n i ≡ false }
 {}
 
 /// A law of images: one is accepted exactly where K1 to K8 hold of it and each committed range is whole.

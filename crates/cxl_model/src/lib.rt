@@ -6,13 +6,11 @@
 mod chain;
 mod dealing;
 mod device;
-mod examples;
 mod extent;
 mod found;
 mod laws;
 mod plan;
 mod poison;
-mod region_examples;
 mod regions;
 mod request;
 
@@ -25,25 +23,17 @@ pub use dealing::{
     routes_stay,
 };
 pub use device::capacity_at;
-pub use examples::{
-    carried_on_examples, chains_on_examples, examples_are_systems, regions_on_examples,
-    rules_on_examples,
-};
 pub use extent::Extent;
 pub use found::{Found, Place, weave_of};
 pub use laws::{
-    accepted_or_breach, accepted_where_whole, chains_have_one_end, hosts_with_caps_are_systems,
-    one_window,
+    accepted_or_breach, accepted_where_whole, breaches_lie_in_images, chains_have_one_end,
+    hosts_with_caps_are_systems, one_window,
 };
 pub use plan::{Plan, PlanFault, Reason, Row};
 pub use poison::{Entry, Part, PoisonList, Poisoned, Run, Wide};
-pub use region_examples::{changes_on_examples, endpoints_on_examples, spans_on_examples};
 pub use regions::{
     bytes_are_carried_one_to_one, committed_spans_are_of_regions, endpoints_lie_evenly,
     pieces_are_carried_whole, regions_are_listed, regions_lie_in_windows, regions_share_no_byte,
     regions_stay, slots_are_endpoints, weaves_fill_their_regions, whole_ranges_have_one_region,
 };
 pub use request::Request;
-
-#[cfg(test)]
-mod tests;

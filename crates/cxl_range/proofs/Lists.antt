@@ -92,12 +92,11 @@ module _ (found : Found) (w : WindowFields) (h len : ℕ) where
       let begins = later.begins in
       let past = own.past in
       let from : max h (chunk_start found (c + 1)) ≡ max h (chunk_start found c) + (min (h + len) (chunk_start found (c + 1)) - max h (chunk_start found c)) = omega (arith, some, begins, past) in
-      let end : h + len ≤ chunk_start found (c + 1 + n + 1) = omega (arith, ends) in
-      (
+      let end : h + len ≤ chunk_start found (c + 1 + n + 1) = omega (arith, ends) in (
         refl,
         omega (arith, some),
         subst (λ (x : ℕ). Follow x (h + len) (map (chunk_extent found w h len) (range_with_len (c + 1) (suc n)))) from
-        (follow_from (c + 1) n any (λ k low high. each k (omega arith) (omega arith)) end),
+            (follow_from (c + 1) n any (λ k low high. each k (omega arith) (omega arith)) end),
       )
 
   module _ (woven : IsWoven found (weave_fields found w)) (laws : ChunkLaws (weave_fields found w)) (any : 0 < len) (base : found.base ≤ h) (ends : h + len ≤ found.base + found.size) where
@@ -115,10 +114,10 @@ module _ (found : Found) (w : WindowFields) (h len : ℕ) where
         let within = within_chunk found.base (chunk_size found.gran) c x n (some_chunk found.gran) start (omega (arith, some, next)) (omega (arith, some)) in
         carried found w x n
         (
-          record {
-            slot = λ i below. laws.slot x i (omega (arith, start)) (omega (arith, within, below));
-            offset = λ i below. laws.offset x i (omega (arith, start)) (omega (arith, within, below));
-          }
+        record {
+          slot = λ i below. laws.slot x i (omega (arith, start)) (omega (arith, within, below));
+          offset = λ i below. laws.offset x i (omega (arith, start)) (omega (arith, within, below));
+        }
         )
         (on_some_slot x) (omega (arith, start)) (omega (arith, some, ends))
 
@@ -136,14 +135,13 @@ module _ (found : Found) (w : WindowFields) (h len : ℕ) where
         let count : last + 1 - first ≡ suc (last - first) = omega (arith, up) in
         let one : last * g + g ≡ (first + (last - first) + 1) * g = last_end last first g up in
         let begin : max h (chunk_start found first) ≡ h = omega (arith, low, base) in
-        let end : h + len ≤ chunk_start found (first + (last - first) + 1) = omega (arith, high, one, base, any) in
-        (
+        let end : h + len ≤ chunk_start found (first + (last - first) + 1) = omega (arith, high, one, base, any) in (
           λ k d below.
               let inside : k < last + 1 - first = omega (arith, below, length-map-range_with_len f first (last + 1 - first)) in
               subst (IsCarried found w) (sym (get_or-map-range_with_len f first (last + 1 - first) k (first + k) d inside refl)) (chunk_carried (first + k) (touched (first + k) (omega arith) (omega (arith, inside)))),
           subst (λ (n : ℕ). Follow h (h + len) (map f (range_with_len first n))) (sym count)
-          (subst (λ (x : ℕ). Follow x (h + len) (map f (range_with_len first (suc (last - first))))) begin
-          (follow_from first (last - first) any (λ k from to. touched k from (omega (arith, to, up))) end)),
+              (subst (λ (x : ℕ). Follow x (h + len) (map f (range_with_len first (suc (last - first))))) begin
+              (follow_from first (last - first) any (λ k from to. touched k from (omega (arith, to, up))) end)),
         )
       where
         last_end : (last first g : ℕ) → first ≤ last → last * g + g ≡ (first + (last - first) + 1) * g

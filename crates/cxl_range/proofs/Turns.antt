@@ -101,8 +101,7 @@ module _ (v : WeaveFields) (laws : TurnLaws v) (some_ways : 0 < weave_ways v) wh
       let place = same_from_place (c / weave_ways v) r n 0 g rest some (at.4 ∙ zero_more) in
       let is = head_is h at.1 in
       let begins : h ≡ v.base + c * g = omega (arith, is.along, place.1) in
-      let turn = in_turn c (weave_ways v) g n place.0 some_ways in
-      (
+      let turn = in_turn c (weave_ways v) g n place.0 some_ways in (
         h,
         record {
           from = omega (arith, begins, turn.from);

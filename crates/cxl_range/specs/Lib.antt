@@ -1,4 +1,3 @@
 pub mod Extents
 pub mod Carried
-pub mod Examples
 pub mod inner

@@ -3,12 +3,10 @@
 
 mod counting;
 mod cutting;
-mod examples;
 mod laws;
 mod woven;
 
 pub use counting::spread;
 pub use cutting::extents;
 pub use cxl_model::{Extent, Found, Memory};
-pub use examples::{extents_on_examples, spreads_on_examples};
 pub use laws::extents_carry_their_bytes;

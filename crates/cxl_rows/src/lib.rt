@@ -1,8 +1,10 @@
 //! Worked rows of the whole program, as tests of `run` over files and a sink in memory: each is the words of a
-//! command line with the exit status and the text that they must give. And the messages of errors, and where
-//! addresses lead in worked hosts.
+//! command line with the exit status and the text that they must give. And the messages of errors, where
+//! addresses lead in worked hosts, on which devices ranges of them lie, and which of their images break a rule.
 #![tactic(auto)]
 
+#[cfg(test)]
+mod breaches;
 #[cfg(test)]
 mod checks;
 #[cfg(test)]
@@ -24,7 +26,11 @@ mod outside;
 #[cfg(test)]
 mod plan_lines;
 #[cfg(test)]
+mod plans;
+#[cfg(test)]
 mod poison;
+#[cfg(test)]
+mod reaches;
 #[cfg(test)]
 mod real_hosts;
 #[cfg(test)]

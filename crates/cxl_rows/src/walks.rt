@@ -7,11 +7,11 @@ ghost use Rattle.cxl_model.specs.System.{system_of, bridge_uids};
 ghost use Rattle.cxl_model.specs.Regions.{IsRegion};
 
 use crate::hosts::{
-    BASE, Bridged, GIB, Range, UNIT, Worked, host_of, node, nodes_of, over, server,
+    BASE, BRIDGE, Bridged, GIB, Range, Spot, UNIT, Worked, device, host_under, over, server,
+    spots_of, switch,
 };
 use cxl_check::{Breach, CheckFault, check};
 use cxl_model::{Found, Miss, Step};
-use cxl_topo::{Capacity, Node, NodeKind, Parent};
 use cxl_walk::{Host, Kept, Route, down, up};
 use std::alloc::Global;
 use std::process::Abort;
@@ -26,7 +26,7 @@ struct Case<'a> {
     want: Result<Route, Miss>,
 }
 
-const fn step(node: u32, decoder: u8, entry: u8) -> Step {
+const fn step_at(node: u32, decoder: u8, entry: u8) -> Step {
     Step {
         node,
         decoder,
@@ -71,8 +71,8 @@ struct Told {
     back: Option<Host>,
 }
 
-fn led(rt: &impl Abort, alloc: Global, nodes: Vec<Node>, case: &Case) -> Result<Told, Fail> {
-    let host = host_of(rt, alloc, nodes, &case.host, case.ranges)?;
+fn led(rt: &impl Abort, alloc: Global, spots: &[Spot], case: &Case) -> Result<Told, Fail> {
+    let host = host_under(rt, alloc, spots, &case.host, case.ranges)?;
     let way = down(&host.image, &host.topo, &host.windows, case.h);
     let back = match way {
         Ok(route) => up_from(&host, route.endpoint, route.dpa),
@@ -126,9 +126,9 @@ fn route_in(alloc: Global, host: &Worked, region: &Found, h: u64) -> Result<Rout
     Ok(kept.route(h))
 }
 
-fn tells(rt: &impl Abort, alloc: Global, nodes: Vec<Node>, case: &Case) -> Result<(), Fail> {
+fn tells(rt: &impl Abort, alloc: Global, spots: &[Spot], case: &Case) -> Result<(), Fail> {
     assert_eq!(rt;
-        led(rt, alloc, nodes, case)?,
+        led(rt, alloc, spots, case)?,
         Told {
             way: case.want,
             kept: case.want.ok(),
@@ -171,7 +171,7 @@ fn routes(rt: HostRuntime) -> Result<(), Fail> {
                 over(2, 4, BASE, 0x2000_0000, 0x10, 0),
             ],
             h: 0x1_0000_0100,
-            want: Ok(through(1, BASE, step(1, 0, 0), 3, 0)),
+            want: Ok(through(1, BASE, step_at(1, 0, 0), 3, 0)),
         },
         // Three ways.
         Case {
@@ -181,20 +181,20 @@ fn routes(rt: HostRuntime) -> Result<(), Fail> {
                 over(3, 6, BASE, 0x3000_0000, 0x80, 0),
             ],
             h: 0x1_2fff_ffff,
-            want: Ok(through(2, BASE, step(2, 0, 0), 5, 0xfff_ffff)),
+            want: Ok(through(2, BASE, step_at(2, 0, 0), 5, 0xfff_ffff)),
         },
         // Six ways from three, two below each bridge.
         Case {
             host: server(3, 2, 2 * GIB, 0x6000_0000),
             ranges: &of_three,
             h: 0x1_0000_0400,
-            want: Ok(through(1, BASE, step(1, 0, 0), 5, 0)),
+            want: Ok(through(1, BASE, step_at(1, 0, 0), 5, 0)),
         },
         Case {
             host: server(3, 2, 2 * GIB, 0x6000_0000),
             ranges: &of_three,
             h: 0x1_0000_0600,
-            want: Ok(through(0, BASE, step(0, 0, 0), 3, 0x100)),
+            want: Ok(through(0, BASE, step_at(0, 0, 0), 3, 0x100)),
         },
         // Twelve ways from six.
         Case {
@@ -204,7 +204,7 @@ fn routes(rt: HostRuntime) -> Result<(), Fail> {
                 over(6, 18, BASE, 0xc000_0000, 0xa0, 0),
             ],
             h: 0x1_0000_0b00,
-            want: Ok(through(5, BASE, step(5, 0, 1), 17, 0)),
+            want: Ok(through(5, BASE, step_at(5, 0, 1), 17, 0)),
         },
         // Two and six ways under XOR.
         Case {
@@ -214,7 +214,7 @@ fn routes(rt: HostRuntime) -> Result<(), Fail> {
                 over(2, 4, BASE, 0x2000_0000, 0x10, 0),
             ],
             h: 0x1_0000_4000,
-            want: Ok(through(1, BASE, step(1, 0, 0), 3, 0x2000)),
+            want: Ok(through(1, BASE, step_at(1, 0, 0), 3, 0x2000)),
         },
         Case {
             host: Bridged {
@@ -226,7 +226,7 @@ fn routes(rt: HostRuntime) -> Result<(), Fail> {
                 over(6, 12, BASE, 0x6000_0000, 0x90, 0),
             ],
             h: 0x1_0000_4200,
-            want: Ok(through(1, BASE, step(1, 0, 0), 7, 0xb00)),
+            want: Ok(through(1, BASE, step_at(1, 0, 0), 7, 0xb00)),
         },
         // The last byte of 1 TiB.
         Case {
@@ -236,15 +236,12 @@ fn routes(rt: HostRuntime) -> Result<(), Fail> {
                 over(2, 6, 0x10_0000_0000, 0x100_0000_0000, 0x20, 0),
             ],
             h: 0x10f_ffff_ffff,
-            want: Ok(through(1, 0x10_0000_0000, step(1, 0, 1), 5, 0x3f_ffff_ffff)),
+            want: Ok(through(1, 0x10_0000_0000, step_at(1, 0, 1), 5, 0x3f_ffff_ffff)),
         },
         // The second decoders, over a skip into persistent memory.
         Case {
             host: Bridged {
-                capacity: Capacity {
-                    ram: GIB,
-                    pmem: GIB,
-                },
+                capacity: (GIB, GIB),
                 ..server(1, 1, GIB, 0x1_0000_0000)
             },
             ranges: &[
@@ -262,7 +259,7 @@ fn routes(rt: HostRuntime) -> Result<(), Fail> {
                 },
             ],
             h: 0x1_1000_0000,
-            want: Ok(through(0, 0x1_1000_0000, step(0, 1, 0), 1, 0x4000_0000)),
+            want: Ok(through(0, 0x1_1000_0000, step_at(0, 1, 0), 1, 0x4000_0000)),
         },
         // Bridges that forward make no step.
         Case {
@@ -276,34 +273,22 @@ fn routes(rt: HostRuntime) -> Result<(), Fail> {
         },
     ];
     for case in &cases {
-        let nodes = nodes_of(rt.alloc(), &case.host)?;
-        tells(&rt, rt.alloc(), nodes, case)?;
+        let spots = spots_of(rt.alloc(), &case.host)?;
+        tells(&rt, rt.alloc(), &spots, case)?;
     }
     Ok(())
 }
 
 /// A bridge, four levels of switches with two ports each, and sixteen endpoints.
-fn five_levels(alloc: Global) -> Result<Vec<Node>, Fail> {
-    let mut nodes = Vec::new(alloc);
-    nodes.push(node(0, NodeKind::Bridge(0), None, false)?)?;
-    let root = Parent { node: 0, port: 0 };
-    nodes.push(node(1, NodeKind::Switch, Some(root), false)?)?;
+fn five_levels(alloc: Global) -> Result<Vec<Spot>, Fail> {
+    let mut spots = vec![in alloc; BRIDGE, switch(0, 0)]?;
     for i in 0..14_u8 {
-        let parent = Parent {
-            node: 1 + u32::from(i / 2),
-            port: i % 2,
-        };
-        nodes.push(node(nodes.len(), NodeKind::Switch, Some(parent), false)?)?;
+        spots.push(switch(1 + u32::from(i / 2), i % 2))?;
     }
     for i in 0..16_u8 {
-        let parent = Parent {
-            node: 8 + u32::from(i / 2),
-            port: i % 2,
-        };
-        let kind = NodeKind::Endpoint(Capacity { ram: UNIT, pmem: 0 });
-        nodes.push(node(nodes.len(), kind, Some(parent), false)?)?;
+        spots.push(device(8 + u32::from(i / 2), i % 2, UNIT, 0))?;
     }
-    Ok(nodes)
+    Ok(spots)
 }
 
 #[test]
@@ -315,11 +300,11 @@ fn a_route_of_five_steps(rt: HostRuntime) -> Result<(), Fail> {
         base: BASE,
         len: 5,
         steps: [
-            step(0, 0, 0),
-            step(1, 0, 1),
-            step(3, 0, 1),
-            step(7, 0, 0),
-            step(14, 0, 1),
+            step_at(0, 0, 0),
+            step_at(1, 0, 1),
+            step_at(3, 0, 1),
+            step_at(7, 0, 0),
+            step_at(14, 0, 1),
         ],
         endpoint: 29,
         decoder: 0,
@@ -338,8 +323,8 @@ fn a_route_of_five_steps(rt: HostRuntime) -> Result<(), Fail> {
         h: 0x1_0000_0b00,
         want: Ok(want),
     };
-    let nodes = five_levels(rt.alloc())?;
-    tells(&rt, rt.alloc(), nodes, &case)
+    let spots = five_levels(rt.alloc())?;
+    tells(&rt, rt.alloc(), &spots, &case)
 }
 
 #[test]
@@ -370,8 +355,8 @@ fn misses(rt: HostRuntime) -> Result<(), Fail> {
         missed(two, &failing, BASE, Miss::BadBlock(0)),
     ];
     for case in &cases {
-        let nodes = nodes_of(rt.alloc(), &case.host)?;
-        tells(&rt, rt.alloc(), nodes, case)?;
+        let spots = spots_of(rt.alloc(), &case.host)?;
+        tells(&rt, rt.alloc(), &spots, case)?;
     }
     Ok(())
 }
@@ -391,8 +376,8 @@ fn ways_back(rt: HostRuntime) -> Result<(), Fail> {
         (&[], 3, 0, None),
     ];
     for (ranges, node, dpa, h) in &rows {
-        let nodes = nodes_of(rt.alloc(), &two)?;
-        let host = host_of(&rt, rt.alloc(), nodes, &two, ranges)?;
+        let spots = spots_of(rt.alloc(), &two)?;
+        let host = host_under(&rt, rt.alloc(), &spots, &two, ranges)?;
         let want = h.map(|h| Host { base: BASE, h });
         assert_eq!(rt; up_from(&host, *node, *dpa), want, "from {dpa}");
     }
@@ -407,8 +392,8 @@ fn the_least_of_two_that_meet(rt: HostRuntime) -> Result<(), Fail> {
         over(0, 1, BASE, 0x2000_0000, 0, 0),
         over(1, 2, BASE, 0x2000_0000, 0x10, 0),
     ];
-    let nodes = nodes_of(rt.alloc(), &one)?;
-    let host = host_of(&rt, rt.alloc(), nodes, &one, &ranges)?;
+    let spots = spots_of(rt.alloc(), &one)?;
+    let host = host_under(&rt, rt.alloc(), &spots, &one, &ranges)?;
     let breach = Breach {
         rule: 12,
         node: 1,
@@ -417,7 +402,7 @@ fn the_least_of_two_that_meet(rt: HostRuntime) -> Result<(), Fail> {
     let fault = check(rt.alloc(), &host.image, &host.topo, &host.windows).err();
     assert_eq!(rt; fault, Some(CheckFault::Breach(breach)));
     for (low, high, dpa) in [(BASE, BASE + 0x100, 0), (BASE + 0x2ff, BASE + 0x3ff, 0x1ff)] {
-        let want = through(0, BASE, step(0, 0, 0), 1, dpa);
+        let want = through(0, BASE, step_at(0, 0, 0), 1, dpa);
         for h in [low, high] {
             assert_eq!(rt;
                 down(&host.image, &host.topo, &host.windows, h),

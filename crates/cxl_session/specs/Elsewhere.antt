@@ -10,7 +10,7 @@ use Rattle.cxl_session.specs.Picking.{Want, PickRefusal, picked}
 use Rattle.cxl_session.specs.Poisoning.{Payload, payload_of}
 pub use Rattle.cxl_session.specs.Picking.{Want, PickRefusal, NoWays, NoSize, NoSet}
 pub use Rattle.cxl_session.specs.Poisoning.{Payload, Tells, TooShort, TooFew, ArePieces, Pairwise}
-pub use Rattle.cxl_session.specs.Reaching.{extents_of, spread_of}
+pub use Rattle.cxl_range.specs.Extents.{extents_of, spread_of}
 
 -- a request over an image comes to this plan, or to this fault
 abbrev pub Plans : System → Request → Result Plan PlanFault → Type 0

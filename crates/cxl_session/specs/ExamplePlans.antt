@@ -6,7 +6,7 @@ use Rattle.cxl_topo.specs.declared.node.Node.{Node}
 use Rattle.cxl_window.specs.declared.window.Verdict.TheVariants.{Align}
 use Rattle.cxl_model.specs.declared.request.Request.{Request}
 use Rattle.cxl_model.specs.System.{System}
-use Rattle.cxl_model.specs.Examples.{two_bridges, two_bridges_with, four_ways, of_both, endpoint_block, window, window_of_both, bridge, endpoint, two_gib, port_cap}
+use Rattle.cxl_worked.specs.Examples.{two_bridges, two_bridges_with, four_ways, of_both, endpoint_block, window, window_of_both, bridge, endpoint, two_gib, port_cap}
 use Rattle.cxl_session.specs.Examples.{r0, enabled_endpoint}
 
 -- ram over these endpoints, and with a stated code

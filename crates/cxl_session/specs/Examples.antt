@@ -11,8 +11,8 @@ use Rattle.cxl_model.specs.declared.found.Found.{Found}
 use Rattle.cxl_model.specs.declared.plan.Plan.{Plan}
 use Rattle.cxl_model.specs.System.{System}
 use Rattle.cxl_model.specs.Contents.{Contents}
-use Rattle.cxl_model.specs.Examples.{two_bridges, two_bridges_with, window_of_both, of_both, decoder, port_block, endpoint_block, endpoint_block_of_two, port_cap, endpoint_cap}
-use Rattle.cxl_model.specs.ExampleRegions.{region_of_two}
+use Rattle.cxl_worked.specs.Examples.{two_bridges, two_bridges_with, window_of_both, of_both, decoder, port_block, endpoint_block, endpoint_block_of_two, port_cap, endpoint_cap}
+use Rattle.cxl_worked.specs.ExampleRegions.{region_of_two}
 use Rattle.cxl_reply.specs.declared.told.Named.{Named}
 use Rattle.cxl_reply.specs.declared.told.ShownRow.{ShownRow}
 use Rattle.cxl_session.specs.Bytes.{written}

@@ -15,8 +15,9 @@ use Rattle.cxl_model.specs.declared.request.Request.{Request}
 use Rattle.cxl_model.specs.Plans.{plan_code}
 use Rattle.cxl_model.specs.Rules.{permits}
 use Rattle.cxl_model.specs.System.{System, decoders_at}
+use Rattle.cxl_legal.specs.Bases.{base_step}
 use Rattle.cxl_session.specs.Firsts.{first_there}
-use Rattle.cxl_session.specs.Planning.{stands_in, is_size, cap_at, end_of_last, base_step, differs_in_code, span_fault_at}
+use Rattle.cxl_session.specs.Planning.{stands_in, is_size, cap_at, end_of_last, differs_in_code, span_fault_at}
 
 -- what is wanted: a kind, a size, a code where one is stated, and a number of ways
 pub record Want : Type 0 where

@@ -39,6 +39,7 @@ use Rattle.cxl_model.specs.Ranges.{decoder_for, index_for, same_kind}
 use Rattle.cxl_model.specs.Regions.{slots_an_entry, target_position}
 use Rattle.cxl_model.specs.Rules.{permits}
 use Rattle.cxl_model.specs.System.{System, decoders_at, ram_at, pmem_at}
+use Rattle.cxl_legal.specs.Bases.{base_step}
 use Rattle.cxl_session.specs.Firsts.{first_there}
 
 -- the least node of which the test holds
@@ -177,11 +178,7 @@ abbrev pub floor_of : System → Request → ℕ
 floor_of s request =
     fold (λ most n. if is_needed s request n then max most (end_of_last (decoders_at s n)) else most) 0 (range_with_len 0 (length s.nodes))
 
--- bases stand at multiples of this from the window's base: 256 MiB, and thrice that where 3 divides its ways
-abbrev pub base_step : WindowFields → ℕ
-base_step w = if w.ways % 3 == 0 then 3 * unit else unit
-
--- the least of them at or above an address
+-- the least base of a window at or above an address
 abbrev pub base_from : WindowFields → ℕ → ℕ
 base_from w address = w.base + (address - w.base + base_step w - 1) / base_step w * base_step w
 

@@ -14,6 +14,7 @@ use Rattle.cxl_model.specs.declared.poison.Poisoned.{Poisoned}
 use Rattle.cxl_model.specs.Bytes.{slot_length}
 use Rattle.cxl_model.specs.Contents.{Holding}
 use Rattle.cxl_model.specs.Regions.{Carries}
+pub use Rattle.cxl_poison.specs.Pieces.{run_limit}
 
 -- ---- the payload
 
@@ -144,11 +145,7 @@ pub data Pairwise {A B : Type 0} (R : A → B → Type 0) : List A → List B �
   none : Pairwise R [] []
   next : {x : A} {y : B} {xs : List A} {ys : List B} → R x y → Pairwise R xs ys → Pairwise R (x ∷ xs) (y ∷ ys)
 
--- the most runs of a span that are told one by one
-abbrev pub run_limit : ℕ
-run_limit = 64
-
--- more are told by the first host addresses of the first and of the last, and their number
+-- more runs of a span than are told one by one are told by the first host addresses of the first and of the last, and their number
 abbrev pub IsWideOf : ℕ → SpanOf → List Cut → Part → Type 0
 IsWideOf endpoint span cuts (Run run) = ⊥
 IsWideOf endpoint span cuts (Wide wide) =

@@ -3,7 +3,7 @@
 
 ghost use Rattle.std.specs.Prelude.{◌≡◌, [], ◌∷◌, ◌++◌, codes, replicate};
 ghost use Rattle.std.specs.FinMap as map;
-ghost use Rattle.cxl_model.specs.ExampleRegions.{region_of_two};
+ghost use Rattle.cxl_worked.specs.ExampleRegions.{region_of_two};
 ghost use Rattle.cxl_script.specs.declared.command.Command.TheVariants as commands;
 ghost use Rattle.cxl_reply.specs.declared.reply.Reply.TheVariants as replies;
 ghost use Rattle.cxl_session.specs.Answers.{Answers};

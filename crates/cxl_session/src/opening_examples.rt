@@ -2,12 +2,12 @@
 
 ghost use Rattle.std.specs.Prelude.{[], ◌∷◌};
 ghost use Rattle.std.specs.FinMap as map;
-ghost use Rattle.cxl_model.specs.Examples.{two_bridges};
+ghost use Rattle.cxl_worked.specs.Examples.{two_bridges};
 ghost use Rattle.cxl_media.specs.MediaState.{MediaState};
 ghost use Rattle.cxl_session.specs.Examples.{opened, with_r0};
 ghost use Rattle.cxl_session.specs.Sound.{IsSound, Opens};
 
-use cxl_model::{examples_are_systems, regions_on_examples, rules_on_examples};
+use cxl_worked::{examples_are_systems, regions_on_examples, rules_on_examples};
 
 /// A law of openings: an accepted image with one region opens as a machine with that region, which no byte is in. That
 /// machine is sound over the image and empty media. So what is said of sound machines is said of something.

@@ -4,7 +4,7 @@
 ghost use Rattle.std.specs.Prelude.{◌≡◌, false, [], ◌∷◌, ◌++◌, Some, None, Err, codes, replicate};
 ghost use Rattle.std.specs.FinMap as map;
 ghost use Rattle.cxl_enc.specs.declared.caps.MemKind.TheVariants.{Ram};
-ghost use Rattle.cxl_model.specs.Examples.{six_ways, four_ways, two_bridges};
+ghost use Rattle.cxl_worked.specs.Examples.{six_ways, four_ways, two_bridges};
 ghost use Rattle.cxl_model.specs.declared.plan.PlanFault.TheVariants as faults;
 ghost use Rattle.cxl_model.specs.declared.plan.Reason.TheVariants as reasons;
 ghost use Rattle.cxl_model.specs.declared.poison.Part.TheVariants.{Run};

@@ -3,5 +3,5 @@ use Rattle.cxl_topo.specs.declared.node.Node.{Node}
 use Rattle.cxl_image.specs.Images.{HasCapsOf}
 use Rattle.cxl_rows.proofs.hosts.commit.Given as goal
 
-abbrev pub invariant-loop-off : goal.invariant-loop-off
-invariant-loop-off l = (nodes : List Node) → HasCapsOf l.initial.image nodes → HasCapsOf l.image nodes
+abbrev pub invariant-loop-place : goal.invariant-loop-place
+invariant-loop-place l = (nodes : List Node) → HasCapsOf l.initial.image nodes → HasCapsOf l.image nodes

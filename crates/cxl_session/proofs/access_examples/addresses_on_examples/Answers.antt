@@ -3,7 +3,7 @@ use Rattle.std.specs.Prelude.{Contains, slice_get}
 use Rattle.std.proofs.lemmas.Option.{none-some, same_Some}
 use Rattle.cxl_model.specs.declared.found.Place.{Place}
 use Rattle.cxl_model.specs.Bytes.{LiesInSpan}
-use Rattle.cxl_model.specs.ExampleRegions.{region_of_two}
+use Rattle.cxl_worked.specs.ExampleRegions.{region_of_two}
 use Rattle.cxl_session.specs.Machine.{Live}
 use Rattle.std.specs.FinMap as map
 use Rattle.cxl_session.specs.Accesses.{no_endpoint, told, carried, unmapped}

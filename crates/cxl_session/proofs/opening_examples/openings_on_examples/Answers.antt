@@ -10,8 +10,8 @@ use Rattle.cxl_regs.specs.declared.reading.Range.{Range}
 use Rattle.cxl_media.specs.Blocks.{key_cmp}
 use Rattle.cxl_model.specs.declared.found.Found.{Found}
 use Rattle.cxl_model.specs.Contents.{AreContents, Holding}
-use Rattle.cxl_model.specs.Examples.{two_bridges, window_of_both}
-use Rattle.cxl_model.specs.ExampleRegions.{region_of_two}
+use Rattle.cxl_worked.specs.Examples.{two_bridges, window_of_both}
+use Rattle.cxl_worked.specs.ExampleRegions.{region_of_two}
 use Rattle.cxl_model.specs.Listed.{AreRegions}
 use Rattle.cxl_model.specs.Ranges.{serves}
 use Rattle.cxl_model.specs.Regions.{region_range, IsRegion, IsRegionIn}

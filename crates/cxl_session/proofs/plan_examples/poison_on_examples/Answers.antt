@@ -2,8 +2,8 @@ use Rattle.std.proofs.Common.{[], ◌∷◌, refl, arith}
 use Rattle.cxl_model.specs.declared.poison.Part.TheVariants.{Run}
 use Rattle.cxl_model.specs.declared.poison.Poisoned.{Poisoned}
 use Rattle.cxl_model.specs.declared.poison.Run as runs
-use Rattle.cxl_model.specs.ExampleRegions.{region_of_two}
-use Rattle.cxl_model.specs.Examples.{window_of_both}
+use Rattle.cxl_worked.specs.ExampleRegions.{region_of_two}
+use Rattle.cxl_worked.specs.Examples.{window_of_both}
 use Rattle.cxl_model.specs.Regions.{Carries}
 use Rattle.cxl_session.specs.Poisoning.{Tells, TooShort, TooFew, list_in, none, next, one_by_one}
 use Rattle.cxl_session.specs.Reports.{told, no_endpoint}

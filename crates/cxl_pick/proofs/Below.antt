@@ -1,0 +1,103 @@
+-- The children of a node, and what stands under each of them.
+use Rattle.std.proofs.Common.{◌≡◌, ℕ, zero, suc, ◌<◌, ◌≤◌, ◌⊎◌, Bool, true, false, ◌||◌, List, Option, Some, None, refl, sym, ap, ◌∙◌, subst, inl, inr, arith}
+use Rattle.std.specs.Prelude.{◌==◌}
+use Rattle.std.proofs.lemmas.Bool.{or_cases, or_left, or_right, eqb-true, eq-eqb}
+use Rattle.std.proofs.lemmas.Option.{none-some, same_Some}
+use Rattle.cxl_topo.specs.declared.node.Node.{Node}
+use Rattle.cxl_topo.specs.declared.node.Parent.{Parent}
+use Rattle.cxl_topo.specs.Tree.{parent_of, is_port_at, is_endpoint_at}
+use Rattle.cxl_model.specs.Counts.{is_under}
+use Rattle.cxl_pick.proofs.Trees.{KnownTree, up_tree, under_root, under_step, parent_is_port}
+
+pub under_self : {nodes : List Node} → KnownTree nodes → (n : ℕ) → is_under nodes n n ≡ true
+under_self {nodes} known =
+    up_tree known (λ n. is_under nodes n n ≡ true)
+    (λ n none. under_root known n n none ∙ eq-eqb n n refl)
+    (λ n p some rest. under_step known n n p some ∙ or_left (n == n) (is_under nodes n p.node) (eq-eqb n n refl))
+
+-- a node has no greater number than what stands under it
+pub under_later : {nodes : List Node} → KnownTree nodes → (n i : ℕ) → is_under nodes n i ≡ true → n ≤ i
+under_later {nodes} known n =
+    up_tree known (λ i. is_under nodes n i ≡ true → n ≤ i)
+    (λ i none under. let same = eqb-true i n (sym (under_root known n i none) ∙ under) in omega (arith, same))
+    (λ i p some rest under.
+    let lower = (parent_is_port known i p some).0 in
+    elim (or_cases (i == n) (is_under nodes n p.node) (sym (under_step known n i p some) ∙ under)) [
+      | inl here ↦ let same = eqb-true i n here in omega (arith, same)
+      | inr higher ↦ let before = rest higher in omega (arith, before, lower)
+    ])
+
+-- what stands under a child stands under its parent
+pub under_parent : {nodes : List Node} → KnownTree nodes → (c : ℕ) (q : Parent) → parent_of nodes c ≡ Some q → (i : ℕ) → is_under nodes c i ≡ true → is_under nodes q.node i ≡ true
+under_parent {nodes} known c q child =
+    up_tree known (λ i. is_under nodes c i ≡ true → is_under nodes q.node i ≡ true)
+    (λ i none under.
+    let same = eqb-true i c (sym (under_root known c i none) ∙ under) in
+    absurd (none-some q (sym none ∙ ap (parent_of nodes) same ∙ child)))
+    (λ i p some rest under.
+    under_step known q.node i p some ∙ or_right (i == q.node) (is_under nodes q.node p.node)
+    (elim (or_cases (i == c) (is_under nodes c p.node) (sym (under_step known c i p some) ∙ under)) [
+      | inl here ↦
+          let same = eqb-true i c here in
+          let one : p ≡ q = same_Some p q (sym some ∙ ap (parent_of nodes) same ∙ child) in
+          subst (λ (x : Parent). is_under nodes q.node x.node ≡ true) (sym one) (under_self known q.node)
+      | inr higher ↦ rest higher
+    ]))
+
+-- the child of a node at a port, under which node i stands
+pub record WayDown (nodes : List Node) (n i : ℕ) : Type 0 where
+  pub port : ℕ
+  pub child : ℕ
+  pub parent : parent_of nodes child ≡ Some (record { node = n; port = port })
+  pub under : is_under nodes child i ≡ true
+
+pub way_down : {nodes : List Node} → KnownTree nodes → (n i : ℕ) → is_under nodes n i ≡ true → (i ≡ n) ⊎ WayDown nodes n i
+way_down {nodes} known n =
+    up_tree known (λ i. is_under nodes n i ≡ true → (i ≡ n) ⊎ WayDown nodes n i)
+    (λ i none under. inl (eqb-true i n (sym (under_root known n i none) ∙ under)))
+    (λ i p some rest under.
+    elim (or_cases (i == n) (is_under nodes n p.node) (sym (under_step known n i p some) ∙ under)) [
+      | inl here ↦ inl (eqb-true i n here)
+      | inr higher ↦ elim (rest higher) [
+        | inl same ↦
+            let own : p ≡ record { node = n; port = p.port } = λ k. record { node = same k; port = p.port } in
+            inr (record { port = p.port; child = i; parent = some ∙ ap Some own; under = under_self known i })
+        | inr way ↦ inr (record {
+          port = way.port;
+          child = way.child;
+          parent = way.parent;
+          under = under_step known way.child i p some ∙ or_right (i == way.child) (is_under nodes way.child p.node) way.under;
+        })
+      ]
+    ])
+
+-- a node stands under one child alone
+pub one_child : {nodes : List Node} → KnownTree nodes → (c d : ℕ) (q r : Parent) → parent_of nodes c ≡ Some q → parent_of nodes d ≡ Some r → q.node ≡ r.node
+    → (i : ℕ) → is_under nodes c i ≡ true → is_under nodes d i ≡ true → c ≡ d
+one_child {nodes} known c d q r child other same =
+    up_tree known (λ i. is_under nodes c i ≡ true → is_under nodes d i ≡ true → c ≡ d)
+    (λ i none first second.
+    absurd (none-some q (sym none ∙ ap (parent_of nodes) (eqb-true i c (sym (under_root known c i none) ∙ first)) ∙ child)))
+    (λ i p some rest first second.
+    elim (or_cases (i == c) (is_under nodes c p.node) (sym (under_step known c i p some) ∙ first)) [
+      | inl here ↦ elim (or_cases (i == d) (is_under nodes d p.node) (sym (under_step known d i p some) ∙ second)) [
+        | inl there ↦ sym (eqb-true i c here) ∙ eqb-true i d there
+        | inr above ↦
+            let at = eqb-true i c here in
+            let parent : p ≡ q = same_Some p q (sym some ∙ ap (parent_of nodes) at ∙ child) in
+            let node : p.node ≡ r.node = ap (λ (x : Parent). x.node) parent ∙ same in
+            let low = under_later known d p.node above in
+            let high = (parent_is_port known d r other).0 in
+            absurd (omega (arith, node, low, high))
+      ]
+      | inr above ↦ elim (or_cases (i == d) (is_under nodes d p.node) (sym (under_step known d i p some) ∙ second)) [
+        | inl there ↦
+            let at = eqb-true i d there in
+            let parent : p ≡ r = same_Some p r (sym some ∙ ap (parent_of nodes) at ∙ other) in
+            let node : p.node ≡ q.node = ap (λ (x : Parent). x.node) parent ∙ sym same in
+            let low = under_later known c p.node above in
+            let high = (parent_is_port known c q child).0 in
+            absurd (omega (arith, node, low, high))
+        | inr both ↦ rest above both
+      ]
+    ])

@@ -1,0 +1,139 @@
+-- What is given in a window, whatever the other windows, and from the table of offers.
+use Rattle.std.proofs.Common.{◌≡◌, ℕ, zero, suc, ◌+◌, ◌-◌, ◌*◌, ◌/◌, ◌%◌, ◌<◌, ◌≤◌, ◌↔◌, Bool, true, false, not, ◌&&◌, ◌||◌, if◌then◌else◌, cond, List, [], ◌∷◌, ◌++◌, length, get_or, map, drop, Option, Some, None, Vec, Global, refl, sym, ap, ◌∙◌, subst, inl, inr, arith, append_assoc}
+use Rattle.std.specs.Prelude.{◌==◌, slice_get, option_map, option_and_then, filter, All, AllPairs, Contains}
+use Rattle.std.specs.Option.{option_map_or}
+use Rattle.std.specs.List.{filter_map, list_any, range_with_len}
+use Rattle.std.proofs.Math.Seq.{drop-cons}
+use Rattle.std.proofs.lemmas.Bool.{cases_Bool, and_parts, eqb-true, eq-eqb, false≢true}
+use Rattle.std.proofs.lemmas.Option.{none-some, same_Some}
+use Rattle.std.proofs.lemmas.List.Elements.{filter_passes, filter_map-append}
+use Rattle.std.proofs.lemmas.List.Kept.{AllPairs-filter}
+use Rattle.std.proofs.lemmas.List.Folds.{list_any_at}
+use Rattle.std.proofs.lemmas.List.FromFn.{length-range_with_len, get_or-range_with_len}
+use Rattle.cxl_topo.specs.declared.node.Node.{Node}
+use Rattle.cxl_topo.specs.Tree.{Tree, is_endpoint_at, bridge_with}
+use Rattle.cxl_regs.specs.Registers.{Registers}
+use Rattle.cxl_window.specs.Fields.{WindowFields}
+use Rattle.cxl_model.specs.System.{System, system_of}
+use Rattle.cxl_pick.specs.declared.want.Want.{Want}
+use Rattle.cxl_pick.specs.Picking.{can_take, can_serve_itself, children_of, port_gives, gives_within, gives, latest_start, all_given, given_in, AreRising}
+use Rattle.cxl_pick.specs.inner.Offers.{AreOffers, offered, some_of, entry_at}
+use Rattle.cxl_pick.proofs.Lists.{is_in, in_from, in_is, is_number, kept_in}
+use Rattle.cxl_pick.proofs.Giving.{gives_none, gives_step}
+
+-- ---- whatever the windows
+
+same_gives : (nodes : List Node) (blocks : List Registers) (one other : List WindowFields) (want : Want) (w : WindowFields) (start k n m : ℕ)
+    → gives_within k (record { nodes = nodes; blocks = blocks; windows = one }) want w start n m ≡ gives_within k (record { nodes = nodes; blocks = blocks; windows = other }) want w start n m
+same_gives nodes blocks one other want w start zero n m =
+    gives_none (record { nodes = nodes; blocks = blocks; windows = one }) want w start n m ∙ sym (gives_none (record { nodes = nodes; blocks = blocks; windows = other }) want w start n m)
+same_gives nodes blocks one other want w start (suc k) n m =
+    let s : System = record { nodes = nodes; blocks = blocks; windows = one } in
+    let t : System = record { nodes = nodes; blocks = blocks; windows = other } in
+    gives_step k s want w start n m
+    ∙ (λ i. if is_endpoint_at nodes n then (if (m == 1) && can_serve_itself s want w start n then Some (n ∷ []) else None)
+    else port_gives s want w start n m (λ u. filter_map (λ child. same_gives nodes blocks one other want w start k child (m / u) i) (children_of s n)))
+    ∙ sym (gives_step k t want w start n m)
+
+pub same_given : (nodes : List Node) (blocks : List Registers) (one other : List WindowFields) (want : Want) (w : WindowFields)
+    → given_in (record { nodes = nodes; blocks = blocks; windows = one }) want w ≡ given_in (record { nodes = nodes; blocks = blocks; windows = other }) want w
+same_given nodes blocks one other want w =
+    λ i. if can_take want w
+    then option_and_then (λ start. all_given (map (λ uid. option_and_then (λ b. same_gives nodes blocks one other want w start (length nodes) b (want.ways / w.ways) i) (bridge_with nodes uid)) w.targets)) (latest_start want w)
+    else None
+
+-- ---- the targets, one by one
+
+-- what the table has for the bridge of this UID
+abbrev pub at_uid : List Node → List (Vec ℕ Global) → ℕ → ℕ → Option (List ℕ)
+at_uid nodes table share uid = option_and_then (λ b. some_of (entry_at table (length nodes) b share)) (bridge_with nodes uid)
+
+next_uid : (nodes : List Node) (table : List (Vec ℕ Global)) (share i : ℕ) (uids : List ℕ) → i < length uids
+    → all_given (map (at_uid nodes table share) (drop i uids))
+    ≡ option_and_then (λ ns. option_map (λ ms. ns ++ ms) (all_given (map (at_uid nodes table share) (drop (i + 1) uids)))) (at_uid nodes table share (get_or uids i 0))
+next_uid nodes table share i uids within =
+    let more : i + 1 ≡ suc i = omega arith in
+    ap (λ us. all_given (map (at_uid nodes table share) us)) (drop-cons uids i 0 within)
+    ∙ ap (λ (k : ℕ). option_and_then (λ ns. option_map (λ ms. ns ++ ms) (all_given (map (at_uid nodes table share) (drop k uids)))) (at_uid nodes table share (get_or uids i 0))) (sym more)
+
+joined_twice : (xs ys : List ℕ) (o : Option (List ℕ)) → option_map (λ ms. (xs ++ ys) ++ ms) o ≡ option_map (λ ms. xs ++ ms) (option_map (λ ms. ys ++ ms) o)
+joined_twice xs ys None = refl
+joined_twice xs ys (Some ms) = ap Some (append_assoc xs ys ms)
+
+pub uid_step : (nodes : List Node) (table : List (Vec ℕ Global)) (share i : ℕ) (uids xs ys : List ℕ) (all : Option (List ℕ)) → i < length uids
+    → option_map (λ ms. xs ++ ms) (all_given (map (at_uid nodes table share) (drop i uids))) ≡ all → at_uid nodes table share (get_or uids i 0) ≡ Some ys
+    → option_map (λ ms. (xs ++ ys) ++ ms) (all_given (map (at_uid nodes table share) (drop (i + 1) uids))) ≡ all
+uid_step nodes table share i uids xs ys all within is gives =
+    joined_twice xs ys (all_given (map (at_uid nodes table share) (drop (i + 1) uids)))
+    ∙ ap (option_map (λ ms. xs ++ ms)) (sym (next_uid nodes table share i uids within
+    ∙ ap (option_and_then (λ ns. option_map (λ ms. ns ++ ms) (all_given (map (at_uid nodes table share) (drop (i + 1) uids))))) gives))
+    ∙ is
+
+pub uid_none : (nodes : List Node) (table : List (Vec ℕ Global)) (share i : ℕ) (uids xs : List ℕ) (all : Option (List ℕ)) → i < length uids
+    → option_map (λ ms. xs ++ ms) (all_given (map (at_uid nodes table share) (drop i uids))) ≡ all → at_uid nodes table share (get_or uids i 0) ≡ None → None ≡ all
+uid_none nodes table share i uids xs all within is gives =
+    ap (option_map (λ ms. xs ++ ms)) (sym (next_uid nodes table share i uids within
+    ∙ ap (option_and_then (λ ns. option_map (λ ms. ns ++ ms) (all_given (map (at_uid nodes table share) (drop (i + 1) uids))))) gives))
+    ∙ is
+
+drop_all : {X : Type 0} (xs : List X) (i : ℕ) → length xs ≤ i → drop i xs ≡ []
+drop_all [] zero past = refl
+drop_all [] (suc i) past = refl
+drop_all (x ∷ xs) zero past = absurd (omega arith)
+drop_all (x ∷ xs) (suc i) past = drop_all xs i (omega arith)
+
+append_none : (ys : List ℕ) → ys ++ [] ≡ ys
+append_none [] = refl
+append_none (y ∷ ys) = ap (λ zs. y ∷ zs) (append_none ys)
+
+pub uid_end : (nodes : List Node) (table : List (Vec ℕ Global)) (share i : ℕ) (uids xs : List ℕ) (all : Option (List ℕ)) → length uids ≤ i
+    → option_map (λ ms. xs ++ ms) (all_given (map (at_uid nodes table share) (drop i uids))) ≡ all → Some xs ≡ all
+uid_end nodes table share i uids xs all past is =
+    ap Some (sym (append_none xs)) ∙ sym (ap (λ us. option_map (λ ms. xs ++ ms) (all_given (map (at_uid nodes table share) us))) (drop_all uids i past)) ∙ is
+
+-- ---- in rising order
+
+range_more : (a n j : ℕ) → a + n ≡ j → range_with_len a (suc n) ≡ range_with_len a n ++ j ∷ []
+range_more a zero j is = ap (λ (k : ℕ). k ∷ []) (omega arith)
+range_more a (suc n) j is = ap (λ (ks : List ℕ). a ∷ ks) (range_more (a + 1) n j (omega arith))
+
+filter_append : (p : ℕ → Bool) (xs ys : List ℕ) → filter p (xs ++ ys) ≡ filter p xs ++ filter p ys
+filter_append p [] ys = refl
+filter_append p (x ∷ xs) ys = ap (λ zs. cond (p x) (x ∷ zs) zs) (filter_append p xs ys) ∙ either (p x)
+  where
+    either : (b : Bool) → cond b (x ∷ (filter p xs ++ filter p ys)) (filter p xs ++ filter p ys) ≡ cond b (x ∷ filter p xs) (filter p xs) ++ filter p ys
+    either true = refl
+    either false = refl
+
+node_more : (p : ℕ → Bool) (n : ℕ) → filter p (range_with_len 0 (n + 1)) ≡ filter p (range_with_len 0 n) ++ cond (p n) (n ∷ []) []
+node_more p n =
+    let more : n + 1 ≡ suc n = omega arith in
+    ap (λ (k : ℕ). filter p (range_with_len 0 k)) more ∙ ap (filter p) (range_more 0 n n (omega arith)) ∙ filter_append p (range_with_len 0 n) (n ∷ [])
+
+pub node_in : (p : ℕ → Bool) (n : ℕ) (xs : List ℕ) → xs ≡ filter p (range_with_len 0 n) → p n ≡ true → xs ++ n ∷ [] ≡ filter p (range_with_len 0 (n + 1))
+node_in p n xs is passes = ap (λ ys. ys ++ n ∷ []) is ∙ ap (λ b. filter p (range_with_len 0 n) ++ cond b (n ∷ []) []) (sym passes) ∙ sym (node_more p n)
+
+pub node_out : (p : ℕ → Bool) (n : ℕ) (xs : List ℕ) → xs ≡ filter p (range_with_len 0 n) → p n ≡ false → xs ≡ filter p (range_with_len 0 (n + 1))
+node_out p n xs is fails = is ∙ sym (append_none (filter p (range_with_len 0 n))) ∙ ap (λ b. filter p (range_with_len 0 n) ++ cond b (n ∷ []) []) (sym fails) ∙ sym (node_more p n)
+
+numbers_rise : (n : ℕ) → AllPairs (λ a b. a < b) (range_with_len 0 n)
+numbers_rise n i j d less within =
+    let long = length-range_with_len 0 n in
+    let first = get_or-range_with_len 0 n i d (omega arith) in
+    let next = get_or-range_with_len 0 n j d (omega arith) in
+    omega arith
+
+pub are_rising : (count : ℕ) (given : List ℕ) → All (λ n. n < count) given → AreRising given (filter (λ n. is_in n given) (range_with_len 0 count))
+are_rising count given low = record {
+  order = AllPairs-filter (λ a b. a < b) (λ n. is_in n given) (range_with_len 0 count) (numbers_rise count);
+  same = λ n. (
+    (λ there.
+    let own = in_from given n there in
+    let within : n < count = subst (λ (k : ℕ). k < count) there.2 (low there.0 n there.1) in
+    in_is (filter (λ k. is_in k given) (range_with_len 0 count)) n
+    (kept_in (λ k. is_in k given) (range_with_len 0 count) n (is_number (λ k. k == n) count n within (eq-eqb n n refl)) own)),
+    (λ there.
+    in_is given n
+    (subst (λ (k : ℕ). is_in k given ≡ true) there.2 (filter_passes (λ k. is_in k given) (range_with_len 0 count) there.0 n there.1))),
+  );
+}

@@ -1,0 +1,90 @@
+-- What K1 to K8 give of one node.
+use Rattle.std.proofs.Common.{◌≡◌, ℕ, zero, suc, ◌+◌, ◌%◌, ◌^◌, ◌<◌, ◌≤◌, ◌&&◌, Bool, true, false, List, [], ◌∷◌, length, Option, Some, None, refl, sym, ap, ◌∙◌, inl, inr, arith}
+use Rattle.std.specs.Prelude.{slice_get, ◌==◌, nat_lt}
+use Rattle.std.specs.Option.{option_map_or, option_and_then}
+use Rattle.std.proofs.lemmas.Bool.{and_parts, leb-true, ne_eqb, lt-ltb, cases_lt, cases_eq, cases_Bool, false≢true}
+use Rattle.std.proofs.lemmas.Option.{none-some, slice_get_within}
+use Rattle.cxl_topo.specs.declared.node.Node.{Node}
+use Rattle.cxl_enc.specs.Limits.{address_limit}
+use Rattle.cxl_topo.specs.declared.node.Capacity.{Capacity}
+use Rattle.cxl_topo.specs.Kinds.{is_endpoint, capacity_of}
+use Rattle.cxl_topo.specs.Tree.{is_endpoint_at}
+use Rattle.cxl_regs.specs.declared.decoder.Decoder.{Decoder}
+use Rattle.cxl_regs.specs.Registers.{Registers}
+use Rattle.cxl_regs.specs.Reading.{span_length}
+use Rattle.cxl_regs.specs.Rules.{before}
+use Rattle.cxl_span.specs.Rules.{breaks_rule}
+use Rattle.cxl_span.specs.Spans.{span_start_of}
+use Rattle.cxl_span.specs.Breaches.{breaks as block_breaks, BlockKeeps}
+use Rattle.cxl_model.specs.System.{System, decoder_at, ram_at, pmem_at}
+use Rattle.cxl_model.specs.Accepted.{breaks, breaks_block}
+use Rattle.cxl_pick.specs.inner.Wanted.{IsReady}
+
+-- a rule that is none of K2 to K8 is broken by no decoder
+pub no_rule : (rule : ℕ) (block : Registers) (ram pmem i : ℕ) → ((k : ℕ) → 2 ≤ k → k < 9 → rule ≡ k → ⊥) → block_breaks rule block ram pmem i ≡ false
+unfolding block_breaks
+no_rule rule block ram pmem i far = go (slice_get block.decoders i)
+  where
+    go : (o : Option Decoder) → option_map_or (breaks_rule rule block ram pmem (before block.decoders i) (span_start_of block.decoders i)) o false ≡ false
+    go None = refl
+    go (Some d) =
+        rw (ne_eqb rule 2 (far 2 (omega arith) (omega arith)), ne_eqb rule 3 (far 3 (omega arith) (omega arith)), ne_eqb rule 4 (far 4 (omega arith) (omega arith)), ne_eqb rule 5 (far 5 (omega arith) (omega arith)), ne_eqb rule 6 (far 6 (omega arith) (omega arith)), ne_eqb rule 7 (far 7 (omega arith) (omega arith)), ne_eqb rule 8 (far 8 (omega arith) (omega arith)))
+        refl
+
+-- but for K1, a rule below nine is one of blocks
+pub block_rule : (s : System) (rule n i : ℕ) → (rule ≡ 1 → ⊥) → rule < 9 → breaks s rule n i ≡ breaks_block s rule n i
+unfolding breaks
+block_rule s rule n i other low = rw (ne_eqb rule 1 other, lt-ltb rule 9 low) refl
+
+module _ (s : System) (ready : IsReady s) where
+  pub kept_block : (n : ℕ) (block : Registers) → slice_get s.blocks n ≡ Some block → BlockKeeps block (ram_at s n) (pmem_at s n)
+  kept_block n block here = record { each = each }
+    where
+      each : (rule i : ℕ) → block_breaks rule block (ram_at s n) (pmem_at s n) i ≡ false
+      each rule i =
+          elim (cases_lt rule 9) [
+            | inr high ↦ no_rule rule block (ram_at s n) (pmem_at s n) i (λ k from to same. omega arith)
+            | inl low ↦ elim (cases_eq rule 1) [
+              | inl one ↦ no_rule rule block (ram_at s n) (pmem_at s n) i (λ k from to same. omega arith)
+              | inr other ↦
+                  let kept = sym (block_rule s rule n i other low) ∙ ready.blocks rule n i low in
+                  rw here at kept
+            ]
+          ]
+
+  endpoint_node : (n : ℕ) → is_endpoint_at s.nodes n ≡ true → (node : Node) × (slice_get s.nodes n ≡ Some node) × (is_endpoint node.kind ≡ true)
+  endpoint_node n endpoint = go (slice_get s.nodes n) refl endpoint
+    where
+      go : (o : Option Node) → slice_get s.nodes n ≡ o → option_map_or (λ node. is_endpoint node.kind) o false ≡ true → (node : Node) × (slice_get s.nodes n ≡ Some node) × (is_endpoint node.kind ≡ true)
+      go None e h = absurd (false≢true h)
+      go (Some node) e h = (node, e, h)
+
+  -- a block of an endpoint is an endpoint's
+  pub endpoint_at : (n : ℕ) (block : Registers) → is_endpoint_at s.nodes n ≡ true → slice_get s.blocks n ≡ Some block → block.endpoint ≡ true
+  endpoint_at n block endpoint here =
+      let node = endpoint_node n endpoint in
+      (ready.system.caps.each n block node.0 here node.1).endpoint ∙ node.2
+
+  pub node_inside : (n : ℕ) → is_endpoint_at s.nodes n ≡ true → n < length s.blocks
+  node_inside n endpoint =
+      let node = endpoint_node n endpoint in
+      let count = ready.system.caps.count in
+      let within = slice_get_within s.nodes n node.0 node.1 in
+      omega arith
+
+  pub capacity_few : (n : ℕ) → ram_at s n + pmem_at s n ≤ address_limit
+  capacity_few n = go (slice_get s.nodes n) refl
+    where
+      of_kind : (node : Node) → slice_get s.nodes n ≡ Some node → (o : Option Capacity) → capacity_of node.kind ≡ o
+          → option_map_or (λ (c : Capacity). c.ram) o 0 + option_map_or (λ (c : Capacity). c.pmem) o 0 ≤ address_limit
+      of_kind node here None e = omega arith
+      of_kind node here (Some c) e =
+          leb-true (c.ram + c.pmem) (2 ^ 52) (and_parts ((c.ram % 2 ^ 28 == 0) && (c.pmem % 2 ^ 28 == 0)) _ (ready.system.tree.capacities n node c here e)).1
+
+      go : (o : Option Node) → slice_get s.nodes n ≡ o
+          → option_map_or (λ (c : Capacity). c.ram) (option_and_then (λ (node : Node). capacity_of node.kind) o) 0
+          + option_map_or (λ (c : Capacity). c.pmem) (option_and_then (λ (node : Node). capacity_of node.kind) o) 0
+          ≤ address_limit
+      go None e = omega arith
+      go (Some node) e = of_kind node e (capacity_of node.kind) refl
+

@@ -1,0 +1,162 @@
+-- What the table of offers tells of a node.
+use Rattle.std.proofs.Common.{◌≡◌, ℕ, zero, suc, ◌+◌, ◌-◌, ◌*◌, ◌/◌, ◌%◌, ◌<◌, ◌≤◌, ◌⊎◌, Bool, true, false, ◌&&◌, ◌||◌, if◌then◌else◌, cond, List, [], ◌∷◌, length, get_or, Option, Some, None, Vec, Global, Result, Ok, Err, refl, sym, ap, ◌∙◌, subst, inl, inr, arith}
+use Rattle.std.specs.Prelude.{◌==◌, nat_le, find, take, slice_get, option_map, unwrap_or, IfOk, ⊤}
+use Rattle.std.specs.Option.{option_map_or}
+use Rattle.std.specs.List.{list_any, filter_map, flat_map}
+use Rattle.std.proofs.Math.Nat.{div-add-mod, div-le_self}
+use Rattle.std.proofs.lemmas.Bool.{cases_Bool, cases_lt, and_parts, or_left, or_right, eqb-true, eq-eqb, ne_eqb, false≢true, false_from_ne_true}
+use Rattle.std.proofs.lemmas.Option.{none-some, same_Some}
+use Rattle.cxl_enc.specs.Codes.{bits_of}
+use Rattle.cxl_enc.specs.Caps.{targets_of, is_target_count}
+use Rattle.cxl_topo.specs.Tree.{is_endpoint_at}
+use Rattle.cxl_regs.specs.Rules.{select_ok}
+use Rattle.cxl_window.specs.Fields.{WindowFields}
+use Rattle.cxl_model.specs.System.{System}
+use Rattle.cxl_legal.specs.Endpoints.{cap_at}
+use Rattle.cxl_pick.specs.declared.want.Want.{Want}
+use Rattle.cxl_pick.specs.Picking.{is_open, can_serve_itself, can_serve_by, port_code, children_of, port_gives, gives}
+use Rattle.cxl_pick.specs.inner.Offers.{AreOffers, offered, some_of, place_of, entry_at, offers_at}
+use Rattle.cxl_pick.proofs.Trees.{KnownTree}
+use Rattle.cxl_pick.proofs.Lists.{is_in, find_passes}
+use Rattle.cxl_pick.proofs.Numbers.{some_count, count_found}
+use Rattle.cxl_pick.proofs.Taking.{find_in, Can, can_parts, whole_share}
+use Rattle.cxl_pick.proofs.Levels.{filter_map-same, child_later, gives_at_port, gives_at_endpoint, some_offered}
+
+pub item : {X : Type 0} (xs : List X) (i : ℕ) → i < length xs → (x : X) × (slice_get xs i ≡ Some x)
+item [] i lt = absurd (omega arith)
+item (x ∷ xs) zero lt = (x, refl)
+item (x ∷ xs) (suc i) lt = item xs i (omega arith)
+
+pub if_ok : {A E : Type 0} (r : Result A E) (P Q : A → Type 0) → ((x : A) → P x → Q x) → IfOk r P → IfOk r Q
+if_ok (Ok x) P Q weaker holds = weaker x holds
+if_ok (Err e) P Q weaker holds = holds
+
+-- ---- an endpoint
+
+pub itself_offered : (s : System) → KnownTree s.nodes → (want : Want) (w : WindowFields) (start n m : ℕ) → n < length s.nodes → is_endpoint_at s.nodes n ≡ true
+    → (if (m == 1) && can_serve_itself s want w start n then n ∷ [] else []) ≡ offered s want w start n m
+unfolding offered
+itself_offered s known want w start n m within endpoint =
+    either ((m == 1) && can_serve_itself s want w start n) ∙ ap (λ (o : Option (List ℕ)). unwrap_or o []) (sym (gives_at_endpoint s known want w start n m within endpoint))
+  where
+    either : (b : Bool) → (if b then n ∷ [] else []) ≡ unwrap_or (if b then Some (n ∷ []) else None) []
+    either true = refl
+    either false = refl
+
+-- ---- a port
+
+-- where a child's list stands, and what it is
+entry_is : (s : System) (want : Want) (w : WindowFields) (start n c v : ℕ) (table : List (Vec ℕ Global)) → AreOffers s want w start table → n < c → c < length s.nodes
+    → (length s.nodes - 1 - n) * 17 ≤ length table → 0 < v → v ≤ 16 → entry_at table (length s.nodes) c v ≡ offered s want w start c v
+entry_is s want w start n c v table offers lower within below some few =
+    let place : ℕ = place_of (length s.nodes) c v in
+    let inside : place < length table = omega (arith, lower, within, below, few) in
+    let own = item table place inside in
+    let rest : place % 17 ≡ v = omega (arith, few) in
+    let above : length s.nodes - 1 - place / 17 ≡ c = omega (arith, few, within) in
+    ap (λ (o : Option (Vec ℕ Global)). option_map_or (λ own. own.items) o []) own.1
+    ∙ offers.each place own.0 own.1 (omega (arith, rest, some))
+    ∙ (λ i. offered s want w start (above i) (rest i))
+
+-- the same of any node, where the table is whole
+pub entry_whole : (s : System) (want : Want) (w : WindowFields) (start c v : ℕ) (table : List (Vec ℕ Global)) → AreOffers s want w start table → c < length s.nodes
+    → length table ≡ length s.nodes * 17 → 0 < v → v ≤ 16 → entry_at table (length s.nodes) c v ≡ offered s want w start c v
+entry_whole s want w start c v table offers within all some few =
+    let place : ℕ = place_of (length s.nodes) c v in
+    let inside : place < length table = omega (arith, within, all, few) in
+    let own = item table place inside in
+    let rest : place % 17 ≡ v = omega (arith, few) in
+    let above : length s.nodes - 1 - place / 17 ≡ c = omega (arith, few, within) in
+    ap (λ (o : Option (Vec ℕ Global)). option_map_or (λ own. own.items) o []) own.1
+    ∙ offers.each place own.0 own.1 (omega (arith, rest, some))
+    ∙ (λ i. offered s want w start (above i) (rest i))
+
+pub offers_are : (s : System) → KnownTree s.nodes → (want : Want) (w : WindowFields) (start n v : ℕ) (table : List (Vec ℕ Global)) → AreOffers s want w start table
+    → (length s.nodes - 1 - n) * 17 ≤ length table → 0 < v → v ≤ 16
+    → offers_at table (length s.nodes) (children_of s n) v ≡ filter_map (λ child. gives s want w start child v) (children_of s n)
+offers_are s known want w start n v table offers below some few =
+    filter_map-same (λ c. some_of (entry_at table (length s.nodes) c v)) (λ c. gives s want w start c v) (children_of s n) (λ c there.
+    let at = child_later s known n c there in
+    ap some_of (entry_is s want w start n c v table offers at.0 at.1 below some few) ∙ some_offered s known want w start c v some)
+
+-- no port serves by more than are wanted
+no_part : (s : System) (want : Want) (w : WindowFields) (start n m willing u : ℕ) → 0 < m → m / u ≡ 0 → can_serve_by s want w start n m willing u ≡ false
+no_part s want w start n m willing u some none =
+    false_from_ne_true (can_serve_by s want w start n m willing u) (λ can.
+    let even = (can_parts s want w start n m willing u can).divides in
+    let split = div-add-mod m u in
+    let zero_is : u * (m / u) ≡ 0 = ap (λ (k : ℕ). u * k) none ∙ omega arith in
+    omega (arith, even, split, zero_is, some))
+
+pub quotient_low : (m u : ℕ) → m ≤ 16 → m / u ≤ 16
+quotient_low m u few =
+    let low = div-le_self m u in
+    omega (arith, low, few)
+
+-- the tests of the table are those of what the children give
+abbrev pub by_table : System → Want → WindowFields → ℕ → ℕ → ℕ → List (Vec ℕ Global) → ℕ → Bool
+by_table s want w start n m table u = can_serve_by s want w start n m (length (offers_at table (length s.nodes) (children_of s n) (m / u))) u
+
+abbrev pub by_children : System → Want → WindowFields → ℕ → ℕ → ℕ → ℕ → Bool
+by_children s want w start n m u = can_serve_by s want w start n m (length (filter_map (λ child. gives s want w start child (m / u)) (children_of s n))) u
+
+same_tests : (s : System) → KnownTree s.nodes → (want : Want) (w : WindowFields) (start n m : ℕ) (table : List (Vec ℕ Global)) → AreOffers s want w start table
+    → (length s.nodes - 1 - n) * 17 ≤ length table → 0 < m → m ≤ 16 → (u : ℕ) → by_table s want w start n m table u ≡ by_children s want w start n m u
+same_tests s known want w start n m table offers below some few u =
+    elim (cases_lt 0 (m / u)) [
+      | inl more ↦ ap (λ (os : List (List ℕ)). can_serve_by s want w start n m (length os) u) (offers_are s known want w start n (m / u) table offers below more (quotient_low m u few))
+      | inr none ↦
+          let zero_is : m / u ≡ 0 = omega (arith, none) in
+          no_part s want w start n m (length (offers_at table (length s.nodes) (children_of s n) (m / u))) u some zero_is
+          ∙ sym (no_part s want w start n m (length (filter_map (λ child. gives s want w start child (m / u)) (children_of s n))) u some zero_is)
+    ]
+
+same_found : (s : System) → KnownTree s.nodes → (want : Want) (w : WindowFields) (start n m : ℕ) (table : List (Vec ℕ Global)) → AreOffers s want w start table
+    → (length s.nodes - 1 - n) * 17 ≤ length table → 0 < m → m ≤ 16 → find (by_table s want w start n m table) (8 ∷ 4 ∷ 2 ∷ 1 ∷ []) ≡ find (by_children s want w start n m) (8 ∷ 4 ∷ 2 ∷ 1 ∷ [])
+same_found s known want w start n m table offers below some few =
+    let each : (u : ℕ) → by_table s want w start n m table u ≡ by_children s want w start n m u = same_tests s known want w start n m table offers below some few in
+    λ i. find (λ u. each u i) (8 ∷ 4 ∷ 2 ∷ 1 ∷ [])
+
+-- what is found is a number of ports, and divides
+pub found_count : (s : System) (want : Want) (w : WindowFields) (start n m : ℕ) (table : List (Vec ℕ Global)) (children : List ℕ) (u : ℕ)
+    → Some u ≡ find (λ k. can_serve_by s want w start n m (length (offers_at table (length s.nodes) children (m / k))) k) (8 ∷ 4 ∷ 2 ∷ 1 ∷ []) → is_target_count u ≡ true
+found_count s want w start n m table children u is =
+    count_found u (find_in (λ k. can_serve_by s want w start n m (length (offers_at table (length s.nodes) children (m / k))) k) (8 ∷ 4 ∷ 2 ∷ 1 ∷ []) u (sym is))
+
+some_part : (s : System) (want : Want) (w : WindowFields) (start n m : ℕ) (table : List (Vec ℕ Global)) (u : ℕ) → 0 < m → find (by_table s want w start n m table) (8 ∷ 4 ∷ 2 ∷ 1 ∷ []) ≡ Some u → 0 < m / u
+some_part s want w start n m table u some is =
+    elim (cases_lt 0 (m / u)) [
+      | inl more ↦ more
+      | inr none ↦
+          let zero_is : m / u ≡ 0 = omega (arith, none) in
+          absurd (false≢true (sym (no_part s want w start n m (length (offers_at table (length s.nodes) (children_of s n) (m / u))) u some zero_is) ∙ find_passes (by_table s want w start n m table) (8 ∷ 4 ∷ 2 ∷ 1 ∷ []) u is))
+    ]
+
+-- what the table gives for a port is what it offers
+pub port_offered : (s : System) → KnownTree s.nodes → (want : Want) (w : WindowFields) (start n m : ℕ) (table : List (Vec ℕ Global)) (u : ℕ) → AreOffers s want w start table
+    → (length s.nodes - 1 - n) * 17 ≤ length table → n < length s.nodes → is_endpoint_at s.nodes n ≡ false → 0 < m → m ≤ 16
+    → Some u ≡ find (by_table s want w start n m table) (8 ∷ 4 ∷ 2 ∷ 1 ∷ [])
+    → flat_map (λ ns. ns) (take u (offers_at table (length s.nodes) (children_of s n) (m / u))) ≡ offered s want w start n m
+unfolding offered
+port_offered s known want w start n m table u offers below within port some few is =
+    let part = some_part s want w start n m table u some (sym is) in
+    ap (λ (os : List (List ℕ)). flat_map (λ ns. ns) (take u os)) (offers_are s known want w start n (m / u) table offers below part (quotient_low m u few))
+    ∙ ap (λ (o : Option ℕ). unwrap_or (option_map (λ k. flat_map (λ ns. ns) (take k (filter_map (λ child. gives s want w start child (m / k)) (children_of s n)))) o) []) (is ∙ same_found s known want w start n m table offers below some few)
+    ∙ ap (λ (o : Option (List ℕ)). unwrap_or o []) (sym (gives_at_port s known want w start n m within port))
+
+pub port_offers_none : (s : System) → KnownTree s.nodes → (want : Want) (w : WindowFields) (start n m : ℕ) (table : List (Vec ℕ Global)) → AreOffers s want w start table
+    → (length s.nodes - 1 - n) * 17 ≤ length table → n < length s.nodes → is_endpoint_at s.nodes n ≡ false → 0 < m → m ≤ 16
+    → None ≡ find (by_table s want w start n m table) (8 ∷ 4 ∷ 2 ∷ 1 ∷ [])
+    → [] ≡ offered s want w start n m
+unfolding offered
+port_offers_none s known want w start n m table offers below within port some few is =
+    ap (λ (o : Option ℕ). unwrap_or (option_map (λ k. flat_map (λ ns. ns) (take k (filter_map (λ child. gives s want w start child (m / k)) (children_of s n)))) o) []) (is ∙ same_found s known want w start n m table offers below some few)
+    ∙ ap (λ (o : Option (List ℕ)). unwrap_or o []) (sym (gives_at_port s known want w start n m within port))
+
+-- ---- the first test that passes
+
+pub first_one : (t : ℕ → Bool) → t 8 ≡ false → t 4 ≡ false → t 2 ≡ false → t 1 ≡ true → Some 1 ≡ find t (8 ∷ 4 ∷ 2 ∷ 1 ∷ [])
+first_one t a b c d = sym (λ i. cond (a i) (Some 8) (cond (b i) (Some 4) (cond (c i) (Some 2) (cond (d i) (Some 1) None))))
+
+pub first_none : (t : ℕ → Bool) → t 8 ≡ false → t 4 ≡ false → t 2 ≡ false → t 1 ≡ false → None ≡ find t (8 ∷ 4 ∷ 2 ∷ 1 ∷ [])
+first_none t a b c d = sym (λ i. cond (a i) (Some 8) (cond (b i) (Some 4) (cond (c i) (Some 2) (cond (d i) (Some 1) None))))

@@ -1,0 +1,109 @@
+-- An accepted image without its windows keeps K1 to K8, and what a window gives by the table of offers.
+use Rattle.std.proofs.Common.{◌≡◌, ℕ, zero, suc, ◌+◌, ◌*◌, ◌/◌, ◌%◌, ◌<◌, ◌≤◌, Bool, true, false, if◌then◌else◌, List, [], ◌∷◌, length, map, Option, Some, None, Vec, Global, refl, sym, ap, ◌∙◌, subst, inl, inr, arith}
+use Rattle.std.specs.Prelude.{◌==◌, slice_get, option_and_then, All, Contains, AllPairs}
+use Rattle.std.specs.Option.{option_map_or}
+use Rattle.std.specs.List.{list_any}
+use Rattle.std.proofs.lemmas.Bool.{cases_eq, cases_lt, ne_eqb, false≢true}
+use Rattle.std.proofs.lemmas.Option.{none-some, same_Some, slice_get_past}
+use Rattle.cxl_topo.specs.declared.node.Node.{Node}
+use Rattle.cxl_topo.specs.Kinds.{is_bridge}
+use Rattle.cxl_topo.specs.Tree.{is_bridge_at, bridge_with, bridge_uids}
+use Rattle.cxl_regs.specs.Registers.{Registers}
+use Rattle.cxl_window.specs.Fields.{WindowFields}
+use Rattle.cxl_window.specs.Windows.{AreMadeWith}
+use Rattle.cxl_model.specs.System.{System, IsSystem}
+use Rattle.cxl_model.specs.Accepted.{breaks, breaks_caps, breaks_block, IsAccepted, KeepsBlocks}
+use Rattle.cxl_enc.specs.Codes.{is_ways}
+use Rattle.cxl_pick.specs.declared.want.Want.{Want}
+use Rattle.cxl_pick.specs.Picking.{can_take, latest_start, gives, all_given, given_in}
+use Rattle.cxl_pick.specs.inner.Wanted.{IsReady}
+use Rattle.cxl_pick.specs.inner.Offers.{AreOffers, offered, some_of, entry_at}
+use Rattle.cxl_pick.proofs.Trees.{KnownTree}
+use Rattle.cxl_pick.proofs.Numbers.{some_ways, few_ways}
+use Rattle.cxl_pick.proofs.Tops.{BridgeOf, bridge_of}
+use Rattle.cxl_pick.proofs.KeptBlocks.{block_rule}
+use Rattle.cxl_pick.proofs.Parts.{take_parts}
+use Rattle.cxl_pick.proofs.Levels.{some_offered}
+use Rattle.cxl_pick.proofs.Offering.{entry_whole, quotient_low}
+use Rattle.cxl_pick.proofs.Givings.{at_uid}
+use Rattle.std.proofs.Math.Nat.{div-add-mod}
+
+-- ---- without windows
+
+caps_rule : (s : System) (n i : ℕ) → breaks s 1 n i ≡ breaks_caps s n i
+unfolding breaks
+caps_rule s n i = refl
+
+same_rule : (s t : System) (rule n i : ℕ) → rule < 9 → s.nodes ≡ t.nodes → s.blocks ≡ t.blocks → breaks s rule n i ≡ breaks t rule n i
+same_rule s t rule n i low nodes blocks =
+    let middle : System = record { nodes = s.nodes; blocks = s.blocks; windows = t.windows } in
+    let one : breaks s rule n i ≡ breaks middle rule n i =
+    elim (cases_eq rule 1) [
+      | inl is ↦ ap (λ r. breaks s r n i) is ∙ caps_rule s n i ∙ sym (caps_rule middle n i) ∙ ap (λ r. breaks middle r n i) (sym is)
+      | inr other ↦ block_rule s rule n i other low ∙ sym (block_rule middle rule n i other low)
+    ] in
+    one ∙ (λ k. breaks (record { nodes = nodes k; blocks = blocks k; windows = t.windows }) rule n i)
+
+none_made : (bridges : List ℕ) → AreMadeWith [] bridges
+none_made bridges = record {
+  each = λ k d within. absurd (omega arith);
+  indexed = λ i w is. absurd (none-some w is);
+  usable = λ k d within. absurd (omega arith);
+  apart = λ w v there other. let within = there.1 in absurd (omega (arith, within));
+}
+
+pub ready_alone : (s : System) → IsSystem s → IsAccepted s → IsReady (record { nodes = s.nodes; blocks = s.blocks; windows = [] })
+ready_alone s system accepted = record {
+  system = record { tree = system.tree; blocks = system.blocks; caps = system.caps; made = none_made (bridge_uids s.nodes) };
+  blocks = λ rule n i low. same_rule (record { nodes = s.nodes; blocks = s.blocks; windows = [] }) s rule n i low refl refl ∙ accepted.each rule n i;
+}
+
+-- ---- by the table
+
+bridge_within : (nodes : List Node) (b : ℕ) → is_bridge_at nodes b ≡ true → b < length nodes
+bridge_within nodes b is =
+    elim (cases_lt b (length nodes)) [
+      | inl within ↦ within
+      | inr past ↦ absurd (false≢true (sym (ap (λ (o : Option Node). option_map_or (λ node. is_bridge node.kind) o false) (slice_get_past nodes b past)) ∙ is))
+    ]
+
+target_is : (s : System) → KnownTree s.nodes → (want : Want) (w : WindowFields) (start v : ℕ) (table : List (Vec ℕ Global)) → AreOffers s want w start table
+    → length table ≡ length s.nodes * 17 → 0 < v → v ≤ 16 → (uid : ℕ) → at_uid s.nodes table v uid ≡ option_and_then (λ b. gives s want w start b v) (bridge_with s.nodes uid)
+target_is s known want w start v table offers all some few uid = go (bridge_with s.nodes uid) refl
+  where
+    go : (o : Option ℕ) → bridge_with s.nodes uid ≡ o → option_and_then (λ b. some_of (entry_at table (length s.nodes) b v)) o ≡ option_and_then (λ b. gives s want w start b v) o
+    go None at = refl
+    go (Some b) at =
+        let own = bridge_of known uid b at in
+        let node : own.node ≡ b = same_some (sym own.is ∙ at) in
+        let within = bridge_within s.nodes b (subst (λ (n : ℕ). is_bridge_at s.nodes n ≡ true) node own.bridge) in
+        ap some_of (entry_whole s want w start b v table offers within all some few) ∙ some_offered s known want w start b v some
+      where
+        same_some : {x y : ℕ} → Some x ≡ Some y → x ≡ y
+        same_some {x} {y} is = same_Some x y is
+
+map_same : (f g : ℕ → Option (List ℕ)) → ((x : ℕ) → f x ≡ g x) → (xs : List ℕ) → map f xs ≡ map g xs
+map_same f g same [] = refl
+map_same f g same (x ∷ xs) = (λ i. same x i ∷ map_same f g same xs i)
+
+pub given_by_table : (s : System) → KnownTree s.nodes → (want : Want) (w : WindowFields) (start : ℕ) (table : List (Vec ℕ Global)) → AreOffers s want w start table
+    → length table ≡ length s.nodes * 17 → is_ways want.ways ≡ true → is_ways w.ways ≡ true → can_take want w ≡ true → latest_start want w ≡ Some start
+    → all_given (map (at_uid s.nodes table (want.ways / w.ways)) w.targets) ≡ given_in s want w
+given_by_table s known want w start table offers all ways own can starts =
+    let even = (take_parts want w can).divides in
+    let most = few_ways want.ways ways in
+    let some : 0 < want.ways / w.ways = more (want.ways / w.ways) (div-add-mod want.ways w.ways) even in
+    let few : want.ways / w.ways ≤ 16 = quotient_low want.ways w.ways most in
+    ap all_given (map_same (at_uid s.nodes table (want.ways / w.ways)) (λ uid. option_and_then (λ b. gives s want w start b (want.ways / w.ways)) (bridge_with s.nodes uid))
+    (target_is s known want w start (want.ways / w.ways) table offers all some few) w.targets)
+    ∙ sym (ap (option_and_then (λ begin. all_given (map (λ uid. option_and_then (λ b. gives s want w begin b (want.ways / w.ways)) (bridge_with s.nodes uid)) w.targets))) starts)
+    ∙ sym (ap (λ (b : Bool). if b
+    then option_and_then (λ begin. all_given (map (λ uid. option_and_then (λ b. gives s want w begin b (want.ways / w.ways)) (bridge_with s.nodes uid)) w.targets)) (latest_start want w)
+    else None) can)
+  where
+    more : (v : ℕ) → w.ways * v + want.ways % w.ways ≡ want.ways → want.ways % w.ways ≡ 0 → 0 < v
+    more zero is even =
+        let positive = some_ways want.ways ways in
+        let none : w.ways * 0 ≡ 0 = omega arith in
+        absurd (omega (arith, is, even, positive, none))
+    more (suc v) is even = omega arith

@@ -1,0 +1,57 @@
+use Rattle.std.proofs.Common.{[], sym, ◌∙◌}
+use Rattle.cxl_model.specs.System.{System, system_of}
+use Rattle.cxl_pick.specs.declared.want.Want.{Want}
+use Rattle.cxl_pick.proofs.Parts.{named}
+use Rattle.cxl_pick.proofs.Picks.{Settled, picked_of, fits_first, nothing_fits}
+use Rattle.cxl_pick.proofs.picking.pick.Goals as goal
+
+pub returns-in-Ok-Some-clause-endpoints : goal.returns-in-Ok-Some-clause-endpoints
+returns-in-Ok-Some-clause-endpoints c =
+    let s : System = system_of c.args.image.now c.args.topo.now c.args.windows.now in
+    let want : Want = c.args.want.now in
+    let settled : Settled s want = record {
+      laws = c.tree_laws.ensures.laws s.nodes c.settle.ensures.system.tree;
+      system = c.settle.ensures.system;
+      ports = c.ports_are_bytes.ensures;
+      accepted = c.requires.accepted;
+      ways = sym c.has_known_ways.ensures ∙ c.if-not-has_known_ways.false;
+      size = c.has_size.ensures.0 c.if-not-has_size.false;
+      code = c.requires.code;
+      given = c.fitting_sets_are_given.ensures s want;
+    } in
+    let own = rw c.in-Ok-Some.field-0-is at c.in-Ok-Some.ensures in
+    named (picked_of s want settled own.0 c.in-Ok-Some.set.items own.1)
+
+pub returns-in-Ok-Some-clause-fits : goal.returns-in-Ok-Some-clause-fits
+returns-in-Ok-Some-clause-fits c =
+    let s : System = system_of c.args.image.now c.args.topo.now c.args.windows.now in
+    let want : Want = c.args.want.now in
+    let settled : Settled s want = record {
+      laws = c.tree_laws.ensures.laws s.nodes c.settle.ensures.system.tree;
+      system = c.settle.ensures.system;
+      ports = c.ports_are_bytes.ensures;
+      accepted = c.requires.accepted;
+      ways = sym c.has_known_ways.ensures ∙ c.if-not-has_known_ways.false;
+      size = c.has_size.ensures.0 c.if-not-has_size.false;
+      code = c.requires.code;
+      given = c.fitting_sets_are_given.ensures s want;
+    } in
+    let own = rw c.in-Ok-Some.field-0-is at c.in-Ok-Some.ensures in
+    fits_first s want settled own.0 c.in-Ok-Some.set.items own.1
+
+pub returns-in-Ok-None-clause-nothing : goal.returns-in-Ok-None-clause-nothing
+returns-in-Ok-None-clause-nothing c = λ told.
+    let s : System = system_of c.args.image.now c.args.topo.now c.args.windows.now in
+    let want : Want = c.args.want.now in
+    let settled : Settled s want = record {
+      laws = c.tree_laws.ensures.laws s.nodes c.settle.ensures.system.tree;
+      system = c.settle.ensures.system;
+      ports = c.ports_are_bytes.ensures;
+      accepted = c.requires.accepted;
+      ways = sym c.has_known_ways.ensures ∙ c.if-not-has_known_ways.false;
+      size = c.has_size.ensures.0 c.if-not-has_size.false;
+      code = c.requires.code;
+      given = c.fitting_sets_are_given.ensures s want;
+    } in
+    let own = rw c.in-Ok-None.field-0-is at c.in-Ok-None.ensures in
+    nothing_fits s want settled own

@@ -1,0 +1,42 @@
+-- The table of what nodes offer: a list for each node from the last to the first, and each number from 0 to 16.
+use Rattle.std.specs.Prelude.{◌≡◌, ℕ, ◌+◌, ◌-◌, ◌*◌, ◌/◌, ◌%◌, ◌<◌, ◌==◌, false, if◌then◌else◌, List, [], length, take, slice_get, Option, Some, None, unwrap_or, Vec}
+use Rattle.std.specs.Global.{Global}
+use Rattle.std.specs.Option.{option_map_or}
+use Rattle.std.specs.List.{filter_map, flat_map, range_with_len}
+use Rattle.cxl_topo.specs.declared.node.Node.{Node}
+use Rattle.cxl_topo.specs.Tree.{is_endpoint_at, child_of}
+use Rattle.cxl_window.specs.Fields.{WindowFields}
+use Rattle.cxl_model.specs.System.{System}
+use Rattle.cxl_pick.specs.declared.want.Want.{Want}
+use Rattle.cxl_pick.specs.Picking.{gives}
+
+-- the children of each port, by rising port
+pub record AreChildren (nodes : List Node) (table : List (Vec ℕ Global)) : Type 0 where
+  pub count : length table ≡ length nodes
+  pub each : (n : ℕ) (own : Vec ℕ Global) → slice_get table n ≡ Some own → is_endpoint_at nodes n ≡ false
+      → own.items ≡ filter_map (child_of nodes n) (range_with_len 0 256)
+
+-- what a node gives for m endpoints, or no number where it gives nothing
+unfoldable pub offered : System → Want → WindowFields → ℕ → ℕ → ℕ → List ℕ
+offered s want w start n m = unwrap_or (gives s want w start n m) []
+
+-- the lists are what their nodes give for their numbers
+pub record AreOffers (s : System) (want : Want) (w : WindowFields) (start : ℕ) (table : List (Vec ℕ Global)) : Type 0 where
+  pub each : (place : ℕ) (own : Vec ℕ Global) → slice_get table place ≡ Some own → 0 < place % 17
+      → own.items ≡ offered s want w start (length s.nodes - 1 - place / 17) (place % 17)
+
+-- where the list of node c for the number v stands
+abbrev pub place_of : ℕ → ℕ → ℕ → ℕ
+place_of count c v = (count - 1 - c) * 17 + v
+
+-- the list that stands there
+abbrev pub entry_at : List (Vec ℕ Global) → ℕ → ℕ → ℕ → List ℕ
+entry_at table count c v = option_map_or (λ own. own.items) (slice_get table (place_of count c v)) []
+
+-- a list with some numbers
+abbrev pub some_of : List ℕ → Option (List ℕ)
+some_of ns = if length ns == 0 then None else Some ns
+
+-- the lists that these children have for the number
+abbrev pub offers_at : List (Vec ℕ Global) → ℕ → List ℕ → ℕ → List (List ℕ)
+offers_at table count children v = filter_map (λ c. some_of (entry_at table count c v)) children

@@ -1,0 +1,38 @@
+//! Laws of picking, each the contract of a function that does nothing.
+
+ghost use Rattle.std.specs.Prelude.{◌≡◌, ℕ, ◌≤◌, true, List, length, slice_get, Some, IfSome};
+ghost use Rattle.cxl_enc.specs.Codes.{is_ways};
+ghost use Rattle.cxl_window.specs.Fields.{WindowFields};
+ghost use Rattle.cxl_model.specs.System.{System, IsSystem};
+ghost use Rattle.cxl_model.specs.Accepted.{IsAccepted};
+ghost use Rattle.cxl_legal.specs.Used.{HasBytePorts};
+ghost use Rattle.cxl_legal.specs.Endpoints.{IsSize};
+ghost use Rattle.cxl_legal.specs.Stated.{Fits};
+ghost use Rattle.cxl_pick.specs.declared.want.Want.{Want};
+ghost use Rattle.cxl_pick.specs.Picking.{asked, latest_start, given_in, AreRising};
+
+use cxl_topo::tree_laws;
+
+/// A law of picking: what the target bridges of a window give is a set of as many endpoints as are wanted, which
+/// keeps all that a request has to at the window's latest start.
+pub fn given_sets_fit()
+    ensures ways { (s : System) (want : Want) (w : WindowFields) (given set : List ℕ) → IsSystem s
+        → HasBytePorts s.nodes → IsAccepted s → is_ways want.ways ≡ true → slice_get s.windows w.index ≡ Some w
+        → given_in s want w ≡ Some given → AreRising given set → length set ≡ want.ways }
+    ensures fits { (s : System) (want : Want) (w : WindowFields) (start : ℕ) (given set : List ℕ) → IsSystem s
+        → HasBytePorts s.nodes → IsAccepted s → is_ways want.ways ≡ true → IsSize (asked want set)
+        → IfSome want.gran (λ code. code ≤ 6) → slice_get s.windows w.index ≡ Some w → given_in s want w ≡ Some given → AreRising given set
+        → latest_start want w ≡ Some start → Fits s (asked want set) w start }
+{
+    tree_laws();
+}
+
+/// A law of picking: in a window in which some set of so many endpoints keeps all that a request has to, each target
+/// bridge gives something.
+pub fn fitting_sets_are_given()
+    ensures { (s : System) (want : Want) (w : WindowFields) (set : List ℕ) (base : ℕ)
+        → length set ≡ want.ways → Fits s (asked want set) w base
+        → (given : List ℕ) × (given_in s want w ≡ Some given) }
+{
+    tree_laws();
+}

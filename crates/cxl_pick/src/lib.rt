@@ -1,0 +1,15 @@
+//! Endpoints picked for a region of which only the number of ways is stated.
+#![tactic(auto)]
+
+mod fault;
+mod laws;
+mod nodes;
+mod offers;
+mod picking;
+mod terms;
+mod want;
+
+pub use fault::PickFault;
+pub use laws::{fitting_sets_are_given, given_sets_fit};
+pub use picking::pick;
+pub use want::Want;

@@ -1,0 +1,224 @@
+//! What each node gives for each number of endpoints, in one window.
+
+ghost use Rattle.std.specs.Prelude.{◌≡◌, ℕ, ◌+◌, ◌-◌, ◌*◌, ◌/◌, ◌<◌, ◌≤◌, ◌==◌, ◌&&◌, not, if◌then◌else◌, [], ◌∷◌, true, false, List, length, take, find, slice_get, Some, IfOk, unwrap_or};
+ghost use Rattle.std.specs.List.{filter_map, flat_map, range_with_len};
+ghost use Rattle.cxl_topo.specs.Tree.{is_endpoint_at, child_of};
+ghost use Rattle.cxl_window.specs.Fields.{WindowFields};
+ghost use Rattle.cxl_model.specs.System.{system_of};
+ghost use Rattle.cxl_pick.specs.Picking.{can_serve_itself, can_serve_by};
+ghost use Rattle.cxl_pick.specs.inner.Wanted.{IsSound, IsReady};
+ghost use Rattle.cxl_pick.specs.inner.Offers.{AreChildren, AreOffers, offered, entry_at, offers_at};
+
+use crate::nodes::{can_serve_by, can_serve_itself};
+use crate::want::Want;
+use cxl_image::Image;
+use cxl_topo::{Topo, tree_laws};
+use cxl_window::Window;
+use std::alloc::{AllocError, Global};
+
+// ---- children
+
+/// The children of each port, by rising port. Takes memory.
+pub(crate) fn children(alloc: Global, topo: &Topo) -> Result<Vec<Vec<u32>>, AllocError>
+    ensures { IfOk result (λ table. AreChildren topo.now.nodes table.items) }
+{
+    let mut table = Vec::with_capacity(alloc, topo.count() as usize)?;
+    for node in 0..topo.count() {
+        table.push(children_of(alloc, topo, node)?)?;
+    }
+    Ok(table)
+}
+
+/// The children of a node, by rising port; an endpoint has none. Takes memory.
+fn children_of(alloc: Global, topo: &Topo, node: u32) -> Result<Vec<u32>, AllocError>
+    requires { node < length topo.now.nodes }
+    ensures { IfOk result (λ own. is_endpoint_at topo.now.nodes node ≡ false
+        → own.items ≡ filter_map (child_of topo.now.nodes node) (range_with_len 0 256)) }
+{
+    let mut own = Vec::new(alloc);
+    if topo.is_endpoint(node) {
+        return Ok(own);
+    }
+    for port in 0..256u32 {
+        if let Some(child) = topo.child(node, port as u8) {
+            own.push(child)?;
+        }
+    }
+    Ok(own)
+}
+
+// ---- the table
+
+/// What each node gives for each number of endpoints from 1 to 16, children before their parents. Takes memory.
+pub(crate) fn offers(
+    alloc: Global,
+    image: &Image,
+    topo: &Topo,
+    want: &Want,
+    w: &Window,
+    start: u64,
+    children: &[Vec<u32>],
+) -> Result<Vec<Vec<u32>>, AllocError>
+    requires ready { IsReady (system_of image.now topo.now []) }
+    requires sound { IsSound want.now }
+    requires children { AreChildren topo.now.nodes children.now }
+    ensures offers { IfOk result (λ table. AreOffers (system_of image.now topo.now []) want.now w.now start table.items) }
+    ensures count { IfOk result (λ table. length table.items ≡ length topo.now.nodes * 17) }
+{
+    let count = topo.count() as usize;
+    let mut table = Vec::with_capacity(alloc, count * 17)?;
+    for place in 0..count * 17 {
+        let node = (count - 1 - place / 17) as u32;
+        let m = (place % 17) as u8;
+        let own = offer(alloc, image, topo, want, w, start, children, &table, node, m)?;
+        table.push(own)?;
+    }
+    Ok(table)
+}
+
+/// What a node gives for `m` endpoints, where the table has what its children give. Takes memory.
+fn offer(
+    alloc: Global,
+    image: &Image,
+    topo: &Topo,
+    want: &Want,
+    w: &Window,
+    start: u64,
+    children: &[Vec<u32>],
+    table: &[Vec<u32>],
+    node: u32,
+    m: u8,
+) -> Result<Vec<u32>, AllocError>
+    requires ready { IsReady (system_of image.now topo.now []) }
+    requires sound { IsSound want.now }
+    requires children { AreChildren topo.now.nodes children.now }
+    requires here { node < length topo.now.nodes }
+    requires few { m ≤ 16 }
+    requires offers { AreOffers (system_of image.now topo.now []) want.now w.now start table.now }
+    requires below { (length topo.now.nodes - 1 - node) * 17 ≤ length table.now }
+    ensures { IfOk result (λ own. 0 < m → own.items ≡ offered (system_of image.now topo.now []) want.now w.now start node m) }
+{
+    tree_laws();
+    if m == 0 {
+        return Ok(Vec::new(alloc));
+    }
+    if topo.is_endpoint(node) {
+        return own_offer(alloc, gives_itself(image, topo, want, w, start, node, m), node);
+    }
+    let own = children[node as usize].as_slice();
+    match ports_used(image, topo, want, w, start, own, table, node, m) {
+        Some(u) => first_offers(alloc, topo.count(), own, table, m / u, u),
+        None => Ok(Vec::new(alloc)),
+    }
+}
+
+/// Whether an endpoint gives something for `m` endpoints.
+fn gives_itself(image: &Image, topo: &Topo, want: &Want, w: &Window, start: u64, node: u32, m: u8) -> bool
+    requires ready { IsReady (system_of image.now topo.now []) }
+    requires sound { IsSound want.now }
+    requires here { node < length topo.now.nodes }
+    requires endpoint { is_endpoint_at topo.now.nodes node ≡ true }
+    ensures { result ≡ ((m == 1) && can_serve_itself (system_of image.now topo.now []) want.now w.now start node) }
+{
+    m == 1 && can_serve_itself(image, topo, want, w, start, node)
+}
+
+/// The endpoint itself, where it gives something. Takes memory.
+fn own_offer(alloc: Global, gives: bool, node: u32) -> Result<Vec<u32>, AllocError>
+    ensures { IfOk result (λ own. own.items ≡ (if gives then node ∷ [] else [])) }
+{
+    let mut own = Vec::new(alloc);
+    if gives {
+        own.push(node)?;
+    }
+    Ok(own)
+}
+
+/// The greatest number of its ports by which a port could lead to `m` endpoints.
+fn ports_used(
+    image: &Image,
+    topo: &Topo,
+    want: &Want,
+    w: &Window,
+    start: u64,
+    children: &[u32],
+    table: &[Vec<u32>],
+    node: u32,
+    m: u8,
+) -> Option<u8>
+    requires ready { IsReady (system_of image.now topo.now []) }
+    requires here { node < length topo.now.nodes }
+    requires some { 0 < m }
+    requires few { m ≤ 16 }
+    ensures { result ≡ find (λ u. can_serve_by (system_of image.now topo.now []) want.now w.now start node m
+        (length (offers_at table.now (length topo.now.nodes) children.now (m / u))) u) (8 ∷ 4 ∷ 2 ∷ 1 ∷ []) }
+{
+    let count = topo.count();
+    if can_serve_by(image, topo, want, w, start, node, m, willing(count, children, table, m / 8), 8) {
+        return Some(8);
+    }
+    if can_serve_by(image, topo, want, w, start, node, m, willing(count, children, table, m / 4), 4) {
+        return Some(4);
+    }
+    if can_serve_by(image, topo, want, w, start, node, m, willing(count, children, table, m / 2), 2) {
+        return Some(2);
+    }
+    if can_serve_by(image, topo, want, w, start, node, m, willing(count, children, table, m), 1) {
+        return Some(1);
+    }
+    None
+}
+
+/// How many children give something for `share` endpoints.
+fn willing(count: u32, children: &[u32], table: &[Vec<u32>], share: u8) -> usize
+    ensures { result ≡ length (offers_at table.now count children.now share) }
+{
+    let mut willing = 0;
+    for child in children {
+        if gives(count, table, *child, share) {
+            willing += 1;
+        }
+    }
+    willing
+}
+
+/// What the first `u` of the children that give something for `share` endpoints give. Takes memory.
+fn first_offers(
+    alloc: Global,
+    count: u32,
+    children: &[u32],
+    table: &[Vec<u32>],
+    share: u8,
+    u: u8,
+) -> Result<Vec<u32>, AllocError>
+    ensures { IfOk result (λ given. given.items
+        ≡ flat_map (λ ns. ns) (take u (offers_at table.now count children.now share))) }
+{
+    let mut given = Vec::new(alloc);
+    let mut left = u;
+    for child in children {
+        if left > 0 && gives(count, table, *child, share) {
+            given.extend_from_slice(entry(count, table, *child, share))?;
+            left -= 1;
+        }
+    }
+    Ok(given)
+}
+
+/// Whether a child gives something for `share` endpoints.
+pub(crate) fn gives(count: u32, table: &[Vec<u32>], child: u32, share: u8) -> bool
+    ensures { result ≡ not (length (entry_at table.now count child share) == 0) }
+{
+    !entry(count, table, child, share).is_empty()
+}
+
+/// What a node gives for `share` endpoints, by the table of `count` nodes.
+pub(crate) fn entry<'a>(count: u32, table: &'a [Vec<u32>], node: u32, share: u8) -> &'a [u32]
+    ensures { result.now ≡ entry_at table.now count node share }
+{
+    let place = count.saturating_sub(1).saturating_sub(node) as usize * 17 + usize::from(share);
+    match table.get(place) {
+        Some(own) => own.as_slice(),
+        None => &[],
+    }
+}

@@ -1,0 +1,184 @@
+ghost use Rattle.std.specs.Prelude.{◌≡◌, ◌≤◌, ◌<◌, ◌==◌, ℕ, [], true, false, List, length, map, option_map, option_and_then, IfOk, IfErr, IfSome, MatchOption, All, Err};
+ghost use Rattle.std.specs.List.{list_any};
+ghost use Rattle.cxl_enc.specs.Codes.{is_ways};
+ghost use Rattle.cxl_topo.specs.Tree.{is_endpoint_at, bridge_with};
+ghost use Rattle.cxl_window.specs.Fields.{WindowFields};
+ghost use Rattle.cxl_window.specs.Windows.{AreMadeWith};
+ghost use Rattle.cxl_model.specs.System.{IsSystem, system_of, bridge_uids};
+ghost use Rattle.cxl_model.specs.Accepted.{IsAccepted};
+ghost use Rattle.cxl_pick.specs.Picking.{IsWantedSize, given_in, all_given, AreRising, IsPicked, NothingGiven, TellsPickFault, FitsFirst, NothingFits};
+ghost use Rattle.cxl_pick.specs.inner.Wanted.{IsSound, IsReady};
+ghost use Rattle.cxl_pick.specs.inner.Offers.{AreChildren, some_of, entry_at};
+
+use crate::fault::PickFault;
+use crate::laws::{fitting_sets_are_given, given_sets_fit};
+use crate::offers::{children, entry, gives, offers};
+use crate::terms::{can_take, has_known_ways, has_size, latest_start};
+use crate::want::Want;
+use cxl_image::Image;
+use cxl_legal::ports_are_bytes;
+use cxl_model::hosts_with_caps_are_systems;
+use cxl_topo::{Topo, tree_laws};
+use cxl_window::Window;
+use std::alloc::{AllocError, Global};
+
+/// Endpoints for a region of so many ways, in rising order: those that the target bridges give of the first window in
+/// which each gives something. (Which are picked is this project's rule.) Takes memory.
+pub fn pick(
+    alloc: Global,
+    image: &Image,
+    topo: &Topo,
+    windows: &[Window],
+    want: &Want,
+) -> Result<Vec<u32>, PickFault>
+    requires made { AreMadeWith windows.now (bridge_uids topo.now.nodes) }
+    requires accepted { IsAccepted (system_of image.now topo.now windows.now) }
+    requires code { IfSome want.now.gran (λ code. code ≤ 6) }
+    ensures picked { IfOk result
+        (λ set. (w : WindowFields) × IsPicked (system_of image.now topo.now windows.now) want.now w set.items) }
+    ensures endpoints { IfOk result (λ set. All (λ m. is_endpoint_at topo.now.nodes m ≡ true) set.items) }
+    ensures count { IfOk result (λ set. length set.items ≡ want.now.ways) }
+
+    // They keep all that a request has to in a window, and no set of so many endpoints does so in an earlier one.
+    ensures fits { IfOk result (λ set. FitsFirst (system_of image.now topo.now windows.now) want.now set.items) }
+
+    // The first two faults come exactly where they hold, and the third where no set of so many endpoints keeps all
+    // that a request has to.
+    ensures ways { is_ways want.now.ways ≡ false → result ≡ Err (PickFault.Ways want.now.ways) }
+    ensures size { is_ways want.now.ways ≡ true → (IsWantedSize want.now → ⊥) → result ≡ Err PickFault.Size }
+    ensures fault { IfErr result (TellsPickFault (system_of image.now topo.now windows.now) want.now) }
+    ensures nothing { IfErr result (λ fault. fault ≡ PickFault.NoSet
+        → NothingFits (system_of image.now topo.now windows.now) want.now) }
+{
+    given_sets_fit();
+    fitting_sets_are_given();
+    tree_laws();
+    ports_are_bytes(topo);
+    if !has_known_ways(want) {
+        return Err(PickFault::Ways(u32::from(want.ways)));
+    }
+    if !has_size(want) {
+        return Err(PickFault::Size);
+    }
+    settle(image, topo, windows);
+    match pick_first(alloc, image, topo, windows, want) {
+        Ok(Some(set)) => Ok(set),
+        Ok(None) => Err(PickFault::NoSet),
+        Err(_) => Err(PickFault::Memory),
+    }
+}
+
+/// An accepted image over its topology, with its windows, is a system. Does nothing, so that a caller can rest on it.
+fn settle(image: &Image, topo: &Topo, windows: &[Window])
+    requires made { AreMadeWith windows.now (bridge_uids topo.now.nodes) }
+    requires accepted { IsAccepted (system_of image.now topo.now windows.now) }
+    ensures system { IsSystem (system_of image.now topo.now windows.now) }
+    ensures ready { IsReady (system_of image.now topo.now []) }
+{
+    hosts_with_caps_are_systems();
+    let _count = topo.count();
+    let _blocks = image.count();
+    let _windows = windows.len();
+}
+
+/// The endpoints picked in the first window in which each target bridge gives something. Takes memory.
+fn pick_first(
+    alloc: Global,
+    image: &Image,
+    topo: &Topo,
+    windows: &[Window],
+    want: &Want,
+) -> Result<Option<Vec<u32>>, AllocError>
+    requires system { IsSystem (system_of image.now topo.now windows.now) }
+    requires ready { IsReady (system_of image.now topo.now []) }
+    requires sound { IsSound want.now }
+    ensures { IfOk result (λ o. MatchOption o (NothingGiven (system_of image.now topo.now windows.now) want.now)
+        (λ set. (w : WindowFields) × IsPicked (system_of image.now topo.now windows.now) want.now w set.items)) }
+{
+    tree_laws();
+    let children = children(alloc, topo)?;
+    for w in windows {
+        match pick_in(alloc, image, topo, want, w, &children)? {
+            Some(given) => {
+                let set = rising(alloc, topo.count(), &given)?;
+                return Ok(Some(set));
+            }
+            None => {}
+        }
+    }
+    Ok(None)
+}
+
+/// What the target bridges of a window give, where each gives something. Takes memory.
+fn pick_in(
+    alloc: Global,
+    image: &Image,
+    topo: &Topo,
+    want: &Want,
+    w: &Window,
+    children: &[Vec<u32>],
+) -> Result<Option<Vec<u32>>, AllocError>
+    requires ready { IsReady (system_of image.now topo.now []) }
+    requires sound { IsSound want.now }
+    requires children { AreChildren topo.now.nodes children.now }
+    ensures { IfOk result
+        (λ o. option_map (λ given. given.items) o ≡ given_in (system_of image.now topo.now []) want.now w.now) }
+{
+    tree_laws();
+    let _index = w.index();
+    if !can_take(want, w) {
+        return Ok(None);
+    }
+    let Some(start) = latest_start(want, w) else {
+        return Ok(None);
+    };
+    let table = offers(alloc, image, topo, want, w, start, children)?;
+    all_given(alloc, topo, w.targets(), &table, want.ways / w.ways())
+}
+
+/// What the bridges of these UIDs give for `share` endpoints each, where each gives something. Takes memory.
+fn all_given(
+    alloc: Global,
+    topo: &Topo,
+    targets: &[u32],
+    table: &[Vec<u32>],
+    share: u8,
+) -> Result<Option<Vec<u32>>, AllocError>
+    ensures { IfOk result (λ o. option_map (λ given. given.items) o
+        ≡ all_given (map (λ uid. option_and_then (λ b. some_of (entry_at table.now (length topo.now.nodes) b share))
+        (bridge_with topo.now.nodes uid)) targets.now)) }
+{
+    let mut given = Vec::new(alloc);
+    for uid in targets {
+        let Some(bridge) = topo.bridge(*uid) else {
+            return Ok(None);
+        };
+        let count = topo.count();
+        if !gives(count, table, bridge, share) {
+            return Ok(None);
+        }
+        given.extend_from_slice(entry(count, table, bridge, share))?;
+    }
+    Ok(Some(given))
+}
+
+/// The same numbers of nodes in rising order. Takes memory.
+fn rising(alloc: Global, count: u32, given: &[u32]) -> Result<Vec<u32>, AllocError>
+    requires { All (λ n. n < count) given.now }
+    ensures { IfOk result (λ set. AreRising given.now set.items) }
+{
+    let mut set = Vec::new(alloc);
+    for node in 0..count {
+        if holds(given, node) {
+            set.push(node)?;
+        }
+    }
+    Ok(set)
+}
+
+/// Whether the node is among the given ones.
+fn holds(given: &[u32], node: u32) -> bool
+    ensures { result ≡ list_any (λ n. n == node) given.now }
+{
+    given.contains(&node)
+}

@@ -1,0 +1,133 @@
+//! What is wanted of a pick, and what a window gives it.
+
+ghost use Rattle.std.specs.Prelude.{◌≡◌, ◌<◌, ◌≤◌, ◌+◌, [], true, IsTrue, ◌↔◌};
+ghost use Rattle.cxl_enc.specs.Codes.{is_ways, log2_of};
+ghost use Rattle.cxl_enc.specs.Limits.{address_limit};
+ghost use Rattle.cxl_regs.specs.Words.{has_bit};
+ghost use Rattle.cxl_model.specs.Rules.{permits};
+ghost use Rattle.cxl_legal.specs.Windows.{agrees_on_gran};
+ghost use Rattle.cxl_pick.specs.Picking.{asked, can_take, latest_start, wanted_code, wanted_share, port_code, IsWantedSize};
+
+use crate::want::Want;
+use cxl_enc::{ADDRESS_LIMIT, MemKind, UNIT, code_of};
+use cxl_window::{Verdict, Window};
+
+/// Whether a region can have so many ways.
+pub(crate) fn has_known_ways(want: &Want) -> bool
+    ensures { result ≡ is_ways want.now.ways }
+{
+    code_of(want.ways).is_some()
+}
+
+/// Whether the size is some bytes, a multiple of 256 MiB for each way, and not too large.
+pub(crate) fn has_size(want: &Want) -> bool
+    requires { is_ways want.now.ways ≡ true }
+    ensures { IsTrue result ↔ IsWantedSize want.now }
+{
+    let whole = UNIT * u64::from(want.ways);
+    want.size > 0 && want.size % whole == 0 && want.size <= ADDRESS_LIMIT
+}
+
+/// The bytes of each endpoint.
+pub(crate) fn share(want: &Want) -> u64
+    requires ways { is_ways want.now.ways ≡ true }
+    requires low { want.now.size ≤ address_limit }
+    ensures value { result ≡ wanted_share want.now }
+    ensures low { result ≤ address_limit }
+{
+    want.size / u64::from(want.ways)
+}
+
+/// Whether a window can take a region that is wanted, but for its bridges and its room.
+pub(crate) fn can_take(want: &Want, w: &Window) -> bool
+    ensures { result ≡ can_take want.now w.now }
+{
+    matches!(w.verdict(), Verdict::Usable)
+        && permits(w, want.kind)
+        && !has_bit(w.restrict(), 4)
+        && agrees_on_gran(want, w)
+        && want.ways % w.ways() == 0
+}
+
+/// Whether a window permits this kind of memory.
+fn permits(w: &Window, kind: MemKind) -> bool
+    ensures { result ≡ permits w.now kind }
+{
+    let restrict = w.restrict();
+    match kind {
+        MemKind::Ram => has_bit(restrict, 1) && has_bit(restrict, 2),
+        MemKind::Pmem => has_bit(restrict, 1) && has_bit(restrict, 3),
+    }
+}
+
+fn has_bit(word: u16, place: u8) -> bool
+    requires { place < 16 }
+    ensures { result ≡ has_bit word place }
+{
+    (word >> place) % 2 == 1
+}
+
+/// Whether a stated granularity is that of a window of more than one way.
+fn agrees_on_gran(want: &Want, w: &Window) -> bool
+    ensures { result ≡ agrees_on_gran (asked want.now []) w.now }
+{
+    if w.ways() <= 1 {
+        return true;
+    }
+    match want.gran {
+        Some(code) => code == w.gran(),
+        None => true,
+    }
+}
+
+/// The greatest base in a window from which the region still ends there.
+pub(crate) fn latest_start(want: &Want, w: &Window) -> Option<u64>
+    requires { w.now.base + w.now.size ≤ address_limit }
+    ensures { result ≡ latest_start want.now w.now }
+{
+    if want.size > w.size() {
+        return None;
+    }
+    let step = if w.ways() % 3 == 0 { 3 * UNIT } else { UNIT };
+    Some(w.base() + (w.size() - want.size) / step * step)
+}
+
+/// The granularity code of the region in a window.
+pub(crate) fn wanted_code(want: &Want, w: &Window) -> u8
+    ensures { result ≡ wanted_code want.now w.now }
+{
+    if want.ways == 1 {
+        return 0;
+    }
+    if w.ways() > 1 {
+        return w.gran();
+    }
+    match want.gran {
+        Some(code) => code,
+        None => w.gran(),
+    }
+}
+
+/// The code that a port above `m` endpoints of the region would have.
+pub(crate) fn port_code(want: &Want, w: &Window, m: u8) -> u32
+    requires some { 0 < m }
+    requires few { m ≤ 16 }
+    ensures { result ≡ port_code want.now w.now m }
+{
+    let third = if w.ways() % 3 == 0 { 3 } else { 1 };
+    u32::from(wanted_code(want, w)) + log2_of(want.ways / (third * m))
+}
+
+/// The exponent of a power of two up to 16.
+fn log2_of(n: u8) -> u32
+    ensures value { result ≡ log2_of n }
+    ensures few { result ≤ 4 }
+{
+    match n {
+        16 => 4,
+        8 => 3,
+        4 => 2,
+        2 => 1,
+        _ => 0,
+    }
+}

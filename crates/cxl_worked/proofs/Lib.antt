@@ -1,0 +1,3 @@
+pub mod ExamplesTests
+pub mod ExamplesRegions
+pub mod ExamplesSystems
