@@ -1,8 +1,8 @@
 -- One window after the other.
-use Rattle.std.proofs.Common.{◌≡◌, ℕ, zero, suc, ◌+◌, ◌<◌, ◌≤◌, List, [], ◌∷◌, ◌++◌, length, get_or, Option, Some, refl, sym, ap, subst, ◌∙◌, inl, inr, arith}
-use Rattle.std.specs.Prelude.{slice_get, Contains}
+use Rattle.std.proofs.Common.{◌≡◌, ℕ, zero, suc, ◌+◌, ◌<◌, List, [], ◌∷◌, ◌++◌, length, Some, refl, sym, ap, subst, ◌∙◌, inl, inr, arith}
+use Rattle.std.specs.Prelude.{slice_get}
 use Rattle.std.proofs.lemmas.Bool.{cases_lt}
-use Rattle.std.proofs.lemmas.Option.{same_Some, slice_get_within, slice_get-get_or}
+use Rattle.std.proofs.lemmas.Option.{same_Some, slice_get_within}
 use Rattle.cxl_window.specs.Fields.{WindowFields}
 use Rattle.cxl_model.specs.declared.request.Request.{Request}
 use Rattle.cxl_model.specs.declared.plan.Reason.{Reason}
@@ -47,6 +47,7 @@ found_first s request i w reasons base index known takes = record { takes = take
         item [] k lt = absurd (omega arith)
         item (x ∷ xs) zero lt = (x, refl)
         item (x ∷ xs) (suc k) lt = item xs k (omega arith)
+
     before : (v : WindowFields) → slice_get s.windows v.index ≡ Some v → v.index < w.index → (reason : Reason) × IsReason s request v reason
     before v there less =
         let count = known.count in

@@ -1,9 +1,8 @@
 -- Faults in the order in which they are tried, and requests without one.
-use Rattle.std.proofs.Common.{◌≡◌, ◌≢◌, ℕ, zero, suc, ◌+◌, ◌<◌, ◌≤◌, Bool, true, false, not, ◌&&◌, List, [], ◌∷◌, ◌++◌, length, get_or, Option, Some, None, cond, refl, sym, ap, subst, ◌∙◌, inl, inr, arith, append_assoc}
-use Rattle.std.specs.Prelude.{slice_get, nat_le, Err, find, ◌==◌, AllPairs, Contains}
-use Rattle.std.specs.Option.{option_map_or}
+use Rattle.std.proofs.Common.{◌≡◌, ◌≢◌, ℕ, zero, suc, ◌+◌, ◌<◌, ◌≤◌, Bool, true, false, not, List, [], ◌∷◌, ◌++◌, length, get_or, Option, Some, None, cond, refl, sym, ap, subst, ◌∙◌, inl, inr, arith, append_assoc}
+use Rattle.std.specs.Prelude.{nat_le, Err, find, ◌==◌, AllPairs, Contains}
 use Rattle.std.specs.List.{list_any, range_with_len, All}
-use Rattle.std.proofs.lemmas.Bool.{cases_Bool, cases_eq, cases_lt, and_parts, leb-true, eq-eqb, eqb-true, false≢true}
+use Rattle.std.proofs.lemmas.Bool.{cases_Bool, cases_eq, cases_lt, and_parts, leb-true, eq-eqb, eqb-true, ne_eqb, false≢true}
 use Rattle.std.proofs.lemmas.Bool.Decides.{Decides-eqb}
 use Rattle.std.proofs.lemmas.List.{append-nil}
 use Rattle.std.proofs.lemmas.List.Folds.{list_any_at, Any-from_list_any}
@@ -12,9 +11,8 @@ use Rattle.std.proofs.lemmas.Map.Made.{IsDistinct-from_AllPairs}
 use Rattle.std.proofs.lemmas.Map.Steps.{length-le_from_distinct_below}
 use Rattle.std.proofs.lemmas.Option.{none-some}
 use Rattle.cxl_enc.specs.Codes.{is_ways}
-use Rattle.cxl_enc.specs.Caps.{is_target_count, targets_of}
+use Rattle.cxl_enc.specs.Caps.{is_target_count}
 use Rattle.cxl_topo.specs.declared.node.Node.{Node}
-use Rattle.cxl_topo.specs.Kinds.{is_endpoint}
 use Rattle.cxl_topo.specs.Tree.{is_endpoint_at, is_port_at}
 use Rattle.cxl_regs.specs.Registers.{Registers}
 use Rattle.cxl_window.specs.Windows.{first_repeat}
@@ -30,10 +28,10 @@ use Rattle.cxl_span.specs.declared.allotting.SpanFault.{SpanFault}
 use Rattle.cxl_span.specs.declared.allotting.SpanFault.TheVariants.{NoDecoder, PastRam, NoRoom}
 use Rattle.cxl_span.specs.Partitions.{partition_start, partition_end}
 use Rattle.cxl_span.specs.Allotting.{all_committed, Allots, IsLeastSpan}
-use Rattle.cxl_legal.specs.Used.{is_used, request_ways, used_ports}
+use Rattle.cxl_legal.specs.Used.{is_used, request_ways}
 use Rattle.cxl_legal.specs.Endpoints.{IsSize, share_of, FitsEndpoints, HasRoom, is_uneven, lacks_decoder}
 use Rattle.cxl_plan.specs.Faults.{SaysOfRequest, turn_of_fault, least}
-use Rattle.cxl_plan.specs.inner.Uses.{tree_alone, HasWays, ports_at, ways_at}
+use Rattle.cxl_plan.specs.inner.Uses.{tree_alone, HasWays, ports_at}
 use Rattle.cxl_plan.specs.inner.Judging.{uneven_at, over, IsEarly}
 use Rattle.cxl_plan.proofs.Finding.{none_found}
 use Rattle.cxl_plan.proofs.Trees.{KnownTree}
@@ -182,7 +180,7 @@ target_ways n is =
       ]
     ]
 
-inside_port : (nodes : List Node) (n : ℕ) → n < length nodes → is_endpoint_at nodes n ≡ false → is_port_at nodes n ≡ true
+pub inside_port : (nodes : List Node) (n : ℕ) → n < length nodes → is_endpoint_at nodes n ≡ false → is_port_at nodes n ≡ true
 inside_port [] n below is = absurd (omega arith)
 inside_port (x ∷ xs) zero below is = ap not is
 inside_port (x ∷ xs) (suc n) below is = inside_port xs n (omega arith) is
@@ -234,3 +232,14 @@ faults_6 s request early fits =
     onward s request 5
     (faults_5 s request early (none_passes_at (is_uneven s request) 0 (length s.nodes) fits.even) (none_passes_at (lacks_decoder s request) 0 (length s.nodes) fits.left))
     (no_span s request fits.room)
+
+-- a used port has no more than eight used ports
+pub few_ports : (s : System) (request : Request) → FitsEndpoints s request → (n : ℕ) → is_used (tree_alone s.nodes) request n ≡ true → n < length s.nodes → is_endpoint_at s.nodes n ≡ false → length (ports_at s.nodes request n) ≤ 8
+few_ports s request fits n used below other = few_targets (length (ports_at s.nodes request n)) (even_of s.nodes request n used (inside_port s.nodes n below other) (even_nodes s request fits n))
+  where
+    few_targets : (m : ℕ) → is_target_count m ≡ true → m ≤ 8
+    few_targets m is =
+        elim (cases_lt 8 m) [
+          | inr low ↦ low
+          | inl past ↦ absurd (false≢true (sym (rw (ne_eqb m 1 (λ e. omega arith), ne_eqb m 2 (λ e. omega arith), ne_eqb m 4 (λ e. omega arith), ne_eqb m 8 (λ e. omega arith)) refl) ∙ is))
+        ]

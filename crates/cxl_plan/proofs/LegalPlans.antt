@@ -1,7 +1,7 @@
 -- What the laws of legal plans give of an answer: no plan is legal where there is a fault, and none stands in an
 -- earlier window or at a lower base than the one that is found.
-use Rattle.std.proofs.Common.{◌≡◌, ◌≢◌, ℕ, zero, suc, ◌+◌, ◌<◌, ◌≤◌, Bool, true, false, not, List, [], ◌∷◌, ◌++◌, length, get_or, Option, Some, None, refl, sym, ap, subst, ◌∙◌, inl, inr, arith, append_assoc}
-use Rattle.std.specs.Prelude.{slice_get, find, ◌==◌, AllPairs, Contains}
+use Rattle.std.proofs.Common.{◌≡◌, ◌≢◌, ℕ, zero, suc, ◌+◌, ◌<◌, ◌≤◌, Bool, true, not, List, [], ◌∷◌, ◌++◌, length, get_or, Some, None, refl, sym, ap, subst, ◌∙◌, inl, inr, arith, append_assoc}
+use Rattle.std.specs.Prelude.{slice_get, find, ◌==◌, AllPairs}
 use Rattle.std.specs.List.{list_any, range_with_len}
 use Rattle.std.proofs.lemmas.Bool.{cases_Bool, cases_lt, eqb-true, false≢true}
 use Rattle.std.proofs.lemmas.List.Folds.{Any-from_list_any}
@@ -16,7 +16,7 @@ use Rattle.cxl_model.specs.declared.plan.PlanFault.{PlanFault}
 use Rattle.cxl_model.specs.declared.plan.PlanFault.TheVariants as faults
 use Rattle.cxl_model.specs.System.{System, IsSystem, decoders_at, ram_at, pmem_at}
 use Rattle.cxl_model.specs.Accepted.{IsAccepted}
-use Rattle.cxl_model.specs.Plans.{IsLegalPlanIn, IsLegalPlan}
+use Rattle.cxl_model.specs.Plans.{IsLegalPlanIn}
 use Rattle.cxl_legal.specs.Used.{AreEndpoints, HasBytePorts}
 use Rattle.cxl_legal.specs.Endpoints.{FitsEndpoints, is_uneven, lacks_decoder, share_of}
 use Rattle.cxl_legal.specs.Windows.{FitsWindow, can_select, can_have_ways}
@@ -50,13 +50,16 @@ none_repeats before (u ∷ us) distinct =
     length_append : (xs ys : List ℕ) → length (xs ++ ys) ≡ length xs + length ys
     length_append [] ys = omega arith
     length_append (x ∷ xs) ys = let r = length_append xs ys in omega arith
+
     front : (xs ys : List ℕ) (k : ℕ) → k < length xs → get_or (xs ++ ys) k 0 ≡ get_or xs k 0
     front [] ys k lt = absurd (omega arith)
     front (x ∷ xs) ys zero lt = refl
     front (x ∷ xs) ys (suc k) lt = front xs ys k (omega arith)
+
     middle : (xs : List ℕ) (y : ℕ) (ys : List ℕ) → get_or (xs ++ y ∷ ys) (length xs) 0 ≡ y
     middle [] y ys = refl
     middle (x ∷ xs) y ys = middle xs y ys
+
     read : (xs : List ℕ) (k x : ℕ) → k < length xs → get_or xs k x ≡ x → get_or xs k 0 ≡ x
     read [] k x lt is = absurd (omega arith)
     read (y ∷ xs) zero x lt is = is

@@ -10,3 +10,6 @@ pub mod Choices
 pub mod FaultOrder
 pub mod Leading
 pub mod LegalPlans
+pub mod LegalAnswers
+pub mod StatedRows
+pub mod StatedSpans

@@ -1,6 +1,6 @@
 -- Reasons in the order in which they are tried, and windows without one.
-use Rattle.std.proofs.Common.{◌≡◌, ℕ, zero, suc, ◌+◌, ◌-◌, ◌%◌, ◌<◌, ◌≤◌, ◌⊎◌, Bool, true, false, not, ◌&&◌, ◌||◌, List, [], ◌∷◌, length, get_or, Option, Some, None, refl, sym, ap, subst, ◌∙◌, inl, inr, arith, if◌then◌else◌}
-use Rattle.std.specs.Prelude.{slice_get, find, ◌==◌, nat_lt, nat_le}
+use Rattle.std.proofs.Common.{◌≡◌, ℕ, zero, suc, ◌+◌, ◌-◌, ◌%◌, ◌<◌, ◌≤◌, Bool, true, false, not, ◌&&◌, ◌||◌, List, length, Option, Some, None, refl, sym, ap, ◌∙◌, inl, inr, arith}
+use Rattle.std.specs.Prelude.{slice_get, find, ◌==◌, nat_le}
 use Rattle.std.specs.Option.{option_map_or}
 use Rattle.std.specs.List.{list_all, range_with_len, All}
 use Rattle.std.proofs.lemmas.Bool.{cases_Bool, cases_eq, and_parts, leb-true, eqb-true, false≢true}
@@ -8,7 +8,7 @@ use Rattle.std.proofs.lemmas.Option.{none-some, slice_get_within, option_and_the
 use Rattle.cxl_enc.specs.Codes.{is_ways, bits_of, code_in_table, ways_of}
 use Rattle.cxl_topo.specs.declared.node.Node.{Node}
 use Rattle.cxl_topo.specs.Kinds.{uid_of}
-use Rattle.cxl_topo.specs.Tree.{is_endpoint_at, is_bridge_at, uid_at, bridge_with}
+use Rattle.cxl_topo.specs.Tree.{is_endpoint_at, bridge_with}
 use Rattle.cxl_topo.specs.Laws.{AreTreeLaws}
 use Rattle.cxl_regs.specs.Registers.{Registers}
 use Rattle.cxl_regs.specs.Words.{has_bit}
@@ -22,8 +22,8 @@ use Rattle.cxl_model.specs.System.{System}
 use Rattle.cxl_model.specs.Rules.{permits}
 use Rattle.cxl_legal.specs.Used.{is_used, request_ways}
 use Rattle.cxl_legal.specs.Endpoints.{cap_at}
-use Rattle.cxl_legal.specs.Windows.{FitsWindow, has_used_bridges, agrees_on_gran, can_select, can_have_ways, is_target}
-use Rattle.cxl_legal.specs.Bases.{IsBase, IsLeastBase, base_step}
+use Rattle.cxl_legal.specs.Windows.{FitsWindow, has_used_bridges, agrees_on_gran, can_select, can_have_ways}
+use Rattle.cxl_legal.specs.Bases.{IsLeastBase, base_step}
 use Rattle.cxl_plan.specs.Faults.{SaysOfWindow, turn_of_reason, least}
 use Rattle.cxl_plan.specs.inner.Uses.{tree_alone, ways_at, code_at}
 use Rattle.cxl_plan.specs.inner.Judging.{selects_at, over, KeepsWindow}
@@ -233,6 +233,7 @@ fits_window nodes known request named w kept blocks windows there = record {
               not_false (selects_at nodes request w n) (none_found (λ m. not (selects_at nodes request w m)) 0 (length nodes) kept.selects n (omega arith) (omega arith))
           | inr not_used ↦ unused_selects nodes request w n not_used
         ]
+
     ways : (n : ℕ) → can_have_ways (tree_alone nodes) request n ≡ true
     ways n =
         elim (cases_Bool (is_used (tree_alone nodes) request n)) [

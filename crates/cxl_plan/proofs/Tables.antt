@@ -1,14 +1,14 @@
 -- The tables of used nodes and ports, one entry at a time.
-use Rattle.std.proofs.Common.{append-nil, ◌⊎◌, ◌≡◌, ◌≢◌, ℕ, zero, suc, ◌+◌, ◌-◌, ◌<◌, ◌≤◌, Bool, true, false, ◌||◌, ◌&&◌, List, [], ◌∷◌, ◌++◌, length, get_or, take, filter, replicate, Option, Some, None, refl, sym, ap, subst, ◌∙◌, inl, inr, arith, if◌then◌else◌}
+use Rattle.std.proofs.Common.{append-nil, ◌⊎◌, ◌≡◌, ℕ, zero, suc, ◌+◌, ◌<◌, ◌≤◌, Bool, true, false, ◌||◌, ◌&&◌, List, [], ◌∷◌, ◌++◌, length, get_or, take, filter, replicate, Option, Some, None, refl, sym, ap, ◌∙◌, inl, inr, arith, if◌then◌else◌}
 use Rattle.std.specs.Prelude.{Vec, slice_get, ◌==◌, nat_lt, Result, Ok, Err, IfOk}
 use Rattle.std.specs.Global.{Global}
 use Rattle.std.specs.Option.{option_map_or}
 use Rattle.std.specs.List.{list_any, range_with_len, All}
-use Rattle.std.proofs.lemmas.Bool.{and_parts, and_from, cases_Bool, cases_eq, cases_lt, eq-eqb, eqb-true, ne_eqb, lt-ltb, le-ltb, false≢true, or_right}
-use Rattle.std.proofs.lemmas.List.{take_more, take_all}
+use Rattle.std.proofs.lemmas.Bool.{and_parts, and_from, cases_Bool, cases_eq, cases_lt, eq-eqb, eqb-true, ne_eqb, lt-ltb, false≢true, or_right}
+use Rattle.std.proofs.lemmas.List.{take_more}
 use Rattle.std.proofs.lemmas.List.Folds.{list_any-append}
 use Rattle.std.proofs.lemmas.List.Elements.{filter-append}
-use Rattle.std.proofs.lemmas.Option.{none-some, same_Some, slice_get_within, slice_get-get_or, option_and_then_some}
+use Rattle.std.proofs.lemmas.Option.{none-some, same_Some, slice_get_within}
 use Rattle.cxl_topo.specs.declared.node.Node.{Node}
 use Rattle.cxl_topo.specs.declared.node.Parent.{Parent}
 use Rattle.cxl_topo.specs.Kinds.{is_endpoint}
@@ -16,7 +16,7 @@ use Rattle.cxl_topo.specs.Tree.{is_endpoint_at, parent_of, child_of, path_of}
 use Rattle.cxl_topo.specs.Laws.{AreTreeLaws}
 use Rattle.cxl_model.specs.declared.request.Request.{Request}
 use Rattle.cxl_model.specs.Counts.{is_under}
-use Rattle.cxl_legal.specs.Used.{HasBytePorts, is_used, count_under, count_at_port, is_port_used, used_ports}
+use Rattle.cxl_legal.specs.Used.{is_used, count_at_port, is_port_used}
 use Rattle.cxl_plan.specs.inner.Uses.{tree_alone, ports_at, used_nodes, AreMarks, AreCounts}
 use Rattle.cxl_plan.specs.inner.AtPorts.{entered_at}
 use Rattle.cxl_plan.proofs.Finding.{numbers_more}
@@ -233,10 +233,13 @@ module _ (nodes : List Node) (laws : AreTreeLaws nodes) (counts : List ℕ) wher
     where
       x : ℕ
       x = get_or xs i 0
+
       own : Parent
       own = record { node = n; port = port }
+
       child_here : parent_of nodes x ≡ Some own → Some x ≡ child_of nodes n port
       child_here up = sym ((laws.children n port x).1 up)
+
       not_child : (parent_of nodes x ≡ Some own → ⊥) → option_map_or (parent_at n port) (parent_of nodes x) false ≡ false
       not_child no_child =
           elim (cases_Bool (option_map_or (parent_at n port) (parent_of nodes x) false)) [

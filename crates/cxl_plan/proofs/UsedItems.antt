@@ -1,5 +1,5 @@
 -- The used nodes in a list, and the first of them that passes a test.
-use Rattle.std.proofs.Common.{◌≡◌, ℕ, zero, suc, ◌+◌, ◌<◌, ◌≤◌, Bool, true, false, not, max, if◌then◌else◌, List, [], ◌∷◌, length, get_or, filter, Option, Some, None, refl, sym, ap, subst, ◌∙◌, inl, inr, arith}
+use Rattle.std.proofs.Common.{◌≡◌, ℕ, zero, suc, ◌+◌, ◌<◌, ◌≤◌, Bool, true, false, not, max, List, [], ◌∷◌, length, get_or, filter, Option, Some, None, refl, sym, ap, subst, ◌∙◌, inl, inr, arith}
 use Rattle.std.specs.Prelude.{slice_get, find, ◌==◌, Contains}
 use Rattle.std.specs.Option.{option_map_or}
 use Rattle.std.specs.List.{range_with_len, All, list_all, prefix_len}
@@ -153,6 +153,7 @@ floor_more f i old new limit is low known = (each, least, omega (arith, known.2)
           | inl same ↦ let e = ap f same in omega arith
           | inr other ↦ let before = known.0 k (omega arith) in omega arith
         ]
+
     least : (bound : ℕ) → ((k : ℕ) → k < i + 1 → f k ≤ bound) → new ≤ bound
     least bound all =
         let here = all i (omega arith) in

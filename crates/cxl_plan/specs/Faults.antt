@@ -21,6 +21,7 @@ use Rattle.cxl_legal.specs.Used.{request_ways}
 use Rattle.cxl_legal.specs.Endpoints.{IsSize, share_of, is_uneven, lacks_decoder, HasRoom}
 use Rattle.cxl_legal.specs.Windows.{FitsWindow, has_used_bridges, agrees_on_gran, can_select, can_have_ways}
 use Rattle.cxl_legal.specs.Bases.{IsLeastBase}
+use Rattle.cxl_legal.specs.Stated.{IsStatedPlan}
 
 -- the node of the least number that passes
 abbrev pub least : System → (ℕ → Bool) → Option ℕ
@@ -72,11 +73,11 @@ pub record TakesFirst (s : System) (request : Request) (w : WindowFields) (base 
   pub takes : Takes s request w base
   pub before : (v : WindowFields) → slice_get s.windows v.index ≡ Some v → v.index < w.index → (reason : Reason) × IsReason s request v reason
 
--- where the plan stands: in the first window that takes the request, at the least base there
-pub record IsFirstPlace (s : System) (request : Request) (plan : Plan) : Type 0 where
+-- the plan is that which is stated in the first window that takes the request, at the least base there
+pub record IsFirstPlan (s : System) (request : Request) (plan : Plan) : Type 0 where
   pub window : WindowFields
-  pub there : plan.found.window ≡ window.index
   pub first : TakesFirst s request window plan.found.base
+  pub stated : IsStatedPlan s request window plan.found.base plan
 
 -- one reason for each window, in table order
 pub record AreReasons (s : System) (request : Request) (reasons : List Reason) : Type 0 where

@@ -4,3 +4,4 @@ pub mod AtPorts
 pub mod Judging
 pub mod Floors
 pub mod Choices
+pub mod Planned

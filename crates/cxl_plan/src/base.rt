@@ -21,7 +21,13 @@ use cxl_topo::{Topo, tree_laws};
 use cxl_window::Window;
 
 /// The end of all that is committed in the used nodes, or 0.
-pub(crate) fn floor(image: &Image, topo: &Topo, windows: &[Window], request: &Request, uses: &Uses) -> u64
+pub(crate) fn floor(
+    image: &Image,
+    topo: &Topo,
+    windows: &[Window],
+    request: &Request,
+    uses: &Uses,
+) -> u64
     requires ready { IsReady (system_of image.now topo.now windows.now) request.now }
     requires uses { AreUses topo.now.nodes request.now uses.now }
     ensures { IsFloor topo.now.nodes image.now request.now result }

@@ -104,7 +104,11 @@ fn is_uneven(topo: &Topo, request: &Request, uses: &Uses, share: Option<u8>, nod
     let at = counts_at_ports(topo, &uses.counts, &uses.nodes, node);
     let even = has_even_ports(ports, own.cap);
     let same = are_same(&at, ports);
-    let shared = has_share(own.is_bridge(), uses.counts.as_slice()[node as usize], share);
+    let shared = has_share(
+        own.is_bridge(),
+        uses.counts.as_slice()[node as usize],
+        share,
+    );
     lacks_any(topo.is_port(node), even, same, shared)
 }
 

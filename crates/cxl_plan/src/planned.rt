@@ -80,7 +80,13 @@ pub(crate) fn region_code(request: &Request, w: &Window) -> u8
 }
 
 /// The code that a used node's decoder would have in a window. It may be one that no granularity has.
-pub(crate) fn planned_code(topo: &Topo, request: &Request, uses: &Uses, w: &Window, node: u32) -> u32
+pub(crate) fn planned_code(
+    topo: &Topo,
+    request: &Request,
+    uses: &Uses,
+    w: &Window,
+    node: u32,
+) -> u32
     requires uses { AreUses topo.now.nodes request.now uses.now }
     requires ways { HasWays topo.now.nodes request.now }
     requires here { node < length topo.now.nodes }

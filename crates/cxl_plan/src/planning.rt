@@ -5,9 +5,12 @@ ghost use Rattle.cxl_window.specs.Windows.{AreMadeWith};
 ghost use Rattle.cxl_window.specs.Fields.{WindowFields};
 ghost use Rattle.cxl_model.specs.System.{System, system_of};
 ghost use Rattle.cxl_model.specs.Accepted.{IsAccepted};
+ghost use Rattle.cxl_model.specs.Plans.{IsLegalPlan};
+ghost use Rattle.cxl_model.specs.declared.plan.Plan.{Plan};
 ghost use Rattle.cxl_legal.specs.Used.{AreEndpoints, HasBytePorts};
 ghost use Rattle.cxl_legal.specs.Endpoints.{FitsEndpoints};
-ghost use Rattle.cxl_plan.specs.Faults.{IsFirstPlanFault, IsFirstPlace};
+ghost use Rattle.cxl_legal.specs.Stated.{IsStatedPlan};
+ghost use Rattle.cxl_plan.specs.Faults.{IsFirstPlanFault, IsFirstPlan};
 ghost use Rattle.cxl_plan.specs.inner.Uses.{tree_alone, AreUses};
 ghost use Rattle.cxl_plan.specs.inner.Judging.{IsReady, IsEarly, IsSettled};
 
@@ -20,7 +23,7 @@ use crate::spans::places;
 use crate::used::{Uses, uses_of};
 use cxl_enc::FixedList;
 use cxl_image::Image;
-use cxl_legal::ports_are_bytes;
+use cxl_legal::{fitting_plans_are_legal, legal_plans_fit, ports_are_bytes};
 use cxl_model::{Found, Plan, PlanFault, Request};
 use cxl_topo::{Topo, tree_laws};
 use cxl_window::Window;
@@ -44,9 +47,15 @@ pub fn plan(
     ensures fault { IfErr result (λ fault. fault ≢ PlanFault.Memory
         → IsFirstPlanFault (system_of image.now topo.now windows.now) request.now fault) }
     ensures endpoints { OnOk result (FitsEndpoints (system_of image.now topo.now windows.now) request.now) }
-    // A plan stands in the first window that takes the request, at the least base there.
-    ensures place { IfOk result (λ plan. IsFirstPlace (system_of image.now topo.now windows.now) request.now plan) }
+    // And no plan is legal then. (Those that are given are.)
+    ensures none { IfErr result (λ fault. fault ≢ PlanFault.Memory
+        → (plan : Plan) → IsLegalPlan (system_of image.now topo.now windows.now) request.now plan → ⊥) }
+    ensures legal { IfOk result (IsLegalPlan (system_of image.now topo.now windows.now) request.now) }
+    // A plan is the one that is stated in the first window that takes the request, at the least base there.
+    ensures plan { IfOk result (λ plan. IsFirstPlan (system_of image.now topo.now windows.now) request.now plan) }
 {
+    legal_plans_fit();
+    fitting_plans_are_legal();
     ports_are_bytes(topo);
     let _count = topo.count();
     let _blocks = image.count();
@@ -70,7 +79,7 @@ fn plan_ready(
     ensures fault { IfErr result (λ fault. fault ≢ PlanFault.Memory
         → IsFirstPlanFault (system_of image.now topo.now windows.now) request.now fault) }
     ensures endpoints { OnOk result (FitsEndpoints (system_of image.now topo.now windows.now) request.now) }
-    ensures place { IfOk result (λ plan. IsFirstPlace (system_of image.now topo.now windows.now) request.now plan) }
+    ensures plan { IfOk result (λ plan. IsFirstPlan (system_of image.now topo.now windows.now) request.now plan) }
 {
     let Ok(uses) = uses_of(alloc, topo, request) else {
         return Err(PlanFault::Memory);
@@ -97,7 +106,7 @@ fn plan_fitting(
     ensures fault { IfErr result (λ fault. fault ≢ PlanFault.Memory
         → IsFirstPlanFault (system_of image.now topo.now windows.now) request.now fault) }
     ensures endpoints { OnOk result (FitsEndpoints (system_of image.now topo.now windows.now) request.now) }
-    ensures place { IfOk result (λ plan. IsFirstPlace (system_of image.now topo.now windows.now) request.now plan) }
+    ensures plan { IfOk result (λ plan. IsFirstPlan (system_of image.now topo.now windows.now) request.now plan) }
 {
     tree_laws();
     let _count = topo.count();
@@ -105,7 +114,16 @@ fn plan_fitting(
         return Err(PlanFault::Memory);
     };
     match choice {
-        Choice::Found(i, base) => match planned(alloc, image, topo, windows, request, uses, i, base) {
+        Choice::Found(i, base) => match planned(
+            alloc,
+            image,
+            topo,
+            windows,
+            request,
+            uses,
+            &windows[i],
+            base,
+        ) {
             Ok(plan) => Ok(plan),
             Err(_) => Err(PlanFault::Memory),
         },
@@ -169,15 +187,12 @@ fn planned(
     windows: &[Window],
     request: &Request,
     uses: &Uses,
-    i: usize,
+    w: &Window,
     base: u64,
 ) -> Result<Plan, AllocError>
-    requires settled { (w : WindowFields) × (slice_get windows.now i ≡ Some w)
-        × IsSettled (system_of image.now topo.now windows.now) request.now uses.now w }
-    ensures base { IfOk result (λ plan. plan.found.base ≡ base) }
-    ensures window { IfOk result (λ plan. (w : WindowFields) → slice_get windows.now i ≡ Some w → plan.found.window ≡ w.index) }
+    requires { IsSettled (system_of image.now topo.now windows.now) request.now uses.now w.now }
+    ensures { IfOk result (λ plan. IsStatedPlan (system_of image.now topo.now windows.now) request.now w.now base plan) }
 {
-    let w = &windows[i];
     let spans = places(alloc, image, topo, windows, request, uses, w)?;
     let rows = rows(alloc, image, topo, windows, request, uses, w, base)?;
     Ok(Plan {

@@ -1,10 +1,12 @@
 //! The rows of a plan.
 
-ghost use Rattle.std.specs.Prelude.{◌≡◌, ◌<◌, true, length};
+ghost use Rattle.std.specs.Prelude.{◌≡◌, ◌<◌, ◌≤◌, ◌^◌, true, length, IfOk};
 ghost use Rattle.cxl_model.specs.System.{system_of};
 ghost use Rattle.cxl_legal.specs.Used.{is_used};
 ghost use Rattle.cxl_plan.specs.inner.Uses.{tree_alone};
+ghost use Rattle.cxl_legal.specs.Stated.{targets_word};
 ghost use Rattle.cxl_plan.specs.inner.Judging.{IsSettled};
+ghost use Rattle.cxl_plan.specs.inner.Planned.{tail_at, row_at, rows_at};
 
 use crate::planned::{planned_code, planned_ways};
 use crate::room::span_of;
@@ -29,6 +31,7 @@ pub(crate) fn rows(
     base: u64,
 ) -> Result<Vec<Row>, AllocError>
     requires { IsSettled (system_of image.now topo.now windows.now) request.now uses.now w.now }
+    ensures { IfOk result (λ rows. rows.items ≡ rows_at topo.now.nodes image.now request.now w.now base) }
 {
     let mut rows = Vec::with_capacity(alloc, uses.nodes.len())?;
     for node in &uses.nodes {
@@ -53,6 +56,7 @@ fn row(
     requires settled { IsSettled (system_of image.now topo.now windows.now) request.now uses.now w.now }
     requires here { node < length topo.now.nodes }
     requires used { is_used (tree_alone topo.now.nodes) request.now node ≡ true }
+    ensures { result ≡ row_at topo.now.nodes image.now request.now w.now base node }
 {
     let _count = topo.count();
     let ways = planned_ways(topo, request, uses, node);
@@ -87,6 +91,7 @@ fn tail(
     requires settled { IsSettled (system_of image.now topo.now windows.now) request.now uses.now w.now }
     requires here { node < length topo.now.nodes }
     requires used { is_used (tree_alone topo.now.nodes) request.now node ≡ true }
+    ensures { result ≡ tail_at topo.now.nodes image.now request.now node }
 {
     tree_laws();
     let _count = topo.count();
@@ -99,10 +104,13 @@ fn tail(
 }
 
 /// A target list, the first port in the lowest byte.
-fn targets_word(ports: &[u8]) -> u64 {
-    let mut word = 0;
-    for port in ports.iter().rev() {
-        word = (word << 8) | u64::from(*port);
+fn targets_word(ports: &[u8]) -> u64
+    requires { length ports.now ≤ 8 }
+    ensures value { result ≡ targets_word ports.now }
+    ensures low { result < 256 ^ length ports.now }
+{
+    match ports.split_first() {
+        Some((first, rest)) => u64::from(*first) + 256 * targets_word(rest),
+        None => 0,
     }
-    word
 }

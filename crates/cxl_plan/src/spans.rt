@@ -1,13 +1,16 @@
 //! The spans of a plan, by slot.
 
-ghost use Rattle.std.specs.Prelude.{◌≡◌, ◌<◌, ◌≤◌, ◌^◌, true, false, length};
+ghost use Rattle.std.specs.Prelude.{◌≡◌, ℕ, ◌*◌, ◌/◌, ◌%◌, ◌<◌, ◌≤◌, ◌^◌, true, false, length, slice_get, Some, IfOk};
+ghost use Rattle.cxl_model.specs.declared.found.Place.{Place};
 ghost use Rattle.cxl_enc.specs.Codes.{bits_of};
 ghost use Rattle.cxl_topo.specs.Tree.{is_endpoint_at};
 ghost use Rattle.cxl_model.specs.System.{system_of};
 ghost use Rattle.cxl_model.specs.Regions.{target_position};
-ghost use Rattle.cxl_legal.specs.Used.{is_used, is_port_used};
-ghost use Rattle.cxl_plan.specs.inner.Uses.{tree_alone, AreUses, HasWays};
+ghost use Rattle.cxl_legal.specs.Used.{is_used, is_port_used, request_ways};
+ghost use Rattle.cxl_legal.specs.Stated.{IsStatedPlace};
+ghost use Rattle.cxl_plan.specs.inner.Uses.{tree_alone, AreUses, HasWays, ports_at, ways_at, ways_above_at};
 ghost use Rattle.cxl_plan.specs.inner.Judging.{IsSettled};
+ghost use Rattle.cxl_plan.specs.inner.Planned.{ReachesAt};
 
 use crate::planned::{planned_ways, ports_above};
 use crate::room::span_of;
@@ -30,6 +33,9 @@ pub(crate) fn places(
     w: &Window,
 ) -> Result<Vec<Place>, AllocError>
     requires { IsSettled (system_of image.now topo.now windows.now) request.now uses.now w.now }
+    ensures slots { IfOk result (λ places. length places.items ≡ request_ways request.now) }
+    ensures places { IfOk result (λ places. (slot : ℕ) (place : Place) → slice_get places.items slot ≡ Some place
+        → IsStatedPlace (system_of image.now topo.now windows.now) request.now w.now slot place) }
 {
     let ways = request.endpoints.items().len() as u8;
     let mut places = Vec::with_capacity(alloc, usize::from(ways))?;
@@ -51,6 +57,7 @@ fn place_of(
 ) -> Place
     requires settled { IsSettled (system_of image.now topo.now windows.now) request.now uses.now w.now }
     requires slot { slot < 16 }
+    ensures { IsStatedPlace (system_of image.now topo.now windows.now) request.now w.now slot result }
 {
     tree_laws();
     let _count = topo.count();
@@ -59,7 +66,9 @@ fn place_of(
     let endpoint = reached(topo, request, uses, w, slot, bridge);
     Place {
         endpoint,
-        start: span_of(image, topo, windows, request, endpoint).unwrap().start,
+        start: span_of(image, topo, windows, request, endpoint)
+            .unwrap()
+            .start,
     }
 }
 
@@ -83,6 +92,7 @@ fn reached(topo: &Topo, request: &Request, uses: &Uses, w: &Window, slot: u8, no
     requires used { is_used (tree_alone topo.now.nodes) request.now node ≡ true }
     ensures endpoint { is_endpoint_at topo.now.nodes result ≡ true }
     ensures used { is_used (tree_alone topo.now.nodes) request.now result ≡ true }
+    ensures reaches { ReachesAt topo.now.nodes request.now w.now slot node result }
 {
     // A child comes after its parent.
     tree_laws();
@@ -102,7 +112,9 @@ fn port_of(topo: &Topo, request: &Request, uses: &Uses, w: &Window, slot: u8, no
     requires here { node < length topo.now.nodes }
     requires used { is_used (tree_alone topo.now.nodes) request.now node ≡ true }
     requires port { is_endpoint_at topo.now.nodes node ≡ false }
-    ensures { is_port_used (tree_alone topo.now.nodes) request.now node result ≡ true }
+    ensures used { is_port_used (tree_alone topo.now.nodes) request.now node result ≡ true }
+    ensures port { slice_get (ports_at topo.now.nodes request.now node)
+        (slot / (2 ^ bits_of w.now.ways * ways_above_at topo.now.nodes request.now node) % ways_at topo.now.nodes request.now node) ≡ Some result }
 {
     let ports = uses.ports[node as usize].as_slice();
     let ways = u32::from(planned_ways(topo, request, uses, node));

@@ -77,7 +77,12 @@ fn mark_node(marks: &mut Vec<bool>, node: u32)
 }
 
 /// How many of the endpoints lie under each node. Takes memory.
-fn counts(alloc: Global, topo: &Topo, endpoints: &[u32], marks: &[bool]) -> Result<Vec<u8>, AllocError>
+fn counts(
+    alloc: Global,
+    topo: &Topo,
+    endpoints: &[u32],
+    marks: &[bool],
+) -> Result<Vec<u8>, AllocError>
     requires named { All (λ m. is_endpoint_at topo.now.nodes m ≡ true) endpoints.now }
     requires few { length endpoints.now ≤ 16 }
     requires marked { AreMarks topo.now.nodes endpoints.now marks.now }
@@ -143,7 +148,12 @@ fn used_nodes(alloc: Global, topo: &Topo, counts: &[u8]) -> Result<Vec<u32>, All
 }
 
 /// The used ports of each node, in rising order. Takes memory.
-fn used_ports(alloc: Global, topo: &Topo, counts: &[u8], nodes: &[u32]) -> Result<Vec<Vec<u8>>, AllocError>
+fn used_ports(
+    alloc: Global,
+    topo: &Topo,
+    counts: &[u8],
+    nodes: &[u32],
+) -> Result<Vec<Vec<u8>>, AllocError>
     requires count { length counts.now ≡ length topo.now.nodes }
     requires inside { All (λ n. n < length topo.now.nodes) nodes.now }
     ensures { (request : Request) → HasBytePorts topo.now.nodes → AreCounts topo.now.nodes request.endpoints counts.now
@@ -158,7 +168,13 @@ fn used_ports(alloc: Global, topo: &Topo, counts: &[u8], nodes: &[u32]) -> Resul
 }
 
 /// The used ports of a node, in rising order. Takes memory.
-fn ports_of(alloc: Global, topo: &Topo, counts: &[u8], nodes: &[u32], node: u32) -> Result<Vec<u8>, AllocError>
+fn ports_of(
+    alloc: Global,
+    topo: &Topo,
+    counts: &[u8],
+    nodes: &[u32],
+    node: u32,
+) -> Result<Vec<u8>, AllocError>
     requires here { node < length topo.now.nodes }
     requires count { length counts.now ≡ length topo.now.nodes }
     requires inside { All (λ n. n < length topo.now.nodes) nodes.now }

@@ -29,7 +29,13 @@ use cxl_topo::{NodeKind, Topo, tree_laws};
 use cxl_window::{Verdict, Window};
 
 /// The least base in a window that takes the request, or the first reason why it does not.
-pub(crate) fn base_in(topo: &Topo, request: &Request, uses: &Uses, floor: u64, w: &Window) -> Result<u64, Reason>
+pub(crate) fn base_in(
+    topo: &Topo,
+    request: &Request,
+    uses: &Uses,
+    floor: u64,
+    w: &Window,
+) -> Result<u64, Reason>
     requires uses { AreUses topo.now.nodes request.now uses.now }
     requires ways { HasWays topo.now.nodes request.now }
     requires known { is_ways (request_ways request.now) ≡ true }
@@ -128,7 +134,9 @@ fn are_used(topo: &Topo, request: &Request, uses: &Uses, w: &Window) -> bool
     requires { AreUses topo.now.nodes request.now uses.now }
     ensures { result ≡ list_all (is_used_bridge (tree_alone topo.now.nodes) request.now) w.now.targets }
 {
-    w.targets().iter().all(|uid| is_used_bridge(topo, request, uses, *uid))
+    w.targets()
+        .iter()
+        .all(|uid| is_used_bridge(topo, request, uses, *uid))
 }
 
 /// Whether a UID is that of a used bridge.

@@ -8,6 +8,7 @@ pub mod Tables
 pub mod Topologies
 pub mod Images
 pub mod Hosts
+pub mod Resets
 pub mod InBlocks
 pub mod ListLines
 pub mod Lists

@@ -1,12 +1,11 @@
 -- Where a region may stand, of all windows.
-use Rattle.std.specs.Prelude.{◌≡◌, ℕ, ◌<◌, slice_get, Some}
+use Rattle.std.specs.Prelude.{◌≡◌, slice_get, Some}
 use Rattle.cxl_window.specs.Fields.{WindowFields}
 use Rattle.cxl_model.specs.declared.request.Request.{Request}
-use Rattle.cxl_model.specs.declared.plan.Reason.{Reason}
 use Rattle.cxl_model.specs.System.{System}
 use Rattle.cxl_plan.specs.declared.choosing.Choice.{Choice}
 use Rattle.cxl_plan.specs.declared.choosing.Choice.TheVariants as choices
-use Rattle.cxl_plan.specs.Faults.{Takes, AreReasons, TakesFirst}
+use Rattle.cxl_plan.specs.Faults.{AreReasons, TakesFirst}
 
 abbrev pub IsChoice : System → Request → Choice → Type 0
 IsChoice s request (choices.Found i base) = (w : WindowFields) × (slice_get s.windows i ≡ Some w) × TakesFirst s request w base

@@ -1,5 +1,5 @@
 -- What is tested of each used node.
-use Rattle.std.specs.Prelude.{◌≡◌, ℕ, ◌≤◌, ◌==◌, ◌&&◌, ◌||◌, not, Bool, true, false, List, [], length, find, None}
+use Rattle.std.specs.Prelude.{◌≡◌, ℕ, ◌≤◌, not, Bool, true, false, List, [], length, find, None}
 use Rattle.std.specs.List.{range_with_len}
 use Rattle.cxl_enc.specs.Codes.{is_ways}
 use Rattle.cxl_enc.specs.Limits.{address_limit}
@@ -13,8 +13,8 @@ use Rattle.cxl_model.specs.declared.request.Request.{Request}
 use Rattle.cxl_model.specs.System.{System, IsSystem}
 use Rattle.cxl_model.specs.Accepted.{KeepsBlocks}
 use Rattle.cxl_model.specs.Rules.{permits}
-use Rattle.cxl_legal.specs.Used.{AreEndpoints, HasBytePorts, request_ways}
-use Rattle.cxl_legal.specs.Endpoints.{FitsEndpoints, IsSize, has_even_ports, has_even_children, has_bridge_share, is_uneven}
+use Rattle.cxl_legal.specs.Used.{AreEndpoints, request_ways}
+use Rattle.cxl_legal.specs.Endpoints.{FitsEndpoints, IsSize, has_even_ports, has_even_children, is_uneven}
 use Rattle.cxl_legal.specs.Windows.{FitsWindow, has_used_bridges, agrees_on_gran, can_select, can_have_ways}
 use Rattle.cxl_plan.specs.declared.used.Uses.{Uses}
 use Rattle.cxl_plan.specs.inner.Uses.{tree_alone, AreUses, HasWays}

@@ -1,4 +1,4 @@
-use Rattle.std.proofs.Common.{◌≡◌, ℕ, ◌<◌, ◌≤◌, max, get_or, length, sym, ap, subst, ◌∙◌, arith}
+use Rattle.std.proofs.Common.{◌≡◌, ℕ, ◌≤◌, max, get_or, sym, ap, subst, ◌∙◌, arith}
 use Rattle.cxl_enc.specs.Limits.{address_limit}
 use Rattle.cxl_model.specs.System.{system_of, ram_at, pmem_at}
 use Rattle.cxl_legal.specs.Bases.{last_end}

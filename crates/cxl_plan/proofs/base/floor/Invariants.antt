@@ -1,4 +1,4 @@
-use Rattle.std.proofs.Common.{◌≡◌, ℕ, ◌<◌, ◌≤◌, get_or}
+use Rattle.std.proofs.Common.{ℕ, ◌<◌, ◌≤◌, get_or}
 use Rattle.cxl_enc.specs.Limits.{address_limit}
 use Rattle.cxl_legal.specs.Bases.{last_end}
 use Rattle.cxl_plan.specs.inner.Judging.{without_windows}

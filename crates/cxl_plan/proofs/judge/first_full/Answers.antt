@@ -1,10 +1,9 @@
-use Rattle.std.proofs.Common.{◌≡◌, ℕ, ◌<◌, ◌≤◌, ◌&&◌, Bool, true, false, get_or, length, sym, ap, refl, ◌∙◌, arith}
+use Rattle.std.proofs.Common.{◌≡◌, ◌&&◌, Bool, true, false, get_or, sym, refl, ◌∙◌, arith}
 use Rattle.std.proofs.lemmas.Bool.{and_parts, and_from}
 use Rattle.cxl_span.specs.Allotting.{all_committed}
 use Rattle.cxl_model.specs.System.{decoders_at}
 use Rattle.cxl_legal.specs.Used.{is_used}
 use Rattle.cxl_legal.specs.Endpoints.{lacks_decoder}
-use Rattle.cxl_plan.specs.inner.Uses.{tree_alone}
 use Rattle.cxl_plan.specs.inner.Judging.{without_windows}
 use Rattle.cxl_plan.proofs.UsedItems.{item_used, least_item, no_item}
 use Rattle.cxl_plan.proofs.judge.first_full.Goals as goal

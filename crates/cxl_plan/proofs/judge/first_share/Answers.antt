@@ -1,4 +1,4 @@
-use Rattle.std.proofs.Common.{◌≡◌, ℕ, ◌<◌, List, Option, Some, get_or, length, ap, ◌∙◌}
+use Rattle.std.proofs.Common.{ℕ, ◌<◌, List, Some, get_or, length, ap, ◌∙◌}
 use Rattle.std.specs.Prelude.{option_map}
 use Rattle.cxl_legal.specs.Used.{count_under}
 use Rattle.cxl_plan.specs.inner.Uses.{tree_alone}

@@ -1,4 +1,4 @@
-use Rattle.std.proofs.Common.{◌≡◌, ℕ, ◌<◌, ◌≤◌, true, get_or, length, sym, ◌∙◌, arith}
+use Rattle.std.proofs.Common.{sym, ◌∙◌, arith}
 use Rattle.cxl_plan.specs.inner.Judging.{uneven_at}
 use Rattle.cxl_plan.proofs.UsedItems.{item_inside, item_used, least_item, no_item}
 use Rattle.cxl_plan.proofs.UnevenNodes.{uneven_used}

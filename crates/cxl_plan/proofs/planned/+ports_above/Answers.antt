@@ -1,11 +1,8 @@
-use Rattle.std.proofs.Common.{◌≡◌, ℕ, ◌+◌, ◌*◌, ◌<◌, ◌≤◌, Some, None, length, sym, ap, ◌∙◌, arith}
-use Rattle.std.specs.Prelude.{slice_get}
-use Rattle.cxl_topo.specs.declared.node.Node.{Node}
-use Rattle.cxl_topo.specs.Tree.{parent_of}
+use Rattle.std.proofs.Common.{ℕ, ◌+◌, ◌*◌, Some, None, sym, ap, ◌∙◌, arith}
 use Rattle.cxl_enc.specs.Codes.{bits_of}
-use Rattle.cxl_plan.specs.inner.Uses.{ways_at, ways_above_at, bits_above_at}
+use Rattle.cxl_plan.specs.inner.Uses.{ways_at}
 use Rattle.cxl_plan.proofs.Trees.{KnownTree, parent_used, parent_is_port}
-use Rattle.cxl_plan.proofs.PlannedWays.{ways_root, bits_root, ways_step, bits_step, ways_few, ways_some, bits_few, up_of}
+use Rattle.cxl_plan.proofs.PlannedWays.{ways_root, bits_root, ways_step, bits_step, ways_few, bits_few, up_of}
 use Rattle.cxl_plan.proofs.planned.+ports_above.Goals as goal
 
 pub returns-in_default-clause-ways : goal.returns-in_default-clause-ways

@@ -1,8 +1,7 @@
-use Rattle.std.proofs.Common.{◌≡◌, ℕ, ◌+◌, sym, ap, ◌∙◌}
+use Rattle.std.proofs.Common.{ℕ, ◌+◌, sym, ap, ◌∙◌}
 use Rattle.cxl_enc.specs.Codes.{bits_of}
 use Rattle.cxl_model.specs.Plans.{plan_code}
 use Rattle.cxl_legal.specs.Used.{request_ways}
-use Rattle.cxl_plan.specs.inner.Uses.{bits_above_at}
 use Rattle.cxl_plan.proofs.PlannedWays.{code_one, code_endpoint, code_port}
 use Rattle.cxl_plan.proofs.planned.planned_code.Goals as goal
 

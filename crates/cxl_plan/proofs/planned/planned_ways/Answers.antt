@@ -1,10 +1,7 @@
-use Rattle.std.proofs.Common.{◌≡◌, ℕ, ◌<◌, ◌≤◌, Vec, Global, true, false, length, get_or, sym, ap, subst, ◌∙◌, arith}
-use Rattle.std.specs.Prelude.{slice_get, Some}
-use Rattle.std.proofs.lemmas.Option.{slice_get-get_or}
+use Rattle.std.proofs.Common.{◌≡◌, ℕ, ◌≤◌, true, length, sym, ap, subst, ◌∙◌, arith}
 use Rattle.cxl_enc.specs.Codes.{is_ways}
-use Rattle.cxl_topo.specs.Tree.{is_endpoint_at}
-use Rattle.cxl_plan.specs.inner.Uses.{ports_at, ways_at}
-use Rattle.cxl_plan.proofs.PlannedWays.{endpoint_ways, port_ways, few_ways, count_of_ports}
+use Rattle.cxl_plan.specs.inner.Uses.{ways_at}
+use Rattle.cxl_plan.proofs.PlannedWays.{endpoint_ways, few_ways, count_of_ports}
 use Rattle.cxl_plan.proofs.planned.planned_ways.Goals as goal
 
 pub overflow_cast-result : goal.overflow_cast-result

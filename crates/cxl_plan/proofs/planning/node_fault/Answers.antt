@@ -1,4 +1,4 @@
-use Rattle.std.proofs.Common.{◌≡◌, ℕ, ◌<◌, ◌≤◌, Some, None, length, sym, ◌∙◌, arith}
+use Rattle.std.proofs.Common.{Some, None, sym, arith}
 use Rattle.cxl_model.specs.System.{system_of}
 use Rattle.cxl_plan.proofs.Trees.{KnownTree}
 use Rattle.cxl_plan.proofs.UsedItems.{all_inside}

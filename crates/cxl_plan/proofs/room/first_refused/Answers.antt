@@ -1,7 +1,6 @@
-use Rattle.std.proofs.Common.{◌≡◌, ℕ, ◌<◌, ◌≤◌, true, get_or, length, sym, ap, subst, ◌∙◌, arith}
-use Rattle.std.specs.Prelude.{Contains}
+use Rattle.std.proofs.Common.{get_or, ap, subst, ◌∙◌, arith}
 use Rattle.cxl_topo.specs.Tree.{is_endpoint_at}
-use Rattle.cxl_model.specs.System.{System, system_of}
+use Rattle.cxl_model.specs.System.{system_of}
 use Rattle.cxl_legal.specs.Endpoints.{HasRoom}
 use Rattle.cxl_plan.proofs.Trees.{KnownTree}
 use Rattle.cxl_plan.proofs.UsedItems.{item_inside, item_used, used_stands, asked_used, asked_endpoint, used_asked}

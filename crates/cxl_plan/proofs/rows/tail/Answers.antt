@@ -1,6 +1,13 @@
-use Rattle.std.proofs.Common.{◌≡◌, Ok, true, refl, sym, subst, ◌∙◌, Result}
+use Rattle.std.proofs.Common.{◌≡◌, ℕ, ◌≤◌, Vec, Global, List, Ok, length, refl, sym, ap, subst, ◌∙◌, arith}
+use Rattle.std.specs.Prelude.{slice_get, Some}
+use Rattle.std.proofs.lemmas.Option.{slice_get-get_or}
+use Rattle.cxl_model.specs.System.{system_of, decoders_at, ram_at, pmem_at}
+use Rattle.cxl_legal.specs.Endpoints.{share_of}
+use Rattle.cxl_legal.specs.Stated.{targets_word}
+use Rattle.cxl_plan.specs.inner.Uses.{ports_at}
+use Rattle.cxl_plan.proofs.StatedRows.{skip_is, tail_endpoint, tail_port}
+use Rattle.cxl_plan.proofs.FaultOrder.{few_ports}
 use Rattle.std.specs.Result.{IsOk}
-use Rattle.cxl_topo.specs.Tree.{is_endpoint_at}
 use Rattle.cxl_plan.proofs.Trees.{KnownTree}
 use Rattle.cxl_plan.proofs.UsedItems.{used_asked}
 use Rattle.cxl_plan.proofs.rows.tail.Goals as goal
@@ -13,3 +20,37 @@ unwrap-requires c =
     let asked = used_asked nodes tree request c.requires.settled.ready.named c.args.node (sym c.is_endpoint.ensures ∙ c.if-is_endpoint.true) c.requires.used in
     let room = c.requires.settled.endpoints.room c.args.node asked in
     subst (λ r. IsOk r) (sym ((c.span_of.ensures (Ok room.0)).1 room.1)) refl
+
+pub targets_word-requires : goal.targets_word-requires
+targets_word-requires c =
+    let s = system_of c.args.image.now c.args.topo.now c.args.windows.now in
+    let tables = c.args.uses.now.ports.items in
+    let node = c.args.node in
+    let own : Vec ℕ Global = c.index.result.now in
+    let counted = c.requires.settled.tables.ports.count in
+    let here = c.requires.here in
+    let there : slice_get tables node ≡ Some own = slice_get-get_or tables node own (omega arith) ∙ ap Some (sym c.index.ensures) in
+    let is : c.as_slice.result.now ≡ ports_at s.nodes c.args.request.now node = c.as_slice.ensures.value ∙ c.requires.settled.tables.ports.each node own there in
+    let few = few_ports s c.args.request.now c.requires.settled.endpoints node c.requires.used here (sym c.is_endpoint.ensures ∙ c.if-is_endpoint.false) in
+    subst (λ (xs : List ℕ). length xs ≤ 8) (sym is) few
+
+pub returns-then-is_endpoint : goal.returns-then-is_endpoint
+returns-then-is_endpoint c =
+    let s = system_of c.args.image.now c.args.topo.now c.args.windows.now in
+    let node = c.args.node in
+    let request = c.args.request.now in
+    let span = c.unwrap.result in
+    let room = (c.span_of.ensures (Ok span)).0 c.unwrap.ensures in
+    skip_is (decoders_at s node) (ram_at s node) (pmem_at s node) request.kind (share_of request) span room ∙ sym (tail_endpoint s.nodes c.args.image.now request node (sym c.is_endpoint.ensures ∙ c.if-is_endpoint.true))
+
+pub returns-else-is_endpoint : goal.returns-else-is_endpoint
+returns-else-is_endpoint c =
+    let s = system_of c.args.image.now c.args.topo.now c.args.windows.now in
+    let tables = c.args.uses.now.ports.items in
+    let node = c.args.node in
+    let own : Vec ℕ Global = c.index.result.now in
+    let counted = c.requires.settled.tables.ports.count in
+    let here = c.requires.here in
+    let there : slice_get tables node ≡ Some own = slice_get-get_or tables node own (omega arith) ∙ ap Some (sym c.index.ensures) in
+    let is : c.as_slice.result.now ≡ ports_at s.nodes c.args.request.now node = c.as_slice.ensures.value ∙ c.requires.settled.tables.ports.each node own there in
+    c.targets_word.ensures.value ∙ ap targets_word is ∙ sym (tail_port s.nodes c.args.image.now c.args.request.now node (sym c.is_endpoint.ensures ∙ c.if-is_endpoint.false))

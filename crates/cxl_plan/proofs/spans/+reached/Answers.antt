@@ -1,4 +1,5 @@
-use Rattle.std.proofs.Common.{◌≡◌, ℕ, ◌-◌, ◌<◌, Some, true, length, sym, ap, subst, refl, ◌∙◌, arith}
+use Rattle.cxl_plan.proofs.StatedSpans.{reach_end, reach_past}
+use Rattle.std.proofs.Common.{◌≡◌, ℕ, true, sym, subst, refl, ◌∙◌, arith}
 use Rattle.std.specs.Prelude.{IsSome}
 use Rattle.std.proofs.lemmas.Option.{same_Some}
 use Rattle.cxl_legal.specs.Used.{is_used}
@@ -11,15 +12,23 @@ pub unwrap-child-requires : goal.unwrap-child-requires
 unwrap-child-requires t c =
     let nodes = c.args.topo.now.nodes in
     let tree : KnownTree nodes = record { tree = c.count-count.ensures.tree; laws = c.tree_laws.ensures.laws nodes c.count-count.ensures.tree } in
-    let child = used_child nodes tree c.args.request.now c.args.node c.port_of-port.result c.port_of-port.ensures in
+    let child = used_child nodes tree c.args.request.now c.args.node c.port_of-port.result c.port_of-port.ensures.used in
     subst (λ o. IsSome o) (sym (c.child.ensures.child ∙ child.1.is)) refl
 
 pub reached-requires : goal.reached-requires
 reached-requires t c =
     let nodes = c.args.topo.now.nodes in
     let tree : KnownTree nodes = record { tree = c.count-count.ensures.tree; laws = c.tree_laws.ensures.laws nodes c.count-count.ensures.tree } in
-    let child = used_child nodes tree c.args.request.now c.args.node c.port_of-port.result c.port_of-port.ensures in
+    let child = used_child nodes tree c.args.request.now c.args.node c.port_of-port.result c.port_of-port.ensures.used in
     let same : child.0 ≡ c.unwrap-child.result = same_Some child.0 c.unwrap-child.result (sym child.1.is ∙ sym c.child.ensures.child ∙ c.unwrap-child.ensures) in
     let inside = child.1.inside in
     let later = child.1.later in
     (omega (arith, c.decreases), (c.requires.uses, (c.requires.ways, (omega arith, subst (λ (n : ℕ). is_used (tree_alone nodes) c.args.request.now n ≡ true) same child.1.used))))
+
+pub returns-then-is_endpoint-clause-reaches : goal.returns-then-is_endpoint-clause-reaches
+returns-then-is_endpoint-clause-reaches t c = reach_end c.args.topo.now.nodes c.args.request.now c.args.w.now c.args.slot c.args.node (sym c.is_endpoint.ensures ∙ c.if-is_endpoint.true)
+
+pub returns-clause-reaches : goal.returns-clause-reaches
+returns-clause-reaches t c =
+    reach_past c.args.topo.now.nodes c.args.request.now c.args.w.now c.args.slot c.args.node c.port_of-port.result c.unwrap-child.result c.reached.result c.requires.here (sym c.is_endpoint.ensures ∙ c.if-is_endpoint.false) c.port_of-port.ensures.port
+    (sym c.child.ensures.child ∙ c.unwrap-child.ensures) c.reached.ensures.reaches

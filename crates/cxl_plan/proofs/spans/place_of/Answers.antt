@@ -1,4 +1,12 @@
-use Rattle.std.proofs.Common.{◌≡◌, ℕ, ◌<◌, ◌≤◌, List, Some, Ok, true, length, get_or, refl, sym, ap, subst, ◌∙◌, arith}
+use Rattle.std.specs.Prelude.{slice_get}
+use Rattle.std.proofs.lemmas.Option.{slice_get-get_or}
+use Rattle.cxl_topo.specs.Tree.{bridge_with}
+use Rattle.cxl_model.specs.System.{system_of, decoders_at, ram_at, pmem_at}
+use Rattle.cxl_model.specs.Regions.{target_position}
+use Rattle.cxl_legal.specs.Endpoints.{share_of}
+use Rattle.cxl_plan.proofs.StatedRows.{least_start}
+use Rattle.cxl_plan.proofs.StatedSpans.{reached_over}
+use Rattle.std.proofs.Common.{Some, ◌≡◌, ℕ, List, Ok, true, length, get_or, refl, sym, ap, subst, ◌∙◌, arith}
 use Rattle.std.specs.Prelude.{IsSome}
 use Rattle.std.specs.Result.{IsOk}
 use Rattle.std.specs.List.{list_all}
@@ -49,3 +57,28 @@ unwrap-requires c =
     let asked = used_asked nodes tree request c.requires.settled.ready.named c.reached-endpoint.result c.reached-endpoint.ensures.endpoint c.reached-endpoint.ensures.used in
     let room = c.requires.settled.endpoints.room c.reached-endpoint.result asked in
     subst (λ r. IsOk r) (sym ((c.span_of.ensures (Ok room.0)).1 room.1)) refl
+
+pub returns : goal.returns
+returns c =
+    let s = system_of c.args.image.now c.args.topo.now c.args.windows.now in
+    let nodes = c.args.topo.now.nodes in
+    let request = c.args.request.now in
+    let w = c.args.w.now in
+    let m = c.reached-endpoint.result in
+    let targets : List ℕ = c.targets.result.now in
+    let long = ap length c.targets.ensures.value in
+    let each = c.targets.ensures.each_way in
+    let within = c.target_position.ensures.within in
+    let from = c.from.ensures in
+    let uid : ℕ = get_or targets c.from.result 0 in
+    let there : slice_get targets c.from.result ≡ Some uid = slice_get-get_or targets c.from.result 0 (omega arith) in
+    let at : slice_get w.targets (target_position w c.args.slot) ≡ Some uid =
+    ap (slice_get w.targets) (sym (c.from.ensures ∙ c.target_position.ensures.value)) ∙ ap (λ (xs : List ℕ). slice_get xs c.from.result) (sym c.targets.ensures.value) ∙ there in
+    let bridge : bridge_with nodes uid ≡ Some c.unwrap-bridge.result = sym c.bridge.ensures.bridge ∙ c.unwrap-bridge.ensures in
+    let span = c.unwrap.result in
+    record {
+      bridge = c.unwrap-bridge.result;
+      target = rw at bridge;
+      reaches = reached_over nodes request w c.args.slot c.unwrap-bridge.result m c.reached-endpoint.ensures.reaches c.args.image.now c.args.windows.now;
+      start = least_start (decoders_at s m) (ram_at s m) (pmem_at s m) request.kind (share_of request) span ((c.span_of.ensures (Ok span)).0 c.unwrap.ensures);
+    }

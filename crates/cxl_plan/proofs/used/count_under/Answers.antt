@@ -1,4 +1,4 @@
-use Rattle.std.proofs.Common.{◌≤◌, length, take, arith, length-take}
+use Rattle.std.proofs.Common.{take, arith, length-take}
 use Rattle.cxl_model.specs.Counts.{is_under}
 use Rattle.cxl_plan.proofs.Tables.{filter_short}
 use Rattle.cxl_plan.proofs.used.count_under.Goals as goal

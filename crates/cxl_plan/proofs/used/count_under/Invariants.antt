@@ -1,4 +1,4 @@
-use Rattle.std.proofs.Common.{◌≡◌, ℕ, length, take, filter}
+use Rattle.std.proofs.Common.{◌≡◌, length, take, filter}
 use Rattle.cxl_model.specs.Counts.{is_under}
 use Rattle.cxl_plan.proofs.used.count_under.Given as goal
 

@@ -1,4 +1,4 @@
-use Rattle.std.proofs.Common.{◌≡◌, ℕ, ◌<◌, ◌≤◌, Bool, List, false, length, get_or, arith, sym, subst, ◌∙◌}
+use Rattle.std.proofs.Common.{ℕ, ◌≤◌, List, length, arith, subst}
 use Rattle.std.proofs.lemmas.List.{take_all}
 use Rattle.cxl_plan.specs.inner.Uses.{AreMarks}
 use Rattle.cxl_plan.proofs.Tables.{endpoint_inside, path_marked}

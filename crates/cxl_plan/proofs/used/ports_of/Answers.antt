@@ -1,4 +1,4 @@
-use Rattle.std.proofs.Common.{◌≡◌, ℕ, length, sym, ◌∙◌, List, Vec, Global}
+use Rattle.std.proofs.Common.{sym, ◌∙◌}
 use Rattle.cxl_plan.specs.inner.Uses.{ports_at}
 use Rattle.cxl_plan.proofs.Trees.{KnownTree}
 use Rattle.cxl_plan.proofs.Tables.{ports_listed, no_ports, not_counted, then_ok}

@@ -1,4 +1,4 @@
-use Rattle.std.proofs.Common.{◌≡◌, ℕ, ◌<◌, ◌≤◌, Vec, Global, get_or, ap, ◌∙◌}
+use Rattle.std.proofs.Common.{ℕ, Vec, Global, get_or, ap, ◌∙◌}
 use Rattle.std.specs.Prelude.{nat_lt}
 use Rattle.std.proofs.lemmas.Bool.{lt-ltb, le-ltb}
 use Rattle.cxl_plan.proofs.Tables.{keep_number, skip_number}

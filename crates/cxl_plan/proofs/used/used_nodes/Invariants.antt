@@ -1,4 +1,4 @@
-use Rattle.std.proofs.Common.{◌≡◌, ℕ, length, filter, get_or}
+use Rattle.std.proofs.Common.{◌≡◌, filter, get_or}
 use Rattle.std.specs.Prelude.{nat_lt}
 use Rattle.std.specs.List.{range_with_len}
 use Rattle.cxl_plan.proofs.used.used_nodes.Given as goal

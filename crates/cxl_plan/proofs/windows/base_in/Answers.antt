@@ -1,4 +1,4 @@
-use Rattle.std.proofs.Common.{◌≡◌, ℕ, ◌+◌, ◌<◌, ◌≤◌, None, sym, ◌∙◌, arith}
+use Rattle.std.proofs.Common.{None, arith}
 use Rattle.cxl_plan.specs.inner.Judging.{over}
 use Rattle.cxl_plan.proofs.Trees.{KnownTree}
 use Rattle.cxl_plan.proofs.Reasons.{fits_window, least_base_is, from_5, from_6, from_7, found_select}

@@ -1,4 +1,4 @@
-use Rattle.std.proofs.Common.{◌≡◌, ℕ, sym, ap, refl, ◌∙◌}
+use Rattle.std.proofs.Common.{◌≡◌, sym, ap, refl, ◌∙◌}
 use Rattle.cxl_enc.specs.Codes.{bits_of}
 use Rattle.cxl_legal.specs.Endpoints.{cap_at}
 use Rattle.cxl_plan.specs.inner.Uses.{tree_alone}

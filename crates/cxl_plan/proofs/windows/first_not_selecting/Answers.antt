@@ -1,4 +1,4 @@
-use Rattle.std.proofs.Common.{◌≡◌, ℕ, ◌<◌, ◌≤◌, not, true, false, get_or, length, sym, ap, ◌∙◌, arith}
+use Rattle.std.proofs.Common.{not, sym, ap, ◌∙◌, arith}
 use Rattle.cxl_plan.specs.inner.Judging.{selects_at}
 use Rattle.cxl_plan.proofs.UsedItems.{item_inside, item_used, least_item, no_item}
 use Rattle.cxl_plan.proofs.Reasons.{not_selecting_used}

@@ -1,4 +1,4 @@
-use Rattle.std.proofs.Common.{◌≡◌, ℕ, Option, Some, None, sym, ap, ◌∙◌}
+use Rattle.std.proofs.Common.{ℕ, Some, None, sym, ap, ◌∙◌}
 use Rattle.cxl_window.specs.Position.{is_usable}
 use Rattle.cxl_regs.specs.Words.{has_bit}
 use Rattle.cxl_plan.specs.inner.Judging.{over}

@@ -1,4 +1,4 @@
-use Rattle.std.proofs.Common.{◌≡◌, ℕ, ◌<◌, ◌≤◌, not, true, false, get_or, length, sym, ap, ◌∙◌, arith}
+use Rattle.std.proofs.Common.{not, get_or, sym, ap, ◌∙◌, arith}
 use Rattle.cxl_legal.specs.Windows.{can_have_ways}
 use Rattle.cxl_plan.specs.inner.Uses.{tree_alone}
 use Rattle.cxl_plan.proofs.UsedItems.{item_inside, item_used, least_item, no_item}

@@ -1,4 +1,4 @@
-use Rattle.std.proofs.Common.{◌≡◌, ℕ, List, Option, Some, true, false, length, sym, ap, ◌∙◌}
+use Rattle.std.proofs.Common.{◌≡◌, ℕ, List, Option, Some, false, length, sym, ap, ◌∙◌}
 use Rattle.std.specs.Option.{option_map_or}
 use Rattle.cxl_enc.specs.Codes.{is_ways, code_in_table}
 use Rattle.cxl_regs.specs.Rules.{endpoint_ways_ok}

@@ -1,0 +1,43 @@
+-- An answer's plan is legal, and where it is a fault no plan is.
+use Rattle.std.proofs.Common.{◌≢◌, ℕ, Result, Ok, Err, IfOk, IfErr, OnOk}
+use Rattle.cxl_window.specs.Fields.{WindowFields}
+use Rattle.cxl_model.specs.declared.request.Request.{Request}
+use Rattle.cxl_model.specs.declared.plan.Plan.{Plan}
+use Rattle.cxl_model.specs.declared.plan.PlanFault.{PlanFault}
+use Rattle.cxl_model.specs.declared.plan.PlanFault.TheVariants as faults
+use Rattle.cxl_model.specs.System.{System, IsSystem}
+use Rattle.cxl_model.specs.Accepted.{IsAccepted}
+use Rattle.cxl_model.specs.Plans.{IsLegalPlanIn, IsLegalPlan}
+use Rattle.cxl_legal.specs.Used.{AreEndpoints, HasBytePorts}
+use Rattle.cxl_legal.specs.Endpoints.{FitsEndpoints}
+use Rattle.cxl_legal.specs.Stated.{IsStatedPlan, Fits}
+use Rattle.cxl_plan.specs.Faults.{IsFirstPlanFault, IsFirstPlan}
+use Rattle.cxl_plan.proofs.LegalPlans.{MeanEndpoints, MeanWindow, MeanBase, no_legal_plan}
+
+abbrev pub MakesLegal : Type 0
+MakesLegal = (s : System) (request : Request) (w : WindowFields) (base : ℕ) (plan : Plan) → Fits s request w base → IsStatedPlan s request w base plan → IsLegalPlanIn s request w plan
+
+module _ (s : System) (request : Request) (system : IsSystem s) (ports : HasBytePorts s.nodes) (accepted : IsAccepted s) (named : AreEndpoints s request) where
+  pub legal_answer : MakesLegal → (answer : Result Plan PlanFault) → OnOk answer (FitsEndpoints s request) → IfOk answer (IsFirstPlan s request) → IfOk answer (IsLegalPlan s request)
+  legal_answer law (Ok plan) fits is =
+      let takes = is.first.takes in
+      let all : Fits s request is.window plan.found.base = record {
+        system = system;
+        ports = ports;
+        accepted = accepted;
+        named = named;
+        endpoints = fits;
+        window = takes.window;
+        starts = record { can = takes.least.can; inside = takes.inside };
+      } in
+      (is.window, law s request is.window plan.found.base plan all is.stated)
+  legal_answer law (Err fault) fits is = tt
+
+  module _ (endpoints_law : MeanEndpoints) (window_law : MeanWindow) (base_law : MeanBase) where
+    pub no_plan : (fault : PlanFault) → fault ≢ faults.Memory → IsFirstPlanFault s request fault → (plan : Plan) → IsLegalPlan s request plan → ⊥
+    no_plan fault real is plan legal =
+        no_legal_plan endpoints_law window_law base_law s request system ports accepted named fault real is.holds legal.0 plan legal.1
+
+    pub no_plan_answer : (answer : Result Plan PlanFault) → IfErr answer (λ fault. fault ≢ faults.Memory → IsFirstPlanFault s request fault) → IfErr answer (λ fault. fault ≢ faults.Memory → (plan : Plan) → IsLegalPlan s request plan → ⊥)
+    no_plan_answer (Ok plan) is = tt
+    no_plan_answer (Err fault) is = λ real plan legal. no_plan fault real (is real) plan legal
