@@ -8,7 +8,7 @@ use Rattle.cxl_model.specs.System.{System}
 use Rattle.cxl_model.specs.declared.plan.Plan.{Plan}
 use Rattle.cxl_model.specs.declared.plan.PlanFault.{PlanFault}
 use Rattle.cxl_model.specs.declared.request.Request.{Request}
-use Rattle.cxl_plan.specs.Faults.{IsFirstPlanFault, IsFirstPlace}
+use Rattle.cxl_plan.specs.Faults.{IsFirstPlanFault, IsFirstPlan}
 use Rattle.cxl_reply.specs.Plans.{plan_text}
 use Rattle.cxl_reply.specs.Replies.{reply_text}
 use Rattle.cxl_reply.specs.declared.reply.Reply.{Reply}
@@ -42,11 +42,11 @@ asked_on_line nodes create = record {
 
 -- ---- what it comes to
 
--- every name is an endpoint's, and the plan is legal and stands in the first window that takes the request, at the least base there
+-- every name is an endpoint's, and the plan is legal: the one that is stated in the first window that takes the request, at the least base there
 pub record IsPlanFor (s : System) (create : Create) (plan : Plan) : Type 0 where
   pub known : first_unknown s.nodes create.endpoints ≡ None
   pub legal : IsLegalPlan s (asked_on_line s.nodes create) plan
-  pub place : IsFirstPlace s (asked_on_line s.nodes create) plan
+  pub first : IsFirstPlan s (asked_on_line s.nodes create) plan
 
 -- no plan is legal
 abbrev pub HasNoLegalPlan : System → Request → Type 0

@@ -1,17 +1,16 @@
-ghost use Rattle.std.specs.Prelude.{◌≡◌, ◌≢◌, ◌≤◌, ◌⊎◌, ℕ, true, List, length, All, IfOk, IfErr};
+ghost use Rattle.std.specs.Prelude.{◌≡◌, ◌≢◌, ℕ, ◌≤◌, ◌⊎◌, None, List, IfOk};
 ghost use Rattle.std.specs.List.{filter_map};
 ghost use Rattle.cxl_cedt.specs.CedtFields.{CedtFields};
-ghost use Rattle.cxl_image.specs.Images.{HasCapsOf};
 ghost use Rattle.cxl_io.specs.Sink.{Takes};
 ghost use Rattle.cxl_model.specs.Accepted.{IsAccepted};
 ghost use Rattle.cxl_model.specs.System.{IsSystem, system_of};
 ghost use Rattle.cxl_reply.specs.Plans.{IsToldPlan};
-ghost use Rattle.cxl_reply.specs.Told.{IsTold};
+ghost use Rattle.cxl_reply.specs.Told.{IsTold, IsToldFault};
 ghost use Rattle.cxl_script.specs.declared.command.Create.{Create};
-ghost use Rattle.cxl_topo.specs.Tree.{Tree, is_endpoint_at};
+ghost use Rattle.cxl_topo.specs.Tree.{Tree};
 ghost use Rattle.cxl_shell.specs.Answers.{ComesTo};
 ghost use Rattle.cxl_shell.specs.Ends.{IsStopped};
-ghost use Rattle.cxl_shell.specs.Form.{Plan};
+ghost use Rattle.cxl_shell.specs.Form as forms;
 ghost use Rattle.cxl_shell.specs.Readings.{ByTree, AreKnown};
 ghost use Rattle.cxl_shell.specs.Run.{EachRun};
 ghost use Rattle.cxl_shell.specs.commands.Plan.{endpoint_called, first_unknown, asked_on_line, planned, refused, IsPlanned, IsPlanText, IsRefusalText, HasPlan, HasNoPlan};
@@ -27,9 +26,10 @@ use cxl_enc::{FixedList, Name};
 use cxl_image::one_image_reading;
 use cxl_io::{Fetch, Memory};
 use cxl_model::{Plan, PlanFault, Request};
-use cxl_reply::{Reply, put_plan, put_reply};
+use cxl_legal::{ports_are_bytes, stated_rows_keep_blocks};
+use cxl_reply::{Reply, findings_are_told, put_plan, put_reply};
 use cxl_script::Create;
-use cxl_topo::Topo;
+use cxl_topo::{Topo, tree_laws};
 use cxl_topofile::one_topology_reading;
 use std::alloc::Global;
 
@@ -42,7 +42,7 @@ pub(crate) fn plan<F: Fetch>(
     create: &Create,
     files: &mut F,
 ) -> Result<Outcome, Stop>
-    ensures comes { ComesTo (Plan cedt.now topo.now create.now) (F.state files.old) (F.state files.new) result }
+    ensures comes { ComesTo (forms.Plan cedt.now topo.now create.now) (F.state files.old) (F.state files.new) result }
     ensures counts { (F.state files.old).faults ≤ (F.state files.new).faults }
     ensures told { (F.state files.new).told ≡ (F.state files.old).told }
 {
@@ -52,21 +52,39 @@ pub(crate) fn plan<F: Fetch>(
     Ok(outcome)
 }
 
-/// What a create line comes to over a host.
+/// What a create line comes to over a host. Takes memory.
 fn planned(alloc: Global, host: &Host, create: &Create) -> Result<Outcome, Memory>
     requires system { IsSystem (system_of host.now.image host.now.topo host.now.windows.items) }
     requires accepted { IsAccepted (system_of host.now.image host.now.topo host.now.windows.items) }
     ensures { IfOk result
         (IsPlanned (system_of host.now.image host.now.topo host.now.windows.items) create.now) }
 {
-    if let Some(name) = first_unknown(&host.topo, create.endpoints.items()) {
-        return refused(alloc, &Reply::NoEndpoint(name), &host.topo);
+    match first_unknown(&host.topo, create.endpoints.items()) {
+        Some(name) => refused(alloc, &Reply::NoEndpoint(name), &host.topo),
+        None => planned_over_endpoints(alloc, host, create),
     }
+}
+
+/// What a create line comes to whose names are all endpoints'. Takes memory.
+fn planned_over_endpoints(
+    alloc: Global,
+    host: &Host,
+    create: &Create,
+) -> Result<Outcome, Memory>
+    requires system { IsSystem (system_of host.now.image host.now.topo host.now.windows.items) }
+    requires accepted { IsAccepted (system_of host.now.image host.now.topo host.now.windows.items) }
+    requires known { first_unknown host.now.topo.nodes create.now.endpoints ≡ None }
+    ensures { IfOk result
+        (IsPlanned (system_of host.now.image host.now.topo host.now.windows.items) create.now) }
+{
+    tree_laws();
+    ports_are_bytes(&host.topo);
+    findings_are_told();
+    stated_rows_keep_blocks();
     let request = asked_on_line(alloc, &host.topo, create)?;
     match cxl_plan::plan(alloc, &host.image, &host.topo, &host.windows, &request) {
         Ok(plan) => told(alloc, &plan, &host.topo),
-        Err(PlanFault::Memory) => Err(Memory),
-        Err(fault) => refused(alloc, &Reply::Refused(fault), &host.topo),
+        Err(fault) => not_planned(alloc, fault, &host.topo),
     }
 }
 
@@ -139,27 +157,39 @@ fn refused(alloc: Global, reply: &Reply, topo: &Topo) -> Result<Outcome, Memory>
     Ok(Outcome::made(Status::Refused, text))
 }
 
+/// The lines of a fault. Want of memory in the planner is want of memory here.
+fn not_planned(alloc: Global, fault: PlanFault, topo: &Topo) -> Result<Outcome, Memory>
+    requires { fault ≢ PlanFault.Memory → IsToldFault topo.now.nodes fault }
+    ensures { IfOk result (λ outcome. (fault ≢ PlanFault.Memory)
+        × (outcome ≡ refused topo.now.nodes (Reply.Refused fault))) }
+{
+    match fault {
+        PlanFault::Memory => Err(Memory),
+        other => refused(alloc, &Reply::Refused(other), topo),
+    }
+}
+
 /// Laws of each run of `plan`.
 pub fn plan_statuses()
     // With status 0 it writes exactly the lines of a legal plan for what the line asks, over the host of the
     // two files after reset: in the first window that takes the request, at the least base there.
     ensures planned { EachRun (λ form old new status. (cedt topo : List ℕ) (create : Create)
-        → form ≡ Plan cedt topo create → status ≡ Status.Done
+        → form ≡ forms.Plan cedt topo create → status ≡ Status.Done
         → (text : List ℕ) × IsPlanText old.files.told cedt topo create text × Takes old.out new.out text) }
     // With status 8 it writes exactly why there is none: the first name on the line that is no endpoint's, or
     // the first fault of the request.
     ensures refused { EachRun (λ form old new status. (cedt topo : List ℕ) (create : Create)
-        → form ≡ Plan cedt topo create → status ≡ Status.Refused
+        → form ≡ forms.Plan cedt topo create → status ≡ Status.Refused
         → (text : List ℕ) × IsRefusalText old.files.told cedt topo create text × Takes old.out new.out text) }
 
     // Where the files are known and have a reading, status 0 comes exactly where every name is an endpoint's
     // and there is a legal plan, and status 8 exactly where there is none, unless the run stops before.
     ensures only_planned { EachRun (λ form old new status. (cedt topo : List ℕ) (create : Create)
-        (table : CedtFields) (tree : Tree) → form ≡ Plan cedt topo create
+        (table : CedtFields) (tree : Tree) → form ≡ forms.Plan cedt topo create
         → AreKnown form old.files.told (ByTree table tree) → HasPlan (reset_host_of table tree) create
         → (status ≡ Status.Done) ⊎ IsStopped status old new) }
     ensures only_refused { EachRun (λ form old new status. (cedt topo : List ℕ) (create : Create)
-        (table : CedtFields) (tree : Tree) → form ≡ Plan cedt topo create
+        (table : CedtFields) (tree : Tree) → form ≡ forms.Plan cedt topo create
         → AreKnown form old.files.told (ByTree table tree) → HasNoPlan (reset_host_of table tree) create
         → (status ≡ Status.Refused) ⊎ IsStopped status old new) }
 {
