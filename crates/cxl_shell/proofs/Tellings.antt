@@ -48,6 +48,9 @@ found_below test a (suc k) n is =
       | inr fails ↦ let low = found_below test (a + 1) k n (rw fails at is) in omega arith
     ]
 
+least_below : (test : ℕ → Bool) (k n : ℕ) → find test (range_with_len 0 k) ≡ Some n → n < k
+least_below test k n is = let low = found_below test 0 k n is in omega arith
+
 -- and one of the first of which the test holds
 found_some : (test : ℕ → Bool) (a k m : ℕ) → a ≤ m → m < a + k → test m ≡ true → (n : ℕ) × (find test (range_with_len a k) ≡ Some n)
 found_some test a zero m from below passes = absurd (omega arith)
@@ -108,8 +111,8 @@ module _ (s : System) (request : Request) (system : IsSystem s) (laws : AreTreeL
   told_reason w reasons.Fixed is = tt
   told_reason w reasons.Bridges is = tt
   told_reason w reasons.Gran is = tt
-  told_reason w (reasons.Select n) is = found_below (λ m. not (can_select s request w m)) 0 (length s.nodes) n is.holds
-  told_reason w (reasons.WaysCap n) is = found_below (λ m. not (can_have_ways s request m)) 0 (length s.nodes) n is.holds
+  told_reason w (reasons.Select n) is = least_below (λ m. not (can_select s request w m)) (length s.nodes) n is.holds
+  told_reason w (reasons.WaysCap n) is = least_below (λ m. not (can_have_ways s request m)) (length s.nodes) n is.holds
   told_reason w (reasons.NoBase room) is = tt
 
   pub told_fault : (fault : PlanFault) → IsFirstPlanFault s request fault → IsToldFault s.nodes fault
@@ -117,8 +120,8 @@ module _ (s : System) (request : Request) (system : IsSystem s) (laws : AreTreeL
       endpoint_inside m (repeats_one (λ k. is_endpoint_at s.nodes k ≡ true) [] request.endpoints m named is.holds)
   told_fault (faults.Ways n) is = tt
   told_fault faults.Size is = tt
-  told_fault (faults.Uneven n) is = found_below (is_uneven s request) 0 (length s.nodes) n is.holds
-  told_fault (faults.NoDecoder n) is = found_below (lacks_decoder s request) 0 (length s.nodes) n is.holds
+  told_fault (faults.Uneven n) is = least_below (is_uneven s request) (length s.nodes) n is.holds
+  told_fault (faults.NoDecoder n) is = least_below (lacks_decoder s request) (length s.nodes) n is.holds
   told_fault (faults.Span m fault) is =
       let asked = is.holds.asked in
       (asked_inside m asked, λ none.
