@@ -29,5 +29,4 @@ fn port_is_byte(topo: &Topo, node: u32)
 
 fn is_byte(port: u8)
     ensures { port < 256 }
-{
-}
+{}

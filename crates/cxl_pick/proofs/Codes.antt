@@ -1,23 +1,21 @@
 -- Where the endpoints of a request lie evenly, the code of a port follows from how many lie under it.
-use Rattle.std.proofs.Common.{◌≡◌, ℕ, ◌+◌, ◌*◌, ◌/◌, ◌^◌, ◌<◌, Bool, true, false, if◌then◌else◌, List, [], ◌∷◌, length, map, Option, Some, None, refl, sym, ap, ◌∙◌, subst, inl, inr, arith}
+use Rattle.std.proofs.Common.{◌≡◌, ℕ, ◌+◌, ◌*◌, ◌^◌, Bool, true, false, if◌then◌else◌, List, [], length, map, Some, None, sym, ap, ◌∙◌, arith}
 use Rattle.std.specs.Prelude.{◌==◌, sum_by}
-use Rattle.std.specs.Option.{option_map_or}
 use Rattle.std.proofs.lemmas.Nat.{pow-add}
 use Rattle.std.proofs.lemmas.List.Sums.{sum_by-cons}
-use Rattle.std.proofs.lemmas.Bool.{cases_eq, ne_eqb, eq-eqb}
-use Rattle.cxl_enc.specs.Codes.{third_of, bits_of, log2_of, is_ways}
+use Rattle.cxl_enc.specs.Codes.{bits_of, is_ways}
 use Rattle.cxl_enc.specs.Caps.{is_target_count}
 use Rattle.cxl_topo.specs.declared.node.Parent.{Parent}
-use Rattle.cxl_topo.specs.Tree.{is_endpoint_at, is_port_at, parent_of, child_of, ports_above}
+use Rattle.cxl_topo.specs.Tree.{is_endpoint_at, is_port_at, parent_of, ports_above}
 use Rattle.cxl_window.specs.Fields.{WindowFields}
 use Rattle.cxl_model.specs.declared.request.Request.{Request}
 use Rattle.cxl_model.specs.System.{System}
 use Rattle.cxl_model.specs.Ranges.{product}
 use Rattle.cxl_model.specs.Plans.{plan_code}
-use Rattle.cxl_legal.specs.Used.{request_ways, is_used, count_under, used_ports, count_at_port, planned_ways, planned_ways_above, planned_bits_above, planned_code}
+use Rattle.cxl_legal.specs.Used.{request_ways, is_used, count_under, used_ports, planned_ways, planned_ways_above, planned_bits_above, planned_code}
 use Rattle.cxl_pick.specs.declared.want.Want.{Want}
 use Rattle.cxl_pick.specs.Picking.{asked, port_code}
-use Rattle.cxl_pick.proofs.Trees.{KnownTree, up_tree, ports_none, ports_some, port_no_endpoint, parent_is_port}
+use Rattle.cxl_pick.proofs.Trees.{up_tree, ports_none, ports_some, port_no_endpoint, parent_is_port}
 use Rattle.cxl_pick.proofs.Shares.{Asked, used_parent}
 use Rattle.cxl_pick.proofs.Numbers.{count_split, exponent_is}
 

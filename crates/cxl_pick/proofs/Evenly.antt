@@ -1,10 +1,10 @@
 -- Where a request keeps all that it has to, its endpoints lie evenly.
-use Rattle.std.proofs.Common.{◌≡◌, ℕ, zero, suc, ◌+◌, ◌-◌, ◌*◌, ◌/◌, ◌%◌, ◌<◌, ◌≤◌, Bool, true, false, not, ◌&&◌, ◌||◌, List, [], ◌∷◌, length, get_or, Option, Some, None, refl, sym, ap, ◌∙◌, subst, inl, inr, arith}
-use Rattle.std.specs.Prelude.{◌==◌, nat_le, All, find, slice_get}
+use Rattle.std.proofs.Common.{◌≡◌, ℕ, ◌*◌, ◌<◌, Bool, true, false, not, ◌&&◌, ◌||◌, length, get_or, Option, Some, None, refl, sym, ap, ◌∙◌, subst, arith}
+use Rattle.std.specs.Prelude.{◌==◌, nat_le, All, slice_get}
 use Rattle.std.specs.Option.{option_map_or}
 use Rattle.std.specs.List.{list_any, list_all, range_with_len}
 use Rattle.std.proofs.Math.Nat.{mul_comm}
-use Rattle.std.proofs.lemmas.Bool.{cases_Bool, and_parts, and_from, or_cases, eqb-true, eq-eqb, false≢true, false_from_ne_true, not-true}
+use Rattle.std.proofs.lemmas.Bool.{and_parts, and_from, eqb-true, eq-eqb, false≢true}
 use Rattle.std.proofs.lemmas.Option.{none-some, same_Some, slice_get_within, get_or_from_slice_get}
 use Rattle.std.proofs.lemmas.List.Folds.{Any-from_list_any, list_any_at}
 use Rattle.std.proofs.lemmas.List.Sums.{AllPass-from_list_all}
@@ -21,15 +21,15 @@ use Rattle.cxl_model.specs.declared.request.Request.{Request}
 use Rattle.cxl_model.specs.System.{System, IsSystem}
 use Rattle.cxl_model.specs.Counts.{is_under}
 use Rattle.cxl_legal.specs.Used.{request_ways, is_used, count_under, is_port_used, used_ports, count_at_port}
-use Rattle.cxl_legal.specs.Endpoints.{cap_at, has_even_ports, has_even_children, first_bridge, has_bridge_share, is_uneven}
-use Rattle.cxl_legal.specs.Windows.{is_used_bridge, is_target, has_used_bridges}
+use Rattle.cxl_legal.specs.Endpoints.{cap_at, has_even_ports, has_even_children, first_bridge, has_bridge_share}
+use Rattle.cxl_legal.specs.Windows.{is_used_bridge, is_target}
 use Rattle.cxl_legal.specs.Stated.{Fits}
-use Rattle.cxl_pick.proofs.Sums.{total, list_any-weaker}
+use Rattle.cxl_pick.proofs.Sums.{list_any-weaker}
 use Rattle.cxl_pick.proofs.Trees.{KnownTree, parent_is_port, port_no_endpoint}
 use Rattle.cxl_pick.proofs.Below.{under_later}
 use Rattle.cxl_pick.proofs.Lists.{is_in, is_number, in_passes, kept_in, distinct_test, found}
-use Rattle.cxl_pick.proofs.Shares.{Asked, used_parent, endpoint_within, even_shares, ports_are_used, total_same_each}
-use Rattle.cxl_pick.proofs.Tops.{Top, top_of, top_bridge, bridge_port, is_below, BridgeOf, bridge_of, count_at_target, target_shares}
+use Rattle.cxl_pick.proofs.Shares.{Asked, used_parent, endpoint_within, even_shares, total_same_each}
+use Rattle.cxl_pick.proofs.Tops.{top_of, top_bridge, bridge_port, is_below, bridge_of, count_at_target, target_shares}
 use Rattle.cxl_pick.proofs.Codes.{LieEvenly}
 
 pub usable_is : (verdict : Verdict) → is_usable verdict ≡ true → verdict ≡ Usable

@@ -1,60 +1,40 @@
 -- A set that is given in a window fits it, at its latest start.
-use Rattle.std.proofs.Common.{◌≡◌, ◌≢◌, ℕ, zero, suc, ◌+◌, ◌-◌, ◌*◌, ◌/◌, ◌%◌, ◌<◌, ◌≤◌, ◌⊎◌, Bool, true, false, not, ◌&&◌, ◌||◌, if◌then◌else◌, List, [], ◌∷◌, length, get_or, map, Option, Some, None, refl, sym, ap, ◌∙◌, subst, inl, inr, arith}
-use Rattle.std.specs.Prelude.{◌==◌, nat_le, nat_lt, max, unwrap_or, IfSome, All, AllPairs, Contains, find, filter, option_and_then, slice_get}
+use Rattle.std.proofs.Common.{◌≡◌, ℕ, zero, suc, ◌+◌, ◌-◌, ◌*◌, ◌/◌, ◌%◌, ◌<◌, ◌≤◌, Bool, true, false, not, ◌&&◌, ◌||◌, if◌then◌else◌, List, [], ◌∷◌, length, get_or, Option, Some, None, refl, sym, ap, ◌∙◌, subst, inl, inr, arith}
+use Rattle.std.specs.Prelude.{◌==◌, nat_le}
 use Rattle.std.specs.Option.{option_map_or}
-use Rattle.std.specs.List.{list_any, list_all, filter_map, range_with_len}
-use Rattle.std.proofs.Math.Nat.{mul_comm, mul-mod_left, div-add-mod}
+use Rattle.std.specs.List.{list_any, list_all, range_with_len}
+use Rattle.std.proofs.Math.Nat.{mul-mod_left}
 use Rattle.std.proofs.lemmas.Nat.{div-add-mod'}
-use Rattle.std.proofs.lemmas.Bool.{cases_Bool, and_parts, and_from, or_cases, or_left, or_right, eqb-true, eq-eqb, leb-true, le-leb, false≢true, false_from_ne_true, not-true, not_from_false, not_from_true}
-use Rattle.std.proofs.lemmas.List.Sums.{AllPass-from_list_all, list_all-from_AllPass}
-use Rattle.std.proofs.lemmas.List.FromFn.{length-range_with_len, get_or-range_with_len}
+use Rattle.std.proofs.lemmas.Bool.{cases_Bool, and_parts, and_from, or_cases, or_left, eqb-true, eq-eqb, leb-true, le-leb, false≢true, not-true}
+use Rattle.std.proofs.lemmas.List.Sums.{list_all-from_AllPass}
 use Rattle.std.proofs.lemmas.Option.{none-some, same_Some}
-use Rattle.std.proofs.lemmas.List.Folds.{Any-from_list_any, list_any_at}
-use Rattle.cxl_enc.specs.Codes.{is_ways, bits_of, code_in_table}
+use Rattle.std.proofs.lemmas.List.Folds.{list_any_at}
+use Rattle.cxl_enc.specs.Codes.{bits_of, code_in_table}
 use Rattle.cxl_regs.specs.Rules.{endpoint_ways_ok, select_ok}
-use Rattle.cxl_enc.specs.Caps.{targets_of, is_target_count}
-use Rattle.cxl_topo.specs.declared.node.Parent.{Parent}
-use Rattle.cxl_topo.specs.Laws.{AreTreeLaws}
-use Rattle.cxl_topo.specs.Tree.{is_endpoint_at, is_port_at, is_bridge_at, uid_at, parent_of, child_of, bridge_with}
+use Rattle.cxl_topo.specs.Tree.{is_endpoint_at, is_port_at, is_bridge_at, uid_at, parent_of}
 use Rattle.cxl_window.specs.Fields.{WindowFields}
-use Rattle.cxl_window.specs.Position.{is_usable}
 use Rattle.cxl_regs.specs.Words.{has_bit}
-use Rattle.cxl_model.specs.declared.request.Request.{Request}
-use Rattle.cxl_model.specs.System.{System, IsSystem}
-use Rattle.cxl_model.specs.Rules.{are_distinct, permits}
+use Rattle.cxl_model.specs.System.{System}
 use Rattle.cxl_model.specs.Counts.{is_under}
-use Rattle.cxl_legal.specs.Used.{HasBytePorts, AreEndpoints, is_used, count_under, is_port_used, used_ports, count_at_port}
+use Rattle.cxl_legal.specs.Used.{is_used, count_under, used_ports}
 use Rattle.cxl_model.specs.Accepted.{IsAccepted}
 use Rattle.cxl_model.specs.Plans.{plan_code}
-use Rattle.cxl_model.specs.System.{decoders_at, ram_at, pmem_at}
-use Rattle.cxl_span.specs.declared.allotting.Span.{Span}
-use Rattle.cxl_span.specs.Allotting.{all_committed, cursor_of, IsLeastSpan, CanStart}
-use Rattle.cxl_span.specs.Partitions.{partition_start, partition_end, lies_in}
 use Rattle.cxl_legal.specs.Used.{planned_ways, planned_code, planned_bits_above}
-use Rattle.cxl_legal.specs.Endpoints.{IsSize, cap_at, share_of, has_even_ports, has_even_children, first_bridge, has_bridge_share, is_uneven, lacks_decoder, HasRoom, FitsEndpoints}
-use Rattle.cxl_legal.specs.Windows.{is_used_bridge, is_target, has_used_bridges, agrees_on_gran, can_select, can_have_ways, FitsWindow}
-use Rattle.cxl_legal.specs.Bases.{last_end, base_step, IsBase, FitsBase}
+use Rattle.cxl_legal.specs.Endpoints.{IsSize, cap_at}
+use Rattle.cxl_legal.specs.Windows.{is_used_bridge, is_target, has_used_bridges, can_select, can_have_ways, FitsWindow}
+use Rattle.cxl_legal.specs.Bases.{base_step, FitsBase}
 use Rattle.cxl_legal.specs.Stated.{Fits}
 use Rattle.cxl_pick.specs.declared.want.Want.{Want}
-use Rattle.cxl_pick.specs.Picking.{asked, is_open, wanted_code, wanted_share, has_room, can_serve_itself, port_code, can_take, children_of, latest_start, gives, gives_within, all_given, given_in, AreRising}
-use Rattle.cxl_pick.proofs.Trees.{KnownTree, up_tree, same_test, parent_is_port, port_no_endpoint}
-use Rattle.cxl_pick.proofs.Below.{WayDown, way_down, under_self, under_parent, one_child}
-use Rattle.cxl_pick.proofs.Lists.{is_in, in_from, in_is, distinct_test, same_length, some_filtered, find_passes}
-use Rattle.cxl_pick.proofs.Numbers.{some_ways, some_count, times_tell}
-use Rattle.cxl_pick.proofs.Shares.{Asked, endpoint_within, used_parent, even_shares, used_child, UsedChild, ports_are_used}
-use Rattle.cxl_pick.proofs.Tops.{BridgeOf, bridge_of, bridge_node, one_top}
-use Rattle.cxl_pick.proofs.Codes.{LieEvenly, port_ways, code_told}
-use Rattle.cxl_pick.proofs.Evenly.{Windowed, windowed}
-use Rattle.cxl_pick.proofs.Giving.{gives_none, step_below}
+use Rattle.cxl_pick.specs.Picking.{asked, wanted_code, port_code, latest_start}
+use Rattle.cxl_pick.proofs.Lists.{is_in, in_is}
+use Rattle.cxl_pick.proofs.Numbers.{some_ways}
+use Rattle.cxl_pick.proofs.Tops.{one_top}
+use Rattle.cxl_pick.proofs.Codes.{port_ways, code_told}
 use Rattle.cxl_pick.proofs.Serving.{endpoint_code, used_port}
-use Rattle.cxl_pick.proofs.Pieces.{Source, Pieces, Apart, AllPieces, first_pieces, taken, all_pieces}
-use Rattle.cxl_pick.proofs.Taking.{GivesItself, gives_itself, offer, Serves, serves, Can, can_parts, whole_share, child_from, Given, offers_apart, given_is}
-
-use Rattle.cxl_pick.proofs.Parts.{OfWindow, Takes, at_target, InWindow, Picked, known_of, own_window, AtTarget, at_bridge, all_targets, in_given, in_set, given_endpoint, named, differ, set_asked, all_below, set_long}
-use Rattle.cxl_pick.proofs.Standing.{Part, part_count, Share, Member, member, top_part, FromPort, from_port, child_part, used_part}
-use Rattle.cxl_pick.proofs.Evenly.{told, number_passes, used_within}
-use Rattle.cxl_pick.proofs.Facts.{PortFacts, port_facts, port_share, top_count, ways_whole, set_evenly, Itself, itself, opened}
-use Rattle.cxl_enc.specs.Limits.{unit}
+use Rattle.cxl_pick.proofs.Taking.{given_is}
+use Rattle.cxl_pick.proofs.Parts.{Picked, known_of, at_bridge, all_targets, in_given, in_set, named, set_asked, set_long}
+use Rattle.cxl_pick.proofs.Standing.{member}
+use Rattle.cxl_pick.proofs.Facts.{PortFacts, port_facts, ways_whole, set_evenly, itself, opened}
 use Rattle.cxl_pick.proofs.Fitted.{HasCode, code_low, left_of, set_fits_endpoints}
 
 -- ---- targets

@@ -1,42 +1,15 @@
 -- What a node gives, one level at a time, and the latest start of a window.
-use Rattle.std.proofs.Common.{◌≡◌, ℕ, zero, suc, ◌+◌, ◌-◌, ◌*◌, ◌/◌, ◌%◌, ◌<◌, ◌≤◌, ◌⊎◌, Bool, true, false, not, max, ◌&&◌, ◌||◌, if◌then◌else◌, cond, List, [], ◌∷◌, length, get_or, map, Option, Some, None, refl, sym, ap, ◌∙◌, subst, inl, inr, arith}
-use Rattle.std.specs.Prelude.{◌==◌, nat_le, All, find, filter, slice_get, option_map, option_and_then, take}
-use Rattle.std.specs.Option.{option_map_or}
-use Rattle.std.specs.List.{list_any, list_all, filter_map, flat_map, cons_option, range_with_len}
-use Rattle.std.proofs.Math.Nat.{mul-div_cancel_left}
-use Rattle.std.proofs.lemmas.Bool.{cases_Bool, cases_eq, and_parts, and_from, or_cases, or_left, or_right, eqb-true, eq-eqb, ne_eqb, leb-true, le-leb, false≢true, false_from_ne_true, not-true, not_from_false}
-use Rattle.std.proofs.lemmas.Option.{none-some, same_Some}
-use Rattle.std.proofs.lemmas.List.Folds.{Any-from_list_any, list_any_at}
-use Rattle.cxl_enc.specs.Codes.{bits_of, code_in_table, is_ways}
-use Rattle.cxl_enc.specs.Caps.{targets_of, is_target_count}
+use Rattle.std.proofs.Common.{◌≡◌, ℕ, zero, suc, ◌+◌, ◌-◌, ◌*◌, ◌/◌, ◌%◌, ◌≤◌, Bool, true, false, ◌&&◌, if◌then◌else◌, cond, List, [], ◌∷◌, length, Option, Some, None, refl, ap, ◌∙◌, inl, inr, arith}
+use Rattle.std.specs.Prelude.{◌==◌, filter}
+use Rattle.std.specs.List.{filter_map, cons_option}
+use Rattle.std.proofs.lemmas.Bool.{cases_Bool, le-leb}
 use Rattle.cxl_enc.specs.Limits.{unit}
-use Rattle.cxl_topo.specs.declared.node.Node.{Node}
-use Rattle.cxl_topo.specs.declared.node.Parent.{Parent}
-use Rattle.cxl_topo.specs.Kinds.{is_endpoint}
-use Rattle.cxl_topo.specs.Tree.{is_endpoint_at, is_port_at, parent_of, child_of}
-use Rattle.cxl_topo.specs.Laws.{AreTreeLaws}
-use Rattle.cxl_regs.specs.Rules.{endpoint_ways_ok, select_ok}
-use Rattle.cxl_span.specs.Allotting.{all_committed, cursor_of, IsLeastSpan}
-use Rattle.cxl_span.specs.Partitions.{partition_start, partition_end}
+use Rattle.cxl_topo.specs.Tree.{is_endpoint_at}
 use Rattle.cxl_window.specs.Fields.{WindowFields}
-use Rattle.cxl_model.specs.declared.request.Request.{Request}
-use Rattle.cxl_model.specs.System.{System, decoders_at, ram_at, pmem_at}
-use Rattle.cxl_model.specs.Counts.{is_under}
-use Rattle.cxl_model.specs.Plans.{plan_code}
-use Rattle.cxl_legal.specs.Used.{request_ways, is_used, count_under, is_port_used, used_ports, count_at_port, planned_ways, planned_code}
-use Rattle.cxl_legal.specs.Endpoints.{cap_at, has_even_ports, lacks_decoder, share_of, HasRoom}
-use Rattle.cxl_legal.specs.Windows.{can_select, can_have_ways}
-use Rattle.cxl_legal.specs.Bases.{last_end, base_step}
-use Rattle.cxl_legal.specs.Stated.{Fits}
+use Rattle.cxl_model.specs.System.{System}
+use Rattle.cxl_legal.specs.Bases.{base_step}
 use Rattle.cxl_pick.specs.declared.want.Want.{Want}
-use Rattle.cxl_pick.specs.Picking.{asked, latest_start, wanted_code, is_open, wanted_share, has_room, can_serve_itself, port_code, can_serve_by, children_of, port_gives, gives_within}
-use Rattle.cxl_pick.proofs.Sums.{one, total, length-filter-total, total-same, once}
-use Rattle.cxl_pick.proofs.Trees.{KnownTree, parent_is_port, port_no_endpoint, under_endpoint}
-use Rattle.cxl_pick.proofs.Lists.{is_in, in_is, distinct_test, found}
-use Rattle.cxl_pick.proofs.Shares.{Asked, used_endpoint, used_child, UsedChild, endpoint_within, even_shares, ports_are_used}
-use Rattle.cxl_pick.proofs.Numbers.{count_tried, some_count}
-use Rattle.cxl_pick.proofs.Codes.{LieEvenly, code_told}
-use Rattle.cxl_pick.proofs.Evenly.{even_at, evenly, asked_of, told, used_within}
+use Rattle.cxl_pick.specs.Picking.{latest_start, can_serve_itself, children_of, port_gives, gives_within}
 
 -- ---- what a node gives, one level at a time
 

@@ -1,23 +1,20 @@
 -- What is given in a window, whatever the other windows, and from the table of offers.
-use Rattle.std.proofs.Common.{◌≡◌, ℕ, zero, suc, ◌+◌, ◌-◌, ◌*◌, ◌/◌, ◌%◌, ◌<◌, ◌≤◌, ◌↔◌, Bool, true, false, not, ◌&&◌, ◌||◌, if◌then◌else◌, cond, List, [], ◌∷◌, ◌++◌, length, get_or, map, drop, Option, Some, None, Vec, Global, refl, sym, ap, ◌∙◌, subst, inl, inr, arith, append_assoc}
-use Rattle.std.specs.Prelude.{◌==◌, slice_get, option_map, option_and_then, filter, All, AllPairs, Contains}
-use Rattle.std.specs.Option.{option_map_or}
-use Rattle.std.specs.List.{filter_map, list_any, range_with_len}
+use Rattle.std.proofs.Common.{◌≡◌, ℕ, zero, suc, ◌+◌, ◌/◌, ◌<◌, ◌≤◌, Bool, true, false, ◌&&◌, if◌then◌else◌, cond, List, [], ◌∷◌, ◌++◌, length, get_or, map, drop, Option, Some, None, Vec, Global, refl, sym, ap, ◌∙◌, subst, arith, append_assoc}
+use Rattle.std.specs.Prelude.{◌==◌, option_map, option_and_then, filter, All, AllPairs}
+use Rattle.std.specs.List.{filter_map, range_with_len}
 use Rattle.std.proofs.Math.Seq.{drop-cons}
-use Rattle.std.proofs.lemmas.Bool.{cases_Bool, and_parts, eqb-true, eq-eqb, false≢true}
-use Rattle.std.proofs.lemmas.Option.{none-some, same_Some}
-use Rattle.std.proofs.lemmas.List.Elements.{filter_passes, filter_map-append}
+use Rattle.std.proofs.lemmas.Bool.{eq-eqb}
+use Rattle.std.proofs.lemmas.List.Elements.{filter_passes}
 use Rattle.std.proofs.lemmas.List.Kept.{AllPairs-filter}
-use Rattle.std.proofs.lemmas.List.Folds.{list_any_at}
 use Rattle.std.proofs.lemmas.List.FromFn.{length-range_with_len, get_or-range_with_len}
 use Rattle.cxl_topo.specs.declared.node.Node.{Node}
-use Rattle.cxl_topo.specs.Tree.{Tree, is_endpoint_at, bridge_with}
+use Rattle.cxl_topo.specs.Tree.{is_endpoint_at, bridge_with}
 use Rattle.cxl_regs.specs.Registers.{Registers}
 use Rattle.cxl_window.specs.Fields.{WindowFields}
-use Rattle.cxl_model.specs.System.{System, system_of}
+use Rattle.cxl_model.specs.System.{System}
 use Rattle.cxl_pick.specs.declared.want.Want.{Want}
-use Rattle.cxl_pick.specs.Picking.{can_take, can_serve_itself, children_of, port_gives, gives_within, gives, latest_start, all_given, given_in, AreRising}
-use Rattle.cxl_pick.specs.inner.Offers.{AreOffers, offered, some_of, entry_at}
+use Rattle.cxl_pick.specs.Picking.{can_take, can_serve_itself, children_of, port_gives, gives_within, gives, latest_start, all_given, given_in, AreInOrder}
+use Rattle.cxl_pick.specs.inner.Offers.{some_of, listed_at}
 use Rattle.cxl_pick.proofs.Lists.{is_in, in_from, in_is, is_number, kept_in}
 use Rattle.cxl_pick.proofs.Giving.{gives_none, gives_step}
 
@@ -46,7 +43,7 @@ same_given nodes blocks one other want w =
 
 -- what the table has for the bridge of this UID
 abbrev pub at_uid : List Node → List (Vec ℕ Global) → ℕ → ℕ → Option (List ℕ)
-at_uid nodes table share uid = option_and_then (λ b. some_of (entry_at table (length nodes) b share)) (bridge_with nodes uid)
+at_uid nodes table share uid = option_and_then (λ b. some_of (listed_at table (length nodes) b share)) (bridge_with nodes uid)
 
 next_uid : (nodes : List Node) (table : List (Vec ℕ Global)) (share i : ℕ) (uids : List ℕ) → i < length uids
     → all_given (map (at_uid nodes table share) (drop i uids))
@@ -123,17 +120,17 @@ numbers_rise n i j d less within =
     let next = get_or-range_with_len 0 n j d (omega arith) in
     omega arith
 
-pub are_rising : (count : ℕ) (given : List ℕ) → All (λ n. n < count) given → AreRising given (filter (λ n. is_in n given) (range_with_len 0 count))
-are_rising count given low = record {
+pub are_in_order : (count : ℕ) (given : List ℕ) → All (λ n. n < count) given → AreInOrder given (filter (λ n. is_in n given) (range_with_len 0 count))
+are_in_order count given low = record {
   order = AllPairs-filter (λ a b. a < b) (λ n. is_in n given) (range_with_len 0 count) (numbers_rise count);
   same = λ n. (
     (λ there.
-    let own = in_from given n there in
-    let within : n < count = subst (λ (k : ℕ). k < count) there.2 (low there.0 n there.1) in
-    in_is (filter (λ k. is_in k given) (range_with_len 0 count)) n
-    (kept_in (λ k. is_in k given) (range_with_len 0 count) n (is_number (λ k. k == n) count n within (eq-eqb n n refl)) own)),
+        let own = in_from given n there in
+        let within : n < count = subst (λ (k : ℕ). k < count) there.2 (low there.0 n there.1) in
+        in_is (filter (λ k. is_in k given) (range_with_len 0 count)) n
+        (kept_in (λ k. is_in k given) (range_with_len 0 count) n (is_number (λ k. k == n) count n within (eq-eqb n n refl)) own)),
     (λ there.
-    in_is given n
-    (subst (λ (k : ℕ). is_in k given ≡ true) there.2 (filter_passes (λ k. is_in k given) (range_with_len 0 count) there.0 n there.1))),
+        in_is given n
+        (subst (λ (k : ℕ). is_in k given ≡ true) there.2 (filter_passes (λ k. is_in k given) (range_with_len 0 count) there.0 n there.1))),
   );
 }

@@ -1,9 +1,9 @@
 -- What K1 to K8 give of one node.
-use Rattle.std.proofs.Common.{◌≡◌, ℕ, zero, suc, ◌+◌, ◌%◌, ◌^◌, ◌<◌, ◌≤◌, ◌&&◌, Bool, true, false, List, [], ◌∷◌, length, Option, Some, None, refl, sym, ap, ◌∙◌, inl, inr, arith}
-use Rattle.std.specs.Prelude.{slice_get, ◌==◌, nat_lt}
+use Rattle.std.proofs.Common.{◌≡◌, ℕ, ◌+◌, ◌%◌, ◌^◌, ◌<◌, ◌≤◌, ◌&&◌, true, false, length, Option, Some, None, refl, sym, ◌∙◌, inl, inr, arith}
+use Rattle.std.specs.Prelude.{slice_get, ◌==◌}
 use Rattle.std.specs.Option.{option_map_or, option_and_then}
-use Rattle.std.proofs.lemmas.Bool.{and_parts, leb-true, ne_eqb, lt-ltb, cases_lt, cases_eq, cases_Bool, false≢true}
-use Rattle.std.proofs.lemmas.Option.{none-some, slice_get_within}
+use Rattle.std.proofs.lemmas.Bool.{and_parts, leb-true, ne_eqb, lt-ltb, cases_lt, cases_eq, false≢true}
+use Rattle.std.proofs.lemmas.Option.{slice_get_within}
 use Rattle.cxl_topo.specs.declared.node.Node.{Node}
 use Rattle.cxl_enc.specs.Limits.{address_limit}
 use Rattle.cxl_topo.specs.declared.node.Capacity.{Capacity}
@@ -11,12 +11,11 @@ use Rattle.cxl_topo.specs.Kinds.{is_endpoint, capacity_of}
 use Rattle.cxl_topo.specs.Tree.{is_endpoint_at}
 use Rattle.cxl_regs.specs.declared.decoder.Decoder.{Decoder}
 use Rattle.cxl_regs.specs.Registers.{Registers}
-use Rattle.cxl_regs.specs.Reading.{span_length}
 use Rattle.cxl_regs.specs.Rules.{before}
 use Rattle.cxl_span.specs.Rules.{breaks_rule}
 use Rattle.cxl_span.specs.Spans.{span_start_of}
 use Rattle.cxl_span.specs.Breaches.{breaks as block_breaks, BlockKeeps}
-use Rattle.cxl_model.specs.System.{System, decoder_at, ram_at, pmem_at}
+use Rattle.cxl_model.specs.System.{System, ram_at, pmem_at}
 use Rattle.cxl_model.specs.Accepted.{breaks, breaks_block}
 use Rattle.cxl_pick.specs.inner.Wanted.{IsReady}
 
@@ -87,4 +86,3 @@ module _ (s : System) (ready : IsReady s) where
           ≤ address_limit
       go None e = omega arith
       go (Some node) e = of_kind node e (capacity_of node.kind) refl
-

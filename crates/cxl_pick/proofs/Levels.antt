@@ -1,15 +1,13 @@
 -- What a node gives does not depend on the level, and is told by what its children give.
-use Rattle.std.proofs.Common.{◌≡◌, ℕ, zero, suc, ◌+◌, ◌-◌, ◌*◌, ◌/◌, ◌%◌, ◌<◌, ◌≤◌, Bool, true, false, ◌&&◌, ◌||◌, if◌then◌else◌, List, [], ◌∷◌, length, Option, Some, None, refl, sym, ap, ◌∙◌, subst, inl, inr, arith}
-use Rattle.std.specs.Prelude.{◌==◌, find, take, option_map, unwrap_or}
-use Rattle.std.specs.List.{filter_map, flat_map, cons_option}
+use Rattle.std.proofs.Common.{◌≡◌, ℕ, zero, suc, ◌+◌, ◌/◌, ◌<◌, ◌≤◌, Bool, true, false, ◌&&◌, if◌then◌else◌, List, [], ◌∷◌, length, Option, Some, None, refl, sym, ap, ◌∙◌, subst, inl, inr, arith}
+use Rattle.std.specs.Prelude.{◌==◌, unwrap_or}
+use Rattle.std.specs.List.{filter_map, cons_option}
 use Rattle.std.proofs.lemmas.Bool.{cases_Bool, or_left, or_right, eq-eqb, ne_eqb}
-use Rattle.std.proofs.lemmas.Option.{none-some, same_Some}
-use Rattle.cxl_topo.specs.declared.node.Parent.{Parent}
-use Rattle.cxl_topo.specs.Tree.{is_endpoint_at, parent_of}
+use Rattle.cxl_topo.specs.Tree.{is_endpoint_at}
 use Rattle.cxl_window.specs.Fields.{WindowFields}
 use Rattle.cxl_model.specs.System.{System}
 use Rattle.cxl_pick.specs.declared.want.Want.{Want}
-use Rattle.cxl_pick.specs.Picking.{can_serve_itself, can_serve_by, children_of, port_gives, gives_within, gives}
+use Rattle.cxl_pick.specs.Picking.{can_serve_itself, children_of, port_gives, gives_within, gives}
 use Rattle.cxl_pick.specs.inner.Offers.{offered, some_of}
 use Rattle.cxl_pick.proofs.Trees.{KnownTree, parent_within, parent_is_port}
 use Rattle.cxl_pick.proofs.Lists.{is_in}

@@ -21,7 +21,7 @@ mod KeptBlocks
 mod Prefixes
 mod Rooms
 mod Levels
-mod Entries
+mod Tables
 mod Offering
 mod Givings
 mod Settled

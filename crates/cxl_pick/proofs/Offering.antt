@@ -1,25 +1,21 @@
 -- What the table of offers tells of a node.
-use Rattle.std.proofs.Common.{◌≡◌, ℕ, zero, suc, ◌+◌, ◌-◌, ◌*◌, ◌/◌, ◌%◌, ◌<◌, ◌≤◌, ◌⊎◌, Bool, true, false, ◌&&◌, ◌||◌, if◌then◌else◌, cond, List, [], ◌∷◌, length, get_or, Option, Some, None, Vec, Global, Result, Ok, Err, refl, sym, ap, ◌∙◌, subst, inl, inr, arith}
-use Rattle.std.specs.Prelude.{◌==◌, nat_le, find, take, slice_get, option_map, unwrap_or, IfOk, ⊤}
+use Rattle.std.proofs.Common.{◌≡◌, ℕ, zero, suc, ◌-◌, ◌*◌, ◌/◌, ◌%◌, ◌<◌, ◌≤◌, Bool, true, false, ◌&&◌, if◌then◌else◌, cond, List, [], ◌∷◌, length, Option, Some, None, Vec, Global, Result, Ok, Err, refl, sym, ap, ◌∙◌, inl, inr, arith}
+use Rattle.std.specs.Prelude.{◌==◌, find, take, slice_get, option_map, unwrap_or, IfOk}
 use Rattle.std.specs.Option.{option_map_or}
-use Rattle.std.specs.List.{list_any, filter_map, flat_map}
+use Rattle.std.specs.List.{filter_map, flat_map}
 use Rattle.std.proofs.Math.Nat.{div-add-mod, div-le_self}
-use Rattle.std.proofs.lemmas.Bool.{cases_Bool, cases_lt, and_parts, or_left, or_right, eqb-true, eq-eqb, ne_eqb, false≢true, false_from_ne_true}
-use Rattle.std.proofs.lemmas.Option.{none-some, same_Some}
-use Rattle.cxl_enc.specs.Codes.{bits_of}
-use Rattle.cxl_enc.specs.Caps.{targets_of, is_target_count}
+use Rattle.std.proofs.lemmas.Bool.{cases_lt, false≢true, false_from_ne_true}
+use Rattle.cxl_enc.specs.Caps.{is_target_count}
 use Rattle.cxl_topo.specs.Tree.{is_endpoint_at}
-use Rattle.cxl_regs.specs.Rules.{select_ok}
 use Rattle.cxl_window.specs.Fields.{WindowFields}
 use Rattle.cxl_model.specs.System.{System}
-use Rattle.cxl_legal.specs.Endpoints.{cap_at}
 use Rattle.cxl_pick.specs.declared.want.Want.{Want}
-use Rattle.cxl_pick.specs.Picking.{is_open, can_serve_itself, can_serve_by, port_code, children_of, port_gives, gives}
-use Rattle.cxl_pick.specs.inner.Offers.{AreOffers, offered, some_of, place_of, entry_at, offers_at}
+use Rattle.cxl_pick.specs.Picking.{can_serve_itself, can_serve_by, children_of, gives}
+use Rattle.cxl_pick.specs.inner.Offers.{AreOffers, offered, some_of, place_of, listed_at, offers_at}
 use Rattle.cxl_pick.proofs.Trees.{KnownTree}
-use Rattle.cxl_pick.proofs.Lists.{is_in, find_passes}
-use Rattle.cxl_pick.proofs.Numbers.{some_count, count_found}
-use Rattle.cxl_pick.proofs.Taking.{find_in, Can, can_parts, whole_share}
+use Rattle.cxl_pick.proofs.Lists.{find_passes}
+use Rattle.cxl_pick.proofs.Numbers.{count_found}
+use Rattle.cxl_pick.proofs.Taking.{find_in, can_parts}
 use Rattle.cxl_pick.proofs.Levels.{filter_map-same, child_later, gives_at_port, gives_at_endpoint, some_offered}
 
 pub item : {X : Type 0} (xs : List X) (i : ℕ) → i < length xs → (x : X) × (slice_get xs i ≡ Some x)
@@ -46,9 +42,9 @@ itself_offered s known want w start n m within endpoint =
 -- ---- a port
 
 -- where a child's list stands, and what it is
-entry_is : (s : System) (want : Want) (w : WindowFields) (start n c v : ℕ) (table : List (Vec ℕ Global)) → AreOffers s want w start table → n < c → c < length s.nodes
-    → (length s.nodes - 1 - n) * 17 ≤ length table → 0 < v → v ≤ 16 → entry_at table (length s.nodes) c v ≡ offered s want w start c v
-entry_is s want w start n c v table offers lower within below some few =
+list_is : (s : System) (want : Want) (w : WindowFields) (start n c v : ℕ) (table : List (Vec ℕ Global)) → AreOffers s want w start table → n < c → c < length s.nodes
+    → (length s.nodes - 1 - n) * 17 ≤ length table → 0 < v → v ≤ 16 → listed_at table (length s.nodes) c v ≡ offered s want w start c v
+list_is s want w start n c v table offers lower within below some few =
     let place : ℕ = place_of (length s.nodes) c v in
     let inside : place < length table = omega (arith, lower, within, below, few) in
     let own = item table place inside in
@@ -59,9 +55,9 @@ entry_is s want w start n c v table offers lower within below some few =
     ∙ (λ i. offered s want w start (above i) (rest i))
 
 -- the same of any node, where the table is whole
-pub entry_whole : (s : System) (want : Want) (w : WindowFields) (start c v : ℕ) (table : List (Vec ℕ Global)) → AreOffers s want w start table → c < length s.nodes
-    → length table ≡ length s.nodes * 17 → 0 < v → v ≤ 16 → entry_at table (length s.nodes) c v ≡ offered s want w start c v
-entry_whole s want w start c v table offers within all some few =
+pub list_whole : (s : System) (want : Want) (w : WindowFields) (start c v : ℕ) (table : List (Vec ℕ Global)) → AreOffers s want w start table → c < length s.nodes
+    → length table ≡ length s.nodes * 17 → 0 < v → v ≤ 16 → listed_at table (length s.nodes) c v ≡ offered s want w start c v
+list_whole s want w start c v table offers within all some few =
     let place : ℕ = place_of (length s.nodes) c v in
     let inside : place < length table = omega (arith, within, all, few) in
     let own = item table place inside in
@@ -75,9 +71,9 @@ pub offers_are : (s : System) → KnownTree s.nodes → (want : Want) (w : Windo
     → (length s.nodes - 1 - n) * 17 ≤ length table → 0 < v → v ≤ 16
     → offers_at table (length s.nodes) (children_of s n) v ≡ filter_map (λ child. gives s want w start child v) (children_of s n)
 offers_are s known want w start n v table offers below some few =
-    filter_map-same (λ c. some_of (entry_at table (length s.nodes) c v)) (λ c. gives s want w start c v) (children_of s n) (λ c there.
+    filter_map-same (λ c. some_of (listed_at table (length s.nodes) c v)) (λ c. gives s want w start c v) (children_of s n) (λ c there.
     let at = child_later s known n c there in
-    ap some_of (entry_is s want w start n c v table offers at.0 at.1 below some few) ∙ some_offered s known want w start c v some)
+    ap some_of (list_is s want w start n c v table offers at.0 at.1 below some few) ∙ some_offered s known want w start c v some)
 
 -- no port serves by more than are wanted
 no_part : (s : System) (want : Want) (w : WindowFields) (start n m willing u : ℕ) → 0 < m → m / u ≡ 0 → can_serve_by s want w start n m willing u ≡ false

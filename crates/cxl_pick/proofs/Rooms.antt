@@ -1,5 +1,5 @@
 -- Whether there is room is whether a span can be allotted.
-use Rattle.std.proofs.Common.{◌≡◌, ℕ, ◌+◌, ◌<◌, ◌≤◌, Bool, true, false, ◌&&◌, max, Result, Ok, Err, refl, sym, ◌∙◌, inl, inr, arith}
+use Rattle.std.proofs.Common.{◌≡◌, ℕ, ◌+◌, ◌≤◌, Bool, true, false, max, Ok, Err, sym, ◌∙◌, arith}
 use Rattle.std.specs.Prelude.{nat_le, List}
 use Rattle.std.proofs.lemmas.Bool.{and_parts, leb-true, le-leb, false≢true, false_from_ne_true}
 use Rattle.cxl_enc.specs.declared.caps.MemKind.{MemKind}
@@ -8,8 +8,8 @@ use Rattle.cxl_regs.specs.declared.decoder.Decoder.{Decoder}
 use Rattle.cxl_span.specs.declared.allotting.Span.{Span}
 use Rattle.cxl_span.specs.declared.allotting.SpanFault.{SpanFault}
 use Rattle.cxl_span.specs.declared.allotting.SpanFault.TheVariants.{NoDecoder, PastRam, NoRoom}
-use Rattle.cxl_span.specs.Allotting.{all_committed, cursor_of, Allots, IsLeastSpan, IsPastRam, HasNoRoom}
-use Rattle.cxl_span.specs.Partitions.{partition_start, partition_end, lies_in}
+use Rattle.cxl_span.specs.Allotting.{all_committed, cursor_of, Allots, IsPastRam}
+use Rattle.cxl_span.specs.Partitions.{partition_start, partition_end}
 
 -- from the end of what is committed on, so many bytes end in the kind's partition
 abbrev pub is_roomy : List Decoder → ℕ → ℕ → MemKind → ℕ → Bool

@@ -1,22 +1,17 @@
 -- Where a set of endpoints keeps all that a request has to, each used node gives as many endpoints as lie under it.
-use Rattle.std.proofs.Common.{◌≡◌, ℕ, zero, suc, ◌+◌, ◌-◌, ◌*◌, ◌/◌, ◌%◌, ◌<◌, ◌≤◌, ◌⊎◌, Bool, true, false, not, max, ◌&&◌, ◌||◌, if◌then◌else◌, cond, List, [], ◌∷◌, length, get_or, map, Option, Some, None, refl, sym, ap, ◌∙◌, subst, inl, inr, arith}
-use Rattle.std.specs.Prelude.{◌==◌, nat_le, nat_lt, unwrap_or, All, find, filter, slice_get, option_map, option_and_then, take}
+use Rattle.std.proofs.Common.{◌≡◌, ℕ, zero, suc, ◌+◌, ◌-◌, ◌*◌, ◌/◌, ◌%◌, ◌<◌, ◌≤◌, Bool, true, false, not, max, ◌&&◌, ◌||◌, if◌then◌else◌, List, [], ◌∷◌, length, get_or, Some, None, refl, sym, ap, ◌∙◌, inl, inr, arith}
+use Rattle.std.specs.Prelude.{◌==◌, nat_le, nat_lt, unwrap_or, find, option_map, take}
 use Rattle.std.specs.Option.{option_map_or}
-use Rattle.std.specs.List.{list_any, list_all, filter_map, flat_map, cons_option, range_with_len}
+use Rattle.std.specs.List.{list_any, filter_map, flat_map, range_with_len}
 use Rattle.std.proofs.Math.Nat.{mul-div_cancel_left, mul-mod_right}
-use Rattle.std.proofs.lemmas.Bool.{cases_Bool, cases_eq, and_parts, and_from, or_cases, or_left, or_right, eqb-true, eq-eqb, ne_eqb, leb-true, le-leb, false≢true, false_from_ne_true, not-true, not_from_false}
-use Rattle.std.proofs.lemmas.Option.{none-some, same_Some}
-use Rattle.std.proofs.lemmas.List.Folds.{Any-from_list_any, list_any_at}
-use Rattle.cxl_enc.specs.Codes.{bits_of, code_in_table, is_ways}
+use Rattle.std.proofs.lemmas.Bool.{cases_Bool, and_parts, and_from, or_left, or_right, eqb-true, eq-eqb, leb-true, le-leb, false≢true, not_from_false}
+use Rattle.std.proofs.lemmas.List.Folds.{Any-from_list_any}
+use Rattle.cxl_enc.specs.Codes.{bits_of, code_in_table}
 use Rattle.cxl_enc.specs.Caps.{targets_of, is_target_count}
-use Rattle.cxl_enc.specs.Limits.{unit}
-use Rattle.cxl_topo.specs.declared.node.Node.{Node}
-use Rattle.cxl_topo.specs.declared.node.Parent.{Parent}
-use Rattle.cxl_topo.specs.Kinds.{is_endpoint}
 use Rattle.cxl_topo.specs.Tree.{is_endpoint_at, is_port_at, parent_of, child_of}
 use Rattle.cxl_topo.specs.Laws.{AreTreeLaws}
 use Rattle.cxl_regs.specs.Rules.{endpoint_ways_ok, select_ok}
-use Rattle.cxl_span.specs.Allotting.{all_committed, cursor_of, IsLeastSpan}
+use Rattle.cxl_span.specs.Allotting.{all_committed, cursor_of}
 use Rattle.cxl_span.specs.Partitions.{partition_start, partition_end}
 use Rattle.cxl_window.specs.Fields.{WindowFields}
 use Rattle.cxl_model.specs.declared.request.Request.{Request}
@@ -24,23 +19,21 @@ use Rattle.cxl_model.specs.System.{System, decoders_at, ram_at, pmem_at}
 use Rattle.cxl_model.specs.Counts.{is_under}
 use Rattle.cxl_model.specs.Rules.{are_distinct}
 use Rattle.cxl_model.specs.Plans.{plan_code}
-use Rattle.cxl_legal.specs.Used.{request_ways, is_used, count_under, is_port_used, used_ports, count_at_port, planned_ways, planned_bits_above, planned_code}
-use Rattle.cxl_legal.specs.Endpoints.{cap_at, has_even_ports, lacks_decoder, share_of, HasRoom}
-use Rattle.cxl_legal.specs.Windows.{can_select, can_have_ways}
+use Rattle.cxl_legal.specs.Used.{request_ways, is_used, count_under, is_port_used, used_ports, planned_ways, planned_bits_above, planned_code}
+use Rattle.cxl_legal.specs.Endpoints.{cap_at, share_of}
 use Rattle.cxl_legal.specs.Bases.{last_end, base_step}
 use Rattle.cxl_legal.specs.Stated.{Fits}
 use Rattle.cxl_pick.specs.declared.want.Want.{Want}
-use Rattle.cxl_pick.specs.Picking.{asked, latest_start, wanted_code, is_open, wanted_share, has_room, can_serve_itself, port_code, can_serve_by, children_of, port_gives, gives_within}
-use Rattle.cxl_pick.proofs.Sums.{one, total, length-filter-total, total-same, once}
-use Rattle.cxl_pick.proofs.Trees.{KnownTree, parent_is_port, port_no_endpoint, under_endpoint}
-use Rattle.cxl_pick.proofs.Below.{WayDown, way_down}
+use Rattle.cxl_pick.specs.Picking.{asked, wanted_code, is_open, wanted_share, has_room, can_serve_itself, port_code, can_serve_by, children_of, gives_within}
+use Rattle.cxl_pick.proofs.Sums.{one, length-filter-total, total-same, once}
+use Rattle.cxl_pick.proofs.Trees.{parent_is_port, under_endpoint}
+use Rattle.cxl_pick.proofs.Below.{way_down}
 use Rattle.cxl_pick.proofs.Lists.{is_in, in_is, distinct_test, found}
-use Rattle.cxl_pick.proofs.Shares.{Asked, used_endpoint, used_child, UsedChild, endpoint_within, even_shares, ports_are_used}
+use Rattle.cxl_pick.proofs.Shares.{Asked, used_endpoint, used_child, ports_are_used}
 use Rattle.cxl_pick.proofs.Numbers.{count_tried, some_count}
-use Rattle.cxl_pick.proofs.Codes.{LieEvenly, port_ways, code_told}
+use Rattle.cxl_pick.proofs.Codes.{port_ways, code_told}
 use Rattle.cxl_pick.proofs.Evenly.{even_at, evenly, asked_of, told, used_within}
-
-use Rattle.cxl_pick.proofs.Giving.{step_below, at_endpoint, at_port, gives_none, more_given}
+use Rattle.cxl_pick.proofs.Giving.{step_below, at_endpoint, at_port, more_given}
 
 pub record Kept (s : System) (want : Want) (w : WindowFields) (set : List ℕ) (base : ℕ) : Type 0 where
   pub laws : AreTreeLaws s.nodes
@@ -190,10 +183,11 @@ endpoint_gives : {s : System} {want : Want} {w : WindowFields} {set : List ℕ} 
     → Gives s want w set (suc k) n
 endpoint_gives {s} {want} {w} {set} {base} kept k n endpoint used =
     let m : ℕ = under_of s want set n in
-    let single = one_under (asked_of kept.laws kept.fits) n endpoint used (distinct_test set kept.fits.endpoints.distinct) in
-    (n ∷ [],
-    at_endpoint k s want w (latest want w) n m endpoint
-    ∙ ap (λ (b : Bool). if b then Some (n ∷ []) else None) (and_from (m == 1) (can_serve_itself s want w (latest want w) n) (eq-eqb m 1 single) (serves_itself kept n endpoint used)))
+    let single = one_under (asked_of kept.laws kept.fits) n endpoint used (distinct_test set kept.fits.endpoints.distinct) in (
+      n ∷ [],
+      at_endpoint k s want w (latest want w) n m endpoint
+          ∙ ap (λ (b : Bool). if b then Some (n ∷ []) else None) (and_from (m == 1) (can_serve_itself s want w (latest want w) n) (eq-eqb m 1 single) (serves_itself kept n endpoint used)),
+    )
 
 pub gives_same : (s : System) (want : Want) (w : WindowFields) (k n a b : ℕ) → a ≡ b → (xs : List ℕ) → gives_within k s want w (latest want w) n a ≡ Some xs → gives_within k s want w (latest want w) n b ≡ Some xs
 gives_same s want w k n a b same xs is = ap (gives_within k s want w (latest want w) n) (sym same) ∙ is

@@ -1,30 +1,28 @@
 -- An accepted image without its windows keeps K1 to K8, and what a window gives by the table of offers.
 use Rattle.std.proofs.Common.{◌≡◌, ℕ, zero, suc, ◌+◌, ◌*◌, ◌/◌, ◌%◌, ◌<◌, ◌≤◌, Bool, true, false, if◌then◌else◌, List, [], ◌∷◌, length, map, Option, Some, None, Vec, Global, refl, sym, ap, ◌∙◌, subst, inl, inr, arith}
-use Rattle.std.specs.Prelude.{◌==◌, slice_get, option_and_then, All, Contains, AllPairs}
+use Rattle.std.specs.Prelude.{option_and_then}
 use Rattle.std.specs.Option.{option_map_or}
-use Rattle.std.specs.List.{list_any}
-use Rattle.std.proofs.lemmas.Bool.{cases_eq, cases_lt, ne_eqb, false≢true}
+use Rattle.std.proofs.lemmas.Bool.{cases_eq, cases_lt, false≢true}
 use Rattle.std.proofs.lemmas.Option.{none-some, same_Some, slice_get_past}
 use Rattle.cxl_topo.specs.declared.node.Node.{Node}
 use Rattle.cxl_topo.specs.Kinds.{is_bridge}
 use Rattle.cxl_topo.specs.Tree.{is_bridge_at, bridge_with, bridge_uids}
-use Rattle.cxl_regs.specs.Registers.{Registers}
 use Rattle.cxl_window.specs.Fields.{WindowFields}
 use Rattle.cxl_window.specs.Windows.{AreMadeWith}
 use Rattle.cxl_model.specs.System.{System, IsSystem}
-use Rattle.cxl_model.specs.Accepted.{breaks, breaks_caps, breaks_block, IsAccepted, KeepsBlocks}
+use Rattle.cxl_model.specs.Accepted.{breaks, breaks_caps, IsAccepted}
 use Rattle.cxl_enc.specs.Codes.{is_ways}
 use Rattle.cxl_pick.specs.declared.want.Want.{Want}
 use Rattle.cxl_pick.specs.Picking.{can_take, latest_start, gives, all_given, given_in}
 use Rattle.cxl_pick.specs.inner.Wanted.{IsReady}
-use Rattle.cxl_pick.specs.inner.Offers.{AreOffers, offered, some_of, entry_at}
+use Rattle.cxl_pick.specs.inner.Offers.{AreOffers, some_of, listed_at}
 use Rattle.cxl_pick.proofs.Trees.{KnownTree}
 use Rattle.cxl_pick.proofs.Numbers.{some_ways, few_ways}
-use Rattle.cxl_pick.proofs.Tops.{BridgeOf, bridge_of}
+use Rattle.cxl_pick.proofs.Tops.{bridge_of}
 use Rattle.cxl_pick.proofs.KeptBlocks.{block_rule}
 use Rattle.cxl_pick.proofs.Parts.{take_parts}
 use Rattle.cxl_pick.proofs.Levels.{some_offered}
-use Rattle.cxl_pick.proofs.Offering.{entry_whole, quotient_low}
+use Rattle.cxl_pick.proofs.Offering.{list_whole, quotient_low}
 use Rattle.cxl_pick.proofs.Givings.{at_uid}
 use Rattle.std.proofs.Math.Nat.{div-add-mod}
 
@@ -71,13 +69,13 @@ target_is : (s : System) → KnownTree s.nodes → (want : Want) (w : WindowFiel
     → length table ≡ length s.nodes * 17 → 0 < v → v ≤ 16 → (uid : ℕ) → at_uid s.nodes table v uid ≡ option_and_then (λ b. gives s want w start b v) (bridge_with s.nodes uid)
 target_is s known want w start v table offers all some few uid = go (bridge_with s.nodes uid) refl
   where
-    go : (o : Option ℕ) → bridge_with s.nodes uid ≡ o → option_and_then (λ b. some_of (entry_at table (length s.nodes) b v)) o ≡ option_and_then (λ b. gives s want w start b v) o
+    go : (o : Option ℕ) → bridge_with s.nodes uid ≡ o → option_and_then (λ b. some_of (listed_at table (length s.nodes) b v)) o ≡ option_and_then (λ b. gives s want w start b v) o
     go None at = refl
     go (Some b) at =
         let own = bridge_of known uid b at in
         let node : own.node ≡ b = same_some (sym own.is ∙ at) in
         let within = bridge_within s.nodes b (subst (λ (n : ℕ). is_bridge_at s.nodes n ≡ true) node own.bridge) in
-        ap some_of (entry_whole s want w start b v table offers within all some few) ∙ some_offered s known want w start b v some
+        ap some_of (list_whole s want w start b v table offers within all some few) ∙ some_offered s known want w start b v some
       where
         same_some : {x y : ℕ} → Some x ≡ Some y → x ≡ y
         same_some {x} {y} is = same_Some x y is

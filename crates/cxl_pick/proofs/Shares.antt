@@ -1,23 +1,23 @@
 -- The endpoints of a request that lie under a node lie under its used ports.
-use Rattle.std.proofs.Common.{◌≡◌, ℕ, zero, suc, ◌+◌, ◌*◌, ◌/◌, ◌<◌, ◌⊎◌, Bool, true, false, ◌||◌, ◌&&◌, List, [], ◌∷◌, length, get_or, map, Option, Some, None, refl, sym, ap, ◌∙◌, subst, inl, inr, arith}
-use Rattle.std.specs.Prelude.{◌==◌, All, filter, slice_get}
+use Rattle.std.proofs.Common.{◌≡◌, ℕ, suc, ◌+◌, ◌*◌, ◌<◌, Bool, true, false, List, [], ◌∷◌, length, get_or, Option, Some, None, refl, sym, ap, ◌∙◌, inl, inr, arith}
+use Rattle.std.specs.Prelude.{◌==◌, All}
 use Rattle.std.specs.Option.{option_map_or}
 use Rattle.std.specs.List.{list_any, range_with_len}
-use Rattle.std.proofs.lemmas.Bool.{cases_lt, cases_Bool, or_parts, eqb-true, eq-eqb, false_from_ne_true, false≢true}
-use Rattle.std.proofs.lemmas.Option.{slice_get_past, none-some, same_Some}
+use Rattle.std.proofs.lemmas.Bool.{cases_lt, false≢true}
+use Rattle.std.proofs.lemmas.Option.{slice_get_past, same_Some}
 use Rattle.std.proofs.lemmas.List.Elements.{All-head, All-tail, filter_passes}
 use Rattle.std.proofs.lemmas.List.Folds.{Any-from_list_any}
 use Rattle.cxl_topo.specs.declared.node.Node.{Node}
 use Rattle.cxl_topo.specs.declared.node.Parent.{Parent}
 use Rattle.cxl_topo.specs.Kinds.{is_endpoint}
-use Rattle.cxl_topo.specs.Tree.{is_endpoint_at, is_port_at, parent_of, child_of}
+use Rattle.cxl_topo.specs.Tree.{is_endpoint_at, parent_of, child_of}
 use Rattle.cxl_model.specs.declared.request.Request.{Request}
 use Rattle.cxl_model.specs.System.{System}
 use Rattle.cxl_model.specs.Counts.{is_under}
-use Rattle.cxl_legal.specs.Used.{HasBytePorts, AreEndpoints, request_ways, is_used, count_under, is_port_used, used_ports, count_at_port}
+use Rattle.cxl_legal.specs.Used.{HasBytePorts, AreEndpoints, is_used, count_under, is_port_used, used_ports, count_at_port}
 use Rattle.cxl_pick.proofs.Sums.{one, total, length-filter-total, total-same, total-zero, exchange, list_any-weaker, once}
 use Rattle.cxl_pick.proofs.Trees.{KnownTree, same_test, under_endpoint}
-use Rattle.cxl_pick.proofs.Below.{under_parent, WayDown, way_down, one_child}
+use Rattle.cxl_pick.proofs.Below.{under_parent, way_down, one_child}
 use Rattle.cxl_pick.proofs.Lists.{is_in, numbers_differ, is_number, none_filtered, filter_total, total_each}
 
 -- a request of endpoints over a legal tree

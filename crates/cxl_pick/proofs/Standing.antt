@@ -1,41 +1,26 @@
 -- Each node above a set that is given gave those of the set that lie under it.
-use Rattle.std.proofs.Common.{◌≡◌, ◌≢◌, ℕ, zero, suc, ◌+◌, ◌*◌, ◌/◌, ◌%◌, ◌<◌, ◌≤◌, ◌⊎◌, Bool, true, false, not, ◌&&◌, ◌||◌, if◌then◌else◌, List, [], ◌∷◌, length, get_or, map, Option, Some, None, refl, sym, ap, ◌∙◌, subst, inl, inr, arith}
-use Rattle.std.specs.Prelude.{◌==◌, All, AllPairs, Contains, filter, option_and_then, slice_get}
-use Rattle.std.specs.Option.{option_map_or}
-use Rattle.std.specs.List.{list_any, filter_map, range_with_len}
-use Rattle.std.proofs.Math.Nat.{mul_comm, div-add-mod}
-use Rattle.std.proofs.lemmas.Bool.{cases_Bool, and_parts, and_from, eqb-true, eq-eqb, false≢true}
+use Rattle.std.proofs.Common.{◌≡◌, ℕ, zero, suc, ◌/◌, true, false, ◌&&◌, List, length, get_or, Some, None, refl, sym, ap, ◌∙◌, subst}
+use Rattle.std.specs.Prelude.{◌==◌}
+use Rattle.std.proofs.lemmas.Bool.{and_parts, and_from, eq-eqb}
 use Rattle.std.proofs.lemmas.Option.{none-some, same_Some}
 use Rattle.std.proofs.lemmas.List.Folds.{Any-from_list_any, list_any_at}
-use Rattle.cxl_enc.specs.Codes.{is_ways}
-use Rattle.cxl_enc.specs.Caps.{is_target_count}
 use Rattle.cxl_topo.specs.declared.node.Parent.{Parent}
-use Rattle.cxl_topo.specs.Laws.{AreTreeLaws}
-use Rattle.cxl_topo.specs.Tree.{is_endpoint_at, is_port_at, is_bridge_at, uid_at, parent_of, child_of, bridge_with}
+use Rattle.cxl_topo.specs.Tree.{is_endpoint_at, parent_of}
 use Rattle.cxl_window.specs.Fields.{WindowFields}
-use Rattle.cxl_window.specs.Position.{is_usable}
-use Rattle.cxl_regs.specs.Words.{has_bit}
-use Rattle.cxl_model.specs.declared.request.Request.{Request}
-use Rattle.cxl_model.specs.System.{System, IsSystem}
-use Rattle.cxl_model.specs.Rules.{are_distinct, permits}
+use Rattle.cxl_model.specs.System.{System}
 use Rattle.cxl_model.specs.Counts.{is_under}
-use Rattle.cxl_legal.specs.Used.{HasBytePorts, AreEndpoints, is_used, count_under, is_port_used, used_ports, count_at_port}
-use Rattle.cxl_legal.specs.Windows.{agrees_on_gran}
+use Rattle.cxl_legal.specs.Used.{is_used, count_under}
 use Rattle.cxl_pick.specs.declared.want.Want.{Want}
-use Rattle.cxl_pick.specs.Picking.{asked, can_take, children_of, latest_start, gives, gives_within, all_given, given_in, AreRising}
-use Rattle.cxl_pick.proofs.Trees.{KnownTree, up_tree, same_test, parent_is_port, port_no_endpoint}
-use Rattle.cxl_pick.proofs.Below.{WayDown, way_down, under_self, under_parent, one_child}
-use Rattle.cxl_pick.proofs.Lists.{is_in, in_from, in_is, distinct_test, same_length, some_filtered}
-use Rattle.cxl_pick.proofs.Numbers.{some_ways, some_count, times_tell}
-use Rattle.cxl_pick.proofs.Shares.{Asked, endpoint_within, used_parent, even_shares, used_child, UsedChild, ports_are_used}
-use Rattle.cxl_pick.proofs.Tops.{BridgeOf, bridge_of, bridge_node, one_top}
-use Rattle.cxl_pick.proofs.Codes.{LieEvenly}
-use Rattle.cxl_pick.proofs.Evenly.{Windowed, windowed}
+use Rattle.cxl_pick.specs.Picking.{asked, children_of, gives_within}
+use Rattle.cxl_pick.proofs.Trees.{up_tree, same_test, parent_is_port, port_no_endpoint}
+use Rattle.cxl_pick.proofs.Below.{under_parent, one_child}
+use Rattle.cxl_pick.proofs.Lists.{is_in, distinct_test, same_length}
+use Rattle.cxl_pick.proofs.Shares.{used_parent}
+use Rattle.cxl_pick.proofs.Tops.{one_top}
 use Rattle.cxl_pick.proofs.Giving.{gives_none}
-use Rattle.cxl_pick.proofs.Pieces.{Source, Pieces, Apart, AllPieces, first_pieces, taken, all_pieces}
-use Rattle.cxl_pick.proofs.Taking.{offer, Serves, serves, Can, can_parts, whole_share, child_from, Given, offers_apart, given_is}
-
-use Rattle.cxl_pick.proofs.Parts.{OfWindow, Takes, at_target, InWindow, Picked, known_of, own_window, AtTarget, at_bridge, all_targets, in_given, in_set, given_endpoint, named, differ, set_asked, all_below, set_long}
+use Rattle.cxl_pick.proofs.Pieces.{Source, first_pieces, taken}
+use Rattle.cxl_pick.proofs.Taking.{offer, Serves, serves, child_from, Given, offers_apart, given_is}
+use Rattle.cxl_pick.proofs.Parts.{at_target, Picked, known_of, AtTarget, at_bridge, all_targets, in_given, in_set, given_endpoint, differ, set_asked, all_below}
 
 -- what node n gave, from the level k on, is what lies of the set under it
 pub record Part (s : System) (want : Want) (w : WindowFields) (start : ℕ) (set : List ℕ) (n : ℕ) : Type 0 where

@@ -1,7 +1,7 @@
 -- What a node gives: so many endpoints that lie under it.
-use Rattle.std.proofs.Common.{◌≡◌, ℕ, zero, suc, ◌+◌, ◌*◌, ◌/◌, ◌%◌, ◌<◌, ◌≤◌, Bool, true, false, not, ◌&&◌, ◌||◌, if◌then◌else◌, cond, List, [], ◌∷◌, length, Option, Some, None, refl, sym, ap, ◌∙◌, subst, inl, inr, arith}
-use Rattle.std.specs.Prelude.{◌==◌, nat_le, find, take, option_map}
-use Rattle.std.specs.List.{list_any, filter_map, flat_map, range_with_len}
+use Rattle.std.proofs.Common.{◌≡◌, ℕ, zero, suc, ◌*◌, ◌/◌, ◌%◌, ◌≤◌, Bool, true, false, ◌&&◌, ◌||◌, if◌then◌else◌, cond, List, [], ◌∷◌, length, Option, Some, None, refl, sym, ap, ◌∙◌, subst, inl, inr, arith}
+use Rattle.std.specs.Prelude.{◌==◌, nat_le, find, option_map}
+use Rattle.std.specs.List.{filter_map, range_with_len}
 use Rattle.std.proofs.lemmas.Bool.{cases_Bool, and_parts, or_cases, or_left, or_right, eqb-true, eq-eqb, leb-true, false≢true}
 use Rattle.std.proofs.lemmas.Option.{none-some, same_Some}
 use Rattle.cxl_enc.specs.Codes.{bits_of}
@@ -15,13 +15,13 @@ use Rattle.cxl_model.specs.Rules.{are_distinct}
 use Rattle.cxl_model.specs.Counts.{is_under}
 use Rattle.cxl_legal.specs.Endpoints.{cap_at}
 use Rattle.cxl_pick.specs.declared.want.Want.{Want}
-use Rattle.cxl_pick.specs.Picking.{is_open, can_serve_itself, port_code, can_serve_by, children_of, port_gives, gives_within}
+use Rattle.cxl_pick.specs.Picking.{is_open, can_serve_itself, port_code, can_serve_by, children_of, gives_within}
 use Rattle.cxl_pick.proofs.Trees.{KnownTree}
 use Rattle.cxl_pick.proofs.Below.{under_self, under_parent, one_child}
 use Rattle.cxl_pick.proofs.Lists.{is_in, numbers_differ, find_passes}
 use Rattle.cxl_pick.proofs.Numbers.{each_count, count_found}
 use Rattle.cxl_pick.proofs.Giving.{gives_none, at_endpoint, at_port}
-use Rattle.cxl_pick.proofs.Pieces.{Source, Pieces, Apart, first_pieces, taken, taken_length, given_from, given_differ}
+use Rattle.cxl_pick.proofs.Pieces.{Apart, first_pieces, taken, taken_length, given_from, given_differ}
 
 -- ---- an endpoint that gives
 

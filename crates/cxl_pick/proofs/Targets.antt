@@ -1,5 +1,5 @@
 -- Where a set of endpoints keeps all that a request has to, each target bridge of the window gives its share.
-use Rattle.std.proofs.Common.{◌≡◌, ℕ, zero, suc, ◌+◌, ◌-◌, ◌*◌, ◌/◌, ◌%◌, ◌<◌, ◌≤◌, Bool, true, false, not, ◌&&◌, if◌then◌else◌, List, [], ◌∷◌, ◌++◌, length, get_or, map, Option, Some, None, refl, sym, ap, ◌∙◌, subst, arith}
+use Rattle.std.proofs.Common.{◌≡◌, ℕ, ◌*◌, ◌/◌, ◌%◌, ◌<◌, Bool, true, not, ◌&&◌, if◌then◌else◌, List, [], ◌∷◌, ◌++◌, length, get_or, map, Option, Some, None, refl, sym, ap, ◌∙◌, subst, arith}
 use Rattle.std.specs.Prelude.{◌==◌, All, option_map, option_and_then}
 use Rattle.std.proofs.Math.Nat.{mul-div_cancel, mul-mod_left}
 use Rattle.std.proofs.lemmas.Bool.{and_from, eq-eqb, not_from_false}
@@ -11,14 +11,12 @@ use Rattle.cxl_window.specs.Fields.{WindowFields}
 use Rattle.cxl_window.specs.Position.{is_usable}
 use Rattle.cxl_model.specs.System.{System}
 use Rattle.cxl_model.specs.Rules.{permits}
-use Rattle.cxl_legal.specs.Used.{is_used, count_under}
+use Rattle.cxl_legal.specs.Used.{count_under}
 use Rattle.cxl_legal.specs.Windows.{agrees_on_gran}
 use Rattle.cxl_pick.specs.declared.want.Want.{Want}
 use Rattle.cxl_pick.specs.Picking.{asked, can_take, latest_start, gives, all_given, given_in}
 use Rattle.cxl_pick.proofs.Numbers.{some_ways}
-use Rattle.cxl_pick.proofs.Shares.{Asked}
-use Rattle.cxl_pick.proofs.Tops.{BridgeOf, bridge_of}
-use Rattle.cxl_pick.proofs.Codes.{LieEvenly}
+use Rattle.cxl_pick.proofs.Tops.{bridge_of}
 use Rattle.cxl_pick.proofs.Evenly.{asked_of, evenly, windowed, UsedTarget, used_target}
 use Rattle.cxl_pick.proofs.Giving.{start_is}
 use Rattle.cxl_pick.proofs.Serving.{Kept, latest, small_enough, gives_same, used_gives}
@@ -47,10 +45,11 @@ target_gives {s} {want} {w} {set} {base} kept uid target =
     let top : parent_of s.nodes target.node ≡ None = subst (λ (n : ℕ). parent_of s.nodes n ≡ None) node of.top in
     let share : count_under s (asked want set) target.node * w.ways ≡ want.ways = even.tops target.node top target.used ∙ kept.all in
     let quotient : count_under s (asked want set) target.node ≡ want.ways / w.ways =
-    sym (mul-div_cancel (count_under s (asked want set) target.node) (some_ways w.ways even.ways)) ∙ ap (λ (k : ℕ). k / w.ways) share in
-    (own.0,
-    ap (option_and_then (λ b. gives s want w (latest want w) b (want.ways / w.ways))) target.is
-    ∙ gives_same s want w (length s.nodes) target.node (count_under s (asked want set) target.node) (want.ways / w.ways) quotient own.0 own.1)
+    sym (mul-div_cancel (count_under s (asked want set) target.node) (some_ways w.ways even.ways)) ∙ ap (λ (k : ℕ). k / w.ways) share in (
+      own.0,
+      ap (option_and_then (λ b. gives s want w (latest want w) b (want.ways / w.ways))) target.is
+          ∙ gives_same s want w (length s.nodes) target.node (count_under s (asked want set) target.node) (want.ways / w.ways) quotient own.0 own.1,
+    )
 
 divides : {s : System} {want : Want} {w : WindowFields} {set : List ℕ} {base : ℕ} → Kept s want w set base → (uid : ℕ) → UsedTarget s (asked want set) uid → (want.ways % w.ways == 0) ≡ true
 divides {s} {want} {w} {set} {base} kept uid target =
@@ -81,10 +80,11 @@ takes {s} {want} {w} {set} {base} kept =
 pub given_where_kept : {s : System} {want : Want} {w : WindowFields} {set : List ℕ} {base : ℕ} → Kept s want w set base → (given : List ℕ) × (given_in s want w ≡ Some given)
 given_where_kept {s} {want} {w} {set} {base} kept =
     let all = each_given (λ uid. option_and_then (λ b. gives s want w (latest want w) b (want.ways / w.ways)) (bridge_with s.nodes uid)) w.targets
-    (λ k d within. target_gives kept (get_or w.targets k d) (used_target kept.fits k d within)) in
-    (all.0,
-    ap (λ (b : Bool). if b
-    then option_and_then (λ start. all_given (map (λ uid. option_and_then (λ b. gives s want w start b (want.ways / w.ways)) (bridge_with s.nodes uid)) w.targets)) (latest_start want w)
-    else None) (takes kept)
-    ∙ ap (option_and_then (λ start. all_given (map (λ uid. option_and_then (λ b. gives s want w start b (want.ways / w.ways)) (bridge_with s.nodes uid)) w.targets))) (start_is want w (small_enough kept))
-    ∙ all.1)
+    (λ k d within. target_gives kept (get_or w.targets k d) (used_target kept.fits k d within)) in (
+      all.0,
+      ap (λ (b : Bool). if b
+          then option_and_then (λ start. all_given (map (λ uid. option_and_then (λ b. gives s want w start b (want.ways / w.ways)) (bridge_with s.nodes uid)) w.targets)) (latest_start want w)
+          else None) (takes kept)
+          ∙ ap (option_and_then (λ start. all_given (map (λ uid. option_and_then (λ b. gives s want w start b (want.ways / w.ways)) (bridge_with s.nodes uid)) w.targets))) (start_is want w (small_enough kept))
+          ∙ all.1,
+    )

@@ -1,5 +1,5 @@
 -- Which endpoints are picked for a number of ways (this project's rules).
-use Rattle.std.specs.Prelude.{◌≡◌, ℕ, zero, suc, ◌+◌, ◌-◌, ◌*◌, ◌/◌, ◌%◌, ◌<◌, ◌≤◌, ◌==◌, nat_lt, nat_le, ◌&&◌, ◌||◌, ◌↔◌, not, max, Bool, true, false, if◌then◌else◌, List, [], ◌∷◌, ◌++◌, length, map, take, find, slice_get, Contains, AllPairs, Option, Some, None, option_map, option_and_then}
+use Rattle.std.specs.Prelude.{◌≡◌, ℕ, zero, suc, ◌+◌, ◌-◌, ◌*◌, ◌/◌, ◌%◌, ◌<◌, ◌≤◌, ◌==◌, nat_le, ◌&&◌, ◌||◌, ◌↔◌, not, max, Bool, true, false, if◌then◌else◌, List, [], ◌∷◌, ◌++◌, length, map, take, find, slice_get, Contains, AllPairs, Option, Some, None, option_map, option_and_then}
 use Rattle.std.specs.Option.{option_map_or}
 use Rattle.std.specs.List.{filter_map, flat_map, range_with_len}
 use Rattle.cxl_enc.specs.Codes.{third_of, bits_of, log2_of, code_in_table, is_ways}
@@ -15,8 +15,10 @@ use Rattle.cxl_window.specs.Position.{is_usable}
 use Rattle.cxl_model.specs.declared.request.Request.{Request}
 use Rattle.cxl_model.specs.System.{System, decoders_at, ram_at, pmem_at}
 use Rattle.cxl_model.specs.Rules.{permits}
-use Rattle.cxl_model.specs.Plans.{plan_code}
-use Rattle.cxl_legal.specs.Endpoints.{cap_at, share_of}
+use Rattle.cxl_model.specs.declared.plan.Plan.{Plan}
+use Rattle.cxl_model.specs.Plans.{plan_code, IsLegalPlanIn}
+use Rattle.cxl_legal.specs.Used.{AreEndpoints}
+use Rattle.cxl_legal.specs.Endpoints.{cap_at}
 use Rattle.cxl_legal.specs.Windows.{agrees_on_gran}
 use Rattle.cxl_legal.specs.Bases.{last_end, base_step}
 use Rattle.cxl_legal.specs.Stated.{Fits}
@@ -65,7 +67,7 @@ wanted_share want = want.size / want.ways
 abbrev pub has_room : System → Want → ℕ → Bool
 has_room s want m =
     nat_le (max (cursor_of (decoders_at s m)) (partition_start want.kind (ram_at s m)) + wanted_share want)
-        (partition_end want.kind (ram_at s m) (pmem_at s m))
+    (partition_end want.kind (ram_at s m) (pmem_at s m))
 
 -- endpoint m could be one of the region's
 abbrev pub can_serve_itself : System → Want → WindowFields → ℕ → ℕ → Bool
@@ -96,7 +98,7 @@ children_of s n = filter_map (child_of s.nodes n) (range_with_len 0 256)
 abbrev pub port_gives : System → Want → WindowFields → ℕ → ℕ → ℕ → (ℕ → List (List ℕ)) → Option (List ℕ)
 port_gives s want w start n m offers =
     option_map (λ u. flat_map (λ ns. ns) (take u (offers u)))
-        (find (λ u. can_serve_by s want w start n m (length (offers u)) u) (8 ∷ 4 ∷ 2 ∷ 1 ∷ []))
+    (find (λ u. can_serve_by s want w start n m (length (offers u)) u) (8 ∷ 4 ∷ 2 ∷ 1 ∷ []))
 
 -- what node n gives for m endpoints, over fewer than k levels: an endpoint itself for 1, and a port what its children give
 unfoldable pub gives_within : ℕ → System → Want → WindowFields → ℕ → ℕ → ℕ → Option (List ℕ)
@@ -123,7 +125,7 @@ given_in s want w =
     else None
 
 -- the same numbers in rising order
-pub record AreRising (given set : List ℕ) : Type 0 where
+pub record AreInOrder (given set : List ℕ) : Type 0 where
   pub order : AllPairs (λ a b. a < b) set
   pub same : (n : ℕ) → Contains given n ↔ Contains set n
 
@@ -133,7 +135,7 @@ pub record IsPicked (s : System) (want : Want) (w : WindowFields) (set : List �
   pub there : slice_get s.windows place ≡ Some w
   pub given : List ℕ
   pub gives : given_in s want w ≡ Some given
-  pub rising : AreRising given set
+  pub rising : AreInOrder given set
   pub first : (earlier : ℕ) (v : WindowFields) → earlier < place → slice_get s.windows earlier ≡ Some v → given_in s want v ≡ None
 
 -- ---- refusals
@@ -161,3 +163,22 @@ pub record FitsFirst (s : System) (want : Want) (set : List ℕ) : Type 0 where
 -- no set of so many endpoints keeps all that a request has to, in any window at any base
 abbrev pub NothingFits : System → Want → Type 0
 NothingFits s want = (w : WindowFields) (set : List ℕ) (base : ℕ) → length set ≡ want.ways → Fits s (asked want set) w base → ⊥
+
+-- ---- what is picked has a legal plan
+
+-- a set of so many endpoints has a legal plan in this window
+pub record HasPlanIn (s : System) (want : Want) (w : WindowFields) (set : List ℕ) : Type 0 where
+  pub named : AreEndpoints s (asked want set)
+  pub count : length set ≡ want.ways
+  pub plan : Plan
+  pub legal : IsLegalPlanIn s (asked want set) w plan
+
+-- the set has one in a window, and no set of so many endpoints has one in an earlier window
+pub record PlansFirst (s : System) (want : Want) (set : List ℕ) : Type 0 where
+  pub window : WindowFields
+  pub has : HasPlanIn s want window set
+  pub first : (earlier : WindowFields) (other : List ℕ) → earlier.index < window.index → HasPlanIn s want earlier other → ⊥
+
+-- no set of so many endpoints has a legal plan in any window
+abbrev pub NothingPlans : System → Want → Type 0
+NothingPlans s want = (w : WindowFields) (set : List ℕ) → HasPlanIn s want w set → ⊥

@@ -9,8 +9,9 @@ ghost use Rattle.cxl_legal.specs.Used.{HasBytePorts};
 ghost use Rattle.cxl_legal.specs.Endpoints.{IsSize};
 ghost use Rattle.cxl_legal.specs.Stated.{Fits};
 ghost use Rattle.cxl_pick.specs.declared.want.Want.{Want};
-ghost use Rattle.cxl_pick.specs.Picking.{asked, latest_start, given_in, AreRising};
+ghost use Rattle.cxl_pick.specs.Picking.{FitsFirst, NothingFits, PlansFirst, NothingPlans, asked, latest_start, given_in, AreInOrder};
 
+use cxl_legal::{fitting_plans_are_legal, legal_plans_fit};
 use cxl_topo::tree_laws;
 
 /// A law of picking: what the target bridges of a window give is a set of as many endpoints as are wanted, which
@@ -18,10 +19,10 @@ use cxl_topo::tree_laws;
 pub fn given_sets_fit()
     ensures ways { (s : System) (want : Want) (w : WindowFields) (given set : List ℕ) → IsSystem s
         → HasBytePorts s.nodes → IsAccepted s → is_ways want.ways ≡ true → slice_get s.windows w.index ≡ Some w
-        → given_in s want w ≡ Some given → AreRising given set → length set ≡ want.ways }
+        → given_in s want w ≡ Some given → AreInOrder given set → length set ≡ want.ways }
     ensures fits { (s : System) (want : Want) (w : WindowFields) (start : ℕ) (given set : List ℕ) → IsSystem s
         → HasBytePorts s.nodes → IsAccepted s → is_ways want.ways ≡ true → IsSize (asked want set)
-        → IfSome want.gran (λ code. code ≤ 6) → slice_get s.windows w.index ≡ Some w → given_in s want w ≡ Some given → AreRising given set
+        → IfSome want.gran (λ code. code ≤ 6) → slice_get s.windows w.index ≡ Some w → given_in s want w ≡ Some given → AreInOrder given set
         → latest_start want w ≡ Some start → Fits s (asked want set) w start }
 {
     tree_laws();
@@ -35,4 +36,16 @@ pub fn fitting_sets_are_given()
         → (given : List ℕ) × (given_in s want w ≡ Some given) }
 {
     tree_laws();
+}
+
+/// A law of picking: a set that keeps all that a request has to in the first window in which any does has a legal plan
+/// there, and no set has one in an earlier window; and where none keeps it, none has a legal plan.
+pub fn fitting_sets_have_plans()
+    ensures first { (s : System) (want : Want) (set : List ℕ) → length set ≡ want.ways → FitsFirst s want set
+        → PlansFirst s want set }
+    ensures none { (s : System) (want : Want) → IsSystem s → HasBytePorts s.nodes → IsAccepted s
+        → NothingFits s want → NothingPlans s want }
+{
+    legal_plans_fit();
+    fitting_plans_are_legal();
 }

@@ -10,6 +10,6 @@ mod terms;
 mod want;
 
 pub use fault::PickFault;
-pub use laws::{fitting_sets_are_given, given_sets_fit};
+pub use laws::{fitting_sets_are_given, fitting_sets_have_plans, given_sets_fit};
 pub use picking::pick;
 pub use want::Want;

@@ -103,7 +103,13 @@ fn has_room(image: &Image, topo: &Topo, want: &Want, node: u32) -> bool
     ensures { result ≡ has_room (system_of image.now topo.now []) want.now node }
 {
     let capacity = capacity_at(topo, node);
-    match allot(image.block(node), capacity.ram, capacity.pmem, want.kind, share(want)) {
+    match allot(
+        image.block(node),
+        capacity.ram,
+        capacity.pmem,
+        want.kind,
+        share(want),
+    ) {
         Ok(_) => true,
         Err(_) => false,
     }
@@ -150,11 +156,11 @@ pub(crate) fn can_serve_by(
         && m % u == 0
         && u32::from(u) <= cap / 16 % 16
         && usize::from(u) <= willing
-        && (u == 1 || selects(cap, port_code(want, w, m), u))
+        && (u == 1 || selects_among(cap, port_code(want, w, m), u))
 }
 
 /// Whether a port with this capability word selects by a code among its ports.
-fn selects(cap: u32, code: u32, ports: u8) -> bool
+fn selects_among(cap: u32, code: u32, ports: u8) -> bool
     requires { is_target_count ports ≡ true }
     ensures { result ≡ (nat_le code 6 && select_ok cap code (bits_of ports)) }
 {

@@ -2,12 +2,13 @@
 
 ghost use Rattle.std.specs.Prelude.{◌≡◌, ℕ, ◌+◌, ◌-◌, ◌*◌, ◌/◌, ◌<◌, ◌≤◌, ◌==◌, ◌&&◌, not, if◌then◌else◌, [], ◌∷◌, true, false, List, length, take, find, slice_get, Some, IfOk, unwrap_or};
 ghost use Rattle.std.specs.List.{filter_map, flat_map, range_with_len};
+ghost use Rattle.cxl_enc.specs.Caps.{is_target_count};
 ghost use Rattle.cxl_topo.specs.Tree.{is_endpoint_at, child_of};
 ghost use Rattle.cxl_window.specs.Fields.{WindowFields};
 ghost use Rattle.cxl_model.specs.System.{system_of};
 ghost use Rattle.cxl_pick.specs.Picking.{can_serve_itself, can_serve_by};
 ghost use Rattle.cxl_pick.specs.inner.Wanted.{IsSound, IsReady};
-ghost use Rattle.cxl_pick.specs.inner.Offers.{AreChildren, AreOffers, offered, entry_at, offers_at};
+ghost use Rattle.cxl_pick.specs.inner.Offers.{AreChildren, AreOffers, offered, listed_at, offers_at};
 
 use crate::nodes::{can_serve_by, can_serve_itself};
 use crate::want::Want;
@@ -70,7 +71,9 @@ pub(crate) fn offers(
     for place in 0..count * 17 {
         let node = (count - 1 - place / 17) as u32;
         let m = (place % 17) as u8;
-        let own = offer(alloc, image, topo, want, w, start, children, &table, node, m)?;
+        let own = offer(
+            alloc, image, topo, want, w, start, children, &table, node, m,
+        )?;
         table.push(own)?;
     }
     Ok(table)
@@ -103,7 +106,11 @@ fn offer(
         return Ok(Vec::new(alloc));
     }
     if topo.is_endpoint(node) {
-        return own_offer(alloc, gives_itself(image, topo, want, w, start, node, m), node);
+        return own_offer(
+            alloc,
+            gives_itself(image, topo, want, w, start, node, m),
+            node,
+        );
     }
     let own = children[node as usize].as_slice();
     match ports_used(image, topo, want, w, start, own, table, node, m) {
@@ -113,7 +120,15 @@ fn offer(
 }
 
 /// Whether an endpoint gives something for `m` endpoints.
-fn gives_itself(image: &Image, topo: &Topo, want: &Want, w: &Window, start: u64, node: u32, m: u8) -> bool
+fn gives_itself(
+    image: &Image,
+    topo: &Topo,
+    want: &Want,
+    w: &Window,
+    start: u64,
+    node: u32,
+    m: u8,
+) -> bool
     requires ready { IsReady (system_of image.now topo.now []) }
     requires sound { IsSound want.now }
     requires here { node < length topo.now.nodes }
@@ -153,20 +168,44 @@ fn ports_used(
     ensures { result ≡ find (λ u. can_serve_by (system_of image.now topo.now []) want.now w.now start node m
         (length (offers_at table.now (length topo.now.nodes) children.now (m / u))) u) (8 ∷ 4 ∷ 2 ∷ 1 ∷ []) }
 {
-    let count = topo.count();
-    if can_serve_by(image, topo, want, w, start, node, m, willing(count, children, table, m / 8), 8) {
+    if serves_by(image, topo, want, w, start, children, table, node, m, 8) {
         return Some(8);
     }
-    if can_serve_by(image, topo, want, w, start, node, m, willing(count, children, table, m / 4), 4) {
+    if serves_by(image, topo, want, w, start, children, table, node, m, 4) {
         return Some(4);
     }
-    if can_serve_by(image, topo, want, w, start, node, m, willing(count, children, table, m / 2), 2) {
+    if serves_by(image, topo, want, w, start, children, table, node, m, 2) {
         return Some(2);
     }
-    if can_serve_by(image, topo, want, w, start, node, m, willing(count, children, table, m), 1) {
+    if serves_by(image, topo, want, w, start, children, table, node, m, 1) {
         return Some(1);
     }
     None
+}
+
+/// Whether a port could lead to `m` endpoints by `u` of these children.
+fn serves_by(
+    image: &Image,
+    topo: &Topo,
+    want: &Want,
+    w: &Window,
+    start: u64,
+    children: &[u32],
+    table: &[Vec<u32>],
+    node: u32,
+    m: u8,
+    u: u8,
+) -> bool
+    requires ready { IsReady (system_of image.now topo.now []) }
+    requires here { node < length topo.now.nodes }
+    requires some { 0 < m }
+    requires few { m ≤ 16 }
+    requires count { is_target_count u ≡ true }
+    ensures { result ≡ can_serve_by (system_of image.now topo.now []) want.now w.now start node m
+        (length (offers_at table.now (length topo.now.nodes) children.now (m / u))) u }
+{
+    let willing = willing(topo.count(), children, table, m / u);
+    can_serve_by(image, topo, want, w, start, node, m, willing, u)
 }
 
 /// How many children give something for `share` endpoints.
@@ -198,7 +237,7 @@ fn first_offers(
     let mut left = u;
     for child in children {
         if left > 0 && gives(count, table, *child, share) {
-            given.extend_from_slice(entry(count, table, *child, share))?;
+            given.extend_from_slice(listed(count, table, *child, share))?;
             left -= 1;
         }
     }
@@ -207,14 +246,14 @@ fn first_offers(
 
 /// Whether a child gives something for `share` endpoints.
 pub(crate) fn gives(count: u32, table: &[Vec<u32>], child: u32, share: u8) -> bool
-    ensures { result ≡ not (length (entry_at table.now count child share) == 0) }
+    ensures { result ≡ not (length (listed_at table.now count child share) == 0) }
 {
-    !entry(count, table, child, share).is_empty()
+    !listed(count, table, child, share).is_empty()
 }
 
 /// What a node gives for `share` endpoints, by the table of `count` nodes.
-pub(crate) fn entry<'a>(count: u32, table: &'a [Vec<u32>], node: u32, share: u8) -> &'a [u32]
-    ensures { result.now ≡ entry_at table.now count node share }
+pub(crate) fn listed<'a>(count: u32, table: &'a [Vec<u32>], node: u32, share: u8) -> &'a [u32]
+    ensures { result.now ≡ listed_at table.now count node share }
 {
     let place = count.saturating_sub(1).saturating_sub(node) as usize * 17 + usize::from(share);
     match table.get(place) {

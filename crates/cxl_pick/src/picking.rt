@@ -6,13 +6,13 @@ ghost use Rattle.cxl_window.specs.Fields.{WindowFields};
 ghost use Rattle.cxl_window.specs.Windows.{AreMadeWith};
 ghost use Rattle.cxl_model.specs.System.{IsSystem, system_of, bridge_uids};
 ghost use Rattle.cxl_model.specs.Accepted.{IsAccepted};
-ghost use Rattle.cxl_pick.specs.Picking.{IsWantedSize, given_in, all_given, AreRising, IsPicked, NothingGiven, TellsPickFault, FitsFirst, NothingFits};
+ghost use Rattle.cxl_pick.specs.Picking.{IsWantedSize, given_in, all_given, AreInOrder, IsPicked, NothingGiven, TellsPickFault, FitsFirst, NothingFits, PlansFirst, NothingPlans};
 ghost use Rattle.cxl_pick.specs.inner.Wanted.{IsSound, IsReady};
-ghost use Rattle.cxl_pick.specs.inner.Offers.{AreChildren, some_of, entry_at};
+ghost use Rattle.cxl_pick.specs.inner.Offers.{AreChildren, some_of, listed_at};
 
 use crate::fault::PickFault;
-use crate::laws::{fitting_sets_are_given, given_sets_fit};
-use crate::offers::{children, entry, gives, offers};
+use crate::laws::{fitting_sets_are_given, fitting_sets_have_plans, given_sets_fit};
+use crate::offers::{children, gives, listed, offers};
 use crate::terms::{can_take, has_known_ways, has_size, latest_start};
 use crate::want::Want;
 use cxl_image::Image;
@@ -42,6 +42,9 @@ pub fn pick(
     // They keep all that a request has to in a window, and no set of so many endpoints does so in an earlier one.
     ensures fits { IfOk result (λ set. FitsFirst (system_of image.now topo.now windows.now) want.now set.items) }
 
+    // They have a legal plan there, and no set of so many endpoints has one in an earlier window.
+    ensures legal { IfOk result (λ set. PlansFirst (system_of image.now topo.now windows.now) want.now set.items) }
+
     // The first two faults come exactly where they hold, and the third where no set of so many endpoints keeps all
     // that a request has to.
     ensures ways { is_ways want.now.ways ≡ false → result ≡ Err (PickFault.Ways want.now.ways) }
@@ -49,7 +52,11 @@ pub fn pick(
     ensures fault { IfErr result (TellsPickFault (system_of image.now topo.now windows.now) want.now) }
     ensures nothing { IfErr result (λ fault. fault ≡ PickFault.NoSet
         → NothingFits (system_of image.now topo.now windows.now) want.now) }
+    // Then no set of so many endpoints has a legal plan in any window.
+    ensures none { IfErr result (λ fault. fault ≡ PickFault.NoSet
+        → NothingPlans (system_of image.now topo.now windows.now) want.now) }
 {
+    fitting_sets_have_plans();
     given_sets_fit();
     fitting_sets_are_given();
     tree_laws();
@@ -100,7 +107,7 @@ fn pick_first(
     for w in windows {
         match pick_in(alloc, image, topo, want, w, &children)? {
             Some(given) => {
-                let set = rising(alloc, topo.count(), &given)?;
+                let set = in_order(alloc, topo.count(), &given)?;
                 return Ok(Some(set));
             }
             None => {}
@@ -145,7 +152,7 @@ fn all_given(
     share: u8,
 ) -> Result<Option<Vec<u32>>, AllocError>
     ensures { IfOk result (λ o. option_map (λ given. given.items) o
-        ≡ all_given (map (λ uid. option_and_then (λ b. some_of (entry_at table.now (length topo.now.nodes) b share))
+        ≡ all_given (map (λ uid. option_and_then (λ b. some_of (listed_at table.now (length topo.now.nodes) b share))
         (bridge_with topo.now.nodes uid)) targets.now)) }
 {
     let mut given = Vec::new(alloc);
@@ -157,19 +164,19 @@ fn all_given(
         if !gives(count, table, bridge, share) {
             return Ok(None);
         }
-        given.extend_from_slice(entry(count, table, bridge, share))?;
+        given.extend_from_slice(listed(count, table, bridge, share))?;
     }
     Ok(Some(given))
 }
 
 /// The same numbers of nodes in rising order. Takes memory.
-fn rising(alloc: Global, count: u32, given: &[u32]) -> Result<Vec<u32>, AllocError>
+fn in_order(alloc: Global, count: u32, given: &[u32]) -> Result<Vec<u32>, AllocError>
     requires { All (λ n. n < count) given.now }
-    ensures { IfOk result (λ set. AreRising given.now set.items) }
+    ensures { IfOk result (λ set. AreInOrder given.now set.items) }
 {
     let mut set = Vec::new(alloc);
     for node in 0..count {
-        if holds(given, node) {
+        if is_given(given, node) {
             set.push(node)?;
         }
     }
@@ -177,7 +184,7 @@ fn rising(alloc: Global, count: u32, given: &[u32]) -> Result<Vec<u32>, AllocErr
 }
 
 /// Whether the node is among the given ones.
-fn holds(given: &[u32], node: u32) -> bool
+fn is_given(given: &[u32], node: u32) -> bool
     ensures { result ≡ list_any (λ n. n == node) given.now }
 {
     given.contains(&node)

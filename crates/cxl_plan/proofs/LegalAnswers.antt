@@ -1,5 +1,5 @@
 -- An answer's plan is legal, and where it is a fault no plan is.
-use Rattle.std.proofs.Common.{◌≢◌, ℕ, Result, Ok, Err, IfOk, IfErr, OnOk}
+use Rattle.std.proofs.Common.{◌≡◌, ◌≢◌, ◌≤◌, ◌∙◌, sym, subst, ℕ, Result, Ok, Err, IfOk, IfErr, OnOk}
 use Rattle.cxl_window.specs.Fields.{WindowFields}
 use Rattle.cxl_model.specs.declared.request.Request.{Request}
 use Rattle.cxl_model.specs.declared.plan.Plan.{Plan}
@@ -11,8 +11,8 @@ use Rattle.cxl_model.specs.Plans.{IsLegalPlanIn, IsLegalPlan}
 use Rattle.cxl_legal.specs.Used.{AreEndpoints, HasBytePorts}
 use Rattle.cxl_legal.specs.Endpoints.{FitsEndpoints}
 use Rattle.cxl_legal.specs.Stated.{IsStatedPlan, Fits}
-use Rattle.cxl_plan.specs.Faults.{IsFirstPlanFault, IsFirstPlan}
-use Rattle.cxl_plan.proofs.LegalPlans.{MeanEndpoints, MeanWindow, MeanBase, no_legal_plan}
+use Rattle.cxl_plan.specs.Faults.{IsFirstPlanFault, IsFirstPlan, IsLeastPlan}
+use Rattle.cxl_plan.proofs.LegalPlans.{MeanEndpoints, MeanWindow, MeanBase, no_legal_plan, no_earlier_window, no_lower_base}
 
 abbrev pub MakesLegal : Type 0
 MakesLegal = (s : System) (request : Request) (w : WindowFields) (base : ℕ) (plan : Plan) → Fits s request w base → IsStatedPlan s request w base plan → IsLegalPlanIn s request w plan
@@ -41,3 +41,13 @@ module _ (s : System) (request : Request) (system : IsSystem s) (ports : HasByte
     pub no_plan_answer : (answer : Result Plan PlanFault) → IfErr answer (λ fault. fault ≢ faults.Memory → IsFirstPlanFault s request fault) → IfErr answer (λ fault. fault ≢ faults.Memory → (plan : Plan) → IsLegalPlan s request plan → ⊥)
     no_plan_answer (Ok plan) is = tt
     no_plan_answer (Err fault) is = λ real plan legal. no_plan fault real (is real) plan legal
+
+    pub least_answer : (answer : Result Plan PlanFault) → IfOk answer (IsFirstPlan s request) → IfOk answer (IsLeastPlan s request)
+    least_answer (Ok plan) is = record {
+      window = λ v other legal.
+          subst (λ (n : ℕ). n ≤ v.index) (sym is.stated.window)
+          (no_earlier_window endpoints_law window_law base_law s request system ports accepted named is.window plan.found.base is.first v other legal);
+      base = λ v other legal same.
+          no_lower_base endpoints_law window_law base_law s request system ports accepted named is.window plan.found.base is.first v other legal (same ∙ is.stated.window);
+    }
+    least_answer (Err fault) is = tt

@@ -17,6 +17,7 @@ use Rattle.cxl_model.specs.declared.plan.Reason.{Reason}
 use Rattle.cxl_model.specs.declared.plan.Reason.TheVariants as reasons
 use Rattle.cxl_model.specs.System.{System, decoders_at, ram_at, pmem_at}
 use Rattle.cxl_model.specs.Rules.{permits}
+use Rattle.cxl_model.specs.Plans.{IsLegalPlanIn}
 use Rattle.cxl_legal.specs.Used.{request_ways}
 use Rattle.cxl_legal.specs.Endpoints.{IsSize, share_of, is_uneven, lacks_decoder, HasRoom}
 use Rattle.cxl_legal.specs.Windows.{FitsWindow, has_used_bridges, agrees_on_gran, can_select, can_have_ways}
@@ -78,6 +79,11 @@ pub record IsFirstPlan (s : System) (request : Request) (plan : Plan) : Type 0 w
   pub window : WindowFields
   pub first : TakesFirst s request window plan.found.base
   pub stated : IsStatedPlan s request window plan.found.base plan
+
+-- no legal plan of the request stands in an earlier window, nor at a lower base in the same one
+pub record IsLeastPlan (s : System) (request : Request) (plan : Plan) : Type 0 where
+  pub window : (v : WindowFields) (other : Plan) → IsLegalPlanIn s request v other → plan.found.window ≤ v.index
+  pub base : (v : WindowFields) (other : Plan) → IsLegalPlanIn s request v other → v.index ≡ plan.found.window → plan.found.base ≤ other.found.base
 
 -- one reason for each window, in table order
 pub record AreReasons (s : System) (request : Request) (reasons : List Reason) : Type 0 where

@@ -10,7 +10,7 @@ ghost use Rattle.cxl_model.specs.declared.plan.Plan.{Plan};
 ghost use Rattle.cxl_legal.specs.Used.{AreEndpoints, HasBytePorts};
 ghost use Rattle.cxl_legal.specs.Endpoints.{FitsEndpoints};
 ghost use Rattle.cxl_legal.specs.Stated.{IsStatedPlan};
-ghost use Rattle.cxl_plan.specs.Faults.{IsFirstPlanFault, IsFirstPlan};
+ghost use Rattle.cxl_plan.specs.Faults.{IsFirstPlanFault, IsFirstPlan, IsLeastPlan};
 ghost use Rattle.cxl_plan.specs.inner.Uses.{tree_alone, AreUses};
 ghost use Rattle.cxl_plan.specs.inner.Judging.{IsReady, IsEarly, IsSettled};
 
@@ -51,6 +51,7 @@ pub fn plan(
     ensures none { IfErr result (λ fault. fault ≢ PlanFault.Memory
         → (plan : Plan) → IsLegalPlan (system_of image.now topo.now windows.now) request.now plan → ⊥) }
     ensures legal { IfOk result (IsLegalPlan (system_of image.now topo.now windows.now) request.now) }
+    ensures least { IfOk result (IsLeastPlan (system_of image.now topo.now windows.now) request.now) }
     // A plan is the one that is stated in the first window that takes the request, at the least base there.
     ensures plan { IfOk result (λ plan. IsFirstPlan (system_of image.now topo.now windows.now) request.now plan) }
 {

@@ -1,12 +1,12 @@
 -- How many bytes of whole turns, and of one chunk, are dealt to a slot.
-use Rattle.std.proofs.Common.{◌≡◌, ℕ, zero, suc, ◌+◌, ◌-◌, ◌*◌, ◌/◌, ◌%◌, ◌<◌, ◌≤◌, Bool, true, false, count_by, refl, sym, ap, subst, ◌∙◌, inl, inr, arith}
-use Rattle.std.specs.Prelude.{◌==◌, if◌then◌else◌}
+use Rattle.std.proofs.Common.{◌≡◌, ℕ, zero, suc, ◌+◌, ◌-◌, ◌*◌, ◌/◌, ◌%◌, ◌<◌, ◌≤◌, Bool, count_by, sym, ap, ◌∙◌, arith}
+use Rattle.std.specs.Prelude.{◌==◌}
 use Rattle.std.specs.List.{range_with_len}
 use Rattle.std.proofs.Math.Nat.{mod-lt, mul-le-mul_right}
 use Rattle.std.proofs.lemmas.Bool.{eq-eqb, ne_eqb}
 use Rattle.std.proofs.lemmas.Nat.{div-add-mod', div-mul-add, mod-mul-add, div_below, le-div, same_from_place}
 use Rattle.cxl_num.specs.Interleave.{chunk_size}
-use Rattle.cxl_deal.specs.Weaves.{WeaveFields, IsWeave, weave_ways, turns_end, dealt_chunk, dealt_slot, dealt_offset}
+use Rattle.cxl_deal.specs.Weaves.{WeaveFields, weave_ways, turns_end, dealt_chunk, dealt_slot, dealt_offset}
 use Rattle.cxl_range.specs.inner.Woven.{bytes_before}
 use Rattle.cxl_range.proofs.Counts.{count_more, count_all, count_none, count_few}
 use Rattle.cxl_range.proofs.Chunks.{some_chunk}

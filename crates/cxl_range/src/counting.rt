@@ -8,7 +8,7 @@ ghost use Rattle.cxl_model.specs.Regions.{IsRegionIn};
 ghost use Rattle.cxl_range.specs.Extents.{spread_of};
 ghost use Rattle.cxl_range.specs.inner.Woven.{AreCountsBefore};
 
-use crate::woven::{chunk_size, weave_in};
+use crate::woven::{chunk_size, region_weave};
 use cxl_deal::{Weave, chunks_deal_whole, deal, place_tells_address, region_fills_slots};
 use cxl_model::Found;
 use cxl_window::Window;
@@ -28,7 +28,7 @@ pub fn spread(found: &Found, window: &Window, h: u64, len: u64) -> [u64; 16]
     ensures past { (slot : ℕ) → found.now.ways ≤ slot → slot < 16 → slice_index result slot ≡ 0 }
 {
     region_fills_slots();
-    let weave = weave_in(found, window);
+    let weave = region_weave(found, window);
     let before = counts_before(&weave, h);
     let mut counts = counts_before(&weave, h + len);
     for slot in 0..SLOTS {

@@ -11,7 +11,7 @@ ghost use Rattle.cxl_range.specs.Carried.{IsCarried, Follow};
 ghost use Rattle.cxl_range.specs.inner.Woven.{IsWoven};
 
 use crate::laws::extents_carry_their_bytes;
-use crate::woven::{chunk_size, weave_in};
+use crate::woven::{chunk_size, region_weave};
 use cxl_deal::{Weave, deal, region_fills_slots};
 use cxl_model::{Extent, Found, Memory};
 use cxl_window::Window;
@@ -37,7 +37,7 @@ pub fn extents(
     ensures lengths { IfOk result (λ extents. sum_by (λ (extent : Extent). extent.len) extents.items ≡ len) }
 {
     extents_carry_their_bytes();
-    let weave = weave_in(found, window);
+    let weave = region_weave(found, window);
     let mut extents = Vec::new(alloc);
     if found.ways == 1 {
         extents.push(extent_at(found, &weave, h, len))?;

@@ -14,7 +14,7 @@ use cxl_model::{
 use cxl_window::Window;
 
 /// The weave of a region, and what it needs of the region.
-pub(crate) fn weave_in(found: &Found, window: &Window) -> Weave
+pub(crate) fn region_weave(found: &Found, window: &Window) -> Weave
     requires { (s : System) × IsSystem s × IsRegionIn s window.now found.now }
     ensures value { result ≡ weave_fields found.now window.now }
     ensures woven { IsWoven found.now result }

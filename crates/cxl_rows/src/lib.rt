@@ -24,6 +24,8 @@ mod messages;
 #[cfg(test)]
 mod outside;
 #[cfg(test)]
+mod picks;
+#[cfg(test)]
 mod plan_lines;
 #[cfg(test)]
 mod plans;

@@ -1,93 +1,19 @@
 //! Plans over hosts of a few nodes, with regions that are made by register writes.
 
-ghost use Rattle.std.specs.Prelude.{◌≡◌, ◌≤◌, ◌*◌, List, length, sum_by, true, All, IsTrue};
-ghost use Rattle.cxl_cedt.specs.Records.{record_length};
-ghost use Rattle.cxl_topo.specs.declared.node.Node.{Node};
+ghost use Rattle.std.specs.Prelude.{◌≡◌, true, All, IsTrue};
 ghost use Rattle.cxl_topo.specs.Tree.{is_endpoint_at};
-ghost use Rattle.cxl_image.specs.Images.{HasCapsOf};
 
-use cxl_cedt::{Cedt, Cfmws, Chbs, Head, Record};
+use crate::hosts::{
+    BASE, BRIDGE, FORWARDING, GIB, Range, Span, Spot, UNIT, device, host_of, over, window,
+};
 use cxl_check::check;
-use cxl_enc::{FixedList, MemKind, Name, code_of};
-use cxl_image::Image;
+use cxl_enc::{FixedList, MemKind, Name};
 use cxl_model::{Plan, PlanFault, Reason, Request, Room, SpanFault};
 use cxl_plan::plan;
-use cxl_topo::{Capacity, Node, NodeKind, Parent, Topo};
-use cxl_window::windows;
+use cxl_topo::Topo;
 use std::alloc::Global;
 use std::process::Abort;
 use std::test::Fail;
-
-const BASE: u64 = 0x1_0000_0000;
-
-const PORT: u32 = 0x382;
-
-const DEVICE: u32 = 0x1b02;
-
-const HEAD: Head = Head {
-    revision: 1,
-    oem_id: [0; 6],
-    oem_table: [0; 8],
-    oem_revision: 0,
-    creator: [0; 4],
-    creator_revision: 0,
-};
-
-/// A node: the number of its parent and the port there, its bytes of ram and of pmem where it is an endpoint, its
-/// capability word and whether it forwards. A bridge's UID is its number.
-#[derive(Clone, Copy)]
-struct Spot {
-    parent: Option<(u32, u8)>,
-    device: Option<(u64, u64)>,
-    cap: u32,
-    forwards: bool,
-}
-
-const BRIDGE: Spot = Spot {
-    parent: None,
-    device: None,
-    cap: PORT,
-    forwards: false,
-};
-
-const FORWARDING: Spot = Spot {
-    cap: 0x10,
-    forwards: true,
-    ..BRIDGE
-};
-
-const fn device(parent: u32, port: u8, ram: u64, pmem: u64) -> Spot {
-    Spot {
-        parent: Some((parent, port)),
-        device: Some((ram, pmem)),
-        cap: DEVICE,
-        forwards: false,
-    }
-}
-
-/// A window over the bridges of these numbers.
-#[derive(Clone, Copy)]
-struct Span<'a> {
-    base: u64,
-    size: u64,
-    gran: u8,
-    restrict: u16,
-    targets: &'a [u32],
-}
-
-const fn window(size: u64, targets: &[u32]) -> Span<'_> {
-    Span {
-        base: BASE,
-        size,
-        gran: 0,
-        restrict: 0x000e,
-        targets,
-    }
-}
-
-/// A decoder that is committed: node, number, base, size, codes of ways and granularity as in the control word, and
-/// target list or skip.
-type Set = (u32, u8, u64, u64, u32, u64);
 
 /// What is asked for: kind, size, granularity code and endpoints.
 type Asked<'a> = (MemKind, u64, Option<u8>, &'a [u32]);
@@ -110,108 +36,9 @@ enum Told<'a> {
 struct Case<'a> {
     nodes: &'a [Spot],
     windows: &'a [Span<'a>],
-    sets: &'a [Set],
+    ranges: &'a [Range],
     asked: Asked<'a>,
     want: Told<'a>,
-}
-
-fn nodes_of(alloc: Global, spots: &[Spot]) -> Result<Vec<Node>, Fail> {
-    let mut nodes = Vec::new(alloc);
-    for (i, spot) in spots.iter().enumerate() {
-        let letters = [b'n', b'a' + (i / 26 % 26) as u8, b'a' + (i % 26) as u8];
-        let kind = match (spot.device, spot.parent) {
-            (Some((ram, pmem)), _) => NodeKind::Endpoint(Capacity { ram, pmem }),
-            (None, Some(_)) => NodeKind::Switch,
-            (None, None) => NodeKind::Bridge((i % 64) as u32),
-        };
-        nodes.push(Node {
-            name: Name::read(&letters).ok_or("a name")?,
-            kind,
-            parent: spot.parent.map(|(node, port)| Parent { node, port }),
-            cap: spot.cap,
-            forwards: spot.forwards,
-        })?;
-    }
-    Ok(nodes)
-}
-
-fn table_of(rt: &impl Abort, alloc: Global, spans: &[Span], bridges: u32) -> Result<Cedt, Fail> {
-    let mut records = Vec::new(alloc);
-    for uid in 0..bridges {
-        records.push(Record::Chbs(Chbs {
-            uid,
-            version: 1,
-            base: 0x8000_0000,
-            length: 0x1_0000,
-        }))?;
-    }
-    for span in spans {
-        records.push(Record::Cfmws(cfmws_of(rt, alloc, span)?))?;
-    }
-    assert!(rt; records.len() <= 64 && are_short(&records));
-    Ok(Cedt::new(HEAD, records))
-}
-
-fn cfmws_of(rt: &impl Abort, alloc: Global, span: &Span) -> Result<Cfmws, Fail> {
-    assert!(rt; span.targets.len() <= 16 && span.gran <= 6);
-    let ways = code_of(span.targets.len() as u8).expect(rt, "a number of ways");
-    let targets = Vec::from_slice(alloc, span.targets)?;
-    Ok(Cfmws::new(
-        span.base,
-        span.size,
-        ways,
-        false,
-        span.gran,
-        span.restrict,
-        0,
-        targets,
-    ))
-}
-
-/// Whether no record has more than 2,048 bytes.
-fn are_short(records: &[Record]) -> bool
-    ensures { IsTrue result → sum_by record_length records.now ≤ 2048 * length records.now }
-{
-    for item in records {
-        if length_of(item) > 2_048 {
-            return false;
-        }
-    }
-    true
-}
-
-fn length_of(item: &Record) -> usize
-    ensures { result ≡ record_length item.now }
-{
-    match item {
-        Record::Chbs(_) => 32,
-        Record::Cfmws(cfmws) => 36 + 4 * cfmws.targets().len(),
-        Record::Cxims(cxims) => 8 + 8 * cxims.maps().len(),
-        Record::Other(other) => 4 + other.body().len(),
-    }
-}
-
-/// Commits a decoder by register writes.
-fn commit(image: &mut Image, set: &Set)
-    ensures { (nodes : List Node) → HasCapsOf image.old nodes → HasCapsOf image.new nodes }
-{
-    let (node, decoder, base, size, codes, tail) = *set;
-    let at = 0x10 + 0x20 * u32::from(decoder);
-    let words = [
-        (4, 2),
-        (at, (base & 0xffff_ffff) as u32),
-        (at + 4, (base >> 32) as u32),
-        (at + 8, (size & 0xffff_ffff) as u32),
-        (at + 12, (size >> 32) as u32),
-        (at + 20, (tail & 0xffff_ffff) as u32),
-        (at + 24, (tail >> 32) as u32),
-        (at + 16, 0x1200 | codes),
-    ];
-    for (off, value) in words {
-        if node < image.count() {
-            image.write32(node, off, value);
-        }
-    }
 }
 
 fn request_of(alloc: Global, asked: &Asked) -> Result<Request, Fail> {
@@ -239,23 +66,11 @@ fn are_devices(topo: &Topo, endpoints: &[u32]) -> bool
 
 /// The plan of a case over its image, which has to be accepted.
 fn planned(rt: &impl Abort, alloc: Global, case: &Case) -> Result<Result<Plan, PlanFault>, Fail> {
-    let bridges = case
-        .nodes
-        .iter()
-        .filter(|spot| spot.parent.is_none())
-        .count();
-    assert!(rt; bridges <= 16);
-    let topo = Topo::new(alloc, nodes_of(alloc, case.nodes)?, 65_536)?;
-    let table = table_of(rt, alloc, case.windows, bridges as u32)?;
-    let windows = windows(alloc, &table, Some(topo.uids()))?;
-    let mut image = Image::new(alloc, &topo)?;
-    for set in case.sets {
-        commit(&mut image, set);
-    }
-    let _regions = check(alloc, &image, &topo, &windows)?;
+    let host = host_of(rt, alloc, case.nodes, case.windows, case.ranges)?;
+    let _regions = check(alloc, &host.image, &host.topo, &host.windows)?;
     let request = request_of(alloc, &case.asked)?;
-    assert!(rt; are_devices(&topo, request.endpoints.items()));
-    Ok(plan(alloc, &image, &topo, &windows, &request))
+    assert!(rt; are_devices(&host.topo, request.endpoints.items()));
+    Ok(plan(alloc, &host.image, &host.topo, &host.windows, &request))
 }
 
 fn answer<'a>(outcome: &'a Result<Plan, PlanFault>) -> Told<'a> {
@@ -277,12 +92,8 @@ fn answer<'a>(outcome: &'a Result<Plan, PlanFault>) -> Told<'a> {
     }
 }
 
-const GIB: u64 = 0x4000_0000;
-
-const UNIT: u64 = 0x1000_0000;
-
 /// Two bridges with one endpoint of 2 GiB each.
-fn pair() -> [Spot; 4] {
+fn one_each() -> [Spot; 4] {
     [
         BRIDGE,
         BRIDGE,
@@ -292,7 +103,7 @@ fn pair() -> [Spot; 4] {
 }
 
 /// Two bridges with two endpoints each.
-fn server() -> [Spot; 6] {
+fn two_each() -> [Spot; 6] {
     [
         BRIDGE,
         BRIDGE,
@@ -307,6 +118,7 @@ const LARGE: Span = Span {
     base: 0x10_0000_0000,
     size: 0x100_0000_0000,
     gran: 0,
+    xor: false,
     restrict: 0x000e,
     targets: &[0, 1],
 };
@@ -315,22 +127,18 @@ const LARGE: Span = Span {
 fn named_endpoints(rt: HostRuntime) -> Result<(), Fail> {
     let alloc = rt.alloc();
     let of_four = [
-        (0, 0, LARGE.base, GIB, 0x11, 0x0100),
-        (1, 0, LARGE.base, GIB, 0x11, 0x0100),
-        (2, 0, LARGE.base, GIB, 0x20, 0),
-        (3, 0, LARGE.base, GIB, 0x20, 0),
-        (4, 0, LARGE.base, GIB, 0x20, 0),
-        (5, 0, LARGE.base, GIB, 0x20, 0),
+        over(0, 2, LARGE.base, GIB, 0x11, 0x0100),
+        over(2, 6, LARGE.base, GIB, 0x20, 0),
     ];
-    let mut bare = server();
+    let mut bare = two_each();
     bare[2] = device(0, 0, 0, 0);
     let ram = MemKind::Ram;
     let whole = Told::Planned(0, LARGE.base, 0, 4);
-    let rows: [(&[Spot], &[Set], Asked, Told); 8] = [
-        (&server(), &[], (ram, GIB, None, &[2, 3, 4, 5]), whole),
-        (&server(), &[], (ram, GIB, None, &[5, 2, 4, 3]), whole),
+    let rows: [(&[Spot], &[Range], Asked, Told); 8] = [
+        (&two_each(), &[], (ram, GIB, None, &[2, 3, 4, 5]), whole),
+        (&two_each(), &[], (ram, GIB, None, &[5, 2, 4, 3]), whole),
         (
-            &server(),
+            &two_each(),
             &of_four,
             (ram, 2 * UNIT, None, &[2, 4]),
             Told::Planned(0, 0x10_4000_0000, 0, 2),
@@ -341,15 +149,20 @@ fn named_endpoints(rt: HostRuntime) -> Result<(), Fail> {
             (ram, 2 * UNIT, None, &[3, 4]),
             Told::Planned(0, LARGE.base, 0, 2),
         ),
-        (&server(), &[], (ram, UNIT, None, &[2, 2]), Told::Repeat(2)),
         (
-            &server(),
+            &two_each(),
+            &[],
+            (ram, UNIT, None, &[2, 2]),
+            Told::Repeat(2),
+        ),
+        (
+            &two_each(),
             &[],
             (ram, 3 * UNIT, None, &[2, 3, 4]),
             Told::Uneven(1),
         ),
         (
-            &server(),
+            &two_each(),
             &[],
             (ram, 2 * UNIT, None, &[2, 3]),
             Told::NoWindow(&[Reason::Bridges]),
@@ -361,11 +174,11 @@ fn named_endpoints(rt: HostRuntime) -> Result<(), Fail> {
             Told::Span(2, SpanFault::NoRoom(Room { start: 0, limit: 0 })),
         ),
     ];
-    for (nodes, sets, asked, want) in rows {
+    for (nodes, ranges, asked, want) in rows {
         let case = Case {
             nodes,
             windows: &[LARGE],
-            sets,
+            ranges,
             asked,
             want,
         };
@@ -378,39 +191,44 @@ fn named_endpoints(rt: HostRuntime) -> Result<(), Fail> {
 #[test]
 fn one_endpoint(rt: HostRuntime) -> Result<(), Fail> {
     let alloc = rt.alloc();
-    let sets = [
-        (0, 0, BASE, UNIT, 0, 0),
-        (1, 0, BASE, UNIT, 0, 0),
-        (0, 1, BASE + UNIT, UNIT, 0, 0),
-        (1, 1, BASE + UNIT, UNIT, 0, 0x3000_0000),
-    ];
+    let second = Range {
+        decoder: 1,
+        ..over(0, 1, BASE + UNIT, UNIT, 0, 0)
+    };
+    let skipping = Range {
+        first: 1,
+        end: 2,
+        tail: 0x3000_0000,
+        ..second
+    };
+    let ranges = [over(0, 2, BASE, UNIT, 0, 0), second, skipping];
     let room = Room {
         start: 0x5000_0000,
         limit: 0x8000_0000,
     };
-    let rows: [(&[Set], Asked, Told); 4] = [
+    let rows: [(&[Range], Asked, Told); 4] = [
         (
-            &sets[..2],
+            &ranges[..1],
             (MemKind::Pmem, UNIT, None, &[1]),
             Told::Planned(0, BASE + UNIT, 0, 1),
         ),
         (
-            &sets,
+            &ranges,
             (MemKind::Ram, UNIT, None, &[1]),
             Told::Span(1, SpanFault::PastRam(0x5000_0000)),
         ),
         (
-            &sets,
+            &ranges,
             (MemKind::Pmem, GIB, None, &[1]),
             Told::Span(1, SpanFault::NoRoom(room)),
         ),
-        (&sets, (MemKind::Ram, 0, None, &[1]), Told::Size),
+        (&ranges, (MemKind::Ram, 0, None, &[1]), Told::Size),
     ];
-    for (sets, asked, want) in rows {
+    for (ranges, asked, want) in rows {
         let case = Case {
             nodes: &[BRIDGE, device(0, 0, GIB, GIB)],
             windows: &[window(4 * GIB, &[0])],
-            sets,
+            ranges,
             asked,
             want,
         };
@@ -423,16 +241,16 @@ fn one_endpoint(rt: HostRuntime) -> Result<(), Fail> {
 #[test]
 fn rows(rt: HostRuntime) -> Result<(), Fail> {
     let alloc = rt.alloc();
-    let mut forwarding = pair();
+    let mut forwarding = one_each();
     forwarding[0] = FORWARDING;
     forwarding[1] = FORWARDING;
     let want = [(0, 0, 0), (1, 0, 0), (2, 0, 1), (3, 0, 1)];
-    let cases: [(&[Spot], &[(u32, u8, u8)]); 2] = [(&pair(), &want), (&forwarding, &want[2..])];
+    let cases: [(&[Spot], &[(u32, u8, u8)]); 2] = [(&one_each(), &want), (&forwarding, &want[2..])];
     for (nodes, want) in cases {
         let case = Case {
             nodes,
             windows: &[window(4 * GIB, &[0, 1])],
-            sets: &[],
+            ranges: &[],
             asked: (MemKind::Ram, 2 * UNIT, None, &[2, 3]),
             want: Told::Planned(0, BASE, 0, 2),
         };
@@ -463,9 +281,9 @@ fn rows(rt: HostRuntime) -> Result<(), Fail> {
 fn target_lists(rt: HostRuntime) -> Result<(), Fail> {
     let alloc = rt.alloc();
     let case = Case {
-        nodes: &server(),
+        nodes: &two_each(),
         windows: &[LARGE],
-        sets: &[],
+        ranges: &[],
         asked: (MemKind::Ram, GIB, None, &[2, 3, 4, 5]),
         want: Told::Planned(0, LARGE.base, 0, 4),
     };
@@ -495,22 +313,18 @@ fn target_lists(rt: HostRuntime) -> Result<(), Fail> {
 #[test]
 fn faults(rt: HostRuntime) -> Result<(), Fail> {
     let alloc = rt.alloc();
-    let mut large = pair();
+    let mut large = one_each();
     large[2] = device(0, 0, 4 * GIB, 0);
     large[3] = device(1, 0, 4 * GIB, 0);
     let whole = [
-        (0, 0, BASE, 4 * GIB, 0, 0),
-        (1, 0, BASE, 4 * GIB, 0, 0),
-        (2, 0, BASE, 4 * GIB, 0x10, 0),
-        (3, 0, BASE, 4 * GIB, 0x10, 0),
+        over(0, 2, BASE, 4 * GIB, 0, 0),
+        over(2, 4, BASE, 4 * GIB, 0x10, 0),
     ];
-    let mut single = pair();
+    let mut single = one_each();
     single[1].cap = 0x380;
     let first = [
-        (0, 0, BASE, 2 * UNIT, 0, 0),
-        (1, 0, BASE, 2 * UNIT, 0, 0),
-        (2, 0, BASE, 2 * UNIT, 0x10, 0),
-        (3, 0, BASE, 2 * UNIT, 0x10, 0),
+        over(0, 2, BASE, 2 * UNIT, 0, 0),
+        over(2, 4, BASE, 2 * UNIT, 0x10, 0),
     ];
     let five = [
         BRIDGE,
@@ -525,7 +339,7 @@ fn faults(rt: HostRuntime) -> Result<(), Fail> {
         limit: 0x2_0000_0000,
     });
     let both = window(4 * GIB, &[0, 1]);
-    let rows: [(&[Spot], Span, &[Set], &[u32], Told); 4] = [
+    let rows: [(&[Spot], Span, &[Range], &[u32], Told); 4] = [
         (&large, both, &whole, &[2, 3], Told::NoWindow(&[no_base])),
         (&single, both, &first, &[2, 3], Told::NoDecoder(1)),
         (
@@ -543,11 +357,11 @@ fn faults(rt: HostRuntime) -> Result<(), Fail> {
             Told::Planned(0, BASE, 0, 2),
         ),
     ];
-    for (nodes, window, sets, endpoints, want) in rows {
+    for (nodes, window, ranges, endpoints, want) in rows {
         let case = Case {
             nodes,
             windows: &[window],
-            sets,
+            ranges,
             asked: (MemKind::Ram, 2 * UNIT, None, endpoints),
             want,
         };
@@ -593,7 +407,7 @@ fn reasons(rt: HostRuntime) -> Result<(), Fail> {
             },
         ),
     ];
-    let mut nodes = server();
+    let mut nodes = two_each();
     for (place, spot) in nodes[2..].iter_mut().enumerate() {
         *spot = device((place / 2) as u32, (place % 2) as u8, 0, 2 * GIB);
     }
@@ -616,7 +430,7 @@ fn reasons(rt: HostRuntime) -> Result<(), Fail> {
         let case = Case {
             nodes: &nodes,
             windows: &windows,
-            sets: &[],
+            ranges: &[],
             asked: (MemKind::Pmem, GIB, Some(6), endpoints),
             want,
         };
@@ -656,7 +470,7 @@ fn three_ways(rt: HostRuntime) -> Result<(), Fail> {
         let case = Case {
             nodes,
             windows: &windows,
-            sets: &[],
+            ranges: &[],
             asked: (MemKind::Ram, 3 * UNIT, None, &[5, 3, 4]),
             want,
         };

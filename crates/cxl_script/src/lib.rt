@@ -12,8 +12,8 @@ mod words;
 
 pub use command::{Command, Create, Load, Pair, Poison, Reach, Store, Up};
 pub use cxl_enc::{FixedList, MemKind, Memory, Name};
-pub use fault::{BadLine, LineFault, Why};
 pub use cxl_io::LINE_LIMIT;
+pub use fault::{BadLine, LineFault, Why};
 pub use line::read_command;
 
 #[cfg(test)]

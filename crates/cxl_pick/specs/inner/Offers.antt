@@ -1,8 +1,8 @@
 -- The table of what nodes offer: a list for each node from the last to the first, and each number from 0 to 16.
-use Rattle.std.specs.Prelude.{◌≡◌, ℕ, ◌+◌, ◌-◌, ◌*◌, ◌/◌, ◌%◌, ◌<◌, ◌==◌, false, if◌then◌else◌, List, [], length, take, slice_get, Option, Some, None, unwrap_or, Vec}
+use Rattle.std.specs.Prelude.{◌≡◌, ℕ, ◌+◌, ◌-◌, ◌*◌, ◌/◌, ◌%◌, ◌<◌, ◌==◌, false, if◌then◌else◌, List, [], length, slice_get, Option, Some, None, unwrap_or, Vec}
 use Rattle.std.specs.Global.{Global}
 use Rattle.std.specs.Option.{option_map_or}
-use Rattle.std.specs.List.{filter_map, flat_map, range_with_len}
+use Rattle.std.specs.List.{filter_map, range_with_len}
 use Rattle.cxl_topo.specs.declared.node.Node.{Node}
 use Rattle.cxl_topo.specs.Tree.{is_endpoint_at, child_of}
 use Rattle.cxl_window.specs.Fields.{WindowFields}
@@ -30,8 +30,8 @@ abbrev pub place_of : ℕ → ℕ → ℕ → ℕ
 place_of count c v = (count - 1 - c) * 17 + v
 
 -- the list that stands there
-abbrev pub entry_at : List (Vec ℕ Global) → ℕ → ℕ → ℕ → List ℕ
-entry_at table count c v = option_map_or (λ own. own.items) (slice_get table (place_of count c v)) []
+abbrev pub listed_at : List (Vec ℕ Global) → ℕ → ℕ → ℕ → List ℕ
+listed_at table count c v = option_map_or (λ own. own.items) (slice_get table (place_of count c v)) []
 
 -- a list with some numbers
 abbrev pub some_of : List ℕ → Option (List ℕ)
@@ -39,4 +39,4 @@ some_of ns = if length ns == 0 then None else Some ns
 
 -- the lists that these children have for the number
 abbrev pub offers_at : List (Vec ℕ Global) → ℕ → List ℕ → ℕ → List (List ℕ)
-offers_at table count children v = filter_map (λ c. some_of (entry_at table count c v)) children
+offers_at table count children v = filter_map (λ c. some_of (listed_at table count c v)) children

@@ -16,16 +16,20 @@ cxlplan list CEDT         a line for each record of the table, windows with thei
 cxlplan normal CEDT       the table's bytes with its reserved fields zero
 cxlplan check CEDT TOPO IMAGE
                           the regions of a register image, or the first rule that it breaks
+cxlplan plan CEDT TOPO LINE
+                          the registers that make a new region after reset, or why none can
 cxlplan --help            this text
 cxlplan --version         the version
 
 CEDT is a file with the bytes of a CEDT table, TOPO a topology in TOML, and IMAGE the registers of
 its decoders, each of 1,048,576 bytes at the most. HPA is a host physical address, in decimal
-digits, or in hexadecimal digits after 0x.
+digits, or in hexadecimal digits after 0x. LINE is one word: 'create NAME KIND SIZE [gran=G] EP..' with
+KIND ram or pmem, and SIZE and G in bytes.
 
 Exit status: 0 done, 1 the words are no command, 2 a file cannot be read, 3 the CEDT has a fault,
-4 the topology has a fault, 6 writing failed, 8 no window that can be used holds the address or the
-image breaks a rule, 9 out of memory, 10 the image file has a fault, 12 a file is too large.
+4 the topology has a fault, 6 writing failed, 8 no window that can be used holds the address, the
+image breaks a rule or there is no plan, 9 out of memory, 10 the image file has a fault, 12 a file is
+too large.
 ";
 
 /// What `--version` writes.

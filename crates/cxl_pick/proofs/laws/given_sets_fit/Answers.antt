@@ -1,4 +1,4 @@
-use Rattle.cxl_pick.proofs.Parts.{Picked, in_window, set_long}
+use Rattle.cxl_pick.proofs.Parts.{in_window, set_long}
 use Rattle.cxl_pick.proofs.FittedWindows.{given_fits}
 use Rattle.cxl_pick.proofs.laws.given_sets_fit.Goals as goal
 

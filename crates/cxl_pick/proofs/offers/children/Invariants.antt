@@ -1,7 +1,7 @@
-use Rattle.std.proofs.Common.{◌≡◌, ℕ, false, length}
+use Rattle.std.proofs.Common.{◌≡◌, false, length}
 use Rattle.std.specs.List.{filter_map, range_with_len}
 use Rattle.cxl_topo.specs.Tree.{is_endpoint_at, child_of}
-use Rattle.cxl_pick.proofs.Entries.{EachOf}
+use Rattle.cxl_pick.proofs.Tables.{EachOf}
 use Rattle.cxl_pick.proofs.offers.children.Given as goal
 
 abbrev pub invariant-loop-node : goal.invariant-loop-node

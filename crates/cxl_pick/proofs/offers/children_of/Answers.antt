@@ -1,7 +1,7 @@
-use Rattle.std.proofs.Common.{◌≡◌, ℕ, ◌≤◌, Vec, Global, sym, ap, subst, arith, ◌∙◌}
+use Rattle.std.proofs.Common.{◌≡◌, ℕ, Vec, Global, sym, ap, subst, arith, ◌∙◌}
 use Rattle.std.specs.List.{filter_map, range_with_len}
 use Rattle.cxl_topo.specs.Tree.{child_of}
-use Rattle.cxl_pick.proofs.Entries.{some_port, no_port}
+use Rattle.cxl_pick.proofs.Tables.{some_port, no_port}
 use Rattle.cxl_pick.proofs.offers.children_of.Goals as goal
 use Rattle.cxl_pick.proofs.offers.children_of.Goals.{in-Some+in_ok-push, in_default}
 

@@ -1,9 +1,9 @@
-use Rattle.std.proofs.Common.{◌≡◌, ℕ, ◌+◌, ◌-◌, ◌<◌, ◌≤◌, Bool, true, false, not, ◌++◌, List, get_or, length, Vec, Global, refl, sym, ap, ◌∙◌, arith}
+use Rattle.std.proofs.Common.{◌≡◌, ℕ, ◌+◌, ◌-◌, ◌<◌, Bool, true, false, not, ◌++◌, List, get_or, length, Vec, Global, refl, sym, ap, ◌∙◌, arith}
 use Rattle.std.specs.Prelude.{◌==◌, take}
 use Rattle.std.specs.List.{flat_map}
 use Rattle.std.proofs.lemmas.Bool.{not-true}
-use Rattle.cxl_pick.specs.inner.Offers.{entry_at, offers_at}
-use Rattle.cxl_pick.proofs.Entries.{to_come, take_step, take_skip}
+use Rattle.cxl_pick.specs.inner.Offers.{listed_at, offers_at}
+use Rattle.cxl_pick.proofs.Tables.{to_come, take_step, take_skip}
 use Rattle.cxl_pick.proofs.offers.first_offers.Goals as goal
 use Rattle.cxl_pick.proofs.offers.first_offers.Goals.{then-left-gt0+then-gives+in_ok-extend_from_slice, else-left-gt0, else-left-gt0-via-then-left-gt0+else-gives, else-left-gt0-via-else-left-gt0}
 
@@ -19,11 +19,11 @@ loop-child-preserved c =
     let v : ℕ = c.args.share in
     let count : ℕ = c.args.count in
     let all : List ℕ = flat_map (λ (ns : List ℕ). ns) (take c.args.u (offers_at table count cs v)) in
-    let own : List ℕ = entry_at table count (get_or cs i 0) v in
+    let own : List ℕ = listed_at table count (get_or cs i 0) v in
     elim c.if-left-gt0.branch [
       | then-left-gt0+then-gives+in_ok-extend_from_slice w ↦
           let given : c.if-left-gt0.given.items ≡ c.loop-child.given.items ++ own =
-          ap (λ (x : Vec ℕ Global). x.items) w.given-is ∙ w.in_ok-extend_from_slice.ensures.items ∙ ap (λ (ys : List ℕ). c.loop-child.given.items ++ ys) w.entry.ensures in
+          ap (λ (x : Vec ℕ Global). x.items) w.given-is ∙ w.in_ok-extend_from_slice.ensures.items ∙ ap (λ (ys : List ℕ). c.loop-child.given.items ++ ys) w.listed.ensures in
           let left : c.if-left-gt0.left ≡ c.loop-child.left - 1 = w.left-is in
           (λ k. given k ++ to_come table count v (left k) cs (i + 1))
           ∙ take_step table count v i c.loop-child.left cs c.loop-child.given.items all c.loop-child-test.true c.loop-child.invariant w.if-left-gt0.true (not-true (length own == 0) (sym w.gives.ensures ∙ w.if-gives.true))

@@ -2,7 +2,7 @@ use Rattle.std.proofs.Common.{◌≡◌, ◌++◌}
 use Rattle.std.specs.Prelude.{take}
 use Rattle.std.specs.List.{flat_map}
 use Rattle.cxl_pick.specs.inner.Offers.{offers_at}
-use Rattle.cxl_pick.proofs.Entries.{to_come}
+use Rattle.cxl_pick.proofs.Tables.{to_come}
 use Rattle.cxl_pick.proofs.offers.first_offers.Given as goal
 
 abbrev pub invariant-loop-child : goal.invariant-loop-child

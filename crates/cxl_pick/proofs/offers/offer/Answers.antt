@@ -1,8 +1,7 @@
-use Rattle.std.proofs.Common.{◌≡◌, ℕ, ◌/◌, ◌<◌, Bool, false, if◌then◌else◌, List, [], ◌∷◌, length, Option, Some, None, Vec, Global, sym, ap, ◌∙◌, subst, arith}
-use Rattle.std.specs.Prelude.{take, find, slice_get}
+use Rattle.std.proofs.Common.{◌≡◌, ℕ, ◌/◌, ◌<◌, Bool, if◌then◌else◌, List, [], ◌∷◌, length, Some, Vec, Global, sym, ap, ◌∙◌, arith}
+use Rattle.std.specs.Prelude.{take, find}
 use Rattle.std.specs.List.{flat_map}
 use Rattle.std.proofs.lemmas.Option.{slice_get-get_or}
-use Rattle.cxl_topo.specs.Laws.{AreTreeLaws}
 use Rattle.cxl_model.specs.System.{System, system_of}
 use Rattle.cxl_pick.specs.Picking.{can_serve_by, children_of}
 use Rattle.cxl_pick.specs.inner.Offers.{offered, offers_at}

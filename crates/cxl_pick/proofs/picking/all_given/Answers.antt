@@ -1,9 +1,8 @@
-use Rattle.std.proofs.Common.{◌≡◌, ℕ, ◌+◌, Bool, true, false, not, ◌++◌, List, get_or, length, drop, map, Option, Some, None, Vec, Global, refl, sym, ap, ◌∙◌}
+use Rattle.std.proofs.Common.{◌≡◌, ℕ, ◌+◌, Bool, true, false, not, ◌++◌, List, length, drop, map, Some, None, refl, sym, ap, ◌∙◌}
 use Rattle.std.specs.Prelude.{◌==◌, option_map, option_and_then, if◌then◌else◌}
 use Rattle.std.proofs.lemmas.Bool.{not-true}
-use Rattle.cxl_topo.specs.Tree.{bridge_with}
 use Rattle.cxl_pick.specs.Picking.{all_given}
-use Rattle.cxl_pick.specs.inner.Offers.{some_of, entry_at}
+use Rattle.cxl_pick.specs.inner.Offers.{some_of, listed_at}
 use Rattle.cxl_pick.proofs.Givings.{at_uid, uid_step, uid_none}
 use Rattle.cxl_pick.proofs.picking.all_given.Goals as goal
 
@@ -17,7 +16,7 @@ returns-in_default c =
     let uids : List ℕ = c.args.targets.now in
     let i : ℕ = c.loop-uid.uid-index in
     uid_none nodes c.args.table.now c.args.share i uids c.loop-uid.given.items (all_given (map (at_uid nodes c.args.table.now c.args.share) uids)) c.loop-uid-test.true c.loop-uid.invariant
-    (ap (option_and_then (λ b. some_of (entry_at c.args.table.now (length nodes) b c.args.share))) (sym c.in_default.ensures.bridge))
+    (ap (option_and_then (λ b. some_of (listed_at c.args.table.now (length nodes) b c.args.share))) (sym c.in_default.ensures.bridge))
 
 empty : (ns : List ℕ) (r : Bool) → r ≡ not (length ns == 0) → r ≡ false → some_of ns ≡ None
 empty ns r is told = ap (λ (b : Bool). if b then None else Some ns) (not_false (length ns == 0) (sym is ∙ told))
@@ -32,9 +31,9 @@ returns-then-not-gives c =
     let i : ℕ = c.loop-uid.uid-index in
     let all = c.count-count.ensures.count in
     uid_none nodes c.args.table.now c.args.share i uids c.loop-uid.given.items (all_given (map (at_uid nodes c.args.table.now c.args.share) uids)) c.loop-uid-test.true c.loop-uid.invariant
-    (ap (option_and_then (λ b. some_of (entry_at c.args.table.now (length nodes) b c.args.share))) (sym c.in-Some.ensures.bridge)
-    ∙ ap (λ (k : ℕ). some_of (entry_at c.args.table.now k c.in-Some.bridge c.args.share)) (sym all)
-    ∙ empty (entry_at c.args.table.now c.count-count.result c.in-Some.bridge c.args.share) c.gives.result c.gives.ensures c.if-not-gives.true)
+    (ap (option_and_then (λ b. some_of (listed_at c.args.table.now (length nodes) b c.args.share))) (sym c.in-Some.ensures.bridge)
+    ∙ ap (λ (k : ℕ). some_of (listed_at c.args.table.now k c.in-Some.bridge c.args.share)) (sym all)
+    ∙ empty (listed_at c.args.table.now c.count-count.result c.in-Some.bridge c.args.share) c.gives.result c.gives.ensures c.if-not-gives.true)
 
 pub loop-uid-preserved : goal.loop-uid-preserved
 loop-uid-preserved c =
@@ -42,10 +41,10 @@ loop-uid-preserved c =
     let uids : List ℕ = c.args.targets.now in
     let i : ℕ = c.loop-uid.uid-index in
     let all = c.count-count.ensures.count in
-    let own : List ℕ = entry_at c.args.table.now c.count-count.result c.in-Some.bridge c.args.share in
-    let items = c.in_ok-extend_from_slice.ensures.items ∙ ap (λ (ys : List ℕ). c.loop-uid.given.items ++ ys) c.entry.ensures in
+    let own : List ℕ = listed_at c.args.table.now c.count-count.result c.in-Some.bridge c.args.share in
+    let items = c.in_ok-extend_from_slice.ensures.items ∙ ap (λ (ys : List ℕ). c.loop-uid.given.items ++ ys) c.listed.ensures in
     (λ k. option_map (λ ms. items k ++ ms) (all_given (map (at_uid nodes c.args.table.now c.args.share) (drop (i + 1) uids))))
     ∙ uid_step nodes c.args.table.now c.args.share i uids c.loop-uid.given.items own (all_given (map (at_uid nodes c.args.table.now c.args.share) uids)) c.loop-uid-test.true c.loop-uid.invariant
-    (ap (option_and_then (λ b. some_of (entry_at c.args.table.now (length nodes) b c.args.share))) (sym c.in-Some.ensures.bridge)
-    ∙ ap (λ (k : ℕ). some_of (entry_at c.args.table.now k c.in-Some.bridge c.args.share)) (sym all)
+    (ap (option_and_then (λ b. some_of (listed_at c.args.table.now (length nodes) b c.args.share))) (sym c.in-Some.ensures.bridge)
+    ∙ ap (λ (k : ℕ). some_of (listed_at c.args.table.now k c.in-Some.bridge c.args.share)) (sym all)
     ∙ full own c.gives.result c.gives.ensures c.if-not-gives.false)

@@ -1,4 +1,4 @@
-use Rattle.std.proofs.Common.{[], sym, ◌∙◌}
+use Rattle.std.proofs.Common.{sym, ◌∙◌}
 use Rattle.cxl_model.specs.System.{System, system_of}
 use Rattle.cxl_pick.specs.declared.want.Want.{Want}
 use Rattle.cxl_pick.proofs.Parts.{named}
@@ -55,3 +55,40 @@ returns-in-Ok-None-clause-nothing c = λ told.
     } in
     let own = rw c.in-Ok-None.field-0-is at c.in-Ok-None.ensures in
     nothing_fits s want settled own
+
+pub returns-in-Ok-Some-clause-legal : goal.returns-in-Ok-Some-clause-legal
+returns-in-Ok-Some-clause-legal c =
+    let s : System = system_of c.args.image.now c.args.topo.now c.args.windows.now in
+    let want : Want = c.args.want.now in
+    let settled : Settled s want = record {
+      laws = c.tree_laws.ensures.laws s.nodes c.settle.ensures.system.tree;
+      system = c.settle.ensures.system;
+      ports = c.ports_are_bytes.ensures;
+      accepted = c.requires.accepted;
+      ways = sym c.has_known_ways.ensures ∙ c.if-not-has_known_ways.false;
+      size = c.has_size.ensures.0 c.if-not-has_size.false;
+      code = c.requires.code;
+      given = c.fitting_sets_are_given.ensures s want;
+    } in
+    let own = rw c.in-Ok-Some.field-0-is at c.in-Ok-Some.ensures in
+    let there = (picked_of s want settled own.0 c.in-Ok-Some.set.items own.1).of.there in
+    let count =
+    c.given_sets_fit.ensures.ways s want own.0 own.1.given c.in-Ok-Some.set.items settled.system settled.ports settled.accepted settled.ways there own.1.gives own.1.rising in
+    c.fitting_sets_have_plans.ensures.first s want c.in-Ok-Some.set.items count (fits_first s want settled own.0 c.in-Ok-Some.set.items own.1)
+
+pub returns-in-Ok-None-clause-none : goal.returns-in-Ok-None-clause-none
+returns-in-Ok-None-clause-none c = λ told.
+    let s : System = system_of c.args.image.now c.args.topo.now c.args.windows.now in
+    let want : Want = c.args.want.now in
+    let settled : Settled s want = record {
+      laws = c.tree_laws.ensures.laws s.nodes c.settle.ensures.system.tree;
+      system = c.settle.ensures.system;
+      ports = c.ports_are_bytes.ensures;
+      accepted = c.requires.accepted;
+      ways = sym c.has_known_ways.ensures ∙ c.if-not-has_known_ways.false;
+      size = c.has_size.ensures.0 c.if-not-has_size.false;
+      code = c.requires.code;
+      given = c.fitting_sets_are_given.ensures s want;
+    } in
+    let own = rw c.in-Ok-None.field-0-is at c.in-Ok-None.ensures in
+    c.fitting_sets_have_plans.ensures.none s want settled.system settled.ports settled.accepted (nothing_fits s want settled own)

@@ -1,11 +1,11 @@
-use Rattle.std.proofs.Common.{◌≡◌, ℕ, ◌+◌, ◌<◌, ◌≤◌, List, [], length, get_or, Option, Some, None, Vec, Global, sym, ap, ◌∙◌, subst, inl, inr, arith}
+use Rattle.std.proofs.Common.{◌≡◌, ℕ, ◌<◌, List, [], length, get_or, Some, Vec, Global, sym, ap, ◌∙◌, subst, inl, inr, arith}
 use Rattle.std.specs.Prelude.{slice_get, option_map, All}
 use Rattle.std.proofs.lemmas.Bool.{cases_eq}
 use Rattle.std.proofs.lemmas.Option.{slice_get-get_or, slice_get_within, same_Some}
 use Rattle.cxl_window.specs.Fields.{WindowFields}
 use Rattle.cxl_model.specs.System.{System, system_of}
 use Rattle.cxl_pick.specs.declared.want.Want.{Want}
-use Rattle.cxl_pick.specs.Picking.{given_in, AreRising}
+use Rattle.cxl_pick.specs.Picking.{given_in, AreInOrder}
 use Rattle.cxl_pick.proofs.Givings.{same_given}
 use Rattle.cxl_pick.proofs.Picks.{given_low, window_there}
 use Rattle.cxl_pick.proofs.picking.pick_first.Goals as goal
@@ -14,8 +14,8 @@ use Rattle.cxl_pick.proofs.picking.pick_first.Goals as goal
 window_at : (windows : List WindowFields) (i : ℕ) (w : WindowFields) → i < length windows → w ≡ get_or windows i w → slice_get windows i ≡ Some w
 window_at windows i w within is = slice_get-get_or windows i w within ∙ ap (λ (x : WindowFields). Some x) (sym is)
 
-pub rising-requires : goal.rising-requires
-rising-requires c =
+pub in_order-requires : goal.in_order-requires
+in_order-requires c =
     let s : System = system_of c.args.image.now c.args.topo.now c.args.windows.now in
     let want : Want = c.args.want.now in
     let w : WindowFields = c.w-item.result in
@@ -31,15 +31,17 @@ pub returns-in-Some : goal.returns-in-Some
 returns-in-Some c =
     let s : System = system_of c.args.image.now c.args.topo.now c.args.windows.now in
     let want : Want = c.args.want.now in
-    let w : WindowFields = c.w-item.result in
-    (w, record {
-      place = c.loop-w.w-index;
-      there = window_at s.windows c.loop-w.w-index w c.loop-w-test.true c.w-item.is;
-      given = c.in-Some.given.items;
-      gives = same_given s.nodes s.blocks s.windows [] want w ∙ sym c.in_ok-given.ensures ∙ ap (option_map (λ (x : Vec ℕ Global). x.items)) c.in-Some.is;
-      rising = subst (λ (xs : List ℕ). AreRising xs c.in_ok-set-in-Some.set.items) c.deref-in-Some.ensures.value c.in_ok-set-in-Some.ensures;
-      first = c.loop-w.invariant;
-    })
+    let w : WindowFields = c.w-item.result in (
+      w,
+      record {
+        place = c.loop-w.w-index;
+        there = window_at s.windows c.loop-w.w-index w c.loop-w-test.true c.w-item.is;
+        given = c.in-Some.given.items;
+        gives = same_given s.nodes s.blocks s.windows [] want w ∙ sym c.in_ok-given.ensures ∙ ap (option_map (λ (x : Vec ℕ Global). x.items)) c.in-Some.is;
+        rising = subst (λ (xs : List ℕ). AreInOrder xs c.in_ok-set-in-Some.set.items) c.deref-in-Some.ensures.value c.in_ok-set-in-Some.ensures;
+        first = c.loop-w.invariant;
+      },
+    )
 
 pub loop-w-preserved : goal.loop-w-preserved
 loop-w-preserved c = λ k v less there.

@@ -1,8 +1,7 @@
-use Rattle.std.proofs.Common.{◌≡◌, ℕ, ◌/◌, List, [], length, map, Option, Some, Vec, Global, sym, ap, ◌∙◌, subst}
+use Rattle.std.proofs.Common.{◌≡◌, ℕ, ◌/◌, [], map, Vec, Global, sym, ◌∙◌}
 use Rattle.std.specs.Prelude.{option_map}
 use Rattle.cxl_model.specs.System.{System, system_of}
 use Rattle.cxl_pick.specs.Picking.{all_given, given_in}
-use Rattle.cxl_pick.specs.inner.Offers.{AreOffers}
 use Rattle.cxl_pick.proofs.Trees.{KnownTree}
 use Rattle.cxl_pick.proofs.Offering.{if_ok}
 use Rattle.cxl_pick.proofs.Givings.{at_uid}

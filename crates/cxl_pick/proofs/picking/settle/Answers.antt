@@ -1,4 +1,3 @@
-use Rattle.std.proofs.Common.{[]}
 use Rattle.cxl_model.specs.System.{System, IsSystem, system_of}
 use Rattle.cxl_pick.proofs.Settled.{ready_alone}
 use Rattle.cxl_pick.proofs.picking.settle.Goals as goal

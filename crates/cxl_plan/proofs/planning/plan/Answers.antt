@@ -1,5 +1,5 @@
 use Rattle.cxl_model.specs.System.{System, IsSystem, system_of}
-use Rattle.cxl_plan.proofs.LegalAnswers.{legal_answer, no_plan, no_plan_answer}
+use Rattle.cxl_plan.proofs.LegalAnswers.{legal_answer, least_answer, no_plan, no_plan_answer}
 use Rattle.cxl_plan.proofs.planning.plan.Goals as goal
 
 pub returns-in-Some-clause-fault : goal.returns-in-Some-clause-fault
@@ -27,3 +27,11 @@ returns-clause-legal c =
     let system : IsSystem s = record { tree = c.count-count.ensures.tree; blocks = (c.count-blocks.ensures.image).each; caps = c.requires.caps; made = c.requires.made } in
     legal_answer s c.args.request.now system c.ports_are_bytes.ensures c.requires.accepted c.requires.named c.fitting_plans_are_legal.ensures.legal
     c.plan_ready.result c.plan_ready.ensures.endpoints c.plan_ready.ensures.plan
+
+pub returns-clause-least : goal.returns-clause-least
+returns-clause-least c =
+    let s = system_of c.args.image.now c.args.topo.now c.args.windows.now in
+    let system : IsSystem s = record { tree = c.count-count.ensures.tree; blocks = (c.count-blocks.ensures.image).each; caps = c.requires.caps; made = c.requires.made } in
+    let laws = c.legal_plans_fit.ensures in
+    least_answer s c.args.request.now system c.ports_are_bytes.ensures c.requires.accepted c.requires.named laws.endpoints laws.window laws.base
+    c.plan_ready.result c.plan_ready.ensures.plan

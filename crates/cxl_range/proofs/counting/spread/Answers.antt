@@ -1,4 +1,4 @@
-use Rattle.std.proofs.Common.{◌≡◌, ℕ, ◌+◌, ◌-◌, ◌<◌, ◌≤◌, ◌≢◌, List, length, refl, sym, ap, subst, ◌∙◌, inl, inr, arith, length-set, get_or-set_same, get_or-set_other}
+use Rattle.std.proofs.Common.{◌≡◌, ℕ, ◌+◌, ◌-◌, ◌≢◌, List, sym, ap, subst, ◌∙◌, inl, inr, arith, length-set, get_or-set_same, get_or-set_other}
 use Rattle.std.specs.Prelude.{slice_index, slice_set}
 use Rattle.std.proofs.lemmas.Bool.{cases_eq}
 use Rattle.std.proofs.lemmas.List.FromFn.{fill_by_all}
@@ -17,7 +17,7 @@ counted found w v end counts is are = subst (λ (u : WeaveFields). AreCountsBefo
 
 pub loop-slot-init : goal.loop-slot-init
 loop-slot-init c =
-    let are = counted c.args.found.now c.args.window.now c.weave_in-weave.result (c.args.h + c.args.len) c.counts_before-counts.result c.weave_in-weave.ensures.value c.counts_before-counts.ensures in
+    let are = counted c.args.found.now c.args.window.now c.region_weave-weave.result (c.args.h + c.args.len) c.counts_before-counts.result c.region_weave-weave.ensures.value c.counts_before-counts.ensures in
     record {
       sixteen = are.sixteen;
       own = λ k below. absurd (omega arith);
@@ -29,7 +29,7 @@ overflow_sub-counts c =
     let v : WeaveFields = weave_fields c.args.found.now c.args.window.now in
     let k : ℕ = c.loop-slot.slot in
     let few = c.loop-slot-test.true in
-    let are = counted c.args.found.now c.args.window.now c.weave_in-weave.result c.args.h c.counts_before-before.result c.weave_in-weave.ensures.value c.counts_before-before.ensures in
+    let are = counted c.args.found.now c.args.window.now c.region_weave-weave.result c.args.h c.counts_before-before.result c.region_weave-weave.ensures.value c.counts_before-before.ensures in
     let first : slice_index c.counts_before-before.result k ≡ bytes_before v c.args.h k = are.each k few in
     let last : slice_index c.loop-slot.counts k ≡ bytes_before v (c.args.h + c.args.len) k = c.loop-slot.invariant.later k (omega arith) few in
     let r = c.requires in
@@ -44,7 +44,7 @@ loop-slot-preserved c =
     let few = c.loop-slot-test.true in
     let inv = c.loop-slot.invariant in
     let counts : List ℕ = c.loop-slot.counts in
-    let are = counted found w c.weave_in-weave.result c.args.h c.counts_before-before.result c.weave_in-weave.ensures.value c.counts_before-before.ensures in
+    let are = counted found w c.region_weave-weave.result c.args.h c.counts_before-before.result c.region_weave-weave.ensures.value c.counts_before-before.ensures in
     let first : slice_index c.counts_before-before.result slot ≡ bytes_before v c.args.h slot = are.each slot few in
     let last : slice_index counts slot ≡ bytes_before v (c.args.h + c.args.len) slot = inv.later slot (omega arith) few in
     let r = c.requires in
@@ -71,5 +71,5 @@ returns-clause-past c = λ slot from below.
     let v : WeaveFields = weave_fields c.args.found.now c.args.window.now in
     let inv = c.loop-slot.invariant in
     let end = c.loop-slot-test.false in
-    let ways : weave_ways v ≡ c.args.found.now.ways = ap (λ (u : WeaveFields). weave_ways u) (sym c.weave_in-weave.ensures.value) ∙ c.weave_in-weave.ensures.woven.ways in
+    let ways : weave_ways v ≡ c.args.found.now.ways = ap (λ (u : WeaveFields). weave_ways u) (sym c.region_weave-weave.ensures.value) ∙ c.region_weave-weave.ensures.woven.ways in
     inv.own slot (omega (arith, end, below)) ∙ none_past v (c.region_fills_slots.ensures.slot v) c.args.h c.args.len slot (omega (arith, ways, from))

@@ -1,8 +1,8 @@
-use Rattle.std.proofs.Common.{◌≡◌, ℕ, ◌+◌, ◌*◌, ◌<◌, ◌≤◌, ap, ◌∙◌, arith}
+use Rattle.std.proofs.Common.{◌≡◌, ℕ, ◌*◌, ◌<◌, ◌≤◌, ap, ◌∙◌, arith}
 use Rattle.std.proofs.Math.Nat.{mul-le-mul_right}
 use Rattle.std.proofs.lemmas.Nat.{mul-le}
 use Rattle.cxl_num.specs.Interleave.{chunk_size}
-use Rattle.cxl_deal.specs.Weaves.{WeaveFields, weave_ways, dealt_slot}
+use Rattle.cxl_deal.specs.Weaves.{WeaveFields, weave_ways}
 use Rattle.cxl_range.proofs.Turns.{TurnLaws}
 use Rattle.cxl_range.proofs.Slots.{turns_counted}
 use Rattle.cxl_range.proofs.counting.whole_turns.Goals as goal

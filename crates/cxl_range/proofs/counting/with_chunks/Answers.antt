@@ -1,9 +1,9 @@
-use Rattle.std.proofs.Common.{◌≡◌, ℕ, ◌+◌, ◌-◌, ◌%◌, ◌<◌, ◌≤◌, ◌^◌, min, refl, sym, ap, subst, ◌∙◌, arith}
+use Rattle.std.proofs.Common.{◌≡◌, ℕ, ◌+◌, ◌-◌, ◌%◌, ◌<◌, ◌≤◌, min, refl, ap, ◌∙◌, arith}
 use Rattle.std.specs.Prelude.{slice_index, slice_set}
 use Rattle.std.proofs.Math.Nat.{mod-lt}
 use Rattle.cxl_num.specs.Interleave.{chunk_size}
-use Rattle.cxl_deal.specs.Weaves.{WeaveFields, dealt_slot}
-use Rattle.cxl_range.specs.inner.Woven.{bytes_before, AreCountsBefore}
+use Rattle.cxl_deal.specs.Weaves.{WeaveFields}
+use Rattle.cxl_range.specs.inner.Woven.{bytes_before}
 use Rattle.cxl_range.proofs.Chunks.{some_chunk}
 use Rattle.cxl_range.proofs.Turns.{before_few}
 use Rattle.cxl_range.proofs.Slots.{next_chunk}

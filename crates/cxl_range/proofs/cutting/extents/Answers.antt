@@ -1,4 +1,4 @@
-use Rattle.std.proofs.Common.{◌≡◌, ℕ, ◌+◌, ◌-◌, ◌/◌, ◌≤◌, List, sym, ap, subst, ◌∙◌, arith}
+use Rattle.std.proofs.Common.{◌≡◌, ℕ, ◌+◌, ◌-◌, ◌/◌, ◌≤◌, sym, ap, subst, ◌∙◌, arith}
 use Rattle.std.specs.Prelude.{All, sum_by}
 use Rattle.cxl_num.specs.Interleave.{chunk_size}
 use Rattle.cxl_window.specs.Fields.{WindowFields}
@@ -13,7 +13,7 @@ use Rattle.cxl_range.proofs.cutting.extents.Goals as goal
 pub returns-then-found-eq1-clause-exact : goal.returns-then-found-eq1-clause-exact
 returns-then-found-eq1-clause-exact c =
     one_extent c.args.found.now c.args.window.now c.args.h c.args.len c.new-extents.result.items c.push.new.self.items c.extent_at.result c.if-found-eq1.true c.new-extents.ensures.items c.in_ok-push.ensures.items
-    (c.extent_at.ensures c.args.window.now c.weave_in-weave.ensures.value)
+    (c.extent_at.ensures c.args.window.now c.region_weave-weave.ensures.value)
 
 pub returns-then-found-eq1-clause-carried : goal.returns-then-found-eq1-clause-carried
 returns-then-found-eq1-clause-carried c =
@@ -41,9 +41,9 @@ pub loop-chunk-preserved : goal.loop-chunk-preserved
 loop-chunk-preserved c =
     let found : Found = c.args.found.now in
     let w : WindowFields = c.args.window.now in
-    let size = size_is found w c.weave_in-weave.result c.chunk_size-size.result c.weave_in-weave.ensures.woven.gran c.chunk_size-size.ensures.value in
+    let size = size_is found w c.region_weave-weave.result c.chunk_size-size.result c.region_weave-weave.ensures.woven.gran c.chunk_size-size.ensures.value in
     let long : c.args.h + c.from.result - c.args.h ≡ c.args.len = omega (arith, c.from.ensures) in
-    let own = c.chunk_extent.ensures w c.weave_in-weave.ensures.value ∙ ap (λ (n : ℕ). chunk_extent found w c.args.h n c.loop-chunk.chunk) long in
+    let own = c.chunk_extent.ensures w c.region_weave-weave.ensures.value ∙ ap (λ (n : ℕ). chunk_extent found w c.args.h n c.loop-chunk.chunk) long in
     more_chunks found w c.args.h c.args.len c.chunk_size-size.result size c.loop-chunk.extents.items c.push-in-loop-chunk.new.self.items c.chunk_extent.result c.loop-chunk.chunk c.loop-chunk.auto.chunk c.loop-chunk.invariant c.in_ok-push-2.ensures.items own
 
 pub returns-clause-exact : goal.returns-clause-exact
@@ -53,7 +53,7 @@ returns-clause-exact c =
     let r = c.requires in
     let h : ℕ = c.args.h in
     let n : ℕ = c.chunk_size-size.result in
-    let size = size_is found w c.weave_in-weave.result n c.weave_in-weave.ensures.woven.gran c.chunk_size-size.ensures.value in
+    let size = size_is found w c.region_weave-weave.result n c.region_weave-weave.ensures.woven.gran c.chunk_size-size.ensures.value in
     let last : ℕ = (h + c.from.result - 1 - found.base) / n in
     let last_is : last ≡ (h + c.args.len - 1 - found.base) / n = ap (λ (x : ℕ). (h + x - 1 - found.base) / n) c.from.ensures in
     let up = chunks_rise found w h c.args.len n size last r.some r.from last_is in

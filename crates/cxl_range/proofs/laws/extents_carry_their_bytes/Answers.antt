@@ -1,5 +1,3 @@
-use Rattle.cxl_window.specs.Fields.{WindowFields}
-use Rattle.cxl_model.specs.declared.found.Found.{Found}
 use Rattle.cxl_model.specs.Regions.{weave_fields}
 use Rattle.cxl_range.proofs.RegionLaws.{RegionLaws, woven_by}
 use Rattle.cxl_range.proofs.Lists.{ChunkLaws, told, lengths}

@@ -4,4 +4,4 @@ use Rattle.cxl_image.specs.Images.{HasCapsOf}
 use Rattle.cxl_rows.proofs.hosts.commit_all.Given as goal
 
 abbrev pub invariant-loop-range : goal.invariant-loop-range
-invariant-loop-range l = (nodes : List Node) → HasCapsOf l.initial.image nodes → HasCapsOf l.image nodes
+invariant-loop-range g l = (nodes : List Node) → HasCapsOf l.initial.image nodes → HasCapsOf l.image nodes

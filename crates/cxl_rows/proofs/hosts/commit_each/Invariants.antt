@@ -4,4 +4,4 @@ use Rattle.cxl_image.specs.Images.{HasCapsOf}
 use Rattle.cxl_rows.proofs.hosts.commit_each.Given as goal
 
 abbrev pub invariant-loop-node : goal.invariant-loop-node
-invariant-loop-node l = (nodes : List Node) → HasCapsOf l.initial.image nodes → HasCapsOf l.image nodes
+invariant-loop-node g l = (nodes : List Node) → HasCapsOf l.initial.image nodes → HasCapsOf l.image nodes

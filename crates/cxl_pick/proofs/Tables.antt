@@ -1,12 +1,11 @@
 -- Tables as they grow, and lists of offers as they are gone through.
-use Rattle.std.proofs.Common.{◌≡◌, ℕ, zero, suc, ◌+◌, ◌-◌, ◌*◌, ◌/◌, ◌%◌, ◌<◌, ◌≤◌, ◌⊎◌, Bool, true, false, not, if◌then◌else◌, List, [], ◌∷◌, ◌++◌, length, get_or, drop, Option, Some, None, Vec, Global, refl, sym, ap, ◌∙◌, subst, inl, inr, arith, append_assoc}
+use Rattle.std.proofs.Common.{◌≡◌, ℕ, zero, suc, ◌+◌, ◌-◌, ◌<◌, ◌≤◌, ◌⊎◌, Bool, true, false, if◌then◌else◌, List, [], ◌∷◌, ◌++◌, length, get_or, drop, Option, Some, None, Vec, Global, refl, sym, ap, ◌∙◌, subst, inl, inr, arith, append_assoc}
 use Rattle.std.specs.Prelude.{◌==◌, slice_get, take}
 use Rattle.std.specs.List.{filter_map, flat_map, cons_option, range_with_len}
 use Rattle.std.proofs.Math.Seq.{drop-cons}
-use Rattle.std.proofs.lemmas.Bool.{cases_Bool, eqb-true, eq-eqb, ne_eqb, false≢true}
 use Rattle.std.proofs.lemmas.Option.{none-some, same_Some}
 use Rattle.std.proofs.lemmas.List.Elements.{filter_map-append}
-use Rattle.cxl_pick.specs.inner.Offers.{some_of, entry_at, offers_at}
+use Rattle.cxl_pick.specs.inner.Offers.{some_of, listed_at, offers_at}
 
 -- ---- ranges
 
@@ -64,25 +63,25 @@ empty_of : (ns : List ℕ) → (length ns == 0) ≡ true → some_of ns ≡ None
 empty_of ns empty = ap (λ (b : Bool). if b then None else Some ns) empty
 
 next_offers : (table : List (Vec ℕ Global)) (count v i : ℕ) (cs : List ℕ) → i < length cs
-    → offers_at table count (drop i cs) v ≡ cons_option (some_of (entry_at table count (get_or cs i 0) v)) (offers_at table count (drop (i + 1) cs) v)
+    → offers_at table count (drop i cs) v ≡ cons_option (some_of (listed_at table count (get_or cs i 0) v)) (offers_at table count (drop (i + 1) cs) v)
 next_offers table count v i cs within =
     let more : i + 1 ≡ suc i = omega arith in
     ap (λ ds. offers_at table count ds v) (drop-cons cs i 0 within)
-    ∙ ap (λ (k : ℕ). cons_option (some_of (entry_at table count (get_or cs i 0) v)) (offers_at table count (drop k cs) v)) (sym more)
+    ∙ ap (λ (k : ℕ). cons_option (some_of (listed_at table count (get_or cs i 0) v)) (offers_at table count (drop k cs) v)) (sym more)
 
 -- how many are left to be counted
 pub count_step : (table : List (Vec ℕ Global)) (count v i n all : ℕ) (cs : List ℕ) → i < length cs → n + length (offers_at table count (drop i cs) v) ≡ all
-    → (length (entry_at table count (get_or cs i 0) v) == 0) ≡ false → n + 1 + length (offers_at table count (drop (i + 1) cs) v) ≡ all
+    → (length (listed_at table count (get_or cs i 0) v) == 0) ≡ false → n + 1 + length (offers_at table count (drop (i + 1) cs) v) ≡ all
 count_step table count v i n all cs within is full =
     let next : length (offers_at table count (drop i cs) v) ≡ suc (length (offers_at table count (drop (i + 1) cs) v)) =
-    ap (λ ys. length ys) (next_offers table count v i cs within ∙ ap (λ o. cons_option o (offers_at table count (drop (i + 1) cs) v)) (full_of (entry_at table count (get_or cs i 0) v) full)) in
+    ap (λ ys. length ys) (next_offers table count v i cs within ∙ ap (λ o. cons_option o (offers_at table count (drop (i + 1) cs) v)) (full_of (listed_at table count (get_or cs i 0) v) full)) in
     omega (arith, is, next)
 
 pub count_skip : (table : List (Vec ℕ Global)) (count v i n all : ℕ) (cs : List ℕ) → i < length cs → n + length (offers_at table count (drop i cs) v) ≡ all
-    → (length (entry_at table count (get_or cs i 0) v) == 0) ≡ true → n + length (offers_at table count (drop (i + 1) cs) v) ≡ all
+    → (length (listed_at table count (get_or cs i 0) v) == 0) ≡ true → n + length (offers_at table count (drop (i + 1) cs) v) ≡ all
 count_skip table count v i n all cs within is empty =
     let next : length (offers_at table count (drop i cs) v) ≡ length (offers_at table count (drop (i + 1) cs) v) =
-    ap (λ ys. length ys) (next_offers table count v i cs within ∙ ap (λ o. cons_option o (offers_at table count (drop (i + 1) cs) v)) (empty_of (entry_at table count (get_or cs i 0) v) empty)) in
+    ap (λ ys. length ys) (next_offers table count v i cs within ∙ ap (λ o. cons_option o (offers_at table count (drop (i + 1) cs) v)) (empty_of (listed_at table count (get_or cs i 0) v) empty)) in
     omega (arith, is, next)
 
 drop_all : {X : Type 0} (xs : List X) (i : ℕ) → length xs ≤ i → drop i xs ≡ []
@@ -101,11 +100,11 @@ abbrev pub to_come : List (Vec ℕ Global) → ℕ → ℕ → ℕ → List ℕ 
 to_come table count v left cs i = flat_map (λ ns. ns) (take left (offers_at table count (drop i cs) v))
 
 pub take_step : (table : List (Vec ℕ Global)) (count v i left : ℕ) (cs given all : List ℕ) → i < length cs → given ++ to_come table count v left cs i ≡ all
-    → 0 < left → (length (entry_at table count (get_or cs i 0) v) == 0) ≡ false
-    → (given ++ entry_at table count (get_or cs i 0) v) ++ to_come table count v (left - 1) cs (i + 1) ≡ all
+    → 0 < left → (length (listed_at table count (get_or cs i 0) v) == 0) ≡ false
+    → (given ++ listed_at table count (get_or cs i 0) v) ++ to_come table count v (left - 1) cs (i + 1) ≡ all
 take_step table count v i zero cs given all within is some full = absurd (omega arith)
 take_step table count v i (suc left) cs given all within is some full =
-    let own : List ℕ = entry_at table count (get_or cs i 0) v in
+    let own : List ℕ = listed_at table count (get_or cs i 0) v in
     let fewer : suc left - 1 ≡ left = omega arith in
     let next : to_come table count v (suc left) cs i ≡ own ++ to_come table count v left cs (i + 1) =
     ap (λ ys. flat_map (λ ns. ns) (take (suc left) ys)) (next_offers table count v i cs within ∙ ap (λ o. cons_option o (offers_at table count (drop (i + 1) cs) v)) (full_of own full)) in
@@ -115,13 +114,13 @@ take_step table count v i (suc left) cs given all within is some full =
     ∙ is
 
 pub take_skip : (table : List (Vec ℕ Global)) (count v i left : ℕ) (cs given all : List ℕ) → i < length cs → given ++ to_come table count v left cs i ≡ all
-    → (0 < left → (length (entry_at table count (get_or cs i 0) v) == 0) ≡ true)
+    → (0 < left → (length (listed_at table count (get_or cs i 0) v) == 0) ≡ true)
     → given ++ to_come table count v left cs (i + 1) ≡ all
 take_skip table count v i zero cs given all within is fails = is
 take_skip table count v i (suc left) cs given all within is fails =
     let next : to_come table count v (suc left) cs i ≡ to_come table count v (suc left) cs (i + 1) =
     ap (λ ys. flat_map (λ ns. ns) (take (suc left) ys))
-    (next_offers table count v i cs within ∙ ap (λ o. cons_option o (offers_at table count (drop (i + 1) cs) v)) (empty_of (entry_at table count (get_or cs i 0) v) (fails (omega arith)))) in
+    (next_offers table count v i cs within ∙ ap (λ o. cons_option o (offers_at table count (drop (i + 1) cs) v)) (empty_of (listed_at table count (get_or cs i 0) v) (fails (omega arith)))) in
     ap (λ ys. given ++ ys) (sym next) ∙ is
 
 nothing_taken : (left : ℕ) → flat_map (λ (ns : List ℕ). ns) (take left []) ≡ []

@@ -1,7 +1,7 @@
 use Rattle.std.proofs.Common.{sym, subst}
 use Rattle.cxl_range.specs.inner.Woven.{IsWoven}
 use Rattle.cxl_range.proofs.RegionLaws.{RegionLaws, woven_by}
-use Rattle.cxl_range.proofs.woven.weave_in.Goals as goal
+use Rattle.cxl_range.proofs.woven.region_weave.Goals as goal
 
 pub returns-clause-woven : goal.returns-clause-woven
 returns-clause-woven c =
