@@ -1,6 +1,8 @@
 use crate::host_files::{TWO_ENDPOINTS, TWO_ENDPOINTS_FORWARDED};
 use crate::rows::{ROOM, bytes, run_list};
-use crate::tables::{FOUR_WINDOWS, ONE_BRIDGE, SERVER, THREE_BRIDGES, TWO_BRIDGES, TWO_BRIDGES_WIDE};
+use crate::tables::{
+    FOUR_WINDOWS, ONE_BRIDGE, SERVER, THREE_BRIDGES, TWO_BRIDGES, TWO_BRIDGES_WIDE,
+};
 use cxl_io::{MemFetch, MemSink};
 use std::alloc::Global;
 use std::process::Abort;

@@ -1,6 +1,6 @@
 -- The endpoints that a line names, one name after another.
 use Rattle.std.proofs.Common.{◌≡◌, ℕ, suc, ◌+◌, ◌<◌, ◌≤◌, Bool, true, false, List, [], ◌∷◌, ◌++◌, length, get_or, drop, Option, Some, None, refl, sym, ap, subst, inl, inr, ◌∙◌, drop-cons, append_assoc, arith}
-use Rattle.std.specs.Prelude.{find, is_none, is_some, not, All, option_and_then, if◌then◌else◌}
+use Rattle.std.specs.Prelude.{is_none, is_some, not, All, option_and_then, if◌then◌else◌}
 use Rattle.std.specs.List.{filter_map, cons_option}
 use Rattle.std.proofs.lemmas.List.{drop_all, append-nil}
 use Rattle.std.proofs.lemmas.List.Elements.{All-nil, All-cons}

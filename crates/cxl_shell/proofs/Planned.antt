@@ -1,5 +1,5 @@
 -- What a create line comes to, from what the planner answers.
-use Rattle.std.proofs.Common.{◌≡◌, ◌≢◌, ℕ, true, Some, None, List, [], ◌∷◌, Result, Ok, Err, IfOk, refl, sym, ap, subst, ◌∙◌}
+use Rattle.std.proofs.Common.{◌≡◌, ◌≢◌, ℕ, true, Some, None, List, [], ◌∷◌, Result, Ok, Err, IfOk, sym, subst}
 use Rattle.std.specs.Prelude.{All}
 use Rattle.cxl_cedt.specs.CedtFields.{CedtFields}
 use Rattle.cxl_enc.specs.declared.faults.Memory.{Memory as NoMemory}
@@ -22,7 +22,7 @@ use Rattle.cxl_window.specs.Windows.{windows_of}
 use Rattle.cxl_shell.specs.Answers.{AnswersFromFiles}
 use Rattle.cxl_shell.specs.Form as forms
 use Rattle.cxl_shell.specs.Outcome.{Outcome}
-use Rattle.cxl_shell.specs.commands.Plan.{first_unknown, asked_on_line, IsPlanFor, HasNoLegalPlan, IsRefusal, unknown, faulty, planned, refused, IsPlanned, plan_told, refusal_told}
+use Rattle.cxl_shell.specs.commands.Plan.{first_unknown, asked_on_line, HasNoLegalPlan, unknown, faulty, planned, refused, IsPlanned, plan_told, refusal_told}
 use Rattle.cxl_shell.specs.inputs.ResetHost.{AreBothRead, by_reset_host}
 use Rattle.cxl_shell.proofs.Names.{are_endpoints}
 
@@ -59,6 +59,8 @@ module _ (s : System) (create : Create) (made : Result Outcome NoMemory) where
 -- a plan over the files' host after reset
 pub plan-comes : (cedt topo : List ℕ) (create : Create) (old new : FetchState) (table : CedtFields) (tree : Tree) (blocks : List Registers) (windows : List WindowFields) (outcome : Outcome) → AreBothRead old.told cedt topo table tree → windows ≡ windows_of table.records (Some (bridge_uids tree.nodes)) → blocks ≡ reset_blocks tree.nodes → AsksFor old new (cedt ∷ topo ∷ []) → IsPlanned (system_of blocks tree windows) create outcome → AnswersFromFiles (forms.Plan cedt topo create) old new outcome
 plan-comes cedt topo create old new table tree blocks windows outcome of made reset asks is =
-    by_reset_host table tree of (asks,
-    subst (λ ws. IsPlanned (system_of (reset_blocks tree.nodes) tree ws) create outcome) made
-    (subst (λ bs. IsPlanned (system_of bs tree windows) create outcome) reset is))
+    by_reset_host table tree of (
+      asks,
+      subst (λ ws. IsPlanned (system_of (reset_blocks tree.nodes) tree ws) create outcome) made
+          (subst (λ bs. IsPlanned (system_of bs tree windows) create outcome) reset is),
+    )

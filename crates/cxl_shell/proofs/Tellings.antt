@@ -1,5 +1,5 @@
 -- Plans and their refusals can be told.
-use Rattle.std.proofs.Common.{◌≡◌, ◌≢◌, ℕ, zero, suc, ◌+◌, ◌<◌, ◌≤◌, Bool, true, false, ◌&&◌, not, List, [], ◌∷◌, ◌++◌, length, get_or, Option, Some, None, Err, refl, sym, ap, subst, ◌∙◌, inl, inr, arith}
+use Rattle.std.proofs.Common.{◌≡◌, ℕ, zero, suc, ◌+◌, ◌<◌, ◌≤◌, Bool, true, false, not, List, [], ◌∷◌, ◌++◌, length, get_or, Option, Some, None, Err, refl, sym, ap, subst, ◌∙◌, inl, inr, arith}
 use Rattle.std.specs.Prelude.{slice_get, find, position, ◌==◌, All, Contains}
 use Rattle.std.specs.Option.{option_map_or}
 use Rattle.std.specs.List.{list_any, range_with_len}
@@ -30,7 +30,6 @@ use Rattle.cxl_regs.specs.declared.decoder.Decoder.{Decoder}
 use Rattle.cxl_reply.specs.Plans.{IsToldRow, IsToldPlan}
 use Rattle.cxl_reply.specs.Told.{IsToldFound, IsToldReason, IsToldFault}
 use Rattle.cxl_span.specs.Allotting.{all_committed, Allots}
-use Rattle.cxl_span.specs.declared.allotting.SpanFault.TheVariants.{NoDecoder}
 use Rattle.cxl_topo.specs.Laws.{AreTreeLaws}
 use Rattle.cxl_topo.specs.Tree.{is_endpoint_at, path_of, GoesDownTo}
 use Rattle.cxl_topo.specs.declared.node.Node.{Node}
@@ -123,13 +122,15 @@ module _ (s : System) (request : Request) (system : IsSystem s) (laws : AreTreeL
   told_fault (faults.Uneven n) is = least_below (is_uneven s request) (length s.nodes) n is.holds
   told_fault (faults.NoDecoder n) is = least_below (lacks_decoder s request) (length s.nodes) n is.holds
   told_fault (faults.Span m fault) is =
-      let asked = is.holds.asked in
-      (asked_inside m asked, λ none.
-      let full = subst (λ f. Allots (decoders_at s m) (ram_at s m) (pmem_at s m) request.kind (share_of request) (Err f)) none is.holds.refused in
-      let lacks : lacks_decoder s request m ≡ true = and_from (is_used s request m) (all_committed (decoders_at s m)) (asked_used m asked) full in
-      let least = found_some (lacks_decoder s request) 0 (length s.nodes) m (omega arith) (let low = asked_inside m asked in omega arith) lacks in
-      let first = is.first (faults.NoDecoder least.0) least.1 in
-      absurd (omega (arith, first)))
+      let asked = is.holds.asked in (
+        asked_inside m asked,
+        λ none.
+            let full = subst (λ f. Allots (decoders_at s m) (ram_at s m) (pmem_at s m) request.kind (share_of request) (Err f)) none is.holds.refused in
+            let lacks : lacks_decoder s request m ≡ true = and_from (is_used s request m) (all_committed (decoders_at s m)) (asked_used m asked) full in
+            let least = found_some (lacks_decoder s request) 0 (length s.nodes) m (omega arith) (let low = asked_inside m asked in omega arith) lacks in
+            let first = is.first (faults.NoDecoder least.0) least.1 in
+            absurd (omega (arith, first)),
+      )
   told_fault (faults.NoWindow told) is = λ k d within.
       let count = is.holds.count in
       let w = item_at s.windows k (omega arith) in

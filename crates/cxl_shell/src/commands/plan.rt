@@ -25,8 +25,8 @@ use cxl_cedt::one_reading;
 use cxl_enc::{FixedList, Name};
 use cxl_image::one_image_reading;
 use cxl_io::{Fetch, Memory};
-use cxl_model::{Plan, PlanFault, Request};
 use cxl_legal::{ports_are_bytes, stated_rows_keep_blocks};
+use cxl_model::{Plan, PlanFault, Request};
 use cxl_reply::{Reply, findings_are_told, put_plan, put_reply};
 use cxl_script::Create;
 use cxl_topo::{Topo, tree_laws};
@@ -66,11 +66,7 @@ fn planned(alloc: Global, host: &Host, create: &Create) -> Result<Outcome, Memor
 }
 
 /// What a create line comes to whose names are all endpoints'. Takes memory.
-fn planned_over_endpoints(
-    alloc: Global,
-    host: &Host,
-    create: &Create,
-) -> Result<Outcome, Memory>
+fn planned_over_endpoints(alloc: Global, host: &Host, create: &Create) -> Result<Outcome, Memory>
     requires system { IsSystem (system_of host.now.image host.now.topo host.now.windows.items) }
     requires accepted { IsAccepted (system_of host.now.image host.now.topo host.now.windows.items) }
     requires known { first_unknown host.now.topo.nodes create.now.endpoints ≡ None }

@@ -1,4 +1,4 @@
-use Rattle.std.proofs.Common.{refl, ap, sym, ◌∙◌}
+use Rattle.std.proofs.Common.{refl, ap, ◌∙◌}
 use Rattle.cxl_shell.specs.Form.{table_file}
 use Rattle.cxl_shell.specs.Run.{runs_out, before}
 use Rattle.cxl_shell.proofs.Stops.{asks_nothing, told-nothing_more}

@@ -1,6 +1,4 @@
 use Rattle.std.proofs.Common.{Vec, ℕ, Global, ◌∙◌, ap, sym}
-use Rattle.std.specs.List.{filter_map}
-use Rattle.cxl_shell.specs.commands.Plan.{endpoint_called}
 use Rattle.cxl_shell.proofs.Names.{none_begun, one_more, one_passed, all_taken}
 use Rattle.cxl_shell.proofs.commands.plan.endpoints_called.Goals as goal
 use Rattle.cxl_shell.proofs.commands.plan.endpoints_called.Goals.{in-Some+in_ok-push, in_default}

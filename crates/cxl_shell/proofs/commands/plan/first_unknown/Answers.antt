@@ -1,4 +1,4 @@
-use Rattle.std.proofs.Common.{sym, ap, ◌∙◌, refl}
+use Rattle.std.proofs.Common.{sym, ◌∙◌, refl}
 use Rattle.cxl_shell.proofs.Names.{none_test, found_here, not_here, none_left}
 use Rattle.cxl_shell.proofs.commands.plan.first_unknown.Goals as goal
 

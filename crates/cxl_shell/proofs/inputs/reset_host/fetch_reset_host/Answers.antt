@@ -1,6 +1,5 @@
-use Rattle.std.proofs.Common.{◌≡◌, ◌≤◌, List, ℕ, [], ◌∷◌, Err, ap, ◌∙◌, arith}
+use Rattle.std.proofs.Common.{[], ◌∷◌, Err, ap, ◌∙◌}
 use Rattle.std.proofs.lemmas.Result.{err_from_is_err_and}
-use Rattle.cxl_io.specs.Fetch.{AsksFor}
 use Rattle.cxl_shell.specs.inputs.ResetHost.{no_table, no_tree}
 use Rattle.cxl_shell.proofs.Hosts.{asks_behind, tree_behind, first_of_two, second_of_two}
 use Rattle.cxl_shell.proofs.Stops.{stopped-behind, stop-memory}
