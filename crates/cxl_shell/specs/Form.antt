@@ -50,17 +50,17 @@ check_form (cedt ∷ topo ∷ image ∷ []) = Check cedt topo image
 check_form words = Unreadable
 
 -- the region that a create line asks for over the endpoints that it names
-abbrev pub over_names : Create → Option ℕ → Option Create
-over_names create None = Some create
-over_names create (Some ways) = None
+abbrev pub with_named_endpoints : Create → Option ℕ → Option Create
+with_named_endpoints create None = Some create
+with_named_endpoints create (Some ways) = None
 
-abbrev pub create_of : Result (Option Command) BadLine → Option Create
-create_of (Ok (Some (commands.Create create))) = over_names create create.ways
-create_of asked = None
+abbrev pub create_asked : Result (Option Command) BadLine → Option Create
+create_asked (Ok (Some (commands.Create create))) = with_named_endpoints create create.ways
+create_asked asked = None
 
 -- the region that a line asks for, where it asks for one over named endpoints
-abbrev pub create_in : List ℕ → Option Create
-create_in line = create_of (asked_in line)
+abbrev pub create_on_line : List ℕ → Option Create
+create_on_line line = create_asked (asked_in line)
 
 abbrev pub plan_over : List ℕ → List ℕ → Option Create → Form
 plan_over cedt topo (Some create) = Plan cedt topo create
@@ -68,7 +68,7 @@ plan_over cedt topo None = NoCreate
 
 -- the words after `plan`: the files of a table and a topology, and a create line
 abbrev pub plan_form : List (List ℕ) → Form
-plan_form (cedt ∷ topo ∷ line ∷ []) = plan_over cedt topo (create_in line)
+plan_form (cedt ∷ topo ∷ line ∷ []) = plan_over cedt topo (create_on_line line)
 plan_form words = Unreadable
 
 -- a form that has no words after its first

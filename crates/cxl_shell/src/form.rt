@@ -1,6 +1,6 @@
 ghost use Rattle.std.specs.Prelude.{◌≡◌, true, IfOk, OnErr};
 ghost use Rattle.cxl_shell.specs.Plain.{plain};
-ghost use Rattle.cxl_shell.specs.Form.{form_of, route_form, list_form, normal_form, check_form, plan_form, create_in, over_names, alone, takes_memory};
+ghost use Rattle.cxl_shell.specs.Form.{form_of, route_form, list_form, normal_form, check_form, plan_form, create_on_line, with_named_endpoints, alone, takes_memory};
 ghost use Rattle.cxl_shell.specs.Words.{bytes_of};
 
 use cxl_io::{Memory, read_number};
@@ -109,7 +109,7 @@ fn plan_form(alloc: Global, words: &[String]) -> Result<Form<'_>, Memory>
     ensures memory { OnErr result (takes_memory (plan_form (bytes_of words.now)) ≡ true) }
 {
     match words {
-        [cedt, topo, line] => match create_in(alloc, line.as_bytes())? {
+        [cedt, topo, line] => match create_on_line(alloc, line.as_bytes())? {
             Some(create) => Ok(Form::Plan(cedt.as_str(), topo.as_str(), create)),
             None => Ok(Form::NoCreate),
         },
@@ -118,19 +118,19 @@ fn plan_form(alloc: Global, words: &[String]) -> Result<Form<'_>, Memory>
 }
 
 /// The region that a line asks for, where it asks for one over named endpoints. Takes memory.
-fn create_in(alloc: Global, line: &[u8]) -> Result<Option<Create>, Memory>
-    ensures { IfOk result (λ create. create ≡ create_in line.now) }
+fn create_on_line(alloc: Global, line: &[u8]) -> Result<Option<Create>, Memory>
+    ensures { IfOk result (λ create. create ≡ create_on_line line.now) }
 {
     match read_command(alloc, line) {
-        Ok(Some(Command::Create(create))) => Ok(over_names(create)),
+        Ok(Some(Command::Create(create))) => Ok(with_named_endpoints(create)),
         Ok(_) | Err(LineFault::Bad(_)) => Ok(None),
         Err(LineFault::Memory) => Err(Memory),
     }
 }
 
 /// The region, unless its endpoints are to be picked.
-fn over_names(create: Create) -> Option<Create>
-    ensures { result ≡ over_names create create.ways }
+fn with_named_endpoints(create: Create) -> Option<Create>
+    ensures { result ≡ with_named_endpoints create create.ways }
 {
     if create.ways.is_none() {
         Some(create)
