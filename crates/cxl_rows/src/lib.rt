@@ -26,6 +26,8 @@ mod outside;
 #[cfg(test)]
 mod picks;
 #[cfg(test)]
+mod plan_lines;
+#[cfg(test)]
 mod plans;
 #[cfg(test)]
 mod poison;

@@ -54,6 +54,7 @@ fn help_and_version(rt: HostRuntime) -> Result<(), Fail> {
         "list CEDT ",
         "normal CEDT ",
         "check CEDT TOPO IMAGE\n",
+        "plan CEDT TOPO LINE\n",
     ] {
         assert!(rt; HELP.contains(form), "{form}");
     }

@@ -42,14 +42,24 @@ pub(crate) fn file(
 pub(crate) fn run_words(
     alloc: Global,
     words: &str,
-    mut files: MemFetch,
-    mut sink: MemSink,
+    files: MemFetch,
+    sink: MemSink,
 ) -> Result<End, Fail> {
     let mut line = Vec::new(alloc);
     for word in words.split(' ') {
         line.push(String::from_str(alloc, word)?)?;
     }
-    let status = run(alloc, line.as_slice(), &mut files, &mut sink);
+    run_list(alloc, line.as_slice(), files, sink)
+}
+
+/// Runs the words.
+pub(crate) fn run_list(
+    alloc: Global,
+    words: &[String],
+    mut files: MemFetch,
+    mut sink: MemSink,
+) -> Result<End, Fail> {
+    let status = run(alloc, words, &mut files, &mut sink);
     Ok(End {
         status,
         text: Vec::from_slice(alloc, sink.bytes())?,

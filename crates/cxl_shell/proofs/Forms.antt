@@ -1,6 +1,6 @@
 -- The files of a form.
 use Rattle.std.proofs.Common.{◌≡◌, ℕ, Some, None, List, ◌∷◌, ap}
-use Rattle.cxl_shell.specs.Form.{Form, Route, Listing, Normal, Check, Help, Version, Unreadable, own_files, table_file}
+use Rattle.cxl_shell.specs.Form.{Form, Route, Listing, Normal, Check, Plan, NoCreate, Help, Version, Unreadable, own_files, table_file}
 
 -- the first file is that with the table
 pub first_file : (form : Form) (file : List ℕ) (others : List (List ℕ)) → own_files form ≡ file ∷ others → table_file form ≡ Some file
@@ -8,6 +8,8 @@ first_file (Route f h) file others own = let same : f ≡ file = cc in ap (λ g.
 first_file (Listing f) file others own = let same : f ≡ file = cc in ap (λ g. Some g) same
 first_file (Normal f) file others own = let same : f ≡ file = cc in ap (λ g. Some g) same
 first_file (Check cedt topo image) file others own = let same : cedt ≡ file = cc in ap (λ g. Some g) same
+first_file (Plan cedt topo create) file others own = let same : cedt ≡ file = cc in ap (λ g. Some g) same
+first_file NoCreate file others own = absurd (cc)
 first_file Help file others own = absurd (cc)
 first_file Version file others own = absurd (cc)
 first_file Unreadable file others own = absurd (cc)

@@ -67,3 +67,19 @@ module _ (cedt topo image : List ℕ) (old : FetchState) where
       at : AsksFor mid new [] ⊎ AsksFor mid new (image ∷ []) → AsksForSome (cedt ∷ topo ∷ image ∷ []) old new
       at (inl asks) = record { count = 2; asks = asks_behind old mid new (cedt ∷ topo ∷ []) first told counts [] asks }
       at (inr asks) = record { count = 3; asks = asks_behind old mid new (cedt ∷ topo ∷ []) first told counts (image ∷ []) asks }
+
+-- the first of two names are asked for
+module _ (cedt topo : List ℕ) (old : FetchState) where
+  pub first_of_two : (new : FetchState) → AsksForSome (cedt ∷ []) old new → AsksForSome (cedt ∷ topo ∷ []) old new
+  first_of_two new some = at (one_or_none cedt old new some)
+    where
+      at : AsksFor old new [] ⊎ AsksFor old new (cedt ∷ []) → AsksForSome (cedt ∷ topo ∷ []) old new
+      at (inl asks) = record { count = 0; asks = asks }
+      at (inr asks) = record { count = 1; asks = asks }
+
+  pub second_of_two : (mid new : FetchState) → AsksFor old mid (cedt ∷ []) → mid.told ≡ old.told → old.faults ≤ mid.faults → AsksForSome (topo ∷ []) mid new → AsksForSome (cedt ∷ topo ∷ []) old new
+  second_of_two mid new first told counts some = at (one_or_none topo mid new some)
+    where
+      at : AsksFor mid new [] ⊎ AsksFor mid new (topo ∷ []) → AsksForSome (cedt ∷ topo ∷ []) old new
+      at (inl asks) = record { count = 1; asks = asks_behind old mid new (cedt ∷ []) first told counts [] asks }
+      at (inr asks) = record { count = 2; asks = asks_behind old mid new (cedt ∷ []) first told counts (topo ∷ []) asks }

@@ -8,6 +8,10 @@ pub mod Tables
 pub mod Topologies
 pub mod Images
 pub mod Hosts
+pub mod Resets
+pub mod Names
+pub mod Tellings
+pub mod Planned
 pub mod InBlocks
 pub mod ListLines
 pub mod Lists

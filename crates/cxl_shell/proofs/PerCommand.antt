@@ -2,22 +2,27 @@
 use Rattle.std.proofs.Common.{◌≡◌, ℕ, zero, suc, ◌<◌, ◌⊎◌, false, Some, None, List, [], ◌∷◌, take, refl, sym, ap, subst, ◌∙◌, inl, inr, arith}
 use Rattle.std.specs.List.{concat}
 use Rattle.std.proofs.lemmas.List.{append-nil}
+use Rattle.std.proofs.lemmas.Option.{none-some}
 use Rattle.cxl_cedt.specs.CedtFields.{CedtFields}
 use Rattle.cxl_io.specs.Sink.{SinkState, Takes}
 use Rattle.cxl_model.specs.Accepted.{IsAccepted, HasFirstBreach}
 use Rattle.cxl_model.specs.System.{System}
+use Rattle.cxl_model.specs.declared.plan.Plan as plans
+use Rattle.cxl_reply.specs.declared.reply.Reply.{Reply}
 use Rattle.cxl_regs.specs.Registers.{Registers}
+use Rattle.cxl_script.specs.declared.command.Create.{Create}
 use Rattle.cxl_topo.specs.Tree.{Tree}
 use Rattle.cxl_window.specs.Windows.{windows_of}
-use Rattle.cxl_shell.specs.Answers.{AnswersFromFiles, IsTableAnswer, IsAnswerOfFile, IsAnswerOfHost}
+use Rattle.cxl_shell.specs.Answers.{AnswersFromFiles, IsTableAnswer, IsAnswerOfFile, IsAnswerOfResetHost, IsAnswerOfHost}
 use Rattle.cxl_shell.specs.Ends.{IsWritten, IsCutShort, IsBehind, Ends, IsStopped}
-use Rattle.cxl_shell.specs.Form.{Form, Route, Listing, Normal, Check, Help, Version, Unreadable, has_many_pieces, takes_memory}
+use Rattle.cxl_shell.specs.Form.{Form, Route, Listing, Normal, Check, Plan, NoCreate, Help, Version, Unreadable, has_many_pieces, takes_memory}
 use Rattle.cxl_shell.specs.Outcome.{Outcome, whole_text, one_piece}
 use Rattle.cxl_shell.specs.Outside.{Outside}
 use Rattle.cxl_shell.specs.Run.{RunsOut, before, behind, IsRun, writes, is_cut, runs_out}
 use Rattle.cxl_shell.specs.commands.Check.{IsChecked, regions_told, breach_told, IsRegionsText, IsBreachText, TakesRegions}
 use Rattle.cxl_shell.specs.commands.List.{IsListText, TakesLines}
 use Rattle.cxl_shell.specs.commands.Normal.{IsNormalText}
+use Rattle.cxl_shell.specs.commands.Plan.{IsPlanned, plan_told, refusal_told, IsPlanText, IsRefusalText, IsPlanFor, IsRefusal, unknown, faulty, HasPlan, HasNoPlan, of_unknown, none_legal}
 use Rattle.cxl_shell.specs.commands.Route.{IsNowhere, IsRouted, to_bridge, nowhere, no_window, IsRouteLine}
 use Rattle.cxl_shell.specs.declared.status.Status.{Status}
 use Rattle.cxl_shell.specs.declared.status.Status.TheVariants.{Done, Refused, Memory}
@@ -25,10 +30,12 @@ use Rattle.cxl_shell.specs.inputs.File.{HasNoBytes, not_read, not_small}
 use Rattle.cxl_shell.specs.inputs.Host.{host_of, AreRead, HasNoHost}
 use Rattle.cxl_shell.specs.inputs.Host as hosts
 use Rattle.cxl_shell.specs.inputs.Image as images
+use Rattle.cxl_shell.specs.inputs.ResetHost as resets
+use Rattle.cxl_shell.specs.inputs.ResetHost.{reset_host_of, AreBothRead}
 use Rattle.cxl_shell.specs.inputs.Table.{IsTableOf, no_table, by_table, no_bytes, not_sound}
 use Rattle.cxl_shell.specs.inputs.Topology as trees
 use Rattle.cxl_shell.proofs.Routes.{done_selection, refused_nowhere}
-use Rattle.cxl_shell.proofs.Runs.{Came, IsHostAnswered, done_answer, refused_answer, check_done, check_refused, memory_left}
+use Rattle.cxl_shell.proofs.Runs.{Came, IsTreeAnswered, IsHostAnswered, done_answer, refused_answer, check_done, check_refused, plan_done, plan_refused, memory_left}
 use Rattle.cxl_shell.proofs.Stops.{told-nothing_more}
 
 -- ---- outcomes of one piece
@@ -65,11 +72,26 @@ module _ (old new : Outside) where
   one_of_route table h outcome (to_bridge s selected e) = record { status = _; text = _; is = e }
   one_of_route table h outcome (nowhere none e) = record { status = _; text = _; is = e }
 
+  one_of_plan : (table : CedtFields) (tree : Tree) (create : Create) (outcome : Outcome) → IsPlanned (reset_host_of table tree) create outcome → IsOnePiece outcome
+  one_of_plan table tree create outcome (plan_told plan is e) = record { status = _; text = _; is = e }
+  one_of_plan table tree create outcome (refusal_told reply is e) = record { status = _; text = _; is = e }
+
+  one_of_reset_host : (cedt topo : List ℕ) (create : Create) (outcome : Outcome) → IsAnswerOfResetHost (Plan cedt topo create) cedt topo old.files new.files outcome → IsOnePiece outcome
+  one_of_reset_host cedt topo create outcome (resets.no_reset_host (resets.no_table (no_bytes (not_read rose asks e)))) = record { status = _; text = _; is = e }
+  one_of_reset_host cedt topo create outcome (resets.no_reset_host (resets.no_table (no_bytes (not_small many asks e)))) = record { status = _; text = _; is = e }
+  one_of_reset_host cedt topo create outcome (resets.no_reset_host (resets.no_table (not_sound fault is asks e))) = record { status = _; text = _; is = e }
+  one_of_reset_host cedt topo create outcome (resets.no_reset_host (resets.no_tree table of (trees.no_bytes (not_read rose asks e)))) = record { status = _; text = _; is = e }
+  one_of_reset_host cedt topo create outcome (resets.no_reset_host (resets.no_tree table of (trees.no_bytes (not_small many asks e)))) = record { status = _; text = _; is = e }
+  one_of_reset_host cedt topo create outcome (resets.no_reset_host (resets.no_tree table of (trees.not_sound fault is asks e))) = record { status = _; text = _; is = e }
+  one_of_reset_host cedt topo create outcome (resets.by_reset_host table tree of answer) = one_of_plan table tree create outcome answer.1
+
   one_piece_answers : (form : Form) (outcome : Outcome) → has_many_pieces form ≡ false → AnswersFromFiles form old.files new.files outcome → IsOnePiece outcome
   one_piece_answers (Route file h) outcome other answers = one_of_file (Route file h) file outcome (λ table answer. one_of_route table h outcome answer) answers
   one_piece_answers (Listing file) outcome other answers = absurd (cc)
   one_piece_answers (Check cedt topo image) outcome other answers = absurd (cc)
   one_piece_answers (Normal file) outcome other answers = one_of_file (Normal file) file outcome (λ table answer. record { status = _; text = _; is = answer }) answers
+  one_piece_answers (Plan cedt topo create) outcome other answers = one_of_reset_host cedt topo create outcome answers
+  one_piece_answers NoCreate outcome other answers = record { status = _; text = _; is = answers.0 }
   one_piece_answers Help outcome other answers = record { status = _; text = _; is = answers.0 }
   one_piece_answers Version outcome other answers = record { status = _; text = _; is = answers.0 }
   one_piece_answers Unreadable outcome other answers = record { status = _; text = _; is = answers.0 }
@@ -125,6 +147,12 @@ module _ (old new : Outside) where
   fixed_ends form fixed status none one (writes outcome answers written) = inl (subst (λ o. IsWritten o status old.out new.out) (one outcome answers) written)
   fixed_ends form fixed status none one (is_cut outcome answers is) = inr (subst (λ o. IsCutShort o status old.out new.out) (one outcome answers) is)
   fixed_ends form fixed status none one (runs_out takes is left) = absurd (cc)
+
+  -- a form whose outcome is fixed, and that may want for memory
+  pub fixed_or_memory : (form : Form) (fixed : Outcome) (status : Status) → ((o : Outcome) → AnswersFromFiles form old.files new.files o → o ≡ fixed) → IsRun form old new status → (status ≡ Memory) ⊎ Ends fixed status old.out new.out
+  fixed_or_memory form fixed status one (writes outcome answers written) = inr (inl (subst (λ o. IsWritten o status old.out new.out) (one outcome answers) written))
+  fixed_or_memory form fixed status one (is_cut outcome answers is) = inr (inr (subst (λ o. IsCutShort o status old.out new.out) (one outcome answers) is))
+  fixed_or_memory form fixed status one (runs_out takes is left) = inl is
 
   pub ends_or_memory : (form : Form) (status : Status) → IsRun form old new status → (status ≡ Memory) ⊎ ((outcome : Outcome) × AnswersFromFiles form old.files new.files outcome × Ends outcome status old.out new.out)
   ends_or_memory form status (writes outcome answers written) = inr (outcome, answers, inl written)
@@ -199,6 +227,45 @@ module _ (old new : Outside) where
       let answered = check_refused old new cedt topo image came in
       breach_written cedt topo image answered.table answered.tree answered.blocks answered.outcome (files_of cedt topo image Refused answered) answered.answer answered.written
 
+  -- ---- plan
+
+  -- the files of the form and its line are those of the plan that it is
+  plan_files : (cedt topo : List ℕ) (create : Create) (status : Status) (answered : IsTreeAnswered old new (Plan cedt topo create) status) → AreBothRead old.files.told cedt topo answered.table answered.tree
+  plan_files cedt topo create status answered =
+      let is = answered.is in
+      let one : answered.cedt ≡ cedt = cc in
+      let two : answered.topo ≡ topo = cc in
+      subst (λ f. AreBothRead old.files.told f topo answered.table answered.tree) one
+      (subst (λ f. AreBothRead old.files.told answered.cedt f answered.table answered.tree) two answered.of)
+
+  same_line : (cedt topo : List ℕ) (create : Create) (status : Status) (answered : IsTreeAnswered old new (Plan cedt topo create) status) → IsPlanned (reset_host_of answered.table answered.tree) create answered.outcome
+  same_line cedt topo create status answered =
+      let is = answered.is in
+      let one : answered.create ≡ create = cc in
+      subst (λ line. IsPlanned (reset_host_of answered.table answered.tree) line answered.outcome) one answered.answer
+
+  plan_lines : (cedt topo : List ℕ) (create : Create) (table : CedtFields) (tree : Tree) (outcome : Outcome) → AreBothRead old.files.told cedt topo table tree → IsPlanned (reset_host_of table tree) create outcome → IsWritten outcome Done old.out new.out → (text : List ℕ) × IsPlanText old.files.told cedt topo create text × Takes old.out new.out text
+  plan_lines cedt topo create table tree outcome of (plan_told plan is e) written =
+      (_, record { table = table; tree = tree; plan = plan; read = of; plans = is; lines = refl }, subst (Takes old.out new.out) (one_text outcome Done _ e) written.taken)
+  plan_lines cedt topo create table tree outcome of (refusal_told reply is e) written =
+      let own = ap (λ o. o.status) e in let done = written.status_is in absurd (cc)
+
+  refusal_lines : (cedt topo : List ℕ) (create : Create) (table : CedtFields) (tree : Tree) (outcome : Outcome) → AreBothRead old.files.told cedt topo table tree → IsPlanned (reset_host_of table tree) create outcome → IsWritten outcome Refused old.out new.out → (text : List ℕ) × IsRefusalText old.files.told cedt topo create text × Takes old.out new.out text
+  refusal_lines cedt topo create table tree outcome of (plan_told plan is e) written =
+      let own = ap (λ o. o.status) e in let refused = written.status_is in absurd (cc)
+  refusal_lines cedt topo create table tree outcome of (refusal_told reply is e) written =
+      (_, record { table = table; tree = tree; reply = reply; read = of; refusal = is; lines = refl }, subst (Takes old.out new.out) (one_text outcome Refused _ e) written.taken)
+
+  pub plan_written : (cedt topo : List ℕ) (create : Create) → Came old new (Plan cedt topo create) Done → (text : List ℕ) × IsPlanText old.files.told cedt topo create text × Takes old.out new.out text
+  plan_written cedt topo create came =
+      let answered = plan_done old new cedt topo create came in
+      plan_lines cedt topo create answered.table answered.tree answered.outcome (plan_files cedt topo create Done answered) (same_line cedt topo create Done answered) answered.written
+
+  pub refusal_written : (cedt topo : List ℕ) (create : Create) → Came old new (Plan cedt topo create) Refused → (text : List ℕ) × IsRefusalText old.files.told cedt topo create text × Takes old.out new.out text
+  refusal_written cedt topo create came =
+      let answered = plan_refused old new cedt topo create came in
+      refusal_lines cedt topo create answered.table answered.tree answered.outcome (plan_files cedt topo create Refused answered) (same_line cedt topo create Refused answered) answered.written
+
 -- a refusal that is written
 pub refusal : (old new : Outside) (status : Status) → IsWritten no_window status old.out new.out ⊎ IsStopped status old new → (status ≡ Refused) ⊎ IsStopped status old new
 refusal old new status (inl written) = inl written.status_is
@@ -222,3 +289,30 @@ module _ (not_both : (s : System) → IsAccepted s → HasFirstBreach s → ⊥)
   pub broken_comes : HasFirstBreach s → ((o : Outcome) × IsChecked s o × IsWritten o status old.out new.out) ⊎ IsStopped status old new → (status ≡ Refused) ⊎ IsStopped status old new
   broken_comes breach (inl some) = let written = some.2 in inl (written.status_is ∙ broken_refused not_both s some.0 breach some.1)
   broken_comes breach (inr stopped) = inr stopped
+
+-- a line that has a plan, and one that has none
+module _ (s : System) (create : Create) (outcome : Outcome) where
+  no_refusal : HasPlan s create → (reply : Reply) → IsRefusal s create reply → ⊥
+  no_refusal has reply (unknown name is) = none-some name (sym has.known ∙ is)
+  no_refusal has reply (faulty fault known none first) = none has.plan has.legal
+
+  no_plan : HasNoPlan s create → (plan : plans.Plan) → IsPlanFor s create plan → ⊥
+  no_plan (of_unknown name is) plan for = none-some name (sym for.known ∙ is)
+  no_plan (none_legal none) plan for = none plan for.legal
+
+  planned_done : HasPlan s create → IsPlanned s create outcome → outcome.status ≡ Done
+  planned_done has (plan_told plan is e) = ap (λ o. o.status) e
+  planned_done has (refusal_told reply is e) = absurd (no_refusal has reply is)
+
+  unplanned_refused : HasNoPlan s create → IsPlanned s create outcome → outcome.status ≡ Refused
+  unplanned_refused none (plan_told plan is e) = absurd (no_plan none plan is)
+  unplanned_refused none (refusal_told reply is e) = ap (λ o. o.status) e
+
+module _ (old new : Outside) (status : Status) (s : System) (create : Create) where
+  pub plan_comes : HasPlan s create → ((o : Outcome) × IsPlanned s create o × IsWritten o status old.out new.out) ⊎ IsStopped status old new → (status ≡ Done) ⊎ IsStopped status old new
+  plan_comes has (inl some) = let written = some.2 in inl (written.status_is ∙ planned_done s create some.0 has some.1)
+  plan_comes has (inr stopped) = inr stopped
+
+  pub refusal_comes : HasNoPlan s create → ((o : Outcome) × IsPlanned s create o × IsWritten o status old.out new.out) ⊎ IsStopped status old new → (status ≡ Refused) ⊎ IsStopped status old new
+  refusal_comes none (inl some) = let written = some.2 in inl (written.status_is ∙ unplanned_refused s create some.0 none some.1)
+  refusal_comes none (inr stopped) = inr stopped

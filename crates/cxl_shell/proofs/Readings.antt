@@ -8,21 +8,23 @@ use Rattle.cxl_image.specs.File.{IsImageFile, IsFirstImageFault}
 use Rattle.cxl_image.specs.declared.fault.ImageFault.{ImageFault}
 use Rattle.cxl_io.specs.Told.{Bytes}
 use Rattle.cxl_regs.specs.Registers.{Registers}
+use Rattle.cxl_script.specs.declared.command.Create.{Create}
 use Rattle.cxl_topo.specs.Tree.{Tree}
 use Rattle.cxl_topo.specs.declared.node.Node.{Node}
 use Rattle.cxl_topofile.specs.File.{IsTopologyFile, IsFirstTopoFault}
 use Rattle.cxl_topofile.specs.declared.fault.TopoFault.{TopoFault}
 use Rattle.cxl_topofile.specs.declared.fault.TopoFault.TheVariants as faults
-use Rattle.cxl_shell.specs.Answers.{AnswersFromFiles, IsTableAnswer, IsHostAnswer, IsAnswerBy, IsAnswerOfFile, IsAnswerOfHost}
+use Rattle.cxl_shell.specs.Answers.{AnswersFromFiles, IsTableAnswer, IsTreeAnswer, IsHostAnswer, IsAnswerBy, IsAnswerOfFile, IsAnswerOfResetHost, IsAnswerOfHost}
 use Rattle.cxl_shell.specs.Ends.{IsWritten, IsStopped}
-use Rattle.cxl_shell.specs.Form.{Form, Route, Listing, Normal, Check, Help, Version, Unreadable, table_file, topology_file, image_file}
+use Rattle.cxl_shell.specs.Form.{Form, Route, Listing, Normal, Check, Plan, NoCreate, Help, Version, Unreadable, table_file, topology_file, image_file}
 use Rattle.cxl_shell.specs.Outcome.{Outcome}
 use Rattle.cxl_shell.specs.Outside.{Outside}
-use Rattle.cxl_shell.specs.Readings.{KnowsTable, KnowsTree, KnowsImage, Readings, ByTable, ByHost, AreKnown}
+use Rattle.cxl_shell.specs.Readings.{KnowsTable, KnowsTree, KnowsImage, Readings, ByTable, ByTree, ByHost, AreKnown}
 use Rattle.cxl_shell.specs.Run.{IsRun, writes, is_cut, runs_out}
 use Rattle.cxl_shell.specs.declared.status.Status.{Status}
 use Rattle.cxl_shell.specs.declared.status.Status.TheVariants.{BadTable, BadTopo, BadImage, Memory}
 use Rattle.cxl_shell.specs.inputs.Host as hosts
+use Rattle.cxl_shell.specs.inputs.ResetHost as resets
 use Rattle.cxl_shell.specs.inputs.Image.{IsImageReading, IsFaultyImage, IsFaultyImageFile}
 use Rattle.cxl_shell.specs.inputs.Image as images
 use Rattle.cxl_shell.specs.inputs.Table.{IsReading, IsFaulty}
@@ -81,9 +83,12 @@ knows_table old form file bytes table asked there reading = record { bytes = byt
 -- ---- from a run, file by file
 
 module _ (old new : Outside) (status : Status) where
-  -- a form's outcome by its table is written, or by its host
+  -- a form's outcome by its table is written, or by its tree, or by its host
   abbrev pub AnsweredByTable : Form → CedtFields → Type 0
   AnsweredByTable form table = (o : Outcome) × IsTableAnswer form table o × IsWritten o status old.out new.out
+
+  abbrev pub AnsweredByTree : Form → CedtFields → Tree → Type 0
+  AnsweredByTree form table tree = (o : Outcome) × IsTreeAnswer form table tree o × IsWritten o status old.out new.out
 
   abbrev pub AnsweredByHost : Form → CedtFields → Tree → List Registers → Type 0
   AnsweredByHost form table tree blocks = (o : Outcome) × IsHostAnswer form table tree blocks o × IsWritten o status old.out new.out
@@ -94,6 +99,7 @@ module _ (old new : Outside) (status : Status) where
 
   abbrev pub AfterTree : Form → CedtFields → Tree → Type 0
   AfterTree (Check cedt topo image) table tree = ImageStep image (Check cedt topo image) table tree
+  AfterTree (Plan cedt topo create) table tree = AnsweredByTree (Plan cedt topo create) table tree
   AfterTree form table tree = ⊥
 
   abbrev pub TreeStep : List ℕ → Form → CedtFields → Type 0
@@ -101,6 +107,7 @@ module _ (old new : Outside) (status : Status) where
 
   abbrev pub AfterTable : Form → CedtFields → Type 0
   AfterTable (Check cedt topo image) table = TreeStep topo (Check cedt topo image) table
+  AfterTable (Plan cedt topo create) table = TreeStep topo (Plan cedt topo create) table
   AfterTable form table = AnsweredByTable form table
 
   abbrev pub TableStep : List ℕ → Form → Type 0
@@ -130,6 +137,15 @@ module _ (old new : Outside) (status : Status) where
       let of_image = is.of_image in
       read of.bytes table of.told_so of.reading (read of_tree.bytes tree of_tree.told_so of_tree.reading (read of_image.bytes blocks of_image.told_so of_image.reading (o, answer.1, written)))
 
+  reset_step : (cedt topo : List ℕ) (create : Create) (o : Outcome) → IsAnswerOfResetHost (Plan cedt topo create) cedt topo old.files new.files o → IsWritten o status old.out new.out → TableStep cedt (Plan cedt topo create)
+  reset_step cedt topo create o (resets.no_reset_host (resets.no_table none)) written = no_table_step cedt (Plan cedt topo create) o none written
+  reset_step cedt topo create o (resets.no_reset_host (resets.no_tree table of none)) written =
+      read of.bytes table of.told_so of.reading (no_tree_step (cedt ∷ []) topo (Plan cedt topo create) table o none written)
+  reset_step cedt topo create o (resets.by_reset_host table tree is answer) written =
+      let of = is.of_table in
+      let of_tree = is.of_tree in
+      read of.bytes table of.told_so of.reading (read of_tree.bytes tree of_tree.told_so of_tree.reading (o, answer.1, written))
+
   file_step : (form : Form) (file : List ℕ) (o : Outcome) → ((table : CedtFields) → AnsweredByTable form table → AfterTable form table) → IsAnswerOfFile form file old.files new.files o → IsWritten o status old.out new.out → TableStep file form
   file_step form file o after (tables.no_table none) written = no_table_step file form o none written
   file_step form file o after (tables.by_table table of answer) written = read of.bytes table of.told_so of.reading (after table (o, answer.1, written))
@@ -139,6 +155,8 @@ module _ (old new : Outside) (status : Status) where
   written_step (Listing own) file asked o answers written = let same : own ≡ file = cc in subst (λ f. TableStep f (Listing own)) same (file_step (Listing own) own o (λ table a. a) answers written)
   written_step (Normal own) file asked o answers written = let same : own ≡ file = cc in subst (λ f. TableStep f (Normal own)) same (file_step (Normal own) own o (λ table a. a) answers written)
   written_step (Check cedt topo image) file asked o answers written = let same : cedt ≡ file = cc in subst (λ f. TableStep f (Check cedt topo image)) same (host_step cedt topo image o answers written)
+  written_step (Plan cedt topo create) file asked o answers written = let same : cedt ≡ file = cc in subst (λ f. TableStep f (Plan cedt topo create)) same (reset_step cedt topo create o answers written)
+  written_step NoCreate file asked o answers written = absurd (cc)
   written_step Help file asked o answers written = absurd (cc)
   written_step Version file asked o answers written = absurd (cc)
   written_step Unreadable file asked o answers written = absurd (cc)
@@ -152,6 +170,8 @@ module _ (old new : Outside) (status : Status) where
   -- the step of the topology's file
   pub tree_step : (form : Form) (table : CedtFields) (file : List ℕ) → topology_file form ≡ Some file → AfterTable form table → TreeStep file form table
   tree_step (Check cedt topo image) table file asked step = let same : topo ≡ file = cc in subst (λ f. TreeStep f (Check cedt topo image) table) same step
+  tree_step (Plan cedt topo create) table file asked step = let same : topo ≡ file = cc in subst (λ f. TreeStep f (Plan cedt topo create) table) same step
+  tree_step NoCreate table file asked step = absurd (cc)
   tree_step (Route own h) table file asked step = absurd (cc)
   tree_step (Listing own) table file asked step = absurd (cc)
   tree_step (Normal own) table file asked step = absurd (cc)
@@ -162,6 +182,8 @@ module _ (old new : Outside) (status : Status) where
   -- the step of the image's file
   pub image_step : (form : Form) (table : CedtFields) (tree : Tree) (file : List ℕ) → image_file form ≡ Some file → AfterTree form table tree → ImageStep file form table tree
   image_step (Check cedt topo image) table tree file asked step = let same : image ≡ file = cc in subst (λ f. ImageStep f (Check cedt topo image) table tree) same step
+  image_step (Plan cedt topo create) table tree file asked step = absurd (cc)
+  image_step NoCreate table tree file asked step = absurd step
   image_step (Route own h) table tree file asked step = absurd step
   image_step (Listing own) table tree file asked step = absurd step
   image_step (Normal own) table tree file asked step = absurd step
@@ -171,12 +193,25 @@ module _ (old new : Outside) (status : Status) where
 
   table_alone : (form : Form) (table : CedtFields) → topology_file form ≡ None → AfterTable form table → AnsweredByTable form table
   table_alone (Check cedt topo image) table none step = absurd (cc)
+  table_alone (Plan cedt topo create) table none step = absurd (cc)
+  table_alone NoCreate table none step = step
   table_alone (Route own h) table none step = step
   table_alone (Listing own) table none step = step
   table_alone (Normal own) table none step = step
   table_alone Help table none step = step
   table_alone Version table none step = step
   table_alone Unreadable table none step = step
+
+  tree_alone : (form : Form) (table : CedtFields) (tree : Tree) → image_file form ≡ None → AfterTree form table tree → AnsweredByTree form table tree
+  tree_alone (Check cedt topo image) table tree none step = absurd (cc)
+  tree_alone (Plan cedt topo create) table tree none step = step
+  tree_alone NoCreate table tree none step = absurd step
+  tree_alone (Route own h) table tree none step = absurd step
+  tree_alone (Listing own) table tree none step = absurd step
+  tree_alone (Normal own) table tree none step = absurd step
+  tree_alone Help table tree none step = absurd step
+  tree_alone Version table tree none step = absurd step
+  tree_alone Unreadable table tree none step = absurd step
 
   -- ---- where the files are known
 
@@ -201,6 +236,7 @@ module _ (old new : Outside) (status : Status) where
     -- the answer by what all files are read as
     pub answer_comes : (readings : Readings) → AreKnown form old.files.told readings → ((o : Outcome) × IsAnswerBy form readings o × IsWritten o status old.out new.out) ⊎ IsStopped status old new
     answer_comes (ByTable table) known = unless_before old new status (after_table one.of_table form run table known.1) (λ step. inl (table_alone form table known.0 step))
+    answer_comes (ByTree table tree) known = unless_before old new status (after_tree table tree known.1 known.2) (λ step. inl (tree_alone form table tree known.0 step))
     answer_comes (ByHost table tree blocks) known = after_image table tree blocks known.0 known.1 known.2
 
   -- ---- one answer
@@ -210,6 +246,8 @@ module _ (old new : Outside) (status : Status) where
   one_answer (Listing file) table outcome other answer again = answer ∙ sym again
   one_answer (Normal file) table outcome other answer again = answer ∙ sym again
   one_answer (Check cedt topo image) table outcome other answer again = absurd answer
+  one_answer (Plan cedt topo create) table outcome other answer again = absurd answer
+  one_answer NoCreate table outcome other answer again = absurd answer
   one_answer Help table outcome other answer again = absurd answer
   one_answer Version table outcome other answer again = absurd answer
   one_answer Unreadable table outcome other answer again = absurd answer

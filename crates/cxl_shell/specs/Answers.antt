@@ -5,19 +5,21 @@ use Rattle.cxl_enc.specs.declared.faults.Memory.{Memory}
 use Rattle.cxl_io.specs.Fetch.{FetchState, AsksFor}
 use Rattle.cxl_regs.specs.Registers.{Registers}
 use Rattle.cxl_topo.specs.Tree.{Tree}
-use Rattle.cxl_shell.specs.Form.{Form, Route, Listing, Normal, Check, Help, Version, Unreadable, own_files}
+use Rattle.cxl_shell.specs.Form.{Form, Route, Listing, Normal, Check, Plan, NoCreate, Help, Version, Unreadable, own_files}
 use Rattle.cxl_shell.specs.Outcome.{Outcome}
 use Rattle.cxl_shell.specs.Outside.{Outside}
-use Rattle.cxl_shell.specs.Readings.{Readings, ByTable, ByHost}
+use Rattle.cxl_shell.specs.Readings.{Readings, ByTable, ByTree, ByHost}
 use Rattle.cxl_shell.specs.commands.Check.{IsChecked}
 use Rattle.cxl_shell.specs.commands.Help.{helped, version_told, misused}
 use Rattle.cxl_shell.specs.commands.List.{listed}
 use Rattle.cxl_shell.specs.commands.Normal.{normalized}
+use Rattle.cxl_shell.specs.commands.Plan.{IsPlanned}
 use Rattle.cxl_shell.specs.commands.Route.{IsRouted}
 use Rattle.cxl_shell.specs.declared.stop.Stop.{Stop}
 use Rattle.cxl_shell.specs.declared.stop.Stop.TheVariants as stop
 use Rattle.cxl_shell.specs.inputs.File.{AsksForSome}
 use Rattle.cxl_shell.specs.inputs.Host.{host_of, IsByHost}
+use Rattle.cxl_shell.specs.inputs.ResetHost.{reset_host_of, IsByResetHost}
 use Rattle.cxl_shell.specs.inputs.Table.{IsByTable}
 
 -- the outcome of a form by the table of its file
@@ -26,9 +28,16 @@ IsTableAnswer (Route file h) table outcome = IsRouted table h outcome
 IsTableAnswer (Listing file) table outcome = outcome ≡ listed table.records
 IsTableAnswer (Normal file) table outcome = outcome ≡ normalized table
 IsTableAnswer (Check cedt topo image) table outcome = ⊥
+IsTableAnswer (Plan cedt topo create) table outcome = ⊥
+IsTableAnswer NoCreate table outcome = ⊥
 IsTableAnswer Help table outcome = ⊥
 IsTableAnswer Version table outcome = ⊥
 IsTableAnswer Unreadable table outcome = ⊥
+
+-- the outcome of a form by its table and its topology
+abbrev pub IsTreeAnswer : Form → CedtFields → Tree → Outcome → Type 0
+IsTreeAnswer (Plan cedt topo create) table tree outcome = IsPlanned (reset_host_of table tree) create outcome
+IsTreeAnswer form table tree outcome = ⊥
 
 -- the outcome of a form by its table, its topology and its image
 abbrev pub IsHostAnswer : Form → CedtFields → Tree → List Registers → Outcome → Type 0
@@ -38,12 +47,18 @@ IsHostAnswer form table tree blocks outcome = ⊥
 -- the outcome of a form by what its files are read as
 abbrev pub IsAnswerBy : Form → Readings → Outcome → Type 0
 IsAnswerBy form (ByTable table) outcome = IsTableAnswer form table outcome
+IsAnswerBy form (ByTree table tree) outcome = IsTreeAnswer form table tree outcome
 IsAnswerBy form (ByHost table tree blocks) outcome = IsHostAnswer form table tree blocks outcome
 
 -- a form whose one file has a table
 abbrev pub IsAnswerOfFile : Form → List ℕ → FetchState → FetchState → Outcome → Type 0
 IsAnswerOfFile form file old new outcome =
     IsByTable file old new (λ table o. AsksFor old new (file ∷ []) × IsTableAnswer form table o) outcome
+
+-- a form whose two files are a table and a topology
+abbrev pub IsAnswerOfResetHost : Form → List ℕ → List ℕ → FetchState → FetchState → Outcome → Type 0
+IsAnswerOfResetHost form cedt topo old new outcome =
+    IsByResetHost cedt topo old new (λ table tree o. AsksFor old new (cedt ∷ topo ∷ []) × IsTreeAnswer form table tree o) outcome
 
 -- a form whose three files are a table, a topology and an image
 abbrev pub IsAnswerOfHost : Form → List ℕ → List ℕ → List ℕ → FetchState → FetchState → Outcome → Type 0
@@ -56,6 +71,8 @@ AnswersFromFiles (Route file h) old new outcome = IsAnswerOfFile (Route file h) 
 AnswersFromFiles (Listing file) old new outcome = IsAnswerOfFile (Listing file) file old new outcome
 AnswersFromFiles (Normal file) old new outcome = IsAnswerOfFile (Normal file) file old new outcome
 AnswersFromFiles (Check cedt topo image) old new outcome = IsAnswerOfHost (Check cedt topo image) cedt topo image old new outcome
+AnswersFromFiles (Plan cedt topo create) old new outcome = IsAnswerOfResetHost (Plan cedt topo create) cedt topo old new outcome
+AnswersFromFiles NoCreate old new outcome = (outcome ≡ misused) × AsksFor old new []
 AnswersFromFiles Help old new outcome = (outcome ≡ helped) × AsksFor old new []
 AnswersFromFiles Version old new outcome = (outcome ≡ version_told) × AsksFor old new []
 AnswersFromFiles Unreadable old new outcome = (outcome ≡ misused) × AsksFor old new []

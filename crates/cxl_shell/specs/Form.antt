@@ -2,6 +2,11 @@
 use Rattle.std.specs.Prelude.{ℕ, Bool, true, false, Option, Some, None, List, [], ◌∷◌, codes, bytes_eq, if◌then◌else◌, Result, Ok, Err}
 use Rattle.cxl_io.specs.Numbers.{number_of}
 use Rattle.cxl_io.specs.declared.number.NumFault.{NumFault}
+use Rattle.cxl_script.specs.Grammar.{asked_in}
+use Rattle.cxl_script.specs.declared.command.Command.{Command}
+use Rattle.cxl_script.specs.declared.command.Command.TheVariants as commands
+use Rattle.cxl_script.specs.declared.command.Create.{Create}
+use Rattle.cxl_script.specs.declared.fault.BadLine.{BadLine}
 
 pub data Form : Type 0 where
   -- which bridge a host address goes to, by the table in a file
@@ -12,6 +17,10 @@ pub data Form : Type 0 where
   Normal : (file : List ℕ) → Form
   -- whether an image over a topology is accepted, by the files of a table, a topology and an image
   Check : (cedt topo image : List ℕ) → Form
+  -- how the region of a create line would be made after reset, by the files of a table and a topology
+  Plan : (cedt topo : List ℕ) (create : Create) → Form
+  -- a plan is asked for by a line that does not ask for a region over named endpoints
+  NoCreate : Form
   Help : Form
   Version : Form
   -- the words are none of the forms, or a word is no number that has to be one
@@ -40,6 +49,28 @@ abbrev pub check_form : List (List ℕ) → Form
 check_form (cedt ∷ topo ∷ image ∷ []) = Check cedt topo image
 check_form words = Unreadable
 
+-- the region that a create line asks for over the endpoints that it names
+abbrev pub with_named_endpoints : Create → Option ℕ → Option Create
+with_named_endpoints create None = Some create
+with_named_endpoints create (Some ways) = None
+
+abbrev pub create_asked : Result (Option Command) BadLine → Option Create
+create_asked (Ok (Some (commands.Create create))) = with_named_endpoints create create.ways
+create_asked asked = None
+
+-- the region that a line asks for, where it asks for one over named endpoints
+abbrev pub create_on_line : List ℕ → Option Create
+create_on_line line = create_asked (asked_in line)
+
+abbrev pub plan_over : List ℕ → List ℕ → Option Create → Form
+plan_over cedt topo (Some create) = Plan cedt topo create
+plan_over cedt topo None = NoCreate
+
+-- the words after `plan`: the files of a table and a topology, and a create line
+abbrev pub plan_form : List (List ℕ) → Form
+plan_form (cedt ∷ topo ∷ line ∷ []) = plan_over cedt topo (create_on_line line)
+plan_form words = Unreadable
+
 -- a form that has no words after its first
 abbrev pub alone : Form → List (List ℕ) → Form
 alone form [] = form
@@ -52,9 +83,10 @@ form_of (word ∷ words) =
     else (if bytes_eq word (codes "list") then list_form words
     else (if bytes_eq word (codes "normal") then normal_form words
     else (if bytes_eq word (codes "check") then check_form words
+    else (if bytes_eq word (codes "plan") then plan_form words
     else (if bytes_eq word (codes "--help") then alone Help words
     else (if bytes_eq word (codes "--version") then alone Version words
-    else Unreadable)))))
+    else Unreadable))))))
 
 -- ---- what a form needs
 
@@ -64,6 +96,8 @@ own_files (Route file h) = file ∷ []
 own_files (Listing file) = file ∷ []
 own_files (Normal file) = file ∷ []
 own_files (Check cedt topo image) = cedt ∷ topo ∷ image ∷ []
+own_files (Plan cedt topo create) = cedt ∷ topo ∷ []
+own_files NoCreate = []
 own_files Help = []
 own_files Version = []
 own_files Unreadable = []
@@ -74,6 +108,8 @@ table_file (Route file h) = Some file
 table_file (Listing file) = Some file
 table_file (Normal file) = Some file
 table_file (Check cedt topo image) = Some cedt
+table_file (Plan cedt topo create) = Some cedt
+table_file NoCreate = None
 table_file Help = None
 table_file Version = None
 table_file Unreadable = None
@@ -81,6 +117,7 @@ table_file Unreadable = None
 -- the file with the topology, where it reads one
 abbrev pub topology_file : Form → Option (List ℕ)
 topology_file (Check cedt topo image) = Some topo
+topology_file (Plan cedt topo create) = Some topo
 topology_file form = None
 
 -- the file with the image, where it reads one
@@ -100,6 +137,8 @@ takes_memory (Route file h) = true
 takes_memory (Listing file) = true
 takes_memory (Normal file) = true
 takes_memory (Check cedt topo image) = true
+takes_memory (Plan cedt topo create) = true
+takes_memory NoCreate = true
 takes_memory Help = false
 takes_memory Version = false
 takes_memory Unreadable = false

@@ -46,12 +46,14 @@ pub record KnowsImage (form : Form) (told : List ℕ → Told) (nodes : List Nod
   pub known : IsFileOfImage form told bytes
   pub reading : IsImageReading bytes nodes blocks
 
--- what all files of a form are read as: one table, or also a tree and an image over it
+-- what all files of a form are read as: one table, or also a tree, or also an image over that tree
 pub data Readings : Type 0 where
   ByTable : (table : CedtFields) → Readings
+  ByTree : (table : CedtFields) (tree : Tree) → Readings
   ByHost : (table : CedtFields) (tree : Tree) (blocks : List Registers) → Readings
 
 -- all files of the form are known, and are read so
 abbrev pub AreKnown : Form → (List ℕ → Told) → Readings → Type 0
 AreKnown form told (ByTable table) = (topology_file form ≡ None) × KnowsTable form told table
+AreKnown form told (ByTree table tree) = (image_file form ≡ None) × KnowsTable form told table × KnowsTree form told tree
 AreKnown form told (ByHost table tree blocks) = KnowsTable form told table × KnowsTree form told tree × KnowsImage form told tree.nodes blocks

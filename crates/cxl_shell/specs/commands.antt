@@ -6,3 +6,4 @@ pub mod LinePlaces
 pub mod List
 pub mod Normal
 pub mod Check
+pub mod Plan

@@ -4,3 +4,4 @@ pub mod Table
 pub mod Topology
 pub mod Image
 pub mod Host
+pub mod ResetHost

@@ -11,6 +11,7 @@ pub(crate) mod help;
 mod lines;
 pub(crate) mod list;
 pub(crate) mod normal;
+pub(crate) mod plan;
 pub(crate) mod route;
 mod selection;
 
@@ -22,6 +23,7 @@ use cxl_io::{Fetch, Sink};
 use help::{helped, misused, version_told};
 use list::list;
 use normal::normal;
+use plan::plan;
 use route::route;
 use std::alloc::Global;
 
@@ -44,6 +46,8 @@ pub(crate) fn carry_out<F: Fetch, K: Sink>(
         Form::Listing(file) => list(alloc, file, files, out),
         Form::Normal(file) => finish(normal(alloc, file, files), out),
         Form::Check(cedt, topo, image) => check(alloc, cedt, topo, image, files, out),
+        Form::Plan(cedt, topo, create) => finish(plan(alloc, cedt, topo, &create, files), out),
+        Form::NoCreate => finish(Ok(misused()), out),
         Form::Help => finish(Ok(helped()), out),
         Form::Version => finish(Ok(version_told()), out),
         Form::Unreadable => finish(Ok(misused()), out),

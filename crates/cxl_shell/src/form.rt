@@ -1,12 +1,14 @@
-ghost use Rattle.std.specs.Prelude.{◌≡◌};
+ghost use Rattle.std.specs.Prelude.{◌≡◌, true, IfOk, OnErr};
 ghost use Rattle.cxl_shell.specs.Plain.{plain};
-ghost use Rattle.cxl_shell.specs.Form.{form_of, route_form, list_form, normal_form, check_form, alone};
+ghost use Rattle.cxl_shell.specs.Form.{form_of, route_form, list_form, normal_form, check_form, plan_form, create_on_line, with_named_endpoints, alone, takes_memory};
 ghost use Rattle.cxl_shell.specs.Words.{bytes_of};
 
-use cxl_io::read_number;
+use cxl_io::{Memory, read_number};
+use cxl_script::{Command, Create, LineFault, read_command};
+use std::alloc::Global;
 
 /// What the words of the command line ask for.
-#[derive(Clone, Copy, Debug, PartialEq, Eq)]
+#[derive(Debug, Drop)]
 pub(crate) enum Form<'a> {
     /// The window, position and bridge of a host address, by the table in a file.
     Route(&'a str, u64),
@@ -17,27 +19,33 @@ pub(crate) enum Form<'a> {
     /// The regions of an image over a topology, or its first breach, by the files of a table, a topology
     /// and an image.
     Check(&'a str, &'a str, &'a str),
+    /// How the region of a create line would be made after reset, by the files of a table and a topology.
+    Plan(&'a str, &'a str, Create),
+    /// A plan is asked for by a line that does not ask for a region over named endpoints.
+    NoCreate,
     Help,
     Version,
     /// The words are none of the forms, or a word is no number that has to be one.
     Unreadable,
 }
 
-/// Reads the words of the command line, without the name of the program.
-pub(crate) fn form_of(words: &[String]) -> Form<'_>
-    ensures { plain result ≡ form_of (bytes_of words.now) }
+/// Reads the words of the command line, without the name of the program. A create line takes memory.
+pub(crate) fn form_of(alloc: Global, words: &[String]) -> Result<Form<'_>, Memory>
+    ensures form { IfOk result (λ form. plain form ≡ form_of (bytes_of words.now)) }
+    ensures memory { OnErr result (takes_memory (form_of (bytes_of words.now)) ≡ true) }
 {
     let Some((verb, operands)) = words.split_first() else {
-        return Form::Unreadable;
+        return Ok(Form::Unreadable);
     };
     match verb.as_str() {
-        "route" => route_form(operands),
-        "list" => list_form(operands),
-        "normal" => normal_form(operands),
-        "check" => check_form(operands),
-        "--help" => alone(Form::Help, operands),
-        "--version" => alone(Form::Version, operands),
-        _ => Form::Unreadable,
+        "route" => Ok(route_form(operands)),
+        "list" => Ok(list_form(operands)),
+        "normal" => Ok(normal_form(operands)),
+        "check" => Ok(check_form(operands)),
+        "plan" => plan_form(alloc, operands),
+        "--help" => Ok(alone(Form::Help, operands)),
+        "--version" => Ok(alone(Form::Version, operands)),
+        _ => Ok(Form::Unreadable),
     }
 }
 
@@ -92,5 +100,41 @@ fn check_form(words: &[String]) -> Form<'_>
     match words {
         [cedt, topo, image] => Form::Check(cedt.as_str(), topo.as_str(), image.as_str()),
         _ => Form::Unreadable,
+    }
+}
+
+/// The words after `plan`: the files of a table and a topology, and a create line. Takes memory.
+fn plan_form(alloc: Global, words: &[String]) -> Result<Form<'_>, Memory>
+    ensures form { IfOk result (λ form. plain form ≡ plan_form (bytes_of words.now)) }
+    ensures memory { OnErr result (takes_memory (plan_form (bytes_of words.now)) ≡ true) }
+{
+    match words {
+        [cedt, topo, line] => match create_on_line(alloc, line.as_bytes())? {
+            Some(create) => Ok(Form::Plan(cedt.as_str(), topo.as_str(), create)),
+            None => Ok(Form::NoCreate),
+        },
+        _ => Ok(Form::Unreadable),
+    }
+}
+
+/// The region that a line asks for, where it asks for one over named endpoints. Takes memory.
+fn create_on_line(alloc: Global, line: &[u8]) -> Result<Option<Create>, Memory>
+    ensures { IfOk result (λ create. create ≡ create_on_line line.now) }
+{
+    match read_command(alloc, line) {
+        Ok(Some(Command::Create(create))) => Ok(with_named_endpoints(create)),
+        Ok(_) | Err(LineFault::Bad(_)) => Ok(None),
+        Err(LineFault::Memory) => Err(Memory),
+    }
+}
+
+/// The region, unless its endpoints are to be picked.
+fn with_named_endpoints(create: Create) -> Option<Create>
+    ensures { result ≡ with_named_endpoints create create.ways }
+{
+    if create.ways.is_none() {
+        Some(create)
+    } else {
+        None
     }
 }

@@ -16,7 +16,7 @@ use crate::commands::route::route_statuses;
 use crate::finish::run_ends;
 use crate::form::form_of;
 use crate::status::Status;
-use cxl_io::{Fetch, Sink};
+use cxl_io::{Fetch, Memory, Sink};
 use std::alloc::Global;
 
 /// Carries out the words of the command line, which are without the name of the program: reads files,
@@ -51,5 +51,25 @@ pub fn run<F: Fetch, K: Sink>(alloc: Global, words: &[String], files: &mut F, ou
 {
     run_ends();
     route_statuses();
-    carry_out(alloc, form_of(words), files, out)
+    carry_out_words(alloc, words, files, out)
+}
+
+/// Reads the words, and carries out what they ask for.
+fn carry_out_words<F: Fetch, K: Sink>(
+    alloc: Global,
+    words: &[String],
+    files: &mut F,
+    out: &mut K,
+) -> Status
+    ensures run { IsRun (form_of (bytes_of words.now)) (outside (F.state files.old) (K.state out.old))
+        (outside (F.state files.new) (K.state out.new)) result }
+    ensures files { (F.state files.old).faults ≤ (F.state files.new).faults }
+    ensures sink { (K.state out.old).faults ≤ (K.state out.new).faults }
+    ensures told { (F.state files.new).told ≡ (F.state files.old).told }
+    ensures idle { table_file (form_of (bytes_of words.now)) ≡ None → files.new ≡ files.old }
+{
+    match form_of(alloc, words) {
+        Ok(form) => carry_out(alloc, form, files, out),
+        Err(Memory) => Status::Memory,
+    }
 }

@@ -19,7 +19,8 @@ pub enum Status {
     BadTopo(TopoFault),
     /// The sink failed. A part of the text from the front may be written.
     WriteFault,
-    /// The command has no answer: no window that can be used holds the address, or the image has a breach.
+    /// The command has no answer: no window that can be used holds the address, the image has a
+    /// breach, or there is no plan.
     Refused,
     /// Memory ran out.
     Memory,

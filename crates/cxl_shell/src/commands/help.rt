@@ -1,6 +1,6 @@
-ghost use Rattle.std.specs.Prelude.{◌≡◌};
+ghost use Rattle.std.specs.Prelude.{◌≡◌, ◌⊎◌};
 ghost use Rattle.cxl_shell.specs.Ends.{Ends};
-ghost use Rattle.cxl_shell.specs.Form.{Help, Version, Unreadable};
+ghost use Rattle.cxl_shell.specs.Form.{NoCreate, Help, Version, Unreadable};
 ghost use Rattle.cxl_shell.specs.Run.{EachRun};
 ghost use Rattle.cxl_shell.specs.commands.Help.{helped, version_told, misused};
 
@@ -16,16 +16,20 @@ cxlplan list CEDT         a line for each record of the table, windows with thei
 cxlplan normal CEDT       the table's bytes with its reserved fields zero
 cxlplan check CEDT TOPO IMAGE
                           the regions of a register image, or the first rule that it breaks
+cxlplan plan CEDT TOPO LINE
+                          the registers that make a new region after reset, or why none can
 cxlplan --help            this text
 cxlplan --version         the version
 
 CEDT is a file with the bytes of a CEDT table, TOPO a topology in TOML, and IMAGE the registers of
 its decoders, each of 1,048,576 bytes at the most. HPA is a host physical address, in decimal
-digits, or in hexadecimal digits after 0x.
+digits, or in hexadecimal digits after 0x. LINE is one word: 'create NAME KIND SIZE [gran=G] EP..' with
+KIND ram or pmem, and SIZE and G in bytes.
 
 Exit status: 0 done, 1 the words are no command, 2 a file cannot be read, 3 the CEDT has a fault,
-4 the topology has a fault, 6 writing failed, 8 no window that can be used holds the address or the
-image breaks a rule, 9 out of memory, 10 the image file has a fault, 12 a file is too large.
+4 the topology has a fault, 6 writing failed, 8 no window that can be used holds the address, the
+image breaks a rule or there is no plan, 9 out of memory, 10 the image file has a fault, 12 a file is
+too large.
 ";
 
 /// What `--version` writes.
@@ -53,11 +57,14 @@ pub(crate) fn misused() -> Outcome
 }
 
 /// Laws of each run of `--help` and `--version`, and of words that are no command: the outcome is written,
-/// or the sink failed. None of them wants for memory.
+/// or the sink failed. Where a line asks for no region to be planned, memory may have run out before.
 pub fn help_statuses()
     ensures help { EachRun (λ form old new status. form ≡ Help → Ends helped status old.out new.out) }
     ensures version { EachRun (λ form old new status. form ≡ Version → Ends version_told status old.out new.out) }
     // Status 1 comes exactly where the words are no command, unless that is not written.
-    ensures usage { EachRun (λ form old new status. status ≡ Status.Usage → form ≡ Unreadable) }
+    ensures usage { EachRun (λ form old new status. status ≡ Status.Usage
+        → (form ≡ Unreadable) ⊎ (form ≡ NoCreate)) }
     ensures only_usage { EachRun (λ form old new status. form ≡ Unreadable → Ends misused status old.out new.out) }
+    ensures only_line { EachRun (λ form old new status. form ≡ NoCreate
+        → (status ≡ Status.Memory) ⊎ Ends misused status old.out new.out) }
 {}

@@ -1,9 +1,9 @@
 use Rattle.std.proofs.Common.{refl, subst}
-use Rattle.cxl_shell.specs.Form.{Help, Version, Unreadable}
+use Rattle.cxl_shell.specs.Form.{NoCreate, Help, Version, Unreadable}
 use Rattle.cxl_shell.specs.Run.{IsRun}
 use Rattle.cxl_shell.specs.commands.Help.{helped, version_told, misused}
 use Rattle.cxl_shell.specs.declared.status.Status.TheVariants.{Usage}
-use Rattle.cxl_shell.proofs.PerCommand.{fixed_ends}
+use Rattle.cxl_shell.proofs.PerCommand.{fixed_ends, fixed_or_memory}
 use Rattle.cxl_shell.proofs.Runs.{came_to, usage_asked}
 use Rattle.cxl_shell.proofs.commands.help.help_statuses.Goals as goal
 
@@ -21,3 +21,7 @@ returns-clause-usage c = λ form old new status run is. usage_asked old new form
 pub returns-clause-only_usage : goal.returns-clause-only_usage
 returns-clause-only_usage c = λ form old new status run is.
     fixed_ends old new Unreadable misused status refl (λ o answers. answers.0) (subst (λ f. IsRun f old new status) is run)
+
+pub returns-clause-only_line : goal.returns-clause-only_line
+returns-clause-only_line c = λ form old new status run is.
+    fixed_or_memory old new NoCreate misused status (λ o answers. answers.0) (subst (λ f. IsRun f old new status) is run)

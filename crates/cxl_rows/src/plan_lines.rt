@@ -1,0 +1,304 @@
+use crate::host_files::{TWO_ENDPOINTS, TWO_ENDPOINTS_FORWARDED};
+use crate::rows::{ROOM, bytes, run_list};
+use crate::tables::{
+    FOUR_WINDOWS, ONE_BRIDGE, SERVER, THREE_BRIDGES, TWO_BRIDGES, TWO_BRIDGES_WIDE,
+};
+use cxl_io::{MemFetch, MemSink};
+use std::alloc::Global;
+use std::process::Abort;
+use std::test::Fail;
+
+/// Two bridges with two endpoints of 256 GiB of volatile memory each.
+const FOUR_ENDPOINTS: &str = r#"
+bridge = [{ name = "hb0", uid = 0 }, { name = "hb1", uid = 1 }]
+endpoint = [
+    { name = "e0", parent = "hb0", port = 0, ram = 0x4000000000 },
+    { name = "e1", parent = "hb0", port = 1, ram = 0x4000000000 },
+    { name = "e2", parent = "hb1", port = 0, ram = 0x4000000000 },
+    { name = "e3", parent = "hb1", port = 1, ram = 0x4000000000 },
+]
+"#;
+
+/// A bridge with five endpoints, of 1 GiB of volatile memory and 1 GiB of persistent memory each.
+const FIVE_ENDPOINTS: &str = r#"
+bridge = [{ name = "hb0", uid = 0 }]
+endpoint = [
+    { name = "e0", parent = "hb0", port = 0, ram = 0x40000000, pmem = 0x40000000 },
+    { name = "e1", parent = "hb0", port = 1, ram = 0x40000000, pmem = 0x40000000 },
+    { name = "e2", parent = "hb0", port = 2, ram = 0x40000000, pmem = 0x40000000 },
+    { name = "e3", parent = "hb0", port = 3, ram = 0x40000000, pmem = 0x40000000 },
+    { name = "e4", parent = "hb0", port = 4, ram = 0x40000000, pmem = 0x40000000 },
+]
+"#;
+
+/// Three bridges with an endpoint each, of which one cannot have three ways.
+const NO_THREE_WAYS: &str = r#"
+bridge = [{ name = "hb0", uid = 0 }, { name = "hb1", uid = 1 }, { name = "hb2", uid = 2 }]
+endpoint = [
+    { name = "e0", parent = "hb0", port = 0, ram = 0x80000000 },
+    { name = "e1", parent = "hb1", port = 0, ram = 0x80000000, ways3 = false },
+    { name = "e2", parent = "hb2", port = 0, ram = 0x80000000 },
+]
+"#;
+
+const FIRST_PLAN: &str = "\
+plan r0 ram window 0 base 0x100000000 size 0x20000000 gran 256 ways 2
+row hb0 0 ways 1 gran 256 targets 0
+row hb1 0 ways 1 gran 256 targets 0
+row e0 0 ways 2 gran 256 skip 0x0
+row e1 0 ways 2 gran 256 skip 0x0
+";
+
+const FORWARDED_PLAN: &str = "\
+plan r0 ram window 0 base 0x100000000 size 0x20000000 gran 256 ways 2
+row e0 0 ways 2 gran 256 skip 0x0
+row e1 0 ways 2 gran 256 skip 0x0
+";
+
+const SERVER_PLAN: &str = "\
+plan r0 ram window 0 base 0x1000000000 size 0x10000000000 gran 256 ways 4
+row hb0 0 ways 2 gran 512 targets 0,1
+row hb1 0 ways 2 gran 512 targets 0,1
+row e0 0 ways 4 gran 256 skip 0x0
+row e1 0 ways 4 gran 256 skip 0x0
+row e2 0 ways 4 gran 256 skip 0x0
+row e3 0 ways 4 gran 256 skip 0x0
+";
+
+const PMEM_PLAN: &str = "\
+plan b pmem window 0 base 0x100000000 size 0x10000000 gran 256 ways 1
+row hb0 0 ways 1 gran 256 targets 2
+row e2 0 ways 1 gran 256 skip 0x40000000
+";
+
+/// A table, a topology and a create line, with the exit status and the text of their plan.
+type Row<'a> = (&'a str, &'a str, &'a str, u8, &'a str);
+
+/// A table and a topology in memory, and the numbers of the fetches that fail.
+fn two_files(
+    alloc: Global,
+    table: Vec<u8>,
+    topology: &str,
+    fails: &[u64],
+) -> Result<MemFetch, Fail> {
+    let mut files = Vec::new(alloc);
+    let topology = Vec::from_slice(alloc, topology.as_bytes())?;
+    files.push((String::from_str(alloc, "table")?, table))?;
+    files.push((String::from_str(alloc, "topology")?, topology))?;
+    Ok(MemFetch::new(files, fails.to_vec(alloc)?))
+}
+
+/// Checks that `plan` with this line ends with this exit status and this text over these files.
+fn check_files(
+    rt: &(impl Abort + AllocGlobal),
+    files: MemFetch,
+    line: &str,
+    code: u8,
+    text: &str,
+) -> Result<(), Fail> {
+    let alloc = rt.alloc();
+    let mut words = Vec::new(alloc);
+    for word in ["plan", "table", "topology", line] {
+        words.push(String::from_str(alloc, word)?)?;
+    }
+    let sink = MemSink::new(alloc, ROOM, Vec::new(alloc))?;
+    let end = run_list(alloc, words.as_slice(), files, sink)?;
+    assert_eq!(rt; end.text.as_slice(), text.as_bytes(), "text of {line}");
+    assert_eq!(rt; end.status.code(), code, "status of {line}");
+    Ok(())
+}
+
+fn check_rows(rt: &(impl Abort + AllocGlobal), rows: &[Row]) -> Result<(), Fail> {
+    let alloc = rt.alloc();
+    for (table, topology, line, code, text) in rows {
+        let files = two_files(alloc, bytes(alloc, table, &[])?, topology, &[])?;
+        check_files(rt, files, line, *code, text)?;
+    }
+    Ok(())
+}
+
+/// Plans over hosts after reset.
+#[test]
+fn plans(rt: HostRuntime) -> Result<(), Fail> {
+    check_rows(&rt, &PLANS)
+}
+
+const PLANS: [Row; 4] = [
+    (
+        TWO_BRIDGES,
+        TWO_ENDPOINTS,
+        "create r0 ram 0x20000000 e0 e1",
+        0,
+        FIRST_PLAN,
+    ),
+    (
+        TWO_BRIDGES,
+        TWO_ENDPOINTS_FORWARDED,
+        "create r0 ram 0x20000000 e0 e1",
+        0,
+        FORWARDED_PLAN,
+    ),
+    (
+        SERVER,
+        FOUR_ENDPOINTS,
+        "create r0 ram 0x10000000000 e3 e1 e0 e2",
+        0,
+        SERVER_PLAN,
+    ),
+    (
+        ONE_BRIDGE,
+        FIVE_ENDPOINTS,
+        "create b pmem 0x10000000 gran=4096 e2",
+        0,
+        PMEM_PLAN,
+    ),
+];
+
+/// Names that are no endpoint's, and the faults of requests.
+#[test]
+fn refusals(rt: HostRuntime) -> Result<(), Fail> {
+    check_rows(&rt, &REFUSALS)
+}
+
+const REFUSALS: [Row; 7] = [
+    (
+        TWO_BRIDGES,
+        TWO_ENDPOINTS,
+        "create x ram 0x10000000 e9",
+        8,
+        "no such endpoint e9\n",
+    ),
+    (
+        TWO_BRIDGES,
+        TWO_ENDPOINTS,
+        "create x ram 0x10000000 e0 hb1 e9",
+        8,
+        "no such endpoint hb1\n",
+    ),
+    (
+        SERVER,
+        FOUR_ENDPOINTS,
+        "create x ram 0x10000000 e0 e0",
+        8,
+        "refused repeat e0\n",
+    ),
+    (
+        ONE_BRIDGE,
+        FIVE_ENDPOINTS,
+        "create x ram 0x50000000 e0 e1 e2 e3 e4",
+        8,
+        "refused ways 5\n",
+    ),
+    (
+        TWO_BRIDGES,
+        TWO_ENDPOINTS,
+        "create x ram 0x10000000 e0 e1",
+        8,
+        "refused size\n",
+    ),
+    (
+        SERVER,
+        FOUR_ENDPOINTS,
+        "create x ram 0x30000000 e0 e1 e2",
+        8,
+        "refused uneven hb1\n",
+    ),
+    (
+        ONE_BRIDGE,
+        FIVE_ENDPOINTS,
+        "create d pmem 0x50000000 e0",
+        8,
+        "refused span e0 no-room 0x40000000 0x80000000\n",
+    ),
+];
+
+/// Why windows take no region.
+#[test]
+fn reasons(rt: HostRuntime) -> Result<(), Fail> {
+    check_rows(&rt, &REASONS)
+}
+
+const REASONS: [Row; 6] = [
+    (
+        SERVER,
+        FOUR_ENDPOINTS,
+        "create x ram 0x20000000 e0 e1",
+        8,
+        "refused no-window\nwindow 0 bridges\n",
+    ),
+    (
+        TWO_BRIDGES_WIDE,
+        FOUR_ENDPOINTS,
+        "create x ram 0x40000000 e0 e1 e2 e3",
+        8,
+        "refused no-window\nwindow 0 select hb0\n",
+    ),
+    (
+        THREE_BRIDGES,
+        NO_THREE_WAYS,
+        "create t ram 0x30000000 e0 e1 e2",
+        8,
+        "refused no-window\nwindow 0 ways-cap e1\n",
+    ),
+    (
+        TWO_BRIDGES,
+        FOUR_ENDPOINTS,
+        "create b ram 0x200000000 e0 e2",
+        8,
+        "refused no-window\nwindow 0 no-base 0x100000000 0x200000000\n",
+    ),
+    (
+        FOUR_WINDOWS,
+        FIVE_ENDPOINTS,
+        "create x pmem 0x20000000 e0",
+        8,
+        "refused no-window\nwindow 0 kind\nwindow 1 fixed\nwindow 2 unusable\nwindow 3 no-base 0x400000000 0x410000000\n",
+    ),
+    (
+        FOUR_WINDOWS,
+        TWO_ENDPOINTS,
+        "create x ram 0x20000000 gran=256 e0 e1",
+        8,
+        "refused no-window\nwindow 0 bridges\nwindow 1 fixed\nwindow 2 gran\nwindow 3 bridges\n",
+    ),
+];
+
+/// Lines that ask for no region over named endpoints: no file is asked for.
+#[test]
+fn lines(rt: HostRuntime) -> Result<(), Fail> {
+    let alloc = rt.alloc();
+    for line in [
+        "",
+        "# create x ram 0x20000000 e0 e1",
+        "create x ram 0x20000000",
+        "create abcdefghijklmnop ram 0x20000000 e0 e1",
+        "begin create x ram 0x20000000 e0 e1",
+        "destroy x",
+        "create x ram 0x20000000 ways=2",
+    ] {
+        let files = two_files(alloc, Vec::new(alloc), "", &[1])?;
+        check_files(&rt, files, line, 1, "usage\n")?;
+    }
+    Ok(())
+}
+
+/// A file that cannot be read or has no reading; the table comes first.
+#[test]
+fn files_in_order(rt: HostRuntime) -> Result<(), Fail> {
+    let alloc = rt.alloc();
+    let table = bytes(alloc, TWO_BRIDGES, &[])?;
+    let rows: [(usize, &str, &[u64], u8, &str); 5] = [
+        (144, "", &[1], 2, "error: cannot read table\n"),
+        (144, "", &[2], 2, "error: cannot read topology\n"),
+        (143, "[[bridge", &[2], 3, "error: table length\n"),
+        (144, "[[bridge", &[], 4, "error: topology toml\n"),
+        (1_048_577, "", &[], 12, "error: table too large\n"),
+    ];
+    for (len, topology, fails, code, text) in rows {
+        let mut table = Vec::from_slice(alloc, table.as_slice())?;
+        table.resize(len, 0)?;
+        let files = two_files(alloc, table, topology, fails)?;
+        check_files(&rt, files, "create x ram 0x20000000 e0 e1", code, text)?;
+    }
+    Ok(())
+}
