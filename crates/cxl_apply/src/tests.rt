@@ -51,6 +51,17 @@ fn endpoint(name: &[u8], bridge: u32) -> Result<Node, Fail> {
 
 /// Two bridges with an endpoint each, and every block enabled.
 fn enabled(alloc: Global) -> Result<Image, Fail> {
+    let mut image = after_reset(alloc)?;
+    for node in 2..4 {
+        if node < image.count() {
+            image.write32(node, 0x4, 0x2);
+        }
+    }
+    Ok(image)
+}
+
+/// Two bridges with an endpoint each, after reset.
+fn after_reset(alloc: Global) -> Result<Image, Fail> {
     let nodes = vec![in alloc;
         bridge(b"hb0", 0)?,
         bridge(b"hb1", 1)?,
@@ -58,13 +69,20 @@ fn enabled(alloc: Global) -> Result<Image, Fail> {
         endpoint(b"e1", 1)?,
     ]?;
     let topo = Topo::new(alloc, nodes, 65_536).ok().ok_or("a legal tree")?;
-    let mut image = Image::new(alloc, &topo)?;
-    for node in 2..4 {
-        if node < image.count() {
-            image.write32(node, 0x4, 0x2);
-        }
+    Ok(Image::new(alloc, &topo)?)
+}
+
+/// Enables a node's block, on the bus and in the image, which hold the same. It does nothing where the bus fails.
+fn enable<R: Regs>(image: &mut Image, regs: &mut R, node: u32)
+    requires { (R.state regs.old).blocks ≡ image.old }
+    ensures { (R.state regs.new).blocks ≡ image.new }
+{
+    if node >= image.count() || image.block(node).read32(0x4).is_none() {
+        return;
     }
-    Ok(image)
+    if regs.write32(node, 0x4, 0x2).is_ok() {
+        image.write32(node, 0x4, 0x2);
+    }
 }
 
 /// The rows of a region of 512 MiB over both endpoints.
@@ -233,6 +251,24 @@ impl Run {
         Ok(Run { job, image, bus })
     }
 
+    /// The same over blocks after reset, which are enabled by writes on the bus.
+    fn create_after_reset(
+        rt: &impl Abort,
+        alloc: Global,
+        rows: &[Row],
+        fails: Vec<u64>,
+    ) -> Result<Run, Fail> {
+        let mut image = after_reset(alloc)?;
+        let mut bus = FailingBus::new(alloc, fails);
+        bus.power_on(alloc, image.blocks())?;
+        enable(&mut image, &mut bus, 2);
+        enable(&mut image, &mut bus, 3);
+        let can = all_can_create(&image, rows);
+        assert!(rt; can);
+        let job = Job::create(alloc, &image, rows)?;
+        Ok(Run { job, image, bus })
+    }
+
     fn release(rt: &impl Abort, alloc: Global, start: &Image, rows: &[Row]) -> Result<Run, Fail> {
         let can = all_can_release(start, rows);
         assert!(rt; can);
@@ -291,15 +327,16 @@ const fn sent(node: u32, off: u32, value: u32) -> Sent {
 #[test]
 fn a_create_that_is_undone(rt: HostRuntime) -> Result<(), Fail> {
     let alloc = rt.alloc();
-    let start = enabled(alloc)?;
     let rows = rows(alloc)?;
-    let mut run = Run::create(&rt, alloc, &start, &rows, vec![in alloc; 3]?)?;
+    let mut run = Run::create_after_reset(&rt, alloc, &rows, vec![in alloc; 5]?)?;
     assert_eq!(rt; run.total(), 32);
     run.forth();
     assert_eq!(rt; run.done(), 2);
     run.back();
     assert_eq!(rt; run.done(), 0);
     let trail = [
+        sent(2, 0x4, 2),
+        sent(3, 0x4, 2),
         sent(3, 0x10, 0),
         sent(3, 0x14, 1),
         sent(3, 0x14, 0),
