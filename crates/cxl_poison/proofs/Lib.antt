@@ -7,5 +7,7 @@ pub mod LiveLists
 pub mod Unmapped
 pub mod Pieced
 pub mod OneTelling
+pub mod SpanListing
+pub mod SomeTelling
 pub mod Named
 pub mod RunBytes

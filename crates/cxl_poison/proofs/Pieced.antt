@@ -25,10 +25,10 @@ abbrev pub WindowsThere : Type 0
 WindowsThere = (s : System) (w : WindowFields) (found : Found) → IsSystem s → IsRegionIn s w found → slice_get s.windows found.window ≡ Some w
 
 module _ (there : WindowsThere) (windows : List WindowFields) (live : List Found) (are : AreLive windows live) where
-  region_at : (i : ℕ) (found : Found) → slice_get live i ≡ Some found → IsRegion are.s found
+  pub region_at : (i : ℕ) (found : Found) → slice_get live i ≡ Some found → IsRegion are.s found
   region_at i found at = subst (IsRegion are.s) (get_or_from_slice_get live i found found at) (are.each i found (slice_get_within live i found at))
 
-  window_at : (found : Found) (region : IsRegion are.s found) → slice_get windows found.window ≡ Some region.0
+  pub window_at : (found : Found) (region : IsRegion are.s found) → slice_get windows found.window ≡ Some region.0
   window_at found region = subst (λ (ws : List WindowFields). slice_get ws found.window ≡ Some region.0) are.windows_of (there are.s region.0 found are.system region.1)
 
   pub window_within : (i : ℕ) (found : Found) → slice_get live i ≡ Some found → found.window < length windows

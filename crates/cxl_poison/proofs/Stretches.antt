@@ -1,9 +1,10 @@
 -- The stretches with touched bytes, and the cuts of all stretches.
-use Rattle.std.proofs.Common.{◌≡◌, ℕ, zero, suc, ◌+◌, ◌-◌, ◌*◌, ◌/◌, ◌<◌, ◌≤◌, List, [], ◌∷◌, ◌++◌, length, map, Option, Some, None, min, max, refl, ap, subst, ◌∙◌, arith}
+use Rattle.std.proofs.Common.{◌≡◌, ℕ, zero, suc, ◌+◌, ◌-◌, ◌*◌, ◌/◌, ◌<◌, ◌≤◌, List, [], ◌∷◌, ◌++◌, length, map, Option, Some, None, min, max, refl, sym, ap, subst, ◌∙◌, inl, inr, arith}
 use Rattle.std.specs.Prelude.{slice_get}
 use Rattle.std.specs.List.{range_with_len, filter_map}
 use Rattle.std.proofs.Math.Nat.{mul-le-mul_right, div-mul-le_self, lt-div-mul-add, lt_of_mul-lt-mul_left, mul_comm, div-lt_iff_lt-mul}
-use Rattle.std.proofs.lemmas.Bool.{lt-ltb, le-ltb}
+use Rattle.std.proofs.lemmas.Nat.{le-div}
+use Rattle.std.proofs.lemmas.Bool.{cases_lt, lt-ltb, le-ltb}
 use Rattle.std.proofs.lemmas.List.Elements.{filter_map-append}
 use Rattle.std.proofs.lemmas.List.FromFn.{length-map-range_with_len}
 use Rattle.std.proofs.lemmas.List.{append-nil}
@@ -171,3 +172,21 @@ module _ (span : LiveSpan) (touched : Touched) (has : HasTouched span touched) w
       let more : (first_stretch touched + 1) * touched.size ≤ last_stretch touched * touched.size = mul-le-mul_right touched.size next in
       let one : first_stretch touched * touched.size + touched.size ≡ (first_stretch touched + 1) * touched.size = grind arith in
       omega (arith, past, more, one)
+
+-- ---- the touched stretches
+
+-- no other stretch has a cut
+pub in_touched_stretches : (from end size len : ℕ) → 0 < size → len / size * size ≡ len → end ≤ len → cuts_between from end size len ≡ filter_map (cut_at from end size) (range_with_len (from / size) ((end - 1) / size + 1 - from / size))
+in_touched_stretches from end size len some whole ends = elim (cases_lt from end) [
+  | inl any ↦
+      let span : LiveSpan = record { region = 0; slot = 0; start = 0; len = len } in
+      let touched : Touched = record { from = from; end = end; size = size } in
+      let has : HasTouched span touched = record { is = record { some = some; whole = whole; ends = ends }; any = any } in
+      let below = div-mul-le_self from size in
+      let order : from / size ≤ (end - 1) / size = le-div (from / size) (end - 1) size some (omega (arith, below, any)) in
+      let n : ℕ = (end - 1) / size + 1 - from / size in
+      cuts_are span touched has order ∙ sym (all_of (cut_at from end size) (stretch_cut touched) (from / size) n (λ k at under. cut_here span touched has k at (omega (arith, under, order))))
+  | inr past ↦
+      no_cuts from end size len past
+      ∙ sym (none_of (cut_at from end size) (from / size) ((end - 1) / size + 1 - from / size) (λ k at under. empty_cut (max from (k * size)) (min end ((k + 1) * size)) (omega (arith, past))))
+]

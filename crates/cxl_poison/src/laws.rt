@@ -1,6 +1,7 @@
 //! Laws of poison lists, each the contract of a function that does nothing.
 
-ghost use Rattle.std.specs.Prelude.{◌≡◌, ℕ, ◌+◌, ◌<◌, ◌≤◌, List, Contains, ◌⊎◌};
+ghost use Rattle.std.specs.Prelude.{◌≡◌, ℕ, ◌+◌, ◌-◌, ◌*◌, ◌/◌, ◌<◌, ◌≤◌, List, Contains, ◌⊎◌};
+ghost use Rattle.std.specs.List.{filter_map, range_with_len};
 ghost use Rattle.cxl_window.specs.Fields.{WindowFields};
 ghost use Rattle.cxl_model.specs.declared.found.Found.{Found};
 ghost use Rattle.cxl_model.specs.declared.poison.Entry.{Entry};
@@ -13,8 +14,9 @@ ghost use Rattle.cxl_model.specs.System.{System, IsSystem};
 ghost use Rattle.cxl_model.specs.Regions.{IsRegionIn, Carries};
 ghost use Rattle.cxl_poison.specs.declared.live.LiveSpan.{LiveSpan};
 ghost use Rattle.cxl_poison.specs.Live.{AreLive, IsSpanOf};
-ghost use Rattle.cxl_poison.specs.Pieces.{touched_from, touched_end, Cut, cuts_of, IsRunOf, ArePoisonedPieces};
+ghost use Rattle.cxl_poison.specs.Pieces.{touched_from, touched_end, Cut, cut_at, cuts_between, cuts_of, IsRunOf, ArePoisonedPieces};
 
+use crate::apart::live_spans_are_apart;
 use cxl_deal::{chunks_deal_whole, region_fills_slots};
 use cxl_model::{
     bytes_are_carried_one_to_one, regions_lie_in_windows, slots_are_endpoints,
@@ -41,6 +43,23 @@ pub fn records_are_told_in_one_way()
     bytes_are_carried_one_to_one();
     regions_lie_in_windows();
 }
+
+/// A law of poison records: what one touches of live regions can be told.
+pub fn each_record_has_pieces()
+    ensures { (entry : Entry) (endpoint : ℕ) (live : List Found) (windows : List WindowFields) → AreLive windows live
+        → (told : Poisoned) × ArePoisonedPieces entry endpoint live windows told }
+{
+    live_spans_are_apart();
+    bytes_are_carried_one_to_one();
+    regions_lie_in_windows();
+}
+
+/// A law of cuts: of stretches that fill a span, only those from the first to the last with touched bytes have one.
+pub fn cuts_lie_in_touched_stretches()
+    ensures { (from end size len : ℕ) → 0 < size → len / size * size ≡ len → end ≤ len
+        → cuts_between from end size len
+        ≡ filter_map (cut_at from end size) (range_with_len (from / size) ((end - 1) / size + 1 - from / size)) }
+{}
 
 /// A law of poison records: the cuts of a region's span are the bytes of it that a record touches, and a run has the
 /// host bytes that the region carries to those of its cut, one after the other.
