@@ -15,6 +15,10 @@ pub record AreLive (windows : List WindowFields) (live : List Found) : Type 0 wh
   pub each : All (IsRegion s) live
   pub once : AllPairs (λ a b. a ≢ b) live
 
+-- a live span, under a name that proofs of other crates can use
+abbrev pub SpanFields : Type 0
+SpanFields = LiveSpan
+
 -- the span of one of the region's slots, on this endpoint's device
 pub record IsSpanOf (found : Found) (endpoint : ℕ) (span : LiveSpan) : Type 0 where
   pub place : slice_get found.spans span.slot ≡ Some (record { endpoint = endpoint; start = span.start })
