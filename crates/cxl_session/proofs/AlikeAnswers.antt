@@ -1,30 +1,26 @@
 -- A command and how it went have one answer.
-use Rattle.std.proofs.Common.{◌≡◌, ℕ, suc, List, [], ◌∷◌, map, Result, Ok, Err, Option, Some, None, refl, sym, ap, ◌∙◌, subst, arith}
-use Rattle.std.specs.Prelude.{Contains}
+use Rattle.std.proofs.Common.{◌≡◌, ℕ, List, Result, Ok, Err, Option, Some, None, sym, ap, ◌∙◌, subst}
 use Rattle.std.proofs.lemmas.Option.{none-some, same_Some}
 use Rattle.cxl_script.specs.declared.command.Command.{Command}
 use Rattle.cxl_script.specs.declared.command.Command.TheVariants as commands
 use Rattle.cxl_script.specs.declared.command.Create.{Create}
 use Rattle.cxl_script.specs.declared.command.Poison.{Poison}
 use Rattle.cxl_script.specs.declared.command.Up.{Up}
-use Rattle.cxl_model.specs.declared.poison.Poisoned.{Poisoned}
 use Rattle.cxl_model.specs.declared.request.Request.{Request}
 use Rattle.cxl_reply.specs.declared.reply.Reply.{Reply}
-use Rattle.cxl_reply.specs.declared.reply.Reply.TheVariants as replies
-use Rattle.cxl_session.specs.Machine.{Live, RegionJob, Machine, holding_of}
+use Rattle.cxl_session.specs.Machine.{RegionJob, Machine}
 use Rattle.cxl_session.specs.Outcomes.{BusOutcome, NoFault, Undone, LeftPending, ReadFailed}
 use Rattle.cxl_session.specs.Replies.{Answer, stays, Gives}
 use Rattle.cxl_session.specs.Accesses.{AnswersUp, TellsHost, no_endpoint, told}
-use Rattle.cxl_session.specs.Reports.{AnswersShow, AnswersPoison, TellsPoison, held_live, live_names}
+use Rattle.cxl_session.specs.Reports.{AnswersShow, AnswersPoison, TellsPoison}
 use Rattle.cxl_session.specs.Reports as reports
 use Rattle.cxl_session.specs.Requests.{AsksCreate, AsksUnless, AsksUnrefused, AsksPlan, AsksPlanOver, job_of_plan, refusal_of_create, request_for, request_of}
-use Rattle.cxl_session.specs.Elsewhere.{PickRefusal, Payload, Tells, TooShort, TooFew}
+use Rattle.cxl_session.specs.Elsewhere.{PickRefusal}
 use Rattle.cxl_session.specs.Regions.{CarriesOutWhole, AnswersWhole, begin_answer, Steps, Aborts, OfPending}
 use Rattle.cxl_session.specs.Answers.{Answers}
 use Rattle.cxl_session.specs.Sound.{IsMachine}
 use Rattle.cxl_session.proofs.Alike.{CarriageLaws, one_told}
-use Rattle.cxl_session.proofs.AlikePoison.{Each, no_item, and_then, IsHeld, one_list}
-use Rattle.cxl_session.proofs.LiveRegions.{live_is_region}
+use Rattle.cxl_session.proofs.PoisonReplies.{OneTelling, one_reply}
 
 -- ---- where answers are functions
 
@@ -97,15 +93,7 @@ module _ (m : Machine) where
 
 -- ---- device bytes
 
--- each live region is one of the image
-pub all_held : (m : Machine) → IsMachine m → (live : List Live) → ((region : Live) → Contains live region → Contains m.live region)
-    → Each (IsHeld m.settled) (map (holding_of m.settled) live)
-all_held m is [] old = no_item
-all_held m is (region ∷ live) old =
-    and_then (live_is_region m is region (old region (0, omega (arith), refl)))
-    (all_held m is live (λ other there. old other (suc there.0, omega (arith, there.1), there.2)))
-
-module _ (laws : CarriageLaws) (m : Machine) (is : IsMachine m) where
+module _ (laws : CarriageLaws) (lists : OneTelling) (m : Machine) (is : IsMachine m) where
   up : (asked : Up) (answer other : Answer) → AnswersUp m asked answer → AnswersUp m asked other → answer ≡ other
   up asked answer other (no_endpoint none one) (no_endpoint none' two) = one ∙ sym two
   up asked answer other (no_endpoint none one) (told endpoint reply there tells two) = absurd (none-some endpoint (sym none ∙ there))
@@ -115,24 +103,14 @@ module _ (laws : CarriageLaws) (m : Machine) (is : IsMachine m) where
       let replies_same = one_told laws m is endpoint' asked.dpa reply reply' (subst (λ (n : ℕ). TellsHost m n asked.dpa reply) same tells) tells' in
       one ∙ ap (stays m) replies_same ∙ sym two
 
-  payload_told : (endpoint : ℕ) (payload : Payload) (reply other : Reply) → TellsPoison m endpoint payload reply → TellsPoison m endpoint payload other → reply ≡ other
-  payload_told endpoint TooShort reply other one two = one ∙ sym two
-  payload_told endpoint (TooFew said room) reply other one two = one ∙ sym two
-  payload_told endpoint (Tells list) reply other (pieces, each, one) (pieces', each', two) =
-      one
-      ∙ ap (λ (all : List Poisoned). replies.Poison record { endpoint = endpoint; list = list; pieces = all; names = live_names m })
-      (one_list laws m.settled is.settled.system endpoint (held_live m) (all_held m is m.live (λ region there. there)) list.records pieces pieces' each each')
-      ∙ sym two
-
   poison : (asked : Poison) (answer other : Answer) → AnswersPoison m asked answer → AnswersPoison m asked other → answer ≡ other
   poison asked answer other (reports.no_endpoint none one) (reports.no_endpoint none' two) = one ∙ sym two
-  poison asked answer other (reports.no_endpoint none one) (reports.told endpoint payload reply there reads tells two) = absurd (none-some endpoint (sym none ∙ there))
-  poison asked answer other (reports.told endpoint payload reply there reads tells two) (reports.no_endpoint none one) = absurd (none-some endpoint (sym none ∙ there))
-  poison asked answer other (reports.told endpoint payload reply there reads tells one) (reports.told endpoint' payload' reply' there' reads' tells' two) =
+  poison asked answer other (reports.no_endpoint none one) (reports.told endpoint reply there tells two) = absurd (none-some endpoint (sym none ∙ there))
+  poison asked answer other (reports.told endpoint reply there tells two) (reports.no_endpoint none one) = absurd (none-some endpoint (sym none ∙ there))
+  poison asked answer other (reports.told endpoint reply there tells one) (reports.told endpoint' reply' there' tells' two) =
       let same : endpoint ≡ endpoint' = same_Some endpoint endpoint' (sym there ∙ there') in
-      let payloads : payload ≡ payload' = reads ∙ sym reads' in
-      let moved = subst (λ (p : Payload). TellsPoison m endpoint' p reply) payloads (subst (λ (n : ℕ). TellsPoison m n payload reply) same tells) in
-      one ∙ ap (stays m) (payload_told endpoint' payload' reply reply' moved tells') ∙ sym two
+      let moved = subst (λ (n : ℕ). TellsPoison m n asked.bytes reply) same tells in
+      one ∙ ap (stays m) (one_reply m is endpoint' asked.bytes lists reply reply' moved tells') ∙ sym two
 
   pub one_answer : (command : Command) (outcome : BusOutcome) (answer other : Answer) → Answers m command outcome answer → Answers m command outcome other → answer ≡ other
   one_answer (commands.Create create) outcome answer other (asked, asks, one) (asked', asks', two) =

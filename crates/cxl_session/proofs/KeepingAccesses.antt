@@ -84,7 +84,7 @@ module _ (laws : TurnsLaw) (m : Machine) (is : IsMachine m) where
 
   poison : (asked : Poison) (answer : Answer) → AnswersPoison m asked answer → Keeps answer
   poison asked answer (reports.no_endpoint none at) = given answer _ at is
-  poison asked answer (reports.told endpoint payload reply there reads tells at) = given answer _ at is
+  poison asked answer (reports.told endpoint reply there tells at) = given answer _ at is
 
   pub access_keeps : (command : Command) (outcome : BusOutcome) (answer : Answer) → is_access command ≡ true → StoresBytes command → Answers m command outcome answer → IsMachine answer.machine
   access_keeps (commands.Create create) outcome answer access stores at = absurd (false≢true access)

@@ -110,7 +110,7 @@ module _ (m : Machine) where
 
   poison : (asked : Poison) (answer : Answer) → AnswersPoison m asked answer → Leaves m answer
   poison asked answer (reports.no_endpoint none is) = given answer _ is (λ refused. refl)
-  poison asked answer (reports.told endpoint payload reply there reads tells is) = given answer _ is (λ refused. refl)
+  poison asked answer (reports.told endpoint reply there tells is) = given answer _ is (λ refused. refl)
 
   pub leaves : (command : Command) (outcome : BusOutcome) (answer : Answer) → Answers m command outcome answer → Leaves m answer
   leaves (commands.Create create) outcome answer (asked, asks, is) = whole asked outcome answer is

@@ -2,12 +2,12 @@ pub mod Going
 pub mod Leaving
 pub mod LiveRegions
 pub mod Alike
-pub mod AlikePoison
+pub mod PoisonReplies
 pub mod AlikeAnswers
 pub mod ExampleBytes
+pub mod ExamplePieces
 pub mod Deciding
 pub mod Told
-pub mod ToldPoison
 pub mod ToldAnswers
 pub mod GoingOn
 pub mod WritingNothing

@@ -1,16 +1,18 @@
 -- The live regions of a machine are regions of its settled image, each once.
-use Rattle.std.proofs.Common.{◌≡◌, ℕ, ◌<◌, map, length, get_or, Option, Some, sym, ap, ◌∙◌, subst, arith, inl, inr}
-use Rattle.std.specs.Prelude.{slice_get, unwrap_or, Contains}
+use Rattle.std.proofs.Common.{◌≡◌, ◌≢◌, ℕ, ◌<◌, List, ◌++◌, map, length, get_or, Option, Some, refl, sym, ap, ◌∙◌, subst, arith, inl, inr}
+use Rattle.std.specs.Prelude.{slice_get, unwrap_or, All, AllPairs, Contains}
 use Rattle.std.specs.List.{position_or_len}
 use Rattle.std.proofs.lemmas.Bool.{cases_lt}
-use Rattle.std.proofs.lemmas.List.{get_or-map, get_or_append_left, get_or_default, length-map, length-append}
+use Rattle.std.proofs.lemmas.List.{get_or-map, get_or_append_left, get_or_default, length-map, length-append, map-append}
 use Rattle.std.proofs.lemmas.List.Folds.{find_at}
 use Rattle.cxl_window.specs.Fields.{WindowFields}
 use Rattle.cxl_model.specs.declared.found.Found.{Found}
 use Rattle.cxl_model.specs.System.{System, IsSystem}
 use Rattle.cxl_model.specs.Ranges.{lies_within}
 use Rattle.cxl_model.specs.Regions.{region_range, IsRegion, IsRegionIn}
+use Rattle.cxl_poison.specs.Live.{AreLive}
 use Rattle.cxl_session.specs.Machine.{Live, Machine, absent_window, region_window, kept_regions, under_release}
+use Rattle.cxl_session.specs.Reports.{live_regions}
 use Rattle.cxl_session.specs.Sound.{IsMachine}
 
 -- the region lies in the window of its number
@@ -58,3 +60,30 @@ same_live m is region other (i, low, one) (j, high, two) same =
                 sym one ∙ get_or_default m.live i region other low ∙ ap (λ (n : ℕ). get_or m.live n other) here ∙ two
           ]
     ]
+
+-- they are live regions of one image over the machine's windows
+module _ (m : Machine) (is : IsMachine m) where
+  released : List Found
+  released = map (λ (region : Live). region.found) (under_release m.job)
+
+  kept : map (λ (region : Live). region.found) (kept_regions m) ≡ live_regions m ++ released
+  unfolding released
+  kept = map-append (λ (region : Live). region.found) m.live (under_release m.job)
+
+  further : (k : ℕ) → k < length (live_regions m) → k < length (live_regions m ++ released)
+  further k within = omega (arith, within, length-append (live_regions m) released)
+
+  same : (k : ℕ) (d : Found) → k < length (live_regions m) → get_or (live_regions m ++ released) k d ≡ get_or (live_regions m) k d
+  same k d within = get_or_append_left (live_regions m) released d k within
+
+  pub are_live : AreLive m.settled.windows (live_regions m)
+  are_live =
+      let each : All (IsRegion m.settled) (live_regions m ++ released) = subst (All (IsRegion m.settled)) kept is.regions.all.each in
+      let once : AllPairs (λ a b. a ≢ b) (live_regions m ++ released) = subst (AllPairs (λ (a b : Found). a ≢ b)) kept is.regions.all.once in
+      record {
+        s = m.settled;
+        system = is.settled.system;
+        windows_of = refl;
+        each = λ k d within. subst (IsRegion m.settled) (same k d within) (each k d (further k within));
+        once = λ i j d less within one. once i j d less (further j within) (same i d (omega (arith, less, within)) ∙ one ∙ sym (same j d within));
+      }

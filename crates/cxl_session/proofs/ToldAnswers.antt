@@ -13,19 +13,17 @@ use Rattle.cxl_session.specs.Jobs.{begun}
 use Rattle.cxl_session.specs.Outcomes.{NoFault}
 use Rattle.cxl_session.specs.Replies.{Answer, stays, Gives, endpoint_named}
 use Rattle.cxl_session.specs.Accesses.{AnswersUp, no_endpoint, told}
-use Rattle.cxl_session.specs.Reports.{AnswersPoison, TellsPoison, held_live, live_names}
+use Rattle.cxl_session.specs.Reports.{AnswersPoison}
 use Rattle.cxl_session.specs.Reports as reports
 use Rattle.cxl_session.specs.Requests.{AsksCreate, AsksUnless, AsksUnrefused, AsksPlan, AsksPlanOver, job_of_plan, pick_reply, refusal_of_create, request_for, request_of, want_of, asked_release}
-use Rattle.cxl_session.specs.Elsewhere.{PickRefusal, Payload, Tells, TooShort, TooFew}
-use Rattle.cxl_session.specs.Poisoning.{payload_of}
+use Rattle.cxl_session.specs.Elsewhere.{PickRefusal}
 use Rattle.cxl_session.specs.Planning.{planned}
 use Rattle.cxl_session.specs.Picking.{picked}
 use Rattle.cxl_session.specs.Regions.{AnswersWhole, begin_answer, Steps, Aborts, OfPending, ended_answer}
 use Rattle.cxl_session.specs.Answers.{Answers}
 use Rattle.cxl_session.specs.Sound.{IsMachine}
-use Rattle.cxl_session.proofs.AlikeAnswers.{all_held}
+use Rattle.cxl_session.proofs.PoisonReplies.{SomeTelling, some_reply}
 use Rattle.cxl_session.proofs.Told.{OntoLaw, some_told}
-use Rattle.cxl_session.proofs.ToldPoison.{some_list}
 
 given : (answer : Answer) → (a : Answer) × Gives NoFault a answer
 given answer = (answer, record { unfailing = refl; told = refl })
@@ -60,25 +58,18 @@ module _ (m : Machine) where
   some_pending None goes each = given (stays m replies.NothingPending)
   some_pending (Some job) goes each = each job
 
-module _ (onto : OntoLaw) (m : Machine) (is : IsMachine m) where
+module _ (onto : OntoLaw) (lists : SomeTelling) (m : Machine) (is : IsMachine m) where
   up_by : (asked : Up) (o : Option ℕ) → endpoint_named m.settled.nodes asked.endpoint ≡ o → (answer : Answer) × AnswersUp m asked answer
   up_by asked None is_none = (stays m (replies.NoEndpoint asked.endpoint), no_endpoint is_none refl)
   up_by asked (Some endpoint) is_some =
       let (reply, tells) = some_told onto m is endpoint asked.dpa in
       (stays m reply, told endpoint reply is_some tells refl)
 
-  some_poison_told : (endpoint : ℕ) (payload : Payload) → (reply : Reply) × TellsPoison m endpoint payload reply
-  some_poison_told endpoint TooShort = (replies.PoisonShort, refl)
-  some_poison_told endpoint (TooFew said room) = (replies.PoisonCount record { said = said; room = room }, refl)
-  some_poison_told endpoint (Tells list) =
-      let (pieces, each) = some_list onto m.settled is.settled.system endpoint (held_live m) (all_held m is m.live (λ region there. there)) list.records in
-      (replies.Poison record { endpoint = endpoint; list = list; pieces = pieces; names = live_names m }, (pieces, each, refl))
-
   poison_by : (asked : Poison) (o : Option ℕ) → endpoint_named m.settled.nodes asked.endpoint ≡ o → (answer : Answer) × AnswersPoison m asked answer
   poison_by asked None is_none = (stays m (replies.NoEndpoint asked.endpoint), reports.no_endpoint is_none refl)
   poison_by asked (Some endpoint) is_some =
-      let (reply, tells) = some_poison_told endpoint (payload_of asked.bytes) in
-      (stays m reply, reports.told endpoint (payload_of asked.bytes) reply is_some refl tells refl)
+      let (reply, tells) = some_reply m is endpoint asked.bytes lists in
+      (stays m reply, reports.told endpoint reply is_some tells refl)
 
   pub some_answer : (command : Command) → (answer : Answer) × Answers m command NoFault answer
   some_answer (commands.Create create) =

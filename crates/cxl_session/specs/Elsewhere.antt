@@ -7,9 +7,9 @@ use Rattle.cxl_model.specs.declared.request.Request.{Request}
 use Rattle.cxl_model.specs.System.{System}
 use Rattle.cxl_session.specs.Planning.{planned}
 use Rattle.cxl_session.specs.Picking.{Want, PickRefusal, picked}
-use Rattle.cxl_session.specs.Poisoning.{Payload, payload_of}
 pub use Rattle.cxl_session.specs.Picking.{Want, PickRefusal, NoWays, NoSize, NoSet}
-pub use Rattle.cxl_session.specs.Poisoning.{Payload, Tells, TooShort, TooFew, ArePieces, Pairwise}
+pub use Rattle.cxl_poison.specs.Payload.{IsPoisonPayload, IsPoisonFault}
+pub use Rattle.cxl_poison.specs.Pieces.{ArePoisonedPieces}
 pub use Rattle.cxl_range.specs.Extents.{extents_of, spread_of}
 
 -- a request over an image comes to this plan, or to this fault
@@ -19,7 +19,3 @@ Plans s request answer = answer ≡ planned s request
 -- these endpoints are picked for a want, in rising order, or none for this cause
 abbrev pub Picks : System → Want → Result (List ℕ) PickRefusal → Type 0
 Picks s want answer = answer ≡ picked s want
-
--- the bytes of a poison list say this
-abbrev pub ReadsPoison : List ℕ → Payload → Type 0
-ReadsPoison bytes payload = payload ≡ payload_of bytes

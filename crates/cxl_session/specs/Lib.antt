@@ -5,7 +5,6 @@ pub mod Bytes
 pub mod Firsts
 pub mod Planning
 pub mod Picking
-pub mod Poisoning
 pub mod Elsewhere
 pub mod Replies
 pub mod Accesses

@@ -1,18 +1,23 @@
 -- What a region's registers are shown as, and what a poison list touches (this project's rules).
 use Rattle.std.specs.Prelude.{◌≡◌, ℕ, List, map, take, Some, None, IsSome}
+use Rattle.std.specs.List.{AllZip}
 use Rattle.cxl_regs.specs.Words.{words_of}
 use Rattle.cxl_script.specs.declared.command.Poison.{Poison}
 use Rattle.cxl_model.specs.declared.plan.Row.{Row}
+use Rattle.cxl_model.specs.declared.found.Found.{Found}
+use Rattle.cxl_model.specs.declared.poison.Entry.{Entry}
 use Rattle.cxl_model.specs.declared.poison.Poisoned.{Poisoned}
-use Rattle.cxl_model.specs.Contents.{Holding}
+use Rattle.cxl_model.specs.declared.poison.PoisonList.{PoisonList}
+use Rattle.cxl_poison.specs.declared.fault.PoisonFault.TheVariants.{Short, Count}
+use Rattle.cxl_poison.specs.declared.fault.Said.{Said}
 use Rattle.cxl_apply.specs.Releases.{rows_of}
 use Rattle.cxl_reply.specs.declared.reply.Reply.{Reply}
 use Rattle.cxl_reply.specs.declared.reply.Reply.TheVariants as replies
 use Rattle.cxl_reply.specs.declared.told.Shown.{Shown}
 use Rattle.cxl_reply.specs.declared.told.ShownRow.{ShownRow}
-use Rattle.cxl_session.specs.Machine.{Live, Machine, live_named, holding_of}
+use Rattle.cxl_session.specs.Machine.{Live, Machine, live_named}
 use Rattle.cxl_session.specs.Outcomes.{BusOutcome, NoFault, Undone, LeftPending, ReadFailed}
-use Rattle.cxl_session.specs.Elsewhere.{Payload, Tells, TooShort, TooFew, ReadsPoison, ArePieces, Pairwise}
+use Rattle.cxl_session.specs.Elsewhere.{IsPoisonPayload, IsPoisonFault, ArePoisonedPieces}
 use Rattle.cxl_session.specs.Replies.{Answer, stays, at_name, endpoint_named}
 
 -- ---- registers
@@ -38,20 +43,30 @@ AnswersShow m name ReadFailed answer = IsSome (live_named m name) × (answer ≡
 
 -- ---- poison
 
-abbrev pub held_live : Machine → List Holding
-held_live m = map (holding_of m.settled) m.live
+-- the live regions in the order in which they were made, and their names
+abbrev pub live_regions : Machine → List Found
+live_regions m = map (λ (region : Live). region.found) m.live
 
 abbrev pub live_names : Machine → List (List ℕ)
 live_names m = map (λ (region : Live). region.name) m.live
 
--- what a poison list of an endpoint is answered
-abbrev pub TellsPoison : Machine → ℕ → Payload → Reply → Type 0
-TellsPoison m endpoint TooShort reply = reply ≡ replies.PoisonShort
-TellsPoison m endpoint (TooFew said room) reply = reply ≡ replies.PoisonCount record { said = said; room = room }
-TellsPoison m endpoint (Tells list) reply =
-    (pieces : List Poisoned) × Pairwise (ArePieces endpoint (held_live m)) list.records pieces
-    × (reply ≡ replies.Poison record { endpoint = endpoint; list = list; pieces = pieces; names = live_names m })
+-- a record of an endpoint's poison list touches these pieces of the live regions
+abbrev pub TouchesLive : Machine → ℕ → Entry → Poisoned → Type 0
+TouchesLive m endpoint entry poisoned = ArePoisonedPieces entry endpoint (live_regions m) m.settled.windows poisoned
 
+-- a list, with what its records touch one by one
+abbrev pub poison_reply : Machine → ℕ → PoisonList → List Poisoned → Reply
+poison_reply m endpoint list pieces =
+    replies.Poison record { endpoint = endpoint; list = list; pieces = pieces; names = live_names m }
+
+-- The bytes of a poison list are told with what each of its records touches; or they are too short for one, or have room for
+-- fewer records than they say.
+pub data TellsPoison (m : Machine) (endpoint : ℕ) (bytes : List ℕ) (reply : Reply) : Type 0 where
+  listed : (list : PoisonList) (pieces : List Poisoned) → IsPoisonPayload bytes list → AllZip (TouchesLive m endpoint) list.records pieces → reply ≡ poison_reply m endpoint list pieces → TellsPoison m endpoint bytes reply
+  short : IsPoisonFault bytes Short → reply ≡ replies.PoisonShort → TellsPoison m endpoint bytes reply
+  few : (said : Said) → IsPoisonFault bytes (Count said) → reply ≡ replies.PoisonCount record { said = said.said; room = said.room } → TellsPoison m endpoint bytes reply
+
+-- what a poison list of an endpoint is answered
 pub data AnswersPoison (m : Machine) (poison : Poison) (answer : Answer) : Type 0 where
   no_endpoint : endpoint_named m.settled.nodes poison.endpoint ≡ None → answer ≡ stays m (replies.NoEndpoint poison.endpoint) → AnswersPoison m poison answer
-  told : (endpoint : ℕ) (payload : Payload) (reply : Reply) → endpoint_named m.settled.nodes poison.endpoint ≡ Some endpoint → ReadsPoison poison.bytes payload → TellsPoison m endpoint payload reply → answer ≡ stays m reply → AnswersPoison m poison answer
+  told : (endpoint : ℕ) (reply : Reply) → endpoint_named m.settled.nodes poison.endpoint ≡ Some endpoint → TellsPoison m endpoint poison.bytes reply → answer ≡ stays m reply → AnswersPoison m poison answer

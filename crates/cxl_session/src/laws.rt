@@ -19,6 +19,7 @@ ghost use Rattle.cxl_session.specs.Sound.{IsMachine};
 ghost use Rattle.cxl_session.specs.Trails.{TrailOf};
 
 use cxl_model::{bytes_are_carried_one_to_one, regions_share_no_byte, weaves_fill_their_regions};
+use cxl_poison::{bytes_are_one_list, each_record_has_pieces, records_are_told_in_one_way};
 
 /// A law of answers: a refused command leaves the machine as it is.
 pub fn refusals_leave_the_machine()
@@ -65,6 +66,8 @@ pub fn each_command_is_answered()
         → (answer : Answer) × Answers m command NoFault answer }
 {
     bytes_are_carried_one_to_one();
+    bytes_are_one_list();
+    each_record_has_pieces();
 }
 
 /// A law of answers: by a machine that a session can stand for, a command that went so has one answer at the most.
@@ -74,6 +77,8 @@ pub fn one_answer()
 {
     bytes_are_carried_one_to_one();
     regions_share_no_byte();
+    bytes_are_one_list();
+    records_are_told_in_one_way();
 }
 
 /// A law of machines: from one that a session can stand for, a command that makes and ends no region leads to one.

@@ -21,6 +21,8 @@ ghost use Rattle.cxl_session.specs.Replies.{stays};
 ghost use Rattle.cxl_session.specs.Scripts.{RunsLines, replies_text};
 ghost use Rattle.cxl_session.specs.Trails.{TrailOf};
 
+use cxl_poison::cuts_lie_in_touched_stretches;
+
 /// A law of plans: each fault once, and each reason against a window.
 pub fn plan_faults_on_examples()
     ensures repeat { Plans two_bridges (asks 0x20000000 (2 ∷ 3 ∷ 2 ∷ [])) (Err (faults.Repeat 2)) }
@@ -54,7 +56,9 @@ pub fn poison_on_examples()
         (stays fresh (replies.PoisonCount record { said = 2; room = 1 })) }
     ensures no_endpoint { Answers fresh (poison hb0 (poison_bytes 1)) NoFault
         (stays fresh (replies.NoEndpoint hb0)) }
-{}
+{
+    cuts_lie_in_touched_stretches();
+}
 
 /// A law of trails: the words of a create that met a fault at its third write, of a step and of an abort.
 pub fn trails_on_examples()
