@@ -1,3 +1,5 @@
+pub mod Firsts
+pub mod Sizes
 pub mod Used
 pub mod Endpoints
 pub mod Windows

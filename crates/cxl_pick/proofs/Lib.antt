@@ -26,3 +26,4 @@ mod Offering
 mod Givings
 mod Settled
 mod Picks
+mod Computed

@@ -1,15 +1,18 @@
 //! Laws of picking, each the contract of a function that does nothing.
 
-ghost use Rattle.std.specs.Prelude.{◌≡◌, ℕ, ◌≤◌, true, List, length, slice_get, Some, IfSome};
+ghost use Rattle.std.specs.Prelude.{◌≡◌, ◌≢◌, ℕ, ◌≤◌, true, List, length, slice_get, Some, IfSome, Ok, Err};
 ghost use Rattle.cxl_enc.specs.Codes.{is_ways};
 ghost use Rattle.cxl_window.specs.Fields.{WindowFields};
 ghost use Rattle.cxl_model.specs.System.{System, IsSystem};
 ghost use Rattle.cxl_model.specs.Accepted.{IsAccepted};
-ghost use Rattle.cxl_legal.specs.Used.{HasBytePorts};
+ghost use Rattle.cxl_legal.specs.Used.{AreEndpoints, HasBytePorts};
 ghost use Rattle.cxl_legal.specs.Endpoints.{IsSize};
 ghost use Rattle.cxl_legal.specs.Stated.{Fits};
 ghost use Rattle.cxl_pick.specs.declared.want.Want.{Want};
-ghost use Rattle.cxl_pick.specs.Picking.{FitsFirst, NothingFits, PlansFirst, NothingPlans, asked, latest_start, given_in, AreInOrder};
+ghost use Rattle.cxl_pick.specs.declared.fault.PickFault.{PickFault};
+ghost use Rattle.cxl_pick.specs.declared.fault.PickFault.TheVariants as faults;
+ghost use Rattle.cxl_pick.specs.Picking.{FitsFirst, NothingFits, PlansFirst, NothingPlans, asked, latest_start, given_in, AreInOrder, IsWantedSize, IsPicked, TellsPickFault};
+ghost use Rattle.cxl_pick.specs.Picked.{picked};
 
 use cxl_legal::{fitting_plans_are_legal, legal_plans_fit};
 use cxl_topo::tree_laws;
@@ -48,4 +51,31 @@ pub fn fitting_sets_have_plans()
 {
     legal_plans_fit();
     fitting_plans_are_legal();
+}
+
+/// A law of picking: what is wanted comes to the set that is picked, and else to the fault that is told.
+pub fn wants_come_to_answers()
+    ensures set { (s : System) (want : Want) (w : WindowFields) (set : List ℕ) → IsSystem s → is_ways want.ways ≡ true
+        → IsWantedSize want → IsPicked s want w set → picked s want ≡ Ok set }
+    ensures fault { (s : System) (want : Want) (fault : PickFault) → TellsPickFault s want fault → fault ≢ faults.Memory
+        → picked s want ≡ Err fault }
+{
+    tree_laws();
+}
+
+/// A law of picking: a set that is picked is one of endpoints, and is what is given in the first
+/// window in which each target bridge gives something; what a fault says holds.
+pub fn answers_hold_of_wants()
+    ensures ways { (s : System) (want : Want) (set : List ℕ) → IsSystem s → picked s want ≡ Ok set
+        → is_ways want.ways ≡ true }
+    ensures size { (s : System) (want : Want) (set : List ℕ) → IsSystem s → picked s want ≡ Ok set
+        → IsWantedSize want }
+    ensures set { (s : System) (want : Want) (set : List ℕ) → IsSystem s → picked s want ≡ Ok set
+        → (w : WindowFields) × IsPicked s want w set }
+    ensures endpoints { (s : System) (want : Want) (set : List ℕ) → IsSystem s → HasBytePorts s.nodes
+        → picked s want ≡ Ok set → AreEndpoints s (asked want set) }
+    ensures fault { (s : System) (want : Want) (fault : PickFault) → IsSystem s → picked s want ≡ Err fault
+        → TellsPickFault s want fault }
+{
+    tree_laws();
 }

@@ -10,6 +10,9 @@ mod terms;
 mod want;
 
 pub use fault::PickFault;
-pub use laws::{fitting_sets_are_given, fitting_sets_have_plans, given_sets_fit};
+pub use laws::{
+    answers_hold_of_wants, fitting_sets_are_given, fitting_sets_have_plans, given_sets_fit,
+    wants_come_to_answers,
+};
 pub use picking::pick;
 pub use want::Want;

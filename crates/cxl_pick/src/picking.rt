@@ -1,4 +1,4 @@
-ghost use Rattle.std.specs.Prelude.{◌≡◌, ◌≤◌, ◌<◌, ◌==◌, ℕ, [], true, false, List, length, map, option_map, option_and_then, IfOk, IfErr, IfSome, MatchOption, All, Err};
+ghost use Rattle.std.specs.Prelude.{◌≡◌, ◌≢◌, ◌≤◌, ◌<◌, ◌==◌, ℕ, [], true, false, List, length, map, option_map, option_and_then, IfOk, IfErr, IfSome, MatchOption, All, Ok, Err};
 ghost use Rattle.std.specs.List.{list_any};
 ghost use Rattle.cxl_enc.specs.Codes.{is_ways};
 ghost use Rattle.cxl_topo.specs.Tree.{is_endpoint_at, bridge_with};
@@ -7,11 +7,14 @@ ghost use Rattle.cxl_window.specs.Windows.{AreMadeWith};
 ghost use Rattle.cxl_model.specs.System.{IsSystem, system_of, bridge_uids};
 ghost use Rattle.cxl_model.specs.Accepted.{IsAccepted};
 ghost use Rattle.cxl_pick.specs.Picking.{IsWantedSize, given_in, all_given, AreInOrder, IsPicked, NothingGiven, TellsPickFault, FitsFirst, NothingFits, PlansFirst, NothingPlans};
+ghost use Rattle.cxl_pick.specs.Picked.{picked};
 ghost use Rattle.cxl_pick.specs.inner.Wanted.{IsSound, IsReady};
 ghost use Rattle.cxl_pick.specs.inner.Offers.{AreChildren, some_of, listed_at};
 
 use crate::fault::PickFault;
-use crate::laws::{fitting_sets_are_given, fitting_sets_have_plans, given_sets_fit};
+use crate::laws::{
+    fitting_sets_are_given, fitting_sets_have_plans, given_sets_fit, wants_come_to_answers,
+};
 use crate::offers::{children, gives, listed, offers};
 use crate::terms::{can_take, has_known_ways, has_size, latest_start};
 use crate::want::Want;
@@ -55,7 +58,13 @@ pub fn pick(
     // Then no set of so many endpoints has a legal plan in any window.
     ensures none { IfErr result (λ fault. fault ≡ PickFault.NoSet
         → NothingPlans (system_of image.now topo.now windows.now) want.now) }
+
+    // So but for want of memory there is one answer, which is computed from the nodes, blocks and windows.
+    ensures answer { IfOk result (λ set. picked (system_of image.now topo.now windows.now) want.now ≡ Ok set.items) }
+    ensures refusal { IfErr result (λ fault. fault ≢ PickFault.Memory
+        → picked (system_of image.now topo.now windows.now) want.now ≡ Err fault) }
 {
+    wants_come_to_answers();
     fitting_sets_have_plans();
     given_sets_fit();
     fitting_sets_are_given();

@@ -1,5 +1,5 @@
--- An answer's plan is legal, and where it is a fault no plan is.
-use Rattle.std.proofs.Common.{◌≡◌, ◌≢◌, ◌≤◌, ◌∙◌, sym, subst, ℕ, Result, Ok, Err, IfOk, IfErr, OnOk}
+-- An answer's plan is legal, where it is a fault no plan is, and it is what the request comes to.
+use Rattle.std.proofs.Common.{◌≡◌, ◌≢◌, ◌≤◌, ◌∙◌, sym, ap, subst, ℕ, Result, Ok, Err, IfOk, IfErr, OnOk}
 use Rattle.cxl_window.specs.Fields.{WindowFields}
 use Rattle.cxl_model.specs.declared.request.Request.{Request}
 use Rattle.cxl_model.specs.declared.plan.Plan.{Plan}
@@ -12,10 +12,17 @@ use Rattle.cxl_legal.specs.Used.{AreEndpoints, HasBytePorts}
 use Rattle.cxl_legal.specs.Endpoints.{FitsEndpoints}
 use Rattle.cxl_legal.specs.Stated.{IsStatedPlan, Fits}
 use Rattle.cxl_plan.specs.Faults.{IsFirstPlanFault, IsFirstPlan, IsLeastPlan}
+use Rattle.cxl_plan.specs.Planned.{planned}
 use Rattle.cxl_plan.proofs.LegalPlans.{MeanEndpoints, MeanWindow, MeanBase, no_legal_plan, no_earlier_window, no_lower_base}
 
 abbrev pub MakesLegal : Type 0
 MakesLegal = (s : System) (request : Request) (w : WindowFields) (base : ℕ) (plan : Plan) → Fits s request w base → IsStatedPlan s request w base plan → IsLegalPlanIn s request w plan
+
+abbrev pub ComesToPlan : Type 0
+ComesToPlan = (s : System) (request : Request) (plan : Plan) → IsSystem s → AreEndpoints s request → FitsEndpoints s request → IsFirstPlan s request plan → planned s request ≡ Ok plan
+
+abbrev pub ComesToFault : Type 0
+ComesToFault = (s : System) (request : Request) (fault : PlanFault) → IsSystem s → AreEndpoints s request → IsFirstPlanFault s request fault → planned s request ≡ Err fault
 
 module _ (s : System) (request : Request) (system : IsSystem s) (ports : HasBytePorts s.nodes) (accepted : IsAccepted s) (named : AreEndpoints s request) where
   pub legal_answer : MakesLegal → (answer : Result Plan PlanFault) → OnOk answer (FitsEndpoints s request) → IfOk answer (IsFirstPlan s request) → IfOk answer (IsLegalPlan s request)
@@ -32,6 +39,12 @@ module _ (s : System) (request : Request) (system : IsSystem s) (ports : HasByte
       } in
       (is.window, law s request is.window plan.found.base plan all is.stated)
   legal_answer law (Err fault) fits is = tt
+
+  -- an answer that is not for want of memory is what the request comes to
+  pub computed_answer : ComesToPlan → ComesToFault → (answer : Result Plan PlanFault) → OnOk answer (FitsEndpoints s request) → IfOk answer (IsFirstPlan s request)
+      → IfErr answer (λ fault. fault ≢ faults.Memory → IsFirstPlanFault s request fault) → answer ≢ Err faults.Memory → answer ≡ planned s request
+  computed_answer plan_law fault_law (Ok plan) fits is told real = sym (plan_law s request plan system named fits is)
+  computed_answer plan_law fault_law (Err fault) fits is told real = sym (fault_law s request fault system named (told (λ same. real (ap Err same))))
 
   module _ (endpoints_law : MeanEndpoints) (window_law : MeanWindow) (base_law : MeanBase) where
     pub no_plan : (fault : PlanFault) → fault ≢ faults.Memory → IsFirstPlanFault s request fault → (plan : Plan) → IsLegalPlan s request plan → ⊥

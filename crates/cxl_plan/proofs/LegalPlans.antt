@@ -33,7 +33,7 @@ found_passes p a (suc k) n is =
     ]
 
 -- different endpoints do not repeat
-none_repeats : (before us : List ℕ) → AllPairs (λ a b. a ≢ b) (before ++ us) → first_repeat before us ≡ None
+pub none_repeats : (before us : List ℕ) → AllPairs (λ a b. a ≢ b) (before ++ us) → first_repeat before us ≡ None
 none_repeats before [] distinct = refl
 none_repeats before (u ∷ us) distinct =
     let rest = none_repeats (before ++ u ∷ []) us (subst (λ (xs : List ℕ). AllPairs (λ a b. a ≢ b) xs) (sym (append_assoc before (u ∷ []) us)) distinct) in
@@ -66,7 +66,7 @@ none_repeats before (u ∷ us) distinct =
     read (y ∷ xs) (suc k) x lt is = read xs k x (omega arith) is
 
 -- a window in which the request fits has no reason
-no_reason : (s : System) (request : Request) (w : WindowFields) (base : ℕ) → FitsWindow s request w → FitsBase s request w base → (reason : Reason) → SaysOfWindow s request w reason → ⊥
+pub no_reason : (s : System) (request : Request) (w : WindowFields) (base : ℕ) → FitsWindow s request w → FitsBase s request w base → (reason : Reason) → SaysOfWindow s request w reason → ⊥
 no_reason s request w base fits starts reasons.Unusable says = false≢true (sym says ∙ fits.usable)
 no_reason s request w base fits starts reasons.Kind says = false≢true (sym says ∙ fits.kind)
 no_reason s request w base fits starts reasons.Fixed says = false≢true (sym fits.open_to_plans ∙ says)

@@ -13,3 +13,12 @@ pub mod LegalPlans
 pub mod LegalAnswers
 pub mod StatedRows
 pub mod StatedSpans
+pub mod FirstThere
+pub mod ComputedSpans
+pub mod ComputedBases
+pub mod ComputedWindows
+pub mod ComputedPlans
+pub mod ComputedFaults
+pub mod Computed
+pub mod Told
+pub mod ComputedAnswers

@@ -35,44 +35,44 @@ use Rattle.cxl_plan.proofs.UsedItems.{used_below}
 -- ---- the order of reasons
 
 module _ (s : System) (request : Request) (w : WindowFields) where
-  abbrev AllFrom : ℕ → Type 0
+  abbrev pub AllFrom : ℕ → Type 0
   AllFrom k = (other : Reason) → SaysOfWindow s request w other → k ≤ turn_of_reason other
 
-  abbrev NoneAt : ℕ → Type 0
+  abbrev pub NoneAt : ℕ → Type 0
   NoneAt k = (other : Reason) → turn_of_reason other ≡ k → SaysOfWindow s request w other → ⊥
 
-  onward : (k : ℕ) → AllFrom k → NoneAt k → AllFrom (k + 1)
+  pub onward : (k : ℕ) → AllFrom k → NoneAt k → AllFrom (k + 1)
   onward k from none other says =
       elim (cases_eq (turn_of_reason other) k) [
         | inl same ↦ absurd (none other same says)
         | inr apart ↦ let low = from other says in omega arith
       ]
 
-  none_0 : is_usable w.verdict ≡ true → NoneAt 0
+  pub none_0 : is_usable w.verdict ≡ true → NoneAt 0
   none_0 kept reasons.Unusable e says = false≢true (sym says ∙ kept)
   none_0 kept other e says = absurd (omega arith)
 
-  none_1 : permits w request.kind ≡ true → NoneAt 1
+  pub none_1 : permits w request.kind ≡ true → NoneAt 1
   none_1 kept reasons.Kind e says = false≢true (sym says ∙ kept)
   none_1 kept other e says = absurd (omega arith)
 
-  none_2 : has_bit w.restrict 4 ≡ false → NoneAt 2
+  pub none_2 : has_bit w.restrict 4 ≡ false → NoneAt 2
   none_2 kept reasons.Fixed e says = false≢true (sym kept ∙ says)
   none_2 kept other e says = absurd (omega arith)
 
-  none_3 : has_used_bridges s request w ≡ true → NoneAt 3
+  pub none_3 : has_used_bridges s request w ≡ true → NoneAt 3
   none_3 kept reasons.Bridges e says = false≢true (sym says ∙ kept)
   none_3 kept other e says = absurd (omega arith)
 
-  none_4 : agrees_on_gran request w ≡ true → NoneAt 4
+  pub none_4 : agrees_on_gran request w ≡ true → NoneAt 4
   none_4 kept reasons.Gran e says = false≢true (sym says ∙ kept)
   none_4 kept other e says = absurd (omega arith)
 
-  none_5 : least s (λ m. not (can_select s request w m)) ≡ None → NoneAt 5
+  pub none_5 : least s (λ m. not (can_select s request w m)) ≡ None → NoneAt 5
   none_5 kept (reasons.Select n) e says = none-some n (sym kept ∙ says)
   none_5 kept other e says = absurd (omega arith)
 
-  none_6 : least s (λ m. not (can_have_ways s request m)) ≡ None → NoneAt 6
+  pub none_6 : least s (λ m. not (can_have_ways s request m)) ≡ None → NoneAt 6
   none_6 kept (reasons.WaysCap n) e says = none-some n (sym kept ∙ says)
   none_6 kept other e says = absurd (omega arith)
 

@@ -5,6 +5,7 @@
 mod base;
 mod choosing;
 mod judge;
+mod laws;
 mod planned;
 mod planning;
 mod room;
@@ -14,4 +15,5 @@ mod used;
 mod windows;
 
 pub use cxl_model::{FixedList, Found, Place, Plan, PlanFault, Reason, Request, Row};
+pub use laws::{answers_hold_of_requests, requests_come_to_answers};
 pub use planning::plan;

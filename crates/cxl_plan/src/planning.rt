@@ -1,4 +1,4 @@
-ghost use Rattle.std.specs.Prelude.{◌≡◌, ◌≢◌, ◌<◌, ◌≤◌, length, IfOk, IfErr, IfSome, IfNone, OnOk, slice_get, Some};
+ghost use Rattle.std.specs.Prelude.{◌≡◌, ◌≢◌, ◌<◌, ◌≤◌, length, IfOk, IfErr, IfSome, IfNone, OnOk, Err, slice_get, Some};
 ghost use Rattle.cxl_topo.specs.Tree.{bridge_uids};
 ghost use Rattle.cxl_image.specs.Images.{HasCapsOf};
 ghost use Rattle.cxl_window.specs.Windows.{AreMadeWith};
@@ -11,11 +11,13 @@ ghost use Rattle.cxl_legal.specs.Used.{AreEndpoints, HasBytePorts};
 ghost use Rattle.cxl_legal.specs.Endpoints.{FitsEndpoints};
 ghost use Rattle.cxl_legal.specs.Stated.{IsStatedPlan};
 ghost use Rattle.cxl_plan.specs.Faults.{IsFirstPlanFault, IsFirstPlan, IsLeastPlan};
+ghost use Rattle.cxl_plan.specs.Planned.{planned};
 ghost use Rattle.cxl_plan.specs.inner.Uses.{tree_alone, AreUses};
 ghost use Rattle.cxl_plan.specs.inner.Judging.{IsReady, IsEarly, IsSettled};
 
 use crate::choosing::{Choice, choose};
 use crate::judge::{first_full, first_uneven, has_known_ways, has_size, repeated};
+use crate::laws::requests_come_to_answers;
 use crate::planned::region_code;
 use crate::room::first_refused;
 use crate::rows::rows;
@@ -54,9 +56,13 @@ pub fn plan(
     ensures least { IfOk result (IsLeastPlan (system_of image.now topo.now windows.now) request.now) }
     // A plan is the one that is stated in the first window that takes the request, at the least base there.
     ensures plan { IfOk result (λ plan. IsFirstPlan (system_of image.now topo.now windows.now) request.now plan) }
+    // So but for want of memory there is one answer, which is computed from the nodes, blocks and windows.
+    ensures answer { result ≢ Err PlanFault.Memory
+        → result ≡ planned (system_of image.now topo.now windows.now) request.now }
 {
     legal_plans_fit();
     fitting_plans_are_legal();
+    requests_come_to_answers();
     ports_are_bytes(topo);
     let _count = topo.count();
     let _blocks = image.count();

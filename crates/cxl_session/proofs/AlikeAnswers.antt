@@ -15,7 +15,7 @@ use Rattle.cxl_session.specs.Accesses.{AnswersUp, TellsHost, no_endpoint, told}
 use Rattle.cxl_session.specs.Reports.{AnswersShow, AnswersPoison, TellsPoison}
 use Rattle.cxl_session.specs.Reports as reports
 use Rattle.cxl_session.specs.Requests.{AsksCreate, AsksUnless, AsksUnrefused, AsksPlan, AsksPlanOver, job_of_plan, refusal_of_create, request_for, request_of}
-use Rattle.cxl_session.specs.Elsewhere.{PickRefusal}
+use Rattle.cxl_session.specs.Elsewhere.{PickFault}
 use Rattle.cxl_session.specs.Regions.{CarriesOutWhole, AnswersWhole, begin_answer, Steps, Aborts, OfPending}
 use Rattle.cxl_session.specs.Answers.{Answers}
 use Rattle.cxl_session.specs.Sound.{IsMachine}
@@ -33,7 +33,7 @@ module _ (m : Machine) where
   one_plan : (request : Request) (asked other : Result RegionJob Reply) → AsksPlan m request asked → AsksPlan m request other → asked ≡ other
   one_plan request asked other (plan, planned, is) (plan', planned', is') = is ∙ ap (job_of_plan m) (planned ∙ sym planned') ∙ sym is'
 
-  one_over : (create : Create) (answer : Result (List ℕ) PickRefusal) (asked other : Result RegionJob Reply) → AsksPlanOver m create answer asked
+  one_over : (create : Create) (answer : Result (List ℕ) PickFault) (asked other : Result RegionJob Reply) → AsksPlanOver m create answer asked
       → AsksPlanOver m create answer other → asked ≡ other
   one_over create (Ok endpoints) asked other one two = one_plan (request_for create endpoints) asked other one two
   one_over create (Err refusal) asked other one two = one ∙ sym two
@@ -42,7 +42,7 @@ module _ (m : Machine) where
       → asked ≡ other
   one_unrefused create None asked other one two = one_plan (request_of m create) asked other one two
   one_unrefused create (Some ways) asked other (pick, picked, one) (pick', picked', two) =
-      one_over create pick asked other one (subst (λ (p : Result (List ℕ) PickRefusal). AsksPlanOver m create p other) (picked' ∙ sym picked) two)
+      one_over create pick asked other one (subst (λ (p : Result (List ℕ) PickFault). AsksPlanOver m create p other) (picked' ∙ sym picked) two)
 
   one_unless : (create : Create) (refusal : Option Reply) (asked other : Result RegionJob Reply) → AsksUnless m create refusal asked → AsksUnless m create refusal other
       → asked ≡ other

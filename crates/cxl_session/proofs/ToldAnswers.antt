@@ -16,9 +16,9 @@ use Rattle.cxl_session.specs.Accesses.{AnswersUp, no_endpoint, told}
 use Rattle.cxl_session.specs.Reports.{AnswersPoison}
 use Rattle.cxl_session.specs.Reports as reports
 use Rattle.cxl_session.specs.Requests.{AsksCreate, AsksUnless, AsksUnrefused, AsksPlan, AsksPlanOver, job_of_plan, pick_reply, refusal_of_create, request_for, request_of, want_of, asked_release}
-use Rattle.cxl_session.specs.Elsewhere.{PickRefusal}
-use Rattle.cxl_session.specs.Planning.{planned}
-use Rattle.cxl_session.specs.Picking.{picked}
+use Rattle.cxl_session.specs.Elsewhere.{PickFault}
+use Rattle.cxl_plan.specs.Planned.{planned}
+use Rattle.cxl_pick.specs.Picked.{picked}
 use Rattle.cxl_session.specs.Regions.{AnswersWhole, begin_answer, Steps, Aborts, OfPending, ended_answer}
 use Rattle.cxl_session.specs.Answers.{Answers}
 use Rattle.cxl_session.specs.Sound.{IsMachine}
@@ -32,7 +32,7 @@ module _ (m : Machine) where
   some_plan : (request : Request) → (asked : Result RegionJob Reply) × AsksPlan m request asked
   some_plan request = (job_of_plan m (planned m.settled request), (planned m.settled request, refl, refl))
 
-  some_over : (create : Create) (answer : Result (List ℕ) PickRefusal) → (asked : Result RegionJob Reply) × AsksPlanOver m create answer asked
+  some_over : (create : Create) (answer : Result (List ℕ) PickFault) → (asked : Result RegionJob Reply) × AsksPlanOver m create answer asked
   some_over create (Ok endpoints) = some_plan (request_for create endpoints)
   some_over create (Err refusal) = (Err (pick_reply refusal), refl)
 

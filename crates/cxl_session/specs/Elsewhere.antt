@@ -5,9 +5,12 @@ use Rattle.cxl_model.specs.declared.plan.Plan.{Plan}
 use Rattle.cxl_model.specs.declared.plan.PlanFault.{PlanFault}
 use Rattle.cxl_model.specs.declared.request.Request.{Request}
 use Rattle.cxl_model.specs.System.{System}
-use Rattle.cxl_session.specs.Planning.{planned}
-use Rattle.cxl_session.specs.Picking.{Want, PickRefusal, picked}
-pub use Rattle.cxl_session.specs.Picking.{Want, PickRefusal, NoWays, NoSize, NoSet}
+use Rattle.cxl_plan.specs.Planned.{planned}
+use Rattle.cxl_pick.specs.Picked.{picked}
+use Rattle.cxl_pick.specs.declared.want.Want.{Want}
+use Rattle.cxl_pick.specs.declared.fault.PickFault.{PickFault}
+pub use Rattle.cxl_pick.specs.declared.want.Want.{Want}
+pub use Rattle.cxl_pick.specs.declared.fault.PickFault.{PickFault}
 pub use Rattle.cxl_poison.specs.Payload.{IsPoisonPayload, IsPoisonFault}
 pub use Rattle.cxl_poison.specs.Pieces.{ArePoisonedPieces}
 pub use Rattle.cxl_range.specs.Extents.{extents_of, spread_of}
@@ -17,5 +20,5 @@ abbrev pub Plans : System → Request → Result Plan PlanFault → Type 0
 Plans s request answer = answer ≡ planned s request
 
 -- these endpoints are picked for a want, in rising order, or none for this cause
-abbrev pub Picks : System → Want → Result (List ℕ) PickRefusal → Type 0
+abbrev pub Picks : System → Want → Result (List ℕ) PickFault → Type 0
 Picks s want answer = answer ≡ picked s want

@@ -10,6 +10,7 @@ use Rattle.cxl_script.specs.declared.command.Create.{Create}
 use Rattle.cxl_model.specs.declared.found.Found.{Found}
 use Rattle.cxl_model.specs.declared.plan.Plan.{Plan}
 use Rattle.cxl_model.specs.System.{System}
+use Rattle.cxl_plan.specs.Planned.{stated_plan}
 use Rattle.cxl_model.specs.Contents.{Contents}
 use Rattle.cxl_worked.specs.Examples.{two_bridges, two_bridges_with, window_of_both, of_both, decoder, port_block, endpoint_block, endpoint_block_of_two, port_cap, endpoint_cap}
 use Rattle.cxl_worked.specs.ExampleRegions.{region_of_two}
@@ -18,7 +19,6 @@ use Rattle.cxl_reply.specs.declared.told.ShownRow.{ShownRow}
 use Rattle.cxl_session.specs.Bytes.{written}
 use Rattle.cxl_session.specs.Machine.{Live, RegionJob, Machine}
 use Rattle.cxl_session.specs.Jobs.{create_job, release_job, at_done}
-use Rattle.cxl_session.specs.Planning.{plan_at}
 use Rattle.cxl_session.specs.Requests.{request_for}
 use Rattle.cxl_session.specs.Sound.{auto_name}
 
@@ -72,10 +72,10 @@ named_at name base = record { name = name; window = 0; base = base; size = 0x200
 
 -- the plan of the region over the reset host, and of a second one behind it
 abbrev pub plan_r0 : Plan
-plan_r0 = plan_at reset_system (request_for (create_named r0) (2 ∷ 3 ∷ [])) window_of_both 0x100000000
+plan_r0 = stated_plan reset_system (request_for (create_named r0) (2 ∷ 3 ∷ [])) window_of_both 0x100000000
 
 abbrev pub plan_b : Plan
-plan_b = plan_at two_bridges (request_for (create_named b) (2 ∷ 3 ∷ [])) window_of_both 0x120000000
+plan_b = stated_plan two_bridges (request_for (create_named b) (2 ∷ 3 ∷ [])) window_of_both 0x120000000
 
 -- ---- two regions
 

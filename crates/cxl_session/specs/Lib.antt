@@ -2,9 +2,6 @@ pub mod Machine
 pub mod Jobs
 pub mod Outcomes
 pub mod Bytes
-pub mod Firsts
-pub mod Planning
-pub mod Picking
 pub mod Elsewhere
 pub mod Replies
 pub mod Accesses

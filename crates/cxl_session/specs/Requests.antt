@@ -7,6 +7,8 @@ use Rattle.cxl_model.specs.declared.plan.PlanFault.{PlanFault}
 use Rattle.cxl_model.specs.declared.plan.PlanFault.TheVariants as faults
 use Rattle.cxl_model.specs.declared.plan.Row.{Row}
 use Rattle.cxl_model.specs.declared.request.Request.{Request}
+use Rattle.cxl_legal.specs.Firsts.{first_there}
+use Rattle.cxl_pick.specs.declared.fault.PickFault.TheVariants as picks
 use Rattle.cxl_script.specs.declared.command.Create.{Create}
 use Rattle.cxl_apply.specs.Releases.{first_locked, first_not_last}
 use Rattle.cxl_reply.specs.declared.reply.Reply.{Reply}
@@ -14,8 +16,7 @@ use Rattle.cxl_reply.specs.declared.reply.Reply.TheVariants as replies
 use Rattle.cxl_reply.specs.declared.told.Spot.{Spot}
 use Rattle.cxl_session.specs.Machine.{Live, RegionJob, Machine, region_limit, live_named, place_named}
 use Rattle.cxl_session.specs.Jobs.{create_job, release_job}
-use Rattle.cxl_session.specs.Elsewhere.{Plans, Want, PickRefusal, NoWays, NoSize, NoSet, Picks}
-use Rattle.cxl_session.specs.Firsts.{first_there}
+use Rattle.cxl_session.specs.Elsewhere.{Plans, Want, PickFault, Picks}
 use Rattle.cxl_session.specs.Replies.{endpoint_named}
 
 -- ---- refusals, each where it holds
@@ -75,22 +76,23 @@ abbrev pub job_of_plan : Machine → Result Plan PlanFault → Result RegionJob 
 job_of_plan m (Ok plan) = Ok (create_job m.settled plan)
 job_of_plan m (Err fault) = Err (replies.Refused fault)
 
-abbrev pub pick_reply : PickRefusal → Reply
-pick_reply (NoWays ways) = replies.Refused (faults.Ways ways)
-pick_reply NoSize = replies.Refused faults.Size
-pick_reply NoSet = replies.NoSet
+abbrev pub pick_reply : PickFault → Reply
+pick_reply (picks.Ways ways) = replies.Refused (faults.Ways ways)
+pick_reply picks.Size = replies.Refused faults.Size
+pick_reply picks.NoSet = replies.NoSet
+pick_reply picks.Memory = replies.Refused faults.Memory
 
 -- a plan for the request is sought
 abbrev pub AsksPlan : Machine → Request → Result RegionJob Reply → Type 0
 AsksPlan m request asked = (answer : Result Plan PlanFault) × Plans m.settled request answer × (asked ≡ job_of_plan m answer)
 
 -- endpoints are picked, and a plan for them is sought
-abbrev pub AsksPlanOver : Machine → Create → Result (List ℕ) PickRefusal → Result RegionJob Reply → Type 0
+abbrev pub AsksPlanOver : Machine → Create → Result (List ℕ) PickFault → Result RegionJob Reply → Type 0
 AsksPlanOver m create (Ok endpoints) asked = AsksPlan m (request_for create endpoints) asked
 AsksPlanOver m create (Err refusal) asked = asked ≡ Err (pick_reply refusal)
 
 abbrev pub AsksPick : Machine → Create → ℕ → Result RegionJob Reply → Type 0
-AsksPick m create ways asked = (answer : Result (List ℕ) PickRefusal) × Picks m.settled (want_of create ways) answer × AsksPlanOver m create answer asked
+AsksPick m create ways asked = (answer : Result (List ℕ) PickFault) × Picks m.settled (want_of create ways) answer × AsksPlanOver m create answer asked
 
 abbrev pub AsksUnrefused : Machine → Create → Option ℕ → Result RegionJob Reply → Type 0
 AsksUnrefused m create None asked = AsksPlan m (request_of m create) asked

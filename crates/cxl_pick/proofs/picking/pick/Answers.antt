@@ -1,6 +1,7 @@
 use Rattle.std.proofs.Common.{sym, ◌∙◌}
 use Rattle.cxl_model.specs.System.{System, system_of}
 use Rattle.cxl_pick.specs.declared.want.Want.{Want}
+use Rattle.cxl_pick.specs.declared.fault.PickFault.TheVariants as faults
 use Rattle.cxl_pick.proofs.Parts.{named}
 use Rattle.cxl_pick.proofs.Picks.{Settled, picked_of, fits_first, nothing_fits}
 use Rattle.cxl_pick.proofs.picking.pick.Goals as goal
@@ -92,3 +93,21 @@ returns-in-Ok-None-clause-none c = λ told.
     } in
     let own = rw c.in-Ok-None.field-0-is at c.in-Ok-None.ensures in
     c.fitting_sets_have_plans.ensures.none s want settled.system settled.ports settled.accepted (nothing_fits s want settled own)
+
+pub returns-in-Ok-Some-clause-answer : goal.returns-in-Ok-Some-clause-answer
+returns-in-Ok-Some-clause-answer c =
+    let s : System = system_of c.args.image.now c.args.topo.now c.args.windows.now in
+    let want : Want = c.args.want.now in
+    let ways = sym c.has_known_ways.ensures ∙ c.if-not-has_known_ways.false in
+    let size = c.has_size.ensures.0 c.if-not-has_size.false in
+    let own = rw c.in-Ok-Some.field-0-is at c.in-Ok-Some.ensures in
+    c.wants_come_to_answers.ensures.set s want own.0 c.in-Ok-Some.set.items c.settle.ensures.system ways size own.1
+
+pub returns-in-Ok-None-clause-refusal : goal.returns-in-Ok-None-clause-refusal
+returns-in-Ok-None-clause-refusal c = λ real.
+    let s : System = system_of c.args.image.now c.args.topo.now c.args.windows.now in
+    let want : Want = c.args.want.now in
+    let ways = sym c.has_known_ways.ensures ∙ c.if-not-has_known_ways.false in
+    let size = c.has_size.ensures.0 c.if-not-has_size.false in
+    let own = rw c.in-Ok-None.field-0-is at c.in-Ok-None.ensures in
+    c.wants_come_to_answers.ensures.fault s want faults.NoSet (ways, size, own) real

@@ -1,5 +1,6 @@
-use Rattle.cxl_model.specs.System.{System, IsSystem, system_of}
-use Rattle.cxl_plan.proofs.LegalAnswers.{legal_answer, least_answer, no_plan, no_plan_answer}
+use Rattle.std.proofs.Common.{sym}
+use Rattle.cxl_model.specs.System.{IsSystem, system_of}
+use Rattle.cxl_plan.proofs.LegalAnswers.{legal_answer, least_answer, no_plan, no_plan_answer, computed_answer}
 use Rattle.cxl_plan.proofs.planning.plan.Goals as goal
 
 pub returns-in-Some-clause-fault : goal.returns-in-Some-clause-fault
@@ -35,3 +36,16 @@ returns-clause-least c =
     let laws = c.legal_plans_fit.ensures in
     least_answer s c.args.request.now system c.ports_are_bytes.ensures c.requires.accepted c.requires.named laws.endpoints laws.window laws.base
     c.plan_ready.result c.plan_ready.ensures.plan
+
+pub returns-in-Some-clause-answer : goal.returns-in-Some-clause-answer
+returns-in-Some-clause-answer c not_memory =
+    let s = system_of c.args.image.now c.args.topo.now c.args.windows.now in
+    let system : IsSystem s = record { tree = c.count-count.ensures.tree; blocks = (c.count-blocks.ensures.image).each; caps = c.requires.caps; made = c.requires.made } in
+    sym (c.requests_come_to_answers.ensures.fault s c.args.request.now c.in-Some.fault system c.requires.named (c.in-Some.ensures.some s))
+
+pub returns-clause-answer : goal.returns-clause-answer
+returns-clause-answer c not_memory =
+    let s = system_of c.args.image.now c.args.topo.now c.args.windows.now in
+    let system : IsSystem s = record { tree = c.count-count.ensures.tree; blocks = (c.count-blocks.ensures.image).each; caps = c.requires.caps; made = c.requires.made } in
+    computed_answer s c.args.request.now system c.ports_are_bytes.ensures c.requires.accepted c.requires.named c.requests_come_to_answers.ensures.plan c.requests_come_to_answers.ensures.fault
+    c.plan_ready.result c.plan_ready.ensures.endpoints c.plan_ready.ensures.plan c.plan_ready.ensures.fault not_memory

@@ -1,4 +1,5 @@
 use Rattle.std.proofs.Common.{refl, Ok, arith, [], ◌∷◌}
+use Rattle.cxl_pick.specs.Picking.{gives_within}
 use Rattle.cxl_session.specs.Jobs.{create_job}
 use Rattle.cxl_session.specs.Examples.{reset_system, plan_r0, plan_b, job_b}
 use Rattle.cxl_session.proofs.examples.creates_on_examples.Goals as goal
@@ -16,4 +17,5 @@ pub returns-clause-pending : goal.returns-clause-pending
 returns-clause-pending c = (Ok (create_job reset_system plan_r0), (Ok plan_r0, refl, refl), (record { some = omega arith; part = omega arith }, refl))
 
 pub returns-clause-picked : goal.returns-clause-picked
+unfolding gives_within
 returns-clause-picked c = (Ok (create_job reset_system plan_r0), (Ok (2 ∷ 3 ∷ []), refl, (Ok plan_r0, refl, refl)), refl)

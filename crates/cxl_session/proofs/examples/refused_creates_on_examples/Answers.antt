@@ -1,7 +1,8 @@
 use Rattle.std.proofs.Common.{refl, Err}
 use Rattle.cxl_model.specs.declared.plan.PlanFault.TheVariants as faults
+use Rattle.cxl_pick.specs.Picking.{gives_within}
+use Rattle.cxl_pick.specs.declared.fault.PickFault.TheVariants as picks
 use Rattle.cxl_reply.specs.declared.reply.Reply.TheVariants as replies
-use Rattle.cxl_session.specs.Elsewhere.{NoWays, NoSize, NoSet}
 use Rattle.cxl_session.specs.Examples.{r0, b, hb0}
 use Rattle.cxl_session.proofs.examples.refused_creates_on_examples.Goals as goal
 
@@ -21,10 +22,11 @@ pub returns-clause-plan_fault : goal.returns-clause-plan_fault
 returns-clause-plan_fault c = (Err (replies.Refused faults.Size), (Err faults.Size, refl, refl), record { unfailing = refl; told = refl })
 
 pub returns-clause-pick_ways : goal.returns-clause-pick_ways
-returns-clause-pick_ways c = (Err (replies.Refused (faults.Ways 5)), (Err (NoWays 5), refl, refl), record { unfailing = refl; told = refl })
+returns-clause-pick_ways c = (Err (replies.Refused (faults.Ways 5)), (Err (picks.Ways 5), refl, refl), record { unfailing = refl; told = refl })
 
 pub returns-clause-pick_size : goal.returns-clause-pick_size
-returns-clause-pick_size c = (Err (replies.Refused faults.Size), (Err NoSize, refl, refl), record { unfailing = refl; told = refl })
+returns-clause-pick_size c = (Err (replies.Refused faults.Size), (Err picks.Size, refl, refl), record { unfailing = refl; told = refl })
 
 pub returns-clause-no_set : goal.returns-clause-no_set
-returns-clause-no_set c = (Err replies.NoSet, (Err NoSet, refl, refl), record { unfailing = refl; told = refl })
+unfolding gives_within
+returns-clause-no_set c = (Err replies.NoSet, (Err picks.NoSet, refl, refl), record { unfailing = refl; told = refl })
