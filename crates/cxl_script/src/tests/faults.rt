@@ -23,42 +23,42 @@ fn verbs(rt: HostRuntime) {
     }
 }
 
-/// A word is missing at the end of the line.
+/// A word is missing at the end of the line, whatever blanks stand there.
 #[test]
 fn missing_words(rt: HostRuntime) {
-    let lines = [
-        "create",
-        "create r0  ",
-        "create r0 ram",
-        "create r0 ram 1",
-        "create r0 ram 1 gran=256",
-        "destroy",
-        "show\t",
-        "down",
-        "up",
-        "up e0",
-        "load",
-        "load 0",
-        "store",
-        "store 0",
-        "poison",
-        "poison e0",
-        "begin",
-        "begin create",
-        "begin create r0 ram 1",
-        "begin destroy",
-        "step",
-        "range",
-        "range 0",
-        "spread",
-        "spread 0 ",
-        "copy",
-        "copy r0",
-        "move",
-        "move r0",
+    let rows = [
+        ("create", 6, Why::Missing),
+        ("create r0  ", 11, Why::Missing),
+        ("create r0 ram", 13, Why::Missing),
+        ("create r0 ram 1", 15, Why::Missing),
+        ("create r0 ram 1 gran=256", 24, Why::Missing),
+        ("destroy", 7, Why::Missing),
+        ("show\t", 5, Why::Missing),
+        ("down", 4, Why::Missing),
+        ("up", 2, Why::Missing),
+        ("up e0", 5, Why::Missing),
+        ("load", 4, Why::Missing),
+        ("load 0", 6, Why::Missing),
+        ("store", 5, Why::Missing),
+        ("store 0", 7, Why::Missing),
+        ("poison", 6, Why::Missing),
+        ("poison e0", 9, Why::Missing),
+        ("begin", 5, Why::Missing),
+        ("begin create", 12, Why::Missing),
+        ("begin create r0 ram 1", 21, Why::Missing),
+        ("begin destroy", 13, Why::Missing),
+        ("step", 4, Why::Missing),
+        ("range", 5, Why::Missing),
+        ("range 0", 7, Why::Missing),
+        ("spread", 6, Why::Missing),
+        ("spread 0 ", 9, Why::Missing),
+        ("copy", 4, Why::Missing),
+        ("copy r0", 7, Why::Missing),
+        ("move", 4, Why::Missing),
+        ("move r0", 7, Why::Missing),
     ];
-    for line in lines {
-        is_bad(&rt, line, line.len() as u32, Why::Missing);
+    for (line, at, why) in rows {
+        is_bad(&rt, line, at, why);
     }
 }
 
