@@ -1,6 +1,6 @@
-use Rattle.std.proofs.Common.{Err, sym, subst, inl, inr}
+use Rattle.std.proofs.Common.{subst}
 use Rattle.cxl_script.specs.Reading.{IsUnlessMemory}
-use Rattle.cxl_script.proofs.HexBytes.{word_as_bytes-decoded, word_as_bytes-undecoded, undecoded-is}
+use Rattle.cxl_script.proofs.HexBytes.{word_as_bytes-decoded, undecoded-is}
 use Rattle.cxl_script.proofs.reading.word_as_bytes.Goals as goal
 
 pub returns-in-Ok : goal.returns-in-Ok
