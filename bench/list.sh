@@ -2,9 +2,7 @@
 # Times `list` and `normal` on a table of 1 MiB: 64 bridges, 64 windows, 64 CXIMS, and records of 4 bytes in the rest.
 # The program is proved and built first where it is not.
 set -eu
-top="$(cd "$(dirname "${BASH_SOURCE[0]}")/.." && pwd)"
-work="$(mktemp -d)"
-trap 'rm -rf "$work"' EXIT
+source "$(dirname "${BASH_SOURCE[0]}")/common.sh"
 table="$work/large.cedt"
 
 # number VALUE WIDTH: the value in so many bytes, lowest first

@@ -7,7 +7,7 @@
 # It proves and builds a program of its own in a folder that it makes and takes away again. README.md says what the
 # columns mean.
 set -euo pipefail
-top="$(cd "$(dirname "${BASH_SOURCE[0]}")/.." && pwd)"
+source "$(dirname "${BASH_SOURCE[0]}")/common.sh"
 [[ $# -gt 0 ]] || set -- 65536 1048576
 for frames in "$@"; do
     if [[ ! "$frames" =~ ^[1-9][0-9]{2,6}$ ]] || ((frames > 1048576)); then
@@ -15,21 +15,7 @@ for frames in "$@"; do
         exit 2
     fi
 done
-work="$(mktemp -d)"
-trap 'rm -rf "$work"' EXIT
-program="$work/crates/media_bench"
-
-mkdir -p "$program/src"
-touch "$program/stdin" "$program/stdout"
-cp "$top/HANDLES" "$work/"
-for crate in cxl_enc cxl_pool cxl_media; do
-    mkdir "$work/crates/$crate"
-    for part in src specs proofs; do
-        [[ ! -d "$top/crates/$crate/$part" ]] || cp -r "$top/crates/$crate/$part" "$work/crates/$crate/"
-    done
-    grep "^$crate:" "$top/crates.txt" >>"$work/crates.txt"
-done
-echo "media_bench: cxl_media" >>"$work/crates.txt"
+begin_program media_bench "cxl_media" cxl_enc cxl_pool cxl_media
 
 cat >"$program/src/main.rt" <<'END'
 //! Times puts, gets and scrubs of the shipped media at a number of frames that the first word gives.
@@ -302,11 +288,7 @@ for words in scrubs:
 print()
 END
 
-echo "media.sh: proving and building a program, which takes some minutes" >&2
-if ! (cd "$program" && rt run -- 0) >"$work/log" 2>&1 </dev/null; then
-    cat "$work/log" >&2
-    exit 1
-fi
+build_program 0
 for frames in "$@"; do
     "$program/out/media_bench" "$frames" | python3 "$work/join.py"
 done

@@ -11,9 +11,7 @@ if [[ ! "${1:-10}" =~ ^[1-9][0-9]*$ ]]; then
     echo "route.sh: $1 is no number of runs" >&2
     exit 2
 fi
-top="$(cd "$(dirname "${BASH_SOURCE[0]}")/.." && pwd)"
-work="$(mktemp -d)"
-trap 'rm -rf "$work"' EXIT
+source "$(dirname "${BASH_SOURCE[0]}")/common.sh"
 "$top/cxlplan" --version >"$work/version"
 
 cat >"$work/route.py" <<'END'

@@ -6,27 +6,13 @@
 # It makes a script of 16 MiB of loads and stores, proves and builds a program of its own in a folder that it makes and
 # takes away again, and runs both over the script. README.md says what the columns mean.
 set -euo pipefail
-top="$(cd "$(dirname "${BASH_SOURCE[0]}")/.." && pwd)"
+source "$(dirname "${BASH_SOURCE[0]}")/common.sh"
 rounds="${1:-3}"
 if [[ ! "$rounds" =~ ^[1-9][0-9]?$ ]]; then
     echo "script.sh: $rounds is no number of rounds from 1 to 99" >&2
     exit 2
 fi
-work="$(mktemp -d)"
-trap 'rm -rf "$work"' EXIT
-program="$work/crates/script_bench"
-
-mkdir -p "$program/src"
-touch "$program/stdin" "$program/stdout"
-cp "$top/HANDLES" "$work/"
-for crate in cxl_enc cxl_io cxl_script; do
-    mkdir "$work/crates/$crate"
-    for part in src specs proofs; do
-        [[ ! -d "$top/crates/$crate/$part" ]] || cp -r "$top/crates/$crate/$part" "$work/crates/$crate/"
-    done
-    grep "^$crate:" "$top/crates.txt" >>"$work/crates.txt"
-done
-echo "script_bench: cxl_script cxl_io cxl_enc" >>"$work/crates.txt"
+begin_program script_bench "cxl_script cxl_io cxl_enc" cxl_enc cxl_io cxl_script
 
 cat >"$program/src/main.rt" <<'END'
 //! Cuts standard input into lines, reads each as a command, and counts what the lines ask for.
@@ -107,11 +93,7 @@ with open(sys.argv[1], "w") as script:
         script.write(line)
 END
 
-echo "script.sh: proving and building a program, which takes some minutes" >&2
-if ! (cd "$program" && rt run) >"$work/log" 2>&1 </dev/null; then
-    cat "$work/log" >&2
-    exit 1
-fi
+build_program
 loads="$(grep -c ^load "$work/script")"
 stores="$(grep -c ^store "$work/script")"
 said="$("$program/out/script_bench" <"$work/script")"

@@ -7,27 +7,15 @@
 # It proves and builds a program of its own in a folder that it makes and takes away again. Each answer is compared with
 # one that the program works out by a division of the whole offset. README.md says what the columns mean.
 set -euo pipefail
-top="$(cd "$(dirname "${BASH_SOURCE[0]}")/.." && pwd)"
+source "$(dirname "${BASH_SOURCE[0]}")/common.sh"
 calls="${1:-1000000}"
 if [[ ! "$calls" =~ ^[1-9][0-9]{3,7}$ ]] || ((calls > 10000000)); then
     echo "walk.sh: $calls is no number of calls from 1000 to 10000000" >&2
     exit 2
 fi
-work="$(mktemp -d)"
-trap 'rm -rf "$work"' EXIT
-program="$work/crates/walk_bench"
-
-mkdir -p "$program/src" "$program/specs" "$program/proofs/commit" "$program/proofs/commit_all" "$program/proofs/kept_of"
-touch "$program/stdin" "$program/stdout"
-cp "$top/HANDLES" "$work/"
-for crate in cxl_enc cxl_num cxl_cedt cxl_window cxl_deal cxl_topo cxl_regs cxl_span cxl_image cxl_model cxl_walk cxl_check; do
-    mkdir "$work/crates/$crate"
-    for part in src specs proofs; do
-        [[ ! -d "$top/crates/$crate/$part" ]] || cp -r "$top/crates/$crate/$part" "$work/crates/$crate/"
-    done
-    grep "^$crate:" "$top/crates.txt" >>"$work/crates.txt"
-done
-echo "walk_bench: cxl_check cxl_walk cxl_model cxl_image cxl_window cxl_cedt cxl_topo cxl_enc" >>"$work/crates.txt"
+begin_program walk_bench "cxl_check cxl_walk cxl_model cxl_image cxl_window cxl_cedt cxl_topo cxl_enc" \
+    cxl_enc cxl_num cxl_cedt cxl_window cxl_deal cxl_topo cxl_regs cxl_span cxl_image cxl_model cxl_walk cxl_check
+mkdir -p "$program/specs" "$program/proofs/commit" "$program/proofs/commit_all" "$program/proofs/kept_of"
 
 cat >"$program/src/main.rt" <<'END'
 //! Times `down`, `up` and `Kept::route` over a region of sixteen ways below five levels of ports, as many calls of
@@ -400,11 +388,7 @@ kept_in-requires-clause-region c =
     (subst (λ (xs : List Found). All (IsRegion s) xs) (sym c.deref-region-items.ensures.value) c.in-Ok.ensures.regions.listed.each)))
 END
 
-echo "walk.sh: proving and building a program, which takes some minutes" >&2
-if ! (cd "$program" && rt run -- 0) >"$work/log" 2>&1 </dev/null; then
-    cat "$work/log" >&2
-    exit 1
-fi
+build_program 0
 printf '%12s %12s %12s %12s %12s\n' calls "plain ns" "down ns" "up ns" "kept ns"
 "$program/out/walk_bench" "$calls" | while read -r calls plain down up kept wrong; do
     if [[ "$wrong" != "0 0 0 0" ]]; then

@@ -45,12 +45,12 @@ abbrev pub word_text : ℕ → List ℕ
 word_text word = padded_hex word 8
 
 -- a decoder's seven words, eight digits each
-abbrev pub words_text : List ℕ → List ℕ
-words_text words = spaced (map word_text words)
+abbrev pub shown_words_text : List ℕ → List ℕ
+shown_words_text words = spaced (map word_text words)
 
 abbrev pub row_text : List Node → ShownRow → List ℕ
 row_text nodes row =
-    line (codes "node " ++ node_text nodes row.node ++ codes " " ++ decimal row.decoder ++ codes " " ++ words_text row.words)
+    line (codes "node " ++ node_text nodes row.node ++ codes " " ++ decimal row.decoder ++ codes " " ++ shown_words_text row.words)
 
 -- a slot with its endpoint and the start of its span
 abbrev pub slot_text : List Node → ℕ × Place → List ℕ

@@ -1,7 +1,7 @@
 ghost use Rattle.std.specs.Prelude.{◌≡◌, ◌<◌, ◌≤◌, ◌++◌, All, length, map, OnOk, OnErr};
 ghost use Rattle.std.specs.List.{flat_map, enumerate_from};
 ghost use Rattle.cxl_reply.specs.Words.{more_spaced};
-ghost use Rattle.cxl_reply.specs.Texts.{shown_head_text, layout_text, row_text, word_text, words_text, slot_text, slots_text, shown_text};
+ghost use Rattle.cxl_reply.specs.Texts.{shown_head_text, layout_text, row_text, word_text, shown_words_text, slot_text, slots_text, shown_text};
 ghost use Rattle.cxl_reply.specs.Told.{IsToldFound, IsToldShown};
 
 use crate::short_text::ShortText;
@@ -73,7 +73,7 @@ fn put_row(row: &ShownRow, topo: &Topo, out: &mut Vec<u8>) -> Result<(), Memory>
 
 /// Appends words of eight hexadecimal digits, with spaces between.
 fn put_words(words: &[u32], out: &mut Vec<u8>) -> Result<(), Memory>
-    ensures { OnOk result (out.new.items ≡ out.old.items ++ words_text words.now) }
+    ensures { OnOk result (out.new.items ≡ out.old.items ++ shown_words_text words.now) }
 {
     match words {
         [] => Ok(()),

@@ -10,6 +10,7 @@ use std::alloc::Global;
 use std::process::Abort;
 use std::test::Fail;
 
+mod poison;
 mod regions;
 
 fn name(text: &str) -> Result<Name, Fail> {
@@ -64,7 +65,7 @@ fn topology(alloc: Global) -> Result<Topo, Fail>
 }
 
 /// The reply's text is appended to what is there.
-fn prints(alloc: Global, rt: &impl Abort, topo: &Topo, reply: &Reply, want: &str)
+fn is_put(alloc: Global, rt: &impl Abort, topo: &Topo, reply: &Reply, want: &str)
     requires { IsTold topo.now.nodes reply.now }
 {
     let mut text = Vec::from_slice(alloc, b"> ").expect(rt, "memory");
@@ -72,10 +73,21 @@ fn prints(alloc: Global, rt: &impl Abort, topo: &Topo, reply: &Reply, want: &str
     assert_eq!(rt; text.strip_prefix(b"> ".as_slice()), Some(want.as_bytes()));
 }
 
-/// The reply has a short text, which is also its text.
-fn tells(rt: &impl Abort, reply: &Reply, want: &str)
-    requires { HasKnownCode reply.now }
+/// The reply has this text, and no short one.
+fn prints(alloc: Global, rt: &impl Abort, topo: &Topo, reply: &Reply, want: &str)
+    requires told { IsTold topo.now.nodes reply.now }
+    requires code { HasKnownCode reply.now }
 {
+    is_put(alloc, rt, topo, reply, want);
+    assert!(rt; short(reply).is_none());
+}
+
+/// The reply has this text, which is its short one, too.
+fn tells(alloc: Global, rt: &impl Abort, topo: &Topo, reply: &Reply, want: &str)
+    requires told { IsTold topo.now.nodes reply.now }
+    requires code { HasKnownCode reply.now }
+{
+    is_put(alloc, rt, topo, reply, want);
     let text = short(reply).expect(rt, "a short text");
     assert_eq!(rt; text.bytes(), want.as_bytes());
 }
@@ -94,21 +106,20 @@ fn short_replies(rt: HostRuntime) -> Result<(), Fail> {
         ways: 2,
     });
     let want = "created r0 window 0 base 0x100000000 size 0x20000000 gran 256 ways 2\n";
-    tells(&rt, &created, want);
-    prints(alloc, &rt, &topo, &created, want);
-    tells(&rt, &Reply::Destroyed(r0), "destroyed r0\n");
-    tells(&rt, &Reply::Stored(4), "stored 4\n");
-    let begun = Begun {
+    tells(alloc, &rt, &topo, &created, want);
+    tells(alloc, &rt, &topo, &Reply::Destroyed(r0), "destroyed r0\n");
+    tells(alloc, &rt, &topo, &Reply::Stored(4), "stored 4\n");
+    let begun = Reply::Begun(Begun {
         name: r0,
         writes: 32,
-    };
-    tells(&rt, &Reply::Begun(begun), "begun r0 writes 32\n");
-    let progress = Progress {
+    });
+    tells(alloc, &rt, &topo, &begun, "begun r0 writes 32\n");
+    let stepped = Reply::Stepped(Progress {
         done: 24,
         total: 32,
-    };
-    tells(&rt, &Reply::Stepped(progress), "stepped 24 of 32\n");
-    tells(&rt, &Reply::Aborted(r0), "aborted r0\n");
+    });
+    tells(alloc, &rt, &topo, &stepped, "stepped 24 of 32\n");
+    tells(alloc, &rt, &topo, &Reply::Aborted(r0), "aborted r0\n");
     Ok(())
 }
 
@@ -122,27 +133,27 @@ fn carried(from: Name, to: Name) -> Carried {
 
 #[test]
 fn more_short_replies(rt: HostRuntime) -> Result<(), Fail> {
+    let alloc = rt.alloc();
+    let topo = topology(alloc)?;
     let from = name("r0")?;
     let to = name("abcdefghijklmno")?;
-    tells(
-        &rt,
-        &Reply::Copied(carried(from, to)),
-        "copied r0 abcdefghijklmno pieces 1\n",
-    );
-    tells(
-        &rt,
-        &Reply::Moved(carried(from, to)),
-        "moved r0 abcdefghijklmno pieces 1\n",
-    );
-    tells(&rt, &Reply::BusUndone, "bus fault undone\n");
-    let pending = Pending {
+    let copied = Reply::Copied(carried(from, to));
+    let want = "copied r0 abcdefghijklmno pieces 1\n";
+    tells(alloc, &rt, &topo, &copied, want);
+    let moved = Reply::Moved(carried(from, to));
+    let want = "moved r0 abcdefghijklmno pieces 1\n";
+    tells(alloc, &rt, &topo, &moved, want);
+    tells(alloc, &rt, &topo, &Reply::BusUndone, "bus fault undone\n");
+    let pending = Reply::BusPending(Pending {
         name: from,
         done: 2,
         total: 32,
-    };
+    });
     tells(
+        alloc,
         &rt,
-        &Reply::BusPending(pending),
+        &topo,
+        &pending,
         "bus fault pending r0 2 of 32\n",
     );
     // The longest short text.
@@ -156,8 +167,7 @@ fn more_short_replies(rt: HostRuntime) -> Result<(), Fail> {
     });
     let want =
         "created abcdefghijklmno window 4294967295 base 0xffffffffffffffff size 0xffffffffffffffff gran 16384 ways 255\n";
-    tells(&rt, &longest, want);
-    assert!(rt; short(&Reply::BusRead).is_none());
+    tells(alloc, &rt, &topo, &longest, want);
     Ok(())
 }
 

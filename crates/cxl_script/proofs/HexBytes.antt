@@ -10,7 +10,7 @@ use Rattle.hex.specs.declared.error.FromHexError.TheVariants.{OddLength, OutOfMe
 use Rattle.cxl_script.specs.declared.fault.LineFault.{LineFault}
 use Rattle.cxl_script.specs.declared.fault.LineFault.TheVariants as faults
 use Rattle.cxl_script.specs.declared.fault.Why.TheVariants as whys
-use Rattle.cxl_script.specs.Reading.{is_hex, hex_bytes, few_bytes, bytes_of, bad, IsUnlessMemory}
+use Rattle.cxl_script.specs.Reading.{is_hex, hex_bytes, few_bytes, word_as_bytes, bad, IsUnlessMemory}
 
 digit_as : (c : ℕ) → MatchOption (hex_digit_value c) (is_digit c 16 ≡ false) (λ v. (is_digit c 16 ≡ true) × (v ≡ digit_value c))
 digit_as c =
@@ -83,21 +83,21 @@ decoded digits = decoded_where digits (length digits % 2 == 1) refl
 
 -- what a word's digits come to
 module _ (most at : ℕ) (text : List ℕ) where
-  pub bytes_of-decoded : (bytes : List ℕ) → decode_of text ≡ Ok bytes → few_bytes at most bytes ≡ bytes_of most (record { at = at; text = text })
-  bytes_of-decoded bytes e =
+  pub word_as_bytes-decoded : (bytes : List ℕ) → decode_of text ≡ Ok bytes → few_bytes at most bytes ≡ word_as_bytes most (record { at = at; text = text })
+  word_as_bytes-decoded bytes e =
       let read : IsDecoded text (Ok bytes) = subst (IsDecoded text) e (decoded text) in
       sym (ap (λ (t : Bool). cond t (few_bytes at most (hex_bytes text)) (bad at whys.Hex)) read.0 ∙ ap (few_bytes at most) read.1)
 
-  pub bytes_of-undecoded : (fault : FromHexError) → decode_of text ≡ Err fault → bytes_of most (record { at = at; text = text }) ≡ Err (record { at = at; why = whys.Hex })
-  bytes_of-undecoded fault e =
+  pub word_as_bytes-undecoded : (fault : FromHexError) → decode_of text ≡ Err fault → word_as_bytes most (record { at = at; text = text }) ≡ Err (record { at = at; why = whys.Hex })
+  word_as_bytes-undecoded fault e =
       let read : is_hex text ≡ false = subst (IsDecoded text) e (decoded text) in
       ap (λ (t : Bool). cond t (few_bytes at most (hex_bytes text)) (bad at whys.Hex)) read
 
   pub undecoded-is : (fault : FromHexError) (answer : LineFault) → (fault ≡ OutOfMemory) ⊎ (decode_of text ≡ Err fault)
       → ((fault ≡ OutOfMemory) × (answer ≡ faults.Memory)) ⊎ ((fault ≡ OutOfMemory → ⊥) × (answer ≡ faults.Bad (record { at = at; why = whys.Hex })))
-      → IsUnlessMemory {A = List ℕ} (Err answer) (bytes_of most (record { at = at; text = text }))
+      → IsUnlessMemory {A = List ℕ} (Err answer) (word_as_bytes most (record { at = at; text = text }))
   undecoded-is fault answer cause (inl memory) =
-      subst (λ (a : LineFault). IsUnlessMemory {A = List ℕ} (Err a) (bytes_of most (record { at = at; text = text }))) (sym memory.1) tt
+      subst (λ (a : LineFault). IsUnlessMemory {A = List ℕ} (Err a) (word_as_bytes most (record { at = at; text = text }))) (sym memory.1) tt
   undecoded-is fault answer (inl memory) (inr hex) = absurd (hex.0 memory)
   undecoded-is fault answer (inr e) (inr hex) =
-      subst (λ (a : LineFault). IsUnlessMemory {A = List ℕ} (Err a) (bytes_of most (record { at = at; text = text }))) (sym hex.1) (bytes_of-undecoded fault e)
+      subst (λ (a : LineFault). IsUnlessMemory {A = List ℕ} (Err a) (word_as_bytes most (record { at = at; text = text }))) (sym hex.1) (word_as_bytes-undecoded fault e)

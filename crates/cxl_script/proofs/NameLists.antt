@@ -3,7 +3,7 @@ use Rattle.std.proofs.Common.{◌≡◌, ℕ, Bool, true, false, cond, List, [],
 use Rattle.cxl_script.specs.declared.fault.BadLine.{BadLine}
 use Rattle.cxl_script.specs.declared.fault.Why.TheVariants as whys
 use Rattle.cxl_script.specs.Words.{Word}
-use Rattle.cxl_script.specs.Reading.{is_name, name_of, bad}
+use Rattle.cxl_script.specs.Reading.{is_name, word_as_name, bad}
 use Rattle.cxl_script.specs.Grammar.{name_onto, names_in}
 
 -- names in front of those that are read
@@ -21,7 +21,7 @@ next_name at text name rest true e = let same : text ≡ name = cc in ap (λ n. 
 next_name at text name rest false e = cc
 
 -- one name more
-pub one_more : (all : Result (List (List ℕ)) BadLine) (front : List (List ℕ)) (at : ℕ) (text name : List ℕ) (words rest : List Word) → all ≡ behind_names front (names_in words) → words ≡ record { at = at; text = text } ∷ rest → name_of (record { at = at; text = text }) ≡ Ok name → all ≡ behind_names (front ++ name ∷ []) (names_in rest)
+pub one_more : (all : Result (List (List ℕ)) BadLine) (front : List (List ℕ)) (at : ℕ) (text name : List ℕ) (words rest : List Word) → all ≡ behind_names front (names_in words) → words ≡ record { at = at; text = text } ∷ rest → word_as_name (record { at = at; text = text }) ≡ Ok name → all ≡ behind_names (front ++ name ∷ []) (names_in rest)
 one_more all front at text name words rest so_far next e =
     so_far ∙ ap (λ ws. behind_names front (names_in ws)) next
     ∙ ap (behind_names front) (next_name at text name rest (is_name text) e) ∙ behind_names-push front name (names_in rest)

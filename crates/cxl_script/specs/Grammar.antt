@@ -19,9 +19,9 @@ use Rattle.cxl_script.specs.declared.fault.BadLine.{BadLine}
 use Rattle.cxl_script.specs.declared.fault.Why.TheVariants as whys
 use Rattle.cxl_script.specs.declared.verb.Verb.{Verb}
 use Rattle.cxl_script.specs.declared.verb.Verb.TheVariants as verbs
-use Rattle.cxl_script.specs.Words.{Word, words_of}
+use Rattle.cxl_script.specs.Words.{Word, line_words}
 use Rattle.cxl_script.specs.Verbs.{verb_of}
-use Rattle.cxl_script.specs.Reading.{Read, ◌>>=◌, bad, word_in, ends, name_in, kind_in, behind, ranged, with_rest, number_in, address_in, bytes_in, is_name}
+use Rattle.cxl_script.specs.Reading.{Read, ◌>>=◌, bad, next_word_in, ends, name_in, kind_in, behind, ranged, with_rest, ranged_in, address_in, hex_bytes_in, is_name}
 
 -- the most bytes of a load or a store, of a range and of a spread, and the most steps of one line
 abbrev pub access_limit : ℕ
@@ -89,7 +89,7 @@ over_names head (Err fault) = Err fault
 
 -- one endpoint or more
 abbrev pub some_names_in : ℕ → List Word → Result (List (List ℕ)) BadLine
-some_names_in len words = word_in len words >>= λ first. names_in words
+some_names_in len words = next_word_in len words >>= λ first. names_in words
 
 abbrev pub over_read : ℕ → Head → List Word → Option (Word × List Word) → Result Create BadLine
 over_read len head words None = over_names head (some_names_in len words)
@@ -119,30 +119,30 @@ up_in len words = do
 abbrev pub load_in : ℕ → List Word → Result Load BadLine
 load_in len words = do
   h ← address_in len words
-  bytes ← number_in 1 access_limit len h.1
+  bytes ← ranged_in 1 access_limit len h.1
   ends (record { h = h.0; len = bytes.0 }) bytes.1
 
 abbrev pub store_in : ℕ → List Word → Result Store BadLine
 store_in len words = do
   h ← address_in len words
-  bytes ← bytes_in access_limit len h.1
+  bytes ← hex_bytes_in access_limit len h.1
   ends (record { h = h.0; bytes = bytes.0 }) bytes.1
 
 -- a line has no room for more bytes than these
 abbrev pub poison_in : ℕ → List Word → Result Poison BadLine
 poison_in len words = do
   endpoint ← name_in len words
-  bytes ← bytes_in line_limit len endpoint.1
+  bytes ← hex_bytes_in line_limit len endpoint.1
   ends (record { endpoint = endpoint.0; bytes = bytes.0 }) bytes.1
 
 abbrev pub step_in : ℕ → List Word → Result ℕ BadLine
-step_in len words = number_in 1 step_limit len words >>= λ n. ends n.0 n.1
+step_in len words = ranged_in 1 step_limit len words >>= λ n. ends n.0 n.1
 
 -- an address and a number of bytes, from one to so many
 abbrev pub reach_in : ℕ → ℕ → List Word → Result Reach BadLine
 reach_in most len words = do
   h ← address_in len words
-  bytes ← number_in 1 most len h.1
+  bytes ← ranged_in 1 most len h.1
   ends (record { h = h.0; len = bytes.0 }) bytes.1
 
 abbrev pub pair_in : ℕ → List Word → Result Pair BadLine
@@ -164,7 +164,7 @@ begin_of (Some verbs.Destroy) at len words = as_command commands.BeginDestroy (o
 begin_of other at len words = bad at whys.Verb
 
 abbrev pub begin_in : ℕ → List Word → Result Command BadLine
-begin_in len words = word_in len words >>= λ word. begin_of (verb_of word.0.text) word.0.at len word.1
+begin_in len words = next_word_in len words >>= λ word. begin_of (verb_of word.0.text) word.0.at len word.1
 
 -- what a verb asks for with the words behind it
 abbrev pub asked_of : Verb → ℕ → List Word → Result Command BadLine
@@ -209,4 +209,4 @@ asked_by len (verb ∷ words) = if begins_comment verb.text then Ok None else so
 -- what a line asks for: nothing, a command, or its first fault
 abbrev pub asked_in : List ℕ → Result (Option Command) BadLine
 asked_in line =
-    if nat_lt line_limit (length line) then bad line_limit whys.Long else asked_by (length line) (words_of line)
+    if nat_lt line_limit (length line) then bad line_limit whys.Long else asked_by (length line) (line_words line)

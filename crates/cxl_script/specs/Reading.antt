@@ -1,5 +1,5 @@
 -- What is read from the words of a line, one after the other, up to the first fault (this project's grammar).
-use Rattle.std.specs.Prelude.{ℕ, ◌+◌, ◌*◌, ◌/◌, ◌%◌, ◌==◌, nat_lt, nat_le, ◌&&◌, not, Bool, if◌then◌else◌, List, [], ◌∷◌, length, drop, codes, nat_eq, Option, Some, None, Result, Ok, Err, ◌≡◌}
+use Rattle.std.specs.Prelude.{ℕ, ◌+◌, ◌*◌, ◌%◌, ◌==◌, nat_lt, nat_le, ◌&&◌, Bool, if◌then◌else◌, List, [], ◌∷◌, length, drop, codes, nat_eq, Option, Some, None, Result, Ok, Err, ◌≡◌}
 use Rattle.std.specs.List.{list_all, starts_with}
 use Rattle.std.specs.Str.{bytes_eq}
 use Rattle.std.specs.Char.{digit_value, is_digit}
@@ -30,15 +30,15 @@ bad at why = Err (record { at = at; why = why })
 -- ---- what a call gives of it
 
 -- the value, and the words that are left, or the fault
-abbrev pub Gives : {A : Type 0} → Result A BadLine → List Word → Read A → Type 0
-Gives (Ok a) left read = read ≡ Ok (a, left)
-Gives (Err fault) left read = read ≡ Err fault
+abbrev pub GivesWithRest : {A : Type 0} → Result A BadLine → List Word → Read A → Type 0
+GivesWithRest (Ok a) left read = read ≡ Ok (a, left)
+GivesWithRest (Err fault) left read = read ≡ Err fault
 
 -- the same, or memory is wanting
-abbrev pub GivesUnlessMemory : {A : Type 0} → Result A LineFault → List Word → Read A → Type 0
-GivesUnlessMemory (Ok a) left read = read ≡ Ok (a, left)
-GivesUnlessMemory (Err (faults.Bad fault)) left read = read ≡ Err fault
-GivesUnlessMemory (Err faults.Memory) left read = Unit {0}
+abbrev pub GivesWithRestUnlessMemory : {A : Type 0} → Result A LineFault → List Word → Read A → Type 0
+GivesWithRestUnlessMemory (Ok a) left read = read ≡ Ok (a, left)
+GivesWithRestUnlessMemory (Err (faults.Bad fault)) left read = read ≡ Err fault
+GivesWithRestUnlessMemory (Err faults.Memory) left read = Unit {0}
 
 -- what is asked for, or memory is wanting
 abbrev pub IsUnlessMemory : {A : Type 0} → Result A LineFault → Result A BadLine → Type 0
@@ -49,9 +49,9 @@ IsUnlessMemory (Err faults.Memory) asked = Unit {0}
 -- ---- one word
 
 -- the next word of a line of so many bytes
-abbrev pub word_in : ℕ → List Word → Read Word
-word_in len [] = bad len whys.Missing
-word_in len (word ∷ words) = Ok (word, words)
+abbrev pub next_word_in : ℕ → List Word → Read Word
+next_word_in len [] = bad len whys.Missing
+next_word_in len (word ∷ words) = Ok (word, words)
 
 -- no word is left
 abbrev pub ends : {A : Type 0} → A → List Word → Result A BadLine
@@ -61,11 +61,11 @@ ends a (word ∷ words) = bad word.at whys.Extra
 abbrev pub is_name : List ℕ → Bool
 is_name text = nat_le 1 (length text) && nat_le (length text) 15 && list_all is_name_byte text
 
-abbrev pub name_of : Word → Result (List ℕ) BadLine
-name_of word = if is_name word.text then Ok word.text else bad word.at whys.Name
+abbrev pub word_as_name : Word → Result (List ℕ) BadLine
+word_as_name word = if is_name word.text then Ok word.text else bad word.at whys.Name
 
-abbrev pub kind_of : Word → Result MemKind BadLine
-kind_of word =
+abbrev pub word_as_kind : Word → Result MemKind BadLine
+word_as_kind word =
     if bytes_eq word.text (codes "ram") then Ok Ram
     else (if bytes_eq word.text (codes "pmem") then Ok Pmem
     else bad word.at whys.Kind)
@@ -76,13 +76,13 @@ with_rest (Ok a) words = Ok (a, words)
 with_rest (Err fault) words = Err fault
 
 abbrev pub read_in : {A : Type 0} → (Word → Result A BadLine) → ℕ → List Word → Read A
-read_in read len words = word_in len words >>= λ word. with_rest (read word.0) word.1
+read_in read len words = next_word_in len words >>= λ word. with_rest (read word.0) word.1
 
 abbrev pub name_in : ℕ → List Word → Read (List ℕ)
-name_in len words = read_in name_of len words
+name_in len words = read_in word_as_name len words
 
 abbrev pub kind_in : ℕ → List Word → Read MemKind
-kind_in len words = read_in kind_of len words
+kind_in len words = read_in word_as_kind len words
 
 -- the next word without these bytes, and the words behind it, where it begins with them
 abbrev pub behind : List ℕ → List Word → Option (Word × List Word)
@@ -99,12 +99,12 @@ abbrev pub ranged : ℕ → ℕ → ℕ → Result ℕ NumFault → Result ℕ B
 ranged at least most (Ok n) = if nat_le least n && nat_le n most then Ok n else bad at whys.Range
 ranged at least most (Err fault) = bad at whys.Number
 
-abbrev pub number_in : ℕ → ℕ → ℕ → List Word → Read ℕ
-number_in least most len words = read_in (λ word. ranged word.at least most (number_of word.text)) len words
+abbrev pub ranged_in : ℕ → ℕ → ℕ → List Word → Read ℕ
+ranged_in least most len words = read_in (λ word. ranged word.at least most (number_of word.text)) len words
 
 -- any number of 64 bits
 abbrev pub address_in : ℕ → List Word → Read ℕ
-address_in len words = number_in 0 0xffffffffffffffff len words
+address_in len words = ranged_in 0 0xffffffffffffffff len words
 
 -- ---- bytes
 
@@ -121,8 +121,8 @@ hex_bytes (high ∷ low ∷ digits) = (16 * digit_value high + digit_value low) 
 abbrev pub few_bytes : ℕ → ℕ → List ℕ → Result (List ℕ) BadLine
 few_bytes at most bytes = if nat_lt most (length bytes) then bad at whys.Range else Ok bytes
 
-abbrev pub bytes_of : ℕ → Word → Result (List ℕ) BadLine
-bytes_of most word = if is_hex word.text then few_bytes word.at most (hex_bytes word.text) else bad word.at whys.Hex
+abbrev pub word_as_bytes : ℕ → Word → Result (List ℕ) BadLine
+word_as_bytes most word = if is_hex word.text then few_bytes word.at most (hex_bytes word.text) else bad word.at whys.Hex
 
-abbrev pub bytes_in : ℕ → ℕ → List Word → Read (List ℕ)
-bytes_in most len words = read_in (bytes_of most) len words
+abbrev pub hex_bytes_in : ℕ → ℕ → List Word → Read (List ℕ)
+hex_bytes_in most len words = read_in (word_as_bytes most) len words

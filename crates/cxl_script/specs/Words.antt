@@ -21,10 +21,10 @@ ended at [] = []
 ended at (b ∷ bs) = record { at = at - length (b ∷ bs); text = b ∷ bs } ∷ []
 
 -- the words of the bytes from a place on, behind the bytes of a word that has begun
-abbrev pub words_from : ℕ → List ℕ → List ℕ → List Word
-words_from at begun [] = ended at begun
-words_from at begun (b ∷ bs) =
-    if is_blank b then ended at begun ++ words_from (at + 1) [] bs else words_from (at + 1) (begun ++ b ∷ []) bs
+abbrev pub line_words_from : ℕ → List ℕ → List ℕ → List Word
+line_words_from at begun [] = ended at begun
+line_words_from at begun (b ∷ bs) =
+    if is_blank b then ended at begun ++ line_words_from (at + 1) [] bs else line_words_from (at + 1) (begun ++ b ∷ []) bs
 
-abbrev pub words_of : List ℕ → List Word
-words_of line = words_from 0 [] line
+abbrev pub line_words : List ℕ → List Word
+line_words line = line_words_from 0 [] line

@@ -1,11 +1,11 @@
 ghost use Rattle.std.specs.Prelude.{◌≡◌};
-ghost use Rattle.cxl_script.specs.Reading.{IsUnlessMemory, Gives};
+ghost use Rattle.cxl_script.specs.Reading.{IsUnlessMemory, GivesWithRest};
 ghost use Rattle.cxl_script.specs.Grammar.{head_in, names_in, create_over, create_in};
 
 use crate::command::Create;
 use crate::fault::{BadLine, LineFault};
 use crate::limits::WAYS_LIMIT;
-use crate::reading::{name_of, ranged};
+use crate::reading::{ranged, word_as_name};
 use crate::words::Words;
 use cxl_enc::{FixedList, MemKind, Name};
 use std::alloc::Global;
@@ -37,7 +37,7 @@ pub(crate) fn create(alloc: Global, words: &mut Words<'_>) -> Result<Create, Lin
 }
 
 fn read_head(words: &mut Words<'_>) -> Result<Head, BadLine>
-    ensures head { Gives result words.new.words (head_in words.old.len words.old.words) }
+    ensures head { GivesWithRest result words.new.words (head_in words.old.len words.old.words) }
     ensures len { words.new.len ≡ words.old.len }
 {
     let name = words.name()?;
@@ -71,7 +71,7 @@ fn names(alloc: Global, words: &mut Words<'_>) -> Result<FixedList<Name>, LineFa
 {
     let mut names = Vec::new(alloc);
     while let Some(word) = words.next() {
-        names.push(name_of(word)?)?;
+        names.push(word_as_name(word)?)?;
     }
     Ok(FixedList::new(names))
 }

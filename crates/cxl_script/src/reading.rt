@@ -1,7 +1,7 @@
 ghost use Rattle.std.specs.Prelude.{◌≡◌, ◌≢◌, ◌≤◌, ◌⊎◌, Ok, Err, IfOk, IfErr, MatchResult};
 ghost use Rattle.cxl_enc.specs.Codes.{gran_code_in_table};
 ghost use Rattle.cxl_io.specs.Numbers.{number_of};
-ghost use Rattle.cxl_script.specs.Reading.{IsUnlessMemory, Gives, GivesUnlessMemory, name_of, kind_of, ranged, bytes_of, few_bytes, word_in, name_in, kind_in, number_in, address_in, bytes_in};
+ghost use Rattle.cxl_script.specs.Reading.{IsUnlessMemory, GivesWithRest, GivesWithRestUnlessMemory, word_as_name, word_as_kind, ranged, word_as_bytes, few_bytes, next_word_in, name_in, kind_in, ranged_in, address_in, hex_bytes_in};
 ghost use Rattle.cxl_script.specs.Grammar.{gran_of_bytes, gran_in};
 
 use crate::fault::{BadLine, LineFault, Why};
@@ -15,8 +15,8 @@ impl<'a> Words<'a> {
     /// The next word, which has to be there.
     pub(crate) fn word(&mut self) -> Result<Word<'a>, BadLine>
         ensures word { MatchResult result
-            (λ word. word_in self.old.len self.old.words ≡ Ok (record { at = word.at; text = word.text.now }, self.new.words))
-            (λ fault. word_in self.old.len self.old.words ≡ Err fault) }
+            (λ word. next_word_in self.old.len self.old.words ≡ Ok (record { at = word.at; text = word.text.now }, self.new.words))
+            (λ fault. next_word_in self.old.len self.old.words ≡ Err fault) }
         ensures len { self.new.len ≡ self.old.len }
     {
         match self.next() {
@@ -26,22 +26,22 @@ impl<'a> Words<'a> {
     }
 
     pub(crate) fn name(&mut self) -> Result<Name, BadLine>
-        ensures name { Gives result self.new.words (name_in self.old.len self.old.words) }
+        ensures name { GivesWithRest result self.new.words (name_in self.old.len self.old.words) }
         ensures len { self.new.len ≡ self.old.len }
     {
-        name_of(self.word()?)
+        word_as_name(self.word()?)
     }
 
     pub(crate) fn kind(&mut self) -> Result<MemKind, BadLine>
-        ensures kind { Gives result self.new.words (kind_in self.old.len self.old.words) }
+        ensures kind { GivesWithRest result self.new.words (kind_in self.old.len self.old.words) }
         ensures len { self.new.len ≡ self.old.len }
     {
-        kind_of(self.word()?)
+        word_as_kind(self.word()?)
     }
 
     /// A number from least to most.
     pub(crate) fn number(&mut self, least: u64, most: u64) -> Result<u64, BadLine>
-        ensures number { Gives result self.new.words (number_in least most self.old.len self.old.words) }
+        ensures number { GivesWithRest result self.new.words (ranged_in least most self.old.len self.old.words) }
         ensures within { IfOk result (λ number. number ≤ most) }
         ensures len { self.new.len ≡ self.old.len }
     {
@@ -49,7 +49,7 @@ impl<'a> Words<'a> {
     }
 
     pub(crate) fn address(&mut self) -> Result<u64, BadLine>
-        ensures address { Gives result self.new.words (address_in self.old.len self.old.words) }
+        ensures address { GivesWithRest result self.new.words (address_in self.old.len self.old.words) }
         ensures len { self.new.len ≡ self.old.len }
     {
         self.number(0, u64::MAX)
@@ -57,15 +57,15 @@ impl<'a> Words<'a> {
 
     /// Bytes in hexadecimal digits, no more than so many.
     pub(crate) fn bytes(&mut self, alloc: Global, most: usize) -> Result<FixedList<u8>, LineFault>
-        ensures bytes { GivesUnlessMemory result self.new.words (bytes_in most self.old.len self.old.words) }
+        ensures bytes { GivesWithRestUnlessMemory result self.new.words (hex_bytes_in most self.old.len self.old.words) }
         ensures len { self.new.len ≡ self.old.len }
     {
-        bytes_of(alloc, self.word()?, most)
+        word_as_bytes(alloc, self.word()?, most)
     }
 
     /// The code of a granularity, where one is stated.
     pub(crate) fn gran(&mut self) -> Result<Option<u8>, BadLine>
-        ensures gran { Gives result self.new.words (gran_in self.old.words) }
+        ensures gran { GivesWithRest result self.new.words (gran_in self.old.words) }
         ensures len { self.new.len ≡ self.old.len }
     {
         let Some(word) = self.next_behind(b"gran=") else {
@@ -85,14 +85,14 @@ fn gran_of(bytes: u64) -> Option<u8>
     gran_code(bytes)
 }
 
-pub(crate) fn name_of(word: Word<'_>) -> Result<Name, BadLine>
-    ensures { result ≡ name_of (record { at = word.entry.at; text = word.entry.text.now }) }
+pub(crate) fn word_as_name(word: Word<'_>) -> Result<Name, BadLine>
+    ensures { result ≡ word_as_name (record { at = word.entry.at; text = word.entry.text.now }) }
 {
     Name::read(word.text).ok_or(word.bad(Why::Name))
 }
 
-fn kind_of(word: Word<'_>) -> Result<MemKind, BadLine>
-    ensures { result ≡ kind_of (record { at = word.entry.at; text = word.entry.text.now }) }
+fn word_as_kind(word: Word<'_>) -> Result<MemKind, BadLine>
+    ensures { result ≡ word_as_kind (record { at = word.entry.at; text = word.entry.text.now }) }
 {
     match word.text {
         b"ram" => Ok(MemKind::Ram),
@@ -112,8 +112,8 @@ pub(crate) fn ranged(word: Word<'_>, least: u64, most: u64) -> Result<u64, BadLi
     }
 }
 
-fn bytes_of(alloc: Global, word: Word<'_>, most: usize) -> Result<FixedList<u8>, LineFault>
-    ensures { IsUnlessMemory result (bytes_of most (record { at = word.entry.at; text = word.entry.text.now })) }
+fn word_as_bytes(alloc: Global, word: Word<'_>, most: usize) -> Result<FixedList<u8>, LineFault>
+    ensures { IsUnlessMemory result (word_as_bytes most (record { at = word.entry.at; text = word.entry.text.now })) }
 {
     match hex::decode(alloc, word.text) {
         Ok(bytes) => few_bytes(word, bytes, most),

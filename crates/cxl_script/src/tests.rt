@@ -1,5 +1,9 @@
 use super::*;
+use std::alloc::Global;
+use std::process::Abort;
 use std::test::Fail;
+
+mod faults;
 
 /// A command that holds numbers alone, by its verb.
 fn numbers(command: Option<Command>) -> (&'static str, u64, u64) {
@@ -79,38 +83,80 @@ fn names_of_commands(rt: HostRuntime) -> Result<(), Fail> {
     Ok(())
 }
 
+/// The region that a line asks for, at once or begun.
+fn created(alloc: Global, line: &str) -> Result<Create, Fail> {
+    match read_command(alloc, line.as_bytes())? {
+        Some(Command::Create(create)) => Ok(create),
+        Some(Command::BeginCreate(create)) => Ok(create),
+        _ => Err(Fail::from("a region to be made")),
+    }
+}
+
+/// Names, each behind a space.
+fn spaced(alloc: Global, names: &[Name]) -> Result<Vec<u8>, Fail> {
+    let mut text = Vec::new(alloc);
+    for name in names {
+        text.push(b' ')?;
+        text.extend_from_slice(name.bytes())?;
+    }
+    Ok(text)
+}
+
+/// `gran=` and `ways=` count only in their places, and `gran` and `ways` are names.
 #[test]
 fn created_regions(rt: HostRuntime) -> Result<(), Fail> {
+    let alloc = rt.alloc();
+    let ram = MemKind::Ram;
+    let pmem = MemKind::Pmem;
     let rows = [
+        ("create r0 ram 536870912 e1 e0", (ram, None, " e1 e0", None)),
         (
-            "create r0 ram 0x20000000 e0 e1",
-            (MemKind::Ram, None, 2, None),
+            "create r0 pmem 0x20000000 gran=512 e0",
+            (pmem, Some(1), " e0", None),
         ),
         (
-            "create r0 pmem 536870912 gran=512 e0",
-            (MemKind::Pmem, Some(1), 1, None),
+            "create r0 ram 0x20000000 gran ways e0 e0",
+            (ram, None, " gran ways e0 e0", None),
         ),
         (
             "create r0 ram 0x20000000 ways=16",
-            (MemKind::Ram, None, 0, Some(16)),
+            (ram, None, "", Some(16)),
+        ),
+        (
+            "begin create r0 pmem 0x20000000 e2",
+            (pmem, None, " e2", None),
         ),
         (
             "begin create r0 ram 0x20000000 gran=0x4000 ways=1",
-            (MemKind::Ram, Some(6), 0, Some(1)),
+            (ram, Some(6), "", Some(1)),
         ),
     ];
     for (line, (kind, gran, endpoints, ways)) in rows {
-        let create = match read_command(rt.alloc(), line.as_bytes())? {
-            Some(Command::Create(create)) => create,
-            Some(Command::BeginCreate(create)) => create,
-            _ => return Err(Fail::from("a region to be made")),
-        };
+        let create = created(alloc, line)?;
+        let names = spaced(alloc, create.endpoints.items())?;
         assert_eq!(rt; create.name.bytes(), b"r0".as_slice(), "at {line}");
         assert_eq!(rt; create.kind, kind, "at {line}");
         assert_eq!(rt; create.size, 0x2000_0000, "at {line}");
         assert_eq!(rt; create.gran, gran, "at {line}");
-        assert_eq!(rt; create.endpoints.items().len(), endpoints, "at {line}");
+        assert_eq!(rt; names.as_slice(), endpoints.as_bytes(), "at {line}");
         assert_eq!(rt; create.ways, ways, "at {line}");
+    }
+    Ok(())
+}
+
+#[test]
+fn granularities(rt: HostRuntime) -> Result<(), Fail> {
+    let rows = [
+        ("create r ram 1 gran=256 e0", 0),
+        ("create r ram 1 gran=512 e0", 1),
+        ("create r ram 1 gran=1024 e0", 2),
+        ("create r ram 1 gran=2048 e0", 3),
+        ("create r ram 1 gran=0x1000 e0", 4),
+        ("create r ram 1 gran=08192 e0", 5),
+        ("create r ram 1 gran=16384 e0", 6),
+    ];
+    for (line, code) in rows {
+        assert_eq!(rt; created(rt.alloc(), line)?.gran, Some(code), "at {line}");
     }
     Ok(())
 }
@@ -128,106 +174,5 @@ fn bytes_of_commands(rt: HostRuntime) -> Result<(), Fail> {
     };
     assert_eq!(rt; poison.endpoint.bytes(), b"e0".as_slice());
     assert_eq!(rt; poison.bytes.items(), [0, 0xff].as_slice());
-    Ok(())
-}
-
-#[test]
-fn first_faults(rt: HostRuntime) {
-    let rows = [
-        ("bring r0", 0, Why::Verb),
-        ("\t Abort", 2, Why::Verb),
-        ("begin", 5, Why::Missing),
-        ("begin show r0", 6, Why::Verb),
-        ("begin destroy", 13, Why::Missing),
-        ("create", 6, Why::Missing),
-        ("create r0  ", 11, Why::Missing),
-        ("create abcdefghijklmnop ram 0x20000000 e0 e1", 7, Why::Name),
-        ("create r-0 rom x", 7, Why::Name),
-        ("create r0 rom x", 10, Why::Kind),
-        ("create r0 Ram 1 e0", 10, Why::Kind),
-        ("create r0 ram 0x e0", 14, Why::Number),
-        ("create r0 ram 1", 15, Why::Missing),
-        ("create r0 ram 1 gran=256", 24, Why::Missing),
-        ("create r0 ram 1 gran= e-", 16, Why::Number),
-        ("create r0 ram 1 gran=300 e-", 16, Why::Range),
-        ("create r0 ram 1 e0 gran=256", 19, Why::Name),
-        ("create r0 ram 1 e0 ways=2", 19, Why::Name),
-        ("create r0 ram 1 ways=x", 16, Why::Number),
-        ("create r0 ram 1 ways=0", 16, Why::Range),
-        ("create r0 ram 1 ways=17", 16, Why::Range),
-        ("create r0 ram 1 ways=2 e0", 23, Why::Extra),
-        ("destroy r0 r1", 11, Why::Extra),
-        ("show", 4, Why::Missing),
-        ("down 0x10000000000000000", 5, Why::Number),
-        ("down 5 6", 7, Why::Extra),
-        ("up e0", 5, Why::Missing),
-        ("up e0 x", 6, Why::Number),
-    ];
-    for (line, at, why) in rows {
-        let fault = read_command(rt.alloc(), line.as_bytes()).err();
-        assert_eq!(rt;
-            fault,
-            Some(LineFault::Bad(BadLine { at, why })),
-            "at {line}"
-        );
-    }
-}
-
-#[test]
-fn more_first_faults(rt: HostRuntime) {
-    let rows = [
-        ("load 0x100000000 0", 17, Why::Range),
-        ("load 0 257", 7, Why::Range),
-        ("load 0 99999999999999999999", 7, Why::Number),
-        ("store 0", 7, Why::Missing),
-        ("store 0 123", 8, Why::Hex),
-        ("store 0 0g", 8, Why::Hex),
-        ("store 0 00 x", 11, Why::Extra),
-        ("poison e0", 9, Why::Missing),
-        ("poison e0 0x00", 10, Why::Hex),
-        ("step 0", 5, Why::Range),
-        ("step 1000001", 5, Why::Range),
-        ("abort now", 6, Why::Extra),
-        ("range 0 65537", 8, Why::Range),
-        ("spread 0 0", 9, Why::Range),
-        ("spread 0 4503599627370497", 9, Why::Range),
-        ("copy r0", 7, Why::Missing),
-        ("move r0 r1 r2", 11, Why::Extra),
-    ];
-    for (line, at, why) in rows {
-        let fault = read_command(rt.alloc(), line.as_bytes()).err();
-        assert_eq!(rt;
-            fault,
-            Some(LineFault::Bad(BadLine { at, why })),
-            "at {line}"
-        );
-    }
-}
-
-/// A line may have 4,096 bytes, and a store 256: 257 are out of range, and an odd digit more is no byte.
-#[test]
-fn long_lines(rt: HostRuntime) -> Result<(), Fail> {
-    let mut line = vec![in rt.alloc(); b' '; LINE_LIMIT]?;
-    assert!(rt; read_command(rt.alloc(), &line)?.is_none());
-    line.push(b'#')?;
-    let at = 4_096;
-    let long = LineFault::Bad(BadLine { at, why: Why::Long });
-    assert_eq!(rt; read_command(rt.alloc(), &line).err(), Some(long));
-
-    let mut store = Vec::from_slice(rt.alloc(), b"store 0 ")?;
-    store.extend_from_slice(&vec![in rt.alloc(); b'0'; 512]?)?;
-    assert!(rt; read_command(rt.alloc(), &store)?.is_some());
-    store.extend_from_slice(b"00")?;
-    let range = LineFault::Bad(BadLine {
-        at: 8,
-        why: Why::Range,
-    });
-    assert_eq!(rt; read_command(rt.alloc(), &store).err(), Some(range));
-    store.push(b'0')?;
-    let hex = LineFault::Bad(BadLine {
-        at: 8,
-        why: Why::Hex,
-    });
-    assert_eq!(rt; read_command(rt.alloc(), &store).err(), Some(hex));
     Ok(())
 }

@@ -1,6 +1,6 @@
 ghost use Rattle.std.specs.Prelude.{◌≡◌, ◌+◌, ◌<◌, ◌≤◌, [], ◌∷◌, length, drop, not, position, MatchOption, slice_range, Some, None, IsTrue, ◌↔◌};
 ghost use Rattle.std.specs.List.{position_or_len};
-ghost use Rattle.cxl_script.specs.Words.{is_blank, words_from, words_of};
+ghost use Rattle.cxl_script.specs.Words.{is_blank, line_words_from, line_words};
 ghost use Rattle.cxl_script.specs.Reading.{behind, ends};
 ghost use Rattle.cxl_io.specs.Reader.{line_limit};
 
@@ -34,12 +34,12 @@ pub(crate) struct Words<'a> {
 
 impl<'a> Model for Words<'a> {
     ghost use Rattle.std.specs.Prelude.{◌≤◌, [], length, drop};
-    ghost use Rattle.cxl_script.specs.Words.{Left, words_from};
+    ghost use Rattle.cxl_script.specs.Words.{Left, line_words_from};
     ghost use Rattle.cxl_io.specs.Reader.{line_limit};
 
     ghost Value = { Left };
 
-    ghost view = { λ words. record { len = length words.line.now; words = words_from words.at [] (drop words.at words.line.now) } };
+    ghost view = { λ words. record { len = length words.line.now; words = line_words_from words.at [] (drop words.at words.line.now) } };
 
     ghost invariant = { λ words. (words.at ≤ length words.line.now) × (length words.line.now ≤ line_limit) };
 }
@@ -48,7 +48,7 @@ impl<'a> Words<'a> {
     /// The words of a line.
     pub(crate) fn new(line: &'a [u8]) -> Words<'a>
         requires { length line.now ≤ line_limit }
-        ensures { result ≡ record { len = length line.now; words = words_of line.now } }
+        ensures { result ≡ record { len = length line.now; words = line_words line.now } }
     {
         Words { line, at: 0 }
     }
@@ -119,10 +119,10 @@ impl<'a> Words<'a> {
 /// Where the next word of a line begins and ends, from a place on that is not within a word.
 fn next_word(line: &[u8], at: usize) -> Option<(usize, usize)>
     requires { at ≤ length line.now }
-    ensures { MatchOption result (words_from at [] (drop at line.now) ≡ []) (λ place.
+    ensures { MatchOption result (line_words_from at [] (drop at line.now) ≡ []) (λ place.
         (place.0 < place.1) × (place.1 ≤ length line.now)
-        × (words_from at [] (drop at line.now)
-        ≡ record { at = place.0; text = slice_range line.now place.0 place.1 } ∷ words_from place.1 [] (drop place.1 line.now))) }
+        × (line_words_from at [] (drop at line.now)
+        ≡ record { at = place.0; text = slice_range line.now place.0 place.1 } ∷ line_words_from place.1 [] (drop place.1 line.now))) }
 {
     let start = at + blank_len(&line[at..]);
     if start == line.len() {

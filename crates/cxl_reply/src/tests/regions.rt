@@ -1,5 +1,4 @@
 ghost use Rattle.std.specs.Prelude.{◌≡◌, ◌<◌, All, length, IsTrue};
-ghost use Rattle.cxl_reply.specs.Told.{region_of};
 ghost use Rattle.cxl_reply.specs.Plans.{IsToldRow};
 
 use super::*;
@@ -98,44 +97,29 @@ fn place(endpoint: u32, start: u64) -> Place {
     Place { endpoint, start }
 }
 
-#[test]
-fn shown_region(rt: HostRuntime) -> Result<(), Fail> {
+/// A region shown by its rows and spans has this text.
+fn shows(
+    rt: &(impl Abort + AllocGlobal),
+    text: &str,
+    layout: Found,
+    rows: &[ShownRow],
+    spans: &[Place],
+    want: &str,
+) -> Result<(), Fail>
+    requires { layout.now.gran ≤ 6 }
+{
     let alloc = rt.alloc();
     let topo = topology(alloc)?;
-    let port = [0x1000_0000, 1, 0x1000_0000, 0, 0x1600, 0, 0];
-    let endpoint = [0x1000_0000, 1, 0x1000_0000, 0, 0x1600, 0x3000_0000, 0];
-    let rows = FixedList::new(vec![in alloc;
-        ShownRow {
-            node: 0,
-            decoder: 1,
-            words: port
-        },
-        ShownRow {
-            node: 6,
-            decoder: 1,
-            words: endpoint
-        },
-    ]?);
-    let spans = FixedList::new([place(6, 0x4000_0000)].to_vec(alloc)?);
-    assert!(rt; are_rows(rows.items(), &topo) && are_places(spans.items(), &topo));
     let found = Found {
-        base: 0x1_1000_0000,
-        size: 0x1000_0000,
-        window: 0,
-        gran: 0,
-        ways: 1,
-        kind: MemKind::Pmem,
-        spans,
+        spans: FixedList::new(spans.to_vec(alloc)?),
+        ..layout
     };
-    let want = "region b pmem window 0 base 0x110000000 size 0x10000000 gran 256 ways 1
-node hb0 1 10000000 00000001 10000000 00000000 00001600 00000000 00000000
-node e0 1 10000000 00000001 10000000 00000000 00001600 30000000 00000000
-slot 0 e0 0x40000000
-";
-    let name = name("b")?;
+    let rows = FixedList::new(rows.to_vec(alloc)?);
+    assert!(rt; are_rows(rows.items(), &topo) && are_places(found.spans.items(), &topo));
+    let name = name(text)?;
     prints(
         alloc,
-        &rt,
+        rt,
         &topo,
         &Reply::Shown(Shown { name, found, rows }),
         want,
@@ -143,96 +127,72 @@ slot 0 e0 0x40000000
     Ok(())
 }
 
-fn are_regions(parts: &[Part], regions: usize) -> bool
-    ensures { IsTrue result → All (λ part. region_of part < regions) parts.now }
-{
-    parts.iter().all(|part| match part {
-        Part::Run(run) => (run.region as usize) < regions,
-        Part::Wide(wide) => (wide.region as usize) < regions,
-    })
-}
-
-fn are_pieces(pieces: &[Poisoned], regions: usize) -> bool
-    ensures { IsTrue result → All (λ poisoned. All (λ part. region_of part < regions) poisoned.parts) pieces.now }
-{
-    pieces
-        .iter()
-        .all(|poisoned| are_regions(poisoned.parts.items(), regions))
-}
-
-/// A record of the one payload, a record of no byte, and one of a source that has no name.
-#[test]
-fn poisoned(rt: HostRuntime) -> Result<(), Fail> {
-    let alloc = rt.alloc();
-    let topo = topology(alloc)?;
-    let rows = [
-        (
-            2,
-            2,
-            64,
-            "length 128 source internal\nrun 0x11ffffec0 64 region r0\nunmapped 64\n",
-        ),
-        (0, 2, 0, "length 0 source internal\n"),
-        (
-            1,
-            9,
-            0,
-            "length 64 source 9\nwide 0x100000000 0x100001f00 65 region r0\n",
-        ),
-    ];
-    for (units, source, unmapped, want) in rows {
-        let mut parts = Vec::new(alloc);
-        if units == 2 {
-            parts.push(Part::Run(Run {
-                h: 0x1_1fff_fec0,
-                len: 64,
-                region: 0,
-            }))?;
-        }
-        if units == 1 {
-            parts.push(Part::Wide(Wide {
-                first: 0x1_0000_0000,
-                last: 0x1_0000_1f00,
-                count: 65,
-                region: 0,
-            }))?;
-        }
-        let entry = Entry {
-            dpa: 0xfff_ffc0,
-            units,
-            source,
-        };
-        let mut pieces = Vec::new(alloc);
-        pieces.push(Poisoned {
-            parts: FixedList::new(parts),
-            unmapped,
-        })?;
-        let records = FixedList::new([entry].to_vec(alloc)?);
-        let pieces = FixedList::new(pieces);
-        let names = FixedList::new([name("r0")?].to_vec(alloc)?);
-        assert!(rt; pieces.items().len() == records.items().len());
-        assert!(rt; are_pieces(pieces.items(), names.items().len()));
-        let list = PoisonList {
-            more: units == 1,
-            overflow: if units == 1 { Some(7) } else { None },
-            scanning: units == 1,
-            records,
-        };
-        let flags = if units == 1 {
-            " more overflow 7 scanning"
-        } else {
-            ""
-        };
-        let want = format!(in alloc; "poison e0 records 1{flags}\nrecord 0xfffffc0 {want}")?;
-        let report = Reply::Poison(Report {
-            endpoint: 6,
-            list,
-            pieces,
-            names,
-        });
-        prints(alloc, &rt, &topo, &report, want.as_str());
+fn shown_row(node: u32, decoder: u8, words: [u32; 7]) -> ShownRow {
+    ShownRow {
+        node,
+        decoder,
+        words,
     }
-    Ok(())
+}
+
+#[test]
+fn shown_region(rt: HostRuntime) -> Result<(), Fail> {
+    let port = [0x1000_0000, 1, 0x1000_0000, 0, 0x1600, 0, 0];
+    let endpoint = [0x1000_0000, 1, 0x1000_0000, 0, 0x1600, 0x3000_0000, 0];
+    let rows = [shown_row(0, 1, port), shown_row(6, 1, endpoint)];
+    let layout = Found {
+        base: 0x1_1000_0000,
+        size: 0x1000_0000,
+        window: 0,
+        gran: 0,
+        ways: 1,
+        kind: MemKind::Pmem,
+        spans: FixedList::new(Vec::new(rt.alloc())),
+    };
+    let want = "region b pmem window 0 base 0x110000000 size 0x10000000 gran 256 ways 1
+node hb0 1 10000000 00000001 10000000 00000000 00001600 00000000 00000000
+node e0 1 10000000 00000001 10000000 00000000 00001600 30000000 00000000
+slot 0 e0 0x40000000
+";
+    shows(&rt, "b", layout, &rows, &[place(6, 0x4000_0000)], want)
+}
+
+/// Four ways over two bridges.
+#[test]
+fn shown_ways(rt: HostRuntime) -> Result<(), Fail> {
+    let port = [0, 0x10, 0, 0x100, 0x1611, 0x100, 0];
+    let endpoint = [0, 0x10, 0, 0x100, 0x1620, 0, 0];
+    let rows = [
+        shown_row(0, 0, port),
+        shown_row(1, 0, port),
+        shown_row(6, 0, endpoint),
+        shown_row(7, 0, endpoint),
+        shown_row(8, 0, endpoint),
+        shown_row(9, 0, endpoint),
+    ];
+    let layout = Found {
+        base: 0x10_0000_0000,
+        size: 0x100_0000_0000,
+        window: 0,
+        gran: 0,
+        ways: 4,
+        kind: MemKind::Ram,
+        spans: FixedList::new(Vec::new(rt.alloc())),
+    };
+    let spans = [place(6, 0), place(8, 0), place(7, 0), place(9, 0)];
+    let want = "region r0 ram window 0 base 0x1000000000 size 0x10000000000 gran 256 ways 4
+node hb0 0 00000000 00000010 00000000 00000100 00001611 00000100 00000000
+node hb1 0 00000000 00000010 00000000 00000100 00001611 00000100 00000000
+node e0 0 00000000 00000010 00000000 00000100 00001620 00000000 00000000
+node e1 0 00000000 00000010 00000000 00000100 00001620 00000000 00000000
+node e2 0 00000000 00000010 00000000 00000100 00001620 00000000 00000000
+node e3 0 00000000 00000010 00000000 00000100 00001620 00000000 00000000
+slot 0 e0 0x0
+slot 1 e2 0x0
+slot 2 e1 0x0
+slot 3 e3 0x0
+";
+    shows(&rt, "r0", layout, &rows, &spans, want)
 }
 
 fn are_slots(extents: &[Extent], slots: usize) -> bool

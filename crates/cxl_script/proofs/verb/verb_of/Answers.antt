@@ -1,5 +1,5 @@
 -- Each verb's arm: the word is the text that its bytes spell.
-use Rattle.std.proofs.Common.{sym, ap, arith, rules}
+use Rattle.std.proofs.Common.{sym, ap, arith}
 use Rattle.std.specs.Prelude.{codes}
 use Rattle.std.proofs.lemmas.Slice.Eq.{text_from_reads}
 use Rattle.cxl_script.specs.Verbs.{verb_of}

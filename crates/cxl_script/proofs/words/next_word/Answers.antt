@@ -1,5 +1,4 @@
-use Rattle.std.proofs.Common.{◌≡◌, ◌+◌, ◌<◌, ◌≤◌, length, drop, ap, ◌∙◌, arith, length-drop}
-use Rattle.std.proofs.lemmas.List.{length-take}
+use Rattle.std.proofs.Common.{◌+◌, ◌<◌, ◌≤◌, length, drop, ap, ◌∙◌, arith, length-drop}
 use Rattle.cxl_script.proofs.WordLemmas.{blanks, upto, from_place, no_word, some_word}
 use Rattle.cxl_script.proofs.words.next_word.Goals as goal
 
