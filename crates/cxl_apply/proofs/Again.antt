@@ -73,12 +73,12 @@ no_row s found n none =
     none-some row.index (sym none ∙ ap (index_for s (region_range found)) (sym same) ∙ parts.index)))
 
 -- the row of a node that has one
-record RowAt (s : System) (r : Range) (n : ℕ) : Type 0 where
-  row : Row
-  is : row_for s r n ≡ Some row
-  node : row.node ≡ n
+pub record RowAt (s : System) (r : Range) (n : ℕ) : Type 0 where
+  pub row : Row
+  pub is : row_for s r n ≡ Some row
+  pub node : row.node ≡ n
 
-row_at : (s : System) (r : Range) (n i : ℕ) → index_for s r n ≡ Some i → RowAt s r n
+pub row_at : (s : System) (r : Range) (n i : ℕ) → index_for s r n ≡ Some i → RowAt s r n
 row_at s r n i at =
     let found = position-Some (has_range r) (decoders_at s n) i reset_decoder at in
     let d : Decoder = get_or (decoders_at s n) i reset_decoder in
@@ -148,9 +148,30 @@ none_left s found can n j d at has =
     last_of : (s : System) (found : Found) (row : Row) → CanGo s found → Contains (rows_of s found) row → IsLast s (region_range found) row
     last_of s found row can there = subst (IsLast s (region_range found)) there.2 (last_rows s found can.unlocked can.last there.0 row there.1)
 
+-- a committed range is another one
+pub other_range : (s : System) (found : Found) → CanGo s found → (r : Range) → IsCommittedRange (system_without s found) r → r ≢ region_range found
+other_range s found can r committed e =
+    let t : System = system_without s found in
+    let at = Any-from_list_any (has_range r) (decoders_at t committed.0) committed.1 in
+    let d : Decoder = at.1 in
+    let here : decoder_at t committed.0 at.0 ≡ Some d = slice_get-get_or (decoders_at t committed.0) at.0 d at.2 ∙ ap (λ (x : Decoder). Some x) at.3 in
+    none_left s found can committed.0 at.0 d here (ap (λ (x : Range). has_range x d) (sym e) ∙ at.4)
+
 -- ---- every other range stays whole
 
-same_range : (r other : Range) → (r ≡ other) ⊎ (r ≢ other)
+-- a committed range of which another image has the same decoders is one there
+pub old_range : (s t : System) (r : Range) → HaveSameDecoders s t r → IsCommittedRange t r → IsCommittedRange s r
+old_range s t r same committed =
+    let found_at = Any-from_list_any (has_range r) (decoders_at t committed.0) committed.1 in
+    let d : Decoder = found_at.1 in
+    let here : decoder_at t committed.0 found_at.0 ≡ Some d = slice_get-get_or (decoders_at t committed.0) found_at.0 d found_at.2 ∙ ap (λ (x : Decoder). Some x) found_at.3 in
+    let there : decoder_at s committed.0 found_at.0 ≡ Some d = same.back committed.0 found_at.0 found_at.0 d here found_at.4 (omega arith) ∙ here in (
+      committed.0,
+      list_any-from_Any (has_range r) (decoders_at s committed.0)
+          (found_at.0, d, slice_get_within (decoders_at s committed.0) found_at.0 d there, get_or_from_slice_get (decoders_at s committed.0) found_at.0 d d there, found_at.4),
+    )
+
+pub same_range : (r other : Range) → (r ≡ other) ⊎ (r ≢ other)
 same_range r other =
     elim (cases_eq r.base other.base) [
       | inl base ↦ elim (cases_eq r.size other.size) [
@@ -178,29 +199,14 @@ accepted_again law where_whole stays s found can accepted = (where_whole t).1 (k
     keeps : KeepsBlocks t
     keeps = stays_keep s (region_range found) (blocks_without s found) can.keeps good.1 good.0
 
-    -- a range of the new image that is not the region's is one of the old
-    old_range : (r : Range) → HaveSameDecoders s t r → IsCommittedRange t r → IsCommittedRange s r
-    old_range r same committed =
-        let found_at = Any-from_list_any (has_range r) (decoders_at t committed.0) committed.1 in
-        let d : Decoder = found_at.1 in
-        let here : decoder_at t committed.0 found_at.0 ≡ Some d = slice_get-get_or (decoders_at t committed.0) found_at.0 d found_at.2 ∙ ap (λ (x : Decoder). Some x) found_at.3 in
-        let there : decoder_at s committed.0 found_at.0 ≡ Some d = same.back committed.0 found_at.0 found_at.0 d here found_at.4 (omega arith) ∙ here in (
-          committed.0,
-          list_any-from_Any (has_range r) (decoders_at s committed.0)
-              (found_at.0, d, slice_get_within (decoders_at s committed.0) found_at.0 d there, get_or_from_slice_get (decoders_at s committed.0) found_at.0 d d there, found_at.4),
-        )
-
     whole : (r : Range) → IsCommittedRange t r → IsWhole t r
     whole r committed =
         elim (same_range r (region_range found)) [
           | inl e ↦
-              let found_at = Any-from_list_any (has_range r) (decoders_at t committed.0) committed.1 in
-              let d : Decoder = found_at.1 in
-              let here : decoder_at t committed.0 found_at.0 ≡ Some d = slice_get-get_or (decoders_at t committed.0) found_at.0 d found_at.2 ∙ ap (λ (x : Decoder). Some x) found_at.3 in
-              absurd (none_left s found can committed.0 found_at.0 d here (ap (λ (x : Range). has_range x d) (sym e) ∙ found_at.4))
+              absurd (other_range s found can r committed e)
           | inr apart ↦
               let same = stays_same s (region_range found) r (blocks_without s found) good.1 good.0 apart in
-              stays s t r same keeps (((where_whole s).0 accepted).1 r (old_range r same committed))
+              stays s t r same keeps (((where_whole s).0 accepted).1 r (old_range s t r same committed))
         ]
 
 -- ---- blocks that decode

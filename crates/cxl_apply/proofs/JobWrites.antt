@@ -126,7 +126,7 @@ bound_in settled blocks row block same is = record {
 abbrev pub AllGood : (ℕ → Registers → Type 0) → List Registers → Type 0
 AllGood Good blocks = (m : ℕ) (block : Registers) → slice_get blocks m ≡ Some block → Good m block
 
-good_put : (Good : ℕ → Registers → Type 0) (blocks : List Registers) (n : ℕ) (old new : Registers) → slice_get blocks n ≡ Some old → AllGood Good blocks → Good n new → AllGood Good (set blocks n new)
+pub good_put : (Good : ℕ → Registers → Type 0) (blocks : List Registers) (n : ℕ) (old new : Registers) → slice_get blocks n ≡ Some old → AllGood Good blocks → Good n new → AllGood Good (set blocks n new)
 good_put Good blocks n old new there all good m block here =
     elim (cases_eq m n) [
       | inl e ↦

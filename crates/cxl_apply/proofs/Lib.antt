@@ -11,5 +11,7 @@ pub mod Systems
 pub mod Planned
 pub mod Freed
 pub mod Staying
+pub mod Shapes
 pub mod Again
+pub mod After
 mod TestRows

@@ -1,6 +1,6 @@
 //! Laws of the writes of jobs, each the contract of a function that does nothing.
 
-ghost use Rattle.std.specs.Prelude.{◌≡◌, ◌≢◌, ℕ, true, None, List, All};
+ghost use Rattle.std.specs.Prelude.{◌≡◌, ◌≢◌, ◌⊎◌, ℕ, ◌<◌, true, None, List, length, All};
 ghost use Rattle.cxl_regs.specs.Registers.{Registers, IsBlock};
 ghost use Rattle.cxl_window.specs.Fields.{WindowFields};
 ghost use Rattle.cxl_model.specs.declared.plan.Row.{Row};
@@ -10,6 +10,7 @@ ghost use Rattle.cxl_model.specs.declared.request.Request.{Request};
 ghost use Rattle.cxl_model.specs.System.{System, IsSystem};
 ghost use Rattle.cxl_model.specs.Accepted.{KeepsBlocks, IsAccepted};
 ghost use Rattle.cxl_regs.specs.declared.reading.Range.{Range};
+ghost use Rattle.cxl_model.specs.Ranges.{IsCommittedRange};
 ghost use Rattle.cxl_model.specs.Regions.{region_range, IsRegionIn};
 ghost use Rattle.cxl_model.specs.Changes.{HaveSameDecoders};
 ghost use Rattle.cxl_model.specs.Plans.{IsLegalPlan, with_rows};
@@ -44,6 +45,8 @@ pub fn create_commits_its_rows()
         → IsAccepted s → All (λ (block : Registers). block.enabled ≡ true) s.blocks
         → IsLegalPlan s request plan → AreCreateWrites s.blocks plan.rows writes
         → blocks_after_writes s.blocks writes ≡ (with_rows s plan.rows).blocks }
+    ensures some { (s : System) (request : Request) (plan : Plan) → IsLegalPlan s request plan
+        → 0 < length plan.rows }
 {
     words_stand_for_decoder();
     committed_stand_first();
@@ -59,6 +62,8 @@ pub fn release_releases_its_rows()
         → first_locked s found ≡ None → first_not_last s found ≡ None
         → AreReleaseWrites (rows_of s found) writes
         → blocks_after_writes s.blocks writes ≡ blocks_without s found }
+    ensures some { (s : System) (found : Found) → IsSystem s → IsCommittedRange s (region_range found)
+        → 0 < length (rows_of s found) }
 {
     words_stand_for_decoder();
 }
@@ -115,5 +120,43 @@ pub fn released_image_is_accepted()
 {
     words_stand_for_decoder();
     accepted_where_whole();
+    regions_stay();
+}
+
+/// A law of images: one with a legal plan's rows committed is an image of the same host, in which every block decodes
+/// that did. Every region of before is one, and each committed range is the plan's or one of before.
+pub fn regions_stay_after_a_create()
+    ensures system { (s : System) (request : Request) (plan : Plan) → IsSystem s → IsLegalPlan s request plan
+        → IsSystem (with_rows s plan.rows) }
+    ensures enabled { (s : System) (rows : List Row) → All (λ (block : Registers). block.enabled ≡ true) s.blocks
+        → All (λ (block : Registers). block.enabled ≡ true) (with_rows s rows).blocks }
+    ensures region { (s : System) (request : Request) (plan : Plan) (w : WindowFields) (found : Found) → IsSystem s
+        → IsAccepted s → All (λ (block : Registers). block.enabled ≡ true) s.blocks
+        → IsLegalPlan s request plan → IsRegionIn s w found → IsRegionIn (with_rows s plan.rows) w found }
+    ensures ranges { (s : System) (request : Request) (plan : Plan) (r : Range) → IsSystem s → IsAccepted s
+        → All (λ (block : Registers). block.enabled ≡ true) s.blocks → IsLegalPlan s request plan
+        → IsCommittedRange (with_rows s plan.rows) r
+        → (r ≡ region_range plan.found) ⊎ IsCommittedRange s r }
+{
+    words_stand_for_decoder();
+    committed_stand_first();
+    regions_stay();
+}
+
+/// A law of images: one with a region's decoders released, of which none is locked and none below another that is
+/// committed, is an image of the same host. Every other region of before is one, and each committed range is one of
+/// before and another than the region's.
+pub fn regions_stay_after_a_release()
+    ensures system { (s : System) (found : Found) → IsSystem s → IsSystem (system_without s found) }
+    ensures region { (s : System) (found : Found) (w : WindowFields) (other : Found) → IsSystem s → KeepsBlocks s
+        → first_locked s found ≡ None → first_not_last s found ≡ None
+        → region_range other ≢ region_range found → IsRegionIn s w other
+        → IsRegionIn (system_without s found) w other }
+    ensures ranges { (s : System) (found : Found) (r : Range) → IsSystem s → KeepsBlocks s
+        → first_locked s found ≡ None → first_not_last s found ≡ None
+        → IsCommittedRange (system_without s found) r
+        → (r ≢ region_range found) × IsCommittedRange s r }
+{
+    words_stand_for_decoder();
     regions_stay();
 }

@@ -447,4 +447,6 @@ fn laws() {
     regions_stay_in_a_create();
     regions_stay_in_a_release();
     released_image_is_accepted();
+    regions_stay_after_a_create();
+    regions_stay_after_a_release();
 }

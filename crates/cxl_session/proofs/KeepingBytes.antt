@@ -16,7 +16,8 @@ same_bytes a b is = (bytes_eq-Decides a b).0 is
 
 -- ---- the machine
 
-abbrev HoldsOwn : Live → Type 0
+-- the bytes that a region holds are some of its own
+abbrev pub HoldsOwn : Live → Type 0
 HoldsOwn region = AreContents region.found region.contents
 
 module _ (m : Machine) (is : IsMachine m) (name : List ℕ) (contents : Contents)

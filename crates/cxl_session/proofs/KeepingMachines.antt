@@ -178,7 +178,7 @@ module _ (laws : TurnsLaw) (m : Machine) (is : IsMachine m) where
       subst (λ (r : Live). AreContents r.found from.contents) (sym (alike to other here inside same))
       (of_same_size from.found to.found from.contents size (own_contents from there)))
 
-no_contents : (found : Found) → AreContents found fin.empty
+pub no_contents : (found : Found) → AreContents found fin.empty
 no_contents found = record {
   inside = λ n bytes there. absurd (none-some bytes (sym (get-empty {X = List ℕ} nat_cmp n) ∙ there));
   whole = λ n bytes there. absurd (none-some bytes (sym (get-empty {X = List ℕ} nat_cmp n) ∙ there));

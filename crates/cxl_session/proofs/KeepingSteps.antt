@@ -4,7 +4,7 @@ use Rattle.std.specs.Prelude.{nat_le, IfSome}
 use Rattle.std.proofs.lemmas.Bool.{leb-false}
 use Rattle.std.proofs.lemmas.Option.{none-some}
 use Rattle.cxl_session.specs.Machine.{Live, RegionJob, JobKind, Creates, Releases, Machine, kept_regions, region_released, under_release}
-use Rattle.cxl_session.specs.Jobs.{total_of, at_done}
+use Rattle.cxl_session.specs.Jobs.{total_of, at_done, finished, undone}
 use Rattle.cxl_session.specs.Outcomes.{BusOutcome, NoFault, Undone, LeftPending, ReadFailed}
 use Rattle.cxl_reply.specs.declared.reply.Reply.TheVariants as replies
 use Rattle.cxl_session.specs.Replies.{Answer, becomes}
@@ -38,7 +38,7 @@ kept_regions_same m job done is =
 kept_on : (m : Machine) (job : RegionJob) (done : ℕ) (regions : List Live) → AreKept m regions → AreKept (at_done job done m) regions
 kept_on m job done regions kept = record { all = kept.all; names = kept.names; contents = kept.contents; few = kept.few }
 
-at_done_keeps : (m : Machine) (job : RegionJob) (done : ℕ) → IsMachine m → m.job ≡ Some job → done < total_of job → IsMachine (at_done job done m)
+pub at_done_keeps : (m : Machine) (job : RegionJob) (done : ℕ) → IsMachine m → m.job ≡ Some job → done < total_of job → IsMachine (at_done job done m)
 at_done_keeps m job done is pending part =
     let own : IsJob m job = subst (λ (o : Option RegionJob). IfSome o (IsJob m)) pending is.job in
     record {
@@ -51,16 +51,18 @@ at_done_keeps m job done is pending part =
 pub part_of : (m : Machine) (job : RegionJob) → IsMachine m → m.job ≡ Some job → job.done < total_of job
 part_of m job is pending = let own : IsJob m job = subst (λ (o : Option RegionJob). IfSome o (IsJob m)) pending is.job in own.part
 
-module _ (m : Machine) (is : IsMachine m) (answer : Answer) (left : RegionJob) (stays : answer.machine.job ≡ Some left) where
+-- what is known of a machine after a command, where that is the one behind the job's last write, or before its first
+module _ (m : Machine) (is : IsMachine m) (answer : Answer)
+    (finishes : (job : RegionJob) → m.job ≡ Some job → answer.machine ≡ finished job m → IsMachine answer.machine)
+    (undoes : (job : RegionJob) → m.job ≡ Some job → answer.machine ≡ undone job m → IsMachine answer.machine) where
   given : (other : Answer) → answer ≡ other → IsMachine other.machine → IsMachine answer.machine
   given other same keeps = subst (λ (a : Answer). IsMachine a.machine) (sym same) keeps
 
-  ends : (other : Answer) → answer ≡ other → other.machine.job ≡ None → IsMachine answer.machine
-  ends other same none = absurd (none-some left (sym none ∙ sym (ap (λ (a : Answer). a.machine.job) same) ∙ stays))
-
   step_by : (job : RegionJob) (steps : ℕ) (b : Bool) → nat_le (total_of job) (job.done + steps) ≡ b → m.job ≡ Some job → answer ≡ stepped_answer m job steps → IsMachine answer.machine
   step_by job steps true last pending same =
-      ends (stepped_answer m job steps) same (ap (λ (t : Bool). (if t then ended_answer job m else becomes (at_done job (job.done + steps) m) (replies.Stepped record { done = job.done + steps; total = total_of job })).machine.job) last)
+      finishes job pending
+      (ap (λ (a : Answer). a.machine) same
+      ∙ ap (λ (t : Bool). (if t then ended_answer job m else becomes (at_done job (job.done + steps) m) (replies.Stepped record { done = job.done + steps; total = total_of job })).machine) last)
   step_by job steps false more pending same =
       given _ (same ∙ ap (λ (t : Bool). if t then ended_answer job m else becomes (at_done job (job.done + steps) m) (replies.Stepped record { done = job.done + steps; total = total_of job })) more)
       (at_done_keeps m job (job.done + steps) is pending (leb-false (total_of job) (job.done + steps) more))
@@ -74,7 +76,7 @@ module _ (m : Machine) (is : IsMachine m) (answer : Answer) (left : RegionJob) (
   steps_keep job steps ReadFailed pending at = absurd at
 
   aborts_keep : (job : RegionJob) (outcome : BusOutcome) → m.job ≡ Some job → Aborts m job outcome answer → IsMachine answer.machine
-  aborts_keep job NoFault pending at = ends _ at refl
+  aborts_keep job NoFault pending at = undoes job pending (ap (λ (a : Answer). a.machine) at)
   aborts_keep job Undone pending at = absurd at
   aborts_keep job (LeftPending done) pending at =
       let part = at.0.part in
@@ -92,3 +94,7 @@ module _ (m : Machine) (is : IsMachine m) (answer : Answer) (left : RegionJob) (
 
   pub abort_keeps : (outcome : BusOutcome) → OfPending m m.job outcome answer (λ job. Aborts m job outcome answer) → IsMachine answer.machine
   abort_keeps outcome at = by_job outcome m.job refl (λ job. Aborts m job outcome answer) (λ job pending goes. aborts_keep job outcome pending goes) at
+
+-- no machine with a job pending is one with none
+pub still_pending : (after other : Machine) (job : RegionJob) → after.job ≡ Some job → after ≡ other → other.job ≡ None → IsMachine after
+still_pending after other job pending same none = absurd (none-some job (sym none ∙ sym (ap (λ (n : Machine). n.job) same) ∙ pending))

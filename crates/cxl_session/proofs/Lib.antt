@@ -17,3 +17,9 @@ pub mod KeepingBytes
 pub mod KeepingMachines
 pub mod KeepingAccesses
 pub mod KeepingSteps
+pub mod KeepingOrder
+pub mod KeepingRegions
+pub mod KeepingJobs
+pub mod KeepingBegun
+pub mod KeepingOpened
+pub mod KeepingCommands

@@ -10,6 +10,7 @@ pub mod Requests
 pub mod Regions
 pub mod Copies
 pub mod Answers
+pub mod Creating
 pub mod Sound
 pub mod Trails
 pub mod Scripts

@@ -1,24 +1,23 @@
 //! Laws of the answers, each the contract of a function that does nothing.
 
-ghost use Rattle.std.specs.Prelude.{◌≡◌, ℕ, ◌<◌, true, List, [], ◌∷◌, ◌++◌, AllPairs, Some};
+ghost use Rattle.std.specs.Prelude.{◌≡◌, ℕ, ◌<◌, true, List, [], ◌∷◌, ◌++◌, AllPairs};
 ghost use Rattle.cxl_bus.specs.declared.sent.Sent.{Sent};
 ghost use Rattle.cxl_script.specs.declared.command.Command.{Command};
-ghost use Rattle.cxl_script.specs.declared.command.Command.TheVariants as commands;
 ghost use Rattle.cxl_model.specs.declared.plan.Row.{Row};
 ghost use Rattle.cxl_model.specs.System.{System};
 ghost use Rattle.cxl_apply.specs.declared.write.Write.{Write};
 ghost use Rattle.cxl_apply.specs.Jobs.{AreCreateWrites, AreReleaseWrites};
 ghost use Rattle.cxl_apply.specs.Releases.{rows_of};
-ghost use Rattle.cxl_session.specs.Machine.{Live, RegionJob, Machine};
+ghost use Rattle.cxl_session.specs.Machine.{Live, Machine};
 ghost use Rattle.cxl_session.specs.Jobs.{create_writes, release_writes};
-ghost use Rattle.cxl_session.specs.Outcomes.{BusOutcome, NoFault, can_go, is_access, StoresBytes};
+ghost use Rattle.cxl_session.specs.Outcomes.{BusOutcome, NoFault, can_go};
 ghost use Rattle.cxl_session.specs.Replies.{Answer, is_refusal};
 ghost use Rattle.cxl_session.specs.Answers.{Answers};
 ghost use Rattle.cxl_session.specs.Scripts.{Asked, Course, Turn, Runs, TakesTurn, course_then, lines_asked};
 ghost use Rattle.cxl_session.specs.Sound.{IsMachine};
 ghost use Rattle.cxl_session.specs.Trails.{TrailOf};
 
-use cxl_model::{bytes_are_carried_one_to_one, regions_share_no_byte, weaves_fill_their_regions};
+use cxl_model::{bytes_are_carried_one_to_one, regions_share_no_byte};
 use cxl_poison::{bytes_are_one_list, each_record_has_pieces, records_are_told_in_one_way};
 
 /// A law of answers: a refused command leaves the machine as it is.
@@ -80,22 +79,3 @@ pub fn one_answer()
     bytes_are_one_list();
     records_are_told_in_one_way();
 }
-
-/// A law of machines: from one that a session can stand for, a command that makes and ends no region leads to one.
-pub fn accesses_keep_machines()
-    ensures { (m : Machine) (command : Command) (outcome : BusOutcome) (answer : Answer) → IsMachine m
-        → is_access command ≡ true → StoresBytes command → Answers m command outcome answer
-        → IsMachine answer.machine }
-{
-    weaves_fill_their_regions();
-}
-
-/// A law of machines: from one that a session can stand for, steps and an abort behind which a job is pending lead to one.
-pub fn steps_keep_machines()
-    ensures step { (m : Machine) (steps : ℕ) (outcome : BusOutcome) (answer : Answer) (job : RegionJob) → IsMachine m
-        → Answers m (commands.Step steps) outcome answer → answer.machine.job ≡ Some job
-        → IsMachine answer.machine }
-    ensures abort { (m : Machine) (outcome : BusOutcome) (answer : Answer) (job : RegionJob) → IsMachine m
-        → Answers m commands.Abort outcome answer → answer.machine.job ≡ Some job
-        → IsMachine answer.machine }
-{}

@@ -4,6 +4,7 @@
 mod access_examples;
 mod examples;
 mod fault;
+mod keeping;
 mod laws;
 mod opening_examples;
 mod plan_examples;
@@ -15,10 +16,14 @@ pub use examples::{
     releases_on_examples, steps_on_examples,
 };
 pub use fault::OpenFault;
+pub use keeping::{
+    accesses_keep_machines, commands_keep_machines, creates_begin_as_machines,
+    finished_jobs_keep_machines, openings_are_machines, releases_begin_as_machines,
+    steps_keep_machines, undone_jobs_keep_machines,
+};
 pub use laws::{
-    accesses_keep_machines, commands_go_as_they_can, each_command_is_answered,
-    jobs_have_one_list_of_writes, one_answer, refusals_leave_the_machine, refusals_write_nothing,
-    scripts_go_on, steps_keep_machines,
+    commands_go_as_they_can, each_command_is_answered, jobs_have_one_list_of_writes, one_answer,
+    refusals_leave_the_machine, refusals_write_nothing, scripts_go_on,
 };
 pub use opening_examples::openings_on_examples;
 pub use plan_examples::{

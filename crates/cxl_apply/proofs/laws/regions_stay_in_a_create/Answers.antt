@@ -1,21 +1,18 @@
-use Rattle.std.proofs.Common.{◌≡◌, ◌≢◌, ℕ, true, false, List, All, sym, ap, ◌∙◌}
-use Rattle.std.proofs.lemmas.Bool.{false≢true}
+use Rattle.std.proofs.Common.{◌≡◌, ◌≢◌, ℕ, true, List, All}
 use Rattle.cxl_regs.specs.Registers.{Registers}
-use Rattle.cxl_window.specs.Fields.{WindowFields}
-use Rattle.cxl_model.specs.declared.found.Found.{Found}
 use Rattle.cxl_model.specs.declared.plan.Plan.{Plan}
 use Rattle.cxl_model.specs.declared.request.Request.{Request}
 use Rattle.cxl_model.specs.System.{System, IsSystem}
 use Rattle.cxl_regs.specs.declared.reading.Range.{Range}
-use Rattle.cxl_model.specs.Ranges.{serves}
 use Rattle.cxl_model.specs.Accepted.{IsAccepted, KeepsBlocks}
 use Rattle.cxl_model.specs.Changes.{HaveSameDecoders}
 use Rattle.cxl_model.specs.Plans.{IsLegalPlan}
-use Rattle.cxl_model.specs.Regions.{region_range, IsRegionIn}
+use Rattle.cxl_model.specs.Regions.{region_range}
 use Rattle.cxl_apply.specs.declared.write.Write.{Write}
 use Rattle.cxl_apply.specs.Jobs.{AreCreateWrites, blocks_done, system_done}
 use Rattle.cxl_apply.proofs.Bounds.{length_done}
 use Rattle.cxl_apply.proofs.Planned.{planned}
+use Rattle.cxl_apply.proofs.After.{planned_elsewhere}
 use Rattle.cxl_apply.proofs.Staying.{create_good, stays_keep, stays_same}
 use Rattle.cxl_apply.proofs.laws.regions_stay_in_a_create.Goals as goal
 
@@ -34,19 +31,14 @@ on_way c s request plan writes n system accepted enabled is create =
       same = λ r apart. stays_same s (region_range plan.found) r (blocks_done s.blocks writes n) (length_done s.blocks writes n) good apart;
     }
 
--- a region of the image has another range than the one that is new
-other_range : (s : System) (request : Request) (plan : Plan) (w : WindowFields) (found : Found) → IsLegalPlan s request plan → IsRegionIn s w found → region_range found ≢ region_range plan.found
-other_range s request plan w found is region e =
-    false≢true (sym (is.1.new region.committed.0) ∙ ap (λ (r : Range). serves s r region.committed.0) (sym e) ∙ region.committed.1)
-
 pub returns-clause-keeps : goal.returns-clause-keeps
 returns-clause-keeps c = λ s request plan writes n system accepted enabled is create. (on_way c s request plan writes n system accepted enabled is create).keeps
 
 pub returns-clause-decoders : goal.returns-clause-decoders
 returns-clause-decoders c = λ s request plan writes n w found system accepted enabled is create region.
-    (on_way c s request plan writes n system accepted enabled is create).same (region_range found) (other_range s request plan w found is region)
+    (on_way c s request plan writes n system accepted enabled is create).same (region_range found) (planned_elsewhere s request plan w found is region)
 
 pub returns-clause-region : goal.returns-clause-region
 returns-clause-region c = λ s request plan writes n w found system accepted enabled is create region.
     let way = on_way c s request plan writes n system accepted enabled is create in
-    c.regions_stay.ensures.region s (system_done s writes n) w found (way.same (region_range found) (other_range s request plan w found is region)) way.keeps region
+    c.regions_stay.ensures.region s (system_done s writes n) w found (way.same (region_range found) (planned_elsewhere s request plan w found is region)) way.keeps region

@@ -1,5 +1,5 @@
 use Rattle.cxl_session.proofs.KeepingAccesses.{access_keeps}
-use Rattle.cxl_session.proofs.laws.accesses_keep_machines.Goals as goal
+use Rattle.cxl_session.proofs.keeping.accesses_keep_machines.Goals as goal
 
 pub returns : goal.returns
 returns c m command outcome answer is access stores at =
