@@ -11,6 +11,7 @@ mod found;
 mod laws;
 mod plan;
 mod poison;
+mod reading;
 mod regions;
 mod request;
 
@@ -31,6 +32,7 @@ pub use laws::{
 };
 pub use plan::{Plan, PlanFault, Reason, Row};
 pub use poison::{Entry, Part, PoisonList, Poisoned, Run, Wide};
+pub use reading::{is_fixed, permits, root_ways, target_position};
 pub use regions::{
     bytes_are_carried_one_to_one, committed_spans_are_of_regions, endpoints_lie_evenly,
     pieces_are_carried_whole, regions_are_listed, regions_lie_in_windows, regions_share_no_byte,

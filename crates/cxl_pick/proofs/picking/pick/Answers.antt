@@ -1,4 +1,5 @@
-use Rattle.std.proofs.Common.{sym, ◌∙◌}
+use Rattle.std.proofs.Common.{sym, ap, ◌∙◌}
+use Rattle.cxl_enc.specs.Codes.{is_ways}
 use Rattle.cxl_model.specs.System.{System, system_of}
 use Rattle.cxl_pick.specs.declared.want.Want.{Want}
 use Rattle.cxl_pick.proofs.Parts.{named}
@@ -14,13 +15,31 @@ returns-in-Ok-Some-clause-endpoints c =
       system = c.settle.ensures.system;
       ports = c.ports_are_bytes.ensures;
       accepted = c.requires.accepted;
-      ways = sym c.has_known_ways.ensures ∙ c.if-not-has_known_ways.false;
-      size = c.has_size.ensures.0 c.if-not-has_size.false;
+      ways = sym (c.is_ways.ensures ∙ ap is_ways c.from.ensures) ∙ c.if-not-is_ways.false;
+      size = c.is_size.ensures.0 c.if-not-is_size.false;
       code = c.requires.code;
       given = c.fitting_sets_are_given.ensures s want;
     } in
     let own = rw c.in-Ok-Some.field-0-is at c.in-Ok-Some.ensures in
     named (picked_of s want settled own.0 c.in-Ok-Some.set.items own.1)
+
+pub returns-in-Ok-Some-clause-count : goal.returns-in-Ok-Some-clause-count
+returns-in-Ok-Some-clause-count c =
+    let s : System = system_of c.args.image.now c.args.topo.now c.args.windows.now in
+    let want : Want = c.args.want.now in
+    let settled : Settled s want = record {
+      laws = c.tree_laws.ensures.laws s.nodes c.settle.ensures.system.tree;
+      system = c.settle.ensures.system;
+      ports = c.ports_are_bytes.ensures;
+      accepted = c.requires.accepted;
+      ways = sym (c.is_ways.ensures ∙ ap is_ways c.from.ensures) ∙ c.if-not-is_ways.false;
+      size = c.is_size.ensures.0 c.if-not-is_size.false;
+      code = c.requires.code;
+      given = c.fitting_sets_are_given.ensures s want;
+    } in
+    let own = rw c.in-Ok-Some.field-0-is at c.in-Ok-Some.ensures in
+    let there = (picked_of s want settled own.0 c.in-Ok-Some.set.items own.1).of.there in
+    c.given_sets_fit.ensures.ways s want own.0 own.1.given c.in-Ok-Some.set.items settled.system settled.ports settled.accepted settled.ways there own.1.gives own.1.rising
 
 pub returns-in-Ok-Some-clause-fits : goal.returns-in-Ok-Some-clause-fits
 returns-in-Ok-Some-clause-fits c =
@@ -31,8 +50,8 @@ returns-in-Ok-Some-clause-fits c =
       system = c.settle.ensures.system;
       ports = c.ports_are_bytes.ensures;
       accepted = c.requires.accepted;
-      ways = sym c.has_known_ways.ensures ∙ c.if-not-has_known_ways.false;
-      size = c.has_size.ensures.0 c.if-not-has_size.false;
+      ways = sym (c.is_ways.ensures ∙ ap is_ways c.from.ensures) ∙ c.if-not-is_ways.false;
+      size = c.is_size.ensures.0 c.if-not-is_size.false;
       code = c.requires.code;
       given = c.fitting_sets_are_given.ensures s want;
     } in
@@ -48,8 +67,8 @@ returns-in-Ok-None-clause-nothing c = λ told.
       system = c.settle.ensures.system;
       ports = c.ports_are_bytes.ensures;
       accepted = c.requires.accepted;
-      ways = sym c.has_known_ways.ensures ∙ c.if-not-has_known_ways.false;
-      size = c.has_size.ensures.0 c.if-not-has_size.false;
+      ways = sym (c.is_ways.ensures ∙ ap is_ways c.from.ensures) ∙ c.if-not-is_ways.false;
+      size = c.is_size.ensures.0 c.if-not-is_size.false;
       code = c.requires.code;
       given = c.fitting_sets_are_given.ensures s want;
     } in
@@ -65,8 +84,8 @@ returns-in-Ok-Some-clause-legal c =
       system = c.settle.ensures.system;
       ports = c.ports_are_bytes.ensures;
       accepted = c.requires.accepted;
-      ways = sym c.has_known_ways.ensures ∙ c.if-not-has_known_ways.false;
-      size = c.has_size.ensures.0 c.if-not-has_size.false;
+      ways = sym (c.is_ways.ensures ∙ ap is_ways c.from.ensures) ∙ c.if-not-is_ways.false;
+      size = c.is_size.ensures.0 c.if-not-is_size.false;
       code = c.requires.code;
       given = c.fitting_sets_are_given.ensures s want;
     } in
@@ -85,8 +104,8 @@ returns-in-Ok-None-clause-none c = λ told.
       system = c.settle.ensures.system;
       ports = c.ports_are_bytes.ensures;
       accepted = c.requires.accepted;
-      ways = sym c.has_known_ways.ensures ∙ c.if-not-has_known_ways.false;
-      size = c.has_size.ensures.0 c.if-not-has_size.false;
+      ways = sym (c.is_ways.ensures ∙ ap is_ways c.from.ensures) ∙ c.if-not-is_ways.false;
+      size = c.is_size.ensures.0 c.if-not-is_size.false;
       code = c.requires.code;
       given = c.fitting_sets_are_given.ensures s want;
     } in
