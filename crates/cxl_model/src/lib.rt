@@ -28,7 +28,7 @@ pub use extent::Extent;
 pub use found::{Found, Place, weave_of};
 pub use laws::{
     accepted_or_breach, accepted_where_whole, breaches_lie_in_images, chains_have_one_end,
-    hosts_with_caps_are_systems, one_window,
+    hosts_with_caps_are_systems, one_window, reset_hosts_are_accepted,
 };
 pub use plan::{Plan, PlanFault, Reason, Row};
 pub use poison::{Entry, Part, PoisonList, Poisoned, Run, Wide};
