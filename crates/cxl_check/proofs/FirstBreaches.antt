@@ -7,10 +7,9 @@ use Rattle.std.proofs.lemmas.Option.{slice_get_past}
 use Rattle.cxl_regs.specs.Registers.{Registers}
 use Rattle.cxl_span.specs.Breaches.{breaks as block_breaks}
 use Rattle.cxl_model.specs.System.{System, IsSystem, ram_at, pmem_at}
-use Rattle.cxl_model.specs.Accepted.{breaks, breaks_block, KeepsBlocks, IsAccepted, IsFirstBreach}
+use Rattle.cxl_model.specs.Accepted.{breaks, breaks_block, KeepsBlocks, IsAccepted, IsFirstBreach, IsOrderlySystem}
 use Rattle.cxl_check.specs.declared.fault.Breach.{Breach}
 use Rattle.cxl_check.specs.Spots.{Keeps, IsFirstSpot}
-use Rattle.cxl_check.specs.inner.Ready.{IsReady}
 use Rattle.cxl_check.specs.inner.Blocks.{IsFirstBelow, IsFoundBelow}
 use Rattle.cxl_check.proofs.Kept.{no_rule, block_rule}
 
@@ -63,7 +62,7 @@ module _ (s : System) where
               ∙ elim (cases_lt n (length s.nodes)) [ inl below ↦ each n i below | inr past ↦ block_past rule n i (omega arith) ]
         ]
 
-    pub ready_where_none : IsSystem s → (o : Option Breach) → IsFoundBelow s (length s.nodes) o → IfNone o (IsReady s)
+    pub ready_where_none : IsSystem s → (o : Option Breach) → IsFoundBelow s (length s.nodes) o → IfNone o (IsOrderlySystem s)
     ready_where_none system None found = record { system = system; blocks = λ rule n i low. lower_keeps rule (λ m j below. found rule m j below) low n i }
     ready_where_none system (Some b) found = tt
 

@@ -17,8 +17,7 @@ use Rattle.cxl_span.specs.Rules.{breaks_rule}
 use Rattle.cxl_span.specs.Spans.{span_start_of}
 use Rattle.cxl_span.specs.Breaches.{breaks as block_breaks, BlockKeeps}
 use Rattle.cxl_model.specs.System.{System, decoder_at, ram_at, pmem_at}
-use Rattle.cxl_model.specs.Accepted.{breaks, breaks_block}
-use Rattle.cxl_check.specs.inner.Ready.{IsReady}
+use Rattle.cxl_model.specs.Accepted.{breaks, breaks_block, IsOrderlySystem}
 
 -- a rule that is none of K2 to K8 is broken by no decoder
 pub no_rule : (rule : ℕ) (block : Registers) (ram pmem i : ℕ) → ((k : ℕ) → 2 ≤ k → k < 9 → rule ≡ k → ⊥) → block_breaks rule block ram pmem i ≡ false
@@ -52,7 +51,7 @@ pub some_and : {A : Type 0} (o : Option A) (P : A → Type 0) → IsSomeAnd o P 
 some_and None P h = absurd h
 some_and (Some x) P h = (x, refl, h)
 
-module _ (s : System) (ready : IsReady s) where
+module _ (s : System) (ready : IsOrderlySystem s) where
   pub kept_block : (n : ℕ) (block : Registers) → slice_get s.blocks n ≡ Some block → BlockKeeps block (ram_at s n) (pmem_at s n)
   kept_block n block here = record { each = each }
     where

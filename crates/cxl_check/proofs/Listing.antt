@@ -21,12 +21,11 @@ use Rattle.cxl_window.specs.Fields.{WindowFields}
 use Rattle.cxl_model.specs.declared.found.Found.{Found}
 use Rattle.cxl_model.specs.System.{System, IsSystem, decoders_at, ram_at, pmem_at}
 use Rattle.cxl_model.specs.Ranges.{serves, IsCommittedRange, first_endpoint, range_ways}
-use Rattle.cxl_model.specs.Accepted.{IsAccepted, KeepsBlocks, IsWhole}
+use Rattle.cxl_model.specs.Accepted.{IsAccepted, KeepsBlocks, IsWhole, IsOrderlySystem}
 use Rattle.cxl_model.specs.Regions.{region_range, IsRegionIn, IsRegion}
 use Rattle.cxl_model.specs.Counts.{is_endpoint_of, endpoints_of}
 use Rattle.cxl_model.specs.Listed.{AreRegions, AreRegionsByBase}
 use Rattle.cxl_check.specs.declared.firsts.RangeKey.{RangeKey}
-use Rattle.cxl_check.specs.inner.Ready.{IsReady}
 use Rattle.cxl_check.specs.inner.Firsts.{key_cmp, range_at, first_below, ListsFirsts}
 use Rattle.cxl_check.proofs.Kept.{kept_block}
 use Rattle.cxl_check.proofs.Keys.{lookup_place, mapped_at, filter_none, same_key, key_rises}
@@ -56,7 +55,7 @@ pub record AreListed (s : System) (keys : List RangeKey) (regions : List Found) 
   pub ranges : map region_range regions ≡ map range_at keys
   pub each : All (IsRegion s) regions
 
-module _ (s : System) (ready : IsReady s) (accepted : IsAccepted s) (firsts : BTreeMap RangeKey ℕ) (listed : ListsFirsts s (length s.nodes) firsts) (wholes : WholesAreAccepted) where
+module _ (s : System) (ready : IsOrderlySystem s) (accepted : IsAccepted s) (firsts : BTreeMap RangeKey ℕ) (listed : ListsFirsts s (length s.nodes) firsts) (wholes : WholesAreAccepted) where
   key_found : (key : RangeKey) → ContainsKey key_cmp firsts key → (n : ℕ) × (get key_cmp firsts key ≡ Some n)
   key_found key there = go (get key_cmp firsts key) refl there
     where
@@ -91,7 +90,7 @@ one_listed s keys i key regions region known below is one same = record {
 
 -- ---- all of them
 
-module _ (s : System) (ready : IsReady s) (accepted : IsAccepted s) (firsts : BTreeMap RangeKey ℕ) (listed : ListsFirsts s (length s.nodes) firsts) (ordered : IsOrdered key_cmp firsts)
+module _ (s : System) (ready : IsOrderlySystem s) (accepted : IsAccepted s) (firsts : BTreeMap RangeKey ℕ) (listed : ListsFirsts s (length s.nodes) firsts) (ordered : IsOrdered key_cmp firsts)
     (wholes : WholesAreAccepted) (counts : CountsEndpoints) (apart : SharesNoByte) (bytes : HasBytes) (regions : List Found) (known : AreListed s (keys firsts) regions) where
   -- each committed range has a first endpoint
   first_of : (r : Range) → IsCommittedRange s r → (n : ℕ) × (first_endpoint s r ≡ Some n)

@@ -1,10 +1,9 @@
 ghost use Rattle.std.specs.Prelude.{◌≡◌, length, IsErr, OnOk, IfOk, IfErr, IfSome, IfNone};
 ghost use Rattle.cxl_window.specs.Windows.{AreMadeWith};
 ghost use Rattle.cxl_model.specs.System.{system_of, bridge_uids};
-ghost use Rattle.cxl_model.specs.Accepted.{IsAccepted, IsFirstBreach, HasFirstBreach};
+ghost use Rattle.cxl_model.specs.Accepted.{IsAccepted, IsFirstBreach, HasFirstBreach, IsOrderlySystem};
 ghost use Rattle.cxl_model.specs.Listed.{AreRegionsByBase};
 ghost use Rattle.cxl_check.specs.Spots.{TellsFirstBreach};
-ghost use Rattle.cxl_check.specs.inner.Ready.{IsReady};
 ghost use Rattle.cxl_check.specs.inner.Facts.{AreSystemTables};
 
 use crate::blocks::blocks_breach;
@@ -57,7 +56,7 @@ pub fn check(
 /// The first breach of K1 to K8, which speak of blocks alone.
 fn early_breach(image: &Image, topo: &Topo, windows: &[Window]) -> Option<Breach>
     requires { AreMadeWith windows.now (bridge_uids topo.now.nodes) }
-    ensures none { IfNone result (IsReady (system_of image.now topo.now windows.now)) }
+    ensures none { IfNone result (IsOrderlySystem (system_of image.now topo.now windows.now)) }
     ensures first { IfSome result
         (λ b. IsFirstBreach (system_of image.now topo.now windows.now) b.rule b.node b.decoder) }
 {
@@ -76,7 +75,7 @@ fn early_breach(image: &Image, topo: &Topo, windows: &[Window]) -> Option<Breach
 
 /// The first breach of K9 to K12, which speak of ranges.
 fn late_breach(image: &Image, topo: &Topo, windows: &[Window], tables: &Tables) -> Option<Breach>
-    requires ready { IsReady (system_of image.now topo.now windows.now) }
+    requires ready { IsOrderlySystem (system_of image.now topo.now windows.now) }
     requires tables { AreSystemTables (system_of image.now topo.now windows.now) tables.now }
     ensures none { IfNone result (IsAccepted (system_of image.now topo.now windows.now)) }
     ensures first { IfSome result

@@ -2,7 +2,7 @@
 
 ghost use Rattle.std.specs.Prelude.{◌≡◌, ◌==◌, length, if◌then◌else◌};
 ghost use Rattle.cxl_model.specs.System.{system_of};
-ghost use Rattle.cxl_check.specs.inner.Ready.{IsReady};
+ghost use Rattle.cxl_model.specs.Accepted.{IsOrderlySystem};
 ghost use Rattle.cxl_check.specs.inner.Firsts.{ListsFirsts};
 ghost use Rattle.cxl_check.specs.inner.Facts.{AreFacts};
 
@@ -32,7 +32,7 @@ pub(crate) fn facts_of(
     firsts: &BTreeMap<RangeKey, u32>,
     range: &Range,
 ) -> RangeFacts
-    requires ready { IsReady (system_of image.now topo.now windows.now) }
+    requires ready { IsOrderlySystem (system_of image.now topo.now windows.now) }
     requires firsts { ListsFirsts (system_of image.now topo.now windows.now) (length topo.now.nodes) firsts.now }
     ensures { AreFacts (system_of image.now topo.now windows.now) range.now result }
 {

@@ -5,7 +5,7 @@ ghost use Rattle.cxl_topo.specs.Tree.{is_endpoint_at};
 ghost use Rattle.cxl_span.specs.Spans.{span_start_of};
 ghost use Rattle.cxl_model.specs.System.{system_of, decoders_at, decoder_at};
 ghost use Rattle.cxl_model.specs.Ranges.{span_kind};
-ghost use Rattle.cxl_check.specs.inner.Ready.{IsReady};
+ghost use Rattle.cxl_model.specs.Accepted.{IsOrderlySystem};
 
 use cxl_enc::MemKind;
 use cxl_image::Image;
@@ -16,7 +16,7 @@ use cxl_window::Window;
 
 /// The kind of memory of the span of an endpoint's committed decoder.
 pub(crate) fn span_kind(image: &Image, topo: &Topo, windows: &[Window], node: u32, i: u8) -> MemKind
-    requires ready { IsReady (system_of image.now topo.now windows.now) }
+    requires ready { IsOrderlySystem (system_of image.now topo.now windows.now) }
     requires endpoint { is_endpoint_at topo.now.nodes node ≡ true }
     requires committed { IsSomeAnd (decoder_at (system_of image.now topo.now windows.now) node i) (λ d. d.committed ≡ true) }
     ensures { result ≡ span_kind (system_of image.now topo.now windows.now) node i }
@@ -34,7 +34,7 @@ pub(crate) fn span_kind(image: &Image, topo: &Topo, windows: &[Window], node: u3
 
 /// The device address at which that span starts.
 pub(crate) fn span_start(image: &Image, topo: &Topo, windows: &[Window], node: u32, i: u8) -> u64
-    requires ready { IsReady (system_of image.now topo.now windows.now) }
+    requires ready { IsOrderlySystem (system_of image.now topo.now windows.now) }
     requires endpoint { is_endpoint_at topo.now.nodes node ≡ true }
     requires committed { IsSomeAnd (decoder_at (system_of image.now topo.now windows.now) node i) (λ d. d.committed ≡ true) }
     ensures { result ≡ span_start_of (decoders_at (system_of image.now topo.now windows.now) node) i }

@@ -3,11 +3,10 @@
 ghost use Rattle.std.specs.Prelude.{◌≡◌, length, All, IfOk};
 ghost use Rattle.std.specs.BTreeMap.{keys, IsOrdered, ContainsKey};
 ghost use Rattle.cxl_model.specs.System.{system_of};
-ghost use Rattle.cxl_model.specs.Accepted.{IsAccepted, IsWhole};
+ghost use Rattle.cxl_model.specs.Accepted.{IsAccepted, IsWhole, IsOrderlySystem};
 ghost use Rattle.cxl_model.specs.Ranges.{IsCommittedRange};
 ghost use Rattle.cxl_model.specs.Regions.{IsRegion, region_range};
 ghost use Rattle.cxl_model.specs.Listed.{AreRegionsByBase};
-ghost use Rattle.cxl_check.specs.inner.Ready.{IsReady};
 ghost use Rattle.cxl_check.specs.inner.Firsts.{key_cmp, ListsFirsts};
 
 use crate::facts::facts_of;
@@ -36,7 +35,7 @@ pub(crate) fn regions(
     windows: &[Window],
     firsts: &BTreeMap<RangeKey, u32>,
 ) -> Result<Vec<Found>, AllocError>
-    requires ready { IsReady (system_of image.now topo.now windows.now) }
+    requires ready { IsOrderlySystem (system_of image.now topo.now windows.now) }
     requires accepted { IsAccepted (system_of image.now topo.now windows.now) }
     requires firsts { ListsFirsts (system_of image.now topo.now windows.now) (length topo.now.nodes) firsts.now }
     ensures { IfOk result
@@ -77,7 +76,7 @@ fn region_of(
     firsts: &BTreeMap<RangeKey, u32>,
     range: &Range,
 ) -> Result<Found, AllocError>
-    requires ready { IsReady (system_of image.now topo.now windows.now) }
+    requires ready { IsOrderlySystem (system_of image.now topo.now windows.now) }
     requires firsts { ListsFirsts (system_of image.now topo.now windows.now) (length topo.now.nodes) firsts.now }
     requires committed { IsCommittedRange (system_of image.now topo.now windows.now) range.now }
     requires whole { IsWhole (system_of image.now topo.now windows.now) range.now }

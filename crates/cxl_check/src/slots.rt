@@ -1,20 +1,18 @@
 //! The span of each slot of a region.
 
-ghost use Rattle.std.specs.Prelude.{◌≡◌, ◌/◌, ◌%◌, ◌^◌, ◌<◌, ◌≤◌, [], length};
-ghost use Rattle.cxl_enc.specs.Codes.{bits_of};
+ghost use Rattle.std.specs.Prelude.{◌≡◌, ◌/◌, ◌%◌, ◌<◌, [], length};
 ghost use Rattle.cxl_regs.specs.Reading.{decoder_ways};
 ghost use Rattle.cxl_model.specs.declared.found.Place.{Place};
 ghost use Rattle.cxl_model.specs.System.{system_of};
-ghost use Rattle.cxl_model.specs.Regions.{target_position, slots_an_entry, LeadsTo, HasSpan};
-ghost use Rattle.cxl_check.specs.inner.Ready.{IsReady};
+ghost use Rattle.cxl_model.specs.Regions.{slots_an_entry, LeadsTo, HasSpan};
+ghost use Rattle.cxl_model.specs.Accepted.{IsOrderlySystem};
 ghost use Rattle.cxl_check.specs.inner.Slots.{child_of_slot, next_of};
 
 use crate::above::ports_above;
 use crate::decoders::{decoder_for, index_for};
 use crate::kind::span_start;
-use cxl_enc::split;
 use cxl_image::Image;
-use cxl_model::Place;
+use cxl_model::{Place, root_ways, target_position};
 use cxl_regs::{Decoder, Range};
 use cxl_topo::{Topo, tree_laws};
 use cxl_window::Window;
@@ -28,7 +26,7 @@ pub(crate) fn span_of(
     w: &Window,
     slot: u8,
 ) -> Place
-    requires ready { IsReady (system_of image.now topo.now windows.now) }
+    requires ready { IsOrderlySystem (system_of image.now topo.now windows.now) }
     requires some { (place : Place) × HasSpan (system_of image.now topo.now windows.now) w.now range.now slot place }
     requires slot { slot < 16 }
     ensures { HasSpan (system_of image.now topo.now windows.now) w.now range.now slot result }
@@ -36,17 +34,6 @@ pub(crate) fn span_of(
     let uid = w.targets()[usize::from(target_position(w, slot))];
     let bridge = topo.bridge(uid).unwrap();
     place_below(image, topo, windows, range, w, slot, bridge)
-}
-
-/// The position of the window's target to which a slot belongs.
-fn target_position(w: &Window, slot: u8) -> u8
-    requires { slot < 16 }
-    ensures { result ≡ target_position w.now slot }
-{
-    let factors = split(w.ways());
-    let third = slot >> factors.bits;
-    let turn = if factors.third { third % 3 } else { 0 };
-    slot % (1 << factors.bits) + (turn << factors.bits)
 }
 
 /// The place of a device to which a slot leads from a node on.
@@ -59,7 +46,7 @@ fn place_below(
     slot: u8,
     node: u32,
 ) -> Place
-    requires ready { IsReady (system_of image.now topo.now windows.now) }
+    requires ready { IsOrderlySystem (system_of image.now topo.now windows.now) }
     requires some { (place : Place) × LeadsTo (system_of image.now topo.now windows.now) w.now range.now slot node place }
     ensures { LeadsTo (system_of image.now topo.now windows.now) w.now range.now slot node result }
 {
@@ -133,13 +120,4 @@ fn entry_of_slot(
     let above = ports_above(image, topo, range, node);
     let shared = root_ways(w) * above.ways;
     (u32::from(slot) / shared % u32::from(d.interleave_ways())) as u8
-}
-
-/// How many positions of a window's targets share a remainder by three: 2 to the window's k.
-fn root_ways(w: &Window) -> u32
-    ensures value { result ≡ 2 ^ bits_of w.now.ways }
-    ensures some { 0 < result }
-    ensures few { result ≤ 16 }
-{
-    1 << split(w.ways()).bits
 }

@@ -2,9 +2,9 @@
 
 ghost use Rattle.std.specs.Prelude.{◌≡◌, ℕ, ◌<◌, ◌≤◌, ◌&&◌, not, true, false, Some, length, IfSome, IfNone};
 ghost use Rattle.cxl_model.specs.System.{system_of, decoder_at};
-ghost use Rattle.cxl_model.specs.Accepted.{breaks};
+ghost use Rattle.cxl_model.specs.Accepted.{breaks, IsOrderlySystem};
 ghost use Rattle.cxl_check.specs.Spots.{Keeps, IsFirstSpot};
-ghost use Rattle.cxl_check.specs.inner.Ready.{IsReady, IsCommitted};
+ghost use Rattle.cxl_check.specs.inner.Ready.{IsCommitted};
 ghost use Rattle.cxl_check.specs.inner.Facts.{AreSystemTables, keeps_rule};
 
 use crate::reach::keeps_reach;
@@ -32,7 +32,7 @@ pub(crate) fn first_spot(
     tables: &Tables,
     rule: u8,
 ) -> Option<Spot>
-    requires ready { IsReady (system_of image.now topo.now windows.now) }
+    requires ready { IsOrderlySystem (system_of image.now topo.now windows.now) }
     requires tables { AreSystemTables (system_of image.now topo.now windows.now) tables.now }
     requires from { 9 ≤ rule }
     requires to { rule < 13 }
@@ -57,7 +57,7 @@ fn first_decoder(
     rule: u8,
     node: u32,
 ) -> Option<u8>
-    requires ready { IsReady (system_of image.now topo.now windows.now) }
+    requires ready { IsOrderlySystem (system_of image.now topo.now windows.now) }
     requires tables { AreSystemTables (system_of image.now topo.now windows.now) tables.now }
     requires from { 9 ≤ rule }
     requires to { rule < 13 }
@@ -95,7 +95,7 @@ fn breaks_rule(
     i: u8,
     d: &Decoder,
 ) -> bool
-    requires ready { IsReady (system_of image.now topo.now windows.now) }
+    requires ready { IsOrderlySystem (system_of image.now topo.now windows.now) }
     requires tables { AreSystemTables (system_of image.now topo.now windows.now) tables.now }
     requires here { node < length topo.now.nodes }
     requires there { decoder_at (system_of image.now topo.now windows.now) node i ≡ Some d.now }
@@ -115,7 +115,7 @@ fn keeps_rule(
     i: u8,
     d: &Decoder,
 ) -> bool
-    requires ready { IsReady (system_of image.now topo.now windows.now) }
+    requires ready { IsOrderlySystem (system_of image.now topo.now windows.now) }
     requires tables { AreSystemTables (system_of image.now topo.now windows.now) tables.now }
     requires here { node < length topo.now.nodes }
     requires committed { IsCommitted (system_of image.now topo.now windows.now) node i d.now }

@@ -7,7 +7,8 @@ ghost use Rattle.cxl_topo.specs.Tree.{is_endpoint_at};
 ghost use Rattle.cxl_model.specs.System.{System, system_of};
 ghost use Rattle.cxl_model.specs.Ranges.{ways_above, bits_above, span_kind, same_kind, range_ways, range_kind, range_code};
 ghost use Rattle.cxl_model.specs.Rules.{keeps_endpoint_ways, keeps_port_code, keeps_ways};
-ghost use Rattle.cxl_check.specs.inner.Ready.{IsReady, IsCommitted};
+ghost use Rattle.cxl_model.specs.Accepted.{IsOrderlySystem};
+ghost use Rattle.cxl_check.specs.inner.Ready.{IsCommitted};
 ghost use Rattle.cxl_check.specs.inner.Firsts.{ListsFirsts};
 ghost use Rattle.cxl_check.specs.inner.Facts.{AreFacts};
 ghost use Rattle.cxl_regs.specs.declared.reading.Range.{Range};
@@ -35,7 +36,7 @@ pub(crate) fn keeps_ways(
     i: u8,
     d: &Decoder,
 ) -> bool
-    requires ready { IsReady (system_of image.now topo.now windows.now) }
+    requires ready { IsOrderlySystem (system_of image.now topo.now windows.now) }
     requires firsts { ListsFirsts (system_of image.now topo.now windows.now) (length topo.now.nodes) firsts.now }
     requires here { node < length topo.now.nodes }
     requires committed { IsCommitted (system_of image.now topo.now windows.now) node i d.now }
@@ -65,7 +66,7 @@ fn keeps_endpoint_ways(
     i: u8,
     d: &Decoder,
 ) -> bool
-    requires ready { IsReady (system_of image.now topo.now windows.now) }
+    requires ready { IsOrderlySystem (system_of image.now topo.now windows.now) }
     requires facts { AreFacts (system_of image.now topo.now windows.now) (record { base = d.now.base; size = d.now.size }) facts.now }
     requires here { node < length topo.now.nodes }
     requires endpoint { is_endpoint_at topo.now.nodes node ≡ true }
@@ -108,7 +109,7 @@ fn keeps_kind(
     i: u8,
     d: &Decoder,
 ) -> bool
-    requires ready { IsReady (system_of image.now topo.now windows.now) }
+    requires ready { IsOrderlySystem (system_of image.now topo.now windows.now) }
     requires facts { AreFacts (system_of image.now topo.now windows.now) (range_of d.now) facts.now }
     requires endpoint { is_endpoint_at topo.now.nodes node ≡ true }
     requires committed { IsCommitted (system_of image.now topo.now windows.now) node i d.now }

@@ -2,19 +2,20 @@
 
 ghost use Rattle.std.specs.Prelude.{◌≡◌, ◌<◌, ◌≤◌, true, length, find};
 ghost use Rattle.std.specs.Option.{option_copied};
-ghost use Rattle.cxl_regs.specs.Words.{has_bit};
 ghost use Rattle.cxl_topo.specs.Tree.{is_endpoint_at};
 ghost use Rattle.cxl_model.specs.System.{system_of};
 ghost use Rattle.cxl_model.specs.Ranges.{lies_within, span_kind};
-ghost use Rattle.cxl_model.specs.Rules.{starts_in_thirds, permits, keeps_window};
-ghost use Rattle.cxl_check.specs.inner.Ready.{IsReady, IsCommitted};
+ghost use Rattle.cxl_model.specs.Rules.{starts_in_thirds, keeps_window};
+ghost use Rattle.cxl_model.specs.Accepted.{IsOrderlySystem};
+ghost use Rattle.cxl_check.specs.inner.Ready.{IsCommitted};
 
 use crate::kind::span_kind;
-use cxl_enc::{MemKind, UNIT};
+use cxl_enc::UNIT;
 use cxl_image::Image;
+use cxl_model::permits;
 use cxl_regs::{Decoder, Range};
 use cxl_topo::Topo;
-use cxl_window::{Verdict, Window};
+use cxl_window::Window;
 
 /// K9 of a committed decoder: its range lies in a usable window, in thirds where it must, and an endpoint's span is of a
 /// kind that the window permits.
@@ -26,7 +27,7 @@ pub(crate) fn keeps_window(
     i: u8,
     d: &Decoder,
 ) -> bool
-    requires ready { IsReady (system_of image.now topo.now windows.now) }
+    requires ready { IsOrderlySystem (system_of image.now topo.now windows.now) }
     requires here { node < length topo.now.nodes }
     requires committed { IsCommitted (system_of image.now topo.now windows.now) node i d.now }
     ensures { result ≡ keeps_window (system_of image.now topo.now windows.now) node i d.now }
@@ -51,9 +52,7 @@ fn lies_within(range: &Range, w: &Window) -> bool
     ensures { result ≡ lies_within range.now w.now }
 {
     let end = u128::from(range.base) + u128::from(range.size);
-    matches!(w.verdict(), Verdict::Usable)
-        && w.base() <= range.base
-        && end <= u128::from(w.base()) + u128::from(w.size())
+    w.is_usable() && w.base() <= range.base && end <= u128::from(w.base()) + u128::from(w.size())
 }
 
 /// Whether a range starts at a multiple of 768 MiB from the base of a window whose ways are divided by three.
@@ -61,22 +60,4 @@ fn starts_in_thirds(w: &Window, range: &Range) -> bool
     ensures { result ≡ starts_in_thirds w.now range.now }
 {
     w.ways() % 3 != 0 || range.base.saturating_sub(w.base()) % (3 * UNIT) == 0
-}
-
-/// Whether the restrictions of a window permit spans of a kind.
-fn permits(w: &Window, kind: MemKind) -> bool
-    ensures { result ≡ permits w.now kind }
-{
-    let restrict = w.restrict();
-    match kind {
-        MemKind::Ram => has_bit(restrict, 1) && has_bit(restrict, 2),
-        MemKind::Pmem => has_bit(restrict, 1) && has_bit(restrict, 3),
-    }
-}
-
-fn has_bit(word: u16, place: u8) -> bool
-    requires { place < 16 }
-    ensures { result ≡ has_bit word place }
-{
-    (word >> place) % 2 == 1
 }

@@ -131,7 +131,7 @@ agreed : (o : Option ℕ) (gran : ℕ) → IfSome o (λ code. code ≡ gran) →
 agreed None gran is = refl
 agreed (Some code) gran is = eq-eqb code gran is
 
-gran_agrees : (request : Request) (w : WindowFields) → AgreesOnCode request w → agrees_on_gran request w ≡ true
+gran_agrees : (request : Request) (w : WindowFields) → AgreesOnCode request w → agrees_on_gran request.gran w ≡ true
 gran_agrees request w agrees =
     elim (cases_Bool (nat_lt 1 w.ways)) [
       | inl more ↦ or_right (not (nat_lt 1 w.ways)) (option_map_or (λ code. code == w.gran) request.gran true) (agreed request.gran w.gran (agrees (ltb-true 1 w.ways more)))

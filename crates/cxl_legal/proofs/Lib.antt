@@ -36,3 +36,4 @@ pub mod StatedRules
 pub mod StatedPlaces
 pub mod StatedRegions
 pub mod StatedPlans
+pub mod Prefixes

@@ -16,10 +16,14 @@ use Rattle.cxl_legal.specs.Used.{request_ways, is_used, count_under, used_ports,
 -- ---- size
 
 -- some bytes, a multiple of 256 MiB for each way, and no more than 2 ^ 52
-pub record IsSize (request : Request) : Type 0 where
-  pub some : 0 < request.size
-  pub even : request.size % (unit * request_ways request) ≡ 0
-  pub low : request.size ≤ address_limit
+pub record IsSizeFor (size ways : ℕ) : Type 0 where
+  pub some : 0 < size
+  pub even : size % (unit * ways) ≡ 0
+  pub low : size ≤ address_limit
+
+-- the size of a request is one for its ways
+abbrev pub IsSize : Request → Type 0
+IsSize request = IsSizeFor request.size (request_ways request)
 
 -- the bytes of each endpoint
 abbrev pub share_of : Request → ℕ

@@ -1,5 +1,5 @@
 -- What a window has to keep to take a request (this project's rules).
-use Rattle.std.specs.Prelude.{◌≡◌, ℕ, ◌==◌, nat_lt, nat_le, ◌&&◌, ◌||◌, not, Bool, true, false, length, slice_get, Some}
+use Rattle.std.specs.Prelude.{◌≡◌, ℕ, ◌==◌, nat_lt, nat_le, ◌&&◌, ◌||◌, not, Bool, true, false, length, slice_get, Option, Some}
 use Rattle.std.specs.Option.{option_map_or}
 use Rattle.std.specs.List.{list_any, list_all, range_with_len}
 use Rattle.cxl_enc.specs.Codes.{bits_of, code_in_table}
@@ -29,8 +29,8 @@ has_used_bridges s request w =
     && list_all (λ n. not (is_bridge_at s.nodes n && is_used s request n) || is_target s w n) (range_with_len 0 (length s.nodes))
 
 -- a stated granularity code is that of a window of more than one way
-abbrev pub agrees_on_gran : Request → WindowFields → Bool
-agrees_on_gran request w = not (nat_lt 1 w.ways) || option_map_or (λ code. code == w.gran) request.gran true
+abbrev pub agrees_on_gran : Option ℕ → WindowFields → Bool
+agrees_on_gran gran w = not (nat_lt 1 w.ways) || option_map_or (λ code. code == w.gran) gran true
 
 -- node n could not select with the code and ways that it would have, or is not used
 abbrev pub can_select : System → Request → WindowFields → ℕ → Bool
@@ -52,6 +52,6 @@ pub record FitsWindow (s : System) (request : Request) (w : WindowFields) : Type
   -- fixed configuration
   pub open_to_plans : has_bit w.restrict 4 ≡ false
   pub bridges : has_used_bridges s request w ≡ true
-  pub gran : agrees_on_gran request w ≡ true
+  pub gran : agrees_on_gran request.gran w ≡ true
   pub selects : (n : ℕ) → can_select s request w n ≡ true
   pub ways : (n : ℕ) → can_have_ways s request n ≡ true

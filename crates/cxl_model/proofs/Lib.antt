@@ -35,3 +35,4 @@ pub mod DealingRoutes
 pub mod DealingRanges
 pub mod DealingStays
 pub mod Hosting
+pub mod Resetting

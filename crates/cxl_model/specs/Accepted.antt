@@ -5,7 +5,7 @@ use Rattle.cxl_regs.specs.declared.decoder.Decoder.{Decoder}
 use Rattle.cxl_regs.specs.declared.reading.Range.{Range}
 use Rattle.cxl_regs.specs.Reading.{has_range}
 use Rattle.cxl_span.specs.Breaches.{breaks as block_breaks}
-use Rattle.cxl_model.specs.System.{System, decoder_at, ram_at, pmem_at}
+use Rattle.cxl_model.specs.System.{System, IsSystem, decoder_at, ram_at, pmem_at}
 use Rattle.cxl_model.specs.Rules.{keeps_window, keeps_targets, keeps_reach, keeps_ways}
 
 -- K1: one block for each node, with its capability word; where the number differs node 0 is named, and decoder 0 in either case
@@ -52,6 +52,11 @@ HasFirstBreach s = (rule node decoder : ℕ) × IsFirstBreach s rule node decode
 -- the rules K1 to K8, which speak of blocks alone
 abbrev pub KeepsBlocks : System → Type 0
 KeepsBlocks s = (rule n i : ℕ) → rule < 9 → breaks s rule n i ≡ false
+
+-- a system whose blocks keep K1 to K8; its ranges may break what they like
+pub record IsOrderlySystem (s : System) : Type 0 where
+  pub system : IsSystem s
+  pub blocks : KeepsBlocks s
 
 -- K1 to K8 hold of the image, and K9 to K12 of the committed decoders of the range
 pub record IsWhole (s : System) (r : Range) : Type 0 where

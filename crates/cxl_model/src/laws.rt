@@ -1,9 +1,11 @@
 //! Laws of the definitions, each the contract of a function that does nothing.
 
-ghost use Rattle.std.specs.Prelude.{◌≡◌, ◌⊎◌, ◌↔◌, ℕ, ◌+◌, ◌<◌, ◌≤◌, true, false, length, Contains};
+ghost use Rattle.std.specs.Prelude.{◌≡◌, ◌⊎◌, ◌↔◌, ℕ, ◌+◌, ◌<◌, ◌≤◌, true, false, List, length, Contains};
+ghost use Rattle.cxl_image.specs.Images.{reset_blocks};
+ghost use Rattle.cxl_topo.specs.Tree.{Tree};
 ghost use Rattle.cxl_window.specs.Fields.{WindowFields};
 ghost use Rattle.cxl_window.specs.Windows.{AreMadeWith};
-ghost use Rattle.cxl_model.specs.System.{System, IsSystem, bridge_uids, decoders_at};
+ghost use Rattle.cxl_model.specs.System.{System, IsSystem, system_of, bridge_uids, decoders_at};
 ghost use Rattle.cxl_model.specs.Hosts.{IsHost};
 ghost use Rattle.cxl_model.specs.Chain.{ChainEnd, Chain};
 ghost use Rattle.cxl_regs.specs.declared.reading.Range.{Range};
@@ -52,6 +54,15 @@ pub fn hosts_with_caps_are_systems()
     ensures host { (s : System) → IsSystem s → IsHost s }
     ensures caps { (s : System) (n i : ℕ) → IsSystem s → breaks s 1 n i ≡ false }
 {}
+
+/// A law of hosts: after reset, an image is accepted.
+pub fn reset_hosts_are_accepted()
+    ensures { (tree : Tree) (windows : List WindowFields)
+        → IsSystem (system_of (reset_blocks tree.nodes) tree windows)
+        → IsAccepted (system_of (reset_blocks tree.nodes) tree windows) }
+{
+    hosts_with_caps_are_systems();
+}
 
 /// A law of windows: a range that has bytes lies in one usable window at the most.
 pub fn one_window()

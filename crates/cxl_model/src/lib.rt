@@ -11,6 +11,7 @@ mod found;
 mod laws;
 mod plan;
 mod poison;
+mod reading;
 mod regions;
 mod request;
 
@@ -27,10 +28,11 @@ pub use extent::Extent;
 pub use found::{Found, Place, weave_of};
 pub use laws::{
     accepted_or_breach, accepted_where_whole, breaches_lie_in_images, chains_have_one_end,
-    hosts_with_caps_are_systems, one_window,
+    hosts_with_caps_are_systems, one_window, reset_hosts_are_accepted,
 };
 pub use plan::{Plan, PlanFault, Reason, Row};
 pub use poison::{Entry, Part, PoisonList, Poisoned, Run, Wide};
+pub use reading::{is_fixed, permits, root_ways, target_position};
 pub use regions::{
     bytes_are_carried_one_to_one, committed_spans_are_of_regions, endpoints_lie_evenly,
     pieces_are_carried_whole, regions_are_listed, regions_lie_in_windows, regions_share_no_byte,

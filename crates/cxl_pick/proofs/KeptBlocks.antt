@@ -16,8 +16,7 @@ use Rattle.cxl_span.specs.Rules.{breaks_rule}
 use Rattle.cxl_span.specs.Spans.{span_start_of}
 use Rattle.cxl_span.specs.Breaches.{breaks as block_breaks, BlockKeeps}
 use Rattle.cxl_model.specs.System.{System, ram_at, pmem_at}
-use Rattle.cxl_model.specs.Accepted.{breaks, breaks_block}
-use Rattle.cxl_pick.specs.inner.Wanted.{IsReady}
+use Rattle.cxl_model.specs.Accepted.{breaks, breaks_block, IsOrderlySystem}
 
 -- a rule that is none of K2 to K8 is broken by no decoder
 pub no_rule : (rule : ℕ) (block : Registers) (ram pmem i : ℕ) → ((k : ℕ) → 2 ≤ k → k < 9 → rule ≡ k → ⊥) → block_breaks rule block ram pmem i ≡ false
@@ -35,7 +34,7 @@ pub block_rule : (s : System) (rule n i : ℕ) → (rule ≡ 1 → ⊥) → rule
 unfolding breaks
 block_rule s rule n i other low = rw (ne_eqb rule 1 other, lt-ltb rule 9 low) refl
 
-module _ (s : System) (ready : IsReady s) where
+module _ (s : System) (ready : IsOrderlySystem s) where
   pub kept_block : (n : ℕ) (block : Registers) → slice_get s.blocks n ≡ Some block → BlockKeeps block (ram_at s n) (pmem_at s n)
   kept_block n block here = record { each = each }
     where

@@ -18,7 +18,6 @@ mod Facts
 mod Fitted
 mod FittedWindows
 mod KeptBlocks
-mod Prefixes
 mod Rooms
 mod Levels
 mod Tables

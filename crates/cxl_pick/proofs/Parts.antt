@@ -32,13 +32,13 @@ pub record Takes (want : Want) (w : WindowFields) : Type 0 where
   pub usable : is_usable w.verdict ≡ true
   pub kind : permits w want.kind ≡ true
   pub not_fixed : not (has_bit w.restrict 4) ≡ true
-  pub gran : agrees_on_gran (asked want []) w ≡ true
+  pub gran : agrees_on_gran want.gran w ≡ true
   pub divides : want.ways % w.ways ≡ 0
 
 pub take_parts : (want : Want) (w : WindowFields) → can_take want w ≡ true → Takes want w
 take_parts want w can =
-    let a = and_parts (is_usable w.verdict && permits w want.kind && not (has_bit w.restrict 4) && agrees_on_gran (asked want []) w) (want.ways % w.ways == 0) can in
-    let b = and_parts (is_usable w.verdict && permits w want.kind && not (has_bit w.restrict 4)) (agrees_on_gran (asked want []) w) a.0 in
+    let a = and_parts (is_usable w.verdict && permits w want.kind && not (has_bit w.restrict 4) && agrees_on_gran want.gran w) (want.ways % w.ways == 0) can in
+    let b = and_parts (is_usable w.verdict && permits w want.kind && not (has_bit w.restrict 4)) (agrees_on_gran want.gran w) a.0 in
     let c = and_parts (is_usable w.verdict && permits w want.kind) (not (has_bit w.restrict 4)) b.0 in
     let d = and_parts (is_usable w.verdict) (permits w want.kind) c.0 in
     record { usable = d.0; kind = d.1; not_fixed = c.1; gran = b.1; divides = eqb-true (want.ways % w.ways) 0 a.1 }

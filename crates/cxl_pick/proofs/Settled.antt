@@ -10,11 +10,10 @@ use Rattle.cxl_topo.specs.Tree.{is_bridge_at, bridge_with, bridge_uids}
 use Rattle.cxl_window.specs.Fields.{WindowFields}
 use Rattle.cxl_window.specs.Windows.{AreMadeWith}
 use Rattle.cxl_model.specs.System.{System, IsSystem}
-use Rattle.cxl_model.specs.Accepted.{breaks, breaks_caps, IsAccepted}
+use Rattle.cxl_model.specs.Accepted.{breaks, breaks_caps, IsAccepted, IsOrderlySystem}
 use Rattle.cxl_enc.specs.Codes.{is_ways}
 use Rattle.cxl_pick.specs.declared.want.Want.{Want}
 use Rattle.cxl_pick.specs.Picking.{can_take, latest_start, gives, all_given, given_in}
-use Rattle.cxl_pick.specs.inner.Wanted.{IsReady}
 use Rattle.cxl_pick.specs.inner.Offers.{AreOffers, some_of, listed_at}
 use Rattle.cxl_pick.proofs.Trees.{KnownTree}
 use Rattle.cxl_pick.proofs.Numbers.{some_ways, few_ways}
@@ -50,7 +49,7 @@ none_made bridges = record {
   apart = λ w v there other. let within = there.1 in absurd (omega (arith, within));
 }
 
-pub ready_alone : (s : System) → IsSystem s → IsAccepted s → IsReady (record { nodes = s.nodes; blocks = s.blocks; windows = [] })
+pub ready_alone : (s : System) → IsSystem s → IsAccepted s → IsOrderlySystem (record { nodes = s.nodes; blocks = s.blocks; windows = [] })
 ready_alone s system accepted = record {
   system = record { tree = system.tree; blocks = system.blocks; caps = system.caps; made = none_made (bridge_uids s.nodes) };
   blocks = λ rule n i low. same_rule (record { nodes = s.nodes; blocks = s.blocks; windows = [] }) s rule n i low refl refl ∙ accepted.each rule n i;

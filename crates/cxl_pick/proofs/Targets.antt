@@ -62,8 +62,8 @@ divides {s} {want} {w} {set} {base} kept uid target =
 
 takes : {s : System} {want : Want} {w : WindowFields} {set : List ℕ} {base : ℕ} → Kept s want w set base → can_take want w ≡ true
 takes {s} {want} {w} {set} {base} kept =
-    and_from (is_usable w.verdict && permits w want.kind && not (has_bit w.restrict 4) && agrees_on_gran (asked want []) w) (want.ways % w.ways == 0)
-    (and_from (is_usable w.verdict && permits w want.kind && not (has_bit w.restrict 4)) (agrees_on_gran (asked want []) w)
+    and_from (is_usable w.verdict && permits w want.kind && not (has_bit w.restrict 4) && agrees_on_gran want.gran w) (want.ways % w.ways == 0)
+    (and_from (is_usable w.verdict && permits w want.kind && not (has_bit w.restrict 4)) (agrees_on_gran want.gran w)
     (and_from (is_usable w.verdict && permits w want.kind) (not (has_bit w.restrict 4))
     (and_from (is_usable w.verdict) (permits w want.kind) kept.fits.window.usable kept.fits.window.kind)
     (not_from_false (has_bit w.restrict 4) kept.fits.window.open_to_plans))

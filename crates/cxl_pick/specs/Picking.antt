@@ -1,9 +1,8 @@
 -- Which endpoints are picked for a number of ways (this project's rules).
-use Rattle.std.specs.Prelude.{◌≡◌, ℕ, zero, suc, ◌+◌, ◌-◌, ◌*◌, ◌/◌, ◌%◌, ◌<◌, ◌≤◌, ◌==◌, nat_le, ◌&&◌, ◌||◌, ◌↔◌, not, max, Bool, true, false, if◌then◌else◌, List, [], ◌∷◌, ◌++◌, length, map, take, find, slice_get, Contains, AllPairs, Option, Some, None, option_map, option_and_then}
+use Rattle.std.specs.Prelude.{◌≡◌, ℕ, zero, suc, ◌+◌, ◌-◌, ◌*◌, ◌/◌, ◌%◌, ◌<◌, ◌==◌, nat_le, ◌&&◌, ◌||◌, ◌↔◌, not, max, Bool, true, false, if◌then◌else◌, List, [], ◌∷◌, ◌++◌, length, map, take, find, slice_get, Contains, AllPairs, Option, Some, None, option_map, option_and_then}
 use Rattle.std.specs.Option.{option_map_or}
 use Rattle.std.specs.List.{filter_map, flat_map, range_with_len}
 use Rattle.cxl_enc.specs.Codes.{third_of, bits_of, log2_of, code_in_table, is_ways}
-use Rattle.cxl_enc.specs.Limits.{unit, address_limit}
 use Rattle.cxl_enc.specs.Caps.{targets_of}
 use Rattle.cxl_topo.specs.Tree.{is_endpoint_at, child_of, bridge_with}
 use Rattle.cxl_regs.specs.Words.{has_bit}
@@ -18,7 +17,7 @@ use Rattle.cxl_model.specs.Rules.{permits}
 use Rattle.cxl_model.specs.declared.plan.Plan.{Plan}
 use Rattle.cxl_model.specs.Plans.{plan_code, IsLegalPlanIn}
 use Rattle.cxl_legal.specs.Used.{AreEndpoints}
-use Rattle.cxl_legal.specs.Endpoints.{cap_at}
+use Rattle.cxl_legal.specs.Endpoints.{IsSizeFor, cap_at}
 use Rattle.cxl_legal.specs.Windows.{agrees_on_gran}
 use Rattle.cxl_legal.specs.Bases.{last_end, base_step}
 use Rattle.cxl_legal.specs.Stated.{Fits}
@@ -30,18 +29,16 @@ use Rattle.cxl_pick.specs.declared.fault.PickFault.TheVariants as faults
 abbrev pub asked : Want → List ℕ → Request
 asked want endpoints = record { name = []; kind = want.kind; size = want.size; gran = want.gran; endpoints = endpoints }
 
--- some bytes, a multiple of 256 MiB for each way, and no more than 2 ^ 52
-pub record IsWantedSize (want : Want) : Type 0 where
-  pub some : 0 < want.size
-  pub even : want.size % (unit * want.ways) ≡ 0
-  pub low : want.size ≤ address_limit
+-- the size that is wanted is one for the ways that are
+abbrev pub IsWantedSize : Want → Type 0
+IsWantedSize want = IsSizeFor want.size want.ways
 
 -- ---- windows
 
 -- it can be used, permits the kind, is not fixed, has the stated granularity where it has several ways, and its ways divide those that are wanted
 abbrev pub can_take : Want → WindowFields → Bool
 can_take want w =
-    is_usable w.verdict && permits w want.kind && not (has_bit w.restrict 4) && agrees_on_gran (asked want []) w
+    is_usable w.verdict && permits w want.kind && not (has_bit w.restrict 4) && agrees_on_gran want.gran w
     && (want.ways % w.ways == 0)
 
 -- the greatest address, as many steps from the window's base as it may be, from which the region still ends within the window

@@ -7,7 +7,8 @@ ghost use Rattle.cxl_topo.specs.Tree.{is_endpoint_at, child_of};
 ghost use Rattle.cxl_window.specs.Fields.{WindowFields};
 ghost use Rattle.cxl_model.specs.System.{system_of};
 ghost use Rattle.cxl_pick.specs.Picking.{can_serve_itself, can_serve_by};
-ghost use Rattle.cxl_pick.specs.inner.Wanted.{IsSound, IsReady};
+ghost use Rattle.cxl_model.specs.Accepted.{IsOrderlySystem};
+ghost use Rattle.cxl_pick.specs.inner.Wanted.{HasWaysAndSize};
 ghost use Rattle.cxl_pick.specs.inner.Offers.{AreChildren, AreOffers, offered, listed_at, offers_at};
 
 use crate::nodes::{can_serve_by, can_serve_itself};
@@ -60,8 +61,8 @@ pub(crate) fn offers(
     start: u64,
     children: &[Vec<u32>],
 ) -> Result<Vec<Vec<u32>>, AllocError>
-    requires ready { IsReady (system_of image.now topo.now []) }
-    requires sound { IsSound want.now }
+    requires ready { IsOrderlySystem (system_of image.now topo.now []) }
+    requires sound { HasWaysAndSize want.now }
     requires children { AreChildren topo.now.nodes children.now }
     ensures offers { IfOk result (λ table. AreOffers (system_of image.now topo.now []) want.now w.now start table.items) }
     ensures count { IfOk result (λ table. length table.items ≡ length topo.now.nodes * 17) }
@@ -92,8 +93,8 @@ fn offer(
     node: u32,
     m: u8,
 ) -> Result<Vec<u32>, AllocError>
-    requires ready { IsReady (system_of image.now topo.now []) }
-    requires sound { IsSound want.now }
+    requires ready { IsOrderlySystem (system_of image.now topo.now []) }
+    requires sound { HasWaysAndSize want.now }
     requires children { AreChildren topo.now.nodes children.now }
     requires here { node < length topo.now.nodes }
     requires few { m ≤ 16 }
@@ -129,8 +130,8 @@ fn gives_itself(
     node: u32,
     m: u8,
 ) -> bool
-    requires ready { IsReady (system_of image.now topo.now []) }
-    requires sound { IsSound want.now }
+    requires ready { IsOrderlySystem (system_of image.now topo.now []) }
+    requires sound { HasWaysAndSize want.now }
     requires here { node < length topo.now.nodes }
     requires endpoint { is_endpoint_at topo.now.nodes node ≡ true }
     ensures { result ≡ ((m == 1) && can_serve_itself (system_of image.now topo.now []) want.now w.now start node) }
@@ -161,7 +162,7 @@ fn ports_used(
     node: u32,
     m: u8,
 ) -> Option<u8>
-    requires ready { IsReady (system_of image.now topo.now []) }
+    requires ready { IsOrderlySystem (system_of image.now topo.now []) }
     requires here { node < length topo.now.nodes }
     requires some { 0 < m }
     requires few { m ≤ 16 }
@@ -196,7 +197,7 @@ fn serves_by(
     m: u8,
     u: u8,
 ) -> bool
-    requires ready { IsReady (system_of image.now topo.now []) }
+    requires ready { IsOrderlySystem (system_of image.now topo.now []) }
     requires here { node < length topo.now.nodes }
     requires some { 0 < m }
     requires few { m ≤ 16 }

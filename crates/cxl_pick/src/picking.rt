@@ -5,10 +5,10 @@ ghost use Rattle.cxl_topo.specs.Tree.{is_endpoint_at, bridge_with};
 ghost use Rattle.cxl_window.specs.Fields.{WindowFields};
 ghost use Rattle.cxl_window.specs.Windows.{AreMadeWith};
 ghost use Rattle.cxl_model.specs.System.{IsSystem, system_of, bridge_uids};
-ghost use Rattle.cxl_model.specs.Accepted.{IsAccepted};
+ghost use Rattle.cxl_model.specs.Accepted.{IsAccepted, IsOrderlySystem};
 ghost use Rattle.cxl_pick.specs.Picking.{IsWantedSize, given_in, all_given, AreInOrder, IsPicked, NothingGiven, TellsPickFault, FitsFirst, NothingFits, PlansFirst, NothingPlans};
 ghost use Rattle.cxl_pick.specs.Picked.{picked};
-ghost use Rattle.cxl_pick.specs.inner.Wanted.{IsSound, IsReady};
+ghost use Rattle.cxl_pick.specs.inner.Wanted.{HasWaysAndSize};
 ghost use Rattle.cxl_pick.specs.inner.Offers.{AreChildren, some_of, listed_at};
 
 use crate::fault::PickFault;
@@ -16,10 +16,10 @@ use crate::laws::{
     fitting_sets_are_given, fitting_sets_have_plans, given_sets_fit, wants_come_to_answers,
 };
 use crate::offers::{children, gives, listed, offers};
-use crate::terms::{can_take, has_known_ways, has_size, latest_start};
+use crate::terms::{can_take, latest_start};
 use crate::want::Want;
 use cxl_image::Image;
-use cxl_legal::ports_are_bytes;
+use cxl_legal::{is_size, is_ways, ports_are_bytes};
 use cxl_model::hosts_with_caps_are_systems;
 use cxl_topo::{Topo, tree_laws};
 use cxl_window::Window;
@@ -70,10 +70,10 @@ pub fn pick(
     fitting_sets_are_given();
     tree_laws();
     ports_are_bytes(topo);
-    if !has_known_ways(want) {
+    if !is_ways(usize::from(want.ways)) {
         return Err(PickFault::Ways(u32::from(want.ways)));
     }
-    if !has_size(want) {
+    if !is_size(want.size, want.ways) {
         return Err(PickFault::Size);
     }
     settle(image, topo, windows);
@@ -89,7 +89,7 @@ fn settle(image: &Image, topo: &Topo, windows: &[Window])
     requires made { AreMadeWith windows.now (bridge_uids topo.now.nodes) }
     requires accepted { IsAccepted (system_of image.now topo.now windows.now) }
     ensures system { IsSystem (system_of image.now topo.now windows.now) }
-    ensures ready { IsReady (system_of image.now topo.now []) }
+    ensures ready { IsOrderlySystem (system_of image.now topo.now []) }
 {
     hosts_with_caps_are_systems();
     let _count = topo.count();
@@ -106,8 +106,8 @@ fn pick_first(
     want: &Want,
 ) -> Result<Option<Vec<u32>>, AllocError>
     requires system { IsSystem (system_of image.now topo.now windows.now) }
-    requires ready { IsReady (system_of image.now topo.now []) }
-    requires sound { IsSound want.now }
+    requires ready { IsOrderlySystem (system_of image.now topo.now []) }
+    requires sound { HasWaysAndSize want.now }
     ensures { IfOk result (λ o. MatchOption o (NothingGiven (system_of image.now topo.now windows.now) want.now)
         (λ set. (w : WindowFields) × IsPicked (system_of image.now topo.now windows.now) want.now w set.items)) }
 {
@@ -134,8 +134,8 @@ fn pick_in(
     w: &Window,
     children: &[Vec<u32>],
 ) -> Result<Option<Vec<u32>>, AllocError>
-    requires ready { IsReady (system_of image.now topo.now []) }
-    requires sound { IsSound want.now }
+    requires ready { IsOrderlySystem (system_of image.now topo.now []) }
+    requires sound { HasWaysAndSize want.now }
     requires children { AreChildren topo.now.nodes children.now }
     ensures { IfOk result
         (λ o. option_map (λ given. given.items) o ≡ given_in (system_of image.now topo.now []) want.now w.now) }

@@ -1,32 +1,15 @@
 //! What is wanted of a pick, and what a window gives it.
 
-ghost use Rattle.std.specs.Prelude.{◌≡◌, ◌<◌, ◌≤◌, ◌+◌, [], true, IsTrue, ◌↔◌};
+ghost use Rattle.std.specs.Prelude.{◌≡◌, ◌<◌, ◌≤◌, ◌+◌, true};
 ghost use Rattle.cxl_enc.specs.Codes.{is_ways, log2_of};
 ghost use Rattle.cxl_enc.specs.Limits.{address_limit};
-ghost use Rattle.cxl_regs.specs.Words.{has_bit};
-ghost use Rattle.cxl_model.specs.Rules.{permits};
-ghost use Rattle.cxl_legal.specs.Windows.{agrees_on_gran};
-ghost use Rattle.cxl_pick.specs.Picking.{asked, can_take, latest_start, wanted_code, wanted_share, port_code, IsWantedSize};
+ghost use Rattle.cxl_pick.specs.Picking.{can_take, latest_start, wanted_code, wanted_share, port_code};
 
 use crate::want::Want;
-use cxl_enc::{ADDRESS_LIMIT, MemKind, UNIT, code_of};
-use cxl_window::{Verdict, Window};
-
-/// Whether a region can have so many ways.
-pub(crate) fn has_known_ways(want: &Want) -> bool
-    ensures { result ≡ is_ways want.now.ways }
-{
-    code_of(want.ways).is_some()
-}
-
-/// Whether the size is some bytes, a multiple of 256 MiB for each way, and not too large.
-pub(crate) fn has_size(want: &Want) -> bool
-    requires { is_ways want.now.ways ≡ true }
-    ensures { IsTrue result ↔ IsWantedSize want.now }
-{
-    let whole = UNIT * u64::from(want.ways);
-    want.size > 0 && want.size % whole == 0 && want.size <= ADDRESS_LIMIT
-}
+use cxl_enc::UNIT;
+use cxl_legal::agrees_on_gran;
+use cxl_model::{is_fixed, permits};
+use cxl_window::Window;
 
 /// The bytes of each endpoint.
 pub(crate) fn share(want: &Want) -> u64
@@ -42,42 +25,11 @@ pub(crate) fn share(want: &Want) -> u64
 pub(crate) fn can_take(want: &Want, w: &Window) -> bool
     ensures { result ≡ can_take want.now w.now }
 {
-    matches!(w.verdict(), Verdict::Usable)
+    w.is_usable()
         && permits(w, want.kind)
-        && !has_bit(w.restrict(), 4)
-        && agrees_on_gran(want, w)
+        && !is_fixed(w)
+        && agrees_on_gran(want.gran, w)
         && want.ways % w.ways() == 0
-}
-
-/// Whether a window permits this kind of memory.
-fn permits(w: &Window, kind: MemKind) -> bool
-    ensures { result ≡ permits w.now kind }
-{
-    let restrict = w.restrict();
-    match kind {
-        MemKind::Ram => has_bit(restrict, 1) && has_bit(restrict, 2),
-        MemKind::Pmem => has_bit(restrict, 1) && has_bit(restrict, 3),
-    }
-}
-
-fn has_bit(word: u16, place: u8) -> bool
-    requires { place < 16 }
-    ensures { result ≡ has_bit word place }
-{
-    (word >> place) % 2 == 1
-}
-
-/// Whether a stated granularity is that of a window of more than one way.
-fn agrees_on_gran(want: &Want, w: &Window) -> bool
-    ensures { result ≡ agrees_on_gran (asked want.now []) w.now }
-{
-    if w.ways() <= 1 {
-        return true;
-    }
-    match want.gran {
-        Some(code) => code == w.gran(),
-        None => true,
-    }
 }
 
 /// The greatest base in a window from which the region still ends there.

@@ -41,7 +41,7 @@ module _ (s : System) (known : KnownTree s.nodes) (request : Request) (named : A
     part_3 = then_some (not (has_used_bridges s request w)) reasons.Bridges
 
     abbrev part_4 : Option Reason
-    part_4 = then_some (not (agrees_on_gran request w)) reasons.Gran
+    part_4 = then_some (not (agrees_on_gran request.gran w)) reasons.Gran
 
     abbrev part_5 : Option Reason
     part_5 = option_map reasons.Select (least s (λ m. not (can_select s request w m)))
@@ -112,8 +112,8 @@ module _ (s : System) (known : KnownTree s.nodes) (request : Request) (named : A
 
       of_gran : 5 ≤ k → part_4 ≡ None
       of_gran low =
-          elim (cases_Bool (agrees_on_gran request w)) [
-            | inl is ↦ none_then (not (agrees_on_gran request w)) reasons.Gran (ap not is)
+          elim (cases_Bool (agrees_on_gran request.gran w)) [
+            | inl is ↦ none_then (not (agrees_on_gran request.gran w)) reasons.Gran (ap not is)
             | inr fails ↦ let early = from reasons.Gran fails in absurd (omega arith)
           ]
 
@@ -184,7 +184,7 @@ module _ (s : System) (known : KnownTree s.nodes) (request : Request) (named : A
     reason_told reasons.Bridges is =
         after_3 3 is.first (omega arith) ∙ at_some part_3 parts_4 reasons.Bridges (some_then (not (has_used_bridges s request w)) reasons.Bridges (ap not is.holds))
     reason_told reasons.Gran is =
-        after_4 4 is.first (omega arith) ∙ at_some part_4 parts_5 reasons.Gran (some_then (not (agrees_on_gran request w)) reasons.Gran (ap not is.holds))
+        after_4 4 is.first (omega arith) ∙ at_some part_4 parts_5 reasons.Gran (some_then (not (agrees_on_gran request.gran w)) reasons.Gran (ap not is.holds))
     reason_told (reasons.Select n) is = after_5 5 is.first (omega arith) ∙ at_some part_5 parts_6 (reasons.Select n) (ap (option_map reasons.Select) is.holds)
     reason_told (reasons.WaysCap n) is = after_6 6 is.first (omega arith) ∙ at_some part_6 parts_7 (reasons.WaysCap n) (ap (option_map reasons.WaysCap) is.holds)
     reason_told (reasons.NoBase room) is = after_7 7 is.first (omega arith) ∙ at_some part_7 [] (reasons.NoBase room) (room_told room is.holds)

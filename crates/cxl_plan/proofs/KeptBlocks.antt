@@ -18,7 +18,7 @@ use Rattle.cxl_span.specs.Breaches.{breaks as block_breaks, BlockKeeps}
 use Rattle.cxl_model.specs.System.{System, ram_at, pmem_at}
 use Rattle.cxl_model.specs.Accepted.{breaks, breaks_block}
 use Rattle.cxl_model.specs.declared.request.Request.{Request}
-use Rattle.cxl_plan.specs.inner.Judging.{IsReady}
+use Rattle.cxl_plan.specs.inner.Judging.{AsksOrderlySystem}
 
 -- a rule that is none of K2 to K8 is broken by no decoder
 pub no_rule : (rule : ℕ) (block : Registers) (ram pmem i : ℕ) → ((k : ℕ) → 2 ≤ k → k < 9 → rule ≡ k → ⊥) → block_breaks rule block ram pmem i ≡ false
@@ -46,7 +46,7 @@ pub some_and : {A : Type 0} (o : Option A) (P : A → Type 0) → IsSomeAnd o P 
 some_and None P h = absurd h
 some_and (Some x) P h = (x, refl, h)
 
-module _ (s : System) (request : Request) (ready : IsReady s request) where
+module _ (s : System) (request : Request) (ready : AsksOrderlySystem s request) where
   pub kept_block : (n : ℕ) (block : Registers) → slice_get s.blocks n ≡ Some block → BlockKeeps block (ram_at s n) (pmem_at s n)
   kept_block n block here = record { each = each }
     where

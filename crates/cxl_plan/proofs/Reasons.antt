@@ -64,7 +64,7 @@ module _ (s : System) (request : Request) (w : WindowFields) where
   none_3 kept reasons.Bridges e says = false≢true (sym says ∙ kept)
   none_3 kept other e says = absurd (omega arith)
 
-  pub none_4 : agrees_on_gran request w ≡ true → NoneAt 4
+  pub none_4 : agrees_on_gran request.gran w ≡ true → NoneAt 4
   none_4 kept reasons.Gran e says = false≢true (sym says ∙ kept)
   none_4 kept other e says = absurd (omega arith)
 
@@ -76,7 +76,7 @@ module _ (s : System) (request : Request) (w : WindowFields) where
   none_6 kept (reasons.WaysCap n) e says = none-some n (sym kept ∙ says)
   none_6 kept other e says = absurd (omega arith)
 
-  pub from_5 : is_usable w.verdict ≡ true → permits w request.kind ≡ true → has_bit w.restrict 4 ≡ false → has_used_bridges s request w ≡ true → agrees_on_gran request w ≡ true → AllFrom 5
+  pub from_5 : is_usable w.verdict ≡ true → permits w request.kind ≡ true → has_bit w.restrict 4 ≡ false → has_used_bridges s request w ≡ true → agrees_on_gran request.gran w ≡ true → AllFrom 5
   from_5 usable kind open_to bridges gran =
       onward 4 (onward 3 (onward 2 (onward 1 (onward 0 (λ other says. omega arith) (none_0 usable)) (none_1 kind)) (none_2 open_to)) (none_3 bridges)) (none_4 gran)
 

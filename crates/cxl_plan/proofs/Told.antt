@@ -104,7 +104,7 @@ module _ (s : System) (request : Request) (system : IsSystem s) (laws : AreTreeL
               }
         ]
 
-    keeps_nodes : is_usable w.verdict ≡ true → permits w request.kind ≡ true → has_bit w.restrict 4 ≡ false → has_used_bridges s request w ≡ true → agrees_on_gran request w ≡ true → HasReason w ⊎ TakesAt w
+    keeps_nodes : is_usable w.verdict ≡ true → permits w request.kind ≡ true → has_bit w.restrict 4 ≡ false → has_used_bridges s request w ≡ true → agrees_on_gran request.gran w ≡ true → HasReason w ⊎ TakesAt w
     keeps_nodes usable kind open_to bridges gran =
         elim (cases_there (least s (λ m. not (can_select s request w m)))) [
           | inr some ↦ reasoned (reasons.Select some.0) some.1 from
@@ -136,7 +136,7 @@ module _ (s : System) (request : Request) (system : IsSystem s) (laws : AreTreeL
                           let three : AllFrom s request w 3 = onward s request w 2 two (none_2 s request w open_to) in
                           elim (cases_Bool (has_used_bridges s request w)) [
                             | inr fails ↦ reasoned reasons.Bridges fails three
-                            | inl bridges ↦ elim (cases_Bool (agrees_on_gran request w)) [
+                            | inl bridges ↦ elim (cases_Bool (agrees_on_gran request.gran w)) [
                               | inr fails ↦ reasoned reasons.Gran fails (onward s request w 3 three (none_3 s request w bridges))
                               | inl gran ↦ keeps_nodes usable kind open_to bridges gran
                             ]

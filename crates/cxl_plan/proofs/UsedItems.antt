@@ -1,9 +1,9 @@
 -- The used nodes in a list, and the first of them that passes a test.
-use Rattle.std.proofs.Common.{◌≡◌, ℕ, zero, suc, ◌+◌, ◌<◌, ◌≤◌, Bool, true, false, not, max, List, [], ◌∷◌, length, get_or, filter, Option, Some, None, refl, sym, ap, subst, ◌∙◌, inl, inr, arith}
+use Rattle.std.proofs.Common.{◌≡◌, ℕ, zero, suc, ◌+◌, ◌<◌, ◌≤◌, Bool, true, false, not, max, List, ◌∷◌, length, get_or, filter, Option, Some, None, refl, sym, ap, subst, ◌∙◌, inl, inr, arith}
 use Rattle.std.specs.Prelude.{slice_get, find, ◌==◌, Contains}
 use Rattle.std.specs.Option.{option_map_or}
-use Rattle.std.specs.List.{range_with_len, All, list_all, prefix_len}
-use Rattle.std.proofs.lemmas.Bool.{cases_Bool, cases_eq, or_cases, eq-eqb, eqb-true, ne_eqb, false≢true}
+use Rattle.std.specs.List.{range_with_len, All}
+use Rattle.std.proofs.lemmas.Bool.{cases_Bool, cases_eq, or_cases, eqb-true, false≢true}
 use Rattle.std.proofs.lemmas.List.Folds.{Any-from_list_any, list_any-from_Any}
 use Rattle.std.proofs.lemmas.List.Elements.{filter_passes}
 use Rattle.cxl_topo.specs.declared.node.Node.{Node}
@@ -159,37 +159,3 @@ floor_more f i old new limit is low known = (each, least, omega (arith, known.2)
         let here = all i (omega arith) in
         let before = known.1 bound (λ k below. all k (omega arith)) in
         omega arith
-
--- ---- decoders in front
-
-module _ {X : Type 0} (p : X → Bool) where
-  prefix_whole : (xs : List X) → list_all p xs ≡ true → prefix_len p xs ≡ length xs
-  prefix_whole [] all = refl
-  prefix_whole (x ∷ xs) all =
-      elim (cases_Bool (p x)) [
-        | inl passes ↦ let rest = prefix_whole xs (rw passes at all) in rw passes (omega arith)
-        | inr fails ↦ absurd (false≢true (rw fails at all))
-      ]
-
-  prefix_short : (xs : List X) → list_all p xs ≡ false → prefix_len p xs < length xs
-  prefix_short [] all = absurd (false≢true (sym all))
-  prefix_short (x ∷ xs) all =
-      elim (cases_Bool (p x)) [
-        | inl passes ↦ let rest = prefix_short xs (rw passes at all) in rw passes (omega arith)
-        | inr fails ↦ rw fails (omega arith)
-      ]
-
-  pub prefix_fits : (xs : List X) → prefix_len p xs ≤ length xs
-  prefix_fits xs =
-      elim (cases_Bool (list_all p xs)) [
-        | inl all ↦ let e = prefix_whole xs all in omega arith
-        | inr some ↦ let short = prefix_short xs some in omega arith
-      ]
-
-  -- as many in front as there are
-  pub all_in_front : (xs : List X) → (prefix_len p xs == length xs) ≡ list_all p xs
-  all_in_front xs =
-      elim (cases_Bool (list_all p xs)) [
-        | inl all ↦ eq-eqb (prefix_len p xs) (length xs) (prefix_whole xs all) ∙ sym all
-        | inr some ↦ let short = prefix_short xs some in ne_eqb (prefix_len p xs) (length xs) (λ e. omega arith) ∙ sym some
-      ]

@@ -90,7 +90,7 @@ reason_of s request w = first_there (
     ∷ then_some (not (permits w request.kind)) reasons.Kind
     ∷ then_some (has_bit w.restrict 4) reasons.Fixed
     ∷ then_some (not (has_used_bridges s request w)) reasons.Bridges
-    ∷ then_some (not (agrees_on_gran request w)) reasons.Gran
+    ∷ then_some (not (agrees_on_gran request.gran w)) reasons.Gran
     ∷ option_map reasons.Select (least s (λ m. not (can_select s request w m)))
     ∷ option_map reasons.WaysCap (least s (λ m. not (can_have_ways s request m)))
     ∷ then_some (nat_lt (room_in s request w).limit ((room_in s request w).start + request.size)) (reasons.NoBase (room_in s request w))

@@ -1,22 +1,18 @@
 //! Where a new region may start.
 
-ghost use Rattle.std.specs.Prelude.{◌≡◌, ℕ, ◌<◌, ◌≤◌, ◌+◌, ◌-◌, ◌*◌, ◌%◌, ◌==◌, if◌then◌else◌, max, slice_get};
-ghost use Rattle.std.specs.Option.{option_map_or};
+ghost use Rattle.std.specs.Prelude.{◌≡◌, ℕ, ◌<◌, ◌≤◌, ◌+◌, ◌-◌, ◌*◌, ◌%◌, max};
 ghost use Rattle.cxl_enc.specs.Limits.{unit, address_limit};
-ghost use Rattle.cxl_regs.specs.Reading.{committed_count};
-ghost use Rattle.cxl_span.specs.Breaches.{BlockKeeps};
 ghost use Rattle.cxl_model.specs.System.{system_of};
 ghost use Rattle.cxl_legal.specs.Bases.{base_step};
 ghost use Rattle.cxl_plan.specs.inner.Uses.{AreUses};
-ghost use Rattle.cxl_plan.specs.inner.Judging.{IsReady};
+ghost use Rattle.cxl_plan.specs.inner.Judging.{AsksOrderlySystem};
 ghost use Rattle.cxl_plan.specs.inner.Floors.{IsFloor};
 
 use crate::used::Uses;
 use cxl_enc::UNIT;
 use cxl_image::Image;
+use cxl_legal::last_end;
 use cxl_model::Request;
-use cxl_regs::Block;
-use cxl_span::{committed_stand_first, ranges_rise};
 use cxl_topo::{Topo, tree_laws};
 use cxl_window::Window;
 
@@ -28,7 +24,7 @@ pub(crate) fn floor(
     request: &Request,
     uses: &Uses,
 ) -> u64
-    requires ready { IsReady (system_of image.now topo.now windows.now) request.now }
+    requires ready { AsksOrderlySystem (system_of image.now topo.now windows.now) request.now }
     requires uses { AreUses topo.now.nodes request.now uses.now }
     ensures { IsFloor topo.now.nodes image.now request.now result }
 {
@@ -47,23 +43,6 @@ fn greater(a: u64, b: u64) -> u64
     ensures { result ≡ max a b }
 {
     if a < b { b } else { a }
-}
-
-/// The end of the range of a block's last committed decoder, or 0.
-fn last_end(block: &Block) -> u64
-    requires { (ram : ℕ) × (pmem : ℕ) × BlockKeeps block.now ram pmem }
-    ensures value { result ≡ (if committed_count block.now.decoders == 0 then 0
-        else option_map_or (λ d. d.base + d.size) (slice_get block.now.decoders (committed_count block.now.decoders - 1)) 0) }
-    ensures low { result ≤ address_limit }
-{
-    committed_stand_first();
-    ranges_rise();
-    let committed = block.committed();
-    if committed == 0 {
-        return 0;
-    }
-    let last = block.decoder(committed - 1);
-    last.base + last.size
 }
 
 /// The least base in a window that is at or above `floor`.

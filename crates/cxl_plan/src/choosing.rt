@@ -3,7 +3,7 @@
 ghost use Rattle.std.specs.Prelude.{IfOk};
 ghost use Rattle.cxl_model.specs.System.{system_of};
 ghost use Rattle.cxl_plan.specs.inner.Uses.{AreUses, HasWays};
-ghost use Rattle.cxl_plan.specs.inner.Judging.{IsReady, IsSound};
+ghost use Rattle.cxl_plan.specs.inner.Judging.{AsksOrderlySystem, HasLowShare};
 ghost use Rattle.cxl_plan.specs.inner.Choices.{IsChoice};
 
 use crate::base::floor;
@@ -33,8 +33,8 @@ pub(crate) fn choose(
     request: &Request,
     uses: &Uses,
 ) -> Result<Choice, AllocError>
-    requires ready { IsReady (system_of image.now topo.now windows.now) request.now }
-    requires sound { IsSound request.now }
+    requires ready { AsksOrderlySystem (system_of image.now topo.now windows.now) request.now }
+    requires sound { HasLowShare request.now }
     requires uses { AreUses topo.now.nodes request.now uses.now }
     requires ways { HasWays topo.now.nodes request.now }
     ensures { IfOk result (IsChoice (system_of image.now topo.now windows.now) request.now) }

@@ -1,25 +1,22 @@
 //! What a request has to keep whatever the window.
 
-ghost use Rattle.std.specs.Prelude.{◌≡◌, ℕ, ◌<◌, ◌≤◌, ◌==◌, nat_le, ◌↔◌, ◌&&◌, ◌||◌, not, Bool, [], IsTrue, true, List, length, find, slice_index_or, option_map, IfSome};
+ghost use Rattle.std.specs.Prelude.{◌≡◌, ◌<◌, ◌==◌, nat_le, ◌&&◌, ◌||◌, not, [], true, List, length, find, slice_index_or, option_map, IfSome};
 ghost use Rattle.std.specs.Option.{option_map_or};
 ghost use Rattle.std.specs.List.{list_all, range_with_len, All};
-ghost use Rattle.cxl_enc.specs.Codes.{is_ways};
 ghost use Rattle.cxl_enc.specs.Caps.{targets_of, is_target_count};
 ghost use Rattle.cxl_topo.specs.declared.node.Node.{Node};
 ghost use Rattle.cxl_image.specs.Images.{HasCapsOf};
 ghost use Rattle.cxl_model.specs.declared.request.Request.{Request};
-ghost use Rattle.cxl_span.specs.Allotting.{all_committed};
 ghost use Rattle.cxl_window.specs.Windows.{first_repeat};
-ghost use Rattle.cxl_legal.specs.Used.{request_ways, is_used, count_under};
-ghost use Rattle.cxl_legal.specs.Endpoints.{IsSize, first_bridge, lacks_decoder};
+ghost use Rattle.cxl_legal.specs.Used.{is_used, count_under};
+ghost use Rattle.cxl_legal.specs.Endpoints.{first_bridge, lacks_decoder};
 ghost use Rattle.cxl_plan.specs.inner.Uses.{tree_alone, AreUses};
 ghost use Rattle.cxl_plan.specs.inner.Judging.{uneven_at, without_windows};
 
 use crate::used::{Uses, counts_at_ports};
-use cxl_enc::{ADDRESS_LIMIT, UNIT, code_of};
 use cxl_image::Image;
+use cxl_legal::is_full;
 use cxl_model::Request;
-use cxl_regs::Block;
 use cxl_topo::Topo;
 
 /// The first endpoint that stands earlier in the list too.
@@ -32,23 +29,6 @@ pub(crate) fn repeated(endpoints: &[u32]) -> Option<u32>
         }
     }
     None
-}
-
-/// Whether a region can have as many ways as endpoints are asked for.
-pub(crate) fn has_known_ways(request: &Request) -> bool
-    ensures { result ≡ is_ways (request_ways request.now) }
-{
-    let ways = request.endpoints.items().len();
-    ways <= 16 && code_of(ways as u8).is_some()
-}
-
-/// Whether the size is some bytes, a multiple of 256 MiB for each way, and not too large.
-pub(crate) fn has_size(request: &Request) -> bool
-    requires { is_ways (request_ways request.now) ≡ true }
-    ensures { IsTrue result ↔ IsSize request.now }
-{
-    let whole = UNIT * request.endpoints.items().len() as u64;
-    request.size > 0 && request.size % whole == 0 && request.size <= ADDRESS_LIMIT
 }
 
 /// The least node under which the endpoints do not lie evenly.
@@ -168,11 +148,4 @@ pub(crate) fn first_full(image: &Image, uses: &Uses) -> Option<u32>
         }
     }
     None
-}
-
-/// Whether every decoder of a block is committed.
-fn is_full(block: &Block) -> bool
-    ensures { result ≡ all_committed block.now.decoders }
-{
-    block.committed() == block.count()
 }

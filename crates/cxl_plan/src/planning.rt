@@ -13,10 +13,10 @@ ghost use Rattle.cxl_legal.specs.Stated.{IsStatedPlan};
 ghost use Rattle.cxl_plan.specs.Faults.{IsFirstPlanFault, IsFirstPlan, IsLeastPlan};
 ghost use Rattle.cxl_plan.specs.Planned.{planned};
 ghost use Rattle.cxl_plan.specs.inner.Uses.{tree_alone, AreUses};
-ghost use Rattle.cxl_plan.specs.inner.Judging.{IsReady, IsEarly, IsSettled};
+ghost use Rattle.cxl_plan.specs.inner.Judging.{AsksOrderlySystem, IsEarly, IsTakenBy};
 
 use crate::choosing::{Choice, choose};
-use crate::judge::{first_full, first_uneven, has_known_ways, has_size, repeated};
+use crate::judge::{first_full, first_uneven, repeated};
 use crate::laws::requests_come_to_answers;
 use crate::planned::region_code;
 use crate::room::first_refused;
@@ -25,7 +25,7 @@ use crate::spans::places;
 use crate::used::{Uses, uses_of};
 use cxl_enc::FixedList;
 use cxl_image::Image;
-use cxl_legal::{fitting_plans_are_legal, legal_plans_fit, ports_are_bytes};
+use cxl_legal::{fitting_plans_are_legal, is_size, is_ways, legal_plans_fit, ports_are_bytes};
 use cxl_model::{Found, Plan, PlanFault, Request};
 use cxl_topo::{Topo, tree_laws};
 use cxl_window::Window;
@@ -80,7 +80,7 @@ fn plan_ready(
     windows: &[Window],
     request: &Request,
 ) -> Result<Plan, PlanFault>
-    requires ready { IsReady (system_of image.now topo.now windows.now) request.now }
+    requires ready { AsksOrderlySystem (system_of image.now topo.now windows.now) request.now }
     requires early { IsEarly request.now }
     requires ports { HasBytePorts topo.now.nodes }
     ensures fault { IfErr result (λ fault. fault ≢ PlanFault.Memory
@@ -106,7 +106,7 @@ fn plan_fitting(
     request: &Request,
     uses: &Uses,
 ) -> Result<Plan, PlanFault>
-    requires ready { IsReady (system_of image.now topo.now windows.now) request.now }
+    requires ready { AsksOrderlySystem (system_of image.now topo.now windows.now) request.now }
     requires early { IsEarly request.now }
     requires uses { AreUses topo.now.nodes request.now uses.now }
     requires fits { FitsEndpoints (system_of image.now topo.now windows.now) request.now }
@@ -149,10 +149,10 @@ fn early_fault(topo: &Topo, request: &Request) -> Option<PlanFault>
     if let Some(endpoint) = repeated(endpoints) {
         return Some(PlanFault::Repeat(endpoint));
     }
-    if !has_known_ways(request) {
+    if !is_ways(endpoints.len()) {
         return Some(PlanFault::Ways(endpoints.len() as u32));
     }
-    if !has_size(request) {
+    if !is_size(request.size, endpoints.len() as u8) {
         return Some(PlanFault::Size);
     }
     None
@@ -166,7 +166,7 @@ fn node_fault(
     request: &Request,
     uses: &Uses,
 ) -> Option<PlanFault>
-    requires ready { IsReady (system_of image.now topo.now windows.now) request.now }
+    requires ready { AsksOrderlySystem (system_of image.now topo.now windows.now) request.now }
     requires early { IsEarly request.now }
     requires uses { AreUses topo.now.nodes request.now uses.now }
     ensures some { IfSome result (IsFirstPlanFault (system_of image.now topo.now windows.now) request.now) }
@@ -197,7 +197,7 @@ fn planned(
     w: &Window,
     base: u64,
 ) -> Result<Plan, AllocError>
-    requires { IsSettled (system_of image.now topo.now windows.now) request.now uses.now w.now }
+    requires { IsTakenBy (system_of image.now topo.now windows.now) request.now uses.now w.now }
     ensures { IfOk result (λ plan. IsStatedPlan (system_of image.now topo.now windows.now) request.now w.now base plan) }
 {
     let spans = places(alloc, image, topo, windows, request, uses, w)?;

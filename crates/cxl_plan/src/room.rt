@@ -1,6 +1,6 @@
 //! The spans that endpoints give to a request.
 
-ghost use Rattle.std.specs.Prelude.{◌≡◌, ℕ, ◌<◌, ◌+◌, ◌≤◌, ◌↔◌, [], true, length, Contains, Result, Ok, Err, IfSome, IfNone};
+ghost use Rattle.std.specs.Prelude.{◌≡◌, ℕ, ◌<◌, ◌≤◌, ◌↔◌, true, length, Contains, Result, Ok, Err, IfSome, IfNone};
 ghost use Rattle.cxl_enc.specs.Limits.{address_limit};
 ghost use Rattle.cxl_topo.specs.Tree.{is_endpoint_at};
 ghost use Rattle.cxl_span.specs.declared.allotting.Span.{Span};
@@ -10,13 +10,13 @@ ghost use Rattle.cxl_model.specs.System.{system_of, decoders_at, ram_at, pmem_at
 ghost use Rattle.cxl_legal.specs.Endpoints.{share_of, HasRoom};
 ghost use Rattle.cxl_plan.specs.Faults.{IsRefusedSpan};
 ghost use Rattle.cxl_plan.specs.inner.Uses.{AreUses};
-ghost use Rattle.cxl_plan.specs.inner.Judging.{IsReady, IsSound};
+ghost use Rattle.cxl_plan.specs.inner.Judging.{AsksOrderlySystem, HasLowShare};
 
 use crate::used::Uses;
 use cxl_image::Image;
-use cxl_model::{Request, SpanFault};
+use cxl_model::{Request, SpanFault, capacity_at};
 use cxl_span::{Span, allot};
-use cxl_topo::{Capacity, NodeKind, Topo, tree_laws};
+use cxl_topo::{Topo, tree_laws};
 use cxl_window::Window;
 
 /// The span that an endpoint gives for its share of the request, or why it gives none.
@@ -27,8 +27,8 @@ pub(crate) fn span_of(
     request: &Request,
     endpoint: u32,
 ) -> Result<Span, SpanFault>
-    requires ready { IsReady (system_of image.now topo.now windows.now) request.now }
-    requires sound { IsSound request.now }
+    requires ready { AsksOrderlySystem (system_of image.now topo.now windows.now) request.now }
+    requires sound { HasLowShare request.now }
     requires endpoint { is_endpoint_at topo.now.nodes endpoint ≡ true }
     ensures { (answer : Result Span SpanFault) → (result ≡ answer)
         ↔ Allots (decoders_at (system_of image.now topo.now windows.now) endpoint) (ram_at (system_of image.now topo.now windows.now) endpoint)
@@ -48,26 +48,11 @@ pub(crate) fn span_of(
 
 /// The bytes of each endpoint.
 fn share_of(request: &Request) -> u64
-    requires { IsSound request.now }
+    requires { HasLowShare request.now }
     ensures value { result ≡ share_of request.now }
     ensures low { result ≤ address_limit }
 {
     request.size / request.endpoints.items().len() as u64
-}
-
-/// The bytes of a node's device; a port has none.
-fn capacity_at(topo: &Topo, node: u32) -> Capacity
-    requires { node < length topo.now.nodes }
-    ensures ram { result.ram ≡ ram_at (system_of [] topo.now []) node }
-    ensures pmem { result.pmem ≡ pmem_at (system_of [] topo.now []) node }
-    ensures small { result.ram + result.pmem ≤ address_limit }
-{
-    // A legal tree has legal capacities.
-    let _count = topo.count();
-    match topo.node(node).kind {
-        NodeKind::Endpoint(capacity) => capacity,
-        NodeKind::Bridge(_) | NodeKind::Switch => Capacity { ram: 0, pmem: 0 },
-    }
 }
 
 /// The least endpoint that gives no span, and why.
@@ -78,8 +63,8 @@ pub(crate) fn first_refused(
     request: &Request,
     uses: &Uses,
 ) -> Option<(u32, SpanFault)>
-    requires ready { IsReady (system_of image.now topo.now windows.now) request.now }
-    requires sound { IsSound request.now }
+    requires ready { AsksOrderlySystem (system_of image.now topo.now windows.now) request.now }
+    requires sound { HasLowShare request.now }
     requires uses { AreUses topo.now.nodes request.now uses.now }
     ensures refused { IfSome result (λ r. IsRefusedSpan (system_of image.now topo.now windows.now) request.now r.0 r.1) }
     ensures none { IfNone result ((m : ℕ) → Contains request.now.endpoints m
@@ -103,8 +88,8 @@ fn refusal(
     request: &Request,
     node: u32,
 ) -> Option<SpanFault>
-    requires ready { IsReady (system_of image.now topo.now windows.now) request.now }
-    requires sound { IsSound request.now }
+    requires ready { AsksOrderlySystem (system_of image.now topo.now windows.now) request.now }
+    requires sound { HasLowShare request.now }
     requires here { node < length topo.now.nodes }
     ensures endpoint { IfSome result (λ _. is_endpoint_at topo.now.nodes node ≡ true) }
     ensures refused { IfSome result (λ fault. Allots (decoders_at (system_of image.now topo.now windows.now) node)

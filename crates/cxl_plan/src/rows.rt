@@ -5,7 +5,7 @@ ghost use Rattle.cxl_model.specs.System.{system_of};
 ghost use Rattle.cxl_legal.specs.Used.{is_used};
 ghost use Rattle.cxl_plan.specs.inner.Uses.{tree_alone};
 ghost use Rattle.cxl_legal.specs.Stated.{targets_word};
-ghost use Rattle.cxl_plan.specs.inner.Judging.{IsSettled};
+ghost use Rattle.cxl_plan.specs.inner.Judging.{IsTakenBy};
 ghost use Rattle.cxl_plan.specs.inner.Planned.{tail_at, row_at, rows_at};
 
 use crate::planned::{planned_code, planned_ways};
@@ -30,7 +30,7 @@ pub(crate) fn rows(
     w: &Window,
     base: u64,
 ) -> Result<Vec<Row>, AllocError>
-    requires { IsSettled (system_of image.now topo.now windows.now) request.now uses.now w.now }
+    requires { IsTakenBy (system_of image.now topo.now windows.now) request.now uses.now w.now }
     ensures { IfOk result (λ rows. rows.items ≡ rows_at topo.now.nodes image.now request.now w.now base) }
 {
     let mut rows = Vec::with_capacity(alloc, uses.nodes.len())?;
@@ -53,7 +53,7 @@ fn row(
     base: u64,
     node: u32,
 ) -> Row
-    requires settled { IsSettled (system_of image.now topo.now windows.now) request.now uses.now w.now }
+    requires settled { IsTakenBy (system_of image.now topo.now windows.now) request.now uses.now w.now }
     requires here { node < length topo.now.nodes }
     requires used { is_used (tree_alone topo.now.nodes) request.now node ≡ true }
     ensures { result ≡ row_at topo.now.nodes image.now request.now w.now base node }
@@ -88,7 +88,7 @@ fn tail(
     w: &Window,
     node: u32,
 ) -> u64
-    requires settled { IsSettled (system_of image.now topo.now windows.now) request.now uses.now w.now }
+    requires settled { IsTakenBy (system_of image.now topo.now windows.now) request.now uses.now w.now }
     requires here { node < length topo.now.nodes }
     requires used { is_used (tree_alone topo.now.nodes) request.now node ≡ true }
     ensures { result ≡ tail_at topo.now.nodes image.now request.now node }

@@ -1,23 +1,21 @@
 //! The spans of a plan, by slot.
 
-ghost use Rattle.std.specs.Prelude.{◌≡◌, ℕ, ◌*◌, ◌/◌, ◌%◌, ◌<◌, ◌≤◌, ◌^◌, true, false, length, slice_get, Some, IfOk};
+ghost use Rattle.std.specs.Prelude.{◌≡◌, ℕ, ◌*◌, ◌/◌, ◌%◌, ◌<◌, ◌^◌, true, false, length, slice_get, Some, IfOk};
 ghost use Rattle.cxl_model.specs.declared.found.Place.{Place};
 ghost use Rattle.cxl_enc.specs.Codes.{bits_of};
 ghost use Rattle.cxl_topo.specs.Tree.{is_endpoint_at};
 ghost use Rattle.cxl_model.specs.System.{system_of};
-ghost use Rattle.cxl_model.specs.Regions.{target_position};
 ghost use Rattle.cxl_legal.specs.Used.{is_used, is_port_used, request_ways};
 ghost use Rattle.cxl_legal.specs.Stated.{IsStatedPlace};
 ghost use Rattle.cxl_plan.specs.inner.Uses.{tree_alone, AreUses, HasWays, ports_at, ways_at, ways_above_at};
-ghost use Rattle.cxl_plan.specs.inner.Judging.{IsSettled};
+ghost use Rattle.cxl_plan.specs.inner.Judging.{IsTakenBy};
 ghost use Rattle.cxl_plan.specs.inner.Planned.{ReachesAt};
 
 use crate::planned::{planned_ways, ports_above};
 use crate::room::span_of;
 use crate::used::Uses;
-use cxl_enc::split;
 use cxl_image::Image;
-use cxl_model::{Place, Request};
+use cxl_model::{Place, Request, root_ways, target_position};
 use cxl_topo::{Topo, tree_laws};
 use cxl_window::Window;
 use std::alloc::{AllocError, Global};
@@ -32,7 +30,7 @@ pub(crate) fn places(
     uses: &Uses,
     w: &Window,
 ) -> Result<Vec<Place>, AllocError>
-    requires { IsSettled (system_of image.now topo.now windows.now) request.now uses.now w.now }
+    requires { IsTakenBy (system_of image.now topo.now windows.now) request.now uses.now w.now }
     ensures slots { IfOk result (λ places. length places.items ≡ request_ways request.now) }
     ensures places { IfOk result (λ places. (slot : ℕ) (place : Place) → slice_get places.items slot ≡ Some place
         → IsStatedPlace (system_of image.now topo.now windows.now) request.now w.now slot place) }
@@ -55,7 +53,7 @@ fn place_of(
     w: &Window,
     slot: u8,
 ) -> Place
-    requires settled { IsSettled (system_of image.now topo.now windows.now) request.now uses.now w.now }
+    requires settled { IsTakenBy (system_of image.now topo.now windows.now) request.now uses.now w.now }
     requires slot { slot < 16 }
     ensures { IsStatedPlace (system_of image.now topo.now windows.now) request.now w.now slot result }
 {
@@ -70,18 +68,6 @@ fn place_of(
             .unwrap()
             .start,
     }
-}
-
-/// The position of the window's target to which a slot belongs.
-fn target_position(w: &Window, slot: u8) -> u8
-    requires { slot < 16 }
-    ensures value { result ≡ target_position w.now slot }
-    ensures within { result < w.now.ways }
-{
-    let factors = split(w.ways());
-    let third = slot >> factors.bits;
-    let turn = if factors.third { third % 3 } else { 0 };
-    slot % (1 << factors.bits) + (turn << factors.bits)
 }
 
 /// The endpoint to which the used ports lead a slot from a used node on.
@@ -120,13 +106,4 @@ fn port_of(topo: &Topo, request: &Request, uses: &Uses, w: &Window, slot: u8, no
     let ways = u32::from(planned_ways(topo, request, uses, node));
     let shared = root_ways(w) * ports_above(topo, request, uses, node).ways;
     ports[(u32::from(slot) / shared % ways) as usize]
-}
-
-/// How many positions of a window's targets share a remainder by three: 2 to the window's k.
-fn root_ways(w: &Window) -> u32
-    ensures value { result ≡ 2 ^ bits_of w.now.ways }
-    ensures some { 0 < result }
-    ensures few { result ≤ 16 }
-{
-    1 << split(w.ways()).bits
 }

@@ -6,14 +6,11 @@ ghost use Rattle.std.specs.List.{list_all, list_any, range_with_len, All};
 ghost use Rattle.cxl_enc.specs.Codes.{is_ways, code_in_table};
 ghost use Rattle.cxl_enc.specs.Limits.{address_limit};
 ghost use Rattle.cxl_regs.specs.Registers.{Registers};
-ghost use Rattle.cxl_regs.specs.Words.{has_bit};
 ghost use Rattle.cxl_regs.specs.Rules.{select_ok, endpoint_ways_ok};
 ghost use Rattle.cxl_topo.specs.Tree.{is_endpoint_at, is_bridge_at};
 ghost use Rattle.cxl_window.specs.Fields.{WindowFields};
-ghost use Rattle.cxl_window.specs.Position.{is_usable};
-ghost use Rattle.cxl_model.specs.Rules.{permits};
 ghost use Rattle.cxl_legal.specs.Used.{request_ways, is_used};
-ghost use Rattle.cxl_legal.specs.Windows.{has_used_bridges, is_used_bridge, is_target, agrees_on_gran, can_have_ways};
+ghost use Rattle.cxl_legal.specs.Windows.{has_used_bridges, is_used_bridge, is_target, can_have_ways};
 ghost use Rattle.cxl_plan.specs.Faults.{Takes, IsReason, LacksRoom};
 ghost use Rattle.cxl_plan.specs.inner.Uses.{tree_alone, AreUses, HasWays};
 ghost use Rattle.cxl_plan.specs.inner.Judging.{over, selects_at, KeepsWindow};
@@ -22,11 +19,12 @@ ghost use Rattle.cxl_plan.specs.inner.Floors.{IsFloor};
 use crate::base::least_base;
 use crate::planned::{planned_code, planned_ways};
 use crate::used::Uses;
-use cxl_enc::{MemKind, code_of, split};
-use cxl_model::{Reason, Request, Room};
-use cxl_regs::{Decoder, codes_ok, select_ok};
+use cxl_enc::split;
+use cxl_legal::{agrees_on_gran, can_have_ways};
+use cxl_model::{Reason, Request, Room, is_fixed, permits};
+use cxl_regs::select_ok;
 use cxl_topo::{NodeKind, Topo, tree_laws};
-use cxl_window::{Verdict, Window};
+use cxl_window::Window;
 
 /// The least base in a window that takes the request, or the first reason why it does not.
 pub(crate) fn base_in(
@@ -71,19 +69,19 @@ fn first_reason(topo: &Topo, request: &Request, uses: &Uses, w: &Window) -> Opti
     ensures some { IfSome result (λ reason. (blocks : List Registers) (windows : List WindowFields)
         → IsReason (over topo.now.nodes blocks windows) request.now w.now reason) }
 {
-    if !is_usable(w.verdict()) {
+    if !w.is_usable() {
         return Some(Reason::Unusable);
     }
     if !permits(w, request.kind) {
         return Some(Reason::Kind);
     }
-    if has_bit(u32::from(w.restrict()), 4) {
+    if is_fixed(w) {
         return Some(Reason::Fixed);
     }
     if !has_used_bridges(topo, request, uses, w) {
         return Some(Reason::Bridges);
     }
-    if !agrees_on_gran(request, w) {
+    if !agrees_on_gran(request.gran, w) {
         return Some(Reason::Gran);
     }
     if let Some(node) = first_not_selecting(topo, request, uses, w) {
@@ -93,30 +91,6 @@ fn first_reason(topo: &Topo, request: &Request, uses: &Uses, w: &Window) -> Opti
         return Some(Reason::WaysCap(node));
     }
     None
-}
-
-fn is_usable(verdict: Verdict) -> bool
-    ensures { result ≡ is_usable verdict }
-{
-    matches!(verdict, Verdict::Usable)
-}
-
-/// Whether a window permits this kind of memory.
-fn permits(w: &Window, kind: MemKind) -> bool
-    ensures { result ≡ permits w.now kind }
-{
-    let restrict = u32::from(w.restrict());
-    match kind {
-        MemKind::Ram => has_bit(restrict, 1) && has_bit(restrict, 2),
-        MemKind::Pmem => has_bit(restrict, 1) && has_bit(restrict, 3),
-    }
-}
-
-fn has_bit(word: u32, place: u8) -> bool
-    requires { place < 32 }
-    ensures { result ≡ has_bit word place }
-{
-    (word >> place) % 2 == 1
 }
 
 /// Whether the targets of a window are exactly the used bridges.
@@ -178,19 +152,6 @@ fn is_other_or_target(topo: &Topo, w: &Window, node: u32) -> bool
     }
 }
 
-/// Whether a stated granularity is that of a window of more than one way.
-fn agrees_on_gran(request: &Request, w: &Window) -> bool
-    ensures { result ≡ agrees_on_gran request.now w.now }
-{
-    if w.ways() <= 1 {
-        return true;
-    }
-    match request.gran {
-        Some(code) => code == w.gran(),
-        None => true,
-    }
-}
-
 /// The least used node that could not select as it would have to.
 fn first_not_selecting(topo: &Topo, request: &Request, uses: &Uses, w: &Window) -> Option<u32>
     requires uses { AreUses topo.now.nodes request.now uses.now }
@@ -231,7 +192,7 @@ fn first_without_ways(topo: &Topo, request: &Request, uses: &Uses) -> Option<u32
     ensures { result ≡ find (λ m. not (can_have_ways (tree_alone topo.now.nodes) request.now m)) (range_with_len 0 (length topo.now.nodes)) }
 {
     for node in &uses.nodes {
-        if !can_have_ways(topo, request, *node) {
+        if !is_port_or_has_ways(topo, request, *node) {
             return Some(*node);
         }
     }
@@ -239,29 +200,12 @@ fn first_without_ways(topo: &Topo, request: &Request, uses: &Uses) -> Option<u32
 }
 
 /// Whether a node is no endpoint, or can have the ways of the request.
-fn can_have_ways(topo: &Topo, request: &Request, node: u32) -> bool
+fn is_port_or_has_ways(topo: &Topo, request: &Request, node: u32) -> bool
     requires known { is_ways (request_ways request.now) ≡ true }
     requires here { node < length topo.now.nodes }
     ensures { result ≡ (not (is_endpoint_at topo.now.nodes node)
         || option_map_or (endpoint_ways_ok (option_map_or (λ own. own.cap) (slice_get topo.now.nodes node) 0)) (code_in_table (request_ways request.now)) false) }
 {
-    !topo.is_endpoint(node) || has_ways(topo.node(node).cap, request)
-}
-
-/// Whether an endpoint with this capability word can have the ways of the request.
-fn has_ways(cap: u32, request: &Request) -> bool
-    requires { is_ways (request_ways request.now) ≡ true }
-    ensures { result ≡ option_map_or (endpoint_ways_ok cap) (code_in_table (request_ways request.now)) false }
-{
-    match code_of(request.endpoints.items().len() as u8) {
-        Some(ways) => codes_ok(
-            cap,
-            true,
-            &Decoder {
-                ways,
-                ..Decoder::RESET
-            },
-        ),
-        None => false,
-    }
+    let ways = request.endpoints.items().len() as u8;
+    !topo.is_endpoint(node) || can_have_ways(topo.node(node).cap, ways)
 }

@@ -8,7 +8,6 @@ pub mod Tables
 pub mod Topologies
 pub mod Images
 pub mod Hosts
-pub mod Resets
 pub mod Names
 pub mod Tellings
 pub mod Planned

@@ -20,7 +20,6 @@ pub use commands::route::route_statuses;
 pub use finish::run_ends;
 pub use inputs::file::file_statuses;
 pub use inputs::image::image_statuses;
-pub use inputs::reset_host::reset_hosts_are_accepted;
 pub use inputs::table::table_statuses;
 pub use inputs::topology::topology_statuses;
 pub use shell::run;

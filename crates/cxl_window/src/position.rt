@@ -4,9 +4,9 @@ ghost use Rattle.cxl_enc.specs.Codes.{bits_of};
 ghost use Rattle.cxl_num.specs.Maps.{with_raw_bits};
 ghost use Rattle.cxl_window.specs.declared.window.Verdict.TheVariants.{Usable};
 ghost use Rattle.cxl_window.specs.Fields.{WindowFields, IsWindow};
-ghost use Rattle.cxl_window.specs.Position.{position_at, holds, is_usable, chunk_of, position_of, low_of, parities_of};
+ghost use Rattle.cxl_window.specs.Position.{position_at, holds, chunk_of, position_of, low_of, parities_of};
 
-use crate::window::{Verdict, Window};
+use crate::window::Window;
 use cxl_enc::split;
 use cxl_num::{factor_of, low_bits, parities, parities_tell_raw_bits, with_raw_bits};
 
@@ -15,7 +15,7 @@ use cxl_num::{factor_of, low_bits, parities, parities_tell_raw_bits, with_raw_bi
 pub fn slot_of(window: &Window, h: u64) -> Option<u32>
     ensures { result ≡ position_at window.now h }
 {
-    if is_usable(window.verdict()) && holds(window, h) {
+    if window.is_usable() && holds(window, h) {
         Some(position_of(window, h))
     } else {
         None
@@ -53,12 +53,6 @@ pub fn positions()
         → position < w.ways }
 {
     parities_tell_raw_bits();
-}
-
-fn is_usable(verdict: Verdict) -> bool
-    ensures { result ≡ is_usable verdict }
-{
-    matches!(verdict, Verdict::Usable)
 }
 
 fn holds(window: &Window, h: u64) -> bool

@@ -57,6 +57,7 @@ impl Window {
     ghost use Rattle.cxl_window.specs.declared.window.Verdict.TheVariants.{Usable};
     ghost use Rattle.cxl_num.specs.Maps.{are_usable_maps};
     ghost use Rattle.cxl_window.specs.Fields.{IsWindow, IsUsable};
+    ghost use Rattle.cxl_window.specs.Position.{is_usable};
     ghost use Rattle.cxl_window.specs.Windows.{window_with};
 
     /// The window of a record with its index, its maps and its verdict.
@@ -156,10 +157,17 @@ impl Window {
         self.targets.items()
     }
 
-    /// Whether it can be used.
+    /// Whether it can be used, and else the first cause.
     pub fn verdict(&self) -> Verdict
         ensures { result ≡ self.now.verdict }
     {
         self.verdict
+    }
+
+    /// Whether it can be used.
+    pub fn is_usable(&self) -> bool
+        ensures { result ≡ is_usable self.now.verdict }
+    {
+        matches!(self.verdict, Verdict::Usable)
     }
 }

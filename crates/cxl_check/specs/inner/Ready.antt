@@ -3,13 +3,7 @@ use Rattle.std.specs.Prelude.{◌≡◌, ℕ, true, List, [], slice_get, Some, I
 use Rattle.cxl_regs.specs.declared.decoder.Decoder.{Decoder}
 use Rattle.cxl_regs.specs.Registers.{Registers}
 use Rattle.cxl_topo.specs.declared.node.Node.{Node}
-use Rattle.cxl_model.specs.System.{System, IsSystem, decoder_at}
-use Rattle.cxl_model.specs.Accepted.{KeepsBlocks}
-
--- K1 to K8 hold of it
-pub record IsReady (s : System) : Type 0 where
-  pub system : IsSystem s
-  pub blocks : KeepsBlocks s
+use Rattle.cxl_model.specs.System.{System, decoder_at}
 
 -- decoder i of node n is committed, with these registers
 pub record IsCommitted (s : System) (n i : ℕ) (d : Decoder) : Type 0 where

@@ -30,13 +30,13 @@ unfoldable pub same_at : List Node → Request → ℕ → Bool
 same_at nodes request n = has_even_children (tree_alone nodes) request n
 
 -- a system whose blocks keep K2 to K8, for a request of endpoints
-pub record IsReady (s : System) (request : Request) : Type 0 where
+pub record AsksOrderlySystem (s : System) (request : Request) : Type 0 where
   pub system : IsSystem s
   pub blocks : KeepsBlocks s
   pub named : AreEndpoints s request
 
 -- what is known of its ways and size
-pub record IsSound (request : Request) : Type 0 where
+pub record HasLowShare (request : Request) : Type 0 where
   pub ways : is_ways (request_ways request) ≡ true
   pub low : request.size ≤ address_limit
 
@@ -58,7 +58,7 @@ pub record KeepsWindow (nodes : List Node) (request : Request) (w : WindowFields
   pub kind : permits w request.kind ≡ true
   pub open_to_plans : has_bit w.restrict 4 ≡ false
   pub bridges : has_used_bridges (tree_alone nodes) request w ≡ true
-  pub gran : agrees_on_gran request w ≡ true
+  pub gran : agrees_on_gran request.gran w ≡ true
   pub selects : find (λ m. not (selects_at nodes request w m)) (range_with_len 0 (length nodes)) ≡ None
   pub ways : find (λ m. not (can_have_ways (tree_alone nodes) request m)) (range_with_len 0 (length nodes)) ≡ None
 
@@ -69,8 +69,8 @@ pub record IsEarly (request : Request) : Type 0 where
   pub size : IsSize request
 
 -- a window that takes a request which keeps all that it has to in its nodes, with the tables of what it uses
-pub record IsSettled (s : System) (request : Request) (uses : Uses) (w : WindowFields) : Type 0 where
-  pub ready : IsReady s request
+pub record IsTakenBy (s : System) (request : Request) (uses : Uses) (w : WindowFields) : Type 0 where
+  pub ready : AsksOrderlySystem s request
   pub tables : AreUses s.nodes request uses
   pub ways : HasWays s.nodes request
   pub endpoints : FitsEndpoints s request

@@ -17,7 +17,7 @@ ghost use Rattle.cxl_shell.specs.commands.Plan.{endpoint_called, first_unknown, 
 ghost use Rattle.cxl_shell.specs.inputs.ResetHost.{reset_host_of};
 
 use crate::inputs::host::Host;
-use crate::inputs::reset_host::{fetch_reset_host, reset_hosts_are_accepted};
+use crate::inputs::reset_host::fetch_reset_host;
 use crate::outcome::Outcome;
 use crate::status::Status;
 use crate::stop::Stop;
@@ -26,7 +26,7 @@ use cxl_enc::{FixedList, Name};
 use cxl_image::one_image_reading;
 use cxl_io::{Fetch, Memory};
 use cxl_legal::{ports_are_bytes, stated_rows_keep_blocks};
-use cxl_model::{Plan, PlanFault, Request};
+use cxl_model::{Plan, PlanFault, Request, reset_hosts_are_accepted};
 use cxl_reply::{Reply, findings_are_told, put_plan, put_reply};
 use cxl_script::Create;
 use cxl_topo::{Topo, tree_laws};

@@ -1,11 +1,8 @@
-ghost use Rattle.std.specs.Prelude.{◌≡◌, ◌≤◌, Some, List, [], ◌∷◌, IfOk, IfErr, OnOk};
+ghost use Rattle.std.specs.Prelude.{◌≡◌, ◌≤◌, Some, [], ◌∷◌, IfOk, IfErr, OnOk};
 ghost use Rattle.cxl_cedt.specs.CedtFields.{CedtFields};
 ghost use Rattle.cxl_image.specs.Images.{reset_blocks};
 ghost use Rattle.cxl_io.specs.Fetch.{AsksFor};
-ghost use Rattle.cxl_model.specs.Accepted.{IsAccepted};
 ghost use Rattle.cxl_model.specs.System.{IsSystem, system_of, bridge_uids};
-ghost use Rattle.cxl_topo.specs.Tree.{Tree};
-ghost use Rattle.cxl_window.specs.Fields.{WindowFields};
 ghost use Rattle.cxl_window.specs.Windows.{windows_of};
 ghost use Rattle.cxl_shell.specs.Answers.{IsStop};
 ghost use Rattle.cxl_shell.specs.inputs.File.{AsksForSome};
@@ -17,7 +14,6 @@ use crate::inputs::topology::fetch_topology;
 use crate::stop::Stop;
 use cxl_image::Image;
 use cxl_io::Fetch;
-use cxl_model::hosts_with_caps_are_systems;
 use cxl_window::windows;
 use std::alloc::Global;
 
@@ -51,13 +47,4 @@ pub(crate) fn fetch_reset_host<F: Fetch>(
         image,
         windows,
     })
-}
-
-/// A law of hosts: after reset, an image is accepted.
-pub fn reset_hosts_are_accepted()
-    ensures { (tree : Tree) (windows : List WindowFields)
-        → IsSystem (system_of (reset_blocks tree.nodes) tree windows)
-        → IsAccepted (system_of (reset_blocks tree.nodes) tree windows) }
-{
-    hosts_with_caps_are_systems();
 }

@@ -1,4 +1,5 @@
-use Rattle.std.proofs.Common.{sym, ◌∙◌}
+use Rattle.std.proofs.Common.{sym, ap, ◌∙◌}
+use Rattle.cxl_enc.specs.Codes.{is_ways}
 use Rattle.cxl_model.specs.System.{System, system_of}
 use Rattle.cxl_pick.specs.declared.want.Want.{Want}
 use Rattle.cxl_pick.specs.declared.fault.PickFault.TheVariants as faults
@@ -15,13 +16,31 @@ returns-in-Ok-Some-clause-endpoints c =
       system = c.settle.ensures.system;
       ports = c.ports_are_bytes.ensures;
       accepted = c.requires.accepted;
-      ways = sym c.has_known_ways.ensures ∙ c.if-not-has_known_ways.false;
-      size = c.has_size.ensures.0 c.if-not-has_size.false;
+      ways = sym (c.is_ways.ensures ∙ ap is_ways c.from.ensures) ∙ c.if-not-is_ways.false;
+      size = c.is_size.ensures.0 c.if-not-is_size.false;
       code = c.requires.code;
       given = c.fitting_sets_are_given.ensures s want;
     } in
     let own = rw c.in-Ok-Some.field-0-is at c.in-Ok-Some.ensures in
     named (picked_of s want settled own.0 c.in-Ok-Some.set.items own.1)
+
+pub returns-in-Ok-Some-clause-count : goal.returns-in-Ok-Some-clause-count
+returns-in-Ok-Some-clause-count c =
+    let s : System = system_of c.args.image.now c.args.topo.now c.args.windows.now in
+    let want : Want = c.args.want.now in
+    let settled : Settled s want = record {
+      laws = c.tree_laws.ensures.laws s.nodes c.settle.ensures.system.tree;
+      system = c.settle.ensures.system;
+      ports = c.ports_are_bytes.ensures;
+      accepted = c.requires.accepted;
+      ways = sym (c.is_ways.ensures ∙ ap is_ways c.from.ensures) ∙ c.if-not-is_ways.false;
+      size = c.is_size.ensures.0 c.if-not-is_size.false;
+      code = c.requires.code;
+      given = c.fitting_sets_are_given.ensures s want;
+    } in
+    let own = rw c.in-Ok-Some.field-0-is at c.in-Ok-Some.ensures in
+    let there = (picked_of s want settled own.0 c.in-Ok-Some.set.items own.1).of.there in
+    c.given_sets_fit.ensures.ways s want own.0 own.1.given c.in-Ok-Some.set.items settled.system settled.ports settled.accepted settled.ways there own.1.gives own.1.rising
 
 pub returns-in-Ok-Some-clause-fits : goal.returns-in-Ok-Some-clause-fits
 returns-in-Ok-Some-clause-fits c =
@@ -32,8 +51,8 @@ returns-in-Ok-Some-clause-fits c =
       system = c.settle.ensures.system;
       ports = c.ports_are_bytes.ensures;
       accepted = c.requires.accepted;
-      ways = sym c.has_known_ways.ensures ∙ c.if-not-has_known_ways.false;
-      size = c.has_size.ensures.0 c.if-not-has_size.false;
+      ways = sym (c.is_ways.ensures ∙ ap is_ways c.from.ensures) ∙ c.if-not-is_ways.false;
+      size = c.is_size.ensures.0 c.if-not-is_size.false;
       code = c.requires.code;
       given = c.fitting_sets_are_given.ensures s want;
     } in
@@ -49,8 +68,8 @@ returns-in-Ok-None-clause-nothing c = λ told.
       system = c.settle.ensures.system;
       ports = c.ports_are_bytes.ensures;
       accepted = c.requires.accepted;
-      ways = sym c.has_known_ways.ensures ∙ c.if-not-has_known_ways.false;
-      size = c.has_size.ensures.0 c.if-not-has_size.false;
+      ways = sym (c.is_ways.ensures ∙ ap is_ways c.from.ensures) ∙ c.if-not-is_ways.false;
+      size = c.is_size.ensures.0 c.if-not-is_size.false;
       code = c.requires.code;
       given = c.fitting_sets_are_given.ensures s want;
     } in
@@ -66,8 +85,8 @@ returns-in-Ok-Some-clause-legal c =
       system = c.settle.ensures.system;
       ports = c.ports_are_bytes.ensures;
       accepted = c.requires.accepted;
-      ways = sym c.has_known_ways.ensures ∙ c.if-not-has_known_ways.false;
-      size = c.has_size.ensures.0 c.if-not-has_size.false;
+      ways = sym (c.is_ways.ensures ∙ ap is_ways c.from.ensures) ∙ c.if-not-is_ways.false;
+      size = c.is_size.ensures.0 c.if-not-is_size.false;
       code = c.requires.code;
       given = c.fitting_sets_are_given.ensures s want;
     } in
@@ -86,8 +105,8 @@ returns-in-Ok-None-clause-none c = λ told.
       system = c.settle.ensures.system;
       ports = c.ports_are_bytes.ensures;
       accepted = c.requires.accepted;
-      ways = sym c.has_known_ways.ensures ∙ c.if-not-has_known_ways.false;
-      size = c.has_size.ensures.0 c.if-not-has_size.false;
+      ways = sym (c.is_ways.ensures ∙ ap is_ways c.from.ensures) ∙ c.if-not-is_ways.false;
+      size = c.is_size.ensures.0 c.if-not-is_size.false;
       code = c.requires.code;
       given = c.fitting_sets_are_given.ensures s want;
     } in
@@ -98,8 +117,8 @@ pub returns-in-Ok-Some-clause-answer : goal.returns-in-Ok-Some-clause-answer
 returns-in-Ok-Some-clause-answer c =
     let s : System = system_of c.args.image.now c.args.topo.now c.args.windows.now in
     let want : Want = c.args.want.now in
-    let ways = sym c.has_known_ways.ensures ∙ c.if-not-has_known_ways.false in
-    let size = c.has_size.ensures.0 c.if-not-has_size.false in
+    let ways = sym (c.is_ways.ensures ∙ ap is_ways c.from.ensures) ∙ c.if-not-is_ways.false in
+    let size = c.is_size.ensures.0 c.if-not-is_size.false in
     let own = rw c.in-Ok-Some.field-0-is at c.in-Ok-Some.ensures in
     c.wants_come_to_answers.ensures.set s want own.0 c.in-Ok-Some.set.items c.settle.ensures.system ways size own.1
 
@@ -107,7 +126,7 @@ pub returns-in-Ok-None-clause-refusal : goal.returns-in-Ok-None-clause-refusal
 returns-in-Ok-None-clause-refusal c = λ real.
     let s : System = system_of c.args.image.now c.args.topo.now c.args.windows.now in
     let want : Want = c.args.want.now in
-    let ways = sym c.has_known_ways.ensures ∙ c.if-not-has_known_ways.false in
-    let size = c.has_size.ensures.0 c.if-not-has_size.false in
+    let ways = sym (c.is_ways.ensures ∙ ap is_ways c.from.ensures) ∙ c.if-not-is_ways.false in
+    let size = c.is_size.ensures.0 c.if-not-is_size.false in
     let own = rw c.in-Ok-None.field-0-is at c.in-Ok-None.ensures in
     c.wants_come_to_answers.ensures.fault s want faults.NoSet (ways, size, own) real

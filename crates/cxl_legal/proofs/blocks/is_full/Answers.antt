@@ -2,8 +2,8 @@ use Rattle.std.proofs.Common.{ℕ, ap, ◌∙◌}
 use Rattle.std.specs.Prelude.{◌==◌}
 use Rattle.cxl_regs.specs.declared.decoder.Decoder.{Decoder}
 use Rattle.cxl_regs.specs.Reading.{committed_count}
-use Rattle.cxl_plan.proofs.UsedItems.{all_in_front}
-use Rattle.cxl_plan.proofs.judge.is_full.Goals as goal
+use Rattle.cxl_legal.proofs.Prefixes.{all_in_front}
+use Rattle.cxl_legal.proofs.blocks.is_full.Goals as goal
 
 pub returns : goal.returns
 returns c =

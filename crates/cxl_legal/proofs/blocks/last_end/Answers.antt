@@ -1,7 +1,7 @@
 use Rattle.std.proofs.Common.{arith}
 use Rattle.cxl_regs.specs.declared.decoder.Decoder.{Decoder}
-use Rattle.cxl_plan.proofs.UsedItems.{prefix_fits}
-use Rattle.cxl_plan.proofs.base.last_end.Goals as goal
+use Rattle.cxl_legal.proofs.Prefixes.{prefix_fits}
+use Rattle.cxl_legal.proofs.blocks.last_end.Goals as goal
 
 pub decoder-last-requires : goal.decoder-last-requires
 decoder-last-requires c =

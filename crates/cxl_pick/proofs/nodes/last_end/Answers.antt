@@ -1,9 +1,0 @@
-use Rattle.std.proofs.Common.{arith}
-use Rattle.cxl_regs.specs.declared.decoder.Decoder.{Decoder}
-use Rattle.cxl_pick.proofs.Prefixes.{prefix_fits}
-use Rattle.cxl_pick.proofs.nodes.last_end.Goals as goal
-
-pub decoder-last-requires : goal.decoder-last-requires
-decoder-last-requires c =
-    let fits = prefix_fits (λ (d : Decoder). d.committed) c.args.block.now.decoders in
-    omega (arith, fits, c.committed-committed.ensures)
