@@ -19,6 +19,17 @@ endpoint = [
 ]
 "#;
 
+/// The same, where the first endpoint has persistent memory alone.
+const NO_RAM_IN_THE_FIRST: &str = r#"
+bridge = [{ name = "hb0", uid = 0 }, { name = "hb1", uid = 1 }]
+endpoint = [
+    { name = "e0", parent = "hb0", port = 0, pmem = 0x4000000000 },
+    { name = "e1", parent = "hb0", port = 1, ram = 0x4000000000 },
+    { name = "e2", parent = "hb1", port = 0, ram = 0x4000000000 },
+    { name = "e3", parent = "hb1", port = 1, ram = 0x4000000000 },
+]
+"#;
+
 /// A bridge with five endpoints, of 1 GiB of volatile memory and 1 GiB of persistent memory each.
 const FIVE_ENDPOINTS: &str = r#"
 bridge = [{ name = "hb0", uid = 0 }]
@@ -69,6 +80,47 @@ const PMEM_PLAN: &str = "\
 plan b pmem window 0 base 0x100000000 size 0x10000000 gran 256 ways 1
 row hb0 0 ways 1 gran 256 targets 2
 row e2 0 ways 1 gran 256 skip 0x40000000
+";
+
+const PICKED_FOUR: &str = "\
+plan a ram window 0 base 0x1000000000 size 0x40000000 gran 256 ways 4
+row hb0 0 ways 2 gran 512 targets 0,1
+row hb1 0 ways 2 gran 512 targets 0,1
+row e0 0 ways 4 gran 256 skip 0x0
+row e1 0 ways 4 gran 256 skip 0x0
+row e2 0 ways 4 gran 256 skip 0x0
+row e3 0 ways 4 gran 256 skip 0x0
+";
+
+const PICKED_TWO: &str = "\
+plan b ram window 0 base 0x1000000000 size 0x20000000 gran 256 ways 2
+row hb0 0 ways 1 gran 256 targets 0
+row hb1 0 ways 1 gran 256 targets 0
+row e0 0 ways 2 gran 256 skip 0x0
+row e2 0 ways 2 gran 256 skip 0x0
+";
+
+const PICKED_BESIDE: &str = "\
+plan b ram window 0 base 0x1000000000 size 0x20000000 gran 256 ways 2
+row hb0 0 ways 1 gran 256 targets 1
+row hb1 0 ways 1 gran 256 targets 0
+row e1 0 ways 2 gran 256 skip 0x0
+row e2 0 ways 2 gran 256 skip 0x0
+";
+
+const PICKED_WIDE: &str = "\
+plan p pmem window 0 base 0x100000000 size 0x20000000 gran 4096 ways 2
+row hb0 0 ways 2 gran 4096 targets 0,1
+row e0 0 ways 2 gran 4096 skip 0x40000000
+row e1 0 ways 2 gran 4096 skip 0x40000000
+";
+
+const PICKED_BEHIND: &str = "\
+plan x ram window 2 base 0x300000000 size 0x20000000 gran 512 ways 2
+row hb0 0 ways 1 gran 256 targets 0
+row hb1 0 ways 1 gran 256 targets 0
+row e0 0 ways 2 gran 512 skip 0x0
+row e1 0 ways 2 gran 512 skip 0x0
 ";
 
 /// A table, a topology and a create line, with the exit status and the text of their plan.
@@ -263,7 +315,102 @@ const REASONS: [Row; 6] = [
     ),
 ];
 
-/// Lines that ask for no region over named endpoints: no file is asked for.
+/// Plans over endpoints that are picked.
+#[test]
+fn picked(rt: HostRuntime) -> Result<(), Fail> {
+    check_rows(&rt, &PICKED)
+}
+
+const PICKED: [Row; 5] = [
+    (
+        SERVER,
+        FOUR_ENDPOINTS,
+        "create a ram 0x40000000 ways=4",
+        0,
+        PICKED_FOUR,
+    ),
+    (
+        SERVER,
+        FOUR_ENDPOINTS,
+        "create b ram 0x20000000 gran=256 ways=2",
+        0,
+        PICKED_TWO,
+    ),
+    (
+        SERVER,
+        NO_RAM_IN_THE_FIRST,
+        "create b ram 0x20000000 ways=2",
+        0,
+        PICKED_BESIDE,
+    ),
+    (
+        ONE_BRIDGE,
+        FIVE_ENDPOINTS,
+        "create p pmem 0x20000000 gran=4096 ways=2",
+        0,
+        PICKED_WIDE,
+    ),
+    (
+        FOUR_WINDOWS,
+        TWO_ENDPOINTS,
+        "create x ram 0x20000000 ways=2",
+        0,
+        PICKED_BEHIND,
+    ),
+];
+
+/// Why none are picked.
+#[test]
+fn not_picked(rt: HostRuntime) -> Result<(), Fail> {
+    check_rows(&rt, &NOT_PICKED)
+}
+
+const NOT_PICKED: [Row; 6] = [
+    (
+        SERVER,
+        FOUR_ENDPOINTS,
+        "create c ram 0x30000000 ways=3",
+        8,
+        "refused no-set\n",
+    ),
+    (
+        SERVER,
+        FOUR_ENDPOINTS,
+        "create c ram 0x50000000 ways=5",
+        8,
+        "refused ways 5\n",
+    ),
+    (
+        SERVER,
+        FOUR_ENDPOINTS,
+        "create c ram 0x10000000 ways=2",
+        8,
+        "refused size\n",
+    ),
+    (
+        SERVER,
+        FOUR_ENDPOINTS,
+        "create c pmem 0x20000000 ways=2",
+        8,
+        "refused no-set\n",
+    ),
+    (
+        SERVER,
+        FOUR_ENDPOINTS,
+        "create c ram 0x40000000 gran=512 ways=4",
+        8,
+        "refused no-set\n",
+    ),
+    (
+        SERVER,
+        NO_RAM_IN_THE_FIRST,
+        "create c ram 0x40000000 ways=4",
+        8,
+        "refused no-set\n",
+    ),
+];
+
+/// Lines that ask for no region: no file is asked for.
 #[test]
 fn lines(rt: HostRuntime) -> Result<(), Fail> {
     let alloc = rt.alloc();
@@ -274,7 +421,11 @@ fn lines(rt: HostRuntime) -> Result<(), Fail> {
         "create abcdefghijklmnop ram 0x20000000 e0 e1",
         "begin create x ram 0x20000000 e0 e1",
         "destroy x",
-        "create x ram 0x20000000 ways=2",
+        "create x ram 0x20000000 ways=0",
+        "create x ram 0x20000000 ways=17",
+        "create x ram 0x20000000 ways=2 e0",
+        "create x ram 0x20000000 e0 ways=2",
+        "begin create x ram 0x20000000 ways=2",
     ] {
         let files = two_files(alloc, Vec::new(alloc), "", &[1])?;
         check_files(&rt, files, line, 1, "usage\n")?;

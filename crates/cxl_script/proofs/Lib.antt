@@ -1,4 +1,5 @@
 pub mod WordLemmas
 pub mod HexBytes
 pub mod Grans
+pub mod GranCodes
 pub mod NameLists

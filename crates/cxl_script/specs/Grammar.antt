@@ -1,5 +1,5 @@
 -- What a line of a script asks for, or its first fault (this project's grammar).
-use Rattle.std.specs.Prelude.{ℕ, nat_lt, nat_eq, Bool, if◌then◌else◌, List, [], ◌∷◌, length, codes, Option, Some, None, Result, Ok, Err}
+use Rattle.std.specs.Prelude.{ℕ, ◌≤◌, nat_lt, nat_eq, Bool, if◌then◌else◌, List, [], ◌∷◌, length, codes, Option, Some, None, IfSome, Result, Ok, Err}
 use Rattle.std.specs.List.{starts_with}
 use Rattle.cxl_enc.specs.Codes.{gran_code_in_table}
 use Rattle.cxl_enc.specs.Limits.{address_limit}
@@ -210,3 +210,14 @@ asked_by len (verb ∷ words) = if begins_comment verb.text then Ok None else so
 abbrev pub asked_in : List ℕ → Result (Option Command) BadLine
 asked_in line =
     if nat_lt line_limit (length line) then bad line_limit whys.Long else asked_by (length line) (line_words line)
+
+-- ---- the granularity of a region to be made
+
+-- none is stated, or one by a code of the table
+abbrev pub StatesGranCode : Create → Type 0
+StatesGranCode create = IfSome create.gran (λ code. code ≤ 6)
+
+abbrev pub StatesGranCodes : Command → Type 0
+StatesGranCodes (commands.Create create) = StatesGranCode create
+StatesGranCodes (commands.BeginCreate create) = StatesGranCode create
+StatesGranCodes command = Unit {0}

@@ -4,6 +4,7 @@
 mod command;
 mod create;
 mod fault;
+mod laws;
 mod limits;
 mod line;
 mod reading;
@@ -14,6 +15,7 @@ pub use command::{Command, Create, Load, Pair, Poison, Reach, Store, Up};
 pub use cxl_enc::{FixedList, MemKind, Memory, Name};
 pub use cxl_io::LINE_LIMIT;
 pub use fault::{BadLine, LineFault, Why};
+pub use laws::stated_granularities_are_codes;
 pub use line::read_command;
 
 #[cfg(test)]

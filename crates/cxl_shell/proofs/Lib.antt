@@ -3,6 +3,7 @@ pub mod Holders
 pub mod Faults
 pub mod WordCounts
 pub mod Forms
+pub mod LineCodes
 pub mod Stops
 pub mod Tables
 pub mod Topologies

@@ -2,12 +2,14 @@
 use Rattle.std.proofs.Common.{◌≡◌, ℕ, zero, suc, ◌<◌, ◌⊎◌, false, Some, None, List, [], ◌∷◌, take, refl, sym, ap, subst, ◌∙◌, inl, inr, arith}
 use Rattle.std.specs.List.{concat}
 use Rattle.std.proofs.lemmas.List.{append-nil}
-use Rattle.std.proofs.lemmas.Option.{none-some}
+use Rattle.std.proofs.lemmas.Option.{none-some, same_Some}
 use Rattle.cxl_cedt.specs.CedtFields.{CedtFields}
 use Rattle.cxl_io.specs.Sink.{SinkState, Takes}
 use Rattle.cxl_model.specs.Accepted.{IsAccepted, HasFirstBreach}
+use Rattle.cxl_model.specs.Plans.{IsLegalPlan}
 use Rattle.cxl_model.specs.System.{System}
 use Rattle.cxl_model.specs.declared.plan.Plan as plans
+use Rattle.cxl_pick.specs.Picking.{HasPlanIn}
 use Rattle.cxl_reply.specs.declared.reply.Reply.{Reply}
 use Rattle.cxl_regs.specs.Registers.{Registers}
 use Rattle.cxl_script.specs.declared.command.Create.{Create}
@@ -22,7 +24,7 @@ use Rattle.cxl_shell.specs.Run.{RunsOut, before, behind, IsRun, writes, is_cut, 
 use Rattle.cxl_shell.specs.commands.Check.{IsChecked, regions_told, breach_told, IsRegionsText, IsBreachText, TakesRegions}
 use Rattle.cxl_shell.specs.commands.List.{IsListText, TakesLines}
 use Rattle.cxl_shell.specs.commands.Normal.{IsNormalText}
-use Rattle.cxl_shell.specs.commands.Plan.{IsPlanned, plan_told, refusal_told, IsPlanText, IsRefusalText, IsPlanFor, IsRefusal, unknown, faulty, HasPlan, HasNoPlan, of_unknown, none_legal}
+use Rattle.cxl_shell.specs.commands.Plan.{asked_over, wanted_with, AreEndpointsOf, named, picked, IsPlanned, plan_told, refusal_told, IsPlanText, IsRefusalText, IsPlanFor, IsRefusal, unknown, faulty, not_picked, HasPlan, over_named, over_some, HasNoPlan, of_unknown, none_over_named, none_over_any}
 use Rattle.cxl_shell.specs.commands.Route.{IsNowhere, IsRouted, to_bridge, nowhere, no_window, IsRouteLine}
 use Rattle.cxl_shell.specs.declared.status.Status.{Status}
 use Rattle.cxl_shell.specs.declared.status.Status.TheVariants.{Done, Refused, Memory}
@@ -292,13 +294,33 @@ module _ (not_both : (s : System) → IsAccepted s → HasFirstBreach s → ⊥)
 
 -- a line that has a plan, and one that has none
 module _ (s : System) (create : Create) (outcome : Outcome) where
+  -- a line does not both name endpoints and state ways
+  not_both : (ways : ℕ) → create.ways ≡ None → create.ways ≡ Some ways → ⊥
+  not_both ways line states = none-some ways (sym line ∙ states)
+
+  with_same : (P : ℕ → Type 0) (ways other : ℕ) → create.ways ≡ Some ways → create.ways ≡ Some other → P ways → P other
+  with_same P ways other states also is = subst P (same_Some ways other (sym states ∙ also)) is
+
   no_refusal : HasPlan s create → (reply : Reply) → IsRefusal s create reply → ⊥
-  no_refusal has reply (unknown name is) = none-some name (sym has.known ∙ is)
-  no_refusal has reply (faulty fault known none first) = none has.plan has.legal
+  no_refusal (over_named plan line known legal) reply (unknown name names is) = none-some name (sym known ∙ is)
+  no_refusal (over_named plan line known legal) reply (faulty fault names all none first) = none plan legal
+  no_refusal (over_named plan line known legal) reply (not_picked ways told states none why) = not_both ways line states
+  no_refusal (over_some ways w set states has) reply (unknown name line is) = not_both ways line states
+  no_refusal (over_some ways w set states has) reply (faulty fault line all none first) = not_both ways line states
+  no_refusal (over_some ways w set states has) reply (not_picked other told also none why) =
+      none w set (with_same (λ k. HasPlanIn s (wanted_with create k) w set) ways other states also has)
+
+  no_plan_over : HasNoPlan s create → (endpoints : List ℕ) → AreEndpointsOf s create endpoints → (plan : plans.Plan) → IsLegalPlan s (asked_over create endpoints) plan → ⊥
+  no_plan_over (of_unknown name line is) endpoints (named names known) plan legal = none-some name (sym known ∙ is)
+  no_plan_over (of_unknown name line is) endpoints (picked ways set states are) plan legal = not_both ways line states
+  no_plan_over (none_over_named line none) endpoints (named names known) plan legal = none plan legal
+  no_plan_over (none_over_named line none) endpoints (picked ways set states are) plan legal = not_both ways line states
+  no_plan_over (none_over_any ways states none) endpoints (named line known) plan legal = not_both ways line states
+  no_plan_over (none_over_any ways states none) endpoints (picked other set also are) plan legal =
+      none are.plans.window set (with_same (λ k. HasPlanIn s (wanted_with create k) are.plans.window set) other ways also states are.plans.has)
 
   no_plan : HasNoPlan s create → (plan : plans.Plan) → IsPlanFor s create plan → ⊥
-  no_plan (of_unknown name is) plan for = none-some name (sym for.known ∙ is)
-  no_plan (none_legal none) plan for = none plan for.legal
+  no_plan none plan for = no_plan_over none for.endpoints for.of_line plan for.legal
 
   planned_done : HasPlan s create → IsPlanned s create outcome → outcome.status ≡ Done
   planned_done has (plan_told plan is e) = ap (λ o. o.status) e

@@ -2,7 +2,7 @@
 use Rattle.std.specs.Prelude.{ℕ, Bool, true, false, Option, Some, None, List, [], ◌∷◌, codes, bytes_eq, if◌then◌else◌, Result, Ok, Err}
 use Rattle.cxl_io.specs.Numbers.{number_of}
 use Rattle.cxl_io.specs.declared.number.NumFault.{NumFault}
-use Rattle.cxl_script.specs.Grammar.{asked_in}
+use Rattle.cxl_script.specs.Grammar.{asked_in, StatesGranCode}
 use Rattle.cxl_script.specs.declared.command.Command.{Command}
 use Rattle.cxl_script.specs.declared.command.Command.TheVariants as commands
 use Rattle.cxl_script.specs.declared.command.Create.{Create}
@@ -19,7 +19,7 @@ pub data Form : Type 0 where
   Check : (cedt topo image : List ℕ) → Form
   -- how the region of a create line would be made after reset, by the files of a table and a topology
   Plan : (cedt topo : List ℕ) (create : Create) → Form
-  -- a plan is asked for by a line that does not ask for a region over named endpoints
+  -- a plan is asked for by a line that does not ask for a region
   NoCreate : Form
   Help : Form
   Version : Form
@@ -49,16 +49,11 @@ abbrev pub check_form : List (List ℕ) → Form
 check_form (cedt ∷ topo ∷ image ∷ []) = Check cedt topo image
 check_form words = Unreadable
 
--- the region that a create line asks for over the endpoints that it names
-abbrev pub with_named_endpoints : Create → Option ℕ → Option Create
-with_named_endpoints create None = Some create
-with_named_endpoints create (Some ways) = None
-
 abbrev pub create_asked : Result (Option Command) BadLine → Option Create
-create_asked (Ok (Some (commands.Create create))) = with_named_endpoints create create.ways
+create_asked (Ok (Some (commands.Create create))) = Some create
 create_asked asked = None
 
--- the region that a line asks for, where it asks for one over named endpoints
+-- the region that a line asks for, where it asks for one
 abbrev pub create_on_line : List ℕ → Option Create
 create_on_line line = create_asked (asked_in line)
 
@@ -142,3 +137,8 @@ takes_memory NoCreate = true
 takes_memory Help = false
 takes_memory Version = false
 takes_memory Unreadable = false
+
+-- a line that it has states no granularity, or one by a code of the table
+abbrev pub LineStatesGranCode : Form → Type 0
+LineStatesGranCode (Plan cedt topo create) = StatesGranCode create
+LineStatesGranCode form = Unit {0}

@@ -1,7 +1,7 @@
 //! The commands.
 
 ghost use Rattle.std.specs.Prelude.{◌≡◌, ◌≤◌, None};
-ghost use Rattle.cxl_shell.specs.Form.{table_file};
+ghost use Rattle.cxl_shell.specs.Form.{table_file, LineStatesGranCode};
 ghost use Rattle.cxl_shell.specs.Outside.{outside};
 ghost use Rattle.cxl_shell.specs.Plain.{plain};
 ghost use Rattle.cxl_shell.specs.Run.{IsRun};
@@ -34,6 +34,7 @@ pub(crate) fn carry_out<F: Fetch, K: Sink>(
     files: &mut F,
     out: &mut K,
 ) -> Status
+    requires { LineStatesGranCode (plain form) }
     ensures run { IsRun (plain form.entry) (outside (F.state files.old) (K.state out.old))
         (outside (F.state files.new) (K.state out.new)) result }
     ensures files { (F.state files.old).faults ≤ (F.state files.new).faults }

@@ -1,6 +1,6 @@
 ghost use Rattle.std.specs.Prelude.{◌≡◌, true, IfOk, OnErr};
 ghost use Rattle.cxl_shell.specs.Plain.{plain};
-ghost use Rattle.cxl_shell.specs.Form.{form_of, route_form, list_form, normal_form, check_form, plan_form, create_on_line, with_named_endpoints, alone, takes_memory};
+ghost use Rattle.cxl_shell.specs.Form.{form_of, route_form, list_form, normal_form, check_form, plan_form, create_on_line, alone, takes_memory};
 ghost use Rattle.cxl_shell.specs.Words.{bytes_of};
 
 use cxl_io::{Memory, read_number};
@@ -21,7 +21,7 @@ pub(crate) enum Form<'a> {
     Check(&'a str, &'a str, &'a str),
     /// How the region of a create line would be made after reset, by the files of a table and a topology.
     Plan(&'a str, &'a str, Create),
-    /// A plan is asked for by a line that does not ask for a region over named endpoints.
+    /// A plan is asked for by a line that does not ask for a region.
     NoCreate,
     Help,
     Version,
@@ -117,24 +117,13 @@ fn plan_form(alloc: Global, words: &[String]) -> Result<Form<'_>, Memory>
     }
 }
 
-/// The region that a line asks for, where it asks for one over named endpoints. Takes memory.
+/// The region that a line asks for, where it asks for one. Takes memory.
 fn create_on_line(alloc: Global, line: &[u8]) -> Result<Option<Create>, Memory>
     ensures { IfOk result (λ create. create ≡ create_on_line line.now) }
 {
     match read_command(alloc, line) {
-        Ok(Some(Command::Create(create))) => Ok(with_named_endpoints(create)),
+        Ok(Some(Command::Create(create))) => Ok(Some(create)),
         Ok(_) | Err(LineFault::Bad(_)) => Ok(None),
         Err(LineFault::Memory) => Err(Memory),
-    }
-}
-
-/// The region, unless its endpoints are to be picked.
-fn with_named_endpoints(create: Create) -> Option<Create>
-    ensures { result ≡ with_named_endpoints create create.ways }
-{
-    if create.ways.is_none() {
-        Some(create)
-    } else {
-        None
     }
 }

@@ -17,6 +17,7 @@ use crate::finish::run_ends;
 use crate::form::form_of;
 use crate::status::Status;
 use cxl_io::{Fetch, Memory, Sink};
+use cxl_script::stated_granularities_are_codes;
 use std::alloc::Global;
 
 /// Carries out the words of the command line, which are without the name of the program: reads files,
@@ -68,6 +69,7 @@ fn carry_out_words<F: Fetch, K: Sink>(
     ensures told { (F.state files.new).told ≡ (F.state files.old).told }
     ensures idle { table_file (form_of (bytes_of words.now)) ≡ None → files.new ≡ files.old }
 {
+    stated_granularities_are_codes();
     match form_of(alloc, words) {
         Ok(form) => carry_out(alloc, form, files, out),
         Err(Memory) => Status::Memory,

@@ -23,8 +23,9 @@ cxlplan --version         the version
 
 CEDT is a file with the bytes of a CEDT table, TOPO a topology in TOML, and IMAGE the registers of
 its decoders, each of 1,048,576 bytes at the most. HPA is a host physical address, in decimal
-digits, or in hexadecimal digits after 0x. LINE is one word: 'create NAME KIND SIZE [gran=G] EP..' with
-KIND ram or pmem, and SIZE and G in bytes.
+digits, or in hexadecimal digits after 0x. LINE is one word: 'create NAME KIND SIZE [gran=G] EP..' over
+named endpoints, or 'create NAME KIND SIZE [gran=G] ways=N' over N that are picked, with KIND ram or
+pmem, and SIZE and G in bytes.
 
 Exit status: 0 done, 1 the words are no command, 2 a file cannot be read, 3 the CEDT has a fault,
 4 the topology has a fault, 6 writing failed, 8 no window that can be used holds the address, the

@@ -1,6 +1,8 @@
-use Rattle.std.proofs.Common.{refl, ap, ◌∙◌}
-use Rattle.cxl_shell.specs.Form.{table_file}
+use Rattle.std.proofs.Common.{refl, ap, sym, subst, ◌∙◌}
+use Rattle.cxl_shell.specs.Form.{table_file, LineStatesGranCode}
 use Rattle.cxl_shell.specs.Run.{runs_out, before}
+use Rattle.cxl_shell.specs.Words.{bytes_of}
+use Rattle.cxl_shell.proofs.LineCodes.{line_states_code}
 use Rattle.cxl_shell.proofs.Stops.{asks_nothing, told-nothing_more}
 use Rattle.cxl_shell.proofs.shell.carry_out_words.Goals as goal
 
@@ -14,3 +16,6 @@ pub returns-in-Err-clause-run : goal.returns-in-Err-clause-run
 returns-in-Err-clause-run g c =
     runs_out c.in-Err.ensures.memory refl
     (before (record { count = 0; asks = asks_nothing (g.F.Fetch.state c.args.files.now) }) (told-nothing_more (g.K.Sink.state c.args.out.now).taken))
+
+pub carry_out-requires : goal.carry_out-requires
+carry_out-requires g c = subst LineStatesGranCode (sym c.in-Ok.ensures.form) (line_states_code c.stated_granularities_are_codes.ensures (bytes_of c.args.words.now))

@@ -13,8 +13,8 @@ returns-in_err-host-clause-comes g c =
     let p = err_from_is_err_and c.from_residual.result c.from_residual.ensures.1 in
     comes-stopped (forms.Plan c.args.cedt.now c.args.topo.now c.args.create.now) _ _ _ c.from_residual.result _ (p.1 ∙ ap Err p.2) (λ o none. no_reset_host none) c.in_err-host.ensures.stops
 
-pub planned-requires-clause-accepted : goal.planned-requires-clause-accepted
-planned-requires-clause-accepted g c =
+pub over_host-requires-clause-accepted : goal.over_host-requires-clause-accepted
+over_host-requires-clause-accepted g c =
     let host = c.in_ok-host.host in
     let reset = c.in_ok-host.ensures.reset in
     let ws = host.windows.items in
