@@ -15,6 +15,10 @@ pub record IsName (bytes : List ℕ) : Type 0 where
   pub few : length bytes ≤ 15
   pub each : IsTrue (list_all is_name_byte bytes)
 
+-- the same as a test
+abbrev pub is_name : List ℕ → Bool
+is_name bytes = nat_le 1 (length bytes) && nat_le (length bytes) 15 && list_all is_name_byte bytes
+
 -- fifteen bytes, zero past the name
 abbrev pub padded : List ℕ → List ℕ
 padded bytes = bytes ++ replicate (15 - length bytes) 0

@@ -1,6 +1,6 @@
 ghost use Rattle.std.specs.Prelude.{◌≡◌, ◌↔◌, IsTrue, IsSome, IfSome};
 ghost use Rattle.std.specs.List.{list_all};
-ghost use Rattle.cxl_enc.specs.Name.{IsName, is_name_byte};
+ghost use Rattle.cxl_enc.specs.Name.{IsName, is_name, is_name_byte};
 
 use std::marker::Model;
 
@@ -62,7 +62,8 @@ impl Name {
 }
 
 fn is_name(bytes: &[u8]) -> bool
-    ensures { IsTrue result ↔ IsName bytes.now }
+    ensures test { result ≡ is_name bytes.now }
+    ensures name { IsTrue result ↔ IsName bytes.now }
 {
     !bytes.is_empty() && bytes.len() <= ROOM && are_name_bytes(bytes)
 }

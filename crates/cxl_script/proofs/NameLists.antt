@@ -1,9 +1,10 @@
 -- Names that are read one after the other.
 use Rattle.std.proofs.Common.{◌≡◌, ℕ, Bool, true, false, cond, List, [], ◌∷◌, ◌++◌, Result, Ok, Err, refl, sym, ap, ◌∙◌, append_assoc}
+use Rattle.cxl_enc.specs.Name.{is_name}
 use Rattle.cxl_script.specs.declared.fault.BadLine.{BadLine}
 use Rattle.cxl_script.specs.declared.fault.Why.TheVariants as whys
 use Rattle.cxl_script.specs.Words.{Word}
-use Rattle.cxl_script.specs.Reading.{is_name, word_as_name, bad}
+use Rattle.cxl_script.specs.Reading.{word_as_name, bad}
 use Rattle.cxl_script.specs.Grammar.{name_onto, names_in}
 
 -- names in front of those that are read

@@ -3,6 +3,7 @@ use Rattle.std.specs.Prelude.{ℕ, ◌≤◌, nat_lt, nat_eq, Bool, if◌then◌
 use Rattle.std.specs.List.{starts_with}
 use Rattle.cxl_enc.specs.Codes.{gran_code_in_table}
 use Rattle.cxl_enc.specs.Limits.{address_limit}
+use Rattle.cxl_enc.specs.Name.{is_name}
 use Rattle.cxl_io.specs.Numbers.{number_of}
 use Rattle.cxl_io.specs.Reader.{line_limit}
 use Rattle.cxl_script.specs.declared.command.Command.{Command}
@@ -21,7 +22,7 @@ use Rattle.cxl_script.specs.declared.verb.Verb.{Verb}
 use Rattle.cxl_script.specs.declared.verb.Verb.TheVariants as verbs
 use Rattle.cxl_script.specs.Words.{Word, line_words}
 use Rattle.cxl_script.specs.Verbs.{verb_of}
-use Rattle.cxl_script.specs.Reading.{Read, ◌>>=◌, bad, next_word_in, ends, name_in, kind_in, behind, ranged, with_rest, ranged_in, address_in, hex_bytes_in, is_name}
+use Rattle.cxl_script.specs.Reading.{Read, ◌>>=◌, bad, next_word_in, ends, name_in, kind_in, behind, ranged, with_rest, ranged_in, address_in, hex_bytes_in}
 
 -- the most bytes of a load or a store, of a range and of a spread, and the most steps of one line
 abbrev pub access_limit : ℕ

@@ -5,7 +5,7 @@ use Rattle.std.specs.Str.{bytes_eq}
 use Rattle.std.specs.Char.{digit_value, is_digit}
 use Rattle.cxl_enc.specs.declared.caps.MemKind.{MemKind}
 use Rattle.cxl_enc.specs.declared.caps.MemKind.TheVariants.{Ram, Pmem}
-use Rattle.cxl_enc.specs.Name.{is_name_byte}
+use Rattle.cxl_enc.specs.Name.{is_name}
 use Rattle.cxl_io.specs.Numbers.{number_of}
 use Rattle.cxl_io.specs.declared.number.NumFault.{NumFault}
 use Rattle.cxl_script.specs.declared.fault.BadLine.{BadLine}
@@ -57,9 +57,6 @@ next_word_in len (word ∷ words) = Ok (word, words)
 abbrev pub ends : {A : Type 0} → A → List Word → Result A BadLine
 ends a [] = Ok a
 ends a (word ∷ words) = bad word.at whys.Extra
-
-abbrev pub is_name : List ℕ → Bool
-is_name text = nat_le 1 (length text) && nat_le (length text) 15 && list_all is_name_byte text
 
 abbrev pub word_as_name : Word → Result (List ℕ) BadLine
 word_as_name word = if is_name word.text then Ok word.text else bad word.at whys.Name

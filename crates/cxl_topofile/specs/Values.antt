@@ -1,8 +1,7 @@
 -- What stands at one key of a table.
-use Rattle.std.specs.Prelude.{◌≡◌, ℕ, ℤ, pos, negsuc, Bool, ◌&&◌, nat_lt, nat_le, List, length, Option, Some, None, Result, Ok, Err, if◌then◌else◌}
-use Rattle.std.specs.List.{list_all}
+use Rattle.std.specs.Prelude.{◌≡◌, ℕ, ℤ, pos, negsuc, Bool, ◌&&◌, nat_le, List, Option, Some, None, Result, Ok, Err, if◌then◌else◌}
 use Rattle.std.specs.Option.{ok_or}
-use Rattle.cxl_enc.specs.Name.{is_name_byte}
+use Rattle.cxl_enc.specs.Name.{is_name}
 use Rattle.cxl_enc.specs.Caps.{is_decoder_count, is_target_count}
 use Rattle.toml.specs.Data.{Data, Members, get_member, as_str, as_integer, as_bool}
 use Rattle.cxl_topofile.specs.declared.key.Key.{Key}
@@ -50,9 +49,6 @@ number_at table key default test = do
 -- a boolean
 abbrev pub flag_at : Members → Key → Bool → Result Bool Wrong
 flag_at table key default = value_at as_bool table key (Some default)
-
-abbrev pub is_name : List ℕ → Bool
-is_name bytes = nat_lt 0 (length bytes) && nat_le (length bytes) 15 && list_all is_name_byte bytes
 
 -- a name
 unfoldable pub stated_name : Members → Key → Result (List ℕ) Wrong

@@ -1,9 +1,10 @@
 ghost use Rattle.std.specs.Prelude.{◌≡◌, ◌≤◌, None, option_map, IfOk, IsTrue};
 ghost use Rattle.cxl_enc.specs.Caps.{is_decoder_count, is_target_count};
+ghost use Rattle.cxl_enc.specs.Name.{is_name};
 ghost use Rattle.toml.specs.Data.{get_member, as_integer, as_bool, as_str};
 ghost use Rattle.toml.specs.View.{view, table_view};
 ghost use Rattle.cxl_topofile.specs.Keys.{text_of};
-ghost use Rattle.cxl_topofile.specs.Values.{value_at, number_at, natural, is_within, within, is_name, flag_at, stated_name, stated_decoders, stated_targets, Gives};
+ghost use Rattle.cxl_topofile.specs.Values.{value_at, number_at, natural, is_within, within, flag_at, stated_name, stated_decoders, stated_targets, Gives};
 
 use crate::fault::Wrong;
 use crate::key::Key;
