@@ -317,7 +317,7 @@ const REASONS: [Row; 6] = [
 
 /// Plans over endpoints that are picked.
 #[test]
-fn picked(rt: HostRuntime) -> Result<(), Fail> {
+fn plans_by_ways(rt: HostRuntime) -> Result<(), Fail> {
     check_rows(&rt, &PICKED)
 }
 
@@ -361,7 +361,7 @@ const PICKED: [Row; 5] = [
 
 /// Why none are picked.
 #[test]
-fn not_picked(rt: HostRuntime) -> Result<(), Fail> {
+fn refusals_by_ways(rt: HostRuntime) -> Result<(), Fail> {
     check_rows(&rt, &NOT_PICKED)
 }
 
