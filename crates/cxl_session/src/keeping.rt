@@ -97,11 +97,9 @@ pub fn commands_keep_machines()
         → StoresBytes command → CreatesLegally m command → Answers m command outcome answer
         → IsMachine answer.machine }
 {
-    whole_ranges_have_one_region();
-    weaves_fill_their_regions();
-    create_commits_its_rows();
-    release_releases_its_rows();
-    released_image_is_accepted();
-    regions_stay_after_a_create();
-    regions_stay_after_a_release();
+    accesses_keep_machines();
+    undone_jobs_keep_machines();
+    finished_jobs_keep_machines();
+    releases_begin_as_machines();
+    creates_begin_as_machines();
 }
