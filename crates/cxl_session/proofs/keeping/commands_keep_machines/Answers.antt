@@ -2,7 +2,7 @@ use Rattle.cxl_session.proofs.KeepingCommands.{PartLaws, command_keeps}
 use Rattle.cxl_session.proofs.keeping.commands_keep_machines.Goals as goal
 
 pub returns : goal.returns
-returns c m command outcome answer is =
+returns c m command outcome answer is ports stores =
     let laws : PartLaws = record {
       accesses = c.accesses_keep_machines.ensures;
       undoes = c.undone_jobs_keep_machines.ensures;
@@ -10,4 +10,4 @@ returns c m command outcome answer is =
       releases = c.releases_begin_as_machines.ensures;
       creates = c.creates_begin_as_machines.ensures;
     } in
-    command_keeps laws m is command outcome answer
+    command_keeps laws m is command outcome answer stores (c.creates_are_legal.ensures m command is ports)
