@@ -22,7 +22,7 @@ use Rattle.cxl_apply.specs.Releases.{rows_of, first_locked, first_not_last}
 use Rattle.cxl_reply.specs.declared.reply.Reply.{Reply}
 use Rattle.cxl_reply.specs.declared.reply.Reply.TheVariants as replies
 use Rattle.cxl_session.specs.Machine.{Live, RegionJob, Machine, region_limit, under_release, live_named, place_named}
-use Rattle.cxl_session.specs.Firsts.{first_there}
+use Rattle.cxl_legal.specs.Firsts.{first_there}
 use Rattle.cxl_session.specs.Jobs.{create_job, release_job, begun}
 use Rattle.cxl_session.specs.Requests.{busy, no_region, locked, not_last, spot_of, refusal_of_release, release_at, release_named, job_unless, asked_release}
 use Rattle.cxl_session.specs.Sound.{IsMachine, AreKept}

@@ -9,29 +9,31 @@ use Rattle.std.proofs.lemmas.Slice.Eq.{bytes_eq-Decides}
 use Rattle.cxl_script.specs.declared.command.Command.{Command}
 use Rattle.cxl_script.specs.declared.command.Command.TheVariants as commands
 use Rattle.cxl_script.specs.declared.command.Create.{Create}
+use Rattle.cxl_model.specs.declared.plan.Plan.{Plan}
+use Rattle.cxl_model.specs.declared.request.Request.{Request}
+use Rattle.cxl_model.specs.Plans.{IsLegalPlan}
 use Rattle.cxl_reply.specs.declared.reply.Reply.{Reply}
 use Rattle.cxl_reply.specs.declared.reply.Reply.TheVariants as replies
 use Rattle.cxl_session.specs.Machine.{Live, RegionJob, Machine, region_limit, live_named}
-use Rattle.cxl_session.specs.Jobs.{begun, finished, undone}
-use Rattle.cxl_session.specs.Outcomes.{BusOutcome, NoFault, Undone, LeftPending, ReadFailed, StoresBytes}
+use Rattle.cxl_session.specs.Jobs.{create_job, begun, finished, undone}
+use Rattle.cxl_session.specs.Outcomes.{BusOutcome, NoFault, Undone, LeftPending, ReadFailed, is_access, StoresBytes}
 use Rattle.cxl_session.specs.Requests.{busy, name_taken, no_endpoint, regions_full, refusal_of_create, AsksUnless, AsksCreate, asked_release}
 use Rattle.cxl_session.specs.Replies.{Answer}
 use Rattle.cxl_session.specs.Regions.{AnswersWhole, begin_answer}
 use Rattle.cxl_session.specs.Answers.{Answers}
 use Rattle.cxl_session.specs.Creating.{AsksLegally, CreatesLegally}
 use Rattle.cxl_session.specs.Sound.{IsMachine}
-use Rattle.cxl_session.proofs.KeepingMachines.{TurnsLaw}
-use Rattle.cxl_session.proofs.KeepingAccesses.{access_keeps}
 use Rattle.cxl_session.proofs.KeepingSteps.{at_done_keeps, step_keeps, abort_keeps}
-use Rattle.cxl_session.proofs.KeepingJobs.{ImageLaws, undone_keeps, finished_keeps}
-use Rattle.cxl_session.proofs.KeepingBegun.{PlanRowsLaw, RangeRowsLaw, none_of_map, none_there, idle, create_begins, asked_begins}
+use Rattle.cxl_session.proofs.KeepingBegun.{none_of_map, none_there, idle}
 
--- what is known below sessions
-pub record CommandLaws : Type 0 where
-  pub images : ImageLaws
-  pub plan_rows : PlanRowsLaw
-  pub range_rows : RangeRowsLaw
-  pub turns : TurnsLaw
+-- what is known of each part of a command
+pub record PartLaws : Type 0 where
+  pub accesses : (m : Machine) (command : Command) (outcome : BusOutcome) (answer : Answer) → IsMachine m → is_access command ≡ true → StoresBytes command → Answers m command outcome answer → IsMachine answer.machine
+  pub undoes : (m : Machine) (job : RegionJob) → IsMachine m → m.job ≡ Some job → IsMachine (undone job m)
+  pub finishes : (m : Machine) (job : RegionJob) → IsMachine m → m.job ≡ Some job → IsMachine (finished job m)
+  pub releases : (m : Machine) (name : List ℕ) (job : RegionJob) → IsMachine m → asked_release m name ≡ Ok job → IsMachine (begun job m)
+  pub creates : (m : Machine) (request : Request) (plan : Plan) → IsMachine m → m.job ≡ None → IsLegalPlan m.settled request plan → All (λ (region : Live). region.name ≢ plan.name) m.live
+      → length m.live < region_limit → IsMachine (begun (create_job m.settled plan) m)
 
 -- ---- a create that is not refused
 
@@ -72,14 +74,14 @@ by_refusal m create job (Some refusal) some asks = absurd (differ asks)
     differ e = cc
 by_refusal m create job None none asks = unrefused m create none
 
-module _ (laws : CommandLaws) (m : Machine) (is : IsMachine m) where
+module _ (laws : PartLaws) (m : Machine) (is : IsMachine m) where
   create_keeps : (create : Create) → AsksLegally m create → (job : RegionJob) → AsksCreate m create (Ok job) → IsMachine (begun job m)
   create_keeps create legally job asks =
       let own = legally job asks in
       let free = by_refusal m create job (refusal_of_create m create) refl asks in
       let name : create.name ≡ own.plan.name = sym own.named ∙ sym own.legal.1.named in
       subst (λ (j : RegionJob). IsMachine (begun j m)) (sym own.made)
-      (create_begins laws.plan_rows m own.request own.plan is free.idle own.legal (subst (λ (n : List ℕ). All (λ (region : Live). region.name ≢ n) m.live) name free.unnamed) free.room)
+      (laws.creates m own.request own.plan is free.idle own.legal (subst (λ (n : List ℕ). All (λ (region : Live). region.name ≢ n) m.live) name free.unnamed) free.room)
 
   -- ---- whole jobs
 
@@ -87,7 +89,7 @@ module _ (laws : CommandLaws) (m : Machine) (is : IsMachine m) where
   given answer other same keeps = subst (λ (a : Answer). IsMachine a.machine) (sym same) keeps
 
   whole_keeps : (asked : Result RegionJob Reply) (outcome : BusOutcome) (answer : Answer) → ((job : RegionJob) → asked ≡ Ok job → IsMachine (begun job m)) → AnswersWhole m asked outcome answer → IsMachine answer.machine
-  whole_keeps (Ok job) NoFault answer begins at = given answer _ at (finished_keeps laws.images (begun job m) (begins job refl) job refl)
+  whole_keeps (Ok job) NoFault answer begins at = given answer _ at (laws.finishes (begun job m) job (begins job refl) refl)
   whole_keeps (Ok job) Undone answer begins at = given answer _ at is
   whole_keeps (Ok job) (LeftPending done) answer begins at = given answer _ at.1 (at_done_keeps (begun job m) job done (begins job refl) refl at.0.part)
   whole_keeps (Ok job) ReadFailed answer begins at = absurd at
@@ -98,13 +100,13 @@ module _ (laws : CommandLaws) (m : Machine) (is : IsMachine m) where
   begin_keeps (Err refusal) begins = is
 
   release_begins : (name : List ℕ) (job : RegionJob) → asked_release m name ≡ Ok job → IsMachine (begun job m)
-  release_begins name job asks = asked_begins laws.range_rows m name job is asks
+  release_begins name job asks = laws.releases m name job is asks
 
   finishes : (after : Machine) (job : RegionJob) → m.job ≡ Some job → after ≡ finished job m → IsMachine after
-  finishes after job pending same = subst IsMachine (sym same) (finished_keeps laws.images m is job pending)
+  finishes after job pending same = subst IsMachine (sym same) (laws.finishes m job is pending)
 
   undoes : (after : Machine) (job : RegionJob) → m.job ≡ Some job → after ≡ undone job m → IsMachine after
-  undoes after job pending same = subst IsMachine (sym same) (undone_keeps m job is pending)
+  undoes after job pending same = subst IsMachine (sym same) (laws.undoes m job is pending)
 
   pub command_keeps : (command : Command) (outcome : BusOutcome) (answer : Answer) → StoresBytes command → CreatesLegally m command → Answers m command outcome answer → IsMachine answer.machine
   command_keeps (commands.Create create) outcome answer stores legally at =
@@ -115,13 +117,13 @@ module _ (laws : CommandLaws) (m : Machine) (is : IsMachine m) where
   command_keeps (commands.BeginDestroy name) outcome answer stores legally at = given answer _ at.told (begin_keeps (asked_release m name) (release_begins name))
   command_keeps (commands.Step steps) outcome answer stores legally at = step_keeps m is answer (finishes answer.machine) (undoes answer.machine) steps outcome at
   command_keeps commands.Abort outcome answer stores legally at = abort_keeps m is answer (finishes answer.machine) (undoes answer.machine) outcome at
-  command_keeps (commands.Show name) outcome answer stores legally at = access_keeps laws.turns m is (commands.Show name) outcome answer refl stores at
-  command_keeps (commands.Down h) outcome answer stores legally at = access_keeps laws.turns m is (commands.Down h) outcome answer refl stores at
-  command_keeps (commands.Up asked) outcome answer stores legally at = access_keeps laws.turns m is (commands.Up asked) outcome answer refl stores at
-  command_keeps (commands.Load load) outcome answer stores legally at = access_keeps laws.turns m is (commands.Load load) outcome answer refl stores at
-  command_keeps (commands.Store store) outcome answer stores legally at = access_keeps laws.turns m is (commands.Store store) outcome answer refl stores at
-  command_keeps (commands.Poison asked) outcome answer stores legally at = access_keeps laws.turns m is (commands.Poison asked) outcome answer refl stores at
-  command_keeps (commands.Range reach) outcome answer stores legally at = access_keeps laws.turns m is (commands.Range reach) outcome answer refl stores at
-  command_keeps (commands.Spread reach) outcome answer stores legally at = access_keeps laws.turns m is (commands.Spread reach) outcome answer refl stores at
-  command_keeps (commands.Copy pair) outcome answer stores legally at = access_keeps laws.turns m is (commands.Copy pair) outcome answer refl stores at
-  command_keeps (commands.Move pair) outcome answer stores legally at = access_keeps laws.turns m is (commands.Move pair) outcome answer refl stores at
+  command_keeps (commands.Show name) outcome answer stores legally at = laws.accesses m (commands.Show name) outcome answer is refl stores at
+  command_keeps (commands.Down h) outcome answer stores legally at = laws.accesses m (commands.Down h) outcome answer is refl stores at
+  command_keeps (commands.Up asked) outcome answer stores legally at = laws.accesses m (commands.Up asked) outcome answer is refl stores at
+  command_keeps (commands.Load load) outcome answer stores legally at = laws.accesses m (commands.Load load) outcome answer is refl stores at
+  command_keeps (commands.Store store) outcome answer stores legally at = laws.accesses m (commands.Store store) outcome answer is refl stores at
+  command_keeps (commands.Poison asked) outcome answer stores legally at = laws.accesses m (commands.Poison asked) outcome answer is refl stores at
+  command_keeps (commands.Range reach) outcome answer stores legally at = laws.accesses m (commands.Range reach) outcome answer is refl stores at
+  command_keeps (commands.Spread reach) outcome answer stores legally at = laws.accesses m (commands.Spread reach) outcome answer is refl stores at
+  command_keeps (commands.Copy pair) outcome answer stores legally at = laws.accesses m (commands.Copy pair) outcome answer is refl stores at
+  command_keeps (commands.Move pair) outcome answer stores legally at = laws.accesses m (commands.Move pair) outcome answer is refl stores at

@@ -23,3 +23,4 @@ pub mod KeepingJobs
 pub mod KeepingBegun
 pub mod KeepingOpened
 pub mod KeepingCommands
+pub mod LegalCreates

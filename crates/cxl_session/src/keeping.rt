@@ -8,6 +8,7 @@ ghost use Rattle.cxl_model.specs.declared.plan.Plan.{Plan};
 ghost use Rattle.cxl_model.specs.declared.request.Request.{Request};
 ghost use Rattle.cxl_model.specs.Plans.{IsLegalPlan};
 ghost use Rattle.cxl_model.specs.System.{System, IsSystem};
+ghost use Rattle.cxl_legal.specs.Used.{HasBytePorts};
 ghost use Rattle.cxl_session.specs.Machine.{Live, RegionJob, Machine, region_limit};
 ghost use Rattle.cxl_session.specs.Jobs.{create_job, begun, finished, undone};
 ghost use Rattle.cxl_session.specs.Outcomes.{BusOutcome, is_access, StoresBytes};
@@ -25,6 +26,8 @@ use cxl_model::{
     accepted_where_whole, hosts_with_caps_are_systems, regions_stay, weaves_fill_their_regions,
     whole_ranges_have_one_region,
 };
+use cxl_pick::answers_hold_of_wants;
+use cxl_plan::answers_hold_of_requests;
 
 /// A law of machines: an accepted host opens as one that a session can stand for.
 pub fn openings_are_machines()
@@ -90,18 +93,25 @@ pub fn creates_begin_as_machines()
     create_commits_its_rows();
 }
 
-/// A law of machines: from one that a session can stand for, each command leads to one, however the bus let it go. A plan
-/// on which a create rests is legal.
+/// A law of machines: each job that a create asks for of one that a session can stand for is that of a legal plan.
+pub fn creates_are_legal()
+    ensures { (m : Machine) (command : Command) → IsMachine m → HasBytePorts m.settled.nodes
+        → CreatesLegally m command }
+{
+    answers_hold_of_requests();
+    answers_hold_of_wants();
+}
+
+/// A law of machines: from one that a session can stand for, each command leads to one, however the bus let it go.
 pub fn commands_keep_machines()
     ensures { (m : Machine) (command : Command) (outcome : BusOutcome) (answer : Answer) → IsMachine m
-        → StoresBytes command → CreatesLegally m command → Answers m command outcome answer
+        → HasBytePorts m.settled.nodes → StoresBytes command → Answers m command outcome answer
         → IsMachine answer.machine }
 {
-    whole_ranges_have_one_region();
-    weaves_fill_their_regions();
-    create_commits_its_rows();
-    release_releases_its_rows();
-    released_image_is_accepted();
-    regions_stay_after_a_create();
-    regions_stay_after_a_release();
+    creates_are_legal();
+    accesses_keep_machines();
+    undone_jobs_keep_machines();
+    finished_jobs_keep_machines();
+    releases_begin_as_machines();
+    creates_begin_as_machines();
 }
