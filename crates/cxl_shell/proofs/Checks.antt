@@ -10,7 +10,7 @@ use Rattle.cxl_regs.specs.Registers.{Registers}
 use Rattle.cxl_topo.specs.Tree.{Tree}
 use Rattle.cxl_window.specs.Fields.{WindowFields}
 use Rattle.cxl_window.specs.Windows.{windows_of}
-use Rattle.cxl_shell.specs.Answers.{AnswersFromFiles, IsStop, stop_of}
+use Rattle.cxl_shell.specs.Answers.{IsOutcomeByFiles, IsStop, stop_of}
 use Rattle.cxl_shell.specs.Ends.{Finishes}
 use Rattle.cxl_shell.specs.Form.{Check}
 use Rattle.cxl_shell.specs.Outcome.{Outcome}
@@ -51,5 +51,5 @@ module _ (cedt topo image : List ℕ) (old new : Outside) (status : Status) wher
   pub run-unread : (reason : Stop) → IsStop (HasNoHost cedt topo image old.files new.files) (AsksForSome (cedt ∷ topo ∷ image ∷ []) old.files new.files) reason → Finishes (Err reason) status old.out new.out → IsRun (Check cedt topo image) old new status
   run-unread reason stops finishes =
       run-finished (Check cedt topo image) old new status refl (Err reason)
-      (stop-weaker (HasNoHost cedt topo image old.files new.files) (AnswersFromFiles (Check cedt topo image) old.files new.files) (AsksForSome (cedt ∷ topo ∷ image ∷ []) old.files new.files) (AsksForSome (cedt ∷ topo ∷ image ∷ []) old.files new.files) reason (λ o none. no_host none) (λ out. out) stops)
+      (stop-weaker (HasNoHost cedt topo image old.files new.files) (IsOutcomeByFiles (Check cedt topo image) old.files new.files) (AsksForSome (cedt ∷ topo ∷ image ∷ []) old.files new.files) (AsksForSome (cedt ∷ topo ∷ image ∷ []) old.files new.files) reason (λ o none. no_host none) (λ out. out) stops)
       finishes

@@ -2,7 +2,7 @@
 use Rattle.std.proofs.Common.{◌≡◌, List, ℕ, [], ◌∷◌, Err, refl}
 use Rattle.cxl_cedt.specs.CedtFields.{CedtFields}
 use Rattle.cxl_io.specs.Fetch.{AsksFor}
-use Rattle.cxl_shell.specs.Answers.{AnswersFromFiles, IsStop}
+use Rattle.cxl_shell.specs.Answers.{IsOutcomeByFiles, IsStop}
 use Rattle.cxl_shell.specs.Ends.{Ends, IsBehind, Finishes}
 use Rattle.cxl_shell.specs.Form.{Listing}
 use Rattle.cxl_shell.specs.Outside.{Outside}
@@ -16,7 +16,7 @@ use Rattle.cxl_shell.specs.inputs.Table.{IsTableOf, HasNoTable, no_table, by_tab
 use Rattle.cxl_shell.proofs.Stops.{stop-weaker, run-ended, run-finished}
 
 module _ (file : List ℕ) (old new : Outside) (status : Status) where
-  listed-answers : (table : CedtFields) → IsTableOf (old.files.told file) table → AsksFor old.files new.files (file ∷ []) → AnswersFromFiles (Listing file) old.files new.files (listed table.records)
+  listed-answers : (table : CedtFields) → IsTableOf (old.files.told file) table → AsksFor old.files new.files (file ∷ []) → IsOutcomeByFiles (Listing file) old.files new.files (listed table.records)
   listed-answers table of asks = by_table table of (asks, refl)
 
   pub run-listed : (table : CedtFields) → IsTableOf (old.files.told file) table → AsksFor old.files new.files (file ∷ []) → Ends (listed table.records) status old.out new.out → IsRun (Listing file) old new status
@@ -28,5 +28,5 @@ module _ (file : List ℕ) (old new : Outside) (status : Status) where
   pub run-stopped : (reason : Stop) → IsStop (HasNoTable file old.files new.files) (AsksForSome (file ∷ []) old.files new.files) reason → Finishes (Err reason) status old.out new.out → IsRun (Listing file) old new status
   run-stopped reason stops finishes =
       run-finished (Listing file) old new status refl (Err reason)
-      (stop-weaker (HasNoTable file old.files new.files) (AnswersFromFiles (Listing file) old.files new.files) (AsksForSome (file ∷ []) old.files new.files) (AsksForSome (file ∷ []) old.files new.files) reason (λ o none. no_table none) (λ out. out) stops)
+      (stop-weaker (HasNoTable file old.files new.files) (IsOutcomeByFiles (Listing file) old.files new.files) (AsksForSome (file ∷ []) old.files new.files) (AsksForSome (file ∷ []) old.files new.files) reason (λ o none. no_table none) (λ out. out) stops)
       finishes

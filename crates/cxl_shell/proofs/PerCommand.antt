@@ -15,7 +15,7 @@ use Rattle.cxl_regs.specs.Registers.{Registers}
 use Rattle.cxl_script.specs.declared.command.Create.{Create}
 use Rattle.cxl_topo.specs.Tree.{Tree}
 use Rattle.cxl_window.specs.Windows.{windows_of}
-use Rattle.cxl_shell.specs.Answers.{AnswersFromFiles, IsTableAnswer, IsAnswerOfFile, IsAnswerOfResetHost, IsAnswerOfHost}
+use Rattle.cxl_shell.specs.Answers.{IsOutcomeByFiles, IsTableAnswer, IsAnswerOfFile, IsAnswerOfResetHost, IsAnswerOfHost}
 use Rattle.cxl_shell.specs.Ends.{IsWritten, IsCutShort, IsBehind, Ends, IsStopped}
 use Rattle.cxl_shell.specs.Form.{Form, Route, Listing, Normal, Check, Plan, NoCreate, Help, Version, Unreadable, has_many_pieces, takes_memory}
 use Rattle.cxl_shell.specs.Outcome.{Outcome, whole_text, one_piece}
@@ -87,7 +87,7 @@ module _ (old new : Outside) where
   one_of_reset_host cedt topo create outcome (resets.no_reset_host (resets.no_tree table of (trees.not_sound fault is asks e))) = record { status = _; text = _; is = e }
   one_of_reset_host cedt topo create outcome (resets.by_reset_host table tree of answer) = one_of_plan table tree create outcome answer.1
 
-  one_piece_answers : (form : Form) (outcome : Outcome) → has_many_pieces form ≡ false → AnswersFromFiles form old.files new.files outcome → IsOnePiece outcome
+  one_piece_answers : (form : Form) (outcome : Outcome) → has_many_pieces form ≡ false → IsOutcomeByFiles form old.files new.files outcome → IsOnePiece outcome
   one_piece_answers (Route file h) outcome other answers = one_of_file (Route file h) file outcome (λ table answer. one_of_route table h outcome answer) answers
   one_piece_answers (Listing file) outcome other answers = absurd (cc)
   one_piece_answers (Check cedt topo image) outcome other answers = absurd (cc)
@@ -145,18 +145,18 @@ module _ (old new : Outside) where
 
   -- ---- forms whose outcome is fixed
 
-  pub fixed_ends : (form : Form) (fixed : Outcome) (status : Status) → takes_memory form ≡ false → ((o : Outcome) → AnswersFromFiles form old.files new.files o → o ≡ fixed) → IsRun form old new status → Ends fixed status old.out new.out
+  pub fixed_ends : (form : Form) (fixed : Outcome) (status : Status) → takes_memory form ≡ false → ((o : Outcome) → IsOutcomeByFiles form old.files new.files o → o ≡ fixed) → IsRun form old new status → Ends fixed status old.out new.out
   fixed_ends form fixed status none one (writes outcome answers written) = inl (subst (λ o. IsWritten o status old.out new.out) (one outcome answers) written)
   fixed_ends form fixed status none one (is_cut outcome answers is) = inr (subst (λ o. IsCutShort o status old.out new.out) (one outcome answers) is)
   fixed_ends form fixed status none one (runs_out takes is left) = absurd (cc)
 
   -- a form whose outcome is fixed, and that may want for memory
-  pub fixed_or_memory : (form : Form) (fixed : Outcome) (status : Status) → ((o : Outcome) → AnswersFromFiles form old.files new.files o → o ≡ fixed) → IsRun form old new status → (status ≡ Memory) ⊎ Ends fixed status old.out new.out
+  pub fixed_or_memory : (form : Form) (fixed : Outcome) (status : Status) → ((o : Outcome) → IsOutcomeByFiles form old.files new.files o → o ≡ fixed) → IsRun form old new status → (status ≡ Memory) ⊎ Ends fixed status old.out new.out
   fixed_or_memory form fixed status one (writes outcome answers written) = inr (inl (subst (λ o. IsWritten o status old.out new.out) (one outcome answers) written))
   fixed_or_memory form fixed status one (is_cut outcome answers is) = inr (inr (subst (λ o. IsCutShort o status old.out new.out) (one outcome answers) is))
   fixed_or_memory form fixed status one (runs_out takes is left) = inl is
 
-  pub ends_or_memory : (form : Form) (status : Status) → IsRun form old new status → (status ≡ Memory) ⊎ ((outcome : Outcome) × AnswersFromFiles form old.files new.files outcome × Ends outcome status old.out new.out)
+  pub ends_or_memory : (form : Form) (status : Status) → IsRun form old new status → (status ≡ Memory) ⊎ ((outcome : Outcome) × IsOutcomeByFiles form old.files new.files outcome × Ends outcome status old.out new.out)
   ends_or_memory form status (writes outcome answers written) = inr (outcome, answers, inl written)
   ends_or_memory form status (is_cut outcome answers is) = inr (outcome, answers, inr is)
   ends_or_memory form status (runs_out takes is left) = inl is

@@ -31,7 +31,7 @@ use Rattle.cxl_topo.specs.Tree.{Tree, is_endpoint_at}
 use Rattle.cxl_topo.specs.declared.node.Node.{Node}
 use Rattle.cxl_window.specs.Fields.{WindowFields}
 use Rattle.cxl_window.specs.Windows.{windows_of}
-use Rattle.cxl_shell.specs.Answers.{AnswersFromFiles}
+use Rattle.cxl_shell.specs.Answers.{IsOutcomeByFiles}
 use Rattle.cxl_shell.specs.Form as forms
 use Rattle.cxl_shell.specs.Outcome.{Outcome}
 use Rattle.cxl_shell.specs.commands.Plan.{asked_over, wanted_with, first_unknown, endpoints_called, ArePicked, named, picked, HasNoLegalPlan, TellsNoPick, no_ways, no_size, no_set, unknown, faulty, not_picked, plan_outcome, refusal_outcome, IsPlanned, plan_told, refusal_told}
@@ -177,7 +177,7 @@ module _ (s : System) (create : Create) (ways : ℕ) (states : create.ways ≡ S
       each_made made (told_so fault (subst (λ (k : Want). TellsPickFault s k fault) is of) (λ no_set_there. subst (NothingPlans s) is (none no_set_there))) told
 
 -- a plan over the files' host after reset
-pub plan-comes : (cedt topo : List ℕ) (create : Create) (old new : FetchState) (table : CedtFields) (tree : Tree) (blocks : List Registers) (windows : List WindowFields) (outcome : Outcome) → AreBothRead old.told cedt topo table tree → windows ≡ windows_of table.records (Some (bridge_uids tree.nodes)) → blocks ≡ reset_blocks tree.nodes → AsksFor old new (cedt ∷ topo ∷ []) → IsPlanned (system_of blocks tree windows) create outcome → AnswersFromFiles (forms.Plan cedt topo create) old new outcome
+pub plan-comes : (cedt topo : List ℕ) (create : Create) (old new : FetchState) (table : CedtFields) (tree : Tree) (blocks : List Registers) (windows : List WindowFields) (outcome : Outcome) → AreBothRead old.told cedt topo table tree → windows ≡ windows_of table.records (Some (bridge_uids tree.nodes)) → blocks ≡ reset_blocks tree.nodes → AsksFor old new (cedt ∷ topo ∷ []) → IsPlanned (system_of blocks tree windows) create outcome → IsOutcomeByFiles (forms.Plan cedt topo create) old new outcome
 plan-comes cedt topo create old new table tree blocks windows outcome of made reset asks is =
     by_reset_host table tree of (
       asks,

@@ -14,7 +14,7 @@ use Rattle.cxl_topo.specs.declared.node.Node.{Node}
 use Rattle.cxl_topofile.specs.File.{IsTopologyFile, IsFirstTopoFault}
 use Rattle.cxl_topofile.specs.declared.fault.TopoFault.{TopoFault}
 use Rattle.cxl_topofile.specs.declared.fault.TopoFault.TheVariants as faults
-use Rattle.cxl_shell.specs.Answers.{AnswersFromFiles, IsTableAnswer, IsTreeAnswer, IsHostAnswer, IsAnswerBy, IsAnswerOfFile, IsAnswerOfResetHost, IsAnswerOfHost}
+use Rattle.cxl_shell.specs.Answers.{IsOutcomeByFiles, IsTableAnswer, IsTreeAnswer, IsHostAnswer, IsAnswerBy, IsAnswerOfFile, IsAnswerOfResetHost, IsAnswerOfHost}
 use Rattle.cxl_shell.specs.Ends.{IsWritten, IsStopped}
 use Rattle.cxl_shell.specs.Form.{Form, Route, Listing, Normal, Check, Plan, NoCreate, Help, Version, Unreadable, table_file, topology_file, image_file}
 use Rattle.cxl_shell.specs.Outcome.{Outcome}
@@ -150,7 +150,7 @@ module _ (old new : Outside) (status : Status) where
   file_step form file o after (tables.no_table none) written = no_table_step file form o none written
   file_step form file o after (tables.by_table table of answer) written = read of.bytes table of.told_so of.reading (after table (o, answer.1, written))
 
-  written_step : (form : Form) (file : List ℕ) → table_file form ≡ Some file → (o : Outcome) → AnswersFromFiles form old.files new.files o → IsWritten o status old.out new.out → TableStep file form
+  written_step : (form : Form) (file : List ℕ) → table_file form ≡ Some file → (o : Outcome) → IsOutcomeByFiles form old.files new.files o → IsWritten o status old.out new.out → TableStep file form
   written_step (Route own h) file asked o answers written = let same : own ≡ file = cc in subst (λ f. TableStep f (Route own h)) same (file_step (Route own h) own o (λ table a. a) answers written)
   written_step (Listing own) file asked o answers written = let same : own ≡ file = cc in subst (λ f. TableStep f (Listing own)) same (file_step (Listing own) own o (λ table a. a) answers written)
   written_step (Normal own) file asked o answers written = let same : own ≡ file = cc in subst (λ f. TableStep f (Normal own)) same (file_step (Normal own) own o (λ table a. a) answers written)

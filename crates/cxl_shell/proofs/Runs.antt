@@ -10,7 +10,7 @@ use Rattle.cxl_regs.specs.Registers.{Registers}
 use Rattle.cxl_script.specs.declared.command.Create.{Create}
 use Rattle.cxl_topo.specs.Tree.{Tree}
 use Rattle.cxl_topofile.specs.declared.fault.TopoFault.{TopoFault}
-use Rattle.cxl_shell.specs.Answers.{AnswersFromFiles, IsTableAnswer, IsAnswerOfFile, IsAnswerOfResetHost, IsAnswerOfHost}
+use Rattle.cxl_shell.specs.Answers.{IsOutcomeByFiles, IsTableAnswer, IsAnswerOfFile, IsAnswerOfResetHost, IsAnswerOfHost}
 use Rattle.cxl_shell.specs.Ends.{IsWritten, IsCutShort}
 use Rattle.cxl_shell.specs.Form.{Form, Route, Listing, Normal, Check, Plan, NoCreate, Help, Version, Unreadable, own_files, table_file, topology_file, image_file, takes_memory}
 use Rattle.cxl_shell.specs.Outcome.{Outcome}
@@ -112,7 +112,7 @@ module _ (old new : Outside) where
     declines : IsTreeAnswered form Refused → Came form Refused
     accepts : IsHostAnswered form Done → Came form Done
     rejects : IsHostAnswered form Refused → Came form Refused
-    cut : (outcome : Outcome) → AnswersFromFiles form old.files new.files outcome → IsCutShort outcome WriteFault old.out new.out → Came form WriteFault
+    cut : (outcome : Outcome) → IsOutcomeByFiles form old.files new.files outcome → IsCutShort outcome WriteFault old.out new.out → Came form WriteFault
     out : takes_memory form ≡ true → RunsOut form old new → Came form Memory
 
   -- ---- from the relation
@@ -171,7 +171,7 @@ module _ (old new : Outside) where
   came_by_host cedt topo image status outcome (hosts.by_host table tree blocks of answer) written =
       by_host_status (Check cedt topo image) status (record { cedt = cedt; topo = topo; image = image; table = table; tree = tree; blocks = blocks; outcome = outcome; is = refl; asks = answer.0; of = of; answer = answer.1; written = written }) (check_status table tree blocks outcome answer.1)
 
-  came_written : (form : Form) (status : Status) (outcome : Outcome) → AnswersFromFiles form old.files new.files outcome → IsWritten outcome status old.out new.out → Came form status
+  came_written : (form : Form) (status : Status) (outcome : Outcome) → IsOutcomeByFiles form old.files new.files outcome → IsWritten outcome status old.out new.out → Came form status
   came_written (Route file h) status outcome answers written = came_by_file (Route file h) file status outcome refl refl refl answers written
   came_written (Listing file) status outcome answers written = came_by_file (Listing file) file status outcome refl refl refl answers written
   came_written (Normal file) status outcome answers written = came_by_file (Normal file) file status outcome refl refl refl answers written
@@ -230,7 +230,7 @@ module _ (old new : Outside) where
   no_name : AsksFor old.files new.files [] → AsksForSome [] old.files new.files
   no_name asks = record { count = 0; asks = asks }
 
-  asked_answers : (form : Form) (outcome : Outcome) → AnswersFromFiles form old.files new.files outcome → AsksForSome (own_files form) old.files new.files
+  asked_answers : (form : Form) (outcome : Outcome) → IsOutcomeByFiles form old.files new.files outcome → AsksForSome (own_files form) old.files new.files
   asked_answers (Route file h) outcome answers = one_name file (asked_by_file (Route file h) file outcome answers)
   asked_answers (Listing file) outcome answers = one_name file (asked_by_file (Listing file) file outcome answers)
   asked_answers (Normal file) outcome answers = one_name file (asked_by_file (Normal file) file outcome answers)
@@ -241,7 +241,7 @@ module _ (old new : Outside) where
   asked_answers Version outcome answers = no_name answers.1
   asked_answers Unreadable outcome answers = no_name answers.1
 
-  one_file_asked : (form : Form) (file : List ℕ) (outcome : Outcome) → own_files form ≡ file ∷ [] → AnswersFromFiles form old.files new.files outcome → AsksFor old.files new.files (own_files form)
+  one_file_asked : (form : Form) (file : List ℕ) (outcome : Outcome) → own_files form ≡ file ∷ [] → IsOutcomeByFiles form old.files new.files outcome → AsksFor old.files new.files (own_files form)
   one_file_asked (Route own h) file outcome one answers = asked_by_file (Route own h) own outcome answers
   one_file_asked (Listing own) file outcome one answers = asked_by_file (Listing own) own outcome answers
   one_file_asked (Normal own) file outcome one answers = asked_by_file (Normal own) own outcome answers

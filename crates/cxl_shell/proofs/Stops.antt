@@ -3,7 +3,7 @@ use Rattle.std.proofs.Common.{◌≡◌, true, Option, Some, None, List, ℕ, []
 use Rattle.std.proofs.lemmas.List.{append-nil}
 use Rattle.cxl_io.specs.Fetch.{FetchState, AsksFor}
 use Rattle.cxl_io.specs.Told.{told_with}
-use Rattle.cxl_shell.specs.Answers.{AnswersFromFiles, IsStop, ComesTo}
+use Rattle.cxl_shell.specs.Answers.{IsOutcomeByFiles, IsStop, ComesTo}
 use Rattle.cxl_shell.specs.Ends.{Ends, Finishes}
 use Rattle.cxl_shell.specs.Form.{Form, own_files, takes_memory}
 use Rattle.cxl_shell.specs.Outcome.{Outcome}
@@ -34,7 +34,7 @@ pub asks_one : (file : List ℕ) (old new : FetchState) → AsksFor old new (fil
 asks_one file old new asks = record { count = 1; asks = asks }
 
 module _ (form : Form) (old new : Outside) (status : Status) where
-  pub run-ended : (outcome : Outcome) → AnswersFromFiles form old.files new.files outcome → Ends outcome status old.out new.out → IsRun form old new status
+  pub run-ended : (outcome : Outcome) → IsOutcomeByFiles form old.files new.files outcome → Ends outcome status old.out new.out → IsRun form old new status
   run-ended outcome answers (inl written) = writes outcome answers written
   run-ended outcome answers (inr cut) = is_cut outcome answers cut
 
@@ -45,14 +45,14 @@ module _ (form : Form) (old new : Outside) (status : Status) where
   run-finished takes (Err stop.Memory) comes finishes = runs_out takes finishes.0 (before comes finishes.1)
 
 -- a command that stops as a step before it did, whose outcomes answer the form
-pub comes-stopped : (form : Form) (old new : FetchState) (P : Outcome → Type 0) (answer : Result Outcome Stop) (reason : Stop) → answer ≡ Err reason → ((o : Outcome) → P o → AnswersFromFiles form old new o) → IsStop P (AsksForSome (own_files form) old new) reason → ComesTo form old new answer
+pub comes-stopped : (form : Form) (old new : FetchState) (P : Outcome → Type 0) (answer : Result Outcome Stop) (reason : Stop) → answer ≡ Err reason → ((o : Outcome) → P o → IsOutcomeByFiles form old new o) → IsStop P (AsksForSome (own_files form) old new) reason → ComesTo form old new answer
 comes-stopped form old new P answer reason e follows is =
-    subst (ComesTo form old new) (sym e) (stop-weaker P (AnswersFromFiles form old new) (AsksForSome (own_files form) old new) (AsksForSome (own_files form) old new) reason follows (λ out. out) is)
+    subst (ComesTo form old new) (sym e) (stop-weaker P (IsOutcomeByFiles form old new) (AsksForSome (own_files form) old new) (AsksForSome (own_files form) old new) reason follows (λ out. out) is)
 
 -- a command that memory stopped behind all of its files
 pub comes-out_of_memory : (form : Form) (old new : FetchState) (answer : Result Outcome Stop) (reason : Stop) → answer ≡ Err reason → reason ≡ stop.Memory → AsksForSome (own_files form) old new → ComesTo form old new answer
 comes-out_of_memory form old new answer reason e memory out =
-    subst (ComesTo form old new) (sym e) (stop-memory (AnswersFromFiles form old new) (AsksForSome (own_files form) old new) reason memory out)
+    subst (ComesTo form old new) (sym e) (stop-memory (IsOutcomeByFiles form old new) (AsksForSome (own_files form) old new) reason memory out)
 
 pub told-nothing_more : {A : Type 0} (told : Option (List A)) → told ≡ told_with told []
 told-nothing_more None = refl

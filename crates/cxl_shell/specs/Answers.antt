@@ -66,20 +66,20 @@ IsAnswerOfHost form cedt topo image old new outcome =
     IsByHost cedt topo image old new (λ table tree blocks o. AsksFor old new (cedt ∷ topo ∷ image ∷ []) × IsHostAnswer form table tree blocks o) outcome
 
 -- the outcome answers the form by what the files hold
-abbrev pub AnswersFromFiles : Form → FetchState → FetchState → Outcome → Type 0
-AnswersFromFiles (Route file h) old new outcome = IsAnswerOfFile (Route file h) file old new outcome
-AnswersFromFiles (Listing file) old new outcome = IsAnswerOfFile (Listing file) file old new outcome
-AnswersFromFiles (Normal file) old new outcome = IsAnswerOfFile (Normal file) file old new outcome
-AnswersFromFiles (Check cedt topo image) old new outcome = IsAnswerOfHost (Check cedt topo image) cedt topo image old new outcome
-AnswersFromFiles (Plan cedt topo create) old new outcome = IsAnswerOfResetHost (Plan cedt topo create) cedt topo old new outcome
-AnswersFromFiles NoCreate old new outcome = (outcome ≡ misused) × AsksFor old new []
-AnswersFromFiles Help old new outcome = (outcome ≡ helped) × AsksFor old new []
-AnswersFromFiles Version old new outcome = (outcome ≡ version_told) × AsksFor old new []
-AnswersFromFiles Unreadable old new outcome = (outcome ≡ misused) × AsksFor old new []
+abbrev pub IsOutcomeByFiles : Form → FetchState → FetchState → Outcome → Type 0
+IsOutcomeByFiles (Route file h) old new outcome = IsAnswerOfFile (Route file h) file old new outcome
+IsOutcomeByFiles (Listing file) old new outcome = IsAnswerOfFile (Listing file) file old new outcome
+IsOutcomeByFiles (Normal file) old new outcome = IsAnswerOfFile (Normal file) file old new outcome
+IsOutcomeByFiles (Check cedt topo image) old new outcome = IsAnswerOfHost (Check cedt topo image) cedt topo image old new outcome
+IsOutcomeByFiles (Plan cedt topo create) old new outcome = IsAnswerOfResetHost (Plan cedt topo create) cedt topo old new outcome
+IsOutcomeByFiles NoCreate old new outcome = (outcome ≡ misused) × AsksFor old new []
+IsOutcomeByFiles Help old new outcome = (outcome ≡ helped) × AsksFor old new []
+IsOutcomeByFiles Version old new outcome = (outcome ≡ version_told) × AsksFor old new []
+IsOutcomeByFiles Unreadable old new outcome = (outcome ≡ misused) × AsksFor old new []
 
 -- by what the outside holds, of which these forms use the files alone
-abbrev pub Answers : Form → Outside → Outside → Outcome → Type 0
-Answers form old new outcome = AnswersFromFiles form old.files new.files outcome
+abbrev pub IsOutcomeOf : Form → Outside → Outside → Outcome → Type 0
+IsOutcomeOf form old new outcome = IsOutcomeByFiles form old.files new.files outcome
 
 -- ---- commands that stop early
 
@@ -95,5 +95,5 @@ stop_of (Err memory) = stop.Memory
 
 -- a command gives an outcome that answers the form; or memory ran out behind the first of its files
 abbrev pub ComesTo : Form → FetchState → FetchState → Result Outcome Stop → Type 0
-ComesTo form old new (Ok outcome) = AnswersFromFiles form old new outcome
-ComesTo form old new (Err stop) = IsStop (AnswersFromFiles form old new) (AsksForSome (own_files form) old new) stop
+ComesTo form old new (Ok outcome) = IsOutcomeByFiles form old new outcome
+ComesTo form old new (Err stop) = IsStop (IsOutcomeByFiles form old new) (AsksForSome (own_files form) old new) stop

@@ -1,7 +1,7 @@
 -- How a run comes to its end.
 use Rattle.std.specs.Prelude.{◌≡◌, true, []}
 use Rattle.cxl_io.specs.Sink.{Takes}
-use Rattle.cxl_shell.specs.Answers.{Answers}
+use Rattle.cxl_shell.specs.Answers.{IsOutcomeOf}
 use Rattle.cxl_shell.specs.Ends.{IsWritten, IsCutShort, IsBehind}
 use Rattle.cxl_shell.specs.Form.{Form, own_files, takes_memory}
 use Rattle.cxl_shell.specs.Outcome.{Outcome}
@@ -13,13 +13,13 @@ use Rattle.cxl_shell.specs.inputs.File.{AsksForSome}
 -- Memory ran out: before there was an outcome, and nothing is written; or behind whole pieces of an outcome that answers.
 pub data RunsOut (form : Form) (old new : Outside) : Type 0 where
   before : AsksForSome (own_files form) old.files new.files → Takes old.out new.out [] → RunsOut form old new
-  behind : (outcome : Outcome) → Answers form old new outcome → IsBehind outcome old.out new.out → RunsOut form old new
+  behind : (outcome : Outcome) → IsOutcomeOf form old new outcome → IsBehind outcome old.out new.out → RunsOut form old new
 
 -- An outcome that answers the form is written; or the sink failed behind a part of its text; or memory ran out, in a form
 -- that takes any.
 pub data IsRun (form : Form) (old new : Outside) (status : Status) : Type 0 where
-  writes : (outcome : Outcome) → Answers form old new outcome → IsWritten outcome status old.out new.out → IsRun form old new status
-  is_cut : (outcome : Outcome) → Answers form old new outcome → IsCutShort outcome status old.out new.out → IsRun form old new status
+  writes : (outcome : Outcome) → IsOutcomeOf form old new outcome → IsWritten outcome status old.out new.out → IsRun form old new status
+  is_cut : (outcome : Outcome) → IsOutcomeOf form old new outcome → IsCutShort outcome status old.out new.out → IsRun form old new status
   runs_out : takes_memory form ≡ true → status ≡ Memory → RunsOut form old new → IsRun form old new status
 
 -- a fact of each run: its form, what the outside holds before it and after it, and its status

@@ -1,7 +1,7 @@
 ghost use Rattle.std.specs.Prelude.{◌≡◌, ◌≢◌, ℕ, ◌≤◌, ◌⊎◌, false, List};
 ghost use Rattle.cxl_enc.specs.Faults.{Rose};
 ghost use Rattle.cxl_script.specs.declared.command.Create.{Create};
-ghost use Rattle.cxl_shell.specs.Answers.{Answers, IsAnswerBy};
+ghost use Rattle.cxl_shell.specs.Answers.{IsOutcomeOf, IsAnswerBy};
 ghost use Rattle.cxl_shell.specs.Ends.{Ends, Finishes, IsWritten, IsStopped};
 ghost use Rattle.cxl_shell.specs.Form.{Route, Check, Plan, has_many_pieces, takes_memory};
 ghost use Rattle.cxl_shell.specs.Outcome.{Outcome};
@@ -33,7 +33,7 @@ pub fn run_ends()
     // Unless memory ran out, an outcome that answers the form is written, or the sink failed behind a part
     // of its text.
     ensures answer { EachRun (λ form old new status. (status ≡ Status.Memory)
-        ⊎ ((outcome : Outcome) × Answers form old new outcome × Ends outcome status old.out new.out)) }
+        ⊎ ((outcome : Outcome) × IsOutcomeOf form old new outcome × Ends outcome status old.out new.out)) }
     // Where all files of the form are known and have a reading, an outcome by what they are read as is
     // written, unless the run stops before.
     ensures answered { EachRun (λ form old new status. (readings : Readings)
