@@ -37,3 +37,4 @@ pub mod StatedPlaces
 pub mod StatedRegions
 pub mod StatedPlans
 pub mod Prefixes
+pub mod SizeTests

@@ -5,21 +5,15 @@ use Rattle.std.specs.Option.{option_map_or}
 use Rattle.std.specs.List.{list_all, range_with_len}
 use Rattle.cxl_enc.specs.Codes.{is_ways}
 use Rattle.cxl_enc.specs.Caps.{targets_of, is_target_count}
-use Rattle.cxl_enc.specs.Limits.{unit, address_limit}
 use Rattle.cxl_topo.specs.Tree.{is_bridge_at, is_port_at}
 use Rattle.cxl_span.specs.declared.allotting.Span.{Span}
 use Rattle.cxl_span.specs.Allotting.{all_committed, IsLeastSpan}
 use Rattle.cxl_model.specs.declared.request.Request.{Request}
 use Rattle.cxl_model.specs.System.{System, decoders_at, ram_at, pmem_at}
+use Rattle.cxl_legal.specs.Sizes.{IsSizeFor}
 use Rattle.cxl_legal.specs.Used.{request_ways, is_used, count_under, used_ports, count_at_port}
 
 -- ---- size
-
--- some bytes, a multiple of 256 MiB for each way, and no more than 2 ^ 52
-pub record IsSizeFor (size ways : ℕ) : Type 0 where
-  pub some : 0 < size
-  pub even : size % (unit * ways) ≡ 0
-  pub low : size ≤ address_limit
 
 -- the size of a request is one for its ways
 abbrev pub IsSize : Request → Type 0

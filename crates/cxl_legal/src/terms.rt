@@ -4,7 +4,7 @@ ghost use Rattle.std.specs.Prelude.{◌≡◌, true, false, IsTrue, ◌↔◌};
 ghost use Rattle.std.specs.Option.{option_map_or};
 ghost use Rattle.cxl_enc.specs.Codes.{is_ways, code_in_table};
 ghost use Rattle.cxl_regs.specs.Rules.{endpoint_ways_ok};
-ghost use Rattle.cxl_legal.specs.Endpoints.{IsSizeFor};
+ghost use Rattle.cxl_legal.specs.Sizes.{IsSizeFor};
 ghost use Rattle.cxl_legal.specs.Windows.{agrees_on_gran};
 
 use cxl_enc::{ADDRESS_LIMIT, UNIT, code_of};

@@ -6,18 +6,18 @@ use Rattle.std.specs.Result.{is_err}
 use Rattle.std.proofs.lemmas.Bool.{cases_Bool, cases_eq, cond-true, cond-false, and_parts, and_from, eqb-true, eq-eqb, ne_eqb, lt-ltb, ltb-true, le-leb, leb-true, false≢true}
 use Rattle.std.proofs.lemmas.Option.{none-some, same_Some}
 use Rattle.cxl_enc.specs.Codes.{is_ways}
-use Rattle.cxl_enc.specs.Limits.{unit, address_limit}
 use Rattle.cxl_topo.specs.Laws.{AreTreeLaws}
 use Rattle.cxl_window.specs.Fields.{WindowFields}
 use Rattle.cxl_model.specs.System.{System, IsSystem}
 use Rattle.cxl_legal.specs.Firsts.{first_there}
-use Rattle.cxl_legal.specs.Sizes.{is_region_size}
+use Rattle.cxl_legal.specs.Sizes.{is_size_for}
 use Rattle.cxl_legal.specs.Used.{AreEndpoints, HasBytePorts}
 use Rattle.cxl_pick.specs.declared.want.Want.{Want}
 use Rattle.cxl_pick.specs.declared.fault.PickFault.{PickFault}
 use Rattle.cxl_pick.specs.declared.fault.PickFault.TheVariants as faults
 use Rattle.cxl_pick.specs.Picking.{asked, given_in, AreInOrder, IsPicked, IsWantedSize, TellsPickFault}
 use Rattle.cxl_pick.specs.Picked.{in_rising_order, set_or_none, picked}
+use Rattle.cxl_legal.proofs.SizeTests.{size_holds, size_passes}
 use Rattle.cxl_pick.proofs.Lists.{is_in, in_from, in_is}
 use Rattle.cxl_pick.proofs.Givings.{are_in_order}
 use Rattle.cxl_pick.proofs.Parts.{OfWindow, Picked, in_window, named}
@@ -25,20 +25,8 @@ use Rattle.cxl_pick.proofs.Picks.{given_low, window_there}
 
 -- ---- sizes
 
-size_is : (want : Want) → is_region_size want.ways want.size ≡ true → IsWantedSize want
-size_is want is =
-    let parts = and_parts (nat_lt 0 want.size && (want.size % (unit * want.ways) == 0)) (nat_le want.size address_limit) is in
-    let first = and_parts (nat_lt 0 want.size) (want.size % (unit * want.ways) == 0) parts.0 in
-    record { some = ltb-true 0 want.size first.0; even = eqb-true (want.size % (unit * want.ways)) 0 first.1; low = leb-true want.size address_limit parts.1 }
-
-is_size : (want : Want) → IsWantedSize want → is_region_size want.ways want.size ≡ true
-is_size want size =
-    and_from (nat_lt 0 want.size && (want.size % (unit * want.ways) == 0)) (nat_le want.size address_limit)
-    (and_from (nat_lt 0 want.size) (want.size % (unit * want.ways) == 0) (lt-ltb 0 want.size size.some) (eq-eqb (want.size % (unit * want.ways)) 0 size.even))
-    (le-leb want.size address_limit size.low)
-
-no_size : (want : Want) → (IsWantedSize want → ⊥) → is_region_size want.ways want.size ≡ false
-no_size want none = elim (cases_Bool (is_region_size want.ways want.size)) [ inl holds ↦ absurd (none (size_is want holds)) | inr fails ↦ fails ]
+no_size : (want : Want) → (IsWantedSize want → ⊥) → is_size_for want.size want.ways ≡ false
+no_size want none = elim (cases_Bool (is_size_for want.size want.ways)) [ inl holds ↦ absurd (none (size_holds want.size want.ways holds)) | inr fails ↦ fails ]
 
 -- ---- the first that is there
 
@@ -135,13 +123,13 @@ module _ (s : System) (want : Want) where
   of_size = set_or_none s (first_there (map (given_in s want) s.windows))
 
   abbrev of_ways : Result (List ℕ) PickFault
-  of_ways = if not (is_region_size want.ways want.size) then Err faults.Size else of_size
+  of_ways = if not (is_size_for want.size want.ways) then Err faults.Size else of_size
 
   known_ways : is_ways want.ways ≡ true → picked s want ≡ of_ways
   known_ways ways = cond-false (not (is_ways want.ways)) (Err (faults.Ways want.ways)) of_ways (ap not ways)
 
   known_size : is_ways want.ways ≡ true → IsWantedSize want → picked s want ≡ of_size
-  known_size ways size = known_ways ways ∙ cond-false (not (is_region_size want.ways want.size)) (Err faults.Size) of_size (ap not (is_size want size))
+  known_size ways size = known_ways ways ∙ cond-false (not (is_size_for want.size want.ways)) (Err faults.Size) of_size (ap not (size_passes want.size want.ways size))
 
   pub pick_computed : AreTreeLaws s.nodes → IsSystem s → is_ways want.ways ≡ true → IsWantedSize want → (w : WindowFields) (set : List ℕ) → IsPicked s want w set → picked s want ≡ Ok set
   pick_computed laws system ways size w set is =
@@ -153,7 +141,7 @@ module _ (s : System) (want : Want) where
   fault_computed (faults.Ways n) told real =
       cond-true (not (is_ways want.ways)) (Err (faults.Ways want.ways)) of_ways (ap not told.1) ∙ ap (λ (m : ℕ). Err (faults.Ways m)) (sym told.0)
   fault_computed faults.Size told real =
-      known_ways told.0 ∙ cond-true (not (is_region_size want.ways want.size)) (Err faults.Size) of_size (ap not (no_size want told.1))
+      known_ways told.0 ∙ cond-true (not (is_size_for want.size want.ways)) (Err faults.Size) of_size (ap not (no_size want told.1))
   fault_computed faults.NoSet told real = known_size told.0 told.1 ∙ ap (set_or_none s) (none_given (given_in s want) s.windows told.2)
   fault_computed faults.Memory told real = absurd (real refl)
 
@@ -216,14 +204,14 @@ module _ (s : System) (want : Want) (laws : AreTreeLaws s.nodes) (system : IsSys
   answered =
       elim (cases_Bool (is_ways want.ways)) [
         | inr fails ↦ inr (faults.Ways want.ways, (refl, fails), cond-true (not (is_ways want.ways)) (Err (faults.Ways want.ways)) (of_ways s want) (ap not fails))
-        | inl ways ↦ elim (cases_Bool (is_region_size want.ways want.size)) [
+        | inl ways ↦ elim (cases_Bool (is_size_for want.size want.ways)) [
           | inr fails ↦ inr (
             faults.Size,
-            (ways, λ size. false≢true (sym fails ∙ is_size want size)),
-            known_ways s want ways ∙ cond-true (not (is_region_size want.ways want.size)) (Err faults.Size) (of_size s want) (ap not fails),
+            (ways, λ size. false≢true (sym fails ∙ size_passes want.size want.ways size)),
+            known_ways s want ways ∙ cond-true (not (is_size_for want.size want.ways)) (Err faults.Size) (of_size s want) (ap not fails),
           )
           | inl holds ↦
-              let size = size_is want holds in
+              let size = size_holds want.size want.ways holds in
               elim (given_or_none (given_in s want) s.windows) [
                 | inr nothing ↦ inr (faults.NoSet, (ways, size, nothing), known_size s want ways size ∙ ap (set_or_none s) (none_given (given_in s want) s.windows nothing))
                 | inl first ↦

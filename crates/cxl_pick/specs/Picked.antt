@@ -4,7 +4,7 @@ use Rattle.std.specs.List.{list_any, range_with_len}
 use Rattle.cxl_enc.specs.Codes.{is_ways}
 use Rattle.cxl_model.specs.System.{System}
 use Rattle.cxl_legal.specs.Firsts.{first_there}
-use Rattle.cxl_legal.specs.Sizes.{is_region_size}
+use Rattle.cxl_legal.specs.Sizes.{is_size_for}
 use Rattle.cxl_pick.specs.declared.want.Want.{Want}
 use Rattle.cxl_pick.specs.declared.fault.PickFault.{PickFault}
 use Rattle.cxl_pick.specs.declared.fault.PickFault.TheVariants as faults
@@ -22,5 +22,5 @@ set_or_none s (Some given) = Ok (in_rising_order s given)
 abbrev pub picked : System → Want → Result (List ℕ) PickFault
 picked s want =
     if not (is_ways want.ways) then Err (faults.Ways want.ways)
-    else (if not (is_region_size want.ways want.size) then Err faults.Size
+    else (if not (is_size_for want.size want.ways) then Err faults.Size
     else set_or_none s (first_there (map (given_in s want) s.windows)))

@@ -17,7 +17,8 @@ use Rattle.cxl_model.specs.Rules.{permits}
 use Rattle.cxl_model.specs.declared.plan.Plan.{Plan}
 use Rattle.cxl_model.specs.Plans.{plan_code, IsLegalPlanIn}
 use Rattle.cxl_legal.specs.Used.{AreEndpoints}
-use Rattle.cxl_legal.specs.Endpoints.{IsSizeFor, cap_at}
+use Rattle.cxl_legal.specs.Endpoints.{cap_at}
+use Rattle.cxl_legal.specs.Sizes.{IsSizeFor}
 use Rattle.cxl_legal.specs.Windows.{agrees_on_gran}
 use Rattle.cxl_legal.specs.Bases.{last_end, base_step}
 use Rattle.cxl_legal.specs.Stated.{Fits}

@@ -7,7 +7,6 @@ use Rattle.std.proofs.lemmas.Bool.{cases_Bool, and_parts, and_from, eqb-true, eq
 use Rattle.std.proofs.lemmas.List.Folds.{list_any_at, Any-from_list_any}
 use Rattle.std.proofs.lemmas.Option.{none-some}
 use Rattle.cxl_enc.specs.Codes.{is_ways}
-use Rattle.cxl_enc.specs.Limits.{unit, address_limit}
 use Rattle.cxl_topo.specs.Tree.{is_endpoint_at}
 use Rattle.cxl_span.specs.declared.allotting.SpanFault.{SpanFault}
 use Rattle.cxl_span.specs.Allotting.{all_committed}
@@ -18,31 +17,18 @@ use Rattle.cxl_model.specs.declared.plan.PlanFault.TheVariants as faults
 use Rattle.cxl_model.specs.Counts.{is_under}
 use Rattle.cxl_model.specs.System.{System, decoders_at, ram_at, pmem_at}
 use Rattle.cxl_legal.specs.Firsts.{first_there}
-use Rattle.cxl_legal.specs.Sizes.{is_region_size}
+use Rattle.cxl_legal.specs.Sizes.{is_size_for}
 use Rattle.cxl_legal.specs.Used.{request_ways, is_used}
 use Rattle.cxl_legal.specs.Endpoints.{IsSize, share_of, is_uneven, lacks_decoder, HasRoom}
 use Rattle.cxl_plan.specs.Faults.{SaysOfRequest, turn_of_fault, IsRefusedSpan, least}
 use Rattle.cxl_plan.specs.Planned.{fault_before_windows, span_fault, refused_span}
+use Rattle.cxl_legal.proofs.SizeTests.{size_holds, size_passes}
 use Rattle.cxl_plan.proofs.Finding.{none_found}
 use Rattle.cxl_plan.proofs.Trees.{KnownTree, under_itself}
 use Rattle.cxl_plan.proofs.Tables.{endpoint_inside}
 use Rattle.cxl_plan.proofs.FaultOrder.{not_refused}
 use Rattle.cxl_plan.proofs.FirstThere.{cases_there, past_none, at_some, all_none, first_of_nodes, first_or_none, none_where, some_then, none_then}
 use Rattle.cxl_plan.proofs.ComputedSpans.{room_where, told_refusal, refusal_told}
-
--- ---- sizes
-
-pub size_is : (request : Request) → is_region_size (request_ways request) request.size ≡ true → IsSize request
-size_is request is =
-    let parts = and_parts (nat_lt 0 request.size && (request.size % (unit * request_ways request) == 0)) (nat_le request.size address_limit) is in
-    let first = and_parts (nat_lt 0 request.size) (request.size % (unit * request_ways request) == 0) parts.0 in
-    record { some = ltb-true 0 request.size first.0; even = eqb-true (request.size % (unit * request_ways request)) 0 first.1; low = leb-true request.size address_limit parts.1 }
-
-pub is_size : (request : Request) → IsSize request → is_region_size (request_ways request) request.size ≡ true
-is_size request size =
-    and_from (nat_lt 0 request.size && (request.size % (unit * request_ways request) == 0)) (nat_le request.size address_limit)
-    (and_from (nat_lt 0 request.size) (request.size % (unit * request_ways request) == 0) (lt-ltb 0 request.size size.some) (eq-eqb (request.size % (unit * request_ways request)) 0 size.even))
-    (le-leb request.size address_limit size.low)
 
 -- ---- requested endpoints
 
@@ -74,7 +60,7 @@ module _ (s : System) (known : KnownTree s.nodes) (request : Request) (named : A
   part_1 = then_some (not (is_ways (request_ways request))) (faults.Ways (request_ways request))
 
   abbrev part_2 : Option PlanFault
-  part_2 = then_some (not (is_region_size (request_ways request) request.size)) faults.Size
+  part_2 = then_some (not (is_size_for request.size (request_ways request))) faults.Size
 
   abbrev part_3 : Option PlanFault
   part_3 = option_map faults.Uneven (least s (is_uneven s request))
@@ -184,10 +170,10 @@ module _ (s : System) (known : KnownTree s.nodes) (request : Request) (named : A
 
     has_size : 3 ≤ k → part_2 ≡ None
     has_size low =
-        elim (cases_Bool (is_region_size (request_ways request) request.size)) [
-          | inl is ↦ none_then (not (is_region_size (request_ways request) request.size)) faults.Size (ap not is)
+        elim (cases_Bool (is_size_for request.size (request_ways request))) [
+          | inl is ↦ none_then (not (is_size_for request.size (request_ways request))) faults.Size (ap not is)
           | inr fails ↦
-              let early = from faults.Size (λ size. false≢true (sym fails ∙ is_size request size)) in
+              let early = from faults.Size (λ size. false≢true (sym fails ∙ size_passes request.size (request_ways request) size)) in
               absurd (omega arith)
         ]
 
@@ -236,10 +222,10 @@ module _ (s : System) (known : KnownTree s.nodes) (request : Request) (named : A
       (some_then (not (is_ways (request_ways request))) (faults.Ways (request_ways request)) (ap not is.0) ∙ ap (λ (m : ℕ). Some (faults.Ways m)) (sym is.1))
   fault_told faults.Size is from low =
       after_2 2 from (omega arith)
-      ∙ at_some part_2 parts_3 faults.Size (some_then (not (is_region_size (request_ways request) request.size)) faults.Size (ap not fails))
+      ∙ at_some part_2 parts_3 faults.Size (some_then (not (is_size_for request.size (request_ways request))) faults.Size (ap not fails))
     where
-      fails : is_region_size (request_ways request) request.size ≡ false
-      fails = elim (cases_Bool (is_region_size (request_ways request) request.size)) [ inr not_size ↦ not_size | inl holds ↦ absurd (is (size_is request holds)) ]
+      fails : is_size_for request.size (request_ways request) ≡ false
+      fails = elim (cases_Bool (is_size_for request.size (request_ways request))) [ inr not_size ↦ not_size | inl holds ↦ absurd (is (size_holds request.size (request_ways request) holds)) ]
   fault_told (faults.Uneven n) is from low = after_3 3 from (omega arith) ∙ at_some part_3 parts_4 (faults.Uneven n) (ap (option_map faults.Uneven) is)
   fault_told (faults.NoDecoder n) is from low = after_4 4 from (omega arith) ∙ at_some part_4 parts_5 (faults.NoDecoder n) (ap (option_map faults.NoDecoder) is)
   fault_told (faults.Span m fault) is from low =

@@ -19,7 +19,7 @@ use Rattle.cxl_model.specs.declared.plan.Reason.TheVariants as reasons
 use Rattle.cxl_model.specs.Rules.{permits}
 use Rattle.cxl_model.specs.System.{System, IsSystem}
 use Rattle.cxl_model.specs.Accepted.{IsAccepted}
-use Rattle.cxl_legal.specs.Sizes.{is_region_size}
+use Rattle.cxl_legal.specs.Sizes.{is_size_for}
 use Rattle.cxl_legal.specs.Used.{AreEndpoints, HasBytePorts, request_ways}
 use Rattle.cxl_legal.specs.Endpoints.{FitsEndpoints, is_uneven, lacks_decoder}
 use Rattle.cxl_legal.specs.Windows.{has_used_bridges, agrees_on_gran, can_select, can_have_ways}
@@ -32,7 +32,8 @@ use Rattle.cxl_plan.proofs.FaultOrder.{faults_1, faults_2, faults_3, faults_4, f
 use Rattle.cxl_plan.proofs.Reasons.{AllFrom, onward, none_0, none_1, none_2, none_3, from_5, from_6, from_7, fits_window}
 use Rattle.cxl_plan.proofs.FirstThere.{cases_there, first_or_none}
 use Rattle.cxl_plan.proofs.ComputedBases.{least_base_known}
-use Rattle.cxl_plan.proofs.ComputedFaults.{size_is, is_size, asked_inside, refused_first, no_fault_room}
+use Rattle.cxl_legal.proofs.SizeTests.{size_holds, size_passes}
+use Rattle.cxl_plan.proofs.ComputedFaults.{asked_inside, refused_first, no_fault_room}
 use Rattle.cxl_plan.proofs.ComputedWindows.{reason_told}
 
 -- ---- lists of answers
@@ -260,10 +261,10 @@ module _ (s : System) (request : Request) (system : IsSystem s) (laws : AreTreeL
         | inr some ↦ inr (faults.Repeat some.0, record { holds = some.1; first = λ other says. omega arith })
         | inl distinct ↦ elim (cases_Bool (is_ways (request_ways request))) [
           | inr fails ↦ inr (faults.Ways (request_ways request), record { holds = (fails, refl); first = faults_1 s request distinct })
-          | inl ways ↦ elim (cases_Bool (is_region_size (request_ways request) request.size)) [
+          | inl ways ↦ elim (cases_Bool (is_size_for request.size (request_ways request))) [
             | inr fails ↦
-                inr (faults.Size, record { holds = λ size. false≢true (sym fails ∙ is_size request size); first = faults_2 s request distinct ways })
-            | inl size ↦ over_nodes record { distinct = distinct; ways = ways; size = size_is request size }
+                inr (faults.Size, record { holds = λ size. false≢true (sym fails ∙ size_passes request.size (request_ways request) size); first = faults_2 s request distinct ways })
+            | inl size ↦ over_nodes record { distinct = distinct; ways = ways; size = size_holds request.size (request_ways request) size }
           ]
         ]
       ]

@@ -28,7 +28,7 @@ use Rattle.cxl_model.specs.Regions.{target_position}
 use Rattle.cxl_model.specs.Rules.{permits}
 use Rattle.cxl_model.specs.System.{System, decoders_at, ram_at, pmem_at}
 use Rattle.cxl_legal.specs.Firsts.{first_there}
-use Rattle.cxl_legal.specs.Sizes.{is_region_size}
+use Rattle.cxl_legal.specs.Sizes.{is_size_for}
 use Rattle.cxl_legal.specs.Used.{request_ways, is_used}
 use Rattle.cxl_legal.specs.Endpoints.{share_of, is_uneven, lacks_decoder}
 use Rattle.cxl_legal.specs.Windows.{has_used_bridges, agrees_on_gran, can_select, can_have_ways}
@@ -60,7 +60,7 @@ abbrev pub fault_before_windows : System → Request → Option PlanFault
 fault_before_windows s request = first_there (
     option_map faults.Repeat (first_repeat [] request.endpoints)
     ∷ then_some (not (is_ways (request_ways request))) (faults.Ways (request_ways request))
-    ∷ then_some (not (is_region_size (request_ways request) request.size)) faults.Size
+    ∷ then_some (not (is_size_for request.size (request_ways request))) faults.Size
     ∷ option_map faults.Uneven (least s (is_uneven s request))
     ∷ option_map faults.NoDecoder (least s (lacks_decoder s request))
     ∷ first_there (map (span_fault s request) (range_with_len 0 (length s.nodes)))
