@@ -170,7 +170,7 @@ fn sources(rt: HostRuntime) -> Result<(), Fail> {
 }
 
 #[test]
-fn flags(rt: HostRuntime) -> Result<(), Fail> {
+fn flags_of_lists(rt: HostRuntime) -> Result<(), Fail> {
     let rows = [
         (true, None, false, " more"),
         (false, Some(0), false, " overflow 0"),

@@ -97,33 +97,31 @@ fn place(endpoint: u32, start: u64) -> Place {
     Place { endpoint, start }
 }
 
-/// A region shown by its rows and spans has this text.
+/// A region of window 0 by 256 bytes, shown by its rows and spans, has this text.
 fn shows(
     rt: &(impl Abort + AllocGlobal),
-    text: &str,
-    layout: Found,
+    named: (&str, MemKind),
+    range: (u64, u64, u8),
     rows: &[ShownRow],
     spans: &[Place],
     want: &str,
-) -> Result<(), Fail>
-    requires { layout.now.gran ≤ 6 }
-{
+) -> Result<(), Fail> {
     let alloc = rt.alloc();
     let topo = topology(alloc)?;
     let found = Found {
+        base: range.0,
+        size: range.1,
+        window: 0,
+        gran: 0,
+        ways: range.2,
+        kind: named.1,
         spans: FixedList::new(spans.to_vec(alloc)?),
-        ..layout
     };
     let rows = FixedList::new(rows.to_vec(alloc)?);
     assert!(rt; are_rows(rows.items(), &topo) && are_places(found.spans.items(), &topo));
-    let name = name(text)?;
-    prints(
-        alloc,
-        rt,
-        &topo,
-        &Reply::Shown(Shown { name, found, rows }),
-        want,
-    );
+    let name = name(named.0)?;
+    let shown = Reply::Shown(Shown { name, found, rows });
+    prints(alloc, rt, &topo, &shown, want);
     Ok(())
 }
 
@@ -140,21 +138,14 @@ fn shown_region(rt: HostRuntime) -> Result<(), Fail> {
     let port = [0x1000_0000, 1, 0x1000_0000, 0, 0x1600, 0, 0];
     let endpoint = [0x1000_0000, 1, 0x1000_0000, 0, 0x1600, 0x3000_0000, 0];
     let rows = [shown_row(0, 1, port), shown_row(6, 1, endpoint)];
-    let layout = Found {
-        base: 0x1_1000_0000,
-        size: 0x1000_0000,
-        window: 0,
-        gran: 0,
-        ways: 1,
-        kind: MemKind::Pmem,
-        spans: FixedList::new(Vec::new(rt.alloc())),
-    };
+    let range = (0x1_1000_0000, 0x1000_0000, 1);
     let want = "region b pmem window 0 base 0x110000000 size 0x10000000 gran 256 ways 1
 node hb0 1 10000000 00000001 10000000 00000000 00001600 00000000 00000000
 node e0 1 10000000 00000001 10000000 00000000 00001600 30000000 00000000
 slot 0 e0 0x40000000
 ";
-    shows(&rt, "b", layout, &rows, &[place(6, 0x4000_0000)], want)
+    let spans = [place(6, 0x4000_0000)];
+    shows(&rt, ("b", MemKind::Pmem), range, &rows, &spans, want)
 }
 
 /// Four ways over two bridges.
@@ -170,15 +161,7 @@ fn shown_ways(rt: HostRuntime) -> Result<(), Fail> {
         shown_row(8, 0, endpoint),
         shown_row(9, 0, endpoint),
     ];
-    let layout = Found {
-        base: 0x10_0000_0000,
-        size: 0x100_0000_0000,
-        window: 0,
-        gran: 0,
-        ways: 4,
-        kind: MemKind::Ram,
-        spans: FixedList::new(Vec::new(rt.alloc())),
-    };
+    let range = (0x10_0000_0000, 0x100_0000_0000, 4);
     let spans = [place(6, 0), place(8, 0), place(7, 0), place(9, 0)];
     let want = "region r0 ram window 0 base 0x1000000000 size 0x10000000000 gran 256 ways 4
 node hb0 0 00000000 00000010 00000000 00000100 00001611 00000100 00000000
@@ -192,7 +175,7 @@ slot 1 e2 0x0
 slot 2 e1 0x0
 slot 3 e3 0x0
 ";
-    shows(&rt, "r0", layout, &rows, &spans, want)
+    shows(&rt, ("r0", MemKind::Ram), range, &rows, &spans, want)
 }
 
 fn are_slots(extents: &[Extent], slots: usize) -> bool
