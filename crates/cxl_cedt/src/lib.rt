@@ -27,6 +27,3 @@ pub use fault::CedtFault;
 pub use other::Other;
 pub use reading::{one_reading, read};
 pub use writing::write;
-
-#[cfg(test)]
-mod tests;

@@ -20,6 +20,3 @@ pub use node::{Capacity, Node, NodeKind, Parent};
 pub use path::Path;
 pub use tables::NameKey;
 pub use topo::Topo;
-
-#[cfg(test)]
-mod tests;

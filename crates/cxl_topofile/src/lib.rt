@@ -16,6 +16,3 @@ pub use fault::{Place, Section, TopoFault};
 pub use key::Key;
 pub use laws::one_topology_reading;
 pub use read::read_topo;
-
-#[cfg(test)]
-mod tests;

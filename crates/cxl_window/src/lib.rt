@@ -12,6 +12,3 @@ pub use cxl_enc::{FixedList, Memory};
 pub use position::{positions, slot_of, unxor};
 pub use verdicts::windows;
 pub use window::{Verdict, Window};
-
-#[cfg(test)]
-mod tests;

@@ -1,7 +1,7 @@
-use super::*;
 use cxl_topo::{Name, Topo};
+use cxl_topofile::read_topo;
 use std::alloc::Global;
-use std::test::Fail;
+use std::process::Abort;
 
 /// Two bridges with an endpoint each.
 const PLAIN: &str = "[[bridge]]
@@ -30,44 +30,52 @@ bridge = [{ name = \"hb0\", uid = 4294967295, passthrough = true }]
 endpoint = [{ name = \"e0\", parent = \"s1\", port = 0, ways3 = false, ways16 = false, pmem = 0x10000000 }]
 ";
 
-fn topo_of(alloc: Global, text: &str) -> Result<Topo, Fail> {
-    Ok(read_topo(alloc, text.as_bytes()).ok().ok_or("a topology")?)
+fn topo_of(rt: &impl Abort, alloc: Global, text: &str) -> Topo {
+    read_topo(alloc, text.as_bytes())
+        .ok()
+        .expect(rt, "a topology")
 }
 
-fn caps(alloc: Global, topo: &Topo) -> Result<Vec<u32>, Fail> {
-    let mut caps = Vec::new(alloc);
-    for i in 0..topo.count() {
-        caps.push(topo.node(i).cap)?;
+/// A tree of four nodes has these capability words.
+fn are_caps(rt: &impl Abort, topo: &Topo, caps: [u32; 4]) {
+    assert!(rt; topo.count() == 4);
+    for i in 0..4 {
+        assert!(rt; topo.node(i).cap == caps[i as usize], "node {i}");
     }
-    Ok(caps)
+}
+
+/// A node's path has so many nodes, which are these.
+fn is_path(rt: &impl Abort, topo: &Topo, node: u32, nodes: [u32; 6], len: u8) {
+    assert!(rt; node < topo.count());
+    let path = topo.path(node);
+    assert!(rt; path.nodes == nodes);
+    assert!(rt; path.len == len);
 }
 
 #[test]
-fn plain(rt: HostRuntime) -> Result<(), Fail> {
-    let topo = topo_of(rt.alloc(), PLAIN)?;
-    let caps = caps(rt.alloc(), &topo)?;
-    assert_eq!(rt; caps.as_slice(), [0x382, 0x382, 0x1b02, 0x1b02].as_slice());
-    assert_eq!(rt; topo.frames(), 65_536);
-    assert_eq!(rt; topo.count(), 4);
-    assert_eq!(rt; topo.path(2).nodes, [0, 2, 0, 0, 0, 0]);
-    assert_eq!(rt; topo.path(2).len, 2);
-    assert_eq!(rt; topo.child(0, 1), None);
-    assert_eq!(rt; topo.bridge(1), Some(1));
-    assert_eq!(rt; topo.find(&Name::read(b"e1").ok_or("a name")?), Some(3));
-    Ok(())
+fn plain(rt: HostRuntime) {
+    let topo = topo_of(&rt, rt.alloc(), PLAIN);
+    are_caps(&rt, &topo, [0x382, 0x382, 0x1b02, 0x1b02]);
+    is_path(&rt, &topo, 2, [0, 2, 0, 0, 0, 0], 2);
+    assert!(rt; topo.frames() == 65_536);
+    assert!(rt; topo.count() == 4 && topo.child(0, 1).is_none());
+    assert!(rt; topo.bridge(1) == Some(1));
+    let name = Name::read(b"e1").expect(&rt, "a name");
+    assert!(rt; topo.find(&name) == Some(3));
 }
 
 #[test]
-fn other_spelling(rt: HostRuntime) -> Result<(), Fail> {
-    let topo = topo_of(rt.alloc(), INLINE)?;
-    let caps = caps(rt.alloc(), &topo)?;
-    assert_eq!(rt; caps.as_slice(), [0x10, 0x220, 0x185, 0x302].as_slice());
-    assert_eq!(rt; topo.frames(), 2);
-    assert_eq!(rt; topo.count(), 4);
-    assert_eq!(rt; topo.path(3).nodes, [0, 1, 2, 3, 0, 0]);
-    assert_eq!(rt; topo.bridge(4_294_967_295), Some(0));
-    assert_eq!(rt; topo_of(rt.alloc(), "bridge = []\n")?.count(), 0);
-    Ok(())
+fn other_spelling(rt: HostRuntime) {
+    let topo = topo_of(&rt, rt.alloc(), INLINE);
+    are_caps(&rt, &topo, [0x10, 0x220, 0x185, 0x302]);
+    is_path(&rt, &topo, 3, [0, 1, 2, 3, 0, 0], 4);
+    assert!(rt; topo.frames() == 2);
+    assert!(rt; topo.bridge(4_294_967_295) == Some(0));
+}
+
+#[test]
+fn no_nodes(rt: HostRuntime) {
+    assert!(rt; topo_of(&rt, rt.alloc(), "bridge = []\n").count() == 0);
 }
 
 /// Texts and what is wrong with each.
@@ -136,14 +144,18 @@ const FAULTS: [(&str, &str); 17] = [
     ),
 ];
 
+/// A text has the fault that is said so.
+fn is_refused(rt: &impl Abort, alloc: Global, text: &str, want: &str) {
+    let fault = read_topo(alloc, text.as_bytes())
+        .err()
+        .expect(rt, "a fault");
+    let said = format!(in alloc; "{fault}").expect(rt, "memory");
+    assert!(rt; said.as_str() == want, "{text}");
+}
+
 #[test]
-fn first_faults(rt: HostRuntime) -> Result<(), Fail> {
+fn first_faults(rt: HostRuntime) {
     for (text, want) in FAULTS {
-        let fault = read_topo(rt.alloc(), text.as_bytes())
-            .err()
-            .ok_or("a fault")?;
-        let said = format!(in rt.alloc(); "{fault}")?;
-        assert_eq!(rt; said.as_str(), want);
+        is_refused(&rt, rt.alloc(), text, want);
     }
-    Ok(())
 }
