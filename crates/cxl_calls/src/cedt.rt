@@ -59,94 +59,104 @@ fn fault_of(rt: &impl Abort, alloc: Global, bytes: &[u8]) -> Option<CedtFault> {
 /// A table is written as these bytes.
 fn is_written(rt: &impl Abort, alloc: Global, cedt: &Cedt, want: &[u8]) {
     let bytes = write(alloc, cedt).ok().expect(rt, "memory");
-    assert!(rt; bytes.as_slice() == want, "the bytes that are written");
+    assert!(rt; bytes.as_slice() == want);
 }
 
 /// A record is the bridge of this UID and base, with version 1 and 64 KiB of registers.
-fn is_bridge(rt: &impl Abort, item: &Record, uid: u32, base: u64) {
-    let Record::Chbs(found) = item else {
-        panic!(rt; "a bridge");
-    };
+fn is_bridge(item: &Record, uid: u32, base: u64) -> bool {
     let want = Chbs {
         uid,
         version: 1,
         base,
         length: 0x1_0000,
     };
-    assert!(rt; *found == want, "bridge {uid}");
+    match item {
+        Record::Chbs(found) => *found == want,
+        _ => false,
+    }
 }
 
 /// A record is the window of 4 GiB over both bridges.
-fn is_window(rt: &impl Abort, item: &Record, xor: bool) {
+fn is_window(item: &Record, xor: bool) -> bool {
     let Record::Cfmws(window) = item else {
-        panic!(rt; "a window");
+        return false;
     };
-    assert!(rt; window.base() == 0x1_0000_0000);
-    assert!(rt; window.size() == 0x1_0000_0000);
-    assert!(rt; window.ways() == 1);
-    assert!(rt; window.xor() == xor);
-    assert!(rt; window.gran() == 0);
-    assert!(rt; window.restrict() == 0x000e);
-    assert!(rt; window.qtg() == 0);
-    assert!(rt; window.targets() == [0, 1].as_slice());
+    window.base() == 0x1_0000_0000
+        && window.size() == 0x1_0000_0000
+        && window.ways() == 1
+        && window.xor() == xor
+        && window.gran() == 0
+        && window.restrict() == 0x000e
+        && window.qtg() == 0
+        && window.targets() == [0, 1].as_slice()
 }
 
 /// A record is the table of the one map.
-fn is_one_map(rt: &impl Abort, item: &Record) {
-    let Record::Cxims(maps) = item else {
-        panic!(rt; "a table of maps");
-    };
-    assert!(rt; maps.gran() == 0);
-    assert!(rt; maps.maps() == [0x40_4100].as_slice());
+fn is_one_map(item: &Record) -> bool {
+    match item {
+        Record::Cxims(maps) => maps.gran() == 0 && maps.maps() == [0x40_4100].as_slice(),
+        _ => false,
+    }
 }
 
 /// A record is the one of another type.
-fn is_other(rt: &impl Abort, item: &Record) {
-    let Record::Other(other) = item else {
-        panic!(rt; "another record");
-    };
-    assert!(rt; other.kind() == 4);
-    assert!(rt; other.reserved() == 0);
-    assert!(rt; other.body() == [0xaa, 0xbb, 0xcc, 0xdd].as_slice());
+fn is_other(item: &Record) -> bool {
+    match item {
+        Record::Other(other) => {
+            other.kind() == 4 && other.reserved() == 0 && other.body() == &OTHER[4..]
+        }
+        _ => false,
+    }
 }
+
+/// The head of all tables here.
+const HEAD: Head = Head {
+    revision: 1,
+    oem_id: [0; 6],
+    oem_table: [0; 8],
+    oem_revision: 0,
+    creator: [0; 4],
+    creator_revision: 0,
+};
 
 #[test]
 fn two_bridges(rt: HostRuntime) {
     let cedt = table_of(&rt, rt.alloc(), &TWO_BRIDGES);
-    assert!(rt; cedt.head().revision == 1);
-    assert!(rt; cedt.head().oem_id == [0; 6]);
+    assert!(rt; *cedt.head() == HEAD);
     let [first, second, window] = cedt.records() else {
         panic!(rt; "two bridges and a window");
     };
-    is_bridge(&rt, first, 0, 0x8000_0000);
-    is_bridge(&rt, second, 1, 0x8001_0000);
-    is_window(&rt, window, false);
+    assert!(rt; is_bridge(first, 0, 0x8000_0000) && is_bridge(second, 1, 0x8001_0000));
+    assert!(rt; is_window(window, false));
 }
 
-/// One changed table for each fault, by places and bytes of the two bridges' table.
+/// The two bridges' table with some bytes changed has this fault.
+fn is_refused(rt: &impl Abort, alloc: Global, changes: &[(usize, u8)], fault: CedtFault) {
+    let bytes = changed(rt, alloc, changes, &[]);
+    assert!(rt; fault_of(rt, alloc, &bytes) == Some(fault));
+}
+
+/// Changes of the two bridges' table, by places and bytes, each with its fault.
+const FAULTS: [(&[(usize, u8)], CedtFault); 10] = [
+    (&[(0, 0x44)], CedtFault::Signature),
+    (&[(4, 0x91)], CedtFault::Length),
+    (&[(9, 0xcb)], CedtFault::Checksum),
+    (&[(102, 0x2d), (9, 0xc9)], CedtFault::RecordCut(100)),
+    (&[(38, 0x21), (9, 0xc9)], CedtFault::RecordLength(36)),
+    (&[(102, 0x28), (9, 0xce)], CedtFault::RecordLength(100)),
+    (&[(124, 0x05), (9, 0xc6)], CedtFault::WaysCode(100)),
+    (&[(128, 0x07), (9, 0xc3)], CedtFault::GranCode(100)),
+    (&[(125, 0x02), (9, 0xc8)], CedtFault::Arithmetic(100)),
+    (
+        &[(128, 0x07), (125, 0x02), (124, 0x05), (9, 0xbd)],
+        CedtFault::WaysCode(100),
+    ),
+];
+
 #[test]
 fn faults(rt: HostRuntime) {
-    let cases: [(&[(usize, u8)], CedtFault); 10] = [
-        (&[(0, 0x44)], CedtFault::Signature),
-        (&[(4, 0x91)], CedtFault::Length),
-        (&[(9, 0xcb)], CedtFault::Checksum),
-        (&[(102, 0x2d), (9, 0xc9)], CedtFault::RecordCut(100)),
-        (&[(38, 0x21), (9, 0xc9)], CedtFault::RecordLength(36)),
-        (&[(102, 0x28), (9, 0xce)], CedtFault::RecordLength(100)),
-        (&[(124, 0x05), (9, 0xc6)], CedtFault::WaysCode(100)),
-        (&[(128, 0x07), (9, 0xc3)], CedtFault::GranCode(100)),
-        (&[(125, 0x02), (9, 0xc8)], CedtFault::Arithmetic(100)),
-        (
-            &[(128, 0x07), (125, 0x02), (124, 0x05), (9, 0xbd)],
-            CedtFault::WaysCode(100),
-        ),
-    ];
-    for (changes, fault) in cases {
-        let bytes = changed(&rt, rt.alloc(), changes, &[]);
-        assert!(rt;
-            fault_of(&rt, rt.alloc(), &bytes) == Some(fault),
-            "{fault:?}"
-        );
+    for (changes, fault) in &FAULTS {
+        is_refused(&rt, rt.alloc(), changes, *fault);
     }
 }
 
@@ -159,10 +169,7 @@ fn prefixes(rt: HostRuntime) {
         } else {
             CedtFault::Length
         };
-        assert!(rt;
-            fault_of(&rt, rt.alloc(), &TWO_BRIDGES[..n]) == Some(fault),
-            "{n} bytes"
-        );
+        assert!(rt; fault_of(&rt, rt.alloc(), &TWO_BRIDGES[..n]) == Some(fault));
     }
 }
 
@@ -173,8 +180,7 @@ fn xor_maps(rt: HostRuntime) {
     let [_, _, window, maps] = cedt.records() else {
         panic!(rt; "a window and its maps");
     };
-    is_window(&rt, window, true);
-    is_one_map(&rt, maps);
+    assert!(rt; is_window(window, true) && is_one_map(maps));
 }
 
 /// A record of another type is kept, and written as it was.
@@ -185,7 +191,7 @@ fn other_records(rt: HostRuntime) {
     let [_, _, _, other] = cedt.records() else {
         panic!(rt; "another record");
     };
-    is_other(&rt, other);
+    assert!(rt; is_other(other));
     is_written(&rt, rt.alloc(), &cedt, &bytes);
 }
 
@@ -254,27 +260,25 @@ fn one_map(rt: &impl Abort, alloc: Global) -> Record {
     Record::Cxims(Cxims::new(0, vec![in alloc; 0x40_4100].expect(rt, "memory")))
 }
 
-const HEAD: Head = Head {
-    revision: 1,
-    oem_id: [0; 6],
-    oem_table: [0; 8],
-    oem_revision: 0,
-    creator: [0; 4],
-    creator_revision: 0,
-};
+fn add(rt: &impl Abort, records: &mut Vec<Record>, item: Record) {
+    records.push(item).ok().expect(rt, "memory");
+}
 
-/// A table made of its parts is written as its bytes.
+/// A table made of its parts.
+fn table_made(rt: &impl Abort, alloc: Global) -> Cedt {
+    let mut records = Vec::new(alloc);
+    add(rt, &mut records, bridge(0, 0x8000_0000));
+    add(rt, &mut records, bridge(1, 0x8001_0000));
+    add(rt, &mut records, window(rt, alloc));
+    add(rt, &mut records, one_map(rt, alloc));
+    assert!(rt; Cedt::can_hold(&records));
+    Cedt::new(HEAD, records)
+}
+
+/// It is written as its bytes.
 #[test]
 fn made(rt: HostRuntime) {
-    let records = vec![in rt.alloc();
-        bridge(0, 0x8000_0000),
-        bridge(1, 0x8001_0000),
-        window(&rt, rt.alloc()),
-        one_map(&rt, rt.alloc()),
-    ]
-    .expect(&rt, "memory");
-    assert!(rt; Cedt::can_hold(&records));
-    let cedt = Cedt::new(HEAD, records);
+    let cedt = table_made(&rt, rt.alloc());
     let bytes = changed(&rt, rt.alloc(), &FOR_XOR, &ONE_MAP);
     is_written(&rt, rt.alloc(), &cedt, &bytes);
 }

@@ -114,47 +114,47 @@ fn fault_of(rt: &impl Abort, alloc: Global, rows: &[Row]) -> Option<TreeFault> {
 #[test]
 fn finds_nodes(rt: HostRuntime) {
     let topo = topo_of(&rt, rt.alloc(), &PLAIN);
-    assert!(rt; topo.frames() == 65_536);
-    assert!(rt; topo.node(3).cap == 0x1b02);
-    assert!(rt; topo.child(1, 0) == Some(3));
-    assert!(rt; topo.child(0, 1) == None);
-    assert!(rt; topo.least_child(0) == Some(2));
+    assert!(rt; topo.frames() == 65_536 && topo.node(3).cap == 0x1b02);
     assert!(rt; topo.find(&name(&rt, "e0")) == Some(3));
-    assert!(rt; topo.bridge(7) == Some(1));
-    assert!(rt; topo.uids() == [0, 7].as_slice());
+    assert!(rt; topo.bridge(7) == Some(1) && topo.uids() == [0, 7].as_slice());
+}
+
+#[test]
+fn finds_children(rt: HostRuntime) {
+    let topo = topo_of(&rt, rt.alloc(), &PLAIN);
+    assert!(rt; topo.child(1, 0) == Some(3) && topo.child(0, 1).is_none());
+    assert!(rt; topo.least_child(0) == Some(2));
 }
 
 #[test]
 fn says_what_nodes_are(rt: HostRuntime) {
     let topo = topo_of(&rt, rt.alloc(), &PLAIN);
-    assert!(rt; topo.is_endpoint(3));
-    assert!(rt; topo.is_port(2));
-    assert!(rt; !topo.forwards(0));
+    assert!(rt; topo.is_endpoint(3) && topo.is_port(2) && !topo.forwards(0));
+    assert!(rt; topo.under(1, 3) && !topo.under(0, 3));
     let path = topo.path(3);
-    assert!(rt; path.len == 2);
-    assert!(rt; path.nodes == [1, 3, 0, 0, 0, 0]);
-    assert!(rt; topo.under(1, 3));
-    assert!(rt; !topo.under(0, 3));
+    assert!(rt; path.len == 2 && path.nodes.as_slice() == [1, 3, 0, 0, 0, 0].as_slice());
 }
 
-/// Landings and decoding ports.
 #[test]
-fn passes_what_forwards(rt: HostRuntime) {
+fn lands_below_what_forwards(rt: HostRuntime) {
     let topo = topo_of(&rt, rt.alloc(), &FORWARDING);
-    assert!(rt; topo.landing(0) == Some(0));
-    assert!(rt; topo.landing(1) == None);
+    assert!(rt; topo.landing(0) == Some(0) && topo.landing(1).is_none());
     assert!(rt; topo.landing(2) == Some(3));
-    assert!(rt; topo.decoding_port(0) == None);
+}
+
+#[test]
+fn decodes_above_what_forwards(rt: HostRuntime) {
+    let topo = topo_of(&rt, rt.alloc(), &FORWARDING);
+    assert!(rt; topo.decoding_port(0).is_none());
     assert!(rt; topo.decoding_port(3) == Some(Parent { node: 0, port: 0 }));
 }
 
-/// The first fault of the plain tree with one node changed.
-fn fault_with(rt: &impl Abort, alloc: Global, place: usize, row: Row) -> Option<TreeFault> {
+/// The plain tree with one node changed has this first fault.
+fn is_first(rt: &impl Abort, alloc: Global, place: usize, row: Row, fault: Option<TreeFault>) {
     let mut rows = PLAIN;
-    if place < 4 {
-        rows[place] = row;
-    }
-    fault_of(rt, alloc, &rows)
+    assert!(rt; place < 4);
+    rows[place] = row;
+    assert!(rt; fault_of(rt, alloc, &rows) == fault);
 }
 
 /// Changes of one node, each with the first fault.
@@ -259,13 +259,10 @@ const FULL: Row = Row {
 
 #[test]
 fn first_faults(rt: HostRuntime) {
-    for (place, row, want) in CHANGED {
-        assert!(rt;
-            fault_with(&rt, rt.alloc(), place, row) == Some(want),
-            "{want:?}"
-        );
+    for (place, row, fault) in &CHANGED {
+        is_first(&rt, rt.alloc(), *place, *row, Some(*fault));
     }
-    assert!(rt; fault_with(&rt, rt.alloc(), 3, FULL) == None);
+    is_first(&rt, rt.alloc(), 3, FULL, None);
 }
 
 /// A switch at port 1 of a node.
@@ -277,20 +274,24 @@ fn below(name: &'static str, node: u32) -> Row {
     }
 }
 
-/// Five switches in a row are one too many, and four are not.
-#[test]
-fn too_deep(rt: HostRuntime) {
-    let row = [
+/// Five switches in a row.
+fn row_of_five() -> [Row; 6] {
+    [
         BRIDGE,
         below("s1", 0),
         below("s2", 1),
         below("s3", 2),
         below("s4", 3),
         below("s5", 4),
-    ];
+    ]
+}
+
+/// Five switches in a row are one too many, and four are not.
+#[test]
+fn too_deep(rt: HostRuntime) {
+    let row = row_of_five();
     assert!(rt; fault_of(&rt, rt.alloc(), &row) == Some(TreeFault::Depth(5)));
-    let legal = tree(&rt, rt.alloc(), &row[..5]);
-    assert!(rt; legal.count() == 5);
+    assert!(rt; tree(&rt, rt.alloc(), &row[..5]).count() == 5);
 }
 
 /// A second child below a bridge that forwards.

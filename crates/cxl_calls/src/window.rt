@@ -71,30 +71,34 @@ fn one_map(rt: &impl Abort, alloc: Global, gran: u8, map: u64) -> Record {
     Record::Cxims(Cxims::new(gran, vec![in alloc; map].expect(rt, "memory")))
 }
 
-/// The records of the CXL 2.0 bridges 0 to 5 and 7, the CXL 1.1 bridge 9, maps of the granularity codes 0
-/// to 2, and these windows.
+fn add(rt: &impl Abort, records: &mut Vec<Record>, item: Record) {
+    records.push(item).ok().expect(rt, "memory");
+}
+
+/// The UIDs and versions of the bridges of all tables here: 0 to 5 and 7 of CXL 2.0, and 9 of CXL 1.1.
+const BRIDGES: [(u32, u32); 8] = [
+    (0, 1),
+    (1, 1),
+    (2, 1),
+    (3, 1),
+    (4, 1),
+    (5, 1),
+    (7, 1),
+    (9, 0),
+];
+
+/// The records of the bridges, of these windows, and of maps of the granularity codes 0 to 2.
 fn records_of(rt: &impl Abort, alloc: Global, rows: &[Row]) -> Vec<Record> {
     let mut records = Vec::new(alloc);
-    for (uid, version) in [
-        (0, 1),
-        (1, 1),
-        (2, 1),
-        (3, 1),
-        (4, 1),
-        (5, 1),
-        (7, 1),
-        (9, 0),
-    ] {
-        records.push(bridge(uid, version)).expect(rt, "memory");
+    for (uid, version) in &BRIDGES {
+        add(rt, &mut records, bridge(*uid, *version));
     }
     for row in rows {
-        records.push(window(rt, alloc, row)).expect(rt, "memory");
+        add(rt, &mut records, window(rt, alloc, row));
     }
-    for (gran, map) in [(0, 0x40_4100), (1, 0x200), (2, 0x800)] {
-        records
-            .push(one_map(rt, alloc, gran, map))
-            .expect(rt, "memory");
-    }
+    add(rt, &mut records, one_map(rt, alloc, 0, 0x40_4100));
+    add(rt, &mut records, one_map(rt, alloc, 1, 0x200));
+    add(rt, &mut records, one_map(rt, alloc, 2, 0x800));
     records
 }
 
@@ -118,7 +122,7 @@ fn are_verdicts(rt: &impl Abort, alloc: Global, rows: &[Row]) {
     let found = judged(rt, alloc, rows, None);
     assert!(rt; found.len() == rows.len());
     for (i, row) in rows.iter().enumerate() {
-        assert!(rt; found[i].verdict() == row.verdict, "window {i}");
+        assert!(rt; found[i].verdict() == row.verdict);
     }
 }
 
@@ -152,14 +156,17 @@ fn judges_windows(rt: HostRuntime) {
     are_verdicts(&rt, rt.alloc(), &rows);
 }
 
+/// A table's only window has this verdict where the topology has these bridges.
+fn is_judged(rt: &impl Abort, alloc: Global, uids: &[u32], verdict: Verdict) {
+    let row = plain(BASE, 0x1_0000_0000, &[0, 1], verdict);
+    assert!(rt; only(rt, alloc, row, Some(uids)).verdict() == verdict);
+}
+
 /// A target has to be one of the topology's bridges, where there is a topology.
 #[test]
 fn judges_for_topologies(rt: HostRuntime) {
-    let row = plain(BASE, 0x1_0000_0000, &[0, 1], Verdict::Usable);
-    let with_both = only(&rt, rt.alloc(), row, Some(&[1, 0]));
-    assert!(rt; with_both.verdict() == Verdict::Usable);
-    let with_one = only(&rt, rt.alloc(), row, Some(&[0, 2]));
-    assert!(rt; with_one.verdict() == Verdict::Target(1));
+    is_judged(&rt, rt.alloc(), &[1, 0], Verdict::Usable);
+    is_judged(&rt, rt.alloc(), &[0, 2], Verdict::Target(1));
 }
 
 /// The window of two ways under XOR.
@@ -168,24 +175,27 @@ fn two_by_xor(rt: &impl Abort, alloc: Global) -> Window {
     only(rt, alloc, row, None)
 }
 
+fn is_two_by_xor(window: &Window) -> bool {
+    window.index() == 0
+        && window.base() == BASE
+        && window.size() == 0x1_0000_0000
+        && window.ways() == 2
+        && window.gran() == 0
+        && window.xor()
+        && window.maps() == [0x40_4100, 0, 0, 0].as_slice()
+        && window.restrict() == 0x000e
+        && window.targets() == [0, 1].as_slice()
+}
+
 #[test]
 fn keeps_fields(rt: HostRuntime) {
-    let window = two_by_xor(&rt, rt.alloc());
-    assert!(rt; window.index() == 0);
-    assert!(rt; window.base() == BASE);
-    assert!(rt; window.size() == 0x1_0000_0000);
-    assert!(rt; window.ways() == 2);
-    assert!(rt; window.gran() == 0);
-    assert!(rt; window.xor());
-    assert!(rt; window.maps() == [0x40_4100, 0, 0, 0].as_slice());
-    assert!(rt; window.restrict() == 0x000e);
-    assert!(rt; window.targets() == [0, 1].as_slice());
+    assert!(rt; is_two_by_xor(&two_by_xor(&rt, rt.alloc())));
 }
 
 /// An address has this position in the only window of a table.
 fn is_position(rt: &impl Abort, alloc: Global, row: Row, h: u64, position: Option<u32>) {
     let window = only(rt, alloc, row, None);
-    assert!(rt; slot_of(&window, h) == position, "of {h}");
+    assert!(rt; slot_of(&window, h) == position);
 }
 
 /// Positions of two, three and six ways, without XOR and with it.
@@ -196,30 +206,23 @@ fn gives_positions(rt: HostRuntime) {
     let three = plain(BASE, 0x6000_0000, &[0, 1, 2], Verdict::Usable);
     let six = plain(BASE, 0xc000_0000, &[0, 1, 2, 3, 4, 5], Verdict::Usable);
     let six_xor = xor(BASE, 0x6000_0000, 0, &[0, 1, 2, 3, 4, 5], Verdict::Usable);
-    let places = [
-        (two, 0x1_0000_0000, Some(0)),
-        (two, 0x1_ffff_ffff, Some(1)),
-        (two, 0x2_0000_0000, None),
-        (two_xor, 0x1_0000_4000, Some(1)),
-        (three, 0x1_2fff_ffff, Some(2)),
-        (three, 0x1_0000_0400, Some(1)),
-        (three, 0x1_0000_0600, Some(0)),
-        (six, 0x1_0000_0b00, Some(5)),
-        (six_xor, 0x1_0000_4200, Some(1)),
-    ];
-    for (row, h, position) in places {
-        is_position(&rt, rt.alloc(), row, h, position);
-    }
+    is_position(&rt, rt.alloc(), two, 0x1_0000_0000, Some(0));
+    is_position(&rt, rt.alloc(), two, 0x1_ffff_ffff, Some(1));
+    is_position(&rt, rt.alloc(), two, 0x2_0000_0000, None);
+    is_position(&rt, rt.alloc(), two_xor, 0x1_0000_4000, Some(1));
+    is_position(&rt, rt.alloc(), three, 0x1_2fff_ffff, Some(2));
+    is_position(&rt, rt.alloc(), three, 0x1_0000_0400, Some(1));
+    is_position(&rt, rt.alloc(), three, 0x1_0000_0600, Some(0));
+    is_position(&rt, rt.alloc(), six, 0x1_0000_0b00, Some(5));
+    is_position(&rt, rt.alloc(), six_xor, 0x1_0000_4200, Some(1));
 }
 
 /// The raw bits with which an address has these parities.
 #[test]
 fn undoes_parities(rt: HostRuntime) {
     let window = two_by_xor(&rt, rt.alloc());
-    assert!(rt; window.verdict() == Verdict::Usable);
-    assert!(rt; window.ways() == 2);
-    assert!(rt; unxor(&window, 0x1_0000_4000, 1) == 0);
-    assert!(rt; unxor(&window, 0x1_0000_4000, 0) == 1);
+    assert!(rt; window.verdict() == Verdict::Usable && window.ways() == 2);
+    assert!(rt; unxor(&window, 0x1_0000_4000, 1) == 0 && unxor(&window, 0x1_0000_4000, 0) == 1);
 }
 
 #[test]

@@ -1,6 +1,6 @@
 -- What the tests of a node say, one after another.
 use Rattle.std.proofs.Common.{◌≡◌, ℕ, zero, suc, ◌+◌, ◌*◌, ◌<◌, ◌≤◌, Bool, true, false, List, [], ◌∷◌, length, get_or, Option, Some, None, refl, sym, ap, ◌∙◌, inl, inr, arith}
-use Rattle.std.specs.Prelude.{slice_get, nat_le, nat_lt, IfSome, IfNone}
+use Rattle.std.specs.Prelude.{slice_get, nat_le, nat_lt, IfSome, IfNone, if◌then◌else◌}
 use Rattle.std.specs.Option.{option_map_or}
 use Rattle.std.proofs.lemmas.Bool.{cases_lt}
 use Rattle.std.proofs.lemmas.Option.{get_or_from_slice_get}
@@ -156,10 +156,13 @@ pub some_from : (nodes : List Node) (i : ℕ) (node : Node) (result : Option Tre
 some_from nodes i node None here none e = tt
 some_from nodes i node (Some fault) here none e = some_at nodes i node here none fault (sym e)
 
--- no test holds
-pub none_hold : {a b c d e f g h : Bool} (i : ℕ) → a ≡ false → b ≡ false → c ≡ false → d ≡ false → e ≡ false → f ≡ false → g ≡ false → h ≡ false
-    → None ≡ first_of ((a, faults.NoParent i) ∷ (b, faults.PortTaken i) ∷ (c, faults.Forks i) ∷ (d, faults.NameTaken i) ∷ (e, faults.UidTaken i) ∷ (f, faults.Depth i) ∷ (g, faults.Caps i) ∷ (h, faults.Capacity i) ∷ [])
-none_hold i pa pb pc pd pe pf pg ph = rw (pa, pb, pc, pd, pe, pf, pg, ph)
+-- a test that holds gives its fault
+pub holds : {test : Bool} (fault others : Option TreeFault) → test ≡ true → fault ≡ if test then fault else others
+holds fault others is = rw is
+
+-- a test that does not leaves the answer to the others
+pub passes : {test : Bool} (fault others : Option TreeFault) {result : Option TreeFault} → test ≡ false → result ≡ others → result ≡ if test then fault else others
+passes fault others is answer = rw is answer
 
 pub node_is : (nodes : List Node) (i : ℕ) (node own : Node) → i < length nodes → own ≡ get_or nodes i own → slice_get nodes i ≡ Some node → node ≡ own
 node_is nodes i node own lt is here = sym (get_or_from_slice_get nodes i node own here) ∙ sym is

@@ -50,18 +50,18 @@ pub(crate) fn judge(nodes: &[Node], i: u32, tables: &Tables) -> Option<TreeFault
     ensures none { IfNone result (NoneBefore nodes.now (8 * i + 9)) }
     ensures some { IfSome result (λ fault. IsFirstTreeFault nodes.now fault) }
 {
-    first_fault(nodes, i, tables)
+    first_fault(nodes, i, &nodes[i as usize], tables)
 }
 
-fn first_fault(nodes: &[Node], i: u32, tables: &Tables) -> Option<TreeFault>
+fn first_fault(nodes: &[Node], i: u32, node: &Node, tables: &Tables) -> Option<TreeFault>
     requires below { i < length nodes.now }
     requires few { length nodes.now ≤ node_limit }
+    requires here { slice_get nodes.now i ≡ Some node.now }
     requires earlier { NoneBefore nodes.now (8 * i + 1) }
     requires tables { AreTables (take i nodes.now) tables.now }
-    ensures { (node : Node) → slice_get nodes.now i ≡ Some node → result ≡ first_of (tests_of nodes.now i node) }
+    ensures { result ≡ first_of (tests_of nodes.now i node.now) }
 {
     let earlier = &nodes[..i as usize];
-    let node = &nodes[i as usize];
     if lacks_parent(earlier, node) {
         return Some(TreeFault::NoParent(i));
     }
