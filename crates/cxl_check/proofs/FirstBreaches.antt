@@ -1,5 +1,5 @@
 -- The first breach of all rules, from the first of K1, of K2 to K8, and of each later rule.
-use Rattle.std.proofs.Common.{◌≡◌, ℕ, ◌+◌, ◌<◌, ◌≤◌, Bool, true, false, length, Option, Some, None, refl, sym, ◌∙◌, inl, inr, arith}
+use Rattle.std.proofs.Common.{◌≡◌, ℕ, ◌+◌, ◌<◌, ◌≤◌, true, false, length, Option, Some, None, refl, sym, ◌∙◌, inl, inr, arith}
 use Rattle.std.specs.Prelude.{slice_get, IfNone, IfSome}
 use Rattle.std.specs.Option.{option_map_or}
 use Rattle.std.proofs.lemmas.Bool.{ne_eqb, le-ltb, cases_lt, cases_eq, false≢true}
@@ -7,10 +7,10 @@ use Rattle.std.proofs.lemmas.Option.{slice_get_past}
 use Rattle.cxl_regs.specs.Registers.{Registers}
 use Rattle.cxl_span.specs.Breaches.{breaks as block_breaks}
 use Rattle.cxl_model.specs.System.{System, IsSystem, ram_at, pmem_at}
-use Rattle.cxl_model.specs.Accepted.{breaks, breaks_block, KeepsBlocks, IsAccepted, IsFirstBreach, IsOrderlySystem}
+use Rattle.cxl_model.specs.Accepted.{breaks, breaks_block, IsAccepted, IsFirstBreach, IsOrderlySystem}
 use Rattle.cxl_check.specs.declared.fault.Breach.{Breach}
 use Rattle.cxl_check.specs.Spots.{Keeps, IsFirstSpot}
-use Rattle.cxl_check.specs.inner.Blocks.{IsFirstBelow, IsFoundBelow}
+use Rattle.cxl_check.specs.inner.Blocks.{IsFoundBelow}
 use Rattle.cxl_check.proofs.Kept.{no_rule, block_rule}
 
 module _ (s : System) where

@@ -1,7 +1,7 @@
 -- What the first endpoint of a range says of it.
-use Rattle.std.proofs.Common.{◌≡◌, ℕ, ◌<◌, ◌&&◌, Bool, true, false, length, Option, Some, None, refl, sym, ap, ◌∙◌, if◌then◌else◌}
-use Rattle.std.specs.Prelude.{slice_get, find, position, ◌==◌, IsSomeAnd}
-use Rattle.std.specs.Option.{option_and_then, option_map_or}
+use Rattle.std.proofs.Common.{◌≡◌, ℕ, ◌&&◌, true, length, Some, None, refl, ap, ◌∙◌, if◌then◌else◌}
+use Rattle.std.specs.Prelude.{slice_get, ◌==◌, IsSomeAnd}
+use Rattle.std.specs.Option.{option_and_then}
 use Rattle.std.proofs.lemmas.Bool.{and_parts}
 use Rattle.cxl_enc.specs.declared.caps.MemKind.{MemKind}
 use Rattle.cxl_enc.specs.declared.caps.MemKind.TheVariants.{Ram}
@@ -10,7 +10,7 @@ use Rattle.cxl_regs.specs.declared.decoder.Decoder.{Decoder}
 use Rattle.cxl_regs.specs.declared.reading.Range.{Range}
 use Rattle.cxl_regs.specs.Reading.{decoder_ways, has_range}
 use Rattle.cxl_model.specs.System.{System, decoders_at, decoder_at}
-use Rattle.cxl_model.specs.Ranges.{serves, decoder_for, index_for, first_endpoint, first_decoder, span_kind}
+use Rattle.cxl_model.specs.Ranges.{serves, decoder_for, index_for, first_endpoint, span_kind}
 use Rattle.cxl_check.specs.inner.Facts.{AreFacts}
 use Rattle.cxl_check.proofs.Searches.{find_by_position, passes_at}
 use Rattle.cxl_check.proofs.Numbers.{found}

@@ -1,11 +1,12 @@
 -- What K1 to K8 give of one node.
-use Rattle.std.proofs.Common.{◌≡◌, ℕ, zero, suc, ◌+◌, ◌%◌, ◌^◌, ◌<◌, ◌≤◌, ◌&&◌, Bool, true, false, List, [], ◌∷◌, length, Option, Some, None, refl, sym, ap, ◌∙◌, inl, inr, arith}
-use Rattle.std.specs.Prelude.{slice_get, IsSomeAnd, ◌==◌, nat_lt}
+use Rattle.std.proofs.Common.{◌≡◌, ℕ, zero, suc, ◌+◌, ◌%◌, ◌^◌, ◌<◌, ◌≤◌, ◌&&◌, Bool, true, false, List, [], ◌∷◌, length, Option, Some, None, refl, sym, ◌∙◌, inl, inr, if◌then◌else◌, arith}
+use Rattle.std.specs.Prelude.{slice_get, IsSomeAnd, ◌==◌, nat_le}
 use Rattle.std.specs.Option.{option_map_or, option_and_then}
-use Rattle.std.proofs.lemmas.Bool.{and_parts, leb-true, ne_eqb, lt-ltb, cases_lt, cases_eq, cases_Bool, false≢true}
-use Rattle.std.proofs.lemmas.Option.{none-some, slice_get_within}
+use Rattle.std.proofs.lemmas.Bool.{and_parts, leb-true, le-leb, lt-leb, ne_eqb, lt-ltb, cases_lt, cases_eq, false≢true}
+use Rattle.std.proofs.lemmas.Option.{slice_get_within}
 use Rattle.cxl_topo.specs.declared.node.Node.{Node}
 use Rattle.cxl_enc.specs.Limits.{address_limit}
+use Rattle.cxl_enc.specs.declared.caps.MemKind.TheVariants.{Ram, Pmem}
 use Rattle.cxl_topo.specs.declared.node.Capacity.{Capacity}
 use Rattle.cxl_topo.specs.Kinds.{is_endpoint, capacity_of}
 use Rattle.cxl_topo.specs.Tree.{is_endpoint_at}
@@ -16,7 +17,8 @@ use Rattle.cxl_regs.specs.Rules.{before}
 use Rattle.cxl_span.specs.Rules.{breaks_rule}
 use Rattle.cxl_span.specs.Spans.{span_start_of}
 use Rattle.cxl_span.specs.Breaches.{breaks as block_breaks, BlockKeeps}
-use Rattle.cxl_model.specs.System.{System, decoder_at, ram_at, pmem_at}
+use Rattle.cxl_model.specs.System.{System, decoders_at, decoder_at, ram_at, pmem_at}
+use Rattle.cxl_model.specs.Ranges.{span_kind}
 use Rattle.cxl_model.specs.Accepted.{breaks, breaks_block, IsOrderlySystem}
 
 -- a rule that is none of K2 to K8 is broken by no decoder
@@ -51,6 +53,41 @@ pub some_and : {A : Type 0} (o : Option A) (P : A → Type 0) → IsSomeAnd o P 
 some_and None P h = absurd h
 some_and (Some x) P h = (x, refl, h)
 
+-- the node of an endpoint, which is there
+endpoint_there : (nodes : List Node) (n : ℕ) → is_endpoint_at nodes n ≡ true → (node : Node) × (slice_get nodes n ≡ Some node) × (is_endpoint node.kind ≡ true)
+endpoint_there nodes n endpoint = go (slice_get nodes n) refl endpoint
+  where
+    go : (o : Option Node) → slice_get nodes n ≡ o → option_map_or (λ node. is_endpoint node.kind) o false ≡ true → (node : Node) × (slice_get nodes n ≡ Some node) × (is_endpoint node.kind ≡ true)
+    go None e h = absurd (false≢true h)
+    go (Some node) e h = (node, e, h)
+
+pub endpoint_inside : (nodes : List Node) (n : ℕ) → is_endpoint_at nodes n ≡ true → n < length nodes
+endpoint_inside nodes n endpoint =
+    let node = endpoint_there nodes n endpoint in
+    slice_get_within nodes n node.0 node.1
+
+-- a committed decoder is one of its block's
+pub decoder_inside : (s : System) (n i : ℕ) (block : Registers) → slice_get s.blocks n ≡ Some block → IsSomeAnd (decoder_at s n i) (λ (d : Decoder). d.committed ≡ true) → i < length block.decoders
+decoder_inside s n i block here committed =
+    let there : IsSomeAnd (slice_get block.decoders i) (λ (d : Decoder). d.committed ≡ true) = rw here at committed in
+    let d = some_and (slice_get block.decoders i) (λ (d : Decoder). d.committed ≡ true) there in
+    slice_get_within block.decoders i d.0 d.1
+
+-- of which kind the span of a decoder is
+module _ (s : System) (n i start : ℕ) (block : Registers) (d : Decoder) (ram : ℕ) (here : slice_get s.blocks n ≡ Some block) (there : slice_get block.decoders i ≡ Some d)
+    (start_is : start ≡ span_start_of (decoders_at s n) i) (ram_is : ram ≡ ram_at s n) where
+  kind_by : (b : Bool) → nat_le (start + span_length d) ram ≡ b → span_kind s n i ≡ (if b then Ram else Pmem)
+  kind_by b e =
+      let length_is : option_map_or span_length (decoder_at s n i) 0 ≡ span_length d = rw here (rw there refl) in
+      let from : nat_le 0 start ≡ true = le-leb 0 start (omega arith) in
+      rw (sym ram_is, sym start_is, length_is, from, e) refl
+
+  pub ram_span : start + span_length d ≤ ram → Ram ≡ span_kind s n i
+  ram_span below = sym (kind_by true (le-leb (start + span_length d) ram below))
+
+  pub pmem_span : ram < start + span_length d → Pmem ≡ span_kind s n i
+  pmem_span above = sym (kind_by false (lt-leb (start + span_length d) ram above))
+
 module _ (s : System) (ready : IsOrderlySystem s) where
   pub kept_block : (n : ℕ) (block : Registers) → slice_get s.blocks n ≡ Some block → BlockKeeps block (ram_at s n) (pmem_at s n)
   kept_block n block here = record { each = each }
@@ -67,22 +104,15 @@ module _ (s : System) (ready : IsOrderlySystem s) where
             ]
           ]
 
-  endpoint_node : (n : ℕ) → is_endpoint_at s.nodes n ≡ true → (node : Node) × (slice_get s.nodes n ≡ Some node) × (is_endpoint node.kind ≡ true)
-  endpoint_node n endpoint = go (slice_get s.nodes n) refl endpoint
-    where
-      go : (o : Option Node) → slice_get s.nodes n ≡ o → option_map_or (λ node. is_endpoint node.kind) o false ≡ true → (node : Node) × (slice_get s.nodes n ≡ Some node) × (is_endpoint node.kind ≡ true)
-      go None e h = absurd (false≢true h)
-      go (Some node) e h = (node, e, h)
-
   -- a block of an endpoint is an endpoint's
   pub endpoint_at : (n : ℕ) (block : Registers) → is_endpoint_at s.nodes n ≡ true → slice_get s.blocks n ≡ Some block → block.endpoint ≡ true
   endpoint_at n block endpoint here =
-      let node = endpoint_node n endpoint in
+      let node = endpoint_there s.nodes n endpoint in
       (ready.system.caps.each n block node.0 here node.1).endpoint ∙ node.2
 
   pub node_inside : (n : ℕ) → is_endpoint_at s.nodes n ≡ true → n < length s.blocks
   node_inside n endpoint =
-      let node = endpoint_node n endpoint in
+      let node = endpoint_there s.nodes n endpoint in
       let count = ready.system.caps.count in
       let within = slice_get_within s.nodes n node.0 node.1 in
       omega arith

@@ -3,6 +3,7 @@ pub mod Numbers
 pub mod Kept
 pub mod Trees
 pub mod CapWords
+pub mod FoundOfNodes
 pub mod WaysUp
 pub mod Marks
 pub mod FirstFacts

@@ -1,12 +1,12 @@
 -- The regions of an accepted image, listed by the keys of its ranges.
-use Rattle.std.proofs.Common.{◌≡◌, ℕ, ◌+◌, ◌<◌, ◌≤◌, ◌&&◌, Bool, true, List, [], ◌∷◌, ◌++◌, length, get_or, map, take, Option, Some, None, refl, sym, ap, subst, ◌∙◌, inl, inr, arith}
-use Rattle.std.specs.Prelude.{slice_get, find, ◌==◌, IsSome, All, AllPairs, Contains, option_map, ◌↔◌}
+use Rattle.std.proofs.Common.{◌≡◌, ℕ, ◌+◌, ◌<◌, ◌≤◌, ◌&&◌, true, List, [], ◌∷◌, ◌++◌, length, get_or, map, take, Option, Some, None, refl, sym, ap, subst, ◌∙◌, inl, inr, arith}
+use Rattle.std.specs.Prelude.{slice_get, ◌==◌, IsSome, All, AllPairs, Contains, option_map, ◌↔◌}
 use Rattle.std.specs.declared.cmp.Ordering.TheVariants.{Less}
 use Rattle.std.specs.List.{list_any, range_with_len}
 use Rattle.std.specs.Option.{option_map_or}
 use Rattle.std.specs.BTreeMap.{BTreeMap, get, is_at, keys, IsOrdered, ContainsKey}
 use Rattle.std.proofs.lemmas.Bool.{and_parts, eqb-true, false≢true}
-use Rattle.std.proofs.lemmas.Option.{none-some, same_Some, slice_get-map, slice_get_within, slice_get_read, slice_get-get_or, get_or_from_slice_get}
+use Rattle.std.proofs.lemmas.Option.{slice_get-map, slice_get_within, slice_get_read, slice_get-get_or, get_or_from_slice_get}
 use Rattle.std.proofs.lemmas.List.{map-append, take_more}
 use Rattle.std.proofs.lemmas.List.Elements.{All-push}
 use Rattle.std.proofs.lemmas.List.Folds.{Any-from_list_any}
@@ -19,14 +19,14 @@ use Rattle.cxl_regs.specs.Reading.{has_range}
 use Rattle.cxl_span.specs.Breaches.{BlockKeeps}
 use Rattle.cxl_window.specs.Fields.{WindowFields}
 use Rattle.cxl_model.specs.declared.found.Found.{Found}
-use Rattle.cxl_model.specs.System.{System, IsSystem, decoders_at, ram_at, pmem_at}
+use Rattle.cxl_model.specs.System.{System, IsSystem, ram_at, pmem_at}
 use Rattle.cxl_model.specs.Ranges.{serves, IsCommittedRange, first_endpoint, range_ways}
 use Rattle.cxl_model.specs.Accepted.{IsAccepted, KeepsBlocks, IsWhole, IsOrderlySystem}
 use Rattle.cxl_model.specs.Regions.{region_range, IsRegionIn, IsRegion}
 use Rattle.cxl_model.specs.Counts.{is_endpoint_of, endpoints_of}
-use Rattle.cxl_model.specs.Listed.{AreRegions, AreRegionsByBase}
+use Rattle.cxl_model.specs.Listed.{AreRegionsByBase}
 use Rattle.cxl_check.specs.declared.firsts.RangeKey.{RangeKey}
-use Rattle.cxl_check.specs.inner.Firsts.{key_cmp, range_at, first_below, ListsFirsts}
+use Rattle.cxl_check.specs.inner.Firsts.{key_cmp, range_at, ListsFirsts}
 use Rattle.cxl_check.proofs.Kept.{kept_block}
 use Rattle.cxl_check.proofs.Keys.{lookup_place, mapped_at, filter_none, same_key, key_rises}
 use Rattle.cxl_check.proofs.Numbers.{found}

@@ -1,7 +1,6 @@
 -- Marks of landings, one node at a time.
-use Rattle.std.proofs.Common.{◌≡◌, ◌≢◌, ℕ, ◌+◌, ◌<◌, Bool, true, false, ◌||◌, List, length, get_or, set, Option, Some, None, refl, sym, ap, ◌∙◌, inl, inr, arith, if◌then◌else◌}
-use Rattle.std.specs.Prelude.{slice_get, ◌==◌}
-use Rattle.std.specs.Option.{option_map_or}
+use Rattle.std.proofs.Common.{◌≡◌, ℕ, ◌+◌, ◌<◌, Bool, true, false, ◌||◌, List, length, get_or, set, Some, refl, sym, ap, ◌∙◌, inl, inr, arith}
+use Rattle.std.specs.Prelude.{◌==◌}
 use Rattle.std.specs.List.{list_any, range_with_len}
 use Rattle.std.proofs.lemmas.Bool.{eq-eqb, ne_eqb, cases_eq, or_right}
 use Rattle.std.proofs.lemmas.List.{get_or-set_same, get_or-set_other, length-set}

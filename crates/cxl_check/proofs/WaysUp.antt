@@ -1,11 +1,11 @@
 -- How many ways and bits the ports above a node can have.
-use Rattle.std.proofs.Common.{◌≡◌, ℕ, zero, suc, ◌+◌, ◌*◌, ◌<◌, ◌≤◌, Bool, true, false, List, [], ◌∷◌, length, map, Option, Some, None, refl, sym, ap, ◌∙◌, inl, inr, arith}
+use Rattle.std.proofs.Common.{◌≡◌, ℕ, zero, suc, ◌+◌, ◌*◌, ◌<◌, ◌≤◌, Bool, true, false, List, [], ◌∷◌, length, map, Option, Some, None, refl, ap, ◌∙◌, inl, inr, arith}
 use Rattle.std.specs.Prelude.{slice_get, sum_by, nat_lt, nat_le}
 use Rattle.std.specs.Option.{option_map_or, unwrap_or}
 use Rattle.std.specs.List.{filter_map}
 use Rattle.std.proofs.lemmas.Bool.{agree_below_at, cases_lt, le-ltb, le-leb, leb-true}
 use Rattle.std.proofs.lemmas.List.Sums.{sum_by-cons}
-use Rattle.cxl_enc.specs.Codes.{ways_of, bits_of}
+use Rattle.cxl_enc.specs.Codes.{ways_of}
 use Rattle.cxl_topo.specs.declared.node.Node.{Node}
 use Rattle.cxl_topo.specs.declared.node.Parent.{Parent}
 use Rattle.cxl_topo.specs.Tree.{parent_of, ports_above}
@@ -94,14 +94,56 @@ module _ (s : System) (r : Range) where
 pub ways_once_more : (a p : ℕ) → a ≤ 16 → p ≤ 65536 → a * p ≤ 1048576
 ways_once_more a p few rest = times a 16 p 65536 few rest
 
--- above a parent stands one port fewer
-pub fewer : (nodes : List Node) (n : ℕ) (node : Node) (parent : Parent) → ports_above nodes n ≡ option_map_or (λ (p : Parent). p ∷ ports_above nodes p.node) (parent_of nodes n) []
-    → slice_get nodes n ≡ Some node → node.parent ≡ Some parent → length (ports_above nodes n) ≤ 5 → length (ports_above nodes parent.node) ≤ 4
-fewer nodes n node parent ports here is few =
-    let up : parent_of nodes n ≡ Some parent = rw here is in
-    let one : option_map_or (λ (p : Parent). p ∷ ports_above nodes p.node) (parent_of nodes n) [] ≡ parent ∷ ports_above nodes parent.node = rw up refl in
-    let longer : length (ports_above nodes n) ≡ suc (length (ports_above nodes parent.node)) = ap length (ports ∙ one) in
-    omega arith
+-- the numbers of one decoder more fit
+pub ways_fit : (a p : ℕ) → a ≤ 16 → p ≤ 1048576 → a * p ≤ 16777216
+ways_fit a p few rest = times a 16 p 1048576 few rest
+
+pub some_ways : (a p : ℕ) → 0 < a → 0 < p → 0 < a * p
+some_ways a p some rest = times 1 a 1 p some rest
+
+-- what is said of the ports above a node
+abbrev pub PortsAbove : List Node → ℕ → Type 0
+PortsAbove nodes n = ports_above nodes n ≡ option_map_or (λ (p : Parent). p ∷ ports_above nodes p.node) (parent_of nodes n) []
+
+module _ (nodes : List Node) (n : ℕ) (node : Node) (ports : PortsAbove nodes n) (here : slice_get nodes n ≡ Some node) where
+  -- none where it has no parent
+  pub no_ports : node.parent ≡ None → ports_above nodes n ≡ []
+  no_ports is =
+      let up : parent_of nodes n ≡ None = rw here is in
+      ports ∙ rw up refl
+
+  -- that in its parent, and those above the parent
+  pub one_more : (parent : Parent) → node.parent ≡ Some parent → ports_above nodes n ≡ parent ∷ ports_above nodes parent.node
+  one_more parent is =
+      let up : parent_of nodes n ≡ Some parent = rw here is in
+      ports ∙ rw up refl
+
+  -- so above a parent stands one port fewer
+  pub fewer : (parent : Parent) → node.parent ≡ Some parent → length (ports_above nodes n) ≤ 5 → length (ports_above nodes parent.node) ≤ 4
+  fewer parent is few =
+      let longer : length (ports_above nodes n) ≡ suc (length (ports_above nodes parent.node)) = ap length (one_more parent is) in
+      omega arith
+
+-- the ways and bits above a node, from those above its parent
+module _ (s : System) (r : Range) (n : ℕ) where
+  pub top_ways : ports_above s.nodes n ≡ [] → ways_above s r n ≡ 1
+  top_ways top = rw top refl
+
+  pub top_bits : ports_above s.nodes n ≡ [] → bits_above s r n ≡ 0
+  top_bits top = rw top refl
+
+  module _ (parent : Parent) (ports : ports_above s.nodes n ≡ parent ∷ ports_above s.nodes parent.node) where
+    pub more_ways : (d : Decoder) → decoder_for s r parent.node ≡ Some d → ways_above s r n ≡ decoder_ways d * ways_above s r parent.node
+    more_ways d has = rw ports (rw has refl)
+
+    pub more_bits : (d : Decoder) → decoder_for s r parent.node ≡ Some d → bits_above s r n ≡ select_bits d.ways + bits_above s r parent.node
+    more_bits d has = rw ports (rw has (sum_by-cons (λ (e : Decoder). select_bits e.ways) d (filter_map (λ (p : Parent). decoder_for s r p.node) (ports_above s.nodes parent.node))))
+
+    pub same_ways : decoder_for s r parent.node ≡ None → ways_above s r n ≡ ways_above s r parent.node
+    same_ways lacks = rw ports (rw lacks refl)
+
+    pub same_bits : decoder_for s r parent.node ≡ None → bits_above s r n ≡ bits_above s r parent.node
+    same_bits lacks = rw ports (rw lacks refl)
 
 -- a range has at most 16 ways, and at least one
 pub range_ways_few : (s : System) (r : Range) → range_ways s r ≤ 16

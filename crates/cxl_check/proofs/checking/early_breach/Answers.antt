@@ -1,4 +1,3 @@
-use Rattle.std.proofs.Common.{◌≡◌, length, sym, ◌∙◌, arith}
 use Rattle.cxl_model.specs.System.{system_of, IsSystem}
 use Rattle.cxl_check.proofs.FirstBreaches.{first_of_caps, ready_where_none, first_where_some}
 use Rattle.cxl_check.proofs.checking.early_breach.Goals as goal

@@ -1,6 +1,6 @@
 use Rattle.std.proofs.Common.{◌≡◌, arith}
 use Rattle.cxl_model.specs.System.{system_of}
-use Rattle.cxl_check.proofs.FirstBreaches.{first_of_rule, kept_more, all_kept}
+use Rattle.cxl_check.proofs.FirstBreaches.{first_of_rule, all_kept}
 use Rattle.cxl_check.proofs.checking.late_breach.Goals as goal
 
 pub returns-in-Some-clause-first : goal.returns-in-Some-clause-first

@@ -1,4 +1,4 @@
-use Rattle.std.proofs.Common.{◌≡◌, ℕ, Option, Some, None, sym, ap, ◌∙◌}
+use Rattle.std.proofs.Common.{◌≡◌, Some, None, sym, ap, ◌∙◌}
 use Rattle.std.specs.Prelude.{find, position, slice_get}
 use Rattle.std.specs.Option.{option_and_then}
 use Rattle.cxl_regs.specs.Reading.{has_range}

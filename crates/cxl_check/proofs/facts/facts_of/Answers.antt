@@ -1,6 +1,6 @@
-use Rattle.std.proofs.Common.{◌≡◌, ℕ, ◌<◌, Option, Some, None, length, sym, ◌∙◌, arith}
+use Rattle.std.proofs.Common.{◌≡◌, Some, None, sym, ◌∙◌}
 use Rattle.cxl_model.specs.System.{system_of}
-use Rattle.cxl_model.specs.Ranges.{first_endpoint, index_for}
+use Rattle.cxl_model.specs.Ranges.{first_endpoint}
 use Rattle.cxl_check.specs.declared.firsts.RangeKey.{RangeKey}
 use Rattle.cxl_check.proofs.Kept.{node_inside}
 use Rattle.cxl_check.proofs.FirstFacts.{no_first, no_index, with_index, is_endpoint, is_committed}

@@ -1,5 +1,4 @@
-use Rattle.std.proofs.Common.{◌≡◌, ℕ, ◌+◌, ◌<◌, List, length, sym, subst, ◌∙◌, arith}
-use Rattle.std.specs.Prelude.{slice_get, Some}
+use Rattle.std.proofs.Common.{◌≡◌, ◌+◌, ◌<◌, List, length, sym, subst, arith}
 use Rattle.cxl_model.specs.declared.found.Place.{Place}
 use Rattle.cxl_model.specs.System.{system_of}
 use Rattle.cxl_model.specs.Ranges.{range_ways}

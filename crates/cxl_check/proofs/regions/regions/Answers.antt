@@ -1,4 +1,4 @@
-use Rattle.std.proofs.Common.{◌≡◌, ◌+◌, ◌≤◌, ◌<◌, ◌++◌, ◌∷◌, [], List, length, get_or, take, sym, ap, subst, ◌∙◌, arith}
+use Rattle.std.proofs.Common.{◌≡◌, ◌+◌, ◌≤◌, ◌<◌, List, length, get_or, take, sym, ap, subst, ◌∙◌, arith}
 use Rattle.std.specs.BTreeMap.{keys, ContainsKey}
 use Rattle.std.proofs.lemmas.List.{take_all}
 use Rattle.std.proofs.lemmas.Option.{slice_get-get_or, get_or_from_slice_get}
@@ -6,7 +6,7 @@ use Rattle.cxl_model.specs.declared.found.Found.{Found}
 use Rattle.cxl_model.specs.System.{system_of}
 use Rattle.cxl_check.specs.declared.firsts.RangeKey.{RangeKey}
 use Rattle.cxl_check.specs.inner.Firsts.{key_cmp}
-use Rattle.cxl_check.proofs.Listing.{AreListed, one_listed, committed_at, are_regions}
+use Rattle.cxl_check.proofs.Listing.{AreListed, one_listed, committed_at, whole_at, are_regions}
 use Rattle.cxl_check.proofs.regions.regions.Goals as goal
 
 pub region_of-requires-clause-committed : goal.region_of-requires-clause-committed
@@ -19,6 +19,10 @@ region_of-requires-clause-committed c =
     let there : ContainsKey key_cmp c.args.firsts.now (get_or items c.loop-key.key-index none) =
     subst (λ (ks : List RangeKey). ContainsKey key_cmp c.args.firsts.now (get_or ks c.loop-key.key-index none)) (sym same) (c.in_ok-keys.ensures.found c.loop-key.key-index none (omega arith)) in
     committed_at (system_of c.args.image.now c.args.topo.now c.args.windows.now) c.requires.ready c.requires.accepted c.args.firsts.now c.requires.firsts c.accepted_where_whole.ensures (get_or items c.loop-key.key-index none) there
+
+pub region_of-requires-clause-whole : goal.region_of-requires-clause-whole
+region_of-requires-clause-whole c =
+    whole_at (system_of c.args.image.now c.args.topo.now c.args.windows.now) c.requires.ready c.requires.accepted c.args.firsts.now c.requires.firsts c.accepted_where_whole.ensures _ (region_of-requires-clause-committed c)
 
 pub loop-key-preserved : goal.loop-key-preserved
 loop-key-preserved c =

@@ -1,13 +1,15 @@
-use Rattle.std.proofs.Common.{◌≡◌, ℕ, Some, false, refl, sym, subst, ◌∙◌, arith}
+use Rattle.std.proofs.Common.{◌≡◌, ℕ, Some, true, false, refl, sym, subst, ◌∙◌, arith}
 use Rattle.std.proofs.lemmas.Option.{same_Some}
 use Rattle.cxl_topo.specs.Tree.{is_endpoint_at}
-use Rattle.cxl_model.specs.System.{system_of}
+use Rattle.cxl_span.specs.Spans.{span_start_of}
+use Rattle.cxl_model.specs.System.{system_of, decoders_at}
 use Rattle.cxl_model.specs.Ranges.{index_for}
-use Rattle.cxl_model.specs.Regions.{LeadsTo}
+use Rattle.cxl_model.specs.Regions.{LeadsTo, at_endpoint}
 use Rattle.cxl_model.specs.declared.found.Place.{Place}
 use Rattle.cxl_check.specs.inner.Slots.{next_of}
 use Rattle.cxl_check.proofs.FirstFacts.{is_committed}
-use Rattle.cxl_check.proofs.Leading.{within, goes_on, leads_by_next, next_below}
+use Rattle.cxl_check.proofs.Kept.{some_and}
+use Rattle.cxl_check.proofs.Leading.{within, ends_there, goes_on, leads_by_next, next_below}
 use Rattle.cxl_check.proofs.slots.+place_below.Goals as goal
 
 pub is_endpoint-requires : goal.is_endpoint-requires
@@ -23,6 +25,24 @@ span_start-requires-clause-committed t c =
     let s = system_of c.args.image.now c.args.topo.now c.args.windows.now in
     let at : index_for s c.args.range.now c.args.node ≡ Some c.unwrap-i.result = sym c.index_for.ensures ∙ c.unwrap-i.ensures in
     is_committed s c.args.range.now c.args.node c.unwrap-i.result at
+
+pub unwrap-i-requires : goal.unwrap-i-requires
+unwrap-i-requires t c =
+    let s = system_of c.args.image.now c.args.topo.now c.args.windows.now in
+    let endpoint : is_endpoint_at s.nodes c.args.node ≡ true = sym c.is_endpoint.ensures ∙ c.if-is_endpoint.true in
+    let ends = ends_there s c.args.w.now c.args.range.now c.args.slot c.count-count.ensures.tree c.args.node c.requires.some.0 endpoint c.requires.some.1 in
+    let i = some_and (index_for s c.args.range.now c.args.node) (λ (i : ℕ). c.requires.some.0.start ≡ span_start_of (decoders_at s c.args.node) i) ends.start in
+    rw (c.index_for.ensures ∙ i.1) refl
+
+pub span_start-requires-clause-endpoint : goal.span_start-requires-clause-endpoint
+span_start-requires-clause-endpoint t c = sym c.is_endpoint.ensures ∙ c.if-is_endpoint.true
+
+pub returns-then-is_endpoint : goal.returns-then-is_endpoint
+returns-then-is_endpoint t c =
+    let s = system_of c.args.image.now c.args.topo.now c.args.windows.now in
+    let place : Place = record { endpoint = c.args.node; start = c.span_start.result } in
+    let at : index_for s c.args.range.now c.args.node ≡ Some c.unwrap-i.result = sym c.index_for.ensures ∙ c.unwrap-i.ensures in
+    at_endpoint place (sym c.is_endpoint.ensures ∙ c.if-is_endpoint.true) (rw at c.span_start.ensures)
 
 pub unwrap-child-requires : goal.unwrap-child-requires
 unwrap-child-requires t c =

@@ -1,11 +1,35 @@
-use Rattle.std.proofs.Common.{◌≡◌, ℕ, Some, get_or, sym, ap, subst, ◌∙◌}
+use Rattle.std.proofs.Common.{◌≡◌, ℕ, ◌<◌, Some, length, get_or, refl, sym, ap, subst, ◌∙◌, arith}
 use Rattle.std.specs.Prelude.{slice_get}
-use Rattle.std.proofs.lemmas.Option.{get_or_from_slice_get, same_Some}
+use Rattle.std.proofs.lemmas.Option.{slice_get_within, get_or_from_slice_get, same_Some}
 use Rattle.cxl_topo.specs.Tree.{bridge_with}
 use Rattle.cxl_model.specs.System.{system_of}
 use Rattle.cxl_model.specs.Regions.{target_position, LeadsTo}
 use Rattle.cxl_check.proofs.Kept.{some_and}
 use Rattle.cxl_check.proofs.slots.span_of.Goals as goal
+
+pub offset_bounds-targets-from : goal.offset_bounds-targets-from
+offset_bounds-targets-from c =
+    let position = target_position c.args.w.now c.args.slot in
+    let uid = some_and (slice_get c.args.w.now.targets position) (λ (uid : ℕ). bridge_with c.args.topo.now.nodes uid ≡ Some c.requires.some.1.bridge) c.requires.some.1.target in
+    let within : c.from.result < length c.targets.result.now = rw (c.targets.ensures.value, c.from.ensures, c.target_position.ensures.value) (slice_get_within c.args.w.now.targets position uid.0 uid.1) in
+    let fits = c.targets.type_inv.1 in
+    omega (arith, within, fits)
+
+pub bounds-targets-from : goal.bounds-targets-from
+bounds-targets-from c =
+    let position = target_position c.args.w.now c.args.slot in
+    let uid = some_and (slice_get c.args.w.now.targets position) (λ (uid : ℕ). bridge_with c.args.topo.now.nodes uid ≡ Some c.requires.some.1.bridge) c.requires.some.1.target in
+    rw (c.targets.ensures.value, c.from.ensures, c.target_position.ensures.value) (slice_get_within c.args.w.now.targets position uid.0 uid.1)
+
+pub unwrap-bridge-requires : goal.unwrap-bridge-requires
+unwrap-bridge-requires c =
+    let w = c.args.w.now in
+    let nodes = c.args.topo.now.nodes in
+    let position = target_position w c.args.slot in
+    let span = c.requires.some.1 in
+    let uid = some_and (slice_get w.targets position) (λ (uid : ℕ). bridge_with nodes uid ≡ Some span.bridge) span.target in
+    let read : get_or c.targets.result.now c.from.result 0 ≡ uid.0 = rw (c.targets.ensures.value, c.from.ensures, c.target_position.ensures.value) (get_or_from_slice_get w.targets position uid.0 0 uid.1) in
+    rw (c.bridge.ensures.bridge ∙ ap (bridge_with nodes) read ∙ uid.2) refl
 
 pub place_below-requires-clause-some : goal.place_below-requires-clause-some
 place_below-requires-clause-some c =

@@ -1,6 +1,6 @@
-use Rattle.std.proofs.Common.{◌≡◌, ℕ, ◌<◌, ◌≤◌, false, Some, length, sym, ◌∙◌, inl, inr, arith}
+use Rattle.std.proofs.Common.{◌≡◌, ◌≤◌, false, Some, length, sym, ◌∙◌, inl, inr, arith}
 use Rattle.std.proofs.lemmas.Bool.{cases_lt}
-use Rattle.cxl_model.specs.System.{system_of, decoders_at, decoder_at}
+use Rattle.cxl_model.specs.System.{system_of, decoder_at}
 use Rattle.cxl_model.specs.Accepted.{breaks}
 use Rattle.cxl_check.proofs.RuleTests.{breaks_here, past_decoders}
 use Rattle.cxl_check.proofs.spots.first_decoder.Goals as goal

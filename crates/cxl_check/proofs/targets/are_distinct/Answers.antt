@@ -1,4 +1,4 @@
-use Rattle.std.proofs.Common.{◌≡◌, ◌<◌, ◌≤◌, refl, sym, ap, ◌∙◌, arith}
+use Rattle.std.proofs.Common.{◌<◌, ◌≤◌, refl, sym, ap, ◌∙◌, arith}
 use Rattle.cxl_regs.specs.Reading.{decoder_ways, entry_at}
 use Rattle.cxl_model.specs.Rules.{are_distinct}
 use Rattle.cxl_check.proofs.Searches.{from_here, from_end}
