@@ -1,3 +1,20 @@
 //! Tests of the crates' public calls, a module for each crate: worked values, outside vectors and printed texts, which no
 //! contract says. They stand apart from the crates, so that a crate is proved once and not a second time with its tests.
 #![tactic(auto)]
+
+#[cfg(test)]
+mod common;
+#[cfg(test)]
+mod deal;
+#[cfg(test)]
+mod enc;
+#[cfg(test)]
+mod io;
+#[cfg(test)]
+mod media;
+#[cfg(test)]
+mod num;
+#[cfg(test)]
+mod pool;
+#[cfg(test)]
+mod span;
