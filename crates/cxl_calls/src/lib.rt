@@ -5,6 +5,22 @@
 #[cfg(test)]
 mod cedt;
 #[cfg(test)]
+mod common;
+#[cfg(test)]
+mod deal;
+#[cfg(test)]
+mod enc;
+#[cfg(test)]
+mod io;
+#[cfg(test)]
+mod media;
+#[cfg(test)]
+mod num;
+#[cfg(test)]
+mod pool;
+#[cfg(test)]
+mod span;
+#[cfg(test)]
 mod topo;
 #[cfg(test)]
 mod topofile;

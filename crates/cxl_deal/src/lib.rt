@@ -14,6 +14,3 @@ pub use laws::{
 };
 pub use steps::Dealt;
 pub use weave::{Weave, deal, gather};
-
-#[cfg(test)]
-mod tests;

@@ -20,6 +20,3 @@ pub use limits::{
     ADDRESS_LIMIT, BRIDGE_LIMIT, FILE_LIMIT, FRAME_LIMIT, NODE_LIMIT, PLACEHOLDER_CAP, UNIT,
 };
 pub use name::Name;
-
-#[cfg(test)]
-mod tests;

@@ -28,6 +28,3 @@ pub use source::Source;
 pub use std_fetch::StdFetch;
 pub use std_sink::StdSink;
 pub use std_source::StdSource;
-
-#[cfg(test)]
-mod tests;

@@ -10,8 +10,6 @@ mod media;
 mod probe;
 mod roll;
 mod sim_media;
-#[cfg(test)]
-mod tests;
 
 pub use map_media::MapMedia;
 pub use media::{Full, Media};

@@ -15,6 +15,3 @@ pub use laws::{parities_tell_raw_bits, raw_bits_are_replaced, remainders_keep_di
 pub use maps::{are_usable_maps, parities, with_raw_bits};
 pub use remainders::join_thirds;
 pub use ways::{factor_of, ways_by};
-
-#[cfg(test)]
-mod tests;

@@ -3,7 +3,5 @@
 
 mod link;
 mod pool;
-#[cfg(test)]
-mod tests;
 
 pub use pool::{Frame, Pool};

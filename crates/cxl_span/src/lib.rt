@@ -15,6 +15,3 @@ pub use laws::{
     spans_lie_in_partitions,
 };
 pub use spans::{endpoint_place_of, start_of};
-
-#[cfg(test)]
-mod tests;

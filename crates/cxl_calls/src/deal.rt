@@ -1,9 +1,15 @@
+//! How a region's bytes are dealt over its slots, and gathered back.
+
 ghost use Rattle.std.specs.Prelude.{◌+◌, ◌/◌, ◌<◌, ◌≤◌};
 ghost use Rattle.cxl_enc.specs.Limits.{address_limit};
 ghost use Rattle.cxl_num.specs.Interleave.{chunk_size};
 ghost use Rattle.cxl_deal.specs.Weaves.{weave_ways, turns_end};
 
-use super::*;
+use crate::common::same;
+use cxl_deal::{
+    Dealt, Weave, chunks_deal_whole, deal, gather, place_tells_address, region_fills_slots,
+    slot_digits, slots_keep_entries, slots_keep_positions,
+};
 use std::process::Abort;
 
 /// The address is dealt to this place, and gathered from it.
@@ -13,21 +19,30 @@ fn check(rt: &impl Abort, weave: &Weave, h: u64, slot: u32, offset: u64)
     requires slot_below { slot < weave_ways weave.now }
     requires fits { turns_end weave.now (offset / chunk_size weave.now.gran + 1) ≤ address_limit }
 {
-    assert_eq!(rt; deal(weave, h), Dealt { slot, offset }, "of {h}");
-    assert_eq!(rt; gather(weave, slot, offset), h, "of {slot} and {offset}");
+    same(rt, &deal(weave, h), &Dealt { slot, offset }, "an address");
+    same(rt, &gather(weave, slot, offset), &h, "a place");
 }
 
-/// Regions of a window with modulo arithmetic.
+/// Regions of a window with modulo arithmetic, whose ways have the factor three.
 #[test]
-fn deals_by_remainders(rt: HostRuntime) {
+fn deals_by_thirds(rt: HostRuntime) {
     let three = Weave::new(0x1_0000_0000, 0, 0, true, 0, false, [0; 4]);
     check(&rt, &three, 0x1_2fff_ffff, 2, 0xfff_ffff);
+    let twelve = Weave::new(0x1_0000_0000, 0, 1, true, 1, false, [0; 4]);
+    check(&rt, &twelve, 0x1_0000_0b00, 11, 0);
+}
+
+#[test]
+fn deals_by_six(rt: HostRuntime) {
     let six = Weave::new(0x1_0000_0000, 0, 0, true, 1, false, [0; 4]);
     check(&rt, &six, 0x1_0000_0400, 4, 0);
     check(&rt, &six, 0x1_0000_0600, 0, 0x100);
     check(&rt, &six, 0x1_0000_0a00, 4, 0x100);
-    let twelve = Weave::new(0x1_0000_0000, 0, 1, true, 1, false, [0; 4]);
-    check(&rt, &twelve, 0x1_0000_0b00, 11, 0);
+}
+
+/// The same where they are a power of two.
+#[test]
+fn deals_by_powers(rt: HostRuntime) {
     let sixteen = Weave::new(0x1_0000_0000, 0, 0, false, 4, false, [0; 4]);
     check(&rt, &sixteen, 0x1_0000_0b00, 11, 0);
     let four = Weave::new(0x10_0000_0000, 0, 1, false, 1, false, [0; 4]);
@@ -48,17 +63,24 @@ fn deals_by_parities(rt: HostRuntime) {
     check(&rt, &four, 0x1_0000_1000, 2, 0x400);
 }
 
+/// Ways, base, granularity, root bits and low bits.
+fn numbers(weave: &Weave) -> [u64; 5] {
+    [
+        u64::from(weave.ways()),
+        weave.base(),
+        u64::from(weave.gran()),
+        u64::from(weave.root_bits()),
+        u64::from(weave.low_bits()),
+    ]
+}
+
 #[test]
 fn keeps_fields(rt: HostRuntime) {
     let maps = [0x40_4100, 0, 0, 0];
     let six = Weave::new(0x1_0000_0000, 0, 1, true, 0, true, maps);
-    assert_eq!(rt; (six.ways(), six.base(), six.gran()), (6, 0x1_0000_0000, 0));
-    assert_eq!(rt;
-        (six.root_bits(), six.third(), six.low_bits()),
-        (1, true, 0)
-    );
-    assert_eq!(rt; six.xor(), true);
-    assert_eq!(rt; six.maps(), maps);
+    same(&rt, &numbers(&six), &[6, 0x1_0000_0000, 0, 1, 0], "numbers");
+    same(&rt, &[six.third(), six.xor()], &[true; 2], "arithmetic");
+    same(&rt, &six.maps(), &maps, "maps");
 }
 
 #[test]

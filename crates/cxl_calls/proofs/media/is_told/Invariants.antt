@@ -1,6 +1,6 @@
 use Rattle.std.proofs.Common.{◌≡◌, ℕ, ◌<◌, Some}
 use Rattle.cxl_media.specs.Roll.{key_at_place}
-use Rattle.cxl_media.proofs.tests.is_told.Given as goal
+use Rattle.cxl_calls.proofs.media.is_told.Given as goal
 
 -- none of the places so far tells the block
 abbrev pub invariant-loop-i : goal.invariant-loop-i
