@@ -151,121 +151,78 @@ fn passes_what_forwards(rt: HostRuntime) {
     assert!(rt; are_passed(&topo));
 }
 
-/// The plain tree with one node changed.
-fn changed(place: usize, row: &Row) -> [Row; 4] {
+/// What is changed of a node of the plain tree.
+#[derive(Clone, Copy)]
+enum Change {
+    Name(&'static str),
+    Parent(u32, u8),
+    Uid(u32),
+    Cap(u32),
+    Forwards,
+    Capacity(u64, u64),
+}
+
+impl Row {
+    fn with(self, change: Change) -> Row {
+        let mut row = self;
+        match change {
+            Change::Name(name) => row.name = name,
+            Change::Parent(node, port) => row.parent = Some(Parent { node, port }),
+            Change::Uid(uid) => row.kind = NodeKind::Bridge(uid),
+            Change::Cap(cap) => row.cap = cap,
+            Change::Forwards => row.forwards = true,
+            Change::Capacity(ram, pmem) => row.kind = NodeKind::Endpoint(Capacity { ram, pmem }),
+        }
+        row
+    }
+}
+
+/// The plain tree with a node changed.
+fn changed(place: usize, change: Change) -> [Row; 4] {
     let mut rows = PLAIN;
     if place < 4 {
-        rows[place] = *row;
+        rows[place] = rows[place].with(change);
     }
     rows
 }
 
 /// Changes of one node, each with the first fault.
-const CHANGED: [(usize, Row, TreeFault); 10] = [
-    (
-        1,
-        Row {
-            parent: Some(Parent { node: 0, port: 1 }),
-            ..OTHER_BRIDGE
-        },
-        TreeFault::NoParent(1),
-    ),
-    (
-        2,
-        Row {
-            parent: Some(Parent { node: 3, port: 0 }),
-            ..SWITCH
-        },
-        TreeFault::NoParent(2),
-    ),
+const CHANGED: [(usize, Change, TreeFault); 9] = [
+    (1, Change::Parent(0, 1), TreeFault::NoParent(1)),
+    (2, Change::Parent(3, 0), TreeFault::NoParent(2)),
+    (3, Change::Parent(0, 0), TreeFault::PortTaken(3)),
+    (3, Change::Name("hb1"), TreeFault::NameTaken(3)),
+    (1, Change::Uid(0), TreeFault::UidTaken(1)),
+    (0, Change::Cap(0x1b02), TreeFault::Caps(0)),
+    (3, Change::Forwards, TreeFault::Caps(3)),
+    (3, Change::Capacity(0x1800_0000, 0), TreeFault::Capacity(3)),
     (
         3,
-        Row {
-            parent: Some(Parent { node: 0, port: 0 }),
-            ..ENDPOINT
-        },
-        TreeFault::PortTaken(3),
-    ),
-    (
-        3,
-        Row {
-            name: "hb1",
-            ..ENDPOINT
-        },
-        TreeFault::NameTaken(3),
-    ),
-    (
-        1,
-        Row {
-            kind: NodeKind::Bridge(0),
-            ..OTHER_BRIDGE
-        },
-        TreeFault::UidTaken(1),
-    ),
-    (
-        1,
-        Row {
-            name: "hb0",
-            kind: NodeKind::Bridge(0),
-            ..OTHER_BRIDGE
-        },
-        TreeFault::NameTaken(1),
-    ),
-    (
-        0,
-        Row {
-            cap: 0x1b02,
-            ..BRIDGE
-        },
-        TreeFault::Caps(0),
-    ),
-    (
-        3,
-        Row {
-            forwards: true,
-            ..ENDPOINT
-        },
-        TreeFault::Caps(3),
-    ),
-    (
-        3,
-        Row {
-            kind: NodeKind::Endpoint(Capacity {
-                ram: 0x1800_0000,
-                pmem: 0,
-            }),
-            ..ENDPOINT
-        },
-        TreeFault::Capacity(3),
-    ),
-    (
-        3,
-        Row {
-            kind: NodeKind::Endpoint(Capacity {
-                ram: 1 << 52,
-                pmem: 0x1000_0000,
-            }),
-            ..ENDPOINT
-        },
+        Change::Capacity(1 << 52, 0x1000_0000),
         TreeFault::Capacity(3),
     ),
 ];
 
-/// The endpoint with as many bytes as it may have.
-const FULL: Row = Row {
-    kind: NodeKind::Endpoint(Capacity {
-        ram: 1 << 51,
-        pmem: 1 << 51,
-    }),
-    ..ENDPOINT
-};
-
 #[test]
 fn first_faults(rt: HostRuntime) {
-    for (place, row, fault) in &CHANGED {
-        assert!(rt; is_fault(rt.alloc(), &changed(*place, row), *fault));
+    for (place, change, fault) in &CHANGED {
+        assert!(rt; is_fault(rt.alloc(), &changed(*place, *change), *fault));
     }
-    assert!(rt; tree(rt.alloc(), &changed(3, &FULL)).is_some());
+}
+
+/// A name that is taken comes before a UID that is.
+#[test]
+fn name_before_uid(rt: HostRuntime) {
+    let mut rows = changed(1, Change::Uid(0));
+    rows[1].name = "hb0";
+    assert!(rt; is_fault(rt.alloc(), &rows, TreeFault::NameTaken(1)));
+}
+
+/// An endpoint may have 2^52 bytes.
+#[test]
+fn full_endpoint(rt: HostRuntime) {
+    let rows = changed(3, Change::Capacity(1 << 51, 1 << 51));
+    assert!(rt; tree(rt.alloc(), &rows).is_some());
 }
 
 /// A switch at port 1 of a node.
