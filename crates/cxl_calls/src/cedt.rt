@@ -1,7 +1,6 @@
 use byteorder::{ByteOrder, LittleEndian};
 use cxl_cedt::{Cedt, CedtFault, Cfmws, Chbs, Cxims, Head, Record, read, write};
 use std::alloc::Global;
-use std::process::Abort;
 
 /// Two bridges, 0 and 1, and one window of 4 GiB over both, 256 bytes each in turn.
 const TWO_BRIDGES: [u8; 144] = [
@@ -25,88 +24,108 @@ const ONE_MAP: [u8; 16] = [
 const OTHER: [u8; 8] = [0x04, 0, 0x08, 0, 0xaa, 0xbb, 0xcc, 0xdd];
 
 /// The changes of the two bridges' table for a window under XOR, and for one record more of 16 bytes.
-const FOR_XOR: [(usize, u8); 3] = [(4, 0xa0), (9, 0x25), (125, 0x01)];
+const FOR_XOR: &[(usize, u8)] = &[(4, 0xa0), (9, 0x25), (125, 0x01)];
 
 /// The changes for one record more of the other type.
-const FOR_OTHER: [(usize, u8); 2] = [(4, 0x98), (9, 0xa8)];
+const FOR_OTHER: &[(usize, u8)] = &[(4, 0x98), (9, 0xa8)];
 
 /// The two bridges' table with some bytes changed, and with more behind it.
-fn changed(rt: &impl Abort, alloc: Global, changes: &[(usize, u8)], more: &[u8]) -> Vec<u8> {
-    let mut bytes = TWO_BRIDGES.to_vec(alloc).expect(rt, "memory");
+fn changed(alloc: Global, changes: &[(usize, u8)], more: &[u8]) -> Option<Vec<u8>> {
+    let mut bytes = TWO_BRIDGES.to_vec(alloc).ok()?;
     for (at, byte) in changes {
         if *at < bytes.len() {
             bytes[*at] = *byte;
         }
     }
-    bytes.extend_from_slice(more).expect(rt, "memory");
-    bytes
+    bytes.extend_from_slice(more).ok()?;
+    Some(bytes)
 }
 
-/// What the bytes are read as.
-fn reading(rt: &impl Abort, alloc: Global, bytes: &[u8]) -> Result<Cedt, CedtFault> {
-    assert!(rt; bytes.len() <= 1_048_576);
-    read(alloc, bytes)
+/// The table that the bytes spell.
+fn table(alloc: Global, bytes: &[u8]) -> Option<Cedt> {
+    if bytes.len() > 1_048_576 {
+        return None;
+    }
+    read(alloc, bytes).ok()
 }
 
-fn table_of(rt: &impl Abort, alloc: Global, bytes: &[u8]) -> Cedt {
-    reading(rt, alloc, bytes).ok().expect(rt, "a table")
+/// Whether the bytes have this fault.
+fn is_fault(alloc: Global, bytes: &[u8], want: CedtFault) -> bool {
+    if bytes.len() > 1_048_576 {
+        return false;
+    }
+    match read(alloc, bytes) {
+        Ok(_) => false,
+        Err(fault) => fault == want,
+    }
 }
 
-fn fault_of(rt: &impl Abort, alloc: Global, bytes: &[u8]) -> Option<CedtFault> {
-    reading(rt, alloc, bytes).err()
+/// Whether the two bridges' table with some bytes changed has this fault.
+fn is_refused(alloc: Global, changes: &[(usize, u8)], want: CedtFault) -> bool {
+    match changed(alloc, changes, &[]) {
+        Some(bytes) => is_fault(alloc, &bytes, want),
+        None => false,
+    }
 }
 
-/// A table is written as these bytes.
-fn is_written(rt: &impl Abort, alloc: Global, cedt: &Cedt, want: &[u8]) {
-    let bytes = write(alloc, cedt).ok().expect(rt, "memory");
-    assert!(rt; bytes.as_slice() == want);
+/// Whether a table is written as these bytes.
+fn is_written(alloc: Global, cedt: &Cedt, want: &[u8]) -> bool {
+    match write(alloc, cedt) {
+        Ok(bytes) => bytes.as_slice() == want,
+        Err(_) => false,
+    }
 }
 
-/// A record is the bridge of this UID and base, with version 1 and 64 KiB of registers.
-fn is_bridge(item: &Record, uid: u32, base: u64) -> bool {
-    let want = Chbs {
+/// A bridge with version 1 and 64 KiB of registers.
+fn bridge(uid: u32, base: u64) -> Chbs {
+    Chbs {
         uid,
         version: 1,
         base,
         length: 0x1_0000,
-    };
-    match item {
-        Record::Chbs(found) => *found == want,
-        _ => false,
     }
 }
 
-/// A record is the window of 4 GiB over both bridges.
-fn is_window(item: &Record, xor: bool) -> bool {
-    let Record::Cfmws(window) = item else {
-        return false;
-    };
-    window.base() == 0x1_0000_0000
-        && window.size() == 0x1_0000_0000
-        && window.ways() == 1
-        && window.xor() == xor
-        && window.gran() == 0
-        && window.restrict() == 0x000e
-        && window.qtg() == 0
+/// Whether it is the window of 4 GiB over both bridges.
+fn is_window(window: &Cfmws, xor: bool) -> bool {
+    let range = (window.base(), window.size());
+    let codes = (window.ways(), window.xor(), window.gran());
+    let rest = (window.restrict(), window.qtg());
+    range == (0x1_0000_0000, 0x1_0000_0000)
+        && codes == (1, xor, 0)
+        && rest == (0x000e, 0)
         && window.targets() == [0, 1].as_slice()
 }
 
-/// A record is the table of the one map.
-fn is_one_map(item: &Record) -> bool {
-    match item {
-        Record::Cxims(maps) => maps.gran() == 0 && maps.maps() == [0x40_4100].as_slice(),
-        _ => false,
-    }
+/// Whether they are the bridges and the window.
+fn are_two_bridges(records: &[Record]) -> bool {
+    let [
+        Record::Chbs(first),
+        Record::Chbs(second),
+        Record::Cfmws(window),
+    ] = records
+    else {
+        return false;
+    };
+    *first == bridge(0, 0x8000_0000)
+        && *second == bridge(1, 0x8001_0000)
+        && is_window(window, false)
 }
 
-/// A record is the one of another type.
-fn is_other(item: &Record) -> bool {
-    match item {
-        Record::Other(other) => {
-            other.kind() == 4 && other.reserved() == 0 && other.body() == &OTHER[4..]
-        }
-        _ => false,
-    }
+/// Whether they end with a window under XOR and the table of the one map.
+fn have_xor(records: &[Record]) -> bool {
+    let [_, _, Record::Cfmws(window), Record::Cxims(maps)] = records else {
+        return false;
+    };
+    is_window(window, true) && maps.gran() == 0 && maps.maps() == [0x40_4100].as_slice()
+}
+
+/// Whether they end with the record of another type.
+fn have_other(records: &[Record]) -> bool {
+    let [_, _, _, Record::Other(other)] = records else {
+        return false;
+    };
+    other.kind() == 4 && other.reserved() == 0 && other.body() == &OTHER[4..]
 }
 
 /// The head of all tables here.
@@ -121,19 +140,8 @@ const HEAD: Head = Head {
 
 #[test]
 fn two_bridges(rt: HostRuntime) {
-    let cedt = table_of(&rt, rt.alloc(), &TWO_BRIDGES);
-    assert!(rt; *cedt.head() == HEAD);
-    let [first, second, window] = cedt.records() else {
-        panic!(rt; "two bridges and a window");
-    };
-    assert!(rt; is_bridge(first, 0, 0x8000_0000) && is_bridge(second, 1, 0x8001_0000));
-    assert!(rt; is_window(window, false));
-}
-
-/// The two bridges' table with some bytes changed has this fault.
-fn is_refused(rt: &impl Abort, alloc: Global, changes: &[(usize, u8)], fault: CedtFault) {
-    let bytes = changed(rt, alloc, changes, &[]);
-    assert!(rt; fault_of(rt, alloc, &bytes) == Some(fault));
+    let cedt = table(rt.alloc(), &TWO_BRIDGES).expect(&rt, "a table");
+    assert!(rt; *cedt.head() == HEAD && are_two_bridges(cedt.records()));
 }
 
 /// Changes of the two bridges' table, by places and bytes, each with its fault.
@@ -156,7 +164,7 @@ const FAULTS: [(&[(usize, u8)], CedtFault); 10] = [
 #[test]
 fn faults(rt: HostRuntime) {
     for (changes, fault) in &FAULTS {
-        is_refused(&rt, rt.alloc(), changes, *fault);
+        assert!(rt; is_refused(rt.alloc(), changes, *fault));
     }
 }
 
@@ -169,30 +177,23 @@ fn prefixes(rt: HostRuntime) {
         } else {
             CedtFault::Length
         };
-        assert!(rt; fault_of(&rt, rt.alloc(), &TWO_BRIDGES[..n]) == Some(fault));
+        assert!(rt; is_fault(rt.alloc(), &TWO_BRIDGES[..n], fault));
     }
 }
 
 #[test]
 fn xor_maps(rt: HostRuntime) {
-    let bytes = changed(&rt, rt.alloc(), &FOR_XOR, &ONE_MAP);
-    let cedt = table_of(&rt, rt.alloc(), &bytes);
-    let [_, _, window, maps] = cedt.records() else {
-        panic!(rt; "a window and its maps");
-    };
-    assert!(rt; is_window(window, true) && is_one_map(maps));
+    let bytes = changed(rt.alloc(), FOR_XOR, &ONE_MAP).expect(&rt, "memory");
+    let cedt = table(rt.alloc(), &bytes).expect(&rt, "a table");
+    assert!(rt; have_xor(cedt.records()));
 }
 
 /// A record of another type is kept, and written as it was.
 #[test]
 fn other_records(rt: HostRuntime) {
-    let bytes = changed(&rt, rt.alloc(), &FOR_OTHER, &OTHER);
-    let cedt = table_of(&rt, rt.alloc(), &bytes);
-    let [_, _, _, other] = cedt.records() else {
-        panic!(rt; "another record");
-    };
-    assert!(rt; is_other(other));
-    is_written(&rt, rt.alloc(), &cedt, &bytes);
+    let bytes = changed(rt.alloc(), FOR_OTHER, &OTHER).expect(&rt, "memory");
+    let cedt = table(rt.alloc(), &bytes).expect(&rt, "a table");
+    assert!(rt; have_other(cedt.records()) && is_written(rt.alloc(), &cedt, &bytes));
 }
 
 /// Gives the table its length and its checksum.
@@ -211,74 +212,66 @@ fn seal(bytes: &mut [u8]) {
 }
 
 /// A table of as many bridges.
-fn bridges(rt: &impl Abort, alloc: Global, count: u32) -> Vec<u8> {
-    let mut bytes = TWO_BRIDGES[..36].to_vec(alloc).expect(rt, "memory");
+fn bridges(alloc: Global, count: u32) -> Option<Vec<u8>> {
+    let mut bytes = TWO_BRIDGES[..36].to_vec(alloc).ok()?;
     for _ in 0..count {
-        bytes
-            .extend_from_slice(&TWO_BRIDGES[36..68])
-            .expect(rt, "memory");
+        bytes.extend_from_slice(&TWO_BRIDGES[36..68]).ok()?;
     }
     seal(&mut bytes);
-    bytes
+    Some(bytes)
 }
 
 /// The 65th bridge is one too many, and the 64th is not.
 #[test]
 fn many_bridges(rt: HostRuntime) {
-    let most = bridges(&rt, rt.alloc(), 64);
-    assert!(rt; table_of(&rt, rt.alloc(), &most).records().len() == 64);
-    let more = bridges(&rt, rt.alloc(), 65);
-    assert!(rt; fault_of(&rt, rt.alloc(), &more) == Some(CedtFault::TooMany(2_084)));
+    let bytes = bridges(rt.alloc(), 64).expect(&rt, "memory");
+    let most = table(rt.alloc(), &bytes).expect(&rt, "a table");
+    assert!(rt; most.records().len() == 64);
+}
+
+#[test]
+fn too_many_bridges(rt: HostRuntime) {
+    let bytes = bridges(rt.alloc(), 65).expect(&rt, "memory");
+    assert!(rt; is_fault(rt.alloc(), &bytes, CedtFault::TooMany(2_084)));
 }
 
 /// Reserved fields are written as zero, and the checksum anew.
 #[test]
 fn written_again(rt: HostRuntime) {
-    let bytes = changed(&rt, rt.alloc(), &[(37, 0x05), (9, 0xc5)], &[]);
-    let cedt = table_of(&rt, rt.alloc(), &bytes);
-    is_written(&rt, rt.alloc(), &cedt, &TWO_BRIDGES);
-}
-
-/// A bridge with version 1 and 64 KiB of registers.
-fn bridge(uid: u32, base: u64) -> Record {
-    Record::Chbs(Chbs {
-        uid,
-        version: 1,
-        base,
-        length: 0x1_0000,
-    })
+    let bytes = changed(rt.alloc(), &[(37, 0x05), (9, 0xc5)], &[]).expect(&rt, "memory");
+    let cedt = table(rt.alloc(), &bytes).expect(&rt, "a table");
+    assert!(rt; is_written(rt.alloc(), &cedt, &TWO_BRIDGES));
 }
 
 /// The window of 4 GiB over both bridges, under XOR.
-fn window(rt: &impl Abort, alloc: Global) -> Record {
-    let targets = vec![in alloc; 0, 1].expect(rt, "memory");
-    Record::Cfmws(Cfmws::new(0x1_0000_0000, 0x1_0000_0000, 1, true, 0, 0x000e, 0, targets))
+fn window(alloc: Global) -> Option<Record> {
+    let base = 0x1_0000_0000;
+    let targets = vec![in alloc; 0, 1].ok()?;
+    Some(Record::Cfmws(Cfmws::new(base, base, 1, true, 0, 0x000e, 0, targets)))
 }
 
 /// The table of one map.
-fn one_map(rt: &impl Abort, alloc: Global) -> Record {
-    Record::Cxims(Cxims::new(0, vec![in alloc; 0x40_4100].expect(rt, "memory")))
+fn one_map(alloc: Global) -> Option<Record> {
+    let maps = vec![in alloc; 0x40_4100].ok()?;
+    Some(Record::Cxims(Cxims::new(0, maps)))
 }
 
-fn add(rt: &impl Abort, records: &mut Vec<Record>, item: Record) {
-    records.push(item).ok().expect(rt, "memory");
-}
-
-/// A table made of its parts.
-fn table_made(rt: &impl Abort, alloc: Global) -> Cedt {
+/// Both bridges, the window and the map.
+fn parts(alloc: Global) -> Option<Vec<Record>> {
     let mut records = Vec::new(alloc);
-    add(rt, &mut records, bridge(0, 0x8000_0000));
-    add(rt, &mut records, bridge(1, 0x8001_0000));
-    add(rt, &mut records, window(rt, alloc));
-    add(rt, &mut records, one_map(rt, alloc));
-    assert!(rt; Cedt::can_hold(&records));
-    Cedt::new(HEAD, records)
+    records.push(Record::Chbs(bridge(0, 0x8000_0000))).ok()?;
+    records.push(Record::Chbs(bridge(1, 0x8001_0000))).ok()?;
+    records.push(window(alloc)?).ok()?;
+    records.push(one_map(alloc)?).ok()?;
+    Some(records)
 }
 
-/// It is written as its bytes.
+/// A table made of its parts is written as its bytes.
 #[test]
 fn made(rt: HostRuntime) {
-    let cedt = table_made(&rt, rt.alloc());
-    let bytes = changed(&rt, rt.alloc(), &FOR_XOR, &ONE_MAP);
-    is_written(&rt, rt.alloc(), &cedt, &bytes);
+    let records = parts(rt.alloc()).expect(&rt, "memory");
+    assert!(rt; Cedt::can_hold(&records));
+    let cedt = Cedt::new(HEAD, records);
+    let bytes = changed(rt.alloc(), FOR_XOR, &ONE_MAP).expect(&rt, "memory");
+    assert!(rt; is_written(rt.alloc(), &cedt, &bytes));
 }

@@ -1,8 +1,5 @@
-ghost use Rattle.std.specs.Prelude.{◌≡◌, length};
-
-use cxl_topo::{Capacity, Name, Node, NodeKind, Parent, Topo, TreeFault};
+use cxl_topo::{Capacity, Name, Node, NodeKind, Parent, Path, Topo, TreeFault};
 use std::alloc::Global;
-use std::process::Abort;
 
 /// A node as a test states it.
 #[derive(Clone, Copy)]
@@ -73,196 +70,159 @@ const FORWARDING: [Row; 4] = [
     },
 ];
 
-fn name(rt: &impl Abort, text: &str) -> Name {
-    Name::read(text.as_bytes()).expect(rt, "a name")
-}
-
-fn nodes_of(rt: &impl Abort, alloc: Global, rows: &[Row]) -> Vec<Node> {
+fn nodes_of(alloc: Global, rows: &[Row]) -> Option<Vec<Node>> {
     let mut nodes = Vec::new(alloc);
     for row in rows {
         let node = Node {
-            name: name(rt, row.name),
+            name: Name::read(row.name.as_bytes())?,
             kind: row.kind,
             parent: row.parent,
             cap: row.cap,
             forwards: row.forwards,
         };
-        nodes.push(node).expect(rt, "memory");
+        nodes.push(node).ok()?;
     }
-    nodes
+    Some(nodes)
 }
 
-fn tree(rt: &impl Abort, alloc: Global, rows: &[Row]) -> Topo {
-    Topo::new(alloc, nodes_of(rt, alloc, rows), 65_536)
-        .ok()
-        .expect(rt, "a legal tree")
+fn tree(alloc: Global, rows: &[Row]) -> Option<Topo> {
+    Topo::new(alloc, nodes_of(alloc, rows)?, 65_536).ok()
 }
 
-/// The tree of four nodes.
-fn topo_of(rt: &impl Abort, alloc: Global, rows: &[Row]) -> Topo
-    ensures { length result.nodes ≡ 4 }
-{
-    let topo = tree(rt, alloc, rows);
-    assert!(rt; topo.count() == 4);
-    topo
-}
-
-fn fault_of(rt: &impl Abort, alloc: Global, rows: &[Row]) -> Option<TreeFault> {
-    Topo::new(alloc, nodes_of(rt, alloc, rows), 65_536).err()
+/// Whether the nodes have this fault.
+fn is_fault(alloc: Global, rows: &[Row], want: TreeFault) -> bool {
+    match nodes_of(alloc, rows) {
+        Some(nodes) => Topo::new(alloc, nodes, 65_536).err() == Some(want),
+        None => false,
+    }
 }
 
 #[test]
 fn finds_nodes(rt: HostRuntime) {
-    let topo = topo_of(&rt, rt.alloc(), &PLAIN);
-    assert!(rt; topo.frames() == 65_536 && topo.node(3).cap == 0x1b02);
-    assert!(rt; topo.find(&name(&rt, "e0")) == Some(3));
+    let topo = tree(rt.alloc(), &PLAIN).expect(&rt, "a legal tree");
+    assert!(rt; topo.count() == 4 && topo.frames() == 65_536 && topo.node(3).cap == 0x1b02);
     assert!(rt; topo.bridge(7) == Some(1) && topo.uids() == [0, 7].as_slice());
+    let name = Name::read(b"e0").expect(&rt, "a name");
+    assert!(rt; topo.find(&name) == Some(3));
 }
 
-#[test]
-fn finds_children(rt: HostRuntime) {
-    let topo = topo_of(&rt, rt.alloc(), &PLAIN);
-    assert!(rt; topo.child(1, 0) == Some(3) && topo.child(0, 1).is_none());
-    assert!(rt; topo.least_child(0) == Some(2));
+/// Whether the plain tree's children are found.
+fn are_children(topo: &Topo) -> bool {
+    topo.count() == 4
+        && topo.child(1, 0) == Some(3)
+        && topo.child(0, 1).is_none()
+        && topo.least_child(0) == Some(2)
+}
+
+/// Whether its nodes are what they are, and the endpoint's path.
+fn are_said(topo: &Topo) -> bool {
+    if topo.count() != 4 {
+        return false;
+    }
+    let path = topo.path(3);
+    let kinds = (topo.is_endpoint(3), topo.is_port(2), topo.forwards(0));
+    let under = (topo.under(1, 3), topo.under(0, 3));
+    kinds == (true, true, false) && under == (true, false) && is_path(&path)
+}
+
+fn is_path(path: &Path) -> bool {
+    path.len == 2 && path.nodes == [1, 3, 0, 0, 0, 0]
 }
 
 #[test]
 fn says_what_nodes_are(rt: HostRuntime) {
-    let topo = topo_of(&rt, rt.alloc(), &PLAIN);
-    assert!(rt; topo.is_endpoint(3) && topo.is_port(2) && !topo.forwards(0));
-    assert!(rt; topo.under(1, 3) && !topo.under(0, 3));
-    let path = topo.path(3);
-    assert!(rt; path.len == 2 && path.nodes.as_slice() == [1, 3, 0, 0, 0, 0].as_slice());
+    let topo = tree(rt.alloc(), &PLAIN).expect(&rt, "a legal tree");
+    assert!(rt; are_children(&topo) && are_said(&topo));
+}
+
+/// Whether the landings are below what forwards, and the decoding ports above.
+fn are_passed(topo: &Topo) -> bool {
+    if topo.count() != 4 {
+        return false;
+    }
+    let landings = (topo.landing(0), topo.landing(1), topo.landing(2));
+    let ports = (topo.decoding_port(0), topo.decoding_port(3));
+    landings == (Some(0), None, Some(3)) && ports == (None, Some(Parent { node: 0, port: 0 }))
 }
 
 #[test]
-fn lands_below_what_forwards(rt: HostRuntime) {
-    let topo = topo_of(&rt, rt.alloc(), &FORWARDING);
-    assert!(rt; topo.landing(0) == Some(0) && topo.landing(1).is_none());
-    assert!(rt; topo.landing(2) == Some(3));
+fn passes_what_forwards(rt: HostRuntime) {
+    let topo = tree(rt.alloc(), &FORWARDING).expect(&rt, "a legal tree");
+    assert!(rt; are_passed(&topo));
 }
 
-#[test]
-fn decodes_above_what_forwards(rt: HostRuntime) {
-    let topo = topo_of(&rt, rt.alloc(), &FORWARDING);
-    assert!(rt; topo.decoding_port(0).is_none());
-    assert!(rt; topo.decoding_port(3) == Some(Parent { node: 0, port: 0 }));
+/// What is changed of a node of the plain tree.
+#[derive(Clone, Copy)]
+enum Change {
+    Name(&'static str),
+    Parent(u32, u8),
+    Uid(u32),
+    Cap(u32),
+    Forwards,
+    Capacity(u64, u64),
 }
 
-/// The plain tree with one node changed has this first fault.
-fn is_first(rt: &impl Abort, alloc: Global, place: usize, row: Row, fault: Option<TreeFault>) {
+impl Row {
+    fn with(self, change: Change) -> Row {
+        let mut row = self;
+        match change {
+            Change::Name(name) => row.name = name,
+            Change::Parent(node, port) => row.parent = Some(Parent { node, port }),
+            Change::Uid(uid) => row.kind = NodeKind::Bridge(uid),
+            Change::Cap(cap) => row.cap = cap,
+            Change::Forwards => row.forwards = true,
+            Change::Capacity(ram, pmem) => row.kind = NodeKind::Endpoint(Capacity { ram, pmem }),
+        }
+        row
+    }
+}
+
+/// The plain tree with a node changed.
+fn changed(place: usize, change: Change) -> [Row; 4] {
     let mut rows = PLAIN;
-    assert!(rt; place < 4);
-    rows[place] = row;
-    assert!(rt; fault_of(rt, alloc, &rows) == fault);
+    if place < 4 {
+        rows[place] = rows[place].with(change);
+    }
+    rows
 }
 
 /// Changes of one node, each with the first fault.
-const CHANGED: [(usize, Row, TreeFault); 10] = [
-    (
-        1,
-        Row {
-            parent: Some(Parent { node: 0, port: 1 }),
-            ..OTHER_BRIDGE
-        },
-        TreeFault::NoParent(1),
-    ),
-    (
-        2,
-        Row {
-            parent: Some(Parent { node: 3, port: 0 }),
-            ..SWITCH
-        },
-        TreeFault::NoParent(2),
-    ),
+const CHANGED: [(usize, Change, TreeFault); 9] = [
+    (1, Change::Parent(0, 1), TreeFault::NoParent(1)),
+    (2, Change::Parent(3, 0), TreeFault::NoParent(2)),
+    (3, Change::Parent(0, 0), TreeFault::PortTaken(3)),
+    (3, Change::Name("hb1"), TreeFault::NameTaken(3)),
+    (1, Change::Uid(0), TreeFault::UidTaken(1)),
+    (0, Change::Cap(0x1b02), TreeFault::Caps(0)),
+    (3, Change::Forwards, TreeFault::Caps(3)),
+    (3, Change::Capacity(0x1800_0000, 0), TreeFault::Capacity(3)),
     (
         3,
-        Row {
-            parent: Some(Parent { node: 0, port: 0 }),
-            ..ENDPOINT
-        },
-        TreeFault::PortTaken(3),
-    ),
-    (
-        3,
-        Row {
-            name: "hb1",
-            ..ENDPOINT
-        },
-        TreeFault::NameTaken(3),
-    ),
-    (
-        1,
-        Row {
-            kind: NodeKind::Bridge(0),
-            ..OTHER_BRIDGE
-        },
-        TreeFault::UidTaken(1),
-    ),
-    (
-        1,
-        Row {
-            name: "hb0",
-            kind: NodeKind::Bridge(0),
-            ..OTHER_BRIDGE
-        },
-        TreeFault::NameTaken(1),
-    ),
-    (
-        0,
-        Row {
-            cap: 0x1b02,
-            ..BRIDGE
-        },
-        TreeFault::Caps(0),
-    ),
-    (
-        3,
-        Row {
-            forwards: true,
-            ..ENDPOINT
-        },
-        TreeFault::Caps(3),
-    ),
-    (
-        3,
-        Row {
-            kind: NodeKind::Endpoint(Capacity {
-                ram: 0x1800_0000,
-                pmem: 0,
-            }),
-            ..ENDPOINT
-        },
-        TreeFault::Capacity(3),
-    ),
-    (
-        3,
-        Row {
-            kind: NodeKind::Endpoint(Capacity {
-                ram: 1 << 52,
-                pmem: 0x1000_0000,
-            }),
-            ..ENDPOINT
-        },
+        Change::Capacity(1 << 52, 0x1000_0000),
         TreeFault::Capacity(3),
     ),
 ];
 
-/// The endpoint with as many bytes as it may have.
-const FULL: Row = Row {
-    kind: NodeKind::Endpoint(Capacity {
-        ram: 1 << 51,
-        pmem: 1 << 51,
-    }),
-    ..ENDPOINT
-};
-
 #[test]
 fn first_faults(rt: HostRuntime) {
-    for (place, row, fault) in &CHANGED {
-        is_first(&rt, rt.alloc(), *place, *row, Some(*fault));
+    for (place, change, fault) in &CHANGED {
+        assert!(rt; is_fault(rt.alloc(), &changed(*place, *change), *fault));
     }
-    is_first(&rt, rt.alloc(), 3, FULL, None);
+}
+
+/// A name that is taken comes before a UID that is.
+#[test]
+fn name_before_uid(rt: HostRuntime) {
+    let mut rows = changed(1, Change::Uid(0));
+    rows[1].name = "hb0";
+    assert!(rt; is_fault(rt.alloc(), &rows, TreeFault::NameTaken(1)));
+}
+
+/// An endpoint may have 2^52 bytes.
+#[test]
+fn full_endpoint(rt: HostRuntime) {
+    let rows = changed(3, Change::Capacity(1 << 51, 1 << 51));
+    assert!(rt; tree(rt.alloc(), &rows).is_some());
 }
 
 /// A switch at port 1 of a node.
@@ -290,39 +250,44 @@ fn row_of_five() -> [Row; 6] {
 #[test]
 fn too_deep(rt: HostRuntime) {
     let row = row_of_five();
-    assert!(rt; fault_of(&rt, rt.alloc(), &row) == Some(TreeFault::Depth(5)));
-    assert!(rt; tree(&rt, rt.alloc(), &row[..5]).count() == 5);
+    assert!(rt; is_fault(rt.alloc(), &row, TreeFault::Depth(5)));
+    let legal = tree(rt.alloc(), &row[..5]).expect(&rt, "a legal tree");
+    assert!(rt; legal.count() == 5);
 }
 
-/// A second child below a bridge that forwards.
+/// A bridge that forwards, and two children below it.
+const FORK: [Row; 3] = [
+    Row {
+        cap: 0x10,
+        forwards: true,
+        ..BRIDGE
+    },
+    Row {
+        name: "s1",
+        parent: Some(Parent { node: 0, port: 1 }),
+        ..SWITCH
+    },
+    Row {
+        parent: Some(Parent { node: 0, port: 2 }),
+        ..ENDPOINT
+    },
+];
+
 #[test]
 fn forks(rt: HostRuntime) {
-    let rows = [
-        Row {
-            cap: 0x10,
-            forwards: true,
-            ..BRIDGE
-        },
-        below("s1", 0),
-        Row {
-            parent: Some(Parent { node: 0, port: 2 }),
-            ..ENDPOINT
-        },
-    ];
-    assert!(rt; fault_of(&rt, rt.alloc(), &rows) == Some(TreeFault::Forks(2)));
+    assert!(rt; is_fault(rt.alloc(), &FORK, TreeFault::Forks(2)));
 }
 
-/// A tree of as many nodes has too many.
-fn are_too_many(rt: &impl Abort, alloc: Global, row: Row, count: usize) {
-    let rows = Vec::from_elem(alloc, row, count).expect(rt, "memory");
-    assert!(rt;
-        fault_of(rt, alloc, &rows) == Some(TreeFault::TooMany),
-        "{count} nodes"
-    );
+/// Whether as many nodes are too many.
+fn are_too_many(alloc: Global, row: Row, count: usize) -> bool {
+    match Vec::from_elem(alloc, row, count) {
+        Ok(rows) => is_fault(alloc, &rows, TreeFault::TooMany),
+        Err(_) => false,
+    }
 }
 
 #[test]
 fn too_many_nodes(rt: HostRuntime) {
-    are_too_many(&rt, rt.alloc(), BRIDGE, 65);
-    are_too_many(&rt, rt.alloc(), SWITCH, 1_025);
+    assert!(rt; are_too_many(rt.alloc(), BRIDGE, 65));
+    assert!(rt; are_too_many(rt.alloc(), SWITCH, 1_025));
 }

@@ -1,7 +1,6 @@
 use cxl_topo::{Name, Topo};
 use cxl_topofile::read_topo;
 use std::alloc::Global;
-use std::process::Abort;
 
 /// Two bridges with an endpoint each.
 const PLAIN: &str = "[[bridge]]
@@ -30,19 +29,18 @@ bridge = [{ name = \"hb0\", uid = 4294967295, passthrough = true }]
 endpoint = [{ name = \"e0\", parent = \"s1\", port = 0, ways3 = false, ways16 = false, pmem = 0x10000000 }]
 ";
 
-fn topo_of(rt: &impl Abort, alloc: Global, text: &str) -> Topo {
-    read_topo(alloc, text.as_bytes())
-        .ok()
-        .expect(rt, "a topology")
+fn topo_of(alloc: Global, text: &str) -> Option<Topo> {
+    read_topo(alloc, text.as_bytes()).ok()
 }
 
-/// Whether a tree's nodes have these capability words.
+/// Whether a tree's four nodes have these capability words.
 fn are_caps(topo: &Topo, caps: [u32; 4]) -> bool {
-    topo.count() == 4
-        && topo.node(0).cap == caps[0]
-        && topo.node(1).cap == caps[1]
-        && topo.node(2).cap == caps[2]
-        && topo.node(3).cap == caps[3]
+    if topo.count() != 4 {
+        return false;
+    }
+    let first = (topo.node(0).cap, topo.node(1).cap);
+    let last = (topo.node(2).cap, topo.node(3).cap);
+    first == (caps[0], caps[1]) && last == (caps[2], caps[3])
 }
 
 /// Whether a node's path has so many nodes, which are these.
@@ -51,28 +49,28 @@ fn is_path(topo: &Topo, node: u32, len: u8, nodes: [u32; 6]) -> bool {
         return false;
     }
     let path = topo.path(node);
-    path.len == len && path.nodes.as_slice() == nodes.as_slice()
+    path.len == len && path.nodes == nodes
 }
 
 #[test]
 fn plain(rt: HostRuntime) {
-    let topo = topo_of(&rt, rt.alloc(), PLAIN);
+    let topo = topo_of(rt.alloc(), PLAIN).expect(&rt, "a topology");
     assert!(rt; are_caps(&topo, [0x382, 0x382, 0x1b02, 0x1b02]));
     assert!(rt; is_path(&topo, 2, 2, [0, 2, 0, 0, 0, 0]));
     assert!(rt; topo.frames() == 65_536 && topo.bridge(1) == Some(1));
+    assert!(rt; topo.count() == 4 && topo.child(0, 1).is_none());
 }
 
 #[test]
-fn finds_nodes(rt: HostRuntime) {
-    let topo = topo_of(&rt, rt.alloc(), PLAIN);
-    assert!(rt; topo.count() == 4 && topo.child(0, 1).is_none());
+fn finds_names(rt: HostRuntime) {
+    let topo = topo_of(rt.alloc(), PLAIN).expect(&rt, "a topology");
     let name = Name::read(b"e1").expect(&rt, "a name");
     assert!(rt; topo.find(&name) == Some(3));
 }
 
 #[test]
 fn other_spelling(rt: HostRuntime) {
-    let topo = topo_of(&rt, rt.alloc(), INLINE);
+    let topo = topo_of(rt.alloc(), INLINE).expect(&rt, "a topology");
     assert!(rt; are_caps(&topo, [0x10, 0x220, 0x185, 0x302]));
     assert!(rt; is_path(&topo, 3, 4, [0, 1, 2, 3, 0, 0]));
     assert!(rt; topo.frames() == 2 && topo.bridge(4_294_967_295) == Some(0));
@@ -80,7 +78,8 @@ fn other_spelling(rt: HostRuntime) {
 
 #[test]
 fn no_nodes(rt: HostRuntime) {
-    assert!(rt; topo_of(&rt, rt.alloc(), "bridge = []\n").count() == 0);
+    let topo = topo_of(rt.alloc(), "bridge = []\n").expect(&rt, "a topology");
+    assert!(rt; topo.count() == 0);
 }
 
 /// Texts and what is wrong with each.
@@ -149,18 +148,16 @@ const FAULTS: [(&str, &str); 17] = [
     ),
 ];
 
-/// A text has the fault that is said so.
-fn is_refused(rt: &impl Abort, alloc: Global, text: &str, want: &str) {
-    let fault = read_topo(alloc, text.as_bytes())
-        .err()
-        .expect(rt, "a fault");
-    let said = format!(in alloc; "{fault}").expect(rt, "memory");
-    assert!(rt; said.as_str() == want);
+/// What is said of a text's fault.
+fn fault_of(alloc: Global, text: &str) -> Option<String> {
+    let fault = read_topo(alloc, text.as_bytes()).err()?;
+    format!(in alloc; "{fault}").ok()
 }
 
 #[test]
 fn first_faults(rt: HostRuntime) {
     for (text, want) in &FAULTS {
-        is_refused(&rt, rt.alloc(), text, want);
+        let said = fault_of(rt.alloc(), text).expect(&rt, "a fault");
+        assert!(rt; said.as_str() == *want);
     }
 }

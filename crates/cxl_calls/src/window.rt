@@ -2,7 +2,6 @@ use cxl_cedt::{Cedt, Cfmws, Chbs, Cxims, Head, Record};
 use cxl_enc::code_of;
 use cxl_window::{Verdict, Window, positions, slot_of, unxor, windows};
 use std::alloc::Global;
-use std::process::Abort;
 
 const HEAD: Head = Head {
     revision: 1,
@@ -48,13 +47,15 @@ fn xor(base: u64, size: u64, gran: u8, targets: &'static [u32], verdict: Verdict
     }
 }
 
-fn window(rt: &impl Abort, alloc: Global, row: &Row) -> Record {
-    assert!(rt; row.gran <= 6 && row.targets.len() <= 16);
-    let ways = code_of(row.targets.len() as u8).expect(rt, "a number of ways");
-    let targets = Vec::from_slice(alloc, row.targets).expect(rt, "memory");
-    Record::Cfmws(Cfmws::new(
+fn window(alloc: Global, row: &Row) -> Option<Record> {
+    if row.gran > 6 || row.targets.len() > 16 {
+        return None;
+    }
+    let ways = code_of(row.targets.len() as u8)?;
+    let targets = Vec::from_slice(alloc, row.targets).ok()?;
+    Some(Record::Cfmws(Cfmws::new(
         row.base, row.size, ways, row.xor, row.gran, 0x000e, 0, targets,
-    ))
+    )))
 }
 
 fn bridge(uid: u32, version: u32) -> Record {
@@ -66,13 +67,12 @@ fn bridge(uid: u32, version: u32) -> Record {
     })
 }
 
-fn one_map(rt: &impl Abort, alloc: Global, gran: u8, map: u64) -> Record {
-    assert!(rt; gran <= 6);
-    Record::Cxims(Cxims::new(gran, vec![in alloc; map].expect(rt, "memory")))
-}
-
-fn add(rt: &impl Abort, records: &mut Vec<Record>, item: Record) {
-    records.push(item).ok().expect(rt, "memory");
+fn one_map(alloc: Global, gran: u8, map: u64) -> Option<Record> {
+    if gran > 6 {
+        return None;
+    }
+    let maps = vec![in alloc; map].ok()?;
+    Some(Record::Cxims(Cxims::new(gran, maps)))
 }
 
 /// The UIDs and versions of the bridges of all tables here: 0 to 5 and 7 of CXL 2.0, and 9 of CXL 1.1.
@@ -87,43 +87,46 @@ const BRIDGES: [(u32, u32); 8] = [
     (9, 0),
 ];
 
-/// The records of the bridges, of these windows, and of maps of the granularity codes 0 to 2.
-fn records_of(rt: &impl Abort, alloc: Global, rows: &[Row]) -> Vec<Record> {
+/// The maps of the granularity codes of all tables here.
+const MAPS: [(u8, u64); 3] = [(0, 0x40_4100), (1, 0x200), (2, 0x800)];
+
+/// The records of the bridges, of these windows, and of the maps.
+fn records_of(alloc: Global, rows: &[Row]) -> Option<Vec<Record>> {
     let mut records = Vec::new(alloc);
     for (uid, version) in &BRIDGES {
-        add(rt, &mut records, bridge(*uid, *version));
+        records.push(bridge(*uid, *version)).ok()?;
     }
     for row in rows {
-        add(rt, &mut records, window(rt, alloc, row));
+        records.push(window(alloc, row)?).ok()?;
     }
-    add(rt, &mut records, one_map(rt, alloc, 0, 0x40_4100));
-    add(rt, &mut records, one_map(rt, alloc, 1, 0x200));
-    add(rt, &mut records, one_map(rt, alloc, 2, 0x800));
-    records
+    for (gran, map) in &MAPS {
+        records.push(one_map(alloc, *gran, *map)?).ok()?;
+    }
+    Some(records)
 }
 
 /// The windows of a table of these.
-fn judged(rt: &impl Abort, alloc: Global, rows: &[Row], uids: Option<&[u32]>) -> Vec<Window> {
-    let records = records_of(rt, alloc, rows);
-    assert!(rt; Cedt::can_hold(&records));
-    let table = Cedt::new(HEAD, records);
-    windows(alloc, &table, uids).ok().expect(rt, "memory")
+fn judged(alloc: Global, rows: &[Row], uids: Option<&[u32]>) -> Option<Vec<Window>> {
+    let records = records_of(alloc, rows)?;
+    if !Cedt::can_hold(&records) {
+        return None;
+    }
+    windows(alloc, &Cedt::new(HEAD, records), uids).ok()
 }
 
 /// The window of a table of one.
-fn only(rt: &impl Abort, alloc: Global, row: Row, uids: Option<&[u32]>) -> Window {
-    let mut found = judged(rt, alloc, &[row], uids);
-    assert!(rt; found.len() == 1);
-    found.pop().expect(rt, "a window")
+fn only(alloc: Global, row: Row, uids: Option<&[u32]>) -> Option<Window> {
+    judged(alloc, &[row], uids)?.pop()
 }
 
-/// Windows have the verdicts of their rows.
-fn are_verdicts(rt: &impl Abort, alloc: Global, rows: &[Row]) {
-    let found = judged(rt, alloc, rows, None);
-    assert!(rt; found.len() == rows.len());
-    for (i, row) in rows.iter().enumerate() {
-        assert!(rt; found[i].verdict() == row.verdict);
+/// Whether windows have the verdicts of their rows.
+fn are_verdicts(found: &[Window], rows: &[Row]) -> bool {
+    for (window, row) in found.iter().zip(rows) {
+        if window.verdict() != row.verdict {
+            return false;
+        }
     }
+    found.len() == rows.len()
 }
 
 /// Each verdict, in the order of the causes.
@@ -153,49 +156,52 @@ fn judges_windows(rt: HostRuntime) {
         // One way needs no map.
         xor(0x9_0000_0000, 0x1000_0000, 3, &[0], Verdict::Usable),
     ];
-    are_verdicts(&rt, rt.alloc(), &rows);
+    let found = judged(rt.alloc(), &rows, None).expect(&rt, "windows");
+    assert!(rt; are_verdicts(&found, &rows));
 }
 
-/// A table's only window has this verdict where the topology has these bridges.
-fn is_judged(rt: &impl Abort, alloc: Global, uids: &[u32], verdict: Verdict) {
-    let row = plain(BASE, 0x1_0000_0000, &[0, 1], verdict);
-    assert!(rt; only(rt, alloc, row, Some(uids)).verdict() == verdict);
+/// The verdict of a table's only window where the topology has these bridges.
+fn verdict_with(alloc: Global, uids: &[u32]) -> Option<Verdict> {
+    let row = plain(BASE, 0x1_0000_0000, &[0, 1], Verdict::Usable);
+    let window = only(alloc, row, Some(uids))?;
+    Some(window.verdict())
 }
 
 /// A target has to be one of the topology's bridges, where there is a topology.
 #[test]
 fn judges_for_topologies(rt: HostRuntime) {
-    is_judged(&rt, rt.alloc(), &[1, 0], Verdict::Usable);
-    is_judged(&rt, rt.alloc(), &[0, 2], Verdict::Target(1));
+    assert!(rt; verdict_with(rt.alloc(), &[1, 0]) == Some(Verdict::Usable));
+    assert!(rt; verdict_with(rt.alloc(), &[0, 2]) == Some(Verdict::Target(1)));
 }
 
 /// The window of two ways under XOR.
-fn two_by_xor(rt: &impl Abort, alloc: Global) -> Window {
+fn two_by_xor(alloc: Global) -> Option<Window> {
     let row = xor(BASE, 0x1_0000_0000, 0, &[0, 1], Verdict::Usable);
-    only(rt, alloc, row, None)
+    only(alloc, row, None)
 }
 
 fn is_two_by_xor(window: &Window) -> bool {
-    window.index() == 0
-        && window.base() == BASE
-        && window.size() == 0x1_0000_0000
-        && window.ways() == 2
-        && window.gran() == 0
-        && window.xor()
-        && window.maps() == [0x40_4100, 0, 0, 0].as_slice()
+    let range = (window.index(), window.base(), window.size());
+    let codes = (window.ways(), window.gran(), window.xor());
+    range == (0, BASE, 0x1_0000_0000)
+        && codes == (2, 0, true)
         && window.restrict() == 0x000e
+        && window.maps() == [0x40_4100, 0, 0, 0].as_slice()
         && window.targets() == [0, 1].as_slice()
 }
 
 #[test]
 fn keeps_fields(rt: HostRuntime) {
-    assert!(rt; is_two_by_xor(&two_by_xor(&rt, rt.alloc())));
+    let window = two_by_xor(rt.alloc()).expect(&rt, "a window");
+    assert!(rt; is_two_by_xor(&window));
 }
 
-/// An address has this position in the only window of a table.
-fn is_position(rt: &impl Abort, alloc: Global, row: Row, h: u64, position: Option<u32>) {
-    let window = only(rt, alloc, row, None);
-    assert!(rt; slot_of(&window, h) == position);
+/// Whether an address has this position in the only window of a table.
+fn is_position(alloc: Global, row: Row, h: u64, position: Option<u32>) -> bool {
+    match only(alloc, row, None) {
+        Some(window) => slot_of(&window, h) == position,
+        None => false,
+    }
 }
 
 /// Positions of two, three and six ways, without XOR and with it.
@@ -206,21 +212,21 @@ fn gives_positions(rt: HostRuntime) {
     let three = plain(BASE, 0x6000_0000, &[0, 1, 2], Verdict::Usable);
     let six = plain(BASE, 0xc000_0000, &[0, 1, 2, 3, 4, 5], Verdict::Usable);
     let six_xor = xor(BASE, 0x6000_0000, 0, &[0, 1, 2, 3, 4, 5], Verdict::Usable);
-    is_position(&rt, rt.alloc(), two, 0x1_0000_0000, Some(0));
-    is_position(&rt, rt.alloc(), two, 0x1_ffff_ffff, Some(1));
-    is_position(&rt, rt.alloc(), two, 0x2_0000_0000, None);
-    is_position(&rt, rt.alloc(), two_xor, 0x1_0000_4000, Some(1));
-    is_position(&rt, rt.alloc(), three, 0x1_2fff_ffff, Some(2));
-    is_position(&rt, rt.alloc(), three, 0x1_0000_0400, Some(1));
-    is_position(&rt, rt.alloc(), three, 0x1_0000_0600, Some(0));
-    is_position(&rt, rt.alloc(), six, 0x1_0000_0b00, Some(5));
-    is_position(&rt, rt.alloc(), six_xor, 0x1_0000_4200, Some(1));
+    assert!(rt; is_position(rt.alloc(), two, 0x1_0000_0000, Some(0)));
+    assert!(rt; is_position(rt.alloc(), two, 0x1_ffff_ffff, Some(1)));
+    assert!(rt; is_position(rt.alloc(), two, 0x2_0000_0000, None));
+    assert!(rt; is_position(rt.alloc(), two_xor, 0x1_0000_4000, Some(1)));
+    assert!(rt; is_position(rt.alloc(), three, 0x1_2fff_ffff, Some(2)));
+    assert!(rt; is_position(rt.alloc(), three, 0x1_0000_0400, Some(1)));
+    assert!(rt; is_position(rt.alloc(), three, 0x1_0000_0600, Some(0)));
+    assert!(rt; is_position(rt.alloc(), six, 0x1_0000_0b00, Some(5)));
+    assert!(rt; is_position(rt.alloc(), six_xor, 0x1_0000_4200, Some(1)));
 }
 
 /// The raw bits with which an address has these parities.
 #[test]
 fn undoes_parities(rt: HostRuntime) {
-    let window = two_by_xor(&rt, rt.alloc());
+    let window = two_by_xor(rt.alloc()).expect(&rt, "a window");
     assert!(rt; window.verdict() == Verdict::Usable && window.ways() == 2);
     assert!(rt; unxor(&window, 0x1_0000_4000, 1) == 0 && unxor(&window, 0x1_0000_4000, 0) == 1);
 }

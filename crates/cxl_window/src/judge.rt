@@ -1,9 +1,9 @@
-ghost use Rattle.std.specs.Prelude.{◌≡◌, ◌≤◌, ℕ, length, IfOk, find, unwrap_or, []};
-ghost use Rattle.std.specs.Option.{option_copied};
+ghost use Rattle.std.specs.Prelude.{◌≡◌, ◌≤◌, ◌==◌, ◌&&◌, ℕ, length, IfOk, find, unwrap_or, [], false};
+ghost use Rattle.std.specs.Option.{option_copied, option_map_or};
 ghost use Rattle.std.specs.List.{filter_map};
 ghost use Rattle.cxl_window.specs.Fields.{IsWindow};
 ghost use Rattle.cxl_window.specs.Judging.{is_no_bridge, tables_behind};
-ghost use Rattle.cxl_window.specs.Windows.{is_missing, topology_has, cxims_in, lacks_maps, maps_of};
+ghost use Rattle.cxl_window.specs.Windows.{is_cxl2_bridge, is_missing, topology_has, cxims_in, lacks_maps, maps_of};
 
 use crate::cfmws::{
     cfmws_ways, first_overlapped, first_repeat, is_aligned, is_too_high, is_uneven,
@@ -134,14 +134,25 @@ fn bridges_of(alloc: Global, records: &[Record], uids: Option<&[u32]>) -> Result
 {
     let mut bridges = Vec::new(alloc);
     for record in records {
-        if let Record::Chbs(chbs) = record
-            && chbs.version == 1
-            && topology_has(uids, chbs.uid)
-        {
-            bridges.push(chbs.uid)?;
+        if let Some(uid) = bridge_in(record, uids) {
+            bridges.push(uid)?;
         }
     }
     Ok(bridges)
+}
+
+/// The UID of a record that is a CXL 2.0 bridge, one of the topology's where there is one.
+fn bridge_in(item: &Record, uids: Option<&[u32]>) -> Option<u32>
+    ensures { (uid : ℕ) → option_map_or (λ own. own == uid) result false
+        ≡ (is_cxl2_bridge uid item.now && topology_has (option_copied uids.entry) uid) }
+{
+    if let Record::Chbs(chbs) = item
+        && chbs.version == 1
+        && topology_has(uids, chbs.uid)
+    {
+        return Some(chbs.uid);
+    }
+    None
 }
 
 /// Whether the topology has a bridge of this UID, where there is a topology.
