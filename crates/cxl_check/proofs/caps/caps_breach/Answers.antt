@@ -22,7 +22,7 @@ loop-node-preserved c =
     let s = system_of c.args.image.now c.args.topo.now c.args.windows.now in
     let count : length c.args.image.now ≡ length c.args.topo.now.nodes = omega (arith, c.if-count.false, c.count.ensures.count, c.count-2.ensures.count) in
     λ n i. below_more (λ (m : ℕ). breaks_caps s m i ≡ false) c.loop-node.node (λ m less. c.loop-node.invariant m i less)
-      (word_kept s count c.loop-node.node i c.block.result.now c.node.result.now c.block.ensures.value c.node.ensures (sym c.cap.ensures.value ∙ c.if-cap-node.false)) n
+    (word_kept s count c.loop-node.node i c.block.result.now c.node.result.now c.block.ensures.value c.node.ensures (sym c.cap.ensures.value ∙ c.if-cap-node.false)) n
 
 pub returns-then-cap-node-clause-first : goal.returns-then-cap-node-clause-first
 returns-then-cap-node-clause-first c =

@@ -19,6 +19,15 @@ choose-requires-clause-ways c =
     let tree : KnownTree s.nodes = record { tree = c.count-count.ensures.tree; laws = c.tree_laws.ensures.laws s.nodes c.count-count.ensures.tree } in
     has_ways s tree c.args.request.now c.requires.ready.named c.requires.fits
 
+pub choose-requires-clause-sound : goal.choose-requires-clause-sound
+choose-requires-clause-sound c = record { ways = c.requires.early.ways; low = c.requires.early.size.low }
+
+pub bounds-windows-i : goal.bounds-windows-i
+bounds-windows-i c =
+    let found : IsChoice (system_of c.args.image.now c.args.topo.now c.args.windows.now) c.args.request.now (Found c.in-Found.i c.in-Found.base) =
+    subst (IsChoice (system_of c.args.image.now c.args.topo.now c.args.windows.now) c.args.request.now) c.in-Found.is c.in-Ok.ensures in
+    slice_get_within c.args.windows.now c.in-Found.i found.0 found.1
+
 pub planned-requires : goal.planned-requires
 planned-requires c =
     let s = system_of c.args.image.now c.args.topo.now c.args.windows.now in

@@ -19,7 +19,7 @@ returns-clause-some c =
       index = c.index.ensures.value;
       holds = sym c.slot_of.ensures ∙ c.in_ok-position.was;
       uid = subst (λ (targets : List ℕ). slice_get targets position ≡ Some (get_or uids position 0)) c.targets.ensures.value
-        (slice_get-get_or uids position 0 (bounds-targets-position c));
+          (slice_get-get_or uids position 0 (bounds-targets-position c));
     }
 
 pub returns-in_err-position-clause-none : goal.returns-in_err-position-clause-none

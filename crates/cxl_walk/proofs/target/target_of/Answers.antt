@@ -21,11 +21,13 @@ loop-window-init c = λ k less. absurd (omega (arith, less))
 
 pub returns-in-Some-clause-some : goal.returns-in-Some-clause-some
 returns-in-Some-clause-some c =
-    let there = slice_get_read c.args.windows.now _ c.loop-window.window-index c.window-item.result refl c.loop-window-test.true c.window-item.is in
-    (c.window-item.result, record {
-      there = subst (λ (k : ℕ). slice_get c.args.windows.now k ≡ Some c.window-item.result) (sym (c.requires c.loop-window.window-index c.window-item.result there)) there;
-      inside = c.in-Some.ensures.some;
-    })
+    let there = slice_get_read c.args.windows.now _ c.loop-window.window-index c.window-item.result refl c.loop-window-test.true c.window-item.is in (
+      c.window-item.result,
+      record {
+        there = subst (λ (k : ℕ). slice_get c.args.windows.now k ≡ Some c.window-item.result) (sym (c.requires c.loop-window.window-index c.window-item.result there)) there;
+        inside = c.in-Some.ensures.some;
+      },
+    )
 
 pub returns-clause-none : goal.returns-clause-none
 returns-clause-none c = λ i w there.
