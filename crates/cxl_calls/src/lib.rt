@@ -3,4 +3,6 @@
 #![tactic(auto)]
 
 #[cfg(test)]
+mod reply;
+#[cfg(test)]
 mod script;
