@@ -19,6 +19,10 @@ mod num;
 #[cfg(test)]
 mod pool;
 #[cfg(test)]
+mod reply;
+#[cfg(test)]
+mod script;
+#[cfg(test)]
 mod span;
 #[cfg(test)]
 mod topo;

@@ -30,6 +30,3 @@ pub use told::{
     ShownRow, Sizes, Spot, Spread, Upped, Via,
 };
 pub use words::{put_address, put_gran};
-
-#[cfg(test)]
-mod tests;

@@ -17,6 +17,3 @@ pub use cxl_io::LINE_LIMIT;
 pub use fault::{BadLine, LineFault, Why};
 pub use laws::stated_granularities_are_codes;
 pub use line::read_command;
-
-#[cfg(test)]
-mod tests;

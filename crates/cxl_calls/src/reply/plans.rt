@@ -1,0 +1,179 @@
+//! Plans: why there is none, and what one has.
+
+ghost use Rattle.std.specs.Prelude.{◌≡◌, All, length, IsTrue};
+ghost use Rattle.cxl_reply.specs.Plans.{IsToldPlan};
+
+use super::regions::places;
+use super::told::{is_told_found, is_told_plan};
+use super::*;
+use cxl_enc::MemKind;
+use cxl_model::{Found, Place, Plan, PlanFault, Reason, Room, Row, SpanFault};
+use cxl_regs::Decoder;
+use cxl_reply::{FixedList, put_breach, put_found, put_plan};
+
+#[test]
+fn refused_plans(rt: HostRuntime) {
+    let room = Room {
+        start: 0x5000_0000,
+        limit: 0x8000_0000,
+    };
+    let rows = [
+        (Reply::Refused(PlanFault::Repeat(6)), "refused repeat e0\n"),
+        (Reply::Refused(PlanFault::Ways(5)), "refused ways 5\n"),
+        (Reply::Refused(PlanFault::Size), "refused size\n"),
+        (Reply::Refused(PlanFault::Uneven(1)), "refused uneven hb1\n"),
+        (
+            Reply::Refused(PlanFault::NoDecoder(0)),
+            "refused no-decoder hb0\n",
+        ),
+        (
+            Reply::Refused(PlanFault::Span(6, SpanFault::PastRam(0x5000_0000))),
+            "refused span e0 past-ram 0x50000000\n",
+        ),
+        (
+            Reply::Refused(PlanFault::Span(6, SpanFault::NoRoom(room))),
+            "refused span e0 no-room 0x50000000 0x80000000\n",
+        ),
+    ];
+    for (reply, want) in &rows {
+        prints(&rt, reply, want);
+    }
+}
+
+const REASONS: [Reason; 8] = [
+    Reason::Unusable,
+    Reason::Kind,
+    Reason::Fixed,
+    Reason::Bridges,
+    Reason::Gran,
+    Reason::Select(0),
+    Reason::WaysCap(7),
+    Reason::NoBase(Room {
+        start: 0x2_0000_0000,
+        limit: 0x2_0000_0000,
+    }),
+];
+
+#[test]
+fn refused_windows(rt: HostRuntime) {
+    let reasons = REASONS.to_vec(rt.alloc()).expect(&rt, "memory");
+    let refused = PlanFault::NoWindow(FixedList::new(reasons));
+    let want = "refused no-window
+window 0 unusable
+window 1 kind
+window 2 fixed
+window 3 bridges
+window 4 gran
+window 5 select hb0
+window 6 ways-cap e1
+window 7 no-base 0x200000000 0x200000000
+";
+    prints(&rt, &Reply::Refused(refused), want);
+}
+
+/// A decoder of a plan, by its node, its code of ways, its granularity code and its tail.
+fn planned(row: &(u32, u8, u8, u64)) -> Row {
+    Row {
+        node: row.0,
+        index: 0,
+        decoder: Decoder {
+            ways: row.1,
+            gran: row.2,
+            tail: row.3,
+            ..Decoder::RESET
+        },
+    }
+}
+
+fn planned_rows(rt: &(impl Abort + AllocGlobal), rows: &[(u32, u8, u8, u64)]) -> FixedList<Row> {
+    let mut list = Vec::new(rt.alloc());
+    for row in rows {
+        list.push(planned(row)).expect(rt, "memory");
+    }
+    FixedList::new(list)
+}
+
+const SPANS: [Place; 2] = [
+    Place {
+        endpoint: 6,
+        start: 0,
+    },
+    Place {
+        endpoint: 7,
+        start: 0,
+    },
+];
+
+fn two_ways(rt: &(impl Abort + AllocGlobal)) -> Found {
+    Found {
+        base: 0x1_0000_0000,
+        size: 0x2000_0000,
+        window: 0,
+        gran: 0,
+        ways: 2,
+        kind: MemKind::Ram,
+        spans: places(rt, &SPANS),
+    }
+}
+
+/// The last row but one is of a port with two ways.
+fn plan(rt: &(impl Abort + AllocGlobal)) -> Plan {
+    let rows = [
+        (0, 0, 0, 0),
+        (1, 1, 1, 0x0300),
+        (6, 1, 0, 0),
+        (7, 9, 6, 0x3000_0000),
+    ];
+    Plan {
+        name: name(rt, "r0"),
+        found: two_ways(rt),
+        rows: planned_rows(rt, &rows),
+    }
+}
+
+fn plan_text(rt: &(impl Abort + AllocGlobal), topo: &Topo, plan: &Plan) -> Vec<u8>
+    requires { IsToldPlan topo.now.nodes plan.now }
+{
+    let mut text = Vec::new(rt.alloc());
+    put_plan(plan, topo, &mut text).expect(rt, "memory");
+    text
+}
+
+fn is_planned(rt: &(impl Abort + AllocGlobal), topo: &Topo, plan: &Plan, want: &str) -> bool
+    requires { length topo.now.nodes ≡ 11 }
+{
+    is_told_plan(plan, topo) && plan_text(rt, topo, plan).as_slice() == want.as_bytes()
+}
+
+#[test]
+fn planned_region(rt: HostRuntime) {
+    let want = "plan r0 ram window 0 base 0x100000000 size 0x20000000 gran 256 ways 2
+row hb0 0 ways 1 gran 256 targets 0
+row hb1 0 ways 2 gran 512 targets 0,3
+row e0 0 ways 2 gran 256 skip 0x0
+row e1 0 ways 6 gran 16384 skip 0x30000000
+";
+    assert!(rt; is_planned(&rt, &topology(&rt), &plan(&rt), want));
+}
+
+/// A region of an image, and the rule that the image breaks.
+fn image_text(rt: &(impl Abort + AllocGlobal), topo: &Topo, found: &Found) -> Vec<u8>
+    requires { length topo.now.nodes ≡ 11 }
+{
+    let mut text = Vec::new(rt.alloc());
+    assert!(rt; is_told_found(found, topo));
+    put_found(found, topo, &mut text).expect(rt, "memory");
+    put_breach(9, 0, 0, topo, &mut text).expect(rt, "memory");
+    text
+}
+
+#[test]
+fn checked_image(rt: HostRuntime) {
+    let text = image_text(&rt, &topology(&rt), &two_ways(&rt));
+    let want = "region 0x100000000 size 0x20000000 window 0 gran 256 ways 2 ram
+slot 0 e0 0x0
+slot 1 e1 0x0
+breach K9 hb0 0
+";
+    assert!(rt; text.as_slice() == want.as_bytes());
+}
