@@ -10,6 +10,3 @@ pub use failing::FailingBus;
 pub use regs::Regs;
 pub use sent::Sent;
 pub use sim::SimBus;
-
-#[cfg(test)]
-mod tests;

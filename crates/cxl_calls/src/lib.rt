@@ -3,6 +3,8 @@
 #![tactic(auto)]
 
 #[cfg(test)]
+mod bus;
+#[cfg(test)]
 mod cedt;
 #[cfg(test)]
 mod common;
@@ -11,13 +13,19 @@ mod deal;
 #[cfg(test)]
 mod enc;
 #[cfg(test)]
+mod image;
+#[cfg(test)]
 mod io;
 #[cfg(test)]
 mod media;
 #[cfg(test)]
 mod num;
 #[cfg(test)]
+mod poison;
+#[cfg(test)]
 mod pool;
+#[cfg(test)]
+mod regs;
 #[cfg(test)]
 mod reply;
 #[cfg(test)]
@@ -30,3 +38,5 @@ mod topo;
 mod topofile;
 #[cfg(test)]
 mod window;
+#[cfg(test)]
+mod worked;

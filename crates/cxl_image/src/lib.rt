@@ -15,6 +15,3 @@ pub use image::Image;
 pub use laws::{image_laws, one_image_reading};
 pub use reading::read_image;
 pub use writing::write_image;
-
-#[cfg(test)]
-mod tests;

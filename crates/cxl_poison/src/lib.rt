@@ -17,6 +17,3 @@ pub use laws::{
 };
 pub use list::read_list;
 pub use touching::pieces;
-
-#[cfg(test)]
-mod tests;

@@ -23,6 +23,3 @@ pub use offsets::{
 pub use reading::Range;
 pub use rules::{breaks_order, breaks_rise, codes_ok, decoder_count, select_ok};
 pub use words::{decoder_of, words_of, words_stand_for_decoder};
-
-#[cfg(test)]
-mod tests;

@@ -21,6 +21,3 @@ pub use layout_examples::{
 pub use plan_examples::{legal_plan_on_examples, stated_rows_on_examples};
 pub use range_examples::{extents_on_examples, spreads_on_examples};
 pub use region_examples::{changes_on_examples, endpoints_on_examples, spans_on_examples};
-
-#[cfg(test)]
-mod tests;

@@ -1,6 +1,11 @@
-use super::*;
-use crate::CommitRule::{Codes, NotEnabled, Order, Rise, Select, ZeroSize};
-use crate::Effect::{Committed, Dropped, NotCommitted, Released, Written};
+use cxl_regs::CommitRule::{Codes, NotEnabled, Order, Rise, Select, ZeroSize};
+use cxl_regs::Effect::{Committed, Dropped, NotCommitted, Released, Written};
+use cxl_regs::{
+    BASE_LOW, Block, CONTROL, Decoder, Effect, Range, TAIL_HIGH, breaks_order, breaks_rise,
+    codes_ok, decoder_of, offset_of, select_ok, words_of, words_stand_for_decoder, write_laws,
+    writes_keep_places,
+};
+use std::alloc::Global;
 use std::process::Abort;
 use std::test::*;
 
@@ -29,9 +34,13 @@ fn carry_out(rt: &impl Abort, block: &mut Block, cases: &[Case]) {
     }
 }
 
+fn endpoint(rt: &impl Abort, alloc: Global) -> Block {
+    Block::new(alloc, 0x1b02, true).expect(rt, "memory")
+}
+
 #[test]
-fn writes_to_an_endpoint(rt: HostRuntime) -> Result<(), Fail> {
-    let mut block = Block::new(rt.alloc(), 0x1b02, true)?;
+fn writes_to_an_endpoint(rt: HostRuntime) {
+    let mut block = endpoint(&rt, rt.alloc());
     let cases = [
         write(0x20, 0x1200, NotCommitted(NotEnabled), 0x1a00),
         write(0x04, 0x2, Written, 0x2),
@@ -51,52 +60,69 @@ fn writes_to_an_endpoint(rt: HostRuntime) -> Result<(), Fail> {
         write(0x04, 0x0, Dropped, 0x2),
     ];
     carry_out(&rt, &mut block, &cases);
-    Ok(())
 }
 
 #[test]
-fn writes_to_a_port(rt: HostRuntime) -> Result<(), Fail> {
-    let mut block = Block::new(rt.alloc(), 0x382, false)?;
+fn writes_to_a_port(rt: HostRuntime) {
+    let mut block = Block::new(rt.alloc(), 0x382, false).expect(&rt, "memory");
     let cases = [
         write(0x04, 0x2, Dropped, 0x0),
         write(0x20, 0x1200, NotCommitted(ZeroSize), 0x1a00),
     ];
     carry_out(&rt, &mut block, &cases);
-    Ok(())
+}
+
+fn reads(rt: &impl Abort, block: &Block, off: u32, word: Option<u32>) {
+    assert_eq!(rt; block.read32(off), word);
 }
 
 #[test]
-fn a_block_and_its_words(rt: HostRuntime) -> Result<(), Fail> {
-    let mut block = Block::new(rt.alloc(), 0x1b02, true)?;
+fn a_block_after_reset(rt: HostRuntime) {
+    let block = endpoint(&rt, rt.alloc());
     assert_eq!(rt; block.count(), 4);
     assert_eq!(rt; block.cap(), 0x1b02);
     assert!(rt; block.endpoint() && !block.enabled());
-    assert_eq!(rt; block.read32(0x90), None);
-    assert_eq!(rt; block.read32(0x8e), None);
-    assert_eq!(rt; block.read32(0x8c), Some(0));
-    let enabling = [
+    reads(&rt, &block, 0x90, None);
+    reads(&rt, &block, 0x8e, None);
+    reads(&rt, &block, 0x8c, Some(0));
+}
+
+/// An endpoint's block with its first decoder committed, as a copy.
+fn committed(rt: &impl Abort, alloc: Global) -> Block {
+    let mut block = endpoint(rt, alloc);
+    let cases = [
         write(0x04, 0x2, Written, 0x2),
         write(0x1c, 0x1, Written, 0x1),
-    ];
-    carry_out(&rt, &mut block, &enabling);
-    let committing = [
         write(0x18, 0x4000_0000, Written, 0x4000_0000),
         write(0x20, 0x1210, Committed, 0x1610),
     ];
-    carry_out(&rt, &mut block, &committing);
-    let copy = block.copy(rt.alloc())?;
-    assert!(rt; copy.enabled());
-    assert_eq!(rt; copy.committed(), 1);
-    let decoder = copy.decoder(0);
+    carry_out(rt, &mut block, &cases);
+    block.copy(alloc).expect(rt, "memory")
+}
+
+#[test]
+fn a_block_and_its_words(rt: HostRuntime) {
+    let block = committed(&rt, rt.alloc());
+    assert!(rt; block.enabled());
+    assert_eq!(rt; block.committed(), 1);
+    let decoder = block.decoder(0);
     let words = words_of(&decoder);
     assert_eq!(rt; words, [0, 0, 0x4000_0000, 1, 0x1610, 0, 0, 0]);
+    assert_eq!(rt; decoder_of(&words, true), decoder);
+}
+
+#[test]
+fn a_block_of_one_decoder(rt: HostRuntime) {
+    let decoders = Vec::from_slice(rt.alloc(), &[Decoder::RESET]).expect(&rt, "memory");
+    let block = Block::with_decoders(0x1b00, true, false, decoders);
+    reads(&rt, &block, 0x30, None);
+}
+
+#[test]
+fn laws() {
     words_stand_for_decoder();
     write_laws();
     writes_keep_places();
-    assert_eq!(rt; decoder_of(&words, true), decoder);
-    let whole = Block::with_decoders(0x1b00, true, false, vec![in rt.alloc(); Decoder::RESET]?);
-    assert_eq!(rt; whole.read32(0x30), None);
-    Ok(())
 }
 
 #[test]
@@ -112,36 +138,42 @@ fn codes_and_select_bits(rt: HostRuntime) {
 }
 
 /// A port's decoder of two ways at 512 bytes over 1 TiB.
+const PORT: Decoder = Decoder {
+    base: 0x10_0000_0000,
+    size: 0x100_0000_0000,
+    ways: 1,
+    gran: 1,
+    committed: true,
+    tail: 0x0201,
+    ..Decoder::RESET
+};
+
 #[test]
-fn a_decoder_of_a_port(rt: HostRuntime) {
-    let port = Decoder {
-        base: 0x10_0000_0000,
-        size: 0x100_0000_0000,
-        ways: 1,
-        gran: 1,
-        committed: true,
-        tail: 0x0201,
-        ..Decoder::RESET
-    };
+fn the_range_of_a_port(rt: HostRuntime) {
     let range = Range {
         base: 0x10_0000_0000,
         size: 0x100_0000_0000,
     };
-    assert_eq!(rt; port.interleave_ways(), 2);
-    assert_eq!(rt; port.interleave_granularity(), 512);
-    assert_eq!(rt; port.select_bits(), 1);
-    assert_eq!(rt; port.range(), range);
-    assert!(rt; port.has_range(&range));
+    assert_eq!(rt; PORT.range(), range);
+    assert!(rt; PORT.has_range(&range));
     assert!(rt; !Decoder::RESET.has_range(&Decoder::RESET.range()));
-    assert!(rt; port.holds_address(0x10f_ffff_ffff));
-    assert!(rt; !port.holds_address(0x110_0000_0000));
-    assert_eq!(rt; port.entry_of(0x10f_ffff_ffff), 1);
-    assert_eq!(rt; port.entry_of(0x10_0000_05ff), 0);
-    assert_eq!(rt; port.entry_at(0), 1);
-    assert_eq!(rt; port.entry_at(1), 2);
-    assert_eq!(rt; port.entry_at(8), 0);
+    assert!(rt; PORT.holds_address(0x10f_ffff_ffff));
+    assert!(rt; !PORT.holds_address(0x110_0000_0000));
     assert!(rt; breaks_order(Some(Decoder::RESET)));
-    assert!(rt; breaks_rise(Some(port), &port));
+    assert!(rt; breaks_rise(Some(PORT), &PORT));
+}
+
+#[test]
+fn the_entries_of_a_port(rt: HostRuntime) {
+    assert_eq!(rt; PORT.interleave_ways(), 2);
+    assert_eq!(rt; PORT.interleave_granularity(), 512);
+    assert_eq!(rt; PORT.select_bits(), 1);
+    for (h, entry) in [(0x10f_ffff_ffff, 1), (0x10_0000_05ff, 0)] {
+        assert_eq!(rt; PORT.entry_of(h), entry, "of {h}");
+    }
+    for (entry, port) in [(0, 1), (1, 2), (8, 0)] {
+        assert_eq!(rt; PORT.entry_at(entry), port, "at {entry}");
+    }
 }
 
 /// An endpoint's decoder of six ways, and one with a code that stands for no ways.

@@ -1,0 +1,268 @@
+use cxl_image::{Image, ImageFault, image_laws, one_image_reading, read_image, write_image};
+use cxl_regs::{Block, Decoder, Effect};
+use cxl_topo::{Capacity, Name, Node, NodeKind, Parent, Topo};
+use std::alloc::Global;
+use std::process::Abort;
+use std::test::*;
+
+const ENDPOINT_CAP: u32 = 0x1b02;
+
+fn bridge(rt: &impl Abort, name: &[u8], uid: u32, forwards: bool) -> Node {
+    Node {
+        name: Name::read(name).expect(rt, "a name"),
+        kind: NodeKind::Bridge(uid),
+        parent: None,
+        cap: if forwards { 0x10 } else { 0x382 },
+        forwards,
+    }
+}
+
+fn endpoint(rt: &impl Abort, name: &[u8], bridge: u32) -> Node {
+    let two_gib = Capacity {
+        ram: 0x8000_0000,
+        pmem: 0,
+    };
+    Node {
+        name: Name::read(name).expect(rt, "a name"),
+        kind: NodeKind::Endpoint(two_gib),
+        parent: Some(Parent {
+            node: bridge,
+            port: 0,
+        }),
+        cap: ENDPOINT_CAP,
+        forwards: false,
+    }
+}
+
+/// Two bridges with an endpoint each.
+pub(crate) fn topology(rt: &impl Abort, alloc: Global, forwards: bool) -> Topo {
+    let nodes = [
+        bridge(rt, b"hb0", 0, forwards),
+        bridge(rt, b"hb1", 1, forwards),
+        endpoint(rt, b"e0", 0),
+        endpoint(rt, b"e1", 1),
+    ];
+    let nodes = Vec::from_slice(alloc, &nodes).expect(rt, "memory");
+    Topo::new(alloc, nodes, 65_536)
+        .ok()
+        .expect(rt, "a legal tree")
+}
+
+/// The image of a topology after reset.
+pub(crate) fn after_reset(rt: &impl Abort, alloc: Global, topo: &Topo) -> Image {
+    Image::new(alloc, topo).expect(rt, "memory")
+}
+
+/// The bytes of an image's file.
+pub(crate) fn text_of(rt: &impl Abort, alloc: Global, image: &Image) -> Vec<u8> {
+    write_image(alloc, image).expect(rt, "memory")
+}
+
+fn reset_file(rt: &impl Abort, alloc: Global, topo: &Topo) -> Vec<u8> {
+    let image = after_reset(rt, alloc, topo);
+    text_of(rt, alloc, &image)
+}
+
+/// The file with the byte at a place changed.
+fn with_byte(rt: &impl Abort, alloc: Global, bytes: &[u8], at: usize, byte: u8) -> Vec<u8> {
+    let mut changed = bytes.to_vec(alloc).expect(rt, "memory");
+    *changed.get_mut(at).expect(rt, "a place in the file") = byte;
+    changed
+}
+
+fn read(rt: &impl Abort, alloc: Global, topo: &Topo, bytes: &[u8]) -> Image {
+    read_image(alloc, bytes, topo).ok().expect(rt, "an image")
+}
+
+/// The file with a byte changed is read, and written as these bytes.
+fn is_written(rt: &impl Abort, alloc: Global, topo: &Topo, bytes: &[u8], want: &[u8]) {
+    let image = read(rt, alloc, topo, bytes);
+    let text = text_of(rt, alloc, &image);
+    assert_eq!(rt; text.as_slice(), want);
+}
+
+fn is_refused(rt: &impl Abort, alloc: Global, topo: &Topo, bytes: &[u8], want: ImageFault) {
+    assert_eq!(rt; read_image(alloc, bytes, topo).err(), Some(want));
+}
+
+fn write(rt: &impl Abort, image: &mut Image, node: u32, off: u32, value: u32, effect: Effect) {
+    assert!(rt; node < image.count());
+    assert_eq!(rt; image.write32(node, off, value), effect);
+}
+
+fn block_of<'a>(rt: &impl Abort, image: &'a Image, node: u32) -> &'a Block {
+    assert!(rt; node < image.count());
+    image.block(node)
+}
+
+#[test]
+fn the_reset_image(rt: HostRuntime) {
+    let alloc = rt.alloc();
+    let topo = topology(&rt, alloc, false);
+    let image = after_reset(&rt, alloc, &topo);
+    assert_eq!(rt; image.count(), 4);
+    assert_eq!(rt; image.blocks().len(), 4);
+    assert_eq!(rt; block_of(&rt, &image, 3).cap(), ENDPOINT_CAP);
+}
+
+#[test]
+fn the_reset_file(rt: HostRuntime) {
+    let alloc = rt.alloc();
+    let topo = topology(&rt, alloc, false);
+    let bytes = reset_file(&rt, alloc, &topo);
+    assert_eq!(rt; bytes.len(), 588);
+    assert!(rt; bytes.starts_with(b"CXLHDM01\x04\x00\x00\x00\x82\x03\x00\x00"));
+    is_written(&rt, alloc, &topo, &bytes, &bytes);
+}
+
+#[test]
+fn the_file_of_forwarding_bridges(rt: HostRuntime) {
+    let topo = topology(&rt, rt.alloc(), true);
+    let bytes = reset_file(&rt, rt.alloc(), &topo);
+    assert_eq!(rt; bytes.len(), 396);
+}
+
+#[test]
+fn laws() {
+    one_image_reading();
+    image_laws();
+}
+
+/// The reset file with a byte changed is refused.
+fn is_refused_with(
+    rt: &impl Abort,
+    alloc: Global,
+    topo: &Topo,
+    whole: &[u8],
+    (at, byte, fault): (usize, u8, ImageFault),
+) {
+    let bytes = with_byte(rt, alloc, whole, at, byte);
+    is_refused(rt, alloc, topo, &bytes, fault);
+}
+
+#[test]
+fn first_faults(rt: HostRuntime) {
+    let alloc = rt.alloc();
+    let topo = topology(&rt, alloc, false);
+    let whole = reset_file(&rt, alloc, &topo);
+    let rows = [
+        (0, 0x63, ImageFault::Magic),
+        (7, 0x32, ImageFault::Magic),
+        (8, 0x05, ImageFault::Nodes(5)),
+        (11, 0x01, ImageFault::Nodes(0x0100_0004)),
+        (12, 0x83, ImageFault::Caps(0)),
+        (13, 0x0b, ImageFault::Caps(0)),
+        (157, 0x13, ImageFault::Caps(1)),
+        (444, 0x12, ImageFault::Caps(3)),
+    ];
+    for row in rows {
+        is_refused_with(&rt, alloc, &topo, &whole, row);
+    }
+}
+
+/// A number of nodes before a capability word, and that before what is cut.
+#[test]
+fn the_earlier_field_comes_first(rt: HostRuntime) {
+    let alloc = rt.alloc();
+    let topo = topology(&rt, alloc, false);
+    let whole = reset_file(&rt, alloc, &topo);
+    let other = with_byte(&rt, alloc, &whole, 12, 0);
+    is_refused_with(&rt, alloc, &topo, &other, (8, 5, ImageFault::Nodes(5)));
+    let cut = other.get(..20).expect(&rt, "a prefix");
+    is_refused(&rt, alloc, &topo, cut, ImageFault::Caps(0));
+}
+
+#[test]
+fn bytes_too_many_come_last(rt: HostRuntime) {
+    let alloc = rt.alloc();
+    let topo = topology(&rt, alloc, false);
+    let mut more = reset_file(&rt, alloc, &topo);
+    more.push(0).expect(&rt, "memory");
+    is_refused(&rt, alloc, &topo, &more, ImageFault::Trailing(588));
+}
+
+#[test]
+fn each_prefix_is_cut(rt: HostRuntime) {
+    let alloc = rt.alloc();
+    let topo = topology(&rt, alloc, false);
+    let whole = reset_file(&rt, alloc, &topo);
+    assert_eq!(rt; whole.len(), 588);
+    for n in 0..588_u32 {
+        let prefix = whole.get(..n as usize).expect(&rt, "a prefix");
+        is_refused(&rt, alloc, &topo, prefix, ImageFault::Cut(n));
+    }
+}
+
+/// The file with a byte changed is read as the reset image.
+fn is_dropped(rt: &impl Abort, alloc: Global, topo: &Topo, whole: &[u8], at: usize, byte: u8) {
+    let bytes = with_byte(rt, alloc, whole, at, byte);
+    is_written(rt, alloc, topo, &bytes, whole);
+}
+
+#[test]
+fn what_does_not_count_is_dropped(rt: HostRuntime) {
+    let alloc = rt.alloc();
+    let topo = topology(&rt, alloc, false);
+    let whole = reset_file(&rt, alloc, &topo);
+    // An unnamed bit of a capability word, a port's word 0x4, a word that is reserved, the low bits of a base, a bit
+    // of a control that is reserved, a decoder's last word, and the low bits of an endpoint's skip.
+    let rows = [
+        (13, 0x07),
+        (15, 0x80),
+        (16, 0x02),
+        (20, 0xff),
+        (28, 0xff),
+        (46, 0x01),
+        (56, 0xff),
+        (336, 0xff),
+    ];
+    for (at, byte) in rows {
+        is_dropped(&rt, alloc, &topo, &whole, at, byte);
+    }
+}
+
+/// The reset file with two bytes changed.
+fn with_bytes(
+    rt: &impl Abort,
+    alloc: Global,
+    topo: &Topo,
+    first: (usize, u8),
+    second: (usize, u8),
+) -> Vec<u8> {
+    let whole = reset_file(rt, alloc, topo);
+    let once = with_byte(rt, alloc, &whole, first.0, first.1);
+    with_byte(rt, alloc, &once, second.0, second.1)
+}
+
+fn decoder_of(rt: &impl Abort, image: &Image, node: u32, index: u8) -> Decoder {
+    let block = block_of(rt, image, node);
+    assert!(rt; index < block.count());
+    block.decoder(index)
+}
+
+/// A decoder that is committed behind one that is not: no writes lead to it, and a file may hold it.
+#[test]
+fn any_registers_are_read(rt: HostRuntime) {
+    let alloc = rt.alloc();
+    let topo = topology(&rt, alloc, false);
+    let bytes = with_bytes(&rt, alloc, &topo, (365, 0x14), (361, 0x20));
+    is_written(&rt, alloc, &topo, &bytes, &bytes);
+    let image = read(&rt, alloc, &topo, &bytes);
+    let decoder = decoder_of(&rt, &image, 2, 1);
+    assert!(rt; decoder.committed && decoder.host_only);
+    assert_eq!(rt; decoder.size, 0x2000_0000_0000);
+}
+
+#[test]
+fn writes_one_block(rt: HostRuntime) {
+    let alloc = rt.alloc();
+    let topo = topology(&rt, alloc, false);
+    let mut image = after_reset(&rt, alloc, &topo);
+    write(&rt, &mut image, 2, 0x04, 0x2, Effect::Written);
+    write(&rt, &mut image, 2, 0x18, 0x1234_5678, Effect::Written);
+    write(&rt, &mut image, 2, 0x08, 0x1, Effect::Dropped);
+    let copy = image.copy(alloc).expect(&rt, "memory");
+    // Enabled, and with the size.
+    let sized = with_bytes(&rt, alloc, &topo, (304, 0x02), (327, 0x10));
+    assert_eq!(rt; text_of(&rt, alloc, &copy), sized);
+}
