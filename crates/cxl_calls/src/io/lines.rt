@@ -56,7 +56,16 @@ fn long_text(rt: &(impl Abort + AllocGlobal), front: &str, letters: usize, rest:
 }
 
 /// A text, so many letters and a text, the read that fails or 0, what they give, and the end.
-const SOURCES: [(&str, usize, &str, u64, [Option<&str>; 4], Taken); 13] = [
+type Row = (
+    &'static str,
+    usize,
+    &'static str,
+    u64,
+    [Option<&'static str>; 4],
+    Taken,
+);
+
+const SOURCES: [Row; 13] = [
     // Lines that end with 0x0a, with 0x0d 0x0a and with the source.
     ("", 0, "", 0, [None; 4], Taken::End),
     ("\n", 0, "", 0, [Some(""), None, None, None], Taken::End),
@@ -158,12 +167,16 @@ fn gives(
     gives_lines(rt, reader(rt), &mut source, wanted, end);
 }
 
+fn all_give(rt: &(impl Abort + AllocGlobal), rows: &[Row]) {
+    for (front, letters, rest, fails, wanted, end) in rows {
+        let bytes = long_text(rt, *front, *letters, *rest);
+        gives(rt, bytes, *fails, wanted, *end);
+    }
+}
+
 #[test]
 fn lines(rt: HostRuntime) {
-    for (front, letters, rest, fails, wanted, end) in &SOURCES {
-        let bytes = long_text(&rt, *front, *letters, *rest);
-        gives(&rt, bytes, *fails, wanted, *end);
-    }
+    all_give(&rt, &SOURCES);
 }
 
 /// A reader of the system's interface, here over bytes in memory.
