@@ -8,7 +8,7 @@ use cxl_script::{Command, Create, LineFault, read_command};
 use std::alloc::Global;
 
 /// What the words of the command line ask for.
-#[derive(Debug, Drop)]
+#[derive(Drop)]
 pub(crate) enum Form<'a> {
     /// The window, position and bridge of a host address, by the table in a file.
     Route(&'a str, u64),

@@ -7,14 +7,14 @@ use cxl_io::{Sink, write_all};
 use std::marker::Model;
 
 /// What a command comes to in one piece of text: how the run ends, and what is written before.
-#[derive(Debug, Drop)]
+#[derive(Drop)]
 pub(crate) struct Outcome {
     status: Status,
     text: Text,
 }
 
 /// A text that is fixed takes no memory.
-#[derive(Debug, Drop)]
+#[derive(Drop)]
 enum Text {
     Fixed(&'static str),
     Made(Vec<u8>),

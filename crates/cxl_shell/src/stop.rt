@@ -6,7 +6,7 @@ use cxl_io::Memory;
 use std::alloc::AllocError;
 
 /// What ends a command early.
-#[derive(Debug, Drop)]
+#[derive(Drop)]
 pub(crate) enum Stop {
     /// The command comes to this, as where a file has no reading.
     Outcome(Outcome),
