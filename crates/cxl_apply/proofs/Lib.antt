@@ -14,4 +14,3 @@ pub mod Staying
 pub mod Shapes
 pub mod Again
 pub mod After
-mod TestRows

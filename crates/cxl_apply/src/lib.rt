@@ -15,6 +15,3 @@ pub use laws::{
     released_image_is_accepted, writes_are_taken_back,
 };
 pub use write::{Stepped, Write};
-
-#[cfg(test)]
-mod tests;

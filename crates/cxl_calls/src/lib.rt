@@ -3,6 +3,8 @@
 #![tactic(auto)]
 
 #[cfg(test)]
+mod apply;
+#[cfg(test)]
 mod bus;
 #[cfg(test)]
 mod cedt;
