@@ -1,35 +1,44 @@
-//! What the tests of all crates compare with and make their values by. An assertion costs its proof at each place where it
-//! stands, so it stands here once for each kind of value.
+//! What the tests of all crates compare with and make their values by. A test states its facts as `assert!(rt; ..)` with no
+//! message, which is the cheapest to prove, over functions that answer whether they hold.
 
-ghost use Rattle.std.specs.Prelude.{IsTrue};
-
+use std::alloc::Global;
 use std::fmt::{Debug, Display};
 use std::process::Abort;
-
-/// Ends the test where what was found is not what was wanted, and says where that was.
-pub fn same<T: PartialEq + Debug>(rt: &impl Abort, found: &T, want: &T, at: &str) {
-    assert!(rt; found == want, "{found:?} in place of {want:?} at {at}");
-}
-
-/// The same for bytes.
-pub fn same_bytes(rt: &impl Abort, found: &[u8], want: &[u8]) {
-    assert!(rt; found == want, "{found:?} in place of {want:?}");
-}
-
-/// Ends the test where this does not hold, so that it holds behind the call.
-pub fn holds(rt: &impl Abort, fact: bool, what: &str)
-    ensures { IsTrue fact }
-{
-    assert!(rt; fact, "not so: {what}");
-}
 
 /// A list of these.
 pub fn list<T: Copy>(rt: &(impl Abort + AllocGlobal), items: &[T]) -> Vec<T> {
     Vec::from_slice(rt.alloc(), items).expect(rt, "memory")
 }
 
-/// Ends the test where a value is printed otherwise.
-pub fn shows<T: Display>(rt: &(impl Abort + AllocGlobal), value: &T, want: &str) {
-    let text = format!(in rt.alloc(); "{value}").expect(rt, "memory");
-    same_bytes(rt, text.as_bytes(), want.as_bytes());
+/// A text, so many of one byte, and a text.
+pub fn repeated(
+    rt: &(impl Abort + AllocGlobal),
+    front: &str,
+    byte: u8,
+    count: usize,
+    rest: &str,
+) -> Vec<u8> {
+    let mut bytes = list(rt, front.as_bytes());
+    let len = bytes.len().saturating_add(count);
+    bytes.resize(len, byte).expect(rt, "memory");
+    bytes
+        .extend_from_slice(rest.as_bytes())
+        .expect(rt, "memory");
+    bytes
+}
+
+/// Whether this is a value's debug text.
+pub fn shows<T: Debug>(alloc: Global, value: &T, want: &str) -> bool {
+    match format!(in alloc; "{value:?}") {
+        Ok(text) => text.as_str() == want,
+        Err(_) => false,
+    }
+}
+
+/// Whether a value is printed so.
+pub fn prints<T: Display>(alloc: Global, value: &T, want: &str) -> bool {
+    match format!(in alloc; "{value}") {
+        Ok(text) => text.as_str() == want,
+        Err(_) => false,
+    }
 }

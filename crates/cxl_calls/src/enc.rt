@@ -1,82 +1,67 @@
 //! Codes, names, capability words, lists and calls that fail.
 
-use crate::common::{list, same, same_bytes};
+use crate::common::list;
 use cxl_enc::{
     Caps, Factors, FailingCalls, FixedList, Name, cap_word, code_of, gran_code, gran_of, legal_cap,
     split, ways_of,
 };
-use std::process::Abort;
+
+/// The codes of the CXL HDM decoder control, each with its number of ways and its granularity, where 0 is none.
+const CODES: [(u8, u8, u32); 12] = [
+    (0, 1, 256),
+    (1, 2, 512),
+    (2, 4, 1_024),
+    (3, 8, 2_048),
+    (4, 16, 4_096),
+    (5, 0, 8_192),
+    (6, 0, 16_384),
+    (7, 0, 0),
+    (8, 3, 0),
+    (9, 6, 0),
+    (10, 12, 0),
+    (11, 0, 0),
+];
 
 /// The number of ways of a code, and the code of that number.
-fn stands_for(rt: &impl Abort, code: u8, want: Option<u8>) {
-    same(rt, &ways_of(code), &want, "a code of ways");
-    if let Some(number) = want {
-        same(rt, &code_of(number), &Some(code), "a number of ways");
+fn stands_for(code: u8, ways: u8) -> bool {
+    if ways == 0 {
+        ways_of(code).is_none()
+    } else {
+        ways_of(code) == Some(ways) && code_of(ways) == Some(code)
     }
 }
 
-/// The ways of the CXL HDM decoder control, code by code.
-const WAYS: [(u8, Option<u8>); 12] = [
-    (0, Some(1)),
-    (1, Some(2)),
-    (2, Some(4)),
-    (3, Some(8)),
-    (4, Some(16)),
-    (5, None),
-    (6, None),
-    (7, None),
-    (8, Some(3)),
-    (9, Some(6)),
-    (10, Some(12)),
-    (11, None),
-];
+/// The granularity of a code, and the code of it.
+fn stands_for_bytes(code: u8, bytes: u32) -> bool {
+    if bytes == 0 {
+        gran_of(code).is_none()
+    } else {
+        gran_of(code) == Some(bytes) && gran_code(u64::from(bytes)) == Some(code)
+    }
+}
 
 #[test]
-fn ways(rt: HostRuntime) {
-    for (code, want) in &WAYS {
-        stands_for(&rt, *code, *want);
+fn codes(rt: HostRuntime) {
+    for (code, ways, bytes) in &CODES {
+        assert!(rt; stands_for(*code, *ways) && stands_for_bytes(*code, *bytes));
     }
 }
 
 #[test]
 fn five_and_twelve_ways(rt: HostRuntime) {
-    same(&rt, &code_of(5), &None, "five ways");
     let twelve = Factors {
         third: true,
         bits: 2,
     };
-    same(&rt, &split(12), &twelve, "twelve ways");
+    assert!(rt; split(12) == twelve && code_of(5).is_none() && gran_code(32_768).is_none());
 }
 
-/// The granularity of a code, and the code of it.
-fn stands_for_bytes(rt: &impl Abort, code: u8, bytes: u32) {
-    same(rt, &gran_of(code), &Some(bytes), "a code of granularity");
-    same(
-        rt,
-        &gran_code(u64::from(bytes)),
-        &Some(code),
-        "a granularity",
-    );
-}
-
-/// The granularities of the CXL HDM decoder control, code by code.
-const GRANULARITIES: [(u8, u32); 7] = [
-    (0, 256),
-    (1, 512),
-    (2, 1_024),
-    (3, 2_048),
-    (4, 4_096),
-    (5, 8_192),
-    (6, 16_384),
-];
-
-#[test]
-fn granularities(rt: HostRuntime) {
-    for (code, bytes) in &GRANULARITIES {
-        stands_for_bytes(&rt, *code, *bytes);
+/// A word is a name, which keeps its bytes.
+fn is_name(word: &str) -> bool {
+    match Name::read(word.as_bytes()) {
+        Some(name) => *name.bytes() == *word.as_bytes(),
+        None => false,
     }
-    same(&rt, &gran_of(7), &None, "code 7");
-    same(&rt, &gran_code(32_768), &None, "32 KiB");
 }
 
 const WORDS: [(&str, bool); 5] = [
@@ -87,21 +72,12 @@ const WORDS: [(&str, bool); 5] = [
     ("a-b", false),
 ];
 
-/// A word is a name, which keeps its bytes, or is none.
-fn is_name(rt: &impl Abort, word: &str, want: bool) {
-    match Name::read(word.as_bytes()) {
-        Some(name) if want => same_bytes(rt, name.bytes(), word.as_bytes()),
-        other => same(rt, &other.is_some(), &want, word),
-    }
-}
-
 #[test]
 fn names(rt: HostRuntime) {
     for (word, want) in &WORDS {
-        is_name(&rt, *word, *want);
+        assert!(rt; is_name(*word) == *want);
     }
-    let again = Name::read(b"e_15");
-    same(&rt, &Name::read(b"e_15"), &again, "a name read twice");
+    assert!(rt; Name::read(b"e_15") == Name::read(b"e_15"));
 }
 
 /// The words of a port and of an endpoint with all defaults.
@@ -121,43 +97,41 @@ fn capability_words(rt: HostRuntime) {
         ways16: true,
         ..port
     };
-    same(&rt, &cap_word(&port), &0x382, "a port");
-    same(&rt, &cap_word(&endpoint), &0x1b02, "an endpoint");
+    assert!(rt; cap_word(&port) == 0x382);
+    assert!(rt; cap_word(&endpoint) == 0x1b02);
 }
 
 /// Words, whether each is an endpoint's, and whether it is legal.
-const LEGAL: [(u32, bool, bool, &str); 7] = [
-    (0x382, false, true, "a port"),
-    (0x1b02, true, true, "an endpoint"),
-    (0x10, false, true, "one decoder, one target"),
-    (0x382, true, false, "an endpoint with targets"),
-    (0x1b02, false, false, "a port with no targets"),
-    (0x782, false, false, "bit 10"),
-    (0x386, false, false, "decoder count code 6"),
+const LEGAL: [(u32, bool, bool); 7] = [
+    // A port, an endpoint, and one decoder with one target.
+    (0x382, false, true),
+    (0x1b02, true, true),
+    (0x10, false, true),
+    // An endpoint with targets, a port with none, bit 10, and decoder count code 6.
+    (0x382, true, false),
+    (0x1b02, false, false),
+    (0x782, false, false),
+    (0x386, false, false),
 ];
 
 #[test]
 fn legal_words(rt: HostRuntime) {
-    for (word, endpoint, want, what) in &LEGAL {
-        same(&rt, &legal_cap(*word, *endpoint), want, *what);
+    for (word, endpoint, want) in &LEGAL {
+        assert!(rt; legal_cap(*word, *endpoint) == *want);
     }
 }
 
 #[test]
-fn lists(rt: HostRuntime) {
-    let items = FixedList::new(list(&rt, &[3, 1, 2]));
-    same_bytes(&rt, items.items(), &[3, 1, 2]);
+fn lists_and_calls(rt: HostRuntime) {
+    let items = FixedList::new(list(&rt, b"\x03\x01\x02"));
+    assert!(rt; items.items() == b"\x03\x01\x02".as_slice());
+    assert!(rt; begins(&mut FailingCalls::new(list(&rt, &[2, 4]))));
 }
 
 /// The second and the fourth call fail.
-fn begins(rt: &impl Abort, calls: &mut FailingCalls) {
-    for fails in [false, true, false, true, false] {
-        same(rt, &calls.begin(), &fails, "a call");
-    }
+fn begins(calls: &mut FailingCalls) -> bool {
+    let first = !calls.begin() && calls.begin();
+    let right = first && !calls.begin() && calls.begin() && !calls.begin();
     calls.fault();
-}
-
-#[test]
-fn calls_that_fail(rt: HostRuntime) {
-    begins(&rt, &mut FailingCalls::new(list(&rt, &[2, 4])));
+    right
 }

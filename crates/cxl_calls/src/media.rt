@@ -4,9 +4,8 @@ ghost use Rattle.std.specs.Prelude.{◌↔◌, IsTrue};
 ghost use Rattle.std.specs.FinMap.{contains_key};
 ghost use Rattle.cxl_media.specs.Blocks.{IsInOneBlock};
 
-use crate::common::{holds, same, same_bytes};
 use cxl_media::{At, Full, MapMedia, Media, Roll, SimMedia};
-use std::process::Abort;
+use std::alloc::Global;
 
 fn is_in_block(dpa: u64, len: usize) -> bool
     ensures { IsTrue result → IsInOneBlock dpa len }
@@ -71,7 +70,7 @@ fn answers<M: Media>(media: &mut M, row: Row) -> bool {
 }
 
 /// Over two frames: a block with bytes in two places.
-const BLOCK: [Row; 11] = [
+const CALLS: [Row; 30] = [
     (Call::Free, 0, 0, "", 2),
     (Call::Need, 7, 0, "", 1),
     (Call::Get, 7, 250, "\0\0\0\0\0\0", 0),
@@ -83,10 +82,7 @@ const BLOCK: [Row; 11] = [
     (Call::Free, 0, 0, "", 1),
     (Call::Get, 7, 0, "start\0", 0),
     (Call::Get, 7, 250, "abcdef", 0),
-];
-
-/// A second block, after which the media are full.
-const FULL: [Row; 7] = [
+    // A second block, after which the media are full.
     (Call::Put, 8, 0, "other", 0),
     (Call::Free, 0, 0, "", 0),
     (Call::PutFull, 7, 256, "late", 0),
@@ -94,10 +90,7 @@ const FULL: [Row; 7] = [
     (Call::Get, 7, 256, "\0\0\0\0", 0),
     (Call::Put, 8, 5, "!", 0),
     (Call::Get, 8, 0, "other!", 0),
-];
-
-/// The first block is scrubbed, and the second not.
-const SCRUBBED: [Row; 12] = [
+    // The first block is scrubbed, and the second not.
     (Call::Scrub, 7, 0, "", 256),
     (Call::Free, 0, 0, "", 1),
     (Call::Get, 7, 250, "\0\0\0\0\0\0", 0),
@@ -112,16 +105,13 @@ const SCRUBBED: [Row; 12] = [
     (Call::Get, 8, 0, "other!", 0),
 ];
 
-fn run<M: Media>(rt: &impl Abort, media: &mut M, rows: &[Row], part: &str) {
-    for row in rows {
-        holds(rt, answers(media, *row), part);
+fn answers_all<M: Media>(media: &mut M) -> bool {
+    for row in &CALLS {
+        if !answers(media, *row) {
+            return false;
+        }
     }
-}
-
-fn run_calls<M: Media>(rt: &impl Abort, media: &mut M) {
-    run(rt, media, &BLOCK, "a block");
-    run(rt, media, &FULL, "full media");
-    run(rt, media, &SCRUBBED, "scrubbed blocks");
+    true
 }
 
 /// Whether some place tells this block, over any media: going through all places finds each block of the map.
@@ -150,62 +140,53 @@ fn places_of<M: Roll>(media: &M, answer: Option<At>) -> u32 {
     count
 }
 
-/// One block is left.
-fn tells_one_block<M: Roll>(rt: &impl Abort, media: &M) {
-    same(rt, &is_told(media, 8, 0), &true, "block 0 of node 8");
-    same(rt, &is_told(media, 7, 1), &false, "block 1 of node 7");
-    let left = places_of(media, Some(At { ep: 8, block: 0 }));
-    same(rt, &left, &1, "places of the block");
-    let empty = media.places().saturating_sub(1);
-    same(rt, &places_of(media, None), &empty, "empty places");
+/// One block is left, block 0 of node 8, at one place, and all other places are empty.
+fn tells_one_block<M: Roll>(media: &M) -> bool {
+    is_told(media, 8, 0)
+        && !is_told(media, 7, 1)
+        && places_of(media, Some(At { ep: 8, block: 0 })) == 1
+        && places_of(media, None) == media.places().saturating_sub(1)
 }
 
 /// From two free frames on.
-fn gives_answers<M: Roll>(rt: &(impl Abort + AllocGlobal), media: &mut M) {
-    media.power_on(rt.alloc(), 2).expect(rt, "memory");
-    run_calls(rt, media);
-    tells_one_block(rt, media);
+fn answers_anew<M: Roll>(alloc: Global, media: &mut M) -> bool {
+    media.power_on(alloc, 2).is_ok() && answers_all(media) && tells_one_block(media)
 }
 
 /// Full before it is powered on, and then twice the same.
-fn gives_answers_twice<M: Roll>(rt: &(impl Abort + AllocGlobal), media: &mut M) {
-    same(rt, &puts(media, 7, 0, "x"), &Some(Err(Full)), "no frame");
-    gives_answers(rt, media);
-    gives_answers(rt, media);
+fn answers_twice<M: Roll>(alloc: Global, media: &mut M) -> bool {
+    puts(media, 7, 0, "x") == Some(Err(Full))
+        && answers_anew(alloc, media)
+        && answers_anew(alloc, media)
 }
 
 #[test]
 fn both_media_answer_alike(rt: HostRuntime) {
-    gives_answers_twice(&rt, &mut MapMedia::new(rt.alloc()));
-    gives_answers_twice(&rt, &mut SimMedia::new(rt.alloc()));
-}
-
-fn has_no_frame(rt: &impl Abort, media: &SimMedia, ep: u32, dpa: u64) {
-    holds(rt, media.frame(ep, dpa).is_none(), "no frame");
+    let alloc = rt.alloc();
+    assert!(rt; answers_twice(alloc, &mut MapMedia::new(alloc)));
+    assert!(rt; answers_twice(alloc, &mut SimMedia::new(alloc)));
 }
 
 /// The bytes of a block are those of its frame in the pool.
-fn stands_in_frame(rt: &impl Abort, media: &SimMedia) {
-    let frame = media.frame(7, 511).expect(rt, "the block's frame");
-    same_bytes(rt, &media.pool().bytes(frame)[44..49], b"bytes");
-    same(rt, &media.pool().free(), &2, "free frames");
-    same(rt, &media.pool().total(), &3, "all frames");
+fn stands_in_frame(media: &SimMedia) -> bool {
+    match media.frame(7, 511) {
+        Some(frame) => &media.pool().bytes(frame)[44..49] == b"bytes".as_slice(),
+        None => false,
+    }
 }
 
-fn puts_a_block<M: Media>(rt: &impl Abort, media: &mut M) {
-    let answer = puts(media, 7, 300, "bytes");
-    same(rt, &answer, &Some(Ok(())), "a block");
-}
-
-fn has_three_frames<M: Media>(rt: &(impl Abort + AllocGlobal), media: &mut M) {
-    media.power_on(rt.alloc(), 3).expect(rt, "memory");
+/// Of three frames one is taken.
+fn takes_a_frame(alloc: Global, media: &mut SimMedia) -> bool {
+    media.power_on(alloc, 3).is_ok()
+        && media.frame(7, 300).is_none()
+        && puts(media, 7, 300, "bytes") == Some(Ok(()))
+        && stands_in_frame(media)
+        && media.pool().free() == 2
+        && media.pool().total() == 3
 }
 
 #[test]
 fn blocks_stand_in_frames(rt: HostRuntime) {
-    let mut media = SimMedia::new(rt.alloc());
-    has_three_frames(&rt, &mut media);
-    has_no_frame(&rt, &media, 7, 300);
-    puts_a_block(&rt, &mut media);
-    stands_in_frame(&rt, &media);
+    let alloc = rt.alloc();
+    assert!(rt; takes_a_frame(alloc, &mut SimMedia::new(alloc)));
 }
