@@ -28,12 +28,9 @@ fn set_bits<R: Regs>(regs: &mut R, node: u32, off: u32, bits: u32) -> Result<u32
 fn blocks(rt: &impl Abort, alloc: Global, endpoints: &[bool]) -> Vec<Block> {
     let mut blocks = Vec::new(alloc);
     for endpoint in endpoints {
-        let block = if *endpoint {
-            Block::new(alloc, 0x1b02, true)
-        } else {
-            Block::new(alloc, 0x382, false)
-        };
-        blocks.push(block.expect(rt, "memory")).expect(rt, "memory");
+        let cap = if *endpoint { 0x1b02 } else { 0x382 };
+        let block = Block::new(alloc, cap, *endpoint).expect(rt, "memory");
+        blocks.push(block).expect(rt, "memory");
     }
     blocks
 }
@@ -50,66 +47,46 @@ fn is_place(blocks: &[Block], node: u32, off: u32) -> bool
 
 #[test]
 fn the_simulators_bus(rt: HostRuntime) {
-    let alloc = rt.alloc();
-    let blocks = blocks(&rt, alloc, &[true, false]);
-    let mut bus = SimBus::new(alloc);
-    bus.power_on(alloc, &blocks).expect(&rt, "memory");
+    let blocks = blocks(&rt, rt.alloc(), &[true, false]);
+    let mut bus = SimBus::new(rt.alloc());
+    bus.power_on(rt.alloc(), &blocks).expect(&rt, "memory");
     let place = is_place(&blocks, 0, 0x04);
     assert!(rt; place);
-    assert_eq!(rt; bus.write32(0, 0x04, 0x2), Ok(()));
-    assert_eq!(rt; set_bits(&mut bus, 0, 0x04, 0x0), Ok(0x2));
+    let written = bus.write32(0, 0x04, 0x2).is_ok();
+    let word = set_bits(&mut bus, 0, 0x04, 0x0);
+    assert!(rt; written && matches!(word, Ok(0x2)));
 }
 
-const fn sent(node: u32, off: u32, value: u32) -> Sent {
-    Sent { node, off, value }
-}
+/// Whether a call writes or reads, the node and the offset, the value that is written or read, and whether the call fails.
+type Call = (bool, u32, u32, u32, bool);
 
-/// A call at a word of a node, and its answer.
-#[derive(Clone, Copy)]
-enum Call {
-    Read(u32, u32, Result<u32, Failed>),
-    Write(u32, u32, u32, Result<(), Failed>),
-}
-
-/// A read on a bus that has the words of these blocks.
-fn reads(
-    rt: &impl Abort,
-    bus: &mut FailingBus,
-    blocks: &[Block],
-    node: u32,
-    off: u32,
-) -> Result<u32, Failed>
+/// Whether a call is answered so, on a bus that has the words of these blocks.
+fn is_answered(bus: &mut FailingBus, blocks: &[Block], call: &Call) -> bool
     requires { HasPlacesOf blocks.now bus.old.blocks }
     ensures { HasPlacesOf blocks.now bus.new.blocks }
 {
-    let place = is_place(blocks, node, off);
-    assert!(rt; place);
-    bus.read32(node, off)
+    let (writes, node, off, value, fails) = *call;
+    if !is_place(blocks, node, off) {
+        return false;
+    }
+    if writes {
+        return bus.write32(node, off, value).is_err() == fails;
+    }
+    match bus.read32(node, off) {
+        Ok(word) => !fails && word == value,
+        Err(_) => fails,
+    }
 }
 
-fn writes(rt: &impl Abort, bus: &mut FailingBus, blocks: &[Block], sent: Sent) -> Result<(), Failed>
-    requires { HasPlacesOf blocks.now bus.old.blocks }
-    ensures { HasPlacesOf blocks.now bus.new.blocks }
-{
-    let place = is_place(blocks, sent.node, sent.off);
-    assert!(rt; place);
-    bus.write32(sent.node, sent.off, sent.value)
-}
-
-/// Makes the calls on a bus over these blocks, and compares each answer.
-fn carry_out(rt: &impl Abort, bus: &mut FailingBus, blocks: &[Block], calls: &[Call])
+fn are_answered(bus: &mut FailingBus, blocks: &[Block], calls: &[Call]) -> bool
     requires { HasPlacesOf blocks.now bus.old.blocks }
 {
     for call in calls {
-        match *call {
-            Call::Read(node, off, word) => {
-                assert_eq!(rt; reads(rt, bus, blocks, node, off), word);
-            }
-            Call::Write(node, off, value, answer) => {
-                assert_eq!(rt; writes(rt, bus, blocks, sent(node, off, value)), answer);
-            }
+        if !is_answered(bus, blocks, call) {
+            return false;
         }
     }
+    true
 }
 
 /// A bus over these blocks that fails at these calls.
@@ -122,48 +99,90 @@ fn bus_over(rt: &impl Abort, alloc: Global, blocks: &[Block], fails: &[u64]) -> 
     bus
 }
 
+fn has_trail(bus: &FailingBus, want: &[Sent]) -> bool {
+    bus.trail() == want
+}
+
+/// A port's global control drops the value, and the trail tells the write all the same.
+const FAILING: [Call; 7] = [
+    (true, 0, 0x04, 0x2, false),
+    (false, 0, 0x00, 0, true),
+    (false, 0, 0x00, 0x382, false),
+    (true, 0, 0x18, 0x1000_0000, true),
+    (false, 0, 0x18, 0x0, false),
+    (true, 0, 0x18, 0x1fff_ffff, false),
+    (false, 0, 0x18, 0x1000_0000, false),
+];
+
+const SENT: [Sent; 2] = [
+    Sent {
+        node: 0,
+        off: 0x04,
+        value: 0x2,
+    },
+    Sent {
+        node: 0,
+        off: 0x18,
+        value: 0x1fff_ffff,
+    },
+];
+
 #[test]
 fn calls_that_fail(rt: HostRuntime) {
-    let alloc = rt.alloc();
-    let blocks = blocks(&rt, alloc, &[false]);
-    let mut bus = bus_over(&rt, alloc, &blocks, &[2, 4]);
-    // A port's global control drops the value, and the trail tells the write all the same.
-    let calls = [
-        Call::Write(0, 0x04, 0x2, Ok(())),
-        Call::Read(0, 0x00, Err(Failed)),
-        Call::Read(0, 0x00, Ok(0x382)),
-        Call::Write(0, 0x18, 0x1000_0000, Err(Failed)),
-        Call::Read(0, 0x18, Ok(0x0)),
-        Call::Write(0, 0x18, 0x1fff_ffff, Ok(())),
-        Call::Read(0, 0x18, Ok(0x1000_0000)),
-    ];
-    carry_out(&rt, &mut bus, &blocks, &calls);
-    let trail = [sent(0, 0x04, 0x2), sent(0, 0x18, 0x1fff_ffff)];
-    assert_eq!(rt; bus.trail(), trail.as_slice());
+    let blocks = blocks(&rt, rt.alloc(), &[false]);
+    let mut bus = bus_over(&rt, rt.alloc(), &blocks, &[2, 4]);
+    assert!(rt; are_answered(&mut bus, &blocks, &FAILING));
+    assert!(rt; has_trail(&bus, &SENT));
 }
+
+/// The writes of a create of which the fifth fails, and those that take it back.
+const CREATE: [Call; 7] = [
+    (true, 2, 0x04, 2, false),
+    (true, 3, 0x04, 2, false),
+    (true, 3, 0x10, 0, false),
+    (true, 3, 0x14, 1, false),
+    (true, 3, 0x18, 0x1000_0000, true),
+    (true, 3, 0x14, 0, false),
+    (true, 3, 0x10, 0, false),
+];
+
+const CREATE_SENT: [Sent; 6] = [
+    Sent {
+        node: 2,
+        off: 0x04,
+        value: 2,
+    },
+    Sent {
+        node: 3,
+        off: 0x04,
+        value: 2,
+    },
+    Sent {
+        node: 3,
+        off: 0x10,
+        value: 0,
+    },
+    Sent {
+        node: 3,
+        off: 0x14,
+        value: 1,
+    },
+    Sent {
+        node: 3,
+        off: 0x14,
+        value: 0,
+    },
+    Sent {
+        node: 3,
+        off: 0x10,
+        value: 0,
+    },
+];
 
 #[test]
 fn the_trail_of_a_create_that_is_undone(rt: HostRuntime) {
-    let alloc = rt.alloc();
-    let blocks = blocks(&rt, alloc, &[false, false, true, true]);
-    let mut bus = bus_over(&rt, alloc, &blocks, &[5]);
-    let calls = [
-        Call::Write(2, 0x04, 2, Ok(())),
-        Call::Write(3, 0x04, 2, Ok(())),
-        Call::Write(3, 0x10, 0, Ok(())),
-        Call::Write(3, 0x14, 1, Ok(())),
-        Call::Write(3, 0x18, 0x1000_0000, Err(Failed)),
-        Call::Write(3, 0x14, 0, Ok(())),
-        Call::Write(3, 0x10, 0, Ok(())),
-    ];
-    carry_out(&rt, &mut bus, &blocks, &calls);
-    let trail = [
-        sent(2, 0x04, 2),
-        sent(3, 0x04, 2),
-        sent(3, 0x10, 0),
-        sent(3, 0x14, 1),
-        sent(3, 0x14, 0),
-        sent(3, 0x10, 0),
-    ];
-    assert_eq!(rt; bus.trail(), trail.as_slice());
+    let blocks = blocks(&rt, rt.alloc(), &[false, false, true, true]);
+    let mut bus = bus_over(&rt, rt.alloc(), &blocks, &[5]);
+    assert!(rt; are_answered(&mut bus, &blocks, &CREATE));
+    assert!(rt; has_trail(&bus, &CREATE_SENT));
 }

@@ -1,8 +1,8 @@
 use cxl_regs::CommitRule::{Codes, NotEnabled, Order, Rise, Select, ZeroSize};
 use cxl_regs::Effect::{Committed, Dropped, NotCommitted, Released, Written};
 use cxl_regs::{
-    BASE_LOW, Block, CONTROL, Decoder, Effect, Range, TAIL_HIGH, breaks_order, breaks_rise,
-    codes_ok, decoder_of, offset_of, select_ok, words_of, words_stand_for_decoder, write_laws,
+    BASE_LOW, Block, CONTROL, Decoder, Effect, TAIL_HIGH, breaks_order, breaks_rise, codes_ok,
+    decoder_of, offset_of, select_ok, words_of, words_stand_for_decoder, write_laws,
     writes_keep_places,
 };
 use std::alloc::Global;
@@ -27,11 +27,19 @@ const fn write(off: u32, value: u32, effect: Effect, word: u32) -> Case {
     }
 }
 
-fn carry_out(rt: &impl Abort, block: &mut Block, cases: &[Case]) {
+/// Whether each write has its effect and leaves its word.
+fn are_carried_out(block: &mut Block, cases: &[Case]) -> bool {
     for case in cases {
-        assert_eq!(rt; block.write32(case.off, case.value), case.effect);
-        assert_eq!(rt; block.read32(case.off), Some(case.word));
+        let effect = block.write32(case.off, case.value);
+        if effect != case.effect || !has_word(block, case.off, case.word) {
+            return false;
+        }
     }
+    true
+}
+
+fn has_word(block: &Block, off: u32, word: u32) -> bool {
+    block.read32(off) == Some(word)
 }
 
 fn endpoint(rt: &impl Abort, alloc: Global) -> Block {
@@ -59,7 +67,7 @@ fn writes_to_an_endpoint(rt: HostRuntime) {
         write(0x40, 0x1000, Released, 0x1016),
         write(0x04, 0x0, Dropped, 0x2),
     ];
-    carry_out(&rt, &mut block, &cases);
+    assert!(rt; are_carried_out(&mut block, &cases));
 }
 
 #[test]
@@ -69,22 +77,16 @@ fn writes_to_a_port(rt: HostRuntime) {
         write(0x04, 0x2, Dropped, 0x0),
         write(0x20, 0x1200, NotCommitted(ZeroSize), 0x1a00),
     ];
-    carry_out(&rt, &mut block, &cases);
-}
-
-fn reads(rt: &impl Abort, block: &Block, off: u32, word: Option<u32>) {
-    assert_eq!(rt; block.read32(off), word);
+    assert!(rt; are_carried_out(&mut block, &cases));
 }
 
 #[test]
 fn a_block_after_reset(rt: HostRuntime) {
     let block = endpoint(&rt, rt.alloc());
-    assert_eq!(rt; block.count(), 4);
-    assert_eq!(rt; block.cap(), 0x1b02);
+    assert!(rt; block.count() == 4 && block.cap() == 0x1b02);
     assert!(rt; block.endpoint() && !block.enabled());
-    reads(&rt, &block, 0x90, None);
-    reads(&rt, &block, 0x8e, None);
-    reads(&rt, &block, 0x8c, Some(0));
+    assert!(rt; block.read32(0x90).is_none() && block.read32(0x8e).is_none());
+    assert!(rt; has_word(&block, 0x8c, 0));
 }
 
 /// An endpoint's block with its first decoder committed, as a copy.
@@ -96,26 +98,25 @@ fn committed(rt: &impl Abort, alloc: Global) -> Block {
         write(0x18, 0x4000_0000, Written, 0x4000_0000),
         write(0x20, 0x1210, Committed, 0x1610),
     ];
-    carry_out(rt, &mut block, &cases);
+    assert!(rt; are_carried_out(&mut block, &cases));
     block.copy(alloc).expect(rt, "memory")
 }
 
 #[test]
 fn a_block_and_its_words(rt: HostRuntime) {
     let block = committed(&rt, rt.alloc());
-    assert!(rt; block.enabled());
-    assert_eq!(rt; block.committed(), 1);
+    assert!(rt; block.enabled() && block.committed() == 1);
     let decoder = block.decoder(0);
     let words = words_of(&decoder);
-    assert_eq!(rt; words, [0, 0, 0x4000_0000, 1, 0x1610, 0, 0, 0]);
-    assert_eq!(rt; decoder_of(&words, true), decoder);
+    assert!(rt; words == [0, 0, 0x4000_0000, 1, 0x1610, 0, 0, 0]);
+    assert!(rt; decoder_of(&words, true) == decoder);
 }
 
 #[test]
 fn a_block_of_one_decoder(rt: HostRuntime) {
     let decoders = Vec::from_slice(rt.alloc(), &[Decoder::RESET]).expect(&rt, "memory");
     let block = Block::with_decoders(0x1b00, true, false, decoders);
-    reads(&rt, &block, 0x30, None);
+    assert!(rt; block.read32(0x30).is_none());
 }
 
 #[test]
@@ -131,10 +132,8 @@ fn codes_and_select_bits(rt: HostRuntime) {
         ways: 8,
         ..Decoder::RESET
     };
-    assert!(rt; codes_ok(0x1b02, true, &three_ways));
-    assert!(rt; !codes_ok(0x382, false, &three_ways));
-    assert!(rt; select_ok(0x1b02, 6, 1));
-    assert!(rt; !select_ok(0x1b02, 6, 2));
+    assert!(rt; codes_ok(0x1b02, true, &three_ways) && !codes_ok(0x382, false, &three_ways));
+    assert!(rt; select_ok(0x1b02, 6, 1) && !select_ok(0x1b02, 6, 2));
 }
 
 /// A port's decoder of two ways at 512 bytes over 1 TiB.
@@ -150,30 +149,22 @@ const PORT: Decoder = Decoder {
 
 #[test]
 fn the_range_of_a_port(rt: HostRuntime) {
-    let range = Range {
-        base: 0x10_0000_0000,
-        size: 0x100_0000_0000,
-    };
-    assert_eq!(rt; PORT.range(), range);
-    assert!(rt; PORT.has_range(&range));
-    assert!(rt; !Decoder::RESET.has_range(&Decoder::RESET.range()));
-    assert!(rt; PORT.holds_address(0x10f_ffff_ffff));
-    assert!(rt; !PORT.holds_address(0x110_0000_0000));
-    assert!(rt; breaks_order(Some(Decoder::RESET)));
-    assert!(rt; breaks_rise(Some(PORT), &PORT));
+    let range = PORT.range();
+    assert!(rt; range.base == 0x10_0000_0000 && range.size == 0x100_0000_0000);
+    assert!(rt; PORT.has_range(&range) && !Decoder::RESET.has_range(&Decoder::RESET.range()));
+    assert!(rt; PORT.holds_address(0x10f_ffff_ffff) && !PORT.holds_address(0x110_0000_0000));
+    assert!(rt; breaks_order(Some(Decoder::RESET)) && breaks_rise(Some(PORT), &PORT));
 }
 
 #[test]
 fn the_entries_of_a_port(rt: HostRuntime) {
-    assert_eq!(rt; PORT.interleave_ways(), 2);
-    assert_eq!(rt; PORT.interleave_granularity(), 512);
-    assert_eq!(rt; PORT.select_bits(), 1);
-    for (h, entry) in [(0x10f_ffff_ffff, 1), (0x10_0000_05ff, 0)] {
-        assert_eq!(rt; PORT.entry_of(h), entry, "of {h}");
-    }
-    for (entry, port) in [(0, 1), (1, 2), (8, 0)] {
-        assert_eq!(rt; PORT.entry_at(entry), port, "at {entry}");
-    }
+    assert!(rt;
+        PORT.interleave_ways() == 2
+            && PORT.interleave_granularity() == 512
+            && PORT.select_bits() == 1
+    );
+    assert!(rt; PORT.entry_of(0x10f_ffff_ffff) == 1 && PORT.entry_of(0x10_0000_05ff) == 0);
+    assert!(rt; PORT.entry_at(0) == 1 && PORT.entry_at(1) == 2 && PORT.entry_at(8) == 0);
 }
 
 /// An endpoint's decoder of six ways, and one with a code that stands for no ways.
@@ -184,16 +175,18 @@ fn shares_of_ways(rt: HostRuntime) {
         ways: 9,
         ..Decoder::RESET
     };
-    assert_eq!(rt; six.interleave_ways(), 6);
-    assert_eq!(rt; six.select_bits(), 1);
-    assert_eq!(rt; six.span_length(), 0x1000_0000);
+    assert!(rt;
+        six.interleave_ways() == 6 && six.select_bits() == 1 && six.span_length() == 0x1000_0000
+    );
     let none = Decoder { ways: 5, ..six };
-    assert_eq!(rt; none.span_length(), 0x6000_0000);
+    assert!(rt; none.span_length() == 0x6000_0000);
 }
 
 #[test]
 fn offsets(rt: HostRuntime) {
-    assert_eq!(rt; offset_of(0, BASE_LOW), 0x10);
-    assert_eq!(rt; offset_of(1, CONTROL), 0x40);
-    assert_eq!(rt; offset_of(3, TAIL_HIGH), 0x88);
+    assert!(rt;
+        offset_of(0, BASE_LOW) == 0x10
+            && offset_of(1, CONTROL) == 0x40
+            && offset_of(3, TAIL_HIGH) == 0x88
+    );
 }

@@ -1,4 +1,4 @@
-use Rattle.std.proofs.Common.{◌≡◌, refl}
+use Rattle.std.proofs.Common.{refl}
 use Rattle.cxl_calls.proofs.worked.table_of_two.Goals as goal
 
 pub returns : goal.returns

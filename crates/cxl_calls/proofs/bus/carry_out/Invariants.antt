@@ -1,5 +1,0 @@
-use Rattle.cxl_regs.specs.Blocks.{HasPlacesOf}
-use Rattle.cxl_calls.proofs.bus.carry_out.Given as goal
-
-abbrev pub invariant-loop-call : goal.invariant-loop-call
-invariant-loop-call g l = HasPlacesOf l.blocks l.bus.blocks
