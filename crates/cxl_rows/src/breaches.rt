@@ -1,75 +1,70 @@
 //! Images of worked hosts that break a rule, each named by its rule, node and decoder; and one that breaks none.
 
-ghost use Rattle.std.specs.Prelude.{IfOk};
 ghost use Rattle.cxl_image.specs.Images.{HasCapsOf};
 ghost use Rattle.cxl_window.specs.Windows.{AreMadeWith};
 ghost use Rattle.cxl_model.specs.System.{bridge_uids};
 
-use crate::host_files::with_words;
+use crate::host_files::change;
 use crate::hosts::{
     BASE, BRIDGE, FORWARDING, GIB, Range, Spot, Worked, device, host_of, over, window,
 };
-use cxl_check::{CheckFault, check};
+use cxl_check::{Breach, CheckFault, Found, check};
 use cxl_enc::MemKind;
 use cxl_image::{Image, read_image, write_image};
-use std::alloc::Global;
 use std::process::Abort;
-use std::test::Fail;
 
 const SIZE: u64 = 0x2000_0000;
 
 /// The decoders of a region over both endpoints.
-const fn bridges() -> Range {
-    over(0, 2, BASE, SIZE, 0, 0)
-}
+const BRIDGES: Range = over!(0, 2, BASE, SIZE, 0, 0);
 
-const fn endpoints() -> Range {
-    over(2, 4, BASE, SIZE, 0x10, 0)
-}
+const ENDPOINTS: Range = over!(2, 4, BASE, SIZE, 0x10, 0);
 
 /// Two bridges with one endpoint each under a window over both, with these decoders committed.
 fn two_bridges(
-    rt: &impl Abort,
-    alloc: Global,
-    bridges: [Spot; 2],
+    rt: &(impl Abort + AllocGlobal),
+    first: Spot,
+    second: Spot,
     ranges: &[Range],
-) -> Result<Worked, Fail>
-    ensures caps { IfOk result (λ it. HasCapsOf it.image it.topo.nodes) }
-    ensures made { IfOk result (λ it. AreMadeWith it.windows.items (bridge_uids it.topo.nodes)) }
+) -> Worked
+    ensures caps { HasCapsOf result.image result.topo.nodes }
+    ensures made { AreMadeWith result.windows.items (bridge_uids result.topo.nodes) }
 {
-    let [first, second] = bridges;
     let spots = [
         first,
         second,
-        device(0, 0, 2 * GIB, 0),
-        device(1, 0, 2 * GIB, 0),
+        device!(0, 0, 2 * GIB, 0),
+        device!(1, 0, 2 * GIB, 0),
     ];
-    host_of(rt, alloc, &spots, &[window(BASE, &[0, 1])], ranges)
+    host_of(rt, rt.alloc(), &spots, &[window!(BASE, &[0, 1])], ranges)
 }
 
 /// A word of the image file of four nodes with blocks of 144 bytes: the node, the offset and the value.
 type Word = (usize, usize, u32);
 
 /// The host's image with other words.
-fn changed(rt: &impl Abort, alloc: Global, host: &Worked, words: &[Word]) -> Result<Image, Fail> {
-    let mut bytes = write_image(alloc, &host.image)?;
+fn changed(rt: &(impl Abort + AllocGlobal), host: &Worked, words: &[Word]) -> Image {
+    let mut bytes = write_image(rt.alloc(), &host.image).expect(rt, "memory");
     for (node, off, value) in words {
         assert!(rt; *node < 4 && *off < 144);
-        bytes = with_words(bytes, &[(12 + 144 * node + off, *value)])?;
+        change(rt, bytes.as_mut_slice(), &[(12 + 144 * node + off, *value)]);
     }
     assert!(rt; bytes.len() < 0x1_0000_0000);
-    Ok(read_image(alloc, &bytes, &host.topo)?)
+    read_image(rt.alloc(), &bytes, &host.topo).expect(rt, "an image")
 }
 
-/// The breach that is found, as rule, node and decoder.
-fn breach(alloc: Global, host: &Worked, image: &Image) -> Result<Option<(u8, u32, u8)>, Fail>
+/// Checks that the image breaks this rule of the host first, by this node and decoder.
+fn breaks(rt: &(impl Abort + AllocGlobal), host: &Worked, image: &Image, want: (u8, u32, u8))
     requires made { AreMadeWith host.now.windows.items (bridge_uids host.now.topo.nodes) }
 {
-    match check(alloc, image, &host.topo, &host.windows) {
-        Ok(_) => Ok(None),
-        Err(CheckFault::Breach(b)) => Ok(Some((b.rule, b.node, b.decoder))),
-        Err(CheckFault::Memory) => Err(Fail::from("out of memory")),
-    }
+    let fault = check(rt.alloc(), image, &host.topo, &host.windows).err();
+    let (rule, node, decoder) = want;
+    let breach = Breach {
+        rule,
+        node,
+        decoder,
+    };
+    assert!(rt; fault == Some(CheckFault::Breach(breach)), "rule {rule}");
 }
 
 /// Words of the image of one region over both endpoints, and what they break.
@@ -99,46 +94,57 @@ const ROWS: [(&[Word], (u8, u32, u8)); 11] = [
 ];
 
 #[test]
-fn breaches(rt: HostRuntime) -> Result<(), Fail> {
-    let alloc = rt.alloc();
-    let host = two_bridges(&rt, alloc, [BRIDGE; 2], &[bridges(), endpoints()])?;
-    for (words, want) in ROWS {
-        let other = changed(&rt, alloc, &host, words)?;
-        assert_eq!(rt; breach(alloc, &host, &other)?, Some(want));
+fn breaches(rt: HostRuntime) {
+    let host = two_bridges(&rt, BRIDGE, BRIDGE, &[BRIDGES, ENDPOINTS]);
+    for (words, want) in &ROWS {
+        breaks(&rt, &host, &changed(&rt, &host, words), *want);
     }
-    // A bridge that cannot select on address bits 14:12.
+}
+
+/// A bridge that cannot select on address bits 14:12.
+#[test]
+fn a_bridge_of_low_bits(rt: HostRuntime) {
     let low = Spot {
         cap: 0x182,
         ..BRIDGE
     };
-    let other = two_bridges(&rt, alloc, [BRIDGE, low], &[])?;
-    assert_eq!(rt; breach(alloc, &other, &host.image)?, Some((1, 1, 0)));
-    Ok(())
+    let host = two_bridges(&rt, BRIDGE, BRIDGE, &[BRIDGES, ENDPOINTS]);
+    let other = two_bridges(&rt, BRIDGE, low, &[]);
+    breaks(&rt, &other, &host.image, (1, 1, 0));
 }
 
-#[test]
-fn one_region(rt: HostRuntime) -> Result<(), Fail> {
-    let alloc = rt.alloc();
-    let forwarding = [FORWARDING; 2];
-    let host = two_bridges(&rt, alloc, forwarding, &[])?;
-    assert_eq!(rt;
-        check(alloc, &host.image, &host.topo, &host.windows)?.len(),
-        0
-    );
-    let host = two_bridges(&rt, alloc, forwarding, &[endpoints()])?;
-    let regions = check(alloc, &host.image, &host.topo, &host.windows)?;
+/// Checks that the region of a host is that of both endpoints.
+fn is_of_both(rt: &impl Abort, regions: &[Found]) {
     assert_eq!(rt; regions.len(), 1);
     let region = &regions[0];
     assert_eq!(rt; (region.base, region.size), (BASE, SIZE));
     assert_eq!(rt; (region.window, region.gran, region.ways), (0, 0, 2));
-    assert_eq!(rt; region.kind, MemKind::Ram);
+    assert!(rt; region.kind == MemKind::Ram);
     let spans = region.spans.items();
     assert_eq!(rt; spans.len(), 2);
     assert_eq!(rt; (spans[0].endpoint, spans[0].start), (2, 0));
     assert_eq!(rt; (spans[1].endpoint, spans[1].start), (3, 0));
-    // A bridge that forwards decodes nothing itself.
-    let first = over(0, 1, BASE, SIZE, 0, 0);
-    let host = two_bridges(&rt, alloc, forwarding, &[endpoints(), first])?;
-    assert_eq!(rt; breach(alloc, &host, &host.image)?, Some((11, 0, 0)));
-    Ok(())
+}
+
+/// The regions of a host.
+fn regions_of(rt: &(impl Abort + AllocGlobal), host: &Worked) -> Vec<Found>
+    requires made { AreMadeWith host.now.windows.items (bridge_uids host.now.topo.nodes) }
+{
+    check(rt.alloc(), &host.image, &host.topo, &host.windows).expect(rt, "regions")
+}
+
+#[test]
+fn one_region(rt: HostRuntime) {
+    let host = two_bridges(&rt, FORWARDING, FORWARDING, &[]);
+    assert!(rt; regions_of(&rt, &host).is_empty());
+    let host = two_bridges(&rt, FORWARDING, FORWARDING, &[ENDPOINTS]);
+    is_of_both(&rt, &regions_of(&rt, &host));
+}
+
+/// A bridge that forwards decodes nothing itself.
+#[test]
+fn a_bridge_that_forwards(rt: HostRuntime) {
+    let first = over!(0, 1, BASE, SIZE, 0, 0);
+    let host = two_bridges(&rt, FORWARDING, FORWARDING, &[ENDPOINTS, first]);
+    breaks(&rt, &host, &host.image, (11, 0, 0));
 }

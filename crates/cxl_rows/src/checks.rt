@@ -1,13 +1,11 @@
 use crate::host_files::{
     ENDPOINT, FIRST_REGION, FORWARDING, ONE_WAY, PORT, RESET, THREE_ENDPOINTS, TWO_ENDPOINTS,
-    TWO_ENDPOINTS_FORWARDED, TWO_WAYS, host_files, image_file, with_words,
+    TWO_ENDPOINTS_FORWARDED, TWO_WAYS, Words, change, host_files, image_file,
 };
-use crate::rows::{ROOM, bytes, run_words};
+use crate::rows::{bytes, check_files};
 use crate::tables::{THREE_BRIDGES, TWO_BRIDGES};
 use crate::{findings, real_hosts, real_images};
-use cxl_io::{MemFetch, MemSink};
 use std::process::Abort;
-use std::test::Fail;
 
 const FIRST_REGION_TEXT: &str = "\
 region 0x100000000 size 0x20000000 window 0 gran 256 ways 2 ram
@@ -15,74 +13,78 @@ slot 0 e0 0x0
 slot 1 e1 0x0
 ";
 
-/// Checks that `check` ends with this exit status and this text over these files.
-fn check_files(
+const LINE: &str = "check table topology image";
+
+/// Checks that `check` ends with this exit status and this text over a table, a topology and an image.
+fn is_checked(
     rt: &(impl Abort + AllocGlobal),
-    files: MemFetch,
+    (table, topology): (&str, &str),
+    image: Vec<u8>,
     code: u8,
     text: &str,
-) -> Result<(), Fail> {
-    let alloc = rt.alloc();
-    let sink = MemSink::new(alloc, ROOM, Vec::new(alloc))?;
-    let end = run_words(alloc, "check table topology image", files, sink)?;
-    assert_eq!(rt; end.text.as_slice(), text.as_bytes());
-    assert_eq!(rt; end.status.code(), code);
-    Ok(())
+) {
+    let files = host_files(rt, table, topology, image, &[]);
+    check_files(rt, LINE, files, code, text.as_bytes());
+}
+
+/// The same over two bridges with an endpoint each, where the image of the first region has so many bytes, with other
+/// words at these places.
+fn is_checked_with(
+    rt: &(impl Abort + AllocGlobal),
+    len: usize,
+    words: &[(usize, u32)],
+    code: u8,
+    text: &str,
+) {
+    let mut image = image_file(rt, &FIRST_REGION);
+    change(rt, image.as_mut_slice(), words);
+    image.resize(len, 0).expect(rt, "memory");
+    is_checked(rt, (TWO_BRIDGES, TWO_ENDPOINTS), image, code, text);
 }
 
 /// The image of the first region over two bridges, with other words at these byte places. The blocks begin
 /// at bytes 12, 156, 300 and 444, and have their first control word 32 bytes further.
 #[test]
-fn one_region(rt: HostRuntime) -> Result<(), Fail> {
-    let rows: [(&[(usize, u32)], u8, &str); 5] = [
-        (&[], 0, FIRST_REGION_TEXT),
-        (&[(188, 0x1000)], 8, "breach K10 hb0 0\n"),
-        (&[(332, 0x1611)], 8, "breach K12 e0 0\n"),
-        (
-            &[
-                (348, 0x2000_0000),
-                (352, 1),
-                (356, 0x2000_0000),
-                (364, 0x1610),
-            ],
-            8,
-            "breach K11 e0 1\n",
-        ),
-        (&[(476, 0x1e10)], 8, "breach K3 e1 0\n"),
-    ];
-    let alloc = rt.alloc();
-    for (words, code, text) in rows {
-        let image = with_words(image_file(alloc, &FIRST_REGION)?, words)?;
-        let files = host_files(alloc, TWO_BRIDGES, TWO_ENDPOINTS, image, &[])?;
-        check_files(&rt, files, code, text)?;
+fn one_region(rt: HostRuntime) {
+    for (words, code, text) in &ONE_REGION {
+        is_checked_with(&rt, 588, words, *code, text);
     }
-    Ok(())
 }
+
+const ONE_REGION: [(&[(usize, u32)], u8, &str); 5] = [
+    (&[], 0, FIRST_REGION_TEXT),
+    (&[(188, 0x1000)], 8, "breach K10 hb0 0\n"),
+    (&[(332, 0x1611)], 8, "breach K12 e0 0\n"),
+    (
+        &[
+            (348, 0x2000_0000),
+            (352, 1),
+            (356, 0x2000_0000),
+            (364, 0x1610),
+        ],
+        8,
+        "breach K11 e0 1\n",
+    ),
+    (&[(476, 0x1e10)], 8, "breach K3 e1 0\n"),
+];
 
 /// An image after reset has no region.
 #[test]
-fn no_region(rt: HostRuntime) -> Result<(), Fail> {
-    let alloc = rt.alloc();
-    let blocks = [
-        (PORT, RESET),
-        (PORT, RESET),
-        (ENDPOINT, RESET),
-        (ENDPOINT, RESET),
-    ];
-    let files = host_files(
-        alloc,
-        TWO_BRIDGES,
-        TWO_ENDPOINTS,
-        image_file(alloc, &blocks)?,
-        &[],
-    )?;
-    check_files(&rt, files, 0, "")
+fn no_region(rt: HostRuntime) {
+    let image = image_file(&rt, &AFTER_RESET);
+    is_checked(&rt, (TWO_BRIDGES, TWO_ENDPOINTS), image, 0, "");
 }
+
+const AFTER_RESET: [Words; 4] = [
+    (PORT, RESET),
+    (PORT, RESET),
+    (ENDPOINT, RESET),
+    (ENDPOINT, RESET),
+];
 
 /// Bridges that forward decode nothing: with a committed decoder they break a rule.
 #[test]
-fn forwarding(rt: HostRuntime) -> Result<(), Fail> {
-    let alloc = rt.alloc();
+fn forwarding(rt: HostRuntime) {
     for (first, code, text) in [
         (RESET, 0, FIRST_REGION_TEXT),
         (ONE_WAY, 8, "breach K11 hb0 0\n"),
@@ -93,54 +95,55 @@ fn forwarding(rt: HostRuntime) -> Result<(), Fail> {
             (ENDPOINT, TWO_WAYS),
             (ENDPOINT, TWO_WAYS),
         ];
-        let image = image_file(alloc, &blocks)?;
-        let files = host_files(alloc, TWO_BRIDGES, TWO_ENDPOINTS_FORWARDED, image, &[])?;
-        check_files(&rt, files, code, text)?;
+        let image = image_file(&rt, &blocks);
+        is_checked(
+            &rt,
+            (TWO_BRIDGES, TWO_ENDPOINTS_FORWARDED),
+            image,
+            code,
+            text,
+        );
     }
-    Ok(())
 }
 
 /// A region of three ways whose base is no multiple of 768 MiB from the window's.
 #[test]
-fn base_in_thirds(rt: HostRuntime) -> Result<(), Fail> {
-    let alloc = rt.alloc();
+fn base_in_thirds(rt: HostRuntime) {
     let one = (PORT, [0x1000_0000, 1, 0x3000_0000, 0, 0x1600]);
     let three = (ENDPOINT, [0x1000_0000, 1, 0x3000_0000, 0, 0x1680]);
-    let image = image_file(alloc, &[one, one, one, three, three, three])?;
-    let files = host_files(alloc, THREE_BRIDGES, THREE_ENDPOINTS, image, &[])?;
-    check_files(&rt, files, 8, "breach K9 hb0 0\n")
+    let image = image_file(&rt, &[one, one, one, three, three, three]);
+    is_checked(
+        &rt,
+        (THREE_BRIDGES, THREE_ENDPOINTS),
+        image,
+        8,
+        "breach K9 hb0 0\n",
+    );
 }
 
 /// Each fault of an image file over the two bridges' topology.
 #[test]
-fn image_faults(rt: HostRuntime) -> Result<(), Fail> {
-    let alloc = rt.alloc();
-    let rows: [(usize, &[(usize, u32)], &str); 5] = [
-        (11, &[], "error: image cut 11\n"),
-        (588, &[(0, 0)], "error: image magic\n"),
-        (588, &[(8, 5)], "error: image nodes 5\n"),
-        (588, &[(300, 0x1b03)], "error: image caps 2\n"),
-        (589, &[], "error: image trailing 588\n"),
-    ];
-    for (len, words, text) in rows {
-        let mut image = with_words(image_file(alloc, &FIRST_REGION)?, words)?;
-        image.resize(len, 0)?;
-        let files = host_files(alloc, TWO_BRIDGES, TWO_ENDPOINTS, image, &[])?;
-        check_files(&rt, files, 10, text)?;
+fn image_faults(rt: HostRuntime) {
+    for (len, words, text) in &IMAGE_FAULTS {
+        is_checked_with(&rt, *len, words, 10, text);
     }
-    Ok(())
 }
+
+const IMAGE_FAULTS: [(usize, &[(usize, u32)], &str); 5] = [
+    (11, &[], "error: image cut 11\n"),
+    (588, &[(0, 0)], "error: image magic\n"),
+    (588, &[(8, 5)], "error: image nodes 5\n"),
+    (588, &[(300, 0x1b03)], "error: image caps 2\n"),
+    (589, &[], "error: image trailing 588\n"),
+];
 
 /// Each fault of a topology file.
 #[test]
-fn topology_faults(rt: HostRuntime) -> Result<(), Fail> {
-    let alloc = rt.alloc();
-    for (topology, text) in TOPOLOGY_FAULTS {
-        let image = image_file(alloc, &FIRST_REGION)?;
-        let files = host_files(alloc, TWO_BRIDGES, topology, image, &[])?;
-        check_files(&rt, files, 4, text)?;
+fn topology_faults(rt: HostRuntime) {
+    for (topology, text) in &TOPOLOGY_FAULTS {
+        let image = image_file(&rt, &FIRST_REGION);
+        is_checked(&rt, (TWO_BRIDGES, topology), image, 4, text);
     }
-    Ok(())
 }
 
 const TOPOLOGY_FAULTS: [(&str, &str); 14] = [
@@ -190,125 +193,137 @@ const TOPOLOGY_FAULTS: [(&str, &str); 14] = [
     ),
 ];
 
+/// A table and a topology, how many bytes of the image there are, which fetches fail, the exit status and the text.
+type Order = (
+    &'static str,
+    &'static str,
+    usize,
+    &'static [u64],
+    u8,
+    &'static str,
+);
+
 /// The files are asked for in the order of the words, each once it is known that those before have a reading.
 #[test]
-fn files_in_order(rt: HostRuntime) -> Result<(), Fail> {
-    let rows: [(&str, &str, usize, &[u64], u8, &str); 5] = [
-        (
-            TWO_BRIDGES,
-            TWO_ENDPOINTS,
-            588,
-            &[1],
-            2,
-            "error: cannot read table\n",
-        ),
-        (
-            TWO_BRIDGES,
-            TWO_ENDPOINTS,
-            588,
-            &[2],
-            2,
-            "error: cannot read topology\n",
-        ),
-        (
-            TWO_BRIDGES,
-            TWO_ENDPOINTS,
-            588,
-            &[3],
-            2,
-            "error: cannot read image\n",
-        ),
-        ("00", "[[bridge", 588, &[2], 3, "error: table short\n"),
-        (
-            TWO_BRIDGES,
-            TWO_ENDPOINTS,
-            1_048_577,
-            &[],
-            12,
-            "error: image too large\n",
-        ),
-    ];
-    let alloc = rt.alloc();
-    for (table, topology, len, fails, code, text) in rows {
-        let mut image = image_file(alloc, &FIRST_REGION)?;
-        image.resize(len, 0)?;
-        check_files(
-            &rt,
-            host_files(alloc, table, topology, image, fails)?,
-            code,
-            text,
-        )?;
+fn files_in_order(rt: HostRuntime) {
+    for (table, topology, len, fails, code, text) in &IN_ORDER {
+        let mut image = image_file(&rt, &FIRST_REGION);
+        image.resize(*len, 0).expect(&rt, "memory");
+        let files = host_files(&rt, table, topology, image, fails);
+        check_files(&rt, LINE, files, *code, text.as_bytes());
     }
-    Ok(())
 }
+
+const IN_ORDER: [Order; 5] = [
+    (
+        TWO_BRIDGES,
+        TWO_ENDPOINTS,
+        588,
+        &[1],
+        2,
+        "error: cannot read table\n",
+    ),
+    (
+        TWO_BRIDGES,
+        TWO_ENDPOINTS,
+        588,
+        &[2],
+        2,
+        "error: cannot read topology\n",
+    ),
+    (
+        TWO_BRIDGES,
+        TWO_ENDPOINTS,
+        588,
+        &[3],
+        2,
+        "error: cannot read image\n",
+    ),
+    ("00", "[[bridge", 588, &[2], 3, "error: table short\n"),
+    (
+        TWO_BRIDGES,
+        TWO_ENDPOINTS,
+        1_048_577,
+        &[],
+        12,
+        "error: image too large\n",
+    ),
+];
 
 /// What Linux programmed under QEMU: each is accepted, with these regions.
 #[test]
-fn real_images(rt: HostRuntime) -> Result<(), Fail> {
-    let rows = [
+fn real_images(rt: HostRuntime) {
+    for (host, image, text) in &REAL {
+        is_checked(&rt, *host, bytes(&rt, image, &[]), 0, text);
+    }
+}
+
+const REAL: [((&str, &str), &str, &str); 7] = [
+    (
         (
             real_hosts::X2_BRIDGES_TABLE,
             real_hosts::X2_BRIDGES_TOPOLOGY,
-            real_images::X2_BRIDGES,
-            findings::X2_BRIDGES_REGIONS,
         ),
+        real_images::X2_BRIDGES,
+        findings::X2_BRIDGES_REGIONS,
+    ),
+    (
         (
             real_hosts::X4_SWITCHES_TABLE,
             real_hosts::X4_SWITCHES_TOPOLOGY,
-            real_images::X4_SWITCHES,
-            findings::X4_SWITCHES_REGIONS,
         ),
+        real_images::X4_SWITCHES,
+        findings::X4_SWITCHES_REGIONS,
+    ),
+    (
         (
             real_hosts::X8_TWO_WINDOWS_TABLE,
             real_hosts::X8_TWO_WINDOWS_TOPOLOGY,
-            real_images::X8_TWO_WINDOWS,
-            findings::X8_TWO_WINDOWS_REGIONS,
         ),
+        real_images::X8_TWO_WINDOWS,
+        findings::X8_TWO_WINDOWS_REGIONS,
+    ),
+    (
         (
             real_hosts::X6_THREE_WAYS_TABLE,
             real_hosts::X6_THREE_WAYS_TOPOLOGY,
-            real_images::X6_THREE_WAYS,
-            findings::X6_THREE_WAYS_REGIONS,
         ),
+        real_images::X6_THREE_WAYS,
+        findings::X6_THREE_WAYS_REGIONS,
+    ),
+    (
         (
             real_hosts::RAM_AND_PMEM_TABLE,
             real_hosts::RAM_AND_PMEM_TOPOLOGY,
-            real_images::RAM_AND_PMEM,
-            findings::RAM_AND_PMEM_REGIONS,
         ),
+        real_images::RAM_AND_PMEM,
+        findings::RAM_AND_PMEM_REGIONS,
+    ),
+    (
         (
             real_hosts::SINGLE_PORTS_TABLE,
             real_hosts::SINGLE_PORTS_TOPOLOGY,
-            real_images::SINGLE_PORTS,
-            findings::SINGLE_PORTS_REGIONS,
         ),
-        (
-            real_hosts::LOCKED_TABLE,
-            real_hosts::LOCKED_TOPOLOGY,
-            real_images::LOCKED,
-            findings::LOCKED_REGIONS,
-        ),
-    ];
-    let alloc = rt.alloc();
-    for (table, topology, image, text) in rows {
-        let files = host_files(alloc, table, topology, bytes(alloc, image, &[])?, &[])?;
-        check_files(&rt, files, 0, text)?;
-    }
-    Ok(())
-}
+        real_images::SINGLE_PORTS,
+        findings::SINGLE_PORTS_REGIONS,
+    ),
+    (
+        (real_hosts::LOCKED_TABLE, real_hosts::LOCKED_TOPOLOGY),
+        real_images::LOCKED,
+        findings::LOCKED_REGIONS,
+    ),
+];
 
 /// Images made from the locked one by other words, as byte places and values. Linux commits the first two,
 /// and bytes are then lost; it refuses the others, too.
 #[test]
-fn changed_images(rt: HostRuntime) -> Result<(), Fail> {
-    let alloc = rt.alloc();
-    for (words, text) in CHANGED {
-        let image = with_words(bytes(alloc, real_images::LOCKED, &[])?, words)?;
-        let table = real_hosts::LOCKED_TABLE;
-        let files = host_files(alloc, table, real_hosts::LOCKED_TOPOLOGY, image, &[])?;
-        check_files(&rt, files, 8, text)?;
+fn changed_images(rt: HostRuntime) {
+    let host = (real_hosts::LOCKED_TABLE, real_hosts::LOCKED_TOPOLOGY);
+    for (words, text) in &CHANGED {
+        let mut image = bytes(&rt, real_images::LOCKED, &[]);
+        change(&rt, image.as_mut_slice(), words);
+        is_checked(&rt, host, image, 8, text);
     }
-    Ok(())
 }
 
 const CHANGED: [(&[(usize, u32)], &str); 5] = [

@@ -1,7 +1,6 @@
-use crate::rows::bytes;
+use crate::rows::{bytes, fetch_of, owned, put_file};
 use cxl_io::MemFetch;
-use std::alloc::Global;
-use std::test::Fail;
+use std::process::Abort;
 
 /// Two bridges with an endpoint of 2 GiB of volatile memory each.
 pub(crate) const TWO_ENDPOINTS: &str = r#"
@@ -93,57 +92,55 @@ pub(crate) const FIRST_REGION: [Words; 4] = [
 ];
 
 /// The image file of blocks that decode.
-pub(crate) fn image_file(alloc: Global, blocks: &[Words]) -> Result<Vec<u8>, Fail> {
-    let mut file = Vec::from_slice(alloc, b"CXLHDM01")?;
-    let Ok(count) = u32::try_from(blocks.len()) else {
-        return Err(Fail::new("too many blocks"));
-    };
-    put_word(&mut file, count)?;
-    for ((cap, decoders), first) in blocks {
-        for word in [*cap, 2, 0, 0] {
-            put_word(&mut file, word)?;
-        }
-        for word in first {
-            put_word(&mut file, *word)?;
-        }
-        for _ in 0..3 {
-            put_word(&mut file, 0)?;
-        }
-        for _ in 1..*decoders {
-            file.extend_from_slice(&[0; 32])?;
-        }
+pub(crate) fn image_file(rt: &(impl Abort + AllocGlobal), blocks: &[Words]) -> Vec<u8> {
+    let mut file = owned(rt, b"CXLHDM01");
+    assert!(rt; blocks.len() <= 1_024);
+    put_words(rt, &mut file, &[blocks.len() as u32]);
+    for block in blocks {
+        put_block(rt, &mut file, block);
     }
-    Ok(file)
+    file
 }
 
-fn put_word(file: &mut Vec<u8>, word: u32) -> Result<(), Fail> {
-    file.extend_from_slice(&word.to_le_bytes())?;
-    Ok(())
+fn put_block(rt: &(impl Abort + AllocGlobal), file: &mut Vec<u8>, block: &Words) {
+    let ((cap, decoders), first) = *block;
+    put_words(rt, file, &[cap, 2, 0, 0]);
+    put_words(rt, file, &first);
+    put_words(rt, file, &[0; 3]);
+    for _ in 1..decoders {
+        put_words(rt, file, &[0; 8]);
+    }
 }
 
-/// The bytes with other words, each at its byte place.
-pub(crate) fn with_words(mut file: Vec<u8>, words: &[(usize, u32)]) -> Result<Vec<u8>, Fail> {
+fn put_words(rt: &(impl Abort + AllocGlobal), file: &mut Vec<u8>, words: &[u32]) {
+    for word in words {
+        file.extend_from_slice(&word.to_le_bytes())
+            .expect(rt, "memory");
+    }
+}
+
+/// Writes other words into a file, each at its byte place.
+pub(crate) fn change(rt: &impl Abort, file: &mut [u8], words: &[(usize, u32)]) {
     for (at, value) in words {
-        if file.len() < 4 || *at > file.len() - 4 {
-            return Err(Fail::new("a word past the end"));
-        }
+        assert!(rt;
+            file.len() >= 4 && *at <= file.len() - 4,
+            "a word past the end"
+        );
         file[*at..*at + 4].copy_from_slice(&value.to_le_bytes());
     }
-    Ok(file)
 }
 
 /// A table, a topology and an image in memory, and the numbers of the fetches that fail.
 pub(crate) fn host_files(
-    alloc: Global,
+    rt: &(impl Abort + AllocGlobal),
     table: &str,
     topology: &str,
     image: Vec<u8>,
     fails: &[u64],
-) -> Result<MemFetch, Fail> {
-    let mut files = Vec::new(alloc);
-    let topology = Vec::from_slice(alloc, topology.as_bytes())?;
-    files.push((String::from_str(alloc, "table")?, bytes(alloc, table, &[])?))?;
-    files.push((String::from_str(alloc, "topology")?, topology))?;
-    files.push((String::from_str(alloc, "image")?, image))?;
-    Ok(MemFetch::new(files, fails.to_vec(alloc)?))
+) -> MemFetch {
+    let mut files = Vec::new(rt.alloc());
+    put_file(rt, &mut files, "table", bytes(rt, table, &[]));
+    put_file(rt, &mut files, "topology", owned(rt, topology.as_bytes()));
+    put_file(rt, &mut files, "image", image);
+    fetch_of(rt, files, fails)
 }

@@ -1,6 +1,6 @@
 //! Worked hosts: their nodes, their tables, and images that are made by register writes.
 
-ghost use Rattle.std.specs.Prelude.{◌≡◌, ◌≤◌, ◌*◌, List, length, sum_by, IsTrue, IfOk};
+ghost use Rattle.std.specs.Prelude.{◌≡◌, ◌≤◌, ◌*◌, List, length, sum_by, IsTrue};
 ghost use Rattle.cxl_cedt.specs.Records.{record_length};
 ghost use Rattle.cxl_topo.specs.declared.node.Node.{Node};
 ghost use Rattle.cxl_window.specs.Windows.{AreMadeWith};
@@ -18,7 +18,6 @@ use cxl_topo::{Capacity, Node, NodeKind, Parent, Topo};
 use cxl_window::{Window, windows};
 use std::alloc::Global;
 use std::process::Abort;
-use std::test::Fail;
 
 pub(crate) const BASE: u64 = 0x1_0000_0000;
 
@@ -29,7 +28,7 @@ pub(crate) const GIB: u64 = 0x4000_0000;
 
 const PORT: u32 = 0x382;
 
-const DEVICE: u32 = 0x1b02;
+pub(crate) const DEVICE: u32 = 0x1b02;
 
 const PLACEHOLDER: u32 = 0x10;
 
@@ -72,21 +71,31 @@ pub(crate) const FORWARDING: Spot = Spot {
     ..BRIDGE
 };
 
-pub(crate) const fn switch(parent: u32, port: u8) -> Spot {
-    Spot {
-        parent: Some((parent, port)),
-        ..BRIDGE
-    }
+// What follows is written by macros, since a constant calls no function.
+
+macro_rules! switch {
+    ($parent:expr, $port:expr) => {
+        $crate::hosts::Spot {
+            parent: Some(($parent, $port)),
+            ..$crate::hosts::BRIDGE
+        }
+    };
 }
 
-pub(crate) const fn device(parent: u32, port: u8, ram: u64, pmem: u64) -> Spot {
-    Spot {
-        parent: Some((parent, port)),
-        device: Some((ram, pmem)),
-        cap: DEVICE,
-        forwards: false,
-    }
+pub(crate) use switch;
+
+macro_rules! device {
+    ($parent:expr, $port:expr, $ram:expr, $pmem:expr) => {
+        $crate::hosts::Spot {
+            parent: Some(($parent, $port)),
+            device: Some(($ram, $pmem)),
+            cap: $crate::hosts::DEVICE,
+            forwards: false,
+        }
+    };
 }
+
+pub(crate) use device;
 
 /// A window over the bridges of these numbers.
 #[derive(Clone, Copy)]
@@ -99,16 +108,20 @@ pub(crate) struct Span<'a> {
     pub(crate) targets: &'a [u32],
 }
 
-pub(crate) const fn window(size: u64, targets: &[u32]) -> Span<'_> {
-    Span {
-        base: BASE,
-        size,
-        gran: 0,
-        xor: false,
-        restrict: 0x000e,
-        targets,
-    }
+macro_rules! window {
+    ($size:expr, $targets:expr) => {
+        $crate::hosts::Span {
+            base: $crate::hosts::BASE,
+            size: $size,
+            gran: 0,
+            xor: false,
+            restrict: 0x000e,
+            targets: $targets,
+        }
+    };
 }
+
+pub(crate) use window;
 
 /// A decoder of each of the nodes from `first` up to `end`.
 #[derive(Clone, Copy)]
@@ -124,24 +137,21 @@ pub(crate) struct Range {
     pub(crate) tail: u64,
 }
 
-pub(crate) const fn over(
-    first: u32,
-    end: u32,
-    base: u64,
-    size: u64,
-    codes: u32,
-    tail: u64,
-) -> Range {
-    Range {
-        first,
-        end,
-        decoder: 0,
-        base,
-        size,
-        codes,
-        tail,
-    }
+macro_rules! over {
+    ($first:expr, $end:expr, $base:expr, $size:expr, $codes:expr, $tail:expr) => {
+        $crate::hosts::Range {
+            first: $first,
+            end: $end,
+            decoder: 0,
+            base: $base,
+            size: $size,
+            codes: $codes,
+            tail: $tail,
+        }
+    };
 }
+
+pub(crate) use over;
 
 /// So many bridges, so many endpoints under each of them with these bytes of ram and of pmem, and one window with a
 /// target for each bridge.
@@ -156,70 +166,92 @@ pub(crate) struct Bridged {
     pub(crate) xor: bool,
 }
 
-pub(crate) const fn server(bridges: u8, under_each: u8, ram: u64, size: u64) -> Bridged {
-    Bridged {
-        bridges,
-        under_each,
-        capacity: (ram, 0),
-        forwards: false,
-        base: BASE,
-        size,
-        xor: false,
-    }
+macro_rules! server {
+    ($bridges:expr, $under_each:expr, $ram:expr, $size:expr) => {
+        $crate::hosts::Bridged {
+            bridges: $bridges,
+            under_each: $under_each,
+            capacity: ($ram, 0),
+            forwards: false,
+            base: $crate::hosts::BASE,
+            size: $size,
+            xor: false,
+        }
+    };
 }
+
+pub(crate) use server;
 
 // ---- its nodes and its table
 
-pub(crate) fn nodes_of(alloc: Global, spots: &[Spot]) -> Result<Vec<Node>, Fail> {
+pub(crate) fn nodes_of(rt: &impl Abort, alloc: Global, spots: &[Spot]) -> Vec<Node> {
     let mut nodes = Vec::new(alloc);
     for (i, spot) in spots.iter().enumerate() {
-        let letters = [b'n', b'a' + (i / 26 % 26) as u8, b'a' + (i % 26) as u8];
-        let kind = match (spot.device, spot.parent) {
-            (Some((ram, pmem)), _) => NodeKind::Endpoint(Capacity { ram, pmem }),
-            (None, Some(_)) => NodeKind::Switch,
-            (None, None) => NodeKind::Bridge((i % 64) as u32),
-        };
-        nodes.push(Node {
-            name: Name::read(&letters).ok_or("a name")?,
-            kind,
-            parent: spot.parent.map(|(node, port)| Parent { node, port }),
-            cap: spot.cap,
-            forwards: spot.forwards,
-        })?;
+        let node = node_of(rt, i, spot);
+        nodes.push(node).expect(rt, "memory");
     }
-    Ok(nodes)
+    nodes
+}
+
+fn node_of(rt: &impl Abort, i: usize, spot: &Spot) -> Node {
+    let letters = [b'n', b'a' + (i / 26 % 26) as u8, b'a' + (i % 26) as u8];
+    let parent = match spot.parent {
+        Some((node, port)) => Some(Parent { node, port }),
+        None => None,
+    };
+    Node {
+        name: Name::read(&letters).expect(rt, "a name"),
+        kind: kind_of(i, spot),
+        parent,
+        cap: spot.cap,
+        forwards: spot.forwards,
+    }
+}
+
+fn kind_of(i: usize, spot: &Spot) -> NodeKind {
+    match (spot.device, spot.parent) {
+        (Some((ram, pmem)), _) => NodeKind::Endpoint(Capacity { ram, pmem }),
+        (None, Some(_)) => NodeKind::Switch,
+        (None, None) => NodeKind::Bridge((i % 64) as u32),
+    }
 }
 
 /// The table with so many bridges, the windows, and a map of 256 bytes.
-pub(crate) fn table_of(
-    rt: &impl Abort,
-    alloc: Global,
-    spans: &[Span],
-    bridges: u32,
-) -> Result<Cedt, Fail> {
+pub(crate) fn table_of(rt: &impl Abort, alloc: Global, spans: &[Span], bridges: u32) -> Cedt {
     let mut records = Vec::new(alloc);
+    put_bridges(rt, &mut records, bridges);
+    for span in spans {
+        let window = window_record(rt, alloc, span);
+        records.push(window).expect(rt, "memory");
+    }
+    let map = map_record(rt, alloc);
+    records.push(map).expect(rt, "memory");
+    assert!(rt; records.len() <= 64 && are_short(&records));
+    Cedt::new(HEAD, records)
+}
+
+fn put_bridges(rt: &impl Abort, records: &mut Vec<Record>, bridges: u32) {
     for uid in 0..bridges {
-        records.push(Record::Chbs(Chbs {
+        let bridge = Record::Chbs(Chbs {
             uid,
             version: 1,
             base: 0x8000_0000,
             length: 0x1_0000,
-        }))?;
+        });
+        records.push(bridge).expect(rt, "memory");
     }
-    for span in spans {
-        records.push(Record::Cfmws(window_record(rt, alloc, span)?))?;
-    }
-    let maps = [0x40_4100].to_vec(alloc)?;
-    records.push(Record::Cxims(Cxims::new(0, maps)))?;
-    assert!(rt; records.len() <= 64 && are_short(&records));
-    Ok(Cedt::new(HEAD, records))
 }
 
-fn window_record(rt: &impl Abort, alloc: Global, span: &Span) -> Result<Cfmws, Fail> {
+fn map_record(rt: &impl Abort, alloc: Global) -> Record {
+    let maps = [0x40_4100].to_vec(alloc).expect(rt, "memory");
+    Record::Cxims(Cxims::new(0, maps))
+}
+
+fn window_record(rt: &impl Abort, alloc: Global, span: &Span) -> Record {
     assert!(rt; span.targets.len() <= 16 && span.gran <= 6);
     let ways = code_of(span.targets.len() as u8).expect(rt, "a number of ways");
-    let targets = Vec::from_slice(alloc, span.targets)?;
-    Ok(Cfmws::new(
+    let targets = Vec::from_slice(alloc, span.targets).expect(rt, "memory");
+    Record::Cfmws(Cfmws::new(
         span.base,
         span.size,
         ways,
@@ -271,35 +303,63 @@ pub(crate) fn host_of(
     spots: &[Spot],
     spans: &[Span],
     ranges: &[Range],
-) -> Result<Worked, Fail>
-    ensures caps { IfOk result (λ it. HasCapsOf it.image it.topo.nodes) }
-    ensures made { IfOk result (λ it. AreMadeWith it.windows.items (bridge_uids it.topo.nodes)) }
+) -> Worked
+    ensures caps { HasCapsOf result.image result.topo.nodes }
+    ensures made { AreMadeWith result.windows.items (bridge_uids result.topo.nodes) }
 {
-    let topo = Topo::new(alloc, nodes_of(alloc, spots)?, 65_536)?;
+    let topo = Topo::new(alloc, nodes_of(rt, alloc, spots), 65_536).expect(rt, "a tree");
     assert!(rt; topo.uids().len() <= 16);
-    let table = table_of(rt, alloc, spans, topo.uids().len() as u32)?;
-    let windows = windows(alloc, &table, Some(topo.uids()))?;
-    let mut image = Image::new(alloc, &topo)?;
+    let table = table_of(rt, alloc, spans, topo.uids().len() as u32);
+    let windows = windows_of(rt, alloc, &table, topo.uids());
+    let mut image = image_of(rt, alloc, &topo);
     commit_all(rt, &mut image, ranges);
-    Ok(Worked {
+    Worked {
         topo,
         windows,
         image,
-    })
+    }
 }
 
-pub(crate) fn spots_of(alloc: Global, host: &Bridged) -> Result<Vec<Spot>, Fail> {
+/// The windows of a table over these bridges.
+pub(crate) fn windows_of(rt: &impl Abort, alloc: Global, table: &Cedt, uids: &[u32]) -> Vec<Window>
+    ensures { AreMadeWith result.items uids.now }
+{
+    match windows(alloc, table, Some(uids)) {
+        Ok(windows) => windows,
+        Err(_) => panic!(rt; "memory"),
+    }
+}
+
+/// The image of a tree after reset.
+fn image_of(rt: &impl Abort, alloc: Global, topo: &Topo) -> Image
+    ensures { HasCapsOf result topo.now.nodes }
+{
+    match Image::new(alloc, topo) {
+        Ok(image) => image,
+        Err(_) => panic!(rt; "memory"),
+    }
+}
+
+/// The nodes of a host.
+pub(crate) fn spots_of(rt: &impl Abort, alloc: Global, host: &Bridged) -> Vec<Spot> {
     let mut spots = Vec::new(alloc);
     for _ in 0..host.bridges {
-        spots.push(if host.forwards { FORWARDING } else { BRIDGE })?;
+        let bridge = if host.forwards { FORWARDING } else { BRIDGE };
+        spots.push(bridge).expect(rt, "memory");
     }
-    let (ram, pmem) = host.capacity;
     for bridge in 0..host.bridges {
-        for port in 0..host.under_each {
-            spots.push(device(u32::from(bridge), port, ram, pmem))?;
-        }
+        put_devices(rt, &mut spots, host, bridge);
     }
-    Ok(spots)
+    spots
+}
+
+/// Adds the endpoints under a bridge.
+fn put_devices(rt: &impl Abort, spots: &mut Vec<Spot>, host: &Bridged, bridge: u8) {
+    let (ram, pmem) = host.capacity;
+    for port in 0..host.under_each {
+        let below = device!(u32::from(bridge), port, ram, pmem);
+        spots.push(below).expect(rt, "memory");
+    }
 }
 
 /// The host of these nodes under the one window, with these decoders committed.
@@ -309,18 +369,27 @@ pub(crate) fn host_under(
     spots: &[Spot],
     host: &Bridged,
     ranges: &[Range],
-) -> Result<Worked, Fail>
-    ensures caps { IfOk result (λ it. HasCapsOf it.image it.topo.nodes) }
-    ensures made { IfOk result (λ it. AreMadeWith it.windows.items (bridge_uids it.topo.nodes)) }
+) -> Worked
+    ensures caps { HasCapsOf result.image result.topo.nodes }
+    ensures made { AreMadeWith result.windows.items (bridge_uids result.topo.nodes) }
 {
     let uids = [0, 1, 2, 3, 4, 5];
     assert!(rt; host.bridges <= 6);
     let span = Span {
         base: host.base,
         xor: host.xor,
-        ..window(host.size, &uids[..usize::from(host.bridges)])
+        ..window!(host.size, &uids[..usize::from(host.bridges)])
     };
     host_of(rt, alloc, spots, &[span], ranges)
+}
+
+/// The same with the nodes of the host.
+pub(crate) fn host_with(rt: &(impl Abort + AllocGlobal), host: &Bridged, ranges: &[Range]) -> Worked
+    ensures caps { HasCapsOf result.image result.topo.nodes }
+    ensures made { AreMadeWith result.windows.items (bridge_uids result.topo.nodes) }
+{
+    let spots = spots_of(rt, rt.alloc(), host);
+    host_under(rt, rt.alloc(), &spots, host, ranges)
 }
 
 // ---- its image

@@ -1,7 +1,7 @@
-use crate::rows::{bytes, check, check_bytes};
+use crate::rows::{bytes, check, check_files, file};
 use crate::tables::{TWO_BRIDGES, TWO_BRIDGES_XOR};
 use crate::{listings, real_tables};
-use std::test::Fail;
+use std::process::Abort;
 
 /// The tables that other programs made, each with its list and the exit status.
 const REAL: [(&str, &str, u8); 9] = [
@@ -18,98 +18,100 @@ const REAL: [(&str, &str, u8); 9] = [
 
 /// The two-bridge table with a record of type 4 behind it.
 #[test]
-fn records(rt: HostRuntime) -> Result<(), Fail> {
-    let mut table = bytes(rt.alloc(), TWO_BRIDGES, &[(4, 0x98), (9, 0xa8)])?;
-    table.extend_from_slice(&[4, 0, 8, 0, 0xaa, 0xbb, 0xcc, 0xdd])?;
+fn records(rt: HostRuntime) {
+    let mut table = bytes(&rt, TWO_BRIDGES, &[(4, 0x98), (9, 0xa8)]);
+    table
+        .extend_from_slice(&[4, 0, 8, 0, 0xaa, 0xbb, 0xcc, 0xdd])
+        .expect(&rt, "memory");
     let text = "\
 chbs 0 version 1 base 0x80000000 length 0x10000
 chbs 1 version 1 base 0x80010000 length 0x10000
 window 0 base 0x100000000 size 0x100000000 ways 2 gran 256 modulo restrict 0x000e qtg 0 targets 0,1 usable
 other 4 length 8
 ";
-    check(&rt, "list table", table, 0, text)
+    check(&rt, "list table", table, 0, text);
 }
 
 /// XOR arithmetic, with no map and with one.
 #[test]
-fn xor(rt: HostRuntime) -> Result<(), Fail> {
-    let without = bytes(rt.alloc(), TWO_BRIDGES, &[(125, 0x01), (9, 0xc9)])?;
+fn xor(rt: HostRuntime) {
+    let without = bytes(&rt, TWO_BRIDGES, &[(125, 0x01), (9, 0xc9)]);
     let text = "\
 chbs 0 version 1 base 0x80000000 length 0x10000
 chbs 1 version 1 base 0x80010000 length 0x10000
 window 0 base 0x100000000 size 0x100000000 ways 2 gran 256 xor restrict 0x000e qtg 0 targets 0,1 maps
 ";
-    check(&rt, "list table", without, 0, text)?;
+    check(&rt, "list table", without, 0, text);
 
-    let with = bytes(rt.alloc(), TWO_BRIDGES_XOR, &[])?;
+    let with = bytes(&rt, TWO_BRIDGES_XOR, &[]);
     let text = "\
 chbs 0 version 1 base 0x80000000 length 0x10000
 chbs 1 version 1 base 0x80010000 length 0x10000
 window 0 base 0x100000000 size 0x100000000 ways 2 gran 256 xor restrict 0x000e qtg 0 targets 0,1 usable
 cxims gran 256 maps 0x404100
 ";
-    check(&rt, "list table", with, 0, text)
+    check(&rt, "list table", with, 0, text);
 }
 
 #[test]
-fn real_lists(rt: HostRuntime) -> Result<(), Fail> {
-    for (digits, text, code) in REAL {
-        let table = bytes(rt.alloc(), digits, &[])?;
-        check(&rt, "list table", table, code, text)?;
+fn real_lists(rt: HostRuntime) {
+    for (digits, text, code) in &REAL {
+        let table = bytes(&rt, digits, &[]);
+        check(&rt, "list table", table, *code, text);
     }
-    Ok(())
+}
+
+/// Checks that the table's normal form is this.
+fn is_normal(rt: &(impl Abort + AllocGlobal), table: Vec<u8>, want: &[u8]) {
+    check_files(rt, "normal table", file(rt, table, &[]), 0, want);
 }
 
 /// Their reserved fields are zero, so that each is its own normal form.
 #[test]
-fn real_normal_forms(rt: HostRuntime) -> Result<(), Fail> {
-    for (digits, text, code) in REAL {
-        let table = bytes(rt.alloc(), digits, &[])?;
-        if code == 0 {
-            let want = bytes(rt.alloc(), digits, &[])?;
-            check_bytes(&rt, "normal table", table, 0, &want)?;
+fn real_normal_forms(rt: HostRuntime) {
+    for (digits, text, code) in &REAL {
+        let table = bytes(&rt, digits, &[]);
+        if *code == 0 {
+            is_normal(&rt, table, bytes(&rt, digits, &[]).as_slice());
         } else {
-            check(&rt, "normal table", table, code, text)?;
+            check(&rt, "normal table", table, *code, text);
         }
     }
-    Ok(())
 }
 
 /// A reserved byte of the first bridge is 5.
 #[test]
-fn reserved_fields(rt: HostRuntime) -> Result<(), Fail> {
-    let table = bytes(rt.alloc(), TWO_BRIDGES, &[(37, 0x05), (9, 0xc5)])?;
-    let want = bytes(rt.alloc(), TWO_BRIDGES, &[])?;
-    check_bytes(&rt, "normal table", table, 0, &want)
+fn reserved_fields(rt: HostRuntime) {
+    let table = bytes(&rt, TWO_BRIDGES, &[(37, 0x05), (9, 0xc5)]);
+    is_normal(&rt, table, bytes(&rt, TWO_BRIDGES, &[]).as_slice());
 }
 
 #[test]
-fn faults(rt: HostRuntime) -> Result<(), Fail> {
-    let rows = [
-        ((9, 0xcb), (9, 0xcb), "error: table checksum\n"),
-        ((124, 0x05), (9, 0xc6), "error: table ways-code 100\n"),
-    ];
-    for (change, sum, text) in rows {
+fn faults(rt: HostRuntime) {
+    for (change, sum, text) in &FAULTS {
         for words in ["list table", "normal table"] {
-            let table = bytes(rt.alloc(), TWO_BRIDGES, &[change, sum])?;
-            check(&rt, words, table, 3, text)?;
+            let table = bytes(&rt, TWO_BRIDGES, &[*change, *sum]);
+            check(&rt, words, table, 3, text);
         }
     }
-    Ok(())
 }
+
+const FAULTS: [((usize, u8), (usize, u8), &str); 2] = [
+    ((9, 0xcb), (9, 0xcb), "error: table checksum\n"),
+    ((124, 0x05), (9, 0xc6), "error: table ways-code 100\n"),
+];
 
 /// Each front of the two-bridge table but the whole.
 #[test]
-fn fronts(rt: HostRuntime) -> Result<(), Fail> {
+fn fronts(rt: HostRuntime) {
     for n in 0..144 {
-        let mut front = bytes(rt.alloc(), TWO_BRIDGES, &[])?;
+        let mut front = bytes(&rt, TWO_BRIDGES, &[]);
         front.truncate(n);
         let text = if n < 36 {
             "error: table short\n"
         } else {
             "error: table length\n"
         };
-        check(&rt, "list table", front, 3, text)?;
+        check(&rt, "list table", front, 3, text);
     }
-    Ok(())
 }

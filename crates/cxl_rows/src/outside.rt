@@ -1,54 +1,57 @@
-use crate::rows::{ROOM, bytes, check, file, run_words};
+use crate::rows::{ROOM, bytes, check, check_files, code_of_run, ends, file, sink_of, words_of};
 use crate::tables::{HEADER_OF_OTHERS, TWO_BRIDGES};
-use cxl_io::{MemFetch, MemSink};
-use cxl_shell::{HELP, Status, run};
-use std::test::Fail;
+use cxl_io::MemFetch;
+use cxl_shell::{HELP, Status};
+use std::process::Abort;
 
 /// Words that are none of the forms, or whose address is no number.
 #[test]
-fn usage(rt: HostRuntime) -> Result<(), Fail> {
-    let rows = [
-        "",
-        "route",
-        "route table",
-        "route table 0x100000000 0",
-        "routes table 0x100000000",
-        "route table 0x",
-        "route table 0x10000000g",
-        "route table 18446744073709551616",
-        "list",
-        "list table table",
-        "lists table",
-        "normal",
-        "normal table 0",
-        "check",
-        "check table table",
-        "check table table table table",
-        "--help route",
-        "--version 0",
-    ];
-    for words in rows {
-        let table = bytes(rt.alloc(), TWO_BRIDGES, &[])?;
-        check(&rt, words, table, 1, "usage\n")?;
+fn usage(rt: HostRuntime) {
+    for words in &MISUSED {
+        let table = bytes(&rt, TWO_BRIDGES, &[]);
+        check(&rt, words, table, 1, "usage\n");
     }
-    Ok(())
 }
 
+const MISUSED: [&str; 18] = [
+    "",
+    "route",
+    "route table",
+    "route table 0x100000000 0",
+    "routes table 0x100000000",
+    "route table 0x",
+    "route table 0x10000000g",
+    "route table 18446744073709551616",
+    "list",
+    "list table table",
+    "lists table",
+    "normal",
+    "normal table 0",
+    "check",
+    "check table table",
+    "check table table table table",
+    "--help route",
+    "--version 0",
+];
+
 #[test]
-fn no_words(rt: HostRuntime) -> Result<(), Fail> {
+fn no_words(rt: HostRuntime) {
     let alloc = rt.alloc();
     let mut files = MemFetch::new(Vec::new(alloc), Vec::new(alloc));
-    let mut sink = MemSink::new(alloc, ROOM, Vec::new(alloc))?;
-    assert_eq!(rt; run(alloc, &[], &mut files, &mut sink), Status::Usage);
-    assert_eq!(rt; sink.bytes(), b"usage\n".as_slice());
-    Ok(())
+    let mut sink = sink_of(&rt, ROOM, &[]);
+    let code = Status::Usage.code();
+    ends(&rt, &[], &mut files, &mut sink, code, b"usage\n");
 }
 
 #[test]
-fn help_and_version(rt: HostRuntime) -> Result<(), Fail> {
-    let alloc = rt.alloc();
-    check(&rt, "--help", Vec::new(alloc), 0, HELP)?;
-    check(&rt, "--version", Vec::new(alloc), 0, "cxlplan 0.1.0\n")?;
+fn help_and_version(rt: HostRuntime) {
+    for (word, text) in [("--help", HELP), ("--version", "cxlplan 0.1.0\n")] {
+        check(&rt, word, Vec::new(rt.alloc()), 0, text);
+    }
+}
+
+#[test]
+fn help_of_forms(rt: HostRuntime) {
     for form in [
         "route CEDT HPA ",
         "list CEDT ",
@@ -58,96 +61,99 @@ fn help_and_version(rt: HostRuntime) -> Result<(), Fail> {
     ] {
         assert!(rt; HELP.contains(form), "{form}");
     }
-    Ok(())
 }
 
-/// A file that is not there, one that cannot be read, and one of 1,048,577 bytes.
+/// A file that is not there, and one that cannot be read.
 #[test]
-fn files(rt: HostRuntime) -> Result<(), Fail> {
-    let alloc = rt.alloc();
-    let table = bytes(alloc, TWO_BRIDGES, &[])?;
+fn unread_files(rt: HostRuntime) {
+    let table = bytes(&rt, TWO_BRIDGES, &[]);
     let missing = "error: cannot read missing.cedt\n";
-    check(&rt, "route missing.cedt 0x100000000", table, 2, missing)?;
+    check(&rt, "route missing.cedt 0x100000000", table, 2, missing);
 
-    let table = file(alloc, "table", bytes(alloc, TWO_BRIDGES, &[])?, &[1])?;
-    let sink = MemSink::new(alloc, ROOM, Vec::new(alloc))?;
-    let end = run_words(alloc, "route table 0x100000000", table, sink)?;
-    assert_eq!(rt; end.status, Status::FetchFault);
-    assert_eq!(rt;
-        end.text.as_slice(),
-        b"error: cannot read table\n".as_slice()
-    );
+    let failing = file(&rt, bytes(&rt, TWO_BRIDGES, &[]), &[1]);
+    let code = Status::FetchFault.code();
+    let text = b"error: cannot read table\n";
+    check_files(&rt, "route table 0x100000000", failing, code, text);
+}
 
+/// A file of 1,048,577 bytes.
+#[test]
+fn large_files(rt: HostRuntime) {
     for words in ["route table 0x100000000", "list table", "normal table"] {
-        let large = vec![in alloc; 0; 1_048_577]?;
-        check(&rt, words, large, 12, "error: table too large\n")?;
+        let mut large = Vec::new(rt.alloc());
+        large.resize(1_048_577, 0).expect(&rt, "memory");
+        check(&rt, words, large, 12, "error: table too large\n");
     }
-    Ok(())
+}
+
+/// Checks that over the two-bridge table the sink fails behind these bytes.
+fn fails_behind(
+    rt: &(impl Abort + AllocGlobal),
+    line: &str,
+    room: u32,
+    fails: &[u64],
+    text: &[u8],
+) {
+    let mut files = file(rt, bytes(rt, TWO_BRIDGES, &[]), &[]);
+    let mut sink = sink_of(rt, room, fails);
+    let words = words_of(rt, line);
+    ends(rt, words.as_slice(), &mut files, &mut sink, 6, text);
 }
 
 /// A sink with room for five bytes, and one whose first write fails.
 #[test]
-fn sinks(rt: HostRuntime) -> Result<(), Fail> {
-    let rows: [(u32, u64, &[u8]); 2] = [(5, 0, b"windo"), (ROOM, 1, b"")];
-    for (room, fails, text) in rows {
-        let alloc = rt.alloc();
-        let table = file(alloc, "table", bytes(alloc, TWO_BRIDGES, &[])?, &[])?;
-        let sink = MemSink::new(alloc, room, vec![in alloc; fails]?)?;
-        let end = run_words(alloc, "route table 0x100000000", table, sink)?;
-        assert_eq!(rt; end.status.code(), 6);
-        assert_eq!(rt; end.text.as_slice(), text);
-    }
-    Ok(())
+fn sinks(rt: HostRuntime) {
+    fails_behind(&rt, "route table 0x100000000", 5, &[], b"windo");
+    fails_behind(&rt, "route table 0x100000000", ROOM, &[1], b"");
 }
 
 /// A list with room for its first line and five bytes of the second, and one whose first write fails.
 #[test]
-fn sinks_of_lines(rt: HostRuntime) -> Result<(), Fail> {
+fn sinks_of_lines(rt: HostRuntime) {
     let part = "chbs 0 version 1 base 0x80000000 length 0x10000\nchbs ";
-    for (room, fails, text) in [(53, 0, part), (ROOM, 1, "")] {
-        let alloc = rt.alloc();
-        let table = file(alloc, "table", bytes(alloc, TWO_BRIDGES, &[])?, &[])?;
-        let sink = MemSink::new(alloc, room, vec![in alloc; fails]?)?;
-        let end = run_words(alloc, "list table", table, sink)?;
-        assert_eq!(rt; end.status.code(), 6);
-        assert_eq!(rt; end.text.as_slice(), text.as_bytes());
-    }
-    Ok(())
+    fails_behind(&rt, "list table", 53, &[], part.as_bytes());
+    fails_behind(&rt, "list table", ROOM, &[1], b"");
 }
 
 /// A list of 5,000 lines of 17 bytes goes out in two blocks. Where the second write fails, the first
 /// 3,856 lines are written, which are the first with 65,536 bytes or more.
 #[test]
-fn blocks_of_lines(rt: HostRuntime) -> Result<(), Fail> {
-    let alloc = rt.alloc();
-    for (fails, code, lines) in [(0, 0, 5_000), (2, 6, 3_856)] {
-        let mut table = bytes(alloc, HEADER_OF_OTHERS, &[])?;
-        for _ in 0..5_000 {
-            table.extend_from_slice(&[4, 0, 4, 0])?;
-        }
-        let sink = MemSink::new(alloc, ROOM, vec![in alloc; fails]?)?;
-        let end = run_words(alloc, "list table", file(alloc, "table", table, &[])?, sink)?;
-        assert_eq!(rt; end.status.code(), code);
-        assert_eq!(rt; end.text.len(), 17 * lines);
+fn blocks_of_lines(rt: HostRuntime) {
+    writes_so_many(&rt, &[], 0, 17 * 5_000);
+    writes_so_many(&rt, &[2], 6, 17 * 3_856);
+}
+
+fn writes_so_many(rt: &(impl Abort + AllocGlobal), fails: &[u64], code: u8, count: usize) {
+    let mut files = file(rt, many_others(rt), &[]);
+    let mut sink = sink_of(rt, ROOM, fails);
+    let words = words_of(rt, "list table");
+    let status = code_of_run(rt, words.as_slice(), &mut files, &mut sink);
+    assert_eq!(rt; status, code);
+    assert_eq!(rt; sink.bytes().len(), count);
+}
+
+/// The table of 5,000 records of type 4.
+fn many_others(rt: &(impl Abort + AllocGlobal)) -> Vec<u8> {
+    let mut table = bytes(rt, HEADER_OF_OTHERS, &[]);
+    for _ in 0..5_000 {
+        table.extend_from_slice(&[4, 0, 4, 0]).expect(rt, "memory");
     }
-    Ok(())
+    table
 }
 
 /// The one file of the words is asked for, once.
 #[test]
-fn names_of_files(rt: HostRuntime) -> Result<(), Fail> {
-    let alloc = rt.alloc();
-    for (words, wanted) in [("list table", "table"), ("normal missing", "missing")] {
-        let mut files = file(alloc, "table", bytes(alloc, TWO_BRIDGES, &[])?, &[])?;
-        let mut sink = MemSink::new(alloc, ROOM, Vec::new(alloc))?;
-        let mut line = Vec::new(alloc);
-        for word in words.split(' ') {
-            line.push(String::from_str(alloc, word)?)?;
-        }
-        run(alloc, line.as_slice(), &mut files, &mut sink);
-        let asked = files.asked();
-        assert_eq!(rt; asked.len(), 1, "names of {words}");
-        assert_eq!(rt; asked[0].as_str(), wanted);
-    }
-    Ok(())
+fn names_of_files(rt: HostRuntime) {
+    asks_for(&rt, "list table", "table");
+    asks_for(&rt, "normal missing", "missing");
+}
+
+fn asks_for(rt: &(impl Abort + AllocGlobal), line: &str, name: &str) {
+    let mut files = file(rt, bytes(rt, TWO_BRIDGES, &[]), &[]);
+    let mut sink = sink_of(rt, ROOM, &[]);
+    let words = words_of(rt, line);
+    code_of_run(rt, words.as_slice(), &mut files, &mut sink);
+    let asked = files.asked();
+    assert_eq!(rt; asked.len(), 1, "names of {line}");
+    assert_eq!(rt; asked[0].as_str(), name);
 }

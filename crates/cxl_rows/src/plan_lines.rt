@@ -1,12 +1,10 @@
 use crate::host_files::{TWO_ENDPOINTS, TWO_ENDPOINTS_FORWARDED};
-use crate::rows::{ROOM, bytes, run_list};
+use crate::rows::{ROOM, bytes, ends, fetch_of, owned, put_file, put_word, sink_of, words_of};
 use crate::tables::{
     FOUR_WINDOWS, ONE_BRIDGE, SERVER, THREE_BRIDGES, TWO_BRIDGES, TWO_BRIDGES_WIDE,
 };
-use cxl_io::{MemFetch, MemSink};
-use std::alloc::Global;
+use cxl_io::MemFetch;
 use std::process::Abort;
-use std::test::Fail;
 
 /// Two bridges with two endpoints of 256 GiB of volatile memory each.
 const FOUR_ENDPOINTS: &str = r#"
@@ -128,51 +126,49 @@ type Row<'a> = (&'a str, &'a str, &'a str, u8, &'a str);
 
 /// A table and a topology in memory, and the numbers of the fetches that fail.
 fn two_files(
-    alloc: Global,
+    rt: &(impl Abort + AllocGlobal),
     table: Vec<u8>,
     topology: &str,
     fails: &[u64],
-) -> Result<MemFetch, Fail> {
-    let mut files = Vec::new(alloc);
-    let topology = Vec::from_slice(alloc, topology.as_bytes())?;
-    files.push((String::from_str(alloc, "table")?, table))?;
-    files.push((String::from_str(alloc, "topology")?, topology))?;
-    Ok(MemFetch::new(files, fails.to_vec(alloc)?))
+) -> MemFetch {
+    let mut files = Vec::new(rt.alloc());
+    put_file(rt, &mut files, "table", table);
+    put_file(rt, &mut files, "topology", owned(rt, topology.as_bytes()));
+    fetch_of(rt, files, fails)
 }
 
 /// Checks that `plan` with this line ends with this exit status and this text over these files.
-fn check_files(
+fn check_line(
     rt: &(impl Abort + AllocGlobal),
-    files: MemFetch,
+    mut files: MemFetch,
     line: &str,
     code: u8,
     text: &str,
-) -> Result<(), Fail> {
-    let alloc = rt.alloc();
-    let mut words = Vec::new(alloc);
-    for word in ["plan", "table", "topology", line] {
-        words.push(String::from_str(alloc, word)?)?;
-    }
-    let sink = MemSink::new(alloc, ROOM, Vec::new(alloc))?;
-    let end = run_list(alloc, words.as_slice(), files, sink)?;
-    assert_eq!(rt; end.text.as_slice(), text.as_bytes(), "text of {line}");
-    assert_eq!(rt; end.status.code(), code, "status of {line}");
-    Ok(())
+) {
+    let mut words = words_of(rt, "plan table topology");
+    put_word(rt, &mut words, line);
+    let mut sink = sink_of(rt, ROOM, &[]);
+    ends(
+        rt,
+        words.as_slice(),
+        &mut files,
+        &mut sink,
+        code,
+        text.as_bytes(),
+    );
 }
 
-fn check_rows(rt: &(impl Abort + AllocGlobal), rows: &[Row]) -> Result<(), Fail> {
-    let alloc = rt.alloc();
+fn check_rows(rt: &(impl Abort + AllocGlobal), rows: &[Row]) {
     for (table, topology, line, code, text) in rows {
-        let files = two_files(alloc, bytes(alloc, table, &[])?, topology, &[])?;
-        check_files(rt, files, line, *code, text)?;
+        let files = two_files(rt, bytes(rt, table, &[]), topology, &[]);
+        check_line(rt, files, line, *code, text);
     }
-    Ok(())
 }
 
 /// Plans over hosts after reset.
 #[test]
-fn plans(rt: HostRuntime) -> Result<(), Fail> {
-    check_rows(&rt, &PLANS)
+fn plans(rt: HostRuntime) {
+    check_rows(&rt, &PLANS);
 }
 
 const PLANS: [Row; 4] = [
@@ -208,8 +204,8 @@ const PLANS: [Row; 4] = [
 
 /// Names that are no endpoint's, and the faults of requests.
 #[test]
-fn refusals(rt: HostRuntime) -> Result<(), Fail> {
-    check_rows(&rt, &REFUSALS)
+fn refusals(rt: HostRuntime) {
+    check_rows(&rt, &REFUSALS);
 }
 
 const REFUSALS: [Row; 7] = [
@@ -266,8 +262,8 @@ const REFUSALS: [Row; 7] = [
 
 /// Why windows take no region.
 #[test]
-fn reasons(rt: HostRuntime) -> Result<(), Fail> {
-    check_rows(&rt, &REASONS)
+fn reasons(rt: HostRuntime) {
+    check_rows(&rt, &REASONS);
 }
 
 const REASONS: [Row; 6] = [
@@ -317,8 +313,8 @@ const REASONS: [Row; 6] = [
 
 /// Plans over endpoints that are picked.
 #[test]
-fn plans_by_ways(rt: HostRuntime) -> Result<(), Fail> {
-    check_rows(&rt, &PICKED)
+fn plans_by_ways(rt: HostRuntime) {
+    check_rows(&rt, &PICKED);
 }
 
 const PICKED: [Row; 5] = [
@@ -361,8 +357,8 @@ const PICKED: [Row; 5] = [
 
 /// Why none are picked.
 #[test]
-fn refusals_by_ways(rt: HostRuntime) -> Result<(), Fail> {
-    check_rows(&rt, &NOT_PICKED)
+fn refusals_by_ways(rt: HostRuntime) {
+    check_rows(&rt, &NOT_PICKED);
 }
 
 const NOT_PICKED: [Row; 6] = [
@@ -412,44 +408,42 @@ const NOT_PICKED: [Row; 6] = [
 
 /// Lines that ask for no region: no file is asked for.
 #[test]
-fn lines(rt: HostRuntime) -> Result<(), Fail> {
-    let alloc = rt.alloc();
-    for line in [
-        "",
-        "# create x ram 0x20000000 e0 e1",
-        "create x ram 0x20000000",
-        "create abcdefghijklmnop ram 0x20000000 e0 e1",
-        "begin create x ram 0x20000000 e0 e1",
-        "destroy x",
-        "create x ram 0x20000000 ways=0",
-        "create x ram 0x20000000 ways=17",
-        "create x ram 0x20000000 ways=2 e0",
-        "create x ram 0x20000000 e0 ways=2",
-        "begin create x ram 0x20000000 ways=2",
-    ] {
-        let files = two_files(alloc, Vec::new(alloc), "", &[1])?;
-        check_files(&rt, files, line, 1, "usage\n")?;
+fn lines(rt: HostRuntime) {
+    for line in &NO_CREATE {
+        let files = two_files(&rt, Vec::new(rt.alloc()), "", &[1]);
+        check_line(&rt, files, line, 1, "usage\n");
     }
-    Ok(())
 }
+
+const NO_CREATE: [&str; 11] = [
+    "",
+    "# create x ram 0x20000000 e0 e1",
+    "create x ram 0x20000000",
+    "create abcdefghijklmnop ram 0x20000000 e0 e1",
+    "begin create x ram 0x20000000 e0 e1",
+    "destroy x",
+    "create x ram 0x20000000 ways=0",
+    "create x ram 0x20000000 ways=17",
+    "create x ram 0x20000000 ways=2 e0",
+    "create x ram 0x20000000 e0 ways=2",
+    "begin create x ram 0x20000000 ways=2",
+];
 
 /// A file that cannot be read or has no reading; the table comes first.
 #[test]
-fn files_in_order(rt: HostRuntime) -> Result<(), Fail> {
-    let alloc = rt.alloc();
-    let table = bytes(alloc, TWO_BRIDGES, &[])?;
-    let rows: [(usize, &str, &[u64], u8, &str); 5] = [
-        (144, "", &[1], 2, "error: cannot read table\n"),
-        (144, "", &[2], 2, "error: cannot read topology\n"),
-        (143, "[[bridge", &[2], 3, "error: table length\n"),
-        (144, "[[bridge", &[], 4, "error: topology toml\n"),
-        (1_048_577, "", &[], 12, "error: table too large\n"),
-    ];
-    for (len, topology, fails, code, text) in rows {
-        let mut table = Vec::from_slice(alloc, table.as_slice())?;
-        table.resize(len, 0)?;
-        let files = two_files(alloc, table, topology, fails)?;
-        check_files(&rt, files, "create x ram 0x20000000 e0 e1", code, text)?;
+fn files_in_order(rt: HostRuntime) {
+    for (len, topology, fails, code, text) in &IN_ORDER {
+        let mut table = bytes(&rt, TWO_BRIDGES, &[]);
+        table.resize(*len, 0).expect(&rt, "memory");
+        let files = two_files(&rt, table, topology, fails);
+        check_line(&rt, files, "create x ram 0x20000000 e0 e1", *code, text);
     }
-    Ok(())
 }
+
+const IN_ORDER: [(usize, &str, &[u64], u8, &str); 5] = [
+    (144, "", &[1], 2, "error: cannot read table\n"),
+    (144, "", &[2], 2, "error: cannot read topology\n"),
+    (143, "[[bridge", &[2], 3, "error: table length\n"),
+    (144, "[[bridge", &[], 4, "error: topology toml\n"),
+    (1_048_577, "", &[], 12, "error: table too large\n"),
+];

@@ -1,23 +1,25 @@
 //! Plans over hosts of a few nodes, with regions that are made by register writes.
 
 ghost use Rattle.std.specs.Prelude.{◌≡◌, true, All, IsTrue};
+ghost use Rattle.cxl_image.specs.Images.{HasCapsOf};
+ghost use Rattle.cxl_model.specs.System.{bridge_uids};
 ghost use Rattle.cxl_topo.specs.Tree.{is_endpoint_at};
+ghost use Rattle.cxl_window.specs.Windows.{AreMadeWith};
 
 use crate::hosts::{
-    BASE, BRIDGE, FORWARDING, GIB, Range, Span, Spot, UNIT, device, host_of, over, window,
+    BASE, BRIDGE, FORWARDING, GIB, Range, Span, Spot, UNIT, Worked, device, host_of, over, window,
 };
 use cxl_check::check;
 use cxl_enc::{FixedList, MemKind, Name};
-use cxl_model::{Plan, PlanFault, Reason, Request, Room, SpanFault};
+use cxl_model::{Place, Plan, PlanFault, Reason, Request, Room, Row, SpanFault};
 use cxl_plan::plan;
 use cxl_topo::Topo;
 use std::alloc::Global;
 use std::process::Abort;
-use std::test::Fail;
 
 /// A plan's window, base, granularity code and ways; or the fault.
-#[derive(Clone, Copy, Debug, PartialEq, Eq)]
-enum Told {
+#[derive(Clone, Copy, PartialEq, Eq)]
+enum Told<'a> {
     Planned(u32, u64, u8, u8),
     Repeat(u32),
     Ways(u32),
@@ -25,30 +27,58 @@ enum Told {
     Uneven(u32),
     NoDecoder(u32),
     Span(u32, SpanFault),
-    NoWindow,
+    NoWindow(&'a [Reason]),
     Memory,
 }
 
-/// A host with its regions, and what is asked for: kind, size, granularity code and endpoints.
+/// A host with its regions.
 #[derive(Clone, Copy)]
-struct Case<'a> {
+struct Parts<'a> {
     nodes: &'a [Spot],
     windows: &'a [Span<'a>],
     ranges: &'a [Range],
+}
+
+/// What is asked for: kind, size, granularity code and endpoints.
+#[derive(Clone, Copy)]
+struct Asked<'a> {
     kind: MemKind,
     size: u64,
     gran: Option<u8>,
     endpoints: &'a [u32],
 }
 
-fn request_of(alloc: Global, case: &Case) -> Result<Request, Fail> {
-    Ok(Request {
-        name: Name::read(b"r0").ok_or("a name")?,
-        kind: case.kind,
-        size: case.size,
-        gran: case.gran,
-        endpoints: FixedList::new(Vec::from_slice(alloc, case.endpoints)?),
-    })
+macro_rules! ram {
+    ($size:expr, $endpoints:expr) => {
+        Asked {
+            kind: MemKind::Ram,
+            size: $size,
+            gran: None,
+            endpoints: $endpoints,
+        }
+    };
+}
+
+macro_rules! pmem {
+    ($size:expr, $gran:expr, $endpoints:expr) => {
+        Asked {
+            kind: MemKind::Pmem,
+            size: $size,
+            gran: $gran,
+            endpoints: $endpoints,
+        }
+    };
+}
+
+fn request_of(rt: &impl Abort, alloc: Global, asked: &Asked) -> Request {
+    let endpoints = Vec::from_slice(alloc, asked.endpoints).expect(rt, "memory");
+    Request {
+        name: Name::read(b"r0").expect(rt, "a name"),
+        kind: asked.kind,
+        size: asked.size,
+        gran: asked.gran,
+        endpoints: FixedList::new(endpoints),
+    }
 }
 
 /// Whether all are endpoints.
@@ -63,16 +93,24 @@ fn are_devices(topo: &Topo, endpoints: &[u32]) -> bool
     true
 }
 
-/// The plan of a case over its image, which has to be accepted.
-fn planned(rt: &impl Abort, alloc: Global, case: &Case) -> Result<Result<Plan, PlanFault>, Fail> {
-    let host = host_of(rt, alloc, case.nodes, case.windows, case.ranges)?;
-    let _regions = check(alloc, &host.image, &host.topo, &host.windows)?;
-    let request = request_of(alloc, case)?;
+/// What is planned over a host's image, which has to be accepted.
+fn planned(
+    rt: &impl Abort,
+    alloc: Global,
+    host: &Worked,
+    request: &Request,
+) -> Result<Plan, PlanFault>
+    requires caps { HasCapsOf host.now.image host.now.topo.nodes }
+    requires made { AreMadeWith host.now.windows.items (bridge_uids host.now.topo.nodes) }
+{
     assert!(rt; are_devices(&host.topo, request.endpoints.items()));
-    Ok(plan(alloc, &host.image, &host.topo, &host.windows, &request))
+    match check(alloc, &host.image, &host.topo, &host.windows) {
+        Ok(_) => plan(alloc, &host.image, &host.topo, &host.windows, request),
+        Err(_) => panic!(rt; "the image is not accepted"),
+    }
 }
 
-fn answer(outcome: &Result<Plan, PlanFault>) -> Told {
+fn answer(outcome: &Result<Plan, PlanFault>) -> Told<'_> {
     match outcome {
         Ok(plan) => Told::Planned(
             plan.found.window,
@@ -86,48 +124,46 @@ fn answer(outcome: &Result<Plan, PlanFault>) -> Told {
         Err(PlanFault::Uneven(node)) => Told::Uneven(*node),
         Err(PlanFault::NoDecoder(node)) => Told::NoDecoder(*node),
         Err(PlanFault::Span(endpoint, fault)) => Told::Span(*endpoint, *fault),
-        Err(PlanFault::NoWindow(_)) => Told::NoWindow,
+        Err(PlanFault::NoWindow(reasons)) => Told::NoWindow(reasons.items()),
         Err(PlanFault::Memory) => Told::Memory,
     }
 }
 
-/// The answer to a case is this.
-fn tells(rt: &impl Abort, alloc: Global, case: &Case, want: Told) -> Result<(), Fail> {
-    let outcome = planned(rt, alloc, case)?;
-    assert_eq!(rt; answer(&outcome), want);
-    Ok(())
+/// A host of these parts.
+fn host(rt: &(impl Abort + AllocGlobal), parts: &Parts) -> Worked
+    ensures caps { HasCapsOf result.image result.topo.nodes }
+    ensures made { AreMadeWith result.windows.items (bridge_uids result.topo.nodes) }
+{
+    host_of(rt, rt.alloc(), parts.nodes, parts.windows, parts.ranges)
 }
 
-/// No window takes a case, for these reasons.
-fn tells_reasons(rt: &impl Abort, alloc: Global, case: &Case, want: &[Reason]) -> Result<(), Fail> {
-    match planned(rt, alloc, case)? {
-        Err(PlanFault::NoWindow(reasons)) => assert!(rt; reasons.items() == want),
-        _ => return Err(Fail::from("another answer")),
+/// The answers to what is asked for over a host are these.
+fn tells(rt: &(impl Abort + AllocGlobal), parts: &Parts, rows: &[(Asked, Told)]) {
+    let host = host(rt, parts);
+    for (asked, want) in rows {
+        let request = request_of(rt, rt.alloc(), asked);
+        let outcome = planned(rt, rt.alloc(), &host, &request);
+        assert!(rt; answer(&outcome) == *want, "a plan of {} bytes", asked.size);
     }
-    Ok(())
 }
 
 /// Two bridges with one endpoint of 2 GiB each.
-fn one_each() -> [Spot; 4] {
-    [
-        BRIDGE,
-        BRIDGE,
-        device(0, 0, 2 * GIB, 0),
-        device(1, 0, 2 * GIB, 0),
-    ]
-}
+const ONE_EACH: [Spot; 4] = [
+    BRIDGE,
+    BRIDGE,
+    device!(0, 0, 2 * GIB, 0),
+    device!(1, 0, 2 * GIB, 0),
+];
 
 /// Two bridges with two endpoints each.
-fn two_each() -> [Spot; 6] {
-    [
-        BRIDGE,
-        BRIDGE,
-        device(0, 0, 0x40_0000_0000, 0),
-        device(0, 1, 0x40_0000_0000, 0),
-        device(1, 0, 0x40_0000_0000, 0),
-        device(1, 1, 0x40_0000_0000, 0),
-    ]
-}
+const TWO_EACH: [Spot; 6] = [
+    BRIDGE,
+    BRIDGE,
+    device!(0, 0, 0x40_0000_0000, 0),
+    device!(0, 1, 0x40_0000_0000, 0),
+    device!(1, 0, 0x40_0000_0000, 0),
+    device!(1, 1, 0x40_0000_0000, 0),
+];
 
 const LARGE: Span = Span {
     base: 0x10_0000_0000,
@@ -138,397 +174,345 @@ const LARGE: Span = Span {
     targets: &[0, 1],
 };
 
+const OF_TWO_EACH: Parts = Parts {
+    nodes: &TWO_EACH,
+    windows: &[LARGE],
+    ranges: &[],
+};
+
 #[test]
-fn named_endpoints(rt: HostRuntime) -> Result<(), Fail> {
-    let alloc = rt.alloc();
-    let of_four = [
-        over(0, 2, LARGE.base, GIB, 0x11, 0x0100),
-        over(2, 6, LARGE.base, GIB, 0x20, 0),
-    ];
-    let nodes = two_each();
-    let all = Case {
-        nodes: &nodes,
-        windows: &[LARGE],
-        ranges: &[],
-        kind: MemKind::Ram,
-        size: GIB,
-        gran: None,
-        endpoints: &[2, 3, 4, 5],
+fn named_endpoints(rt: HostRuntime) {
+    tells(&rt, &OF_TWO_EACH, &NAMED);
+    let behind = Parts {
+        ranges: &[
+            over!(0, 2, LARGE.base, GIB, 0x11, 0x0100),
+            over!(2, 6, LARGE.base, GIB, 0x20, 0),
+        ],
+        ..OF_TWO_EACH
     };
-    let whole = Told::Planned(0, LARGE.base, 0, 4);
-    tells(&rt, alloc, &all, whole)?;
-    let turned = Case {
-        endpoints: &[5, 2, 4, 3],
-        ..all
-    };
-    tells(&rt, alloc, &turned, whole)?;
-    let behind = Case {
-        ranges: &of_four,
-        size: 2 * UNIT,
-        endpoints: &[2, 4],
-        ..all
-    };
-    tells(&rt, alloc, &behind, Told::Planned(0, 0x10_4000_0000, 0, 2))?;
-    let twice = Case {
-        size: UNIT,
-        endpoints: &[2, 2],
-        ..all
-    };
-    tells(&rt, alloc, &twice, Told::Repeat(2))?;
-    let three = Case {
-        size: 3 * UNIT,
-        endpoints: &[2, 3, 4],
-        ..all
-    };
-    tells(&rt, alloc, &three, Told::Uneven(1))?;
-    let one_bridge = Case {
-        size: 2 * UNIT,
-        endpoints: &[2, 3],
-        ..all
-    };
-    tells_reasons(&rt, alloc, &one_bridge, &[Reason::Bridges])
+    let next = Told::Planned(0, 0x10_4000_0000, 0, 2);
+    tells(&rt, &behind, &[(ram!(2 * UNIT, &[2, 4]), next)]);
 }
+
+const NAMED: [(Asked, Told); 5] = [
+    (ram!(GIB, &[2, 3, 4, 5]), Told::Planned(0, LARGE.base, 0, 4)),
+    (ram!(GIB, &[5, 2, 4, 3]), Told::Planned(0, LARGE.base, 0, 4)),
+    (ram!(UNIT, &[2, 2]), Told::Repeat(2)),
+    (ram!(3 * UNIT, &[2, 3, 4]), Told::Uneven(1)),
+    (ram!(2 * UNIT, &[2, 3]), Told::NoWindow(&[Reason::Bridges])),
+];
 
 /// The first endpoint has no memory.
 #[test]
-fn bare_endpoint(rt: HostRuntime) -> Result<(), Fail> {
-    let alloc = rt.alloc();
-    let mut nodes = two_each();
-    nodes[2] = device(0, 0, 0, 0);
-    let two = Case {
+fn bare_endpoint(rt: HostRuntime) {
+    let mut nodes = TWO_EACH;
+    nodes[2] = device!(0, 0, 0, 0);
+    let parts = Parts {
         nodes: &nodes,
-        windows: &[LARGE],
-        ranges: &[],
-        kind: MemKind::Ram,
-        size: 2 * UNIT,
-        gran: None,
-        endpoints: &[3, 4],
+        ..OF_TWO_EACH
     };
-    tells(&rt, alloc, &two, Told::Planned(0, LARGE.base, 0, 2))?;
-    let four = Case {
-        size: 4 * UNIT,
-        endpoints: &[2, 3, 4, 5],
-        ..two
-    };
-    let room = Room { start: 0, limit: 0 };
-    tells(&rt, alloc, &four, Told::Span(2, SpanFault::NoRoom(room)))
+    tells(&rt, &parts, &BARE);
 }
+
+const BARE: [(Asked, Told); 2] = [
+    (ram!(2 * UNIT, &[3, 4]), Told::Planned(0, LARGE.base, 0, 2)),
+    (
+        ram!(4 * UNIT, &[2, 3, 4, 5]),
+        Told::Span(2, SpanFault::NoRoom(Room { start: 0, limit: 0 })),
+    ),
+];
 
 /// One bridge with an endpoint of 1 GiB of each kind, and two regions of it.
 #[test]
-fn one_endpoint(rt: HostRuntime) -> Result<(), Fail> {
-    let alloc = rt.alloc();
-    let second = Range {
-        decoder: 1,
-        ..over(0, 1, BASE + UNIT, UNIT, 0, 0)
-    };
-    let skipping = Range {
-        first: 1,
-        end: 2,
-        tail: 0x3000_0000,
-        ..second
-    };
-    let ranges = [over(0, 2, BASE, UNIT, 0, 0), second, skipping];
-    let both = Case {
-        nodes: &[BRIDGE, device(0, 0, GIB, GIB)],
-        windows: &[window(4 * GIB, &[0])],
+fn one_endpoint(rt: HostRuntime) {
+    let ranges = [
+        over!(0, 2, BASE, UNIT, 0, 0),
+        Range {
+            decoder: 1,
+            ..over!(0, 1, BASE + UNIT, UNIT, 0, 0)
+        },
+        Range {
+            decoder: 1,
+            ..over!(1, 2, BASE + UNIT, UNIT, 0, 0x3000_0000)
+        },
+    ];
+    let both = Parts {
+        nodes: &[BRIDGE, device!(0, 0, GIB, GIB)],
+        windows: &[window!(4 * GIB, &[0])],
         ranges: &ranges,
-        kind: MemKind::Pmem,
-        size: UNIT,
-        gran: None,
-        endpoints: &[1],
     };
-    let next = Case {
+    tells(&rt, &both, &OF_ONE);
+    let first = Parts {
         ranges: &ranges[..1],
         ..both
     };
-    tells(&rt, alloc, &next, Told::Planned(0, BASE + UNIT, 0, 1))?;
-    let ram = Case {
-        kind: MemKind::Ram,
-        ..both
-    };
-    let past = SpanFault::PastRam(0x5000_0000);
-    tells(&rt, alloc, &ram, Told::Span(1, past))?;
-    let large = Case { size: GIB, ..both };
-    let room = SpanFault::NoRoom(Room {
-        start: 0x5000_0000,
-        limit: 0x8000_0000,
-    });
-    tells(&rt, alloc, &large, Told::Span(1, room))?;
-    tells(&rt, alloc, &Case { size: 0, ..both }, Told::Size)
+    let next = Told::Planned(0, BASE + UNIT, 0, 1);
+    tells(&rt, &first, &[(pmem!(UNIT, None, &[1]), next)]);
 }
 
-/// The rows of a plan over two endpoints: node, decoder and code of ways.
-fn has_rows(
-    rt: &impl Abort,
-    alloc: Global,
-    nodes: &[Spot],
-    want: &[(u32, u8, u8)],
-) -> Result<(), Fail> {
-    let case = Case {
+const OF_ONE: [(Asked, Told); 3] = [
+    (
+        ram!(UNIT, &[1]),
+        Told::Span(1, SpanFault::PastRam(0x5000_0000)),
+    ),
+    (
+        pmem!(GIB, None, &[1]),
+        Told::Span(
+            1,
+            SpanFault::NoRoom(Room {
+                start: 0x5000_0000,
+                limit: 0x8000_0000,
+            }),
+        ),
+    ),
+    (pmem!(0, None, &[1]), Told::Size),
+];
+
+/// The plan of what is asked for over a host.
+fn plan_of(rt: &(impl Abort + AllocGlobal), parts: &Parts, asked: &Asked) -> Plan {
+    let host = host(rt, parts);
+    let request = request_of(rt, rt.alloc(), asked);
+    planned(rt, rt.alloc(), &host, &request).expect(rt, "a plan")
+}
+
+/// Checks the rows of a plan over two endpoints: node, decoder and code of ways.
+fn has_rows(rt: &(impl Abort + AllocGlobal), nodes: &[Spot], want: &[(u32, u8, u8)]) {
+    let parts = Parts {
         nodes,
-        windows: &[window(4 * GIB, &[0, 1])],
+        windows: &[window!(4 * GIB, &[0, 1])],
         ranges: &[],
-        kind: MemKind::Ram,
-        size: 2 * UNIT,
-        gran: None,
-        endpoints: &[2, 3],
     };
-    let plan = match planned(rt, alloc, &case)? {
-        Ok(plan) => plan,
-        Err(_) => return Err(Fail::from("refused")),
-    };
-    let spans = plan.found.spans.items();
+    let plan = plan_of(rt, &parts, &ram!(2 * UNIT, &[2, 3]));
+    are_spans(rt, plan.found.spans.items());
+    let rows = plan.rows.items();
+    assert_eq!(rt; rows.len(), want.len());
+    for (row, want) in rows.iter().zip(want) {
+        is_row(rt, row, want);
+    }
+}
+
+/// The spans of both endpoints begin with their memory.
+fn are_spans(rt: &impl Abort, spans: &[Place]) {
     assert_eq!(rt; spans.len(), 2);
     assert_eq!(rt; (spans[0].endpoint, spans[1].endpoint), (2, 3));
     assert_eq!(rt; (spans[0].start, spans[1].start), (0, 0));
-    let rows = plan.rows.items();
-    assert_eq!(rt; rows.len(), want.len());
-    for (row, (node, index, ways)) in rows.iter().zip(want) {
-        assert_eq!(rt;
-            (row.node, row.index, row.decoder.ways),
-            (*node, *index, *ways)
-        );
-        assert_eq!(rt; (row.decoder.base, row.decoder.size), (BASE, 2 * UNIT));
-        assert_eq!(rt; (row.decoder.gran, row.decoder.tail), (0, 0));
-    }
-    Ok(())
+}
+
+fn is_row(rt: &impl Abort, row: &Row, want: &(u32, u8, u8)) {
+    let own = &row.decoder;
+    assert_eq!(rt; (row.node, row.index, own.ways), *want);
+    assert_eq!(rt; (own.base, own.size), (BASE, 2 * UNIT));
+    assert_eq!(rt; (own.gran, own.tail), (0, 0));
 }
 
 /// Below bridges that decode, and below bridges that forward.
 #[test]
-fn rows(rt: HostRuntime) -> Result<(), Fail> {
-    let alloc = rt.alloc();
-    let nodes = one_each();
-    has_rows(
-        &rt,
-        alloc,
-        &nodes,
-        &[(0, 0, 0), (1, 0, 0), (2, 0, 1), (3, 0, 1)],
-    )?;
-    let mut forwarding = one_each();
+fn rows(rt: HostRuntime) {
+    let both = [(0, 0, 0), (1, 0, 0), (2, 0, 1), (3, 0, 1)];
+    has_rows(&rt, &ONE_EACH, &both);
+    let mut forwarding = ONE_EACH;
     forwarding[0] = FORWARDING;
     forwarding[1] = FORWARDING;
-    has_rows(&rt, alloc, &forwarding, &[(2, 0, 1), (3, 0, 1)])
+    has_rows(&rt, &forwarding, &both[2..]);
 }
 
 /// The target lists of bridges with two endpoints each.
 #[test]
-fn target_lists(rt: HostRuntime) -> Result<(), Fail> {
-    let alloc = rt.alloc();
-    let nodes = two_each();
-    let case = Case {
-        nodes: &nodes,
-        windows: &[LARGE],
-        ranges: &[],
-        kind: MemKind::Ram,
-        size: GIB,
-        gran: None,
-        endpoints: &[2, 3, 4, 5],
-    };
-    let plan = match planned(&rt, alloc, &case)? {
-        Ok(plan) => plan,
-        Err(_) => return Err(Fail::from("refused")),
-    };
+fn target_lists(rt: HostRuntime) {
+    let plan = plan_of(&rt, &OF_TWO_EACH, &ram!(GIB, &[2, 3, 4, 5]));
     let rows = plan.rows.items();
     assert_eq!(rt; rows.len(), 6);
-    for row in &rows[..2] {
+    have_targets(&rt, &rows[..2], (1, 1, 0x0100));
+    have_targets(&rt, &rows[2..], (2, 0, 0));
+    let spans = plan.found.spans.items();
+    assert_eq!(rt; spans.len(), 4);
+    for (place, endpoint) in spans.iter().zip([2, 4, 3, 5]) {
+        assert_eq!(rt; place.endpoint, endpoint);
+    }
+}
+
+/// The codes of ways and granularity and the tail of all these rows.
+fn have_targets(rt: &impl Abort, rows: &[Row], want: (u8, u8, u64)) {
+    for row in rows {
         let d = &row.decoder;
-        assert_eq!(rt; (d.ways, d.gran, d.tail), (1, 1, 0x0100));
+        assert_eq!(rt; (d.ways, d.gran, d.tail), want);
     }
-    for row in &rows[2..] {
-        let d = &row.decoder;
-        assert_eq!(rt; (d.ways, d.gran, d.tail), (2, 0, 0));
-    }
-    let mut endpoints = [0; 4];
-    for (place, endpoint) in plan.found.spans.items().iter().zip(endpoints.iter_mut()) {
-        *endpoint = place.endpoint;
-    }
-    assert_eq!(rt; endpoints, [2, 4, 3, 5]);
-    Ok(())
 }
 
 /// All of the window is taken.
 #[test]
-fn full_window(rt: HostRuntime) -> Result<(), Fail> {
-    let alloc = rt.alloc();
-    let mut nodes = one_each();
-    nodes[2] = device(0, 0, 4 * GIB, 0);
-    nodes[3] = device(1, 0, 4 * GIB, 0);
-    let ranges = [
-        over(0, 2, BASE, 4 * GIB, 0, 0),
-        over(2, 4, BASE, 4 * GIB, 0x10, 0),
-    ];
-    let case = Case {
+fn full_window(rt: HostRuntime) {
+    let mut nodes = ONE_EACH;
+    nodes[2] = device!(0, 0, 4 * GIB, 0);
+    nodes[3] = device!(1, 0, 4 * GIB, 0);
+    let parts = Parts {
         nodes: &nodes,
-        windows: &[window(4 * GIB, &[0, 1])],
-        ranges: &ranges,
-        kind: MemKind::Ram,
-        size: 2 * UNIT,
-        gran: None,
-        endpoints: &[2, 3],
+        windows: &[window!(4 * GIB, &[0, 1])],
+        ranges: &[
+            over!(0, 2, BASE, 4 * GIB, 0, 0),
+            over!(2, 4, BASE, 4 * GIB, 0x10, 0),
+        ],
     };
     let room = Room {
         start: 0x2_0000_0000,
         limit: 0x2_0000_0000,
     };
-    tells_reasons(&rt, alloc, &case, &[Reason::NoBase(room)])
+    let none = Told::NoWindow(&[Reason::NoBase(room)]);
+    tells(&rt, &parts, &[(ram!(2 * UNIT, &[2, 3]), none)]);
 }
 
 /// The only decoder of a bridge is committed.
 #[test]
-fn full_bridge(rt: HostRuntime) -> Result<(), Fail> {
-    let alloc = rt.alloc();
-    let mut nodes = one_each();
+fn full_bridge(rt: HostRuntime) {
+    let mut nodes = ONE_EACH;
     nodes[1].cap = 0x380;
-    let ranges = [
-        over(0, 2, BASE, 2 * UNIT, 0, 0),
-        over(2, 4, BASE, 2 * UNIT, 0x10, 0),
-    ];
-    let case = Case {
+    let parts = Parts {
         nodes: &nodes,
-        windows: &[window(4 * GIB, &[0, 1])],
-        ranges: &ranges,
-        kind: MemKind::Ram,
-        size: 2 * UNIT,
-        gran: None,
-        endpoints: &[2, 3],
+        windows: &[window!(4 * GIB, &[0, 1])],
+        ranges: &[
+            over!(0, 2, BASE, 2 * UNIT, 0, 0),
+            over!(2, 4, BASE, 2 * UNIT, 0x10, 0),
+        ],
     };
-    tells(&rt, alloc, &case, Told::NoDecoder(1))
+    tells(
+        &rt,
+        &parts,
+        &[(ram!(2 * UNIT, &[2, 3]), Told::NoDecoder(1))],
+    );
 }
 
 /// Five endpoints below one bridge.
 #[test]
-fn five_endpoints(rt: HostRuntime) -> Result<(), Fail> {
-    let alloc = rt.alloc();
+fn five_endpoints(rt: HostRuntime) {
     let nodes = [
         BRIDGE,
-        device(0, 0, GIB, 0),
-        device(0, 1, GIB, 0),
-        device(0, 2, GIB, 0),
-        device(0, 3, GIB, 0),
-        device(0, 4, GIB, 0),
+        device!(0, 0, GIB, 0),
+        device!(0, 1, GIB, 0),
+        device!(0, 2, GIB, 0),
+        device!(0, 3, GIB, 0),
+        device!(0, 4, GIB, 0),
     ];
-    let all = Case {
+    let parts = Parts {
         nodes: &nodes,
-        windows: &[window(4 * GIB, &[0])],
+        windows: &[window!(4 * GIB, &[0])],
         ranges: &[],
-        kind: MemKind::Ram,
-        size: 2 * UNIT,
-        gran: None,
-        endpoints: &[1, 2, 3, 4, 5],
     };
-    tells(&rt, alloc, &all, Told::Ways(5))?;
-    let two = Case {
-        endpoints: &[3, 4],
-        ..all
-    };
-    tells(&rt, alloc, &two, Told::Planned(0, BASE, 0, 2))
+    tells(&rt, &parts, &FIVE);
 }
 
-const fn at<'a>(base: u64, span: Span<'a>) -> Span<'a> {
-    Span { base, ..span }
-}
+const FIVE: [(Asked, Told); 2] = [
+    (ram!(2 * UNIT, &[1, 2, 3, 4, 5]), Told::Ways(5)),
+    (ram!(2 * UNIT, &[3, 4]), Told::Planned(0, BASE, 0, 2)),
+];
 
 /// A table with a window for each reason, in the order in which they are tried.
 #[test]
-fn reasons(rt: HostRuntime) -> Result<(), Fail> {
-    let alloc = rt.alloc();
-    let both = window(GIB, &[0, 1]);
-    let windows = [
-        at(BASE + 16 * GIB + 1, both),
-        at(
-            BASE + GIB,
-            Span {
-                restrict: 0x0006,
-                ..both
-            },
-        ),
-        at(
-            BASE + 2 * GIB,
-            Span {
-                restrict: 0x001e,
-                ..both
-            },
-        ),
-        at(BASE + 3 * GIB, window(GIB, &[0])),
-        at(BASE + 4 * GIB, Span { gran: 5, ..both }),
-        at(BASE + 5 * GIB, Span { gran: 6, ..both }),
-        at(
-            BASE + 6 * GIB,
-            Span {
-                gran: 6,
-                size: UNIT * 2,
-                ..both
-            },
-        ),
-    ];
-    let mut nodes = two_each();
-    for (place, spot) in nodes[2..].iter_mut().enumerate() {
-        *spot = device((place / 2) as u32, (place % 2) as u8, 0, 2 * GIB);
-    }
-    let all = Case {
-        nodes: &nodes,
-        windows: &windows,
-        ranges: &[],
-        kind: MemKind::Pmem,
-        size: GIB,
-        gran: Some(6),
-        endpoints: &[2, 3, 4, 5],
-    };
-    let reasons = [
-        Reason::Unusable,
-        Reason::Kind,
-        Reason::Fixed,
-        Reason::Bridges,
-        Reason::Gran,
-        Reason::Select(0),
-        Reason::Select(0),
-    ];
-    tells_reasons(&rt, alloc, &all, &reasons)?;
-    let two = Case {
-        endpoints: &[2, 4],
-        ..all
-    };
-    tells(&rt, alloc, &two, Told::Planned(5, BASE + 5 * GIB, 6, 2))
-}
-
-/// Three bridges whose endpoints cannot have three ways; and a first window that is taken before a second.
-#[test]
-fn three_ways(rt: HostRuntime) -> Result<(), Fail> {
-    let alloc = rt.alloc();
+fn reasons(rt: HostRuntime) {
     let nodes = [
         BRIDGE,
         BRIDGE,
-        BRIDGE,
-        device(0, 0, UNIT, 0),
-        device(1, 0, UNIT, 0),
-        device(2, 0, UNIT, 0),
+        device!(0, 0, 0, 2 * GIB),
+        device!(0, 1, 0, 2 * GIB),
+        device!(1, 0, 0, 2 * GIB),
+        device!(1, 1, 0, 2 * GIB),
     ];
-    let mut plain = nodes;
-    plain[4].cap = 0x302;
-    let first = window(3 * UNIT, &[0, 1, 2]);
-    let windows = [
-        first,
-        Span {
-            base: 2 * BASE,
-            ..first
-        },
-    ];
-    let able = Case {
+    let parts = Parts {
         nodes: &nodes,
-        windows: &windows,
+        windows: &WINDOWS,
         ranges: &[],
-        kind: MemKind::Ram,
-        size: 3 * UNIT,
-        gran: None,
-        endpoints: &[5, 3, 4],
     };
-    tells(&rt, alloc, &able, Told::Planned(0, BASE, 0, 3))?;
-    let unable = Case {
-        nodes: &plain,
+    tells(&rt, &parts, &REASONS);
+}
+
+const BOTH: Span = window!(GIB, &[0, 1]);
+
+const WINDOWS: [Span; 7] = [
+    Span {
+        base: BASE + 16 * GIB + 1,
+        ..BOTH
+    },
+    Span {
+        restrict: 0x0006,
+        base: BASE + 1 * GIB,
+        ..BOTH
+    },
+    Span {
+        restrict: 0x001e,
+        base: BASE + 2 * GIB,
+        ..BOTH
+    },
+    Span {
+        base: BASE + 3 * GIB,
+        ..window!(GIB, &[0])
+    },
+    Span {
+        gran: 5,
+        base: BASE + 4 * GIB,
+        ..BOTH
+    },
+    Span {
+        gran: 6,
+        base: BASE + 5 * GIB,
+        ..BOTH
+    },
+    Span {
+        gran: 6,
+        size: UNIT * 2,
+        base: BASE + 6 * GIB,
+        ..BOTH
+    },
+];
+
+const REASONS: [(Asked, Told); 2] = [
+    (
+        pmem!(GIB, Some(6), &[2, 3, 4, 5]),
+        Told::NoWindow(&[
+            Reason::Unusable,
+            Reason::Kind,
+            Reason::Fixed,
+            Reason::Bridges,
+            Reason::Gran,
+            Reason::Select(0),
+            Reason::Select(0),
+        ]),
+    ),
+    (
+        pmem!(GIB, Some(6), &[2, 4]),
+        Told::Planned(5, BASE + 5 * GIB, 6, 2),
+    ),
+];
+
+/// Three bridges whose endpoints cannot have three ways; and a first window that is taken before a second.
+#[test]
+fn three_ways(rt: HostRuntime) {
+    let asked = ram!(3 * UNIT, &[5, 3, 4]);
+    let able = Parts {
+        nodes: &THREE,
+        windows: &[
+            window!(3 * UNIT, &[0, 1, 2]),
+            Span {
+                base: 2 * BASE,
+                ..window!(3 * UNIT, &[0, 1, 2])
+            },
+        ],
+        ranges: &[],
+    };
+    tells(&rt, &able, &[(asked, Told::Planned(0, BASE, 0, 3))]);
+    let mut nodes = THREE;
+    nodes[4].cap = 0x302;
+    let unable = Parts {
+        nodes: &nodes,
         ..able
     };
     let cap = Reason::WaysCap(4);
-    tells_reasons(&rt, alloc, &unable, &[cap, cap])
+    tells(&rt, &unable, &[(asked, Told::NoWindow(&[cap, cap]))]);
 }
+
+const THREE: [Spot; 6] = [
+    BRIDGE,
+    BRIDGE,
+    BRIDGE,
+    device!(0, 0, UNIT, 0),
+    device!(1, 0, UNIT, 0),
+    device!(2, 0, UNIT, 0),
+];

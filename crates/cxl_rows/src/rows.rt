@@ -1,94 +1,119 @@
 use cxl_io::{MemFetch, MemSink};
-use cxl_shell::{Status, run};
-use std::alloc::Global;
+use cxl_shell::run;
 use std::process::Abort;
-use std::test::Fail;
 
 /// How much a sink takes where a row says nothing of it.
 pub(crate) const ROOM: u32 = 1_048_576;
 
-/// A run's end: its status, and the text that the sink took.
-#[derive(Drop)]
-pub(crate) struct End {
-    pub(crate) status: Status,
-    pub(crate) text: Vec<u8>,
-}
-
 /// The bytes that hexadecimal digits write, with some of them changed.
-pub(crate) fn bytes(alloc: Global, digits: &str, changes: &[(usize, u8)]) -> Result<Vec<u8>, Fail> {
-    let mut bytes = hex::decode(alloc, digits)?;
+pub(crate) fn bytes(
+    rt: &(impl Abort + AllocGlobal),
+    digits: &str,
+    changes: &[(usize, u8)],
+) -> Vec<u8> {
+    let mut bytes = hex::decode(rt.alloc(), digits).expect(rt, "digits");
     for (at, value) in changes {
-        match bytes.get_mut(*at) {
-            Some(byte) => *byte = *value,
-            None => return Err(Fail::new("a change past the end")),
-        }
+        assert!(rt; *at < bytes.len(), "a change past the end");
+        bytes[*at] = *value;
     }
-    Ok(bytes)
+    bytes
 }
 
-/// One file in memory, and the numbers of the fetches that fail.
-pub(crate) fn file(
-    alloc: Global,
+pub(crate) fn owned(rt: &(impl Abort + AllocGlobal), bytes: &[u8]) -> Vec<u8> {
+    Vec::from_slice(rt.alloc(), bytes).expect(rt, "memory")
+}
+
+/// Adds a file to those in memory.
+pub(crate) fn put_file(
+    rt: &(impl Abort + AllocGlobal),
+    files: &mut Vec<(String, Vec<u8>)>,
     name: &str,
     bytes: Vec<u8>,
+) {
+    let name = String::from_str(rt.alloc(), name).expect(rt, "memory");
+    files.push((name, bytes)).expect(rt, "memory");
+}
+
+/// These files in memory, and the numbers of the fetches that fail.
+pub(crate) fn fetch_of(
+    rt: &(impl Abort + AllocGlobal),
+    files: Vec<(String, Vec<u8>)>,
     fails: &[u64],
-) -> Result<MemFetch, Fail> {
-    let mut files = Vec::new(alloc);
-    files.push((String::from_str(alloc, name)?, bytes))?;
-    Ok(MemFetch::new(files, fails.to_vec(alloc)?))
+) -> MemFetch {
+    MemFetch::new(files, fails.to_vec(rt.alloc()).expect(rt, "memory"))
 }
 
-/// Runs the words, which single spaces separate.
-pub(crate) fn run_words(
-    alloc: Global,
-    words: &str,
-    files: MemFetch,
-    sink: MemSink,
-) -> Result<End, Fail> {
-    let mut line = Vec::new(alloc);
-    for word in words.split(' ') {
-        line.push(String::from_str(alloc, word)?)?;
+/// The file `table`, and the numbers of the fetches that fail.
+pub(crate) fn file(rt: &(impl Abort + AllocGlobal), table: Vec<u8>, fails: &[u64]) -> MemFetch {
+    let mut files = Vec::new(rt.alloc());
+    put_file(rt, &mut files, "table", table);
+    fetch_of(rt, files, fails)
+}
+
+/// A sink with room for so many bytes, and the numbers of the writes that fail.
+pub(crate) fn sink_of(rt: &(impl Abort + AllocGlobal), room: u32, fails: &[u64]) -> MemSink {
+    let fails = fails.to_vec(rt.alloc()).expect(rt, "memory");
+    MemSink::new(rt.alloc(), room, fails).expect(rt, "memory")
+}
+
+/// The words, which single spaces separate.
+pub(crate) fn words_of(rt: &(impl Abort + AllocGlobal), line: &str) -> Vec<String> {
+    let mut words = Vec::new(rt.alloc());
+    for word in line.split(' ') {
+        put_word(rt, &mut words, word);
     }
-    run_list(alloc, line.as_slice(), files, sink)
+    words
 }
 
-/// Runs the words.
-pub(crate) fn run_list(
-    alloc: Global,
+pub(crate) fn put_word(rt: &(impl Abort + AllocGlobal), words: &mut Vec<String>, word: &str) {
+    let word = String::from_str(rt.alloc(), word).expect(rt, "memory");
+    words.push(word).expect(rt, "memory");
+}
+
+/// Runs the words, and gives the exit status.
+pub(crate) fn code_of_run(
+    rt: &impl AllocGlobal,
     words: &[String],
-    mut files: MemFetch,
-    mut sink: MemSink,
-) -> Result<End, Fail> {
-    let status = run(alloc, words, &mut files, &mut sink);
-    Ok(End {
-        status,
-        text: Vec::from_slice(alloc, sink.bytes())?,
-    })
+    files: &mut MemFetch,
+    sink: &mut MemSink,
+) -> u8 {
+    run(rt.alloc(), words, files, sink).code()
 }
 
-/// Checks that the words end with this exit status and this text, over the file `table`.
+/// Checks that the words end with this exit status and write these bytes.
+pub(crate) fn ends(
+    rt: &(impl Abort + AllocGlobal),
+    words: &[String],
+    files: &mut MemFetch,
+    sink: &mut MemSink,
+    code: u8,
+    bytes: &[u8],
+) {
+    let status = code_of_run(rt, words, files, sink);
+    assert_eq!(rt; sink.bytes(), bytes);
+    assert_eq!(rt; status, code);
+}
+
+/// The same of words that single spaces separate, over these files.
+pub(crate) fn check_files(
+    rt: &(impl Abort + AllocGlobal),
+    line: &str,
+    mut files: MemFetch,
+    code: u8,
+    bytes: &[u8],
+) {
+    let words = words_of(rt, line);
+    let mut sink = sink_of(rt, ROOM, &[]);
+    ends(rt, words.as_slice(), &mut files, &mut sink, code, bytes);
+}
+
+/// The same over the file `table`.
 pub(crate) fn check(
     rt: &(impl Abort + AllocGlobal),
-    words: &str,
+    line: &str,
     table: Vec<u8>,
     code: u8,
     text: &str,
-) -> Result<(), Fail> {
-    check_bytes(rt, words, table, code, text.as_bytes())
-}
-
-/// The same where they write these bytes.
-pub(crate) fn check_bytes(
-    rt: &(impl Abort + AllocGlobal),
-    words: &str,
-    table: Vec<u8>,
-    code: u8,
-    bytes: &[u8],
-) -> Result<(), Fail> {
-    let alloc = rt.alloc();
-    let sink = MemSink::new(alloc, ROOM, Vec::new(alloc))?;
-    let end = run_words(alloc, words, file(alloc, "table", table, &[])?, sink)?;
-    assert_eq!(rt; end.status.code(), code, "status of {words}");
-    assert_eq!(rt; end.text.as_slice(), bytes, "text of {words}");
-    Ok(())
+) {
+    check_files(rt, line, file(rt, table, &[]), code, text.as_bytes());
 }
