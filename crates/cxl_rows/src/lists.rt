@@ -61,9 +61,11 @@ fn real_lists(rt: HostRuntime) {
     }
 }
 
-/// Checks that the table's normal form is this.
-fn is_normal(rt: &(impl Abort + AllocGlobal), table: Vec<u8>, want: &[u8]) {
-    check_files(rt, "normal table", file(rt, table, &[]), 0, want);
+/// Checks that the table's normal form is what these digits write.
+fn is_normal(rt: &(impl Abort + AllocGlobal), table: Vec<u8>, digits: &str) {
+    let want = bytes(rt, digits, &[]);
+    let files = file(rt, table, &[]);
+    check_files(rt, "normal table", files, 0, want.as_slice());
 }
 
 /// Their reserved fields are zero, so that each is its own normal form.
@@ -72,7 +74,7 @@ fn real_normal_forms(rt: HostRuntime) {
     for (digits, text, code) in &REAL {
         let table = bytes(&rt, digits, &[]);
         if *code == 0 {
-            is_normal(&rt, table, bytes(&rt, digits, &[]).as_slice());
+            is_normal(&rt, table, digits);
         } else {
             check(&rt, "normal table", table, *code, text);
         }
@@ -83,7 +85,7 @@ fn real_normal_forms(rt: HostRuntime) {
 #[test]
 fn reserved_fields(rt: HostRuntime) {
     let table = bytes(&rt, TWO_BRIDGES, &[(37, 0x05), (9, 0xc5)]);
-    is_normal(&rt, table, bytes(&rt, TWO_BRIDGES, &[]).as_slice());
+    is_normal(&rt, table, TWO_BRIDGES);
 }
 
 #[test]

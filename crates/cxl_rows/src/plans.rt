@@ -293,16 +293,17 @@ fn has_rows(rt: &(impl Abort + AllocGlobal), nodes: &[Spot], want: &[(u32, u8, u
 
 /// The spans of both endpoints begin with their memory.
 fn are_spans(rt: &impl Abort, spans: &[Place]) {
-    assert_eq!(rt; spans.len(), 2);
-    assert_eq!(rt; (spans[0].endpoint, spans[1].endpoint), (2, 3));
-    assert_eq!(rt; (spans[0].start, spans[1].start), (0, 0));
+    assert!(rt; spans.len() == 2);
+    assert!(rt; spans[0].endpoint == 2 && spans[1].endpoint == 3);
+    assert!(rt; spans[0].start == 0 && spans[1].start == 0);
 }
 
 fn is_row(rt: &impl Abort, row: &Row, want: &(u32, u8, u8)) {
     let own = &row.decoder;
-    assert_eq!(rt; (row.node, row.index, own.ways), *want);
-    assert_eq!(rt; (own.base, own.size), (BASE, 2 * UNIT));
-    assert_eq!(rt; (own.gran, own.tail), (0, 0));
+    let (node, index, ways) = *want;
+    assert!(rt; row.node == node && row.index == index && own.ways == ways);
+    assert!(rt; own.base == BASE && own.size == 2 * UNIT);
+    assert!(rt; own.gran == 0 && own.tail == 0);
 }
 
 /// Below bridges that decode, and below bridges that forward.
@@ -334,8 +335,9 @@ fn target_lists(rt: HostRuntime) {
 /// The codes of ways and granularity and the tail of all these rows.
 fn have_targets(rt: &impl Abort, rows: &[Row], want: (u8, u8, u64)) {
     for row in rows {
-        let d = &row.decoder;
-        assert_eq!(rt; (d.ways, d.gran, d.tail), want);
+        let own = &row.decoder;
+        let (ways, gran, tail) = want;
+        assert!(rt; own.ways == ways && own.gran == gran && own.tail == tail);
     }
 }
 
