@@ -1,158 +1,156 @@
 //! Images of worked hosts that break a rule, each named by its rule, node and decoder; and one that breaks none.
 
-ghost use Rattle.cxl_image.specs.Images.{HasCapsOf};
 ghost use Rattle.cxl_window.specs.Windows.{AreMadeWith};
 ghost use Rattle.cxl_model.specs.System.{bridge_uids};
 
-use crate::host_files::change;
-use crate::hosts::{
-    BASE, BRIDGE, FORWARDING, GIB, Range, Spot, Worked, device, host_of, over, window,
-};
+use crate::hosts::{Worked, host_of};
+use crate::rows::{change, has_passed, numbers};
 use cxl_check::{Breach, CheckFault, Found, check};
 use cxl_enc::MemKind;
 use cxl_image::{Image, read_image, write_image};
 use cxl_model::Place;
+use std::alloc::Global;
 use std::process::Abort;
 
-const SIZE: u64 = 0x2000_0000;
+/// Two bridges with one endpoint of 2 GiB each.
+const DECODING: &str = "0x382, 0x382, 0x1b02 0 0 0x80000000 0, 0x1b02 1 0 0x80000000 0";
+
+/// The same, where the bridges forward.
+const FORWARDING: &str = "0x10, 0x10, 0x1b02 0 0 0x80000000 0, 0x1b02 1 0 0x80000000 0";
+
+/// The second bridge cannot select on address bits 14:12.
+const LOW_BITS: &str = "0x382, 0x182, 0x1b02 0 0 0x80000000 0, 0x1b02 1 0 0x80000000 0";
+
+/// One endpoint fewer.
+const THREE_NODES: &str = "0x382, 0x382, 0x1b02 0 0 0x80000000 0";
+
+/// A window over both bridges.
+const WINDOW: &str = "0x100000000 0x100000000 0 0 0x000e 0 1";
 
 /// The decoders of a region over both endpoints.
-const BRIDGES: Range = over!(0, 2, BASE, SIZE, 0, 0);
+const REGION: &str = "0 2 0 0x100000000 0x20000000 0 0, 2 4 0 0x100000000 0x20000000 0x10 0";
 
-const ENDPOINTS: Range = over!(2, 4, BASE, SIZE, 0x10, 0);
+/// The same below bridges that forward, and where the first of them decodes, too.
+const BELOW: &str = "2 4 0 0x100000000 0x20000000 0x10 0";
 
-/// Two bridges with one endpoint each under a window over both, with these decoders committed.
-fn two_bridges(
-    rt: &(impl Abort + AllocGlobal),
-    first: Spot,
-    second: Spot,
-    ranges: &[Range],
-) -> Worked
-    ensures caps { HasCapsOf result.image result.topo.nodes }
-    ensures made { AreMadeWith result.windows.items (bridge_uids result.topo.nodes) }
-{
-    let spots = [
-        first,
-        second,
-        device!(0, 0, 2 * GIB, 0),
-        device!(1, 0, 2 * GIB, 0),
-    ];
-    host_of(rt, rt.alloc(), &spots, &[window!(BASE, &[0, 1])], ranges)
-}
+const BELOW_AND_FIRST: &str =
+    "2 4 0 0x100000000 0x20000000 0x10 0, 0 1 0 0x100000000 0x20000000 0 0";
 
-/// A word of the image file of four nodes with blocks of 144 bytes: the node, the offset and the value.
-type Word = (usize, usize, u32);
-
-/// The host's image with other words.
-fn changed(rt: &(impl Abort + AllocGlobal), host: &Worked, words: &[Word]) -> Image {
-    let mut bytes = write_image(rt.alloc(), &host.image).expect(rt, "memory");
-    for (node, off, value) in words {
-        assert!(rt; *node < 4 && *off < 144);
-        change(rt, bytes.as_mut_slice(), &[(12 + 144 * node + off, *value)]);
-    }
+/// The host's image with other words, each at its byte place in the image's file.
+fn changed(rt: &impl Abort, alloc: Global, host: &Worked, words: &str) -> Image {
+    let mut bytes = write_image(alloc, &host.image).expect(rt, "memory");
+    change(rt, &mut bytes, &numbers(rt, alloc, words), 4);
     assert!(rt; bytes.len() < 0x1_0000_0000);
-    read_image(rt.alloc(), &bytes, &host.topo).expect(rt, "an image")
+    read_image(alloc, &bytes, &host.topo).expect(rt, "an image")
 }
 
-/// Checks that the image breaks this rule of the host first, by this node and decoder.
-fn breaks(rt: &(impl Abort + AllocGlobal), host: &Worked, image: &Image, want: (u8, u32, u8))
-    requires made { AreMadeWith host.now.windows.items (bridge_uids host.now.topo.nodes) }
+/// Whether the image breaks this rule of the host first, by this node and decoder.
+pub(crate) fn breaks(alloc: Global, host: &Worked, image: &Image, want: (u8, u32, u8)) -> bool
+    requires { AreMadeWith host.now.windows.items (bridge_uids host.now.topo.nodes) }
 {
-    let fault = check(rt.alloc(), image, &host.topo, &host.windows).err();
     let (rule, node, decoder) = want;
     let breach = Breach {
         rule,
         node,
         decoder,
     };
-    assert!(rt; fault == Some(CheckFault::Breach(breach)), "rule {rule}");
+    check(alloc, image, &host.topo, &host.windows).err() == Some(CheckFault::Breach(breach))
 }
 
-/// Words of the image of one region over both endpoints, and what they break.
-const ROWS: [(&[Word], (u8, u32, u8)); 11] = [
-    (&[(2, 0x04, 0)], (2, 2, 0)),
-    (&[(3, 0x20, 0x1e10)], (3, 3, 0)),
-    (&[(2, 0x20, 0x1670)], (4, 2, 0)),
-    (&[(2, 0x20, 0x1626)], (5, 2, 0)),
-    (&[(2, 0x18, 0x1000_0000)], (6, 2, 0)),
-    (
-        &[(2, 0x34, 1), (2, 0x38, 0x2000_0000), (2, 0x40, 0x1610)],
-        (7, 2, 1),
-    ),
-    (&[(2, 0x18, 0), (2, 0x1c, 2)], (8, 2, 0)),
-    (&[(2, 0x14, 2)], (9, 2, 0)),
-    (&[(1, 0x20, 0x1000)], (10, 0, 0)),
-    (
-        &[
-            (2, 0x30, 0x2000_0000),
-            (2, 0x34, 1),
-            (2, 0x38, 0x2000_0000),
-            (2, 0x40, 0x1610),
-        ],
-        (11, 2, 1),
-    ),
-    (&[(2, 0x20, 0x1611)], (12, 2, 0)),
-];
+/// The nodes of the host and of the image, the decoders that are committed in this, other words of its file, and the
+/// rule, node and decoder of the breach.
+type Row = (
+    &'static str,
+    &'static str,
+    &'static str,
+    &'static str,
+    u8,
+    u32,
+    u8,
+);
+
+fn is_breach(rt: &impl Abort, alloc: Global, row: &Row) -> bool {
+    let (nodes, own, ranges, words, rule, node, decoder) = *row;
+    let host = host_of(rt, alloc, nodes, WINDOW, "");
+    let other = host_of(rt, alloc, own, WINDOW, ranges);
+    let image = changed(rt, alloc, &other, words);
+    breaks(alloc, &host, &image, (rule, node, decoder))
+}
 
 #[test]
 fn breaches(rt: HostRuntime) {
-    let host = two_bridges(&rt, BRIDGE, BRIDGE, &[BRIDGES, ENDPOINTS]);
-    for (words, want) in &ROWS {
-        breaks(&rt, &host, &changed(&rt, &host, words), *want);
+    for (i, row) in ROWS.iter().enumerate() {
+        has_passed(&rt, i, is_breach(&rt, rt.alloc(), row));
     }
 }
 
-/// A bridge that cannot select on address bits 14:12.
+/// The blocks of four nodes begin at bytes 12, 156, 300 and 444, and their first decoder 16 bytes further.
+const ROWS: [Row; 14] = [
+    // A bridge that cannot select on the bits that its decoder selects on.
+    (LOW_BITS, DECODING, REGION, "", 1, 1, 0),
+    // Three blocks over four nodes.
+    (DECODING, THREE_NODES, "", "", 1, 0, 0),
+    (DECODING, DECODING, REGION, "304 0", 2, 2, 0),
+    (DECODING, DECODING, REGION, "476 0x1e10", 3, 3, 0),
+    (DECODING, DECODING, REGION, "332 0x1670", 4, 2, 0),
+    (DECODING, DECODING, REGION, "332 0x1626", 5, 2, 0),
+    (DECODING, DECODING, REGION, "324 0x10000000", 6, 2, 0),
+    (
+        DECODING,
+        DECODING,
+        REGION,
+        "352 1 356 0x20000000 364 0x1610",
+        7,
+        2,
+        1,
+    ),
+    (DECODING, DECODING, REGION, "324 0 328 2", 8, 2, 0),
+    (DECODING, DECODING, REGION, "320 2", 9, 2, 0),
+    (DECODING, DECODING, REGION, "188 0x1000", 10, 0, 0),
+    (
+        DECODING,
+        DECODING,
+        REGION,
+        "348 0x20000000 352 1 356 0x20000000 364 0x1610",
+        11,
+        2,
+        1,
+    ),
+    (DECODING, DECODING, REGION, "332 0x1611", 12, 2, 0),
+    // A bridge that forwards decodes nothing itself.
+    (FORWARDING, FORWARDING, BELOW_AND_FIRST, "", 11, 0, 0),
+];
+
+/// Whether the region is that of both endpoints.
+fn is_of_both(region: &Found) -> bool {
+    region.base == 0x1_0000_0000
+        && region.size == 0x2000_0000
+        && region.window == 0
+        && region.gran == 0
+        && region.ways == 2
+        && region.kind == MemKind::Ram
+        && are_spans(region.spans.items())
+}
+
+/// Whether the spans of both endpoints begin with their memory.
+pub(crate) fn are_spans(spans: &[Place]) -> bool {
+    spans.len() == 2
+        && spans[0].endpoint == 2
+        && spans[0].start == 0
+        && spans[1].endpoint == 3
+        && spans[1].start == 0
+}
+
+/// The regions of bridges that forward, with these decoders committed.
+fn regions_of(rt: &impl Abort, alloc: Global, ranges: &str) -> Vec<Found> {
+    let host = host_of(rt, alloc, FORWARDING, WINDOW, ranges);
+    check(alloc, &host.image, &host.topo, &host.windows).expect(rt, "regions")
+}
+
 #[test]
-fn a_bridge_of_low_bits(rt: HostRuntime) {
-    let low = Spot {
-        cap: 0x182,
-        ..BRIDGE
-    };
-    let host = two_bridges(&rt, BRIDGE, BRIDGE, &[BRIDGES, ENDPOINTS]);
-    let other = two_bridges(&rt, BRIDGE, low, &[]);
-    breaks(&rt, &other, &host.image, (1, 1, 0));
-}
-
-/// Checks that the region of a host is that of both endpoints.
-fn is_of_both(rt: &impl Abort, regions: &[Found]) {
-    assert!(rt; regions.len() == 1);
-    let region = &regions[0];
-    assert!(rt; region.base == BASE && region.size == SIZE);
-    assert!(rt; region.window == 0 && region.gran == 0 && region.ways == 2);
-    assert!(rt; region.kind == MemKind::Ram);
-    are_spans(rt, region.spans.items());
-}
-
-fn are_spans(rt: &impl Abort, spans: &[Place]) {
-    assert!(rt; spans.len() == 2);
-    assert!(rt; spans[0].endpoint == 2 && spans[0].start == 0);
-    assert!(rt; spans[1].endpoint == 3 && spans[1].start == 0);
-}
-
-/// The regions of a host.
-fn regions_of(rt: &(impl Abort + AllocGlobal), host: &Worked) -> Vec<Found>
-    requires made { AreMadeWith host.now.windows.items (bridge_uids host.now.topo.nodes) }
-{
-    check(rt.alloc(), &host.image, &host.topo, &host.windows).expect(rt, "regions")
-}
-
-#[test]
-fn one_region(rt: HostRuntime) {
-    let host = two_bridges(&rt, FORWARDING, FORWARDING, &[ENDPOINTS]);
-    is_of_both(&rt, &regions_of(&rt, &host));
-}
-
-#[test]
-fn no_region(rt: HostRuntime) {
-    let host = two_bridges(&rt, FORWARDING, FORWARDING, &[]);
-    assert!(rt; regions_of(&rt, &host).is_empty());
-}
-
-/// A bridge that forwards decodes nothing itself.
-#[test]
-fn a_bridge_that_forwards(rt: HostRuntime) {
-    let first = over!(0, 1, BASE, SIZE, 0, 0);
-    let host = two_bridges(&rt, FORWARDING, FORWARDING, &[ENDPOINTS, first]);
-    breaks(&rt, &host, &host.image, (11, 0, 0));
+fn no_breach(rt: HostRuntime) {
+    let one = regions_of(&rt, rt.alloc(), BELOW);
+    assert!(rt; one.len() == 1 && is_of_both(&one[0]));
+    let none = regions_of(&rt, rt.alloc(), "");
+    assert!(rt; none.is_empty());
 }

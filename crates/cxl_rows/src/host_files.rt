@@ -1,7 +1,3 @@
-use crate::rows::{bytes, fetch_of, owned, put_file};
-use cxl_io::MemFetch;
-use std::process::Abort;
-
 /// Two bridges with an endpoint of 2 GiB of volatile memory each.
 pub(crate) const TWO_ENDPOINTS: &str = r#"
 [[bridge]]
@@ -64,83 +60,53 @@ port = 0
 ram = 0x80000000
 "#;
 
-/// The capability words of the nodes' blocks: four decoders and eight targets, a placeholder, and four
-/// decoders of an endpoint.
-pub(crate) const PORT: (u32, usize) = (0x382, 4);
+// The digits of images. A block has a capability word and a word that turns it on, eight zero bytes, and decoders of 32
+// bytes each: four of a port and of an endpoint, one of a bridge that forwards. The first of them takes the first
+// 512 MiB from 4 GiB on, where nothing else is said; the rest are as after reset.
 
-pub(crate) const FORWARDING: (u32, usize) = (0x10, 1);
+/// The first region of two ways over two bridges.
+pub(crate) const FIRST_REGION: &str = "\
+    43584c48444d3031 04000000 \
+    82030000 02000000 0x0c 01000000 00000020 0x04 00160000 0x6c \
+    82030000 02000000 0x0c 01000000 00000020 0x04 00160000 0x6c \
+    021b0000 02000000 0x0c 01000000 00000020 0x04 10160000 0x6c \
+    021b0000 02000000 0x0c 01000000 00000020 0x04 10160000 0x6c\
+";
 
-pub(crate) const ENDPOINT: (u32, usize) = (0x1b02, 4);
+/// Two bridges with an endpoint each, after reset.
+pub(crate) const AFTER_RESET: &str = "\
+    43584c48444d3031 04000000 \
+    82030000 02000000 0x88 \
+    82030000 02000000 0x88 \
+    021b0000 02000000 0x88 \
+    021b0000 02000000 0x88\
+";
 
-/// The words from base low to control of a decoder after reset, and of one for the first 512 MiB from 4 GiB
-/// on: of a port, and of an endpoint of two ways.
-pub(crate) const RESET: [u32; 5] = [0; 5];
+/// The first region over bridges that forward.
+pub(crate) const FORWARDED: &str = "\
+    43584c48444d3031 04000000 \
+    10000000 02000000 0x28 \
+    10000000 02000000 0x28 \
+    021b0000 02000000 0x0c 01000000 00000020 0x04 10160000 0x6c \
+    021b0000 02000000 0x0c 01000000 00000020 0x04 10160000 0x6c\
+";
 
-pub(crate) const ONE_WAY: [u32; 5] = [0, 1, 0x2000_0000, 0, 0x1600];
+/// The same, where the first bridge decodes, too.
+pub(crate) const FORWARDED_DECODING: &str = "\
+    43584c48444d3031 04000000 \
+    10000000 02000000 0x0c 01000000 00000020 0x04 00160000 0x0c \
+    10000000 02000000 0x28 \
+    021b0000 02000000 0x0c 01000000 00000020 0x04 10160000 0x6c \
+    021b0000 02000000 0x0c 01000000 00000020 0x04 10160000 0x6c\
+";
 
-pub(crate) const TWO_WAYS: [u32; 5] = [0, 1, 0x2000_0000, 0, 0x1610];
-
-/// A block: its capability word, how many decoders it has, and the first words of the first of them.
-pub(crate) type Words = ((u32, usize), [u32; 5]);
-
-/// The image of the first region of two ways over two bridges.
-pub(crate) const FIRST_REGION: [Words; 4] = [
-    (PORT, ONE_WAY),
-    (PORT, ONE_WAY),
-    (ENDPOINT, TWO_WAYS),
-    (ENDPOINT, TWO_WAYS),
-];
-
-/// The image file of blocks that decode.
-pub(crate) fn image_file(rt: &(impl Abort + AllocGlobal), blocks: &[Words]) -> Vec<u8> {
-    let mut file = owned(rt, b"CXLHDM01");
-    assert!(rt; blocks.len() <= 1_024);
-    put_words(rt, &mut file, &[blocks.len() as u32]);
-    for block in blocks {
-        put_block(rt, &mut file, block);
-    }
-    file
-}
-
-fn put_block(rt: &(impl Abort + AllocGlobal), file: &mut Vec<u8>, block: &Words) {
-    let ((cap, decoders), first) = *block;
-    put_words(rt, file, &[cap, 2, 0, 0]);
-    put_words(rt, file, &first);
-    put_words(rt, file, &[0; 3]);
-    for _ in 1..decoders {
-        put_words(rt, file, &[0; 8]);
-    }
-}
-
-fn put_words(rt: &(impl Abort + AllocGlobal), file: &mut Vec<u8>, words: &[u32]) {
-    for word in words {
-        file.extend_from_slice(&word.to_le_bytes())
-            .expect(rt, "memory");
-    }
-}
-
-/// Writes other words into a file, each at its byte place.
-pub(crate) fn change(rt: &impl Abort, file: &mut [u8], words: &[(usize, u32)]) {
-    for (at, value) in words {
-        assert!(rt;
-            file.len() >= 4 && *at <= file.len() - 4,
-            "a word past the end"
-        );
-        file[*at..*at + 4].copy_from_slice(&value.to_le_bytes());
-    }
-}
-
-/// A table, a topology and an image in memory, and the numbers of the fetches that fail.
-pub(crate) fn host_files(
-    rt: &(impl Abort + AllocGlobal),
-    table: &str,
-    topology: &str,
-    image: Vec<u8>,
-    fails: &[u64],
-) -> MemFetch {
-    let mut files = Vec::new(rt.alloc());
-    put_file(rt, &mut files, "table", bytes(rt, table, &[]));
-    put_file(rt, &mut files, "topology", owned(rt, topology.as_bytes()));
-    put_file(rt, &mut files, "image", image);
-    fetch_of(rt, files, fails)
-}
+/// A region of three ways whose base is 256 MiB behind the window's.
+pub(crate) const IN_THIRDS: &str = "\
+    43584c48444d3031 06000000 \
+    82030000 02000000 0x08 00000010 01000000 00000030 0x04 00160000 0x6c \
+    82030000 02000000 0x08 00000010 01000000 00000030 0x04 00160000 0x6c \
+    82030000 02000000 0x08 00000010 01000000 00000030 0x04 00160000 0x6c \
+    021b0000 02000000 0x08 00000010 01000000 00000030 0x04 80160000 0x6c \
+    021b0000 02000000 0x08 00000010 01000000 00000030 0x04 80160000 0x6c \
+    021b0000 02000000 0x08 00000010 01000000 00000030 0x04 80160000 0x6c\
+";

@@ -1,9 +1,9 @@
 use crate::host_files::{TWO_ENDPOINTS, TWO_ENDPOINTS_FORWARDED};
-use crate::rows::{ROOM, bytes, ends, fetch_of, owned, put_file, put_word, sink_of, words_of};
+use crate::rows::{changed, ends, files_of, has_passed, put_word, words_of};
 use crate::tables::{
     FOUR_WINDOWS, ONE_BRIDGE, SERVER, THREE_BRIDGES, TWO_BRIDGES, TWO_BRIDGES_WIDE,
 };
-use cxl_io::MemFetch;
+use std::alloc::Global;
 use std::process::Abort;
 
 /// Two bridges with two endpoints of 256 GiB of volatile memory each.
@@ -121,57 +121,34 @@ row e0 0 ways 2 gran 512 skip 0x0
 row e1 0 ways 2 gran 512 skip 0x0
 ";
 
-/// A table, a topology and a create line, with the exit status and the text of their plan.
-type Row<'a> = (&'a str, &'a str, &'a str, u8, &'a str);
+/// The digits of a table, a topology, a line that asks for a region, the exit status and the text of the plan.
+type Row = (&'static str, &'static str, &'static str, u8, &'static str);
 
-/// A table and a topology in memory, and the numbers of the fetches that fail.
-fn two_files(
-    rt: &(impl Abort + AllocGlobal),
-    table: Vec<u8>,
-    topology: &str,
-    fails: &[u64],
-) -> MemFetch {
-    let mut files = Vec::new(rt.alloc());
-    put_file(rt, &mut files, "table", table);
-    put_file(rt, &mut files, "topology", owned(rt, topology.as_bytes()));
-    fetch_of(rt, files, fails)
+/// Whether `plan` with this line ends with this exit status and this text, where the table is changed and the fetch of
+/// this number fails.
+fn is_planned(rt: &impl Abort, alloc: Global, row: &Row, changes: &str, fail: u64) -> bool {
+    let (table, topology, line, code, text) = *row;
+    let table = changed(rt, alloc, table, changes, 1);
+    let mut files = files_of(rt, alloc, table, topology, Vec::new(alloc), fail);
+    let mut words = words_of(rt, alloc, "plan table topology");
+    put_word(rt, alloc, &mut words, line);
+    ends(rt, alloc, &words, &mut files, code, text.as_bytes())
 }
 
-/// Checks that `plan` with this line ends with this exit status and this text over these files.
-fn check_line(
-    rt: &(impl Abort + AllocGlobal),
-    mut files: MemFetch,
-    line: &str,
-    code: u8,
-    text: &str,
-) {
-    let mut words = words_of(rt, "plan table topology");
-    put_word(rt, &mut words, line);
-    let mut sink = sink_of(rt, ROOM, &[]);
-    ends(
-        rt,
-        words.as_slice(),
-        &mut files,
-        &mut sink,
-        code,
-        text.as_bytes(),
-    );
-}
-
-fn check_rows(rt: &(impl Abort + AllocGlobal), rows: &[Row]) {
-    for (table, topology, line, code, text) in rows {
-        let files = two_files(rt, bytes(rt, table, &[]), topology, &[]);
-        check_line(rt, files, line, *code, text);
+fn are_planned(rt: &(impl Abort + AllocGlobal), rows: &[Row]) {
+    for (i, row) in rows.iter().enumerate() {
+        has_passed(rt, i, is_planned(rt, rt.alloc(), row, "", 0));
     }
 }
 
-/// Plans over hosts after reset.
+/// Plans and refusals of named endpoints.
 #[test]
-fn plans(rt: HostRuntime) {
-    check_rows(&rt, &PLANS);
+fn named_endpoints(rt: HostRuntime) {
+    are_planned(&rt, &NAMED);
 }
 
-const PLANS: [Row; 4] = [
+const NAMED: [Row; 17] = [
+    // Plans over hosts after reset.
     (
         TWO_BRIDGES,
         TWO_ENDPOINTS,
@@ -200,15 +177,7 @@ const PLANS: [Row; 4] = [
         0,
         PMEM_PLAN,
     ),
-];
-
-/// Names that are no endpoint's, and the faults of requests.
-#[test]
-fn refusals(rt: HostRuntime) {
-    check_rows(&rt, &REFUSALS);
-}
-
-const REFUSALS: [Row; 7] = [
+    // Names that are no endpoint's, and the faults of requests.
     (
         TWO_BRIDGES,
         TWO_ENDPOINTS,
@@ -258,15 +227,7 @@ const REFUSALS: [Row; 7] = [
         8,
         "refused span e0 no-room 0x40000000 0x80000000\n",
     ),
-];
-
-/// Why windows take no region.
-#[test]
-fn reasons(rt: HostRuntime) {
-    check_rows(&rt, &REASONS);
-}
-
-const REASONS: [Row; 6] = [
+    // Why windows take no region.
     (
         SERVER,
         FOUR_ENDPOINTS,
@@ -311,13 +272,14 @@ const REASONS: [Row; 6] = [
     ),
 ];
 
-/// Plans over endpoints that are picked.
+/// Plans over endpoints that are picked, and why none are.
 #[test]
-fn plans_by_ways(rt: HostRuntime) {
-    check_rows(&rt, &PICKED);
+fn picked_endpoints(rt: HostRuntime) {
+    are_planned(&rt, &PICKED);
 }
 
-const PICKED: [Row; 5] = [
+const PICKED: [Row; 11] = [
+    // Plans.
     (
         SERVER,
         FOUR_ENDPOINTS,
@@ -353,15 +315,7 @@ const PICKED: [Row; 5] = [
         0,
         PICKED_BEHIND,
     ),
-];
-
-/// Why none are picked.
-#[test]
-fn refusals_by_ways(rt: HostRuntime) {
-    check_rows(&rt, &NOT_PICKED);
-}
-
-const NOT_PICKED: [Row; 6] = [
+    // Why none are picked.
     (
         SERVER,
         FOUR_ENDPOINTS,
@@ -406,12 +360,11 @@ const NOT_PICKED: [Row; 6] = [
     ),
 ];
 
-/// Lines that ask for no region: no file is asked for.
+/// Lines that ask for no region: no file is asked for, so that it is no matter that the first fetch fails.
 #[test]
 fn lines(rt: HostRuntime) {
     for line in &NO_CREATE {
-        let files = two_files(&rt, Vec::new(rt.alloc()), "", &[1]);
-        check_line(&rt, files, line, 1, "usage\n");
+        assert!(rt; is_planned(&rt, rt.alloc(), &("", "", *line, 1, "usage\n"), "", 1));
     }
 }
 
@@ -432,18 +385,22 @@ const NO_CREATE: [&str; 11] = [
 /// A file that cannot be read or has no reading; the table comes first.
 #[test]
 fn files_in_order(rt: HostRuntime) {
-    for (len, topology, fails, code, text) in &IN_ORDER {
-        let mut table = bytes(&rt, TWO_BRIDGES, &[]);
-        table.resize(*len, 0).expect(&rt, "memory");
-        let files = two_files(&rt, table, topology, fails);
-        check_line(&rt, files, "create x ram 0x20000000 e0 e1", *code, text);
+    for (topology, changes, fail, code, text) in &IN_ORDER {
+        let row = (
+            TWO_BRIDGES,
+            *topology,
+            "create x ram 0x20000000 e0 e1",
+            *code,
+            *text,
+        );
+        assert!(rt; is_planned(&rt, rt.alloc(), &row, changes, *fail));
     }
 }
 
-const IN_ORDER: [(usize, &str, &[u64], u8, &str); 5] = [
-    (144, "", &[1], 2, "error: cannot read table\n"),
-    (144, "", &[2], 2, "error: cannot read topology\n"),
-    (143, "[[bridge", &[2], 3, "error: table length\n"),
-    (144, "[[bridge", &[], 4, "error: topology toml\n"),
-    (1_048_577, "", &[], 12, "error: table too large\n"),
+const IN_ORDER: [(&str, &str, u64, u8, &str); 5] = [
+    ("", "", 1, 2, "error: cannot read table\n"),
+    ("", "", 2, 2, "error: cannot read topology\n"),
+    ("[[bridge", "143", 2, 3, "error: table length\n"),
+    ("[[bridge", "", 0, 4, "error: topology toml\n"),
+    ("", "1048577", 0, 12, "error: table too large\n"),
 ];

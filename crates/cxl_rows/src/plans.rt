@@ -6,79 +6,38 @@ ghost use Rattle.cxl_model.specs.System.{bridge_uids};
 ghost use Rattle.cxl_topo.specs.Tree.{is_endpoint_at};
 ghost use Rattle.cxl_window.specs.Windows.{AreMadeWith};
 
-use crate::hosts::{
-    BASE, BRIDGE, FORWARDING, GIB, Range, Span, Spot, UNIT, Worked, device, host_of, over, window,
-};
+use crate::hosts::{Worked, host_of};
+use crate::rows::{has_passed, numbers, shows};
 use cxl_check::check;
 use cxl_enc::{FixedList, MemKind, Name};
-use cxl_model::{Place, Plan, PlanFault, Reason, Request, Room, Row, SpanFault};
+use cxl_model::{Place, Plan, PlanFault, Request, Row};
 use cxl_plan::plan;
 use cxl_topo::Topo;
 use std::alloc::Global;
 use std::process::Abort;
 
-/// A plan's window, base, granularity code and ways; or the fault.
-#[derive(Clone, Copy, PartialEq, Eq)]
-enum Told<'a> {
-    Planned(u32, u64, u8, u8),
-    Repeat(u32),
-    Ways(u32),
-    Size,
-    Uneven(u32),
-    NoDecoder(u32),
-    Span(u32, SpanFault),
-    NoWindow(&'a [Reason]),
-    Memory,
-}
+/// What is asked for: a kind, a size, a granularity code, or 255 for any, and endpoints.
+type Asked = (MemKind, u64, u8, &'static str);
 
-/// A host with its regions.
-#[derive(Clone, Copy)]
-struct Parts<'a> {
-    nodes: &'a [Spot],
-    windows: &'a [Span<'a>],
-    ranges: &'a [Range],
-}
-
-/// What is asked for: kind, size, granularity code and endpoints.
-#[derive(Clone, Copy)]
-struct Asked<'a> {
-    kind: MemKind,
-    size: u64,
-    gran: Option<u8>,
-    endpoints: &'a [u32],
-}
-
-macro_rules! ram {
-    ($size:expr, $endpoints:expr) => {
-        Asked {
-            kind: MemKind::Ram,
-            size: $size,
-            gran: None,
-            endpoints: $endpoints,
-        }
-    };
-}
-
-macro_rules! pmem {
-    ($size:expr, $gran:expr, $endpoints:expr) => {
-        Asked {
-            kind: MemKind::Pmem,
-            size: $size,
-            gran: $gran,
-            endpoints: $endpoints,
-        }
-    };
-}
-
-fn request_of(rt: &impl Abort, alloc: Global, asked: &Asked) -> Request {
-    let endpoints = Vec::from_slice(alloc, asked.endpoints).expect(rt, "memory");
+fn request_of(rt: &impl Abort, alloc: Global, asked: Asked) -> Request {
+    let (kind, size, gran, endpoints) = asked;
     Request {
         name: Name::read(b"r0").expect(rt, "a name"),
-        kind: asked.kind,
-        size: asked.size,
-        gran: asked.gran,
-        endpoints: FixedList::new(endpoints),
+        kind,
+        size,
+        gran: if gran == 255 { None } else { Some(gran) },
+        endpoints: FixedList::new(nodes_of(rt, alloc, endpoints)),
     }
+}
+
+fn nodes_of(rt: &impl Abort, alloc: Global, text: &str) -> Vec<u32> {
+    let mut nodes = Vec::new(alloc);
+    for number in &numbers(rt, alloc, text) {
+        nodes
+            .push((*number % 0x1_0000_0000) as u32)
+            .expect(rt, "memory");
+    }
+    nodes
 }
 
 /// Whether all are endpoints.
@@ -110,411 +69,405 @@ fn planned(
     }
 }
 
-fn answer(outcome: &Result<Plan, PlanFault>) -> Told<'_> {
-    match outcome {
-        Ok(plan) => Told::Planned(
-            plan.found.window,
-            plan.found.base,
-            plan.found.gran,
-            plan.found.ways,
-        ),
-        Err(PlanFault::Repeat(endpoint)) => Told::Repeat(*endpoint),
-        Err(PlanFault::Ways(ways)) => Told::Ways(*ways),
-        Err(PlanFault::Size) => Told::Size,
-        Err(PlanFault::Uneven(node)) => Told::Uneven(*node),
-        Err(PlanFault::NoDecoder(node)) => Told::NoDecoder(*node),
-        Err(PlanFault::Span(endpoint, fault)) => Told::Span(*endpoint, *fault),
-        Err(PlanFault::NoWindow(reasons)) => Told::NoWindow(reasons.items()),
-        Err(PlanFault::Memory) => Told::Memory,
+/// A host's nodes, windows and decoders that are committed.
+type Parts = (&'static str, &'static str, &'static str);
+
+fn planned_over(
+    rt: &impl Abort,
+    alloc: Global,
+    parts: Parts,
+    asked: Asked,
+) -> Result<Plan, PlanFault> {
+    let (nodes, windows, ranges) = parts;
+    let host = host_of(rt, alloc, nodes, windows, ranges);
+    planned(rt, alloc, &host, &request_of(rt, alloc, asked))
+}
+
+/// A host's nodes, windows and decoders that are committed; the kind, the size, the granularity code or 255 and the
+/// endpoints of what is asked for; and the plan's window, base, granularity code and ways, or the fault.
+type Answer = (
+    &'static str,
+    &'static str,
+    &'static str,
+    MemKind,
+    u64,
+    u8,
+    &'static str,
+    &'static str,
+);
+
+fn is_answer(rt: &impl Abort, alloc: Global, row: &Answer) -> bool {
+    let (nodes, windows, ranges, kind, size, gran, endpoints, want) = *row;
+    let asked = (kind, size, gran, endpoints);
+    match planned_over(rt, alloc, (nodes, windows, ranges), asked) {
+        Ok(plan) => is_plan(&plan, &numbers(rt, alloc, want)),
+        Err(fault) => shows(rt, alloc, &fault, want),
     }
 }
 
-/// A host of these parts.
-fn host(rt: &(impl Abort + AllocGlobal), parts: &Parts) -> Worked
-    ensures caps { HasCapsOf result.image result.topo.nodes }
-    ensures made { AreMadeWith result.windows.items (bridge_uids result.topo.nodes) }
-{
-    host_of(rt, rt.alloc(), parts.nodes, parts.windows, parts.ranges)
+fn is_plan(plan: &Plan, want: &[u64]) -> bool {
+    let found = &plan.found;
+    let own = [
+        u64::from(found.window),
+        found.base,
+        u64::from(found.gran),
+        u64::from(found.ways),
+    ];
+    own.as_slice() == want
 }
 
-/// The answers to what is asked for over a host are these.
-fn tells(rt: &(impl Abort + AllocGlobal), parts: &Parts, rows: &[(Asked, Told)]) {
-    let host = host(rt, parts);
-    for (asked, want) in rows {
-        let request = request_of(rt, rt.alloc(), asked);
-        let outcome = planned(rt, rt.alloc(), &host, &request);
-        assert!(rt; answer(&outcome) == *want, "a plan of {} bytes", asked.size);
+#[test]
+fn answers(rt: HostRuntime) {
+    for (i, row) in ANSWERS.iter().enumerate() {
+        has_passed(&rt, i, is_answer(&rt, rt.alloc(), row));
     }
 }
 
-/// Two bridges with one endpoint of 2 GiB each.
-const ONE_EACH: [Spot; 4] = [
-    BRIDGE,
-    BRIDGE,
-    device!(0, 0, 2 * GIB, 0),
-    device!(1, 0, 2 * GIB, 0),
-];
+/// Two bridges with two endpoints of 256 GiB each, and where the first endpoint has no memory.
+const TWO_EACH: &str = "0x382, 0x382, \
+    0x1b02 0 0 0x4000000000 0, 0x1b02 0 1 0x4000000000 0, \
+    0x1b02 1 0 0x4000000000 0, 0x1b02 1 1 0x4000000000 0";
 
-/// Two bridges with two endpoints each.
-const TWO_EACH: [Spot; 6] = [
-    BRIDGE,
-    BRIDGE,
-    device!(0, 0, 0x40_0000_0000, 0),
-    device!(0, 1, 0x40_0000_0000, 0),
-    device!(1, 0, 0x40_0000_0000, 0),
-    device!(1, 1, 0x40_0000_0000, 0),
-];
+const BARE: &str = "0x382, 0x382, \
+    0x1b02 0 0 0 0, 0x1b02 0 1 0x4000000000 0, \
+    0x1b02 1 0 0x4000000000 0, 0x1b02 1 1 0x4000000000 0";
 
-const LARGE: Span = Span {
-    base: 0x10_0000_0000,
-    size: 0x100_0000_0000,
-    gran: 0,
-    xor: false,
-    restrict: 0x000e,
-    targets: &[0, 1],
-};
+const LARGE: &str = "0x1000000000 0x10000000000 0 0 0x000e 0 1";
 
-const OF_TWO_EACH: Parts = Parts {
-    nodes: &TWO_EACH,
-    windows: &[LARGE],
-    ranges: &[],
-};
-
-#[test]
-fn named_endpoints(rt: HostRuntime) {
-    tells(&rt, &OF_TWO_EACH, &NAMED);
-    let behind = Parts {
-        ranges: &[
-            over!(0, 2, LARGE.base, GIB, 0x11, 0x0100),
-            over!(2, 6, LARGE.base, GIB, 0x20, 0),
-        ],
-        ..OF_TWO_EACH
-    };
-    let next = Told::Planned(0, 0x10_4000_0000, 0, 2);
-    tells(&rt, &behind, &[(ram!(2 * UNIT, &[2, 4]), next)]);
-}
-
-const NAMED: [(Asked, Told); 5] = [
-    (ram!(GIB, &[2, 3, 4, 5]), Told::Planned(0, LARGE.base, 0, 4)),
-    (ram!(GIB, &[5, 2, 4, 3]), Told::Planned(0, LARGE.base, 0, 4)),
-    (ram!(UNIT, &[2, 2]), Told::Repeat(2)),
-    (ram!(3 * UNIT, &[2, 3, 4]), Told::Uneven(1)),
-    (ram!(2 * UNIT, &[2, 3]), Told::NoWindow(&[Reason::Bridges])),
-];
-
-/// The first endpoint has no memory.
-#[test]
-fn bare_endpoint(rt: HostRuntime) {
-    let mut nodes = TWO_EACH;
-    nodes[2] = device!(0, 0, 0, 0);
-    let parts = Parts {
-        nodes: &nodes,
-        ..OF_TWO_EACH
-    };
-    tells(&rt, &parts, &BARE);
-}
-
-const BARE: [(Asked, Told); 2] = [
-    (ram!(2 * UNIT, &[3, 4]), Told::Planned(0, LARGE.base, 0, 2)),
-    (
-        ram!(4 * UNIT, &[2, 3, 4, 5]),
-        Told::Span(2, SpanFault::NoRoom(Room { start: 0, limit: 0 })),
-    ),
-];
+const OF_FOUR: &str =
+    "0 2 0 0x1000000000 0x40000000 0x11 0x0100, 2 6 0 0x1000000000 0x40000000 0x20 0";
 
 /// One bridge with an endpoint of 1 GiB of each kind, and two regions of it.
-#[test]
-fn one_endpoint(rt: HostRuntime) {
-    let ranges = [
-        over!(0, 2, BASE, UNIT, 0, 0),
-        Range {
-            decoder: 1,
-            ..over!(0, 1, BASE + UNIT, UNIT, 0, 0)
-        },
-        Range {
-            decoder: 1,
-            ..over!(1, 2, BASE + UNIT, UNIT, 0, 0x3000_0000)
-        },
-    ];
-    let both = Parts {
-        nodes: &[BRIDGE, device!(0, 0, GIB, GIB)],
-        windows: &[window!(4 * GIB, &[0])],
-        ranges: &ranges,
-    };
-    tells(&rt, &both, &OF_ONE);
-    let first = Parts {
-        ranges: &ranges[..1],
-        ..both
-    };
-    let next = Told::Planned(0, BASE + UNIT, 0, 1);
-    tells(&rt, &first, &[(pmem!(UNIT, None, &[1]), next)]);
-}
+const ONE: &str = "0x382, 0x1b02 0 0 0x40000000 0x40000000";
 
-const OF_ONE: [(Asked, Told); 3] = [
-    (
-        ram!(UNIT, &[1]),
-        Told::Span(1, SpanFault::PastRam(0x5000_0000)),
-    ),
-    (
-        pmem!(GIB, None, &[1]),
-        Told::Span(
-            1,
-            SpanFault::NoRoom(Room {
-                start: 0x5000_0000,
-                limit: 0x8000_0000,
-            }),
-        ),
-    ),
-    (pmem!(0, None, &[1]), Told::Size),
-];
+const OVER_ONE: &str = "0x100000000 0x100000000 0 0 0x000e 0";
 
-/// The plan of what is asked for over a host.
-fn plan_of(rt: &(impl Abort + AllocGlobal), parts: &Parts, asked: &Asked) -> Plan {
-    let host = host(rt, parts);
-    let request = request_of(rt, rt.alloc(), asked);
-    planned(rt, rt.alloc(), &host, &request).expect(rt, "a plan")
-}
+const OF_ONE: &str = "0 2 0 0x100000000 0x10000000 0 0, \
+    0 1 1 0x110000000 0x10000000 0 0, 1 2 1 0x110000000 0x10000000 0 0x30000000";
 
-/// Checks the rows of a plan over two endpoints: node, decoder and code of ways.
-fn has_rows(rt: &(impl Abort + AllocGlobal), nodes: &[Spot], want: &[(u32, u8, u8)]) {
-    let parts = Parts {
-        nodes,
-        windows: &[window!(4 * GIB, &[0, 1])],
-        ranges: &[],
-    };
-    let plan = plan_of(rt, &parts, &ram!(2 * UNIT, &[2, 3]));
-    are_spans(rt, plan.found.spans.items());
-    let rows = plan.rows.items();
-    assert_eq!(rt; rows.len(), want.len());
-    for (row, want) in rows.iter().zip(want) {
-        is_row(rt, row, want);
-    }
-}
+/// Two bridges with one endpoint of 2 GiB each; where it has 4 GiB; where the second bridge has one decoder; and where
+/// the bridges forward.
+const ONE_EACH: &str = "0x382, 0x382, 0x1b02 0 0 0x80000000 0, 0x1b02 1 0 0x80000000 0";
 
-/// The spans of both endpoints begin with their memory.
-fn are_spans(rt: &impl Abort, spans: &[Place]) {
-    assert!(rt; spans.len() == 2);
-    assert!(rt; spans[0].endpoint == 2 && spans[1].endpoint == 3);
-    assert!(rt; spans[0].start == 0 && spans[1].start == 0);
-}
+const LARGER_EACH: &str = "0x382, 0x382, 0x1b02 0 0 0x100000000 0, 0x1b02 1 0 0x100000000 0";
 
-fn is_row(rt: &impl Abort, row: &Row, want: &(u32, u8, u8)) {
-    let own = &row.decoder;
-    let (node, index, ways) = *want;
-    assert!(rt; row.node == node && row.index == index && own.ways == ways);
-    assert!(rt; own.base == BASE && own.size == 2 * UNIT);
-    assert!(rt; own.gran == 0 && own.tail == 0);
-}
+const ONE_DECODER: &str = "0x382, 0x380, 0x1b02 0 0 0x80000000 0, 0x1b02 1 0 0x80000000 0";
 
-/// Below bridges that decode, and below bridges that forward.
-#[test]
-fn rows(rt: HostRuntime) {
-    let both = [(0, 0, 0), (1, 0, 0), (2, 0, 1), (3, 0, 1)];
-    has_rows(&rt, &ONE_EACH, &both);
-    let mut forwarding = ONE_EACH;
-    forwarding[0] = FORWARDING;
-    forwarding[1] = FORWARDING;
-    has_rows(&rt, &forwarding, &both[2..]);
-}
+const FORWARDING: &str = "0x10, 0x10, 0x1b02 0 0 0x80000000 0, 0x1b02 1 0 0x80000000 0";
 
-/// The target lists of bridges with two endpoints each.
-#[test]
-fn target_lists(rt: HostRuntime) {
-    let plan = plan_of(&rt, &OF_TWO_EACH, &ram!(GIB, &[2, 3, 4, 5]));
-    let rows = plan.rows.items();
-    assert_eq!(rt; rows.len(), 6);
-    have_targets(&rt, &rows[..2], (1, 1, 0x0100));
-    have_targets(&rt, &rows[2..], (2, 0, 0));
-    let spans = plan.found.spans.items();
-    assert_eq!(rt; spans.len(), 4);
-    for (place, endpoint) in spans.iter().zip([2, 4, 3, 5]) {
-        assert_eq!(rt; place.endpoint, endpoint);
-    }
-}
-
-/// The codes of ways and granularity and the tail of all these rows.
-fn have_targets(rt: &impl Abort, rows: &[Row], want: (u8, u8, u64)) {
-    for row in rows {
-        let own = &row.decoder;
-        let (ways, gran, tail) = want;
-        assert!(rt; own.ways == ways && own.gran == gran && own.tail == tail);
-    }
-}
-
-/// All of the window is taken.
-#[test]
-fn full_window(rt: HostRuntime) {
-    let mut nodes = ONE_EACH;
-    nodes[2] = device!(0, 0, 4 * GIB, 0);
-    nodes[3] = device!(1, 0, 4 * GIB, 0);
-    let parts = Parts {
-        nodes: &nodes,
-        windows: &[window!(4 * GIB, &[0, 1])],
-        ranges: &[
-            over!(0, 2, BASE, 4 * GIB, 0, 0),
-            over!(2, 4, BASE, 4 * GIB, 0x10, 0),
-        ],
-    };
-    let room = Room {
-        start: 0x2_0000_0000,
-        limit: 0x2_0000_0000,
-    };
-    let none = Told::NoWindow(&[Reason::NoBase(room)]);
-    tells(&rt, &parts, &[(ram!(2 * UNIT, &[2, 3]), none)]);
-}
-
-/// The only decoder of a bridge is committed.
-#[test]
-fn full_bridge(rt: HostRuntime) {
-    let mut nodes = ONE_EACH;
-    nodes[1].cap = 0x380;
-    let parts = Parts {
-        nodes: &nodes,
-        windows: &[window!(4 * GIB, &[0, 1])],
-        ranges: &[
-            over!(0, 2, BASE, 2 * UNIT, 0, 0),
-            over!(2, 4, BASE, 2 * UNIT, 0x10, 0),
-        ],
-    };
-    tells(
-        &rt,
-        &parts,
-        &[(ram!(2 * UNIT, &[2, 3]), Told::NoDecoder(1))],
-    );
-}
+const OVER_TWO: &str = "0x100000000 0x100000000 0 0 0x000e 0 1";
 
 /// Five endpoints below one bridge.
-#[test]
-fn five_endpoints(rt: HostRuntime) {
-    let nodes = [
-        BRIDGE,
-        device!(0, 0, GIB, 0),
-        device!(0, 1, GIB, 0),
-        device!(0, 2, GIB, 0),
-        device!(0, 3, GIB, 0),
-        device!(0, 4, GIB, 0),
-    ];
-    let parts = Parts {
-        nodes: &nodes,
-        windows: &[window!(4 * GIB, &[0])],
-        ranges: &[],
-    };
-    tells(&rt, &parts, &FIVE);
-}
+const FIVE: &str = "0x382, 0x1b02 0 0 0x40000000 0, 0x1b02 0 1 0x40000000 0, \
+    0x1b02 0 2 0x40000000 0, 0x1b02 0 3 0x40000000 0, 0x1b02 0 4 0x40000000 0";
 
-const FIVE: [(Asked, Told); 2] = [
-    (ram!(2 * UNIT, &[1, 2, 3, 4, 5]), Told::Ways(5)),
-    (ram!(2 * UNIT, &[3, 4]), Told::Planned(0, BASE, 0, 2)),
-];
+/// Two bridges with two endpoints of persistent memory each, and a window for each reason, in the order in which they
+/// are tried.
+const PMEM: &str = "0x382, 0x382, 0x1b02 0 0 0 0x80000000, 0x1b02 0 1 0 0x80000000, \
+    0x1b02 1 0 0 0x80000000, 0x1b02 1 1 0 0x80000000";
 
-/// A table with a window for each reason, in the order in which they are tried.
-#[test]
-fn reasons(rt: HostRuntime) {
-    let nodes = [
-        BRIDGE,
-        BRIDGE,
-        device!(0, 0, 0, 2 * GIB),
-        device!(0, 1, 0, 2 * GIB),
-        device!(1, 0, 0, 2 * GIB),
-        device!(1, 1, 0, 2 * GIB),
-    ];
-    let parts = Parts {
-        nodes: &nodes,
-        windows: &WINDOWS,
-        ranges: &[],
-    };
-    tells(&rt, &parts, &REASONS);
-}
+const WINDOWS: &str = "0x500000001 0x40000000 0 0 0x000e 0 1, \
+    0x140000000 0x40000000 0 0 0x0006 0 1, 0x180000000 0x40000000 0 0 0x001e 0 1, \
+    0x1c0000000 0x40000000 0 0 0x000e 0, 0x200000000 0x40000000 5 0 0x000e 0 1, \
+    0x240000000 0x40000000 6 0 0x000e 0 1, 0x280000000 0x20000000 6 0 0x000e 0 1";
 
-const BOTH: Span = window!(GIB, &[0, 1]);
+const REASONS: &str = "NoWindow(FixedList { vec: [Unusable, Kind, Fixed, Bridges, Gran, \
+    Select(0), Select(0)] })";
 
-const WINDOWS: [Span; 7] = [
-    Span {
-        base: BASE + 16 * GIB + 1,
-        ..BOTH
-    },
-    Span {
-        restrict: 0x0006,
-        base: BASE + 1 * GIB,
-        ..BOTH
-    },
-    Span {
-        restrict: 0x001e,
-        base: BASE + 2 * GIB,
-        ..BOTH
-    },
-    Span {
-        base: BASE + 3 * GIB,
-        ..window!(GIB, &[0])
-    },
-    Span {
-        gran: 5,
-        base: BASE + 4 * GIB,
-        ..BOTH
-    },
-    Span {
-        gran: 6,
-        base: BASE + 5 * GIB,
-        ..BOTH
-    },
-    Span {
-        gran: 6,
-        size: UNIT * 2,
-        base: BASE + 6 * GIB,
-        ..BOTH
-    },
-];
+/// Three bridges with an endpoint each, of which one cannot have three ways; and two windows, where the first is taken.
+const THREE: &str = "0x382, 0x382, 0x382, \
+    0x1b02 0 0 0x10000000 0, 0x1b02 1 0 0x10000000 0, 0x1b02 2 0 0x10000000 0";
 
-const REASONS: [(Asked, Told); 2] = [
+const UNABLE: &str = "0x382, 0x382, 0x382, \
+    0x1b02 0 0 0x10000000 0, 0x302 1 0 0x10000000 0, 0x1b02 2 0 0x10000000 0";
+
+const TWO_WINDOWS: &str =
+    "0x100000000 0x30000000 0 0 0x000e 0 1 2, 0x200000000 0x30000000 0 0 0x000e 0 1 2";
+
+const RAM: MemKind = MemKind::Ram;
+
+const ANSWERS: [Answer; 20] = [
     (
-        pmem!(GIB, Some(6), &[2, 3, 4, 5]),
-        Told::NoWindow(&[
-            Reason::Unusable,
-            Reason::Kind,
-            Reason::Fixed,
-            Reason::Bridges,
-            Reason::Gran,
-            Reason::Select(0),
-            Reason::Select(0),
-        ]),
+        TWO_EACH,
+        LARGE,
+        "",
+        RAM,
+        0x4000_0000,
+        255,
+        "2 3 4 5",
+        "0 0x1000000000 0 4",
     ),
     (
-        pmem!(GIB, Some(6), &[2, 4]),
-        Told::Planned(5, BASE + 5 * GIB, 6, 2),
+        TWO_EACH,
+        LARGE,
+        "",
+        RAM,
+        0x4000_0000,
+        255,
+        "5 2 4 3",
+        "0 0x1000000000 0 4",
+    ),
+    (
+        TWO_EACH,
+        LARGE,
+        "",
+        RAM,
+        0x1000_0000,
+        255,
+        "2 2",
+        "Repeat(2)",
+    ),
+    (
+        TWO_EACH,
+        LARGE,
+        "",
+        RAM,
+        0x3000_0000,
+        255,
+        "2 3 4",
+        "Uneven(1)",
+    ),
+    (
+        TWO_EACH,
+        LARGE,
+        "",
+        RAM,
+        0x2000_0000,
+        255,
+        "2 3",
+        "NoWindow(FixedList { vec: [Bridges] })",
+    ),
+    (
+        TWO_EACH,
+        LARGE,
+        OF_FOUR,
+        RAM,
+        0x2000_0000,
+        255,
+        "2 4",
+        "0 0x1040000000 0 2",
+    ),
+    (
+        BARE,
+        LARGE,
+        "",
+        RAM,
+        0x2000_0000,
+        255,
+        "3 4",
+        "0 0x1000000000 0 2",
+    ),
+    (
+        BARE,
+        LARGE,
+        "",
+        RAM,
+        0x4000_0000,
+        255,
+        "2 3 4 5",
+        "Span(2, NoRoom(Room { start: 0, limit: 0 }))",
+    ),
+    (
+        ONE,
+        OVER_ONE,
+        OF_ONE,
+        RAM,
+        0x1000_0000,
+        255,
+        "1",
+        "Span(1, PastRam(1342177280))",
+    ),
+    (
+        ONE,
+        OVER_ONE,
+        OF_ONE,
+        MemKind::Pmem,
+        0x4000_0000,
+        255,
+        "1",
+        "Span(1, NoRoom(Room { start: 1342177280, limit: 2147483648 }))",
+    ),
+    (ONE, OVER_ONE, OF_ONE, MemKind::Pmem, 0, 255, "1", "Size"),
+    (
+        ONE,
+        OVER_ONE,
+        "0 2 0 0x100000000 0x10000000 0 0",
+        MemKind::Pmem,
+        0x1000_0000,
+        255,
+        "1",
+        "0 0x110000000 0 1",
+    ),
+    // All of the window is taken.
+    (
+        LARGER_EACH,
+        OVER_TWO,
+        "0 2 0 0x100000000 0x100000000 0 0, 2 4 0 0x100000000 0x100000000 0x10 0",
+        RAM,
+        0x2000_0000,
+        255,
+        "2 3",
+        "NoWindow(FixedList { vec: [NoBase(Room { start: 8589934592, limit: 8589934592 })] })",
+    ),
+    // The only decoder of a bridge is committed.
+    (
+        ONE_DECODER,
+        OVER_TWO,
+        "0 2 0 0x100000000 0x20000000 0 0, 2 4 0 0x100000000 0x20000000 0x10 0",
+        RAM,
+        0x2000_0000,
+        255,
+        "2 3",
+        "NoDecoder(1)",
+    ),
+    (
+        FIVE,
+        OVER_ONE,
+        "",
+        RAM,
+        0x2000_0000,
+        255,
+        "1 2 3 4 5",
+        "Ways(5)",
+    ),
+    (
+        FIVE,
+        OVER_ONE,
+        "",
+        RAM,
+        0x2000_0000,
+        255,
+        "3 4",
+        "0 0x100000000 0 2",
+    ),
+    (
+        PMEM,
+        WINDOWS,
+        "",
+        MemKind::Pmem,
+        0x4000_0000,
+        6,
+        "2 3 4 5",
+        REASONS,
+    ),
+    (
+        PMEM,
+        WINDOWS,
+        "",
+        MemKind::Pmem,
+        0x4000_0000,
+        6,
+        "2 4",
+        "5 0x240000000 6 2",
+    ),
+    (
+        THREE,
+        TWO_WINDOWS,
+        "",
+        RAM,
+        0x3000_0000,
+        255,
+        "5 3 4",
+        "0 0x100000000 0 3",
+    ),
+    (
+        UNABLE,
+        TWO_WINDOWS,
+        "",
+        RAM,
+        0x3000_0000,
+        255,
+        "5 3 4",
+        "NoWindow(FixedList { vec: [WaysCap(4), WaysCap(4)] })",
     ),
 ];
 
-/// Three bridges whose endpoints cannot have three ways; and a first window that is taken before a second.
-#[test]
-fn three_ways(rt: HostRuntime) {
-    let asked = ram!(3 * UNIT, &[5, 3, 4]);
-    let able = Parts {
-        nodes: &THREE,
-        windows: &[
-            window!(3 * UNIT, &[0, 1, 2]),
-            Span {
-                base: 2 * BASE,
-                ..window!(3 * UNIT, &[0, 1, 2])
-            },
-        ],
-        ranges: &[],
-    };
-    tells(&rt, &able, &[(asked, Told::Planned(0, BASE, 0, 3))]);
-    let mut nodes = THREE;
-    nodes[4].cap = 0x302;
-    let unable = Parts {
-        nodes: &nodes,
-        ..able
-    };
-    let cap = Reason::WaysCap(4);
-    tells(&rt, &unable, &[(asked, Told::NoWindow(&[cap, cap]))]);
+/// The node, the decoder's number, the codes of ways and granularity, base, size and tail of each row.
+fn numbers_of(rt: &impl Abort, alloc: Global, rows: &[Row]) -> Vec<u64> {
+    let mut numbers = Vec::new(alloc);
+    for row in rows {
+        let own = [
+            u64::from(row.node),
+            u64::from(row.index),
+            u64::from(row.decoder.ways),
+            u64::from(row.decoder.gran),
+            row.decoder.base,
+            row.decoder.size,
+            row.decoder.tail,
+        ];
+        numbers.extend_from_slice(&own).expect(rt, "memory");
+    }
+    numbers
 }
 
-const THREE: [Spot; 6] = [
-    BRIDGE,
-    BRIDGE,
-    BRIDGE,
-    device!(0, 0, UNIT, 0),
-    device!(1, 0, UNIT, 0),
-    device!(2, 0, UNIT, 0),
+/// The endpoint and the start of each span.
+fn numbers_of_spans(rt: &impl Abort, alloc: Global, spans: &[Place]) -> Vec<u64> {
+    let mut numbers = Vec::new(alloc);
+    for place in spans {
+        let own = [u64::from(place.endpoint), place.start];
+        numbers.extend_from_slice(&own).expect(rt, "memory");
+    }
+    numbers
+}
+
+/// A host's nodes and windows, the size and the endpoints of what is asked for, and the plan's rows and spans.
+type Rows = (
+    &'static str,
+    &'static str,
+    u64,
+    &'static str,
+    &'static str,
+    &'static str,
+);
+
+fn has_rows(rt: &impl Abort, alloc: Global, row: &Rows) -> bool {
+    let (nodes, windows, size, endpoints, rows, spans) = *row;
+    let asked = (MemKind::Ram, size, 255, endpoints);
+    match planned_over(rt, alloc, (nodes, windows, ""), asked) {
+        Ok(plan) => {
+            numbers_of(rt, alloc, plan.rows.items()) == numbers(rt, alloc, rows)
+                && numbers_of_spans(rt, alloc, plan.found.spans.items())
+                    == numbers(rt, alloc, spans)
+        }
+        Err(_) => false,
+    }
+}
+
+#[test]
+fn rows(rt: HostRuntime) {
+    for (i, row) in ROWS.iter().enumerate() {
+        has_passed(&rt, i, has_rows(&rt, rt.alloc(), row));
+    }
+}
+
+const ROWS: [Rows; 3] = [
+    // Below bridges that decode, and below bridges that forward.
+    (
+        ONE_EACH,
+        OVER_TWO,
+        0x2000_0000,
+        "2 3",
+        "0 0 0 0 0x100000000 0x20000000 0  1 0 0 0 0x100000000 0x20000000 0 \
+         2 0 1 0 0x100000000 0x20000000 0  3 0 1 0 0x100000000 0x20000000 0",
+        "2 0 3 0",
+    ),
+    (
+        FORWARDING,
+        OVER_TWO,
+        0x2000_0000,
+        "2 3",
+        "2 0 1 0 0x100000000 0x20000000 0  3 0 1 0 0x100000000 0x20000000 0",
+        "2 0 3 0",
+    ),
+    // The target lists of bridges with two endpoints each.
+    (
+        TWO_EACH,
+        LARGE,
+        0x4000_0000,
+        "2 3 4 5",
+        "0 0 1 1 0x1000000000 0x40000000 0x0100  1 0 1 1 0x1000000000 0x40000000 0x0100 \
+         2 0 2 0 0x1000000000 0x40000000 0       3 0 2 0 0x1000000000 0x40000000 0 \
+         4 0 2 0 0x1000000000 0x40000000 0       5 0 2 0 0x1000000000 0x40000000 0",
+        "2 0 4 0 3 0 5 0",
+    ),
 ];
