@@ -9,7 +9,7 @@ ghost use Rattle.cxl_model.specs.Regions.{IsRegion};
 use crate::breaches::breaks;
 use crate::hosts::{Worked, host_of};
 use crate::rows::{at, byte, has_passed, numbers, shows, word};
-use cxl_check::{CheckFault, check};
+use cxl_check::check;
 use cxl_model::{Found, Step};
 use cxl_walk::{Host, Kept, Route, down, up};
 use std::alloc::Global;
@@ -72,14 +72,13 @@ fn up_from(host: &Worked, node: u32, dpa: u64) -> Option<Host>
 }
 
 /// The route that is kept for the address, where the image is accepted and a region holds it.
-fn kept_route(rt: &impl Abort, alloc: Global, host: &Worked, h: u64) -> Option<Route>
+fn kept_route(alloc: Global, host: &Worked, h: u64) -> Option<Route>
     requires caps { HasCapsOf host.now.image host.now.topo.nodes }
     requires made { AreMadeWith host.now.windows.items (bridge_uids host.now.topo.nodes) }
 {
     match check(alloc, &host.image, &host.topo, &host.windows) {
         Ok(regions) => kept_in(alloc, host, &regions, h),
-        Err(CheckFault::Breach(_)) => None,
-        Err(CheckFault::Memory) => panic!(rt; "memory"),
+        Err(_) => None,
     }
 }
 
@@ -112,12 +111,12 @@ fn route_in(alloc: Global, host: &Worked, region: &Found, h: u64) -> Option<Rout
 }
 
 /// Whether an address goes by this route, by the registers and by kept routes, and comes back from its end.
-fn goes(rt: &impl Abort, alloc: Global, host: &Worked, h: u64, route: Route) -> bool
+fn goes(alloc: Global, host: &Worked, h: u64, route: Route) -> bool
     requires caps { HasCapsOf host.now.image host.now.topo.nodes }
     requires made { AreMadeWith host.now.windows.items (bridge_uids host.now.topo.nodes) }
 {
     down(&host.image, &host.topo, &host.windows, h) == Ok(route)
-        && kept_route(rt, alloc, host, h) == Some(route)
+        && kept_route(alloc, host, h) == Some(route)
         && comes_back(host, route.endpoint, route.dpa, route.base, h)
 }
 
@@ -135,7 +134,7 @@ type Row = (&'static str, &'static str, &'static str, u64, &'static str);
 fn is_routed(rt: &impl Abort, alloc: Global, row: &Row) -> bool {
     let (nodes, windows, ranges, h, want) = *row;
     let host = host_of(rt, alloc, nodes, windows, ranges);
-    goes(rt, alloc, &host, h, route_of(&numbers(rt, alloc, want)))
+    goes(alloc, &host, h, route_of(&numbers(rt, alloc, want)))
 }
 
 #[test]
@@ -304,7 +303,7 @@ fn is_missed(rt: &impl Abort, alloc: Global, row: &Row) -> bool {
     let (nodes, windows, ranges, h, want) = *row;
     let host = host_of(rt, alloc, nodes, windows, ranges);
     let way = down(&host.image, &host.topo, &host.windows, h);
-    shows(rt, alloc, &way, want) && kept_route(rt, alloc, &host, h).is_none()
+    shows(rt, alloc, &way, want) && kept_route(alloc, &host, h).is_none()
 }
 
 #[test]

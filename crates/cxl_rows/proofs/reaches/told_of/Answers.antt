@@ -7,5 +7,5 @@ use Rattle.cxl_rows.proofs.reaches.told_of.Goals as goal
 
 pub told_by-requires-clause-regions : goal.told_by-requires-clause-regions
 told_by-requires-clause-regions c =
-    subst (λ (ws : List WindowFields). All (IsRegion (system_of c.args.host.now.image c.args.host.now.topo ws)) c.deref-regions.result.now) c.deref.ensures.value
-    (subst (λ (xs : List Found). All (IsRegion (system_of c.args.host.now.image c.args.host.now.topo c.deref.result.now)) xs) (sym c.deref-regions.ensures.value) c.in-Ok.ensures.regions.listed.each)
+    subst (λ (ws : List WindowFields). All (IsRegion (system_of c.args.host.now.image c.args.host.now.topo ws)) c.deref-in-Ok.result.now) c.deref.ensures.value
+    (subst (λ (xs : List Found). All (IsRegion (system_of c.args.host.now.image c.args.host.now.topo c.deref.result.now)) xs) (sym c.deref-in-Ok.ensures.value) c.in-Ok.ensures.regions.listed.each)
