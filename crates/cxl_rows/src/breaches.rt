@@ -1,144 +1,156 @@
 //! Images of worked hosts that break a rule, each named by its rule, node and decoder; and one that breaks none.
 
-ghost use Rattle.std.specs.Prelude.{IfOk};
-ghost use Rattle.cxl_image.specs.Images.{HasCapsOf};
 ghost use Rattle.cxl_window.specs.Windows.{AreMadeWith};
 ghost use Rattle.cxl_model.specs.System.{bridge_uids};
 
-use crate::host_files::with_words;
-use crate::hosts::{
-    BASE, BRIDGE, FORWARDING, GIB, Range, Spot, Worked, device, host_of, over, window,
-};
-use cxl_check::{CheckFault, check};
+use crate::hosts::{Worked, host_of};
+use crate::rows::{change, has_passed, numbers};
+use cxl_check::{Breach, CheckFault, Found, check};
 use cxl_enc::MemKind;
 use cxl_image::{Image, read_image, write_image};
+use cxl_model::Place;
 use std::alloc::Global;
 use std::process::Abort;
-use std::test::Fail;
 
-const SIZE: u64 = 0x2000_0000;
+/// Two bridges with one endpoint of 2 GiB each.
+const DECODING: &str = "0x382, 0x382, 0x1b02 0 0 0x80000000 0, 0x1b02 1 0 0x80000000 0";
+
+/// The same, where the bridges forward.
+const FORWARDING: &str = "0x10, 0x10, 0x1b02 0 0 0x80000000 0, 0x1b02 1 0 0x80000000 0";
+
+/// The second bridge cannot select on address bits 14:12.
+const LOW_BITS: &str = "0x382, 0x182, 0x1b02 0 0 0x80000000 0, 0x1b02 1 0 0x80000000 0";
+
+/// One endpoint fewer.
+const THREE_NODES: &str = "0x382, 0x382, 0x1b02 0 0 0x80000000 0";
+
+/// A window over both bridges.
+const WINDOW: &str = "0x100000000 0x100000000 0 0 0x000e 0 1";
 
 /// The decoders of a region over both endpoints.
-const fn bridges() -> Range {
-    over(0, 2, BASE, SIZE, 0, 0)
-}
+const REGION: &str = "0 2 0 0x100000000 0x20000000 0 0, 2 4 0 0x100000000 0x20000000 0x10 0";
 
-const fn endpoints() -> Range {
-    over(2, 4, BASE, SIZE, 0x10, 0)
-}
+/// The same below bridges that forward, and where the first of them decodes, too.
+const BELOW: &str = "2 4 0 0x100000000 0x20000000 0x10 0";
 
-/// Two bridges with one endpoint each under a window over both, with these decoders committed.
-fn two_bridges(
-    rt: &impl Abort,
-    alloc: Global,
-    bridges: [Spot; 2],
-    ranges: &[Range],
-) -> Result<Worked, Fail>
-    ensures caps { IfOk result (λ it. HasCapsOf it.image it.topo.nodes) }
-    ensures made { IfOk result (λ it. AreMadeWith it.windows.items (bridge_uids it.topo.nodes)) }
-{
-    let [first, second] = bridges;
-    let spots = [
-        first,
-        second,
-        device(0, 0, 2 * GIB, 0),
-        device(1, 0, 2 * GIB, 0),
-    ];
-    host_of(rt, alloc, &spots, &[window(BASE, &[0, 1])], ranges)
-}
+const BELOW_AND_FIRST: &str =
+    "2 4 0 0x100000000 0x20000000 0x10 0, 0 1 0 0x100000000 0x20000000 0 0";
 
-/// A word of the image file of four nodes with blocks of 144 bytes: the node, the offset and the value.
-type Word = (usize, usize, u32);
-
-/// The host's image with other words.
-fn changed(rt: &impl Abort, alloc: Global, host: &Worked, words: &[Word]) -> Result<Image, Fail> {
-    let mut bytes = write_image(alloc, &host.image)?;
-    for (node, off, value) in words {
-        assert!(rt; *node < 4 && *off < 144);
-        bytes = with_words(bytes, &[(12 + 144 * node + off, *value)])?;
-    }
+/// The host's image with other words, each at its byte place in the image's file.
+fn changed(rt: &impl Abort, alloc: Global, host: &Worked, words: &str) -> Image {
+    let mut bytes = write_image(alloc, &host.image).expect(rt, "memory");
+    change(rt, &mut bytes, &numbers(rt, alloc, words), 4);
     assert!(rt; bytes.len() < 0x1_0000_0000);
-    Ok(read_image(alloc, &bytes, &host.topo)?)
+    read_image(alloc, &bytes, &host.topo).expect(rt, "an image")
 }
 
-/// The breach that is found, as rule, node and decoder.
-fn breach(alloc: Global, host: &Worked, image: &Image) -> Result<Option<(u8, u32, u8)>, Fail>
-    requires made { AreMadeWith host.now.windows.items (bridge_uids host.now.topo.nodes) }
+/// Whether the image breaks this rule of the host first, by this node and decoder.
+pub(crate) fn breaks(alloc: Global, host: &Worked, image: &Image, want: (u8, u32, u8)) -> bool
+    requires { AreMadeWith host.now.windows.items (bridge_uids host.now.topo.nodes) }
 {
-    match check(alloc, image, &host.topo, &host.windows) {
-        Ok(_) => Ok(None),
-        Err(CheckFault::Breach(b)) => Ok(Some((b.rule, b.node, b.decoder))),
-        Err(CheckFault::Memory) => Err(Fail::from("out of memory")),
+    let (rule, node, decoder) = want;
+    let breach = Breach {
+        rule,
+        node,
+        decoder,
+    };
+    check(alloc, image, &host.topo, &host.windows).err() == Some(CheckFault::Breach(breach))
+}
+
+/// The nodes of the host and of the image, the decoders that are committed in this, other words of its file, and the
+/// rule, node and decoder of the breach.
+type Row = (
+    &'static str,
+    &'static str,
+    &'static str,
+    &'static str,
+    u8,
+    u32,
+    u8,
+);
+
+fn is_breach(rt: &impl Abort, alloc: Global, row: &Row) -> bool {
+    let (nodes, own, ranges, words, rule, node, decoder) = *row;
+    let host = host_of(rt, alloc, nodes, WINDOW, "");
+    let other = host_of(rt, alloc, own, WINDOW, ranges);
+    let image = changed(rt, alloc, &other, words);
+    breaks(alloc, &host, &image, (rule, node, decoder))
+}
+
+#[test]
+fn breaches(rt: HostRuntime) {
+    for (i, row) in ROWS.iter().enumerate() {
+        has_passed(&rt, i, is_breach(&rt, rt.alloc(), row));
     }
 }
 
-/// Words of the image of one region over both endpoints, and what they break.
-const ROWS: [(&[Word], (u8, u32, u8)); 11] = [
-    (&[(2, 0x04, 0)], (2, 2, 0)),
-    (&[(3, 0x20, 0x1e10)], (3, 3, 0)),
-    (&[(2, 0x20, 0x1670)], (4, 2, 0)),
-    (&[(2, 0x20, 0x1626)], (5, 2, 0)),
-    (&[(2, 0x18, 0x1000_0000)], (6, 2, 0)),
+/// The blocks of four nodes begin at bytes 12, 156, 300 and 444, and their first decoder 16 bytes further.
+const ROWS: [Row; 14] = [
+    // A bridge that cannot select on the bits that its decoder selects on.
+    (LOW_BITS, DECODING, REGION, "", 1, 1, 0),
+    // Three blocks over four nodes.
+    (DECODING, THREE_NODES, "", "", 1, 0, 0),
+    (DECODING, DECODING, REGION, "304 0", 2, 2, 0),
+    (DECODING, DECODING, REGION, "476 0x1e10", 3, 3, 0),
+    (DECODING, DECODING, REGION, "332 0x1670", 4, 2, 0),
+    (DECODING, DECODING, REGION, "332 0x1626", 5, 2, 0),
+    (DECODING, DECODING, REGION, "324 0x10000000", 6, 2, 0),
     (
-        &[(2, 0x34, 1), (2, 0x38, 0x2000_0000), (2, 0x40, 0x1610)],
-        (7, 2, 1),
+        DECODING,
+        DECODING,
+        REGION,
+        "352 1 356 0x20000000 364 0x1610",
+        7,
+        2,
+        1,
     ),
-    (&[(2, 0x18, 0), (2, 0x1c, 2)], (8, 2, 0)),
-    (&[(2, 0x14, 2)], (9, 2, 0)),
-    (&[(1, 0x20, 0x1000)], (10, 0, 0)),
+    (DECODING, DECODING, REGION, "324 0 328 2", 8, 2, 0),
+    (DECODING, DECODING, REGION, "320 2", 9, 2, 0),
+    (DECODING, DECODING, REGION, "188 0x1000", 10, 0, 0),
     (
-        &[
-            (2, 0x30, 0x2000_0000),
-            (2, 0x34, 1),
-            (2, 0x38, 0x2000_0000),
-            (2, 0x40, 0x1610),
-        ],
-        (11, 2, 1),
+        DECODING,
+        DECODING,
+        REGION,
+        "348 0x20000000 352 1 356 0x20000000 364 0x1610",
+        11,
+        2,
+        1,
     ),
-    (&[(2, 0x20, 0x1611)], (12, 2, 0)),
+    (DECODING, DECODING, REGION, "332 0x1611", 12, 2, 0),
+    // A bridge that forwards decodes nothing itself.
+    (FORWARDING, FORWARDING, BELOW_AND_FIRST, "", 11, 0, 0),
 ];
 
-#[test]
-fn breaches(rt: HostRuntime) -> Result<(), Fail> {
-    let alloc = rt.alloc();
-    let host = two_bridges(&rt, alloc, [BRIDGE; 2], &[bridges(), endpoints()])?;
-    for (words, want) in ROWS {
-        let other = changed(&rt, alloc, &host, words)?;
-        assert_eq!(rt; breach(alloc, &host, &other)?, Some(want));
-    }
-    // A bridge that cannot select on address bits 14:12.
-    let low = Spot {
-        cap: 0x182,
-        ..BRIDGE
-    };
-    let other = two_bridges(&rt, alloc, [BRIDGE, low], &[])?;
-    assert_eq!(rt; breach(alloc, &other, &host.image)?, Some((1, 1, 0)));
-    Ok(())
+/// Whether the region is that of both endpoints.
+fn is_of_both(region: &Found) -> bool {
+    region.base == 0x1_0000_0000
+        && region.size == 0x2000_0000
+        && region.window == 0
+        && region.gran == 0
+        && region.ways == 2
+        && region.kind == MemKind::Ram
+        && are_spans(region.spans.items())
+}
+
+/// Whether the spans of both endpoints begin with their memory.
+pub(crate) fn are_spans(spans: &[Place]) -> bool {
+    spans.len() == 2
+        && spans[0].endpoint == 2
+        && spans[0].start == 0
+        && spans[1].endpoint == 3
+        && spans[1].start == 0
+}
+
+/// The regions of bridges that forward, with these decoders committed.
+fn regions_of(rt: &impl Abort, alloc: Global, ranges: &str) -> Vec<Found> {
+    let host = host_of(rt, alloc, FORWARDING, WINDOW, ranges);
+    check(alloc, &host.image, &host.topo, &host.windows).expect(rt, "regions")
 }
 
 #[test]
-fn one_region(rt: HostRuntime) -> Result<(), Fail> {
-    let alloc = rt.alloc();
-    let forwarding = [FORWARDING; 2];
-    let host = two_bridges(&rt, alloc, forwarding, &[])?;
-    assert_eq!(rt;
-        check(alloc, &host.image, &host.topo, &host.windows)?.len(),
-        0
-    );
-    let host = two_bridges(&rt, alloc, forwarding, &[endpoints()])?;
-    let regions = check(alloc, &host.image, &host.topo, &host.windows)?;
-    assert_eq!(rt; regions.len(), 1);
-    let region = &regions[0];
-    assert_eq!(rt; (region.base, region.size), (BASE, SIZE));
-    assert_eq!(rt; (region.window, region.gran, region.ways), (0, 0, 2));
-    assert_eq!(rt; region.kind, MemKind::Ram);
-    let spans = region.spans.items();
-    assert_eq!(rt; spans.len(), 2);
-    assert_eq!(rt; (spans[0].endpoint, spans[0].start), (2, 0));
-    assert_eq!(rt; (spans[1].endpoint, spans[1].start), (3, 0));
-    // A bridge that forwards decodes nothing itself.
-    let first = over(0, 1, BASE, SIZE, 0, 0);
-    let host = two_bridges(&rt, alloc, forwarding, &[endpoints(), first])?;
-    assert_eq!(rt; breach(alloc, &host, &host.image)?, Some((11, 0, 0)));
-    Ok(())
+fn no_breach(rt: HostRuntime) {
+    let one = regions_of(&rt, rt.alloc(), BELOW);
+    assert!(rt; one.len() == 1 && is_of_both(&one[0]));
+    let none = regions_of(&rt, rt.alloc(), "");
+    assert!(rt; none.is_empty());
 }

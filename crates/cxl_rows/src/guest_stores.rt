@@ -1,116 +1,139 @@
-use crate::host_files::TWO_ENDPOINTS;
-use crate::rows::bytes;
-use crate::tables::TWO_BRIDGES;
+ghost use Rattle.cxl_image.specs.Images.{HasCapsOf};
+ghost use Rattle.cxl_model.specs.System.{bridge_uids};
+ghost use Rattle.cxl_window.specs.Windows.{AreMadeWith};
+
+use crate::hosts::{Worked, windows_of};
+use crate::rows::{bytes, has_passed};
 use crate::{real_hosts, real_images, stores};
-use cxl_cedt::read;
-use cxl_check::{CheckFault, check};
+use cxl_cedt::{Cedt, read};
 use cxl_image::{Image, read_image};
+use cxl_io::read_number;
+use cxl_topo::Topo;
 use cxl_topofile::read_topo;
 use cxl_walk::down;
-use cxl_window::windows;
+use std::alloc::Global;
 use std::process::Abort;
-use std::test::Fail;
 
-/// Stores of a guest, each as host address, endpoint and device byte.
-type Stores = [(u64, &'static str, u64); 12];
+fn table_of(rt: &impl Abort, alloc: Global, digits: &str) -> Cedt {
+    let table = bytes(rt, alloc, digits);
+    assert!(rt; table.len() <= 1_048_576);
+    read(alloc, &table).expect(rt, "a table")
+}
 
-/// Checks that each store leads to the device byte in which it was found.
-fn check_stores(
-    rt: &(impl Abort + AllocGlobal),
-    table: &str,
-    topology: &str,
-    image: &str,
-    stores: &Stores,
-) -> Result<(), Fail> {
-    let alloc = rt.alloc();
-    let table = bytes(alloc, table, &[])?;
-    if table.len() > 1_048_576 {
-        return Err(Fail::new("a table too large"));
+fn image_of(rt: &impl Abort, alloc: Global, digits: &str, topo: &Topo) -> Image
+    ensures { HasCapsOf result topo.now.nodes }
+{
+    let image = bytes(rt, alloc, digits);
+    match read_image(alloc, &image, topo) {
+        Ok(image) => image,
+        Err(_) => panic!(rt; "no image"),
     }
-    let topo = read_topo(alloc, topology.as_bytes())?;
-    let image = read_image(alloc, &bytes(alloc, image, &[])?, &topo)?;
-    let windows = windows(alloc, &read(alloc, &table)?, Some(topo.uids()))?;
-    for (h, endpoint, dpa) in stores {
-        let route = down(&image, &topo, &windows, *h).map_err(|_| Fail::new("no route"))?;
-        if route.endpoint >= topo.count() {
-            return Err(Fail::new("no such endpoint"));
+}
+
+/// The digits of a table, a topology, the digits of an image, and stores of a guest in lines.
+type Row = (&'static str, &'static str, &'static str, &'static str);
+
+fn host_of(rt: &impl Abort, alloc: Global, row: &Row) -> Worked
+    ensures caps { HasCapsOf result.image result.topo.nodes }
+    ensures made { AreMadeWith result.windows.items (bridge_uids result.topo.nodes) }
+{
+    let (table, topology, image, _) = *row;
+    let topo = read_topo(alloc, topology.as_bytes()).expect(rt, "a topology");
+    let image = image_of(rt, alloc, image, &topo);
+    let windows = windows_of(rt, alloc, &table_of(rt, alloc, table), topo.uids());
+    Worked {
+        topo,
+        windows,
+        image,
+    }
+}
+
+/// Whether a store leads to the device byte in which it was found.
+fn leads_to(host: &Worked, h: u64, endpoint: &[u8], dpa: u64) -> bool
+    requires caps { HasCapsOf host.now.image host.now.topo.nodes }
+    requires made { AreMadeWith host.now.windows.items (bridge_uids host.now.topo.nodes) }
+{
+    match down(&host.image, &host.topo, &host.windows, h) {
+        Ok(route) => {
+            route.dpa == dpa
+                && route.endpoint < host.topo.count()
+                && host.topo.node(route.endpoint).name.bytes() == endpoint
         }
-        let device = topo.node(route.endpoint).name;
-        assert_eq!(rt; device.bytes(), endpoint.as_bytes());
-        assert_eq!(rt; route.dpa, *dpa);
+        Err(_) => false,
     }
-    Ok(())
+}
+
+/// The same of a line with the address, the endpoint and the device byte.
+fn is_led(rt: &impl Abort, host: &Worked, line: &str) -> bool
+    requires caps { HasCapsOf host.now.image host.now.topo.nodes }
+    requires made { AreMadeWith host.now.windows.items (bridge_uids host.now.topo.nodes) }
+{
+    let mut words = line.split(' ');
+    let h = words.next().expect(rt, "an address");
+    let endpoint = words.next().expect(rt, "an endpoint");
+    let dpa = words.next().expect(rt, "a device byte");
+    let h = read_number(h.as_bytes()).expect(rt, "a number");
+    let dpa = read_number(dpa.as_bytes()).expect(rt, "a number");
+    leads_to(host, h, endpoint.as_bytes(), dpa)
+}
+
+/// Whether each of twelve stores leads to its byte.
+fn are_led(rt: &impl Abort, alloc: Global, row: &Row) -> bool {
+    let host = host_of(rt, alloc, row);
+    let mut count = 0_u32;
+    for line in row.3.split('\n') {
+        if !line.is_empty() {
+            if !is_led(rt, &host, line) {
+                return false;
+            }
+            count = count.saturating_add(1);
+        }
+    }
+    count == 12
 }
 
 #[test]
-fn real_stores(rt: HostRuntime) -> Result<(), Fail> {
-    let rows = [
-        (
-            real_hosts::X2_BRIDGES_TABLE,
-            real_hosts::X2_BRIDGES_TOPOLOGY,
-            real_images::X2_BRIDGES,
-            stores::X2_BRIDGES_STORES,
-        ),
-        (
-            real_hosts::X4_SWITCHES_TABLE,
-            real_hosts::X4_SWITCHES_TOPOLOGY,
-            real_images::X4_SWITCHES,
-            stores::X4_SWITCHES_STORES,
-        ),
-        (
-            real_hosts::X8_TWO_WINDOWS_TABLE,
-            real_hosts::X8_TWO_WINDOWS_TOPOLOGY,
-            real_images::X8_TWO_WINDOWS,
-            stores::X8_TWO_WINDOWS_STORES,
-        ),
-        (
-            real_hosts::X6_THREE_WAYS_TABLE,
-            real_hosts::X6_THREE_WAYS_TOPOLOGY,
-            real_images::X6_THREE_WAYS,
-            stores::X6_THREE_WAYS_STORES,
-        ),
-        (
-            real_hosts::RAM_AND_PMEM_TABLE,
-            real_hosts::RAM_AND_PMEM_TOPOLOGY,
-            real_images::RAM_AND_PMEM,
-            stores::RAM_AND_PMEM_STORES,
-        ),
-        (
-            real_hosts::SINGLE_PORTS_TABLE,
-            real_hosts::SINGLE_PORTS_TOPOLOGY,
-            real_images::SINGLE_PORTS,
-            stores::SINGLE_PORTS_STORES,
-        ),
-    ];
-    for (table, topology, image, stores) in rows {
-        check_stores(&rt, table, topology, image, &stores)?;
-    }
-    Ok(())
-}
-
-/// An image of three blocks over a topology of four nodes: the first rule names node 0 and decoder 0.
-#[test]
-fn other_count(rt: HostRuntime) -> Result<(), Fail> {
-    let alloc = rt.alloc();
-    let topo = read_topo(alloc, TWO_ENDPOINTS.as_bytes())?;
-    let other = read_topo(alloc, THREE_NODES.as_bytes())?;
-    let image = Image::new(alloc, &other)?;
-    let table = bytes(alloc, TWO_BRIDGES, &[])?;
-    if table.len() > 1_048_576 {
-        return Err(Fail::new("a table too large"));
-    }
-    let windows = windows(alloc, &read(alloc, &table)?, Some(topo.uids()))?;
-    match check(alloc, &image, &topo, &windows) {
-        Err(CheckFault::Breach(breach)) => {
-            assert_eq!(rt; (breach.rule, breach.node, breach.decoder), (1, 0, 0));
-            Ok(())
-        }
-        _ => Err(Fail::new("no breach")),
+fn real_stores(rt: HostRuntime) {
+    for (i, row) in REAL.iter().enumerate() {
+        has_passed(&rt, i, are_led(&rt, rt.alloc(), row));
     }
 }
 
-/// Two bridges, and one endpoint.
-const THREE_NODES: &str = r#"
-bridge = [{ name = "hb0", uid = 0 }, { name = "hb1", uid = 1 }]
-endpoint = [{ name = "e0", parent = "hb0", port = 0, ram = 0x80000000 }]
-"#;
+const REAL: [Row; 6] = [
+    (
+        real_hosts::X2_BRIDGES_TABLE,
+        real_hosts::X2_BRIDGES_TOPOLOGY,
+        real_images::X2_BRIDGES,
+        stores::X2_BRIDGES_STORES,
+    ),
+    (
+        real_hosts::X4_SWITCHES_TABLE,
+        real_hosts::X4_SWITCHES_TOPOLOGY,
+        real_images::X4_SWITCHES,
+        stores::X4_SWITCHES_STORES,
+    ),
+    (
+        real_hosts::X8_TWO_WINDOWS_TABLE,
+        real_hosts::X8_TWO_WINDOWS_TOPOLOGY,
+        real_images::X8_TWO_WINDOWS,
+        stores::X8_TWO_WINDOWS_STORES,
+    ),
+    (
+        real_hosts::X6_THREE_WAYS_TABLE,
+        real_hosts::X6_THREE_WAYS_TOPOLOGY,
+        real_images::X6_THREE_WAYS,
+        stores::X6_THREE_WAYS_STORES,
+    ),
+    (
+        real_hosts::RAM_AND_PMEM_TABLE,
+        real_hosts::RAM_AND_PMEM_TOPOLOGY,
+        real_images::RAM_AND_PMEM,
+        stores::RAM_AND_PMEM_STORES,
+    ),
+    (
+        real_hosts::SINGLE_PORTS_TABLE,
+        real_hosts::SINGLE_PORTS_TOPOLOGY,
+        real_images::SINGLE_PORTS,
+        stores::SINGLE_PORTS_STORES,
+    ),
+];

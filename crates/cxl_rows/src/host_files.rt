@@ -1,8 +1,3 @@
-use crate::rows::bytes;
-use cxl_io::MemFetch;
-use std::alloc::Global;
-use std::test::Fail;
-
 /// Two bridges with an endpoint of 2 GiB of volatile memory each.
 pub(crate) const TWO_ENDPOINTS: &str = r#"
 [[bridge]]
@@ -65,85 +60,53 @@ port = 0
 ram = 0x80000000
 "#;
 
-/// The capability words of the nodes' blocks: four decoders and eight targets, a placeholder, and four
-/// decoders of an endpoint.
-pub(crate) const PORT: (u32, usize) = (0x382, 4);
+// The digits of images. A block has a capability word and a word that turns it on, eight zero bytes, and decoders of 32
+// bytes each: four of a port and of an endpoint, one of a bridge that forwards. The first of them takes the first
+// 512 MiB from 4 GiB on, where nothing else is said; the rest are as after reset.
 
-pub(crate) const FORWARDING: (u32, usize) = (0x10, 1);
+/// The first region of two ways over two bridges.
+pub(crate) const FIRST_REGION: &str = "\
+    43584c48444d3031 04000000 \
+    82030000 02000000 0x0c 01000000 00000020 0x04 00160000 0x6c \
+    82030000 02000000 0x0c 01000000 00000020 0x04 00160000 0x6c \
+    021b0000 02000000 0x0c 01000000 00000020 0x04 10160000 0x6c \
+    021b0000 02000000 0x0c 01000000 00000020 0x04 10160000 0x6c\
+";
 
-pub(crate) const ENDPOINT: (u32, usize) = (0x1b02, 4);
+/// Two bridges with an endpoint each, after reset.
+pub(crate) const AFTER_RESET: &str = "\
+    43584c48444d3031 04000000 \
+    82030000 02000000 0x88 \
+    82030000 02000000 0x88 \
+    021b0000 02000000 0x88 \
+    021b0000 02000000 0x88\
+";
 
-/// The words from base low to control of a decoder after reset, and of one for the first 512 MiB from 4 GiB
-/// on: of a port, and of an endpoint of two ways.
-pub(crate) const RESET: [u32; 5] = [0; 5];
+/// The first region over bridges that forward.
+pub(crate) const FORWARDED: &str = "\
+    43584c48444d3031 04000000 \
+    10000000 02000000 0x28 \
+    10000000 02000000 0x28 \
+    021b0000 02000000 0x0c 01000000 00000020 0x04 10160000 0x6c \
+    021b0000 02000000 0x0c 01000000 00000020 0x04 10160000 0x6c\
+";
 
-pub(crate) const ONE_WAY: [u32; 5] = [0, 1, 0x2000_0000, 0, 0x1600];
+/// The same, where the first bridge decodes, too.
+pub(crate) const FORWARDED_DECODING: &str = "\
+    43584c48444d3031 04000000 \
+    10000000 02000000 0x0c 01000000 00000020 0x04 00160000 0x0c \
+    10000000 02000000 0x28 \
+    021b0000 02000000 0x0c 01000000 00000020 0x04 10160000 0x6c \
+    021b0000 02000000 0x0c 01000000 00000020 0x04 10160000 0x6c\
+";
 
-pub(crate) const TWO_WAYS: [u32; 5] = [0, 1, 0x2000_0000, 0, 0x1610];
-
-/// A block: its capability word, how many decoders it has, and the first words of the first of them.
-pub(crate) type Words = ((u32, usize), [u32; 5]);
-
-/// The image of the first region of two ways over two bridges.
-pub(crate) const FIRST_REGION: [Words; 4] = [
-    (PORT, ONE_WAY),
-    (PORT, ONE_WAY),
-    (ENDPOINT, TWO_WAYS),
-    (ENDPOINT, TWO_WAYS),
-];
-
-/// The image file of blocks that decode.
-pub(crate) fn image_file(alloc: Global, blocks: &[Words]) -> Result<Vec<u8>, Fail> {
-    let mut file = Vec::from_slice(alloc, b"CXLHDM01")?;
-    let Ok(count) = u32::try_from(blocks.len()) else {
-        return Err(Fail::new("too many blocks"));
-    };
-    put_word(&mut file, count)?;
-    for ((cap, decoders), first) in blocks {
-        for word in [*cap, 2, 0, 0] {
-            put_word(&mut file, word)?;
-        }
-        for word in first {
-            put_word(&mut file, *word)?;
-        }
-        for _ in 0..3 {
-            put_word(&mut file, 0)?;
-        }
-        for _ in 1..*decoders {
-            file.extend_from_slice(&[0; 32])?;
-        }
-    }
-    Ok(file)
-}
-
-fn put_word(file: &mut Vec<u8>, word: u32) -> Result<(), Fail> {
-    file.extend_from_slice(&word.to_le_bytes())?;
-    Ok(())
-}
-
-/// The bytes with other words, each at its byte place.
-pub(crate) fn with_words(mut file: Vec<u8>, words: &[(usize, u32)]) -> Result<Vec<u8>, Fail> {
-    for (at, value) in words {
-        if file.len() < 4 || *at > file.len() - 4 {
-            return Err(Fail::new("a word past the end"));
-        }
-        file[*at..*at + 4].copy_from_slice(&value.to_le_bytes());
-    }
-    Ok(file)
-}
-
-/// A table, a topology and an image in memory, and the numbers of the fetches that fail.
-pub(crate) fn host_files(
-    alloc: Global,
-    table: &str,
-    topology: &str,
-    image: Vec<u8>,
-    fails: &[u64],
-) -> Result<MemFetch, Fail> {
-    let mut files = Vec::new(alloc);
-    let topology = Vec::from_slice(alloc, topology.as_bytes())?;
-    files.push((String::from_str(alloc, "table")?, bytes(alloc, table, &[])?))?;
-    files.push((String::from_str(alloc, "topology")?, topology))?;
-    files.push((String::from_str(alloc, "image")?, image))?;
-    Ok(MemFetch::new(files, fails.to_vec(alloc)?))
-}
+/// A region of three ways whose base is 256 MiB behind the window's.
+pub(crate) const IN_THIRDS: &str = "\
+    43584c48444d3031 06000000 \
+    82030000 02000000 0x08 00000010 01000000 00000030 0x04 00160000 0x6c \
+    82030000 02000000 0x08 00000010 01000000 00000030 0x04 00160000 0x6c \
+    82030000 02000000 0x08 00000010 01000000 00000030 0x04 00160000 0x6c \
+    021b0000 02000000 0x08 00000010 01000000 00000030 0x04 80160000 0x6c \
+    021b0000 02000000 0x08 00000010 01000000 00000030 0x04 80160000 0x6c \
+    021b0000 02000000 0x08 00000010 01000000 00000030 0x04 80160000 0x6c\
+";

@@ -1,12 +1,13 @@
 //! Worked hosts: their nodes, their tables, and images that are made by register writes.
 
-ghost use Rattle.std.specs.Prelude.{◌≡◌, ◌≤◌, ◌*◌, List, length, sum_by, IsTrue, IfOk};
+ghost use Rattle.std.specs.Prelude.{◌≡◌, ◌≤◌, ◌*◌, List, length, sum_by, IsTrue};
 ghost use Rattle.cxl_cedt.specs.Records.{record_length};
 ghost use Rattle.cxl_topo.specs.declared.node.Node.{Node};
 ghost use Rattle.cxl_window.specs.Windows.{AreMadeWith};
 ghost use Rattle.cxl_image.specs.Images.{HasCapsOf};
 ghost use Rattle.cxl_model.specs.System.{bridge_uids};
 
+use crate::rows::{at, byte, numbers, word};
 use cxl_cedt::{Cedt, Cfmws, Chbs, Cxims, Head, Record};
 use cxl_enc::{Name, code_of};
 use cxl_image::Image;
@@ -18,19 +19,11 @@ use cxl_topo::{Capacity, Node, NodeKind, Parent, Topo};
 use cxl_window::{Window, windows};
 use std::alloc::Global;
 use std::process::Abort;
-use std::test::Fail;
-
-pub(crate) const BASE: u64 = 0x1_0000_0000;
 
 /// 256 MiB.
-pub(crate) const UNIT: u64 = 0x1000_0000;
+const UNIT: u64 = 0x1000_0000;
 
-pub(crate) const GIB: u64 = 0x4000_0000;
-
-const PORT: u32 = 0x382;
-
-const DEVICE: u32 = 0x1b02;
-
+/// The capability word of a bridge that forwards.
 const PLACEHOLDER: u32 = 0x10;
 
 /// The words of a decoder in the order in which they are written.
@@ -47,185 +40,113 @@ const HEAD: Head = Head {
     creator_revision: 0,
 };
 
-// ---- what a host is made of
-
-/// A node: the number of its parent and the port there, its bytes of ram and of pmem where it is an endpoint, its
-/// capability word and whether it forwards. A bridge's UID is its number.
-#[derive(Clone, Copy)]
-pub(crate) struct Spot {
-    pub(crate) parent: Option<(u32, u8)>,
-    pub(crate) device: Option<(u64, u64)>,
-    pub(crate) cap: u32,
-    pub(crate) forwards: bool,
-}
-
-pub(crate) const BRIDGE: Spot = Spot {
-    parent: None,
-    device: None,
-    cap: PORT,
-    forwards: false,
-};
-
-pub(crate) const FORWARDING: Spot = Spot {
-    cap: PLACEHOLDER,
-    forwards: true,
-    ..BRIDGE
-};
-
-pub(crate) const fn switch(parent: u32, port: u8) -> Spot {
-    Spot {
-        parent: Some((parent, port)),
-        ..BRIDGE
-    }
-}
-
-pub(crate) const fn device(parent: u32, port: u8, ram: u64, pmem: u64) -> Spot {
-    Spot {
-        parent: Some((parent, port)),
-        device: Some((ram, pmem)),
-        cap: DEVICE,
-        forwards: false,
-    }
-}
-
-/// A window over the bridges of these numbers.
-#[derive(Clone, Copy)]
-pub(crate) struct Span<'a> {
-    pub(crate) base: u64,
-    pub(crate) size: u64,
-    pub(crate) gran: u8,
-    pub(crate) xor: bool,
-    pub(crate) restrict: u16,
-    pub(crate) targets: &'a [u32],
-}
-
-pub(crate) const fn window(size: u64, targets: &[u32]) -> Span<'_> {
-    Span {
-        base: BASE,
-        size,
-        gran: 0,
-        xor: false,
-        restrict: 0x000e,
-        targets,
-    }
-}
-
-/// A decoder of each of the nodes from `first` up to `end`.
-#[derive(Clone, Copy)]
-pub(crate) struct Range {
-    pub(crate) first: u32,
-    pub(crate) end: u32,
-    pub(crate) decoder: u8,
-    pub(crate) base: u64,
-    pub(crate) size: u64,
-    /// The codes of ways and granularity, as they stand in the control word.
-    pub(crate) codes: u32,
-    /// The target list of a port, or the skip of an endpoint.
-    pub(crate) tail: u64,
-}
-
-pub(crate) const fn over(
-    first: u32,
-    end: u32,
-    base: u64,
-    size: u64,
-    codes: u32,
-    tail: u64,
-) -> Range {
-    Range {
-        first,
-        end,
-        decoder: 0,
-        base,
-        size,
-        codes,
-        tail,
-    }
-}
-
-/// So many bridges, so many endpoints under each of them with these bytes of ram and of pmem, and one window with a
-/// target for each bridge.
-#[derive(Clone, Copy)]
-pub(crate) struct Bridged {
-    pub(crate) bridges: u8,
-    pub(crate) under_each: u8,
-    pub(crate) capacity: (u64, u64),
-    pub(crate) forwards: bool,
-    pub(crate) base: u64,
-    pub(crate) size: u64,
-    pub(crate) xor: bool,
-}
-
-pub(crate) const fn server(bridges: u8, under_each: u8, ram: u64, size: u64) -> Bridged {
-    Bridged {
-        bridges,
-        under_each,
-        capacity: (ram, 0),
-        forwards: false,
-        base: BASE,
-        size,
-        xor: false,
-    }
-}
-
 // ---- its nodes and its table
+//
+// A host is written in three texts, each a list with commas between its items, which are numbers.
+// A node: its capability word, where that of a placeholder is a bridge's that forwards; the number of its parent and
+// the port there, where it has a parent; and its bytes of ram and of pmem, where it is an endpoint. A bridge's UID is
+// its number.
+// A window: base, size, granularity code, 1 for XOR arithmetic, restrictions, and the bridges that it lists.
+// Decoders that are committed, one of each of the nodes from a first up to an end: the two nodes, the decoder's number,
+// base, size, the codes of ways and granularity as they stand in the control word, and the target list of a port or
+// the skip of an endpoint.
 
-pub(crate) fn nodes_of(alloc: Global, spots: &[Spot]) -> Result<Vec<Node>, Fail> {
+fn nodes_of(rt: &impl Abort, alloc: Global, text: &str) -> Vec<Node> {
     let mut nodes = Vec::new(alloc);
-    for (i, spot) in spots.iter().enumerate() {
-        let letters = [b'n', b'a' + (i / 26 % 26) as u8, b'a' + (i % 26) as u8];
-        let kind = match (spot.device, spot.parent) {
-            (Some((ram, pmem)), _) => NodeKind::Endpoint(Capacity { ram, pmem }),
-            (None, Some(_)) => NodeKind::Switch,
-            (None, None) => NodeKind::Bridge((i % 64) as u32),
-        };
-        nodes.push(Node {
-            name: Name::read(&letters).ok_or("a name")?,
-            kind,
-            parent: spot.parent.map(|(node, port)| Parent { node, port }),
-            cap: spot.cap,
-            forwards: spot.forwards,
-        })?;
+    for (i, item) in text.split(',').enumerate() {
+        let node = node_of(rt, i, &numbers(rt, alloc, item));
+        nodes.push(node).expect(rt, "memory");
     }
-    Ok(nodes)
+    nodes
+}
+
+fn node_of(rt: &impl Abort, i: usize, item: &[u64]) -> Node {
+    let letters = [b'n', b'a' + (i / 26 % 26) as u8, b'a' + (i % 26) as u8];
+    Node {
+        name: Name::read(&letters).expect(rt, "a name"),
+        kind: kind_of(i, item),
+        parent: parent_of(item),
+        cap: word(item, 0),
+        forwards: word(item, 0) == PLACEHOLDER,
+    }
+}
+
+fn parent_of(item: &[u64]) -> Option<Parent> {
+    if item.len() > 1 {
+        Some(Parent {
+            node: word(item, 1),
+            port: byte(item, 2),
+        })
+    } else {
+        None
+    }
+}
+
+fn kind_of(i: usize, item: &[u64]) -> NodeKind {
+    if item.len() > 3 {
+        NodeKind::Endpoint(Capacity {
+            ram: at(item, 3),
+            pmem: at(item, 4),
+        })
+    } else if item.len() > 1 {
+        NodeKind::Switch
+    } else {
+        NodeKind::Bridge((i % 64) as u32)
+    }
 }
 
 /// The table with so many bridges, the windows, and a map of 256 bytes.
-pub(crate) fn table_of(
-    rt: &impl Abort,
-    alloc: Global,
-    spans: &[Span],
-    bridges: u32,
-) -> Result<Cedt, Fail> {
+fn table_of(rt: &impl Abort, alloc: Global, text: &str, bridges: u32) -> Cedt {
     let mut records = Vec::new(alloc);
+    put_bridges(rt, &mut records, bridges);
+    for item in text.split(',') {
+        let window = window_record(rt, alloc, &numbers(rt, alloc, item));
+        records.push(window).expect(rt, "memory");
+    }
+    let map = map_record(rt, alloc);
+    records.push(map).expect(rt, "memory");
+    assert!(rt; records.len() <= 64 && are_short(&records));
+    Cedt::new(HEAD, records)
+}
+
+fn put_bridges(rt: &impl Abort, records: &mut Vec<Record>, bridges: u32) {
     for uid in 0..bridges {
-        records.push(Record::Chbs(Chbs {
+        let bridge = Record::Chbs(Chbs {
             uid,
             version: 1,
             base: 0x8000_0000,
             length: 0x1_0000,
-        }))?;
+        });
+        records.push(bridge).expect(rt, "memory");
     }
-    for span in spans {
-        records.push(Record::Cfmws(window_record(rt, alloc, span)?))?;
-    }
-    let maps = [0x40_4100].to_vec(alloc)?;
-    records.push(Record::Cxims(Cxims::new(0, maps)))?;
-    assert!(rt; records.len() <= 64 && are_short(&records));
-    Ok(Cedt::new(HEAD, records))
 }
 
-fn window_record(rt: &impl Abort, alloc: Global, span: &Span) -> Result<Cfmws, Fail> {
-    assert!(rt; span.targets.len() <= 16 && span.gran <= 6);
-    let ways = code_of(span.targets.len() as u8).expect(rt, "a number of ways");
-    let targets = Vec::from_slice(alloc, span.targets)?;
-    Ok(Cfmws::new(
-        span.base,
-        span.size,
+fn map_record(rt: &impl Abort, alloc: Global) -> Record {
+    let maps = [0x40_4100].to_vec(alloc).expect(rt, "memory");
+    Record::Cxims(Cxims::new(0, maps))
+}
+
+/// The bridges that a window lists.
+fn targets_of(rt: &impl Abort, alloc: Global, item: &[u64]) -> Vec<u32> {
+    let mut targets = Vec::new(alloc);
+    for i in 5..item.len() {
+        targets.push(word(item, i)).expect(rt, "memory");
+    }
+    targets
+}
+
+fn window_record(rt: &impl Abort, alloc: Global, item: &[u64]) -> Record {
+    let targets = targets_of(rt, alloc, item);
+    let gran = byte(item, 2);
+    assert!(rt; targets.len() <= 16 && gran <= 6);
+    let ways = code_of(targets.len() as u8).expect(rt, "a number of ways");
+    Record::Cfmws(Cfmws::new(
+        at(item, 0),
+        at(item, 1),
         ways,
-        span.xor,
-        span.gran,
-        span.restrict,
+        at(item, 3) == 1,
+        gran,
+        (word(item, 4) % 0x1_0000) as u16,
         0,
         targets,
     ))
@@ -268,93 +189,81 @@ pub(crate) struct Worked {
 pub(crate) fn host_of(
     rt: &impl Abort,
     alloc: Global,
-    spots: &[Spot],
-    spans: &[Span],
-    ranges: &[Range],
-) -> Result<Worked, Fail>
-    ensures caps { IfOk result (λ it. HasCapsOf it.image it.topo.nodes) }
-    ensures made { IfOk result (λ it. AreMadeWith it.windows.items (bridge_uids it.topo.nodes)) }
+    nodes: &str,
+    spans: &str,
+    ranges: &str,
+) -> Worked
+    ensures caps { HasCapsOf result.image result.topo.nodes }
+    ensures made { AreMadeWith result.windows.items (bridge_uids result.topo.nodes) }
 {
-    let topo = Topo::new(alloc, nodes_of(alloc, spots)?, 65_536)?;
+    let topo = Topo::new(alloc, nodes_of(rt, alloc, nodes), 65_536).expect(rt, "a tree");
     assert!(rt; topo.uids().len() <= 16);
-    let table = table_of(rt, alloc, spans, topo.uids().len() as u32)?;
-    let windows = windows(alloc, &table, Some(topo.uids()))?;
-    let mut image = Image::new(alloc, &topo)?;
-    commit_all(rt, &mut image, ranges);
-    Ok(Worked {
+    let table = table_of(rt, alloc, spans, topo.uids().len() as u32);
+    let windows = windows_of(rt, alloc, &table, topo.uids());
+    let mut image = image_of(rt, alloc, &topo);
+    commit_all(rt, alloc, &mut image, ranges);
+    Worked {
         topo,
         windows,
         image,
-    })
+    }
 }
 
-pub(crate) fn spots_of(alloc: Global, host: &Bridged) -> Result<Vec<Spot>, Fail> {
-    let mut spots = Vec::new(alloc);
-    for _ in 0..host.bridges {
-        spots.push(if host.forwards { FORWARDING } else { BRIDGE })?;
-    }
-    let (ram, pmem) = host.capacity;
-    for bridge in 0..host.bridges {
-        for port in 0..host.under_each {
-            spots.push(device(u32::from(bridge), port, ram, pmem))?;
-        }
-    }
-    Ok(spots)
-}
-
-/// The host of these nodes under the one window, with these decoders committed.
-pub(crate) fn host_under(
-    rt: &impl Abort,
-    alloc: Global,
-    spots: &[Spot],
-    host: &Bridged,
-    ranges: &[Range],
-) -> Result<Worked, Fail>
-    ensures caps { IfOk result (λ it. HasCapsOf it.image it.topo.nodes) }
-    ensures made { IfOk result (λ it. AreMadeWith it.windows.items (bridge_uids it.topo.nodes)) }
+/// The windows of a table over these bridges.
+pub(crate) fn windows_of(rt: &impl Abort, alloc: Global, table: &Cedt, uids: &[u32]) -> Vec<Window>
+    ensures { AreMadeWith result.items uids.now }
 {
-    let uids = [0, 1, 2, 3, 4, 5];
-    assert!(rt; host.bridges <= 6);
-    let span = Span {
-        base: host.base,
-        xor: host.xor,
-        ..window(host.size, &uids[..usize::from(host.bridges)])
-    };
-    host_of(rt, alloc, spots, &[span], ranges)
+    match windows(alloc, table, Some(uids)) {
+        Ok(windows) => windows,
+        Err(_) => panic!(rt; "memory"),
+    }
+}
+
+/// The image of a tree after reset.
+fn image_of(rt: &impl Abort, alloc: Global, topo: &Topo) -> Image
+    ensures { HasCapsOf result topo.now.nodes }
+{
+    match Image::new(alloc, topo) {
+        Ok(image) => image,
+        Err(_) => panic!(rt; "memory"),
+    }
 }
 
 // ---- its image
 
 /// Commits the decoders by register writes.
-fn commit_all(rt: &impl Abort, image: &mut Image, ranges: &[Range])
+fn commit_all(rt: &impl Abort, alloc: Global, image: &mut Image, text: &str)
     ensures { (nodes : List Node) → HasCapsOf image.old nodes → HasCapsOf image.new nodes }
 {
-    for range in ranges {
-        commit_each(rt, image, range);
+    for range in text.split(',') {
+        commit_each(rt, image, &numbers(rt, alloc, range));
     }
 }
 
-fn commit_each(rt: &impl Abort, image: &mut Image, range: &Range)
+fn commit_each(rt: &impl Abort, image: &mut Image, range: &[u64])
     ensures { (nodes : List Node) → HasCapsOf image.old nodes → HasCapsOf image.new nodes }
 {
-    for node in range.first..range.end {
+    for node in word(range, 0)..word(range, 1) {
         commit(rt, image, range, node);
     }
 }
 
 /// Commits a decoder of host memory by register writes, its control last.
-fn commit(rt: &impl Abort, image: &mut Image, range: &Range, node: u32)
+fn commit(rt: &impl Abort, image: &mut Image, range: &[u64], node: u32)
     ensures { (nodes : List Node) → HasCapsOf image.old nodes → HasCapsOf image.new nodes }
 {
-    assert!(rt; range.base % UNIT == 0 && range.size % UNIT == 0);
+    let base = at(range, 3);
+    let size = at(range, 4);
+    let codes = byte(range, 5);
+    assert!(rt; base % UNIT == 0 && size % UNIT == 0);
     let words = words_of(&Decoder {
-        base: range.base,
-        size: range.size,
-        ways: (range.codes / 16 % 16) as u8,
-        gran: (range.codes % 16) as u8,
+        base,
+        size,
+        ways: codes / 16,
+        gran: codes % 16,
         commit: true,
         host_only: true,
-        tail: range.tail,
+        tail: at(range, 6),
         ..Decoder::RESET
     });
     write_word(image, node, GLOBAL_CONTROL, 2);
@@ -362,7 +271,7 @@ fn commit(rt: &impl Abort, image: &mut Image, range: &Range, node: u32)
         write_word(
             image,
             node,
-            offset_of(range.decoder, place),
+            offset_of(byte(range, 2), place),
             words[place as usize],
         );
     }

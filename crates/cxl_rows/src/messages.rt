@@ -4,7 +4,8 @@ use cxl_cedt::CedtFault;
 use cxl_image::ImageFault;
 use cxl_topo::TreeFault;
 use cxl_topofile::{Key, Place, Section, TopoFault};
-use std::test::Fail;
+use std::fmt::Display;
+use std::process::Abort;
 
 const SPEED: Place = Place {
     section: Section::Endpoint,
@@ -12,100 +13,103 @@ const SPEED: Place = Place {
     key: Key::Unknown,
 };
 
-#[test]
-fn of_tables(rt: HostRuntime) -> Result<(), Fail> {
-    let rows = [
-        (CedtFault::Short, "the table is shorter than its header"),
-        (CedtFault::Signature, "the signature is not CEDT"),
-        (
-            CedtFault::Length,
-            "the length field is not the number of bytes",
-        ),
-        (CedtFault::Checksum, "the bytes do not sum to 0 modulo 256"),
-        (
-            CedtFault::RecordCut(36),
-            "the record at byte 36 passes the end of the table",
-        ),
-        (
-            CedtFault::RecordLength(36),
-            "the record at byte 36 has a wrong length",
-        ),
-        (
-            CedtFault::WaysCode(100),
-            "the window at byte 100 has an unknown ways code",
-        ),
-        (
-            CedtFault::GranCode(100),
-            "the record at byte 100 has an unknown granularity code",
-        ),
-        (
-            CedtFault::Arithmetic(100),
-            "the window at byte 100 has an unknown arithmetic",
-        ),
-        (
-            CedtFault::TooMany(2084),
-            "the record at byte 2084 is the 65th of its type",
-        ),
-        (CedtFault::Memory, "out of memory"),
-    ];
-    for (fault, text) in rows {
-        let said = format!(in rt.alloc(); "{fault}")?;
-        assert_eq!(rt; said.as_str(), text);
-    }
-    Ok(())
+/// Checks that this is the message of a fault.
+fn is_said(rt: &(impl Abort + AllocGlobal), fault: &impl Display, text: &str) {
+    let said = format!(in rt.alloc(); "{fault}").expect(rt, "memory");
+    assert_eq!(rt; said.as_str(), text);
 }
 
 #[test]
-fn of_images(rt: HostRuntime) -> Result<(), Fail> {
-    let rows = [
-        (ImageFault::Magic, "the file does not begin with CXLHDM01"),
-        (
-            ImageFault::Cut(11),
-            "the file ends after 11 bytes, before its last field does",
-        ),
-        (ImageFault::Nodes(5), "the file is for 5 nodes"),
-        (
-            ImageFault::Caps(2),
-            "the capability word of node 2 is not that of the topology",
-        ),
-        (
-            ImageFault::Trailing(588),
-            "bytes follow the last block, from byte 588 on",
-        ),
-        (ImageFault::Memory, "out of memory"),
-    ];
-    for (fault, text) in rows {
-        let said = format!(in rt.alloc(); "{fault}")?;
-        assert_eq!(rt; said.as_str(), text);
+fn of_tables(rt: HostRuntime) {
+    for (fault, text) in &OF_TABLES {
+        is_said(&rt, fault, text);
     }
-    Ok(())
 }
 
+const OF_TABLES: [(CedtFault, &str); 11] = [
+    (CedtFault::Short, "the table is shorter than its header"),
+    (CedtFault::Signature, "the signature is not CEDT"),
+    (
+        CedtFault::Length,
+        "the length field is not the number of bytes",
+    ),
+    (CedtFault::Checksum, "the bytes do not sum to 0 modulo 256"),
+    (
+        CedtFault::RecordCut(36),
+        "the record at byte 36 passes the end of the table",
+    ),
+    (
+        CedtFault::RecordLength(36),
+        "the record at byte 36 has a wrong length",
+    ),
+    (
+        CedtFault::WaysCode(100),
+        "the window at byte 100 has an unknown ways code",
+    ),
+    (
+        CedtFault::GranCode(100),
+        "the record at byte 100 has an unknown granularity code",
+    ),
+    (
+        CedtFault::Arithmetic(100),
+        "the window at byte 100 has an unknown arithmetic",
+    ),
+    (
+        CedtFault::TooMany(2084),
+        "the record at byte 2084 is the 65th of its type",
+    ),
+    (CedtFault::Memory, "out of memory"),
+];
+
 #[test]
-fn of_topologies(rt: HostRuntime) -> Result<(), Fail> {
-    let rows = [
-        (TopoFault::Toml, "no TOML document"),
-        (
-            TopoFault::Key(SPEED),
-            "a key is missing or unknown: endpoint 1 unknown",
-        ),
-        (
-            TopoFault::Kind(SPEED),
-            "a value is of the wrong kind: endpoint 1 unknown",
-        ),
-        (
-            TopoFault::Range(SPEED),
-            "a value is out of range: endpoint 1 unknown",
-        ),
-        (
-            TopoFault::Tree(TreeFault::NoParent(3)),
-            "the nodes are no legal tree: node 3 does not stand under an earlier bridge or switch, or is a bridge under another node",
-        ),
-        (TopoFault::Memory, "out of memory"),
-    ];
-    for (fault, text) in rows {
-        let said = format!(in rt.alloc(); "{fault}")?;
-        assert_eq!(rt; said.as_str(), text);
+fn of_images(rt: HostRuntime) {
+    for (fault, text) in &OF_IMAGES {
+        is_said(&rt, fault, text);
     }
-    Ok(())
 }
+
+const OF_IMAGES: [(ImageFault, &str); 6] = [
+    (ImageFault::Magic, "the file does not begin with CXLHDM01"),
+    (
+        ImageFault::Cut(11),
+        "the file ends after 11 bytes, before its last field does",
+    ),
+    (ImageFault::Nodes(5), "the file is for 5 nodes"),
+    (
+        ImageFault::Caps(2),
+        "the capability word of node 2 is not that of the topology",
+    ),
+    (
+        ImageFault::Trailing(588),
+        "bytes follow the last block, from byte 588 on",
+    ),
+    (ImageFault::Memory, "out of memory"),
+];
+
+#[test]
+fn of_topologies(rt: HostRuntime) {
+    for (fault, text) in &OF_TOPOLOGIES {
+        is_said(&rt, fault, text);
+    }
+}
+
+const OF_TOPOLOGIES: [(TopoFault, &str); 6] = [
+    (TopoFault::Toml, "no TOML document"),
+    (
+        TopoFault::Key(SPEED),
+        "a key is missing or unknown: endpoint 1 unknown",
+    ),
+    (
+        TopoFault::Kind(SPEED),
+        "a value is of the wrong kind: endpoint 1 unknown",
+    ),
+    (
+        TopoFault::Range(SPEED),
+        "a value is out of range: endpoint 1 unknown",
+    ),
+    (
+        TopoFault::Tree(TreeFault::NoParent(3)),
+        "the nodes are no legal tree: node 3 does not stand under an earlier bridge or switch, or is a bridge under another node",
+    ),
+    (TopoFault::Memory, "out of memory"),
+];

@@ -1,153 +1,190 @@
-use crate::rows::{ROOM, bytes, check, file, run_words};
+use crate::routes::repeated;
+use crate::rows::{
+    ROOM, Row, are_answered, bytes, code_of_run, ends, files_of, sink_of, table_file, words_of,
+};
 use crate::tables::{HEADER_OF_OTHERS, TWO_BRIDGES};
-use cxl_io::{MemFetch, MemSink};
-use cxl_shell::{HELP, Status, run};
-use std::test::Fail;
+use cxl_io::MemFetch;
+use cxl_shell::{HELP, Status};
+use std::alloc::Global;
+use std::process::Abort;
 
-/// Words that are none of the forms, or whose address is no number.
 #[test]
-fn usage(rt: HostRuntime) -> Result<(), Fail> {
-    let rows = [
-        "",
-        "route",
-        "route table",
-        "route table 0x100000000 0",
-        "routes table 0x100000000",
-        "route table 0x",
-        "route table 0x10000000g",
-        "route table 18446744073709551616",
-        "list",
-        "list table table",
-        "lists table",
-        "normal",
-        "normal table 0",
-        "check",
-        "check table table",
-        "check table table table table",
-        "--help route",
-        "--version 0",
-    ];
-    for words in rows {
-        let table = bytes(rt.alloc(), TWO_BRIDGES, &[])?;
-        check(&rt, words, table, 1, "usage\n")?;
-    }
-    Ok(())
+fn outside(rt: HostRuntime) {
+    are_answered(&rt, &OUTSIDE);
 }
 
+const USAGE: &str = "usage\n";
+
+const OUTSIDE: [Row; 24] = [
+    // Words that are none of the forms, or whose address is no number.
+    ("", TWO_BRIDGES, "", 1, USAGE),
+    ("route", TWO_BRIDGES, "", 1, USAGE),
+    ("route table", TWO_BRIDGES, "", 1, USAGE),
+    ("route table 0x100000000 0", TWO_BRIDGES, "", 1, USAGE),
+    ("routes table 0x100000000", TWO_BRIDGES, "", 1, USAGE),
+    ("route table 0x", TWO_BRIDGES, "", 1, USAGE),
+    ("route table 0x10000000g", TWO_BRIDGES, "", 1, USAGE),
+    (
+        "route table 18446744073709551616",
+        TWO_BRIDGES,
+        "",
+        1,
+        USAGE,
+    ),
+    ("list", TWO_BRIDGES, "", 1, USAGE),
+    ("list table table", TWO_BRIDGES, "", 1, USAGE),
+    ("lists table", TWO_BRIDGES, "", 1, USAGE),
+    ("normal", TWO_BRIDGES, "", 1, USAGE),
+    ("normal table 0", TWO_BRIDGES, "", 1, USAGE),
+    ("check", TWO_BRIDGES, "", 1, USAGE),
+    ("check table table", TWO_BRIDGES, "", 1, USAGE),
+    ("check table table table table", TWO_BRIDGES, "", 1, USAGE),
+    ("--help route", TWO_BRIDGES, "", 1, USAGE),
+    ("--version 0", TWO_BRIDGES, "", 1, USAGE),
+    // Help and version.
+    ("--help", "", "", 0, HELP),
+    ("--version", "", "", 0, "cxlplan 0.1.0\n"),
+    // A file that is not there.
+    (
+        "route missing.cedt 0x100000000",
+        TWO_BRIDGES,
+        "",
+        2,
+        "error: cannot read missing.cedt\n",
+    ),
+    // A file of 1,048,577 bytes.
+    (
+        "route table 0x100000000",
+        "0x100001",
+        "",
+        12,
+        "error: table too large\n",
+    ),
+    ("list table", "0x100001", "", 12, "error: table too large\n"),
+    (
+        "normal table",
+        "0x100001",
+        "",
+        12,
+        "error: table too large\n",
+    ),
+];
+
 #[test]
-fn no_words(rt: HostRuntime) -> Result<(), Fail> {
+fn no_words(rt: HostRuntime) {
     let alloc = rt.alloc();
     let mut files = MemFetch::new(Vec::new(alloc), Vec::new(alloc));
-    let mut sink = MemSink::new(alloc, ROOM, Vec::new(alloc))?;
-    assert_eq!(rt; run(alloc, &[], &mut files, &mut sink), Status::Usage);
-    assert_eq!(rt; sink.bytes(), b"usage\n".as_slice());
-    Ok(())
-}
-
-#[test]
-fn help_and_version(rt: HostRuntime) -> Result<(), Fail> {
-    let alloc = rt.alloc();
-    check(&rt, "--help", Vec::new(alloc), 0, HELP)?;
-    check(&rt, "--version", Vec::new(alloc), 0, "cxlplan 0.1.0\n")?;
-    for form in [
-        "route CEDT HPA ",
-        "list CEDT ",
-        "normal CEDT ",
-        "check CEDT TOPO IMAGE\n",
-        "plan CEDT TOPO LINE\n",
-    ] {
-        assert!(rt; HELP.contains(form), "{form}");
-    }
-    Ok(())
-}
-
-/// A file that is not there, one that cannot be read, and one of 1,048,577 bytes.
-#[test]
-fn files(rt: HostRuntime) -> Result<(), Fail> {
-    let alloc = rt.alloc();
-    let table = bytes(alloc, TWO_BRIDGES, &[])?;
-    let missing = "error: cannot read missing.cedt\n";
-    check(&rt, "route missing.cedt 0x100000000", table, 2, missing)?;
-
-    let table = file(alloc, "table", bytes(alloc, TWO_BRIDGES, &[])?, &[1])?;
-    let sink = MemSink::new(alloc, ROOM, Vec::new(alloc))?;
-    let end = run_words(alloc, "route table 0x100000000", table, sink)?;
-    assert_eq!(rt; end.status, Status::FetchFault);
-    assert_eq!(rt;
-        end.text.as_slice(),
-        b"error: cannot read table\n".as_slice()
+    assert!(rt;
+        ends(
+            &rt,
+            alloc,
+            &[],
+            &mut files,
+            Status::Usage.code(),
+            b"usage\n"
+        )
     );
-
-    for words in ["route table 0x100000000", "list table", "normal table"] {
-        let large = vec![in alloc; 0; 1_048_577]?;
-        check(&rt, words, large, 12, "error: table too large\n")?;
-    }
-    Ok(())
 }
 
-/// A sink with room for five bytes, and one whose first write fails.
+/// A file that cannot be read.
 #[test]
-fn sinks(rt: HostRuntime) -> Result<(), Fail> {
-    let rows: [(u32, u64, &[u8]); 2] = [(5, 0, b"windo"), (ROOM, 1, b"")];
-    for (room, fails, text) in rows {
-        let alloc = rt.alloc();
-        let table = file(alloc, "table", bytes(alloc, TWO_BRIDGES, &[])?, &[])?;
-        let sink = MemSink::new(alloc, room, vec![in alloc; fails]?)?;
-        let end = run_words(alloc, "route table 0x100000000", table, sink)?;
-        assert_eq!(rt; end.status.code(), 6);
-        assert_eq!(rt; end.text.as_slice(), text);
-    }
-    Ok(())
-}
-
-/// A list with room for its first line and five bytes of the second, and one whose first write fails.
-#[test]
-fn sinks_of_lines(rt: HostRuntime) -> Result<(), Fail> {
-    let part = "chbs 0 version 1 base 0x80000000 length 0x10000\nchbs ";
-    for (room, fails, text) in [(53, 0, part), (ROOM, 1, "")] {
-        let alloc = rt.alloc();
-        let table = file(alloc, "table", bytes(alloc, TWO_BRIDGES, &[])?, &[])?;
-        let sink = MemSink::new(alloc, room, vec![in alloc; fails]?)?;
-        let end = run_words(alloc, "list table", table, sink)?;
-        assert_eq!(rt; end.status.code(), 6);
-        assert_eq!(rt; end.text.as_slice(), text.as_bytes());
-    }
-    Ok(())
-}
-
-/// A list of 5,000 lines of 17 bytes goes out in two blocks. Where the second write fails, the first
-/// 3,856 lines are written, which are the first with 65,536 bytes or more.
-#[test]
-fn blocks_of_lines(rt: HostRuntime) -> Result<(), Fail> {
+fn unread_file(rt: HostRuntime) {
     let alloc = rt.alloc();
-    for (fails, code, lines) in [(0, 0, 5_000), (2, 6, 3_856)] {
-        let mut table = bytes(alloc, HEADER_OF_OTHERS, &[])?;
-        for _ in 0..5_000 {
-            table.extend_from_slice(&[4, 0, 4, 0])?;
-        }
-        let sink = MemSink::new(alloc, ROOM, vec![in alloc; fails]?)?;
-        let end = run_words(alloc, "list table", file(alloc, "table", table, &[])?, sink)?;
-        assert_eq!(rt; end.status.code(), code);
-        assert_eq!(rt; end.text.len(), 17 * lines);
+    let words = words_of(&rt, alloc, "route table 0x100000000");
+    let table = bytes(&rt, alloc, TWO_BRIDGES);
+    let mut files = files_of(&rt, alloc, table, "", Vec::new(alloc), 1);
+    let text = b"error: cannot read table\n";
+    assert!(rt;
+        ends(
+            &rt,
+            alloc,
+            &words,
+            &mut files,
+            Status::FetchFault.code(),
+            text
+        )
+    );
+}
+
+#[test]
+fn help_of_forms(rt: HostRuntime) {
+    for form in &FORMS {
+        assert!(rt; HELP.contains(*form));
     }
-    Ok(())
+}
+
+const FORMS: [&str; 5] = [
+    "route CEDT HPA ",
+    "list CEDT ",
+    "normal CEDT ",
+    "check CEDT TOPO IMAGE\n",
+    "plan CEDT TOPO LINE\n",
+];
+
+/// A line, the room of a sink, the number of the write that fails or 0, and what is written over the two-bridge
+/// table.
+type SinkRow = (&'static str, u32, u64, &'static str);
+
+fn fails_behind(rt: &impl Abort, alloc: Global, row: &SinkRow) -> bool {
+    let (line, room, fail, text) = *row;
+    let words = words_of(rt, alloc, line);
+    let mut files = table_file(rt, alloc, bytes(rt, alloc, TWO_BRIDGES));
+    let mut sink = sink_of(rt, alloc, room, fail);
+    let code = code_of_run(alloc, &words, &mut files, &mut sink);
+    code == 6 && sink.bytes() == text.as_bytes()
+}
+
+#[test]
+fn sinks(rt: HostRuntime) {
+    for row in &SINKS {
+        assert!(rt; fails_behind(&rt, rt.alloc(), row));
+    }
+}
+
+const SINKS: [SinkRow; 4] = [
+    // A sink with room for five bytes, and one whose first write fails.
+    ("route table 0x100000000", 5, 0, "windo"),
+    ("route table 0x100000000", ROOM, 1, ""),
+    // A list with room for its first line and five bytes of the second, and one whose first write fails.
+    (
+        "list table",
+        53,
+        0,
+        "chbs 0 version 1 base 0x80000000 length 0x10000\nchbs ",
+    ),
+    ("list table", ROOM, 1, ""),
+];
+
+/// Whether a list of 5,000 lines of 17 bytes, whose write of this number fails, ends so behind so many bytes.
+fn writes_so_many(rt: &impl Abort, alloc: Global, fail: u64, code: u8, count: usize) -> bool {
+    let words = words_of(rt, alloc, "list table");
+    let table = repeated(rt, alloc, HEADER_OF_OTHERS, "04000400", 5_000);
+    let mut files = table_file(rt, alloc, table);
+    let mut sink = sink_of(rt, alloc, ROOM, fail);
+    code_of_run(alloc, &words, &mut files, &mut sink) == code && sink.bytes().len() == count
+}
+
+/// The list goes out in two blocks. Where the second write fails, the first 3,856 lines are written, which are the
+/// first with 65,536 bytes or more.
+#[test]
+fn blocks_of_lines(rt: HostRuntime) {
+    assert!(rt; writes_so_many(&rt, rt.alloc(), 0, 0, 17 * 5_000));
+    assert!(rt; writes_so_many(&rt, rt.alloc(), 2, 6, 17 * 3_856));
+}
+
+/// Whether the file of this name is asked for, and no other.
+fn asks_for(rt: &impl Abort, alloc: Global, line: &str, name: &str) -> bool {
+    let words = words_of(rt, alloc, line);
+    let mut files = table_file(rt, alloc, bytes(rt, alloc, TWO_BRIDGES));
+    let mut sink = sink_of(rt, alloc, ROOM, 0);
+    code_of_run(alloc, &words, &mut files, &mut sink);
+    let asked = files.asked();
+    asked.len() == 1 && asked[0].as_str() == name
 }
 
 /// The one file of the words is asked for, once.
 #[test]
-fn names_of_files(rt: HostRuntime) -> Result<(), Fail> {
-    let alloc = rt.alloc();
-    for (words, wanted) in [("list table", "table"), ("normal missing", "missing")] {
-        let mut files = file(alloc, "table", bytes(alloc, TWO_BRIDGES, &[])?, &[])?;
-        let mut sink = MemSink::new(alloc, ROOM, Vec::new(alloc))?;
-        let mut line = Vec::new(alloc);
-        for word in words.split(' ') {
-            line.push(String::from_str(alloc, word)?)?;
-        }
-        run(alloc, line.as_slice(), &mut files, &mut sink);
-        let asked = files.asked();
-        assert_eq!(rt; asked.len(), 1, "names of {words}");
-        assert_eq!(rt; asked[0].as_str(), wanted);
-    }
-    Ok(())
+fn names_of_files(rt: HostRuntime) {
+    assert!(rt; asks_for(&rt, rt.alloc(), "list table", "table"));
+    assert!(rt; asks_for(&rt, rt.alloc(), "normal missing", "missing"));
 }

@@ -1,241 +1,122 @@
 //! Picks over hosts of a few nodes, with regions that are made by register writes.
 
-use crate::hosts::{
-    BRIDGE, FORWARDING, GIB, Range, Span, Spot, UNIT, device, host_of, over, switch, window,
-};
+ghost use Rattle.std.specs.Prelude.{◌≤◌, IfSome};
+ghost use Rattle.cxl_model.specs.System.{bridge_uids};
+ghost use Rattle.cxl_window.specs.Windows.{AreMadeWith};
+
+use crate::hosts::{Worked, host_of};
+use crate::rows::{has_passed, shows};
 use cxl_check::check;
 use cxl_enc::MemKind;
 use cxl_pick::{PickFault, Want, pick};
 use std::alloc::Global;
 use std::process::Abort;
-use std::test::Fail;
 
-const BASE: u64 = 0x10_0000_0000;
-
-const SIZE: u64 = 0x100_0000_0000;
-
-/// 256 GiB.
-const SHARE: u64 = 0x40_0000_0000;
-
-/// The capability word of an endpoint with one decoder.
-const ONE_DECODER: u32 = 0x1b00;
-
-/// A host with its regions, and how many bytes of ram are wanted in how many ways.
-#[derive(Clone, Copy)]
-struct Case<'a> {
-    nodes: &'a [Spot],
-    windows: &'a [Span<'a>],
-    ranges: &'a [Range],
-    size: u64,
-    ways: u8,
+/// What is picked over a host's image, which has to be accepted.
+fn picked(rt: &impl Abort, alloc: Global, host: &Worked, want: &Want) -> Result<Vec<u32>, PickFault>
+    requires made { AreMadeWith host.now.windows.items (bridge_uids host.now.topo.nodes) }
+    requires code { IfSome want.now.gran (λ code. code ≤ 6) }
+{
+    match check(alloc, &host.image, &host.topo, &host.windows) {
+        Ok(_) => pick(alloc, &host.image, &host.topo, &host.windows, want),
+        Err(_) => panic!(rt; "the image is not accepted"),
+    }
 }
 
-/// The pick of a case over its image, which has to be accepted.
-fn picked(
-    rt: &impl Abort,
-    alloc: Global,
-    case: &Case,
-) -> Result<Result<Vec<u32>, PickFault>, Fail> {
-    let host = host_of(rt, alloc, case.nodes, case.windows, case.ranges)?;
-    let _regions = check(alloc, &host.image, &host.topo, &host.windows)?;
+/// Nodes, windows and decoders that are committed; how many bytes of ram are wanted in how many ways; and the
+/// endpoints that are picked for them, or the fault.
+type Row = (
+    &'static str,
+    &'static str,
+    &'static str,
+    u64,
+    u8,
+    &'static str,
+);
+
+fn is_picked(rt: &impl Abort, alloc: Global, row: &Row) -> bool {
+    let (nodes, windows, ranges, size, ways, text) = *row;
+    let host = host_of(rt, alloc, nodes, windows, ranges);
     let want = Want {
         kind: MemKind::Ram,
-        size: case.size,
+        size,
         gran: None,
-        ways: case.ways,
+        ways,
     };
-    Ok(pick(alloc, &host.image, &host.topo, &host.windows, &want))
-}
-
-/// The endpoints that are picked are these.
-fn picks(rt: &impl Abort, alloc: Global, case: &Case, set: &[u32]) -> Result<(), Fail> {
-    match picked(rt, alloc, case)? {
-        Ok(own) => assert!(rt; own.as_slice() == set),
-        Err(fault) => return Err(Fail::from(fault)),
-    }
-    Ok(())
-}
-
-/// None are picked, for this fault.
-fn refuses(rt: &impl Abort, alloc: Global, case: &Case, fault: PickFault) -> Result<(), Fail> {
-    match picked(rt, alloc, case)? {
-        Ok(_) => assert!(rt; false),
-        Err(own) => assert!(rt; own == fault),
-    }
-    Ok(())
-}
-
-fn span(base: u64, size: u64, targets: &[u32]) -> Span<'_> {
-    Span {
-        base,
-        ..window(size, targets)
-    }
-}
-
-/// Two bridges with two endpoints each.
-fn server() -> [Spot; 6] {
-    [
-        BRIDGE,
-        BRIDGE,
-        device(0, 0, SHARE, 0),
-        device(0, 1, SHARE, 0),
-        device(1, 0, SHARE, 0),
-        device(1, 1, SHARE, 0),
-    ]
-}
-
-/// A region of all four endpoints of a server, and behind it one of the first endpoint of each bridge.
-fn regions() -> [Range; 5] {
-    let second = |first, end, codes| Range {
-        decoder: 1,
-        ..over(first, end, BASE + GIB, 2 * UNIT, codes, 0)
-    };
-    [
-        over(0, 2, BASE, GIB, 0x11, 0x0100),
-        over(2, 6, BASE, GIB, 0x20, 0),
-        second(0, 2, 0),
-        second(2, 3, 0x10),
-        second(4, 5, 0x10),
-    ]
+    shows(rt, alloc, &picked(rt, alloc, &host, &want), text)
 }
 
 #[test]
-fn servers(rt: HostRuntime) -> Result<(), Fail> {
-    let alloc = rt.alloc();
-    let nodes = server();
-    let windows = [span(BASE, SIZE, &[0, 1]), span(BASE + 2 * SIZE, SIZE, &[0])];
-    let ranges = regions();
-    let none = Case {
-        nodes: &nodes,
-        windows: &windows,
-        ranges: &ranges[..0],
-        size: GIB,
-        ways: 4,
-    };
-    picks(&rt, alloc, &none, &[2, 3, 4, 5])?;
-    let one = Case {
-        ranges: &ranges[..2],
-        size: 2 * UNIT,
-        ways: 2,
-        ..none
-    };
-    picks(&rt, alloc, &one, &[2, 4])?;
-    let both = Case {
-        ranges: &ranges,
-        ..none
-    };
-    let faults = [
-        (3 * UNIT, 3, PickFault::NoSet),
-        (5 * UNIT, 5, PickFault::Ways(5)),
-        (3 * UNIT, 2, PickFault::Size),
-        (0, 2, PickFault::Size),
-    ];
-    for (size, ways, fault) in faults {
-        refuses(&rt, alloc, &Case { size, ways, ..both }, fault)?;
+fn picks(rt: HostRuntime) {
+    for (i, row) in ROWS.iter().enumerate() {
+        has_passed(&rt, i, is_picked(&rt, rt.alloc(), row));
     }
-    picks(
-        &rt,
-        alloc,
-        &Case {
-            size: UNIT,
-            ways: 1,
-            ..both
-        },
-        &[2],
-    )
 }
 
-#[test]
-fn full_endpoints(rt: HostRuntime) -> Result<(), Fail> {
-    let alloc = rt.alloc();
+/// Two bridges with two endpoints of 256 GiB each.
+const SERVER: &str = "0x382, 0x382, \
+    0x1b02 0 0 0x4000000000 0, 0x1b02 0 1 0x4000000000 0, \
+    0x1b02 1 0 0x4000000000 0, 0x1b02 1 1 0x4000000000 0";
 
-    // The first endpoint has no ram.
-    let mut nodes = server();
-    nodes[2] = device(0, 0, 0, GIB);
-    let two = Case {
-        nodes: &nodes,
-        windows: &[span(BASE, SIZE, &[0, 1])],
-        ranges: &[],
-        size: 2 * UNIT,
-        ways: 2,
-    };
-    picks(&rt, alloc, &two, &[3, 4])?;
-    refuses(
-        &rt,
-        alloc,
-        &Case {
-            size: GIB,
-            ways: 4,
-            ..two
-        },
-        PickFault::NoSet,
-    )?;
+/// A window over both bridges, and behind it one of the first.
+const BOTH: &str =
+    "0x1000000000 0x10000000000 0 0 0x000e 0 1, 0x21000000000 0x10000000000 0 0 0x000e 0";
 
+/// A region of all four endpoints of a server.
+const OF_FOUR: &str =
+    "0 2 0 0x1000000000 0x40000000 0x11 0x0100, 2 6 0 0x1000000000 0x40000000 0x20 0";
+
+/// The same, and behind it one of the first endpoint of each bridge.
+const TWO_REGIONS: &str =
+    "0 2 0 0x1000000000 0x40000000 0x11 0x0100, 2 6 0 0x1000000000 0x40000000 0x20 0, \
+    0 2 1 0x1040000000 0x20000000 0 0, 2 3 1 0x1040000000 0x20000000 0x10 0, \
+    4 5 1 0x1040000000 0x20000000 0x10 0";
+
+/// A server whose first endpoint has no ram.
+const BARE: &str = "0x382, 0x382, \
+    0x1b02 0 0 0 0x40000000, 0x1b02 0 1 0x4000000000 0, \
+    0x1b02 1 0 0x4000000000 0, 0x1b02 1 1 0x4000000000 0";
+
+/// A window of 1 GiB over one bridge.
+const ONE: &str = "0x1000000000 0x40000000 0 0 0x000e 0";
+
+/// A bridge with two endpoints, the first of which has one decoder.
+const FULL: &str = "0x382, 0x1b00 0 0 0x40000000 0, 0x1b02 0 1 0x40000000 0";
+
+/// Two switches with two endpoints each.
+const WIDE: &str = "0x382, 0x382 0 0, 0x382 0 1, \
+    0x1b02 1 0 0x40000000 0, 0x1b02 1 1 0x40000000 0, \
+    0x1b02 2 0 0x40000000 0, 0x1b02 2 1 0x40000000 0";
+
+/// A bridge that forwards leads to all by one port.
+const NARROW: &str = "0x10, 0x382 0 3, \
+    0x1b02 1 5 0x40000000 0, 0x1b02 1 2 0x40000000 0, 0x1b02 1 7 0x40000000 0";
+
+const ROWS: [Row; 14] = [
+    (SERVER, BOTH, "", 0x4000_0000, 4, "Ok([2, 3, 4, 5])"),
+    (SERVER, BOTH, OF_FOUR, 0x2000_0000, 2, "Ok([2, 4])"),
+    (SERVER, BOTH, TWO_REGIONS, 0x3000_0000, 3, "Err(NoSet)"),
+    (SERVER, BOTH, TWO_REGIONS, 0x5000_0000, 5, "Err(Ways(5))"),
+    (SERVER, BOTH, TWO_REGIONS, 0x3000_0000, 2, "Err(Size)"),
+    (SERVER, BOTH, TWO_REGIONS, 0, 2, "Err(Size)"),
+    (SERVER, BOTH, TWO_REGIONS, 0x1000_0000, 1, "Ok([2])"),
+    (BARE, SERVER_WINDOW, "", 0x2000_0000, 2, "Ok([3, 4])"),
+    (BARE, SERVER_WINDOW, "", 0x4000_0000, 4, "Err(NoSet)"),
     // The only decoder of the first endpoint is committed.
-    let mut single = device(0, 0, GIB, 0);
-    single.cap = ONE_DECODER;
-    let full = Case {
-        nodes: &[BRIDGE, single, device(0, 1, GIB, 0)],
-        windows: &[span(BASE, GIB, &[0])],
-        ranges: &[over(0, 2, BASE, UNIT, 0, 0)],
-        size: UNIT,
-        ways: 1,
-    };
-    picks(&rt, alloc, &full, &[2])
-}
-
-#[test]
-fn switches(rt: HostRuntime) -> Result<(), Fail> {
-    let alloc = rt.alloc();
-
+    (
+        FULL,
+        ONE,
+        "0 2 0 0x1000000000 0x10000000 0 0",
+        0x1000_0000,
+        1,
+        "Ok([2])",
+    ),
     // As many ports as can be are used, each for as few endpoints as can be.
-    let wide = Case {
-        nodes: &[
-            BRIDGE,
-            switch(0, 0),
-            switch(0, 1),
-            device(1, 0, GIB, 0),
-            device(1, 1, GIB, 0),
-            device(2, 0, GIB, 0),
-            device(2, 1, GIB, 0),
-        ],
-        windows: &[span(BASE, GIB, &[0])],
-        ranges: &[],
-        size: 2 * UNIT,
-        ways: 2,
-    };
-    picks(&rt, alloc, &wide, &[3, 5])?;
+    (WIDE, ONE, "", 0x2000_0000, 2, "Ok([3, 5])"),
+    (NARROW, ONE, "", 0x2000_0000, 2, "Ok([2, 3])"),
+    (NARROW, ONE, "", 0x1000_0000, 1, "Ok([3])"),
+    (NARROW, ONE, "", 0x4000_0000, 4, "Err(NoSet)"),
+];
 
-    // A bridge that forwards leads to all by one port.
-    let narrow = Case {
-        nodes: &[
-            FORWARDING,
-            switch(0, 3),
-            device(1, 5, GIB, 0),
-            device(1, 2, GIB, 0),
-            device(1, 7, GIB, 0),
-        ],
-        ..wide
-    };
-    picks(&rt, alloc, &narrow, &[2, 3])?;
-    picks(
-        &rt,
-        alloc,
-        &Case {
-            size: UNIT,
-            ways: 1,
-            ..narrow
-        },
-        &[3],
-    )?;
-    refuses(
-        &rt,
-        alloc,
-        &Case {
-            size: 4 * UNIT,
-            ways: 4,
-            ..narrow
-        },
-        PickFault::NoSet,
-    )
-}
+/// A window over both bridges.
+const SERVER_WINDOW: &str = "0x1000000000 0x10000000000 0 0 0x000e 0 1";

@@ -1,12 +1,10 @@
 use crate::host_files::{TWO_ENDPOINTS, TWO_ENDPOINTS_FORWARDED};
-use crate::rows::{ROOM, bytes, run_list};
+use crate::rows::{changed, ends, files_of, has_passed, put_word, words_of};
 use crate::tables::{
     FOUR_WINDOWS, ONE_BRIDGE, SERVER, THREE_BRIDGES, TWO_BRIDGES, TWO_BRIDGES_WIDE,
 };
-use cxl_io::{MemFetch, MemSink};
 use std::alloc::Global;
 use std::process::Abort;
-use std::test::Fail;
 
 /// Two bridges with two endpoints of 256 GiB of volatile memory each.
 const FOUR_ENDPOINTS: &str = r#"
@@ -123,59 +121,34 @@ row e0 0 ways 2 gran 512 skip 0x0
 row e1 0 ways 2 gran 512 skip 0x0
 ";
 
-/// A table, a topology and a create line, with the exit status and the text of their plan.
-type Row<'a> = (&'a str, &'a str, &'a str, u8, &'a str);
+/// The digits of a table, a topology, a line that asks for a region, the exit status and the text of the plan.
+type Row = (&'static str, &'static str, &'static str, u8, &'static str);
 
-/// A table and a topology in memory, and the numbers of the fetches that fail.
-fn two_files(
-    alloc: Global,
-    table: Vec<u8>,
-    topology: &str,
-    fails: &[u64],
-) -> Result<MemFetch, Fail> {
-    let mut files = Vec::new(alloc);
-    let topology = Vec::from_slice(alloc, topology.as_bytes())?;
-    files.push((String::from_str(alloc, "table")?, table))?;
-    files.push((String::from_str(alloc, "topology")?, topology))?;
-    Ok(MemFetch::new(files, fails.to_vec(alloc)?))
+/// Whether `plan` with this line ends with this exit status and this text, where the table is changed and the fetch of
+/// this number fails.
+fn is_planned(rt: &impl Abort, alloc: Global, row: &Row, changes: &str, fail: u64) -> bool {
+    let (table, topology, line, code, text) = *row;
+    let table = changed(rt, alloc, table, changes, 1);
+    let mut files = files_of(rt, alloc, table, topology, Vec::new(alloc), fail);
+    let mut words = words_of(rt, alloc, "plan table topology");
+    put_word(rt, alloc, &mut words, line);
+    ends(rt, alloc, &words, &mut files, code, text.as_bytes())
 }
 
-/// Checks that `plan` with this line ends with this exit status and this text over these files.
-fn check_files(
-    rt: &(impl Abort + AllocGlobal),
-    files: MemFetch,
-    line: &str,
-    code: u8,
-    text: &str,
-) -> Result<(), Fail> {
-    let alloc = rt.alloc();
-    let mut words = Vec::new(alloc);
-    for word in ["plan", "table", "topology", line] {
-        words.push(String::from_str(alloc, word)?)?;
+fn are_planned(rt: &(impl Abort + AllocGlobal), rows: &[Row]) {
+    for (i, row) in rows.iter().enumerate() {
+        has_passed(rt, i, is_planned(rt, rt.alloc(), row, "", 0));
     }
-    let sink = MemSink::new(alloc, ROOM, Vec::new(alloc))?;
-    let end = run_list(alloc, words.as_slice(), files, sink)?;
-    assert_eq!(rt; end.text.as_slice(), text.as_bytes(), "text of {line}");
-    assert_eq!(rt; end.status.code(), code, "status of {line}");
-    Ok(())
 }
 
-fn check_rows(rt: &(impl Abort + AllocGlobal), rows: &[Row]) -> Result<(), Fail> {
-    let alloc = rt.alloc();
-    for (table, topology, line, code, text) in rows {
-        let files = two_files(alloc, bytes(alloc, table, &[])?, topology, &[])?;
-        check_files(rt, files, line, *code, text)?;
-    }
-    Ok(())
-}
-
-/// Plans over hosts after reset.
+/// Plans and refusals of named endpoints.
 #[test]
-fn plans(rt: HostRuntime) -> Result<(), Fail> {
-    check_rows(&rt, &PLANS)
+fn named_endpoints(rt: HostRuntime) {
+    are_planned(&rt, &NAMED);
 }
 
-const PLANS: [Row; 4] = [
+const NAMED: [Row; 17] = [
+    // Plans over hosts after reset.
     (
         TWO_BRIDGES,
         TWO_ENDPOINTS,
@@ -204,15 +177,7 @@ const PLANS: [Row; 4] = [
         0,
         PMEM_PLAN,
     ),
-];
-
-/// Names that are no endpoint's, and the faults of requests.
-#[test]
-fn refusals(rt: HostRuntime) -> Result<(), Fail> {
-    check_rows(&rt, &REFUSALS)
-}
-
-const REFUSALS: [Row; 7] = [
+    // Names that are no endpoint's, and the faults of requests.
     (
         TWO_BRIDGES,
         TWO_ENDPOINTS,
@@ -262,15 +227,7 @@ const REFUSALS: [Row; 7] = [
         8,
         "refused span e0 no-room 0x40000000 0x80000000\n",
     ),
-];
-
-/// Why windows take no region.
-#[test]
-fn reasons(rt: HostRuntime) -> Result<(), Fail> {
-    check_rows(&rt, &REASONS)
-}
-
-const REASONS: [Row; 6] = [
+    // Why windows take no region.
     (
         SERVER,
         FOUR_ENDPOINTS,
@@ -315,13 +272,14 @@ const REASONS: [Row; 6] = [
     ),
 ];
 
-/// Plans over endpoints that are picked.
+/// Plans over endpoints that are picked, and why none are.
 #[test]
-fn plans_by_ways(rt: HostRuntime) -> Result<(), Fail> {
-    check_rows(&rt, &PICKED)
+fn picked_endpoints(rt: HostRuntime) {
+    are_planned(&rt, &PICKED);
 }
 
-const PICKED: [Row; 5] = [
+const PICKED: [Row; 11] = [
+    // Plans.
     (
         SERVER,
         FOUR_ENDPOINTS,
@@ -357,15 +315,7 @@ const PICKED: [Row; 5] = [
         0,
         PICKED_BEHIND,
     ),
-];
-
-/// Why none are picked.
-#[test]
-fn refusals_by_ways(rt: HostRuntime) -> Result<(), Fail> {
-    check_rows(&rt, &NOT_PICKED)
-}
-
-const NOT_PICKED: [Row; 6] = [
+    // Why none are picked.
     (
         SERVER,
         FOUR_ENDPOINTS,
@@ -410,46 +360,47 @@ const NOT_PICKED: [Row; 6] = [
     ),
 ];
 
-/// Lines that ask for no region: no file is asked for.
+/// Lines that ask for no region: no file is asked for, so that it is no matter that the first fetch fails.
 #[test]
-fn lines(rt: HostRuntime) -> Result<(), Fail> {
-    let alloc = rt.alloc();
-    for line in [
-        "",
-        "# create x ram 0x20000000 e0 e1",
-        "create x ram 0x20000000",
-        "create abcdefghijklmnop ram 0x20000000 e0 e1",
-        "begin create x ram 0x20000000 e0 e1",
-        "destroy x",
-        "create x ram 0x20000000 ways=0",
-        "create x ram 0x20000000 ways=17",
-        "create x ram 0x20000000 ways=2 e0",
-        "create x ram 0x20000000 e0 ways=2",
-        "begin create x ram 0x20000000 ways=2",
-    ] {
-        let files = two_files(alloc, Vec::new(alloc), "", &[1])?;
-        check_files(&rt, files, line, 1, "usage\n")?;
+fn lines(rt: HostRuntime) {
+    for line in &NO_CREATE {
+        assert!(rt; is_planned(&rt, rt.alloc(), &("", "", *line, 1, "usage\n"), "", 1));
     }
-    Ok(())
 }
+
+const NO_CREATE: [&str; 11] = [
+    "",
+    "# create x ram 0x20000000 e0 e1",
+    "create x ram 0x20000000",
+    "create abcdefghijklmnop ram 0x20000000 e0 e1",
+    "begin create x ram 0x20000000 e0 e1",
+    "destroy x",
+    "create x ram 0x20000000 ways=0",
+    "create x ram 0x20000000 ways=17",
+    "create x ram 0x20000000 ways=2 e0",
+    "create x ram 0x20000000 e0 ways=2",
+    "begin create x ram 0x20000000 ways=2",
+];
 
 /// A file that cannot be read or has no reading; the table comes first.
 #[test]
-fn files_in_order(rt: HostRuntime) -> Result<(), Fail> {
-    let alloc = rt.alloc();
-    let table = bytes(alloc, TWO_BRIDGES, &[])?;
-    let rows: [(usize, &str, &[u64], u8, &str); 5] = [
-        (144, "", &[1], 2, "error: cannot read table\n"),
-        (144, "", &[2], 2, "error: cannot read topology\n"),
-        (143, "[[bridge", &[2], 3, "error: table length\n"),
-        (144, "[[bridge", &[], 4, "error: topology toml\n"),
-        (1_048_577, "", &[], 12, "error: table too large\n"),
-    ];
-    for (len, topology, fails, code, text) in rows {
-        let mut table = Vec::from_slice(alloc, table.as_slice())?;
-        table.resize(len, 0)?;
-        let files = two_files(alloc, table, topology, fails)?;
-        check_files(&rt, files, "create x ram 0x20000000 e0 e1", code, text)?;
+fn files_in_order(rt: HostRuntime) {
+    for (topology, changes, fail, code, text) in &IN_ORDER {
+        let row = (
+            TWO_BRIDGES,
+            *topology,
+            "create x ram 0x20000000 e0 e1",
+            *code,
+            *text,
+        );
+        assert!(rt; is_planned(&rt, rt.alloc(), &row, changes, *fail));
     }
-    Ok(())
 }
+
+const IN_ORDER: [(&str, &str, u64, u8, &str); 5] = [
+    ("", "", 1, 2, "error: cannot read table\n"),
+    ("", "", 2, 2, "error: cannot read topology\n"),
+    ("[[bridge", "143", 2, 3, "error: table length\n"),
+    ("[[bridge", "", 0, 4, "error: topology toml\n"),
+    ("", "1048577", 0, 12, "error: table too large\n"),
+];

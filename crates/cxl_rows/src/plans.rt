@@ -1,54 +1,43 @@
 //! Plans over hosts of a few nodes, with regions that are made by register writes.
 
 ghost use Rattle.std.specs.Prelude.{◌≡◌, true, All, IsTrue};
+ghost use Rattle.cxl_image.specs.Images.{HasCapsOf};
+ghost use Rattle.cxl_model.specs.System.{bridge_uids};
 ghost use Rattle.cxl_topo.specs.Tree.{is_endpoint_at};
+ghost use Rattle.cxl_window.specs.Windows.{AreMadeWith};
 
-use crate::hosts::{
-    BASE, BRIDGE, FORWARDING, GIB, Range, Span, Spot, UNIT, device, host_of, over, window,
-};
+use crate::hosts::{Worked, host_of};
+use crate::rows::{has_passed, numbers, shows};
 use cxl_check::check;
 use cxl_enc::{FixedList, MemKind, Name};
-use cxl_model::{Plan, PlanFault, Reason, Request, Room, SpanFault};
+use cxl_model::{Place, Plan, PlanFault, Request, Row};
 use cxl_plan::plan;
 use cxl_topo::Topo;
 use std::alloc::Global;
 use std::process::Abort;
-use std::test::Fail;
 
-/// A plan's window, base, granularity code and ways; or the fault.
-#[derive(Clone, Copy, Debug, PartialEq, Eq)]
-enum Told {
-    Planned(u32, u64, u8, u8),
-    Repeat(u32),
-    Ways(u32),
-    Size,
-    Uneven(u32),
-    NoDecoder(u32),
-    Span(u32, SpanFault),
-    NoWindow,
-    Memory,
+/// What is asked for: a kind, a size, a granularity code, or 255 for any, and endpoints.
+type Asked = (MemKind, u64, u8, &'static str);
+
+fn request_of(rt: &impl Abort, alloc: Global, asked: Asked) -> Request {
+    let (kind, size, gran, endpoints) = asked;
+    Request {
+        name: Name::read(b"r0").expect(rt, "a name"),
+        kind,
+        size,
+        gran: if gran == 255 { None } else { Some(gran) },
+        endpoints: FixedList::new(nodes_of(rt, alloc, endpoints)),
+    }
 }
 
-/// A host with its regions, and what is asked for: kind, size, granularity code and endpoints.
-#[derive(Clone, Copy)]
-struct Case<'a> {
-    nodes: &'a [Spot],
-    windows: &'a [Span<'a>],
-    ranges: &'a [Range],
-    kind: MemKind,
-    size: u64,
-    gran: Option<u8>,
-    endpoints: &'a [u32],
-}
-
-fn request_of(alloc: Global, case: &Case) -> Result<Request, Fail> {
-    Ok(Request {
-        name: Name::read(b"r0").ok_or("a name")?,
-        kind: case.kind,
-        size: case.size,
-        gran: case.gran,
-        endpoints: FixedList::new(Vec::from_slice(alloc, case.endpoints)?),
-    })
+fn nodes_of(rt: &impl Abort, alloc: Global, text: &str) -> Vec<u32> {
+    let mut nodes = Vec::new(alloc);
+    for number in &numbers(rt, alloc, text) {
+        nodes
+            .push((*number % 0x1_0000_0000) as u32)
+            .expect(rt, "memory");
+    }
+    nodes
 }
 
 /// Whether all are endpoints.
@@ -63,472 +52,422 @@ fn are_devices(topo: &Topo, endpoints: &[u32]) -> bool
     true
 }
 
-/// The plan of a case over its image, which has to be accepted.
-fn planned(rt: &impl Abort, alloc: Global, case: &Case) -> Result<Result<Plan, PlanFault>, Fail> {
-    let host = host_of(rt, alloc, case.nodes, case.windows, case.ranges)?;
-    let _regions = check(alloc, &host.image, &host.topo, &host.windows)?;
-    let request = request_of(alloc, case)?;
-    assert!(rt; are_devices(&host.topo, request.endpoints.items()));
-    Ok(plan(alloc, &host.image, &host.topo, &host.windows, &request))
-}
-
-fn answer(outcome: &Result<Plan, PlanFault>) -> Told {
-    match outcome {
-        Ok(plan) => Told::Planned(
-            plan.found.window,
-            plan.found.base,
-            plan.found.gran,
-            plan.found.ways,
-        ),
-        Err(PlanFault::Repeat(endpoint)) => Told::Repeat(*endpoint),
-        Err(PlanFault::Ways(ways)) => Told::Ways(*ways),
-        Err(PlanFault::Size) => Told::Size,
-        Err(PlanFault::Uneven(node)) => Told::Uneven(*node),
-        Err(PlanFault::NoDecoder(node)) => Told::NoDecoder(*node),
-        Err(PlanFault::Span(endpoint, fault)) => Told::Span(*endpoint, *fault),
-        Err(PlanFault::NoWindow(_)) => Told::NoWindow,
-        Err(PlanFault::Memory) => Told::Memory,
-    }
-}
-
-/// The answer to a case is this.
-fn tells(rt: &impl Abort, alloc: Global, case: &Case, want: Told) -> Result<(), Fail> {
-    let outcome = planned(rt, alloc, case)?;
-    assert_eq!(rt; answer(&outcome), want);
-    Ok(())
-}
-
-/// No window takes a case, for these reasons.
-fn tells_reasons(rt: &impl Abort, alloc: Global, case: &Case, want: &[Reason]) -> Result<(), Fail> {
-    match planned(rt, alloc, case)? {
-        Err(PlanFault::NoWindow(reasons)) => assert!(rt; reasons.items() == want),
-        _ => return Err(Fail::from("another answer")),
-    }
-    Ok(())
-}
-
-/// Two bridges with one endpoint of 2 GiB each.
-fn one_each() -> [Spot; 4] {
-    [
-        BRIDGE,
-        BRIDGE,
-        device(0, 0, 2 * GIB, 0),
-        device(1, 0, 2 * GIB, 0),
-    ]
-}
-
-/// Two bridges with two endpoints each.
-fn two_each() -> [Spot; 6] {
-    [
-        BRIDGE,
-        BRIDGE,
-        device(0, 0, 0x40_0000_0000, 0),
-        device(0, 1, 0x40_0000_0000, 0),
-        device(1, 0, 0x40_0000_0000, 0),
-        device(1, 1, 0x40_0000_0000, 0),
-    ]
-}
-
-const LARGE: Span = Span {
-    base: 0x10_0000_0000,
-    size: 0x100_0000_0000,
-    gran: 0,
-    xor: false,
-    restrict: 0x000e,
-    targets: &[0, 1],
-};
-
-#[test]
-fn named_endpoints(rt: HostRuntime) -> Result<(), Fail> {
-    let alloc = rt.alloc();
-    let of_four = [
-        over(0, 2, LARGE.base, GIB, 0x11, 0x0100),
-        over(2, 6, LARGE.base, GIB, 0x20, 0),
-    ];
-    let nodes = two_each();
-    let all = Case {
-        nodes: &nodes,
-        windows: &[LARGE],
-        ranges: &[],
-        kind: MemKind::Ram,
-        size: GIB,
-        gran: None,
-        endpoints: &[2, 3, 4, 5],
-    };
-    let whole = Told::Planned(0, LARGE.base, 0, 4);
-    tells(&rt, alloc, &all, whole)?;
-    let turned = Case {
-        endpoints: &[5, 2, 4, 3],
-        ..all
-    };
-    tells(&rt, alloc, &turned, whole)?;
-    let behind = Case {
-        ranges: &of_four,
-        size: 2 * UNIT,
-        endpoints: &[2, 4],
-        ..all
-    };
-    tells(&rt, alloc, &behind, Told::Planned(0, 0x10_4000_0000, 0, 2))?;
-    let twice = Case {
-        size: UNIT,
-        endpoints: &[2, 2],
-        ..all
-    };
-    tells(&rt, alloc, &twice, Told::Repeat(2))?;
-    let three = Case {
-        size: 3 * UNIT,
-        endpoints: &[2, 3, 4],
-        ..all
-    };
-    tells(&rt, alloc, &three, Told::Uneven(1))?;
-    let one_bridge = Case {
-        size: 2 * UNIT,
-        endpoints: &[2, 3],
-        ..all
-    };
-    tells_reasons(&rt, alloc, &one_bridge, &[Reason::Bridges])
-}
-
-/// The first endpoint has no memory.
-#[test]
-fn bare_endpoint(rt: HostRuntime) -> Result<(), Fail> {
-    let alloc = rt.alloc();
-    let mut nodes = two_each();
-    nodes[2] = device(0, 0, 0, 0);
-    let two = Case {
-        nodes: &nodes,
-        windows: &[LARGE],
-        ranges: &[],
-        kind: MemKind::Ram,
-        size: 2 * UNIT,
-        gran: None,
-        endpoints: &[3, 4],
-    };
-    tells(&rt, alloc, &two, Told::Planned(0, LARGE.base, 0, 2))?;
-    let four = Case {
-        size: 4 * UNIT,
-        endpoints: &[2, 3, 4, 5],
-        ..two
-    };
-    let room = Room { start: 0, limit: 0 };
-    tells(&rt, alloc, &four, Told::Span(2, SpanFault::NoRoom(room)))
-}
-
-/// One bridge with an endpoint of 1 GiB of each kind, and two regions of it.
-#[test]
-fn one_endpoint(rt: HostRuntime) -> Result<(), Fail> {
-    let alloc = rt.alloc();
-    let second = Range {
-        decoder: 1,
-        ..over(0, 1, BASE + UNIT, UNIT, 0, 0)
-    };
-    let skipping = Range {
-        first: 1,
-        end: 2,
-        tail: 0x3000_0000,
-        ..second
-    };
-    let ranges = [over(0, 2, BASE, UNIT, 0, 0), second, skipping];
-    let both = Case {
-        nodes: &[BRIDGE, device(0, 0, GIB, GIB)],
-        windows: &[window(4 * GIB, &[0])],
-        ranges: &ranges,
-        kind: MemKind::Pmem,
-        size: UNIT,
-        gran: None,
-        endpoints: &[1],
-    };
-    let next = Case {
-        ranges: &ranges[..1],
-        ..both
-    };
-    tells(&rt, alloc, &next, Told::Planned(0, BASE + UNIT, 0, 1))?;
-    let ram = Case {
-        kind: MemKind::Ram,
-        ..both
-    };
-    let past = SpanFault::PastRam(0x5000_0000);
-    tells(&rt, alloc, &ram, Told::Span(1, past))?;
-    let large = Case { size: GIB, ..both };
-    let room = SpanFault::NoRoom(Room {
-        start: 0x5000_0000,
-        limit: 0x8000_0000,
-    });
-    tells(&rt, alloc, &large, Told::Span(1, room))?;
-    tells(&rt, alloc, &Case { size: 0, ..both }, Told::Size)
-}
-
-/// The rows of a plan over two endpoints: node, decoder and code of ways.
-fn has_rows(
+/// What is planned over a host's image, which has to be accepted.
+fn planned(
     rt: &impl Abort,
     alloc: Global,
-    nodes: &[Spot],
-    want: &[(u32, u8, u8)],
-) -> Result<(), Fail> {
-    let case = Case {
-        nodes,
-        windows: &[window(4 * GIB, &[0, 1])],
-        ranges: &[],
-        kind: MemKind::Ram,
-        size: 2 * UNIT,
-        gran: None,
-        endpoints: &[2, 3],
-    };
-    let plan = match planned(rt, alloc, &case)? {
-        Ok(plan) => plan,
-        Err(_) => return Err(Fail::from("refused")),
-    };
-    let spans = plan.found.spans.items();
-    assert_eq!(rt; spans.len(), 2);
-    assert_eq!(rt; (spans[0].endpoint, spans[1].endpoint), (2, 3));
-    assert_eq!(rt; (spans[0].start, spans[1].start), (0, 0));
-    let rows = plan.rows.items();
-    assert_eq!(rt; rows.len(), want.len());
-    for (row, (node, index, ways)) in rows.iter().zip(want) {
-        assert_eq!(rt;
-            (row.node, row.index, row.decoder.ways),
-            (*node, *index, *ways)
-        );
-        assert_eq!(rt; (row.decoder.base, row.decoder.size), (BASE, 2 * UNIT));
-        assert_eq!(rt; (row.decoder.gran, row.decoder.tail), (0, 0));
+    host: &Worked,
+    request: &Request,
+) -> Result<Plan, PlanFault>
+    requires caps { HasCapsOf host.now.image host.now.topo.nodes }
+    requires made { AreMadeWith host.now.windows.items (bridge_uids host.now.topo.nodes) }
+{
+    assert!(rt; are_devices(&host.topo, request.endpoints.items()));
+    match check(alloc, &host.image, &host.topo, &host.windows) {
+        Ok(_) => plan(alloc, &host.image, &host.topo, &host.windows, request),
+        Err(_) => panic!(rt; "the image is not accepted"),
     }
-    Ok(())
 }
 
-/// Below bridges that decode, and below bridges that forward.
-#[test]
-fn rows(rt: HostRuntime) -> Result<(), Fail> {
-    let alloc = rt.alloc();
-    let nodes = one_each();
-    has_rows(
-        &rt,
-        alloc,
-        &nodes,
-        &[(0, 0, 0), (1, 0, 0), (2, 0, 1), (3, 0, 1)],
-    )?;
-    let mut forwarding = one_each();
-    forwarding[0] = FORWARDING;
-    forwarding[1] = FORWARDING;
-    has_rows(&rt, alloc, &forwarding, &[(2, 0, 1), (3, 0, 1)])
+/// A host's nodes, windows and decoders that are committed.
+type Parts = (&'static str, &'static str, &'static str);
+
+fn planned_over(
+    rt: &impl Abort,
+    alloc: Global,
+    parts: Parts,
+    asked: Asked,
+) -> Result<Plan, PlanFault> {
+    let (nodes, windows, ranges) = parts;
+    let host = host_of(rt, alloc, nodes, windows, ranges);
+    planned(rt, alloc, &host, &request_of(rt, alloc, asked))
 }
 
-/// The target lists of bridges with two endpoints each.
-#[test]
-fn target_lists(rt: HostRuntime) -> Result<(), Fail> {
-    let alloc = rt.alloc();
-    let nodes = two_each();
-    let case = Case {
-        nodes: &nodes,
-        windows: &[LARGE],
-        ranges: &[],
-        kind: MemKind::Ram,
-        size: GIB,
-        gran: None,
-        endpoints: &[2, 3, 4, 5],
-    };
-    let plan = match planned(&rt, alloc, &case)? {
-        Ok(plan) => plan,
-        Err(_) => return Err(Fail::from("refused")),
-    };
-    let rows = plan.rows.items();
-    assert_eq!(rt; rows.len(), 6);
-    for row in &rows[..2] {
-        let d = &row.decoder;
-        assert_eq!(rt; (d.ways, d.gran, d.tail), (1, 1, 0x0100));
+/// A host's nodes, windows and decoders that are committed; the kind, the size, the granularity code or 255 and the
+/// endpoints of what is asked for; and the plan's window, base, granularity code and ways, or the fault.
+type Answer = (
+    &'static str,
+    &'static str,
+    &'static str,
+    MemKind,
+    u64,
+    u8,
+    &'static str,
+    &'static str,
+);
+
+fn is_answer(rt: &impl Abort, alloc: Global, row: &Answer) -> bool {
+    let (nodes, windows, ranges, kind, size, gran, endpoints, want) = *row;
+    let asked = (kind, size, gran, endpoints);
+    match planned_over(rt, alloc, (nodes, windows, ranges), asked) {
+        Ok(plan) => is_plan(&plan, &numbers(rt, alloc, want)),
+        Err(fault) => shows(rt, alloc, &fault, want),
     }
-    for row in &rows[2..] {
-        let d = &row.decoder;
-        assert_eq!(rt; (d.ways, d.gran, d.tail), (2, 0, 0));
-    }
-    let mut endpoints = [0; 4];
-    for (place, endpoint) in plan.found.spans.items().iter().zip(endpoints.iter_mut()) {
-        *endpoint = place.endpoint;
-    }
-    assert_eq!(rt; endpoints, [2, 4, 3, 5]);
-    Ok(())
 }
 
-/// All of the window is taken.
-#[test]
-fn full_window(rt: HostRuntime) -> Result<(), Fail> {
-    let alloc = rt.alloc();
-    let mut nodes = one_each();
-    nodes[2] = device(0, 0, 4 * GIB, 0);
-    nodes[3] = device(1, 0, 4 * GIB, 0);
-    let ranges = [
-        over(0, 2, BASE, 4 * GIB, 0, 0),
-        over(2, 4, BASE, 4 * GIB, 0x10, 0),
+fn is_plan(plan: &Plan, want: &[u64]) -> bool {
+    let found = &plan.found;
+    let own = [
+        u64::from(found.window),
+        found.base,
+        u64::from(found.gran),
+        u64::from(found.ways),
     ];
-    let case = Case {
-        nodes: &nodes,
-        windows: &[window(4 * GIB, &[0, 1])],
-        ranges: &ranges,
-        kind: MemKind::Ram,
-        size: 2 * UNIT,
-        gran: None,
-        endpoints: &[2, 3],
-    };
-    let room = Room {
-        start: 0x2_0000_0000,
-        limit: 0x2_0000_0000,
-    };
-    tells_reasons(&rt, alloc, &case, &[Reason::NoBase(room)])
+    own.as_slice() == want
 }
 
-/// The only decoder of a bridge is committed.
 #[test]
-fn full_bridge(rt: HostRuntime) -> Result<(), Fail> {
-    let alloc = rt.alloc();
-    let mut nodes = one_each();
-    nodes[1].cap = 0x380;
-    let ranges = [
-        over(0, 2, BASE, 2 * UNIT, 0, 0),
-        over(2, 4, BASE, 2 * UNIT, 0x10, 0),
-    ];
-    let case = Case {
-        nodes: &nodes,
-        windows: &[window(4 * GIB, &[0, 1])],
-        ranges: &ranges,
-        kind: MemKind::Ram,
-        size: 2 * UNIT,
-        gran: None,
-        endpoints: &[2, 3],
-    };
-    tells(&rt, alloc, &case, Told::NoDecoder(1))
+fn answers(rt: HostRuntime) {
+    for (i, row) in ANSWERS.iter().enumerate() {
+        has_passed(&rt, i, is_answer(&rt, rt.alloc(), row));
+    }
 }
+
+/// Two bridges with two endpoints of 256 GiB each, and where the first endpoint has no memory.
+const TWO_EACH: &str = "0x382, 0x382, \
+    0x1b02 0 0 0x4000000000 0, 0x1b02 0 1 0x4000000000 0, \
+    0x1b02 1 0 0x4000000000 0, 0x1b02 1 1 0x4000000000 0";
+
+const BARE: &str = "0x382, 0x382, \
+    0x1b02 0 0 0 0, 0x1b02 0 1 0x4000000000 0, \
+    0x1b02 1 0 0x4000000000 0, 0x1b02 1 1 0x4000000000 0";
+
+const LARGE: &str = "0x1000000000 0x10000000000 0 0 0x000e 0 1";
+
+const OF_FOUR: &str =
+    "0 2 0 0x1000000000 0x40000000 0x11 0x0100, 2 6 0 0x1000000000 0x40000000 0x20 0";
+
+/// One bridge with an endpoint of 1 GiB of each kind, and two regions of it.
+const ONE: &str = "0x382, 0x1b02 0 0 0x40000000 0x40000000";
+
+const OVER_ONE: &str = "0x100000000 0x100000000 0 0 0x000e 0";
+
+const OF_ONE: &str = "0 2 0 0x100000000 0x10000000 0 0, \
+    0 1 1 0x110000000 0x10000000 0 0, 1 2 1 0x110000000 0x10000000 0 0x30000000";
+
+/// Two bridges with one endpoint of 2 GiB each; where it has 4 GiB; where the second bridge has one decoder; and where
+/// the bridges forward.
+const ONE_EACH: &str = "0x382, 0x382, 0x1b02 0 0 0x80000000 0, 0x1b02 1 0 0x80000000 0";
+
+const LARGER_EACH: &str = "0x382, 0x382, 0x1b02 0 0 0x100000000 0, 0x1b02 1 0 0x100000000 0";
+
+const ONE_DECODER: &str = "0x382, 0x380, 0x1b02 0 0 0x80000000 0, 0x1b02 1 0 0x80000000 0";
+
+const FORWARDING: &str = "0x10, 0x10, 0x1b02 0 0 0x80000000 0, 0x1b02 1 0 0x80000000 0";
+
+const OVER_TWO: &str = "0x100000000 0x100000000 0 0 0x000e 0 1";
 
 /// Five endpoints below one bridge.
-#[test]
-fn five_endpoints(rt: HostRuntime) -> Result<(), Fail> {
-    let alloc = rt.alloc();
-    let nodes = [
-        BRIDGE,
-        device(0, 0, GIB, 0),
-        device(0, 1, GIB, 0),
-        device(0, 2, GIB, 0),
-        device(0, 3, GIB, 0),
-        device(0, 4, GIB, 0),
-    ];
-    let all = Case {
-        nodes: &nodes,
-        windows: &[window(4 * GIB, &[0])],
-        ranges: &[],
-        kind: MemKind::Ram,
-        size: 2 * UNIT,
-        gran: None,
-        endpoints: &[1, 2, 3, 4, 5],
-    };
-    tells(&rt, alloc, &all, Told::Ways(5))?;
-    let two = Case {
-        endpoints: &[3, 4],
-        ..all
-    };
-    tells(&rt, alloc, &two, Told::Planned(0, BASE, 0, 2))
-}
+const FIVE: &str = "0x382, 0x1b02 0 0 0x40000000 0, 0x1b02 0 1 0x40000000 0, \
+    0x1b02 0 2 0x40000000 0, 0x1b02 0 3 0x40000000 0, 0x1b02 0 4 0x40000000 0";
 
-const fn at<'a>(base: u64, span: Span<'a>) -> Span<'a> {
-    Span { base, ..span }
-}
+/// Two bridges with two endpoints of persistent memory each, and a window for each reason, in the order in which they
+/// are tried.
+const PMEM: &str = "0x382, 0x382, 0x1b02 0 0 0 0x80000000, 0x1b02 0 1 0 0x80000000, \
+    0x1b02 1 0 0 0x80000000, 0x1b02 1 1 0 0x80000000";
 
-/// A table with a window for each reason, in the order in which they are tried.
-#[test]
-fn reasons(rt: HostRuntime) -> Result<(), Fail> {
-    let alloc = rt.alloc();
-    let both = window(GIB, &[0, 1]);
-    let windows = [
-        at(BASE + 16 * GIB + 1, both),
-        at(
-            BASE + GIB,
-            Span {
-                restrict: 0x0006,
-                ..both
-            },
-        ),
-        at(
-            BASE + 2 * GIB,
-            Span {
-                restrict: 0x001e,
-                ..both
-            },
-        ),
-        at(BASE + 3 * GIB, window(GIB, &[0])),
-        at(BASE + 4 * GIB, Span { gran: 5, ..both }),
-        at(BASE + 5 * GIB, Span { gran: 6, ..both }),
-        at(
-            BASE + 6 * GIB,
-            Span {
-                gran: 6,
-                size: UNIT * 2,
-                ..both
-            },
-        ),
-    ];
-    let mut nodes = two_each();
-    for (place, spot) in nodes[2..].iter_mut().enumerate() {
-        *spot = device((place / 2) as u32, (place % 2) as u8, 0, 2 * GIB);
+const WINDOWS: &str = "0x500000001 0x40000000 0 0 0x000e 0 1, \
+    0x140000000 0x40000000 0 0 0x0006 0 1, 0x180000000 0x40000000 0 0 0x001e 0 1, \
+    0x1c0000000 0x40000000 0 0 0x000e 0, 0x200000000 0x40000000 5 0 0x000e 0 1, \
+    0x240000000 0x40000000 6 0 0x000e 0 1, 0x280000000 0x20000000 6 0 0x000e 0 1";
+
+const REASONS: &str = "NoWindow(FixedList { vec: [Unusable, Kind, Fixed, Bridges, Gran, \
+    Select(0), Select(0)] })";
+
+/// Three bridges with an endpoint each, of which one cannot have three ways; and two windows, where the first is taken.
+const THREE: &str = "0x382, 0x382, 0x382, \
+    0x1b02 0 0 0x10000000 0, 0x1b02 1 0 0x10000000 0, 0x1b02 2 0 0x10000000 0";
+
+const UNABLE: &str = "0x382, 0x382, 0x382, \
+    0x1b02 0 0 0x10000000 0, 0x302 1 0 0x10000000 0, 0x1b02 2 0 0x10000000 0";
+
+const TWO_WINDOWS: &str =
+    "0x100000000 0x30000000 0 0 0x000e 0 1 2, 0x200000000 0x30000000 0 0 0x000e 0 1 2";
+
+const RAM: MemKind = MemKind::Ram;
+
+const ANSWERS: [Answer; 20] = [
+    (
+        TWO_EACH,
+        LARGE,
+        "",
+        RAM,
+        0x4000_0000,
+        255,
+        "2 3 4 5",
+        "0 0x1000000000 0 4",
+    ),
+    (
+        TWO_EACH,
+        LARGE,
+        "",
+        RAM,
+        0x4000_0000,
+        255,
+        "5 2 4 3",
+        "0 0x1000000000 0 4",
+    ),
+    (
+        TWO_EACH,
+        LARGE,
+        "",
+        RAM,
+        0x1000_0000,
+        255,
+        "2 2",
+        "Repeat(2)",
+    ),
+    (
+        TWO_EACH,
+        LARGE,
+        "",
+        RAM,
+        0x3000_0000,
+        255,
+        "2 3 4",
+        "Uneven(1)",
+    ),
+    (
+        TWO_EACH,
+        LARGE,
+        "",
+        RAM,
+        0x2000_0000,
+        255,
+        "2 3",
+        "NoWindow(FixedList { vec: [Bridges] })",
+    ),
+    (
+        TWO_EACH,
+        LARGE,
+        OF_FOUR,
+        RAM,
+        0x2000_0000,
+        255,
+        "2 4",
+        "0 0x1040000000 0 2",
+    ),
+    (
+        BARE,
+        LARGE,
+        "",
+        RAM,
+        0x2000_0000,
+        255,
+        "3 4",
+        "0 0x1000000000 0 2",
+    ),
+    (
+        BARE,
+        LARGE,
+        "",
+        RAM,
+        0x4000_0000,
+        255,
+        "2 3 4 5",
+        "Span(2, NoRoom(Room { start: 0, limit: 0 }))",
+    ),
+    (
+        ONE,
+        OVER_ONE,
+        OF_ONE,
+        RAM,
+        0x1000_0000,
+        255,
+        "1",
+        "Span(1, PastRam(1342177280))",
+    ),
+    (
+        ONE,
+        OVER_ONE,
+        OF_ONE,
+        MemKind::Pmem,
+        0x4000_0000,
+        255,
+        "1",
+        "Span(1, NoRoom(Room { start: 1342177280, limit: 2147483648 }))",
+    ),
+    (ONE, OVER_ONE, OF_ONE, MemKind::Pmem, 0, 255, "1", "Size"),
+    (
+        ONE,
+        OVER_ONE,
+        "0 2 0 0x100000000 0x10000000 0 0",
+        MemKind::Pmem,
+        0x1000_0000,
+        255,
+        "1",
+        "0 0x110000000 0 1",
+    ),
+    // All of the window is taken.
+    (
+        LARGER_EACH,
+        OVER_TWO,
+        "0 2 0 0x100000000 0x100000000 0 0, 2 4 0 0x100000000 0x100000000 0x10 0",
+        RAM,
+        0x2000_0000,
+        255,
+        "2 3",
+        "NoWindow(FixedList { vec: [NoBase(Room { start: 8589934592, limit: 8589934592 })] })",
+    ),
+    // The only decoder of a bridge is committed.
+    (
+        ONE_DECODER,
+        OVER_TWO,
+        "0 2 0 0x100000000 0x20000000 0 0, 2 4 0 0x100000000 0x20000000 0x10 0",
+        RAM,
+        0x2000_0000,
+        255,
+        "2 3",
+        "NoDecoder(1)",
+    ),
+    (
+        FIVE,
+        OVER_ONE,
+        "",
+        RAM,
+        0x2000_0000,
+        255,
+        "1 2 3 4 5",
+        "Ways(5)",
+    ),
+    (
+        FIVE,
+        OVER_ONE,
+        "",
+        RAM,
+        0x2000_0000,
+        255,
+        "3 4",
+        "0 0x100000000 0 2",
+    ),
+    (
+        PMEM,
+        WINDOWS,
+        "",
+        MemKind::Pmem,
+        0x4000_0000,
+        6,
+        "2 3 4 5",
+        REASONS,
+    ),
+    (
+        PMEM,
+        WINDOWS,
+        "",
+        MemKind::Pmem,
+        0x4000_0000,
+        6,
+        "2 4",
+        "5 0x240000000 6 2",
+    ),
+    (
+        THREE,
+        TWO_WINDOWS,
+        "",
+        RAM,
+        0x3000_0000,
+        255,
+        "5 3 4",
+        "0 0x100000000 0 3",
+    ),
+    (
+        UNABLE,
+        TWO_WINDOWS,
+        "",
+        RAM,
+        0x3000_0000,
+        255,
+        "5 3 4",
+        "NoWindow(FixedList { vec: [WaysCap(4), WaysCap(4)] })",
+    ),
+];
+
+/// The node, the decoder's number, the codes of ways and granularity, base, size and tail of each row.
+fn numbers_of(rt: &impl Abort, alloc: Global, rows: &[Row]) -> Vec<u64> {
+    let mut numbers = Vec::new(alloc);
+    for row in rows {
+        let own = [
+            u64::from(row.node),
+            u64::from(row.index),
+            u64::from(row.decoder.ways),
+            u64::from(row.decoder.gran),
+            row.decoder.base,
+            row.decoder.size,
+            row.decoder.tail,
+        ];
+        numbers.extend_from_slice(&own).expect(rt, "memory");
     }
-    let all = Case {
-        nodes: &nodes,
-        windows: &windows,
-        ranges: &[],
-        kind: MemKind::Pmem,
-        size: GIB,
-        gran: Some(6),
-        endpoints: &[2, 3, 4, 5],
-    };
-    let reasons = [
-        Reason::Unusable,
-        Reason::Kind,
-        Reason::Fixed,
-        Reason::Bridges,
-        Reason::Gran,
-        Reason::Select(0),
-        Reason::Select(0),
-    ];
-    tells_reasons(&rt, alloc, &all, &reasons)?;
-    let two = Case {
-        endpoints: &[2, 4],
-        ..all
-    };
-    tells(&rt, alloc, &two, Told::Planned(5, BASE + 5 * GIB, 6, 2))
+    numbers
 }
 
-/// Three bridges whose endpoints cannot have three ways; and a first window that is taken before a second.
-#[test]
-fn three_ways(rt: HostRuntime) -> Result<(), Fail> {
-    let alloc = rt.alloc();
-    let nodes = [
-        BRIDGE,
-        BRIDGE,
-        BRIDGE,
-        device(0, 0, UNIT, 0),
-        device(1, 0, UNIT, 0),
-        device(2, 0, UNIT, 0),
-    ];
-    let mut plain = nodes;
-    plain[4].cap = 0x302;
-    let first = window(3 * UNIT, &[0, 1, 2]);
-    let windows = [
-        first,
-        Span {
-            base: 2 * BASE,
-            ..first
-        },
-    ];
-    let able = Case {
-        nodes: &nodes,
-        windows: &windows,
-        ranges: &[],
-        kind: MemKind::Ram,
-        size: 3 * UNIT,
-        gran: None,
-        endpoints: &[5, 3, 4],
-    };
-    tells(&rt, alloc, &able, Told::Planned(0, BASE, 0, 3))?;
-    let unable = Case {
-        nodes: &plain,
-        ..able
-    };
-    let cap = Reason::WaysCap(4);
-    tells_reasons(&rt, alloc, &unable, &[cap, cap])
+/// The endpoint and the start of each span.
+fn numbers_of_spans(rt: &impl Abort, alloc: Global, spans: &[Place]) -> Vec<u64> {
+    let mut numbers = Vec::new(alloc);
+    for place in spans {
+        let own = [u64::from(place.endpoint), place.start];
+        numbers.extend_from_slice(&own).expect(rt, "memory");
+    }
+    numbers
 }
+
+/// A host's nodes and windows, the size and the endpoints of what is asked for, and the plan's rows and spans.
+type Rows = (
+    &'static str,
+    &'static str,
+    u64,
+    &'static str,
+    &'static str,
+    &'static str,
+);
+
+fn has_rows(rt: &impl Abort, alloc: Global, row: &Rows) -> bool {
+    let (nodes, windows, size, endpoints, rows, spans) = *row;
+    let asked = (MemKind::Ram, size, 255, endpoints);
+    match planned_over(rt, alloc, (nodes, windows, ""), asked) {
+        Ok(plan) => {
+            numbers_of(rt, alloc, plan.rows.items()) == numbers(rt, alloc, rows)
+                && numbers_of_spans(rt, alloc, plan.found.spans.items())
+                    == numbers(rt, alloc, spans)
+        }
+        Err(_) => false,
+    }
+}
+
+#[test]
+fn rows(rt: HostRuntime) {
+    for (i, row) in ROWS.iter().enumerate() {
+        has_passed(&rt, i, has_rows(&rt, rt.alloc(), row));
+    }
+}
+
+const ROWS: [Rows; 3] = [
+    // Below bridges that decode, and below bridges that forward.
+    (
+        ONE_EACH,
+        OVER_TWO,
+        0x2000_0000,
+        "2 3",
+        "0 0 0 0 0x100000000 0x20000000 0  1 0 0 0 0x100000000 0x20000000 0 \
+         2 0 1 0 0x100000000 0x20000000 0  3 0 1 0 0x100000000 0x20000000 0",
+        "2 0 3 0",
+    ),
+    (
+        FORWARDING,
+        OVER_TWO,
+        0x2000_0000,
+        "2 3",
+        "2 0 1 0 0x100000000 0x20000000 0  3 0 1 0 0x100000000 0x20000000 0",
+        "2 0 3 0",
+    ),
+    // The target lists of bridges with two endpoints each.
+    (
+        TWO_EACH,
+        LARGE,
+        0x4000_0000,
+        "2 3 4 5",
+        "0 0 1 1 0x1000000000 0x40000000 0x0100  1 0 1 1 0x1000000000 0x40000000 0x0100 \
+         2 0 2 0 0x1000000000 0x40000000 0       3 0 2 0 0x1000000000 0x40000000 0 \
+         4 0 2 0 0x1000000000 0x40000000 0       5 0 2 0 0x1000000000 0x40000000 0",
+        "2 0 4 0 3 0 5 0",
+    ),
+];

@@ -3,18 +3,18 @@
 ghost use Rattle.cxl_window.specs.Windows.{AreMadeWith};
 ghost use Rattle.cxl_topo.specs.Tree.{bridge_uids};
 
-use crate::hosts::{BASE, Bridged, GIB, Range, UNIT, host_under, over, server, spots_of};
+use crate::hosts::{Worked, host_of};
+use crate::rows::{has_passed, numbers};
 use cxl_check::check;
 use cxl_image::Image;
 use cxl_model::hosts_with_caps_are_systems;
-use cxl_poison::{Entry, Part, Poisoned, Run, Wide, pieces};
+use cxl_poison::{Entry, Part, Poisoned, pieces};
 use cxl_topo::Topo;
 use cxl_window::Window;
 use std::alloc::Global;
 use std::process::Abort;
-use std::test::Fail;
 
-/// What the record touches of the regions of the image.
+/// What the record touches of the regions of the image, or nothing where these cannot be told.
 fn pieces_found(
     alloc: Global,
     image: &Image,
@@ -22,126 +22,178 @@ fn pieces_found(
     windows: &[Window],
     endpoint: u32,
     entry: &Entry,
-) -> Result<Poisoned, Fail>
+) -> Option<Poisoned>
     requires { AreMadeWith windows.now (bridge_uids topo.now.nodes) }
 {
     hosts_with_caps_are_systems();
-    let live = check(alloc, image, topo, windows)?;
-    let _nodes = topo.count();
-    let _blocks = image.count();
-    Ok(pieces(alloc, entry, endpoint, &live, windows)?)
+    match check(alloc, image, topo, windows) {
+        Ok(live) => {
+            let _nodes = topo.count();
+            let _blocks = image.count();
+            pieces(alloc, entry, endpoint, &live, windows).ok()
+        }
+        Err(_) => None,
+    }
 }
 
-/// Checks that a record of so many units touches these parts of the regions of the host, and no other bytes but so
-/// many that no region has.
-fn is_told(
-    rt: &(impl Abort + AllocGlobal),
-    host: &Bridged,
-    ranges: &[Range],
-    endpoint: u32,
-    record: (u64, u32),
-    parts: &[Part],
-    unmapped: u64,
-) -> Result<(), Fail> {
-    let alloc = rt.alloc();
-    let spots = spots_of(alloc, host)?;
-    let host = host_under(rt, alloc, &spots, host, ranges)?;
+/// A host's nodes, windows and decoders that are committed; a record's endpoint, device address and count of units;
+/// the parts of regions that it touches, each run as its first address, its length and its region, and many runs as
+/// the first addresses of the first and of the last, their count and their region; and how many more bytes it touches
+/// that no region has.
+type Row = (
+    &'static str,
+    &'static str,
+    &'static str,
+    u32,
+    u64,
+    u32,
+    &'static str,
+    u64,
+);
+
+fn numbers_of(rt: &impl Abort, alloc: Global, parts: &[Part]) -> Vec<u64> {
+    let mut numbers = Vec::new(alloc);
+    for part in parts {
+        match part {
+            Part::Run(run) => numbers.extend_from_slice(&[run.h, run.len, u64::from(run.region)]),
+            Part::Wide(wide) => numbers.extend_from_slice(&[
+                wide.first,
+                wide.last,
+                wide.count,
+                u64::from(wide.region),
+            ]),
+        }
+        .expect(rt, "memory");
+    }
+    numbers
+}
+
+/// Whether these are the parts, and so many bytes no region's.
+fn touches(rt: &impl Abort, alloc: Global, told: &Poisoned, parts: &str, unmapped: u64) -> bool {
+    told.unmapped == unmapped
+        && numbers_of(rt, alloc, told.parts.items()) == numbers(rt, alloc, parts)
+}
+
+fn is_told(rt: &impl Abort, alloc: Global, row: &Row) -> bool {
+    let (nodes, windows, ranges, endpoint, dpa, units, parts, unmapped) = *row;
+    let host = host_of(rt, alloc, nodes, windows, ranges);
     let entry = Entry {
-        dpa: record.0,
-        units: record.1,
+        dpa,
+        units,
         source: 2,
     };
-    let told = pieces_found(
+    match pieces_found(
         alloc,
         &host.image,
         &host.topo,
         &host.windows,
         endpoint,
         &entry,
-    )?;
-    assert_eq!(rt; told.parts.items(), parts);
-    assert_eq!(rt; told.unmapped, unmapped);
-    Ok(())
-}
-
-fn told_run(h: u64, len: u64, region: u32) -> Part {
-    Part::Run(Run { h, len, region })
+    ) {
+        Some(told) => touches(rt, alloc, &told, parts, unmapped),
+        None => false,
+    }
 }
 
 #[test]
-fn chunks(rt: HostRuntime) -> Result<(), Fail> {
-    let two = server(2, 1, 2 * GIB, 0x1_0000_0000);
-    let ranges = [
-        over(0, 2, BASE, 0x2000_0000, 0, 0),
-        over(2, 4, BASE, 0x2000_0000, 0x10, 0),
-    ];
+fn poison(rt: HostRuntime) {
+    for (i, row) in ROWS.iter().enumerate() {
+        has_passed(&rt, i, is_told(&rt, rt.alloc(), row));
+    }
+}
+
+/// Two bridges with an endpoint each, under a window of 4 GiB, and a region of two ways.
+const TWO: &str = "0x382, 0x382, 0x1b02 0 0 0x80000000 0, 0x1b02 1 0 0x80000000 0";
+
+const OVER_TWO: &str = "0x100000000 0x100000000 0 0 0x000e 0 1";
+
+const OF_TWO: &str = "0 2 0 0x100000000 0x20000000 0 0, 2 4 0 0x100000000 0x20000000 0x10 0";
+
+/// Three bridges with two endpoints each, and a region of six ways.
+const THREE: &str = "0x382, 0x382, 0x382, \
+    0x1b02 0 0 0x80000000 0, 0x1b02 0 1 0x80000000 0, \
+    0x1b02 1 0 0x80000000 0, 0x1b02 1 1 0x80000000 0, \
+    0x1b02 2 0 0x80000000 0, 0x1b02 2 1 0x80000000 0";
+
+const OVER_THREE: &str = "0x100000000 0x60000000 0 0 0x000e 0 1 2";
+
+const OF_SIX: &str =
+    "0 3 0 0x100000000 0x60000000 0x10 0x0100, 3 9 0 0x100000000 0x60000000 0x90 0";
+
+/// Two regions of one way, the second behind a skip of the endpoint.
+const ONE: &str = "0x382, 0x1b02 0 0 0x40000000 0x40000000";
+
+const OVER_ONE: &str = "0x100000000 0x100000000 0 0 0x000e 0";
+
+const OF_ONE: &str = "0 2 0 0x100000000 0x10000000 0 0, \
+    0 1 1 0x110000000 0x10000000 0 0, 1 2 1 0x110000000 0x10000000 0 0x30000000";
+
+const ROWS: [Row; 7] = [
     // The last 64 bytes of a span, and 64 behind it.
-    let last = [told_run(0x1_1fff_fec0, 64, 0)];
-    is_told(&rt, &two, &ranges, 2, (0xfff_ffc0, 2), &last, 64)?;
-    is_told(&rt, &two, &ranges, 2, (0xfff_ffc0, 0), &[], 0)?;
+    (
+        TWO,
+        OVER_TWO,
+        OF_TWO,
+        2,
+        0xfff_ffc0,
+        2,
+        "0x11ffffec0 64 0",
+        64,
+    ),
+    (TWO, OVER_TWO, OF_TWO, 2, 0xfff_ffc0, 0, "", 0),
     // A part of one chunk, a whole one and a part of the next.
-    let three = [
-        told_run(0x1_0000_00c0, 64, 0),
-        told_run(0x1_0000_0200, 256, 0),
-        told_run(0x1_0000_0400, 64, 0),
-    ];
-    is_told(&rt, &two, &ranges, 2, (0xc0, 6), &three, 0)?;
+    (
+        TWO,
+        OVER_TWO,
+        OF_TWO,
+        2,
+        0xc0,
+        6,
+        "0x1000000c0 64 0  0x100000200 256 0  0x100000400 64 0",
+        0,
+    ),
     // More than 64 chunks.
-    let wide = Part::Wide(Wide {
-        first: 0x1_0000_00c0,
-        last: 0x1_0000_8000,
-        count: 65,
-        region: 0,
-    });
-    is_told(&rt, &two, &ranges, 2, (0xc0, 254), &[wide], 0)?;
+    (
+        TWO,
+        OVER_TWO,
+        OF_TWO,
+        2,
+        0xc0,
+        254,
+        "0x1000000c0 0x100008000 65 0",
+        0,
+    ),
     // As much as a record can name, from the last device address on.
-    let all = (0xffff_ffff_ffff_ffc0, 0xffff_ffff);
-    is_told(&rt, &two, &ranges, 2, all, &[], 0x3f_ffff_ffc0)
-}
-
-#[test]
-fn six_ways(rt: HostRuntime) -> Result<(), Fail> {
-    let six = server(3, 2, 2 * GIB, 0x6000_0000);
-    let ranges = [
-        over(0, 3, BASE, 0x6000_0000, 0x10, 0x0100),
-        over(3, 9, BASE, 0x6000_0000, 0x90, 0),
-    ];
-    let two = [
-        told_run(0x1_0000_0400, 256, 0),
-        told_run(0x1_0000_0a00, 256, 0),
-    ];
-    is_told(&rt, &six, &ranges, 5, (0, 8), &two, 0)
-}
-
-#[test]
-fn whole_spans(rt: HostRuntime) -> Result<(), Fail> {
-    let second = Range {
-        decoder: 1,
-        ..over(0, 1, BASE + UNIT, UNIT, 0, 0)
-    };
-    let skipping = Range {
-        first: 1,
-        end: 2,
-        tail: 0x3000_0000,
-        ..second
-    };
-    let ranges = [over(0, 2, BASE, UNIT, 0, 0), second, skipping];
-    let one = Bridged {
-        capacity: (GIB, GIB),
-        ..server(1, 1, 0, 0x1_0000_0000)
-    };
-    // One way: one run of each region, in the order of the device addresses, and the bytes between them.
-    let both = [
-        told_run(0x1_0fff_ff80, 0x80, 0),
-        told_run(0x1_1000_0000, 0x40, 1),
-    ];
-    is_told(
-        &rt,
-        &one,
-        &ranges,
+    (
+        TWO,
+        OVER_TWO,
+        OF_TWO,
+        2,
+        0xffff_ffff_ffff_ffc0,
+        0xffff_ffff,
+        "",
+        0x3f_ffff_ffc0,
+    ),
+    // Six ways.
+    (
+        THREE,
+        OVER_THREE,
+        OF_SIX,
+        5,
+        0,
+        8,
+        "0x100000400 256 0  0x100000a00 256 0",
+        0,
+    ),
+    // One run of each region, in the order of the device addresses, and the bytes between them.
+    (
+        ONE,
+        OVER_ONE,
+        OF_ONE,
         1,
-        (0xfff_ff80, 0xc0_0003),
-        &both,
+        0xfff_ff80,
+        0xc0_0003,
+        "0x10fffff80 0x80 0  0x110000000 0x40 1",
         0x3000_0000,
-    )
-}
+    ),
+];

@@ -1,34 +1,18 @@
 //! On which device bytes ranges of host bytes lie in worked hosts, and how many of them on each slot.
 
-ghost use Rattle.std.specs.Prelude.{◌+◌, ◌<◌, ◌≤◌};
+ghost use Rattle.std.specs.Prelude.{◌+◌, ◌<◌, ◌≤◌, All};
 ghost use Rattle.cxl_window.specs.Windows.{AreMadeWith};
 ghost use Rattle.cxl_image.specs.Images.{HasCapsOf};
 ghost use Rattle.cxl_model.specs.System.{system_of, bridge_uids};
 ghost use Rattle.cxl_model.specs.Regions.{IsRegion};
 
-use crate::hosts::{BASE, Bridged, GIB, Range, UNIT, Worked, host_under, over, server, spots_of};
+use crate::hosts::{Worked, host_of};
+use crate::rows::{at, has_passed, numbers};
 use cxl_check::check;
 use cxl_model::{Extent, Found, regions_lie_in_windows};
 use cxl_range::{extents, spread};
 use std::alloc::Global;
 use std::process::Abort;
-use std::test::Fail;
-
-/// A host, the decoders that are committed in it, a range of host bytes, and what is told of it: its extents, none
-/// for a long range, and how many bytes of it each of the first slots has.
-#[derive(Clone, Copy)]
-struct Case<'a> {
-    host: Bridged,
-    ranges: &'a [Range],
-    h: u64,
-    len: u64,
-    extents: &'a [Extent],
-    spread: &'a [u64],
-}
-
-const fn extent(h: u64, len: u32, slot: u32, dpa: u64) -> Extent {
-    Extent { h, len, slot, dpa }
-}
 
 /// What is told of a range.
 #[derive(Drop)]
@@ -37,13 +21,24 @@ struct Told {
     spread: [u64; 16],
 }
 
-/// What is told of so many bytes of the region that holds them.
-fn told_of(alloc: Global, host: &Worked, h: u64, len: u64) -> Result<Told, Fail>
+/// What is told of so many bytes of the region that holds them, where there is one.
+fn told_of(alloc: Global, host: &Worked, h: u64, len: u64) -> Option<Told>
     requires caps { HasCapsOf host.now.image host.now.topo.nodes }
     requires made { AreMadeWith host.now.windows.items (bridge_uids host.now.topo.nodes) }
 {
-    let regions = check(alloc, &host.image, &host.topo, &host.windows)?;
-    for region in &regions {
+    match check(alloc, &host.image, &host.topo, &host.windows) {
+        Ok(regions) => told_by(alloc, host, &regions, h, len),
+        Err(_) => None,
+    }
+}
+
+/// What is told of so many bytes of the one of these regions that holds them.
+fn told_by(alloc: Global, host: &Worked, regions: &[Found], h: u64, len: u64) -> Option<Told>
+    requires caps { HasCapsOf host.now.image host.now.topo.nodes }
+    requires made { AreMadeWith host.now.windows.items (bridge_uids host.now.topo.nodes) }
+    requires regions { All (IsRegion (system_of host.now.image host.now.topo host.now.windows.items)) regions.now }
+{
+    for region in regions {
         if region.base <= h && h - region.base < region.size && len > 0 {
             let left = region.size - (h - region.base);
             if len <= left {
@@ -51,11 +46,11 @@ fn told_of(alloc: Global, host: &Worked, h: u64, len: u64) -> Result<Told, Fail>
             }
         }
     }
-    Err(Fail::new("no region holds the range"))
+    None
 }
 
 /// What is told of so many bytes of a region.
-fn told_in(alloc: Global, host: &Worked, region: &Found, h: u64, len: u64) -> Result<Told, Fail>
+fn told_in(alloc: Global, host: &Worked, region: &Found, h: u64, len: u64) -> Option<Told>
     requires caps { HasCapsOf host.now.image host.now.topo.nodes }
     requires made { AreMadeWith host.now.windows.items (bridge_uids host.now.topo.nodes) }
     requires region { IsRegion (system_of host.now.image host.now.topo host.now.windows.items) region.now }
@@ -69,177 +64,175 @@ fn told_in(alloc: Global, host: &Worked, region: &Found, h: u64, len: u64) -> Re
     let window = &host.windows[region.window as usize];
     let spread = spread(region, window, h, len);
     let extents = if len <= 65_536 {
-        extents(alloc, region, window, h, len as u32)?
+        extents(alloc, region, window, h, len as u32).ok()?
     } else {
         Vec::new(alloc)
     };
-    Ok(Told { extents, spread })
+    Some(Told { extents, spread })
 }
 
-fn tells(rt: &(impl Abort + AllocGlobal), case: &Case) -> Result<(), Fail> {
-    let alloc = rt.alloc();
-    let spots = spots_of(alloc, &case.host)?;
-    let host = host_under(rt, alloc, &spots, &case.host, case.ranges)?;
-    let told = told_of(alloc, &host, case.h, case.len)?;
-    assert_eq!(rt; told.extents.as_slice(), case.extents, "at {}", case.h);
-    let slots = case.spread.len();
-    assert!(rt; slots <= 16);
-    assert_eq!(rt; &told.spread[..slots], case.spread, "at {}", case.h);
-    for count in &told.spread[slots..] {
-        assert_eq!(rt; *count, 0);
+/// A host's nodes, windows and decoders that are committed; a range of host bytes; its extents, none for a long range,
+/// each as its host address, its length, its slot and its device address; and how many of the bytes each of the first
+/// slots has.
+type Row = (
+    &'static str,
+    &'static str,
+    &'static str,
+    u64,
+    u64,
+    &'static str,
+    &'static str,
+);
+
+fn numbers_of(rt: &impl Abort, alloc: Global, extents: &[Extent]) -> Vec<u64> {
+    let mut numbers = Vec::new(alloc);
+    for extent in extents {
+        let own = [
+            extent.h,
+            u64::from(extent.len),
+            u64::from(extent.slot),
+            extent.dpa,
+        ];
+        numbers.extend_from_slice(&own).expect(rt, "memory");
     }
-    Ok(())
+    numbers
 }
 
-#[test]
-fn by_remainders(rt: HostRuntime) -> Result<(), Fail> {
-    let large = Bridged {
-        base: 0x10_0000_0000,
-        ..server(2, 2, 0x40_0000_0000, 0x100_0000_0000)
-    };
-    let of_four = [
-        over(0, 2, 0x10_0000_0000, 0x100_0000_0000, 0x11, 0x0100),
-        over(2, 6, 0x10_0000_0000, 0x100_0000_0000, 0x20, 0),
-    ];
-    let of_three = [
-        over(0, 3, BASE, 0x3000_0000, 0, 0),
-        over(3, 6, BASE, 0x3000_0000, 0x80, 0),
-    ];
-    let one = server(1, 1, 2 * GIB, 0x8000_0000);
-    let cases = [
-        Case {
-            host: large,
-            ranges: &of_four,
-            h: 0x10_0000_0080,
-            len: 512,
-            extents: &[
-                extent(0x10_0000_0080, 128, 0, 0x80),
-                extent(0x10_0000_0100, 256, 1, 0),
-                extent(0x10_0000_0200, 128, 2, 0),
-            ],
-            spread: &[128, 256, 128, 0],
-        },
-        Case {
-            host: large,
-            ranges: &of_four,
-            h: 0x10_0000_0080,
-            len: 0x700,
-            extents: &[
-                extent(0x10_0000_0080, 128, 0, 0x80),
-                extent(0x10_0000_0100, 256, 1, 0),
-                extent(0x10_0000_0200, 256, 2, 0),
-                extent(0x10_0000_0300, 256, 3, 0),
-                extent(0x10_0000_0400, 256, 0, 0x100),
-                extent(0x10_0000_0500, 256, 1, 0x100),
-                extent(0x10_0000_0600, 256, 2, 0x100),
-                extent(0x10_0000_0700, 128, 3, 0x100),
-            ],
-            spread: &[384, 512, 512, 384],
-        },
-        // The whole region.
-        Case {
-            host: large,
-            ranges: &of_four,
-            h: 0x10_0000_0000,
-            len: 0x100_0000_0000,
-            extents: &[],
-            spread: &[274_877_906_944; 4],
-        },
-        Case {
-            host: server(3, 1, UNIT, 0x3000_0000),
-            ranges: &of_three,
-            h: 0x1_0000_017f,
-            len: 0x281,
-            extents: &[
-                extent(0x1_0000_017f, 0x81, 1, 0x7f),
-                extent(0x1_0000_0200, 0x100, 2, 0),
-                extent(0x1_0000_0300, 0x100, 0, 0x100),
-            ],
-            spread: &[0x100, 0x81, 0x100],
-        },
-        // One way: the second of two regions, behind the first one's span.
-        Case {
-            host: one,
-            ranges: &[
-                over(0, 2, BASE, UNIT, 0, 0),
-                Range {
-                    decoder: 1,
-                    ..over(0, 2, BASE + UNIT, UNIT, 0, 0)
-                },
-            ],
-            h: 0x1_1000_00ff,
-            len: 0x1000,
-            extents: &[extent(0x1_1000_00ff, 0x1000, 0, 0x1000_00ff)],
-            spread: &[0x1000],
-        },
-    ];
-    for case in &cases {
-        tells(&rt, case)?;
+/// Whether the first slots have so many bytes, and all others none.
+fn has_spread(spread: &[u64; 16], want: &[u64]) -> bool {
+    for (slot, count) in spread.iter().enumerate() {
+        if *count != at(want, slot) {
+            return false;
+        }
     }
-    Ok(())
+    true
+}
+
+fn is_told(rt: &impl Abort, alloc: Global, row: &Row) -> bool {
+    let (nodes, windows, ranges, h, len, extents, spread) = *row;
+    let host = host_of(rt, alloc, nodes, windows, ranges);
+    match told_of(alloc, &host, h, len) {
+        Some(told) => {
+            numbers_of(rt, alloc, &told.extents) == numbers(rt, alloc, extents)
+                && has_spread(&told.spread, &numbers(rt, alloc, spread))
+        }
+        None => false,
+    }
 }
 
 #[test]
-fn by_parities(rt: HostRuntime) -> Result<(), Fail> {
-    let two = Bridged {
-        xor: true,
-        ..server(2, 1, 2 * GIB, 0x1_0000_0000)
-    };
-    let of_two = [
-        over(0, 2, BASE, 0x2000_0000, 0, 0),
-        over(2, 4, BASE, 0x2000_0000, 0x10, 0),
-    ];
-    let six = Bridged {
-        xor: true,
-        ..server(6, 1, 2 * GIB, 0x6000_0000)
-    };
-    let of_six = [
-        over(0, 6, BASE, 0x6000_0000, 0, 0),
-        over(6, 12, BASE, 0x6000_0000, 0x90, 0),
-    ];
-    let cases = [
-        Case {
-            host: two,
-            ranges: &of_two,
-            h: 0x1_0000_3fc0,
-            len: 0x180,
-            extents: &[
-                extent(0x1_0000_3fc0, 0x40, 1, 0x1fc0),
-                extent(0x1_0000_4000, 0x100, 1, 0x2000),
-                extent(0x1_0000_4100, 0x40, 0, 0x2000),
-            ],
-            spread: &[0x40, 0x140],
-        },
-        Case {
-            host: six,
-            ranges: &of_six,
-            h: 0x1_0000_3f80,
-            len: 0x200,
-            extents: &[
-                extent(0x1_0000_3f80, 0x80, 3, 0xa80),
-                extent(0x1_0000_4000, 0x100, 5, 0xa00),
-                extent(0x1_0000_4100, 0x80, 4, 0xa00),
-            ],
-            spread: &[0, 0, 0, 0x80, 0x80, 0x100],
-        },
-        Case {
-            host: six,
-            ranges: &of_six,
-            h: 0x1_0000_0001,
-            len: 0x5fff_fffe,
-            extents: &[],
-            spread: &[
-                0xfff_ffff,
-                0x1000_0000,
-                0x1000_0000,
-                0x1000_0000,
-                0x1000_0000,
-                0xfff_ffff,
-            ],
-        },
-    ];
-    for case in &cases {
-        tells(&rt, case)?;
+fn reaches(rt: HostRuntime) {
+    for (i, row) in ROWS.iter().enumerate() {
+        has_passed(&rt, i, is_told(&rt, rt.alloc(), row));
     }
-    Ok(())
 }
+
+/// Two bridges with two endpoints of 256 GiB each, and a region of four ways.
+const LARGE: &str = "0x382, 0x382, \
+    0x1b02 0 0 0x4000000000 0, 0x1b02 0 1 0x4000000000 0, \
+    0x1b02 1 0 0x4000000000 0, 0x1b02 1 1 0x4000000000 0";
+
+const OVER_LARGE: &str = "0x1000000000 0x10000000000 0 0 0x000e 0 1";
+
+const OF_FOUR: &str =
+    "0 2 0 0x1000000000 0x10000000000 0x11 0x0100, 2 6 0 0x1000000000 0x10000000000 0x20 0";
+
+/// Three bridges with an endpoint of 256 MiB each.
+const THREE: &str = "0x382, 0x382, 0x382, \
+    0x1b02 0 0 0x10000000 0, 0x1b02 1 0 0x10000000 0, 0x1b02 2 0 0x10000000 0";
+
+/// One bridge with one endpoint.
+const ONE: &str = "0x382, 0x1b02 0 0 0x80000000 0";
+
+/// Two bridges with an endpoint each.
+const TWO: &str = "0x382, 0x382, 0x1b02 0 0 0x80000000 0, 0x1b02 1 0 0x80000000 0";
+
+/// Six bridges with an endpoint each, under a window with XOR arithmetic, and a region of six ways.
+const SIX: &str = "0x382, 0x382, 0x382, 0x382, 0x382, 0x382, \
+    0x1b02 0 0 0x80000000 0, 0x1b02 1 0 0x80000000 0, 0x1b02 2 0 0x80000000 0, \
+    0x1b02 3 0 0x80000000 0, 0x1b02 4 0 0x80000000 0, 0x1b02 5 0 0x80000000 0";
+
+const OVER_SIX: &str = "0x100000000 0x60000000 0 1 0x000e 0 1 2 3 4 5";
+
+const OF_SIX: &str = "0 6 0 0x100000000 0x60000000 0 0, 6 12 0 0x100000000 0x60000000 0x90 0";
+
+const ROWS: [Row; 8] = [
+    (
+        LARGE,
+        OVER_LARGE,
+        OF_FOUR,
+        0x10_0000_0080,
+        512,
+        "0x1000000080 128 0 0x80  0x1000000100 256 1 0  0x1000000200 128 2 0",
+        "128 256 128 0",
+    ),
+    (
+        LARGE,
+        OVER_LARGE,
+        OF_FOUR,
+        0x10_0000_0080,
+        0x700,
+        "0x1000000080 128 0 0x80   0x1000000100 256 1 0 \
+         0x1000000200 256 2 0      0x1000000300 256 3 0 \
+         0x1000000400 256 0 0x100  0x1000000500 256 1 0x100 \
+         0x1000000600 256 2 0x100  0x1000000700 128 3 0x100",
+        "384 512 512 384",
+    ),
+    // The whole region.
+    (
+        LARGE,
+        OVER_LARGE,
+        OF_FOUR,
+        0x10_0000_0000,
+        0x100_0000_0000,
+        "",
+        "274877906944 274877906944 274877906944 274877906944",
+    ),
+    (
+        THREE,
+        "0x100000000 0x30000000 0 0 0x000e 0 1 2",
+        "0 3 0 0x100000000 0x30000000 0 0, 3 6 0 0x100000000 0x30000000 0x80 0",
+        0x1_0000_017f,
+        0x281,
+        "0x10000017f 0x81 1 0x7f  0x100000200 0x100 2 0  0x100000300 0x100 0 0x100",
+        "0x100 0x81 0x100",
+    ),
+    // One way: the second of two regions, behind the first one's span.
+    (
+        ONE,
+        "0x100000000 0x80000000 0 0 0x000e 0",
+        "0 2 0 0x100000000 0x10000000 0 0, 0 2 1 0x110000000 0x10000000 0 0",
+        0x1_1000_00ff,
+        0x1000,
+        "0x1100000ff 0x1000 0 0x100000ff",
+        "0x1000",
+    ),
+    // By parities.
+    (
+        TWO,
+        "0x100000000 0x100000000 0 1 0x000e 0 1",
+        "0 2 0 0x100000000 0x20000000 0 0, 2 4 0 0x100000000 0x20000000 0x10 0",
+        0x1_0000_3fc0,
+        0x180,
+        "0x100003fc0 0x40 1 0x1fc0  0x100004000 0x100 1 0x2000  0x100004100 0x40 0 0x2000",
+        "0x40 0x140",
+    ),
+    (
+        SIX,
+        OVER_SIX,
+        OF_SIX,
+        0x1_0000_3f80,
+        0x200,
+        "0x100003f80 0x80 3 0xa80  0x100004000 0x100 5 0xa00  0x100004100 0x80 4 0xa00",
+        "0 0 0 0x80 0x80 0x100",
+    ),
+    (
+        SIX,
+        OVER_SIX,
+        OF_SIX,
+        0x1_0000_0001,
+        0x5fff_fffe,
+        "",
+        "0xfffffff 0x10000000 0x10000000 0x10000000 0x10000000 0xfffffff",
+    ),
+];

@@ -1,109 +1,141 @@
 use crate::real_tables::{IASL_XOR, QEMU_EIGHT};
-use crate::rows::{bytes, check};
+use crate::rows::{Row, answers, are_answered, bytes};
 use crate::tables::{CXL_1_1_BRIDGE, HEADER_OF_MANY, TWO_BRIDGES, TWO_BRIDGES_XOR};
-use std::test::Fail;
+use std::alloc::Global;
+use std::process::Abort;
 
-/// Addresses of the two-bridge table: its first chunk, its last byte, the byte behind it, and one that
-/// is written in decimal digits.
+const FIRST: &str = "route table 0x100000000";
+
+/// Addresses of tables, and faults of tables.
 #[test]
-fn two_bridges(rt: HostRuntime) -> Result<(), Fail> {
-    let rows = [
-        (
-            "route table 0x100000000",
-            0,
-            "window 0 position 0 bridge 0\n",
-        ),
-        (
-            "route table 0x1ffffffff",
-            0,
-            "window 0 position 1 bridge 1\n",
-        ),
-        ("route table 0x200000000", 8, "no window\n"),
-        (
-            "route table 4294967296",
-            0,
-            "window 0 position 0 bridge 0\n",
-        ),
-    ];
-    for (words, code, text) in rows {
-        let table = bytes(rt.alloc(), TWO_BRIDGES, &[])?;
-        check(&rt, words, table, code, text)?;
-    }
-    Ok(())
+fn routes(rt: HostRuntime) {
+    are_answered(&rt, &ROUTES);
 }
 
-/// Under XOR the chunk's lowest bit is 0 and the parity is 1.
-#[test]
-fn xor(rt: HostRuntime) -> Result<(), Fail> {
-    let table = bytes(rt.alloc(), TWO_BRIDGES_XOR, &[])?;
-    let text = "window 0 position 1 bridge 1\n";
-    check(&rt, "route table 0x100004000", table, 0, text)
-}
+const ROUTES: [Row; 17] = [
+    // The first chunk of the two-bridge table, its last byte, the byte behind it, and one that is written in
+    // decimal digits.
+    (FIRST, TWO_BRIDGES, "", 0, "window 0 position 0 bridge 0\n"),
+    (
+        "route table 0x1ffffffff",
+        TWO_BRIDGES,
+        "",
+        0,
+        "window 0 position 1 bridge 1\n",
+    ),
+    ("route table 0x200000000", TWO_BRIDGES, "", 8, "no window\n"),
+    (
+        "route table 4294967296",
+        TWO_BRIDGES,
+        "",
+        0,
+        "window 0 position 0 bridge 0\n",
+    ),
+    // Under XOR the chunk's lowest bit is 0 and the parity is 1.
+    (
+        "route table 0x100004000",
+        TWO_BRIDGES_XOR,
+        "",
+        0,
+        "window 0 position 1 bridge 1\n",
+    ),
+    // Tables that other programs made.
+    (
+        "route table 0x110004500",
+        QEMU_EIGHT,
+        "",
+        0,
+        "window 0 position 5 bridge 48\n",
+    ),
+    (
+        "route table 0x310004500",
+        QEMU_EIGHT,
+        "",
+        0,
+        "window 1 position 2 bridge 56\n",
+    ),
+    ("route table 0x350004500", QEMU_EIGHT, "", 8, "no window\n"),
+    (
+        "route table 0x280004500",
+        IASL_XOR,
+        "",
+        0,
+        "window 1 position 0 bridge 0\n",
+    ),
+    // Each fault of the two-bridge table, made by a few bytes: the second of them keeps the sum, which stands at
+    // byte 9.
+    (
+        FIRST,
+        TWO_BRIDGES,
+        "0 0x44 9 0xc9",
+        3,
+        "error: table signature\n",
+    ),
+    (
+        FIRST,
+        TWO_BRIDGES,
+        "4 0x91 9 0xc9",
+        3,
+        "error: table length\n",
+    ),
+    (FIRST, TWO_BRIDGES, "9 0xcb", 3, "error: table checksum\n"),
+    (
+        FIRST,
+        TWO_BRIDGES,
+        "102 0x2d 9 0xc9",
+        3,
+        "error: table record-cut 100\n",
+    ),
+    (
+        FIRST,
+        TWO_BRIDGES,
+        "38 0x1f 9 0xcb",
+        3,
+        "error: table record-length 36\n",
+    ),
+    (
+        FIRST,
+        TWO_BRIDGES,
+        "124 0x05 9 0xc6",
+        3,
+        "error: table ways-code 100\n",
+    ),
+    (
+        FIRST,
+        TWO_BRIDGES,
+        "128 0x07 9 0xc3",
+        3,
+        "error: table gran-code 100\n",
+    ),
+    (
+        FIRST,
+        TWO_BRIDGES,
+        "125 0x02 9 0xc8",
+        3,
+        "error: table arithmetic 100\n",
+    ),
+];
 
-/// Tables that other programs made.
-#[test]
-fn real_tables(rt: HostRuntime) -> Result<(), Fail> {
-    let rows = [
-        (
-            QEMU_EIGHT,
-            "route table 0x110004500",
-            0,
-            "window 0 position 5 bridge 48\n",
-        ),
-        (
-            QEMU_EIGHT,
-            "route table 0x310004500",
-            0,
-            "window 1 position 2 bridge 56\n",
-        ),
-        (QEMU_EIGHT, "route table 0x350004500", 8, "no window\n"),
-        (
-            IASL_XOR,
-            "route table 0x280004500",
-            0,
-            "window 1 position 0 bridge 0\n",
-        ),
-    ];
-    for (digits, words, code, text) in rows {
-        let table = bytes(rt.alloc(), digits, &[])?;
-        check(&rt, words, table, code, text)?;
+/// A table with so many equal records behind its header.
+pub(crate) fn repeated(
+    rt: &impl Abort,
+    alloc: Global,
+    header: &str,
+    record: &str,
+    count: u32,
+) -> Vec<u8> {
+    let mut table = bytes(rt, alloc, header);
+    let record = bytes(rt, alloc, record);
+    for _ in 0..count {
+        table.extend_from_slice(&record).expect(rt, "memory");
     }
-    Ok(())
-}
-
-/// Each fault of the two-bridge table, made by a few bytes: the second of them keeps the sum, which
-/// stands at byte 9.
-#[test]
-fn table_faults(rt: HostRuntime) -> Result<(), Fail> {
-    let rows = [
-        ((0, 0x44), (9, 0xc9), "error: table signature\n"),
-        ((4, 0x91), (9, 0xc9), "error: table length\n"),
-        ((9, 0xcb), (9, 0xcb), "error: table checksum\n"),
-        ((102, 0x2d), (9, 0xc9), "error: table record-cut 100\n"),
-        ((38, 0x1f), (9, 0xcb), "error: table record-length 36\n"),
-        ((124, 0x05), (9, 0xc6), "error: table ways-code 100\n"),
-        ((128, 0x07), (9, 0xc3), "error: table gran-code 100\n"),
-        ((125, 0x02), (9, 0xc8), "error: table arithmetic 100\n"),
-    ];
-    for (change, sum, text) in rows {
-        let table = bytes(rt.alloc(), TWO_BRIDGES, &[change, sum])?;
-        check(&rt, "route table 0x100000000", table, 3, text)?;
-    }
-    Ok(())
+    table
 }
 
 /// A table with 65 bridges.
 #[test]
-fn long_table(rt: HostRuntime) -> Result<(), Fail> {
-    let mut many = bytes(rt.alloc(), HEADER_OF_MANY, &[])?;
-    for _ in 0..65 {
-        many.extend_from_slice(bytes(rt.alloc(), CXL_1_1_BRIDGE, &[])?.as_slice())?;
-    }
-    check(
-        &rt,
-        "route table 0",
-        many,
-        3,
-        "error: table too-many 2084\n",
-    )
+fn long_table(rt: HostRuntime) {
+    let many = repeated(&rt, rt.alloc(), HEADER_OF_MANY, CXL_1_1_BRIDGE, 65);
+    let text = b"error: table too-many 2084\n";
+    assert!(rt; answers(&rt, rt.alloc(), "route table 0", many, 3, text));
 }

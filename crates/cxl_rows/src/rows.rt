@@ -1,94 +1,212 @@
-use cxl_io::{MemFetch, MemSink};
-use cxl_shell::{Status, run};
+use cxl_io::{MemFetch, MemSink, read_number};
+use cxl_shell::run;
 use std::alloc::Global;
+use std::fmt::Debug;
 use std::process::Abort;
-use std::test::Fail;
 
 /// How much a sink takes where a row says nothing of it.
 pub(crate) const ROOM: u32 = 1_048_576;
 
-/// A run's end: its status, and the text that the sink took.
-#[derive(Drop)]
-pub(crate) struct End {
-    pub(crate) status: Status,
-    pub(crate) text: Vec<u8>,
-}
+// ---- rows are plain texts and numbers
 
-/// The bytes that hexadecimal digits write, with some of them changed.
-pub(crate) fn bytes(alloc: Global, digits: &str, changes: &[(usize, u8)]) -> Result<Vec<u8>, Fail> {
-    let mut bytes = hex::decode(alloc, digits)?;
-    for (at, value) in changes {
-        match bytes.get_mut(*at) {
-            Some(byte) => *byte = *value,
-            None => return Err(Fail::new("a change past the end")),
+/// The numbers that a text writes, with spaces between them.
+pub(crate) fn numbers(rt: &impl Abort, alloc: Global, text: &str) -> Vec<u64> {
+    let mut numbers = Vec::new(alloc);
+    for word in text.split(' ') {
+        if !word.is_empty() {
+            let number = read_number(word.as_bytes()).expect(rt, "a number");
+            numbers.push(number).expect(rt, "memory");
         }
     }
-    Ok(bytes)
+    numbers
 }
 
-/// One file in memory, and the numbers of the fetches that fail.
-pub(crate) fn file(
+/// The number at a place, and 0 behind the last.
+pub(crate) fn at(numbers: &[u64], i: usize) -> u64 {
+    match numbers.get(i) {
+        Some(number) => *number,
+        None => 0,
+    }
+}
+
+/// The same as a word.
+pub(crate) fn word(numbers: &[u64], i: usize) -> u32 {
+    (at(numbers, i) % 0x1_0000_0000) as u32
+}
+
+/// The same as a byte.
+pub(crate) fn byte(numbers: &[u64], i: usize) -> u8 {
+    (at(numbers, i) % 256) as u8
+}
+
+/// Whether this is the value's debug text.
+pub(crate) fn shows(rt: &impl Abort, alloc: Global, value: &impl Debug, text: &str) -> bool {
+    let own = format!(in alloc; "{value:?}").expect(rt, "memory");
+    own.as_str() == text
+}
+
+// ---- files
+
+/// The bytes that words of hexadecimal digits write; a word such as `0x6c` is so many zero bytes.
+pub(crate) fn bytes(rt: &impl Abort, alloc: Global, text: &str) -> Vec<u8> {
+    let mut bytes = Vec::new(alloc);
+    for word in text.split(' ') {
+        put_bytes(rt, alloc, &mut bytes, word);
+    }
+    bytes
+}
+
+fn put_bytes(rt: &impl Abort, alloc: Global, bytes: &mut Vec<u8>, word: &str) {
+    match hex::decode(alloc, word) {
+        Ok(part) => bytes.extend_from_slice(&part).expect(rt, "memory"),
+        Err(_) => {
+            let zeros = read_number(word.as_bytes()).expect(rt, "digits");
+            let len = bytes.len().saturating_add(zeros as usize);
+            bytes.resize(len, 0).expect(rt, "memory");
+        }
+    }
+}
+
+/// The same with changes. Each two numbers are a byte place and the value there, which has so many bytes; where the
+/// count of the numbers is odd, the first is how many bytes the file is given before.
+pub(crate) fn changed(
+    rt: &impl Abort,
     alloc: Global,
+    text: &str,
+    changes: &str,
+    width: usize,
+) -> Vec<u8> {
+    let mut file = bytes(rt, alloc, text);
+    let changes = numbers(rt, alloc, changes);
+    change(rt, &mut file, &changes, width);
+    file
+}
+
+pub(crate) fn change(rt: &impl Abort, file: &mut Vec<u8>, changes: &[u64], width: usize) {
+    let odd = changes.len() % 2;
+    if odd == 1 {
+        file.resize(at(changes, 0) as usize, 0).expect(rt, "memory");
+    }
+    for i in 0..changes.len() / 2 {
+        let place = at(changes, odd + 2 * i) as usize;
+        put(rt, file, place, at(changes, odd + 2 * i + 1), width);
+    }
+}
+
+fn put(rt: &impl Abort, file: &mut [u8], place: usize, value: u64, width: usize) {
+    assert!(rt; width <= 8 && place <= file.len() && width <= file.len() - place);
+    file[place..place + width].copy_from_slice(&value.to_le_bytes()[..width]);
+}
+
+/// The files of a host in memory, and the number of the fetch that fails, or 0.
+pub(crate) fn files_of(
+    rt: &impl Abort,
+    alloc: Global,
+    table: Vec<u8>,
+    topology: &str,
+    image: Vec<u8>,
+    fail: u64,
+) -> MemFetch {
+    let mut files = Vec::new(alloc);
+    put_file(rt, alloc, &mut files, "table", table);
+    let topology = Vec::from_slice(alloc, topology.as_bytes()).expect(rt, "memory");
+    put_file(rt, alloc, &mut files, "topology", topology);
+    put_file(rt, alloc, &mut files, "image", image);
+    MemFetch::new(files, [fail].to_vec(alloc).expect(rt, "memory"))
+}
+
+fn put_file(
+    rt: &impl Abort,
+    alloc: Global,
+    files: &mut Vec<(String, Vec<u8>)>,
     name: &str,
     bytes: Vec<u8>,
-    fails: &[u64],
-) -> Result<MemFetch, Fail> {
-    let mut files = Vec::new(alloc);
-    files.push((String::from_str(alloc, name)?, bytes))?;
-    Ok(MemFetch::new(files, fails.to_vec(alloc)?))
+) {
+    let name = String::from_str(alloc, name).expect(rt, "memory");
+    files.push((name, bytes)).expect(rt, "memory");
 }
 
-/// Runs the words, which single spaces separate.
-pub(crate) fn run_words(
-    alloc: Global,
-    words: &str,
-    files: MemFetch,
-    sink: MemSink,
-) -> Result<End, Fail> {
-    let mut line = Vec::new(alloc);
-    for word in words.split(' ') {
-        line.push(String::from_str(alloc, word)?)?;
+/// The table alone.
+pub(crate) fn table_file(rt: &impl Abort, alloc: Global, table: Vec<u8>) -> MemFetch {
+    files_of(rt, alloc, table, "", Vec::new(alloc), 0)
+}
+
+// ---- runs
+
+/// A sink with room for so many bytes, and the number of the write that fails, or 0.
+pub(crate) fn sink_of(rt: &impl Abort, alloc: Global, room: u32, fail: u64) -> MemSink {
+    let fails = [fail].to_vec(alloc).expect(rt, "memory");
+    MemSink::new(alloc, room, fails).expect(rt, "memory")
+}
+
+/// The words, which single spaces separate.
+pub(crate) fn words_of(rt: &impl Abort, alloc: Global, line: &str) -> Vec<String> {
+    let mut words = Vec::new(alloc);
+    for word in line.split(' ') {
+        put_word(rt, alloc, &mut words, word);
     }
-    run_list(alloc, line.as_slice(), files, sink)
+    words
 }
 
-/// Runs the words.
-pub(crate) fn run_list(
+pub(crate) fn put_word(rt: &impl Abort, alloc: Global, words: &mut Vec<String>, word: &str) {
+    let word = String::from_str(alloc, word).expect(rt, "memory");
+    words.push(word).expect(rt, "memory");
+}
+
+/// Runs the words, and gives the exit status.
+pub(crate) fn code_of_run(
     alloc: Global,
     words: &[String],
-    mut files: MemFetch,
-    mut sink: MemSink,
-) -> Result<End, Fail> {
-    let status = run(alloc, words, &mut files, &mut sink);
-    Ok(End {
-        status,
-        text: Vec::from_slice(alloc, sink.bytes())?,
-    })
+    files: &mut MemFetch,
+    sink: &mut MemSink,
+) -> u8 {
+    run(alloc, words, files, sink).code()
 }
 
-/// Checks that the words end with this exit status and this text, over the file `table`.
-pub(crate) fn check(
-    rt: &(impl Abort + AllocGlobal),
-    words: &str,
-    table: Vec<u8>,
+/// Whether the words end with this exit status and write these bytes.
+pub(crate) fn ends(
+    rt: &impl Abort,
+    alloc: Global,
+    words: &[String],
+    files: &mut MemFetch,
     code: u8,
-    text: &str,
-) -> Result<(), Fail> {
-    check_bytes(rt, words, table, code, text.as_bytes())
+    bytes: &[u8],
+) -> bool {
+    let mut sink = sink_of(rt, alloc, ROOM, 0);
+    code_of_run(alloc, words, files, &mut sink) == code && sink.bytes() == bytes
 }
 
-/// The same where they write these bytes.
-pub(crate) fn check_bytes(
-    rt: &(impl Abort + AllocGlobal),
-    words: &str,
+/// Whether the words of a line end so over a table.
+pub(crate) fn answers(
+    rt: &impl Abort,
+    alloc: Global,
+    line: &str,
     table: Vec<u8>,
     code: u8,
     bytes: &[u8],
-) -> Result<(), Fail> {
-    let alloc = rt.alloc();
-    let sink = MemSink::new(alloc, ROOM, Vec::new(alloc))?;
-    let end = run_words(alloc, words, file(alloc, "table", table, &[])?, sink)?;
-    assert_eq!(rt; end.status.code(), code, "status of {words}");
-    assert_eq!(rt; end.text.as_slice(), bytes, "text of {words}");
-    Ok(())
+) -> bool {
+    let words = words_of(rt, alloc, line);
+    let mut files = table_file(rt, alloc, table);
+    ends(rt, alloc, &words, &mut files, code, bytes)
+}
+
+/// A line, the digits of a table and changes of its bytes, the exit status and the text.
+pub(crate) type Row = (&'static str, &'static str, &'static str, u8, &'static str);
+
+fn is_answered(rt: &impl Abort, alloc: Global, row: &Row) -> bool {
+    let (line, table, changes, code, text) = *row;
+    let table = changed(rt, alloc, table, changes, 1);
+    answers(rt, alloc, line, table, code, text.as_bytes())
+}
+
+/// Checks that the row at this place is right.
+pub(crate) fn has_passed(rt: &impl Abort, place: usize, right: bool) {
+    assert!(rt; right, "row {place}");
+}
+
+/// Checks each row.
+pub(crate) fn are_answered(rt: &(impl Abort + AllocGlobal), rows: &[Row]) {
+    for (i, row) in rows.iter().enumerate() {
+        has_passed(rt, i, is_answered(rt, rt.alloc(), row));
+    }
 }

@@ -1,85 +1,62 @@
 //! Where addresses lead in worked hosts: by their registers, by kept routes, and back.
 
-ghost use Rattle.std.specs.Prelude.{◌+◌, ◌<◌, ◌≤◌};
+ghost use Rattle.std.specs.Prelude.{◌+◌, ◌<◌, ◌≤◌, All};
 ghost use Rattle.cxl_window.specs.Windows.{AreMadeWith};
 ghost use Rattle.cxl_image.specs.Images.{HasCapsOf};
 ghost use Rattle.cxl_model.specs.System.{system_of, bridge_uids};
 ghost use Rattle.cxl_model.specs.Regions.{IsRegion};
 
-use crate::hosts::{
-    BASE, BRIDGE, Bridged, GIB, Range, Spot, UNIT, Worked, device, host_under, over, server,
-    spots_of, switch,
-};
-use cxl_check::{Breach, CheckFault, check};
-use cxl_model::{Found, Miss, Step};
+use crate::breaches::breaks;
+use crate::hosts::{Worked, host_of};
+use crate::rows::{at, byte, has_passed, numbers, shows, word};
+use cxl_check::check;
+use cxl_model::{Found, Step};
 use cxl_walk::{Host, Kept, Route, down, up};
 use std::alloc::Global;
 use std::process::Abort;
-use std::test::Fail;
 
-/// A host, the decoders that are committed in it, an address, and where that goes.
-#[derive(Clone, Copy)]
-struct Case<'a> {
-    host: Bridged,
-    ranges: &'a [Range],
-    h: u64,
-    want: Result<Route, Miss>,
-}
-
-const fn step_at(node: u32, decoder: u8, entry: u8) -> Step {
-    Step {
-        node,
-        decoder,
-        entry,
-    }
-}
-
-const NO_STEP: Step = Step {
-    node: 0,
-    decoder: 0,
-    entry: 0,
-};
-
-/// A route with one step, by the same decoder of the port and of the endpoint.
-fn through(position: u32, base: u64, step: Step, endpoint: u32, dpa: u64) -> Route {
+/// The route that is written as its position, base, endpoint, decoder and device address, and the node, decoder and
+/// entry of each step; by window 0.
+fn route_of(numbers: &[u64]) -> Route {
+    let steps = [
+        step_of(numbers, 5),
+        step_of(numbers, 8),
+        step_of(numbers, 11),
+        step_of(numbers, 14),
+        step_of(numbers, 17),
+    ];
     Route {
         window: 0,
-        position,
-        base,
-        len: 1,
-        steps: [step, NO_STEP, NO_STEP, NO_STEP, NO_STEP],
-        endpoint,
-        decoder: step.decoder,
-        dpa,
+        position: word(numbers, 0),
+        base: at(numbers, 1),
+        len: steps_of(numbers),
+        steps,
+        endpoint: word(numbers, 2),
+        decoder: byte(numbers, 3),
+        dpa: at(numbers, 4),
     }
 }
 
-/// The host address that comes back from the byte to which a case goes.
-fn back(case: &Case) -> Option<Host> {
-    case.want.ok().map(|route| Host {
-        base: route.base,
-        h: case.h,
-    })
+fn step_of(numbers: &[u64], i: u8) -> Step {
+    let i = usize::from(i);
+    Step {
+        node: word(numbers, i),
+        decoder: byte(numbers, i + 1),
+        entry: byte(numbers, i + 2),
+    }
 }
 
-/// What is told of an address: where it goes by the registers and by kept routes, and which address comes back
-/// from there.
-#[derive(Clone, Copy, Debug, PartialEq, Eq)]
-struct Told {
-    way: Result<Route, Miss>,
-    kept: Option<Route>,
-    back: Option<Host>,
-}
-
-fn led(rt: &impl Abort, alloc: Global, spots: &[Spot], case: &Case) -> Result<Told, Fail> {
-    let host = host_under(rt, alloc, spots, &case.host, case.ranges)?;
-    let way = down(&host.image, &host.topo, &host.windows, case.h);
-    let back = match way {
-        Ok(route) => up_from(&host, route.endpoint, route.dpa),
-        Err(_) => None,
-    };
-    let kept = kept_route(alloc, &host, case.h)?;
-    Ok(Told { way, kept, back })
+/// How many steps are written, none past five.
+fn steps_of(numbers: &[u64]) -> u8
+    ensures { result ≤ 5 }
+{
+    if numbers.len() >= 20 {
+        5
+    } else if numbers.len() >= 8 {
+        1
+    } else {
+        0
+    }
 }
 
 /// The address that leads to the byte, where the node is an endpoint.
@@ -95,25 +72,32 @@ fn up_from(host: &Worked, node: u32, dpa: u64) -> Option<Host>
 }
 
 /// The route that is kept for the address, where the image is accepted and a region holds it.
-fn kept_route(alloc: Global, host: &Worked, h: u64) -> Result<Option<Route>, Fail>
+fn kept_route(alloc: Global, host: &Worked, h: u64) -> Option<Route>
     requires caps { HasCapsOf host.now.image host.now.topo.nodes }
     requires made { AreMadeWith host.now.windows.items (bridge_uids host.now.topo.nodes) }
 {
-    let regions = match check(alloc, &host.image, &host.topo, &host.windows) {
-        Ok(regions) => regions,
-        Err(CheckFault::Breach(_)) => return Ok(None),
-        Err(CheckFault::Memory) => return Err(Fail::from("out of memory")),
-    };
-    for region in &regions {
+    match check(alloc, &host.image, &host.topo, &host.windows) {
+        Ok(regions) => kept_in(alloc, host, &regions, h),
+        Err(_) => None,
+    }
+}
+
+/// The route that is kept for the address in the one of these regions that holds it.
+fn kept_in(alloc: Global, host: &Worked, regions: &[Found], h: u64) -> Option<Route>
+    requires caps { HasCapsOf host.now.image host.now.topo.nodes }
+    requires made { AreMadeWith host.now.windows.items (bridge_uids host.now.topo.nodes) }
+    requires regions { All (IsRegion (system_of host.now.image host.now.topo host.now.windows.items)) regions.now }
+{
+    for region in regions {
         if region.base <= h && h - region.base < region.size {
-            return Ok(Some(route_in(alloc, host, region, h)?));
+            return route_in(alloc, host, region, h);
         }
     }
-    Ok(None)
+    None
 }
 
 /// The route that is kept for an address of a region.
-fn route_in(alloc: Global, host: &Worked, region: &Found, h: u64) -> Result<Route, Fail>
+fn route_in(alloc: Global, host: &Worked, region: &Found, h: u64) -> Option<Route>
     requires caps { HasCapsOf host.now.image host.now.topo.nodes }
     requires made { AreMadeWith host.now.windows.items (bridge_uids host.now.topo.nodes) }
     requires region { IsRegion (system_of host.now.image host.now.topo host.now.windows.items) region.now }
@@ -122,296 +106,269 @@ fn route_in(alloc: Global, host: &Worked, region: &Found, h: u64) -> Result<Rout
 {
     let _nodes = host.topo.count();
     let _blocks = host.image.count();
-    let kept = Kept::new(alloc, &host.image, &host.topo, &host.windows, region)?;
-    Ok(kept.route(h))
+    let kept = Kept::new(alloc, &host.image, &host.topo, &host.windows, region).ok()?;
+    Some(kept.route(h))
 }
 
-fn tells(rt: &impl Abort, alloc: Global, spots: &[Spot], case: &Case) -> Result<(), Fail> {
-    assert_eq!(rt;
-        led(rt, alloc, spots, case)?,
-        Told {
-            way: case.want,
-            kept: case.want.ok(),
-            back: back(case),
-        },
-        "at {}",
-        case.h
-    );
-    Ok(())
+/// Whether an address goes by this route, by the registers and by kept routes, and comes back from its end.
+fn goes(alloc: Global, host: &Worked, h: u64, route: Route) -> bool
+    requires caps { HasCapsOf host.now.image host.now.topo.nodes }
+    requires made { AreMadeWith host.now.windows.items (bridge_uids host.now.topo.nodes) }
+{
+    down(&host.image, &host.topo, &host.windows, h) == Ok(route)
+        && kept_route(alloc, host, h) == Some(route)
+        && comes_back(host, route.endpoint, route.dpa, route.base, h)
+}
+
+/// Whether the address comes back from a byte of an endpoint's device.
+fn comes_back(host: &Worked, node: u32, dpa: u64, base: u64, h: u64) -> bool
+    requires caps { HasCapsOf host.now.image host.now.topo.nodes }
+    requires made { AreMadeWith host.now.windows.items (bridge_uids host.now.topo.nodes) }
+{
+    up_from(host, node, dpa) == Some(Host { base, h })
+}
+
+/// A host's nodes, windows and decoders that are committed, an address, and where it goes: a route, or the miss.
+type Row = (&'static str, &'static str, &'static str, u64, &'static str);
+
+fn is_routed(rt: &impl Abort, alloc: Global, row: &Row) -> bool {
+    let (nodes, windows, ranges, h, want) = *row;
+    let host = host_of(rt, alloc, nodes, windows, ranges);
+    goes(alloc, &host, h, route_of(&numbers(rt, alloc, want)))
 }
 
 #[test]
-fn routes(rt: HostRuntime) -> Result<(), Fail> {
-    let two = server(2, 1, 2 * GIB, 0x1_0000_0000);
-    let large = Bridged {
-        base: 0x10_0000_0000,
-        ..server(2, 2, 0x40_0000_0000, 0x100_0000_0000)
-    };
-    let of_three = [
-        over(0, 3, BASE, 0x6000_0000, 0x10, 0x0100),
-        over(3, 9, BASE, 0x6000_0000, 0x90, 0),
-    ];
-    let second = over(0, 1, BASE + UNIT, UNIT, 0, 0);
-    let stepless = Route {
-        window: 0,
-        position: 1,
-        base: BASE,
-        len: 0,
-        steps: [NO_STEP; 5],
-        endpoint: 3,
-        decoder: 0,
-        dpa: 0,
-    };
-    let cases = [
-        // Two ways.
-        Case {
-            host: two,
-            ranges: &[
-                over(0, 2, BASE, 0x2000_0000, 0, 0),
-                over(2, 4, BASE, 0x2000_0000, 0x10, 0),
-            ],
-            h: 0x1_0000_0100,
-            want: Ok(through(1, BASE, step_at(1, 0, 0), 3, 0)),
-        },
-        // Three ways.
-        Case {
-            host: server(3, 1, UNIT, 0x3000_0000),
-            ranges: &[
-                over(0, 3, BASE, 0x3000_0000, 0, 0),
-                over(3, 6, BASE, 0x3000_0000, 0x80, 0),
-            ],
-            h: 0x1_2fff_ffff,
-            want: Ok(through(2, BASE, step_at(2, 0, 0), 5, 0xfff_ffff)),
-        },
-        // Six ways from three, two below each bridge.
-        Case {
-            host: server(3, 2, 2 * GIB, 0x6000_0000),
-            ranges: &of_three,
-            h: 0x1_0000_0400,
-            want: Ok(through(1, BASE, step_at(1, 0, 0), 5, 0)),
-        },
-        Case {
-            host: server(3, 2, 2 * GIB, 0x6000_0000),
-            ranges: &of_three,
-            h: 0x1_0000_0600,
-            want: Ok(through(0, BASE, step_at(0, 0, 0), 3, 0x100)),
-        },
-        // Twelve ways from six.
-        Case {
-            host: server(6, 2, 2 * GIB, 0xc000_0000),
-            ranges: &[
-                over(0, 6, BASE, 0xc000_0000, 0x11, 0x0100),
-                over(6, 18, BASE, 0xc000_0000, 0xa0, 0),
-            ],
-            h: 0x1_0000_0b00,
-            want: Ok(through(5, BASE, step_at(5, 0, 1), 17, 0)),
-        },
-        // Two and six ways under XOR.
-        Case {
-            host: Bridged { xor: true, ..two },
-            ranges: &[
-                over(0, 2, BASE, 0x2000_0000, 0, 0),
-                over(2, 4, BASE, 0x2000_0000, 0x10, 0),
-            ],
-            h: 0x1_0000_4000,
-            want: Ok(through(1, BASE, step_at(1, 0, 0), 3, 0x2000)),
-        },
-        Case {
-            host: Bridged {
-                xor: true,
-                ..server(6, 1, 2 * GIB, 0x6000_0000)
-            },
-            ranges: &[
-                over(0, 6, BASE, 0x6000_0000, 0, 0),
-                over(6, 12, BASE, 0x6000_0000, 0x90, 0),
-            ],
-            h: 0x1_0000_4200,
-            want: Ok(through(1, BASE, step_at(1, 0, 0), 7, 0xb00)),
-        },
-        // The last byte of 1 TiB.
-        Case {
-            host: large,
-            ranges: &[
-                over(0, 2, 0x10_0000_0000, 0x100_0000_0000, 0x11, 0x0100),
-                over(2, 6, 0x10_0000_0000, 0x100_0000_0000, 0x20, 0),
-            ],
-            h: 0x10f_ffff_ffff,
-            want: Ok(through(1, 0x10_0000_0000, step_at(1, 0, 1), 5, 0x3f_ffff_ffff)),
-        },
-        // The second decoders, over a skip into persistent memory.
-        Case {
-            host: Bridged {
-                capacity: (GIB, GIB),
-                ..server(1, 1, GIB, 0x1_0000_0000)
-            },
-            ranges: &[
-                over(0, 2, BASE, UNIT, 0, 0),
-                Range {
-                    decoder: 1,
-                    ..second
-                },
-                Range {
-                    first: 1,
-                    end: 2,
-                    decoder: 1,
-                    tail: 0x3000_0000,
-                    ..second
-                },
-            ],
-            h: 0x1_1000_0000,
-            want: Ok(through(0, 0x1_1000_0000, step_at(0, 1, 0), 1, 0x4000_0000)),
-        },
-        // Bridges that forward make no step.
-        Case {
-            host: Bridged {
-                forwards: true,
-                ..two
-            },
-            ranges: &[over(2, 4, BASE, 0x2000_0000, 0x10, 0)],
-            h: 0x1_0000_0100,
-            want: Ok(stepless),
-        },
-    ];
-    for case in &cases {
-        let spots = spots_of(rt.alloc(), &case.host)?;
-        tells(&rt, rt.alloc(), &spots, case)?;
+fn routes(rt: HostRuntime) {
+    for (i, row) in ROUTES.iter().enumerate() {
+        has_passed(&rt, i, is_routed(&rt, rt.alloc(), row));
     }
-    Ok(())
 }
+
+/// Two bridges with an endpoint each, and a region of two ways.
+const TWO: &str = "0x382, 0x382, 0x1b02 0 0 0x80000000 0, 0x1b02 1 0 0x80000000 0";
+
+const OVER_TWO: &str = "0x100000000 0x100000000 0 0 0x000e 0 1";
+
+const OF_TWO: &str = "0 2 0 0x100000000 0x20000000 0 0, 2 4 0 0x100000000 0x20000000 0x10 0";
+
+/// Three bridges with one endpoint, and with two.
+const THREE: &str = "0x382, 0x382, 0x382, \
+    0x1b02 0 0 0x10000000 0, 0x1b02 1 0 0x10000000 0, 0x1b02 2 0 0x10000000 0";
+
+const THREE_BY_TWO: &str = "0x382, 0x382, 0x382, \
+    0x1b02 0 0 0x80000000 0, 0x1b02 0 1 0x80000000 0, \
+    0x1b02 1 0 0x80000000 0, 0x1b02 1 1 0x80000000 0, \
+    0x1b02 2 0 0x80000000 0, 0x1b02 2 1 0x80000000 0";
+
+const OVER_THREE_BY_TWO: &str = "0x100000000 0x60000000 0 0 0x000e 0 1 2";
+
+/// Six ways from three, two below each bridge.
+const OF_THREE_BY_TWO: &str =
+    "0 3 0 0x100000000 0x60000000 0x10 0x0100, 3 9 0 0x100000000 0x60000000 0x90 0";
+
+/// Six bridges with two endpoints, and with one.
+const SIX_BY_TWO: &str = "0x382, 0x382, 0x382, 0x382, 0x382, 0x382, \
+    0x1b02 0 0 0x80000000 0, 0x1b02 0 1 0x80000000 0, \
+    0x1b02 1 0 0x80000000 0, 0x1b02 1 1 0x80000000 0, \
+    0x1b02 2 0 0x80000000 0, 0x1b02 2 1 0x80000000 0, \
+    0x1b02 3 0 0x80000000 0, 0x1b02 3 1 0x80000000 0, \
+    0x1b02 4 0 0x80000000 0, 0x1b02 4 1 0x80000000 0, \
+    0x1b02 5 0 0x80000000 0, 0x1b02 5 1 0x80000000 0";
+
+const SIX: &str = "0x382, 0x382, 0x382, 0x382, 0x382, 0x382, \
+    0x1b02 0 0 0x80000000 0, 0x1b02 1 0 0x80000000 0, 0x1b02 2 0 0x80000000 0, \
+    0x1b02 3 0 0x80000000 0, 0x1b02 4 0 0x80000000 0, 0x1b02 5 0 0x80000000 0";
+
+/// Two bridges with two endpoints of 256 GiB each.
+const LARGE: &str = "0x382, 0x382, \
+    0x1b02 0 0 0x4000000000 0, 0x1b02 0 1 0x4000000000 0, \
+    0x1b02 1 0 0x4000000000 0, 0x1b02 1 1 0x4000000000 0";
+
+/// One bridge with an endpoint of 1 GiB of each kind.
+const BOTH_KINDS: &str = "0x382, 0x1b02 0 0 0x40000000 0x40000000";
+
+const OVER_ONE: &str = "0x100000000 0x100000000 0 0 0x000e 0";
+
+/// Bridges that forward.
+const FORWARDING: &str = "0x10, 0x10, 0x1b02 0 0 0x80000000 0, 0x1b02 1 0 0x80000000 0";
 
 /// A bridge, four levels of switches with two ports each, and sixteen endpoints.
-fn five_levels(alloc: Global) -> Result<Vec<Spot>, Fail> {
-    let mut spots = vec![in alloc; BRIDGE, switch(0, 0)]?;
-    for i in 0..14_u8 {
-        spots.push(switch(1 + u32::from(i / 2), i % 2))?;
-    }
-    for i in 0..16_u8 {
-        spots.push(device(8 + u32::from(i / 2), i % 2, UNIT, 0))?;
-    }
-    Ok(spots)
+const FIVE_LEVELS: &str = "0x382, 0x382 0 0, \
+    0x382 1 0, 0x382 1 1, 0x382 2 0, 0x382 2 1, 0x382 3 0, 0x382 3 1, 0x382 4 0, 0x382 4 1, \
+    0x382 5 0, 0x382 5 1, 0x382 6 0, 0x382 6 1, 0x382 7 0, 0x382 7 1, \
+    0x1b02 8 0 0x10000000 0, 0x1b02 8 1 0x10000000 0, \
+    0x1b02 9 0 0x10000000 0, 0x1b02 9 1 0x10000000 0, \
+    0x1b02 10 0 0x10000000 0, 0x1b02 10 1 0x10000000 0, \
+    0x1b02 11 0 0x10000000 0, 0x1b02 11 1 0x10000000 0, \
+    0x1b02 12 0 0x10000000 0, 0x1b02 12 1 0x10000000 0, \
+    0x1b02 13 0 0x10000000 0, 0x1b02 13 1 0x10000000 0, \
+    0x1b02 14 0 0x10000000 0, 0x1b02 14 1 0x10000000 0, \
+    0x1b02 15 0 0x10000000 0, 0x1b02 15 1 0x10000000 0";
+
+const OF_FIVE_LEVELS: &str = "0 1 0 0x100000000 0x100000000 0 0, \
+    1 2 0 0x100000000 0x100000000 0x10 0x0100, 2 4 0 0x100000000 0x100000000 0x11 0x0100, \
+    4 8 0 0x100000000 0x100000000 0x12 0x0100, 8 16 0 0x100000000 0x100000000 0x13 0x0100, \
+    16 32 0 0x100000000 0x100000000 0x40 0";
+
+const ROUTES: [Row; 11] = [
+    // Two ways.
+    (
+        TWO,
+        OVER_TWO,
+        OF_TWO,
+        0x1_0000_0100,
+        "1 0x100000000 3 0 0  1 0 0",
+    ),
+    // Three ways.
+    (
+        THREE,
+        "0x100000000 0x30000000 0 0 0x000e 0 1 2",
+        "0 3 0 0x100000000 0x30000000 0 0, 3 6 0 0x100000000 0x30000000 0x80 0",
+        0x1_2fff_ffff,
+        "2 0x100000000 5 0 0xfffffff  2 0 0",
+    ),
+    (
+        THREE_BY_TWO,
+        OVER_THREE_BY_TWO,
+        OF_THREE_BY_TWO,
+        0x1_0000_0400,
+        "1 0x100000000 5 0 0  1 0 0",
+    ),
+    (
+        THREE_BY_TWO,
+        OVER_THREE_BY_TWO,
+        OF_THREE_BY_TWO,
+        0x1_0000_0600,
+        "0 0x100000000 3 0 0x100  0 0 0",
+    ),
+    // Twelve ways from six.
+    (
+        SIX_BY_TWO,
+        "0x100000000 0xc0000000 0 0 0x000e 0 1 2 3 4 5",
+        "0 6 0 0x100000000 0xc0000000 0x11 0x0100, 6 18 0 0x100000000 0xc0000000 0xa0 0",
+        0x1_0000_0b00,
+        "5 0x100000000 17 0 0  5 0 1",
+    ),
+    // Two and six ways under XOR.
+    (
+        TWO,
+        "0x100000000 0x100000000 0 1 0x000e 0 1",
+        OF_TWO,
+        0x1_0000_4000,
+        "1 0x100000000 3 0 0x2000  1 0 0",
+    ),
+    (
+        SIX,
+        "0x100000000 0x60000000 0 1 0x000e 0 1 2 3 4 5",
+        "0 6 0 0x100000000 0x60000000 0 0, 6 12 0 0x100000000 0x60000000 0x90 0",
+        0x1_0000_4200,
+        "1 0x100000000 7 0 0xb00  1 0 0",
+    ),
+    // The last byte of 1 TiB.
+    (
+        LARGE,
+        "0x1000000000 0x10000000000 0 0 0x000e 0 1",
+        "0 2 0 0x1000000000 0x10000000000 0x11 0x0100, 2 6 0 0x1000000000 0x10000000000 0x20 0",
+        0x10f_ffff_ffff,
+        "1 0x1000000000 5 0 0x3fffffffff  1 0 1",
+    ),
+    // The second decoders, over a skip into persistent memory.
+    (
+        BOTH_KINDS,
+        OVER_ONE,
+        "0 2 0 0x100000000 0x10000000 0 0, 0 1 1 0x110000000 0x10000000 0 0, \
+         1 2 1 0x110000000 0x10000000 0 0x30000000",
+        0x1_1000_0000,
+        "0 0x110000000 1 1 0x40000000  0 1 0",
+    ),
+    // Bridges that forward make no step.
+    (
+        FORWARDING,
+        OVER_TWO,
+        "2 4 0 0x100000000 0x20000000 0x10 0",
+        0x1_0000_0100,
+        "1 0x100000000 3 0 0",
+    ),
+    // Five steps.
+    (
+        FIVE_LEVELS,
+        OVER_ONE,
+        OF_FIVE_LEVELS,
+        0x1_0000_0b00,
+        "0 0x100000000 29 0 0  0 0 0  1 0 1  3 0 1  7 0 0  14 0 1",
+    ),
+];
+
+fn is_missed(rt: &impl Abort, alloc: Global, row: &Row) -> bool {
+    let (nodes, windows, ranges, h, want) = *row;
+    let host = host_of(rt, alloc, nodes, windows, ranges);
+    let way = down(&host.image, &host.topo, &host.windows, h);
+    shows(rt, alloc, &way, want) && kept_route(alloc, &host, h).is_none()
 }
 
 #[test]
-fn a_route_of_five_steps(rt: HostRuntime) -> Result<(), Fail> {
-    let size = 0x1_0000_0000;
-    let want = Route {
-        window: 0,
-        position: 0,
-        base: BASE,
-        len: 5,
-        steps: [
-            step_at(0, 0, 0),
-            step_at(1, 0, 1),
-            step_at(3, 0, 1),
-            step_at(7, 0, 0),
-            step_at(14, 0, 1),
-        ],
-        endpoint: 29,
-        decoder: 0,
-        dpa: 0,
-    };
-    let case = Case {
-        host: server(1, 1, UNIT, size),
-        ranges: &[
-            over(0, 1, BASE, size, 0, 0),
-            over(1, 2, BASE, size, 0x10, 0x0100),
-            over(2, 4, BASE, size, 0x11, 0x0100),
-            over(4, 8, BASE, size, 0x12, 0x0100),
-            over(8, 16, BASE, size, 0x13, 0x0100),
-            over(16, 32, BASE, size, 0x40, 0),
-        ],
-        h: 0x1_0000_0b00,
-        want: Ok(want),
-    };
-    let spots = five_levels(rt.alloc())?;
-    tells(&rt, rt.alloc(), &spots, &case)
+fn misses(rt: HostRuntime) {
+    for (i, row) in MISSES.iter().enumerate() {
+        has_passed(&rt, i, is_missed(&rt, rt.alloc(), row));
+    }
 }
 
-#[test]
-fn misses(rt: HostRuntime) -> Result<(), Fail> {
-    let two = server(2, 1, 2 * GIB, 0x1_0000_0000);
-    let forwarding = Bridged {
-        under_each: 0,
-        forwards: true,
-        ..two
-    };
-    let missed = |host, ranges, h, miss| Case {
-        host,
-        ranges,
-        h,
-        want: Err(miss),
-    };
-    let bridges = over(0, 2, BASE, 0x2000_0000, 0, 0);
-    let plain = [bridges];
-    let listing = [Range { tail: 7, ..bridges }];
-    let failing = [Range { size: 0, ..bridges }];
-    let cases = [
-        missed(two, &[], 0x2_0000_0000, Miss::NoWindow),
-        missed(two, &[], 0x1_0000_0100, Miss::NoDecoder(1)),
-        missed(two, &plain, BASE, Miss::NoDecoder(2)),
-        missed(two, &plain, BASE + 0x2000_0000, Miss::NoDecoder(0)),
-        missed(two, &listing, BASE, Miss::NoChild(0)),
-        missed(forwarding, &[], 0x1_0000_0100, Miss::NoChild(1)),
-        missed(two, &failing, BASE, Miss::BadBlock(0)),
-    ];
-    for case in &cases {
-        let spots = spots_of(rt.alloc(), &case.host)?;
-        tells(&rt, rt.alloc(), &spots, case)?;
-    }
-    Ok(())
-}
+const BRIDGES: &str = "0 2 0 0x100000000 0x20000000 0 0";
+
+const MISSES: [Row; 7] = [
+    (TWO, OVER_TWO, "", 0x2_0000_0000, "Err(NoWindow)"),
+    (TWO, OVER_TWO, "", 0x1_0000_0100, "Err(NoDecoder(1))"),
+    (TWO, OVER_TWO, BRIDGES, 0x1_0000_0000, "Err(NoDecoder(2))"),
+    (TWO, OVER_TWO, BRIDGES, 0x1_2000_0000, "Err(NoDecoder(0))"),
+    (
+        TWO,
+        OVER_TWO,
+        "0 2 0 0x100000000 0x20000000 0 7",
+        0x1_0000_0000,
+        "Err(NoChild(0))",
+    ),
+    // Bridges that forward, with nothing below.
+    ("0x10, 0x10", OVER_TWO, "", 0x1_0000_0100, "Err(NoChild(1))"),
+    (
+        TWO,
+        OVER_TWO,
+        "0 2 0 0x100000000 0 0 0",
+        0x1_0000_0000,
+        "Err(BadBlock(0))",
+    ),
+];
 
 /// Bytes of an endpoint's device, and the host address that comes back from each.
 #[test]
-fn ways_back(rt: HostRuntime) -> Result<(), Fail> {
-    let two = server(2, 1, 2 * GIB, 0x1_0000_0000);
-    let of_two = [
-        over(0, 2, BASE, 0x2000_0000, 0, 0),
-        over(2, 4, BASE, 0x2000_0000, 0x10, 0),
-    ];
-    let rows = [
-        (of_two.as_slice(), 3, 0, Some(0x1_0000_0100)),
-        (of_two.as_slice(), 3, 0xfff_ffff, Some(0x1_1fff_ffff)),
-        (of_two.as_slice(), 3, 0x1000_0000, None),
-        (&[], 3, 0, None),
-    ];
-    for (ranges, node, dpa, h) in &rows {
-        let spots = spots_of(rt.alloc(), &two)?;
-        let host = host_under(&rt, rt.alloc(), &spots, &two, ranges)?;
-        let want = h.map(|h| Host { base: BASE, h });
-        assert_eq!(rt; up_from(&host, *node, *dpa), want, "from {dpa}");
-    }
-    Ok(())
+fn ways_back(rt: HostRuntime) {
+    let host = host_of(&rt, rt.alloc(), TWO, OVER_TWO, OF_TWO);
+    assert!(rt; comes_back(&host, 3, 0, 0x1_0000_0000, 0x1_0000_0100));
+    assert!(rt; comes_back(&host, 3, 0xfff_ffff, 0x1_0000_0000, 0x1_1fff_ffff));
+    assert!(rt; up_from(&host, 3, 0x1000_0000).is_none());
+    let empty = host_of(&rt, rt.alloc(), TWO, OVER_TWO, "");
+    assert!(rt; up_from(&empty, 3, 0).is_none());
+}
+
+/// Whether both addresses lead to this byte, from which the lower one comes back.
+fn meet(host: &Worked, low: u64, high: u64, dpa: u64) -> bool
+    requires caps { HasCapsOf host.now.image host.now.topo.nodes }
+    requires made { AreMadeWith host.now.windows.items (bridge_uids host.now.topo.nodes) }
+{
+    let route = route_of(&[0, 0x1_0000_0000, 1, 0, dpa, 0, 0, 0]);
+    down(&host.image, &host.topo, &host.windows, low) == Ok(route)
+        && down(&host.image, &host.topo, &host.windows, high) == Ok(route)
+        && comes_back(host, 1, dpa, 0x1_0000_0000, low)
 }
 
 /// An endpoint of two ways below a bridge and a window of one: two addresses lead to each byte.
 #[test]
-fn the_least_of_two_that_meet(rt: HostRuntime) -> Result<(), Fail> {
-    let one = server(1, 1, GIB, 0x1_0000_0000);
-    let ranges = [
-        over(0, 1, BASE, 0x2000_0000, 0, 0),
-        over(1, 2, BASE, 0x2000_0000, 0x10, 0),
-    ];
-    let spots = spots_of(rt.alloc(), &one)?;
-    let host = host_under(&rt, rt.alloc(), &spots, &one, &ranges)?;
-    let breach = Breach {
-        rule: 12,
-        node: 1,
-        decoder: 0,
-    };
-    let fault = check(rt.alloc(), &host.image, &host.topo, &host.windows).err();
-    assert_eq!(rt; fault, Some(CheckFault::Breach(breach)));
-    for (low, high, dpa) in [(BASE, BASE + 0x100, 0), (BASE + 0x2ff, BASE + 0x3ff, 0x1ff)] {
-        let want = through(0, BASE, step_at(0, 0, 0), 1, dpa);
-        for h in [low, high] {
-            assert_eq!(rt;
-                down(&host.image, &host.topo, &host.windows, h),
-                Ok(want),
-                "at {h}"
-            );
-        }
-        let least = Host { base: BASE, h: low };
-        assert_eq!(rt; up_from(&host, 1, dpa), Some(least), "from {dpa}");
-    }
-    Ok(())
+fn the_least_of_two_that_meet(rt: HostRuntime) {
+    let host = host_of(&rt, rt.alloc(), ONE, OVER_ONE, OF_ONE);
+    assert!(rt; breaks(rt.alloc(), &host, &host.image, (12, 1, 0)));
+    assert!(rt; meet(&host, 0x1_0000_0000, 0x1_0000_0100, 0));
+    assert!(rt; meet(&host, 0x1_0000_02ff, 0x1_0000_03ff, 0x1ff));
 }
+
+const ONE: &str = "0x382, 0x1b02 0 0 0x40000000 0";
+
+const OF_ONE: &str = "0 1 0 0x100000000 0x20000000 0 0, 1 2 0 0x100000000 0x20000000 0x10 0";

@@ -8,10 +8,10 @@ pub pieces-requires : goal.pieces-requires
 pieces-requires c =
     let s : System = system_of c.args.image.now c.args.topo.now c.args.windows.now in
     let host : IsHost s = record { tree = c.count-nodes.ensures.tree; blocks = c.count-blocks.ensures.image.each; made = c.requires } in
-    let listed = c.in_ok-live.ensures.regions.listed in
-    let live : AreLive c.args.windows.now c.in_ok-live.live.items = record {
+    let listed = c.in-Ok.ensures.regions.listed in
+    let live : AreLive c.args.windows.now c.in-Ok.live.items = record {
       s = s;
-      system = c.hosts_with_caps_are_systems.ensures.system s host (λ n i. c.in_ok-live.ensures.accepted.each 1 n i);
+      system = c.hosts_with_caps_are_systems.ensures.system s host (λ n i. c.in-Ok.ensures.accepted.each 1 n i);
       windows_of = refl;
       each = listed.each;
       once = listed.once;

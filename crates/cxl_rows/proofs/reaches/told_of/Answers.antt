@@ -1,15 +1,11 @@
 use Rattle.std.proofs.Common.{List, All, sym, subst}
-use Rattle.std.proofs.lemmas.List.Elements.{All-get_or}
 use Rattle.cxl_window.specs.Fields.{WindowFields}
 use Rattle.cxl_model.specs.declared.found.Found.{Found}
-use Rattle.cxl_model.specs.System.{System, system_of}
+use Rattle.cxl_model.specs.System.{system_of}
 use Rattle.cxl_model.specs.Regions.{IsRegion}
 use Rattle.cxl_rows.proofs.reaches.told_of.Goals as goal
 
-pub told_in-requires-clause-region : goal.told_in-requires-clause-region
-told_in-requires-clause-region c =
-    let s : System = system_of c.args.host.now.image c.args.host.now.topo c.deref.result.now in
-    subst (λ (ws : List WindowFields). IsRegion (system_of c.args.host.now.image c.args.host.now.topo ws) c.region-item.result) c.deref.ensures.value
-    (subst (IsRegion s) (sym c.region-item.is)
-    (All-get_or (IsRegion s) c.deref-region-items.result.now c.loop-region.region-index c.region-item.result c.loop-region-test.true
-    (subst (λ (xs : List Found). All (IsRegion s) xs) (sym c.deref-region-items.ensures.value) c.in_ok-regions.ensures.regions.listed.each)))
+pub told_by-requires-clause-regions : goal.told_by-requires-clause-regions
+told_by-requires-clause-regions c =
+    subst (λ (ws : List WindowFields). All (IsRegion (system_of c.args.host.now.image c.args.host.now.topo ws)) c.deref-in-Ok.result.now) c.deref.ensures.value
+    (subst (λ (xs : List Found). All (IsRegion (system_of c.args.host.now.image c.args.host.now.topo c.deref.result.now)) xs) (sym c.deref-in-Ok.ensures.value) c.in-Ok.ensures.regions.listed.each)
