@@ -1,3 +1,4 @@
 pub mod Jobs
 pub mod Steps
 pub mod Releases
+pub mod WordsSent

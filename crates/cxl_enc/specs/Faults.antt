@@ -5,6 +5,10 @@ use Rattle.std.specs.Prelude.{ℕ, ◌+◌, ◌-◌, ◌^◌, ◌≤◌, min, Re
 abbrev pub Rose : ℕ → ℕ → Type 0
 Rose before now = min (before + 1) (2 ^ 64 - 1) ≤ now
 
+-- the count rose by so many at the least; one that has reached 2 ^ 64 - 1 stays there, and is taken as risen by any number
+abbrev pub RoseBy : ℕ → ℕ → ℕ → Type 0
+RoseBy n before now = min (before + n) (2 ^ 64 - 1) ≤ now
+
 -- a failure comes only where the count rose
 abbrev pub HasCause : {T E : Type 0} → Result T E → ℕ → ℕ → Type 0
 HasCause result before now = OnErr result (Rose before now)

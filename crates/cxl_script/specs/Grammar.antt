@@ -1,5 +1,5 @@
 -- What a line of a script asks for, or its first fault (this project's grammar).
-use Rattle.std.specs.Prelude.{ℕ, ◌≤◌, nat_lt, nat_eq, Bool, if◌then◌else◌, List, [], ◌∷◌, length, codes, Option, Some, None, IfSome, Result, Ok, Err}
+use Rattle.std.specs.Prelude.{ℕ, ◌<◌, ◌≤◌, nat_lt, nat_eq, Bool, if◌then◌else◌, List, [], ◌∷◌, length, All, codes, Option, Some, None, IfSome, Result, Ok, Err}
 use Rattle.std.specs.List.{starts_with}
 use Rattle.cxl_enc.specs.Codes.{gran_code_in_table}
 use Rattle.cxl_enc.specs.Limits.{address_limit}
@@ -222,3 +222,15 @@ abbrev pub StatesGranCodes : Command → Type 0
 StatesGranCodes (commands.Create create) = StatesGranCode create
 StatesGranCodes (commands.BeginCreate create) = StatesGranCode create
 StatesGranCodes command = Unit {0}
+
+-- ---- what every line keeps to
+
+-- the numbers of a command lie where a line can state them, and what it stores are bytes
+abbrev pub IsRanged : Command → Type 0
+IsRanged (commands.Create create) = StatesGranCode create
+IsRanged (commands.BeginCreate create) = StatesGranCode create
+IsRanged (commands.Load load) = (1 ≤ load.len) × (load.len ≤ access_limit)
+IsRanged (commands.Store store) = (1 ≤ length store.bytes) × (length store.bytes ≤ access_limit) × All (λ byte. byte < 256) store.bytes
+IsRanged (commands.Range reach) = (1 ≤ reach.len) × (reach.len ≤ range_limit)
+IsRanged (commands.Spread reach) = 1 ≤ reach.len
+IsRanged command = Unit {0}

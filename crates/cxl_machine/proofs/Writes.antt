@@ -1,0 +1,170 @@
+-- The writes of a job are those of its rows in the one order that they have.
+use Rattle.std.proofs.Common.{◌≡◌, ◌⊎◌, ℕ, zero, suc, ◌+◌, ◌-◌, ◌<◌, ◌≤◌, List, [], ◌∷◌, length, get_or, map, reverse, Option, Some, None, refl, sym, ap, ◌∙◌, subst, inl, inr, arith}
+use Rattle.std.specs.Prelude.{AllPairs, Contains, option_map, option_and_then}
+use Rattle.std.specs.List.{cons_option, filter_map, flat_map, range_with_len}
+use Rattle.std.proofs.lemmas.List.{get_or-reverse, length-reverse}
+use Rattle.std.proofs.lemmas.List.Elements.{Contains-get_or}
+use Rattle.std.proofs.lemmas.List.Sorted.{Contains-permutation, IsPermutation-sym, IsPermutation-reverse}
+use mathlib.Core.List.{reverse-reverse}
+use Rattle.std.proofs.lemmas.Option.{none-some, same_Some}
+use Rattle.cxl_regs.specs.declared.decoder.Decoder.{Decoder}
+use Rattle.cxl_model.specs.declared.plan.Row.{Row}
+use Rattle.cxl_model.specs.System.{System, decoder_at}
+use Rattle.cxl_regs.specs.declared.reading.Range.{Range}
+use Rattle.cxl_model.specs.Ranges.{index_for}
+use Rattle.cxl_model.specs.Regions.{region_range}
+use Rattle.cxl_apply.specs.declared.write.Write.{Write}
+use Rattle.cxl_apply.specs.Jobs.{AreCreateWrites, AreReleaseWrites, row_writes, release_write}
+use Rattle.cxl_apply.specs.Releases.{row_for, rows_of}
+use Rattle.cxl_machine.specs.Machine.{Live}
+use Rattle.cxl_machine.specs.Jobs.{create_writes, release_writes}
+
+-- ---- elements
+
+contains_cases : (row other : Row) (rows : List Row) → Contains (row ∷ rows) other → (row ≡ other) ⊎ Contains rows other
+contains_cases row other rows (zero, within, is) = inl is
+contains_cases row other rows (suc k, within, is) = inr (k, omega (arith, within), is)
+
+contains_head : (row : Row) (rows : List Row) → Contains (row ∷ rows) row
+contains_head row rows = (0, omega arith, refl)
+
+contains_tail : (row other : Row) (rows : List Row) → Contains rows other → Contains (row ∷ rows) other
+contains_tail row other rows (k, within, is) = (suc k, omega (arith, within), is)
+
+-- ---- rows that rise from a node on
+
+abbrev Rises : ℕ → List Row → Type 0
+Rises low [] = Unit {0}
+Rises low (row ∷ rows) = (low ≤ row.node) × Rises (row.node + 1) rows
+
+rises_from : (low : ℕ) (rows : List Row) → ((row : Row) → Contains rows row → low ≤ row.node) → AllPairs (λ (row next : Row). row.node < next.node) rows → Rises low rows
+rises_from low [] above pairs = tt
+rises_from low (row ∷ rows) above pairs = (
+  above row (contains_head row rows),
+  rises_from (row.node + 1) rows
+      (λ other there. let next : row.node < other.node = subst (λ (r : Row). row.node < r.node) there.2 (pairs 0 (suc there.0) other (omega arith) (omega (arith, there.1))) in omega arith)
+      (λ i j d before within. pairs (suc i) (suc j) d (omega (arith, before)) (omega (arith, within))),
+)
+
+above_low : (low : ℕ) (rows : List Row) → Rises low rows → (row : Row) → Contains rows row → low ≤ row.node
+above_low low [] rises row (k, within, is) = absurd (omega (arith, within))
+above_low low (first ∷ rows) rises row there =
+    elim (contains_cases first row rows there) [
+      | inl here ↦ subst (λ (r : Row). low ≤ r.node) here rises.0
+      | inr rest ↦
+          let above = above_low (first.node + 1) rows rises.1 row rest in
+          let own = rises.0 in
+          omega (arith, above, own)
+    ]
+
+-- lists of the same rows that rise are one
+same_rows : (low other : ℕ) (xs ys : List Row) → Rises low xs → Rises other ys → ((row : Row) → Contains xs row → Contains ys row) → ((row : Row) → Contains ys row → Contains xs row)
+    → xs ≡ ys
+same_rows low other [] [] left right there back = refl
+same_rows low other [] (y ∷ ys) left right there back = absurd (let none = back y (contains_head y ys) in omega (arith, none.1))
+same_rows low other (x ∷ xs) [] left right there back = absurd (let none = there x (contains_head x xs) in omega (arith, none.1))
+same_rows low other (x ∷ xs) (y ∷ ys) left right there back =
+    let heads : x ≡ y =
+    elim (contains_cases y x ys (there x (contains_head x xs))) [
+      | inl same ↦ sym same
+      | inr later ↦
+          elim (contains_cases x y xs (back y (contains_head y ys))) [
+            | inl same ↦ same
+            | inr behind ↦
+                let one = above_low (y.node + 1) ys right.1 x later in
+                let two = above_low (x.node + 1) xs left.1 y behind in
+                absurd (omega (arith, one, two))
+          ]
+    ] in
+    let tails : xs ≡ ys =
+    same_rows (x.node + 1) (y.node + 1) xs ys left.1 right.1
+    (λ row inside.
+    elim (contains_cases y row ys (there row (contains_tail x row xs inside))) [
+      | inr rest ↦ rest
+      | inl same ↦
+          let above = above_low (x.node + 1) xs left.1 row inside in
+          let node : x.node ≡ row.node = ap (λ (r : Row). r.node) (heads ∙ same) in
+          absurd (omega (arith, above, node))
+    ])
+    (λ row inside.
+    elim (contains_cases x row xs (back row (contains_tail y row ys inside))) [
+      | inr rest ↦ rest
+      | inl same ↦
+          let above = above_low (y.node + 1) ys right.1 row inside in
+          let node : y.node ≡ row.node = ap (λ (r : Row). r.node) (sym heads ∙ same) in
+          absurd (omega (arith, above, node))
+    ]) in
+    ap (λ (r : Row). r ∷ xs) heads ∙ ap (λ (rs : List Row). y ∷ rs) tails
+
+pub one_order : (xs ys : List Row) → AllPairs (λ (row next : Row). row.node < next.node) xs → AllPairs (λ (row next : Row). row.node < next.node) ys
+    → ((row : Row) → Contains xs row → Contains ys row) → ((row : Row) → Contains ys row → Contains xs row) → xs ≡ ys
+one_order xs ys left right there back =
+    same_rows 0 0 xs ys (rises_from 0 xs (λ row inside. omega arith) left) (rises_from 0 ys (λ row inside. omega arith) right) there back
+
+-- ---- the writes of a create
+
+back_up : (falling : List Row) → AllPairs (λ (row next : Row). next.node < row.node) falling → AllPairs (λ (row next : Row). row.node < next.node) (reverse falling)
+back_up falling falls i j d before within =
+    let long : length (reverse falling) ≡ length falling = length-reverse falling in
+    rw (get_or-reverse falling i d (omega arith), get_or-reverse falling j d (omega arith))
+    (falls (length falling - 1 - j) (length falling - 1 - i) d (omega arith) (omega arith))
+
+in_reverse : (rows : List Row) (row : Row) → Contains rows row → Contains (reverse rows) row
+in_reverse rows row there = Contains-permutation rows (reverse rows) row (IsPermutation-reverse rows) there
+
+out_of_reverse : (rows : List Row) (row : Row) → Contains (reverse rows) row → Contains rows row
+out_of_reverse rows row there = Contains-permutation (reverse rows) rows row (IsPermutation-sym rows (reverse rows) (IsPermutation-reverse rows)) there
+
+pub one_create : (s : System) (rows : List Row) (writes : List Write) → AllPairs (λ (row next : Row). row.node < next.node) rows → AreCreateWrites s.blocks rows writes
+    → writes ≡ create_writes s rows
+one_create s rows writes rising are =
+    let same : rows ≡ reverse are.falling =
+    one_order rows (reverse are.falling) rising (back_up are.falling are.order.order)
+    (λ row there. in_reverse are.falling row ((are.order.same row).0 there))
+    (λ row there. (are.order.same row).1 (out_of_reverse are.falling row there)) in
+    let back : are.falling ≡ reverse rows = sym (reverse-reverse are.falling) ∙ ap (λ (rs : List Row). reverse rs) (sym same) in
+    are.each ∙ ap (λ (rs : List Row). flat_map (row_writes s.blocks) rs) back
+
+-- ---- the writes of a release
+
+rises_next : (low : ℕ) (rows : List Row) → Rises (low + 1) rows → Rises low rows
+rises_next low [] rises = tt
+rises_next low (row ∷ rows) rises = let above = rises.0 in (omega arith, rises.1)
+
+-- a row of this node, where there is one, before those of later nodes
+rises_with : (low : ℕ) (o : Option Row) (rows : List Row) → ((row : Row) → o ≡ Some row → row.node ≡ low) → Rises (low + 1) rows → Rises low (cons_option o rows)
+rises_with low None rows at rises = rises_next low rows rises
+rises_with low (Some row) rows at rises =
+    let node : row.node ≡ low = at row refl in
+    (omega (arith, node), subst (λ (k : ℕ). Rises (k + 1) rows) (sym node) rises)
+
+rises_found : (f : ℕ → Option Row) → ((n : ℕ) (row : Row) → f n ≡ Some row → row.node ≡ n) → (low n : ℕ) → Rises low (filter_map f (range_with_len low n))
+rises_found f at low zero = tt
+rises_found f at low (suc n) = rises_with low (f low) _ (at low) (rises_found f at (low + 1) n)
+
+row_node : (s : System) (r : Range) (n : ℕ) (row : Row) → row_for s r n ≡ Some row → row.node ≡ n
+row_node s r n row is = by_index (index_for s r n) is
+  where
+    of_decoder : (i : ℕ) (o : Option Decoder) → option_map (λ d. record { node = n; index = i; decoder = d }) o ≡ Some row → row.node ≡ n
+    of_decoder i None none = absurd (none-some row none)
+    of_decoder i (Some d) some = sym (ap (λ (r : Row). r.node) (same_Some record { node = n; index = i; decoder = d } row some))
+
+    by_index : (o : Option ℕ) → option_and_then (λ i. option_map (λ d. record { node = n; index = i; decoder = d }) (decoder_at s n i)) o ≡ Some row → row.node ≡ n
+    by_index None none = absurd (none-some row none)
+    by_index (Some i) some = of_decoder i (decoder_at s n i) some
+
+pairs_of : (low : ℕ) (rows : List Row) → Rises low rows → AllPairs (λ (row next : Row). row.node < next.node) rows
+pairs_of low [] rises i j d before within = absurd (omega (arith, within))
+pairs_of low (row ∷ rows) rises i zero d before within = absurd (omega (arith, before))
+pairs_of low (row ∷ rows) rises zero (suc j) d before within =
+    let above = above_low (row.node + 1) rows rises.1 (get_or rows j d) (Contains-get_or rows j d (omega (arith, within))) in
+    omega (arith, above)
+pairs_of low (row ∷ rows) rises (suc i) (suc j) d before within = pairs_of (row.node + 1) rows rises.1 i j d (omega (arith, before)) (omega (arith, within))
+
+pub one_release : (s : System) (region : Live) (writes : List Write) → AreReleaseWrites (rows_of s region.found) writes → writes ≡ release_writes s region
+one_release s region writes are =
+    let rises : AllPairs (λ (row next : Row). row.node < next.node) (rows_of s region.found) =
+    pairs_of 0 (rows_of s region.found) (rises_found (row_for s (region_range region.found)) (row_node s (region_range region.found)) 0 (length s.nodes)) in
+    let same : rows_of s region.found ≡ are.rising =
+    one_order (rows_of s region.found) are.rising rises are.order.order (λ row there. (are.order.same row).0 there) (λ row there. (are.order.same row).1 there) in
+    are.each ∙ ap (λ (rs : List Row). map release_write rs) (sym same)

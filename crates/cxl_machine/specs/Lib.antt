@@ -1,0 +1,16 @@
+pub mod Machine
+pub mod Jobs
+pub mod Outcomes
+pub mod Bytes
+pub mod Elsewhere
+pub mod Replies
+pub mod Accesses
+pub mod Reports
+pub mod Requests
+pub mod Regions
+pub mod Copies
+pub mod Answers
+pub mod Creating
+pub mod Sound
+pub mod Trails
+pub mod Scripts

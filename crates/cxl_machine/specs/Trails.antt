@@ -1,0 +1,72 @@
+-- Which words a command may write, in order (this project's rules).
+use Rattle.std.specs.Prelude.{◌≡◌, ℕ, ◌+◌, ◌<◌, ◌≤◌, min, List, [], ◌++◌, Option, Some, None, Result, Ok, Err}
+use Rattle.cxl_bus.specs.declared.sent.Sent.{Sent}
+use Rattle.cxl_script.specs.declared.command.Command.{Command}
+use Rattle.cxl_script.specs.declared.command.Command.TheVariants as commands
+use Rattle.cxl_script.specs.declared.command.Create.{Create}
+use Rattle.cxl_apply.specs.WordsSent.{words_made, words_taken_back}
+use Rattle.cxl_reply.specs.declared.reply.Reply.{Reply}
+use Rattle.cxl_machine.specs.Machine.{RegionJob, Machine}
+use Rattle.cxl_machine.specs.Jobs.{total_of}
+use Rattle.cxl_machine.specs.Outcomes.{BusOutcome, NoFault, Undone, LeftPending, ReadFailed}
+use Rattle.cxl_machine.specs.Requests.{AsksCreate, asked_release}
+
+-- ---- parts of a job
+
+-- the writes of a job behind so many are made in order, up to so many
+abbrev pub forward : RegionJob → ℕ → ℕ → List Sent
+forward job before upto = words_made job.writes before upto
+
+-- and those up to so many are taken back, the last one first
+abbrev pub backward : RegionJob → ℕ → ℕ → List Sent
+backward job before upto = words_taken_back job.writes before upto
+
+-- ---- whole jobs
+
+-- The first d writes are made, and of these all but so many are taken back, where not all were made.
+pub record GoesBackTo (job : RegionJob) (kept : ℕ) (trail : List Sent) : Type 0 where
+  pub turn : ℕ
+  pub some : kept ≤ turn
+  pub part : turn < total_of job
+  pub sent : trail ≡ forward job 0 turn ++ backward job kept turn
+
+abbrev pub SendsWhole : RegionJob → BusOutcome → List Sent → Type 0
+SendsWhole job NoFault trail = trail ≡ forward job 0 (total_of job)
+SendsWhole job Undone trail = GoesBackTo job 0 trail
+SendsWhole job (LeftPending done) trail = GoesBackTo job done trail
+SendsWhole job ReadFailed trail = ⊥
+
+abbrev pub SendsAsked : Result RegionJob Reply → BusOutcome → List Sent → Type 0
+SendsAsked (Ok job) outcome trail = SendsWhole job outcome trail
+SendsAsked (Err refusal) outcome trail = trail ≡ []
+
+abbrev pub SendsCreate : Machine → Create → BusOutcome → List Sent → Type 0
+SendsCreate m create outcome trail = (asked : Result RegionJob Reply) × AsksCreate m create asked × SendsAsked asked outcome trail
+
+-- ---- steps
+
+abbrev pub SendsSteps : RegionJob → ℕ → BusOutcome → List Sent → Type 0
+SendsSteps job steps NoFault trail = trail ≡ forward job job.done (min (job.done + steps) (total_of job))
+SendsSteps job steps Undone trail = ⊥
+SendsSteps job steps (LeftPending done) trail = trail ≡ forward job job.done done
+SendsSteps job steps ReadFailed trail = ⊥
+
+abbrev pub SendsAbort : RegionJob → BusOutcome → List Sent → Type 0
+SendsAbort job NoFault trail = trail ≡ backward job 0 job.done
+SendsAbort job Undone trail = ⊥
+SendsAbort job (LeftPending done) trail = trail ≡ backward job done job.done
+SendsAbort job ReadFailed trail = ⊥
+
+-- nothing is written where no job is pending
+abbrev pub SendsPending : Option RegionJob → List Sent → (RegionJob → Type 0) → Type 0
+SendsPending None trail sends = trail ≡ []
+SendsPending (Some job) trail sends = sends job
+
+-- ---- each command
+
+abbrev pub TrailOf : Machine → Command → BusOutcome → List Sent → Type 0
+TrailOf m (commands.Create create) outcome trail = SendsCreate m create outcome trail
+TrailOf m (commands.Destroy name) outcome trail = SendsAsked (asked_release m name) outcome trail
+TrailOf m (commands.Step steps) outcome trail = SendsPending m.job trail (λ job. SendsSteps job steps outcome trail)
+TrailOf m commands.Abort outcome trail = SendsPending m.job trail (λ job. SendsAbort job outcome trail)
+TrailOf m other outcome trail = trail ≡ []

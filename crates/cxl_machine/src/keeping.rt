@@ -1,0 +1,117 @@
+//! What leads from a machine that a session can stand for to one, each the contract of a function that does nothing.
+
+ghost use Rattle.std.specs.Prelude.{◌≡◌, ◌≢◌, ℕ, ◌<◌, ◌≤◌, true, List, length, All, Some, None, Ok};
+ghost use Rattle.cxl_enc.specs.Limits.{frame_limit};
+ghost use Rattle.cxl_script.specs.declared.command.Command.{Command};
+ghost use Rattle.cxl_script.specs.declared.command.Command.TheVariants as commands;
+ghost use Rattle.cxl_model.specs.declared.plan.Plan.{Plan};
+ghost use Rattle.cxl_model.specs.declared.request.Request.{Request};
+ghost use Rattle.cxl_model.specs.Plans.{IsLegalPlan};
+ghost use Rattle.cxl_model.specs.System.{System, IsSystem};
+ghost use Rattle.cxl_legal.specs.Used.{HasBytePorts};
+ghost use Rattle.cxl_machine.specs.Machine.{Live, RegionJob, Machine, region_limit};
+ghost use Rattle.cxl_machine.specs.Jobs.{create_job, begun, finished, undone};
+ghost use Rattle.cxl_machine.specs.Outcomes.{BusOutcome, is_access, StoresBytes};
+ghost use Rattle.cxl_machine.specs.Requests.{asked_release};
+ghost use Rattle.cxl_machine.specs.Replies.{Answer};
+ghost use Rattle.cxl_machine.specs.Answers.{Answers};
+ghost use Rattle.cxl_machine.specs.Creating.{CreatesLegally};
+ghost use Rattle.cxl_machine.specs.Sound.{IsMachine, Opens};
+
+use cxl_apply::{
+    create_commits_its_rows, regions_stay_after_a_create, regions_stay_after_a_release,
+    release_releases_its_rows, released_image_is_accepted,
+};
+use cxl_model::{
+    accepted_where_whole, hosts_with_caps_are_systems, regions_stay, weaves_fill_their_regions,
+    whole_ranges_have_one_region,
+};
+use cxl_pick::answers_hold_of_wants;
+use cxl_plan::answers_hold_of_requests;
+
+/// A law of machines: an accepted host opens as one that a session can stand for.
+pub fn openings_are_machines()
+    ensures { (start : System) (frames : ℕ) (m : Machine) → IsSystem start → 1 ≤ frames → frames ≤ frame_limit
+        → Opens start frames m → IsMachine m }
+{
+    hosts_with_caps_are_systems();
+    accepted_where_whole();
+    regions_stay();
+}
+
+/// A law of machines: from one that a session can stand for, a command that makes and ends no region leads to one.
+pub fn accesses_keep_machines()
+    ensures { (m : Machine) (command : Command) (outcome : BusOutcome) (answer : Answer) → IsMachine m
+        → is_access command ≡ true → StoresBytes command → Answers m command outcome answer
+        → IsMachine answer.machine }
+{
+    weaves_fill_their_regions();
+}
+
+/// A law of machines: from one that a session can stand for, steps and an abort behind which a job is pending lead to one.
+pub fn steps_keep_machines()
+    ensures step { (m : Machine) (steps : ℕ) (outcome : BusOutcome) (answer : Answer) (job : RegionJob) → IsMachine m
+        → Answers m (commands.Step steps) outcome answer → answer.machine.job ≡ Some job
+        → IsMachine answer.machine }
+    ensures abort { (m : Machine) (outcome : BusOutcome) (answer : Answer) (job : RegionJob) → IsMachine m
+        → Answers m commands.Abort outcome answer → answer.machine.job ≡ Some job
+        → IsMachine answer.machine }
+{}
+
+/// A law of machines: one that a session can stand for stays one where its job is undone. A create goes; the region of a
+/// release is live again, at its place.
+pub fn undone_jobs_keep_machines()
+    ensures { (m : Machine) (job : RegionJob) → IsMachine m → m.job ≡ Some job → IsMachine (undone job m) }
+{}
+
+/// A law of machines: one that a session can stand for stays one where its job has made its last write. A create's region
+/// is then live, and a release's gone.
+pub fn finished_jobs_keep_machines()
+    ensures { (m : Machine) (job : RegionJob) → IsMachine m → m.job ≡ Some job → IsMachine (finished job m) }
+{
+    whole_ranges_have_one_region();
+    released_image_is_accepted();
+    regions_stay_after_a_create();
+    regions_stay_after_a_release();
+}
+
+/// A law of machines: one that a session can stand for stays one where a release begins that a line asks for.
+pub fn releases_begin_as_machines()
+    ensures { (m : Machine) (name : List ℕ) (job : RegionJob) → IsMachine m → asked_release m name ≡ Ok job
+        → IsMachine (begun job m) }
+{
+    release_releases_its_rows();
+}
+
+/// A law of machines: one that a session can stand for, with no job and with room for a region more, stays one where the
+/// create of a legal plan begins under a name that no live region has.
+pub fn creates_begin_as_machines()
+    ensures { (m : Machine) (request : Request) (plan : Plan) → IsMachine m → m.job ≡ None
+        → IsLegalPlan m.settled request plan → All (λ (region : Live). region.name ≢ plan.name) m.live
+        → length m.live < region_limit → IsMachine (begun (create_job m.settled plan) m) }
+{
+    create_commits_its_rows();
+}
+
+/// A law of machines: each job that a create asks for of one that a session can stand for is that of a legal plan.
+pub fn creates_are_legal()
+    ensures { (m : Machine) (command : Command) → IsMachine m → HasBytePorts m.settled.nodes
+        → CreatesLegally m command }
+{
+    answers_hold_of_requests();
+    answers_hold_of_wants();
+}
+
+/// A law of machines: from one that a session can stand for, each command leads to one, however the bus let it go.
+pub fn commands_keep_machines()
+    ensures { (m : Machine) (command : Command) (outcome : BusOutcome) (answer : Answer) → IsMachine m
+        → HasBytePorts m.settled.nodes → StoresBytes command → Answers m command outcome answer
+        → IsMachine answer.machine }
+{
+    creates_are_legal();
+    accesses_keep_machines();
+    undone_jobs_keep_machines();
+    finished_jobs_keep_machines();
+    releases_begin_as_machines();
+    creates_begin_as_machines();
+}

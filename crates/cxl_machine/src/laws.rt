@@ -1,0 +1,81 @@
+//! Laws of the answers, each the contract of a function that does nothing.
+
+ghost use Rattle.std.specs.Prelude.{◌≡◌, ℕ, ◌<◌, true, List, [], ◌∷◌, ◌++◌, AllPairs};
+ghost use Rattle.cxl_bus.specs.declared.sent.Sent.{Sent};
+ghost use Rattle.cxl_script.specs.declared.command.Command.{Command};
+ghost use Rattle.cxl_model.specs.declared.plan.Row.{Row};
+ghost use Rattle.cxl_model.specs.System.{System};
+ghost use Rattle.cxl_apply.specs.declared.write.Write.{Write};
+ghost use Rattle.cxl_apply.specs.Jobs.{AreCreateWrites, AreReleaseWrites};
+ghost use Rattle.cxl_apply.specs.Releases.{rows_of};
+ghost use Rattle.cxl_machine.specs.Machine.{Live, Machine};
+ghost use Rattle.cxl_machine.specs.Jobs.{create_writes, release_writes};
+ghost use Rattle.cxl_machine.specs.Outcomes.{BusOutcome, NoFault, can_go};
+ghost use Rattle.cxl_machine.specs.Replies.{Answer, is_refusal};
+ghost use Rattle.cxl_machine.specs.Answers.{Answers};
+ghost use Rattle.cxl_machine.specs.Scripts.{Asked, Course, Turn, Runs, TakesTurn, course_then, lines_asked};
+ghost use Rattle.cxl_machine.specs.Sound.{IsMachine};
+ghost use Rattle.cxl_machine.specs.Trails.{TrailOf};
+
+use cxl_model::{bytes_are_carried_one_to_one, regions_share_no_byte};
+use cxl_poison::{bytes_are_one_list, each_record_has_pieces, records_are_told_in_one_way};
+
+/// A law of answers: a refused command leaves the machine as it is.
+pub fn refusals_leave_the_machine()
+    ensures { (m : Machine) (command : Command) (outcome : BusOutcome) (answer : Answer)
+        → Answers m command outcome answer → is_refusal answer.reply ≡ true → answer.machine ≡ m }
+{}
+
+/// A law of jobs: the writes of a create over rows in rising node order, and those of a region's release, are the ones that
+/// the machine's job has.
+pub fn jobs_have_one_list_of_writes()
+    ensures create { (s : System) (rows : List Row) (writes : List Write)
+        → AllPairs (λ (row next : Row). row.node < next.node) rows → AreCreateWrites s.blocks rows writes
+        → writes ≡ create_writes s rows }
+    ensures release { (s : System) (region : Live) (writes : List Write)
+        → AreReleaseWrites (rows_of s region.found) writes → writes ≡ release_writes s region }
+{}
+
+/// A law of trails: a command that is refused without a fault of the bus writes no word.
+pub fn refusals_write_nothing()
+    ensures { (m : Machine) (command : Command) (answer : Answer) (trail : List Sent)
+        → Answers m command NoFault answer → is_refusal answer.reply ≡ true
+        → TrailOf m command NoFault trail → trail ≡ [] }
+{}
+
+/// A law of scripts: what is asked behind others is answered by the machine that they left, and lines behind others ask
+/// for what they ask for by themselves.
+pub fn scripts_go_on()
+    ensures one_more { (m : Machine) (asked : List Asked) (course : Course) (one : Asked) (turn : Turn)
+        → Runs m asked course → TakesTurn course.machine one turn
+        → Runs m (asked ++ one ∷ []) (course_then course turn) }
+    ensures lines { (lines others : List (List ℕ))
+        → lines_asked (lines ++ others) ≡ lines_asked lines ++ lines_asked others }
+{}
+
+/// A law of answers: a command goes as its kind can go.
+pub fn commands_go_as_they_can()
+    ensures { (m : Machine) (command : Command) (outcome : BusOutcome) (answer : Answer)
+        → Answers m command outcome answer → can_go command outcome ≡ true }
+{}
+
+/// A law of answers: a machine that a session can stand for answers each command where no call of the bus failed.
+pub fn each_command_is_answered()
+    ensures { (m : Machine) (command : Command) → IsMachine m
+        → (answer : Answer) × Answers m command NoFault answer }
+{
+    bytes_are_carried_one_to_one();
+    bytes_are_one_list();
+    each_record_has_pieces();
+}
+
+/// A law of answers: by a machine that a session can stand for, a command that went so has one answer at the most.
+pub fn one_answer()
+    ensures { (m : Machine) (command : Command) (outcome : BusOutcome) (answer other : Answer) → IsMachine m
+        → Answers m command outcome answer → Answers m command outcome other → answer ≡ other }
+{
+    bytes_are_carried_one_to_one();
+    regions_share_no_byte();
+    bytes_are_one_list();
+    records_are_told_in_one_way();
+}

@@ -1,0 +1,19 @@
+//! The machine that a session stands for: what each command is answered, which words it writes, what a script comes
+//! to, and the laws of these.
+#![tactic(auto)]
+
+mod fault;
+mod keeping;
+mod laws;
+
+pub use cxl_check::Breach;
+pub use fault::OpenFault;
+pub use keeping::{
+    accesses_keep_machines, commands_keep_machines, creates_are_legal, creates_begin_as_machines,
+    finished_jobs_keep_machines, openings_are_machines, releases_begin_as_machines,
+    steps_keep_machines, undone_jobs_keep_machines,
+};
+pub use laws::{
+    commands_go_as_they_can, each_command_is_answered, jobs_have_one_list_of_writes, one_answer,
+    refusals_leave_the_machine, refusals_write_nothing, scripts_go_on,
+};

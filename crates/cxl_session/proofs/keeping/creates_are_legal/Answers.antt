@@ -1,7 +1,0 @@
-use Rattle.cxl_session.proofs.LegalCreates.{AnswersLaw, creates_legally}
-use Rattle.cxl_session.proofs.keeping.creates_are_legal.Goals as goal
-
-pub returns : goal.returns
-returns c m command is ports =
-    let laws : AnswersLaw = record { plans = c.answers_hold_of_requests.ensures.legal; picks = c.answers_hold_of_wants.ensures.endpoints } in
-    creates_legally laws m is ports command

@@ -1,5 +1,0 @@
-use Rattle.cxl_session.proofs.KeepingJobs.{undone_keeps}
-use Rattle.cxl_session.proofs.keeping.undone_jobs_keep_machines.Goals as goal
-
-pub returns : goal.returns
-returns c = undone_keeps

@@ -1,8 +1,0 @@
-use Rattle.cxl_session.proofs.GoingOn.{one_more, lines_more}
-use Rattle.cxl_session.proofs.laws.scripts_go_on.Goals as goal
-
-pub returns-clause-one_more : goal.returns-clause-one_more
-returns-clause-one_more c = one_more
-
-pub returns-clause-lines : goal.returns-clause-lines
-returns-clause-lines c = lines_more

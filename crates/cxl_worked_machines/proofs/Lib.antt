@@ -1,0 +1,2 @@
+pub mod ExampleBytes
+pub mod ExamplePieces

@@ -1,0 +1,17 @@
+//! Worked machines, and laws that compute what the definitions of sessions say of them.
+#![tactic(auto)]
+
+mod access_examples;
+mod examples;
+mod opening_examples;
+mod plan_examples;
+
+pub use access_examples::{addresses_on_examples, bytes_on_examples, copies_on_examples};
+pub use examples::{
+    creates_on_examples, refused_creates_on_examples, release_steps_on_examples,
+    releases_on_examples, steps_on_examples,
+};
+pub use opening_examples::openings_on_examples;
+pub use plan_examples::{
+    plan_faults_on_examples, poison_on_examples, scripts_on_examples, trails_on_examples,
+};
