@@ -1,5 +1,5 @@
 -- What the registers of a system hold, as a bus reaches them.
-use Rattle.std.specs.Prelude.{◌≡◌, ℕ, List, Option}
+use Rattle.std.specs.Prelude.{◌≡◌, ℕ, Bool, List, Option}
 use Rattle.cxl_regs.specs.Registers.{Registers}
 use Rattle.cxl_bus.specs.declared.sent.Sent.{Sent}
 
@@ -10,8 +10,11 @@ pub record RegsState : Type 0 where
   pub trail : Option (List Sent)
   -- how many faults there were; a count that has reached 2 ^ 64 - 1 stays there
   pub faults : ℕ
+  -- whether its count rises at calls that fail and at no others
+  pub counts_failures_alone : Bool
 
 -- nothing but the count of faults may differ
 pub record IsUntouched (old new : RegsState) : Type 0 where
   pub blocks : new.blocks ≡ old.blocks
   pub trail : new.trail ≡ old.trail
+  pub alone : new.counts_failures_alone ≡ old.counts_failures_alone

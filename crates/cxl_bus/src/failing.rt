@@ -1,4 +1,4 @@
-ghost use Rattle.std.specs.Prelude.{◌≡◌, ◌≤◌, [], Some, IfOk, OnOk, OnErr, is_err};
+ghost use Rattle.std.specs.Prelude.{◌≡◌, ◌≤◌, true, [], Some, IfOk, OnOk, OnErr, is_err};
 ghost use Rattle.cxl_regs.specs.Blocks.{IsPlace, HasPlacesOf, word_in};
 ghost use Rattle.cxl_enc.specs.Counters.{fresh_counters, fails_next};
 ghost use Rattle.cxl_bus.specs.Failing.{is_write_failing, after_read, after_write};
@@ -57,7 +57,12 @@ impl FailingBus {
 }
 
 impl Regs for FailingBus {
-    ghost state = { λ bus. record { blocks = bus.blocks; trail = Some bus.trail; faults = bus.counters.faults } };
+    ghost state = { λ bus. record {
+      blocks = bus.blocks;
+      trail = Some bus.trail;
+      faults = bus.counters.faults;
+      counts_failures_alone = true;
+    } };
 
     fn power_on(&mut self, alloc: Global, start: &[Block]) -> Result<(), Memory>
         // The calls and the faults are counted on.

@@ -1,5 +1,5 @@
 ghost use Rattle.std.specs.Prelude.{◌≡◌, ◌≤◌, [], Some, option_map, IfOk, OnOk, OnErr};
-ghost use Rattle.cxl_enc.specs.Faults.{HasCause};
+ghost use Rattle.cxl_enc.specs.Faults.{HasCause, LeavesCount};
 ghost use Rattle.cxl_regs.specs.Blocks.{IsPlace, word_in, blocks_after};
 ghost use Rattle.cxl_bus.specs.RegsState.{RegsState, IsUntouched};
 ghost use Rattle.cxl_bus.specs.Trail.{trail_after};
@@ -20,7 +20,11 @@ pub trait Regs {
         ensures holds { OnOk result ((state self.new).blocks ≡ start.now) }
         ensures empties { OnOk result ((state self.new).trail ≡ option_map (λ _. []) (state self.old).trail) }
         ensures err { OnErr result (state self.new ≡ state self.old) }
-        ensures counts { (state self.old).faults ≤ (state self.new).faults };
+        ensures counts { (state self.old).faults ≤ (state self.new).faults }
+        ensures alone { (state self.new).counts_failures_alone ≡ (state self.old).counts_failures_alone }
+        // A fault is not swallowed.
+        ensures unswallowed { OnOk result
+            (LeavesCount (state self.old).counts_failures_alone (state self.old).faults (state self.new).faults) };
 
     /// The word at an offset of a node's block. Changes nothing.
     fn read32(&mut self, node: u32, off: u32) -> Result<u32, Failed>
@@ -28,7 +32,11 @@ pub trait Regs {
         ensures word { IfOk result (λ word. word_in (state self.old).blocks node off ≡ Some word) }
         ensures same { IsUntouched (state self.old) (state self.new) }
         ensures cause { HasCause result (state self.old).faults (state self.new).faults }
-        ensures counts { (state self.old).faults ≤ (state self.new).faults };
+        ensures counts { (state self.old).faults ≤ (state self.new).faults }
+        ensures alone { (state self.new).counts_failures_alone ≡ (state self.old).counts_failures_alone }
+        // A fault is not swallowed.
+        ensures unswallowed { OnOk result
+            (LeavesCount (state self.old).counts_failures_alone (state self.old).faults (state self.new).faults) };
 
     /// Writes a word of a node's block. `Ok` says that the write was sent, and the block's write rules may
     /// still have dropped it. `Failed` changes nothing.
@@ -38,5 +46,9 @@ pub trait Regs {
         ensures sent { OnOk result ((state self.new).trail ≡ trail_after (state self.old).trail node off value) }
         ensures err { OnErr result (IsUntouched (state self.old) (state self.new)) }
         ensures cause { HasCause result (state self.old).faults (state self.new).faults }
-        ensures counts { (state self.old).faults ≤ (state self.new).faults };
+        ensures counts { (state self.old).faults ≤ (state self.new).faults }
+        ensures alone { (state self.new).counts_failures_alone ≡ (state self.old).counts_failures_alone }
+        // A fault is not swallowed.
+        ensures unswallowed { OnOk result
+            (LeavesCount (state self.old).counts_failures_alone (state self.old).faults (state self.new).faults) };
 }

@@ -1,4 +1,4 @@
-ghost use Rattle.std.specs.Prelude.{◌≡◌, [], None, Some, IfOk, IsOk};
+ghost use Rattle.std.specs.Prelude.{◌≡◌, true, [], None, Some, IfOk, IsOk};
 ghost use Rattle.cxl_regs.specs.Blocks.{IsPlace, HasPlacesOf, word_in, blocks_after};
 
 use crate::regs::Regs;
@@ -34,7 +34,7 @@ impl SimBus {
 }
 
 impl Regs for SimBus {
-    ghost state = { λ bus. record { blocks = bus; trail = None; faults = 0 } };
+    ghost state = { λ bus. record { blocks = bus; trail = None; faults = 0; counts_failures_alone = true } };
 
     fn power_on(&mut self, alloc: Global, start: &[Block]) -> Result<(), Memory> {
         self.blocks = copies(alloc, start)?;

@@ -1,5 +1,5 @@
 -- Counts of faults: how each trait of the outside shows that it gave cause.
-use Rattle.std.specs.Prelude.{ℕ, ◌+◌, ◌-◌, ◌^◌, ◌≤◌, min, Result, OnErr}
+use Rattle.std.specs.Prelude.{◌≡◌, ℕ, ◌+◌, ◌-◌, ◌^◌, ◌≤◌, min, Bool, true, Result, OnErr}
 
 -- the count rose in a call: a count that has reached 2 ^ 64 - 1 stays there, and is taken as risen
 abbrev pub Rose : ℕ → ℕ → Type 0
@@ -12,3 +12,7 @@ RoseBy n before now = min (before + n) (2 ^ 64 - 1) ≤ now
 -- a failure comes only where the count rose
 abbrev pub HasCause : {T E : Type 0} → Result T E → ℕ → ℕ → Type 0
 HasCause result before now = OnErr result (Rose before now)
+
+-- a call that met no fault left the count, where that rises at calls that fail and at no others
+abbrev pub LeavesCount : Bool → ℕ → ℕ → Type 0
+LeavesCount failures_alone before now = failures_alone ≡ true → now ≡ before

@@ -1,5 +1,5 @@
 -- What the files hold, by their names.
-use Rattle.std.specs.Prelude.{◌≡◌, ℕ, ◌<◌, ◌≤◌, Option, List, length}
+use Rattle.std.specs.Prelude.{◌≡◌, ℕ, ◌<◌, ◌≤◌, Bool, Option, List, length}
 use Rattle.cxl_enc.specs.Limits.{file_limit}
 use Rattle.cxl_io.specs.Told.{told_with, Told, Untold, Absent, Bytes, AreTold}
 
@@ -10,6 +10,8 @@ pub record FetchState : Type 0 where
   pub asked : Option (List (List ℕ))
   -- how often it failed; a count that has reached 2 ^ 64 - 1 stays there
   pub faults : ℕ
+  -- whether its count rises at calls that fail and at no others
+  pub counts_failures_alone : Bool
 
 -- these names are asked for, in this order, and no other
 abbrev pub AsksFor : FetchState → FetchState → List (List ℕ) → Type 0

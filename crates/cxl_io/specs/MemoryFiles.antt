@@ -1,5 +1,5 @@
 -- Files in memory.
-use Rattle.std.specs.Prelude.{ℕ, Bool, ◌||◌, nat_le, is_none, if◌then◌else◌, Option, Some, None, Result, Ok, Err, List, [], ◌∷◌, ◌++◌, map, length, bytes_eq, string_bytes, String, Vec}
+use Rattle.std.specs.Prelude.{ℕ, Bool, true, ◌||◌, nat_le, is_none, if◌then◌else◌, Option, Some, None, Result, Ok, Err, List, [], ◌∷◌, ◌++◌, map, length, bytes_eq, string_bytes, String, Vec}
 use Rattle.std.specs.declared.alloc.Global.{Global}
 use Rattle.cxl_enc.specs.Limits.{file_limit}
 use Rattle.cxl_enc.specs.Counters.{Counters, fails_next, counters_after}
@@ -37,6 +37,7 @@ state_of memory = record {
   told = λ name. told_of (file_of memory.files name);
   asked = Some memory.asked;
   faults = memory.counters.faults;
+  counts_failures_alone = true;
 }
 
 -- whether a fetch meets a fault: the call is one of those that fail, or no file has the name

@@ -1,5 +1,5 @@
 -- A sink in memory with a fixed room.
-use Rattle.std.specs.Prelude.{ℕ, ◌-◌, Some, min, Bool, ◌||◌, ◌==◌, if◌then◌else◌, Result, Ok, Err, List, ◌++◌, length, take}
+use Rattle.std.specs.Prelude.{ℕ, ◌-◌, Some, min, Bool, true, ◌||◌, ◌==◌, if◌then◌else◌, Result, Ok, Err, List, ◌++◌, length, take}
 use Rattle.cxl_enc.specs.declared.faults.Failed.{Failed}
 use Rattle.cxl_enc.specs.Counters.{Counters, fails_next, counters_after}
 use Rattle.cxl_io.specs.Sink.{SinkState}
@@ -13,7 +13,7 @@ pub record MemorySink : Type 0 where
 
 -- it tells what it took
 abbrev pub state_of : MemorySink → SinkState
-state_of sink = record { taken = Some sink.bytes; faults = sink.counters.faults }
+state_of sink = record { taken = Some sink.bytes; faults = sink.counters.faults; counts_failures_alone = true }
 
 abbrev pub room_left : MemorySink → ℕ
 room_left sink = sink.room - length sink.bytes

@@ -1,5 +1,5 @@
 -- A source in memory.
-use Rattle.std.specs.Prelude.{ℕ, min, Some, if◌then◌else◌, Result, Ok, Err, List, length, drop}
+use Rattle.std.specs.Prelude.{ℕ, min, true, Some, if◌then◌else◌, Result, Ok, Err, List, length, drop}
 use Rattle.cxl_enc.specs.Counters.{Counters, fails_next, counters_after}
 use Rattle.cxl_enc.specs.declared.faults.Failed.{Failed}
 use Rattle.cxl_io.specs.Source.{SourceState}
@@ -11,7 +11,7 @@ pub record MemorySource : Type 0 where
 
 -- it tells them
 abbrev pub state_of : MemorySource → SourceState
-state_of source = record { left = Some source.left; faults = source.counters.faults }
+state_of source = record { left = Some source.left; faults = source.counters.faults; counts_failures_alone = true }
 
 -- what a read into so many bytes answers: how many there are for them
 abbrev pub read_answer : MemorySource → ℕ → Result ℕ Failed

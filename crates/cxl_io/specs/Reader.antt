@@ -28,6 +28,10 @@ pub record Reader : Type 0 where
 abbrev pub fresh_reader : Reader
 fresh_reader = record { taken = 0; held = []; line = []; stop = None }
 
+-- a whole line that ended is held
+abbrev pub HoldsLine : Reader → Type 0
+HoldsLine reader = ended_lines reader.held ≢ []
+
 -- ---- one answer
 
 -- the bytes that the next answer goes by: those held, and of those taken with it the ones within the limit

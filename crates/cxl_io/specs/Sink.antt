@@ -1,5 +1,5 @@
 -- What a sink holds.
-use Rattle.std.specs.Prelude.{◌≡◌, ℕ, ◌<◌, Option, List, length, take}
+use Rattle.std.specs.Prelude.{◌≡◌, ℕ, ◌<◌, Bool, Option, List, length, take}
 use Rattle.cxl_io.specs.Told.{told_with}
 
 pub record SinkState : Type 0 where
@@ -7,6 +7,8 @@ pub record SinkState : Type 0 where
   pub taken : Option (List ℕ)
   -- how often it failed; a count that has reached 2 ^ 64 - 1 stays there
   pub faults : ℕ
+  -- whether its count rises at calls that fail and at no others
+  pub counts_failures_alone : Bool
 
 -- the bytes are taken, and no other
 abbrev pub Takes : SinkState → SinkState → List ℕ → Type 0

@@ -1,5 +1,5 @@
 -- What a source holds.
-use Rattle.std.specs.Prelude.{◌≡◌, ℕ, Option, IfSome, List, []}
+use Rattle.std.specs.Prelude.{◌≡◌, ℕ, Bool, Option, IfSome, List, []}
 use Rattle.cxl_io.specs.Told.{told_behind}
 
 pub record SourceState : Type 0 where
@@ -7,6 +7,8 @@ pub record SourceState : Type 0 where
   pub left : Option (List ℕ)
   -- how often it failed; a count that has reached 2 ^ 64 - 1 stays there
   pub faults : ℕ
+  -- whether its count rises at calls that fail and at no others
+  pub counts_failures_alone : Bool
 
 -- the bytes come from the front of those left, and no other is gone
 abbrev pub GivesFront : SourceState → SourceState → List ℕ → Type 0

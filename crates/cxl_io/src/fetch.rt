@@ -1,5 +1,5 @@
-ghost use Rattle.std.specs.Prelude.{◌≡◌, ◌≤◌, ◌⊎◌, Err, [], ◌∷◌, IfOk};
-ghost use Rattle.cxl_enc.specs.Faults.{Rose};
+ghost use Rattle.std.specs.Prelude.{◌≡◌, ◌≢◌, ◌≤◌, ◌⊎◌, Err, [], ◌∷◌, IfOk};
+ghost use Rattle.cxl_enc.specs.Faults.{Rose, LeavesCount};
 ghost use Rattle.cxl_io.specs.Fetch.{FetchState, AsksFor, IsFile, IsTooLarge};
 ghost use Rattle.cxl_io.specs.declared.fetch.FetchFault.TheVariants.{Memory};
 
@@ -40,6 +40,10 @@ pub trait Fetch {
         ensures failed { result ≡ Err FetchFault.Failed
             → Rose (state self.old).faults (state self.new).faults }
         ensures counts { (state self.old).faults ≤ (state self.new).faults }
+        ensures alone { (state self.new).counts_failures_alone ≡ (state self.old).counts_failures_alone }
+        // A fault is not swallowed. A file that is too large and want of memory are none of the files'.
+        ensures unswallowed { (result ≢ Err FetchFault.Failed)
+            → LeavesCount (state self.old).counts_failures_alone (state self.old).faults (state self.new).faults }
         ensures stays { (state self.new).told ≡ (state self.old).told }
         // The name is asked for, unless memory ran out before.
         ensures asked { AsksFor (state self.old) (state self.new) (name.now ∷ [])

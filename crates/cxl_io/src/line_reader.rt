@@ -1,8 +1,8 @@
-ghost use Rattle.std.specs.Prelude.{◌≡◌, ◌≢◌, ℕ, ◌+◌, ◌<◌, ◌≤◌, ◌↔◌, ◌==◌, Some, List, [], ◌∷◌, ◌++◌, length, take, IsTrue, IfOk, OnErr, position, vec_len, vec_capacity};
+ghost use Rattle.std.specs.Prelude.{◌≡◌, ◌≢◌, ℕ, ◌+◌, ◌<◌, ◌≤◌, ◌↔◌, ◌==◌, Some, List, [], ◌∷◌, ◌++◌, length, take, IsTrue, IfOk, OnOk, OnErr, position, vec_len, vec_capacity};
 ghost use Rattle.std.specs.Bool.{OnTrue, OnFalse};
 ghost use Rattle.std.specs.Str.Lines.{strip_carriage_return};
-ghost use Rattle.cxl_enc.specs.Faults.{HasCause};
-ghost use Rattle.cxl_io.specs.Reader.{Reader, line_limit, script_limit, fresh_reader, IsNext, HasRead, HasStopped};
+ghost use Rattle.cxl_enc.specs.Faults.{HasCause, LeavesCount};
+ghost use Rattle.cxl_io.specs.Reader.{Reader, line_limit, script_limit, fresh_reader, IsNext, HoldsLine, HasRead, HasStopped};
 ghost use Rattle.cxl_io.specs.ReaderSteps.{kept_with, PassesBreak, PassesAll, Refills, line_answer, last_answer};
 ghost use Rattle.cxl_io.specs.Source.{SourceState, GivesFront, IsAtEnd};
 
@@ -96,6 +96,13 @@ impl LineReader {
     pub fn next<S: Source>(&mut self, source: &mut S) -> Taken
         ensures next { IsNext self.old self.new (S.state source.old) (S.state source.new) result }
         ensures counts { (S.state source.old).faults ≤ (S.state source.new).faults }
+        ensures alone { (S.state source.new).counts_failures_alone ≡ (S.state source.old).counts_failures_alone }
+        // A fault is not swallowed.
+        ensures unswallowed { (result ≢ Taken.Fault) → LeavesCount (S.state source.old).counts_failures_alone
+            (S.state source.old).faults (S.state source.new).faults }
+        // A line that is held is given before more is read.
+        ensures held { HoldsLine self.old → S.state source.new ≡ S.state source.old }
+        ensures takes_none { HoldsLine self.old → self.new.taken ≡ self.old.taken }
     {
         self.begin();
         if let Some(answer) = self.stopped() {
@@ -175,6 +182,9 @@ impl LineReader {
         ensures failed { OnErr result ((S.state source.new).left ≡ (S.state source.old).left) }
         ensures cause { HasCause result (S.state source.old).faults (S.state source.new).faults }
         ensures counts { (S.state source.old).faults ≤ (S.state source.new).faults }
+        ensures alone { (S.state source.new).counts_failures_alone ≡ (S.state source.old).counts_failures_alone }
+        ensures unswallowed { OnOk result (LeavesCount (S.state source.old).counts_failures_alone
+            (S.state source.old).faults (S.state source.new).faults) }
     {
         let room = self.block.len().min(SCRIPT_LIMIT + 1 - self.taken);
         let n = read_front(source, &mut self.block, room)?;
@@ -219,6 +229,9 @@ fn read_front<S: Source>(source: &mut S, block: &mut [u8], room: usize) -> Resul
     ensures failed { OnErr result ((S.state source.new).left ≡ (S.state source.old).left) }
     ensures cause { HasCause result (S.state source.old).faults (S.state source.new).faults }
     ensures counts { (S.state source.old).faults ≤ (S.state source.new).faults }
+    ensures alone { (S.state source.new).counts_failures_alone ≡ (S.state source.old).counts_failures_alone }
+    ensures unswallowed { OnOk result (LeavesCount (S.state source.old).counts_failures_alone
+        (S.state source.old).faults (S.state source.new).faults) }
 {
     source.read(&mut block[..room])
 }

@@ -1,4 +1,4 @@
-ghost use Rattle.std.specs.Prelude.{◌≡◌, ◌≤◌, ◌⊎◌, Some, Ok, Err, [], ◌∷◌, ◌++◌, IfOk, IfErr, OnOk, OnErr, option_copied, string_bytes};
+ghost use Rattle.std.specs.Prelude.{◌≡◌, ◌≢◌, ◌≤◌, ◌⊎◌, Some, Ok, Err, [], ◌∷◌, ◌++◌, IfOk, IfErr, OnOk, OnErr, option_copied, string_bytes};
 ghost use Rattle.cxl_enc.specs.Faults.{Rose};
 ghost use Rattle.cxl_enc.specs.Counters.{fresh_counters};
 ghost use Rattle.cxl_io.specs.Fetch.{AsksFor, IsFile, IsTooLarge};
@@ -56,6 +56,8 @@ impl Fetch for MemFetch {
         ensures failed { result ≡ Err FetchFault.Failed
             → Rose (state_of self.old).faults (state_of self.new).faults }
         ensures counts { (state_of self.old).faults ≤ (state_of self.new).faults }
+        ensures unswallowed { (result ≢ Err FetchFault.Failed)
+            → (state_of self.new).faults ≡ (state_of self.old).faults }
         ensures stays { (state_of self.new).told ≡ (state_of self.old).told }
         ensures asked { AsksFor (state_of self.old) (state_of self.new) (name.now ∷ [])
             ⊎ ((result ≡ Err FetchFault.Memory) × AsksFor (state_of self.old) (state_of self.new) []) }

@@ -1,5 +1,5 @@
 ghost use Rattle.std.specs.Prelude.{◌≡◌, ◌<◌, ◌≤◌, List, ℕ, [], ◌++◌, length, take, IfOk, OnOk, OnErr};
-ghost use Rattle.cxl_enc.specs.Faults.{HasCause};
+ghost use Rattle.cxl_enc.specs.Faults.{HasCause, LeavesCount};
 ghost use Rattle.cxl_io.specs.Sink.{SinkState, Takes, TakesPrefix};
 
 use cxl_enc::Failed;
@@ -18,7 +18,11 @@ pub trait Sink {
         ensures taken { IfOk result (λ n. Takes (state self.old) (state self.new) (take n bytes.now)) }
         ensures failed { OnErr result ((state self.new).taken ≡ (state self.old).taken) }
         ensures cause { HasCause result (state self.old).faults (state self.new).faults }
-        ensures counts { (state self.old).faults ≤ (state self.new).faults };
+        ensures counts { (state self.old).faults ≤ (state self.new).faults }
+        ensures alone { (state self.new).counts_failures_alone ≡ (state self.old).counts_failures_alone }
+        // A fault is not swallowed.
+        ensures unswallowed { OnOk result
+            (LeavesCount (state self.old).counts_failures_alone (state self.old).faults (state self.new).faults) };
 }
 
 /// Writes all the bytes, in as many writes as the sink needs. After a failure some bytes from the front,
@@ -28,6 +32,9 @@ pub fn write_all<K: Sink>(sink: &mut K, bytes: &[u8]) -> Result<(), Failed>
     ensures failed { OnErr result (TakesPrefix (K.state sink.old) (K.state sink.new) bytes.now) }
     ensures cause { HasCause result (K.state sink.old).faults (K.state sink.new).faults }
     ensures counts { (K.state sink.old).faults ≤ (K.state sink.new).faults }
+    ensures alone { (K.state sink.new).counts_failures_alone ≡ (K.state sink.old).counts_failures_alone }
+    ensures unswallowed { OnOk result (LeavesCount (K.state sink.old).counts_failures_alone
+        (K.state sink.old).faults (K.state sink.new).faults) }
 {
     let mut at = 0;
     while at < bytes.len() {

@@ -1,5 +1,5 @@
-ghost use Rattle.std.specs.Prelude.{◌≡◌, ◌<◌, ◌≤◌, Some, [], length, take, IfOk, OnErr};
-ghost use Rattle.cxl_enc.specs.Faults.{HasCause};
+ghost use Rattle.std.specs.Prelude.{◌≡◌, ◌<◌, ◌≤◌, Some, [], length, take, IfOk, OnOk, OnErr};
+ghost use Rattle.cxl_enc.specs.Faults.{HasCause, LeavesCount};
 ghost use Rattle.cxl_io.specs.Source.{SourceState, GivesFront, IsAtEnd};
 
 use cxl_enc::Failed;
@@ -19,5 +19,9 @@ pub trait Source {
         ensures only_end { IfOk result (λ n. (state self.old).left ≡ Some [] → n ≡ 0) }
         ensures failed { OnErr result ((state self.new).left ≡ (state self.old).left) }
         ensures cause { HasCause result (state self.old).faults (state self.new).faults }
-        ensures counts { (state self.old).faults ≤ (state self.new).faults };
+        ensures counts { (state self.old).faults ≤ (state self.new).faults }
+        ensures alone { (state self.new).counts_failures_alone ≡ (state self.old).counts_failures_alone }
+        // A fault is not swallowed.
+        ensures unswallowed { OnOk result
+            (LeavesCount (state self.old).counts_failures_alone (state self.old).faults (state self.new).faults) };
 }

@@ -1,4 +1,4 @@
-ghost use Rattle.std.specs.Prelude.{◌≡◌, ◌≢◌, ◌≤◌, None, Err, IfOk};
+ghost use Rattle.std.specs.Prelude.{◌≡◌, ◌≢◌, ◌≤◌, true, None, Err, IfOk};
 ghost use Rattle.cxl_enc.specs.Faults.{Rose};
 ghost use Rattle.cxl_enc.specs.Counters.{next_count};
 ghost use Rattle.cxl_io.specs.Fetch.{IsFile};
@@ -39,7 +39,7 @@ impl<R: Files> StdFetch<R> {
 }
 
 impl<R: Files> Fetch for StdFetch<R> {
-    ghost state = { λ faults. record { told = λ _. Untold; asked = None; faults = faults } };
+    ghost state = { λ faults. record { told = λ _. Untold; asked = None; faults = faults; counts_failures_alone = true } };
 
     fn fetch(&mut self, alloc: Global, name: &str) -> Result<Vec<u8>, FetchFault>
         ensures ok { IfOk result (λ file. IsFile Untold file.items) }

@@ -1,4 +1,4 @@
-ghost use Rattle.std.specs.Prelude.{◌≡◌, ◌<◌, ◌≤◌, None, length, IfOk, OnOk, OnErr};
+ghost use Rattle.std.specs.Prelude.{◌≡◌, ◌<◌, ◌≤◌, true, None, length, IfOk, OnOk, OnErr};
 ghost use Rattle.cxl_enc.specs.Faults.{HasCause};
 ghost use Rattle.cxl_enc.specs.Counters.{next_count};
 
@@ -33,7 +33,7 @@ impl<R: Print> StdSink<R> {
 }
 
 impl<R: Print> Sink for StdSink<R> {
-    ghost state = { λ faults. record { taken = None; faults = faults } };
+    ghost state = { λ faults. record { taken = None; faults = faults; counts_failures_alone = true } };
 
     /// One write of the system, and no buffer. A write that took nothing is a fault too.
     fn write(&mut self, bytes: &[u8]) -> Result<usize, Failed>

@@ -34,9 +34,9 @@ impl<R: Read> StdSource<R> {
 }
 
 impl<R: Read> Source for StdSource<R> {
-    ghost use Rattle.std.specs.Prelude.{None};
+    ghost use Rattle.std.specs.Prelude.{None, true};
 
-    ghost state = { λ faults. record { left = None; faults = faults } };
+    ghost state = { λ faults. record { left = None; faults = faults; counts_failures_alone = true } };
 
     /// One read of the system, and no buffer.
     fn read(&mut self, into: &mut [u8]) -> Result<usize, Failed>

@@ -16,4 +16,6 @@ loop-at-preserved g c =
           (rw rest at c.in_ok-at.ensures.taken)
           ∙ ap (λ told. told_with told (take n (drop at bytes))) c.loop-at.invariant.taken ∙ told_with-take_drop _ bytes at n;
       counts = let h = c.in_ok-at.ensures.counts in omega arith;
+      alone = c.in_ok-at.ensures.alone ∙ c.loop-at.invariant.alone;
+      unswallowed = λ alone. c.in_ok-at.ensures.unswallowed (c.loop-at.invariant.alone ∙ alone) ∙ c.loop-at.invariant.unswallowed alone;
     }

@@ -1,4 +1,5 @@
 use Rattle.std.proofs.Common.{Some, sym, ap, ◌∙◌, refl, arith}
+use Rattle.cxl_io.specs.Lines.{ended_lines}
 use Rattle.cxl_io.specs.Reader.{Reader, stopped}
 use Rattle.cxl_io.specs.declared.line_reader.Taken.TheVariants.{Fault}
 use Rattle.cxl_io.proofs.Reading.{not_over, reading-begin, reading-all, reading-refilled, next-ended, next-too_much, next-at_end, next-fails}
@@ -16,6 +17,9 @@ pub turns-init : goal.turns-init
 turns-init g c = record {
   so_far = reading-begin c.args.self.now c.begin.new.self _ c.begin.ensures.after (sym (ap (λ r. r.stop) c.begin.ensures.after) ∙ sym c.stopped.ensures ∙ c.in_default.is) c.begin.ensures.few;
   counts = omega arith;
+  alone = refl;
+  unswallowed = λ _. refl;
+  first = λ _. (refl, c.begin.ensures.after);
 }
 
 pub returns-then-pass_break-clause-next : goal.returns-then-pass_break-clause-next
@@ -46,6 +50,9 @@ turns-preserved g c =
           (reading-all c.args.self.now c.turns.self c.pass_break.new.self _ _ c.turns.invariant.so_far passes) (ap (λ r. r.held) passes.after) few
           c.in-Ok.ensures.ok;
       counts = let so_far = c.turns.invariant.counts in let more = c.in-Ok.ensures.counts in omega arith;
+      alone = c.in-Ok.ensures.alone ∙ c.turns.invariant.alone;
+      unswallowed = λ alone. c.in-Ok.ensures.unswallowed (c.turns.invariant.alone ∙ alone) ∙ c.turns.invariant.unswallowed alone;
+      first = λ holds. absurd (holds (sym (ap (λ (r : Reader). ended_lines r.held) (c.turns.invariant.first holds).1) ∙ passes.unbroken));
     }
 
 pub returns-in-Err-clause-next : goal.returns-in-Err-clause-next
