@@ -4,6 +4,7 @@ pub mod Walks
 pub mod Words
 pub mod RowWrites
 pub mod JobWrites
+pub mod LoopJobs
 pub mod Bounds
 pub mod Folds
 pub mod BlockRules

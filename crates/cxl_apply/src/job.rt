@@ -1,13 +1,16 @@
-ghost use Rattle.std.specs.Prelude.{◌≡◌, ℕ, ◌<◌, ◌≤◌, ◌↔◌, List, length, drop, All, IfOk};
-ghost use Rattle.cxl_enc.specs.Faults.{Rose};
+ghost use Rattle.std.specs.Prelude.{◌≡◌, ◌≢◌, ℕ, ◌<◌, ◌≤◌, ◌↔◌, List, length, drop, All, IfOk, OnOk, OnErr};
+ghost use Rattle.cxl_bus.specs.Trail.{trail_with};
+ghost use Rattle.cxl_enc.specs.Faults.{Rose, HasCause, LeavesCount};
 ghost use Rattle.cxl_regs.specs.Registers.{Registers};
 ghost use Rattle.cxl_apply.specs.Jobs.{AreCreateWrites, AreReleaseWrites, AreTakenBack, AreOfDifferentNodes, CanCreate, CanRelease, blocks_after_writes, blocks_done};
 ghost use Rattle.cxl_apply.specs.Steps.{HasWordsOf, MakesWrite, TakesBack, IsAsBefore, MatchStepped};
+ghost use Rattle.cxl_apply.specs.WordsSent.{words_made, words_taken_back};
 
 use crate::laws::writes_are_taken_back;
 use crate::rows::{falling, release_write, rising, row_writes};
 use crate::write::{Stepped, Write};
 use cxl_bus::Regs;
+use cxl_enc::Failed;
 use cxl_image::Image;
 use cxl_model::{Memory, Row};
 use cxl_regs::write_laws;
@@ -102,6 +105,10 @@ impl Job {
         ensures last { (result ≡ Stepped.Done) ↔ (self.new.done ≡ length self.new.writes) }
         ensures cause { result ≡ Stepped.BusFault → Rose (R.state regs.old).faults (R.state regs.new).faults }
         ensures counts { (R.state regs.old).faults ≤ (R.state regs.new).faults }
+        ensures alone { (R.state regs.new).counts_failures_alone ≡ (R.state regs.old).counts_failures_alone }
+        // A fault is not swallowed.
+        ensures unswallowed { (result ≢ Stepped.BusFault) → LeavesCount (R.state regs.old).counts_failures_alone
+            (R.state regs.old).faults (R.state regs.new).faults }
         // The image goes on from the one that the job was made for.
         ensures on_way { (start : List Registers) → image.old ≡ blocks_done start self.old.writes self.old.done
             → image.new ≡ blocks_done start self.new.writes self.new.done }
@@ -134,6 +141,10 @@ impl Job {
         ensures last { (result ≡ Stepped.Done) ↔ (self.new.done ≡ 0) }
         ensures cause { result ≡ Stepped.BusFault → Rose (R.state regs.old).faults (R.state regs.new).faults }
         ensures counts { (R.state regs.old).faults ≤ (R.state regs.new).faults }
+        ensures alone { (R.state regs.new).counts_failures_alone ≡ (R.state regs.old).counts_failures_alone }
+        // A fault is not swallowed.
+        ensures unswallowed { (result ≢ Stepped.BusFault) → LeavesCount (R.state regs.old).counts_failures_alone
+            (R.state regs.old).faults (R.state regs.new).faults }
         // The image is again what it was before that write.
         ensures on_way { (start : List Registers) → AreTakenBack start self.old.writes
             → image.old ≡ blocks_done start self.old.writes self.old.done
@@ -153,6 +164,80 @@ impl Job {
         } else {
             Stepped::More
         }
+    }
+
+    /// Makes the next writes until so many are made, or the bus fails.
+    pub fn make_to<R: Regs>(
+        &mut self,
+        upto: u32,
+        image: &mut Image,
+        regs: &mut R,
+    ) -> Result<(), Failed>
+        requires ahead { self.old.done ≤ upto }
+        requires within { upto ≤ length self.old.writes }
+        requires words { HasWordsOf image.old self.old.writes }
+        requires same { (R.state regs.old).blocks ≡ image.old }
+        ensures writes { self.new.writes ≡ self.old.writes }
+        // All of them, or up to the write that failed.
+        ensures made { OnOk result (self.new.done ≡ upto) }
+        ensures stopped { OnErr result ((self.old.done ≤ self.new.done) × (self.new.done < upto)) }
+        ensures on_way { (start : List Registers) → image.old ≡ blocks_done start self.old.writes self.old.done
+            → image.new ≡ blocks_done start self.new.writes self.new.done }
+        // Each is one word, in order, and no other word is sent.
+        ensures sent { (R.state regs.new).trail
+            ≡ trail_with (R.state regs.old).trail (words_made self.old.writes self.old.done self.new.done) }
+        ensures kept_words { HasWordsOf image.new self.new.writes }
+        ensures kept_same { (R.state regs.new).blocks ≡ image.new }
+        ensures cause { HasCause result (R.state regs.old).faults (R.state regs.new).faults }
+        ensures counts { (R.state regs.old).faults ≤ (R.state regs.new).faults }
+        ensures alone { (R.state regs.new).counts_failures_alone ≡ (R.state regs.old).counts_failures_alone }
+        // A fault is not swallowed.
+        ensures unswallowed { OnOk result (LeavesCount (R.state regs.old).counts_failures_alone
+            (R.state regs.old).faults (R.state regs.new).faults) }
+    {
+        while self.done() < upto {
+            if self.step(image, regs) == Stepped::BusFault {
+                return Err(Failed);
+            }
+        }
+        Ok(())
+    }
+
+    /// Takes writes back, the last one first, until so many are left, or the bus fails.
+    pub fn take_back_to<R: Regs>(
+        &mut self,
+        downto: u32,
+        image: &mut Image,
+        regs: &mut R,
+    ) -> Result<(), Failed>
+        requires made { downto ≤ self.old.done }
+        requires words { HasWordsOf image.old self.old.writes }
+        requires same { (R.state regs.old).blocks ≡ image.old }
+        ensures writes { self.new.writes ≡ self.old.writes }
+        // Down to so many, or to the one that failed.
+        ensures taken { OnOk result (self.new.done ≡ downto) }
+        ensures stopped { OnErr result ((downto < self.new.done) × (self.new.done ≤ self.old.done)) }
+        ensures on_way { (start : List Registers) → AreTakenBack start self.old.writes
+            → image.old ≡ blocks_done start self.old.writes self.old.done
+            → image.new ≡ blocks_done start self.new.writes self.new.done }
+        // Each is one word, the last one first, and no other word is sent.
+        ensures sent { (R.state regs.new).trail
+            ≡ trail_with (R.state regs.old).trail (words_taken_back self.old.writes self.new.done self.old.done) }
+        ensures kept_words { HasWordsOf image.new self.new.writes }
+        ensures kept_same { (R.state regs.new).blocks ≡ image.new }
+        ensures cause { HasCause result (R.state regs.old).faults (R.state regs.new).faults }
+        ensures counts { (R.state regs.old).faults ≤ (R.state regs.new).faults }
+        ensures alone { (R.state regs.new).counts_failures_alone ≡ (R.state regs.old).counts_failures_alone }
+        // A fault is not swallowed.
+        ensures unswallowed { OnOk result (LeavesCount (R.state regs.old).counts_failures_alone
+            (R.state regs.old).faults (R.state regs.new).faults) }
+    {
+        while downto < self.done() {
+            if self.undo_step(image, regs) == Stepped::BusFault {
+                return Err(Failed);
+            }
+        }
+        Ok(())
     }
 
     /// The image after the writes that are left. Takes memory.

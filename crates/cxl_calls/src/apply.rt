@@ -7,9 +7,9 @@ ghost use Rattle.cxl_apply.specs.Steps.{HasWordsOf};
 
 use crate::image::{after_reset, text_of, topology};
 use cxl_apply::{
-    Job, Row, Stepped, create_commits_its_rows, regions_stay_after_a_create,
-    regions_stay_after_a_release, regions_stay_in_a_create, regions_stay_in_a_release,
-    release_releases_its_rows, released_image_is_accepted, writes_are_taken_back,
+    Job, Row, create_commits_its_rows, regions_stay_after_a_create, regions_stay_after_a_release,
+    regions_stay_in_a_create, regions_stay_in_a_release, release_releases_its_rows,
+    released_image_is_accepted, writes_are_taken_back,
 };
 use cxl_bus::{FailingBus, Regs, Sent, SimBus};
 use cxl_image::Image;
@@ -195,10 +195,9 @@ fn forth<R: Regs>(job: &mut Job, image: &mut Image, regs: &mut R)
     ensures words { HasWordsOf image.new job.new.writes }
     ensures same { (R.state regs.new).blocks ≡ image.new }
 {
-    for _ in job.done()..job.total() {
-        if job.done() == job.total() || job.step(image, regs) == Stepped::BusFault {
-            return;
-        }
+    let total = job.total();
+    if job.done() < total {
+        let _ = job.make_to(total, image, regs);
     }
 }
 
@@ -209,11 +208,7 @@ fn back<R: Regs>(job: &mut Job, image: &mut Image, regs: &mut R)
     ensures words { HasWordsOf image.new job.new.writes }
     ensures same { (R.state regs.new).blocks ≡ image.new }
 {
-    for _ in 0..job.done() {
-        if job.done() == 0 || job.undo_step(image, regs) == Stepped::BusFault {
-            return;
-        }
-    }
+    let _ = job.take_back_to(0, image, regs);
 }
 
 /// A job under way over a bus that fails.

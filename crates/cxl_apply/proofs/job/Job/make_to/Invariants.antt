@@ -1,0 +1,9 @@
+use Rattle.std.proofs.Common.{◌-◌}
+use Rattle.cxl_apply.proofs.LoopJobs.{GoesForward}
+use Rattle.cxl_apply.proofs.job.Job.make_to.Given as goal
+
+abbrev pub invariant-loop-self : goal.invariant-loop-self
+invariant-loop-self g l = GoesForward l.upto l.fn.self l.self l.fn.image l.image (g.R.Regs.state l.fn.regs) (g.R.Regs.state l.regs)
+
+abbrev pub decreases-loop-self : goal.decreases-loop-self
+decreases-loop-self g l = l.upto - l.self.done

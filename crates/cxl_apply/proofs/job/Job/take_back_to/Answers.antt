@@ -1,0 +1,14 @@
+use Rattle.std.proofs.Common.{◌≢◌, ap, ◌∙◌, arith}
+use Rattle.std.proofs.lemmas.Bool.{false≢true}
+use Rattle.cxl_apply.specs.contracts.write.Stepped.{the_type}
+use Rattle.cxl_apply.specs.declared.write.Stepped.{Stepped}
+use Rattle.cxl_apply.specs.declared.write.Stepped.TheVariants.{BusFault}
+use Rattle.cxl_apply.proofs.LoopJobs.{back_on}
+use Rattle.cxl_apply.proofs.job.Job.take_back_to.Goals as goal
+use denote.Enum.Bare.{sameb}
+
+pub loop-self-preserved : goal.loop-self-preserved
+loop-self-preserved g c =
+    let other : c.undo_step.result ≢ BusFault = (λ e. false≢true (c.if-eq.ensures ∙ ap (λ (r : Stepped). sameb the_type r BusFault) e)) in
+    back_on c.undo_step.result c.args.downto _ _ _ _ _ _ _ _ _ c.loop-self.invariant (let test = c.loop-self-test.true in let done = c.done.ensures.value in omega arith) c.undo_step.ensures.event other c.undo_step.ensures.on_way
+    c.undo_step.ensures.kept_words c.undo_step.ensures.kept_same c.undo_step.ensures.counts c.undo_step.ensures.alone c.undo_step.ensures.unswallowed
