@@ -13,5 +13,6 @@ pub mod Planned
 pub mod Freed
 pub mod Staying
 pub mod Shapes
+pub mod BetweenWrites
 pub mod Again
 pub mod After

@@ -49,12 +49,12 @@ length_fold g (row ∷ rest) blocks = length_fold g rest (change g blocks row) �
 -- ---- blocks of nodes
 
 -- what the block of a node is
-record IsBlockAt (s : System) (n : ℕ) (block : Registers) : Type 0 where
-  is : IsBlock block
-  endpoint : is_endpoint_at s.nodes n ≡ block.endpoint
-  of : (node : Node) → slice_get s.nodes n ≡ Some node → IsBlockOf node block
+pub record IsBlockAt (s : System) (n : ℕ) (block : Registers) : Type 0 where
+  pub is : IsBlock block
+  pub endpoint : is_endpoint_at s.nodes n ≡ block.endpoint
+  pub of : (node : Node) → slice_get s.nodes n ≡ Some node → IsBlockOf node block
 
-own_blocks : (s : System) → IsSystem s → AllGood (IsBlockAt s) s.blocks
+pub own_blocks : (s : System) → IsSystem s → AllGood (IsBlockAt s) s.blocks
 own_blocks s system n block here = record {
   is = all_at IsBlock s.blocks n block system.blocks here;
   endpoint = endpoint_is s n block system.caps here;
@@ -91,16 +91,18 @@ without_row_at s row is block at =
       of = λ node there. let own = at.of node there in record { cap = own.cap; endpoint = own.endpoint };
     }
 
+-- where its blocks are those of its nodes, another image is one of the same host
+pub system_of_blocks : (s : System) (news : List Registers) → IsSystem s → length news ≡ length s.blocks → AllGood (IsBlockAt s) news → IsSystem (record s { blocks = news })
+system_of_blocks s news system long good = record {
+  tree = system.tree;
+  blocks = λ k d within. (good k (get_or news k d) (slice_get-get_or news k d within)).is;
+  caps = record { count = long ∙ system.caps.count; each = λ i block node here there. (good i block here).of node there };
+  made = system.made;
+}
+
 still_system : (s : System) (g : Row → Registers → Registers) (rows : List Row) → IsSystem s → All (Keeps (IsBlockAt s) g) rows → IsSystem (record s { blocks = fold (change g) s.blocks rows })
 still_system s g rows system keeps =
-    let news : List Registers = fold (change g) s.blocks rows in
-    let good : AllGood (IsBlockAt s) news = good_fold (IsBlockAt s) g rows s.blocks (own_blocks s system) keeps in
-    record {
-      tree = system.tree;
-      blocks = λ k d within. (good k (get_or news k d) (slice_get-get_or news k d within)).is;
-      caps = record { count = length_fold g rows s.blocks ∙ system.caps.count; each = λ i block node here there. (good i block here).of node there };
-      made = system.made;
-    }
+    system_of_blocks s (fold (change g) s.blocks rows) system (length_fold g rows s.blocks) (good_fold (IsBlockAt s) g rows s.blocks (own_blocks s system) keeps)
 
 -- ---- the images that whole jobs leave
 
@@ -109,17 +111,19 @@ planned_system s request plan system is =
     still_system s block_with_row plan.rows system
     (λ k d within. with_row_at s (get_or plan.rows k d) (is.1.each_row (get_or plan.rows k d) (Contains-get_or plan.rows k d within)).kept)
 
-abbrev Decodes : ℕ → Registers → Type 0
+abbrev pub Decodes : ℕ → Registers → Type 0
 Decodes n block = block.enabled ≡ true
+
+pub all_decode : (blocks : List Registers) → AllGood Decodes blocks → All (λ (block : Registers). block.enabled ≡ true) blocks
+all_decode blocks good = λ k d within. good k (get_or blocks k d) (slice_get-get_or blocks k d within)
 
 pub planned_enabled : (rows : List Row) (blocks : List Registers) → All (λ (block : Registers). block.enabled ≡ true) blocks → All (λ (block : Registers). block.enabled ≡ true) (fold blocks_with_row blocks rows)
 planned_enabled rows blocks enabled =
-    let news : List Registers = fold (change block_with_row) blocks rows in
-    let good : AllGood Decodes news = good_fold Decodes block_with_row rows blocks (λ n block here. all_at (λ (b : Registers). b.enabled ≡ true) blocks n block enabled here) (λ k d within block at. refl) in
-    λ k d within. good k (get_or news k d) (slice_get-get_or news k d within)
+    all_decode (fold (change block_with_row) blocks rows)
+    (good_fold Decodes block_with_row rows blocks (λ n block here. all_at (λ (b : Registers). b.enabled ≡ true) blocks n block enabled here) (λ k d within block at. refl))
 
 -- the decoder of a region's row is one of its node's block
-row_kept : (s : System) (found : Found) (n : ℕ) (row : Row) → IsSystem s → row_for s (region_range found) n ≡ Some row → IsDecoder (is_endpoint_at s.nodes row.node) row.decoder
+pub row_kept : (s : System) (found : Found) (n : ℕ) (row : Row) → IsSystem s → row_for s (region_range found) n ≡ Some row → IsDecoder (is_endpoint_at s.nodes row.node) row.decoder
 row_kept s found n row system is =
     let parts = row_parts s (region_range found) n row is in
     let own : IsRowFor s (region_range found) row.node row = subst (λ (m : ℕ). IsRowFor s (region_range found) m row) (sym parts.node) parts in

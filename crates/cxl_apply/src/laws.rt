@@ -19,7 +19,7 @@ ghost use Rattle.cxl_apply.specs.Jobs.{AreCreateWrites, AreReleaseWrites, AreTak
 ghost use Rattle.cxl_apply.specs.Releases.{rows_of, first_locked, first_not_last, blocks_without, system_without};
 
 use cxl_model::{accepted_where_whole, regions_stay};
-use cxl_regs::words_stand_for_decoder;
+use cxl_regs::{words_stand_for_decoder, write_laws};
 use cxl_span::committed_stand_first;
 
 /// A law of jobs: each write is taken back by its back value.
@@ -68,9 +68,17 @@ pub fn release_releases_its_rows()
     words_stand_for_decoder();
 }
 
-/// A law of jobs: between two writes of a legal plan's create the rules K1 to K8 hold, and every region of the image
-/// stays one, with its decoders, whatever is done of the job's own.
+/// A law of jobs: between two writes of a legal plan's create the image is one of the same host in which every block
+/// decodes, the rules K1 to K8 hold, and every region of the image stays one, with its decoders, whatever is done of the
+/// job's own.
 pub fn regions_stay_in_a_create()
+    ensures system { (s : System) (request : Request) (plan : Plan) (writes : List Write) (n : ℕ) → IsSystem s
+        → IsAccepted s → IsLegalPlan s request plan → AreCreateWrites s.blocks plan.rows writes
+        → IsSystem (system_done s writes n) }
+    ensures enabled { (s : System) (request : Request) (plan : Plan) (writes : List Write) (n : ℕ) → IsSystem s
+        → IsAccepted s → All (λ (block : Registers). block.enabled ≡ true) s.blocks
+        → IsLegalPlan s request plan → AreCreateWrites s.blocks plan.rows writes
+        → All (λ (block : Registers). block.enabled ≡ true) (system_done s writes n).blocks }
     ensures keeps { (s : System) (request : Request) (plan : Plan) (writes : List Write) (n : ℕ) → IsSystem s
         → IsAccepted s → All (λ (block : Registers). block.enabled ≡ true) s.blocks
         → IsLegalPlan s request plan → AreCreateWrites s.blocks plan.rows writes
@@ -86,14 +94,21 @@ pub fn regions_stay_in_a_create()
         → IsLegalPlan s request plan → AreCreateWrites s.blocks plan.rows writes → IsRegionIn s w found
         → IsRegionIn (system_done s writes n) w found }
 {
+    write_laws();
     words_stand_for_decoder();
     committed_stand_first();
     regions_stay();
 }
 
-/// A law of jobs: between two writes of a region's release the rules K1 to K8 hold, and every other region of the
-/// image stays one, with its decoders.
+/// A law of jobs: between two writes of a region's release the image is one of the same host in which every block
+/// decodes that did, the rules K1 to K8 hold, and every other region of the image stays one, with its decoders.
 pub fn regions_stay_in_a_release()
+    ensures system { (s : System) (found : Found) (writes : List Write) (n : ℕ) → IsSystem s
+        → AreReleaseWrites (rows_of s found) writes → IsSystem (system_done s writes n) }
+    ensures enabled { (s : System) (found : Found) (writes : List Write) (n : ℕ) → IsSystem s → KeepsBlocks s
+        → first_locked s found ≡ None → first_not_last s found ≡ None
+        → All (λ (block : Registers). block.enabled ≡ true) s.blocks → AreReleaseWrites (rows_of s found) writes
+        → All (λ (block : Registers). block.enabled ≡ true) (system_done s writes n).blocks }
     ensures keeps { (s : System) (found : Found) (writes : List Write) (n : ℕ) → IsSystem s → KeepsBlocks s
         → first_locked s found ≡ None → first_not_last s found ≡ None
         → AreReleaseWrites (rows_of s found) writes → KeepsBlocks (system_done s writes n) }
@@ -106,6 +121,7 @@ pub fn regions_stay_in_a_release()
         → AreReleaseWrites (rows_of s found) writes → region_range other ≢ region_range found
         → IsRegionIn s w other → IsRegionIn (system_done s writes n) w other }
 {
+    write_laws();
     words_stand_for_decoder();
     regions_stay();
 }

@@ -9,6 +9,7 @@ use Rattle.cxl_apply.specs.declared.write.Write.{Write}
 use Rattle.cxl_apply.specs.Jobs.{AreReleaseWrites, blocks_done, system_done}
 use Rattle.cxl_apply.specs.Releases.{rows_of, first_locked, first_not_last}
 use Rattle.cxl_apply.proofs.Bounds.{length_done}
+use Rattle.cxl_apply.proofs.BetweenWrites.{release_system, release_decodes}
 use Rattle.cxl_apply.proofs.Staying.{release_good, stays_keep, stays_same}
 use Rattle.cxl_apply.proofs.laws.regions_stay_in_a_release.Goals as goal
 
@@ -36,3 +37,10 @@ pub returns-clause-region : goal.returns-clause-region
 returns-clause-region c = λ s found writes n w other system keeps unlocked last is apart region.
     let way = on_way c s found writes n system keeps unlocked last is in
     c.regions_stay.ensures.region s (system_done s writes n) w other (way.same (region_range other) apart) way.keeps region
+
+pub returns-clause-system : goal.returns-clause-system
+returns-clause-system c = λ s found writes n system is. release_system c.write_laws.ensures.shape c.write_laws.ensures.block s found writes n system is
+
+pub returns-clause-enabled : goal.returns-clause-enabled
+returns-clause-enabled c = λ s found writes n system keeps unlocked last enabled is.
+    release_decodes c.words_stand_for_decoder.ensures s found writes n system.blocks keeps unlocked last enabled is
