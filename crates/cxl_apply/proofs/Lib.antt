@@ -14,5 +14,6 @@ pub mod Freed
 pub mod Staying
 pub mod Shapes
 pub mod BetweenWrites
+pub mod FewWrites
 pub mod Again
 pub mod After

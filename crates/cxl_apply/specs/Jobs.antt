@@ -73,6 +73,10 @@ pub record AreReleaseWrites (rows : List Row) (writes : List Write) : Type 0 whe
   pub order : AreRising rows rising
   pub each : writes ≡ map release_write rising
 
+-- the most writes of a job: eight for each of 96 nodes, 16 endpoints and the five ports above each
+abbrev pub job_limit : ℕ
+job_limit = 768
+
 -- ---- what writes leave
 
 -- the blocks after one write

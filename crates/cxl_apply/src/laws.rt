@@ -1,6 +1,6 @@
 //! Laws of the writes of jobs, each the contract of a function that does nothing.
 
-ghost use Rattle.std.specs.Prelude.{◌≡◌, ◌≢◌, ◌⊎◌, ℕ, ◌<◌, true, None, List, length, All};
+ghost use Rattle.std.specs.Prelude.{◌≡◌, ◌≢◌, ◌⊎◌, ℕ, ◌<◌, ◌≤◌, true, None, List, length, All};
 ghost use Rattle.cxl_regs.specs.Registers.{Registers, IsBlock};
 ghost use Rattle.cxl_window.specs.Fields.{WindowFields};
 ghost use Rattle.cxl_model.specs.declared.plan.Row.{Row};
@@ -15,12 +15,16 @@ ghost use Rattle.cxl_model.specs.Regions.{region_range, IsRegionIn};
 ghost use Rattle.cxl_model.specs.Changes.{HaveSameDecoders};
 ghost use Rattle.cxl_model.specs.Plans.{IsLegalPlan, with_rows};
 ghost use Rattle.cxl_apply.specs.declared.write.Write.{Write};
-ghost use Rattle.cxl_apply.specs.Jobs.{AreCreateWrites, AreReleaseWrites, AreTakenBack, AreOfDifferentNodes, CanCreate, CanRelease, blocks_after_writes, system_done};
+ghost use Rattle.cxl_apply.specs.Jobs.{AreCreateWrites, AreReleaseWrites, AreTakenBack, AreOfDifferentNodes, CanCreate, CanRelease, job_limit, blocks_after_writes, system_done};
 ghost use Rattle.cxl_apply.specs.Releases.{rows_of, first_locked, first_not_last, blocks_without, system_without};
 
-use cxl_model::{accepted_where_whole, regions_stay};
+use cxl_model::{
+    accepted_where_whole, endpoints_lie_evenly, regions_lie_in_windows, regions_stay,
+    weaves_fill_their_regions,
+};
 use cxl_regs::{words_stand_for_decoder, write_laws};
 use cxl_span::committed_stand_first;
+use cxl_topo::tree_laws;
 
 /// A law of jobs: each write is taken back by its back value.
 pub fn writes_are_taken_back()
@@ -124,6 +128,19 @@ pub fn regions_stay_in_a_release()
     write_laws();
     words_stand_for_decoder();
     regions_stay();
+}
+
+/// A law of jobs: one has few writes, whether it makes a legal plan's region or ends one of an image.
+pub fn jobs_have_few_writes()
+    ensures create { (s : System) (request : Request) (plan : Plan) (writes : List Write) → IsSystem s
+        → IsLegalPlan s request plan → AreCreateWrites s.blocks plan.rows writes → length writes ≤ job_limit }
+    ensures release { (s : System) (w : WindowFields) (found : Found) (writes : List Write) → IsSystem s
+        → IsRegionIn s w found → AreReleaseWrites (rows_of s found) writes → length writes ≤ job_limit }
+{
+    tree_laws();
+    endpoints_lie_evenly();
+    weaves_fill_their_regions();
+    regions_lie_in_windows();
 }
 
 /// A law of images: one that is accepted is accepted again with a region's decoders released, where none of them is

@@ -7,9 +7,9 @@ ghost use Rattle.cxl_apply.specs.Steps.{HasWordsOf};
 
 use crate::image::{after_reset, text_of, topology};
 use cxl_apply::{
-    Job, Row, create_commits_its_rows, regions_stay_after_a_create, regions_stay_after_a_release,
-    regions_stay_in_a_create, regions_stay_in_a_release, release_releases_its_rows,
-    released_image_is_accepted, writes_are_taken_back,
+    Job, Row, create_commits_its_rows, jobs_have_few_writes, regions_stay_after_a_create,
+    regions_stay_after_a_release, regions_stay_in_a_create, regions_stay_in_a_release,
+    release_releases_its_rows, released_image_is_accepted, writes_are_taken_back,
 };
 use cxl_bus::{FailingBus, Regs, Sent, SimBus};
 use cxl_image::Image;
@@ -405,6 +405,7 @@ fn over_the_simulators_bus(rt: HostRuntime) {
 #[test]
 fn laws() {
     writes_are_taken_back();
+    jobs_have_few_writes();
     create_commits_its_rows();
     release_releases_its_rows();
     regions_stay_in_a_create();
