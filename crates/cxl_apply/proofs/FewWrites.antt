@@ -1,5 +1,5 @@
 -- A job has few writes: its nodes stand on the paths of the region's endpoints, of which there are 16 at the most.
-use Rattle.std.proofs.Common.{◌≡◌, ◌≢◌, ℕ, zero, suc, ◌+◌, ◌*◌, ◌<◌, ◌≤◌, Bool, true, false, cond, ◌||◌, ◌&&◌, List, [], ◌∷◌, ◌++◌, length, get_or, map, reverse, set, filter, Option, Some, None, refl, sym, ap, ◌∙◌, subst, inl, inr, eq-eqb, arith, length-append}
+use Rattle.std.proofs.Common.{◌≡◌, ℕ, zero, suc, ◌*◌, ◌<◌, ◌≤◌, Bool, true, false, cond, ◌||◌, List, [], ◌∷◌, length, get_or, map, filter, Some, refl, sym, ap, ◌∙◌, subst, eq-eqb, arith, length-append}
 use Rattle.std.specs.Prelude.{nat_eq, ◌==◌, slice_get, All, Contains, option_map}
 use Rattle.std.specs.List.{list_any, flat_map, IsDistinct}
 use Rattle.std.specs.Cmp.{nat_eq_equiv}
