@@ -6,5 +6,6 @@ pub mod Committed
 pub mod OneHolder
 pub mod SpanLaws
 pub mod Wholes
+pub mod Sending
 pub mod Cursors
 pub mod OneAnswer

@@ -11,12 +11,12 @@ use Rattle.cxl_span.proofs.KeptRules.{and_true, size_some}
 use Rattle.cxl_span.proofs.Committed.{ranges_rise}
 
 -- a committed decoder with an address in its range
-record Holds (d : Decoder) (h : ℕ) : Type 0 where
-  committed : d.committed ≡ true
-  from : d.base ≤ h
-  below : h < d.base + d.size
+pub record Holds (d : Decoder) (h : ℕ) : Type 0 where
+  pub committed : d.committed ≡ true
+  pub from : d.base ≤ h
+  pub below : h < d.base + d.size
 
-holds : (d : Decoder) (h : ℕ) → holds_address d h ≡ true → Holds d h
+pub holds : (d : Decoder) (h : ℕ) → holds_address d h ≡ true → Holds d h
 holds d h is =
     let parts = and_true (d.committed && nat_le d.base h) (nat_lt h (d.base + d.size)) is in
     let first = and_true d.committed (nat_le d.base h) parts.0 in

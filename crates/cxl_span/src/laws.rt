@@ -7,7 +7,7 @@ ghost use Rattle.cxl_regs.specs.declared.decoder.Decoder.{Decoder};
 ghost use Rattle.cxl_regs.specs.declared.reading.Range.{Range};
 ghost use Rattle.cxl_regs.specs.Registers.{Registers, IsBlock};
 ghost use Rattle.cxl_regs.specs.Reading.{decoder_ways, span_length, committed_count, holds_address, has_range};
-ghost use Rattle.cxl_span.specs.Spans.{span_start_of, span_end_of};
+ghost use Rattle.cxl_span.specs.Spans.{span_start_of, span_end_of, endpoint_place_of};
 ghost use Rattle.cxl_span.specs.Partitions.{lies_in};
 ghost use Rattle.cxl_span.specs.Breaches.{BlockKeeps};
 
@@ -79,4 +79,13 @@ pub fn spans_are_whole()
         → BlockKeeps block ram pmem → block.endpoint ≡ true
         → slice_get block.decoders i ≡ Some d → d.committed ≡ true
         → span_start_of block.decoders i % unit ≡ 0 }
+{}
+
+/// A law of spans: a committed decoder of an endpoint sends each address of its range to a byte of its span.
+pub fn addresses_go_into_spans()
+    ensures from { (start h : ℕ) (d : Decoder) → start ≤ endpoint_place_of start d h }
+    ensures below { (block : Registers) (ram pmem i h : ℕ) (d : Decoder) → IsBlock block
+        → BlockKeeps block ram pmem → block.endpoint ≡ true
+        → slice_get block.decoders i ≡ Some d → holds_address d h ≡ true
+        → endpoint_place_of (span_start_of block.decoders i) d h < span_start_of block.decoders i + span_length d }
 {}

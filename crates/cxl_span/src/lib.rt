@@ -11,7 +11,7 @@ mod spans;
 pub use allotting::{Room, Span, SpanFault, allot};
 pub use breach::{BlockBreach, block_breach};
 pub use laws::{
-    committed_stand_first, one_holder, ranges_rise, spans_are_whole, spans_follow,
-    spans_lie_in_partitions,
+    addresses_go_into_spans, committed_stand_first, one_holder, ranges_rise, spans_are_whole,
+    spans_follow, spans_lie_in_partitions,
 };
 pub use spans::{endpoint_place_of, start_of};

@@ -1,5 +1,5 @@
 -- The addresses that come to a device byte, told by the endpoint's block.
-use Rattle.std.proofs.Common.{◌≡◌, ℕ, zero, suc, ◌+◌, ◌-◌, ◌*◌, ◌/◌, ◌%◌, ◌^◌, ◌<◌, ◌≤◌, true, List, length, Option, Some, None, refl, sym, ap, subst, ◌∙◌, inl, inr, arith}
+use Rattle.std.proofs.Common.{◌≡◌, ℕ, zero, suc, ◌+◌, ◌-◌, ◌*◌, ◌/◌, ◌%◌, ◌<◌, ◌≤◌, true, List, length, Option, Some, None, refl, sym, ap, subst, ◌∙◌, inl, inr, arith}
 use Rattle.std.specs.Prelude.{slice_get, nat_le, nat_lt, ◌&&◌, IfSome, IfNone}
 use Rattle.std.proofs.Math.Nat.{mul-pos, mul-zero}
 use Rattle.std.proofs.lemmas.Nat.{pow_pos}
@@ -8,7 +8,7 @@ use Rattle.std.proofs.lemmas.Option.{slice_get_within}
 use Rattle.cxl_topo.specs.declared.node.Node.{Node}
 use Rattle.cxl_topo.specs.Tree.{is_endpoint_at}
 use Rattle.cxl_regs.specs.declared.decoder.Decoder.{Decoder}
-use Rattle.cxl_regs.specs.Registers.{Registers, IsBlock, IsDecoder}
+use Rattle.cxl_regs.specs.Registers.{Registers}
 use Rattle.cxl_regs.specs.Reading.{decoder_ways, decoder_granularity, span_length, holds_address}
 use Rattle.cxl_span.specs.Spans.{span_start_of, span_end_of, endpoint_place_of}
 use Rattle.cxl_span.specs.Breaches.{BlockKeeps}
@@ -22,8 +22,7 @@ use Rattle.cxl_walk.specs.declared.spans.SpanByte.{SpanByte}
 use Rattle.cxl_walk.specs.Hosts.{ComesTo, HasNoHost, IsLeastHost}
 use Rattle.cxl_walk.specs.inner.WaysUp.{IsSpanByte, way_address, IsFirstWay}
 use Rattle.cxl_walk.proofs.Nodes.{some_and}
-use Rattle.cxl_walk.proofs.Targets.{all_at}
-use Rattle.cxl_walk.proofs.Places.{by_way, in_share, ways_rise}
+use Rattle.cxl_walk.proofs.Places.{by_way, ways_rise}
 
 -- ---- the route of an address
 
@@ -112,8 +111,8 @@ endpoint_block nodes blocks n block caps is there =
 pub record SpanLaws (block : Registers) : Type 0 where
   pub follow : (i j : ℕ) → i < j → j < length block.decoders → span_end_of block.decoders i ≤ span_start_of block.decoders j
   pub shares : (i : ℕ) (d : Decoder) → slice_get block.decoders i ≡ Some d → d.committed ≡ true → span_length d * decoder_ways d ≡ d.size
-  pub aligned : (i : ℕ) (d : Decoder) → slice_get block.decoders i ≡ Some d → d.committed ≡ true → span_length d % 2 ^ 28 ≡ 0
-  pub block_is : IsBlock block
+  pub into : (i h : ℕ) (d : Decoder) → slice_get block.decoders i ≡ Some d → holds_address d h ≡ true
+      → endpoint_place_of (span_start_of block.decoders i) d h < span_start_of block.decoders i + span_length d
 
 some_factor : (a w x : ℕ) → x < a * w → 0 < w
 some_factor a zero x less = absurd (let none : a * 0 ≡ 0 = mul-zero a in omega (arith, none, less))
@@ -143,9 +142,9 @@ from_span block dpa h laws sent =
     let less : x < span_length d * w = omega (arith, share, below, from) in
     let some_w : 0 < w = some_factor (span_length d) w x less in
     let some_g : 0 < g = mul-pos (omega arith) (pow_pos d.gran) in
-    let few : d.gran < 16 = (all_at (IsDecoder block.endpoint) block.decoders sent.i d sent.there laws.block_is.each).gran in
     let along : ℕ = x / (g * w) * g + x % g in
     let way : ℕ = x / g % w in
+    let inside = laws.into sent.i h d sent.there sent.holds in
     let told : x ≡ (along / g * w + way) * g + along % g = by_way g w x along some_g some_w refl in
     record {
       i = sent.i;
@@ -156,7 +155,7 @@ from_span block dpa h laws sent =
         there = sent.there;
         committed = inner.0;
         place = omega (arith, sent.place);
-        within = in_share d.gran w x (span_length d) few some_w some_g (mul-pos some_g some_w) (laws.aligned sent.i d sent.there inner.0) less;
+        within = omega (arith, inside);
       };
       address = omega (arith, told, from);
       below = mod-lt' x g w some_w;

@@ -20,7 +20,7 @@ use cxl_model::{
     bytes_are_carried_one_to_one, capacity_at, carries_where_chain_ends,
     committed_spans_are_of_regions, routes_are_of_regions,
 };
-use cxl_span::{block_breach, spans_are_whole, spans_follow};
+use cxl_span::{addresses_go_into_spans, block_breach, spans_are_whole, spans_follow};
 use cxl_topo::Topo;
 use cxl_window::Window;
 
@@ -72,6 +72,7 @@ fn least(image: &Image, topo: &Topo, windows: &[Window], ep: u32, dpa: u64) -> O
 {
     spans_follow();
     spans_are_whole();
+    addresses_go_into_spans();
     let count = topo.count();
     prove!(ep < count);
     let block = image.block(ep);

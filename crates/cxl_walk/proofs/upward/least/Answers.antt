@@ -1,10 +1,9 @@
-use Rattle.std.proofs.Common.{◌≡◌, ℕ, ◌*◌, ◌%◌, ◌<◌, ◌≤◌, true, List, length, Some, subst, sym, ◌∙◌}
+use Rattle.std.proofs.Common.{◌≡◌, ℕ, ◌+◌, ◌*◌, ◌<◌, ◌≤◌, true, List, length, Some, subst, sym, ◌∙◌}
 use Rattle.std.specs.Prelude.{slice_get}
-use Rattle.cxl_enc.specs.Limits.{unit}
 use Rattle.cxl_regs.specs.declared.decoder.Decoder.{Decoder}
 use Rattle.cxl_regs.specs.Registers.{Registers, IsBlock}
-use Rattle.cxl_regs.specs.Reading.{decoder_ways, span_length}
-use Rattle.cxl_span.specs.Spans.{span_start_of, span_end_of}
+use Rattle.cxl_regs.specs.Reading.{decoder_ways, span_length, holds_address}
+use Rattle.cxl_span.specs.Spans.{span_start_of, span_end_of, endpoint_place_of}
 use Rattle.cxl_span.specs.Breaches.{BlockKeeps}
 use Rattle.cxl_model.specs.System.{System, system_of, ram_at}
 use Rattle.cxl_walk.proofs.Nodes.{none_then, some_not}
@@ -25,13 +24,13 @@ module _ (block : Registers) (ram pmem : ℕ) (block_is : IsBlock block) (kept :
   laws_of :
       ((decoders : List Decoder) (i j : ℕ) → i < j → j < length decoders → span_end_of decoders i ≤ span_start_of decoders j)
       → ((b : Registers) (r p i : ℕ) (d : Decoder) → BlockKeeps b r p → b.endpoint ≡ true → slice_get b.decoders i ≡ Some d → d.committed ≡ true → span_length d * decoder_ways d ≡ d.size)
-      → ((b : Registers) (r p i : ℕ) (d : Decoder) → BlockKeeps b r p → b.endpoint ≡ true → slice_get b.decoders i ≡ Some d → d.committed ≡ true → span_length d % unit ≡ 0)
+      → ((b : Registers) (r p i h : ℕ) (d : Decoder) → IsBlock b → BlockKeeps b r p → b.endpoint ≡ true → slice_get b.decoders i ≡ Some d → holds_address d h ≡ true
+      → endpoint_place_of (span_start_of b.decoders i) d h < span_start_of b.decoders i + span_length d)
       → SpanLaws block
-  laws_of follow shares aligned = record {
+  laws_of follow shares into = record {
     follow = follow block.decoders;
     shares = λ i d. shares block ram pmem i d kept endpoint;
-    aligned = λ i d. aligned block ram pmem i d kept endpoint;
-    block_is = block_is;
+    into = λ i h d. into block ram pmem i h d block_is kept endpoint;
   }
 
 pub returns-in_default-clause-none : goal.returns-in_default-clause-none
@@ -39,7 +38,7 @@ returns-in_default-clause-none c =
     let block = c.block-block.result.now in
     let kept = none_then c.block_breach.result _ c.block_breach.ensures.none (sym c.is_some.ensures ∙ c.if-is_some.false) in
     let endpoint = endpoint_block c.args.topo.now.nodes c.args.image.now c.args.ep block c.requires.caps c.requires.endpoint c.block-block.ensures.value in
-    let laws = laws_of block c.capacity_at-capacity.result.ram c.capacity_at-capacity.result.pmem c.block-block.ensures.block kept endpoint c.spans_follow.ensures c.spans_are_whole.ensures.shares c.spans_are_whole.ensures.length_aligned in
+    let laws = laws_of block c.capacity_at-capacity.result.ram c.capacity_at-capacity.result.pmem c.block-block.ensures.block kept endpoint c.spans_follow.ensures c.spans_are_whole.ensures.shares c.addresses_go_into_spans.ensures.below in
     no_span (system_of c.args.image.now c.args.topo.now c.args.windows.now) c.args.ep c.args.dpa block c.block-block.ensures.value laws c.in_default.ensures.none
 
 pub returns-clause-some : goal.returns-clause-some
@@ -47,7 +46,7 @@ returns-clause-some c =
     let block = c.block-block.result.now in
     let kept = none_then c.block_breach.result _ c.block_breach.ensures.none (sym c.is_some.ensures ∙ c.if-is_some.false) in
     let endpoint = endpoint_block c.args.topo.now.nodes c.args.image.now c.args.ep block c.requires.caps c.requires.endpoint c.block-block.ensures.value in
-    let laws = laws_of block c.capacity_at-capacity.result.ram c.capacity_at-capacity.result.pmem c.block-block.ensures.block kept endpoint c.spans_follow.ensures c.spans_are_whole.ensures.shares c.spans_are_whole.ensures.length_aligned in
+    let laws = laws_of block c.capacity_at-capacity.result.ram c.capacity_at-capacity.result.pmem c.block-block.ensures.block kept endpoint c.spans_follow.ensures c.spans_are_whole.ensures.shares c.addresses_go_into_spans.ensures.below in
     least_host (system_of c.args.image.now c.args.topo.now c.args.windows.now) c.args.ep c.args.dpa block c.block-block.ensures.value laws c.in-Some.byte c.in-Some.ensures.some c.first_way.result c.first_way.ensures.some
 
 pub returns-clause-none : goal.returns-clause-none
@@ -55,5 +54,5 @@ returns-clause-none c =
     let block = c.block-block.result.now in
     let kept = none_then c.block_breach.result _ c.block_breach.ensures.none (sym c.is_some.ensures ∙ c.if-is_some.false) in
     let endpoint = endpoint_block c.args.topo.now.nodes c.args.image.now c.args.ep block c.requires.caps c.requires.endpoint c.block-block.ensures.value in
-    let laws = laws_of block c.capacity_at-capacity.result.ram c.capacity_at-capacity.result.pmem c.block-block.ensures.block kept endpoint c.spans_follow.ensures c.spans_are_whole.ensures.shares c.spans_are_whole.ensures.length_aligned in
+    let laws = laws_of block c.capacity_at-capacity.result.ram c.capacity_at-capacity.result.pmem c.block-block.ensures.block kept endpoint c.spans_follow.ensures c.spans_are_whole.ensures.shares c.addresses_go_into_spans.ensures.below in
     none_at_all (system_of c.args.image.now c.args.topo.now c.args.windows.now) c.args.ep c.args.dpa block c.block-block.ensures.value laws c.in-Some.byte c.in-Some.ensures.some c.first_way.result c.first_way.ensures.none
