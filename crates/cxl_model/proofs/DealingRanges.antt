@@ -23,6 +23,19 @@ reached s h n steps end (on_step _ child step rest _ move walk) = reached s h ch
 reached s h n steps end (at_end _ (Arrives arrival) move) = (n, move)
 reached s h n steps end (at_end _ (Misses miss) move) = tt
 
+by_end : (s : System) (h index position : ℕ) (steps : List Step) (end : End) (route : Routing) → Reached s h end → Routed route ≡ chain_end_by index position steps end
+    → IsArrival s h route.arrival.endpoint route.arrival
+by_end s h index position steps (Arrives arrival) route reached is =
+    let same : route ≡ record { window = index; position = position; steps = steps; arrival = arrival } = cc in
+    let here : IsArrival s h arrival.endpoint arrival = subst (λ (n : ℕ). IsArrival s h n arrival) (sym reached.1.here) reached.1 in
+    subst (λ (r : Routing). IsArrival s h r.arrival.endpoint r.arrival) (sym same) here
+by_end s h index position steps (Misses miss) route reached is = cc
+
+-- a route ends where its endpoint's decoder sends the address
+pub arrives : (s : System) (h : ℕ) (route : Routing) → Chain s h (Routed route) → IsArrival s h route.arrival.endpoint route.arrival
+arrives s h route (unheld none is) = cc
+arrives s h route (held w position bridge steps end targets walk is) = by_end s h w.index position steps end route (reached s h bridge steps end walk) is
+
 -- ---- the range
 
 -- a committed range that holds the address
@@ -48,13 +61,5 @@ of_arrival s h n arrival is =
       below = parts.below;
     }
 
-by_end : (s : System) (h index position : ℕ) (steps : List Step) (end : End) (route : Routing) → Reached s h end → Routed route ≡ chain_end_by index position steps end
-    → InRange s h route.arrival.base
-by_end s h index position steps (Arrives arrival) route reached is =
-    let same : route ≡ record { window = index; position = position; steps = steps; arrival = arrival } = cc in
-    subst (λ (x : Routing). InRange s h x.arrival.base) (sym same) (of_arrival s h reached.0 arrival reached.1)
-by_end s h index position steps (Misses miss) route reached is = cc
-
 pub in_a_range : (s : System) (h : ℕ) (route : Routing) → Chain s h (Routed route) → InRange s h route.arrival.base
-in_a_range s h route (unheld none is) = cc
-in_a_range s h route (held w position bridge steps end targets walk is) = by_end s h w.index position steps end route (reached s h bridge steps end walk) is
+in_a_range s h route chain = of_arrival s h route.arrival.endpoint route.arrival (arrives s h route chain)

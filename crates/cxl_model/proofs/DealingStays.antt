@@ -18,9 +18,9 @@ use Rattle.cxl_model.specs.Chain.{Routing}
 use Rattle.cxl_model.specs.Ranges.{index_for, product}
 use Rattle.cxl_model.specs.Regions.{region_range, weave_fields}
 use Rattle.cxl_model.specs.Dealing.{slot_steps, IsDealtRoute}
-use Rattle.cxl_model.specs.Changes.{HaveSameDecoders}
+use Rattle.cxl_model.specs.Changes.{HaveSameOwnDecoders}
 use Rattle.cxl_model.proofs.Outcomes.{one_value}
-use Rattle.cxl_model.proofs.Staying.{Common, common, ports_by}
+use Rattle.cxl_model.proofs.Staying.{firsts, ports_by}
 use Rattle.cxl_model.proofs.DealingRoutes.{carried_once}
 
 -- the steps of a slot, by what both images have
@@ -36,26 +36,23 @@ steps_by w slot endpoint nodes decode number =
     (number parent.node))
     (ports_above nodes endpoint))
 
-same_steps : (s t : System) (r : Range) (w : WindowFields) (slot endpoint : ℕ) → Common s t r → slot_steps t w r slot endpoint ≡ slot_steps s w r slot endpoint
-same_steps s t r w slot endpoint both =
-    let nodes = both.nodes in
-    let decode = both.decode in
-    let number = both.number in
-    λ k. steps_by w slot endpoint (nodes k) (decode k) (number k)
+same_steps : (s t : System) (r : Range) (w : WindowFields) (slot endpoint : ℕ) → HaveSameOwnDecoders s t r → slot_steps t w r slot endpoint ≡ slot_steps s w r slot endpoint
+same_steps s t r w slot endpoint same =
+    let nodes = same.nodes in
+    λ k. steps_by w slot endpoint (nodes k) (λ n. (firsts s t r same n).found k) (λ n. (firsts s t r same n).place k)
 
-pub turned : (s t : System) (r : Range) → HaveSameDecoders s t r → HaveSameDecoders t s r
-turned s t r same = record { nodes = sym same.nodes; windows = sym same.windows; there = same.back; back = same.there }
+pub turned : (s t : System) (r : Range) → HaveSameOwnDecoders s t r → HaveSameOwnDecoders t s r
+turned s t r same = record { nodes = sym same.nodes; there = same.back; back = same.there }
 
-pub dealt_stays : (s t : System) (w : WindowFields) (found : Found) (h : ℕ) (route : Routing) → HaveSameDecoders s t (region_range found) → IsDealtRoute s w found h route → IsDealtRoute t w found h route
+pub dealt_stays : (s t : System) (w : WindowFields) (found : Found) (h : ℕ) (route : Routing) → HaveSameOwnDecoders s t (region_range found) → IsDealtRoute s w found h route
+    → IsDealtRoute t w found h route
 dealt_stays s t w found h route same dealt =
-    let both = common s t (region_range found) same in
-    let number = both.number in
     record {
       window = dealt.window;
       position = dealt.position;
       slot = dealt.slot;
-      steps = dealt.steps ∙ sym (same_steps s t (region_range found) w (dealt_slot (weave_fields found w) h) route.arrival.endpoint both);
-      decoder = (λ k. number k route.arrival.endpoint) ∙ dealt.decoder;
+      steps = dealt.steps ∙ sym (same_steps s t (region_range found) w (dealt_slot (weave_fields found w) h) route.arrival.endpoint same);
+      decoder = (firsts s t (region_range found) same route.arrival.endpoint).place ∙ dealt.decoder;
       base = dealt.base;
       place = dealt.place;
     }

@@ -33,6 +33,7 @@ pub mod DealingPositions
 pub mod DealingEnds
 pub mod DealingRoutes
 pub mod DealingRanges
+pub mod DealingSpans
 pub mod DealingStays
 pub mod Hosting
 pub mod Resetting

@@ -104,12 +104,12 @@ abbrev pub SpansFollow : Type 0
 SpansFollow = (decoders : List Decoder) (i j : ℕ) → i < j → j < length decoders → span_end_of decoders i ≤ span_start_of decoders j
 
 -- a byte of the span of decoder i
-record InSpan (decoders : List Decoder) (i dpa : ℕ) : Type 0 where
-  within : i < length decoders
-  from : span_start_of decoders i ≤ dpa
-  below : dpa < span_end_of decoders i
+pub record InSpan (decoders : List Decoder) (i dpa : ℕ) : Type 0 where
+  pub within : i < length decoders
+  pub from : span_start_of decoders i ≤ dpa
+  pub below : dpa < span_end_of decoders i
 
-one_span : SpansFollow → (decoders : List Decoder) (i j dpa : ℕ) → InSpan decoders i dpa → InSpan decoders j dpa → i ≡ j
+pub one_span : SpansFollow → (decoders : List Decoder) (i j dpa : ℕ) → InSpan decoders i dpa → InSpan decoders j dpa → i ≡ j
 one_span follow decoders i j dpa one other =
     let one_from = one.from in
     let one_below = one.below in
@@ -124,14 +124,14 @@ one_span follow decoders i j dpa one other =
     ]
 
 -- the byte is one of a decoder of the range
-record OfByte (s : System) (r : Range) (endpoint dpa : ℕ) : Type 0 where
-  i : ℕ
-  d : Decoder
-  there : decoder_at s endpoint i ≡ Some d
-  has : has_range r d ≡ true
-  inside : InSpan (decoders_at s endpoint) i dpa
+pub record OfByte (s : System) (r : Range) (endpoint dpa : ℕ) : Type 0 where
+  pub i : ℕ
+  pub d : Decoder
+  pub there : decoder_at s endpoint i ≡ Some d
+  pub has : has_range r d ≡ true
+  pub inside : InSpan (decoders_at s endpoint) i dpa
 
-of_byte : (s : System) (w : WindowFields) (found : Found) (endpoint dpa : ℕ) → IsRegionIn s w found → LiesInSpan found endpoint dpa → OfByte s (region_range found) endpoint dpa
+pub of_byte : (s : System) (w : WindowFields) (found : Found) (endpoint dpa : ℕ) → IsRegionIn s w found → LiesInSpan found endpoint dpa → OfByte s (region_range found) endpoint dpa
 of_byte s w found endpoint dpa is lies =
     subst (λ (n : ℕ). OfByte s (region_range found) n dpa) lies.here
     (let place : Place = lies.place in

@@ -29,35 +29,35 @@ use Rattle.cxl_model.specs.Ranges.{serves, decoder_for, index_for, lies_within, 
 use Rattle.cxl_model.specs.Rules.{starts_in_thirds, permits, keeps_window, are_distinct, is_bridge_landing, keeps_targets, lists, uid_above, keeps_reach, keeps_ways}
 use Rattle.cxl_model.specs.Accepted.{breaks, breaks_at, KeepsBlocks, IsWhole}
 use Rattle.cxl_model.specs.Regions.{target_position, LeadsTo, past_forwarding, past_port, at_endpoint, HasSpan, region_range, IsRegionIn}
-use Rattle.cxl_model.specs.Changes.{KeepsDecoders, HaveSameDecoders}
+use Rattle.cxl_model.specs.Changes.{KeepsDecoders, HaveSameDecoders, KeepsOwnDecoders, HaveSameOwnDecoders}
 use Rattle.cxl_model.proofs.BreachesOfRanges.{passes_one}
 use Rattle.cxl_model.proofs.WeavingServers.{has_parts, same_range}
 use Rattle.cxl_model.proofs.CountingTrees.{same_test}
 use Rattle.cxl_model.proofs.CountingRules.{first_of}
 
--- ---- lists with the same elements up to each that passes
+-- ---- lists with the same elements that pass
 
-abbrev KeepsUpTo : {X : Type 0} → (X → Bool) → List X → List X → Type 0
-KeepsUpTo {X} p xs ys = (i j : ℕ) (x : X) → slice_get xs i ≡ Some x → p x ≡ true → j ≤ i → slice_get ys j ≡ slice_get xs j
+abbrev KeepsPassing : {X : Type 0} → (X → Bool) → List X → List X → Type 0
+KeepsPassing {X} p xs ys = (i : ℕ) (x : X) → slice_get xs i ≡ Some x → p x ≡ true → slice_get ys i ≡ Some x
 
-any_kept : {X : Type 0} (d : X) (p q : X → Bool) (xs ys : List X) → KeepsUpTo p xs ys → list_any (λ x. p x && q x) xs ≡ true → list_any (λ x. p x && q x) ys ≡ true
+any_kept : {X : Type 0} (d : X) (p q : X → Bool) (xs ys : List X) → KeepsPassing p xs ys → list_any (λ x. p x && q x) xs ≡ true → list_any (λ x. p x && q x) ys ≡ true
 any_kept d p q xs ys keeps any =
     let some = first_of d (λ x. p x && q x) xs any in
-    let at : slice_get ys some.i ≡ Some some.x = keeps some.i some.i some.x some.at (and_parts (p some.x) (q some.x) some.passes).0 (omega arith) ∙ some.at in
+    let at : slice_get ys some.i ≡ Some some.x = keeps some.i some.x some.at (and_parts (p some.x) (q some.x) some.passes).0 in
     passes_one (λ x. p x && q x) ys some.i some.x at some.passes
 
-any_plain : {X : Type 0} (d : X) (p : X → Bool) (xs ys : List X) → KeepsUpTo p xs ys → list_any p xs ≡ true → list_any p ys ≡ true
+any_plain : {X : Type 0} (d : X) (p : X → Bool) (xs ys : List X) → KeepsPassing p xs ys → list_any p xs ≡ true → list_any p ys ≡ true
 any_plain d p xs ys keeps any =
     let some = first_of d p xs any in
-    passes_one p ys some.i some.x (keeps some.i some.i some.x some.at some.passes (omega arith) ∙ some.at) some.passes
+    passes_one p ys some.i some.x (keeps some.i some.x some.at some.passes) some.passes
 
 -- the first that passes stands no later in the other list
-not_later : {X : Type 0} (d : X) (p : X → Bool) (xs ys : List X) (i j : ℕ) (x : X) → KeepsUpTo p xs ys → slice_get xs i ≡ Some x → p x ≡ true → position p ys ≡ Some j → j ≤ i
+not_later : {X : Type 0} (d : X) (p : X → Bool) (xs ys : List X) (i j : ℕ) (x : X) → KeepsPassing p xs ys → slice_get xs i ≡ Some x → p x ≡ true → position p ys ≡ Some j → j ≤ i
 not_later d p xs ys i j x keeps at passes place =
     elim (cases_lt i j) [
       | inr past ↦ past
       | inl less ↦
-          let there : slice_get ys i ≡ Some x = keeps i i x at passes (omega arith) ∙ at in
+          let there : slice_get ys i ≡ Some x = keeps i x at passes in
           let fails = (position-Some p ys j d place).2 i less in
           absurd (false≢true (sym fails ∙ ap p (get_or_from_slice_get ys i x d there) ∙ passes))
     ]
@@ -82,7 +82,7 @@ no_place d p xs none = go (position p xs) refl
         let at = position-Some p xs i d is in
         absurd (false≢true (sym none ∙ list_any_at p xs i d at.0 at.1))
 
-pub same_first : {X : Type 0} (d : X) (p : X → Bool) (xs ys : List X) → KeepsUpTo p xs ys → KeepsUpTo p ys xs → SameFirst p xs ys
+pub same_first : {X : Type 0} (d : X) (p : X → Bool) (xs ys : List X) → KeepsPassing p xs ys → KeepsPassing p ys xs → SameFirst p xs ys
 same_first d p xs ys there back =
     elim (cases_Bool (list_any p xs)) [
       | inl any ↦
@@ -92,13 +92,18 @@ same_first d p xs ys there back =
           let low = not_later d p xs ys one.i other.i one.x there one.at one.passes other.place in
           let high = not_later d p ys xs other.i one.i other.x back other.at other.passes one.place in
           let same : one.i ≡ other.i = omega arith in
-          let at : slice_get ys other.i ≡ Some one.x = ap (slice_get ys) (sym same) ∙ there one.i one.i one.x one.at one.passes (omega arith) ∙ one.at in
+          let at : slice_get ys other.i ≡ Some one.x = ap (slice_get ys) (sym same) ∙ there one.i one.x one.at one.passes in
           let element : other.x ≡ one.x = same_Some other.x one.x (sym other.at ∙ at) in
           record { any = also ∙ sym any; found = other.found ∙ ap Some element ∙ sym one.found; place = other.place ∙ ap Some (sym same) ∙ sym one.place }
       | inr none ↦
           let also : list_any p ys ≡ false = false_from_ne_true (list_any p ys) (λ any. false≢true (sym none ∙ any_plain d p ys xs back any)) in
           record { any = also ∙ sym none; found = no_find p ys also ∙ sym (no_find p xs none); place = no_place d p ys also ∙ sym (no_place d p xs none) }
     ]
+
+-- ---- lists with the same elements up to each that passes
+
+abbrev KeepsUpTo : {X : Type 0} → (X → Bool) → List X → List X → Type 0
+KeepsUpTo {X} p xs ys = (i j : ℕ) (x : X) → slice_get xs i ≡ Some x → p x ≡ true → j ≤ i → slice_get ys j ≡ slice_get xs j
 
 same_start : (xs ys : List Decoder) (p : Decoder → Bool) (i : ℕ) (d : Decoder) → KeepsUpTo p xs ys → slice_get xs i ≡ Some d → p d ≡ true → span_start_of ys i ≡ span_start_of xs i
 same_start xs ys p i d keeps at passes =
@@ -144,14 +149,21 @@ pub record Common (s t : System) (r : Range) : Type 0 where
 keeps_up_to : (s t : System) (r : Range) (n : ℕ) → KeepsDecoders s t r → KeepsUpTo (has_range r) (decoders_at s n) (decoders_at t n)
 keeps_up_to s t r n keeps = λ i j d at has below. keeps n i j d at has below
 
-firsts : (s t : System) (r : Range) → HaveSameDecoders s t r → (n : ℕ) → SameFirst (has_range r) (decoders_at s n) (decoders_at t n)
-firsts s t r same n = same_first reset_decoder (has_range r) (decoders_at s n) (decoders_at t n) (keeps_up_to s t r n same.there) (keeps_up_to t s r n same.back)
+-- images that have the same decoders of the range and below them have the same ones of it
+own_kept : (s t : System) (r : Range) → KeepsDecoders s t r → KeepsOwnDecoders s t r
+own_kept s t r keeps = λ n i d at has. keeps n i i d at has (omega arith) ∙ at
+
+pub own_decoders : (s t : System) (r : Range) → HaveSameDecoders s t r → HaveSameOwnDecoders s t r
+own_decoders s t r same = record { nodes = same.nodes; there = own_kept s t r same.there; back = own_kept t s r same.back }
+
+pub firsts : (s t : System) (r : Range) → HaveSameOwnDecoders s t r → (n : ℕ) → SameFirst (has_range r) (decoders_at s n) (decoders_at t n)
+firsts s t r same n = same_first reset_decoder (has_range r) (decoders_at s n) (decoders_at t n) (same.there n) (same.back n)
 
 same_lists_of : (s t : System) (r : Range) → HaveSameDecoders s t r → (p : Parent) → lists t r p ≡ lists s r p
 same_lists_of s t r same p =
     same_test (lists t r p) (lists s r p)
-    (any_kept reset_decoder (has_range r) (λ d. list_any (λ port. port == p.port) (entries_of d)) (decoders_at t p.node) (decoders_at s p.node) (keeps_up_to t s r p.node same.back))
-    (any_kept reset_decoder (has_range r) (λ d. list_any (λ port. port == p.port) (entries_of d)) (decoders_at s p.node) (decoders_at t p.node) (keeps_up_to s t r p.node same.there))
+    (any_kept reset_decoder (has_range r) (λ d. list_any (λ port. port == p.port) (entries_of d)) (decoders_at t p.node) (decoders_at s p.node) (own_kept t s r same.back p.node))
+    (any_kept reset_decoder (has_range r) (λ d. list_any (λ port. port == p.port) (entries_of d)) (decoders_at s p.node) (decoders_at t p.node) (own_kept s t r same.there p.node))
 
 kind_by : List Node → ℕ → ℕ → Option Decoder → MemKind
 kind_by nodes n start o =
@@ -171,13 +183,16 @@ pub common : (s t : System) (r : Range) → HaveSameDecoders s t r → Common s 
 common s t r same = record {
   nodes = same.nodes;
   windows = same.windows;
-  serve = λ k n. (firsts s t r same n).any k;
-  decode = λ k n. (firsts s t r same n).found k;
-  number = λ k n. (firsts s t r same n).place k;
+  serve = λ k n. (first n).any k;
+  decode = λ k n. (first n).found k;
+  number = λ k n. (first n).place k;
   list = λ k p. same_lists_of s t r same p k;
   kinds = λ k n. kind_of n k;
 }
   where
+    first : (n : ℕ) → SameFirst (has_range r) (decoders_at s n) (decoders_at t n)
+    first = firsts s t r (own_decoders s t r same)
+
     at : (n : ℕ) (o : Option ℕ) → index_for s r n ≡ o → option_map_or (span_kind t n) o Ram ≡ option_map_or (span_kind s n) o Ram
     at n None is = refl
     at n (Some i) is =
@@ -185,7 +200,7 @@ common s t r same = record {
         same_kinds s t r same n i (get_or (decoders_at s n) i reset_decoder) (slice_get-get_or (decoders_at s n) i reset_decoder own.0) own.1
 
     kind_of : (n : ℕ) → own_kind t r n ≡ own_kind s r n
-    kind_of n = ap (λ (o : Option ℕ). option_map_or (span_kind t n) o Ram) (firsts s t r same n).place ∙ at n (index_for s r n) refl
+    kind_of n = ap (λ (o : Option ℕ). option_map_or (span_kind t n) o Ram) (first n).place ∙ at n (index_for s r n) refl
 
 -- ---- ways, kinds and codes
 
@@ -368,7 +383,7 @@ same_span_place s t r same place start = go (index_for s r place.endpoint) refl 
         let own = position-Some (has_range r) (decoders_at s n) i reset_decoder is in
         let d : Decoder = get_or (decoders_at s n) i reset_decoder in
         let at : decoder_at s n i ≡ Some d = slice_get-get_or (decoders_at s n) i reset_decoder own.0 in
-        let number : index_for t r n ≡ Some i = (firsts s t r same n).place ∙ is in
+        let number : index_for t r n ≡ Some i = (firsts s t r (own_decoders s t r same) n).place ∙ is in
         let moved : span_start_of (decoders_at t n) i ≡ span_start_of (decoders_at s n) i = same_start (decoders_at s n) (decoders_at t n) (has_range r) i d (keeps_up_to s t r n same.there) at own.1 in
         subst (λ (o : Option ℕ). IsSomeAnd o (λ i. place.start ≡ span_start_of (decoders_at t n) i)) (sym number) (begins ∙ sym moved)
 
@@ -404,7 +419,7 @@ region_stays s t w found same keeps is =
     let r : Range = region_range found in
     let both = common s t r same in
     record {
-      committed = (is.committed.0, (firsts s t r same is.committed.0).any ∙ is.committed.1);
+      committed = (is.committed.0, (firsts s t r (own_decoders s t r same) is.committed.0).any ∙ is.committed.1);
       whole = whole_stays s t r same keeps is.whole;
       window = same_window s t r both ∙ is.window;
       index = is.index;

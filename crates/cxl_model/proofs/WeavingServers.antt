@@ -105,7 +105,7 @@ in_block_if s n i d (Some block) at there = record { block = block; at = at; the
 pub in_block : (s : System) (n i : ℕ) (d : Decoder) → decoder_at s n i ≡ Some d → InBlock s n i d
 in_block s n i d there = in_block_if s n i d (slice_get s.blocks n) refl there
 
-All-at : {X : Type 0} (P : X → Type 0) (xs : List X) (i : ℕ) (x : X) → slice_get xs i ≡ Some x → All P xs → P x
+pub All-at : {X : Type 0} (P : X → Type 0) (xs : List X) (i : ℕ) (x : X) → slice_get xs i ≡ Some x → All P xs → P x
 All-at P xs i x at each = subst P (get_or_from_slice_get xs i x x at) (All-get_or P xs i x (slice_get_within xs i x at) each)
 
 -- its base is a multiple of 256 MiB

@@ -135,3 +135,7 @@ pub record Targets (s : System) (h : ℕ) (w : WindowFields) (position bridge : 
 pub data Chain (s : System) (h : ℕ) (outcome : ChainEnd) : Type 0 where
   unheld : ((i : ℕ) (w : WindowFields) → slice_get s.windows i ≡ Some w → position_at w h ≡ None) → outcome ≡ Missed NoWindow → Chain s h outcome
   held : (w : WindowFields) (position bridge : ℕ) (steps : List Step) (end : End) → Targets s h w position bridge → Walk s h bridge steps end → outcome ≡ chain_end_by w.index position steps end → Chain s h outcome
+
+-- the chain of the address is a route
+abbrev pub HasRoute : System → ℕ → Type 0
+HasRoute s h = (route : Routing) × Chain s h (Routed route)

@@ -61,6 +61,10 @@ pub record IsRegionIn (s : System) (w : WindowFields) (found : Found) : Type 0 w
 abbrev pub IsRegion : System → Found → Type 0
 IsRegion s found = (w : WindowFields) × IsRegionIn s w found
 
+-- the address is a host byte of one of the image's regions
+abbrev pub LiesInRegion : System → ℕ → Type 0
+LiesInRegion s h = (found : Found) × IsRegion s found × (found.base ≤ h) × (h < found.base + found.size)
+
 -- ---- where its bytes are carried
 
 -- the weave of a region and its window

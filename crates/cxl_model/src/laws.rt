@@ -12,7 +12,10 @@ ghost use Rattle.cxl_regs.specs.declared.reading.Range.{Range};
 ghost use Rattle.cxl_model.specs.Ranges.{IsCommittedRange, lies_within};
 ghost use Rattle.cxl_model.specs.Accepted.{breaks, IsAccepted, IsFirstBreach, HasFirstBreach, KeepsBlocks, IsWhole};
 
+use cxl_image::Image;
 use cxl_span::ranges_rise;
+use cxl_topo::Topo;
+use cxl_window::Window;
 
 /// A law of chains: an address's chain has one end at the most.
 pub fn chains_have_one_end()
@@ -54,6 +57,18 @@ pub fn hosts_with_caps_are_systems()
     ensures host { (s : System) → IsSystem s → IsHost s }
     ensures caps { (s : System) (n i : ℕ) → IsSystem s → breaks s 1 n i ≡ false }
 {}
+
+/// An accepted image over its topology, with windows made with that topology's bridges, is a system. Does nothing, so
+/// that a caller can rest on it.
+pub fn accepted_image_is_system(image: &Image, topo: &Topo, windows: &[Window])
+    requires made { AreMadeWith windows.now (bridge_uids topo.now.nodes) }
+    requires accepted { IsAccepted (system_of image.now topo.now windows.now) }
+    ensures { IsSystem (system_of image.now topo.now windows.now) }
+{
+    hosts_with_caps_are_systems();
+    let _count = topo.count();
+    let _blocks = image.count();
+}
 
 /// A law of hosts: after reset, an image is accepted.
 pub fn reset_hosts_are_accepted()

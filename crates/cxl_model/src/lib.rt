@@ -20,15 +20,15 @@ pub use cxl_enc::{FixedList, MemKind, Memory, Name};
 pub use cxl_regs::Range;
 pub use cxl_span::{Room, SpanFault};
 pub use dealing::{
-    carries_where_chain_ends, chain_is_the_dealing, routes_are_of_regions, routes_lie_in_ranges,
-    routes_stay,
+    carries_where_chain_ends, chain_is_the_dealing, chains_to_spans_are_of_regions,
+    routes_are_of_regions, routes_lie_in_ranges, routes_stay,
 };
 pub use device::capacity_at;
 pub use extent::Extent;
 pub use found::{Found, Place, weave_of};
 pub use laws::{
-    accepted_or_breach, accepted_where_whole, breaches_lie_in_images, chains_have_one_end,
-    hosts_with_caps_are_systems, one_window, reset_hosts_are_accepted,
+    accepted_image_is_system, accepted_or_breach, accepted_where_whole, breaches_lie_in_images,
+    chains_have_one_end, hosts_with_caps_are_systems, one_window, reset_hosts_are_accepted,
 };
 pub use plan::{Plan, PlanFault, Reason, Row};
 pub use poison::{Entry, Part, PoisonList, Poisoned, Run, Wide};

@@ -1,4 +1,5 @@
 pub mod Routes
 pub mod Hosts
 pub mod Keeping
+pub mod Carrying
 pub mod inner

@@ -8,7 +8,7 @@ ghost use Rattle.cxl_model.specs.System.{System, IsSystem, system_of, bridge_uid
 ghost use Rattle.cxl_model.specs.Chain.{Chain, Routed};
 ghost use Rattle.cxl_model.specs.Accepted.{KeepsBlocks};
 ghost use Rattle.cxl_model.specs.Regions.{IsRegion, IsRegionIn, region_range, weave_fields};
-ghost use Rattle.cxl_model.specs.Changes.{HaveSameDecoders};
+ghost use Rattle.cxl_model.specs.Changes.{HaveSameDecoders, HaveSameOwnDecoders};
 ghost use Rattle.cxl_walk.specs.Routes.{routing_of, no_step};
 ghost use Rattle.cxl_walk.specs.Keeping.{KeptFields, IsSlotRoute, IsKept, IsKeptOf};
 
@@ -103,10 +103,13 @@ impl Kept {
     }
 }
 
-/// A law of changes: the kept routes of a region are those of an image that keeps K1 to K8 and has the same
-/// decoders of the region's range, however its other decoders change.
+/// A law of changes: the kept routes of a region are those of any image in which it is a region by the same decoders,
+/// however all others change; so they are of an image that has the same decoders below these too, and keeps K1 to K8.
 pub fn kept_routes_stay()
-    ensures { (s t : System) (w : WindowFields) (found : Found) (kept : KeptFields) → IsSystem s → IsSystem t
+    ensures own { (s t : System) (w : WindowFields) (found : Found) (kept : KeptFields) → IsSystem s → IsSystem t
+        → HaveSameOwnDecoders s t (region_range found) → IsRegionIn s w found → IsRegionIn t w found
+        → (IsKept s w found kept) ↔ (IsKept t w found kept) }
+    ensures below { (s t : System) (w : WindowFields) (found : Found) (kept : KeptFields) → IsSystem s → IsSystem t
         → HaveSameDecoders s t (region_range found) → KeepsBlocks t → IsRegionIn s w found
         → (IsKept s w found kept) ↔ (IsKept t w found kept) }
 {

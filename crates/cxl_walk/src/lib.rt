@@ -1,6 +1,7 @@
 //! Where an address leads in a register image.
 #![tactic(auto)]
 
+mod carrying;
 mod decoding;
 mod downward;
 mod kept;
@@ -11,6 +12,7 @@ mod target;
 mod upward;
 mod way;
 
+pub use carrying::images_carry_their_regions;
 pub use cxl_model::{Miss, Step};
 pub use downward::down;
 pub use kept::{Kept, kept_routes_stay};

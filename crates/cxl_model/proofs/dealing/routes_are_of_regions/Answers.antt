@@ -55,3 +55,13 @@ returns-clause-apart c = λ s h i one other system accepted chain next endpoint 
     subst (λ (f : Found). Carries f a.w i one.arrival.endpoint one.arrival.dpa) (sym found)
     (subst (λ (v : WindowFields). Carries b.found v i one.arrival.endpoint one.arrival.dpa) (sym window) at) in
     c.bytes_are_carried_one_to_one.ensures.apart s a.w a.found h i one.arrival.endpoint one.arrival.dpa system a.is a.dealt.place moved
+
+pub returns-clause-exactly : goal.returns-clause-exactly
+returns-clause-exactly c = λ s h system accepted. (
+  λ routed.
+      let all = owned c s h routed.0 system accepted routed.1 in
+      (all.found, (all.w, all.is), all.dealt.place.from, all.dealt.place.below),
+  λ lies.
+      let all = c.chain_is_the_dealing.ensures.route s lies.1.0 lies.0 h system lies.1.1 lies.2 lies.3 in
+      (all.0, all.1),
+)

@@ -20,8 +20,14 @@ stays s t w found kept same is = record {
       record { first = own.first; is = own.is; chain = same own.first (Routed (routing_of route)) own.is.from own.is.below own.chain; zeros = own.zeros };
 }
 
-pub returns : goal.returns
-returns c = λ s t w found kept system other same keeps is. (
+pub returns-clause-own : goal.returns-clause-own
+returns-clause-own c = λ s t w found kept system other same is also. (
+  stays s t w found kept (λ h outcome from below. (c.routes_stay.ensures.own s t w found h outcome system other same is also from below).0),
+  stays t s w found kept (λ h outcome from below. (c.routes_stay.ensures.own s t w found h outcome system other same is also from below).1),
+)
+
+pub returns-clause-below : goal.returns-clause-below
+returns-clause-below c = λ s t w found kept system other same keeps is. (
   stays s t w found kept (λ h outcome from below. (c.routes_stay.ensures.chain s t w found h outcome system other same keeps is from below).0),
   stays t s w found kept (λ h outcome from below. (c.routes_stay.ensures.chain s t w found h outcome system other same keeps is from below).1),
 )
