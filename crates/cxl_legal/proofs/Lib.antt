@@ -8,6 +8,7 @@ pub mod FittingCounts
 pub mod FittingTargets
 pub mod FittingRows
 pub mod FittingUsed
+pub mod AddedRanges
 pub mod FittingBlocks
 pub mod FittingPorts
 pub mod FittingRoom

@@ -11,9 +11,10 @@ ghost use Rattle.cxl_model.specs.declared.plan.Row.{Row};
 ghost use Rattle.cxl_model.specs.declared.request.Request.{Request};
 ghost use Rattle.cxl_model.specs.System.{System, IsSystem, decoders_at};
 ghost use Rattle.cxl_model.specs.Ranges.{serves, decoder_for, index_for, window_for, span_kind};
-ghost use Rattle.cxl_model.specs.Changes.{HaveSameDecoders};
+ghost use Rattle.cxl_model.specs.Changes.{HaveSameDecoders, AddsOneRange};
 ghost use Rattle.cxl_model.specs.Accepted.{IsAccepted, KeepsBlocks};
-ghost use Rattle.cxl_model.specs.Plans.{AreRowsOf, IsRow, IsLegalPlanIn, committed_row, with_rows};
+ghost use Rattle.cxl_model.specs.Regions.{region_range};
+ghost use Rattle.cxl_model.specs.Plans.{AreRowsOf, IsRow, IsLegalPlanIn, IsLegalPlan, committed_row, with_rows};
 ghost use Rattle.cxl_legal.specs.Used.{AreEndpoints, HasBytePorts, is_used};
 ghost use Rattle.cxl_legal.specs.Endpoints.{FitsEndpoints};
 ghost use Rattle.cxl_legal.specs.Windows.{FitsWindow};
@@ -44,6 +45,13 @@ pub fn legal_plans_fit()
     endpoints_lie_evenly();
     slots_are_endpoints();
 }
+
+/// A law of plans: the committed ranges of the image with a legal plan's rows committed are those of the image before
+/// and one more, the plan's.
+pub fn legal_plans_add_one_range()
+    ensures { (s : System) (request : Request) (plan : Plan) → IsSystem s → IsLegalPlan s request plan
+        → AddsOneRange s (with_rows s plan.rows) (region_range plan.found) }
+{}
 
 /// A law of plans: where a request keeps all that it has to over an accepted image, the rows that are stated for it
 /// are one for each used node that does not forward, their range is new, and with them every block keeps K1 to K8. The

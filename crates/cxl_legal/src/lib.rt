@@ -9,6 +9,8 @@ mod ports;
 mod terms;
 
 pub use blocks::{is_full, last_end};
-pub use laws::{fitting_plans_are_legal, legal_plans_fit, stated_rows_keep_blocks};
+pub use laws::{
+    fitting_plans_are_legal, legal_plans_add_one_range, legal_plans_fit, stated_rows_keep_blocks,
+};
 pub use ports::ports_are_bytes;
 pub use terms::{agrees_on_gran, can_have_ways, is_size, is_ways};
