@@ -20,7 +20,7 @@ use crate::terms::{can_take, latest_start};
 use crate::want::Want;
 use cxl_image::Image;
 use cxl_legal::{is_size, is_ways, ports_are_bytes};
-use cxl_model::hosts_with_caps_are_systems;
+use cxl_model::accepted_image_is_system;
 use cxl_topo::{Topo, tree_laws};
 use cxl_window::Window;
 use std::alloc::{AllocError, Global};
@@ -91,10 +91,7 @@ fn settle(image: &Image, topo: &Topo, windows: &[Window])
     ensures system { IsSystem (system_of image.now topo.now windows.now) }
     ensures ready { IsOrderlySystem (system_of image.now topo.now []) }
 {
-    hosts_with_caps_are_systems();
-    let _count = topo.count();
-    let _blocks = image.count();
-    let _windows = windows.len();
+    accepted_image_is_system(image, topo, windows);
 }
 
 /// The endpoints picked in the first window in which each target bridge gives something. Takes memory.

@@ -1,6 +1,5 @@
 ghost use Rattle.std.specs.Prelude.{◌≡◌, ◌≢◌, ◌<◌, ◌≤◌, length, IfOk, IfErr, IfSome, IfNone, OnOk, Err, slice_get, Some};
 ghost use Rattle.cxl_topo.specs.Tree.{bridge_uids};
-ghost use Rattle.cxl_image.specs.Images.{HasCapsOf};
 ghost use Rattle.cxl_window.specs.Windows.{AreMadeWith};
 ghost use Rattle.cxl_window.specs.Fields.{WindowFields};
 ghost use Rattle.cxl_model.specs.System.{System, system_of};
@@ -26,7 +25,7 @@ use crate::used::{Uses, uses_of};
 use cxl_enc::FixedList;
 use cxl_image::Image;
 use cxl_legal::{fitting_plans_are_legal, is_size, is_ways, legal_plans_fit, ports_are_bytes};
-use cxl_model::{Found, Plan, PlanFault, Request};
+use cxl_model::{Found, Plan, PlanFault, Request, accepted_image_is_system};
 use cxl_topo::{Topo, tree_laws};
 use cxl_window::Window;
 use std::alloc::{AllocError, Global};
@@ -41,7 +40,6 @@ pub fn plan(
     windows: &[Window],
     request: &Request,
 ) -> Result<Plan, PlanFault>
-    requires caps { HasCapsOf image.now topo.now.nodes }
     requires made { AreMadeWith windows.now (bridge_uids topo.now.nodes) }
     requires accepted { IsAccepted (system_of image.now topo.now windows.now) }
     requires named { AreEndpoints (system_of image.now topo.now windows.now) request.now }
@@ -64,8 +62,7 @@ pub fn plan(
     fitting_plans_are_legal();
     requests_come_to_answers();
     ports_are_bytes(topo);
-    let _count = topo.count();
-    let _blocks = image.count();
+    accepted_image_is_system(image, topo, windows);
     if let Some(fault) = early_fault(topo, request) {
         return Err(fault);
     }

@@ -1,7 +1,6 @@
 //! Plans over hosts of a few nodes, with regions that are made by register writes.
 
 ghost use Rattle.std.specs.Prelude.{◌≡◌, true, All, IsTrue};
-ghost use Rattle.cxl_image.specs.Images.{HasCapsOf};
 ghost use Rattle.cxl_model.specs.System.{bridge_uids};
 ghost use Rattle.cxl_topo.specs.Tree.{is_endpoint_at};
 ghost use Rattle.cxl_window.specs.Windows.{AreMadeWith};
@@ -59,7 +58,6 @@ fn planned(
     host: &Worked,
     request: &Request,
 ) -> Result<Plan, PlanFault>
-    requires caps { HasCapsOf host.now.image host.now.topo.nodes }
     requires made { AreMadeWith host.now.windows.items (bridge_uids host.now.topo.nodes) }
 {
     assert!(rt; are_devices(&host.topo, request.endpoints.items()));
