@@ -2,6 +2,8 @@
 use Rattle.std.proofs.Common.{◌≡◌, ℕ, zero, suc, ◌+◌, ◌-◌, ◌*◌, ◌%◌, ◌^◌, ◌<◌, ◌≤◌, ◌⊎◌, Bool, true, false, ◌&&◌, cond, if◌then◌else◌, List, [], ◌∷◌, length, get_or, Option, Some, None, refl, sym, ap, ◌∙◌, subst, inl, inr, arith}
 use Rattle.std.specs.Prelude.{◌==◌, nat_lt, nat_le, find, IsTrue}
 use Rattle.std.specs.Option.{option_map_or}
+use Rattle.std.proofs.Math.Pow.{pow_mono}
+use Rattle.std.proofs.lemmas.Nat.{mul-le}
 use Rattle.std.proofs.lemmas.Bool.{and_parts, eqb-false, ne_eqb, lt-ltb, cases_lt}
 use Rattle.std.proofs.lemmas.Option.{slice_get-get_or, none-some, same_Some}
 use Rattle.cxl_enc.specs.Codes.{is_ways, third_of, bits_of}
@@ -95,6 +97,12 @@ few_ways ways all third root bits divided factors root_is bits_is =
     let sum : root + (bits - root) ≡ bits_of all = omega (arith, rise, root_is, bits_is) in
     let own : third ≡ (ways % 3 == 0) = third_is (ways % 3 == 0) third factors in
     subst (λ (k : ℕ). ways_by third k ≤ 16) (sym sum) (subst (λ (b : Bool). ways_by b (bits_of all) ≤ 16) (sym own) divided.few)
+
+-- fewer bits make fewer ways
+pub few_below : (third : Bool) (n m : ℕ) → n ≤ m → ways_by third m ≤ 16 → ways_by third n ≤ 16
+few_below third n m less few =
+    let up = mul-le (factor third) (2 ^ n) (factor third) (2 ^ m) (omega arith) (pow_mono {i = n} {j = m} less) in
+    omega (arith, up, few)
 
 -- ---- its code
 
