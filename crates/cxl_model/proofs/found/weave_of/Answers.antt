@@ -1,14 +1,13 @@
-use Rattle.std.proofs.Common.{◌≡◌, ℕ, ◌+◌, ◌-◌, ◌≤◌, true, sym, ap, ◌∙◌, subst, arith}
+use Rattle.std.proofs.Common.{◌≡◌, ℕ, ◌+◌, ◌-◌, true, sym, ap, ◌∙◌, subst, arith}
 use Rattle.std.specs.Prelude.{IsTrue}
 use Rattle.cxl_enc.specs.Codes.{is_ways, third_of, bits_of}
-use Rattle.cxl_num.specs.Interleave.{ways_by}
 use Rattle.cxl_num.specs.Maps.{are_usable_maps}
 use Rattle.cxl_window.specs.Fields.{WindowFields}
 use Rattle.cxl_model.specs.declared.found.Found.{Found}
 use Rattle.cxl_model.specs.System.{System, IsSystem}
 use Rattle.cxl_model.specs.Regions.{region_range, IsRegionIn}
 use Rattle.cxl_model.proofs.Weaving.{found_ways_known, told, window_divides, few_ways, few_below, found_gran_known, found_maps_usable, usable_front}
-use Rattle.cxl_model.proofs.SpansWindows.{HasWindow, has_window}
+use Rattle.cxl_model.proofs.SpansWindows.{has_window}
 use Rattle.cxl_model.proofs.Hosting.{region_system}
 use Rattle.cxl_model.proofs.found.weave_of.Goals as goal
 
