@@ -7,9 +7,13 @@ ways_of code =
     if nat_lt code 5 then Some (2 ^ code)
     else (if nat_le 8 code && nat_lt code 11 then Some (3 * 2 ^ (code - 8)) else None)
 
--- each code more doubles the granularity
+-- the bytes of a chunk: each code more doubles the granularity
+abbrev pub chunk_size : ℕ → ℕ
+chunk_size gran = 256 * 2 ^ gran
+
+-- the codes that stand for a granularity
 abbrev pub granularity_of : ℕ → Option ℕ
-granularity_of code = if nat_lt code 7 then Some (256 * 2 ^ code) else None
+granularity_of code = if nat_lt code 7 then Some (chunk_size code) else None
 
 -- the tables backwards
 abbrev pub code_in_table : ℕ → Option ℕ

@@ -1,5 +1,5 @@
-ghost use Rattle.std.specs.Prelude.{◌≡◌, ◌*◌, IsTrue};
-ghost use Rattle.cxl_enc.specs.Caps.{is_legal_cap, has_named_bits, has_own_bits, are_caps, bit_of, word_of};
+ghost use Rattle.std.specs.Prelude.{◌≡◌, ◌*◌, ◌<◌, IsTrue};
+ghost use Rattle.cxl_enc.specs.Caps.{targets_of, is_legal_cap, has_named_bits, has_own_bits, are_caps, bit_of, word_of};
 
 /// The two kinds of device memory: volatile and persistent.
 #[derive(Clone, Copy, Debug, PartialEq, Eq)]
@@ -25,6 +25,14 @@ pub struct Caps {
     pub ways16: bool,
 }
 
+/// How many targets a decoder of a block with this capability word may list: bits 7:4. (CXL HDM decoder capability.)
+pub fn targets_of(cap: u32) -> u8
+    ensures value { result ≡ targets_of cap }
+    ensures few { result < 16 }
+{
+    (cap / 16 % 16) as u8
+}
+
 /// Whether a capability word is one that this project's devices may have. (CXL HDM decoder capability;
 /// which bits may be set is this project's rule.)
 pub fn legal_cap(cap: u32, endpoint: bool) -> bool
@@ -42,7 +50,7 @@ fn has_named_bits(cap: u32) -> bool
 fn has_own_bits(cap: u32, endpoint: bool) -> bool
     ensures { result ≡ has_own_bits cap endpoint }
 {
-    let targets = cap / 16 % 16;
+    let targets = targets_of(cap);
     if endpoint {
         return targets == 0;
     }

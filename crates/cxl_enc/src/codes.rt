@@ -1,5 +1,5 @@
-ghost use Rattle.std.specs.Prelude.{◌≡◌, ℕ, ◌*◌, ◌^◌, ◌≤◌, Some, is_some, IsTrue, IfSome, if◌then◌else◌};
-ghost use Rattle.cxl_enc.specs.Codes.{ways_of, granularity_of, code_in_table, gran_code_in_table, is_ways, third_of, bits_of, log2_of};
+ghost use Rattle.std.specs.Prelude.{◌≡◌, ℕ, ◌*◌, ◌^◌, ◌<◌, ◌≤◌, Some, is_some, IsTrue, IfSome, if◌then◌else◌};
+ghost use Rattle.cxl_enc.specs.Codes.{ways_of, chunk_size, granularity_of, code_in_table, gran_code_in_table, is_ways, third_of, bits_of, log2_of};
 
 /// The ways of a ways code: 1, 2, 4, 8 and 16 for the codes 0 to 4, and 3, 6 and 12 for the codes 8 to
 /// 10. `None` for every other code. (CXL HDM decoder control, interleave ways.)
@@ -60,6 +60,15 @@ pub fn gran_of(code: u8) -> Option<u32>
         6 => Some(16_384),
         _ => None,
     }
+}
+
+/// The bytes of a chunk at a granularity code, also at one that no granularity has: 256, and twice as many for
+/// each code more. (CXL HDM decoder control, interleave granularity.)
+pub fn chunk_size(gran: u8) -> u32
+    requires { gran < 16 }
+    ensures { result ≡ chunk_size gran }
+{
+    256 << gran
 }
 
 /// The code of a granularity in bytes, `None` where no code stands for it.

@@ -11,8 +11,8 @@ mod fixed_list;
 mod limits;
 mod name;
 
-pub use caps::{Caps, MemKind, cap_word, legal_cap};
-pub use codes::{Factors, code_of, gran_code, gran_of, split, ways_of};
+pub use caps::{Caps, MemKind, cap_word, legal_cap, targets_of};
+pub use codes::{Factors, chunk_size, code_of, gran_code, gran_of, split, ways_of};
 pub use counters::FailingCalls;
 pub use faults::{Failed, Memory};
 pub use fixed_list::FixedList;

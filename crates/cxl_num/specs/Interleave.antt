@@ -1,10 +1,7 @@
 -- Chunks and ways: what interleave arithmetic makes of the number of a chunk (CXL interleave arithmetic).
 use Rattle.std.specs.Prelude.{ℕ, ◌+◌, ◌-◌, ◌*◌, ◌/◌, ◌%◌, ◌^◌, Bool, if◌then◌else◌, List}
+pub use Rattle.cxl_enc.specs.Codes.{chunk_size}
 use Rattle.cxl_num.specs.Maps.{parities}
-
--- bytes of a granularity code
-abbrev pub chunk_size : ℕ → ℕ
-chunk_size gran = 256 * 2 ^ gran
 
 -- the number of the chunk that holds an address, counted from a base
 abbrev pub chunk_from : ℕ → ℕ → ℕ → ℕ

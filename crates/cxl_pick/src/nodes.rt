@@ -13,7 +13,7 @@ ghost use Rattle.cxl_pick.specs.inner.Wanted.{HasWaysAndSize};
 
 use crate::terms::{port_code, share, wanted_code};
 use crate::want::Want;
-use cxl_enc::split;
+use cxl_enc::{split, targets_of};
 use cxl_image::Image;
 use cxl_legal::{can_have_ways, is_full, last_end};
 use cxl_model::capacity_at;
@@ -102,7 +102,7 @@ pub(crate) fn can_serve_by(
     let cap = topo.node(node).cap;
     is_open(image, topo, start, node)
         && m % u == 0
-        && u32::from(u) <= cap / 16 % 16
+        && u <= targets_of(cap)
         && usize::from(u) <= willing
         && (u == 1 || selects_among(cap, port_code(want, w, m), u))
 }

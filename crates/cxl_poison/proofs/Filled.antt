@@ -1,8 +1,7 @@
 -- The chunks of a region fill its spans, and the bytes of a slot are host bytes of the region.
-use Rattle.std.proofs.Common.{◌≡◌, ℕ, zero, suc, ◌+◌, ◌*◌, ◌/◌, ◌%◌, ◌<◌, ◌≤◌, ◌^◌, Some, Option, refl, sym, ap, subst, ◌∙◌, arith}
+use Rattle.std.proofs.Common.{◌≡◌, ℕ, zero, suc, ◌+◌, ◌*◌, ◌/◌, ◌<◌, ◌≤◌, ◌^◌, Some, Option, refl, sym, ap, subst, ◌∙◌, arith}
 use Rattle.std.specs.Prelude.{slice_get, IsSomeAnd}
-use Rattle.std.proofs.Math.Nat.{zero-mul, mul-zero, le_antisymm, mul-le-mul_right, le_of_mul-le-mul_right, div-lt_iff_lt-mul, mod-eq_of_lt}
-use Rattle.std.proofs.Math.Pow.{pow_mono}
+use Rattle.std.proofs.Math.Nat.{zero-mul, mul-zero, le_antisymm, mul-le-mul_right, le_of_mul-le-mul_right, div-lt_iff_lt-mul}
 use Rattle.std.proofs.lemmas.Nat.{pow_pos}
 use Rattle.cxl_num.specs.Interleave.{chunk_size}
 use Rattle.cxl_window.specs.Fields.{WindowFields}
@@ -82,9 +81,3 @@ carried found w filled within endpoint span offset h is below from slot at =
           subst (λ (o : Option Place). IsSomeAnd o (λ place. (place.endpoint ≡ endpoint) × (place.start + dealt_offset (weave_fields found w) h ≡ span.start + offset))) there
           (refl, ap (λ (x : ℕ). span.start + x) at);
     }
-
--- a chunk's size as a shift
-pub shifted : (gran : ℕ) → gran ≤ 6 → 256 * 2 ^ gran % 2 ^ 64 ≡ chunk_size gran
-shifted gran known =
-    let few : 2 ^ gran ≤ 2 ^ 6 = pow_mono known in
-    mod-eq_of_lt (omega (arith, few))

@@ -9,6 +9,7 @@ ghost use Rattle.cxl_poison.specs.inner.Cuts.{IsSpanIn, IsTouched};
 use crate::apart::live_spans_are_apart;
 use crate::cutting::{Touched, put_span};
 use crate::live::{LiveSpan, live_spans};
+use cxl_enc::chunk_size;
 use cxl_model::{
     Entry, FixedList, Found, Memory, Poisoned, regions_lie_in_windows, weaves_fill_their_regions,
 };
@@ -67,7 +68,7 @@ fn touched(entry: &Entry, found: &Found, window: &Window, span: &LiveSpan) -> To
         size: if found.ways == 1 {
             span.len
         } else {
-            256 << found.gran
+            u64::from(chunk_size(found.gran))
         },
     }
 }

@@ -8,7 +8,7 @@ ghost use Rattle.cxl_model.specs.Regions.{IsRegionIn};
 ghost use Rattle.cxl_range.specs.Extents.{spread_of};
 ghost use Rattle.cxl_range.specs.inner.Woven.{AreCountsBefore};
 
-use crate::woven::{chunk_size, region_weave};
+use crate::woven::{chunk_bytes, region_weave};
 use cxl_deal::{Weave, chunks_deal_whole, deal, place_tells_address, region_fills_slots};
 use cxl_model::Found;
 use cxl_window::Window;
@@ -45,7 +45,7 @@ fn counts_before(weave: &Weave, end: u64) -> [u64; 16]
 {
     region_fills_slots();
     let base = weave.base();
-    let turn = u64::from(weave.ways()) * chunk_size(weave);
+    let turn = u64::from(weave.ways()) * chunk_bytes(weave);
     let turns = (end - base) / turn;
     with_chunks(weave, base + turns * turn, end, whole_turns(weave, turns))
 }
@@ -58,7 +58,7 @@ fn whole_turns(weave: &Weave, turns: u64) -> [u64; 16]
     chunks_deal_whole();
     place_tells_address();
     region_fills_slots();
-    let each = turns * chunk_size(weave);
+    let each = turns * chunk_bytes(weave);
     let mut counts = [0; SLOTS];
     for slot in 0..weave.ways() {
         counts[slot as usize] = each;
@@ -75,7 +75,7 @@ fn with_chunks(weave: &Weave, from: u64, end: u64, mut counts: [u64; 16]) -> [u6
     ensures { AreCountsBefore weave.now end result }
 {
     chunks_deal_whole();
-    let size = chunk_size(weave);
+    let size = chunk_bytes(weave);
     let mut at = from;
     while at < end {
         let left = size - (at - weave.base()) % size;

@@ -11,7 +11,7 @@ ghost use Rattle.cxl_range.specs.Carried.{IsCarried, Follow};
 ghost use Rattle.cxl_range.specs.inner.Woven.{IsWoven};
 
 use crate::laws::extents_carry_their_bytes;
-use crate::woven::{chunk_size, region_weave};
+use crate::woven::{chunk_bytes, region_weave};
 use cxl_deal::{Weave, deal, region_fills_slots};
 use cxl_model::{Extent, Found, Memory};
 use cxl_window::Window;
@@ -43,7 +43,7 @@ pub fn extents(
         extents.push(extent_at(found, &weave, h, len))?;
         return Ok(extents);
     }
-    let size = chunk_size(&weave);
+    let size = chunk_bytes(&weave);
     let end = h + u64::from(len);
     let first = (h - found.base) / size;
     let last = (end - 1 - found.base) / size;
@@ -64,7 +64,7 @@ fn chunk_extent(found: &Found, weave: &Weave, h: u64, end: u64, chunk: u64) -> E
     ensures { (w : WindowFields) → weave.now ≡ weave_fields found.now w
         → result ≡ chunk_extent found.now w h (end - h) chunk }
 {
-    let size = chunk_size(weave);
+    let size = chunk_bytes(weave);
     let start = found.base + chunk * size;
     let from = h.max(start);
     let to = end.min(start + size);

@@ -8,6 +8,7 @@ ghost use Rattle.cxl_model.specs.Regions.{IsRegionIn, weave_fields};
 ghost use Rattle.cxl_range.specs.inner.Woven.{IsWoven};
 
 use cxl_deal::Weave;
+use cxl_enc::chunk_size;
 use cxl_model::{
     Found, regions_lie_in_windows, slots_are_endpoints, weave_of, weaves_fill_their_regions,
 };
@@ -25,12 +26,12 @@ pub(crate) fn region_weave(found: &Found, window: &Window) -> Weave
     weave_of(found, window)
 }
 
-/// The bytes of a chunk.
-pub(crate) fn chunk_size(weave: &Weave) -> u64
+/// The bytes of a weave's chunk.
+pub(crate) fn chunk_bytes(weave: &Weave) -> u64
     ensures value { result ≡ chunk_size weave.now.gran }
     ensures weave { IsWeave weave.now }
 {
     // A weave has a legal granularity code.
     let _base = weave.base();
-    256 << weave.gran()
+    u64::from(chunk_size(weave.gran()))
 }

@@ -3,7 +3,7 @@
 use Rattle.std.specs.Prelude.{ℕ, ◌+◌, ◌-◌, ◌*◌, ◌/◌, ◌%◌, ◌^◌, ◌==◌, nat_lt, nat_le, Bool, ◌&&◌, List, map, unwrap_or}
 use Rattle.std.specs.Option.{option_map_or}
 use Rattle.std.specs.List.{prefix_len, range_with_len}
-use Rattle.cxl_enc.specs.Codes.{ways_of, bits_of}
+use Rattle.cxl_enc.specs.Codes.{ways_of, chunk_size, bits_of}
 use Rattle.cxl_regs.specs.declared.decoder.Decoder.{Decoder}
 use Rattle.cxl_regs.specs.declared.reading.Range.{Range}
 
@@ -15,7 +15,7 @@ decoder_ways d = unwrap_or (ways_of d.ways) 1
 
 -- the bytes of a decoder's granularity code
 abbrev pub decoder_granularity : Decoder → ℕ
-decoder_granularity d = 256 * 2 ^ d.gran
+decoder_granularity d = chunk_size d.gran
 
 -- the k of the ways t * 2 ^ k with this code
 abbrev pub select_bits : ℕ → ℕ

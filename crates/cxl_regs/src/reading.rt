@@ -5,7 +5,7 @@ ghost use Rattle.cxl_enc.specs.Codes.{is_ways};
 ghost use Rattle.cxl_regs.specs.Reading.{decoder_ways, decoder_granularity, select_bits, range_of, has_range, holds_address, entry_of, entry_at, entries_of, span_length};
 
 use crate::decoder::Decoder;
-use cxl_enc::{split, ways_of};
+use cxl_enc::{chunk_size, split, ways_of};
 
 /// A range of host addresses.
 #[derive(Clone, Copy, Debug, PartialEq, Eq)]
@@ -33,7 +33,7 @@ impl Decoder {
         requires { self.now.gran < 16 }
         ensures { result ≡ decoder_granularity self.now }
     {
-        256 << self.gran
+        chunk_size(self.gran)
     }
 
     /// How many address bits the decoder selects on: the k of its ways `t * 2^k`, and 0 where its code stands

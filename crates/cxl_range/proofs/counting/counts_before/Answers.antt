@@ -17,9 +17,9 @@ end_is v base ways size n base_is ways_is size_is =
 pub whole_turns-requires : goal.whole_turns-requires
 whole_turns-requires c =
     let v : WeaveFields = c.args.weave.now in
-    let turn : ℕ = c.from.result * c.chunk_size.result in
+    let turn : ℕ = c.from.result * c.chunk_bytes.result in
     let n : ℕ = (c.args.end - c.base-base.result) / turn in
-    let end = end_is v c.base-base.result c.from.result c.chunk_size.result n c.base-base.ensures.value (c.from.ensures ∙ c.ways.ensures.value) c.chunk_size.ensures.value in
+    let end = end_is v c.base-base.result c.from.result c.chunk_bytes.result n c.base-base.ensures.value (c.from.ensures ∙ c.ways.ensures.value) c.chunk_bytes.ensures.value in
     let up = div-mul-le_self (c.args.end - c.base-base.result) turn in
     let base = c.base-base.ensures.value in
     let r = c.requires in
@@ -30,7 +30,7 @@ whole_turns-requires c =
 pub with_chunks-requires-clause-before : goal.with_chunks-requires-clause-before
 with_chunks-requires-clause-before c =
     let v : WeaveFields = c.args.weave.now in
-    let turn : ℕ = c.from.result * c.chunk_size.result in
+    let turn : ℕ = c.from.result * c.chunk_bytes.result in
     let n : ℕ = (c.args.end - c.base-base.result) / turn in
-    let end = end_is v c.base-base.result c.from.result c.chunk_size.result n c.base-base.ensures.value (c.from.ensures ∙ c.ways.ensures.value) c.chunk_size.ensures.value in
+    let end = end_is v c.base-base.result c.from.result c.chunk_bytes.result n c.base-base.ensures.value (c.from.ensures ∙ c.ways.ensures.value) c.chunk_bytes.ensures.value in
     subst (λ (x : ℕ). AreCountsBefore v x c.whole_turns.result) (sym end) c.whole_turns.ensures

@@ -14,7 +14,7 @@ fewer turns ways g some = let more : turns * 1 ≤ turns * ways = mul-le turns 1
 pub overflow_mul-each : goal.overflow_mul-each
 overflow_mul-each c =
     let v : WeaveFields = c.args.weave.now in
-    let each : c.args.turns * c.chunk_size.result ≡ c.args.turns * chunk_size v.gran = ap (λ (x : ℕ). c.args.turns * x) c.chunk_size.ensures.value in
+    let each : c.args.turns * c.chunk_bytes.result ≡ c.args.turns * chunk_size v.gran = ap (λ (x : ℕ). c.args.turns * x) c.chunk_bytes.ensures.value in
     let few = fewer c.args.turns (weave_ways v) (chunk_size v.gran) (omega (arith, c.region_fills_slots.ensures.slot v 0)) in
     let low = c.requires in
     omega (arith, each, few, low)
@@ -22,7 +22,7 @@ overflow_mul-each c =
 pub returns : goal.returns
 returns c =
     let v : WeaveFields = c.args.weave.now in
-    let is = c.chunk_size.ensures.weave in
+    let is = c.chunk_bytes.ensures.weave in
     let laws : TurnLaws v = record {
       below = c.region_fills_slots.ensures.slot v;
       slot = λ h d. c.chunks_deal_whole.ensures.slot v h d is;
@@ -33,5 +33,5 @@ returns c =
     let ways : c.ways-slot-end.result ≡ weave_ways v = c.ways-slot-end.ensures.value in
     let end = c.loop-slot.auto.slot-end in
     let all : c.loop-slot.slot ≡ weave_ways v = omega (arith, ways, end, c.loop-slot-test.false) in
-    turns_counted v laws c.args.turns c.loop-slot.counts inv.sixteen (λ k below. inv.dealt k (omega (arith, all, below)) ∙ ap (λ (x : ℕ). c.args.turns * x) c.chunk_size.ensures.value)
+    turns_counted v laws c.args.turns c.loop-slot.counts inv.sixteen (λ k below. inv.dealt k (omega (arith, all, below)) ∙ ap (λ (x : ℕ). c.args.turns * x) c.chunk_bytes.ensures.value)
     (λ k from below. inv.past k (omega (arith, all, from)) below)

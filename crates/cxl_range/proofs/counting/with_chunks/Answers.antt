@@ -32,7 +32,7 @@ loop-at-preserved c =
     let inv = c.loop-at.invariant in
     let slot : ℕ = c.deal.result.slot in
     let few : slot < 16 = omega arith in
-    let fits = fits_chunk v c.chunk_size-size.result c.base.result c.loop-at.at c.args.end c.min-len.result c.chunk_size-size.ensures.value c.base.ensures.value c.min-len.ensures in
+    let fits = fits_chunk v c.chunk_bytes-size.result c.base.result c.loop-at.at c.args.end c.min-len.result c.chunk_bytes-size.ensures.value c.base.ensures.value c.min-len.ensures in
     record {
       from = omega (arith, inv.from);
       up = omega (arith, inv.up, c.min-len.ensures);

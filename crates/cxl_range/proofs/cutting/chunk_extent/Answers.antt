@@ -32,26 +32,26 @@ cut_at found v h end chunk size woven from any first last is =
 pub overflow_add-start-2 : goal.overflow_add-start-2
 overflow_add-start-2 c =
     let r = c.requires in
-    let cut = cut_at c.args.found.now c.args.weave.now c.args.h c.args.end c.args.chunk c.chunk_size-size.result r.woven r.from r.some r.first r.last c.chunk_size-size.ensures.value in
+    let cut = cut_at c.args.found.now c.args.weave.now c.args.h c.args.end c.args.chunk c.chunk_bytes-size.result r.woven r.from r.some r.first r.last c.chunk_bytes-size.ensures.value in
     omega (arith, cut.start, cut.small, cut.touched.begins, r.ends, r.woven.low)
 
 pub overflow_sub-to : goal.overflow_sub-to
 overflow_sub-to c =
     let r = c.requires in
-    let cut = cut_at c.args.found.now c.args.weave.now c.args.h c.args.end c.args.chunk c.chunk_size-size.result r.woven r.from r.some r.first r.last c.chunk_size-size.ensures.value in
+    let cut = cut_at c.args.found.now c.args.weave.now c.args.h c.args.end c.args.chunk c.chunk_bytes-size.result r.woven r.from r.some r.first r.last c.chunk_bytes-size.ensures.value in
     omega (arith, cut.start, cut.next, cut.touched.begins, cut.touched.past, r.some, c.max-from.ensures, c.min-to.ensures)
 
 pub extent_at-requires-clause-below : goal.extent_at-requires-clause-below
 extent_at-requires-clause-below c =
     let r = c.requires in
-    let cut = cut_at c.args.found.now c.args.weave.now c.args.h c.args.end c.args.chunk c.chunk_size-size.result r.woven r.from r.some r.first r.last c.chunk_size-size.ensures.value in
+    let cut = cut_at c.args.found.now c.args.weave.now c.args.h c.args.end c.args.chunk c.chunk_bytes-size.result r.woven r.from r.some r.first r.last c.chunk_bytes-size.ensures.value in
     omega (arith, cut.start, cut.touched.begins, r.some, r.ends, c.max-from.ensures)
 
 pub returns : goal.returns
 returns c = λ w is.
     let found : Found = c.args.found.now in
     let r = c.requires in
-    let cut = cut_at found c.args.weave.now c.args.h c.args.end c.args.chunk c.chunk_size-size.result r.woven r.from r.some r.first r.last c.chunk_size-size.ensures.value in
+    let cut = cut_at found c.args.weave.now c.args.h c.args.end c.args.chunk c.chunk_bytes-size.result r.woven r.from r.some r.first r.last c.chunk_bytes-size.ensures.value in
     let first : ℕ = max c.args.h (chunk_start found c.args.chunk) in
     let some = r.some in
     let whole : c.args.end ≡ c.args.h + (c.args.end - c.args.h) = omega (arith, some) in

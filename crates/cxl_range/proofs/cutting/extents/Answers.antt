@@ -41,10 +41,10 @@ pub loop-chunk-preserved : goal.loop-chunk-preserved
 loop-chunk-preserved c =
     let found : Found = c.args.found.now in
     let w : WindowFields = c.args.window.now in
-    let size = size_is found w c.region_weave-weave.result c.chunk_size-size.result c.region_weave-weave.ensures.woven.gran c.chunk_size-size.ensures.value in
+    let size = size_is found w c.region_weave-weave.result c.chunk_bytes-size.result c.region_weave-weave.ensures.woven.gran c.chunk_bytes-size.ensures.value in
     let long : c.args.h + c.from.result - c.args.h ≡ c.args.len = omega (arith, c.from.ensures) in
     let own = c.chunk_extent.ensures w c.region_weave-weave.ensures.value ∙ ap (λ (n : ℕ). chunk_extent found w c.args.h n c.loop-chunk.chunk) long in
-    more_chunks found w c.args.h c.args.len c.chunk_size-size.result size c.loop-chunk.extents.items c.push-in-loop-chunk.new.self.items c.chunk_extent.result c.loop-chunk.chunk c.loop-chunk.auto.chunk c.loop-chunk.invariant c.in_ok-push-2.ensures.items own
+    more_chunks found w c.args.h c.args.len c.chunk_bytes-size.result size c.loop-chunk.extents.items c.push-in-loop-chunk.new.self.items c.chunk_extent.result c.loop-chunk.chunk c.loop-chunk.auto.chunk c.loop-chunk.invariant c.in_ok-push-2.ensures.items own
 
 pub returns-clause-exact : goal.returns-clause-exact
 returns-clause-exact c =
@@ -52,8 +52,8 @@ returns-clause-exact c =
     let w : WindowFields = c.args.window.now in
     let r = c.requires in
     let h : ℕ = c.args.h in
-    let n : ℕ = c.chunk_size-size.result in
-    let size = size_is found w c.region_weave-weave.result n c.region_weave-weave.ensures.woven.gran c.chunk_size-size.ensures.value in
+    let n : ℕ = c.chunk_bytes-size.result in
+    let size = size_is found w c.region_weave-weave.result n c.region_weave-weave.ensures.woven.gran c.chunk_bytes-size.ensures.value in
     let last : ℕ = (h + c.from.result - 1 - found.base) / n in
     let last_is : last ≡ (h + c.args.len - 1 - found.base) / n = ap (λ (x : ℕ). (h + x - 1 - found.base) / n) c.from.ensures in
     let up = chunks_rise found w h c.args.len n size last r.some r.from last_is in
