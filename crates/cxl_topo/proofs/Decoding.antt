@@ -5,8 +5,8 @@ use Rattle.cxl_topo.specs.declared.node.Node.{Node}
 use Rattle.cxl_topo.specs.declared.node.Parent.{Parent}
 use Rattle.cxl_topo.specs.Tree.{forwards_at, parent_of, decoding_port_of}
 use Rattle.cxl_topo.specs.Faults.{IsTree}
-use Rattle.cxl_topo.proofs.WaysUp.{ports_from, height_of, height_falls, ports_above-more}
-use Rattle.cxl_topo.proofs.WaysDown.{forwards_is}
+use Rattle.cxl_topo.proofs.PathsUp.{ports_from, height_of, height_falls, ports_above-more}
+use Rattle.cxl_topo.proofs.PathsDown.{forwards_is}
 use Rattle.cxl_topo.proofs.PathSteps.{parent_at}
 use Rattle.cxl_topo.proofs.Leading.{sound}
 

@@ -13,8 +13,8 @@ use Rattle.cxl_topo.specs.Faults.{IsTree}
 use Rattle.cxl_topo.specs.Laws.{AreTreeLaws, StandsBelow}
 use Rattle.cxl_topo.proofs.Earlier.{PassesAt, FindsAtMost, finds, finds_least, found}
 use Rattle.cxl_topo.proofs.There.{stands_there, named_there, bridge_there, at_port, at_is, at_node, under_is, uid_is, with_uid}
-use Rattle.cxl_topo.proofs.WaysUp.{ports_above-more, ports_above-few, ports_from}
-use Rattle.cxl_topo.proofs.WaysDown.{landing_of-more}
+use Rattle.cxl_topo.proofs.PathsUp.{ports_above-more, ports_above-few, ports_from}
+use Rattle.cxl_topo.proofs.PathsDown.{landing_of-more}
 use Rattle.cxl_topo.proofs.Leading.{sound, path_leads}
 
 -- a search finds the place of the one node that passes

@@ -14,7 +14,7 @@ use Rattle.cxl_topo.specs.Tree.{parent_of, path_of, ports_above}
 use Rattle.cxl_topo.specs.Faults.{is_too_deep, switches_above, are_too_many, fits, turn_of, NoneBefore, IsFirstTreeFault}
 use Rattle.cxl_topo.specs.inner.Judging.{first_of, tests_of}
 use Rattle.cxl_topo.proofs.Sound.{no_lack}
-use Rattle.cxl_topo.proofs.WaysUp.{parent_under, length-ports_above, ports_above-more, ports_from, length-path_of}
+use Rattle.cxl_topo.proofs.PathsUp.{parent_under, length-ports_above, ports_above-more, ports_from, length-path_of}
 
 -- ---- the depth
 

@@ -8,7 +8,7 @@ use Rattle.cxl_topo.specs.declared.node.Parent.{Parent}
 use Rattle.cxl_topo.specs.declared.fault.TreeFault.TheVariants as faults
 use Rattle.cxl_topo.specs.Tree.{holds_at, is_bridge_at, parent_of, path_of, GoesDownTo, IsPathTo}
 use Rattle.cxl_topo.specs.Faults.{lacks_parent, IsTree, IsUnder, NoneBefore}
-use Rattle.cxl_topo.proofs.WaysUp.{parent_under, path_from, path_of-more, ports_above-few, length-path_of}
+use Rattle.cxl_topo.proofs.PathsUp.{parent_under, path_from, path_of-more, ports_above-few, length-path_of}
 use Rattle.cxl_topo.proofs.Fitting.{tree_fits}
 
 -- one more node at the end

@@ -15,7 +15,7 @@ use Rattle.cxl_topo.specs.declared.fault.TreeFault.TheVariants as faults
 use Rattle.cxl_topo.specs.Kinds.{is_bridge, is_endpoint, capacity_of}
 use Rattle.cxl_topo.specs.Tree.{holds_at, forwards_at, is_named, is_bridge_with, stands_at, stands_under, name_at, uid_at, parent_of}
 use Rattle.cxl_topo.specs.Faults.{lacks_parent, has_taken_port, forks, has_taken_name, has_taken_uid, is_too_deep, has_wrong_caps, has_wrong_capacity, is_capacity, fits, turn_of, NoneBefore, IsTree}
-use Rattle.cxl_topo.proofs.WaysUp.{parent_under, bridge_has_none, other_has_one}
+use Rattle.cxl_topo.proofs.PathsUp.{parent_under, bridge_has_none, other_has_one}
 use Rattle.cxl_topo.proofs.Sound.{shallow}
 use Rattle.cxl_topo.proofs.Earlier.{found_earlier, earlier_holds}
 use Rattle.cxl_topo.proofs.There.{held, is_other, stands_there, named_there, bridge_there, at_port, at_node}

@@ -1,5 +1,5 @@
 pub mod Entering
-pub mod WaysUp
+pub mod PathsUp
 pub mod Sound
 pub mod PathSteps
 pub mod Judged
@@ -8,6 +8,6 @@ pub mod There
 pub mod Legal
 pub mod Fitting
 pub mod Leading
-pub mod WaysDown
+pub mod PathsDown
 pub mod Finding
 pub mod Decoding

@@ -8,7 +8,7 @@ use Rattle.cxl_topo.specs.declared.node.Node.{Node}
 use Rattle.cxl_topo.specs.declared.node.Parent.{Parent}
 use Rattle.cxl_topo.specs.Tree.{holds_at, parent_of, path_of}
 use Rattle.cxl_topo.specs.Faults.{lacks_parent, NoneBefore}
-use Rattle.cxl_topo.proofs.WaysUp.{path_from, height_of, height_falls, path_of-more, ports_above-few, length-path_of}
+use Rattle.cxl_topo.proofs.PathsUp.{path_from, height_of, height_falls, path_of-more, ports_above-few, length-path_of}
 use Rattle.cxl_topo.proofs.Sound.{no_lack, shallow}
 
 -- six numbers, with one more before the first five

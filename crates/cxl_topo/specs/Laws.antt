@@ -12,7 +12,7 @@ StandsAt nodes n p c = parent_of nodes c ≡ Some (record { node = n; port = p }
 abbrev pub StandsBelow : List Node → ℕ → ℕ → Type 0
 StandsBelow nodes n c = option_map (λ parent. parent.node) (parent_of nodes c) ≡ Some n
 
--- what is found, and ways up and down one node at a time
+-- what is found, and paths up and down one node at a time
 pub record AreTreeLaws (nodes : List Node) : Type 0 where
   pub children : (n p c : ℕ) → (child_of nodes n p ≡ Some c) ↔ StandsAt nodes n p c
   pub only_children : (n c : ℕ) → IsTrue (forwards_at nodes n) → (least_child_of nodes n ≡ Some c) ↔ StandsBelow nodes n c

@@ -1,4 +1,4 @@
--- A tree as the list of its nodes: who stands where, ways up and ways down.
+-- A tree as the list of its nodes: who stands where, paths up and paths down.
 use Rattle.std.specs.Prelude.{◌≡◌, ℕ, zero, suc, IsTrue, ◌==◌, Bool, false, not, ◌&&◌, List, [], ◌∷◌, length, map, reverse, position, find, Option, Some, None, option_map, slice_get, if◌then◌else◌}
 use Rattle.std.specs.List.{filter_map}
 use Rattle.std.specs.Option.{option_and_then, option_map_or}
@@ -79,7 +79,7 @@ stands_under n node = option_map_or (λ parent. parent.node == n) node.parent fa
 abbrev pub least_child_of : List Node → ℕ → Option ℕ
 least_child_of nodes n = position (stands_under n) nodes
 
--- ---- ways up
+-- ---- paths up
 
 -- this port, the port above it, and so on, n of them at the most
 abbrev pub ports_up : ℕ → List Node → Option Parent → List Parent
@@ -118,7 +118,7 @@ decoding_parent_of nodes i = option_map (λ parent. parent.node) (decoding_port_
 abbrev pub leading_port_of : List Node → ℕ → Option ℕ
 leading_port_of nodes i = option_map (λ parent. parent.port) (decoding_port_of nodes i)
 
--- ---- ways down
+-- ---- paths down
 
 -- the landing of node n, over fewer than k nodes that forward
 abbrev pub landing_within : ℕ → List Node → ℕ → Option ℕ

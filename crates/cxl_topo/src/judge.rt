@@ -9,8 +9,8 @@ ghost use Rattle.cxl_topo.specs.inner.Judging.{first_of, tests_of};
 
 use crate::fault::TreeFault;
 use crate::node::{Capacity, Node, NodeKind};
+use crate::paths::path_to;
 use crate::tables::{NameKey, Tables};
-use crate::ways::path_to;
 use cxl_enc::{ADDRESS_LIMIT, BRIDGE_LIMIT, NODE_LIMIT, PLACEHOLDER_CAP, UNIT, legal_cap};
 use std::alloc::Global;
 

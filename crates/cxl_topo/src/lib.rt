@@ -8,9 +8,9 @@ mod judge;
 mod laws;
 mod node;
 mod path;
+mod paths;
 mod tables;
 mod topo;
-mod ways;
 
 pub use cxl_enc::{Caps, Name, cap_word, legal_cap};
 pub use enter::enter_first;

@@ -1,7 +1,7 @@
 use Rattle.std.proofs.Common.{sym, ◌∙◌, ap, arith}
 use Rattle.std.specs.Option.{option_copied}
-use Rattle.cxl_topo.proofs.WaysDown.{child_later, lands_further, lands_here}
-use Rattle.cxl_topo.proofs.ways.landing.Goals as goal
+use Rattle.cxl_topo.proofs.PathsDown.{child_later, lands_further, lands_here}
+use Rattle.cxl_topo.proofs.paths.landing.Goals as goal
 
 pub loop-at-smaller : goal.loop-at-smaller
 loop-at-smaller c =

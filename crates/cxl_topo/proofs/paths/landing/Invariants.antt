@@ -1,6 +1,6 @@
 use Rattle.std.proofs.Common.{◌≡◌, ◌-◌, ◌<◌, length}
 use Rattle.cxl_topo.specs.Tree.{landing_of}
-use Rattle.cxl_topo.proofs.ways.landing.Given as goal
+use Rattle.cxl_topo.proofs.paths.landing.Given as goal
 
 abbrev pub invariant-loop-at : goal.invariant-loop-at
 invariant-loop-at l = record {

@@ -7,7 +7,7 @@ use Rattle.cxl_topo.specs.declared.node.Node.{Node}
 use Rattle.cxl_topo.specs.declared.fault.TreeFault.TheVariants as faults
 use Rattle.cxl_topo.specs.Tree.{forwards_at, stands_under, parent_of, least_child_of, landing_within, landing_of}
 use Rattle.cxl_topo.specs.Faults.{IsTree}
-use Rattle.cxl_topo.proofs.WaysUp.{parent_under}
+use Rattle.cxl_topo.proofs.PathsUp.{parent_under}
 use Rattle.cxl_topo.proofs.Earlier.{finds}
 use Rattle.cxl_topo.proofs.Fitting.{tree_fits}
 use Rattle.cxl_topo.proofs.There.{under_is}

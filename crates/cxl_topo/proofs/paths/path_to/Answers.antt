@@ -1,6 +1,6 @@
 use Rattle.std.proofs.Common.{arith}
 use Rattle.cxl_topo.proofs.PathSteps.{starts, steps, falls}
-use Rattle.cxl_topo.proofs.ways.path_to.Goals as goal
+use Rattle.cxl_topo.proofs.paths.path_to.Goals as goal
 
 pub loop-at-init : goal.loop-at-init
 loop-at-init c = starts c.args.nodes.now c.args.i c.requires.sound c.index-nodes-i.result c.requires.below

@@ -1,6 +1,6 @@
-use Rattle.cxl_topo.proofs.WaysUp.{height_of}
+use Rattle.cxl_topo.proofs.PathsUp.{height_of}
 use Rattle.cxl_topo.proofs.Decoding.{IsAbove}
-use Rattle.cxl_topo.proofs.ways.decoding_port.Given as goal
+use Rattle.cxl_topo.proofs.paths.decoding_port.Given as goal
 
 abbrev pub invariant-loop-at : goal.invariant-loop-at
 invariant-loop-at l = IsAbove l.nodes l.i l.at

@@ -1,6 +1,6 @@
 use Rattle.std.proofs.Common.{arith}
 use Rattle.cxl_topo.proofs.Decoding.{above, passes_on, lower, decodes_there, decodes_here}
-use Rattle.cxl_topo.proofs.ways.decoding_port.Goals as goal
+use Rattle.cxl_topo.proofs.paths.decoding_port.Goals as goal
 
 pub loop-at-init : goal.loop-at-init
 loop-at-init c = above c.args.nodes.now c.requires.tree c.args.i c.index-nodes-i.result c.requires.below

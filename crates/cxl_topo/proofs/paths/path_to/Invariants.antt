@@ -1,6 +1,6 @@
-use Rattle.cxl_topo.proofs.WaysUp.{height_of}
+use Rattle.cxl_topo.proofs.PathsUp.{height_of}
 use Rattle.cxl_topo.proofs.PathSteps.{IsWay}
-use Rattle.cxl_topo.proofs.ways.path_to.Given as goal
+use Rattle.cxl_topo.proofs.paths.path_to.Given as goal
 
 abbrev pub invariant-loop-at : goal.invariant-loop-at
 invariant-loop-at l = IsWay l.nodes l.i l.at l.len l.room

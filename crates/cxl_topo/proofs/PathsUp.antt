@@ -1,4 +1,4 @@
--- Ways up in nodes with nothing wrong up to one of them.
+-- Paths up in nodes with nothing wrong up to one of them.
 use Rattle.std.proofs.Common.{◌≡◌, ℕ, zero, suc, ◌+◌, ◌<◌, ◌≤◌, Bool, true, false, cond, not, List, [], ◌∷◌, ◌++◌, length, take, map, reverse, Option, Some, None, is_some, refl, sym, ap, ◌∙◌, inl, inr, arith}
 use Rattle.std.specs.Prelude.{slice_get, count_by, slice_get}
 use Rattle.std.specs.Option.{option_map_or, option_and_then}
@@ -76,7 +76,7 @@ other_has_one nodes i sound other = go (slice_get nodes i) refl
         let lacks : lacks_parent (take i nodes) node ≡ false = rw e at sound in
         rw e (find_one node.parent (λ parent. is_port_at (take i nodes) parent.node) (rw no_bridge at lacks))
 
--- ---- ways up
+-- ---- paths up
 
 -- the ports from this one up, and the nodes down to this one
 abbrev pub ports_from : List Node → Option Parent → List Parent
