@@ -1,13 +1,13 @@
 //! The ports above a node.
 
 ghost use Rattle.std.specs.Prelude.{◌≡◌, ◌<◌, ◌≤◌, ◌^◌, [], length};
-ghost use Rattle.cxl_model.specs.System.{system_of};
+ghost use Rattle.cxl_model.specs.Hosts.{as_system};
 ghost use Rattle.cxl_model.specs.Ranges.{ways_above, bits_above};
 
 use crate::decoders::decoder_for;
-use cxl_image::Image;
+use cxl_model::Host;
 use cxl_regs::Range;
-use cxl_topo::{Topo, tree_laws};
+use cxl_topo::tree_laws;
 
 /// The decoders of a range in the ports on the way from a node up to its bridge, together.
 #[derive(Clone, Copy)]
@@ -19,21 +19,21 @@ pub(crate) struct Above {
 }
 
 /// The ports above a node.
-pub(crate) fn ports_above(image: &Image, topo: &Topo, range: &Range, node: u32) -> Above
-    requires { node < length topo.now.nodes }
-    ensures ways { result.ways ≡ ways_above (system_of image.now topo.now []) range.now node }
-    ensures bits { result.bits ≡ bits_above (system_of image.now topo.now []) range.now node }
+pub(crate) fn ports_above(host: &Host, range: &Range, node: u32) -> Above
+    requires { node < length host.now.topo.now.nodes }
+    ensures ways { result.ways ≡ ways_above (as_system host.now) range.now node }
+    ensures bits { result.bits ≡ bits_above (as_system host.now) range.now node }
     ensures some { 0 < result.ways }
     ensures few_ways { result.ways ≤ 2 ^ 20 }
     ensures few_bits { result.bits ≤ 20 }
 {
     tree_laws();
-    let _count = topo.count();
-    let Some(parent) = topo.node(node).parent else {
+    let _count = host.topo.count();
+    let Some(parent) = host.topo.node(node).parent else {
         return Above { ways: 1, bits: 0 };
     };
-    let above = ports_above(image, topo, range, parent.node);
-    match decoder_for(image, range, parent.node) {
+    let above = ports_above(host, range, parent.node);
+    match decoder_for(host.image, range, parent.node) {
         Some(d) => Above {
             ways: u32::from(d.interleave_ways()) * above.ways,
             bits: u32::from(d.select_bits()) + above.bits,

@@ -2,37 +2,35 @@
 
 ghost use Rattle.std.specs.Prelude.{◌+◌, ◌<◌, length};
 ghost use Rattle.cxl_image.specs.Images.{HasCapsOf};
-ghost use Rattle.cxl_model.specs.System.{System, system_of};
+ghost use Rattle.cxl_model.specs.Hosts.{as_system};
+ghost use Rattle.cxl_model.specs.System.{System};
 ghost use Rattle.cxl_check.specs.inner.Blocks.{IsFoundOfNode, IsFoundBelow};
 
 use crate::fault::Breach;
-use cxl_image::Image;
-use cxl_model::capacity_at;
+use cxl_model::{Host, capacity_at};
 use cxl_span::{BlockBreach, block_breach};
-use cxl_topo::Topo;
-use cxl_window::Window;
 
 /// The first breach of K2 to K8.
-pub(crate) fn blocks_breach(image: &Image, topo: &Topo, windows: &[Window]) -> Option<Breach>
-    requires caps { HasCapsOf image.now topo.now.nodes }
-    ensures { IsFoundBelow (system_of image.now topo.now windows.now) (length topo.now.nodes) result }
+pub(crate) fn blocks_breach(host: &Host) -> Option<Breach>
+    requires caps { HasCapsOf host.now.image.now host.now.topo.now.nodes }
+    ensures { IsFoundBelow (as_system host.now) (length host.now.topo.now.nodes) result }
 {
     let mut first = None;
-    for node in 0..topo.count() {
-        let found = node_breach(image, topo, windows, node);
+    for node in 0..host.topo.count() {
+        let found = node_breach(host, node);
         first = earlier(first, node, found);
     }
     first
 }
 
 /// The first breach of K2 to K8 in the block of one node.
-fn node_breach(image: &Image, topo: &Topo, windows: &[Window], node: u32) -> Option<BlockBreach>
-    requires caps { HasCapsOf image.now topo.now.nodes }
-    requires here { node < length topo.now.nodes }
-    ensures { IsFoundOfNode (system_of image.now topo.now windows.now) node result }
+fn node_breach(host: &Host, node: u32) -> Option<BlockBreach>
+    requires caps { HasCapsOf host.now.image.now host.now.topo.now.nodes }
+    requires here { node < length host.now.topo.now.nodes }
+    ensures { IsFoundOfNode (as_system host.now) node result }
 {
-    let capacity = capacity_at(topo, node);
-    block_breach(image.block(node), capacity.ram, capacity.pmem)
+    let capacity = capacity_at(host.topo, node);
+    block_breach(host.image.block(node), capacity.ram, capacity.pmem)
 }
 
 /// The first breach of the nodes up to this one, from that of the nodes before and its own: the least rule goes first.

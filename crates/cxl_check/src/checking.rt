@@ -1,5 +1,6 @@
 ghost use Rattle.std.specs.Prelude.{◌≡◌, length, IsErr, OnOk, IfOk, IfErr, IfSome, IfNone};
 ghost use Rattle.cxl_window.specs.Windows.{AreMadeWith};
+ghost use Rattle.cxl_model.specs.Hosts.{as_system};
 ghost use Rattle.cxl_model.specs.System.{system_of, bridge_uids};
 ghost use Rattle.cxl_model.specs.Accepted.{IsAccepted, IsFirstBreach, HasFirstBreach, IsOrderlySystem};
 ghost use Rattle.cxl_model.specs.Listed.{AreRegionsByBase};
@@ -15,7 +16,7 @@ use crate::regions::regions;
 use crate::spots::first_spot;
 use crate::tables::Tables;
 use cxl_image::Image;
-use cxl_model::{Found, accepted_or_breach, hosts_with_caps_are_systems};
+use cxl_model::{Found, Host, accepted_or_breach, hosts_with_caps_are_systems};
 use cxl_topo::Topo;
 use cxl_window::Window;
 use std::alloc::Global;
@@ -40,49 +41,54 @@ pub fn check(
     ensures only_breach { HasFirstBreach (system_of image.now topo.now windows.now) → IsErr result }
 {
     accepted_or_breach();
-    if let Some(breach) = early_breach(image, topo, windows) {
+    let host = Host {
+        image,
+        topo,
+        windows,
+    };
+    if let Some(breach) = early_breach(&host) {
         return Err(CheckFault::Breach(breach));
     }
     let tables = Tables {
         landings: landings(alloc, topo)?,
-        firsts: first_endpoints(alloc, image, topo)?,
+        firsts: first_endpoints(alloc, &host)?,
     };
-    if let Some(breach) = late_breach(image, topo, windows, &tables) {
+    if let Some(breach) = late_breach(&host, &tables) {
         return Err(CheckFault::Breach(breach));
     }
-    Ok(regions(alloc, image, topo, windows, &tables.firsts)?)
+    Ok(regions(alloc, &host, &tables.firsts)?)
 }
 
 /// The first breach of K1 to K8, which speak of blocks alone.
-fn early_breach(image: &Image, topo: &Topo, windows: &[Window]) -> Option<Breach>
-    requires { AreMadeWith windows.now (bridge_uids topo.now.nodes) }
-    ensures none { IfNone result (IsOrderlySystem (system_of image.now topo.now windows.now)) }
+fn early_breach(host: &Host) -> Option<Breach>
+    requires { AreMadeWith host.now.windows.now (bridge_uids host.now.topo.now.nodes) }
+    ensures none { IfNone result (IsOrderlySystem (as_system host.now)) }
     ensures first { IfSome result
-        (λ b. IsFirstBreach (system_of image.now topo.now windows.now) b.rule b.node b.decoder) }
+        (λ b. IsFirstBreach (as_system host.now) b.rule b.node b.decoder) }
 {
     hosts_with_caps_are_systems();
-    let _count = topo.count();
-    let _blocks = image.count();
-    if let Some(node) = caps_breach(image, topo, windows) {
+    let _count = host.topo.count();
+    let _blocks = host.image.count();
+    if let Some(node) = caps_breach(host) {
         return Some(Breach {
             rule: 1,
             node,
             decoder: 0,
         });
     }
-    blocks_breach(image, topo, windows)
+    blocks_breach(host)
 }
 
 /// The first breach of K9 to K12, which speak of ranges.
-fn late_breach(image: &Image, topo: &Topo, windows: &[Window], tables: &Tables) -> Option<Breach>
-    requires ready { IsOrderlySystem (system_of image.now topo.now windows.now) }
-    requires tables { AreSystemTables (system_of image.now topo.now windows.now) tables.now }
-    ensures none { IfNone result (IsAccepted (system_of image.now topo.now windows.now)) }
+fn late_breach(host: &Host, tables: &Tables) -> Option<Breach>
+    requires ready { IsOrderlySystem (as_system host.now) }
+    requires tables { AreSystemTables (as_system host.now) tables.now }
+    ensures none { IfNone result (IsAccepted (as_system host.now)) }
     ensures first { IfSome result
-        (λ b. IsFirstBreach (system_of image.now topo.now windows.now) b.rule b.node b.decoder) }
+        (λ b. IsFirstBreach (as_system host.now) b.rule b.node b.decoder) }
 {
     for rule in 9..13 {
-        if let Some(spot) = first_spot(image, topo, windows, tables, rule) {
+        if let Some(spot) = first_spot(host, tables, rule) {
             return Some(Breach {
                 rule,
                 node: spot.node,

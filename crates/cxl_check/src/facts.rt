@@ -1,7 +1,7 @@
 //! What the first endpoint of a range says of it.
 
 ghost use Rattle.std.specs.Prelude.{◌≡◌, ◌==◌, length, if◌then◌else◌};
-ghost use Rattle.cxl_model.specs.System.{system_of};
+ghost use Rattle.cxl_model.specs.Hosts.{as_system};
 ghost use Rattle.cxl_model.specs.Accepted.{IsOrderlySystem};
 ghost use Rattle.cxl_check.specs.inner.Firsts.{ListsFirsts};
 ghost use Rattle.cxl_check.specs.inner.Facts.{AreFacts};
@@ -10,10 +10,8 @@ use crate::decoders::index_for;
 use crate::firsts::{RangeKey, first_of};
 use crate::kind::span_kind;
 use cxl_enc::MemKind;
-use cxl_image::Image;
+use cxl_model::Host;
 use cxl_regs::Range;
-use cxl_topo::Topo;
-use cxl_window::Window;
 use std::collections::BTreeMap;
 
 /// What the first endpoint of a range says of it: ways, the code in a window of one way, and the kind of memory.
@@ -25,16 +23,10 @@ pub struct RangeFacts {
 }
 
 /// What the first endpoint of a range says of it; one without an endpoint counts as one way of ram.
-pub(crate) fn facts_of(
-    image: &Image,
-    topo: &Topo,
-    windows: &[Window],
-    firsts: &BTreeMap<RangeKey, u32>,
-    range: &Range,
-) -> RangeFacts
-    requires ready { IsOrderlySystem (system_of image.now topo.now windows.now) }
-    requires firsts { ListsFirsts (system_of image.now topo.now windows.now) (length topo.now.nodes) firsts.now }
-    ensures { AreFacts (system_of image.now topo.now windows.now) range.now result }
+pub(crate) fn facts_of(host: &Host, firsts: &BTreeMap<RangeKey, u32>, range: &Range) -> RangeFacts
+    requires ready { IsOrderlySystem (as_system host.now) }
+    requires firsts { ListsFirsts (as_system host.now) (length host.now.topo.now.nodes) firsts.now }
+    ensures { AreFacts (as_system host.now) range.now result }
 {
     let none = RangeFacts {
         ways: 1,
@@ -44,15 +36,15 @@ pub(crate) fn facts_of(
     let Some(first) = first_of(firsts, range) else {
         return none;
     };
-    let Some(i) = index_for(image, range, first) else {
+    let Some(i) = index_for(host.image, range, first) else {
         return none;
     };
-    let d = image.block(first).decoder(i);
+    let d = host.image.block(first).decoder(i);
     let ways = d.interleave_ways();
     RangeFacts {
         ways,
         code: own_code(ways, d.gran),
-        kind: span_kind(image, topo, windows, first, i),
+        kind: span_kind(host, first, i),
     }
 }
 

@@ -6,10 +6,10 @@ ghost use Rattle.std.specs.Option.{option_or};
 ghost use Rattle.std.specs.BTreeMap.{get};
 ghost use Rattle.cxl_check.specs.declared.firsts.RangeKey.{RangeKey};
 ghost use Rattle.cxl_regs.specs.Reading.{has_range};
-ghost use Rattle.cxl_model.specs.System.{system_of};
+ghost use Rattle.cxl_model.specs.Hosts.{as_system};
 ghost use Rattle.cxl_check.specs.inner.Firsts.{key_cmp, range_at, ListsFirsts};
 
-use cxl_image::Image;
+use cxl_model::Host;
 use cxl_regs::{Block, Decoder, Range};
 use cxl_topo::{Topo, enter_first};
 use std::alloc::{AllocError, Global};
@@ -36,15 +36,14 @@ pub(crate) fn first_of(firsts: &BTreeMap<RangeKey, u32>, range: &Range) -> Optio
 /// The first endpoint of each committed range that has one. Takes memory.
 pub(crate) fn first_endpoints(
     alloc: Global,
-    image: &Image,
-    topo: &Topo,
+    host: &Host,
 ) -> Result<BTreeMap<RangeKey, u32>, AllocError>
     ensures { IfOk result
-        (λ firsts. ListsFirsts (system_of image.now topo.now []) (length topo.now.nodes) firsts) }
+        (λ firsts. ListsFirsts (as_system host.now) (length host.now.topo.now.nodes) firsts) }
 {
     let mut firsts = BTreeMap::new(alloc);
-    for node in 0..topo.count() {
-        enter_node(&mut firsts, image, topo, node)?;
+    for node in 0..host.topo.count() {
+        enter_node(&mut firsts, host, node)?;
     }
     Ok(firsts)
 }
@@ -52,18 +51,17 @@ pub(crate) fn first_endpoints(
 /// Enters a node, where it is an endpoint, under the range of each of its committed decoders.
 fn enter_node(
     firsts: &mut BTreeMap<RangeKey, u32>,
-    image: &Image,
-    topo: &Topo,
+    host: &Host,
     node: u32,
 ) -> Result<(), AllocError>
-    requires here { node < length topo.now.nodes }
-    requires listed { ListsFirsts (system_of image.now topo.now []) node firsts.old }
-    ensures { OnOk result (ListsFirsts (system_of image.now topo.now []) (node + 1) firsts.new) }
+    requires here { node < length host.now.topo.now.nodes }
+    requires listed { ListsFirsts (as_system host.now) node firsts.old }
+    ensures { OnOk result (ListsFirsts (as_system host.now) (node + 1) firsts.new) }
 {
-    if !topo.is_endpoint(node) || node >= image.count() {
+    if !host.topo.is_endpoint(node) || node >= host.image.count() {
         return Ok(());
     }
-    enter_ranges(firsts, image.block(node), node)
+    enter_ranges(firsts, host.image.block(node), node)
 }
 
 /// Enters a node under the range of each committed decoder of its block.

@@ -3,35 +3,29 @@
 ghost use Rattle.std.specs.Prelude.{◌≡◌, ◌<◌, ◌==◌, ◌&&◌, [], length};
 ghost use Rattle.std.specs.List.{list_any};
 ghost use Rattle.cxl_regs.specs.Reading.{has_range, entries_of};
-ghost use Rattle.cxl_model.specs.System.{system_of};
+ghost use Rattle.cxl_model.specs.Hosts.{as_system};
 ghost use Rattle.cxl_model.specs.Rules.{lists, uid_above, is_targeted, keeps_reach};
 ghost use Rattle.cxl_check.specs.inner.Ready.{blocks_alone};
 
 use crate::window::window_for;
 use cxl_image::Image;
+use cxl_model::Host;
 use cxl_regs::{Decoder, Range};
 use cxl_topo::{NodeKind, Parent, Topo};
-use cxl_window::Window;
 
 /// K11 of a committed decoder: its node does not forward, and its decoding parent lists it for the range, or, where it has
 /// none, the range's window targets its bridge.
-pub(crate) fn keeps_reach(
-    image: &Image,
-    topo: &Topo,
-    windows: &[Window],
-    node: u32,
-    d: &Decoder,
-) -> bool
-    requires here { node < length topo.now.nodes }
-    ensures { result ≡ keeps_reach (system_of image.now topo.now windows.now) node d.now }
+pub(crate) fn keeps_reach(host: &Host, node: u32, d: &Decoder) -> bool
+    requires here { node < length host.now.topo.now.nodes }
+    ensures { result ≡ keeps_reach (as_system host.now) node d.now }
 {
-    if topo.forwards(node) {
+    if host.topo.forwards(node) {
         return false;
     }
     let range = d.range();
-    match topo.decoding_port(node) {
-        Some(parent) => lists(image, &range, parent),
-        None => is_targeted(topo, windows, &range, node),
+    match host.topo.decoding_port(node) {
+        Some(parent) => lists(host.image, &range, parent),
+        None => is_targeted(host, &range, node),
     }
 }
 
@@ -71,11 +65,11 @@ fn lists_port(d: &Decoder, port: u8) -> bool
 }
 
 /// Whether the range's window targets the bridge on the path of a node.
-fn is_targeted(topo: &Topo, windows: &[Window], range: &Range, node: u32) -> bool
-    requires here { node < length topo.now.nodes }
-    ensures { result ≡ is_targeted (system_of [] topo.now windows.now) range.now node }
+fn is_targeted(host: &Host, range: &Range, node: u32) -> bool
+    requires here { node < length host.now.topo.now.nodes }
+    ensures { result ≡ is_targeted (as_system host.now) range.now node }
 {
-    match (window_for(windows, range), uid_above(topo, node)) {
+    match (window_for(host.windows, range), uid_above(host.topo, node)) {
         (Some(w), Some(uid)) => w.targets().contains(&uid),
         _ => false,
     }

@@ -2,7 +2,7 @@
 
 ghost use Rattle.std.specs.Prelude.{◌≡◌, length, All, IfOk};
 ghost use Rattle.std.specs.BTreeMap.{keys, IsOrdered, ContainsKey};
-ghost use Rattle.cxl_model.specs.System.{system_of};
+ghost use Rattle.cxl_model.specs.Hosts.{as_system};
 ghost use Rattle.cxl_model.specs.Accepted.{IsAccepted, IsWhole, IsOrderlySystem};
 ghost use Rattle.cxl_model.specs.Ranges.{IsCommittedRange};
 ghost use Rattle.cxl_model.specs.Regions.{IsRegion, region_range};
@@ -15,31 +15,26 @@ use crate::slots::span_of;
 use crate::ways::region_code;
 use crate::window::window_for;
 use cxl_enc::FixedList;
-use cxl_image::Image;
 use cxl_model::{
-    Found, accepted_where_whole, endpoints_lie_evenly, regions_share_no_byte,
+    Found, Host, accepted_where_whole, endpoints_lie_evenly, regions_share_no_byte,
     whole_ranges_have_one_region,
 };
 use cxl_regs::Range;
 use cxl_span::ranges_rise;
-use cxl_topo::Topo;
-use cxl_window::Window;
 use std::alloc::{AllocError, Global};
 use std::collections::BTreeMap;
 
 /// The regions of an accepted image, by rising base. Takes memory.
 pub(crate) fn regions(
     alloc: Global,
-    image: &Image,
-    topo: &Topo,
-    windows: &[Window],
+    host: &Host,
     firsts: &BTreeMap<RangeKey, u32>,
 ) -> Result<Vec<Found>, AllocError>
-    requires ready { IsOrderlySystem (system_of image.now topo.now windows.now) }
-    requires accepted { IsAccepted (system_of image.now topo.now windows.now) }
-    requires firsts { ListsFirsts (system_of image.now topo.now windows.now) (length topo.now.nodes) firsts.now }
+    requires ready { IsOrderlySystem (as_system host.now) }
+    requires accepted { IsAccepted (as_system host.now) }
+    requires firsts { ListsFirsts (as_system host.now) (length host.now.topo.now.nodes) firsts.now }
     ensures { IfOk result
-        (λ regions. AreRegionsByBase (system_of image.now topo.now windows.now) regions.items) }
+        (λ regions. AreRegionsByBase (as_system host.now) regions.items) }
 {
     accepted_where_whole();
     endpoints_lie_evenly();
@@ -52,7 +47,7 @@ pub(crate) fn regions(
             base: key.base,
             size: key.size,
         };
-        let region = region_of(alloc, image, topo, windows, firsts, &range)?;
+        let region = region_of(alloc, host, firsts, &range)?;
         regions.push(region)?;
     }
     Ok(regions)
@@ -70,26 +65,24 @@ fn keys_of(alloc: Global, firsts: &BTreeMap<RangeKey, u32>) -> Result<Vec<RangeK
 /// The region of a committed range that is whole. Takes memory.
 fn region_of(
     alloc: Global,
-    image: &Image,
-    topo: &Topo,
-    windows: &[Window],
+    host: &Host,
     firsts: &BTreeMap<RangeKey, u32>,
     range: &Range,
 ) -> Result<Found, AllocError>
-    requires ready { IsOrderlySystem (system_of image.now topo.now windows.now) }
-    requires firsts { ListsFirsts (system_of image.now topo.now windows.now) (length topo.now.nodes) firsts.now }
-    requires committed { IsCommittedRange (system_of image.now topo.now windows.now) range.now }
-    requires whole { IsWhole (system_of image.now topo.now windows.now) range.now }
-    ensures region { IfOk result (λ found. IsRegion (system_of image.now topo.now windows.now) found) }
+    requires ready { IsOrderlySystem (as_system host.now) }
+    requires firsts { ListsFirsts (as_system host.now) (length host.now.topo.now.nodes) firsts.now }
+    requires committed { IsCommittedRange (as_system host.now) range.now }
+    requires whole { IsWhole (as_system host.now) range.now }
+    ensures region { IfOk result (λ found. IsRegion (as_system host.now) found) }
     ensures range { IfOk result (λ found. region_range found ≡ range.now) }
 {
     whole_ranges_have_one_region();
-    let w = window_for(windows, range).unwrap();
-    let facts = facts_of(image, topo, windows, firsts, range);
+    let w = window_for(host.windows, range).unwrap();
+    let facts = facts_of(host, firsts, range);
     let ways = facts.ways;
     let mut spans = Vec::with_capacity(alloc, usize::from(ways))?;
     for slot in 0..ways {
-        spans.push(span_of(image, topo, windows, range, w, slot))?;
+        spans.push(span_of(host, range, w, slot))?;
     }
     Ok(Found {
         base: range.base,

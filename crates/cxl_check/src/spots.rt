@@ -1,7 +1,8 @@
 //! The first decoder that breaks one of the rules K9 to K12.
 
 ghost use Rattle.std.specs.Prelude.{◌≡◌, ℕ, ◌<◌, ◌≤◌, ◌&&◌, not, true, false, Some, length, IfSome, IfNone};
-ghost use Rattle.cxl_model.specs.System.{system_of, decoder_at};
+ghost use Rattle.cxl_model.specs.Hosts.{as_system};
+ghost use Rattle.cxl_model.specs.System.{decoder_at};
 ghost use Rattle.cxl_model.specs.Accepted.{breaks, IsOrderlySystem};
 ghost use Rattle.cxl_check.specs.Spots.{Keeps, IsFirstSpot};
 ghost use Rattle.cxl_check.specs.inner.Ready.{IsCommitted};
@@ -12,10 +13,8 @@ use crate::tables::Tables;
 use crate::targets::keeps_targets;
 use crate::ways::keeps_ways;
 use crate::window::keeps_window;
-use cxl_image::Image;
+use cxl_model::Host;
 use cxl_regs::Decoder;
-use cxl_topo::Topo;
-use cxl_window::Window;
 
 /// A decoder of a node.
 #[derive(Clone, Copy)]
@@ -25,23 +24,17 @@ pub(crate) struct Spot {
 }
 
 /// The first decoder that breaks the rule of this number.
-pub(crate) fn first_spot(
-    image: &Image,
-    topo: &Topo,
-    windows: &[Window],
-    tables: &Tables,
-    rule: u8,
-) -> Option<Spot>
-    requires ready { IsOrderlySystem (system_of image.now topo.now windows.now) }
-    requires tables { AreSystemTables (system_of image.now topo.now windows.now) tables.now }
+pub(crate) fn first_spot(host: &Host, tables: &Tables, rule: u8) -> Option<Spot>
+    requires ready { IsOrderlySystem (as_system host.now) }
+    requires tables { AreSystemTables (as_system host.now) tables.now }
     requires from { 9 ≤ rule }
     requires to { rule < 13 }
-    ensures none { IfNone result (Keeps (system_of image.now topo.now windows.now) rule) }
+    ensures none { IfNone result (Keeps (as_system host.now) rule) }
     ensures first { IfSome result
-        (λ spot. IsFirstSpot (system_of image.now topo.now windows.now) rule spot.node spot.decoder) }
+        (λ spot. IsFirstSpot (as_system host.now) rule spot.node spot.decoder) }
 {
-    for node in 0..topo.count() {
-        if let Some(decoder) = first_decoder(image, topo, windows, tables, rule, node) {
+    for node in 0..host.topo.count() {
+        if let Some(decoder) = first_decoder(host, tables, rule, node) {
             return Some(Spot { node, decoder });
         }
     }
@@ -49,35 +42,19 @@ pub(crate) fn first_spot(
 }
 
 /// The first decoder of a node that breaks the rule.
-fn first_decoder(
-    image: &Image,
-    topo: &Topo,
-    windows: &[Window],
-    tables: &Tables,
-    rule: u8,
-    node: u32,
-) -> Option<u8>
-    requires ready { IsOrderlySystem (system_of image.now topo.now windows.now) }
-    requires tables { AreSystemTables (system_of image.now topo.now windows.now) tables.now }
+fn first_decoder(host: &Host, tables: &Tables, rule: u8, node: u32) -> Option<u8>
+    requires ready { IsOrderlySystem (as_system host.now) }
+    requires tables { AreSystemTables (as_system host.now) tables.now }
     requires from { 9 ≤ rule }
     requires to { rule < 13 }
-    requires here { node < length topo.now.nodes }
-    ensures none { IfNone result ((i : ℕ) → breaks (system_of image.now topo.now windows.now) rule node i ≡ false) }
-    ensures broken { IfSome result (λ decoder. breaks (system_of image.now topo.now windows.now) rule node decoder ≡ true) }
-    ensures lower { IfSome result (λ decoder. (i : ℕ) → i < decoder → breaks (system_of image.now topo.now windows.now) rule node i ≡ false) }
+    requires here { node < length host.now.topo.now.nodes }
+    ensures none { IfNone result ((i : ℕ) → breaks (as_system host.now) rule node i ≡ false) }
+    ensures broken { IfSome result (λ decoder. breaks (as_system host.now) rule node decoder ≡ true) }
+    ensures lower { IfSome result (λ decoder. (i : ℕ) → i < decoder → breaks (as_system host.now) rule node i ≡ false) }
 {
-    let block = image.block(node);
+    let block = host.image.block(node);
     for i in 0..block.count() {
-        if breaks_rule(
-            image,
-            topo,
-            windows,
-            tables,
-            rule,
-            node,
-            i,
-            &block.decoder(i),
-        ) {
+        if breaks_rule(host, tables, rule, node, i, &block.decoder(i)) {
             return Some(i);
         }
     }
@@ -85,46 +62,28 @@ fn first_decoder(
 }
 
 /// Whether a decoder is committed and breaks the rule.
-fn breaks_rule(
-    image: &Image,
-    topo: &Topo,
-    windows: &[Window],
-    tables: &Tables,
-    rule: u8,
-    node: u32,
-    i: u8,
-    d: &Decoder,
-) -> bool
-    requires ready { IsOrderlySystem (system_of image.now topo.now windows.now) }
-    requires tables { AreSystemTables (system_of image.now topo.now windows.now) tables.now }
-    requires here { node < length topo.now.nodes }
-    requires there { decoder_at (system_of image.now topo.now windows.now) node i ≡ Some d.now }
-    ensures { result ≡ (d.now.committed && not (keeps_rule (system_of image.now topo.now windows.now) rule node i d.now)) }
+fn breaks_rule(host: &Host, tables: &Tables, rule: u8, node: u32, i: u8, d: &Decoder) -> bool
+    requires ready { IsOrderlySystem (as_system host.now) }
+    requires tables { AreSystemTables (as_system host.now) tables.now }
+    requires here { node < length host.now.topo.now.nodes }
+    requires there { decoder_at (as_system host.now) node i ≡ Some d.now }
+    ensures { result ≡ (d.now.committed && not (keeps_rule (as_system host.now) rule node i d.now)) }
 {
-    d.committed && !keeps_rule(image, topo, windows, tables, rule, node, i, d)
+    d.committed && !keeps_rule(host, tables, rule, node, i, d)
 }
 
 /// Whether a committed decoder keeps the rule.
-fn keeps_rule(
-    image: &Image,
-    topo: &Topo,
-    windows: &[Window],
-    tables: &Tables,
-    rule: u8,
-    node: u32,
-    i: u8,
-    d: &Decoder,
-) -> bool
-    requires ready { IsOrderlySystem (system_of image.now topo.now windows.now) }
-    requires tables { AreSystemTables (system_of image.now topo.now windows.now) tables.now }
-    requires here { node < length topo.now.nodes }
-    requires committed { IsCommitted (system_of image.now topo.now windows.now) node i d.now }
-    ensures { result ≡ keeps_rule (system_of image.now topo.now windows.now) rule node i d.now }
+fn keeps_rule(host: &Host, tables: &Tables, rule: u8, node: u32, i: u8, d: &Decoder) -> bool
+    requires ready { IsOrderlySystem (as_system host.now) }
+    requires tables { AreSystemTables (as_system host.now) tables.now }
+    requires here { node < length host.now.topo.now.nodes }
+    requires committed { IsCommitted (as_system host.now) node i d.now }
+    ensures { result ≡ keeps_rule (as_system host.now) rule node i d.now }
 {
     match rule {
-        9 => keeps_window(image, topo, windows, node, i, d),
-        10 => keeps_targets(image, topo, windows, &tables.landings, node, d),
-        11 => keeps_reach(image, topo, windows, node, d),
-        _ => keeps_ways(image, topo, windows, &tables.firsts, node, i, d),
+        9 => keeps_window(host, node, i, d),
+        10 => keeps_targets(host, &tables.landings, node, d),
+        11 => keeps_reach(host, node, d),
+        _ => keeps_ways(host, &tables.firsts, node, i, d),
     }
 }

@@ -5,71 +5,50 @@ ghost use Rattle.std.specs.List.{list_all, list_any, range_with_len};
 ghost use Rattle.std.specs.Option.{option_map_or};
 ghost use Rattle.cxl_topo.specs.Tree.{bridge_with, is_endpoint_at};
 ghost use Rattle.cxl_regs.specs.Reading.{decoder_ways, entry_at, entries_of};
-ghost use Rattle.cxl_model.specs.System.{system_of};
+ghost use Rattle.cxl_model.specs.Hosts.{as_system};
 ghost use Rattle.cxl_model.specs.Ranges.{lies_within};
 ghost use Rattle.cxl_model.specs.Rules.{are_distinct, lands_on, leads_on, targets_land, is_bridge_landing, keeps_targets};
 ghost use Rattle.cxl_check.specs.inner.Firsts.{AreLandings};
 
 use crate::decoders::serves;
 use crate::window::window_for;
-use cxl_image::Image;
+use cxl_model::Host;
 use cxl_regs::{Decoder, Range};
-use cxl_topo::Topo;
 use cxl_window::Window;
 
 /// K10 of a committed decoder: a port's entries differ, and each leads on; and where the node is the landing of a bridge,
 /// each target of the range's window lands on the range.
-pub(crate) fn keeps_targets(
-    image: &Image,
-    topo: &Topo,
-    windows: &[Window],
-    landings: &[bool],
-    node: u32,
-    d: &Decoder,
-) -> bool
-    requires here { node < length topo.now.nodes }
-    requires landings { AreLandings topo.now.nodes landings.now }
-    ensures { result ≡ keeps_targets (system_of image.now topo.now windows.now) node d.now }
+pub(crate) fn keeps_targets(host: &Host, landings: &[bool], node: u32, d: &Decoder) -> bool
+    requires here { node < length host.now.topo.now.nodes }
+    requires landings { AreLandings host.now.topo.now.nodes landings.now }
+    ensures { result ≡ keeps_targets (as_system host.now) node d.now }
 {
     let range = d.range();
-    entries_differ_and_lead_on(image, topo, &range, node, d)
-        && targets_land_with(image, topo, windows, landings, &range, node)
+    entries_differ_and_lead_on(host, &range, node, d)
+        && targets_land_with(host, landings, &range, node)
 }
 
 /// Whether the node is an endpoint, or a port whose entries differ and lead on.
-fn entries_differ_and_lead_on(
-    image: &Image,
-    topo: &Topo,
-    range: &Range,
-    node: u32,
-    d: &Decoder,
-) -> bool
-    requires { node < length topo.now.nodes }
-    ensures { result ≡ (is_endpoint_at topo.now.nodes node
-        || (are_distinct (entries_of d.now) && list_all (leads_on (system_of image.now topo.now []) range.now node) (entries_of d.now))) }
+fn entries_differ_and_lead_on(host: &Host, range: &Range, node: u32, d: &Decoder) -> bool
+    requires { node < length host.now.topo.now.nodes }
+    ensures { result ≡ (is_endpoint_at host.now.topo.now.nodes node
+        || (are_distinct (entries_of d.now) && list_all (leads_on (as_system host.now) range.now node) (entries_of d.now))) }
 {
-    topo.is_endpoint(node) || (are_distinct(d) && entries_lead_on(image, topo, range, node, d))
+    host.topo.is_endpoint(node) || (are_distinct(d) && entries_lead_on(host, range, node, d))
 }
 
 /// Whether each target of the range's window lands on it, where the node is the landing of a bridge.
-fn targets_land_with(
-    image: &Image,
-    topo: &Topo,
-    windows: &[Window],
-    landings: &[bool],
-    range: &Range,
-    node: u32,
-) -> bool
-    requires here { node < length topo.now.nodes }
-    requires landings { AreLandings topo.now.nodes landings.now }
-    ensures { result ≡ (not (is_bridge_landing topo.now.nodes node)
-        || option_map_or (targets_land (system_of image.now topo.now []) range.now) (find (lies_within range.now) windows.now) true) }
+fn targets_land_with(host: &Host, landings: &[bool], range: &Range, node: u32) -> bool
+    requires here { node < length host.now.topo.now.nodes }
+    requires landings { AreLandings host.now.topo.now.nodes landings.now }
+    ensures { result ≡ (not (is_bridge_landing host.now.topo.now.nodes node)
+        || option_map_or (targets_land (as_system host.now) range.now) (find (lies_within range.now) host.now.windows.now) true) }
 {
     if !landings[node as usize] {
         return true;
     }
-    match window_for(windows, range) {
-        Some(w) => targets_land(image, topo, range, w),
+    match window_for(host.windows, range) {
+        Some(w) => targets_land(host, range, w),
         None => true,
     }
 }
@@ -103,12 +82,12 @@ fn stands_later(d: &Decoder, i: u8) -> bool
 }
 
 /// Whether each entry of a port's decoder leads on.
-fn entries_lead_on(image: &Image, topo: &Topo, range: &Range, node: u32, d: &Decoder) -> bool
-    requires { node < length topo.now.nodes }
-    ensures { result ≡ list_all (leads_on (system_of image.now topo.now []) range.now node) (entries_of d.now) }
+fn entries_lead_on(host: &Host, range: &Range, node: u32, d: &Decoder) -> bool
+    requires { node < length host.now.topo.now.nodes }
+    ensures { result ≡ list_all (leads_on (as_system host.now) range.now node) (entries_of d.now) }
 {
     for i in 0..d.interleave_ways() {
-        if !leads_on(image, topo, range, node, d.entry_at(i)) {
+        if !leads_on(host, range, node, d.entry_at(i)) {
             return false;
         }
     }
@@ -116,42 +95,42 @@ fn entries_lead_on(image: &Image, topo: &Topo, range: &Range, node: u32, d: &Dec
 }
 
 /// Whether a child stands at a port, and lands on the range.
-fn leads_on(image: &Image, topo: &Topo, range: &Range, node: u32, port: u8) -> bool
-    requires here { node < length topo.now.nodes }
-    ensures { result ≡ leads_on (system_of image.now topo.now []) range.now node port }
+fn leads_on(host: &Host, range: &Range, node: u32, port: u8) -> bool
+    requires here { node < length host.now.topo.now.nodes }
+    ensures { result ≡ leads_on (as_system host.now) range.now node port }
 {
-    match topo.child(node, port) {
-        Some(child) => lands_on(image, topo, range, child),
+    match host.topo.child(node, port) {
+        Some(child) => lands_on(host, range, child),
         None => false,
     }
 }
 
 /// Whether an address that comes to a node is first decoded at a node that serves the range.
-fn lands_on(image: &Image, topo: &Topo, range: &Range, node: u32) -> bool
-    requires here { node < length topo.now.nodes }
-    ensures { result ≡ lands_on (system_of image.now topo.now []) range.now node }
+fn lands_on(host: &Host, range: &Range, node: u32) -> bool
+    requires here { node < length host.now.topo.now.nodes }
+    ensures { result ≡ lands_on (as_system host.now) range.now node }
 {
-    match topo.landing(node) {
-        Some(landing) => serves(image, range, landing),
+    match host.topo.landing(node) {
+        Some(landing) => serves(host.image, range, landing),
         None => false,
     }
 }
 
 /// Whether each target of a window is a bridge that lands on the range.
-fn targets_land(image: &Image, topo: &Topo, range: &Range, w: &Window) -> bool
-    ensures { result ≡ targets_land (system_of image.now topo.now []) range.now w.now }
+fn targets_land(host: &Host, range: &Range, w: &Window) -> bool
+    ensures { result ≡ targets_land (as_system host.now) range.now w.now }
 {
     w.targets()
         .iter()
-        .all(|uid| target_lands(image, topo, range, *uid))
+        .all(|uid| target_lands(host, range, *uid))
 }
 
 /// Whether a UID is that of a bridge that lands on the range.
-fn target_lands(image: &Image, topo: &Topo, range: &Range, uid: u32) -> bool
-    ensures { result ≡ option_map_or (lands_on (system_of image.now topo.now []) range.now) (bridge_with topo.now.nodes uid) false }
+fn target_lands(host: &Host, range: &Range, uid: u32) -> bool
+    ensures { result ≡ option_map_or (lands_on (as_system host.now) range.now) (bridge_with host.now.topo.now.nodes uid) false }
 {
-    match topo.bridge(uid) {
-        Some(bridge) => lands_on(image, topo, range, bridge),
+    match host.topo.bridge(uid) {
+        Some(bridge) => lands_on(host, range, bridge),
         None => false,
     }
 }

@@ -4,7 +4,8 @@ ghost use Rattle.std.specs.Prelude.{◌≡◌, ◌+◌, ◌*◌, ◌<◌, ◌==�
 ghost use Rattle.cxl_enc.specs.Codes.{bits_of};
 ghost use Rattle.cxl_regs.specs.Reading.{decoder_ways, range_of};
 ghost use Rattle.cxl_topo.specs.Tree.{is_endpoint_at};
-ghost use Rattle.cxl_model.specs.System.{System, system_of};
+ghost use Rattle.cxl_model.specs.Hosts.{as_system};
+ghost use Rattle.cxl_model.specs.System.{System};
 ghost use Rattle.cxl_model.specs.Ranges.{ways_above, bits_above, span_kind, same_kind, range_ways, range_kind, range_code};
 ghost use Rattle.cxl_model.specs.Rules.{keeps_endpoint_ways, keeps_port_code, keeps_ways};
 ghost use Rattle.cxl_model.specs.Accepted.{IsOrderlySystem};
@@ -19,113 +20,93 @@ use crate::firsts::RangeKey;
 use crate::kind::span_kind;
 use crate::window::window_for;
 use cxl_enc::{MemKind, split};
-use cxl_image::Image;
+use cxl_model::Host;
 use cxl_regs::{Decoder, Range};
-use cxl_topo::Topo;
 use cxl_window::Window;
 use std::collections::BTreeMap;
 
 /// K12 of a committed decoder: an endpoint has the ways that its path gives it, those, the kind and the code of the range;
 /// a port has the code of its level.
 pub(crate) fn keeps_ways(
-    image: &Image,
-    topo: &Topo,
-    windows: &[Window],
+    host: &Host,
     firsts: &BTreeMap<RangeKey, u32>,
     node: u32,
     i: u8,
     d: &Decoder,
 ) -> bool
-    requires ready { IsOrderlySystem (system_of image.now topo.now windows.now) }
-    requires firsts { ListsFirsts (system_of image.now topo.now windows.now) (length topo.now.nodes) firsts.now }
-    requires here { node < length topo.now.nodes }
-    requires committed { IsCommitted (system_of image.now topo.now windows.now) node i d.now }
-    ensures { result ≡ keeps_ways (system_of image.now topo.now windows.now) node i d.now }
+    requires ready { IsOrderlySystem (as_system host.now) }
+    requires firsts { ListsFirsts (as_system host.now) (length host.now.topo.now.nodes) firsts.now }
+    requires here { node < length host.now.topo.now.nodes }
+    requires committed { IsCommitted (as_system host.now) node i d.now }
+    ensures { result ≡ keeps_ways (as_system host.now) node i d.now }
 {
     let range = d.range();
-    let Some(w) = window_for(windows, &range) else {
+    let Some(w) = window_for(host.windows, &range) else {
         return true;
     };
-    let facts = facts_of(image, topo, windows, firsts, &range);
-    if topo.is_endpoint(node) {
-        keeps_endpoint_ways(image, topo, windows, &facts, w, node, i, d)
+    let facts = facts_of(host, firsts, &range);
+    if host.topo.is_endpoint(node) {
+        keeps_endpoint_ways(host, &facts, w, node, i, d)
     } else {
-        keeps_port_code(image, topo, windows, &facts, w, node, d)
+        keeps_port_code(host, &facts, w, node, d)
     }
 }
 
 /// An endpoint has the window's ways times those of the ports above it, and the ways and kind of the range; with more than
 /// one way it has the range's code.
 fn keeps_endpoint_ways(
-    image: &Image,
-    topo: &Topo,
-    windows: &[Window],
+    host: &Host,
     facts: &RangeFacts,
     w: &Window,
     node: u32,
     i: u8,
     d: &Decoder,
 ) -> bool
-    requires ready { IsOrderlySystem (system_of image.now topo.now windows.now) }
-    requires facts { AreFacts (system_of image.now topo.now windows.now) (record { base = d.now.base; size = d.now.size }) facts.now }
-    requires here { node < length topo.now.nodes }
-    requires endpoint { is_endpoint_at topo.now.nodes node ≡ true }
-    requires committed { IsCommitted (system_of image.now topo.now windows.now) node i d.now }
-    ensures { result ≡ keeps_endpoint_ways (system_of image.now topo.now windows.now) w.now node i d.now }
+    requires ready { IsOrderlySystem (as_system host.now) }
+    requires facts { AreFacts (as_system host.now) (record { base = d.now.base; size = d.now.size }) facts.now }
+    requires here { node < length host.now.topo.now.nodes }
+    requires endpoint { is_endpoint_at host.now.topo.now.nodes node ≡ true }
+    requires committed { IsCommitted (as_system host.now) node i d.now }
+    ensures { result ≡ keeps_endpoint_ways (as_system host.now) w.now node i d.now }
 {
-    if !keeps_number(image, topo, facts, w, node, d) {
+    if !keeps_number(host, facts, w, node, d) {
         return false;
     }
-    if !keeps_kind(image, topo, windows, facts, node, i, d) {
+    if !keeps_kind(host, facts, node, i, d) {
         return false;
     }
     keeps_code(facts, w, d)
 }
 
 /// A decoder has the ways that its path gives it, and those of the range.
-fn keeps_number(
-    image: &Image,
-    topo: &Topo,
-    facts: &RangeFacts,
-    w: &Window,
-    node: u32,
-    d: &Decoder,
-) -> bool
-    requires { node < length topo.now.nodes }
+fn keeps_number(host: &Host, facts: &RangeFacts, w: &Window, node: u32, d: &Decoder) -> bool
+    requires { node < length host.now.topo.now.nodes }
     ensures { (s : System) → AreFacts s (range_of d.now) facts.now
-        → result ≡ ((decoder_ways d.now == w.now.ways * ways_above (system_of image.now topo.now []) (range_of d.now) node)
+        → result ≡ ((decoder_ways d.now == w.now.ways * ways_above (as_system host.now) (range_of d.now) node)
         && (decoder_ways d.now == range_ways s (range_of d.now))) }
 {
-    keeps_path_ways(image, topo, w, node, d) && d.interleave_ways() == facts.ways
+    keeps_path_ways(host, w, node, d) && d.interleave_ways() == facts.ways
 }
 
 /// The span of an endpoint's decoder is of the range's kind.
-fn keeps_kind(
-    image: &Image,
-    topo: &Topo,
-    windows: &[Window],
-    facts: &RangeFacts,
-    node: u32,
-    i: u8,
-    d: &Decoder,
-) -> bool
-    requires ready { IsOrderlySystem (system_of image.now topo.now windows.now) }
-    requires facts { AreFacts (system_of image.now topo.now windows.now) (range_of d.now) facts.now }
-    requires endpoint { is_endpoint_at topo.now.nodes node ≡ true }
-    requires committed { IsCommitted (system_of image.now topo.now windows.now) node i d.now }
-    ensures { result ≡ same_kind (span_kind (system_of image.now topo.now windows.now) node i)
-        (range_kind (system_of image.now topo.now windows.now) (range_of d.now)) }
+fn keeps_kind(host: &Host, facts: &RangeFacts, node: u32, i: u8, d: &Decoder) -> bool
+    requires ready { IsOrderlySystem (as_system host.now) }
+    requires facts { AreFacts (as_system host.now) (range_of d.now) facts.now }
+    requires endpoint { is_endpoint_at host.now.topo.now.nodes node ≡ true }
+    requires committed { IsCommitted (as_system host.now) node i d.now }
+    ensures { result ≡ same_kind (span_kind (as_system host.now) node i)
+        (range_kind (as_system host.now) (range_of d.now)) }
 {
-    same_kind(span_kind(image, topo, windows, node, i), facts.kind)
+    same_kind(span_kind(host, node, i), facts.kind)
 }
 
 /// A decoder has the window's ways times those of the ports above its node.
-fn keeps_path_ways(image: &Image, topo: &Topo, w: &Window, node: u32, d: &Decoder) -> bool
-    requires { node < length topo.now.nodes }
+fn keeps_path_ways(host: &Host, w: &Window, node: u32, d: &Decoder) -> bool
+    requires { node < length host.now.topo.now.nodes }
     ensures { result ≡ (decoder_ways d.now
-        == w.now.ways * ways_above (system_of image.now topo.now []) (range_of d.now) node) }
+        == w.now.ways * ways_above (as_system host.now) (range_of d.now) node) }
 {
-    let above = ports_above(image, topo, &d.range(), node);
+    let above = ports_above(host, &d.range(), node);
     u32::from(d.interleave_ways()) == u32::from(w.ways()) * above.ways
 }
 
@@ -147,37 +128,22 @@ fn keeps_code(facts: &RangeFacts, w: &Window, d: &Decoder) -> bool
 }
 
 /// A port with more than one way has the range's code plus the k of the window and of each port above it.
-fn keeps_port_code(
-    image: &Image,
-    topo: &Topo,
-    windows: &[Window],
-    facts: &RangeFacts,
-    w: &Window,
-    node: u32,
-    d: &Decoder,
-) -> bool
-    requires facts { AreFacts (system_of image.now topo.now windows.now) (record { base = d.now.base; size = d.now.size }) facts.now }
-    requires here { node < length topo.now.nodes }
-    ensures { result ≡ keeps_port_code (system_of image.now topo.now windows.now) w.now node d.now }
+fn keeps_port_code(host: &Host, facts: &RangeFacts, w: &Window, node: u32, d: &Decoder) -> bool
+    requires facts { AreFacts (as_system host.now) (record { base = d.now.base; size = d.now.size }) facts.now }
+    requires here { node < length host.now.topo.now.nodes }
+    ensures { result ≡ keeps_port_code (as_system host.now) w.now node d.now }
 {
-    let level = port_level(image, topo, facts, w, &d.range(), node);
+    let level = port_level(host, facts, w, &d.range(), node);
     d.interleave_ways() == 1 || u32::from(d.gran) == level
 }
 
 /// The range's code plus the k of the window and of each port above a node.
-fn port_level(
-    image: &Image,
-    topo: &Topo,
-    facts: &RangeFacts,
-    w: &Window,
-    range: &Range,
-    node: u32,
-) -> u32
-    requires { node < length topo.now.nodes }
+fn port_level(host: &Host, facts: &RangeFacts, w: &Window, range: &Range, node: u32) -> u32
+    requires { node < length host.now.topo.now.nodes }
     ensures { (s : System) → AreFacts s range.now facts.now → result
-        ≡ range_code s w.now range.now + bits_of w.now.ways + bits_above (system_of image.now topo.now []) range.now node }
+        ≡ range_code s w.now range.now + bits_of w.now.ways + bits_above (as_system host.now) range.now node }
 {
-    let above = ports_above(image, topo, range, node);
+    let above = ports_above(host, range, node);
     u32::from(range_code(facts, w)) + u32::from(split(w.ways()).bits) + above.bits
 }
 

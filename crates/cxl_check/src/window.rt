@@ -3,7 +3,7 @@
 ghost use Rattle.std.specs.Prelude.{◌≡◌, ◌<◌, ◌≤◌, true, length, find};
 ghost use Rattle.std.specs.Option.{option_copied};
 ghost use Rattle.cxl_topo.specs.Tree.{is_endpoint_at};
-ghost use Rattle.cxl_model.specs.System.{system_of};
+ghost use Rattle.cxl_model.specs.Hosts.{as_system};
 ghost use Rattle.cxl_model.specs.Ranges.{lies_within, span_kind};
 ghost use Rattle.cxl_model.specs.Rules.{starts_in_thirds, keeps_window};
 ghost use Rattle.cxl_model.specs.Accepted.{IsOrderlySystem};
@@ -11,33 +11,24 @@ ghost use Rattle.cxl_check.specs.inner.Ready.{IsCommitted};
 
 use crate::kind::span_kind;
 use cxl_enc::UNIT;
-use cxl_image::Image;
-use cxl_model::permits;
+use cxl_model::{Host, permits};
 use cxl_regs::{Decoder, Range};
-use cxl_topo::Topo;
 use cxl_window::Window;
 
 /// K9 of a committed decoder: its range lies in a usable window, in thirds where it must, and an endpoint's span is of a
 /// kind that the window permits.
-pub(crate) fn keeps_window(
-    image: &Image,
-    topo: &Topo,
-    windows: &[Window],
-    node: u32,
-    i: u8,
-    d: &Decoder,
-) -> bool
-    requires ready { IsOrderlySystem (system_of image.now topo.now windows.now) }
-    requires here { node < length topo.now.nodes }
-    requires committed { IsCommitted (system_of image.now topo.now windows.now) node i d.now }
-    ensures { result ≡ keeps_window (system_of image.now topo.now windows.now) node i d.now }
+pub(crate) fn keeps_window(host: &Host, node: u32, i: u8, d: &Decoder) -> bool
+    requires ready { IsOrderlySystem (as_system host.now) }
+    requires here { node < length host.now.topo.now.nodes }
+    requires committed { IsCommitted (as_system host.now) node i d.now }
+    ensures { result ≡ keeps_window (as_system host.now) node i d.now }
 {
     let range = d.range();
-    let Some(w) = window_for(windows, &range) else {
+    let Some(w) = window_for(host.windows, &range) else {
         return false;
     };
     starts_in_thirds(w, &range)
-        && (!topo.is_endpoint(node) || permits(w, span_kind(image, topo, windows, node, i)))
+        && (!host.topo.is_endpoint(node) || permits(w, span_kind(host, node, i)))
 }
 
 /// The usable window in which a range lies.

@@ -8,6 +8,7 @@ mod dealing;
 mod device;
 mod extent;
 mod found;
+mod host;
 mod laws;
 mod plan;
 mod poison;
@@ -26,6 +27,7 @@ pub use dealing::{
 pub use device::capacity_at;
 pub use extent::Extent;
 pub use found::{Found, Place, weave_of};
+pub use host::Host;
 pub use laws::{
     accepted_image_is_system, accepted_or_breach, accepted_where_whole, breaches_lie_in_images,
     chains_have_one_end, hosts_with_caps_are_systems, one_window, reset_hosts_are_accepted,

@@ -1,7 +1,6 @@
 -- What the rules K9 to K12 ask of one decoder, by the number of the rule.
-use Rattle.std.specs.Prelude.{◌≡◌, ℕ, ◌==◌, Bool, true, if◌then◌else◌}
+use Rattle.std.specs.Prelude.{◌≡◌, ℕ, ◌==◌, Bool, if◌then◌else◌}
 use Rattle.std.specs.Option.{option_map_or}
-use Rattle.std.specs.BTreeMap.{BTreeMap}
 use Rattle.cxl_regs.specs.declared.decoder.Decoder.{Decoder}
 use Rattle.cxl_regs.specs.declared.reading.Range.{Range}
 use Rattle.cxl_regs.specs.Reading.{decoder_ways}

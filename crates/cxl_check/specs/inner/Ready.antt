@@ -1,8 +1,7 @@
 -- What is known of an image before its ranges are judged.
-use Rattle.std.specs.Prelude.{◌≡◌, ℕ, true, List, [], slice_get, Some, IsSomeAnd}
+use Rattle.std.specs.Prelude.{◌≡◌, ℕ, true, List, [], Some}
 use Rattle.cxl_regs.specs.declared.decoder.Decoder.{Decoder}
 use Rattle.cxl_regs.specs.Registers.{Registers}
-use Rattle.cxl_topo.specs.declared.node.Node.{Node}
 use Rattle.cxl_model.specs.System.{System, decoder_at}
 
 -- decoder i of node n is committed, with these registers

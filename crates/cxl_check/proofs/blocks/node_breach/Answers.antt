@@ -1,5 +1,5 @@
 use Rattle.std.proofs.Common.{arith}
-use Rattle.cxl_model.specs.System.{system_of}
+use Rattle.cxl_model.specs.Hosts.{as_system}
 use Rattle.cxl_check.proofs.FoundOfNodes.{found_of_node}
 use Rattle.cxl_check.proofs.blocks.node_breach.Goals as goal
 
@@ -8,5 +8,5 @@ block-requires c = omega (arith, c.requires.here, c.requires.caps.count)
 
 pub returns : goal.returns
 returns c =
-    found_of_node (system_of c.args.image.now c.args.topo.now c.args.windows.now) c.args.node c.block.result.now c.capacity_at-capacity.result.ram c.capacity_at-capacity.result.pmem
+    found_of_node (as_system c.args.host.now) c.args.node c.block.result.now c.capacity_at-capacity.result.ram c.capacity_at-capacity.result.pmem
     c.block.ensures.value c.capacity_at-capacity.ensures.ram c.capacity_at-capacity.ensures.pmem c.block_breach.result c.block_breach.ensures.none c.block_breach.ensures.first

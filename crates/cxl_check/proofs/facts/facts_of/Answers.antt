@@ -1,5 +1,5 @@
 use Rattle.std.proofs.Common.{◌≡◌, Some, None, sym, ◌∙◌}
-use Rattle.cxl_model.specs.System.{system_of}
+use Rattle.cxl_model.specs.Hosts.{as_system}
 use Rattle.cxl_model.specs.Ranges.{first_endpoint}
 use Rattle.cxl_check.specs.declared.firsts.RangeKey.{RangeKey}
 use Rattle.cxl_check.proofs.Kept.{node_inside}
@@ -8,40 +8,40 @@ use Rattle.cxl_check.proofs.facts.facts_of.Goals as goal
 
 pub returns-in_default : goal.returns-in_default
 returns-in_default c =
-    let s = system_of c.args.image.now c.args.topo.now c.args.windows.now in
+    let s = as_system c.args.host.now in
     let key : RangeKey = record { base = c.args.range.now.base; size = c.args.range.now.size } in
     let none : first_endpoint s c.args.range.now ≡ None = sym (c.requires.firsts key) ∙ sym c.first_of.ensures ∙ c.in_default.is in
     no_first s c.args.range.now none
 
 pub returns-in_default-index_for : goal.returns-in_default-index_for
 returns-in_default-index_for c =
-    let s = system_of c.args.image.now c.args.topo.now c.args.windows.now in
+    let s = as_system c.args.host.now in
     let key : RangeKey = record { base = c.args.range.now.base; size = c.args.range.now.size } in
     let first : first_endpoint s c.args.range.now ≡ Some c.in-Some.first = sym (c.requires.firsts key) ∙ sym c.first_of.ensures ∙ c.in-Some.is in
     no_index s c.args.range.now c.in-Some.first first (sym c.index_for.ensures ∙ c.in_default-index_for.is)
 
 pub block-requires : goal.block-requires
 block-requires c =
-    let s = system_of c.args.image.now c.args.topo.now c.args.windows.now in
+    let s = as_system c.args.host.now in
     let key : RangeKey = record { base = c.args.range.now.base; size = c.args.range.now.size } in
     let first : first_endpoint s c.args.range.now ≡ Some c.in-Some.first = sym (c.requires.firsts key) ∙ sym c.first_of.ensures ∙ c.in-Some.is in
     node_inside s c.requires.ready c.in-Some.first (is_endpoint s c.args.range.now c.in-Some.first first)
 
 pub span_kind-requires-clause-endpoint : goal.span_kind-requires-clause-endpoint
 span_kind-requires-clause-endpoint c =
-    let s = system_of c.args.image.now c.args.topo.now c.args.windows.now in
+    let s = as_system c.args.host.now in
     let key : RangeKey = record { base = c.args.range.now.base; size = c.args.range.now.size } in
     let first : first_endpoint s c.args.range.now ≡ Some c.in-Some.first = sym (c.requires.firsts key) ∙ sym c.first_of.ensures ∙ c.in-Some.is in
     is_endpoint s c.args.range.now c.in-Some.first first
 
 pub span_kind-requires-clause-committed : goal.span_kind-requires-clause-committed
 span_kind-requires-clause-committed c =
-    let s = system_of c.args.image.now c.args.topo.now c.args.windows.now in
+    let s = as_system c.args.host.now in
     is_committed s c.args.range.now c.in-Some.first c.in-Some-index_for.i (sym c.index_for.ensures ∙ c.in-Some-index_for.is)
 
 pub returns : goal.returns
 returns c =
-    let s = system_of c.args.image.now c.args.topo.now c.args.windows.now in
+    let s = as_system c.args.host.now in
     let key : RangeKey = record { base = c.args.range.now.base; size = c.args.range.now.size } in
     let first : first_endpoint s c.args.range.now ≡ Some c.in-Some.first = sym (c.requires.firsts key) ∙ sym c.first_of.ensures ∙ c.in-Some.is in
     with_index s c.args.range.now c.in-Some.first c.in-Some-index_for.i c.decoder-d.result c.interleave_ways-ways.result c.own_code.result c.span_kind.result first

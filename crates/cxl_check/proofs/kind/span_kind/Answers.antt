@@ -1,21 +1,21 @@
 use Rattle.std.proofs.Common.{arith}
-use Rattle.cxl_model.specs.System.{system_of}
+use Rattle.cxl_model.specs.Hosts.{as_system}
 use Rattle.cxl_check.proofs.Kept.{node_inside, endpoint_inside, decoder_inside, span_few, ram_span, pmem_span}
 use Rattle.cxl_check.proofs.kind.span_kind.Goals as goal
 
 pub block-block-requires : goal.block-block-requires
-block-block-requires c = node_inside (system_of c.args.image.now c.args.topo.now c.args.windows.now) c.requires.ready c.args.node c.requires.endpoint
+block-block-requires c = node_inside (as_system c.args.host.now) c.requires.ready c.args.node c.requires.endpoint
 
 pub capacity_at-capacity-requires : goal.capacity_at-capacity-requires
-capacity_at-capacity-requires c = endpoint_inside c.args.topo.now.nodes c.args.node c.requires.endpoint
+capacity_at-capacity-requires c = endpoint_inside c.args.host.now.topo.now.nodes c.args.node c.requires.endpoint
 
 pub decoder-requires : goal.decoder-requires
 decoder-requires c =
-    decoder_inside (system_of c.args.image.now c.args.topo.now c.args.windows.now) c.args.node c.args.i c.block-block.result.now c.block-block.ensures.value c.requires.committed
+    decoder_inside (as_system c.args.host.now) c.args.node c.args.i c.block-block.result.now c.block-block.ensures.value c.requires.committed
 
 pub overflow_add-start : goal.overflow_add-start
 overflow_add-start c =
-    let s = system_of c.args.image.now c.args.topo.now c.args.windows.now in
+    let s = as_system c.args.host.now in
     let block = c.block-block.result.now in
     let committed = rw (c.block-block.ensures.value, c.decoder.ensures.value) at c.requires.committed in
     let few = span_few s c.requires.ready c.spans_lie_in_partitions.ensures.ends c.args.node c.args.i block c.decoder.result c.requires.endpoint c.block-block.ensures.value c.decoder.ensures.value committed in
@@ -24,12 +24,12 @@ overflow_add-start c =
 
 pub returns-then-start-span_length : goal.returns-then-start-span_length
 returns-then-start-span_length c =
-    ram_span (system_of c.args.image.now c.args.topo.now c.args.windows.now) c.args.node c.args.i c.span_start-start.result c.block-block.result.now c.decoder.result c.capacity_at-capacity.result.ram
+    ram_span (as_system c.args.host.now) c.args.node c.args.i c.span_start-start.result c.block-block.result.now c.decoder.result c.capacity_at-capacity.result.ram
     c.block-block.ensures.value c.decoder.ensures.value c.span_start-start.ensures c.capacity_at-capacity.ensures.ram
     (omega (arith, c.span_length.ensures, c.if-start-span_length.true))
 
 pub returns-else-start-span_length : goal.returns-else-start-span_length
 returns-else-start-span_length c =
-    pmem_span (system_of c.args.image.now c.args.topo.now c.args.windows.now) c.args.node c.args.i c.span_start-start.result c.block-block.result.now c.decoder.result c.capacity_at-capacity.result.ram
+    pmem_span (as_system c.args.host.now) c.args.node c.args.i c.span_start-start.result c.block-block.result.now c.decoder.result c.capacity_at-capacity.result.ram
     c.block-block.ensures.value c.decoder.ensures.value c.span_start-start.ensures c.capacity_at-capacity.ensures.ram
     (omega (arith, c.span_length.ensures, c.if-start-span_length.false))

@@ -3,7 +3,7 @@ use Rattle.std.specs.BTreeMap.{keys, ContainsKey}
 use Rattle.std.proofs.lemmas.List.{take_all}
 use Rattle.std.proofs.lemmas.Option.{slice_get-get_or, get_or_from_slice_get}
 use Rattle.cxl_model.specs.declared.found.Found.{Found}
-use Rattle.cxl_model.specs.System.{system_of}
+use Rattle.cxl_model.specs.Hosts.{as_system}
 use Rattle.cxl_check.specs.declared.firsts.RangeKey.{RangeKey}
 use Rattle.cxl_check.specs.inner.Firsts.{key_cmp}
 use Rattle.cxl_check.proofs.Listing.{AreListed, one_listed, committed_at, whole_at, are_regions}
@@ -18,15 +18,15 @@ region_of-requires-clause-committed c =
     let lengths : length items ≡ length (keys c.args.firsts.now) = ap length same in
     let there : ContainsKey key_cmp c.args.firsts.now (get_or items c.loop-key.key-index none) =
     subst (λ (ks : List RangeKey). ContainsKey key_cmp c.args.firsts.now (get_or ks c.loop-key.key-index none)) (sym same) (c.in_ok-keys.ensures.found c.loop-key.key-index none (omega arith)) in
-    committed_at (system_of c.args.image.now c.args.topo.now c.args.windows.now) c.requires.ready c.requires.accepted c.args.firsts.now c.requires.firsts c.accepted_where_whole.ensures (get_or items c.loop-key.key-index none) there
+    committed_at (as_system c.args.host.now) c.requires.ready c.requires.accepted c.args.firsts.now c.requires.firsts c.accepted_where_whole.ensures (get_or items c.loop-key.key-index none) there
 
 pub region_of-requires-clause-whole : goal.region_of-requires-clause-whole
 region_of-requires-clause-whole c =
-    whole_at (system_of c.args.image.now c.args.topo.now c.args.windows.now) c.requires.ready c.requires.accepted c.args.firsts.now c.requires.firsts c.accepted_where_whole.ensures _ (region_of-requires-clause-committed c)
+    whole_at (as_system c.args.host.now) c.requires.ready c.requires.accepted c.args.firsts.now c.requires.firsts c.accepted_where_whole.ensures _ (region_of-requires-clause-committed c)
 
 pub loop-key-preserved : goal.loop-key-preserved
 loop-key-preserved c =
-    let s = system_of c.args.image.now c.args.topo.now c.args.windows.now in
+    let s = as_system c.args.host.now in
     let none : RangeKey = record { base = 0; size = 0 } in
     let items : List RangeKey = c.deref-key-items.result.now in
     let i = c.loop-key.key-index in
@@ -38,7 +38,7 @@ loop-key-preserved c =
 
 pub returns : goal.returns
 returns c =
-    let s = system_of c.args.image.now c.args.topo.now c.args.windows.now in
+    let s = as_system c.args.host.now in
     let items : List RangeKey = c.deref-key-items.result.now in
     let same : items ≡ keys c.args.firsts.now = c.deref-key-items.ensures.value ∙ c.in_ok-keys.ensures.keys in
     let past : length items ≤ c.loop-key.key-index = omega arith in

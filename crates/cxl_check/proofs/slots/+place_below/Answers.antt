@@ -2,7 +2,8 @@ use Rattle.std.proofs.Common.{◌≡◌, ℕ, Some, true, false, refl, sym, subs
 use Rattle.std.proofs.lemmas.Option.{same_Some}
 use Rattle.cxl_topo.specs.Tree.{is_endpoint_at}
 use Rattle.cxl_span.specs.Spans.{span_start_of}
-use Rattle.cxl_model.specs.System.{system_of, decoders_at}
+use Rattle.cxl_model.specs.Hosts.{as_system}
+use Rattle.cxl_model.specs.System.{decoders_at}
 use Rattle.cxl_model.specs.Ranges.{index_for}
 use Rattle.cxl_model.specs.Regions.{LeadsTo, at_endpoint}
 use Rattle.cxl_model.specs.declared.found.Place.{Place}
@@ -14,21 +15,21 @@ use Rattle.cxl_check.proofs.slots.+place_below.Goals as goal
 
 pub is_endpoint-requires : goal.is_endpoint-requires
 is_endpoint-requires t c =
-    within (system_of c.args.image.now c.args.topo.now c.args.windows.now) c.args.w.now c.args.range.now c.args.slot c.count-count.ensures.tree c.args.node c.requires.some.0 c.requires.some.1
+    within (as_system c.args.host.now) c.args.w.now c.args.range.now c.args.slot c.count-count.ensures.tree c.args.node c.requires.some.0 c.requires.some.1
 
 pub next_of-requires : goal.next_of-requires
 next_of-requires t c =
-    within (system_of c.args.image.now c.args.topo.now c.args.windows.now) c.args.w.now c.args.range.now c.args.slot c.count-count.ensures.tree c.args.node c.requires.some.0 c.requires.some.1
+    within (as_system c.args.host.now) c.args.w.now c.args.range.now c.args.slot c.count-count.ensures.tree c.args.node c.requires.some.0 c.requires.some.1
 
 pub span_start-requires-clause-committed : goal.span_start-requires-clause-committed
 span_start-requires-clause-committed t c =
-    let s = system_of c.args.image.now c.args.topo.now c.args.windows.now in
+    let s = as_system c.args.host.now in
     let at : index_for s c.args.range.now c.args.node ≡ Some c.unwrap-i.result = sym c.index_for.ensures ∙ c.unwrap-i.ensures in
     is_committed s c.args.range.now c.args.node c.unwrap-i.result at
 
 pub unwrap-i-requires : goal.unwrap-i-requires
 unwrap-i-requires t c =
-    let s = system_of c.args.image.now c.args.topo.now c.args.windows.now in
+    let s = as_system c.args.host.now in
     let endpoint : is_endpoint_at s.nodes c.args.node ≡ true = sym c.is_endpoint.ensures ∙ c.if-is_endpoint.true in
     let ends = ends_there s c.args.w.now c.args.range.now c.args.slot c.count-count.ensures.tree c.args.node c.requires.some.0 endpoint c.requires.some.1 in
     let i = some_and (index_for s c.args.range.now c.args.node) (λ (i : ℕ). c.requires.some.0.start ≡ span_start_of (decoders_at s c.args.node) i) ends.start in
@@ -39,21 +40,21 @@ span_start-requires-clause-endpoint t c = sym c.is_endpoint.ensures ∙ c.if-is_
 
 pub returns-then-is_endpoint : goal.returns-then-is_endpoint
 returns-then-is_endpoint t c =
-    let s = system_of c.args.image.now c.args.topo.now c.args.windows.now in
+    let s = as_system c.args.host.now in
     let place : Place = record { endpoint = c.args.node; start = c.span_start.result } in
     let at : index_for s c.args.range.now c.args.node ≡ Some c.unwrap-i.result = sym c.index_for.ensures ∙ c.unwrap-i.ensures in
     at_endpoint place (sym c.is_endpoint.ensures ∙ c.if-is_endpoint.true) (rw at c.span_start.ensures)
 
 pub unwrap-child-requires : goal.unwrap-child-requires
 unwrap-child-requires t c =
-    let s = system_of c.args.image.now c.args.topo.now c.args.windows.now in
+    let s = as_system c.args.host.now in
     let other : is_endpoint_at s.nodes c.args.node ≡ false = sym c.is_endpoint.ensures ∙ c.if-is_endpoint.false in
     let goes = goes_on s c.args.w.now c.args.range.now c.args.slot c.count-count.ensures.tree c.args.node c.requires.some.0 other c.requires.some.1 in
     rw (c.next_of.ensures ∙ goes.next) refl
 
 pub place_below-requires : goal.place_below-requires
 place_below-requires t c =
-    let s = system_of c.args.image.now c.args.topo.now c.args.windows.now in
+    let s = as_system c.args.host.now in
     let tree = c.count-count.ensures.tree in
     let other : is_endpoint_at s.nodes c.args.node ≡ false = sym c.is_endpoint.ensures ∙ c.if-is_endpoint.false in
     let goes = goes_on s c.args.w.now c.args.range.now c.args.slot tree c.args.node c.requires.some.0 other c.requires.some.1 in
@@ -66,7 +67,7 @@ place_below-requires t c =
 
 pub returns : goal.returns
 returns t c =
-    let s = system_of c.args.image.now c.args.topo.now c.args.windows.now in
+    let s = as_system c.args.host.now in
     let tree = c.count-count.ensures.tree in
     let other : is_endpoint_at s.nodes c.args.node ≡ false = sym c.is_endpoint.ensures ∙ c.if-is_endpoint.false in
     let next : next_of s c.args.w.now c.args.range.now c.args.slot c.args.node ≡ Some c.unwrap-child.result = sym c.next_of.ensures ∙ c.unwrap-child.ensures in

@@ -1,13 +1,14 @@
 use Rattle.std.proofs.Common.{◌≡◌, ◌≤◌, false, Some, length, sym, ◌∙◌, inl, inr, arith}
 use Rattle.std.proofs.lemmas.Bool.{cases_lt}
-use Rattle.cxl_model.specs.System.{system_of, decoder_at}
+use Rattle.cxl_model.specs.Hosts.{as_system}
+use Rattle.cxl_model.specs.System.{decoder_at}
 use Rattle.cxl_model.specs.Accepted.{breaks}
 use Rattle.cxl_check.proofs.RuleTests.{breaks_here, past_decoders}
 use Rattle.cxl_check.proofs.spots.first_decoder.Goals as goal
 
 pub returns-then-breaks_rule-clause-broken : goal.returns-then-breaks_rule-clause-broken
 returns-then-breaks_rule-clause-broken c =
-    let s = system_of c.args.image.now c.args.topo.now c.args.windows.now in
+    let s = as_system c.args.host.now in
     let there : decoder_at s c.args.node c.loop-i.i ≡ Some c.decoder.result = rw c.block-block.ensures.value c.decoder.ensures.value in
     breaks_here s c.args.rule c.requires.from c.requires.to c.args.node c.loop-i.i c.decoder.result there ∙ sym c.breaks_rule.ensures ∙ c.if-breaks_rule.true
 
@@ -16,7 +17,7 @@ returns-then-breaks_rule-clause-lower c = c.loop-i.invariant
 
 pub loop-i-preserved : goal.loop-i-preserved
 loop-i-preserved c k below =
-    let s = system_of c.args.image.now c.args.topo.now c.args.windows.now in
+    let s = as_system c.args.host.now in
     let there : decoder_at s c.args.node c.loop-i.i ≡ Some c.decoder.result = rw c.block-block.ensures.value c.decoder.ensures.value in
     let kept : breaks s c.args.rule c.args.node c.loop-i.i ≡ false =
     breaks_here s c.args.rule c.requires.from c.requires.to c.args.node c.loop-i.i c.decoder.result there ∙ sym c.breaks_rule.ensures ∙ c.if-breaks_rule.false in
@@ -27,7 +28,7 @@ loop-i-preserved c k below =
 
 pub returns-clause-none : goal.returns-clause-none
 returns-clause-none c i =
-    let s = system_of c.args.image.now c.args.topo.now c.args.windows.now in
+    let s = as_system c.args.host.now in
     elim (cases_lt i c.loop-i.i) [
       | inl below ↦ c.loop-i.invariant i below
       | inr past ↦

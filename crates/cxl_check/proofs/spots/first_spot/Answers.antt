@@ -1,15 +1,15 @@
 use Rattle.std.proofs.Common.{◌≤◌, length, inl, inr, arith}
 use Rattle.std.proofs.lemmas.Bool.{cases_lt}
-use Rattle.cxl_model.specs.System.{system_of}
+use Rattle.cxl_model.specs.Hosts.{as_system}
 use Rattle.cxl_check.proofs.RuleTests.{past_nodes}
 use Rattle.cxl_check.proofs.spots.first_spot.Goals as goal
 
 pub returns-clause-none : goal.returns-clause-none
 returns-clause-none c n i =
-    let s = system_of c.args.image.now c.args.topo.now c.args.windows.now in
+    let s = as_system c.args.host.now in
     elim (cases_lt n c.loop-node.node) [
       | inl below ↦ c.loop-node.invariant n i below
       | inr past ↦
-          let beyond : length c.args.image.now ≤ n = omega (arith, c.count-node-end.ensures.count, c.requires.ready.system.caps.count) in
+          let beyond : length c.args.host.now.image.now ≤ n = omega (arith, c.count-node-end.ensures.count, c.requires.ready.system.caps.count) in
           past_nodes s c.args.rule c.requires.from c.requires.to n i beyond
     ]
