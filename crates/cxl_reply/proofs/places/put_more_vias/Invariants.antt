@@ -1,7 +1,7 @@
 use Rattle.std.proofs.Common.{◌≡◌, ◌++◌, take, map}
 use Rattle.cxl_reply.specs.Words.{more_spaced}
 use Rattle.cxl_reply.specs.Texts.{via_text}
-use Rattle.cxl_reply.proofs.address.put_more_vias.Given as goal
+use Rattle.cxl_reply.proofs.places.put_more_vias.Given as goal
 
 -- the lines so far are appended
 abbrev pub invariant-loop-via : goal.invariant-loop-via

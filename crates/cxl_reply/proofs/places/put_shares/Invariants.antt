@@ -1,7 +1,7 @@
 use Rattle.std.proofs.Common.{◌≡◌, ◌++◌, take}
 use Rattle.std.specs.List.{flat_map, enumerate_from, zip}
 use Rattle.cxl_reply.specs.Texts.{share_text}
-use Rattle.cxl_reply.proofs.address.put_shares.Given as goal
+use Rattle.cxl_reply.proofs.places.put_shares.Given as goal
 
 -- the lines so far are appended
 abbrev pub invariant-loop-slot : goal.invariant-loop-slot

@@ -1,5 +1,5 @@
 use Rattle.std.proofs.Common.{append_assoc}
-use Rattle.cxl_reply.proofs.checked.put_breach_line.Goals as goal
+use Rattle.cxl_reply.proofs.findings.put_breach_line.Goals as goal
 
 pub returns : goal.returns
 returns c =

@@ -1,7 +1,7 @@
 use Rattle.std.proofs.Common.{◌++◌, List, ℕ, ap, ◌∙◌, arith}
 use Rattle.cxl_reply.specs.Texts.{share_text}
 use Rattle.cxl_reply.proofs.Lines.{share_step, all_shares}
-use Rattle.cxl_reply.proofs.address.put_shares.Goals as goal
+use Rattle.cxl_reply.proofs.places.put_shares.Goals as goal
 
 pub loop-slot-preserved : goal.loop-slot-preserved
 loop-slot-preserved c =

@@ -1,7 +1,7 @@
 use Rattle.std.proofs.Common.{◌≡◌, ◌++◌, take}
 use Rattle.std.specs.List.{flat_map}
 use Rattle.cxl_reply.specs.Texts.{extent_text}
-use Rattle.cxl_reply.proofs.address.put_extents.Given as goal
+use Rattle.cxl_reply.proofs.places.put_extents.Given as goal
 
 -- the lines so far are appended
 abbrev pub invariant-loop-extent : goal.invariant-loop-extent

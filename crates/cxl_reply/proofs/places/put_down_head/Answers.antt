@@ -1,5 +1,5 @@
 use Rattle.std.proofs.Common.{append_assoc}
-use Rattle.cxl_reply.proofs.address.put_down_head.Goals as goal
+use Rattle.cxl_reply.proofs.places.put_down_head.Goals as goal
 
 pub returns : goal.returns
 returns c =
