@@ -5,20 +5,11 @@ ghost use Rattle.cxl_model.specs.Hosts.{as_system};
 ghost use Rattle.cxl_model.specs.Ranges.{ways_above, bits_above};
 
 use crate::decoders::decoder_for;
-use cxl_model::Host;
+use cxl_model::{Above, Host};
 use cxl_regs::Range;
 use cxl_topo::tree_laws;
 
-/// The decoders of a range in the ports on the way from a node up to its bridge, together.
-#[derive(Clone, Copy)]
-pub(crate) struct Above {
-    /// The product of their ways.
-    pub(crate) ways: u32,
-    /// How many address bits they select on.
-    pub(crate) bits: u32,
-}
-
-/// The ports above a node.
+/// The decoders of a range in the ports above a node, together.
 pub(crate) fn ports_above(host: &Host, range: &Range, node: u32) -> Above
     requires { node < length host.now.topo.now.nodes }
     ensures ways { result.ways ≡ ways_above (as_system host.now) range.now node }

@@ -7,8 +7,9 @@ ghost use Rattle.cxl_model.specs.System.{System};
 ghost use Rattle.cxl_check.specs.inner.Blocks.{IsFoundOfNode, IsFoundBelow};
 
 use crate::fault::Breach;
-use cxl_model::{Host, capacity_at};
+use cxl_model::Host;
 use cxl_span::{BlockBreach, block_breach};
+use cxl_topo::capacity_at;
 
 /// The first breach of K2 to K8.
 pub(crate) fn blocks_breach(host: &Host) -> Option<Breach>

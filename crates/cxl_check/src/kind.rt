@@ -9,8 +9,9 @@ ghost use Rattle.cxl_model.specs.Ranges.{span_kind};
 ghost use Rattle.cxl_model.specs.Accepted.{IsOrderlySystem};
 
 use cxl_enc::MemKind;
-use cxl_model::{Host, capacity_at};
+use cxl_model::Host;
 use cxl_span::{spans_lie_in_partitions, start_of};
+use cxl_topo::capacity_at;
 
 /// The kind of memory of the span of an endpoint's committed decoder.
 pub(crate) fn span_kind(host: &Host, node: u32, i: u8) -> MemKind

@@ -11,10 +11,10 @@ ghost use Rattle.cxl_check.specs.inner.Slots.{child_of_slot, next_of};
 use crate::above::ports_above;
 use crate::decoders::{decoder_for, index_for};
 use crate::kind::span_start;
-use cxl_model::{Host, Place, root_ways, target_position};
+use cxl_model::{Host, Place};
 use cxl_regs::{Decoder, Range};
 use cxl_topo::tree_laws;
-use cxl_window::Window;
+use cxl_window::{Window, root_ways, target_position};
 
 /// The span of a slot that has one, from the window's target down.
 pub(crate) fn span_of(host: &Host, range: &Range, w: &Window, slot: u8) -> Place

@@ -11,9 +11,9 @@ ghost use Rattle.cxl_check.specs.inner.Ready.{IsCommitted};
 
 use crate::kind::span_kind;
 use cxl_enc::UNIT;
-use cxl_model::{Host, permits};
+use cxl_model::Host;
 use cxl_regs::{Decoder, Range};
-use cxl_window::Window;
+use cxl_window::{Window, permits};
 
 /// K9 of a committed decoder: its range lies in a usable window, in thirds where it must, and an endpoint's span is of a
 /// kind that the window permits.

@@ -1,5 +1,5 @@
 -- The capability word of a decoder block (CXL HDM decoder capability).
-use Rattle.std.specs.Prelude.{ℕ, ◌+◌, ◌*◌, ◌/◌, ◌%◌, ◌==◌, nat_le, nat_lt, ◌&&◌, ◌||◌, Bool, if◌then◌else◌}
+use Rattle.std.specs.Prelude.{ℕ, ◌+◌, ◌*◌, ◌/◌, ◌%◌, ◌^◌, ◌==◌, nat_le, nat_lt, ◌&&◌, ◌||◌, Bool, if◌then◌else◌}
 use Rattle.cxl_enc.specs.declared.caps.Caps.{Caps}
 
 -- bits 3:0, the code of the decoder count
@@ -36,6 +36,10 @@ is_legal_cap cap endpoint = has_named_bits cap && has_own_bits cap endpoint
 -- fields that a capability word can have
 abbrev pub are_caps : Caps → Bool
 are_caps caps = is_decoder_count caps.decoders && ((caps.targets == 0) || is_target_count caps.targets)
+
+-- bit k of a word
+abbrev pub has_bit : ℕ → ℕ → Bool
+has_bit n k = n / 2 ^ k % 2 == 1
 
 -- a flag as a bit
 abbrev pub bit_of : Bool → ℕ

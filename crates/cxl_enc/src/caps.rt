@@ -1,5 +1,5 @@
 ghost use Rattle.std.specs.Prelude.{◌≡◌, ◌*◌, ◌<◌, IsTrue};
-ghost use Rattle.cxl_enc.specs.Caps.{targets_of, is_legal_cap, has_named_bits, has_own_bits, are_caps, bit_of, word_of};
+ghost use Rattle.cxl_enc.specs.Caps.{targets_of, has_bit, is_legal_cap, has_named_bits, has_own_bits, are_caps, bit_of, word_of};
 
 /// The two kinds of device memory: volatile and persistent.
 #[derive(Clone, Copy, Debug, PartialEq, Eq)]
@@ -26,11 +26,19 @@ pub struct Caps {
 }
 
 /// How many targets a decoder of a block with this capability word may list: bits 7:4. (CXL HDM decoder capability.)
-pub fn targets_of(cap: u32) -> u8
+pub fn target_count(cap: u32) -> u8
     ensures value { result ≡ targets_of cap }
     ensures few { result < 16 }
 {
     (cap / 16 % 16) as u8
+}
+
+/// Whether a bit of a word is set.
+pub fn has_bit(word: u32, place: u8) -> bool
+    requires { place < 32 }
+    ensures { result ≡ has_bit word place }
+{
+    (word >> place) & 1 == 1
 }
 
 /// Whether a capability word is one that this project's devices may have. (CXL HDM decoder capability;
@@ -50,7 +58,7 @@ fn has_named_bits(cap: u32) -> bool
 fn has_own_bits(cap: u32, endpoint: bool) -> bool
     ensures { result ≡ has_own_bits cap endpoint }
 {
-    let targets = targets_of(cap);
+    let targets = target_count(cap);
     if endpoint {
         return targets == 0;
     }

@@ -11,7 +11,7 @@ mod fixed_list;
 mod limits;
 mod name;
 
-pub use caps::{Caps, MemKind, cap_word, legal_cap, targets_of};
+pub use caps::{Caps, MemKind, cap_word, has_bit, legal_cap, target_count};
 pub use codes::{Factors, chunk_size, code_of, gran_code, gran_of, split, ways_of};
 pub use counters::FailingCalls;
 pub use faults::{Failed, Memory};

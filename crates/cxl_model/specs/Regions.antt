@@ -7,6 +7,7 @@ use Rattle.cxl_regs.specs.declared.reading.Range.{Range}
 use Rattle.cxl_regs.specs.Reading.{decoder_ways, entry_at}
 use Rattle.cxl_span.specs.Spans.{span_start_of}
 use Rattle.cxl_window.specs.Fields.{WindowFields}
+pub use Rattle.cxl_window.specs.Position.{target_position}
 use Rattle.cxl_deal.specs.Weaves.{WeaveFields, dealt_slot, dealt_offset}
 use Rattle.cxl_model.specs.declared.found.Found.{Found}
 use Rattle.cxl_model.specs.declared.found.Place.{Place}
@@ -15,10 +16,6 @@ use Rattle.cxl_model.specs.Ranges.{IsCommittedRange, decoder_for, index_for, win
 use Rattle.cxl_model.specs.Accepted.{IsWhole}
 
 -- ---- the span of a slot
-
--- the position of the window's target to which a slot belongs
-abbrev pub target_position : WindowFields → ℕ → ℕ
-target_position w slot = slot % 2 ^ bits_of w.ways + 2 ^ bits_of w.ways * (slot / 2 ^ bits_of w.ways % third_of w.ways)
 
 -- how many slots in a row share an entry of node n: 2 to the window's k, times the ways of the ports above
 abbrev pub slots_an_entry : System → WindowFields → Range → ℕ → ℕ

@@ -2,18 +2,16 @@
 use Rattle.std.specs.Prelude.{ℕ, ◌+◌, ◌-◌, ◌*◌, ◌%◌, ◌==◌, ◌&&◌, ◌||◌, not, Bool, true, false, if◌then◌else◌, List, [], ◌∷◌, length, slice_get, Option, option_and_then}
 use Rattle.std.specs.Option.{option_map_or}
 use Rattle.std.specs.List.{list_any, list_all, range_with_len}
-use Rattle.cxl_enc.specs.declared.caps.MemKind.{MemKind}
-use Rattle.cxl_enc.specs.declared.caps.MemKind.TheVariants.{Ram, Pmem}
 use Rattle.cxl_enc.specs.Codes.{bits_of}
 use Rattle.cxl_enc.specs.Limits.{unit}
 use Rattle.cxl_topo.specs.declared.node.Node.{Node}
 use Rattle.cxl_topo.specs.declared.node.Parent.{Parent}
 use Rattle.cxl_topo.specs.Tree.{forwards_at, is_bridge_at, is_endpoint_at, uid_at, child_of, bridge_with, path_of, decoding_port_of, landing_of}
 use Rattle.cxl_regs.specs.declared.decoder.Decoder.{Decoder}
-use Rattle.cxl_regs.specs.Words.{has_bit}
 use Rattle.cxl_regs.specs.declared.reading.Range.{Range}
 use Rattle.cxl_regs.specs.Reading.{decoder_ways, entries_of, range_of, has_range}
 use Rattle.cxl_window.specs.Fields.{WindowFields}
+pub use Rattle.cxl_window.specs.Restrictions.{permits}
 use Rattle.cxl_model.specs.System.{System, decoders_at}
 use Rattle.cxl_model.specs.Ranges.{serves, window_for, ways_above, bits_above, span_kind, same_kind, range_ways, range_kind, range_code}
 
@@ -22,11 +20,6 @@ use Rattle.cxl_model.specs.Ranges.{serves, window_for, ways_above, bits_above, s
 -- where 3 divides the window's ways, the range starts at a multiple of 768 MiB from the window's base
 abbrev pub starts_in_thirds : WindowFields → Range → Bool
 starts_in_thirds w r = not (w.ways % 3 == 0) || ((r.base - w.base) % (3 * unit) == 0)
-
--- restriction bit 1 (host-only coherent) and that of the kind: 2 for ram, 3 for pmem
-abbrev pub permits : WindowFields → MemKind → Bool
-permits w Ram = has_bit w.restrict 1 && has_bit w.restrict 2
-permits w Pmem = has_bit w.restrict 1 && has_bit w.restrict 3
 
 -- K9: the range lies in a usable window, in thirds where it must, and an endpoint's span is of a kind that the window permits
 abbrev pub keeps_window : System → ℕ → ℕ → Decoder → Bool

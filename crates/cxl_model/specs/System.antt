@@ -1,11 +1,10 @@
 -- A register image over a tree of nodes, with the host's windows: what all definitions here speak of.
-use Rattle.std.specs.Prelude.{ℕ, List, [], slice_get, All, Option, option_and_then, IfSome}
+use Rattle.std.specs.Prelude.{ℕ, List, [], slice_get, All, Option, IfSome}
 use Rattle.std.specs.Option.{option_map_or}
 use Rattle.cxl_topo.specs.declared.node.Node.{Node}
 use Rattle.cxl_topo.specs.declared.node.Capacity.{Capacity}
-use Rattle.cxl_topo.specs.Tree.{Tree}
+use Rattle.cxl_topo.specs.Tree.{Tree, device_at, device_ram, device_pmem}
 pub use Rattle.cxl_topo.specs.Tree.{bridge_uids}
-use Rattle.cxl_topo.specs.Kinds.{capacity_of}
 use Rattle.cxl_topo.specs.Faults.{IsTree}
 use Rattle.cxl_regs.specs.declared.decoder.Decoder.{Decoder}
 use Rattle.cxl_regs.specs.Registers.{Registers, IsBlock}
@@ -42,13 +41,13 @@ decoder_at s n i = slice_get (decoders_at s n) i
 
 -- the bytes of ram and of pmem of its device; a port has none
 abbrev pub capacity_at : System → ℕ → Option Capacity
-capacity_at s n = option_and_then (λ node. capacity_of node.kind) (slice_get s.nodes n)
+capacity_at s n = device_at s.nodes n
 
 abbrev pub ram_at : System → ℕ → ℕ
-ram_at s n = option_map_or (λ c. c.ram) (capacity_at s n) 0
+ram_at s n = device_ram s.nodes n
 
 abbrev pub pmem_at : System → ℕ → ℕ
-pmem_at s n = option_map_or (λ c. c.pmem) (capacity_at s n) 0
+pmem_at s n = device_pmem s.nodes n
 
 -- its block keeps the rules K2 to K8
 abbrev pub KeepsBlock : System → ℕ → Type 0

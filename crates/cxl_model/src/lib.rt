@@ -3,19 +3,19 @@
 //! types that the crates above share stand here too.
 #![tactic(auto)]
 
+mod above;
 mod chain;
 mod dealing;
-mod device;
 mod extent;
 mod found;
 mod host;
 mod laws;
 mod plan;
 mod poison;
-mod reading;
 mod regions;
 mod request;
 
+pub use above::Above;
 pub use chain::{Miss, Step};
 pub use cxl_enc::{FixedList, MemKind, Memory, Name};
 pub use cxl_regs::Range;
@@ -24,7 +24,6 @@ pub use dealing::{
     carries_where_chain_ends, chain_is_the_dealing, chains_to_spans_are_of_regions,
     routes_are_of_regions, routes_lie_in_ranges, routes_stay,
 };
-pub use device::capacity_at;
 pub use extent::Extent;
 pub use found::{Found, Place, weave_of};
 pub use host::Host;
@@ -34,7 +33,6 @@ pub use laws::{
 };
 pub use plan::{Plan, PlanFault, Reason, Row};
 pub use poison::{Entry, Part, PoisonList, Poisoned, Run, Wide};
-pub use reading::{is_fixed, permits, root_ways, target_position};
 pub use regions::{
     bytes_are_carried_one_to_one, committed_spans_are_of_regions, endpoints_lie_evenly,
     pieces_are_carried_whole, regions_are_listed, regions_lie_in_windows, regions_share_no_byte,

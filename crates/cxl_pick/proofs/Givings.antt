@@ -1,4 +1,4 @@
--- What is given in a window, whatever the other windows, and from the table of offers.
+-- What is given in a window from the table of offers.
 use Rattle.std.proofs.Common.{◌≡◌, ℕ, zero, suc, ◌+◌, ◌/◌, ◌<◌, ◌≤◌, Bool, true, false, ◌&&◌, if◌then◌else◌, cond, List, [], ◌∷◌, ◌++◌, length, get_or, map, drop, Option, Some, None, Vec, Global, refl, sym, ap, ◌∙◌, subst, arith, append_assoc}
 use Rattle.std.specs.Prelude.{◌==◌, option_map, option_and_then, filter, All, AllPairs}
 use Rattle.std.specs.List.{filter_map, range_with_len}
@@ -17,27 +17,6 @@ use Rattle.cxl_pick.specs.Picking.{can_take, can_serve_itself, children_of, port
 use Rattle.cxl_pick.specs.inner.Offers.{some_of, listed_at}
 use Rattle.cxl_pick.proofs.Lists.{is_in, in_from, in_is, is_number, kept_in}
 use Rattle.cxl_pick.proofs.Giving.{gives_none, gives_step}
-
--- ---- whatever the windows
-
-same_gives : (nodes : List Node) (blocks : List Registers) (one other : List WindowFields) (want : Want) (w : WindowFields) (start k n m : ℕ)
-    → gives_within k (record { nodes = nodes; blocks = blocks; windows = one }) want w start n m ≡ gives_within k (record { nodes = nodes; blocks = blocks; windows = other }) want w start n m
-same_gives nodes blocks one other want w start zero n m =
-    gives_none (record { nodes = nodes; blocks = blocks; windows = one }) want w start n m ∙ sym (gives_none (record { nodes = nodes; blocks = blocks; windows = other }) want w start n m)
-same_gives nodes blocks one other want w start (suc k) n m =
-    let s : System = record { nodes = nodes; blocks = blocks; windows = one } in
-    let t : System = record { nodes = nodes; blocks = blocks; windows = other } in
-    gives_step k s want w start n m
-    ∙ (λ i. if is_endpoint_at nodes n then (if (m == 1) && can_serve_itself s want w start n then Some (n ∷ []) else None)
-    else port_gives s want w start n m (λ u. filter_map (λ child. same_gives nodes blocks one other want w start k child (m / u) i) (children_of s n)))
-    ∙ sym (gives_step k t want w start n m)
-
-pub same_given : (nodes : List Node) (blocks : List Registers) (one other : List WindowFields) (want : Want) (w : WindowFields)
-    → given_in (record { nodes = nodes; blocks = blocks; windows = one }) want w ≡ given_in (record { nodes = nodes; blocks = blocks; windows = other }) want w
-same_given nodes blocks one other want w =
-    λ i. if can_take want w
-    then option_and_then (λ start. all_given (map (λ uid. option_and_then (λ b. same_gives nodes blocks one other want w start (length nodes) b (want.ways / w.ways) i) (bridge_with nodes uid)) w.targets)) (latest_start want w)
-    else None
 
 -- ---- the targets, one by one
 

@@ -1,4 +1,4 @@
--- An accepted image without its windows keeps K1 to K8, and what a window gives by the table of offers.
+-- What a window gives by the table of offers.
 use Rattle.std.proofs.Common.{◌≡◌, ℕ, zero, suc, ◌+◌, ◌*◌, ◌/◌, ◌%◌, ◌<◌, ◌≤◌, Bool, true, false, if◌then◌else◌, List, [], ◌∷◌, length, map, Option, Some, None, Vec, Global, refl, sym, ap, ◌∙◌, subst, inl, inr, arith}
 use Rattle.std.specs.Prelude.{option_and_then}
 use Rattle.std.specs.Option.{option_map_or}
@@ -6,11 +6,9 @@ use Rattle.std.proofs.lemmas.Bool.{cases_eq, cases_lt, false≢true}
 use Rattle.std.proofs.lemmas.Option.{none-some, same_Some, slice_get_past}
 use Rattle.cxl_topo.specs.declared.node.Node.{Node}
 use Rattle.cxl_topo.specs.Kinds.{is_bridge}
-use Rattle.cxl_topo.specs.Tree.{is_bridge_at, bridge_with, bridge_uids}
+use Rattle.cxl_topo.specs.Tree.{is_bridge_at, bridge_with}
 use Rattle.cxl_window.specs.Fields.{WindowFields}
-use Rattle.cxl_window.specs.Windows.{AreMadeWith}
-use Rattle.cxl_model.specs.System.{System, IsSystem}
-use Rattle.cxl_model.specs.Accepted.{breaks, breaks_caps, IsAccepted, IsOrderlySystem}
+use Rattle.cxl_model.specs.System.{System}
 use Rattle.cxl_enc.specs.Codes.{is_ways}
 use Rattle.cxl_pick.specs.declared.want.Want.{Want}
 use Rattle.cxl_pick.specs.Picking.{can_take, latest_start, gives, all_given, given_in}
@@ -18,44 +16,11 @@ use Rattle.cxl_pick.specs.inner.Offers.{AreOffers, some_of, listed_at}
 use Rattle.cxl_pick.proofs.Trees.{KnownTree}
 use Rattle.cxl_pick.proofs.Numbers.{some_ways, few_ways}
 use Rattle.cxl_pick.proofs.Tops.{bridge_of}
-use Rattle.cxl_pick.proofs.KeptBlocks.{block_rule}
 use Rattle.cxl_pick.proofs.Parts.{take_parts}
 use Rattle.cxl_pick.proofs.Levels.{some_offered}
 use Rattle.cxl_pick.proofs.Offering.{list_whole, quotient_low}
 use Rattle.cxl_pick.proofs.Givings.{at_uid}
 use Rattle.std.proofs.Math.Nat.{div-add-mod}
-
--- ---- without windows
-
-caps_rule : (s : System) (n i : ℕ) → breaks s 1 n i ≡ breaks_caps s n i
-unfolding breaks
-caps_rule s n i = refl
-
-same_rule : (s t : System) (rule n i : ℕ) → rule < 9 → s.nodes ≡ t.nodes → s.blocks ≡ t.blocks → breaks s rule n i ≡ breaks t rule n i
-same_rule s t rule n i low nodes blocks =
-    let middle : System = record { nodes = s.nodes; blocks = s.blocks; windows = t.windows } in
-    let one : breaks s rule n i ≡ breaks middle rule n i =
-    elim (cases_eq rule 1) [
-      | inl is ↦ ap (λ r. breaks s r n i) is ∙ caps_rule s n i ∙ sym (caps_rule middle n i) ∙ ap (λ r. breaks middle r n i) (sym is)
-      | inr other ↦ block_rule s rule n i other low ∙ sym (block_rule middle rule n i other low)
-    ] in
-    one ∙ (λ k. breaks (record { nodes = nodes k; blocks = blocks k; windows = t.windows }) rule n i)
-
-none_made : (bridges : List ℕ) → AreMadeWith [] bridges
-none_made bridges = record {
-  each = λ k d within. absurd (omega arith);
-  indexed = λ i w is. absurd (none-some w is);
-  usable = λ k d within. absurd (omega arith);
-  apart = λ w v there other. let within = there.1 in absurd (omega (arith, within));
-}
-
-pub ready_alone : (s : System) → IsSystem s → IsAccepted s → IsOrderlySystem (record { nodes = s.nodes; blocks = s.blocks; windows = [] })
-ready_alone s system accepted = record {
-  system = record { tree = system.tree; blocks = system.blocks; caps = system.caps; made = none_made (bridge_uids s.nodes) };
-  blocks = λ rule n i low. same_rule (record { nodes = s.nodes; blocks = s.blocks; windows = [] }) s rule n i low refl refl ∙ accepted.each rule n i;
-}
-
--- ---- by the table
 
 bridge_within : (nodes : List Node) (b : ℕ) → is_bridge_at nodes b ≡ true → b < length nodes
 bridge_within nodes b is =

@@ -6,68 +6,61 @@ ghost use Rattle.cxl_enc.specs.Caps.{is_target_count};
 ghost use Rattle.cxl_topo.specs.Tree.{is_endpoint_at};
 ghost use Rattle.cxl_regs.specs.Rules.{select_ok};
 ghost use Rattle.cxl_span.specs.Allotting.{all_committed};
-ghost use Rattle.cxl_model.specs.System.{system_of, decoders_at};
+ghost use Rattle.cxl_model.specs.Hosts.{as_system};
+ghost use Rattle.cxl_model.specs.System.{decoders_at};
 ghost use Rattle.cxl_pick.specs.Picking.{is_open, has_room, can_serve_itself, can_serve_by};
 ghost use Rattle.cxl_model.specs.Accepted.{IsOrderlySystem};
 ghost use Rattle.cxl_pick.specs.inner.Wanted.{HasWaysAndSize};
 
 use crate::terms::{port_code, share, wanted_code};
 use crate::want::Want;
-use cxl_enc::{split, targets_of};
-use cxl_image::Image;
+use cxl_enc::{split, target_count};
 use cxl_legal::{can_have_ways, is_full, last_end};
-use cxl_model::capacity_at;
+use cxl_model::Host;
 use cxl_regs::select_ok;
 use cxl_span::allot;
-use cxl_topo::Topo;
+use cxl_topo::capacity_at;
 use cxl_window::Window;
 
 /// Whether a decoder of the node is left, and all that is committed in it ends at or below `start`.
-pub(crate) fn is_open(image: &Image, topo: &Topo, start: u64, node: u32) -> bool
-    requires ready { IsOrderlySystem (system_of image.now topo.now []) }
-    requires here { node < length topo.now.nodes }
-    ensures { result ≡ is_open (system_of image.now topo.now []) start node }
+pub(crate) fn is_open(host: &Host, start: u64, node: u32) -> bool
+    requires ready { IsOrderlySystem (as_system host.now) }
+    requires here { node < length host.now.topo.now.nodes }
+    ensures { result ≡ is_open (as_system host.now) start node }
 {
-    let block = image.block(node);
+    let block = host.image.block(node);
     !is_full(block) && last_end(block) <= start
 }
 
 // ---- endpoints
 
 /// Whether an endpoint could be one of the region's.
-pub(crate) fn can_serve_itself(
-    image: &Image,
-    topo: &Topo,
-    want: &Want,
-    w: &Window,
-    start: u64,
-    node: u32,
-) -> bool
-    requires ready { IsOrderlySystem (system_of image.now topo.now []) }
+pub(crate) fn can_serve_itself(host: &Host, want: &Want, w: &Window, start: u64, node: u32) -> bool
+    requires ready { IsOrderlySystem (as_system host.now) }
     requires sound { HasWaysAndSize want.now }
-    requires endpoint { is_endpoint_at topo.now.nodes node ≡ true }
-    requires here { node < length topo.now.nodes }
-    ensures { result ≡ can_serve_itself (system_of image.now topo.now []) want.now w.now start node }
+    requires endpoint { is_endpoint_at host.now.topo.now.nodes node ≡ true }
+    requires here { node < length host.now.topo.now.nodes }
+    ensures { result ≡ can_serve_itself (as_system host.now) want.now w.now start node }
 {
-    let cap = topo.node(node).cap;
-    is_open(image, topo, start, node)
+    let cap = host.topo.node(node).cap;
+    is_open(host, start, node)
         && can_have_ways(cap, want.ways)
         && select_ok(cap, wanted_code(want, w), split(want.ways).bits)
-        && has_room(image, topo, want, node)
+        && has_room(host, want, node)
 }
 
 /// Whether an endpoint with a decoder left has room for its share after its last committed span.
-fn has_room(image: &Image, topo: &Topo, want: &Want, node: u32) -> bool
-    requires ready { IsOrderlySystem (system_of image.now topo.now []) }
+fn has_room(host: &Host, want: &Want, node: u32) -> bool
+    requires ready { IsOrderlySystem (as_system host.now) }
     requires sound { HasWaysAndSize want.now }
-    requires endpoint { is_endpoint_at topo.now.nodes node ≡ true }
-    requires here { node < length topo.now.nodes }
-    requires left { all_committed (decoders_at (system_of image.now topo.now []) node) ≡ false }
-    ensures { result ≡ has_room (system_of image.now topo.now []) want.now node }
+    requires endpoint { is_endpoint_at host.now.topo.now.nodes node ≡ true }
+    requires here { node < length host.now.topo.now.nodes }
+    requires left { all_committed (decoders_at (as_system host.now) node) ≡ false }
+    ensures { result ≡ has_room (as_system host.now) want.now node }
 {
-    let capacity = capacity_at(topo, node);
+    let capacity = capacity_at(host.topo, node);
     match allot(
-        image.block(node),
+        host.image.block(node),
         capacity.ram,
         capacity.pmem,
         want.kind,
@@ -82,8 +75,7 @@ fn has_room(image: &Image, topo: &Topo, want: &Want, node: u32) -> bool
 
 /// Whether a port could lead to `m` endpoints by `u` of its children, where so many have something to give.
 pub(crate) fn can_serve_by(
-    image: &Image,
-    topo: &Topo,
+    host: &Host,
     want: &Want,
     w: &Window,
     start: u64,
@@ -92,17 +84,17 @@ pub(crate) fn can_serve_by(
     willing: usize,
     u: u8,
 ) -> bool
-    requires ready { IsOrderlySystem (system_of image.now topo.now []) }
-    requires here { node < length topo.now.nodes }
+    requires ready { IsOrderlySystem (as_system host.now) }
+    requires here { node < length host.now.topo.now.nodes }
     requires some { 0 < m }
     requires few { m ≤ 16 }
     requires count { is_target_count u ≡ true }
-    ensures { result ≡ can_serve_by (system_of image.now topo.now []) want.now w.now start node m willing u }
+    ensures { result ≡ can_serve_by (as_system host.now) want.now w.now start node m willing u }
 {
-    let cap = topo.node(node).cap;
-    is_open(image, topo, start, node)
+    let cap = host.topo.node(node).cap;
+    is_open(host, start, node)
         && m % u == 0
-        && u <= targets_of(cap)
+        && u <= target_count(cap)
         && usize::from(u) <= willing
         && (u == 1 || selects_among(cap, port_code(want, w, m), u))
 }

@@ -5,7 +5,7 @@ ghost use Rattle.std.specs.List.{filter_map, flat_map, range_with_len};
 ghost use Rattle.cxl_enc.specs.Caps.{is_target_count};
 ghost use Rattle.cxl_topo.specs.Tree.{is_endpoint_at, child_of};
 ghost use Rattle.cxl_window.specs.Fields.{WindowFields};
-ghost use Rattle.cxl_model.specs.System.{system_of};
+ghost use Rattle.cxl_model.specs.Hosts.{as_system};
 ghost use Rattle.cxl_pick.specs.Picking.{can_serve_itself, can_serve_by};
 ghost use Rattle.cxl_model.specs.Accepted.{IsOrderlySystem};
 ghost use Rattle.cxl_pick.specs.inner.Wanted.{HasWaysAndSize};
@@ -13,7 +13,7 @@ ghost use Rattle.cxl_pick.specs.inner.Offers.{AreChildren, AreOffers, offered, l
 
 use crate::nodes::{can_serve_by, can_serve_itself};
 use crate::want::Want;
-use cxl_image::Image;
+use cxl_model::Host;
 use cxl_topo::{Topo, tree_laws};
 use cxl_window::Window;
 use std::alloc::{AllocError, Global};
@@ -54,27 +54,24 @@ fn children_of(alloc: Global, topo: &Topo, node: u32) -> Result<Vec<u32>, AllocE
 /// What each node gives for each number of endpoints from 1 to 16, children before their parents. Takes memory.
 pub(crate) fn offers(
     alloc: Global,
-    image: &Image,
-    topo: &Topo,
+    host: &Host,
     want: &Want,
     w: &Window,
     start: u64,
     children: &[Vec<u32>],
 ) -> Result<Vec<Vec<u32>>, AllocError>
-    requires ready { IsOrderlySystem (system_of image.now topo.now []) }
+    requires ready { IsOrderlySystem (as_system host.now) }
     requires sound { HasWaysAndSize want.now }
-    requires children { AreChildren topo.now.nodes children.now }
-    ensures offers { IfOk result (λ table. AreOffers (system_of image.now topo.now []) want.now w.now start table.items) }
-    ensures count { IfOk result (λ table. length table.items ≡ length topo.now.nodes * 17) }
+    requires children { AreChildren host.now.topo.now.nodes children.now }
+    ensures offers { IfOk result (λ table. AreOffers (as_system host.now) want.now w.now start table.items) }
+    ensures count { IfOk result (λ table. length table.items ≡ length host.now.topo.now.nodes * 17) }
 {
-    let count = topo.count() as usize;
+    let count = host.topo.count() as usize;
     let mut table = Vec::with_capacity(alloc, count * 17)?;
     for place in 0..count * 17 {
         let node = (count - 1 - place / 17) as u32;
         let m = (place % 17) as u8;
-        let own = offer(
-            alloc, image, topo, want, w, start, children, &table, node, m,
-        )?;
+        let own = offer(alloc, host, want, w, start, children, &table, node, m)?;
         table.push(own)?;
     }
     Ok(table)
@@ -83,8 +80,7 @@ pub(crate) fn offers(
 /// What a node gives for `m` endpoints, where the table has what its children give. Takes memory.
 fn offer(
     alloc: Global,
-    image: &Image,
-    topo: &Topo,
+    host: &Host,
     want: &Want,
     w: &Window,
     start: u64,
@@ -93,50 +89,38 @@ fn offer(
     node: u32,
     m: u8,
 ) -> Result<Vec<u32>, AllocError>
-    requires ready { IsOrderlySystem (system_of image.now topo.now []) }
+    requires ready { IsOrderlySystem (as_system host.now) }
     requires sound { HasWaysAndSize want.now }
-    requires children { AreChildren topo.now.nodes children.now }
-    requires here { node < length topo.now.nodes }
+    requires children { AreChildren host.now.topo.now.nodes children.now }
+    requires here { node < length host.now.topo.now.nodes }
     requires few { m ≤ 16 }
-    requires offers { AreOffers (system_of image.now topo.now []) want.now w.now start table.now }
-    requires below { (length topo.now.nodes - 1 - node) * 17 ≤ length table.now }
-    ensures { IfOk result (λ own. 0 < m → own.items ≡ offered (system_of image.now topo.now []) want.now w.now start node m) }
+    requires offers { AreOffers (as_system host.now) want.now w.now start table.now }
+    requires below { (length host.now.topo.now.nodes - 1 - node) * 17 ≤ length table.now }
+    ensures { IfOk result (λ own. 0 < m → own.items ≡ offered (as_system host.now) want.now w.now start node m) }
 {
     tree_laws();
     if m == 0 {
         return Ok(Vec::new(alloc));
     }
-    if topo.is_endpoint(node) {
-        return own_offer(
-            alloc,
-            gives_itself(image, topo, want, w, start, node, m),
-            node,
-        );
+    if host.topo.is_endpoint(node) {
+        return own_offer(alloc, gives_itself(host, want, w, start, node, m), node);
     }
     let own = children[node as usize].as_slice();
-    match ports_used(image, topo, want, w, start, own, table, node, m) {
-        Some(u) => first_offers(alloc, topo.count(), own, table, m / u, u),
+    match ports_used(host, want, w, start, own, table, node, m) {
+        Some(u) => first_offers(alloc, host.topo.count(), own, table, m / u, u),
         None => Ok(Vec::new(alloc)),
     }
 }
 
 /// Whether an endpoint gives something for `m` endpoints.
-fn gives_itself(
-    image: &Image,
-    topo: &Topo,
-    want: &Want,
-    w: &Window,
-    start: u64,
-    node: u32,
-    m: u8,
-) -> bool
-    requires ready { IsOrderlySystem (system_of image.now topo.now []) }
+fn gives_itself(host: &Host, want: &Want, w: &Window, start: u64, node: u32, m: u8) -> bool
+    requires ready { IsOrderlySystem (as_system host.now) }
     requires sound { HasWaysAndSize want.now }
-    requires here { node < length topo.now.nodes }
-    requires endpoint { is_endpoint_at topo.now.nodes node ≡ true }
-    ensures { result ≡ ((m == 1) && can_serve_itself (system_of image.now topo.now []) want.now w.now start node) }
+    requires here { node < length host.now.topo.now.nodes }
+    requires endpoint { is_endpoint_at host.now.topo.now.nodes node ≡ true }
+    ensures { result ≡ ((m == 1) && can_serve_itself (as_system host.now) want.now w.now start node) }
 {
-    m == 1 && can_serve_itself(image, topo, want, w, start, node)
+    m == 1 && can_serve_itself(host, want, w, start, node)
 }
 
 /// The endpoint itself, where it gives something. Takes memory.
@@ -152,8 +136,7 @@ fn own_offer(alloc: Global, gives: bool, node: u32) -> Result<Vec<u32>, AllocErr
 
 /// The greatest number of its ports by which a port could lead to `m` endpoints.
 fn ports_used(
-    image: &Image,
-    topo: &Topo,
+    host: &Host,
     want: &Want,
     w: &Window,
     start: u64,
@@ -162,23 +145,23 @@ fn ports_used(
     node: u32,
     m: u8,
 ) -> Option<u8>
-    requires ready { IsOrderlySystem (system_of image.now topo.now []) }
-    requires here { node < length topo.now.nodes }
+    requires ready { IsOrderlySystem (as_system host.now) }
+    requires here { node < length host.now.topo.now.nodes }
     requires some { 0 < m }
     requires few { m ≤ 16 }
-    ensures { result ≡ find (λ u. can_serve_by (system_of image.now topo.now []) want.now w.now start node m
-        (length (offers_at table.now (length topo.now.nodes) children.now (m / u))) u) (8 ∷ 4 ∷ 2 ∷ 1 ∷ []) }
+    ensures { result ≡ find (λ u. can_serve_by (as_system host.now) want.now w.now start node m
+        (length (offers_at table.now (length host.now.topo.now.nodes) children.now (m / u))) u) (8 ∷ 4 ∷ 2 ∷ 1 ∷ []) }
 {
-    if serves_by(image, topo, want, w, start, children, table, node, m, 8) {
+    if serves_by(host, want, w, start, children, table, node, m, 8) {
         return Some(8);
     }
-    if serves_by(image, topo, want, w, start, children, table, node, m, 4) {
+    if serves_by(host, want, w, start, children, table, node, m, 4) {
         return Some(4);
     }
-    if serves_by(image, topo, want, w, start, children, table, node, m, 2) {
+    if serves_by(host, want, w, start, children, table, node, m, 2) {
         return Some(2);
     }
-    if serves_by(image, topo, want, w, start, children, table, node, m, 1) {
+    if serves_by(host, want, w, start, children, table, node, m, 1) {
         return Some(1);
     }
     None
@@ -186,8 +169,7 @@ fn ports_used(
 
 /// Whether a port could lead to `m` endpoints by `u` of these children.
 fn serves_by(
-    image: &Image,
-    topo: &Topo,
+    host: &Host,
     want: &Want,
     w: &Window,
     start: u64,
@@ -197,16 +179,16 @@ fn serves_by(
     m: u8,
     u: u8,
 ) -> bool
-    requires ready { IsOrderlySystem (system_of image.now topo.now []) }
-    requires here { node < length topo.now.nodes }
+    requires ready { IsOrderlySystem (as_system host.now) }
+    requires here { node < length host.now.topo.now.nodes }
     requires some { 0 < m }
     requires few { m ≤ 16 }
     requires count { is_target_count u ≡ true }
-    ensures { result ≡ can_serve_by (system_of image.now topo.now []) want.now w.now start node m
-        (length (offers_at table.now (length topo.now.nodes) children.now (m / u))) u }
+    ensures { result ≡ can_serve_by (as_system host.now) want.now w.now start node m
+        (length (offers_at table.now (length host.now.topo.now.nodes) children.now (m / u))) u }
 {
-    let willing = willing(topo.count(), children, table, m / u);
-    can_serve_by(image, topo, want, w, start, node, m, willing, u)
+    let willing = willing(host.topo.count(), children, table, m / u);
+    can_serve_by(host, want, w, start, node, m, willing, u)
 }
 
 /// How many children give something for `share` endpoints.

@@ -4,6 +4,7 @@ ghost use Rattle.cxl_enc.specs.Codes.{is_ways};
 ghost use Rattle.cxl_topo.specs.Tree.{is_endpoint_at, bridge_with};
 ghost use Rattle.cxl_window.specs.Fields.{WindowFields};
 ghost use Rattle.cxl_window.specs.Windows.{AreMadeWith};
+ghost use Rattle.cxl_model.specs.Hosts.{as_system};
 ghost use Rattle.cxl_model.specs.System.{IsSystem, system_of, bridge_uids};
 ghost use Rattle.cxl_model.specs.Accepted.{IsAccepted, IsOrderlySystem};
 ghost use Rattle.cxl_pick.specs.Picking.{IsWantedSize, given_in, all_given, AreInOrder, IsPicked, NothingGiven, TellsPickFault, FitsFirst, NothingFits, PlansFirst, NothingPlans};
@@ -20,7 +21,7 @@ use crate::terms::{can_take, latest_start};
 use crate::want::Want;
 use cxl_image::Image;
 use cxl_legal::{is_size, is_ways, ports_are_bytes};
-use cxl_model::accepted_image_is_system;
+use cxl_model::{Host, accepted_image_is_system};
 use cxl_topo::{Topo, tree_laws};
 use cxl_window::Window;
 use std::alloc::{AllocError, Global};
@@ -76,8 +77,13 @@ pub fn pick(
     if !is_size(want.size, want.ways) {
         return Err(PickFault::Size);
     }
-    settle(image, topo, windows);
-    match pick_first(alloc, image, topo, windows, want) {
+    let host = Host {
+        image,
+        topo,
+        windows,
+    };
+    settle(&host);
+    match pick_first(alloc, &host, want) {
         Ok(Some(set)) => Ok(set),
         Ok(None) => Err(PickFault::NoSet),
         Err(_) => Err(PickFault::Memory),
@@ -85,35 +91,29 @@ pub fn pick(
 }
 
 /// An accepted image over its topology, with its windows, is a system. Does nothing, so that a caller can rest on it.
-fn settle(image: &Image, topo: &Topo, windows: &[Window])
-    requires made { AreMadeWith windows.now (bridge_uids topo.now.nodes) }
-    requires accepted { IsAccepted (system_of image.now topo.now windows.now) }
-    ensures system { IsSystem (system_of image.now topo.now windows.now) }
-    ensures ready { IsOrderlySystem (system_of image.now topo.now []) }
+fn settle(host: &Host)
+    requires made { AreMadeWith host.now.windows.now (bridge_uids host.now.topo.now.nodes) }
+    requires accepted { IsAccepted (as_system host.now) }
+    ensures system { IsSystem (as_system host.now) }
+    ensures ready { IsOrderlySystem (as_system host.now) }
 {
-    accepted_image_is_system(image, topo, windows);
+    accepted_image_is_system(host.image, host.topo, host.windows);
 }
 
 /// The endpoints picked in the first window in which each target bridge gives something. Takes memory.
-fn pick_first(
-    alloc: Global,
-    image: &Image,
-    topo: &Topo,
-    windows: &[Window],
-    want: &Want,
-) -> Result<Option<Vec<u32>>, AllocError>
-    requires system { IsSystem (system_of image.now topo.now windows.now) }
-    requires ready { IsOrderlySystem (system_of image.now topo.now []) }
+fn pick_first(alloc: Global, host: &Host, want: &Want) -> Result<Option<Vec<u32>>, AllocError>
+    requires system { IsSystem (as_system host.now) }
+    requires ready { IsOrderlySystem (as_system host.now) }
     requires sound { HasWaysAndSize want.now }
-    ensures { IfOk result (λ o. MatchOption o (NothingGiven (system_of image.now topo.now windows.now) want.now)
-        (λ set. (w : WindowFields) × IsPicked (system_of image.now topo.now windows.now) want.now w set.items)) }
+    ensures { IfOk result (λ o. MatchOption o (NothingGiven (as_system host.now) want.now)
+        (λ set. (w : WindowFields) × IsPicked (as_system host.now) want.now w set.items)) }
 {
     tree_laws();
-    let children = children(alloc, topo)?;
-    for w in windows {
-        match pick_in(alloc, image, topo, want, w, &children)? {
+    let children = children(alloc, host.topo)?;
+    for w in host.windows {
+        match pick_in(alloc, host, want, w, &children)? {
             Some(given) => {
-                let set = in_order(alloc, topo.count(), &given)?;
+                let set = in_order(alloc, host.topo.count(), &given)?;
                 return Ok(Some(set));
             }
             None => {}
@@ -125,17 +125,16 @@ fn pick_first(
 /// What the target bridges of a window give, where each gives something. Takes memory.
 fn pick_in(
     alloc: Global,
-    image: &Image,
-    topo: &Topo,
+    host: &Host,
     want: &Want,
     w: &Window,
     children: &[Vec<u32>],
 ) -> Result<Option<Vec<u32>>, AllocError>
-    requires ready { IsOrderlySystem (system_of image.now topo.now []) }
+    requires ready { IsOrderlySystem (as_system host.now) }
     requires sound { HasWaysAndSize want.now }
-    requires children { AreChildren topo.now.nodes children.now }
+    requires children { AreChildren host.now.topo.now.nodes children.now }
     ensures { IfOk result
-        (λ o. option_map (λ given. given.items) o ≡ given_in (system_of image.now topo.now []) want.now w.now) }
+        (λ o. option_map (λ given. given.items) o ≡ given_in (as_system host.now) want.now w.now) }
 {
     tree_laws();
     let _index = w.index();
@@ -145,8 +144,8 @@ fn pick_in(
     let Some(start) = latest_start(want, w) else {
         return Ok(None);
     };
-    let table = offers(alloc, image, topo, want, w, start, children)?;
-    all_given(alloc, topo, w.targets(), &table, want.ways / w.ways())
+    let table = offers(alloc, host, want, w, start, children)?;
+    all_given(alloc, host.topo, w.targets(), &table, want.ways / w.ways())
 }
 
 /// What the bridges of these UIDs give for `share` endpoints each, where each gives something. Takes memory.

@@ -8,8 +8,7 @@ ghost use Rattle.cxl_pick.specs.Picking.{can_take, latest_start, wanted_code, wa
 use crate::want::Want;
 use cxl_enc::UNIT;
 use cxl_legal::agrees_on_gran;
-use cxl_model::{is_fixed, permits};
-use cxl_window::Window;
+use cxl_window::{Window, is_fixed, permits};
 
 /// The bytes of each endpoint.
 pub(crate) fn share(want: &Want) -> u64

@@ -2,7 +2,7 @@
 
 ghost use Rattle.std.specs.Prelude.{◌≡◌, ℕ, ◌<◌, ◌≤◌, ◌+◌, ◌-◌, ◌*◌, ◌%◌, max};
 ghost use Rattle.cxl_enc.specs.Limits.{unit, address_limit};
-ghost use Rattle.cxl_model.specs.System.{system_of};
+ghost use Rattle.cxl_model.specs.Hosts.{as_system};
 ghost use Rattle.cxl_legal.specs.Bases.{base_step};
 ghost use Rattle.cxl_plan.specs.inner.Uses.{AreUses};
 ghost use Rattle.cxl_plan.specs.inner.Judging.{AsksOrderlySystem};
@@ -10,31 +10,24 @@ ghost use Rattle.cxl_plan.specs.inner.Floors.{IsFloor};
 
 use crate::used::Uses;
 use cxl_enc::UNIT;
-use cxl_image::Image;
 use cxl_legal::last_end;
-use cxl_model::Request;
-use cxl_topo::{Topo, tree_laws};
+use cxl_model::{Host, Request};
+use cxl_topo::tree_laws;
 use cxl_window::Window;
 
 /// The end of all that is committed in the used nodes, or 0.
-pub(crate) fn floor(
-    image: &Image,
-    topo: &Topo,
-    windows: &[Window],
-    request: &Request,
-    uses: &Uses,
-) -> u64
-    requires ready { AsksOrderlySystem (system_of image.now topo.now windows.now) request.now }
-    requires uses { AreUses topo.now.nodes request.now uses.now }
-    ensures { IsFloor topo.now.nodes image.now request.now result }
+pub(crate) fn floor(host: &Host, request: &Request, uses: &Uses) -> u64
+    requires ready { AsksOrderlySystem (as_system host.now) request.now }
+    requires uses { AreUses host.now.topo.now.nodes request.now uses.now }
+    ensures { IsFloor host.now.topo.now.nodes host.now.image.now request.now result }
 {
-    let _count = topo.count();
-    let _windows = windows.len();
+    let _count = host.topo.count();
+    let _windows = host.windows.len();
     let _ways = request.endpoints.items().len();
     tree_laws();
     let mut floor = 0;
     for node in &uses.nodes {
-        floor = greater(last_end(image.block(*node)), floor);
+        floor = greater(last_end(host.image.block(*node)), floor);
     }
     floor
 }

@@ -1,7 +1,7 @@
 //! The first window that takes a request.
 
 ghost use Rattle.std.specs.Prelude.{IfOk};
-ghost use Rattle.cxl_model.specs.System.{system_of};
+ghost use Rattle.cxl_model.specs.Hosts.{as_system};
 ghost use Rattle.cxl_plan.specs.inner.Uses.{AreUses, HasWays};
 ghost use Rattle.cxl_plan.specs.inner.Judging.{AsksOrderlySystem, HasLowShare};
 ghost use Rattle.cxl_plan.specs.inner.Choices.{IsChoice};
@@ -9,10 +9,7 @@ ghost use Rattle.cxl_plan.specs.inner.Choices.{IsChoice};
 use crate::base::floor;
 use crate::used::Uses;
 use crate::windows::base_in;
-use cxl_image::Image;
-use cxl_model::{Reason, Request};
-use cxl_topo::Topo;
-use cxl_window::Window;
+use cxl_model::{Host, Reason, Request};
 use std::alloc::{AllocError, Global};
 
 /// Where a region may stand.
@@ -27,22 +24,21 @@ pub enum Choice {
 /// The first window that takes the request, with the least base there, or why none does. Takes memory.
 pub(crate) fn choose(
     alloc: Global,
-    image: &Image,
-    topo: &Topo,
-    windows: &[Window],
+    host: &Host,
     request: &Request,
     uses: &Uses,
 ) -> Result<Choice, AllocError>
-    requires ready { AsksOrderlySystem (system_of image.now topo.now windows.now) request.now }
+    requires ready { AsksOrderlySystem (as_system host.now) request.now }
     requires sound { HasLowShare request.now }
-    requires uses { AreUses topo.now.nodes request.now uses.now }
-    requires ways { HasWays topo.now.nodes request.now }
-    ensures { IfOk result (IsChoice (system_of image.now topo.now windows.now) request.now) }
+    requires uses { AreUses host.now.topo.now.nodes request.now uses.now }
+    requires ways { HasWays host.now.topo.now.nodes request.now }
+    ensures { IfOk result (IsChoice (as_system host.now) request.now) }
 {
-    let floor = floor(image, topo, windows, request, uses);
+    let floor = floor(host, request, uses);
+    let windows = host.windows;
     let mut reasons = Vec::with_capacity(alloc, windows.len())?;
     for (i, w) in windows.iter().enumerate() {
-        match base_in(topo, request, uses, floor, w) {
+        match base_in(host.topo, request, uses, floor, w) {
             Ok(base) => return Ok(Choice::Found(i, base)),
             Err(reason) => reasons.push(reason)?,
         }

@@ -14,7 +14,7 @@ ghost use Rattle.cxl_plan.specs.inner.Uses.{tree_alone, AreUses};
 ghost use Rattle.cxl_plan.specs.inner.Judging.{uneven_at, without_windows};
 
 use crate::used::{Uses, counts_at_ports};
-use cxl_enc::targets_of;
+use cxl_enc::target_count;
 use cxl_image::Image;
 use cxl_legal::is_full;
 use cxl_model::Request;
@@ -105,7 +105,7 @@ fn has_even_ports(ports: &[u8], cap: u32) -> bool
     ensures { result ≡ (is_target_count (length ports.now) && nat_le (length ports.now) (targets_of cap)) }
 {
     let count = ports.len();
-    matches!(count, 1 | 2 | 4 | 8) && count <= usize::from(targets_of(cap))
+    matches!(count, 1 | 2 | 4 | 8) && count <= usize::from(target_count(cap))
 }
 
 /// Whether the counts at these ports are all the same.

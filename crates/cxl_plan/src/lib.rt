@@ -6,12 +6,12 @@ mod base;
 mod choosing;
 mod judge;
 mod laws;
-mod planned;
 mod planning;
 mod room;
 mod rows;
 mod spans;
 mod used;
+mod ways;
 mod windows;
 
 pub use cxl_model::{FixedList, Found, Place, Plan, PlanFault, Reason, Request, Row};

@@ -2,6 +2,7 @@ ghost use Rattle.std.specs.Prelude.{◌≡◌, ◌≢◌, ◌<◌, ◌≤◌, le
 ghost use Rattle.cxl_topo.specs.Tree.{bridge_uids};
 ghost use Rattle.cxl_window.specs.Windows.{AreMadeWith};
 ghost use Rattle.cxl_window.specs.Fields.{WindowFields};
+ghost use Rattle.cxl_model.specs.Hosts.{as_system};
 ghost use Rattle.cxl_model.specs.System.{System, system_of};
 ghost use Rattle.cxl_model.specs.Accepted.{IsAccepted};
 ghost use Rattle.cxl_model.specs.Plans.{IsLegalPlan};
@@ -17,15 +18,15 @@ ghost use Rattle.cxl_plan.specs.inner.Judging.{AsksOrderlySystem, IsEarly, IsTak
 use crate::choosing::{Choice, choose};
 use crate::judge::{first_full, first_uneven, repeated};
 use crate::laws::requests_come_to_answers;
-use crate::planned::region_code;
 use crate::room::first_refused;
 use crate::rows::rows;
 use crate::spans::places;
 use crate::used::{Uses, uses_of};
+use crate::ways::plan_code;
 use cxl_enc::FixedList;
 use cxl_image::Image;
 use cxl_legal::{fitting_plans_are_legal, is_size, is_ways, legal_plans_fit, ports_are_bytes};
-use cxl_model::{Found, Plan, PlanFault, Request, accepted_image_is_system};
+use cxl_model::{Found, Host, Plan, PlanFault, Request, accepted_image_is_system};
 use cxl_topo::{Topo, tree_laws};
 use cxl_window::Window;
 use std::alloc::{AllocError, Global};
@@ -66,68 +67,57 @@ pub fn plan(
     if let Some(fault) = early_fault(topo, request) {
         return Err(fault);
     }
-    plan_ready(alloc, image, topo, windows, request)
+    let host = Host {
+        image,
+        topo,
+        windows,
+    };
+    plan_ready(alloc, &host, request)
 }
 
 /// The plan for a request that is known to be sound by itself, or the first fault.
-fn plan_ready(
-    alloc: Global,
-    image: &Image,
-    topo: &Topo,
-    windows: &[Window],
-    request: &Request,
-) -> Result<Plan, PlanFault>
-    requires ready { AsksOrderlySystem (system_of image.now topo.now windows.now) request.now }
+fn plan_ready(alloc: Global, host: &Host, request: &Request) -> Result<Plan, PlanFault>
+    requires ready { AsksOrderlySystem (as_system host.now) request.now }
     requires early { IsEarly request.now }
-    requires ports { HasBytePorts topo.now.nodes }
+    requires ports { HasBytePorts host.now.topo.now.nodes }
     ensures fault { IfErr result (λ fault. fault ≢ PlanFault.Memory
-        → IsFirstPlanFault (system_of image.now topo.now windows.now) request.now fault) }
-    ensures endpoints { OnOk result (FitsEndpoints (system_of image.now topo.now windows.now) request.now) }
-    ensures plan { IfOk result (λ plan. IsFirstPlan (system_of image.now topo.now windows.now) request.now plan) }
+        → IsFirstPlanFault (as_system host.now) request.now fault) }
+    ensures endpoints { OnOk result (FitsEndpoints (as_system host.now) request.now) }
+    ensures plan { IfOk result (λ plan. IsFirstPlan (as_system host.now) request.now plan) }
 {
-    let Ok(uses) = uses_of(alloc, topo, request) else {
+    let Ok(uses) = uses_of(alloc, host.topo, request) else {
         return Err(PlanFault::Memory);
     };
-    if let Some(fault) = node_fault(image, topo, windows, request, &uses) {
+    if let Some(fault) = node_fault(host, request, &uses) {
         return Err(fault);
     }
-    plan_fitting(alloc, image, topo, windows, request, &uses)
+    plan_fitting(alloc, host, request, &uses)
 }
 
 /// The plan for a request that keeps all that it has to in its nodes, or why no window takes it.
 fn plan_fitting(
     alloc: Global,
-    image: &Image,
-    topo: &Topo,
-    windows: &[Window],
+    host: &Host,
     request: &Request,
     uses: &Uses,
 ) -> Result<Plan, PlanFault>
-    requires ready { AsksOrderlySystem (system_of image.now topo.now windows.now) request.now }
+    requires ready { AsksOrderlySystem (as_system host.now) request.now }
     requires early { IsEarly request.now }
-    requires uses { AreUses topo.now.nodes request.now uses.now }
-    requires fits { FitsEndpoints (system_of image.now topo.now windows.now) request.now }
+    requires uses { AreUses host.now.topo.now.nodes request.now uses.now }
+    requires fits { FitsEndpoints (as_system host.now) request.now }
     ensures fault { IfErr result (λ fault. fault ≢ PlanFault.Memory
-        → IsFirstPlanFault (system_of image.now topo.now windows.now) request.now fault) }
-    ensures endpoints { OnOk result (FitsEndpoints (system_of image.now topo.now windows.now) request.now) }
-    ensures plan { IfOk result (λ plan. IsFirstPlan (system_of image.now topo.now windows.now) request.now plan) }
+        → IsFirstPlanFault (as_system host.now) request.now fault) }
+    ensures endpoints { OnOk result (FitsEndpoints (as_system host.now) request.now) }
+    ensures plan { IfOk result (λ plan. IsFirstPlan (as_system host.now) request.now plan) }
 {
     tree_laws();
-    let _count = topo.count();
-    let Ok(choice) = choose(alloc, image, topo, windows, request, uses) else {
+    let _count = host.topo.count();
+    let windows = host.windows;
+    let Ok(choice) = choose(alloc, host, request, uses) else {
         return Err(PlanFault::Memory);
     };
     match choice {
-        Choice::Found(i, base) => match planned(
-            alloc,
-            image,
-            topo,
-            windows,
-            request,
-            uses,
-            &windows[i],
-            base,
-        ) {
+        Choice::Found(i, base) => match plan_at(alloc, host, request, uses, &windows[i], base) {
             Ok(plan) => Ok(plan),
             Err(_) => Err(PlanFault::Memory),
         },
@@ -156,56 +146,48 @@ fn early_fault(topo: &Topo, request: &Request) -> Option<PlanFault>
 }
 
 /// The first fault of the nodes that the request would use.
-fn node_fault(
-    image: &Image,
-    topo: &Topo,
-    windows: &[Window],
-    request: &Request,
-    uses: &Uses,
-) -> Option<PlanFault>
-    requires ready { AsksOrderlySystem (system_of image.now topo.now windows.now) request.now }
+fn node_fault(host: &Host, request: &Request, uses: &Uses) -> Option<PlanFault>
+    requires ready { AsksOrderlySystem (as_system host.now) request.now }
     requires early { IsEarly request.now }
-    requires uses { AreUses topo.now.nodes request.now uses.now }
-    ensures some { IfSome result (IsFirstPlanFault (system_of image.now topo.now windows.now) request.now) }
-    ensures none { IfNone result (FitsEndpoints (system_of image.now topo.now windows.now) request.now) }
+    requires uses { AreUses host.now.topo.now.nodes request.now uses.now }
+    ensures some { IfSome result (IsFirstPlanFault (as_system host.now) request.now) }
+    ensures none { IfNone result (FitsEndpoints (as_system host.now) request.now) }
 {
     tree_laws();
-    let _count = topo.count();
-    if let Some(node) = first_uneven(topo, request, uses) {
+    let _count = host.topo.count();
+    if let Some(node) = first_uneven(host.topo, request, uses) {
         return Some(PlanFault::Uneven(node));
     }
-    if let Some(node) = first_full(image, uses) {
+    if let Some(node) = first_full(host.image, uses) {
         return Some(PlanFault::NoDecoder(node));
     }
-    match first_refused(image, topo, windows, request, uses) {
+    match first_refused(host, request, uses) {
         Some((endpoint, fault)) => Some(PlanFault::Span(endpoint, fault)),
         None => None,
     }
 }
 
 /// The plan in a window that takes the request, at a base. Takes memory.
-fn planned(
+fn plan_at(
     alloc: Global,
-    image: &Image,
-    topo: &Topo,
-    windows: &[Window],
+    host: &Host,
     request: &Request,
     uses: &Uses,
     w: &Window,
     base: u64,
 ) -> Result<Plan, AllocError>
-    requires { IsTakenBy (system_of image.now topo.now windows.now) request.now uses.now w.now }
-    ensures { IfOk result (λ plan. IsStatedPlan (system_of image.now topo.now windows.now) request.now w.now base plan) }
+    requires { IsTakenBy (as_system host.now) request.now uses.now w.now }
+    ensures { IfOk result (λ plan. IsStatedPlan (as_system host.now) request.now w.now base plan) }
 {
-    let spans = places(alloc, image, topo, windows, request, uses, w)?;
-    let rows = rows(alloc, image, topo, windows, request, uses, w, base)?;
+    let spans = places(alloc, host, request, uses, w)?;
+    let rows = rows(alloc, host, request, uses, w, base)?;
     Ok(Plan {
         name: request.name,
         found: Found {
             base,
             size: request.size,
             window: w.index(),
-            gran: region_code(request, w),
+            gran: plan_code(request, w),
             ways: request.endpoints.items().len() as u8,
             kind: request.kind,
             spans: FixedList::new(spans),

@@ -1,103 +1,83 @@
 //! The rows of a plan.
 
 ghost use Rattle.std.specs.Prelude.{◌≡◌, ◌<◌, ◌≤◌, ◌^◌, true, length, IfOk};
-ghost use Rattle.cxl_model.specs.System.{system_of};
+ghost use Rattle.cxl_model.specs.Hosts.{as_system};
 ghost use Rattle.cxl_legal.specs.Used.{is_used};
 ghost use Rattle.cxl_plan.specs.inner.Uses.{tree_alone};
 ghost use Rattle.cxl_legal.specs.Stated.{targets_word};
 ghost use Rattle.cxl_plan.specs.inner.Judging.{IsTakenBy};
 ghost use Rattle.cxl_plan.specs.inner.Planned.{tail_at, row_at, rows_at};
 
-use crate::planned::{planned_code, planned_ways};
 use crate::room::span_of;
 use crate::used::Uses;
+use crate::ways::{planned_code, planned_ways};
 use cxl_enc::code_of;
-use cxl_image::Image;
-use cxl_model::{Request, Row};
+use cxl_model::{Host, Request, Row};
 use cxl_regs::Decoder;
-use cxl_topo::{Topo, tree_laws};
+use cxl_topo::tree_laws;
 use cxl_window::Window;
 use std::alloc::{AllocError, Global};
 
 /// One row for each used node that does not forward, in rising order. Takes memory.
 pub(crate) fn rows(
     alloc: Global,
-    image: &Image,
-    topo: &Topo,
-    windows: &[Window],
+    host: &Host,
     request: &Request,
     uses: &Uses,
     w: &Window,
     base: u64,
 ) -> Result<Vec<Row>, AllocError>
-    requires { IsTakenBy (system_of image.now topo.now windows.now) request.now uses.now w.now }
-    ensures { IfOk result (λ rows. rows.items ≡ rows_at topo.now.nodes image.now request.now w.now base) }
+    requires { IsTakenBy (as_system host.now) request.now uses.now w.now }
+    ensures { IfOk result (λ rows. rows.items ≡ rows_at host.now.topo.now.nodes host.now.image.now request.now w.now base) }
 {
     let mut rows = Vec::with_capacity(alloc, uses.nodes.len())?;
     for node in &uses.nodes {
-        if !topo.forwards(*node) {
-            rows.push(row(image, topo, windows, request, uses, w, base, *node))?;
+        if !host.topo.forwards(*node) {
+            rows.push(row(host, request, uses, w, base, *node))?;
         }
     }
     Ok(rows)
 }
 
 /// The row of one node: its first decoder that is not committed.
-fn row(
-    image: &Image,
-    topo: &Topo,
-    windows: &[Window],
-    request: &Request,
-    uses: &Uses,
-    w: &Window,
-    base: u64,
-    node: u32,
-) -> Row
-    requires settled { IsTakenBy (system_of image.now topo.now windows.now) request.now uses.now w.now }
-    requires here { node < length topo.now.nodes }
-    requires used { is_used (tree_alone topo.now.nodes) request.now node ≡ true }
-    ensures { result ≡ row_at topo.now.nodes image.now request.now w.now base node }
+fn row(host: &Host, request: &Request, uses: &Uses, w: &Window, base: u64, node: u32) -> Row
+    requires settled { IsTakenBy (as_system host.now) request.now uses.now w.now }
+    requires here { node < length host.now.topo.now.nodes }
+    requires used { is_used (tree_alone host.now.topo.now.nodes) request.now node ≡ true }
+    ensures { result ≡ row_at host.now.topo.now.nodes host.now.image.now request.now w.now base node }
 {
-    let _count = topo.count();
-    let ways = planned_ways(topo, request, uses, node);
+    let _count = host.topo.count();
+    let ways = planned_ways(host.topo, request, uses, node);
     Row {
         node,
-        index: image.block(node).committed(),
+        index: host.image.block(node).committed(),
         decoder: Decoder {
             base,
             size: request.size,
             ways: code_of(ways).unwrap(),
-            gran: planned_code(topo, request, uses, w, node) as u8,
+            gran: planned_code(host.topo, request, uses, w, node) as u8,
             lock: false,
             commit: false,
             committed: false,
             error: false,
             host_only: true,
-            tail: tail(image, topo, windows, request, uses, w, node),
+            tail: tail(host, request, uses, w, node),
         },
     }
 }
 
 /// The used ports of a port as its target list, or the bytes that an endpoint skips.
-fn tail(
-    image: &Image,
-    topo: &Topo,
-    windows: &[Window],
-    request: &Request,
-    uses: &Uses,
-    w: &Window,
-    node: u32,
-) -> u64
-    requires settled { IsTakenBy (system_of image.now topo.now windows.now) request.now uses.now w.now }
-    requires here { node < length topo.now.nodes }
-    requires used { is_used (tree_alone topo.now.nodes) request.now node ≡ true }
-    ensures { result ≡ tail_at topo.now.nodes image.now request.now node }
+fn tail(host: &Host, request: &Request, uses: &Uses, w: &Window, node: u32) -> u64
+    requires settled { IsTakenBy (as_system host.now) request.now uses.now w.now }
+    requires here { node < length host.now.topo.now.nodes }
+    requires used { is_used (tree_alone host.now.topo.now.nodes) request.now node ≡ true }
+    ensures { result ≡ tail_at host.now.topo.now.nodes host.now.image.now request.now node }
 {
     tree_laws();
-    let _count = topo.count();
+    let _count = host.topo.count();
     let _index = w.index();
-    if topo.is_endpoint(node) {
-        span_of(image, topo, windows, request, node).unwrap().skip
+    if host.topo.is_endpoint(node) {
+        span_of(host, request, node).unwrap().skip
     } else {
         targets_word(uses.ports[node as usize].as_slice())
     }

@@ -4,69 +4,56 @@ ghost use Rattle.std.specs.Prelude.{◌≡◌, ℕ, ◌*◌, ◌/◌, ◌%◌, �
 ghost use Rattle.cxl_model.specs.declared.found.Place.{Place};
 ghost use Rattle.cxl_enc.specs.Codes.{bits_of};
 ghost use Rattle.cxl_topo.specs.Tree.{is_endpoint_at};
-ghost use Rattle.cxl_model.specs.System.{system_of};
+ghost use Rattle.cxl_model.specs.Hosts.{as_system};
 ghost use Rattle.cxl_legal.specs.Used.{is_used, is_port_used, request_ways};
 ghost use Rattle.cxl_legal.specs.Stated.{IsStatedPlace};
 ghost use Rattle.cxl_plan.specs.inner.Uses.{tree_alone, AreUses, HasWays, ports_at, ways_at, ways_above_at};
 ghost use Rattle.cxl_plan.specs.inner.Judging.{IsTakenBy};
 ghost use Rattle.cxl_plan.specs.inner.Planned.{ReachesAt};
 
-use crate::planned::{planned_ways, ports_above};
 use crate::room::span_of;
 use crate::used::Uses;
-use cxl_image::Image;
-use cxl_model::{Place, Request, root_ways, target_position};
+use crate::ways::{planned_ways, used_above};
+use cxl_model::{Host, Place, Request};
 use cxl_topo::{Topo, tree_laws};
-use cxl_window::Window;
+use cxl_window::{Window, root_ways, target_position};
 use std::alloc::{AllocError, Global};
 
 /// The place of each slot. Takes memory.
 pub(crate) fn places(
     alloc: Global,
-    image: &Image,
-    topo: &Topo,
-    windows: &[Window],
+    host: &Host,
     request: &Request,
     uses: &Uses,
     w: &Window,
 ) -> Result<Vec<Place>, AllocError>
-    requires { IsTakenBy (system_of image.now topo.now windows.now) request.now uses.now w.now }
+    requires { IsTakenBy (as_system host.now) request.now uses.now w.now }
     ensures slots { IfOk result (λ places. length places.items ≡ request_ways request.now) }
     ensures places { IfOk result (λ places. (slot : ℕ) (place : Place) → slice_get places.items slot ≡ Some place
-        → IsStatedPlace (system_of image.now topo.now windows.now) request.now w.now slot place) }
+        → IsStatedPlace (as_system host.now) request.now w.now slot place) }
 {
     let ways = request.endpoints.items().len() as u8;
     let mut places = Vec::with_capacity(alloc, usize::from(ways))?;
     for slot in 0..ways {
-        places.push(place_of(image, topo, windows, request, uses, w, slot))?;
+        places.push(place_of(host, request, uses, w, slot))?;
     }
     Ok(places)
 }
 
 /// The place of one slot, from the window's target down.
-fn place_of(
-    image: &Image,
-    topo: &Topo,
-    windows: &[Window],
-    request: &Request,
-    uses: &Uses,
-    w: &Window,
-    slot: u8,
-) -> Place
-    requires settled { IsTakenBy (system_of image.now topo.now windows.now) request.now uses.now w.now }
+fn place_of(host: &Host, request: &Request, uses: &Uses, w: &Window, slot: u8) -> Place
+    requires settled { IsTakenBy (as_system host.now) request.now uses.now w.now }
     requires slot { slot < 16 }
-    ensures { IsStatedPlace (system_of image.now topo.now windows.now) request.now w.now slot result }
+    ensures { IsStatedPlace (as_system host.now) request.now w.now slot result }
 {
     tree_laws();
-    let _count = topo.count();
+    let _count = host.topo.count();
     let uid = w.targets()[usize::from(target_position(w, slot))];
-    let bridge = topo.bridge(uid).unwrap();
-    let endpoint = reached(topo, request, uses, w, slot, bridge);
+    let bridge = host.topo.bridge(uid).unwrap();
+    let endpoint = reached(host.topo, request, uses, w, slot, bridge);
     Place {
         endpoint,
-        start: span_of(image, topo, windows, request, endpoint)
-            .unwrap()
-            .start,
+        start: span_of(host, request, endpoint).unwrap().start,
     }
 }
 
@@ -104,6 +91,6 @@ fn port_of(topo: &Topo, request: &Request, uses: &Uses, w: &Window, slot: u8, no
 {
     let ports = uses.ports[node as usize].as_slice();
     let ways = u32::from(planned_ways(topo, request, uses, node));
-    let shared = root_ways(w) * ports_above(topo, request, uses, node).ways;
+    let shared = root_ways(w) * used_above(topo, request, uses, node).ways;
     ports[(u32::from(slot) / shared % ways) as usize]
 }

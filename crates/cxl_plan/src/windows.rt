@@ -17,14 +17,14 @@ ghost use Rattle.cxl_plan.specs.inner.Judging.{over, selects_at, KeepsWindow};
 ghost use Rattle.cxl_plan.specs.inner.Floors.{IsFloor};
 
 use crate::base::least_base;
-use crate::planned::{planned_code, planned_ways};
 use crate::used::Uses;
+use crate::ways::{planned_code, planned_ways};
 use cxl_enc::split;
 use cxl_legal::{agrees_on_gran, can_have_ways};
-use cxl_model::{Reason, Request, Room, is_fixed, permits};
+use cxl_model::{Reason, Request, Room};
 use cxl_regs::select_ok;
 use cxl_topo::{NodeKind, Topo, tree_laws};
-use cxl_window::Window;
+use cxl_window::{Window, is_fixed, permits};
 
 /// The least base in a window that takes the request, or the first reason why it does not.
 pub(crate) fn base_in(

@@ -1,12 +1,9 @@
 -- The words of a decoder block (CXL HDM decoder capability).
 use Rattle.std.specs.Prelude.{◌≡◌, ℕ, ◌+◌, ◌-◌, ◌*◌, ◌/◌, ◌%◌, ◌^◌, ◌<◌, ◌==◌, nat_lt, Bool, ◌&&◌, if◌then◌else◌, List, [], ◌∷◌, length, slice_get, slice_index, Option, None, option_and_then}
+pub use Rattle.cxl_enc.specs.Caps.{has_bit}
 use Rattle.cxl_enc.specs.Caps.{bit_of}
 use Rattle.cxl_regs.specs.declared.decoder.Decoder.{Decoder}
 use Rattle.cxl_regs.specs.Registers.{Registers}
-
--- bit k of a word
-abbrev pub has_bit : ℕ → ℕ → Bool
-has_bit n k = n / 2 ^ k % 2 == 1
 
 -- the two words of a number of 64 bits
 abbrev pub low_half : ℕ → ℕ

@@ -10,9 +10,9 @@ use crate::decoder::Decoder;
 use crate::effect::{CommitRule, Effect};
 use crate::offsets::{CONTROL, GLOBAL_CONTROL, HEAD_SIZE, RESERVED, index_at, place_at};
 use crate::rules::{breaks_order, breaks_rise, codes_ok, decoder_count, select_ok};
-use crate::words::{has_bit, words_of};
+use crate::words::words_of;
 use crate::writing::{with_control, with_word};
-use cxl_enc::Memory;
+use cxl_enc::{Memory, has_bit};
 use std::alloc::Global;
 use std::marker::Model;
 

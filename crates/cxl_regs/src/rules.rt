@@ -3,8 +3,7 @@ ghost use Rattle.cxl_enc.specs.Caps.{decoders_code, decoders_of};
 ghost use Rattle.cxl_regs.specs.Rules.{port_ways_ok, endpoint_ways_ok, codes_ok, selects, select_ok, breaks_order, breaks_rise};
 
 use crate::decoder::Decoder;
-use crate::words::has_bit;
-use cxl_enc::targets_of;
+use cxl_enc::{has_bit, target_count};
 
 /// How many decoders a capability word states. (CXL HDM decoder capability.)
 pub fn decoder_count(cap: u32) -> u8
@@ -32,7 +31,7 @@ pub fn codes_ok(cap: u32, endpoint: bool, d: &Decoder) -> bool
 fn port_ways_ok(cap: u32, ways: u8) -> bool
     ensures { result ≡ port_ways_ok cap ways }
 {
-    ways <= 3 && (1 << ways) <= targets_of(cap)
+    ways <= 3 && (1 << ways) <= target_count(cap)
 }
 
 fn endpoint_ways_ok(cap: u32, ways: u8) -> bool

@@ -3,9 +3,10 @@ ghost use Rattle.cxl_enc.specs.Caps.{bit_of};
 ghost use Rattle.cxl_enc.specs.Limits.{unit};
 ghost use Rattle.cxl_regs.specs.declared.decoder.Decoder.{Decoder};
 ghost use Rattle.cxl_regs.specs.Registers.{IsDecoder};
-ghost use Rattle.cxl_regs.specs.Words.{words_of, control_of, low_half, high_half, top_bits, decoder_of, has_bit};
+ghost use Rattle.cxl_regs.specs.Words.{words_of, control_of, low_half, high_half, top_bits, decoder_of};
 
 use crate::decoder::Decoder;
+use cxl_enc::has_bit;
 
 /// The eight words of a decoder, from base low on. (CXL HDM decoder registers.)
 pub fn words_of(d: &Decoder) -> [u32; 8]
@@ -97,11 +98,4 @@ pub fn top_bits(word: u32) -> u32
     ensures { result ≡ top_bits word }
 {
     word & 0xf000_0000
-}
-
-pub fn has_bit(word: u32, place: u32) -> bool
-    requires { place < 32 }
-    ensures { result ≡ has_bit word place }
-{
-    (word >> place) & 1 == 1
 }

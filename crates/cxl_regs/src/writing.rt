@@ -4,7 +4,8 @@ ghost use Rattle.cxl_regs.specs.Writes.{with_low, with_high, with_word, with_con
 
 use crate::decoder::Decoder;
 use crate::offsets::{BASE_HIGH, BASE_LOW, SIZE_HIGH, SIZE_LOW, TAIL_LOW};
-use crate::words::{has_bit, high_half, joined, low_half, top_bits};
+use crate::words::{high_half, joined, low_half, top_bits};
+use cxl_enc::has_bit;
 
 /// The decoder whose word `place`, but not its control, took the bits of `value` that count.
 pub fn with_word(d: Decoder, endpoint: bool, place: u32, value: u32) -> Decoder

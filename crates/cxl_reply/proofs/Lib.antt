@@ -1,3 +1,3 @@
 pub mod Lines
 pub mod Codes
-pub mod Findings
+pub mod FindingsNamed

@@ -5,7 +5,8 @@ use Rattle.std.specs.Option.{option_and_then, option_map_or}
 use Rattle.std.specs.Str.{bytes_eq}
 use Rattle.cxl_topo.specs.declared.node.Node.{Node}
 use Rattle.cxl_topo.specs.declared.node.Parent.{Parent}
-use Rattle.cxl_topo.specs.Kinds.{is_bridge, is_switch, is_endpoint, uid_of}
+use Rattle.cxl_topo.specs.declared.node.Capacity.{Capacity}
+use Rattle.cxl_topo.specs.Kinds.{is_bridge, is_switch, is_endpoint, uid_of, capacity_of}
 
 -- a topology: its nodes, and how many frames of 256 bytes its devices have
 pub record Tree : Type 0 where
@@ -38,6 +39,17 @@ name_at nodes i = option_map (λ node. node.name) (slice_get nodes i)
 -- the UID of node i, where it is a bridge
 abbrev pub uid_at : List Node → ℕ → Option ℕ
 uid_at nodes i = option_and_then (λ node. uid_of node.kind) (slice_get nodes i)
+
+-- the capacity of node i, where it is an endpoint
+abbrev pub device_at : List Node → ℕ → Option Capacity
+device_at nodes i = option_and_then (λ node. capacity_of node.kind) (slice_get nodes i)
+
+-- the bytes of ram and of pmem of its device; a port has none
+abbrev pub device_ram : List Node → ℕ → ℕ
+device_ram nodes i = option_map_or (λ c. c.ram) (device_at nodes i) 0
+
+abbrev pub device_pmem : List Node → ℕ → ℕ
+device_pmem nodes i = option_map_or (λ c. c.pmem) (device_at nodes i) 0
 
 -- the parent of node i, with the port there
 abbrev pub parent_of : List Node → ℕ → Option Parent

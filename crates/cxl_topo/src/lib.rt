@@ -2,6 +2,7 @@
 //! one.
 #![tactic(auto)]
 
+mod device;
 mod enter;
 mod fault;
 mod judge;
@@ -13,6 +14,7 @@ mod tables;
 mod topo;
 
 pub use cxl_enc::{Caps, Name, cap_word, legal_cap};
+pub use device::capacity_at;
 pub use enter::enter_first;
 pub use fault::TreeFault;
 pub use laws::tree_laws;

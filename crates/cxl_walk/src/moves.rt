@@ -10,10 +10,10 @@ ghost use Rattle.cxl_walk.specs.inner.Calls.{Makes, MissesAt, byte_at, move_of};
 
 use crate::decoding::holder;
 use cxl_image::Image;
-use cxl_model::{Miss, Step, capacity_at};
+use cxl_model::{Miss, Step};
 use cxl_regs::Block;
 use cxl_span::{block_breach, endpoint_place_of, ranges_rise, spans_lie_in_partitions, start_of};
-use cxl_topo::{Capacity, Topo};
+use cxl_topo::{Capacity, Topo, capacity_at};
 
 /// A byte of an endpoint's device, with the decoder that leads to it and that decoder's first host address.
 #[derive(Clone, Copy)]

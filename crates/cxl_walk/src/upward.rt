@@ -17,11 +17,11 @@ use crate::downward::down;
 use crate::spans::{SpanByte, span_byte};
 use cxl_image::Image;
 use cxl_model::{
-    bytes_are_carried_one_to_one, capacity_at, carries_where_chain_ends,
-    committed_spans_are_of_regions, routes_are_of_regions,
+    bytes_are_carried_one_to_one, carries_where_chain_ends, committed_spans_are_of_regions,
+    routes_are_of_regions,
 };
 use cxl_span::{addresses_go_into_spans, block_breach, spans_are_whole, spans_follow};
-use cxl_topo::Topo;
+use cxl_topo::{Topo, capacity_at};
 use cxl_window::Window;
 
 /// A host address that leads to a device byte.

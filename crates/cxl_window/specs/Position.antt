@@ -1,6 +1,6 @@
 -- Which of a window's targets a host address goes to (CFMWS interleave arithmetic; that chunks are counted
 -- from the window's base, also for the remainder by three under XOR, is this project's rule).
-use Rattle.std.specs.Prelude.{ℕ, ◌+◌, nat_lt, nat_le, ◌&&◌, Bool, true, false, if◌then◌else◌, Option, Some, None}
+use Rattle.std.specs.Prelude.{ℕ, ◌+◌, ◌*◌, ◌/◌, ◌%◌, ◌^◌, nat_lt, nat_le, ◌&&◌, Bool, true, false, if◌then◌else◌, Option, Some, None}
 use Rattle.cxl_enc.specs.Codes.{third_of, bits_of}
 use Rattle.cxl_num.specs.Maps.{parities}
 use Rattle.cxl_num.specs.Interleave.{chunk_from, low_by, position_by}
@@ -40,3 +40,7 @@ is_usable Maps = false
 -- the position, where the window can be used and holds the address
 abbrev pub position_at : WindowFields → ℕ → Option ℕ
 position_at w h = if is_usable w.verdict && holds w h then Some (position_of w h) else None
+
+-- the position of the window's target to which a slot of a region belongs
+abbrev pub target_position : WindowFields → ℕ → ℕ
+target_position w slot = slot % 2 ^ bits_of w.ways + 2 ^ bits_of w.ways * (slot / 2 ^ bits_of w.ways % third_of w.ways)

@@ -5,10 +5,12 @@ mod cfmws;
 mod judge;
 mod padding;
 mod position;
+mod restrictions;
 mod verdicts;
 mod window;
 
 pub use cxl_enc::{FixedList, Memory};
-pub use position::{positions, slot_of, unxor};
+pub use position::{positions, root_ways, slot_of, target_position, unxor};
+pub use restrictions::{is_fixed, permits};
 pub use verdicts::windows;
 pub use window::{Verdict, Window};

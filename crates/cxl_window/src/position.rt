@@ -4,7 +4,7 @@ ghost use Rattle.cxl_enc.specs.Codes.{bits_of};
 ghost use Rattle.cxl_num.specs.Maps.{with_raw_bits};
 ghost use Rattle.cxl_window.specs.declared.window.Verdict.TheVariants.{Usable};
 ghost use Rattle.cxl_window.specs.Fields.{WindowFields, IsWindow};
-ghost use Rattle.cxl_window.specs.Position.{position_at, holds, chunk_of, position_of, low_of, parities_of};
+ghost use Rattle.cxl_window.specs.Position.{position_at, holds, chunk_of, position_of, low_of, parities_of, target_position};
 
 use crate::window::Window;
 use cxl_enc::split;
@@ -44,6 +44,27 @@ pub fn unxor(window: &Window, h: u64, low: u32) -> u32
     let bits = split(window.ways()).bits;
     let above = with_raw_bits(window.gran(), bits, h, 0);
     low ^ parities(window.maps(), bits, above)
+}
+
+/// The position of the window's target to which a slot of a region belongs.
+pub fn target_position(window: &Window, slot: u8) -> u8
+    requires { slot < 16 }
+    ensures value { result ≡ target_position window.now slot }
+    ensures within { result < window.now.ways }
+{
+    let factors = split(window.ways());
+    let third = slot >> factors.bits;
+    let turn = if factors.third { third % 3 } else { 0 };
+    slot % (1 << factors.bits) + (turn << factors.bits)
+}
+
+/// How many positions of a window's targets share a remainder by three: 2 to the window's k.
+pub fn root_ways(window: &Window) -> u32
+    ensures value { result ≡ 2 ^ bits_of window.now.ways }
+    ensures some { 0 < result }
+    ensures few { result ≤ 16 }
+{
+    1 << split(window.ways()).bits
 }
 
 /// A law of positions: each is below the number of ways.

@@ -2,7 +2,8 @@ use Rattle.std.proofs.Common.{◌≡◌, ℕ, ◌/◌, ◌<◌, Bool, if◌then�
 use Rattle.std.specs.Prelude.{take, find}
 use Rattle.std.specs.List.{flat_map}
 use Rattle.std.proofs.lemmas.Option.{slice_get-get_or}
-use Rattle.cxl_model.specs.System.{System, system_of}
+use Rattle.cxl_model.specs.Hosts.{as_system}
+use Rattle.cxl_model.specs.System.{System}
 use Rattle.cxl_pick.specs.Picking.{can_serve_by, children_of}
 use Rattle.cxl_pick.specs.inner.Offers.{offered, offers_at}
 use Rattle.cxl_pick.proofs.Trees.{KnownTree}
@@ -13,11 +14,11 @@ use Rattle.cxl_pick.proofs.offers.offer.Goals as goal
 pub nonzero_div-m : goal.nonzero_div-m
 nonzero_div-m c =
     some_count c.in-Some.u
-    (found_count (system_of c.args.image.now c.args.topo.now []) c.args.want.now c.args.w.now c.args.start c.args.node c.args.m c.args.table.now c.as_slice-own.result.now c.in-Some.u c.in-Some.ensures)
+    (found_count (as_system c.args.host.now) c.args.want.now c.args.w.now c.args.start c.args.node c.args.m c.args.table.now c.as_slice-own.result.now c.in-Some.u c.in-Some.ensures)
 
 pub returns-then-is_endpoint : goal.returns-then-is_endpoint
 returns-then-is_endpoint c =
-    let s : System = system_of c.args.image.now c.args.topo.now [] in
+    let s : System = as_system c.args.host.now in
     let known : KnownTree s.nodes = record { tree = c.requires.ready.system.tree; laws = c.tree_laws.ensures.laws s.nodes c.requires.ready.system.tree } in
     if_ok c.own_offer.result (λ own. own.items ≡ (if c.gives_itself.result then c.args.node ∷ [] else [])) (λ own. 0 < c.args.m → own.items ≡ offered s c.args.want.now c.args.w.now c.args.start c.args.node c.args.m)
     (λ own is some.
@@ -27,7 +28,7 @@ returns-then-is_endpoint c =
 
 pub returns-in-Some : goal.returns-in-Some
 returns-in-Some c =
-    let s : System = system_of c.args.image.now c.args.topo.now [] in
+    let s : System = as_system c.args.host.now in
     let known : KnownTree s.nodes = record { tree = c.requires.ready.system.tree; laws = c.tree_laws.ensures.laws s.nodes c.requires.ready.system.tree } in
     let port = sym c.is_endpoint.ensures ∙ c.if-is_endpoint.false in
     let count = c.requires.children.count in
@@ -47,7 +48,7 @@ returns-in-Some c =
 
 pub returns-in-None : goal.returns-in-None
 returns-in-None c = λ some.
-    let s : System = system_of c.args.image.now c.args.topo.now [] in
+    let s : System = as_system c.args.host.now in
     let known : KnownTree s.nodes = record { tree = c.requires.ready.system.tree; laws = c.tree_laws.ensures.laws s.nodes c.requires.ready.system.tree } in
     let port = sym c.is_endpoint.ensures ∙ c.if-is_endpoint.false in
     let count = c.requires.children.count in

@@ -1,6 +1,7 @@
 use Rattle.std.proofs.Common.{◌≡◌, ℕ, ◌+◌, ◌-◌, ◌/◌, ◌%◌, ◌<◌, List, [], ◌∷◌, length, Vec, Global, sym, ap, ◌∙◌, subst, arith}
 use Rattle.std.proofs.lemmas.List.{length-append}
-use Rattle.cxl_model.specs.System.{System, system_of}
+use Rattle.cxl_model.specs.Hosts.{as_system}
+use Rattle.cxl_model.specs.System.{System}
 use Rattle.cxl_pick.specs.inner.Offers.{AreOffers, offered}
 use Rattle.cxl_pick.proofs.Tables.{EachOf, each_push}
 use Rattle.cxl_pick.proofs.offers.offers.Goals as goal
@@ -31,7 +32,7 @@ offer-requires-clause-few c = omega arith
 
 pub offer-requires-clause-offers : goal.offer-requires-clause-offers
 offer-requires-clause-offers c =
-    subst (λ (table : List (Vec ℕ Global)). AreOffers (system_of c.args.image.now c.args.topo.now []) c.args.want.now c.args.w.now c.args.start table) (sym c.deref.ensures.value) c.loop-place.invariant.1
+    subst (λ (table : List (Vec ℕ Global)). AreOffers (as_system c.args.host.now) c.args.want.now c.args.w.now c.args.start table) (sym c.deref.ensures.value) c.loop-place.invariant.1
 
 pub offer-requires-clause-below : goal.offer-requires-clause-below
 offer-requires-clause-below c =
@@ -41,7 +42,7 @@ offer-requires-clause-below c =
 
 pub loop-place-preserved : goal.loop-place-preserved
 loop-place-preserved c =
-    let s : System = system_of c.args.image.now c.args.topo.now [] in
+    let s : System = as_system c.args.host.now in
     let given : ℕ → ℕ → ℕ → Vec ℕ Global → Type 0 =
     λ count n m own. 0 < m → own.items ≡ offered s c.args.want.now c.args.w.now c.args.start (count - 1 - n) m in
     let is : ℕ → Vec ℕ Global → Type 0 = λ n own. given (length s.nodes) (n / 17) (n % 17) own in

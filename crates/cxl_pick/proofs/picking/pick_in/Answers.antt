@@ -1,6 +1,7 @@
 use Rattle.std.proofs.Common.{◌≡◌, ℕ, ◌/◌, [], map, Vec, Global, sym, ◌∙◌}
 use Rattle.std.specs.Prelude.{option_map}
-use Rattle.cxl_model.specs.System.{System, system_of}
+use Rattle.cxl_model.specs.Hosts.{as_system}
+use Rattle.cxl_model.specs.System.{System}
 use Rattle.cxl_pick.specs.Picking.{all_given, given_in}
 use Rattle.cxl_pick.proofs.Trees.{KnownTree}
 use Rattle.cxl_pick.proofs.Offering.{if_ok}
@@ -10,7 +11,7 @@ use Rattle.cxl_pick.proofs.picking.pick_in.Goals as goal
 
 pub returns : goal.returns
 returns c =
-    let s : System = system_of c.args.image.now c.args.topo.now [] in
+    let s : System = as_system c.args.host.now in
     let known : KnownTree s.nodes = record { tree = c.requires.ready.system.tree; laws = c.tree_laws.ensures.laws s.nodes c.requires.ready.system.tree } in
     let want = c.args.want.now in
     let w = c.args.w.now in

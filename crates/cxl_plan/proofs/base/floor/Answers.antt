@@ -1,6 +1,7 @@
 use Rattle.std.proofs.Common.{◌≡◌, ℕ, ◌≤◌, max, get_or, sym, ap, subst, ◌∙◌, arith}
 use Rattle.cxl_enc.specs.Limits.{address_limit}
-use Rattle.cxl_model.specs.System.{system_of, ram_at, pmem_at}
+use Rattle.cxl_model.specs.Hosts.{as_system}
+use Rattle.cxl_model.specs.System.{ram_at, pmem_at}
 use Rattle.cxl_legal.specs.Bases.{last_end}
 use Rattle.cxl_plan.specs.inner.Judging.{without_windows}
 use Rattle.cxl_plan.proofs.Trees.{KnownTree}
@@ -10,18 +11,18 @@ use Rattle.cxl_plan.proofs.base.floor.Goals as goal
 
 pub block-requires : goal.block-requires
 block-requires c =
-    let inside = item_inside c.args.topo.now.nodes c.args.request.now c.deref-node-items.result.now (c.deref-node-items.ensures.value ∙ c.requires.uses.listed) c.loop-node.node-index (omega arith) in
+    let inside = item_inside c.args.host.now.topo.now.nodes c.args.request.now c.deref-node-items.result.now (c.deref-node-items.ensures.value ∙ c.requires.uses.listed) c.loop-node.node-index (omega arith) in
     omega (arith, inside, c.requires.ready.system.caps.count)
 
 pub last_end-requires : goal.last_end-requires
 last_end-requires c =
-    let s = system_of c.args.image.now c.args.topo.now c.args.windows.now in
+    let s = as_system c.args.host.now in
     let n = get_or c.deref-node-items.result.now c.loop-node.node-index 0 in
     (ram_at s n, pmem_at s n, kept_block s c.args.request.now c.requires.ready n c.block.result.now c.block.ensures.value)
 
 pub loop-node-preserved : goal.loop-node-preserved
 loop-node-preserved c =
-    let s = without_windows c.args.topo.now.nodes c.args.image.now in
+    let s = without_windows c.args.host.now.topo.now.nodes c.args.host.now.image.now in
     let items = c.deref-node-items.result.now in
     let i = c.loop-node.node-index in
     let is : last_end s (get_or items i 0) ≡ c.last_end.result = rw c.block.ensures.value (sym c.last_end.ensures.value) in
@@ -30,8 +31,8 @@ loop-node-preserved c =
 
 pub returns : goal.returns
 returns c =
-    let s = without_windows c.args.topo.now.nodes c.args.image.now in
-    let nodes = c.args.topo.now.nodes in
+    let s = without_windows c.args.host.now.topo.now.nodes c.args.host.now.image.now in
+    let nodes = c.args.host.now.topo.now.nodes in
     let request = c.args.request.now in
     let items = c.deref-node-items.result.now in
     let tree : KnownTree nodes = record { tree = c.count-count.ensures.tree; laws = c.tree_laws.ensures.laws nodes c.count-count.ensures.tree } in

@@ -1,5 +1,5 @@
 use Rattle.std.proofs.Common.{Some, None, sym, arith}
-use Rattle.cxl_model.specs.System.{system_of}
+use Rattle.cxl_model.specs.Hosts.{as_system}
 use Rattle.cxl_plan.proofs.Trees.{KnownTree}
 use Rattle.cxl_plan.proofs.UsedItems.{all_inside}
 use Rattle.cxl_plan.proofs.FaultOrder.{faults_3, faults_4, faults_5, found_uneven, fits_endpoints}
@@ -7,34 +7,34 @@ use Rattle.cxl_plan.proofs.planning.node_fault.Goals as goal
 
 pub first_full-requires : goal.first_full-requires
 first_full-requires c k d below =
-    let inside = all_inside c.args.topo.now.nodes c.args.request.now c.args.uses.now.nodes.items c.requires.uses.listed k d below in
+    let inside = all_inside c.args.host.now.topo.now.nodes c.args.request.now c.args.uses.now.nodes.items c.requires.uses.listed k d below in
     let count = c.requires.ready.system.caps.count in
     omega arith
 
 pub returns-in-Some-clause-some : goal.returns-in-Some-clause-some
 returns-in-Some-clause-some c = record {
-  holds = found_uneven c.args.topo.now.nodes c.args.request.now c.args.image.now c.args.windows.now (Some c.in-Some.node) (sym c.in-Some.ensures);
-  first = faults_3 (system_of c.args.image.now c.args.topo.now c.args.windows.now) c.args.request.now c.requires.early;
+  holds = found_uneven c.args.host.now.topo.now.nodes c.args.request.now c.args.host.now.image.now c.args.host.now.windows.now (Some c.in-Some.node) (sym c.in-Some.ensures);
+  first = faults_3 (as_system c.args.host.now) c.args.request.now c.requires.early;
 }
 
 pub returns-in-Some-first_full-clause-some : goal.returns-in-Some-first_full-clause-some
 returns-in-Some-first_full-clause-some c = record {
-  holds = sym (c.in-Some-first_full.ensures c.args.topo.now.nodes c.args.request.now c.requires.ready.system.caps.count c.requires.uses);
-  first = faults_4 (system_of c.args.image.now c.args.topo.now c.args.windows.now) c.args.request.now c.requires.early
-      (found_uneven c.args.topo.now.nodes c.args.request.now c.args.image.now c.args.windows.now None (sym c.in_default.ensures));
+  holds = sym (c.in-Some-first_full.ensures c.args.host.now.topo.now.nodes c.args.request.now c.requires.ready.system.caps.count c.requires.uses);
+  first = faults_4 (as_system c.args.host.now) c.args.request.now c.requires.early
+      (found_uneven c.args.host.now.topo.now.nodes c.args.request.now c.args.host.now.image.now c.args.host.now.windows.now None (sym c.in_default.ensures));
 }
 
 pub returns-in-Some-first_refused-clause-some : goal.returns-in-Some-first_refused-clause-some
 returns-in-Some-first_refused-clause-some c = record {
   holds = c.in-Some-first_refused.ensures.refused;
-  first = faults_5 (system_of c.args.image.now c.args.topo.now c.args.windows.now) c.args.request.now c.requires.early
-      (found_uneven c.args.topo.now.nodes c.args.request.now c.args.image.now c.args.windows.now None (sym c.in_default.ensures))
-      (sym (c.in_default-first_full.ensures c.args.topo.now.nodes c.args.request.now c.requires.ready.system.caps.count c.requires.uses));
+  first = faults_5 (as_system c.args.host.now) c.args.request.now c.requires.early
+      (found_uneven c.args.host.now.topo.now.nodes c.args.request.now c.args.host.now.image.now c.args.host.now.windows.now None (sym c.in_default.ensures))
+      (sym (c.in_default-first_full.ensures c.args.host.now.topo.now.nodes c.args.request.now c.requires.ready.system.caps.count c.requires.uses));
 }
 
 pub returns-in-None-clause-none : goal.returns-in-None-clause-none
 returns-in-None-clause-none c =
-    let nodes = c.args.topo.now.nodes in
+    let nodes = c.args.host.now.topo.now.nodes in
     let tree : KnownTree nodes = record { tree = c.count-count.ensures.tree; laws = c.tree_laws.ensures.laws nodes c.count-count.ensures.tree } in
-    fits_endpoints nodes tree c.args.request.now c.requires.ready.named c.args.image.now c.args.windows.now c.requires.early (sym c.in_default.ensures)
+    fits_endpoints nodes tree c.args.request.now c.requires.ready.named c.args.host.now.image.now c.args.host.now.windows.now c.requires.early (sym c.in_default.ensures)
     (sym (c.in_default-first_full.ensures nodes c.args.request.now c.requires.ready.system.caps.count c.requires.uses)) c.in-None.ensures.none

@@ -1,21 +1,19 @@
-use Rattle.std.proofs.Common.{◌≡◌, ℕ, ◌<◌, List, Some, sym, ap, subst, ◌∙◌}
-use Rattle.std.specs.Prelude.{slice_get}
+use Rattle.std.proofs.Common.{◌≡◌, ℕ, List, Some, sym, ap, subst, ◌∙◌}
 use Rattle.std.proofs.lemmas.Option.{same_Some, slice_get_within, slice_get-get_or}
 use Rattle.cxl_window.specs.Fields.{WindowFields}
 use Rattle.cxl_legal.specs.Stated.{IsStatedPlan}
-use Rattle.cxl_model.specs.System.{system_of}
+use Rattle.cxl_model.specs.Hosts.{as_system}
 use Rattle.cxl_model.specs.declared.plan.Reason.{Reason}
 use Rattle.cxl_plan.specs.declared.choosing.Choice.TheVariants.{Found, Nowhere}
 use Rattle.cxl_plan.specs.Faults.{AreReasons, TakesFirst}
 use Rattle.cxl_plan.specs.inner.Choices.{IsChoice}
 use Rattle.cxl_plan.proofs.Trees.{KnownTree}
-use Rattle.cxl_plan.proofs.StatedRows.{rows_told}
 use Rattle.cxl_plan.proofs.FaultOrder.{has_ways, faults_6}
 use Rattle.cxl_plan.proofs.planning.plan_fitting.Goals as goal
 
 pub choose-requires-clause-ways : goal.choose-requires-clause-ways
 choose-requires-clause-ways c =
-    let s = system_of c.args.image.now c.args.topo.now c.args.windows.now in
+    let s = as_system c.args.host.now in
     let tree : KnownTree s.nodes = record { tree = c.count-count.ensures.tree; laws = c.tree_laws.ensures.laws s.nodes c.count-count.ensures.tree } in
     has_ways s tree c.args.request.now c.requires.ready.named c.requires.fits
 
@@ -24,14 +22,14 @@ choose-requires-clause-sound c = record { ways = c.requires.early.ways; low = c.
 
 pub bounds-windows-i : goal.bounds-windows-i
 bounds-windows-i c =
-    let found : IsChoice (system_of c.args.image.now c.args.topo.now c.args.windows.now) c.args.request.now (Found c.in-Found.i c.in-Found.base) =
-    subst (IsChoice (system_of c.args.image.now c.args.topo.now c.args.windows.now) c.args.request.now) c.in-Found.is c.in-Ok.ensures in
-    slice_get_within c.args.windows.now c.in-Found.i found.0 found.1
+    let found : IsChoice (as_system c.args.host.now) c.args.request.now (Found c.in-Found.i c.in-Found.base) =
+    subst (IsChoice (as_system c.args.host.now) c.args.request.now) c.in-Found.is c.in-Ok.ensures in
+    slice_get_within c.args.host.now.windows.now c.in-Found.i found.0 found.1
 
-pub planned-requires : goal.planned-requires
-planned-requires c =
-    let s = system_of c.args.image.now c.args.topo.now c.args.windows.now in
-    let windows : List WindowFields = c.args.windows.now in
+pub plan_at-requires : goal.plan_at-requires
+plan_at-requires c =
+    let s = as_system c.args.host.now in
+    let windows : List WindowFields = c.args.host.now.windows.now in
     let found : IsChoice s c.args.request.now (Found c.in-Found.i c.in-Found.base) = subst (IsChoice s c.args.request.now) c.in-Found.is c.in-Ok.ensures in
     let w : WindowFields = c.index-windows-i.result in
     let inside = slice_get_within windows c.in-Found.i found.0 found.1 in
@@ -48,24 +46,24 @@ planned-requires c =
 
 pub returns-in-Nowhere-clause-fault : goal.returns-in-Nowhere-clause-fault
 returns-in-Nowhere-clause-fault c not_memory =
-    let s = system_of c.args.image.now c.args.topo.now c.args.windows.now in
+    let s = as_system c.args.host.now in
     let none : IsChoice s c.args.request.now (Nowhere c.in-Nowhere.reasons) = subst (IsChoice s c.args.request.now) c.in-Nowhere.is c.in-Ok.ensures in
     record {
       holds = subst (λ (rs : List Reason). AreReasons s c.args.request.now rs) (sym c.new.ensures) none;
       first = faults_6 s c.args.request.now c.requires.early c.requires.fits;
     }
 
-pub returns-in-Ok-planned-clause-plan : goal.returns-in-Ok-planned-clause-plan
-returns-in-Ok-planned-clause-plan c =
-    let s = system_of c.args.image.now c.args.topo.now c.args.windows.now in
-    let windows : List WindowFields = c.args.windows.now in
+pub returns-in-Ok-plan_at-clause-plan : goal.returns-in-Ok-plan_at-clause-plan
+returns-in-Ok-plan_at-clause-plan c =
+    let s = as_system c.args.host.now in
+    let windows : List WindowFields = c.args.host.now.windows.now in
     let found : IsChoice s c.args.request.now (Found c.in-Found.i c.in-Found.base) = subst (IsChoice s c.args.request.now) c.in-Found.is c.in-Ok.ensures in
     let w : WindowFields = c.index-windows-i.result in
     let inside = slice_get_within windows c.in-Found.i found.0 found.1 in
     let same : found.0 ≡ w = same_Some found.0 w (sym found.1 ∙ slice_get-get_or windows c.in-Found.i w inside ∙ ap Some (sym c.index-windows-i.is)) in
     let first : TakesFirst s c.args.request.now w c.in-Found.base = subst (λ (v : WindowFields). TakesFirst s c.args.request.now v c.in-Found.base) same found.2 in
-    let plan = c.in-Ok-planned.plan in
-    let stated : IsStatedPlan s c.args.request.now w c.in-Found.base plan = c.in-Ok-planned.ensures in
+    let plan = c.in-Ok-plan_at.plan in
+    let stated : IsStatedPlan s c.args.request.now w c.in-Found.base plan = c.in-Ok-plan_at.ensures in
     record {
       window = w;
       first = subst (λ (b : ℕ). TakesFirst s c.args.request.now w b) (sym stated.starts) first;

@@ -1,18 +1,18 @@
 use Rattle.std.proofs.Common.{get_or, ap, subst, ◌∙◌, arith}
 use Rattle.cxl_topo.specs.Tree.{is_endpoint_at}
-use Rattle.cxl_model.specs.System.{system_of}
+use Rattle.cxl_model.specs.Hosts.{as_system}
 use Rattle.cxl_legal.specs.Endpoints.{HasRoom}
 use Rattle.cxl_plan.proofs.Trees.{KnownTree}
 use Rattle.cxl_plan.proofs.UsedItems.{item_inside, item_used, used_stands, asked_used, asked_endpoint, used_asked}
 use Rattle.cxl_plan.proofs.room.first_refused.Goals as goal
 
 pub refusal-requires-clause-here : goal.refusal-requires-clause-here
-refusal-requires-clause-here c = item_inside c.args.topo.now.nodes c.args.request.now c.deref-node-items.result.now (c.deref-node-items.ensures.value ∙ c.requires.uses.listed) c.loop-node.node-index (omega arith)
+refusal-requires-clause-here c = item_inside c.args.host.now.topo.now.nodes c.args.request.now c.deref-node-items.result.now (c.deref-node-items.ensures.value ∙ c.requires.uses.listed) c.loop-node.node-index (omega arith)
 
 pub returns-in-Some-clause-refused : goal.returns-in-Some-clause-refused
 returns-in-Some-clause-refused c =
-    let s = system_of c.args.image.now c.args.topo.now c.args.windows.now in
-    let nodes = c.args.topo.now.nodes in
+    let s = as_system c.args.host.now in
+    let nodes = c.args.host.now.topo.now.nodes in
     let request = c.args.request.now in
     let items = c.deref-node-items.result.now in
     let i = c.loop-node.node-index in
@@ -31,8 +31,8 @@ returns-in-Some-clause-refused c =
 
 pub returns-clause-none : goal.returns-clause-none
 returns-clause-none c m asked =
-    let s = system_of c.args.image.now c.args.topo.now c.args.windows.now in
-    let nodes = c.args.topo.now.nodes in
+    let s = as_system c.args.host.now in
+    let nodes = c.args.host.now.topo.now.nodes in
     let request = c.args.request.now in
     let items = c.deref-node-items.result.now in
     let tree : KnownTree nodes = record { tree = c.count-count.ensures.tree; laws = c.tree_laws.ensures.laws nodes c.count-count.ensures.tree } in

@@ -1,16 +1,17 @@
 use Rattle.std.proofs.Common.{ℕ, sym, subst}
 use Rattle.cxl_span.specs.Breaches.{BlockKeeps}
-use Rattle.cxl_model.specs.System.{system_of, ram_at}
+use Rattle.cxl_model.specs.Hosts.{as_system}
+use Rattle.cxl_model.specs.System.{ram_at}
 use Rattle.cxl_plan.proofs.KeptBlocks.{kept_block, endpoint_at}
 use Rattle.cxl_plan.proofs.room.span_of.Goals as goal
 
 pub allot-requires-clause-endpoint : goal.allot-requires-clause-endpoint
 allot-requires-clause-endpoint c =
-    endpoint_at (system_of c.args.image.now c.args.topo.now c.args.windows.now) c.args.request.now c.requires.ready c.args.endpoint c.block.result.now c.requires.endpoint c.block.ensures.value
+    endpoint_at (as_system c.args.host.now) c.args.request.now c.requires.ready c.args.endpoint c.block.result.now c.requires.endpoint c.block.ensures.value
 
 pub allot-requires-clause-keeps : goal.allot-requires-clause-keeps
 allot-requires-clause-keeps c =
-    let s = system_of c.args.image.now c.args.topo.now c.args.windows.now in
+    let s = as_system c.args.host.now in
     let block = c.block.result.now in
     subst (λ (r : ℕ). BlockKeeps block r c.capacity_at-capacity.result.pmem) (sym c.capacity_at-capacity.ensures.ram)
     (subst (λ (p : ℕ). BlockKeeps block (ram_at s c.args.endpoint) p) (sym c.capacity_at-capacity.ensures.pmem) (kept_block s c.args.request.now c.requires.ready c.args.endpoint block c.block.ensures.value))

@@ -1,7 +1,8 @@
 use Rattle.std.proofs.Common.{◌≡◌, ℕ, ◌≤◌, Vec, Global, List, Ok, length, refl, sym, ap, subst, ◌∙◌, arith}
 use Rattle.std.specs.Prelude.{slice_get, Some}
 use Rattle.std.proofs.lemmas.Option.{slice_get-get_or}
-use Rattle.cxl_model.specs.System.{system_of, decoders_at, ram_at, pmem_at}
+use Rattle.cxl_model.specs.Hosts.{as_system}
+use Rattle.cxl_model.specs.System.{decoders_at, ram_at, pmem_at}
 use Rattle.cxl_legal.specs.Endpoints.{share_of}
 use Rattle.cxl_legal.specs.Stated.{targets_word}
 use Rattle.cxl_plan.specs.inner.Uses.{ports_at}
@@ -14,7 +15,7 @@ use Rattle.cxl_plan.proofs.rows.tail.Goals as goal
 
 pub unwrap-requires : goal.unwrap-requires
 unwrap-requires c =
-    let nodes = c.args.topo.now.nodes in
+    let nodes = c.args.host.now.topo.now.nodes in
     let request = c.args.request.now in
     let tree : KnownTree nodes = record { tree = c.count-count.ensures.tree; laws = c.tree_laws.ensures.laws nodes c.count-count.ensures.tree } in
     let asked = used_asked nodes tree request c.requires.settled.ready.named c.args.node (sym c.is_endpoint.ensures ∙ c.if-is_endpoint.true) c.requires.used in
@@ -23,7 +24,7 @@ unwrap-requires c =
 
 pub targets_word-requires : goal.targets_word-requires
 targets_word-requires c =
-    let s = system_of c.args.image.now c.args.topo.now c.args.windows.now in
+    let s = as_system c.args.host.now in
     let tables = c.args.uses.now.ports.items in
     let node = c.args.node in
     let own : Vec ℕ Global = c.index.result.now in
@@ -36,16 +37,16 @@ targets_word-requires c =
 
 pub returns-then-is_endpoint : goal.returns-then-is_endpoint
 returns-then-is_endpoint c =
-    let s = system_of c.args.image.now c.args.topo.now c.args.windows.now in
+    let s = as_system c.args.host.now in
     let node = c.args.node in
     let request = c.args.request.now in
     let span = c.unwrap.result in
     let room = (c.span_of.ensures (Ok span)).0 c.unwrap.ensures in
-    skip_is (decoders_at s node) (ram_at s node) (pmem_at s node) request.kind (share_of request) span room ∙ sym (tail_endpoint s.nodes c.args.image.now request node (sym c.is_endpoint.ensures ∙ c.if-is_endpoint.true))
+    skip_is (decoders_at s node) (ram_at s node) (pmem_at s node) request.kind (share_of request) span room ∙ sym (tail_endpoint s.nodes c.args.host.now.image.now request node (sym c.is_endpoint.ensures ∙ c.if-is_endpoint.true))
 
 pub returns-else-is_endpoint : goal.returns-else-is_endpoint
 returns-else-is_endpoint c =
-    let s = system_of c.args.image.now c.args.topo.now c.args.windows.now in
+    let s = as_system c.args.host.now in
     let tables = c.args.uses.now.ports.items in
     let node = c.args.node in
     let own : Vec ℕ Global = c.index.result.now in
@@ -53,4 +54,4 @@ returns-else-is_endpoint c =
     let here = c.requires.here in
     let there : slice_get tables node ≡ Some own = slice_get-get_or tables node own (omega arith) ∙ ap Some (sym c.index.ensures) in
     let is : c.as_slice.result.now ≡ ports_at s.nodes c.args.request.now node = c.as_slice.ensures.value ∙ c.requires.settled.tables.ports.each node own there in
-    c.targets_word.ensures.value ∙ ap targets_word is ∙ sym (tail_port s.nodes c.args.image.now c.args.request.now node (sym c.is_endpoint.ensures ∙ c.if-is_endpoint.false))
+    c.targets_word.ensures.value ∙ ap targets_word is ∙ sym (tail_port s.nodes c.args.host.now.image.now c.args.request.now node (sym c.is_endpoint.ensures ∙ c.if-is_endpoint.false))

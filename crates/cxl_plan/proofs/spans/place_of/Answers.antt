@@ -1,7 +1,8 @@
 use Rattle.std.specs.Prelude.{slice_get}
 use Rattle.std.proofs.lemmas.Option.{slice_get-get_or}
 use Rattle.cxl_topo.specs.Tree.{bridge_with}
-use Rattle.cxl_model.specs.System.{system_of, decoders_at, ram_at, pmem_at}
+use Rattle.cxl_model.specs.Hosts.{as_system}
+use Rattle.cxl_model.specs.System.{decoders_at, ram_at, pmem_at}
 use Rattle.cxl_model.specs.Regions.{target_position}
 use Rattle.cxl_legal.specs.Endpoints.{share_of}
 use Rattle.cxl_plan.proofs.StatedRows.{least_start}
@@ -22,7 +23,7 @@ use Rattle.cxl_plan.proofs.spans.place_of.Goals as goal
 
 pub unwrap-bridge-requires : goal.unwrap-bridge-requires
 unwrap-bridge-requires c =
-    let nodes = c.args.topo.now.nodes in
+    let nodes = c.args.host.now.topo.now.nodes in
     let request = c.args.request.now in
     let targets : List ℕ = c.targets.result.now in
     let all : list_all (is_used_bridge (tree_alone nodes) request) targets ≡ true =
@@ -36,7 +37,7 @@ unwrap-bridge-requires c =
 
 pub reached-endpoint-requires-clause-used : goal.reached-endpoint-requires-clause-used
 reached-endpoint-requires-clause-used c =
-    let nodes = c.args.topo.now.nodes in
+    let nodes = c.args.host.now.topo.now.nodes in
     let request = c.args.request.now in
     let targets : List ℕ = c.targets.result.now in
     let all : list_all (is_used_bridge (tree_alone nodes) request) targets ≡ true =
@@ -51,7 +52,7 @@ reached-endpoint-requires-clause-used c =
 
 pub unwrap-requires : goal.unwrap-requires
 unwrap-requires c =
-    let nodes = c.args.topo.now.nodes in
+    let nodes = c.args.host.now.topo.now.nodes in
     let request = c.args.request.now in
     let tree : KnownTree nodes = record { tree = c.count-count.ensures.tree; laws = c.tree_laws.ensures.laws nodes c.count-count.ensures.tree } in
     let asked = used_asked nodes tree request c.requires.settled.ready.named c.reached-endpoint.result c.reached-endpoint.ensures.endpoint c.reached-endpoint.ensures.used in
@@ -60,8 +61,8 @@ unwrap-requires c =
 
 pub returns : goal.returns
 returns c =
-    let s = system_of c.args.image.now c.args.topo.now c.args.windows.now in
-    let nodes = c.args.topo.now.nodes in
+    let s = as_system c.args.host.now in
+    let nodes = c.args.host.now.topo.now.nodes in
     let request = c.args.request.now in
     let w = c.args.w.now in
     let m = c.reached-endpoint.result in
@@ -79,6 +80,6 @@ returns c =
     record {
       bridge = c.unwrap-bridge.result;
       target = rw at bridge;
-      reaches = reached_over nodes request w c.args.slot c.unwrap-bridge.result m c.reached-endpoint.ensures.reaches c.args.image.now c.args.windows.now;
+      reaches = reached_over nodes request w c.args.slot c.unwrap-bridge.result m c.reached-endpoint.ensures.reaches c.args.host.now.image.now c.args.host.now.windows.now;
       start = least_start (decoders_at s m) (ram_at s m) (pmem_at s m) request.kind (share_of request) span ((c.span_of.ensures (Ok span)).0 c.unwrap.ensures);
     }

@@ -1,7 +1,7 @@
-use Rattle.cxl_model.specs.System.{system_of}
+use Rattle.cxl_model.specs.Hosts.{as_system}
 use Rattle.cxl_plan.proofs.StatedSpans.{one_place_more}
 use Rattle.cxl_plan.proofs.spans.places.Goals as goal
 
 pub loop-slot-preserved : goal.loop-slot-preserved
 loop-slot-preserved c =
-    one_place_more (system_of c.args.image.now c.args.topo.now c.args.windows.now) c.args.request.now c.args.w.now c.loop-slot.slot c.loop-slot.places.items c.push.new.self.items c.place_of.result c.loop-slot.invariant c.in_ok-push.ensures.items c.place_of.ensures
+    one_place_more (as_system c.args.host.now) c.args.request.now c.args.w.now c.loop-slot.slot c.loop-slot.places.items c.push.new.self.items c.place_of.result c.loop-slot.invariant c.in_ok-push.ensures.items c.place_of.ensures

@@ -33,7 +33,7 @@ returns-clause-used c =
     let slice : length c.as_slice-ports.result.now ≡ length own.items = ap length c.as_slice-ports.ensures.value in
     let ways : c.from-ways.result ≡ ways_at nodes request c.args.node = c.from-ways.ensures ∙ c.planned_ways.ensures.value in
     let some : 0 < ways_at nodes request c.args.node = some_ways (ways_at nodes request c.args.node) (c.requires.ways c.args.node c.requires.used) in
-    let inside : c.from.result / (c.root_ways.result * c.ports_above.result.ways) % c.from-ways.result < length c.as_slice-ports.result.now = omega arith in
+    let inside : c.from.result / (c.root_ways.result * c.used_above.result.ways) % c.from-ways.result < length c.as_slice-ports.result.now = omega arith in
     let is : c.as_slice-ports.result.now ≡ ports_at nodes request c.args.node = c.as_slice-ports.ensures.value ∙ c.requires.uses.ports.each c.args.node own there in
     subst (λ (xs : List ℕ). All (λ p. is_port_used (tree_alone nodes) request c.args.node p ≡ true) xs) (sym is) (ports_used nodes request c.args.node) _ 0 inside
 
@@ -50,14 +50,14 @@ returns-clause-port c =
     let slice : length c.as_slice-ports.result.now ≡ length own.items = ap length c.as_slice-ports.ensures.value in
     let ways : c.from-ways.result ≡ ways_at nodes request c.args.node = c.from-ways.ensures ∙ c.planned_ways.ensures.value in
     let some : 0 < ways_at nodes request c.args.node = some_ways (ways_at nodes request c.args.node) (c.requires.ways c.args.node c.requires.used) in
-    let inside : c.from.result / (c.root_ways.result * c.ports_above.result.ways) % c.from-ways.result < length c.as_slice-ports.result.now = omega arith in
+    let inside : c.from.result / (c.root_ways.result * c.used_above.result.ways) % c.from-ways.result < length c.as_slice-ports.result.now = omega arith in
     let is : c.as_slice-ports.result.now ≡ ports_at nodes request c.args.node = c.as_slice-ports.ensures.value ∙ c.requires.uses.ports.each c.args.node own there in
-    let k = c.from.result / (c.root_ways.result * c.ports_above.result.ways) % c.from-ways.result in
+    let k = c.from.result / (c.root_ways.result * c.used_above.result.ways) % c.from-ways.result in
     let read : slice_get c.as_slice-ports.result.now k ≡ Some (get_or c.as_slice-ports.result.now k 0) = slice_get-get_or c.as_slice-ports.result.now k 0 inside in
-    let above = c.ports_above.ensures.ways in
+    let above = c.used_above.ensures.ways in
     let place : k ≡ c.args.slot / (2 ^ bits_of c.args.w.now.ways * ways_above_at nodes request c.args.node) % ways_at nodes request c.args.node =
-    ap (λ (n : ℕ). n / (c.root_ways.result * c.ports_above.result.ways) % c.from-ways.result) c.from.ensures
-    ∙ ap (λ (n : ℕ). c.args.slot / (n * c.ports_above.result.ways) % c.from-ways.result) c.root_ways.ensures.value
+    ap (λ (n : ℕ). n / (c.root_ways.result * c.used_above.result.ways) % c.from-ways.result) c.from.ensures
+    ∙ ap (λ (n : ℕ). c.args.slot / (n * c.used_above.result.ways) % c.from-ways.result) c.root_ways.ensures.value
     ∙ ap (λ (n : ℕ). c.args.slot / (2 ^ bits_of c.args.w.now.ways * n) % c.from-ways.result) above
     ∙ ap (λ (n : ℕ). c.args.slot / (2 ^ bits_of c.args.w.now.ways * ways_above_at nodes request c.args.node) % n) ways in
     ap (slice_get (ports_at nodes request c.args.node)) (sym place) ∙ ap (λ (xs : List ℕ). slice_get xs k) (sym is) ∙ read

@@ -1,4 +1,4 @@
-use Rattle.cxl_reply.proofs.Findings.{found_told, breach_within}
+use Rattle.cxl_reply.proofs.FindingsNamed.{found_told, breach_within}
 use Rattle.cxl_reply.proofs.laws.findings_are_told.Goals as goal
 
 pub returns-clause-regions : goal.returns-clause-regions

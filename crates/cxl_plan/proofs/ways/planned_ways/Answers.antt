@@ -2,7 +2,7 @@ use Rattle.std.proofs.Common.{◌≡◌, ℕ, ◌≤◌, true, length, sym, ap, 
 use Rattle.cxl_enc.specs.Codes.{is_ways}
 use Rattle.cxl_plan.specs.inner.Uses.{ways_at}
 use Rattle.cxl_plan.proofs.PlannedWays.{endpoint_ways, few_ways, count_of_ports}
-use Rattle.cxl_plan.proofs.planned.planned_ways.Goals as goal
+use Rattle.cxl_plan.proofs.ways.planned_ways.Goals as goal
 
 pub overflow_cast-result : goal.overflow_cast-result
 overflow_cast-result c =

@@ -1,8 +1,8 @@
-use Rattle.std.proofs.Common.{◌≡◌, List, length, refl, sym, ap, subst, ◌∙◌, arith}
+use Rattle.std.proofs.Common.{List, length, refl, sym, ap, ◌∙◌}
 use Rattle.std.specs.Prelude.{slice_get}
 use Rattle.cxl_model.specs.declared.found.Place.{Place}
 use Rattle.cxl_plan.proofs.StatedRows.{rows_told}
-use Rattle.cxl_plan.proofs.planning.planned.Goals as goal
+use Rattle.cxl_plan.proofs.planning.plan_at.Goals as goal
 
 pub returns : goal.returns
 returns c = record {
@@ -10,10 +10,10 @@ returns c = record {
   starts = refl;
   size = refl;
   window = c.index.ensures.value;
-  code = c.region_code.ensures;
+  code = c.plan_code.ensures;
   ways = ap length c.items.ensures;
   kind = refl;
   slots = ap length c.new.ensures ∙ c.in_ok-spans.ensures.slots;
   places = λ slot place at. c.in_ok-spans.ensures.places slot place (ap (λ (xs : List Place). slice_get xs slot) (sym c.new.ensures) ∙ at);
-  rows = rows_told c.args.topo.now.nodes c.args.image.now c.args.windows.now c.args.request.now c.args.w.now c.args.base c.args.base _ refl (c.new-2.ensures ∙ c.in_ok-rows.ensures);
+  rows = rows_told c.args.host.now.topo.now.nodes c.args.host.now.image.now c.args.host.now.windows.now c.args.request.now c.args.w.now c.args.base c.args.base _ refl (c.new-2.ensures ∙ c.in_ok-rows.ensures);
 }

@@ -3,7 +3,7 @@ use Rattle.cxl_enc.specs.Codes.{bits_of}
 use Rattle.cxl_plan.specs.inner.Uses.{ways_at}
 use Rattle.cxl_plan.proofs.Trees.{KnownTree, parent_used, parent_is_port}
 use Rattle.cxl_plan.proofs.PlannedWays.{ways_root, bits_root, ways_step, bits_step, ways_few, bits_few, up_of}
-use Rattle.cxl_plan.proofs.planned.+ports_above.Goals as goal
+use Rattle.cxl_plan.proofs.ways.+used_above.Goals as goal
 
 pub returns-in_default-clause-ways : goal.returns-in_default-clause-ways
 returns-in_default-clause-ways t c =
@@ -17,8 +17,8 @@ returns-in_default-clause-bits t c =
     let tree : KnownTree nodes = record { tree = c.count-count.ensures.tree; laws = c.tree_laws.ensures.laws nodes c.count-count.ensures.tree } in
     sym (bits_root nodes c.args.request.now tree c.args.node (up_of nodes c.args.node c.node.result.now None c.node.ensures c.in_default.is))
 
-pub ports_above-above-requires : goal.ports_above-above-requires
-ports_above-above-requires t c =
+pub used_above-above-requires : goal.used_above-above-requires
+used_above-above-requires t c =
     let nodes = c.args.topo.now.nodes in
     let tree : KnownTree nodes = record { tree = c.count-count.ensures.tree; laws = c.tree_laws.ensures.laws nodes c.count-count.ensures.tree } in
     let up = up_of nodes c.args.node c.node.result.now (Some c.in-Some.parent) c.node.ensures c.in-Some.is in
@@ -37,7 +37,7 @@ returns-clause-ways t c =
     let nodes = c.args.topo.now.nodes in
     let tree : KnownTree nodes = record { tree = c.count-count.ensures.tree; laws = c.tree_laws.ensures.laws nodes c.count-count.ensures.tree } in
     let up = up_of nodes c.args.node c.node.result.now (Some c.in-Some.parent) c.node.ensures c.in-Some.is in
-    ap (λ (n : ℕ). n * c.ports_above-above.result.ways) (c.from.ensures ∙ c.planned_ways-ways.ensures.value) ∙ ap (λ (n : ℕ). ways_at nodes c.args.request.now c.in-Some.parent.node * n) c.ports_above-above.ensures.ways
+    ap (λ (n : ℕ). n * c.used_above-above.result.ways) (c.from.ensures ∙ c.planned_ways-ways.ensures.value) ∙ ap (λ (n : ℕ). ways_at nodes c.args.request.now c.in-Some.parent.node * n) c.used_above-above.ensures.ways
     ∙ sym (ways_step nodes c.args.request.now tree c.args.node c.in-Some.parent up)
 
 pub returns-clause-bits : goal.returns-clause-bits
@@ -45,7 +45,7 @@ returns-clause-bits t c =
     let nodes = c.args.topo.now.nodes in
     let tree : KnownTree nodes = record { tree = c.count-count.ensures.tree; laws = c.tree_laws.ensures.laws nodes c.count-count.ensures.tree } in
     let up = up_of nodes c.args.node c.node.result.now (Some c.in-Some.parent) c.node.ensures c.in-Some.is in
-    ap (λ (n : ℕ). n + c.ports_above-above.result.bits) (c.from-2.ensures ∙ c.split.ensures.bits ∙ ap bits_of c.planned_ways-ways.ensures.value) ∙ ap (λ (n : ℕ). bits_of (ways_at nodes c.args.request.now c.in-Some.parent.node) + n) c.ports_above-above.ensures.bits
+    ap (λ (n : ℕ). n + c.used_above-above.result.bits) (c.from-2.ensures ∙ c.split.ensures.bits ∙ ap bits_of c.planned_ways-ways.ensures.value) ∙ ap (λ (n : ℕ). bits_of (ways_at nodes c.args.request.now c.in-Some.parent.node) + n) c.used_above-above.ensures.bits
     ∙ sym (bits_step nodes c.args.request.now tree c.args.node c.in-Some.parent up)
 
 pub returns-clause-few_ways : goal.returns-clause-few_ways

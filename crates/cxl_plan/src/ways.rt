@@ -8,18 +8,9 @@ ghost use Rattle.cxl_plan.specs.inner.Uses.{tree_alone, AreUses, HasWays, ways_a
 
 use crate::used::Uses;
 use cxl_enc::split;
-use cxl_model::Request;
+use cxl_model::{Above, Request};
 use cxl_topo::{Topo, tree_laws};
 use cxl_window::Window;
-
-/// The ways of the ports above a node, together.
-#[derive(Clone, Copy)]
-pub(crate) struct Above {
-    /// Their product.
-    pub(crate) ways: u32,
-    /// How many address bits they select on.
-    pub(crate) bits: u32,
-}
 
 /// The ways that a used node's decoder would have.
 pub(crate) fn planned_ways(topo: &Topo, request: &Request, uses: &Uses, node: u32) -> u8
@@ -37,8 +28,8 @@ pub(crate) fn planned_ways(topo: &Topo, request: &Request, uses: &Uses, node: u3
     }
 }
 
-/// The ports above a used node.
-pub(crate) fn ports_above(topo: &Topo, request: &Request, uses: &Uses, node: u32) -> Above
+/// The decoders that the ports above a used node would have, together.
+pub(crate) fn used_above(topo: &Topo, request: &Request, uses: &Uses, node: u32) -> Above
     requires uses { AreUses topo.now.nodes request.now uses.now }
     requires ways { HasWays topo.now.nodes request.now }
     requires here { node < length topo.now.nodes }
@@ -54,7 +45,7 @@ pub(crate) fn ports_above(topo: &Topo, request: &Request, uses: &Uses, node: u32
     let Some(parent) = topo.node(node).parent else {
         return Above { ways: 1, bits: 0 };
     };
-    let above = ports_above(topo, request, uses, parent.node);
+    let above = used_above(topo, request, uses, parent.node);
     let ways = planned_ways(topo, request, uses, parent.node);
     Above {
         ways: u32::from(ways) * above.ways,
@@ -64,7 +55,7 @@ pub(crate) fn ports_above(topo: &Topo, request: &Request, uses: &Uses, node: u32
 
 /// The code of the region in a window: the window's where that has more than one way, else the stated one. 0 at one
 /// way.
-pub(crate) fn region_code(request: &Request, w: &Window) -> u8
+pub(crate) fn plan_code(request: &Request, w: &Window) -> u8
     ensures { result ≡ plan_code request.now w.now (request_ways request.now) }
 {
     if request.endpoints.items().len() == 1 {
@@ -96,9 +87,9 @@ pub(crate) fn planned_code(
     if planned_ways(topo, request, uses, node) == 1 {
         return 0;
     }
-    let code = u32::from(region_code(request, w));
+    let code = u32::from(plan_code(request, w));
     if topo.is_endpoint(node) {
         return code;
     }
-    code + u32::from(split(w.ways()).bits) + ports_above(topo, request, uses, node).bits
+    code + u32::from(split(w.ways()).bits) + used_above(topo, request, uses, node).bits
 }

@@ -2,7 +2,7 @@ use Rattle.std.proofs.Common.{◌+◌, ◌%◌, ◌^◌, ap}
 use Rattle.std.specs.Prelude.{◌==◌, ◌&&◌}
 use Rattle.std.proofs.lemmas.Bool.{and_parts, leb-true}
 use Rattle.cxl_topo.specs.Kinds.{capacity_of}
-use Rattle.cxl_model.proofs.device.capacity_at.Goals as goal
+use Rattle.cxl_topo.proofs.device.capacity_at.Goals as goal
 
 pub returns-in-Endpoint-clause-small : goal.returns-in-Endpoint-clause-small
 returns-in-Endpoint-clause-small c =
