@@ -1,7 +1,7 @@
 -- The regions of an image, and which byte of a device each of their host bytes is carried to (CXL interleave
 -- arithmetic; how a slot's span is found on the tree is this project's rule).
 use Rattle.std.specs.Prelude.{◌≡◌, ℕ, ◌+◌, ◌-◌, ◌*◌, ◌/◌, ◌%◌, ◌^◌, ◌<◌, ◌≤◌, ◌==◌, true, false, if◌then◌else◌, length, slice_get, Some, IsSomeAnd}
-use Rattle.cxl_enc.specs.Codes.{third_of, bits_of}
+use Rattle.cxl_enc.specs.Codes.{bits_of}
 use Rattle.cxl_topo.specs.Tree.{forwards_at, is_port_at, is_endpoint_at, child_of, least_child_of, bridge_with}
 use Rattle.cxl_regs.specs.declared.reading.Range.{Range}
 use Rattle.cxl_regs.specs.Reading.{decoder_ways, entry_at}

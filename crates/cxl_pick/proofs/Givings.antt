@@ -1,22 +1,17 @@
 -- What is given in a window from the table of offers.
-use Rattle.std.proofs.Common.{◌≡◌, ℕ, zero, suc, ◌+◌, ◌/◌, ◌<◌, ◌≤◌, Bool, true, false, ◌&&◌, if◌then◌else◌, cond, List, [], ◌∷◌, ◌++◌, length, get_or, map, drop, Option, Some, None, Vec, Global, refl, sym, ap, ◌∙◌, subst, arith, append_assoc}
+use Rattle.std.proofs.Common.{◌≡◌, ℕ, zero, suc, ◌+◌, ◌<◌, ◌≤◌, Bool, true, false, cond, List, [], ◌∷◌, ◌++◌, length, get_or, map, drop, Option, Some, None, Vec, Global, refl, sym, ap, ◌∙◌, subst, arith, append_assoc}
 use Rattle.std.specs.Prelude.{◌==◌, option_map, option_and_then, filter, All, AllPairs}
-use Rattle.std.specs.List.{filter_map, range_with_len}
+use Rattle.std.specs.List.{range_with_len}
 use Rattle.std.proofs.Math.Seq.{drop-cons}
 use Rattle.std.proofs.lemmas.Bool.{eq-eqb}
 use Rattle.std.proofs.lemmas.List.Elements.{filter_passes}
 use Rattle.std.proofs.lemmas.List.Kept.{AllPairs-filter}
 use Rattle.std.proofs.lemmas.List.FromFn.{length-range_with_len, get_or-range_with_len}
 use Rattle.cxl_topo.specs.declared.node.Node.{Node}
-use Rattle.cxl_topo.specs.Tree.{is_endpoint_at, bridge_with}
-use Rattle.cxl_regs.specs.Registers.{Registers}
-use Rattle.cxl_window.specs.Fields.{WindowFields}
-use Rattle.cxl_model.specs.System.{System}
-use Rattle.cxl_pick.specs.declared.want.Want.{Want}
-use Rattle.cxl_pick.specs.Picking.{can_take, can_serve_itself, children_of, port_gives, gives_within, gives, latest_start, all_given, given_in, AreInOrder}
+use Rattle.cxl_topo.specs.Tree.{bridge_with}
+use Rattle.cxl_pick.specs.Picking.{gives, all_given, AreInOrder}
 use Rattle.cxl_pick.specs.inner.Offers.{some_of, listed_at}
 use Rattle.cxl_pick.proofs.Lists.{is_in, in_from, in_is, is_number, kept_in}
-use Rattle.cxl_pick.proofs.Giving.{gives_none, gives_step}
 
 -- ---- the targets, one by one
 

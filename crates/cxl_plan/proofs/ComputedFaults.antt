@@ -1,9 +1,9 @@
 -- The fault of a request, as it is computed and as it is told.
 use Rattle.std.proofs.Common.{◌≡◌, ℕ, ◌<◌, ◌≤◌, Bool, true, false, not, ◌&&◌, List, [], ◌∷◌, length, get_or, Option, Some, None, refl, sym, ap, subst, ◌∙◌, inl, inr, arith}
-use Rattle.std.specs.Prelude.{map, option_map, Contains, ◌==◌, nat_lt, nat_le, ◌*◌, ◌%◌, if◌then◌else◌}
+use Rattle.std.specs.Prelude.{map, option_map, Contains, ◌==◌, if◌then◌else◌}
 use Rattle.std.specs.Bool.{then_some}
 use Rattle.std.specs.List.{All, list_any, range_with_len}
-use Rattle.std.proofs.lemmas.Bool.{cases_Bool, and_parts, and_from, eqb-true, eq-eqb, lt-ltb, ltb-true, le-leb, leb-true, false≢true}
+use Rattle.std.proofs.lemmas.Bool.{cases_Bool, eqb-true, eq-eqb, false≢true}
 use Rattle.std.proofs.lemmas.List.Folds.{list_any_at, Any-from_list_any}
 use Rattle.std.proofs.lemmas.Option.{none-some}
 use Rattle.cxl_enc.specs.Codes.{is_ways}
@@ -19,7 +19,7 @@ use Rattle.cxl_model.specs.System.{System, decoders_at, ram_at, pmem_at}
 use Rattle.cxl_legal.specs.Firsts.{first_there}
 use Rattle.cxl_legal.specs.Sizes.{is_size_for}
 use Rattle.cxl_legal.specs.Used.{request_ways, is_used}
-use Rattle.cxl_legal.specs.Endpoints.{IsSize, share_of, is_uneven, lacks_decoder, HasRoom}
+use Rattle.cxl_legal.specs.Endpoints.{share_of, is_uneven, lacks_decoder, HasRoom}
 use Rattle.cxl_plan.specs.Faults.{SaysOfRequest, turn_of_fault, IsRefusedSpan, least}
 use Rattle.cxl_plan.specs.Planned.{fault_before_windows, span_fault, refused_span}
 use Rattle.cxl_legal.proofs.SizeTests.{size_holds, size_passes}

@@ -1,6 +1,6 @@
 -- What the registers of a decoder mean: which addresses it holds, and where a port's or an endpoint's decoder
 -- sends them (CXL HDM decoder interleave and endpoint decode).
-use Rattle.std.specs.Prelude.{ℕ, ◌+◌, ◌-◌, ◌*◌, ◌/◌, ◌%◌, ◌^◌, ◌==◌, nat_lt, nat_le, Bool, ◌&&◌, List, map, unwrap_or}
+use Rattle.std.specs.Prelude.{ℕ, ◌+◌, ◌-◌, ◌/◌, ◌%◌, ◌^◌, ◌==◌, nat_lt, nat_le, Bool, ◌&&◌, List, map, unwrap_or}
 use Rattle.std.specs.Option.{option_map_or}
 use Rattle.std.specs.List.{prefix_len, range_with_len}
 use Rattle.cxl_enc.specs.Codes.{ways_of, chunk_size, bits_of}

@@ -1,5 +1,5 @@
 -- The texts of a plan, and of the regions and the breach of an image (this project's rule).
-use Rattle.std.specs.Prelude.{ℕ, ◌<◌, ◌≤◌, Bool, if◌then◌else◌, Option, Some, None, List, [], ◌∷◌, ◌++◌, All, length, map, codes, decimal, slice_get}
+use Rattle.std.specs.Prelude.{ℕ, ◌<◌, ◌≤◌, Bool, if◌then◌else◌, List, [], ◌∷◌, ◌++◌, All, codes, decimal}
 use Rattle.std.specs.List.{flat_map}
 use Rattle.cxl_model.specs.declared.found.Found.{Found}
 use Rattle.cxl_model.specs.declared.plan.Plan.{Plan}
@@ -10,7 +10,7 @@ use Rattle.cxl_topo.specs.declared.node.Node.{Node}
 use Rattle.cxl_topo.specs.Tree.{is_endpoint_at}
 use Rattle.cxl_reply.specs.Words.{line, hex_text, gran_text, kind_text, node_text}
 use Rattle.cxl_reply.specs.Texts.{layout_text, slots_text}
-use Rattle.cxl_reply.specs.Told.{IsNode, IsToldFound}
+use Rattle.cxl_reply.specs.Told.{IsNode}
 
 -- ---- plans
 

@@ -5,7 +5,6 @@ use Rattle.std.specs.List.{flat_map, zip, enumerate_from}
 use Rattle.cxl_io.specs.Printed.{padded_hex}
 use Rattle.cxl_topo.specs.declared.node.Node.{Node}
 use Rattle.cxl_model.specs.declared.extent.Extent.{Extent}
-use Rattle.cxl_model.specs.declared.found.Found.{Found}
 use Rattle.cxl_model.specs.declared.found.Place.{Place}
 use Rattle.cxl_model.specs.declared.poison.Entry.{Entry}
 use Rattle.cxl_model.specs.declared.poison.Part.{Part}

@@ -2,7 +2,6 @@
 use Rattle.std.specs.Prelude.{◌≡◌, ◌≢◌, ℕ, ◌<◌, ◌≤◌, List, length, take, All}
 use Rattle.cxl_span.specs.declared.allotting.SpanFault.TheVariants as span_faults
 use Rattle.cxl_topo.specs.declared.node.Node.{Node}
-use Rattle.cxl_model.specs.declared.extent.Extent.{Extent}
 use Rattle.cxl_model.specs.declared.found.Found.{Found}
 use Rattle.cxl_model.specs.declared.plan.PlanFault.{PlanFault}
 use Rattle.cxl_model.specs.declared.plan.PlanFault.TheVariants as plan_faults
@@ -15,7 +14,6 @@ use Rattle.cxl_reply.specs.declared.told.Downed.{Downed}
 use Rattle.cxl_reply.specs.declared.told.Extents.{Extents}
 use Rattle.cxl_reply.specs.declared.told.Report.{Report}
 use Rattle.cxl_reply.specs.declared.told.Shown.{Shown}
-use Rattle.cxl_reply.specs.declared.told.Spread.{Spread}
 
 abbrev pub IsNode : List Node → ℕ → Type 0
 IsNode nodes n = n < length nodes

@@ -3,13 +3,13 @@ ghost use Rattle.cxl_reply.specs.Told.{IsTold, HasKnownCode};
 ghost use Rattle.cxl_reply.specs.Replies.{reply_text, has_short_text};
 
 use crate::places::{put_down, put_extents, put_loaded, put_spread, put_up};
-use crate::short_lines::short;
 use crate::poison::put_report;
 use crate::refusal::{
     put_bad_line, put_count, put_full, put_named, put_plan_fault, put_sizes, put_spot, put_text,
 };
 use crate::region::put_shown;
 use crate::reply::Reply;
+use crate::short_lines::short;
 use cxl_enc::Memory;
 use cxl_topo::Topo;
 

@@ -1,5 +1,5 @@
 -- What the restrictions of a window say of regions (CEDT CFMWS window restrictions).
-use Rattle.std.specs.Prelude.{ℕ, ◌&&◌, Bool}
+use Rattle.std.specs.Prelude.{◌&&◌, Bool}
 use Rattle.cxl_enc.specs.declared.caps.MemKind.{MemKind}
 use Rattle.cxl_enc.specs.declared.caps.MemKind.TheVariants.{Ram, Pmem}
 use Rattle.cxl_enc.specs.Caps.{has_bit}

@@ -1,4 +1,3 @@
-use Rattle.std.proofs.Common.{[]}
 use Rattle.cxl_model.specs.Hosts.{as_system}
 use Rattle.cxl_model.specs.System.{ram_at, pmem_at}
 use Rattle.cxl_pick.proofs.KeptBlocks.{kept_block}

@@ -1,4 +1,4 @@
-use Rattle.std.proofs.Common.{◌≡◌, [], length}
+use Rattle.std.proofs.Common.{◌≡◌, length}
 use Rattle.cxl_model.specs.Hosts.{as_system}
 use Rattle.cxl_pick.specs.inner.Offers.{AreOffers}
 use Rattle.cxl_pick.proofs.offers.offers.Given as goal

@@ -1,4 +1,4 @@
-use Rattle.std.proofs.Common.{◌≡◌, ℕ, ◌/◌, [], length, sym, ◌∙◌}
+use Rattle.std.proofs.Common.{◌/◌, length, sym, ◌∙◌}
 use Rattle.cxl_model.specs.Hosts.{as_system}
 use Rattle.cxl_model.specs.System.{System}
 use Rattle.cxl_pick.specs.Picking.{can_serve_by}

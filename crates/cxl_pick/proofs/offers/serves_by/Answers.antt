@@ -1,4 +1,4 @@
-use Rattle.std.proofs.Common.{◌≡◌, ℕ, ◌/◌, [], length, sym, ap, ◌∙◌}
+use Rattle.std.proofs.Common.{◌≡◌, ℕ, ◌/◌, length, ap, ◌∙◌}
 use Rattle.cxl_model.specs.Hosts.{as_system}
 use Rattle.cxl_model.specs.System.{System}
 use Rattle.cxl_pick.specs.Picking.{can_serve_by}

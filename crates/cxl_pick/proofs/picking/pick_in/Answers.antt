@@ -1,4 +1,4 @@
-use Rattle.std.proofs.Common.{◌≡◌, ℕ, ◌/◌, [], map, Vec, Global, sym, ◌∙◌}
+use Rattle.std.proofs.Common.{◌≡◌, ℕ, ◌/◌, map, Vec, Global, sym, ◌∙◌}
 use Rattle.std.specs.Prelude.{option_map}
 use Rattle.cxl_model.specs.Hosts.{as_system}
 use Rattle.cxl_model.specs.System.{System}

@@ -1,4 +1,4 @@
-use Rattle.std.proofs.Common.{◌≡◌, ◌+◌, ◌++◌, refl, ap, sym, ◌∙◌, arith, append_assoc}
+use Rattle.std.proofs.Common.{◌≡◌, refl, arith, append_assoc}
 use Rattle.cxl_regs.specs.Reading.{entry_at}
 use Rattle.cxl_reply.proofs.Lines.{one_port}
 use Rattle.cxl_reply.proofs.plan.put_ports.Goals as goal
