@@ -1,0 +1,5 @@
+pub mod Lists
+pub mod Counts
+pub mod PieceLaws
+pub mod Spans
+pub mod Told
