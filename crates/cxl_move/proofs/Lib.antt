@@ -3,3 +3,6 @@ pub mod Counts
 pub mod PieceLaws
 pub mod Spans
 pub mod Told
+pub mod Changed
+pub mod CarriedOver
+pub mod BlockCounts

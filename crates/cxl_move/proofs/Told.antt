@@ -1,6 +1,6 @@
 -- What media tells of each block, by the regions whose pieces are carried there.
 use Rattle.std.proofs.Common.{◌≡◌, ◌≢◌, ℕ, suc, ◌+◌, ◌*◌, ◌/◌, ◌<◌, ◌⊎◌, true, List, [], ◌∷◌, length, get_or, Option, None, Some, is_some, refl, sym, ap, subst, ◌∙◌, inl, inr, arith}
-use Rattle.std.specs.Prelude.{All, AllPairs, Contains, slice_get}
+use Rattle.std.specs.Prelude.{◌↔◌, All, AllPairs, Contains}
 use Rattle.std.specs.FinMap as map
 use Rattle.std.specs.FinMap.{FinMap}
 use Rattle.std.specs.Ordering.{nat_cmp}
@@ -73,6 +73,26 @@ module _ (s : System) (holdings : List Holding) (are : AreHoldings s holdings) w
             ]
       ]
 
+-- their regions are of the image
+abbrev pub AreRegionsOf : System → List Holding → Type 0
+AreRegionsOf s holdings = (one : Holding) → Contains holdings one → IsRegionIn s one.window one.found
+
+pub regions_with : (s : System) (one : Holding) (others : List Holding) → AreHoldings s (one ∷ others) → (contents : Contents) → AreRegionsOf s ((record one { contents = contents }) ∷ others)
+regions_with s one others are contents other there =
+    elim (contains_cases (record one { contents = contents }) other others there) [
+      | inl is ↦ subst (λ (x : Holding). IsRegionIn s x.window x.found) is (own_region s (one ∷ others) are one (contains_head one others))
+      | inr later ↦ own_region s (one ∷ others) are other (contains_tail one other others later)
+    ]
+
+-- lists of the same regions have the same media
+pub media_of_alike : (holdings others : List Holding) (media : Telling) → AreMediaOf holdings media → ((one : Holding) → (Contains holdings one) ↔ (Contains others one)) → AreMediaOf others media
+media_of_alike holdings others media are alike = record {
+  each = λ one n endpoint block bytes there keeps. are.each one n endpoint block bytes ((alike one).1 there) keeps;
+  only = λ endpoint block bytes is.
+      let held = are.only endpoint block bytes is in
+      (held.0, held.1, (alike held.0).0 held.2, held.3);
+}
+
 -- ---- both ways
 
 module _ (laws : PieceLaws) (s : System) (holdings : List Holding) (told : Telling) where
@@ -122,7 +142,7 @@ module _ (laws : PieceLaws) (s : System) (holdings : List Holding) (told : Telli
             ]
       ]
 
-  pub media_from_told : IsSystem s → ((one : Holding) → Contains holdings one → IsRegionIn s one.window one.found) → AreTold holdings told → AreMediaOf holdings told
+  pub media_from_told : IsSystem s → AreRegionsOf s holdings → AreTold holdings told → AreMediaOf holdings told
   media_from_told system regions are = record {
     each = λ one n endpoint block bytes there keeps. are.each one n endpoint block there keeps.carried ∙ keeps.piece;
     only = λ endpoint block bytes is.

@@ -1,7 +1,7 @@
 use Rattle.cxl_window.specs.Fields.{WindowFields}
 use Rattle.cxl_model.specs.declared.found.Found.{Found}
 use Rattle.cxl_move.proofs.PieceLaws.{CarryLaws, piece_each, piece_within, piece_one, piece_apart, piece_onto}
-use Rattle.cxl_move.proofs.laws.pieces_are_carried_to_blocks.Goals as goal
+use Rattle.cxl_move.proofs.pieces.pieces_are_carried_to_blocks.Goals as goal
 
 pub returns-clause-each : goal.returns-clause-each
 returns-clause-each c = λ s w found n system is.

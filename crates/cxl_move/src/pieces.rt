@@ -1,4 +1,4 @@
-//! Laws of pieces and blocks, each the contract of a function that does nothing.
+//! The pieces of a region, and the blocks of media to which they are carried.
 
 ghost use Rattle.std.specs.Prelude.{◌≡◌, ℕ, ◌*◌, ◌/◌, ◌<◌};
 ghost use Rattle.cxl_window.specs.Fields.{WindowFields};
