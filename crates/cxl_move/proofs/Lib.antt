@@ -6,3 +6,5 @@ pub mod Told
 pub mod Changed
 pub mod CarriedOver
 pub mod BlockCounts
+pub mod Steps
+pub mod Dealt

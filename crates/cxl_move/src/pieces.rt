@@ -1,14 +1,23 @@
 //! The pieces of a region, and the blocks of media to which they are carried.
 
-ghost use Rattle.std.specs.Prelude.{◌≡◌, ℕ, ◌*◌, ◌/◌, ◌<◌};
+ghost use Rattle.std.specs.Prelude.{◌≡◌, ℕ, ◌*◌, ◌/◌, ◌<◌, Some, IsSomeAnd, IfSome, IfNone, slice_get};
+ghost use Rattle.cxl_enc.specs.Limits.{address_limit};
 ghost use Rattle.cxl_window.specs.Fields.{WindowFields};
 ghost use Rattle.cxl_model.specs.declared.found.Found.{Found};
+ghost use Rattle.cxl_model.specs.declared.found.Place.{Place};
 ghost use Rattle.cxl_model.specs.System.{System, IsSystem};
-ghost use Rattle.cxl_model.specs.Regions.{IsRegionIn};
-ghost use Rattle.cxl_model.specs.Bytes.{LiesInSpan};
+ghost use Rattle.cxl_model.specs.Regions.{IsRegion, IsRegionIn};
+ghost use Rattle.cxl_model.specs.Bytes.{slot_length, LiesInSpan};
 ghost use Rattle.cxl_move.specs.Sides.{IsPieceAt};
+ghost use Rattle.cxl_move.specs.inner.Steps.{IsSpanByte};
 
-use cxl_model::{bytes_are_carried_one_to_one, carries_where_chain_ends, pieces_are_carried_whole};
+use crate::side::Side;
+use cxl_deal::{Dealt, deal, gather, region_fills_slots};
+use cxl_media::At;
+use cxl_model::{
+    Found, bytes_are_carried_one_to_one, carries_where_chain_ends, pieces_are_carried_whole,
+    regions_lie_in_windows, slots_are_endpoints, weave_of, weaves_fill_their_regions,
+};
 
 /// A law of regions: one carries its pieces one to one onto the blocks of 256 bytes of its spans.
 pub fn pieces_are_carried_to_blocks()
@@ -31,4 +40,82 @@ pub fn pieces_are_carried_to_blocks()
     bytes_are_carried_one_to_one();
     pieces_are_carried_whole();
     carries_where_chain_ends();
+}
+
+/// The block to which the region carries its piece of this number.
+pub(crate) fn block_of(side: &Side<'_>, n: u64) -> At
+    requires region { (s : System) × IsSystem s × IsRegionIn s side.now.window.now side.now.found.now }
+    requires within { n < side.now.found.now.size / 256 }
+    ensures at { IsPieceAt side.now.found.now side.now.window.now n result.ep result.block }
+    ensures low { 256 * result.block < address_limit }
+{
+    weaves_fill_their_regions();
+    regions_lie_in_windows();
+    slots_are_endpoints();
+    bytes_are_carried_one_to_one();
+    pieces_are_carried_whole();
+    let weave = weave_of(side.found, side.window);
+    let dealt = deal(&weave, side.found.base + 256 * n);
+    let place = side.found.spans.items()[dealt.slot as usize];
+    At {
+        ep: place.endpoint,
+        block: (place.start + dealt.offset) / 256,
+    }
+}
+
+/// The number of the piece that the region carries to a block, where it carries one there.
+pub(crate) fn piece_at(side: &Side<'_>, at: At) -> Option<u64>
+    requires region { (s : System) × IsSystem s × IsRegionIn s side.now.window.now side.now.found.now }
+    ensures some { IfSome result (λ n. IsPieceAt side.now.found.now side.now.window.now n at.ep at.block) }
+    ensures none { IfNone result ((n : ℕ) → IsPieceAt side.now.found.now side.now.window.now n at.ep at.block → ⊥) }
+{
+    weaves_fill_their_regions();
+    regions_lie_in_windows();
+    slots_are_endpoints();
+    region_fills_slots();
+    bytes_are_carried_one_to_one();
+    pieces_are_carried_whole();
+    let byte = span_byte(side.found, at)?;
+    let weave = weave_of(side.found, side.window);
+    let h = gather(&weave, byte.slot, byte.offset);
+    Some((h - side.found.base) / 256)
+}
+
+/// Where the first byte of a block lies in the region's spans, where it lies in one.
+fn span_byte(found: &Found, at: At) -> Option<Dealt>
+    requires { (s : System) × IsSystem s × IsRegion s found.now }
+    ensures some { IfSome result (λ byte. IsSpanByte found.now at.ep (256 * at.block) byte.slot byte.offset) }
+    ensures none { IfNone result (LiesInSpan found.now at.ep (256 * at.block) → ⊥) }
+{
+    weaves_fill_their_regions();
+    slots_are_endpoints();
+    let slot = slot_on(found, at.ep)?;
+    let start = found.spans.items()[slot].start;
+    let dpa = at.block.checked_mul(256)?;
+    if dpa < start || dpa - start >= slot_length(found) {
+        return None;
+    }
+    Some(Dealt {
+        slot: slot as u32,
+        offset: dpa - start,
+    })
+}
+
+/// The first slot whose span lies on the endpoint's device, where one does.
+fn slot_on(found: &Found, ep: u32) -> Option<usize>
+    ensures some { IfSome result (λ slot. IsSomeAnd (slice_get found.now.spans slot) (λ place. place.endpoint ≡ ep)) }
+    ensures none { IfNone result ((slot : ℕ) (place : Place) → slice_get found.now.spans slot ≡ Some place
+        → place.endpoint ≡ ep → ⊥) }
+{
+    found.spans.items().iter().position(|place| place.endpoint == ep)
+}
+
+/// How many bytes of a device each slot has.
+pub(crate) fn slot_length(found: &Found) -> u64
+    requires { (s : System) × IsSystem s × IsRegion s found.now }
+    ensures { result ≡ slot_length found.now }
+{
+    weaves_fill_their_regions();
+    region_fills_slots();
+    found.size / u64::from(found.ways)
 }

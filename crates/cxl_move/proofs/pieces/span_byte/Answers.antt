@@ -1,0 +1,51 @@
+use Rattle.std.proofs.Common.{◌≡◌, ℕ, ◌+◌, ◌-◌, ◌*◌, ◌<◌, ◌≤◌, ◌^◌, List, length, get_or, Some, sym, ap, subst, ◌∙◌, arith}
+use Rattle.cxl_window.specs.Fields.{WindowFields}
+use Rattle.cxl_model.specs.declared.found.Found.{Found}
+use Rattle.cxl_model.specs.declared.found.Place.{Place}
+use Rattle.cxl_model.specs.Bytes.{slot_length}
+use Rattle.cxl_move.specs.inner.Steps.{IsSpanByte}
+use Rattle.cxl_move.proofs.Dealt.{slot_within, lies_there, byte_there}
+use Rattle.cxl_move.proofs.pieces.span_byte.Goals as goal
+use Rattle.cxl_move.proofs.pieces.span_byte.Goals.{then-dpa-start-via-then-dpa-start, then-dpa-start-via-else-dpa-start+then-dpa-start-2}
+
+pub returns-then-dpa-start-clause-none : goal.returns-then-dpa-start-clause-none
+returns-then-dpa-start-clause-none c = λ lies.
+    let found : Found = c.args.found.now in
+    let w : WindowFields = c.requires.2.0 in
+    let d : Place = record { endpoint = 0; start = 0 } in
+    let dpa = c.in_ok-dpa.ensures in
+    let inside =
+    lies_there found (λ a b p q. c.slots_are_endpoints.ensures.apart c.requires.0 w found a b p q c.requires.1 c.requires.2.1) c.items.result.now d c.items.ensures c.args.at.ep c.in_ok-slot.slot c.in_ok-slot.ensures.some
+    (256 * c.args.at.block) lies in
+    elim c.then-dpa-start.branch [
+      | then-dpa-start-via-then-dpa-start x ↦ omega (arith, x.if-dpa-start.true, dpa, inside.0)
+      | then-dpa-start-via-else-dpa-start+then-dpa-start-2 x ↦ omega (arith, x.if-dpa-start.false, x.if-dpa-start-2.true, x.slot_length.ensures, dpa, inside.0, inside.1)
+    ]
+
+pub overflow_cast-result : goal.overflow_cast-result
+overflow_cast-result c =
+    let found : Found = c.args.found.now in
+    let w : WindowFields = c.requires.2.0 in
+    let d : Place = record { endpoint = 0; start = 0 } in
+    let within =
+    slot_within found (λ a b p q. c.slots_are_endpoints.ensures.apart c.requires.0 w found a b p q c.requires.1 c.requires.2.1) c.items.result.now d c.items.ensures c.args.at.ep c.in_ok-slot.slot c.in_ok-slot.ensures.some in
+    let few = (c.weaves_fill_their_regions.ensures.kept c.requires.0 w found c.requires.1 c.requires.2.1).few_ways in
+    let ways = c.weaves_fill_their_regions.ensures.ways c.requires.0 w found c.requires.1 c.requires.2.1 in
+    omega (arith, within, few, ways, c.requires.2.1.slots)
+
+pub returns-clause-some : goal.returns-clause-some
+returns-clause-some c =
+    let found : Found = c.args.found.now in
+    let w : WindowFields = c.requires.2.0 in
+    let d : Place = record { endpoint = 0; start = 0 } in
+    let spans : List Place = c.items.result.now in
+    let slot : ℕ = c.in_ok-slot.slot in
+    let start : ℕ = (get_or spans slot d).start in
+    let dpa : c.in_ok-dpa.dpa ≡ 256 * c.args.at.block = omega (arith, c.in_ok-dpa.ensures) in
+    let from = c.if-dpa-start.false in
+    let below = c.if-dpa-start-2.false in
+    let length = c.slot_length.ensures in
+    let byte : IsSpanByte found c.args.at.ep c.in_ok-dpa.dpa slot (c.in_ok-dpa.dpa - start) =
+    byte_there found (λ a b p q. c.slots_are_endpoints.ensures.apart c.requires.0 w found a b p q c.requires.1 c.requires.2.1) spans d c.items.ensures c.args.at.ep slot c.in_ok-slot.ensures.some
+    c.in_ok-dpa.dpa from (omega (arith, below, length)) in
+    subst (λ (x : ℕ). IsSpanByte found c.args.at.ep x slot (c.in_ok-dpa.dpa - start)) dpa byte

@@ -1,0 +1,21 @@
+-- One piece at a time: where a byte of a device lies in a region's spans, and a piece that goes to another block.
+use Rattle.std.specs.Prelude.{◌≡◌, ◌≢◌, ℕ, ◌+◌, ◌<◌, List, slice_get, Option, Some}
+use Rattle.std.specs.FinMap as map
+use Rattle.cxl_media.specs.Blocks.{Key, Blocks}
+use Rattle.cxl_model.specs.declared.found.Found.{Found}
+use Rattle.cxl_model.specs.declared.found.Place.{Place}
+use Rattle.cxl_model.specs.Bytes.{slot_length}
+
+-- the byte of the endpoint's device lies so far into the span of this slot
+pub record IsSpanByte (found : Found) (endpoint dpa slot offset : ℕ) : Type 0 where
+  pub place : Place
+  pub there : slice_get found.spans slot ≡ Some place
+  pub here : place.endpoint ≡ endpoint
+  pub at : place.start + offset ≡ dpa
+  pub within : offset < slot_length found
+
+-- the second block is what the first one was, the first is what `rest` leaves of it, and no other changes
+pub record IsPieceCarried (rest : Option (List ℕ) → Option (List ℕ)) (source target : Key) (old new : Blocks) : Type 0 where
+  pub given : map.get new target ≡ map.get old source
+  pub left : map.get new source ≡ rest (map.get old source)
+  pub others : (key : Key) → key ≢ source → key ≢ target → map.get new key ≡ map.get old key
