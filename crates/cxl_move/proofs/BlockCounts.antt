@@ -16,7 +16,7 @@ use Rattle.cxl_move.specs.Sides.{IsPieceAt, HasPiece, AreHeld}
 use Rattle.cxl_move.specs.Holdings.{told_in, AreHoldings}
 use Rattle.cxl_move.proofs.Lists.{contains_head, contains_tail, contains_cases, contains_none, AreApart, rising_apart, picked, length-picked, picked_from, picked_to, apart-picked}
 use Rattle.cxl_move.proofs.Counts.{len_is, apart-keys, length-keys, keys_to, keys_from}
-use Rattle.cxl_move.proofs.Told.{PieceLaws, AreTold, some_of, own_region, own_contents}
+use Rattle.cxl_move.proofs.Told.{HoldingLaws, AreTold, some_of, own_region, own_contents}
 use Rattle.cxl_move.proofs.Changed.{apart_from}
 use Rattle.cxl_move.proofs.CarriedOver.{AreHoldings-tail}
 
@@ -43,16 +43,16 @@ record IsKept (holdings : List Holding) (key : Key) : Type 0 where
   has : map.contains_key one.contents n ≡ true
   at : At one n key
 
-module _ (laws : PieceLaws) (s : System) where
+module _ (laws : HoldingLaws) (s : System) where
   own_one : (one : Holding) → IsSystem s → IsRegionIn s one.window one.found → (n : ℕ) (k l : Key) → At one n k → At one n l → k ≡ l
   own_one one system region n k l first second =
-      let same = laws.one s one.window one.found n k.0 k.1 l.0 l.1 system region first second in
+      let same = laws.pieces.one s one.window one.found n k.0 k.1 l.0 l.1 system region first second in
       λ i. (same.0 i, same.1 i)
 
   piece_key : (one : Holding) → IsSystem s → IsRegionIn s one.window one.found → AreContents one.found one.contents → (n : ℕ) → Contains (map.keys one.contents) n → (key : Key) × At one n key
   piece_key one system region contents n there =
       let some = some_of (map.get one.contents n) (keys_from nat_cmp_total nat_cmp-IsAntisymmetric one.contents n there) in
-      let at = laws.each s one.window one.found n system region (contents.inside n some.0 some.1) in
+      let at = laws.pieces.each s one.window one.found n system region (contents.inside n some.0 some.1) in
       ((at.0, at.1), at.2)
 
   -- the blocks of the regions' pieces
@@ -115,15 +115,15 @@ module _ (laws : PieceLaws) (s : System) where
       let tail = AreHoldings-tail s one others are in
       let own : List Key = picked (At one) (map.keys one.contents) tells in
       apart-append own (blocks_of others tail)
-      (apart-picked (At one) (λ n m key first second. laws.apart s one.window one.found n m key.0 key.1 are.system region first second) (map.keys one.contents) tells
+      (apart-picked (At one) (λ n m key first second. laws.pieces.apart s one.window one.found n m key.0 key.1 are.system region first second) (map.keys one.contents) tells
       (apart-keys nat_cmp_total nat_cmp-IsAntisymmetric one.contents))
       (apart-blocks_of others tail)
       (λ key mine theirs.
       let piece = picked_from (At one) (map.keys one.contents) tells key mine in
       let kept = kept_from others tail key theirs in
       apart_from laws s one others are kept.one key.0 (256 * key.1) kept.there
-      (laws.inside s kept.one.window kept.one.found kept.n key.0 key.1 are.system (own_region s others tail kept.one kept.there) kept.at)
-      (laws.inside s one.window one.found piece.0 key.0 key.1 are.system region piece.2))
+      (laws.pieces.inside s kept.one.window kept.one.found kept.n key.0 key.1 are.system (own_region s others tail kept.one kept.there) kept.at)
+      (laws.pieces.inside s one.window one.found piece.0 key.0 key.1 are.system region piece.2))
 
   pub blocks_counted : (holdings : List Holding) (blocks : Blocks) → AreHoldings s holdings → AreMediaOf holdings (told_in blocks) → map.len blocks ≡ sum_by (λ (one : Holding). map.len one.contents) holdings
   blocks_counted holdings blocks are media =
@@ -150,7 +150,7 @@ module _ (laws : PieceLaws) (s : System) where
       let piece = some_of (map.get one.contents n) has in
       let region = own_region s holdings are one there in
       let contents = own_contents s holdings are one there in
-      let at = laws.each s one.window one.found n are.system region (contents.inside n piece.0 piece.1) in
+      let at = laws.pieces.each s one.window one.found n are.system region (contents.inside n piece.0 piece.1) in
       (held.exact n).1 (record {
         endpoint = at.0;
         block = at.1;

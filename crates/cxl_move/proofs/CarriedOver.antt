@@ -10,7 +10,7 @@ use Rattle.cxl_model.specs.Contents.{Contents, Holding}
 use Rattle.cxl_move.specs.Sides.{IsPieceAt, IsCarriedOver}
 use Rattle.cxl_move.specs.Holdings.{told_in, AreHoldings}
 use Rattle.cxl_move.proofs.Lists.{contains_head, contains_tail, contains_cases}
-use Rattle.cxl_move.proofs.Told.{PieceLaws, AreTold, AreRegionsOf, own_region, regions_with}
+use Rattle.cxl_move.proofs.Told.{HoldingLaws, AreTold, AreRegionsOf, own_region, regions_with}
 use Rattle.cxl_move.proofs.Changed.{apart_from}
 
 -- holdings are some without the first
@@ -29,7 +29,7 @@ regions_with_both s from to others are left given one there =
       | inr later ↦ regions_with s to others (AreHoldings-tail s from (to ∷ others) are) given one later
     ]
 
-module _ (laws : PieceLaws) (s : System) (from to : Holding) (others : List Holding) (are : AreHoldings s (from ∷ to ∷ others)) (size : from.found.size ≡ to.found.size) (rest : Option (List ℕ) → Option (List ℕ))
+module _ (laws : HoldingLaws) (s : System) (from to : Holding) (others : List Holding) (are : AreHoldings s (from ∷ to ∷ others)) (size : from.found.size ≡ to.found.size) (rest : Option (List ℕ) → Option (List ℕ))
     (left : Contents) (leaves : (n : ℕ) → map.get left n ≡ rest (map.get from.contents n)) where
   pub carried_told : (old new : Blocks) → AreTold (from ∷ to ∷ others) (told_in old) → IsCarriedOver rest from.found from.window to.found to.window old new
       → AreTold ((record from { contents = left }) ∷ ((record to { contents = from.contents }) ∷ others)) (told_in new)
@@ -79,15 +79,15 @@ module _ (laws : PieceLaws) (s : System) (from to : Holding) (others : List Hold
       second_piece : (n endpoint block : ℕ) → IsPieceAt to.found to.window n endpoint block → map.get new (endpoint, block) ≡ map.get from.contents n
       second_piece n endpoint block at =
           let region = own_region s (from ∷ to ∷ others) are to to_there in
-          let within = laws.within s to.window to.found n endpoint block are.system region at in
-          let source = laws.each s from.window from.found n are.system (own_region s (from ∷ to ∷ others) are from from_there) (subst (λ (x : ℕ). n < x / 256) (sym size) within) in
+          let within = laws.pieces.within s to.window to.found n endpoint block are.system region at in
+          let source = laws.pieces.each s from.window from.found n are.system (own_region s (from ∷ to ∷ others) are from from_there) (subst (λ (x : ℕ). n < x / 256) (sym size) within) in
           carried.second n endpoint block source.0 source.1 at source.2 ∙ told.each from n source.0 source.1 from_there source.2
 
       other_piece : (one : Holding) (n endpoint block : ℕ) → Contains others one → IsPieceAt one.found one.window n endpoint block → map.get new (endpoint, block) ≡ map.get one.contents n
       other_piece one n endpoint block there at =
           let tail = AreHoldings-tail s from (to ∷ others) are in
           let region = own_region s others (AreHoldings-tail s to others tail) one there in
-          let inside = laws.inside s one.window one.found n endpoint block are.system region at in
+          let inside = laws.pieces.inside s one.window one.found n endpoint block are.system region at in
           carried.others endpoint block (apart_from laws s from (to ∷ others) are one endpoint (256 * block) (contains_tail to one others there) inside)
           (apart_from laws s to others tail one endpoint (256 * block) there inside)
           ∙ told.each one n endpoint block (contains_tail from one (to ∷ others) (contains_tail to one others there)) at

@@ -17,7 +17,7 @@ use Rattle.cxl_move.specs.Sides.{IsPieceAt, IsCleared, IsCarriedOver}
 use Rattle.cxl_move.specs.Holdings.{told_in, AreHoldings}
 use Rattle.cxl_move.proofs.Lists.{contains_head, contains_tail, contains_cases}
 use Rattle.cxl_move.proofs.Spans.{lies_cases}
-use Rattle.cxl_move.proofs.Told.{PieceLaws, AreTold, own_region}
+use Rattle.cxl_move.proofs.Told.{HoldingLaws, AreTold, own_region}
 
 -- ---- maps
 
@@ -41,7 +41,7 @@ piece_other contents n m bytes apart = map.get-insert nat_cmp_total contents n b
 
 -- ---- the first of some regions changes
 
-module _ (laws : PieceLaws) (s : System) (one : Holding) (others : List Holding) (are : AreHoldings s (one ∷ others)) where
+module _ (laws : HoldingLaws) (s : System) (one : Holding) (others : List Holding) (are : AreHoldings s (one ∷ others)) where
   -- the others have nothing of its spans
   pub apart_from : (other : Holding) (endpoint dpa : ℕ) → Contains others other → LiesInSpan other.found endpoint dpa → LiesInSpan one.found endpoint dpa → ⊥
   apart_from other endpoint dpa there theirs own =
@@ -52,10 +52,10 @@ module _ (laws : PieceLaws) (s : System) (one : Holding) (others : List Holding)
 
   other_inside : (other : Holding) (n endpoint block : ℕ) → Contains others other → IsPieceAt other.found other.window n endpoint block → LiesInSpan other.found endpoint (256 * block)
   other_inside other n endpoint block there at =
-      laws.inside s other.window other.found n endpoint block are.system (own_region s (one ∷ others) are other (contains_tail one other others there)) at
+      laws.pieces.inside s other.window other.found n endpoint block are.system (own_region s (one ∷ others) are other (contains_tail one other others there)) at
 
   own_inside : (n endpoint block : ℕ) → IsPieceAt one.found one.window n endpoint block → LiesInSpan one.found endpoint (256 * block)
-  own_inside n endpoint block at = laws.inside s one.window one.found n endpoint block are.system (own_region s (one ∷ others) are one (contains_head one others)) at
+  own_inside n endpoint block at = laws.pieces.inside s one.window one.found n endpoint block are.system (own_region s (one ∷ others) are one (contains_head one others)) at
 
   -- its spans are cleared, and it goes
   pub cleared_told : (old new : Blocks) → AreTold (one ∷ others) (told_in old) → IsCleared one.found old new → AreTold others (told_in new)
@@ -118,14 +118,14 @@ module _ (laws : PieceLaws) (s : System) (one : Holding) (others : List Holding)
           elim (cases_eq m n) [
             | inl is ↦
                 let here : IsPieceAt one.found one.window n e b = subst (λ (x : ℕ). IsPieceAt one.found one.window x e b) is piece in
-                let place = laws.one s one.window one.found n e b endpoint block are.system region here at in
+                let place = laws.pieces.one s one.window one.found n e b endpoint block are.system region here at in
                 let key : ◌≡◌ {A = Key} (e, b) (endpoint, block) = λ i. (place.0 i, place.1 i) in
                 ap (map.get new) key ∙ insert_same old (endpoint, block) bytes ∙ sym (ap (map.get after.contents) is ∙ piece_same one.contents n bytes)
             | inr differs ↦
                 insert_other old (endpoint, block) (e, b) bytes
                 (λ same.
                 differs
-                (laws.apart s one.window one.found m n endpoint block are.system region
+                (laws.pieces.apart s one.window one.found m n endpoint block are.system region
                 (subst (λ (x : ℕ). IsPieceAt one.found one.window m x block) (ap (λ (k : Key). k.0) same) (subst (λ (x : ℕ). IsPieceAt one.found one.window m e x) (ap (λ (k : Key). k.1) same) piece)) at))
                 ∙ told.each one m e b (contains_head one others) piece
                 ∙ sym (piece_other one.contents n m bytes differs)

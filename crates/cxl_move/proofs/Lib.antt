@@ -8,3 +8,7 @@ pub mod CarriedOver
 pub mod BlockCounts
 pub mod Steps
 pub mod Dealt
+pub mod Aligned
+pub mod Clearing
+pub mod CarryingOn
+pub mod HeldPieces

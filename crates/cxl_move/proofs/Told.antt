@@ -19,7 +19,7 @@ use Rattle.cxl_move.specs.Holdings.{AreHoldings}
 use Rattle.cxl_move.proofs.Lists.{contains_head, contains_tail, contains_cases, contains_none}
 use Rattle.cxl_move.proofs.Spans.{lies_cases}
 
--- the laws of pieces, and that regions of one image share no byte of a device
+-- the laws of pieces
 pub record PieceLaws : Type 0 where
   pub each : (s : System) (w : WindowFields) (found : Found) (n : ℕ) → IsSystem s → IsRegionIn s w found → n < found.size / 256 → (endpoint : ℕ) × (block : ℕ) × IsPieceAt found w n endpoint block
   pub within : (s : System) (w : WindowFields) (found : Found) (n endpoint block : ℕ) → IsSystem s → IsRegionIn s w found → IsPieceAt found w n endpoint block → n < found.size / 256
@@ -28,6 +28,10 @@ pub record PieceLaws : Type 0 where
   pub apart : (s : System) (w : WindowFields) (found : Found) (n other endpoint block : ℕ) → IsSystem s → IsRegionIn s w found → IsPieceAt found w n endpoint block → IsPieceAt found w other endpoint block → n ≡ other
   pub inside : (s : System) (w : WindowFields) (found : Found) (n endpoint block : ℕ) → IsSystem s → IsRegionIn s w found → IsPieceAt found w n endpoint block → LiesInSpan found endpoint (256 * block)
   pub onto : (s : System) (w : WindowFields) (found : Found) (endpoint block : ℕ) → IsSystem s → IsRegionIn s w found → LiesInSpan found endpoint (256 * block) → (n : ℕ) × IsPieceAt found w n endpoint block
+
+-- and that regions of one image share no byte of a device
+pub record HoldingLaws : Type 0 where
+  pub pieces : PieceLaws
   pub shared : (s : System) (w v : WindowFields) (found other : Found) (endpoint dpa : ℕ) → IsSystem s → IsRegionIn s w found → IsRegionIn s v other → LiesInSpan found endpoint dpa → LiesInSpan other endpoint dpa
       → found ≡ other
 
@@ -95,14 +99,14 @@ media_of_alike holdings others media are alike = record {
 
 -- ---- both ways
 
-module _ (laws : PieceLaws) (s : System) (holdings : List Holding) (told : Telling) where
+module _ (laws : HoldingLaws) (s : System) (holdings : List Holding) (told : Telling) where
   pub told_from_media : AreHoldings s holdings → AreMediaOf holdings told → AreTold holdings told
   told_from_media are media = record {
     each = λ one n endpoint block there at. told_piece one n endpoint block there at (map.get one.contents n) refl;
     none = λ endpoint block beside.
         none_unless (told endpoint block) (λ bytes is.
         let held = media.only endpoint block bytes is in
-        beside held.0 held.2 (laws.inside s held.0.window held.0.found held.1 endpoint block are.system (own_region s holdings are held.0 held.2) held.3.carried));
+        beside held.0 held.2 (laws.pieces.inside s held.0.window held.0.found held.1 endpoint block are.system (own_region s holdings are held.0 held.2) held.3.carried));
   }
     where
       told_piece : (one : Holding) (n endpoint block : ℕ) → Contains holdings one → IsPieceAt one.found one.window n endpoint block → (piece : Option (List ℕ)) → map.get one.contents n ≡ piece → told endpoint block ≡ piece
@@ -115,11 +119,11 @@ module _ (laws : PieceLaws) (s : System) (holdings : List Holding) (told : Telli
           let own = own_region s holdings are other held.2 in
           let found : one.found ≡ other.found =
           laws.shared s one.window other.window one.found other.found endpoint (256 * block) are.system region own
-          (laws.inside s one.window one.found n endpoint block are.system region at)
-          (laws.inside s other.window other.found held.1 endpoint block are.system own held.3.carried) in
+          (laws.pieces.inside s one.window one.found n endpoint block are.system region at)
+          (laws.pieces.inside s other.window other.found held.1 endpoint block are.system own held.3.carried) in
           let same : one ≡ other = one_holding s holdings are one other there held.2 found in
           let at_one : IsPieceAt one.found one.window held.1 endpoint block = subst (λ (x : Holding). IsPieceAt x.found x.window held.1 endpoint block) (sym same) held.3.carried in
-          let number : n ≡ held.1 = laws.apart s one.window one.found n held.1 endpoint block are.system region at at_one in
+          let number : n ≡ held.1 = laws.pieces.apart s one.window one.found n held.1 endpoint block are.system region at at_one in
           let piece : map.get one.contents held.1 ≡ Some bytes = ap (λ (x : Holding). map.get x.contents held.1) same ∙ held.3.piece in
           let there_is : map.get one.contents n ≡ Some bytes = ap (map.get one.contents) number ∙ piece in
           cc (is, there_is))
@@ -149,7 +153,7 @@ module _ (laws : PieceLaws) (s : System) (holdings : List Holding) (told : Telli
         elim (holder_cases holdings endpoint block) [
           | inl held ↦
               let one : Holding = held.0 in
-              let piece = laws.onto s one.window one.found endpoint block system (regions one held.1) held.2 in
+              let piece = laws.pieces.onto s one.window one.found endpoint block system (regions one held.1) held.2 in
               (one, piece.0, held.1, record { piece = sym (are.each one piece.0 endpoint block held.1 piece.1) ∙ is; carried = piece.1 })
           | inr beside ↦ let none = are.none endpoint block beside in absurd (let one : told endpoint block ≡ Some bytes = is in cc (none, one))
         ];

@@ -2,13 +2,18 @@
 #![tactic(auto)]
 
 mod blocks;
+mod carrying;
 mod holdings;
+mod listing;
 mod pieces;
 mod side;
 
+pub use carrying::{copy_bytes, move_bytes, scrub_region};
+pub use cxl_model::{Found, Memory};
 pub use holdings::{
     blocks_are_pieces, blocks_hold_their_pieces, carried_pieces_are_contents,
     cleared_regions_leave_media, holdings_stand_in_any_order, put_pieces_are_contents,
 };
+pub use listing::held;
 pub use pieces::pieces_are_carried_to_blocks;
 pub use side::Side;

@@ -5,6 +5,8 @@ use Rattle.cxl_media.specs.Blocks.{Key, Blocks}
 use Rattle.cxl_model.specs.declared.found.Found.{Found}
 use Rattle.cxl_model.specs.declared.found.Place.{Place}
 use Rattle.cxl_model.specs.Bytes.{slot_length}
+use Rattle.cxl_window.specs.Fields.{WindowFields}
+use Rattle.cxl_move.specs.Sides.{IsPieceAt}
 
 -- the byte of the endpoint's device lies so far into the span of this slot
 pub record IsSpanByte (found : Found) (endpoint dpa slot offset : ℕ) : Type 0 where
@@ -13,6 +15,12 @@ pub record IsSpanByte (found : Found) (endpoint dpa slot offset : ℕ) : Type 0 
   pub here : place.endpoint ≡ endpoint
   pub at : place.start + offset ≡ dpa
   pub within : offset < slot_length found
+
+-- a block stands there, and the region carries this piece to it
+pub record HasPieceAt (found : Found) (w : WindowFields) (place : Option Key) (n : ℕ) : Type 0 where
+  pub key : Key
+  pub there : place ≡ Some key
+  pub at : IsPieceAt found w n key.0 key.1
 
 -- the second block is what the first one was, the first is what `rest` leaves of it, and no other changes
 pub record IsPieceCarried (rest : Option (List ℕ) → Option (List ℕ)) (source target : Key) (old new : Blocks) : Type 0 where
