@@ -108,7 +108,7 @@ module _ {K : Type 0} {R : K → K → Ordering} (o : IsTotalOrder R) (same : Is
           ];
         } in
         let still : HasKeys ks mid = λ q there.
-            ap is_some (get_other k q old (λ is. apart.0 (subst (Contains ks) is there))) ∙ has q (contains_tail k q ks there) in
+        ap is_some (get_other k q old (λ is. apart.0 (subst (Contains ks) is there))) ∙ has q (contains_tail k q ks there) in
         let later = len_without ks mid new apart.1 still rest in
         omega (arith, later, one_less k old (has k (contains_head k ks)))
 

@@ -24,6 +24,7 @@ pub(crate) fn move_block<M: Media>(media: &mut M, source: At, target: At)
 {
     let bytes = block_bytes(media, source);
     media.scrub(source.ep, 256 * source.block, 256 * source.block + 256);
+    // The frame that the block had is free, so it is put.
     let _put = media.put(target.ep, 256 * target.block, &bytes);
 }
 
@@ -40,7 +41,8 @@ pub(crate) fn copy_block<M: Media>(media: &mut M, source: At, target: At)
     ensures frames { frame_count (M.state media.new) ≡ frame_count (M.state media.old) }
 {
     let bytes = block_bytes(media, source);
-    let _put = media.put(target.ep, 256 * target.block, &bytes);
+    // There is a free frame, so it is put.
+    let _copied = media.put(target.ep, 256 * target.block, &bytes);
 }
 
 /// The bytes of a block.

@@ -19,7 +19,8 @@ pub fn held<M: Roll>(alloc: Global, media: &M, side: &Side<'_>) -> Result<Vec<u6
 {
     pieces_are_carried_to_blocks();
     let mut pieces = Vec::new(alloc);
-    for i in 0..media.places() {
+    let places = media.places();
+    for i in 0..places {
         if let Some(n) = piece_at_place(media, side, i) {
             pieces.push(n)?;
         }

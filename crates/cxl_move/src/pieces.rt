@@ -107,7 +107,11 @@ fn slot_on(found: &Found, ep: u32) -> Option<usize>
     ensures none { IfNone result ((slot : ℕ) (place : Place) → slice_get found.now.spans slot ≡ Some place
         → place.endpoint ≡ ep → ⊥) }
 {
-    found.spans.items().iter().position(|place| place.endpoint == ep)
+    found
+        .spans
+        .items()
+        .iter()
+        .position(|place| place.endpoint == ep)
 }
 
 /// How many bytes of a device each slot has.

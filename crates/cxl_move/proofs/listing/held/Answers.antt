@@ -22,7 +22,7 @@ loop-i-preserved g c =
     elim c.match-piece_at_place.branch [
       | in-Some+in_ok-push x ↦
           subst (AreListed found w roll (c.loop-i.i + 1)) (sym (ap (λ v. v.items) x.pieces-is ∙ x.in_ok-push.ensures.items))
-          (listed_more found w roll (g.M.Media.state c.args.media.now).blocks c.places-i-end.ensures.blocks laws c.loop-i.i c.loop-i.pieces.items x.in-Some.n c.loop-i.invariant x.in-Some.ensures.some)
+          (listed_more found w roll (g.M.Media.state c.args.media.now).blocks c.places-places.ensures.blocks laws c.loop-i.i c.loop-i.pieces.items x.in-Some.n c.loop-i.invariant x.in-Some.ensures.some)
       | in_default x ↦
           subst (AreListed found w roll (c.loop-i.i + 1)) (sym (ap (λ v. v.items) x.pieces-is))
           (listed_none found w roll c.loop-i.i c.loop-i.pieces.items c.loop-i.invariant x.in_default.ensures.none)
@@ -33,5 +33,5 @@ returns g c =
     let found : Found = c.args.side.now.found.now in
     let w : WindowFields = c.args.side.now.window.now in
     let roll : List (Option Key) = g.M.Roll.roll c.args.media.now in
-    held_all found w roll (g.M.Media.state c.args.media.now).blocks c.places-i-end.ensures.blocks c.loop-i.i c.loop-i.pieces.items c.sort_unstable.new.self.items
-    (omega (arith, c.loop-i-test.false, c.places-i-end.ensures.count)) c.loop-i.invariant c.sort_unstable.ensures.permutation c.sort_unstable.ensures.sorted
+    held_all found w roll (g.M.Media.state c.args.media.now).blocks c.places-places.ensures.blocks c.loop-i.i c.loop-i.pieces.items c.sort_unstable.new.self.items
+    (omega (arith, c.loop-i-test.false, c.places-places.ensures.count)) c.loop-i.invariant c.sort_unstable.ensures.permutation c.sort_unstable.ensures.sorted

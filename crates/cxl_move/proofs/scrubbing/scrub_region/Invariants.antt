@@ -1,7 +1,7 @@
 use Rattle.std.proofs.Common.{◌≡◌, take}
 use Rattle.cxl_media.specs.MediaState.{frame_count}
 use Rattle.cxl_move.proofs.Clearing.{AreScrubbed}
-use Rattle.cxl_move.proofs.carrying.scrub_region.Given as goal
+use Rattle.cxl_move.proofs.scrubbing.scrub_region.Given as goal
 
 -- the blocks of the spans so far are gone
 abbrev pub invariant-loop-place : goal.invariant-loop-place

@@ -10,7 +10,7 @@ use Rattle.cxl_model.specs.Bytes.{slot_length}
 use Rattle.cxl_move.proofs.PieceLaws.{CarryLaws}
 use Rattle.cxl_move.proofs.Aligned.{start_aligned, end_aligned}
 use Rattle.cxl_move.proofs.Clearing.{scrubbed_more, cleared_all}
-use Rattle.cxl_move.proofs.carrying.scrub_region.Goals as goal
+use Rattle.cxl_move.proofs.scrubbing.scrub_region.Goals as goal
 
 slice_there : (found : Found) (spans : List Place) (slot : ℕ) (d : Place) → spans ≡ found.spans → slot < length spans → slice_get found.spans slot ≡ Some (get_or spans slot d)
 slice_there found spans slot d same within = ap (λ (xs : List Place). slice_get xs slot) (sym same) ∙ slice_get-get_or spans slot d within
