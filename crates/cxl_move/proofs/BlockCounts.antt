@@ -1,6 +1,6 @@
 -- As many blocks as the regions have pieces.
-use Rattle.std.proofs.Common.{◌≡◌, ◌≢◌, ℕ, zero, suc, ◌+◌, ◌*◌, ◌/◌, ◌<◌, ◌⊎◌, true, List, [], ◌∷◌, ◌++◌, length, Option, Some, is_some, refl, sym, ap, subst, ◌∙◌, inl, inr, arith, length-append}
-use Rattle.std.specs.Prelude.{All, AllPairs, Contains, sum_by}
+use Rattle.std.proofs.Common.{◌≡◌, ℕ, ◌*◌, true, List, [], ◌∷◌, ◌++◌, length, is_some, refl, sym, ap, subst, ◌∙◌, inl, inr, arith, length-append}
+use Rattle.std.specs.Prelude.{Contains, sum_by}
 use Rattle.std.specs.FinMap as map
 use Rattle.std.specs.FinMap.{nat_cmp-IsAntisymmetric}
 use Rattle.std.specs.Cmp.{nat_cmp_total}
@@ -10,9 +10,8 @@ use Rattle.cxl_media.specs.Blocks.{Key, Blocks}
 use Rattle.cxl_media.proofs.Keys.{key_total, key_exact}
 use Rattle.cxl_model.specs.System.{System, IsSystem}
 use Rattle.cxl_model.specs.Regions.{IsRegionIn}
-use Rattle.cxl_model.specs.Bytes.{LiesInSpan}
-use Rattle.cxl_model.specs.Contents.{Contents, Holding, AreContents, AreMediaOf}
-use Rattle.cxl_move.specs.Sides.{IsPieceAt, HasPiece, AreHeld}
+use Rattle.cxl_model.specs.Contents.{Holding, AreContents, AreMediaOf}
+use Rattle.cxl_move.specs.Sides.{IsPieceAt, AreHeld}
 use Rattle.cxl_move.specs.Holdings.{told_in, AreHoldings}
 use Rattle.cxl_move.proofs.Lists.{contains_head, contains_tail, contains_cases, contains_none, AreApart, rising_apart, picked, length-picked, picked_from, picked_to, apart-picked}
 use Rattle.cxl_move.proofs.Counts.{len_is, apart-keys, length-keys, keys_to, keys_from}

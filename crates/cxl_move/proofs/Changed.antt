@@ -1,19 +1,18 @@
 -- What media tells after the bytes of a region have changed.
-use Rattle.std.proofs.Common.{◌≡◌, ◌≢◌, ℕ, suc, ◌+◌, ◌*◌, ◌/◌, ◌<◌, true, false, List, [], ◌∷◌, length, get_or, Option, None, Some, cond, refl, sym, ap, subst, ◌∙◌, inl, inr, arith}
-use Rattle.std.specs.Prelude.{AllPairs, Contains}
+use Rattle.std.proofs.Common.{◌≡◌, ◌≢◌, ℕ, suc, ◌*◌, true, false, List, ◌∷◌, Option, Some, refl, sym, ap, subst, ◌∙◌, inl, inr, arith}
+use Rattle.std.specs.Prelude.{Contains}
 use Rattle.std.specs.FinMap as map
 use Rattle.std.specs.Ordering.{nat_cmp, eq_by_cmp}
 use Rattle.std.specs.Cmp.{nat_cmp_total, eq_by_cmp_equiv, Equal-is}
 use Rattle.std.proofs.lemmas.Map.Lookups.{exact_unsigned}
 use Rattle.std.proofs.lemmas.Bool.{cases_eq, cond-true, cond-false, false_from_ne_true}
 use Rattle.std.proofs.lemmas.Option.{none-some}
-use Rattle.cxl_media.specs.Blocks.{Key, key_cmp, Blocks}
+use Rattle.cxl_media.specs.Blocks.{Key, Blocks}
 use Rattle.cxl_media.proofs.Keys.{key_total, key_is, key_is_not}
-use Rattle.cxl_model.specs.System.{System, IsSystem}
-use Rattle.cxl_model.specs.Regions.{IsRegionIn}
+use Rattle.cxl_model.specs.System.{System}
 use Rattle.cxl_model.specs.Bytes.{LiesInSpan}
 use Rattle.cxl_model.specs.Contents.{Contents, Holding, AreMediaOf}
-use Rattle.cxl_move.specs.Sides.{IsPieceAt, IsCleared, IsCarriedOver}
+use Rattle.cxl_move.specs.Sides.{IsPieceAt, IsCleared}
 use Rattle.cxl_move.specs.Holdings.{told_in, AreHoldings}
 use Rattle.cxl_move.proofs.Lists.{contains_head, contains_tail, contains_cases}
 use Rattle.cxl_move.proofs.Spans.{lies_cases}

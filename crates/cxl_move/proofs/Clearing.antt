@@ -5,11 +5,11 @@ use Rattle.std.specs.List.{list_any}
 use Rattle.std.specs.FinMap as map
 use Rattle.std.proofs.lemmas.Bool.{and_parts, and_from, or_cases, or_left, or_right, eq-eqb, le-leb, lt-ltb, eqb-true, leb-true, ltb-true, cond-true, cond-false, false_from_ne_true, false≢true}
 use Rattle.std.proofs.lemmas.List.{take_more, take_all}
-use Rattle.std.proofs.lemmas.Option.{none-some, same_Some, slice_get-get_or}
+use Rattle.std.proofs.lemmas.Option.{none-some, same_Some}
 use Rattle.cxl_media.specs.Blocks.{Key, Blocks, is_between, scrubbed}
 use Rattle.cxl_model.specs.declared.found.Found.{Found}
 use Rattle.cxl_model.specs.declared.found.Place.{Place}
-use Rattle.cxl_model.specs.Bytes.{slot_length, LiesInSpan}
+use Rattle.cxl_model.specs.Bytes.{slot_length}
 use Rattle.cxl_move.specs.Sides.{IsCleared}
 use Rattle.cxl_move.proofs.Steps.{get-scrubbed}
 

@@ -1,9 +1,9 @@
 -- How many entries a map has.
-use Rattle.std.proofs.Common.{◌≡◌, ◌≢◌, ℕ, zero, suc, ◌+◌, ◌-◌, ◌<◌, ◌⊎◌, Bool, true, false, cond, ◌&&◌, ◌||◌, T, List, [], ◌∷◌, map, length, get_or, Option, None, Some, is_some, refl, sym, ap, subst, ◌∙◌, inl, inr, arith}
+use Rattle.std.proofs.Common.{◌≡◌, ◌≢◌, ℕ, zero, suc, ◌+◌, ◌-◌, ◌<◌, ◌⊎◌, Bool, true, false, ◌&&◌, T, List, [], ◌∷◌, map, length, Option, None, Some, is_some, refl, sym, ap, subst, ◌∙◌, inl, inr, arith}
 use Rattle.std.specs.Prelude.{Contains}
 use Rattle.std.specs.List.{list_any}
 use Rattle.std.specs.declared.cmp.Ordering.{Ordering}
-use Rattle.std.specs.Ordering.{eq_by_cmp, is_lt, is_eq}
+use Rattle.std.specs.Ordering.{eq_by_cmp, is_lt}
 use Rattle.std.specs.Cmp.{IsTotalOrder, tied_itself, eq_by_cmp_equiv, Equal-is}
 use Rattle.std.specs.FinMap as fin
 use Rattle.std.specs.FinMap.{FinMap, IsAntisymmetric}

@@ -1,10 +1,9 @@
 -- The pieces of a region, by going through the places of media.
-use Rattle.std.proofs.Common.{◌≡◌, ℕ, ◌+◌, ◌*◌, ◌<◌, ◌≤◌, ◌⊎◌, Bool, true, false, eqb, List, [], ◌∷◌, ◌++◌, length, get_or, Option, Some, None, is_some, refl, sym, ap, subst, ◌∙◌, inl, inr, arith}
-use Rattle.std.specs.Prelude.{Contains, IsTrue}
+use Rattle.std.proofs.Common.{◌≡◌, ℕ, ◌+◌, ◌<◌, ◌≤◌, eqb, List, [], ◌∷◌, ◌++◌, length, Option, Some, None, sym, ap, subst, ◌∙◌, inl, inr, arith}
+use Rattle.std.specs.Prelude.{Contains}
 use Rattle.std.specs.List.{IsDistinct, list_any}
-use Rattle.std.specs.List.Sorted.{IsPermutation, IsNonDecreasing, IsSorted}
+use Rattle.std.specs.List.Sorted.{IsPermutation, IsSorted}
 use Rattle.std.specs.Ordering.{nat_cmp}
-use Rattle.std.specs.FinMap as map
 use Rattle.std.proofs.lemmas.Bool.{cases_lt, false_from_ne_true}
 use Rattle.std.specs.Cmp.{nat_eq_equiv}
 use Rattle.std.proofs.lemmas.List.{get_or_past}
@@ -16,7 +15,7 @@ use Rattle.cxl_window.specs.Fields.{WindowFields}
 use Rattle.cxl_media.specs.Blocks.{Key, Blocks}
 use Rattle.cxl_media.specs.Roll.{key_at_place, IsRoll}
 use Rattle.cxl_model.specs.declared.found.Found.{Found}
-use Rattle.cxl_move.specs.Sides.{IsPieceAt, HasPiece, AreHeld}
+use Rattle.cxl_move.specs.Sides.{IsPieceAt, AreHeld}
 use Rattle.cxl_move.specs.inner.Steps.{HasPieceAt}
 use Rattle.cxl_move.proofs.Lists.{contains_none}
 use Rattle.cxl_move.proofs.CarryingOn.{in_to}

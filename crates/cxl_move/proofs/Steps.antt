@@ -1,17 +1,15 @@
 -- One block of media is read, taken out and put elsewhere.
-use Rattle.std.proofs.Common.{◌≡◌, ◌≢◌, ◌↔◌, ℕ, ◌+◌, ◌*◌, ◌/◌, ◌%◌, ◌<◌, ◌≤◌, ◌&&◌, Bool, true, false, cond, not, eqb, leb, ltb, List, [], ◌∷◌, ◌++◌, length, take, drop, Option, Some, None, unwrap_or, is_some, Result, Ok, Err, refl, sym, ap, subst, ◌∙◌, inl, inr, arith}
+use Rattle.std.proofs.Common.{◌≡◌, ◌≢◌, ◌↔◌, ℕ, ◌+◌, ◌*◌, ◌/◌, ◌%◌, ◌<◌, ◌&&◌, true, false, cond, not, eqb, leb, ltb, List, [], ◌∷◌, ◌++◌, length, take, drop, Option, Some, None, unwrap_or, is_some, Result, Ok, Err, refl, sym, ap, subst, ◌∙◌, inl, inr, arith}
 use Rattle.std.specs.Prelude.{Contains, IsErr, OnOk}
-use Rattle.std.specs.declared.cmp.Ordering.TheVariants.{Equal}
 use Rattle.std.specs.FinMap as map
-use Rattle.std.proofs.lemmas.Bool.{and_parts, and_from, eq-eqb, le-leb, lt-ltb, eqb-true, leb-true, ltb-true, cond-true, cond-false, false_from_ne_true}
+use Rattle.std.proofs.lemmas.Bool.{and_parts, and_from, eq-eqb, le-leb, lt-ltb, eqb-true, leb-true, ltb-true, false_from_ne_true}
 use Rattle.std.proofs.lemmas.List.{take_all, drop_all, append-nil}
 use Rattle.std.proofs.lemmas.Option.{none-some}
-use Rattle.cxl_media.specs.Blocks.{Key, key_cmp, Blocks, key_of, block_at, frames_needed, bytes_from, overwritten, is_between, scrubbed}
-use Rattle.cxl_media.specs.MediaState.{MediaState, frame_count}
+use Rattle.cxl_media.specs.Blocks.{Key, Blocks, key_of, block_at, frames_needed, bytes_from, overwritten, is_between, scrubbed}
 use Rattle.cxl_media.proofs.Keys.{key_total, key_exact}
 use Rattle.cxl_move.specs.inner.Steps.{IsPieceCarried}
 use Rattle.cxl_move.proofs.Lists.{contains_head, contains_cases, contains_none}
-use Rattle.cxl_move.proofs.Counts.{IsWithout, len_without}
+use Rattle.cxl_move.proofs.Counts.{len_without}
 use Rattle.cxl_move.proofs.Told.{some_of}
 use Rattle.cxl_move.proofs.Changed.{insert_same, insert_other}
 

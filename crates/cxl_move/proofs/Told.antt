@@ -1,19 +1,16 @@
 -- What media tells of each block, by the regions whose pieces are carried there.
-use Rattle.std.proofs.Common.{◌≡◌, ◌≢◌, ℕ, suc, ◌+◌, ◌*◌, ◌/◌, ◌<◌, ◌⊎◌, true, List, [], ◌∷◌, length, get_or, Option, None, Some, is_some, refl, sym, ap, subst, ◌∙◌, inl, inr, arith}
-use Rattle.std.specs.Prelude.{◌↔◌, All, AllPairs, Contains}
+use Rattle.std.proofs.Common.{◌≡◌, ℕ, ◌*◌, ◌/◌, ◌<◌, ◌⊎◌, true, List, [], ◌∷◌, get_or, Option, None, Some, is_some, refl, sym, ap, subst, ◌∙◌, inl, inr}
+use Rattle.std.specs.Prelude.{◌↔◌, Contains}
 use Rattle.std.specs.FinMap as map
-use Rattle.std.specs.FinMap.{FinMap}
-use Rattle.std.specs.Ordering.{nat_cmp}
 use Rattle.std.proofs.lemmas.Bool.{cases_order}
 use Rattle.std.proofs.lemmas.List.{get_or_default}
 use Rattle.std.proofs.lemmas.List.Elements.{All-contains}
 use Rattle.cxl_window.specs.Fields.{WindowFields}
-use Rattle.cxl_media.specs.Blocks.{Blocks}
 use Rattle.cxl_model.specs.declared.found.Found.{Found}
 use Rattle.cxl_model.specs.System.{System, IsSystem}
 use Rattle.cxl_model.specs.Regions.{IsRegionIn}
 use Rattle.cxl_model.specs.Bytes.{LiesInSpan}
-use Rattle.cxl_model.specs.Contents.{Contents, Holding, AreContents, KeepsPieceAt, AreMediaOf}
+use Rattle.cxl_model.specs.Contents.{Contents, Holding, AreContents, AreMediaOf}
 use Rattle.cxl_move.specs.Sides.{IsPieceAt}
 use Rattle.cxl_move.specs.Holdings.{AreHoldings}
 use Rattle.cxl_move.proofs.Lists.{contains_head, contains_tail, contains_cases, contains_none}

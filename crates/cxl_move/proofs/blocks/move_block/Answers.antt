@@ -1,4 +1,4 @@
-use Rattle.std.proofs.Common.{◌≡◌, ◌<◌, ◌+◌, ◌∙◌, ◌*◌, ◌%◌, ℕ, ap, sym, subst, arith}
+use Rattle.std.proofs.Common.{◌≡◌, ◌+◌, ◌∙◌, ◌*◌, ◌%◌, ap, arith}
 use Rattle.std.specs.FinMap as map
 use Rattle.cxl_media.specs.Blocks.{Key, Blocks, key_of, block_at, frames_needed, overwritten}
 use Rattle.cxl_media.specs.MediaState.{MediaState}

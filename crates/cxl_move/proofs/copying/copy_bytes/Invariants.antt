@@ -1,4 +1,4 @@
-use Rattle.std.proofs.Common.{◌≡◌, ◌+◌, ◌<◌, take, None}
+use Rattle.std.proofs.Common.{◌≡◌, ◌+◌, take}
 use Rattle.cxl_media.specs.MediaState.{frame_count}
 use Rattle.cxl_move.proofs.CarryingOn.{AreCarried}
 use Rattle.cxl_move.proofs.copying.copy_bytes.Given as goal

@@ -2,7 +2,7 @@ use Rattle.std.proofs.Common.{◌∷◌}
 use Rattle.std.specs.FinMap as map
 use Rattle.cxl_model.specs.Contents.{Holding}
 use Rattle.cxl_move.specs.Holdings.{told_in}
-use Rattle.cxl_move.proofs.Told.{PieceLaws, HoldingLaws, told_from_media, media_from_told, own_region, regions_with}
+use Rattle.cxl_move.proofs.Told.{PieceLaws, HoldingLaws, told_from_media, media_from_told, regions_with}
 use Rattle.cxl_move.proofs.Changed.{put_told}
 use Rattle.cxl_move.proofs.holdings.put_pieces_are_contents.Goals as goal
 

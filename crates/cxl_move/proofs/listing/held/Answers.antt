@@ -1,6 +1,6 @@
-use Rattle.std.proofs.Common.{◌≡◌, ℕ, ◌+◌, ◌≤◌, List, Option, length, sym, ap, subst, ◌∙◌, arith}
+use Rattle.std.proofs.Common.{◌+◌, List, Option, sym, ap, subst, ◌∙◌, arith}
 use Rattle.cxl_window.specs.Fields.{WindowFields}
-use Rattle.cxl_media.specs.Blocks.{Key, Blocks}
+use Rattle.cxl_media.specs.Blocks.{Key}
 use Rattle.cxl_model.specs.declared.found.Found.{Found}
 use Rattle.cxl_move.proofs.HeldPieces.{OneToOne, AreListed, listed_first, listed_none, listed_more, held_all}
 use Rattle.cxl_move.proofs.listing.held.Goals as goal

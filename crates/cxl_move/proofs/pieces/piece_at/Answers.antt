@@ -1,4 +1,4 @@
-use Rattle.std.proofs.Common.{◌≡◌, ℕ, ◌+◌, ◌-◌, ◌*◌, ◌/◌, ◌%◌, ◌≤◌, ◌∙◌, sym, ap, subst, arith}
+use Rattle.std.proofs.Common.{◌≡◌, ℕ, ◌+◌, ◌-◌, ◌*◌, ◌/◌, ◌%◌, ◌≤◌, ◌∙◌, sym, subst, arith}
 use Rattle.cxl_enc.specs.Limits.{address_limit}
 use Rattle.cxl_num.specs.Interleave.{chunk_size}
 use Rattle.cxl_window.specs.Fields.{WindowFields}

@@ -1,5 +1,3 @@
-use Rattle.cxl_window.specs.Fields.{WindowFields}
-use Rattle.cxl_model.specs.declared.found.Found.{Found}
 use Rattle.cxl_move.proofs.PieceLaws.{CarryLaws, piece_each, piece_within, piece_one, piece_apart, piece_onto}
 use Rattle.cxl_move.proofs.pieces.pieces_are_carried_to_blocks.Goals as goal
 

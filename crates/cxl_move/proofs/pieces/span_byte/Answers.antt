@@ -1,8 +1,7 @@
-use Rattle.std.proofs.Common.{◌≡◌, ℕ, ◌+◌, ◌-◌, ◌*◌, ◌<◌, ◌≤◌, ◌^◌, List, length, get_or, Some, sym, ap, subst, ◌∙◌, arith}
+use Rattle.std.proofs.Common.{◌≡◌, ℕ, ◌-◌, ◌*◌, List, get_or, subst, arith}
 use Rattle.cxl_window.specs.Fields.{WindowFields}
 use Rattle.cxl_model.specs.declared.found.Found.{Found}
 use Rattle.cxl_model.specs.declared.found.Place.{Place}
-use Rattle.cxl_model.specs.Bytes.{slot_length}
 use Rattle.cxl_move.specs.inner.Steps.{IsSpanByte}
 use Rattle.cxl_move.proofs.Dealt.{slot_within, lies_there, byte_there}
 use Rattle.cxl_move.proofs.pieces.span_byte.Goals as goal

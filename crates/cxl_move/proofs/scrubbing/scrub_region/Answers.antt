@@ -1,12 +1,10 @@
-use Rattle.std.proofs.Common.{◌≡◌, ℕ, ◌+◌, ◌*◌, ◌%◌, ◌<◌, ◌≤◌, List, length, get_or, Some, sym, ap, subst, ◌∙◌, arith}
+use Rattle.std.proofs.Common.{◌≡◌, ℕ, ◌+◌, ◌%◌, ◌<◌, List, length, get_or, Some, sym, ap, subst, ◌∙◌, arith}
 use Rattle.std.specs.Prelude.{slice_get}
 use Rattle.std.proofs.lemmas.Option.{slice_get-get_or}
 use Rattle.cxl_window.specs.Fields.{WindowFields}
-use Rattle.cxl_media.specs.Blocks.{Blocks}
 use Rattle.cxl_model.specs.declared.found.Found.{Found}
 use Rattle.cxl_model.specs.declared.found.Place.{Place}
 use Rattle.cxl_model.specs.System.{System}
-use Rattle.cxl_model.specs.Bytes.{slot_length}
 use Rattle.cxl_move.proofs.PieceLaws.{CarryLaws}
 use Rattle.cxl_move.proofs.Aligned.{start_aligned, end_aligned}
 use Rattle.cxl_move.proofs.Clearing.{scrubbed_more, cleared_all}
