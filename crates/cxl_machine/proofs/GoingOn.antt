@@ -1,36 +1,33 @@
--- A script goes on: one more line behind others.
-use Rattle.std.proofs.Common.{◌≡◌, ℕ, ◌+◌, List, [], ◌∷◌, ◌++◌, Option, Some, None, Result, Ok, Err, refl, sym, ap, ◌∙◌, subst, append_assoc, arith}
+-- A script goes on: turns behind others, and lines behind others.
+use Rattle.std.proofs.Common.{◌≡◌, ℕ, List, [], ◌∷◌, ◌++◌, Option, Some, None, Result, Ok, Err, refl, ap, ◌∙◌}
 use Rattle.cxl_script.specs.declared.command.Command.{Command}
 use Rattle.cxl_script.specs.declared.fault.BadLine.{BadLine}
 use Rattle.cxl_script.specs.Grammar.{asked_in}
 use Rattle.cxl_machine.specs.Machine.{Machine}
-use Rattle.cxl_machine.specs.Scripts.{Asked, asked_before, lines_asked, Course, no_course, Turn, TakesTurn, course_from, course_then, Runs}
+use Rattle.cxl_machine.specs.Scripts.{Asked, asked_before, lines_asked, Turn, TakesTurn}
+use Rattle.cxl_machine.specs.Turns.{AreTurns, machine_after}
 
-nil_right : {A : Type 0} (xs : List A) → xs ++ [] ≡ xs
-nil_right [] = refl
-nil_right (x ∷ xs) = ap (λ (ys : List _). x ∷ ys) (nil_right xs)
+-- ---- turns
 
--- a turn behind none is one in front of none
-alone : (m : Machine) (turn : Turn) → course_then (no_course m) turn ≡ course_from turn (no_course turn.machine)
-alone m turn =
-    let faults : 0 + turn.faults ≡ turn.faults + 0 = omega arith in
-    let trail : [] ++ turn.trail ≡ turn.trail ++ [] = sym (nil_right turn.trail) in
-    λ i. record { machine = turn.machine; replies = turn.reply ∷ []; faults = faults i; trail = trail i }
+pub one_more : (m : Machine) (asked : List Asked) (turns : List Turn) (one : Asked) (turn : Turn) → AreTurns m asked turns → TakesTurn (machine_after m turns) one turn
+    → AreTurns m (asked ++ one ∷ []) (turns ++ turn ∷ [])
+one_more m [] [] one turn are takes = (takes, tt)
+one_more m [] (first ∷ turns) one turn are takes = absurd are
+one_more m (head ∷ asked) [] one turn are takes = absurd are
+one_more m (head ∷ asked) (first ∷ turns) one turn (took, are) takes = (took, one_more first.machine asked turns one turn are takes)
 
-between : (first last : Turn) (rest : Course) → course_then (course_from first rest) last ≡ course_from first (course_then rest last)
-between first last rest =
-    let faults : first.faults + rest.faults + last.faults ≡ first.faults + (rest.faults + last.faults) = omega arith in
-    let trail : (first.trail ++ rest.trail) ++ last.trail ≡ first.trail ++ (rest.trail ++ last.trail) = append_assoc first.trail rest.trail last.trail in
-    λ i. record { machine = last.machine; replies = first.reply ∷ (rest.replies ++ last.reply ∷ []); faults = faults i; trail = trail i }
+-- turns over a list and more are turns over the list, and go on from the machine after these
+pub parted : (m : Machine) (asked more : List Asked) (turns : List Turn) → AreTurns m (asked ++ more) turns
+    → (first : List Turn) × (rest : List Turn) × (turns ≡ first ++ rest) × AreTurns m asked first × AreTurns (machine_after m first) more rest
+parted m [] more turns are = ([], turns, refl, tt, are)
+parted m (head ∷ asked) more [] are = absurd are
+parted m (head ∷ asked) more (turn ∷ turns) (took, are) =
+    let own = parted turn.machine asked more turns are in
+    (turn ∷ own.0, own.1, ap (λ (ts : List Turn). turn ∷ ts) own.2, (took, own.3), own.4)
 
-pub one_more : (m : Machine) (asked : List Asked) (course : Course) (one : Asked) (turn : Turn) → Runs m asked course → TakesTurn course.machine one turn
-    → Runs m (asked ++ one ∷ []) (course_then course turn)
-one_more m [] course one turn is takes =
-    let own : TakesTurn m one turn = subst (λ (c : Course). TakesTurn c.machine one turn) is takes in
-    (turn, no_course turn.machine, own, refl, ap (λ (c : Course). course_then c turn) is ∙ alone m turn)
-one_more m (first ∷ asked) course one turn (head, rest, taken, runs, is) takes =
-    let own : TakesTurn rest.machine one turn = subst (λ (c : Course). TakesTurn c.machine one turn) is takes in
-    (head, course_then rest turn, taken, one_more head.machine asked rest one turn runs own, ap (λ (c : Course). course_then c turn) is ∙ between head turn rest)
+pub after_both : (m : Machine) (turns others : List Turn) → machine_after m (turns ++ others) ≡ machine_after (machine_after m turns) others
+after_both m [] others = refl
+after_both m (turn ∷ turns) others = after_both turn.machine turns others
 
 -- ---- lines
 

@@ -1,5 +1,5 @@
 -- Each command leaves a machine that a session can stand for.
-use Rattle.std.proofs.Common.{◌≡◌, ◌≢◌, ℕ, ◌<◌, Bool, true, false, if◌then◌else◌, List, [], ◌∷◌, length, Result, Ok, Err, Option, Some, None, refl, sym, ◌∙◌, subst, inl, inr}
+use Rattle.std.proofs.Common.{◌≡◌, ◌≢◌, ℕ, ◌<◌, Bool, true, false, if◌then◌else◌, List, [], ◌∷◌, length, Result, Ok, Err, Option, Some, None, refl, sym, ap, ◌∙◌, subst, inl, inr}
 use Rattle.std.specs.Prelude.{All, nat_le, find}
 use Rattle.std.specs.Str.{bytes_eq}
 use Rattle.std.proofs.lemmas.Bool.{cases_Bool, cond-true, cond-false, false≢true, leb-false}
@@ -21,7 +21,7 @@ use Rattle.cxl_machine.specs.Requests.{busy, name_taken, no_endpoint, regions_fu
 use Rattle.cxl_machine.specs.Replies.{Answer}
 use Rattle.cxl_machine.specs.Regions.{AnswersWhole, begin_answer}
 use Rattle.cxl_machine.specs.Answers.{Answers}
-use Rattle.cxl_machine.specs.Creating.{AsksLegally, CreatesLegally}
+use Rattle.cxl_machine.specs.Creating.{AsksLegally}
 use Rattle.cxl_machine.specs.Sound.{IsMachine}
 use Rattle.cxl_machine.proofs.KeepingSteps.{at_done_keeps, step_keeps, abort_keeps}
 use Rattle.cxl_machine.proofs.KeepingBegun.{none_of_map, none_there, idle}
@@ -32,8 +32,13 @@ pub record PartLaws : Type 0 where
   pub undoes : (m : Machine) (job : RegionJob) → IsMachine m → m.job ≡ Some job → IsMachine (undone job m)
   pub finishes : (m : Machine) (job : RegionJob) → IsMachine m → m.job ≡ Some job → IsMachine (finished job m)
   pub releases : (m : Machine) (name : List ℕ) (job : RegionJob) → IsMachine m → asked_release m name ≡ Ok job → IsMachine (begun job m)
-  pub creates : (m : Machine) (request : Request) (plan : Plan) → IsMachine m → m.job ≡ None → IsLegalPlan m.settled request plan → All (λ (region : Live). region.name ≢ plan.name) m.live
-      → length m.live < region_limit → IsMachine (begun (create_job m.settled plan) m)
+  pub creates : (m : Machine) (create : Create) (job : RegionJob) → IsMachine m → AsksCreate m create (Ok job) → IsMachine (begun job m)
+
+-- a create of a legal plan begins
+abbrev pub BeginsLaw : Type 0
+BeginsLaw =
+    (m : Machine) (request : Request) (plan : Plan) → IsMachine m → m.job ≡ None → IsLegalPlan m.settled request plan → All (λ (region : Live). region.name ≢ plan.name) m.live
+    → length m.live < region_limit → IsMachine (begun (create_job m.settled plan) m)
 
 -- ---- a create that is not refused
 
@@ -74,15 +79,24 @@ by_refusal m create job (Some refusal) some asks = absurd (differ asks)
     differ e = cc
 by_refusal m create job None none asks = unrefused m create none
 
-module _ (laws : PartLaws) (m : Machine) (is : IsMachine m) where
-  create_keeps : (create : Create) → AsksLegally m create → (job : RegionJob) → AsksCreate m create (Ok job) → IsMachine (begun job m)
-  create_keeps create legally job asks =
+module _ (m : Machine) (create : Create) (job : RegionJob) (asks : AsksCreate m create (Ok job)) where
+  free : Unrefused m create
+  free = by_refusal m create job (refusal_of_create m create) refl asks
+
+  pub asked_idle : m.job ≡ None
+  asked_idle = free.idle
+
+  pub asked_fresh : AsksLegally m create → job.done ≡ 0
+  asked_fresh legally = ap (λ (j : RegionJob). j.done) (legally job asks).made
+
+  pub create_begins : BeginsLaw → IsMachine m → AsksLegally m create → IsMachine (begun job m)
+  create_begins law is legally =
       let own = legally job asks in
-      let free = by_refusal m create job (refusal_of_create m create) refl asks in
       let name : create.name ≡ own.plan.name = sym own.named ∙ sym own.legal.1.named in
       subst (λ (j : RegionJob). IsMachine (begun j m)) (sym own.made)
-      (laws.creates m own.request own.plan is free.idle own.legal (subst (λ (n : List ℕ). All (λ (region : Live). region.name ≢ n) m.live) name free.unnamed) free.room)
+      (law m own.request own.plan is free.idle own.legal (subst (λ (n : List ℕ). All (λ (region : Live). region.name ≢ n) m.live) name free.unnamed) free.room)
 
+module _ (laws : PartLaws) (m : Machine) (is : IsMachine m) where
   -- ---- whole jobs
 
   given : (answer other : Answer) → answer ≡ other → IsMachine other.machine → IsMachine answer.machine
@@ -108,22 +122,22 @@ module _ (laws : PartLaws) (m : Machine) (is : IsMachine m) where
   undoes : (after : Machine) (job : RegionJob) → m.job ≡ Some job → after ≡ undone job m → IsMachine after
   undoes after job pending same = subst IsMachine (sym same) (laws.undoes m job is pending)
 
-  pub command_keeps : (command : Command) (outcome : BusOutcome) (answer : Answer) → StoresBytes command → CreatesLegally m command → Answers m command outcome answer → IsMachine answer.machine
-  command_keeps (commands.Create create) outcome answer stores legally at =
-      whole_keeps at.0 outcome answer (λ job same. create_keeps create legally job (subst (AsksCreate m create) same at.1)) at.2
-  command_keeps (commands.Destroy name) outcome answer stores legally at = whole_keeps (asked_release m name) outcome answer (release_begins name) at
-  command_keeps (commands.BeginCreate create) outcome answer stores legally at =
-      given answer _ at.2.told (begin_keeps at.0 (λ job same. create_keeps create legally job (subst (AsksCreate m create) same at.1)))
-  command_keeps (commands.BeginDestroy name) outcome answer stores legally at = given answer _ at.told (begin_keeps (asked_release m name) (release_begins name))
-  command_keeps (commands.Step steps) outcome answer stores legally at = step_keeps m is answer (finishes answer.machine) (undoes answer.machine) steps outcome at
-  command_keeps commands.Abort outcome answer stores legally at = abort_keeps m is answer (finishes answer.machine) (undoes answer.machine) outcome at
-  command_keeps (commands.Show name) outcome answer stores legally at = laws.accesses m (commands.Show name) outcome answer is refl stores at
-  command_keeps (commands.Down h) outcome answer stores legally at = laws.accesses m (commands.Down h) outcome answer is refl stores at
-  command_keeps (commands.Up asked) outcome answer stores legally at = laws.accesses m (commands.Up asked) outcome answer is refl stores at
-  command_keeps (commands.Load load) outcome answer stores legally at = laws.accesses m (commands.Load load) outcome answer is refl stores at
-  command_keeps (commands.Store store) outcome answer stores legally at = laws.accesses m (commands.Store store) outcome answer is refl stores at
-  command_keeps (commands.Poison asked) outcome answer stores legally at = laws.accesses m (commands.Poison asked) outcome answer is refl stores at
-  command_keeps (commands.Range reach) outcome answer stores legally at = laws.accesses m (commands.Range reach) outcome answer is refl stores at
-  command_keeps (commands.Spread reach) outcome answer stores legally at = laws.accesses m (commands.Spread reach) outcome answer is refl stores at
-  command_keeps (commands.Copy pair) outcome answer stores legally at = laws.accesses m (commands.Copy pair) outcome answer is refl stores at
-  command_keeps (commands.Move pair) outcome answer stores legally at = laws.accesses m (commands.Move pair) outcome answer is refl stores at
+  pub command_keeps : (command : Command) (outcome : BusOutcome) (answer : Answer) → StoresBytes command → Answers m command outcome answer → IsMachine answer.machine
+  command_keeps (commands.Create create) outcome answer stores at =
+      whole_keeps at.0 outcome answer (λ job same. laws.creates m create job is (subst (AsksCreate m create) same at.1)) at.2
+  command_keeps (commands.Destroy name) outcome answer stores at = whole_keeps (asked_release m name) outcome answer (release_begins name) at
+  command_keeps (commands.BeginCreate create) outcome answer stores at =
+      given answer _ at.2.told (begin_keeps at.0 (λ job same. laws.creates m create job is (subst (AsksCreate m create) same at.1)))
+  command_keeps (commands.BeginDestroy name) outcome answer stores at = given answer _ at.told (begin_keeps (asked_release m name) (release_begins name))
+  command_keeps (commands.Step steps) outcome answer stores at = step_keeps m is answer (finishes answer.machine) (undoes answer.machine) steps outcome at
+  command_keeps commands.Abort outcome answer stores at = abort_keeps m is answer (finishes answer.machine) (undoes answer.machine) outcome at
+  command_keeps (commands.Show name) outcome answer stores at = laws.accesses m (commands.Show name) outcome answer is refl stores at
+  command_keeps (commands.Down h) outcome answer stores at = laws.accesses m (commands.Down h) outcome answer is refl stores at
+  command_keeps (commands.Up asked) outcome answer stores at = laws.accesses m (commands.Up asked) outcome answer is refl stores at
+  command_keeps (commands.Load load) outcome answer stores at = laws.accesses m (commands.Load load) outcome answer is refl stores at
+  command_keeps (commands.Store store) outcome answer stores at = laws.accesses m (commands.Store store) outcome answer is refl stores at
+  command_keeps (commands.Poison asked) outcome answer stores at = laws.accesses m (commands.Poison asked) outcome answer is refl stores at
+  command_keeps (commands.Range reach) outcome answer stores at = laws.accesses m (commands.Range reach) outcome answer is refl stores at
+  command_keeps (commands.Spread reach) outcome answer stores at = laws.accesses m (commands.Spread reach) outcome answer is refl stores at
+  command_keeps (commands.Copy pair) outcome answer stores at = laws.accesses m (commands.Copy pair) outcome answer is refl stores at
+  command_keeps (commands.Move pair) outcome answer stores at = laws.accesses m (commands.Move pair) outcome answer is refl stores at

@@ -1,5 +1,5 @@
 -- A machine stays one where its job is undone, and where it is finished.
-use Rattle.std.proofs.Common.{◌≡◌, ◌≢◌, ◌⊎◌, ◌+◌, ◌<◌, true, List, [], ◌∷◌, ◌++◌, length, Option, Some, None, refl, sym, ◌∙◌, subst}
+use Rattle.std.proofs.Common.{◌≡◌, ◌≢◌, ◌⊎◌, ◌<◌, true, List, [], ◌∷◌, ◌++◌, length, Option, Some, None, refl, sym, ◌∙◌, subst}
 use Rattle.std.specs.Prelude.{All, IfSome, insert}
 use Rattle.std.proofs.lemmas.Bool.{false≢true}
 use Rattle.std.proofs.lemmas.List.Sorted.{IsPermutation-refl}
@@ -26,7 +26,7 @@ use Rattle.cxl_machine.proofs.KeepingRegions.{OneLaw, IsWith, IsWithout, kept_ag
 pub job_of : (m : Machine) (job : RegionJob) → IsMachine m → m.job ≡ Some job → IsJob m job
 job_of m job is pending = subst (λ (o : Option RegionJob). IfSome o (IsJob m)) pending is.job
 
-kept_of : (m : Machine) (job : RegionJob) → IsMachine m → m.job ≡ Some job → AreKept m (m.live ++ region_released job job.kind)
+pub kept_of : (m : Machine) (job : RegionJob) → IsMachine m → m.job ≡ Some job → AreKept m (m.live ++ region_released job job.kind)
 kept_of m job is pending = subst (λ (o : Option RegionJob). AreKept m (m.live ++ under_release o)) pending is.regions
 
 -- ---- undone
@@ -47,7 +47,7 @@ undone_keeps m job is pending = record {
 
 -- ---- finished
 
-abbrev Decode : List Registers → Type 0
+abbrev pub Decode : List Registers → Type 0
 Decode blocks = All (λ (block : Registers). block.enabled ≡ true) blocks
 
 -- what is known of the images that whole jobs leave
@@ -87,6 +87,7 @@ module _ (laws : ImageLaws) (m : Machine) (is : IsMachine m) where
       system = laws.planned_system m.settled request plan is.settled.system legal;
       accepted = legal.1.accepted;
       enabled = laws.planned_enabled m.settled plan.rows is.settled.enabled;
+      ports = is.settled.ports;
     };
     regions = kept_beside (made_of m plan) (m.live ++ planned_region plan ∷ [])
         (kept_with m (made_of m plan) m.live (planned_region plan) (made_with request plan legal) unnamed (no_contents plan.found) room (kept_alone m m.live kept));
@@ -108,6 +109,7 @@ module _ (laws : ImageLaws) (m : Machine) (is : IsMachine m) where
       system = laws.released_system m.settled region.found is.settled.system;
       accepted = laws.released_accepted m.settled region.found is.settled.system is.settled.accepted unlocked last;
       enabled = laws.released_enabled m.settled region.found is.settled.enabled;
+      ports = is.settled.ports;
     };
     regions = kept_beside (without m region.found) m.live
         (kept_without laws.one m (without m region.found) m.live region is.settled.system (gone_without region.found unlocked last) kept);

@@ -28,6 +28,7 @@ use Rattle.cxl_model.specs.Listed.{AreRegions}
 use Rattle.cxl_model.specs.Ranges.{IsCommittedRange}
 use Rattle.cxl_model.specs.Regions.{region_range, IsRegionIn}
 use Rattle.cxl_model.specs.System.{System, IsSystem, decoders_at, ram_at, pmem_at}
+use Rattle.cxl_legal.specs.Used.{HasBytePorts}
 use Rattle.cxl_machine.specs.Machine.{Live, Machine, region_limit}
 use Rattle.cxl_machine.specs.Sound.{IsMachine, Opens, auto_name, opened_region, enabled_system}
 use Rattle.cxl_machine.proofs.KeepingBytes.{HoldsOwn}
@@ -174,13 +175,14 @@ own_names regions few i j d less within same =
     let long = length_opened regions in
     names_differ i j less (omega arith) (sym (opened_name regions i d (omega arith)) ∙ same ∙ opened_name regions j d (omega arith))
 
-pub opens_machine : OpenLaws → (start : System) (frames : ℕ) (m : Machine) → IsSystem start → 1 ≤ frames → frames ≤ frame_limit → Opens start frames m → IsMachine m
-opens_machine laws start frames m system some few opens =
+pub opens_machine : OpenLaws → (start : System) (frames : ℕ) (m : Machine) → IsSystem start → HasBytePorts start.nodes → 1 ≤ frames → frames ≤ frame_limit → Opens start frames m → IsMachine m
+opens_machine laws start frames m system ports some few opens =
     subst IsMachine (sym opens.machine) (record {
       settled = record {
         system = still_system laws start system opens.accepted;
         accepted = still_accepted laws start system opens.accepted;
         enabled = All-map (λ (block : Registers). block.enabled ≡ true) decoding start.blocks (λ k d within. refl);
+        ports = ports;
       };
       regions = kept_beside n (opened opens.regions) (record {
         all = subst (AreRegions n.settled) (sym (opened_founds 0 opens.regions)) (still_regions laws start system opens.accepted opens.regions opens.listed.listed);

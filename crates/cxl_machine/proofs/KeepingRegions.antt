@@ -48,22 +48,24 @@ pub record IsWithout (s t : System) (found : Found) : Type 0 where
   pub region : (w : WindowFields) (other : Found) → region_range other ≢ region_range found → IsRegionIn s w other → IsRegionIn t w other
   pub ranges : (r : Range) → IsCommittedRange t r → (r ≢ region_range found) × IsCommittedRange s r
 
+last_is : (s : System) (fs : List Found) (found : Found) → AreRegions s (fs ++ found ∷ []) → IsRegion s found
+last_is s fs found are = subst (IsRegion s) (get_or_push fs found found (length fs) refl) (are.each (length fs) found (omega (arith, length-append fs (found ∷ []))))
+
+-- a region before the last has another range
+pub last_apart : OneLaw → (s : System) (fs : List Found) (found : Found) → IsSystem s → AreRegions s (fs ++ found ∷ []) → (k : ℕ) (d : Found) → k < length fs → region_range (get_or fs k d) ≢ region_range found
+last_apart one s fs found system are k d within same =
+    let own : IsRegion s (get_or fs k d) = all_front (IsRegion s) fs (found ∷ []) are.each k d within in
+    let last : IsRegion s found = last_is s fs found are in
+    are.once k (length fs) d within (omega (arith, length-append fs (found ∷ [])))
+    (get_or_append_left fs (found ∷ []) d k within ∙ one s own.0 last.0 (get_or fs k d) found system own.1 last.1 same ∙ sym (get_or_push fs found d (length fs) refl))
+
 regions_without : OneLaw → (s t : System) (fs : List Found) (found : Found) → IsSystem s → IsWithout s t found → AreRegions s (fs ++ found ∷ []) → AreRegions t fs
 regions_without one s t fs found system after are = record { each = each; all = all; once = pairs_front (λ (a b : Found). a ≢ b) fs (found ∷ []) are.once }
   where
-    last : IsRegion s found
-    last = subst (IsRegion s) (get_or_push fs found found (length fs) refl) (are.each (length fs) found (omega (arith, length-append fs (found ∷ []))))
-
-    -- a region before the last has another range
-    apart : (k : ℕ) (d : Found) → k < length fs → (w : WindowFields) → IsRegionIn s w (get_or fs k d) → region_range (get_or fs k d) ≢ region_range found
-    apart k d within w region same =
-        are.once k (length fs) d within (omega (arith, length-append fs (found ∷ [])))
-        (get_or_append_left fs (found ∷ []) d k within ∙ one s w last.0 (get_or fs k d) found system region last.1 same ∙ sym (get_or_push fs found d (length fs) refl))
-
     each : All (IsRegion t) fs
     each k d within =
         let own : IsRegion s (get_or fs k d) = all_front (IsRegion s) fs (found ∷ []) are.each k d within in
-        (own.0, after.region own.0 (get_or fs k d) (apart k d within own.0 own.1) own.1)
+        (own.0, after.region own.0 (get_or fs k d) (last_apart one s fs found system are k d within) own.1)
 
     all : (r : Range) → IsCommittedRange t r → (other : Found) × Contains fs other × (region_range other ≡ r)
     all r committed =

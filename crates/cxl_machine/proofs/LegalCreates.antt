@@ -1,6 +1,6 @@
 -- The plans on which the creates of a machine rest are legal.
-use Rattle.std.proofs.Common.{◌≡◌, ℕ, ◌<◌, Bool, true, false, List, [], ◌∷◌, length, get_or, Result, Ok, Err, Option, Some, None, refl, sym, ◌∙◌, subst, ap}
-use Rattle.std.specs.Prelude.{All, ◌&&◌, position, slice_get}
+use Rattle.std.proofs.Common.{◌≡◌, ℕ, ◌<◌, true, false, List, [], ◌∷◌, length, get_or, Result, Ok, Err, Option, Some, None, refl, sym, ◌∙◌, subst, ap}
+use Rattle.std.specs.Prelude.{All, ◌&&◌}
 use Rattle.std.specs.List.{filter_map, cons_option}
 use Rattle.std.specs.Option.{option_map_or}
 use Rattle.std.proofs.lemmas.Bool.{and_parts}
@@ -28,7 +28,7 @@ use Rattle.cxl_pick.specs.Picked.{picked}
 use Rattle.cxl_reply.specs.declared.reply.Reply.{Reply}
 use Rattle.cxl_machine.specs.Machine.{RegionJob, Machine}
 use Rattle.cxl_machine.specs.Jobs.{create_job}
-use Rattle.cxl_machine.specs.Requests.{AsksCreate, AsksUnless, AsksUnrefused, AsksPlan, AsksPlanOver, job_of_plan, pick_reply, refusal_of_create, request_for, request_of, want_of}
+use Rattle.cxl_machine.specs.Requests.{AsksUnless, AsksUnrefused, AsksPlanOver, job_of_plan, pick_reply, refusal_of_create, request_for, request_of, want_of}
 use Rattle.cxl_machine.specs.Replies.{endpoint_named}
 use Rattle.cxl_machine.specs.Creating.{IsLegalJob, AsksLegally, CreatesLegally}
 use Rattle.cxl_machine.specs.Sound.{IsMachine}
@@ -51,6 +51,10 @@ named_is_endpoint nodes name n node is =
     ∙ (and_parts (is_endpoint (get_or nodes n node).kind) (is_named name (get_or nodes n node)) at.1).0
 
 -- a list of nodes that has a position has a node
+pub named_inside : (nodes : List Node) (name : List ℕ) (n : ℕ) → endpoint_named nodes name ≡ Some n → n < length nodes
+named_inside [] name n is = absurd (none-some n is)
+named_inside (node ∷ nodes) name n is = (position-Some (λ (node : Node). is_endpoint node.kind && is_named name node) (node ∷ nodes) n node is).0
+
 some_named : (nodes : List Node) (name : List ℕ) (n : ℕ) → endpoint_named nodes name ≡ Some n → is_endpoint_at nodes n ≡ true
 some_named [] name n is = absurd (none-some n is)
 some_named (node ∷ nodes) name n is = named_is_endpoint (node ∷ nodes) name n node is
@@ -61,18 +65,18 @@ onto_named nodes name rest (Some n) e all =
     subst (λ (o : Option ℕ). All (λ m. is_endpoint_at nodes m ≡ true) (cons_option o rest)) (sym e)
     (All-cons (λ m. is_endpoint_at nodes m ≡ true) n rest (some_named nodes name n e) all)
 
-all_named : (nodes : List Node) (names : List (List ℕ)) → All (λ m. is_endpoint_at nodes m ≡ true) (filter_map (endpoint_named nodes) names)
+pub all_named : (nodes : List Node) (names : List (List ℕ)) → All (λ m. is_endpoint_at nodes m ≡ true) (filter_map (endpoint_named nodes) names)
 all_named nodes [] = All-nil (λ m. is_endpoint_at nodes m ≡ true)
 all_named nodes (name ∷ names) = onto_named nodes name (filter_map (endpoint_named nodes) names) (endpoint_named nodes name) refl (all_named nodes names)
 
 -- ---- a create that is not refused
 
-module _ (laws : AnswersLaw) (m : Machine) (is : IsMachine m) (ports : HasBytePorts m.settled.nodes) where
+module _ (laws : AnswersLaw) (m : Machine) (is : IsMachine m) where
   of_plan : (create : Create) (request : Request) (job : RegionJob) → request.name ≡ create.name → AreEndpoints m.settled request → (answer : Result Plan PlanFault) → answer ≡ planned m.settled request → Ok job ≡ job_of_plan m answer → IsLegalJob m create job
   of_plan create request job named endpoints (Ok plan) is_planned asked_for = record {
     request = request;
     plan = plan;
-    legal = laws.plans m.settled request plan is.settled.system ports is.settled.accepted endpoints (sym is_planned);
+    legal = laws.plans m.settled request plan is.settled.system is.settled.ports is.settled.accepted endpoints (sym is_planned);
     named = named;
     made = same_job job (create_job m.settled plan) asked_for;
   }
@@ -83,7 +87,7 @@ module _ (laws : AnswersLaw) (m : Machine) (is : IsMachine m) (ports : HasBytePo
 
   of_pick : (create : Create) (ways : ℕ) (job : RegionJob) (answer : Result (List ℕ) PickFault) → answer ≡ picked m.settled (want_of create ways) → AsksPlanOver m create answer (Ok job) → IsLegalJob m create job
   of_pick create ways job (Ok set) is_picked asks =
-      of_plan create (request_for create set) job refl (laws.picks m.settled (want_of create ways) set is.settled.system ports (sym is_picked)) asks.0 asks.1 asks.2
+      of_plan create (request_for create set) job refl (laws.picks m.settled (want_of create ways) set is.settled.system is.settled.ports (sym is_picked)) asks.0 asks.1 asks.2
   of_pick create ways job (Err fault) is_picked asks = absurd (differ asks)
     where
       differ : ◌≡◌ {A = Result RegionJob Reply} (Ok job) (Err (pick_reply fault)) → ⊥

@@ -22,3 +22,6 @@ pub mod KeepingBegun
 pub mod KeepingOpened
 pub mod KeepingCommands
 pub mod LegalCreates
+pub mod SameHost
+pub mod WordsSent
+pub mod PendingJobs

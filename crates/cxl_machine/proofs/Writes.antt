@@ -8,6 +8,7 @@ use Rattle.std.proofs.lemmas.List.Sorted.{Contains-permutation, IsPermutation-sy
 use mathlib.Core.List.{reverse-reverse}
 use Rattle.std.proofs.lemmas.Option.{none-some, same_Some}
 use Rattle.cxl_regs.specs.declared.decoder.Decoder.{Decoder}
+use Rattle.cxl_model.specs.declared.found.Found.{Found}
 use Rattle.cxl_model.specs.declared.plan.Row.{Row}
 use Rattle.cxl_model.specs.System.{System, decoder_at}
 use Rattle.cxl_regs.specs.declared.reading.Range.{Range}
@@ -103,23 +104,31 @@ one_order xs ys left right there back =
 
 -- ---- the writes of a create
 
-back_up : (falling : List Row) → AllPairs (λ (row next : Row). next.node < row.node) falling → AllPairs (λ (row next : Row). row.node < next.node) (reverse falling)
-back_up falling falls i j d before within =
-    let long : length (reverse falling) ≡ length falling = length-reverse falling in
-    rw (get_or-reverse falling i d (omega arith), get_or-reverse falling j d (omega arith))
-    (falls (length falling - 1 - j) (length falling - 1 - i) d (omega arith) (omega arith))
-
 in_reverse : (rows : List Row) (row : Row) → Contains rows row → Contains (reverse rows) row
 in_reverse rows row there = Contains-permutation rows (reverse rows) row (IsPermutation-reverse rows) there
 
 out_of_reverse : (rows : List Row) (row : Row) → Contains (reverse rows) row → Contains rows row
 out_of_reverse rows row there = Contains-permutation (reverse rows) rows row (IsPermutation-sym rows (reverse rows) (IsPermutation-reverse rows)) there
 
+-- a list read from its end
+read_back : {X : Type 0} (R : X → X → Type 0) (xs : List X) → AllPairs R xs → AllPairs (λ x y. R y x) (reverse xs)
+read_back R xs pairs i j d before within =
+    let long : length (reverse xs) ≡ length xs = length-reverse xs in
+    rw (get_or-reverse xs i d (omega arith), get_or-reverse xs j d (omega arith))
+    (pairs (length xs - 1 - j) (length xs - 1 - i) d (omega arith) (omega arith))
+
+pub create_is : (s : System) (rows : List Row) → AllPairs (λ (row next : Row). row.node < next.node) rows → AreCreateWrites s.blocks rows (create_writes s rows)
+create_is s rows rising = record {
+  falling = reverse rows;
+  order = record { order = read_back (λ (row next : Row). row.node < next.node) rows rising; same = λ row. (in_reverse rows row, out_of_reverse rows row) };
+  each = refl;
+}
+
 pub one_create : (s : System) (rows : List Row) (writes : List Write) → AllPairs (λ (row next : Row). row.node < next.node) rows → AreCreateWrites s.blocks rows writes
     → writes ≡ create_writes s rows
 one_create s rows writes rising are =
     let same : rows ≡ reverse are.falling =
-    one_order rows (reverse are.falling) rising (back_up are.falling are.order.order)
+    one_order rows (reverse are.falling) rising (read_back (λ (row next : Row). next.node < row.node) are.falling are.order.order)
     (λ row there. in_reverse are.falling row ((are.order.same row).0 there))
     (λ row there. (are.order.same row).1 (out_of_reverse are.falling row there)) in
     let back : are.falling ≡ reverse rows = sym (reverse-reverse are.falling) ∙ ap (λ (rs : List Row). reverse rs) (sym same) in
@@ -142,7 +151,7 @@ rises_found : (f : ℕ → Option Row) → ((n : ℕ) (row : Row) → f n ≡ So
 rises_found f at low zero = tt
 rises_found f at low (suc n) = rises_with low (f low) _ (at low) (rises_found f at (low + 1) n)
 
-row_node : (s : System) (r : Range) (n : ℕ) (row : Row) → row_for s r n ≡ Some row → row.node ≡ n
+pub row_node : (s : System) (r : Range) (n : ℕ) (row : Row) → row_for s r n ≡ Some row → row.node ≡ n
 row_node s r n row is = by_index (index_for s r n) is
   where
     of_decoder : (i : ℕ) (o : Option Decoder) → option_map (λ d. record { node = n; index = i; decoder = d }) o ≡ Some row → row.node ≡ n
@@ -161,10 +170,19 @@ pairs_of low (row ∷ rows) rises zero (suc j) d before within =
     omega (arith, above)
 pairs_of low (row ∷ rows) rises (suc i) (suc j) d before within = pairs_of (row.node + 1) rows rises.1 i j d (omega (arith, before)) (omega (arith, within))
 
+rows_rise : (s : System) (found : Found) → AllPairs (λ (row next : Row). row.node < next.node) (rows_of s found)
+rows_rise s found =
+    pairs_of 0 (rows_of s found) (rises_found (row_for s (region_range found)) (row_node s (region_range found)) 0 (length s.nodes))
+
+pub release_is : (s : System) (region : Live) → AreReleaseWrites (rows_of s region.found) (release_writes s region)
+release_is s region = record {
+  rising = rows_of s region.found;
+  order = record { order = rows_rise s region.found; same = λ row. (λ there. there, λ there. there) };
+  each = refl;
+}
+
 pub one_release : (s : System) (region : Live) (writes : List Write) → AreReleaseWrites (rows_of s region.found) writes → writes ≡ release_writes s region
 one_release s region writes are =
-    let rises : AllPairs (λ (row next : Row). row.node < next.node) (rows_of s region.found) =
-    pairs_of 0 (rows_of s region.found) (rises_found (row_for s (region_range region.found)) (row_node s (region_range region.found)) 0 (length s.nodes)) in
     let same : rows_of s region.found ≡ are.rising =
-    one_order (rows_of s region.found) are.rising rises are.order.order (λ row there. (are.order.same row).0 there) (λ row there. (are.order.same row).1 there) in
+    one_order (rows_of s region.found) are.rising (rows_rise s region.found) are.order.order (λ row there. (are.order.same row).0 there) (λ row there. (are.order.same row).1 there) in
     are.each ∙ ap (λ (rs : List Row). map release_write rs) (sym same)

@@ -14,3 +14,4 @@ pub mod Creating
 pub mod Sound
 pub mod Trails
 pub mod Scripts
+pub mod Turns

@@ -1,6 +1,6 @@
 -- What a session stands for: a host whose image is settled, regions of flat bytes, frames, and the job that is pending
 -- (this project's rule).
-use Rattle.std.specs.Prelude.{ℕ, ◌+◌, ◌-◌, nat_lt, nat_le, ◌&&◌, Bool, false, if◌then◌else◌, List, [], ◌∷◌, ◌++◌, map, find, position, slice_get, sum_by, replicate, Option, Some, None, unwrap_or}
+use Rattle.std.specs.Prelude.{◌≡◌, ℕ, ◌+◌, ◌-◌, nat_lt, nat_le, ◌&&◌, Bool, false, if◌then◌else◌, List, [], ◌∷◌, ◌++◌, map, find, position, slice_get, sum_by, replicate, Option, Some, None, unwrap_or}
 use Rattle.std.specs.Str.{bytes_eq}
 use Rattle.std.specs.FinMap as map
 use Rattle.cxl_regs.specs.Registers.{Registers}
@@ -96,6 +96,14 @@ image_of m = blocks_with m.settled.blocks m.job
 
 abbrev pub present : Machine → System
 present m = record m.settled { blocks = image_of m }
+
+-- ---- hosts
+
+-- the second has the nodes, the windows and the frames of the first
+pub record HasSameHost (m n : Machine) : Type 0 where
+  pub nodes : n.settled.nodes ≡ m.settled.nodes
+  pub windows : n.settled.windows ≡ m.settled.windows
+  pub frames : n.frames ≡ m.frames
 
 -- ---- frames
 

@@ -1,6 +1,6 @@
 -- Which machines a session can stand for, what registers and media then hold, and the machine with which it opens (this
 -- project's rules).
-use Rattle.std.specs.Prelude.{◌≡◌, ◌≢◌, ℕ, ◌+◌, ◌<◌, ◌≤◌, true, List, ◌++◌, length, map, All, AllPairs, IfSome, Option, Some, None, codes, decimal}
+use Rattle.std.specs.Prelude.{◌≡◌, ◌≢◌, ℕ, ◌+◌, ◌<◌, ◌≤◌, true, List, ◌++◌, length, map, All, AllPairs, IfSome, Option, None, codes, decimal}
 use Rattle.std.specs.List.{enumerate_from}
 use Rattle.std.specs.FinMap as finmap
 use Rattle.cxl_enc.specs.Limits.{frame_limit}
@@ -14,8 +14,9 @@ use Rattle.cxl_model.specs.Accepted.{IsAccepted}
 use Rattle.cxl_model.specs.Listed.{AreRegions, AreRegionsByBase}
 use Rattle.cxl_model.specs.Plans.{IsLegalPlan}
 use Rattle.cxl_model.specs.Contents.{AreContents, AreMediaOf}
+use Rattle.cxl_legal.specs.Used.{HasBytePorts}
 use Rattle.cxl_apply.specs.Releases.{first_locked, first_not_last}
-use Rattle.cxl_machine.specs.Machine.{Live, RegionJob, JobKind, Creates, Releases, Machine, region_limit, kept_regions, pieces_held, holding_of, blocks_with}
+use Rattle.cxl_machine.specs.Machine.{Live, RegionJob, JobKind, Creates, Releases, Machine, region_limit, kept_regions, pieces_held, holding_of, image_of}
 use Rattle.cxl_machine.specs.Jobs.{create_job, release_job, total_of}
 
 -- ---- a job
@@ -61,6 +62,8 @@ pub record IsSettled (s : System) : Type 0 where
   pub system : IsSystem s
   pub accepted : IsAccepted s
   pub enabled : All (λ (block : Registers). block.enabled ≡ true) s.blocks
+  -- ports are bytes
+  pub ports : HasBytePorts s.nodes
 
 -- what a machine is by itself
 pub record IsMachine (m : Machine) : Type 0 where
@@ -76,7 +79,7 @@ block_told media endpoint block = finmap.get media.blocks (endpoint, block)
 -- the machine, and what registers and media hold for it
 pub record IsSound (m : Machine) (blocks : List Registers) (media : MediaState) : Type 0 where
   pub machine : IsMachine m
-  pub registers : blocks ≡ blocks_with m.settled.blocks m.job
+  pub registers : blocks ≡ image_of m
   pub memory : AreMediaOf (map (holding_of m.settled) (kept_regions m)) (block_told media)
   pub frames : media.free + pieces_held m ≡ m.frames
 

@@ -1,15 +1,17 @@
 -- Which words a command may write, in order (this project's rules).
 use Rattle.std.specs.Prelude.{◌≡◌, ℕ, ◌+◌, ◌<◌, ◌≤◌, min, List, [], ◌++◌, Option, Some, None, Result, Ok, Err}
 use Rattle.cxl_bus.specs.declared.sent.Sent.{Sent}
+use Rattle.cxl_bus.specs.Trail.{blocks_sent}
 use Rattle.cxl_script.specs.declared.command.Command.{Command}
 use Rattle.cxl_script.specs.declared.command.Command.TheVariants as commands
 use Rattle.cxl_script.specs.declared.command.Create.{Create}
 use Rattle.cxl_apply.specs.WordsSent.{words_made, words_taken_back}
 use Rattle.cxl_reply.specs.declared.reply.Reply.{Reply}
-use Rattle.cxl_machine.specs.Machine.{RegionJob, Machine}
-use Rattle.cxl_machine.specs.Jobs.{total_of}
+use Rattle.cxl_machine.specs.Machine.{RegionJob, Machine, image_of}
+use Rattle.cxl_machine.specs.Jobs.{total_of, at_done, begun}
 use Rattle.cxl_machine.specs.Outcomes.{BusOutcome, NoFault, Undone, LeftPending, ReadFailed}
 use Rattle.cxl_machine.specs.Requests.{AsksCreate, asked_release}
+use Rattle.cxl_machine.specs.Sound.{IsMachine}
 
 -- ---- parts of a job
 
@@ -70,3 +72,23 @@ TrailOf m (commands.Destroy name) outcome trail = SendsAsked (asked_release m na
 TrailOf m (commands.Step steps) outcome trail = SendsPending m.job trail (λ job. SendsSteps job steps outcome trail)
 TrailOf m commands.Abort outcome trail = SendsPending m.job trail (λ job. SendsAbort job outcome trail)
 TrailOf m other outcome trail = trail ≡ []
+
+-- ---- between two words of a command
+
+-- the job on which a command works, and the machine at which it is pending
+abbrev pub WorksOn : Machine → Command → RegionJob → Machine → Type 0
+WorksOn m (commands.Create create) job at = AsksCreate m create (Ok job) × (at ≡ begun job m)
+WorksOn m (commands.Destroy name) job at = (asked_release m name ≡ Ok job) × (at ≡ begun job m)
+WorksOn m (commands.Step steps) job at = (m.job ≡ Some job) × (at ≡ m)
+WorksOn m commands.Abort job at = (m.job ≡ Some job) × (at ≡ m)
+WorksOn m other job at = ⊥
+
+-- These first words of a command leave the image of a machine with its job pending, and so many of the job's writes made.
+pub record IsOnTheWay (m : Machine) (command : Command) (words : List Sent) : Type 0 where
+  pub job : RegionJob
+  pub at : Machine
+  pub done : ℕ
+  pub works : WorksOn m command job at
+  pub part : done < total_of job
+  pub machine : IsMachine (at_done job done at)
+  pub holds : blocks_sent (image_of m) words ≡ image_of (at_done job done at)

@@ -4,15 +4,16 @@ ghost use Rattle.std.specs.Prelude.{◌≡◌, ◌≢◌, ℕ, ◌<◌, ◌≤�
 ghost use Rattle.cxl_enc.specs.Limits.{frame_limit};
 ghost use Rattle.cxl_script.specs.declared.command.Command.{Command};
 ghost use Rattle.cxl_script.specs.declared.command.Command.TheVariants as commands;
+ghost use Rattle.cxl_script.specs.declared.command.Create.{Create};
 ghost use Rattle.cxl_model.specs.declared.plan.Plan.{Plan};
 ghost use Rattle.cxl_model.specs.declared.request.Request.{Request};
 ghost use Rattle.cxl_model.specs.Plans.{IsLegalPlan};
 ghost use Rattle.cxl_model.specs.System.{System, IsSystem};
 ghost use Rattle.cxl_legal.specs.Used.{HasBytePorts};
-ghost use Rattle.cxl_machine.specs.Machine.{Live, RegionJob, Machine, region_limit};
+ghost use Rattle.cxl_machine.specs.Machine.{Live, RegionJob, Machine, HasSameHost, region_limit};
 ghost use Rattle.cxl_machine.specs.Jobs.{create_job, begun, finished, undone};
 ghost use Rattle.cxl_machine.specs.Outcomes.{BusOutcome, is_access, StoresBytes};
-ghost use Rattle.cxl_machine.specs.Requests.{asked_release};
+ghost use Rattle.cxl_machine.specs.Requests.{AsksCreate, asked_release};
 ghost use Rattle.cxl_machine.specs.Replies.{Answer};
 ghost use Rattle.cxl_machine.specs.Answers.{Answers};
 ghost use Rattle.cxl_machine.specs.Creating.{CreatesLegally};
@@ -31,8 +32,8 @@ use cxl_plan::answers_hold_of_requests;
 
 /// A law of machines: an accepted host opens as one that a session can stand for.
 pub fn openings_are_machines()
-    ensures { (start : System) (frames : ℕ) (m : Machine) → IsSystem start → 1 ≤ frames → frames ≤ frame_limit
-        → Opens start frames m → IsMachine m }
+    ensures { (start : System) (frames : ℕ) (m : Machine) → IsSystem start → HasBytePorts start.nodes
+        → 1 ≤ frames → frames ≤ frame_limit → Opens start frames m → IsMachine m }
 {
     hosts_with_caps_are_systems();
     accepted_where_whole();
@@ -75,10 +76,13 @@ pub fn finished_jobs_keep_machines()
     regions_stay_after_a_release();
 }
 
-/// A law of machines: one that a session can stand for stays one where a release begins that a line asks for.
+/// A law of machines: one that a session can stand for stays one where a release begins that a line asks for. No job was
+/// pending, and no write of the release is made.
 pub fn releases_begin_as_machines()
-    ensures { (m : Machine) (name : List ℕ) (job : RegionJob) → IsMachine m → asked_release m name ≡ Ok job
+    ensures machine { (m : Machine) (name : List ℕ) (job : RegionJob) → IsMachine m → asked_release m name ≡ Ok job
         → IsMachine (begun job m) }
+    ensures idle { (m : Machine) (name : List ℕ) (job : RegionJob) → asked_release m name ≡ Ok job → m.job ≡ None }
+    ensures fresh { (m : Machine) (name : List ℕ) (job : RegionJob) → asked_release m name ≡ Ok job → job.done ≡ 0 }
 {
     release_releases_its_rows();
 }
@@ -95,23 +99,36 @@ pub fn creates_begin_as_machines()
 
 /// A law of machines: each job that a create asks for of one that a session can stand for is that of a legal plan.
 pub fn creates_are_legal()
-    ensures { (m : Machine) (command : Command) → IsMachine m → HasBytePorts m.settled.nodes
-        → CreatesLegally m command }
+    ensures { (m : Machine) (command : Command) → IsMachine m → CreatesLegally m command }
 {
     answers_hold_of_requests();
     answers_hold_of_wants();
 }
 
-/// A law of machines: from one that a session can stand for, each command leads to one, however the bus let it go.
-pub fn commands_keep_machines()
-    ensures { (m : Machine) (command : Command) (outcome : BusOutcome) (answer : Answer) → IsMachine m
-        → HasBytePorts m.settled.nodes → StoresBytes command → Answers m command outcome answer
-        → IsMachine answer.machine }
+/// A law of machines: one that a session can stand for stays one where a create begins that a line asks for. No job was
+/// pending, and no write of the create is made.
+pub fn asked_creates_begin_as_machines()
+    ensures machine { (m : Machine) (create : Create) (job : RegionJob) → IsMachine m → AsksCreate m create (Ok job)
+        → IsMachine (begun job m) }
+    ensures idle { (m : Machine) (create : Create) (job : RegionJob) → AsksCreate m create (Ok job) → m.job ≡ None }
+    ensures fresh { (m : Machine) (create : Create) (job : RegionJob) → IsMachine m → AsksCreate m create (Ok job)
+        → job.done ≡ 0 }
 {
     creates_are_legal();
+    creates_begin_as_machines();
+}
+
+/// A law of machines: from one that a session can stand for, each command leads to one, however the bus let it go; and it
+/// never changes the host or the number of frames.
+pub fn commands_keep_machines()
+    ensures machine { (m : Machine) (command : Command) (outcome : BusOutcome) (answer : Answer) → IsMachine m
+        → StoresBytes command → Answers m command outcome answer → IsMachine answer.machine }
+    ensures host { (m : Machine) (command : Command) (outcome : BusOutcome) (answer : Answer)
+        → Answers m command outcome answer → HasSameHost m answer.machine }
+{
     accesses_keep_machines();
     undone_jobs_keep_machines();
     finished_jobs_keep_machines();
     releases_begin_as_machines();
-    creates_begin_as_machines();
+    asked_creates_begin_as_machines();
 }

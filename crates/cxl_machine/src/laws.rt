@@ -1,6 +1,6 @@
 //! Laws of the answers, each the contract of a function that does nothing.
 
-ghost use Rattle.std.specs.Prelude.{◌≡◌, ℕ, ◌<◌, true, List, [], ◌∷◌, ◌++◌, AllPairs};
+ghost use Rattle.std.specs.Prelude.{◌≡◌, ℕ, ◌<◌, true, false, List, [], ◌∷◌, ◌++◌, AllPairs};
 ghost use Rattle.cxl_bus.specs.declared.sent.Sent.{Sent};
 ghost use Rattle.cxl_script.specs.declared.command.Command.{Command};
 ghost use Rattle.cxl_model.specs.declared.plan.Row.{Row};
@@ -8,12 +8,14 @@ ghost use Rattle.cxl_model.specs.System.{System};
 ghost use Rattle.cxl_apply.specs.declared.write.Write.{Write};
 ghost use Rattle.cxl_apply.specs.Jobs.{AreCreateWrites, AreReleaseWrites};
 ghost use Rattle.cxl_apply.specs.Releases.{rows_of};
+ghost use Rattle.cxl_reply.specs.Replies.{has_short_text};
 ghost use Rattle.cxl_machine.specs.Machine.{Live, Machine};
 ghost use Rattle.cxl_machine.specs.Jobs.{create_writes, release_writes};
 ghost use Rattle.cxl_machine.specs.Outcomes.{BusOutcome, NoFault, can_go};
 ghost use Rattle.cxl_machine.specs.Replies.{Answer, is_refusal};
 ghost use Rattle.cxl_machine.specs.Answers.{Answers};
-ghost use Rattle.cxl_machine.specs.Scripts.{Asked, Course, Turn, Runs, TakesTurn, course_then, lines_asked};
+ghost use Rattle.cxl_machine.specs.Scripts.{Asked, Turn, TakesTurn, lines_asked};
+ghost use Rattle.cxl_machine.specs.Turns.{AreTurns, machine_after};
 ghost use Rattle.cxl_machine.specs.Sound.{IsMachine};
 ghost use Rattle.cxl_machine.specs.Trails.{TrailOf};
 
@@ -27,13 +29,32 @@ pub fn refusals_leave_the_machine()
 {}
 
 /// A law of jobs: the writes of a create over rows in rising node order, and those of a region's release, are the ones that
-/// the machine's job has.
+/// the machine's job has; and those that it has are such writes.
 pub fn jobs_have_one_list_of_writes()
     ensures create { (s : System) (rows : List Row) (writes : List Write)
         → AllPairs (λ (row next : Row). row.node < next.node) rows → AreCreateWrites s.blocks rows writes
         → writes ≡ create_writes s rows }
     ensures release { (s : System) (region : Live) (writes : List Write)
         → AreReleaseWrites (rows_of s region.found) writes → writes ≡ release_writes s region }
+    ensures of_create { (s : System) (rows : List Row) → AllPairs (λ (row next : Row). row.node < next.node) rows
+        → AreCreateWrites s.blocks rows (create_writes s rows) }
+    ensures of_release { (s : System) (region : Live) → AreReleaseWrites (rows_of s region.found) (release_writes s region) }
+{}
+
+/// A law of answers: a command whose reply has no short text changed nothing and sent nothing. So memory may run out before
+/// such a reply is told, and nothing is lost.
+pub fn only_short_replies_change()
+    ensures machine { (m : Machine) (one : Asked) (turn : Turn) → TakesTurn m one turn
+        → has_short_text turn.reply ≡ false → turn.machine ≡ m }
+    ensures words { (m : Machine) (one : Asked) (turn : Turn) → TakesTurn m one turn
+        → has_short_text turn.reply ≡ false → turn.trail ≡ [] }
+{}
+
+/// A law of answers: how the bus let a command go shows in its reply.
+pub fn outcomes_show_in_replies()
+    ensures { (m : Machine) (command : Command) (outcome other : BusOutcome) (answer another : Answer)
+        → Answers m command outcome answer → Answers m command other another
+        → answer.reply ≡ another.reply → outcome ≡ other }
 {}
 
 /// A law of trails: a command that is refused without a fault of the bus writes no word.
@@ -46,9 +67,14 @@ pub fn refusals_write_nothing()
 /// A law of scripts: what is asked behind others is answered by the machine that they left, and lines behind others ask
 /// for what they ask for by themselves.
 pub fn scripts_go_on()
-    ensures one_more { (m : Machine) (asked : List Asked) (course : Course) (one : Asked) (turn : Turn)
-        → Runs m asked course → TakesTurn course.machine one turn
-        → Runs m (asked ++ one ∷ []) (course_then course turn) }
+    ensures one_more { (m : Machine) (asked : List Asked) (turns : List Turn) (one : Asked) (turn : Turn)
+        → AreTurns m asked turns → TakesTurn (machine_after m turns) one turn
+        → AreTurns m (asked ++ one ∷ []) (turns ++ turn ∷ []) }
+    ensures parts { (m : Machine) (asked more : List Asked) (turns : List Turn) → AreTurns m (asked ++ more) turns
+        → (first : List Turn) × (rest : List Turn) × (turns ≡ first ++ rest) × AreTurns m asked first
+        × AreTurns (machine_after m first) more rest }
+    ensures machine { (m : Machine) (turns others : List Turn)
+        → machine_after m (turns ++ others) ≡ machine_after (machine_after m turns) others }
     ensures lines { (lines others : List (List ℕ))
         → lines_asked (lines ++ others) ≡ lines_asked lines ++ lines_asked others }
 {}

@@ -9,11 +9,13 @@ mod laws;
 pub use cxl_check::Breach;
 pub use fault::OpenFault;
 pub use keeping::{
-    accesses_keep_machines, commands_keep_machines, creates_are_legal, creates_begin_as_machines,
-    finished_jobs_keep_machines, openings_are_machines, releases_begin_as_machines,
-    steps_keep_machines, undone_jobs_keep_machines,
+    accesses_keep_machines, asked_creates_begin_as_machines, commands_keep_machines,
+    creates_are_legal, creates_begin_as_machines, finished_jobs_keep_machines,
+    openings_are_machines, releases_begin_as_machines, steps_keep_machines,
+    undone_jobs_keep_machines,
 };
 pub use laws::{
     commands_go_as_they_can, each_command_is_answered, jobs_have_one_list_of_writes, one_answer,
-    refusals_leave_the_machine, refusals_write_nothing, scripts_go_on,
+    only_short_replies_change, outcomes_show_in_replies, refusals_leave_the_machine,
+    refusals_write_nothing, scripts_go_on,
 };

@@ -7,6 +7,7 @@ use Rattle.cxl_regs.specs.Registers.{Registers, reset_decoder, reset_block}
 use Rattle.cxl_script.specs.declared.command.Command.{Command}
 use Rattle.cxl_script.specs.declared.command.Command.TheVariants as commands
 use Rattle.cxl_script.specs.declared.command.Create.{Create}
+use Rattle.cxl_script.specs.declared.fault.Why.TheVariants as whys
 use Rattle.cxl_model.specs.declared.found.Found.{Found}
 use Rattle.cxl_model.specs.declared.plan.Plan.{Plan}
 use Rattle.cxl_model.specs.System.{System}
@@ -14,12 +15,14 @@ use Rattle.cxl_plan.specs.Planned.{stated_plan}
 use Rattle.cxl_model.specs.Contents.{Contents}
 use Rattle.cxl_worked.specs.Examples.{two_bridges, two_bridges_with, window_of_both, of_both, decoder, port_block, endpoint_block, endpoint_block_of_two, port_cap, endpoint_cap}
 use Rattle.cxl_worked.specs.ExampleRegions.{region_of_two}
+use Rattle.cxl_reply.specs.declared.reply.Reply.TheVariants as replies
 use Rattle.cxl_reply.specs.declared.told.Named.{Named}
 use Rattle.cxl_reply.specs.declared.told.ShownRow.{ShownRow}
 use Rattle.cxl_machine.specs.Bytes.{written}
 use Rattle.cxl_machine.specs.Machine.{Live, RegionJob, Machine}
 use Rattle.cxl_machine.specs.Jobs.{create_job, release_job, at_done}
 use Rattle.cxl_machine.specs.Requests.{request_for}
+use Rattle.cxl_machine.specs.Scripts.{Turn}
 use Rattle.cxl_machine.specs.Sound.{auto_name}
 
 -- ---- names
@@ -202,3 +205,11 @@ create_of size = commands.Create record (create_named r0) { size = size }
 
 abbrev pub create_picked : ℕ → ℕ → Command
 create_picked size ways = commands.Create record (create_named r0) { size = size; endpoints = []; ways = Some ways }
+
+-- ---- turns
+
+-- a region that is not there, and a line without a known verb
+abbrev pub two_refusals : List Turn
+two_refusals =
+    record { reply = replies.NoRegion r0; machine = fresh; faults = 0; trail = [] }
+    ∷ record { reply = replies.BadLine record { at = 0; why = whys.Verb }; machine = fresh; faults = 0; trail = [] } ∷ []

@@ -10,16 +10,16 @@ ghost use Rattle.cxl_model.specs.declared.plan.Reason.TheVariants as reasons;
 ghost use Rattle.cxl_model.specs.declared.poison.Part.TheVariants.{Run};
 ghost use Rattle.cxl_span.specs.declared.allotting.SpanFault.TheVariants.{PastRam, NoRoom};
 ghost use Rattle.cxl_script.specs.declared.command.Command.TheVariants as commands;
-ghost use Rattle.cxl_script.specs.declared.fault.Why.TheVariants as whys;
 ghost use Rattle.cxl_reply.specs.declared.reply.Reply.TheVariants as replies;
 ghost use Rattle.cxl_machine.specs.Answers.{Answers};
 ghost use Rattle.cxl_machine.specs.Elsewhere.{Plans};
-ghost use Rattle.cxl_worked_machines.specs.Examples.{fresh, create_named, with_r0, releasing, r0, e0, hb0, poison_bytes, nothing, poison};
+ghost use Rattle.cxl_worked_machines.specs.Examples.{fresh, create_named, with_r0, releasing, r0, e0, hb0, poison_bytes, nothing, poison, two_refusals};
 ghost use Rattle.cxl_worked_machines.specs.ExamplePlans.{asks, asks_at, full_bridges, without_room, four_reset, three_reset};
 ghost use Rattle.cxl_machine.specs.Outcomes.{NoFault, Undone};
 ghost use Rattle.cxl_machine.specs.Replies.{stays};
-ghost use Rattle.cxl_machine.specs.Scripts.{RunsLines, replies_text};
+ghost use Rattle.cxl_machine.specs.Scripts.{lines_asked};
 ghost use Rattle.cxl_machine.specs.Trails.{TrailOf};
+ghost use Rattle.cxl_machine.specs.Turns.{AreTurns, machine_after, text_of, words_sent, faults_told};
 
 use cxl_poison::cuts_lie_in_touched_stretches;
 
@@ -73,10 +73,12 @@ pub fn trails_on_examples()
     ensures refused { TrailOf fresh (commands.Destroy r0) NoFault [] }
 {}
 
-/// A law of scripts: what the lines of one come to, and its text.
+/// A law of scripts: what the lines of one ask for, the turns that answer it, and what these come to.
 pub fn scripts_on_examples()
-    ensures run { RunsLines fresh (codes "# nothing" ∷ [] ∷ codes "destroy r0" ∷ codes "x" ∷ [])
-        record { machine = fresh; replies = replies.NoRegion r0 ∷ replies.BadLine record { at = 0; why = whys.Verb } ∷ []; faults = 0; trail = [] } }
-    ensures text { replies_text fresh.settled.nodes (replies.NoRegion r0 ∷ replies.BadLine record { at = 0; why = whys.Verb } ∷ [])
+    ensures turns { AreTurns fresh (lines_asked (codes "# nothing" ∷ [] ∷ codes "destroy r0" ∷ codes "x" ∷ [])) two_refusals }
+    ensures machine { machine_after fresh two_refusals ≡ fresh }
+    ensures words { words_sent two_refusals ≡ [] }
+    ensures faults { faults_told two_refusals ≡ 0 }
+    ensures text { text_of fresh.settled.nodes two_refusals
         ≡ codes "no such region r0" ++ (10 ∷ []) ++ codes "bad line 0 verb" ++ (10 ∷ []) }
 {}

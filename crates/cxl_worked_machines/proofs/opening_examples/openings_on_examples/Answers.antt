@@ -1,10 +1,12 @@
-use Rattle.std.proofs.Common.{◌≡◌, ◌≢◌, ℕ, zero, suc, ◌+◌, ◌<◌, Bool, true, false, ◌&&◌, ◌||◌, [], ◌∷◌, List, Some, refl, sym, ap, ◌∙◌, arith}
-use Rattle.std.specs.Prelude.{◌==◌, All, AllPairs, Contains}
+use Rattle.std.proofs.Common.{◌≡◌, ◌≢◌, ℕ, zero, suc, ◌+◌, ◌<◌, Bool, true, false, ◌&&◌, ◌||◌, [], ◌∷◌, List, Option, Some, None, refl, sym, ap, ◌∙◌, arith}
+use Rattle.std.specs.Prelude.{◌==◌, All, AllPairs, Contains, option_map}
 use Rattle.std.specs.Ordering.{nat_cmp}
 use Rattle.std.specs.FinMap as map
 use Rattle.std.specs.FinMap.{get-empty, len-empty}
 use Rattle.std.proofs.lemmas.Bool.{eqb-true, false≢true}
-use Rattle.std.proofs.lemmas.Option.{none-some}
+use Rattle.std.proofs.lemmas.Option.{none-some, same_Some}
+use Rattle.cxl_topo.specs.declared.node.Parent.{Parent}
+use Rattle.cxl_topo.specs.Tree.{parent_of}
 use Rattle.cxl_regs.specs.Registers.{Registers}
 use Rattle.cxl_regs.specs.declared.reading.Range.{Range}
 use Rattle.cxl_media.specs.Blocks.{key_cmp}
@@ -15,6 +17,7 @@ use Rattle.cxl_worked.specs.ExampleRegions.{region_of_two}
 use Rattle.cxl_model.specs.Listed.{AreRegions}
 use Rattle.cxl_model.specs.Ranges.{serves}
 use Rattle.cxl_model.specs.Regions.{region_range, IsRegion, IsRegionIn}
+use Rattle.cxl_legal.specs.Used.{HasBytePorts}
 use Rattle.cxl_machine.specs.Machine.{Live, holding_of}
 use Rattle.cxl_machine.specs.Sound.{auto_name}
 use Rattle.cxl_worked_machines.proofs.opening_examples.openings_on_examples.Goals as goal
@@ -75,6 +78,20 @@ each_enabled (suc (suc zero)) d below = refl
 each_enabled (suc (suc (suc zero))) d below = refl
 each_enabled (suc (suc (suc (suc k)))) d below = absurd (omega (arith, below))
 
+small_port : (o : Option Parent) (port : ℕ) (parent : Parent) → port < 256 → option_map (λ (p : Parent). p.port) o ≡ Some port → o ≡ Some parent → parent.port < 256
+small_port None port parent small is there = absurd (none-some parent there)
+small_port (Some own) port parent small is there =
+    let same : own.port ≡ port = same_Some own.port port is in
+    let here : own.port ≡ parent.port = ap (λ (p : Parent). p.port) (same_Some own parent there) in
+    omega (arith, same, here, small)
+
+byte_ports : HasBytePorts two_bridges.nodes
+byte_ports zero parent there = absurd (none-some parent there)
+byte_ports (suc zero) parent there = absurd (none-some parent there)
+byte_ports (suc (suc zero)) parent there = small_port (parent_of two_bridges.nodes 2) 0 parent (omega arith) refl there
+byte_ports (suc (suc (suc zero))) parent there = small_port (parent_of two_bridges.nodes 3) 0 parent (omega arith) refl there
+byte_ports (suc (suc (suc (suc i)))) parent there = absurd (none-some parent there)
+
 no_bytes : AreContents region_of_two map.empty
 no_bytes = record {
   inside = λ n bytes there. absurd (none-some bytes (sym (get-empty {X = List ℕ} nat_cmp n) ∙ there));
@@ -94,7 +111,7 @@ holds_nothing holding n bytes (suc k, low, read) there = absurd (omega (arith, l
 pub returns-clause-sound : goal.returns-clause-sound
 returns-clause-sound c = record {
   machine = record {
-    settled = record { system = c.examples_are_systems.ensures.two; accepted = c.rules_on_examples.ensures.two_bridges; enabled = each_enabled };
+    settled = record { system = c.examples_are_systems.ensures.two; accepted = c.rules_on_examples.ensures.two_bridges; enabled = each_enabled; ports = byte_ports };
     regions = record {
       all = regions c.regions_on_examples.ensures.two;
       names = pairs_of_one (λ (region other : Live). region.name ≢ other.name) opened_region;
