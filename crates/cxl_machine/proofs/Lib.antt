@@ -25,3 +25,11 @@ pub mod LegalCreates
 pub mod SameHost
 pub mod WordsSent
 pub mod PendingJobs
+pub mod Trails
+pub mod TrailsPassing
+pub mod Present
+pub mod TellingRegions
+pub mod TellingFaults
+pub mod TellingPoison
+pub mod Telling
+pub mod TellingAnswers

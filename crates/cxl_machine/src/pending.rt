@@ -1,0 +1,66 @@
+//! Laws of the job that is pending at a machine, each the contract of a function that does nothing.
+
+ghost use Rattle.std.specs.Prelude.{◌≡◌, ℕ, ◌<◌, List, length, take, Contains, Some};
+ghost use Rattle.cxl_bus.specs.declared.sent.Sent.{Sent};
+ghost use Rattle.cxl_bus.specs.Trail.{blocks_sent};
+ghost use Rattle.cxl_script.specs.declared.command.Command.{Command};
+ghost use Rattle.cxl_model.specs.Accepted.{KeepsBlocks};
+ghost use Rattle.cxl_model.specs.Changes.{HaveSameDecoders};
+ghost use Rattle.cxl_model.specs.Regions.{region_range, IsRegionIn};
+ghost use Rattle.cxl_apply.specs.Jobs.{AreTakenBack, blocks_done};
+ghost use Rattle.cxl_machine.specs.Machine.{Live, RegionJob, Machine, region_window, image_of, present};
+ghost use Rattle.cxl_machine.specs.Jobs.{total_of, settled_by};
+ghost use Rattle.cxl_machine.specs.Outcomes.{BusOutcome};
+ghost use Rattle.cxl_machine.specs.Replies.{Answer};
+ghost use Rattle.cxl_machine.specs.Answers.{Answers};
+ghost use Rattle.cxl_machine.specs.Sound.{IsMachine};
+ghost use Rattle.cxl_machine.specs.Trails.{TrailOf, IsOnTheWay};
+
+use crate::keeping::{asked_creates_begin_as_machines, releases_begin_as_machines};
+use cxl_apply::{
+    create_commits_its_rows, regions_stay_in_a_create, regions_stay_in_a_release,
+    release_releases_its_rows, writes_are_taken_back,
+};
+use cxl_model::whole_ranges_have_one_region;
+
+/// A law of jobs: each write of a machine's job is taken back by its back value, and behind the last one the blocks are
+/// those of the image that the job settles.
+pub fn pending_jobs_settle()
+    ensures back { (m : Machine) (job : RegionJob) → IsMachine m → m.job ≡ Some job
+        → AreTakenBack m.settled.blocks job.writes }
+    ensures ends { (m : Machine) (job : RegionJob) → IsMachine m → m.job ≡ Some job
+        → blocks_done m.settled.blocks job.writes (total_of job) ≡ (settled_by job job.kind m.settled).blocks }
+{
+    writes_are_taken_back();
+    create_commits_its_rows();
+    release_releases_its_rows();
+}
+
+/// A law of machines: while a job is pending, the image that the registers hold keeps K1 to K8, and each live region is a
+/// region of it, in the same window, with the same spans and the same decoders.
+pub fn live_regions_stay()
+    ensures keeps { (m : Machine) → IsMachine m → KeepsBlocks (present m) }
+    ensures region { (m : Machine) (region : Live) → IsMachine m → Contains m.live region
+        → IsRegionIn m.settled (region_window m.settled region.found) region.found
+        × IsRegionIn (present m) (region_window m.settled region.found) region.found
+        × HaveSameDecoders m.settled (present m) (region_range region.found) }
+{
+    whole_ranges_have_one_region();
+    regions_stay_in_a_create();
+    regions_stay_in_a_release();
+}
+
+/// A law of trails: behind each word of a command but the last, registers hold the image of a machine with the command's job
+/// pending and so many of its writes made; behind the last one, that of the machine that answers.
+pub fn words_pass_by_machines()
+    ensures between { (m : Machine) (command : Command) (outcome : BusOutcome) (answer : Answer) (trail : List Sent) (k : ℕ)
+        → IsMachine m → Answers m command outcome answer → TrailOf m command outcome trail → k < length trail
+        → IsOnTheWay m command (take k trail) }
+    ensures left { (m : Machine) (command : Command) (outcome : BusOutcome) (answer : Answer) (trail : List Sent)
+        → IsMachine m → Answers m command outcome answer → TrailOf m command outcome trail
+        → blocks_sent (image_of m) trail ≡ image_of answer.machine }
+{
+    pending_jobs_settle();
+    asked_creates_begin_as_machines();
+    releases_begin_as_machines();
+}
