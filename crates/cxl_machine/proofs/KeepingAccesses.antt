@@ -1,5 +1,5 @@
 -- An access leaves a machine that a session can stand for.
-use Rattle.std.proofs.Common.{◌≡◌, ℕ, ◌+◌, Bool, true, false, not, if◌then◌else◌, List, length, Option, Some, None, refl, sym, ap, ◌∙◌, subst, inl, inr}
+use Rattle.std.proofs.Common.{◌≡◌, ℕ, ◌+◌, Bool, true, false, not, if◌then◌else◌, List, length, Option, Some, None, refl, sym, ap, ◌∙◌, subst, inl, inr, ◌≢◌}
 use Rattle.std.specs.Prelude.{◌==◌, nat_lt, Contains}
 use Rattle.std.specs.Option.{option_map_or}
 use Rattle.std.specs.Str.{bytes_eq}
@@ -10,7 +10,7 @@ use Rattle.cxl_script.specs.declared.command.Pair.{Pair}
 use Rattle.cxl_script.specs.declared.command.Poison.{Poison}
 use Rattle.cxl_script.specs.declared.command.Store.{Store}
 use Rattle.cxl_script.specs.declared.command.Up.{Up}
-use Rattle.cxl_machine.specs.Machine.{Live, Machine, live_named, live_at, free_frames, with_contents}
+use Rattle.cxl_machine.specs.Machine.{Live, Machine, live_named, live_at, free_frames, with_contents, has_host}
 use Rattle.cxl_machine.specs.Outcomes.{BusOutcome, NoFault, Undone, LeftPending, ReadFailed, is_access, StoresBytes}
 use Rattle.cxl_machine.specs.Bytes.{AreBytes}
 use Rattle.cxl_machine.specs.Replies.{Answer, within_region, ends_within}
@@ -21,6 +21,9 @@ use Rattle.cxl_machine.specs.Copies.{for_two, copy_between, move_between, frames
 use Rattle.cxl_machine.specs.Answers.{Answers}
 use Rattle.cxl_machine.specs.Sound.{IsMachine}
 use Rattle.cxl_machine.proofs.KeepingMachines.{TurnsLaw, live_there, store_keeps, copy_keeps, clear_keeps}
+use Rattle.cxl_machine.proofs.KeepingBytes.{counted, same_bytes}
+use Rattle.cxl_machine.proofs.Frames.{stored_held, copied_held, moved_held}
+use Rattle.std.proofs.lemmas.Slice.Eq.{bytes_eq-Decides}
 
 abbrev Keeps : Answer → Type 0
 Keeps answer = IsMachine answer.machine
@@ -41,7 +44,9 @@ module _ (laws : TurnsLaw) (m : Machine) (is : IsMachine m) where
   stored : (store : Store) → AreBytes store.bytes → (region : Live) → live_at m store.h ≡ Some region → ends_within region.found store.h (length store.bytes) ≡ true → Keeps (store_into m store region)
   stored store bytes region at fits =
       by_test (nat_lt (free_frames m) (frames_wanted region store)) _ _ (λ full. is)
-      (λ room. store_keeps laws m is store.h store.bytes bytes region at (leb-true (store.h + length store.bytes) (region.found.base + region.found.size) fits))
+      (λ room.
+      counted _ (store_keeps laws m is store.h store.bytes bytes region at (leb-true (store.h + length store.bytes) (region.found.base + region.found.size) fits))
+      (stored_held m is region (live_there m (λ (r : Live). has_host r.found store.h) region at).0 store room))
 
   inside : (h len : ℕ) (answer : Live → Answer) → ((region : Live) → live_at m h ≡ Some region → ends_within region.found h len ≡ true → Keeps (answer region))
       → Keeps (within_region m h len answer)
@@ -49,16 +54,23 @@ module _ (laws : TurnsLaw) (m : Machine) (is : IsMachine m) where
       by_region (live_at m h) _ _ (λ region at. by_test (ends_within region.found h len) _ _ (each region at) (λ past. is)) is
 
   between : (pair : Pair) (answer : Live → Live → Answer)
-      → ((from to : Live) → Contains m.live from → Contains m.live to → from.found.size ≡ to.found.size → Keeps (answer from to)) → Keeps (for_two m pair answer)
+      → ((from to : Live) → Contains m.live from → Contains m.live to → from.found.size ≡ to.found.size → from.name ≢ to.name → Keeps (answer from to)) → Keeps (for_two m pair answer)
   between pair answer each =
       by_region (live_named m pair.from) _ _
       (λ from at. by_region (live_named m pair.to) _ _
       (λ to here. by_test (bytes_eq pair.from pair.to) _ _ (λ one. is)
       (λ two. by_test (not (from.found.size == to.found.size)) _ _ (λ differ. is)
-      (λ alike. each from to (live_there m (λ (r : Live). bytes_eq r.name pair.from) from at).0 (live_there m (λ (r : Live). bytes_eq r.name pair.to) to here).0 (sizes from to alike))))
+      (λ alike. each from to (live_there m (λ (r : Live). bytes_eq r.name pair.from) from at).0 (live_there m (λ (r : Live). bytes_eq r.name pair.to) to here).0 (sizes from to alike) (two_names from to at here two))))
       is)
       is
     where
+      -- the names of the line differ, and the regions have these names
+      two_names : (from to : Live) → live_named m pair.from ≡ Some from → live_named m pair.to ≡ Some to → bytes_eq pair.from pair.to ≡ false → from.name ≢ to.name
+      two_names from to at here two same =
+          let first : from.name ≡ pair.from = same_bytes from.name pair.from (live_there m (λ (r : Live). bytes_eq r.name pair.from) from at).1 in
+          let second : to.name ≡ pair.to = same_bytes to.name pair.to (live_there m (λ (r : Live). bytes_eq r.name pair.to) to here).1 in
+          false≢true (sym two ∙ (bytes_eq-Decides pair.from pair.to).1 (sym first ∙ same ∙ second))
+
       sizes : (from to : Live) → not (from.found.size == to.found.size) ≡ false → from.found.size ≡ to.found.size
       sizes from to alike =
           elim (cases_Bool (from.found.size == to.found.size)) [
@@ -66,11 +78,13 @@ module _ (laws : TurnsLaw) (m : Machine) (is : IsMachine m) where
             | inr other ↦ absurd (false≢true (sym alike ∙ ap not other))
           ]
 
-  copied : (from to : Live) → Contains m.live from → Contains m.live to → from.found.size ≡ to.found.size → Keeps (copy_between m from to)
-  copied from to there here size = by_test (nat_lt (frames_for m to) (pieces_of from)) _ _ (λ full. is) (λ room. copy_keeps laws m is from to there here size)
+  copied : (from to : Live) → Contains m.live from → Contains m.live to → from.found.size ≡ to.found.size → from.name ≢ to.name → Keeps (copy_between m from to)
+  copied from to there here size apart =
+      by_test (nat_lt (frames_for m to) (pieces_of from)) _ _ (λ full. is) (λ room. counted _ (copy_keeps laws m is from to there here size) (copied_held m is from to here room))
 
-  moved : (from to : Live) → Contains m.live from → Contains m.live to → from.found.size ≡ to.found.size → Keeps (move_between m from to)
-  moved from to there here size = clear_keeps (with_contents to.name from.contents m) (copy_keeps laws m is from to there here size) from.name
+  moved : (from to : Live) → Contains m.live from → Contains m.live to → from.found.size ≡ to.found.size → from.name ≢ to.name → Keeps (move_between m from to)
+  moved from to there here size apart =
+      counted _ (clear_keeps (with_contents to.name from.contents m) (copy_keeps laws m is from to there here size) from.name) (moved_held m is from to there here apart)
 
   shown : (name : List ℕ) (outcome : BusOutcome) (answer : Answer) → AnswersShow m name outcome answer → Keeps answer
   shown name NoFault answer at = given answer _ at (by_region (live_named m name) _ _ (λ region there. is) is)

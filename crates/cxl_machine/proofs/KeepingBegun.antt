@@ -1,13 +1,13 @@
 -- A machine stays one where a job begins.
-use Rattle.std.proofs.Common.{◌≡◌, ◌≢◌, ℕ, ◌+◌, ◌<◌, List, [], ◌∷◌, ◌++◌, length, reverse, Result, Ok, Err, Option, Some, None, refl, sym, ap, ◌∙◌, subst, arith}
-use Rattle.std.specs.Prelude.{All, remove, slice_get, option_map, option_and_then}
+use Rattle.std.proofs.Common.{◌≡◌, ◌≢◌, ℕ, ◌+◌, ◌<◌, List, [], ◌∷◌, ◌++◌, length, reverse, Result, Ok, Err, Option, Some, None, refl, sym, ap, ◌∙◌, subst, arith, ◌≤◌}
+use Rattle.std.specs.Prelude.{All, remove, slice_get, option_map, option_and_then, sum_by}
 use Rattle.std.specs.Option.{option_map_or}
 use Rattle.std.specs.List.{flat_map, position_or_len}
 use Rattle.std.specs.Str.{bytes_eq}
-use Rattle.std.proofs.lemmas.List.{length-append, length-map, length-reverse}
+use Rattle.std.proofs.lemmas.List.{length-append, length-map, length-reverse, append-nil}
 use Rattle.std.proofs.lemmas.List.Edits.{length-remove}
 use Rattle.std.proofs.lemmas.List.Folds.{find_at}
-use Rattle.std.proofs.lemmas.List.Sorted.{IsPermutation-refl}
+use Rattle.std.proofs.lemmas.List.Sorted.{IsPermutation-refl, sum_by-IsPermutation}
 use Rattle.std.proofs.lemmas.Option.{none-some, same_Some, cond_some, slice_get_within, get_or_from_slice_get}
 use Rattle.cxl_model.specs.declared.found.Found.{Found}
 use Rattle.cxl_model.specs.declared.plan.Plan.{Plan}
@@ -30,6 +30,7 @@ use Rattle.cxl_machine.proofs.Deciding.{contains_at}
 use Rattle.cxl_machine.proofs.KeepingOrder.{put_last}
 use Rattle.cxl_machine.proofs.KeepingRegions.{kept_again, kept_alone, kept_beside}
 use Rattle.cxl_machine.proofs.LiveRegions.{live_is_region}
+use Rattle.cxl_machine.specs.Copies.{pieces_of}
 
 -- ---- no job pending
 
@@ -43,6 +44,10 @@ idle m is = none_of_map (λ (job : RegionJob). replies.Busy job.region.name) m.j
 -- the regions that a machine keeps without a job are the live ones
 pub live_kept : (m : Machine) → IsMachine m → m.job ≡ None → AreKept m m.live
 live_kept m is none = kept_alone m m.live (subst (λ (o : Option RegionJob). AreKept m (m.live ++ under_release o)) none is.regions)
+
+-- and their pieces have frames
+pub live_held : (m : Machine) → IsMachine m → m.job ≡ None → sum_by pieces_of (m.live ++ []) ≤ m.frames
+live_held m is none = subst (λ (o : Option RegionJob). sum_by pieces_of (m.live ++ under_release o) ≤ m.frames) none is.held
 
 -- ---- no refusal
 
@@ -80,6 +85,7 @@ create_begins law m request plan is none legal unnamed room = record {
     part = some_writes m.settled (reverse plan.rows) (let some = law m.settled request plan legal in omega (arith, some, length-reverse plan.rows));
   };
   frames = is.frames;
+  held = live_held m is none;
 }
 
 -- ---- a release
@@ -104,6 +110,10 @@ release_begins law m place region is none at unlocked last =
         part = omega (arith, some, length-map (rows_of m.settled region.found) release_write);
       };
       frames = is.frames;
+      held =
+          let held : sum_by pieces_of m.live ≤ m.frames = subst (λ (rs : List Live). sum_by pieces_of rs ≤ m.frames) (append-nil m.live) (live_held m is none) in
+          let same = sum_by-IsPermutation pieces_of m.live (remove m.live place ++ region ∷ []) (put_last m.live region place within (get_or_from_slice_get m.live place region region at)) in
+          omega (arith, held, same);
     }
 
 -- what a release that is asked for is

@@ -1,5 +1,5 @@
 -- A machine stays one where a live region holds other bytes.
-use Rattle.std.proofs.Common.{◌≡◌, ◌≢◌, ℕ, ◌+◌, ◌<◌, Bool, true, false, if◌then◌else◌, List, ◌++◌, map, length, get_or, Option, Some, None, refl, sym, ◌∙◌, subst, arith}
+use Rattle.std.proofs.Common.{◌≡◌, ◌≢◌, ℕ, ◌+◌, ◌<◌, Bool, true, false, if◌then◌else◌, List, ◌++◌, map, length, get_or, Option, Some, None, refl, sym, ◌∙◌, subst, arith, ◌≤◌}
 use Rattle.std.specs.Prelude.{All, Contains, IfSome}
 use Rattle.std.specs.Str.{bytes_eq}
 use Rattle.std.proofs.lemmas.Slice.Eq.{bytes_eq-Decides}
@@ -7,9 +7,10 @@ use Rattle.std.proofs.lemmas.List.{get_or_append_left, get_or-append-add, length
 use Rattle.std.proofs.lemmas.List.Elements.{All-append, All-map, Contains-get_or}
 use Rattle.cxl_model.specs.Contents.{Contents, AreContents}
 use Rattle.cxl_model.specs.Listed.{AreRegions}
-use Rattle.cxl_machine.specs.Machine.{Live, RegionJob, JobKind, Creates, Releases, Machine, under_release, with_contents}
-use Rattle.cxl_machine.specs.Sound.{IsMachine, IsJob, IsJobOf}
+use Rattle.cxl_machine.specs.Machine.{Live, RegionJob, JobKind, Creates, Releases, Machine, under_release, with_contents, kept_regions, pieces_held}
+use Rattle.cxl_machine.specs.Sound.{IsMachine, IsJob, IsJobOf, IsSettled, AreKept}
 use Rattle.cxl_machine.proofs.KeepingLists.{changed, changed-name, same_founds, same_names, own_names}
+use Rattle.cxl_enc.specs.Limits.{frame_limit}
 
 pub same_bytes : (a b : List ℕ) → bytes_eq a b ≡ true → a ≡ b
 same_bytes a b is = (bytes_eq-Decides a b).0 is
@@ -20,7 +21,20 @@ same_bytes a b is = (bytes_eq-Decides a b).0 is
 abbrev pub HoldsOwn : Live → Type 0
 HoldsOwn region = AreContents region.found region.contents
 
-module _ (m : Machine) (is : IsMachine m) (name : List ℕ) (contents : Contents)
+-- all that a machine is, but that there is a frame for each piece
+pub record IsUncounted (m : Machine) : Type 0 where
+  pub settled : IsSettled m.settled
+  pub regions : AreKept m (kept_regions m)
+  pub job : IfSome m.job (IsJob m)
+  pub frames : (1 ≤ m.frames) × (m.frames ≤ frame_limit)
+
+pub uncounted : (m : Machine) → IsMachine m → IsUncounted m
+uncounted m is = record { settled = is.settled; regions = is.regions; job = is.job; frames = is.frames }
+
+pub counted : (m : Machine) → IsUncounted m → pieces_held m ≤ m.frames → IsMachine m
+counted m is held = record { settled = is.settled; regions = is.regions; job = is.job; frames = is.frames; held = held }
+
+module _ (m : Machine) (is : IsUncounted m) (name : List ℕ) (contents : Contents)
     (can : (region : Live) → Contains m.live region → bytes_eq region.name name ≡ true → AreContents region.found contents) where
   kept_at : (k : ℕ) (d : Live) → k < length m.live → HoldsOwn (get_or m.live k d)
   kept_at k d below =
@@ -72,8 +86,8 @@ module _ (m : Machine) (is : IsMachine m) (name : List ℕ) (contents : Contents
   job_kept None own = tt
   job_kept (Some job) own = record { kind = job_of job job.kind own.kind; part = own.part }
 
-  pub stays_machine : IsMachine (with_contents name contents m)
-  stays_machine = record {
+  pub stays_uncounted : IsUncounted (with_contents name contents m)
+  stays_uncounted = record {
     settled = is.settled;
     regions = record {
       all = subst (AreRegions m.settled) (sym (same_founds name contents m.live (under_release m.job))) is.regions.all;

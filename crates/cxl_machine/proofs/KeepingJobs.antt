@@ -1,8 +1,8 @@
 -- A machine stays one where its job is undone, and where it is finished.
-use Rattle.std.proofs.Common.{◌≡◌, ◌≢◌, ◌⊎◌, ◌<◌, true, List, [], ◌∷◌, ◌++◌, length, Option, Some, None, refl, sym, ◌∙◌, subst}
-use Rattle.std.specs.Prelude.{All, IfSome, insert}
+use Rattle.std.proofs.Common.{◌≡◌, ◌≢◌, ◌⊎◌, ◌<◌, true, List, [], ◌∷◌, ◌++◌, length, Option, Some, None, refl, sym, ◌∙◌, subst, ℕ, ◌≤◌, ap, arith}
+use Rattle.std.specs.Prelude.{All, IfSome, insert, sum_by}
 use Rattle.std.proofs.lemmas.Bool.{false≢true}
-use Rattle.std.proofs.lemmas.List.Sorted.{IsPermutation-refl}
+use Rattle.std.proofs.lemmas.List.Sorted.{IsPermutation-refl, sum_by-IsPermutation}
 use Rattle.cxl_regs.specs.Registers.{Registers}
 use Rattle.cxl_regs.specs.declared.reading.Range.{Range}
 use Rattle.cxl_window.specs.Fields.{WindowFields}
@@ -22,12 +22,20 @@ use Rattle.cxl_machine.specs.Sound.{IsMachine, IsJob, IsJobOf, AreKept}
 use Rattle.cxl_machine.proofs.KeepingMachines.{no_contents}
 use Rattle.cxl_machine.proofs.KeepingOrder.{put_back}
 use Rattle.cxl_machine.proofs.KeepingRegions.{OneLaw, IsWith, IsWithout, kept_again, kept_with, kept_without, kept_alone, kept_beside}
+use Rattle.cxl_machine.specs.Copies.{pieces_of}
+use Rattle.std.proofs.lemmas.List.{append-nil}
+use Rattle.std.proofs.lemmas.List.Sums.{sum_by-append}
+use Rattle.std.specs.FinMap.{len-empty}
+use Rattle.std.specs.Ordering.{nat_cmp}
 
 pub job_of : (m : Machine) (job : RegionJob) → IsMachine m → m.job ≡ Some job → IsJob m job
 job_of m job is pending = subst (λ (o : Option RegionJob). IfSome o (IsJob m)) pending is.job
 
 pub kept_of : (m : Machine) (job : RegionJob) → IsMachine m → m.job ≡ Some job → AreKept m (m.live ++ region_released job job.kind)
 kept_of m job is pending = subst (λ (o : Option RegionJob). AreKept m (m.live ++ under_release o)) pending is.regions
+
+pub held_of : (m : Machine) (job : RegionJob) → IsMachine m → m.job ≡ Some job → sum_by pieces_of (m.live ++ region_released job job.kind) ≤ m.frames
+held_of m job is pending = subst (λ (o : Option RegionJob). sum_by pieces_of (m.live ++ under_release o) ≤ m.frames) pending is.held
 
 -- ---- undone
 
@@ -37,12 +45,20 @@ undone_kept m job (Releases place) kept =
     kept_beside (undone job m) (insert m.live place job.region)
     (kept_again m (undone job m) (m.live ++ job.region ∷ []) (insert m.live place job.region) refl (put_back m.live job.region place) kept)
 
+undone_held : (m : Machine) (job : RegionJob) (kind : JobKind) → sum_by pieces_of (m.live ++ region_released job kind) ≤ m.frames → sum_by pieces_of (live_when_undone job kind m.live ++ []) ≤ m.frames
+undone_held m job (Creates rows) held = held
+undone_held m job (Releases place) held =
+    let same = sum_by-IsPermutation pieces_of (m.live ++ job.region ∷ []) (insert m.live place job.region) (put_back m.live job.region place) in
+    let bare = ap (λ (rs : List Live). sum_by pieces_of rs) (append-nil (insert m.live place job.region)) in
+    omega (arith, held, same, bare)
+
 pub undone_keeps : (m : Machine) (job : RegionJob) → IsMachine m → m.job ≡ Some job → IsMachine (undone job m)
 undone_keeps m job is pending = record {
   settled = is.settled;
   regions = undone_kept m job job.kind (kept_of m job is pending);
   job = tt;
   frames = is.frames;
+  held = undone_held m job job.kind (held_of m job is pending);
 }
 
 -- ---- finished
@@ -81,8 +97,8 @@ module _ (laws : ImageLaws) (m : Machine) (is : IsMachine m) where
   }
 
   create_done : (request : Request) (plan : Plan) → IsLegalPlan m.settled request plan → All (λ (region : Live). region.name ≢ plan.name) m.live → length m.live < region_limit → AreKept m (m.live ++ [])
-      → IsMachine (made_of m plan)
-  create_done request plan legal unnamed room kept = record {
+      → sum_by pieces_of (m.live ++ []) ≤ m.frames → IsMachine (made_of m plan)
+  create_done request plan legal unnamed room kept held = record {
     settled = record {
       system = laws.planned_system m.settled request plan is.settled.system legal;
       accepted = legal.1.accepted;
@@ -93,6 +109,12 @@ module _ (laws : ImageLaws) (m : Machine) (is : IsMachine m) where
         (kept_with m (made_of m plan) m.live (planned_region plan) (made_with request plan legal) unnamed (no_contents plan.found) room (kept_alone m m.live kept));
     job = tt;
     frames = is.frames;
+    held =
+        let all = sum_by-append pieces_of (m.live ++ planned_region plan ∷ []) [] in
+        let more = sum_by-append pieces_of m.live (planned_region plan ∷ []) in
+        let before = sum_by-append pieces_of m.live [] in
+        let none = len-empty nat_cmp (List ℕ) in
+        omega (arith, all, more, before, none, held);
   }
 
   gone_without : (found : Found) → first_locked m.settled found ≡ None → first_not_last m.settled found ≡ None → IsWithout m.settled (system_without m.settled found) found
@@ -103,8 +125,9 @@ module _ (laws : ImageLaws) (m : Machine) (is : IsMachine m) where
         ranges = λ r. laws.released_ranges m.settled found r is.settled.system keeps unlocked last;
       }
 
-  release_done : (region : Live) → first_locked m.settled region.found ≡ None → first_not_last m.settled region.found ≡ None → AreKept m (m.live ++ region ∷ []) → IsMachine (without m region.found)
-  release_done region unlocked last kept = record {
+  release_done : (region : Live) → first_locked m.settled region.found ≡ None → first_not_last m.settled region.found ≡ None → AreKept m (m.live ++ region ∷ []) → sum_by pieces_of (m.live ++ region ∷ []) ≤ m.frames
+      → IsMachine (without m region.found)
+  release_done region unlocked last kept held = record {
     settled = record {
       system = laws.released_system m.settled region.found is.settled.system;
       accepted = laws.released_accepted m.settled region.found is.settled.system is.settled.accepted unlocked last;
@@ -115,15 +138,20 @@ module _ (laws : ImageLaws) (m : Machine) (is : IsMachine m) where
         (kept_without laws.one m (without m region.found) m.live region is.settled.system (gone_without region.found unlocked last) kept);
     job = tt;
     frames = is.frames;
+    held =
+        let before = sum_by-append pieces_of m.live (region ∷ []) in
+        let after = sum_by-append pieces_of m.live [] in
+        omega (arith, before, after, held);
   }
 
-  finished_by : (job : RegionJob) (kind : JobKind) → job.kind ≡ kind → IsJobOf m job kind → AreKept m (m.live ++ region_released job kind) → IsMachine (finished job m)
-  finished_by job (Creates rows) kind create kept =
+  finished_by : (job : RegionJob) (kind : JobKind) → job.kind ≡ kind → IsJobOf m job kind → AreKept m (m.live ++ region_released job kind) → sum_by pieces_of (m.live ++ region_released job kind) ≤ m.frames
+      → IsMachine (finished job m)
+  finished_by job (Creates rows) kind create kept held =
       subst (λ (j : RegionJob). IsMachine (finished j m)) (sym create.made)
       (create_done create.request create.plan create.legal
-      (subst (λ (j : RegionJob). All (λ (region : Live). region.name ≢ j.region.name) m.live) create.made create.unnamed) create.room kept)
-  finished_by job (Releases place) kind release kept =
-      subst (λ (j : RegionJob). IsMachine (finished j m)) (sym release.made) (release_done job.region release.unlocked release.last kept)
+      (subst (λ (j : RegionJob). All (λ (region : Live). region.name ≢ j.region.name) m.live) create.made create.unnamed) create.room kept held)
+  finished_by job (Releases place) kind release kept held =
+      subst (λ (j : RegionJob). IsMachine (finished j m)) (sym release.made) (release_done job.region release.unlocked release.last kept held)
 
   pub finished_keeps : (job : RegionJob) → m.job ≡ Some job → IsMachine (finished job m)
-  finished_keeps job pending = finished_by job job.kind refl (job_of m job is pending).kind (kept_of m job is pending)
+  finished_keeps job pending = finished_by job job.kind refl (job_of m job is pending).kind (kept_of m job is pending) (held_of m job is pending)

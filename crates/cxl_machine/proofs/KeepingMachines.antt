@@ -28,7 +28,7 @@ use Rattle.cxl_machine.specs.Machine.{Live, Machine, has_host, live_at, region_w
 use Rattle.cxl_machine.specs.Sound.{IsMachine}
 use Rattle.cxl_machine.proofs.Deciding.{contains_at}
 use Rattle.cxl_machine.proofs.KeepingLists.{one_named}
-use Rattle.cxl_machine.proofs.KeepingBytes.{stays_machine, same_bytes}
+use Rattle.cxl_machine.proofs.KeepingBytes.{IsUncounted, uncounted, stays_uncounted, same_bytes}
 use Rattle.cxl_machine.proofs.LiveRegions.{live_is_region}
 
 -- the turns of a region's ways fill it
@@ -154,7 +154,7 @@ module _ (laws : TurnsLaw) (m : Machine) (is : IsMachine m) where
       subst (λ (r : Live). AreContents r.found r.contents) read (is.regions.contents k region below)
 
   pub store_keeps : (h : ℕ) (bytes : List ℕ) → AreBytes bytes → (region : Live) → live_at m h ≡ Some region → h + length bytes ≤ region.found.base + region.found.size
-      → IsMachine (with_contents region.name (written region.contents (h - region.found.base) bytes) m)
+      → IsUncounted (with_contents region.name (written region.contents (h - region.found.base) bytes) m)
   store_keeps h bytes small region at fits =
       let (there, holds) = live_there m (λ (r : Live). has_host r.found h) region at in
       let bounds = and_parts (nat_le region.found.base h) (nat_lt h (region.found.base + region.found.size)) holds in
@@ -163,7 +163,7 @@ module _ (laws : TurnsLaw) (m : Machine) (is : IsMachine m) where
       let after : AreContents region.found (written region.contents (h - region.found.base) bytes) =
       written_kept laws m.settled (region_window m.settled region.found) region.found is.settled.system (live_is_region m is region there) region.contents (h - region.found.base) bytes
       (own_contents region there) small (omega (arith, from, below)) (omega (arith, from, fits)) in
-      stays_machine m is region.name (written region.contents (h - region.found.base) bytes)
+      stays_uncounted m (uncounted m is) region.name (written region.contents (h - region.found.base) bytes)
       (λ other here same. subst (λ (r : Live). AreContents r.found (written region.contents (h - region.found.base) bytes)) (sym (alike region other there here same)) after)
 
   -- contents of a region are contents of another of the same size
@@ -171,9 +171,9 @@ module _ (laws : TurnsLaw) (m : Machine) (is : IsMachine m) where
   of_same_size found other contents same are =
       record { inside = λ n bytes there. subst (λ (k : ℕ). n < k / 256) same (are.inside n bytes there); whole = are.whole; bytes = are.bytes }
 
-  pub copy_keeps : (from to : Live) → Contains m.live from → Contains m.live to → from.found.size ≡ to.found.size → IsMachine (with_contents to.name from.contents m)
+  pub copy_keeps : (from to : Live) → Contains m.live from → Contains m.live to → from.found.size ≡ to.found.size → IsUncounted (with_contents to.name from.contents m)
   copy_keeps from to there here size =
-      stays_machine m is to.name from.contents
+      stays_uncounted m (uncounted m is) to.name from.contents
       (λ other inside same.
       subst (λ (r : Live). AreContents r.found from.contents) (sym (alike to other here inside same))
       (of_same_size from.found to.found from.contents size (own_contents from there)))
@@ -185,5 +185,5 @@ no_contents found = record {
   bytes = λ n bytes there. absurd (none-some bytes (sym (get-empty {X = List ℕ} nat_cmp n) ∙ there));
 }
 
-pub clear_keeps : (m : Machine) → IsMachine m → (name : List ℕ) → IsMachine (with_contents name fin.empty m)
-clear_keeps m is name = stays_machine m is name fin.empty (λ other here same. no_contents other.found)
+pub clear_keeps : (m : Machine) → IsUncounted m → (name : List ℕ) → IsUncounted (with_contents name fin.empty m)
+clear_keeps m is name = stays_uncounted m is name fin.empty (λ other here same. no_contents other.found)

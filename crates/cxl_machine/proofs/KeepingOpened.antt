@@ -1,6 +1,6 @@
 -- The machine with which a session opens is one that a session can stand for.
 use Rattle.std.proofs.Common.{◌≡◌, ◌≢◌, ◌↔◌, ℕ, ◌+◌, ◌<◌, ◌≤◌, Bool, true, false, not, ◌&&◌, ◌||◌, if◌then◌else◌, List, [], ◌∷◌, map, length, get_or, Option, Some, None, refl, sym, ap, ◌∙◌, subst, inl, inr, arith}
-use Rattle.std.specs.Prelude.{slice_get, ◌==◌, option_map, codes, decimal}
+use Rattle.std.specs.Prelude.{slice_get, ◌==◌, option_map, codes, decimal, sum_by}
 use Rattle.std.specs.Option.{option_map_or}
 use Rattle.std.specs.List.{enumerate_from, list_any}
 use Rattle.std.proofs.lemmas.Bool.{cases_eq, ne_eqb, lt-ltb}
@@ -35,6 +35,10 @@ use Rattle.cxl_machine.proofs.KeepingBytes.{HoldsOwn}
 use Rattle.cxl_machine.proofs.KeepingLists.{founds, HaveOwnNames}
 use Rattle.cxl_machine.proofs.KeepingMachines.{no_contents}
 use Rattle.cxl_machine.proofs.KeepingRegions.{kept_beside}
+use Rattle.cxl_machine.specs.Copies.{pieces_of}
+use Rattle.std.proofs.lemmas.List.Sums.{sum_by-append, sum_by-cons}
+use Rattle.std.specs.FinMap.{len-empty}
+use Rattle.std.specs.Ordering.{nat_cmp}
 
 abbrev decoding : Registers → Registers
 decoding block = record block { enabled = true }
@@ -175,6 +179,16 @@ own_names regions few i j d less within same =
     let long = length_opened regions in
     names_differ i j less (omega arith) (sym (opened_name regions i d (omega arith)) ∙ same ∙ opened_name regions j d (omega arith))
 
+-- no piece is held
+no_pieces : (from : ℕ) (regions : List Found) → sum_by pieces_of (map opened_region (enumerate_from from regions)) ≡ 0
+no_pieces from [] = refl
+no_pieces from (found ∷ regions) =
+    let rest = no_pieces (from + 1) regions in
+    let none = len-empty nat_cmp (List ℕ) in
+    let first : sum_by pieces_of (map opened_region (enumerate_from from (found ∷ regions))) ≡ pieces_of (opened_region (from, found)) + sum_by pieces_of (map opened_region (enumerate_from (from + 1) regions)) =
+    sum_by-cons pieces_of (opened_region (from, found)) (map opened_region (enumerate_from (from + 1) regions)) in
+    omega (arith, rest, none, first)
+
 pub opens_machine : OpenLaws → (start : System) (frames : ℕ) (m : Machine) → IsSystem start → HasBytePorts start.nodes → 1 ≤ frames → frames ≤ frame_limit → Opens start frames m → IsMachine m
 opens_machine laws start frames m system ports some few opens =
     subst IsMachine (sym opens.machine) (record {
@@ -192,6 +206,10 @@ opens_machine laws start frames m system ports some few opens =
       });
       job = tt;
       frames = (some, few);
+      held =
+          let all = sum_by-append pieces_of (opened opens.regions) [] in
+          let none = no_pieces 0 opens.regions in
+          omega (arith, all, none);
     })
   where
     n : Machine

@@ -1,6 +1,6 @@
 -- A machine stays one while its job goes on and is not done.
-use Rattle.std.proofs.Common.{◌≡◌, ℕ, ◌+◌, ◌<◌, Bool, true, false, if◌then◌else◌, List, ◌++◌, Option, Some, None, refl, sym, ap, ◌∙◌, subst, arith}
-use Rattle.std.specs.Prelude.{nat_le, IfSome}
+use Rattle.std.proofs.Common.{◌≡◌, ℕ, ◌+◌, ◌<◌, Bool, true, false, if◌then◌else◌, List, ◌++◌, Option, Some, None, refl, sym, ap, ◌∙◌, subst, arith, ◌≤◌}
+use Rattle.std.specs.Prelude.{nat_le, IfSome, sum_by}
 use Rattle.std.proofs.lemmas.Bool.{leb-false}
 use Rattle.std.proofs.lemmas.Option.{none-some}
 use Rattle.cxl_machine.specs.Machine.{Live, RegionJob, JobKind, Creates, Releases, Machine, kept_regions, region_released, under_release}
@@ -10,6 +10,7 @@ use Rattle.cxl_reply.specs.declared.reply.Reply.TheVariants as replies
 use Rattle.cxl_machine.specs.Replies.{Answer, becomes}
 use Rattle.cxl_machine.specs.Regions.{ended_answer, stepped_answer, Steps, Aborts, OfPending}
 use Rattle.cxl_machine.specs.Sound.{IsMachine, IsJob, IsJobOf, AreKept}
+use Rattle.cxl_machine.specs.Copies.{pieces_of}
 
 released_same : (job : RegionJob) (done : ℕ) (kind : JobKind) → region_released (record job { done = done }) kind ≡ region_released job kind
 released_same job done (Creates rows) = refl
@@ -46,6 +47,7 @@ at_done_keeps m job done is pending part =
       regions = kept_on m job done _ (subst (AreKept m) (kept_regions_same m job done pending) is.regions);
       job = record { kind = job_goes_on m job done job.kind own.kind; part = part };
       frames = is.frames;
+      held = subst (λ (rs : List Live). sum_by pieces_of rs ≤ m.frames) (kept_regions_same m job done pending) is.held;
     }
 
 pub part_of : (m : Machine) (job : RegionJob) → IsMachine m → m.job ≡ Some job → job.done < total_of job

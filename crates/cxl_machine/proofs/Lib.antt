@@ -33,3 +33,4 @@ pub mod TellingFaults
 pub mod TellingPoison
 pub mod Telling
 pub mod TellingAnswers
+pub mod Frames

@@ -71,6 +71,8 @@ pub record IsMachine (m : Machine) : Type 0 where
   pub regions : AreKept m (kept_regions m)
   pub job : IfSome m.job (IsJob m)
   pub frames : (1 ≤ m.frames) × (m.frames ≤ frame_limit)
+  -- there is a frame for each piece
+  pub held : pieces_held m ≤ m.frames
 
 -- the block of an endpoint with this number, where media has it
 abbrev pub block_told : MediaState → ℕ → ℕ → Option (List ℕ)

@@ -2,12 +2,14 @@
 //! to, and the laws of these.
 #![tactic(auto)]
 
+mod counting;
 mod fault;
 mod keeping;
 mod laws;
 mod pending;
 mod texts;
 
+pub use counting::frames_are_counted;
 pub use cxl_check::Breach;
 pub use fault::OpenFault;
 pub use keeping::{

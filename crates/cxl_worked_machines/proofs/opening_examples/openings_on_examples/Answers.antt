@@ -18,7 +18,8 @@ use Rattle.cxl_model.specs.Listed.{AreRegions}
 use Rattle.cxl_model.specs.Ranges.{serves}
 use Rattle.cxl_model.specs.Regions.{region_range, IsRegion, IsRegionIn}
 use Rattle.cxl_legal.specs.Used.{HasBytePorts}
-use Rattle.cxl_machine.specs.Machine.{Live, holding_of}
+use Rattle.cxl_machine.specs.Machine.{Live, holding_of, pieces_held}
+use Rattle.cxl_worked_machines.specs.Examples.{opened}
 use Rattle.cxl_machine.specs.Sound.{auto_name}
 use Rattle.cxl_worked_machines.proofs.opening_examples.openings_on_examples.Goals as goal
 
@@ -108,6 +109,9 @@ holds_nothing holding n bytes (zero, low, read) there =
     none-some bytes (sym (get-empty {X = List ℕ} nat_cmp n) ∙ ap (λ (h : Holding). map.get h.contents n) read ∙ there)
 holds_nothing holding n bytes (suc k, low, read) there = absurd (omega (arith, low))
 
+no_piece : 2 + pieces_held opened ≡ 2
+no_piece = ap (λ (n : ℕ). 2 + (0 + n)) (len-empty nat_cmp (List ℕ))
+
 pub returns-clause-sound : goal.returns-clause-sound
 returns-clause-sound c = record {
   machine = record {
@@ -120,11 +124,12 @@ returns-clause-sound c = record {
     };
     job = tt;
     frames = (omega arith, omega arith);
+    held = omega (arith, no_piece);
   };
   registers = refl;
   memory = record {
     each = λ holding n endpoint block bytes there keeps. absurd (holds_nothing holding n bytes there keeps.piece);
     only = λ endpoint block bytes there. absurd (none-some bytes (sym (get-empty {X = List ℕ} key_cmp (endpoint, block)) ∙ there));
   };
-  frames = ap (λ (n : ℕ). 2 + (0 + n)) (len-empty nat_cmp (List ℕ));
+  frames = no_piece;
 }
