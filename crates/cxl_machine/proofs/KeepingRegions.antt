@@ -48,7 +48,7 @@ pub record IsWithout (s t : System) (found : Found) : Type 0 where
   pub region : (w : WindowFields) (other : Found) → region_range other ≢ region_range found → IsRegionIn s w other → IsRegionIn t w other
   pub ranges : (r : Range) → IsCommittedRange t r → (r ≢ region_range found) × IsCommittedRange s r
 
-last_is : (s : System) (fs : List Found) (found : Found) → AreRegions s (fs ++ found ∷ []) → IsRegion s found
+pub last_is : (s : System) (fs : List Found) (found : Found) → AreRegions s (fs ++ found ∷ []) → IsRegion s found
 last_is s fs found are = subst (IsRegion s) (get_or_push fs found found (length fs) refl) (are.each (length fs) found (omega (arith, length-append fs (found ∷ []))))
 
 -- a region before the last has another range

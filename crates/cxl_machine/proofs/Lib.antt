@@ -34,3 +34,4 @@ pub mod TellingPoison
 pub mod Telling
 pub mod TellingAnswers
 pub mod Frames
+pub mod Unmapped

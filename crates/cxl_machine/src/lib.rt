@@ -23,5 +23,7 @@ pub use laws::{
     only_short_replies_change, outcomes_show_in_replies, refusals_leave_the_machine,
     refusals_write_nothing, scripts_go_on,
 };
-pub use pending::{live_regions_stay, pending_jobs_settle, words_pass_by_machines};
+pub use pending::{
+    live_regions_stay, pending_jobs_settle, pending_regions_are_unmapped, words_pass_by_machines,
+};
 pub use texts::{answers_are_told, plan_faults_are_told};

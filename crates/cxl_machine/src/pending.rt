@@ -1,14 +1,18 @@
 //! Laws of the job that is pending at a machine, each the contract of a function that does nothing.
 
-ghost use Rattle.std.specs.Prelude.{◌≡◌, ℕ, ◌<◌, List, length, take, Contains, Some};
+ghost use Rattle.std.specs.Prelude.{◌≡◌, ℕ, ◌+◌, ◌<◌, ◌≤◌, List, length, take, Contains, Some, None};
 ghost use Rattle.cxl_bus.specs.declared.sent.Sent.{Sent};
 ghost use Rattle.cxl_bus.specs.Trail.{blocks_sent};
 ghost use Rattle.cxl_script.specs.declared.command.Command.{Command};
 ghost use Rattle.cxl_model.specs.Accepted.{KeepsBlocks};
+ghost use Rattle.cxl_model.specs.Bytes.{LiesInSpan};
 ghost use Rattle.cxl_model.specs.Changes.{HaveSameDecoders};
 ghost use Rattle.cxl_model.specs.Regions.{region_range, IsRegionIn};
 ghost use Rattle.cxl_apply.specs.Jobs.{AreTakenBack, blocks_done};
-ghost use Rattle.cxl_machine.specs.Machine.{Live, RegionJob, Machine, region_window, image_of, present};
+ghost use Rattle.cxl_reply.specs.declared.reply.Reply.{Reply};
+ghost use Rattle.cxl_reply.specs.declared.reply.Reply.TheVariants as replies;
+ghost use Rattle.cxl_machine.specs.Machine.{Live, RegionJob, Machine, live_at, live_named, region_window, image_of, present};
+ghost use Rattle.cxl_machine.specs.Accesses.{TellsHost};
 ghost use Rattle.cxl_machine.specs.Jobs.{total_of, settled_by};
 ghost use Rattle.cxl_machine.specs.Outcomes.{BusOutcome};
 ghost use Rattle.cxl_machine.specs.Replies.{Answer};
@@ -18,10 +22,12 @@ ghost use Rattle.cxl_machine.specs.Trails.{TrailOf, IsOnTheWay};
 
 use crate::keeping::{asked_creates_begin_as_machines, releases_begin_as_machines};
 use cxl_apply::{
-    create_commits_its_rows, regions_stay_in_a_create, regions_stay_in_a_release,
-    release_releases_its_rows, writes_are_taken_back,
+    create_commits_its_rows, regions_stay_after_a_create, regions_stay_in_a_create,
+    regions_stay_in_a_release, release_releases_its_rows, writes_are_taken_back,
 };
-use cxl_model::whole_ranges_have_one_region;
+use cxl_model::{
+    bytes_are_carried_one_to_one, regions_share_no_byte, whole_ranges_have_one_region,
+};
 
 /// A law of jobs: each write of a machine's job is taken back by its back value, and behind the last one the blocks are
 /// those of the image that the job settles.
@@ -63,4 +69,20 @@ pub fn words_pass_by_machines()
     pending_jobs_settle();
     asked_creates_begin_as_machines();
     releases_begin_as_machines();
+}
+
+/// A law of machines: the region of a pending job, from the start of its release and until the last write of its create, is
+/// not mapped: no live region has its name, one of its host bytes or one of its device bytes.
+pub fn pending_regions_are_unmapped()
+    ensures host { (m : Machine) (job : RegionJob) (h : ℕ) → IsMachine m → m.job ≡ Some job
+        → job.region.found.base ≤ h → h < job.region.found.base + job.region.found.size → live_at m h ≡ None }
+    ensures device { (m : Machine) (job : RegionJob) (endpoint dpa : ℕ) (reply : Reply) → IsMachine m
+        → m.job ≡ Some job → LiesInSpan job.region.found endpoint dpa → TellsHost m endpoint dpa reply
+        → reply ≡ replies.Unmapped }
+    ensures name { (m : Machine) (job : RegionJob) → IsMachine m → m.job ≡ Some job
+        → live_named m job.region.name ≡ None }
+{
+    regions_share_no_byte();
+    bytes_are_carried_one_to_one();
+    regions_stay_after_a_create();
 }
