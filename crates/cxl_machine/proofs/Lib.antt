@@ -35,3 +35,5 @@ pub mod Telling
 pub mod TellingAnswers
 pub mod Frames
 pub mod Unmapped
+pub mod GoingAnswers
+pub mod Released

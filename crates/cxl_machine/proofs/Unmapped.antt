@@ -37,14 +37,14 @@ pub record ApartLaws : Type 0 where
   pub region : (s : System) (request : Request) (plan : Plan) (w : WindowFields) (found : Found) → IsSystem s → IsAccepted s → Decode s.blocks → IsLegalPlan s request plan → IsRegionIn s w found → IsRegionIn (with_rows s plan.rows) w found
 
 -- a live region and that of the job are two regions of one image
-record AreTwo (region other : Found) : Type 0 where
-  s : System
-  w : WindowFields
-  v : WindowFields
-  system : IsSystem s
-  first : IsRegionIn s w region
-  second : IsRegionIn s v other
-  apart : region ≢ other
+pub record AreTwo (region other : Found) : Type 0 where
+  pub s : System
+  pub w : WindowFields
+  pub v : WindowFields
+  pub system : IsSystem s
+  pub first : IsRegionIn s w region
+  pub second : IsRegionIn s v other
+  pub apart : region ≢ other
 
 module _ (laws : ApartLaws) (m : Machine) (is : IsMachine m) where
   two_of_create : (region : Live) → Contains m.live region → (job : RegionJob) (request : Request) (plan : Plan) → IsLegalPlan m.settled request plan → plan.found ≡ job.region.found → AreTwo region.found job.region.found
@@ -86,7 +86,7 @@ module _ (laws : ApartLaws) (m : Machine) (is : IsMachine m) where
   two_by region there job (Releases place) release kept = two_of_release region there job kept
 
   module _ (job : RegionJob) (pending : m.job ≡ Some job) where
-    two : (region : Live) → Contains m.live region → AreTwo region.found job.region.found
+    pub two : (region : Live) → Contains m.live region → AreTwo region.found job.region.found
     two region there = two_by region there job job.kind (job_of m job is pending).kind (kept_of m job is pending)
 
     -- no live region holds one of its host bytes

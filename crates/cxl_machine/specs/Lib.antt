@@ -15,3 +15,4 @@ pub mod Sound
 pub mod Trails
 pub mod Scripts
 pub mod Turns
+pub mod Goings

@@ -12,6 +12,7 @@ ghost use Rattle.cxl_reply.specs.Replies.{has_short_text};
 ghost use Rattle.cxl_machine.specs.Machine.{Live, Machine};
 ghost use Rattle.cxl_machine.specs.Jobs.{create_writes, release_writes};
 ghost use Rattle.cxl_machine.specs.Outcomes.{BusOutcome, NoFault, can_go};
+ghost use Rattle.cxl_machine.specs.Goings.{CanGo};
 ghost use Rattle.cxl_machine.specs.Replies.{Answer, is_refusal};
 ghost use Rattle.cxl_machine.specs.Answers.{Answers};
 ghost use Rattle.cxl_machine.specs.Scripts.{Asked, Turn, TakesTurn, lines_asked};
@@ -93,6 +94,17 @@ pub fn each_command_is_answered()
     bytes_are_carried_one_to_one();
     bytes_are_one_list();
     each_record_has_pieces();
+}
+
+/// A law of answers: a machine that a session can stand for answers each command however the bus can let it go, and none
+/// goes otherwise.
+pub fn each_outcome_is_answered()
+    ensures answered { (m : Machine) (command : Command) (outcome : BusOutcome) → IsMachine m → CanGo m command outcome
+        → (answer : Answer) × Answers m command outcome answer }
+    ensures only { (m : Machine) (command : Command) (outcome : BusOutcome) (answer : Answer)
+        → Answers m command outcome answer → CanGo m command outcome }
+{
+    each_command_is_answered();
 }
 
 /// A law of answers: by a machine that a session can stand for, a command that went so has one answer at the most.

@@ -19,11 +19,12 @@ pub use keeping::{
     undone_jobs_keep_machines,
 };
 pub use laws::{
-    commands_go_as_they_can, each_command_is_answered, jobs_have_one_list_of_writes, one_answer,
-    only_short_replies_change, outcomes_show_in_replies, refusals_leave_the_machine,
-    refusals_write_nothing, scripts_go_on,
+    commands_go_as_they_can, each_command_is_answered, each_outcome_is_answered,
+    jobs_have_one_list_of_writes, one_answer, only_short_replies_change, outcomes_show_in_replies,
+    refusals_leave_the_machine, refusals_write_nothing, scripts_go_on,
 };
 pub use pending::{
-    live_regions_stay, pending_jobs_settle, pending_regions_are_unmapped, words_pass_by_machines,
+    ended_jobs_leave_nothing, live_regions_stay, pending_jobs_settle, pending_regions_are_unmapped,
+    words_pass_by_machines,
 };
 pub use texts::{answers_are_told, plan_faults_are_told};

@@ -1,26 +1,32 @@
 //! Laws of the job that is pending at a machine, each the contract of a function that does nothing.
 
-ghost use Rattle.std.specs.Prelude.{◌≡◌, ℕ, ◌+◌, ◌<◌, ◌≤◌, List, length, take, Contains, Some, None};
+ghost use Rattle.std.specs.Prelude.{◌≡◌, ℕ, ◌+◌, ◌*◌, ◌<◌, ◌≤◌, List, length, map, take, Contains, Some, None};
+ghost use Rattle.std.specs.FinMap as finmap;
 ghost use Rattle.cxl_bus.specs.declared.sent.Sent.{Sent};
 ghost use Rattle.cxl_bus.specs.Trail.{blocks_sent};
 ghost use Rattle.cxl_script.specs.declared.command.Command.{Command};
+ghost use Rattle.cxl_media.specs.MediaState.{MediaState};
+ghost use Rattle.cxl_model.specs.declared.plan.Row.{Row};
 ghost use Rattle.cxl_model.specs.Accepted.{KeepsBlocks};
 ghost use Rattle.cxl_model.specs.Bytes.{LiesInSpan};
+ghost use Rattle.cxl_model.specs.Contents.{AreMediaOf};
 ghost use Rattle.cxl_model.specs.Changes.{HaveSameDecoders};
 ghost use Rattle.cxl_model.specs.Regions.{region_range, IsRegionIn};
 ghost use Rattle.cxl_apply.specs.Jobs.{AreTakenBack, blocks_done};
 ghost use Rattle.cxl_reply.specs.declared.reply.Reply.{Reply};
 ghost use Rattle.cxl_reply.specs.declared.reply.Reply.TheVariants as replies;
-ghost use Rattle.cxl_machine.specs.Machine.{Live, RegionJob, Machine, live_at, live_named, region_window, image_of, present};
+ghost use Rattle.cxl_machine.specs.Machine.{Live, RegionJob, Creates, Releases, Machine, live_at, live_named, region_window, image_of, present, holding_of, kept_regions};
 ghost use Rattle.cxl_machine.specs.Accesses.{TellsHost};
-ghost use Rattle.cxl_machine.specs.Jobs.{total_of, settled_by};
+ghost use Rattle.cxl_machine.specs.Jobs.{total_of, settled_by, finished, undone};
 ghost use Rattle.cxl_machine.specs.Outcomes.{BusOutcome};
 ghost use Rattle.cxl_machine.specs.Replies.{Answer};
 ghost use Rattle.cxl_machine.specs.Answers.{Answers};
-ghost use Rattle.cxl_machine.specs.Sound.{IsMachine};
+ghost use Rattle.cxl_machine.specs.Sound.{IsMachine, block_told};
 ghost use Rattle.cxl_machine.specs.Trails.{TrailOf, IsOnTheWay};
 
-use crate::keeping::{asked_creates_begin_as_machines, releases_begin_as_machines};
+use crate::keeping::{
+    asked_creates_begin_as_machines, finished_jobs_keep_machines, releases_begin_as_machines,
+};
 use cxl_apply::{
     create_commits_its_rows, regions_stay_after_a_create, regions_stay_in_a_create,
     regions_stay_in_a_release, release_releases_its_rows, writes_are_taken_back,
@@ -85,4 +91,21 @@ pub fn pending_regions_are_unmapped()
     regions_share_no_byte();
     bytes_are_carried_one_to_one();
     regions_stay_after_a_create();
+}
+
+/// A law of jobs: the region that a create makes holds no piece; a job that is undone leaves the settled image word for
+/// word; and a release that is done leaves no block of the region's spans in media.
+pub fn ended_jobs_leave_nothing()
+    ensures made { (m : Machine) (job : RegionJob) (rows : List Row) → IsMachine m → m.job ≡ Some job
+        → job.kind ≡ Creates rows → job.region.contents ≡ finmap.empty }
+    ensures undone { (m : Machine) (job : RegionJob) → image_of (undone job m) ≡ m.settled.blocks }
+    ensures released { (m : Machine) (job : RegionJob) (place : ℕ) (media : MediaState) (endpoint block : ℕ) → IsMachine m
+        → m.job ≡ Some job → job.kind ≡ Releases place → LiesInSpan job.region.found endpoint (256 * block)
+        → AreMediaOf (map (holding_of (finished job m).settled) (kept_regions (finished job m))) (block_told media)
+        → block_told media endpoint block ≡ None }
+{
+    regions_share_no_byte();
+    bytes_are_carried_one_to_one();
+    regions_stay_after_a_create();
+    finished_jobs_keep_machines();
 }
