@@ -37,3 +37,4 @@ pub mod Frames
 pub mod Unmapped
 pub mod GoingAnswers
 pub mod Released
+pub mod RefusedCreates

@@ -1,11 +1,15 @@
--- That the plans on which the creates of a machine rest are legal (this project's rule).
+-- That the plans on which the creates of a machine rest are legal, and why a create is refused (this project's rules).
 use Rattle.std.specs.Prelude.{◌≡◌, Ok, ⊤}
 use Rattle.cxl_script.specs.declared.command.Command.{Command}
 use Rattle.cxl_script.specs.declared.command.Command.TheVariants as commands
 use Rattle.cxl_script.specs.declared.command.Create.{Create}
 use Rattle.cxl_model.specs.declared.plan.Plan.{Plan}
+use Rattle.cxl_model.specs.declared.plan.PlanFault.{PlanFault}
 use Rattle.cxl_model.specs.declared.request.Request.{Request}
 use Rattle.cxl_model.specs.Plans.{IsLegalPlan}
+use Rattle.cxl_plan.specs.Faults.{IsFirstPlanFault}
+use Rattle.cxl_reply.specs.declared.reply.Reply.{Reply}
+use Rattle.cxl_reply.specs.declared.reply.Reply.TheVariants as replies
 use Rattle.cxl_machine.specs.Machine.{RegionJob, Machine}
 use Rattle.cxl_machine.specs.Jobs.{create_job}
 use Rattle.cxl_machine.specs.Requests.{AsksCreate}
@@ -27,3 +31,12 @@ abbrev pub CreatesLegally : Machine → Command → Type 0
 CreatesLegally m (commands.Create create) = AsksLegally m create
 CreatesLegally m (commands.BeginCreate create) = AsksLegally m create
 CreatesLegally m other = ⊤
+
+-- ---- a create that is refused
+
+-- The refusal tells the first fault of the request, and no plan for it is legal.
+pub record IsRefusedPlan (m : Machine) (request : Request) (refusal : Reply) : Type 0 where
+  pub fault : PlanFault
+  pub told : refusal ≡ replies.Refused fault
+  pub first : IsFirstPlanFault m.settled request fault
+  pub none : (plan : Plan) → IsLegalPlan m.settled request plan → ⊥

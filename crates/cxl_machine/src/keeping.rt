@@ -1,6 +1,6 @@
 //! What leads from a machine that a session can stand for to one, each the contract of a function that does nothing.
 
-ghost use Rattle.std.specs.Prelude.{◌≡◌, ◌≢◌, ℕ, ◌<◌, ◌≤◌, true, List, length, All, Some, None, Ok};
+ghost use Rattle.std.specs.Prelude.{◌≡◌, ◌≢◌, ℕ, ◌<◌, ◌≤◌, true, List, length, All, Some, None, Ok, Err};
 ghost use Rattle.cxl_enc.specs.Limits.{frame_limit};
 ghost use Rattle.cxl_script.specs.declared.command.Command.{Command};
 ghost use Rattle.cxl_script.specs.declared.command.Command.TheVariants as commands;
@@ -9,14 +9,15 @@ ghost use Rattle.cxl_model.specs.declared.plan.Plan.{Plan};
 ghost use Rattle.cxl_model.specs.declared.request.Request.{Request};
 ghost use Rattle.cxl_model.specs.Plans.{IsLegalPlan};
 ghost use Rattle.cxl_model.specs.System.{System, IsSystem};
+ghost use Rattle.cxl_reply.specs.declared.reply.Reply.{Reply};
 ghost use Rattle.cxl_legal.specs.Used.{HasBytePorts};
 ghost use Rattle.cxl_machine.specs.Machine.{Live, RegionJob, Machine, HasSameHost, region_limit};
 ghost use Rattle.cxl_machine.specs.Jobs.{create_job, begun, finished, undone};
 ghost use Rattle.cxl_machine.specs.Outcomes.{BusOutcome, is_access, StoresBytes};
-ghost use Rattle.cxl_machine.specs.Requests.{AsksCreate, asked_release};
+ghost use Rattle.cxl_machine.specs.Requests.{AsksCreate, asked_release, refusal_of_create, request_of};
 ghost use Rattle.cxl_machine.specs.Replies.{Answer};
 ghost use Rattle.cxl_machine.specs.Answers.{Answers};
-ghost use Rattle.cxl_machine.specs.Creating.{CreatesLegally};
+ghost use Rattle.cxl_machine.specs.Creating.{CreatesLegally, IsRefusedPlan};
 ghost use Rattle.cxl_machine.specs.Sound.{IsMachine, Opens};
 
 use cxl_apply::{
@@ -103,6 +104,15 @@ pub fn creates_are_legal()
 {
     answers_hold_of_requests();
     answers_hold_of_wants();
+}
+
+/// A law of machines: where a create names its endpoints and nothing stands against it before a plan is sought, it is refused
+/// with the first fault of its request, and no plan for that is legal.
+pub fn refused_creates_have_causes()
+    ensures { (m : Machine) (create : Create) (refusal : Reply) → IsMachine m → refusal_of_create m create ≡ None
+        → create.ways ≡ None → AsksCreate m create (Err refusal) → IsRefusedPlan m (request_of m create) refusal }
+{
+    answers_hold_of_requests();
 }
 
 /// A law of machines: one that a session can stand for stays one where a create begins that a line asks for. No job was
