@@ -1,5 +1,5 @@
 -- How many frames the bytes of regions take, where some of them change.
-use Rattle.std.proofs.Common.{◌≡◌, ◌≢◌, ℕ, zero, suc, ◌+◌, ◌-◌, ◌/◌, ◌<◌, ◌≤◌, Bool, true, false, cond, not, if◌then◌else◌, List, [], ◌∷◌, ◌++◌, map, length, get_or, Option, Some, None, refl, sym, ap, ◌∙◌, subst, inl, inr, arith}
+use Rattle.std.proofs.Common.{◌≡◌, ◌≢◌, ℕ, zero, suc, ◌+◌, ◌-◌, ◌/◌, ◌<◌, ◌≤◌, Bool, true, false, cond, not, if◌then◌else◌, List, [], ◌∷◌, map, length, get_or, Option, Some, refl, sym, ap, ◌∙◌, subst, arith}
 use Rattle.std.specs.Prelude.{All, Contains, filter, fold, nat_lt, sum_by, is_some}
 use Rattle.std.specs.List.{range_with_len}
 use Rattle.std.specs.Cmp.{nat_cmp_total, Equal-is}
@@ -14,7 +14,7 @@ use Rattle.std.proofs.lemmas.List.Sums.{sum_by-append, sum_by-cons}
 use Rattle.std.proofs.lemmas.Slice.Eq.{bytes_eq-Decides}
 use Rattle.cxl_script.specs.declared.command.Store.{Store}
 use Rattle.cxl_model.specs.Contents.{Contents}
-use Rattle.cxl_machine.specs.Bytes.{piece_after, touched_pieces, new_pieces, written}
+use Rattle.cxl_machine.specs.Bytes.{piece_after, new_pieces, written}
 use Rattle.cxl_machine.specs.Machine.{Live, Machine, under_release, kept_regions, pieces_held, free_frames, with_contents}
 use Rattle.cxl_machine.specs.Accesses.{frames_wanted, offset_in}
 use Rattle.cxl_machine.specs.Copies.{pieces_of, copied, moved, frames_for}

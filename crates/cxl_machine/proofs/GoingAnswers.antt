@@ -11,7 +11,7 @@ use Rattle.cxl_machine.specs.Goings.{GoesAsked, GoesSteps, GoesBack, GoesPending
 use Rattle.cxl_machine.specs.Replies.{Answer, stays}
 use Rattle.cxl_machine.specs.Reports.{AnswersShow, show_answer}
 use Rattle.cxl_machine.specs.Requests.{asked_release}
-use Rattle.cxl_machine.specs.Regions.{CarriesOutWhole, AnswersWhole, ended_answer, pending_answer, stepped_answer, Steps, Aborts, OfPending}
+use Rattle.cxl_machine.specs.Regions.{AnswersWhole, pending_answer, Steps, Aborts, OfPending}
 use Rattle.cxl_machine.specs.Answers.{Answers}
 use Rattle.cxl_machine.specs.Sound.{IsMachine}
 

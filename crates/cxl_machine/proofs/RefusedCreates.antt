@@ -1,5 +1,5 @@
 -- Why a create is refused.
-use Rattle.std.proofs.Common.{◌≡◌, ℕ, Result, Ok, Err, Option, Some, None, sym, subst}
+use Rattle.std.proofs.Common.{◌≡◌, ℕ, Result, Ok, Err, Option, None, sym, subst}
 use Rattle.cxl_script.specs.declared.command.Create.{Create}
 use Rattle.cxl_model.specs.declared.plan.Plan.{Plan}
 use Rattle.cxl_model.specs.declared.plan.PlanFault.{PlanFault}

@@ -15,8 +15,8 @@ pub use fault::OpenFault;
 pub use keeping::{
     accesses_keep_machines, asked_creates_begin_as_machines, commands_keep_machines,
     creates_are_legal, creates_begin_as_machines, finished_jobs_keep_machines,
-    openings_are_machines, refused_creates_have_causes, releases_begin_as_machines, steps_keep_machines,
-    undone_jobs_keep_machines,
+    openings_are_machines, refused_creates_have_causes, releases_begin_as_machines,
+    steps_keep_machines, undone_jobs_keep_machines,
 };
 pub use laws::{
     commands_go_as_they_can, each_command_is_answered, each_outcome_is_answered,
