@@ -1,2 +1,3 @@
 pub mod ExampleBytes
 pub mod ExamplePieces
+pub mod ExampleMedia

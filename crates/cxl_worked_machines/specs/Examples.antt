@@ -18,7 +18,8 @@ use Rattle.cxl_worked.specs.ExampleRegions.{region_of_two}
 use Rattle.cxl_reply.specs.declared.reply.Reply.TheVariants as replies
 use Rattle.cxl_reply.specs.declared.told.Named.{Named}
 use Rattle.cxl_reply.specs.declared.told.ShownRow.{ShownRow}
-use Rattle.cxl_machine.specs.Bytes.{written}
+use Rattle.cxl_media.specs.MediaState.{MediaState}
+use Rattle.cxl_machine.specs.Bytes.{piece_after, written}
 use Rattle.cxl_machine.specs.Machine.{Live, RegionJob, Machine}
 use Rattle.cxl_machine.specs.Jobs.{create_job, release_job, at_done}
 use Rattle.cxl_machine.specs.Requests.{request_for}
@@ -38,6 +39,10 @@ e0 = codes "e0"
 
 abbrev pub e1 : List ℕ
 e1 = codes "e1"
+
+-- the name of the first region of an image
+abbrev pub auto : List ℕ
+auto = auto_name 0
 
 abbrev pub hb0 : List ℕ
 hb0 = codes "hb0"
@@ -165,12 +170,15 @@ poison_bytes said =
     replicate 10 0 ++ said ∷ replicate 21 0
     ++ 0xc2 ∷ 0xff ∷ 0xff ∷ 0x0f ∷ 0 ∷ 0 ∷ 0 ∷ 0 ∷ 2 ∷ 0 ∷ 0 ∷ 0 ∷ 0 ∷ 0 ∷ 0 ∷ 0 ∷ []
 
--- the host with one region as it opens from its image
+-- the host with one region as it opens from its image, with these bytes in it
+abbrev pub opened_region_with : Contents → Live
+opened_region_with contents = record { name = auto_name 0; found = region_of_two; contents = contents }
+
+abbrev pub opened_with : Contents → Machine
+opened_with contents = record fresh { settled = two_bridges; live = opened_region_with contents ∷ [] }
+
 abbrev pub opened : Machine
-opened = record fresh {
-  settled = two_bridges;
-  live = record { name = auto_name 0; found = region_of_two; contents = map.empty } ∷ [];
-}
+opened = opened_with map.empty
 
 -- ---- bytes and commands
 
@@ -180,6 +188,20 @@ nothing = map.empty
 -- 0x11 at the first address
 abbrev pub first_byte : Contents
 first_byte = written nothing 0 (0x11 ∷ [])
+
+-- the piece that has it, and media with the block to which that is carried
+abbrev pub first_piece : List ℕ
+first_piece = piece_after nothing 0 (0x11 ∷ []) 0
+
+abbrev pub one_block : MediaState
+one_block = record { blocks = map.insert map.empty (2, 0) first_piece; free = 1 }
+
+-- beside the region with that byte a second one is being made; and the region is being released
+abbrev pub making_beside : ℕ → Machine
+making_beside done = at_done job_b done (opened_with first_byte)
+
+abbrev pub opened_releasing : ℕ → Machine
+opened_releasing done = at_done (release_job two_bridges 0 (opened_region_with first_byte)) done (record (opened_with first_byte) { live = [] })
 
 abbrev pub load : ℕ → ℕ → Command
 load h len = commands.Load record { h = h; len = len }

@@ -11,7 +11,7 @@ pub use examples::{
     creates_on_examples, refused_creates_on_examples, release_steps_on_examples,
     releases_on_examples, steps_on_examples,
 };
-pub use opening_examples::openings_on_examples;
+pub use opening_examples::{machines_with_bytes_on_examples, openings_on_examples};
 pub use plan_examples::{
     plan_faults_on_examples, poison_on_examples, scripts_on_examples, trails_on_examples,
 };
