@@ -28,6 +28,8 @@ use Rattle.cxl_machine.proofs.Writes.{create_is, release_is}
 -- what is known of an image between two writes of a job
 pub record BetweenLaws : Type 0 where
   pub one : OneLaw
+  pub create_system : (s : System) (request : Request) (plan : Plan) (writes : List Write) (n : ℕ) → IsSystem s → IsAccepted s → IsLegalPlan s request plan → AreCreateWrites s.blocks plan.rows writes → IsSystem (system_done s writes n)
+  pub release_system : (s : System) (found : Found) (writes : List Write) (n : ℕ) → IsSystem s → AreReleaseWrites (rows_of s found) writes → IsSystem (system_done s writes n)
   pub create_keeps : (s : System) (request : Request) (plan : Plan) (writes : List Write) (n : ℕ) → IsSystem s → IsAccepted s → Decode s.blocks → IsLegalPlan s request plan → AreCreateWrites s.blocks plan.rows writes → KeepsBlocks (system_done s writes n)
   pub create_decoders : (s : System) (request : Request) (plan : Plan) (writes : List Write) (n : ℕ) (w : WindowFields) (found : Found) → IsSystem s → IsAccepted s → Decode s.blocks → IsLegalPlan s request plan → AreCreateWrites s.blocks plan.rows writes → IsRegionIn s w found → HaveSameDecoders s (system_done s writes n) (region_range found)
   pub create_region : (s : System) (request : Request) (plan : Plan) (writes : List Write) (n : ℕ) (w : WindowFields) (found : Found) → IsSystem s → IsAccepted s → Decode s.blocks → IsLegalPlan s request plan → AreCreateWrites s.blocks plan.rows writes → IsRegionIn s w found → IsRegionIn (system_done s writes n) w found
@@ -57,12 +59,21 @@ module _ (laws : BetweenLaws) (m : Machine) (is : IsMachine m) where
       subst (λ (j : RegionJob). KeepsBlocks (at j.writes n)) (sym release.made)
       (laws.release_keeps m.settled job.region.found _ n is.settled.system keeps release.unlocked release.last (release_is m.settled job.region))
 
-  present_by : (o : Option RegionJob) → m.job ≡ o → KeepsBlocks (present_with m o)
-  present_by None none = keeps
-  present_by (Some job) pending = keeps_by job job.kind (job_of m job is pending).kind job.done
+  system_by : (job : RegionJob) (kind : JobKind) → IsJobOf m job kind → (n : ℕ) → IsSystem (at job.writes n)
+  system_by job (Creates rows) create n =
+      subst (λ (j : RegionJob). IsSystem (at j.writes n)) (sym create.made)
+      (laws.create_system m.settled create.request create.plan _ n is.settled.system is.settled.accepted create.legal (create_is m.settled create.plan.rows create.legal.1.rows_of.rising))
+  system_by job (Releases place) release n =
+      subst (λ (j : RegionJob). IsSystem (at j.writes n)) (sym release.made) (laws.release_system m.settled job.region.found _ n is.settled.system (release_is m.settled job.region))
 
-  pub present_keeps : KeepsBlocks (present m)
-  present_keeps = present_by m.job refl
+  present_by : (o : Option RegionJob) → m.job ≡ o → IsSystem (present_with m o) × KeepsBlocks (present_with m o)
+  present_by None none = (is.settled.system, keeps)
+  present_by (Some job) pending =
+      let own = (job_of m job is pending).kind in
+      (system_by job job.kind own job.done, keeps_by job job.kind own job.done)
+
+  pub present_system : IsSystem (present m) × KeepsBlocks (present m)
+  present_system = present_by m.job refl
 
   -- ---- a live region
 

@@ -12,6 +12,7 @@ ghost use Rattle.cxl_model.specs.Bytes.{LiesInSpan};
 ghost use Rattle.cxl_model.specs.Contents.{AreMediaOf};
 ghost use Rattle.cxl_model.specs.Changes.{HaveSameDecoders};
 ghost use Rattle.cxl_model.specs.Regions.{region_range, IsRegionIn};
+ghost use Rattle.cxl_model.specs.System.{IsSystem};
 ghost use Rattle.cxl_apply.specs.Jobs.{AreTakenBack, blocks_done};
 ghost use Rattle.cxl_reply.specs.declared.reply.Reply.{Reply};
 ghost use Rattle.cxl_reply.specs.declared.reply.Reply.TheVariants as replies;
@@ -48,10 +49,10 @@ pub fn pending_jobs_settle()
     release_releases_its_rows();
 }
 
-/// A law of machines: while a job is pending, the image that the registers hold keeps K1 to K8, and each live region is a
-/// region of it, in the same window, with the same spans and the same decoders.
+/// A law of machines: while a job is pending, the image that the registers hold is one of the same host that keeps K1 to K8,
+/// and each live region is a region of it, in the same window, with the same spans and the same decoders.
 pub fn live_regions_stay()
-    ensures keeps { (m : Machine) → IsMachine m → KeepsBlocks (present m) }
+    ensures system { (m : Machine) → IsMachine m → IsSystem (present m) × KeepsBlocks (present m) }
     ensures region { (m : Machine) (region : Live) → IsMachine m → Contains m.live region
         → IsRegionIn m.settled (region_window m.settled region.found) region.found
         × IsRegionIn (present m) (region_window m.settled region.found) region.found
