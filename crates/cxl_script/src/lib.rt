@@ -15,5 +15,5 @@ pub use command::{Command, Create, Load, Pair, Poison, Reach, Store, Up};
 pub use cxl_enc::{FixedList, MemKind, Memory, Name};
 pub use cxl_io::LINE_LIMIT;
 pub use fault::{BadLine, LineFault, Why};
-pub use laws::stated_granularities_are_codes;
+pub use laws::{asked_commands_are_ranged, stated_granularities_are_codes};
 pub use line::read_command;
