@@ -1,0 +1,7 @@
+use Rattle.std.proofs.Common.{arith}
+use Rattle.cxl_gen.specs.Made.{made_chbs}
+use Rattle.cxl_gen.proofs.Growing.{pushed}
+use Rattle.cxl_gen.proofs.table.add_bridges.Goals as goal
+
+pub loop-i-preserved : goal.loop-i-preserved
+loop-i-preserved c = pushed made_chbs _ _ _ 0 c.loop-i.i c.loop-i.i _ (omega arith) c.loop-i.invariant c.made_chbs.ensures c.in_ok-push.ensures.items
