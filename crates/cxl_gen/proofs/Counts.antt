@@ -9,8 +9,8 @@ use Rattle.cxl_cedt.specs.Records.{kind_of, record_length, table_length, HasFewO
 use Rattle.cxl_gen.specs.Made.{made_chbs, made_cxims, made_window, made_records}
 
 -- a sum over items that all add the same
-module _ (g : Record → ℕ) (f : ℕ → Record) (k : ℕ) (each : (i : ℕ) → g (f i) ≡ k) where
-  mapped_sum : (a n : ℕ) → sum_by g (map f (range_with_len a n)) ≡ n * k
+module _ {X : Type 0} (g : X → ℕ) (f : ℕ → X) (k : ℕ) (each : (i : ℕ) → g (f i) ≡ k) where
+  pub mapped_sum : (a n : ℕ) → sum_by g (map f (range_with_len a n)) ≡ n * k
   mapped_sum a zero = omega arith
   mapped_sum a (suc n) =
       let rest = mapped_sum (a + 1) n in let one = each a in
