@@ -15,7 +15,7 @@ fn outside(rt: HostRuntime) {
 
 const USAGE: &str = "usage\n";
 
-const OUTSIDE: [Row; 24] = [
+const OUTSIDE: [Row; 29] = [
     // Words that are none of the forms, or whose address is no number.
     ("", TWO_BRIDGES, "", 1, USAGE),
     ("route", TWO_BRIDGES, "", 1, USAGE),
@@ -39,6 +39,12 @@ const OUTSIDE: [Row; 24] = [
     ("check", TWO_BRIDGES, "", 1, USAGE),
     ("check table table", TWO_BRIDGES, "", 1, USAGE),
     ("check table table table table", TWO_BRIDGES, "", 1, USAGE),
+    // Forms of a session, which are not carried out yet.
+    ("run table topology", TWO_BRIDGES, "", 1, USAGE),
+    ("run table topology image", TWO_BRIDGES, "", 1, USAGE),
+    ("run table", TWO_BRIDGES, "", 1, USAGE),
+    ("gen 1", TWO_BRIDGES, "", 1, USAGE),
+    ("gen 33", TWO_BRIDGES, "", 1, USAGE),
     ("--help route", TWO_BRIDGES, "", 1, USAGE),
     ("--version 0", TWO_BRIDGES, "", 1, USAGE),
     // Help and version.

@@ -1,4 +1,6 @@
-use cxl_io::{MemFetch, MemSink, read_number};
+use cxl_bus::SimBus;
+use cxl_io::{MemFetch, MemSink, MemSource, read_number};
+use cxl_media::SimMedia;
 use cxl_shell::run;
 use std::alloc::Global;
 use std::fmt::Debug;
@@ -153,14 +155,17 @@ pub(crate) fn put_word(rt: &impl Abort, alloc: Global, words: &mut Vec<String>, 
     words.push(word).expect(rt, "memory");
 }
 
-/// Runs the words, and gives the exit status.
+/// Runs the words over an empty script and devices without power, and gives the exit status.
 pub(crate) fn code_of_run(
     alloc: Global,
     words: &[String],
     files: &mut MemFetch,
     sink: &mut MemSink,
 ) -> u8 {
-    run(alloc, words, files, sink).code()
+    let mut script = MemSource::new(Vec::new(alloc), Vec::new(alloc));
+    let mut regs = SimBus::new(alloc);
+    let mut media = SimMedia::new(alloc);
+    run(alloc, words, files, &mut script, sink, &mut regs, &mut media).code()
 }
 
 /// Whether the words end with this exit status and write these bytes.

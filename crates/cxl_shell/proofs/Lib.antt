@@ -18,7 +18,10 @@ pub mod Lists
 pub mod Regions
 pub mod Checks
 pub mod Routes
+pub mod Pieces
 pub mod Runs
+pub mod Endings
+pub mod Lifted
 pub mod Steps
 pub mod Readings
-pub mod PerCommand
+pub mod laws

@@ -1,6 +1,6 @@
 -- What the line of a plan states as a granularity is a code of the table.
 use Rattle.std.proofs.Common.{ℕ, Bool, true, false, List, [], ◌∷◌, Option, Some, None, IfSome, Result, Ok, Err, IfOk}
-use Rattle.std.specs.Prelude.{if◌then◌else◌, codes, bytes_eq}
+use Rattle.std.specs.Prelude.{if◌then◌else◌, ◌&&◌, nat_le, codes, bytes_eq}
 use Rattle.cxl_io.specs.Numbers.{number_of}
 use Rattle.cxl_io.specs.declared.number.NumFault.{NumFault}
 use Rattle.cxl_script.specs.Grammar.{asked_in, StatesGranCode, StatesGranCodes}
@@ -8,7 +8,7 @@ use Rattle.cxl_script.specs.declared.command.Command.{Command}
 use Rattle.cxl_script.specs.declared.command.Command.TheVariants as commands
 use Rattle.cxl_script.specs.declared.command.Create.{Create}
 use Rattle.cxl_script.specs.declared.fault.BadLine.{BadLine}
-use Rattle.cxl_shell.specs.Form.{Form, Help, Version, Unreadable, route_to, route_form, list_form, normal_form, check_form, create_asked, create_on_line, plan_over, plan_form, alone, form_of, LineStatesGranCode}
+use Rattle.cxl_shell.specs.Form.{Form, Gen, Help, Version, Unreadable, route_to, route_form, list_form, normal_form, check_form, create_asked, create_on_line, plan_over, plan_form, run_form, gen_of, gen_form, alone, asked_form, LineStatesGranCode}
 
 abbrev pub StateCodes : Type 0
 StateCodes = (line : List ℕ) → IfOk (asked_in line) (λ asked. IfSome asked StatesGranCodes)
@@ -68,7 +68,23 @@ plan_words law (cedt ∷ topo ∷ []) = tt
 plan_words law (cedt ∷ topo ∷ line ∷ []) = planned_over cedt topo (create_on_line line) (asked_code (asked_in line) (law line))
 plan_words law (cedt ∷ topo ∷ line ∷ word ∷ words) = tt
 
-pub line_states_code : StateCodes → (words : List (List ℕ)) → LineStatesGranCode (form_of words)
+run_words : (words : List (List ℕ)) → LineStatesGranCode (run_form words)
+run_words [] = tt
+run_words (cedt ∷ []) = tt
+run_words (cedt ∷ topo ∷ []) = tt
+run_words (cedt ∷ topo ∷ image ∷ []) = tt
+run_words (cedt ∷ topo ∷ image ∷ word ∷ words) = tt
+
+generated : (n : Result ℕ NumFault) → LineStatesGranCode (gen_of n)
+generated (Ok n) = either (nat_le 1 n && nat_le n 32) (Gen n) Unreadable tt tt
+generated (Err fault) = tt
+
+gen_words : (words : List (List ℕ)) → LineStatesGranCode (gen_form words)
+gen_words [] = tt
+gen_words (number ∷ []) = generated (number_of number)
+gen_words (number ∷ word ∷ words) = tt
+
+pub line_states_code : StateCodes → (words : List (List ℕ)) → LineStatesGranCode (asked_form words)
 line_states_code law [] = tt
 line_states_code law (word ∷ words) =
     either (bytes_eq word (codes "route")) _ _ (route_words words)
@@ -76,5 +92,7 @@ line_states_code law (word ∷ words) =
     (either (bytes_eq word (codes "normal")) _ _ (normal_words words)
     (either (bytes_eq word (codes "check")) _ _ (check_words words)
     (either (bytes_eq word (codes "plan")) _ _ (plan_words law words)
+    (either (bytes_eq word (codes "run")) _ _ (run_words words)
+    (either (bytes_eq word (codes "gen")) _ _ (gen_words words)
     (either (bytes_eq word (codes "--help")) _ _ (no_others Help words tt)
-    (either (bytes_eq word (codes "--version")) _ Unreadable (no_others Version words tt) tt))))))
+    (either (bytes_eq word (codes "--version")) _ Unreadable (no_others Version words tt) tt))))))))

@@ -6,7 +6,7 @@ use Rattle.cxl_shell.specs.Answers.{IsOutcomeByFiles, IsStop}
 use Rattle.cxl_shell.specs.Ends.{Ends, IsBehind, Finishes}
 use Rattle.cxl_shell.specs.Form.{Listing}
 use Rattle.cxl_shell.specs.Outside.{Outside}
-use Rattle.cxl_shell.specs.Run.{IsRun, runs_out, behind}
+use Rattle.cxl_shell.specs.Run.{IsRunByFiles, runs_out, behind}
 use Rattle.cxl_shell.specs.commands.List.{listed}
 use Rattle.cxl_shell.specs.declared.status.Status.{Status}
 use Rattle.cxl_shell.specs.declared.status.Status.TheVariants.{Memory}
@@ -19,13 +19,13 @@ module _ (file : List ℕ) (old new : Outside) (status : Status) where
   listed-answers : (table : CedtFields) → IsTableOf (old.files.told file) table → AsksFor old.files new.files (file ∷ []) → IsOutcomeByFiles (Listing file) old.files new.files (listed table.records)
   listed-answers table of asks = by_table table of (asks, refl)
 
-  pub run-listed : (table : CedtFields) → IsTableOf (old.files.told file) table → AsksFor old.files new.files (file ∷ []) → Ends (listed table.records) status old.out new.out → IsRun (Listing file) old new status
+  pub run-listed : (table : CedtFields) → IsTableOf (old.files.told file) table → AsksFor old.files new.files (file ∷ []) → Ends (listed table.records) status old.out new.out → IsRunByFiles (Listing file) old new status
   run-listed table of asks ended = run-ended (Listing file) old new status (listed table.records) (listed-answers table of asks) ended
 
-  pub run-behind : (table : CedtFields) → IsTableOf (old.files.told file) table → AsksFor old.files new.files (file ∷ []) → status ≡ Memory → IsBehind (listed table.records) old.out new.out → IsRun (Listing file) old new status
+  pub run-behind : (table : CedtFields) → IsTableOf (old.files.told file) table → AsksFor old.files new.files (file ∷ []) → status ≡ Memory → IsBehind (listed table.records) old.out new.out → IsRunByFiles (Listing file) old new status
   run-behind table of asks is lines = runs_out refl is (behind (listed table.records) (listed-answers table of asks) lines)
 
-  pub run-stopped : (reason : Stop) → IsStop (HasNoTable file old.files new.files) (AsksForSome (file ∷ []) old.files new.files) reason → Finishes (Err reason) status old.out new.out → IsRun (Listing file) old new status
+  pub run-stopped : (reason : Stop) → IsStop (HasNoTable file old.files new.files) (AsksForSome (file ∷ []) old.files new.files) reason → Finishes (Err reason) status old.out new.out → IsRunByFiles (Listing file) old new status
   run-stopped reason stops finishes =
       run-finished (Listing file) old new status refl (Err reason)
       (stop-weaker (HasNoTable file old.files new.files) (IsOutcomeByFiles (Listing file) old.files new.files) (AsksForSome (file ∷ []) old.files new.files) (AsksForSome (file ∷ []) old.files new.files) reason (λ o none. no_table none) (λ out. out) stops)

@@ -8,19 +8,22 @@ use Rattle.cxl_image.specs.File.{IsImageFile, IsFirstImageFault}
 use Rattle.cxl_image.specs.declared.fault.ImageFault.{ImageFault}
 use Rattle.cxl_io.specs.Told.{Bytes}
 use Rattle.cxl_regs.specs.Registers.{Registers}
-use Rattle.cxl_script.specs.declared.command.Create.{Create}
 use Rattle.cxl_topo.specs.Tree.{Tree}
 use Rattle.cxl_topo.specs.declared.node.Node.{Node}
 use Rattle.cxl_topofile.specs.File.{IsTopologyFile, IsFirstTopoFault}
 use Rattle.cxl_topofile.specs.declared.fault.TopoFault.{TopoFault}
 use Rattle.cxl_topofile.specs.declared.fault.TopoFault.TheVariants as faults
-use Rattle.cxl_shell.specs.Answers.{IsOutcomeByFiles, IsTableAnswer, IsTreeAnswer, IsHostAnswer, IsAnswerBy, IsAnswerOfFile, IsAnswerOfResetHost, IsAnswerOfHost}
+use Rattle.cxl_shell.specs.Answers.{IsOutcomeByFiles, IsTableAnswer, IsAnswerBy}
 use Rattle.cxl_shell.specs.Ends.{IsWritten, IsStopped}
-use Rattle.cxl_shell.specs.Form.{Form, Route, Listing, Normal, Check, Plan, NoCreate, Help, Version, Unreadable, table_file, topology_file, image_file}
+use Rattle.cxl_shell.specs.Form.{Form, OfTable, OfResetHost, OfHost, OfWords, table_file, topology_file, image_file}
 use Rattle.cxl_shell.specs.Outcome.{Outcome}
 use Rattle.cxl_shell.specs.Outside.{Outside}
 use Rattle.cxl_shell.specs.Readings.{KnowsTable, KnowsTree, KnowsImage, Readings, ByTable, ByTree, ByHost, AreKnown}
-use Rattle.cxl_shell.specs.Run.{IsRun, writes, is_cut, runs_out}
+use Rattle.cxl_shell.specs.Run.{IsRunByFiles, writes, is_cut, runs_out}
+use Rattle.cxl_shell.specs.declared.form.HostAsk.{HostAsk}
+use Rattle.cxl_shell.specs.declared.form.ResetAsk.{ResetAsk}
+use Rattle.cxl_shell.specs.declared.form.TableAsk.{TableAsk}
+use Rattle.cxl_shell.specs.declared.form.TableAsk.TheVariants as table_asks
 use Rattle.cxl_shell.specs.declared.status.Status.{Status}
 use Rattle.cxl_shell.specs.declared.status.Status.TheVariants.{BadTable, BadTopo, BadImage, Memory}
 use Rattle.cxl_shell.specs.inputs.Host as hosts
@@ -85,30 +88,32 @@ knows_table old form file bytes table asked there reading = record { bytes = byt
 module _ (old new : Outside) (status : Status) where
   -- a form's outcome by its table is written, or by its tree, or by its host
   abbrev pub AnsweredByTable : Form → CedtFields → Type 0
-  AnsweredByTable form table = (o : Outcome) × IsTableAnswer form table o × IsWritten o status old.out new.out
+  AnsweredByTable form table = (o : Outcome) × IsAnswerBy form (ByTable table) o × IsWritten o status old.out new.out
 
   abbrev pub AnsweredByTree : Form → CedtFields → Tree → Type 0
-  AnsweredByTree form table tree = (o : Outcome) × IsTreeAnswer form table tree o × IsWritten o status old.out new.out
+  AnsweredByTree form table tree = (o : Outcome) × IsAnswerBy form (ByTree table tree) o × IsWritten o status old.out new.out
 
   abbrev pub AnsweredByHost : Form → CedtFields → Tree → List Registers → Type 0
-  AnsweredByHost form table tree blocks = (o : Outcome) × IsHostAnswer form table tree blocks o × IsWritten o status old.out new.out
+  AnsweredByHost form table tree blocks = (o : Outcome) × IsAnswerBy form (ByHost table tree blocks) o × IsWritten o status old.out new.out
 
   abbrev pub ImageStep : List ℕ → Form → CedtFields → Tree → Type 0
   ImageStep image form table tree =
       Step old new status (List Registers) ImageFault (ReadsImage tree.nodes) (FailsImage tree.nodes) BadImage (old.files.told image) (AnsweredByHost form table tree)
 
   abbrev pub AfterTree : Form → CedtFields → Tree → Type 0
-  AfterTree (Check cedt topo image) table tree = ImageStep image (Check cedt topo image) table tree
-  AfterTree (Plan cedt topo create) table tree = AnsweredByTree (Plan cedt topo create) table tree
-  AfterTree form table tree = ⊥
+  AfterTree (OfTable cedt ask) table tree = ⊥
+  AfterTree (OfResetHost cedt topo ask) table tree = AnsweredByTree (OfResetHost cedt topo ask) table tree
+  AfterTree (OfHost cedt topo image ask) table tree = ImageStep image (OfHost cedt topo image ask) table tree
+  AfterTree (OfWords ask) table tree = ⊥
 
   abbrev pub TreeStep : List ℕ → Form → CedtFields → Type 0
   TreeStep topo form table = Step old new status Tree TopoFault IsTreeReading IsFaultyTree BadTopo (old.files.told topo) (AfterTree form table)
 
   abbrev pub AfterTable : Form → CedtFields → Type 0
-  AfterTable (Check cedt topo image) table = TreeStep topo (Check cedt topo image) table
-  AfterTable (Plan cedt topo create) table = TreeStep topo (Plan cedt topo create) table
-  AfterTable form table = AnsweredByTable form table
+  AfterTable (OfTable cedt ask) table = AnsweredByTable (OfTable cedt ask) table
+  AfterTable (OfResetHost cedt topo ask) table = TreeStep topo (OfResetHost cedt topo ask) table
+  AfterTable (OfHost cedt topo image ask) table = TreeStep topo (OfHost cedt topo image ask) table
+  AfterTable (OfWords ask) table = ⊥
 
   abbrev pub TableStep : List ℕ → Form → Type 0
   TableStep file form = Step old new status CedtFields CedtFault IsReading IsFaulty BadTable (old.files.told file) (AfterTable form)
@@ -125,102 +130,77 @@ module _ (old new : Outside) (status : Status) where
   no_image_step before file form table tree o (images.no_bytes none) written = no_bytes_step old new status (List Registers) ImageFault (ReadsImage tree.nodes) (FailsImage tree.nodes) BadImage before file o (AnsweredByHost form table tree) none written
   no_image_step before file form table tree o (images.not_sound fault is asks e) written = faulty is.bytes fault is.told_so is.faulty (written.status_is ∙ ap (λ x. x.status) e)
 
-  host_step : (cedt topo image : List ℕ) (o : Outcome) → IsAnswerOfHost (Check cedt topo image) cedt topo image old.files new.files o → IsWritten o status old.out new.out → TableStep cedt (Check cedt topo image)
-  host_step cedt topo image o (hosts.no_host (hosts.no_table none)) written = no_table_step cedt (Check cedt topo image) o none written
-  host_step cedt topo image o (hosts.no_host (hosts.no_tree table of none)) written =
-      read of.bytes table of.told_so of.reading (no_tree_step (cedt ∷ []) topo (Check cedt topo image) table o none written)
-  host_step cedt topo image o (hosts.no_host (hosts.no_image table tree of of_tree none)) written =
-      read of.bytes table of.told_so of.reading (read of_tree.bytes tree of_tree.told_so of_tree.reading (no_image_step (cedt ∷ topo ∷ []) image (Check cedt topo image) table tree o none written))
-  host_step cedt topo image o (hosts.by_host table tree blocks is answer) written =
+  host_step : (cedt topo image : List ℕ) (ask : HostAsk) (o : Outcome) → IsOutcomeByFiles (OfHost cedt topo image ask) old.files new.files o → IsWritten o status old.out new.out → TableStep cedt (OfHost cedt topo image ask)
+  host_step cedt topo image ask o (hosts.no_host (hosts.no_table none)) written = no_table_step cedt (OfHost cedt topo image ask) o none written
+  host_step cedt topo image ask o (hosts.no_host (hosts.no_tree table of none)) written =
+      read of.bytes table of.told_so of.reading (no_tree_step (cedt ∷ []) topo (OfHost cedt topo image ask) table o none written)
+  host_step cedt topo image ask o (hosts.no_host (hosts.no_image table tree of of_tree none)) written =
+      read of.bytes table of.told_so of.reading (read of_tree.bytes tree of_tree.told_so of_tree.reading (no_image_step (cedt ∷ topo ∷ []) image (OfHost cedt topo image ask) table tree o none written))
+  host_step cedt topo image ask o (hosts.by_host table tree blocks is answer) written =
       let of = is.of_table in
       let of_tree = is.of_tree in
       let of_image = is.of_image in
       read of.bytes table of.told_so of.reading (read of_tree.bytes tree of_tree.told_so of_tree.reading (read of_image.bytes blocks of_image.told_so of_image.reading (o, answer.1, written)))
 
-  reset_step : (cedt topo : List ℕ) (create : Create) (o : Outcome) → IsAnswerOfResetHost (Plan cedt topo create) cedt topo old.files new.files o → IsWritten o status old.out new.out → TableStep cedt (Plan cedt topo create)
-  reset_step cedt topo create o (resets.no_reset_host (resets.no_table none)) written = no_table_step cedt (Plan cedt topo create) o none written
-  reset_step cedt topo create o (resets.no_reset_host (resets.no_tree table of none)) written =
-      read of.bytes table of.told_so of.reading (no_tree_step (cedt ∷ []) topo (Plan cedt topo create) table o none written)
-  reset_step cedt topo create o (resets.by_reset_host table tree is answer) written =
+  reset_step : (cedt topo : List ℕ) (ask : ResetAsk) (o : Outcome) → IsOutcomeByFiles (OfResetHost cedt topo ask) old.files new.files o → IsWritten o status old.out new.out → TableStep cedt (OfResetHost cedt topo ask)
+  reset_step cedt topo ask o (resets.no_reset_host (resets.no_table none)) written = no_table_step cedt (OfResetHost cedt topo ask) o none written
+  reset_step cedt topo ask o (resets.no_reset_host (resets.no_tree table of none)) written =
+      read of.bytes table of.told_so of.reading (no_tree_step (cedt ∷ []) topo (OfResetHost cedt topo ask) table o none written)
+  reset_step cedt topo ask o (resets.by_reset_host table tree is answer) written =
       let of = is.of_table in
       let of_tree = is.of_tree in
       read of.bytes table of.told_so of.reading (read of_tree.bytes tree of_tree.told_so of_tree.reading (o, answer.1, written))
 
-  file_step : (form : Form) (file : List ℕ) (o : Outcome) → ((table : CedtFields) → AnsweredByTable form table → AfterTable form table) → IsAnswerOfFile form file old.files new.files o → IsWritten o status old.out new.out → TableStep file form
-  file_step form file o after (tables.no_table none) written = no_table_step file form o none written
-  file_step form file o after (tables.by_table table of answer) written = read of.bytes table of.told_so of.reading (after table (o, answer.1, written))
+  file_step : (cedt : List ℕ) (ask : TableAsk) (o : Outcome) → IsOutcomeByFiles (OfTable cedt ask) old.files new.files o → IsWritten o status old.out new.out → TableStep cedt (OfTable cedt ask)
+  file_step cedt ask o (tables.no_table none) written = no_table_step cedt (OfTable cedt ask) o none written
+  file_step cedt ask o (tables.by_table table of answer) written = read of.bytes table of.told_so of.reading (o, answer.1, written)
 
   written_step : (form : Form) (file : List ℕ) → table_file form ≡ Some file → (o : Outcome) → IsOutcomeByFiles form old.files new.files o → IsWritten o status old.out new.out → TableStep file form
-  written_step (Route own h) file asked o answers written = let same : own ≡ file = cc in subst (λ f. TableStep f (Route own h)) same (file_step (Route own h) own o (λ table a. a) answers written)
-  written_step (Listing own) file asked o answers written = let same : own ≡ file = cc in subst (λ f. TableStep f (Listing own)) same (file_step (Listing own) own o (λ table a. a) answers written)
-  written_step (Normal own) file asked o answers written = let same : own ≡ file = cc in subst (λ f. TableStep f (Normal own)) same (file_step (Normal own) own o (λ table a. a) answers written)
-  written_step (Check cedt topo image) file asked o answers written = let same : cedt ≡ file = cc in subst (λ f. TableStep f (Check cedt topo image)) same (host_step cedt topo image o answers written)
-  written_step (Plan cedt topo create) file asked o answers written = let same : cedt ≡ file = cc in subst (λ f. TableStep f (Plan cedt topo create)) same (reset_step cedt topo create o answers written)
-  written_step NoCreate file asked o answers written = absurd (cc)
-  written_step Help file asked o answers written = absurd (cc)
-  written_step Version file asked o answers written = absurd (cc)
-  written_step Unreadable file asked o answers written = absurd (cc)
+  written_step (OfTable cedt ask) file asked o answers written = let same : cedt ≡ file = cc in subst (λ f. TableStep f (OfTable cedt ask)) same (file_step cedt ask o answers written)
+  written_step (OfResetHost cedt topo ask) file asked o answers written = let same : cedt ≡ file = cc in subst (λ f. TableStep f (OfResetHost cedt topo ask)) same (reset_step cedt topo ask o answers written)
+  written_step (OfHost cedt topo image ask) file asked o answers written = let same : cedt ≡ file = cc in subst (λ f. TableStep f (OfHost cedt topo image ask)) same (host_step cedt topo image ask o answers written)
+  written_step (OfWords ask) file asked o answers written = absurd (cc)
 
   -- the step of the table's file
-  pub table_step : (form : Form) (file : List ℕ) → table_file form ≡ Some file → IsRun form old new status → TableStep file form
+  pub table_step : (form : Form) (file : List ℕ) → table_file form ≡ Some file → IsRunByFiles form old new status → TableStep file form
   table_step form file asked (writes o answers written) = written_step form file asked o answers written
   table_step form file asked (is_cut o answers is) = unwritten (inl (is.status_is, is.rose))
   table_step form file asked (runs_out takes is left) = unwritten (inr is)
 
   -- the step of the topology's file
   pub tree_step : (form : Form) (table : CedtFields) (file : List ℕ) → topology_file form ≡ Some file → AfterTable form table → TreeStep file form table
-  tree_step (Check cedt topo image) table file asked step = let same : topo ≡ file = cc in subst (λ f. TreeStep f (Check cedt topo image) table) same step
-  tree_step (Plan cedt topo create) table file asked step = let same : topo ≡ file = cc in subst (λ f. TreeStep f (Plan cedt topo create) table) same step
-  tree_step NoCreate table file asked step = absurd (cc)
-  tree_step (Route own h) table file asked step = absurd (cc)
-  tree_step (Listing own) table file asked step = absurd (cc)
-  tree_step (Normal own) table file asked step = absurd (cc)
-  tree_step Help table file asked step = absurd (cc)
-  tree_step Version table file asked step = absurd (cc)
-  tree_step Unreadable table file asked step = absurd (cc)
+  tree_step (OfTable cedt ask) table file asked step = absurd (cc)
+  tree_step (OfResetHost cedt topo ask) table file asked step = let same : topo ≡ file = cc in subst (λ f. TreeStep f (OfResetHost cedt topo ask) table) same step
+  tree_step (OfHost cedt topo image ask) table file asked step = let same : topo ≡ file = cc in subst (λ f. TreeStep f (OfHost cedt topo image ask) table) same step
+  tree_step (OfWords ask) table file asked step = absurd (cc)
 
   -- the step of the image's file
   pub image_step : (form : Form) (table : CedtFields) (tree : Tree) (file : List ℕ) → image_file form ≡ Some file → AfterTree form table tree → ImageStep file form table tree
-  image_step (Check cedt topo image) table tree file asked step = let same : image ≡ file = cc in subst (λ f. ImageStep f (Check cedt topo image) table tree) same step
-  image_step (Plan cedt topo create) table tree file asked step = absurd (cc)
-  image_step NoCreate table tree file asked step = absurd step
-  image_step (Route own h) table tree file asked step = absurd step
-  image_step (Listing own) table tree file asked step = absurd step
-  image_step (Normal own) table tree file asked step = absurd step
-  image_step Help table tree file asked step = absurd step
-  image_step Version table tree file asked step = absurd step
-  image_step Unreadable table tree file asked step = absurd step
+  image_step (OfTable cedt ask) table tree file asked step = absurd step
+  image_step (OfResetHost cedt topo ask) table tree file asked step = absurd (cc)
+  image_step (OfHost cedt topo image ask) table tree file asked step = let same : image ≡ file = cc in subst (λ f. ImageStep f (OfHost cedt topo image ask) table tree) same step
+  image_step (OfWords ask) table tree file asked step = absurd step
 
   table_alone : (form : Form) (table : CedtFields) → topology_file form ≡ None → AfterTable form table → AnsweredByTable form table
-  table_alone (Check cedt topo image) table none step = absurd (cc)
-  table_alone (Plan cedt topo create) table none step = absurd (cc)
-  table_alone NoCreate table none step = step
-  table_alone (Route own h) table none step = step
-  table_alone (Listing own) table none step = step
-  table_alone (Normal own) table none step = step
-  table_alone Help table none step = step
-  table_alone Version table none step = step
-  table_alone Unreadable table none step = step
+  table_alone (OfTable cedt ask) table none step = step
+  table_alone (OfResetHost cedt topo ask) table none step = absurd (cc)
+  table_alone (OfHost cedt topo image ask) table none step = absurd (cc)
+  table_alone (OfWords ask) table none step = absurd step
 
   tree_alone : (form : Form) (table : CedtFields) (tree : Tree) → image_file form ≡ None → AfterTree form table tree → AnsweredByTree form table tree
-  tree_alone (Check cedt topo image) table tree none step = absurd (cc)
-  tree_alone (Plan cedt topo create) table tree none step = step
-  tree_alone NoCreate table tree none step = absurd step
-  tree_alone (Route own h) table tree none step = absurd step
-  tree_alone (Listing own) table tree none step = absurd step
-  tree_alone (Normal own) table tree none step = absurd step
-  tree_alone Help table tree none step = absurd step
-  tree_alone Version table tree none step = absurd step
-  tree_alone Unreadable table tree none step = absurd step
+  tree_alone (OfTable cedt ask) table tree none step = absurd step
+  tree_alone (OfResetHost cedt topo ask) table tree none step = step
+  tree_alone (OfHost cedt topo image ask) table tree none step = absurd (cc)
+  tree_alone (OfWords ask) table tree none step = absurd step
 
   -- ---- where the files are known
 
-  pub after_table : HasOneReading CedtFields CedtFault IsReading IsFaulty → (form : Form) → IsRun form old new status → (table : CedtFields) → KnowsTable form old.files.told table → AfterTable form table ⊎ IsStopped status old new
+  pub after_table : HasOneReading CedtFields CedtFault IsReading IsFaulty → (form : Form) → IsRunByFiles form old new status → (table : CedtFields) → KnowsTable form old.files.told table → AfterTable form table ⊎ IsStopped status old new
   after_table one form run table knows =
       let known = knows.known in
       next_step old new status CedtFields CedtFault IsReading IsFaulty BadTable (old.files.told known.file) (AfterTable form) one knows.bytes known.there table knows.reading (table_step form known.file known.asked run)
 
-  module _ (one : HaveOneReading) (form : Form) (run : IsRun form old new status) where
+  module _ (one : HaveOneReading) (form : Form) (run : IsRunByFiles form old new status) where
     pub after_tree : (table : CedtFields) (tree : Tree) → KnowsTable form old.files.told table → KnowsTree form old.files.told tree → AfterTree form table tree ⊎ IsStopped status old new
     after_tree table tree knows knows_tree =
         let known = knows_tree.known in
@@ -241,19 +221,19 @@ module _ (old new : Outside) (status : Status) where
 
   -- ---- one answer
 
-  one_answer : (form : Form) (table : CedtFields) (outcome other : Outcome) → IsTableAnswer form table outcome → IsTableAnswer form table other → outcome ≡ other
-  one_answer (Route file h) table outcome other answer again = one_route table h outcome other answer again
-  one_answer (Listing file) table outcome other answer again = answer ∙ sym again
-  one_answer (Normal file) table outcome other answer again = answer ∙ sym again
-  one_answer (Check cedt topo image) table outcome other answer again = absurd answer
-  one_answer (Plan cedt topo create) table outcome other answer again = absurd answer
-  one_answer NoCreate table outcome other answer again = absurd answer
-  one_answer Help table outcome other answer again = absurd answer
-  one_answer Version table outcome other answer again = absurd answer
-  one_answer Unreadable table outcome other answer again = absurd answer
+  one_table_answer : (ask : TableAsk) (table : CedtFields) (outcome other : Outcome) → IsTableAnswer ask table outcome → IsTableAnswer ask table other → outcome ≡ other
+  one_table_answer (table_asks.Route h) table outcome other answer again = one_route table h outcome other answer again
+  one_table_answer table_asks.Listing table outcome other answer again = answer ∙ sym again
+  one_table_answer table_asks.Normal table outcome other answer again = answer ∙ sym again
+
+  one_answer : (form : Form) (table : CedtFields) (outcome other : Outcome) → IsAnswerBy form (ByTable table) outcome → IsAnswerBy form (ByTable table) other → outcome ≡ other
+  one_answer (OfTable cedt ask) table outcome other answer again = one_table_answer ask table outcome other answer again
+  one_answer (OfResetHost cedt topo ask) table outcome other answer again = absurd answer
+  one_answer (OfHost cedt topo image ask) table outcome other answer again = absurd answer
+  one_answer (OfWords ask) table outcome other answer again = absurd answer
 
   -- the one answer by a known table
-  pub table_answer_comes : HasOneReading CedtFields CedtFault IsReading IsFaulty → (form : Form) → IsRun form old new status → topology_file form ≡ None → (table : CedtFields) (outcome : Outcome) → KnowsTable form old.files.told table → IsTableAnswer form table outcome → IsWritten outcome status old.out new.out ⊎ IsStopped status old new
+  pub table_answer_comes : HasOneReading CedtFields CedtFault IsReading IsFaulty → (form : Form) → IsRunByFiles form old new status → topology_file form ≡ None → (table : CedtFields) (outcome : Outcome) → KnowsTable form old.files.told table → IsAnswerBy form (ByTable table) outcome → IsWritten outcome status old.out new.out ⊎ IsStopped status old new
   table_answer_comes one form run none table outcome knows answer =
       unless_before old new status (after_table one form run table knows) (λ step.
       let some = table_alone form table none step in

@@ -8,7 +8,7 @@ use Rattle.cxl_shell.specs.Ends.{Ends, Finishes}
 use Rattle.cxl_shell.specs.Form.{Form, own_files, takes_memory}
 use Rattle.cxl_shell.specs.Outcome.{Outcome}
 use Rattle.cxl_shell.specs.Outside.{Outside}
-use Rattle.cxl_shell.specs.Run.{IsRun, writes, is_cut, runs_out, before}
+use Rattle.cxl_shell.specs.Run.{IsRunByFiles, writes, is_cut, runs_out, before}
 use Rattle.cxl_shell.specs.declared.status.Status.{Status}
 use Rattle.cxl_shell.specs.declared.stop.Stop.{Stop}
 use Rattle.cxl_shell.specs.declared.stop.Stop.TheVariants as stop
@@ -34,12 +34,12 @@ pub asks_one : (file : List ℕ) (old new : FetchState) → AsksFor old new (fil
 asks_one file old new asks = record { count = 1; asks = asks }
 
 module _ (form : Form) (old new : Outside) (status : Status) where
-  pub run-ended : (outcome : Outcome) → IsOutcomeByFiles form old.files new.files outcome → Ends outcome status old.out new.out → IsRun form old new status
+  pub run-ended : (outcome : Outcome) → IsOutcomeByFiles form old.files new.files outcome → Ends outcome status old.out new.out → IsRunByFiles form old new status
   run-ended outcome answers (inl written) = writes outcome answers written
   run-ended outcome answers (inr cut) = is_cut outcome answers cut
 
   -- what a command gives is written
-  pub run-finished : takes_memory form ≡ true → (answer : Result Outcome Stop) → ComesTo form old.files new.files answer → Finishes answer status old.out new.out → IsRun form old new status
+  pub run-finished : takes_memory form ≡ true → (answer : Result Outcome Stop) → ComesTo form old.files new.files answer → Finishes answer status old.out new.out → IsRunByFiles form old new status
   run-finished takes (Ok outcome) comes finishes = run-ended outcome comes finishes
   run-finished takes (Err (stop.Outcome outcome)) comes finishes = run-ended outcome comes finishes
   run-finished takes (Err stop.Memory) comes finishes = runs_out takes finishes.0 (before comes finishes.1)

@@ -1,7 +1,7 @@
 -- Words that are too few or too many for a form.
 use Rattle.std.proofs.Common.{◌≡◌, ◌<◌, ◌≤◌, List, [], ◌∷◌, length, String, refl, arith}
 use Rattle.std.specs.declared.alloc.Global.{Global}
-use Rattle.cxl_shell.specs.Form.{Unreadable, route_form, check_form}
+use Rattle.cxl_shell.specs.Form.{Unreadable, route_form, check_form, gen_form}
 use Rattle.cxl_shell.specs.Words.{bytes_of}
 
 pub route_form-few : (words : List (String Global)) → length words < 2 → Unreadable ≡ route_form (bytes_of words)
@@ -27,3 +27,12 @@ check_form-many (u ∷ []) many = refl
 check_form-many (u ∷ v ∷ []) many = refl
 check_form-many (u ∷ v ∷ w ∷ []) many = absurd (omega arith)
 check_form-many (u ∷ v ∷ w ∷ x ∷ ws) many = refl
+
+pub gen_form-few : (words : List (String Global)) → length words < 1 → Unreadable ≡ gen_form (bytes_of words)
+gen_form-few [] few = refl
+gen_form-few (v ∷ ws) few = absurd (omega arith)
+
+pub gen_form-many : (words : List (String Global)) → 2 ≤ length words → Unreadable ≡ gen_form (bytes_of words)
+gen_form-many [] many = refl
+gen_form-many (v ∷ []) many = absurd (omega arith)
+gen_form-many (v ∷ w ∷ ws) many = refl

@@ -5,7 +5,7 @@ use Rattle.cxl_enc.specs.declared.faults.Memory.{Memory}
 use Rattle.cxl_io.specs.Fetch.{FetchState, AsksFor}
 use Rattle.cxl_regs.specs.Registers.{Registers}
 use Rattle.cxl_topo.specs.Tree.{Tree}
-use Rattle.cxl_shell.specs.Form.{Form, Route, Listing, Normal, Check, Plan, NoCreate, Help, Version, Unreadable, own_files}
+use Rattle.cxl_shell.specs.Form.{Form, OfTable, OfResetHost, OfHost, OfWords, own_files}
 use Rattle.cxl_shell.specs.Outcome.{Outcome}
 use Rattle.cxl_shell.specs.Outside.{Outside}
 use Rattle.cxl_shell.specs.Readings.{Readings, ByTable, ByTree, ByHost}
@@ -15,6 +15,14 @@ use Rattle.cxl_shell.specs.commands.List.{listed}
 use Rattle.cxl_shell.specs.commands.Normal.{normalized}
 use Rattle.cxl_shell.specs.commands.Plan.{IsPlanned}
 use Rattle.cxl_shell.specs.commands.Route.{IsRouted}
+use Rattle.cxl_shell.specs.declared.form.HostAsk.{HostAsk}
+use Rattle.cxl_shell.specs.declared.form.HostAsk.TheVariants as host_asks
+use Rattle.cxl_shell.specs.declared.form.ResetAsk.{ResetAsk}
+use Rattle.cxl_shell.specs.declared.form.ResetAsk.TheVariants as reset_asks
+use Rattle.cxl_shell.specs.declared.form.TableAsk.{TableAsk}
+use Rattle.cxl_shell.specs.declared.form.TableAsk.TheVariants as table_asks
+use Rattle.cxl_shell.specs.declared.form.WordsAsk.{WordsAsk}
+use Rattle.cxl_shell.specs.declared.form.WordsAsk.TheVariants as plain_asks
 use Rattle.cxl_shell.specs.declared.stop.Stop.{Stop}
 use Rattle.cxl_shell.specs.declared.stop.Stop.TheVariants as stop
 use Rattle.cxl_shell.specs.inputs.File.{AsksForSome}
@@ -22,60 +30,46 @@ use Rattle.cxl_shell.specs.inputs.Host.{host_of, IsByHost}
 use Rattle.cxl_shell.specs.inputs.ResetHost.{reset_host_of, IsByResetHost}
 use Rattle.cxl_shell.specs.inputs.Table.{IsByTable}
 
--- the outcome of a form by the table of its file
-abbrev pub IsTableAnswer : Form → CedtFields → Outcome → Type 0
-IsTableAnswer (Route file h) table outcome = IsRouted table h outcome
-IsTableAnswer (Listing file) table outcome = outcome ≡ listed table.records
-IsTableAnswer (Normal file) table outcome = outcome ≡ normalized table
-IsTableAnswer (Check cedt topo image) table outcome = ⊥
-IsTableAnswer (Plan cedt topo create) table outcome = ⊥
-IsTableAnswer NoCreate table outcome = ⊥
-IsTableAnswer Help table outcome = ⊥
-IsTableAnswer Version table outcome = ⊥
-IsTableAnswer Unreadable table outcome = ⊥
+-- what is asked of a table comes to this
+abbrev pub IsTableAnswer : TableAsk → CedtFields → Outcome → Type 0
+IsTableAnswer (table_asks.Route h) table outcome = IsRouted table h outcome
+IsTableAnswer table_asks.Listing table outcome = outcome ≡ listed table.records
+IsTableAnswer table_asks.Normal table outcome = outcome ≡ normalized table
 
--- the outcome of a form by its table and its topology
-abbrev pub IsTreeAnswer : Form → CedtFields → Tree → Outcome → Type 0
-IsTreeAnswer (Plan cedt topo create) table tree outcome = IsPlanned (reset_host_of table tree) create outcome
-IsTreeAnswer form table tree outcome = ⊥
+-- what is asked of a host after reset comes to this; a session's host has no answer of its own
+abbrev pub IsResetAnswer : ResetAsk → CedtFields → Tree → Outcome → Type 0
+IsResetAnswer (reset_asks.Plan create) table tree outcome = IsPlanned (reset_host_of table tree) create outcome
+IsResetAnswer reset_asks.Script table tree outcome = ⊥
 
--- the outcome of a form by its table, its topology and its image
-abbrev pub IsHostAnswer : Form → CedtFields → Tree → List Registers → Outcome → Type 0
-IsHostAnswer (Check cedt topo image) table tree blocks outcome = IsChecked (host_of table tree blocks) outcome
-IsHostAnswer form table tree blocks outcome = ⊥
+-- what is asked of a host comes to this
+abbrev pub IsHostAnswer : HostAsk → CedtFields → Tree → List Registers → Outcome → Type 0
+IsHostAnswer host_asks.Check table tree blocks outcome = IsChecked (host_of table tree blocks) outcome
+IsHostAnswer host_asks.Script table tree blocks outcome = ⊥
 
--- the outcome of a form by what its files are read as
+-- what is asked of no file comes to this
+abbrev pub IsPlainAnswer : WordsAsk → Outcome → Type 0
+IsPlainAnswer plain_asks.NoCreate outcome = outcome ≡ misused
+IsPlainAnswer plain_asks.Help outcome = outcome ≡ helped
+IsPlainAnswer plain_asks.Version outcome = outcome ≡ version_told
+IsPlainAnswer plain_asks.Unreadable outcome = outcome ≡ misused
+IsPlainAnswer (plain_asks.Gen n) outcome = ⊥
+
+-- the outcome of a form by what its files are read as, for each kind of files
 abbrev pub IsAnswerBy : Form → Readings → Outcome → Type 0
-IsAnswerBy form (ByTable table) outcome = IsTableAnswer form table outcome
-IsAnswerBy form (ByTree table tree) outcome = IsTreeAnswer form table tree outcome
-IsAnswerBy form (ByHost table tree blocks) outcome = IsHostAnswer form table tree blocks outcome
-
--- a form whose one file has a table
-abbrev pub IsAnswerOfFile : Form → List ℕ → FetchState → FetchState → Outcome → Type 0
-IsAnswerOfFile form file old new outcome =
-    IsByTable file old new (λ table o. AsksFor old new (file ∷ []) × IsTableAnswer form table o) outcome
-
--- a form whose two files are a table and a topology
-abbrev pub IsAnswerOfResetHost : Form → List ℕ → List ℕ → FetchState → FetchState → Outcome → Type 0
-IsAnswerOfResetHost form cedt topo old new outcome =
-    IsByResetHost cedt topo old new (λ table tree o. AsksFor old new (cedt ∷ topo ∷ []) × IsTreeAnswer form table tree o) outcome
-
--- a form whose three files are a table, a topology and an image
-abbrev pub IsAnswerOfHost : Form → List ℕ → List ℕ → List ℕ → FetchState → FetchState → Outcome → Type 0
-IsAnswerOfHost form cedt topo image old new outcome =
-    IsByHost cedt topo image old new (λ table tree blocks o. AsksFor old new (cedt ∷ topo ∷ image ∷ []) × IsHostAnswer form table tree blocks o) outcome
+IsAnswerBy (OfTable cedt ask) (ByTable table) outcome = IsTableAnswer ask table outcome
+IsAnswerBy (OfResetHost cedt topo ask) (ByTree table tree) outcome = IsResetAnswer ask table tree outcome
+IsAnswerBy (OfHost cedt topo image ask) (ByHost table tree blocks) outcome = IsHostAnswer ask table tree blocks outcome
+IsAnswerBy form readings outcome = ⊥
 
 -- the outcome answers the form by what the files hold
 abbrev pub IsOutcomeByFiles : Form → FetchState → FetchState → Outcome → Type 0
-IsOutcomeByFiles (Route file h) old new outcome = IsAnswerOfFile (Route file h) file old new outcome
-IsOutcomeByFiles (Listing file) old new outcome = IsAnswerOfFile (Listing file) file old new outcome
-IsOutcomeByFiles (Normal file) old new outcome = IsAnswerOfFile (Normal file) file old new outcome
-IsOutcomeByFiles (Check cedt topo image) old new outcome = IsAnswerOfHost (Check cedt topo image) cedt topo image old new outcome
-IsOutcomeByFiles (Plan cedt topo create) old new outcome = IsAnswerOfResetHost (Plan cedt topo create) cedt topo old new outcome
-IsOutcomeByFiles NoCreate old new outcome = (outcome ≡ misused) × AsksFor old new []
-IsOutcomeByFiles Help old new outcome = (outcome ≡ helped) × AsksFor old new []
-IsOutcomeByFiles Version old new outcome = (outcome ≡ version_told) × AsksFor old new []
-IsOutcomeByFiles Unreadable old new outcome = (outcome ≡ misused) × AsksFor old new []
+IsOutcomeByFiles (OfTable cedt ask) old new outcome =
+    IsByTable cedt old new (λ table o. AsksFor old new (cedt ∷ []) × IsTableAnswer ask table o) outcome
+IsOutcomeByFiles (OfResetHost cedt topo ask) old new outcome =
+    IsByResetHost cedt topo old new (λ table tree o. AsksFor old new (cedt ∷ topo ∷ []) × IsResetAnswer ask table tree o) outcome
+IsOutcomeByFiles (OfHost cedt topo image ask) old new outcome =
+    IsByHost cedt topo image old new (λ table tree blocks o. AsksFor old new (cedt ∷ topo ∷ image ∷ []) × IsHostAnswer ask table tree blocks o) outcome
+IsOutcomeByFiles (OfWords ask) old new outcome = IsPlainAnswer ask outcome × AsksFor old new []
 
 -- by what the outside holds, of which these forms use the files alone
 abbrev pub IsOutcomeOf : Form → Outside → Outside → Outcome → Type 0

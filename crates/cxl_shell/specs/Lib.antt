@@ -5,6 +5,7 @@ pub mod Plain
 pub mod Outcome
 pub mod Text
 pub mod Outside
+pub mod Devices
 pub mod Blocks
 pub mod inputs
 pub mod commands
@@ -12,6 +13,7 @@ pub mod Readings
 pub mod Answers
 pub mod Ends
 pub mod Run
+pub mod Statuses
 pub mod inner
 pub use Rattle.cxl_enc.specs.Codes
 pub use Rattle.cxl_enc.specs.Faults

@@ -2,6 +2,7 @@
 use Rattle.std.specs.Prelude.{◌≡◌, true, []}
 use Rattle.cxl_io.specs.Sink.{Takes}
 use Rattle.cxl_shell.specs.Answers.{IsOutcomeOf}
+use Rattle.cxl_shell.specs.Devices.{Devices}
 use Rattle.cxl_shell.specs.Ends.{IsWritten, IsCutShort, IsBehind}
 use Rattle.cxl_shell.specs.Form.{Form, own_files, takes_memory}
 use Rattle.cxl_shell.specs.Outcome.{Outcome}
@@ -15,13 +16,27 @@ pub data RunsOut (form : Form) (old new : Outside) : Type 0 where
   before : AsksForSome (own_files form) old.files new.files → Takes old.out new.out [] → RunsOut form old new
   behind : (outcome : Outcome) → IsOutcomeOf form old new outcome → IsBehind outcome old.out new.out → RunsOut form old new
 
--- An outcome that answers the form is written; or the sink failed behind a part of its text; or memory ran out, in a form
--- that takes any.
-pub data IsRun (form : Form) (old new : Outside) (status : Status) : Type 0 where
-  writes : (outcome : Outcome) → IsOutcomeOf form old new outcome → IsWritten outcome status old.out new.out → IsRun form old new status
-  is_cut : (outcome : Outcome) → IsOutcomeOf form old new outcome → IsCutShort outcome status old.out new.out → IsRun form old new status
-  runs_out : takes_memory form ≡ true → status ≡ Memory → RunsOut form old new → IsRun form old new status
+-- How a run ends by its words and files alone: an outcome that answers the form is written; or the sink failed behind a part of its text; or memory
+-- ran out, in a form that takes any.
+pub data IsRunByFiles (form : Form) (old new : Outside) (status : Status) : Type 0 where
+  writes : (outcome : Outcome) → IsOutcomeOf form old new outcome → IsWritten outcome status old.out new.out → IsRunByFiles form old new status
+  is_cut : (outcome : Outcome) → IsOutcomeOf form old new outcome → IsCutShort outcome status old.out new.out → IsRunByFiles form old new status
+  runs_out : takes_memory form ≡ true → status ≡ Memory → RunsOut form old new → IsRunByFiles form old new status
 
--- a fact of each run: its form, what the outside holds before it and after it, and its status
-abbrev pub EachRun : (Form → Outside → Outside → Status → Type 0) → Type 0
-EachRun P = (form : Form) (old new : Outside) (status : Status) → IsRun form old new status → P form old new status
+-- a fact of each run by its files: its form, what the outside holds before it and after it, and its status
+abbrev pub EachRunByFiles : (Form → Outside → Outside → Status → Type 0) → Type 0
+EachRunByFiles P = (form : Form) (old new : Outside) (status : Status) → IsRunByFiles form old new status → P form old new status
+
+-- No session opened.
+pub data IsUnopened (form : Form) (old new : Outside) (before after : Devices) (status : Status) : Type 0 where
+  -- it ends by its words and files alone; script, registers and media are as they were
+  by_files : after ≡ before → IsRunByFiles form old new status → IsUnopened form old new before after status
+
+-- How a run comes to its end.
+pub data IsRun (form : Form) (old new : Outside) (before after : Devices) (status : Status) : Type 0 where
+  unopened : IsUnopened form old new before after status → IsRun form old new before after status
+
+-- a fact of each run, over all that it works on
+abbrev pub EachRun : (Form → Outside → Outside → Devices → Devices → Status → Type 0) → Type 0
+EachRun P = (form : Form) (old new : Outside) (before after : Devices) (status : Status)
+    → IsRun form old new before after status → P form old new before after status

@@ -1,10 +1,12 @@
 //! The commands.
 
 ghost use Rattle.std.specs.Prelude.{◌≡◌, ◌≤◌, None};
-ghost use Rattle.cxl_shell.specs.Form.{table_file, LineStatesGranCode};
+ghost use Rattle.cxl_io.specs.Fetch.{FetchState};
+ghost use Rattle.cxl_shell.specs.Answers.{IsOutcomeByFiles};
+ghost use Rattle.cxl_shell.specs.Form.{OfTable, OfResetHost, OfHost, OfWords, table_file, taken_for, LineStatesGranCode};
 ghost use Rattle.cxl_shell.specs.Outside.{outside};
 ghost use Rattle.cxl_shell.specs.Plain.{plain};
-ghost use Rattle.cxl_shell.specs.Run.{IsRun};
+ghost use Rattle.cxl_shell.specs.Run.{IsRunByFiles};
 
 pub(crate) mod check;
 pub(crate) mod help;
@@ -16,7 +18,8 @@ pub(crate) mod route;
 mod selection;
 
 use crate::finish::finish;
-use crate::form::Form;
+use crate::form::{Form, HostAsk, ResetAsk, TableAsk, WordsAsk};
+use crate::outcome::Outcome;
 use crate::status::Status;
 use check::check;
 use cxl_io::{Fetch, Sink};
@@ -35,22 +38,97 @@ pub(crate) fn carry_out<F: Fetch, K: Sink>(
     out: &mut K,
 ) -> Status
     requires { LineStatesGranCode (plain form) }
-    ensures run { IsRun (plain form.entry) (outside (F.state files.old) (K.state out.old))
+    ensures run { IsRunByFiles (taken_for (plain form.entry)) (outside (F.state files.old) (K.state out.old))
         (outside (F.state files.new) (K.state out.new)) result }
     ensures files { (F.state files.old).faults ≤ (F.state files.new).faults }
     ensures sink { (K.state out.old).faults ≤ (K.state out.new).faults }
     ensures told { (F.state files.new).told ≡ (F.state files.old).told }
-    ensures idle { table_file (plain form.entry) ≡ None → files.new ≡ files.old }
+    ensures idle { table_file (taken_for (plain form.entry)) ≡ None → files.new ≡ files.old }
 {
     match form {
-        Form::Route(file, h) => finish(route(alloc, file, h, files), out),
-        Form::Listing(file) => list(alloc, file, files, out),
-        Form::Normal(file) => finish(normal(alloc, file, files), out),
-        Form::Check(cedt, topo, image) => check(alloc, cedt, topo, image, files, out),
-        Form::Plan(cedt, topo, create) => finish(plan(alloc, cedt, topo, &create, files), out),
-        Form::NoCreate => finish(Ok(misused()), out),
-        Form::Help => finish(Ok(helped()), out),
-        Form::Version => finish(Ok(version_told()), out),
-        Form::Unreadable => finish(Ok(misused()), out),
+        Form::OfTable(cedt, ask) => of_table(alloc, cedt, ask, files, out),
+        Form::OfResetHost(cedt, topo, ask) => of_reset_host(alloc, cedt, topo, ask, files, out),
+        Form::OfHost(cedt, topo, image, ask) => of_host(alloc, cedt, topo, image, ask, files, out),
+        Form::OfWords(ask) => finish(Ok(said(ask)), out),
+    }
+}
+
+/// What is asked of the table in a file.
+fn of_table<F: Fetch, K: Sink>(
+    alloc: Global,
+    cedt: &str,
+    ask: TableAsk,
+    files: &mut F,
+    out: &mut K,
+) -> Status
+    ensures run { IsRunByFiles (OfTable cedt.now ask) (outside (F.state files.old) (K.state out.old))
+        (outside (F.state files.new) (K.state out.new)) result }
+    ensures files { (F.state files.old).faults ≤ (F.state files.new).faults }
+    ensures sink { (K.state out.old).faults ≤ (K.state out.new).faults }
+    ensures told { (F.state files.new).told ≡ (F.state files.old).told }
+{
+    match ask {
+        TableAsk::Route(h) => finish(route(alloc, cedt, h, files), out),
+        TableAsk::Listing => list(alloc, cedt, files, out),
+        TableAsk::Normal => finish(normal(alloc, cedt, files), out),
+    }
+}
+
+/// What is asked of the host of a table and a topology after reset. No session is carried out yet.
+fn of_reset_host<F: Fetch, K: Sink>(
+    alloc: Global,
+    cedt: &str,
+    topo: &str,
+    ask: ResetAsk,
+    files: &mut F,
+    out: &mut K,
+) -> Status
+    requires { LineStatesGranCode (OfResetHost cedt.now topo.now ask) }
+    ensures run { IsRunByFiles (taken_for (OfResetHost cedt.now topo.now ask)) (outside (F.state files.old) (K.state out.old))
+        (outside (F.state files.new) (K.state out.new)) result }
+    ensures files { (F.state files.old).faults ≤ (F.state files.new).faults }
+    ensures sink { (K.state out.old).faults ≤ (K.state out.new).faults }
+    ensures told { (F.state files.new).told ≡ (F.state files.old).told }
+    ensures idle { table_file (taken_for (OfResetHost cedt.now topo.now ask)) ≡ None → files.new ≡ files.old }
+{
+    match ask {
+        ResetAsk::Plan(create) => finish(plan(alloc, cedt, topo, &create, files), out),
+        ResetAsk::Script => finish(Ok(misused()), out),
+    }
+}
+
+/// What is asked of the host of a table, a topology and an image. No session is carried out yet.
+fn of_host<F: Fetch, K: Sink>(
+    alloc: Global,
+    cedt: &str,
+    topo: &str,
+    image: &str,
+    ask: HostAsk,
+    files: &mut F,
+    out: &mut K,
+) -> Status
+    ensures run { IsRunByFiles (taken_for (OfHost cedt.now topo.now image.now ask)) (outside (F.state files.old) (K.state out.old))
+        (outside (F.state files.new) (K.state out.new)) result }
+    ensures files { (F.state files.old).faults ≤ (F.state files.new).faults }
+    ensures sink { (K.state out.old).faults ≤ (K.state out.new).faults }
+    ensures told { (F.state files.new).told ≡ (F.state files.old).told }
+    ensures idle { table_file (taken_for (OfHost cedt.now topo.now image.now ask)) ≡ None → files.new ≡ files.old }
+{
+    match ask {
+        HostAsk::Check => check(alloc, cedt, topo, image, files, out),
+        HostAsk::Script => finish(Ok(misused()), out),
+    }
+}
+
+/// What the words alone come to. No session is carried out yet.
+fn said(ask: WordsAsk) -> Outcome
+    ensures { (files : FetchState) → IsOutcomeByFiles (taken_for (OfWords ask)) files files result }
+{
+    match ask {
+        WordsAsk::Help => helped(),
+        WordsAsk::Version => version_told(),
+        WordsAsk::NoCreate => misused(),
+        WordsAsk::Unreadable => misused(),
+        WordsAsk::Gen(_) => misused(),
     }
 }

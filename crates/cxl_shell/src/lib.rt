@@ -1,4 +1,4 @@
-//! The command line of `cxlplan`, over files and a sink that are handed in.
+//! The command line of `cxlplan`, over files, a script, a sink, registers and device memory that are handed in.
 #![tactic(auto)]
 
 mod blocks;
@@ -17,7 +17,7 @@ pub use commands::list::list_statuses;
 pub use commands::normal::normal_statuses;
 pub use commands::plan::plan_statuses;
 pub use commands::route::route_statuses;
-pub use finish::run_ends;
+pub use finish::{run_ends, runs_of_files};
 pub use inputs::file::file_statuses;
 pub use inputs::image::image_statuses;
 pub use inputs::table::table_statuses;

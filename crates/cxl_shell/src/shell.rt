@@ -1,13 +1,14 @@
-ghost use Rattle.std.specs.Prelude.{◌≡◌, ℕ, ◌≤◌, ◌⊎◌, None, List};
+ghost use Rattle.std.specs.Prelude.{◌≡◌, ℕ, ◌≤◌, ◌⊎◌, None, false, List};
 ghost use Rattle.cxl_enc.specs.Faults.{Rose};
 ghost use Rattle.cxl_io.specs.Sink.{Takes};
 ghost use Rattle.cxl_shell.specs.Answers.{IsAnswerBy};
+ghost use Rattle.cxl_shell.specs.Devices.{devices};
 ghost use Rattle.cxl_shell.specs.Ends.{IsWritten};
-ghost use Rattle.cxl_shell.specs.Form.{Route, form_of, table_file};
+ghost use Rattle.cxl_shell.specs.Form.{Route, form_of, table_file, runs_session, reads_script};
 ghost use Rattle.cxl_shell.specs.Outcome.{Outcome};
 ghost use Rattle.cxl_shell.specs.Outside.{outside};
 ghost use Rattle.cxl_shell.specs.Readings.{Readings, AreKnown};
-ghost use Rattle.cxl_shell.specs.Run.{IsRun};
+ghost use Rattle.cxl_shell.specs.Run.{IsRunByFiles, IsRun};
 ghost use Rattle.cxl_shell.specs.Words.{bytes_of};
 ghost use Rattle.cxl_shell.specs.commands.Route.{IsRouteLine};
 
@@ -16,16 +17,29 @@ use crate::commands::route::route_statuses;
 use crate::finish::run_ends;
 use crate::form::form_of;
 use crate::status::Status;
-use cxl_io::{Fetch, Memory, Sink};
+use cxl_bus::Regs;
+use cxl_io::{Fetch, Memory, Sink, Source};
+use cxl_media::Roll;
 use cxl_script::stated_granularities_are_codes;
 use std::alloc::Global;
 
-/// Carries out the words of the command line, which are without the name of the program: reads files,
-/// and writes the text of the answer.
-pub fn run<F: Fetch, K: Sink>(alloc: Global, words: &[String], files: &mut F, out: &mut K) -> Status
-    // An outcome that answers what the words ask for is written; or the sink failed; or memory ran out.
-    ensures run { IsRun (form_of (bytes_of words.now)) (outside (F.state files.old) (K.state out.old))
-        (outside (F.state files.new) (K.state out.new)) result }
+/// Carries out the words of the command line, without the program's name: over files, a script, registers and
+/// device memory that are handed in. Text goes to the sink.
+pub fn run<F: Fetch, S: Source, K: Sink, R: Regs, M: Roll>(
+    alloc: Global,
+    words: &[String],
+    files: &mut F,
+    script: &mut S,
+    out: &mut K,
+    regs: &mut R,
+    media: &mut M,
+) -> Status
+    // How it comes to its end: an outcome that answers what the words ask for is written; or the sink failed;
+    // or memory ran out.
+    ensures run { IsRun (form_of (bytes_of words.now))
+        (outside (F.state files.old) (K.state out.old)) (outside (F.state files.new) (K.state out.new))
+        (devices (S.state script.old) (R.state regs.old) (M.state media.old))
+        (devices (S.state script.new) (R.state regs.new) (M.state media.new)) result }
 
     // Completeness: where all files that the words name are known and have a reading and nothing failed, the
     // words have an outcome by it, which is written, or memory ran out.
@@ -44,9 +58,17 @@ pub fn run<F: Fetch, K: Sink>(alloc: Global, words: &[String], files: &mut F, ou
         → (text : List ℕ) × IsRouteLine ((F.state files.old).told file) h text
         × Takes (K.state out.old) (K.state out.new) text }
 
+    // A form without a session leaves script, registers and device memory, and one that reads no script
+    // leaves the script.
+    ensures left { runs_session (form_of (bytes_of words.now)) ≡ false
+        → (script.new ≡ script.old) × (regs.new ≡ regs.old) × (media.new ≡ media.old) }
+    ensures unread { reads_script (form_of (bytes_of words.now)) ≡ false → script.new ≡ script.old }
+
     // The counts never fall, the files are told as before, and a command that names none leaves them.
     ensures files { (F.state files.old).faults ≤ (F.state files.new).faults }
+    ensures source { (S.state script.old).faults ≤ (S.state script.new).faults }
     ensures sink { (K.state out.old).faults ≤ (K.state out.new).faults }
+    ensures bus { (R.state regs.old).faults ≤ (R.state regs.new).faults }
     ensures told { (F.state files.new).told ≡ (F.state files.old).told }
     ensures idle { table_file (form_of (bytes_of words.now)) ≡ None → files.new ≡ files.old }
 {
@@ -62,7 +84,7 @@ fn carry_out_words<F: Fetch, K: Sink>(
     files: &mut F,
     out: &mut K,
 ) -> Status
-    ensures run { IsRun (form_of (bytes_of words.now)) (outside (F.state files.old) (K.state out.old))
+    ensures run { IsRunByFiles (form_of (bytes_of words.now)) (outside (F.state files.old) (K.state out.old))
         (outside (F.state files.new) (K.state out.new)) result }
     ensures files { (F.state files.old).faults ≤ (F.state files.new).faults }
     ensures sink { (K.state out.old).faults ≤ (K.state out.new).faults }

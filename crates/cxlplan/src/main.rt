@@ -1,7 +1,10 @@
-//! A planner and checker for CXL memory regions, over the files of the system and standard output.
+//! A planner and checker for CXL memory regions, over the files of the system, standard input and output, and
+//! devices in memory.
 #![tactic(auto)]
 
-use cxl_io::{StdFetch, StdSink};
+use cxl_bus::SimBus;
+use cxl_io::{StdFetch, StdSink, StdSource};
+use cxl_media::SimMedia;
 use cxl_shell::{Status, run};
 use std::io::ErrorKind;
 use std::process::ExitCode;
@@ -9,14 +12,27 @@ use std::rt::Env;
 use std::{env, io};
 
 fn main(rt: HostRuntime) -> ExitCode {
-    let mut files = StdFetch::new(&rt);
-    let mut out = StdSink::new(&rt);
-    let status = match words(&rt) {
-        Ok(words) => run(rt.alloc(), words.as_slice(), &mut files, &mut out),
-        Err(e) if e.kind() == ErrorKind::OutOfMemory => Status::Memory,
+    let alloc = rt.alloc();
+    let words = match words(&rt) {
+        Ok(words) => words,
+        Err(e) if e.kind() == ErrorKind::OutOfMemory => return ExitCode::from(Status::Memory.code()),
         // A word that is no text is in no command, and neither are no words.
-        Err(_) => run(rt.alloc(), &[], &mut files, &mut out),
+        Err(_) => Vec::new(alloc),
     };
+    let mut files = StdFetch::new(&rt);
+    let mut script = StdSource::new(rt.reader());
+    let mut out = StdSink::new(&rt);
+    let mut regs = SimBus::new(alloc);
+    let mut media = SimMedia::new(alloc);
+    let status = run(
+        alloc,
+        words.as_slice(),
+        &mut files,
+        &mut script,
+        &mut out,
+        &mut regs,
+        &mut media,
+    );
     ExitCode::from(status.code())
 }
 

@@ -12,7 +12,7 @@ ghost use Rattle.cxl_shell.specs.Ends.{Ends, IsBehind, IsStopped};
 ghost use Rattle.cxl_shell.specs.Form.{Check};
 ghost use Rattle.cxl_shell.specs.Outside.{outside};
 ghost use Rattle.cxl_shell.specs.Readings.{ByHost, AreKnown};
-ghost use Rattle.cxl_shell.specs.Run.{IsRun, EachRun};
+ghost use Rattle.cxl_shell.specs.Run.{IsRunByFiles, EachRunByFiles};
 ghost use Rattle.cxl_shell.specs.commands.Check.{IsChecked, IsRegionsText, IsBreachText, TakesRegions, accepted, broken};
 ghost use Rattle.cxl_shell.specs.inner.Reports.{IsReported};
 ghost use Rattle.cxl_shell.specs.inputs.Host.{host_of};
@@ -43,7 +43,7 @@ pub(crate) fn check<F: Fetch, K: Sink>(
     files: &mut F,
     out: &mut K,
 ) -> Status
-    ensures run { IsRun (Check cedt.now topo.now image.now) (outside (F.state files.old) (K.state out.old))
+    ensures run { IsRunByFiles (Check cedt.now topo.now image.now) (outside (F.state files.old) (K.state out.old))
         (outside (F.state files.new) (K.state out.new)) result }
     ensures files { (F.state files.old).faults ≤ (F.state files.new).faults }
     ensures sink { (K.state out.old).faults ≤ (K.state out.new).faults }
@@ -133,27 +133,27 @@ fn write_regions<K: Sink>(
 pub fn check_statuses()
     // With status 0 it writes exactly the lines of the regions, by rising base, of an image that is accepted:
     // that of its file over the topology of its file, with the table's windows.
-    ensures accepted { EachRun (λ form old new status. (cedt topo image : List ℕ)
+    ensures accepted { EachRunByFiles (λ form old new status. (cedt topo image : List ℕ)
         → form ≡ Check cedt topo image → status ≡ Status.Done
         → (text : List ℕ) × IsRegionsText old.files.told cedt topo image text × Takes old.out new.out text) }
     // With status 8 it writes exactly the line of that image's first breach.
-    ensures broken { EachRun (λ form old new status. (cedt topo image : List ℕ)
+    ensures broken { EachRunByFiles (λ form old new status. (cedt topo image : List ℕ)
         → form ≡ Check cedt topo image → status ≡ Status.Refused
         → (text : List ℕ) × IsBreachText old.files.told cedt topo image text × Takes old.out new.out text) }
 
     // Where the files are known and have a reading, status 0 comes exactly where the image is accepted, and
     // status 8 exactly where it has a breach, unless the run stops before.
-    ensures only_accepted { EachRun (λ form old new status. (cedt topo image : List ℕ)
+    ensures only_accepted { EachRunByFiles (λ form old new status. (cedt topo image : List ℕ)
         (table : CedtFields) (tree : Tree) (blocks : List Registers) → form ≡ Check cedt topo image
         → AreKnown form old.files.told (ByHost table tree blocks) → IsAccepted (host_of table tree blocks)
         → (status ≡ Status.Done) ⊎ IsStopped status old new) }
-    ensures only_broken { EachRun (λ form old new status. (cedt topo image : List ℕ)
+    ensures only_broken { EachRunByFiles (λ form old new status. (cedt topo image : List ℕ)
         (table : CedtFields) (tree : Tree) (blocks : List Registers) → form ≡ Check cedt topo image
         → AreKnown form old.files.told (ByHost table tree blocks) → HasFirstBreach (host_of table tree blocks)
         → (status ≡ Status.Refused) ⊎ IsStopped status old new) }
 
     // Where memory ran out, nothing is written, or whole lines of an accepted image's first regions.
-    ensures memory { EachRun (λ form old new status. (cedt topo image : List ℕ)
+    ensures memory { EachRunByFiles (λ form old new status. (cedt topo image : List ℕ)
         → form ≡ Check cedt topo image → status ≡ Status.Memory
         → (new.out.taken ≡ old.out.taken) ⊎ TakesRegions old.files.told cedt topo image old.out new.out) }
 {

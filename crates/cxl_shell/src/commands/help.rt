@@ -1,7 +1,7 @@
 ghost use Rattle.std.specs.Prelude.{◌≡◌, ◌⊎◌};
 ghost use Rattle.cxl_shell.specs.Ends.{Ends};
 ghost use Rattle.cxl_shell.specs.Form.{NoCreate, Help, Version, Unreadable};
-ghost use Rattle.cxl_shell.specs.Run.{EachRun};
+ghost use Rattle.cxl_shell.specs.Run.{EachRunByFiles};
 ghost use Rattle.cxl_shell.specs.commands.Help.{helped, version_told, misused};
 
 use crate::outcome::Outcome;
@@ -60,12 +60,12 @@ pub(crate) fn misused() -> Outcome
 /// Laws of each run of `--help` and `--version`, and of words that are no command: the outcome is written,
 /// or the sink failed. Where a line asks for no region to be planned, memory may have run out before.
 pub fn help_statuses()
-    ensures help { EachRun (λ form old new status. form ≡ Help → Ends helped status old.out new.out) }
-    ensures version { EachRun (λ form old new status. form ≡ Version → Ends version_told status old.out new.out) }
+    ensures help { EachRunByFiles (λ form old new status. form ≡ Help → Ends helped status old.out new.out) }
+    ensures version { EachRunByFiles (λ form old new status. form ≡ Version → Ends version_told status old.out new.out) }
     // Status 1 comes exactly where the words are no command, unless that is not written.
-    ensures usage { EachRun (λ form old new status. status ≡ Status.Usage
+    ensures usage { EachRunByFiles (λ form old new status. status ≡ Status.Usage
         → (form ≡ Unreadable) ⊎ (form ≡ NoCreate)) }
-    ensures only_usage { EachRun (λ form old new status. form ≡ Unreadable → Ends misused status old.out new.out) }
-    ensures only_line { EachRun (λ form old new status. form ≡ NoCreate
+    ensures only_usage { EachRunByFiles (λ form old new status. form ≡ Unreadable → Ends misused status old.out new.out) }
+    ensures only_line { EachRunByFiles (λ form old new status. form ≡ NoCreate
         → (status ≡ Status.Memory) ⊎ Ends misused status old.out new.out) }
 {}

@@ -8,7 +8,7 @@ ghost use Rattle.cxl_shell.specs.Answers.{IsStop};
 ghost use Rattle.cxl_shell.specs.Ends.{IsWritten, Ends, IsBehind, IsStopped};
 ghost use Rattle.cxl_shell.specs.Form.{Listing};
 ghost use Rattle.cxl_shell.specs.Outside.{outside};
-ghost use Rattle.cxl_shell.specs.Run.{IsRun, EachRun};
+ghost use Rattle.cxl_shell.specs.Run.{IsRunByFiles, EachRunByFiles};
 ghost use Rattle.cxl_shell.specs.commands.List.{listed, IsListText, TakesLines};
 ghost use Rattle.cxl_shell.specs.inputs.File.{AsksForSome};
 ghost use Rattle.cxl_shell.specs.inputs.Table.{IsReading, IsTableOf, HasNoTable};
@@ -33,7 +33,7 @@ pub(crate) fn list<F: Fetch, K: Sink>(
     files: &mut F,
     out: &mut K,
 ) -> Status
-    ensures run { IsRun (Listing file.now) (outside (F.state files.old) (K.state out.old))
+    ensures run { IsRunByFiles (Listing file.now) (outside (F.state files.old) (K.state out.old))
         (outside (F.state files.new) (K.state out.new)) result }
     ensures files { (F.state files.old).faults ≤ (F.state files.new).faults }
     ensures sink { (K.state out.old).faults ≤ (K.state out.new).faults }
@@ -105,14 +105,14 @@ fn window_count(item: &Record) -> usize
 /// Laws of each run of `list`.
 pub fn list_statuses()
     // With status 0 it writes exactly a line for each record of the file's table.
-    ensures list { EachRun (λ form old new status. (file : List ℕ) → form ≡ Listing file → status ≡ Status.Done
+    ensures list { EachRunByFiles (λ form old new status. (file : List ℕ) → form ≡ Listing file → status ≡ Status.Done
         → (text : List ℕ) × IsListText (old.files.told file) text × Takes old.out new.out text) }
     // Where the file has a table, its lines are written, unless the run stops before.
-    ensures listed { EachRun (λ form old new status. (file bytes : List ℕ) (table : CedtFields)
+    ensures listed { EachRunByFiles (λ form old new status. (file bytes : List ℕ) (table : CedtFields)
         → form ≡ Listing file → old.files.told file ≡ Bytes bytes → IsReading bytes table
         → IsWritten (listed table.records) status old.out new.out ⊎ IsStopped status old new) }
     // Where memory ran out, nothing is written, or whole lines of the table's first records.
-    ensures memory { EachRun (λ form old new status. (file : List ℕ) → form ≡ Listing file
+    ensures memory { EachRunByFiles (λ form old new status. (file : List ℕ) → form ≡ Listing file
         → status ≡ Status.Memory
         → (new.out.taken ≡ old.out.taken) ⊎ TakesLines (old.files.told file) old.out new.out) }
 {

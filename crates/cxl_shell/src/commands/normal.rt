@@ -5,7 +5,7 @@ ghost use Rattle.cxl_io.specs.Told.{Bytes};
 ghost use Rattle.cxl_shell.specs.Answers.{ComesTo};
 ghost use Rattle.cxl_shell.specs.Ends.{IsWritten, IsStopped};
 ghost use Rattle.cxl_shell.specs.Form.{Normal};
-ghost use Rattle.cxl_shell.specs.Run.{EachRun};
+ghost use Rattle.cxl_shell.specs.Run.{EachRunByFiles};
 ghost use Rattle.cxl_shell.specs.commands.Normal.{normalized, IsNormalText};
 ghost use Rattle.cxl_shell.specs.inputs.Table.{IsReading};
 
@@ -31,10 +31,10 @@ pub(crate) fn normal<F: Fetch>(alloc: Global, file: &str, files: &mut F) -> Resu
 /// Laws of each run of `normal`.
 pub fn normal_statuses()
     // With status 0 it writes exactly the bytes of the file's table as the writer gives them.
-    ensures normal { EachRun (λ form old new status. (file : List ℕ) → form ≡ Normal file → status ≡ Status.Done
+    ensures normal { EachRunByFiles (λ form old new status. (file : List ℕ) → form ≡ Normal file → status ≡ Status.Done
         → (bytes : List ℕ) × IsNormalText (old.files.told file) bytes × Takes old.out new.out bytes) }
     // Where the file has a table, its bytes are written, unless the run stops before.
-    ensures normalized { EachRun (λ form old new status. (file bytes : List ℕ) (table : CedtFields)
+    ensures normalized { EachRunByFiles (λ form old new status. (file bytes : List ℕ) (table : CedtFields)
         → form ≡ Normal file → old.files.told file ≡ Bytes bytes → IsReading bytes table
         → IsWritten (normalized table) status old.out new.out ⊎ IsStopped status old new) }
 {

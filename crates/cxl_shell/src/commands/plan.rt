@@ -13,7 +13,7 @@ ghost use Rattle.cxl_shell.specs.Answers.{ComesTo};
 ghost use Rattle.cxl_shell.specs.Ends.{IsStopped};
 ghost use Rattle.cxl_shell.specs.Form as forms;
 ghost use Rattle.cxl_shell.specs.Readings.{ByTree, AreKnown};
-ghost use Rattle.cxl_shell.specs.Run.{EachRun};
+ghost use Rattle.cxl_shell.specs.Run.{EachRunByFiles};
 ghost use Rattle.cxl_shell.specs.commands.Plan.{asked_over, wanted_with, endpoint_called, first_unknown, endpoints_called, plan_outcome, refusal_outcome, IsPlanned, IsPlanText, IsRefusalText, HasPlan, HasNoPlan};
 ghost use Rattle.cxl_shell.specs.inner.Requests.{IsPlannedOver, IsToldAs};
 ghost use Rattle.cxl_shell.specs.inputs.ResetHost.{reset_host_of};
@@ -242,24 +242,24 @@ pub fn plan_statuses()
     // two files after reset: in the first window that takes the request, at the least base there. Where the
     // line states ways, it is over the endpoints that are picked, and no set of so many endpoints has a legal
     // plan in an earlier window.
-    ensures planned { EachRun (λ form old new status. (cedt topo : List ℕ) (create : Create)
+    ensures planned { EachRunByFiles (λ form old new status. (cedt topo : List ℕ) (create : Create)
         → form ≡ forms.Plan cedt topo create → status ≡ Status.Done
         → (text : List ℕ) × IsPlanText old.files.told cedt topo create text × Takes old.out new.out text) }
     // With status 8 it writes exactly why there is none: the first name on the line that is no endpoint's, or
     // the first fault of the request; or, where the line states ways, that no region has so many or no such
     // size, or that no set of so many endpoints has a legal plan.
-    ensures refused { EachRun (λ form old new status. (cedt topo : List ℕ) (create : Create)
+    ensures refused { EachRunByFiles (λ form old new status. (cedt topo : List ℕ) (create : Create)
         → form ≡ forms.Plan cedt topo create → status ≡ Status.Refused
         → (text : List ℕ) × IsRefusalText old.files.told cedt topo create text × Takes old.out new.out text) }
 
     // Where the files are known and have a reading, status 0 comes exactly where every name is an endpoint's
     // and there is a legal plan, or some set of so many endpoints as the line states has one; and status 8
     // exactly where that is not so, unless the run stops before.
-    ensures only_planned { EachRun (λ form old new status. (cedt topo : List ℕ) (create : Create)
+    ensures only_planned { EachRunByFiles (λ form old new status. (cedt topo : List ℕ) (create : Create)
         (table : CedtFields) (tree : Tree) → form ≡ forms.Plan cedt topo create
         → AreKnown form old.files.told (ByTree table tree) → HasPlan (reset_host_of table tree) create
         → (status ≡ Status.Done) ⊎ IsStopped status old new) }
-    ensures only_refused { EachRun (λ form old new status. (cedt topo : List ℕ) (create : Create)
+    ensures only_refused { EachRunByFiles (λ form old new status. (cedt topo : List ℕ) (create : Create)
         (table : CedtFields) (tree : Tree) → form ≡ forms.Plan cedt topo create
         → AreKnown form old.files.told (ByTree table tree) → HasNoPlan (reset_host_of table tree) create
         → (status ≡ Status.Refused) ⊎ IsStopped status old new) }

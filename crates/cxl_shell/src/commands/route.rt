@@ -6,7 +6,7 @@ ghost use Rattle.cxl_shell.specs.Answers.{ComesTo};
 ghost use Rattle.cxl_shell.specs.Ends.{IsWritten, IsStopped};
 ghost use Rattle.cxl_shell.specs.Form.{Route};
 ghost use Rattle.cxl_shell.specs.Outcome.{Outcome};
-ghost use Rattle.cxl_shell.specs.Run.{EachRun};
+ghost use Rattle.cxl_shell.specs.Run.{EachRunByFiles};
 ghost use Rattle.cxl_shell.specs.commands.Route.{IsNowhere, IsRouted, IsRouteLine, routed, no_window};
 ghost use Rattle.cxl_shell.specs.inputs.Table.{IsReading, IsTableOf};
 ghost use Rattle.cxl_window.specs.Windows.{windows_of};
@@ -79,23 +79,23 @@ fn no_window() -> Outcome
 pub fn route_statuses()
     // With status 0 it writes exactly the line that names the window, the position and the bridge of the
     // address, by the first window of the file's table that can be used and holds it.
-    ensures route { EachRun (λ form old new status. (file : List ℕ) (h : ℕ) → form ≡ Route file h
+    ensures route { EachRunByFiles (λ form old new status. (file : List ℕ) (h : ℕ) → form ≡ Route file h
         → status ≡ Status.Done
         → (text : List ℕ) × IsRouteLine (old.files.told file) h text × Takes old.out new.out text) }
 
     // Status 8 comes exactly where no window of the table that can be used holds the address, unless the run
     // stops before.
-    ensures refused { EachRun (λ form old new status. (file : List ℕ) (h : ℕ) → form ≡ Route file h
+    ensures refused { EachRunByFiles (λ form old new status. (file : List ℕ) (h : ℕ) → form ≡ Route file h
         → status ≡ Status.Refused
         → (table : CedtFields) × IsTableOf (old.files.told file) table
         × IsNowhere (windows_of table.records None) h) }
-    ensures only_refused { EachRun (λ form old new status. (file bytes : List ℕ) (h : ℕ) (table : CedtFields)
+    ensures only_refused { EachRunByFiles (λ form old new status. (file bytes : List ℕ) (h : ℕ) (table : CedtFields)
         → form ≡ Route file h → old.files.told file ≡ Bytes bytes → IsReading bytes table
         → IsNowhere (windows_of table.records None) h
         → (status ≡ Status.Refused) ⊎ IsStopped status old new) }
 
     // Where the file has a table, the address's outcome by it is written, unless the run stops before.
-    ensures routed { EachRun (λ form old new status.
+    ensures routed { EachRunByFiles (λ form old new status.
         (file bytes : List ℕ) (h : ℕ) (table : CedtFields) (outcome : Outcome)
         → form ≡ Route file h → old.files.told file ≡ Bytes bytes → IsReading bytes table
         → IsRouted table h outcome

@@ -56,24 +56,24 @@ fn too_large(alloc: Global, file: &str) -> Result<Outcome, Memory>
 pub fn file_statuses()
     // The files are asked for in the order of the words, and no other file is: the first of them, and
     // all of them where a command has its answer or its one file comes to something.
-    ensures asked { EachRun (λ form old new status. AsksForSome (own_files form) old.files new.files) }
-    ensures all_asked { EachRun (λ form old new status. (status ≡ Status.Done) ⊎ (status ≡ Status.Refused)
+    ensures asked { EachRun (λ form old new before after status. AsksForSome (own_files form) old.files new.files) }
+    ensures all_asked { EachRun (λ form old new before after status. (status ≡ Status.Done) ⊎ (status ≡ Status.Refused)
         → AsksFor old.files new.files (own_files form)) }
-    ensures one_asked { EachRun (λ form old new status. (file : List ℕ) → own_files form ≡ file ∷ []
+    ensures one_asked { EachRun (λ form old new before after status. (file : List ℕ) → own_files form ≡ file ∷ []
         → status ≢ Status.Memory → AsksFor old.files new.files (file ∷ [])) }
 
     // Status 2 comes only where asking for one of the command's own files failed. A first file that is
     // known not to be there gives it, unless that is not written.
-    ensures fetch_fault { EachRun (λ form old new status. status ≡ Status.FetchFault
+    ensures fetch_fault { EachRun (λ form old new before after status. status ≡ Status.FetchFault
         → HasFailed (own_files form) old.files new.files) }
-    ensures absent { EachRun (λ form old new status. (file : List ℕ) (others : List (List ℕ))
+    ensures absent { EachRun (λ form old new before after status. (file : List ℕ) (others : List (List ℕ))
         → own_files form ≡ file ∷ others → old.files.told file ≡ Absent
         → (status ≡ Status.FetchFault) ⊎ IsUnwritten status old.out new.out) }
 
     // Status 12 comes exactly where a file has more than 1,048,576 bytes, unless the run stops before.
-    ensures too_large { EachRun (λ form old new status. status ≡ Status.TooLarge
+    ensures too_large { EachRun (λ form old new before after status. status ≡ Status.TooLarge
         → (file : List ℕ) × Contains (own_files form) file × IsTooLarge (old.files.told file)) }
-    ensures only_too_large { EachRun (λ form old new status. (file bytes : List ℕ) (others : List (List ℕ))
+    ensures only_too_large { EachRun (λ form old new before after status. (file bytes : List ℕ) (others : List (List ℕ))
         → own_files form ≡ file ∷ others → old.files.told file ≡ Bytes bytes → file_limit < length bytes
         → (status ≡ Status.TooLarge) ⊎ IsStopped status old new) }
 {

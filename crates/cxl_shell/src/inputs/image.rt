@@ -66,16 +66,16 @@ fn faulty(alloc: Global, fault: ImageFault) -> Result<Outcome, Memory>
 pub fn image_statuses()
     // Status 10 comes exactly where the file's bytes are no file of an image over the topology, with their
     // first fault, unless the run stops before.
-    ensures bad_image { EachRun (λ form old new status. (tree : Tree) (fault : ImageFault)
+    ensures bad_image { EachRun (λ form old new before after status. (tree : Tree) (fault : ImageFault)
         → KnowsTree form old.files.told tree → status ≡ Status.BadImage fault
         → (file : List ℕ) × (image_file form ≡ Some file)
         × IsFaultyImageFile (old.files.told file) tree.nodes fault) }
-    ensures only_bad_image { EachRun (λ form old new status.
+    ensures only_bad_image { EachRun (λ form old new before after status.
         (table : CedtFields) (tree : Tree) (bytes : List ℕ) (fault : ImageFault)
         → KnowsTable form old.files.told table → KnowsTree form old.files.told tree
         → IsFileOfImage form old.files.told bytes → IsFaultyImage bytes tree.nodes fault
         → (status ≡ Status.BadImage fault) ⊎ IsStopped status old new) }
-    ensures no_image { EachRun (λ form old new status.
+    ensures no_image { EachRun (λ form old new before after status.
         (table : CedtFields) (tree : Tree) (bytes : List ℕ)
         → KnowsTable form old.files.told table → KnowsTree form old.files.told tree
         → IsFileOfImage form old.files.told bytes → length bytes ≤ file_limit
@@ -83,18 +83,18 @@ pub fn image_statuses()
         → ((fault : ImageFault) × (status ≡ Status.BadImage fault)) ⊎ IsStopped status old new) }
 
     // A file that is known not to be there gives status 2, and one that is too large status 12.
-    ensures absent { EachRun (λ form old new status. (table : CedtFields) (tree : Tree) (file : List ℕ)
+    ensures absent { EachRun (λ form old new before after status. (table : CedtFields) (tree : Tree) (file : List ℕ)
         → KnowsTable form old.files.told table → KnowsTree form old.files.told tree
         → image_file form ≡ Some file → old.files.told file ≡ Absent
         → (status ≡ Status.FetchFault) ⊎ IsUnwritten status old.out new.out) }
-    ensures only_too_large { EachRun (λ form old new status.
+    ensures only_too_large { EachRun (λ form old new before after status.
         (table : CedtFields) (tree : Tree) (bytes : List ℕ)
         → KnowsTable form old.files.told table → KnowsTree form old.files.told tree
         → IsFileOfImage form old.files.told bytes → file_limit < length bytes
         → (status ≡ Status.TooLarge) ⊎ IsStopped status old new) }
 
     // Want of memory is status 9 alone.
-    ensures own_memory { EachRun (λ form old new status. status ≢ Status.BadImage ImageFault.Memory) }
+    ensures own_memory { EachRun (λ form old new before after status. status ≢ Status.BadImage ImageFault.Memory) }
 {
     one_reading();
     one_topology_reading();

@@ -52,12 +52,12 @@ fn faulty(alloc: Global, fault: CedtFault) -> Result<Outcome, Memory>
 pub fn table_statuses()
     // Status 3 comes exactly where the file's bytes spell no table, with their first fault, unless the
     // run stops before.
-    ensures bad_table { EachRun (λ form old new status. (fault : CedtFault) → status ≡ Status.BadTable fault
+    ensures bad_table { EachRun (λ form old new before after status. (fault : CedtFault) → status ≡ Status.BadTable fault
         → (file : List ℕ) × (table_file form ≡ Some file) × IsFaultyFile (old.files.told file) fault) }
-    ensures only_bad_table { EachRun (λ form old new status. (file bytes : List ℕ) (fault : CedtFault)
+    ensures only_bad_table { EachRun (λ form old new before after status. (file bytes : List ℕ) (fault : CedtFault)
         → table_file form ≡ Some file → old.files.told file ≡ Bytes bytes → IsFaulty bytes fault
         → (status ≡ Status.BadTable fault) ⊎ IsStopped status old new) }
-    ensures no_table { EachRun (λ form old new status. (file bytes : List ℕ)
+    ensures no_table { EachRun (λ form old new before after status. (file bytes : List ℕ)
         → table_file form ≡ Some file → old.files.told file ≡ Bytes bytes
         → length bytes ≤ file_limit → ¬ (HasTable bytes)
         → ((fault : CedtFault) × (status ≡ Status.BadTable fault)) ⊎ IsStopped status old new) }
@@ -65,7 +65,7 @@ pub fn table_statuses()
     ensures not_both { (bytes : List ℕ) (fault : CedtFault) → IsFaulty bytes fault → ¬ (HasTable bytes) }
 
     // Want of memory is status 9 alone.
-    ensures own_memory { EachRun (λ form old new status. status ≢ Status.BadTable CedtFault.Memory) }
+    ensures own_memory { EachRun (λ form old new before after status. status ≢ Status.BadTable CedtFault.Memory) }
 {
     // Bytes have one reading, or one first fault.
     one_reading();

@@ -61,13 +61,13 @@ fn faulty(alloc: Global, fault: TopoFault) -> Result<Outcome, Memory>
 pub fn topology_statuses()
     // Status 4 comes exactly where the file's bytes stand for no tree, with their first fault, unless the
     // run stops before.
-    ensures bad_topology { EachRun (λ form old new status. (fault : TopoFault) → status ≡ Status.BadTopo fault
+    ensures bad_topology { EachRun (λ form old new before after status. (fault : TopoFault) → status ≡ Status.BadTopo fault
         → (file : List ℕ) × (topology_file form ≡ Some file) × IsFaultyTreeFile (old.files.told file) fault) }
-    ensures only_bad_topology { EachRun (λ form old new status.
+    ensures only_bad_topology { EachRun (λ form old new before after status.
         (table : CedtFields) (bytes : List ℕ) (fault : TopoFault) → KnowsTable form old.files.told table
         → IsTreeFile form old.files.told bytes → IsFaultyTree bytes fault
         → (status ≡ Status.BadTopo fault) ⊎ IsStopped status old new) }
-    ensures no_topology { EachRun (λ form old new status.
+    ensures no_topology { EachRun (λ form old new before after status.
         (table : CedtFields) (bytes : List ℕ) → KnowsTable form old.files.told table
         → IsTreeFile form old.files.told bytes → length bytes ≤ file_limit → ¬ (HasTree bytes)
         → ((fault : TopoFault) × (status ≡ Status.BadTopo fault)) ⊎ IsStopped status old new) }
@@ -75,16 +75,16 @@ pub fn topology_statuses()
     ensures not_both { (bytes : List ℕ) (fault : TopoFault) → IsFaultyTree bytes fault → ¬ (HasTree bytes) }
 
     // A file that is known not to be there gives status 2, and one that is too large status 12.
-    ensures absent { EachRun (λ form old new status. (table : CedtFields) (file : List ℕ)
+    ensures absent { EachRun (λ form old new before after status. (table : CedtFields) (file : List ℕ)
         → KnowsTable form old.files.told table → topology_file form ≡ Some file
         → old.files.told file ≡ Absent
         → (status ≡ Status.FetchFault) ⊎ IsUnwritten status old.out new.out) }
-    ensures only_too_large { EachRun (λ form old new status. (table : CedtFields) (bytes : List ℕ)
+    ensures only_too_large { EachRun (λ form old new before after status. (table : CedtFields) (bytes : List ℕ)
         → KnowsTable form old.files.told table → IsTreeFile form old.files.told bytes
         → file_limit < length bytes → (status ≡ Status.TooLarge) ⊎ IsStopped status old new) }
 
     // Want of memory is status 9 alone.
-    ensures own_memory { EachRun (λ form old new status. status ≢ Status.BadTopo TopoFault.Memory) }
+    ensures own_memory { EachRun (λ form old new before after status. status ≢ Status.BadTopo TopoFault.Memory) }
 {
     one_reading();
     one_topology_reading();

@@ -1,5 +1,6 @@
 use Rattle.cxl_shell.specs.declared.status.Status.TheVariants.{WriteFault, Refused, Memory}
-use Rattle.cxl_shell.proofs.PerCommand.{memory_writes, ends_or_memory, no_memory_left}
+use Rattle.cxl_shell.proofs.Lifted.{lifted}
+use Rattle.cxl_shell.proofs.Endings.{memory_writes, ends_or_memory, no_memory_left}
 use Rattle.cxl_shell.proofs.Readings.{HaveOneReading, one_table, one_topology, one_image, answer_comes}
 use Rattle.cxl_shell.proofs.Runs.{came_to, sink_rose, refuses_some, memory_left}
 use Rattle.cxl_shell.proofs.finish.run_ends.Goals as goal
@@ -18,10 +19,10 @@ pub returns-clause-answered : goal.returns-clause-answered
 returns-clause-answered c = λ form old new status run readings known. answer_comes old new status (have c) form run readings known
 
 pub returns-clause-refused : goal.returns-clause-refused
-returns-clause-refused c = λ form old new status run is. refuses_some old new form (came_to old new form status Refused run is)
+returns-clause-refused c = lifted _ (λ form old new status run is. refuses_some old new form (came_to old new form status Refused run is))
 
 pub returns-clause-write_fault : goal.returns-clause-write_fault
-returns-clause-write_fault c = λ form old new status run is. sink_rose old new form (came_to old new form status WriteFault run is)
+returns-clause-write_fault c = lifted _ (λ form old new status run is. sink_rose old new form (came_to old new form status WriteFault run is))
 
 pub returns-clause-memory : goal.returns-clause-memory
 returns-clause-memory c = λ form old new status run is. (memory_left old new form (came_to old new form status Memory run is)).1
@@ -31,4 +32,4 @@ returns-clause-memory_writes c = λ form old new status run one is.
     memory_writes old new form one (memory_left old new form (came_to old new form status Memory run is)).1
 
 pub returns-clause-no_memory : goal.returns-clause-no_memory
-returns-clause-no_memory c = λ form old new status run none is. no_memory_left old new form none (came_to old new form status Memory run is)
+returns-clause-no_memory c = lifted _ (λ form old new status run none is. no_memory_left old new form none (came_to old new form status Memory run is))

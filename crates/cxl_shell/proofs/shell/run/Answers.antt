@@ -1,6 +1,11 @@
+use Rattle.std.proofs.Common.{refl}
 use Rattle.cxl_shell.specs.Outside.{outside}
+use Rattle.cxl_shell.specs.Run.{unopened, by_files}
 use Rattle.cxl_shell.proofs.Readings.{unless_stopped}
 use Rattle.cxl_shell.proofs.shell.run.Goals as goal
+
+pub returns-clause-run : goal.returns-clause-run
+returns-clause-run g c = unopened (by_files refl c.carry_out_words.ensures.run)
 
 pub returns-clause-complete : goal.returns-clause-complete
 returns-clause-complete g c = λ readings known files_well sink_well.

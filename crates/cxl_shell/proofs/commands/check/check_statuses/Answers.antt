@@ -1,10 +1,10 @@
 use Rattle.std.proofs.Common.{subst}
 use Rattle.cxl_shell.specs.Form.{Check}
 use Rattle.cxl_shell.specs.Readings.{ByHost, AreKnown}
-use Rattle.cxl_shell.specs.Run.{IsRun}
+use Rattle.cxl_shell.specs.Run.{IsRunByFiles}
 use Rattle.cxl_shell.specs.declared.status.Status.TheVariants.{Done, Refused, Memory}
 use Rattle.cxl_shell.specs.inputs.Host.{host_of}
-use Rattle.cxl_shell.proofs.PerCommand.{check_accepted, check_broken, accepted_comes, broken_comes, memory_in_check}
+use Rattle.cxl_shell.proofs.laws.Check.{check_accepted, check_broken, accepted_comes, broken_comes, memory_in_check}
 use Rattle.cxl_shell.proofs.Readings.{HaveOneReading, one_table, one_topology, one_image, answer_comes}
 use Rattle.cxl_shell.proofs.Runs.{came_to, memory_left}
 use Rattle.cxl_shell.proofs.commands.check.check_statuses.Goals as goal
@@ -18,22 +18,22 @@ have c = record {
 
 pub returns-clause-accepted : goal.returns-clause-accepted
 returns-clause-accepted c = λ form old new status run cedt topo image is done.
-    check_accepted old new cedt topo image (came_to old new (Check cedt topo image) status Done (subst (λ f. IsRun f old new status) is run) done)
+    check_accepted old new cedt topo image (came_to old new (Check cedt topo image) status Done (subst (λ f. IsRunByFiles f old new status) is run) done)
 
 pub returns-clause-broken : goal.returns-clause-broken
 returns-clause-broken c = λ form old new status run cedt topo image is refused.
-    check_broken old new cedt topo image (came_to old new (Check cedt topo image) status Refused (subst (λ f. IsRun f old new status) is run) refused)
+    check_broken old new cedt topo image (came_to old new (Check cedt topo image) status Refused (subst (λ f. IsRunByFiles f old new status) is run) refused)
 
 pub returns-clause-only_accepted : goal.returns-clause-only_accepted
 returns-clause-only_accepted c = λ form old new status run cedt topo image table tree blocks is known accepted.
     accepted_comes c.accepted_or_breach.ensures.not_both old new status (host_of table tree blocks) accepted
-    (answer_comes old new status (have c) (Check cedt topo image) (subst (λ f. IsRun f old new status) is run) (ByHost table tree blocks) (subst (λ f. AreKnown f old.files.told (ByHost table tree blocks)) is known))
+    (answer_comes old new status (have c) (Check cedt topo image) (subst (λ f. IsRunByFiles f old new status) is run) (ByHost table tree blocks) (subst (λ f. AreKnown f old.files.told (ByHost table tree blocks)) is known))
 
 pub returns-clause-only_broken : goal.returns-clause-only_broken
 returns-clause-only_broken c = λ form old new status run cedt topo image table tree blocks is known breach.
     broken_comes c.accepted_or_breach.ensures.not_both old new status (host_of table tree blocks) breach
-    (answer_comes old new status (have c) (Check cedt topo image) (subst (λ f. IsRun f old new status) is run) (ByHost table tree blocks) (subst (λ f. AreKnown f old.files.told (ByHost table tree blocks)) is known))
+    (answer_comes old new status (have c) (Check cedt topo image) (subst (λ f. IsRunByFiles f old new status) is run) (ByHost table tree blocks) (subst (λ f. AreKnown f old.files.told (ByHost table tree blocks)) is known))
 
 pub returns-clause-memory : goal.returns-clause-memory
 returns-clause-memory c = λ form old new status run cedt topo image is out.
-    memory_in_check old new cedt topo image (memory_left old new (Check cedt topo image) (came_to old new (Check cedt topo image) status Memory (subst (λ f. IsRun f old new status) is run) out)).1
+    memory_in_check old new cedt topo image (memory_left old new (Check cedt topo image) (came_to old new (Check cedt topo image) status Memory (subst (λ f. IsRunByFiles f old new status) is run) out)).1

@@ -1,10 +1,10 @@
 use Rattle.std.proofs.Common.{subst}
 use Rattle.cxl_shell.specs.Form.{Plan}
 use Rattle.cxl_shell.specs.Readings.{ByTree, AreKnown}
-use Rattle.cxl_shell.specs.Run.{IsRun}
+use Rattle.cxl_shell.specs.Run.{IsRunByFiles}
 use Rattle.cxl_shell.specs.declared.status.Status.TheVariants.{Done, Refused}
 use Rattle.cxl_shell.specs.inputs.ResetHost.{reset_host_of}
-use Rattle.cxl_shell.proofs.PerCommand.{plan_written, refusal_written, plan_comes, refusal_comes}
+use Rattle.cxl_shell.proofs.laws.Plan.{plan_written, refusal_written, plan_comes, refusal_comes}
 use Rattle.cxl_shell.proofs.Readings.{HaveOneReading, one_table, one_topology, one_image, answer_comes}
 use Rattle.cxl_shell.proofs.Runs.{came_to}
 use Rattle.cxl_shell.proofs.commands.plan.plan_statuses.Goals as goal
@@ -18,18 +18,18 @@ have c = record {
 
 pub returns-clause-planned : goal.returns-clause-planned
 returns-clause-planned c = λ form old new status run cedt topo create is done.
-    plan_written old new cedt topo create (came_to old new (Plan cedt topo create) status Done (subst (λ f. IsRun f old new status) is run) done)
+    plan_written old new cedt topo create (came_to old new (Plan cedt topo create) status Done (subst (λ f. IsRunByFiles f old new status) is run) done)
 
 pub returns-clause-refused : goal.returns-clause-refused
 returns-clause-refused c = λ form old new status run cedt topo create is refused.
-    refusal_written old new cedt topo create (came_to old new (Plan cedt topo create) status Refused (subst (λ f. IsRun f old new status) is run) refused)
+    refusal_written old new cedt topo create (came_to old new (Plan cedt topo create) status Refused (subst (λ f. IsRunByFiles f old new status) is run) refused)
 
 pub returns-clause-only_planned : goal.returns-clause-only_planned
 returns-clause-only_planned c = λ form old new status run cedt topo create table tree is known has.
     plan_comes old new status (reset_host_of table tree) create has
-    (answer_comes old new status (have c) (Plan cedt topo create) (subst (λ f. IsRun f old new status) is run) (ByTree table tree) (subst (λ f. AreKnown f old.files.told (ByTree table tree)) is known))
+    (answer_comes old new status (have c) (Plan cedt topo create) (subst (λ f. IsRunByFiles f old new status) is run) (ByTree table tree) (subst (λ f. AreKnown f old.files.told (ByTree table tree)) is known))
 
 pub returns-clause-only_refused : goal.returns-clause-only_refused
 returns-clause-only_refused c = λ form old new status run cedt topo create table tree is known none.
     refusal_comes old new status (reset_host_of table tree) create none
-    (answer_comes old new status (have c) (Plan cedt topo create) (subst (λ f. IsRun f old new status) is run) (ByTree table tree) (subst (λ f. AreKnown f old.files.told (ByTree table tree)) is known))
+    (answer_comes old new status (have c) (Plan cedt topo create) (subst (λ f. IsRunByFiles f old new status) is run) (ByTree table tree) (subst (λ f. AreKnown f old.files.told (ByTree table tree)) is known))

@@ -1,0 +1,6 @@
+-- What a run of each command comes to.
+pub mod Route
+pub mod List
+pub mod Normal
+pub mod Check
+pub mod Plan

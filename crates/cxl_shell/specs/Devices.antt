@@ -1,0 +1,12 @@
+-- What a script is read from, and the registers and the device memory that a session works on, at one moment.
+use Rattle.cxl_bus.specs.RegsState.{RegsState}
+use Rattle.cxl_io.specs.Source.{SourceState}
+use Rattle.cxl_media.specs.MediaState.{MediaState}
+
+pub record Devices : Type 0 where
+  pub script : SourceState
+  pub regs : RegsState
+  pub media : MediaState
+
+abbrev pub devices : SourceState → RegsState → MediaState → Devices
+devices script regs media = record { script = script; regs = regs; media = media }
