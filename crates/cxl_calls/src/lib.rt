@@ -15,6 +15,8 @@ mod deal;
 #[cfg(test)]
 mod enc;
 #[cfg(test)]
+mod generated;
+#[cfg(test)]
 mod image;
 #[cfg(test)]
 mod io;

@@ -1,0 +1,98 @@
+//! Generated systems: the bytes of a table, how many commands there are, and the first and last of each part.
+
+use cxl_cedt::write;
+use cxl_gen::make;
+use cxl_script::Command;
+use std::process::Abort;
+
+/// What a command asks for: of a region its size and how many endpoints it names, of a store its address and the number
+/// in its first two bytes, of a load its address and how many bytes it reads.
+fn numbers(command: Option<&Command>) -> (&'static str, u64, u64) {
+    match command {
+        Some(Command::Create(create)) => {
+            ("create", create.size, create.endpoints.items().len() as u64)
+        }
+        Some(Command::Store(store)) => ("store", store.h, first_two(store.bytes.items())),
+        Some(Command::Load(load)) => ("load", load.h, u64::from(load.len)),
+        _ => ("", 0, 0),
+    }
+}
+
+fn first_two(bytes: &[u8]) -> u64 {
+    match bytes {
+        [low, high, ..] => u64::from(*low) + 256 * u64::from(*high),
+        _ => 0,
+    }
+}
+
+/// Whether a region of this name is asked for, with this endpoint as its last.
+fn is_region(command: Option<&Command>, name: &str, last: &str) -> bool {
+    match command {
+        Some(Command::Create(create)) => match create.endpoints.items() {
+            [_, _, _, endpoint] => {
+                create.name.bytes() == name.as_bytes() && endpoint.bytes() == last.as_bytes()
+            }
+            _ => false,
+        },
+        _ => false,
+    }
+}
+
+/// A place among the commands, and what stands there.
+type Row<'a> = (usize, (&'a str, u64, u64));
+
+#[test]
+fn one_window(rt: HostRuntime) {
+    let made = make(rt.alloc(), 1).expect(&rt, "memory");
+    let bytes = write(rt.alloc(), &made.cedt).expect(&rt, "memory");
+    assert!(rt; bytes.as_slice() == TABLE.as_slice());
+    let commands = made.commands.items();
+    assert!(rt; is_region(commands.first(), "r0", "e3"));
+    for row in &ONE {
+        assert!(rt; numbers(commands.get(row.0)) == row.1, "at {}", row.0);
+    }
+}
+
+#[test]
+fn most_windows(rt: HostRuntime) {
+    let made = make(rt.alloc(), 32).expect(&rt, "memory");
+    let commands = made.commands.items();
+    assert!(rt; is_region(commands.get(31_031), "r31", "e127"));
+    for row in &MOST {
+        assert!(rt; numbers(commands.get(row.0)) == row.1, "at {}", row.0);
+    }
+}
+
+const ONE: [Row<'static>; 6] = [
+    (0, ("create", 0x1_0000_0000, 4)),
+    (1, ("store", 0x10_0000_0000, 0)),
+    (1_000, ("store", 0x10_003e_ae70, 999)),
+    (1_001, ("load", 0x10_0000_0000, 8)),
+    (2_000, ("load", 0x10_003e_ae70, 8)),
+    (2_001, ("", 0, 0)),
+];
+
+const MOST: [Row<'static>; 6] = [
+    (1_001, ("create", 0x1_0000_0000, 4)),
+    (1_002, ("store", 0x20_0000_0000, 0)),
+    (32_031, ("store", 0x200_003e_ae70, 999)),
+    (32_032, ("load", 0x10_0000_0000, 8)),
+    (64_031, ("load", 0x200_003e_ae70, 8)),
+    (64_032, ("", 0, 0)),
+];
+
+/// The table of one window: the header, two bridges, the maps of the codes 1, 3 and 5, and the window.
+const TABLE: [u8; 192] = [
+    0x43, 0x45, 0x44, 0x54, 0xc0, 0, 0, 0, 0x01, 0x9a, 0, 0, 0, 0, 0, 0, //
+    0, 0, 0, 0, 0, 0, 0, 0, 0, 0, 0, 0, 0, 0, 0, 0, //
+    0, 0, 0, 0, 0, 0, 0x20, 0, 0, 0, 0, 0, 0x01, 0, 0, 0, //
+    0, 0, 0, 0, 0, 0, 0, 0x80, 0, 0, 0, 0, 0, 0, 0x01, 0, //
+    0, 0, 0, 0, 0, 0, 0x20, 0, 0x01, 0, 0, 0, 0x01, 0, 0, 0, //
+    0, 0, 0, 0, 0, 0, 0x01, 0x80, 0, 0, 0, 0, 0, 0, 0x01, 0, //
+    0, 0, 0, 0, 0x02, 0, 0x10, 0, 0, 0, 0x01, 0x01, 0, 0x82, 0, 0, //
+    0, 0, 0, 0, 0x02, 0, 0x10, 0, 0, 0, 0x03, 0x01, 0, 0x08, 0x02, 0, //
+    0, 0, 0, 0, 0x02, 0, 0x10, 0, 0, 0, 0x05, 0x01, 0, 0x20, 0x08, 0, //
+    0, 0, 0, 0, 0x01, 0, 0x2c, 0, 0, 0, 0, 0, 0, 0, 0, 0, //
+    0x10, 0, 0, 0, 0, 0, 0, 0, 0x04, 0, 0, 0, 0x01, 0, 0, 0, //
+    0, 0, 0, 0, 0x06, 0, 0, 0, 0, 0, 0, 0, 0x01, 0, 0, 0,
+];
