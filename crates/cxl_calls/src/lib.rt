@@ -23,6 +23,8 @@ mod io;
 #[cfg(test)]
 mod media;
 #[cfg(test)]
+mod moves;
+#[cfg(test)]
 mod num;
 #[cfg(test)]
 mod poison;

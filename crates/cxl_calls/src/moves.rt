@@ -1,0 +1,164 @@
+//! The bytes of a region moved and copied to another, over both media: one of ram and one of pmem, 256 MiB each, on the
+//! device of one endpoint.
+
+ghost use Rattle.std.specs.Prelude.{◌≡◌, [], ◌∷◌, Some, IfOk};
+ghost use Rattle.cxl_enc.specs.declared.caps.MemKind.TheVariants.{Ram, Pmem};
+ghost use Rattle.cxl_window.specs.Windows.{windows_of};
+ghost use Rattle.cxl_move.specs.Sides.{AreSides};
+ghost use Rattle.cxl_worked.specs.ExampleRegions.{region};
+ghost use Rattle.cxl_worked.specs.ExampleLayouts.{region_of_pmem, window_of_one};
+
+use cxl_cedt::{Cedt, Cfmws, Chbs, Head, Record};
+use cxl_media::{MapMedia, Roll, SimMedia};
+use cxl_model::{FixedList, Found, MemKind, Place, accepted_where_whole, regions_share_no_byte};
+use cxl_move::{Side, copy_bytes, held, move_bytes};
+use cxl_window::{Window, windows};
+use cxl_worked::{layouts_are_systems, regions_on_layouts, rules_on_layouts};
+use std::alloc::{AllocError, Global};
+use std::process::Abort;
+use std::test::*;
+
+const HEAD: Head = Head {
+    revision: 1,
+    oem_id: [0; 6],
+    oem_table: [0; 8],
+    oem_revision: 0,
+    creator: [0; 4],
+    creator_revision: 0,
+};
+
+const BRIDGE: Chbs = Chbs {
+    uid: 0,
+    version: 1,
+    base: 0x8000_0000,
+    length: 0x1_0000,
+};
+
+/// A table with one bridge and a window of it alone.
+fn table_of_one(alloc: Global) -> Result<Cedt, AllocError>
+    ensures { IfOk result (λ table. windows_of table.records (Some (0 ∷ [])) ≡ window_of_one ∷ []) }
+{
+    let targets = vec![in alloc; 0]?;
+    let window = Cfmws::new(
+        0x1_0000_0000,
+        0x1_0000_0000,
+        0,
+        false,
+        0,
+        0x000e,
+        0,
+        targets,
+    );
+    let records = vec![in alloc; Record::Chbs(BRIDGE), Record::Cfmws(window)]?;
+    let table = Cedt::new(HEAD, records);
+    Ok(table)
+}
+
+fn windows_of_one(rt: &impl Abort, alloc: Global) -> Vec<Window>
+    ensures { result.items ≡ window_of_one ∷ [] }
+{
+    let table = table_of_one(alloc).expect(rt, "memory");
+    windows(alloc, &table, Some(&[0])).expect(rt, "memory")
+}
+
+/// A region of one way from a device address of the endpoint on.
+fn region_at(rt: &impl Abort, alloc: Global, base: u64, kind: MemKind, start: u64) -> Found
+    ensures { result ≡ record region_of_pmem { base = base; kind = kind; spans = record { endpoint = 1; start = start } ∷ [] } }
+{
+    let spans = [Place { endpoint: 1, start }];
+    let spans = Vec::from_slice(alloc, &spans).expect(rt, "memory");
+    Found {
+        base,
+        size: 0x1000_0000,
+        window: 0,
+        gran: 0,
+        ways: 1,
+        kind,
+        spans: FixedList::new(spans),
+    }
+}
+
+/// The regions are two of one image.
+fn regions_are_sides()
+    ensures ram { AreSides (region 0x100000000 0x10000000 1 (1 ∷ [])) window_of_one region_of_pmem window_of_one }
+    ensures pmem { AreSides region_of_pmem window_of_one (region 0x100000000 0x10000000 1 (1 ∷ [])) window_of_one }
+{
+    layouts_are_systems();
+    regions_on_layouts();
+    rules_on_layouts();
+    accepted_where_whole();
+    regions_share_no_byte();
+}
+
+/// How many pieces are moved.
+fn moved<M: Roll>(alloc: Global, media: &mut M, from: &Side<'_>, to: &Side<'_>) -> Option<usize>
+    requires { AreSides from.now.found.now from.now.window.now to.now.found.now to.now.window.now }
+{
+    let pieces = held(alloc, media, from).ok()?;
+    move_bytes(media, from, to, &pieces);
+    Some(pieces.len())
+}
+
+/// How many pieces are copied, where there are frames for them.
+fn copied<M: Roll>(alloc: Global, media: &mut M, from: &Side<'_>, to: &Side<'_>) -> Option<usize>
+    requires { AreSides from.now.found.now from.now.window.now to.now.found.now to.now.window.now }
+{
+    let pieces = held(alloc, media, from).ok()?;
+    let others = held(alloc, media, to).ok()?;
+    if pieces.len() > others.len().saturating_add(media.free() as usize) {
+        return None;
+    }
+    copy_bytes(media, from, to, &pieces);
+    Some(pieces.len())
+}
+
+fn stores<M: Roll>(media: &mut M, dpa: u64, byte: u8) -> bool {
+    media.put(1, dpa, &[byte]).is_ok()
+}
+
+fn loads<M: Roll>(media: &M, dpa: u64, want: u8) -> bool {
+    let mut byte = [7];
+    media.get(1, dpa, &mut byte);
+    byte == [want]
+}
+
+/// With one frame a piece goes over and back, and is not copied; with two it is.
+fn carries<M: Roll>(alloc: Global, media: &mut M, ram: &Side<'_>, pmem: &Side<'_>) -> bool
+    requires ram { AreSides ram.now.found.now ram.now.window.now pmem.now.found.now pmem.now.window.now }
+    requires pmem { AreSides pmem.now.found.now pmem.now.window.now ram.now.found.now ram.now.window.now }
+{
+    media.power_on(alloc, 1).is_ok()
+        && stores(media, 0x1ff, 0x11)
+        && moved(alloc, media, ram, pmem) == Some(1)
+        && loads(media, 0x4000_01ff, 0x11)
+        && loads(media, 0x1ff, 0)
+        && copied(alloc, media, pmem, ram).is_none()
+        && moved(alloc, media, pmem, ram) == Some(1)
+        && moved(alloc, media, pmem, ram) == Some(0)
+        && !loads(media, 0x1ff, 0x11)
+        && media.power_on(alloc, 2).is_ok()
+        && stores(media, 0x1ff, 0x22)
+        && copied(alloc, media, ram, pmem) == Some(1)
+        && loads(media, 0x1ff, 0x22)
+        && loads(media, 0x4000_01ff, 0x22)
+        && media.free() == 0
+}
+
+#[test]
+fn pieces_are_carried_over(rt: HostRuntime) {
+    let alloc = rt.alloc();
+    let windows = windows_of_one(&rt, alloc);
+    let first = region_at(&rt, alloc, 0x1_0000_0000, MemKind::Ram, 0);
+    let second = region_at(&rt, alloc, 0x1_1000_0000, MemKind::Pmem, 0x4000_0000);
+    regions_are_sides();
+    let ram = Side {
+        found: &first,
+        window: &windows[0],
+    };
+    let pmem = Side {
+        found: &second,
+        window: &windows[0],
+    };
+    assert!(rt; carries(alloc, &mut MapMedia::new(alloc), &ram, &pmem));
+    assert!(rt; carries(alloc, &mut SimMedia::new(alloc), &ram, &pmem));
+}
