@@ -165,7 +165,16 @@ pub(crate) fn code_of_run(
     let mut script = MemSource::new(Vec::new(alloc), Vec::new(alloc));
     let mut regs = SimBus::new(alloc);
     let mut media = SimMedia::new(alloc);
-    run(alloc, words, files, &mut script, sink, &mut regs, &mut media).code()
+    run(
+        alloc,
+        words,
+        files,
+        &mut script,
+        sink,
+        &mut regs,
+        &mut media,
+    )
+    .code()
 }
 
 /// Whether the words end with this exit status and write these bytes.

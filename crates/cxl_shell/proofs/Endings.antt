@@ -1,5 +1,5 @@
 -- How a run ends, whatever it was asked: what is written where memory ran out, and outcomes that are fixed.
-use Rattle.std.proofs.Common.{◌≡◌, ◌⊎◌, false, List, ℕ, refl, subst, inl, inr}
+use Rattle.std.proofs.Common.{◌≡◌, ◌⊎◌, false, List, ℕ, subst, inl, inr}
 use Rattle.cxl_cedt.specs.CedtFields.{CedtFields}
 use Rattle.cxl_model.specs.System.{System}
 use Rattle.cxl_regs.specs.Registers.{Registers}

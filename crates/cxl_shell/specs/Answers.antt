@@ -1,5 +1,5 @@
 -- Which outcome answers a form, by what the outside holds before it and after it.
-use Rattle.std.specs.Prelude.{◌≡◌, ℕ, List, [], ◌∷◌, Result, Ok, Err}
+use Rattle.std.specs.Prelude.{◌≡◌, List, [], ◌∷◌, Result, Ok, Err}
 use Rattle.cxl_cedt.specs.CedtFields.{CedtFields}
 use Rattle.cxl_enc.specs.declared.faults.Memory.{Memory}
 use Rattle.cxl_io.specs.Fetch.{FetchState, AsksFor}

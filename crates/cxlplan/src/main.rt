@@ -15,7 +15,9 @@ fn main(rt: HostRuntime) -> ExitCode {
     let alloc = rt.alloc();
     let words = match words(&rt) {
         Ok(words) => words,
-        Err(e) if e.kind() == ErrorKind::OutOfMemory => return ExitCode::from(Status::Memory.code()),
+        Err(e) if e.kind() == ErrorKind::OutOfMemory => return ExitCode::from(
+            Status::Memory.code(),
+        ),
         // A word that is no text is in no command, and neither are no words.
         Err(_) => Vec::new(alloc),
     };
