@@ -17,6 +17,7 @@ HERE = os.path.dirname(os.path.abspath(__file__))
 TOP = os.path.dirname(os.path.dirname(HERE))
 PROGRAM = os.path.join(os.path.dirname(HERE), "cxl-capture")
 MACHINES = ["x2-hb", "x4-pass-switch", "ram-and-pmem", "single-rp", "x6", "odd-ids"]
+DEVICES = "sys/bus/cxl/devices"
 TABLE = "sys/firmware/acpi/tables/CEDT"
 
 
@@ -29,8 +30,12 @@ def load_capture():
     return module
 
 
+def path_of(machine, file):
+    return os.path.join(HERE, "data", machine, file)
+
+
 def data_of(machine, file):
-    with open(os.path.join(HERE, "data", machine, file), "rb") as opened:
+    with open(path_of(machine, file), "rb") as opened:
         return opened.read()
 
 
@@ -113,14 +118,20 @@ def read_image(image, nodes):
 
 def registers_of(machine):
     """The components of `regs`: by UID of a bridge, by PCI address of a switch, by serial of an endpoint. Each has its
-    PCI path, capability word, global control, and the eight words of each decoder; no decoder where it has none."""
+    PCI path, address, header and capabilities, capability word of the decoders, global control, and the eight words of
+    each decoder; no decoder where it has none."""
     components, current = {}, None
     for line in data_of(machine, "regs").decode().splitlines():
         said = dict(re.findall(r"(\S+)=(\S+)", line))
         if line.startswith("component"):
             key = ("endpoint", int(said["serial"])) if "serial" in said else (
                 ("switch", said["pci"]) if "pci" in said else ("bridge", int(said["uid"])))
-            current = components[key] = {"path": said.get("path", "").split("/"), "decoders": []}
+            current = components[key] = {"path": said.get("path", "").split("/"), "decoders": [],
+                                         "address": int(said["registers"], 16)}
+        elif "cap-header" in line:
+            current["header"] = int(said["cap-header"], 16)
+            current["capabilities"] = [tuple(int(part, 16) for part in pair.split("@"))
+                                       for pair in said["capabilities"].split(",")]
         elif "hdm offset" in line:
             current["capability"], current["global"] = int(said["capability"], 16), int(said["global-control"], 16)
         elif "decoder " in line and "base" in said:

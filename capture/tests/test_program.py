@@ -1,14 +1,17 @@
-"""The files made of the six machines, given to cxlplan: its answers are what `cxl list` shows of the regions.
+"""The files made of the six machines, by each way to make them, given to cxlplan: its answers are what `cxl list` shows of
+the regions.
 
 The program is the one that the variable CXLPLAN names, or else crates/cxlplan/out/cxlplan, which ./cxlplan at the top
 builds. Where the second is not there, these tests are skipped."""
 
+import itertools
 import os
 import subprocess
 import tempfile
 import unittest
 
 import machines
+import made_hosts
 
 # Set this to True in the commit that gives the program its command `check`: a program without it then fails the test.
 CHECK_STANDS = True
@@ -30,11 +33,17 @@ class Program(unittest.TestCase):
         self.addCleanup(place.cleanup)
         self.place = place.name
 
-    def captured(self, machine):
-        """The folder of the four files."""
-        folder = os.path.join(self.place, machine)
-        copy = machines.save(machines.pack(machines.tree_of(machine)), folder + ".tar.gz")
-        self.assertEqual(CAPTURE.main(["--from", copy, folder]), 0)
+    def captured(self, machine, source="copy"):
+        """The folder of the four files, made from a copy, from the hardware or from a list."""
+        folder = os.path.join(self.place, f"{machine}-{source}")
+        if source == "copy":
+            words = ["--from", machines.save(machines.pack(machines.tree_of(machine)), folder + ".tar.gz")]
+        elif source == "hardware":
+            words = ["--registers", "--from", machines.lay(machines.tree_of(machine), folder + ".host")]
+            made_hosts.lay_hardware(machine, words[-1])
+        else:
+            words = ["--list", machines.path_of(machine, "cxl-list.json"), "--table", machines.path_of(machine, "cedt")]
+        self.assertEqual(CAPTURE.main([*words, folder]), 0)
         return folder
 
     def test_route(self):
@@ -52,9 +61,9 @@ class Program(unittest.TestCase):
                             f"window {region['window']} position {region['targets'][uid]} bridge {uid}\n")))
 
     def test_check(self):
-        """Each machine is accepted, with its regions, and their shares by slot."""
-        for machine in machines.MACHINES:
-            folder = self.captured(machine)
+        """Each machine is accepted, with its regions, and their shares by slot, from whatever it was captured."""
+        for machine, source in itertools.product(machines.MACHINES, ["copy", "hardware", "list"]):
+            folder = self.captured(machine, source)
             files = [os.path.join(folder, file) for file in ("table.cedt", "topo.toml", "image.bin")]
             answer = cxlplan("check", *files)
             if not CHECK_STANDS and answer[0] == 1:
@@ -65,8 +74,22 @@ class Program(unittest.TestCase):
                          f"gran {region['gran']} ways {region['ways']} {region['kind']}\n")
                 for slot, (device, dpa) in enumerate(region["slots"]):
                     text += f"slot {slot} {device} {dpa:#x}\n"
-            with self.subTest(machine):
+            with self.subTest(machine, source=source):
                 self.assertEqual(answer, (0, text))
+
+    def test_the_lists_of_the_guide(self):
+        """One whose machine is sound, and one that was changed so that a device deals by another granularity."""
+        text = machines.data_of("x2-hb", "cxl-list.json").decode()
+        at = text.index('"decoder3.0"')
+        changed = machines.save((text[:at] + text[at:].replace("1024", "2048", 1)).encode(), os.path.join(self.place, "list"))
+        lost, table = os.path.join(self.place, "lost"), machines.path_of("x2-hb", "cedt")
+        self.assertEqual(CAPTURE.main(["--list", changed, "--table", table, lost]), 0)
+        with open(os.path.join(machines.TOP, "docs", "GUIDE.md"), encoding="utf-8") as guide:
+            shown = guide.read()
+        for folder, name, status in [(lost, "lost", 8), (self.captured("odd-ids", "list"), "bug", 0)]:
+            said = cxlplan("check", *[os.path.join(folder, file) for file in ("table.cedt", "topo.toml", "image.bin")])
+            self.assertEqual(said[0], status)
+            self.assertIn(f"\n$ ./cxlplan check {name}/table.cedt {name}/topo.toml {name}/image.bin\n{said[1]}", shown)
 
 
 if __name__ == "__main__":
