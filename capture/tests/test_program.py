@@ -1,5 +1,5 @@
-"""The files made of the six machines, by each way to make them, given to cxlplan: its answers are what `cxl list` shows of
-the regions.
+"""The files made of the six machines, by each way to make them, given to cxlplan: its answers are what `cxl list` shows
+of the regions.
 
 The program is the one that the variable CXLPLAN names, or else crates/cxlplan/out/cxlplan, which ./cxlplan at the top
 builds. Where the second is not there, these tests are skipped."""
@@ -81,7 +81,8 @@ class Program(unittest.TestCase):
         """One whose machine is sound, and one that was changed so that a device deals by another granularity."""
         text = machines.data_of("x2-hb", "cxl-list.json").decode()
         at = text.index('"decoder3.0"')
-        changed = machines.save((text[:at] + text[at:].replace("1024", "2048", 1)).encode(), os.path.join(self.place, "list"))
+        text = text[:at] + text[at:].replace("1024", "2048", 1)
+        changed = machines.save(text.encode(), os.path.join(self.place, "list"))
         lost, table = os.path.join(self.place, "lost"), machines.path_of("x2-hb", "cedt")
         self.assertEqual(CAPTURE.main(["--list", changed, "--table", table, lost]), 0)
         with open(os.path.join(machines.TOP, "docs", "GUIDE.md"), encoding="utf-8") as guide:

@@ -1,5 +1,5 @@
-"""Registers that are read from the hardware, for which files stand: a machine's tree with its configuration spaces, BARs
-of its switches and endpoints, and a /dev/mem with the registers of its bridges."""
+"""Registers that are read from the hardware, for which files stand: a machine's tree with its configuration spaces,
+BARs of its switches and endpoints, and a /dev/mem with the registers of its bridges."""
 
 import os
 import re
@@ -102,8 +102,8 @@ class Registers(unittest.TestCase):
     def test_another_bar_with_the_registers_behind_an_offset(self):
         host = self.spoiled("config", LOCATOR + 12, 0x2 << 16 | 0x102)
         folder = made_hosts.pci_devices(host)["0000:11:00.0"]
-        with open(os.path.join(folder, "resource0"), "rb") as bar, open(os.path.join(folder, "resource2"), "wb") as other:
-            other.write(bytes(2 << 16) + bar.read())
+        with open(os.path.join(folder, "resource0"), "rb") as bar:
+            machines.save(bytes(2 << 16) + bar.read(), os.path.join(folder, "resource2"))
         os.remove(os.path.join(folder, "resource0"))
         self.assertEqual(self.files(host), self.files(self.host("x2-hb")))
 
@@ -143,9 +143,9 @@ class Registers(unittest.TestCase):
     def test_hardware_that_is_refused(self):
         for file, at, word, wanted in [
             ("resource0", 0x1000, 0xffffffff, "resource0: 0xffffffff at 0x1000 is no header of CXL capabilities"),
-            ("resource0", BLOCK, 0x1b16, "mem0 has the capability word 0x00001b16, whose number of decoders or targets"),
+            ("resource0", BLOCK, 0x1b16, "mem0 has the capability word 0x00001b16, whose number of decoders or"),
             ("resource0", 0x100c, 0xff810005, "mem0 has the capability word 0x00000000, whose number"),
-            ("mem", HB16 + BLOCK, 0x332, "hb16 has the capability word 0x00000332, whose number of decoders or targets"),
+            ("mem", HB16 + BLOCK, 0x332, "hb16 has the capability word 0x00000332, whose number of decoders or"),
             ("mem", HB16 + 0x1000, 0, "/dev/mem: 0x00000000 at 0x100011000 is no header of CXL capabilities"),
             ("config", LOCATOR + 12, 0x101, "resource1: no registers can be mapped at 0x1000: "),
             ("config", LOCATOR + 12, 0x10100, "resource0: no registers can be mapped at 0x11000: "),

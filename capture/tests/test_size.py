@@ -44,18 +44,18 @@ class Size(unittest.TestCase):
         table = made_hosts.made_table(LARGE[0])
         with tempfile.TemporaryDirectory() as place:
             trees = [made_hosts.made_tree(*size) for size in (SMALL, LARGE)]
-            files = [machines.save(machines.pack(tree), os.path.join(place, str(i))) for i, tree in enumerate(trees)]
+            files = [machines.save(machines.pack(tree), os.path.join(place, str(len(tree)))) for tree in trees]
             archives = self.assert_even(CAPTURE.Archive, *files)
-            folders = [CAPTURE.Folder(machines.lay(tree, os.path.join(place, f"host{i}"))) for i, tree in enumerate(trees)]
+            folders = [CAPTURE.Folder(machines.lay(tree, os.path.join(place, f"host{len(tree)}"))) for tree in trees]
             made = self.assert_even(CAPTURE.files_of, *archives)
             self.assertEqual(self.assert_even(CAPTURE.files_of, *folders), made)
             self.assert_even(CAPTURE.copy_of, *archives)
         lists = self.assert_even(CAPTURE.Listing, *[made_hosts.made_list(*size) for size in (SMALL, LARGE)])
         listed = self.assert_even(lambda tree: CAPTURE.files_of(tree, table), *lists)
         for files in (made[1], listed[1]):
-            self.assertIn("shows 72 bridges, switches and endpoints, and 48 committed decoders", files["report.txt"].decode())
-            self.assertEqual(len(machines.read_image(files["image.bin"], machines.read_topology(
-                files["topo.toml"].decode()))), 72)
+            self.assertIn("shows 72 bridges, switches and endpoints, and 48 committed", files["report.txt"].decode())
+            nodes = machines.read_topology(files["topo.toml"].decode())
+            self.assertEqual(len(machines.read_image(files["image.bin"], nodes)), 72)
 
 
 if __name__ == "__main__":
