@@ -97,7 +97,8 @@ def read_topology(text):
             nodes.append({"kind": line.strip("[]"), "comment": comment})
         elif line:
             key, value = line.split(" = ")
-            nodes[-1][key] = value.strip('"') if value[0] == '"' else True if value == "true" else int(value, 0)
+            nodes[-1][key] = (value.strip('"') if value[0] == '"' else
+                              value == "true" if value in ("true", "false") else int(value, 0))
     return nodes
 
 

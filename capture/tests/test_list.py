@@ -142,6 +142,16 @@ class List(unittest.TestCase):
                       "does not tell.", made["report.txt"].decode())
         self.assertEqual(made["topo.toml"], self.of_tree("odd-ids")["topo.toml"])
 
+    def test_bridges_by_their_other_names(self):
+        """Where the root's ports have the names of ACPI devices, those of the PCI host bridges are the other ones."""
+        def swap(item):
+            if "alias" in item:
+                item.update({key: item["alias"] for key in ("dport", "target") if key in item},
+                            alias=item.get("dport", item.get("target")))
+            item.pop("mappings", None)
+        for machine in ("x4-pass-switch", "single-rp"):
+            self.assertEqual(self.made(machine, swap)["topo.toml"], self.of_tree(machine)["topo.toml"])
+
     def test_a_decoder_of_no_committed_region_is_not_committed(self):
         def reset(item):
             item.update({"decode_state": "reset"} if "decode_state" in item else {})
@@ -229,6 +239,8 @@ class List(unittest.TestCase):
             (text, '[{"memdev":"mem0"}]', "no bus with a port is listed"),
             (text, '{"bus":"root0"}', "no bus with a port is listed"), (text, '{"bus":[]}', "bus is '[]', no name"),
             (text[-40:], "", "no JSON"),
+            ('"endpoints:port1"', '"memdevs:port1"', "port1: its memory devices are listed without their endpoints"),
+            (text, text.replace('"decoders:', '"orders:'), "no bus with a decoder is listed; `cxl list -vvv`"),
             ('"root0"', '"root0/../../etc"', "bus is 'root0/../../etc', no name"),
             ('"host":"0000:11:00.0"', '"host":"../../x"', "mem0: host is '../../x', no name"),
             ('"host":"0000:11:00.0"', '"host":["x"]', "mem0: host is \"['x']\", no name"),
