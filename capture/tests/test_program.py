@@ -77,6 +77,18 @@ class Program(unittest.TestCase):
             with self.subTest(machine, source=source):
                 self.assertEqual(answer, (0, text))
 
+    def test_registers_that_linux_does_not_show_are_judged(self):
+        """The enable bit and the error bit of an endpoint, and a capability word that allows less."""
+        for at, word, wanted in [(0x112c, 0, (8, "breach K2 mem0 0\n")), (0x1148, 0x1e12, (8, "breach K3 mem0 0\n")),
+                                 (0x1128, 0x1a02, (8, "breach K5 mem0 0\n"))]:
+            with self.subTest(word), tempfile.TemporaryDirectory(dir=self.place) as place:
+                host = machines.lay(machines.tree_of("x2-hb"), os.path.join(place, "host"))
+                made_hosts.lay_hardware("x2-hb", host)
+                made_hosts.put_words(os.path.join(made_hosts.pci_devices(host)["0000:11:00.0"], "resource0"), at, [word])
+                self.assertEqual(CAPTURE.main(["--registers", "--from", host, os.path.join(place, "made")]), 0)
+                files = [os.path.join(place, "made", file) for file in ("table.cedt", "topo.toml", "image.bin")]
+                self.assertEqual(cxlplan("check", *files), wanted)
+
     def test_the_lists_of_the_guide(self):
         """One whose machine is sound, and one that was changed so that a device deals by another granularity."""
         text = machines.data_of("x2-hb", "cxl-list.json").decode()

@@ -98,6 +98,10 @@ class Registers(unittest.TestCase):
         self.assertIn("hb16 was taken as passthrough, without decoder registers: its component registers have no HDM "
                       "decoder capability.", report)
         self.assertNotIn("enable bits", report)
+        report = self.files(self.spoiled("config", LOCATOR, 0x16c1000b))["report.txt"].decode()
+        for sentence in ("The HDM decoder registers of 3 of them were", "Of the others stands what Linux shows.\n\nWhat the "
+                         "kernel does not show", "- The enable bits."):
+            self.assertIn(sentence, report)
 
     def test_another_bar_with_the_registers_behind_an_offset(self):
         host = self.spoiled("config", LOCATOR + 12, 0x2 << 16 | 0x102)
