@@ -225,9 +225,9 @@ class BadInput(unittest.TestCase):
             self.assert_refused(["--from", host, self.made], "No space left on device")
 
     def test_words(self):
-        for words in ("", "--from a", "--copy", "--copy a b", "a b", "-x", "--table a", "--list a b", "--list a --table b",
-                      "--registers", "--copy a --registers", "--list a --table b --registers c", "--from a --from b c",
-                      "--from a --list b --table c d", "--from '' made", "--copy ''", "''"):
+        for words in ("", "--from a", "--copy", "--copy a b", "a b", "-x", "--table a", "--list a b", "--registers",
+                      "--list a --table b", "--copy a --registers", "--list a --table b --registers c",
+                      "--from a --from b c", "--from a --list b --table c d", "--from '' made", "--copy ''", "''"):
             with self.subTest(words):
                 self.assertEqual(run(shlex.split(words))[0], 1)
                 self.assertEqual(os.listdir(self.place), [])

@@ -84,7 +84,8 @@ class Program(unittest.TestCase):
             with self.subTest(word), tempfile.TemporaryDirectory(dir=self.place) as place:
                 host = machines.lay(machines.tree_of("x2-hb"), os.path.join(place, "host"))
                 made_hosts.lay_hardware("x2-hb", host)
-                made_hosts.put_words(os.path.join(made_hosts.pci_devices(host)["0000:11:00.0"], "resource0"), at, [word])
+                device = made_hosts.pci_devices(host)["0000:11:00.0"]
+                made_hosts.put_words(os.path.join(device, "resource0"), at, [word])
                 self.assertEqual(CAPTURE.main(["--registers", "--from", host, os.path.join(place, "made")]), 0)
                 files = [os.path.join(place, "made", file) for file in ("table.cedt", "topo.toml", "image.bin")]
                 self.assertEqual(cxlplan("check", *files), wanted)

@@ -99,8 +99,8 @@ class Registers(unittest.TestCase):
                       "decoder capability.", report)
         self.assertNotIn("enable bits", report)
         report = self.files(self.spoiled("config", LOCATOR, 0x16c1000b))["report.txt"].decode()
-        for sentence in ("The HDM decoder registers of 3 of them were", "Of the others stands what Linux shows.\n\nWhat the "
-                         "kernel does not show", "- The enable bits."):
+        for sentence in ("The HDM decoder registers of 3 of them were", "- The enable bits.",
+                         "Of the others stands what Linux shows.\n\nWhat the kernel does not show"):
             self.assertIn(sentence, report)
 
     def test_another_bar_with_the_registers_behind_an_offset(self):
