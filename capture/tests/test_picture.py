@@ -143,7 +143,7 @@ class Pictures(unittest.TestCase):
             self.assertEqual(sum(bool(re.fullmatch("0x[0-9a-f]+", line)) for line in texts), chunks)
 
     def test_docs(self):
-        """The pictures of docs/pictures are those that are drawn; with PICTURES_ANEW in the environment they are drawn."""
+        """The pictures of docs/pictures are as they are drawn now; with PICTURES_ANEW set they are made anew."""
         copy = machines.save(machines.pack(machines.tree_of("x4-pass-switch")), os.path.join(self.place, "copy"))
         host, reply = os.path.join(self.place, "host"), os.path.join(self.place, "checked")
         machines.save(SWITCHED.encode(), reply)
@@ -174,7 +174,8 @@ class Pictures(unittest.TestCase):
         os.remove(svg)
         other = os.path.join(self.place, "other")
         for case, wanted in ((words, "out.html: there already"), (words[:2] + [words[0], other], "no region in it"),
-                             (words[:2] + [other, other], "No such file"), (words[:3] + [other + "/in"], "No such file")):
+                             (words[:2] + [other, other], "No such file"),
+                             (words[:3] + [other + "/in"], "No such file")):
             line = io.StringIO()
             with contextlib.redirect_stderr(line):
                 self.assertEqual(PICTURE.main(case), 1)
@@ -184,15 +185,14 @@ class Pictures(unittest.TestCase):
 
     @unittest.skipUnless(CHROMIUM, "no chromium")
     def test_measured(self):
-        """Texts lie in their boxes and do not cross, all lies in the picture, and the page is no wider than a window."""
+        """Texts lie in their boxes and do not cross, all lies in the picture, and no page is wider than its window."""
         for number, host in enumerate((ONE, NONE_OF_ITS_MEMORY, EIGHT, DEEP, WIDE)):
             short = [f"n{i}" for i in range(len(host[0]))]
             long = [f"{LONG[:15 - len(name)]}{name}" for name in short]
-            for names in (short, long):
+            for names, width in ((short, 1280), (long, 700)):
                 _, page = self.draw(host, names)
-                for width in (1280, 700):
-                    with self.subTest(host=number, longest=max(map(len, names)), width=width):
-                        self.assertEqual(self.measured(page, width)["faults"], [])
+                with self.subTest(host=number, width=width):
+                    self.assertEqual(self.measured(page, width)["faults"], [])
 
     def measured(self, page, width):
         with open(page, encoding="utf-8") as opened:

@@ -1,4 +1,4 @@
-"""cxl-regions: its commands for Linux, its register writes, and its images, over machines, examples and worked hosts."""
+"""cxl-regions: its commands for Linux, its register writes, and its images, over machines and worked hosts."""
 
 import contextlib
 import io
@@ -144,7 +144,7 @@ class Texts(Case):
                 self.assertIn(wanted, line)
         self.assertEqual(self.said()[0], 1)
         self.file("out", b"mine")
-        self.assertIn("File exists", self.said("--image", out, *FOUR, self.file("reply", PLAN))[2])
+        self.assertIn("there already", self.said("--image", out, *FOUR, self.file("reply", PLAN))[2])
         self.assertIn("no registers in it", self.said("--words", *FOUR, self.file("reply", (
             "region 0x110000000 size 0x20000000 window 0 gran 256 ways 2 pmem\nslot 0 d1 0x0\nslot 1 d2 0x0\n")))[2])
         self.assertEqual(sorted(os.listdir(self.place)),
@@ -192,6 +192,8 @@ class Circle(Case):
     def test_plans(self):
         """Plans over each machine and example and each worked host, of each kind and number of ways that it takes."""
         hosts = [self.captured(machine)[:2] for machine in machines.MACHINES] + [FOUR]
+        for number, (table, topology) in enumerate({(table, topology) for table, topology, _ in worked.written()}):
+            hosts.append([self.file(f"w{number}.cedt", table), self.file(f"w{number}.toml", topology)])
         for number, (nodes, windows, _) in enumerate(worked.rows()):
             hosts.append([self.file(f"{number}.cedt", worked.table_of(nodes, windows)),
                           self.file(f"{number}.toml", worked.topology_of(nodes))])
@@ -215,6 +217,20 @@ class Circle(Case):
             f"region {words[6]} size {words[8]} window {words[4]} gran {words[10]} ways {words[12]} {words[2]}"]))
         by_plan, by_check = (self.said(table, topology, self.file("reply", reply))[1] for reply in (plan, checked))
         self.assertEqual(by_plan.splitlines()[-1], by_check.splitlines()[-1])
+
+    def test_written_images(self):
+        """Images that are written out, most of them Linux's: the same regions are found in what is made."""
+        count = 0
+        for table, topology, image in worked.written():
+            files = [self.file("table", table), self.file("nodes", topology)]
+            status, checked = worked.cxlplan("check", *files, self.file("image", image))
+            if status == 0 and checked:
+                count += 1
+                names = [node.name for node in REGIONS.read_topology(files[1])]
+                made = self.file("made", self.image(*files, worked.shown(checked, image, names)))
+                with self.subTest(checked):
+                    self.assertEqual(worked.cxlplan("check", *files, made), (0, checked))
+        self.assertGreater(count, 7)
 
     def test_worked_images(self):
         """Worked hosts with regions, all of them shown: the image is theirs to the last bit."""

@@ -35,24 +35,53 @@ def cxlplan(*words):
     return ran.returncode, ran.stdout.decode()
 
 
-# ---- Hosts as lists of numbers, in which the rows of crates/cxl_rows write them (hosts.rt says what they mean).
+# ---- What the rows of crates/cxl_rows write in threes: texts, or the names of texts.
 
-TEXT = r'"(?:[^"\\]|\\\n)*"'
-ROW = re.compile(rf"\(\s*({TEXT}|[A-Z][A-Z_]*),\s*({TEXT}|[A-Z][A-Z_]*),\s*({TEXT}|[A-Z][A-Z_]*),")
+TEXT = r'"(?:[^"\\]|\\\n)*"|r#"[^#]*"#'
+PART = rf"({TEXT}|(?:[a-z_]+::)?[A-Z][A-Z0-9_]*)"
+THREE = re.compile(rf"\(\s*{PART},\s*{PART},\s*{PART},")
 
 
-def rows():
-    """Each row's nodes, windows and committed decoders, each once."""
-    found = []
+def threes():
+    """Each three texts that begin a row."""
+    texts, found = {}, []
     for file in sorted(os.listdir(ROWS)):
         with open(os.path.join(ROWS, file), encoding="utf-8") as opened:
-            text = opened.read()
-        known = dict(re.findall(rf"const ([A-Z_]+): &str =\s*({TEXT});", text))
-        for row in ROW.findall(text):
-            parts = [numbers(known.get(part, part)) for part in row]
-            if all(parts) and is_host(*parts) and parts not in found:
-                found.append(parts)
+            texts[file] = opened.read()
+    named = {file: dict(re.findall(rf"const ([A-Z0-9_]+): &str =\s*({TEXT});", text)) for file, text in texts.items()}
+    everywhere = {name: text for names in named.values() for name, text in names.items()}
+    for file, text in texts.items():
+        for row in THREE.findall(text):
+            names = [part.split("::")[-1] for part in row]
+            row = [named[file].get(name, everywhere.get(name, part)) for name, part in zip(names, row)]
+            if row not in found:
+                found.append(row)
     return found
+
+
+def written():
+    """The table and the topology of each host that is written out, and an image of it, or what else stands there."""
+    found = []
+    for table, topology, image in threes():
+        if digits(table)[:4] == b"CEDT" and topology.startswith('r#"'):
+            found.append((digits(table), topology[3:-2].encode(), digits(image)))
+    return found
+
+
+def digits(text):
+    """The bytes of hexadecimal digits, where 0x6c is so many zero bytes; none of another text."""
+    words = re.sub(r"\\\n", "", text).strip('"').split()
+    if not all(re.fullmatch("0x[0-9a-f]+|(?:[0-9a-f]{2})+", word) for word in words):
+        return b""
+    return b"".join(bytes(int(word, 0)) if word[:2] == "0x" else bytes.fromhex(word) for word in words)
+
+
+# ---- Hosts as lists of numbers (crates/cxl_rows/src/hosts.rt says what they mean).
+
+def rows():
+    """Each row's nodes, windows and committed decoders."""
+    found = [[numbers(part) for part in row] for row in threes()]
+    return [row for row in found if all(row) and is_host(*row)]
 
 
 def numbers(text):
