@@ -87,7 +87,8 @@ class Case(unittest.TestCase):
 class Texts(Case):
     def test_plan_and_show(self):
         """A plan, the same region shown, and a script's whole reply come to the same command, writes and image."""
-        script = "bytes 00\n" + SHOW.replace("0x0\n", "0x10000000\n") + "destroyed r0\n" + CREATED + SHOW + "stored 4\n"
+        higher = SHOW.replace("10000000 00000001", "20000000 00000001").replace("0x110000000", "0x120000000")
+        script = "refused size\n" + higher + "destroyed r0\n" + CREATED + SHOW + "stored 4\n"
         images = set()
         for reply in (PLAN, SHOW, script):
             file = self.file("reply", reply)
@@ -115,7 +116,7 @@ class Texts(Case):
         bad = [
             (FOUR[0], FOUR[1], CREATED, "r0 was created, but no `show` of it follows"),
             (FOUR[0], FOUR[1], "", "no region in it"),
-            (FOUR[0], FOUR[1], "refused uneven hb16\n", "it says 'refused uneven hb16'"),
+            (FOUR[0], FOUR[1], "refused uneven hb16\n", "no region in it; it says 'refused uneven hb16'"),
             (FOUR[0], FOUR[1], "breach K12 d4 0\n", "it says 'breach K12 d4 0'"),
             (FOUR[0], FOUR[1], PLAN.replace("row d4", "row d9"), "line 7: 'd9' does not fit the host"),
             (FOUR[0], FOUR[1], PLAN.replace("d4 0", "d4 4"), "line 7: decoder 4 of d4 does not fit the host"),
@@ -131,6 +132,8 @@ class Texts(Case):
             (FOUR[0], self.file("cut", topology + "[[endpoint"), PLAN, "stands where"),
             (FOUR[0], self.file("odd", topology + "\n?"), PLAN, "is not understood"),
             (FOUR[0], self.file("kind", "bridge = 7"), PLAN, "no topology"),
+            (FOUR[0], self.file("range", topology + "high = 3"), PLAN, "endpoint d4: high = 3"),
+            (FOUR[0], FOUR[1], PLAN.replace("skip 0x0", "skip 0x40000000"), "the share of d1 ends past its memory"),
             (FOUR[0], self.file("key", "[[bridge]]\nuid = 1"), PLAN, "no topology: KeyError 'name'"),
             (FOUR[1], FOUR[1], PLAN, "no whole CEDT"),
             (FOUR[0] + "x", FOUR[1], PLAN, "No such file or directory"),
@@ -148,7 +151,7 @@ class Texts(Case):
         self.assertIn("no registers in it", self.said("--words", *FOUR, self.file("reply", (
             "region 0x110000000 size 0x20000000 window 0 gran 256 ways 2 pmem\nslot 0 d1 0x0\nslot 1 d2 0x0\n")))[2])
         self.assertEqual(sorted(os.listdir(self.place)),
-                         ["cut", "key", "kind", "odd", "out", "reply", "topology"])
+                         ["cut", "key", "kind", "odd", "out", "range", "reply", "topology"])
 
 
 @unittest.skipUnless(worked.IS_BUILT, worked.HOW)
