@@ -109,6 +109,13 @@ class Texts(Case):
         window = REGIONS.Window(0, 0, False, 256, list(range(6)))
         self.assertEqual([window.position_of(slot, 12) for slot in range(12)], [0, 1, 8, 9, 4, 5, 6, 7, 2, 3, 10, 11])
 
+    def test_root_decoders(self):
+        """Linux numbers the windows that it takes: not one of half a size, nor one over a bridge that is not there."""
+        nodes = REGIONS.read_topology(FOUR[1])
+        windows = [REGIONS.Window(number << 32, size, False, 256, targets) for number, (size, targets) in enumerate((
+            (1 << 28, [16]), (1 << 27, [16]), (1 << 28, [16, 48]), (1 << 28, [32, 16])))]
+        self.assertEqual([REGIONS.decoder_of(number, windows, nodes) for number in (0, 3)], [0, 1])
+
     def test_bad_input(self):
         """One line, status 1 and nothing written."""
         with open(FOUR[1], encoding="ascii") as opened:
