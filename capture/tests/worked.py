@@ -1,6 +1,6 @@
 """The worked hosts of crates/cxl_rows as files that cxlplan reads, and what it says of them.
 
-The program is the one that the variable CXLPLAN names, or else crates/cxlplan/out/cxlplan, which ./cxlplan at the top
+The program is the one that the variable CXLPLAN names, or else crates/cxlplan/out/cxlplan, which ./prove at the top
 builds."""
 
 import importlib.machinery
@@ -17,7 +17,7 @@ ROWS = os.path.join(machines.TOP, "crates", "cxl_rows", "src")
 BUILT = os.path.join(machines.TOP, "crates", "cxlplan", "out", "cxlplan")
 CXLPLAN = os.environ.get("CXLPLAN", BUILT)
 IS_BUILT = os.access(CXLPLAN, os.X_OK)
-HOW = "./cxlplan --version builds the program"
+HOW = "./prove builds the program"
 
 
 def load(tool):
