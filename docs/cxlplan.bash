@@ -21,14 +21,29 @@ _cxlplan() {
     esac
 }
 
-_cxl_capture() {
+# The options that a tool has, and files.
+_cxl_files() {
     local word="${COMP_WORDS[COMP_CWORD]}"
     compopt -o filenames
     case "$word" in
-    -*) mapfile -t COMPREPLY < <(compgen -W '--copy --from --help' -- "$word") ;;
+    -*) mapfile -t COMPREPLY < <(compgen -W "$1" -- "$word") ;;
     *) mapfile -t COMPREPLY < <(compgen -f -- "$word") ;;
     esac
 }
 
+_cxl_capture() {
+    _cxl_files '--registers --copy --from --list --table --help'
+}
+
+_cxl_regions() {
+    _cxl_files '--words --image --help'
+}
+
+_cxl_picture() {
+    _cxl_files '--help'
+}
+
 complete -F _cxlplan cxlplan
 complete -F _cxl_capture cxl-capture
+complete -F _cxl_regions cxl-regions
+complete -F _cxl_picture cxl-picture

@@ -15,17 +15,17 @@ sys.dont_write_bytecode = True  # leaves no compiled file beside the program
 
 HERE = os.path.dirname(os.path.abspath(__file__))
 TOP = os.path.dirname(os.path.dirname(HERE))
-PROGRAM = os.path.join(os.path.dirname(HERE), "cxl-capture")
+TOOLS = os.path.dirname(HERE)
 MACHINES = ["x2-hb", "x4-pass-switch", "ram-and-pmem", "single-rp", "x6", "odd-ids"]
 DEVICES = "sys/bus/cxl/devices"
 TABLE = "sys/firmware/acpi/tables/CEDT"
 
 
-def load_capture():
-    """The program as a module; its file has no suffix."""
-    loader = importlib.machinery.SourceFileLoader("cxl_capture", PROGRAM)
-    spec = importlib.util.spec_from_loader("cxl_capture", loader)
-    module = importlib.util.module_from_spec(spec)
+def load(tool):
+    """A tool as a module; its file has no suffix."""
+    loader = importlib.machinery.SourceFileLoader(tool.replace("-", "_"), os.path.join(TOOLS, tool))
+    module = importlib.util.module_from_spec(importlib.util.spec_from_loader(loader.name, loader))
+    sys.modules[loader.name] = module
     loader.exec_module(module)
     return module
 

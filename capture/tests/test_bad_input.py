@@ -14,7 +14,7 @@ from unittest import mock
 
 import machines
 
-CAPTURE = machines.load_capture()
+CAPTURE = machines.load("cxl-capture")
 ROOT = "sys/devices/platform/ACPI0017:00/root0"
 HB16, HB32 = f"{ROOT}/port2", f"{ROOT}/port1"
 ENDPOINT, DECODER = f"{HB16}/endpoint3", f"{HB16}/endpoint3/decoder3.0"

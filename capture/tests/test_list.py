@@ -10,7 +10,7 @@ import unittest
 import machines
 from test_bad_input import run
 
-CAPTURE = machines.load_capture()
+CAPTURE = machines.load("cxl-capture")
 TOLD = ["table.cedt", "topo.toml"]
 GRANULARITY = 15  # of a control word
 

@@ -10,7 +10,7 @@ from unittest import mock
 
 import machines
 
-CAPTURE = machines.load_capture()
+CAPTURE = machines.load("cxl-capture")
 
 
 class Machines(unittest.TestCase):
@@ -161,7 +161,7 @@ class Machines(unittest.TestCase):
         self.assertIn("\n$ tail -3 host/report.txt\n" + "\n".join(report[-3:]) + "\n```", text)
 
     def test_python_3_9_alone(self):
-        with open(machines.PROGRAM, encoding="ascii") as program:
+        with open(os.path.join(machines.TOOLS, "cxl-capture"), encoding="ascii") as program:
             tree = ast.parse(program.read(), feature_version=(3, 9))
         imported = [name.name for node in ast.walk(tree) if isinstance(node, ast.Import) for name in node.names]
         imported += [node.module for node in ast.walk(tree) if isinstance(node, ast.ImportFrom)]

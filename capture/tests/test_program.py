@@ -1,32 +1,19 @@
 """The files made of the six machines, by each way to make them, given to cxlplan: its answers are what `cxl list` shows
-of the regions.
-
-The program is the one that the variable CXLPLAN names, or else crates/cxlplan/out/cxlplan, which ./cxlplan at the top
-builds. Where the second is not there, these tests are skipped."""
+of the regions."""
 
 import itertools
 import os
-import subprocess
 import tempfile
 import unittest
 
 import machines
 import made_hosts
+from program import asks_the_program, cxlplan
 
-# Set this to True in the commit that gives the program its command `check`: a program without it then fails the test.
-CHECK_STANDS = True
-
-CAPTURE = machines.load_capture()
-BUILT = os.path.join(machines.TOP, "crates", "cxlplan", "out", "cxlplan")
-CXLPLAN = os.environ.get("CXLPLAN", BUILT)
+CAPTURE = machines.load("cxl-capture")
 
 
-def cxlplan(*words):
-    ran = subprocess.run([CXLPLAN, *words], stdout=subprocess.PIPE, stderr=subprocess.STDOUT, check=False)
-    return ran.returncode, ran.stdout.decode()
-
-
-@unittest.skipUnless(os.access(BUILT, os.X_OK) or "CXLPLAN" in os.environ, "./cxlplan --version builds the program")
+@asks_the_program
 class Program(unittest.TestCase):
     def setUp(self):
         place = tempfile.TemporaryDirectory()
@@ -66,8 +53,6 @@ class Program(unittest.TestCase):
             folder = self.captured(machine, source)
             files = [os.path.join(folder, file) for file in ("table.cedt", "topo.toml", "image.bin")]
             answer = cxlplan("check", *files)
-            if not CHECK_STANDS and answer[0] == 1:
-                self.skipTest("the program has no command `check` yet")
             text = ""
             for region in machines.listed_regions(machine):
                 text += (f"region {region['base']:#x} size {region['size']:#x} window {region['window']} "

@@ -10,8 +10,9 @@ import unittest
 
 import machines
 import worked
+from program import asks_the_program, cxlplan
 
-CAPTURE, REGIONS = machines.load_capture(), worked.load("cxl-regions")
+CAPTURE, REGIONS = machines.load("cxl-capture"), machines.load("cxl-regions")
 FOUR = [os.path.join(machines.TOP, "examples", "four-endpoints." + end) for end in ("cedt", "toml")]
 
 # What `plan` says of 'create r0 pmem 0x40000000 d1 d2 d3 d4' over examples/four-endpoints, and parts of replies.
@@ -161,7 +162,7 @@ class Texts(Case):
                          ["cut", "key", "kind", "odd", "out", "range", "reply", "topology"])
 
 
-@unittest.skipUnless(worked.IS_BUILT, worked.HOW)
+@asks_the_program
 class Circle(Case):
     """What is made is given to the program, which finds the same regions in it."""
 
@@ -170,14 +171,14 @@ class Circle(Case):
         what the registers held."""
         for machine in machines.MACHINES:
             table, topology, image = self.captured(machine)
-            _, checked = worked.cxlplan("check", table, topology, image)
+            _, checked = cxlplan("check", table, topology, image)
             with open(image, "rb") as opened:
                 image = opened.read()
             names = [node.name for node in REGIONS.read_topology(topology)]
             shown = worked.shown(checked, image, names)
             made = self.image(table, topology, shown)
             with self.subTest(machine):
-                self.assertEqual(worked.cxlplan("check", table, topology, self.file("made", made)), (0, checked))
+                self.assertEqual(cxlplan("check", table, topology, self.file("made", made)), (0, checked))
                 was, now = worked.blocks_of(image, len(names)), worked.blocks_of(made, len(names))
                 self.assertEqual([[words if words[4] & 0x400 else None for words in block] for block in was],
                                  [[words if words[4] & 0x400 else None for words in block] for block in now])
@@ -212,7 +213,7 @@ class Circle(Case):
             for ways in (1, 2, 3, 4, 6, 8, 12, 16):
                 for kind in ("ram", "pmem"):
                     line = f"create r0 {kind} {ways << 28:#x} ways={ways}"
-                    status, plan = worked.cxlplan("plan", table, topology, line)
+                    status, plan = cxlplan("plan", table, topology, line)
                     if status == 0:
                         taken.add(ways)
                         with self.subTest(topology=os.path.basename(topology), line=line):
@@ -221,7 +222,7 @@ class Circle(Case):
 
     def circle(self, table, topology, plan):
         made = self.image(table, topology, plan)
-        status, checked = worked.cxlplan("check", table, topology, self.file("made", made))
+        status, checked = cxlplan("check", table, topology, self.file("made", made))
         words = plan.splitlines()[0].split(" ")
         self.assertEqual((status, checked.splitlines()[:1]), (0, [
             f"region {words[6]} size {words[8]} window {words[4]} gran {words[10]} ways {words[12]} {words[2]}"]))
@@ -233,13 +234,13 @@ class Circle(Case):
         count = 0
         for table, topology, image in worked.written():
             files = [self.file("table", table), self.file("nodes", topology)]
-            status, checked = worked.cxlplan("check", *files, self.file("image", image))
+            status, checked = cxlplan("check", *files, self.file("image", image))
             if status == 0 and checked:
                 count += 1
                 names = [node.name for node in REGIONS.read_topology(files[1])]
                 made = self.file("made", self.image(*files, worked.shown(checked, image, names)))
                 with self.subTest(checked):
-                    self.assertEqual(worked.cxlplan("check", *files, made), (0, checked))
+                    self.assertEqual(cxlplan("check", *files, made), (0, checked))
         self.assertGreater(count, 7)
 
     def test_worked_images(self):
@@ -248,7 +249,7 @@ class Circle(Case):
         for nodes, windows, ranges in worked.rows():
             image, names = worked.image_of(nodes, ranges), [f"n{number}" for number in range(len(nodes))]
             files = [self.file("table", worked.table_of(nodes, windows)), self.file("nodes", worked.topology_of(nodes))]
-            status, checked = worked.cxlplan("check", *files, self.file("image", image))
+            status, checked = cxlplan("check", *files, self.file("image", image))
             if status == 0 and checked:
                 count += 1
                 with self.subTest(nodes=nodes, ranges=ranges):

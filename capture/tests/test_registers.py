@@ -13,7 +13,7 @@ import made_hosts
 from test_bad_input import run
 from test_machines import everything_in
 
-CAPTURE = machines.load_capture()
+CAPTURE = machines.load("cxl-capture")
 MEANINGLESS = 0xf0  # in the capability word of an endpoint
 HB16, BLOCK = 0x100010000, 0x1128  # where the registers of bridge 16 stand, and where a node's decoder block in them
 LOCATOR = 0x148  # in the configuration space of mem0

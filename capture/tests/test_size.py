@@ -9,7 +9,7 @@ import unittest
 import machines
 import made_hosts
 
-CAPTURE = machines.load_capture()
+CAPTURE = machines.load("cxl-capture")
 SMALL, LARGE = (2, 2, 3), (8, 2, 3)  # bridges, switches below each, endpoints below each of these
 TIMES = 4
 

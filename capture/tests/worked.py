@@ -1,39 +1,12 @@
-"""The worked hosts of crates/cxl_rows as files that cxlplan reads, and what it says of them.
+"""The worked hosts of crates/cxl_rows as files that cxlplan reads, and what it says of them."""
 
-The program is the one that the variable CXLPLAN names, or else crates/cxlplan/out/cxlplan, which ./prove at the top
-builds."""
-
-import importlib.machinery
-import importlib.util
 import os
 import re
 import struct
-import subprocess
-import sys
 
 import machines
 
 ROWS = os.path.join(machines.TOP, "crates", "cxl_rows", "src")
-BUILT = os.path.join(machines.TOP, "crates", "cxlplan", "out", "cxlplan")
-CXLPLAN = os.environ.get("CXLPLAN", BUILT)
-IS_BUILT = os.access(CXLPLAN, os.X_OK)
-HOW = "./prove builds the program"
-
-
-def load(tool):
-    """A program beside cxl-capture as a module; its file has no suffix."""
-    file = os.path.join(os.path.dirname(machines.PROGRAM), tool)
-    loader = importlib.machinery.SourceFileLoader(tool.replace("-", "_"), file)
-    module = importlib.util.module_from_spec(importlib.util.spec_from_loader(loader.name, loader))
-    sys.modules[loader.name] = module
-    loader.exec_module(module)
-    return module
-
-
-def cxlplan(*words):
-    ran = subprocess.run([CXLPLAN, *words], stdout=subprocess.PIPE, stderr=subprocess.STDOUT, check=False)
-    return ran.returncode, ran.stdout.decode()
-
 
 # ---- What the rows of crates/cxl_rows write in threes: texts, or the names of texts.
 
