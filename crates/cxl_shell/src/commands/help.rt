@@ -12,25 +12,30 @@ pub const HELP: &str = "\
 cxlplan plans and checks CXL memory regions.
 
 cxlplan route CEDT HPA    the window, the position and the bridge of a host address
+    cxlplan route host.cedt 0x110000800
 cxlplan list CEDT         a line for each record of the table, windows with their verdicts
+    cxlplan list host.cedt
 cxlplan normal CEDT       the table's bytes with its reserved fields zero
+    cxlplan normal host.cedt > normal.cedt
 cxlplan check CEDT TOPO IMAGE
                           the regions of a register image, or the first rule that it breaks
+    cxlplan check host.cedt topo.toml image.bin
 cxlplan plan CEDT TOPO LINE
                           the registers that make a new region after reset, or why none can
+    cxlplan plan host.cedt topo.toml 'create r0 pmem 0x40000000 ways=4'
 cxlplan --help            this text
 cxlplan --version         the version
 
 CEDT is a file with the bytes of a CEDT table, TOPO a topology in TOML, and IMAGE the registers of
-its decoders, each of 1,048,576 bytes at the most. HPA is a host physical address, in decimal
-digits, or in hexadecimal digits after 0x. LINE is one word: 'create NAME KIND SIZE [gran=G] EP..' over
-named endpoints, or 'create NAME KIND SIZE [gran=G] ways=N' over N that are picked, with KIND ram or
-pmem, and SIZE and G in bytes.
+its decoders, each of 1,048,576 bytes at the most; a file may be /dev/stdin. HPA is a host physical
+address, in decimal digits, or in hexadecimal digits after 0x. LINE is one word: 'create NAME KIND
+SIZE [gran=G] EP..' over named endpoints, or 'create NAME KIND SIZE [gran=G] ways=N' over N that are
+picked, with KIND ram or pmem. SIZE and G are bytes: 0x40000000 is 1 GiB.
 
-Exit status: 0 done, 1 the words are no command, 2 a file cannot be read, 3 the CEDT has a fault,
-4 the topology has a fault, 6 writing failed, 8 no window that can be used holds the address, the
-image breaks a rule or there is no plan, 9 out of memory, 10 the image file has a fault, 12 a file is
-too large.
+Answers and faults are written to standard output, so look at the exit status first: 0 done, 1 the
+words are no command, 2 a file cannot be read, 3 the CEDT has a fault, 4 the topology has a fault,
+6 writing failed, 8 no window that can be used holds the address, the image breaks a rule or there is
+no plan, 9 out of memory, 10 the image file has a fault, 12 a file is too large.
 ";
 
 /// What `--version` writes.
