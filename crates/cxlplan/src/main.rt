@@ -2,10 +2,13 @@
 //! devices in memory.
 #![tactic(auto)]
 
+mod hints;
+
 use cxl_bus::SimBus;
 use cxl_io::{StdFetch, StdSink, StdSource};
 use cxl_media::SimMedia;
 use cxl_shell::{Status, run};
+use hints::hint;
 use std::io::ErrorKind;
 use std::process::ExitCode;
 use std::rt::Env;
@@ -35,6 +38,8 @@ fn main(rt: HostRuntime) -> ExitCode {
         &mut regs,
         &mut media,
     );
+    // A hint that cannot be written changes nothing.
+    let _ = hint(&rt, alloc, words.as_slice(), status);
     ExitCode::from(status.code())
 }
 

@@ -1,0 +1,32 @@
+//! What helps beside a fault: one line on standard error. No contract speaks of it, and standard output has none of it.
+
+mod files;
+mod words;
+
+use cxl_shell::Status;
+use std::alloc::Global;
+use std::io::{self, Eprint};
+use std::rt::Files;
+
+/// Says in one line what is wrong and what to do, by the status with which the command ended. A command that was
+/// carried out, and one without an answer, has no such line.
+pub fn hint<R: Eprint + Files>(
+    rt: &R,
+    alloc: Global,
+    words: &[String],
+    status: Status,
+) -> io::Result<()> {
+    match status {
+        Status::Usage => words::misused(rt, alloc, words),
+        Status::FetchFault => files::unread(rt, words),
+        Status::BadTable(fault) => files::bad_table(rt, alloc, words, fault),
+        Status::BadTopo(fault) => files::bad_topology(rt, alloc, words, fault),
+        Status::BadImage(fault) => files::bad_image(rt, words, fault),
+        Status::TooLarge => eprintln!(rt;
+            "cxlplan: a table, a topology or an image has 1048576 bytes at the most"
+        ),
+        Status::WriteFault => eprintln!(rt; "cxlplan: writing failed, so the text may be cut"),
+        Status::Memory => eprintln!(rt; "cxlplan: memory ran out"),
+        _ => Ok(()),
+    }
+}

@@ -1,0 +1,156 @@
+//! What is wrong with a file.
+
+use cxl_cedt::CedtFault;
+use cxl_image::ImageFault;
+use cxl_io::{Fetch, StdFetch};
+use cxl_topofile::TopoFault;
+use std::alloc::Global;
+use std::fs::{self, File};
+use std::io::{self, Eprint, ErrorKind};
+use std::rt::Files;
+
+/// The first file of the command that cannot be read, and why.
+pub(crate) fn unread<R: Eprint + Files>(rt: &R, words: &[String]) -> io::Result<()> {
+    for name in words.iter().skip(1).take(count_of_files(words)) {
+        if let Some(why) = why_unread(rt, name.as_str()) {
+            return eprintln!(rt; "cxlplan: {name} {why}");
+        }
+    }
+    eprintln!(rt; "cxlplan: a file cannot be read")
+}
+
+/// How many files a command names, behind its own name.
+fn count_of_files(words: &[String]) -> usize {
+    match word(words, 0) {
+        "check" => 3,
+        "plan" => 2,
+        _ => 1,
+    }
+}
+
+/// Why a file cannot be read, where that can be told without reading it.
+fn why_unread<R: Files>(rt: &R, name: &str) -> Option<&'static str> {
+    match fs::metadata(rt, name) {
+        Err(e) if e.kind() == ErrorKind::NotFound => Some("is not there"),
+        Err(_) => Some("cannot be reached"),
+        Ok(found) if found.is_dir() => Some("is a folder"),
+        Ok(found) if found.is_file() && File::open(rt, name).is_err() => {
+            Some("may not be read by you; the files below /sys/firmware/acpi are root's")
+        }
+        Ok(_) => None,
+    }
+}
+
+/// The fault of a table with the file's name. Text of acpidump and an image are known by their first bytes.
+pub(crate) fn bad_table<R: Eprint + Files>(
+    rt: &R,
+    alloc: Global,
+    words: &[String],
+    fault: CedtFault,
+) -> io::Result<()> {
+    let name = word(words, 1);
+    if let Some(bytes) = reread(rt, alloc, name) {
+        if has_acpidump_text(bytes.as_slice()) {
+            return eprintln!(rt;
+                "cxlplan: {name} is acpidump's text; acpixtract -s CEDT {name} makes a binary table of it"
+            );
+        }
+        if bytes.starts_with(b"CXLHDM01") {
+            return eprintln!(rt; "cxlplan: {name} is an image; the order is CEDT TOPO IMAGE");
+        }
+    }
+    match fault {
+        CedtFault::Signature => eprintln!(rt;
+            "cxlplan: {name}: {fault}; the table comes first, as its bytes and not as text"
+        ),
+        _ => eprintln!(rt; "cxlplan: {name}: {fault}"),
+    }
+}
+
+/// The fault of a topology with the file's name, and the parser's line where it is no TOML.
+pub(crate) fn bad_topology<R: Eprint + Files>(
+    rt: &R,
+    alloc: Global,
+    words: &[String],
+    fault: TopoFault,
+) -> io::Result<()> {
+    let name = word(words, 2);
+    match fault {
+        TopoFault::Toml => bad_toml(rt, alloc, name),
+        TopoFault::Key(_) => eprintln!(rt;
+            "cxlplan: {name}: {fault} (tables of a kind count from 0)"
+        ),
+        TopoFault::Kind(_) => eprintln!(rt;
+            "cxlplan: {name}: {fault} (tables of a kind count from 0)"
+        ),
+        TopoFault::Range(_) => eprintln!(rt;
+            "cxlplan: {name}: {fault} (tables of a kind count from 0)"
+        ),
+        TopoFault::Tree(_) => eprintln!(rt;
+            "cxlplan: {name}: {fault} (nodes count from 0: bridges, then switches, then endpoints)"
+        ),
+        TopoFault::Memory => eprintln!(rt; "cxlplan: memory ran out"),
+    }
+}
+
+/// Where a file stops to be TOML.
+fn bad_toml<R: Eprint + Files>(rt: &R, alloc: Global, name: &str) -> io::Result<()> {
+    let Some(bytes) = reread(rt, alloc, name) else {
+        return eprintln!(rt; "cxlplan: {name} is no TOML document");
+    };
+    if bytes.starts_with(b"CEDT") || bytes.starts_with(b"CXLHDM01") {
+        return eprintln!(rt; "cxlplan: {name} is no topology; the order is CEDT TOPO IMAGE");
+    }
+    let Err(error) = toml::table_from_slice(alloc, bytes.as_slice()) else {
+        return eprintln!(rt; "cxlplan: {name} is no TOML document");
+    };
+    let message = error.message();
+    match error.span() {
+        Some(span) => {
+            let line = line_of(bytes.as_slice(), span.start);
+            eprintln!(rt; "cxlplan: {name}, line {line}: {message}")
+        }
+        None => eprintln!(rt; "cxlplan: {name}: {message}"),
+    }
+}
+
+/// The fault of an image with the file's name.
+pub(crate) fn bad_image<R: Eprint>(rt: &R, words: &[String], fault: ImageFault) -> io::Result<()> {
+    let name = word(words, 3);
+    eprintln!(rt; "cxlplan: {name}: {fault}; it has to be captured with its topology")
+}
+
+/// The bytes of an ordinary file. What comes by a pipe is gone.
+fn reread<R: Files>(rt: &R, alloc: Global, name: &str) -> Option<Vec<u8>> {
+    match fs::metadata(rt, name) {
+        Ok(found) if found.is_file() => StdFetch::new(rt).fetch(alloc, name).ok(),
+        _ => None,
+    }
+}
+
+/// A word of the command line, and nothing where there is none.
+fn word(words: &[String], place: usize) -> &str {
+    match words.get(place) {
+        Some(word) => word.as_str(),
+        None => "",
+    }
+}
+
+/// Whether bytes are what acpidump prints: a table's name of four letters and the place where it was.
+fn has_acpidump_text(bytes: &[u8]) -> bool {
+    match bytes.get(4..9) {
+        Some(at) => at == b" @ 0x".as_slice(),
+        None => false,
+    }
+}
+
+/// The line of a place in a text, from 1.
+fn line_of(bytes: &[u8], place: usize) -> usize {
+    let mut line: usize = 1;
+    for byte in bytes.iter().take(place) {
+        if *byte == b'\n' {
+            line = line.saturating_add(1);
+        }
+    }
+    line
+}

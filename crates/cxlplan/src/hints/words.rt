@@ -1,0 +1,107 @@
+//! Why words are no command.
+
+use cxl_io::{NumFault, read_number};
+use cxl_script::{BadLine, LineFault, Why, read_command};
+use std::alloc::Global;
+use std::io::{self, Eprint};
+
+/// Names the word that cannot be read.
+pub(crate) fn misused<R: Eprint>(rt: &R, alloc: Global, words: &[String]) -> io::Result<()> {
+    let Some((verb, operands)) = words.split_first() else {
+        return eprintln!(rt;
+            "cxlplan: no command is named, or a word is no UTF-8; see cxlplan --help"
+        );
+    };
+    match verb.as_str() {
+        "route" => match operands {
+            [_, address] => bad_number(rt, address.as_str()),
+            _ => other_words(rt, "route", "CEDT HPA"),
+        },
+        "list" => other_words(rt, "list", "CEDT"),
+        "normal" => other_words(rt, "normal", "CEDT"),
+        "check" => other_words(rt, "check", "CEDT TOPO IMAGE"),
+        "plan" => match operands {
+            [_, _, line] => no_create(rt, alloc, line.as_str()),
+            _ => other_words(
+                rt,
+                "plan",
+                "CEDT TOPO LINE, with LINE as one word in quotes",
+            ),
+        },
+        "--help" => eprintln!(rt; "cxlplan: --help takes no other word"),
+        "--version" => eprintln!(rt; "cxlplan: --version takes no other word"),
+        _ => eprintln!(rt; "cxlplan: {verb} is no command; see cxlplan --help"),
+    }
+}
+
+/// The words that a command takes, where others stand behind it.
+fn other_words<R: Eprint>(rt: &R, verb: &str, takes: &str) -> io::Result<()> {
+    eprintln!(rt; "cxlplan: {verb} takes {takes}; see cxlplan --help")
+}
+
+/// Why a word is no number.
+fn bad_number<R: Eprint>(rt: &R, word: &str) -> io::Result<()> {
+    match read_number(word.as_bytes()) {
+        Err(NumFault::BadDigit(at)) => eprintln!(rt;
+            "cxlplan: {word} has no digit at byte {at}; write decimal digits, or hexadecimal ones after 0x"
+        ),
+        Err(NumFault::TooLarge) => eprintln!(rt; "cxlplan: {word} is no address of 64 bits"),
+        _ => eprintln!(rt;
+            "cxlplan: {word} is no number; write decimal digits, or hexadecimal ones after 0x"
+        ),
+    }
+}
+
+/// Why a line asks for no region.
+fn no_create<R: Eprint>(rt: &R, alloc: Global, line: &str) -> io::Result<()> {
+    match read_command(alloc, line.as_bytes()) {
+        Err(LineFault::Bad(bad)) => bad_line(rt, line, bad),
+        Err(LineFault::Memory) => eprintln!(rt; "cxlplan: memory ran out"),
+        Ok(Some(_)) => eprintln!(rt;
+            "cxlplan: plan wants a line that begins with create, and no other command"
+        ),
+        Ok(None) => eprintln!(rt;
+            "cxlplan: the line is empty or a comment; write create NAME KIND SIZE EP.."
+        ),
+    }
+}
+
+/// The place and the cause of a line's first fault, with the word that begins there.
+fn bad_line<R: Eprint>(rt: &R, line: &str, bad: BadLine) -> io::Result<()> {
+    let at = bad.at;
+    let word = word_at(line, at as usize);
+    let why = why_text(bad.why);
+    if word.is_empty() || bad.why == Why::Long {
+        eprintln!(rt; "cxlplan: in LINE at byte {at}: {why}; see cxlplan --help")
+    } else {
+        eprintln!(rt; "cxlplan: in LINE at byte {at}, {word:?}: {why}; see cxlplan --help")
+    }
+}
+
+/// The word that begins at a place of a line, and nothing where none does.
+fn word_at(line: &str, at: usize) -> &str {
+    let Some(rest) = line.get(at..) else {
+        return "";
+    };
+    match rest.split([' ', '\t']).next() {
+        Some(word) => word,
+        None => "",
+    }
+}
+
+/// What to write in the place of a word.
+fn why_text(why: Why) -> &'static str {
+    match why {
+        Why::Verb => "no command of a script; plan wants create NAME KIND SIZE EP..",
+        Why::Missing =>
+            "a word is missing: create NAME KIND SIZE EP.. or create NAME KIND SIZE ways=N",
+        Why::Extra => "a word too many",
+        Why::Name => "a name has 1 to 15 letters, digits and _",
+        Why::Kind => "the kind is ram or pmem",
+        Why::Number => "no number; sizes are bytes, as 1073741824 or 0x40000000 for 1 GiB",
+        Why::Range =>
+            "a number out of its range; a granularity is 256 to 16384, a power of two, and ways are 1 to 16",
+        Why::Hex => "bytes are hexadecimal digits, two each",
+        Why::Long => "a line has 4096 bytes at the most",
+    }
+}
