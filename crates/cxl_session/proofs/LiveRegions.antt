@@ -1,0 +1,71 @@
+-- The live regions of a machine for which a session stands are regions of the session's image, with their kept routes.
+use Rattle.std.proofs.Common.{◌≡◌, ◌↔◌, List, map, get_or, sym, ap, ◌∙◌, subst}
+use Rattle.std.specs.Prelude.{All, Contains}
+use Rattle.std.specs.List.{AllZip}
+use Rattle.std.proofs.lemmas.List.Elements.{All-map}
+use Rattle.cxl_regs.specs.Registers.{Registers}
+use Rattle.cxl_topo.specs.declared.node.Node.{Node}
+use Rattle.cxl_window.specs.Fields.{WindowFields}
+use Rattle.cxl_model.specs.declared.found.Found.{Found}
+use Rattle.cxl_model.specs.Accepted.{KeepsBlocks}
+use Rattle.cxl_model.specs.Changes.{HaveSameDecoders}
+use Rattle.cxl_model.specs.Regions.{region_range, IsRegion, IsRegionIn}
+use Rattle.cxl_model.specs.System.{System, IsSystem}
+use Rattle.cxl_walk.specs.Keeping.{KeptFields, IsKept}
+use Rattle.cxl_machine.specs.Machine.{Live, Machine, region_window, image_of, present}
+use Rattle.cxl_machine.specs.Sound.{IsMachine}
+use Rattle.cxl_session.specs.State.{SessionState, image_in}
+use Rattle.cxl_session.specs.Standing.{IsKeptIn, StandsFor}
+use Rattle.cxl_session.proofs.Zipped.{there, zip_map}
+
+-- ---- what is known of live regions while a job is pending, and of kept routes
+
+abbrev pub StaysSystem : Type 0
+StaysSystem = (m : Machine) → IsMachine m → IsSystem (present m) × KeepsBlocks (present m)
+
+abbrev pub StaysRegion : Type 0
+StaysRegion =
+    (m : Machine) (region : Live) → IsMachine m → Contains m.live region
+    → IsRegionIn m.settled (region_window m.settled region.found) region.found × IsRegionIn (present m) (region_window m.settled region.found) region.found
+    × HaveSameDecoders m.settled (present m) (region_range region.found)
+
+abbrev pub KeepsRoutes : Type 0
+KeepsRoutes =
+    (s t : System) (w : WindowFields) (found : Found) (kept : KeptFields) → IsSystem s → IsSystem t → HaveSameDecoders s t (region_range found) → KeepsBlocks t
+    → IsRegionIn s w found → (IsKept s w found kept) ↔ (IsKept t w found kept)
+
+-- ---- a session and its machine
+
+abbrev system_with : List Node → List Registers → List WindowFields → System
+system_with nodes blocks windows = record { nodes = nodes; blocks = blocks; windows = windows }
+
+module _ (session : SessionState) (m : Machine) (stands : StandsFor session m) where
+  -- the image that the registers of the machine hold is the session's
+  present_is : present m ≡ image_in session
+  present_is =
+      ap (λ nodes. system_with nodes (image_of m) m.settled.windows) stands.nodes
+      ∙ ap (λ blocks. system_with session.topo.nodes blocks m.settled.windows) (sym stands.image)
+      ∙ ap (λ windows. system_with session.topo.nodes session.image windows) stands.windows
+
+  pub regions_stand : StaysRegion → IsMachine m → All (IsRegion (image_in session)) session.founds
+  regions_stand region is =
+      subst (All (IsRegion (image_in session))) (sym stands.founds)
+      (All-map (IsRegion (image_in session)) (λ (r : Live). r.found) m.live (λ k d low.
+      let own = (region m (get_or m.live k d) is (there m.live k d low)).1 in
+      subst (λ (s : System). IsRegion s (get_or m.live k d).found) present_is (region_window m.settled (get_or m.live k d).found, own)))
+
+  abbrev HasRoutes : Found → KeptFields → Type 0
+  HasRoutes found kept = (w : WindowFields) × IsRegionIn (image_in session) w found × IsKept (image_in session) w found kept
+
+  pub routes_stand : StaysSystem → StaysRegion → KeepsRoutes → IsMachine m → AllZip HasRoutes session.founds session.kept
+  routes_stand system region keeps is =
+      subst (λ (founds : List Found). AllZip HasRoutes founds session.kept) (sym stands.founds)
+      (zip_map (λ (r : Live). r.found) (λ (r : Live) (kept : KeptFields). IsKeptIn m.settled r.found kept) HasRoutes m.live session.kept each stands.kept)
+    where
+      each : (r : Live) (kept : KeptFields) → Contains m.live r → IsKeptIn m.settled r.found kept → HasRoutes r.found kept
+      each r kept inside own =
+          let now = system m is in
+          let stays = region m r is inside in
+          let w = region_window m.settled r.found in
+          let moved = (keeps m.settled (present m) w r.found kept is.settled.system now.0 stays.2 now.1 stays.0).0 own in
+          subst (λ (s : System). (v : WindowFields) × IsRegionIn s v r.found × IsKept s v r.found kept) present_is (w, stays.1, moved)

@@ -1,0 +1,53 @@
+-- Turns that leave session, registers and media as they are.
+use Rattle.std.proofs.Common.{◌≡◌, true, false, List, [], ◌++◌, Option, Some, None, Result, Ok, Err, refl, sym, ap, subst, arith}
+use Rattle.std.specs.Prelude.{OnOk, OnErr}
+use Rattle.std.specs.Result.{is_err}
+use Rattle.std.proofs.lemmas.Bool.{false≢true}
+use Rattle.std.proofs.lemmas.List.{append-nil}
+use Rattle.cxl_bus.specs.declared.sent.Sent.{Sent}
+use Rattle.cxl_bus.specs.RegsState.{RegsState}
+use Rattle.cxl_bus.specs.Trail.{trail_with}
+use Rattle.cxl_media.specs.MediaState.{MediaState}
+use Rattle.cxl_script.specs.declared.command.Command.{Command}
+use Rattle.cxl_reply.specs.declared.reply.Reply.{Reply}
+use Rattle.cxl_machine.specs.Machine.{Machine}
+use Rattle.cxl_machine.specs.Answers.{Answers}
+use Rattle.cxl_machine.specs.Outcomes.{NoFault, faults_of}
+use Rattle.cxl_machine.specs.Replies.{stays}
+use Rattle.cxl_machine.specs.Scripts.{TakesTurn}
+use Rattle.cxl_machine.specs.Trails.{TrailOf}
+use Rattle.cxl_session.specs.State.{SessionState}
+use Rattle.cxl_session.specs.Standing.{IsAt, HasTaken}
+use Rattle.cxl_session.specs.inner.Answering.{IsTurnFor}
+
+-- no word is sent
+pub no_words : (trail : Option (List Sent)) → trail ≡ trail_with trail []
+no_words None = refl
+no_words (Some sent) = ap Some (sym (append-nil sent))
+
+-- a turn at which nothing changes
+pub still : (session : SessionState) (regs : RegsState) (media : MediaState) (command : Command) (reply : Reply) → faults_of command NoFault ≡ 0
+    → ((m : Machine) → IsAt session regs media m → Answers m command NoFault (stays m reply) × TrailOf m command NoFault []) → IsTurnFor session session regs regs media media command reply
+still session regs media command reply none given m at = (
+  record { reply = reply; machine = m; faults = 0; trail = [] },
+  (NoFault, (given m at).0, (given m at).1, sym none),
+  record { told = refl; at = at; words = no_words regs.trail; faults = omega arith; alone = refl; unswallowed = λ _ _. refl },
+)
+
+-- ---- by the answer of the bus
+
+pub on_err : {T E P : Type 0} (r : Result T E) → is_err r ≡ true → OnErr r P → P
+on_err (Ok x) is holds = absurd (false≢true is)
+on_err (Err e) is holds = holds
+
+pub on_ok : {T E P : Type 0} (r : Result T E) → is_err r ≡ false → OnOk r P → P
+on_ok (Ok x) is holds = holds
+on_ok (Err e) is holds = absurd (false≢true (sym is))
+
+-- ---- the same session and the same reply
+
+module _ (session next : SessionState) (old new : RegsState) (media left : MediaState) (command : Command) (reply other : Reply) where
+  pub same_turn : (after : SessionState) → next ≡ after → reply ≡ other → IsTurnFor session after old new media left command other → IsTurnFor session next old new media left command reply
+  same_turn after is told turn =
+      subst (λ (s : SessionState). IsTurnFor session s old new media left command reply) (sym is)
+      (subst (λ (r : Reply). IsTurnFor session after old new media left command r) (sym told) turn)

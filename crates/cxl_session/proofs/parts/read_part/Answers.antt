@@ -1,0 +1,12 @@
+use Rattle.std.proofs.Common.{◌-◌}
+use Rattle.cxl_session.proofs.ReadParts.{part_read}
+use Rattle.cxl_session.proofs.parts.read_part.Goals as goal
+
+pub returns : goal.returns
+returns g c = λ s w contents woven pieces.
+    let carries = c.device_byte-byte.ensures s w woven in
+    let ep = c.device_byte-byte.result.ep in
+    let dpa = c.device_byte-byte.result.dpa in
+    let at = c.bytes_lie_in_pieces.ensures.block s w c.args.found.now c.args.h ep dpa woven.system woven.region carries in
+    let along = c.bytes_lie_in_pieces.ensures.offset s w c.args.found.now c.args.h ep dpa woven.system woven.region carries in
+    part_read contents (g.M.Media.state c.args.media.now).blocks c.get.new.into (c.args.h - c.args.found.now.base) ep dpa _ c.get.ensures.whole c.requires.piece.fits along (pieces _ ep _ at) c.get.ensures.filled

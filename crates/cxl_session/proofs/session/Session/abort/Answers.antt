@@ -1,0 +1,53 @@
+use Rattle.std.proofs.Common.{◌≡◌, List, Option, Some, None, length, refl, sym, ap, ◌∙◌, subst}
+use Rattle.cxl_regs.specs.Registers.{Registers}
+use Rattle.cxl_reply.specs.declared.reply.Reply.TheVariants as replies
+use Rattle.cxl_session.specs.Inside.{job_fields}
+use Rattle.cxl_session.specs.State.{JobFields, SessionState}
+use Rattle.cxl_session.specs.inner.Regions.{session_undone, IsTakenBackTo}
+use Rattle.cxl_script.specs.declared.command.Command.TheVariants as commands
+use Rattle.cxl_session.proofs.Aborts.{none_aborted, left_pending, aborted}
+use Rattle.cxl_session.proofs.Turns.{on_err, on_ok, same_turn}
+use Rattle.cxl_session.proofs.session.Session.abort.Goals as goal
+
+pub returns-in_default : goal.returns-in_default
+returns-in_default g c = λ media.
+    let same : c.take_job.new.self ≡ c.args.self.now =
+    c.take_job.ensures.taken ∙ ap (λ (o : Option JobFields). record c.args.self.now { job = o }) (sym c.in_default.ensures.job) in
+    same_turn c.args.self.now c.take_job.new.self (g.R.Regs.state c.args.regs.now) (g.R.Regs.state c.args.regs.now) media media commands.Abort replies.NothingPending replies.NothingPending
+    c.args.self.now same refl (none_aborted c.args.self.now (g.R.Regs.state c.args.regs.now) media c.in_default.ensures.job)
+
+pub returns-then-is_err : goal.returns-then-is_err
+returns-then-is_err g c = λ media.
+    let session : SessionState = c.args.self.now in
+    let own : JobFields = job_fields c.in-Some.pending in
+    let left : List Registers = c.undo.new.self.image in
+    let back = subst (λ (blocks : List Registers). IsTakenBackTo own c.undo.new.pending.job.done blocks left (g.R.Regs.state c.args.regs.now) (g.R.Regs.state c.undo.new.regs))
+    (ap (λ (s : SessionState). s.image) c.take_job.ensures.taken) c.undo.ensures.back in
+    let failed = sym c.is_err.ensures.value ∙ c.if-is_err.true in
+    let part = on_err c.undo.result failed c.undo.ensures.part in
+    same_turn session c.leave.new.self (g.R.Regs.state c.args.regs.now) (g.R.Regs.state c.undo.new.regs) media media commands.Abort c.leave.result
+    (replies.BusPending record { name = own.name; done = c.undo.new.pending.job.done; total = length own.writes })
+    (record session { image = left; job = Some (record own { done = c.undo.new.pending.job.done }) })
+    (c.leave.ensures.job
+    ∙ ap (λ (s : SessionState). record s { job = Some (job_fields c.undo.new.pending) }) (c.undo.ensures.image ∙ ap (λ (s : SessionState). record s { image = left }) c.take_job.ensures.taken)
+    ∙ ap (λ (j : JobFields). record session { image = left; job = Some j }) c.undo.ensures.job)
+    (c.leave.ensures.reply ∙ ap (λ (j : JobFields). replies.BusPending record { name = j.name; done = c.undo.new.pending.job.done; total = length j.writes }) c.undo.ensures.job)
+    (left_pending c.pending_jobs_settle.ensures.back session (g.R.Regs.state c.args.regs.now) (g.R.Regs.state c.undo.new.regs) media own c.in-Some.ensures.job c.undo.new.pending.job.done left back
+    part.0 part.1 (on_err c.undo.result failed c.undo.ensures.cause))
+
+pub returns : goal.returns
+returns g c = λ media.
+    let session : SessionState = c.args.self.now in
+    let own : JobFields = job_fields c.in-Some.pending in
+    let left : List Registers = c.undo.new.self.image in
+    let back = subst (λ (blocks : List Registers). IsTakenBackTo own c.undo.new.pending.job.done blocks left (g.R.Regs.state c.args.regs.now) (g.R.Regs.state c.undo.new.regs))
+    (ap (λ (s : SessionState). s.image) c.take_job.ensures.taken) c.undo.ensures.back in
+    let made = sym c.is_err.ensures.value ∙ c.if-is_err.false in
+    same_turn session c.restore.new.self (g.R.Regs.state c.args.regs.now) (g.R.Regs.state c.undo.new.regs) media media commands.Abort (replies.Aborted c.undo.new.pending.name) (replies.Aborted own.name)
+    (session_undone own (record session { image = left; job = None }))
+    (c.restore.ensures
+    ∙ ap (λ (s : SessionState). session_undone (job_fields c.undo.new.pending) s) (c.undo.ensures.image ∙ ap (λ (s : SessionState). record s { image = left }) c.take_job.ensures.taken)
+    ∙ ap (λ (j : JobFields). session_undone j (record session { image = left; job = None })) c.undo.ensures.job)
+    (ap (λ (j : JobFields). replies.Aborted j.name) c.undo.ensures.job)
+    (aborted c.pending_jobs_settle.ensures.back session (g.R.Regs.state c.args.regs.now) (g.R.Regs.state c.undo.new.regs) media own c.in-Some.ensures.job c.undo.new.pending.job.done left back
+    (on_ok c.undo.result made c.undo.ensures.all) (on_ok c.undo.result made c.undo.ensures.unswallowed))

@@ -1,0 +1,114 @@
+use Rattle.std.proofs.Common.{◌≡◌, ◌+◌, ◌<◌, ◌≤◌, ◌∙◌, ap, sym, subst, length, List, ℕ, arith}
+use Rattle.cxl_media.specs.MediaState.{MediaState}
+use Rattle.cxl_reply.specs.declared.told.Carried.{Carried}
+use Rattle.cxl_reply.specs.declared.told.Lack.{Lack}
+use Rattle.cxl_reply.specs.declared.reply.Reply.TheVariants as replies
+use Rattle.cxl_machine.specs.Copies.{copy_answer}
+use Rattle.cxl_session.specs.inner.Answering.{IsWritten}
+use Rattle.cxl_session.proofs.Carrying.{window_within}
+use Rattle.cxl_session.proofs.session.Session.copy_region.Goals as goal
+
+pub side-from-requires : goal.side-from-requires
+side-from-requires g c =
+    let holds = c.requires.1 in
+    let two = c.in-Ok.ensures c.requires.0 holds.stands in
+    window_within c.args.self.now c.requires.0 c.in-Ok.places.0 two.from holds.stands holds.machine two.from_at
+
+pub side-to-requires : goal.side-to-requires
+side-to-requires g c =
+    let holds = c.requires.1 in
+    let two = c.in-Ok.ensures c.requires.0 holds.stands in
+    window_within c.args.self.now c.requires.0 c.in-Ok.places.1 two.to holds.stands holds.machine two.to_at
+
+pub held-requires : goal.held-requires
+held-requires g c =
+    let holds = c.requires.1 in
+    let two = c.in-Ok.ensures c.requires.0 holds.stands in
+    let sides =
+    c.sides_hold_pieces.ensures.sides c.args.self.now c.requires.0 c.args.pair.now c.in-Ok.places.0 c.in-Ok.places.1 c.side-from.result.found.now c.side-to.result.found.now c.side-from.result.window.now
+    c.side-to.result.window.now holds.stands holds.machine two c.side-from.ensures c.side-to.ensures in
+    (sides.s, sides.system, sides.first)
+
+pub held-requires-2 : goal.held-requires-2
+held-requires-2 g c =
+    let holds = c.requires.1 in
+    let two = c.in-Ok.ensures c.requires.0 holds.stands in
+    let sides =
+    c.sides_hold_pieces.ensures.sides c.args.self.now c.requires.0 c.args.pair.now c.in-Ok.places.0 c.in-Ok.places.1 c.side-from.result.found.now c.side-to.result.found.now c.side-from.result.window.now
+    c.side-to.result.window.now holds.stands holds.machine two c.side-from.ensures c.side-to.ensures in
+    (sides.s, sides.system, sides.second)
+
+pub overflow_cast-free : goal.overflow_cast-free
+overflow_cast-free g c =
+    let holds = c.requires.1 in
+    let two = c.in-Ok.ensures c.requires.0 holds.stands in
+    let few =
+    c.sides_hold_pieces.ensures.few c.args.self.now (g.M.Media.state c.args.media.now) c.requires.0 two.to c.in-Ok.places.1 c.side-to.result.found.now c.side-to.result.window.now c.in_ok-others.others.items holds
+    two.to_at c.side-to.ensures c.in_ok-others.ensures in
+    omega (arith, few, c.len.ensures)
+
+pub overflow_add-free : goal.overflow_add-free
+overflow_add-free g c =
+    let holds = c.requires.1 in
+    let two = c.in-Ok.ensures c.requires.0 holds.stands in
+    let few =
+    c.sides_hold_pieces.ensures.few c.args.self.now (g.M.Media.state c.args.media.now) c.requires.0 two.to c.in-Ok.places.1 c.side-to.result.found.now c.side-to.result.window.now c.in_ok-others.others.items holds
+    two.to_at c.side-to.ensures c.in_ok-others.ensures in
+    omega (arith, few, c.len.ensures, c.free.ensures)
+
+pub overflow_cast-len : goal.overflow_cast-len
+overflow_cast-len g c =
+    let holds = c.requires.1 in
+    let two = c.in-Ok.ensures c.requires.0 holds.stands in
+    let few =
+    c.sides_hold_pieces.ensures.few c.args.self.now (g.M.Media.state c.args.media.now) c.requires.0 two.from c.in-Ok.places.0 c.side-from.result.found.now c.side-from.result.window.now c.in_ok-pieces.pieces.items holds
+    two.from_at c.side-from.ensures c.in_ok-pieces.ensures in
+    omega (arith, few, c.len-2.ensures)
+
+pub overflow_cast-result : goal.overflow_cast-result
+overflow_cast-result g c =
+    let holds = c.requires.1 in
+    let two = c.in-Ok.ensures c.requires.0 holds.stands in
+    let few =
+    c.sides_hold_pieces.ensures.few c.args.self.now (g.M.Media.state c.args.media.now) c.requires.0 two.from c.in-Ok.places.0 c.side-from.result.found.now c.side-from.result.window.now c.in_ok-pieces.pieces.items holds
+    two.from_at c.side-from.ensures c.in_ok-pieces.ensures in
+    omega (arith, few, c.len-then-len-free.ensures)
+
+pub carried-requires : goal.carried-requires
+carried-requires g c =
+    let holds = c.requires.1 in
+    let two = c.in-Ok.ensures c.requires.0 holds.stands in
+    let few =
+    c.sides_hold_pieces.ensures.few c.args.self.now (g.M.Media.state c.args.media.now) c.requires.0 two.from c.in-Ok.places.0 c.side-from.result.found.now c.side-from.result.window.now c.in_ok-pieces.pieces.items holds
+    two.from_at c.side-from.ensures c.in_ok-pieces.ensures in
+    omega (arith, few, ap (λ (ns : List ℕ). length ns) c.deref-2.ensures.value)
+
+pub returns-then-len-free-clause-answer : goal.returns-then-len-free-clause-answer
+returns-then-len-free-clause-answer g c = λ m holds.
+    let two = c.in-Ok.ensures m holds.stands in
+    let pieces : List ℕ = c.in_ok-pieces.pieces.items in
+    let others : List ℕ = c.in_ok-others.others.items in
+    let old : MediaState = g.M.Media.state c.args.media.now in
+    let short : old.free + length others < length pieces = omega (arith, c.len.ensures, c.len-2.ensures, c.free.ensures) in
+    let written =
+    c.carried_pieces_are_answers.ensures.full c.args.self.now old m c.args.pair.now c.in-Ok.places.0 c.in-Ok.places.1
+    c.side-from.result.found.now c.side-to.result.found.now c.side-from.result.window.now c.side-to.result.window.now pieces others holds two c.side-from.ensures c.side-to.ensures c.in_ok-pieces.ensures
+    c.in_ok-others.ensures short in
+    let need : length pieces ≡ c.len-then-len-free.result = omega (arith, c.len-then-len-free.ensures) in
+    let free : old.free + length others ≡ c.free.result + c.len.result = omega (arith, c.len.ensures, c.free.ensures) in
+    subst (λ (x : Lack). IsWritten c.args.self.now old (copy_answer m c.args.pair.now) (replies.Full x)) (λ i. record { need = need i; free = free i }) written
+
+pub returns-clause-answer : goal.returns-clause-answer
+returns-clause-answer g c = λ m holds.
+    let two = c.in-Ok.ensures m holds.stands in
+    let pieces : List ℕ = c.in_ok-pieces.pieces.items in
+    let others : List ℕ = c.in_ok-others.others.items in
+    let old : MediaState = g.M.Media.state c.args.media.now in
+    let room : length pieces ≤ old.free + length others = omega (arith, c.len.ensures, c.len-2.ensures, c.free.ensures) in
+    let written =
+    c.carried_pieces_are_answers.ensures.copied c.args.self.now old (g.M.Media.state c.copy_bytes.new.media) m c.args.pair.now c.in-Ok.places.0 c.in-Ok.places.1
+    c.side-from.result.found.now c.side-to.result.found.now c.side-from.result.window.now c.side-to.result.window.now pieces others holds two c.side-from.ensures c.side-to.ensures c.in_ok-pieces.ensures
+    c.in_ok-others.ensures room c.copy_bytes.ensures.copied c.copy_bytes.ensures.frames in
+    let told : record { from = c.args.pair.now.from; to = c.args.pair.now.to; pieces = length pieces } ≡ c.carried.result =
+    sym (c.carried.ensures ∙ (λ i. record { from = c.args.pair.now.from; to = c.args.pair.now.to; pieces = length (c.deref-2.ensures.value i) })) in
+    subst (λ (x : Carried). IsWritten c.args.self.now (g.M.Media.state c.copy_bytes.new.media) (copy_answer m c.args.pair.now) (replies.Copied x)) told written

@@ -1,0 +1,49 @@
+use Rattle.std.proofs.Common.{◌≡◌, ◌∙◌, ap, sym, subst, length, List, ℕ, arith}
+use Rattle.cxl_reply.specs.declared.told.Carried.{Carried}
+use Rattle.cxl_reply.specs.declared.reply.Reply.TheVariants as replies
+use Rattle.cxl_machine.specs.Copies.{move_answer}
+use Rattle.cxl_session.specs.inner.Answering.{IsWritten}
+use Rattle.cxl_session.proofs.Carrying.{window_within}
+use Rattle.cxl_session.proofs.session.Session.move_region.Goals as goal
+
+pub side-from-requires : goal.side-from-requires
+side-from-requires g c =
+    let holds = c.requires.1 in
+    let two = c.in-Ok.ensures c.requires.0 holds.stands in
+    window_within c.args.self.now c.requires.0 c.in-Ok.places.0 two.from holds.stands holds.machine two.from_at
+
+pub side-to-requires : goal.side-to-requires
+side-to-requires g c =
+    let holds = c.requires.1 in
+    let two = c.in-Ok.ensures c.requires.0 holds.stands in
+    window_within c.args.self.now c.requires.0 c.in-Ok.places.1 two.to holds.stands holds.machine two.to_at
+
+pub held-requires : goal.held-requires
+held-requires g c =
+    let holds = c.requires.1 in
+    let two = c.in-Ok.ensures c.requires.0 holds.stands in
+    let sides =
+    c.sides_hold_pieces.ensures.sides c.args.self.now c.requires.0 c.args.pair.now c.in-Ok.places.0 c.in-Ok.places.1 c.side-from.result.found.now c.side-to.result.found.now c.side-from.result.window.now
+    c.side-to.result.window.now holds.stands holds.machine two c.side-from.ensures c.side-to.ensures in
+    (sides.s, sides.system, sides.first)
+
+pub carried-requires : goal.carried-requires
+carried-requires g c =
+    let holds = c.requires.1 in
+    let two = c.in-Ok.ensures c.requires.0 holds.stands in
+    let few =
+    c.sides_hold_pieces.ensures.few c.args.self.now (g.M.Media.state c.args.media.now) c.requires.0 two.from c.in-Ok.places.0 c.side-from.result.found.now c.side-from.result.window.now c.in_ok-pieces.pieces.items holds
+    two.from_at c.side-from.ensures c.in_ok-pieces.ensures in
+    omega (arith, few, ap (λ (ns : List ℕ). length ns) c.deref-2.ensures.value)
+
+pub returns-clause-answer : goal.returns-clause-answer
+returns-clause-answer g c = λ m holds.
+    let two = c.in-Ok.ensures m holds.stands in
+    let pieces : List ℕ = c.in_ok-pieces.pieces.items in
+    let written =
+    c.carried_pieces_are_answers.ensures.moved c.args.self.now (g.M.Media.state c.args.media.now) (g.M.Media.state c.move_bytes.new.media) m c.args.pair.now c.in-Ok.places.0 c.in-Ok.places.1
+    c.side-from.result.found.now c.side-to.result.found.now c.side-from.result.window.now c.side-to.result.window.now pieces holds two c.side-from.ensures c.side-to.ensures c.in_ok-pieces.ensures
+    c.move_bytes.ensures.moved c.move_bytes.ensures.frames in
+    let told : record { from = c.args.pair.now.from; to = c.args.pair.now.to; pieces = length pieces } ≡ c.carried.result =
+    sym (c.carried.ensures ∙ (λ i. record { from = c.args.pair.now.from; to = c.args.pair.now.to; pieces = length (c.deref-2.ensures.value i) })) in
+    subst (λ (x : Carried). IsWritten c.args.self.now (g.M.Media.state c.move_bytes.new.media) (move_answer m c.args.pair.now) (replies.Moved x)) told written

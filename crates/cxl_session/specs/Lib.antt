@@ -1,0 +1,5 @@
+pub mod State
+pub mod Inside
+pub mod Standing
+pub mod Opening
+pub mod inner

@@ -1,0 +1,17 @@
+-- The decoders of a region, by the blocks of an image alone.
+use Rattle.std.specs.Prelude.{◌+◌, Bool, List, [], drop}
+use Rattle.cxl_regs.specs.Registers.{Registers}
+use Rattle.cxl_regs.specs.Writes.{any_committed}
+use Rattle.cxl_model.specs.declared.plan.Row.{Row}
+use Rattle.cxl_model.specs.System.{System, decoders_at}
+
+-- a node's decoders follow from the blocks
+abbrev pub blocks_alone : List Registers → System
+blocks_alone blocks = record { nodes = []; blocks = blocks; windows = [] }
+
+abbrev pub is_locked : Row → Bool
+is_locked row = row.decoder.lock
+
+-- another decoder above the row's is committed
+abbrev pub is_not_last : System → Row → Bool
+is_not_last s row = any_committed (drop (row.index + 1) (decoders_at s row.node))

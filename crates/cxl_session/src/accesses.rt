@@ -1,0 +1,168 @@
+//! Where host bytes lie, and the bytes themselves: by the kept routes and the weaves of the live regions, and media.
+
+ghost use Rattle.std.specs.Prelude.{◌≡◌, ℕ, ◌≤◌, true, length, map, IfOk};
+ghost use Rattle.cxl_script.specs.Grammar.{access_limit, range_limit};
+ghost use Rattle.cxl_model.specs.System.{IsSystem};
+ghost use Rattle.cxl_model.specs.Regions.{IsRegionIn};
+ghost use Rattle.cxl_walk.specs.Keeping.{IsKeptOf};
+ghost use Rattle.cxl_machine.specs.Machine.{Live, Machine, has_host, region_window};
+ghost use Rattle.cxl_machine.specs.Sound.{IsMachine};
+ghost use Rattle.cxl_machine.specs.Replies.{stays};
+ghost use Rattle.cxl_machine.specs.Accesses.{down_answer, downed, load_answer, range_answer, spread_answer, AnswersUp, TellsHost, via_of};
+ghost use Rattle.cxl_session.specs.Standing.{StandsFor, IsKeptIn};
+ghost use Rattle.cxl_session.specs.inner.Answering.{StandsSomehow, IsReadFor};
+
+use crate::endpoints::{endpoint_named, endpoints_by_slot};
+use crate::parts::load_bytes;
+use crate::session::Session;
+use crate::upward::host_of;
+use cxl_deal::deal;
+use cxl_enc::{FixedList, Memory, Name};
+use cxl_media::Media;
+use cxl_model::{Step, chain_is_the_dealing, regions_lie_in_windows};
+use cxl_move::blocks_hold_their_pieces;
+use cxl_range::{extents, spread};
+use cxl_reply::{Downed, Extents, Reply, Spread, Upped, Via};
+use cxl_script::{Load, Reach, Up};
+use cxl_walk::Kept;
+use std::alloc::Global;
+
+impl Session {
+    /// Where a host address goes.
+    pub(crate) fn down(&self, h: u64) -> Reply
+        requires { (m : Machine) × StandsFor self.now m × IsMachine m }
+        ensures { (m : Machine) → StandsFor self.now m → IsMachine m → down_answer m h ≡ stays m result }
+    {
+        match self.place_of_host(h) {
+            Some(place) => Reply::Down(downed(h, self.name_at(place), self.kept_at(place))),
+            None => Reply::Unmapped,
+        }
+    }
+
+    /// The bytes from a host address on. Takes memory for these alone.
+    pub(crate) fn load<M: Media>(
+        &self,
+        alloc: Global,
+        load: Load,
+        media: &M,
+    ) -> Result<Reply, Memory>
+        requires stands { StandsSomehow self.now (M.state media.now) }
+        requires some { 1 ≤ load.len }
+        requires few { load.len ≤ access_limit }
+        ensures { IfOk result (λ reply. IsReadFor self.now (M.state media.now)
+            (λ m answer. load_answer m load ≡ answer) reply) }
+    {
+        regions_lie_in_windows();
+        blocks_hold_their_pieces();
+        let place = match self.place_within(load.h, u64::from(load.len)) {
+            Ok(place) => place,
+            Err(refusal) => return Ok(refusal),
+        };
+        let weave = self.kept_at(place).weave();
+        let bytes = load_bytes(alloc, media, self.found_at(place), weave, load)?;
+        Ok(Reply::Loaded(bytes))
+    }
+
+    /// The device bytes on which a range of host bytes lies. Takes memory.
+    pub(crate) fn range(&self, alloc: Global, reach: Reach) -> Result<Reply, Memory>
+        requires stands { (m : Machine) × StandsFor self.now m × IsMachine m }
+        requires some { 1 ≤ reach.len }
+        requires few { reach.len ≤ range_limit }
+        ensures { IfOk result (λ reply. (m : Machine) → StandsFor self.now m → IsMachine m
+            → range_answer m reach ≡ stays m reply) }
+    {
+        regions_lie_in_windows();
+        let place = match self.place_within(reach.h, reach.len) {
+            Ok(place) => place,
+            Err(refusal) => return Ok(refusal),
+        };
+        let found = self.found_at(place);
+        let window = self.window_at(found.window);
+        let extents = extents(alloc, found, window, reach.h, reach.len as u32)?;
+        let endpoints = endpoints_by_slot(alloc, found)?;
+        Ok(Reply::Extents(Extents {
+            extents: FixedList::new(extents),
+            endpoints,
+        }))
+    }
+
+    /// How many bytes of a range lie on each slot. Takes memory for the slots' endpoints alone.
+    pub(crate) fn spread(&self, alloc: Global, reach: Reach) -> Result<Reply, Memory>
+        requires stands { (m : Machine) × StandsFor self.now m × IsMachine m }
+        requires some { 1 ≤ reach.len }
+        ensures { IfOk result (λ reply. (m : Machine) → StandsFor self.now m → IsMachine m
+            → spread_answer m reach ≡ stays m reply) }
+    {
+        regions_lie_in_windows();
+        let place = match self.place_within(reach.h, reach.len) {
+            Ok(place) => place,
+            Err(refusal) => return Ok(refusal),
+        };
+        let found = self.found_at(place);
+        let bytes = spread(found, self.window_at(found.window), reach.h, reach.len);
+        let endpoints = endpoints_by_slot(alloc, found)?;
+        Ok(Reply::Spread(Spread { bytes, endpoints }))
+    }
+
+    /// Which host address goes to a byte of a device: the one that a live region carries there.
+    pub(crate) fn up(&self, up: Up) -> Reply
+        requires { (m : Machine) × StandsFor self.now m × IsMachine m }
+        ensures { (m : Machine) → StandsFor self.now m → IsMachine m → AnswersUp m up (stays m result) }
+    {
+        match endpoint_named(&self.topo, &up.endpoint) {
+            Some(endpoint) => self.told_host(endpoint, up.dpa),
+            None => Reply::NoEndpoint(up.endpoint),
+        }
+    }
+
+    /// What a byte of an endpoint's device is answered.
+    fn told_host(&self, endpoint: u32, dpa: u64) -> Reply
+        requires { (m : Machine) × StandsFor self.now m × IsMachine m }
+        ensures { (m : Machine) → StandsFor self.now m → IsMachine m → TellsHost m endpoint dpa result }
+    {
+        for place in 0..self.founds.len() {
+            let weave = self.kept_at(place).weave();
+            if let Some(h) = host_of(self.found_at(place), weave, endpoint, dpa) {
+                let name = self.name_at(place);
+                return Reply::Up(Upped { h, name });
+            }
+        }
+        Reply::Unmapped
+    }
+}
+
+/// What a host byte of the region of this name is answered.
+fn downed(h: u64, name: Name, kept: &Kept) -> Downed
+    requires { IsKeptOf kept.now h }
+    ensures { (m : Machine) (region : Live) → IsSystem m.settled
+        → IsRegionIn m.settled (region_window m.settled region.found) region.found
+        → IsKeptIn m.settled region.found kept.now → has_host region.found h ≡ true → name ≡ region.name
+        → result ≡ downed m h region }
+{
+    regions_lie_in_windows();
+    chain_is_the_dealing();
+    let route = kept.route(h);
+    let dealt = deal(kept.weave(), h);
+    Downed {
+        h,
+        name,
+        slot: dealt.slot,
+        position: route.position,
+        len: route.len,
+        via: vias(&route.steps),
+        endpoint: route.endpoint,
+        dpa: route.dpa,
+    }
+}
+
+/// The steps of a route as ports on an address's way.
+fn vias(steps: &[Step; 5]) -> [Via; 5]
+    ensures value { result ≡ map via_of steps.now }
+    ensures five { length steps.now ≡ 5 }
+{
+    steps.map(|step| Via {
+        node: step.node,
+        decoder: step.decoder,
+        entry: step.entry,
+    })
+}

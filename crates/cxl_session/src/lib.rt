@@ -1,0 +1,22 @@
+//! Sessions: commands over the registers and the memory of a host.
+#![tactic(auto)]
+
+mod accesses;
+mod copies;
+mod endpoints;
+mod located;
+mod opening;
+mod parts;
+mod pending;
+mod regions;
+mod reports;
+mod requests;
+mod rows;
+mod session;
+mod storing;
+mod upward;
+
+pub use cxl_check::Breach;
+pub use cxl_machine::OpenFault;
+pub use pending::{Kind, Pending};
+pub use session::Session;

@@ -1,0 +1,296 @@
+//! How a session opens on a register image.
+
+ghost use Rattle.std.specs.Prelude.{◌≡◌, ◌⊎◌, ℕ, ◌<◌, ◌≤◌, length, All, option_map, map, decimal, IfOk, IfErr, OnOk, OnErr};
+ghost use Rattle.std.specs.List.{range_with_len};
+ghost use Rattle.std.specs.Vec.{vec_capacity};
+ghost use Rattle.cxl_enc.specs.Faults.{Rose, HasCause, LeavesCount};
+ghost use Rattle.cxl_window.specs.Windows.{AreMadeWith};
+ghost use Rattle.cxl_regs.specs.Blocks.{IsPlace};
+ghost use Rattle.cxl_bus.specs.Trail.{blocks_sent, trail_with};
+ghost use Rattle.cxl_image.specs.Images.{HasCapsOf};
+ghost use Rattle.cxl_check.specs.declared.fault.Breach.{Breach};
+ghost use Rattle.cxl_model.specs.Accepted.{IsFirstBreach, HasFirstBreach};
+ghost use Rattle.cxl_model.specs.Regions.{IsRegion};
+ghost use Rattle.cxl_model.specs.System.{system_of, bridge_uids};
+ghost use Rattle.cxl_machine.specs.Machine.{Machine, region_limit};
+ghost use Rattle.cxl_machine.specs.Sound.{Opens, auto_name, enabled_blocks};
+ghost use Rattle.cxl_session.specs.Opening.{endpoints_in, enabling, ArePoweredOn, empty_media, IsHalfEnabled, IsRefusedImage, HasRegions};
+ghost use Rattle.cxl_session.specs.Standing.{StandsFor, IsAt};
+ghost use Rattle.cxl_session.specs.inner.Opened.{opened_machine, CanOpen, AreRoutesOf, StopsEnabling};
+
+use crate::session::{REGION_LIMIT, Session};
+use cxl_bus::Regs;
+use cxl_check::{CheckFault, check};
+use cxl_enc::{Failed, Memory, Name};
+use cxl_image::Image;
+use cxl_legal::ports_are_bytes;
+use cxl_machine::{OpenFault, openings_are_machines};
+use cxl_media::Roll;
+use cxl_model::{
+    Found, accepted_image_is_system, accepted_or_breach, regions_are_listed, regions_lie_in_windows,
+};
+use cxl_regs::writes_keep_places;
+use cxl_topo::Topo;
+use cxl_walk::Kept;
+use cxl_window::Window;
+use itoa::Buffer;
+use std::alloc::Global;
+
+/// What a write to an endpoint's global control holds to enable decoding, and its offset there. (CXL HDM decoder global
+/// control.)
+const DECODE: u32 = 2;
+
+const GLOBAL_CONTROL: u32 = 4;
+
+impl Session {
+    /// Starts a session from a register image: powers registers and media on, and lets each endpoint decode. The image's
+    /// regions live from then on as `auto0`, `auto1` and so on, in the order of their bases. All memory is taken before the
+    /// first register is written. (This project's rule.)
+    pub fn open<R: Regs, M: Roll>(
+        alloc: Global,
+        topo: Topo,
+        windows: Vec<Window>,
+        start: Image,
+        regs: &mut R,
+        media: &mut M,
+    ) -> Result<Session, OpenFault>
+        requires made { AreMadeWith windows.items (bridge_uids topo.nodes) }
+
+        // The image's machine opens, and session, registers and media stand for it.
+        ensures opened { IfOk result (λ session. (m : Machine) × Opens (system_of start topo windows.items) topo.frames m
+            × IsAt session (R.state regs.new) (M.state media.new) m) }
+        // The words sent are those that let the endpoints decode.
+        ensures enabled { OnOk result ((R.state regs.new).trail
+            ≡ option_map (λ _. enabling (endpoints_in topo.nodes)) (R.state regs.old).trail) }
+        // It keeps what it was handed, and its image is the bus's.
+        ensures handed { IfOk result (λ session. (session.topo ≡ topo) × (session.windows ≡ windows.items)) }
+        ensures image { IfOk result (λ session. session.image ≡ (R.state regs.new).blocks) }
+
+        // A breach is the image's first; each image that has one is refused so, but for want of memory.
+        ensures breach { (b : Breach) → result ≡ Err (OpenFault.Breach b)
+            → IsFirstBreach (system_of start topo windows.items) b.rule b.node b.decoder }
+        ensures breached { HasFirstBreach (system_of start topo windows.items)
+            → (result ≡ Err OpenFault.Memory) ⊎ ((b : Breach) × (result ≡ Err (OpenFault.Breach b))) }
+        // So many regions of an accepted image are more than may live; each such image is refused so, but for want of memory.
+        ensures full { (n : ℕ) → result ≡ Err (OpenFault.Full n)
+            → HasRegions (system_of start topo windows.items) n × (region_limit < n) }
+        ensures filled { (n : ℕ) → HasRegions (system_of start topo windows.items) n → region_limit < n
+            → (result ≡ Err OpenFault.Memory) ⊎ (result ≡ Err (OpenFault.Full n)) }
+        // Both come before anything is touched.
+        ensures untouched { IfErr result (λ fault. IsRefusedImage fault → (regs.new ≡ regs.old) × (media.new ≡ media.old)) }
+
+        // The bus failed only with cause: then media is empty, and the endpoints before the fault decode.
+        ensures bus { result ≡ Err OpenFault.Bus → Rose (R.state regs.old).faults (R.state regs.new).faults }
+        ensures half_enabled { result ≡ Err OpenFault.Bus
+            → IsHalfEnabled (system_of start topo windows.items) (R.state regs.old) (R.state regs.new)
+            × (M.state media.new ≡ empty_media topo.frames) }
+        // After want of memory each is as before, or as powering it on left it.
+        ensures memory { result ≡ Err OpenFault.Memory
+            → ((R.state regs.new ≡ R.state regs.old) ⊎ ArePoweredOn start (R.state regs.old) (R.state regs.new))
+            × ((M.state media.new ≡ M.state media.old) ⊎ (M.state media.new ≡ empty_media topo.frames)) }
+        ensures counts { (R.state regs.old).faults ≤ (R.state regs.new).faults }
+        ensures alone { (R.state regs.new).counts_failures_alone ≡ (R.state regs.old).counts_failures_alone }
+        // A fault is not swallowed.
+        ensures unswallowed { OnOk result
+            (LeavesCount (R.state regs.old).counts_failures_alone (R.state regs.old).faults (R.state regs.new).faults) }
+    {
+        openings_are_machines();
+        ports_are_bytes(&topo);
+        let founds = regions_to_open(alloc, &topo, &windows, &start)?;
+        let Ok(endpoints) = endpoints_of(alloc, &topo) else {
+            return Err(OpenFault::Memory);
+        };
+        if regs.power_on(alloc, start.blocks()).is_err() {
+            return Err(OpenFault::Memory);
+        }
+        if media.power_on(alloc, topo.frames()).is_err() {
+            return Err(OpenFault::Memory);
+        }
+        let Ok(session) = Session::over(alloc, topo, windows, start, founds, &endpoints) else {
+            return Err(OpenFault::Memory);
+        };
+        if enable(&endpoints, regs).is_err() {
+            return Err(OpenFault::Bus);
+        }
+        Ok(session)
+    }
+
+    /// The session of an image with these regions, of which every endpoint decodes. Takes memory.
+    fn over(
+        alloc: Global,
+        topo: Topo,
+        windows: Vec<Window>,
+        start: Image,
+        founds: Vec<Found>,
+        endpoints: &[u32],
+    ) -> Result<Session, Memory>
+        requires opens { CanOpen (system_of start topo windows.items) founds.items }
+        requires endpoints { endpoints.now ≡ endpoints_in topo.nodes }
+        ensures stands { IfOk result (λ session. StandsFor session
+            (opened_machine (system_of start topo windows.items) topo.frames founds.items)) }
+        ensures handed { IfOk result (λ session. (session.topo ≡ topo) × (session.windows ≡ windows.items)) }
+        ensures image { IfOk result (λ session. session.image ≡ enabled_blocks start) }
+    {
+        openings_are_machines();
+        ports_are_bytes(&topo);
+        regions_lie_in_windows();
+        let _frames = topo.frames();
+        let image = enabled(start, endpoints);
+        let names = auto_names(alloc, founds.len())?;
+        let kepts = routes_of(alloc, &image, &topo, &windows, &founds)?;
+        let founds = with_room(alloc, founds)?;
+        Ok(Session {
+            topo,
+            windows,
+            image,
+            names,
+            founds,
+            kepts,
+            job: None,
+        })
+    }
+}
+
+// ---- what it opens on
+
+/// The regions of an image, no more than may live; or why no session opens on it. Takes memory.
+fn regions_to_open(
+    alloc: Global,
+    topo: &Topo,
+    windows: &[Window],
+    start: &Image,
+) -> Result<Vec<Found>, OpenFault>
+    requires { AreMadeWith windows.now (bridge_uids topo.now.nodes) }
+    ensures opens { IfOk result (λ regions. CanOpen (system_of start.now topo.now windows.now) regions.items) }
+    ensures breach { (b : Breach) → result ≡ Err (OpenFault.Breach b)
+        → IsFirstBreach (system_of start.now topo.now windows.now) b.rule b.node b.decoder }
+    ensures breached { HasFirstBreach (system_of start.now topo.now windows.now)
+        → (result ≡ Err OpenFault.Memory) ⊎ ((b : Breach) × (result ≡ Err (OpenFault.Breach b))) }
+    ensures full { (n : ℕ) → result ≡ Err (OpenFault.Full n)
+        → HasRegions (system_of start.now topo.now windows.now) n × (region_limit < n) }
+    ensures filled { (n : ℕ) → HasRegions (system_of start.now topo.now windows.now) n → region_limit < n
+        → (result ≡ Err OpenFault.Memory) ⊎ (result ≡ Err (OpenFault.Full n)) }
+    ensures no_bus { result ≡ Err OpenFault.Bus → ⊥ }
+{
+    accepted_or_breach();
+    regions_are_listed();
+    regions_lie_in_windows();
+    let founds = match check(alloc, start, topo, windows) {
+        Ok(founds) => founds,
+        Err(CheckFault::Breach(breach)) => return Err(OpenFault::Breach(breach)),
+        Err(CheckFault::Memory) => return Err(OpenFault::Memory),
+    };
+    accepted_image_is_system(start, topo, windows);
+    if founds.len() > REGION_LIMIT {
+        return Err(OpenFault::Full(founds.len() as u32));
+    }
+    Ok(founds)
+}
+
+/// The endpoints by number. Takes memory.
+fn endpoints_of(alloc: Global, topo: &Topo) -> Result<Vec<u32>, Memory>
+    ensures { IfOk result (λ endpoints. endpoints.items ≡ endpoints_in topo.now.nodes) }
+{
+    let mut endpoints = Vec::new(alloc);
+    for node in 0..topo.count() {
+        if topo.is_endpoint(node) {
+            endpoints.push(node)?;
+        }
+    }
+    Ok(endpoints)
+}
+
+// ---- decoding is enabled
+
+/// The image in which these endpoints decode.
+fn enabled(mut image: Image, endpoints: &[u32]) -> Image
+    requires { All (λ node. node < length image) endpoints.now }
+    ensures { result ≡ blocks_sent image (enabling endpoints.now) }
+{
+    for node in endpoints {
+        image.write32(*node, GLOBAL_CONTROL, DECODE);
+    }
+    image
+}
+
+/// Lets these endpoints decode, one after the other, until the bus fails.
+fn enable<R: Regs>(endpoints: &[u32], regs: &mut R) -> Result<(), Failed>
+    requires { All (λ node. IsPlace (R.state regs.old).blocks node 4) endpoints.now }
+    ensures blocks { OnOk result ((R.state regs.new).blocks ≡ blocks_sent (R.state regs.old).blocks (enabling endpoints.now)) }
+    ensures words { OnOk result ((R.state regs.new).trail ≡ trail_with (R.state regs.old).trail (enabling endpoints.now)) }
+    ensures stopped { OnErr result (StopsEnabling endpoints.now (R.state regs.old) (R.state regs.new)) }
+    ensures cause { HasCause result (R.state regs.old).faults (R.state regs.new).faults }
+    ensures counts { (R.state regs.old).faults ≤ (R.state regs.new).faults }
+    ensures alone { (R.state regs.new).counts_failures_alone ≡ (R.state regs.old).counts_failures_alone }
+    // A fault is not swallowed.
+    ensures unswallowed { OnOk result
+        (LeavesCount (R.state regs.old).counts_failures_alone (R.state regs.old).faults (R.state regs.new).faults) }
+{
+    writes_keep_places();
+    for node in endpoints {
+        regs.write32(*node, GLOBAL_CONTROL, DECODE)?;
+    }
+    Ok(())
+}
+
+// ---- what a session keeps of its regions, with room for as many as may live
+
+/// The names of so many regions. Takes memory.
+fn auto_names(alloc: Global, count: usize) -> Result<Vec<Name>, Memory>
+    requires { count ≤ region_limit }
+    ensures names { IfOk result (λ names. names.items ≡ map auto_name (range_with_len 0 count)) }
+    ensures room { IfOk result (λ names. region_limit ≤ vec_capacity names) }
+{
+    let mut names = Vec::with_capacity(alloc, REGION_LIMIT)?;
+    for i in 0..count {
+        let name = auto_name(alloc, i as u32)?;
+        names.push(name)?;
+    }
+    Ok(names)
+}
+
+/// The name of the region that is opened as this one. Takes memory.
+fn auto_name(alloc: Global, i: u32) -> Result<Name, Memory>
+    requires { i < region_limit }
+    ensures { IfOk result (λ name. name ≡ auto_name i) }
+{
+    let mut buffer = Buffer::new();
+    let mut bytes = Vec::from_slice(alloc, b"auto")?;
+    bytes.extend_from_slice(buffer.format(i).as_bytes())?;
+    match Name::read(&bytes) {
+        Some(name) => Ok(name),
+        None => unreachable!(),
+    }
+}
+
+/// The routes of regions of an image. Takes memory.
+fn routes_of(
+    alloc: Global,
+    image: &Image,
+    topo: &Topo,
+    windows: &[Window],
+    founds: &[Found],
+) -> Result<Vec<Kept>, Memory>
+    requires caps { HasCapsOf image.now topo.now.nodes }
+    requires made { AreMadeWith windows.now (bridge_uids topo.now.nodes) }
+    requires regions { All (IsRegion (system_of image.now topo.now windows.now)) founds.now }
+    ensures routes { IfOk result (λ kepts. AreRoutesOf (system_of image.now topo.now windows.now) founds.now kepts.items) }
+    ensures room { IfOk result (λ kepts. region_limit ≤ vec_capacity kepts) }
+{
+    let mut kepts = Vec::with_capacity(alloc, REGION_LIMIT)?;
+    for found in founds {
+        let kept = Kept::new(alloc, image, topo, windows, found)?;
+        kepts.push(kept)?;
+    }
+    Ok(kepts)
+}
+
+/// The same regions, with room for as many as may live. Takes memory.
+fn with_room(alloc: Global, mut founds: Vec<Found>) -> Result<Vec<Found>, Memory>
+    ensures same { IfOk result (λ roomy. roomy.items ≡ founds.items) }
+    ensures room { IfOk result (λ roomy. region_limit ≤ vec_capacity roomy) }
+{
+    let mut roomy = Vec::with_capacity(alloc, REGION_LIMIT)?;
+    roomy.append(&mut founds)?;
+    Ok(roomy)
+}

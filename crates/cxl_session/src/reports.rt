@@ -1,0 +1,95 @@
+//! What a device's poison list touches of the live regions.
+
+ghost use Rattle.std.specs.Prelude.{◌≡◌, List, IfOk};
+ghost use Rattle.std.specs.List.{AllZip};
+ghost use Rattle.cxl_model.specs.declared.poison.Poisoned.{Poisoned};
+ghost use Rattle.cxl_poison.specs.Live.{AreLive};
+ghost use Rattle.cxl_poison.specs.Pieces.{ArePoisonedPieces};
+ghost use Rattle.cxl_machine.specs.Machine.{Machine};
+ghost use Rattle.cxl_machine.specs.Sound.{IsMachine};
+ghost use Rattle.cxl_machine.specs.Replies.{stays};
+ghost use Rattle.cxl_machine.specs.Reports.{AnswersPoison, TouchesLive, poison_reply};
+ghost use Rattle.cxl_session.specs.Standing.{StandsFor};
+
+use crate::endpoints::endpoint_named;
+use crate::session::Session;
+use cxl_enc::{FixedList, Memory, Name};
+use cxl_model::{Entry, Found, PoisonList, Poisoned};
+use cxl_poison::{PoisonFault, pieces, read_list};
+use cxl_reply::{Counted, Reply, Report};
+use cxl_script::Poison;
+use cxl_window::Window;
+use std::alloc::Global;
+
+impl Session {
+    /// What the records of an endpoint's poison list touch. Takes memory.
+    pub(crate) fn poison(&self, alloc: Global, poison: &Poison) -> Result<Reply, Memory>
+        requires { (m : Machine) × StandsFor self.now m × IsMachine m }
+        ensures { IfOk result (λ reply. (m : Machine) → StandsFor self.now m → IsMachine m
+            → AnswersPoison m poison.now (stays m reply)) }
+    {
+        let Some(endpoint) = endpoint_named(&self.topo, &poison.endpoint) else {
+            return Ok(Reply::NoEndpoint(poison.endpoint));
+        };
+        match read_list(alloc, poison.bytes.items()) {
+            Ok(list) => self.report(alloc, endpoint, list),
+            Err(PoisonFault::Short) => Ok(Reply::PoisonShort),
+            Err(PoisonFault::Count(said)) => Ok(Reply::PoisonCount(Counted {
+                said: said.said,
+                room: said.room,
+            })),
+            Err(PoisonFault::Memory) => Err(Memory),
+        }
+    }
+
+    /// A poison list with what each of its records touches.
+    fn report(&self, alloc: Global, endpoint: u32, list: PoisonList) -> Result<Reply, Memory>
+        requires { (m : Machine) × StandsFor self.now m × IsMachine m }
+        ensures { IfOk result (λ reply. (m : Machine) → StandsFor self.now m → IsMachine m
+            → (pieces : List Poisoned) × AllZip (TouchesLive m endpoint) list.records pieces
+            × (reply ≡ poison_reply m endpoint list pieces)) }
+    {
+        let pieces = touched(
+            alloc,
+            list.records.items(),
+            endpoint,
+            &self.founds,
+            &self.windows,
+        )?;
+        let names = copied(alloc, &self.names)?;
+        Ok(Reply::Poison(Report {
+            endpoint,
+            list,
+            pieces,
+            names,
+        }))
+    }
+}
+
+/// What each of the records touches of the live regions.
+fn touched(
+    alloc: Global,
+    records: &[Entry],
+    endpoint: u32,
+    live: &[Found],
+    windows: &[Window],
+) -> Result<FixedList<Poisoned>, Memory>
+    requires { AreLive windows.now live.now }
+    ensures { IfOk result (AllZip (λ entry poisoned. ArePoisonedPieces entry endpoint live.now windows.now poisoned) records.now) }
+{
+    let mut all = Vec::new(alloc);
+    for record in records {
+        all.push(pieces(alloc, record, endpoint, live, windows)?)?;
+    }
+    Ok(FixedList::new(all))
+}
+
+fn copied(alloc: Global, names: &[Name]) -> Result<FixedList<Name>, Memory>
+    ensures { IfOk result (λ copy. copy ≡ names.now) }
+{
+    let mut copy = Vec::with_capacity(alloc, names.len())?;
+    for name in names {
+        copy.push(*name)?;
+    }
+    Ok(FixedList::new(copy))
+}

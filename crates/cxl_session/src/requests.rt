@@ -1,0 +1,60 @@
+//! What is asked for before a job begins, and why it is refused.
+
+ghost use Rattle.std.specs.Prelude.{◌≡◌, IfOk};
+ghost use Rattle.cxl_machine.specs.Machine.{Machine};
+ghost use Rattle.cxl_machine.specs.Sound.{IsMachine};
+ghost use Rattle.cxl_machine.specs.Requests.{spot_of};
+ghost use Rattle.cxl_session.specs.Standing.{StandsFor};
+ghost use Rattle.cxl_session.specs.inner.Requests.{IsAskedRelease};
+
+use crate::copies::place_among;
+use crate::rows::{first_locked, first_not_last, region_rows};
+use crate::session::Session;
+use cxl_enc::{Memory, Name};
+use cxl_model::Row;
+use cxl_reply::{Reply, Spot};
+use std::alloc::Global;
+
+/// The region that is to be ended: its place among the live ones, and its decoders.
+#[derive(Debug, Drop)]
+pub(crate) struct Release {
+    pub(crate) place: usize,
+    pub(crate) rows: Vec<Row>,
+}
+
+impl Session {
+    /// The release of a region by its name, or why it is refused. Takes memory.
+    pub(crate) fn asked_release(
+        &self,
+        alloc: Global,
+        name: Name,
+    ) -> Result<Result<Release, Reply>, Memory>
+        ensures { IfOk result (λ asked. (m : Machine) → StandsFor self.now m → IsMachine m
+            → IsAskedRelease m name asked) }
+    {
+        if let Some(pending) = &self.job {
+            return Ok(Err(Reply::Busy(pending.name)));
+        }
+        let Some(place) = place_among(&self.names, &name) else {
+            return Ok(Err(Reply::NoRegion(name)));
+        };
+        let rows = region_rows(alloc, &self.image, &self.topo, &self.founds[place])?;
+        if let Some(row) = first_locked(&rows) {
+            return Ok(Err(Reply::Locked(spot(&row))));
+        }
+        if let Some(row) = first_not_last(&self.image, &rows) {
+            return Ok(Err(Reply::NotLast(spot(&row))));
+        }
+        Ok(Ok(Release { place, rows }))
+    }
+}
+
+/// Where a decoder stands.
+fn spot(row: &Row) -> Spot
+    ensures { result ≡ spot_of row.now }
+{
+    Spot {
+        node: row.node,
+        decoder: row.index,
+    }
+}
