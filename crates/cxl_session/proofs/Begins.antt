@@ -110,6 +110,14 @@ module _ (release_law : ReleaseLaw) (begins_law : BeginsLaw) (session next : Ses
         refl,
       )
 
+  -- session, registers and media stand for the machine at which it is pending
+  pub begun_here : (m : Machine) (regs : RegsState) (media : MediaState) → IsAt session regs media m → (is : IsRelease m name release)
+      → IsAt next regs media (begun (release_job m.settled release.place is.region) m)
+  begun_here m regs media at is =
+      let as_own = begun_as m at.stands is in
+      subst (λ (s : SessionState). IsAt s regs media (begun (release_job m.settled release.place is.region) m)) (sym as_own.1)
+      (begun_at m release.place is.region is.there is.idle session as_own.0 at.stands as_own.2 begins_law name is.asked regs media at)
+
   -- the job is begun
   pub begin_turn : ((m : Machine) → StandsFor session m → IsMachine m → IsRelease m name release) → (regs : RegsState) (media : MediaState) (words : ℕ) → words ≡ length job.writes
       → IsTurnFor session next regs regs media media (commands.BeginDestroy name) (replies.Begun record { name = name; writes = words })
@@ -127,9 +135,7 @@ module _ (release_law : ReleaseLaw) (begins_law : BeginsLaw) (session next : Ses
           told =
               ap (λ (n : ℕ). replies.Begun record { name = name; writes = n }) (many ∙ ap (λ (ws : List Write). length ws) (sym as_own.3 ∙ for_job.writes))
               ∙ ap (λ (n : List ℕ). replies.Begun record { name = n; writes = total_of made }) (sym is.named);
-          at =
-              subst (λ (s : SessionState). IsAt s regs media (begun made m)) (sym same)
-              (begun_at m release.place is.region is.there is.idle session own at.stands for_job begins_law name is.asked regs media at);
+          at = begun_here m regs media at is;
           words = no_words regs.trail;
           faults = omega arith;
           alone = refl;

@@ -35,3 +35,4 @@ pub mod Ends
 pub mod Removed
 pub mod Finished
 pub mod Steps
+pub mod Wholes

@@ -41,7 +41,7 @@ none_stepped session regs media steps none = still session regs media (commands.
       subst (λ (o : Option RegionJob). SendsPending o [] (λ (j : RegionJob). SendsSteps j steps NoFault [])) (sym idle) refl,
     ))
 
-ended_kind : (job : RegionJob) (own : JobFields) (kind : JobKind) → own.name ≡ job.region.name → own.found ≡ job.region.found → ended_as (place_of kind) own ≡ ended_reply job kind
+pub ended_kind : (job : RegionJob) (own : JobFields) (kind : JobKind) → own.name ≡ job.region.name → own.found ≡ job.region.found → ended_as (place_of kind) own ≡ ended_reply job kind
 ended_kind job own (Creates rows) name found =
     ap (λ (n : List ℕ). replies.Created (named_region n own.found)) name ∙ ap (λ (f : Found). replies.Created (named_region job.region.name f)) found
 ended_kind job own (Releases place) name found = ap replies.Destroyed name

@@ -1,7 +1,7 @@
 -- Turns that leave session, registers and media as they are.
 use Rattle.std.proofs.Common.{◌≡◌, true, false, List, [], ◌++◌, Option, Some, None, Result, Ok, Err, refl, sym, ap, subst, arith}
 use Rattle.std.specs.Prelude.{OnOk, OnErr}
-use Rattle.std.specs.Result.{is_err}
+use Rattle.std.specs.Result.{is_ok, is_err}
 use Rattle.std.proofs.lemmas.Bool.{false≢true}
 use Rattle.std.proofs.lemmas.List.{append-nil}
 use Rattle.cxl_bus.specs.declared.sent.Sent.{Sent}
@@ -43,6 +43,15 @@ on_err (Err e) is holds = holds
 pub on_ok : {T E P : Type 0} (r : Result T E) → is_err r ≡ false → OnOk r P → P
 on_ok (Ok x) is holds = holds
 on_ok (Err e) is holds = absurd (false≢true (sym is))
+
+-- what `is_ok` tells is what `is_err` does not
+pub on_pass : {T E : Type 0} (r : Result T E) → is_ok r ≡ true → is_err r ≡ false
+on_pass (Ok x) is = refl
+on_pass (Err e) is = absurd (false≢true is)
+
+pub on_fail : {T E : Type 0} (r : Result T E) → is_ok r ≡ false → is_err r ≡ true
+on_fail (Ok x) is = absurd (false≢true (sym is))
+on_fail (Err e) is = refl
 
 -- ---- the same session and the same reply
 

@@ -1,6 +1,6 @@
 //! Regions that are made and ended: a job goes on, ends, or is undone.
 
-ghost use Rattle.std.specs.Prelude.{◌≡◌, ℕ, ◌<◌, ◌≤◌, length, insert, [], ◌∷◌, ◌++◌, Some, None, option_map, IfSome, IfOk, OnOk, OnErr};
+ghost use Rattle.std.specs.Prelude.{◌≡◌, ℕ, ◌<◌, ◌≤◌, true, length, insert, [], ◌∷◌, ◌++◌, Some, None, option_map, IfSome, IfOk, OnOk, OnErr};
 ghost use Rattle.cxl_enc.specs.Faults.{HasCause, LeavesCount};
 ghost use Rattle.cxl_bus.specs.RegsState.{RegsState};
 ghost use Rattle.cxl_media.specs.MediaState.{MediaState};
@@ -8,11 +8,13 @@ ghost use Rattle.cxl_script.specs.declared.command.Command.TheVariants as comman
 ghost use Rattle.cxl_apply.specs.Steps.{HasWordsOf};
 ghost use Rattle.cxl_model.specs.System.{System, IsSystem};
 ghost use Rattle.cxl_model.specs.Regions.{IsRegion};
-ghost use Rattle.cxl_machine.specs.Machine.{region_limit};
+ghost use Rattle.cxl_machine.specs.Machine.{RegionJob, Machine, region_limit};
+ghost use Rattle.cxl_machine.specs.Jobs.{begun};
+ghost use Rattle.cxl_machine.specs.Replies.{is_refusal};
 ghost use Rattle.cxl_session.specs.Inside.{place_in, job_fields};
-ghost use Rattle.cxl_session.specs.Standing.{Stands};
+ghost use Rattle.cxl_session.specs.Standing.{IsAt, Stands};
 ghost use Rattle.cxl_session.specs.inner.Answering.{IsTurnFor};
-ghost use Rattle.cxl_session.specs.inner.Regions.{session_undone, session_finished, named_region, finished_reply, BeginsRelease, IsTakenBackTo, IsMadeTo, IsLeftByEnd};
+ghost use Rattle.cxl_session.specs.inner.Regions.{session_undone, session_finished, named_region, finished_reply, BeginsRelease, IsTakenBackTo, IsMadeTo, IsLeftByEnd, IsWholeFor};
 
 use crate::pending::{Kind, Pending};
 use crate::session::Session;
@@ -36,8 +38,12 @@ impl Session {
     /// Undoes the job that is pending. Where the bus fails it stays pending.
     pub(crate) fn abort<R: Regs>(&mut self, regs: &mut R) -> Reply
         requires { (media : MediaState) × Stands self.old (R.state regs.old) media }
-        ensures { (media : MediaState)
+        ensures turn { (media : MediaState)
             → IsTurnFor self.old self.new (R.state regs.old) (R.state regs.new) media media commands.Abort result }
+        ensures refused { is_refusal result ≡ true → (self.new ≡ self.old)
+            × ((R.state regs.new).blocks ≡ (R.state regs.old).blocks) }
+        ensures host { (self.new.topo ≡ self.old.topo) × (self.new.windows ≡ self.old.windows) }
+        ensures counts { (R.state regs.old).faults ≤ (R.state regs.new).faults }
     {
         pending_jobs_settle();
         let Some(mut pending) = self.take_job() else {
@@ -59,8 +65,12 @@ impl Session {
         media: &mut M,
     ) -> Reply
         requires { Stands self.old (R.state regs.old) (M.state media.old) }
-        ensures { IsTurnFor self.old self.new (R.state regs.old) (R.state regs.new) (M.state media.old) (M.state media.new)
+        ensures turn { IsTurnFor self.old self.new (R.state regs.old) (R.state regs.new) (M.state media.old) (M.state media.new)
             (commands.Step steps) result }
+        ensures refused { is_refusal result ≡ true → (self.new ≡ self.old)
+            × ((R.state regs.new).blocks ≡ (R.state regs.old).blocks) × (M.state media.new ≡ M.state media.old) }
+        ensures host { (self.new.topo ≡ self.old.topo) × (self.new.windows ≡ self.old.windows) }
+        ensures counts { (R.state regs.old).faults ≤ (R.state regs.new).faults }
     {
         pending_jobs_settle();
         finished_jobs_keep_machines();
@@ -86,12 +96,69 @@ impl Session {
         self.finish(pending, media)
     }
 
+    /// Ends a region. Where the bus fails all is undone, and where that fails too the job stays pending. Takes memory, all
+    /// of it before the first write.
+    pub(crate) fn destroy<R: Regs, M: Media>(
+        &mut self,
+        alloc: Global,
+        name: Name,
+        regs: &mut R,
+        media: &mut M,
+    ) -> Result<Reply, Memory>
+        requires { Stands self.old (R.state regs.old) (M.state media.old) }
+        ensures turn { IfOk result (IsTurnFor self.old self.new (R.state regs.old) (R.state regs.new) (M.state media.old)
+            (M.state media.new) (commands.Destroy name)) }
+        ensures memory { OnErr result ((self.new ≡ self.old) × (R.state regs.new ≡ R.state regs.old)
+            × (M.state media.new ≡ M.state media.old)) }
+    {
+        jobs_have_one_list_of_writes();
+        releases_begin_as_machines();
+        release_releases_its_rows();
+        let release = match self.asked_release(alloc, name)? {
+            Ok(release) => release,
+            Err(refusal) => return Ok(refusal),
+        };
+        let job = Job::release(alloc, &self.image, &release.rows)?;
+        self.begin_release(release.place, job);
+        Ok(self.carry_out(regs, media))
+    }
+
+    /// Carries out the job that was begun, from its first write on. Where the bus fails it is undone, and where that fails
+    /// too it stays pending.
+    fn carry_out<R: Regs, M: Media>(&mut self, regs: &mut R, media: &mut M) -> Reply
+        requires { (m : Machine) × (job : RegionJob) × IsAt self.old (R.state regs.old) (M.state media.old) (begun job m) }
+        ensures { IsWholeFor self.old self.new (R.state regs.old) (R.state regs.new) (M.state media.old) (M.state media.new) result }
+    {
+        pending_jobs_settle();
+        finished_jobs_keep_machines();
+        kept_routes_stay();
+        whole_ranges_have_one_region();
+        regions_stay_in_a_create();
+        regions_stay_in_a_release();
+        blocks_are_pieces();
+        cleared_regions_leave_media();
+        let Some(mut pending) = self.take_job() else {
+            return Reply::NothingPending;
+        };
+        let total = pending.job.total();
+        if self.make(&mut pending, total, regs).is_ok() {
+            return self.finish(pending, media);
+        }
+        if self.undo(&mut pending, regs).is_err() {
+            return self.leave(pending);
+        }
+        self.restore(pending);
+        Reply::BusUndone
+    }
+
     /// Begins to end a region, with no register written yet. Takes memory.
     pub(crate) fn begin_destroy(&mut self, alloc: Global, name: Name) -> Result<Reply, Memory>
         requires { (regs : RegsState) × (media : MediaState) × Stands self.old regs media }
         ensures turn { IfOk result (λ reply. (regs : RegsState) (media : MediaState)
             → IsTurnFor self.old self.new regs regs media media (commands.BeginDestroy name) reply) }
+        ensures refused { IfOk result (λ reply. is_refusal reply ≡ true → self.new ≡ self.old) }
         ensures memory { OnErr result (self.new ≡ self.old) }
+        ensures host { (self.new.topo ≡ self.old.topo) × (self.new.windows ≡ self.old.windows) }
     {
         jobs_have_one_list_of_writes();
         releases_begin_as_machines();
@@ -110,7 +177,8 @@ impl Session {
     fn begin_release(&mut self, place: usize, job: Job)
         requires here { place < length self.old.names }
         requires words { HasWordsOf self.old.image job.writes }
-        ensures { BeginsRelease self.old place job self.new }
+        ensures begun { BeginsRelease self.old place job self.new }
+        ensures host { (self.new.topo ≡ self.old.topo) × (self.new.windows ≡ self.old.windows) }
     {
         let name = self.names.remove(place);
         let found = self.founds.remove(place);

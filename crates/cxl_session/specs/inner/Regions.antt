@@ -13,6 +13,13 @@ use Rattle.cxl_move.specs.Sides.{IsCleared}
 use Rattle.cxl_reply.specs.declared.reply.Reply.{Reply}
 use Rattle.cxl_reply.specs.declared.reply.Reply.TheVariants as replies
 use Rattle.cxl_reply.specs.declared.told.Named.{Named}
+use Rattle.cxl_machine.specs.Machine.{RegionJob, Machine}
+use Rattle.cxl_machine.specs.Jobs.{begun, undone}
+use Rattle.cxl_machine.specs.Outcomes.{BusOutcome, faults_of_whole}
+use Rattle.cxl_machine.specs.Regions.{CarriesOutWhole}
+use Rattle.cxl_machine.specs.Scripts.{Turn, answer_of}
+use Rattle.cxl_machine.specs.Trails.{SendsWhole}
+use Rattle.cxl_session.specs.Standing.{IsAt, HasTaken}
 use Rattle.cxl_session.specs.State.{JobFields, SessionState}
 
 -- ---- the lists of the live regions, by the place of a release
@@ -110,3 +117,12 @@ IsLeftBy (Some place) found old new = IsCleared found old.blocks new.blocks × (
 
 abbrev pub IsLeftByEnd : JobFields → MediaState → MediaState → Type 0
 IsLeftByEnd own old new = IsLeftBy own.place own.found old new
+
+-- ---- a whole job
+
+-- a job that was begun is carried out: it ends, or is undone, or stays pending
+abbrev pub IsWholeFor : SessionState → SessionState → RegsState → RegsState → MediaState → MediaState → Reply → Type 0
+IsWholeFor session next old new media left reply =
+    (m : Machine) (job : RegionJob) → IsAt session old media (begun job m) → job.done ≡ 0 → undone job (begun job m) ≡ m
+    → (turn : Turn) × (outcome : BusOutcome) × CarriesOutWhole m job outcome (answer_of turn) × SendsWhole job outcome turn.trail
+    × (turn.faults ≡ faults_of_whole outcome) × HasTaken turn reply next old new left

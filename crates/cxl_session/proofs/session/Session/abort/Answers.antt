@@ -9,15 +9,15 @@ use Rattle.cxl_session.proofs.Aborts.{none_aborted, left_pending, aborted}
 use Rattle.cxl_session.proofs.Turns.{on_err, on_ok, same_turn}
 use Rattle.cxl_session.proofs.session.Session.abort.Goals as goal
 
-pub returns-in_default : goal.returns-in_default
-returns-in_default g c = λ media.
+pub returns-in_default-clause-turn : goal.returns-in_default-clause-turn
+returns-in_default-clause-turn g c = λ media.
     let same : c.take_job.new.self ≡ c.args.self.now =
     c.take_job.ensures.taken ∙ ap (λ (o : Option JobFields). record c.args.self.now { job = o }) (sym c.in_default.ensures.job) in
     same_turn c.args.self.now c.take_job.new.self (g.R.Regs.state c.args.regs.now) (g.R.Regs.state c.args.regs.now) media media commands.Abort replies.NothingPending replies.NothingPending
     c.args.self.now same refl (none_aborted c.args.self.now (g.R.Regs.state c.args.regs.now) media c.in_default.ensures.job)
 
-pub returns-then-is_err : goal.returns-then-is_err
-returns-then-is_err g c = λ media.
+pub returns-then-is_err-clause-turn : goal.returns-then-is_err-clause-turn
+returns-then-is_err-clause-turn g c = λ media.
     let session : SessionState = c.args.self.now in
     let own : JobFields = job_fields c.in-Some.pending in
     let left : List Registers = c.undo.new.self.image in
@@ -35,8 +35,8 @@ returns-then-is_err g c = λ media.
     (left_pending c.pending_jobs_settle.ensures.back session (g.R.Regs.state c.args.regs.now) (g.R.Regs.state c.undo.new.regs) media own c.in-Some.ensures.job c.undo.new.pending.job.done left back
     part.0 part.1 (on_err c.undo.result failed c.undo.ensures.cause))
 
-pub returns : goal.returns
-returns g c = λ media.
+pub returns-clause-turn : goal.returns-clause-turn
+returns-clause-turn g c = λ media.
     let session : SessionState = c.args.self.now in
     let own : JobFields = job_fields c.in-Some.pending in
     let left : List Registers = c.undo.new.self.image in

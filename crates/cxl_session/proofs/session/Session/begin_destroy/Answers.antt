@@ -23,6 +23,6 @@ begin_release-requires-clause-here c =
 pub returns-clause-turn : goal.returns-clause-turn
 returns-clause-turn c = λ regs media.
     begin_turn c.jobs_have_one_list_of_writes.ensures.release c.releases_begin_as_machines.ensures.machine c.args.self.now c.begin_release.new.self c.args.name c.in-Ok.release c.in_ok-job.job
-    c.begin_release.ensures (subst (λ (rows : List Row). AreReleaseWrites rows c.in_ok-job.job.writes) c.deref.ensures.value c.in_ok-job.ensures.writes) c.in_ok-job.ensures.none_done
+    c.begin_release.ensures.begun (subst (λ (rows : List Row). AreReleaseWrites rows c.in_ok-job.job.writes) c.deref.ensures.value c.in_ok-job.ensures.writes) c.in_ok-job.ensures.none_done
     (λ m stands is. subst (λ (a : Result Release Reply). IsAskedRelease m c.args.name a) c.in-Ok.is (c.in_ok-release.ensures m stands is))
     regs media c.total-writes.result c.total-writes.ensures

@@ -16,16 +16,16 @@ use Rattle.cxl_session.proofs.Steps.{none_stepped, left_stepped, stepped, ended,
 use Rattle.cxl_session.proofs.Turns.{on_err, on_ok, same_turn}
 use Rattle.cxl_session.proofs.session.Session.step.Goals as goal
 
-pub returns-in_default : goal.returns-in_default
-returns-in_default g c =
+pub returns-in_default-clause-turn : goal.returns-in_default-clause-turn
+returns-in_default-clause-turn g c =
     let same : c.take_job.new.self ≡ c.args.self.now =
     c.take_job.ensures.taken ∙ ap (λ (o : Option JobFields). record c.args.self.now { job = o }) (sym c.in_default.ensures.job) in
     same_turn c.args.self.now c.take_job.new.self (g.R.Regs.state c.args.regs.now) (g.R.Regs.state c.args.regs.now) (g.M.Media.state c.args.media.now) (g.M.Media.state c.args.media.now)
     (commands.Step c.args.steps) replies.NothingPending replies.NothingPending
     c.args.self.now same refl (none_stepped c.args.self.now (g.R.Regs.state c.args.regs.now) (g.M.Media.state c.args.media.now) c.args.steps c.in_default.ensures.job)
 
-pub returns-then-is_err : goal.returns-then-is_err
-returns-then-is_err g c =
+pub returns-then-is_err-clause-turn : goal.returns-then-is_err-clause-turn
+returns-then-is_err-clause-turn g c =
     let session : SessionState = c.args.self.now in
     let own : JobFields = job_fields c.in-Some.pending in
     let left : List Registers = c.make.new.self.image in
@@ -49,8 +49,8 @@ returns-then-is_err g c =
     (left_stepped session (g.R.Regs.state c.args.regs.now) (g.R.Regs.state c.make.new.regs) own c.in-Some.ensures.job c.args.steps made left goes (g.M.Media.state c.args.media.now)
     part.0 (omega (arith, part.1, few, done, within, total)) (on_err c.make.result failed c.make.ensures.cause))
 
-pub returns-then-upto-total : goal.returns-then-upto-total
-returns-then-upto-total g c =
+pub returns-then-upto-total-clause-turn : goal.returns-then-upto-total-clause-turn
+returns-then-upto-total-clause-turn g c =
     let session : SessionState = c.args.self.now in
     let own : JobFields = job_fields c.in-Some.pending in
     let left : List Registers = c.make.new.self.image in
@@ -85,8 +85,8 @@ finish-requires-clause-region g c =
     subst (λ (found : Found). (s : System) × IsSystem s × IsRegion s found) (sym (ap (λ (j : JobFields). j.found) c.make.ensures.job ∙ same.found))
     (region_of_job media_laws m at.sound.machine job pending (g.M.Media.state c.args.media.now) (g.M.Media.state c.args.media.now) (c.finished_jobs_keep_machines.ensures m job at.sound.machine pending))
 
-pub returns : goal.returns
-returns g c =
+pub returns-clause-turn : goal.returns-clause-turn
+returns-clause-turn g c =
     let session : SessionState = c.args.self.now in
     let own : JobFields = job_fields c.in-Some.pending in
     let left : List Registers = c.make.new.self.image in
