@@ -1,11 +1,13 @@
 -- The tests of a record, read as facts on numbers and back.
-use Rattle.std.proofs.Common.{◌≡◌, ℕ, ◌+◌, ◌*◌, ◌≤◌, Bool, true, false, cond, eqb, ltb, not, ◌&&◌, List, length, Option, Some, None, refl, sym, ap, inl, inr}
+use Rattle.std.proofs.Common.{◌≡◌, ℕ, ◌+◌, ◌*◌, ◌<◌, ◌≤◌, Bool, true, false, cond, eqb, ltb, not, ◌&&◌, List, length, Option, Some, None, refl, sym, ap, inl, inr, arith}
 use Rattle.std.specs.Prelude.{is_none, unwrap_or}
-use Rattle.std.proofs.lemmas.Bool.{eqb-true, eq-eqb, le-ltb, ltb-false, cases_Bool, or_parts, or_from, not-false, not_from_true, false≢true}
+use Rattle.std.proofs.lemmas.Bool.{eqb-true, eq-eqb, le-ltb, ltb-false, cases_Bool, or_parts, or_left, or_from, not-false, not_from_true, false≢true}
 use Rattle.cxl_cedt.specs.declared.cedt.Record.{Record}
 use Rattle.cxl_cedt.specs.declared.fault.CedtFault.{CedtFault}
+use Rattle.cxl_cedt.specs.declared.fault.CedtFault.TheVariants.{RecordLength}
 use Rattle.cxl_cedt.specs.Records.{is_kind_full}
 use Rattle.cxl_cedt.specs.Table.{field, kind_said, length_said, ways_said, is_cut, has_short_length, has_other_length, has_unknown_gran, record_fault}
+use Rattle.cxl_cedt.proofs.Counts.{room_from}
 
 -- a test that only one type is put to
 unless : (a k : ℕ) (c : Bool) → (a ≡ k → c ≡ false) → (eqb a k && c) ≡ false
@@ -154,3 +156,39 @@ arithmetic_from kind n e k = ltb-false 1 n (unless_says kind 1 _ e k)
 
 pub arithmetic_known : (kind n : ℕ) → (kind ≡ 1 → n ≤ 1) → (eqb kind 1 && ltb 1 n) ≡ false
 arithmetic_known kind n h = unless kind 1 _ (λ k. le-ltb 1 n (h k))
+
+-- ---- of another type, the length alone can be wrong with a record that is whole
+
+short_fault : (before : List Record) (rest : List ℕ) (at : ℕ) → is_cut rest ≡ false → has_short_length (kind_said rest) (length_said rest) ≡ true
+    → record_fault before rest at ≡ Some (RecordLength at)
+unfolding record_fault
+short_fault before rest at whole short = rw (whole, short) refl
+
+is_short : (kind size : ℕ) → ltb size 4 ≡ true → has_short_length kind size ≡ true
+unfolding has_short_length
+is_short kind size short = or_left _ _ (or_left _ _ (or_left _ _ short))
+
+no_fault_of_other : (before : List Record) (rest : List ℕ) (at : ℕ) → is_cut rest ≡ false → 4 ≤ length_said rest → 2 < kind_said rest → record_fault before rest at ≡ None
+no_fault_of_other before rest at whole long other =
+    no_fault before rest at (record {
+      whole = whole;
+      long = not_short (kind_said rest) (length_said rest) (record {
+        frame = long;
+        chbs = λ k. absurd (omega (arith, k));
+        window = λ k. absurd (omega (arith, k));
+        maps = λ k. absurd (omega (arith, k));
+      });
+      ways = ways_known (kind_said rest) (ways_said rest) (λ k. absurd (omega (arith, k)));
+      size = no_other_length (kind_said rest) rest (record { window = λ k. absurd (omega (arith, k)); maps = λ k. absurd (omega (arith, k)) });
+      gran = no_unknown_gran (kind_said rest) rest (record { window = λ k. absurd (omega (arith, k)); maps = λ k. absurd (omega (arith, k)) });
+      arithmetic = arithmetic_known (kind_said rest) (field rest 25 1) (λ k. absurd (omega (arith, k)));
+      room = room_from (kind_said rest) before (λ k. absurd (omega (arith, k)));
+    })
+
+pub fault_of_other : (before : List Record) (rest : List ℕ) (at : ℕ) → is_cut rest ≡ false → 2 < kind_said rest
+    → record_fault before rest at ≡ cond (ltb (length_said rest) 4) (Some (RecordLength at)) None
+fault_of_other before rest at whole other =
+    elim (cases_Bool (ltb (length_said rest) 4)) [
+      | inl short ↦ rw short (short_fault before rest at whole (is_short (kind_said rest) (length_said rest) short))
+      | inr long ↦ rw long (no_fault_of_other before rest at whole (ltb-false (length_said rest) 4 long) other)
+    ]

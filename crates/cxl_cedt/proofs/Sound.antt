@@ -32,7 +32,7 @@ of_cxims : (text : List ℕ) → kind_said text ≡ 2 → record_of text ≡ Cxi
 unfolding record_of
 of_cxims text k = rw (ne_eqb (kind_said text) 0 (λ e. absurd (omega (arith, k, e))), ne_eqb (kind_said text) 1 (λ e. absurd (omega (arith, k, e))), eq-eqb (kind_said text) 2 k) refl
 
-of_other : (text : List ℕ) → 2 < kind_said text → record_of text ≡ Other (other_of text)
+pub of_other : (text : List ℕ) → 2 < kind_said text → record_of text ≡ Other (other_of text)
 unfolding record_of
 of_other text k = rw (ne_eqb (kind_said text) 0 (λ e. absurd (omega (arith, k, e))), ne_eqb (kind_said text) 1 (λ e. absurd (omega (arith, k, e))), ne_eqb (kind_said text) 2 (λ e. absurd (omega (arith, k, e)))) refl
 

@@ -3,6 +3,7 @@ ghost use Rattle.cxl_cedt.specs.Records.{kind_of, is_kind_full, HasFewOfEach};
 
 use crate::cedt::Record;
 use crate::layout::{CFMWS_KIND, CHBS_KIND, CXIMS_KIND, KIND_LIMIT};
+use crate::other::Other;
 use cxl_enc::Memory;
 use std::alloc::Global;
 use std::marker::Model;
@@ -66,6 +67,13 @@ impl CountedRecords {
             _ => {}
         }
         Ok(())
+    }
+
+    /// Adds a record of another type at the end, which counts for no limit.
+    pub fn push_other(&mut self, next: Other) -> Result<(), Memory>
+        ensures { OnOk result (self.new ≡ self.old ++ Record.Other next ∷ []) }
+    {
+        Ok(self.records.push(Record::Other(next))?)
     }
 
     /// The records in order.

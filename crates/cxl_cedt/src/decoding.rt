@@ -1,12 +1,14 @@
 //! The record that a text without fault spells.
 
-ghost use Rattle.std.specs.Prelude.{◌≡◌, ◌<◌, ◌≤◌, length, IfOk};
+ghost use Rattle.std.specs.Prelude.{◌≡◌, ◌<◌, ◌≤◌, [], ◌∷◌, ◌++◌, length, false, IfOk, OnOk};
+ghost use Rattle.cxl_cedt.specs.Records.{kind_of, is_kind_full};
 ghost use Rattle.cxl_cedt.specs.Table.{kind_said};
 ghost use Rattle.cxl_cedt.specs.inner.Decoding.{IsSoundText, IsSoundWindow, AreSoundMaps, chbs_of, cfmws_of, cxims_of, other_of, record_of};
 
 use crate::cedt::Record;
 use crate::cfmws::Cfmws;
 use crate::chbs::Chbs;
+use crate::counted::CountedRecords;
 use crate::cxims::Cxims;
 use crate::layout::{
     ARITHMETIC_PLACE, CFMWS_KIND, CHBS_KIND, CXIMS_KIND, FRAME_SIZE, KIND_PLACE, MAPS_COUNT_PLACE,
@@ -19,17 +21,30 @@ use crate::other::Other;
 use cxl_enc::{Memory, ways_of};
 use std::alloc::Global;
 
-#[tactic(auto, unfolding(crate::specs::inner::Decoding::record_of))]
-pub fn record_of(alloc: Global, text: &[u8]) -> Result<Record, Memory>
+/// Adds the record of a text to those found.
+pub fn add_record(alloc: Global, found: &mut CountedRecords, text: &[u8]) -> Result<(), Memory>
     requires sound { IsSoundText text.now }
     requires few { length text.now ≤ 65535 }
+    requires room { is_kind_full (kind_of (record_of text.now)) found.old ≡ false }
+    ensures { OnOk result (found.new ≡ found.old ++ record_of text.now ∷ []) }
+{
+    if u8_at(text, KIND_PLACE) > CXIMS_KIND {
+        return found.push_other(other_of(alloc, text)?);
+    }
+    found.push(judged_of(alloc, text)?)
+}
+
+/// The record of a text of one of the three judged types.
+#[tactic(auto, unfolding(crate::specs::inner::Decoding::record_of))]
+fn judged_of(alloc: Global, text: &[u8]) -> Result<Record, Memory>
+    requires sound { IsSoundText text.now }
+    requires judged { kind_said text.now ≤ 2 }
     ensures { IfOk result (λ r. r ≡ record_of text.now) }
 {
     match u8_at(text, KIND_PLACE) {
         CHBS_KIND => Ok(Record::Chbs(chbs_of(text))),
         CFMWS_KIND => Ok(Record::Cfmws(cfmws_of(alloc, text)?)),
-        CXIMS_KIND => Ok(Record::Cxims(cxims_of(alloc, text)?)),
-        _ => Ok(Record::Other(other_of(alloc, text)?)),
+        _ => Ok(Record::Cxims(cxims_of(alloc, text)?)),
     }
 }
 
@@ -87,6 +102,16 @@ fn other_of(alloc: Global, text: &[u8]) -> Result<Other, Memory>
     requires few { length text.now ≤ 65535 }
     ensures { IfOk result (λ c. c ≡ other_of text.now) }
 {
-    let body = Vec::from_slice(alloc, &text[FRAME_SIZE as usize..])?;
+    let body = body_of(alloc, &text[FRAME_SIZE as usize..])?;
     Ok(Other::new(u8_at(text, KIND_PLACE), u8_at(text, RESERVED_PLACE), body))
+}
+
+/// These bytes, for which an empty body takes no memory.
+fn body_of(alloc: Global, bytes: &[u8]) -> Result<Vec<u8>, Memory>
+    ensures { IfOk result (λ body. body.items ≡ bytes.now) }
+{
+    if bytes.is_empty() {
+        return Ok(Vec::new(alloc));
+    }
+    Ok(Vec::from_slice(alloc, bytes)?)
 }

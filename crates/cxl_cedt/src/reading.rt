@@ -8,7 +8,7 @@ ghost use Rattle.cxl_cedt.specs.Table.{AreRecordTexts, IsTableText, IsRecordFaul
 
 use crate::cedt::{Cedt, Record};
 use crate::counted::CountedRecords;
-use crate::decoding::record_of;
+use crate::decoding::add_record;
 use crate::fault::CedtFault;
 use crate::header::{head_of, header_fault};
 use crate::layout::HEADER_SIZE;
@@ -68,7 +68,7 @@ fn records_of(alloc: Global, bytes: &[u8]) -> Result<Vec<Record>, CedtFault>
             return Err(fault);
         }
         let (text, after) = rest.split_at(length_said(rest) as usize);
-        found.push(record_of(alloc, text)?)?;
+        add_record(alloc, &mut found, text)?;
         rest = after;
         at += text.len() as u32;
     }

@@ -1,6 +1,7 @@
 //! The first fault of the record that stands at the front of a text.
 
-ghost use Rattle.std.specs.Prelude.{◌≡◌, ◌+◌, ◌≤◌, ◌<◌, true, length};
+ghost use Rattle.std.specs.Prelude.{◌≡◌, ◌+◌, ◌≤◌, ◌<◌, nat_lt, if◌then◌else◌, true, length, Some, None};
+ghost use Rattle.cxl_cedt.specs.Layout.{frame_size};
 ghost use Rattle.std.specs.Bool.{OnFalse};
 ghost use Rattle.cxl_cedt.specs.Table.{kind_said, length_said, ways_said, is_cut, has_short_length, has_other_length, has_unknown_gran, record_fault};
 
@@ -24,6 +25,9 @@ pub fn record_fault(before: &CountedRecords, rest: &[u8], at: u32) -> Option<Ced
         return Some(CedtFault::RecordCut(at));
     }
     let kind = u8_at(rest, KIND_PLACE);
+    if kind > CXIMS_KIND {
+        return other_fault(length_said(rest), at);
+    }
     if has_short_length(kind, length_said(rest)) {
         return Some(CedtFault::RecordLength(at));
     }
@@ -41,6 +45,16 @@ pub fn record_fault(before: &CountedRecords, rest: &[u8], at: u32) -> Option<Ced
     }
     if before.is_kind_full(kind) {
         return Some(CedtFault::TooMany(at));
+    }
+    None
+}
+
+/// The fault of a record of another type that is not cut: its length alone can be wrong.
+fn other_fault(size: u16, at: u32) -> Option<CedtFault>
+    ensures { result ≡ (if nat_lt size frame_size then Some (CedtFault.RecordLength at) else None) }
+{
+    if size < FRAME_SIZE {
+        return Some(CedtFault::RecordLength(at));
     }
     None
 }
@@ -70,10 +84,12 @@ fn has_short_length(kind: u8, size: u16) -> bool
     ensures window { OnFalse result (kind ≡ 1 → 36 ≤ size) }
     ensures maps { OnFalse result (kind ≡ 2 → 8 ≤ size) }
 {
-    size < FRAME_SIZE
-        || (kind == CHBS_KIND && size != CHBS_SIZE)
-        || (kind == CFMWS_KIND && size < WINDOW_FRONT_SIZE)
-        || (kind == CXIMS_KIND && size < MAPS_FRONT_SIZE)
+    match kind {
+        CHBS_KIND => size != CHBS_SIZE,
+        CFMWS_KIND => size < WINDOW_FRONT_SIZE,
+        CXIMS_KIND => size < MAPS_FRONT_SIZE,
+        _ => size < FRAME_SIZE,
+    }
 }
 
 /// The ways of the window.

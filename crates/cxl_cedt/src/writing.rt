@@ -21,6 +21,7 @@ use crate::layout::{
 use crate::lengths::table_length;
 use crate::numbers::{put_u16, put_u32, put_u32s, put_u64, put_u64s};
 use crate::other::Other;
+use byteorder::{ByteOrder, LittleEndian};
 use cxl_enc::Memory;
 use std::alloc::Global;
 
@@ -89,12 +90,14 @@ fn spell_record(out: &mut Vec<u8>, item: &Record) -> Result<(), Memory>
 }
 
 /// Appends a record's type, the byte after it, and the record's length.
+#[tactic(auto, unfolding(crate::specs::Spelling::number_bytes))]
 fn put_frame(out: &mut Vec<u8>, kind: u8, second: u8, size: u16) -> Result<(), Memory>
     ensures { OnOk result (out.new.items ≡ out.old.items ++ frame kind second size) }
 {
-    out.push(kind)?;
-    out.push(second)?;
-    put_u16(out, size)
+    let mut bytes = [kind, second, 0, 0];
+    LittleEndian::write_u16(&mut bytes[2..], size);
+    out.extend_from_slice(&bytes)?;
+    Ok(())
 }
 
 fn spell_chbs(out: &mut Vec<u8>, chbs: &Chbs) -> Result<(), Memory>
@@ -168,6 +171,8 @@ fn spell_other(out: &mut Vec<u8>, other: &Other) -> Result<(), Memory>
         other.reserved(),
         FRAME_SIZE + body.len() as u16,
     )?;
-    out.extend_from_slice(body)?;
+    if !body.is_empty() {
+        out.extend_from_slice(body)?;
+    }
     Ok(())
 }

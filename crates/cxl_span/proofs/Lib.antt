@@ -1,6 +1,7 @@
 pub mod Sums
 pub mod Turns
 pub mod BreaksAt
+pub mod LeastRules
 pub mod KeptRules
 pub mod Committed
 pub mod OneHolder

@@ -3,3 +3,4 @@ pub mod Partitions
 pub mod Rules
 pub mod Breaches
 pub mod Allotting
+pub mod inner

@@ -1,7 +1,9 @@
-ghost use Rattle.std.specs.Prelude.{◌≡◌, ℕ, ◌<◌, ◌↔◌, true, false, IsNone, IfNone, IfSome};
-ghost use Rattle.cxl_span.specs.Breaches.{breaks, BlockKeeps, IsFirstBlockBreach};
+ghost use Rattle.std.specs.Prelude.{ℕ, ◌+◌, ◌↔◌, IsNone, IfSome};
+ghost use Rattle.cxl_regs.specs.Registers.{Registers};
+ghost use Rattle.cxl_span.specs.Breaches.{BlockKeeps, IsFirstBlockBreach};
+ghost use Rattle.cxl_span.specs.inner.Least.{IsLeastAt, IsFoundBelow};
 
-use crate::rules::breaks_rule;
+use crate::rules::least_rule;
 use crate::spans::span_step;
 use cxl_regs::{Block, Decoder};
 
@@ -18,30 +20,32 @@ pub fn block_breach(block: &Block, ram: u64, pmem: u64) -> Option<BlockBreach>
     ensures none { IsNone result ↔ BlockKeeps block.now ram pmem }
     ensures first { IfSome result (λ breach. IsFirstBlockBreach block.now ram pmem breach.rule breach.decoder) }
 {
-    for rule in 2..9 {
-        if let Some(decoder) = first_breaking(rule, block, ram, pmem) {
-            return Some(BlockBreach { rule, decoder });
-        }
-    }
-    None
-}
-
-/// The first decoder that breaks the rule of this number.
-fn first_breaking(rule: u8, block: &Block, ram: u64, pmem: u64) -> Option<u8>
-    ensures none { IfNone result ((i : ℕ) → breaks rule block.now ram pmem i ≡ false) }
-    ensures broken { IfSome result (λ decoder. breaks rule block.now ram pmem decoder ≡ true) }
-    ensures lower { IfSome result (λ decoder. (i : ℕ) → i < decoder → breaks rule block.now ram pmem i ≡ false) }
-{
+    let mut first = None;
     let mut taken = 0;
     let mut below: Option<Decoder> = None;
     for i in 0..block.count() {
         let d = block.decoder(i);
         let start = taken + u128::from(d.tail);
-        if breaks_rule(rule, block, ram, pmem, below, start, &d) {
-            return Some(i);
-        }
+        first = earlier(first, i, least_rule(block, ram, pmem, below, start, &d));
         taken += span_step(&d);
         below = Some(d);
     }
-    None
+    first
+}
+
+/// The first breach of the decoders up to this one, from that of the decoders before and the least rule that it breaks
+/// itself: the least rule goes first.
+fn earlier(first: Option<BlockBreach>, decoder: u8, rule: Option<u8>) -> Option<BlockBreach>
+    ensures { (block : Registers) (ram pmem : ℕ) → IsFoundBelow block ram pmem decoder first
+        → IsLeastAt block ram pmem decoder rule → IsFoundBelow block ram pmem (decoder + 1) result }
+{
+    let Some(rule) = rule else {
+        return first;
+    };
+    if let Some(breach) = first {
+        if breach.rule <= rule {
+            return first;
+        }
+    }
+    Some(BlockBreach { rule, decoder })
 }

@@ -1,34 +1,46 @@
 ghost use Rattle.std.specs.Prelude.{◌≡◌, ◌^◌, ◌<◌};
 ghost use Rattle.cxl_span.specs.Partitions.{lies_in};
-ghost use Rattle.cxl_span.specs.Rules.{breaks_commit_order, breaks_flags, breaks_codes, breaks_select, breaks_size, breaks_base_order, breaks_capacity, breaks_rule};
+ghost use Rattle.cxl_span.specs.Rules.{breaks_commit_order, breaks_flags, breaks_codes, breaks_select, breaks_size, breaks_base_order, breaks_capacity};
+ghost use Rattle.cxl_span.specs.inner.Least.{least_rule};
 
 use cxl_enc::{ADDRESS_LIMIT, MemKind, UNIT};
 use cxl_regs::{Block, Decoder, breaks_order, breaks_rise, codes_ok, select_ok};
 
-/// Whether a decoder with this one before it, and with a span that starts there, breaks the rule of this
-/// number.
-pub(crate) fn breaks_rule(
-    rule: u8,
+/// The least rule, from 2 to 8 for K2 to K8, that a decoder breaks with this one before it and with a span that starts
+/// there.
+pub(crate) fn least_rule(
     block: &Block,
     ram: u64,
     pmem: u64,
     below: Option<Decoder>,
     start: u128,
     d: &Decoder,
-) -> bool
+) -> Option<u8>
     requires { start < 2 ^ 100 }
-    ensures { result ≡ breaks_rule rule block.now ram pmem below start d.now }
+    ensures { result ≡ least_rule block.now ram pmem below start d.now }
 {
-    match rule {
-        2 => breaks_commit_order(block, below, d),
-        3 => breaks_flags(d),
-        4 => breaks_codes(block, d),
-        5 => breaks_select(block, d),
-        6 => breaks_size(block, d),
-        7 => breaks_base_order(below, d),
-        8 => breaks_capacity(block, ram, pmem, start, d),
-        _ => false,
+    if breaks_commit_order(block, below, d) {
+        return Some(2);
     }
+    if breaks_flags(d) {
+        return Some(3);
+    }
+    if breaks_codes(block, d) {
+        return Some(4);
+    }
+    if breaks_select(block, d) {
+        return Some(5);
+    }
+    if breaks_size(block, d) {
+        return Some(6);
+    }
+    if breaks_base_order(below, d) {
+        return Some(7);
+    }
+    if breaks_capacity(block, ram, pmem, start, d) {
+        return Some(8);
+    }
+    None
 }
 
 fn breaks_commit_order(block: &Block, below: Option<Decoder>, d: &Decoder) -> bool

@@ -16,9 +16,7 @@ pub fn enter_first<K: Ord + Copy>(
 ) -> Result<(), AllocError>
     ensures { OnOk result (Enters K.cmp table.old table.new key i) }
 {
-    if table.get(&key).is_none() {
-        table.insert(key, i)?;
-    }
+    table.entry(key)?.or_insert(i);
     Ok(())
 }
 

@@ -1,9 +1,9 @@
 -- The windows of a table, one window more, and one of them from what the code holds.
-use Rattle.std.proofs.Common.{◌≡◌, ℕ, suc, ◌+◌, ◌≤◌, Bool, cond, List, [], ◌∷◌, ◌++◌, length, take, drop, Option, Some, refl, sym, ap, ◌∙◌, append_assoc, arith}
+use Rattle.std.proofs.Common.{◌≡◌, ℕ, suc, ◌+◌, ◌≤◌, Bool, cond, List, [], ◌∷◌, ◌++◌, length, get_or, map, take, drop, ◌<◌, Option, Some, refl, sym, ap, ◌∙◌, append_assoc, arith}
 use Rattle.std.specs.Prelude.{position, find, ◌==◌, All}
 use Rattle.std.specs.List.{filter_map, position_from}
-use Rattle.std.proofs.lemmas.List.{append-nil, length-append, take-append-drop, take_all}
-use Rattle.std.proofs.lemmas.List.Elements.{filter_map-append}
+use Rattle.std.specs.Borrow.{Bor}
+use Rattle.std.proofs.lemmas.List.{append-nil, length-append, length-map, take-append-drop, take_all, take-map, map_more}
 use Rattle.std.proofs.lemmas.List.Sums.{sum_by-cons}
 use Rattle.std.proofs.lemmas.Iterator.Adapters.{position_from-zero}
 use Rattle.cxl_cedt.specs.Fields.{CfmwsFields, CximsFields}
@@ -11,7 +11,7 @@ use Rattle.cxl_cedt.specs.Records.{kind_of, count_of}
 use Rattle.cxl_cedt.specs.declared.cedt.Record.{Record}
 use Rattle.cxl_cedt.specs.declared.cedt.Record.TheVariants.{Chbs, Cfmws, Cxims, Other}
 use Rattle.cxl_window.specs.Fields.{WindowFields, IsWindow}
-use Rattle.cxl_window.specs.Judging.{is_no_bridge}
+use Rattle.cxl_window.specs.Judging.{is_no_bridge, windows_behind}
 use Rattle.cxl_window.specs.Windows.{cfmws_in, cxims_in, first_maps, maps_in, maps_of, overlaps, first_verdict, ranges_meet, is_missing, window_with, window_of, windows_from, windows_of}
 
 -- tests that agree find the same
@@ -77,9 +77,9 @@ module _ (records : List Record) (uids : Option (List ℕ)) where
       ∙ ap (λ m. made (length cs) (position (overlaps c) cs) m (first_maps c.gran tables)) missing
       ∙ ap (λ ms. made (length cs) (position (overlaps c) cs) (find (is_missing records uids) c.targets) ms) maps
 
--- the windows of the first i records, each of which is one
-pub record IsSoFar (records : List Record) (uids : Option (List ℕ)) (i : ℕ) (ws : List WindowFields) : Type 0 where
-  pub are : ws ≡ windows_from records uids [] (filter_map cfmws_in (take i records))
+-- the windows of the first i of these records, each of which is one
+pub record IsSoFar (records : List Record) (uids : Option (List ℕ)) (cs : List CfmwsFields) (i : ℕ) (ws : List WindowFields) : Type 0 where
+  pub are : ws ≡ windows_from records uids [] (take i cs)
   pub windows : All IsWindow ws
 
 -- windows are counted among the records
@@ -91,18 +91,26 @@ length-cfmws_in (Cxims c ∷ records) = omega (arith, sum_by-cons (λ (r : Recor
 length-cfmws_in (Other c ∷ records) = omega (arith, sum_by-cons (λ (r : Record). cond (kind_of r == 1) 1 0) (Other c) records, length-cfmws_in records)
 
 -- no more windows than records of their type stand in front
-pub few_in_front : (records : List Record) (i : ℕ) → count_of 1 records ≤ 64 → length (filter_map cfmws_in (take i records)) ≤ 64
-few_in_front records i few =
-    let front = filter_map cfmws_in (take i records) in
-    let all : filter_map cfmws_in records ≡ front ++ filter_map cfmws_in (drop i records) =
-    ap (filter_map cfmws_in) (sym (take-append-drop i records)) ∙ filter_map-append cfmws_in (take i records) (drop i records) in
-    omega (arith, length-cfmws_in records, ap length all, length-append front (filter_map cfmws_in (drop i records)))
+pub few_taken : (records : List Record) (cs : List CfmwsFields) (i : ℕ) → cs ≡ filter_map cfmws_in records → count_of 1 records ≤ 64 → length (take i cs) ≤ 64
+few_taken records cs i are few =
+    omega (arith, length-cfmws_in records, ap length are, ap length (take-append-drop i cs), length-append (take i cs) (drop i cs))
 
--- at the end of the records stand all windows of the table
-pub windows_at_end : (records table : List Record) (uids : Option (List ℕ)) (i : ℕ) (ws : List WindowFields) → records ≡ table → length records ≤ i
-    → ws ≡ windows_from records uids [] (filter_map cfmws_in (take i records)) → ws ≡ windows_of table uids
-windows_at_end records table uids i ws same end ws-are =
-    ws-are ∙ ap (λ (rs : List Record). windows_from records uids [] (filter_map cfmws_in rs)) (take_all i records end) ∙ ap (λ (rs : List Record). windows_of rs uids) same
+-- one record more of those that the references point to
+pub behind_more : (items : List (Bor CfmwsFields)) (i : ℕ) (item : Bor CfmwsFields) → i < length items → item ≡ get_or items i item
+    → take (i + 1) (windows_behind items) ≡ take i (windows_behind items) ++ item.now ∷ []
+behind_more items i item there item-is =
+    let now : Bor CfmwsFields → CfmwsFields = λ b. b.now in
+    take-map now (i + 1) items ∙ map_more now items i item there
+    ∙ ap (λ (b : Bor CfmwsFields). map now (take i items) ++ b.now ∷ []) (sym item-is)
+    ∙ ap (λ (cs : List CfmwsFields). cs ++ item.now ∷ []) (sym (take-map now i items))
+
+-- at the end of the windows' records stand all windows of the table
+pub windows_at_end : (records : List Record) (uids : Option (List ℕ)) (items : List (Bor CfmwsFields)) (i : ℕ) (ws : List WindowFields)
+    → windows_behind items ≡ filter_map cfmws_in records → length items ≤ i
+    → ws ≡ windows_from records uids [] (take i (windows_behind items)) → ws ≡ windows_of records uids
+windows_at_end records uids items i ws are end ws-are =
+    let all : length (windows_behind items) ≤ i = rw length-map end in
+    ws-are ∙ ap (windows_from records uids []) (take_all i (windows_behind items) all ∙ are)
 
 pub length-windows_of : (records : List Record) (uids : Option (List ℕ)) → length (windows_of records uids) ≡ length (filter_map cfmws_in records)
 length-windows_of records uids = length-windows_from records uids [] (filter_map cfmws_in records)

@@ -7,7 +7,7 @@ use Rattle.cxl_cedt.specs.declared.cedt.Record.{Record}
 use Rattle.cxl_window.specs.declared.judge.Judge.{Judge}
 use Rattle.cxl_window.specs.declared.window.Verdict.{Verdict}
 use Rattle.cxl_window.specs.Fields.{WindowFields}
-use Rattle.cxl_window.specs.Windows.{cxims_in, is_missing, first_maps, maps_of, first_verdict, ranges_meet, window_with}
+use Rattle.cxl_window.specs.Windows.{cfmws_in, cxims_in, is_missing, first_maps, maps_of, first_verdict, ranges_meet, window_with}
 
 -- none of the bridges has the UID
 abbrev pub is_no_bridge : List ℕ → ℕ → Bool
@@ -17,10 +17,15 @@ is_no_bridge bridges uid = not (list_any (λ b. b == uid) bridges)
 abbrev pub tables_behind : List (Bor CximsFields) → List CximsFields
 tables_behind tables = map (λ c. c.now) tables
 
--- the judge has the bridges that can be targets, and the tables of maps in their order
+-- the windows' records that the references point to
+abbrev pub windows_behind : List (Bor CfmwsFields) → List CfmwsFields
+windows_behind windows = map (λ c. c.now) windows
+
+-- the judge has the bridges that can be targets, and the tables of maps and the windows' records in their order
 pub record IsJudgeOf (judge : Judge) (records : List Record) (uids : Option (List ℕ)) : Type 0 where
   pub bridges : (uid : ℕ) → is_no_bridge judge.bridges.items uid ≡ is_missing records uids uid
   pub tables : tables_behind judge.tables.items ≡ filter_map cxims_in records
+  pub windows : windows_behind judge.windows.items ≡ filter_map cfmws_in records
 
 -- the maps of a granularity code
 abbrev pub maps_known : Judge → ℕ → Option (List ℕ)

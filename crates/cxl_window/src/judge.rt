@@ -1,9 +1,8 @@
 ghost use Rattle.std.specs.Prelude.{◌≡◌, ◌≤◌, ◌==◌, ◌&&◌, ℕ, length, IfOk, find, unwrap_or, [], false};
 ghost use Rattle.std.specs.Option.{option_copied, option_map_or};
-ghost use Rattle.std.specs.List.{filter_map};
 ghost use Rattle.cxl_window.specs.Fields.{IsWindow};
-ghost use Rattle.cxl_window.specs.Judging.{is_no_bridge, tables_behind};
-ghost use Rattle.cxl_window.specs.Windows.{is_cxl2_bridge, is_missing, topology_has, cxims_in, lacks_maps, maps_of};
+ghost use Rattle.cxl_window.specs.Judging.{is_no_bridge};
+ghost use Rattle.cxl_window.specs.Windows.{is_cxl2_bridge, topology_has, lacks_maps, maps_of};
 
 use crate::cfmws::{
     cfmws_ways, first_overlapped, first_repeat, is_aligned, is_too_high, is_uneven,
@@ -15,19 +14,22 @@ use cxl_enc::{Memory, split};
 use cxl_num::are_usable_maps;
 use std::alloc::Global;
 
-/// What windows are judged against.
+/// The records of windows, and what they are judged against.
 #[derive(Drop)]
 pub(crate) struct Judge<'a> {
     /// The UIDs of the bridges that can be targets.
     bridges: Vec<u32>,
     /// The tables of XOR maps, in table order.
     tables: Vec<&'a Cxims>,
+    /// The records of windows, in table order.
+    pub(crate) windows: Vec<&'a Cfmws>,
 }
 
 impl<'a> Judge<'a> {
     ghost use Rattle.cxl_window.specs.Judging.{IsJudgeOf, maps_known, verdict_by, window_by};
 
-    /// The bridges and the XOR maps of a table. `uids` are the bridges of the topology, where there is one.
+    /// The bridges, the XOR maps and the windows of a table, from one walk over its records, of which most may be of other
+    /// types. `uids` are the bridges of the topology, where there is one.
     pub(crate) fn new(
         alloc: Global,
         records: &'a [Record],
@@ -35,9 +37,29 @@ impl<'a> Judge<'a> {
     ) -> Result<Judge<'a>, Memory>
         ensures { IfOk result (λ judge. IsJudgeOf judge records.now (option_copied uids.entry)) }
     {
-        let bridges = bridges_of(alloc, records, uids)?;
-        let tables = map_tables_of(alloc, records)?;
-        Ok(Judge { bridges, tables })
+        let mut bridges = Vec::new(alloc);
+        let mut tables = Vec::new(alloc);
+        let mut windows = Vec::new(alloc);
+        for record in records {
+            // Most of them, in a large table.
+            if matches!(record, Record::Other(_)) {
+                continue;
+            }
+            if let Some(uid) = bridge_in(record, uids) {
+                bridges.push(uid)?;
+            }
+            if let Record::Cxims(cxims) = record {
+                tables.push(cxims)?;
+            }
+            if let Record::Cfmws(cfmws) = record {
+                windows.push(cfmws)?;
+            }
+        }
+        Ok(Judge {
+            bridges,
+            tables,
+            windows,
+        })
     }
 
     /// The window of a record behind those before it in the table.
@@ -127,20 +149,6 @@ impl<'a> Judge<'a> {
     }
 }
 
-/// The UIDs of the CXL 2.0 bridges of a table, those of the topology where there is one.
-fn bridges_of(alloc: Global, records: &[Record], uids: Option<&[u32]>) -> Result<Vec<u32>, Memory>
-    ensures { IfOk result (λ bridges. (uid : ℕ)
-        → is_no_bridge bridges.items uid ≡ is_missing records.now (option_copied uids.entry) uid) }
-{
-    let mut bridges = Vec::new(alloc);
-    for record in records {
-        if let Some(uid) = bridge_in(record, uids) {
-            bridges.push(uid)?;
-        }
-    }
-    Ok(bridges)
-}
-
 /// The UID of a record that is a CXL 2.0 bridge, one of the topology's where there is one.
 fn bridge_in(item: &Record, uids: Option<&[u32]>) -> Option<u32>
     ensures { (uid : ℕ) → option_map_or (λ own. own == uid) result false
@@ -160,17 +168,4 @@ fn topology_has(uids: Option<&[u32]>, uid: u32) -> bool
     ensures { result ≡ topology_has (option_copied uids.entry) uid }
 {
     uids.is_none_or(|uids| uids.contains(&uid))
-}
-
-/// The tables of XOR maps, in table order.
-fn map_tables_of(alloc: Global, records: &[Record]) -> Result<Vec<&Cxims>, Memory>
-    ensures { IfOk result (λ tables. tables_behind tables.items ≡ filter_map cxims_in records.now) }
-{
-    let mut tables = Vec::new(alloc);
-    for record in records {
-        if let Record::Cxims(cxims) = record {
-            tables.push(cxims)?;
-        }
-    }
-    Ok(tables)
 }

@@ -5,7 +5,7 @@ ghost use Rattle.cxl_window.specs.Windows.{cfmws_in, windows_of, AreMadeWith};
 
 use crate::judge::Judge;
 use crate::window::Window;
-use cxl_cedt::{Cedt, Record};
+use cxl_cedt::Cedt;
 use cxl_enc::Memory;
 use std::alloc::Global;
 
@@ -19,14 +19,11 @@ pub fn windows(alloc: Global, cedt: &Cedt, uids: Option<&[u32]>) -> Result<Vec<W
     ensures made { IfOk result (λ ws. (bridges : List ℕ)
         → option_copied uids.entry ≡ Some bridges → AreMadeWith ws.items bridges) }
 {
-    let records = cedt.records();
-    let judge = Judge::new(alloc, records, uids)?;
+    let judge = Judge::new(alloc, cedt.records(), uids)?;
     let mut windows = Vec::new(alloc);
-    for record in records {
-        if let Record::Cfmws(cfmws) = record {
-            let window = judge.window(alloc, &windows, cfmws)?;
-            windows.push(window)?;
-        }
+    for cfmws in &judge.windows {
+        let window = judge.window(alloc, &windows, cfmws)?;
+        windows.push(window)?;
     }
     Ok(windows)
 }

@@ -1,4 +1,4 @@
-use Rattle.std.proofs.Common.{sym, ap, ◌∙◌, arith}
+use Rattle.std.proofs.Common.{sym, ap, arith}
 use Rattle.std.proofs.lemmas.List.{take_rest}
 use Rattle.cxl_cedt.specs.inner.Decoding.{record_of}
 use Rattle.cxl_cedt.proofs.Fronts.{has_record}
@@ -18,15 +18,15 @@ split_at-requires c =
     let has = has_record c.loop-rest.found c.loop-rest.rest.now c.loop-rest.at (sym c.in_default.ensures) in
     omega (arith, c.length_said.ensures, has.within)
 
-pub record_of-requires-clause-sound : goal.record_of-requires-clause-sound
-record_of-requires-clause-sound c =
+pub add_record-requires-clause-sound : goal.add_record-requires-clause-sound
+add_record-requires-clause-sound c =
     let has = has_record c.loop-rest.found c.loop-rest.rest.now c.loop-rest.at (sym c.in_default.ensures) in
     rw (c.split_at.ensures.front, c.length_said.ensures) has.sound
 
-pub push-requires : goal.push-requires
-push-requires c =
+pub add_record-requires-clause-room : goal.add_record-requires-clause-room
+add_record-requires-clause-room c =
     let has = has_record c.loop-rest.found c.loop-rest.rest.now c.loop-rest.at (sym c.in_default.ensures) in
-    rw (c.in_ok-record_of.ensures, c.split_at.ensures.front, c.length_said.ensures) has.room
+    rw (c.split_at.ensures.front, c.length_said.ensures) has.room
 
 pub overflow_add-at : goal.overflow_add-at
 overflow_add-at c =
@@ -42,5 +42,5 @@ loop-rest-smaller c =
 pub loop-rest-preserved : goal.loop-rest-preserved
 loop-rest-preserved c =
     let has = has_record c.loop-rest.found c.loop-rest.rest.now c.loop-rest.at (sym c.in_default.ensures) in
-    let more = read_more c.args.bytes.now c.loop-rest.found c.loop-rest.rest.now c.loop-rest.at c.length_said.result c.in_ok-record_of.field-0 c.loop-rest.invariant has c.length_said.ensures (c.in_ok-record_of.ensures ∙ ap record_of c.split_at.ensures.front) in
-    rw (c.in_ok-push.ensures, c.split_at.ensures.back, c.split_at.ensures.front_len) more
+    let more = read_more c.args.bytes.now c.loop-rest.found c.loop-rest.rest.now c.loop-rest.at c.length_said.result (record_of c.split_at.result.0.now) c.loop-rest.invariant has c.length_said.ensures (ap record_of c.split_at.ensures.front) in
+    rw (c.in_ok-add_record.ensures, c.split_at.ensures.back, c.split_at.ensures.front_len) more
