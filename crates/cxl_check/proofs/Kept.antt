@@ -140,3 +140,10 @@ module _ (s : System) (ready : IsOrderlySystem s) where
       let inside = ends block (ram_at s n) (pmem_at s n) i d (kept_block n block here) (endpoint_at n block endpoint here) there committed in
       let few = capacity_few n in
       omega arith
+
+  -- the span of a committed decoder of an endpoint without pmem lies in ram
+  pub ram_only : SpansEnd → (n i : ℕ) (block : Registers) (d : Decoder) → is_endpoint_at s.nodes n ≡ true → slice_get s.blocks n ≡ Some block → slice_get block.decoders i ≡ Some d → d.committed ≡ true
+      → pmem_at s n ≡ 0 → Ram ≡ span_kind s n i
+  ram_only ends n i block d endpoint here there committed none =
+      let inside = ends block (ram_at s n) (pmem_at s n) i d (kept_block n block here) (endpoint_at n block endpoint here) there committed in
+      ram_span s n i (span_start_of block.decoders i) block d (ram_at s n) here there (rw here refl) refl (omega (arith, inside, none))

@@ -134,3 +134,17 @@ module _ (s : System) (w : WindowFields) (r : Range) (slot : ℕ) where
               let d = some_and (decoder_for s r n) _ (child_slot n child (rw own at next)) in
               below_parent s.nodes tree child _ ((laws.children n _ child).0 d.2)
         ]
+
+    -- so the node is its parent's
+    pub next_parent : AreTreeLaws s.nodes → (n child : ℕ) → next_of s w r slot n ≡ Some child → (parent : Parent) × (parent_of s.nodes child ≡ Some parent) × (parent.node ≡ n)
+    next_parent laws n child next =
+        elim (cases_Bool (forwards_at s.nodes n)) [
+          | inl forwards ↦ from (parent_of s.nodes child) refl ((laws.only_children n child forwards).0 (rw forwards at next))
+          | inr own ↦
+              let d = some_and (decoder_for s r n) _ (child_slot n child (rw own at next)) in
+              (_, (laws.children n _ child).0 d.2, refl)
+        ]
+      where
+        from : (o : Option Parent) → parent_of s.nodes child ≡ o → option_map (λ (parent : Parent). parent.node) o ≡ Some n → (parent : Parent) × (parent_of s.nodes child ≡ Some parent) × (parent.node ≡ n)
+        from None e h = absurd (none-some n h)
+        from (Some parent) e h = (parent, e, same_Some parent.node n h)

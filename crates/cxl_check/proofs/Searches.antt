@@ -23,6 +23,25 @@ module _ {X : Type 0} (p : X → Bool) where
       (λ within. ap p (get_or_from_slice_get xs i x x here) ∙ passes))
       lt
 
+  -- a search stops at the place of the first item that passes, and past the end where none does
+  pub find_here : (xs : List X) (i : ℕ) (x : X) → slice_get xs i ≡ Some x → p x ≡ true → ((k : ℕ) (y : X) → k < i → slice_get xs k ≡ Some y → p y ≡ false) → slice_get xs i ≡ find p xs
+  find_here xs i x here passes before =
+      let lt = slice_get_within xs i x here in
+      sym
+      (find_at p xs
+      ∙ ap (slice_get xs)
+      (position_or_len_is p xs i x (omega arith)
+      (λ k below. before k (get_or xs k x) below (slice_get-get_or xs k x (omega arith)))
+      (λ within. ap p (get_or_from_slice_get xs i x x here) ∙ passes)))
+
+  pub find_nowhere : (xs : List X) → ((k : ℕ) (y : X) → slice_get xs k ≡ Some y → p y ≡ false) → slice_get xs (length xs) ≡ find p xs
+  find_nowhere [] none = refl
+  find_nowhere (x ∷ xs) none =
+      sym
+      (find_at p (x ∷ xs)
+      ∙ ap (slice_get (x ∷ xs))
+      (position_or_len_is p (x ∷ xs) (length (x ∷ xs)) x (omega arith) (λ k below. none k (get_or (x ∷ xs) k x) (slice_get-get_or (x ∷ xs) k x below)) (λ past. absurd (omega arith))))
+
   pub position_none : (xs : List X) → ((k : ℕ) (y : X) → slice_get xs k ≡ Some y → p y ≡ false) → position p xs ≡ None
   position_none [] none = refl
   position_none (x ∷ xs) none =

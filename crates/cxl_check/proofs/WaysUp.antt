@@ -1,5 +1,5 @@
 -- How many ways and bits the ports above a node can have.
-use Rattle.std.proofs.Common.{◌≡◌, ℕ, zero, suc, ◌+◌, ◌*◌, ◌<◌, ◌≤◌, Bool, true, false, List, [], ◌∷◌, length, map, Option, Some, None, refl, ap, ◌∙◌, inl, inr, arith}
+use Rattle.std.proofs.Common.{◌≡◌, ℕ, zero, suc, ◌+◌, ◌*◌, ◌<◌, ◌≤◌, Bool, true, false, List, [], ◌∷◌, length, map, Option, Some, None, refl, sym, ap, ◌∙◌, subst, inl, inr, arith}
 use Rattle.std.specs.Prelude.{slice_get, sum_by, nat_lt, nat_le}
 use Rattle.std.specs.Option.{option_map_or, unwrap_or}
 use Rattle.std.specs.List.{filter_map}
@@ -87,6 +87,9 @@ module _ (s : System) (r : Range) where
   pub ways_few : (n : ℕ) → length (ports_above s.nodes n) ≤ 4 → ways_above s r n ≤ 65536
   ways_few n few = product_few (λ (parent : Parent). decoder_for s r parent.node) (ports_above s.nodes n) 4 few
 
+  pub ways_few_up : (n : ℕ) → length (ports_above s.nodes n) ≤ 5 → ways_above s r n ≤ 1048576
+  ways_few_up n few = product_few (λ (parent : Parent). decoder_for s r parent.node) (ports_above s.nodes n) 5 few
+
   pub bits_few : (n : ℕ) → length (ports_above s.nodes n) ≤ 4 → bits_above s r n ≤ 16
   bits_few n few = sum_few (λ (parent : Parent). decoder_for s r parent.node) (ports_above s.nodes n) 4 few
 
@@ -144,6 +147,25 @@ module _ (s : System) (r : Range) (n : ℕ) where
 
     pub same_bits : decoder_for s r parent.node ≡ None → bits_above s r n ≡ bits_above s r parent.node
     same_bits lacks = rw ports (rw lacks refl)
+
+-- the ways above a child, from those above the port and the port's own
+pub ways_below : (s : System) (r : Range) (n c : ℕ) (parent : Parent) → PortsAbove s.nodes c → parent_of s.nodes c ≡ Some parent → parent.node ≡ n
+    → option_map_or decoder_ways (decoder_for s r n) 1 * ways_above s r n ≡ ways_above s r c
+ways_below s r n c parent ports up is =
+    subst (λ (k : ℕ). option_map_or decoder_ways (decoder_for s r k) 1 * ways_above s r k ≡ ways_above s r c) is (go (decoder_for s r parent.node) refl)
+  where
+    all : ports_above s.nodes c ≡ parent ∷ ports_above s.nodes parent.node
+    all = ports ∙ ap (λ (o : Option Parent). option_map_or (λ (p : Parent). p ∷ ports_above s.nodes p.node) o []) up
+
+    own : (o : Option Decoder) → decoder_for s r parent.node ≡ o → option_map_or decoder_ways (decoder_for s r parent.node) 1 * ways_above s r parent.node ≡ option_map_or decoder_ways o 1 * ways_above s r parent.node
+    own o e = ap (λ (p : Option Decoder). option_map_or decoder_ways p 1 * ways_above s r parent.node) e
+
+    once : (k : ℕ) → 1 * k ≡ k
+    once k = omega arith
+
+    go : (o : Option Decoder) → decoder_for s r parent.node ≡ o → option_map_or decoder_ways (decoder_for s r parent.node) 1 * ways_above s r parent.node ≡ ways_above s r c
+    go None lacks = own None lacks ∙ once (ways_above s r parent.node) ∙ sym (same_ways s r c parent all lacks)
+    go (Some d) has = own (Some d) has ∙ sym (more_ways s r c parent all d has)
 
 -- a range has at most 16 ways, and at least one
 pub range_ways_few : (s : System) (r : Range) → range_ways s r ≤ 16

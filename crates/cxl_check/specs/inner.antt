@@ -4,4 +4,5 @@ pub mod Blocks
 pub mod Landings
 pub mod Firsts
 pub mod Facts
+pub mod Known
 pub mod Slots

@@ -1,4 +1,4 @@
-ghost use Rattle.std.specs.Prelude.{◌≡◌, length, IsErr, OnOk, IfOk, IfErr, IfSome, IfNone};
+ghost use Rattle.std.specs.Prelude.{◌≡◌, length, All, IsErr, OnOk, IfOk, IfErr, IfSome, IfNone};
 ghost use Rattle.cxl_window.specs.Windows.{AreMadeWith};
 ghost use Rattle.cxl_model.specs.Hosts.{as_system};
 ghost use Rattle.cxl_model.specs.System.{system_of, bridge_uids};
@@ -6,11 +6,13 @@ ghost use Rattle.cxl_model.specs.Accepted.{IsAccepted, IsFirstBreach, HasFirstBr
 ghost use Rattle.cxl_model.specs.Listed.{AreRegionsByBase};
 ghost use Rattle.cxl_check.specs.Spots.{TellsFirstBreach};
 ghost use Rattle.cxl_check.specs.inner.Facts.{AreSystemTables};
+ghost use Rattle.cxl_check.specs.inner.Known.{IsKnown};
 
 use crate::blocks::blocks_breach;
 use crate::caps::caps_breach;
 use crate::fault::{Breach, CheckFault};
 use crate::firsts::first_endpoints;
+use crate::known::{Known, none_met};
 use crate::landings::landings;
 use crate::regions::regions;
 use crate::spots::first_spot;
@@ -53,7 +55,8 @@ pub fn check(
         landings: landings(alloc, topo)?,
         firsts: first_endpoints(alloc, &host)?,
     };
-    if let Some(breach) = late_breach(&host, &tables) {
+    let mut met = none_met(alloc, &host, &tables.firsts)?;
+    if let Some(breach) = late_breach(&mut met, &host, &tables) {
         return Err(CheckFault::Breach(breach));
     }
     Ok(regions(alloc, &host, &tables.firsts)?)
@@ -80,7 +83,8 @@ fn early_breach(host: &Host) -> Option<Breach>
 }
 
 /// The first breach of K9 to K12, which speak of ranges.
-fn late_breach(host: &Host, tables: &Tables) -> Option<Breach>
+fn late_breach(met: &mut Vec<Known>, host: &Host, tables: &Tables) -> Option<Breach>
+    requires met { All (IsKnown (as_system host.now)) met.old.items }
     requires ready { IsOrderlySystem (as_system host.now) }
     requires tables { AreSystemTables (as_system host.now) tables.now }
     ensures none { IfNone result (IsAccepted (as_system host.now)) }
@@ -88,7 +92,7 @@ fn late_breach(host: &Host, tables: &Tables) -> Option<Breach>
         (λ b. IsFirstBreach (as_system host.now) b.rule b.node b.decoder) }
 {
     for rule in 9..13 {
-        if let Some(spot) = first_spot(host, tables, rule) {
+        if let Some(spot) = first_spot(met, host, tables, rule) {
             return Some(Breach {
                 rule,
                 node: spot.node,

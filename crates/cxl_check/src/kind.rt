@@ -22,8 +22,11 @@ pub(crate) fn span_kind(host: &Host, node: u32, i: u8) -> MemKind
 {
     spans_lie_in_partitions();
     let block = host.image.block(node);
-    let start = span_start(host, node, i);
     let capacity = capacity_at(host.topo, node);
+    if capacity.pmem == 0 {
+        return MemKind::Ram;
+    }
+    let start = span_start(host, node, i);
     if start + block.decoder(i).span_length() <= capacity.ram {
         MemKind::Ram
     } else {

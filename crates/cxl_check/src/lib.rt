@@ -10,6 +10,7 @@ mod facts;
 mod fault;
 mod firsts;
 mod kind;
+mod known;
 mod landings;
 mod reach;
 mod regions;

@@ -2,12 +2,13 @@
 
 ghost use Rattle.std.specs.Prelude.{◌≡◌, ◌<◌, ◌==◌, ◌&&◌, [], length};
 ghost use Rattle.std.specs.List.{list_any};
-ghost use Rattle.cxl_regs.specs.Reading.{has_range, entries_of};
+ghost use Rattle.cxl_regs.specs.Reading.{has_range, entries_of, range_of};
 ghost use Rattle.cxl_model.specs.Hosts.{as_system};
 ghost use Rattle.cxl_model.specs.Rules.{lists, uid_above, is_targeted, keeps_reach};
+ghost use Rattle.cxl_check.specs.inner.Known.{IsKnownAs};
 ghost use Rattle.cxl_check.specs.inner.Ready.{blocks_alone};
 
-use crate::window::window_for;
+use crate::known::{Known, window_of};
 use cxl_image::Image;
 use cxl_model::Host;
 use cxl_regs::{Decoder, Range};
@@ -15,7 +16,8 @@ use cxl_topo::{NodeKind, Parent, Topo};
 
 /// K11 of a committed decoder: its node does not forward, and its decoding parent lists it for the range, or, where it has
 /// none, the range's window targets its bridge.
-pub(crate) fn keeps_reach(host: &Host, node: u32, d: &Decoder) -> bool
+pub(crate) fn keeps_reach(host: &Host, known: &Known, node: u32, d: &Decoder) -> bool
+    requires known { IsKnownAs (as_system host.now) (range_of d.now) known.now }
     requires here { node < length host.now.topo.now.nodes }
     ensures { result ≡ keeps_reach (as_system host.now) node d.now }
 {
@@ -25,7 +27,7 @@ pub(crate) fn keeps_reach(host: &Host, node: u32, d: &Decoder) -> bool
     let range = d.range();
     match host.topo.decoding_port(node) {
         Some(parent) => lists(host.image, &range, parent),
-        None => is_targeted(host, &range, node),
+        None => is_targeted(host, known, &range, node),
     }
 }
 
@@ -65,11 +67,12 @@ fn lists_port(d: &Decoder, port: u8) -> bool
 }
 
 /// Whether the range's window targets the bridge on the path of a node.
-fn is_targeted(host: &Host, range: &Range, node: u32) -> bool
+fn is_targeted(host: &Host, known: &Known, range: &Range, node: u32) -> bool
+    requires known { IsKnownAs (as_system host.now) range.now known.now }
     requires here { node < length host.now.topo.now.nodes }
     ensures { result ≡ is_targeted (as_system host.now) range.now node }
 {
-    match (window_for(host.windows, range), uid_above(host.topo, node)) {
+    match (window_of(host, range, known), uid_above(host.topo, node)) {
         (Some(w), Some(uid)) => w.targets().contains(&uid),
         _ => false,
     }

@@ -1,12 +1,15 @@
 //! The span of each slot of a region.
 
-ghost use Rattle.std.specs.Prelude.{◌≡◌, ◌/◌, ◌%◌, ◌<◌, [], length};
+ghost use Rattle.std.specs.Prelude.{◌≡◌, ◌*◌, ◌/◌, ◌%◌, ◌^◌, ◌<◌, ◌≤◌, [], length};
+ghost use Rattle.std.specs.Option.{option_map_or};
+ghost use Rattle.cxl_enc.specs.Codes.{bits_of};
 ghost use Rattle.cxl_regs.specs.Reading.{decoder_ways};
 ghost use Rattle.cxl_model.specs.declared.found.Place.{Place};
 ghost use Rattle.cxl_model.specs.Hosts.{as_system};
-ghost use Rattle.cxl_model.specs.Regions.{slots_an_entry, LeadsTo, HasSpan};
+ghost use Rattle.cxl_model.specs.Ranges.{decoder_for};
+ghost use Rattle.cxl_model.specs.Regions.{LeadsTo, HasSpan};
 ghost use Rattle.cxl_model.specs.Accepted.{IsOrderlySystem};
-ghost use Rattle.cxl_check.specs.inner.Slots.{child_of_slot, next_of};
+ghost use Rattle.cxl_check.specs.inner.Slots.{AreWaysAbove, child_of_slot, next_of};
 
 use crate::above::ports_above;
 use crate::decoders::{decoder_for, index_for};
@@ -25,12 +28,20 @@ pub(crate) fn span_of(host: &Host, range: &Range, w: &Window, slot: u8) -> Place
 {
     let uid = w.targets()[usize::from(target_position(w, slot))];
     let bridge = host.topo.bridge(uid).unwrap();
-    place_below(host, range, w, slot, bridge)
+    place_below(
+        host,
+        range,
+        w,
+        slot,
+        bridge,
+        ports_above(host, range, bridge).ways,
+    )
 }
 
-/// The place of a device to which a slot leads from a node on.
-fn place_below(host: &Host, range: &Range, w: &Window, slot: u8, node: u32) -> Place
+/// The place of a device to which a slot leads from a node on, above which the ports have so many ways together.
+fn place_below(host: &Host, range: &Range, w: &Window, slot: u8, node: u32, above: u32) -> Place
     requires ready { IsOrderlySystem (as_system host.now) }
+    requires above { AreWaysAbove (as_system host.now) range.now node above }
     requires some { (place : Place) × LeadsTo (as_system host.now) w.now range.now slot node place }
     ensures { LeadsTo (as_system host.now) w.now range.now slot node result }
 {
@@ -44,42 +55,76 @@ fn place_below(host: &Host, range: &Range, w: &Window, slot: u8, node: u32) -> P
             start: span_start(host, node, i),
         };
     }
-    let child = next_of(host, range, w, slot, node).unwrap();
-    place_below(host, range, w, slot, child)
+    let d = decoder_for(host.image, range, node);
+    let child = next_of(host, range, w, slot, node, above, &d).unwrap();
+    place_below(host, range, w, slot, child, ways_with(above, &d))
 }
 
 /// Where a slot goes on from a node that is no endpoint.
-fn next_of(host: &Host, range: &Range, w: &Window, slot: u8, node: u32) -> Option<u32>
-    requires { node < length host.now.topo.now.nodes }
+fn next_of(
+    host: &Host,
+    range: &Range,
+    w: &Window,
+    slot: u8,
+    node: u32,
+    above: u32,
+    d: &Option<Decoder>,
+) -> Option<u32>
+    requires here { node < length host.now.topo.now.nodes }
+    requires above { AreWaysAbove (as_system host.now) range.now node above }
+    requires own { d.now ≡ decoder_for (as_system host.now) range.now node }
     ensures { result ≡ next_of (as_system host.now) w.now range.now slot node }
 {
     if host.topo.forwards(node) {
         host.topo.least_child(node)
     } else {
-        child_of_slot(host, range, w, slot, node)
+        child_of_slot(host, range, w, slot, node, above, d)
     }
 }
 
 /// The child to which a port's decoder of the range leads a slot.
-fn child_of_slot(host: &Host, range: &Range, w: &Window, slot: u8, node: u32) -> Option<u32>
-    requires { node < length host.now.topo.now.nodes }
+fn child_of_slot(
+    host: &Host,
+    range: &Range,
+    w: &Window,
+    slot: u8,
+    node: u32,
+    above: u32,
+    d: &Option<Decoder>,
+) -> Option<u32>
+    requires here { node < length host.now.topo.now.nodes }
+    requires above { AreWaysAbove (as_system host.now) range.now node above }
+    requires own { d.now ≡ decoder_for (as_system host.now) range.now node }
     ensures { result ≡ child_of_slot (as_system host.now) w.now range.now slot node }
 {
-    match decoder_for(host.image, range, node) {
+    match d {
         Some(d) => {
-            let entry = entry_of_slot(host, range, w, slot, node, &d);
+            let entry = entry_of_slot(w, slot, above, d);
             host.topo.child(node, d.entry_at(entry))
         }
         None => None,
     }
 }
 
-/// The entry of its decoder to which a port leads a slot.
-fn entry_of_slot(host: &Host, range: &Range, w: &Window, slot: u8, node: u32, d: &Decoder) -> u8
-    requires { node < length host.now.topo.now.nodes }
-    ensures { result ≡ slot / slots_an_entry (as_system host.now) w.now range.now node % decoder_ways d.now }
+/// The entry of its decoder to which a port leads a slot, by the ways of the ports above it.
+fn entry_of_slot(w: &Window, slot: u8, above: u32, d: &Decoder) -> u8
+    requires some { 0 < above }
+    requires few { above ≤ 2 ^ 20 }
+    ensures { result ≡ slot / (2 ^ bits_of w.now.ways * above) % decoder_ways d.now }
 {
-    let above = ports_above(host, range, node);
-    let shared = root_ways(w) * above.ways;
+    let shared = root_ways(w) * above;
     (u32::from(slot) / shared % u32::from(d.interleave_ways())) as u8
+}
+
+/// The ways above a port's children, by those above it and its decoder.
+fn ways_with(above: u32, d: &Option<Decoder>) -> u32
+    requires some { 0 < above }
+    requires few { above ≤ 2 ^ 20 }
+    ensures ways { result ≡ option_map_or decoder_ways d.now 1 * above }
+    ensures some { 0 < result }
+{
+    match d {
+        Some(d) => u32::from(d.interleave_ways()) * above,
+        None => above,
+    }
 }

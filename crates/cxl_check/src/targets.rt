@@ -8,24 +8,33 @@ ghost use Rattle.cxl_regs.specs.Reading.{decoder_ways, entry_at, entries_of};
 ghost use Rattle.cxl_model.specs.Hosts.{as_system};
 ghost use Rattle.cxl_model.specs.Ranges.{lies_within};
 ghost use Rattle.cxl_model.specs.Rules.{are_distinct, lands_on, leads_on, targets_land, is_bridge_landing, keeps_targets};
+ghost use Rattle.cxl_regs.specs.Reading.{range_of};
 ghost use Rattle.cxl_check.specs.inner.Firsts.{AreLandings};
+ghost use Rattle.cxl_check.specs.inner.Known.{IsKnownAs};
 
 use crate::decoders::serves;
-use crate::window::window_for;
+use crate::known::{Known, window_of};
 use cxl_model::Host;
 use cxl_regs::{Decoder, Range};
 use cxl_window::Window;
 
 /// K10 of a committed decoder: a port's entries differ, and each leads on; and where the node is the landing of a bridge,
 /// each target of the range's window lands on the range.
-pub(crate) fn keeps_targets(host: &Host, landings: &[bool], node: u32, d: &Decoder) -> bool
+pub(crate) fn keeps_targets(
+    host: &Host,
+    known: &Known,
+    landings: &[bool],
+    node: u32,
+    d: &Decoder,
+) -> bool
+    requires known { IsKnownAs (as_system host.now) (range_of d.now) known.now }
     requires here { node < length host.now.topo.now.nodes }
     requires landings { AreLandings host.now.topo.now.nodes landings.now }
     ensures { result ≡ keeps_targets (as_system host.now) node d.now }
 {
     let range = d.range();
     entries_differ_and_lead_on(host, &range, node, d)
-        && targets_land_with(host, landings, &range, node)
+        && targets_land_with(host, known, landings, &range, node)
 }
 
 /// Whether the node is an endpoint, or a port whose entries differ and lead on.
@@ -38,7 +47,14 @@ fn entries_differ_and_lead_on(host: &Host, range: &Range, node: u32, d: &Decoder
 }
 
 /// Whether each target of the range's window lands on it, where the node is the landing of a bridge.
-fn targets_land_with(host: &Host, landings: &[bool], range: &Range, node: u32) -> bool
+fn targets_land_with(
+    host: &Host,
+    known: &Known,
+    landings: &[bool],
+    range: &Range,
+    node: u32,
+) -> bool
+    requires known { IsKnownAs (as_system host.now) range.now known.now }
     requires here { node < length host.now.topo.now.nodes }
     requires landings { AreLandings host.now.topo.now.nodes landings.now }
     ensures { result ≡ (not (is_bridge_landing host.now.topo.now.nodes node)
@@ -47,7 +63,7 @@ fn targets_land_with(host: &Host, landings: &[bool], range: &Range, node: u32) -
     if !landings[node as usize] {
         return true;
     }
-    match window_for(host.windows, range) {
+    match window_of(host, range, known) {
         Some(w) => targets_land(host, range, w),
         None => true,
     }

@@ -10,41 +10,33 @@ ghost use Rattle.cxl_model.specs.Ranges.{ways_above, bits_above, span_kind, same
 ghost use Rattle.cxl_model.specs.Rules.{keeps_endpoint_ways, keeps_port_code, keeps_ways};
 ghost use Rattle.cxl_model.specs.Accepted.{IsOrderlySystem};
 ghost use Rattle.cxl_check.specs.inner.Ready.{IsCommitted};
-ghost use Rattle.cxl_check.specs.inner.Firsts.{ListsFirsts};
 ghost use Rattle.cxl_check.specs.inner.Facts.{AreFacts};
+ghost use Rattle.cxl_check.specs.inner.Known.{IsKnownAs};
 ghost use Rattle.cxl_regs.specs.declared.reading.Range.{Range};
 
 use crate::above::ports_above;
-use crate::facts::{RangeFacts, facts_of};
-use crate::firsts::RangeKey;
+use crate::facts::RangeFacts;
 use crate::kind::span_kind;
-use crate::window::window_for;
+use crate::known::{Known, window_of};
 use cxl_enc::{MemKind, split};
 use cxl_model::Host;
 use cxl_regs::{Decoder, Range};
 use cxl_window::Window;
-use std::collections::BTreeMap;
 
 /// K12 of a committed decoder: an endpoint has the ways that its path gives it, those, the kind and the code of the range;
 /// a port has the code of its level.
-pub(crate) fn keeps_ways(
-    host: &Host,
-    firsts: &BTreeMap<RangeKey, u32>,
-    node: u32,
-    i: u8,
-    d: &Decoder,
-) -> bool
+pub(crate) fn keeps_ways(host: &Host, known: &Known, node: u32, i: u8, d: &Decoder) -> bool
     requires ready { IsOrderlySystem (as_system host.now) }
-    requires firsts { ListsFirsts (as_system host.now) (length host.now.topo.now.nodes) firsts.now }
+    requires known { IsKnownAs (as_system host.now) (range_of d.now) known.now }
     requires here { node < length host.now.topo.now.nodes }
     requires committed { IsCommitted (as_system host.now) node i d.now }
     ensures { result ≡ keeps_ways (as_system host.now) node i d.now }
 {
     let range = d.range();
-    let Some(w) = window_for(host.windows, &range) else {
+    let Some(w) = window_of(host, &range, known) else {
         return true;
     };
-    let facts = facts_of(host, firsts, &range);
+    let facts = known.facts;
     if host.topo.is_endpoint(node) {
         keeps_endpoint_ways(host, &facts, w, node, i, d)
     } else {

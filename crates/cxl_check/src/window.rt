@@ -1,15 +1,18 @@
 //! K9: where a range lies.
 
-ghost use Rattle.std.specs.Prelude.{◌≡◌, ◌<◌, ◌≤◌, true, length, find};
+ghost use Rattle.std.specs.Prelude.{◌≡◌, ◌<◌, ◌≤◌, true, length, find, slice_get};
 ghost use Rattle.std.specs.Option.{option_copied};
 ghost use Rattle.cxl_topo.specs.Tree.{is_endpoint_at};
 ghost use Rattle.cxl_model.specs.Hosts.{as_system};
 ghost use Rattle.cxl_model.specs.Ranges.{lies_within, span_kind};
 ghost use Rattle.cxl_model.specs.Rules.{starts_in_thirds, keeps_window};
 ghost use Rattle.cxl_model.specs.Accepted.{IsOrderlySystem};
+ghost use Rattle.cxl_regs.specs.Reading.{range_of};
+ghost use Rattle.cxl_check.specs.inner.Known.{IsKnownAs};
 ghost use Rattle.cxl_check.specs.inner.Ready.{IsCommitted};
 
 use crate::kind::span_kind;
+use crate::known::{Known, window_of};
 use cxl_enc::UNIT;
 use cxl_model::Host;
 use cxl_regs::{Decoder, Range};
@@ -17,14 +20,15 @@ use cxl_window::{Window, permits};
 
 /// K9 of a committed decoder: its range lies in a usable window, in thirds where it must, and an endpoint's span is of a
 /// kind that the window permits.
-pub(crate) fn keeps_window(host: &Host, node: u32, i: u8, d: &Decoder) -> bool
+pub(crate) fn keeps_window(host: &Host, known: &Known, node: u32, i: u8, d: &Decoder) -> bool
     requires ready { IsOrderlySystem (as_system host.now) }
+    requires known { IsKnownAs (as_system host.now) (range_of d.now) known.now }
     requires here { node < length host.now.topo.now.nodes }
     requires committed { IsCommitted (as_system host.now) node i d.now }
     ensures { result ≡ keeps_window (as_system host.now) node i d.now }
 {
     let range = d.range();
-    let Some(w) = window_for(host.windows, &range) else {
+    let Some(w) = window_of(host, &range, known) else {
         return false;
     };
     starts_in_thirds(w, &range)
@@ -36,6 +40,18 @@ pub(crate) fn window_for<'a>(windows: &'a [Window], range: &Range) -> Option<&'a
     ensures { option_copied result ≡ find (lies_within range.now) windows.now }
 {
     windows.iter().find(|w| lies_within(range, w))
+}
+
+/// The number of that window, or how many windows there are where there is none.
+pub(crate) fn place_for(windows: &[Window], range: &Range) -> usize
+    ensures { slice_get windows.now result ≡ find (lies_within range.now) windows.now }
+{
+    for i in 0..windows.len() {
+        if lies_within(range, &windows[i]) {
+            return i;
+        }
+    }
+    windows.len()
 }
 
 /// Whether a window can be used, and a range lies in it.

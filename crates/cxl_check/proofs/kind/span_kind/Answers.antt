@@ -1,6 +1,8 @@
-use Rattle.std.proofs.Common.{arith}
+use Rattle.std.proofs.Common.{◌≡◌, true, sym, ◌∙◌, arith}
+use Rattle.std.specs.Prelude.{slice_get}
+use Rattle.cxl_regs.specs.declared.decoder.Decoder.{Decoder}
 use Rattle.cxl_model.specs.Hosts.{as_system}
-use Rattle.cxl_check.proofs.Kept.{node_inside, endpoint_inside, decoder_inside, span_few, ram_span, pmem_span}
+use Rattle.cxl_check.proofs.Kept.{node_inside, endpoint_inside, decoder_inside, some_and, span_few, ram_span, pmem_span, ram_only}
 use Rattle.cxl_check.proofs.kind.span_kind.Goals as goal
 
 pub block-block-requires : goal.block-block-requires
@@ -33,3 +35,11 @@ returns-else-start-span_length c =
     pmem_span (as_system c.args.host.now) c.args.node c.args.i c.span_start-start.result c.block-block.result.now c.decoder.result c.capacity_at-capacity.result.ram
     c.block-block.ensures.value c.decoder.ensures.value c.span_start-start.ensures c.capacity_at-capacity.ensures.ram
     (omega (arith, c.span_length.ensures, c.if-start-span_length.false))
+
+pub returns-then-capacity-eq0 : goal.returns-then-capacity-eq0
+returns-then-capacity-eq0 c =
+    let s = as_system c.args.host.now in
+    let block = c.block-block.result.now in
+    let d = some_and (slice_get block.decoders c.args.i) (λ (d : Decoder). d.committed ≡ true) (rw c.block-block.ensures.value at c.requires.committed) in
+    ram_only s c.requires.ready c.spans_lie_in_partitions.ensures.ends c.args.node c.args.i block d.0 c.requires.endpoint c.block-block.ensures.value d.1 d.2
+    (sym c.capacity_at-capacity.ensures.pmem ∙ c.if-capacity-eq0.true)

@@ -1,24 +1,27 @@
-use Rattle.std.proofs.Common.{◌≡◌, ℕ, Some, true, false, refl, sym, subst, ◌∙◌, arith}
+use Rattle.std.proofs.Common.{◌≡◌, ℕ, ◌*◌, Some, true, false, refl, sym, subst, ◌∙◌, arith}
 use Rattle.std.proofs.lemmas.Option.{same_Some}
 use Rattle.cxl_topo.specs.Tree.{is_endpoint_at}
 use Rattle.cxl_span.specs.Spans.{span_start_of}
 use Rattle.cxl_model.specs.Hosts.{as_system}
 use Rattle.cxl_model.specs.System.{decoders_at}
-use Rattle.cxl_model.specs.Ranges.{index_for}
+use Rattle.cxl_model.specs.Ranges.{index_for, ways_above}
 use Rattle.cxl_model.specs.Regions.{LeadsTo, at_endpoint}
 use Rattle.cxl_model.specs.declared.found.Place.{Place}
-use Rattle.cxl_check.specs.inner.Slots.{next_of}
+use Rattle.std.specs.Option.{option_map_or}
+use Rattle.cxl_regs.specs.Reading.{decoder_ways}
+use Rattle.cxl_check.specs.inner.Slots.{AreWaysAbove, next_of}
 use Rattle.cxl_check.proofs.FirstFacts.{is_committed}
 use Rattle.cxl_check.proofs.Kept.{some_and}
-use Rattle.cxl_check.proofs.Leading.{within, ends_there, goes_on, leads_by_next, next_below}
+use Rattle.cxl_check.proofs.Leading.{within, ends_there, goes_on, leads_by_next, next_below, next_parent}
+use Rattle.cxl_check.proofs.WaysUp.{ways_below, ways_few_up}
 use Rattle.cxl_check.proofs.slots.+place_below.Goals as goal
 
 pub is_endpoint-requires : goal.is_endpoint-requires
 is_endpoint-requires t c =
     within (as_system c.args.host.now) c.args.w.now c.args.range.now c.args.slot c.count-count.ensures.tree c.args.node c.requires.some.0 c.requires.some.1
 
-pub next_of-requires : goal.next_of-requires
-next_of-requires t c =
+pub next_of-requires-clause-here : goal.next_of-requires-clause-here
+next_of-requires-clause-here t c =
     within (as_system c.args.host.now) c.args.w.now c.args.range.now c.args.slot c.count-count.ensures.tree c.args.node c.requires.some.0 c.requires.some.1
 
 pub span_start-requires-clause-committed : goal.span_start-requires-clause-committed
@@ -63,7 +66,13 @@ place_below-requires t c =
     let below = next_below s c.args.w.now c.args.range.now c.args.slot tree (c.tree_laws.ensures.laws s.nodes tree) c.args.node c.unwrap-child.result next in
     let later = below.later in
     let inside = below.inside in
-    (omega (arith, c.decreases), (c.requires.ready, (c.requires.some.0, subst (λ (n : ℕ). LeadsTo s c.args.w.now c.args.range.now c.args.slot n c.requires.some.0) same goes.leads)))
+    let parent = next_parent s c.args.w.now c.args.range.now c.args.slot tree (c.tree_laws.ensures.laws s.nodes tree) c.args.node c.unwrap-child.result next in
+    let ways : c.ways_with.result ≡ ways_above s c.args.range.now c.unwrap-child.result =
+    c.ways_with.ensures.ways ∙ (λ i. option_map_or decoder_ways (c.decoder_for-d.ensures i) 1 * c.requires.above.is i)
+    ∙ ways_below s c.args.range.now c.args.node c.unwrap-child.result parent.0 ((c.tree_laws.ensures.laws s.nodes tree).ports c.unwrap-child.result) parent.1 parent.2 in
+    let few = ways_few_up s c.args.range.now c.unwrap-child.result ((c.tree_laws.ensures.laws s.nodes tree).few_ports c.unwrap-child.result) in
+    let above : AreWaysAbove s c.args.range.now c.unwrap-child.result c.ways_with.result = record { is = ways; some = c.ways_with.ensures.some; few = omega (arith, ways, few) } in
+    (omega (arith, c.decreases), (c.requires.ready, (above, (c.requires.some.0, subst (λ (n : ℕ). LeadsTo s c.args.w.now c.args.range.now c.args.slot n c.requires.some.0) same goes.leads))))
 
 pub returns : goal.returns
 returns t c =
