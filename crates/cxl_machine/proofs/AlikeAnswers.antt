@@ -6,7 +6,6 @@ use Rattle.cxl_script.specs.declared.command.Command.TheVariants as commands
 use Rattle.cxl_script.specs.declared.command.Create.{Create}
 use Rattle.cxl_script.specs.declared.command.Poison.{Poison}
 use Rattle.cxl_script.specs.declared.command.Up.{Up}
-use Rattle.cxl_model.specs.declared.request.Request.{Request}
 use Rattle.cxl_reply.specs.declared.reply.Reply.{Reply}
 use Rattle.cxl_machine.specs.Machine.{RegionJob, Machine}
 use Rattle.cxl_machine.specs.Outcomes.{BusOutcome, NoFault, Undone, LeftPending, ReadFailed}
@@ -14,8 +13,7 @@ use Rattle.cxl_machine.specs.Replies.{Answer, stays, Gives}
 use Rattle.cxl_machine.specs.Accesses.{AnswersUp, TellsHost, no_endpoint, told}
 use Rattle.cxl_machine.specs.Reports.{AnswersShow, AnswersPoison, TellsPoison}
 use Rattle.cxl_machine.specs.Reports as reports
-use Rattle.cxl_machine.specs.Requests.{AsksCreate, AsksUnless, AsksUnrefused, AsksPlan, AsksPlanOver, job_of_plan, refusal_of_create, request_for, request_of}
-use Rattle.cxl_machine.specs.Elsewhere.{PickFault}
+use Rattle.cxl_machine.specs.Requests.{AsksCreate, AsksUnless, job_of_plan, refusal_of_create}
 use Rattle.cxl_machine.specs.Regions.{CarriesOutWhole, AnswersWhole, begin_answer, Steps, Aborts, OfPending}
 use Rattle.cxl_machine.specs.Answers.{Answers}
 use Rattle.cxl_machine.specs.Sound.{IsMachine}
@@ -30,24 +28,11 @@ gives outcome answer other given one two = one.told ∙ sym two.told
 -- ---- the job that is asked for
 
 module _ (m : Machine) where
-  one_plan : (request : Request) (asked other : Result RegionJob Reply) → AsksPlan m request asked → AsksPlan m request other → asked ≡ other
-  one_plan request asked other (plan, planned, is) (plan', planned', is') = is ∙ ap (job_of_plan m) (planned ∙ sym planned') ∙ sym is'
-
-  one_over : (create : Create) (answer : Result (List ℕ) PickFault) (asked other : Result RegionJob Reply) → AsksPlanOver m create answer asked
-      → AsksPlanOver m create answer other → asked ≡ other
-  one_over create (Ok endpoints) asked other one two = one_plan (request_for create endpoints) asked other one two
-  one_over create (Err refusal) asked other one two = one ∙ sym two
-
-  one_unrefused : (create : Create) (ways : Option ℕ) (asked other : Result RegionJob Reply) → AsksUnrefused m create ways asked → AsksUnrefused m create ways other
-      → asked ≡ other
-  one_unrefused create None asked other one two = one_plan (request_of m create) asked other one two
-  one_unrefused create (Some ways) asked other (pick, picked, one) (pick', picked', two) =
-      one_over create pick asked other one (subst (λ (p : Result (List ℕ) PickFault). AsksPlanOver m create p other) (picked' ∙ sym picked) two)
-
   one_unless : (create : Create) (refusal : Option Reply) (asked other : Result RegionJob Reply) → AsksUnless m create refusal asked → AsksUnless m create refusal other
       → asked ≡ other
   one_unless create (Some refusal) asked other one two = one ∙ sym two
-  one_unless create None asked other one two = one_unrefused create create.ways asked other one two
+  one_unless create None asked other (answer, answered, made) (answer', answered', made') =
+      made ∙ ap (job_of_plan m) (answered ∙ sym answered') ∙ sym made'
 
   pub one_asked : (create : Create) (asked other : Result RegionJob Reply) → AsksCreate m create asked → AsksCreate m create other → asked ≡ other
   one_asked create = one_unless create (refusal_of_create m create)

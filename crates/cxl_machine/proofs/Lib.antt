@@ -29,7 +29,6 @@ pub mod Trails
 pub mod TrailsPassing
 pub mod Present
 pub mod TellingRegions
-pub mod TellingFaults
 pub mod TellingPoison
 pub mod Telling
 pub mod TellingAnswers

@@ -1,19 +1,13 @@
 -- Each answer can be told, over the machine's nodes.
 use Rattle.std.proofs.Common.{◌≡◌, ℕ, ◌+◌, ◌<◌, ◌≤◌, Bool, true, false, if◌then◌else◌, List, [], ◌∷◌, length, get_or, Result, Ok, Err, Option, Some, None, refl, sym, ◌∙◌, subst, arith}
-use Rattle.std.specs.Prelude.{All, Contains, nat_lt, nat_le, find, is_none, option_map, option_and_then}
+use Rattle.std.specs.Prelude.{All, Contains, nat_lt, nat_le, is_none, option_map, option_and_then}
 use Rattle.std.specs.Option.{option_map_or}
 use Rattle.std.proofs.lemmas.Bool.{and_parts, leb-true, ltb-true}
 use Rattle.std.proofs.lemmas.List.{length-map}
 use Rattle.std.proofs.lemmas.Option.{none-some, same_Some, slice_get_within}
 use Rattle.cxl_deal.specs.Weaves.{IsWeave, weave_ways}
 use Rattle.cxl_legal.specs.Firsts.{first_there}
-use Rattle.cxl_legal.specs.Used.{AreEndpoints, HasBytePorts}
-use Rattle.cxl_plan.specs.Planned.{planned}
-use Rattle.cxl_pick.specs.Picking.{asked}
-use Rattle.cxl_pick.specs.Picked.{picked, set_or_none}
-use Rattle.cxl_pick.specs.declared.want.Want.{Want}
-use Rattle.cxl_pick.specs.declared.fault.PickFault.{PickFault}
-use Rattle.cxl_pick.specs.declared.fault.PickFault.TheVariants as picks
+use Rattle.cxl_legal.specs.Used.{HasBytePorts}
 use Rattle.cxl_range.specs.Carried.{IsCarried}
 use Rattle.cxl_range.specs.Extents.{extents_of}
 use Rattle.cxl_script.specs.declared.command.Create.{Create}
@@ -23,7 +17,6 @@ use Rattle.cxl_window.specs.Fields.{WindowFields}
 use Rattle.cxl_model.specs.declared.found.Found.{Found}
 use Rattle.cxl_model.specs.declared.found.Place.{Place}
 use Rattle.cxl_model.specs.declared.plan.Plan.{Plan}
-use Rattle.cxl_model.specs.declared.plan.PlanFault.{PlanFault}
 use Rattle.cxl_model.specs.declared.plan.Row.{Row}
 use Rattle.cxl_model.specs.declared.request.Request.{Request}
 use Rattle.cxl_model.specs.Accepted.{IsAccepted}
@@ -33,16 +26,17 @@ use Rattle.cxl_model.specs.System.{System, IsSystem}
 use Rattle.cxl_apply.specs.Releases.{first_locked, first_not_last}
 use Rattle.cxl_reply.specs.declared.reply.Reply.{Reply}
 use Rattle.cxl_reply.specs.declared.reply.Reply.TheVariants as replies
-use Rattle.cxl_reply.specs.Told.{IsNode, IsToldFound, IsToldFault, IsTold}
+use Rattle.cxl_reply.specs.Told.{IsNode, IsToldFound, IsTold}
+use Rattle.cxl_request.specs.Endpoints.{first_unknown}
+use Rattle.cxl_request.specs.Requests.{AsksForPlan}
 use Rattle.cxl_machine.specs.Machine.{Live, RegionJob, Machine, has_host, live_at, live_named, region_window, region_limit}
 use Rattle.cxl_machine.specs.Jobs.{begun, create_job}
-use Rattle.cxl_machine.specs.Replies.{ends_within, endpoint_named}
+use Rattle.cxl_machine.specs.Replies.{ends_within}
 use Rattle.cxl_machine.specs.Accesses.{downed, slot_of_host, slot_place, endpoints_by_slot}
 use Rattle.cxl_machine.specs.Requests as requests
-use Rattle.cxl_machine.specs.Requests.{busy, name_taken, regions_full, no_region, locked, not_last, spot_of, refusal_of_create, refusal_of_release, release_named, job_unless, asked_release, request_for, request_of, want_of, job_of_plan, pick_reply, AsksPlan, AsksPlanOver, AsksUnrefused, AsksUnless, AsksCreate}
+use Rattle.cxl_machine.specs.Requests.{busy, name_taken, regions_full, no_region, locked, not_last, spot_of, refusal_of_create, refusal_of_release, release_named, job_unless, asked_release, job_of_plan, AsksUnless, AsksCreate}
 use Rattle.cxl_machine.specs.Sound.{IsMachine}
 use Rattle.cxl_machine.proofs.KeepingMachines.{live_there}
-use Rattle.cxl_machine.proofs.LegalCreates.{all_named}
 use Rattle.cxl_machine.proofs.LiveRegions.{live_is_region}
 use Rattle.cxl_machine.proofs.TellingRegions.{found_has, rows_inside, few_steps, vias_inside, carried_inside, slots_told}
 
@@ -50,8 +44,7 @@ use Rattle.cxl_machine.proofs.TellingRegions.{found_has, rows_inside, few_steps,
 pub record TellLaws : Type 0 where
   pub regions : (s : System) (found : Found) → IsSystem s → IsRegion s found → IsToldFound s.nodes found
   pub planned_system : (s : System) (request : Request) (plan : Plan) → IsSystem s → IsLegalPlan s request plan → IsSystem (with_rows s plan.rows)
-  pub fault : (s : System) (request : Request) (fault : PlanFault) → IsSystem s → HasBytePorts s.nodes → IsAccepted s → AreEndpoints s request → planned s request ≡ Err fault → IsToldFault s.nodes fault
-  pub picks : (s : System) (want : Want) (set : List ℕ) → IsSystem s → HasBytePorts s.nodes → picked s want ≡ Ok set → AreEndpoints s (asked want set)
+  pub refusal : (s : System) (create : Create) (refusal : Reply) → IsSystem s → HasBytePorts s.nodes → IsAccepted s → AsksForPlan s create (Err refusal) → IsTold s.nodes refusal
   pub each : (s : System) (w : WindowFields) (found : Found) (h : ℕ) → IsSystem s → IsRegionIn s w found → found.base ≤ h → h < found.base + found.size → (endpoint : ℕ) × (dpa : ℕ) × Carries found w h endpoint dpa
   pub weave : (s : System) (w : WindowFields) (found : Found) → IsSystem s → IsRegionIn s w found → IsWeave (weave_fields found w)
   pub ways : (s : System) (w : WindowFields) (found : Found) → IsSystem s → IsRegionIn s w found → weave_ways (weave_fields found w) ≡ found.ways
@@ -59,25 +52,6 @@ pub record TellLaws : Type 0 where
   pub few_ports : (s : System) (endpoint : ℕ) → IsSystem s → length (ports_above s.nodes endpoint) ≤ 5
   pub creates : (m : Machine) (create : Create) (job : RegionJob) → IsMachine m → AsksCreate m create (Ok job) → IsMachine (begun job m)
   pub releases : (m : Machine) (name : List ℕ) (job : RegionJob) → IsMachine m → asked_release m name ≡ Ok job → IsMachine (begun job m)
-
--- picking never ends for want of memory
-picks_end : (first second : Bool) (ways : ℕ) (s : System) (o : Option (List ℕ)) → (if first then Err (picks.Ways ways) else (if second then Err picks.Size else set_or_none s o)) ≡ Err picks.Memory → ⊥
-picks_end true second ways s o is = differ is
-  where
-    differ : ◌≡◌ {A = Result (List ℕ) PickFault} (Err (picks.Ways ways)) (Err picks.Memory) → ⊥
-    differ e = cc
-picks_end false true ways s o is = differ is
-  where
-    differ : ◌≡◌ {A = Result (List ℕ) PickFault} (Err picks.Size) (Err picks.Memory) → ⊥
-    differ e = cc
-picks_end false false ways s None is = differ is
-  where
-    differ : ◌≡◌ {A = Result (List ℕ) PickFault} (Err picks.NoSet) (Err picks.Memory) → ⊥
-    differ e = cc
-picks_end false false ways s (Some given) is = differ is
-  where
-    differ : ◌≡◌ {A = Result (List ℕ) PickFault} (set_or_none s (Some given)) (Err picks.Memory) → ⊥
-    differ e = cc
 
 module _ (laws : TellLaws) (m : Machine) (is : IsMachine m) where
   abbrev Told : Reply → Type 0
@@ -169,7 +143,7 @@ module _ (laws : TellLaws) (m : Machine) (is : IsMachine m) where
   create_refusal create =
       first_told (busy m) (name_taken m create.name) (requests.no_endpoint m create.endpoints) (regions_full m)
       (mapped_told (λ (job : RegionJob). replies.Busy job.region.name) m.job (λ job is. tt)) (mapped_told (λ (region : Live). replies.NameTaken create.name) (live_named m create.name) (λ region is. tt))
-      (mapped_told replies.NoEndpoint (find (λ name. is_none (endpoint_named m.settled.nodes name)) create.endpoints) (λ name is. tt))
+      (mapped_told replies.NoEndpoint (first_unknown m.settled.nodes create.endpoints) (λ name is. tt))
       (choice_told (nat_le region_limit (length m.live)) replies.RegionsFull tt)
 
   spot_told : (name : List ℕ) (first : Found → Option Row) (tell : Row → Reply) → ((row : Row) → IsNode m.settled.nodes row.node → Told (tell row)) → ((found : Found) (row : Row) → first found ≡ Some row → IsNode m.settled.nodes row.node)
@@ -218,29 +192,14 @@ module _ (laws : TellLaws) (m : Machine) (is : IsMachine m) where
       by_refusal (Some r) some same = err_told r refusal same (release_refusal name r some)
       by_refusal None none same = by_job (release_named m name) same
 
-  plan_told : (request : Request) (asked : Result RegionJob Reply) → AreEndpoints m.settled request → AsksPlan m request asked → ToldRefusal asked
-  plan_told request asked endpoints (Ok plan, planned_so, made) refusal same = ok_err (create_job m.settled plan) refusal (sym made ∙ same)
-  plan_told request asked endpoints (Err fault, planned_so, made) refusal same =
-      err_told (replies.Refused fault) refusal (sym made ∙ same) (laws.fault m.settled request fault is.settled.system is.settled.ports is.settled.accepted endpoints (sym planned_so))
-
-  pick_told : (create : Create) (ways : ℕ) (fault : PickFault) → picked m.settled (want_of create ways) ≡ Err fault → Told (pick_reply fault)
-  pick_told create ways (picks.Ways n) is_picked = tt
-  pick_told create ways picks.Size is_picked = tt
-  pick_told create ways picks.NoSet is_picked = tt
-  pick_told create ways picks.Memory is_picked = absurd (picks_end _ _ ways m.settled _ is_picked)
-
-  over_told : (create : Create) (ways : ℕ) (answer : Result (List ℕ) PickFault) (asked : Result RegionJob Reply) → answer ≡ picked m.settled (want_of create ways) → AsksPlanOver m create answer asked → ToldRefusal asked
-  over_told create ways (Ok set) asked is_picked asks refusal same =
-      plan_told (request_for create set) asked (laws.picks m.settled (want_of create ways) set is.settled.system is.settled.ports (sym is_picked)) asks refusal same
-  over_told create ways (Err fault) asked is_picked asks refusal same = err_told (pick_reply fault) refusal (sym asks ∙ same) (pick_told create ways fault (sym is_picked))
-
-  unrefused_told : (create : Create) (ways : Option ℕ) (asked : Result RegionJob Reply) → AsksUnrefused m create ways asked → ToldRefusal asked
-  unrefused_told create None asked asks = plan_told (request_of m create) asked (all_named m.settled.nodes create.endpoints) asks
-  unrefused_told create (Some ways) asked asks = over_told create ways asks.0 asked asks.1 asks.2
+  answered_told : (create : Create) (answer : Result Plan Reply) → AsksForPlan m.settled create answer → ToldRefusal (job_of_plan m answer)
+  answered_told create (Ok plan) so refusal same = ok_err (create_job m.settled plan) refusal same
+  answered_told create (Err own) so refusal same =
+      err_told own refusal same (laws.refusal m.settled create own is.settled.system is.settled.ports is.settled.accepted so)
 
   unless_told : (create : Create) (o : Option Reply) (asked : Result RegionJob Reply) → refusal_of_create m create ≡ o → AsksUnless m create o asked → ToldRefusal asked
   unless_told create (Some r) asked some asks refusal same = err_told r refusal (sym asks ∙ same) (create_refusal create r some)
-  unless_told create None asked none asks refusal same = unrefused_told create create.ways asked asks refusal same
+  unless_told create None asked none asks refusal same = answered_told create asks.0 asks.1 refusal (sym asks.2 ∙ same)
 
   pub create_told : (create : Create) (asked : Result RegionJob Reply) → AsksCreate m create asked → ToldRefusal asked
   create_told create asked asks = unless_told create (refusal_of_create m create) asked refl asks

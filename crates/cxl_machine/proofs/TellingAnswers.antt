@@ -1,8 +1,10 @@
 -- Each answer can be told, over the machine's nodes.
-use Rattle.std.proofs.Common.{◌≡◌, ℕ, ◌+◌, ◌≤◌, Bool, true, false, not, if◌then◌else◌, List, Result, Ok, Err, Option, Some, None, refl, sym, subst}
-use Rattle.std.specs.Prelude.{◌==◌, nat_lt, nat_le}
+use Rattle.std.proofs.Common.{◌≡◌, ℕ, ◌+◌, ◌<◌, ◌≤◌, Bool, true, false, not, if◌then◌else◌, List, [], ◌∷◌, length, Result, Ok, Err, Option, Some, None, refl, sym, subst}
+use Rattle.std.specs.Prelude.{◌==◌, ◌&&◌, nat_lt, nat_le}
 use Rattle.std.specs.Option.{option_map_or}
 use Rattle.std.specs.Str.{bytes_eq}
+use Rattle.std.proofs.lemmas.List.Quantifiers.{position-Some}
+use Rattle.std.proofs.lemmas.Option.{none-some}
 use Rattle.cxl_script.specs.declared.command.Command.{Command}
 use Rattle.cxl_script.specs.declared.command.Command.TheVariants as commands
 use Rattle.cxl_script.specs.declared.command.Pair.{Pair}
@@ -10,13 +12,16 @@ use Rattle.cxl_script.specs.declared.command.Poison.{Poison}
 use Rattle.cxl_script.specs.declared.command.Store.{Store}
 use Rattle.cxl_script.specs.declared.command.Up.{Up}
 use Rattle.cxl_script.specs.Grammar.{IsRanged}
+use Rattle.cxl_topo.specs.declared.node.Node.{Node}
+use Rattle.cxl_topo.specs.Kinds.{is_endpoint}
+use Rattle.cxl_topo.specs.Tree.{is_named}
 use Rattle.cxl_model.specs.Plans.{with_rows}
 use Rattle.cxl_reply.specs.declared.reply.Reply.{Reply}
 use Rattle.cxl_reply.specs.Told.{IsTold}
 use Rattle.cxl_machine.specs.Machine.{Live, RegionJob, JobKind, Creates, Releases, Machine, live_at, live_named, free_frames}
 use Rattle.cxl_machine.specs.Jobs.{total_of, begun}
 use Rattle.cxl_machine.specs.Outcomes.{BusOutcome, NoFault, Undone, LeftPending, ReadFailed}
-use Rattle.cxl_machine.specs.Replies.{Answer, within_region, ends_within}
+use Rattle.cxl_machine.specs.Replies.{Answer, within_region, ends_within, endpoint_named}
 use Rattle.cxl_machine.specs.Accesses.{store_into, frames_wanted, AnswersUp, TellsHost, no_endpoint, told, carried, unmapped}
 use Rattle.cxl_machine.specs.Reports.{AnswersShow, AnswersPoison}
 use Rattle.cxl_machine.specs.Reports as reports
@@ -27,10 +32,14 @@ use Rattle.cxl_machine.specs.Answers.{Answers}
 use Rattle.cxl_machine.specs.Sound.{IsMachine, IsJobOf}
 use Rattle.cxl_machine.proofs.KeepingJobs.{job_of}
 use Rattle.cxl_machine.proofs.KeepingMachines.{live_there}
-use Rattle.cxl_machine.proofs.LegalCreates.{named_inside}
 use Rattle.cxl_machine.proofs.Telling.{TellLaws, live_told, down_told, range_told, region_slots, holds_there, create_told, release_told}
 use Rattle.cxl_machine.proofs.TellingPoison.{poison_told}
 use Rattle.cxl_machine.proofs.TellingRegions.{shown_inside}
+
+-- the endpoint of a name is a node
+named_inside : (nodes : List Node) (name : List ℕ) (n : ℕ) → endpoint_named nodes name ≡ Some n → n < length nodes
+named_inside [] name n is = absurd (none-some n is)
+named_inside (node ∷ nodes) name n is = (position-Some (λ (node : Node). is_endpoint node.kind && is_named name node) (node ∷ nodes) n node is).0
 
 -- ---- the end of a job
 

@@ -1,13 +1,13 @@
 -- Each command is answered where no call of the bus failed.
-use Rattle.std.proofs.Common.{◌≡◌, ℕ, List, Result, Ok, Err, Option, Some, None, refl}
+use Rattle.std.proofs.Common.{◌≡◌, ℕ, Result, Ok, Err, Option, Some, None, refl}
 use Rattle.cxl_script.specs.declared.command.Command.{Command}
 use Rattle.cxl_script.specs.declared.command.Command.TheVariants as commands
 use Rattle.cxl_script.specs.declared.command.Create.{Create}
 use Rattle.cxl_script.specs.declared.command.Poison.{Poison}
 use Rattle.cxl_script.specs.declared.command.Up.{Up}
-use Rattle.cxl_model.specs.declared.request.Request.{Request}
 use Rattle.cxl_reply.specs.declared.reply.Reply.{Reply}
 use Rattle.cxl_reply.specs.declared.reply.Reply.TheVariants as replies
+use Rattle.cxl_request.specs.Requests.{asked_plan}
 use Rattle.cxl_machine.specs.Machine.{RegionJob, Machine}
 use Rattle.cxl_machine.specs.Jobs.{begun}
 use Rattle.cxl_machine.specs.Outcomes.{NoFault}
@@ -15,10 +15,7 @@ use Rattle.cxl_machine.specs.Replies.{Answer, stays, Gives, endpoint_named}
 use Rattle.cxl_machine.specs.Accesses.{AnswersUp, no_endpoint, told}
 use Rattle.cxl_machine.specs.Reports.{AnswersPoison}
 use Rattle.cxl_machine.specs.Reports as reports
-use Rattle.cxl_machine.specs.Requests.{AsksCreate, AsksUnless, AsksUnrefused, AsksPlan, AsksPlanOver, job_of_plan, pick_reply, refusal_of_create, request_for, request_of, want_of, asked_release}
-use Rattle.cxl_machine.specs.Elsewhere.{PickFault}
-use Rattle.cxl_plan.specs.Planned.{planned}
-use Rattle.cxl_pick.specs.Picked.{picked}
+use Rattle.cxl_machine.specs.Requests.{AsksCreate, AsksUnless, job_of_plan, refusal_of_create, asked_release}
 use Rattle.cxl_machine.specs.Regions.{AnswersWhole, begin_answer, Steps, Aborts, OfPending, ended_answer}
 use Rattle.cxl_machine.specs.Answers.{Answers}
 use Rattle.cxl_machine.specs.Sound.{IsMachine}
@@ -29,22 +26,9 @@ given : (answer : Answer) → (a : Answer) × Gives NoFault a answer
 given answer = (answer, record { unfailing = refl; told = refl })
 
 module _ (m : Machine) where
-  some_plan : (request : Request) → (asked : Result RegionJob Reply) × AsksPlan m request asked
-  some_plan request = (job_of_plan m (planned m.settled request), (planned m.settled request, refl, refl))
-
-  some_over : (create : Create) (answer : Result (List ℕ) PickFault) → (asked : Result RegionJob Reply) × AsksPlanOver m create answer asked
-  some_over create (Ok endpoints) = some_plan (request_for create endpoints)
-  some_over create (Err refusal) = (Err (pick_reply refusal), refl)
-
-  some_unrefused : (create : Create) (ways : Option ℕ) → (asked : Result RegionJob Reply) × AsksUnrefused m create ways asked
-  some_unrefused create None = some_plan (request_of m create)
-  some_unrefused create (Some ways) =
-      let (asked, asks) = some_over create (picked m.settled (want_of create ways)) in
-      (asked, (picked m.settled (want_of create ways), refl, asks))
-
   some_unless : (create : Create) (refusal : Option Reply) → (asked : Result RegionJob Reply) × AsksUnless m create refusal asked
   some_unless create (Some refusal) = (Err refusal, refl)
-  some_unless create None = some_unrefused create create.ways
+  some_unless create None = (job_of_plan m (asked_plan m.settled create), (asked_plan m.settled create, refl, refl))
 
   some_asked : (create : Create) → (asked : Result RegionJob Reply) × AsksCreate m create asked
   some_asked create = some_unless create (refusal_of_create m create)

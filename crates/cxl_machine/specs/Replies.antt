@@ -1,12 +1,10 @@
 -- An answer: a reply and the machine after it; and the refusals that several commands share (this project's rules).
-use Rattle.std.specs.Prelude.{◌≡◌, ℕ, ◌+◌, nat_le, ◌&&◌, Bool, true, false, if◌then◌else◌, List, position, Option}
+use Rattle.std.specs.Prelude.{◌≡◌, ℕ, ◌+◌, nat_le, Bool, true, false, if◌then◌else◌, List}
 use Rattle.std.specs.Option.{option_map_or}
-use Rattle.cxl_topo.specs.declared.node.Node.{Node}
-use Rattle.cxl_topo.specs.Kinds.{is_endpoint}
-use Rattle.cxl_topo.specs.Tree.{is_named}
 use Rattle.cxl_model.specs.declared.found.Found.{Found}
 use Rattle.cxl_reply.specs.declared.reply.Reply.{Reply}
 use Rattle.cxl_reply.specs.declared.reply.Reply.TheVariants as replies
+pub use Rattle.cxl_request.specs.Endpoints.{endpoint_named}
 use Rattle.cxl_machine.specs.Machine.{Live, Machine, live_named, live_at}
 use Rattle.cxl_machine.specs.Outcomes.{BusOutcome, NoFault}
 
@@ -32,11 +30,6 @@ pub record Gives (outcome : BusOutcome) (answer given : Answer) : Type 0 where
 -- the answer for the live region of a name, where there is one
 abbrev pub at_name : Machine → List ℕ → (Live → Answer) → Answer
 at_name m name answer = option_map_or answer (live_named m name) (stays m (replies.NoRegion name))
-
--- ---- endpoints by name
-
-abbrev pub endpoint_named : List Node → List ℕ → Option ℕ
-endpoint_named nodes name = position (λ node. is_endpoint node.kind && is_named name node) nodes
 
 -- ---- host addresses
 

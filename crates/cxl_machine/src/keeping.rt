@@ -1,6 +1,6 @@
 //! What leads from a machine that a session can stand for to one, each the contract of a function that does nothing.
 
-ghost use Rattle.std.specs.Prelude.{◌≡◌, ◌≢◌, ℕ, ◌<◌, ◌≤◌, true, List, length, All, Some, None, Ok, Err};
+ghost use Rattle.std.specs.Prelude.{◌≡◌, ◌≢◌, ◌⊎◌, ℕ, ◌<◌, ◌≤◌, true, List, length, All, Some, None, Ok, Err};
 ghost use Rattle.cxl_enc.specs.Limits.{frame_limit};
 ghost use Rattle.cxl_script.specs.declared.command.Command.{Command};
 ghost use Rattle.cxl_script.specs.declared.command.Command.TheVariants as commands;
@@ -11,10 +11,13 @@ ghost use Rattle.cxl_model.specs.Plans.{IsLegalPlan};
 ghost use Rattle.cxl_model.specs.System.{System, IsSystem};
 ghost use Rattle.cxl_reply.specs.declared.reply.Reply.{Reply};
 ghost use Rattle.cxl_legal.specs.Used.{HasBytePorts};
+ghost use Rattle.cxl_script.specs.Grammar.{StatesGranCode};
+ghost use Rattle.cxl_request.specs.Plans.{HasNoPlanOver, TellsNoPick, IsPlanFor};
+ghost use Rattle.cxl_request.specs.Requests.{request_by_name, want_of};
 ghost use Rattle.cxl_machine.specs.Machine.{Live, RegionJob, Machine, HasSameHost, region_limit};
 ghost use Rattle.cxl_machine.specs.Jobs.{create_job, begun, finished, undone};
 ghost use Rattle.cxl_machine.specs.Outcomes.{BusOutcome, is_access, StoresBytes};
-ghost use Rattle.cxl_machine.specs.Requests.{AsksCreate, asked_release, refusal_of_create, request_of};
+ghost use Rattle.cxl_machine.specs.Requests.{AsksCreate, asked_release, refusal_of_create};
 ghost use Rattle.cxl_machine.specs.Replies.{Answer};
 ghost use Rattle.cxl_machine.specs.Answers.{Answers};
 ghost use Rattle.cxl_machine.specs.Creating.{CreatesLegally, IsRefusedPlan};
@@ -28,8 +31,7 @@ use cxl_model::{
     accepted_where_whole, hosts_with_caps_are_systems, regions_stay, weaves_fill_their_regions,
     whole_ranges_have_one_region,
 };
-use cxl_pick::answers_hold_of_wants;
-use cxl_plan::answers_hold_of_requests;
+use cxl_request::answers_hold_of_lines;
 
 /// A law of machines: an accepted host opens as one that a session can stand for.
 pub fn openings_are_machines()
@@ -102,17 +104,32 @@ pub fn creates_begin_as_machines()
 pub fn creates_are_legal()
     ensures { (m : Machine) (command : Command) → IsMachine m → CreatesLegally m command }
 {
-    answers_hold_of_requests();
-    answers_hold_of_wants();
+    answers_hold_of_lines();
 }
 
-/// A law of machines: where a create names its endpoints and nothing stands against it before a plan is sought, it is refused
-/// with the first fault of its request, and no plan for that is legal.
-pub fn refused_creates_have_causes()
-    ensures { (m : Machine) (create : Create) (refusal : Reply) → IsMachine m → refusal_of_create m create ≡ None
-        → create.ways ≡ None → AsksCreate m create (Err refusal) → IsRefusedPlan m (request_of m create) refusal }
+/// A law of machines: each job that a create asks for is that of the first and least plan of its line. Where the line
+/// states ways, that stands in the first window in which any set of so many endpoints has a legal plan.
+pub fn asked_creates_have_their_plans()
+    ensures { (m : Machine) (create : Create) (job : RegionJob) → IsMachine m
+        → (create.ways ≡ None) ⊎ StatesGranCode create → AsksCreate m create (Ok job)
+        → (plan : Plan) × IsPlanFor m.settled create plan × (job ≡ create_job m.settled plan) }
 {
-    answers_hold_of_requests();
+    answers_hold_of_lines();
+}
+
+/// A law of machines: where nothing stands against a create before a plan is sought, one that names its endpoints is
+/// refused with the first fault of its request, and no plan for that is legal; one that states ways is refused since no
+/// region has so many, or none of so many has the size, or no set of so many endpoints has a legal plan, and none has.
+pub fn refused_creates_have_causes()
+    ensures named { (m : Machine) (create : Create) (refusal : Reply) → IsMachine m
+        → refusal_of_create m create ≡ None → create.ways ≡ None → AsksCreate m create (Err refusal)
+        → IsRefusedPlan m (request_by_name m.settled.nodes create) refusal }
+    ensures picked { (m : Machine) (create : Create) (ways : ℕ) (refusal : Reply) → IsMachine m
+        → refusal_of_create m create ≡ None → create.ways ≡ Some ways → StatesGranCode create
+        → AsksCreate m create (Err refusal)
+        → HasNoPlanOver m.settled create ways × TellsNoPick (want_of create ways) refusal }
+{
+    answers_hold_of_lines();
 }
 
 /// A law of machines: one that a session can stand for stays one where a create begins that a line asks for. No job was

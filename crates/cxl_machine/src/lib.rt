@@ -13,10 +13,10 @@ pub use counting::frames_are_counted;
 pub use cxl_check::Breach;
 pub use fault::OpenFault;
 pub use keeping::{
-    accesses_keep_machines, asked_creates_begin_as_machines, commands_keep_machines,
-    creates_are_legal, creates_begin_as_machines, finished_jobs_keep_machines,
-    openings_are_machines, refused_creates_have_causes, releases_begin_as_machines,
-    steps_keep_machines, undone_jobs_keep_machines,
+    accesses_keep_machines, asked_creates_begin_as_machines, asked_creates_have_their_plans,
+    commands_keep_machines, creates_are_legal, creates_begin_as_machines,
+    finished_jobs_keep_machines, openings_are_machines, refused_creates_have_causes,
+    releases_begin_as_machines, steps_keep_machines, undone_jobs_keep_machines,
 };
 pub use laws::{
     commands_go_as_they_can, each_command_is_answered, each_outcome_is_answered,
@@ -27,4 +27,4 @@ pub use pending::{
     ended_jobs_leave_nothing, live_regions_stay, pending_jobs_settle, pending_regions_are_unmapped,
     words_pass_by_machines,
 };
-pub use texts::{answers_are_told, plan_faults_are_told};
+pub use texts::answers_are_told;

@@ -1,15 +1,8 @@
 //! Laws of what can be told, each the contract of a function that does nothing.
 
-ghost use Rattle.std.specs.Prelude.{◌≡◌, Err};
-ghost use Rattle.cxl_legal.specs.Used.{AreEndpoints, HasBytePorts};
-ghost use Rattle.cxl_plan.specs.Planned.{planned};
 ghost use Rattle.cxl_script.specs.declared.command.Command.{Command};
 ghost use Rattle.cxl_script.specs.Grammar.{IsRanged};
-ghost use Rattle.cxl_model.specs.declared.plan.PlanFault.{PlanFault};
-ghost use Rattle.cxl_model.specs.declared.request.Request.{Request};
-ghost use Rattle.cxl_model.specs.Accepted.{IsAccepted};
-ghost use Rattle.cxl_model.specs.System.{System, IsSystem};
-ghost use Rattle.cxl_reply.specs.Told.{IsTold, IsToldFault};
+ghost use Rattle.cxl_reply.specs.Told.{IsTold};
 ghost use Rattle.cxl_machine.specs.Machine.{Machine};
 ghost use Rattle.cxl_machine.specs.Outcomes.{BusOutcome};
 ghost use Rattle.cxl_machine.specs.Replies.{Answer};
@@ -19,20 +12,10 @@ ghost use Rattle.cxl_machine.specs.Sound.{IsMachine};
 use crate::keeping::{asked_creates_begin_as_machines, releases_begin_as_machines};
 use cxl_apply::regions_stay_after_a_create;
 use cxl_model::{bytes_are_carried_one_to_one, weaves_fill_their_regions};
-use cxl_pick::answers_hold_of_wants;
-use cxl_plan::answers_hold_of_requests;
 use cxl_range::extents_carry_their_bytes;
 use cxl_reply::findings_are_told;
+use cxl_request::answered_lines_can_be_told;
 use cxl_topo::tree_laws;
-
-/// A law of plans: a fault to which a request comes over an accepted image can be told.
-pub fn plan_faults_are_told()
-    ensures { (s : System) (request : Request) (fault : PlanFault) → IsSystem s → HasBytePorts s.nodes → IsAccepted s
-        → AreEndpoints s request → planned s request ≡ Err fault → IsToldFault s.nodes fault }
-{
-    answers_hold_of_requests();
-    tree_laws();
-}
 
 /// A law of answers: each can be told, over the machine's nodes.
 pub fn answers_are_told()
@@ -41,8 +24,7 @@ pub fn answers_are_told()
 {
     findings_are_told();
     regions_stay_after_a_create();
-    plan_faults_are_told();
-    answers_hold_of_wants();
+    answered_lines_can_be_told();
     bytes_are_carried_one_to_one();
     weaves_fill_their_regions();
     extents_carry_their_bytes();

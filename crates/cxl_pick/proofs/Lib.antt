@@ -26,3 +26,4 @@ mod Givings
 mod Settled
 mod Picks
 mod Computed
+mod Keeping

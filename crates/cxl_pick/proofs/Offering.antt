@@ -1,16 +1,19 @@
 -- What the table of offers tells of a node.
-use Rattle.std.proofs.Common.{◌≡◌, ℕ, zero, suc, ◌-◌, ◌*◌, ◌/◌, ◌%◌, ◌<◌, ◌≤◌, Bool, true, false, ◌&&◌, if◌then◌else◌, cond, List, [], ◌∷◌, length, Option, Some, None, Vec, Global, Result, Ok, Err, refl, sym, ap, ◌∙◌, inl, inr, arith}
-use Rattle.std.specs.Prelude.{◌==◌, find, take, slice_get, option_map, unwrap_or, IfOk}
+use Rattle.std.proofs.Common.{◌≡◌, ℕ, zero, suc, ◌-◌, ◌*◌, ◌/◌, ◌%◌, ◌<◌, ◌≤◌, Bool, true, false, ◌&&◌, ◌||◌, if◌then◌else◌, cond, List, [], ◌∷◌, length, Option, Some, None, Vec, Global, Result, Ok, Err, refl, sym, ap, ◌∙◌, inl, inr, arith}
+use Rattle.std.specs.Prelude.{◌==◌, nat_le, find, take, slice_get, option_map, unwrap_or, IfOk}
 use Rattle.std.specs.Option.{option_map_or}
 use Rattle.std.specs.List.{filter_map, flat_map}
 use Rattle.std.proofs.Math.Nat.{div-add-mod, div-le_self}
-use Rattle.std.proofs.lemmas.Bool.{cases_lt, false≢true, false_from_ne_true}
-use Rattle.cxl_enc.specs.Caps.{is_target_count}
+use Rattle.std.proofs.lemmas.Bool.{cases_lt, false≢true, false_from_ne_true, le-leb}
+use Rattle.cxl_enc.specs.Codes.{bits_of}
+use Rattle.cxl_enc.specs.Caps.{is_target_count, targets_of}
+use Rattle.cxl_regs.specs.Rules.{select_ok}
+use Rattle.cxl_legal.specs.Endpoints.{cap_at}
 use Rattle.cxl_topo.specs.Tree.{is_endpoint_at}
 use Rattle.cxl_window.specs.Fields.{WindowFields}
 use Rattle.cxl_model.specs.System.{System}
 use Rattle.cxl_pick.specs.declared.want.Want.{Want}
-use Rattle.cxl_pick.specs.Picking.{can_serve_itself, can_serve_by, children_of, gives}
+use Rattle.cxl_pick.specs.Picking.{is_open, can_serve_itself, port_code, can_serve_by, children_of, gives}
 use Rattle.cxl_pick.specs.inner.Offers.{AreOffers, offered, some_of, place_of, listed_at, offers_at}
 use Rattle.cxl_pick.proofs.Trees.{KnownTree}
 use Rattle.cxl_pick.proofs.Lists.{find_passes}
@@ -83,6 +86,25 @@ no_part s want w start n m willing u some none =
     let split = div-add-mod m u in
     let zero_is : u * (m / u) ≡ 0 = ap (λ (k : ℕ). u * k) none ∙ omega arith in
     omega (arith, even, split, zero_is, some))
+
+-- a port by whose number of ports the endpoints are not divided serves by none
+pub uneven : (s : System) (want : Want) (w : WindowFields) (start n m willing u : ℕ) → (m % u ≡ 0 → ⊥) → can_serve_by s want w start n m willing u ≡ false
+uneven s want w start n m willing u fails =
+    false_from_ne_true (can_serve_by s want w start n m willing u) (λ can. fails (can_parts s want w start n m willing u can).divides)
+
+-- a port that could serve by some ports where so many children are willing serves where they are
+pub serves_with : (s : System) (want : Want) (w : WindowFields) (start n m willing u : ℕ) → can_serve_by s want w start n m willing u ≡ (can_serve_by s want w start n m u u && nat_le u willing)
+serves_with s want w start n m willing u =
+    sym
+    (ap (λ (e : Bool). is_open s start n && (m % u == 0) && nat_le u (targets_of (cap_at s n)) && e && ((u == 1) || (nat_le (port_code want w m) 6 && select_ok (cap_at s n) (port_code want w m) (bits_of u))) && nat_le u willing) (le-leb u u (omega arith))
+    ∙ moved (is_open s start n && (m % u == 0) && nat_le u (targets_of (cap_at s n))) (nat_le u willing) ((u == 1) || (nat_le (port_code want w m) 6 && select_ok (cap_at s n) (port_code want w m) (bits_of u))))
+  where
+    moved : (x r t : Bool) → (x && true && t && r) ≡ (x && r && t)
+    moved false r t = refl
+    moved true false false = refl
+    moved true true false = refl
+    moved true false true = refl
+    moved true true true = refl
 
 pub quotient_low : (m u : ℕ) → m ≤ 16 → m / u ≤ 16
 quotient_low m u few =

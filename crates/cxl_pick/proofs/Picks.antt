@@ -1,18 +1,27 @@
 -- What a pick is, by what its first window gives.
-use Rattle.std.proofs.Common.{◌≡◌, ℕ, ◌*◌, ◌%◌, ◌<◌, ◌≤◌, true, List, length, Some, sym, ap, ◌∙◌, subst, arith}
-use Rattle.std.specs.Prelude.{slice_get, All, IfSome}
-use Rattle.std.proofs.lemmas.Option.{none-some}
+use Rattle.std.proofs.Common.{◌≡◌, ℕ, ◌*◌, ◌%◌, ◌<◌, ◌≤◌, Bool, true, false, not, List, length, map, Option, Some, None, Result, Err, refl, sym, ap, ◌∙◌, subst, inl, inr, arith}
+use Rattle.std.specs.Prelude.{slice_get, All, IfSome, if◌then◌else◌}
+use Rattle.std.proofs.lemmas.Bool.{cases_lt, false≢true}
+use Rattle.std.proofs.lemmas.Option.{none-some, same_Some}
 use Rattle.cxl_enc.specs.Codes.{is_ways}
 use Rattle.cxl_enc.specs.Limits.{unit}
 use Rattle.cxl_topo.specs.Laws.{AreTreeLaws}
 use Rattle.cxl_window.specs.Fields.{WindowFields}
 use Rattle.cxl_model.specs.System.{System, IsSystem}
 use Rattle.cxl_model.specs.Accepted.{IsAccepted}
-use Rattle.cxl_legal.specs.Used.{HasBytePorts}
-use Rattle.cxl_legal.specs.Endpoints.{IsSize}
+use Rattle.cxl_model.specs.Plans.{IsLegalPlanIn}
+use Rattle.cxl_model.specs.declared.plan.Plan.{Plan}
+use Rattle.cxl_model.specs.declared.request.Request.{Request}
+use Rattle.cxl_legal.specs.Firsts.{first_there}
+use Rattle.cxl_legal.specs.Used.{AreEndpoints, HasBytePorts}
+use Rattle.cxl_legal.specs.Endpoints.{IsSize, FitsEndpoints}
+use Rattle.cxl_legal.specs.Sizes.{is_size_for}
 use Rattle.cxl_legal.specs.Stated.{Fits}
 use Rattle.cxl_pick.specs.declared.want.Want.{Want}
-use Rattle.cxl_pick.specs.Picking.{asked, given_in, IsWantedSize, IsPicked, NothingGiven, FitsFirst, NothingFits}
+use Rattle.cxl_pick.specs.declared.fault.PickFault.{PickFault}
+use Rattle.cxl_pick.specs.declared.fault.PickFault.TheVariants as faults
+use Rattle.cxl_pick.specs.Picking.{asked, given_in, IsWantedSize, IsPicked, NothingGiven, TellsPickFault, FitsFirst, NothingFits, HasPlanIn, NothingPlans}
+use Rattle.cxl_pick.specs.Picked.{picked, set_or_none}
 use Rattle.cxl_pick.proofs.Parts.{OfWindow, InWindow, Picked, in_window, given_endpoint, all_below, set_long}
 use Rattle.cxl_pick.proofs.FittedWindows.{given_fits}
 
@@ -45,7 +54,7 @@ picked_of s want settled w set is = record {
   rising = is.rising;
 }
 
-pub fits_first : (s : System) (want : Want) → Settled s want → (w : WindowFields) (set : List ℕ) → IsPicked s want w set → FitsFirst s want set
+pub fits_first : (s : System) (want : Want) → Settled s want → (w : WindowFields) (set : List ℕ) → IsPicked s want w set → FitsFirst s want w set
 fits_first s want settled w set is =
     let picked = picked_of s want settled w set is in
     let window : InWindow s want w is.given = in_window s want w is.given is.gives in
@@ -56,7 +65,6 @@ fits_first s want settled w set is =
       low = settled.size.low;
     } in
     record {
-      window = w;
       base = window.start;
       fits = given_fits picked settled.accepted size settled.code window.start window.starts;
       first = λ earlier other start low all fits.
@@ -65,7 +73,69 @@ fits_first s want settled w set is =
           none-some given.0 (sym (is.first earlier.index earlier (omega (arith, low, own)) fits.window.there) ∙ given.1);
     }
 
-pub nothing_fits : (s : System) (want : Want) → Settled s want → NothingGiven s want → NothingFits s want
-nothing_fits s want settled nothing = λ w set base all fits.
-    let given = settled.given w set base all fits in
+-- where a set fits, something is given
+abbrev pub FittingIsGiven : System → Want → Type 0
+FittingIsGiven s want = (w : WindowFields) (set : List ℕ) (base : ℕ) → length set ≡ want.ways → Fits s (asked want set) w base → (given : List ℕ) × (given_in s want w ≡ Some given)
+
+pub nothing_fits : (s : System) (want : Want) → FittingIsGiven s want → NothingGiven s want → NothingFits s want
+nothing_fits s want given_where nothing = λ w set base all fits.
+    let given = given_where w set base all fits in
     none-some given.0 (sym (nothing w.index w fits.window.there) ∙ given.1)
+
+-- ---- one window
+
+-- there is one first window
+pub one_window : (s : System) (want : Want) (w v : WindowFields) (set other : List ℕ) → IsPicked s want w set → IsPicked s want v other → w ≡ v
+one_window s want w v set other is own =
+    elim (cases_lt is.place own.place) [
+      | inl before ↦ absurd (none-some is.given (sym (own.first is.place w before is.there) ∙ is.gives))
+      | inr late ↦ elim (cases_lt own.place is.place) [
+        | inl before ↦ absurd (none-some own.given (sym (is.first own.place v before own.there) ∙ own.gives))
+        | inr early ↦
+            let same : is.place ≡ own.place = omega (arith, late, early) in
+            same_Some w v (sym (subst (λ (k : ℕ). slice_get s.windows k ≡ Some w) same is.there) ∙ own.there)
+      ]
+    ]
+
+-- ---- no pick, no plan
+
+-- a legal plan is over endpoints that fit
+abbrev pub LegalFits : System → Type 0
+LegalFits s = (request : Request) (w : WindowFields) (plan : Plan) → AreEndpoints s request → IsLegalPlanIn s request w plan → FitsEndpoints s request
+
+-- no pick has want of memory for its answer
+pub not_memory : (s : System) (want : Want) → picked s want ≡ Err faults.Memory → ⊥
+not_memory s want is = by_tests (is_ways want.ways) (is_size_for want.size want.ways) (first_there (map (given_in s want) s.windows)) is
+  where
+    by_set : (some : Option (List ℕ)) → set_or_none s some ≡ Err faults.Memory → ⊥
+    by_set None e = cc
+    by_set (Some given) e = cc
+
+    by_size : (size : Bool) (some : Option (List ℕ)) → (if not size then Err faults.Size else set_or_none s some) ≡ Err faults.Memory → ⊥
+    by_size true some e = by_set some e
+    by_size false some e = cc
+
+    by_tests : (ways size : Bool) (some : Option (List ℕ)) → (if not ways then Err (faults.Ways want.ways) else (if not size then Err faults.Size else set_or_none s some)) ≡ Err faults.Memory → ⊥
+    by_tests true size some e = by_size size some e
+    by_tests false size some e = cc
+
+module _ (s : System) (want : Want) (fits : LegalFits s) where
+  none_of_ways : is_ways want.ways ≡ false → NothingPlans s want
+  none_of_ways none w set has =
+      let all = fits (asked want set) w has.plan has.named has.legal in
+      false≢true (sym none ∙ ap is_ways (sym has.count) ∙ all.ways)
+
+  none_of_size : (IsWantedSize want → ⊥) → NothingPlans s want
+  none_of_size none w set has =
+      let all = fits (asked want set) w has.plan has.named has.legal in
+      none (record {
+        some = all.size.some;
+        even = ap (λ (k : ℕ). want.size % (unit * k)) (sym has.count) ∙ all.size.even;
+        low = all.size.low;
+      })
+
+  pub none_planned : FittingIsGiven s want → (NothingFits s want → NothingPlans s want) → (fault : PickFault) → TellsPickFault s want fault → (fault ≡ faults.Memory → ⊥) → NothingPlans s want
+  none_planned given law (faults.Ways n) told real = none_of_ways told.1
+  none_planned given law faults.Size told real = none_of_size told.1
+  none_planned given law faults.NoSet (ways, size, nothing) real = law (nothing_fits s want given nothing)
+  none_planned given law faults.Memory told real = absurd (real refl)

@@ -151,12 +151,11 @@ TellsPickFault s want faults.Memory = Unit {0}
 
 -- ---- what is picked fits
 
--- the set keeps all that a request has to in a window at a base, and no set of so many endpoints does so in an earlier window
-pub record FitsFirst (s : System) (want : Want) (set : List ℕ) : Type 0 where
-  pub window : WindowFields
+-- the set keeps all that a request has to in this window at a base, and no set of so many endpoints does so in an earlier window
+pub record FitsFirst (s : System) (want : Want) (w : WindowFields) (set : List ℕ) : Type 0 where
   pub base : ℕ
-  pub fits : Fits s (asked want set) window base
-  pub first : (earlier : WindowFields) (other : List ℕ) (start : ℕ) → earlier.index < window.index → length other ≡ want.ways → Fits s (asked want other) earlier start → ⊥
+  pub fits : Fits s (asked want set) w base
+  pub first : (earlier : WindowFields) (other : List ℕ) (start : ℕ) → earlier.index < w.index → length other ≡ want.ways → Fits s (asked want other) earlier start → ⊥
 
 -- no set of so many endpoints keeps all that a request has to, in any window at any base
 abbrev pub NothingFits : System → Want → Type 0
@@ -164,18 +163,17 @@ NothingFits s want = (w : WindowFields) (set : List ℕ) (base : ℕ) → length
 
 -- ---- what is picked has a legal plan
 
--- a set of so many endpoints has a legal plan in this window
+-- a set of so many endpoints has a legal plan in this window (a legal plan is one under any name)
 pub record HasPlanIn (s : System) (want : Want) (w : WindowFields) (set : List ℕ) : Type 0 where
   pub named : AreEndpoints s (asked want set)
   pub count : length set ≡ want.ways
   pub plan : Plan
   pub legal : IsLegalPlanIn s (asked want set) w plan
 
--- the set has one in a window, and no set of so many endpoints has one in an earlier window
-pub record PlansFirst (s : System) (want : Want) (set : List ℕ) : Type 0 where
-  pub window : WindowFields
-  pub has : HasPlanIn s want window set
-  pub first : (earlier : WindowFields) (other : List ℕ) → earlier.index < window.index → HasPlanIn s want earlier other → ⊥
+-- the set has one in this window, and no set of so many endpoints has one in an earlier window
+pub record PlansFirst (s : System) (want : Want) (w : WindowFields) (set : List ℕ) : Type 0 where
+  pub has : HasPlanIn s want w set
+  pub first : (earlier : WindowFields) (other : List ℕ) → earlier.index < w.index → HasPlanIn s want earlier other → ⊥
 
 -- no set of so many endpoints has a legal plan in any window
 abbrev pub NothingPlans : System → Want → Type 0

@@ -44,8 +44,8 @@ pub fn fitting_sets_are_given()
 /// A law of picking: a set that keeps all that a request has to in the first window in which any does has a legal plan
 /// there, and no set has one in an earlier window; and where none keeps it, none has a legal plan.
 pub fn fitting_sets_have_plans()
-    ensures first { (s : System) (want : Want) (set : List ℕ) → length set ≡ want.ways → FitsFirst s want set
-        → PlansFirst s want set }
+    ensures first { (s : System) (want : Want) (w : WindowFields) (set : List ℕ) → length set ≡ want.ways
+        → FitsFirst s want w set → PlansFirst s want w set }
     ensures none { (s : System) (want : Want) → IsSystem s → HasBytePorts s.nodes → IsAccepted s
         → NothingFits s want → NothingPlans s want }
 {
@@ -76,6 +76,25 @@ pub fn answers_hold_of_wants()
         → picked s want ≡ Ok set → AreEndpoints s (asked want set) }
     ensures fault { (s : System) (want : Want) (fault : PickFault) → IsSystem s → picked s want ≡ Err fault
         → TellsPickFault s want fault }
+    // Want of memory is nothing that a want comes to.
+    ensures real { (s : System) (want : Want) → picked s want ≢ Err faults.Memory }
 {
     tree_laws();
+}
+
+/// A law of picking: over an accepted image, a set that is picked has a legal plan in the window of the pick, and no set
+/// of so many endpoints has one in an earlier window; where none is picked, none has a legal plan in any.
+pub fn picked_sets_have_plans()
+    ensures first { (s : System) (want : Want) (w : WindowFields) (set : List ℕ) → IsSystem s → HasBytePorts s.nodes
+        → IsAccepted s → IfSome want.gran (λ code. code ≤ 6) → picked s want ≡ Ok set → IsPicked s want w set
+        → PlansFirst s want w set }
+    ensures none { (s : System) (want : Want) (fault : PickFault) → IsSystem s → HasBytePorts s.nodes → IsAccepted s
+        → picked s want ≡ Err fault → NothingPlans s want }
+    ensures window { (s : System) (want : Want) (w v : WindowFields) (set other : List ℕ) → IsPicked s want w set
+        → IsPicked s want v other → w ≡ v }
+{
+    tree_laws();
+    legal_plans_fit();
+    fitting_sets_are_given();
+    fitting_sets_have_plans();
 }

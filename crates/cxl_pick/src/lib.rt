@@ -12,7 +12,7 @@ mod want;
 pub use fault::PickFault;
 pub use laws::{
     answers_hold_of_wants, fitting_sets_are_given, fitting_sets_have_plans, given_sets_fit,
-    wants_come_to_answers,
+    picked_sets_have_plans, wants_come_to_answers,
 };
 pub use picking::pick;
 pub use want::Want;

@@ -1,18 +1,22 @@
-//! What each node gives for each number of endpoints, in one window.
+//! What each node gives for each number of endpoints, in one window, and from one window to the next.
 
-ghost use Rattle.std.specs.Prelude.{◌≡◌, ℕ, ◌+◌, ◌-◌, ◌*◌, ◌/◌, ◌<◌, ◌≤◌, ◌==◌, ◌&&◌, not, if◌then◌else◌, [], ◌∷◌, true, false, List, length, take, find, slice_get, Some, IfOk, unwrap_or};
+ghost use Rattle.std.specs.Prelude.{◌≡◌, ℕ, ◌+◌, ◌-◌, ◌*◌, ◌/◌, ◌<◌, ◌≤◌, ◌==◌, ◌&&◌, not, if◌then◌else◌, [], ◌∷◌, true, false, List, length, take, find, slice_get, Some, IfOk, unwrap_or, OnOk};
 ghost use Rattle.std.specs.List.{filter_map, flat_map, range_with_len};
 ghost use Rattle.cxl_enc.specs.Caps.{is_target_count};
+ghost use Rattle.cxl_enc.specs.Codes.{third_of};
 ghost use Rattle.cxl_topo.specs.Tree.{is_endpoint_at, child_of};
 ghost use Rattle.cxl_window.specs.Fields.{WindowFields};
 ghost use Rattle.cxl_model.specs.Hosts.{as_system};
 ghost use Rattle.cxl_pick.specs.Picking.{can_serve_itself, can_serve_by};
 ghost use Rattle.cxl_model.specs.Accepted.{IsOrderlySystem};
 ghost use Rattle.cxl_pick.specs.inner.Wanted.{HasWaysAndSize};
-ghost use Rattle.cxl_pick.specs.inner.Offers.{AreChildren, AreOffers, offered, listed_at, offers_at};
+ghost use Rattle.cxl_legal.specs.Bases.{last_end};
+ghost use Rattle.cxl_pick.specs.inner.Offers.{AreChildren, AreOffers, AreKept, offered, listed_at, offers_at};
 
 use crate::nodes::{can_serve_by, can_serve_itself};
+use crate::terms::wanted_code;
 use crate::want::Want;
+use cxl_legal::last_end;
 use cxl_model::Host;
 use cxl_topo::{Topo, tree_laws};
 use cxl_window::Window;
@@ -47,6 +51,103 @@ fn children_of(alloc: Global, topo: &Topo, node: u32) -> Result<Vec<u32>, AllocE
         }
     }
     Ok(own)
+}
+
+// ---- from one window to the next
+
+/// What each node gives for each number of endpoints in the windows of one code, and of ways that three divides or not.
+/// It is the same from each start at or above the end of all that is committed.
+#[derive(Drop)]
+pub struct KeptOffers {
+    /// The code of the region in those windows.
+    pub code: u8,
+    /// 3 where three divides the ways of those windows, else 1.
+    pub third: u8,
+    /// An address at or above the end of all that is committed.
+    pub high: u64,
+    /// A list for each node and number, or none yet.
+    pub table: Vec<Vec<u32>>,
+}
+
+/// No offers yet.
+pub(crate) fn no_offers(alloc: Global, host: &Host, want: &Want) -> KeptOffers
+    requires ready { IsOrderlySystem (as_system host.now) }
+    ensures { AreKept (as_system host.now) want.now result }
+{
+    KeptOffers {
+        code: 0,
+        third: 1,
+        high: highest_end(host),
+        table: Vec::new(alloc),
+    }
+}
+
+/// An address at or above the end of all that is committed.
+fn highest_end(host: &Host) -> u64
+    requires ready { IsOrderlySystem (as_system host.now) }
+    ensures { (n : ℕ) → n < length host.now.topo.now.nodes → last_end (as_system host.now) n ≤ result }
+{
+    let mut high = 0;
+    for node in 0..host.topo.count() {
+        high = higher(high, end_of(host, node));
+    }
+    high
+}
+
+/// The greater of two addresses.
+fn higher(high: u64, end: u64) -> u64
+    ensures first { high ≤ result }
+    ensures second { end ≤ result }
+{
+    if end > high { end } else { high }
+}
+
+/// The end of all that is committed in a node.
+fn end_of(host: &Host, node: u32) -> u64
+    requires ready { IsOrderlySystem (as_system host.now) }
+    requires here { node < length host.now.topo.now.nodes }
+    ensures { result ≡ last_end (as_system host.now) node }
+{
+    last_end(host.image.block(node))
+}
+
+/// Makes the offers those of a window, unless they are of one that asks for the same. Takes memory.
+pub(crate) fn renew(
+    kept: &mut KeptOffers,
+    alloc: Global,
+    host: &Host,
+    want: &Want,
+    w: &Window,
+    start: u64,
+    children: &[Vec<u32>],
+) -> Result<(), AllocError>
+    requires ready { IsOrderlySystem (as_system host.now) }
+    requires sound { HasWaysAndSize want.now }
+    requires children { AreChildren host.now.topo.now.nodes children.now }
+    requires kept { AreKept (as_system host.now) want.now kept.old }
+    requires high { kept.old.high ≤ start }
+    ensures kept { OnOk result (AreKept (as_system host.now) want.now kept.new) }
+    ensures offers { OnOk result (AreOffers (as_system host.now) want.now w.now start kept.new.table.items) }
+    ensures count { OnOk result (length kept.new.table.items ≡ length host.now.topo.now.nodes * 17) }
+{
+    tree_laws();
+    let code = wanted_code(want, w);
+    let third = third_of(w);
+    let whole = kept.table.len() == host.topo.count() as usize * 17;
+    if kept.code == code && kept.third == third && whole {
+        return Ok(());
+    }
+    kept.table = offers(alloc, host, want, w, start, children)?;
+    kept.code = code;
+    kept.third = third;
+    Ok(())
+}
+
+/// 3 where three divides the ways of a window, else 1.
+fn third_of(w: &Window) -> u8
+    ensures { result ≡ third_of w.now.ways }
+{
+    if w.ways() % 3 == 0 { 3 } else { 1 }
 }
 
 // ---- the table
@@ -187,8 +288,14 @@ fn serves_by(
     ensures { result ≡ can_serve_by (as_system host.now) want.now w.now start node m
         (length (offers_at table.now (length host.now.topo.now.nodes) children.now (m / u))) u }
 {
-    let willing = willing(host.topo.count(), children, table, m / u);
-    can_serve_by(host, want, w, start, node, m, willing, u)
+    // What the children give is asked for last, since it takes longest.
+    if m % u != 0 {
+        return false;
+    }
+    if !can_serve_by(host, want, w, start, node, m, usize::from(u), u) {
+        return false;
+    }
+    usize::from(u) <= willing(host.topo.count(), children, table, m / u)
 }
 
 /// How many children give something for `share` endpoints.

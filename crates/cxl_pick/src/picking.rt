@@ -1,4 +1,4 @@
-ghost use Rattle.std.specs.Prelude.{◌≡◌, ◌≢◌, ◌≤◌, ◌<◌, ◌==◌, ℕ, [], true, false, List, length, map, option_map, option_and_then, IfOk, IfErr, IfSome, MatchOption, All, Ok, Err};
+ghost use Rattle.std.specs.Prelude.{◌≡◌, ◌≢◌, ◌≤◌, ◌<◌, ◌==◌, ℕ, [], true, false, List, length, map, option_map, option_and_then, IfOk, IfErr, IfSome, OnOk, MatchOption, All, Ok, Err};
 ghost use Rattle.std.specs.List.{list_any};
 ghost use Rattle.cxl_enc.specs.Codes.{is_ways};
 ghost use Rattle.cxl_topo.specs.Tree.{is_endpoint_at, bridge_with};
@@ -10,13 +10,13 @@ ghost use Rattle.cxl_model.specs.Accepted.{IsAccepted, IsOrderlySystem};
 ghost use Rattle.cxl_pick.specs.Picking.{IsWantedSize, given_in, all_given, AreInOrder, IsPicked, NothingGiven, TellsPickFault, FitsFirst, NothingFits, PlansFirst, NothingPlans};
 ghost use Rattle.cxl_pick.specs.Picked.{picked};
 ghost use Rattle.cxl_pick.specs.inner.Wanted.{HasWaysAndSize};
-ghost use Rattle.cxl_pick.specs.inner.Offers.{AreChildren, some_of, listed_at};
+ghost use Rattle.cxl_pick.specs.inner.Offers.{AreChildren, AreKept, some_of, listed_at};
 
 use crate::fault::PickFault;
 use crate::laws::{
     fitting_sets_are_given, fitting_sets_have_plans, given_sets_fit, wants_come_to_answers,
 };
-use crate::offers::{children, gives, listed, offers};
+use crate::offers::{KeptOffers, children, gives, listed, no_offers, offers, renew};
 use crate::terms::{can_take, latest_start};
 use crate::want::Want;
 use cxl_image::Image;
@@ -43,11 +43,16 @@ pub fn pick(
     ensures endpoints { IfOk result (λ set. All (λ m. is_endpoint_at topo.now.nodes m ≡ true) set.items) }
     ensures count { IfOk result (λ set. length set.items ≡ want.now.ways) }
 
-    // They keep all that a request has to in a window, and no set of so many endpoints does so in an earlier one.
-    ensures fits { IfOk result (λ set. FitsFirst (system_of image.now topo.now windows.now) want.now set.items) }
+    // In the window of the pick they keep all that a request has to, and no set of so many endpoints does so in an
+    // earlier one.
+    ensures fits { IfOk result (λ set. (w : WindowFields)
+        → IsPicked (system_of image.now topo.now windows.now) want.now w set.items
+        → FitsFirst (system_of image.now topo.now windows.now) want.now w set.items) }
 
     // They have a legal plan there, and no set of so many endpoints has one in an earlier window.
-    ensures legal { IfOk result (λ set. PlansFirst (system_of image.now topo.now windows.now) want.now set.items) }
+    ensures legal { IfOk result (λ set. (w : WindowFields)
+        → IsPicked (system_of image.now topo.now windows.now) want.now w set.items
+        → PlansFirst (system_of image.now topo.now windows.now) want.now w set.items) }
 
     // The first two faults come exactly where they hold, and the third where no set of so many endpoints keeps all
     // that a request has to.
@@ -110,8 +115,9 @@ fn pick_first(alloc: Global, host: &Host, want: &Want) -> Result<Option<Vec<u32>
 {
     tree_laws();
     let children = children(alloc, host.topo)?;
+    let mut kept = no_offers(alloc, host, want);
     for w in host.windows {
-        match pick_in(alloc, host, want, w, &children)? {
+        match pick_in(&mut kept, alloc, host, want, w, &children)? {
             Some(given) => {
                 let set = in_order(alloc, host.topo.count(), &given)?;
                 return Ok(Some(set));
@@ -124,6 +130,7 @@ fn pick_first(alloc: Global, host: &Host, want: &Want) -> Result<Option<Vec<u32>
 
 /// What the target bridges of a window give, where each gives something. Takes memory.
 fn pick_in(
+    kept: &mut KeptOffers,
     alloc: Global,
     host: &Host,
     want: &Want,
@@ -133,7 +140,9 @@ fn pick_in(
     requires ready { IsOrderlySystem (as_system host.now) }
     requires sound { HasWaysAndSize want.now }
     requires children { AreChildren host.now.topo.now.nodes children.now }
-    ensures { IfOk result
+    requires kept { AreKept (as_system host.now) want.now kept.old }
+    ensures kept { OnOk result (AreKept (as_system host.now) want.now kept.new) }
+    ensures given { IfOk result
         (λ o. option_map (λ given. given.items) o ≡ given_in (as_system host.now) want.now w.now) }
 {
     tree_laws();
@@ -144,8 +153,13 @@ fn pick_in(
     let Some(start) = latest_start(want, w) else {
         return Ok(None);
     };
-    let table = offers(alloc, host, want, w, start, children)?;
-    all_given(alloc, host.topo, w.targets(), &table, want.ways / w.ways())
+    let share = want.ways / w.ways();
+    if start < kept.high {
+        let table = offers(alloc, host, want, w, start, children)?;
+        return all_given(alloc, host.topo, w.targets(), &table, share);
+    }
+    renew(kept, alloc, host, want, w, start, children)?;
+    all_given(alloc, host.topo, w.targets(), &kept.table, share)
 }
 
 /// What the bridges of these UIDs give for `share` endpoints each, where each gives something. Takes memory.

@@ -22,3 +22,4 @@ pub mod ComputedFaults
 pub mod Computed
 pub mod Told
 pub mod ComputedAnswers
+pub mod Reordered

@@ -15,5 +15,8 @@ mod ways;
 mod windows;
 
 pub use cxl_model::{FixedList, Found, Place, Plan, PlanFault, Reason, Request, Row};
-pub use laws::{answers_hold_of_requests, requests_come_to_answers};
+pub use laws::{
+    answers_hold_of_requests, endpoints_stand_in_any_order, plans_go_by_any_name,
+    requests_come_to_answers,
+};
 pub use planning::plan;

@@ -22,7 +22,7 @@ use Rattle.cxl_media.specs.MediaState.{MediaState}
 use Rattle.cxl_machine.specs.Bytes.{piece_after, written}
 use Rattle.cxl_machine.specs.Machine.{Live, RegionJob, Machine}
 use Rattle.cxl_machine.specs.Jobs.{create_job, release_job, at_done}
-use Rattle.cxl_machine.specs.Requests.{request_for}
+use Rattle.cxl_request.specs.Requests.{request_for}
 use Rattle.cxl_machine.specs.Scripts.{Turn}
 use Rattle.cxl_machine.specs.Sound.{auto_name}
 

@@ -1,14 +1,17 @@
 -- The table of what nodes offer: a list for each node from the last to the first, and each number from 0 to 16.
-use Rattle.std.specs.Prelude.{◌≡◌, ℕ, ◌+◌, ◌-◌, ◌*◌, ◌/◌, ◌%◌, ◌<◌, ◌==◌, false, if◌then◌else◌, List, [], length, slice_get, Option, Some, None, unwrap_or, Vec}
+use Rattle.std.specs.Prelude.{◌≡◌, ℕ, ◌+◌, ◌-◌, ◌*◌, ◌/◌, ◌%◌, ◌<◌, ◌≤◌, ◌==◌, false, if◌then◌else◌, List, [], length, slice_get, Option, Some, None, unwrap_or, Vec}
 use Rattle.std.specs.Global.{Global}
 use Rattle.std.specs.Option.{option_map_or}
 use Rattle.std.specs.List.{filter_map, range_with_len}
+use Rattle.cxl_enc.specs.Codes.{third_of}
 use Rattle.cxl_topo.specs.declared.node.Node.{Node}
 use Rattle.cxl_topo.specs.Tree.{is_endpoint_at, child_of}
 use Rattle.cxl_window.specs.Fields.{WindowFields}
 use Rattle.cxl_model.specs.System.{System}
 use Rattle.cxl_pick.specs.declared.want.Want.{Want}
-use Rattle.cxl_pick.specs.Picking.{gives}
+use Rattle.cxl_legal.specs.Bases.{last_end}
+use Rattle.cxl_pick.specs.declared.offers.KeptOffers.{KeptOffers}
+use Rattle.cxl_pick.specs.Picking.{wanted_code, gives}
 
 -- the children of each port, by rising port
 pub record AreChildren (nodes : List Node) (table : List (Vec ℕ Global)) : Type 0 where
@@ -24,6 +27,12 @@ offered s want w start n m = unwrap_or (gives s want w start n m) []
 pub record AreOffers (s : System) (want : Want) (w : WindowFields) (start : ℕ) (table : List (Vec ℕ Global)) : Type 0 where
   pub each : (place : ℕ) (own : Vec ℕ Global) → slice_get table place ≡ Some own → 0 < place % 17
       → own.items ≡ offered s want w start (length s.nodes - 1 - place / 17) (place % 17)
+
+-- the offers are those of each window of their code and third, from each start at or above the end of all that is committed
+pub record AreKept (s : System) (want : Want) (kept : KeptOffers) : Type 0 where
+  pub high : (n : ℕ) → n < length s.nodes → last_end s n ≤ kept.high
+  pub offers : (w : WindowFields) (start : ℕ) → wanted_code want w ≡ kept.code → third_of w.ways ≡ kept.third → kept.high ≤ start
+      → AreOffers s want w start kept.table.items
 
 -- where the list of node c for the number v stands
 abbrev pub place_of : ℕ → ℕ → ℕ → ℕ

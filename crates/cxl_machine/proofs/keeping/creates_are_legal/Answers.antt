@@ -1,7 +1,5 @@
-use Rattle.cxl_machine.proofs.LegalCreates.{AnswersLaw, creates_legally}
+use Rattle.cxl_machine.proofs.LegalCreates.{creates_legally}
 use Rattle.cxl_machine.proofs.keeping.creates_are_legal.Goals as goal
 
 pub returns : goal.returns
-returns c m command is =
-    let laws : AnswersLaw = record { plans = c.answers_hold_of_requests.ensures.legal; picks = c.answers_hold_of_wants.ensures.endpoints } in
-    creates_legally laws m is command
+returns c m command is = creates_legally c.answers_hold_of_lines.ensures.legal m is command

@@ -1,7 +1,9 @@
-use Rattle.cxl_machine.proofs.RefusedCreates.{FaultLaws, named_refused}
+use Rattle.cxl_machine.proofs.RefusedCreates.{named_refused, picked_refused}
 use Rattle.cxl_machine.proofs.keeping.refused_creates_have_causes.Goals as goal
 
-pub returns : goal.returns
-returns c m create refusal is free unpicked asks =
-    let laws : FaultLaws = record { fault = c.answers_hold_of_requests.ensures.fault; none = c.answers_hold_of_requests.ensures.none } in
-    named_refused laws m is create refusal free unpicked asks
+pub returns-clause-named : goal.returns-clause-named
+returns-clause-named c m create refusal is free line asks = named_refused m create refusal free asks c.answers_hold_of_lines.ensures.refusal is line
+
+pub returns-clause-picked : goal.returns-clause-picked
+returns-clause-picked c m create ways refusal is free states code asks =
+    picked_refused m create refusal free asks c.answers_hold_of_lines.ensures.refusal is ways states code

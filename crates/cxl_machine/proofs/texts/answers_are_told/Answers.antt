@@ -6,8 +6,7 @@ laws : goal.After-releases_begin_as_machines → TellLaws
 laws c = record {
   regions = c.findings_are_told.ensures.regions;
   planned_system = c.regions_stay_after_a_create.ensures.system;
-  fault = c.plan_faults_are_told.ensures;
-  picks = c.answers_hold_of_wants.ensures.endpoints;
+  refusal = c.answered_lines_can_be_told.ensures.refusal;
   each = c.bytes_are_carried_one_to_one.ensures.each;
   weave = c.weaves_fill_their_regions.ensures.kept;
   ways = c.weaves_fill_their_regions.ensures.ways;

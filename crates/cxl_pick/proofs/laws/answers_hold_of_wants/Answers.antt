@@ -1,4 +1,5 @@
 use Rattle.cxl_pick.proofs.Computed.{told_set, told_fault, told_endpoints}
+use Rattle.cxl_pick.proofs.Picks.{not_memory}
 use Rattle.cxl_pick.proofs.laws.answers_hold_of_wants.Goals as goal
 
 pub returns-clause-ways : goal.returns-clause-ways
@@ -17,3 +18,6 @@ returns-clause-endpoints c = λ s want set system ports is. told_endpoints s wan
 
 pub returns-clause-fault : goal.returns-clause-fault
 returns-clause-fault c = λ s want fault system is. told_fault s want (c.tree_laws.ensures.laws s.nodes system.tree) system fault is
+
+pub returns-clause-real : goal.returns-clause-real
+returns-clause-real c = λ s want is. not_memory s want is

@@ -22,15 +22,14 @@ fitting c s want w set system ports accepted has = record {
 }
 
 pub returns-clause-first : goal.returns-clause-first
-returns-clause-first c = λ s want set count fits.
-    let (plan, stated) = c.fitting_plans_are_legal.ensures.there s (asked want set) fits.window fits.base fits.fits in
+returns-clause-first c = λ s want w set count fits.
+    let (plan, stated) = c.fitting_plans_are_legal.ensures.there s (asked want set) w fits.base fits.fits in
     record {
-      window = fits.window;
       has = record {
         named = fits.fits.named;
         count = count;
         plan = plan;
-        legal = c.fitting_plans_are_legal.ensures.legal s (asked want set) fits.window fits.base plan fits.fits stated;
+        legal = c.fitting_plans_are_legal.ensures.legal s (asked want set) w fits.base plan fits.fits stated;
       };
       first = λ earlier other before has.
           fits.first earlier other has.plan.found.base before has.count (fitting c s want earlier other fits.fits.system fits.fits.ports fits.fits.accepted has);

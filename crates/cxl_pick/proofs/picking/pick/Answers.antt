@@ -43,7 +43,7 @@ returns-in-Ok-Some-clause-count c =
     c.given_sets_fit.ensures.ways s want own.0 own.1.given c.in-Ok-Some.set.items settled.system settled.ports settled.accepted settled.ways there own.1.gives own.1.rising
 
 pub returns-in-Ok-Some-clause-fits : goal.returns-in-Ok-Some-clause-fits
-returns-in-Ok-Some-clause-fits c =
+returns-in-Ok-Some-clause-fits c = λ w own.
     let s : System = system_of c.args.image.now c.args.topo.now c.args.windows.now in
     let want : Want = c.args.want.now in
     let settled : Settled s want = record {
@@ -56,28 +56,17 @@ returns-in-Ok-Some-clause-fits c =
       code = c.requires.code;
       given = c.fitting_sets_are_given.ensures s want;
     } in
-    let own = rw c.in-Ok-Some.field-0-is at c.in-Ok-Some.ensures in
-    fits_first s want settled own.0 c.in-Ok-Some.set.items own.1
+    fits_first s want settled w c.in-Ok-Some.set.items own
 
 pub returns-in-Ok-None-clause-nothing : goal.returns-in-Ok-None-clause-nothing
 returns-in-Ok-None-clause-nothing c = λ told.
     let s : System = system_of c.args.image.now c.args.topo.now c.args.windows.now in
     let want : Want = c.args.want.now in
-    let settled : Settled s want = record {
-      laws = c.tree_laws.ensures.laws s.nodes c.settle.ensures.system.tree;
-      system = c.settle.ensures.system;
-      ports = c.ports_are_bytes.ensures;
-      accepted = c.requires.accepted;
-      ways = sym (c.is_ways.ensures ∙ ap is_ways c.from.ensures) ∙ c.if-not-is_ways.false;
-      size = c.is_size.ensures.0 c.if-not-is_size.false;
-      code = c.requires.code;
-      given = c.fitting_sets_are_given.ensures s want;
-    } in
     let own = rw c.in-Ok-None.field-0-is at c.in-Ok-None.ensures in
-    nothing_fits s want settled own
+    nothing_fits s want (c.fitting_sets_are_given.ensures s want) own
 
 pub returns-in-Ok-Some-clause-legal : goal.returns-in-Ok-Some-clause-legal
-returns-in-Ok-Some-clause-legal c =
+returns-in-Ok-Some-clause-legal c = λ w own.
     let s : System = system_of c.args.image.now c.args.topo.now c.args.windows.now in
     let want : Want = c.args.want.now in
     let settled : Settled s want = record {
@@ -90,28 +79,17 @@ returns-in-Ok-Some-clause-legal c =
       code = c.requires.code;
       given = c.fitting_sets_are_given.ensures s want;
     } in
-    let own = rw c.in-Ok-Some.field-0-is at c.in-Ok-Some.ensures in
-    let there = (picked_of s want settled own.0 c.in-Ok-Some.set.items own.1).of.there in
+    let there = (picked_of s want settled w c.in-Ok-Some.set.items own).of.there in
     let count =
-    c.given_sets_fit.ensures.ways s want own.0 own.1.given c.in-Ok-Some.set.items settled.system settled.ports settled.accepted settled.ways there own.1.gives own.1.rising in
-    c.fitting_sets_have_plans.ensures.first s want c.in-Ok-Some.set.items count (fits_first s want settled own.0 c.in-Ok-Some.set.items own.1)
+    c.given_sets_fit.ensures.ways s want w own.given c.in-Ok-Some.set.items settled.system settled.ports settled.accepted settled.ways there own.gives own.rising in
+    c.fitting_sets_have_plans.ensures.first s want w c.in-Ok-Some.set.items count (fits_first s want settled w c.in-Ok-Some.set.items own)
 
 pub returns-in-Ok-None-clause-none : goal.returns-in-Ok-None-clause-none
 returns-in-Ok-None-clause-none c = λ told.
     let s : System = system_of c.args.image.now c.args.topo.now c.args.windows.now in
     let want : Want = c.args.want.now in
-    let settled : Settled s want = record {
-      laws = c.tree_laws.ensures.laws s.nodes c.settle.ensures.system.tree;
-      system = c.settle.ensures.system;
-      ports = c.ports_are_bytes.ensures;
-      accepted = c.requires.accepted;
-      ways = sym (c.is_ways.ensures ∙ ap is_ways c.from.ensures) ∙ c.if-not-is_ways.false;
-      size = c.is_size.ensures.0 c.if-not-is_size.false;
-      code = c.requires.code;
-      given = c.fitting_sets_are_given.ensures s want;
-    } in
     let own = rw c.in-Ok-None.field-0-is at c.in-Ok-None.ensures in
-    c.fitting_sets_have_plans.ensures.none s want settled.system settled.ports settled.accepted (nothing_fits s want settled own)
+    c.fitting_sets_have_plans.ensures.none s want c.settle.ensures.system c.ports_are_bytes.ensures c.requires.accepted (nothing_fits s want (c.fitting_sets_are_given.ensures s want) own)
 
 pub returns-in-Ok-Some-clause-answer : goal.returns-in-Ok-Some-clause-answer
 returns-in-Ok-Some-clause-answer c =

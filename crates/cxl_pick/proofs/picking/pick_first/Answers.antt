@@ -21,7 +21,7 @@ in_order-requires c =
     let w : WindowFields = c.w-item.result in
     let at = window_at s.windows c.loop-w.w-index w c.loop-w-test.true c.w-item.is in
     let is : given_in s want w ≡ Some c.in-Some.given.items =
-    sym c.in_ok-given.ensures ∙ ap (option_map (λ (x : Vec ℕ Global). x.items)) c.in-Some.is in
+    sym c.in_ok-given.ensures.given ∙ ap (option_map (λ (x : Vec ℕ Global). x.items)) c.in-Some.is in
     let low = given_low s want w c.in-Some.given.items (c.tree_laws.ensures.laws s.nodes c.requires.system.tree) c.requires.system (window_there s c.requires.system c.loop-w.w-index w at) is in
     let read = c.deref-in-Some.ensures.value in
     let count = c.count.ensures.count in
@@ -37,29 +37,35 @@ returns-in-Some c =
         place = c.loop-w.w-index;
         there = window_at s.windows c.loop-w.w-index w c.loop-w-test.true c.w-item.is;
         given = c.in-Some.given.items;
-        gives = sym c.in_ok-given.ensures ∙ ap (option_map (λ (x : Vec ℕ Global). x.items)) c.in-Some.is;
+        gives = sym c.in_ok-given.ensures.given ∙ ap (option_map (λ (x : Vec ℕ Global). x.items)) c.in-Some.is;
         rising = subst (λ (xs : List ℕ). AreInOrder xs c.in_ok-set-in-Some.set.items) c.deref-in-Some.ensures.value c.in_ok-set-in-Some.ensures;
-        first = c.loop-w.invariant;
+        first = c.loop-w.invariant.1;
       },
     )
 
 pub loop-w-preserved : goal.loop-w-preserved
-loop-w-preserved c = λ k v less there.
-    let s : System = as_system c.args.host.now in
-    let want : Want = c.args.want.now in
-    let w : WindowFields = c.w-item.result in
-    let i : ℕ = c.loop-w.w-index in
-    elim (cases_eq k i) [
-      | inl here ↦
-          let at = window_at s.windows i w c.loop-w-test.true c.w-item.is in
-          let same : w ≡ v = same_Some w v (sym at ∙ ap (slice_get s.windows) (sym here) ∙ there) in
-          ap (given_in s want) (sym same)
-          ∙ sym c.in_ok-given.ensures ∙ ap (option_map (λ (x : Vec ℕ Global). x.items)) c.in-None.is
-      | inr other ↦ c.loop-w.invariant k v (omega (arith, less, other)) there
-    ]
+loop-w-preserved c = (
+  c.in_ok-given.ensures.kept,
+  λ k v less there.
+      let s : System = as_system c.args.host.now in
+      let want : Want = c.args.want.now in
+      let w : WindowFields = c.w-item.result in
+      let i : ℕ = c.loop-w.w-index in
+      elim (cases_eq k i) [
+        | inl here ↦
+            let at = window_at s.windows i w c.loop-w-test.true c.w-item.is in
+            let same : w ≡ v = same_Some w v (sym at ∙ ap (slice_get s.windows) (sym here) ∙ there) in
+            ap (given_in s want) (sym same)
+            ∙ sym c.in_ok-given.ensures.given ∙ ap (option_map (λ (x : Vec ℕ Global). x.items)) c.in-None.is
+        | inr other ↦ c.loop-w.invariant.1 k v (omega (arith, less, other)) there
+      ],
+)
 
 pub returns : goal.returns
 returns c = λ place w at.
     let within = slice_get_within c.args.host.now.windows.now place w at in
     let past = c.loop-w-test.false in
-    c.loop-w.invariant place w (omega (arith, within, past)) at
+    c.loop-w.invariant.1 place w (omega (arith, within, past)) at
+
+pub pick_in-requires-clause-kept : goal.pick_in-requires-clause-kept
+pick_in-requires-clause-kept c = c.loop-w.invariant.0

@@ -9,8 +9,8 @@ use Rattle.cxl_pick.proofs.Givings.{at_uid}
 use Rattle.cxl_pick.proofs.Settled.{given_by_table}
 use Rattle.cxl_pick.proofs.picking.pick_in.Goals as goal
 
-pub returns : goal.returns
-returns c =
+pub returns-then-start-kept-clause-given : goal.returns-then-start-kept-clause-given
+returns-then-start-kept-clause-given c =
     let s : System = as_system c.args.host.now in
     let known : KnownTree s.nodes = record { tree = c.requires.ready.system.tree; laws = c.tree_laws.ensures.laws s.nodes c.requires.ready.system.tree } in
     let want = c.args.want.now in
@@ -27,3 +27,22 @@ returns c =
     (λ o. option_map (λ (given : Vec ℕ Global). given.items) o ≡ given_in s want w)
     (λ o given. given ∙ (λ k. all_given (map (at_uid s.nodes (read k) (want.ways / ways k)) (targets k))) ∙ is)
     c.all_given.ensures
+
+pub returns-clause-given : goal.returns-clause-given
+returns-clause-given c =
+    let s : System = as_system c.args.host.now in
+    let known : KnownTree s.nodes = record { tree = c.requires.ready.system.tree; laws = c.tree_laws.ensures.laws s.nodes c.requires.ready.system.tree } in
+    let want = c.args.want.now in
+    let w = c.args.w.now in
+    let table = c.renew.new.kept.table.items in
+    let read = c.deref-2.ensures.value in
+    let targets = c.targets-2.ensures.value in
+    let ways = c.ways.ensures.value in
+    let is : all_given (map (at_uid s.nodes table (want.ways / w.ways)) w.targets) ≡ given_in s want w =
+    given_by_table s known want w c.in-Some.start table c.in_ok-renew.ensures.offers c.in_ok-renew.ensures.count c.requires.sound.ways c.index-index.ensures.window.ways_known
+    (sym c.can_take.ensures ∙ c.if-not-can_take.false) (sym c.in-Some.ensures) in
+    if_ok c.all_given-2.result
+    (λ o. option_map (λ (given : Vec ℕ Global). given.items) o ≡ all_given (map (at_uid s.nodes c.deref-2.result.now (want.ways / c.ways.result)) c.targets-2.result.now))
+    (λ o. option_map (λ (given : Vec ℕ Global). given.items) o ≡ given_in s want w)
+    (λ o given. given ∙ (λ k. all_given (map (at_uid s.nodes (read k) (want.ways / ways k)) (targets k))) ∙ is)
+    c.all_given-2.ensures

@@ -1,7 +1,7 @@
 use Rattle.std.proofs.Common.{Ok, subst}
 use Rattle.cxl_model.specs.declared.plan.PlanFault.{PlanFault}
 use Rattle.cxl_plan.specs.Faults.{SaysOfRequest}
-use Rattle.cxl_plan.proofs.LegalAnswers.{legal_answer, no_plan}
+use Rattle.cxl_plan.proofs.LegalAnswers.{legal_answer, least_answer, no_plan}
 use Rattle.cxl_plan.proofs.ComputedAnswers.{told_plan, told_fault}
 use Rattle.cxl_plan.proofs.laws.answers_hold_of_requests.Goals as goal
 
@@ -17,6 +17,12 @@ pub returns-clause-legal : goal.returns-clause-legal
 returns-clause-legal c = λ s request plan system ports accepted named is.
     let told = told_plan s request system (c.tree_laws.ensures.laws s.nodes system.tree) ports accepted named c.fitting_plans_are_legal.ensures.there plan is in
     legal_answer s request system ports accepted named c.fitting_plans_are_legal.ensures.legal (Ok plan) told.0 told.1
+
+pub returns-clause-least : goal.returns-clause-least
+returns-clause-least c = λ s request plan system ports accepted named is.
+    let told = told_plan s request system (c.tree_laws.ensures.laws s.nodes system.tree) ports accepted named c.fitting_plans_are_legal.ensures.there plan is in
+    let laws = c.legal_plans_fit.ensures in
+    least_answer s request system ports accepted named laws.endpoints laws.window laws.base (Ok plan) told.1
 
 pub returns-clause-fault : goal.returns-clause-fault
 returns-clause-fault c = λ s request fault system ports accepted named is.

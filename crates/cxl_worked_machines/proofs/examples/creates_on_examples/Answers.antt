@@ -18,4 +18,4 @@ returns-clause-pending c = (Ok (create_job reset_system plan_r0), (Ok plan_r0, r
 
 pub returns-clause-picked : goal.returns-clause-picked
 unfolding gives_within
-returns-clause-picked c = (Ok (create_job reset_system plan_r0), (Ok (2 ∷ 3 ∷ []), refl, (Ok plan_r0, refl, refl)), refl)
+returns-clause-picked c = (Ok (create_job reset_system plan_r0), (Ok plan_r0, refl, refl), refl)

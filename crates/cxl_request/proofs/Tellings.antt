@@ -1,30 +1,51 @@
--- The faults of plans speak of nodes of the tree.
-use Rattle.std.proofs.Common.{◌≡◌, ℕ, zero, suc, ◌+◌, ◌<◌, ◌≤◌, Bool, true, false, List, [], ◌∷◌, ◌++◌, length, get_or, Option, Some, None, Err, refl, sym, ap, subst, ◌∙◌, inl, inr, arith}
-use Rattle.std.specs.Prelude.{slice_get, find, ◌==◌, not, All, Contains}
+-- Plans and their refusals can be told.
+use Rattle.std.proofs.Common.{◌≡◌, ◌≢◌, ℕ, zero, suc, ◌+◌, ◌<◌, ◌≤◌, Bool, true, false, not, List, [], ◌∷◌, ◌++◌, length, get_or, Option, Some, None, Ok, Err, refl, sym, ap, subst, ◌∙◌, inl, inr, arith}
+use Rattle.std.specs.Prelude.{slice_get, find, position, ◌==◌, All, Contains}
 use Rattle.std.specs.Option.{option_map_or}
 use Rattle.std.specs.List.{list_any, range_with_len}
 use Rattle.std.proofs.lemmas.Bool.{cases_Bool, cases_eq, eq-eqb, or_left, or_right, and_from, false≢true}
-use Rattle.std.proofs.lemmas.List.Elements.{All-head, All-tail, All-contains}
+use Rattle.std.proofs.lemmas.List.Elements.{All-head, All-tail, All-contains, Contains-get_or}
 use Rattle.std.proofs.lemmas.List.Folds.{list_any-from_Any}
 use Rattle.std.proofs.lemmas.Option.{none-some, same_Some, slice_get_within, slice_get-get_or}
-use Rattle.cxl_legal.specs.Endpoints.{is_uneven, lacks_decoder, share_of}
-use Rattle.cxl_legal.specs.Used.{AreEndpoints, is_used}
+use Rattle.cxl_legal.specs.Endpoints.{FitsEndpoints, is_uneven, lacks_decoder, share_of}
+use Rattle.cxl_legal.specs.Stated.{Fits, stated_rows}
+use Rattle.cxl_legal.specs.Used.{AreEndpoints, HasBytePorts, is_used}
 use Rattle.cxl_legal.specs.Windows.{can_select, can_have_ways}
+use Rattle.cxl_model.specs.Accepted.{IsAccepted}
 use Rattle.cxl_model.specs.Counts.{is_under}
-use Rattle.cxl_model.specs.System.{System, decoders_at, ram_at, pmem_at}
+use Rattle.cxl_model.specs.Plans.{IsLegalPlan, IsRow, with_rows}
+use Rattle.cxl_model.specs.Regions.{IsRegion, region_range}
+use Rattle.cxl_model.specs.System.{System, IsSystem, decoders_at, ram_at, pmem_at}
+use Rattle.cxl_model.specs.declared.found.Found.{Found}
+use Rattle.cxl_model.specs.declared.plan.Plan.{Plan}
 use Rattle.cxl_model.specs.declared.plan.PlanFault.{PlanFault}
 use Rattle.cxl_model.specs.declared.plan.PlanFault.TheVariants as faults
 use Rattle.cxl_model.specs.declared.plan.Reason.{Reason}
 use Rattle.cxl_model.specs.declared.plan.Reason.TheVariants as reasons
+use Rattle.cxl_model.specs.declared.plan.Row.{Row}
 use Rattle.cxl_model.specs.declared.request.Request.{Request}
-use Rattle.cxl_plan.specs.Faults.{IsFirstPlanFault, IsReason}
-use Rattle.cxl_reply.specs.Told.{IsToldReason, IsToldFault}
+use Rattle.cxl_plan.specs.Faults.{IsFirstPlanFault, IsFirstPlan, IsReason}
+use Rattle.cxl_plan.specs.Planned.{planned}
+use Rattle.cxl_pick.specs.Picked.{picked}
+use Rattle.cxl_pick.specs.Picking.{asked}
+use Rattle.cxl_pick.specs.declared.fault.PickFault.{PickFault}
+use Rattle.cxl_pick.specs.declared.fault.PickFault.TheVariants as picks
+use Rattle.cxl_pick.specs.declared.want.Want.{Want}
+use Rattle.cxl_regs.specs.Registers.{Registers}
+use Rattle.cxl_regs.specs.declared.decoder.Decoder.{Decoder}
+use Rattle.cxl_reply.specs.Plans.{IsToldRow, IsToldPlan}
+use Rattle.cxl_reply.specs.Told.{IsToldFound, IsToldReason, IsToldFault, IsTold}
+use Rattle.cxl_reply.specs.declared.reply.Reply.{Reply}
+use Rattle.cxl_script.specs.declared.command.Create.{Create}
 use Rattle.cxl_span.specs.Allotting.{all_committed, Allots}
 use Rattle.cxl_topo.specs.Laws.{AreTreeLaws}
 use Rattle.cxl_topo.specs.Tree.{is_endpoint_at, path_of, GoesDownTo}
 use Rattle.cxl_topo.specs.declared.node.Node.{Node}
 use Rattle.cxl_window.specs.Fields.{WindowFields}
 use Rattle.cxl_window.specs.Windows.{first_repeat}
+use Rattle.cxl_request.specs.Requests.{request_for, request_by_name, want_of, pick_reply, AsksForPlan}
+use Rattle.cxl_request.proofs.EndpointNames.{are_endpoints}
+use Rattle.cxl_request.proofs.Lines.{plan_from, refusal_from}
 
 -- ---- what is found
 
@@ -79,7 +100,7 @@ item_at [] i within = absurd (omega arith)
 item_at (x ∷ xs) zero within = (x, refl)
 item_at (x ∷ xs) (suc i) within = item_at xs i (omega arith)
 
-module _ (s : System) (request : Request) (laws : AreTreeLaws s.nodes) (named : AreEndpoints s request) where
+module _ (s : System) (request : Request) (system : IsSystem s) (laws : AreTreeLaws s.nodes) (named : AreEndpoints s request) where
   pub endpoint_inside : (m : ℕ) → is_endpoint_at s.nodes m ≡ true → m < length s.nodes
   endpoint_inside m is = let node = some_there _ (slice_get s.nodes m) is in slice_get_within s.nodes m node.0 node.1
 
@@ -126,3 +147,68 @@ module _ (s : System) (request : Request) (laws : AreTreeLaws s.nodes) (named : 
       let w = item_at s.windows k (omega arith) in
       told_reason w.0 (get_or told k d) (is.holds.each k w.0 (get_or told k d) w.1 (slice_get-get_or told k d within))
   told_fault faults.Memory is = absurd is.holds
+
+  -- ---- plans
+
+  has_block : (some : Option Registers) (i : ℕ) → position (λ (d : Decoder). not d.committed) (option_map_or (λ block. block.decoders) some []) ≡ Some i → (block : Registers) × (some ≡ Some block)
+  has_block None i e = absurd (none-some i e)
+  has_block (Some block) i e = (block, refl)
+
+  told_row : (plan : Plan) (row : Row) → IsRow s (region_range plan.found) row → IsToldRow s.nodes row
+  told_row plan row is =
+      let block = has_block (slice_get s.blocks row.node) row.index is.first in
+      let within = slice_get_within s.blocks row.node block.0 block.1 in
+      let count = system.caps.count in
+      record { node = omega arith; gran = is.kept.gran }
+
+  abbrev pub KeepsSystem : Type 0
+  KeepsSystem = (t : System) (r : Request) (w : WindowFields) (base : ℕ) → Fits t r w base → IsSystem (with_rows t (stated_rows t r w base))
+
+  abbrev pub TellsRegions : Type 0
+  TellsRegions = (t : System) (found : Found) → IsSystem t → IsRegion t found → IsToldFound t.nodes found
+
+  pub told_plan : KeepsSystem → TellsRegions → HasBytePorts s.nodes → IsAccepted s → (plan : Plan) → FitsEndpoints s request → IsFirstPlan s request plan → IsLegalPlan s request plan → IsToldPlan s.nodes plan
+  told_plan keeps tells ports accepted plan fits is legal =
+      let takes = is.first.takes in
+      let all : Fits s request is.window plan.found.base = record {
+        system = system;
+        ports = ports;
+        accepted = accepted;
+        named = named;
+        endpoints = fits;
+        window = takes.window;
+        starts = record { can = takes.least.can; inside = takes.inside };
+      } in
+      let kept : IsSystem (with_rows s plan.rows) = subst (λ rows. IsSystem (with_rows s rows)) (sym is.stated.rows) (keeps s request is.window plan.found.base all) in
+      record {
+        gran = (tells (with_rows s plan.rows) plan.found kept (legal.0, legal.1.region)).gran;
+        rows = λ k d within. told_row plan (get_or plan.rows k d) (legal.1.each_row (get_or plan.rows k d) (Contains-get_or plan.rows k d within));
+      }
+
+-- ---- what a line is answered
+
+-- what is known of planner and picker over one host
+pub record Tells (s : System) : Type 0 where
+  pub plan : (request : Request) (plan : Plan) → AreEndpoints s request → planned s request ≡ Ok plan → IsToldPlan s.nodes plan
+  pub fault : (request : Request) (fault : PlanFault) → AreEndpoints s request → planned s request ≡ Err fault → IsToldFault s.nodes fault
+  pub endpoints : (want : Want) (set : List ℕ) → picked s want ≡ Ok set → AreEndpoints s (asked want set)
+  pub real : (want : Want) → picked s want ≢ Err picks.Memory
+
+module _ (s : System) (create : Create) (tells : Tells s) where
+  pub line_plan : (plan : Plan) → AsksForPlan s create (Ok plan) → IsToldPlan s.nodes plan
+  line_plan plan is =
+      plan_from s create plan is (λ line all at. tells.plan (request_by_name s.nodes create) plan (are_endpoints s.nodes create.endpoints) at)
+      (λ ways set line at plans. tells.plan (request_for create set) plan (tells.endpoints (want_of create ways) set at) plans)
+
+  told_pick : (ways : ℕ) (fault : PickFault) → picked s (want_of create ways) ≡ Err fault → IsTold s.nodes (pick_reply fault)
+  told_pick ways (picks.Ways n) at = tt
+  told_pick ways picks.Size at = tt
+  told_pick ways picks.NoSet at = tt
+  told_pick ways picks.Memory at = absurd (tells.real (want_of create ways) at)
+
+  pub line_refusal : (refusal : Reply) → AsksForPlan s create (Err refusal) → IsTold s.nodes refusal
+  line_refusal refusal is =
+      refusal_from s create (IsTold s.nodes) refusal is (λ name line at. tt)
+      (λ fault line all at. tells.fault (request_by_name s.nodes create) fault (are_endpoints s.nodes create.endpoints) at)
+      (λ ways fault line at. told_pick ways fault at)
+      (λ ways set fault line at plans. tells.fault (request_for create set) fault (tells.endpoints (want_of create ways) set at) plans)

@@ -1,0 +1,3 @@
+mod EndpointNames
+mod Lines
+mod Tellings

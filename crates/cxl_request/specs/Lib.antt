@@ -1,0 +1,3 @@
+pub mod Endpoints
+pub mod Requests
+pub mod Plans
