@@ -1,8 +1,7 @@
 -- The turn of an abort: the pending job is undone, or some of its writes are not taken back.
-use Rattle.std.proofs.Common.{◌≡◌, ℕ, ◌+◌, ◌<◌, ◌≤◌, List, [], length, Option, Some, None, Ok, refl, sym, ap, ◌∙◌, subst, arith}
+use Rattle.std.proofs.Common.{◌≡◌, ℕ, ◌≤◌, List, [], length, Option, Some, None, refl, sym, ap, ◌∙◌, subst, arith}
 use Rattle.cxl_enc.specs.Faults.{Rose, LeavesCount}
 use Rattle.cxl_regs.specs.Registers.{Registers}
-use Rattle.cxl_bus.specs.declared.sent.Sent.{Sent}
 use Rattle.cxl_bus.specs.RegsState.{RegsState}
 use Rattle.cxl_bus.specs.Trail.{trail_with}
 use Rattle.cxl_media.specs.MediaState.{MediaState}
@@ -12,7 +11,7 @@ use Rattle.cxl_apply.specs.Jobs.{AreTakenBack, blocks_done}
 use Rattle.cxl_apply.specs.WordsSent.{words_taken_back}
 use Rattle.cxl_reply.specs.declared.reply.Reply.TheVariants as replies
 use Rattle.cxl_machine.specs.Machine.{RegionJob, Machine}
-use Rattle.cxl_machine.specs.Jobs.{total_of, at_done, undone}
+use Rattle.cxl_machine.specs.Jobs.{at_done, undone}
 use Rattle.cxl_machine.specs.Outcomes.{NoFault, LeftPending}
 use Rattle.cxl_machine.specs.Regions.{Aborts, OfPending, pending_reply}
 use Rattle.cxl_machine.specs.Scripts.{Turn, answer_of}

@@ -1,5 +1,5 @@
 -- What is refused before a release begins, in its order.
-use Rattle.std.proofs.Common.{◌≡◌, ℕ, ◌<◌, ◌≤◌, Bool, true, false, List, [], ◌∷◌, map, length, get_or, Result, Ok, Err, Option, Some, None, refl, sym, ap, ◌∙◌, subst, arith, inl, inr, cond, ltb}
+use Rattle.std.proofs.Common.{◌≡◌, ℕ, ◌<◌, Bool, List, [], ◌∷◌, map, length, get_or, Ok, Err, Option, Some, None, refl, sym, ap, ◌∙◌, arith, inl, inr, cond, ltb}
 use Rattle.std.specs.Prelude.{slice_get, find, position, option_map, option_and_then, is_none, if◌then◌else◌}
 use Rattle.std.specs.Option.{option_map_or}
 use Rattle.std.specs.List.{position_or_len}
@@ -21,7 +21,7 @@ use Rattle.cxl_legal.specs.Firsts.{first_there}
 use Rattle.cxl_legal.proofs.FittingPorts.{find_passes}
 use Rattle.cxl_machine.specs.Machine.{Live, RegionJob, Machine, live_named, place_named, blocks_with}
 use Rattle.cxl_machine.specs.Jobs.{release_job}
-use Rattle.cxl_machine.specs.Requests.{busy, no_region, locked, not_last, spot_of, refusal_of_release, release_at, release_named, job_unless, asked_release}
+use Rattle.cxl_machine.specs.Requests.{busy, no_region, locked, not_last, spot_of, release_at, job_unless, asked_release}
 use Rattle.cxl_session.specs.declared.requests.Release.{Release}
 use Rattle.cxl_session.specs.declared.session.Session.TheInside.{Inside}
 use Rattle.cxl_session.specs.Inside.{job_fields, state_of, HasRooms}

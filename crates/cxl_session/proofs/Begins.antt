@@ -1,7 +1,6 @@
 -- A release begins: its region is no longer live, and no register is written.
-use Rattle.std.proofs.Common.{◌≡◌, ℕ, ◌+◌, ◌<◌, List, [], ◌∷◌, ◌++◌, map, length, Result, Ok, Err, Option, Some, None, refl, sym, ap, ◌∙◌, subst, arith}
+use Rattle.std.proofs.Common.{◌≡◌, ℕ, ◌<◌, List, [], ◌++◌, length, Ok, Err, Option, Some, None, refl, sym, ap, ◌∙◌, subst, arith}
 use Rattle.std.specs.Prelude.{slice_get, remove, IsSomeAnd}
-use Rattle.std.specs.List.{AllZip}
 use Rattle.std.specs.List.Sorted.{IsPermutation}
 use Rattle.std.proofs.lemmas.List.{append-nil}
 use Rattle.std.proofs.lemmas.Option.{slice_get_within, get_or_from_slice_get}
@@ -11,18 +10,16 @@ use Rattle.cxl_script.specs.declared.command.Command.TheVariants as commands
 use Rattle.cxl_model.specs.declared.found.Found.{Found}
 use Rattle.cxl_model.specs.declared.plan.Row.{Row}
 use Rattle.cxl_model.specs.System.{System}
-use Rattle.cxl_walk.specs.Keeping.{KeptFields}
 use Rattle.cxl_apply.specs.declared.write.Write.{Write}
 use Rattle.cxl_apply.specs.Jobs.{AreReleaseWrites}
 use Rattle.cxl_apply.specs.Releases.{rows_of}
 use Rattle.cxl_apply.specs.Steps.{JobState}
 use Rattle.cxl_reply.specs.declared.reply.Reply.{Reply}
 use Rattle.cxl_reply.specs.declared.reply.Reply.TheVariants as replies
-use Rattle.cxl_machine.specs.Machine.{Live, RegionJob, Releases, Machine, under_release, blocks_with, kept_regions}
+use Rattle.cxl_machine.specs.Machine.{Live, RegionJob, Machine, under_release, blocks_with, kept_regions}
 use Rattle.cxl_machine.specs.Jobs.{release_job, release_writes, total_of, begun}
 use Rattle.cxl_machine.specs.Outcomes.{NoFault}
 use Rattle.cxl_machine.specs.Regions.{begin_answer, begun_reply}
-use Rattle.cxl_machine.specs.Replies.{stays}
 use Rattle.cxl_machine.specs.Requests.{asked_release}
 use Rattle.cxl_machine.specs.Scripts.{Turn}
 use Rattle.cxl_machine.specs.Sound.{IsMachine}
@@ -36,6 +33,7 @@ use Rattle.cxl_session.specs.inner.Requests.{IsRelease}
 use Rattle.cxl_session.proofs.Places.{stands_at}
 use Rattle.cxl_session.proofs.Rearranged.{IsRearranged, rearranged_sound}
 use Rattle.cxl_session.proofs.Turns.{still, no_words}
+use Rattle.cxl_session.proofs.Undoing.{IsBegunFrom, no_own_job}
 use Rattle.cxl_session.proofs.Zips.{map-remove, zip_remove}
 
 -- a release that a line asks for begins as a machine
@@ -108,6 +106,17 @@ module _ (release_law : ReleaseLaw) (begins_law : BeginsLaw) (session next : Ses
           kept = kept.2;
         },
         refl,
+      )
+
+  -- the session has begun it from one that keeps its region
+  pub begun_from : (m : Machine) → StandsFor session m → IsRelease m name release → (own : JobFields) × (next ≡ session_begun own session) × IsBegunFrom session own × (own.done ≡ 0)
+  begun_from m stands is =
+      let here = stands_at session m release.place is.region stands is.there in
+      let kept = some_of (IsKeptIn m.settled is.region.found) (slice_get session.kept release.place) here.kept in (
+        own_job release.place is.region.name is.region.found kept.0 job,
+        is_next is.region.name is.region.found kept.0 here.name here.found kept.1,
+        record { idle = no_own_job m session.job m.job is.idle stands.job; name = here.name; found = here.found; kept = kept.1 },
+        fresh,
       )
 
   -- session, registers and media stand for the machine at which it is pending

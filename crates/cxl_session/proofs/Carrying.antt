@@ -1,5 +1,5 @@
 -- Copies and moves between two live regions: the pieces carried over, and the machine that answers.
-use Rattle.std.proofs.Common.{◌≡◌, ◌≢◌, ℕ, ◌+◌, ◌<◌, ◌≤◌, true, false, List, ◌∷◌, ◌++◌, map, length, Option, Some, None, unwrap_or, refl, sym, ap, ◌∙◌, subst, arith}
+use Rattle.std.proofs.Common.{◌≡◌, ◌≢◌, ℕ, ◌+◌, ◌<◌, ◌≤◌, true, false, List, ◌∷◌, ◌++◌, map, length, Option, Some, unwrap_or, refl, sym, ap, ◌∙◌, subst, arith}
 use Rattle.std.specs.Prelude.{slice_get, nat_lt, Contains, IsSomeAnd}
 use Rattle.std.specs.FinMap as fin
 use Rattle.std.specs.List.Sorted.{IsPermutation}
@@ -19,9 +19,8 @@ use Rattle.cxl_model.specs.Bytes.{LiesInSpan}
 use Rattle.cxl_model.specs.Contents.{Holding, AreMediaOf}
 use Rattle.cxl_move.specs.Sides.{AreHeld, AreSides, IsMoved, IsCopied}
 use Rattle.cxl_move.specs.Holdings.{told_in, AreHoldings}
-use Rattle.cxl_reply.specs.declared.reply.Reply.{Reply}
 use Rattle.cxl_reply.specs.declared.reply.Reply.TheVariants as replies
-use Rattle.cxl_machine.specs.Machine.{Live, Machine, absent_window, region_window, holding_of, under_release, kept_regions, free_frames, pieces_held}
+use Rattle.cxl_machine.specs.Machine.{Live, Machine, absent_window, region_window, holding_of, under_release, kept_regions}
 use Rattle.cxl_machine.specs.Answers.{Answers}
 use Rattle.cxl_machine.specs.Copies.{pieces_of, carried, copied, moved, frames_for, copy_between, move_between, copy_answer, move_answer}
 use Rattle.cxl_machine.specs.Outcomes.{BusOutcome, NoFault, is_access, StoresBytes}
@@ -38,7 +37,7 @@ use Rattle.cxl_session.specs.inner.Answering.{HoldsMachine, IsWritten}
 use Rattle.cxl_session.specs.inner.Pairs.{IsSideAt, AreTwo}
 use Rattle.cxl_session.specs.inner.Places.{StandsAt}
 use Rattle.cxl_session.proofs.Fronts.{two_at_front, second_with, both_with}
-use Rattle.cxl_session.proofs.Holding.{CountLaw, PieceCountLaw, holdings_of, are_holdings, holdings_again, media_again, holds_next, pieces_are, pieces_fit, window_at}
+use Rattle.cxl_session.proofs.Holding.{CountLaw, PieceCountLaw, holdings_of, are_holdings, holdings_again, media_again, holds_next, pieces_are, window_at}
 use Rattle.cxl_session.proofs.Stays.{stands_with}
 
 -- ---- sides

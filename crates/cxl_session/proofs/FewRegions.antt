@@ -1,6 +1,6 @@
 -- An image has few regions: their bases rise by 256 MiB at least, below the limit of host addresses.
-use Rattle.std.proofs.Common.{◌≡◌, ℕ, zero, suc, ◌+◌, ◌-◌, ◌*◌, ◌%◌, ◌^◌, ◌<◌, ◌≤◌, Bool, true, false, ◌&&◌, List, [], ◌∷◌, length, get_or, Option, Some, None, refl, sym, ap, ◌∙◌, subst, inl, inr, arith}
-use Rattle.std.specs.Prelude.{slice_get, All}
+use Rattle.std.proofs.Common.{◌≡◌, ℕ, zero, suc, ◌+◌, ◌-◌, ◌*◌, ◌%◌, ◌^◌, ◌<◌, ◌≤◌, true, List, [], ◌∷◌, length, get_or, Option, Some, None, refl, subst, inl, inr, arith}
+use Rattle.std.specs.Prelude.{slice_get}
 use Rattle.std.specs.Option.{option_map_or}
 use Rattle.std.specs.List.{list_any}
 use Rattle.std.proofs.lemmas.Bool.{and_parts, eqb-true, cases_lt}
@@ -15,8 +15,8 @@ use Rattle.cxl_window.specs.Fields.{WindowFields}
 use Rattle.cxl_model.specs.declared.found.Found.{Found}
 use Rattle.cxl_model.specs.Listed.{AreRegionsByBase}
 use Rattle.cxl_model.specs.Ranges.{IsCommittedRange}
-use Rattle.cxl_model.specs.Regions.{region_range, IsRegion, IsRegionIn}
-use Rattle.cxl_model.specs.System.{System, IsSystem, decoders_at}
+use Rattle.cxl_model.specs.Regions.{region_range, IsRegionIn}
+use Rattle.cxl_model.specs.System.{System, IsSystem}
 
 abbrev pub EndsLow : Type 0
 EndsLow = (s : System) (w : WindowFields) (found : Found) → IsSystem s → IsRegionIn s w found → found.base + found.size ≤ address_limit

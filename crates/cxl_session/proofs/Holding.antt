@@ -1,6 +1,6 @@
 -- The regions of a machine with their bytes, the blocks of media that hold these, and frames.
-use Rattle.std.proofs.Common.{◌≡◌, ◌≢◌, ℕ, ◌+◌, ◌<◌, ◌≤◌, List, [], ◌∷◌, ◌++◌, map, length, get_or, Option, Some, unwrap_or, refl, sym, ap, ◌∙◌, subst, arith}
-use Rattle.std.specs.Prelude.{slice_get, sum_by, All, AllPairs, Contains}
+use Rattle.std.proofs.Common.{◌≡◌, ◌≢◌, ℕ, ◌+◌, ◌<◌, ◌≤◌, List, [], ◌∷◌, map, length, get_or, Option, Some, unwrap_or, refl, sym, ap, ◌∙◌, subst, arith}
+use Rattle.std.specs.Prelude.{slice_get, sum_by, AllPairs, Contains}
 use Rattle.std.specs.FinMap as fin
 use Rattle.std.specs.List.{position_or_len}
 use Rattle.std.specs.List.Sorted.{IsPermutation}
@@ -23,7 +23,6 @@ use Rattle.cxl_move.specs.Holdings.{told_in, AreHoldings}
 use Rattle.cxl_move.proofs.Told.{media_of_alike}
 use Rattle.cxl_machine.specs.Machine.{Live, Machine, absent_window, region_window, holding_of, under_release, kept_regions, pieces_held}
 use Rattle.cxl_machine.specs.Copies.{pieces_of}
-use Rattle.cxl_machine.specs.Sound.{IsMachine}
 use Rattle.cxl_machine.proofs.KeepingBytes.{IsUncounted, uncounted, counted}
 use Rattle.cxl_machine.proofs.KeepingOrder.{pairs_again}
 use Rattle.cxl_session.specs.State.{SessionState}
@@ -51,7 +50,7 @@ window_at s w found system is =
     let place : found.window ≡ i = is.index ∙ system.made.indexed i w at in
     ap (λ (n : ℕ). slice_get s.windows n) place ∙ at
 
-window_there : (s : System) (w : WindowFields) (found : Found) → IsSystem s → IsRegionIn s w found → region_window s found ≡ w
+pub window_there : (s : System) (w : WindowFields) (found : Found) → IsSystem s → IsRegionIn s w found → region_window s found ≡ w
 window_there s w found system is = ap (λ (o : Option WindowFields). unwrap_or o absent_window) (window_at s w found system is)
 
 -- ---- the regions of a machine with their bytes

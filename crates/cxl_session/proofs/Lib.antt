@@ -4,7 +4,6 @@ pub mod Fronts
 pub mod Stays
 pub mod Holding
 pub mod Carrying
-pub mod EndpointNames
 pub mod ReadParts
 pub mod Held
 pub mod Downs
@@ -36,3 +35,10 @@ pub mod Removed
 pub mod Finished
 pub mod Steps
 pub mod Wholes
+pub mod AskedPlans
+pub mod AskedCreates
+pub mod PreparedCreates
+pub mod Creates
+pub mod Undoing
+pub mod Acts
+pub mod Shows

@@ -1,5 +1,5 @@
 -- The live regions of a machine for which a session stands are regions of the session's image, with their kept routes.
-use Rattle.std.proofs.Common.{◌≡◌, ◌↔◌, List, map, get_or, sym, ap, ◌∙◌, subst}
+use Rattle.std.proofs.Common.{◌≡◌, ◌↔◌, List, get_or, sym, ap, ◌∙◌, subst}
 use Rattle.std.specs.Prelude.{All, Contains}
 use Rattle.std.specs.List.{AllZip}
 use Rattle.std.proofs.lemmas.List.Elements.{All-map}

@@ -1,8 +1,8 @@
 -- The rows of a region's decoders, found node by node.
-use Rattle.std.proofs.Common.{◌≡◌, ℕ, zero, suc, ◌+◌, ◌<◌, ◌≤◌, Bool, true, false, ◌||◌, List, [], ◌∷◌, ◌++◌, length, drop, Option, Some, None, refl, sym, ap, ◌∙◌, subst, arith}
+use Rattle.std.proofs.Common.{◌≡◌, ℕ, zero, suc, ◌+◌, ◌<◌, ◌≤◌, Bool, true, false, ◌||◌, List, [], ◌∷◌, ◌++◌, length, drop, Option, Some, None, refl, sym, ap, ◌∙◌, arith}
 use Rattle.std.specs.Prelude.{slice_get, option_map, option_and_then, position}
 use Rattle.std.specs.Option.{option_map_or}
-use Rattle.std.specs.List.{filter_map, cons_option, list_any, range_with_len}
+use Rattle.std.specs.List.{filter_map, cons_option, range_with_len}
 use Rattle.std.proofs.lemmas.List.{append-nil}
 use Rattle.std.proofs.lemmas.List.Elements.{filter_map-append}
 use Rattle.std.proofs.lemmas.Option.{none-some, same_Some, slice_get_past}
@@ -12,7 +12,6 @@ use Rattle.cxl_regs.specs.Reading.{has_range}
 use Rattle.cxl_regs.specs.Registers.{Registers}
 use Rattle.cxl_regs.specs.Writes.{any_committed}
 use Rattle.cxl_model.specs.declared.plan.Row.{Row}
-use Rattle.cxl_model.specs.System.{System, decoders_at}
 use Rattle.cxl_apply.specs.Releases.{row_for}
 use Rattle.cxl_check.proofs.Numbers.{numbers_more}
 use Rattle.cxl_check.proofs.Searches.{position_is, position_none}

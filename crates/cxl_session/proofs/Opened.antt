@@ -1,5 +1,5 @@
 -- The session that opens on an image stands for the machine that opens.
-use Rattle.std.proofs.Common.{◌≡◌, ℕ, ◌+◌, ◌<◌, ◌≤◌, Bool, true, false, List, [], ◌∷◌, ◌++◌, map, length, get_or, take, Option, Some, None, Result, Ok, Err, refl, sym, ap, ◌∙◌, subst, arith}
+use Rattle.std.proofs.Common.{◌≡◌, ℕ, ◌+◌, ◌<◌, ◌≤◌, true, false, List, [], ◌∷◌, map, length, take, Option, Some, None, Result, Ok, Err, refl, sym, ap, ◌∙◌, subst, arith}
 use Rattle.std.specs.Prelude.{slice_get, All, Contains, sum_by, unwrap_or, option_map, is_err, OnOk, OnErr}
 use Rattle.std.specs.List.{AllZip, enumerate_from, range_with_len}
 use Rattle.std.specs.FinMap as finmap
@@ -25,13 +25,13 @@ use Rattle.cxl_media.specs.MediaState.{MediaState}
 use Rattle.cxl_window.specs.Fields.{WindowFields}
 use Rattle.cxl_legal.specs.Used.{HasBytePorts}
 use Rattle.cxl_model.specs.declared.found.Found.{Found}
-use Rattle.cxl_model.specs.Contents.{Contents, Holding, KeepsPieceAt, AreMediaOf}
+use Rattle.cxl_model.specs.Contents.{Contents, Holding, AreMediaOf}
 use Rattle.cxl_model.specs.Regions.{IsRegion, IsRegionIn}
 use Rattle.cxl_model.specs.System.{System, IsSystem, system_of}
 use Rattle.cxl_walk.specs.Keeping.{KeptFields, IsKept}
 use Rattle.cxl_machine.specs.Copies.{pieces_of}
 use Rattle.cxl_machine.specs.Machine.{Live, Machine, region_window, absent_window, holding_of, kept_regions, pieces_held}
-use Rattle.cxl_machine.specs.Sound.{IsMachine, Opens, auto_name, block_told, opened_region, enabled_blocks, enabled_system}
+use Rattle.cxl_machine.specs.Sound.{IsMachine, Opens, auto_name, block_told, opened_region, enabled_blocks}
 use Rattle.cxl_session.specs.State.{SessionState}
 use Rattle.cxl_session.specs.Standing.{IsKeptIn, StandsFor, IsAt}
 use Rattle.cxl_session.specs.Opening.{endpoints_in, enabling, empty_media, IsHalfEnabled}

@@ -1,5 +1,5 @@
 -- Two regions by their names, and what the names are answered.
-use Rattle.std.proofs.Common.{eq-eqb, ◌≡◌, ◌≢◌, ℕ, Bool, true, false, not, if◌then◌else◌, List, Option, Some, None, refl, sym, ap, ◌∙◌}
+use Rattle.std.proofs.Common.{eq-eqb, ◌≡◌, ℕ, true, false, not, if◌then◌else◌, List, Option, Some, None, refl, sym, ap, ◌∙◌}
 use Rattle.std.specs.Prelude.{◌==◌}
 use Rattle.std.specs.Option.{option_map_or}
 use Rattle.std.specs.Str.{bytes_eq}

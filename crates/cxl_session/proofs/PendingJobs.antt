@@ -6,20 +6,18 @@ use Rattle.std.specs.List.Sorted.{IsPermutation}
 use Rattle.std.proofs.lemmas.List.{append-nil}
 use Rattle.std.proofs.lemmas.List.Sorted.{IsPermutation-refl}
 use Rattle.cxl_regs.specs.Registers.{Registers}
-use Rattle.cxl_bus.specs.RegsState.{RegsState}
 use Rattle.cxl_media.specs.MediaState.{MediaState}
-use Rattle.cxl_model.specs.declared.found.Found.{Found}
 use Rattle.cxl_walk.specs.Keeping.{KeptFields}
 use Rattle.cxl_apply.specs.declared.write.Write.{Write}
 use Rattle.cxl_apply.specs.Jobs.{blocks_done}
-use Rattle.cxl_machine.specs.Machine.{Live, RegionJob, JobKind, Creates, Releases, Machine, region_released, under_release, blocks_with, kept_regions, image_of}
+use Rattle.cxl_machine.specs.Machine.{Live, RegionJob, JobKind, Creates, Releases, Machine, region_released, under_release, blocks_with, kept_regions}
 use Rattle.cxl_machine.specs.Jobs.{total_of, live_when_undone, at_done, undone}
-use Rattle.cxl_machine.specs.Sound.{IsMachine, IsSound}
+use Rattle.cxl_machine.specs.Sound.{IsSound}
 use Rattle.cxl_machine.proofs.KeepingJobs.{undone_keeps}
 use Rattle.cxl_machine.proofs.KeepingOrder.{put_back}
 use Rattle.cxl_machine.proofs.KeepingSteps.{at_done_keeps}
 use Rattle.cxl_session.specs.State.{JobFields, SessionState}
-use Rattle.cxl_session.specs.Standing.{place_of, IsKeptIn, image_of_region, IsJobFor, HasSameJob, StandsFor, IsAt}
+use Rattle.cxl_session.specs.Standing.{place_of, IsKeptIn, image_of_region, IsJobFor, HasSameJob, StandsFor}
 use Rattle.cxl_session.specs.inner.Regions.{taken_in, session_undone}
 use Rattle.cxl_session.proofs.Rearranged.{IsRearranged, rearranged_sound}
 use Rattle.cxl_session.proofs.Zips.{map-insert, zip_insert}

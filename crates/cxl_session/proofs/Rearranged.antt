@@ -1,7 +1,6 @@
 -- A machine in which the regions that have bytes stand in another order is held by the same media.
 use Rattle.std.proofs.Common.{◌≡◌, ℕ, ◌+◌, List, map, sym, ap, ◌∙◌, subst}
-use Rattle.std.specs.Prelude.{slice_get, unwrap_or, sum_by}
-use Rattle.std.specs.FinMap as finmap
+use Rattle.std.specs.Prelude.{slice_get, unwrap_or}
 use Rattle.std.specs.List.Sorted.{IsPermutation}
 use Rattle.std.proofs.lemmas.List.Sorted.{IsPermutation-map, IsPermutation-sym, Contains-permutation, sum_by-IsPermutation}
 use Rattle.cxl_regs.specs.Registers.{Registers}

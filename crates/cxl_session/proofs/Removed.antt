@@ -1,5 +1,5 @@
 -- A session from whose lists the region at a place is taken.
-use Rattle.std.proofs.Common.{◌≡◌, ℕ, List, get_or, Some, refl, sym, ap, ◌∙◌, subst}
+use Rattle.std.proofs.Common.{◌≡◌, ℕ, List, get_or, Some, ap, ◌∙◌}
 use Rattle.std.specs.Prelude.{slice_get, remove}
 use Rattle.std.proofs.lemmas.Option.{get_or_from_slice_get}
 use Rattle.cxl_model.specs.declared.found.Found.{Found}

@@ -1,10 +1,9 @@
 -- The turns of a step: the job ends, is pending with more writes made, or is left where the bus failed.
-use Rattle.std.proofs.Common.{◌≡◌, ℕ, ◌+◌, ◌-◌, ◌<◌, ◌≤◌, min, Bool, true, false, if◌then◌else◌, List, [], length, Option, Some, None, Ok, refl, sym, ap, ◌∙◌, subst, arith}
+use Rattle.std.proofs.Common.{◌≡◌, ℕ, ◌+◌, ◌<◌, ◌≤◌, min, Bool, true, false, if◌then◌else◌, List, [], length, Option, Some, None, refl, sym, ap, ◌∙◌, subst, arith}
 use Rattle.std.specs.Prelude.{nat_le}
 use Rattle.std.proofs.lemmas.Bool.{le-leb, lt-leb}
 use Rattle.cxl_enc.specs.Faults.{Rose, LeavesCount}
 use Rattle.cxl_regs.specs.Registers.{Registers}
-use Rattle.cxl_bus.specs.declared.sent.Sent.{Sent}
 use Rattle.cxl_bus.specs.RegsState.{RegsState}
 use Rattle.cxl_bus.specs.Trail.{trail_with}
 use Rattle.cxl_media.specs.MediaState.{MediaState}
@@ -13,7 +12,6 @@ use Rattle.cxl_model.specs.declared.found.Found.{Found}
 use Rattle.cxl_apply.specs.declared.write.Write.{Write}
 use Rattle.cxl_apply.specs.Jobs.{blocks_done}
 use Rattle.cxl_apply.specs.WordsSent.{words_made}
-use Rattle.cxl_reply.specs.declared.reply.Reply.{Reply}
 use Rattle.cxl_reply.specs.declared.reply.Reply.TheVariants as replies
 use Rattle.cxl_machine.specs.Machine.{RegionJob, JobKind, Creates, Releases, Machine}
 use Rattle.cxl_machine.specs.Jobs.{total_of, at_done, finished, settled_by}
@@ -22,7 +20,6 @@ use Rattle.cxl_machine.specs.Regions.{Steps, OfPending, pending_reply, ended_ans
 use Rattle.cxl_machine.specs.Replies.{Answer, becomes}
 use Rattle.cxl_machine.specs.Scripts.{Turn, answer_of}
 use Rattle.cxl_machine.specs.Trails.{SendsSteps, SendsPending, forward}
-use Rattle.cxl_machine.proofs.KeepingSteps.{part_of}
 use Rattle.cxl_session.specs.State.{JobFields, SessionState}
 use Rattle.cxl_session.specs.Standing.{IsAt, IsJobFor, place_of}
 use Rattle.cxl_session.specs.inner.Answering.{IsTurnFor}

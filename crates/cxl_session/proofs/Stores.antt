@@ -1,5 +1,5 @@
 -- Stores into a live region: the bytes put into one block or two, and the machine that answers.
-use Rattle.std.proofs.Common.{◌≡◌, ◌≢◌, ℕ, ◌+◌, ◌-◌, ◌*◌, ◌/◌, ◌%◌, ◌<◌, ◌≤◌, Bool, true, false, cond, if◌then◌else◌, List, [], ◌∷◌, ◌++◌, map, length, take, drop, min, Option, Some, is_some, refl, sym, ap, ◌∙◌, subst, arith}
+use Rattle.std.proofs.Common.{◌≡◌, ◌≢◌, ℕ, ◌+◌, ◌-◌, ◌/◌, ◌%◌, ◌<◌, ◌≤◌, Bool, true, false, cond, if◌then◌else◌, List, [], ◌∷◌, ◌++◌, map, length, take, drop, min, Option, Some, is_some, refl, sym, ap, ◌∙◌, subst, arith}
 use Rattle.std.specs.Prelude.{unwrap_or, replicate, nat_lt, nat_le, Contains}
 use Rattle.std.specs.FinMap as fin
 use Rattle.std.specs.List.Sorted.{IsPermutation}
@@ -24,7 +24,7 @@ use Rattle.cxl_machine.specs.Accesses.{offset_in, frames_wanted, store_into}
 use Rattle.cxl_machine.specs.Bytes.{AreBytes, piece_after, written}
 use Rattle.cxl_machine.specs.Machine.{Live, Machine, live_at, has_host, region_window, holding_of, under_release, kept_regions, free_frames, with_contents}
 use Rattle.cxl_machine.specs.Replies.{Answer, stays, becomes, ends_within}
-use Rattle.cxl_machine.specs.Sound.{IsMachine, block_told}
+use Rattle.cxl_machine.specs.Sound.{block_told}
 use Rattle.cxl_machine.proofs.KeepingBytes.{IsUncounted, uncounted}
 use Rattle.cxl_machine.proofs.KeepingLists.{changed, HaveOwnNames}
 use Rattle.cxl_machine.proofs.KeepingMachines.{TurnsLaw, live_there, store_keeps}

@@ -1,5 +1,5 @@
 -- Turns that leave session, registers and media as they are.
-use Rattle.std.proofs.Common.{◌≡◌, true, false, List, [], ◌++◌, Option, Some, None, Result, Ok, Err, refl, sym, ap, subst, arith}
+use Rattle.std.proofs.Common.{◌≡◌, true, false, List, [], Option, Some, None, Result, Ok, Err, refl, sym, ap, subst, arith}
 use Rattle.std.specs.Prelude.{OnOk, OnErr}
 use Rattle.std.specs.Result.{is_ok, is_err}
 use Rattle.std.proofs.lemmas.Bool.{false≢true}
@@ -14,10 +14,9 @@ use Rattle.cxl_machine.specs.Machine.{Machine}
 use Rattle.cxl_machine.specs.Answers.{Answers}
 use Rattle.cxl_machine.specs.Outcomes.{NoFault, faults_of}
 use Rattle.cxl_machine.specs.Replies.{stays}
-use Rattle.cxl_machine.specs.Scripts.{TakesTurn}
 use Rattle.cxl_machine.specs.Trails.{TrailOf}
 use Rattle.cxl_session.specs.State.{SessionState}
-use Rattle.cxl_session.specs.Standing.{IsAt, HasTaken}
+use Rattle.cxl_session.specs.Standing.{IsAt}
 use Rattle.cxl_session.specs.inner.Answering.{IsTurnFor}
 
 -- no word is sent

@@ -1,7 +1,6 @@
 -- A job that was begun is carried out: it ends, is undone, or stays pending where that fails too.
-use Rattle.std.proofs.Common.{◌≡◌, ℕ, zero, suc, ◌+◌, ◌<◌, ◌≤◌, List, [], ◌∷◌, ◌++◌, map, length, Option, Some, None, Result, Ok, Err, refl, sym, ap, ◌∙◌, subst, arith, append_assoc}
-use Rattle.std.specs.Prelude.{slice_get, insert, remove}
-use Rattle.std.proofs.lemmas.Option.{none-some, same_Some}
+use Rattle.std.proofs.Common.{◌≡◌, ℕ, ◌<◌, ◌≤◌, List, [], ◌++◌, length, Option, Some, None, Result, Err, refl, sym, ap, ◌∙◌, subst, arith, append_assoc}
+use Rattle.std.specs.Prelude.{slice_get}
 use Rattle.cxl_enc.specs.Faults.{Rose, LeavesCount}
 use Rattle.cxl_regs.specs.Registers.{Registers}
 use Rattle.cxl_bus.specs.declared.sent.Sent.{Sent}
@@ -17,16 +16,15 @@ use Rattle.cxl_reply.specs.declared.reply.Reply.{Reply}
 use Rattle.cxl_reply.specs.declared.reply.Reply.TheVariants as replies
 use Rattle.cxl_machine.specs.Machine.{Live, RegionJob, Machine}
 use Rattle.cxl_machine.specs.Jobs.{total_of, release_job, begun, at_done, finished, undone, settled_by}
-use Rattle.cxl_machine.specs.Outcomes.{BusOutcome, NoFault, Undone, LeftPending}
+use Rattle.cxl_machine.specs.Outcomes.{NoFault, Undone, LeftPending}
 use Rattle.cxl_machine.specs.Regions.{AnswersWhole, pending_reply, ended_reply}
 use Rattle.cxl_machine.specs.Replies.{stays}
 use Rattle.cxl_machine.specs.Requests.{asked_release}
 use Rattle.cxl_machine.specs.Sound.{IsMachine}
 use Rattle.cxl_machine.specs.Scripts.{Turn, answer_of}
-use Rattle.cxl_machine.specs.Trails.{forward, backward, GoesBackTo, SendsAsked}
-use Rattle.cxl_machine.proofs.KeepingSteps.{part_of}
+use Rattle.cxl_machine.specs.Trails.{forward, backward, SendsAsked}
 use Rattle.cxl_session.specs.State.{JobFields, SessionState}
-use Rattle.cxl_session.specs.Standing.{StandsFor, IsAt, IsJobFor, HasSameJob, place_of}
+use Rattle.cxl_session.specs.Standing.{StandsFor, IsAt, IsJobFor, HasSameJob}
 use Rattle.cxl_session.specs.declared.requests.Release.{Release}
 use Rattle.cxl_session.specs.inner.Answering.{IsTurnFor}
 use Rattle.cxl_session.specs.inner.Requests.{IsRelease}
@@ -37,6 +35,7 @@ use Rattle.cxl_session.proofs.Finished.{MediaLaws, finished_sound}
 use Rattle.cxl_session.proofs.PendingJobs.{image_holds, at_done_stands, at_done_sound, undone_stands, undone_sound}
 use Rattle.cxl_session.proofs.Steps.{ended_kind}
 use Rattle.cxl_session.proofs.Turns.{still}
+use Rattle.cxl_session.proofs.Undoing.{insert-remove}
 
 -- the session's job is the machine's
 pub own_job_for : (session : SessionState) (own : JobFields) → session.job ≡ Some own → (n : Machine) (job : RegionJob) → n.job ≡ Some job → HasSameJob n session.job n.job → IsJobFor n own job
@@ -142,6 +141,16 @@ module _ (session : SessionState) (old mid : RegsState) (own : JobFields) (here 
           },
         )
 
+    -- where no write was made before, session and registers are as they were
+    pub whole_undone_again : (media : MediaState) (m : Machine) (job : RegionJob) → IsAt session old media (begun job m) → own.done ≡ 0 → kept ≡ 0
+        → (session_undone own (record session { image = last; job = None }) ≡ session_undone own session) × (new.blocks ≡ old.blocks)
+    whole_undone_again media m job at none all =
+        let fresh : job.done ≡ 0 = sym (own_job_for session own here (begun job m) job refl at.stands.job).done ∙ none in
+        let is : last ≡ m.settled.blocks = last_is media m job at fresh ∙ ap (blocks_done m.settled.blocks own.writes) all in
+        let image : session.image ≡ m.settled.blocks = at.stands.image ∙ ap (blocks_done m.settled.blocks job.writes) fresh in
+        let before : old.blocks ≡ m.settled.blocks = at.sound.registers ∙ ap (blocks_done m.settled.blocks job.writes) fresh in
+        (ap (λ (blocks : List Registers). session_undone own (record session { image = blocks; job = None })) (is ∙ sym image), back.same ∙ is ∙ sym before)
+
     pub whole_left : (media : MediaState) → 1 ≤ kept → kept ≤ made → Rose mid.faults new.faults
         → IsWholeFor session (record session { image = last; job = Some (record own { done = kept }) }) old new media media
         (replies.BusPending record { name = own.name; done = kept; total = length own.writes })
@@ -171,11 +180,6 @@ module _ (session : SessionState) (old mid : RegsState) (own : JobFields) (here 
         )
 
 -- ---- a release that is undone before any write leaves the machine as it was
-
-insert-remove : {X : Type 0} (xs : List X) (i : ℕ) (x : X) → slice_get xs i ≡ Some x → insert (remove xs i) i x ≡ xs
-insert-remove [] i x at = absurd (none-some x at)
-insert-remove {X = X} (y ∷ ys) zero x at = ap (λ (z : X). z ∷ ys) (sym (same_Some y x at))
-insert-remove {X = X} (y ∷ ys) (suc i) x at = ap (λ (zs : List X). y ∷ zs) (insert-remove ys i x at)
 
 pub released_again : (m : Machine) (place : ℕ) (region : Live) → m.job ≡ None → slice_get m.live place ≡ Some region
     → undone (release_job m.settled place region) (begun (release_job m.settled place region) m) ≡ m

@@ -7,3 +7,4 @@ pub mod Storing
 pub mod Regions
 pub mod Rows
 pub mod Requests
+pub mod Creating

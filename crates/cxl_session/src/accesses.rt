@@ -12,7 +12,7 @@ ghost use Rattle.cxl_machine.specs.Accesses.{down_answer, downed, load_answer, r
 ghost use Rattle.cxl_session.specs.Standing.{StandsFor, IsKeptIn};
 ghost use Rattle.cxl_session.specs.inner.Answering.{StandsSomehow, IsReadFor};
 
-use crate::endpoints::{endpoint_named, endpoints_by_slot};
+use crate::endpoints::endpoints_by_slot;
 use crate::parts::load_bytes;
 use crate::session::Session;
 use crate::upward::host_of;
@@ -23,6 +23,7 @@ use cxl_model::{Step, chain_is_the_dealing, regions_lie_in_windows};
 use cxl_move::blocks_hold_their_pieces;
 use cxl_range::{extents, spread};
 use cxl_reply::{Downed, Extents, Reply, Spread, Upped, Via};
+use cxl_request::endpoint_named;
 use cxl_script::{Load, Reach, Up};
 use cxl_walk::Kept;
 use std::alloc::Global;

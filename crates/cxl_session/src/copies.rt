@@ -114,7 +114,7 @@ impl Session {
     }
 
     /// The place of the live region of a name.
-    fn place_of_name(&self, name: &Name) -> Option<usize>
+    pub(crate) fn place_of_name(&self, name: &Name) -> Option<usize>
         ensures named { (m : Machine) → StandsFor self.now m → IsNamedAt self.now m name.now result }
         ensures within { IfSome result (λ place. place < length self.now.founds) }
     {

@@ -2,7 +2,9 @@
 #![tactic(auto)]
 
 mod accesses;
+mod acting;
 mod copies;
+mod creating;
 mod endpoints;
 mod located;
 mod opening;
@@ -13,6 +15,7 @@ mod reports;
 mod requests;
 mod rows;
 mod session;
+mod showing;
 mod storing;
 mod upward;
 

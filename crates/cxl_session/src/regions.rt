@@ -14,7 +14,7 @@ ghost use Rattle.cxl_machine.specs.Replies.{is_refusal};
 ghost use Rattle.cxl_session.specs.Inside.{place_in, job_fields};
 ghost use Rattle.cxl_session.specs.Standing.{IsAt, Stands};
 ghost use Rattle.cxl_session.specs.inner.Answering.{IsTurnFor};
-ghost use Rattle.cxl_session.specs.inner.Regions.{session_undone, session_finished, named_region, finished_reply, BeginsRelease, IsTakenBackTo, IsMadeTo, IsLeftByEnd, IsWholeFor};
+ghost use Rattle.cxl_session.specs.inner.Regions.{session_undone, session_finished, named_region, finished_reply, BeginsRelease, IsTakenBackTo, IsMadeTo, IsLeftByEnd, IsWholeFor, LeavesUndone};
 
 use crate::pending::{Kind, Pending};
 use crate::session::Session;
@@ -108,8 +108,12 @@ impl Session {
         requires { Stands self.old (R.state regs.old) (M.state media.old) }
         ensures turn { IfOk result (IsTurnFor self.old self.new (R.state regs.old) (R.state regs.new) (M.state media.old)
             (M.state media.new) (commands.Destroy name)) }
+        ensures refused { IfOk result (λ reply. is_refusal reply ≡ true → (self.new ≡ self.old)
+            × ((R.state regs.new).blocks ≡ (R.state regs.old).blocks) × (M.state media.new ≡ M.state media.old)) }
         ensures memory { OnErr result ((self.new ≡ self.old) × (R.state regs.new ≡ R.state regs.old)
             × (M.state media.new ≡ M.state media.old)) }
+        ensures host { (self.new.topo ≡ self.old.topo) × (self.new.windows ≡ self.old.windows) }
+        ensures counts { (R.state regs.old).faults ≤ (R.state regs.new).faults }
     {
         jobs_have_one_list_of_writes();
         releases_begin_as_machines();
@@ -125,9 +129,13 @@ impl Session {
 
     /// Carries out the job that was begun, from its first write on. Where the bus fails it is undone, and where that fails
     /// too it stays pending.
-    fn carry_out<R: Regs, M: Media>(&mut self, regs: &mut R, media: &mut M) -> Reply
+    pub(crate) fn carry_out<R: Regs, M: Media>(&mut self, regs: &mut R, media: &mut M) -> Reply
         requires { (m : Machine) × (job : RegionJob) × IsAt self.old (R.state regs.old) (M.state media.old) (begun job m) }
-        ensures { IsWholeFor self.old self.new (R.state regs.old) (R.state regs.new) (M.state media.old) (M.state media.new) result }
+        ensures whole { IsWholeFor self.old self.new (R.state regs.old) (R.state regs.new) (M.state media.old) (M.state media.new) result }
+        ensures refused { is_refusal result ≡ true
+            → LeavesUndone self.old self.new (R.state regs.old) (R.state regs.new) (M.state media.old) (M.state media.new) }
+        ensures host { (self.new.topo ≡ self.old.topo) × (self.new.windows ≡ self.old.windows) }
+        ensures counts { (R.state regs.old).faults ≤ (R.state regs.new).faults }
     {
         pending_jobs_settle();
         finished_jobs_keep_machines();
@@ -250,7 +258,7 @@ impl Session {
     }
 
     /// The job stays pending.
-    fn keep(&mut self, pending: Pending)
+    pub(crate) fn keep(&mut self, pending: Pending)
         requires { HasWordsOf self.old.image pending.job.writes }
         ensures { self.new ≡ record self.old { job = Some (job_fields pending) } }
     {

@@ -11,12 +11,12 @@ ghost use Rattle.cxl_machine.specs.Replies.{stays};
 ghost use Rattle.cxl_machine.specs.Reports.{AnswersPoison, TouchesLive, poison_reply};
 ghost use Rattle.cxl_session.specs.Standing.{StandsFor};
 
-use crate::endpoints::endpoint_named;
 use crate::session::Session;
 use cxl_enc::{FixedList, Memory, Name};
 use cxl_model::{Entry, Found, PoisonList, Poisoned};
 use cxl_poison::{PoisonFault, pieces, read_list};
 use cxl_reply::{Counted, Reply, Report};
+use cxl_request::endpoint_named;
 use cxl_script::Poison;
 use cxl_window::Window;
 use std::alloc::Global;

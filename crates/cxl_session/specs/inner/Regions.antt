@@ -126,3 +126,8 @@ IsWholeFor session next old new media left reply =
     (m : Machine) (job : RegionJob) → IsAt session old media (begun job m) → job.done ≡ 0 → undone job (begun job m) ≡ m
     → (turn : Turn) × (outcome : BusOutcome) × CarriesOutWhole m job outcome (answer_of turn) × SendsWhole job outcome turn.trail
     × (turn.faults ≡ faults_of_whole outcome) × HasTaken turn reply next old new left
+
+-- a job that was begun with no write made is undone whole, and leaves registers and media as they were
+abbrev pub LeavesUndone : SessionState → SessionState → RegsState → RegsState → MediaState → MediaState → Type 0
+LeavesUndone session next old new media left =
+    (own : JobFields) → session.job ≡ Some own → own.done ≡ 0 → (next ≡ session_undone own session) × (new.blocks ≡ old.blocks) × (left ≡ media)

@@ -1,9 +1,9 @@
 -- The decoders of a region, by the blocks of an image alone.
-use Rattle.std.specs.Prelude.{◌+◌, Bool, List, [], drop}
+use Rattle.std.specs.Prelude.{◌≡◌, ◌+◌, Bool, List, [], drop, Some}
 use Rattle.cxl_regs.specs.Registers.{Registers}
 use Rattle.cxl_regs.specs.Writes.{any_committed}
 use Rattle.cxl_model.specs.declared.plan.Row.{Row}
-use Rattle.cxl_model.specs.System.{System, decoders_at}
+use Rattle.cxl_model.specs.System.{System, decoders_at, decoder_at}
 
 -- a node's decoders follow from the blocks
 abbrev pub blocks_alone : List Registers → System
@@ -15,3 +15,7 @@ is_locked row = row.decoder.lock
 -- another decoder above the row's is committed
 abbrev pub is_not_last : System → Row → Bool
 is_not_last s row = any_committed (drop (row.index + 1) (decoders_at s row.node))
+
+-- the row's decoder stands there
+abbrev pub IsRowOf : List Registers → Row → Type 0
+IsRowOf blocks row = decoder_at (blocks_alone blocks) row.node row.index ≡ Some row.decoder

@@ -1,5 +1,5 @@
 -- Bytes that are put into media, and the reply.
-use Rattle.std.specs.Prelude.{◌≡◌, ℕ, ◌+◌, ◌%◌, ◌<◌, ◌≤◌, List, ◌++◌, length}
+use Rattle.std.specs.Prelude.{◌≡◌, ℕ, ◌+◌, ◌%◌, ◌<◌, ◌≤◌, List, length}
 use Rattle.std.specs.FinMap as map
 use Rattle.cxl_media.specs.Blocks.{key_of, block_at, frames_needed, IsInOneBlock, overwritten}
 use Rattle.cxl_media.specs.MediaState.{MediaState, frame_count}

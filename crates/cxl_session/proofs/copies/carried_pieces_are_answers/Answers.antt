@@ -1,4 +1,3 @@
-use Rattle.cxl_media.specs.Blocks.{Blocks}
 use Rattle.cxl_model.specs.declared.found.Found.{Found}
 use Rattle.cxl_window.specs.Fields.{WindowFields}
 use Rattle.cxl_move.specs.Sides.{IsMoved, IsCopied}

@@ -1,4 +1,3 @@
-use Rattle.std.proofs.Common.{ℕ, List}
 use Rattle.cxl_move.specs.Sides.{AreSides}
 use Rattle.cxl_machine.proofs.Deciding.{contains_at}
 use Rattle.cxl_session.proofs.Holding.{pieces_fit}

@@ -1,5 +1,5 @@
 use Rattle.std.proofs.Common.{◌≡◌, ◌++◌, ap, ◌∙◌, true, false}
-use Rattle.std.specs.Prelude.{codes, decimal}
+use Rattle.std.specs.Prelude.{codes}
 use Rattle.cxl_machine.specs.Sound.{auto_name}
 use Rattle.cxl_session.proofs.AutoNames.{named_so}
 use Rattle.cxl_session.proofs.opening.auto_name.Goals as goal

@@ -1,8 +1,8 @@
-use Rattle.std.proofs.Common.{◌<◌, ◌≤◌, List, ℕ, length, ap, ◌∙◌, arith}
+use Rattle.std.proofs.Common.{◌<◌, List, ℕ, length, ap, ◌∙◌, arith}
 use Rattle.std.proofs.lemmas.List.{take_all}
 use Rattle.cxl_bus.specs.Trail.{blocks_sent, trail_with}
 use Rattle.cxl_session.specs.Opening.{enabling}
-use Rattle.cxl_session.proofs.Enabling.{enabled_none, enabled_more, enabled_stops}
+use Rattle.cxl_session.proofs.Enabling.{enabled_none, enabled_more}
 use Rattle.cxl_session.proofs.opening.enable.Goals as goal
 
 pub loop-node-init : goal.loop-node-init

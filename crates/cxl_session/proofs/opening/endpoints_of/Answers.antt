@@ -1,4 +1,4 @@
-use Rattle.std.proofs.Common.{◌≡◌, ℕ, true, false, Vec, Global, sym, ap, ◌∙◌}
+use Rattle.std.proofs.Common.{ℕ, Vec, Global, sym, ap, ◌∙◌}
 use Rattle.cxl_topo.specs.Tree.{is_endpoint_at}
 use Rattle.cxl_session.proofs.Enabling.{passing_one, passing_none}
 use Rattle.cxl_session.proofs.opening.endpoints_of.Goals as goal

@@ -1,4 +1,4 @@
-use Rattle.std.proofs.Common.{sym, ◌∙◌, ap, arith}
+use Rattle.std.proofs.Common.{sym, arith}
 use Rattle.std.proofs.lemmas.Option.{slice_get_within}
 use Rattle.cxl_session.proofs.NodeRows.{some_behind, none_behind}
 use Rattle.cxl_session.proofs.rows.has_committed_above.Goals as goal

@@ -1,4 +1,4 @@
-use Rattle.std.proofs.Common.{sym, ap, arith, ◌∙◌, Vec, Global}
+use Rattle.std.proofs.Common.{sym, ap, ◌∙◌, Vec, Global}
 use Rattle.cxl_model.specs.declared.plan.Row.{Row}
 use Rattle.cxl_model.specs.Regions.{region_range}
 use Rattle.cxl_apply.specs.Releases.{row_for}

@@ -1,6 +1,6 @@
 use Rattle.std.proofs.Common.{sym, ◌∙◌, arith}
 use Rattle.std.proofs.lemmas.Option.{slice_get_within}
-use Rattle.cxl_session.proofs.NodeRows.{row_past, row_is, row_none}
+use Rattle.cxl_session.proofs.NodeRows.{row_is, row_none}
 use Rattle.cxl_session.proofs.rows.row_for.Goals as goal
 
 pub returns-then-has_range : goal.returns-then-has_range

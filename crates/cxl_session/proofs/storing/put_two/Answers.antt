@@ -1,6 +1,5 @@
-use Rattle.std.proofs.Common.{◌≡◌, ◌≢◌, ℕ, ◌+◌, ◌≤◌, List, Option, cond, is_some, refl, sym, ap, ◌∙◌, arith}
-use Rattle.std.specs.FinMap as map
-use Rattle.cxl_media.specs.Blocks.{Key, Blocks, key_of, frames_needed}
+use Rattle.std.proofs.Common.{◌≡◌, ◌≢◌, ℕ, List, Option, cond, is_some, refl, sym, ap, ◌∙◌, arith}
+use Rattle.cxl_media.specs.Blocks.{Blocks, key_of, frames_needed}
 use Rattle.cxl_media.specs.MediaState.{MediaState}
 use Rattle.cxl_move.proofs.Changed.{insert_other}
 use Rattle.cxl_session.specs.inner.Storing.{need_at, IsPut, both_stored}

@@ -1,4 +1,4 @@
-use Rattle.std.proofs.Common.{List, Result, sym, subst}
+use Rattle.std.proofs.Common.{List, Result, subst}
 use Rattle.cxl_apply.specs.Jobs.{AreReleaseWrites}
 use Rattle.cxl_model.specs.declared.plan.Row.{Row}
 use Rattle.cxl_reply.specs.declared.reply.Reply.{Reply}

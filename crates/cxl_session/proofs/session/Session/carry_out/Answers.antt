@@ -1,5 +1,6 @@
-use Rattle.std.proofs.Common.{◌≡◌, ℕ, ◌+◌, ◌<◌, ◌≤◌, List, Option, Some, None, length, refl, sym, ap, ◌∙◌, subst, arith}
+use Rattle.std.proofs.Common.{◌≡◌, ℕ, ◌<◌, ◌≤◌, List, Option, Some, None, length, refl, sym, ap, ◌∙◌, subst, arith}
 use Rattle.std.specs.Prelude.{IfSome}
+use Rattle.std.proofs.lemmas.Option.{none-some, same_Some}
 use Rattle.cxl_regs.specs.Registers.{Registers}
 use Rattle.cxl_model.specs.declared.found.Found.{Found}
 use Rattle.cxl_model.specs.System.{System, IsSystem}
@@ -16,11 +17,11 @@ use Rattle.cxl_session.proofs.Finished.{MediaLaws, region_of_job}
 use Rattle.cxl_session.proofs.Room.{has_room, has_place}
 use Rattle.cxl_session.proofs.Steps.{reply_same}
 use Rattle.cxl_session.proofs.Turns.{on_err, on_ok, on_pass, on_fail}
-use Rattle.cxl_session.proofs.Wholes.{whole_ended, whole_undone, whole_left, own_job_for, same_whole}
+use Rattle.cxl_session.proofs.Wholes.{whole_ended, whole_undone, whole_undone_again, whole_left, own_job_for, same_whole}
 use Rattle.cxl_session.proofs.session.Session.carry_out.Goals as goal
 
-pub returns-in_default : goal.returns-in_default
-returns-in_default g c m job at fresh again =
+pub returns-in_default-clause-whole : goal.returns-in_default-clause-whole
+returns-in_default-clause-whole g c m job at fresh again =
     absurd (subst (λ (o : Option JobFields). HasSameJob (begun job m) o (Some job)) c.in_default.ensures.job at.stands.job)
 
 pub finish-requires-clause-region : goal.finish-requires-clause-region
@@ -35,8 +36,8 @@ finish-requires-clause-region g c =
     (region_of_job media_laws (begun job m) at.sound.machine job refl (g.M.Media.state c.args.media.now) (g.M.Media.state c.args.media.now)
     (c.finished_jobs_keep_machines.ensures (begun job m) job at.sound.machine refl))
 
-pub returns-then-is_ok : goal.returns-then-is_ok
-returns-then-is_ok g c =
+pub returns-then-is_ok-clause-whole : goal.returns-then-is_ok-clause-whole
+returns-then-is_ok-clause-whole g c =
     let session : SessionState = c.args.self.now in
     let own : JobFields = job_fields c.in-Some.pending in
     let left : List Registers = c.make.new.self.image in
@@ -66,8 +67,8 @@ returns-then-is_ok g c =
     (g.M.Media.state c.args.media.now) (g.M.Media.state c.finish.new.media) (all ∙ total) (on_ok c.make.result went c.make.ensures.unswallowed)
     (subst (λ (j : JobFields). IsLeftByEnd j (g.M.Media.state c.args.media.now) (g.M.Media.state c.finish.new.media)) c.make.ensures.job c.finish.ensures.media))
 
-pub returns-then-is_err : goal.returns-then-is_err
-returns-then-is_err g c =
+pub returns-then-is_err-clause-whole : goal.returns-then-is_err-clause-whole
+returns-then-is_err-clause-whole g c =
     let session : SessionState = c.args.self.now in
     let own : JobFields = job_fields c.in-Some.pending in
     let left : List Registers = c.make.new.self.image in
@@ -96,8 +97,8 @@ returns-then-is_err g c =
     (g.R.Regs.state c.undo.new.regs) kept last (omega (arith, part.1, total)) (on_err c.make.result failed c.make.ensures.cause) back (g.M.Media.state c.args.media.now)
     some.0 some.1 (on_err c.undo.result failing c.undo.ensures.cause))
 
-pub returns : goal.returns
-returns g c =
+pub returns-clause-whole : goal.returns-clause-whole
+returns-clause-whole g c =
     let session : SessionState = c.args.self.now in
     let own : JobFields = job_fields c.in-Some.pending in
     let left : List Registers = c.make.new.self.image in
@@ -125,6 +126,40 @@ returns g c =
     (whole_undone session (g.R.Regs.state c.args.regs.now) (g.R.Regs.state c.make.new.regs) own c.in-Some.ensures.job made left goes c.pending_jobs_settle.ensures.back
     (g.R.Regs.state c.undo.new.regs) kept last (omega (arith, part.1, total)) (on_err c.make.result failed c.make.ensures.cause) back (g.M.Media.state c.args.media.now)
     (on_ok c.undo.result taken c.undo.ensures.all))
+
+pub returns-in_default-clause-refused : goal.returns-in_default-clause-refused
+returns-in_default-clause-refused g c = λ refused own is none. absurd (none-some own (sym c.in_default.ensures.job ∙ is))
+
+pub returns-clause-refused : goal.returns-clause-refused
+returns-clause-refused g c = λ refused other is none.
+    let session : SessionState = c.args.self.now in
+    let own : JobFields = job_fields c.in-Some.pending in
+    let left : List Registers = c.make.new.self.image in
+    let made : ℕ = c.make.new.pending.job.done in
+    let goes : IsMadeTo own made session.image left (g.R.Regs.state c.args.regs.now) (g.R.Regs.state c.make.new.regs) =
+    subst (λ (blocks : List Registers). IsMadeTo own made blocks left (g.R.Regs.state c.args.regs.now) (g.R.Regs.state c.make.new.regs))
+    (ap (λ (s : SessionState). s.image) c.take_job.ensures.taken) c.make.ensures.made in
+    let total = c.total-total.ensures in
+    let failed = on_fail c.make.result (sym c.is_ok.ensures.value ∙ c.if-is_ok.false) in
+    let part = on_err c.make.result failed c.make.ensures.part in
+    let last : List Registers = c.undo.new.self.image in
+    let kept : ℕ = c.undo.new.pending.job.done in
+    let as_made : job_fields c.make.new.pending ≡ record own { done = made } = c.make.ensures.job in
+    let back : IsTakenBackTo (record own { done = made }) kept left last (g.R.Regs.state c.make.new.regs) (g.R.Regs.state c.undo.new.regs) =
+    subst (λ (j : JobFields). IsTakenBackTo j kept left last (g.R.Regs.state c.make.new.regs) (g.R.Regs.state c.undo.new.regs)) as_made c.undo.ensures.back in
+    let as_kept : job_fields c.undo.new.pending ≡ record own { done = kept } = c.undo.ensures.job ∙ ap (λ (j : JobFields). record j { done = kept }) as_made in
+    let image_is : c.undo.new.self ≡ record session { image = last; job = None } =
+    c.undo.ensures.image ∙ ap (λ (s : SessionState). record s { image = last }) (c.make.ensures.image ∙ ap (λ (s : SessionState). record s { image = left }) c.take_job.ensures.taken) in
+    let taken = sym c.is_err.ensures.value ∙ c.if-is_err.false in
+    let same : other ≡ own = same_Some other own (sym is ∙ c.in-Some.ensures.job) in
+    let again = whole_undone_again session (g.R.Regs.state c.args.regs.now) (g.R.Regs.state c.make.new.regs) own c.in-Some.ensures.job made left goes c.pending_jobs_settle.ensures.back
+    (g.R.Regs.state c.undo.new.regs) kept last (omega (arith, part.1, total)) (on_err c.make.result failed c.make.ensures.cause) back (g.M.Media.state c.args.media.now)
+    c.requires.0 c.requires.1 c.requires.2 (ap (λ (j : JobFields). j.done) (sym same) ∙ none) (on_ok c.undo.result taken c.undo.ensures.all) in (
+      c.restore.ensures ∙ ap (λ (s : SessionState). session_undone (job_fields c.undo.new.pending) s) image_is
+          ∙ ap (λ (j : JobFields). session_undone j (record session { image = last; job = None })) as_kept ∙ again.0 ∙ ap (λ (j : JobFields). session_undone j session) (sym same),
+      again.1,
+      refl,
+    )
 
 pub restore-requires-clause-room : goal.restore-requires-clause-room
 restore-requires-clause-room g c =

@@ -1,4 +1,4 @@
-use Rattle.std.proofs.Common.{List, Result, sym, subst}
+use Rattle.std.proofs.Common.{List, Result, subst}
 use Rattle.cxl_apply.specs.Jobs.{AreReleaseWrites}
 use Rattle.cxl_model.specs.declared.plan.Row.{Row}
 use Rattle.cxl_reply.specs.declared.reply.Reply.{Reply}
@@ -6,7 +6,8 @@ use Rattle.cxl_machine.specs.Machine.{Machine}
 use Rattle.cxl_machine.specs.Jobs.{release_job}
 use Rattle.cxl_session.specs.declared.requests.Release.{Release}
 use Rattle.cxl_session.specs.inner.Requests.{IsRelease, IsAskedRelease}
-use Rattle.cxl_session.proofs.Begins.{begun_here, release_within}
+use Rattle.cxl_session.proofs.Begins.{begun_here, begun_from, release_within}
+use Rattle.cxl_session.proofs.Undoing.{refused_again}
 use Rattle.cxl_session.proofs.Wholes.{destroyed, destroy_refused}
 use Rattle.cxl_session.proofs.session.Session.destroy.Goals as goal
 
@@ -43,4 +44,16 @@ returns-clause-turn g c =
     (λ m at is. begun_here c.jobs_have_one_list_of_writes.ensures.release c.releases_begin_as_machines.ensures.machine c.args.self.now c.begin_release.new.self c.args.name c.in-Ok.release c.in_ok-job.job
     c.begin_release.ensures.begun (subst (λ (rows : List Row). AreReleaseWrites rows c.in_ok-job.job.writes) c.deref.ensures.value c.in_ok-job.ensures.writes) c.in_ok-job.ensures.none_done
     m (g.R.Regs.state c.args.regs.now) (g.M.Media.state c.args.media.now) at is)
-    c.carry_out.ensures
+    c.carry_out.ensures.whole
+
+pub returns-clause-refused : goal.returns-clause-refused
+returns-clause-refused g c = λ refused.
+    let m : Machine = c.requires.0 in
+    let at = c.requires.1 in
+    let is : IsRelease m c.args.name c.in-Ok.release =
+    subst (λ (a : Result Release Reply). IsAskedRelease m c.args.name a) c.in-Ok.is (c.in_ok-release.ensures m at.stands at.sound.machine) in
+    let (own, begun, from, fresh) = begun_from c.jobs_have_one_list_of_writes.ensures.release c.releases_begin_as_machines.ensures.machine c.args.self.now c.begin_release.new.self c.args.name c.in-Ok.release c.in_ok-job.job
+    c.begin_release.ensures.begun (subst (λ (rows : List Row). AreReleaseWrites rows c.in_ok-job.job.writes) c.deref.ensures.value c.in_ok-job.ensures.writes) c.in_ok-job.ensures.none_done
+    m at.stands is in
+    refused_again c.args.self.now c.begin_release.new.self c.carry_out.new.self own (g.R.Regs.state c.args.regs.now) (g.R.Regs.state c.carry_out.new.regs)
+    (g.M.Media.state c.args.media.now) (g.M.Media.state c.carry_out.new.media) from begun fresh (c.carry_out.ensures.refused refused)

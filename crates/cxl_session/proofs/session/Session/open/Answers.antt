@@ -1,4 +1,4 @@
-use Rattle.std.proofs.Common.{◌≡◌, ◌<◌, ℕ, List, Err, refl, sym, ap, subst, ◌∙◌, inl, inr, arith}
+use Rattle.std.proofs.Common.{◌≡◌, List, Err, refl, sym, ap, subst, ◌∙◌, inl, inr, arith}
 use Rattle.std.proofs.lemmas.Result.{err_from_is_err_and}
 use Rattle.cxl_topo.specs.Frames.{AreFrames}
 use Rattle.cxl_window.specs.Fields.{WindowFields}
@@ -9,7 +9,7 @@ use Rattle.cxl_machine.specs.declared.fault.OpenFault.TheVariants as faults
 use Rattle.cxl_machine.specs.Sound.{enabled_blocks}
 use Rattle.cxl_model.specs.Accepted.{IsFirstBreach}
 use Rattle.cxl_model.specs.System.{System, system_of}
-use Rattle.cxl_session.specs.Opening.{endpoints_in, enabling, HasRegions}
+use Rattle.cxl_session.specs.Opening.{enabling, HasRegions}
 use Rattle.cxl_session.specs.inner.Opened.{opened_machine, CanOpen, StopsEnabling}
 use Rattle.cxl_session.proofs.Opened.{at_ok, at_err, machine_is, opens_so, image_is, half_is, media_is, places_are, opened_is_at, same_fault}
 use Rattle.cxl_session.proofs.session.Session.open.Goals as goal

@@ -4,7 +4,6 @@ use Rattle.std.specs.List.{range_with_len}
 use Rattle.std.proofs.lemmas.List.FromFn.{length-map-range_with_len}
 use Rattle.cxl_topo.specs.Frames.{AreFrames}
 use Rattle.cxl_window.specs.Fields.{WindowFields}
-use Rattle.cxl_machine.specs.Machine.{Machine}
 use Rattle.cxl_machine.specs.Sound.{IsMachine, auto_name, enabled_blocks}
 use Rattle.cxl_model.specs.declared.found.Found.{Found}
 use Rattle.cxl_model.specs.Regions.{IsRegion}

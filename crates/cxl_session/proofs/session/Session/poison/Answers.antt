@@ -12,19 +12,19 @@ pub returns-in-Ok : goal.returns-in-Ok
 returns-in-Ok c =
     IfOk-weaker c.report.result _ _ (λ reply made m stands is.
     let own = made m stands is in
-    let at = endpoint_there c.args.self.now m stands c.self.inside.topo c.args.poison.now.endpoint c.in-Some.endpoint (ap (λ (s : SessionState). s.topo) c.self.view_is) c.in-Some.ensures in
+    let at = endpoint_there c.args.self.now m stands c.self.inside.topo c.args.poison.now.endpoint c.in-Some.endpoint (ap (λ (s : SessionState). s.topo) c.self.view_is) c.in-Some.ensures.endpoint in
     let reads = subst (λ (bytes : List ℕ). IsPoisonPayload bytes c.in-Ok.list) c.items.ensures c.in-Ok.ensures.list in
     told c.in-Some.endpoint reply at (listed c.in-Ok.list own.0 reads own.1 own.2) refl) c.report.ensures
 
 pub returns-in-Err-Short : goal.returns-in-Err-Short
 returns-in-Err-Short c = λ m stands is.
-    let at = endpoint_there c.args.self.now m stands c.self.inside.topo c.args.poison.now.endpoint c.in-Some.endpoint (ap (λ (s : SessionState). s.topo) c.self.view_is) c.in-Some.ensures in
+    let at = endpoint_there c.args.self.now m stands c.self.inside.topo c.args.poison.now.endpoint c.in-Some.endpoint (ap (λ (s : SessionState). s.topo) c.self.view_is) c.in-Some.ensures.endpoint in
     let fault = subst (λ (bytes : List ℕ). IsPoisonFaultOf bytes c.in-Err-Short.field-0) c.items.ensures c.in-Err-Short.ensures.fault in
     told c.in-Some.endpoint replies.PoisonShort at (short (short_fault c.args.poison.now.bytes c.in-Err-Short.field-0 c.in-Err-Short.field-0-is fault) refl) refl
 
 pub returns-in-Err-Count : goal.returns-in-Err-Count
 returns-in-Err-Count c = λ m stands is.
-    let at = endpoint_there c.args.self.now m stands c.self.inside.topo c.args.poison.now.endpoint c.in-Some.endpoint (ap (λ (s : SessionState). s.topo) c.self.view_is) c.in-Some.ensures in
+    let at = endpoint_there c.args.self.now m stands c.self.inside.topo c.args.poison.now.endpoint c.in-Some.endpoint (ap (λ (s : SessionState). s.topo) c.self.view_is) c.in-Some.ensures.endpoint in
     let fault = subst (λ (bytes : List ℕ). IsPoisonFaultOf bytes c.in-Err-Count.field-0) c.items.ensures c.in-Err-Count.ensures.fault in
     let said : Said = c.in-Err-Count.said in
     told c.in-Some.endpoint _ at (few said (count_fault c.args.poison.now.bytes c.in-Err-Count.field-0 said c.in-Err-Count.field-0-is fault)

@@ -1,11 +1,10 @@
-use Rattle.std.proofs.Common.{◌≡◌, ℕ, ◌+◌, ◌-◌, ◌%◌, ◌<◌, ◌≤◌, List, ◌++◌, length, sym, ap, subst, ◌∙◌, arith}
+use Rattle.std.proofs.Common.{◌≡◌, ℕ, ◌+◌, ◌-◌, ◌%◌, ◌≤◌, List, ◌++◌, length, sym, ap, subst, ◌∙◌, arith}
 use Rattle.std.proofs.lemmas.Bool.{eqb-true, eqb-false}
 use Rattle.std.proofs.lemmas.List.{length-append}
 use Rattle.cxl_script.specs.declared.command.Store.{Store}
 use Rattle.cxl_deal.specs.Weaves.{WeaveFields}
 use Rattle.cxl_media.specs.MediaState.{MediaState}
 use Rattle.cxl_model.specs.declared.found.Found.{Found}
-use Rattle.cxl_model.specs.System.{System}
 use Rattle.cxl_machine.specs.Machine.{Machine, region_window}
 use Rattle.cxl_machine.specs.Accesses.{offset_in}
 use Rattle.cxl_window.specs.Fields.{WindowFields}

@@ -1,0 +1,50 @@
+use Rattle.std.proofs.Common.{◌≡◌, List, [], Some, sym, ap, ◌∙◌, subst}
+use Rattle.cxl_script.specs.declared.command.Command.TheVariants as commands
+use Rattle.cxl_model.specs.declared.found.Found.{Found}
+use Rattle.cxl_model.specs.declared.plan.Row.{Row}
+use Rattle.cxl_model.specs.System.{system_of}
+use Rattle.cxl_apply.specs.Releases.{rows_of}
+use Rattle.cxl_reply.specs.declared.reply.Reply.TheVariants as replies
+use Rattle.cxl_reply.specs.declared.told.ShownRow.{ShownRow}
+use Rattle.cxl_session.specs.State.{SessionState}
+use Rattle.cxl_session.specs.inner.Answering.{IsTurnFor}
+use Rattle.cxl_session.proofs.Shows.{IsShown, HasRead, rows_stand, shown_turn, unread_turn, unnamed_turn}
+use Rattle.cxl_session.proofs.session.Session.show.Goals as goal
+
+pub returns-in_default-clause-turn : goal.returns-in_default-clause-turn
+returns-in_default-clause-turn g c = λ media. unnamed_turn c.args.self.now c.args.name (g.R.Regs.state c.args.regs.now) media c.in_default.ensures.named
+
+pub read_rows-requires-clause-there : goal.read_rows-requires-clause-there
+read_rows-requires-clause-there g c =
+    let at = c.requires.1.1 in
+    let image : (g.R.Regs.state c.args.regs.now).blocks ≡ c.self.inside.image = at.sound.registers ∙ sym at.stands.image ∙ ap (λ (s : SessionState). s.image) (sym c.self.view_is) in
+    rows_stand (system_of c.self.inside.image c.self.inside.topo []) c.in_ok-found.found c.deref.result.now (g.R.Regs.state c.args.regs.now).blocks (c.deref.ensures.value ∙ c.in_ok-rows.ensures) image
+
+pub returns-in-Ok-clause-turn : goal.returns-in-Ok-clause-turn
+returns-in-Ok-clause-turn g c = λ media.
+    let session : SessionState = c.args.self.now in
+    let found : Found = c.in_ok-found.found in
+    let rows : List Row = c.deref.result.now in
+    let is : IsShown session c.args.name c.in-Some.place found rows = record {
+      named = c.in-Some.ensures.named;
+      there = c.found_at.ensures ∙ ap (λ (f : Found). Some f) (sym c.in_ok-found.ensures);
+      rows_are = c.deref.ensures.value ∙ c.in_ok-rows.ensures ∙ ap (λ (s : SessionState). rows_of (system_of s.image s.topo []) found) c.self.view_is;
+    } in
+    let read : HasRead (g.R.Regs.state c.args.regs.now) (g.R.Regs.state c.read_rows.new.regs) =
+    record { same = c.read_rows.ensures.same; counts = c.read_rows.ensures.counts; unswallowed = c.in-Ok.ensures.unswallowed } in
+    subst (λ (shown : List ShownRow). IsTurnFor session session (g.R.Regs.state c.args.regs.now) (g.R.Regs.state c.read_rows.new.regs) media media (commands.Show c.args.name)
+    (replies.Shown record { name = c.args.name; found = found; rows = shown })) (sym c.in-Ok.ensures.shown)
+    (shown_turn c.live_regions_stay.ensures.region session c.args.name c.in-Some.place found rows is (g.R.Regs.state c.args.regs.now) (g.R.Regs.state c.read_rows.new.regs) media read)
+
+pub returns-in-Err-clause-turn : goal.returns-in-Err-clause-turn
+returns-in-Err-clause-turn g c = λ media.
+    let session : SessionState = c.args.self.now in
+    let found : Found = c.in_ok-found.found in
+    let rows : List Row = c.deref.result.now in
+    let is : IsShown session c.args.name c.in-Some.place found rows = record {
+      named = c.in-Some.ensures.named;
+      there = c.found_at.ensures ∙ ap (λ (f : Found). Some f) (sym c.in_ok-found.ensures);
+      rows_are = c.deref.ensures.value ∙ c.in_ok-rows.ensures ∙ ap (λ (s : SessionState). rows_of (system_of s.image s.topo []) found) c.self.view_is;
+    } in
+    unread_turn c.live_regions_stay.ensures.region session c.args.name c.in-Some.place found rows is (g.R.Regs.state c.args.regs.now) (g.R.Regs.state c.read_rows.new.regs) media
+    c.read_rows.ensures.same c.in-Err.ensures.cause

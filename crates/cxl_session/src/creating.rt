@@ -1,0 +1,171 @@
+//! Regions that a line asks to be made: what is asked for before the job begins, and the job itself.
+
+ghost use Rattle.std.specs.Prelude.{◌≡◌, ◌≤◌, true, None, IfOk, OnErr};
+ghost use Rattle.cxl_bus.specs.RegsState.{RegsState};
+ghost use Rattle.cxl_media.specs.MediaState.{MediaState};
+ghost use Rattle.cxl_script.specs.Grammar.{StatesGranCode};
+ghost use Rattle.cxl_script.specs.declared.command.Command.TheVariants as commands;
+ghost use Rattle.cxl_apply.specs.Steps.{HasWordsOf};
+ghost use Rattle.cxl_model.specs.Hosts.{as_system};
+ghost use Rattle.cxl_model.specs.Plans.{IsLegalPlan};
+ghost use Rattle.cxl_model.specs.declared.request.Request.{Request};
+ghost use Rattle.cxl_machine.specs.Machine.{Machine};
+ghost use Rattle.cxl_machine.specs.Replies.{is_refusal};
+ghost use Rattle.cxl_machine.specs.Requests.{refusal_of_create};
+ghost use Rattle.cxl_machine.specs.Sound.{IsMachine, IsSettled};
+ghost use Rattle.cxl_session.specs.Inside.{job_fields};
+ghost use Rattle.cxl_session.specs.State.{image_in};
+ghost use Rattle.cxl_session.specs.Standing.{StandsFor, Stands};
+ghost use Rattle.cxl_session.specs.inner.Answering.{IsTurnFor};
+ghost use Rattle.cxl_session.specs.inner.Creating.{IsAskedPlan, IsPrepared, IsAskedCreate};
+
+use crate::copies::place_among;
+use crate::pending::{Kind, Pending};
+use crate::session::{REGION_LIMIT, Session};
+use cxl_apply::{Job, create_commits_its_rows, regions_stay_after_a_create};
+use cxl_bus::Regs;
+use cxl_enc::Memory;
+use cxl_machine::{
+    asked_creates_begin_as_machines, creates_are_legal, jobs_have_one_list_of_writes,
+};
+use cxl_media::Media;
+use cxl_model::{Host, Plan};
+use cxl_reply::{Begun, Reply};
+use cxl_request::first_unknown;
+use cxl_script::Create;
+use cxl_walk::Kept;
+use std::alloc::Global;
+
+impl Session {
+    /// Makes a region. Where the bus fails all is undone, and where that fails too the job stays pending. Takes memory, all
+    /// of it before the first write.
+    pub(crate) fn create<R: Regs, M: Media>(
+        &mut self,
+        alloc: Global,
+        create: &Create,
+        regs: &mut R,
+        media: &mut M,
+    ) -> Result<Reply, Memory>
+        requires stands { Stands self.old (R.state regs.old) (M.state media.old) }
+        requires code { StatesGranCode create.now }
+        ensures turn { IfOk result (IsTurnFor self.old self.new (R.state regs.old) (R.state regs.new) (M.state media.old)
+            (M.state media.new) (commands.Create create.now)) }
+        ensures refused { IfOk result (λ reply. is_refusal reply ≡ true → (self.new ≡ self.old)
+            × ((R.state regs.new).blocks ≡ (R.state regs.old).blocks) × (M.state media.new ≡ M.state media.old)) }
+        ensures memory { OnErr result ((self.new ≡ self.old) × (R.state regs.new ≡ R.state regs.old)
+            × (M.state media.new ≡ M.state media.old)) }
+        ensures host { (self.new.topo ≡ self.old.topo) × (self.new.windows ≡ self.old.windows) }
+        ensures counts { (R.state regs.old).faults ≤ (R.state regs.new).faults }
+    {
+        asked_creates_begin_as_machines();
+        let pending = match self.asked_create(alloc, create)? {
+            Ok(pending) => pending,
+            Err(refusal) => return Ok(refusal),
+        };
+        self.keep(pending);
+        Ok(self.carry_out(regs, media))
+    }
+
+    /// Begins to make a region, with no register written yet. Takes memory.
+    pub(crate) fn begin_create(&mut self, alloc: Global, create: &Create) -> Result<Reply, Memory>
+        requires stands { (regs : RegsState) × (media : MediaState) × Stands self.old regs media }
+        requires code { StatesGranCode create.now }
+        ensures turn { IfOk result (λ reply. (regs : RegsState) (media : MediaState)
+            → IsTurnFor self.old self.new regs regs media media (commands.BeginCreate create.now) reply) }
+        ensures refused { IfOk result (λ reply. is_refusal reply ≡ true → self.new ≡ self.old) }
+        ensures memory { OnErr result (self.new ≡ self.old) }
+        ensures host { (self.new.topo ≡ self.old.topo) × (self.new.windows ≡ self.old.windows) }
+    {
+        asked_creates_begin_as_machines();
+        let pending = match self.asked_create(alloc, create)? {
+            Ok(pending) => pending,
+            Err(refusal) => return Ok(refusal),
+        };
+        let name = pending.name;
+        let writes = pending.job.total();
+        self.keep(pending);
+        Ok(Reply::Begun(Begun { name, writes }))
+    }
+
+    /// The create that a line asks for, ready to begin; or why it is refused. Takes memory.
+    fn asked_create(&self, alloc: Global, create: &Create) -> Result<Result<Pending, Reply>, Memory>
+        requires stands { (m : Machine) × StandsFor self.now m × IsMachine m }
+        requires code { StatesGranCode create.now }
+        ensures asked { IfOk result (λ asked. (m : Machine) → StandsFor self.now m → IsMachine m
+            → IsAskedCreate m create.now asked) }
+        ensures words { IfOk result (λ asked. IfOk asked (λ pending. HasWordsOf self.now.image pending.job.writes)) }
+    {
+        creates_are_legal();
+        if let Some(refusal) = self.refusal_of_create(create) {
+            return Ok(Err(refusal));
+        }
+        let plan = match self.asked_plan(alloc, create)? {
+            Ok(plan) => plan,
+            Err(refusal) => return Ok(Err(refusal)),
+        };
+        let pending = prepared(alloc, &self.host(), plan)?;
+        Ok(Ok(pending))
+    }
+
+    /// Why a create is refused before a plan is sought.
+    fn refusal_of_create(&self, create: &Create) -> Option<Reply>
+        ensures { (m : Machine) → StandsFor self.now m → result ≡ refusal_of_create m create.now }
+    {
+        if let Some(pending) = &self.job {
+            return Some(Reply::Busy(pending.name));
+        }
+        if place_among(&self.names, &create.name).is_some() {
+            return Some(Reply::NameTaken(create.name));
+        }
+        if let Some(name) = first_unknown(&self.topo, create.endpoints.items()) {
+            return Some(Reply::NoEndpoint(name));
+        }
+        if self.names.len() >= REGION_LIMIT {
+            return Some(Reply::RegionsFull);
+        }
+        None
+    }
+
+    /// The plan that a line asks for over the session's image, or why there is none. Takes memory.
+    fn asked_plan(&self, alloc: Global, create: &Create) -> Result<Result<Plan, Reply>, Memory>
+        requires settled { IsSettled (image_in self.now) }
+        requires code { StatesGranCode create.now }
+        ensures { IfOk result (λ answer. (m : Machine) → m.settled ≡ image_in self.now
+            → IsAskedPlan m create.now answer) }
+    {
+        cxl_request::asked_plan(alloc, create, &self.host())
+    }
+
+    /// Its image, topology and windows, as they are read together.
+    fn host(&self) -> Host<'_>
+        ensures { as_system result ≡ image_in self.now }
+    {
+        Host {
+            image: &self.image,
+            topo: &self.topo,
+            windows: &self.windows,
+        }
+    }
+}
+
+/// The job of a plan, with the plan's region and its routes where all rows are committed. Takes memory.
+fn prepared(alloc: Global, host: &Host, plan: Plan) -> Result<Pending, Memory>
+    requires settled { IsSettled (as_system host.now) }
+    requires legal { (request : Request) × IsLegalPlan (as_system host.now) request plan }
+    ensures pending { IfOk result (λ pending. IsPrepared (as_system host.now) plan (job_fields pending)) }
+    ensures words { IfOk result (λ pending. HasWordsOf host.now.image.now pending.job.writes) }
+{
+    create_commits_its_rows();
+    regions_stay_after_a_create();
+    jobs_have_one_list_of_writes();
+    let job = Job::create(alloc, host.image, plan.rows.items())?;
+    let ahead = job.ahead(alloc, host.image)?;
+    let kept = Kept::new(alloc, &ahead, host.topo, host.windows, &plan.found)?;
+    Ok(Pending {
+        kind: Kind::Creates,
+        name: plan.name,
+        found: plan.found,
+        kept,
+        job,
+    })
+}
