@@ -1,0 +1,244 @@
+-- Commands that write no bytes keep those of each region.
+use Rattle.std.proofs.Common.{◌≡◌, ℕ, ◌+◌, ◌⊎◌, Bool, true, false, if◌then◌else◌, List, [], ◌∷◌, ◌++◌, Result, Ok, Err, Option, Some, None, inl, inr, refl, sym, ap, ◌∙◌, subst}
+use Rattle.std.specs.Prelude.{Contains, nat_le}
+use Rattle.std.specs.Option.{option_map_or}
+use Rattle.std.specs.FinMap as fin
+use Rattle.std.proofs.lemmas.Bool.{false≢true}
+use Rattle.std.proofs.lemmas.List.{append-nil}
+use Rattle.std.proofs.lemmas.List.Elements.{Contains-append_left, Contains-push_cases}
+use Rattle.std.proofs.lemmas.List.Sorted.{Contains-permutation}
+use Rattle.std.proofs.lemmas.List.Sorted.{IsPermutation-sym}
+use Rattle.std.proofs.lemmas.Option.{slice_get_within, get_or_from_slice_get}
+use Rattle.cxl_script.specs.declared.command.Command.{Command}
+use Rattle.cxl_script.specs.declared.command.Command.TheVariants as commands
+use Rattle.cxl_script.specs.declared.command.Create.{Create}
+use Rattle.cxl_script.specs.declared.command.Poison.{Poison}
+use Rattle.cxl_script.specs.declared.command.Up.{Up}
+use Rattle.cxl_model.specs.declared.plan.Row.{Row}
+use Rattle.cxl_reply.specs.declared.reply.Reply.{Reply}
+use Rattle.cxl_machine.specs.Machine.{Live, RegionJob, JobKind, Creates, Releases, Machine, live_named, live_at, region_released, under_release, kept_regions}
+use Rattle.cxl_machine.specs.Jobs.{total_of, release_job, live_while, live_when_done, live_when_undone, at_done, begun, finished, undone}
+use Rattle.cxl_machine.specs.Outcomes.{BusOutcome, NoFault, Undone, LeftPending, ReadFailed}
+use Rattle.cxl_machine.specs.Requests.{AsksCreate, asked_release}
+use Rattle.cxl_machine.specs.Replies.{Answer, within_region, ends_within}
+use Rattle.cxl_machine.specs.Accesses.{AnswersUp, no_endpoint, told}
+use Rattle.cxl_machine.specs.Reports.{AnswersShow, AnswersPoison}
+use Rattle.cxl_machine.specs.Reports as reports
+use Rattle.cxl_machine.specs.Regions.{CarriesOutWhole, AnswersWhole, begin_answer, Steps, Aborts, OfPending}
+use Rattle.cxl_machine.specs.Answers.{Answers}
+use Rattle.cxl_machine.specs.Creating.{AsksLegally}
+use Rattle.cxl_machine.specs.Scripts.{Asked, Turn, answer_of, TakesTurn}
+use Rattle.cxl_machine.specs.Sound.{IsMachine}
+use Rattle.cxl_machine.specs.Trails.{WorksOn}
+use Rattle.cxl_machine.proofs.KeepingBegun.{asked_is}
+use Rattle.cxl_machine.proofs.KeepingOrder.{put_back, put_last}
+use Rattle.cxl_flat.specs.Memory.{writes_bytes, KeepsBytes}
+
+-- ---- from one machine to the next
+
+keeps_itself : (m : Machine) → KeepsBytes m m
+keeps_itself m region there = inl there
+
+keeps_on : (m n o : Machine) → KeepsBytes m n → KeepsBytes n o → KeepsBytes m o
+keeps_on m n o one two region there =
+    elim (two region there) [
+      | inl before ↦ one region before
+      | inr none ↦ inr none
+    ]
+
+-- a job at another number of writes has the same regions
+same_released : (job : RegionJob) (done : ℕ) (kind : JobKind) → region_released (record job { done = done }) kind ≡ region_released job kind
+same_released job done (Creates rows) = refl
+same_released job done (Releases place) = refl
+
+kept_with : (m : Machine) (job : RegionJob) → m.job ≡ Some job → m.live ++ region_released job job.kind ≡ kept_regions m
+kept_with m job pending = ap (λ (o : Option RegionJob). m.live ++ under_release o) (sym pending)
+
+at_done_keeps : (m : Machine) (job : RegionJob) (done : ℕ) → m.job ≡ Some job → KeepsBytes m (at_done job done m)
+at_done_keeps m job done pending region there =
+    inl (subst (λ (rs : List Live). Contains rs region) (ap (λ (rs : List Live). m.live ++ rs) (same_released job done job.kind) ∙ kept_with m job pending) there)
+
+-- ---- a job ends
+
+finished_by : (m : Machine) (job : RegionJob) (kind : JobKind) → ((rows : List Row) → kind ≡ Creates rows → job.region.contents ≡ fin.empty) → (region : Live)
+    → Contains (live_when_done job kind m.live) region → Contains m.live region ⊎ (region.contents ≡ fin.empty)
+finished_by m job (Creates rows) made region there =
+    elim (Contains-push_cases m.live job.region region there) [
+      | inl before ↦ inl before
+      | inr new ↦ inr (ap (λ (r : Live). r.contents) (sym new) ∙ made rows refl)
+    ]
+finished_by m job (Releases place) made region there = inl there
+
+-- a create's region holds no piece
+abbrev pub MadeLaw : Type 0
+MadeLaw = (m : Machine) (job : RegionJob) (rows : List Row) → IsMachine m → m.job ≡ Some job → job.kind ≡ Creates rows → job.region.contents ≡ fin.empty
+
+finished_keeps : MadeLaw → (m : Machine) (job : RegionJob) → IsMachine m → m.job ≡ Some job → KeepsBytes m (finished job m)
+finished_keeps law m job is pending region there =
+    elim (finished_by m job job.kind (λ rows same. law m job rows is pending same) region (subst (λ (rs : List Live). Contains rs region) (append-nil (live_when_done job job.kind m.live)) there)) [
+      | inl before ↦ inl (Contains-append_left m.live (under_release m.job) region before)
+      | inr none ↦ inr none
+    ]
+
+undone_by : (m : Machine) (job : RegionJob) (kind : JobKind) (region : Live) → Contains (live_when_undone job kind m.live) region → Contains (m.live ++ region_released job kind) region
+undone_by m job (Creates rows) region there = Contains-append_left m.live [] region there
+undone_by m job (Releases place) region there =
+    Contains-permutation (live_when_undone job (Releases place) m.live) (m.live ++ job.region ∷ []) region (IsPermutation-sym _ _ (put_back m.live job.region place)) there
+
+undone_keeps : (m : Machine) (job : RegionJob) → m.job ≡ Some job → KeepsBytes m (undone job m)
+undone_keeps m job pending region there =
+    inl (subst (λ (rs : List Live). Contains rs region) (kept_with m job pending)
+    (undone_by m job job.kind region (subst (λ (rs : List Live). Contains rs region) (append-nil (live_when_undone job job.kind m.live)) there)))
+
+-- ---- a job begins
+
+begins_made : (m : Machine) (job : RegionJob) (kind : JobKind) (rows : List Row) → kind ≡ Creates rows → (region : Live) → Contains (live_while kind m.live ++ region_released job kind) region → Contains m.live region
+begins_made m job (Creates own) rows same region there = subst (λ (rs : List Live). Contains rs region) (append-nil m.live) there
+begins_made m job (Releases place) rows same region there = absurd (differ same)
+  where
+    differ : Releases place ≡ Creates rows → ⊥
+    differ e = cc
+
+begins_from : (m : Machine) (job : RegionJob) → ((region : Live) → Contains (live_while job.kind m.live ++ region_released job job.kind) region → Contains m.live region) → KeepsBytes m (begun job m)
+begins_from m job each region there = inl (Contains-append_left m.live (under_release m.job) region (each region there))
+
+create_keeps : (m : Machine) (create : Create) (job : RegionJob) → AsksLegally m create → AsksCreate m create (Ok job) → KeepsBytes m (begun job m)
+create_keeps m create job legally asks =
+    let own = legally job asks in
+    begins_from m job (begins_made m job job.kind own.plan.rows (ap (λ (j : RegionJob). j.kind) own.made))
+
+release_keeps : (m : Machine) (name : List ℕ) (job : RegionJob) → asked_release m name ≡ Ok job → KeepsBytes m (begun job m)
+release_keeps m name job asks =
+    let own = asked_is m name job asks in
+    let within = slice_get_within m.live own.place own.region own.at in
+    let read = get_or_from_slice_get m.live own.place own.region own.region own.at in
+    let same = put_last m.live own.region own.place within read in
+    subst (λ (j : RegionJob). KeepsBytes m (begun j m)) (sym own.made)
+    (begins_from m (release_job m.settled own.place own.region) (λ region there. Contains-permutation _ m.live region (IsPermutation-sym _ _ same) there))
+
+-- ---- answers
+
+-- what is known of jobs
+pub record JobLaws : Type 0 where
+  pub made : MadeLaw
+  pub legal : (m : Machine) (create : Create) → IsMachine m → AsksLegally m create
+  pub creates : (m : Machine) (create : Create) (job : RegionJob) → IsMachine m → AsksCreate m create (Ok job) → IsMachine (begun job m)
+  pub releases : (m : Machine) (name : List ℕ) (job : RegionJob) → IsMachine m → asked_release m name ≡ Ok job → IsMachine (begun job m)
+
+module _ (laws : JobLaws) (m : Machine) (is : IsMachine m) where
+  abbrev Keeps : Answer → Type 0
+  Keeps answer = KeepsBytes m answer.machine
+
+  stays_so : KeepsBytes m m
+  stays_so = keeps_itself m
+
+  given : (answer other : Answer) → answer ≡ other → Keeps other → Keeps answer
+  given answer other same keeps = subst Keeps (sym same) keeps
+
+  by_test : (b : Bool) (answer other : Answer) → Keeps answer → Keeps other → Keeps (if b then answer else other)
+  by_test true answer other first second = first
+  by_test false answer other first second = second
+
+  by_region : (o : Option Live) (answer : Live → Answer) (other : Answer) → ((region : Live) → Keeps (answer region)) → Keeps other → Keeps (option_map_or answer o other)
+  by_region None answer other each none = none
+  by_region (Some region) answer other each none = each region
+
+  inside : (h len : ℕ) (answer : Live → Answer) → ((region : Live) → Keeps (answer region)) → Keeps (within_region m h len answer)
+  inside h len answer each = by_region (live_at m h) _ _ (λ region. by_test (ends_within region.found h len) _ _ (each region) stays_so) stays_so
+
+  shown : (name : List ℕ) (outcome : BusOutcome) (answer : Answer) → AnswersShow m name outcome answer → Keeps answer
+  shown name NoFault answer at = given answer _ at (by_region (live_named m name) _ _ (λ region. stays_so) stays_so)
+  shown name Undone answer at = absurd at
+  shown name (LeftPending left) answer at = absurd at
+  shown name ReadFailed answer at = given answer _ at.1 stays_so
+
+  up : (asked : Up) (answer : Answer) → AnswersUp m asked answer → Keeps answer
+  up asked answer (no_endpoint none at) = given answer _ at stays_so
+  up asked answer (told endpoint reply there tells at) = given answer _ at stays_so
+
+  poison : (asked : Poison) (answer : Answer) → AnswersPoison m asked answer → Keeps answer
+  poison asked answer (reports.no_endpoint none at) = given answer _ at stays_so
+  poison asked answer (reports.told endpoint reply there tells at) = given answer _ at stays_so
+
+  carried_out : (job : RegionJob) → IsMachine (begun job m) → KeepsBytes m (begun job m) → (outcome : BusOutcome) (answer : Answer) → CarriesOutWhole m job outcome answer → Keeps answer
+  carried_out job at begins NoFault answer same =
+      given answer _ same (keeps_on m (begun job m) (finished job (begun job m)) begins (finished_keeps laws.made (begun job m) job at refl))
+  carried_out job at begins Undone answer same = given answer _ same stays_so
+  carried_out job at begins (LeftPending done) answer same =
+      given answer _ same.1 (keeps_on m (begun job m) (at_done job done (begun job m)) begins (at_done_keeps (begun job m) job done refl))
+  carried_out job at begins ReadFailed answer same = absurd same
+
+  whole : (asked : Result RegionJob Reply) → ((job : RegionJob) → asked ≡ Ok job → IsMachine (begun job m) × KeepsBytes m (begun job m)) → (outcome : BusOutcome) (answer : Answer)
+      → AnswersWhole m asked outcome answer → Keeps answer
+  whole (Ok job) begins outcome answer at = let own = begins job refl in carried_out job own.0 own.1 outcome answer at
+  whole (Err refusal) begins outcome answer at = given answer _ at.told stays_so
+
+  begin : (asked : Result RegionJob Reply) → ((job : RegionJob) → asked ≡ Ok job → IsMachine (begun job m) × KeepsBytes m (begun job m)) → Keeps (begin_answer m asked)
+  begin (Ok job) begins = (begins job refl).1
+  begin (Err refusal) begins = stays_so
+
+  creates : (create : Create) (asked : Result RegionJob Reply) → AsksCreate m create asked → (job : RegionJob) → asked ≡ Ok job → IsMachine (begun job m) × KeepsBytes m (begun job m)
+  creates create asked asks job same =
+      let own = subst (AsksCreate m create) same asks in
+      (laws.creates m create job is own, create_keeps m create job (laws.legal m create is) own)
+
+  releases : (name : List ℕ) (job : RegionJob) → asked_release m name ≡ Ok job → IsMachine (begun job m) × KeepsBytes m (begun job m)
+  releases name job asks = (laws.releases m name job is asks, release_keeps m name job asks)
+
+  stepped : (job : RegionJob) → m.job ≡ Some job → (steps : ℕ) (outcome : BusOutcome) (answer : Answer) → Steps m job steps outcome answer → Keeps answer
+  stepped job pending steps NoFault answer at =
+      given answer _ at (by_test (nat_le (total_of job) (job.done + steps)) _ _ (finished_keeps laws.made m job is pending) (at_done_keeps m job (job.done + steps) pending))
+  stepped job pending steps Undone answer at = absurd at
+  stepped job pending steps (LeftPending done) answer at = given answer _ at.1 (at_done_keeps m job done pending)
+  stepped job pending steps ReadFailed answer at = absurd at
+
+  aborted : (job : RegionJob) → m.job ≡ Some job → (outcome : BusOutcome) (answer : Answer) → Aborts m job outcome answer → Keeps answer
+  aborted job pending NoFault answer at = given answer _ at (undone_keeps m job pending)
+  aborted job pending Undone answer at = absurd at
+  aborted job pending (LeftPending done) answer at = given answer _ at.1 (at_done_keeps m job done pending)
+  aborted job pending ReadFailed answer at = absurd at
+
+  pending_keeps : (o : Option RegionJob) → m.job ≡ o → (outcome : BusOutcome) (answer : Answer) (goes : RegionJob → Type 0) → ((job : RegionJob) → m.job ≡ Some job → goes job → Keeps answer)
+      → OfPending m o outcome answer goes → Keeps answer
+  pending_keeps None none outcome answer goes each at = given answer _ at.told stays_so
+  pending_keeps (Some job) pending outcome answer goes each at = each job pending at
+
+  command_keeps : (command : Command) (outcome : BusOutcome) (answer : Answer) → writes_bytes (Ok command) ≡ false → Answers m command outcome answer → Keeps answer
+  command_keeps (commands.Create create) outcome answer reads at = whole at.0 (creates create at.0 at.1) outcome answer at.2
+  command_keeps (commands.Destroy name) outcome answer reads at = whole (asked_release m name) (releases name) outcome answer at
+  command_keeps (commands.BeginCreate create) outcome answer reads at = given answer _ at.2.told (begin at.0 (creates create at.0 at.1))
+  command_keeps (commands.BeginDestroy name) outcome answer reads at = given answer _ at.told (begin (asked_release m name) (releases name))
+  command_keeps (commands.Step steps) outcome answer reads at =
+      pending_keeps m.job refl outcome answer (λ job. Steps m job steps outcome answer) (λ job pending. stepped job pending steps outcome answer) at
+  command_keeps commands.Abort outcome answer reads at =
+      pending_keeps m.job refl outcome answer (λ job. Aborts m job outcome answer) (λ job pending. aborted job pending outcome answer) at
+  command_keeps (commands.Show name) outcome answer reads at = shown name outcome answer at
+  command_keeps (commands.Down h) outcome answer reads at = given answer _ at.told (by_region (live_at m h) _ _ (λ region. stays_so) stays_so)
+  command_keeps (commands.Up asked) outcome answer reads at = up asked answer at.1
+  command_keeps (commands.Load load) outcome answer reads at = given answer _ at.told (inside load.h load.len _ (λ region. stays_so))
+  command_keeps (commands.Poison asked) outcome answer reads at = poison asked answer at.1
+  command_keeps (commands.Range reach) outcome answer reads at = given answer _ at.told (inside reach.h reach.len _ (λ region. stays_so))
+  command_keeps (commands.Spread reach) outcome answer reads at = given answer _ at.told (inside reach.h reach.len _ (λ region. stays_so))
+  command_keeps (commands.Store store) outcome answer reads at = absurd (false≢true (sym reads))
+  command_keeps (commands.Copy pair) outcome answer reads at = absurd (false≢true (sym reads))
+  command_keeps (commands.Move pair) outcome answer reads at = absurd (false≢true (sym reads))
+
+  pub turn_keeps : (one : Asked) (turn : Turn) → TakesTurn m one turn → writes_bytes one ≡ false → KeepsBytes m turn.machine
+  turn_keeps (Err fault) turn takes reads = subst (λ (t : Turn). KeepsBytes m t.machine) (sym takes) stays_so
+  turn_keeps (Ok command) turn takes reads = command_keeps command takes.0 (answer_of turn) reads takes.1
+
+  -- ---- between two words
+
+  begun_on : (job : RegionJob) (at : Machine) (done : ℕ) → KeepsBytes m (begun job m) → at ≡ begun job m → KeepsBytes m (at_done job done at)
+  begun_on job at done begins same =
+      subst (λ (n : Machine). KeepsBytes m (at_done job done n)) (sym same) (keeps_on m (begun job m) (at_done job done (begun job m)) begins (at_done_keeps (begun job m) job done refl))
+
+  goes_on : (job : RegionJob) (at : Machine) (done : ℕ) → m.job ≡ Some job → at ≡ m → KeepsBytes m (at_done job done at)
+  goes_on job at done pending same = subst (λ (n : Machine). KeepsBytes m (at_done job done n)) (sym same) (at_done_keeps m job done pending)
+
+  pub works_keeps : (command : Command) (job : RegionJob) (at : Machine) (done : ℕ) → WorksOn m command job at → KeepsBytes m (at_done job done at)
+  works_keeps (commands.Create create) job at done works = begun_on job at done (create_keeps m create job (laws.legal m create is) works.0) works.1
+  works_keeps (commands.Destroy name) job at done works = begun_on job at done (release_keeps m name job works.0) works.1
+  works_keeps (commands.Step steps) job at done works = goes_on job at done works.0 works.1
+  works_keeps commands.Abort job at done works = goes_on job at done works.0 works.1
+  works_keeps other job at done works = absurd works
