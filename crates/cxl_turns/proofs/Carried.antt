@@ -1,0 +1,118 @@
+-- What one line comes to: it is answered, or cut short, or left.
+use Rattle.std.proofs.Common.{◌≡◌, ◌≢◌, ℕ, ◌≤◌, false, Result, Ok, Err, List, [], ◌∷◌, refl, sym, ap, subst, ◌∙◌, arith}
+use Rattle.std.specs.Prelude.{OnOk}
+use Rattle.cxl_enc.specs.Faults.{Rose, LeavesCount}
+use Rattle.cxl_bus.specs.RegsState.{RegsState, IsUntouched}
+use Rattle.cxl_bus.specs.Trail.{trail_with}
+use Rattle.cxl_io.specs.Sink.{SinkState, Takes, TakesPrefix}
+use Rattle.cxl_io.proofs.Writes.{told_with-nil}
+use Rattle.cxl_media.specs.MediaState.{MediaState}
+use Rattle.cxl_script.specs.declared.fault.BadLine.{BadLine}
+use Rattle.cxl_topo.specs.declared.node.Node.{Node}
+use Rattle.cxl_reply.specs.declared.reply.Reply.{Reply}
+use Rattle.cxl_reply.specs.declared.reply.Reply.TheVariants as replies
+use Rattle.cxl_reply.specs.Replies.{reply_text, has_short_text}
+use Rattle.cxl_machine.specs.Machine.{Machine}
+use Rattle.cxl_machine.specs.Scripts.{Asked, Turn, TakesTurn}
+use Rattle.cxl_machine.specs.Sound.{IsSound}
+use Rattle.cxl_machine.specs.Turns.{text_of}
+use Rattle.cxl_machine.proofs.Leaving.{quiet_turn}
+use Rattle.cxl_machine.proofs.WritingNothing.{quiet_words}
+use Rattle.cxl_session.specs.State.{SessionState}
+use Rattle.cxl_session.specs.Standing.{StandsFor, IsAt, HasTaken}
+use Rattle.cxl_turns.specs.inner.Carried.{IsAnswered, IsCutShort, IsLeft}
+use Rattle.cxl_turns.proofs.Going.{trail_with-nil, rose_none, text_one, gone_none, gone_one}
+use Rattle.cxl_turns.proofs.Silent.{silent_turn}
+
+pub takes_none : (before after : SinkState) → after ≡ before → Takes before after []
+takes_none before after same = ap (λ (sink : SinkState). sink.taken) same ∙ sym (told_with-nil before.taken)
+
+-- nothing was asked, and nothing is told
+pub answered_none : (m : Machine) (session : SessionState) (regs : RegsState) (media : MediaState) (sink : SinkState) → IsAt session regs media m → IsAnswered m [] session regs regs media sink sink
+answered_none m session regs media sink at = record {
+  turns = [];
+  gone = gone_none m session regs regs media at refl (omega arith) refl (λ _. refl);
+  told = takes_none sink sink refl;
+  alone = refl;
+  unswallowed = λ _. refl;
+}
+
+-- memory ran out before anything was done
+pub left_as_it_was : (m : Machine) (session : SessionState) (regs : RegsState) (media : MediaState) (sink : SinkState) → IsAt session regs media m → IsLeft m session regs regs media sink sink
+left_as_it_was m session regs media sink at =
+    record { gone = gone_none m session regs regs media at refl (omega arith) refl (λ _. refl); told = takes_none sink sink refl }
+
+-- memory ran out within a command
+pub left_untouched : (m : Machine) (before session : SessionState) (old new : RegsState) (kept media : MediaState) (sink : SinkState) → IsAt before old kept m
+    → session ≡ before → IsUntouched old new → media ≡ kept → old.faults ≤ new.faults → LeavesCount old.counts_failures_alone old.faults new.faults
+    → IsLeft m session old new media sink sink
+left_untouched m before session old new kept media sink at same untouched held rose left = record {
+  gone = gone_none m session old new media at_now untouched.trail rose untouched.alone left;
+  told = takes_none sink sink refl;
+}
+  where
+    at_now : IsAt session new media m
+    at_now = record {
+      stands = subst (λ s. StandsFor s m) (sym same) at.stands;
+      sound = subst (λ med. IsSound m new.blocks med) (sym held) (subst (λ blocks. IsSound m blocks kept) (sym untouched.blocks) at.sound);
+    }
+
+-- one turn, and its reply
+module _ (m : Machine) (one : Asked) (turn : Turn) (reply : Reply) (nodes : List Node) (session : SessionState) (old new : RegsState) (media : MediaState) (before after : SinkState)
+    (takes : TakesTurn m one turn) (taken : HasTaken turn reply session old new media) (same : m.settled.nodes ≡ nodes) where
+  told_text : reply_text nodes reply ≡ reply_text m.settled.nodes turn.reply
+  told_text = ap (λ ns. reply_text ns reply) (sym same) ∙ ap (reply_text m.settled.nodes) taken.told
+
+  pub answered_one : Takes before after (reply_text nodes reply) → after.counts_failures_alone ≡ before.counts_failures_alone
+      → LeavesCount before.counts_failures_alone before.faults after.faults → IsAnswered m (one ∷ []) session old new media before after
+  answered_one writes alone left = record {
+    turns = turn ∷ [];
+    gone = gone_one m session old new media one turn reply takes taken;
+    told = subst (λ text. Takes before after text) (told_text ∙ sym (text_one m.settled.nodes turn)) writes;
+    alone = alone;
+    unswallowed = left;
+  }
+
+  pub cut_one : TakesPrefix before after (reply_text nodes reply) → Rose before.faults after.faults → IsCutShort m (one ∷ []) session old new media before after
+  cut_one cut rose = record {
+    turn = turn;
+    gone = gone_one m session old new media one turn reply takes taken;
+    rose = rose;
+    cut = subst (λ text. TakesPrefix before after text) told_text cut;
+  }
+
+  -- the reply has no short text, and tells of no fault: nothing has changed
+  pub left_one : has_short_text reply ≡ false → reply ≢ replies.BusRead → after ≡ before → old.faults ≤ new.faults → IsLeft m session old new media before after
+  left_one long other same_sink rose =
+      let long_turn : has_short_text turn.reply ≡ false = ap has_short_text (sym taken.told) ∙ long in
+      let none = silent_turn m one turn takes long_turn (λ is. other (taken.told ∙ is)) in
+      let stays = quiet_turn m one turn takes long_turn in
+      record {
+        gone =
+            gone_none m session old new media
+            (subst (λ n. IsAt session new media n) stays taken.at)
+            (taken.words ∙ ap (trail_with old.trail) (quiet_words m one turn takes long_turn) ∙ trail_with-nil old.trail)
+            rose taken.alone (taken.unswallowed none);
+        told = takes_none before after same_sink;
+      }
+
+-- the turn of a line that asks for nothing
+abbrev pub bad_turn : Machine → BadLine → Turn
+bad_turn m fault = record { reply = replies.BadLine fault; machine = m; faults = 0; trail = [] }
+
+pub bad_taken : (m : Machine) (fault : BadLine) (session : SessionState) (regs : RegsState) (media : MediaState) → IsAt session regs media m
+    → HasTaken (bad_turn m fault) (replies.BadLine fault) session regs regs media
+bad_taken m fault session regs media at = record {
+  told = refl;
+  at = at;
+  words = sym (trail_with-nil regs.trail);
+  faults = rose_none regs.faults regs.faults (omega arith);
+  alone = refl;
+  unswallowed = λ _ _. refl;
+}
+
+-- ---- what a call gives
+
+pub on_ok : {T E : Type 0} (P L Q : Type 0) (result : Result T E) → OnOk result P → OnOk result L → (P → L → Q) → OnOk result Q
+on_ok P L Q (Ok done) first second both = both first second
+on_ok P L Q (Err failed) first second both = tt

@@ -1,0 +1,26 @@
+use Rattle.std.proofs.Common.{◌≡◌, Ok, sym, ap, ◌∙◌}
+use Rattle.cxl_topo.specs.Tree.{Tree}
+use Rattle.cxl_session.specs.Standing.{IsAt}
+use Rattle.cxl_turns.proofs.Carried.{on_ok, answered_one, cut_one, left_one}
+use Rattle.cxl_turns.proofs.carrying.carry_out_command.Goals as goal
+
+pub returns-clause-answered : goal.returns-clause-answered
+returns-clause-answered g c =
+    on_ok _ _ _ c.write_reply.result c.write_reply.ensures.written c.write_reply.ensures.unswallowed
+    (λ writes left m at.
+    let one = c.in_ok-reply.ensures.answer m at in
+    answered_one m (Ok c.args.command.now) one.0 c.in_ok-reply.reply c.topo.result.now.nodes c.act.new.self _ _ _ _ _ one.1 one.2
+    (at.stands.nodes ∙ sym (ap (λ (t : Tree). t.nodes) c.in_ok-reply.ensures.host.0) ∙ sym (ap (λ (t : Tree). t.nodes) c.topo.ensures)) writes c.write_reply.ensures.alone left)
+
+pub returns-clause-cut : goal.returns-clause-cut
+returns-clause-cut g c is m at =
+    let one = c.in_ok-reply.ensures.answer m at in
+    cut_one m (Ok c.args.command.now) one.0 c.in_ok-reply.reply c.topo.result.now.nodes c.act.new.self _ _ _ _ _ one.1 one.2
+    (at.stands.nodes ∙ sym (ap (λ (t : Tree). t.nodes) c.in_ok-reply.ensures.host.0) ∙ sym (ap (λ (t : Tree). t.nodes) c.topo.ensures)) (c.write_reply.ensures.cut is) (c.write_reply.ensures.cause is)
+
+pub returns-clause-left : goal.returns-clause-left
+returns-clause-left g c is m at =
+    let one = c.in_ok-reply.ensures.answer m at in
+    left_one m (Ok c.args.command.now) one.0 c.in_ok-reply.reply c.topo.result.now.nodes c.act.new.self _ _ _ _ _ one.1 one.2
+    (at.stands.nodes ∙ sym (ap (λ (t : Tree). t.nodes) c.in_ok-reply.ensures.host.0) ∙ sym (ap (λ (t : Tree). t.nodes) c.topo.ensures)) (c.write_reply.ensures.long is) (c.write_reply.ensures.no_fault is)
+    (ap g.K.Sink.state (c.write_reply.ensures.left is)) c.in_ok-reply.ensures.counts

@@ -1,0 +1,4 @@
+pub mod Going
+pub mod Endings
+pub mod Counts
+pub mod inner

@@ -1,0 +1,99 @@
+//! One line of a script, carried out.
+
+ghost use Rattle.std.specs.Prelude.{◌≡◌, ◌≤◌, ◌∷◌, [], Ok, Err, List, OnOk};
+ghost use Rattle.cxl_bus.specs.RegsState.{RegsState};
+ghost use Rattle.cxl_media.specs.MediaState.{MediaState};
+ghost use Rattle.cxl_script.specs.Grammar.{IsRanged};
+ghost use Rattle.cxl_machine.specs.Machine.{Machine};
+ghost use Rattle.cxl_machine.specs.Scripts.{lines_asked};
+ghost use Rattle.cxl_session.specs.Standing.{IsAt, Stands, ForEachMachine};
+ghost use Rattle.cxl_turns.specs.declared.stops.Stop.TheVariants as stops;
+ghost use Rattle.cxl_turns.specs.inner.Carried.{IsAnswered, IsCutShort, IsLeft};
+
+use crate::replies::write_reply;
+use crate::stops::Stop;
+use cxl_bus::Regs;
+use cxl_io::Sink;
+use cxl_machine::answers_are_told;
+use cxl_media::Roll;
+use cxl_reply::Reply;
+use cxl_script::{BadLine, Command, LineFault, asked_commands_are_ranged, read_command};
+use cxl_session::Session;
+use std::alloc::Global;
+
+/// Carries out a line, and writes its reply, where it asks for something.
+pub(crate) fn carry_out_line<K: Sink, R: Regs, M: Roll>(
+    alloc: Global,
+    session: &mut Session,
+    line: &[u8],
+    text: &mut Vec<u8>,
+    out: &mut K,
+    regs: &mut R,
+    media: &mut M,
+) -> Result<(), Stop>
+    requires { Stands session.old (R.state regs.old) (M.state media.old) }
+    ensures answered { OnOk result (ForEachMachine session.old (R.state regs.old) (M.state media.old) (λ m.
+        IsAnswered m (lines_asked (line.now ∷ [])) session.new (R.state regs.old) (R.state regs.new) (M.state media.new)
+        (K.state out.old) (K.state out.new))) }
+    ensures cut { result ≡ Err stops.Sink → ForEachMachine session.old (R.state regs.old) (M.state media.old) (λ m.
+        IsCutShort m (lines_asked (line.now ∷ [])) session.new (R.state regs.old) (R.state regs.new) (M.state media.new)
+        (K.state out.old) (K.state out.new)) }
+    ensures left { result ≡ Err stops.Memory → ForEachMachine session.old (R.state regs.old) (M.state media.old) (λ m.
+        IsLeft m session.new (R.state regs.old) (R.state regs.new) (M.state media.new) (K.state out.old) (K.state out.new)) }
+    ensures sink { (K.state out.old).faults ≤ (K.state out.new).faults }
+    ensures bus { (R.state regs.old).faults ≤ (R.state regs.new).faults }
+{
+    asked_commands_are_ranged();
+    match read_command(alloc, line) {
+        Ok(None) => Ok(()),
+        Ok(Some(command)) => carry_out_command(alloc, session, &command, text, out, regs, media),
+        Err(LineFault::Bad(fault)) => tell_bad_line(fault, session, text, out),
+        Err(LineFault::Memory) => Err(Stop::Memory),
+    }
+}
+
+/// Carries out a command, and writes its reply.
+fn carry_out_command<K: Sink, R: Regs, M: Roll>(
+    alloc: Global,
+    session: &mut Session,
+    command: &Command,
+    text: &mut Vec<u8>,
+    out: &mut K,
+    regs: &mut R,
+    media: &mut M,
+) -> Result<(), Stop>
+    requires stands { Stands session.old (R.state regs.old) (M.state media.old) }
+    requires ranged { IsRanged command.now }
+    ensures answered { OnOk result (ForEachMachine session.old (R.state regs.old) (M.state media.old) (λ m.
+        IsAnswered m (Ok command.now ∷ []) session.new (R.state regs.old) (R.state regs.new) (M.state media.new)
+        (K.state out.old) (K.state out.new))) }
+    ensures cut { result ≡ Err stops.Sink → ForEachMachine session.old (R.state regs.old) (M.state media.old) (λ m.
+        IsCutShort m (Ok command.now ∷ []) session.new (R.state regs.old) (R.state regs.new) (M.state media.new)
+        (K.state out.old) (K.state out.new)) }
+    ensures left { result ≡ Err stops.Memory → ForEachMachine session.old (R.state regs.old) (M.state media.old) (λ m.
+        IsLeft m session.new (R.state regs.old) (R.state regs.new) (M.state media.new) (K.state out.old) (K.state out.new)) }
+    ensures sink { (K.state out.old).faults ≤ (K.state out.new).faults }
+    ensures bus { (R.state regs.old).faults ≤ (R.state regs.new).faults }
+{
+    answers_are_told();
+    let reply = session.act(alloc, command, regs, media)?;
+    write_reply(&reply, session.topo(), text, out)
+}
+
+/// Writes the reply to a line that asks for nothing.
+pub(crate) fn tell_bad_line<K: Sink>(
+    fault: BadLine,
+    session: &Session,
+    text: &mut Vec<u8>,
+    out: &mut K,
+) -> Result<(), Stop>
+    ensures answered { OnOk result ((m : Machine) (regs : RegsState) (media : MediaState) → IsAt session.now regs media m
+        → IsAnswered m (Err fault ∷ []) session.now regs regs media (K.state out.old) (K.state out.new)) }
+    ensures cut { result ≡ Err stops.Sink → (m : Machine) (regs : RegsState) (media : MediaState) → IsAt session.now regs media m
+        → IsCutShort m (Err fault ∷ []) session.now regs regs media (K.state out.old) (K.state out.new) }
+    ensures left { result ≡ Err stops.Memory → (m : Machine) (regs : RegsState) (media : MediaState) → IsAt session.now regs media m
+        → IsLeft m session.now regs regs media (K.state out.old) (K.state out.new) }
+    ensures sink { (K.state out.old).faults ≤ (K.state out.new).faults }
+{
+    write_reply(&Reply::BadLine(fault), session.topo(), text, out)
+}

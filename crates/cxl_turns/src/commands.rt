@@ -1,0 +1,73 @@
+//! Commands, carried out one after the other.
+
+ghost use Rattle.std.specs.Prelude.{◌≡◌, ℕ, ◌+◌, ◌-◌, ◌^◌, ◌<◌, ◌≤◌, Ok, List, [], ◌∷◌, map, length, take, All, IfOk, OnOk, OnErr};
+ghost use Rattle.cxl_script.specs.Grammar.{IsRanged};
+ghost use Rattle.cxl_machine.specs.Scripts.{Turn};
+ghost use Rattle.cxl_session.specs.Standing.{Stands, ForEachMachine};
+ghost use Rattle.cxl_turns.specs.Counts.{counts_of};
+ghost use Rattle.cxl_turns.specs.Going.{HasGoneOn};
+ghost use Rattle.cxl_turns.specs.inner.Counted.{counted, AreWithin};
+
+use crate::counts::{Counts, NONE, count};
+use cxl_bus::Regs;
+use cxl_enc::Memory;
+use cxl_media::Roll;
+use cxl_script::Command;
+use cxl_session::Session;
+use std::alloc::Global;
+
+/// Carries out commands one after the other, and counts what they are answered. Registers and media hold what the last call on
+/// this session left in them. After `Memory` they are as the command left them before the one that met it. (This project's
+/// rule.) Takes memory.
+pub fn carry_out_commands<R: Regs, M: Roll>(
+    alloc: Global,
+    session: &mut Session,
+    commands: &[Command],
+    regs: &mut R,
+    media: &mut M,
+) -> Result<Counts, Memory>
+    requires stands { Stands session.old (R.state regs.old) (M.state media.old) }
+    requires ranged { All IsRanged commands.now }
+    // So many can be counted.
+    requires few { length commands.now < 2 ^ 32 }
+    // All of them are answered, one after the other, and these are counted.
+    ensures all { IfOk result (λ counts. ForEachMachine session.old (R.state regs.old) (M.state media.old) (λ m. (turns : List Turn)
+        × HasGoneOn m (map (λ command. Ok command) commands.now) turns session.new (R.state regs.old) (R.state regs.new) (M.state media.new)
+        × (counts ≡ counts_of (map (λ (turn : Turn). turn.reply) turns)))) }
+    // Or those before the one that met want of memory.
+    ensures some { OnErr result (ForEachMachine session.old (R.state regs.old) (M.state media.old) (λ m. (count : ℕ) × (turns : List Turn)
+        × HasGoneOn m (map (λ command. Ok command) (take count commands.now)) turns
+        session.new (R.state regs.old) (R.state regs.new) (M.state media.new))) }
+    ensures bus { (R.state regs.old).faults ≤ (R.state regs.new).faults }
+{
+    let mut counts = NONE;
+    for command in commands {
+        carry_out_counted(alloc, session, command, &mut counts, regs, media)?;
+    }
+    Ok(counts)
+}
+
+/// Carries out a command, and counts what it is answered.
+fn carry_out_counted<R: Regs, M: Roll>(
+    alloc: Global,
+    session: &mut Session,
+    command: &Command,
+    counts: &mut Counts,
+    regs: &mut R,
+    media: &mut M,
+) -> Result<(), Memory>
+    requires stands { Stands session.old (R.state regs.old) (M.state media.old) }
+    requires ranged { IsRanged command.now }
+    requires few { (n : ℕ) × (n < 2 ^ 32 - 1) × AreWithin counts.old n }
+    ensures taken { OnOk result (ForEachMachine session.old (R.state regs.old) (M.state media.old) (λ m. (turn : Turn)
+        × HasGoneOn m (Ok command.now ∷ []) (turn ∷ []) session.new (R.state regs.old) (R.state regs.new) (M.state media.new)
+        × (counts.new ≡ counted counts.old turn.reply))) }
+    ensures within { OnOk result ((n : ℕ) → AreWithin counts.old n → AreWithin counts.new (n + 1)) }
+    ensures left { OnErr result (ForEachMachine session.old (R.state regs.old) (M.state media.old) (λ m.
+        HasGoneOn m [] [] session.new (R.state regs.old) (R.state regs.new) (M.state media.new))) }
+    ensures bus { (R.state regs.old).faults ≤ (R.state regs.new).faults }
+{
+    let reply = session.act(alloc, command, regs, media)?;
+    count(counts, &reply);
+    Ok(())
+}

@@ -1,0 +1,16 @@
+//! Lines of a script and lists of commands, carried out over an open session.
+#![tactic(auto)]
+
+mod carrying;
+mod commands;
+mod counts;
+mod endings;
+mod lines;
+mod replies;
+mod stops;
+
+pub use commands::carry_out_commands;
+pub use counts::Counts;
+pub use cxl_enc::Memory;
+pub use endings::Ending;
+pub use lines::carry_out_lines;

@@ -1,0 +1,74 @@
+//! The lines of a script, carried out one after the other.
+
+ghost use Rattle.std.specs.Prelude.{◌≡◌, ◌≤◌, List};
+ghost use Rattle.cxl_machine.specs.Scripts.{Asked, Turn};
+ghost use Rattle.cxl_session.specs.Standing.{Stands, ForEachMachine};
+ghost use Rattle.cxl_turns.specs.Endings.{EndsLines};
+ghost use Rattle.cxl_turns.specs.Going.{HasGoneOn};
+
+use crate::carrying::{carry_out_line, tell_bad_line};
+use crate::endings::Ending;
+use crate::stops::Stop;
+use cxl_bus::Regs;
+use cxl_io::{LineReader, Sink, Source, Taken};
+use cxl_media::Roll;
+use cxl_script::{BadLine, LINE_LIMIT, Why};
+use cxl_session::Session;
+use std::alloc::Global;
+
+/// What a line of more than 4,096 bytes is answered.
+const LONG: BadLine = BadLine {
+    at: LINE_LIMIT as u32,
+    why: Why::Long,
+};
+
+/// Carries out the lines of a script, and writes each reply before the next line is carried out. Registers and media hold
+/// what the last call on this session left in them. A line that asks for nothing is passed over, and a bad line is answered by
+/// its first fault. After `Memory` session, registers and media are as the lines before the one that met it left them. (This
+/// project's rule.) Takes memory.
+pub fn carry_out_lines<S: Source, K: Sink, R: Regs, M: Roll>(
+    alloc: Global,
+    session: &mut Session,
+    script: &mut S,
+    out: &mut K,
+    regs: &mut R,
+    media: &mut M,
+) -> Ending
+    requires { Stands session.old (R.state regs.old) (M.state media.old) }
+    // What the first lines of the script ask for was answered, line by line, and their replies are what is written.
+    ensures ends { ForEachMachine session.old (R.state regs.old) (M.state media.old) (λ m. (asked : List Asked) × (turns : List Turn)
+        × HasGoneOn m asked turns session.new (R.state regs.old) (R.state regs.new) (M.state media.new)
+        × EndsLines m.settled.nodes asked turns (S.state script.old) (S.state script.new)
+        (K.state out.old) (K.state out.new) result) }
+    ensures source { (S.state script.old).faults ≤ (S.state script.new).faults }
+    ensures sink { (K.state out.old).faults ≤ (K.state out.new).faults }
+    ensures bus { (R.state regs.old).faults ≤ (R.state regs.new).faults }
+{
+    let mut reader = match LineReader::new(alloc) {
+        Ok(reader) => reader,
+        Err(_memory) => return Ending::Memory,
+    };
+    let mut text = Vec::new(alloc);
+    'lines: loop {
+        let carried = match reader.next(script) {
+            Taken::Line => carry_out_line(
+                alloc,
+                session,
+                reader.line(),
+                &mut text,
+                out,
+                regs,
+                media,
+            ),
+            Taken::Long => tell_bad_line(LONG, session, &mut text, out),
+            Taken::End => return Ending::Done,
+            Taken::Fault => return Ending::ReadFault,
+            Taken::TooMuch => return Ending::TooMuch,
+        };
+        match carried {
+            Ok(()) => {}
+            Err(Stop::Sink) => return Ending::WriteFault,
+            Err(Stop::Memory) => return Ending::Memory,
+        }
+    }
+}

@@ -1,0 +1,67 @@
+//! How a reply is written.
+
+ghost use Rattle.std.specs.Prelude.{◌≡◌, ◌≢◌, ◌≤◌, List, IfSome, IsSome, Err, false, OnOk};
+ghost use Rattle.cxl_enc.specs.Faults.{Rose, LeavesCount};
+ghost use Rattle.cxl_io.specs.Sink.{Takes, TakesPrefix};
+ghost use Rattle.cxl_topo.specs.declared.node.Node.{Node};
+ghost use Rattle.cxl_reply.specs.declared.reply.Reply.TheVariants as replies;
+ghost use Rattle.cxl_reply.specs.Replies.{reply_text, has_short_text};
+ghost use Rattle.cxl_reply.specs.Told.{IsTold};
+ghost use Rattle.cxl_turns.specs.declared.stops.Stop.TheVariants as stops;
+
+use crate::stops::Stop;
+use cxl_io::{Sink, write_all};
+use cxl_reply::{Reply, put_reply, short};
+use cxl_topo::Topo;
+
+/// Writes the text of a reply in one write, with `text` as the place for it. A reply to a command that changed something, or
+/// that met a fault of the bus, takes no memory, so that it can be told where none is left.
+pub(crate) fn write_reply<K: Sink>(
+    reply: &Reply,
+    topo: &Topo,
+    text: &mut Vec<u8>,
+    out: &mut K,
+) -> Result<(), Stop>
+    requires { IsTold topo.now.nodes reply.now }
+    ensures written { OnOk result (Takes (K.state out.old) (K.state out.new) (reply_text topo.now.nodes reply.now)) }
+    ensures unswallowed { OnOk result (LeavesCount (K.state out.old).counts_failures_alone
+        (K.state out.old).faults (K.state out.new).faults) }
+    ensures cut { result ≡ Err stops.Sink → TakesPrefix (K.state out.old) (K.state out.new) (reply_text topo.now.nodes reply.now) }
+    ensures cause { result ≡ Err stops.Sink → Rose (K.state out.old).faults (K.state out.new).faults }
+    ensures long { result ≡ Err stops.Memory → has_short_text reply.now ≡ false }
+    ensures no_fault { result ≡ Err stops.Memory → reply.now ≢ replies.BusRead }
+    ensures left { result ≡ Err stops.Memory → out.new ≡ out.old }
+    ensures counts { (K.state out.old).faults ≤ (K.state out.new).faults }
+    ensures alone { (K.state out.new).counts_failures_alone ≡ (K.state out.old).counts_failures_alone }
+{
+    if let Some(short) = short(reply) {
+        write_all(out, short.bytes())?;
+        return Ok(());
+    }
+    if let Some(fixed) = fixed_text(reply) {
+        write_all(out, fixed)?;
+        return Ok(());
+    }
+    text.clear();
+    put_reply(reply, topo, text)?;
+    write_all(out, text.as_slice())?;
+    Ok(())
+}
+
+/// The text of a reply that names nothing, where it has no short text.
+fn fixed_text(reply: &Reply) -> Option<&'static [u8]>
+    ensures text { (nodes : List Node) → IfSome result (λ text. text.now ≡ reply_text nodes reply.now) }
+    // That a read failed is told without memory.
+    ensures bus_read { reply.now ≡ replies.BusRead → IsSome result }
+{
+    match reply {
+        Reply::Unmapped => Some(b"unmapped\n"),
+        Reply::CrossesEnd => Some(b"crosses end\n"),
+        Reply::RegionsFull => Some(b"regions full\n"),
+        Reply::NoSet => Some(b"refused no-set\n"),
+        Reply::PoisonShort => Some(b"poison short\n"),
+        Reply::BusRead => Some(b"bus fault read\n"),
+        Reply::NothingPending => Some(b"nothing pending\n"),
+        _ => None,
+    }
+}
