@@ -16,23 +16,23 @@ use Rattle.cxl_shell.specs.Form.{Check}
 use Rattle.cxl_shell.specs.Outcome.{Outcome}
 use Rattle.cxl_shell.specs.Outside.{Outside}
 use Rattle.cxl_shell.specs.Run.{IsRunByFiles, runs_out, before, behind}
-use Rattle.cxl_shell.specs.commands.Check.{IsChecked, breach_told, broken}
+use Rattle.cxl_shell.specs.commands.Check.{breach_told, broken}
 use Rattle.cxl_shell.specs.declared.status.Status.{Status}
 use Rattle.cxl_shell.specs.declared.stop.Stop.{Stop}
 use Rattle.cxl_shell.specs.declared.stop.Stop.TheVariants as stop
-use Rattle.cxl_shell.specs.inner.Reports.{IsReported, ended, cut, unmade}
+use Rattle.cxl_shell.specs.inner.Reports.{TellsBreach, IsReported, ended, cut, unmade}
 use Rattle.cxl_shell.specs.inputs.File.{AsksForSome}
 use Rattle.cxl_shell.specs.inputs.Host.{host_of, AreRead, HasNoHost, no_host, by_host}
 use Rattle.cxl_shell.proofs.Stops.{stop-weaker, run-ended, run-finished}
 
 -- the breach ends the command, or there was no memory to say so
-pub breach-stops : (s : System) (rule node decoder : ℕ) (made : Result Outcome NoMemory) → IsFirstBreach s rule node decoder → IfOk made (λ outcome. outcome ≡ broken s.nodes rule node decoder) → IsStop (IsChecked s) (Unit {0}) (stop_of made)
-breach-stops s rule node decoder (Ok outcome) first is = breach_told rule node decoder first is
+pub breach-stops : (s : System) (rule node decoder : ℕ) (made : Result Outcome NoMemory) → IsFirstBreach s rule node decoder → IfOk made (λ outcome. outcome ≡ broken s.nodes rule node decoder) → IsStop (TellsBreach s) (Unit {0}) (stop_of made)
+breach-stops s rule node decoder (Ok outcome) first is = record { rule = rule; node = node; decoder = decoder; first = first; told = is }
 breach-stops s rule node decoder (Err e) first is = tt
 
 -- what stopped the check is written
-pub reported-stopped : (s : System) (reason : Stop) (status : Status) (old new : SinkState) → IsStop (IsChecked s) (Unit {0}) reason → Finishes (Err reason) status old new → IsReported s status old new
-reported-stopped s (stop.Outcome outcome) status old new is finishes = ended outcome is finishes
+pub reported-stopped : (s : System) (reason : Stop) (status : Status) (old new : SinkState) → IsStop (TellsBreach s) (Unit {0}) reason → Finishes (Err reason) status old new → IsReported s status old new
+reported-stopped s (stop.Outcome outcome) status old new is finishes = ended outcome (breach_told is.rule is.node is.decoder is.first is.told) finishes
 reported-stopped s stop.Memory status old new is finishes = unmade finishes.0 finishes.1
 
 module _ (cedt topo image : List ℕ) (old new : Outside) (status : Status) where

@@ -13,6 +13,7 @@ use Rattle.cxl_shell.specs.Outside.{Outside}
 use Rattle.cxl_shell.specs.Run.{RunsOut, before, behind, IsRunByFiles, writes, is_cut, runs_out}
 use Rattle.cxl_shell.specs.commands.Plan.{IsPlanned, plan_told, refusal_told}
 use Rattle.cxl_shell.specs.commands.Route.{IsRouted, to_bridge, nowhere}
+use Rattle.cxl_shell.specs.commands.Script.{IsRefusedStart, breach_told, many_told}
 use Rattle.cxl_shell.specs.declared.form.HostAsk.{HostAsk}
 use Rattle.cxl_shell.specs.declared.form.HostAsk.TheVariants as host_asks
 use Rattle.cxl_shell.specs.declared.form.ResetAsk.{ResetAsk}
@@ -23,6 +24,7 @@ use Rattle.cxl_shell.specs.declared.form.WordsAsk.{WordsAsk}
 use Rattle.cxl_shell.specs.declared.form.WordsAsk.TheVariants as plain_asks
 use Rattle.cxl_shell.specs.declared.status.Status.{Status}
 use Rattle.cxl_shell.specs.declared.status.Status.TheVariants.{Memory}
+use Rattle.cxl_shell.specs.inputs.Host.{host_of}
 use Rattle.cxl_shell.specs.inputs.Host as hosts
 use Rattle.cxl_shell.specs.inputs.ResetHost.{reset_host_of}
 use Rattle.cxl_shell.specs.inputs.ResetHost as resets
@@ -49,9 +51,13 @@ one_of_reset_host : (ask : ResetAsk) (table : CedtFields) (tree : Tree) (outcome
 one_of_reset_host (reset_asks.Plan create) table tree outcome answer = one_of_plan (reset_host_of table tree) create outcome answer
 one_of_reset_host reset_asks.Script table tree outcome answer = absurd answer
 
+one_of_start : (s : System) (outcome : Outcome) → IsRefusedStart s outcome → IsOnePiece outcome
+one_of_start s outcome (breach_told rule node decoder first e) = record { status = _; text = _; is = e }
+one_of_start s outcome (many_told n has many e) = record { status = _; text = _; is = e }
+
 one_of_host : (cedt topo image : List ℕ) (ask : HostAsk) (table : CedtFields) (tree : Tree) (blocks : List Registers) (outcome : Outcome) → has_many_pieces (OfHost cedt topo image ask) ≡ false → IsHostAnswer ask table tree blocks outcome → IsOnePiece outcome
 one_of_host cedt topo image host_asks.Check table tree blocks outcome one answer = absurd (cc)
-one_of_host cedt topo image host_asks.Script table tree blocks outcome one answer = absurd answer
+one_of_host cedt topo image host_asks.Script table tree blocks outcome one answer = one_of_start (host_of table tree blocks) outcome answer
 
 one_of_words : (ask : WordsAsk) (outcome : Outcome) → IsPlainAnswer ask outcome → IsOnePiece outcome
 one_of_words plain_asks.NoCreate outcome e = record { status = _; text = _; is = e }

@@ -1,6 +1,6 @@
 -- The files of a form.
-use Rattle.std.proofs.Common.{◌≡◌, ℕ, false, true, Some, List, ◌∷◌, ap}
-use Rattle.cxl_shell.specs.Form.{Form, OfTable, OfResetHost, OfHost, OfWords, own_files, table_file, takes_memory, runs_session, taken_for}
+use Rattle.std.proofs.Common.{◌≡◌, ℕ, Some, List, ◌∷◌, ap}
+use Rattle.cxl_shell.specs.Form.{Form, OfTable, OfResetHost, OfHost, OfWords, own_files, table_file}
 
 -- the first file is that with the table
 pub first_file : (form : Form) (file : List ℕ) (others : List (List ℕ)) → own_files form ≡ file ∷ others → table_file form ≡ Some file
@@ -11,7 +11,3 @@ first_file (OfWords ask) file others own = absurd (cc)
 
 pub one_file : (form : Form) (file other : List ℕ) → table_file form ≡ Some file → table_file form ≡ Some other → file ≡ other
 one_file form file other asked again = cc
-
--- a form without a session is taken for itself
-pub takes_also : (form : Form) → runs_session form ≡ false → takes_memory form ≡ true → takes_memory (taken_for form) ≡ true
-takes_also form none takes = rw none takes

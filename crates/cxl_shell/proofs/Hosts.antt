@@ -10,7 +10,7 @@ use Rattle.cxl_shell.specs.inputs.Image as images
 use Rattle.cxl_shell.specs.inputs.Topology.{IsFaultyTreeFile, HasNoTree}
 use Rattle.cxl_shell.specs.inputs.Topology as trees
 
-told_twice : {A : Type 0} (told : Option (List A)) (xs ys : List A) → told_with (told_with told xs) ys ≡ told_with told (xs ++ ys)
+pub told_twice : {A : Type 0} (told : Option (List A)) (xs ys : List A) → told_with (told_with told xs) ys ≡ told_with told (xs ++ ys)
 told_twice None xs ys = refl
 told_twice (Some told) xs ys = ap (λ t. Some t) (append_assoc told xs ys)
 

@@ -3,14 +3,12 @@ pub mod Holders
 pub mod Faults
 pub mod WordCounts
 pub mod Forms
-pub mod LineCodes
+pub mod RangedForms
 pub mod Stops
 pub mod Tables
 pub mod Topologies
 pub mod Images
 pub mod Hosts
-pub mod Names
-pub mod Tellings
 pub mod Planned
 pub mod InBlocks
 pub mod ListLines
@@ -22,6 +20,11 @@ pub mod Pieces
 pub mod Runs
 pub mod Endings
 pub mod Lifted
+pub mod Behind
+pub mod ResetHosts
+pub mod Scripts
+pub mod Generated
 pub mod Steps
 pub mod Readings
+pub mod Complete
 pub mod laws

@@ -11,14 +11,17 @@ use Rattle.cxl_script.specs.declared.command.Create.{Create}
 use Rattle.cxl_model.specs.System.{System}
 use Rattle.cxl_topo.specs.Tree.{Tree}
 use Rattle.cxl_topofile.specs.declared.fault.TopoFault.{TopoFault}
-use Rattle.cxl_shell.specs.Answers.{IsOutcomeByFiles, IsTableAnswer, IsResetAnswer, IsHostAnswer}
+use Rattle.cxl_shell.specs.Answers.{IsOutcomeByFiles, IsTableAnswer, IsResetAnswer, IsHostAnswer, IsAnswerBy}
 use Rattle.cxl_shell.specs.Ends.{IsWritten, IsCutShort}
-use Rattle.cxl_shell.specs.Form.{Form, OfTable, OfResetHost, OfHost, OfWords, Route, Check, Plan, NoCreate, Help, Version, Unreadable, own_files, table_file, topology_file, image_file, takes_memory}
+use Rattle.cxl_shell.specs.Form.{Form, OfTable, OfResetHost, OfHost, OfWords, Route, Check, Plan, Script, NoCreate, Help, Version, Unreadable, own_files, table_file, topology_file, image_file, takes_memory}
 use Rattle.cxl_shell.specs.Outcome.{Outcome}
 use Rattle.cxl_shell.specs.Outside.{Outside}
+use Rattle.cxl_shell.specs.Readings.{Readings, ByTable, ByTree, ByHost}
 use Rattle.cxl_shell.specs.Run.{RunsOut, before, behind, IsRunByFiles, writes, is_cut, runs_out}
 use Rattle.cxl_shell.specs.commands.Check.{IsChecked, regions_told, breach_told}
 use Rattle.cxl_shell.specs.commands.Plan.{IsPlanned, plan_told, refusal_told}
+use Rattle.cxl_shell.specs.commands.Script.{IsRefusedStart}
+use Rattle.cxl_shell.specs.commands.Script as starts
 use Rattle.cxl_shell.specs.declared.form.HostAsk.{HostAsk}
 use Rattle.cxl_shell.specs.declared.form.HostAsk.TheVariants as host_asks
 use Rattle.cxl_shell.specs.declared.form.ResetAsk.{ResetAsk}
@@ -49,13 +52,18 @@ table_status table_asks.Listing table outcome answer = inl (ap (λ o. o.status) 
 table_status table_asks.Normal table outcome answer = inl (ap (λ o. o.status) answer)
 
 check_status : (s : System) (outcome : Outcome) → IsChecked s outcome → (outcome.status ≡ Done) ⊎ (outcome.status ≡ Refused)
-check_status s outcome (regions_told regions is listed e) = inl (ap (λ o. o.status) e)
+check_status s outcome (regions_told regions sound is listed e) = inl (ap (λ o. o.status) e)
 check_status s outcome (breach_told rule node decoder first e) = inr (ap (λ o. o.status) e)
+
+-- no session starts, which is told
+pub start_status : (s : System) (outcome : Outcome) → IsRefusedStart s outcome → outcome.status ≡ Refused
+start_status s outcome (starts.breach_told rule node decoder first e) = ap (λ o. o.status) e
+start_status s outcome (starts.many_told n has many e) = ap (λ o. o.status) e
 
 -- and so has one by a host
 host_status : (ask : HostAsk) (table : CedtFields) (tree : Tree) (blocks : List Registers) (outcome : Outcome) → IsHostAnswer ask table tree blocks outcome → (outcome.status ≡ Done) ⊎ (outcome.status ≡ Refused)
 host_status host_asks.Check table tree blocks outcome answer = check_status (host_of table tree blocks) outcome answer
-host_status host_asks.Script table tree blocks outcome answer = absurd answer
+host_status host_asks.Script table tree blocks outcome answer = inr (start_status (host_of table tree blocks) outcome answer)
 
 plan_status : (s : System) (create : Create) (outcome : Outcome) → IsPlanned s create outcome → (outcome.status ≡ Done) ⊎ (outcome.status ≡ Refused)
 plan_status s create outcome (plan_told plan is e) = inl (ap (λ o. o.status) e)
@@ -65,6 +73,19 @@ plan_status s create outcome (refusal_told reply is e) = inr (ap (λ o. o.status
 reset_status : (ask : ResetAsk) (table : CedtFields) (tree : Tree) (outcome : Outcome) → IsResetAnswer ask table tree outcome → (outcome.status ≡ Done) ⊎ (outcome.status ≡ Refused)
 reset_status (reset_asks.Plan create) table tree outcome answer = plan_status (reset_host_of table tree) create outcome answer
 reset_status reset_asks.Script table tree outcome answer = absurd answer
+
+-- the outcome by what the files are read as has one of these two statuses
+pub answer_status : (form : Form) (readings : Readings) (outcome : Outcome) → IsAnswerBy form readings outcome → (outcome.status ≡ Done) ⊎ (outcome.status ≡ Refused)
+answer_status (OfTable cedt ask) (ByTable table) outcome answer = table_status ask table outcome answer
+answer_status (OfTable cedt ask) (ByTree table tree) outcome answer = absurd answer
+answer_status (OfTable cedt ask) (ByHost table tree blocks) outcome answer = absurd answer
+answer_status (OfResetHost cedt topo ask) (ByTable table) outcome answer = absurd answer
+answer_status (OfResetHost cedt topo ask) (ByTree table tree) outcome answer = reset_status ask table tree outcome answer
+answer_status (OfResetHost cedt topo ask) (ByHost table tree blocks) outcome answer = absurd answer
+answer_status (OfHost cedt topo image ask) (ByTable table) outcome answer = absurd answer
+answer_status (OfHost cedt topo image ask) (ByTree table tree) outcome answer = absurd answer
+answer_status (OfHost cedt topo image ask) (ByHost table tree blocks) outcome answer = host_status ask table tree blocks outcome answer
+answer_status (OfWords ask) readings outcome answer = absurd answer
 
 module _ (old new : Outside) where
   -- the table in its file answers what is asked of it, and the outcome is written
@@ -428,7 +449,7 @@ module _ (old new : Outside) where
   -- ---- which forms are refused
 
   abbrev pub IsRefusable : Form → Type 0
-  IsRefusable form = ((file : List ℕ) × (h : ℕ) × (form ≡ Route file h)) ⊎ ((cedt : List ℕ) × (topo : List ℕ) × (image : List ℕ) × (form ≡ Check cedt topo image)) ⊎ ((cedt : List ℕ) × (topo : List ℕ) × (create : Create) × (form ≡ Plan cedt topo create))
+  IsRefusable form = ((file : List ℕ) × (h : ℕ) × (form ≡ Route file h)) ⊎ ((cedt : List ℕ) × (topo : List ℕ) × (image : List ℕ) × (form ≡ Check cedt topo image)) ⊎ ((cedt : List ℕ) × (topo : List ℕ) × (create : Create) × (form ≡ Plan cedt topo create)) ⊎ ((cedt : List ℕ) × (topo : List ℕ) × (image : List ℕ) × (form ≡ Script cedt topo (Some image)))
 
   refusable_table : (cedt : List ℕ) (ask : TableAsk) (table : CedtFields) (outcome : Outcome) → outcome.status ≡ Refused → IsTableAnswer ask table outcome → IsRefusable (OfTable cedt ask)
   refusable_table cedt (table_asks.Route h) table outcome is answer = inl (cedt, h, refl)
@@ -436,12 +457,12 @@ module _ (old new : Outside) where
   refusable_table cedt table_asks.Normal table outcome is answer = let own = ap (λ o. o.status) answer in absurd (cc)
 
   refusable_tree : (cedt topo : List ℕ) (ask : ResetAsk) (table : CedtFields) (tree : Tree) (outcome : Outcome) → IsResetAnswer ask table tree outcome → IsRefusable (OfResetHost cedt topo ask)
-  refusable_tree cedt topo (reset_asks.Plan create) table tree outcome answer = inr (inr (cedt, topo, create, refl))
+  refusable_tree cedt topo (reset_asks.Plan create) table tree outcome answer = inr (inr (inl (cedt, topo, create, refl)))
   refusable_tree cedt topo reset_asks.Script table tree outcome answer = absurd answer
 
   refusable_host : (cedt topo image : List ℕ) (ask : HostAsk) (table : CedtFields) (tree : Tree) (blocks : List Registers) (outcome : Outcome) → IsHostAnswer ask table tree blocks outcome → IsRefusable (OfHost cedt topo image ask)
   refusable_host cedt topo image host_asks.Check table tree blocks outcome answer = inr (inl (cedt, topo, image, refl))
-  refusable_host cedt topo image host_asks.Script table tree blocks outcome answer = absurd answer
+  refusable_host cedt topo image host_asks.Script table tree blocks outcome answer = inr (inr (inr (cedt, topo, image, refl)))
 
   pub refuses_some : (form : Form) → Came form Refused → IsRefusable form
   refuses_some form (refuses (by_table answered)) =

@@ -4,3 +4,7 @@ pub mod List
 pub mod Normal
 pub mod Check
 pub mod Plan
+pub mod Early
+pub mod Script
+pub mod Gen
+pub mod Headline

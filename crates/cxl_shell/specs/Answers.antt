@@ -15,6 +15,7 @@ use Rattle.cxl_shell.specs.commands.List.{listed}
 use Rattle.cxl_shell.specs.commands.Normal.{normalized}
 use Rattle.cxl_shell.specs.commands.Plan.{IsPlanned}
 use Rattle.cxl_shell.specs.commands.Route.{IsRouted}
+use Rattle.cxl_shell.specs.commands.Script.{IsRefusedStart}
 use Rattle.cxl_shell.specs.declared.form.HostAsk.{HostAsk}
 use Rattle.cxl_shell.specs.declared.form.HostAsk.TheVariants as host_asks
 use Rattle.cxl_shell.specs.declared.form.ResetAsk.{ResetAsk}
@@ -36,17 +37,17 @@ IsTableAnswer (table_asks.Route h) table outcome = IsRouted table h outcome
 IsTableAnswer table_asks.Listing table outcome = outcome ≡ listed table.records
 IsTableAnswer table_asks.Normal table outcome = outcome ≡ normalized table
 
--- what is asked of a host after reset comes to this; a session's host has no answer of its own
+-- what is asked of a host after reset comes to this; its image is accepted and has no region, so that no session is refused
 abbrev pub IsResetAnswer : ResetAsk → CedtFields → Tree → Outcome → Type 0
 IsResetAnswer (reset_asks.Plan create) table tree outcome = IsPlanned (reset_host_of table tree) create outcome
 IsResetAnswer reset_asks.Script table tree outcome = ⊥
 
--- what is asked of a host comes to this
+-- what is asked of a host comes to this; a script where its image starts no session
 abbrev pub IsHostAnswer : HostAsk → CedtFields → Tree → List Registers → Outcome → Type 0
 IsHostAnswer host_asks.Check table tree blocks outcome = IsChecked (host_of table tree blocks) outcome
-IsHostAnswer host_asks.Script table tree blocks outcome = ⊥
+IsHostAnswer host_asks.Script table tree blocks outcome = IsRefusedStart (host_of table tree blocks) outcome
 
--- what is asked of no file comes to this
+-- what is asked of no file comes to this; a generated system starts a session
 abbrev pub IsPlainAnswer : WordsAsk → Outcome → Type 0
 IsPlainAnswer plain_asks.NoCreate outcome = outcome ≡ misused
 IsPlainAnswer plain_asks.Help outcome = outcome ≡ helped

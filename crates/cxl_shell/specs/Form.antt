@@ -1,5 +1,5 @@
 -- What the words of the command line ask for, in two parts: which files they name, and what is asked of them.
-use Rattle.std.specs.Prelude.{ℕ, Bool, true, false, ◌&&◌, nat_le, Option, Some, None, List, [], ◌∷◌, codes, bytes_eq, if◌then◌else◌, Result, Ok, Err}
+use Rattle.std.specs.Prelude.{ℕ, ◌≤◌, Bool, true, false, ◌&&◌, nat_le, Option, Some, None, List, [], ◌∷◌, codes, bytes_eq, if◌then◌else◌, Result, Ok, Err}
 use Rattle.cxl_io.specs.Numbers.{number_of}
 use Rattle.cxl_io.specs.declared.number.NumFault.{NumFault}
 use Rattle.cxl_script.specs.Grammar.{asked_in, StatesGranCode}
@@ -134,9 +134,9 @@ gen_form (number ∷ []) = gen_of (number_of number)
 gen_form words = Unreadable
 
 -- what the words ask for
-abbrev pub asked_form : List (List ℕ) → Form
-asked_form [] = Unreadable
-asked_form (word ∷ words) =
+abbrev pub form_of : List (List ℕ) → Form
+form_of [] = Unreadable
+form_of (word ∷ words) =
     if bytes_eq word (codes "route") then route_form words
     else (if bytes_eq word (codes "list") then list_form words
     else (if bytes_eq word (codes "normal") then normal_form words
@@ -160,14 +160,6 @@ abbrev pub reads_script : Form → Bool
 reads_script (OfResetHost cedt topo resets.Script) = true
 reads_script (OfHost cedt topo image hosts.Script) = true
 reads_script form = false
-
--- No session is carried out yet: such a form is taken for words that are no form.
-abbrev pub taken_for : Form → Form
-taken_for form = if runs_session form then Unreadable else form
-
--- what the words are carried out as
-abbrev pub form_of : List (List ℕ) → Form
-form_of words = taken_for (asked_form words)
 
 -- ---- what a form needs
 
@@ -218,7 +210,8 @@ takes_memory (OfResetHost cedt topo ask) = true
 takes_memory (OfHost cedt topo image ask) = true
 takes_memory (OfWords ask) = words_take_memory ask
 
--- a line that it has states no granularity, or one by a code of the table
-abbrev pub LineStatesGranCode : Form → Type 0
-LineStatesGranCode (OfResetHost cedt topo (resets.Plan create)) = StatesGranCode create
-LineStatesGranCode form = Unit {0}
+-- a line that it has states no granularity, or one by a code of the table; a number that it has is one of a generated system
+abbrev pub IsRangedForm : Form → Type 0
+IsRangedForm (OfResetHost cedt topo (resets.Plan create)) = StatesGranCode create
+IsRangedForm (OfWords (plains.Gen n)) = (1 ≤ n) × (n ≤ 32)
+IsRangedForm form = Unit {0}

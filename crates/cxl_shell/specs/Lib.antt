@@ -12,8 +12,12 @@ pub mod commands
 pub mod Readings
 pub mod Answers
 pub mod Ends
+pub mod Endings
 pub mod Run
 pub mod Statuses
+pub mod Completeness
+pub mod RunOut
+pub mod Headline
 pub mod inner
 pub use Rattle.cxl_enc.specs.Codes
 pub use Rattle.cxl_enc.specs.Faults

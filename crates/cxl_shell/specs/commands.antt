@@ -7,3 +7,5 @@ pub mod List
 pub mod Normal
 pub mod Check
 pub mod Plan
+pub mod Script
+pub mod Gen

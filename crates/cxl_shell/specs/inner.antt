@@ -1,3 +1,4 @@
 -- Definitions that only the inner calls and the proofs speak of.
 pub mod Reports
-pub mod Requests
+pub mod Scripts
+pub mod Generated

@@ -1,55 +1,88 @@
 //! The commands.
 
-ghost use Rattle.std.specs.Prelude.{◌≡◌, ◌≤◌, None};
+ghost use Rattle.std.specs.Prelude.{◌≡◌, ◌≤◌, None, false};
 ghost use Rattle.cxl_io.specs.Fetch.{FetchState};
 ghost use Rattle.cxl_shell.specs.Answers.{IsOutcomeByFiles};
-ghost use Rattle.cxl_shell.specs.Form.{OfTable, OfResetHost, OfHost, OfWords, table_file, taken_for, LineStatesGranCode};
+ghost use Rattle.cxl_shell.specs.Devices.{devices};
+ghost use Rattle.cxl_shell.specs.Form.{OfTable, OfWords, table_file, runs_session, reads_script, IsRangedForm};
 ghost use Rattle.cxl_shell.specs.Outside.{outside};
 ghost use Rattle.cxl_shell.specs.Plain.{plain};
-ghost use Rattle.cxl_shell.specs.Run.{IsRunByFiles};
+ghost use Rattle.cxl_shell.specs.Run.{IsRunByFiles, IsRun};
 
 pub(crate) mod check;
+pub(crate) mod generated;
 pub(crate) mod help;
 mod lines;
 pub(crate) mod list;
 pub(crate) mod normal;
 pub(crate) mod plan;
 pub(crate) mod route;
+pub(crate) mod script;
 mod selection;
 
 use crate::finish::finish;
 use crate::form::{Form, HostAsk, ResetAsk, TableAsk, WordsAsk};
+use crate::inputs::reset_host::fetch_reset_host;
 use crate::outcome::Outcome;
 use crate::status::Status;
 use check::check;
-use cxl_io::{Fetch, Sink};
+use cxl_bus::Regs;
+use cxl_io::{Fetch, Sink, Source};
+use cxl_media::Roll;
+use generated::generated;
 use help::{helped, misused, version_told};
 use list::list;
 use normal::normal;
 use plan::plan;
 use route::route;
+use script::{fetch_start, script};
 use std::alloc::Global;
 
 /// Carries out what the words ask for, and writes what it comes to.
-pub(crate) fn carry_out<F: Fetch, K: Sink>(
+pub(crate) fn carry_out<F: Fetch, S: Source, K: Sink, R: Regs, M: Roll>(
     alloc: Global,
     form: Form<'_>,
     files: &mut F,
+    source: &mut S,
     out: &mut K,
+    regs: &mut R,
+    media: &mut M,
 ) -> Status
-    requires { LineStatesGranCode (plain form) }
-    ensures run { IsRunByFiles (taken_for (plain form.entry)) (outside (F.state files.old) (K.state out.old))
-        (outside (F.state files.new) (K.state out.new)) result }
+    requires { IsRangedForm (plain form) }
+    ensures run { IsRun (plain form.entry)
+        (outside (F.state files.old) (K.state out.old)) (outside (F.state files.new) (K.state out.new))
+        (devices (S.state source.old) (R.state regs.old) (M.state media.old))
+        (devices (S.state source.new) (R.state regs.new) (M.state media.new)) result }
+    ensures left { runs_session (plain form.entry) ≡ false
+        → (source.new ≡ source.old) × (regs.new ≡ regs.old) × (media.new ≡ media.old) }
+    ensures unread { reads_script (plain form.entry) ≡ false → source.new ≡ source.old }
     ensures files { (F.state files.old).faults ≤ (F.state files.new).faults }
+    ensures source { (S.state source.old).faults ≤ (S.state source.new).faults }
     ensures sink { (K.state out.old).faults ≤ (K.state out.new).faults }
+    ensures bus { (R.state regs.old).faults ≤ (R.state regs.new).faults }
     ensures told { (F.state files.new).told ≡ (F.state files.old).told }
-    ensures idle { table_file (taken_for (plain form.entry)) ≡ None → files.new ≡ files.old }
+    ensures idle { table_file (plain form.entry) ≡ None → files.new ≡ files.old }
 {
     match form {
         Form::OfTable(cedt, ask) => of_table(alloc, cedt, ask, files, out),
-        Form::OfResetHost(cedt, topo, ask) => of_reset_host(alloc, cedt, topo, ask, files, out),
-        Form::OfHost(cedt, topo, image, ask) => of_host(alloc, cedt, topo, image, ask, files, out),
-        Form::OfWords(ask) => finish(Ok(said(ask)), out),
+        Form::OfResetHost(cedt, topo, ask) => match ask {
+            ResetAsk::Plan(create) => finish(plan(alloc, cedt, topo, &create, files), out),
+            ResetAsk::Script => {
+                let host = fetch_reset_host(alloc, cedt, topo, files);
+                script(alloc, host, source, out, regs, media)
+            }
+        },
+        Form::OfHost(cedt, topo, image, ask) => match ask {
+            HostAsk::Check => check(alloc, cedt, topo, image, files, out),
+            HostAsk::Script => {
+                let host = fetch_start(alloc, cedt, topo, image, files);
+                script(alloc, host, source, out, regs, media)
+            }
+        },
+        Form::OfWords(ask) => match ask {
+            WordsAsk::Gen(n) => generated(alloc, n, out, regs, media),
+            ask => finish(Ok(said(ask)), out),
+        },
     }
 }
 
@@ -74,61 +107,15 @@ fn of_table<F: Fetch, K: Sink>(
     }
 }
 
-/// What is asked of the host of a table and a topology after reset. No session is carried out yet.
-fn of_reset_host<F: Fetch, K: Sink>(
-    alloc: Global,
-    cedt: &str,
-    topo: &str,
-    ask: ResetAsk,
-    files: &mut F,
-    out: &mut K,
-) -> Status
-    requires { LineStatesGranCode (OfResetHost cedt.now topo.now ask) }
-    ensures run { IsRunByFiles (taken_for (OfResetHost cedt.now topo.now ask)) (outside (F.state files.old) (K.state out.old))
-        (outside (F.state files.new) (K.state out.new)) result }
-    ensures files { (F.state files.old).faults ≤ (F.state files.new).faults }
-    ensures sink { (K.state out.old).faults ≤ (K.state out.new).faults }
-    ensures told { (F.state files.new).told ≡ (F.state files.old).told }
-    ensures idle { table_file (taken_for (OfResetHost cedt.now topo.now ask)) ≡ None → files.new ≡ files.old }
-{
-    match ask {
-        ResetAsk::Plan(create) => finish(plan(alloc, cedt, topo, &create, files), out),
-        ResetAsk::Script => finish(Ok(misused()), out),
-    }
-}
-
-/// What is asked of the host of a table, a topology and an image. No session is carried out yet.
-fn of_host<F: Fetch, K: Sink>(
-    alloc: Global,
-    cedt: &str,
-    topo: &str,
-    image: &str,
-    ask: HostAsk,
-    files: &mut F,
-    out: &mut K,
-) -> Status
-    ensures run { IsRunByFiles (taken_for (OfHost cedt.now topo.now image.now ask)) (outside (F.state files.old) (K.state out.old))
-        (outside (F.state files.new) (K.state out.new)) result }
-    ensures files { (F.state files.old).faults ≤ (F.state files.new).faults }
-    ensures sink { (K.state out.old).faults ≤ (K.state out.new).faults }
-    ensures told { (F.state files.new).told ≡ (F.state files.old).told }
-    ensures idle { table_file (taken_for (OfHost cedt.now topo.now image.now ask)) ≡ None → files.new ≡ files.old }
-{
-    match ask {
-        HostAsk::Check => check(alloc, cedt, topo, image, files, out),
-        HostAsk::Script => finish(Ok(misused()), out),
-    }
-}
-
-/// What the words alone come to. No session is carried out yet.
+/// What the words alone come to.
 fn said(ask: WordsAsk) -> Outcome
-    ensures { (files : FetchState) → IsOutcomeByFiles (taken_for (OfWords ask)) files files result }
+    requires { runs_session (OfWords ask) ≡ false }
+    ensures { (files : FetchState) → IsOutcomeByFiles (OfWords ask) files files result }
 {
     match ask {
         WordsAsk::Help => helped(),
         WordsAsk::Version => version_told(),
-        WordsAsk::NoCreate => misused(),
-        WordsAsk::Unreadable => misused(),
-        WordsAsk::Gen(_) => misused(),
+        WordsAsk::NoCreate | WordsAsk::Unreadable => misused(),
+        WordsAsk::Gen(_) => unreachable!(),
     }
 }

@@ -1,9 +1,9 @@
-ghost use Rattle.std.specs.Prelude.{◌≡◌, ◌≢◌, ℕ, ◌≤◌, ◌⊎◌, false, true, List};
+ghost use Rattle.std.specs.Prelude.{◌≡◌, ◌≢◌, ℕ, ◌≤◌, ◌⊎◌, Some, false, true, List};
 ghost use Rattle.cxl_enc.specs.Faults.{Rose};
 ghost use Rattle.cxl_script.specs.declared.command.Create.{Create};
 ghost use Rattle.cxl_shell.specs.Answers.{IsOutcomeOf, IsAnswerBy};
 ghost use Rattle.cxl_shell.specs.Ends.{Ends, Finishes, IsWritten, IsStopped};
-ghost use Rattle.cxl_shell.specs.Form.{Route, Check, Plan, has_many_pieces, takes_memory, runs_session};
+ghost use Rattle.cxl_shell.specs.Form.{Route, Check, Plan, Script, has_many_pieces, takes_memory, runs_session};
 ghost use Rattle.cxl_shell.specs.Outcome.{Outcome};
 ghost use Rattle.cxl_shell.specs.Readings.{Readings, AreKnown};
 ghost use Rattle.cxl_shell.specs.Run.{RunsOut, IsRunByFiles, EachRunByFiles, EachRun};
@@ -51,11 +51,12 @@ pub fn run_ends()
         → AreKnown form old.files.told readings
         → ((outcome : Outcome) × IsAnswerBy form readings outcome × IsWritten outcome status old.out new.out)
         ⊎ IsStopped status old new) }
-    // Status 8 comes of `route`, `check` and `plan` alone.
+    // Status 8 comes of `route`, `check`, `plan` and a script from an image alone.
     ensures refused { EachRun (λ form old new before after status. status ≡ Status.Refused
         → ((file : List ℕ) × (h : ℕ) × (form ≡ Route file h))
         ⊎ ((cedt : List ℕ) × (topo : List ℕ) × (image : List ℕ) × (form ≡ Check cedt topo image))
-        ⊎ ((cedt : List ℕ) × (topo : List ℕ) × (create : Create) × (form ≡ Plan cedt topo create))) }
+        ⊎ ((cedt : List ℕ) × (topo : List ℕ) × (create : Create) × (form ≡ Plan cedt topo create))
+        ⊎ ((cedt : List ℕ) × (topo : List ℕ) × (image : List ℕ) × (form ≡ Script cedt topo (Some image)))) }
     // Status 6 comes only where the sink failed.
     ensures write_fault { EachRun (λ form old new before after status. status ≡ Status.WriteFault
         → Rose old.out.faults new.out.faults) }

@@ -1,7 +1,7 @@
 ghost use Rattle.std.specs.Prelude.{◌≡◌, false, true, IfOk, OnErr};
 ghost use Rattle.cxl_io.specs.Numbers.{number_of};
 ghost use Rattle.cxl_shell.specs.Plain.{plain};
-ghost use Rattle.cxl_shell.specs.Form.{route_form, list_form, normal_form, check_form, plan_form, create_on_line, run_form, gen_of, gen_form, alone, takes_memory, runs_session, asked_form};
+ghost use Rattle.cxl_shell.specs.Form.{route_form, list_form, normal_form, check_form, plan_form, create_on_line, run_form, gen_of, gen_form, alone, takes_memory, form_of};
 ghost use Rattle.cxl_shell.specs.Words.{bytes_of};
 
 use cxl_io::{Memory, read_number};
@@ -65,9 +65,8 @@ pub(crate) enum WordsAsk {
 
 /// Reads the words of the command line, without the name of the program. A create line takes memory.
 pub(crate) fn form_of(alloc: Global, words: &[String]) -> Result<Form<'_>, Memory>
-    ensures form { IfOk result (λ form. plain form ≡ asked_form (bytes_of words.now)) }
-    ensures memory { OnErr result (takes_memory (asked_form (bytes_of words.now)) ≡ true) }
-    ensures no_session { OnErr result (runs_session (asked_form (bytes_of words.now)) ≡ false) }
+    ensures form { IfOk result (λ form. plain form ≡ form_of (bytes_of words.now)) }
+    ensures memory { OnErr result (takes_memory (form_of (bytes_of words.now)) ≡ true) }
 {
     let Some((verb, operands)) = words.split_first() else {
         return Ok(Form::OfWords(WordsAsk::Unreadable));
@@ -149,7 +148,6 @@ fn check_form(words: &[String]) -> Form<'_>
 fn plan_form(alloc: Global, words: &[String]) -> Result<Form<'_>, Memory>
     ensures form { IfOk result (λ form. plain form ≡ plan_form (bytes_of words.now)) }
     ensures memory { OnErr result (takes_memory (plan_form (bytes_of words.now)) ≡ true) }
-    ensures no_session { OnErr result (runs_session (plan_form (bytes_of words.now)) ≡ false) }
 {
     match words {
         [cedt, topo, line] => match create_on_line(alloc, line.as_bytes())? {

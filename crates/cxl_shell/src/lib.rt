@@ -3,12 +3,15 @@
 
 mod blocks;
 mod commands;
+mod completeness;
 mod finish;
 mod form;
+mod headline;
 mod inputs;
 mod outcome;
 mod shell;
 mod status;
+mod statuses;
 mod stop;
 
 pub use commands::check::check_statuses;
@@ -17,10 +20,13 @@ pub use commands::list::list_statuses;
 pub use commands::normal::normal_statuses;
 pub use commands::plan::plan_statuses;
 pub use commands::route::route_statuses;
+pub use completeness::runs_are_complete;
 pub use finish::{run_ends, runs_of_files};
+pub use headline::runs_are_flat;
 pub use inputs::file::file_statuses;
 pub use inputs::image::image_statuses;
 pub use inputs::table::table_statuses;
 pub use inputs::topology::topology_statuses;
 pub use shell::run;
 pub use status::Status;
+pub use statuses::{gen_statuses, script_statuses};

@@ -1,21 +1,21 @@
 ghost use Rattle.std.specs.Prelude.{◌≡◌, ℕ, ◌≤◌, ◌⊎◌, None, false, List};
 ghost use Rattle.cxl_enc.specs.Faults.{Rose};
 ghost use Rattle.cxl_io.specs.Sink.{Takes};
-ghost use Rattle.cxl_shell.specs.Answers.{IsAnswerBy};
+ghost use Rattle.cxl_shell.specs.Completeness.{IsReady, IsAnsweredWhole};
 ghost use Rattle.cxl_shell.specs.Devices.{devices};
-ghost use Rattle.cxl_shell.specs.Ends.{IsWritten};
 ghost use Rattle.cxl_shell.specs.Form.{Route, form_of, table_file, runs_session, reads_script};
-ghost use Rattle.cxl_shell.specs.Outcome.{Outcome};
+ghost use Rattle.cxl_shell.specs.Headline.{BehavesAsFlatMemory};
 ghost use Rattle.cxl_shell.specs.Outside.{outside};
-ghost use Rattle.cxl_shell.specs.Readings.{Readings, AreKnown};
-ghost use Rattle.cxl_shell.specs.Run.{IsRunByFiles, IsRun};
+ghost use Rattle.cxl_shell.specs.Run.{IsRun};
 ghost use Rattle.cxl_shell.specs.Words.{bytes_of};
 ghost use Rattle.cxl_shell.specs.commands.Route.{IsRouteLine};
 
 use crate::commands::carry_out;
 use crate::commands::route::route_statuses;
-use crate::finish::run_ends;
+use crate::completeness::runs_are_complete;
+use crate::finish::runs_of_files;
 use crate::form::form_of;
+use crate::headline::runs_are_flat;
 use crate::status::Status;
 use cxl_bus::Regs;
 use cxl_io::{Fetch, Memory, Sink, Source};
@@ -34,22 +34,35 @@ pub fn run<F: Fetch, S: Source, K: Sink, R: Regs, M: Roll>(
     regs: &mut R,
     media: &mut M,
 ) -> Status
-    // How it comes to its end: an outcome that answers what the words ask for is written; or the sink failed;
-    // or memory ran out.
+    // How it comes to its end: by its words and files; with the devices not made ready; or with the commands of a
+    // session carried out.
     ensures run { IsRun (form_of (bytes_of words.now))
         (outside (F.state files.old) (K.state out.old)) (outside (F.state files.new) (K.state out.new))
         (devices (S.state script.old) (R.state regs.old) (M.state media.old))
         (devices (S.state script.new) (R.state regs.new) (M.state media.new)) result }
 
-    // Completeness: where all files that the words name are known and have a reading and nothing failed, the
-    // words have an outcome by it, which is written, or memory ran out.
-    ensures complete { (readings : Readings)
-        → AreKnown (form_of (bytes_of words.now)) (F.state files.old).told readings
+    // Completeness: where the words ask for something, all files are known and have a reading, the script is known
+    // and within its limit, and neither files nor script nor sink failed, it is answered whole; or memory ran out; or
+    // the bus failed while it was made ready.
+    ensures complete { IsReady (form_of (bytes_of words.now)) (F.state files.old) (S.state script.old)
         → ¬ (Rose (F.state files.old).faults (F.state files.new).faults)
+        → ¬ (Rose (S.state script.old).faults (S.state script.new).faults)
         → ¬ (Rose (K.state out.old).faults (K.state out.new).faults)
         → (result ≡ Status.Memory)
-        ⊎ ((outcome : Outcome) × IsAnswerBy (form_of (bytes_of words.now)) readings outcome
-        × IsWritten outcome result (K.state out.old) (K.state out.new)) }
+        ⊎ ((result ≡ Status.BusFault) × Rose (R.state regs.old).faults (R.state regs.new).faults)
+        ⊎ IsAnsweredWhole (form_of (bytes_of words.now))
+        (outside (F.state files.old) (K.state out.old)) (outside (F.state files.new) (K.state out.new))
+        (devices (S.state script.old) (R.state regs.old) (M.state media.old))
+        (devices (S.state script.new) (R.state regs.new) (M.state media.new)) result }
+
+    // The headline: each image that `check` accepts, and the one that each command of a script leaves, carries every
+    // region's host bytes one to one onto its endpoints' spans; no device byte serves two regions, and device addresses
+    // lead back; loads and stores are answered as by one flat byte memory for each region; a refused command changes
+    // nothing; and so it is between any two register writes.
+    ensures headline { BehavesAsFlatMemory (form_of (bytes_of words.now))
+        (outside (F.state files.old) (K.state out.old)) (outside (F.state files.new) (K.state out.new))
+        (devices (S.state script.old) (R.state regs.old) (M.state media.old))
+        (devices (S.state script.new) (R.state regs.new) (M.state media.new)) result }
 
     // The headline, in its part on `route`: with status 0 exactly the line is written that names the
     // window, the position and the bridge of the address, by the first window of the file's table that can
@@ -72,28 +85,13 @@ pub fn run<F: Fetch, S: Source, K: Sink, R: Regs, M: Roll>(
     ensures told { (F.state files.new).told ≡ (F.state files.old).told }
     ensures idle { table_file (form_of (bytes_of words.now)) ≡ None → files.new ≡ files.old }
 {
-    run_ends();
+    runs_are_complete();
+    runs_are_flat();
+    runs_of_files();
     route_statuses();
-    carry_out_words(alloc, words, files, out)
-}
-
-/// Reads the words, and carries out what they ask for.
-fn carry_out_words<F: Fetch, K: Sink>(
-    alloc: Global,
-    words: &[String],
-    files: &mut F,
-    out: &mut K,
-) -> Status
-    ensures run { IsRunByFiles (form_of (bytes_of words.now)) (outside (F.state files.old) (K.state out.old))
-        (outside (F.state files.new) (K.state out.new)) result }
-    ensures files { (F.state files.old).faults ≤ (F.state files.new).faults }
-    ensures sink { (K.state out.old).faults ≤ (K.state out.new).faults }
-    ensures told { (F.state files.new).told ≡ (F.state files.old).told }
-    ensures idle { table_file (form_of (bytes_of words.now)) ≡ None → files.new ≡ files.old }
-{
     stated_granularities_are_codes();
     match form_of(alloc, words) {
-        Ok(form) => carry_out(alloc, form, files, out),
+        Ok(form) => carry_out(alloc, form, files, script, out, regs, media),
         Err(Memory) => Status::Memory,
     }
 }

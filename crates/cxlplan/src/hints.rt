@@ -25,6 +25,12 @@ pub fn hint<R: Eprint + Files>(
         Status::TooLarge => eprintln!(rt;
             "cxlplan: a table, a topology or an image has 1048576 bytes at the most"
         ),
+        Status::ReadFault => eprintln!(rt;
+            "cxlplan: reading the script failed; the lines before are answered"
+        ),
+        Status::TooMuch => eprintln!(rt;
+            "cxlplan: a script has 16777216 bytes at the most; the lines that ended within them are answered"
+        ),
         Status::WriteFault => eprintln!(rt; "cxlplan: writing failed, so the text may be cut"),
         Status::Memory => eprintln!(rt; "cxlplan: memory ran out"),
         _ => Ok(()),

@@ -22,13 +22,13 @@ use Rattle.cxl_shell.proofs.Runs.{Came, host_done, host_refused}
 
 module _ (old new : Outside) where
   regions_written : (cedt topo image : List ℕ) (table : CedtFields) (tree : Tree) (blocks : List Registers) (outcome : Outcome) → AreRead old.files.told cedt topo image table tree blocks → IsChecked (host_of table tree blocks) outcome → IsWritten outcome Done old.out new.out → (text : List ℕ) × IsRegionsText old.files.told cedt topo image text × Takes old.out new.out text
-  regions_written cedt topo image table tree blocks outcome of (regions_told regions is listed e) written =
-      (whole_text outcome, record { nodes = tree.nodes; regions = regions; found = record { table = table; tree = tree; blocks = blocks; read = of; over = refl; accepted = is; listed = listed }; lines = ap whole_text e }, written.taken)
+  regions_written cedt topo image table tree blocks outcome of (regions_told regions sound is listed e) written =
+      (whole_text outcome, record { nodes = tree.nodes; regions = regions; found = record { table = table; tree = tree; blocks = blocks; read = of; over = refl; system = sound; accepted = is; listed = listed }; lines = ap whole_text e }, written.taken)
   regions_written cedt topo image table tree blocks outcome of (breach_told rule node decoder first e) written =
       let own = ap (λ o. o.status) e in let done = written.status_is in absurd (cc)
 
   breach_written : (cedt topo image : List ℕ) (table : CedtFields) (tree : Tree) (blocks : List Registers) (outcome : Outcome) → AreRead old.files.told cedt topo image table tree blocks → IsChecked (host_of table tree blocks) outcome → IsWritten outcome Refused old.out new.out → (text : List ℕ) × IsBreachText old.files.told cedt topo image text × Takes old.out new.out text
-  breach_written cedt topo image table tree blocks outcome of (regions_told regions is listed e) written =
+  breach_written cedt topo image table tree blocks outcome of (regions_told regions sound is listed e) written =
       let own = ap (λ o. o.status) e in let refused = written.status_is in absurd (cc)
   breach_written cedt topo image table tree blocks outcome of (breach_told rule node decoder first e) written =
       (_, record { table = table; tree = tree; blocks = blocks; rule = rule; node = node; decoder = decoder; read = of; first = first; names = refl }, subst (Takes old.out new.out) (one_text outcome Refused _ e) written.taken)
@@ -44,9 +44,9 @@ module _ (old new : Outside) where
       breach_written cedt topo image at.table at.tree at.blocks at.outcome at.of at.answer at.written
 
   regions_of_check : (cedt topo image : List ℕ) (table : CedtFields) (tree : Tree) (blocks : List Registers) (outcome : Outcome) → AreRead old.files.told cedt topo image table tree blocks → IsChecked (host_of table tree blocks) outcome → IsBehind outcome old.out new.out → (new.out.taken ≡ old.out.taken) ⊎ TakesRegions old.files.told cedt topo image old.out new.out
-  regions_of_check cedt topo image table tree blocks outcome of (regions_told regions is listed e) lines =
+  regions_of_check cedt topo image table tree blocks outcome of (regions_told regions sound is listed e) lines =
       let at = subst (λ o. IsBehind o old.out new.out) e lines in
-      inr (record { nodes = tree.nodes; regions = regions; found = record { table = table; tree = tree; blocks = blocks; read = of; over = refl; accepted = is; listed = listed }; count = at.count; taken = at.taken })
+      inr (record { nodes = tree.nodes; regions = regions; found = record { table = table; tree = tree; blocks = blocks; read = of; over = refl; system = sound; accepted = is; listed = listed }; count = at.count; taken = at.taken })
   regions_of_check cedt topo image table tree blocks outcome of (breach_told rule node decoder first e) lines = inl (nothing_of old.out new.out outcome (record { status = _; text = _; is = e }) lines)
 
   regions_of_host : (cedt topo image : List ℕ) (outcome : Outcome) → IsOutcomeByFiles (Check cedt topo image) old.files new.files outcome → IsBehind outcome old.out new.out → (new.out.taken ≡ old.out.taken) ⊎ TakesRegions old.files.told cedt topo image old.out new.out
@@ -60,11 +60,11 @@ module _ (old new : Outside) where
 -- an accepted image's outcome, and that of one with a breach
 module _ (not_both : (s : System) → IsAccepted s → HasFirstBreach s → ⊥) (s : System) (outcome : Outcome) where
   accepted_done : IsAccepted s → IsChecked s outcome → outcome.status ≡ Done
-  accepted_done is (regions_told regions again listed e) = ap (λ o. o.status) e
+  accepted_done is (regions_told regions sound again listed e) = ap (λ o. o.status) e
   accepted_done is (breach_told rule node decoder first e) = absurd (not_both s is (rule, node, decoder, first))
 
   broken_refused : HasFirstBreach s → IsChecked s outcome → outcome.status ≡ Refused
-  broken_refused breach (regions_told regions is listed e) = absurd (not_both s is breach)
+  broken_refused breach (regions_told regions sound is listed e) = absurd (not_both s is breach)
   broken_refused breach (breach_told rule node decoder first e) = ap (λ o. o.status) e
 
 module _ (not_both : (s : System) → IsAccepted s → HasFirstBreach s → ⊥) (old new : Outside) (status : Status) (s : System) where

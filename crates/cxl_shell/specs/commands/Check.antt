@@ -6,7 +6,7 @@ use Rattle.cxl_io.specs.Sink.{SinkState, Takes}
 use Rattle.cxl_io.specs.Told.{Told}
 use Rattle.cxl_model.specs.Accepted.{IsAccepted, IsFirstBreach}
 use Rattle.cxl_model.specs.Listed.{AreRegionsByBase}
-use Rattle.cxl_model.specs.System.{System}
+use Rattle.cxl_model.specs.System.{System, IsSystem}
 use Rattle.cxl_model.specs.declared.found.Found.{Found}
 use Rattle.cxl_regs.specs.Registers.{Registers}
 use Rattle.cxl_reply.specs.Plans.{found_text, breach_text}
@@ -24,9 +24,9 @@ accepted nodes regions = record { status = Done; pieces = map (found_text nodes)
 abbrev pub broken : List Node → ℕ → ℕ → ℕ → Outcome
 broken nodes rule node decoder = one_piece Refused (breach_text nodes rule node decoder)
 
--- an image is accepted, and its regions are told by rising base; or its first breach is told
+-- the image of a system is accepted, and its regions are told by rising base; or its first breach is told
 pub data IsChecked (s : System) (outcome : Outcome) : Type 0 where
-  regions_told : (regions : List Found) → IsAccepted s → AreRegionsByBase s regions → outcome ≡ accepted s.nodes regions → IsChecked s outcome
+  regions_told : (regions : List Found) → IsSystem s → IsAccepted s → AreRegionsByBase s regions → outcome ≡ accepted s.nodes regions → IsChecked s outcome
   breach_told : (rule node decoder : ℕ) → IsFirstBreach s rule node decoder → outcome ≡ broken s.nodes rule node decoder → IsChecked s outcome
 
 -- the files are a table, a topology and an image that is accepted, and these are its regions by rising base
@@ -36,6 +36,7 @@ pub record AreRegionsIn (told : List ℕ → Told) (cedt topo image : List ℕ) 
   pub blocks : List Registers
   pub read : AreRead told cedt topo image table tree blocks
   pub over : nodes ≡ tree.nodes
+  pub system : IsSystem (host_of table tree blocks)
   pub accepted : IsAccepted (host_of table tree blocks)
   pub listed : AreRegionsByBase (host_of table tree blocks) regions
 

@@ -13,8 +13,8 @@ ghost use Rattle.cxl_shell.specs.Form.{Check};
 ghost use Rattle.cxl_shell.specs.Outside.{outside};
 ghost use Rattle.cxl_shell.specs.Readings.{ByHost, AreKnown};
 ghost use Rattle.cxl_shell.specs.Run.{IsRunByFiles, EachRunByFiles};
-ghost use Rattle.cxl_shell.specs.commands.Check.{IsChecked, IsRegionsText, IsBreachText, TakesRegions, accepted, broken};
-ghost use Rattle.cxl_shell.specs.inner.Reports.{IsReported};
+ghost use Rattle.cxl_shell.specs.commands.Check.{IsRegionsText, IsBreachText, TakesRegions, accepted, broken};
+ghost use Rattle.cxl_shell.specs.inner.Reports.{TellsBreach, IsReported};
 ghost use Rattle.cxl_shell.specs.inputs.Host.{host_of};
 
 use crate::blocks::write_full;
@@ -72,7 +72,7 @@ fn report<K: Sink>(alloc: Global, host: &Host, out: &mut K) -> Status
 }
 
 /// The regions of the host's image by rising base. It stops where the image has a breach.
-fn checked(alloc: Global, host: &Host) -> Result<Vec<Found>, Stop>
+pub(crate) fn checked(alloc: Global, host: &Host) -> Result<Vec<Found>, Stop>
     requires { IsSystem (system_of host.now.image host.now.topo host.now.windows.items) }
     ensures accepted { OnOk result
         (IsAccepted (system_of host.now.image host.now.topo host.now.windows.items)) }
@@ -80,7 +80,7 @@ fn checked(alloc: Global, host: &Host) -> Result<Vec<Found>, Stop>
         AreRegionsByBase (system_of host.now.image host.now.topo host.now.windows.items) regions.items) }
     ensures told { IfOk result (λ regions. All (IsToldFound host.now.topo.nodes) regions.items) }
     ensures stops { IfErr result (IsStop
-        (IsChecked (system_of host.now.image host.now.topo host.now.windows.items)) (Unit {0})) }
+        (TellsBreach (system_of host.now.image host.now.topo host.now.windows.items)) (Unit {0})) }
 {
     findings_are_told();
     match cxl_check::check(alloc, &host.image, &host.topo, &host.windows) {

@@ -9,7 +9,7 @@ use crate::status::Status;
 
 /// What `--help` writes.
 pub const HELP: &str = "\
-cxlplan plans and checks CXL memory regions.
+cxlplan plans, simulates and checks CXL memory regions.
 
 cxlplan route CEDT HPA    the window, the position and the bridge of a host address
     cxlplan route host.cedt 0x110000800
@@ -23,6 +23,13 @@ cxlplan check CEDT TOPO IMAGE
 cxlplan plan CEDT TOPO LINE
                           the registers that make a new region after reset, or why none can
     cxlplan plan host.cedt topo.toml 'create r0 pmem 0x40000000 ways=4'
+cxlplan run CEDT TOPO     the lines of standard input, each answered, on the host after reset
+    printf 'create r0 ram 0x20000000 ways=2\\nload 0x110000000 4\\n' | cxlplan run host.cedt topo.toml
+cxlplan run CEDT TOPO IMAGE
+                          the same on the host with the registers of an image
+    cxlplan run host.cedt topo.toml image.bin < script
+cxlplan gen N             a generated system of 4 N endpoints, its regions used and checked
+    cxlplan gen 32
 cxlplan --help            this text
 cxlplan --version         the version
 
@@ -30,12 +37,19 @@ CEDT is a file with the bytes of a CEDT table, TOPO a topology in TOML, and IMAG
 its decoders, each of 1,048,576 bytes at the most; a file may be /dev/stdin. HPA is a host physical
 address, in decimal digits, or in hexadecimal digits after 0x. LINE is one word: 'create NAME KIND
 SIZE [gran=G] EP..' over named endpoints, or 'create NAME KIND SIZE [gran=G] ways=N' over N that are
-picked, with KIND ram or pmem. SIZE and G are bytes: 0x40000000 is 1 GiB.
+picked, with KIND ram or pmem. SIZE and G are bytes: 0x40000000 is 1 GiB. N is from 1 to 32 for gen.
+
+A line of standard input is empty, a comment that begins with #, a LINE as above, or one of these:
+    destroy NAME       show NAME        down HPA         up EP DPA       load HPA LEN
+    store HPA HEX      range HPA LEN    spread HPA LEN   poison EP HEX   copy NAME NAME
+    move NAME NAME     begin LINE       begin destroy NAME               step N, abort
+Registers and device memory are the simulator's: no register of a machine is written.
 
 Answers and faults are written to standard output, so look at the exit status first: 0 done, 1 the
 words are no command, 2 a file cannot be read, 3 the CEDT has a fault, 4 the topology has a fault,
-6 writing failed, 8 no window that can be used holds the address, the image breaks a rule or there is
-no plan, 9 out of memory, 10 the image file has a fault, 12 a file is too large.
+5 reading the script failed, 6 writing failed, 7 the bus failed before the first line, 8 no window that
+can be used holds the address, the image breaks a rule or has too many regions, or there is no plan, 9 out
+of memory, 10 the image file has a fault, 11 the script is too long, 12 a file is too large.
 ";
 
 /// What `--version` writes.

@@ -1,21 +1,20 @@
-ghost use Rattle.std.specs.Prelude.{◌≡◌, ◌≢◌, ℕ, ◌≤◌, ◌⊎◌, None, Some, true, List, All, IfOk};
+ghost use Rattle.std.specs.Prelude.{◌≡◌, ℕ, ◌≤◌, ◌⊎◌, List, IfOk};
 ghost use Rattle.cxl_cedt.specs.CedtFields.{CedtFields};
 ghost use Rattle.cxl_io.specs.Sink.{Takes};
 ghost use Rattle.cxl_model.specs.Accepted.{IsAccepted};
 ghost use Rattle.cxl_model.specs.System.{IsSystem, system_of};
 ghost use Rattle.cxl_reply.specs.Plans.{IsToldPlan};
-ghost use Rattle.cxl_reply.specs.Told.{IsTold, IsToldFault};
-ghost use Rattle.cxl_reply.specs.declared.reply.Reply.{Reply};
+ghost use Rattle.cxl_reply.specs.Told.{IsTold};
+ghost use Rattle.cxl_request.specs.Plans.{HasPlan, HasNoPlan};
 ghost use Rattle.cxl_script.specs.Grammar.{StatesGranCode};
 ghost use Rattle.cxl_script.specs.declared.command.Create.{Create};
-ghost use Rattle.cxl_topo.specs.Tree.{Tree, is_endpoint_at};
+ghost use Rattle.cxl_topo.specs.Tree.{Tree};
 ghost use Rattle.cxl_shell.specs.Answers.{ComesTo};
 ghost use Rattle.cxl_shell.specs.Ends.{IsStopped};
 ghost use Rattle.cxl_shell.specs.Form as forms;
 ghost use Rattle.cxl_shell.specs.Readings.{ByTree, AreKnown};
 ghost use Rattle.cxl_shell.specs.Run.{EachRunByFiles};
-ghost use Rattle.cxl_shell.specs.commands.Plan.{asked_over, wanted_with, endpoint_called, first_unknown, endpoints_called, plan_outcome, refusal_outcome, IsPlanned, IsPlanText, IsRefusalText, HasPlan, HasNoPlan};
-ghost use Rattle.cxl_shell.specs.inner.Requests.{IsPlannedOver, IsToldAs};
+ghost use Rattle.cxl_shell.specs.commands.Plan.{plan_outcome, refusal_outcome, IsPlanned, IsPlanText, IsRefusalText};
 ghost use Rattle.cxl_shell.specs.inputs.ResetHost.{reset_host_of};
 
 use crate::inputs::host::Host;
@@ -24,15 +23,13 @@ use crate::outcome::Outcome;
 use crate::status::Status;
 use crate::stop::Stop;
 use cxl_cedt::one_reading;
-use cxl_enc::{FixedList, Name};
 use cxl_image::one_image_reading;
 use cxl_io::{Fetch, Memory};
-use cxl_legal::{legal_plans_fit, ports_are_bytes, stated_rows_keep_blocks};
-use cxl_model::{Plan, PlanFault, Request, reset_hosts_are_accepted};
-use cxl_pick::{PickFault, Want, pick};
-use cxl_reply::{Reply, findings_are_told, put_plan, put_reply};
+use cxl_model::Plan;
+use cxl_reply::{Reply, put_plan, put_reply};
+use cxl_request::{asked_plan, lines_have_a_plan_or_none};
 use cxl_script::Create;
-use cxl_topo::{Topo, tree_laws};
+use cxl_topo::Topo;
 use cxl_topofile::one_topology_reading;
 use std::alloc::Global;
 
@@ -50,7 +47,6 @@ pub(crate) fn plan<F: Fetch>(
     ensures counts { (F.state files.old).faults ≤ (F.state files.new).faults }
     ensures told { (F.state files.new).told ≡ (F.state files.old).told }
 {
-    reset_hosts_are_accepted();
     let host = fetch_reset_host(alloc, cedt, topo, files)?;
     let outcome = over_host(alloc, &host, create)?;
     Ok(outcome)
@@ -64,131 +60,15 @@ fn over_host(alloc: Global, host: &Host, create: &Create) -> Result<Outcome, Mem
     ensures { IfOk result
         (IsPlanned (system_of host.now.image host.now.topo host.now.windows.items) create.now) }
 {
-    match create.ways {
-        Some(ways) => over_picked(alloc, host, create, ways),
-        None => over_named(alloc, host, create),
-    }
-}
-
-/// What a create line comes to that names its endpoints. Takes memory.
-fn over_named(alloc: Global, host: &Host, create: &Create) -> Result<Outcome, Memory>
-    requires system { IsSystem (system_of host.now.image host.now.topo host.now.windows.items) }
-    requires accepted { IsAccepted (system_of host.now.image host.now.topo host.now.windows.items) }
-    requires line { create.now.ways ≡ None }
-    ensures { IfOk result
-        (IsPlanned (system_of host.now.image host.now.topo host.now.windows.items) create.now) }
-{
-    let names = create.endpoints.items();
-    match first_unknown(&host.topo, names) {
-        Some(name) => refused(alloc, &Reply::NoEndpoint(name), &host.topo),
-        None => {
-            let endpoints = endpoints_called(alloc, &host.topo, names)?;
-            over_endpoints(alloc, host, create, endpoints)
-        }
-    }
-}
-
-/// What a create line comes to that states ways: so many endpoints are picked. Takes memory.
-fn over_picked(alloc: Global, host: &Host, create: &Create, ways: u8) -> Result<Outcome, Memory>
-    requires system { IsSystem (system_of host.now.image host.now.topo host.now.windows.items) }
-    requires accepted { IsAccepted (system_of host.now.image host.now.topo host.now.windows.items) }
-    requires code { StatesGranCode create.now }
-    requires line { create.now.ways ≡ Some ways }
-    ensures { IfOk result
-        (IsPlanned (system_of host.now.image host.now.topo host.now.windows.items) create.now) }
-{
-    legal_plans_fit();
-    ports_are_bytes(&host.topo);
-    let want = wanted_with(create, ways);
-    match pick(alloc, &host.image, &host.topo, &host.windows, &want) {
-        // They have a legal plan, so that no fault is told of them.
-        Ok(endpoints) => over_endpoints(alloc, host, create, endpoints),
-        Err(fault) => not_picked(alloc, fault, &host.topo),
-    }
-}
-
-/// What a create line comes to over these endpoints. Takes memory.
-fn over_endpoints(
-    alloc: Global,
-    host: &Host,
-    create: &Create,
-    endpoints: Vec<u32>,
-) -> Result<Outcome, Memory>
-    requires system { IsSystem (system_of host.now.image host.now.topo host.now.windows.items) }
-    requires accepted { IsAccepted (system_of host.now.image host.now.topo host.now.windows.items) }
-    requires named { All (λ m. is_endpoint_at host.now.topo.nodes m ≡ true) endpoints.items }
-    ensures { IfOk result (IsPlannedOver (system_of host.now.image host.now.topo host.now.windows.items)
-        (asked_over create.now endpoints.items)) }
-{
-    tree_laws();
-    ports_are_bytes(&host.topo);
-    findings_are_told();
-    stated_rows_keep_blocks();
-    let request = asked_over(create, endpoints);
-    match cxl_plan::plan(alloc, &host.image, &host.topo, &host.windows, &request) {
+    let lent = cxl_model::Host {
+        image: &host.image,
+        topo: &host.topo,
+        windows: &host.windows,
+    };
+    match asked_plan(alloc, create, &lent)? {
         Ok(plan) => told(alloc, &plan, &host.topo),
-        Err(fault) => not_planned(alloc, fault, &host.topo),
+        Err(refusal) => refused(alloc, &refusal, &host.topo),
     }
-}
-
-/// What a create line asks of a plan, over these endpoints.
-fn asked_over(create: &Create, endpoints: Vec<u32>) -> Request
-    ensures { result ≡ asked_over create.now endpoints.items }
-{
-    Request {
-        name: create.name,
-        kind: create.kind,
-        size: create.size,
-        gran: create.gran,
-        endpoints: FixedList::new(endpoints),
-    }
-}
-
-/// What a create line wants of a pick.
-fn wanted_with(create: &Create, ways: u8) -> Want
-    ensures { result ≡ wanted_with create.now ways }
-{
-    Want {
-        kind: create.kind,
-        size: create.size,
-        gran: create.gran,
-        ways,
-    }
-}
-
-/// The endpoint that has this name.
-fn endpoint_called(topo: &Topo, name: &Name) -> Option<u32>
-    ensures { result ≡ endpoint_called topo.now.nodes name.now }
-{
-    match topo.find(name) {
-        Some(node) if topo.is_endpoint(node) => Some(node),
-        _ => None,
-    }
-}
-
-/// The first of these names that no endpoint has.
-fn first_unknown(topo: &Topo, names: &[Name]) -> Option<Name>
-    ensures { result ≡ first_unknown topo.now.nodes names.now }
-{
-    for name in names {
-        if endpoint_called(topo, name).is_none() {
-            return Some(*name);
-        }
-    }
-    None
-}
-
-/// The endpoints that have one of these names, in their order. Takes memory.
-fn endpoints_called(alloc: Global, topo: &Topo, names: &[Name]) -> Result<Vec<u32>, Memory>
-    ensures endpoints { IfOk result (λ endpoints. endpoints.items ≡ endpoints_called topo.now.nodes names.now) }
-{
-    let mut endpoints = Vec::new(alloc);
-    for name in names {
-        if let Some(endpoint) = endpoint_called(topo, name) {
-            endpoints.push(endpoint)?;
-        }
-    }
-    Ok(endpoints)
 }
 
 /// The lines of a plan.
@@ -209,31 +89,6 @@ fn refused(alloc: Global, reply: &Reply, topo: &Topo) -> Result<Outcome, Memory>
     let mut text = Vec::new(alloc);
     put_reply(reply, topo, &mut text)?;
     Ok(Outcome::made(Status::Refused, text))
-}
-
-/// The lines of a fault. Want of memory in the planner is want of memory here.
-fn not_planned(alloc: Global, fault: PlanFault, topo: &Topo) -> Result<Outcome, Memory>
-    requires { fault ≢ PlanFault.Memory → IsToldFault topo.now.nodes fault }
-    ensures { IfOk result (λ outcome. (fault ≢ PlanFault.Memory)
-        × (outcome ≡ refusal_outcome topo.now.nodes (Reply.Refused fault))) }
-{
-    match fault {
-        PlanFault::Memory => Err(Memory),
-        other => refused(alloc, &Reply::Refused(other), topo),
-    }
-}
-
-/// The line of a pick's fault. Want of memory in the picker is want of memory here.
-fn not_picked(alloc: Global, fault: PickFault, topo: &Topo) -> Result<Outcome, Memory>
-    ensures { IfOk result (λ outcome. (reply : Reply) × IsToldAs fault reply
-        × (outcome ≡ refusal_outcome topo.now.nodes reply)) }
-{
-    match fault {
-        PickFault::Ways(ways) => refused(alloc, &Reply::Refused(PlanFault::Ways(ways)), topo),
-        PickFault::Size => refused(alloc, &Reply::Refused(PlanFault::Size), topo),
-        PickFault::NoSet => refused(alloc, &Reply::NoSet, topo),
-        PickFault::Memory => Err(Memory),
-    }
 }
 
 /// Laws of each run of `plan`.
@@ -267,4 +122,5 @@ pub fn plan_statuses()
     one_reading();
     one_topology_reading();
     one_image_reading();
+    lines_have_a_plan_or_none();
 }

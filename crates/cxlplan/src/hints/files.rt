@@ -22,8 +22,9 @@ pub(crate) fn unread<R: Eprint + Files>(rt: &R, words: &[String]) -> io::Result<
 /// How many files a command names, behind its own name.
 fn count_of_files(words: &[String]) -> usize {
     match word(words, 0) {
-        "check" => 3,
+        "check" | "run" => 3,
         "plan" => 2,
+        "gen" => 0,
         _ => 1,
     }
 }

@@ -28,6 +28,8 @@ pub(crate) fn misused<R: Eprint>(rt: &R, alloc: Global, words: &[String]) -> io:
                 "CEDT TOPO LINE, with LINE as one word in quotes",
             ),
         },
+        "run" => other_words(rt, "run", "CEDT TOPO or CEDT TOPO IMAGE"),
+        "gen" => eprintln!(rt; "cxlplan: gen takes a number from 1 to 32; see cxlplan --help"),
         "--help" => eprintln!(rt; "cxlplan: --help takes no other word"),
         "--version" => eprintln!(rt; "cxlplan: --version takes no other word"),
         _ => eprintln!(rt; "cxlplan: {verb} is no command; see cxlplan --help"),

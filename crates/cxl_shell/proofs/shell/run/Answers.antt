@@ -1,15 +1,34 @@
-use Rattle.std.proofs.Common.{refl}
-use Rattle.cxl_shell.specs.Outside.{outside}
-use Rattle.cxl_shell.specs.Run.{unopened, by_files}
-use Rattle.cxl_shell.proofs.Readings.{unless_stopped}
+use Rattle.std.proofs.Common.{refl, ap, sym, subst}
+use Rattle.cxl_shell.specs.Form.{form_of, runs_session, IsRangedForm}
+use Rattle.cxl_shell.specs.Run.{runs_out, before, by_files, unopened}
+use Rattle.cxl_shell.specs.Words.{bytes_of}
+use Rattle.cxl_shell.proofs.RangedForms.{form_is_ranged}
+use Rattle.cxl_shell.proofs.Stops.{asks_nothing, told-nothing_more}
 use Rattle.cxl_shell.proofs.shell.run.Goals as goal
 
-pub returns-clause-run : goal.returns-clause-run
-returns-clause-run g c = unopened (by_files refl c.carry_out_words.ensures.run)
+pub carry_out-requires : goal.carry_out-requires
+carry_out-requires g c = subst IsRangedForm (sym c.in-Ok.ensures.form) (form_is_ranged c.stated_granularities_are_codes.ensures (bytes_of c.args.words.now))
 
-pub returns-clause-complete : goal.returns-clause-complete
-returns-clause-complete g c = λ readings known files_well sink_well.
-    unless_stopped (outside (g.F.Fetch.state c.args.files.now) (g.K.Sink.state c.args.out.now)) (outside (g.F.Fetch.state c.carry_out_words.new.files) (g.K.Sink.state c.carry_out_words.new.out)) _ files_well sink_well (c.run_ends.ensures.answered _ _ _ _ c.carry_out_words.ensures.run readings known)
+pub returns-in-Ok-clause-complete : goal.returns-in-Ok-clause-complete
+returns-in-Ok-clause-complete g c = λ ready files_well source_well sink_well.
+    let run = rw c.in-Ok.ensures.form at c.carry_out.ensures.run in
+    c.runs_are_complete.ensures _ _ _ _ _ _ run ready files_well source_well sink_well
 
-pub returns-clause-route : goal.returns-clause-route
-returns-clause-route g c = λ file h asked done. c.route_statuses.ensures.route _ _ _ _ c.carry_out_words.ensures.run file h asked done
+pub returns-in-Ok-clause-headline : goal.returns-in-Ok-clause-headline
+returns-in-Ok-clause-headline g c =
+    let run = rw c.in-Ok.ensures.form at c.carry_out.ensures.run in
+    c.runs_are_flat.ensures _ _ _ _ _ _ run
+
+pub returns-in-Ok-clause-route : goal.returns-in-Ok-clause-route
+returns-in-Ok-clause-route g c = λ file h asked done.
+    let run = rw c.in-Ok.ensures.form at c.carry_out.ensures.run in
+    let by = c.runs_of_files.ensures.form _ _ _ _ _ _ run (ap runs_session asked) in
+    c.route_statuses.ensures.route _ _ _ _ by.0 file h asked done
+
+pub returns-in-Err-clause-run : goal.returns-in-Err-clause-run
+returns-in-Err-clause-run g c =
+    unopened (by_files refl (runs_out c.in-Err.ensures.memory refl
+    (before (record { count = 0; asks = asks_nothing (g.F.Fetch.state c.args.files.now) }) (told-nothing_more (g.K.Sink.state c.args.out.now).taken))))
+
+pub returns-in-Err-clause-headline : goal.returns-in-Err-clause-headline
+returns-in-Err-clause-headline g c = c.runs_are_flat.ensures _ _ _ _ _ _ (returns-in-Err-clause-run g c)

@@ -8,12 +8,12 @@ use Rattle.cxl_shell.proofs.commands.check.report.Goals as goal
 pub returns-in-Ok-write_regions-clause-reports : goal.returns-in-Ok-write_regions-clause-reports
 returns-in-Ok-write_regions-clause-reports g c =
     let ends = rw c.deref.ensures.value at c.in-Ok-write_regions.ensures.ends in
-    ended (accepted c.args.host.now.topo.nodes c.in-Ok.regions.items) (regions_told c.in-Ok.regions.items c.in-Ok.ensures.accepted c.in-Ok.ensures.regions refl) ends
+    ended (accepted c.args.host.now.topo.nodes c.in-Ok.regions.items) (regions_told c.in-Ok.regions.items c.requires c.in-Ok.ensures.accepted c.in-Ok.ensures.regions refl) ends
 
 pub returns-in-Ok-clause-reports : goal.returns-in-Ok-clause-reports
 returns-in-Ok-clause-reports g c =
     let lines = rw c.deref.ensures.value at c.in-Err-write_regions.ensures.behind in
-    cut (accepted c.args.host.now.topo.nodes c.in-Ok.regions.items) (regions_told c.in-Ok.regions.items c.in-Ok.ensures.accepted c.in-Ok.ensures.regions refl) refl lines
+    cut (accepted c.args.host.now.topo.nodes c.in-Ok.regions.items) (regions_told c.in-Ok.regions.items c.requires c.in-Ok.ensures.accepted c.in-Ok.ensures.regions refl) refl lines
 
 pub returns-clause-reports : goal.returns-clause-reports
 returns-clause-reports g c =

@@ -1,7 +1,5 @@
-use Rattle.std.proofs.Common.{Err, ap, sym, subst, ◌∙◌}
+use Rattle.std.proofs.Common.{Err, ap, ◌∙◌}
 use Rattle.std.proofs.lemmas.Result.{err_from_is_err_and}
-use Rattle.cxl_model.specs.Accepted.{IsAccepted}
-use Rattle.cxl_model.specs.System.{IsSystem, system_of}
 use Rattle.cxl_shell.specs.Form as forms
 use Rattle.cxl_shell.specs.inputs.ResetHost.{no_reset_host}
 use Rattle.cxl_shell.proofs.Planned.{plan-comes}
@@ -12,14 +10,6 @@ pub returns-in_err-host-clause-comes : goal.returns-in_err-host-clause-comes
 returns-in_err-host-clause-comes g c =
     let p = err_from_is_err_and c.from_residual.result c.from_residual.ensures.1 in
     comes-stopped (forms.Plan c.args.cedt.now c.args.topo.now c.args.create.now) _ _ _ c.from_residual.result _ (p.1 ∙ ap Err p.2) (λ o none. no_reset_host none) c.in_err-host.ensures.stops
-
-pub over_host-requires-clause-accepted : goal.over_host-requires-clause-accepted
-over_host-requires-clause-accepted g c =
-    let host = c.in_ok-host.host in
-    let reset = c.in_ok-host.ensures.reset in
-    let ws = host.windows.items in
-    subst (λ blocks. IsAccepted (system_of blocks host.topo ws)) (sym reset)
-    (c.reset_hosts_are_accepted.ensures host.topo ws (subst (λ blocks. IsSystem (system_of blocks host.topo ws)) reset c.in_ok-host.ensures.system))
 
 pub returns-in_err-outcome-clause-comes : goal.returns-in_err-outcome-clause-comes
 returns-in_err-outcome-clause-comes g c =

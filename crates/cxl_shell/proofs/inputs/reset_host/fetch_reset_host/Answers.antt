@@ -1,5 +1,7 @@
-use Rattle.std.proofs.Common.{[], ◌∷◌, Err, ap, ◌∙◌}
+use Rattle.std.proofs.Common.{[], ◌∷◌, Err, ap, sym, subst, ◌∙◌, rules}
 use Rattle.std.proofs.lemmas.Result.{err_from_is_err_and}
+use Rattle.cxl_model.specs.Accepted.{IsAccepted}
+use Rattle.cxl_model.specs.System.{IsSystem, system_of}
 use Rattle.cxl_shell.specs.inputs.ResetHost.{no_table, no_tree}
 use Rattle.cxl_shell.proofs.Hosts.{asks_behind, tree_behind, first_of_two, second_of_two}
 use Rattle.cxl_shell.proofs.Stops.{stopped-behind, stop-memory}
@@ -50,3 +52,11 @@ returns-clause-asked g c =
     let table = c.in_ok-table.ensures in
     let topo = c.in_ok-topo.ensures in
     asks_behind old mid new (c.args.cedt.now ∷ []) table.asked table.stays table.counts (c.args.topo.now ∷ []) topo.asked
+
+pub returns-clause-accepted : goal.returns-clause-accepted
+returns-clause-accepted g c =
+    let topo = c.in_ok-topo.topo in
+    let windows = c.in_ok-windows.windows.items in
+    let system : IsSystem (system_of c.in_ok-image.image topo windows) = search rules in
+    subst (λ blocks. IsAccepted (system_of blocks topo windows)) (sym c.in_ok-image.ensures.reset)
+    (c.reset_hosts_are_accepted.ensures topo windows (subst (λ blocks. IsSystem (system_of blocks topo windows)) c.in_ok-image.ensures.reset system))
