@@ -44,6 +44,16 @@ mod routes;
 #[cfg(test)]
 mod rows;
 #[cfg(test)]
+mod script_bytes;
+#[cfg(test)]
+mod script_ends;
+#[cfg(test)]
+mod script_regions;
+#[cfg(test)]
+mod script_words;
+#[cfg(test)]
+mod scripts;
+#[cfg(test)]
 mod stores;
 #[cfg(test)]
 mod tables;

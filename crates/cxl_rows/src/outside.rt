@@ -15,7 +15,7 @@ fn outside(rt: HostRuntime) {
 
 const USAGE: &str = "usage\n";
 
-const OUTSIDE: [Row; 29] = [
+const OUTSIDE: [Row; 33] = [
     // Words that are none of the forms, or whose address is no number.
     ("", TWO_BRIDGES, "", 1, USAGE),
     ("route", TWO_BRIDGES, "", 1, USAGE),
@@ -39,12 +39,28 @@ const OUTSIDE: [Row; 29] = [
     ("check", TWO_BRIDGES, "", 1, USAGE),
     ("check table table", TWO_BRIDGES, "", 1, USAGE),
     ("check table table table table", TWO_BRIDGES, "", 1, USAGE),
-    // Forms of a session, which are not carried out yet.
-    ("run table topology", TWO_BRIDGES, "", 1, USAGE),
-    ("run table topology image", TWO_BRIDGES, "", 1, USAGE),
     ("run table", TWO_BRIDGES, "", 1, USAGE),
-    ("gen 1", TWO_BRIDGES, "", 1, USAGE),
-    ("gen 33", TWO_BRIDGES, "", 1, USAGE),
+    ("run table table table table", TWO_BRIDGES, "", 1, USAGE),
+    ("gen", "", "", 1, USAGE),
+    ("gen 0", "", "", 1, USAGE),
+    ("gen 33", "", "", 1, USAGE),
+    ("gen 0x", "", "", 1, USAGE),
+    ("gen 1 1", "", "", 1, USAGE),
+    // Generated systems.
+    (
+        "gen 1",
+        "",
+        "",
+        0,
+        "gen 1 regions 1 stores 1000 loads 1000 unmapped 0 sum 126180 checked 1\n",
+    ),
+    (
+        "gen 32",
+        "",
+        "",
+        0,
+        "gen 32 regions 32 stores 32000 loads 32000 unmapped 0 sum 4037760 checked 32\n",
+    ),
     ("--help route", TWO_BRIDGES, "", 1, USAGE),
     ("--version 0", TWO_BRIDGES, "", 1, USAGE),
     // Help and version.
@@ -119,12 +135,15 @@ fn help_of_forms(rt: HostRuntime) {
     }
 }
 
-const FORMS: [&str; 5] = [
+const FORMS: [&str; 8] = [
     "route CEDT HPA ",
     "list CEDT ",
     "normal CEDT ",
     "check CEDT TOPO IMAGE\n",
     "plan CEDT TOPO LINE\n",
+    "run CEDT TOPO ",
+    "run CEDT TOPO IMAGE\n",
+    "gen N ",
 ];
 
 /// A line, the room of a sink, the number of the write that fails or 0, and what is written over the two-bridge

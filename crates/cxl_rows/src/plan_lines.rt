@@ -1,32 +1,12 @@
-use crate::host_files::{TWO_ENDPOINTS, TWO_ENDPOINTS_FORWARDED};
+use crate::host_files::{
+    FOUR_ENDPOINTS, NO_RAM_IN_THE_FIRST, TWO_ENDPOINTS, TWO_ENDPOINTS_FORWARDED,
+};
 use crate::rows::{changed, ends, files_of, has_passed, put_word, words_of};
 use crate::tables::{
     FOUR_WINDOWS, ONE_BRIDGE, SERVER, THREE_BRIDGES, TWO_BRIDGES, TWO_BRIDGES_WIDE,
 };
 use std::alloc::Global;
 use std::process::Abort;
-
-/// Two bridges with two endpoints of 256 GiB of volatile memory each.
-const FOUR_ENDPOINTS: &str = r#"
-bridge = [{ name = "hb0", uid = 0 }, { name = "hb1", uid = 1 }]
-endpoint = [
-    { name = "e0", parent = "hb0", port = 0, ram = 0x4000000000 },
-    { name = "e1", parent = "hb0", port = 1, ram = 0x4000000000 },
-    { name = "e2", parent = "hb1", port = 0, ram = 0x4000000000 },
-    { name = "e3", parent = "hb1", port = 1, ram = 0x4000000000 },
-]
-"#;
-
-/// The same, where the first endpoint has persistent memory alone.
-const NO_RAM_IN_THE_FIRST: &str = r#"
-bridge = [{ name = "hb0", uid = 0 }, { name = "hb1", uid = 1 }]
-endpoint = [
-    { name = "e0", parent = "hb0", port = 0, pmem = 0x4000000000 },
-    { name = "e1", parent = "hb0", port = 1, ram = 0x4000000000 },
-    { name = "e2", parent = "hb1", port = 0, ram = 0x4000000000 },
-    { name = "e3", parent = "hb1", port = 1, ram = 0x4000000000 },
-]
-"#;
 
 /// A bridge with five endpoints, of 1 GiB of volatile memory and 1 GiB of persistent memory each.
 const FIVE_ENDPOINTS: &str = r#"

@@ -1,0 +1,326 @@
+// What scripts come to: hosts as a table, a topology and, where one is named, an image; the lines of a script; the exit
+// status, and all that is written. Each over a bus that fails at stated calls, and over both kinds of device memory.
+
+use crate::host_files::{
+    FIRST_REGION, FIVE_LEVELS, FOUR_ENDPOINTS, SIX_ENDPOINTS, SIX_ON_SIX, THREE_SMALL_ENDPOINTS,
+    TWELVE_ENDPOINTS, TWO_ENDPOINTS, TWO_ENDPOINTS_FORWARDED,
+};
+use crate::rows::{ROOM, bytes, changed, files_of, has_passed, numbers, sink_of, words_of};
+use crate::tables::{
+    ONE_BRIDGE, SERVER, SIX_BRIDGES, SIX_BRIDGES_XOR, THREE_BRIDGES, THREE_BRIDGES_SMALL,
+    TWO_BRIDGES, TWO_BRIDGES_XOR,
+};
+use cxl_bus::FailingBus;
+use cxl_io::MemSource;
+use cxl_media::{MapMedia, Roll, SimMedia};
+use cxl_shell::run;
+use std::alloc::Global;
+use std::process::Abort;
+
+/// A host, the calls of the bus that fail (the endpoints' blocks are enabled by the first of them), a script, and what it
+/// comes to. Places and values of bytes are changes of the image.
+pub(crate) struct Script {
+    pub(crate) table: &'static str,
+    pub(crate) topology: &'static str,
+    pub(crate) image: &'static str,
+    pub(crate) changes: &'static str,
+    pub(crate) fails: &'static str,
+    pub(crate) lines: &'static str,
+    pub(crate) code: u8,
+    pub(crate) text: &'static str,
+}
+
+fn comes_to<M: Roll>(rt: &impl Abort, alloc: Global, script: &Script, media: &mut M) -> bool {
+    let line = if script.image.is_empty() {
+        "run table topology"
+    } else {
+        "run table topology image"
+    };
+    let words = words_of(rt, alloc, line);
+    let image = changed(rt, alloc, script.image, script.changes, 4);
+    let mut files = files_of(
+        rt,
+        alloc,
+        bytes(rt, alloc, script.table),
+        script.topology,
+        image,
+        0,
+    );
+    let lines = Vec::from_slice(alloc, script.lines.as_bytes()).expect(rt, "memory");
+    let mut source = MemSource::new(lines, Vec::new(alloc));
+    let mut sink = sink_of(rt, alloc, ROOM, 0);
+    let mut regs = FailingBus::new(alloc, numbers(rt, alloc, script.fails));
+    let status = run(
+        alloc,
+        &words,
+        &mut files,
+        &mut source,
+        &mut sink,
+        &mut regs,
+        media,
+    );
+    status.code() == script.code && sink.bytes() == script.text.as_bytes()
+}
+
+pub(crate) fn come_to(rt: &(impl Abort + AllocGlobal), scripts: &[Script]) {
+    for (i, script) in scripts.iter().enumerate() {
+        let mut sim = SimMedia::new(rt.alloc());
+        has_passed(rt, i, comes_to(rt, rt.alloc(), script, &mut sim));
+        let mut map = MapMedia::new(rt.alloc());
+        has_passed(rt, i, comes_to(rt, rt.alloc(), script, &mut map));
+    }
+}
+
+#[test]
+fn ways(rt: HostRuntime) {
+    come_to(&rt, &WAYS);
+}
+
+const WAYS: [Script; 8] = [
+    // Three ways.
+    Script {
+        table: THREE_BRIDGES_SMALL,
+        topology: THREE_SMALL_ENDPOINTS,
+        image: "",
+        changes: "",
+        fails: "",
+        lines: "\
+create t ram 0x30000000 e0 e1 e2\n\
+down 0x12fffffff\n",
+        code: 0,
+        text: "\
+created t window 0 base 0x100000000 size 0x30000000 gran 256 ways 3\n\
+down 0x12fffffff region t slot 2 position 2 via hb2:0:0 endpoint e2 dpa 0xfffffff\n",
+    },
+    // Six ways, two below each of three bridges.
+    Script {
+        table: THREE_BRIDGES,
+        topology: SIX_ENDPOINTS,
+        image: "",
+        changes: "",
+        fails: "",
+        lines: "\
+create t ram 0x60000000 e0 e1 e2 e3 e4 e5\n\
+down 0x100000400\n\
+down 0x100000600\n",
+        code: 0,
+        text: "\
+created t window 0 base 0x100000000 size 0x60000000 gran 256 ways 6\n\
+down 0x100000400 region t slot 4 position 1 via hb1:0:0 endpoint e2 dpa 0x0\n\
+down 0x100000600 region t slot 0 position 0 via hb0:0:0 endpoint e0 dpa 0x100\n",
+    },
+    // Twelve ways, two below each of six bridges.
+    Script {
+        table: SIX_BRIDGES,
+        topology: TWELVE_ENDPOINTS,
+        image: "",
+        changes: "",
+        fails: "",
+        lines: "\
+create t ram 0xc0000000 e0 e1 e2 e3 e4 e5 e6 e7 e8 e9 e10 e11\n\
+down 0x100000b00\n",
+        code: 0,
+        text: "\
+created t window 0 base 0x100000000 size 0xc0000000 gran 256 ways 12\n\
+down 0x100000b00 region t slot 11 position 5 via hb5:0:1 endpoint e11 dpa 0x0\n",
+    },
+    // Two ways by XOR.
+    Script {
+        table: TWO_BRIDGES_XOR,
+        topology: TWO_ENDPOINTS,
+        image: "",
+        changes: "",
+        fails: "",
+        lines: "\
+create r0 ram 0x20000000 e0 e1\n\
+down 0x100004000\n\
+up e1 0x2000\n",
+        code: 0,
+        text: "\
+created r0 window 0 base 0x100000000 size 0x20000000 gran 256 ways 2\n\
+down 0x100004000 region r0 slot 1 position 1 via hb1:0:0 endpoint e1 dpa 0x2000\n\
+host 0x100004000 region r0\n",
+    },
+    // Six ways by XOR.
+    Script {
+        table: SIX_BRIDGES_XOR,
+        topology: SIX_ON_SIX,
+        image: "",
+        changes: "",
+        fails: "",
+        lines: "\
+create t ram 0x60000000 e0 e1 e2 e3 e4 e5\n\
+down 0x100004200\n",
+        code: 0,
+        text: "\
+created t window 0 base 0x100000000 size 0x60000000 gran 256 ways 6\n\
+down 0x100004200 region t slot 1 position 1 via hb1:0:0 endpoint e1 dpa 0xb00\n",
+    },
+    // Sixteen ways below five levels of ports.
+    Script {
+        table: ONE_BRIDGE,
+        topology: FIVE_LEVELS,
+        image: "",
+        changes: "",
+        fails: "",
+        lines: "\
+create d ram 0x100000000 e0 e1 e2 e3 e4 e5 e6 e7 e8 e9 e10 e11 e12 e13 e14 e15\n\
+down 0x100000b00\n",
+        code: 0,
+        text: "\
+created d window 0 base 0x100000000 size 0x100000000 gran 256 ways 16\n\
+down 0x100000b00 region d slot 11 position 0 via hb0:0:0 s0:0:1 s2:0:1 s6:0:0 s13:0:1 endpoint e13 dpa 0x0\n",
+    },
+    // Two ways below bridges that forward.
+    Script {
+        table: TWO_BRIDGES,
+        topology: TWO_ENDPOINTS_FORWARDED,
+        image: "",
+        changes: "",
+        fails: "",
+        lines: "\
+create r0 ram 0x20000000 e0 e1\n\
+down 0x100000100\n",
+        code: 0,
+        text: "\
+created r0 window 0 base 0x100000000 size 0x20000000 gran 256 ways 2\n\
+down 0x100000100 region r0 slot 1 position 1 via - endpoint e1 dpa 0x0\n",
+    },
+    // Four ways over a whole window of 1 TiB.
+    Script {
+        table: SERVER,
+        topology: FOUR_ENDPOINTS,
+        image: "",
+        changes: "",
+        fails: "",
+        lines: "\
+create r0 ram 0x10000000000 e0 e1 e2 e3\n\
+down 0x10fffffffff\n\
+show r0\n",
+        code: 0,
+        text: "\
+created r0 window 0 base 0x1000000000 size 0x10000000000 gran 256 ways 4\n\
+down 0x10fffffffff region r0 slot 3 position 1 via hb1:0:1 endpoint e3 dpa 0x3fffffffff\n\
+region r0 ram window 0 base 0x1000000000 size 0x10000000000 gran 256 ways 4\n\
+node hb0 0 00000000 00000010 00000000 00000100 00001611 00000100 00000000\n\
+node hb1 0 00000000 00000010 00000000 00000100 00001611 00000100 00000000\n\
+node e0 0 00000000 00000010 00000000 00000100 00001620 00000000 00000000\n\
+node e1 0 00000000 00000010 00000000 00000100 00001620 00000000 00000000\n\
+node e2 0 00000000 00000010 00000000 00000100 00001620 00000000 00000000\n\
+node e3 0 00000000 00000010 00000000 00000100 00001620 00000000 00000000\n\
+slot 0 e0 0x0\n\
+slot 1 e2 0x0\n\
+slot 2 e1 0x0\n\
+slot 3 e3 0x0\n",
+    },
+];
+
+#[test]
+fn firmware(rt: HostRuntime) {
+    come_to(&rt, &FIRMWARE);
+}
+
+const FIRMWARE: [Script; 3] = [
+    // Locked decoders.
+    Script {
+        table: TWO_BRIDGES,
+        topology: TWO_ENDPOINTS,
+        image: FIRST_REGION,
+        changes: "44 0x1700 188 0x1700 332 0x1710 476 0x1710",
+        fails: "",
+        lines: "\
+destroy auto0\n\
+load 0x100000000 1\n\
+create auto0 ram 0x20000000 e0 e1\n\
+create b ram 0x20000000 e0 e1\n\
+destroy auto0\n\
+destroy b\n",
+        code: 0,
+        text: "\
+locked hb0 0\n\
+bytes 00\n\
+name taken auto0\n\
+created b window 0 base 0x120000000 size 0x20000000 gran 256 ways 2\n\
+locked hb0 0\n\
+destroyed b\n",
+    },
+    // Decoders that are not locked.
+    Script {
+        table: TWO_BRIDGES,
+        topology: TWO_ENDPOINTS,
+        image: FIRST_REGION,
+        changes: "",
+        fails: "",
+        lines: "\
+destroy auto0\n",
+        code: 0,
+        text: "\
+destroyed auto0\n",
+    },
+    // An image with a breach.
+    Script {
+        table: TWO_BRIDGES,
+        topology: TWO_ENDPOINTS,
+        image: FIRST_REGION,
+        changes: "348 0x20000000 352 1 356 0x20000000 364 0x1610",
+        fails: "",
+        lines: "\
+destroy auto0\n",
+        code: 8,
+        text: "\
+breach K11 e0 1\n",
+    },
+];
+
+#[test]
+fn poisoned(rt: HostRuntime) {
+    come_to(&rt, &POISONED);
+}
+
+const POISONED: [Script; 2] = [
+    // A record past the end of a span, one of no length, a false count, and a list that is cut.
+    Script {
+        table: TWO_BRIDGES,
+        topology: TWO_ENDPOINTS,
+        image: "",
+        changes: "",
+        fails: "",
+        lines: "\
+create r0 ram 0x20000000 e0 e1\n\
+poison e0 0000000000000000000001000000000000000000000000000000000000000000c2ffff0f000000000200000000000000\n\
+poison e0 0000000000000000000001000000000000000000000000000000000000000000c2ffff0f000000000000000000000000\n\
+poison e0 0000000000000000000002000000000000000000000000000000000000000000c2ffff0f000000000200000000000000\n\
+poison e0 00000000000000000000010000000000000000000000000000000000000000\n\
+poison e2 0000000000000000000001000000000000000000000000000000000000000000c2ffff0f000000000200000000000000\n",
+        code: 0,
+        text: "\
+created r0 window 0 base 0x100000000 size 0x20000000 gran 256 ways 2\n\
+poison e0 records 1\n\
+record 0xfffffc0 length 128 source internal\n\
+run 0x11ffffec0 64 region r0\n\
+unmapped 64\n\
+poison e0 records 1\n\
+record 0xfffffc0 length 0 source internal\n\
+poison count 2 1\n\
+poison short\n\
+no such endpoint e2\n",
+    },
+    // A record over two chunks of a region of six ways.
+    Script {
+        table: THREE_BRIDGES,
+        topology: SIX_ENDPOINTS,
+        image: "",
+        changes: "",
+        fails: "",
+        lines: "\
+create t ram 0x60000000 e0 e1 e2 e3 e4 e5\n\
+poison e2 000000000000000000000100000000000000000000000000000000000000000002000000000000000800000000000000\n",
+        code: 0,
+        text: "\
+created t window 0 base 0x100000000 size 0x60000000 gran 256 ways 6\n\
+poison e2 records 1\n\
+record 0x0 length 512 source internal\n\
+run 0x100000400 256 region t\n\
+run 0x100000a00 256 region t\n",
+    },
+];
