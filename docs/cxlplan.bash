@@ -3,16 +3,17 @@ _cxlplan() {
     local word="${COMP_WORDS[COMP_CWORD]}" verb="${COMP_WORDS[1]-}"
     COMPREPLY=()
     case "$COMP_CWORD $verb" in
-    "1 "*) mapfile -t COMPREPLY < <(compgen -W 'route list normal check plan --help --version' -- "$word") ;;
+    "1 "*) mapfile -t COMPREPLY < <(compgen -W 'route list normal check plan run gen --help --version' -- "$word") ;;
     "2 --"*) ;;
-    "3 check" | "3 plan")
+    "2 gen") ;;
+    "3 check" | "3 plan" | "3 run")
         compopt -o filenames
         mapfile -t COMPREPLY < <(
             compgen -f -X '!*.toml' -- "$word"
             compgen -d -- "$word"
         )
         ;;
-    "2 "* | "4 check")
+    "2 "* | "4 check" | "4 run")
         compopt -o filenames
         mapfile -t COMPREPLY < <(compgen -f -- "$word")
         ;;
