@@ -52,11 +52,11 @@ fn code_of(
 
 /// How many bytes a source has left.
 fn left_in(rt: &impl Abort, source: &mut MemSource) -> usize {
-    let mut count = 0;
+    let mut count: usize = 0;
     let mut block = [0; 1_000];
     for _ in 0..LINES {
         let read = source.read(&mut block).expect(rt, "no fault");
-        count += read;
+        count = count.saturating_add(read);
     }
     count
 }
@@ -114,10 +114,10 @@ fn left_behind(rt: &impl Abort, alloc: Global, write: u64) -> usize {
 /// No block is read before the lines of the one before it are carried out: the 456th line is the first that needs the second.
 #[test]
 fn reads_no_block_ahead(rt: HostRuntime) {
-    let whole = LINES * LINE.len();
-    assert!(&rt; left_behind(&rt, rt.alloc(), 1) == whole - 4_096);
-    assert!(&rt; left_behind(&rt, rt.alloc(), 455) == whole - 4_096);
-    assert!(&rt; left_behind(&rt, rt.alloc(), 456) == whole - 8_192);
+    // Of the 9,000 bytes of all lines.
+    assert!(&rt; left_behind(&rt, rt.alloc(), 1) == 9_000 - 4_096);
+    assert!(&rt; left_behind(&rt, rt.alloc(), 455) == 9_000 - 4_096);
+    assert!(&rt; left_behind(&rt, rt.alloc(), 456) == 9_000 - 8_192);
 }
 
 /// Whether a create whose bus fails at this call is undone, and made when it is asked for again: behind the words that
@@ -130,20 +130,29 @@ fn is_undone(rt: &impl Abort, alloc: Global, call: u64) -> bool {
     let mut regs = FailingBus::new(alloc, fails);
     let code = code_of(rt, alloc, TWO_ENDPOINTS, &mut source, &mut sink, &mut regs);
     let text = repeated(rt, alloc, &[b"bus fault undone\n", CREATED], 1);
-    let made = call as usize - 3;
+    let made = (call as usize).saturating_sub(3);
     code == 0 && sink.bytes() == text.as_slice() && goes_back_and_on(regs.trail(), made)
 }
 
 /// Whether so many words of a create go before those that take them back, and all of it after them.
 fn goes_back_and_on(trail: &[Sent], made: usize) -> bool {
-    if trail.len() != 2 + 2 * made + 32 {
+    let twice = made.saturating_add(made);
+    if trail.len() != twice.saturating_add(34) {
         return false;
     }
-    let whole = &trail[2 + 2 * made..];
+    let last_back = twice.saturating_add(1);
+    let first_again = twice.saturating_add(2);
     for i in 0..made {
-        let word = &trail[2 + i];
-        let back = &trail[1 + 2 * made - i];
-        if *word != whole[i] || word.node != back.node || word.off != back.off {
+        let Some(word) = trail.get(i.saturating_add(2)) else {
+            return false;
+        };
+        let Some(back) = trail.get(last_back.saturating_sub(i)) else {
+            return false;
+        };
+        let Some(again) = trail.get(first_again.saturating_add(i)) else {
+            return false;
+        };
+        if *word != *again || word.node != back.node || word.off != back.off {
             return false;
         }
     }
