@@ -1,13 +1,14 @@
 -- Commands that write no bytes keep those of each region.
-use Rattle.std.proofs.Common.{◌≡◌, ℕ, ◌+◌, ◌⊎◌, Bool, true, false, if◌then◌else◌, List, [], ◌∷◌, ◌++◌, Result, Ok, Err, Option, Some, None, inl, inr, refl, sym, ap, ◌∙◌, subst}
+use Rattle.std.proofs.Common.{◌≡◌, ◌≢◌, ℕ, ◌+◌, ◌⊎◌, Bool, true, false, if◌then◌else◌, List, [], ◌∷◌, ◌++◌, Result, Ok, Err, Option, Some, None, inl, inr, refl, sym, ap, ◌∙◌, subst}
 use Rattle.std.specs.Prelude.{Contains, nat_le}
+use Rattle.std.specs.List.Sorted.{IsPermutation}
 use Rattle.std.specs.Option.{option_map_or}
 use Rattle.std.specs.FinMap as fin
 use Rattle.std.proofs.lemmas.Bool.{false≢true}
 use Rattle.std.proofs.lemmas.List.{append-nil}
-use Rattle.std.proofs.lemmas.List.Elements.{Contains-append_left, Contains-push_cases}
+use Rattle.std.proofs.lemmas.List.Elements.{All-contains, Contains-append_left, Contains-push_cases}
 use Rattle.std.proofs.lemmas.List.Sorted.{Contains-permutation}
-use Rattle.std.proofs.lemmas.List.Sorted.{IsPermutation-sym}
+use Rattle.std.proofs.lemmas.List.Sorted.{IsPermutation-refl, IsPermutation-sym}
 use Rattle.std.proofs.lemmas.Option.{slice_get_within, get_or_from_slice_get}
 use Rattle.cxl_script.specs.declared.command.Command.{Command}
 use Rattle.cxl_script.specs.declared.command.Command.TheVariants as commands
@@ -17,7 +18,7 @@ use Rattle.cxl_script.specs.declared.command.Up.{Up}
 use Rattle.cxl_model.specs.declared.plan.Row.{Row}
 use Rattle.cxl_reply.specs.declared.reply.Reply.{Reply}
 use Rattle.cxl_machine.specs.Machine.{Live, RegionJob, JobKind, Creates, Releases, Machine, live_named, live_at, region_released, under_release, kept_regions}
-use Rattle.cxl_machine.specs.Jobs.{total_of, release_job, live_while, live_when_done, live_when_undone, at_done, begun, finished, undone}
+use Rattle.cxl_machine.specs.Jobs.{total_of, create_job, release_job, live_while, live_when_done, live_when_undone, at_done, begun, finished, undone}
 use Rattle.cxl_machine.specs.Outcomes.{BusOutcome, NoFault, Undone, LeftPending, ReadFailed}
 use Rattle.cxl_machine.specs.Requests.{AsksCreate, asked_release}
 use Rattle.cxl_machine.specs.Replies.{Answer, within_region, ends_within}
@@ -31,19 +32,25 @@ use Rattle.cxl_machine.specs.Scripts.{Asked, Turn, answer_of, TakesTurn}
 use Rattle.cxl_machine.specs.Sound.{IsMachine}
 use Rattle.cxl_machine.specs.Trails.{WorksOn}
 use Rattle.cxl_machine.proofs.KeepingBegun.{asked_is}
+use Rattle.cxl_machine.proofs.KeepingCommands.{none_named, asked_idle}
 use Rattle.cxl_machine.proofs.KeepingOrder.{put_back, put_last}
-use Rattle.cxl_flat.specs.Memory.{writes_bytes, KeepsBytes}
+use Rattle.cxl_flat.specs.Memory.{writes_bytes, IsNew, KeepsBytes}
 
 -- ---- from one machine to the next
 
 keeps_itself : (m : Machine) → KeepsBytes m m
 keeps_itself m region there = inl there
 
-keeps_on : (m n o : Machine) → KeepsBytes m n → KeepsBytes n o → KeepsBytes m o
-keeps_on m n o one two region there =
+-- each region that has bytes in the first machine has them in the second
+abbrev pub AllStay : Machine → Machine → Type 0
+AllStay m n = (region : Live) → Contains (kept_regions m) region → Contains (kept_regions n) region
+
+-- what is new behind a machine that has all regions of an earlier one is new behind that, too
+keeps_on : (m n o : Machine) → KeepsBytes m n → AllStay m n → KeepsBytes n o → KeepsBytes m o
+keeps_on m n o one all two region there =
     elim (two region there) [
       | inl before ↦ one region before
-      | inr none ↦ inr none
+      | inr new ↦ inr (record { name = λ other here. new.name other (all other here); zeros = new.zeros })
     ]
 
 -- a job at another number of writes has the same regions
@@ -60,25 +67,43 @@ at_done_keeps m job done pending region there =
 
 -- ---- a job ends
 
-finished_by : (m : Machine) (job : RegionJob) (kind : JobKind) → ((rows : List Row) → kind ≡ Creates rows → job.region.contents ≡ fin.empty) → (region : Live)
-    → Contains (live_when_done job kind m.live) region → Contains m.live region ⊎ (region.contents ≡ fin.empty)
+-- a create's region holds no piece, and has a name that no live region has
+pub record NewLaws : Type 0 where
+  pub made : (m : Machine) (job : RegionJob) (rows : List Row) → IsMachine m → m.job ≡ Some job → job.kind ≡ Creates rows → job.region.contents ≡ fin.empty
+  pub name : (m : Machine) (job : RegionJob) → IsMachine m → m.job ≡ Some job → live_named m job.region.name ≡ None
+
+finished_by : (m : Machine) (job : RegionJob) (kind : JobKind) → ((rows : List Row) → kind ≡ Creates rows → IsNew m job.region) → (region : Live)
+    → Contains (live_when_done job kind m.live) region → Contains m.live region ⊎ IsNew m region
 finished_by m job (Creates rows) made region there =
     elim (Contains-push_cases m.live job.region region there) [
       | inl before ↦ inl before
-      | inr new ↦ inr (ap (λ (r : Live). r.contents) (sym new) ∙ made rows refl)
+      | inr new ↦ inr (subst (IsNew m) new (made rows refl))
     ]
 finished_by m job (Releases place) made region there = inl there
 
--- a create's region holds no piece
-abbrev pub MadeLaw : Type 0
-MadeLaw = (m : Machine) (job : RegionJob) (rows : List Row) → IsMachine m → m.job ≡ Some job → job.kind ≡ Creates rows → job.region.contents ≡ fin.empty
+module _ (laws : NewLaws) (m : Machine) (job : RegionJob) (is : IsMachine m) (pending : m.job ≡ Some job) where
+  -- beside a create the machine keeps its live regions alone
+  kept_live : (kind : JobKind) (rows : List Row) → kind ≡ Creates rows → (other : Live) → Contains (m.live ++ region_released job kind) other → Contains m.live other
+  kept_live (Creates own) rows same other there = subst (λ (rs : List Live). Contains rs other) (append-nil m.live) there
+  kept_live (Releases place) rows same other there = absurd (differ same)
+    where
+      differ : Releases place ≡ Creates rows → ⊥
+      differ e = cc
 
-finished_keeps : MadeLaw → (m : Machine) (job : RegionJob) → IsMachine m → m.job ≡ Some job → KeepsBytes m (finished job m)
-finished_keeps law m job is pending region there =
-    elim (finished_by m job job.kind (λ rows same. law m job rows is pending same) region (subst (λ (rs : List Live). Contains rs region) (append-nil (live_when_done job job.kind m.live)) there)) [
-      | inl before ↦ inl (Contains-append_left m.live (under_release m.job) region before)
-      | inr none ↦ inr none
-    ]
+  new_by : (rows : List Row) → job.kind ≡ Creates rows → IsNew m job.region
+  new_by rows same = record {
+    name = λ other there.
+        All-contains (λ (region : Live). region.name ≢ job.region.name) m.live other (none_named job.region.name m.live (laws.name m job is pending))
+        (kept_live job.kind rows same other (subst (λ (rs : List Live). Contains rs other) (sym (kept_with m job pending)) there));
+    zeros = laws.made m job rows is pending same;
+  }
+
+  finished_keeps : KeepsBytes m (finished job m)
+  finished_keeps region there =
+      elim (finished_by m job job.kind new_by region (subst (λ (rs : List Live). Contains rs region) (append-nil (live_when_done job job.kind m.live)) there)) [
+        | inl before ↦ inl (Contains-append_left m.live (under_release m.job) region before)
+        | inr new ↦ inr new
+      ]
 
 undone_by : (m : Machine) (job : RegionJob) (kind : JobKind) (region : Live) → Contains (live_when_undone job kind m.live) region → Contains (m.live ++ region_released job kind) region
 undone_by m job (Creates rows) region there = Contains-append_left m.live [] region there
@@ -92,35 +117,40 @@ undone_keeps m job pending region there =
 
 -- ---- a job begins
 
-begins_made : (m : Machine) (job : RegionJob) (kind : JobKind) (rows : List Row) → kind ≡ Creates rows → (region : Live) → Contains (live_while kind m.live ++ region_released job kind) region → Contains m.live region
-begins_made m job (Creates own) rows same region there = subst (λ (rs : List Live). Contains rs region) (append-nil m.live) there
-begins_made m job (Releases place) rows same region there = absurd (differ same)
-  where
-    differ : Releases place ≡ Creates rows → ⊥
-    differ e = cc
+-- a job that begins leaves the regions that have bytes, each with its own
+pub record BeginsWith (m : Machine) (job : RegionJob) : Type 0 where
+  pub keeps : KeepsBytes m (begun job m)
+  pub all : AllStay m (begun job m)
 
-begins_from : (m : Machine) (job : RegionJob) → ((region : Live) → Contains (live_while job.kind m.live ++ region_released job job.kind) region → Contains m.live region) → KeepsBytes m (begun job m)
-begins_from m job each region there = inl (Contains-append_left m.live (under_release m.job) region (each region there))
+-- nothing is pending before it
+kept_idle : (m : Machine) → m.job ≡ None → kept_regions m ≡ m.live
+kept_idle m none = ap (λ (o : Option RegionJob). m.live ++ under_release o) none ∙ append-nil m.live
 
-create_keeps : (m : Machine) (create : Create) (job : RegionJob) → AsksLegally m create → AsksCreate m create (Ok job) → KeepsBytes m (begun job m)
-create_keeps m create job legally asks =
-    let own = legally job asks in
-    begins_from m job (begins_made m job job.kind own.plan.rows (ap (λ (j : RegionJob). j.kind) own.made))
+begins_with : (m : Machine) (job : RegionJob) → m.job ≡ None → IsPermutation m.live (live_while job.kind m.live ++ region_released job job.kind) → BeginsWith m job
+begins_with m job none same = record {
+  keeps = λ region there. inl (subst (λ (rs : List Live). Contains rs region) (sym (kept_idle m none)) (Contains-permutation _ m.live region (IsPermutation-sym _ _ same) there));
+  all = λ region there. Contains-permutation m.live _ region same (subst (λ (rs : List Live). Contains rs region) (kept_idle m none) there);
+}
 
-release_keeps : (m : Machine) (name : List ℕ) (job : RegionJob) → asked_release m name ≡ Ok job → KeepsBytes m (begun job m)
-release_keeps m name job asks =
+create_begins : (m : Machine) (create : Create) (job : RegionJob) → AsksLegally m create → AsksCreate m create (Ok job) → BeginsWith m job
+create_begins m create job legally asks =
+    subst (BeginsWith m) (sym (legally job asks).made)
+    (begins_with m (create_job m.settled (legally job asks).plan) (asked_idle m create job asks)
+    (subst (IsPermutation m.live) (sym (append-nil m.live)) (IsPermutation-refl m.live)))
+
+release_begins : (m : Machine) (name : List ℕ) (job : RegionJob) → asked_release m name ≡ Ok job → BeginsWith m job
+release_begins m name job asks =
     let own = asked_is m name job asks in
     let within = slice_get_within m.live own.place own.region own.at in
     let read = get_or_from_slice_get m.live own.place own.region own.region own.at in
-    let same = put_last m.live own.region own.place within read in
-    subst (λ (j : RegionJob). KeepsBytes m (begun j m)) (sym own.made)
-    (begins_from m (release_job m.settled own.place own.region) (λ region there. Contains-permutation _ m.live region (IsPermutation-sym _ _ same) there))
+    subst (BeginsWith m) (sym own.made)
+    (begins_with m (release_job m.settled own.place own.region) own.idle (put_last m.live own.region own.place within read))
 
 -- ---- answers
 
 -- what is known of jobs
 pub record JobLaws : Type 0 where
-  pub made : MadeLaw
+  pub new : NewLaws
   pub legal : (m : Machine) (create : Create) → IsMachine m → AsksLegally m create
   pub creates : (m : Machine) (create : Create) (job : RegionJob) → IsMachine m → AsksCreate m create (Ok job) → IsMachine (begun job m)
   pub releases : (m : Machine) (name : List ℕ) (job : RegionJob) → IsMachine m → asked_release m name ≡ Ok job → IsMachine (begun job m)
@@ -160,34 +190,34 @@ module _ (laws : JobLaws) (m : Machine) (is : IsMachine m) where
   poison asked answer (reports.no_endpoint none at) = given answer _ at stays_so
   poison asked answer (reports.told endpoint reply there tells at) = given answer _ at stays_so
 
-  carried_out : (job : RegionJob) → IsMachine (begun job m) → KeepsBytes m (begun job m) → (outcome : BusOutcome) (answer : Answer) → CarriesOutWhole m job outcome answer → Keeps answer
+  carried_out : (job : RegionJob) → IsMachine (begun job m) → BeginsWith m job → (outcome : BusOutcome) (answer : Answer) → CarriesOutWhole m job outcome answer → Keeps answer
   carried_out job at begins NoFault answer same =
-      given answer _ same (keeps_on m (begun job m) (finished job (begun job m)) begins (finished_keeps laws.made (begun job m) job at refl))
+      given answer _ same (keeps_on m (begun job m) (finished job (begun job m)) begins.keeps begins.all (finished_keeps laws.new (begun job m) job at refl))
   carried_out job at begins Undone answer same = given answer _ same stays_so
   carried_out job at begins (LeftPending done) answer same =
-      given answer _ same.1 (keeps_on m (begun job m) (at_done job done (begun job m)) begins (at_done_keeps (begun job m) job done refl))
+      given answer _ same.1 (keeps_on m (begun job m) (at_done job done (begun job m)) begins.keeps begins.all (at_done_keeps (begun job m) job done refl))
   carried_out job at begins ReadFailed answer same = absurd same
 
-  whole : (asked : Result RegionJob Reply) → ((job : RegionJob) → asked ≡ Ok job → IsMachine (begun job m) × KeepsBytes m (begun job m)) → (outcome : BusOutcome) (answer : Answer)
+  whole : (asked : Result RegionJob Reply) → ((job : RegionJob) → asked ≡ Ok job → IsMachine (begun job m) × BeginsWith m job) → (outcome : BusOutcome) (answer : Answer)
       → AnswersWhole m asked outcome answer → Keeps answer
   whole (Ok job) begins outcome answer at = let own = begins job refl in carried_out job own.0 own.1 outcome answer at
   whole (Err refusal) begins outcome answer at = given answer _ at.told stays_so
 
-  begin : (asked : Result RegionJob Reply) → ((job : RegionJob) → asked ≡ Ok job → IsMachine (begun job m) × KeepsBytes m (begun job m)) → Keeps (begin_answer m asked)
-  begin (Ok job) begins = (begins job refl).1
+  begin : (asked : Result RegionJob Reply) → ((job : RegionJob) → asked ≡ Ok job → IsMachine (begun job m) × BeginsWith m job) → Keeps (begin_answer m asked)
+  begin (Ok job) begins = (begins job refl).1.keeps
   begin (Err refusal) begins = stays_so
 
-  creates : (create : Create) (asked : Result RegionJob Reply) → AsksCreate m create asked → (job : RegionJob) → asked ≡ Ok job → IsMachine (begun job m) × KeepsBytes m (begun job m)
+  creates : (create : Create) (asked : Result RegionJob Reply) → AsksCreate m create asked → (job : RegionJob) → asked ≡ Ok job → IsMachine (begun job m) × BeginsWith m job
   creates create asked asks job same =
       let own = subst (AsksCreate m create) same asks in
-      (laws.creates m create job is own, create_keeps m create job (laws.legal m create is) own)
+      (laws.creates m create job is own, create_begins m create job (laws.legal m create is) own)
 
-  releases : (name : List ℕ) (job : RegionJob) → asked_release m name ≡ Ok job → IsMachine (begun job m) × KeepsBytes m (begun job m)
-  releases name job asks = (laws.releases m name job is asks, release_keeps m name job asks)
+  releases : (name : List ℕ) (job : RegionJob) → asked_release m name ≡ Ok job → IsMachine (begun job m) × BeginsWith m job
+  releases name job asks = (laws.releases m name job is asks, release_begins m name job asks)
 
   stepped : (job : RegionJob) → m.job ≡ Some job → (steps : ℕ) (outcome : BusOutcome) (answer : Answer) → Steps m job steps outcome answer → Keeps answer
   stepped job pending steps NoFault answer at =
-      given answer _ at (by_test (nat_le (total_of job) (job.done + steps)) _ _ (finished_keeps laws.made m job is pending) (at_done_keeps m job (job.done + steps) pending))
+      given answer _ at (by_test (nat_le (total_of job) (job.done + steps)) _ _ (finished_keeps laws.new m job is pending) (at_done_keeps m job (job.done + steps) pending))
   stepped job pending steps Undone answer at = absurd at
   stepped job pending steps (LeftPending done) answer at = given answer _ at.1 (at_done_keeps m job done pending)
   stepped job pending steps ReadFailed answer at = absurd at
@@ -229,16 +259,16 @@ module _ (laws : JobLaws) (m : Machine) (is : IsMachine m) where
 
   -- ---- between two words
 
-  begun_on : (job : RegionJob) (at : Machine) (done : ℕ) → KeepsBytes m (begun job m) → at ≡ begun job m → KeepsBytes m (at_done job done at)
+  begun_on : (job : RegionJob) (at : Machine) (done : ℕ) → BeginsWith m job → at ≡ begun job m → KeepsBytes m (at_done job done at)
   begun_on job at done begins same =
-      subst (λ (n : Machine). KeepsBytes m (at_done job done n)) (sym same) (keeps_on m (begun job m) (at_done job done (begun job m)) begins (at_done_keeps (begun job m) job done refl))
+      subst (λ (n : Machine). KeepsBytes m (at_done job done n)) (sym same) (keeps_on m (begun job m) (at_done job done (begun job m)) begins.keeps begins.all (at_done_keeps (begun job m) job done refl))
 
   goes_on : (job : RegionJob) (at : Machine) (done : ℕ) → m.job ≡ Some job → at ≡ m → KeepsBytes m (at_done job done at)
   goes_on job at done pending same = subst (λ (n : Machine). KeepsBytes m (at_done job done n)) (sym same) (at_done_keeps m job done pending)
 
   pub works_keeps : (command : Command) (job : RegionJob) (at : Machine) (done : ℕ) → WorksOn m command job at → KeepsBytes m (at_done job done at)
-  works_keeps (commands.Create create) job at done works = begun_on job at done (create_keeps m create job (laws.legal m create is) works.0) works.1
-  works_keeps (commands.Destroy name) job at done works = begun_on job at done (release_keeps m name job works.0) works.1
+  works_keeps (commands.Create create) job at done works = begun_on job at done (create_begins m create job (laws.legal m create is) works.0) works.1
+  works_keeps (commands.Destroy name) job at done works = begun_on job at done (release_begins m name job works.0) works.1
   works_keeps (commands.Step steps) job at done works = goes_on job at done works.0 works.1
   works_keeps commands.Abort job at done works = goes_on job at done works.0 works.1
   works_keeps other job at done works = absurd works

@@ -1,5 +1,5 @@
 -- The flat memory of a machine: the byte at each host address, and what the commands do with it (this project's rules).
-use Rattle.std.specs.Prelude.{◌≡◌, ℕ, ◌+◌, ◌<◌, ◌≤◌, ◌⊎◌, Bool, true, false, List, length, slice_index, Contains, Option, Some, option_map, Ok}
+use Rattle.std.specs.Prelude.{◌≡◌, ◌≢◌, ℕ, ◌+◌, ◌<◌, ◌≤◌, ◌⊎◌, Bool, true, false, List, length, slice_index, Contains, Option, Some, option_map, Ok}
 use Rattle.std.specs.FinMap as map
 use Rattle.cxl_script.specs.declared.command.Command.TheVariants as commands
 use Rattle.cxl_script.specs.declared.command.Load.{Load}
@@ -91,7 +91,11 @@ writes_bytes (Ok (commands.Copy pair)) = true
 writes_bytes (Ok (commands.Move pair)) = true
 writes_bytes other = false
 
--- Each region that has bytes behind it, live or under release, had the same before it; or it is new, and holds zeros.
+-- a region of which the machine has no byte yet, since none that it keeps has the name; it holds zeros
+pub record IsNew (m : Machine) (region : Live) : Type 0 where
+  pub name : (other : Live) → Contains (kept_regions m) other → other.name ≢ region.name
+  pub zeros : region.contents ≡ map.empty
+
+-- Each region that has bytes behind it, live or under release, had the same before it; or it is new.
 abbrev pub KeepsBytes : Machine → Machine → Type 0
-KeepsBytes m after =
-    (region : Live) → Contains (kept_regions after) region → Contains (kept_regions m) region ⊎ (region.contents ≡ map.empty)
+KeepsBytes m after = (region : Live) → Contains (kept_regions after) region → Contains (kept_regions m) region ⊎ IsNew m region

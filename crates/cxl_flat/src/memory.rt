@@ -12,7 +12,7 @@ ghost use Rattle.cxl_flat.specs.Memory.{IsFlatAccess, writes_bytes, KeepsBytes};
 
 use cxl_machine::{
     asked_creates_begin_as_machines, creates_are_legal, ended_jobs_leave_nothing,
-    releases_begin_as_machines,
+    pending_regions_are_unmapped, releases_begin_as_machines,
 };
 use cxl_model::regions_share_no_byte;
 
@@ -26,7 +26,7 @@ pub fn accesses_are_of_one_memory()
 }
 
 /// A law of answers: what is asked for that is no store, copy or move leaves the bytes of each region, also while one is made
-/// or ended, and between any two register writes; and a region that is made holds zeros.
+/// or ended, and between any two register writes; and a region that is there then and was not before is new, and holds zeros.
 pub fn reads_keep_bytes()
     ensures behind { (m : Machine) (one : Asked) (turn : Turn) → IsMachine m → TakesTurn m one turn
         → writes_bytes one ≡ false → KeepsBytes m turn.machine }
@@ -34,6 +34,7 @@ pub fn reads_keep_bytes()
         → IsMachine m → KeepsBytes m (at_done way.job way.done way.at) }
 {
     ended_jobs_leave_nothing();
+    pending_regions_are_unmapped();
     creates_are_legal();
     asked_creates_begin_as_machines();
     releases_begin_as_machines();

@@ -4,7 +4,7 @@ use Rattle.cxl_flat.proofs.memory.reads_keep_bytes.Goals as goal
 
 laws : goal.After-releases_begin_as_machines → JobLaws
 laws c = record {
-  made = c.ended_jobs_leave_nothing.ensures.made;
+  new = record { made = c.ended_jobs_leave_nothing.ensures.made; name = c.pending_regions_are_unmapped.ensures.name };
   legal = λ n create sound. c.creates_are_legal.ensures n (commands.Create create) sound;
   creates = c.asked_creates_begin_as_machines.ensures.machine;
   releases = c.releases_begin_as_machines.ensures.machine;
