@@ -12,7 +12,7 @@ use Rattle.cxl_model.specs.declared.found.Found.{Found}
 use Rattle.cxl_model.specs.declared.found.Place.{Place}
 use Rattle.cxl_model.specs.Regions.{weave_fields, Carries}
 use Rattle.cxl_model.specs.Bytes.{slot_length, LiesInSpan}
-use Rattle.cxl_move.specs.inner.Steps.{IsSpanByte}
+use Rattle.cxl_move.specs.Slots.{IsByteOfSlot}
 
 -- the place of the slot to which a byte is dealt is where it is carried
 pub dealt_carries : (found : Found) (w : WindowFields) (weave : WeaveFields) (spans : List Place) (d : Place) (h slot offset : ℕ) → weave ≡ weave_fields found w → spans ≡ found.spans → slot ≡ dealt_slot weave h
@@ -55,7 +55,7 @@ pub record WovenLaws (found : Found) (w : WindowFields) : Type 0 where
   pub turns : turns_end (weave_fields found w) (slot_length found / chunk_size found.gran) ≡ found.base + found.size
   pub low : found.base + found.size ≤ address_limit
 
-module _ (found : Found) (w : WindowFields) (laws : WovenLaws found w) (endpoint dpa slot offset : ℕ) (byte : IsSpanByte found endpoint dpa slot offset) where
+module _ (found : Found) (w : WindowFields) (laws : WovenLaws found w) (endpoint dpa slot offset : ℕ) (byte : IsByteOfSlot found endpoint dpa slot offset) where
   byte_lies : LiesInSpan found endpoint dpa
   byte_lies =
       let at = byte.at in
@@ -127,5 +127,5 @@ module _ (found : Found) (apart : (a b : ℕ) (p q : Place) → slice_get found.
       let start = ap (λ (p : Place). p.start) place in
       (omega (arith, start, lies.from), omega (arith, start, lies.below))
 
-  pub byte_there : (dpa : ℕ) → (get_or spans slot d).start ≤ dpa → dpa - (get_or spans slot d).start < slot_length found → IsSpanByte found endpoint dpa slot (dpa - (get_or spans slot d).start)
+  pub byte_there : (dpa : ℕ) → (get_or spans slot d).start ≤ dpa → dpa - (get_or spans slot d).start < slot_length found → IsByteOfSlot found endpoint dpa slot (dpa - (get_or spans slot d).start)
   byte_there dpa from within = record { place = get_or spans slot d; there = is_on.there; here = is_on.here; at = omega arith; within = within }

@@ -1,3 +1,4 @@
 pub mod Sides
 pub mod Holdings
+pub mod Slots
 pub mod inner

@@ -9,6 +9,7 @@ mod moving;
 mod pieces;
 mod scrubbing;
 mod side;
+mod slots;
 
 pub use copying::copy_bytes;
 pub use cxl_model::{Found, Memory};
@@ -21,3 +22,4 @@ pub use moving::move_bytes;
 pub use pieces::pieces_are_carried_to_blocks;
 pub use scrubbing::scrub_region;
 pub use side::Side;
+pub use slots::span_byte;

@@ -1,17 +1,17 @@
 //! The pieces of a region, and the blocks of media to which they are carried.
 
-ghost use Rattle.std.specs.Prelude.{◌≡◌, ℕ, ◌*◌, ◌/◌, ◌<◌, Some, IsSomeAnd, IfSome, IfNone, slice_get};
+ghost use Rattle.std.specs.Prelude.{◌≡◌, ℕ, ◌*◌, ◌/◌, ◌<◌, IfSome, IfNone};
 ghost use Rattle.cxl_enc.specs.Limits.{address_limit};
 ghost use Rattle.cxl_window.specs.Fields.{WindowFields};
 ghost use Rattle.cxl_model.specs.declared.found.Found.{Found};
-ghost use Rattle.cxl_model.specs.declared.found.Place.{Place};
 ghost use Rattle.cxl_model.specs.System.{System, IsSystem};
 ghost use Rattle.cxl_model.specs.Regions.{IsRegion, IsRegionIn};
-ghost use Rattle.cxl_model.specs.Bytes.{slot_length, LiesInSpan};
+ghost use Rattle.cxl_model.specs.Bytes.{LiesInSpan};
 ghost use Rattle.cxl_move.specs.Sides.{IsPieceAt};
-ghost use Rattle.cxl_move.specs.inner.Steps.{IsSpanByte};
+ghost use Rattle.cxl_move.specs.Slots.{IsByteOfSlot};
 
 use crate::side::Side;
+use crate::slots::span_byte;
 use cxl_deal::{Dealt, deal, gather, region_fills_slots};
 use cxl_media::At;
 use cxl_model::{
@@ -75,51 +75,20 @@ pub(crate) fn piece_at(side: &Side<'_>, at: At) -> Option<u64>
     region_fills_slots();
     bytes_are_carried_one_to_one();
     pieces_are_carried_whole();
-    let byte = span_byte(side.found, at)?;
+    let byte = block_byte(side.found, at)?;
     let weave = weave_of(side.found, side.window);
     let h = gather(&weave, byte.slot, byte.offset);
     Some((h - side.found.base) / 256)
 }
 
 /// Where the first byte of a block lies in the region's spans, where it lies in one.
-fn span_byte(found: &Found, at: At) -> Option<Dealt>
+fn block_byte(found: &Found, at: At) -> Option<Dealt>
     requires { (s : System) × IsSystem s × IsRegion s found.now }
-    ensures some { IfSome result (λ byte. IsSpanByte found.now at.ep (256 * at.block) byte.slot byte.offset) }
+    ensures some { IfSome result (λ byte. IsByteOfSlot found.now at.ep (256 * at.block) byte.slot byte.offset) }
     ensures none { IfNone result (LiesInSpan found.now at.ep (256 * at.block) → ⊥) }
 {
     weaves_fill_their_regions();
     slots_are_endpoints();
-    let slot = slot_on(found, at.ep)?;
-    let start = found.spans.items()[slot].start;
     let dpa = at.block.checked_mul(256)?;
-    if dpa < start || dpa - start >= slot_length(found) {
-        return None;
-    }
-    Some(Dealt {
-        slot: slot as u32,
-        offset: dpa - start,
-    })
-}
-
-/// The first slot whose span lies on the endpoint's device, where one does.
-fn slot_on(found: &Found, ep: u32) -> Option<usize>
-    ensures some { IfSome result (λ slot. IsSomeAnd (slice_get found.now.spans slot) (λ place. place.endpoint ≡ ep)) }
-    ensures none { IfNone result ((slot : ℕ) (place : Place) → slice_get found.now.spans slot ≡ Some place
-        → place.endpoint ≡ ep → ⊥) }
-{
-    found
-        .spans
-        .items()
-        .iter()
-        .position(|place| place.endpoint == ep)
-}
-
-/// How many bytes of a device each slot has.
-pub(crate) fn slot_length(found: &Found) -> u64
-    requires { (s : System) × IsSystem s × IsRegion s found.now }
-    ensures { result ≡ slot_length found.now }
-{
-    weaves_fill_their_regions();
-    region_fills_slots();
-    found.size / u64::from(found.ways)
+    span_byte(found, at.ep, dpa)
 }

@@ -4,7 +4,7 @@ ghost use Rattle.cxl_model.specs.System.{System, IsSystem};
 ghost use Rattle.cxl_model.specs.Regions.{IsRegion};
 ghost use Rattle.cxl_move.specs.Sides.{IsCleared};
 
-use crate::pieces::slot_length;
+use crate::slots::slot_length;
 use cxl_media::Media;
 use cxl_model::{
     Found, bytes_are_carried_one_to_one, carries_where_chain_ends, pieces_are_carried_whole,

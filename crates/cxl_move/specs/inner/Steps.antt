@@ -1,20 +1,10 @@
--- One piece at a time: where a byte of a device lies in a region's spans, and a piece that goes to another block.
-use Rattle.std.specs.Prelude.{◌≡◌, ◌≢◌, ℕ, ◌+◌, ◌<◌, List, slice_get, Option, Some}
+-- One piece at a time: a piece that goes to another block.
+use Rattle.std.specs.Prelude.{◌≡◌, ◌≢◌, ℕ, List, Option, Some}
 use Rattle.std.specs.FinMap as map
 use Rattle.cxl_media.specs.Blocks.{Key, Blocks}
 use Rattle.cxl_model.specs.declared.found.Found.{Found}
-use Rattle.cxl_model.specs.declared.found.Place.{Place}
-use Rattle.cxl_model.specs.Bytes.{slot_length}
 use Rattle.cxl_window.specs.Fields.{WindowFields}
 use Rattle.cxl_move.specs.Sides.{IsPieceAt}
-
--- the byte of the endpoint's device lies so far into the span of this slot
-pub record IsSpanByte (found : Found) (endpoint dpa slot offset : ℕ) : Type 0 where
-  pub place : Place
-  pub there : slice_get found.spans slot ≡ Some place
-  pub here : place.endpoint ≡ endpoint
-  pub at : place.start + offset ≡ dpa
-  pub within : offset < slot_length found
 
 -- a block stands there, and the region carries this piece to it
 pub record HasPieceAt (found : Found) (w : WindowFields) (place : Option Key) (n : ℕ) : Type 0 where

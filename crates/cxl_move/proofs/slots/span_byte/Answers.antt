@@ -2,8 +2,8 @@ use Rattle.std.proofs.Common.{ℕ, List, get_or, arith}
 use Rattle.cxl_model.specs.declared.found.Found.{Found}
 use Rattle.cxl_model.specs.declared.found.Place.{Place}
 use Rattle.cxl_move.proofs.Dealt.{slot_within, lies_there, byte_there}
-use Rattle.cxl_session.proofs.upward.span_byte.Goals as goal
-use Rattle.cxl_session.proofs.upward.span_byte.Goals.{then-dpa-start-via-then-dpa-start, then-dpa-start-via-else-dpa-start+then-dpa-start-2}
+use Rattle.cxl_move.proofs.slots.span_byte.Goals as goal
+use Rattle.cxl_move.proofs.slots.span_byte.Goals.{then-dpa-start-via-then-dpa-start, then-dpa-start-via-else-dpa-start+then-dpa-start-2}
 
 pub returns-then-dpa-start-clause-none : goal.returns-then-dpa-start-clause-none
 returns-then-dpa-start-clause-none c = λ lies.
