@@ -3,7 +3,7 @@
 ghost use Rattle.std.specs.Prelude.{◌≡◌, ◌<◌, length, position, find};
 ghost use Rattle.cxl_regs.specs.Reading.{has_range};
 ghost use Rattle.cxl_model.specs.Ranges.{serves, decoder_for, index_for};
-ghost use Rattle.cxl_check.specs.inner.Ready.{blocks_alone};
+ghost use Rattle.cxl_model.specs.System.{blocks_alone};
 
 use cxl_image::Image;
 use cxl_regs::{Block, Decoder, Range};

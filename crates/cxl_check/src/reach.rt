@@ -5,8 +5,8 @@ ghost use Rattle.std.specs.List.{list_any};
 ghost use Rattle.cxl_regs.specs.Reading.{has_range, entries_of, range_of};
 ghost use Rattle.cxl_model.specs.Hosts.{as_system};
 ghost use Rattle.cxl_model.specs.Rules.{lists, uid_above, is_targeted, keeps_reach};
+ghost use Rattle.cxl_model.specs.System.{blocks_alone};
 ghost use Rattle.cxl_check.specs.inner.Known.{IsKnownAs};
-ghost use Rattle.cxl_check.specs.inner.Ready.{blocks_alone};
 
 use crate::known::{Known, window_of};
 use cxl_image::Image;

@@ -39,6 +39,10 @@ decoders_at s n = option_map_or (λ block. block.decoders) (slice_get s.blocks n
 abbrev pub decoder_at : System → ℕ → ℕ → Option Decoder
 decoder_at s n i = slice_get (decoders_at s n) i
 
+-- blocks alone, for what speaks of no tree and no window
+abbrev pub blocks_alone : List Registers → System
+blocks_alone blocks = record { nodes = []; blocks = blocks; windows = [] }
+
 -- the bytes of ram and of pmem of its device; a port has none
 abbrev pub capacity_at : System → ℕ → Option Capacity
 capacity_at s n = device_at s.nodes n

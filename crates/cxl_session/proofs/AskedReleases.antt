@@ -12,7 +12,7 @@ use Rattle.std.proofs.lemmas.Slice.Eq.{bytes_eq-Decides}
 use Rattle.cxl_topo.specs.declared.node.Node.{Node}
 use Rattle.cxl_model.specs.declared.found.Found.{Found}
 use Rattle.cxl_model.specs.declared.plan.Row.{Row}
-use Rattle.cxl_model.specs.System.{system_of}
+use Rattle.cxl_model.specs.System.{system_of, blocks_alone}
 use Rattle.cxl_regs.specs.Registers.{Registers}
 use Rattle.cxl_apply.specs.Releases.{rows_of, first_locked, first_not_last}
 use Rattle.cxl_reply.specs.declared.reply.Reply.{Reply}
@@ -28,7 +28,7 @@ use Rattle.cxl_session.specs.Inside.{job_fields, state_of, HasRooms}
 use Rattle.cxl_session.specs.State.{SessionState}
 use Rattle.cxl_session.specs.Standing.{StandsFor}
 use Rattle.cxl_session.specs.inner.Requests.{IsRelease}
-use Rattle.cxl_session.specs.inner.Rows.{blocks_alone, is_locked, is_not_last}
+use Rattle.cxl_session.specs.inner.Rows.{is_locked, is_not_last}
 use Rattle.cxl_session.proofs.PendingJobs.{no_job}
 use Rattle.cxl_session.proofs.Places.{within, position_or_len-map, stands_at}
 

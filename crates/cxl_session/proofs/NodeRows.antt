@@ -13,9 +13,10 @@ use Rattle.cxl_regs.specs.Registers.{Registers}
 use Rattle.cxl_regs.specs.Writes.{any_committed}
 use Rattle.cxl_model.specs.declared.plan.Row.{Row}
 use Rattle.cxl_apply.specs.Releases.{row_for}
+use Rattle.cxl_model.specs.System.{blocks_alone}
 use Rattle.cxl_check.proofs.Numbers.{numbers_more}
 use Rattle.cxl_check.proofs.Searches.{position_is, position_none}
-use Rattle.cxl_session.specs.inner.Rows.{blocks_alone, is_not_last}
+use Rattle.cxl_session.specs.inner.Rows.{is_not_last}
 
 -- ---- one node more
 

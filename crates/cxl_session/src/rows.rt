@@ -2,10 +2,10 @@
 
 ghost use Rattle.std.specs.Prelude.{◌≡◌, ◌+◌, ◌<◌, [], length, drop, find, slice_get, Some, IfOk};
 ghost use Rattle.cxl_regs.specs.Writes.{any_committed};
-ghost use Rattle.cxl_model.specs.System.{system_of};
+ghost use Rattle.cxl_model.specs.System.{system_of, blocks_alone};
 ghost use Rattle.cxl_model.specs.Regions.{region_range};
 ghost use Rattle.cxl_apply.specs.Releases.{row_for, rows_of};
-ghost use Rattle.cxl_session.specs.inner.Rows.{blocks_alone, is_not_last, is_locked};
+ghost use Rattle.cxl_session.specs.inner.Rows.{is_not_last, is_locked};
 
 use cxl_enc::Memory;
 use cxl_image::Image;

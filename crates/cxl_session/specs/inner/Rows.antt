@@ -1,13 +1,9 @@
 -- The decoders of a region, by the blocks of an image alone.
-use Rattle.std.specs.Prelude.{◌≡◌, ◌+◌, Bool, List, [], drop, Some}
+use Rattle.std.specs.Prelude.{◌≡◌, ◌+◌, Bool, List, drop, Some}
 use Rattle.cxl_regs.specs.Registers.{Registers}
 use Rattle.cxl_regs.specs.Writes.{any_committed}
 use Rattle.cxl_model.specs.declared.plan.Row.{Row}
-use Rattle.cxl_model.specs.System.{System, decoders_at, decoder_at}
-
--- a node's decoders follow from the blocks
-abbrev pub blocks_alone : List Registers → System
-blocks_alone blocks = record { nodes = []; blocks = blocks; windows = [] }
+use Rattle.cxl_model.specs.System.{System, decoders_at, decoder_at, blocks_alone}
 
 abbrev pub is_locked : Row → Bool
 is_locked row = row.decoder.lock

@@ -1,8 +1,7 @@
 use Rattle.std.proofs.Common.{sym, ap, ◌∙◌}
 use Rattle.std.specs.Prelude.{is_some}
 use Rattle.cxl_regs.specs.Reading.{has_range}
-use Rattle.cxl_model.specs.System.{decoders_at}
-use Rattle.cxl_check.specs.inner.Ready.{blocks_alone}
+use Rattle.cxl_model.specs.System.{decoders_at, blocks_alone}
 use Rattle.cxl_check.proofs.Searches.{list_any_by_position}
 use Rattle.cxl_check.proofs.decoders.serves.Goals as goal
 

@@ -2,7 +2,7 @@ use Rattle.std.proofs.Common.{sym, ap, ◌∙◌, Vec, Global}
 use Rattle.cxl_model.specs.declared.plan.Row.{Row}
 use Rattle.cxl_model.specs.Regions.{region_range}
 use Rattle.cxl_apply.specs.Releases.{row_for}
-use Rattle.cxl_session.specs.inner.Rows.{blocks_alone}
+use Rattle.cxl_model.specs.System.{blocks_alone}
 use Rattle.cxl_session.proofs.NodeRows.{some_more, none_more}
 use Rattle.cxl_session.proofs.rows.region_rows.Goals as goal
 use Rattle.cxl_session.proofs.rows.region_rows.Goals.{in-Some+in_ok-push, in_default}

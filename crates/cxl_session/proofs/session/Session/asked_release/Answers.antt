@@ -3,9 +3,10 @@ use Rattle.std.specs.Prelude.{find, position, option_map}
 use Rattle.std.specs.Str.{bytes_eq}
 use Rattle.cxl_reply.specs.declared.reply.Reply.TheVariants as replies
 use Rattle.cxl_reply.specs.declared.told.Spot.{Spot}
+use Rattle.cxl_model.specs.System.{blocks_alone}
 use Rattle.cxl_session.specs.Inside.{job_fields}
 use Rattle.cxl_session.specs.State.{SessionState}
-use Rattle.cxl_session.specs.inner.Rows.{blocks_alone, is_locked, is_not_last}
+use Rattle.cxl_session.specs.inner.Rows.{is_locked, is_not_last}
 use Rattle.cxl_session.proofs.AskedReleases.{found_inside, found_unnamed, found_locked, found_below, found_release}
 use Rattle.cxl_session.proofs.session.Session.asked_release.Goals as goal
 
