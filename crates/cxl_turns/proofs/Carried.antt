@@ -20,7 +20,7 @@ use Rattle.cxl_machine.proofs.Leaving.{quiet_turn}
 use Rattle.cxl_machine.proofs.WritingNothing.{quiet_words}
 use Rattle.cxl_session.specs.State.{SessionState}
 use Rattle.cxl_session.specs.Standing.{StandsFor, IsAt, HasTaken}
-use Rattle.cxl_turns.specs.inner.Carried.{IsAnswered, IsCutShort, IsLeft}
+use Rattle.cxl_turns.specs.inner.Carried.{IsAnswered, IsCutOff, IsLeft}
 use Rattle.cxl_turns.proofs.Going.{trail_with-nil, rose_none, text_one, gone_none, gone_one}
 use Rattle.cxl_turns.proofs.Silent.{silent_turn}
 
@@ -73,7 +73,7 @@ module _ (m : Machine) (one : Asked) (turn : Turn) (reply : Reply) (nodes : List
     unswallowed = left;
   }
 
-  pub cut_one : TakesPrefix before after (reply_text nodes reply) → Rose before.faults after.faults → IsCutShort m (one ∷ []) session old new media before after
+  pub cut_one : TakesPrefix before after (reply_text nodes reply) → Rose before.faults after.faults → IsCutOff m (one ∷ []) session old new media before after
   cut_one cut rose = record {
     turn = turn;
     gone = gone_one m session old new media one turn reply takes taken;

@@ -13,7 +13,7 @@ use Rattle.cxl_machine.specs.Turns.{machine_after}
 use Rattle.cxl_session.specs.State.{SessionState}
 use Rattle.cxl_session.specs.Standing.{IsAt, Stands, ForEachMachine}
 use Rattle.cxl_turns.specs.declared.counts.Counts.{Counts}
-use Rattle.cxl_turns.specs.Counts.{is_created, is_stored, is_loaded, is_unmapped, loaded_sum, counts_of}
+use Rattle.cxl_turns.specs.Counts.{is_created, is_stored, is_loaded, is_unmapped_reply, loaded_sum, counts_of}
 use Rattle.cxl_turns.specs.Going.{HasGoneOn}
 use Rattle.cxl_turns.specs.inner.Counted.{one_if, counted}
 use Rattle.cxl_turns.proofs.Going.{gone_same, gone_still, gone_both}
@@ -37,7 +37,7 @@ fields a b c d s a' b' c' d' s' ea eb ec ed es = cc
 
 counts_more : (replies : List Reply) (reply : Reply) → counts_of (replies ++ reply ∷ []) ≡ counted (counts_of replies) reply
 counts_more replies reply =
-    fields _ _ _ _ _ _ _ _ _ _ (count_more is_created replies reply) (count_more is_stored replies reply) (count_more is_loaded replies reply) (count_more is_unmapped replies reply) (sum_more replies reply)
+    fields _ _ _ _ _ _ _ _ _ _ (count_more is_created replies reply) (count_more is_stored replies reply) (count_more is_loaded replies reply) (count_more is_unmapped_reply replies reply) (sum_more replies reply)
 
 -- ---- commands
 

@@ -34,7 +34,7 @@ use Rattle.cxl_turns.specs.declared.stops.Stop.{Stop}
 use Rattle.cxl_turns.specs.declared.stops.Stop.TheVariants as stops
 use Rattle.cxl_turns.specs.Going.{HasGoneOn}
 use Rattle.cxl_turns.specs.Endings.{AreFirstLines, StopsReading, IsCutBehind, EndsLines, read_out, reply_cut, runs_out}
-use Rattle.cxl_turns.specs.inner.Carried.{IsAnswered, IsCutShort, IsLeft}
+use Rattle.cxl_turns.specs.inner.Carried.{IsAnswered, IsCutOff, IsLeft}
 use Rattle.cxl_turns.proofs.FirstLines.{GoesOnOrEnds, first_lines, first_but_last, no_first_lines, goes_on_or_ends, fault_rose}
 use Rattle.cxl_turns.proofs.Going.{nodes_after, text_both, gone_same, gone_still, gone_both}
 use Rattle.cxl_turns.proofs.Carried.{answered_none, takes_none}
@@ -172,7 +172,7 @@ module _ (reader next : Reader) (start now later : Stage) (run : HaveRun reader 
               (subst (λ nodes. Takes now.sink later.sink (text_of nodes others)) (nodes_after m (lines_asked run.passed) turns are) second))
 
   -- the sink failed in its reply
-  pub run_cut : EachFrom now (λ m. IsCutShort m asked later.session now.regs later.regs later.media now.sink later.sink) → End start later endings.WriteFault
+  pub run_cut : EachFrom now (λ m. IsCutOff m asked later.session now.regs later.regs later.media now.sink later.sink) → End start later endings.WriteFault
   run_cut each m at =
       let was = run.each m at in
       let more = each (machine_after m was.turns) was.gone.at in (
@@ -215,7 +215,7 @@ pub record Took (passed : List (List ℕ)) (next : Reader) (start now later : St
   pub asked : List Asked
   pub one : ReadsOne passed next start.script later.script asked
   pub answered : OnOk result (EachFrom now (λ m. IsAnswered m asked later.session now.regs later.regs later.media now.sink later.sink))
-  pub cut : result ≡ Err stops.Sink → EachFrom now (λ m. IsCutShort m asked later.session now.regs later.regs later.media now.sink later.sink)
+  pub cut : result ≡ Err stops.Sink → EachFrom now (λ m. IsCutOff m asked later.session now.regs later.regs later.media now.sink later.sink)
   pub left : result ≡ Err stops.Memory → EachFrom now (λ m. IsLeft m later.session now.regs later.regs later.media now.sink later.sink)
   pub source : now.script.faults ≤ later.script.faults
   pub sink : now.sink.faults ≤ later.sink.faults
@@ -236,7 +236,7 @@ took_so passed next start now script session session' regs regs' media media' si
 -- what `carry_out_line` and `tell_bad_line` say of one
 pub record Carries (now : Stage) (session : SessionState) (regs : RegsState) (media : MediaState) (told : SinkState) (asked : List Asked) (result : Result (Unit {0}) Stop) : Type 0 where
   pub answered : OnOk result (EachFrom now (λ m. IsAnswered m asked session now.regs regs media now.sink told))
-  pub cut : result ≡ Err stops.Sink → EachFrom now (λ m. IsCutShort m asked session now.regs regs media now.sink told)
+  pub cut : result ≡ Err stops.Sink → EachFrom now (λ m. IsCutOff m asked session now.regs regs media now.sink told)
   pub left : result ≡ Err stops.Memory → EachFrom now (λ m. IsLeft m session now.regs regs media now.sink told)
   pub sink : now.sink.faults ≤ told.faults
   pub bus : now.regs.faults ≤ regs.faults

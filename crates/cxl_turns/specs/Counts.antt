@@ -16,9 +16,9 @@ abbrev pub is_loaded : Reply → Bool
 is_loaded (replies.Loaded bytes) = true
 is_loaded other = false
 
-abbrev pub is_unmapped : Reply → Bool
-is_unmapped replies.Unmapped = true
-is_unmapped other = false
+abbrev pub is_unmapped_reply : Reply → Bool
+is_unmapped_reply replies.Unmapped = true
+is_unmapped_reply other = false
 
 -- the bytes of a load, added up
 abbrev pub loaded_sum : Reply → ℕ
@@ -31,6 +31,6 @@ counts_of replies = record {
   regions = count_by is_created replies;
   stores = count_by is_stored replies;
   loads = count_by is_loaded replies;
-  unmapped = count_by is_unmapped replies;
+  unmapped = count_by is_unmapped_reply replies;
   sum = sum_by loaded_sum replies;
 }

@@ -8,7 +8,7 @@ ghost use Rattle.cxl_machine.specs.Machine.{Machine};
 ghost use Rattle.cxl_machine.specs.Scripts.{lines_asked};
 ghost use Rattle.cxl_session.specs.Standing.{IsAt, Stands, ForEachMachine};
 ghost use Rattle.cxl_turns.specs.declared.stops.Stop.TheVariants as stops;
-ghost use Rattle.cxl_turns.specs.inner.Carried.{IsAnswered, IsCutShort, IsLeft};
+ghost use Rattle.cxl_turns.specs.inner.Carried.{IsAnswered, IsCutOff, IsLeft};
 
 use crate::replies::write_reply;
 use crate::stops::Stop;
@@ -36,7 +36,7 @@ pub(crate) fn carry_out_line<K: Sink, R: Regs, M: Roll>(
         IsAnswered m (lines_asked (line.now ∷ [])) session.new (R.state regs.old) (R.state regs.new) (M.state media.new)
         (K.state out.old) (K.state out.new))) }
     ensures cut { result ≡ Err stops.Sink → ForEachMachine session.old (R.state regs.old) (M.state media.old) (λ m.
-        IsCutShort m (lines_asked (line.now ∷ [])) session.new (R.state regs.old) (R.state regs.new) (M.state media.new)
+        IsCutOff m (lines_asked (line.now ∷ [])) session.new (R.state regs.old) (R.state regs.new) (M.state media.new)
         (K.state out.old) (K.state out.new)) }
     ensures left { result ≡ Err stops.Memory → ForEachMachine session.old (R.state regs.old) (M.state media.old) (λ m.
         IsLeft m session.new (R.state regs.old) (R.state regs.new) (M.state media.new) (K.state out.old) (K.state out.new)) }
@@ -68,7 +68,7 @@ fn carry_out_command<K: Sink, R: Regs, M: Roll>(
         IsAnswered m (Ok command.now ∷ []) session.new (R.state regs.old) (R.state regs.new) (M.state media.new)
         (K.state out.old) (K.state out.new))) }
     ensures cut { result ≡ Err stops.Sink → ForEachMachine session.old (R.state regs.old) (M.state media.old) (λ m.
-        IsCutShort m (Ok command.now ∷ []) session.new (R.state regs.old) (R.state regs.new) (M.state media.new)
+        IsCutOff m (Ok command.now ∷ []) session.new (R.state regs.old) (R.state regs.new) (M.state media.new)
         (K.state out.old) (K.state out.new)) }
     ensures left { result ≡ Err stops.Memory → ForEachMachine session.old (R.state regs.old) (M.state media.old) (λ m.
         IsLeft m session.new (R.state regs.old) (R.state regs.new) (M.state media.new) (K.state out.old) (K.state out.new)) }
@@ -90,7 +90,7 @@ pub(crate) fn tell_bad_line<K: Sink>(
     ensures answered { OnOk result ((m : Machine) (regs : RegsState) (media : MediaState) → IsAt session.now regs media m
         → IsAnswered m (Err fault ∷ []) session.now regs regs media (K.state out.old) (K.state out.new)) }
     ensures cut { result ≡ Err stops.Sink → (m : Machine) (regs : RegsState) (media : MediaState) → IsAt session.now regs media m
-        → IsCutShort m (Err fault ∷ []) session.now regs regs media (K.state out.old) (K.state out.new) }
+        → IsCutOff m (Err fault ∷ []) session.now regs regs media (K.state out.old) (K.state out.new) }
     ensures left { result ≡ Err stops.Memory → (m : Machine) (regs : RegsState) (media : MediaState) → IsAt session.now regs media m
         → IsLeft m session.now regs regs media (K.state out.old) (K.state out.new) }
     ensures sink { (K.state out.old).faults ≤ (K.state out.new).faults }

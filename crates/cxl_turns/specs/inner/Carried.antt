@@ -20,7 +20,7 @@ pub record IsAnswered (m : Machine) (asked : List Asked) (session : SessionState
   pub unswallowed : LeavesCount before.counts_failures_alone before.faults after.faults
 
 -- it is answered, and the sink failed in the reply
-pub record IsCutShort (m : Machine) (asked : List Asked) (session : SessionState) (old new : RegsState) (media : MediaState) (before after : SinkState) : Type 0 where
+pub record IsCutOff (m : Machine) (asked : List Asked) (session : SessionState) (old new : RegsState) (media : MediaState) (before after : SinkState) : Type 0 where
   pub turn : Turn
   pub gone : HasGoneOn m asked (turn ∷ []) session old new media
   pub rose : Rose before.faults after.faults

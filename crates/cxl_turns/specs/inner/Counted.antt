@@ -4,7 +4,7 @@ use Rattle.cxl_script.specs.Grammar.{access_limit}
 use Rattle.cxl_reply.specs.declared.reply.Reply.{Reply}
 use Rattle.cxl_reply.specs.declared.reply.Reply.TheVariants as replies
 use Rattle.cxl_turns.specs.declared.counts.Counts.{Counts}
-use Rattle.cxl_turns.specs.Counts.{is_created, is_stored, is_loaded, is_unmapped, loaded_sum}
+use Rattle.cxl_turns.specs.Counts.{is_created, is_stored, is_loaded, is_unmapped_reply, loaded_sum}
 
 abbrev pub one_if : Bool → ℕ
 one_if true = 1
@@ -16,7 +16,7 @@ counted counts reply = record {
   regions = counts.regions + one_if (is_created reply);
   stores = counts.stores + one_if (is_stored reply);
   loads = counts.loads + one_if (is_loaded reply);
-  unmapped = counts.unmapped + one_if (is_unmapped reply);
+  unmapped = counts.unmapped + one_if (is_unmapped_reply reply);
   sum = counts.sum + loaded_sum reply;
 }
 
