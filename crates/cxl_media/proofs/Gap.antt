@@ -213,22 +213,21 @@ pub some_of : (o : Option Cell) → IsSome o → (p : Cell) × (o ≡ Some p)
 some_of None taken = absurd (false≢true taken)
 some_of (Some p) taken = (p, refl)
 
--- a block was taken out, in the words of the code
-module _ (home : Key → ℕ) (cells : Cells) (at : ℕ) (dest : Option Cell) (table : IsTable home cells) (taken : IsSome (cell_at cells at)) (none : dest ≡ None) where
+-- a block was taken out
+module _ (home : Key → ℕ) (cells : Cells) (at : ℕ) (table : IsTable home cells) (taken : IsSome (cell_at cells at)) where
   pub out_within : at < length cells
   out_within = let found = some_of (cell_at cells at) taken in cell_within cells at found.0 found.1
 
-  pub out_hole : HasHole home (set cells at dest) at
+  pub out_hole : HasHole home (set cells at None) at
   out_hole =
       let found = some_of (cell_at cells at) taken in
-      subst (λ (o : Option Cell). HasHole home (set cells at o) at) (sym none) (left_hole home cells at found.0 table out_within found.1)
+      left_hole home cells at found.0 table out_within found.1
 
-  pub out_frames : (o : Option Cell) → o ≡ cell_at cells at → IfSome o (λ p. frames_in (set cells at dest) ≡ remove (frames_in cells) (key_at p))
+  pub out_frames : (o : Option Cell) → o ≡ cell_at cells at → IfSome o (λ p. frames_in (set cells at None) ≡ remove (frames_in cells) (key_at p))
   out_frames None is = tt
-  out_frames (Some p) is =
-      subst (λ (o : Option Cell). frames_in (set cells at o) ≡ remove (frames_in cells) (key_at p)) (sym none) (left_frames home cells at p table out_within (sym is))
+  out_frames (Some p) is = left_frames home cells at p table out_within (sym is)
 
-  pub out_later : (test : Key → Bool) → NonePass test cells (at + 1) → NonePass test (set cells at dest) (at + 1)
+  pub out_later : (test : Key → Bool) → NonePass test cells (at + 1) → NonePass test (set cells at None) (at + 1)
   out_later test later k p above is =
       let other : k ≢ at = omega arith in
-      later k p above (sym (elsewhere cells at dest out_within k other) ∙ is)
+      later k p above (sym (elsewhere cells at None out_within k other) ∙ is)

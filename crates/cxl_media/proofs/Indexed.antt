@@ -1,7 +1,7 @@
 -- What the index has at a key, and what adding a block or taking one out does to it.
-use Rattle.std.proofs.Common.{◌≡◌, ◌≢◌, ℕ, zero, suc, ◌-◌, ◌*◌, ◌<◌, ◌≤◌, Bool, true, false, cond, [], ◌++◌, length, take, drop, set, replicate, Option, None, Some, IsSome, refl, sym, ap, subst, ◌∙◌, inl, inr, arith}
+use Rattle.std.proofs.Common.{◌≡◌, ◌≢◌, ℕ, zero, suc, ◌-◌, ◌*◌, ◌<◌, ◌≤◌, Bool, true, false, cond, [], length, set, replicate, Option, None, Some, IsSome, refl, sym, ap, subst, ◌∙◌, inl, inr, arith}
 use Rattle.std.proofs.lemmas.Bool.{cases_order}
-use Rattle.std.proofs.lemmas.List.{length-set, take_at}
+use Rattle.std.proofs.lemmas.List.{length-set}
 use Rattle.std.specs.Prelude.{IfSome, IfNone}
 use Rattle.std.specs.FinMap as fin
 use Rattle.cxl_media.specs.declared.cell.Cell.{Cell}
@@ -107,6 +107,18 @@ module _ (cells : Cells) (room : ℕ) (t : Table) (key : Key) (at : ℕ) (p : Ce
   pub adds_frames : frames_in (set cells at (Some p)) ≡ fin.insert (frames_in t.cells) key p.frame
   adds_frames = add_frames cells room key at index inner_stop p is_key inner_absent inner_more ∙ ap (λ (u : Table). fin.insert (frames_in u.cells) key p.frame) view
 
+  pub adds_room : (frame : ℕ) → frame < t.room → 3 * frame < length cells
+  adds_room frame few =
+      let same : room ≡ t.room = ap (λ (u : Table). u.room) view in
+      omega (arith, few, same, index.size)
+
+  pub adds_own : (frame : ℕ) → ((q : Key) → fin.get (frames_in t.cells) q ≢ Some frame) → (k : ℕ) (r : Cell) → cell_at cells k ≡ Some r → r.frame ≢ frame
+  adds_own frame own k r is same =
+      own (key_at r) (sym (ap (λ (u : Table). fin.get (frames_in u.cells) (key_at r)) view)
+      ∙ get_frames cells (key_at r)
+      ∙ find_item cells k r (key_at r) index.table.once is refl
+      ∙ ap (λ n. Some n) same)
+
 -- no block stands in a new table
 pub frames_new : (n : ℕ) → frames_in (replicate n None) ≡ fin.empty
 frames_new n = ap fin.from_entries (no_items n)
@@ -115,33 +127,22 @@ frames_new n = ap fin.from_entries (no_items n)
     no_items zero = refl
     no_items (suc n) = no_items n
 
--- a block is taken out, in the words of the code: kept is what the slice of the cells ends as, lent what it was
-module _ (cells lent kept : Cells) (room : ℕ) (size : ℕ) (index : IsIndex cells room) (same : lent ≡ cells) (total : size ≡ length cells) (length_kept : length kept ≡ length lent) where
-  whole_length : length kept ≡ length cells
-  whole_length = length_kept ∙ ap length same
-
-  pub kept_whole : take size (kept ++ drop (length kept) cells) ≡ kept
-  kept_whole = take_at kept (drop (length kept) cells) size (whole_length ∙ sym total)
-
-  pub kept_index : (key : Key) → IsTable (home_of (2 * room)) kept → frames_in kept ≡ fin.remove (frames_in lent) key → IsIndex (take size (kept ++ drop (length kept) cells)) room
-  kept_index key table frames =
-      let less = frames ∙ ap (λ (ps : Cells). fin.remove (frames_in ps) key) same in
-      let fewer : fin.len (frames_in kept) ≤ fin.len (frames_in cells) = omega (arith, ap fin.len less, fin.len-remove key_total (frames_in cells) key, fewer_by (fin.contains_key (frames_in cells) key) (fin.len (frames_in cells))) in
-      rw kept_whole (record {
-        table = table;
-        size = whole_length ∙ index.size;
-        few = omega (arith, fewer, len_frames kept table.once, len_frames cells index.table.once, index.few);
-        small = index.small;
-      })
-    where
-      fewer_by : (b : Bool) (n : ℕ) → cond b (n - 1) n ≤ n
-      fewer_by true n = omega arith
-      fewer_by false n = omega arith
+-- a block is taken out
+pub kept_index : (cells kept : Cells) (room : ℕ) (key : Key) → IsIndex cells room → length kept ≡ length cells → IsTable (home_of (2 * room)) kept → frames_in kept ≡ fin.remove (frames_in cells) key → IsIndex kept room
+kept_index cells kept room key index size table less = record {
+  table = table;
+  size = size ∙ index.size;
+  few = omega (arith, ap fin.len less, fin.len-remove key_total (frames_in cells) key, fewer_by (fin.contains_key (frames_in cells) key) (fin.len (frames_in cells)), len_frames kept table.once, len_frames cells index.table.once, index.few);
+  small = index.small;
+}
+  where
+    fewer_by : (b : Bool) (n : ℕ) → cond b (n - 1) n ≤ n
+    fewer_by true n = omega arith
+    fewer_by false n = omega arith
 
 -- a block that stands at a cell has the frame there
-pub frame_here : (cells lent : Cells) (room at : ℕ) (t : Table) (p : Cell) → ◌≡◌ {A = Table} (record { cells = cells; room = room }) t → IsIndex cells room → lent ≡ cells → Some p ≡ cell_at lent at → IfSome (cell_at t.cells at) (λ q. fin.get (frames_in t.cells) (key_at q) ≡ Some p.frame)
-frame_here cells lent room at t p view index same is =
-    let here : cell_at cells at ≡ Some p = sym (is ∙ ap (λ (ps : Cells). cell_at ps at) same) in
+pub frame_here : (cells : Cells) (room at : ℕ) (t : Table) (p : Cell) → ◌≡◌ {A = Table} (record { cells = cells; room = room }) t → IsIndex cells room → Some p ≡ cell_at cells at → IfSome (cell_at t.cells at) (λ q. fin.get (frames_in t.cells) (key_at q) ≡ Some p.frame)
+frame_here cells room at t p view index is =
     subst (λ (u : Table). IfSome (cell_at u.cells at) (λ q. fin.get (frames_in u.cells) (key_at q) ≡ Some p.frame)) view
-    (subst (λ (o : Option Cell). IfSome o (λ q. fin.get (frames_in cells) (key_at q) ≡ Some p.frame)) (sym here)
-    (get_frames cells (key_at p) ∙ find_item cells at p (key_at p) index.table.once here refl))
+    (subst (λ (o : Option Cell). IfSome o (λ q. fin.get (frames_in cells) (key_at q) ≡ Some p.frame)) is
+    (get_frames cells (key_at p) ∙ find_item cells at p (key_at p) index.table.once (sym is) refl))

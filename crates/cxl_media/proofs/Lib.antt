@@ -6,6 +6,7 @@ pub mod Tables
 pub mod Below
 pub mod Changes
 pub mod Gap
+pub mod CellLists
 pub mod Homes
 pub mod Indexed
 pub mod Values

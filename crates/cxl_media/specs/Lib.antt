@@ -6,3 +6,4 @@ pub mod Table
 pub mod Hash
 pub mod Index
 pub mod Sim
+pub mod CellList

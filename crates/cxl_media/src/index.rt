@@ -1,4 +1,4 @@
-ghost use Rattle.std.specs.Prelude.{◌≡◌, ℕ, ◌+◌, ◌*◌, ◌%◌, ◌<◌, ◌≤◌, Bool, [], None, IfOk, IsSome, Some, IfSome, IfNone, is_some, length, take, if◌then◌else◌};
+ghost use Rattle.std.specs.Prelude.{◌≡◌, ◌≢◌, ℕ, ◌+◌, ◌*◌, ◌%◌, ◌<◌, ◌≤◌, Bool, [], None, IfOk, IsSome, Some, IfSome, IfNone, is_some, length, take, if◌then◌else◌};
 ghost use Rattle.std.specs.Option.{option_copied};
 ghost use Rattle.std.specs.FinMap as map;
 ghost use Rattle.cxl_enc.specs.Limits.{frame_limit};
@@ -8,6 +8,7 @@ ghost use Rattle.cxl_media.specs.Hash.{home_of};
 
 use crate::bytes::is_between;
 use crate::cell::Cell;
+use crate::cell_list::CellList;
 use crate::probe::{home, seek, take_out};
 use cxl_enc::Memory;
 use cxl_pool::Frame;
@@ -18,7 +19,7 @@ use std::marker::Model;
 /// home upwards, and its home is one of the lower two thirds of the cells.
 #[derive(Drop)]
 pub struct Index {
-    cells: Vec<Option<Cell>>,
+    cells: CellList,
     room: u32,
 }
 
@@ -31,9 +32,9 @@ impl Model for Index {
 
     ghost use Rattle.cxl_media.specs.Index.{IsIndex};
 
-    ghost view = { λ a. record { cells = a.cells.items; room = a.room } };
+    ghost view = { λ a. record { cells = a.cells; room = a.room } };
 
-    ghost invariant = { λ a. IsIndex a.cells.items a.room };
+    ghost invariant = { λ a. IsIndex a.cells a.room };
 }
 
 impl Index {
@@ -43,7 +44,7 @@ impl Index {
         ensures room { result.room ≡ 0 }
     {
         Index {
-            cells: Vec::new(alloc),
+            cells: CellList::empty(alloc),
             room: 0,
         }
     }
@@ -54,11 +55,7 @@ impl Index {
         ensures frames { IfOk result (λ index. frames_in index.cells ≡ map.empty) }
         ensures room { IfOk result (λ index. index.room ≡ room) }
     {
-        let size = 3 * room as usize;
-        let mut cells = Vec::with_capacity(alloc, size)?;
-        for _at in 0..size {
-            cells.push(None)?;
-        }
+        let cells = CellList::new(alloc, room)?;
         Ok(Index { cells, room })
     }
 
@@ -82,15 +79,17 @@ impl Index {
         seek(&self.cells, home(ep, number, 2 * self.room), ep, number)
     }
 
-    /// Adds a block that is not there.
+    /// Adds a block that is not there, in a frame that no other has.
     pub fn add(&mut self, ep: u32, number: u64, frame: Frame)
         requires absent { map.get (frames_in self.old.cells) (ep, number) ≡ None }
         requires room { map.len (frames_in self.old.cells) < self.old.room }
+        requires frame { frame < self.old.room }
+        requires own_frame { (key : Key) → map.get (frames_in self.old.cells) key ≢ Some frame }
         ensures frames { frames_in self.new.cells ≡ map.insert (frames_in self.old.cells) (ep, number) frame }
         ensures room { self.new.room ≡ self.old.room }
     {
         let at = self.stop(ep, number);
-        self.cells[at] = Some(Cell { ep, number, frame });
+        self.cells.put(at, Cell { ep, number, frame });
     }
 
     /// How many cells there are.
@@ -128,11 +127,7 @@ impl Index {
     pub fn at(&self, at: usize) -> Option<&Cell>
         ensures { option_copied result ≡ cell_at self.now.cells at }
     {
-        if at < self.cells.len() {
-            self.cells[at].as_ref()
-        } else {
-            None
-        }
+        self.cells.at(at)
     }
 
     /// Takes the block at a cell out, and gives back its frame.

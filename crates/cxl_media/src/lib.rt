@@ -4,6 +4,7 @@
 
 mod bytes;
 mod cell;
+mod cell_list;
 mod index;
 mod map_media;
 mod media;

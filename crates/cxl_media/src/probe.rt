@@ -1,11 +1,12 @@
 ghost use Rattle.std.specs.Prelude.{◌≡◌, ℕ, ◌+◌, ◌↔◌, Bool, IsTrue, IsSome, IfSome, length, take};
+ghost use Rattle.std.specs.Option.{option_copied};
 ghost use Rattle.std.specs.FinMap.{remove};
 ghost use Rattle.cxl_media.specs.Blocks.{Key};
 ghost use Rattle.cxl_media.specs.Table.{key_at, cell_at, frames_in, StopsProbe, IsStop, IsTable, HasHole, NonePass};
 ghost use Rattle.cxl_media.specs.Hash.{home_of};
 
 use crate::cell::Cell;
-use std::mem;
+use crate::cell_list::CellList;
 
 /// The cell from which a block is sought. It is below `homes`, and 0 where that is.
 #[tactic(auto, unfolding(crate::specs::Hash::mixed))]
@@ -22,19 +23,19 @@ pub fn home(ep: u32, number: u64, homes: u32) -> usize
 }
 
 /// The first cell from a block's home on that is of the block or is empty; past the last cell where none is.
-pub fn seek(cells: &[Option<Cell>], home: usize, ep: u32, number: u64) -> usize
+pub fn seek(cells: &CellList, home: usize, ep: u32, number: u64) -> usize
     ensures { IsStop cells.now home (ep, number) result }
 {
     for at in home..cells.len() {
-        if stops(&cells[at], ep, number) {
+        if stops(cells.at(at), ep, number) {
             return at;
         }
     }
     cells.len()
 }
 
-fn stops(cell: &Option<Cell>, ep: u32, number: u64) -> bool
-    ensures { IsTrue result ↔ StopsProbe (ep, number) cell.now }
+fn stops(cell: Option<&Cell>, ep: u32, number: u64) -> bool
+    ensures { IsTrue result ↔ StopsProbe (ep, number) (option_copied cell.entry) }
 {
     match cell {
         None => true,
@@ -44,7 +45,7 @@ fn stops(cell: &Option<Cell>, ep: u32, number: u64) -> bool
 
 /// Takes the block at a cell out of a table. Blocks above it come down, so that a probe for each still meets it before
 /// an empty cell.
-pub fn take_out(cells: &mut [Option<Cell>], homes: u32, at: usize) -> Option<Cell>
+pub fn take_out(cells: &mut CellList, homes: u32, at: usize) -> Option<Cell>
     requires table { IsTable (home_of homes) cells.old }
     requires taken { IsSome (cell_at cells.old at) }
     ensures value { result ≡ cell_at cells.old at }
@@ -54,14 +55,14 @@ pub fn take_out(cells: &mut [Option<Cell>], homes: u32, at: usize) -> Option<Cel
     ensures below { take at cells.new ≡ take at cells.old }
     ensures length { length cells.new ≡ length cells.old }
 {
-    let taken = mem::replace(&mut cells[at], None);
+    let taken = cells.take(at);
     close(cells, homes, at);
     taken
 }
 
 // Goes through the cells above a hole up to the next empty one, and moves down into the hole each block whose probe
 // crosses it.
-fn close(cells: &mut [Option<Cell>], homes: u32, from: usize)
+fn close(cells: &mut CellList, homes: u32, from: usize)
     requires { HasHole (home_of homes) cells.old from }
     ensures table { IsTable (home_of homes) cells.new }
     ensures frames { frames_in cells.new ≡ frames_in cells.old }
@@ -69,9 +70,10 @@ fn close(cells: &mut [Option<Cell>], homes: u32, from: usize)
     ensures below { take from cells.new ≡ take from cells.old }
     ensures length { length cells.new ≡ length cells.old }
 {
+    let end = cells.len();
     let mut hole = from;
-    for at in from + 1..cells.len() {
-        let Some(cell) = &cells[at] else {
+    for at in from + 1..end {
+        let Some(cell) = cells.at(at) else {
             return;
         };
         if home(cell.ep, cell.number, homes) <= hole {

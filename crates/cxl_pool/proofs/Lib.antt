@@ -1,3 +1,3 @@
 pub mod Chains
 pub mod Steps
-pub mod Fresh
+pub mod Untaken

@@ -6,7 +6,7 @@ use Rattle.std.proofs.lemmas.List.{get_or-set_same, length-set, get_or_read}
 use Rattle.std.proofs.lemmas.List.Sums.{sum_by-set, sum_by-cons, count_by-le-length}
 use Rattle.cxl_pool.specs.Pool.{Frames, IsOut, free_count, out_count, IsFree, frame_bytes}
 use Rattle.cxl_pool.specs.Chain.{next_of, chain, is_listed, AreNumbers, marked_from}
-use Rattle.cxl_pool.specs.Inside.{frames_of, IsPool}
+use Rattle.cxl_pool.specs.Inside.{frames_of, AreMade}
 use Rattle.cxl_pool.proofs.Chains.{listed_past, listed_head, chain-set, length-marked, marked_at, marked-set, out_is}
 
 -- where one place changes, so does the count
@@ -26,7 +26,7 @@ free_and_out (None ∷ rest) =
 free_and_out (Some bytes ∷ rest) = omega (arith, free_and_out rest, sum_by-cons (λ o. cond (is_none o) 1 0) (Some bytes) rest, sum_by-cons (λ o. cond (is_some o) 1 0) (Some bytes) rest)
 
 -- the first free frame is taken
-module _ (frames : List (List ℕ)) (first count : ℕ) (w : List ℕ) (pool : IsPool frames (suc count) first) where
+module _ (frames : List (List ℕ)) (first count : ℕ) (w : List ℕ) (pool : AreMade frames (suc count) first) where
   within : first < length frames
   within = pool.numbers.0
 
@@ -50,7 +50,7 @@ module _ (frames : List (List ℕ)) (first count : ℕ) (w : List ℕ) (pool : I
         marked_at 0 (first ∷ rest) frames first within ∙ cond-true (is_listed (0 + first) (first ∷ rest)) None (Some (get_or frames first [])) (ap (λ k. is_listed k (first ∷ rest)) (zero-add first) ∙ listed_head first rest),
       )
 
-  pub taken_pool : IsPool (set frames first w) count (next_of (get_or frames first []))
+  pub taken_pool : AreMade (set frames first w) count (next_of (get_or frames first []))
   taken_pool =
       let total : length (set frames first w) ≡ length frames = length-set frames first w in
       let free = taken_free in
@@ -63,17 +63,20 @@ module _ (frames : List (List ℕ)) (first count : ℕ) (w : List ℕ) (pool : I
       }
 
 -- the same, in the words of the code
-module _ (frames : List (List ℕ)) (free first next : ℕ) (w read : List ℕ) (some : free ≢ 0) (is : read ≡ get_or frames first read) (names : next ≡ next_of read) (pool : IsPool frames free first) where
+module _ (frames : List (List ℕ)) (free first next : ℕ) (w read : List ℕ) (some : free ≢ 0) (is : read ≡ get_or frames first read) (names : next ≡ next_of read) (pool : AreMade frames free first) where
   one_more : free ≡ suc (free - 1)
   one_more = omega arith
 
-  some_pool : IsPool frames (suc (free - 1)) first
-  some_pool = subst (λ (n : ℕ). IsPool frames n first) one_more pool
+  some_pool : AreMade frames (suc (free - 1)) first
+  some_pool = subst (λ (n : ℕ). AreMade frames n first) one_more pool
 
   next_is : next ≡ next_of (get_or frames first [])
   next_is = names ∙ ap next_of (get_or_read frames first read (within frames first (free - 1) w some_pool) is [])
 
-  pub take_pool : IsPool (set frames first w) (free - 1) next
+  pub take_within : first < length frames
+  take_within = within frames first (free - 1) w some_pool
+
+  pub take_pool : AreMade (set frames first w) (free - 1) next
   take_pool = rw next_is (taken_pool frames first (free - 1) w some_pool)
 
   pub take_free : IsFree (frames_of frames free first) first
@@ -86,7 +89,7 @@ module _ (frames : List (List ℕ)) (free first next : ℕ) (w read : List ℕ) 
       ∙ ap (λ n. set (frames_of frames n first) first (Some w)) (sym one_more)
 
 -- a frame that is out is given back, and names the one that was the first
-module _ (frames : List (List ℕ)) (free first number : ℕ) (w : List ℕ) (pool : IsPool frames free first) (out : IsSome (frame_bytes (frames_of frames free first) number)) (names : next_of w ≡ first) where
+module _ (frames : List (List ℕ)) (free first number : ℕ) (w : List ℕ) (pool : AreMade frames free first) (out : IsSome (frame_bytes (frames_of frames free first) number)) (names : next_of w ≡ first) where
   given_within : (number < length frames) × (is_listed number (chain frames free first) ≡ false)
   given_within = out_is (chain frames free first) frames number out
 
@@ -111,7 +114,7 @@ module _ (frames : List (List ℕ)) (free first number : ℕ) (w : List ℕ) (po
       let was : ◌≡◌ {A = ℕ} (cond (is_none (frame_bytes (frames_of frames free first) number)) 1 0) 0 = not_counted (frame_bytes (frames_of frames free first) number) out in
       omega (arith, change, was, pool.counted)
 
-  pub given_pool : IsPool (set frames number w) (suc free) number
+  pub given_pool : AreMade (set frames number w) (suc free) number
   given_pool =
       let total : length (set frames number w) ≡ length frames = length-set frames number w in
       record {
@@ -131,7 +134,7 @@ pub out_inside : (pool held : Frames) (n number : ℕ) → pool ≡ held → n �
 out_inside pool held n number same is out = rw (same, is) out
 
 -- a frame that is out is written
-module _ (frames : List (List ℕ)) (free first number : ℕ) (pool : IsPool frames free first) (out : IsSome (frame_bytes (frames_of frames free first) number)) where
+module _ (frames : List (List ℕ)) (free first number : ℕ) (pool : AreMade frames free first) (out : IsSome (frame_bytes (frames_of frames free first) number)) where
   written_within : (number < length frames) × (is_listed number (chain frames free first) ≡ false)
   written_within = out_is (chain frames free first) frames number out
 
@@ -151,7 +154,7 @@ module _ (frames : List (List ℕ)) (free first number : ℕ) (pool : IsPool fra
       ∙ marked-set 0 old old frames number w (λ k other. refl)
       ∙ ap (λ o. set (marked_from 0 old frames) number o) (cond-false (is_listed (0 + number) old) None (Some w) (ap (λ k. is_listed k old) (zero-add number) ∙ written_within.1))
 
-  pub written_pool : (w : List ℕ) → IsPool (set frames number w) free first
+  pub written_pool : (w : List ℕ) → AreMade (set frames number w) free first
   written_pool w =
       let total : length (set frames number w) ≡ length frames = length-set frames number w in
       let change = counted-set (frames_of frames free first) number (Some w) (omega (arith, length-marked 0 (chain frames free first) frames, written_within.0)) in

@@ -23,9 +23,16 @@ pub fn link(bytes: &mut [u8; 256], next: u32)
 }
 
 #[tactic(auto, unfolding(crate::specs::Pool::zeros))]
+/// The bytes of a new frame.
+pub fn zeroed() -> [u8; 256]
+    ensures { result ≡ zeros }
+{
+    [0; 256]
+}
+
 /// Zeroes a frame.
 pub fn zero(bytes: &mut [u8; 256])
     ensures { bytes.new ≡ zeros }
 {
-    *bytes = [0; 256];
+    *bytes = zeroed();
 }

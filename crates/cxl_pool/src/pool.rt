@@ -3,7 +3,7 @@ ghost use Rattle.std.specs.Borrow.{sem};
 ghost use Rattle.cxl_pool.specs.Pool.{frame_bytes, IsOut, IsFree, free_count, out_count, zeros};
 ghost use Rattle.cxl_pool.specs.Lending.{LendsBytes};
 
-use crate::link::{link, next, zero};
+use crate::link::{link, next, zero, zeroed};
 use cxl_enc::Memory;
 use std::alloc::Global;
 use std::marker::Model;
@@ -23,15 +23,28 @@ impl Model for Frame {
     ghost view = { λ frame. frame.number };
 }
 
+impl Frame {
+    /// Its number among the frames of its pool, from 0 on.
+    pub fn number(&self) -> u32
+        ensures { result ≡ self.now }
+    {
+        self.number
+    }
+}
+
 /// A fixed number of frames of 256 bytes each, in one array.
 ///
 /// Contracts see it as a list by the numbers of the frames: `None` where a frame is free, and its bytes where it is
-/// out. The free frames form a list through their own first four bytes, in the order in which `take` hands them out.
+/// out. The frames that were given back form a list through their own first four bytes, in the order in which `take`
+/// hands them out; those that were never taken come after them, by their numbers.
 #[derive(Drop)]
 pub struct Pool {
+    // The frames that were taken so far, by their numbers. There is room for all; one is made when it is first taken.
     frames: Vec<[u8; 256]>,
-    // How many frames are free, and the first of them. A free frame names the next; what the last one names is not read.
-    free: u32,
+    // How many frames there are. Those that were never taken are free.
+    total: u32,
+    // How many frames were given back, and the first of them. Each names the next; what the last one names is not read.
+    given: u32,
     first: u32,
 }
 
@@ -40,11 +53,12 @@ impl Model for Pool {
 
     ghost Value = { Frames };
 
-    ghost use Rattle.cxl_pool.specs.Inside.{frames_of, IsPool};
+    ghost use Rattle.std.specs.Vec.{vec_capacity};
+    ghost use Rattle.cxl_pool.specs.Inside.{pool_of, IsPool};
 
-    ghost view = { λ p. frames_of p.frames.items p.free p.first };
+    ghost view = { λ p. pool_of p.frames.items p.given p.first p.total };
 
-    ghost invariant = { λ p. IsPool p.frames.items p.free p.first };
+    ghost invariant = { λ p. IsPool p.frames.items p.given p.first p.total (vec_capacity p.frames) };
 }
 
 impl Pool {
@@ -54,7 +68,8 @@ impl Pool {
     {
         Pool {
             frames: Vec::new(alloc),
-            free: 0,
+            total: 0,
+            given: 0,
             first: 0,
         }
     }
@@ -63,15 +78,11 @@ impl Pool {
     pub fn new(alloc: Global, frames: u32) -> Result<Pool, Memory>
         ensures { IfOk result (λ pool. pool ≡ replicate frames None) }
     {
-        let mut made = Vec::with_capacity(alloc, frames as usize)?;
-        for number in 0..frames {
-            let mut bytes = [0; 256];
-            link(&mut bytes, number + 1);
-            made.push(bytes)?;
-        }
+        let room = Vec::with_capacity(alloc, frames as usize)?;
         Ok(Pool {
-            frames: made,
-            free: frames,
+            frames: room,
+            total: frames,
+            given: 0,
             first: 0,
         })
     }
@@ -83,14 +94,19 @@ impl Pool {
         ensures taken { IfSome result (λ frame. self.new ≡ slice_set self.old frame (Some zeros)) }
         ensures unchanged { IfNone result (self.new ≡ self.old) }
     {
-        if self.free == 0 {
-            return None;
+        if self.given == 0 {
+            if self.frames.len() == self.total as usize {
+                return None;
+            }
+            let number = self.frames.len() as u32;
+            self.frames.push_reserved(zeroed());
+            return Some(Frame { number });
         }
         let number = self.first;
         let after = next(&self.frames[number as usize]);
         zero(&mut self.frames[number as usize]);
         self.first = after;
-        self.free -= 1;
+        self.given -= 1;
         Some(Frame { number })
     }
 
@@ -102,7 +118,7 @@ impl Pool {
         let Frame { number } = frame;
         link(&mut self.frames[number as usize], self.first);
         self.first = number;
-        self.free += 1;
+        self.given += 1;
     }
 
     /// The 256 bytes of a frame that is out of this pool.
@@ -130,13 +146,13 @@ impl Pool {
         ensures free { result ≡ free_count self.now }
         ensures rest { result + out_count self.now ≡ length self.now }
     {
-        self.free
+        self.given + (self.total - self.frames.len() as u32)
     }
 
     /// How many frames there are.
     pub fn total(&self) -> u32
         ensures { result ≡ length self.now }
     {
-        self.frames.len() as u32
+        self.total
     }
 }

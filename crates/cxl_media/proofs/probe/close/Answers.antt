@@ -1,6 +1,5 @@
-use Rattle.std.proofs.Common.{◌≡◌, ℕ, ◌+◌, ◌<◌, length, None, Some, inl, inr, sym, ◌∙◌, subst, arith}
+use Rattle.std.proofs.Common.{◌≡◌, ℕ, ◌+◌, ◌<◌, length, Some, inl, inr, sym, ◌∙◌, subst, arith}
 use Rattle.std.specs.Prelude.{swap}
-use Rattle.std.proofs.lemmas.List.{get_or_read}
 use Rattle.cxl_media.specs.Hash.{home_of}
 use Rattle.cxl_media.specs.Table.{Cells, cell_at}
 use Rattle.cxl_media.proofs.Tables.{same_frames}
@@ -13,30 +12,28 @@ loop-at-init c = closing_first _ _ _ c.requires
 
 pub returns-in_default-clause-table : goal.returns-in_default-clause-table
 returns-in_default-clause-table c =
-    let within : c.loop-at.at < length c.loop-at.cells = omega (arith, c.loop-at-test.true, c.loop-at.invariant.total) in
-    let empty : cell_at c.loop-at.cells c.loop-at.at ≡ None = sym (get_or_read c.loop-at.cells c.loop-at.at c.index-cells-at.result within c.index-cells-at.is None) ∙ c.index-cells-at.is ∙ c.in_default.is in
-    closed _ _ _ _ _ _ c.loop-at.invariant (inl empty)
+    closed _ _ _ _ _ _ c.loop-at.invariant (inl (sym c.in_default.ensures))
 
 pub returns-in_default-clause-frames : goal.returns-in_default-clause-frames
 returns-in_default-clause-frames c = same_frames _ _ c.requires.once c.loop-at.invariant.once c.loop-at.invariant.kept c.loop-at.invariant.back
 
 pub loop-at-preserved : goal.loop-at-preserved
 loop-at-preserved c =
-    let within : c.loop-at.at < length c.loop-at.cells = omega (arith, c.loop-at-test.true, c.loop-at.invariant.total) in
-    let here : cell_at c.loop-at.cells c.loop-at.at ≡ Some c.in-Some.cell = sym (get_or_read c.loop-at.cells c.loop-at.at c.index-cells-at.result within c.index-cells-at.is None) ∙ c.index-cells-at.is ∙ c.in-Some.is in
+    let within : c.loop-at.at < length c.loop-at.cells = omega (arith, c.loop-at-test.true, c.loop-at.invariant.total, c.len-end.ensures) in
+    let here : cell_at c.loop-at.cells c.loop-at.at ≡ Some c.in-Some.cell.now = sym c.in-Some.ensures in
     elim c.if-home-hole.branch [
       | then-home-hole w ↦
-          let next = moved _ _ _ _ _ _ c.loop-at.invariant c.in-Some.cell here within (omega (arith, c.home.ensures, w.if-home-hole.true)) in
-          subst (λ (ps : Cells). IsClosing (home_of c.args.homes) c.args.cells.now ps c.args.from c.if-home-hole.hole (c.loop-at.at + 1)) (sym (w.cells-is ∙ w.swap.ensures.after))
+          let next = moved _ _ _ _ _ _ c.loop-at.invariant c.in-Some.cell.now here within (omega (arith, c.home.ensures, w.if-home-hole.true)) in
+          subst (λ (ps : Cells). IsClosing (home_of c.args.homes) c.args.cells.now ps c.args.from c.if-home-hole.hole (c.loop-at.at + 1)) (sym (w.cells-is ∙ w.swap.ensures))
           (subst (λ (n : ℕ). IsClosing (home_of c.args.homes) c.args.cells.now (swap c.loop-at.cells c.loop-at.hole c.loop-at.at) c.args.from n (c.loop-at.at + 1)) (sym w.hole-is) next)
       | else-home-hole w ↦
-          let next = skipped _ _ _ _ _ _ c.loop-at.invariant c.in-Some.cell here within (omega (arith, c.home.ensures, w.if-home-hole.false)) in
+          let next = skipped _ _ _ _ _ _ c.loop-at.invariant c.in-Some.cell.now here within (omega (arith, c.home.ensures, w.if-home-hole.false)) in
           subst (λ (ps : Cells). IsClosing (home_of c.args.homes) c.args.cells.now ps c.args.from c.if-home-hole.hole (c.loop-at.at + 1)) (sym w.cells-is)
           (subst (λ (n : ℕ). IsClosing (home_of c.args.homes) c.args.cells.now c.loop-at.cells c.args.from n (c.loop-at.at + 1)) (sym w.hole-is) next)
     ]
 
 pub returns-clause-table : goal.returns-clause-table
-returns-clause-table c = closed _ _ _ _ _ _ c.loop-at.invariant (inr (omega (arith, c.loop-at-test.false, c.loop-at.invariant.total)))
+returns-clause-table c = closed _ _ _ _ _ _ c.loop-at.invariant (inr (omega (arith, c.loop-at-test.false, c.loop-at.invariant.total, c.len-end.ensures)))
 
 pub returns-clause-frames : goal.returns-clause-frames
 returns-clause-frames c = same_frames _ _ c.requires.once c.loop-at.invariant.once c.loop-at.invariant.kept c.loop-at.invariant.back
