@@ -223,6 +223,9 @@ texts_length text [] h = ap length (sym h)
 texts_length text (r ∷ rs) (first, next, whole, of_r, others) =
     sum_by-cons record_length r rs ∙ omega (arith, text_length first r of_r, texts_length next rs others, ap length whole, length-append first next)
 
+pub size_from : (bytes : List ℕ) (rs : List Record) → 36 ≤ length bytes → AreRecordTexts (drop 36 bytes) rs → length bytes ≡ table_length rs
+size_from bytes rs long h = omega (arith, texts_length (drop 36 bytes) rs h, length-drop 36 bytes)
+
 pub fits_from : (bytes : List ℕ) (rs : List Record) → 36 ≤ length bytes → length bytes ≤ file_limit → AreRecordTexts (drop 36 bytes) rs → table_length rs ≤ file_limit
 fits_from bytes rs long short h = omega (arith, texts_length (drop 36 bytes) rs h, length-drop 36 bytes)
 

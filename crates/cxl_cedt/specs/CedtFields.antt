@@ -1,5 +1,5 @@
 -- What a table holds, and what it keeps.
-use Rattle.std.specs.Prelude.{◌≤◌, List}
+use Rattle.std.specs.Prelude.{◌≡◌, ℕ, ◌≤◌, List}
 use Rattle.cxl_enc.specs.Limits.{file_limit}
 use Rattle.cxl_cedt.specs.declared.cedt.Head.{Head}
 use Rattle.cxl_cedt.specs.declared.cedt.Record.{Record}
@@ -13,3 +13,8 @@ pub record CedtFields : Type 0 where
 pub record IsCedt (records : List Record) : Type 0 where
   pub few : HasFewOfEach records
   pub fits : table_length records ≤ file_limit
+
+-- and as many bytes spell it as it says
+pub record IsSizedCedt (records : List Record) (size : ℕ) : Type 0 where
+  pub cedt : IsCedt records
+  pub sized : size ≡ table_length records

@@ -6,7 +6,7 @@ use crate::cfmws::Cfmws;
 use crate::chbs::Chbs;
 use crate::cxims::Cxims;
 use crate::layout::{CFMWS_KIND, CHBS_KIND, CXIMS_KIND, KIND_LIMIT};
-use crate::lengths::{count_of, fits_file};
+use crate::lengths::{count_of, fits_file, table_length};
 use crate::other::Other;
 use cxl_enc::FixedList;
 use std::marker::Model;
@@ -36,16 +36,18 @@ pub enum Record {
 pub struct Cedt {
     head: Head,
     records: FixedList<Record>,
+    // How many bytes spell it, so that who writes it need not go through the records for that.
+    size: u32,
 }
 
 impl Model for Cedt {
-    ghost use Rattle.cxl_cedt.specs.CedtFields.{CedtFields, IsCedt};
+    ghost use Rattle.cxl_cedt.specs.CedtFields.{CedtFields, IsSizedCedt};
 
     ghost Value = { CedtFields };
 
     ghost view = { λ c. record { head = c.head; records = c.records } };
 
-    ghost invariant = { λ c. IsCedt c.records };
+    ghost invariant = { λ c. IsSizedCedt c.records c.size };
 }
 
 impl Cedt {
@@ -73,10 +75,29 @@ impl Cedt {
         requires fits { table_length records.items ≤ file_limit }
         ensures { result ≡ record { head = head; records = records.items } }
     {
+        let size = table_length(&records);
+        Cedt::of_size(head, records, size)
+    }
+
+    /// The table of these records in order, which so many bytes spell. Takes no memory.
+    pub(crate) fn of_size(head: Head, records: Vec<Record>, size: u32) -> Cedt
+        requires few { HasFewOfEach records.items }
+        requires fits { table_length records.items ≤ file_limit }
+        requires size { size ≡ table_length records.items }
+        ensures { result ≡ record { head = head; records = records.items } }
+    {
         Cedt {
             head,
             records: FixedList::new(records),
+            size,
         }
+    }
+
+    /// How many bytes spell the table.
+    pub(crate) fn size(&self) -> u32
+        ensures { result ≡ table_length self.now.records }
+    {
+        self.size
     }
 
     /// The header's fields.

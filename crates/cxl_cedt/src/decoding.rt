@@ -31,6 +31,18 @@ pub fn add_record(alloc: Global, found: &mut CountedRecords, text: &[u8]) -> Res
     if u8_at(text, KIND_PLACE) > CXIMS_KIND {
         return found.push_other(other_of(alloc, text)?);
     }
+    add_judged(alloc, found, text)
+}
+
+/// Adds the record of a text of one of the three judged types. A table has few of them, so this stands apart from the loop
+/// over its records.
+#[inline(never)]
+fn add_judged(alloc: Global, found: &mut CountedRecords, text: &[u8]) -> Result<(), Memory>
+    requires sound { IsSoundText text.now }
+    requires judged { kind_said text.now ≤ 2 }
+    requires room { is_kind_full (kind_of (record_of text.now)) found.old ≡ false }
+    ensures { OnOk result (found.new ≡ found.old ++ record_of text.now ∷ []) }
+{
     found.push(judged_of(alloc, text)?)
 }
 

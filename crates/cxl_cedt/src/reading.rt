@@ -49,10 +49,11 @@ fn cedt_from(alloc: Global, bytes: &[u8]) -> Result<Cedt, CedtFault>
         return Err(fault);
     }
     let records = records_of(alloc, bytes)?;
-    Ok(Cedt::new(head_of(bytes), records))
+    Ok(Cedt::of_size(head_of(bytes), records, bytes.len() as u32))
 }
 
 /// The records behind the header, or the fault of the first that has one.
+#[inline(never)]
 fn records_of(alloc: Global, bytes: &[u8]) -> Result<Vec<Record>, CedtFault>
     requires long { header_size ≤ length bytes.now }
     requires short { length bytes.now ≤ file_limit }

@@ -18,7 +18,6 @@ use crate::layout::{
     CFMWS_KIND, CHBS_KIND, CHBS_SIZE, CHECKSUM_PLACE, CXIMS_KIND, FRAME_SIZE, MAPS_FRONT_SIZE,
     WINDOW_FRONT_SIZE,
 };
-use crate::lengths::table_length;
 use crate::numbers::{put_u16, put_u32, put_u32s, put_u64, put_u64s};
 use crate::other::Other;
 use byteorder::{ByteOrder, LittleEndian};
@@ -44,7 +43,7 @@ fn without_checksum(alloc: Global, cedt: &Cedt) -> Result<Vec<u8>, Memory>
     ensures spelled { IfOk result (λ bytes. bytes.items ≡ spelling_with 0 cedt.now) }
     ensures sound { OnOk result (HasText cedt.now) }
 {
-    let size = table_length(cedt.records());
+    let size = cedt.size();
     let mut out = Vec::with_capacity(alloc, size as usize)?;
     put_header(&mut out, cedt.head(), size)?;
     spell_records(&mut out, cedt.records())?;

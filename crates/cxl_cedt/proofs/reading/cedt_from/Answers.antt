@@ -1,14 +1,17 @@
 use Rattle.std.proofs.Common.{sym}
-use Rattle.cxl_cedt.proofs.Laws.{header_from, fits_from}
+use Rattle.cxl_cedt.proofs.Laws.{header_from, size_from, fits_from}
 use Rattle.cxl_cedt.proofs.reading.cedt_from.Goals as goal
 
-pub new-requires-clause-fits : goal.new-requires-clause-fits
-new-requires-clause-fits c = fits_from c.args.bytes.now c.in_ok-records.records.items c.in_default.ensures.long c.requires c.in_ok-records.ensures.texts
+pub of_size-requires-clause-size : goal.of_size-requires-clause-size
+of_size-requires-clause-size c = size_from c.args.bytes.now c.in_ok-records.records.items c.in_default.ensures.long c.in_ok-records.ensures.texts
+
+pub of_size-requires-clause-fits : goal.of_size-requires-clause-fits
+of_size-requires-clause-fits c = fits_from c.args.bytes.now c.in_ok-records.records.items c.in_default.ensures.long c.requires c.in_ok-records.ensures.texts
 
 pub returns-clause-table : goal.returns-clause-table
 returns-clause-table c =
     let header = header_from c.args.bytes.now (sym c.in_default.ensures.value) in
-    rw c.new.ensures (record {
+    rw c.of_size.ensures (record {
       long = header.long;
       signature = header.signature;
       length_said = header.length_said;
