@@ -2,6 +2,7 @@ pub mod Writes
 pub mod Values
 pub mod ReadBack
 pub mod HexText
+pub mod FirstByte
 pub mod LineBreaks
 pub mod Reading
 pub mod HasRead

@@ -1,9 +1,11 @@
 -- A number that is printed is read as the same number.
-use Rattle.std.proofs.Common.{◌≡◌, ℕ, zero, suc, ◌-◌, ◌^◌, ◌<◌, Bool, false, not, cond, List, [], ◌∷◌, ◌++◌, length, drop, replicate, Ok, None, refl, ap, ◌∙◌, arith}
+use Rattle.std.proofs.Common.{◌≡◌, ℕ, zero, suc, ◌+◌, ◌-◌, ◌/◌, ◌%◌, ◌^◌, ◌<◌, Bool, false, not, cond, List, [], ◌∷◌, ◌++◌, length, drop, replicate, Ok, None, refl, ap, ◌∙◌, arith, eq-eqb}
 use Rattle.std.specs.Prelude.{codes, decimal}
 use Rattle.std.specs.List.{prefix_len}
 use Rattle.std.specs.Char.{is_digit}
+use Rattle.std.specs.Fmt.{digit_glyph, digits, digits_onto}
 use Rattle.std.specs.Str.Parse.{AllDigits, IsNumeral, digits_value}
+use Rattle.std.proofs.lemmas.Bool.Decides.{nat_tests}
 use Rattle.std.proofs.lemmas.Fmt.{digits_is_IsNumeral, decimal_is_IsNumeral}
 use Rattle.cxl_io.specs.Numbers.{first_bad_place, number_in, number_of, is_hexadecimal}
 use Rattle.cxl_io.specs.Printed.{hex_of, padded_hex}
@@ -26,6 +28,15 @@ decimal_word : (ds : List ℕ) → AllDigits 10 ds → is_hexadecimal ds ≡ fal
 decimal_word [] all = refl
 decimal_word (a ∷ []) all = grind arith
 decimal_word (a ∷ b ∷ ds) all = let h = all.1.0 in grind arith
+
+-- a number of one digit
+pub decimal-one : (n : ℕ) → n < 10 → decimal n ≡ (48 + n) ∷ []
+unfolding digits
+decimal-one n one =
+    let none : n / 10 ≡ 0 = omega arith in
+    let glyph : digit_glyph false (n % 10) ≡ 48 + n = grind (arith, nat_tests) in
+    ap (λ (b : Bool). cond b (digit_glyph false (n % 10) ∷ []) (digits_onto 63 10 false (n / 10) (digit_glyph false (n % 10) ∷ []))) (eq-eqb _ 0 none)
+    ∙ ap (λ d. d ∷ []) glyph
 
 pub number_of-decimal : (n : ℕ) → n < 2 ^ 64 → number_of (decimal n) ≡ Ok n
 number_of-decimal n fits =
@@ -54,4 +65,4 @@ padded_hex-one n fits =
     ap (λ k. replicate k 48 ++ hex_of n) none
 
 -- what is known of every number's text
-pub ruleset texts = (number_of-decimal, number_of-padded_hex, padded_hex-one)
+pub ruleset texts = (number_of-decimal, number_of-padded_hex, padded_hex-one, decimal-one)

@@ -8,6 +8,7 @@ ghost use Rattle.cxl_io.specs.Source.{SourceState, GivesFront, IsAtEnd};
 
 use crate::source::Source;
 use cxl_enc::{Failed, Memory};
+use memchr::memchr;
 use std::alloc::Global;
 use std::marker::Model;
 
@@ -236,10 +237,11 @@ fn read_front<S: Source>(source: &mut S, block: &mut [u8], room: usize) -> Resul
     source.read(&mut block[..room])
 }
 
+#[tactic(auto, using(crate::proofs::FirstByte::first_byte))]
 fn first_break(bytes: &[u8]) -> Option<usize>
     ensures { result ≡ position (λ byte. byte == 10) bytes.now }
 {
-    bytes.iter().position(|byte| *byte == b'\n')
+    memchr(b'\n', bytes)
 }
 
 /// Appends what has room of a piece of a line.

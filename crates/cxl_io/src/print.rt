@@ -14,6 +14,11 @@ pub fn put_number(out: &mut Vec<u8>, n: u64) -> Result<(), Memory>
     // What is printed is read as the same number.
     ensures read_back { number_of (decimal n) ≡ Ok n }
 {
+    // Most of them have one digit.
+    if n < 10 {
+        out.push(b'0' + n as u8)?;
+        return Ok(());
+    }
     let mut buffer = Buffer::new();
     out.extend_from_slice(buffer.format(n).as_bytes())?;
     Ok(())

@@ -1,13 +1,12 @@
 -- What a line states as a granularity is a code of the table.
-use Rattle.std.proofs.Common.{ℕ, ◌≤◌, Bool, true, false, ◌==◌, List, [], ◌∷◌, Option, Some, None, IfSome, Result, Ok, Err, IfOk, nat_lt, length, arith}
+use Rattle.std.proofs.Common.{ℕ, ◌≤◌, Bool, true, false, ◌==◌, List, Option, Some, None, IfSome, Result, Ok, Err, IfOk, arith}
 use Rattle.std.specs.Prelude.{if◌then◌else◌, codes}
 use Rattle.cxl_enc.specs.Codes.{gran_code_in_table}
 use Rattle.cxl_io.specs.Numbers.{number_of}
-use Rattle.cxl_script.specs.declared.command.Create.{Create}
 use Rattle.cxl_script.specs.declared.create.Head.{Head}
 use Rattle.cxl_script.specs.declared.fault.BadLine.{BadLine}
 use Rattle.cxl_script.specs.Grammar.{gran_of_bytes, gran_of_number, gran_read, gran_in, head_in, over_ways, over_names, over_read, some_names_in, ways_limit, create_in, StatesGranCode}
-use Rattle.cxl_script.specs.Reading.{Read, ◌>>=◌, ranged, ends, with_rest, behind, name_in, kind_in, address_in}
+use Rattle.cxl_script.specs.Reading.{ranged, behind, name_in, kind_in, address_in}
 use Rattle.cxl_script.specs.Words.{Word}
 use Rattle.cxl_script.proofs.ReadSteps.{kept, after, behind_any, at_end}
 

@@ -1,5 +1,5 @@
 -- What a line asks for is ranged.
-use Rattle.std.proofs.Common.{◌≡◌, ℕ, ◌≤◌, Bool, true, false, List, [], ◌∷◌, ◌++◌, Option, Some, None, IfSome, Result, Ok, Err, IfOk, nat_lt, length, subst, ◌+◌, arith}
+use Rattle.std.proofs.Common.{◌≡◌, ℕ, Bool, true, false, List, [], ◌∷◌, ◌++◌, Option, Some, None, IfSome, Result, Ok, Err, IfOk, nat_lt, length, subst, ◌+◌, arith}
 use Rattle.std.specs.Prelude.{if◌then◌else◌}
 use Rattle.cxl_enc.specs.Limits.{address_limit}
 use Rattle.cxl_io.specs.Reader.{line_limit}
@@ -12,7 +12,7 @@ use Rattle.cxl_script.specs.declared.fault.BadLine.{BadLine}
 use Rattle.cxl_script.specs.declared.verb.Verb.{Verb}
 use Rattle.cxl_script.specs.declared.verb.Verb.TheVariants as verbs
 use Rattle.cxl_script.specs.Grammar.{access_limit, range_limit, create_in, as_command, begin_of, asked_of, only_name_in, only_address_in, up_in, load_in, store_in, poison_in, step_in, reach_in, pair_in, command_of, command_in, some_command, asked_by, asked_in, begins_comment, StatesGranCode, StatesGranCodes, IsRanged}
-use Rattle.cxl_script.specs.Reading.{◌>>=◌, ends, ranged, ranged_in, address_in, hex_bytes_in, next_word_in}
+use Rattle.cxl_script.specs.Reading.{ends, ranged, ranged_in, address_in, hex_bytes_in, next_word_in}
 use Rattle.cxl_script.specs.Verbs.{verb_of}
 use Rattle.cxl_script.specs.Words.{Word, is_blank, ended, line_words_from, line_words}
 use Rattle.cxl_script.proofs.GranCodes.{create_low}

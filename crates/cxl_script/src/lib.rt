@@ -3,6 +3,7 @@
 
 mod command;
 mod create;
+mod digits;
 mod fault;
 mod laws;
 mod limits;

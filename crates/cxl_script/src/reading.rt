@@ -1,14 +1,14 @@
-ghost use Rattle.std.specs.Prelude.{◌≡◌, ◌≢◌, ◌≤◌, ◌⊎◌, Ok, Err, IfOk, IfErr, MatchResult};
+ghost use Rattle.std.specs.Prelude.{◌≡◌, ◌≤◌, Ok, Err, IfOk, MatchResult};
 ghost use Rattle.cxl_enc.specs.Codes.{gran_code_in_table};
 ghost use Rattle.cxl_io.specs.Numbers.{number_of};
-ghost use Rattle.cxl_script.specs.Reading.{IsUnlessMemory, GivesWithRest, GivesWithRestUnlessMemory, word_as_name, word_as_kind, ranged, word_as_bytes, few_bytes, next_word_in, name_in, kind_in, ranged_in, address_in, hex_bytes_in};
+ghost use Rattle.cxl_script.specs.Reading.{IsUnlessMemory, GivesWithRest, GivesWithRestUnlessMemory, word_as_name, word_as_kind, ranged, word_as_bytes, next_word_in, name_in, kind_in, ranged_in, address_in, hex_bytes_in};
 ghost use Rattle.cxl_script.specs.Grammar.{gran_of_bytes, gran_in};
 
+use crate::digits::{hex_bytes, is_hex};
 use crate::fault::{BadLine, LineFault, Why};
 use crate::words::{Word, Words};
 use cxl_enc::{FixedList, MemKind, Name, gran_code};
 use cxl_io::read_number;
-use hex::FromHexError;
 use std::alloc::Global;
 
 impl<'a> Words<'a> {
@@ -115,29 +115,11 @@ pub(crate) fn ranged(word: Word<'_>, least: u64, most: u64) -> Result<u64, BadLi
 fn word_as_bytes(alloc: Global, word: Word<'_>, most: usize) -> Result<FixedList<u8>, LineFault>
     ensures { IsUnlessMemory result (word_as_bytes most (record { at = word.entry.at; text = word.entry.text.now })) }
 {
-    match hex::decode(alloc, word.text) {
-        Ok(bytes) => few_bytes(word, bytes, most),
-        Err(fault) => Err(undecoded(word, fault)),
+    if !is_hex(word.text) {
+        return Err(LineFault::Bad(word.bad(Why::Hex)));
     }
-}
-
-/// Why the digits of a word gave no bytes.
-fn undecoded(word: Word<'_>, fault: FromHexError) -> LineFault
-    ensures { ((fault ≡ FromHexError.OutOfMemory) × (result ≡ LineFault.Memory))
-        ⊎ ((fault ≢ FromHexError.OutOfMemory) × (result ≡ LineFault.Bad (record { at = word.entry.at; why = Why.Hex }))) }
-{
-    match fault {
-        FromHexError::OutOfMemory => LineFault::Memory,
-        _ => LineFault::Bad(word.bad(Why::Hex)),
-    }
-}
-
-fn few_bytes(word: Word<'_>, bytes: Vec<u8>, most: usize) -> Result<FixedList<u8>, LineFault>
-    ensures few { IsUnlessMemory result (few_bytes word.entry.at most bytes.items) }
-    ensures known { IfErr result (λ fault. fault ≢ LineFault.Memory) }
-{
-    if bytes.len() > most {
+    if word.text.len() / 2 > most {
         return Err(LineFault::Bad(word.bad(Why::Range)));
     }
-    Ok(FixedList::new(bytes))
+    Ok(FixedList::new(hex_bytes(alloc, word.text)?))
 }

@@ -5,6 +5,7 @@ ghost use Rattle.cxl_script.specs.Reading.{behind, ends};
 ghost use Rattle.cxl_io.specs.Reader.{line_limit};
 
 use crate::fault::{BadLine, Why};
+use memchr::memchr2;
 use std::marker::Model;
 
 /// A word of a line, and the byte place at which it begins.
@@ -156,10 +157,11 @@ fn first_not_blank(bytes: &[u8]) -> Option<usize>
     bytes.iter().position(|byte| !is_blank(*byte))
 }
 
+#[tactic(auto, using(cxl_io::proofs::FirstByte::first_byte))]
 fn first_blank(bytes: &[u8]) -> Option<usize>
     ensures { result ≡ position is_blank bytes.now }
 {
-    bytes.iter().position(|byte| is_blank(*byte))
+    memchr2(b' ', b'\t', bytes)
 }
 
 fn is_blank(byte: u8) -> bool

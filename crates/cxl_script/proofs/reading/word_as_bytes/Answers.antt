@@ -1,12 +1,14 @@
-use Rattle.std.proofs.Common.{subst}
-use Rattle.cxl_script.specs.Reading.{IsUnlessMemory}
-use Rattle.cxl_script.proofs.HexBytes.{word_as_bytes-decoded, undecoded-is}
+use Rattle.std.proofs.Common.{◌≡◌, true, sym, ◌∙◌, rules}
+use Rattle.cxl_script.specs.Reading.{is_hex}
+use Rattle.cxl_script.proofs.HexBytes.{too_many, few_enough}
 use Rattle.cxl_script.proofs.reading.word_as_bytes.Goals as goal
 
-pub returns-in-Ok : goal.returns-in-Ok
-returns-in-Ok c =
-    subst (IsUnlessMemory c.few_bytes.result) (word_as_bytes-decoded c.args.most c.args.word.at c.args.word.text.now c.in-Ok.bytes.items c.in-Ok.ensures.ok) c.few_bytes.ensures.few
+pub returns-then-word-most : goal.returns-then-word-most
+returns-then-word-most c =
+    let hex : is_hex c.args.word.text.now ≡ true = sym c.is_hex.ensures ∙ c.if-not-is_hex.false in
+    rw (too_many c.args.most c.args.word.at c.args.word.text.now hex c.if-word-most.true) (search rules)
 
-pub returns-in-Err : goal.returns-in-Err
-returns-in-Err c =
-    undecoded-is c.args.most c.args.word.at c.args.word.text.now c.in-Err.fault c.undecoded.result c.in-Err.ensures.err c.undecoded.ensures
+pub returns : goal.returns
+returns c =
+    let hex : is_hex c.args.word.text.now ≡ true = sym c.is_hex.ensures ∙ c.if-not-is_hex.false in
+    rw (few_enough c.args.most c.args.word.at c.args.word.text.now hex c.if-word-most.false) (search rules)
