@@ -1,6 +1,7 @@
 //! The program's replies to commands: what each of them holds, and its text.
 #![tactic(auto)]
 
+mod digits;
 mod findings;
 mod laws;
 mod places;

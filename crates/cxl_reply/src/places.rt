@@ -3,6 +3,7 @@ ghost use Rattle.cxl_reply.specs.Words.{more_spaced};
 ghost use Rattle.cxl_reply.specs.Texts.{via_text, vias_text, down_head_text, down_end_text, down_text, up_text, loaded_text, slot_endpoint_text, extent_bytes_text, extent_text, extents_text, share_text, shares_text, spread_text};
 ghost use Rattle.cxl_reply.specs.Told.{IsToldDown, IsToldExtents, AreToldSlots};
 
+use crate::digits::put_bytes;
 use crate::told::{Downed, Extents, Spread, Upped, Via};
 use crate::words::{put_address, put_node};
 use cxl_enc::Memory;
@@ -103,9 +104,8 @@ pub(crate) fn put_up(upped: &Upped, out: &mut Vec<u8>) -> Result<(), Memory>
 pub(crate) fn put_loaded(bytes: &[u8], out: &mut Vec<u8>) -> Result<(), Memory>
     ensures { OnOk result (out.new.items ≡ out.old.items ++ loaded_text bytes.now) }
 {
-    let digits = hex::encode(*out.allocator(), bytes)?;
     out.extend_from_slice(b"bytes ")?;
-    out.extend_from_slice(digits.as_bytes())?;
+    put_bytes(bytes, out)?;
     out.push(b'\n')?;
     Ok(())
 }

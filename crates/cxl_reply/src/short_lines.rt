@@ -21,6 +21,7 @@ pub fn short(reply: &Reply) -> Option<ShortText>
     ensures which { is_some result ≡ has_short_text reply.now }
     ensures text { (nodes : List Node) → IfSome result (λ text. text ≡ reply_text nodes reply.now) }
 {
+    // Each line is made in a function that is not drawn in here, so that a reply without one does not clear the room for all.
     match reply {
         Reply::Created(named) => Some(created(named)),
         Reply::Destroyed(name) => Some(named_line(b"destroyed", name)),
@@ -36,6 +37,7 @@ pub fn short(reply: &Reply) -> Option<ShortText>
     }
 }
 
+#[inline(never)]
 fn created(named: &Named) -> ShortText
     requires { named.now.gran ≤ 6 }
     ensures { result ≡ created_text named.now }
@@ -50,6 +52,7 @@ fn created(named: &Named) -> ShortText
 }
 
 /// A word and a name.
+#[inline(never)]
 fn named_line(word: &[u8], name: &Name) -> ShortText
     requires { length word.now ≤ 20 }
     ensures { result ≡ named_text word.now name.now }
@@ -62,6 +65,7 @@ fn named_line(word: &[u8], name: &Name) -> ShortText
     text
 }
 
+#[inline(never)]
 fn stored(len: u32) -> ShortText
     ensures { result ≡ stored_text len }
 {
@@ -72,6 +76,7 @@ fn stored(len: u32) -> ShortText
     text
 }
 
+#[inline(never)]
 fn begun_line(begun: &Begun) -> ShortText
     ensures { result ≡ begun_text begun.now }
 {
@@ -84,6 +89,7 @@ fn begun_line(begun: &Begun) -> ShortText
     text
 }
 
+#[inline(never)]
 fn stepped(progress: &Progress) -> ShortText
     ensures { result ≡ stepped_text progress.now }
 {
@@ -105,6 +111,7 @@ fn put_progress(text: &mut ShortText, done: u32, total: u32)
 }
 
 /// A region was given the bytes of another, with the verb for how.
+#[inline(never)]
 fn carried_line(verb: &[u8], carried: &Carried) -> ShortText
     requires { length verb.now ≤ 20 }
     ensures { result ≡ carried_text verb.now carried.now }
@@ -121,6 +128,7 @@ fn carried_line(verb: &[u8], carried: &Carried) -> ShortText
     text
 }
 
+#[inline(never)]
 fn undone() -> ShortText
     ensures { result ≡ line (codes "bus fault undone") }
 {
@@ -129,6 +137,7 @@ fn undone() -> ShortText
     text
 }
 
+#[inline(never)]
 fn pending_line(pending: &Pending) -> ShortText
     ensures { result ≡ pending_text pending.now }
 {

@@ -1,4 +1,4 @@
-ghost use Rattle.std.specs.Prelude.{◌≡◌, ◌++◌, false, OnOk, OnErr};
+ghost use Rattle.std.specs.Prelude.{◌≡◌, ◌++◌, [], false, OnOk, OnErr};
 ghost use Rattle.cxl_reply.specs.Told.{IsTold, HasKnownCode};
 ghost use Rattle.cxl_reply.specs.Replies.{reply_text, has_short_text};
 
@@ -24,10 +24,28 @@ pub fn put_reply(reply: &Reply, topo: &Topo, out: &mut Vec<u8>) -> Result<(), Me
         out.extend_from_slice(text.bytes())?;
         return Ok(());
     }
+    if out.is_empty() {
+        return put_first(reply, topo, out);
+    }
     let mut text = Vec::new(*out.allocator());
     put_long(reply, topo, &mut text)?;
     out.extend_from_slice(&text)?;
     Ok(())
+}
+
+/// Puts the text of a reply that has no short text where none is yet, in the room that is there.
+fn put_first(reply: &Reply, topo: &Topo, out: &mut Vec<u8>) -> Result<(), Memory>
+    requires told { IsTold topo.now.nodes reply.now }
+    requires long { has_short_text reply.now ≡ false }
+    requires none { out.old.items ≡ [] }
+    ensures ok { OnOk result (out.new.items ≡ reply_text topo.now.nodes reply.now) }
+    ensures err { OnErr result (out.new.items ≡ []) }
+{
+    let put = put_long(reply, topo, out);
+    if put.is_err() {
+        out.clear();
+    }
+    put
 }
 
 /// Appends the text of a reply that has no short text.

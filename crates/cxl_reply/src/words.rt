@@ -1,9 +1,8 @@
 ghost use Rattle.std.specs.Prelude.{◌≡◌, ◌<◌, ◌≤◌, ◌++◌, length, OnOk, OnErr};
 ghost use Rattle.cxl_reply.specs.Words.{hex_text, gran_text, kind_text, node_text};
 
-use crate::short_text::ShortText;
 use cxl_enc::{MemKind, Memory, gran_of};
-use cxl_io::put_number;
+use cxl_io::{put_number, write_hex};
 use cxl_topo::Topo;
 
 /// Appends a node's name.
@@ -21,9 +20,11 @@ pub fn put_address(address: u64, out: &mut Vec<u8>) -> Result<(), Memory>
     ensures ok { OnOk result (out.new.items ≡ out.old.items ++ hex_text address) }
     ensures err { OnErr result (out.new.items ≡ out.old.items) }
 {
-    let mut text = ShortText::new();
-    text.put_hex(address);
-    out.extend_from_slice(text.bytes())?;
+    let mut digits = [b'0'; 16];
+    let start = write_hex(address, &mut digits);
+    out.reserve(18)?;
+    out.extend_from_slice(b"0x")?;
+    out.extend_from_slice(&digits[start..])?;
     Ok(())
 }
 
