@@ -1,4 +1,4 @@
-ghost use Rattle.std.specs.Prelude.{◌≡◌, ◌^◌, ◌<◌, ◌≤◌, length, drop, SomeIff};
+ghost use Rattle.std.specs.Prelude.{◌≡◌, ◌^◌, ◌<◌, ◌≤◌, None, length, drop, SomeIff};
 ghost use Rattle.std.specs.Char.{digit_value, is_digit};
 ghost use Rattle.std.specs.Str.Parse.{digits_value};
 ghost use Rattle.cxl_io.specs.Numbers.{first_bad_place, number_in, number_of};
@@ -40,10 +40,13 @@ fn read_digits(base: u64, start: usize, word: &[u8]) -> Result<u64, NumFault>
     if digits.is_empty() {
         return Err(NumFault::Empty);
     }
-    if let Some(at) = first_bad_place(base, digits) {
-        return Err(NumFault::BadDigit(start + at));
+    if let Some(value) = value_of(base, digits) {
+        return Ok(value);
     }
-    value_of(base, digits).ok_or(NumFault::TooLarge)
+    match first_bad_place(base, digits) {
+        Some(at) => Err(NumFault::BadDigit(start + at)),
+        None => Err(NumFault::TooLarge),
+    }
 }
 
 fn first_bad_place(base: u64, digits: &[u8]) -> Option<usize>
@@ -58,14 +61,18 @@ fn is_digit(byte: u8, base: u64) -> bool
     digit_of(byte) < base
 }
 
-/// The value of the digits in the base, where 64 bits hold it.
+/// The value of the digits in the base, where each byte is one and 64 bits hold it.
 fn value_of(base: u64, digits: &[u8]) -> Option<u64>
     requires { 1 ≤ base }
-    ensures { SomeIff result (digits_value base digits.now < 2 ^ 64) (digits_value base digits.now) }
+    ensures { SomeIff result ((first_bad_place base digits.now ≡ None) × (digits_value base digits.now < 2 ^ 64)) (digits_value base digits.now) }
 {
     let mut value = 0u64;
     for byte in digits {
-        value = value.checked_mul(base)?.checked_add(digit_of(*byte))?;
+        let digit = digit_of(*byte);
+        if digit >= base {
+            return None;
+        }
+        value = value.checked_mul(base)?.checked_add(digit)?;
     }
     Some(value)
 }
