@@ -1,7 +1,7 @@
 //! The texts of replies.
 
 ghost use Rattle.std.specs.Prelude.{◌≡◌, length};
-ghost use Rattle.cxl_reply.specs.Told.{IsTold, HasKnownCode};
+ghost use Rattle.cxl_reply.specs.Conditions.{IsTold, HasKnownCode};
 
 use cxl_enc::Name;
 use cxl_reply::{

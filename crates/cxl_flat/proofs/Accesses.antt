@@ -17,7 +17,7 @@ use Rattle.cxl_script.specs.declared.command.Store.{Store}
 use Rattle.cxl_model.specs.Contents.{Contents, content_at}
 use Rattle.cxl_reply.specs.declared.reply.Reply.{Reply}
 use Rattle.cxl_reply.specs.declared.reply.Reply.TheVariants as replies
-use Rattle.cxl_reply.specs.declared.told.Carried.{Carried}
+use Rattle.cxl_reply.specs.declared.details.Carried.{Carried}
 use Rattle.cxl_machine.specs.Machine.{Live, Machine, has_host, live_at, live_named, free_frames, with_contents}
 use Rattle.cxl_machine.specs.Accesses.{offset_in, load_answer, store_into, store_answer, frames_wanted}
 use Rattle.cxl_machine.specs.Bytes.{bytes_at, written}

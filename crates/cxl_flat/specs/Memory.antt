@@ -8,7 +8,7 @@ use Rattle.cxl_script.specs.declared.command.Store.{Store}
 use Rattle.cxl_model.specs.declared.found.Found.{Found}
 use Rattle.cxl_model.specs.Contents.{content_at}
 use Rattle.cxl_reply.specs.declared.reply.Reply.TheVariants as replies
-use Rattle.cxl_reply.specs.declared.told.Carried.{Carried}
+use Rattle.cxl_reply.specs.declared.details.Carried.{Carried}
 use Rattle.cxl_machine.specs.Machine.{Live, Machine, live_at, live_named, free_frames, kept_regions}
 use Rattle.cxl_machine.specs.Accesses.{offset_in, frames_wanted}
 use Rattle.cxl_machine.specs.Replies.{Answer}

@@ -26,7 +26,7 @@ use Rattle.cxl_model.specs.System.{System, IsSystem}
 use Rattle.cxl_apply.specs.Releases.{first_locked, first_not_last}
 use Rattle.cxl_reply.specs.declared.reply.Reply.{Reply}
 use Rattle.cxl_reply.specs.declared.reply.Reply.TheVariants as replies
-use Rattle.cxl_reply.specs.Told.{IsNode, IsToldFound, IsTold}
+use Rattle.cxl_reply.specs.Conditions.{IsNode, IsToldFound, IsTold}
 use Rattle.cxl_request.specs.Endpoints.{first_unknown}
 use Rattle.cxl_request.specs.Requests.{AsksForPlan}
 use Rattle.cxl_machine.specs.Machine.{Live, RegionJob, Machine, has_host, live_at, live_named, region_window, region_limit}

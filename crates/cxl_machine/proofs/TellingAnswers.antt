@@ -17,7 +17,7 @@ use Rattle.cxl_topo.specs.Kinds.{is_endpoint}
 use Rattle.cxl_topo.specs.Tree.{is_named}
 use Rattle.cxl_model.specs.Plans.{with_rows}
 use Rattle.cxl_reply.specs.declared.reply.Reply.{Reply}
-use Rattle.cxl_reply.specs.Told.{IsTold}
+use Rattle.cxl_reply.specs.Conditions.{IsTold}
 use Rattle.cxl_machine.specs.Machine.{Live, RegionJob, JobKind, Creates, Releases, Machine, live_at, live_named, free_frames}
 use Rattle.cxl_machine.specs.Jobs.{total_of, begun}
 use Rattle.cxl_machine.specs.Outcomes.{BusOutcome, NoFault, Undone, LeftPending, ReadFailed}

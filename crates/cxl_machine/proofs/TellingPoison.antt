@@ -17,7 +17,7 @@ use Rattle.cxl_poison.specs.Live.{SpanFields}
 use Rattle.cxl_poison.specs.Pieces.{Cut, AreRunsOf, ArePartsOf, ArePartsInAll, ArePoisonedPieces}
 use Rattle.cxl_poison.specs.Pieces as pieces
 use Rattle.cxl_reply.specs.declared.reply.Reply.{Reply}
-use Rattle.cxl_reply.specs.Told.{IsNode, IsTold}
+use Rattle.cxl_reply.specs.Conditions.{IsNode, IsTold}
 use Rattle.cxl_machine.specs.Machine.{Live, Machine}
 use Rattle.cxl_machine.specs.Reports.{live_regions, live_names, TouchesLive, TellsPoison, listed, short, few}
 

@@ -25,9 +25,9 @@ use Rattle.cxl_model.specs.Ranges.{index_for}
 use Rattle.cxl_model.specs.Regions.{region_range, IsRegionIn, weave_fields, Carries}
 use Rattle.cxl_model.specs.System.{System, IsSystem}
 use Rattle.cxl_apply.specs.Releases.{row_for, rows_of}
-use Rattle.cxl_reply.specs.declared.told.ShownRow.{ShownRow}
-use Rattle.cxl_reply.specs.declared.told.Via.{Via}
-use Rattle.cxl_reply.specs.Told.{IsNode, IsToldFound, AreToldSlots}
+use Rattle.cxl_reply.specs.declared.details.ShownRow.{ShownRow}
+use Rattle.cxl_reply.specs.declared.details.Via.{Via}
+use Rattle.cxl_reply.specs.Conditions.{IsNode, IsToldFound, AreToldSlots}
 use Rattle.cxl_machine.specs.Accesses.{via_of, five_vias, slot_place, endpoints_by_slot}
 use Rattle.cxl_machine.specs.Reports.{shown_row}
 use Rattle.cxl_machine.proofs.Deciding.{contains_at}

@@ -16,8 +16,8 @@ use Rattle.cxl_model.specs.Dealing.{slot_steps}
 use Rattle.cxl_model.specs.Regions.{region_range, Carries}
 use Rattle.cxl_reply.specs.declared.reply.Reply.{Reply}
 use Rattle.cxl_reply.specs.declared.reply.Reply.TheVariants as replies
-use Rattle.cxl_reply.specs.declared.told.Downed.{Downed}
-use Rattle.cxl_reply.specs.declared.told.Via.{Via}
+use Rattle.cxl_reply.specs.declared.details.Downed.{Downed}
+use Rattle.cxl_reply.specs.declared.details.Via.{Via}
 use Rattle.cxl_machine.specs.Machine.{Live, Machine, region_window, weave_of, free_frames, with_contents}
 use Rattle.cxl_machine.specs.Bytes.{bytes_at, new_pieces, written}
 use Rattle.cxl_machine.specs.Elsewhere.{extents_of, spread_of}

@@ -4,7 +4,7 @@ use Rattle.std.specs.Str.{bytes_eq}
 use Rattle.std.specs.FinMap as map
 use Rattle.cxl_script.specs.declared.command.Pair.{Pair}
 use Rattle.cxl_reply.specs.declared.reply.Reply.TheVariants as replies
-use Rattle.cxl_reply.specs.declared.told.Carried.{Carried}
+use Rattle.cxl_reply.specs.declared.details.Carried.{Carried}
 use Rattle.cxl_machine.specs.Machine.{Live, Machine, free_frames, with_contents}
 use Rattle.cxl_machine.specs.Replies.{Answer, stays, becomes, at_name}
 

@@ -3,7 +3,7 @@ use Rattle.std.specs.Prelude.{◌≡◌, ℕ, ◌+◌, nat_le, if◌then◌else�
 use Rattle.cxl_script.specs.declared.command.Create.{Create}
 use Rattle.cxl_reply.specs.declared.reply.Reply.{Reply}
 use Rattle.cxl_reply.specs.declared.reply.Reply.TheVariants as replies
-use Rattle.cxl_reply.specs.declared.told.Named.{Named}
+use Rattle.cxl_reply.specs.declared.details.Named.{Named}
 use Rattle.cxl_machine.specs.Machine.{Live, RegionJob, JobKind, Creates, Releases, Machine}
 use Rattle.cxl_machine.specs.Jobs.{total_of, at_done, begun, finished, undone}
 use Rattle.cxl_machine.specs.Outcomes.{BusOutcome, NoFault, Undone, LeftPending, ReadFailed, IsLeftOfWhole, IsLeftOfSteps, IsLeftOfAbort}

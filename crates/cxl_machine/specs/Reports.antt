@@ -13,8 +13,8 @@ use Rattle.cxl_poison.specs.declared.fault.Said.{Said}
 use Rattle.cxl_apply.specs.Releases.{rows_of}
 use Rattle.cxl_reply.specs.declared.reply.Reply.{Reply}
 use Rattle.cxl_reply.specs.declared.reply.Reply.TheVariants as replies
-use Rattle.cxl_reply.specs.declared.told.Shown.{Shown}
-use Rattle.cxl_reply.specs.declared.told.ShownRow.{ShownRow}
+use Rattle.cxl_reply.specs.declared.details.Shown.{Shown}
+use Rattle.cxl_reply.specs.declared.details.ShownRow.{ShownRow}
 use Rattle.cxl_machine.specs.Machine.{Live, Machine, live_named}
 use Rattle.cxl_machine.specs.Outcomes.{BusOutcome, NoFault, Undone, LeftPending, ReadFailed}
 use Rattle.cxl_machine.specs.Elsewhere.{IsPoisonPayload, IsPoisonFault, ArePoisonedPieces}

@@ -8,7 +8,7 @@ use Rattle.cxl_script.specs.declared.command.Create.{Create}
 use Rattle.cxl_apply.specs.Releases.{first_locked, first_not_last}
 use Rattle.cxl_reply.specs.declared.reply.Reply.{Reply}
 use Rattle.cxl_reply.specs.declared.reply.Reply.TheVariants as replies
-use Rattle.cxl_reply.specs.declared.told.Spot.{Spot}
+use Rattle.cxl_reply.specs.declared.details.Spot.{Spot}
 use Rattle.cxl_request.specs.Endpoints.{first_unknown}
 use Rattle.cxl_request.specs.Requests.{AsksForPlan}
 use Rattle.cxl_machine.specs.Machine.{Live, RegionJob, Machine, region_limit, live_named, place_named}

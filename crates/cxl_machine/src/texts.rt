@@ -2,7 +2,7 @@
 
 ghost use Rattle.cxl_script.specs.declared.command.Command.{Command};
 ghost use Rattle.cxl_script.specs.Grammar.{IsRanged};
-ghost use Rattle.cxl_reply.specs.Told.{IsTold};
+ghost use Rattle.cxl_reply.specs.Conditions.{IsTold};
 ghost use Rattle.cxl_machine.specs.Machine.{Machine};
 ghost use Rattle.cxl_machine.specs.Outcomes.{BusOutcome};
 ghost use Rattle.cxl_machine.specs.Replies.{Answer};

@@ -19,7 +19,7 @@ use Rattle.cxl_model.specs.Counts.{is_endpoint_of}
 use Rattle.cxl_model.specs.Ranges.{serves}
 use Rattle.cxl_model.specs.Rules.{keeps_window, keeps_targets, keeps_reach, keeps_ways}
 use Rattle.cxl_model.specs.Regions.{region_range}
-use Rattle.cxl_reply.specs.Told.{IsNode, IsToldFound}
+use Rattle.cxl_reply.specs.Conditions.{IsNode, IsToldFound}
 
 -- a test that holds of an item of a list holds within it
 within_list : {A : Type 0} (xs : List A) (n : ℕ) (test : A → Bool) (own : Option A) → own ≡ slice_get xs n → option_map_or test own false ≡ true → n < length xs

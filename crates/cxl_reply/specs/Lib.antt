@@ -3,5 +3,5 @@ pub mod Short
 pub mod Texts
 pub mod Refusals
 pub mod Replies
-pub mod Told
+pub mod Conditions
 pub mod Plans

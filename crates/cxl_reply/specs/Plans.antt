@@ -10,7 +10,7 @@ use Rattle.cxl_topo.specs.declared.node.Node.{Node}
 use Rattle.cxl_topo.specs.Tree.{is_endpoint_at}
 use Rattle.cxl_reply.specs.Words.{line, hex_text, gran_text, kind_text, node_text}
 use Rattle.cxl_reply.specs.Texts.{layout_text, slots_text}
-use Rattle.cxl_reply.specs.Told.{IsNode}
+use Rattle.cxl_reply.specs.Conditions.{IsNode}
 
 -- ---- plans
 

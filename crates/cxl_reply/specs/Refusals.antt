@@ -11,11 +11,11 @@ use Rattle.cxl_model.specs.declared.plan.Reason.TheVariants as reasons
 use Rattle.cxl_script.specs.declared.fault.BadLine.{BadLine}
 use Rattle.cxl_script.specs.declared.fault.Why.{Why}
 use Rattle.cxl_script.specs.declared.fault.Why.TheVariants as whys
-use Rattle.cxl_reply.specs.declared.told.Lack.{Lack}
-use Rattle.cxl_reply.specs.declared.told.Spot.{Spot}
-use Rattle.cxl_reply.specs.declared.told.Counted.{Counted}
-use Rattle.cxl_reply.specs.declared.told.Pending.{Pending}
-use Rattle.cxl_reply.specs.declared.told.Sizes.{Sizes}
+use Rattle.cxl_reply.specs.declared.details.Lack.{Lack}
+use Rattle.cxl_reply.specs.declared.details.Spot.{Spot}
+use Rattle.cxl_reply.specs.declared.details.Counted.{Counted}
+use Rattle.cxl_reply.specs.declared.details.Pending.{Pending}
+use Rattle.cxl_reply.specs.declared.details.Sizes.{Sizes}
 use Rattle.cxl_reply.specs.Words.{line, hex_text, node_text}
 use Rattle.cxl_reply.specs.Texts.{progress_text}
 

@@ -11,18 +11,18 @@ use Rattle.cxl_model.specs.declared.poison.Part.{Part}
 use Rattle.cxl_model.specs.declared.poison.Part.TheVariants as parts
 use Rattle.cxl_model.specs.declared.poison.PoisonList.{PoisonList}
 use Rattle.cxl_model.specs.declared.poison.Poisoned.{Poisoned}
-use Rattle.cxl_reply.specs.declared.told.Named.{Named}
-use Rattle.cxl_reply.specs.declared.told.Shown.{Shown}
-use Rattle.cxl_reply.specs.declared.told.ShownRow.{ShownRow}
-use Rattle.cxl_reply.specs.declared.told.Downed.{Downed}
-use Rattle.cxl_reply.specs.declared.told.Via.{Via}
-use Rattle.cxl_reply.specs.declared.told.Upped.{Upped}
-use Rattle.cxl_reply.specs.declared.told.Report.{Report}
-use Rattle.cxl_reply.specs.declared.told.Begun.{Begun}
-use Rattle.cxl_reply.specs.declared.told.Progress.{Progress}
-use Rattle.cxl_reply.specs.declared.told.Extents.{Extents}
-use Rattle.cxl_reply.specs.declared.told.Spread.{Spread}
-use Rattle.cxl_reply.specs.declared.told.Carried.{Carried}
+use Rattle.cxl_reply.specs.declared.details.Named.{Named}
+use Rattle.cxl_reply.specs.declared.details.Shown.{Shown}
+use Rattle.cxl_reply.specs.declared.details.ShownRow.{ShownRow}
+use Rattle.cxl_reply.specs.declared.details.Downed.{Downed}
+use Rattle.cxl_reply.specs.declared.details.Via.{Via}
+use Rattle.cxl_reply.specs.declared.details.Upped.{Upped}
+use Rattle.cxl_reply.specs.declared.details.Report.{Report}
+use Rattle.cxl_reply.specs.declared.details.Begun.{Begun}
+use Rattle.cxl_reply.specs.declared.details.Progress.{Progress}
+use Rattle.cxl_reply.specs.declared.details.Extents.{Extents}
+use Rattle.cxl_reply.specs.declared.details.Spread.{Spread}
+use Rattle.cxl_reply.specs.declared.details.Carried.{Carried}
 use Rattle.cxl_reply.specs.Words.{line, hex_text, gran_text, kind_text, node_text, bytes_text, spaced}
 
 -- ---- regions

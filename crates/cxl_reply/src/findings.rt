@@ -1,6 +1,6 @@
 ghost use Rattle.std.specs.Prelude.{◌≡◌, ◌<◌, ◌≤◌, ◌++◌, length, OnOk, OnErr};
 ghost use Rattle.cxl_reply.specs.Plans.{found_range_text, found_ways_text, found_head_text, found_text, breach_text};
-ghost use Rattle.cxl_reply.specs.Told.{IsToldFound};
+ghost use Rattle.cxl_reply.specs.Conditions.{IsToldFound};
 
 use crate::region::put_slots;
 use crate::words::{kind_text, put_address, put_gran, put_node};

@@ -3,7 +3,7 @@ ghost use Rattle.cxl_model.specs.declared.found.Found.{Found};
 ghost use Rattle.cxl_model.specs.System.{System, IsSystem};
 ghost use Rattle.cxl_model.specs.Accepted.{breaks};
 ghost use Rattle.cxl_model.specs.Regions.{IsRegion};
-ghost use Rattle.cxl_reply.specs.Told.{IsToldFound};
+ghost use Rattle.cxl_reply.specs.Conditions.{IsToldFound};
 
 use cxl_model::{hosts_with_caps_are_systems, slots_are_endpoints, weaves_fill_their_regions};
 

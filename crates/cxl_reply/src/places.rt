@@ -1,10 +1,10 @@
 ghost use Rattle.std.specs.Prelude.{◌≡◌, ◌<◌, ◌≤◌, ◌++◌, All, length, map, OnOk};
 ghost use Rattle.cxl_reply.specs.Words.{more_spaced};
 ghost use Rattle.cxl_reply.specs.Texts.{via_text, vias_text, down_head_text, down_end_text, down_text, up_text, loaded_text, slot_endpoint_text, extent_bytes_text, extent_text, extents_text, share_text, shares_text, spread_text};
-ghost use Rattle.cxl_reply.specs.Told.{IsToldDown, IsToldExtents, AreToldSlots};
+ghost use Rattle.cxl_reply.specs.Conditions.{IsToldDown, IsToldExtents, AreToldSlots};
 
+use crate::details::{Downed, Extents, Spread, Upped, Via};
 use crate::digits::put_bytes;
-use crate::told::{Downed, Extents, Spread, Upped, Via};
 use crate::words::{put_address, put_node};
 use cxl_enc::Memory;
 use cxl_io::put_number;

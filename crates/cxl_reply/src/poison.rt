@@ -2,10 +2,10 @@ ghost use Rattle.std.specs.Prelude.{◌≡◌, ◌<◌, ◌++◌, All, codes, le
 ghost use Rattle.std.specs.List.{flat_map, zip};
 ghost use Rattle.cxl_reply.specs.Words.{line};
 ghost use Rattle.cxl_reply.specs.Texts.{flag_text, overflow_text, flags_text, list_text, source_text, entry_text, region_text, part_text, unmapped_text, record_text, report_text};
-ghost use Rattle.cxl_reply.specs.Told.{region_of, IsToldReport};
+ghost use Rattle.cxl_reply.specs.Conditions.{region_of, IsToldReport};
 
+use crate::details::Report;
 use crate::refusal::put_text;
-use crate::told::Report;
 use crate::words::{put_address, put_node};
 use cxl_enc::{Memory, Name};
 use cxl_io::put_number;

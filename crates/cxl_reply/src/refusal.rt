@@ -2,9 +2,9 @@ ghost use Rattle.std.specs.Prelude.{◌≡◌, ◌<◌, ◌++◌, All, codes, de
 ghost use Rattle.cxl_reply.specs.Words.{line, hex_text, node_text};
 ghost use Rattle.std.specs.List.{flat_map, enumerate_from};
 ghost use Rattle.cxl_reply.specs.Refusals.{why_text, bad_line_text, named_text, full_text, spot_text, sizes_text, span_text, reason_text, window_text, plan_fault_text, count_text};
-ghost use Rattle.cxl_reply.specs.Told.{IsToldReason, IsToldFault};
+ghost use Rattle.cxl_reply.specs.Conditions.{IsToldReason, IsToldFault};
 
-use crate::told::{Counted, Lack, Sizes, Spot};
+use crate::details::{Counted, Lack, Sizes, Spot};
 use crate::words::{put_address, put_node};
 use cxl_enc::{Memory, Name};
 use cxl_io::put_number;

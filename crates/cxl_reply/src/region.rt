@@ -2,10 +2,10 @@ ghost use Rattle.std.specs.Prelude.{◌≡◌, ◌<◌, ◌≤◌, ◌++◌, All
 ghost use Rattle.std.specs.List.{flat_map, enumerate_from};
 ghost use Rattle.cxl_reply.specs.Words.{more_spaced};
 ghost use Rattle.cxl_reply.specs.Texts.{shown_head_text, layout_text, row_text, word_text, shown_words_text, slot_text, slots_text, shown_text};
-ghost use Rattle.cxl_reply.specs.Told.{IsToldFound, IsToldShown};
+ghost use Rattle.cxl_reply.specs.Conditions.{IsToldFound, IsToldShown};
 
+use crate::details::{Shown, ShownRow};
 use crate::short_text::ShortText;
-use crate::told::{Shown, ShownRow};
 use crate::words::{kind_text, put_address, put_node};
 use cxl_enc::Memory;
 use cxl_io::{put_hex, put_number};

@@ -1,4 +1,4 @@
-use crate::told::{
+use crate::details::{
     Begun, Carried, Counted, Downed, Extents, Lack, Named, Pending, Progress, Report, Shown, Sizes,
     Spot, Spread, Upped,
 };

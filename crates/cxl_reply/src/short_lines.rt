@@ -2,14 +2,14 @@ ghost use Rattle.std.specs.Prelude.{◌≡◌, ◌≤◌, ◌++◌, ◌∷◌, L
 ghost use Rattle.cxl_reply.specs.Words.{line};
 ghost use Rattle.cxl_topo.specs.declared.node.Node.{Node};
 ghost use Rattle.cxl_reply.specs.Short.{short_limit};
-ghost use Rattle.cxl_reply.specs.Told.{HasKnownCode};
+ghost use Rattle.cxl_reply.specs.Conditions.{HasKnownCode};
 ghost use Rattle.cxl_reply.specs.Texts.{created_text, stored_text, begun_text, stepped_text, progress_text, carried_text};
 ghost use Rattle.cxl_reply.specs.Refusals.{named_text, pending_text};
 ghost use Rattle.cxl_reply.specs.Replies.{reply_text, has_short_text};
 
+use crate::details::{Begun, Carried, Named, Pending, Progress};
 use crate::reply::Reply;
 use crate::short_text::ShortText;
-use crate::told::{Begun, Carried, Named, Pending, Progress};
 use cxl_enc::Name;
 
 /// The text of a reply to a command that changed something, or whose register writes the bus stopped:

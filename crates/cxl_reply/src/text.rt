@@ -1,5 +1,5 @@
 ghost use Rattle.std.specs.Prelude.{◌≡◌, ◌++◌, [], false, OnOk, OnErr};
-ghost use Rattle.cxl_reply.specs.Told.{IsTold, HasKnownCode};
+ghost use Rattle.cxl_reply.specs.Conditions.{IsTold, HasKnownCode};
 ghost use Rattle.cxl_reply.specs.Replies.{reply_text, has_short_text};
 
 use crate::places::{put_down, put_extents, put_loaded, put_spread, put_up};

@@ -34,7 +34,7 @@ use Rattle.cxl_pick.specs.declared.want.Want.{Want}
 use Rattle.cxl_regs.specs.Registers.{Registers}
 use Rattle.cxl_regs.specs.declared.decoder.Decoder.{Decoder}
 use Rattle.cxl_reply.specs.Plans.{IsToldRow, IsToldPlan}
-use Rattle.cxl_reply.specs.Told.{IsToldFound, IsToldReason, IsToldFault, IsTold}
+use Rattle.cxl_reply.specs.Conditions.{IsToldFound, IsToldReason, IsToldFault, IsTold}
 use Rattle.cxl_reply.specs.declared.reply.Reply.{Reply}
 use Rattle.cxl_script.specs.declared.command.Create.{Create}
 use Rattle.cxl_span.specs.Allotting.{all_committed, Allots}

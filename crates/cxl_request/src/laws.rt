@@ -7,7 +7,7 @@ ghost use Rattle.cxl_model.specs.Plans.{IsLegalPlan};
 ghost use Rattle.cxl_model.specs.System.{System, IsSystem};
 ghost use Rattle.cxl_model.specs.declared.plan.Plan.{Plan};
 ghost use Rattle.cxl_reply.specs.Plans.{IsToldPlan};
-ghost use Rattle.cxl_reply.specs.Told.{IsTold};
+ghost use Rattle.cxl_reply.specs.Conditions.{IsTold};
 ghost use Rattle.cxl_reply.specs.declared.reply.Reply.{Reply};
 ghost use Rattle.cxl_script.specs.Grammar.{StatesGranCode};
 ghost use Rattle.cxl_script.specs.declared.command.Create.{Create};

@@ -8,7 +8,7 @@ ghost use Rattle.cxl_model.specs.Hosts.{as_system};
 ghost use Rattle.cxl_model.specs.declared.plan.PlanFault.{PlanFault};
 ghost use Rattle.cxl_pick.specs.declared.fault.PickFault.{PickFault};
 ghost use Rattle.cxl_reply.specs.Plans.{IsToldPlan};
-ghost use Rattle.cxl_reply.specs.Told.{IsTold};
+ghost use Rattle.cxl_reply.specs.Conditions.{IsTold};
 ghost use Rattle.cxl_script.specs.Grammar.{StatesGranCode};
 ghost use Rattle.cxl_request.specs.Plans.{IsPlanFor, IsRefusal};
 ghost use Rattle.cxl_request.specs.Requests.{request_for, want_of, pick_reply, plan_over, plan_unless_unknown, plan_of_line, AsksForPlan};

@@ -14,8 +14,8 @@ use Rattle.cxl_model.specs.Regions.{region_range, weave_fields}
 use Rattle.cxl_walk.specs.declared.route.Route.{Route}
 use Rattle.cxl_walk.specs.Routes.{routing_of, steps_of, no_step}
 use Rattle.cxl_move.proofs.Dealt.{IsDealtTo, dealt_to}
-use Rattle.cxl_reply.specs.declared.told.Downed.{Downed}
-use Rattle.cxl_reply.specs.declared.told.Via.{Via}
+use Rattle.cxl_reply.specs.declared.details.Downed.{Downed}
+use Rattle.cxl_reply.specs.declared.details.Via.{Via}
 use Rattle.cxl_machine.specs.Machine.{Live, Machine, has_host, region_window}
 use Rattle.cxl_machine.specs.Accesses.{slot_of_host, slot_place, steps_to, via_of, five_vias, downed}
 

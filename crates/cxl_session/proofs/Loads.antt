@@ -16,7 +16,7 @@ use Rattle.cxl_model.specs.Regions.{IsRegionIn}
 use Rattle.cxl_walk.specs.Keeping.{KeptFields, IsKeptOf}
 use Rattle.cxl_move.specs.Sides.{IsPieceAt}
 use Rattle.cxl_move.specs.Holdings.{told_in, AreHoldings}
-use Rattle.cxl_reply.specs.declared.told.Downed.{Downed}
+use Rattle.cxl_reply.specs.declared.details.Downed.{Downed}
 use Rattle.cxl_reply.specs.declared.reply.Reply.TheVariants as replies
 use Rattle.cxl_machine.specs.Machine.{Live, Machine, has_host, region_window}
 use Rattle.cxl_machine.specs.Sound.{IsMachine}

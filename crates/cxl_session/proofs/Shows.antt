@@ -29,7 +29,7 @@ use Rattle.cxl_apply.proofs.Freed.{all_rows, row_parts}
 use Rattle.cxl_apply.proofs.Places.{IsThere}
 use Rattle.cxl_apply.proofs.RowWrites.{word_back}
 use Rattle.cxl_reply.specs.declared.reply.Reply.TheVariants as replies
-use Rattle.cxl_reply.specs.declared.told.ShownRow.{ShownRow}
+use Rattle.cxl_reply.specs.declared.details.ShownRow.{ShownRow}
 use Rattle.cxl_machine.specs.Machine.{Live, Machine, live_named, present, image_of}
 use Rattle.cxl_machine.specs.Outcomes.{NoFault, ReadFailed}
 use Rattle.cxl_machine.specs.Replies.{stays}

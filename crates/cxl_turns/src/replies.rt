@@ -6,7 +6,7 @@ ghost use Rattle.cxl_io.specs.Sink.{Takes, TakesPrefix};
 ghost use Rattle.cxl_topo.specs.declared.node.Node.{Node};
 ghost use Rattle.cxl_reply.specs.declared.reply.Reply.TheVariants as replies;
 ghost use Rattle.cxl_reply.specs.Replies.{reply_text, has_short_text};
-ghost use Rattle.cxl_reply.specs.Told.{IsTold};
+ghost use Rattle.cxl_reply.specs.Conditions.{IsTold};
 ghost use Rattle.cxl_turns.specs.declared.stops.Stop.TheVariants as stops;
 
 use crate::stops::Stop;

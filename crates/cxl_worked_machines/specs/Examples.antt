@@ -16,8 +16,8 @@ use Rattle.cxl_model.specs.Contents.{Contents}
 use Rattle.cxl_worked.specs.Examples.{two_bridges, two_bridges_with, window_of_both, of_both, decoder, port_block, endpoint_block, endpoint_block_of_two, port_cap, endpoint_cap}
 use Rattle.cxl_worked.specs.ExampleRegions.{region_of_two}
 use Rattle.cxl_reply.specs.declared.reply.Reply.TheVariants as replies
-use Rattle.cxl_reply.specs.declared.told.Named.{Named}
-use Rattle.cxl_reply.specs.declared.told.ShownRow.{ShownRow}
+use Rattle.cxl_reply.specs.declared.details.Named.{Named}
+use Rattle.cxl_reply.specs.declared.details.ShownRow.{ShownRow}
 use Rattle.cxl_media.specs.MediaState.{MediaState}
 use Rattle.cxl_machine.specs.Bytes.{piece_after, written}
 use Rattle.cxl_machine.specs.Machine.{Live, RegionJob, Machine}

@@ -1,7 +1,7 @@
 //! Whether a reply names nodes of the eleven that the tests have.
 
 ghost use Rattle.std.specs.Prelude.{◌≡◌, ◌<◌, ◌↔◌, List, All, length, IsTrue};
-ghost use Rattle.cxl_reply.specs.Told.{IsTold, IsToldFound, IsToldShown, IsToldDown, IsToldReport, AreToldSlots, IsToldExtents, IsToldReason, IsToldFault, HasKnownCode, region_of};
+ghost use Rattle.cxl_reply.specs.Conditions.{IsTold, IsToldFound, IsToldShown, IsToldDown, IsToldReport, AreToldSlots, IsToldExtents, IsToldReason, IsToldFault, HasKnownCode, region_of};
 ghost use Rattle.cxl_reply.specs.Plans.{IsToldRow, IsToldPlan};
 ghost use Rattle.cxl_topo.specs.declared.node.Node.{Node};
 

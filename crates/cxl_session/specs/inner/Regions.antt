@@ -12,7 +12,7 @@ use Rattle.cxl_media.specs.MediaState.{MediaState, frame_count}
 use Rattle.cxl_move.specs.Sides.{IsCleared}
 use Rattle.cxl_reply.specs.declared.reply.Reply.{Reply}
 use Rattle.cxl_reply.specs.declared.reply.Reply.TheVariants as replies
-use Rattle.cxl_reply.specs.declared.told.Named.{Named}
+use Rattle.cxl_reply.specs.declared.details.Named.{Named}
 use Rattle.cxl_machine.specs.Machine.{RegionJob, Machine}
 use Rattle.cxl_machine.specs.Jobs.{begun, undone}
 use Rattle.cxl_machine.specs.Outcomes.{BusOutcome, faults_of_whole}

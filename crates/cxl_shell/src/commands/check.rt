@@ -5,7 +5,7 @@ ghost use Rattle.cxl_model.specs.Accepted.{IsAccepted, HasFirstBreach};
 ghost use Rattle.cxl_model.specs.Listed.{AreRegionsByBase};
 ghost use Rattle.cxl_model.specs.System.{IsSystem, system_of};
 ghost use Rattle.cxl_regs.specs.Registers.{Registers};
-ghost use Rattle.cxl_reply.specs.Told.{IsToldFound};
+ghost use Rattle.cxl_reply.specs.Conditions.{IsToldFound};
 ghost use Rattle.cxl_topo.specs.Tree.{Tree};
 ghost use Rattle.cxl_shell.specs.Answers.{IsStop};
 ghost use Rattle.cxl_shell.specs.Ends.{Ends, IsBehind, IsStopped};

@@ -4,7 +4,7 @@ ghost use Rattle.cxl_io.specs.Sink.{Takes};
 ghost use Rattle.cxl_model.specs.Accepted.{IsAccepted};
 ghost use Rattle.cxl_model.specs.System.{IsSystem, system_of};
 ghost use Rattle.cxl_reply.specs.Plans.{IsToldPlan};
-ghost use Rattle.cxl_reply.specs.Told.{IsTold};
+ghost use Rattle.cxl_reply.specs.Conditions.{IsTold};
 ghost use Rattle.cxl_request.specs.Plans.{HasPlan, HasNoPlan};
 ghost use Rattle.cxl_script.specs.Grammar.{StatesGranCode};
 ghost use Rattle.cxl_script.specs.declared.command.Create.{Create};

@@ -1,7 +1,7 @@
 use Rattle.cxl_model.specs.Hosts.{as_system}
 use Rattle.cxl_model.specs.System.{System}
 use Rattle.cxl_reply.specs.Plans.{IsToldPlan}
-use Rattle.cxl_reply.specs.Told.{IsTold}
+use Rattle.cxl_reply.specs.Conditions.{IsTold}
 use Rattle.cxl_request.proofs.Lines.{where_plan, where_refusal}
 use Rattle.cxl_request.proofs.requests.asked_plan.Goals as goal
 

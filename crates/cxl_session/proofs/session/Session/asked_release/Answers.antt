@@ -2,7 +2,7 @@ use Rattle.std.proofs.Common.{◌≡◌, ℕ, List, None, Err, sym, ap, ◌∙�
 use Rattle.std.specs.Prelude.{find, position, option_map}
 use Rattle.std.specs.Str.{bytes_eq}
 use Rattle.cxl_reply.specs.declared.reply.Reply.TheVariants as replies
-use Rattle.cxl_reply.specs.declared.told.Spot.{Spot}
+use Rattle.cxl_reply.specs.declared.details.Spot.{Spot}
 use Rattle.cxl_model.specs.System.{blocks_alone}
 use Rattle.cxl_session.specs.Inside.{job_fields}
 use Rattle.cxl_session.specs.State.{SessionState}

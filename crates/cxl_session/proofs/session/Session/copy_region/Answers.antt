@@ -1,7 +1,7 @@
 use Rattle.std.proofs.Common.{◌≡◌, ◌+◌, ◌<◌, ◌≤◌, ◌∙◌, ap, sym, subst, length, List, ℕ, arith}
 use Rattle.cxl_media.specs.MediaState.{MediaState}
-use Rattle.cxl_reply.specs.declared.told.Carried.{Carried}
-use Rattle.cxl_reply.specs.declared.told.Lack.{Lack}
+use Rattle.cxl_reply.specs.declared.details.Carried.{Carried}
+use Rattle.cxl_reply.specs.declared.details.Lack.{Lack}
 use Rattle.cxl_reply.specs.declared.reply.Reply.TheVariants as replies
 use Rattle.cxl_machine.specs.Copies.{copy_answer}
 use Rattle.cxl_session.specs.inner.Answering.{IsWritten}

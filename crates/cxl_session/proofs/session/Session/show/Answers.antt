@@ -5,7 +5,7 @@ use Rattle.cxl_model.specs.declared.plan.Row.{Row}
 use Rattle.cxl_model.specs.System.{system_of}
 use Rattle.cxl_apply.specs.Releases.{rows_of}
 use Rattle.cxl_reply.specs.declared.reply.Reply.TheVariants as replies
-use Rattle.cxl_reply.specs.declared.told.ShownRow.{ShownRow}
+use Rattle.cxl_reply.specs.declared.details.ShownRow.{ShownRow}
 use Rattle.cxl_session.specs.State.{SessionState}
 use Rattle.cxl_session.specs.inner.Answering.{IsTurnFor}
 use Rattle.cxl_session.proofs.Shows.{IsShown, HasRead, rows_stand, shown_turn, unread_turn, unnamed_turn}

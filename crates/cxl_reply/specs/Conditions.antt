@@ -10,10 +10,10 @@ use Rattle.cxl_model.specs.declared.plan.Reason.TheVariants as reasons
 pub use Rattle.cxl_model.specs.Poison.{region_of}
 use Rattle.cxl_reply.specs.declared.reply.Reply.{Reply}
 use Rattle.cxl_reply.specs.declared.reply.Reply.TheVariants as replies
-use Rattle.cxl_reply.specs.declared.told.Downed.{Downed}
-use Rattle.cxl_reply.specs.declared.told.Extents.{Extents}
-use Rattle.cxl_reply.specs.declared.told.Report.{Report}
-use Rattle.cxl_reply.specs.declared.told.Shown.{Shown}
+use Rattle.cxl_reply.specs.declared.details.Downed.{Downed}
+use Rattle.cxl_reply.specs.declared.details.Extents.{Extents}
+use Rattle.cxl_reply.specs.declared.details.Report.{Report}
+use Rattle.cxl_reply.specs.declared.details.Shown.{Shown}
 
 abbrev pub IsNode : List Node → ℕ → Type 0
 IsNode nodes n = n < length nodes
