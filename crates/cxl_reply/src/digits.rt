@@ -7,7 +7,7 @@ ghost use Rattle.cxl_reply.specs.Words.{bytes_text};
 use cxl_enc::Memory;
 
 /// Appends two digits for each byte.
-pub(crate) fn put_bytes(bytes: &[u8], out: &mut Vec<u8>) -> Result<(), Memory>
+pub(crate) fn put_bytes(out: &mut Vec<u8>, bytes: &[u8]) -> Result<(), Memory>
     ensures { OnOk result (out.new.items ≡ out.old.items ++ bytes_text bytes.now) }
 {
     let start = out.len();

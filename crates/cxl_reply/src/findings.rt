@@ -11,24 +11,24 @@ use cxl_topo::Topo;
 
 /// Appends a region of an image and its slots, a line each. After `Memory` the text is as before. (This
 /// project's rule.) Takes memory.
-pub fn put_found(found: &Found, topo: &Topo, out: &mut Vec<u8>) -> Result<(), Memory>
+pub fn put_found(out: &mut Vec<u8>, found: &Found, topo: &Topo) -> Result<(), Memory>
     requires { IsToldFound topo.now.nodes found.now }
     ensures ok { OnOk result (out.new.items ≡ out.old.items ++ found_text topo.now.nodes found.now) }
     ensures err { OnErr result (out.new.items ≡ out.old.items) }
 {
     let mut text = Vec::new(*out.allocator());
-    put_found_head(found, &mut text)?;
-    put_slots(found.spans.items(), topo, &mut text)?;
+    put_found_head(&mut text, found)?;
+    put_slots(&mut text, found.spans.items(), topo)?;
     out.extend_from_slice(&text)?;
     Ok(())
 }
 
-fn put_found_head(found: &Found, out: &mut Vec<u8>) -> Result<(), Memory>
+fn put_found_head(out: &mut Vec<u8>, found: &Found) -> Result<(), Memory>
     requires { found.now.gran ≤ 6 }
     ensures { OnOk result (out.new.items ≡ out.old.items ++ found_head_text found.now) }
 {
-    put_found_range(found, out)?;
-    put_found_ways(found, out)?;
+    put_found_range(out, found)?;
+    put_found_ways(out, found)?;
     out.push(b' ')?;
     out.extend_from_slice(kind_text(found.kind))?;
     out.push(b'\n')?;
@@ -36,24 +36,24 @@ fn put_found_head(found: &Found, out: &mut Vec<u8>) -> Result<(), Memory>
 }
 
 #[tactic(auto, unfolding(crate::specs::Plans::found_ways_text))]
-fn put_found_ways(found: &Found, out: &mut Vec<u8>) -> Result<(), Memory>
+fn put_found_ways(out: &mut Vec<u8>, found: &Found) -> Result<(), Memory>
     requires { found.now.gran ≤ 6 }
     ensures { OnOk result (out.new.items ≡ out.old.items ++ found_ways_text found.now) }
 {
     out.extend_from_slice(b" gran ")?;
-    put_gran(found.gran, out)?;
+    put_gran(out, found.gran)?;
     out.extend_from_slice(b" ways ")?;
     put_number(out, u64::from(found.ways))
 }
 
 #[tactic(auto, unfolding(crate::specs::Plans::found_range_text))]
-fn put_found_range(found: &Found, out: &mut Vec<u8>) -> Result<(), Memory>
+fn put_found_range(out: &mut Vec<u8>, found: &Found) -> Result<(), Memory>
     ensures { OnOk result (out.new.items ≡ out.old.items ++ found_range_text found.now) }
 {
     out.extend_from_slice(b"region ")?;
-    put_address(found.base, out)?;
+    put_address(out, found.base)?;
     out.extend_from_slice(b" size ")?;
-    put_address(found.size, out)?;
+    put_address(out, found.size)?;
     out.extend_from_slice(b" window ")?;
     put_number(out, u64::from(found.window))
 }
@@ -61,28 +61,28 @@ fn put_found_range(found: &Found, out: &mut Vec<u8>) -> Result<(), Memory>
 /// Appends the rule that an image breaks first, by its number, with the node and the decoder that break
 /// it. After `Memory` the text is as before. (This project's rule.) Takes memory.
 pub fn put_breach(
+    out: &mut Vec<u8>,
     rule: u8,
     node: u32,
     decoder: u8,
     topo: &Topo,
-    out: &mut Vec<u8>,
 ) -> Result<(), Memory>
     requires { node < length topo.now.nodes }
     ensures ok { OnOk result (out.new.items ≡ out.old.items ++ breach_text topo.now.nodes rule node decoder) }
     ensures err { OnErr result (out.new.items ≡ out.old.items) }
 {
     let mut text = Vec::new(*out.allocator());
-    put_breach_line(rule, node, decoder, topo, &mut text)?;
+    put_breach_line(&mut text, rule, node, decoder, topo)?;
     out.extend_from_slice(&text)?;
     Ok(())
 }
 
 fn put_breach_line(
+    out: &mut Vec<u8>,
     rule: u8,
     node: u32,
     decoder: u8,
     topo: &Topo,
-    out: &mut Vec<u8>,
 ) -> Result<(), Memory>
     requires { node < length topo.now.nodes }
     ensures { OnOk result (out.new.items ≡ out.old.items ++ breach_text topo.now.nodes rule node decoder) }
@@ -90,7 +90,7 @@ fn put_breach_line(
     out.extend_from_slice(b"breach K")?;
     put_number(out, u64::from(rule))?;
     out.push(b' ')?;
-    put_node(node, topo, out)?;
+    put_node(out, node, topo)?;
     out.push(b' ')?;
     put_number(out, u64::from(decoder))?;
     out.push(b'\n')?;

@@ -14,19 +14,19 @@ use cxl_topo::{NodeKind, Topo};
 
 /// Appends the text of a plan: a line for the region, and one for each decoder that makes it. After
 /// `Memory` the text is as before. (This project's rule.) Takes memory.
-pub fn put_plan(plan: &Plan, topo: &Topo, out: &mut Vec<u8>) -> Result<(), Memory>
+pub fn put_plan(out: &mut Vec<u8>, plan: &Plan, topo: &Topo) -> Result<(), Memory>
     requires { IsToldPlan topo.now.nodes plan.now }
     ensures ok { OnOk result (out.new.items ≡ out.old.items ++ plan_text topo.now.nodes plan.now) }
     ensures err { OnErr result (out.new.items ≡ out.old.items) }
 {
     let mut text = Vec::new(*out.allocator());
-    put_plan_head(plan, &mut text)?;
-    put_plan_rows(plan.rows.items(), topo, &mut text)?;
+    put_plan_head(&mut text, plan)?;
+    put_plan_rows(&mut text, plan.rows.items(), topo)?;
     out.extend_from_slice(&text)?;
     Ok(())
 }
 
-fn put_plan_head(plan: &Plan, out: &mut Vec<u8>) -> Result<(), Memory>
+fn put_plan_head(out: &mut Vec<u8>, plan: &Plan) -> Result<(), Memory>
     requires { plan.now.found.gran ≤ 6 }
     ensures { OnOk result (out.new.items ≡ out.old.items ++ plan_head_text plan.now) }
 {
@@ -35,31 +35,31 @@ fn put_plan_head(plan: &Plan, out: &mut Vec<u8>) -> Result<(), Memory>
     out.push(b' ')?;
     out.extend_from_slice(kind_text(plan.found.kind))?;
     out.push(b' ')?;
-    put_layout(&plan.found, out)?;
+    put_layout(out, &plan.found)?;
     out.push(b'\n')?;
     Ok(())
 }
 
-fn put_plan_rows(rows: &[Row], topo: &Topo, out: &mut Vec<u8>) -> Result<(), Memory>
+fn put_plan_rows(out: &mut Vec<u8>, rows: &[Row], topo: &Topo) -> Result<(), Memory>
     requires { All (IsToldRow topo.now.nodes) rows.now }
     ensures { OnOk result (out.new.items ≡ out.old.items ++ flat_map (planned_text topo.now.nodes) rows.now) }
 {
     for row in rows {
-        put_planned(row, topo, out)?;
+        put_planned(out, row, topo)?;
     }
     Ok(())
 }
 
-fn put_planned(row: &Row, topo: &Topo, out: &mut Vec<u8>) -> Result<(), Memory>
+fn put_planned(out: &mut Vec<u8>, row: &Row, topo: &Topo) -> Result<(), Memory>
     requires { IsToldRow topo.now.nodes row.now }
     ensures { OnOk result (out.new.items ≡ out.old.items ++ planned_text topo.now.nodes row.now) }
 {
     out.extend_from_slice(b"row ")?;
-    put_node(row.node, topo, out)?;
+    put_node(out, row.node, topo)?;
     out.push(b' ')?;
     put_number(out, u64::from(row.index))?;
-    put_decoder(&row.decoder, out)?;
-    put_tail(is_endpoint(row.node, topo), &row.decoder, out)?;
+    put_decoder(out, &row.decoder)?;
+    put_tail(out, is_endpoint(row.node, topo), &row.decoder)?;
     out.push(b'\n')?;
     Ok(())
 }
@@ -71,7 +71,7 @@ fn is_endpoint(node: u32, topo: &Topo) -> bool
     matches!(topo.node(node).kind, NodeKind::Endpoint(_))
 }
 
-fn put_decoder(decoder: &Decoder, out: &mut Vec<u8>) -> Result<(), Memory>
+fn put_decoder(out: &mut Vec<u8>, decoder: &Decoder) -> Result<(), Memory>
     requires { decoder.now.gran < 16 }
     ensures { OnOk result (out.new.items ≡ out.old.items ++ decoder_text decoder.now) }
 {
@@ -82,20 +82,20 @@ fn put_decoder(decoder: &Decoder, out: &mut Vec<u8>) -> Result<(), Memory>
 }
 
 /// Appends a port's target list, or an endpoint's skip.
-fn put_tail(endpoint: bool, decoder: &Decoder, out: &mut Vec<u8>) -> Result<(), Memory>
+fn put_tail(out: &mut Vec<u8>, endpoint: bool, decoder: &Decoder) -> Result<(), Memory>
     ensures { OnOk result (out.new.items ≡ out.old.items ++ tail_text endpoint decoder.now) }
 {
     if endpoint {
         out.extend_from_slice(b" skip ")?;
-        put_address(decoder.tail, out)
+        put_address(out, decoder.tail)
     } else {
         out.extend_from_slice(b" targets ")?;
-        put_ports(decoder, out)
+        put_ports(out, decoder)
     }
 }
 
 /// Appends the ports that a decoder lists, with commas between.
-fn put_ports(decoder: &Decoder, out: &mut Vec<u8>) -> Result<(), Memory>
+fn put_ports(out: &mut Vec<u8>, decoder: &Decoder) -> Result<(), Memory>
     ensures { OnOk result (out.new.items ≡ out.old.items ++ ports_text (entries_of decoder.now)) }
 {
     put_number(out, u64::from(decoder.entry_at(0)))?;

@@ -12,7 +12,7 @@ use cxl_model::{PlanFault, Reason, Room, SpanFault};
 use cxl_script::{BadLine, Why};
 use cxl_topo::Topo;
 
-pub(crate) fn put_bad_line(fault: &BadLine, out: &mut Vec<u8>) -> Result<(), Memory>
+pub(crate) fn put_bad_line(out: &mut Vec<u8>, fault: &BadLine) -> Result<(), Memory>
     ensures { OnOk result (out.new.items ≡ out.old.items ++ bad_line_text fault.now) }
 {
     out.extend_from_slice(b"bad line ")?;
@@ -40,7 +40,7 @@ fn why_text(why: Why) -> &'static [u8]
 }
 
 /// Appends words and a name.
-pub(crate) fn put_named(words: &[u8], name: &Name, out: &mut Vec<u8>) -> Result<(), Memory>
+pub(crate) fn put_named(out: &mut Vec<u8>, words: &[u8], name: &Name) -> Result<(), Memory>
     ensures { OnOk result (out.new.items ≡ out.old.items ++ named_text words.now name.now) }
 {
     out.extend_from_slice(words)?;
@@ -50,7 +50,7 @@ pub(crate) fn put_named(words: &[u8], name: &Name, out: &mut Vec<u8>) -> Result<
     Ok(())
 }
 
-pub(crate) fn put_full(lack: &Lack, out: &mut Vec<u8>) -> Result<(), Memory>
+pub(crate) fn put_full(out: &mut Vec<u8>, lack: &Lack) -> Result<(), Memory>
     ensures { OnOk result (out.new.items ≡ out.old.items ++ full_text lack.now) }
 {
     out.extend_from_slice(b"full need ")?;
@@ -63,35 +63,35 @@ pub(crate) fn put_full(lack: &Lack, out: &mut Vec<u8>) -> Result<(), Memory>
 
 /// Appends words, a node and a decoder of it.
 pub(crate) fn put_spot(
+    out: &mut Vec<u8>,
     words: &[u8],
     spot: &Spot,
     topo: &Topo,
-    out: &mut Vec<u8>,
 ) -> Result<(), Memory>
     requires { spot.now.node < length topo.now.nodes }
     ensures { OnOk result (out.new.items ≡ out.old.items ++ spot_text words.now topo.now.nodes spot.now) }
 {
     out.extend_from_slice(words)?;
     out.push(b' ')?;
-    put_node(spot.node, topo, out)?;
+    put_node(out, spot.node, topo)?;
     out.push(b' ')?;
     put_number(out, u64::from(spot.decoder))?;
     out.push(b'\n')?;
     Ok(())
 }
 
-pub(crate) fn put_sizes(sizes: &Sizes, out: &mut Vec<u8>) -> Result<(), Memory>
+pub(crate) fn put_sizes(out: &mut Vec<u8>, sizes: &Sizes) -> Result<(), Memory>
     ensures { OnOk result (out.new.items ≡ out.old.items ++ sizes_text sizes.now) }
 {
     out.extend_from_slice(b"sizes differ ")?;
-    put_address(sizes.from, out)?;
+    put_address(out, sizes.from)?;
     out.push(b' ')?;
-    put_address(sizes.to, out)?;
+    put_address(out, sizes.to)?;
     out.push(b'\n')?;
     Ok(())
 }
 
-pub(crate) fn put_count(counted: &Counted, out: &mut Vec<u8>) -> Result<(), Memory>
+pub(crate) fn put_count(out: &mut Vec<u8>, counted: &Counted) -> Result<(), Memory>
     ensures { OnOk result (out.new.items ≡ out.old.items ++ count_text counted.now) }
 {
     out.extend_from_slice(b"poison count ")?;
@@ -104,26 +104,26 @@ pub(crate) fn put_count(counted: &Counted, out: &mut Vec<u8>) -> Result<(), Memo
 
 /// Appends why there is no plan.
 pub(crate) fn put_plan_fault(
+    out: &mut Vec<u8>,
     fault: &PlanFault,
     topo: &Topo,
-    out: &mut Vec<u8>,
 ) -> Result<(), Memory>
     requires { IsToldFault topo.now.nodes fault.now }
     ensures { OnOk result (out.new.items ≡ out.old.items ++ plan_fault_text topo.now.nodes fault.now) }
 {
     match fault {
-        PlanFault::Repeat(endpoint) => put_at_node(b"refused repeat ", *endpoint, topo, out),
-        PlanFault::Ways(ways) => put_ways(*ways, out),
-        PlanFault::Size => put_text(b"refused size\n", out),
-        PlanFault::Uneven(node) => put_at_node(b"refused uneven ", *node, topo, out),
-        PlanFault::NoDecoder(node) => put_at_node(b"refused no-decoder ", *node, topo, out),
-        PlanFault::Span(endpoint, fault) => put_span_fault(*endpoint, fault, topo, out),
-        PlanFault::NoWindow(reasons) => put_no_window(reasons.items(), topo, out),
+        PlanFault::Repeat(endpoint) => put_at_node(out, b"refused repeat ", *endpoint, topo),
+        PlanFault::Ways(ways) => put_ways(out, *ways),
+        PlanFault::Size => put_text(out, b"refused size\n"),
+        PlanFault::Uneven(node) => put_at_node(out, b"refused uneven ", *node, topo),
+        PlanFault::NoDecoder(node) => put_at_node(out, b"refused no-decoder ", *node, topo),
+        PlanFault::Span(endpoint, fault) => put_span_fault(out, *endpoint, fault, topo),
+        PlanFault::NoWindow(reasons) => put_no_window(out, reasons.items(), topo),
         PlanFault::Memory => Ok(()),
     }
 }
 
-pub(crate) fn put_text(text: &[u8], out: &mut Vec<u8>) -> Result<(), Memory>
+pub(crate) fn put_text(out: &mut Vec<u8>, text: &[u8]) -> Result<(), Memory>
     ensures { OnOk result (out.new.items ≡ out.old.items ++ text.now) }
 {
     out.extend_from_slice(text)?;
@@ -131,17 +131,17 @@ pub(crate) fn put_text(text: &[u8], out: &mut Vec<u8>) -> Result<(), Memory>
 }
 
 /// Appends words that end with a space, and a node.
-fn put_at_node(words: &[u8], node: u32, topo: &Topo, out: &mut Vec<u8>) -> Result<(), Memory>
+fn put_at_node(out: &mut Vec<u8>, words: &[u8], node: u32, topo: &Topo) -> Result<(), Memory>
     requires { node < length topo.now.nodes }
     ensures { OnOk result (out.new.items ≡ out.old.items ++ line (words.now ++ node_text topo.now.nodes node)) }
 {
     out.extend_from_slice(words)?;
-    put_node(node, topo, out)?;
+    put_node(out, node, topo)?;
     out.push(b'\n')?;
     Ok(())
 }
 
-fn put_ways(ways: u32, out: &mut Vec<u8>) -> Result<(), Memory>
+fn put_ways(out: &mut Vec<u8>, ways: u32) -> Result<(), Memory>
     ensures { OnOk result (out.new.items ≡ out.old.items ++ line (codes "refused ways " ++ decimal ways)) }
 {
     out.extend_from_slice(b"refused ways ")?;
@@ -151,97 +151,97 @@ fn put_ways(ways: u32, out: &mut Vec<u8>) -> Result<(), Memory>
 }
 
 fn put_span_fault(
+    out: &mut Vec<u8>,
     endpoint: u32,
     fault: &SpanFault,
     topo: &Topo,
-    out: &mut Vec<u8>,
 ) -> Result<(), Memory>
     requires { endpoint < length topo.now.nodes }
     ensures { OnOk result (out.new.items ≡ out.old.items
         ++ line (codes "refused span " ++ node_text topo.now.nodes endpoint ++ codes " " ++ span_text fault.now)) }
 {
     out.extend_from_slice(b"refused span ")?;
-    put_node(endpoint, topo, out)?;
+    put_node(out, endpoint, topo)?;
     out.push(b' ')?;
-    put_span_cause(fault, out)?;
+    put_span_cause(out, fault)?;
     out.push(b'\n')?;
     Ok(())
 }
 
-fn put_span_cause(fault: &SpanFault, out: &mut Vec<u8>) -> Result<(), Memory>
+fn put_span_cause(out: &mut Vec<u8>, fault: &SpanFault) -> Result<(), Memory>
     ensures { OnOk result (out.new.items ≡ out.old.items ++ span_text fault.now) }
 {
     match fault {
-        SpanFault::NoDecoder => put_text(b"no-decoder", out),
+        SpanFault::NoDecoder => put_text(out, b"no-decoder"),
         SpanFault::PastRam(cursor) => {
             out.extend_from_slice(b"past-ram ")?;
-            put_address(*cursor, out)
+            put_address(out, *cursor)
         }
-        SpanFault::NoRoom(room) => put_room(b"no-room ", room, out),
+        SpanFault::NoRoom(room) => put_room(out, b"no-room ", room),
     }
 }
 
 /// Appends a word that ends with a space, and where a span or a region would lie.
-fn put_room(word: &[u8], room: &Room, out: &mut Vec<u8>) -> Result<(), Memory>
+fn put_room(out: &mut Vec<u8>, word: &[u8], room: &Room) -> Result<(), Memory>
     ensures { OnOk result (out.new.items ≡ out.old.items ++ (word.now ++ hex_text room.now.start ++ codes " " ++ hex_text room.now.limit)) }
 {
     out.extend_from_slice(word)?;
-    put_address(room.start, out)?;
+    put_address(out, room.start)?;
     out.push(b' ')?;
-    put_address(room.limit, out)
+    put_address(out, room.limit)
 }
 
-fn put_no_window(reasons: &[Reason], topo: &Topo, out: &mut Vec<u8>) -> Result<(), Memory>
+fn put_no_window(out: &mut Vec<u8>, reasons: &[Reason], topo: &Topo) -> Result<(), Memory>
     requires { All (IsToldReason topo.now.nodes) reasons.now }
     ensures { OnOk result (out.new.items ≡ out.old.items
         ++ (line (codes "refused no-window") ++ flat_map (window_text topo.now.nodes) (enumerate_from 0 reasons.now))) }
 {
     out.extend_from_slice(b"refused no-window\n")?;
-    put_windows(reasons, topo, out)?;
+    put_windows(out, reasons, topo)?;
     Ok(())
 }
 
 /// Appends a line for each window.
-fn put_windows(reasons: &[Reason], topo: &Topo, out: &mut Vec<u8>) -> Result<(), Memory>
+fn put_windows(out: &mut Vec<u8>, reasons: &[Reason], topo: &Topo) -> Result<(), Memory>
     requires { All (IsToldReason topo.now.nodes) reasons.now }
     ensures { OnOk result (out.new.items ≡ out.old.items ++ flat_map (window_text topo.now.nodes) (enumerate_from 0 reasons.now)) }
 {
     for (index, reason) in reasons.iter().enumerate() {
-        put_window(index, reason, topo, out)?;
+        put_window(out, index, reason, topo)?;
     }
     Ok(())
 }
 
-fn put_window(index: usize, reason: &Reason, topo: &Topo, out: &mut Vec<u8>) -> Result<(), Memory>
+fn put_window(out: &mut Vec<u8>, index: usize, reason: &Reason, topo: &Topo) -> Result<(), Memory>
     requires { IsToldReason topo.now.nodes reason.now }
     ensures { OnOk result (out.new.items ≡ out.old.items ++ window_text topo.now.nodes (index, reason.now)) }
 {
     out.extend_from_slice(b"window ")?;
     put_number(out, index as u64)?;
     out.push(b' ')?;
-    put_reason(reason, topo, out)?;
+    put_reason(out, reason, topo)?;
     out.push(b'\n')?;
     Ok(())
 }
 
-fn put_reason(reason: &Reason, topo: &Topo, out: &mut Vec<u8>) -> Result<(), Memory>
+fn put_reason(out: &mut Vec<u8>, reason: &Reason, topo: &Topo) -> Result<(), Memory>
     requires { IsToldReason topo.now.nodes reason.now }
     ensures { OnOk result (out.new.items ≡ out.old.items ++ reason_text topo.now.nodes reason.now) }
 {
     match reason {
-        Reason::Unusable => put_text(b"unusable", out),
-        Reason::Kind => put_text(b"kind", out),
-        Reason::Fixed => put_text(b"fixed", out),
-        Reason::Bridges => put_text(b"bridges", out),
-        Reason::Gran => put_text(b"gran", out),
+        Reason::Unusable => put_text(out, b"unusable"),
+        Reason::Kind => put_text(out, b"kind"),
+        Reason::Fixed => put_text(out, b"fixed"),
+        Reason::Bridges => put_text(out, b"bridges"),
+        Reason::Gran => put_text(out, b"gran"),
         Reason::Select(node) => {
             out.extend_from_slice(b"select ")?;
-            put_node(*node, topo, out)
+            put_node(out, *node, topo)
         }
         Reason::WaysCap(node) => {
             out.extend_from_slice(b"ways-cap ")?;
-            put_node(*node, topo, out)
+            put_node(out, *node, topo)
         }
-        Reason::NoBase(room) => put_room(b"no-base ", room, out),
+        Reason::NoBase(room) => put_room(out, b"no-base ", room),
     }
 }

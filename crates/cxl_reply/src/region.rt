@@ -13,16 +13,16 @@ use cxl_model::{Found, Place};
 use cxl_topo::Topo;
 
 /// Appends a region with its registers and its slots.
-pub(crate) fn put_shown(shown: &Shown, topo: &Topo, out: &mut Vec<u8>) -> Result<(), Memory>
+pub(crate) fn put_shown(out: &mut Vec<u8>, shown: &Shown, topo: &Topo) -> Result<(), Memory>
     requires { IsToldShown topo.now.nodes shown.now }
     ensures { OnOk result (out.new.items ≡ out.old.items ++ shown_text topo.now.nodes shown.now) }
 {
-    put_shown_head(shown, out)?;
-    put_rows(shown.rows.items(), topo, out)?;
-    put_slots(shown.found.spans.items(), topo, out)
+    put_shown_head(out, shown)?;
+    put_rows(out, shown.rows.items(), topo)?;
+    put_slots(out, shown.found.spans.items(), topo)
 }
 
-fn put_shown_head(shown: &Shown, out: &mut Vec<u8>) -> Result<(), Memory>
+fn put_shown_head(out: &mut Vec<u8>, shown: &Shown) -> Result<(), Memory>
     requires { shown.now.found.gran ≤ 6 }
     ensures { OnOk result (out.new.items ≡ out.old.items ++ shown_head_text shown.now) }
 {
@@ -31,13 +31,13 @@ fn put_shown_head(shown: &Shown, out: &mut Vec<u8>) -> Result<(), Memory>
     out.push(b' ')?;
     out.extend_from_slice(kind_text(shown.found.kind))?;
     out.push(b' ')?;
-    put_layout(&shown.found, out)?;
+    put_layout(out, &shown.found)?;
     out.push(b'\n')?;
     Ok(())
 }
 
 /// Appends where a region lies, and how it interleaves.
-pub(crate) fn put_layout(found: &Found, out: &mut Vec<u8>) -> Result<(), Memory>
+pub(crate) fn put_layout(out: &mut Vec<u8>, found: &Found) -> Result<(), Memory>
     requires { found.now.gran ≤ 6 }
     ensures { OnOk result (out.new.items ≡ out.old.items ++ layout_text found.now.window found.now.base found.now.size found.now.gran found.now.ways) }
 {
@@ -47,45 +47,45 @@ pub(crate) fn put_layout(found: &Found, out: &mut Vec<u8>) -> Result<(), Memory>
     Ok(())
 }
 
-fn put_rows(rows: &[ShownRow], topo: &Topo, out: &mut Vec<u8>) -> Result<(), Memory>
+fn put_rows(out: &mut Vec<u8>, rows: &[ShownRow], topo: &Topo) -> Result<(), Memory>
     requires { All (λ row. row.node < length topo.now.nodes) rows.now }
     ensures { OnOk result (out.new.items ≡ out.old.items ++ flat_map (row_text topo.now.nodes) rows.now) }
 {
     for row in rows {
-        put_row(row, topo, out)?;
+        put_row(out, row, topo)?;
     }
     Ok(())
 }
 
-fn put_row(row: &ShownRow, topo: &Topo, out: &mut Vec<u8>) -> Result<(), Memory>
+fn put_row(out: &mut Vec<u8>, row: &ShownRow, topo: &Topo) -> Result<(), Memory>
     requires { row.now.node < length topo.now.nodes }
     ensures { OnOk result (out.new.items ≡ out.old.items ++ row_text topo.now.nodes row.now) }
 {
     out.extend_from_slice(b"node ")?;
-    put_node(row.node, topo, out)?;
+    put_node(out, row.node, topo)?;
     out.push(b' ')?;
     put_number(out, u64::from(row.decoder))?;
     out.push(b' ')?;
-    put_words(&row.words, out)?;
+    put_words(out, &row.words)?;
     out.push(b'\n')?;
     Ok(())
 }
 
 /// Appends words of eight hexadecimal digits, with spaces between.
-fn put_words(words: &[u32], out: &mut Vec<u8>) -> Result<(), Memory>
+fn put_words(out: &mut Vec<u8>, words: &[u32]) -> Result<(), Memory>
     ensures { OnOk result (out.new.items ≡ out.old.items ++ shown_words_text words.now) }
 {
     match words {
         [] => Ok(()),
         [first, others @ ..] => {
             put_hex(out, u64::from(*first), 8)?;
-            put_more_words(others, out)
+            put_more_words(out, others)
         }
     }
 }
 
 /// Appends words of eight hexadecimal digits, each behind a space.
-fn put_more_words(words: &[u32], out: &mut Vec<u8>) -> Result<(), Memory>
+fn put_more_words(out: &mut Vec<u8>, words: &[u32]) -> Result<(), Memory>
     ensures { OnOk result (out.new.items ≡ out.old.items ++ more_spaced (map word_text words.now)) }
 {
     for word in words {
@@ -96,26 +96,26 @@ fn put_more_words(words: &[u32], out: &mut Vec<u8>) -> Result<(), Memory>
 }
 
 /// Appends a line for each slot.
-pub(crate) fn put_slots(places: &[Place], topo: &Topo, out: &mut Vec<u8>) -> Result<(), Memory>
+pub(crate) fn put_slots(out: &mut Vec<u8>, places: &[Place], topo: &Topo) -> Result<(), Memory>
     requires { All (λ place. place.endpoint < length topo.now.nodes) places.now }
     ensures { OnOk result (out.new.items ≡ out.old.items ++ slots_text topo.now.nodes places.now) }
 {
     for (slot, place) in places.iter().enumerate() {
-        put_slot(slot, place, topo, out)?;
+        put_slot(out, slot, place, topo)?;
     }
     Ok(())
 }
 
-fn put_slot(slot: usize, place: &Place, topo: &Topo, out: &mut Vec<u8>) -> Result<(), Memory>
+fn put_slot(out: &mut Vec<u8>, slot: usize, place: &Place, topo: &Topo) -> Result<(), Memory>
     requires { place.now.endpoint < length topo.now.nodes }
     ensures { OnOk result (out.new.items ≡ out.old.items ++ slot_text topo.now.nodes (slot, place.now)) }
 {
     out.extend_from_slice(b"slot ")?;
     put_number(out, slot as u64)?;
     out.push(b' ')?;
-    put_node(place.endpoint, topo, out)?;
+    put_node(out, place.endpoint, topo)?;
     out.push(b' ')?;
-    put_address(place.start, out)?;
+    put_address(out, place.start)?;
     out.push(b'\n')?;
     Ok(())
 }

@@ -21,7 +21,7 @@ pub fn short(reply: &Reply) -> Option<ShortText>
     ensures which { is_some result ≡ has_short_text reply.now }
     ensures text { (nodes : List Node) → IfSome result (λ text. text ≡ reply_text nodes reply.now) }
 {
-    // Each line is made in a function that is not drawn in here, so that a reply without one does not clear the room for all.
+    // Each line is made in a function of its own that stays one, so that a reply without a line clears no room for it.
     match reply {
         Reply::Created(named) => Some(created(named)),
         Reply::Destroyed(name) => Some(named_line(b"destroyed", name)),

@@ -25,23 +25,23 @@ pub fn put_reply(reply: &Reply, topo: &Topo, out: &mut Vec<u8>) -> Result<(), Me
         return Ok(());
     }
     if out.is_empty() {
-        return put_first(reply, topo, out);
+        return put_first(out, reply, topo);
     }
     let mut text = Vec::new(*out.allocator());
-    put_long(reply, topo, &mut text)?;
+    put_long(&mut text, reply, topo)?;
     out.extend_from_slice(&text)?;
     Ok(())
 }
 
 /// Puts the text of a reply that has no short text where none is yet, in the room that is there.
-fn put_first(reply: &Reply, topo: &Topo, out: &mut Vec<u8>) -> Result<(), Memory>
+fn put_first(out: &mut Vec<u8>, reply: &Reply, topo: &Topo) -> Result<(), Memory>
     requires told { IsTold topo.now.nodes reply.now }
     requires long { has_short_text reply.now ≡ false }
     requires none { out.old.items ≡ [] }
     ensures ok { OnOk result (out.new.items ≡ reply_text topo.now.nodes reply.now) }
     ensures err { OnErr result (out.new.items ≡ []) }
 {
-    let put = put_long(reply, topo, out);
+    let put = put_long(out, reply, topo);
     if put.is_err() {
         out.clear();
     }
@@ -49,38 +49,38 @@ fn put_first(reply: &Reply, topo: &Topo, out: &mut Vec<u8>) -> Result<(), Memory
 }
 
 /// Appends the text of a reply that has no short text.
-fn put_long(reply: &Reply, topo: &Topo, out: &mut Vec<u8>) -> Result<(), Memory>
+fn put_long(out: &mut Vec<u8>, reply: &Reply, topo: &Topo) -> Result<(), Memory>
     requires told { IsTold topo.now.nodes reply.now }
     requires long { has_short_text reply.now ≡ false }
     ensures { OnOk result (out.new.items ≡ out.old.items ++ reply_text topo.now.nodes reply.now) }
 {
     match reply {
-        Reply::Shown(shown) => put_shown(shown, topo, out),
-        Reply::Down(downed) => put_down(downed, topo, out),
-        Reply::Up(upped) => put_up(upped, out),
-        Reply::Loaded(bytes) => put_loaded(bytes.items(), out),
-        Reply::Poison(report) => put_report(report, topo, out),
-        Reply::Extents(extents) => put_extents(extents, topo, out),
-        Reply::Spread(spread) => put_spread(spread, topo, out),
-        Reply::Refused(fault) => put_plan_fault(fault, topo, out),
-        Reply::Locked(spot) => put_spot(b"locked", spot, topo, out),
-        Reply::NotLast(spot) => put_spot(b"not last", spot, topo, out),
-        Reply::BadLine(fault) => put_bad_line(fault, out),
-        Reply::Busy(name) => put_named(b"busy", name, out),
-        Reply::NameTaken(name) => put_named(b"name taken", name, out),
-        Reply::NoRegion(name) => put_named(b"no such region", name, out),
-        Reply::NoEndpoint(name) => put_named(b"no such endpoint", name, out),
-        Reply::SameRegion(name) => put_named(b"same region", name, out),
-        Reply::Full(lack) => put_full(lack, out),
-        Reply::SizesDiffer(sizes) => put_sizes(sizes, out),
-        Reply::PoisonCount(counted) => put_count(counted, out),
-        Reply::RegionsFull => put_text(b"regions full\n", out),
-        Reply::Unmapped => put_text(b"unmapped\n", out),
-        Reply::CrossesEnd => put_text(b"crosses end\n", out),
-        Reply::NoSet => put_text(b"refused no-set\n", out),
-        Reply::PoisonShort => put_text(b"poison short\n", out),
-        Reply::BusRead => put_text(b"bus fault read\n", out),
-        Reply::NothingPending => put_text(b"nothing pending\n", out),
+        Reply::Shown(shown) => put_shown(out, shown, topo),
+        Reply::Down(downed) => put_down(out, downed, topo),
+        Reply::Up(upped) => put_up(out, upped),
+        Reply::Loaded(bytes) => put_loaded(out, bytes.items()),
+        Reply::Poison(report) => put_report(out, report, topo),
+        Reply::Extents(extents) => put_extents(out, extents, topo),
+        Reply::Spread(spread) => put_spread(out, spread, topo),
+        Reply::Refused(fault) => put_plan_fault(out, fault, topo),
+        Reply::Locked(spot) => put_spot(out, b"locked", spot, topo),
+        Reply::NotLast(spot) => put_spot(out, b"not last", spot, topo),
+        Reply::BadLine(fault) => put_bad_line(out, fault),
+        Reply::Busy(name) => put_named(out, b"busy", name),
+        Reply::NameTaken(name) => put_named(out, b"name taken", name),
+        Reply::NoRegion(name) => put_named(out, b"no such region", name),
+        Reply::NoEndpoint(name) => put_named(out, b"no such endpoint", name),
+        Reply::SameRegion(name) => put_named(out, b"same region", name),
+        Reply::Full(lack) => put_full(out, lack),
+        Reply::SizesDiffer(sizes) => put_sizes(out, sizes),
+        Reply::PoisonCount(counted) => put_count(out, counted),
+        Reply::RegionsFull => put_text(out, b"regions full\n"),
+        Reply::Unmapped => put_text(out, b"unmapped\n"),
+        Reply::CrossesEnd => put_text(out, b"crosses end\n"),
+        Reply::NoSet => put_text(out, b"refused no-set\n"),
+        Reply::PoisonShort => put_text(out, b"poison short\n"),
+        Reply::BusRead => put_text(out, b"bus fault read\n"),
+        Reply::NothingPending => put_text(out, b"nothing pending\n"),
         Reply::Created(_)
         | Reply::Destroyed(_)
         | Reply::Stored(_)

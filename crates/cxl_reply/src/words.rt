@@ -6,7 +6,7 @@ use cxl_io::{put_number, write_hex};
 use cxl_topo::Topo;
 
 /// Appends a node's name.
-pub(crate) fn put_node(node: u32, topo: &Topo, out: &mut Vec<u8>) -> Result<(), Memory>
+pub(crate) fn put_node(out: &mut Vec<u8>, node: u32, topo: &Topo) -> Result<(), Memory>
     requires { node < length topo.now.nodes }
     ensures { OnOk result (out.new.items ≡ out.old.items ++ node_text topo.now.nodes node) }
 {
@@ -16,7 +16,7 @@ pub(crate) fn put_node(node: u32, topo: &Topo, out: &mut Vec<u8>) -> Result<(), 
 
 /// Appends an address or a size in hexadecimal digits, behind `0x`. After `Memory` the text is as before.
 /// (This project's rule.) Takes memory.
-pub fn put_address(address: u64, out: &mut Vec<u8>) -> Result<(), Memory>
+pub fn put_address(out: &mut Vec<u8>, address: u64) -> Result<(), Memory>
     ensures ok { OnOk result (out.new.items ≡ out.old.items ++ hex_text address) }
     ensures err { OnErr result (out.new.items ≡ out.old.items) }
 {
@@ -30,7 +30,7 @@ pub fn put_address(address: u64, out: &mut Vec<u8>) -> Result<(), Memory>
 
 /// Appends the bytes of a granularity code, in decimal digits. After `Memory` the text is as before. (This
 /// project's rule.) Takes memory.
-pub fn put_gran(code: u8, out: &mut Vec<u8>) -> Result<(), Memory>
+pub fn put_gran(out: &mut Vec<u8>, code: u8) -> Result<(), Memory>
     requires { code ≤ 6 }
     ensures ok { OnOk result (out.new.items ≡ out.old.items ++ gran_text code) }
     ensures err { OnErr result (out.new.items ≡ out.old.items) }

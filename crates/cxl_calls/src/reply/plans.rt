@@ -135,7 +135,7 @@ fn plan_text(rt: &(impl Abort + AllocGlobal), topo: &Topo, plan: &Plan) -> Vec<u
     requires { IsToldPlan topo.now.nodes plan.now }
 {
     let mut text = Vec::new(rt.alloc());
-    put_plan(plan, topo, &mut text).expect(rt, "memory");
+    put_plan(&mut text, plan, topo).expect(rt, "memory");
     text
 }
 
@@ -162,8 +162,8 @@ fn image_text(rt: &(impl Abort + AllocGlobal), topo: &Topo, found: &Found) -> Ve
 {
     let mut text = Vec::new(rt.alloc());
     assert!(rt; is_told_found(found, topo));
-    put_found(found, topo, &mut text).expect(rt, "memory");
-    put_breach(9, 0, 0, topo, &mut text).expect(rt, "memory");
+    put_found(&mut text, found, topo).expect(rt, "memory");
+    put_breach(&mut text, 9, 0, 0, topo).expect(rt, "memory");
     text
 }
 

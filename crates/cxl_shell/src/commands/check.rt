@@ -97,7 +97,7 @@ fn broken(alloc: Global, breach: Breach, topo: &Topo) -> Result<Outcome, Memory>
         (λ outcome. outcome ≡ broken topo.now.nodes breach.rule breach.node breach.decoder) }
 {
     let mut text = Vec::new(alloc);
-    put_breach(breach.rule, breach.node, breach.decoder, topo, &mut text)?;
+    put_breach(&mut text, breach.rule, breach.node, breach.decoder, topo)?;
     Ok(Outcome::made(Status::Refused, text))
 }
 
@@ -118,7 +118,7 @@ fn write_regions<K: Sink>(
     writes_join();
     let mut block = Vec::new(alloc);
     for region in regions {
-        put_found(region, topo, &mut block)?;
+        put_found(&mut block, region, topo)?;
         if write_full(&mut block, out).is_err() {
             return Ok(Status::WriteFault);
         }

@@ -50,9 +50,9 @@ fn put_registers(out: &mut Vec<u8>, chbs: &Chbs) -> Result<(), Memory>
     ensures { OnOk result (out.new.items ≡ out.old.items ++ registers_text chbs.now) }
 {
     out.extend_from_slice(b" base ")?;
-    put_address(chbs.base, out)?;
+    put_address(out, chbs.base)?;
     out.extend_from_slice(b" length ")?;
-    put_address(chbs.length, out)
+    put_address(out, chbs.length)
 }
 
 /// Appends the line of a window whose record has this throttling group.
@@ -74,9 +74,9 @@ fn put_range(out: &mut Vec<u8>, window: &Window) -> Result<(), Memory>
     out.extend_from_slice(b"window ")?;
     put_number(out, u64::from(window.index()))?;
     out.extend_from_slice(b" base ")?;
-    put_address(window.base(), out)?;
+    put_address(out, window.base())?;
     out.extend_from_slice(b" size ")?;
-    put_address(window.size(), out)
+    put_address(out, window.size())
 }
 
 #[tactic(auto, unfolding(crate::specs::commands::Lines::interleave_text))]
@@ -86,7 +86,7 @@ fn put_interleave(out: &mut Vec<u8>, window: &Window) -> Result<(), Memory>
     out.extend_from_slice(b" ways ")?;
     put_number(out, u64::from(window.ways()))?;
     out.extend_from_slice(b" gran ")?;
-    put_gran(window.gran(), out)?;
+    put_gran(out, window.gran())?;
     out.push(b' ')?;
     out.extend_from_slice(if window.xor() { b"xor" } else { b"modulo" })?;
     Ok(())
@@ -154,7 +154,7 @@ fn put_cxims_line(out: &mut Vec<u8>, maps: &Cxims) -> Result<(), Memory>
     ensures { OnOk result (out.new.items ≡ out.old.items ++ cxims_line maps.now) }
 {
     out.extend_from_slice(b"cxims gran ")?;
-    put_gran(maps.gran(), out)?;
+    put_gran(out, maps.gran())?;
     out.extend_from_slice(b" maps ")?;
     put_maps(out, maps.maps())?;
     out.push(b'\n')?;
@@ -203,7 +203,7 @@ fn put_maps(out: &mut Vec<u8>, maps: &[u64]) -> Result<(), Memory>
     match maps {
         [] => put_text(out, b"none"),
         [first, others @ ..] => {
-            put_address(*first, out)?;
+            put_address(out, *first)?;
             put_more_maps(out, others)
         }
     }
@@ -215,7 +215,7 @@ fn put_more_maps(out: &mut Vec<u8>, maps: &[u64]) -> Result<(), Memory>
 {
     for map in maps {
         out.push(b',')?;
-        put_address(*map, out)?;
+        put_address(out, *map)?;
     }
     Ok(())
 }

@@ -77,7 +77,7 @@ fn told(alloc: Global, plan: &Plan, topo: &Topo) -> Result<Outcome, Memory>
     ensures { IfOk result (λ outcome. outcome ≡ plan_outcome topo.now.nodes plan.now) }
 {
     let mut text = Vec::new(alloc);
-    put_plan(plan, topo, &mut text)?;
+    put_plan(&mut text, plan, topo)?;
     Ok(Outcome::made(Status::Done, text))
 }
 
