@@ -1,5 +1,5 @@
 -- What nodes give is the same in windows of one code and third, from starts at which the same nodes are open.
-use Rattle.std.proofs.Common.{◌≡◌, ℕ, zero, suc, ◌+◌, ◌-◌, ◌*◌, ◌/◌, ◌%◌, ◌<◌, ◌≤◌, Bool, false, ◌&&◌, ◌||◌, not, if◌then◌else◌, List, [], ◌∷◌, length, Option, Some, None, Vec, Global, sym, ap, ◌∙◌, inl, inr, arith}
+use Rattle.std.proofs.Common.{◌≡◌, ℕ, zero, suc, ◌+◌, ◌-◌, ◌*◌, ◌/◌, ◌%◌, ◌^◌, ◌<◌, ◌≤◌, Bool, false, ◌&&◌, ◌||◌, not, if◌then◌else◌, List, [], ◌∷◌, length, Option, Some, None, Vec, Global, sym, ap, ◌∙◌, inl, inr, arith}
 use Rattle.std.specs.Prelude.{◌==◌, nat_le, take, find, option_map, unwrap_or}
 use Rattle.std.specs.Option.{option_map_or}
 use Rattle.std.specs.List.{filter_map, flat_map}
@@ -81,17 +81,17 @@ none_offered s want w start n m none = ap (λ (k : ℕ). unwrap_or (gives_within
 pub same_offers : (s : System) → KnownTree s.nodes → (want : Want) (v w : WindowFields) (a b : ℕ) → AskSame s want v w a b → (table : List (Vec ℕ Global)) → AreOffers s want v a table
     → AreOffers s want w b table
 same_offers s known want v w a b same table offers = record {
-  each = λ place own at some. offers.each place own at some ∙ go place;
+  each = λ place own at. offers.each place own at ∙ go place;
 }
   where
-    go : (place : ℕ) → offered s want v a (length s.nodes - 1 - place / 17) (place % 17) ≡ offered s want w b (length s.nodes - 1 - place / 17) (place % 17)
+    go : (place : ℕ) → offered s want v a (length s.nodes - 1 - place / 5) (2 ^ (place % 5)) ≡ offered s want w b (length s.nodes - 1 - place / 5) (2 ^ (place % 5))
     go place =
         elim (cases_lt 0 (length s.nodes)) [
-          | inl more ↦ same_offered s known want v w a b same (length s.nodes - 1 - place / 17) (place % 17) (omega (arith, more))
+          | inl more ↦ same_offered s known want v w a b same (length s.nodes - 1 - place / 5) (2 ^ (place % 5)) (omega (arith, more))
           | inr few ↦
               let none : length s.nodes ≡ 0 = omega (arith, few) in
-              none_offered s want v a (length s.nodes - 1 - place / 17) (place % 17) none
-              ∙ sym (none_offered s want w b (length s.nodes - 1 - place / 17) (place % 17) none)
+              none_offered s want v a (length s.nodes - 1 - place / 5) (2 ^ (place % 5)) none
+              ∙ sym (none_offered s want w b (length s.nodes - 1 - place / 5) (2 ^ (place % 5)) none)
         ]
 
 -- from starts at or above the end of all that is committed, a node is open where it has a decoder left

@@ -1,5 +1,5 @@
 -- What a pick is, by what its first window gives.
-use Rattle.std.proofs.Common.{◌≡◌, ℕ, ◌*◌, ◌%◌, ◌<◌, ◌≤◌, Bool, true, false, not, List, length, map, Option, Some, None, Result, Err, refl, sym, ap, ◌∙◌, subst, inl, inr, arith}
+use Rattle.std.proofs.Common.{◌≡◌, ℕ, ◌*◌, ◌%◌, ◌<◌, ◌≤◌, Bool, true, false, not, List, length, map, Option, Some, None, Err, refl, sym, ap, ◌∙◌, subst, inl, inr, arith}
 use Rattle.std.specs.Prelude.{slice_get, All, IfSome, if◌then◌else◌}
 use Rattle.std.proofs.lemmas.Bool.{cases_lt, false≢true}
 use Rattle.std.proofs.lemmas.Option.{none-some, same_Some}
@@ -20,7 +20,7 @@ use Rattle.cxl_legal.specs.Stated.{Fits}
 use Rattle.cxl_pick.specs.declared.want.Want.{Want}
 use Rattle.cxl_pick.specs.declared.fault.PickFault.{PickFault}
 use Rattle.cxl_pick.specs.declared.fault.PickFault.TheVariants as faults
-use Rattle.cxl_pick.specs.Picking.{asked, given_in, IsWantedSize, IsPicked, NothingGiven, TellsPickFault, FitsFirst, NothingFits, HasPlanIn, NothingPlans}
+use Rattle.cxl_pick.specs.Picking.{asked, given_in, IsWantedSize, IsPicked, NothingGiven, TellsPickFault, FitsFirst, NothingFits, NothingPlans}
 use Rattle.cxl_pick.specs.Picked.{picked, set_or_none}
 use Rattle.cxl_pick.proofs.Parts.{OfWindow, InWindow, Picked, in_window, given_endpoint, all_below, set_long}
 use Rattle.cxl_pick.proofs.FittedWindows.{given_fits}

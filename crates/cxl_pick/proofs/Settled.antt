@@ -30,7 +30,7 @@ bridge_within nodes b is =
     ]
 
 target_is : (s : System) → KnownTree s.nodes → (want : Want) (w : WindowFields) (start v : ℕ) (table : List (Vec ℕ Global)) → AreOffers s want w start table
-    → length table ≡ length s.nodes * 17 → 0 < v → v ≤ 16 → (uid : ℕ) → at_uid s.nodes table v uid ≡ option_and_then (λ b. gives s want w start b v) (bridge_with s.nodes uid)
+    → length table ≡ length s.nodes * 5 → 0 < v → v ≤ 16 → (uid : ℕ) → at_uid s.nodes table v uid ≡ option_and_then (λ b. gives s want w start b v) (bridge_with s.nodes uid)
 target_is s known want w start v table offers all some few uid = go (bridge_with s.nodes uid) refl
   where
     go : (o : Option ℕ) → bridge_with s.nodes uid ≡ o → option_and_then (λ b. some_of (listed_at table (length s.nodes) b v)) o ≡ option_and_then (λ b. gives s want w start b v) o
@@ -49,7 +49,7 @@ map_same f g same [] = refl
 map_same f g same (x ∷ xs) = (λ i. same x i ∷ map_same f g same xs i)
 
 pub given_by_table : (s : System) → KnownTree s.nodes → (want : Want) (w : WindowFields) (start : ℕ) (table : List (Vec ℕ Global)) → AreOffers s want w start table
-    → length table ≡ length s.nodes * 17 → is_ways want.ways ≡ true → is_ways w.ways ≡ true → can_take want w ≡ true → latest_start want w ≡ Some start
+    → length table ≡ length s.nodes * 5 → is_ways want.ways ≡ true → is_ways w.ways ≡ true → can_take want w ≡ true → latest_start want w ≡ Some start
     → all_given (map (at_uid s.nodes table (want.ways / w.ways)) w.targets) ≡ given_in s want w
 given_by_table s known want w start table offers all ways own can starts =
     let even = (take_parts want w can).divides in

@@ -31,6 +31,12 @@ no_port g port xs is at = is ∙ sym (nothing_more (filter_map g (range_with_len
     nothing_more [] = refl
     nothing_more (y ∷ ys) = ap (λ zs. y ∷ zs) (nothing_more ys)
 
+-- above the last number with something nothing more comes
+pub no_more_ports : (g : ℕ → Option ℕ) (a k : ℕ) (xs : List ℕ) → ((port : ℕ) → a ≤ port → g port ≡ None) → xs ≡ filter_map g (range_with_len 0 a) → xs ≡ filter_map g (range_with_len 0 (a + k))
+no_more_ports g a zero xs none is = is ∙ ap (λ (n : ℕ). filter_map g (range_with_len 0 n)) (omega arith)
+no_more_ports g a (suc k) xs none is =
+    no_port g (a + k) xs (no_more_ports g a k xs none is) (none (a + k) (omega arith)) ∙ ap (λ (n : ℕ). filter_map g (range_with_len 0 n)) (omega arith)
+
 -- ---- tables
 
 -- what holds of each list of a table, at its place

@@ -1,24 +1,25 @@
 //! What each node gives for each number of endpoints, in one window, and from one window to the next.
 
-ghost use Rattle.std.specs.Prelude.{◌≡◌, ℕ, ◌+◌, ◌-◌, ◌*◌, ◌/◌, ◌<◌, ◌≤◌, ◌==◌, ◌&&◌, not, if◌then◌else◌, [], ◌∷◌, true, false, List, length, take, find, slice_get, Some, IfOk, unwrap_or, OnOk};
+ghost use Rattle.std.specs.Prelude.{◌≡◌, ℕ, ◌+◌, ◌-◌, ◌*◌, ◌/◌, ◌^◌, ◌<◌, ◌≤◌, ◌==◌, ◌&&◌, not, if◌then◌else◌, [], ◌∷◌, true, false, List, length, take, find, slice_get, slice_index_or, Some, IfOk, unwrap_or, OnOk};
 ghost use Rattle.std.specs.List.{filter_map, flat_map, range_with_len};
 ghost use Rattle.cxl_enc.specs.Caps.{is_target_count};
 ghost use Rattle.cxl_enc.specs.Codes.{third_of};
-ghost use Rattle.cxl_topo.specs.Tree.{is_endpoint_at, child_of};
+ghost use Rattle.cxl_topo.specs.declared.node.Parent.{Parent};
+ghost use Rattle.cxl_topo.specs.Tree.{is_endpoint_at, parent_of, child_of};
 ghost use Rattle.cxl_window.specs.Fields.{WindowFields};
 ghost use Rattle.cxl_model.specs.Hosts.{as_system};
 ghost use Rattle.cxl_pick.specs.Picking.{can_serve_itself, can_serve_by};
 ghost use Rattle.cxl_model.specs.Accepted.{IsOrderlySystem};
 ghost use Rattle.cxl_pick.specs.inner.Wanted.{HasWaysAndSize};
 ghost use Rattle.cxl_legal.specs.Bases.{last_end};
-ghost use Rattle.cxl_pick.specs.inner.Offers.{AreChildren, AreOffers, AreKept, offered, listed_at, offers_at};
+ghost use Rattle.cxl_pick.specs.inner.Offers.{AreHighest, AreChildren, AreOffers, AreKept, offered, listed_at, offers_at};
 
 use crate::nodes::{can_serve_by, can_serve_itself};
-use crate::terms::wanted_code;
+use crate::terms::{log2_of, power, wanted_code};
 use crate::want::Want;
 use cxl_legal::last_end;
 use cxl_model::Host;
-use cxl_topo::{Topo, tree_laws};
+use cxl_topo::{Parent, Topo, tree_laws};
 use cxl_window::Window;
 use std::alloc::{AllocError, Global};
 
@@ -28,24 +29,71 @@ use std::alloc::{AllocError, Global};
 pub(crate) fn children(alloc: Global, topo: &Topo) -> Result<Vec<Vec<u32>>, AllocError>
     ensures { IfOk result (λ table. AreChildren topo.now.nodes table.items) }
 {
+    let highest = highest_ports(alloc, topo)?;
     let mut table = Vec::with_capacity(alloc, topo.count() as usize)?;
     for node in 0..topo.count() {
-        table.push(children_of(alloc, topo, node)?)?;
+        let own = children_of(alloc, topo, node, highest[node as usize])?;
+        table.push(own)?;
     }
     Ok(table)
 }
 
-/// The children of a node, by rising port; an endpoint has none. Takes memory.
-fn children_of(alloc: Global, topo: &Topo, node: u32) -> Result<Vec<u32>, AllocError>
+/// The highest port of each node at which a child stands, or 0. Takes memory.
+fn highest_ports(alloc: Global, topo: &Topo) -> Result<Vec<u8>, AllocError>
+    ensures count { IfOk result (λ highest. length highest.items ≡ length topo.now.nodes) }
+    ensures highest { IfOk result (λ highest. AreHighest topo.now.nodes highest.items) }
+{
+    tree_laws();
+    let mut highest = vec![in alloc; 0; topo.count() as usize]?;
+    for node in 0..topo.count() {
+        raise_parent(&mut highest, topo, node);
+    }
+    Ok(highest)
+}
+
+/// Raises the highest port of a node's parent to that of the node, where it is lower.
+fn raise_parent(highest: &mut Vec<u8>, topo: &Topo, node: u32)
     requires { node < length topo.now.nodes }
+    ensures count { length highest.new.items ≡ length highest.old.items }
+    ensures kept { (n : ℕ) → n < length highest.old.items
+        → slice_index_or highest.old.items n 0 ≤ slice_index_or highest.new.items n 0 }
+    ensures raised { (parent : Parent) → parent_of topo.now.nodes node ≡ Some parent
+        → parent.node < length highest.old.items → parent.port ≤ slice_index_or highest.new.items parent.node 0 }
+{
+    if let Some(parent) = topo.node(node).parent {
+        raise(highest, &parent);
+    }
+}
+
+/// Raises the highest port of a node to this one, where it is lower.
+fn raise(highest: &mut Vec<u8>, place: &Parent)
+    ensures count { length highest.new.items ≡ length highest.old.items }
+    ensures kept { (n : ℕ) → n < length highest.old.items
+        → slice_index_or highest.old.items n 0 ≤ slice_index_or highest.new.items n 0 }
+    ensures raised { place.now.node < length highest.old.items
+        → place.now.port ≤ slice_index_or highest.new.items place.now.node 0 }
+{
+    let node = place.node as usize;
+    if node < highest.len() && highest[node] < place.port {
+        highest[node] = place.port;
+    }
+}
+
+/// The children of a node, by rising port, of which none is above `highest`; an endpoint has none. Takes memory.
+fn children_of(alloc: Global, topo: &Topo, node: u32, highest: u8) -> Result<Vec<u32>, AllocError>
+    requires here { node < length topo.now.nodes }
+    requires highest { (c : ℕ) (parent : Parent) → parent_of topo.now.nodes c ≡ Some parent
+        → parent.node ≡ node → parent.port ≤ highest }
     ensures { IfOk result (λ own. is_endpoint_at topo.now.nodes node ≡ false
         → own.items ≡ filter_map (child_of topo.now.nodes node) (range_with_len 0 256)) }
 {
+    tree_laws();
+    let _count = topo.count();
     let mut own = Vec::new(alloc);
     if topo.is_endpoint(node) {
         return Ok(own);
     }
-    for port in 0..256u32 {
+    for port in 0..u32::from(highest) + 1 {
         if let Some(child) = topo.child(node, port as u8) {
             own.push(child)?;
         }
@@ -128,12 +176,12 @@ pub(crate) fn renew(
     requires high { kept.old.high ≤ start }
     ensures kept { OnOk result (AreKept (as_system host.now) want.now kept.new) }
     ensures offers { OnOk result (AreOffers (as_system host.now) want.now w.now start kept.new.table.items) }
-    ensures count { OnOk result (length kept.new.table.items ≡ length host.now.topo.now.nodes * 17) }
+    ensures count { OnOk result (length kept.new.table.items ≡ length host.now.topo.now.nodes * 5) }
 {
     tree_laws();
     let code = wanted_code(want, w);
     let third = third_of(w);
-    let whole = kept.table.len() == host.topo.count() as usize * 17;
+    let whole = kept.table.len() == host.topo.count() as usize * 5;
     if kept.code == code && kept.third == third && whole {
         return Ok(());
     }
@@ -152,7 +200,8 @@ fn third_of(w: &Window) -> u8
 
 // ---- the table
 
-/// What each node gives for each number of endpoints from 1 to 16, children before their parents. Takes memory.
+/// What each node gives for 1, 2, 4, 8 and 16 endpoints, children before their parents. (None gives anything for another
+/// number: an endpoint gives itself for 1, and a port uses 1, 2, 4 or 8 of its children.) Takes memory.
 pub(crate) fn offers(
     alloc: Global,
     host: &Host,
@@ -165,13 +214,13 @@ pub(crate) fn offers(
     requires sound { HasWaysAndSize want.now }
     requires children { AreChildren host.now.topo.now.nodes children.now }
     ensures offers { IfOk result (λ table. AreOffers (as_system host.now) want.now w.now start table.items) }
-    ensures count { IfOk result (λ table. length table.items ≡ length host.now.topo.now.nodes * 17) }
+    ensures count { IfOk result (λ table. length table.items ≡ length host.now.topo.now.nodes * 5) }
 {
     let count = host.topo.count() as usize;
-    let mut table = Vec::with_capacity(alloc, count * 17)?;
-    for place in 0..count * 17 {
-        let node = (count - 1 - place / 17) as u32;
-        let m = (place % 17) as u8;
+    let mut table = Vec::with_capacity(alloc, count * 5)?;
+    for place in 0..count * 5 {
+        let node = (count - 1 - place / 5) as u32;
+        let m = power((place % 5) as u8);
         let own = offer(alloc, host, want, w, start, children, &table, node, m)?;
         table.push(own)?;
     }
@@ -194,15 +243,13 @@ fn offer(
     requires sound { HasWaysAndSize want.now }
     requires children { AreChildren host.now.topo.now.nodes children.now }
     requires here { node < length host.now.topo.now.nodes }
+    requires some { 0 < m }
     requires few { m ≤ 16 }
     requires offers { AreOffers (as_system host.now) want.now w.now start table.now }
-    requires below { (length host.now.topo.now.nodes - 1 - node) * 17 ≤ length table.now }
-    ensures { IfOk result (λ own. 0 < m → own.items ≡ offered (as_system host.now) want.now w.now start node m) }
+    requires below { (length host.now.topo.now.nodes - 1 - node) * 5 ≤ length table.now }
+    ensures { IfOk result (λ own. own.items ≡ offered (as_system host.now) want.now w.now start node m) }
 {
     tree_laws();
-    if m == 0 {
-        return Ok(Vec::new(alloc));
-    }
     if host.topo.is_endpoint(node) {
         return own_offer(alloc, gives_itself(host, want, w, start, node, m), node);
     }
@@ -292,6 +339,9 @@ fn serves_by(
     if m % u != 0 {
         return false;
     }
+    if usize::from(u) > children.len() {
+        return false;
+    }
     if !can_serve_by(host, want, w, start, node, m, usize::from(u), u) {
         return false;
     }
@@ -345,7 +395,11 @@ pub(crate) fn gives(count: u32, table: &[Vec<u32>], child: u32, share: u8) -> bo
 pub(crate) fn listed<'a>(count: u32, table: &'a [Vec<u32>], node: u32, share: u8) -> &'a [u32]
     ensures { result.now ≡ listed_at table.now count node share }
 {
-    let place = count.saturating_sub(1).saturating_sub(node) as usize * 17 + usize::from(share);
+    if !matches!(share, 1 | 2 | 4 | 8 | 16) {
+        return &[];
+    }
+    let row = count.saturating_sub(1).saturating_sub(node) as usize;
+    let place = row * 5 + log2_of(share) as usize;
     match table.get(place) {
         Some(own) => own.as_slice(),
         None => &[],

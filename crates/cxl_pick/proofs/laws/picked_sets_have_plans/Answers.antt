@@ -1,4 +1,4 @@
-use Rattle.std.proofs.Common.{◌∙◌, sym, ap, Err, subst, ◌≡◌}
+use Rattle.std.proofs.Common.{Err, subst, ◌≡◌}
 use Rattle.cxl_pick.specs.declared.fault.PickFault.{PickFault}
 use Rattle.cxl_pick.specs.Picked.{picked}
 use Rattle.cxl_pick.proofs.Computed.{told_set, told_fault}
