@@ -3,7 +3,7 @@ use Rattle.std.proofs.Common.{◌≡◌, ℕ, zero, suc, ◌+◌, ◌-◌, ◌*�
 use Rattle.std.specs.Prelude.{◌==◌, nat_le, take, find, option_map, unwrap_or}
 use Rattle.std.specs.Option.{option_map_or}
 use Rattle.std.specs.List.{filter_map, flat_map}
-use Rattle.std.proofs.lemmas.Bool.{cases_Bool, cases_lt, le-leb}
+use Rattle.std.proofs.lemmas.Bool.{cases_Bool, cases_lt, le-leb, lt-leb}
 use Rattle.cxl_enc.specs.Codes.{third_of, bits_of, log2_of, code_in_table}
 use Rattle.cxl_enc.specs.Caps.{targets_of}
 use Rattle.cxl_topo.specs.Tree.{is_endpoint_at}
@@ -94,8 +94,15 @@ same_offers s known want v w a b same table offers = record {
               ∙ sym (none_offered s want w b (length s.nodes - 1 - place / 5) (2 ^ (place % 5)) none)
         ]
 
--- from starts at or above the end of all that is committed, a node is open where it has a decoder left
-pub open_alike : (s : System) (high a b : ℕ) → ((n : ℕ) → n < length s.nodes → last_end s n ≤ high) → high ≤ a → high ≤ b → (n : ℕ) → n < length s.nodes → is_open s a n ≡ is_open s b n
-open_alike s high a b ends from other n within =
-    let low = ends n within in
-    ap (λ (t : Bool). not (all_committed (decoders_at s n)) && t) (le-leb (last_end s n) a (omega (arith, low, from)) ∙ sym (le-leb (last_end s n) b (omega (arith, low, other))))
+-- from starts between which no node's committed ranges end, the same nodes are open
+pub open_alike : (s : System) (from until a b : ℕ) → ((n : ℕ) → n < length s.nodes → last_end s n ≤ a → last_end s n ≤ from) → ((n : ℕ) → n < length s.nodes → a < last_end s n → until ≤ last_end s n)
+    → from ≤ b → b < until → (n : ℕ) → n < length s.nodes → is_open s a n ≡ is_open s b n
+open_alike s from until a b low high above below n within =
+    ap (λ (t : Bool). not (all_committed (decoders_at s n)) && t) (elim (cases_lt a (last_end s n)) [
+      | inl past ↦
+          let end = high n within past in
+          lt-leb (last_end s n) a past ∙ sym (lt-leb (last_end s n) b (omega (arith, end, below)))
+      | inr before ↦
+          let end = low n within before in
+          le-leb (last_end s n) a before ∙ sym (le-leb (last_end s n) b (omega (arith, end, above)))
+    ])

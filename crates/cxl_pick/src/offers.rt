@@ -8,6 +8,8 @@ ghost use Rattle.cxl_topo.specs.declared.node.Parent.{Parent};
 ghost use Rattle.cxl_topo.specs.Tree.{is_endpoint_at, parent_of, child_of};
 ghost use Rattle.cxl_window.specs.Fields.{WindowFields};
 ghost use Rattle.cxl_model.specs.Hosts.{as_system};
+ghost use Rattle.cxl_model.specs.System.{System};
+ghost use Rattle.cxl_pick.specs.declared.want.Want.{Want};
 ghost use Rattle.cxl_pick.specs.Picking.{can_serve_itself, can_serve_by};
 ghost use Rattle.cxl_model.specs.Accepted.{IsOrderlySystem};
 ghost use Rattle.cxl_pick.specs.inner.Wanted.{HasWaysAndSize};
@@ -38,7 +40,7 @@ pub(crate) fn children(alloc: Global, topo: &Topo) -> Result<Vec<Vec<u32>>, Allo
     Ok(table)
 }
 
-/// The highest port of each node at which a child stands, or 0. Takes memory.
+/// For each node a port above which no child of it stands: the highest with one, or 0. Takes memory.
 fn highest_ports(alloc: Global, topo: &Topo) -> Result<Vec<u8>, AllocError>
     ensures count { IfOk result (λ highest. length highest.items ≡ length topo.now.nodes) }
     ensures highest { IfOk result (λ highest. AreHighest topo.now.nodes highest.items) }
@@ -104,50 +106,79 @@ fn children_of(alloc: Global, topo: &Topo, node: u32, highest: u8) -> Result<Vec
 // ---- from one window to the next
 
 /// What each node gives for each number of endpoints in the windows of one code, and of ways that three divides or not.
-/// It is the same from each start at or above the end of all that is committed.
+/// It is the same from each start between which no node's committed ranges end, since then the same nodes are open.
 #[derive(Drop)]
 pub struct KeptOffers {
     /// The code of the region in those windows.
     pub code: u8,
     /// 3 where three divides the ways of those windows, else 1.
     pub third: u8,
-    /// An address at or above the end of all that is committed.
-    pub high: u64,
+    /// The least of those starts.
+    pub from: u64,
+    /// An address above those starts.
+    pub until: u64,
     /// A list for each node and number, or none yet.
     pub table: Vec<Vec<u32>>,
 }
 
-/// No offers yet.
-pub(crate) fn no_offers(alloc: Global, host: &Host, want: &Want) -> KeptOffers
-    requires ready { IsOrderlySystem (as_system host.now) }
-    ensures { AreKept (as_system host.now) want.now result }
+/// No offers yet: they are of no start.
+pub(crate) fn no_offers(alloc: Global) -> KeptOffers
+    ensures { (s : System) (want : Want) → AreKept s want result }
 {
     KeptOffers {
         code: 0,
         third: 1,
-        high: highest_end(host),
+        from: 0,
+        until: 0,
         table: Vec::new(alloc),
     }
 }
 
-/// An address at or above the end of all that is committed.
-fn highest_end(host: &Host) -> u64
-    requires ready { IsOrderlySystem (as_system host.now) }
-    ensures { (n : ℕ) → n < length host.now.topo.now.nodes → last_end (as_system host.now) n ≤ result }
-{
-    let mut high = 0;
-    for node in 0..host.topo.count() {
-        high = higher(high, end_of(host, node));
-    }
-    high
+/// Starts from which the same nodes are open.
+#[derive(Clone, Copy)]
+pub struct Starts {
+    /// The least.
+    pub from: u64,
+    /// An address above them all.
+    pub until: u64,
 }
 
-/// The greater of two addresses.
-fn higher(high: u64, end: u64) -> u64
-    ensures first { high ≤ result }
-    ensures second { end ≤ result }
+/// The starts around this one from which the same nodes are open.
+fn starts_around(host: &Host, start: u64) -> Starts
+    requires ready { IsOrderlySystem (as_system host.now) }
+    ensures below { (n : ℕ) → n < length host.now.topo.now.nodes → last_end (as_system host.now) n ≤ start
+        → last_end (as_system host.now) n ≤ result.from }
+    ensures above { (n : ℕ) → n < length host.now.topo.now.nodes → start < last_end (as_system host.now) n
+        → result.until ≤ last_end (as_system host.now) n }
 {
-    if end > high { end } else { high }
+    let mut starts = Starts {
+        from: 0,
+        until: u64::MAX,
+    };
+    for node in 0..host.topo.count() {
+        starts = narrowed(starts, start, end_of(host, node));
+    }
+    starts
+}
+
+/// Those of the starts on the side of an end on which this one is.
+fn narrowed(starts: Starts, start: u64, end: u64) -> Starts
+    ensures from { starts.from ≤ result.from }
+    ensures until { result.until ≤ starts.until }
+    ensures below { end ≤ start → end ≤ result.from }
+    ensures above { start < end → result.until ≤ end }
+{
+    if end <= start {
+        Starts {
+            from: starts.from.max(end),
+            until: starts.until,
+        }
+    } else {
+        Starts {
+            from: starts.from,
+            until: starts.until.min(end),
+        }
+    }
 }
 
 /// The end of all that is committed in a node.
@@ -173,7 +204,6 @@ pub(crate) fn renew(
     requires sound { HasWaysAndSize want.now }
     requires children { AreChildren host.now.topo.now.nodes children.now }
     requires kept { AreKept (as_system host.now) want.now kept.old }
-    requires high { kept.old.high ≤ start }
     ensures kept { OnOk result (AreKept (as_system host.now) want.now kept.new) }
     ensures offers { OnOk result (AreOffers (as_system host.now) want.now w.now start kept.new.table.items) }
     ensures count { OnOk result (length kept.new.table.items ≡ length host.now.topo.now.nodes * 5) }
@@ -182,12 +212,16 @@ pub(crate) fn renew(
     let code = wanted_code(want, w);
     let third = third_of(w);
     let whole = kept.table.len() == host.topo.count() as usize * 5;
-    if kept.code == code && kept.third == third && whole {
+    let around = kept.from <= start && start < kept.until;
+    if kept.code == code && kept.third == third && around && whole {
         return Ok(());
     }
+    let starts = starts_around(host, start);
     kept.table = offers(alloc, host, want, w, start, children)?;
     kept.code = code;
     kept.third = third;
+    kept.from = starts.from;
+    kept.until = starts.until;
     Ok(())
 }
 
@@ -202,7 +236,7 @@ fn third_of(w: &Window) -> u8
 
 /// What each node gives for 1, 2, 4, 8 and 16 endpoints, children before their parents. (None gives anything for another
 /// number: an endpoint gives itself for 1, and a port uses 1, 2, 4 or 8 of its children.) Takes memory.
-pub(crate) fn offers(
+fn offers(
     alloc: Global,
     host: &Host,
     want: &Want,

@@ -16,7 +16,7 @@ use crate::fault::PickFault;
 use crate::laws::{
     fitting_sets_are_given, fitting_sets_have_plans, given_sets_fit, wants_come_to_answers,
 };
-use crate::offers::{KeptOffers, children, gives, listed, no_offers, offers, renew};
+use crate::offers::{KeptOffers, children, gives, listed, no_offers, renew};
 use crate::terms::{can_take, latest_start};
 use crate::want::Want;
 use cxl_image::Image;
@@ -115,7 +115,7 @@ fn pick_first(alloc: Global, host: &Host, want: &Want) -> Result<Option<Vec<u32>
 {
     tree_laws();
     let children = children(alloc, host.topo)?;
-    let mut kept = no_offers(alloc, host, want);
+    let mut kept = no_offers(alloc);
     for w in host.windows {
         match pick_in(&mut kept, alloc, host, want, w, &children)? {
             Some(given) => {
@@ -154,10 +154,6 @@ fn pick_in(
         return Ok(None);
     };
     let share = want.ways / w.ways();
-    if start < kept.high {
-        let table = offers(alloc, host, want, w, start, children)?;
-        return all_given(alloc, host.topo, w.targets(), &table, share);
-    }
     renew(kept, alloc, host, want, w, start, children)?;
     all_given(alloc, host.topo, w.targets(), &kept.table, share)
 }

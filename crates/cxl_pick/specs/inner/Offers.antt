@@ -11,7 +11,6 @@ use Rattle.cxl_topo.specs.Tree.{is_endpoint_at, parent_of, child_of}
 use Rattle.cxl_window.specs.Fields.{WindowFields}
 use Rattle.cxl_model.specs.System.{System}
 use Rattle.cxl_pick.specs.declared.want.Want.{Want}
-use Rattle.cxl_legal.specs.Bases.{last_end}
 use Rattle.cxl_pick.specs.declared.offers.KeptOffers.{KeptOffers}
 use Rattle.cxl_pick.specs.Picking.{wanted_code, gives}
 
@@ -34,11 +33,10 @@ pub record AreOffers (s : System) (want : Want) (w : WindowFields) (start : ℕ)
   pub each : (place : ℕ) (own : Vec ℕ Global) → slice_get table place ≡ Some own
       → own.items ≡ offered s want w start (length s.nodes - 1 - place / 5) (2 ^ (place % 5))
 
--- the offers are those of each window of their code and third, from each start at or above the end of all that is committed
+-- the offers are those of each window of their code and third, from each of their starts
 pub record AreKept (s : System) (want : Want) (kept : KeptOffers) : Type 0 where
-  pub high : (n : ℕ) → n < length s.nodes → last_end s n ≤ kept.high
-  pub offers : (w : WindowFields) (start : ℕ) → wanted_code want w ≡ kept.code → third_of w.ways ≡ kept.third → kept.high ≤ start
-      → AreOffers s want w start kept.table.items
+  pub offers : (w : WindowFields) (start : ℕ) → wanted_code want w ≡ kept.code → third_of w.ways ≡ kept.third
+      → kept.from ≤ start → start < kept.until → AreOffers s want w start kept.table.items
 
 -- a number for which the table has lists; for no other does a node give anything
 abbrev pub is_listed : ℕ → Bool

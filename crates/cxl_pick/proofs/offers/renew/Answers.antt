@@ -8,15 +8,14 @@ use Rattle.cxl_pick.proofs.offers.renew.Goals as goal
 
 pub returns-clause-kept : goal.returns-clause-kept
 returns-clause-kept c = record {
-  high = c.requires.kept.high;
-  offers = λ v from code third high.
+  offers = λ v start code third least most.
       let s : System = as_system c.args.host.now in
       let want : Want = c.args.want.now in
       let known : KnownTree s.nodes = record { tree = c.requires.ready.system.tree; laws = c.tree_laws.ensures.laws s.nodes c.requires.ready.system.tree } in
-      let same : AskSame s want c.args.w.now v c.args.start from = record {
+      let same : AskSame s want c.args.w.now v c.args.start start = record {
         code = sym (code ∙ c.wanted_code-code.ensures);
         third = sym (third ∙ c.third_of-third.ensures);
-        opened = open_alike s c.args.kept.now.high c.args.start from c.requires.kept.high c.requires.high high;
+        opened = open_alike s c.starts_around-starts.result.from c.starts_around-starts.result.until c.args.start start c.starts_around-starts.ensures.below c.starts_around-starts.ensures.above least most;
       } in
-      same_offers s known want c.args.w.now v c.args.start from same c.in_ok-kept.field-0.items c.in_ok-kept.ensures.offers;
+      same_offers s known want c.args.w.now v c.args.start start same c.in_ok-kept.field-0.items c.in_ok-kept.ensures.offers;
 }

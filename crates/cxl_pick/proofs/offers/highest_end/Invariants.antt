@@ -1,7 +1,0 @@
-use Rattle.std.proofs.Common.{ℕ, ◌<◌, ◌≤◌}
-use Rattle.cxl_model.specs.Hosts.{as_system}
-use Rattle.cxl_legal.specs.Bases.{last_end}
-use Rattle.cxl_pick.proofs.offers.highest_end.Given as goal
-
-abbrev pub invariant-loop-node : goal.invariant-loop-node
-invariant-loop-node l = (n : ℕ) → n < l.node → last_end (as_system l.host) n ≤ l.high
