@@ -1,8 +1,8 @@
--- The first breach of all rules, from the first of K1, of K2 to K8, and of each later rule.
-use Rattle.std.proofs.Common.{◌≡◌, ℕ, ◌+◌, ◌<◌, ◌≤◌, true, false, length, Option, Some, None, refl, sym, ◌∙◌, inl, inr, arith}
+-- The first breach of all rules, from the first of K1, of K2 to K8, and of K9 to K12.
+use Rattle.std.proofs.Common.{◌≡◌, ℕ, ◌<◌, ◌≤◌, true, false, length, Option, Some, None, refl, sym, ◌∙◌, inl, inr, arith}
 use Rattle.std.specs.Prelude.{slice_get, IfNone, IfSome}
 use Rattle.std.specs.Option.{option_map_or}
-use Rattle.std.proofs.lemmas.Bool.{ne_eqb, le-ltb, cases_lt, cases_eq, false≢true}
+use Rattle.std.proofs.lemmas.Bool.{cases_lt, cases_eq, false≢true}
 use Rattle.std.proofs.lemmas.Option.{slice_get_past}
 use Rattle.cxl_regs.specs.Registers.{Registers}
 use Rattle.cxl_span.specs.Breaches.{breaks as block_breaks}
@@ -10,8 +10,9 @@ use Rattle.cxl_model.specs.System.{System, IsSystem, ram_at, pmem_at}
 use Rattle.cxl_model.specs.Accepted.{breaks, breaks_block, IsAccepted, IsFirstBreach, IsOrderlySystem}
 use Rattle.cxl_check.specs.declared.fault.Breach.{Breach}
 use Rattle.cxl_check.specs.Spots.{Keeps, IsFirstSpot}
-use Rattle.cxl_check.specs.inner.Blocks.{IsFoundBelow}
+use Rattle.cxl_check.specs.inner.Found.{IsFoundBelow}
 use Rattle.cxl_check.proofs.Kept.{no_rule, block_rule}
+use Rattle.cxl_check.proofs.RuleTests.{all_rules, past_nodes}
 
 module _ (s : System) where
   -- a block breaks no rule but K2 to K8
@@ -62,11 +63,11 @@ module _ (s : System) where
               ∙ elim (cases_lt n (length s.nodes)) [ inl below ↦ each n i below | inr past ↦ block_past rule n i (omega arith) ]
         ]
 
-    pub ready_where_none : IsSystem s → (o : Option Breach) → IsFoundBelow s (length s.nodes) o → IfNone o (IsOrderlySystem s)
+    pub ready_where_none : IsSystem s → (o : Option Breach) → IsFoundBelow (breaks_block s) (length s.nodes) o → IfNone o (IsOrderlySystem s)
     ready_where_none system None found = record { system = system; blocks = λ rule n i low. lower_keeps rule (λ m j below. found rule m j below) low n i }
     ready_where_none system (Some b) found = tt
 
-    pub first_where_some : (o : Option Breach) → IsFoundBelow s (length s.nodes) o → IfSome o (λ b. IsFirstBreach s b.rule b.node b.decoder)
+    pub first_where_some : (o : Option Breach) → IsFoundBelow (breaks_block s) (length s.nodes) o → IfSome o (λ b. IsFirstBreach s b.rule b.node b.decoder)
     first_where_some None found = tt
     first_where_some (Some b) found =
         let rule = block_rule_of b.rule b.node b.decoder found.broken in
@@ -80,24 +81,24 @@ module _ (s : System) where
           decoders = λ lower below. block_rule s b.rule b.node lower other to ∙ found.decoders lower below;
         }
 
-  -- all rules below one are kept
-  abbrev pub KeepsBelow : ℕ → Type 0
-  KeepsBelow rule = (lower n i : ℕ) → lower < rule → breaks s lower n i ≡ false
+  -- where K1 to K8 are kept, what is found of all nodes with a block is the first breach
+  module _ (ready : IsOrderlySystem s) (k : ℕ) (all : length s.blocks ≤ k) where
+    everywhere : (rule : ℕ) → ((n i : ℕ) → n < k → breaks s rule n i ≡ false) → (n i : ℕ) → breaks s rule n i ≡ false
+    everywhere rule each n i =
+        elim (cases_lt n k) [
+          | inl below ↦ each n i below
+          | inr beyond ↦ all_rules s ready n i (λ late from to. past_nodes s late from to n i (omega (arith, all, beyond))) rule
+        ]
 
-  pub first_of_rule : (rule n i : ℕ) → KeepsBelow rule → IsFirstSpot s rule n i → IsFirstBreach s rule n i
-  first_of_rule rule n i kept first = record { broken = first.broken; rules = λ lower m j below. kept lower m j below; nodes = first.nodes; decoders = first.decoders }
+    pub accepted_where_none : (o : Option Breach) → IsFoundBelow (breaks s) k o → IfNone o (IsAccepted s)
+    accepted_where_none None found = record { each = λ rule n i. everywhere rule (λ m j below. found rule m j below) n i }
+    accepted_where_none (Some b) found = tt
 
-  pub kept_more : (rule : ℕ) → KeepsBelow rule → Keeps s rule → KeepsBelow (1 + rule)
-  kept_more rule kept keeps lower n i below =
-      elim (cases_lt lower rule) [
-        | inl less ↦ kept lower n i less
-        | inr at ↦ let same : lower ≡ rule = omega arith in rw same (keeps n i)
-      ]
-
-  past_rules : (rule n i : ℕ) → 13 ≤ rule → breaks s rule n i ≡ false
-  unfolding breaks
-  past_rules rule n i past =
-      rw (ne_eqb rule 1 (omega arith), le-ltb rule 9 (omega arith), ne_eqb rule 9 (omega arith), ne_eqb rule 10 (omega arith), ne_eqb rule 11 (omega arith), ne_eqb rule 12 (omega arith)) refl
-
-  pub all_kept : KeepsBelow 13 → IsAccepted s
-  all_kept kept = record { each = λ rule n i. elim (cases_lt rule 13) [ inl below ↦ kept rule n i below | inr past ↦ past_rules rule n i past ] }
+    pub breach_where_some : (o : Option Breach) → IsFoundBelow (breaks s) k o → IfSome o (λ b. IsFirstBreach s b.rule b.node b.decoder)
+    breach_where_some None found = tt
+    breach_where_some (Some b) found = record {
+      broken = found.broken;
+      rules = λ lower n i below. everywhere lower (λ m j within. found.rules lower m j below within) n i;
+      nodes = found.nodes;
+      decoders = found.decoders;
+    }

@@ -2,18 +2,26 @@
 use Rattle.std.proofs.Common.{◌≡◌, ℕ, ◌&&◌, true, length, Some, None, refl, ap, ◌∙◌, if◌then◌else◌}
 use Rattle.std.specs.Prelude.{slice_get, ◌==◌, IsSomeAnd}
 use Rattle.std.specs.Option.{option_and_then}
-use Rattle.std.proofs.lemmas.Bool.{and_parts}
+use Rattle.std.proofs.lemmas.Bool.{and_parts, eqb-true}
 use Rattle.cxl_enc.specs.declared.caps.MemKind.{MemKind}
 use Rattle.cxl_enc.specs.declared.caps.MemKind.TheVariants.{Ram}
 use Rattle.cxl_topo.specs.Tree.{is_endpoint_at}
 use Rattle.cxl_regs.specs.declared.decoder.Decoder.{Decoder}
 use Rattle.cxl_regs.specs.declared.reading.Range.{Range}
-use Rattle.cxl_regs.specs.Reading.{decoder_ways, has_range}
+use Rattle.cxl_regs.specs.Reading.{decoder_ways, has_range, range_of}
 use Rattle.cxl_model.specs.System.{System, decoders_at, decoder_at}
 use Rattle.cxl_model.specs.Ranges.{serves, decoder_for, index_for, first_endpoint, span_kind}
 use Rattle.cxl_check.specs.inner.Facts.{AreFacts}
 use Rattle.cxl_check.proofs.Searches.{find_by_position, passes_at}
 use Rattle.cxl_check.proofs.Numbers.{found}
+
+-- a decoder has no range but its own
+pub range_is : (r : Range) (d : Decoder) → has_range r d ≡ true → range_of d ≡ r
+range_is r d has =
+    let parts = and_parts (d.committed && (d.base == r.base)) (d.size == r.size) has in
+    let base : d.base ≡ r.base = eqb-true d.base r.base (and_parts d.committed (d.base == r.base) parts.0).1 in
+    let size : d.size ≡ r.size = eqb-true d.size r.size parts.1 in
+    λ i. record { base = base i; size = size i }
 
 module _ (s : System) (r : Range) where
   pub no_first : first_endpoint s r ≡ None → AreFacts s r (record { ways = 1; code = 0; kind = Ram })

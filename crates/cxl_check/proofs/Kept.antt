@@ -12,7 +12,8 @@ use Rattle.cxl_topo.specs.Kinds.{is_endpoint, capacity_of}
 use Rattle.cxl_topo.specs.Tree.{is_endpoint_at}
 use Rattle.cxl_regs.specs.declared.decoder.Decoder.{Decoder}
 use Rattle.cxl_regs.specs.Registers.{Registers}
-use Rattle.cxl_regs.specs.Reading.{span_length}
+use Rattle.cxl_regs.specs.declared.reading.Range.{Range}
+use Rattle.cxl_regs.specs.Reading.{has_range, span_length}
 use Rattle.cxl_regs.specs.Rules.{before}
 use Rattle.cxl_span.specs.Rules.{breaks_rule}
 use Rattle.cxl_span.specs.Spans.{span_start_of}
@@ -20,6 +21,7 @@ use Rattle.cxl_span.specs.Breaches.{breaks as block_breaks, BlockKeeps}
 use Rattle.cxl_model.specs.System.{System, decoders_at, decoder_at, ram_at, pmem_at}
 use Rattle.cxl_model.specs.Ranges.{span_kind}
 use Rattle.cxl_model.specs.Accepted.{breaks, breaks_block, IsOrderlySystem}
+use Rattle.cxl_check.specs.inner.Holders.{HasOneHolder}
 
 -- a rule that is none of K2 to K8 is broken by no decoder
 pub no_rule : (rule : ℕ) (block : Registers) (ram pmem i : ℕ) → ((k : ℕ) → 2 ≤ k → k < 9 → rule ≡ k → ⊥) → block_breaks rule block ram pmem i ≡ false
@@ -47,6 +49,12 @@ abbrev pub SpansEnd : Type 0
 SpansEnd =
     (block : Registers) (ram pmem i : ℕ) (d : Decoder) → BlockKeeps block ram pmem → block.endpoint ≡ true → slice_get block.decoders i ≡ Some d → d.committed ≡ true
     → span_start_of block.decoders i + span_length d ≤ ram + pmem
+
+-- what is said of the decoders with a range
+abbrev pub OneHolds : Type 0
+OneHolds =
+    (block : Registers) (ram pmem i j : ℕ) (r : Range) (d e : Decoder) → BlockKeeps block ram pmem → slice_get block.decoders i ≡ Some d → slice_get block.decoders j ≡ Some e
+    → has_range r d ≡ true → has_range r e ≡ true → i ≡ j
 
 -- a decoder that is there, with what holds of it
 pub some_and : {A : Type 0} (o : Option A) (P : A → Type 0) → IsSomeAnd o P → (x : A) × (o ≡ Some x) × P x
@@ -103,6 +111,10 @@ module _ (s : System) (ready : IsOrderlySystem s) where
                   rw here at kept
             ]
           ]
+
+  -- a range is that of one decoder of a block at the most
+  pub holder : OneHolds → (n : ℕ) (block : Registers) (r : Range) → slice_get s.blocks n ≡ Some block → HasOneHolder r block.decoders
+  holder one n block r here = λ i j d e. one block (ram_at s n) (pmem_at s n) i j r d e (kept_block n block here)
 
   -- a block of an endpoint is an endpoint's
   pub endpoint_at : (n : ℕ) (block : Registers) → is_endpoint_at s.nodes n ≡ true → slice_get s.blocks n ≡ Some block → block.endpoint ≡ true

@@ -1,9 +1,9 @@
 -- Searches over the numbers below k, and what the next number adds.
 use Rattle.std.proofs.Common.{◌≡◌, ℕ, zero, suc, ◌+◌, ◌<◌, Bool, true, false, ◌||◌, List, [], ◌∷◌, ◌++◌, Option, Some, None, refl, sym, ap, ◌∙◌, inl, inr, arith, if◌then◌else◌}
-use Rattle.std.specs.Prelude.{find}
+use Rattle.std.specs.Prelude.{find, is_some}
 use Rattle.std.specs.Option.{option_or}
 use Rattle.std.specs.List.{list_any, range_with_len}
-use Rattle.std.proofs.lemmas.Bool.{cases_Bool}
+use Rattle.std.proofs.lemmas.Bool.{cases_Bool, false≢true}
 use Rattle.std.proofs.lemmas.Option.{none-some, same_Some}
 use Rattle.std.proofs.lemmas.List.Folds.{find-append, list_any-append}
 
@@ -13,6 +13,10 @@ numbers_more a (suc n) =
     let e : suc n + 1 ≡ suc (n + 1) = omega arith in
     let f : (a + 1) + n ≡ a + suc n = omega arith in
     rw e (ap (λ (xs : List ℕ). a ∷ xs) (numbers_more (a + 1) n ∙ ap (λ (m : ℕ). range_with_len (a + 1) n ++ m ∷ []) f))
+
+or_some : {X : Type 0} (o : Option X) (x : X) → is_some (option_or o (Some x)) ≡ true
+or_some None x = refl
+or_some (Some y) x = refl
 
 module _ (p : ℕ → Bool) where
   find_one : (k : ℕ) → find p (k ∷ []) ≡ (if p k then Some k else None)
@@ -25,6 +29,10 @@ module _ (p : ℕ → Bool) where
   find_more k =
       let e : 0 + k ≡ k = omega arith in
       ap (find p) (numbers_more 0 k) ∙ find-append p (range_with_len 0 k) ((0 + k) ∷ []) ∙ rw e (rw (find_one k) refl)
+
+  -- where the last number passes, some number does
+  pub some_before : (n k : ℕ) → n ≡ k + 1 → p k ≡ true → is_some (find p (range_with_len 0 n)) ≡ true
+  some_before n k is passes = rw is (rw (find_more k) (rw passes (or_some (find p (range_with_len 0 k)) k)))
 
   pub any_more : (k : ℕ) → list_any p (range_with_len 0 (k + 1)) ≡ (list_any p (range_with_len 0 k) || p k)
   any_more k =
@@ -54,6 +62,13 @@ or_twice (Some y) x true q = refl
 or_twice (Some y) x false q = refl
 or_twice None x true q = refl
 or_twice None x false q = refl
+
+-- what is there stays, whatever is entered after it
+pub or_known : {X : Type 0} (o : Option X) (x : X) (p q : Bool) → (q ≡ true → is_some o ≡ true) → option_or o (if p then Some x else None) ≡ option_or o (if p || q then Some x else None)
+or_known (Some y) x p q known = refl
+or_known None x true q known = refl
+or_known None x false true known = absurd (false≢true (known refl))
+or_known None x false false known = refl
 
 pub or_none : {X : Type 0} (o : Option X) → option_or o None ≡ o
 or_none None = refl

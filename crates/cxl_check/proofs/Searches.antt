@@ -1,9 +1,9 @@
 -- First places, and tests that go over a list from a place on.
-use Rattle.std.proofs.Common.{◌≡◌, ℕ, suc, ◌+◌, ◌-◌, ◌<◌, ◌≤◌, Bool, true, false, List, [], ◌∷◌, length, get_or, map, Some, None, refl, sym, ap, ◌∙◌, inl, inr, arith}
+use Rattle.std.proofs.Common.{◌≡◌, ℕ, suc, ◌+◌, ◌-◌, ◌<◌, ◌≤◌, Bool, true, false, List, [], ◌∷◌, length, get_or, map, Option, Some, None, refl, sym, ap, ◌∙◌, inl, inr, arith}
 use Rattle.std.specs.Prelude.{slice_get, position, find, is_some}
-use Rattle.std.specs.Option.{option_and_then}
+use Rattle.std.specs.Option.{option_and_then, option_map_or}
 use Rattle.std.specs.List.{list_any, list_all, range_with_len, position_or_len}
-use Rattle.std.proofs.lemmas.Bool.{cases_lt, lt-ltb, le-ltb}
+use Rattle.std.proofs.lemmas.Bool.{cases_Bool, cases_lt, lt-ltb, le-ltb, false≢true}
 use Rattle.std.proofs.lemmas.List.Sums.{position_or_len_is, passes_at_first, fails_before_first}
 use Rattle.std.proofs.lemmas.List.Folds.{find_at, list_any_at, list_any_none}
 use Rattle.std.proofs.lemmas.List.Quantifiers.{position-Some}
@@ -62,6 +62,23 @@ module _ {X : Type 0} (p : X → Bool) where
         | inl lt ↦ rw (lt-ltb (position_or_len p (x ∷ xs)) (length (x ∷ xs)) lt) (list_any_at p (x ∷ xs) (position_or_len p (x ∷ xs)) x lt (passes_at_first p (x ∷ xs) x lt))
         | inr ge ↦ rw (le-ltb (position_or_len p (x ∷ xs)) (length (x ∷ xs)) ge) (list_any_none p (x ∷ xs) (λ k d below. fails_before_first p (x ∷ xs) k d (omega arith)))
       ]
+
+  -- the item that passes, where no other does
+  pub position_once : (xs : List X) (i : ℕ) (x : X) → slice_get xs i ≡ Some x → p x ≡ true → ((j : ℕ) (y : X) → slice_get xs j ≡ Some y → p y ≡ true → j ≡ i) → position p xs ≡ Some i
+  position_once xs i x here passes only =
+      position_is xs i x here passes (λ k y below there.
+      elim (cases_Bool (p y)) [
+        | inl also ↦ let same = only k y there also in absurd (omega arith)
+        | inr fails ↦ fails
+      ])
+
+  -- the item at a place passes, which is there
+  pub passes_there : (xs : List X) (i : ℕ) → option_map_or p (slice_get xs i) false ≡ true → (x : X) × (slice_get xs i ≡ Some x) × (p x ≡ true)
+  passes_there xs i passes = go (slice_get xs i) refl passes
+    where
+      go : (o : Option X) → slice_get xs i ≡ o → option_map_or p o false ≡ true → (x : X) × (slice_get xs i ≡ Some x) × (p x ≡ true)
+      go None e h = absurd (false≢true h)
+      go (Some x) e h = (x, e, h)
 
   -- an item passes, or none does
   pub list_any_one : (xs : List X) (i : ℕ) (x : X) → slice_get xs i ≡ Some x → p x ≡ true → list_any p xs ≡ true

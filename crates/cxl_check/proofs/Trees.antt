@@ -1,13 +1,16 @@
 -- Where nodes stand.
-use Rattle.std.proofs.Common.{◌≡◌, ℕ, zero, suc, ◌<◌, Bool, false, List, [], ◌∷◌, length, Some, sym, ap, subst, ◌∙◌, inl, inr, arith}
+use Rattle.std.proofs.Common.{◌≡◌, ℕ, zero, suc, ◌<◌, Bool, true, false, not, List, [], ◌∷◌, length, Option, Some, None, refl, sym, ap, subst, ◌∙◌, inl, inr, arith}
 use Rattle.std.specs.Prelude.{slice_get, position}
-use Rattle.std.proofs.lemmas.Bool.{cases_Bool}
+use Rattle.std.specs.Option.{option_map_or}
+use Rattle.std.proofs.lemmas.Bool.{cases_Bool, not-true, false≢true}
 use Rattle.std.proofs.lemmas.Option.{none-some, same_Some, slice_get_within, option_and_then_some}
 use Rattle.std.proofs.lemmas.List.Quantifiers.{position-Some}
 use Rattle.cxl_topo.specs.declared.node.Node.{Node}
 use Rattle.cxl_topo.specs.declared.node.Parent.{Parent}
-use Rattle.cxl_topo.specs.Tree.{is_bridge_at, forwards_at, parent_of, least_child_of, landing_within}
+use Rattle.cxl_topo.specs.Kinds.{is_endpoint}
+use Rattle.cxl_topo.specs.Tree.{is_bridge_at, is_endpoint_at, is_port_at, forwards_at, parent_of, child_of, least_child_of, landing_within}
 use Rattle.cxl_topo.specs.Faults.{IsTree}
+use Rattle.cxl_topo.specs.Laws.{AreTreeLaws}
 
 -- a first place lies inside the list
 pub position_below : {X : Type 0} (p : X → Bool) (xs : List X) (i : ℕ) → position p xs ≡ Some i → i < length xs
@@ -32,6 +35,14 @@ pub record IsBelow (nodes : List Node) (n c : ℕ) : Type 0 where
   pub later : n < c
   pub inside : c < length nodes
 
+-- a port is no endpoint
+port_no_endpoint : (nodes : List Node) (n : ℕ) → is_port_at nodes n ≡ true → is_endpoint_at nodes n ≡ false
+port_no_endpoint nodes n port = go (slice_get nodes n) port
+  where
+    go : (o : Option Node) → option_map_or (λ (node : Node). not (is_endpoint node.kind)) o false ≡ true → option_map_or (λ (node : Node). is_endpoint node.kind) o false ≡ false
+    go None h = absurd (false≢true h)
+    go (Some node) h = not-true (is_endpoint node.kind) h
+
 module _ (nodes : List Node) (tree : IsTree nodes) where
   there : (c : ℕ) (parent : Parent) → parent_of nodes c ≡ Some parent → c < length nodes
   there c parent is = option_and_then_some (λ (node : Node). node.parent) (slice_get nodes c) parent is (λ node here _. slice_get_within nodes c node here)
@@ -51,3 +62,15 @@ module _ (nodes : List Node) (tree : IsTree nodes) where
       let at : up.0.node ≡ parent.node = ap (λ (p : Parent). p.node) one in
       let earlier = up.2.earlier in
       record { later = omega arith; inside = inside }
+
+  -- an endpoint has no child
+  pub no_child : AreTreeLaws nodes → (n port : ℕ) → is_endpoint_at nodes n ≡ true → child_of nodes n port ≡ None
+  no_child laws n port endpoint = go (child_of nodes n port) refl
+    where
+      go : (o : Option ℕ) → child_of nodes n port ≡ o → child_of nodes n port ≡ None
+      go None e = e
+      go (Some c) e =
+          let stands = (laws.children n port c).0 e in
+          let up = tree.others c (there c _ stands) (no_bridge c _ stands) in
+          let one : up.0.node ≡ n = ap (λ (p : Parent). p.node) (same_Some up.0 _ (sym up.1 ∙ stands)) in
+          absurd (false≢true (sym (port_no_endpoint nodes n (subst (λ (m : ℕ). is_port_at nodes m ≡ true) one up.2.port)) ∙ endpoint))

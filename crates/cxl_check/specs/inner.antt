@@ -1,6 +1,7 @@
 -- Definitions that only the inner calls and the proofs speak of.
 pub mod Ready
-pub mod Blocks
+pub mod Found
+pub mod Holders
 pub mod Landings
 pub mod Firsts
 pub mod Facts

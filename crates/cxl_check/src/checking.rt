@@ -1,21 +1,19 @@
-ghost use Rattle.std.specs.Prelude.{◌≡◌, length, All, IsErr, OnOk, IfOk, IfErr, IfSome, IfNone};
+ghost use Rattle.std.specs.Prelude.{◌≡◌, length, IsErr, OnOk, IfOk, IfErr, IfSome, IfNone};
 ghost use Rattle.cxl_window.specs.Windows.{AreMadeWith};
 ghost use Rattle.cxl_model.specs.Hosts.{as_system};
 ghost use Rattle.cxl_model.specs.System.{system_of, bridge_uids};
 ghost use Rattle.cxl_model.specs.Accepted.{IsAccepted, IsFirstBreach, HasFirstBreach, IsOrderlySystem};
 ghost use Rattle.cxl_model.specs.Listed.{AreRegionsByBase};
 ghost use Rattle.cxl_check.specs.Spots.{TellsFirstBreach};
-ghost use Rattle.cxl_check.specs.inner.Facts.{AreSystemTables};
-ghost use Rattle.cxl_check.specs.inner.Known.{IsKnown};
 
 use crate::blocks::blocks_breach;
 use crate::caps::caps_breach;
 use crate::fault::{Breach, CheckFault};
 use crate::firsts::first_endpoints;
-use crate::known::{Known, none_met};
+use crate::known::none_met;
 use crate::landings::landings;
+use crate::ranges::ranges_breach;
 use crate::regions::regions;
-use crate::spots::first_spot;
 use crate::tables::Tables;
 use cxl_image::Image;
 use cxl_model::{Found, Host, accepted_or_breach, hosts_with_caps_are_systems};
@@ -56,7 +54,7 @@ pub fn check(
         firsts: first_endpoints(alloc, &host)?,
     };
     let mut met = none_met(alloc, &host, &tables.firsts)?;
-    if let Some(breach) = late_breach(&mut met, &host, &tables) {
+    if let Some(breach) = ranges_breach(&mut met, &host, &tables) {
         return Err(CheckFault::Breach(breach));
     }
     Ok(regions(alloc, &host, &tables.firsts)?)
@@ -80,25 +78,4 @@ fn early_breach(host: &Host) -> Option<Breach>
         });
     }
     blocks_breach(host)
-}
-
-/// The first breach of K9 to K12, which speak of ranges.
-fn late_breach(met: &mut Vec<Known>, host: &Host, tables: &Tables) -> Option<Breach>
-    requires met { All (IsKnown (as_system host.now)) met.old.items }
-    requires ready { IsOrderlySystem (as_system host.now) }
-    requires tables { AreSystemTables (as_system host.now) tables.now }
-    ensures none { IfNone result (IsAccepted (as_system host.now)) }
-    ensures first { IfSome result
-        (λ b. IsFirstBreach (as_system host.now) b.rule b.node b.decoder) }
-{
-    for rule in 9..13 {
-        if let Some(spot) = first_spot(met, host, tables, rule) {
-            return Some(Breach {
-                rule,
-                node: spot.node,
-                decoder: spot.decoder,
-            });
-        }
-    }
-    None
 }

@@ -36,7 +36,7 @@ pub(crate) fn facts_of(host: &Host, firsts: &BTreeMap<RangeKey, u32>, range: &Ra
     let Some(first) = first_of(firsts, range) else {
         return none;
     };
-    let Some(i) = index_for(host.image, range, first) else {
+    let Some(i) = index_for(host, range, first, 0) else {
         return none;
     };
     let d = host.image.block(first).decoder(i);

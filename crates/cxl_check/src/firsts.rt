@@ -1,13 +1,13 @@
 //! The first endpoint of each range.
 
-ghost use Rattle.std.specs.Prelude.{◌≡◌, ◌+◌, ◌<◌, [], length, None, Some, OnOk, IfOk, if◌then◌else◌};
+ghost use Rattle.std.specs.Prelude.{◌≡◌, ◌+◌, ◌<◌, [], true, length, None, Some, IsSome, OnOk, IfOk, if◌then◌else◌};
 ghost use Rattle.std.specs.List.{list_any};
 ghost use Rattle.std.specs.Option.{option_or};
 ghost use Rattle.std.specs.BTreeMap.{get};
 ghost use Rattle.cxl_check.specs.declared.firsts.RangeKey.{RangeKey};
-ghost use Rattle.cxl_regs.specs.Reading.{has_range};
+ghost use Rattle.cxl_regs.specs.Reading.{has_range, range_of};
 ghost use Rattle.cxl_model.specs.Hosts.{as_system};
-ghost use Rattle.cxl_check.specs.inner.Firsts.{key_cmp, range_at, ListsFirsts};
+ghost use Rattle.cxl_check.specs.inner.Firsts.{key_cmp, range_at, first_below, ListsFirsts};
 
 use cxl_model::Host;
 use cxl_regs::{Block, Decoder, Range};
@@ -61,22 +61,45 @@ fn enter_node(
     if !host.topo.is_endpoint(node) || node >= host.image.count() {
         return Ok(());
     }
-    enter_ranges(firsts, host.image.block(node), node)
+    enter_ranges(firsts, host, host.image.block(node), node)
 }
 
 /// Enters a node under the range of each committed decoder of its block.
 fn enter_ranges(
     firsts: &mut BTreeMap<RangeKey, u32>,
+    host: &Host,
     block: &Block,
     node: u32,
 ) -> Result<(), AllocError>
+    requires here { node < length host.now.topo.now.nodes }
+    requires listed { ListsFirsts (as_system host.now) node firsts.old }
     ensures { OnOk result ((key : RangeKey) → get key_cmp firsts.new key ≡ option_or (get key_cmp firsts.old key)
         (if list_any (has_range (range_at key)) block.now.decoders then Some node else None)) }
 {
     for i in 0..block.count() {
-        enter_range(firsts, &block.decoder(i), node)?;
+        let d = block.decoder(i);
+        if !has_earlier(host, node, i, &d) {
+            enter_range(firsts, &d, node)?;
+        }
     }
     Ok(())
+}
+
+/// Whether the node before is an endpoint whose decoder of this number has the range of this one, so that the range is
+/// in the table. It mostly is, and a look here costs less than one into the table.
+fn has_earlier(host: &Host, node: u32, i: u8, d: &Decoder) -> bool
+    requires { node < length host.now.topo.now.nodes }
+    ensures { result ≡ true → IsSome (first_below (as_system host.now) node (range_of d.now)) }
+{
+    if node == 0 {
+        return false;
+    }
+    let before = node - 1;
+    if !host.topo.is_endpoint(before) || before >= host.image.count() {
+        return false;
+    }
+    let block = host.image.block(before);
+    i < block.count() && block.decoder(i).has_range(&d.range())
 }
 
 /// Enters a node under the range of a decoder that is committed, unless the range has an earlier node.

@@ -16,7 +16,7 @@ use cxl_topo::{NodeKind, Parent, Topo};
 
 /// K11 of a committed decoder: its node does not forward, and its decoding parent lists it for the range, or, where it has
 /// none, the range's window targets its bridge.
-pub(crate) fn keeps_reach(host: &Host, known: &Known, node: u32, d: &Decoder) -> bool
+pub(crate) fn keeps_reach(host: &Host, known: &Known, node: u32, likely: u8, d: &Decoder) -> bool
     requires known { IsKnownAs (as_system host.now) (range_of d.now) known.now }
     requires here { node < length host.now.topo.now.nodes }
     ensures { result ≡ keeps_reach (as_system host.now) node d.now }
@@ -26,19 +26,22 @@ pub(crate) fn keeps_reach(host: &Host, known: &Known, node: u32, d: &Decoder) ->
     }
     let range = d.range();
     match host.topo.decoding_port(node) {
-        Some(parent) => lists(host.image, &range, parent),
+        Some(parent) => lists(host.image, &range, parent, likely),
         None => is_targeted(host, known, &range, node),
     }
 }
 
 /// Whether a committed decoder of the range lists this port.
-fn lists(image: &Image, range: &Range, parent: Parent) -> bool
+fn lists(image: &Image, range: &Range, parent: Parent, likely: u8) -> bool
     ensures { result ≡ lists (blocks_alone image.now) range.now parent }
 {
     if parent.node >= image.count() {
         return false;
     }
     let block = image.block(parent.node);
+    if likely < block.count() && lists_in_range(&block.decoder(likely), range, parent.port) {
+        return true;
+    }
     for i in 0..block.count() {
         if lists_in_range(&block.decoder(i), range, parent.port) {
             return true;

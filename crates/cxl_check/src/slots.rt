@@ -34,7 +34,7 @@ pub(crate) fn span_of(host: &Host, range: &Range, w: &Window, slot: u8) -> Place
         w,
         slot,
         bridge,
-        ports_above(host, range, bridge).ways,
+        ports_above(host, range, bridge, 0).ways,
     )
 }
 
@@ -49,13 +49,13 @@ fn place_below(host: &Host, range: &Range, w: &Window, slot: u8, node: u32, abov
     tree_laws();
     let _count = host.topo.count();
     if host.topo.is_endpoint(node) {
-        let i = index_for(host.image, range, node).unwrap();
+        let i = index_for(host, range, node, 0).unwrap();
         return Place {
             endpoint: node,
             start: span_start(host, node, i),
         };
     }
-    let d = decoder_for(host.image, range, node);
+    let d = decoder_for(host, range, node, 0);
     let child = next_of(host, range, w, slot, node, above, &d).unwrap();
     place_below(host, range, w, slot, child, ways_with(above, &d))
 }

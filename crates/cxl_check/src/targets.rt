@@ -25,6 +25,7 @@ pub(crate) fn keeps_targets(
     known: &Known,
     landings: &[bool],
     node: u32,
+    likely: u8,
     d: &Decoder,
 ) -> bool
     requires known { IsKnownAs (as_system host.now) (range_of d.now) known.now }
@@ -33,17 +34,24 @@ pub(crate) fn keeps_targets(
     ensures { result ≡ keeps_targets (as_system host.now) node d.now }
 {
     let range = d.range();
-    entries_differ_and_lead_on(host, &range, node, d)
-        && targets_land_with(host, known, landings, &range, node)
+    entries_differ_and_lead_on(host, &range, node, likely, d)
+        && targets_land_with(host, known, landings, &range, node, likely)
 }
 
 /// Whether the node is an endpoint, or a port whose entries differ and lead on.
-fn entries_differ_and_lead_on(host: &Host, range: &Range, node: u32, d: &Decoder) -> bool
+fn entries_differ_and_lead_on(
+    host: &Host,
+    range: &Range,
+    node: u32,
+    likely: u8,
+    d: &Decoder,
+) -> bool
     requires { node < length host.now.topo.now.nodes }
     ensures { result ≡ (is_endpoint_at host.now.topo.now.nodes node
         || (are_distinct (entries_of d.now) && list_all (leads_on (as_system host.now) range.now node) (entries_of d.now))) }
 {
-    host.topo.is_endpoint(node) || (are_distinct(d) && entries_lead_on(host, range, node, d))
+    host.topo.is_endpoint(node)
+        || (are_distinct(d) && entries_lead_on(host, range, node, likely, d))
 }
 
 /// Whether each target of the range's window lands on it, where the node is the landing of a bridge.
@@ -53,6 +61,7 @@ fn targets_land_with(
     landings: &[bool],
     range: &Range,
     node: u32,
+    likely: u8,
 ) -> bool
     requires known { IsKnownAs (as_system host.now) range.now known.now }
     requires here { node < length host.now.topo.now.nodes }
@@ -64,7 +73,7 @@ fn targets_land_with(
         return true;
     }
     match window_of(host, range, known) {
-        Some(w) => targets_land(host, range, w),
+        Some(w) => targets_land(host, range, w, likely),
         None => true,
     }
 }
@@ -98,12 +107,12 @@ fn stands_later(d: &Decoder, i: u8) -> bool
 }
 
 /// Whether each entry of a port's decoder leads on.
-fn entries_lead_on(host: &Host, range: &Range, node: u32, d: &Decoder) -> bool
+fn entries_lead_on(host: &Host, range: &Range, node: u32, likely: u8, d: &Decoder) -> bool
     requires { node < length host.now.topo.now.nodes }
     ensures { result ≡ list_all (leads_on (as_system host.now) range.now node) (entries_of d.now) }
 {
     for i in 0..d.interleave_ways() {
-        if !leads_on(host, range, node, d.entry_at(i)) {
+        if !leads_on(host, range, node, d.entry_at(i), likely) {
             return false;
         }
     }
@@ -111,42 +120,42 @@ fn entries_lead_on(host: &Host, range: &Range, node: u32, d: &Decoder) -> bool
 }
 
 /// Whether a child stands at a port, and lands on the range.
-fn leads_on(host: &Host, range: &Range, node: u32, port: u8) -> bool
+fn leads_on(host: &Host, range: &Range, node: u32, port: u8, likely: u8) -> bool
     requires here { node < length host.now.topo.now.nodes }
     ensures { result ≡ leads_on (as_system host.now) range.now node port }
 {
     match host.topo.child(node, port) {
-        Some(child) => lands_on(host, range, child),
+        Some(child) => lands_on(host, range, child, likely),
         None => false,
     }
 }
 
 /// Whether an address that comes to a node is first decoded at a node that serves the range.
-fn lands_on(host: &Host, range: &Range, node: u32) -> bool
+fn lands_on(host: &Host, range: &Range, node: u32, likely: u8) -> bool
     requires here { node < length host.now.topo.now.nodes }
     ensures { result ≡ lands_on (as_system host.now) range.now node }
 {
     match host.topo.landing(node) {
-        Some(landing) => serves(host.image, range, landing),
+        Some(landing) => serves(host.image, range, landing, likely),
         None => false,
     }
 }
 
 /// Whether each target of a window is a bridge that lands on the range.
-fn targets_land(host: &Host, range: &Range, w: &Window) -> bool
+fn targets_land(host: &Host, range: &Range, w: &Window, likely: u8) -> bool
     ensures { result ≡ targets_land (as_system host.now) range.now w.now }
 {
     w.targets()
         .iter()
-        .all(|uid| target_lands(host, range, *uid))
+        .all(|uid| target_lands(host, range, *uid, likely))
 }
 
 /// Whether a UID is that of a bridge that lands on the range.
-fn target_lands(host: &Host, range: &Range, uid: u32) -> bool
+fn target_lands(host: &Host, range: &Range, uid: u32, likely: u8) -> bool
     ensures { result ≡ option_map_or (lands_on (as_system host.now) range.now) (bridge_with host.now.topo.now.nodes uid) false }
 {
     match host.topo.bridge(uid) {
-        Some(bridge) => lands_on(host, range, bridge),
+        Some(bridge) => lands_on(host, range, bridge, likely),
         None => false,
     }
 }

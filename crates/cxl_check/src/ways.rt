@@ -40,7 +40,7 @@ pub(crate) fn keeps_ways(host: &Host, known: &Known, node: u32, i: u8, d: &Decod
     if host.topo.is_endpoint(node) {
         keeps_endpoint_ways(host, &facts, w, node, i, d)
     } else {
-        keeps_port_code(host, &facts, w, node, d)
+        keeps_port_code(host, &facts, w, node, i, d)
     }
 }
 
@@ -61,7 +61,7 @@ fn keeps_endpoint_ways(
     requires committed { IsCommitted (as_system host.now) node i d.now }
     ensures { result ≡ keeps_endpoint_ways (as_system host.now) w.now node i d.now }
 {
-    if !keeps_number(host, facts, w, node, d) {
+    if !keeps_number(host, facts, w, node, i, d) {
         return false;
     }
     if !keeps_kind(host, facts, node, i, d) {
@@ -71,13 +71,14 @@ fn keeps_endpoint_ways(
 }
 
 /// A decoder has the ways that its path gives it, and those of the range.
-fn keeps_number(host: &Host, facts: &RangeFacts, w: &Window, node: u32, d: &Decoder) -> bool
-    requires { node < length host.now.topo.now.nodes }
+fn keeps_number(host: &Host, facts: &RangeFacts, w: &Window, node: u32, i: u8, d: &Decoder) -> bool
+    requires ready { IsOrderlySystem (as_system host.now) }
+    requires here { node < length host.now.topo.now.nodes }
     ensures { (s : System) → AreFacts s (range_of d.now) facts.now
         → result ≡ ((decoder_ways d.now == w.now.ways * ways_above (as_system host.now) (range_of d.now) node)
         && (decoder_ways d.now == range_ways s (range_of d.now))) }
 {
-    keeps_path_ways(host, w, node, d) && d.interleave_ways() == facts.ways
+    keeps_path_ways(host, w, node, i, d) && d.interleave_ways() == facts.ways
 }
 
 /// The span of an endpoint's decoder is of the range's kind.
@@ -93,12 +94,13 @@ fn keeps_kind(host: &Host, facts: &RangeFacts, node: u32, i: u8, d: &Decoder) ->
 }
 
 /// A decoder has the window's ways times those of the ports above its node.
-fn keeps_path_ways(host: &Host, w: &Window, node: u32, d: &Decoder) -> bool
-    requires { node < length host.now.topo.now.nodes }
+fn keeps_path_ways(host: &Host, w: &Window, node: u32, i: u8, d: &Decoder) -> bool
+    requires ready { IsOrderlySystem (as_system host.now) }
+    requires here { node < length host.now.topo.now.nodes }
     ensures { result ≡ (decoder_ways d.now
         == w.now.ways * ways_above (as_system host.now) (range_of d.now) node) }
 {
-    let above = ports_above(host, &d.range(), node);
+    let above = ports_above(host, &d.range(), node, i);
     u32::from(d.interleave_ways()) == u32::from(w.ways()) * above.ways
 }
 
@@ -120,22 +122,38 @@ fn keeps_code(facts: &RangeFacts, w: &Window, d: &Decoder) -> bool
 }
 
 /// A port with more than one way has the range's code plus the k of the window and of each port above it.
-fn keeps_port_code(host: &Host, facts: &RangeFacts, w: &Window, node: u32, d: &Decoder) -> bool
+fn keeps_port_code(
+    host: &Host,
+    facts: &RangeFacts,
+    w: &Window,
+    node: u32,
+    i: u8,
+    d: &Decoder,
+) -> bool
+    requires ready { IsOrderlySystem (as_system host.now) }
     requires facts { AreFacts (as_system host.now) (record { base = d.now.base; size = d.now.size }) facts.now }
     requires here { node < length host.now.topo.now.nodes }
     ensures { result ≡ keeps_port_code (as_system host.now) w.now node d.now }
 {
-    let level = port_level(host, facts, w, &d.range(), node);
+    let level = port_level(host, facts, w, &d.range(), node, i);
     d.interleave_ways() == 1 || u32::from(d.gran) == level
 }
 
 /// The range's code plus the k of the window and of each port above a node.
-fn port_level(host: &Host, facts: &RangeFacts, w: &Window, range: &Range, node: u32) -> u32
-    requires { node < length host.now.topo.now.nodes }
+fn port_level(
+    host: &Host,
+    facts: &RangeFacts,
+    w: &Window,
+    range: &Range,
+    node: u32,
+    likely: u8,
+) -> u32
+    requires ready { IsOrderlySystem (as_system host.now) }
+    requires here { node < length host.now.topo.now.nodes }
     ensures { (s : System) → AreFacts s range.now facts.now → result
         ≡ range_code s w.now range.now + bits_of w.now.ways + bits_above (as_system host.now) range.now node }
 {
-    let above = ports_above(host, range, node);
+    let above = ports_above(host, range, node, likely);
     u32::from(range_code(facts, w)) + u32::from(split(w.ways()).bits) + above.bits
 }
 

@@ -21,7 +21,7 @@ pub ports_above-above-requires : goal.ports_above-above-requires
 ports_above-above-requires t c =
     let below = below_parent c.args.host.now.topo.now.nodes c.count-count.ensures.tree c.args.node c.in-Some.parent (rw c.node.ensures c.in-Some.is) in
     let later = below.later in
-    (omega (arith, later, c.decreases), omega (arith, later, c.requires))
+    (omega (arith, later, c.decreases), (c.requires.ready, omega (arith, later, c.requires.here)))
 
 pub overflow_mul-result : goal.overflow_mul-result
 overflow_mul-result t c =

@@ -2,8 +2,14 @@ use Rattle.std.proofs.Common.{◌≡◌, Some, None, sym, ap, ◌∙◌}
 use Rattle.std.specs.Prelude.{find, position, slice_get}
 use Rattle.std.specs.Option.{option_and_then}
 use Rattle.cxl_regs.specs.Reading.{has_range}
+use Rattle.cxl_model.specs.Hosts.{as_system}
+use Rattle.cxl_check.proofs.Kept.{holder}
 use Rattle.cxl_check.proofs.Searches.{find_by_position}
 use Rattle.cxl_check.proofs.decoders.decoder_for.Goals as goal
+
+pub index_in-requires : goal.index_in-requires
+index_in-requires c =
+    holder (as_system c.args.host.now) c.requires c.one_holder.ensures.range c.args.node c.block-block.result.now c.args.range.now c.block-block.ensures.value
 
 pub returns-in_err-i : goal.returns-in_err-i
 returns-in_err-i c =

@@ -10,11 +10,16 @@ use Rattle.cxl_check.proofs.reach.lists.Goals as goal
 pub returns-then-lists_in_range : goal.returns-then-lists_in_range
 returns-then-lists_in_range c =
     rw c.block-block.ensures.value
-    (sym (list_any_one (λ (d : Decoder). has_range c.args.range.now d && list_any (λ (port : ℕ). port == c.args.parent.port) (entries_of d)) c.block-block.result.now.decoders c.loop-i.i c.decoder.result c.decoder.ensures.value (sym c.lists_in_range.ensures ∙ c.if-lists_in_range.true)))
+    (sym (list_any_one (λ (d : Decoder). has_range c.args.range.now d && list_any (λ (port : ℕ). port == c.args.parent.port) (entries_of d)) c.block-block.result.now.decoders c.args.likely c.decoder.result c.decoder.ensures.value (sym c.lists_in_range.ensures ∙ c.if-lists_in_range.true)))
+
+pub returns-then-lists_in_range-2 : goal.returns-then-lists_in_range-2
+returns-then-lists_in_range-2 c =
+    rw c.block-block.ensures.value
+    (sym (list_any_one (λ (d : Decoder). has_range c.args.range.now d && list_any (λ (port : ℕ). port == c.args.parent.port) (entries_of d)) c.block-block.result.now.decoders c.loop-i.i c.decoder-in-loop-i.result c.decoder-in-loop-i.ensures.value (sym c.lists_in_range-in-loop-i.ensures ∙ c.if-lists_in_range-2.true)))
 
 pub loop-i-preserved : goal.loop-i-preserved
 loop-i-preserved c =
-    none_more (λ (d : Decoder). has_range c.args.range.now d && list_any (λ (port : ℕ). port == c.args.parent.port) (entries_of d)) c.block-block.result.now.decoders c.loop-i.i c.decoder.result c.decoder.ensures.value (sym c.lists_in_range.ensures ∙ c.if-lists_in_range.false) c.loop-i.invariant
+    none_more (λ (d : Decoder). has_range c.args.range.now d && list_any (λ (port : ℕ). port == c.args.parent.port) (entries_of d)) c.block-block.result.now.decoders c.loop-i.i c.decoder-in-loop-i.result c.decoder-in-loop-i.ensures.value (sym c.lists_in_range-in-loop-i.ensures ∙ c.if-lists_in_range-2.false) c.loop-i.invariant
 
 pub returns : goal.returns
 returns c =

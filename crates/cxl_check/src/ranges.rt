@@ -1,17 +1,19 @@
-//! The first decoder that breaks one of the rules K9 to K12.
+//! K9 to K12: what is asked of the range of each committed decoder.
 
-ghost use Rattle.std.specs.Prelude.{◌≡◌, ℕ, ◌<◌, ◌≤◌, ◌&&◌, not, true, false, Some, length, All, IfSome, IfNone};
+ghost use Rattle.std.specs.Prelude.{◌≡◌, ◌<◌, Some, length, All, IfSome, IfNone};
 ghost use Rattle.cxl_model.specs.Hosts.{as_system};
 ghost use Rattle.cxl_model.specs.System.{decoder_at};
-ghost use Rattle.cxl_model.specs.Accepted.{breaks, IsOrderlySystem};
-ghost use Rattle.cxl_check.specs.Spots.{Keeps, IsFirstSpot};
+ghost use Rattle.cxl_model.specs.Accepted.{breaks, IsAccepted, IsFirstBreach, IsOrderlySystem};
 ghost use Rattle.cxl_check.specs.inner.Ready.{IsCommitted};
 ghost use Rattle.cxl_regs.specs.Reading.{range_of};
 ghost use Rattle.cxl_check.specs.inner.Facts.{AreSystemTables, keeps_rule};
 ghost use Rattle.cxl_check.specs.inner.Firsts.{AreLandings};
+ghost use Rattle.cxl_check.specs.inner.Found.{IsLeastAt, IsFoundOfNode};
 ghost use Rattle.cxl_check.specs.inner.Known.{IsKnown, IsKnownAs};
 
+use crate::fault::Breach;
 use crate::known::{Known, known_of};
+use crate::least::{earlier, earlier_in_node};
 use crate::reach::keeps_reach;
 use crate::tables::Tables;
 use crate::targets::keeps_targets;
@@ -19,90 +21,70 @@ use crate::ways::keeps_ways;
 use crate::window::keeps_window;
 use cxl_model::Host;
 use cxl_regs::Decoder;
+use cxl_span::BlockBreach;
 
-/// A decoder of a node.
-#[derive(Clone, Copy)]
-pub(crate) struct Spot {
-    pub(crate) node: u32,
-    pub(crate) decoder: u8,
-}
-
-/// The first decoder that breaks the rule of this number.
-pub(crate) fn first_spot(
-    met: &mut Vec<Known>,
-    host: &Host,
-    tables: &Tables,
-    rule: u8,
-) -> Option<Spot>
+/// The first breach of K9 to K12. Each decoder is looked at once, for all four rules.
+pub(crate) fn ranges_breach(met: &mut Vec<Known>, host: &Host, tables: &Tables) -> Option<Breach>
     requires met { All (IsKnown (as_system host.now)) met.old.items }
     requires ready { IsOrderlySystem (as_system host.now) }
     requires tables { AreSystemTables (as_system host.now) tables.now }
-    requires from { 9 ≤ rule }
-    requires to { rule < 13 }
-    ensures met { All (IsKnown (as_system host.now)) met.new.items }
-    ensures none { IfNone result (Keeps (as_system host.now) rule) }
+    ensures none { IfNone result (IsAccepted (as_system host.now)) }
     ensures first { IfSome result
-        (λ spot. IsFirstSpot (as_system host.now) rule spot.node spot.decoder) }
+        (λ b. IsFirstBreach (as_system host.now) b.rule b.node b.decoder) }
 {
+    let mut first = None;
     for node in 0..host.topo.count() {
-        if let Some(decoder) = first_decoder(met, host, tables, rule, node) {
-            return Some(Spot { node, decoder });
-        }
+        let found = node_breach(met, host, tables, node);
+        first = earlier(first, node, found);
     }
-    None
+    first
 }
 
-/// The first decoder of a node that breaks the rule.
-fn first_decoder(
-    met: &mut Vec<Known>,
-    host: &Host,
-    tables: &Tables,
-    rule: u8,
-    node: u32,
-) -> Option<u8>
+/// The first breach of K9 to K12 in the block of one node.
+fn node_breach(met: &mut Vec<Known>, host: &Host, tables: &Tables, node: u32) -> Option<BlockBreach>
     requires met { All (IsKnown (as_system host.now)) met.old.items }
     requires ready { IsOrderlySystem (as_system host.now) }
     requires tables { AreSystemTables (as_system host.now) tables.now }
-    requires from { 9 ≤ rule }
-    requires to { rule < 13 }
     requires here { node < length host.now.topo.now.nodes }
     ensures met { All (IsKnown (as_system host.now)) met.new.items }
-    ensures none { IfNone result ((i : ℕ) → breaks (as_system host.now) rule node i ≡ false) }
-    ensures broken { IfSome result (λ decoder. breaks (as_system host.now) rule node decoder ≡ true) }
-    ensures lower { IfSome result (λ decoder. (i : ℕ) → i < decoder → breaks (as_system host.now) rule node i ≡ false) }
+    ensures found { IsFoundOfNode (breaks (as_system host.now)) node result }
 {
     let block = host.image.block(node);
+    let mut first = None;
     for i in 0..block.count() {
-        if breaks_rule(met, host, tables, rule, node, i, &block.decoder(i)) {
-            return Some(i);
-        }
+        let rule = least_rule(met, host, tables, node, i, &block.decoder(i));
+        first = earlier_in_node(first, i, rule);
     }
-    None
+    first
 }
 
-/// Whether a decoder is committed and breaks the rule.
-fn breaks_rule(
+/// The least of the rules K9 to K12 that a decoder breaks.
+fn least_rule(
     met: &mut Vec<Known>,
     host: &Host,
     tables: &Tables,
-    rule: u8,
     node: u32,
     i: u8,
     d: &Decoder,
-) -> bool
+) -> Option<u8>
     requires met { All (IsKnown (as_system host.now)) met.old.items }
     requires ready { IsOrderlySystem (as_system host.now) }
     requires tables { AreSystemTables (as_system host.now) tables.now }
     requires here { node < length host.now.topo.now.nodes }
     requires there { decoder_at (as_system host.now) node i ≡ Some d.now }
     ensures met { All (IsKnown (as_system host.now)) met.new.items }
-    ensures broken { result ≡ (d.now.committed && not (keeps_rule (as_system host.now) rule node i d.now)) }
+    ensures least { IsLeastAt (breaks (as_system host.now)) node i result }
 {
     if !d.committed {
-        return false;
+        return None;
     }
     let known = known_of(met, host, &tables.firsts, &d.range());
-    !keeps_rule(host, &known, &tables.landings, rule, node, i, d)
+    for rule in 9..13 {
+        if !keeps_rule(host, &known, &tables.landings, rule, node, i, d) {
+            return Some(rule);
+        }
+    }
+    None
 }
 
 /// Whether a committed decoder keeps the rule.
@@ -124,8 +106,8 @@ fn keeps_rule(
 {
     match rule {
         9 => keeps_window(host, known, node, i, d),
-        10 => keeps_targets(host, known, landings, node, d),
-        11 => keeps_reach(host, known, node, d),
+        10 => keeps_targets(host, known, landings, node, i, d),
+        11 => keeps_reach(host, known, node, i, d),
         _ => keeps_ways(host, known, node, i, d),
     }
 }
