@@ -1,8 +1,9 @@
 -- Definitions that only the inner calls and the proofs speak of.
 pub mod Ready
-pub mod Found
 pub mod Holders
+pub mod Found
 pub mod Landings
+pub mod Children
 pub mod Firsts
 pub mod Facts
 pub mod Known

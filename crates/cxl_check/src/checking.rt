@@ -8,6 +8,7 @@ ghost use Rattle.cxl_check.specs.Spots.{TellsFirstBreach};
 
 use crate::blocks::blocks_breach;
 use crate::caps::caps_breach;
+use crate::children::children;
 use crate::fault::{Breach, CheckFault};
 use crate::firsts::first_endpoints;
 use crate::known::none_met;
@@ -50,6 +51,7 @@ pub fn check(
         return Err(CheckFault::Breach(breach));
     }
     let tables = Tables {
+        children: children(alloc, topo)?,
         landings: landings(alloc, topo)?,
         firsts: first_endpoints(alloc, &host)?,
     };
@@ -57,7 +59,7 @@ pub fn check(
     if let Some(breach) = ranges_breach(&mut met, &host, &tables) {
         return Err(CheckFault::Breach(breach));
     }
-    Ok(regions(alloc, &host, &tables.firsts)?)
+    Ok(regions(alloc, &host, &tables)?)
 }
 
 /// The first breach of K1 to K8, which speak of blocks alone.

@@ -5,6 +5,7 @@ mod above;
 mod blocks;
 mod caps;
 mod checking;
+mod children;
 mod decoders;
 mod facts;
 mod fault;

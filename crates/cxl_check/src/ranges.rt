@@ -7,7 +7,6 @@ ghost use Rattle.cxl_model.specs.Accepted.{breaks, IsAccepted, IsFirstBreach, Is
 ghost use Rattle.cxl_check.specs.inner.Ready.{IsCommitted};
 ghost use Rattle.cxl_regs.specs.Reading.{range_of};
 ghost use Rattle.cxl_check.specs.inner.Facts.{AreSystemTables, keeps_rule};
-ghost use Rattle.cxl_check.specs.inner.Firsts.{AreLandings};
 ghost use Rattle.cxl_check.specs.inner.Found.{IsLeastAt, IsFoundOfNode};
 ghost use Rattle.cxl_check.specs.inner.Known.{IsKnown, IsKnownAs};
 
@@ -80,7 +79,7 @@ fn least_rule(
     }
     let known = known_of(met, host, &tables.firsts, &d.range());
     for rule in 9..13 {
-        if !keeps_rule(host, &known, &tables.landings, rule, node, i, d) {
+        if !keeps_rule(host, &known, tables, rule, node, i, d) {
             return Some(rule);
         }
     }
@@ -91,7 +90,7 @@ fn least_rule(
 fn keeps_rule(
     host: &Host,
     known: &Known,
-    landings: &[bool],
+    tables: &Tables,
     rule: u8,
     node: u32,
     i: u8,
@@ -99,14 +98,14 @@ fn keeps_rule(
 ) -> bool
     requires ready { IsOrderlySystem (as_system host.now) }
     requires known { IsKnownAs (as_system host.now) (range_of d.now) known.now }
-    requires landings { AreLandings host.now.topo.now.nodes landings.now }
+    requires tables { AreSystemTables (as_system host.now) tables.now }
     requires here { node < length host.now.topo.now.nodes }
     requires committed { IsCommitted (as_system host.now) node i d.now }
     ensures { result ≡ keeps_rule (as_system host.now) rule node i d.now }
 {
     match rule {
         9 => keeps_window(host, known, node, i, d),
-        10 => keeps_targets(host, known, landings, node, i, d),
+        10 => keeps_targets(host, known, tables, node, i, d),
         11 => keeps_reach(host, known, node, i, d),
         _ => keeps_ways(host, known, node, i, d),
     }

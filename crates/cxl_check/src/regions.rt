@@ -7,11 +7,14 @@ ghost use Rattle.cxl_model.specs.Accepted.{IsAccepted, IsWhole, IsOrderlySystem}
 ghost use Rattle.cxl_model.specs.Ranges.{IsCommittedRange};
 ghost use Rattle.cxl_model.specs.Regions.{IsRegion, region_range};
 ghost use Rattle.cxl_model.specs.Listed.{AreRegionsByBase};
-ghost use Rattle.cxl_check.specs.inner.Firsts.{key_cmp, ListsFirsts};
+ghost use Rattle.cxl_check.specs.inner.Firsts.{key_cmp};
+ghost use Rattle.cxl_check.specs.inner.Facts.{AreSystemTables};
 
+use crate::decoders::index_for;
 use crate::facts::facts_of;
-use crate::firsts::RangeKey;
+use crate::firsts::{RangeKey, first_of};
 use crate::slots::span_of;
+use crate::tables::Tables;
 use crate::ways::region_code;
 use crate::window::window_for;
 use cxl_enc::FixedList;
@@ -25,14 +28,10 @@ use std::alloc::{AllocError, Global};
 use std::collections::BTreeMap;
 
 /// The regions of an accepted image, by rising base. Takes memory.
-pub(crate) fn regions(
-    alloc: Global,
-    host: &Host,
-    firsts: &BTreeMap<RangeKey, u32>,
-) -> Result<Vec<Found>, AllocError>
+pub(crate) fn regions(alloc: Global, host: &Host, tables: &Tables) -> Result<Vec<Found>, AllocError>
     requires ready { IsOrderlySystem (as_system host.now) }
     requires accepted { IsAccepted (as_system host.now) }
-    requires firsts { ListsFirsts (as_system host.now) (length host.now.topo.now.nodes) firsts.now }
+    requires tables { AreSystemTables (as_system host.now) tables.now }
     ensures { IfOk result
         (λ regions. AreRegionsByBase (as_system host.now) regions.items) }
 {
@@ -40,14 +39,14 @@ pub(crate) fn regions(
     endpoints_lie_evenly();
     regions_share_no_byte();
     ranges_rise();
-    let keys = keys_of(alloc, firsts)?;
+    let keys = keys_of(alloc, &tables.firsts)?;
     let mut regions = Vec::with_capacity(alloc, keys.len())?;
     for key in &keys {
         let range = Range {
             base: key.base,
             size: key.size,
         };
-        let region = region_of(alloc, host, firsts, &range)?;
+        let region = region_of(alloc, host, tables, &range)?;
         regions.push(region)?;
     }
     Ok(regions)
@@ -66,11 +65,11 @@ fn keys_of(alloc: Global, firsts: &BTreeMap<RangeKey, u32>) -> Result<Vec<RangeK
 fn region_of(
     alloc: Global,
     host: &Host,
-    firsts: &BTreeMap<RangeKey, u32>,
+    tables: &Tables,
     range: &Range,
 ) -> Result<Found, AllocError>
     requires ready { IsOrderlySystem (as_system host.now) }
-    requires firsts { ListsFirsts (as_system host.now) (length host.now.topo.now.nodes) firsts.now }
+    requires tables { AreSystemTables (as_system host.now) tables.now }
     requires committed { IsCommittedRange (as_system host.now) range.now }
     requires whole { IsWhole (as_system host.now) range.now }
     ensures region { IfOk result (λ found. IsRegion (as_system host.now) found) }
@@ -78,11 +77,12 @@ fn region_of(
 {
     whole_ranges_have_one_region();
     let w = window_for(host.windows, range).unwrap();
-    let facts = facts_of(host, firsts, range);
+    let facts = facts_of(host, &tables.firsts, range);
+    let likely = likely_index(host, &tables.firsts, range);
     let ways = facts.ways;
     let mut spans = Vec::with_capacity(alloc, usize::from(ways))?;
     for slot in 0..ways {
-        spans.push(span_of(host, range, w, slot))?;
+        spans.push(span_of(host, &tables.children, range, w, slot, likely))?;
     }
     Ok(Found {
         base: range.base,
@@ -93,4 +93,14 @@ fn region_of(
         kind: facts.kind,
         spans: FixedList::new(spans),
     })
+}
+
+/// The number that a range is likely to have in all nodes: that in its first endpoint.
+fn likely_index(host: &Host, firsts: &BTreeMap<RangeKey, u32>, range: &Range) -> u8
+    requires { IsOrderlySystem (as_system host.now) }
+{
+    match first_of(firsts, range) {
+        Some(first) => index_for(host, range, first, 0).unwrap_or(0),
+        None => 0,
+    }
 }

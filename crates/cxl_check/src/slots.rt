@@ -9,9 +9,11 @@ ghost use Rattle.cxl_model.specs.Hosts.{as_system};
 ghost use Rattle.cxl_model.specs.Ranges.{decoder_for};
 ghost use Rattle.cxl_model.specs.Regions.{LeadsTo, HasSpan};
 ghost use Rattle.cxl_model.specs.Accepted.{IsOrderlySystem};
+ghost use Rattle.cxl_check.specs.inner.Children.{AreChildren};
 ghost use Rattle.cxl_check.specs.inner.Slots.{AreWaysAbove, child_of_slot, next_of};
 
 use crate::above::ports_above;
+use crate::children::child_at;
 use crate::decoders::{decoder_for, index_for};
 use crate::kind::span_start;
 use cxl_model::{Host, Place};
@@ -20,27 +22,39 @@ use cxl_topo::tree_laws;
 use cxl_window::{Window, root_ways, target_position};
 
 /// The span of a slot that has one, from the window's target down.
-pub(crate) fn span_of(host: &Host, range: &Range, w: &Window, slot: u8) -> Place
+pub(crate) fn span_of(
+    host: &Host,
+    children: &[Option<u32>],
+    range: &Range,
+    w: &Window,
+    slot: u8,
+    likely: u8,
+) -> Place
     requires ready { IsOrderlySystem (as_system host.now) }
+    requires children { AreChildren host.now.topo.now.nodes children.now }
     requires some { (place : Place) × HasSpan (as_system host.now) w.now range.now slot place }
     requires slot { slot < 16 }
     ensures { HasSpan (as_system host.now) w.now range.now slot result }
 {
     let uid = w.targets()[usize::from(target_position(w, slot))];
     let bridge = host.topo.bridge(uid).unwrap();
-    place_below(
-        host,
-        range,
-        w,
-        slot,
-        bridge,
-        ports_above(host, range, bridge, 0).ways,
-    )
+    let above = ports_above(host, range, bridge, likely).ways;
+    place_below(host, children, range, w, slot, bridge, above, likely)
 }
 
 /// The place of a device to which a slot leads from a node on, above which the ports have so many ways together.
-fn place_below(host: &Host, range: &Range, w: &Window, slot: u8, node: u32, above: u32) -> Place
+fn place_below(
+    host: &Host,
+    children: &[Option<u32>],
+    range: &Range,
+    w: &Window,
+    slot: u8,
+    node: u32,
+    above: u32,
+    likely: u8,
+) -> Place
     requires ready { IsOrderlySystem (as_system host.now) }
+    requires children { AreChildren host.now.topo.now.nodes children.now }
     requires above { AreWaysAbove (as_system host.now) range.now node above }
     requires some { (place : Place) × LeadsTo (as_system host.now) w.now range.now slot node place }
     ensures { LeadsTo (as_system host.now) w.now range.now slot node result }
@@ -49,20 +63,22 @@ fn place_below(host: &Host, range: &Range, w: &Window, slot: u8, node: u32, abov
     tree_laws();
     let _count = host.topo.count();
     if host.topo.is_endpoint(node) {
-        let i = index_for(host, range, node, 0).unwrap();
+        let i = index_for(host, range, node, likely).unwrap();
         return Place {
             endpoint: node,
             start: span_start(host, node, i),
         };
     }
-    let d = decoder_for(host, range, node, 0);
-    let child = next_of(host, range, w, slot, node, above, &d).unwrap();
-    place_below(host, range, w, slot, child, ways_with(above, &d))
+    let d = decoder_for(host, range, node, likely);
+    let child = next_of(host, children, range, w, slot, node, above, &d).unwrap();
+    let above = ways_with(above, &d);
+    place_below(host, children, range, w, slot, child, above, likely)
 }
 
 /// Where a slot goes on from a node that is no endpoint.
 fn next_of(
     host: &Host,
+    children: &[Option<u32>],
     range: &Range,
     w: &Window,
     slot: u8,
@@ -73,18 +89,20 @@ fn next_of(
     requires here { node < length host.now.topo.now.nodes }
     requires above { AreWaysAbove (as_system host.now) range.now node above }
     requires own { d.now ≡ decoder_for (as_system host.now) range.now node }
+    requires children { AreChildren host.now.topo.now.nodes children.now }
     ensures { result ≡ next_of (as_system host.now) w.now range.now slot node }
 {
     if host.topo.forwards(node) {
         host.topo.least_child(node)
     } else {
-        child_of_slot(host, range, w, slot, node, above, d)
+        child_of_slot(host, children, range, w, slot, node, above, d)
     }
 }
 
 /// The child to which a port's decoder of the range leads a slot.
 fn child_of_slot(
     host: &Host,
+    children: &[Option<u32>],
     range: &Range,
     w: &Window,
     slot: u8,
@@ -95,12 +113,13 @@ fn child_of_slot(
     requires here { node < length host.now.topo.now.nodes }
     requires above { AreWaysAbove (as_system host.now) range.now node above }
     requires own { d.now ≡ decoder_for (as_system host.now) range.now node }
+    requires children { AreChildren host.now.topo.now.nodes children.now }
     ensures { result ≡ child_of_slot (as_system host.now) w.now range.now slot node }
 {
     match d {
         Some(d) => {
             let entry = entry_of_slot(w, slot, above, d);
-            host.topo.child(node, d.entry_at(entry))
+            child_at(host.topo, children, node, d.entry_at(entry))
         }
         None => None,
     }

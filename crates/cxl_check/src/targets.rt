@@ -9,11 +9,15 @@ ghost use Rattle.cxl_model.specs.Hosts.{as_system};
 ghost use Rattle.cxl_model.specs.Ranges.{lies_within};
 ghost use Rattle.cxl_model.specs.Rules.{are_distinct, lands_on, leads_on, targets_land, is_bridge_landing, keeps_targets};
 ghost use Rattle.cxl_regs.specs.Reading.{range_of};
+ghost use Rattle.cxl_check.specs.inner.Children.{AreChildren};
+ghost use Rattle.cxl_check.specs.inner.Facts.{AreSystemTables};
 ghost use Rattle.cxl_check.specs.inner.Firsts.{AreLandings};
 ghost use Rattle.cxl_check.specs.inner.Known.{IsKnownAs};
 
+use crate::children::child_at;
 use crate::decoders::serves;
 use crate::known::{Known, window_of};
+use crate::tables::Tables;
 use cxl_model::Host;
 use cxl_regs::{Decoder, Range};
 use cxl_window::Window;
@@ -23,35 +27,37 @@ use cxl_window::Window;
 pub(crate) fn keeps_targets(
     host: &Host,
     known: &Known,
-    landings: &[bool],
+    tables: &Tables,
     node: u32,
     likely: u8,
     d: &Decoder,
 ) -> bool
     requires known { IsKnownAs (as_system host.now) (range_of d.now) known.now }
     requires here { node < length host.now.topo.now.nodes }
-    requires landings { AreLandings host.now.topo.now.nodes landings.now }
+    requires tables { AreSystemTables (as_system host.now) tables.now }
     ensures { result ≡ keeps_targets (as_system host.now) node d.now }
 {
     let range = d.range();
-    entries_differ_and_lead_on(host, &range, node, likely, d)
-        && targets_land_with(host, known, landings, &range, node, likely)
+    entries_differ_and_lead_on(host, &tables.children, &range, node, likely, d)
+        && targets_land_with(host, known, &tables.landings, &range, node, likely)
 }
 
 /// Whether the node is an endpoint, or a port whose entries differ and lead on.
 fn entries_differ_and_lead_on(
     host: &Host,
+    children: &[Option<u32>],
     range: &Range,
     node: u32,
     likely: u8,
     d: &Decoder,
 ) -> bool
-    requires { node < length host.now.topo.now.nodes }
+    requires here { node < length host.now.topo.now.nodes }
+    requires children { AreChildren host.now.topo.now.nodes children.now }
     ensures { result ≡ (is_endpoint_at host.now.topo.now.nodes node
         || (are_distinct (entries_of d.now) && list_all (leads_on (as_system host.now) range.now node) (entries_of d.now))) }
 {
     host.topo.is_endpoint(node)
-        || (are_distinct(d) && entries_lead_on(host, range, node, likely, d))
+        || (are_distinct(d) && entries_lead_on(host, children, range, node, likely, d))
 }
 
 /// Whether each target of the range's window lands on it, where the node is the landing of a bridge.
@@ -107,12 +113,20 @@ fn stands_later(d: &Decoder, i: u8) -> bool
 }
 
 /// Whether each entry of a port's decoder leads on.
-fn entries_lead_on(host: &Host, range: &Range, node: u32, likely: u8, d: &Decoder) -> bool
-    requires { node < length host.now.topo.now.nodes }
+fn entries_lead_on(
+    host: &Host,
+    children: &[Option<u32>],
+    range: &Range,
+    node: u32,
+    likely: u8,
+    d: &Decoder,
+) -> bool
+    requires here { node < length host.now.topo.now.nodes }
+    requires children { AreChildren host.now.topo.now.nodes children.now }
     ensures { result ≡ list_all (leads_on (as_system host.now) range.now node) (entries_of d.now) }
 {
     for i in 0..d.interleave_ways() {
-        if !leads_on(host, range, node, d.entry_at(i), likely) {
+        if !leads_on(host, children, range, node, d.entry_at(i), likely) {
             return false;
         }
     }
@@ -120,11 +134,19 @@ fn entries_lead_on(host: &Host, range: &Range, node: u32, likely: u8, d: &Decode
 }
 
 /// Whether a child stands at a port, and lands on the range.
-fn leads_on(host: &Host, range: &Range, node: u32, port: u8, likely: u8) -> bool
+fn leads_on(
+    host: &Host,
+    children: &[Option<u32>],
+    range: &Range,
+    node: u32,
+    port: u8,
+    likely: u8,
+) -> bool
     requires here { node < length host.now.topo.now.nodes }
+    requires children { AreChildren host.now.topo.now.nodes children.now }
     ensures { result ≡ leads_on (as_system host.now) range.now node port }
 {
-    match host.topo.child(node, port) {
+    match child_at(host.topo, children, node, port) {
         Some(child) => lands_on(host, range, child, likely),
         None => false,
     }

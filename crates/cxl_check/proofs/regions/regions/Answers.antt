@@ -13,16 +13,16 @@ pub region_of-requires-clause-committed : goal.region_of-requires-clause-committ
 region_of-requires-clause-committed c =
     let none : RangeKey = record { base = 0; size = 0 } in
     let items : List RangeKey = c.deref-key-items.result.now in
-    let same : items ≡ keys c.args.firsts.now = c.deref-key-items.ensures.value ∙ c.in_ok-keys.ensures.keys in
+    let same : items ≡ keys c.args.tables.now.firsts = c.deref-key-items.ensures.value ∙ c.in_ok-keys.ensures.keys in
     let below : c.loop-key.key-index < length items = omega arith in
-    let lengths : length items ≡ length (keys c.args.firsts.now) = ap length same in
-    let there : ContainsKey key_cmp c.args.firsts.now (get_or items c.loop-key.key-index none) =
-    subst (λ (ks : List RangeKey). ContainsKey key_cmp c.args.firsts.now (get_or ks c.loop-key.key-index none)) (sym same) (c.in_ok-keys.ensures.found c.loop-key.key-index none (omega arith)) in
-    committed_at (as_system c.args.host.now) c.requires.ready c.requires.accepted c.args.firsts.now c.requires.firsts c.accepted_where_whole.ensures (get_or items c.loop-key.key-index none) there
+    let lengths : length items ≡ length (keys c.args.tables.now.firsts) = ap length same in
+    let there : ContainsKey key_cmp c.args.tables.now.firsts (get_or items c.loop-key.key-index none) =
+    subst (λ (ks : List RangeKey). ContainsKey key_cmp c.args.tables.now.firsts (get_or ks c.loop-key.key-index none)) (sym same) (c.in_ok-keys.ensures.found c.loop-key.key-index none (omega arith)) in
+    committed_at (as_system c.args.host.now) c.requires.ready c.requires.accepted c.args.tables.now.firsts c.requires.tables.firsts c.accepted_where_whole.ensures (get_or items c.loop-key.key-index none) there
 
 pub region_of-requires-clause-whole : goal.region_of-requires-clause-whole
 region_of-requires-clause-whole c =
-    whole_at (as_system c.args.host.now) c.requires.ready c.requires.accepted c.args.firsts.now c.requires.firsts c.accepted_where_whole.ensures _ (region_of-requires-clause-committed c)
+    whole_at (as_system c.args.host.now) c.requires.ready c.requires.accepted c.args.tables.now.firsts c.requires.tables.firsts c.accepted_where_whole.ensures _ (region_of-requires-clause-committed c)
 
 pub loop-key-preserved : goal.loop-key-preserved
 loop-key-preserved c =
@@ -40,8 +40,8 @@ pub returns : goal.returns
 returns c =
     let s = as_system c.args.host.now in
     let items : List RangeKey = c.deref-key-items.result.now in
-    let same : items ≡ keys c.args.firsts.now = c.deref-key-items.ensures.value ∙ c.in_ok-keys.ensures.keys in
+    let same : items ≡ keys c.args.tables.now.firsts = c.deref-key-items.ensures.value ∙ c.in_ok-keys.ensures.keys in
     let past : length items ≤ c.loop-key.key-index = omega arith in
-    let whole : AreListed s (keys c.args.firsts.now) c.loop-key.regions.items =
+    let whole : AreListed s (keys c.args.tables.now.firsts) c.loop-key.regions.items =
     subst (λ (ks : List RangeKey). AreListed s ks c.loop-key.regions.items) (take_all c.loop-key.key-index items past ∙ same) c.loop-key.invariant in
-    are_regions s c.requires.ready c.requires.accepted c.args.firsts.now c.requires.firsts c.in_ok-keys.ensures.ordered c.accepted_where_whole.ensures c.endpoints_lie_evenly.ensures.all c.regions_share_no_byte.ensures.host c.ranges_rise.ensures.some c.loop-key.regions.items whole
+    are_regions s c.requires.ready c.requires.accepted c.args.tables.now.firsts c.requires.tables.firsts c.in_ok-keys.ensures.ordered c.accepted_where_whole.ensures c.endpoints_lie_evenly.ensures.all c.regions_share_no_byte.ensures.host c.ranges_rise.ensures.some c.loop-key.regions.items whole

@@ -67,12 +67,12 @@ place_below-requires t c =
     let later = below.later in
     let inside = below.inside in
     let parent = next_parent s c.args.w.now c.args.range.now c.args.slot tree (c.tree_laws.ensures.laws s.nodes tree) c.args.node c.unwrap-child.result next in
-    let ways : c.ways_with.result ≡ ways_above s c.args.range.now c.unwrap-child.result =
-    c.ways_with.ensures.ways ∙ (λ i. option_map_or decoder_ways (c.decoder_for-d.ensures i) 1 * c.requires.above.is i)
+    let ways : c.ways_with-above.result ≡ ways_above s c.args.range.now c.unwrap-child.result =
+    c.ways_with-above.ensures.ways ∙ (λ i. option_map_or decoder_ways (c.decoder_for-d.ensures i) 1 * c.requires.above.is i)
     ∙ ways_below s c.args.range.now c.args.node c.unwrap-child.result parent.0 ((c.tree_laws.ensures.laws s.nodes tree).ports c.unwrap-child.result) parent.1 parent.2 in
     let few = ways_few_up s c.args.range.now c.unwrap-child.result ((c.tree_laws.ensures.laws s.nodes tree).few_ports c.unwrap-child.result) in
-    let above : AreWaysAbove s c.args.range.now c.unwrap-child.result c.ways_with.result = record { is = ways; some = c.ways_with.ensures.some; few = omega (arith, ways, few) } in
-    (omega (arith, c.decreases), (c.requires.ready, (above, (c.requires.some.0, subst (λ (n : ℕ). LeadsTo s c.args.w.now c.args.range.now c.args.slot n c.requires.some.0) same goes.leads))))
+    let above : AreWaysAbove s c.args.range.now c.unwrap-child.result c.ways_with-above.result = record { is = ways; some = c.ways_with-above.ensures.some; few = omega (arith, ways, few) } in
+    (omega (arith, c.decreases), (c.requires.ready, (c.requires.children, (above, (c.requires.some.0, subst (λ (n : ℕ). LeadsTo s c.args.w.now c.args.range.now c.args.slot n c.requires.some.0) same goes.leads)))))
 
 pub returns : goal.returns
 returns t c =
