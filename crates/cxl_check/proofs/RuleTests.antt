@@ -1,5 +1,5 @@
 -- The rules K9 to K12 as one test of a decoder, and what is found of all rules and of all decoders of a node.
-use Rattle.std.proofs.Common.{◌≡◌, ℕ, ◌<◌, ◌≤◌, Bool, true, false, not, ◌&&◌, length, Option, Some, None, refl, ◌∙◌, inl, inr, arith}
+use Rattle.std.proofs.Common.{◌≡◌, ℕ, ◌+◌, ◌<◌, ◌≤◌, Bool, true, false, not, ◌&&◌, length, Option, Some, None, refl, ◌∙◌, inl, inr, arith, below_more}
 use Rattle.std.specs.Prelude.{◌==◌}
 use Rattle.std.proofs.lemmas.Bool.{eq-eqb, ne_eqb, le-ltb, cases_Bool, cases_lt, eqb-false}
 use Rattle.std.proofs.lemmas.Option.{slice_get_past}
@@ -43,11 +43,16 @@ module _ (s : System) (rule : ℕ) (from : 9 ≤ rule) (to : rule < 13) where
   pub idle_here : (n i : ℕ) (d : Decoder) → decoder_at s n i ≡ Some d → d.committed ≡ false → breaks s rule n i ≡ false
   idle_here n i d there idle = breaks_here n i d there ∙ rw idle refl
 
-  pub kept_here : (n i : ℕ) (d : Decoder) → decoder_at s n i ≡ Some d → keeps_rule s rule n i d ≡ true → breaks s rule n i ≡ false
+  kept_here : (n i : ℕ) (d : Decoder) → decoder_at s n i ≡ Some d → keeps_rule s rule n i d ≡ true → breaks s rule n i ≡ false
   kept_here n i d there keeps = breaks_here n i d there ∙ rw keeps (and_false d.committed)
 
   pub broken_here : (n i : ℕ) (d : Decoder) → decoder_at s n i ≡ Some d → d.committed ≡ true → keeps_rule s rule n i d ≡ false → breaks s rule n i ≡ true
   broken_here n i d there committed fails = breaks_here n i d there ∙ rw (committed, fails) refl
+
+  -- so where it keeps one rule more, it breaks none below the next
+  pub kept_more : (n i : ℕ) (d : Decoder) → decoder_at s n i ≡ Some d → ((lower : ℕ) → lower < rule → breaks s lower n i ≡ false) → keeps_rule s rule n i d ≡ true
+      → (lower : ℕ) → lower < rule + 1 → breaks s lower n i ≡ false
+  kept_more n i d there below keeps = below_more (λ (m : ℕ). breaks s m n i ≡ false) rule below (kept_here n i d there keeps)
 
   breaks_none : (n i : ℕ) → decoder_at s n i ≡ None → breaks s rule n i ≡ false
   breaks_none n i none = as_test n i ∙ rw none refl

@@ -59,7 +59,7 @@ pub fn check(
     if let Some(breach) = ranges_breach(&mut met, &host, &tables) {
         return Err(CheckFault::Breach(breach));
     }
-    Ok(regions(alloc, &host, &tables)?)
+    Ok(regions(alloc, &mut met, &host, &tables)?)
 }
 
 /// The first breach of K1 to K8, which speak of blocks alone.

@@ -27,6 +27,7 @@ pub(crate) fn ranges_breach(met: &mut Vec<Known>, host: &Host, tables: &Tables) 
     requires met { All (IsKnown (as_system host.now)) met.old.items }
     requires ready { IsOrderlySystem (as_system host.now) }
     requires tables { AreSystemTables (as_system host.now) tables.now }
+    ensures met { All (IsKnown (as_system host.now)) met.new.items }
     ensures none { IfNone result (IsAccepted (as_system host.now)) }
     ensures first { IfSome result
         (λ b. IsFirstBreach (as_system host.now) b.rule b.node b.decoder) }
@@ -78,35 +79,17 @@ fn least_rule(
         return None;
     }
     let known = known_of(met, host, &tables.firsts, &d.range());
-    for rule in 9..13 {
-        if !keeps_rule(host, &known, tables, rule, node, i, d) {
-            return Some(rule);
-        }
+    if !keeps_window(host, &known, node, i, d) {
+        return Some(9);
+    }
+    if !keeps_targets(host, &known, tables, node, i, d) {
+        return Some(10);
+    }
+    if !keeps_reach(host, &known, node, i, d) {
+        return Some(11);
+    }
+    if !keeps_ways(host, &known, node, i, d) {
+        return Some(12);
     }
     None
-}
-
-/// Whether a committed decoder keeps the rule.
-fn keeps_rule(
-    host: &Host,
-    known: &Known,
-    tables: &Tables,
-    rule: u8,
-    node: u32,
-    i: u8,
-    d: &Decoder,
-) -> bool
-    requires ready { IsOrderlySystem (as_system host.now) }
-    requires known { IsKnownAs (as_system host.now) (range_of d.now) known.now }
-    requires tables { AreSystemTables (as_system host.now) tables.now }
-    requires here { node < length host.now.topo.now.nodes }
-    requires committed { IsCommitted (as_system host.now) node i d.now }
-    ensures { result ≡ keeps_rule (as_system host.now) rule node i d.now }
-{
-    match rule {
-        9 => keeps_window(host, known, node, i, d),
-        10 => keeps_targets(host, known, tables, node, i, d),
-        11 => keeps_reach(host, known, node, i, d),
-        _ => keeps_ways(host, known, node, i, d),
-    }
 }

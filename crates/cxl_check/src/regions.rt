@@ -9,14 +9,14 @@ ghost use Rattle.cxl_model.specs.Regions.{IsRegion, region_range};
 ghost use Rattle.cxl_model.specs.Listed.{AreRegionsByBase};
 ghost use Rattle.cxl_check.specs.inner.Firsts.{key_cmp};
 ghost use Rattle.cxl_check.specs.inner.Facts.{AreSystemTables};
+ghost use Rattle.cxl_check.specs.inner.Known.{IsKnown, IsKnownAs};
 
 use crate::decoders::index_for;
-use crate::facts::facts_of;
 use crate::firsts::{RangeKey, first_of};
-use crate::slots::span_of;
+use crate::known::{Known, known_of, window_of};
+use crate::slots::{first_target, span_of};
 use crate::tables::Tables;
 use crate::ways::region_code;
-use crate::window::window_for;
 use cxl_enc::FixedList;
 use cxl_model::{
     Found, Host, accepted_where_whole, endpoints_lie_evenly, regions_share_no_byte,
@@ -28,7 +28,13 @@ use std::alloc::{AllocError, Global};
 use std::collections::BTreeMap;
 
 /// The regions of an accepted image, by rising base. Takes memory.
-pub(crate) fn regions(alloc: Global, host: &Host, tables: &Tables) -> Result<Vec<Found>, AllocError>
+pub(crate) fn regions(
+    alloc: Global,
+    met: &mut Vec<Known>,
+    host: &Host,
+    tables: &Tables,
+) -> Result<Vec<Found>, AllocError>
+    requires met { All (IsKnown (as_system host.now)) met.old.items }
     requires ready { IsOrderlySystem (as_system host.now) }
     requires accepted { IsAccepted (as_system host.now) }
     requires tables { AreSystemTables (as_system host.now) tables.now }
@@ -46,7 +52,8 @@ pub(crate) fn regions(alloc: Global, host: &Host, tables: &Tables) -> Result<Vec
             base: key.base,
             size: key.size,
         };
-        let region = region_of(alloc, host, tables, &range)?;
+        let known = known_of(met, host, &tables.firsts, &range);
+        let region = region_of(alloc, host, tables, &known, &range)?;
         regions.push(region)?;
     }
     Ok(regions)
@@ -66,23 +73,26 @@ fn region_of(
     alloc: Global,
     host: &Host,
     tables: &Tables,
+    known: &Known,
     range: &Range,
 ) -> Result<Found, AllocError>
     requires ready { IsOrderlySystem (as_system host.now) }
     requires tables { AreSystemTables (as_system host.now) tables.now }
+    requires known { IsKnownAs (as_system host.now) range.now known.now }
     requires committed { IsCommittedRange (as_system host.now) range.now }
     requires whole { IsWhole (as_system host.now) range.now }
     ensures region { IfOk result (λ found. IsRegion (as_system host.now) found) }
     ensures range { IfOk result (λ found. region_range found ≡ range.now) }
 {
     whole_ranges_have_one_region();
-    let w = window_for(host.windows, range).unwrap();
-    let facts = facts_of(host, &tables.firsts, range);
+    let w = window_of(host, range, known).unwrap();
+    let facts = known.facts;
     let likely = likely_index(host, &tables.firsts, range);
     let ways = facts.ways;
+    let first = first_target(host.topo, w);
     let mut spans = Vec::with_capacity(alloc, usize::from(ways))?;
     for slot in 0..ways {
-        spans.push(span_of(host, &tables.children, range, w, slot, likely))?;
+        spans.push(span_of(host, &tables.children, range, w, &first, slot, likely))?;
     }
     Ok(Found {
         base: range.base,

@@ -3,6 +3,7 @@
 ghost use Rattle.std.specs.Prelude.{◌≡◌, ◌*◌, ◌/◌, ◌%◌, ◌^◌, ◌<◌, ◌≤◌, [], length};
 ghost use Rattle.std.specs.Option.{option_map_or};
 ghost use Rattle.cxl_enc.specs.Codes.{bits_of};
+ghost use Rattle.cxl_topo.specs.Tree.{bridge_with};
 ghost use Rattle.cxl_regs.specs.Reading.{decoder_ways};
 ghost use Rattle.cxl_model.specs.declared.found.Place.{Place};
 ghost use Rattle.cxl_model.specs.Hosts.{as_system};
@@ -18,8 +19,38 @@ use crate::decoders::{decoder_for, index_for};
 use crate::kind::span_start;
 use cxl_model::{Host, Place};
 use cxl_regs::{Decoder, Range};
-use cxl_topo::tree_laws;
+use cxl_topo::{Topo, tree_laws};
 use cxl_window::{Window, root_ways, target_position};
+
+/// The bridge with a UID, where there is one.
+#[derive(Clone, Copy)]
+pub struct Target {
+    pub uid: u32,
+    pub bridge: Option<u32>,
+}
+
+/// The bridge that is a window's first target, which is its only one in most windows.
+pub(crate) fn first_target(topo: &Topo, w: &Window) -> Target
+    ensures { result.bridge ≡ bridge_with topo.now.nodes result.uid }
+{
+    let uid = w.targets().first().copied().unwrap_or(0);
+    Target {
+        uid,
+        bridge: topo.bridge(uid),
+    }
+}
+
+/// The bridge with a UID, by the first target where it is that one's.
+fn target_with(topo: &Topo, first: &Target, uid: u32) -> Option<u32>
+    requires { first.now.bridge ≡ bridge_with topo.now.nodes first.now.uid }
+    ensures { result ≡ bridge_with topo.now.nodes uid }
+{
+    if uid == first.uid {
+        first.bridge
+    } else {
+        topo.bridge(uid)
+    }
+}
 
 /// The span of a slot that has one, from the window's target down.
 pub(crate) fn span_of(
@@ -27,17 +58,19 @@ pub(crate) fn span_of(
     children: &[Option<u32>],
     range: &Range,
     w: &Window,
+    first: &Target,
     slot: u8,
     likely: u8,
 ) -> Place
     requires ready { IsOrderlySystem (as_system host.now) }
     requires children { AreChildren host.now.topo.now.nodes children.now }
+    requires first { first.now.bridge ≡ bridge_with host.now.topo.now.nodes first.now.uid }
     requires some { (place : Place) × HasSpan (as_system host.now) w.now range.now slot place }
     requires slot { slot < 16 }
     ensures { HasSpan (as_system host.now) w.now range.now slot result }
 {
     let uid = w.targets()[usize::from(target_position(w, slot))];
-    let bridge = host.topo.bridge(uid).unwrap();
+    let bridge = target_with(host.topo, first, uid).unwrap();
     let above = ports_above(host, range, bridge, likely).ways;
     place_below(host, children, range, w, slot, bridge, above, likely)
 }

@@ -1,7 +1,6 @@
 //! K9: where a range lies.
 
 ghost use Rattle.std.specs.Prelude.{◌≡◌, ◌<◌, ◌≤◌, true, length, find, slice_get};
-ghost use Rattle.std.specs.Option.{option_copied};
 ghost use Rattle.cxl_topo.specs.Tree.{is_endpoint_at};
 ghost use Rattle.cxl_model.specs.Hosts.{as_system};
 ghost use Rattle.cxl_model.specs.Ranges.{lies_within, span_kind};
@@ -35,14 +34,7 @@ pub(crate) fn keeps_window(host: &Host, known: &Known, node: u32, i: u8, d: &Dec
         && (!host.topo.is_endpoint(node) || permits(w, span_kind(host, node, i)))
 }
 
-/// The usable window in which a range lies.
-pub(crate) fn window_for<'a>(windows: &'a [Window], range: &Range) -> Option<&'a Window>
-    ensures { option_copied result ≡ find (lies_within range.now) windows.now }
-{
-    windows.iter().find(|w| lies_within(range, w))
-}
-
-/// The number of that window, or how many windows there are where there is none.
+/// The number of the usable window in which a range lies, or how many windows there are where there is none.
 pub(crate) fn place_for(windows: &[Window], range: &Range) -> usize
     ensures { slice_get windows.now result ≡ find (lies_within range.now) windows.now }
 {

@@ -13,6 +13,9 @@ loop-node-preserved c = record {
   found = c.earlier-first.ensures (breaks (as_system c.args.host.now)) c.loop-node.invariant.found c.node_breach-found.ensures.found;
 }
 
+pub returns-clause-met : goal.returns-clause-met
+returns-clause-met c = c.loop-node.invariant.met
+
 pub returns-clause-none : goal.returns-clause-none
 returns-clause-none c =
     let all : length c.args.host.now.image.now ≤ c.loop-node.node = omega (arith, c.count-node-end.ensures.count, c.requires.ready.system.caps.count) in

@@ -9,19 +9,19 @@ use Rattle.cxl_check.proofs.regions.region_of.Goals as goal
 pub unwrap-w-requires : goal.unwrap-w-requires
 unwrap-w-requires c =
     some_window c.whole_ranges_have_one_region.ensures.some (as_system c.args.host.now) c.args.range.now c.requires.ready.system c.requires.committed c.requires.whole
-    c.window_for.result c.window_for.ensures
+    c.window_of.result c.window_of.ensures
 
 pub span_of-requires-clause-some : goal.span_of-requires-clause-some
 span_of-requires-clause-some c =
     let s = as_system c.args.host.now in
-    let region = gives_here c.whole_ranges_have_one_region.ensures.some s c.args.range.now c.requires.ready.system c.requires.committed c.requires.whole c.window_for.result c.unwrap-w.result c.window_for.ensures c.unwrap-w.ensures in
-    let below : c.loop-slot.slot < range_ways s c.args.range.now = omega (arith, c.facts_of-facts.ensures.ways) in
+    let region = gives_here c.whole_ranges_have_one_region.ensures.some s c.args.range.now c.requires.ready.system c.requires.committed c.requires.whole c.window_of.result c.unwrap-w.result c.window_of.ensures c.unwrap-w.ensures in
+    let below : c.loop-slot.slot < range_ways s c.args.range.now = omega (arith, c.requires.known.facts.ways) in
     region.spans c.loop-slot.slot below
 
 pub span_of-requires-clause-slot : goal.span_of-requires-clause-slot
 span_of-requires-clause-slot c =
     let few = range_ways_few (as_system c.args.host.now) c.args.range.now in
-    omega (arith, few, c.facts_of-facts.ensures.ways)
+    omega (arith, few, c.requires.known.facts.ways)
 
 pub loop-slot-preserved : goal.loop-slot-preserved
 loop-slot-preserved c =
@@ -32,17 +32,17 @@ loop-slot-preserved c =
 pub returns-clause-region : goal.returns-clause-region
 returns-clause-region c =
     let s = as_system c.args.host.now in
-    let region = gives_here c.whole_ranges_have_one_region.ensures.some s c.args.range.now c.requires.ready.system c.requires.committed c.requires.whole c.window_for.result c.unwrap-w.result c.window_for.ensures c.unwrap-w.ensures in
-    let count : length c.loop-slot.spans.items ≡ c.facts_of-facts.result.ways = omega (arith, c.loop-slot.invariant.count) in (
+    let region = gives_here c.whole_ranges_have_one_region.ensures.some s c.args.range.now c.requires.ready.system c.requires.committed c.requires.whole c.window_of.result c.unwrap-w.result c.window_of.ensures c.unwrap-w.ensures in
+    let count : length c.loop-slot.spans.items ≡ c.args.known.now.facts.ways = omega (arith, c.loop-slot.invariant.count) in (
       c.unwrap-w.result.now,
       record {
         committed = c.requires.committed;
         whole = c.requires.whole;
         window = region.window;
         index = c.index.ensures.value;
-        ways = c.facts_of-facts.ensures.ways;
-        code = c.region_code.ensures s c.args.range.now c.facts_of-facts.ensures;
-        kind = c.facts_of-facts.ensures.kind;
+        ways = c.requires.known.facts.ways;
+        code = c.region_code.ensures s c.args.range.now c.requires.known.facts;
+        kind = c.requires.known.facts.kind;
         slots = rw c.new.ensures count;
         spans = λ slot place is. c.loop-slot.invariant.each slot place (rw c.new.ensures at is);
       },

@@ -24,6 +24,9 @@ pub region_of-requires-clause-whole : goal.region_of-requires-clause-whole
 region_of-requires-clause-whole c =
     whole_at (as_system c.args.host.now) c.requires.ready c.requires.accepted c.args.tables.now.firsts c.requires.tables.firsts c.accepted_where_whole.ensures _ (region_of-requires-clause-committed c)
 
+pub known_of-known-requires-clause-met : goal.known_of-known-requires-clause-met
+known_of-known-requires-clause-met c = c.loop-key.invariant.met
+
 pub loop-key-preserved : goal.loop-key-preserved
 loop-key-preserved c =
     let s = as_system c.args.host.now in
@@ -33,8 +36,11 @@ loop-key-preserved c =
     let below : i < length items = omega arith in
     let key : RangeKey = get_or items i none in
     let is : key ≡ get_or items i key = sym (get_or_from_slice_get items i key key (slice_get-get_or items i none below)) in
-    subst (λ (regions : List Found). AreListed s (take (i + 1) items) regions) (sym c.in_ok-push.ensures.items)
-    (one_listed s items i key c.loop-key.regions.items c.in_ok-region.region c.loop-key.invariant below is c.in_ok-region.ensures.region c.in_ok-region.ensures.range)
+    record {
+      met = c.known_of-known.ensures.met;
+      listed = subst (λ (regions : List Found). AreListed s (take (i + 1) items) regions) (sym c.in_ok-push.ensures.items)
+          (one_listed s items i key c.loop-key.regions.items c.in_ok-region.region c.loop-key.invariant.listed below is c.in_ok-region.ensures.region c.in_ok-region.ensures.range);
+    }
 
 pub returns : goal.returns
 returns c =
@@ -43,5 +49,5 @@ returns c =
     let same : items ≡ keys c.args.tables.now.firsts = c.deref-key-items.ensures.value ∙ c.in_ok-keys.ensures.keys in
     let past : length items ≤ c.loop-key.key-index = omega arith in
     let whole : AreListed s (keys c.args.tables.now.firsts) c.loop-key.regions.items =
-    subst (λ (ks : List RangeKey). AreListed s ks c.loop-key.regions.items) (take_all c.loop-key.key-index items past ∙ same) c.loop-key.invariant in
+    subst (λ (ks : List RangeKey). AreListed s ks c.loop-key.regions.items) (take_all c.loop-key.key-index items past ∙ same) c.loop-key.invariant.listed in
     are_regions s c.requires.ready c.requires.accepted c.args.tables.now.firsts c.requires.tables.firsts c.in_ok-keys.ensures.ordered c.accepted_where_whole.ensures c.endpoints_lie_evenly.ensures.all c.regions_share_no_byte.ensures.host c.ranges_rise.ensures.some c.loop-key.regions.items whole

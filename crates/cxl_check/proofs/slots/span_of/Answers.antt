@@ -29,7 +29,7 @@ unwrap-bridge-requires c =
     let span = c.requires.some.1 in
     let uid = some_and (slice_get w.targets position) (λ (uid : ℕ). bridge_with nodes uid ≡ Some span.bridge) span.target in
     let read : get_or c.targets.result.now c.from.result 0 ≡ uid.0 = rw (c.targets.ensures.value, c.from.ensures, c.target_position.ensures.value) (get_or_from_slice_get w.targets position uid.0 0 uid.1) in
-    rw (c.bridge.ensures.bridge ∙ ap (bridge_with nodes) read ∙ uid.2) refl
+    rw (c.target_with.ensures ∙ ap (bridge_with nodes) read ∙ uid.2) refl
 
 pub place_below-requires-clause-some : goal.place_below-requires-clause-some
 place_below-requires-clause-some c =
@@ -39,7 +39,7 @@ place_below-requires-clause-some c =
     let span = c.requires.some.1 in
     let uid = some_and (slice_get w.targets position) (λ (uid : ℕ). bridge_with nodes uid ≡ Some span.bridge) span.target in
     let read : get_or c.targets.result.now c.from.result 0 ≡ uid.0 = rw (c.targets.ensures.value, c.from.ensures, c.target_position.ensures.value) (get_or_from_slice_get w.targets position uid.0 0 uid.1) in
-    let bridge : bridge_with nodes uid.0 ≡ Some c.unwrap-bridge.result = ap (bridge_with nodes) (sym read) ∙ sym c.bridge.ensures.bridge ∙ c.unwrap-bridge.ensures in
+    let bridge : bridge_with nodes uid.0 ≡ Some c.unwrap-bridge.result = ap (bridge_with nodes) (sym read) ∙ sym c.target_with.ensures ∙ c.unwrap-bridge.ensures in
     let same : span.bridge ≡ c.unwrap-bridge.result = same_Some span.bridge c.unwrap-bridge.result (sym uid.2 ∙ bridge) in
     (c.requires.some.0, subst (λ (n : ℕ). LeadsTo (as_system c.args.host.now) w c.args.range.now c.args.slot n c.requires.some.0) same span.leads)
 
@@ -51,5 +51,5 @@ returns c =
     let span = c.requires.some.1 in
     let uid = some_and (slice_get w.targets position) (λ (uid : ℕ). bridge_with nodes uid ≡ Some span.bridge) span.target in
     let read : get_or c.targets.result.now c.from.result 0 ≡ uid.0 = rw (c.targets.ensures.value, c.from.ensures, c.target_position.ensures.value) (get_or_from_slice_get w.targets position uid.0 0 uid.1) in
-    let bridge : bridge_with nodes uid.0 ≡ Some c.unwrap-bridge.result = ap (bridge_with nodes) (sym read) ∙ sym c.bridge.ensures.bridge ∙ c.unwrap-bridge.ensures in
+    let bridge : bridge_with nodes uid.0 ≡ Some c.unwrap-bridge.result = ap (bridge_with nodes) (sym read) ∙ sym c.target_with.ensures ∙ c.unwrap-bridge.ensures in
     record { bridge = c.unwrap-bridge.result; target = rw uid.1 bridge; leads = c.place_below.ensures }
