@@ -1,5 +1,5 @@
 -- What is refused before a release begins, in its order.
-use Rattle.std.proofs.Common.{◌≡◌, ℕ, ◌<◌, Bool, List, [], ◌∷◌, map, length, get_or, Ok, Err, Option, Some, None, refl, sym, ap, ◌∙◌, arith, inl, inr, cond, ltb}
+use Rattle.std.proofs.Common.{◌≡◌, ℕ, ◌<◌, Bool, List, [], ◌∷◌, map, length, Ok, Err, Option, Some, None, refl, sym, ap, ◌∙◌, arith, inl, inr, cond, ltb}
 use Rattle.std.specs.Prelude.{slice_get, find, position, option_map, option_and_then, is_none, if◌then◌else◌}
 use Rattle.std.specs.Option.{option_map_or}
 use Rattle.std.specs.List.{position_or_len}
@@ -7,7 +7,7 @@ use Rattle.std.specs.Str.{bytes_eq}
 use Rattle.std.proofs.lemmas.Bool.{cases_lt, lt-ltb, ltb-true}
 use Rattle.std.proofs.lemmas.List.{length-map}
 use Rattle.std.proofs.lemmas.List.Folds.{find_at}
-use Rattle.std.proofs.lemmas.Option.{none-some, same_Some, cond_some, slice_get_past, slice_get-get_or}
+use Rattle.std.proofs.lemmas.Option.{none-some, same_Some, cond_some, slice_get_past}
 use Rattle.std.proofs.lemmas.Slice.Eq.{bytes_eq-Decides}
 use Rattle.cxl_topo.specs.declared.node.Node.{Node}
 use Rattle.cxl_model.specs.declared.found.Found.{Found}
@@ -24,7 +24,7 @@ use Rattle.cxl_machine.specs.Jobs.{release_job}
 use Rattle.cxl_machine.specs.Requests.{busy, no_region, locked, not_last, spot_of, release_at, job_unless, asked_release}
 use Rattle.cxl_session.specs.declared.requests.Release.{Release}
 use Rattle.cxl_session.specs.declared.session.Session.TheInside.{Inside}
-use Rattle.cxl_session.specs.Inside.{job_fields, state_of, HasRooms}
+use Rattle.cxl_session.specs.Inside.{job_fields, state_of}
 use Rattle.cxl_session.specs.State.{SessionState}
 use Rattle.cxl_session.specs.Standing.{StandsFor}
 use Rattle.cxl_session.specs.inner.Requests.{IsRelease}
@@ -188,18 +188,15 @@ found_unnamed session m name stands none past =
     unnamed_refused m name (no_job m session.job none m.job stands.job) (no_region_at m name (place_is session m name stands None past))
 
 -- the same by the fields of a session
-pub found_inside : (session : SessionState) (inside : Inside) → state_of inside ≡ session → HasRooms inside → inside.job ≡ None → (name : List ℕ) (place : ℕ) (names : List (List ℕ))
-    → Some place ≡ position (λ own. bytes_eq own name) names → names ≡ inside.names.items → (found : Found) → found ≡ get_or inside.founds.items place found
+pub found_inside : (session : SessionState) (inside : Inside) → state_of inside ≡ session → inside.job ≡ None → (name : List ℕ) (place : ℕ) (names : List (List ℕ))
+    → Some place ≡ position (λ own. bytes_eq own name) names → names ≡ inside.names.items → (found : Found) → slice_get session.founds place ≡ Some found
     → (rows : List Row) → rows ≡ rows_of (system_of inside.image inside.topo []) found → IsFound session name place found rows
-found_inside session inside view rooms none name place names named same found read rows are =
+found_inside session inside view none name place names named same found there rows are =
     let at : Some place ≡ position (λ own. bytes_eq own name) inside.names.items = named ∙ ap (position (λ (own : List ℕ). bytes_eq own name)) same in
     let p = λ (own : List ℕ). bytes_eq own name in
-    let first = cond_some _ (position_or_len p inside.names.items) place (sym at) in
-    let low : place < length inside.founds.items =
-    (let test = ltb-true (position_or_len p inside.names.items) (length inside.names.items) first.0 in let is = first.1 in let long = rooms.founds in omega (arith, test, is, long)) in
     record {
       idle = ap (λ (s : SessionState). s.job) (sym view) ∙ ap (option_map job_fields) none;
       named = at ∙ ap (λ (s : SessionState). position p s.names) view;
-      there = ap (λ (s : SessionState). slice_get s.founds place) (sym view) ∙ slice_get-get_or inside.founds.items place found low ∙ ap Some (sym read);
+      there = there;
       rows = are ∙ ap (λ (s : SessionState). rows_of (system_of s.image s.topo []) found) view;
     }

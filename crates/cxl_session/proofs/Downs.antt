@@ -1,12 +1,9 @@
 -- What the way of a host byte is told as.
 use Rattle.std.proofs.Common.{◌≡◌, ℕ, zero, suc, ◌+◌, ◌-◌, ◌<◌, ◌≤◌, true, List, ◌∷◌, ◌++◌, map, length, drop, replicate, Option, refl, sym, ap, ◌∙◌, subst, arith}
-use Rattle.std.specs.Prelude.{nat_le, nat_lt}
 use Rattle.std.specs.Option.{option_map_or}
-use Rattle.std.proofs.lemmas.Bool.{and_parts, leb-true, ltb-true}
 use Rattle.std.proofs.lemmas.List.{take-append-drop, map-append, length-take-le}
 use Rattle.cxl_deal.specs.Weaves.{dealt_offset}
 use Rattle.cxl_model.specs.declared.chain.Step.{Step}
-use Rattle.cxl_model.specs.declared.found.Found.{Found}
 use Rattle.cxl_model.specs.declared.found.Place.{Place}
 use Rattle.cxl_model.specs.Chain.{Chain, ChainEnd, Routing, Routed}
 use Rattle.cxl_model.specs.Dealing.{IsDealtRoute, slot_steps}
@@ -18,14 +15,7 @@ use Rattle.cxl_reply.specs.declared.details.Downed.{Downed}
 use Rattle.cxl_reply.specs.declared.details.Via.{Via}
 use Rattle.cxl_machine.specs.Machine.{Live, Machine, has_host, region_window}
 use Rattle.cxl_machine.specs.Accesses.{slot_of_host, slot_place, steps_to, via_of, five_vias, downed}
-
--- ---- where a region holds an address
-
-pub host_from : (found : Found) (h : ℕ) → has_host found h ≡ true → found.base ≤ h
-host_from found h has = leb-true found.base h (and_parts (nat_le found.base h) (nat_lt h (found.base + found.size)) has).0
-
-pub host_below : (found : Found) (h : ℕ) → has_host found h ≡ true → h < found.base + found.size
-host_below found h has = ltb-true h (found.base + found.size) (and_parts (nat_le found.base h) (nat_lt h (found.base + found.size)) has).1
+use Rattle.cxl_live.proofs.Hosts.{host_from, host_below}
 
 -- ---- lists
 

@@ -1,4 +1,5 @@
 pub mod Places
+pub mod Apart
 pub mod Pairs
 pub mod Fronts
 pub mod Stays

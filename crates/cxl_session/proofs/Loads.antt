@@ -29,7 +29,7 @@ use Rattle.cxl_session.specs.Standing.{HoldsMemory, IsKeptIn}
 use Rattle.cxl_session.specs.inner.Places.{StandsAt, HoldsAt}
 use Rattle.cxl_session.specs.inner.Parts.{IsWoven, HasPieces}
 use Rattle.cxl_session.specs.inner.Answering.{IsWithin}
-use Rattle.cxl_session.proofs.Downs.{host_from, host_below}
+use Rattle.cxl_live.proofs.Hosts.{host_from, host_below}
 use Rattle.cxl_session.proofs.Held.{WindowLaw, has_pieces}
 use Rattle.cxl_session.proofs.Within.{holds_host, holds_live, found_is, kept_is, name_is}
 

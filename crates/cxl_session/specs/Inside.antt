@@ -29,17 +29,16 @@ state_of session = record {
   windows = session.windows.items;
   image = session.image;
   names = session.names.items;
-  founds = session.founds.items;
+  founds = session.founds;
   kept = session.kepts.items;
   job = option_map job_fields session.job;
 }
 
 -- The three lists go together, with room for as many regions as may live; and the image has the words that the job writes.
 pub record HasRooms (session : Inside) : Type 0 where
-  pub founds : length session.founds.items ≡ length session.names.items
+  pub founds : length session.founds ≡ length session.names.items
   pub kepts : length session.kepts.items ≡ length session.names.items
   pub few : length session.names.items ≤ region_limit
   pub names_room : region_limit ≤ vec_capacity session.names
-  pub founds_room : region_limit ≤ vec_capacity session.founds
   pub kepts_room : region_limit ≤ vec_capacity session.kepts
   pub words : IfSome session.job (λ pending. HasWordsOf session.image pending.job.writes)

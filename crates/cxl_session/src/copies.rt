@@ -105,8 +105,8 @@ impl Session {
         if is_same(&pair.from, &pair.to) {
             return Err(Reply::SameRegion(pair.from));
         }
-        let from = self.founds[first].size;
-        let to = self.founds[second].size;
+        let from = self.found_at(first).size;
+        let to = self.found_at(second).size;
         if from != to {
             return Err(Reply::SizesDiffer(Sizes { from, to }));
         }
@@ -126,7 +126,7 @@ impl Session {
         requires { IsSomeAnd (slice_get self.now.founds place) (λ found. found.window < length self.now.windows) }
         ensures { IsSideAt self.now place result.found.now result.window.now }
     {
-        let found = &self.founds[place];
+        let found = self.found_at(place);
         let window = &self.windows[found.window as usize];
         Side { found, window }
     }

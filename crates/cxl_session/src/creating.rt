@@ -21,10 +21,11 @@ ghost use Rattle.cxl_session.specs.inner.Creating.{IsAskedPlan, IsPrepared, IsAs
 
 use crate::copies::place_among;
 use crate::pending::{Kind, Pending};
-use crate::session::{REGION_LIMIT, Session};
+use crate::session::Session;
 use cxl_apply::{Job, create_commits_its_rows, regions_stay_after_a_create};
 use cxl_bus::Regs;
 use cxl_enc::Memory;
+use cxl_live::REGION_LIMIT;
 use cxl_machine::{
     asked_creates_begin_as_machines, creates_are_legal, jobs_have_one_list_of_writes,
 };

@@ -1,15 +1,16 @@
 //! The live regions by place: what a session keeps of each, and which one holds a host address.
 
-ghost use Rattle.std.specs.Prelude.{◌≡◌, ℕ, ◌<◌, true, length, position, slice_get, Some};
+ghost use Rattle.std.specs.Prelude.{◌≡◌, ℕ, ◌<◌, true, length, slice_get, Some};
 ghost use Rattle.cxl_machine.specs.Machine.{Machine, has_host};
 ghost use Rattle.cxl_machine.specs.Replies.{ends_within};
+ghost use Rattle.cxl_machine.specs.Sound.{IsMachine};
 ghost use Rattle.cxl_session.specs.Standing.{StandsFor};
 ghost use Rattle.cxl_session.specs.inner.Places.{HoldsAt};
 ghost use Rattle.cxl_session.specs.inner.Answering.{IsWithin};
 
 use crate::session::Session;
 use cxl_enc::Name;
-use cxl_model::Found;
+use cxl_model::{Found, regions_lie_in_windows, regions_share_no_byte};
 use cxl_reply::Reply;
 use cxl_walk::Kept;
 use cxl_window::Window;
@@ -28,7 +29,7 @@ impl Session {
         requires { place < length self.now.founds }
         ensures { slice_get self.now.founds place ≡ Some result.now }
     {
-        &self.founds[place]
+        self.founds.at(place)
     }
 
     /// The kept routes of the live region at a place.
@@ -49,15 +50,17 @@ impl Session {
 
     /// The place of the live region that holds a host address.
     pub(crate) fn place_of_host(&self, h: u64) -> Option<usize>
-        ensures { (m : Machine) → StandsFor self.now m → HoldsAt self.now m h result }
+        ensures { (m : Machine) → StandsFor self.now m → IsMachine m → HoldsAt self.now m h result }
     {
-        holder(&self.founds, h)
+        regions_lie_in_windows();
+        regions_share_no_byte();
+        self.founds.holder(h)
     }
 
     /// The place of the live region that holds so many bytes from a host address on, or why none does.
     pub(crate) fn place_within(&self, h: u64, len: u64) -> Result<usize, Reply>
-        requires { (m : Machine) × StandsFor self.now m }
-        ensures { (m : Machine) → StandsFor self.now m → IsWithin self.now m h len result }
+        requires { (m : Machine) × StandsFor self.now m × IsMachine m }
+        ensures { (m : Machine) → StandsFor self.now m → IsMachine m → IsWithin self.now m h len result }
     {
         let Some(place) = self.place_of_host(h) else {
             return Err(Reply::Unmapped);
@@ -68,15 +71,6 @@ impl Session {
             Err(Reply::CrossesEnd)
         }
     }
-}
-
-/// The place of the region that holds a host address.
-fn holder(founds: &[Found], h: u64) -> Option<usize>
-    ensures { result ≡ position (λ found. has_host found h) founds.now }
-{
-    founds
-        .iter()
-        .position(|found| found.base <= h && h - found.base < found.size)
 }
 
 /// Whether so many bytes from a host byte of the region on end in it.

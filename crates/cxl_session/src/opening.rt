@@ -18,12 +18,13 @@ ghost use Rattle.cxl_session.specs.Opening.{endpoints_in, enabling, ArePoweredOn
 ghost use Rattle.cxl_session.specs.Standing.{StandsFor, IsAt};
 ghost use Rattle.cxl_session.specs.inner.Opened.{opened_machine, CanOpen, AreRoutesOf, StopsEnabling};
 
-use crate::session::{REGION_LIMIT, Session};
+use crate::session::Session;
 use cxl_bus::Regs;
 use cxl_check::{CheckFault, check};
 use cxl_enc::{Failed, Memory, Name};
 use cxl_image::Image;
 use cxl_legal::ports_are_bytes;
+use cxl_live::{LiveRegions, REGION_LIMIT};
 use cxl_machine::{OpenFault, openings_are_machines};
 use cxl_media::Roll;
 use cxl_model::{
@@ -138,7 +139,7 @@ impl Session {
         let image = enabled(start, endpoints);
         let names = auto_names(alloc, founds.len())?;
         let kepts = routes_of(alloc, &image, &topo, &windows, &founds)?;
-        let founds = with_room(alloc, founds)?;
+        let founds = LiveRegions::new(alloc, founds)?;
         Ok(Session {
             topo,
             windows,
@@ -283,14 +284,4 @@ fn routes_of(
         kepts.push(kept)?;
     }
     Ok(kepts)
-}
-
-/// The same regions, with room for as many as may live. Takes memory.
-fn with_room(alloc: Global, mut founds: Vec<Found>) -> Result<Vec<Found>, Memory>
-    ensures same { IfOk result (λ roomy. roomy.items ≡ founds.items) }
-    ensures room { IfOk result (λ roomy. region_limit ≤ vec_capacity roomy) }
-{
-    let mut roomy = Vec::with_capacity(alloc, REGION_LIMIT)?;
-    roomy.append(&mut founds)?;
-    Ok(roomy)
 }

@@ -297,7 +297,7 @@ impl Session {
         } }
     {
         let _name = self.names.push(name);
-        let _found = self.founds.push(found);
+        self.founds.push(found);
         let _kept = self.kepts.push(kept);
     }
 
@@ -343,7 +343,7 @@ impl Session {
         } }
     {
         let _name = self.names.insert(place, name);
-        let _found = self.founds.insert(place, found);
+        self.founds.insert(place, found);
         let _kept = self.kepts.insert(place, kept);
     }
 }

@@ -53,7 +53,7 @@ impl Session {
             alloc,
             list.records.items(),
             endpoint,
-            &self.founds,
+            self.founds.as_slice(),
             &self.windows,
         )?;
         let names = copied(alloc, &self.names)?;

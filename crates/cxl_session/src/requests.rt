@@ -38,7 +38,7 @@ impl Session {
         let Some(place) = place_among(&self.names, &name) else {
             return Ok(Err(Reply::NoRegion(name)));
         };
-        let rows = region_rows(alloc, &self.image, &self.topo, &self.founds[place])?;
+        let rows = region_rows(alloc, &self.image, &self.topo, self.found_at(place))?;
         if let Some(row) = first_locked(&rows) {
             return Ok(Err(Reply::Locked(spot(&row))));
         }

@@ -11,15 +11,13 @@ ghost use Rattle.cxl_session.specs.Standing.{StandsFor};
 use crate::pending::Pending;
 use cxl_enc::Name;
 use cxl_image::Image;
+use cxl_live::LiveRegions;
 use cxl_machine::live_regions_stay;
 use cxl_model::Found;
 use cxl_topo::Topo;
 use cxl_walk::{Kept, kept_routes_stay};
 use cxl_window::Window;
 use std::marker::Model;
-
-/// How many regions live at the most. (This project's rule.)
-pub(crate) const REGION_LIMIT: usize = 256;
 
 /// A session over a host: its topology, its windows, the register image, the live regions with their kept routes, and the job
 /// that is pending, if any. Contracts see it as a `SessionState`.
@@ -29,7 +27,7 @@ pub struct Session {
     pub(crate) windows: Vec<Window>,
     pub(crate) image: Image,
     pub(crate) names: Vec<Name>,
-    pub(crate) founds: Vec<Found>,
+    pub(crate) founds: LiveRegions,
     pub(crate) kepts: Vec<Kept>,
     pub(crate) job: Option<Pending>,
 }

@@ -17,28 +17,28 @@ returns-in_default-place_among c = λ m stands is. found_unnamed c.args.self.now
 
 pub returns-in-Some-first_locked : goal.returns-in-Some-first_locked
 returns-in-Some-first_locked c = λ m stands is.
-    let finds = found_inside c.args.self.now c.self.inside c.self.view_is c.self.invariant c.in_default.is c.args.name c.in-Some-place_among.place c.deref.result.now
-    c.in-Some-place_among.ensures c.deref.ensures.value c.index.result.now c.index.ensures c.in_ok-rows.rows.items c.in_ok-rows.ensures in
-    found_locked c.args.self.now m c.args.name c.in-Some-place_among.place c.index.result.now c.in_ok-rows.rows.items stands finds c.in-Some-first_locked.row
+    let finds = found_inside c.args.self.now c.self.inside c.self.view_is c.in_default.is c.args.name c.in-Some-place_among.place c.deref.result.now
+    c.in-Some-place_among.ensures c.deref.ensures.value c.found_at.result.now c.found_at.ensures c.in_ok-rows.rows.items c.in_ok-rows.ensures in
+    found_locked c.args.self.now m c.args.name c.in-Some-place_among.place c.found_at.result.now c.in_ok-rows.rows.items stands finds c.in-Some-first_locked.row
     (ap (find is_locked) (sym c.deref-2.ensures.value) ∙ sym c.in-Some-first_locked.ensures)
     ∙ ap (λ (spot : Spot). Err (replies.Locked spot)) (sym c.spot.ensures)
 
 pub returns-in-Some-first_not_last : goal.returns-in-Some-first_not_last
 returns-in-Some-first_not_last c = λ m stands is.
-    let finds = found_inside c.args.self.now c.self.inside c.self.view_is c.self.invariant c.in_default.is c.args.name c.in-Some-place_among.place c.deref.result.now
-    c.in-Some-place_among.ensures c.deref.ensures.value c.index.result.now c.index.ensures c.in_ok-rows.rows.items c.in_ok-rows.ensures in
+    let finds = found_inside c.args.self.now c.self.inside c.self.view_is c.in_default.is c.args.name c.in-Some-place_among.place c.deref.result.now
+    c.in-Some-place_among.ensures c.deref.ensures.value c.found_at.result.now c.found_at.ensures c.in_ok-rows.rows.items c.in_ok-rows.ensures in
     let free : find is_locked c.in_ok-rows.rows.items ≡ None = ap (find is_locked) (sym c.deref-2.ensures.value) ∙ sym c.in_default-first_locked.ensures in
     let top = λ (s : SessionState). find (is_not_last (blocks_alone s.image)) c.in_ok-rows.rows.items in
-    found_below c.args.self.now m c.args.name c.in-Some-place_among.place c.index.result.now c.in_ok-rows.rows.items stands finds free c.in-Some-first_not_last.row
+    found_below c.args.self.now m c.args.name c.in-Some-place_among.place c.found_at.result.now c.in_ok-rows.rows.items stands finds free c.in-Some-first_not_last.row
     (ap top (sym c.self.view_is) ∙ ap (find (is_not_last (blocks_alone c.self.inside.image))) (sym c.deref-3.ensures.value) ∙ sym c.in-Some-first_not_last.ensures)
     ∙ ap (λ (spot : Spot). Err (replies.NotLast spot)) (sym c.spot-in-Some-first_not_last.ensures)
 
 pub returns : goal.returns
 returns c = λ m stands is.
-    let finds = found_inside c.args.self.now c.self.inside c.self.view_is c.self.invariant c.in_default.is c.args.name c.in-Some-place_among.place c.deref.result.now
-    c.in-Some-place_among.ensures c.deref.ensures.value c.index.result.now c.index.ensures c.in_ok-rows.rows.items c.in_ok-rows.ensures in
+    let finds = found_inside c.args.self.now c.self.inside c.self.view_is c.in_default.is c.args.name c.in-Some-place_among.place c.deref.result.now
+    c.in-Some-place_among.ensures c.deref.ensures.value c.found_at.result.now c.found_at.ensures c.in_ok-rows.rows.items c.in_ok-rows.ensures in
     let free : find is_locked c.in_ok-rows.rows.items ≡ None = ap (find is_locked) (sym c.deref-2.ensures.value) ∙ sym c.in_default-first_locked.ensures in
     let top = λ (s : SessionState). find (is_not_last (blocks_alone s.image)) c.in_ok-rows.rows.items in
-    found_release c.args.self.now m c.args.name c.in-Some-place_among.place c.index.result.now c.in_ok-rows.rows.items stands finds free
+    found_release c.args.self.now m c.args.name c.in-Some-place_among.place c.found_at.result.now c.in_ok-rows.rows.items stands finds free
     (record { place = c.in-Some-place_among.place; rows = c.in_ok-rows.rows }) refl refl
     (ap top (sym c.self.view_is) ∙ ap (find (is_not_last (blocks_alone c.self.inside.image))) (sym c.deref-3.ensures.value) ∙ sym c.in_default-first_not_last.ensures)

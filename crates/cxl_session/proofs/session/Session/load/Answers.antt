@@ -8,20 +8,20 @@ use Rattle.cxl_session.proofs.session.Session.load.Goals as goal
 pub kept_at-requires : goal.kept_at-requires
 kept_at-requires g c =
     let (m, stands, is, memory) = c.requires.stands in
-    let within = c.in-Ok.ensures m stands in
+    let within = c.in-Ok.ensures m stands is in
     kept_within c.args.self.now m c.in-Ok.place within.0 within.1
 
 pub found_at-requires : goal.found_at-requires
 found_at-requires g c =
     let (m, stands, is, memory) = c.requires.stands in
-    let within = c.in-Ok.ensures m stands in
+    let within = c.in-Ok.ensures m stands is in
     found_within c.args.self.now m c.in-Ok.place within.0 within.1
 
 pub load_bytes-requires-clause-region : goal.load_bytes-requires-clause-region
 load_bytes-requires-clause-region g c =
     let (m, stands, is, memory) = c.requires.stands in
     let within : IsWithin c.args.self.now m c.args.load.h c.args.load.len (Ok c.in-Ok.place) =
-    subst (λ (n : ℕ). IsWithin c.args.self.now m c.args.load.h n (Ok c.in-Ok.place)) c.from.ensures (c.in-Ok.ensures m stands) in (
+    subst (λ (n : ℕ). IsWithin c.args.self.now m c.args.load.h n (Ok c.in-Ok.place)) c.from.ensures (c.in-Ok.ensures m stands is) in (
       m.settled,
       region_window m.settled within.0.found,
       woven_within c.args.self.now m is c.args.load.h c.args.load.len c.in-Ok.place within c.found_at.result.now c.found_at.ensures c.kept_at.result.now c.weave-weave.result.now c.kept_at.ensures c.weave-weave.ensures,
@@ -31,12 +31,12 @@ pub load_bytes-requires-clause-from : goal.load_bytes-requires-clause-from
 load_bytes-requires-clause-from g c =
     let (m, stands, is, memory) = c.requires.stands in
     lies_from c.args.self.now m is c.args.load.h c.args.load.len c.in-Ok.place
-    (subst (λ (n : ℕ). IsWithin c.args.self.now m c.args.load.h n (Ok c.in-Ok.place)) c.from.ensures (c.in-Ok.ensures m stands)) c.found_at.result.now c.found_at.ensures
+    (subst (λ (n : ℕ). IsWithin c.args.self.now m c.args.load.h n (Ok c.in-Ok.place)) c.from.ensures (c.in-Ok.ensures m stands is)) c.found_at.result.now c.found_at.ensures
 
 pub returns : goal.returns
 returns g c = λ m stands is memory.
     let within : IsWithin c.args.self.now m c.args.load.h c.args.load.len (Ok c.in-Ok.place) =
-    subst (λ (n : ℕ). IsWithin c.args.self.now m c.args.load.h n (Ok c.in-Ok.place)) c.from.ensures (c.in-Ok.ensures m stands) in
+    subst (λ (n : ℕ). IsWithin c.args.self.now m c.args.load.h n (Ok c.in-Ok.place)) c.from.ensures (c.in-Ok.ensures m stands is) in
     loaded c.regions_lie_in_windows.ensures.there c.blocks_hold_their_pieces.ensures c.args.self.now m is (g.M.Media.state c.args.media.now) memory c.args.load c.in-Ok.place within c.found_at.result.now c.found_at.ensures c.weave-weave.result.now
     (woven_within c.args.self.now m is c.args.load.h c.args.load.len c.in-Ok.place within c.found_at.result.now c.found_at.ensures c.kept_at.result.now c.weave-weave.result.now c.kept_at.ensures c.weave-weave.ensures)
     c.in_ok-bytes.bytes c.in_ok-bytes.ensures

@@ -42,7 +42,7 @@ invariant_of-result c =
     let names = ap length c.in_ok-names.ensures.names ∙ length-map-range_with_len auto_name 0 c.len.result in
     let len = c.len.ensures in
     let size = c.args.founds.ok.0 in
-    let founds : length c.in_ok-founds.founds.items ≡ length c.args.founds.items = ap length c.in_ok-founds.ensures.same in
+    let founds : length c.in_ok-founds.founds ≡ length c.args.founds.items = ap length c.in_ok-founds.ensures in
     let kepts = routes_long _ _ _ c.in_ok-kepts.ensures.routes in
     let same : length c.deref-2.result.now ≡ length c.args.founds.items = ap length c.deref-2.ensures.value in
     let few = c.requires.opens.few in
@@ -51,7 +51,6 @@ invariant_of-result c =
       kepts = omega (arith, names, len, size, kepts, same);
       few = omega (arith, names, len, size, few);
       names_room = c.in_ok-names.ensures.room;
-      founds_room = c.in_ok-founds.ensures.room;
       kepts_room = c.in_ok-kepts.ensures.room;
       words = _;
     }
@@ -65,8 +64,8 @@ returns-clause-stands c =
     let len = c.len.ensures in
     let size = c.args.founds.ok.0 in
     let count : c.len.result ≡ length c.args.founds.items = omega (arith, len, size) in
-    opened_stands c.regions_lie_in_windows.ensures.there c.args.topo c.args.windows.items c.args.start c.enabled-image.result c.args.founds.items c.in_ok-founds.founds.items
-    c.in_ok-names.names.items c.in_ok-kepts.kepts.items machine image (c.in_ok-names.ensures.names ∙ ap (λ (n : ℕ). map auto_name (range_with_len 0 n)) count) c.in_ok-founds.ensures.same
+    opened_stands c.regions_lie_in_windows.ensures.there c.args.topo c.args.windows.items c.args.start c.enabled-image.result c.args.founds.items c.in_ok-founds.founds
+    c.in_ok-names.names.items c.in_ok-kepts.kepts.items machine image (c.in_ok-names.ensures.names ∙ ap (λ (n : ℕ). map auto_name (range_with_len 0 n)) count) c.in_ok-founds.ensures
     (subst (λ (ws : List WindowFields). AreRoutesOf (system_of c.enabled-image.result c.args.topo ws) c.args.founds.items c.in_ok-kepts.kepts.items) c.deref.ensures.value
     (subst (λ (fs : List Found). AreRoutesOf (system_of c.enabled-image.result c.args.topo c.deref.result.now) fs c.in_ok-kepts.kepts.items) c.deref-2.ensures.value c.in_ok-kepts.ensures.routes))
 

@@ -6,22 +6,22 @@ use Rattle.cxl_session.proofs.session.Session.range.Goals as goal
 pub window_at-window-requires : goal.window_at-window-requires
 window_at-window-requires c =
     let (m, stands, is) = c.requires.stands in
-    window_within c.args.self.now m stands is c.args.reach c.in-Ok.place (c.in-Ok.ensures m stands) c.found_at-found.result.now c.found_at-found.ensures c.regions_lie_in_windows.ensures.there
+    window_within c.args.self.now m stands is c.args.reach c.in-Ok.place (c.in-Ok.ensures m stands is) c.found_at-found.result.now c.found_at-found.ensures c.regions_lie_in_windows.ensures.there
 
 pub extents-requires-clause-region : goal.extents-requires-clause-region
 extents-requires-clause-region c =
     let (m, stands, is) = c.requires.stands in (
       m.settled,
       is.settled.system,
-      region_there c.args.self.now m stands is c.args.reach c.in-Ok.place (c.in-Ok.ensures m stands) c.found_at-found.result.now c.found_at-found.ensures c.window_at-window.result.now c.window_at-window.ensures,
+      region_there c.args.self.now m stands is c.args.reach c.in-Ok.place (c.in-Ok.ensures m stands is) c.found_at-found.result.now c.found_at-found.ensures c.window_at-window.result.now c.window_at-window.ensures,
     )
 
 pub extents-requires-clause-from : goal.extents-requires-clause-from
 extents-requires-clause-from c =
     let (m, stands, is) = c.requires.stands in
-    lies_from c.args.self.now m is c.args.reach.h c.args.reach.len c.in-Ok.place (c.in-Ok.ensures m stands) c.found_at-found.result.now c.found_at-found.ensures
+    lies_from c.args.self.now m is c.args.reach.h c.args.reach.len c.in-Ok.place (c.in-Ok.ensures m stands is) c.found_at-found.result.now c.found_at-found.ensures
 
 pub returns : goal.returns
 returns c = λ m stands is.
-    ranged c.args.self.now m stands is c.args.reach c.in-Ok.place (c.in-Ok.ensures m stands) c.found_at-found.result.now c.found_at-found.ensures c.window_at-window.result.now c.window_at-window.ensures
+    ranged c.args.self.now m stands is c.args.reach c.in-Ok.place (c.in-Ok.ensures m stands is) c.found_at-found.result.now c.found_at-found.ensures c.window_at-window.result.now c.window_at-window.ensures
     c.new.result c.in_ok-endpoints.endpoints (c.new.ensures ∙ c.in_ok-extents.ensures.exact) c.in_ok-endpoints.ensures

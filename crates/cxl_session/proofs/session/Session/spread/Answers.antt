@@ -5,22 +5,22 @@ use Rattle.cxl_session.proofs.session.Session.spread.Goals as goal
 pub window_at-requires : goal.window_at-requires
 window_at-requires c =
     let (m, stands, is) = c.requires.stands in
-    window_within c.args.self.now m stands is c.args.reach c.in-Ok.place (c.in-Ok.ensures m stands) c.found_at-found.result.now c.found_at-found.ensures c.regions_lie_in_windows.ensures.there
+    window_within c.args.self.now m stands is c.args.reach c.in-Ok.place (c.in-Ok.ensures m stands is) c.found_at-found.result.now c.found_at-found.ensures c.regions_lie_in_windows.ensures.there
 
 pub spread-bytes-requires-clause-region : goal.spread-bytes-requires-clause-region
 spread-bytes-requires-clause-region c =
     let (m, stands, is) = c.requires.stands in (
       m.settled,
       is.settled.system,
-      region_there c.args.self.now m stands is c.args.reach c.in-Ok.place (c.in-Ok.ensures m stands) c.found_at-found.result.now c.found_at-found.ensures c.window_at.result.now c.window_at.ensures,
+      region_there c.args.self.now m stands is c.args.reach c.in-Ok.place (c.in-Ok.ensures m stands is) c.found_at-found.result.now c.found_at-found.ensures c.window_at.result.now c.window_at.ensures,
     )
 
 pub spread-bytes-requires-clause-from : goal.spread-bytes-requires-clause-from
 spread-bytes-requires-clause-from c =
     let (m, stands, is) = c.requires.stands in
-    lies_from c.args.self.now m is c.args.reach.h c.args.reach.len c.in-Ok.place (c.in-Ok.ensures m stands) c.found_at-found.result.now c.found_at-found.ensures
+    lies_from c.args.self.now m is c.args.reach.h c.args.reach.len c.in-Ok.place (c.in-Ok.ensures m stands is) c.found_at-found.result.now c.found_at-found.ensures
 
 pub returns : goal.returns
 returns c = λ m stands is.
-    spreaded c.args.self.now m stands is c.args.reach c.in-Ok.place (c.in-Ok.ensures m stands) c.found_at-found.result.now c.found_at-found.ensures c.window_at.result.now c.window_at.ensures
+    spreaded c.args.self.now m stands is c.args.reach c.in-Ok.place (c.in-Ok.ensures m stands is) c.found_at-found.result.now c.found_at-found.ensures c.window_at.result.now c.window_at.ensures
     c.spread-bytes.result c.in_ok-endpoints.endpoints c.spread-bytes.ensures.exact c.in_ok-endpoints.ensures

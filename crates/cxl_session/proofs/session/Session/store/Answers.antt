@@ -24,7 +24,7 @@ overflow_sub-store g c =
     let m : Machine = c.requires.holds.0 in
     let holds = c.requires.holds.1 in
     let here =
-    site session m holds.machine store bytes c.in-Ok.place c.items-bytes.ensures (c.in-Ok.ensures m holds.stands) found c.found_at-found.ensures c.kept_at.result.now c.kept_at.ensures weave c.weave-weave.ensures in
+    site session m holds.machine store bytes c.in-Ok.place c.items-bytes.ensures (c.in-Ok.ensures m holds.stands holds.machine) found c.found_at-found.ensures c.kept_at.result.now c.kept_at.ensures weave c.weave-weave.ensures in
     let w : WindowFields = region_window m.settled here.region.found in
     let long : length bytes ≡ length store.bytes = ap (λ (xs : List ℕ). length xs) c.items-bytes.ensures in
     here.from
@@ -39,7 +39,7 @@ device_byte-first-requires-clause-region g c =
     let m : Machine = c.requires.holds.0 in
     let holds = c.requires.holds.1 in
     let here =
-    site session m holds.machine store bytes c.in-Ok.place c.items-bytes.ensures (c.in-Ok.ensures m holds.stands) found c.found_at-found.ensures c.kept_at.result.now c.kept_at.ensures weave c.weave-weave.ensures in
+    site session m holds.machine store bytes c.in-Ok.place c.items-bytes.ensures (c.in-Ok.ensures m holds.stands holds.machine) found c.found_at-found.ensures c.kept_at.result.now c.kept_at.ensures weave c.weave-weave.ensures in
     let w : WindowFields = region_window m.settled here.region.found in
     let long : length bytes ≡ length store.bytes = ap (λ (xs : List ℕ). length xs) c.items-bytes.ensures in
     (m.settled, w, here.woven)
@@ -54,7 +54,7 @@ device_byte-first-requires-clause-from g c =
     let m : Machine = c.requires.holds.0 in
     let holds = c.requires.holds.1 in
     let here =
-    site session m holds.machine store bytes c.in-Ok.place c.items-bytes.ensures (c.in-Ok.ensures m holds.stands) found c.found_at-found.ensures c.kept_at.result.now c.kept_at.ensures weave c.weave-weave.ensures in
+    site session m holds.machine store bytes c.in-Ok.place c.items-bytes.ensures (c.in-Ok.ensures m holds.stands holds.machine) found c.found_at-found.ensures c.kept_at.result.now c.kept_at.ensures weave c.weave-weave.ensures in
     let w : WindowFields = region_window m.settled here.region.found in
     let long : length bytes ≡ length store.bytes = ap (λ (xs : List ℕ). length xs) c.items-bytes.ensures in
     here.from
@@ -69,7 +69,7 @@ put_one-requires g c =
     let m : Machine = c.requires.holds.0 in
     let holds = c.requires.holds.1 in
     let here =
-    site session m holds.machine store bytes c.in-Ok.place c.items-bytes.ensures (c.in-Ok.ensures m holds.stands) found c.found_at-found.ensures c.kept_at.result.now c.kept_at.ensures weave c.weave-weave.ensures in
+    site session m holds.machine store bytes c.in-Ok.place c.items-bytes.ensures (c.in-Ok.ensures m holds.stands holds.machine) found c.found_at-found.ensures c.kept_at.result.now c.kept_at.ensures weave c.weave-weave.ensures in
     let w : WindowFields = region_window m.settled here.region.found in
     let long : length bytes ≡ length store.bytes = ap (λ (xs : List ℕ). length xs) c.items-bytes.ensures in
     let offset : ℕ = store.h - found.base in
@@ -88,7 +88,7 @@ returns-then-is_empty-clause-answer g c = λ m holds.
     let weave : WeaveFields = c.weave-weave.result.now in
     let bytes : List ℕ = c.items-bytes.result.now in
     let here =
-    site session m holds.machine store bytes c.in-Ok.place c.items-bytes.ensures (c.in-Ok.ensures m holds.stands) found c.found_at-found.ensures c.kept_at.result.now c.kept_at.ensures weave c.weave-weave.ensures in
+    site session m holds.machine store bytes c.in-Ok.place c.items-bytes.ensures (c.in-Ok.ensures m holds.stands holds.machine) found c.found_at-found.ensures c.kept_at.result.now c.kept_at.ensures weave c.weave-weave.ensures in
     let w : WindowFields = region_window m.settled here.region.found in
     let long : length bytes ≡ length store.bytes = ap (λ (xs : List ℕ). length xs) c.items-bytes.ensures in
     let offset : ℕ = store.h - found.base in
@@ -116,7 +116,7 @@ overflow_add-store g c =
     let m : Machine = c.requires.holds.0 in
     let holds = c.requires.holds.1 in
     let here =
-    site session m holds.machine store bytes c.in-Ok.place c.items-bytes.ensures (c.in-Ok.ensures m holds.stands) found c.found_at-found.ensures c.kept_at.result.now c.kept_at.ensures weave c.weave-weave.ensures in
+    site session m holds.machine store bytes c.in-Ok.place c.items-bytes.ensures (c.in-Ok.ensures m holds.stands holds.machine) found c.found_at-found.ensures c.kept_at.result.now c.kept_at.ensures weave c.weave-weave.ensures in
     let w : WindowFields = region_window m.settled here.region.found in
     let long : length bytes ≡ length store.bytes = ap (λ (xs : List ℕ). length xs) c.items-bytes.ensures in
     let offset : ℕ = store.h - found.base in
@@ -138,7 +138,7 @@ device_byte-second-requires-clause-region g c =
     let m : Machine = c.requires.holds.0 in
     let holds = c.requires.holds.1 in
     let here =
-    site session m holds.machine store bytes c.in-Ok.place c.items-bytes.ensures (c.in-Ok.ensures m holds.stands) found c.found_at-found.ensures c.kept_at.result.now c.kept_at.ensures weave c.weave-weave.ensures in
+    site session m holds.machine store bytes c.in-Ok.place c.items-bytes.ensures (c.in-Ok.ensures m holds.stands holds.machine) found c.found_at-found.ensures c.kept_at.result.now c.kept_at.ensures weave c.weave-weave.ensures in
     let w : WindowFields = region_window m.settled here.region.found in
     let long : length bytes ≡ length store.bytes = ap (λ (xs : List ℕ). length xs) c.items-bytes.ensures in
     (m.settled, w, here.woven)
@@ -153,7 +153,7 @@ put_two-requires-clause-front g c =
     let m : Machine = c.requires.holds.0 in
     let holds = c.requires.holds.1 in
     let here =
-    site session m holds.machine store bytes c.in-Ok.place c.items-bytes.ensures (c.in-Ok.ensures m holds.stands) found c.found_at-found.ensures c.kept_at.result.now c.kept_at.ensures weave c.weave-weave.ensures in
+    site session m holds.machine store bytes c.in-Ok.place c.items-bytes.ensures (c.in-Ok.ensures m holds.stands holds.machine) found c.found_at-found.ensures c.kept_at.result.now c.kept_at.ensures weave c.weave-weave.ensures in
     let w : WindowFields = region_window m.settled here.region.found in
     let long : length bytes ≡ length store.bytes = ap (λ (xs : List ℕ). length xs) c.items-bytes.ensures in
     let offset : ℕ = store.h - found.base in
@@ -175,7 +175,7 @@ put_two-requires-clause-back g c =
     let m : Machine = c.requires.holds.0 in
     let holds = c.requires.holds.1 in
     let here =
-    site session m holds.machine store bytes c.in-Ok.place c.items-bytes.ensures (c.in-Ok.ensures m holds.stands) found c.found_at-found.ensures c.kept_at.result.now c.kept_at.ensures weave c.weave-weave.ensures in
+    site session m holds.machine store bytes c.in-Ok.place c.items-bytes.ensures (c.in-Ok.ensures m holds.stands holds.machine) found c.found_at-found.ensures c.kept_at.result.now c.kept_at.ensures weave c.weave-weave.ensures in
     let w : WindowFields = region_window m.settled here.region.found in
     let long : length bytes ≡ length store.bytes = ap (λ (xs : List ℕ). length xs) c.items-bytes.ensures in
     let offset : ℕ = store.h - found.base in
@@ -199,7 +199,7 @@ put_two-requires-clause-apart g c =
     let m : Machine = c.requires.holds.0 in
     let holds = c.requires.holds.1 in
     let here =
-    site session m holds.machine store bytes c.in-Ok.place c.items-bytes.ensures (c.in-Ok.ensures m holds.stands) found c.found_at-found.ensures c.kept_at.result.now c.kept_at.ensures weave c.weave-weave.ensures in
+    site session m holds.machine store bytes c.in-Ok.place c.items-bytes.ensures (c.in-Ok.ensures m holds.stands holds.machine) found c.found_at-found.ensures c.kept_at.result.now c.kept_at.ensures weave c.weave-weave.ensures in
     let w : WindowFields = region_window m.settled here.region.found in
     let long : length bytes ≡ length store.bytes = ap (λ (xs : List ℕ). length xs) c.items-bytes.ensures in
     let offset : ℕ = store.h - found.base in
@@ -220,7 +220,7 @@ returns-clause-answer g c = λ m holds.
     let weave : WeaveFields = c.weave-weave.result.now in
     let bytes : List ℕ = c.items-bytes.result.now in
     let here =
-    site session m holds.machine store bytes c.in-Ok.place c.items-bytes.ensures (c.in-Ok.ensures m holds.stands) found c.found_at-found.ensures c.kept_at.result.now c.kept_at.ensures weave c.weave-weave.ensures in
+    site session m holds.machine store bytes c.in-Ok.place c.items-bytes.ensures (c.in-Ok.ensures m holds.stands holds.machine) found c.found_at-found.ensures c.kept_at.result.now c.kept_at.ensures weave c.weave-weave.ensures in
     let w : WindowFields = region_window m.settled here.region.found in
     let long : length bytes ≡ length store.bytes = ap (λ (xs : List ℕ). length xs) c.items-bytes.ensures in
     let offset : ℕ = store.h - found.base in

@@ -1,0 +1,7 @@
+//! The live regions of a session, found by a host address.
+#![tactic(auto)]
+
+mod ordering;
+mod regions;
+
+pub use regions::{LiveRegions, REGION_LIMIT};
