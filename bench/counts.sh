@@ -1,19 +1,17 @@
 #!/usr/bin/env bash
-# Counts what the program takes for large files of four sizes: instructions of its own, with their growth from size to
-# size, allocations, and the most memory that is allocated at once in the run. A part of a job is the difference of two runs that agree up to it.
+# Counts what the program takes for large files of four sizes each: instructions of its own, with their growth from size to
+# size, allocations, and the most memory that is allocated at once in the run. A part of a job is the difference of two runs
+# that agree up to it.
 #
-# bench/counts.sh [JOB..]    these of the jobs `plan` and `check`, or all
+# bench/counts.sh [JOB..]    these of the jobs `plan`, `check`, `tables` and `topology`, or all
 #
 # It wants valgrind: callgrind counts the instructions, dhat the allocations and the bytes of them in use at once. The
 # files are made in a folder that it takes away again, and each answer is compared with one worked out here. README.md
 # says what the rows mean.
 set -euo pipefail
-if ! command -v valgrind >/dev/null; then
-    echo "counts.sh: valgrind is not installed" >&2
-    exit 2
-fi
 source "$(dirname "${BASH_SOURCE[0]}")/common.sh"
-"$top/cxlplan" --version >"$work/version"
+needs_valgrind
+with_program
 
 cat >"$work/counts.py" <<'END'
 import re
@@ -21,29 +19,33 @@ import struct
 import subprocess
 import sys
 
+from shared import ENDPOINTS, GROUP, REGIONS, SIZE, SWITCHES, UNIT, WAYS, cedt, chbs, full_host, groups_of, put, regions_of, table, with_control
+
 PROGRAM, WORK, WANTED = sys.argv[1], sys.argv[2], sys.argv[3:]
-SIZES = (128, 256, 512, 1024)
-UNIT = 2**28
+# The reader of TOML, which is another project's.
+TOML = re.compile(r"(^|:)toml(_\w+)?(::|\+\+)")
 
 # ---- runs
 
 
 class Counts:
-    """Instructions and allocations, and the most bytes that are allocated at once."""
+    """Instructions, those of them that are the reader's of TOML, and allocations; and the most bytes that are allocated at once."""
 
-    def __init__(self, instructions, allocations, memory):
-        self.instructions, self.allocations, self.memory = instructions, allocations, memory
+    def __init__(self, instructions, toml, allocations, memory):
+        self.instructions, self.toml, self.allocations, self.memory = instructions, toml, allocations, memory
 
     def past(self, other):
         """What comes after another run's end, of a run that agrees with it so far."""
-        return Counts(self.instructions - other.instructions, self.allocations - other.allocations, self.memory)
+        return Counts(
+            self.instructions - other.instructions, self.toml - other.toml, self.allocations - other.allocations, self.memory
+        )
+
+    def without_toml(self):
+        return Counts(self.instructions - self.toml, 0, self.allocations, self.memory)
 
 
-def put(name, made):
-    path = f"{WORK}/{name}"
-    with open(path, "wb") as it:
-        it.write(made)
-    return path
+def files(*made):
+    return [put(f"{WORK}/file{i}", it) for i, it in enumerate(made)]
 
 
 def found(pattern, text):
@@ -55,139 +57,77 @@ def valgrind(tool, words):
     return ran.stderr
 
 
-def counted(words, wanted):
+def taken_by_toml(profile):
+    """What the calls of the reader of TOML cost with all that they call."""
+    names, own, callee, cost, cost_is_next = {}, "", "", 0, False
+    for line in profile:
+        if it := re.match(r"(c?)fn=\((\d+)\)(?: (.*))?", line):
+            name = names.setdefault(it[2], it[3])
+            callee, own = (name, own) if it[1] else (callee, name)
+        elif line.startswith("calls="):
+            cost_is_next = bool(TOML.search(callee) and not TOML.search(own))
+        elif cost_is_next:
+            cost += int(line.split()[-1])
+            cost_is_next = False
+    return cost
+
+
+def counted(words, status, text):
     """What a run takes that has to answer with this status and text."""
-    ran = subprocess.run([PROGRAM, *words], stdout=subprocess.PIPE, stderr=subprocess.DEVNULL, text=True)
-    said = (ran.returncode, ran.stdout)
-    if said != wanted:
-        sys.exit(f"{words}: {said[0]} {said[1][:400]}, not {wanted[0]} {wanted[1][:400]}")
-    calls = valgrind(["--tool=callgrind", f"--callgrind-out-file={WORK}/callgrind"], words)
+    wanted = (status, text if isinstance(text, bytes) else text.encode())
+    ran = subprocess.run([PROGRAM, *words], stdout=subprocess.PIPE, stderr=subprocess.DEVNULL)
+    if (ran.returncode, ran.stdout) != wanted:
+        sys.exit(f"{words}: {ran.returncode} {ran.stdout[:400]}, not {wanted[0]} {wanted[1][:400]}")
+    profile = f"{WORK}/callgrind"
+    calls = valgrind(["--tool=callgrind", "--compress-pos=no", f"--callgrind-out-file={profile}"], words)
     heap = valgrind(["--tool=dhat", f"--dhat-out-file={WORK}/dhat"], words)
+    with open(profile) as it:
+        toml = taken_by_toml(it)
     return Counts(
         found(r"Collected : (\d+)", calls),
+        toml,
         found(r"Total: +[\d,]+ bytes in ([\d,]+) blocks", heap),
         found(r"At t-gmax: +([\d,]+) bytes", heap),
     )
 
 
-# ---- hosts
-
-# Each bridge has two switches, and each of these eight endpoints.
-GROUP, SWITCHES, ENDPOINTS, WAYS = 19, 2, 8, 16
-
-
-def table(bridges, windows):
-    """The bridges, and windows of this base and these bytes, each over the bridge of this UID."""
-    chbs = [struct.pack("<BBHIIIQQ", 0, 0, 32, uid, 1, 0, 2**50 + uid * 2**16, 2**16) for uid in range(bridges)]
-    cfmws = [
-        struct.pack("<BBHIQQBBHIHHI", 1, 0, 40, 0, base, size, 0, 0, 0, 0, 0x0E, 0, uid) for base, size, uid in windows
-    ]
-    records = b"".join(chbs + cfmws)
-    made = bytearray(struct.pack("<4sIBB26x", b"CEDT", 36 + len(records), 1, 0) + records)
-    made[9] = -sum(made) % 256
-    return bytes(made)
-
-
-def topology(nodes, memory):
-    """As many groups as there is room for, with this memory of an endpoint by its group, and endpoints beside them."""
-    groups = nodes // GROUP
-    bridges = [f'{{ name = "b{g}", uid = {g}, decoders = 10 }}' for g in range(groups)]
-    switches = [
-        f'{{ name = "s{g}_{s}", parent = "b{g}", port = {s}, decoders = 10 }}' for g in range(groups) for s in range(SWITCHES)
-    ]
-    ends = [
-        f'{{ name = "e{g}_{s}_{e}", parent = "s{g}_{s}", port = {e}, decoders = 10, {memory(g)} }}'
-        for g in range(groups)
-        for s in range(SWITCHES)
-        for e in range(ENDPOINTS)
-    ]
-    idle = nodes - groups * GROUP
-    ends += [f'{{ name = "x{i}", parent = "b0", port = {SWITCHES + i}, decoders = 10, ram = {UNIT} }}' for i in range(idle)]
-    lists = (("bridge", bridges), ("switch", switches), ("endpoint", ends))
-    return "".join(f"{name} = [\n  {', '.join(made)}\n]\n" for name, made in lists).encode()
-
-
 # ---- plan: sixteen ways in the last of 64 windows, each of which could take them but for the memory below it
 
-WINDOWS, SIZE = 64, WAYS * UNIT
+WINDOWS = 64
 
 
 def plan(nodes):
     last = nodes // GROUP - 1
     windows = [((n + 1) * 2 * SIZE, SIZE, n % last if n < WINDOWS - 1 else last) for n in range(WINDOWS)]
-    files = [
-        put("table", table(last + 1, windows)),
-        put("topology", topology(nodes, lambda g: f"{'ram' if g == last else 'pmem'} = {UNIT}")),
-    ]
+    read = files(table(last + 1, windows), groups_of(nodes, lambda g: f"{'ram' if g == last else 'pmem'} = {UNIT}"))
     rows = [f"plan r ram window {WINDOWS - 1} base {windows[-1][0]:#x} size {SIZE:#x} gran 256 ways {WAYS}"]
     rows.append(f"row b{last} 0 ways {SWITCHES} gran 256 targets {','.join(map(str, range(SWITCHES)))}")
     ports = ",".join(map(str, range(ENDPOINTS)))
     rows += [f"row s{last}_{s} 0 ways {ENDPOINTS} gran 512 targets {ports}" for s in range(SWITCHES)]
     rows += [f"row e{last}_{s}_{e} 0 ways {WAYS} gran 256 skip 0x0" for s in range(SWITCHES) for e in range(ENDPOINTS)]
-    refused = counted(["plan", *files, f"create r ram {SIZE:#x} nobody"], (8, "no such endpoint nobody\n"))
-    whole = counted(["plan", *files, f"create r ram {SIZE:#x} ways={WAYS}"], (0, "\n".join(rows) + "\n"))
+    refused = counted(["plan", *read, f"create r ram {SIZE:#x} nobody"], 8, "no such endpoint nobody\n")
+    whole = counted(["plan", *read, f"create r ram {SIZE:#x} ways={WAYS}"], 0, "\n".join(rows) + "\n")
     return [("plan ways=16: files", refused), ("plan ways=16: the pick", whole.past(refused))]
 
 
 # ---- check: ten regions of sixteen ways in the window of each bridge
 
-REGIONS = 10
-PORT, ENDPOINT = 0x385, 0x1B05
-
-
-def block(cap, group, control, tail):
-    words = [cap, 2 * (cap == ENDPOINT), 0, 0]
-    for r in range(REGIONS):
-        base = (group * REGIONS + r + REGIONS) * SIZE
-        words += [base & 0xF0000000, base >> 32, SIZE & 0xF0000000, SIZE >> 32, control, tail & 0xFFFFFFFF, tail >> 32, 0]
-    return struct.pack(f"<{len(words)}I", *words)
-
-
-def image(nodes):
-    groups = nodes // GROUP
-    ports = int.from_bytes(bytes(range(8)), "little")
-    bridges = [block(PORT, g, 0x1610, ports & 0xFFFF) for g in range(groups)]
-    switches = [block(PORT, g, 0x1631, ports) for g in range(groups) for _ in range(SWITCHES)]
-    ends = [block(ENDPOINT, g, 0x1640, 0) for g in range(groups) for _ in range(WAYS)]
-    empty = [struct.pack("<I", ENDPOINT) + bytes(12 + 32 * REGIONS)] * (nodes - groups * GROUP)
-    return struct.pack("<8sI", b"CXLHDM01", nodes) + b"".join(bridges + switches + ends + empty)
-
-
-def regions(groups):
-    for g in range(groups):
-        for r in range(REGIONS):
-            yield f"region {(g * REGIONS + r + REGIONS) * SIZE:#x} size {SIZE:#x} window {g} gran 256 ways {WAYS} ram"
-            for slot in range(WAYS):
-                yield f"slot {slot} e{g}_{slot % SWITCHES}_{slot // SWITCHES} {r * UNIT:#x}"
-
 
 def check(nodes):
-    groups = nodes // GROUP
-    files = [
-        put("table", table(groups, [((g + 1) * REGIONS * SIZE, REGIONS * SIZE, g) for g in range(groups)])),
-        put("topology", topology(nodes, lambda g: f"ram = {REGIONS * UNIT}")),
-        f"{WORK}/image",
-    ]
-    made = image(nodes)
-    # The control word of the last decoder of the last endpoint of a group.
-    at = 12 + (16 + 32 * REGIONS) * groups * GROUP - 16
-    end = f"e{groups - 1}_{SWITCHES - 1}_{ENDPOINTS - 1} {REGIONS - 1}"
+    *host, image = full_host(nodes)
 
     def answer(changed, status, text):
-        put("image", changed)
-        return counted(["check", *files], (status, text))
+        return counted(["check", *files(*host, changed)], status, text)
 
-    def with_control(control):
-        changed = bytearray(made)
-        assert struct.unpack_from("<I", made, at)[0] == 0x1640
-        struct.pack_into("<I", changed, at, control)
-        return bytes(changed)
+    def breach(control, rule):
+        changed, decoder = with_control(nodes, image, control)
+        return answer(changed, 8, f"breach {rule} {decoder}\n")
 
     # No bytes; the last decoder with a code of no granularity; the last decoder with another granularity; the whole.
     read = answer(b"", 10, "error: image cut 0\n")
-    blocks = answer(with_control(0x164F), 8, f"breach K4 {end}\n")
-    ranges = answer(with_control(0x1641), 8, f"breach K12 {end}\n")
-    whole = answer(made, 0, "\n".join(regions(groups)) + "\n")
+    blocks = breach(0x164F, "K4")
+    ranges = breach(0x1641, "K12")
+    whole = answer(image, 0, regions_of(nodes))
     return [
         ("check: table, topology", read),
         ("check: image, K1 to K8", blocks.past(read)),
@@ -196,9 +136,44 @@ def check(nodes):
     ]
 
 
+# ---- tables: route and normal
+
+
+def large_table(size):
+    """64 bridges, 64 windows of two ways, 64 times XOR maps, and records of no known type and no body in the rest."""
+    records = b"".join(chbs(uid) for uid in range(64))
+    for n in range(64):
+        front = struct.pack("<BBHIQQBBHIHH", 1, 0, 44, 0, 2**32 + n * 2 * UNIT, 2 * UNIT, 1, 0, 0, 0, 0x06, 0)
+        records += front + struct.pack("<II", n, (n + 1) % 64)
+    records += b"".join(struct.pack("<BBHHBBQ", 2, 0, 16, 0, n % 7, 1, 0x404100) for n in range(64))
+    return cedt(records + struct.pack("<BBH", 4, 0, 4) * ((size - 36 - len(records)) // 4))
+
+
+def tables(size):
+    made = large_table(size)
+    read = files(made)
+    return [("route", counted(["route", *read, "5"], 8, "no window\n")), ("normal", counted(["normal", *read], 0, made))]
+
+
+# ---- topology: how it is read, and the image over it
+
+
+def topology(nodes):
+    host = full_host(nodes)
+    idle = nodes % GROUP - 1
+    # The error bit of the last decoder of the last idle endpoint is set.
+    marred = host[2][:-16] + struct.pack("<I", 1 << 11) + host[2][-12:]
+    nothing = counted(["check", *files(host[0], "=", "CXLHDM00")], 4, "error: topology toml\n")
+    read = counted(["check", *files(*host[:2], "CXLHDM00")], 10, "error: image magic\n")
+    image = counted(["check", *files(*host[:2], marred)], 8, f"breach K3 x{idle} {REGIONS - 1}\n")
+    own = read.past(nothing)
+    return [("topology", own), ("topology, without TOML", own.without_toml()), ("image, and K1 to K8", image.past(read))]
+
+
 # ---- the jobs, each a function from a size to rows of a name and counts; new ones are named here
 
-JOBS = {"plan": (plan, SIZES), "check": (check, SIZES)}
+NODES, BYTES = (128, 256, 512, 1024), (2**17, 2**18, 2**19, 2**20)
+JOBS = {"plan": (plan, NODES), "check": (check, NODES), "tables": (tables, BYTES), "topology": (topology, NODES)}
 
 unknown = [name for name in WANTED if name not in JOBS]
 if unknown:
@@ -218,4 +193,4 @@ for name in WANTED or JOBS:
             )
 END
 
-python3 "$work/counts.py" "$top/crates/cxlplan/out/cxlplan" "$work" "$@"
+python3 "$work/counts.py" "$cxlplan" "$work" "$@"

@@ -8,54 +8,26 @@
 # The files are made in a folder that it takes away again, and each answer is compared with one worked out here.
 # README.md says what the columns mean.
 set -euo pipefail
-if [[ ! "${1:-20}" =~ ^[1-9][0-9]*$ ]]; then
-    echo "plan.sh: $1 is no number of runs" >&2
-    exit 2
-fi
-top="$(cd "$(dirname "${BASH_SOURCE[0]}")/.." && pwd)"
-work="$(mktemp -d)"
-trap 'rm -rf "$work"' EXIT
-"$top/cxlplan" --version >"$work/version"
+source "$(dirname "${BASH_SOURCE[0]}")/common.sh"
+is_number_of_runs "${1:-20}"
+with_program
 
 cat >"$work/plan.py" <<'END'
-import os
-import struct
 import sys
+
+from shared import ENDPOINTS, GROUP, SIZE, SWITCHES, UNIT, WAYS, put, table, timed, tree
 
 PROGRAM, WORK, RUNS = sys.argv[1], sys.argv[2], int(sys.argv[3])
 FILES = [f"{WORK}/{name}" for name in ("table", "topology")]
-UNIT = 2**28
-WAYS = 16
-SIZE = WAYS * UNIT
 WINDOWS = 64
 # The nodes of a tree of five levels above its endpoints, from the bridge down.
 LEVELS = (1, 1, 2, 4, 8)
-# Each bridge of a wide topology has two switches, and each of these eight endpoints.
-GROUP, SWITCHES, ENDPOINTS = 19, 2, 8
 # A line that is refused as soon as the files are read.
 REFUSED = (f"create r ram {SIZE:#x} nobody", (8, "no such endpoint nobody\n"))
 
 
-def table(bridges, windows):
-    """The bridges, and windows of so many bytes, each over the bridge of this UID."""
-    chbs = [struct.pack("<BBHIIIQQ", 0, 0, 32, uid, 1, 0, 2**50 + uid * 2**16, 2**16) for uid in range(bridges)]
-    cfmws = [
-        struct.pack("<BBHIQQBBHIHHI", 1, 0, 40, 0, base_of(n), size, 0, 0, 0, 0, 0x0E, 0, uid)
-        for n, (size, uid) in enumerate(windows)
-    ]
-    records = b"".join(chbs + cfmws)
-    made = bytearray(struct.pack("<4sIBB26x", b"CEDT", 36 + len(records), 1, 0) + records)
-    made[9] = -sum(made) % 256
-    return bytes(made)
-
-
 def base_of(window):
     return (window + 1) * 2 * SIZE
-
-
-def topology(bridges, switches, ends):
-    lists = (("bridge", bridges), ("switch", switches), ("endpoint", ends))
-    return "".join(f"{name} = [\n  {', '.join(nodes)}\n]\n" for name, nodes in lists).encode()
 
 
 def node(name, parent, port, more=""):
@@ -94,8 +66,8 @@ def deep(nodes):
     switches = [made for level in range(1, len(LEVELS)) for made in below(level)]
     used = sum(map(len, levels))
     own = below(len(LEVELS), f", ram = {UNIT}")
-    tree = topology(['{ name = "b0", uid = 0 }'], switches, own + idle_ends(nodes - used, sum(names, [])))
-    windows = [(SIZE - UNIT, 0)] * (WINDOWS - 1) + [(SIZE, 0)]
+    topology = tree(['{ name = "b0", uid = 0 }'], switches, own + idle_ends(nodes - used, sum(names, [])))
+    windows = [(base_of(n), SIZE - UNIT * (n < WINDOWS - 1), 0) for n in range(WINDOWS)]
     rows, code = [], 0
     for level, own_names in enumerate(names):
         ports = range(len(levels[level + 1]) // len(own_names))
@@ -103,7 +75,7 @@ def deep(nodes):
         code += len(ports).bit_length() - 1
     text = head(WINDOWS - 1, WAYS) + "".join(rows + [end_row(name) for name in ends])
     line = f"create r ram {SIZE:#x} {' '.join(reversed(ends))}"
-    return table(1, windows), tree, (line, (0, text))
+    return table(1, windows), topology, (line, (0, text))
 
 
 def wide(nodes):
@@ -118,30 +90,13 @@ def wide(nodes):
         for s in range(SWITCHES)
         for e in range(ENDPOINTS)
     ]
-    tree = topology(bridges, switches, ends + idle_ends(nodes - groups * GROUP, ["b0"]))
-    windows = [(SIZE, uid) for uid in (0, 1, 2, last)]
+    topology = tree(bridges, switches, ends + idle_ends(nodes - groups * GROUP, ["b0"]))
+    windows = [(base_of(n), SIZE, uid) for n, uid in enumerate((0, 1, 2, last))]
     rows = [port_row(f"b{last}", 0, range(SWITCHES))]
     rows += [port_row(f"s{last}_{s}", 1, range(ENDPOINTS)) for s in range(SWITCHES)]
     rows += [end_row(f"e{last}_{s}_{e}") for s in range(SWITCHES) for e in range(ENDPOINTS)]
     text = head(3, WAYS) + "".join(rows)
-    return table(groups, windows), tree, (f"create r ram {SIZE:#x} ways={WAYS}", (0, text))
-
-
-def run(line):
-    """Status, text, and seconds of the processor, of one run."""
-    out = f"{WORK}/out"
-    child = os.fork()
-    if child == 0:
-        os.dup2(os.open(out, os.O_WRONLY | os.O_CREAT | os.O_TRUNC), 1)
-        os.execv(PROGRAM, [PROGRAM, "plan", *FILES, line])
-    _, status, used = os.wait4(child, 0)
-    with open(out) as it:
-        return (os.waitstatus_to_exitcode(status), it.read()), used.ru_utime + used.ru_stime
-
-
-def put(path, made):
-    with open(path, "wb") as it:
-        it.write(made)
+    return table(groups, windows), topology, (f"create r ram {SIZE:#x} ways={WAYS}", (0, text))
 
 
 def measure(made):
@@ -152,7 +107,7 @@ def measure(made):
     for _ in range(RUNS):
         took = []
         for line, wanted in (made[2], REFUSED):
-            said, seconds = run(line)
+            said, seconds = timed([PROGRAM, "plan", *FILES, line], f"{WORK}/out")
             if said != wanted:
                 sys.exit(f"{line}: {said[0]} {said[1][:400]}, not {wanted[0]} {wanted[1][:400]}")
             took.append(seconds * 1000)
@@ -175,4 +130,4 @@ show("named", (32, 1024), deep)
 show("ways", (128, 256, 512, 1024), wide)
 END
 
-python3 "$work/plan.py" "$top/crates/cxlplan/out/cxlplan" "$work" "${1:-20}"
+python3 "$work/plan.py" "$cxlplan" "$work" "${1:-20}"

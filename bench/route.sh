@@ -7,17 +7,15 @@
 # The tables are made in a folder that it takes away again, and each answer is compared with one worked out here.
 # README.md says what the columns mean.
 set -euo pipefail
-if [[ ! "${1:-10}" =~ ^[1-9][0-9]*$ ]]; then
-    echo "route.sh: $1 is no number of runs" >&2
-    exit 2
-fi
 source "$(dirname "${BASH_SOURCE[0]}")/common.sh"
-"$top/cxlplan" --version >"$work/version"
+is_number_of_runs "${1:-10}"
+with_program
 
 cat >"$work/route.py" <<'END'
-import os
 import struct
 import sys
+
+from shared import chbs, put, timed
 
 PROGRAM, WORK, RUNS = sys.argv[1], sys.argv[2], int(sys.argv[3])
 FILE = f"{WORK}/table"
@@ -31,10 +29,6 @@ SHAPES = ((4, 16, 4, 1), (10, 12, 2, 3), (0, 1, 0, 1))
 MAPS = [1 << 8 + i | sum(1 << bit for bit in range(20 + i, 52, 4)) for i in range(4)]
 # Granularity code 0: chunks of 256 bytes.
 CXIMS = struct.pack("<BBHHBB4Q", 2, 0, 8 + 8 * 4, 0, 0, 4, *MAPS)
-
-
-def chbs(uid):
-    return struct.pack("<BBHIIIQQ", 0, 0, 32, uid, 1, 0, 2**40 + uid * 2**16, 2**16)
 
 
 def targets(n, ways):
@@ -67,7 +61,7 @@ def table(shape, xor, size):
     made = bytearray(head + b"".join(records))
     assert len(made) == LIMIT
     made[9] = -sum(made) % 256
-    return made, len(records)
+    return bytes(made), len(records)
 
 
 def answer(shape, xor, n, offset):
@@ -80,17 +74,7 @@ def answer(shape, xor, n, offset):
 
 
 def run(words):
-    """Status, text, and seconds of the processor, of one run."""
-    out, into = os.pipe()
-    child = os.fork()
-    if child == 0:
-        os.dup2(into, 1)
-        os.execv(PROGRAM, [PROGRAM, *words])
-    os.close(into)
-    text = os.read(out, 4096).decode()
-    os.close(out)
-    _, status, used = os.wait4(child, 0)
-    return (os.waitstatus_to_exitcode(status), text), used.ru_utime + used.ru_stime
+    return timed([PROGRAM, *words], f"{WORK}/out")
 
 
 def measure(names, words, wanted):
@@ -111,8 +95,7 @@ measure(["none: --version", 0, ""], ["--version"], run(["--version"])[0])
 for shape, xor in ((SHAPES[0], 1), (SHAPES[1], 1), (SHAPES[0], 0), (SHAPES[2], 0)):
     for size in (4, 64, 65535):
         made, records = table(shape, xor, size)
-        with open(FILE, "wb") as it:
-            it.write(made)
+        put(FILE, made)
         kind = f"64 of {shape[1]} ways" + ", XOR" * xor
         offset = 0x123456789
         inside = (0, answer(shape, xor, 63, offset))
@@ -120,4 +103,4 @@ for shape, xor in ((SHAPES[0], 1), (SHAPES[1], 1), (SHAPES[0], 0), (SHAPES[2], 0
         measure([kind, records, "none"], ["route", FILE, "5"], (8, "no window\n"))
 END
 
-python3 "$work/route.py" "$top/crates/cxlplan/out/cxlplan" "$work" "${1:-10}"
+python3 "$work/route.py" "$cxlplan" "$work" "${1:-10}"

@@ -8,39 +8,27 @@
 # and each answer is compared with one worked out here. README.md says what the rows mean.
 set -euo pipefail
 source "$(dirname "${BASH_SOURCE[0]}")/common.sh"
-command -v valgrind >/dev/null || { echo "session.sh: valgrind is not there" >&2; exit 2; }
-program="${CXLPLAN:-$top/crates/cxlplan/out/cxlplan}"
-[[ -n "${CXLPLAN:-}" ]] || "$top/cxlplan" --version >"$work/version"
+needs_valgrind
+with_program
 
 cat >"$work/session.py" <<'END'
+import os
 import random
 import re
-import struct
 import subprocess
 import sys
 
+from shared import UNIT, put, table
+
 PROGRAM, WORK, WANTED = sys.argv[1], sys.argv[2], sys.argv[3:]
-BASE, MIB, UNIT = 2**36, 2**20, 2**28
+BASE, MIB = 2**36, 2**20
 COMMANDS = 20000
+os.chdir(WORK)
 
 
-def put(name, made):
-    path = f"{WORK}/{name}"
-    with open(path, "wb") as file:
-        file.write(made if isinstance(made, bytes) else made.encode())
-    return path
-
-
-def table(sizes):
-    """A bridge and a window of one way for each of these sizes, the windows one behind the other."""
-    records = b"".join(struct.pack("<BBHIIIQQ", 0, 0, 32, i, 1, 0, 2**31 + i * 2**16, 2**16) for i in range(len(sizes)))
-    base = BASE
-    for i, size in enumerate(sizes):
-        records += struct.pack("<BBHIQQBBHIHHI", 1, 0, 40, 0, base, size, 0, 0, 0, 0, 0x0E, 0, i)
-        base += size
-    made = bytearray(struct.pack("<4sIBB26x", b"CEDT", 36 + len(records), 1, 0) + records)
-    made[9] = -sum(made) % 256
-    return bytes(made)
+def windows(count, size):
+    """So many bridges, and for each a window of one way and of this size, one behind the other."""
+    return table(count, [(BASE + i * size, size, i) for i in range(count)])
 
 
 def five_levels(ram, frames):
@@ -108,7 +96,7 @@ def most_memory(words, script):
 
 
 def bytes_job():
-    files = [put("a.cedt", table([REGION])), put("a.toml", five_levels(UNIT, 65536))]
+    files = [put("a.cedt", windows(1, REGION)), put("a.toml", five_levels(UNIT, 65536))]
     before = None
     print("| Script | replies | millions of instructions | for each byte | growth | MB at once |\n|---|---|---|---|---|---|")
     for size in (MIB // 4, 2 * MIB, 15 * MIB):
@@ -124,7 +112,7 @@ def bytes_job():
 
 def frames_job():
     """A store to each of 65,536 pieces."""
-    files = [put("a.cedt", table([REGION])), put("a.toml", five_levels(UNIT, 65536))]
+    files = [put("a.cedt", windows(1, REGION)), put("a.toml", five_levels(UNIT, 65536))]
     lines = [f"create r ram {REGION} {ALL}\n"] + [f"store 0x{BASE + 256 * i:x} 5a\n" for i in range(65536)]
     script = put("script", "".join(lines))
     run(["run", *files], script)
@@ -144,7 +132,7 @@ def regions_job():
         bridges = (count + 7) // 8
         nodes = ", ".join(f'{{ name = "hb{i}", uid = {i}, decoders = 10 }}' for i in range(bridges))
         ends = ", ".join(f'{{ name = "e{i}", parent = "hb{i // 8}", port = {i % 8}, ram = {UNIT} }}' for i in range(count))
-        files = [put("b.cedt", table([8 * UNIT] * bridges)), put("b.toml", f"bridge = [{nodes}]\nendpoint = [{ends}]\n")]
+        files = [put("b.cedt", windows(bridges, 8 * UNIT)), put("b.toml", f"bridge = [{nodes}]\nendpoint = [{ends}]\n")]
         creates = "".join(f"create r{i} ram {UNIT} e{i}\n" for i in range(count))
         base = instructions(["run", *files], put("script", creates))
         row, dice = [], random.Random(2)
@@ -159,4 +147,5 @@ JOBS = {"bytes": bytes_job, "frames": frames_job, "gen": gen_job, "regions": reg
 for name in WANTED or JOBS:
     JOBS[name]()
 END
-python3 "$work/session.py" "$program" "$work" "$@"
+
+python3 "$work/session.py" "$cxlplan" "$work" "$@"
