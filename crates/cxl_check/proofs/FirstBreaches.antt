@@ -10,7 +10,7 @@ use Rattle.cxl_model.specs.System.{System, IsSystem, ram_at, pmem_at}
 use Rattle.cxl_model.specs.Accepted.{breaks, breaks_block, IsAccepted, IsFirstBreach, IsOrderlySystem}
 use Rattle.cxl_check.specs.declared.fault.Breach.{Breach}
 use Rattle.cxl_check.specs.Spots.{Keeps, IsFirstSpot}
-use Rattle.cxl_check.specs.inner.Found.{IsFoundBelow}
+use Rattle.cxl_check.specs.inner.Found.{IsFoundAmong}
 use Rattle.cxl_check.proofs.Kept.{no_rule, block_rule}
 use Rattle.cxl_check.proofs.RuleTests.{all_rules, past_nodes}
 
@@ -63,11 +63,11 @@ module _ (s : System) where
               ∙ elim (cases_lt n (length s.nodes)) [ inl below ↦ each n i below | inr past ↦ block_past rule n i (omega arith) ]
         ]
 
-    pub ready_where_none : IsSystem s → (o : Option Breach) → IsFoundBelow (breaks_block s) (length s.nodes) o → IfNone o (IsOrderlySystem s)
+    pub ready_where_none : IsSystem s → (o : Option Breach) → IsFoundAmong (breaks_block s) (length s.nodes) o → IfNone o (IsOrderlySystem s)
     ready_where_none system None found = record { system = system; blocks = λ rule n i low. lower_keeps rule (λ m j below. found rule m j below) low n i }
     ready_where_none system (Some b) found = tt
 
-    pub first_where_some : (o : Option Breach) → IsFoundBelow (breaks_block s) (length s.nodes) o → IfSome o (λ b. IsFirstBreach s b.rule b.node b.decoder)
+    pub first_where_some : (o : Option Breach) → IsFoundAmong (breaks_block s) (length s.nodes) o → IfSome o (λ b. IsFirstBreach s b.rule b.node b.decoder)
     first_where_some None found = tt
     first_where_some (Some b) found =
         let rule = block_rule_of b.rule b.node b.decoder found.broken in
@@ -90,11 +90,11 @@ module _ (s : System) where
           | inr beyond ↦ all_rules s ready n i (λ late from to. past_nodes s late from to n i (omega (arith, all, beyond))) rule
         ]
 
-    pub accepted_where_none : (o : Option Breach) → IsFoundBelow (breaks s) k o → IfNone o (IsAccepted s)
+    pub accepted_where_none : (o : Option Breach) → IsFoundAmong (breaks s) k o → IfNone o (IsAccepted s)
     accepted_where_none None found = record { each = λ rule n i. everywhere rule (λ m j below. found rule m j below) n i }
     accepted_where_none (Some b) found = tt
 
-    pub breach_where_some : (o : Option Breach) → IsFoundBelow (breaks s) k o → IfSome o (λ b. IsFirstBreach s b.rule b.node b.decoder)
+    pub breach_where_some : (o : Option Breach) → IsFoundAmong (breaks s) k o → IfSome o (λ b. IsFirstBreach s b.rule b.node b.decoder)
     breach_where_some None found = tt
     breach_where_some (Some b) found = record {
       broken = found.broken;

@@ -4,7 +4,7 @@ ghost use Rattle.std.specs.Prelude.{◌<◌, length};
 ghost use Rattle.cxl_image.specs.Images.{HasCapsOf};
 ghost use Rattle.cxl_model.specs.Hosts.{as_system};
 ghost use Rattle.cxl_model.specs.Accepted.{breaks_block};
-ghost use Rattle.cxl_check.specs.inner.Found.{IsFoundOfNode, IsFoundBelow};
+ghost use Rattle.cxl_check.specs.inner.Found.{IsFoundOfNode, IsFoundAmong};
 
 use crate::fault::Breach;
 use crate::least::earlier;
@@ -15,7 +15,7 @@ use cxl_topo::capacity_at;
 /// The first breach of K2 to K8.
 pub(crate) fn blocks_breach(host: &Host) -> Option<Breach>
     requires caps { HasCapsOf host.now.image.now host.now.topo.now.nodes }
-    ensures { IsFoundBelow (breaks_block (as_system host.now)) (length host.now.topo.now.nodes) result }
+    ensures { IsFoundAmong (breaks_block (as_system host.now)) (length host.now.topo.now.nodes) result }
 {
     let mut first = None;
     for node in 0..host.topo.count() {

@@ -2,14 +2,14 @@
 
 ghost use Rattle.std.specs.Prelude.{◌≡◌, ◌<◌, length, IfOk};
 ghost use Rattle.cxl_topo.specs.Tree.{child_of};
-ghost use Rattle.cxl_check.specs.inner.Children.{AreChildren};
+ghost use Rattle.cxl_check.specs.inner.Children.{AreAllChildren};
 
 use cxl_topo::{Topo, tree_laws};
 use std::alloc::{AllocError, Global};
 
 /// The child of each node at each of its first eight ports, node by node. Takes memory.
 pub(crate) fn children(alloc: Global, topo: &Topo) -> Result<Vec<Option<u32>>, AllocError>
-    ensures { IfOk result (λ children. AreChildren topo.now.nodes children.items) }
+    ensures { IfOk result (λ children. AreAllChildren topo.now.nodes children.items) }
 {
     let count = 8 * topo.count();
     let mut children = Vec::with_capacity(alloc, count as usize)?;
@@ -36,7 +36,7 @@ fn sought_child(topo: &Topo, node: u32, port: u8) -> Option<u32>
 /// The child of a node at a port, from the table of them.
 pub(crate) fn child_at(topo: &Topo, children: &[Option<u32>], node: u32, port: u8) -> Option<u32>
     requires here { node < length topo.now.nodes }
-    requires children { AreChildren topo.now.nodes children.now }
+    requires children { AreAllChildren topo.now.nodes children.now }
     ensures { result ≡ child_of topo.now.nodes node port }
 {
     let _count = topo.count();

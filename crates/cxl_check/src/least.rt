@@ -1,7 +1,7 @@
 //! The first of two breaches: the least rule goes first, then the least node, then the least decoder.
 
 ghost use Rattle.std.specs.Prelude.{ℕ, ◌+◌};
-ghost use Rattle.cxl_check.specs.inner.Found.{Breaks, IsLeastAt, IsFoundWithin, IsFoundOfNode, IsFoundBelow};
+ghost use Rattle.cxl_check.specs.inner.Found.{Breaks, IsLeastBrokenAt, IsFoundWithin, IsFoundOfNode, IsFoundAmong};
 
 use crate::fault::Breach;
 use cxl_span::BlockBreach;
@@ -13,7 +13,7 @@ pub(crate) fn earlier_in_node(
     decoder: u8,
     rule: Option<u8>,
 ) -> Option<BlockBreach>
-    ensures { (breaks : Breaks) (n : ℕ) → IsFoundWithin breaks n decoder first → IsLeastAt breaks n decoder rule
+    ensures { (breaks : Breaks) (n : ℕ) → IsFoundWithin breaks n decoder first → IsLeastBrokenAt breaks n decoder rule
         → IsFoundWithin breaks n (decoder + 1) result }
 {
     let Some(rule) = rule else {
@@ -33,8 +33,8 @@ pub(crate) fn earlier(
     node: u32,
     found: Option<BlockBreach>,
 ) -> Option<Breach>
-    ensures { (breaks : Breaks) → IsFoundBelow breaks node first → IsFoundOfNode breaks node found
-        → IsFoundBelow breaks (node + 1) result }
+    ensures { (breaks : Breaks) → IsFoundAmong breaks node first → IsFoundOfNode breaks node found
+        → IsFoundAmong breaks (node + 1) result }
 {
     let Some(found) = found else {
         return first;

@@ -7,7 +7,7 @@ ghost use Rattle.cxl_model.specs.Accepted.{breaks, IsAccepted, IsFirstBreach, Is
 ghost use Rattle.cxl_check.specs.inner.Ready.{IsCommitted};
 ghost use Rattle.cxl_regs.specs.Reading.{range_of};
 ghost use Rattle.cxl_check.specs.inner.Facts.{AreSystemTables, keeps_rule};
-ghost use Rattle.cxl_check.specs.inner.Found.{IsLeastAt, IsFoundOfNode};
+ghost use Rattle.cxl_check.specs.inner.Found.{IsLeastBrokenAt, IsFoundOfNode};
 ghost use Rattle.cxl_check.specs.inner.Known.{IsKnown, IsKnownAs};
 
 use crate::fault::Breach;
@@ -73,7 +73,7 @@ fn least_rule(
     requires here { node < length host.now.topo.now.nodes }
     requires there { decoder_at (as_system host.now) node i ≡ Some d.now }
     ensures met { All (IsKnown (as_system host.now)) met.new.items }
-    ensures least { IsLeastAt (breaks (as_system host.now)) node i result }
+    ensures least { IsLeastBrokenAt (breaks (as_system host.now)) node i result }
 {
     if !d.committed {
         return None;

@@ -10,7 +10,7 @@ ghost use Rattle.cxl_model.specs.Hosts.{as_system};
 ghost use Rattle.cxl_model.specs.Ranges.{decoder_for};
 ghost use Rattle.cxl_model.specs.Regions.{LeadsTo, HasSpan};
 ghost use Rattle.cxl_model.specs.Accepted.{IsOrderlySystem};
-ghost use Rattle.cxl_check.specs.inner.Children.{AreChildren};
+ghost use Rattle.cxl_check.specs.inner.Children.{AreAllChildren};
 ghost use Rattle.cxl_check.specs.inner.Slots.{AreWaysAbove, child_of_slot, next_of};
 
 use crate::above::ports_above;
@@ -63,7 +63,7 @@ pub(crate) fn span_of(
     likely: u8,
 ) -> Place
     requires ready { IsOrderlySystem (as_system host.now) }
-    requires children { AreChildren host.now.topo.now.nodes children.now }
+    requires children { AreAllChildren host.now.topo.now.nodes children.now }
     requires first { first.now.bridge ≡ bridge_with host.now.topo.now.nodes first.now.uid }
     requires some { (place : Place) × HasSpan (as_system host.now) w.now range.now slot place }
     requires slot { slot < 16 }
@@ -87,7 +87,7 @@ fn place_below(
     likely: u8,
 ) -> Place
     requires ready { IsOrderlySystem (as_system host.now) }
-    requires children { AreChildren host.now.topo.now.nodes children.now }
+    requires children { AreAllChildren host.now.topo.now.nodes children.now }
     requires above { AreWaysAbove (as_system host.now) range.now node above }
     requires some { (place : Place) × LeadsTo (as_system host.now) w.now range.now slot node place }
     ensures { LeadsTo (as_system host.now) w.now range.now slot node result }
@@ -122,7 +122,7 @@ fn next_of(
     requires here { node < length host.now.topo.now.nodes }
     requires above { AreWaysAbove (as_system host.now) range.now node above }
     requires own { d.now ≡ decoder_for (as_system host.now) range.now node }
-    requires children { AreChildren host.now.topo.now.nodes children.now }
+    requires children { AreAllChildren host.now.topo.now.nodes children.now }
     ensures { result ≡ next_of (as_system host.now) w.now range.now slot node }
 {
     if host.topo.forwards(node) {
@@ -146,7 +146,7 @@ fn child_of_slot(
     requires here { node < length host.now.topo.now.nodes }
     requires above { AreWaysAbove (as_system host.now) range.now node above }
     requires own { d.now ≡ decoder_for (as_system host.now) range.now node }
-    requires children { AreChildren host.now.topo.now.nodes children.now }
+    requires children { AreAllChildren host.now.topo.now.nodes children.now }
     ensures { result ≡ child_of_slot (as_system host.now) w.now range.now slot node }
 {
     match d {

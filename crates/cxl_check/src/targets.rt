@@ -9,7 +9,7 @@ ghost use Rattle.cxl_model.specs.Hosts.{as_system};
 ghost use Rattle.cxl_model.specs.Ranges.{lies_within};
 ghost use Rattle.cxl_model.specs.Rules.{are_distinct, lands_on, leads_on, targets_land, is_bridge_landing, keeps_targets};
 ghost use Rattle.cxl_regs.specs.Reading.{range_of};
-ghost use Rattle.cxl_check.specs.inner.Children.{AreChildren};
+ghost use Rattle.cxl_check.specs.inner.Children.{AreAllChildren};
 ghost use Rattle.cxl_check.specs.inner.Facts.{AreSystemTables};
 ghost use Rattle.cxl_check.specs.inner.Firsts.{AreLandings};
 ghost use Rattle.cxl_check.specs.inner.Known.{IsKnownAs};
@@ -52,7 +52,7 @@ fn entries_differ_and_lead_on(
     d: &Decoder,
 ) -> bool
     requires here { node < length host.now.topo.now.nodes }
-    requires children { AreChildren host.now.topo.now.nodes children.now }
+    requires children { AreAllChildren host.now.topo.now.nodes children.now }
     ensures { result ≡ (is_endpoint_at host.now.topo.now.nodes node
         || (are_distinct (entries_of d.now) && list_all (leads_on (as_system host.now) range.now node) (entries_of d.now))) }
 {
@@ -122,7 +122,7 @@ fn entries_lead_on(
     d: &Decoder,
 ) -> bool
     requires here { node < length host.now.topo.now.nodes }
-    requires children { AreChildren host.now.topo.now.nodes children.now }
+    requires children { AreAllChildren host.now.topo.now.nodes children.now }
     ensures { result ≡ list_all (leads_on (as_system host.now) range.now node) (entries_of d.now) }
 {
     for i in 0..d.interleave_ways() {
@@ -143,7 +143,7 @@ fn leads_on(
     likely: u8,
 ) -> bool
     requires here { node < length host.now.topo.now.nodes }
-    requires children { AreChildren host.now.topo.now.nodes children.now }
+    requires children { AreAllChildren host.now.topo.now.nodes children.now }
     ensures { result ≡ leads_on (as_system host.now) range.now node port }
 {
     match child_at(host.topo, children, node, port) {

@@ -10,7 +10,7 @@ abbrev pub founds_of : Inside → List Found
 founds_of regions = regions.founds.items
 
 -- The bases are those of the regions, and there is room for as many as may live.
-pub record AreInOrder (regions : Inside) : Type 0 where
+pub record AreLiveInOrder (regions : Inside) : Type 0 where
   pub few : length regions.founds.items ≤ region_limit
   pub founds_room : region_limit ≤ vec_capacity regions.founds
   pub bases_room : region_limit ≤ vec_capacity regions.bases

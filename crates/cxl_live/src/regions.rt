@@ -25,11 +25,11 @@ impl Model for LiveRegions {
 
     ghost Value = { List Found };
 
-    ghost use Rattle.cxl_live.specs.Inside.{founds_of, AreInOrder};
+    ghost use Rattle.cxl_live.specs.Inside.{founds_of, AreLiveInOrder};
 
     ghost view = { founds_of };
 
-    ghost invariant = { AreInOrder };
+    ghost invariant = { AreLiveInOrder };
 }
 
 impl LiveRegions {

@@ -7,24 +7,24 @@ use Rattle.std.proofs.lemmas.List.Edits.{Swapped, swapped_from_swap, swap_is, le
 use Rattle.std.proofs.Math.ListN as seq
 use Rattle.cxl_media.specs.declared.cell.Cell.{Cell}
 use Rattle.cxl_media.specs.Table.{Cells, cell_at}
-use Rattle.cxl_media.specs.CellList.{named, cells_of, AreKept}
+use Rattle.cxl_media.specs.CellList.{block_named, cells_of, AreOwnNumbers}
 use Rattle.cxl_media.proofs.Gap.{cell_within}
 
 -- what stands at a cell is what its number names
-pub cell_here : (numbers : List ℕ) (kept : Cells) (i : ℕ) → cell_at (cells_of numbers kept) i ≡ named kept (get_or numbers i 0)
-cell_here numbers kept i = seq.get_or-map (named kept) numbers i 0
+pub cell_here : (numbers : List ℕ) (kept : Cells) (i : ℕ) → cell_at (cells_of numbers kept) i ≡ block_named kept (get_or numbers i 0)
+cell_here numbers kept i = seq.get_or-map (block_named kept) numbers i 0
 
 pub length_of : (numbers : List ℕ) (kept : Cells) → length (cells_of numbers kept) ≡ length numbers
-length_of numbers kept = length-map numbers (named kept)
+length_of numbers kept = length-map numbers (block_named kept)
 
 -- a number above 0 names what is kept one below
-pub named_below : (kept : Cells) (number : ℕ) → number ≢ 0 → named kept number ≡ cell_at kept (number - 1)
+pub named_below : (kept : Cells) (number : ℕ) → number ≢ 0 → block_named kept number ≡ cell_at kept (number - 1)
 named_below kept zero some = absurd (some refl)
 named_below kept (suc n) some =
     let below : n ≡ suc n - 1 = omega arith in
     ap (cell_at kept) below
 
-named_alike : (old new : Cells) (n : ℕ) → ((m : ℕ) → m ≢ n → cell_at new m ≡ cell_at old m) → (x : ℕ) → x ≢ suc n → named new x ≡ named old x
+named_alike : (old new : Cells) (n : ℕ) → ((m : ℕ) → m ≢ n → cell_at new m ≡ cell_at old m) → (x : ℕ) → x ≢ suc n → block_named new x ≡ block_named old x
 named_alike old new n alike zero other = refl
 named_alike old new n alike (suc m) other = alike m (λ same. other (ap suc same))
 
@@ -33,9 +33,9 @@ cells_alike : (numbers : List ℕ) (old new : Cells) (n : ℕ) → ((m : ℕ) �
 cells_alike numbers old new n alike none =
     same_lists (cells_of numbers new) (cells_of numbers old) (length_of numbers new ∙ sym (length_of numbers old)) (λ k d within.
     let inside : k < length numbers = omega (arith, length_of numbers new, within) in
-    get_or-map (named new) numbers k 0 d inside
+    get_or-map (block_named new) numbers k 0 d inside
     ∙ named_alike old new n alike (get_or numbers k 0) (none k)
-    ∙ sym (get_or-map (named old) numbers k 0 d inside))
+    ∙ sym (get_or-map (block_named old) numbers k 0 d inside))
 
 cells_new : (kept : Cells) (n : ℕ) → cells_of (replicate n 0) kept ≡ replicate n None
 cells_new kept zero = refl
@@ -60,14 +60,14 @@ place_more [] (suc k) = refl
 place_more (o ∷ rest) zero = refl
 place_more (o ∷ rest) (suc k) = place_more rest k
 
-module _ (numbers : List ℕ) (kept : Cells) (room : ℕ) (are : AreKept numbers kept room) where
+module _ (numbers : List ℕ) (kept : Cells) (room : ℕ) (are : AreOwnNumbers numbers kept room) where
   -- a block is put into a cell
   module _ (at n : ℕ) (cell : Cell) (made : Cells) (within : at < length numbers) (frame : n ≡ cell.frame) (own_frame : (k : ℕ) (p : Cell) → cell_at (cells_of numbers kept) k ≡ Some p → p.frame ≢ cell.frame) (there : n < length made) (same : (k : ℕ) → cell_at made k ≡ cell_at kept k) where
     -- no cell has its number yet
     unused : (i : ℕ) → get_or numbers i 0 ≢ suc n
     unused i is =
         let found = are.own i n is in
-        own_frame i found.0 (cell_here numbers kept i ∙ ap (named kept) is ∙ found.1) (found.2 ∙ frame)
+        own_frame i found.0 (cell_here numbers kept i ∙ ap (block_named kept) is ∙ found.1) (found.2 ∙ frame)
 
     others : (m : ℕ) → m ≢ n → cell_at (set made n (Some cell)) m ≡ cell_at kept m
     others m other = get_or-set_other made n m (Some cell) None other ∙ same m
@@ -77,8 +77,8 @@ module _ (numbers : List ℕ) (kept : Cells) (room : ℕ) (are : AreKept numbers
 
     pub put_cells : cells_of (set numbers at (suc n)) (set made n (Some cell)) ≡ set (cells_of numbers kept) at (Some cell)
     put_cells =
-        map-set (named (set made n (Some cell))) numbers at (suc n)
-        ∙ ap (λ cells. set cells at (named (set made n (Some cell)) (suc n))) (cells_alike numbers kept (set made n (Some cell)) n others unused)
+        map-set (block_named (set made n (Some cell))) numbers at (suc n)
+        ∙ ap (λ cells. set cells at (block_named (set made n (Some cell)) (suc n))) (cells_alike numbers kept (set made n (Some cell)) n others unused)
         ∙ ap (set (cells_of numbers kept) at) here
 
     -- a cell's number is the new one, or was its own
@@ -93,7 +93,7 @@ module _ (numbers : List ℕ) (kept : Cells) (room : ℕ) (are : AreKept numbers
               inr (other, was, λ e. unused i (was ∙ ap suc e))
         ]
 
-    pub put_kept : AreKept (set numbers at (suc n)) (set made n (Some cell)) room
+    pub put_kept : AreOwnNumbers (set numbers at (suc n)) (set made n (Some cell)) room
     put_kept = record {
       own = λ i m is. elim (new_number i m is) [
         | inl one ↦ (cell, ap (cell_at (set made n (Some cell))) one.1 ∙ here, sym frame ∙ sym one.1)
@@ -118,7 +118,7 @@ module _ (numbers : List ℕ) (kept : Cells) (room : ℕ) (are : AreKept numbers
   -- a cell gets the number 0
   module _ (at : ℕ) (within : at < length numbers) where
     pub emptied_cells : cells_of (set numbers at 0) kept ≡ set (cells_of numbers kept) at None
-    emptied_cells = map-set (named kept) numbers at 0
+    emptied_cells = map-set (block_named kept) numbers at 0
 
     -- a cell that has a number is another one, and had it
     old_number : (i m : ℕ) → get_or (set numbers at 0) i 0 ≡ suc m → (i ≢ at) × (get_or numbers i 0 ≡ suc m)
@@ -130,7 +130,7 @@ module _ (numbers : List ℕ) (kept : Cells) (room : ℕ) (are : AreKept numbers
           | inr other ↦ (other, sym (get_or-set_other numbers at i 0 0 other) ∙ is)
         ]
 
-    pub emptied_kept : AreKept (set numbers at 0) kept room
+    pub emptied_kept : AreOwnNumbers (set numbers at 0) kept room
     emptied_kept = record {
       own = λ i m is. are.own i m (old_number i m is).1;
       once = λ i j m a b. are.once i j m (old_number i m a).1 (old_number j m b).1;
@@ -152,7 +152,7 @@ module _ (numbers : List ℕ) (kept : Cells) (room : ℕ) (are : AreKept numbers
       pub taken_within : n < length kept
       taken_within = let found = are.own at n is in cell_within kept n found.0 found.1
 
-      pub taken_kept : AreKept (set numbers at 0) (set kept n None) room
+      pub taken_kept : AreOwnNumbers (set numbers at 0) (set kept n None) room
       taken_kept = record {
         own = λ i m has.
             let found = emptied_kept.own i m has in
@@ -169,7 +169,7 @@ module _ (numbers : List ℕ) (kept : Cells) (room : ℕ) (are : AreKept numbers
 
     pub swap_cells : cells_of (swap numbers one other) kept ≡ swap (cells_of numbers kept) one other
     swap_cells =
-        let f = named kept in
+        let f = block_named kept in
         let x = get_or numbers one 0 in
         let y = get_or numbers other 0 in
         ap (map f) (sym (swap_is numbers one other 0 one_within other_within))
@@ -209,7 +209,7 @@ module _ (numbers : List ℕ) (kept : Cells) (room : ℕ) (are : AreKept numbers
         by_place (inr (inr p)) (inr (inl q)) = absurd (p.0 (sym p.2 ∙ same ∙ q.1))
         by_place (inr (inr p)) (inr (inr q)) = sym p.2 ∙ same ∙ q.2
 
-    pub swap_kept : AreKept (swap numbers one other) kept room
+    pub swap_kept : AreOwnNumbers (swap numbers one other) kept room
     swap_kept = record {
       own = λ i m is. let from = was i in are.own from.0 m (sym from.1.number ∙ is);
       once = λ i j m a b.

@@ -6,15 +6,15 @@ use Rattle.cxl_media.specs.declared.cell.Cell.{Cell}
 use Rattle.cxl_media.specs.Table.{Cells, cell_at}
 
 -- the block that a number names, of those kept under the numbers of their frames
-abbrev pub named : Cells → ℕ → Option Cell
-named kept zero = None
-named kept (suc n) = cell_at kept n
+abbrev pub block_named : Cells → ℕ → Option Cell
+block_named kept zero = None
+block_named kept (suc n) = cell_at kept n
 
 abbrev pub cells_of : List ℕ → Cells → Cells
-cells_of numbers kept = map (named kept) numbers
+cells_of numbers kept = map (block_named kept) numbers
 
 -- each number names a block in its own frame, no two cells have one number, and there is room for all blocks
-pub record AreKept (numbers : List ℕ) (kept : Cells) (room : ℕ) : Type 0 where
+pub record AreOwnNumbers (numbers : List ℕ) (kept : Cells) (room : ℕ) : Type 0 where
   pub own : (i n : ℕ) → slice_index_or numbers i 0 ≡ suc n → (p : Cell) × (cell_at kept n ≡ Some p) × (p.frame ≡ n)
   pub once : (i j n : ℕ) → slice_index_or numbers i 0 ≡ suc n → slice_index_or numbers j 0 ≡ suc n → i ≡ j
   pub fits : length numbers ≤ 3 * room

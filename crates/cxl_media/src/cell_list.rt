@@ -3,7 +3,7 @@ ghost use Rattle.std.specs.Option.{option_copied};
 ghost use Rattle.std.specs.Vec.{vec_capacity};
 ghost use Rattle.cxl_enc.specs.Limits.{frame_limit};
 ghost use Rattle.cxl_media.specs.Table.{cell_at};
-ghost use Rattle.cxl_media.specs.CellList.{named};
+ghost use Rattle.cxl_media.specs.CellList.{block_named};
 
 use crate::cell::Cell;
 use cxl_enc::Memory;
@@ -29,11 +29,11 @@ impl Model for CellList {
     ghost coded = { coded_cells };
 
     ghost use Rattle.std.specs.Vec.{vec_capacity};
-    ghost use Rattle.cxl_media.specs.CellList.{cells_of, AreKept};
+    ghost use Rattle.cxl_media.specs.CellList.{cells_of, AreOwnNumbers};
 
     ghost view = { λ c. cells_of c.numbers.items c.kept.items };
 
-    ghost invariant = { λ c. AreKept c.numbers.items c.kept.items (vec_capacity c.kept) };
+    ghost invariant = { λ c. AreOwnNumbers c.numbers.items c.kept.items (vec_capacity c.kept) };
 }
 
 impl CellList {
@@ -72,7 +72,7 @@ impl CellList {
         ensures { option_copied result ≡ cell_at self.now at }
     {
         if at < self.numbers.len() {
-            named(&self.kept, self.numbers[at])
+            block_named(&self.kept, self.numbers[at])
         } else {
             None
         }
@@ -115,8 +115,8 @@ impl CellList {
 }
 
 /// The block that a number names.
-fn named(kept: &[Option<Cell>], number: u32) -> Option<&Cell>
-    ensures { option_copied result ≡ named kept.now number }
+fn block_named(kept: &[Option<Cell>], number: u32) -> Option<&Cell>
+    ensures { option_copied result ≡ block_named kept.now number }
 {
     if number == 0 {
         return None;

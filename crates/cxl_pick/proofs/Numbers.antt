@@ -7,7 +7,7 @@ use Rattle.std.proofs.lemmas.Nat.{pow-add, pow_pos}
 use Rattle.std.proofs.lemmas.Bool.{cases_eq, or_cases, or_left, or_right, eqb-true, ne_eqb, false≢true}
 use Rattle.cxl_enc.specs.Codes.{third_of, bits_of, log2_of, is_ways}
 use Rattle.cxl_enc.specs.Caps.{is_target_count}
-use Rattle.cxl_pick.specs.inner.Offers.{is_listed}
+use Rattle.cxl_pick.specs.inner.Offers.{has_list}
 
 -- what holds of each number of ways holds of one that has a code
 pub each_ways : (P : ℕ → Type 0) (p : ℕ) → is_ways p ≡ true → P 1 → P 2 → P 4 → P 8 → P 16 → P 3 → P 6 → P 12 → P p
@@ -81,28 +81,28 @@ some_count p is = each_count (λ n. 0 < n) p is (omega arith) (omega arith) (ome
 
 -- ---- numbers that the table has lists for
 
-pub each_listed : (P : ℕ → Type 0) (v : ℕ) → is_listed v ≡ true → P 1 → P 2 → P 4 → P 8 → P 16 → P v
+pub each_listed : (P : ℕ → Type 0) (v : ℕ) → has_list v ≡ true → P 1 → P 2 → P 4 → P 8 → P 16 → P v
 each_listed P v is p1 p2 p4 p8 p16 =
     elim (or_cases (is_target_count v) (v == 16) is) [
       | inl count ↦ each_count P v count p1 p2 p4 p8
       | inr last ↦ subst P (sym (eqb-true v 16 last)) p16
     ]
 
-pub listed_power : (v : ℕ) → is_listed v ≡ true → 2 ^ log2_of v ≡ v
+pub listed_power : (v : ℕ) → has_list v ≡ true → 2 ^ log2_of v ≡ v
 listed_power v is = each_listed (λ n. 2 ^ log2_of n ≡ n) v is refl refl refl refl refl
 
-pub listed_few : (v : ℕ) → is_listed v ≡ true → log2_of v < 5
+pub listed_few : (v : ℕ) → has_list v ≡ true → log2_of v < 5
 listed_few v is = each_listed (λ n. log2_of n < 5) v is (omega arith) (omega arith) (omega arith) (omega arith) (omega arith)
 
 -- so many times as there are ports is one of them again, up to 16
-pub listed_product : (u v m : ℕ) → is_target_count u ≡ true → is_listed v ≡ true → u * v ≡ m → m ≤ 16 → is_listed m ≡ true
+pub listed_product : (u v m : ℕ) → is_target_count u ≡ true → has_list v ≡ true → u * v ≡ m → m ≤ 16 → has_list m ≡ true
 listed_product u v m count is product few =
-    subst (λ (n : ℕ). is_listed n ≡ true) product
-    (each_count (λ n. n * v ≤ 16 → is_listed (n * v) ≡ true) u count
-    (each_listed (λ n. 1 * n ≤ 16 → is_listed (1 * n) ≡ true) v is (λ l. refl) (λ l. refl) (λ l. refl) (λ l. refl) (λ l. refl))
-    (each_listed (λ n. 2 * n ≤ 16 → is_listed (2 * n) ≡ true) v is (λ l. refl) (λ l. refl) (λ l. refl) (λ l. refl) (λ l. absurd (omega (arith, l))))
-    (each_listed (λ n. 4 * n ≤ 16 → is_listed (4 * n) ≡ true) v is (λ l. refl) (λ l. refl) (λ l. refl) (λ l. absurd (omega (arith, l))) (λ l. absurd (omega (arith, l))))
-    (each_listed (λ n. 8 * n ≤ 16 → is_listed (8 * n) ≡ true) v is (λ l. refl) (λ l. refl) (λ l. absurd (omega (arith, l))) (λ l. absurd (omega (arith, l))) (λ l. absurd (omega (arith, l))))
+    subst (λ (n : ℕ). has_list n ≡ true) product
+    (each_count (λ n. n * v ≤ 16 → has_list (n * v) ≡ true) u count
+    (each_listed (λ n. 1 * n ≤ 16 → has_list (1 * n) ≡ true) v is (λ l. refl) (λ l. refl) (λ l. refl) (λ l. refl) (λ l. refl))
+    (each_listed (λ n. 2 * n ≤ 16 → has_list (2 * n) ≡ true) v is (λ l. refl) (λ l. refl) (λ l. refl) (λ l. refl) (λ l. absurd (omega (arith, l))))
+    (each_listed (λ n. 4 * n ≤ 16 → has_list (4 * n) ≡ true) v is (λ l. refl) (λ l. refl) (λ l. refl) (λ l. absurd (omega (arith, l))) (λ l. absurd (omega (arith, l))))
+    (each_listed (λ n. 8 * n ≤ 16 → has_list (8 * n) ≡ true) v is (λ l. refl) (λ l. refl) (λ l. absurd (omega (arith, l))) (λ l. absurd (omega (arith, l))) (λ l. absurd (omega (arith, l))))
     (subst (λ (n : ℕ). n ≤ 16) (sym product) few))
 
 -- ---- counts of ports that are tried

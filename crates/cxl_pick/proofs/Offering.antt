@@ -15,7 +15,7 @@ use Rattle.cxl_window.specs.Fields.{WindowFields}
 use Rattle.cxl_model.specs.System.{System}
 use Rattle.cxl_pick.specs.declared.want.Want.{Want}
 use Rattle.cxl_pick.specs.Picking.{is_open, can_serve_itself, port_code, can_serve_by, children_of, gives_within, gives}
-use Rattle.cxl_pick.specs.inner.Offers.{AreOffers, offered, is_listed, some_of, place_of, listed_at, offers_at}
+use Rattle.cxl_pick.specs.inner.Offers.{AreOffers, offered, has_list, some_of, place_of, listed_at, offers_at}
 use Rattle.cxl_pick.proofs.Trees.{KnownTree}
 use Rattle.cxl_pick.proofs.Lists.{find_passes}
 use Rattle.cxl_pick.proofs.Numbers.{some_count, count_found, listed_power, listed_few, listed_product}
@@ -63,11 +63,11 @@ some_kept f (x ∷ xs) some = go (some_kept f xs) (f x) refl some
     go later (Some ys) at more = (x, ys, at)
 
 -- an endpoint gives something for 1, and a port for so many times what a child of it does
-gives_listed : (k : ℕ) (s : System) (want : Want) (w : WindowFields) (start n m : ℕ) (xs : List ℕ) → gives_within k s want w start n m ≡ Some xs → m ≤ 16 → is_listed m ≡ true
+gives_listed : (k : ℕ) (s : System) (want : Want) (w : WindowFields) (start n m : ℕ) (xs : List ℕ) → gives_within k s want w start n m ≡ Some xs → m ≤ 16 → has_list m ≡ true
 gives_listed zero s want w start n m xs gives few = absurd (none-some xs (sym (gives_none s want w start n m) ∙ gives))
 gives_listed (suc k) s want w start n m xs gives few =
     elim (cases_Bool (is_endpoint_at s.nodes n)) [
-      | inl endpoint ↦ ap is_listed (gives_itself k s want w start n m xs endpoint gives).one
+      | inl endpoint ↦ ap has_list (gives_itself k s want w start n m xs endpoint gives).one
       | inr port ↦
           let own = serves k s want w start n m xs port gives in
           let can = can_parts s want w start n m (length (filter_map (offer k s want w start m own.u) (children_of s n))) own.u own.can in
@@ -77,7 +77,7 @@ gives_listed (suc k) s want w start n m xs gives few =
           listed_product own.u (m / own.u) m own.count (gives_listed k s want w start child.0 (m / own.u) child.1 child.2 (quotient_low m own.u few)) (whole_share own.u m own.count can.divides) few
     ]
 
-unlisted_offered : (s : System) (want : Want) (w : WindowFields) (start n m : ℕ) → m ≤ 16 → is_listed m ≡ false → [] ≡ offered s want w start n m
+unlisted_offered : (s : System) (want : Want) (w : WindowFields) (start n m : ℕ) → m ≤ 16 → has_list m ≡ false → [] ≡ offered s want w start n m
 unfolding offered
 unlisted_offered s want w start n m few not_listed = go (gives s want w start n m) refl
   where
@@ -102,7 +102,7 @@ in_column s want w start c k table offers within low inside =
 list_at : (s : System) (want : Want) (w : WindowFields) (start c v : ℕ) (table : List (Vec ℕ Global)) → AreOffers s want w start table → c < length s.nodes
     → (length s.nodes - 1 - c) * 5 + 5 ≤ length table → v ≤ 16 → listed_at table (length s.nodes) c v ≡ offered s want w start c v
 list_at s want w start c v table offers within inside few =
-    elim (cases_Bool (is_listed v)) [
+    elim (cases_Bool (has_list v)) [
       | inl has ↦
           let low = listed_few v has in
           ap (λ (b : Bool). if b then option_map_or (λ own. own.items) (slice_get table (place_of (length s.nodes) c v)) [] else []) has

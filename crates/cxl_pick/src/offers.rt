@@ -14,7 +14,7 @@ ghost use Rattle.cxl_pick.specs.Picking.{can_serve_itself, can_serve_by};
 ghost use Rattle.cxl_model.specs.Accepted.{IsOrderlySystem};
 ghost use Rattle.cxl_pick.specs.inner.Wanted.{HasWaysAndSize};
 ghost use Rattle.cxl_legal.specs.Bases.{last_end};
-ghost use Rattle.cxl_pick.specs.inner.Offers.{AreHighest, AreChildren, AreOffers, AreKept, offered, listed_at, offers_at};
+ghost use Rattle.cxl_pick.specs.inner.Offers.{AreHighest, AreChildren, AreOffers, AreKeptOffers, offered, listed_at, offers_at};
 
 use crate::nodes::{can_serve_by, can_serve_itself};
 use crate::terms::{log2_of, power, wanted_code};
@@ -123,7 +123,7 @@ pub struct KeptOffers {
 
 /// No offers yet: they are of no start.
 pub(crate) fn no_offers(alloc: Global) -> KeptOffers
-    ensures { (s : System) (want : Want) → AreKept s want result }
+    ensures { (s : System) (want : Want) → AreKeptOffers s want result }
 {
     KeptOffers {
         code: 0,
@@ -203,8 +203,8 @@ pub(crate) fn renew(
     requires ready { IsOrderlySystem (as_system host.now) }
     requires sound { HasWaysAndSize want.now }
     requires children { AreChildren host.now.topo.now.nodes children.now }
-    requires kept { AreKept (as_system host.now) want.now kept.old }
-    ensures kept { OnOk result (AreKept (as_system host.now) want.now kept.new) }
+    requires kept { AreKeptOffers (as_system host.now) want.now kept.old }
+    ensures kept { OnOk result (AreKeptOffers (as_system host.now) want.now kept.new) }
     ensures offers { OnOk result (AreOffers (as_system host.now) want.now w.now start kept.new.table.items) }
     ensures count { OnOk result (length kept.new.table.items ≡ length host.now.topo.now.nodes * 5) }
 {

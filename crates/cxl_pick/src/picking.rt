@@ -10,7 +10,7 @@ ghost use Rattle.cxl_model.specs.Accepted.{IsAccepted, IsOrderlySystem};
 ghost use Rattle.cxl_pick.specs.Picking.{IsWantedSize, given_in, all_given, AreInOrder, IsPicked, NothingGiven, TellsPickFault, FitsFirst, NothingFits, PlansFirst, NothingPlans};
 ghost use Rattle.cxl_pick.specs.Picked.{picked};
 ghost use Rattle.cxl_pick.specs.inner.Wanted.{HasWaysAndSize};
-ghost use Rattle.cxl_pick.specs.inner.Offers.{AreChildren, AreKept, some_of, listed_at};
+ghost use Rattle.cxl_pick.specs.inner.Offers.{AreChildren, AreKeptOffers, some_of, listed_at};
 
 use crate::fault::PickFault;
 use crate::laws::{
@@ -140,8 +140,8 @@ fn pick_in(
     requires ready { IsOrderlySystem (as_system host.now) }
     requires sound { HasWaysAndSize want.now }
     requires children { AreChildren host.now.topo.now.nodes children.now }
-    requires kept { AreKept (as_system host.now) want.now kept.old }
-    ensures kept { OnOk result (AreKept (as_system host.now) want.now kept.new) }
+    requires kept { AreKeptOffers (as_system host.now) want.now kept.old }
+    ensures kept { OnOk result (AreKeptOffers (as_system host.now) want.now kept.new) }
     ensures given { IfOk result
         (λ o. option_map (λ given. given.items) o ≡ given_in (as_system host.now) want.now w.now) }
 {

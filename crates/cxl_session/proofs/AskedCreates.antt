@@ -25,7 +25,7 @@ use Rattle.cxl_machine.specs.Requests.{busy, name_taken, no_endpoint, regions_fu
 use Rattle.cxl_machine.proofs.KeepingBegun.{none_there, idle}
 use Rattle.cxl_session.specs.State.{JobFields, SessionState, image_in}
 use Rattle.cxl_session.specs.Standing.{StandsFor}
-use Rattle.cxl_session.specs.inner.Creating.{IsAskedPlan, IsPrepared, IsCreate}
+use Rattle.cxl_session.specs.inner.Creating.{IsAskedPlan, IsPrepared, IsKeptCreate}
 use Rattle.cxl_session.proofs.AskedReleases.{place_is, region_at, no_region_at}
 use Rattle.cxl_session.proofs.PendingJobs.{no_job, same_job}
 
@@ -126,7 +126,7 @@ asks_legal m create plan legally asks =
     (own.request, subst (IsLegalPlan m.settled own.request) (same_plan m.settled own.plan plan (sym own.made)) own.legal)
 
 -- the create of the plan is ready
-pub is_create : (m : Machine) (create : Create) (plan : Plan) (own : JobFields) → AsksCreate m create (Ok (create_job m.settled plan)) → IsPrepared m.settled plan own → IsCreate m create own
+pub is_create : (m : Machine) (create : Create) (plan : Plan) (own : JobFields) → AsksCreate m create (Ok (create_job m.settled plan)) → IsPrepared m.settled plan own → IsKeptCreate m create own
 is_create m create plan own asks is = record {
   plan = plan;
   asked = asks;
@@ -145,7 +145,7 @@ module _ (session : SessionState) (m : Machine) (stands : StandsFor session m) (
         let legal = asks_legal m create plan legally asks in
         (legal.0, subst (λ (s : System). IsLegalPlan s legal.0 plan) (sym (unrefused session m stands create none)) legal.1)
 
-    pub create_here : (own : JobFields) → IsPrepared (image_in session) plan own → IsCreate m create own
+    pub create_here : (own : JobFields) → IsPrepared (image_in session) plan own → IsKeptCreate m create own
     create_here own is = is_create m create plan own asks (subst (λ (s : System). IsPrepared s plan own) (unrefused session m stands create none) is)
 
   pub refused_here : (refusal : Reply) → IsAskedPlan m create (Err refusal) → AsksCreate m create (Err refusal)

@@ -27,7 +27,7 @@ use Rattle.cxl_session.specs.declared.session.Session.TheInside.{Inside}
 use Rattle.cxl_session.specs.Inside.{job_fields, state_of}
 use Rattle.cxl_session.specs.State.{SessionState}
 use Rattle.cxl_session.specs.Standing.{StandsFor}
-use Rattle.cxl_session.specs.inner.Requests.{IsRelease}
+use Rattle.cxl_session.specs.inner.Requests.{IsNamedRelease}
 use Rattle.cxl_session.specs.inner.Rows.{is_locked, is_not_last}
 use Rattle.cxl_session.proofs.PendingJobs.{no_job}
 use Rattle.cxl_session.proofs.Places.{within, position_or_len-map, stands_at}
@@ -120,7 +120,7 @@ module _ (m : Machine) (name : List ℕ) where
             ∙ ap (λ (o : Option ℕ). option_map_or Ok (option_and_then (release_at m) o) (Err (replies.NoRegion name))) at
             ∙ ap (λ (o : Option Live). option_map_or Ok (option_map (release_job m.settled place) o) (Err (replies.NoRegion name))) there
 
-        pub is_release : region.name ≡ name → (release : Release) → release.place ≡ place → release.rows.items ≡ rows_of m.settled region.found → first_not_last m.settled region.found ≡ None → IsRelease m name release
+        pub is_release : region.name ≡ name → (release : Release) → release.place ≡ place → release.rows.items ≡ rows_of m.settled region.found → first_not_last m.settled region.found ≡ None → IsNamedRelease m name release
         is_release own_name release same rows last = record {
           idle = idle;
           region = region;
@@ -178,7 +178,7 @@ module _ (session : SessionState) (m : Machine) (name : List ℕ) (place : ℕ) 
     pub found_below : (row : Row) → find (is_not_last (blocks_alone session.image)) rows ≡ Some row → asked_release m name ≡ Err (replies.NotLast (spot_of row))
     found_below row first = last_refused m name idle place own.0 own.2 at own.1 (locked_is_found ∙ free) row (last_is_found ∙ first)
 
-    pub found_release : (release : Release) → release.place ≡ place → release.rows.items ≡ rows → find (is_not_last (blocks_alone session.image)) rows ≡ None → IsRelease m name release
+    pub found_release : (release : Release) → release.place ≡ place → release.rows.items ≡ rows → find (is_not_last (blocks_alone session.image)) rows ≡ None → IsNamedRelease m name release
     found_release release same items top =
         is_release m name idle place own.0 own.2 at own.1 (locked_is_found ∙ free) (name_at m name own.0 own.2) release same (items ∙ rows_are) (last_is_found ∙ top)
 

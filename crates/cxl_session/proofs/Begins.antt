@@ -29,7 +29,7 @@ use Rattle.cxl_session.specs.Standing.{IsKeptIn, IsJobFor, StandsFor, IsAt}
 use Rattle.cxl_session.specs.inner.Answering.{IsTurnFor}
 use Rattle.cxl_session.specs.declared.requests.Release.{Release}
 use Rattle.cxl_session.specs.inner.Regions.{session_begun, own_job, BeginsRelease}
-use Rattle.cxl_session.specs.inner.Requests.{IsRelease}
+use Rattle.cxl_session.specs.inner.Requests.{IsNamedRelease}
 use Rattle.cxl_session.proofs.Places.{stands_at}
 use Rattle.cxl_session.proofs.Rearranged.{IsRearranged, rearranged_sound}
 use Rattle.cxl_session.proofs.Turns.{still, no_words}
@@ -90,7 +90,7 @@ some_of P (Some x) is = (x, refl, is)
 
 module _ (release_law : ReleaseLaw) (begins_law : BeginsLaw) (session next : SessionState) (name : List ℕ) (release : Release) (job : JobState)
     (is_next : BeginsRelease session release.place job next) (writes : AreReleaseWrites release.rows.items job.writes) (fresh : job.done ≡ 0) where
-  begun_as : (m : Machine) → StandsFor session m → (is : IsRelease m name release)
+  begun_as : (m : Machine) → StandsFor session m → (is : IsNamedRelease m name release)
       → (own : JobFields) × (next ≡ session_begun own session) × IsJobFor m own (release_job m.settled release.place is.region) × (own.writes ≡ job.writes)
   begun_as m stands is =
       let here = stands_at session m release.place is.region stands is.there in
@@ -109,7 +109,7 @@ module _ (release_law : ReleaseLaw) (begins_law : BeginsLaw) (session next : Ses
       )
 
   -- the session has begun it from one that keeps its region
-  pub begun_from : (m : Machine) → StandsFor session m → IsRelease m name release → (own : JobFields) × (next ≡ session_begun own session) × IsBegunFrom session own × (own.done ≡ 0)
+  pub begun_from : (m : Machine) → StandsFor session m → IsNamedRelease m name release → (own : JobFields) × (next ≡ session_begun own session) × IsBegunFrom session own × (own.done ≡ 0)
   begun_from m stands is =
       let here = stands_at session m release.place is.region stands is.there in
       let kept = some_of (IsKeptIn m.settled is.region.found) (slice_get session.kept release.place) here.kept in (
@@ -120,7 +120,7 @@ module _ (release_law : ReleaseLaw) (begins_law : BeginsLaw) (session next : Ses
       )
 
   -- session, registers and media stand for the machine at which it is pending
-  pub begun_here : (m : Machine) (regs : RegsState) (media : MediaState) → IsAt session regs media m → (is : IsRelease m name release)
+  pub begun_here : (m : Machine) (regs : RegsState) (media : MediaState) → IsAt session regs media m → (is : IsNamedRelease m name release)
       → IsAt next regs media (begun (release_job m.settled release.place is.region) m)
   begun_here m regs media at is =
       let as_own = begun_as m at.stands is in
@@ -128,7 +128,7 @@ module _ (release_law : ReleaseLaw) (begins_law : BeginsLaw) (session next : Ses
       (begun_at m release.place is.region is.there is.idle session as_own.0 at.stands as_own.2 begins_law name is.asked regs media at)
 
   -- the job is begun
-  pub begin_turn : ((m : Machine) → StandsFor session m → IsMachine m → IsRelease m name release) → (regs : RegsState) (media : MediaState) (words : ℕ) → words ≡ length job.writes
+  pub begin_turn : ((m : Machine) → StandsFor session m → IsMachine m → IsNamedRelease m name release) → (regs : RegsState) (media : MediaState) (words : ℕ) → words ≡ length job.writes
       → IsTurnFor session next regs regs media media (commands.BeginDestroy name) (replies.Begun record { name = name; writes = words })
   begin_turn asked regs media words many m at =
       let is = asked m at.stands at.sound.machine in
@@ -159,7 +159,7 @@ begin_refused session name refusal regs media asked = still session regs media (
     (λ m at. (record { unfailing = refl; told = ap (begin_answer m) (sym (asked m at.stands at.sound.machine)) }, refl))
 
 -- the place of a release is one of the session's
-pub release_within : (session : SessionState) (m : Machine) (name : List ℕ) (release : Release) → StandsFor session m → IsRelease m name release → release.place < length session.names
+pub release_within : (session : SessionState) (m : Machine) (name : List ℕ) (release : Release) → StandsFor session m → IsNamedRelease m name release → release.place < length session.names
 release_within session m name release stands is =
     let here = stands_at session m release.place is.region stands is.there in
     slice_get_within session.names release.place is.region.name here.name

@@ -33,7 +33,7 @@ use Rattle.cxl_machine.proofs.KeepingOrder.{pairs_front}
 use Rattle.cxl_machine.proofs.LiveRegions.{live_is_region, same_live}
 use Rattle.cxl_session.specs.State.{SessionState}
 use Rattle.cxl_session.specs.Standing.{StandsFor, HoldsMemory}
-use Rattle.cxl_session.specs.inner.Answering.{HoldsMachine, IsWritten}
+use Rattle.cxl_session.specs.inner.Answering.{HoldsMachine, IsWrittenAs}
 use Rattle.cxl_session.specs.inner.Pairs.{IsSideAt, AreTwo}
 use Rattle.cxl_session.specs.inner.Places.{StandsAt}
 use Rattle.cxl_session.proofs.Fronts.{two_at_front, second_with, both_with}
@@ -214,7 +214,7 @@ module _ (laws : CopyLaws) (session : SessionState) (old : MediaState) (m : Mach
   -- ---- a move
 
   pub is_moved : (new : MediaState) (pieces : List ℕ) → AreHeld two.from.found v old.blocks pieces → IsMoved two.from.found v two.to.found w old.blocks new.blocks → frame_count new ≡ frame_count old
-      → IsWritten session new (move_answer m pair) (replies.Moved record { from = pair.from; to = pair.to; pieces = length pieces })
+      → IsWrittenAs session new (move_answer m pair) (replies.Moved record { from = pair.from; to = pair.to; pieces = length pieces })
   is_moved new pieces held over count =
       let answer : move_answer m pair ≡ move_between m two.from two.to = two.answers (move_between m) in
       let next : Machine = moved m two.from two.to in
@@ -224,7 +224,7 @@ module _ (laws : CopyLaws) (session : SessionState) (old : MediaState) (m : Mach
       let stands : StandsFor session next =
       stands_with two.from.name fin.empty (copied m two.from two.to) session (stands_with two.to.name two.from.contents m session holds.stands) in
       let number = pieces_from pieces held in
-      subst (λ (a : Answer). IsWritten session new a (replies.Moved record { from = pair.from; to = pair.to; pieces = length pieces })) (sym answer)
+      subst (λ (a : Answer). IsWrittenAs session new a (replies.Moved record { from = pair.from; to = pair.to; pieces = length pieces })) (sym answer)
       (record {
         told = λ i. replies.Moved record { from = two.from_named i; to = two.to_named i; pieces = number i };
         holds =
@@ -246,7 +246,7 @@ module _ (laws : CopyLaws) (session : SessionState) (old : MediaState) (m : Mach
 
   pub is_copied : (new : MediaState) (pieces others : List ℕ) → AreHeld two.from.found v old.blocks pieces → AreHeld two.to.found w old.blocks others → length pieces ≤ old.free + length others
       → IsCopied two.from.found v two.to.found w old.blocks new.blocks → frame_count new ≡ frame_count old
-      → IsWritten session new (copy_answer m pair) (replies.Copied record { from = pair.from; to = pair.to; pieces = length pieces })
+      → IsWrittenAs session new (copy_answer m pair) (replies.Copied record { from = pair.from; to = pair.to; pieces = length pieces })
   is_copied new pieces others held own room over count =
       let answer = copies pieces others held own room in
       let next : Machine = copied m two.from two.to in
@@ -254,7 +254,7 @@ module _ (laws : CopyLaws) (session : SessionState) (old : MediaState) (m : Mach
       subst (λ (a : Answer). IsMachine a.machine) answer
       (laws.keeps m (commands.Copy pair) NoFault (copy_answer m pair) holds.machine refl tt (record { unfailing = refl; told = refl })) in
       let number = pieces_from pieces held in
-      subst (λ (a : Answer). IsWritten session new a (replies.Copied record { from = pair.from; to = pair.to; pieces = length pieces })) (sym answer)
+      subst (λ (a : Answer). IsWrittenAs session new a (replies.Copied record { from = pair.from; to = pair.to; pieces = length pieces })) (sym answer)
       (record {
         told = λ i. replies.Copied record { from = two.from_named i; to = two.to_named i; pieces = number i };
         holds =
@@ -263,7 +263,7 @@ module _ (laws : CopyLaws) (session : SessionState) (old : MediaState) (m : Mach
       })
 
   pub is_full : (pieces others : List ℕ) → AreHeld two.from.found v old.blocks pieces → AreHeld two.to.found w old.blocks others → old.free + length others < length pieces
-      → IsWritten session old (copy_answer m pair) (replies.Full record { need = length pieces; free = old.free + length others })
+      → IsWrittenAs session old (copy_answer m pair) (replies.Full record { need = length pieces; free = old.free + length others })
   is_full pieces others held own lacks =
       let number = pieces_from pieces held in
       let free = room_is others own in
@@ -272,7 +272,7 @@ module _ (laws : CopyLaws) (session : SessionState) (old : MediaState) (m : Mach
       two.answers (copy_between m)
       ∙ cond-true (nat_lt (frames_for m two.to) (pieces_of two.from)) (stays m (replies.Full record { need = pieces_of two.from; free = frames_for m two.to }))
       (becomes (copied m two.from two.to) (replies.Copied (carried two.from two.to))) short in
-      subst (λ (a : Answer). IsWritten session old a (replies.Full record { need = length pieces; free = old.free + length others })) (sym answer)
+      subst (λ (a : Answer). IsWrittenAs session old a (replies.Full record { need = length pieces; free = old.free + length others })) (sym answer)
       (record {
         told = λ i. replies.Full record { need = number i; free = free i };
         holds = holds;

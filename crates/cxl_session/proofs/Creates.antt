@@ -19,7 +19,7 @@ use Rattle.cxl_machine.specs.Sound.{IsMachine}
 use Rattle.cxl_session.specs.State.{JobFields, SessionState}
 use Rattle.cxl_session.specs.Standing.{StandsFor, IsAt}
 use Rattle.cxl_session.specs.inner.Answering.{IsTurnFor}
-use Rattle.cxl_session.specs.inner.Creating.{IsCreate}
+use Rattle.cxl_session.specs.inner.Creating.{IsKeptCreate}
 use Rattle.cxl_session.specs.inner.Regions.{taken_out, session_begun, IsWholeFor, LeavesUndone}
 use Rattle.cxl_session.proofs.Rearranged.{IsRearranged, rearranged_sound}
 use Rattle.cxl_session.proofs.Turns.{still, no_words}
@@ -35,7 +35,7 @@ abbrev pub with_job : JobFields → SessionState → SessionState
 with_job own session = record session { job = Some own }
 
 module _ (laws : BeginLaws) (session : SessionState) (create : Create) (own : JobFields) where
-  module _ (m : Machine) (is : IsCreate m create own) where
+  module _ (m : Machine) (is : IsKeptCreate m create own) where
     abbrev job : RegionJob
     job = create_job m.settled is.plan
 
@@ -95,7 +95,7 @@ module _ (laws : BeginLaws) (session : SessionState) (create : Create) (own : Jo
         → (next ≡ session) × (new.blocks ≡ old.blocks) × (left ≡ media)
     undone_before next old new media left stands leaves = refused_again session (with_job own session) next own old new media left (begun_from stands) begun_as is.same.done leaves
 
-  module _ (asked : (m : Machine) → StandsFor session m → IsMachine m → IsCreate m create own) where
+  module _ (asked : (m : Machine) → StandsFor session m → IsMachine m → IsKeptCreate m create own) where
     -- it is begun
     pub begin_turn : (regs : RegsState) (media : MediaState) (words : ℕ) → words ≡ length own.writes
         → IsTurnFor session (with_job own session) regs regs media media (commands.BeginCreate create) (replies.Begun record { name = own.name; writes = words })

@@ -27,7 +27,7 @@ use Rattle.cxl_machine.proofs.LiveRegions.{live_is_region}
 use Rattle.cxl_session.specs.State.{SessionState}
 use Rattle.cxl_session.specs.Standing.{HoldsMemory, IsKeptIn}
 use Rattle.cxl_session.specs.inner.Places.{StandsAt, HoldsAt}
-use Rattle.cxl_session.specs.inner.Parts.{IsWoven, HasPieces}
+use Rattle.cxl_session.specs.inner.Parts.{IsWovenIn, HasPieces}
 use Rattle.cxl_session.specs.inner.Answering.{IsWithin}
 use Rattle.cxl_live.proofs.Hosts.{host_from, host_below}
 use Rattle.cxl_session.proofs.Held.{WindowLaw, has_pieces}
@@ -43,11 +43,11 @@ PiecesLaw =
 
 module _ (session : SessionState) (m : Machine) (is : IsMachine m) (place : ℕ) (region : Live) (at : StandsAt session m place region) (there : Contains m.live region) where
   pub woven_at : (found : Found) (kept : KeptFields) (weave : WeaveFields) → slice_get session.founds place ≡ Some found → slice_get session.kept place ≡ Some kept → weave ≡ kept.weave
-      → IsWoven m.settled (region_window m.settled region.found) found weave
+      → IsWovenIn m.settled (region_window m.settled region.found) found weave
   woven_at found kept weave found_there kept_there same =
-      let own : IsWoven m.settled (region_window m.settled region.found) region.found weave =
+      let own : IsWovenIn m.settled (region_window m.settled region.found) region.found weave =
       record { system = is.settled.system; region = live_is_region m is region there; dealt = same ∙ (kept_is session m place region at kept kept_there).weave } in
-      subst (λ (f : Found). IsWoven m.settled (region_window m.settled region.found) f weave) (sym (found_is session m place region at found found_there)) own
+      subst (λ (f : Found). IsWovenIn m.settled (region_window m.settled region.found) f weave) (sym (found_is session m place region at found found_there)) own
 
   pub kept_of : (kept : KeptFields) (h : ℕ) → slice_get session.kept place ≡ Some kept → has_host region.found h ≡ true → IsKeptOf kept h
   kept_of kept h kept_there has = record {
@@ -76,14 +76,14 @@ module _ (session : SessionState) (m : Machine) (is : IsMachine m) (h len place 
   pub lies_ends : h + len ≤ found.base + found.size
   lies_ends = subst (λ (f : Found). h + len ≤ f.base + f.size) (sym same) (leb-true (h + len) (within.0.found.base + within.0.found.size) within.2)
 
-  pub woven_within : (kept : KeptFields) (weave : WeaveFields) → slice_get session.kept place ≡ Some kept → weave ≡ kept.weave → IsWoven m.settled (region_window m.settled within.0.found) found weave
+  pub woven_within : (kept : KeptFields) (weave : WeaveFields) → slice_get session.kept place ≡ Some kept → weave ≡ kept.weave → IsWovenIn m.settled (region_window m.settled within.0.found) found weave
   woven_within kept weave kept_there = woven_at session m is place within.0 within.1 there found kept weave found_there kept_there
 
 module _ (law : WindowLaw) (hold : PiecesLaw) (session : SessionState) (m : Machine) (is : IsMachine m) (media : MediaState) (memory : HoldsMemory m media) (load : Load) (place : ℕ)
     (within : IsWithin session m load.h load.len (Ok place)) (found : Found) (found_there : slice_get session.founds place ≡ Some found) (weave : WeaveFields)
-    (woven : IsWoven m.settled (region_window m.settled within.0.found) found weave) where
+    (woven : IsWovenIn m.settled (region_window m.settled within.0.found) found weave) where
   pub loaded : (bytes : List ℕ)
-      → ((s : System) (w : WindowFields) (contents : Contents) → IsWoven s w found weave → HasPieces found w contents media.blocks → bytes ≡ bytes_at contents (load.h - found.base) load.len)
+      → ((s : System) (w : WindowFields) (contents : Contents) → IsWovenIn s w found weave → HasPieces found w contents media.blocks → bytes ≡ bytes_at contents (load.h - found.base) load.len)
       → load_answer m load ≡ stays m (replies.Loaded bytes)
   loaded bytes read =
       let region : Live = within.0 in

@@ -13,8 +13,8 @@ use Rattle.cxl_machine.specs.Replies.{Answer, within_region, ends_within}
 use Rattle.cxl_machine.specs.Accesses.{store_answer, store_into}
 use Rattle.cxl_machine.specs.Sound.{IsMachine}
 use Rattle.cxl_session.specs.State.{SessionState}
-use Rattle.cxl_session.specs.inner.Answering.{IsWithin, IsWritten}
-use Rattle.cxl_session.specs.inner.Parts.{IsWoven}
+use Rattle.cxl_session.specs.inner.Answering.{IsWithin, IsWrittenAs}
+use Rattle.cxl_session.specs.inner.Parts.{IsWovenIn}
 use Rattle.cxl_session.proofs.Loads.{lies_from, lies_ends, woven_within}
 use Rattle.cxl_session.proofs.Within.{found_is}
 
@@ -24,7 +24,7 @@ pub record IsSite (m : Machine) (store : Store) (found : Found) (weave : WeaveFi
   pub fits : ends_within region.found store.h (length store.bytes) ≡ true
   pub answers : (answer : Live → Answer) → within_region m store.h (length store.bytes) answer ≡ answer region
   pub same : found ≡ region.found
-  pub woven : IsWoven m.settled (region_window m.settled region.found) found weave
+  pub woven : IsWovenIn m.settled (region_window m.settled region.found) found weave
   pub from : found.base ≤ store.h
   pub ends : store.h + length store.bytes ≤ found.base + found.size
 
@@ -50,5 +50,5 @@ module _ (m : Machine) (store : Store) (found : Found) (weave : WeaveFields) (he
   region_carries h ep dpa carries = subst (λ (f : Found). Carries f (region_window m.settled here.region.found) h ep dpa) here.same carries
 
   -- what the store is answered
-  pub store_written : (session : SessionState) (new : MediaState) (reply : Reply) → IsWritten session new (store_into m store here.region) reply → IsWritten session new (store_answer m store) reply
-  store_written session new reply written = subst (λ (a : Answer). IsWritten session new a reply) (sym (here.answers (store_into m store))) written
+  pub store_written : (session : SessionState) (new : MediaState) (reply : Reply) → IsWrittenAs session new (store_into m store here.region) reply → IsWrittenAs session new (store_answer m store) reply
+  store_written session new reply written = subst (λ (a : Answer). IsWrittenAs session new a reply) (sym (here.answers (store_into m store))) written

@@ -32,7 +32,7 @@ use Rattle.cxl_machine.proofs.KeepingOrder.{pairs_front, all_front}
 use Rattle.cxl_machine.proofs.LiveRegions.{live_is_region}
 use Rattle.cxl_session.specs.State.{SessionState}
 use Rattle.cxl_session.specs.Standing.{HoldsMemory}
-use Rattle.cxl_session.specs.inner.Answering.{HoldsMachine, IsWritten}
+use Rattle.cxl_session.specs.inner.Answering.{HoldsMachine, IsWrittenAs}
 use Rattle.cxl_session.specs.inner.Storing.{need_at, IsPut, PutsOne, PutsTwo}
 use Rattle.cxl_session.specs.inner.Storing as puts
 use Rattle.cxl_session.proofs.Fronts.{at_front, front_with, own_again, own_changed}
@@ -220,15 +220,15 @@ module _ (laws : StoreLaws) (session : SessionState) (old : MediaState) (m : Mac
   done = becomes next (replies.Stored (length store.bytes))
 
   module _ (new : MediaState) (reply : Reply) (need : ℕ) (wanted : frames_wanted region store ≡ need) where
-    is_stored : need ≤ old.free → HoldsMachine session new next → reply ≡ replies.Stored (length store.bytes) → IsWritten session new (store_into m store region) reply
+    is_stored : need ≤ old.free → HoldsMachine session new next → reply ≡ replies.Stored (length store.bytes) → IsWrittenAs session new (store_into m store region) reply
     is_stored room next_holds told =
         let enough : nat_lt (free_frames m) (frames_wanted region store) ≡ false = le-ltb (free_frames m) (frames_wanted region store) (omega (arith, wanted, free_is, room)) in
-        subst (λ (a : Answer). IsWritten session new a reply) (sym (cond-false (nat_lt (free_frames m) (frames_wanted region store)) (stays m lack) done enough)) (record { told = sym told; holds = next_holds })
+        subst (λ (a : Answer). IsWrittenAs session new a reply) (sym (cond-false (nat_lt (free_frames m) (frames_wanted region store)) (stays m lack) done enough)) (record { told = sym told; holds = next_holds })
 
-    is_full : old.free < need → new ≡ old → reply ≡ replies.Full record { need = need; free = old.free } → IsWritten session new (store_into m store region) reply
+    is_full : old.free < need → new ≡ old → reply ≡ replies.Full record { need = need; free = old.free } → IsWrittenAs session new (store_into m store region) reply
     is_full short same told =
         let lacks : nat_lt (free_frames m) (frames_wanted region store) ≡ true = lt-ltb (free_frames m) (frames_wanted region store) (omega (arith, wanted, free_is, short)) in
-        subst (λ (a : Answer). IsWritten session new a reply) (sym (cond-true (nat_lt (free_frames m) (frames_wanted region store)) (stays m lack) done lacks))
+        subst (λ (a : Answer). IsWrittenAs session new a reply) (sym (cond-true (nat_lt (free_frames m) (frames_wanted region store)) (stays m lack) done lacks))
         (record {
           told = (λ i. replies.Full record { need = wanted i; free = free_is i }) ∙ sym told;
           holds = subst (λ (media : MediaState). HoldsMachine session media m) (sym same) holds;
@@ -243,7 +243,7 @@ module _ (laws : StoreLaws) (session : SessionState) (old : MediaState) (m : Mac
         one_new region.contents offset (length store.bytes) one.some (omega (arith, along, fit))
         ∙ sym (need_is laws session old m holds region there.0 store.h ep dpa carries)
 
-    pub stored_one : PutsOne ep dpa store.bytes old new reply → IsWritten session new (store_into m store region) reply
+    pub stored_one : PutsOne ep dpa store.bytes old new reply → IsWrittenAs session new (store_into m store region) reply
     stored_one (puts.stored room put told) =
         is_stored new reply (need_at old ep dpa) one_wanted room (put_holds laws session old m holds region there.0 store.h ep dpa carries new store.bytes put next_keeps) told
     stored_one (puts.full short same told) = is_full new reply (need_at old ep dpa) one_wanted short same told
@@ -295,7 +295,7 @@ module _ (laws : StoreLaws) (session : SessionState) (old : MediaState) (m : Mac
         subst (HoldsMachine session new) same_next
         (put_holds laws session between half holds_half later later_there (store.h + length front) other place further new back two (subst IsUncounted (sym same_next) next_keeps))
 
-    pub stored_two : PutsTwo ep dpa front other place back old new reply → IsWritten session new (store_into m store region) reply
+    pub stored_two : PutsTwo ep dpa front other place back old new reply → IsWrittenAs session new (store_into m store region) reply
     stored_two (puts.both_stored between room one two told) =
         is_stored new reply (need_at old ep dpa + need_at old other place) two_wanted room (both_hold between one two) (told ∙ ap replies.Stored (sym both_long))
     stored_two (puts.both_full short same told) = is_full new reply (need_at old ep dpa + need_at old other place) two_wanted short same told

@@ -17,7 +17,7 @@ use Rattle.cxl_machine.specs.Accesses.{TellsHost, carried, unmapped}
 use Rattle.cxl_machine.proofs.Deciding.{contains_at, at_contains}
 use Rattle.cxl_session.specs.State.{SessionState}
 use Rattle.cxl_session.specs.Standing.{StandsFor}
-use Rattle.cxl_session.specs.inner.Parts.{IsWoven}
+use Rattle.cxl_session.specs.inner.Parts.{IsWovenIn}
 use Rattle.cxl_session.specs.inner.Places.{StandsAt}
 use Rattle.cxl_session.proofs.Places.{within, as_many, stands_at}
 use Rattle.cxl_session.proofs.Within.{found_is, name_is}
@@ -33,7 +33,7 @@ module _ (session : SessionState) (m : Machine) (stands : StandsFor session m) w
   region_at place low = within m.live place (omega (arith, low, as_many session m stands))
 
   pub woven_there : IsMachine m → (place : ℕ) (found : Found) (kept : KeptFields) (weave : WeaveFields) → slice_get session.founds place ≡ Some found → slice_get session.kept place ≡ Some kept
-      → weave ≡ kept.weave → (s : System) × (w : WindowFields) × IsWoven s w found weave
+      → weave ≡ kept.weave → (s : System) × (w : WindowFields) × IsWovenIn s w found weave
   woven_there is place found kept weave found_there kept_there same =
       let (region, there) = region_at place (slice_get_within session.founds place found found_there) in (
         m.settled,
@@ -61,7 +61,7 @@ module _ (session : SessionState) (m : Machine) (stands : StandsFor session m) w
         before k region (omega (arith, low, all, as_many session m stands)) there lies) refl
 
     pub told_there : IsMachine m → (place : ℕ) (found : Found) (kept : KeptFields) (weave : WeaveFields) (h : ℕ) (name : List ℕ) → slice_get session.founds place ≡ Some found → slice_get session.kept place ≡ Some kept
-        → weave ≡ kept.weave → slice_get session.names place ≡ Some name → ((s : System) (w : WindowFields) → IsWoven s w found weave → Carries found w h endpoint dpa)
+        → weave ≡ kept.weave → slice_get session.names place ≡ Some name → ((s : System) (w : WindowFields) → IsWovenIn s w found weave → Carries found w h endpoint dpa)
         → TellsHost m endpoint dpa (replies.Up record { h = h; name = name })
     told_there is place found kept weave h name found_there kept_there same name_there carries =
         let (region, there) = region_at place (slice_get_within session.founds place found found_there) in

@@ -27,7 +27,7 @@ use Rattle.cxl_session.specs.State.{JobFields, SessionState}
 use Rattle.cxl_session.specs.Standing.{StandsFor, IsAt, IsJobFor, HasSameJob}
 use Rattle.cxl_session.specs.declared.requests.Release.{Release}
 use Rattle.cxl_session.specs.inner.Answering.{IsTurnFor}
-use Rattle.cxl_session.specs.inner.Requests.{IsRelease}
+use Rattle.cxl_session.specs.inner.Requests.{IsNamedRelease}
 use Rattle.cxl_session.specs.inner.Regions.{session_undone, session_finished, finished_reply, ended_as, IsMadeTo, IsTakenBackTo, IsLeftByEnd, IsLeftBy, IsWholeFor}
 use Rattle.cxl_session.proofs.Aborts.{BackLaw}
 use Rattle.cxl_session.proofs.Ends.{EndLaws, finished_stands}
@@ -190,11 +190,11 @@ released_again m place region idle there =
 -- ---- a region that is ended
 
 pub destroyed : (session pending next : SessionState) (name : List ℕ) (release : Release) (old new : RegsState) (media left : MediaState) (reply : Reply)
-    → ((m : Machine) → StandsFor session m → IsMachine m → IsRelease m name release)
-    → ((m : Machine) → IsAt session old media m → (is : IsRelease m name release) → IsAt pending old media (begun (release_job m.settled release.place is.region) m))
+    → ((m : Machine) → StandsFor session m → IsMachine m → IsNamedRelease m name release)
+    → ((m : Machine) → IsAt session old media m → (is : IsNamedRelease m name release) → IsAt pending old media (begun (release_job m.settled release.place is.region) m))
     → IsWholeFor pending next old new media left reply → IsTurnFor session next old new media left (commands.Destroy name) reply
 destroyed session pending next name release old new media left reply asked begins whole m at =
-    let is : IsRelease m name release = asked m at.stands at.sound.machine in
+    let is : IsNamedRelease m name release = asked m at.stands at.sound.machine in
     let job : RegionJob = release_job m.settled release.place is.region in
     let (turn, outcome, carries, sends, faults, taken) = whole m job (begins m at is) refl (released_again m release.place is.region is.idle is.there) in (
       turn,

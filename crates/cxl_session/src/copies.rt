@@ -15,7 +15,7 @@ ghost use Rattle.cxl_machine.specs.Copies.{copy_answer, move_answer};
 ghost use Rattle.cxl_machine.specs.Sound.{IsMachine};
 ghost use Rattle.cxl_session.specs.State.{SessionState};
 ghost use Rattle.cxl_session.specs.Standing.{StandsFor};
-ghost use Rattle.cxl_session.specs.inner.Answering.{HoldsMachine, HoldsSome, IsWritten, IsWrittenFor};
+ghost use Rattle.cxl_session.specs.inner.Answering.{HoldsMachine, HoldsSome, IsWrittenAs, IsWrittenFor};
 ghost use Rattle.cxl_session.specs.inner.Pairs.{IsSideAt, AreTwo, AreForTwo};
 ghost use Rattle.cxl_session.specs.inner.Places.{StandsAt, IsNamedAt};
 
@@ -178,20 +178,20 @@ fn carried_pieces_are_answers()
         (from to : Found) (v w : WindowFields) (pieces : List ℕ) → HoldsMachine session old m
         → AreTwo session m pair first second → IsSideAt session first from v → IsSideAt session second to w
         → AreHeld from v old.blocks pieces → IsMoved from v to w old.blocks new.blocks
-        → frame_count new ≡ frame_count old → IsWritten session new (move_answer m pair)
+        → frame_count new ≡ frame_count old → IsWrittenAs session new (move_answer m pair)
         (replies.Moved record { from = pair.from; to = pair.to; pieces = length pieces }) }
     ensures copied { (session : SessionState) (old new : MediaState) (m : Machine) (pair : Pair) (first second : ℕ)
         (from to : Found) (v w : WindowFields) (pieces others : List ℕ) → HoldsMachine session old m
         → AreTwo session m pair first second → IsSideAt session first from v → IsSideAt session second to w
         → AreHeld from v old.blocks pieces → AreHeld to w old.blocks others → length pieces ≤ old.free + length others
         → IsCopied from v to w old.blocks new.blocks → frame_count new ≡ frame_count old
-        → IsWritten session new (copy_answer m pair)
+        → IsWrittenAs session new (copy_answer m pair)
         (replies.Copied record { from = pair.from; to = pair.to; pieces = length pieces }) }
     ensures full { (session : SessionState) (old : MediaState) (m : Machine) (pair : Pair) (first second : ℕ)
         (from to : Found) (v w : WindowFields) (pieces others : List ℕ) → HoldsMachine session old m
         → AreTwo session m pair first second → IsSideAt session first from v → IsSideAt session second to w
         → AreHeld from v old.blocks pieces → AreHeld to w old.blocks others → old.free + length others < length pieces
-        → IsWritten session old (copy_answer m pair)
+        → IsWrittenAs session old (copy_answer m pair)
         (replies.Full record { need = length pieces; free = old.free + length others }) }
 {
     accesses_keep_machines();

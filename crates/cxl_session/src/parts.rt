@@ -10,7 +10,7 @@ ghost use Rattle.cxl_model.specs.Regions.{IsRegionIn, Carries};
 ghost use Rattle.cxl_model.specs.System.{System, IsSystem};
 ghost use Rattle.cxl_move.specs.Sides.{IsPieceAt};
 ghost use Rattle.cxl_machine.specs.Bytes.{bytes_at};
-ghost use Rattle.cxl_session.specs.inner.Parts.{IsWoven, IsWovenSomewhere, HasPieces};
+ghost use Rattle.cxl_session.specs.inner.Parts.{IsWovenIn, IsWovenSomewhere, HasPieces};
 
 use cxl_deal::{Weave, deal};
 use cxl_enc::{FixedList, Memory};
@@ -56,7 +56,7 @@ pub(crate) fn device_byte(found: &Found, weave: &Weave, h: u64) -> DeviceByte
     requires region { IsWovenSomewhere found.now weave.now }
     requires from { found.now.base ≤ h }
     requires below { h < found.now.base + found.now.size }
-    ensures { (s : System) (w : WindowFields) → IsWoven s w found.now weave.now
+    ensures { (s : System) (w : WindowFields) → IsWovenIn s w found.now weave.now
         → Carries found.now w h result.ep result.dpa }
 {
     weaves_fill_their_regions();
@@ -85,7 +85,7 @@ pub(crate) fn load_bytes<M: Media>(
     requires from { found.now.base ≤ load.h }
     requires ends { load.h + load.len ≤ found.now.base + found.now.size }
     ensures { IfOk result (λ bytes. (s : System) (w : WindowFields) (contents : Contents)
-        → IsWoven s w found.now weave.now → HasPieces found.now w contents (M.state media.now).blocks
+        → IsWovenIn s w found.now weave.now → HasPieces found.now w contents (M.state media.now).blocks
         → bytes ≡ bytes_at contents (load.h - found.now.base) load.len) }
 {
     let mut bytes = vec![in alloc; 0; load.len as usize]?;
@@ -101,7 +101,7 @@ fn read<M: Media>(media: &M, found: &Found, weave: &Weave, h: u64, into: &mut [u
     requires from { found.now.base ≤ h }
     requires ends { h + length into.old ≤ found.now.base + found.now.size }
     ensures { (s : System) (w : WindowFields) (contents : Contents)
-        → IsWoven s w found.now weave.now → HasPieces found.now w contents (M.state media.now).blocks
+        → IsWovenIn s w found.now weave.now → HasPieces found.now w contents (M.state media.now).blocks
         → into.new ≡ bytes_at contents (h - found.now.base) (length into.old) }
 {
     regions_lie_in_windows();
@@ -120,7 +120,7 @@ fn read_part<M: Media>(media: &M, found: &Found, weave: &Weave, h: u64, into: &m
     requires ends { h + length into.old ≤ found.now.base + found.now.size }
     requires piece { IsInOneBlock (h - found.now.base) (length into.old) }
     ensures { (s : System) (w : WindowFields) (contents : Contents)
-        → IsWoven s w found.now weave.now → HasPieces found.now w contents (M.state media.now).blocks
+        → IsWovenIn s w found.now weave.now → HasPieces found.now w contents (M.state media.now).blocks
         → into.new ≡ bytes_at contents (h - found.now.base) (length into.old) }
 {
     bytes_lie_in_pieces();

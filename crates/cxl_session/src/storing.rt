@@ -16,7 +16,7 @@ ghost use Rattle.cxl_machine.specs.Bytes.{AreBytes};
 ghost use Rattle.cxl_machine.specs.Replies.{is_refusal, ends_within};
 ghost use Rattle.cxl_machine.specs.Accesses.{offset_in, store_answer, store_into};
 ghost use Rattle.cxl_session.specs.State.{SessionState};
-ghost use Rattle.cxl_session.specs.inner.Answering.{HoldsMachine, HoldsSome, IsWritten, IsWrittenFor};
+ghost use Rattle.cxl_session.specs.inner.Answering.{HoldsMachine, HoldsSome, IsWrittenAs, IsWrittenFor};
 ghost use Rattle.cxl_session.specs.inner.Storing.{need_at, IsPut, PutsOne, PutsTwo};
 
 use crate::parts::{DeviceByte, bytes_lie_in_pieces, device_byte, first_part};
@@ -125,7 +125,7 @@ fn parts_are_answers()
         → ends_within region.found store.h (length store.bytes) ≡ true → AreBytes store.bytes
         → Carries region.found (region_window m.settled region.found) store.h ep dpa
         → IsInOneBlock dpa (length store.bytes) → PutsOne ep dpa store.bytes old new reply
-        → IsWritten session new (store_into m store region) reply }
+        → IsWrittenAs session new (store_into m store region) reply }
     ensures two { (session : SessionState) (old new : MediaState) (m : Machine) (store : Store) (region : Live)
         (ep dpa other place : ℕ) (front back : List ℕ) (reply : Reply) → HoldsMachine session old m
         → live_at m store.h ≡ Some region → ends_within region.found store.h (length store.bytes) ≡ true
@@ -134,7 +134,7 @@ fn parts_are_answers()
         → Carries region.found (region_window m.settled region.found) store.h ep dpa
         → Carries region.found (region_window m.settled region.found) (store.h + length front) other place
         → PutsTwo ep dpa front other place back old new reply
-        → IsWritten session new (store_into m store region) reply }
+        → IsWrittenAs session new (store_into m store region) reply }
 {
     blocks_are_pieces();
     blocks_hold_their_pieces();

@@ -5,7 +5,7 @@ ghost use Rattle.cxl_window.specs.Fields.{WindowFields};
 ghost use Rattle.cxl_model.specs.Bytes.{LiesInSpan};
 ghost use Rattle.cxl_model.specs.Regions.{Carries};
 ghost use Rattle.cxl_model.specs.System.{System};
-ghost use Rattle.cxl_session.specs.inner.Parts.{IsWoven, IsWovenSomewhere};
+ghost use Rattle.cxl_session.specs.inner.Parts.{IsWovenIn, IsWovenSomewhere};
 
 use cxl_deal::{Weave, gather, region_fills_slots};
 use cxl_model::{
@@ -17,7 +17,7 @@ use cxl_move::span_byte;
 /// The host address that the region carries to a byte of an endpoint's device, where it carries one there.
 pub(crate) fn host_of(found: &Found, weave: &Weave, endpoint: u32, dpa: u64) -> Option<u64>
     requires { IsWovenSomewhere found.now weave.now }
-    ensures some { IfSome result (λ h. (s : System) (w : WindowFields) → IsWoven s w found.now weave.now
+    ensures some { IfSome result (λ h. (s : System) (w : WindowFields) → IsWovenIn s w found.now weave.now
         → Carries found.now w h endpoint dpa) }
     ensures none { IfNone result (LiesInSpan found.now endpoint dpa → ⊥) }
 {

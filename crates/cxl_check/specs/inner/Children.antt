@@ -8,6 +8,6 @@ abbrev pub AreFirstChildren : List Node → ℕ → List (Option ℕ) → Type 0
 AreFirstChildren nodes count children = (k : ℕ) → k < count → get_or children k None ≡ child_of nodes (k / 8) (k % 8)
 
 -- all nodes have theirs
-pub record AreChildren (nodes : List Node) (children : List (Option ℕ)) : Type 0 where
+pub record AreAllChildren (nodes : List Node) (children : List (Option ℕ)) : Type 0 where
   pub count : length children ≡ 8 * length nodes
   pub each : AreFirstChildren nodes (8 * length nodes) children

@@ -6,7 +6,7 @@ use Rattle.cxl_regs.specs.declared.reading.Range.{Range}
 use Rattle.cxl_regs.specs.Reading.{decoder_ways}
 use Rattle.cxl_check.specs.declared.facts.RangeFacts.{RangeFacts}
 use Rattle.cxl_check.specs.declared.tables.Tables.{Tables}
-use Rattle.cxl_check.specs.inner.Children.{AreChildren}
+use Rattle.cxl_check.specs.inner.Children.{AreAllChildren}
 use Rattle.cxl_check.specs.inner.Firsts.{ListsFirsts, AreLandings}
 use Rattle.std.specs.Prelude.{length}
 use Rattle.cxl_model.specs.System.{System}
@@ -33,6 +33,6 @@ pub record AreFacts (s : System) (r : Range) (facts : RangeFacts) : Type 0 where
 
 -- the tables are those of the image
 pub record AreSystemTables (s : System) (tables : Tables) : Type 0 where
-  pub children : AreChildren s.nodes tables.children.items
+  pub children : AreAllChildren s.nodes tables.children.items
   pub landings : AreLandings s.nodes tables.landings.items
   pub firsts : ListsFirsts s (length s.nodes) tables.firsts

@@ -11,14 +11,14 @@ Breaks = ℕ → ℕ → ℕ → Bool
 -- ---- of one decoder
 
 -- decoder i of node n breaks the rule, and no lower one
-pub record IsLeastRule (breaks : Breaks) (n i rule : ℕ) : Type 0 where
+pub record IsLeastBroken (breaks : Breaks) (n i rule : ℕ) : Type 0 where
   pub broken : breaks rule n i ≡ true
   pub rules : (lower : ℕ) → lower < rule → breaks lower n i ≡ false
 
 -- the least rule that decoder i of node n breaks, where it breaks one
-abbrev pub IsLeastAt : Breaks → ℕ → ℕ → Option ℕ → Type 0
-IsLeastAt breaks n i None = (rule : ℕ) → breaks rule n i ≡ false
-IsLeastAt breaks n i (Some rule) = IsLeastRule breaks n i rule
+abbrev pub IsLeastBrokenAt : Breaks → ℕ → ℕ → Option ℕ → Type 0
+IsLeastBrokenAt breaks n i None = (rule : ℕ) → breaks rule n i ≡ false
+IsLeastBrokenAt breaks n i (Some rule) = IsLeastBroken breaks n i rule
 
 -- ---- of some decoders of a node
 
@@ -49,13 +49,13 @@ IsFoundOfNode breaks n (Some b) = IsFirstOfNode breaks n b.rule b.decoder
 -- ---- of some nodes
 
 -- the least rule that a node below k breaks, with the first node and decoder that do
-pub record IsFirstBelow (breaks : Breaks) (k : ℕ) (b : Breach) : Type 0 where
+pub record IsFirstAmong (breaks : Breaks) (k : ℕ) (b : Breach) : Type 0 where
   pub broken : breaks b.rule b.node b.decoder ≡ true
   pub rules : (lower n i : ℕ) → lower < b.rule → n < k → breaks lower n i ≡ false
   pub nodes : (n i : ℕ) → n < b.node → breaks b.rule n i ≡ false
   pub decoders : (i : ℕ) → i < b.decoder → breaks b.rule b.node i ≡ false
 
 -- what is found of the nodes below k
-abbrev pub IsFoundBelow : Breaks → ℕ → Option Breach → Type 0
-IsFoundBelow breaks k None = (rule n i : ℕ) → n < k → breaks rule n i ≡ false
-IsFoundBelow breaks k (Some b) = IsFirstBelow breaks k b
+abbrev pub IsFoundAmong : Breaks → ℕ → Option Breach → Type 0
+IsFoundAmong breaks k None = (rule n i : ℕ) → n < k → breaks rule n i ≡ false
+IsFoundAmong breaks k (Some b) = IsFirstAmong breaks k b

@@ -34,13 +34,13 @@ pub record AreOffers (s : System) (want : Want) (w : WindowFields) (start : ℕ)
       → own.items ≡ offered s want w start (length s.nodes - 1 - place / 5) (2 ^ (place % 5))
 
 -- the offers are those of each window of their code and third, from each of their starts
-pub record AreKept (s : System) (want : Want) (kept : KeptOffers) : Type 0 where
+pub record AreKeptOffers (s : System) (want : Want) (kept : KeptOffers) : Type 0 where
   pub offers : (w : WindowFields) (start : ℕ) → wanted_code want w ≡ kept.code → third_of w.ways ≡ kept.third
       → kept.from ≤ start → start < kept.until → AreOffers s want w start kept.table.items
 
 -- a number for which the table has lists; for no other does a node give anything
-abbrev pub is_listed : ℕ → Bool
-is_listed v = is_target_count v || (v == 16)
+abbrev pub has_list : ℕ → Bool
+has_list v = is_target_count v || (v == 16)
 
 -- where the list of node c for the number v stands
 abbrev pub place_of : ℕ → ℕ → ℕ → ℕ
@@ -49,7 +49,7 @@ place_of count c v = (count - 1 - c) * 5 + log2_of v
 -- the list that stands there
 abbrev pub listed_at : List (Vec ℕ Global) → ℕ → ℕ → ℕ → List ℕ
 listed_at table count c v =
-    if is_listed v then option_map_or (λ own. own.items) (slice_get table (place_of count c v)) [] else []
+    if has_list v then option_map_or (λ own. own.items) (slice_get table (place_of count c v)) [] else []
 
 -- a list with some numbers
 abbrev pub some_of : List ℕ → Option (List ℕ)

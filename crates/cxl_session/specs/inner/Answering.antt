@@ -45,13 +45,13 @@ abbrev pub HoldsSome : SessionState → MediaState → Type 0
 HoldsSome session media = (m : Machine) × HoldsMachine session media m
 
 -- this is the answer's reply, and session and media hold its machine
-pub record IsWritten (session : SessionState) (media : MediaState) (answer : Answer) (reply : Reply) : Type 0 where
+pub record IsWrittenAs (session : SessionState) (media : MediaState) (answer : Answer) (reply : Reply) : Type 0 where
   pub told : answer.reply ≡ reply
   pub holds : HoldsMachine session media answer.machine
 
 -- each machine that they held answers so
 abbrev pub IsWrittenFor : SessionState → MediaState → MediaState → (Machine → Answer) → Reply → Type 0
-IsWrittenFor session old new answer reply = (m : Machine) → HoldsMachine session old m → IsWritten session new (answer m) reply
+IsWrittenFor session old new answer reply = (m : Machine) → HoldsMachine session old m → IsWrittenAs session new (answer m) reply
 
 -- ---- jobs
 

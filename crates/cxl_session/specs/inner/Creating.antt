@@ -28,12 +28,12 @@ pub record IsPrepared (s : System) (plan : Plan) (own : JobFields) : Type 0 wher
   pub kept : IsKeptIn (with_rows s plan.rows) plan.found own.kept
 
 -- the create of a plan that is asked for, as a session keeps it
-pub record IsCreate (m : Machine) (create : Create) (own : JobFields) : Type 0 where
+pub record IsKeptCreate (m : Machine) (create : Create) (own : JobFields) : Type 0 where
   pub plan : Plan
   pub asked : AsksCreate m create (Ok (create_job m.settled plan))
   pub same : IsJobFor m own (create_job m.settled plan)
 
 -- that, or why it is refused
 abbrev pub IsAskedCreate : Machine → Create → Result Pending Reply → Type 0
-IsAskedCreate m create (Ok pending) = IsCreate m create (job_fields pending)
+IsAskedCreate m create (Ok pending) = IsKeptCreate m create (job_fields pending)
 IsAskedCreate m create (Err refusal) = AsksCreate m create (Err refusal)

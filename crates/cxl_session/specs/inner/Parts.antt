@@ -11,14 +11,14 @@ use Rattle.cxl_model.specs.Regions.{IsRegionIn, weave_fields}
 use Rattle.cxl_move.specs.Sides.{IsPieceAt}
 
 -- a region of an image in its window, and its weave
-pub record IsWoven (s : System) (w : WindowFields) (found : Found) (weave : WeaveFields) : Type 0 where
+pub record IsWovenIn (s : System) (w : WindowFields) (found : Found) (weave : WeaveFields) : Type 0 where
   pub system : IsSystem s
   pub region : IsRegionIn s w found
   pub dealt : weave ≡ weave_fields found w
 
 -- of some image, in some window
 abbrev pub IsWovenSomewhere : Found → WeaveFields → Type 0
-IsWovenSomewhere found weave = (s : System) × (w : WindowFields) × IsWoven s w found weave
+IsWovenSomewhere found weave = (s : System) × (w : WindowFields) × IsWovenIn s w found weave
 
 -- media has these pieces of the region: the block of each which is there, with its bytes, and of no other
 abbrev pub HasPieces : Found → WindowFields → Contents → Blocks → Type 0

@@ -8,7 +8,7 @@ use Rattle.cxl_machine.specs.Requests.{asked_release}
 use Rattle.cxl_session.specs.declared.requests.Release.{Release}
 
 -- the release of the live region at its place, of which these are the rows
-pub record IsRelease (m : Machine) (name : List ℕ) (release : Release) : Type 0 where
+pub record IsNamedRelease (m : Machine) (name : List ℕ) (release : Release) : Type 0 where
   pub idle : m.job ≡ None
   pub region : Live
   pub there : slice_get m.live release.place ≡ Some region
@@ -20,5 +20,5 @@ pub record IsRelease (m : Machine) (name : List ℕ) (release : Release) : Type 
 
 -- that, or why it is refused
 abbrev pub IsAskedRelease : Machine → List ℕ → Result Release Reply → Type 0
-IsAskedRelease m name (Ok release) = IsRelease m name release
+IsAskedRelease m name (Ok release) = IsNamedRelease m name release
 IsAskedRelease m name (Err refusal) = asked_release m name ≡ Err refusal

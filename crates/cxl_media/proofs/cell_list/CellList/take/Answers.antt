@@ -2,7 +2,7 @@ use Rattle.std.proofs.Common.{◌≡◌, ◌≢◌, ℕ, suc, ◌-◌, ◌<◌, 
 use Rattle.std.proofs.lemmas.List.{get_or_read}
 use Rattle.cxl_media.specs.declared.cell.Cell.{Cell}
 use Rattle.cxl_media.specs.Table.{Cells, cell_at}
-use Rattle.cxl_media.specs.CellList.{named, cells_of, AreKept}
+use Rattle.cxl_media.specs.CellList.{block_named, cells_of, AreOwnNumbers}
 use Rattle.cxl_media.proofs.CellLists.{length_of, cell_here, emptied_cells, taken_within, taken_cells, taken_kept}
 use Rattle.cxl_media.proofs.cell_list.CellList.take.Goals as goal
 
@@ -33,8 +33,8 @@ invariant_of-self-2 c =
     let within = inside_of _ _ _ c.args.at c.self.view_is c.requires in
     let number = number_of _ _ _ _ within c.index_mut.ensures.value c.replace-number.ensures.value c.if-number-eq0.false in
     let place = c.replace-number.result - 1 in
-    subst (λ (n : ℕ). AreKept (set c.self.inside.numbers.items c.args.at n) (set c.self.inside.kept.items place c.replace.new.dest) c.self.inside.kept.cap) (sym c.replace-number.ensures.after)
-    (subst (λ (o : Option Cell). AreKept (set c.self.inside.numbers.items c.args.at 0) (set c.self.inside.kept.items place o) c.self.inside.kept.cap) (sym c.replace.ensures.after)
+    subst (λ (n : ℕ). AreOwnNumbers (set c.self.inside.numbers.items c.args.at n) (set c.self.inside.kept.items place c.replace.new.dest) c.self.inside.kept.cap) (sym c.replace-number.ensures.after)
+    (subst (λ (o : Option Cell). AreOwnNumbers (set c.self.inside.numbers.items c.args.at 0) (set c.self.inside.kept.items place o) c.self.inside.kept.cap) (sym c.replace.ensures.after)
     (taken_kept _ _ _ c.self.invariant c.args.at within place number))
 
 pub returns-clause-value : goal.returns-clause-value
@@ -44,7 +44,7 @@ returns-clause-value c =
     let place = c.replace-number.result - 1 in
     c.replace.ensures.value
     ∙ get_or_read c.self.inside.kept.items place c.index_mut-2.result.now (taken_within _ _ _ c.self.invariant c.args.at within place number) c.index_mut-2.ensures.value None
-    ∙ sym (cell_here c.self.inside.numbers.items c.self.inside.kept.items c.args.at ∙ ap (named c.self.inside.kept.items) number)
+    ∙ sym (cell_here c.self.inside.numbers.items c.self.inside.kept.items c.args.at ∙ ap (block_named c.self.inside.kept.items) number)
     ∙ ap (λ cells. cell_at cells c.args.at) c.self.view_is
 
 pub returns-clause-empty : goal.returns-clause-empty

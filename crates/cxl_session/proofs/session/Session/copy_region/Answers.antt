@@ -4,7 +4,7 @@ use Rattle.cxl_reply.specs.declared.details.Carried.{Carried}
 use Rattle.cxl_reply.specs.declared.details.Lack.{Lack}
 use Rattle.cxl_reply.specs.declared.reply.Reply.TheVariants as replies
 use Rattle.cxl_machine.specs.Copies.{copy_answer}
-use Rattle.cxl_session.specs.inner.Answering.{IsWritten}
+use Rattle.cxl_session.specs.inner.Answering.{IsWrittenAs}
 use Rattle.cxl_session.proofs.Carrying.{window_within}
 use Rattle.cxl_session.proofs.session.Session.copy_region.Goals as goal
 
@@ -96,7 +96,7 @@ returns-then-len-free-clause-answer g c = λ m holds.
     c.in_ok-others.ensures short in
     let need : length pieces ≡ c.len-then-len-free.result = omega (arith, c.len-then-len-free.ensures) in
     let free : old.free + length others ≡ c.free.result + c.len.result = omega (arith, c.len.ensures, c.free.ensures) in
-    subst (λ (x : Lack). IsWritten c.args.self.now old (copy_answer m c.args.pair.now) (replies.Full x)) (λ i. record { need = need i; free = free i }) written
+    subst (λ (x : Lack). IsWrittenAs c.args.self.now old (copy_answer m c.args.pair.now) (replies.Full x)) (λ i. record { need = need i; free = free i }) written
 
 pub returns-clause-answer : goal.returns-clause-answer
 returns-clause-answer g c = λ m holds.
@@ -111,4 +111,4 @@ returns-clause-answer g c = λ m holds.
     c.in_ok-others.ensures room c.copy_bytes.ensures.copied c.copy_bytes.ensures.frames in
     let told : record { from = c.args.pair.now.from; to = c.args.pair.now.to; pieces = length pieces } ≡ c.carried.result =
     sym (c.carried.ensures ∙ (λ i. record { from = c.args.pair.now.from; to = c.args.pair.now.to; pieces = length (c.deref-2.ensures.value i) })) in
-    subst (λ (x : Carried). IsWritten c.args.self.now (g.M.Media.state c.copy_bytes.new.media) (copy_answer m c.args.pair.now) (replies.Copied x)) told written
+    subst (λ (x : Carried). IsWrittenAs c.args.self.now (g.M.Media.state c.copy_bytes.new.media) (copy_answer m c.args.pair.now) (replies.Copied x)) told written

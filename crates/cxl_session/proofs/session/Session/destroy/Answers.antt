@@ -5,7 +5,7 @@ use Rattle.cxl_reply.specs.declared.reply.Reply.{Reply}
 use Rattle.cxl_machine.specs.Machine.{Machine}
 use Rattle.cxl_machine.specs.Jobs.{release_job}
 use Rattle.cxl_session.specs.declared.requests.Release.{Release}
-use Rattle.cxl_session.specs.inner.Requests.{IsRelease, IsAskedRelease}
+use Rattle.cxl_session.specs.inner.Requests.{IsNamedRelease, IsAskedRelease}
 use Rattle.cxl_session.proofs.Begins.{begun_here, begun_from, release_within}
 use Rattle.cxl_session.proofs.Undoing.{refused_again}
 use Rattle.cxl_session.proofs.Wholes.{destroyed, destroy_refused}
@@ -27,7 +27,7 @@ pub carry_out-requires : goal.carry_out-requires
 carry_out-requires g c =
     let m : Machine = c.requires.0 in
     let at = c.requires.1 in
-    let is : IsRelease m c.args.name c.in-Ok.release =
+    let is : IsNamedRelease m c.args.name c.in-Ok.release =
     subst (λ (a : Result Release Reply). IsAskedRelease m c.args.name a) c.in-Ok.is (c.in_ok-release.ensures m at.stands at.sound.machine) in (
       m,
       release_job m.settled c.in-Ok.release.place is.region,
@@ -50,7 +50,7 @@ pub returns-clause-refused : goal.returns-clause-refused
 returns-clause-refused g c = λ refused.
     let m : Machine = c.requires.0 in
     let at = c.requires.1 in
-    let is : IsRelease m c.args.name c.in-Ok.release =
+    let is : IsNamedRelease m c.args.name c.in-Ok.release =
     subst (λ (a : Result Release Reply). IsAskedRelease m c.args.name a) c.in-Ok.is (c.in_ok-release.ensures m at.stands at.sound.machine) in
     let (own, begun, from, fresh) = begun_from c.jobs_have_one_list_of_writes.ensures.release c.releases_begin_as_machines.ensures.machine c.args.self.now c.begin_release.new.self c.args.name c.in-Ok.release c.in_ok-job.job
     c.begin_release.ensures.begun (subst (λ (rows : List Row). AreReleaseWrites rows c.in_ok-job.job.writes) c.deref.ensures.value c.in_ok-job.ensures.writes) c.in_ok-job.ensures.none_done

@@ -2,7 +2,7 @@ use Rattle.std.proofs.Common.{◌≡◌, ◌∙◌, ap, sym, subst, length, List
 use Rattle.cxl_reply.specs.declared.details.Carried.{Carried}
 use Rattle.cxl_reply.specs.declared.reply.Reply.TheVariants as replies
 use Rattle.cxl_machine.specs.Copies.{move_answer}
-use Rattle.cxl_session.specs.inner.Answering.{IsWritten}
+use Rattle.cxl_session.specs.inner.Answering.{IsWrittenAs}
 use Rattle.cxl_session.proofs.Carrying.{window_within}
 use Rattle.cxl_session.proofs.session.Session.move_region.Goals as goal
 
@@ -46,4 +46,4 @@ returns-clause-answer g c = λ m holds.
     c.move_bytes.ensures.moved c.move_bytes.ensures.frames in
     let told : record { from = c.args.pair.now.from; to = c.args.pair.now.to; pieces = length pieces } ≡ c.carried.result =
     sym (c.carried.ensures ∙ (λ i. record { from = c.args.pair.now.from; to = c.args.pair.now.to; pieces = length (c.deref-2.ensures.value i) })) in
-    subst (λ (x : Carried). IsWritten c.args.self.now (g.M.Media.state c.move_bytes.new.media) (move_answer m c.args.pair.now) (replies.Moved x)) told written
+    subst (λ (x : Carried). IsWrittenAs c.args.self.now (g.M.Media.state c.move_bytes.new.media) (move_answer m c.args.pair.now) (replies.Moved x)) told written
