@@ -14,7 +14,7 @@ use cxl_walk::down;
 use std::alloc::Global;
 use std::process::Abort;
 
-fn table_of(rt: &impl Abort, alloc: Global, digits: &str) -> Cedt {
+pub(crate) fn table_of(rt: &impl Abort, alloc: Global, digits: &str) -> Cedt {
     let table = bytes(rt, alloc, digits);
     assert!(rt; table.len() <= 1_048_576);
     read(alloc, &table).expect(rt, "a table")

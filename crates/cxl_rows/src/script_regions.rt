@@ -11,7 +11,7 @@ fn regions(rt: HostRuntime) {
     come_to(&rt, &REGIONS);
 }
 
-const REGIONS: [Script; 8] = [
+pub(crate) const REGIONS: [Script; 8] = [
     // Both kinds of memory in one endpoint.
     Script {
         table: ONE_BRIDGE,

@@ -76,7 +76,7 @@ fn ways(rt: HostRuntime) {
     come_to(&rt, &WAYS);
 }
 
-const WAYS: [Script; 8] = [
+pub(crate) const WAYS: [Script; 8] = [
     // Three ways.
     Script {
         table: THREE_BRIDGES_SMALL,
@@ -220,7 +220,7 @@ fn firmware(rt: HostRuntime) {
     come_to(&rt, &FIRMWARE);
 }
 
-const FIRMWARE: [Script; 3] = [
+pub(crate) const FIRMWARE: [Script; 3] = [
     // Locked decoders.
     Script {
         table: TWO_BRIDGES,
@@ -277,7 +277,7 @@ fn poisoned(rt: HostRuntime) {
     come_to(&rt, &POISONED);
 }
 
-const POISONED: [Script; 2] = [
+pub(crate) const POISONED: [Script; 2] = [
     // A record past the end of a span, one of no length, a false count, and a list that is cut.
     Script {
         table: TWO_BRIDGES,

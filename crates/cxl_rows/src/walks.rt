@@ -17,7 +17,7 @@ use std::process::Abort;
 
 /// The route that is written as its position, base, endpoint, decoder and device address, and the node, decoder and
 /// entry of each step; by window 0.
-fn route_of(numbers: &[u64]) -> Route {
+pub(crate) fn route_of(numbers: &[u64]) -> Route {
     let steps = [
         step_of(numbers, 5),
         step_of(numbers, 8),

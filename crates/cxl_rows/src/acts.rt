@@ -1,0 +1,465 @@
+//! The worked scripts command by command: each line as a call of `act` over an open session, with the text of its reply. Which
+//! routes are kept behind each command; and the image behind each command that meets a fault of the bus.
+
+ghost use Rattle.std.specs.Prelude.{◌≡◌, ◌<◌, IfOk};
+ghost use Rattle.cxl_machine.specs.Machine.{Machine};
+ghost use Rattle.cxl_machine.specs.Sound.{IsMachine};
+ghost use Rattle.cxl_script.specs.Grammar.{IsRanged};
+ghost use Rattle.cxl_session.specs.Standing.{Stands, StandsFor};
+
+use crate::guest_stores::table_of;
+use crate::host_files::ONE_FRAME;
+use crate::hosts::windows_of;
+use crate::rows::{changed, has_passed, numbers};
+use crate::script_bytes::BYTES_BY_HOST;
+use crate::script_regions::REGIONS;
+use crate::script_words::{BETWEEN_WORDS, FAILING_BUSES};
+use crate::scripts::{FIRMWARE, POISONED, Script, WAYS};
+use crate::tables::TWO_BRIDGES;
+use crate::walks::route_of;
+use cxl_bus::{FailingBus, Regs, SimBus};
+use cxl_image::{Image, read_image, write_image};
+use cxl_machine::{OpenFault, answers_are_told, live_regions_stay};
+use cxl_media::{MapMedia, Media, Roll, SimMedia};
+use cxl_reply::{Reply, put_reply};
+use cxl_script::{Command, LineFault, asked_commands_are_ranged, read_command};
+use cxl_session::Session;
+use cxl_topo::Topo;
+use cxl_topofile::read_topo;
+use cxl_walk::{Route, down};
+use std::alloc::Global;
+use std::process::Abort;
+
+// ---- a session and its commands
+
+/// The image that a script starts from: its own, or the one after reset.
+fn start_of(rt: &impl Abort, alloc: Global, script: &Script, topo: &Topo) -> Image {
+    if script.image.is_empty() {
+        return Image::new(alloc, topo).expect(rt, "memory");
+    }
+    let image = changed(rt, alloc, script.image, script.changes, 4);
+    read_image(alloc, &image, topo).expect(rt, "an image")
+}
+
+/// Opens a session over a script's host.
+fn opened<R: Regs, M: Roll>(
+    rt: &impl Abort,
+    alloc: Global,
+    script: &Script,
+    regs: &mut R,
+    media: &mut M,
+) -> Result<Session, OpenFault>
+    ensures { IfOk result (λ session. Stands session (R.state regs.new) (M.state media.new)) }
+{
+    let topo = read_topo(alloc, script.topology.as_bytes()).expect(rt, "a topology");
+    let table = table_of(rt, alloc, script.table);
+    let windows = windows_of(rt, alloc, &table, topo.uids());
+    let start = start_of(rt, alloc, script, &topo);
+    Session::open(alloc, topo, windows, start, regs, media)
+}
+
+/// Carries out a command, and appends the text of its reply.
+fn act<R: Regs, M: Roll>(
+    rt: &impl Abort,
+    alloc: Global,
+    session: &mut Session,
+    command: &Command,
+    text: &mut Vec<u8>,
+    regs: &mut R,
+    media: &mut M,
+)
+    requires stands { Stands session.old (R.state regs.old) (M.state media.old) }
+    requires ranged { IsRanged command.now }
+    ensures { Stands session.new (R.state regs.new) (M.state media.new) }
+{
+    answers_are_told();
+    let reply = session
+        .act(alloc, command, regs, media)
+        .expect(rt, "memory");
+    put_reply(&reply, session.topo(), text).expect(rt, "memory");
+}
+
+/// The same of a line, which may ask for nothing.
+fn act_on_line<R: Regs, M: Roll>(
+    rt: &impl Abort,
+    alloc: Global,
+    session: &mut Session,
+    line: &str,
+    text: &mut Vec<u8>,
+    regs: &mut R,
+    media: &mut M,
+)
+    requires { Stands session.old (R.state regs.old) (M.state media.old) }
+    ensures { Stands session.new (R.state regs.new) (M.state media.new) }
+{
+    asked_commands_are_ranged();
+    match read_command(alloc, line.as_bytes()) {
+        Ok(None) => {}
+        Ok(Some(command)) => act(rt, alloc, session, &command, text, regs, media),
+        Err(LineFault::Bad(fault)) => {
+            put_reply(&Reply::BadLine(fault), session.topo(), text).expect(rt, "memory");
+        }
+        Err(LineFault::Memory) => panic!(rt; "memory"),
+    }
+}
+
+/// What lines are answered, one after the other.
+fn replies<R: Regs, M: Roll>(
+    rt: &impl Abort,
+    alloc: Global,
+    session: &mut Session,
+    lines: &str,
+    regs: &mut R,
+    media: &mut M,
+) -> Vec<u8>
+    requires { Stands session.old (R.state regs.old) (M.state media.old) }
+    ensures { Stands session.new (R.state regs.new) (M.state media.new) }
+{
+    let mut text = Vec::new(alloc);
+    for line in lines.split('\n') {
+        act_on_line(rt, alloc, session, line, &mut text, regs, media);
+    }
+    text
+}
+
+// ---- the scripts
+
+/// The exit status of a script whose session does not open.
+fn code_of(fault: OpenFault) -> u8 {
+    match fault {
+        OpenFault::Breach(_) | OpenFault::Full(_) => 8,
+        OpenFault::Bus => 7,
+        OpenFault::Memory => 9,
+    }
+}
+
+/// Whether a script's lines are answered by its text, or no session opens and it says so by its exit status.
+fn comes_to<R: Regs, M: Roll>(
+    rt: &impl Abort,
+    alloc: Global,
+    script: &Script,
+    regs: &mut R,
+    media: &mut M,
+) -> bool {
+    match opened(rt, alloc, script, regs, media) {
+        Ok(mut session) => {
+            let text = replies(rt, alloc, &mut session, script.lines, regs, media);
+            script.code == 0 && text.as_slice() == script.text.as_bytes()
+        }
+        Err(fault) => script.code == code_of(fault),
+    }
+}
+
+/// The same over a bus that fails at the script's calls; and over the simulators' bus, where none is to fail.
+fn comes_to_over<M: Roll>(rt: &impl Abort, alloc: Global, script: &Script, media: &mut M) -> bool {
+    let mut failing = FailingBus::new(alloc, numbers(rt, alloc, script.fails));
+    let mut sim = SimBus::new(alloc);
+    comes_to(rt, alloc, script, &mut failing, media)
+        && (!script.fails.is_empty() || comes_to(rt, alloc, script, &mut sim, media))
+}
+
+/// Checks each script over both kinds of device memory.
+fn come_to(rt: &(impl Abort + AllocGlobal), scripts: &[Script]) {
+    let alloc = rt.alloc();
+    for (i, script) in scripts.iter().enumerate() {
+        let mut sim = SimMedia::new(alloc);
+        has_passed(rt, i, comes_to_over(rt, alloc, script, &mut sim));
+        let mut map = MapMedia::new(alloc);
+        has_passed(rt, i, comes_to_over(rt, alloc, script, &mut map));
+    }
+}
+
+#[test]
+fn ways(rt: HostRuntime) {
+    come_to(&rt, &WAYS);
+}
+
+#[test]
+fn regions(rt: HostRuntime) {
+    come_to(&rt, &REGIONS);
+}
+
+#[test]
+fn bytes_by_host(rt: HostRuntime) {
+    come_to(&rt, &BYTES_BY_HOST);
+}
+
+#[test]
+fn between_words(rt: HostRuntime) {
+    come_to(&rt, &BETWEEN_WORDS);
+    come_to(&rt, &FAILING_BUSES);
+}
+
+#[test]
+fn firmware_and_poison(rt: HostRuntime) {
+    come_to(&rt, &FIRMWARE);
+    come_to(&rt, &POISONED);
+}
+
+// ---- kept routes
+
+/// Two bridges with an endpoint each, after reset, and one frame.
+const HOST: Script = Script {
+    table: TWO_BRIDGES,
+    topology: ONE_FRAME,
+    image: "",
+    changes: "",
+    fails: "",
+    lines: "",
+    code: 0,
+    text: "",
+};
+
+/// The route that is kept for the first byte of a slot of a live region of two ways, where the address is one.
+fn kept_route(session: &Session, h: u64) -> Option<Route> {
+    let kept = session.kept();
+    for (place, found) in session.live().iter().enumerate() {
+        if found.base <= h && h - found.base < 512 {
+            let slot = (h - found.base) as usize / 256;
+            return kept.get(place)?.routes().get(slot).copied();
+        }
+    }
+    None
+}
+
+/// The route to which an address leads by the registers.
+fn route_by_registers(session: &Session, h: u64) -> Option<Route>
+    requires { (m : Machine) × StandsFor session.now m × IsMachine m }
+{
+    live_regions_stay();
+    down(session.image(), session.topo(), session.windows(), h).ok()
+}
+
+/// A line; how many regions live behind it; the address of the first byte of a slot, and the route that is kept for it there,
+/// as the rows of walks write theirs, or none.
+struct Keeping {
+    line: &'static str,
+    live: usize,
+    address: u64,
+    route: &'static str,
+}
+
+const KEEPING: [Keeping; 9] = [
+    Keeping {
+        line: "create r0 ram 0x20000000 e0 e1",
+        live: 1,
+        address: 0x1_0000_0100,
+        route: "1 0x100000000 3 0 0  1 0 0",
+    },
+    // A region that is being made keeps no route, though its address leads to an endpoint before the last write.
+    Keeping {
+        line: "begin create b ram 0x20000000 e0 e1",
+        live: 1,
+        address: 0x1_2000_0100,
+        route: "",
+    },
+    Keeping {
+        line: "step 24",
+        live: 1,
+        address: 0x1_2000_0100,
+        route: "",
+    },
+    Keeping {
+        line: "step 8",
+        live: 2,
+        address: 0x1_2000_0100,
+        route: "1 0x120000000 3 1 0x10000000  1 1 0",
+    },
+    Keeping {
+        line: "store 0x120000100 11",
+        live: 2,
+        address: 0x1_0000_0000,
+        route: "0 0x100000000 2 0 0  0 0 0",
+    },
+    // Nor does one that is being ended, until that is undone.
+    Keeping {
+        line: "begin destroy b",
+        live: 1,
+        address: 0x1_2000_0000,
+        route: "",
+    },
+    Keeping {
+        line: "abort",
+        live: 2,
+        address: 0x1_2000_0100,
+        route: "1 0x120000000 3 1 0x10000000  1 1 0",
+    },
+    Keeping {
+        line: "destroy b",
+        live: 1,
+        address: 0x1_0000_0000,
+        route: "0 0x100000000 2 0 0  0 0 0",
+    },
+    Keeping {
+        line: "destroy r0",
+        live: 0,
+        address: 0x1_0000_0100,
+        route: "",
+    },
+];
+
+/// Whether a session keeps so many routes, and for the row's address the one to which the registers lead, or none.
+fn keeps(rt: &impl Abort, alloc: Global, session: &Session, row: &Keeping) -> bool
+    requires { (m : Machine) × StandsFor session.now m × IsMachine m }
+{
+    let many = session.live().len() == row.live && session.kept().len() == row.live;
+    let kept = kept_route(session, row.address);
+    if row.route.is_empty() {
+        return many && kept.is_none();
+    }
+    let route = Some(route_of(&numbers(rt, alloc, row.route)));
+    many && kept == route && route_by_registers(session, row.address) == route
+}
+
+/// Checks the kept routes behind each line.
+fn all_keep<R: Regs, M: Roll>(rt: &impl Abort, alloc: Global, regs: &mut R, media: &mut M) {
+    let mut session = opened(rt, alloc, &HOST, regs, media).expect(rt, "a session");
+    for (i, row) in KEEPING.iter().enumerate() {
+        replies(rt, alloc, &mut session, row.line, regs, media);
+        has_passed(rt, i, keeps(rt, alloc, &session, row));
+    }
+}
+
+#[test]
+fn kept_routes(rt: HostRuntime) {
+    let alloc = rt.alloc();
+    let mut regs = SimBus::new(alloc);
+    all_keep(&rt, alloc, &mut regs, &mut SimMedia::new(alloc));
+    all_keep(&rt, alloc, &mut regs, &mut MapMedia::new(alloc));
+}
+
+// ---- the image behind a command that meets a fault
+
+/// A command that writes registers: the lines before it and its own; the line that begins it, to be made in steps; the number
+/// of its first call of the bus and of its writes; and what it is answered.
+struct Writing {
+    before: &'static str,
+    line: &'static str,
+    begin: &'static str,
+    first: u64,
+    writes: u64,
+    reply: &'static str,
+}
+
+const CREATE: Writing = Writing {
+    before: "",
+    line: "create r0 ram 0x20000000 e0 e1",
+    begin: "begin create r0 ram 0x20000000 e0 e1",
+    first: 3,
+    writes: 32,
+    reply: "created r0 window 0 base 0x100000000 size 0x20000000 gran 256 ways 2\n",
+};
+
+const RELEASE: Writing = Writing {
+    before: "create r0 ram 0x20000000 e0 e1",
+    line: "destroy r0",
+    begin: "begin destroy r0",
+    first: 35,
+    writes: 4,
+    reply: "destroyed r0\n",
+};
+
+/// A bus that fails at so many calls, from that of a command's write on.
+fn failing_from(
+    rt: &impl Abort,
+    alloc: Global,
+    writing: &Writing,
+    write: u64,
+    count: u64,
+) -> FailingBus {
+    let mut fails = Vec::new(alloc);
+    for more in 0..count {
+        let call = writing.first.saturating_add(write).saturating_add(more);
+        fails.push(call).expect(rt, "memory");
+    }
+    FailingBus::new(alloc, fails)
+}
+
+/// The words of a session's image.
+fn words_of(rt: &impl Abort, alloc: Global, session: &Session) -> Vec<u8> {
+    write_image(alloc, session.image()).expect(rt, "memory")
+}
+
+/// The words of the image behind so many writes of a command, over a bus that does not fail.
+fn words_behind<M: Roll>(
+    rt: &impl Abort,
+    alloc: Global,
+    writing: &Writing,
+    writes: u64,
+    media: &mut M,
+) -> Vec<u8> {
+    let mut regs = SimBus::new(alloc);
+    let mut session = opened(rt, alloc, &HOST, &mut regs, media).expect(rt, "a session");
+    let steps = format!(in alloc; "{}\n{}\nstep {writes}", writing.before, writing.begin).expect(
+        rt, "memory",
+    );
+    replies(rt, alloc, &mut session, &steps, &mut regs, media);
+    words_of(rt, alloc, &session)
+}
+
+/// Whether a command that fails at this write is undone, and leaves each word of the image as it was; it is then carried out.
+fn is_undone<M: Roll>(
+    rt: &impl Abort,
+    alloc: Global,
+    writing: &Writing,
+    write: u64,
+    media: &mut M,
+) -> bool {
+    let mut regs = failing_from(rt, alloc, writing, write, 1);
+    let mut session = opened(rt, alloc, &HOST, &mut regs, media).expect(rt, "a session");
+    replies(rt, alloc, &mut session, writing.before, &mut regs, media);
+    let before = words_of(rt, alloc, &session);
+    let undone = replies(rt, alloc, &mut session, writing.line, &mut regs, media);
+    let behind = words_of(rt, alloc, &session);
+    let done = replies(rt, alloc, &mut session, writing.line, &mut regs, media);
+    undone.as_slice() == b"bus fault undone\n".as_slice()
+        && behind == before
+        && done.as_slice() == writing.reply.as_bytes()
+}
+
+/// Whether a command that fails behind so many writes, and as the last of them is taken back, too, is left pending with as
+/// many made: each word of the image is as they leave it. An abort then takes them back, and leaves each as it was.
+fn is_left_pending<M: Roll>(
+    rt: &impl Abort,
+    alloc: Global,
+    writing: &Writing,
+    made: u64,
+    media: &mut M,
+) -> bool {
+    let made_so_far = words_behind(rt, alloc, writing, made, media);
+    let mut regs = failing_from(rt, alloc, writing, made, 2);
+    let mut session = opened(rt, alloc, &HOST, &mut regs, media).expect(rt, "a session");
+    replies(rt, alloc, &mut session, writing.before, &mut regs, media);
+    let before = words_of(rt, alloc, &session);
+    let pending = replies(rt, alloc, &mut session, writing.line, &mut regs, media);
+    let behind = words_of(rt, alloc, &session);
+    let aborted = replies(rt, alloc, &mut session, "abort", &mut regs, media);
+    let told = format!(in alloc; "bus fault pending r0 {made} of {}\n", writing.writes).expect(
+        rt, "memory",
+    );
+    pending.as_slice() == told.as_bytes()
+        && behind == made_so_far
+        && aborted.as_slice() == b"aborted r0\n".as_slice()
+        && words_of(rt, alloc, &session) == before
+}
+
+/// Checks a command that fails at each of its writes, over any device memory.
+fn fails_at_each<M: Roll>(rt: &impl Abort, alloc: Global, writing: &Writing, media: &mut M) {
+    for write in 0..writing.writes {
+        let left = write == 0 || is_left_pending(rt, alloc, writing, write, media);
+        has_passed(
+            rt,
+            write as usize,
+            left && is_undone(rt, alloc, writing, write, media),
+        );
+    }
+}
+
+#[test]
+fn image_behind_each_fault(rt: HostRuntime) {
+    let alloc = rt.alloc();
+    for writing in &[CREATE, RELEASE] {
+        fails_at_each(&rt, alloc, writing, &mut SimMedia::new(alloc));
+        fails_at_each(&rt, alloc, writing, &mut MapMedia::new(alloc));
+    }
+}
