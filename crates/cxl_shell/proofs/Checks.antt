@@ -1,39 +1,23 @@
 -- How a run of `check` ends.
-use Rattle.std.proofs.Common.{◌≡◌, Some, List, ℕ, [], ◌∷◌, Result, Ok, Err, IfOk, refl, subst}
+use Rattle.std.proofs.Common.{◌≡◌, Some, List, ℕ, [], ◌∷◌, Err, refl, subst}
 use Rattle.cxl_cedt.specs.CedtFields.{CedtFields}
-use Rattle.cxl_enc.specs.declared.faults.Memory.{Memory as NoMemory}
 use Rattle.cxl_io.specs.Fetch.{AsksFor}
-use Rattle.cxl_io.specs.Sink.{SinkState}
-use Rattle.cxl_model.specs.Accepted.{IsFirstBreach}
-use Rattle.cxl_model.specs.System.{System, system_of, bridge_uids}
+use Rattle.cxl_model.specs.System.{system_of, bridge_uids}
 use Rattle.cxl_regs.specs.Registers.{Registers}
 use Rattle.cxl_topo.specs.Tree.{Tree}
 use Rattle.cxl_window.specs.Fields.{WindowFields}
 use Rattle.cxl_window.specs.Windows.{windows_of}
-use Rattle.cxl_shell.specs.Answers.{IsOutcomeByFiles, IsStop, stop_of}
+use Rattle.cxl_shell.specs.Answers.{IsOutcomeByFiles, IsStop}
 use Rattle.cxl_shell.specs.Ends.{Finishes}
 use Rattle.cxl_shell.specs.Form.{Check}
-use Rattle.cxl_shell.specs.Outcome.{Outcome}
 use Rattle.cxl_shell.specs.Outside.{Outside}
 use Rattle.cxl_shell.specs.Run.{IsRunByFiles, runs_out, before, behind}
-use Rattle.cxl_shell.specs.commands.Check.{breach_told, broken}
 use Rattle.cxl_shell.specs.declared.status.Status.{Status}
 use Rattle.cxl_shell.specs.declared.stop.Stop.{Stop}
-use Rattle.cxl_shell.specs.declared.stop.Stop.TheVariants as stop
-use Rattle.cxl_shell.specs.inner.Reports.{TellsBreach, IsReported, ended, cut, unmade}
+use Rattle.cxl_shell.specs.inner.Reports.{IsReported, ended, cut, unmade}
 use Rattle.cxl_shell.specs.inputs.File.{AsksForSome}
 use Rattle.cxl_shell.specs.inputs.Host.{host_of, AreRead, HasNoHost, no_host, by_host}
 use Rattle.cxl_shell.proofs.Stops.{stop-weaker, run-ended, run-finished}
-
--- the breach ends the command, or there was no memory to say so
-pub breach-stops : (s : System) (rule node decoder : ℕ) (made : Result Outcome NoMemory) → IsFirstBreach s rule node decoder → IfOk made (λ outcome. outcome ≡ broken s.nodes rule node decoder) → IsStop (TellsBreach s) (Unit {0}) (stop_of made)
-breach-stops s rule node decoder (Ok outcome) first is = record { rule = rule; node = node; decoder = decoder; first = first; told = is }
-breach-stops s rule node decoder (Err e) first is = tt
-
--- what stopped the check is written
-pub reported-stopped : (s : System) (reason : Stop) (status : Status) (old new : SinkState) → IsStop (TellsBreach s) (Unit {0}) reason → Finishes (Err reason) status old new → IsReported s status old new
-reported-stopped s (stop.Outcome outcome) status old new is finishes = ended outcome (breach_told is.rule is.node is.decoder is.first is.told) finishes
-reported-stopped s stop.Memory status old new is finishes = unmade finishes.0 finishes.1
 
 module _ (cedt topo image : List ℕ) (old new : Outside) (status : Status) where
   reported : (table : CedtFields) (tree : Tree) (blocks : List Registers) → AreRead old.files.told cedt topo image table tree blocks → AsksFor old.files new.files (cedt ∷ topo ∷ image ∷ []) → IsReported (host_of table tree blocks) status old.out new.out → IsRunByFiles (Check cedt topo image) old new status

@@ -1,5 +1,5 @@
 -- How a script ends: over an open session, over a host, and over the files of its form.
-use Rattle.std.proofs.Common.{◌≡◌, ◌≢◌, ◌⊎◌, ℕ, ◌<◌, ◌≤◌, true, Option, Some, None, option_map, List, [], ◌∷◌, ◌++◌, take, length, Result, Ok, Err, IfOk, IfErr, OnOk, refl, sym, ap, subst, ◌∙◌, inl, inr, arith, append_assoc}
+use Rattle.std.proofs.Common.{◌≡◌, ◌≢◌, ◌⊎◌, ℕ, ◌<◌, ◌≤◌, true, Option, Some, None, option_map, List, [], ◌∷◌, ◌++◌, take, length, Result, Ok, Err, refl, sym, ap, subst, ◌∙◌, inl, inr, arith, append_assoc}
 use Rattle.std.proofs.lemmas.Bool.{cases_lt}
 use Rattle.std.proofs.lemmas.List.{append-nil}
 use Rattle.cxl_bus.specs.RegsState.{RegsState}
@@ -9,7 +9,7 @@ use Rattle.cxl_cedt.specs.CedtFields.{CedtFields}
 use Rattle.cxl_check.specs.declared.fault.Breach.{Breach}
 use Rattle.cxl_enc.specs.Faults.{Rose, LeavesCount}
 use Rattle.cxl_image.specs.Images.{reset_blocks}
-use Rattle.cxl_io.specs.Fetch.{FetchState, AsksFor}
+use Rattle.cxl_io.specs.Fetch.{AsksFor}
 use Rattle.cxl_io.specs.Sink.{SinkState, Takes, TakesPrefix}
 use Rattle.cxl_io.specs.Source.{SourceState}
 use Rattle.cxl_io.specs.Told.{told_with}
@@ -43,16 +43,14 @@ use Rattle.cxl_shell.specs.Outcome.{Outcome}
 use Rattle.cxl_shell.specs.Outside.{Outside}
 use Rattle.cxl_shell.specs.Run.{IsRunByFiles, by_files, unready, unopened, opened, IsRun}
 use Rattle.cxl_shell.specs.commands.Script.{StartsSession, bus, memory, breach_told, many_told, too_many_regions, bus_failed, status_of, ends_reading, ending_text, script_stopped}
-use Rattle.cxl_shell.specs.declared.inputs.host.Host.{Host}
 use Rattle.cxl_shell.specs.declared.status.Status.{Status}
 use Rattle.cxl_shell.specs.declared.status.Status.TheVariants.{Done, WriteFault, Memory}
 use Rattle.cxl_shell.specs.declared.stop.Stop.{Stop}
 use Rattle.cxl_shell.specs.declared.stop.Stop.TheVariants as stop
-use Rattle.cxl_shell.specs.inner.Reports.{TellsBreach}
-use Rattle.cxl_shell.specs.inner.Scripts.{EndsOver}
+use Rattle.cxl_shell.specs.inner.Scripts.{EndsOver, EndsFromImage}
 use Rattle.cxl_shell.specs.inner.Scripts as over
 use Rattle.cxl_shell.specs.inputs.File.{AsksForSome}
-use Rattle.cxl_shell.specs.inputs.Host.{AreRead, host_of, by_host}
+use Rattle.cxl_shell.specs.inputs.Host.{AreRead, HasNoHost, host_of, no_host, by_host}
 use Rattle.cxl_shell.specs.inputs.ResetHost.{AreBothRead, HasNoResetHost, reset_host_of, no_reset_host}
 use Rattle.cxl_shell.proofs.Hosts.{told_twice}
 use Rattle.cxl_shell.proofs.ResetHosts.{no_regions}
@@ -188,18 +186,17 @@ module _ (old new : Outside) (before after : Devices) (status : Status) where
   reset_over cedt topo table tree read asks (over.opened first asked turns opens is answered carried ends) =
       opened (reset_host_of table tree) tree.frames first asked turns (table, tree, read, refl, refl) asks opens is answered carried ends
 
-  -- from reset; `A`, `B` and `C` say that the devices are as they were
-  pub script-from_reset : (cedt topo : List ℕ) (host : Result Host Stop) (A B C : Type 0) → (A → B → C → after ≡ before)
-      → IfOk host (λ h. (table : CedtFields) × AreBothRead old.files.told cedt topo table h.topo × (h.windows.items ≡ windows_of table.records (Some (bridge_uids h.topo.nodes))))
-      → IfOk host (λ h. h.image ≡ reset_blocks h.topo.nodes) → OnOk host (AsksFor old.files new.files (cedt ∷ topo ∷ []))
-      → IfErr host (IsStop (HasNoResetHost cedt topo old.files new.files) (AsksForSome (cedt ∷ topo ∷ []) old.files new.files))
-      → IfOk host (λ h. EndsOver (system_of h.image h.topo h.windows.items) h.topo.frames before after old.out new.out status)
-      → IfErr host (λ reason. Finishes (Err reason) status old.out new.out × A × B × C) → IsRun (Script cedt topo None) old new before after status
-  script-from_reset cedt topo (Ok h) A B C left read reset asks stops ends finishes =
-      reset_over cedt topo read.0 h.topo read.1 asks (subst (λ ws. EndsOver (system_of (reset_blocks h.topo.nodes) h.topo ws) h.topo.frames before after old.out new.out status) read.2
-      (subst (λ bs. EndsOver (system_of bs h.topo h.windows.items) h.topo.frames before after old.out new.out status) reset ends))
-  script-from_reset cedt topo (Err reason) A B C left read reset asks stops ends finishes =
-      run-unread (Script cedt topo None) (HasNoResetHost cedt topo old.files new.files) reason refl (left finishes.1 finishes.2 finishes.3) (λ o none. no_reset_host none) stops finishes.0
+  -- from reset
+  pub from_reset : (cedt topo : List ℕ) (table : CedtFields) (tree : Tree) (blocks : List Registers) (windows : List WindowFields) → AreBothRead old.files.told cedt topo table tree → windows ≡ windows_of table.records (Some (bridge_uids tree.nodes))
+      → blocks ≡ reset_blocks tree.nodes → AsksFor old.files new.files (cedt ∷ topo ∷ []) → EndsOver (system_of blocks tree windows) tree.frames before after old.out new.out status → IsRun (Script cedt topo None) old new before after status
+  from_reset cedt topo table tree blocks windows read made reset asks ends =
+      reset_over cedt topo table tree read asks (subst (λ ws. EndsOver (system_of (reset_blocks tree.nodes) tree ws) tree.frames before after old.out new.out status) made
+      (subst (λ bs. EndsOver (system_of bs tree windows) tree.frames before after old.out new.out status) reset ends))
+
+  pub reset-unread : (cedt topo : List ℕ) (reason : Stop) → after ≡ before → IsStop (HasNoResetHost cedt topo old.files new.files) (AsksForSome (cedt ∷ topo ∷ []) old.files new.files) reason
+      → Finishes (Err reason) status old.out new.out → IsRun (Script cedt topo None) old new before after status
+  reset-unread cedt topo reason left stops finishes =
+      run-unread (Script cedt topo None) (HasNoResetHost cedt topo old.files new.files) reason refl left (λ o none. no_reset_host none) stops finishes
 
   image_over : (cedt topo image : List ℕ) (table : CedtFields) (tree : Tree) (blocks : List Registers) → AreRead old.files.told cedt topo image table tree blocks → AsksFor old.files new.files (cedt ∷ topo ∷ image ∷ []) → EndsOver (host_of table tree blocks) tree.frames before after old.out new.out status → IsRun (Script cedt topo (Some image)) old new before after status
   image_over cedt topo image table tree blocks read asks (over.full n has many left ends) =
@@ -208,22 +205,18 @@ module _ (old new : Outside) (before after : Devices) (status : Status) where
   image_over cedt topo image table tree blocks read asks (over.opened first asked turns opens is answered carried ends) =
       opened (host_of table tree blocks) tree.frames first asked turns (table, tree, blocks, read, refl, refl) asks opens is answered carried ends
 
-  -- from an image; `A`, `B` and `C` say that the devices are as they were
-  pub script-from_image : (cedt topo image : List ℕ) (host : Result Host Stop) (A B C : Type 0) → (A → B → C → after ≡ before)
-      → IfOk host (λ h. (table : CedtFields) × AreRead old.files.told cedt topo image table h.topo h.image × (h.windows.items ≡ windows_of table.records (Some (bridge_uids h.topo.nodes))))
-      → OnOk host (AsksFor old.files new.files (cedt ∷ topo ∷ image ∷ []))
-      → IfErr host (IsStop (IsOutcomeByFiles (Script cedt topo (Some image)) old.files new.files) (AsksForSome (cedt ∷ topo ∷ image ∷ []) old.files new.files))
-      → IfOk host (λ h. EndsOver (system_of h.image h.topo h.windows.items) h.topo.frames before after old.out new.out status)
-      → IfErr host (λ reason. Finishes (Err reason) status old.out new.out × A × B × C) → IsRun (Script cedt topo (Some image)) old new before after status
-  script-from_image cedt topo image (Ok h) A B C left read asks stops ends finishes =
-      image_over cedt topo image read.0 h.topo h.image read.1 asks (subst (λ ws. EndsOver (system_of h.image h.topo ws) h.topo.frames before after old.out new.out status) read.2 ends)
-  script-from_image cedt topo image (Err reason) A B C left read asks stops ends finishes =
-      run-unread (Script cedt topo (Some image)) (IsOutcomeByFiles (Script cedt topo (Some image)) old.files new.files) reason refl (left finishes.1 finishes.2 finishes.3) (λ o answers. answers) stops finishes.0
+  image_ends : (cedt topo image : List ℕ) (table : CedtFields) (tree : Tree) (blocks : List Registers) → AreRead old.files.told cedt topo image table tree blocks → AsksFor old.files new.files (cedt ∷ topo ∷ image ∷ []) → EndsFromImage (host_of table tree blocks) tree.frames before after old.out new.out status → IsRun (Script cedt topo (Some image)) old new before after status
+  image_ends cedt topo image table tree blocks read asks (over.broken outcome tells left ends) =
+      unopened (by_files left (run-ended (Script cedt topo (Some image)) old new status outcome (by_host table tree blocks read (asks, breach_told tells.rule tells.node tells.decoder tells.first tells.told)) ends))
+  image_ends cedt topo image table tree blocks read asks (over.whole ends) = image_over cedt topo image table tree blocks read asks ends
 
--- a breach of the image is told, behind all files
-pub breach-answers : (cedt topo image : List ℕ) (old new : FetchState) (table : CedtFields) (tree : Tree) (blocks : List Registers) (windows : List WindowFields) → AreRead old.told cedt topo image table tree blocks → windows ≡ windows_of table.records (Some (bridge_uids tree.nodes)) → AsksFor old new (cedt ∷ topo ∷ image ∷ [])
-    → (reason : Stop) → IsStop (TellsBreach (system_of blocks tree windows)) (Unit {0}) reason → IsStop (IsOutcomeByFiles (Script cedt topo (Some image)) old new) (AsksForSome (cedt ∷ topo ∷ image ∷ []) old new) reason
-breach-answers cedt topo image old new table tree blocks windows read made asks reason stops =
-    stop-weaker (TellsBreach (host_of table tree blocks)) (IsOutcomeByFiles (Script cedt topo (Some image)) old new) (Unit {0}) (AsksForSome (cedt ∷ topo ∷ image ∷ []) old new) reason
-    (λ o tells. by_host table tree blocks read (asks, breach_told tells.rule tells.node tells.decoder tells.first tells.told)) (λ out. record { count = 3; asks = asks })
-    (subst (λ ws. IsStop (TellsBreach (system_of blocks tree ws)) (Unit {0}) reason) made stops)
+  -- from an image
+  pub from_image : (cedt topo image : List ℕ) (table : CedtFields) (tree : Tree) (blocks : List Registers) (windows : List WindowFields) → AreRead old.files.told cedt topo image table tree blocks → windows ≡ windows_of table.records (Some (bridge_uids tree.nodes))
+      → AsksFor old.files new.files (cedt ∷ topo ∷ image ∷ []) → EndsFromImage (system_of blocks tree windows) tree.frames before after old.out new.out status → IsRun (Script cedt topo (Some image)) old new before after status
+  from_image cedt topo image table tree blocks windows read made asks ends =
+      image_ends cedt topo image table tree blocks read asks (subst (λ ws. EndsFromImage (system_of blocks tree ws) tree.frames before after old.out new.out status) made ends)
+
+  pub image-unread : (cedt topo image : List ℕ) (reason : Stop) → after ≡ before → IsStop (HasNoHost cedt topo image old.files new.files) (AsksForSome (cedt ∷ topo ∷ image ∷ []) old.files new.files) reason
+      → Finishes (Err reason) status old.out new.out → IsRun (Script cedt topo (Some image)) old new before after status
+  image-unread cedt topo image reason left stops finishes =
+      run-unread (Script cedt topo (Some image)) (HasNoHost cedt topo image old.files new.files) reason refl left (λ o none. no_host none) stops finishes

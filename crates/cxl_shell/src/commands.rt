@@ -22,6 +22,7 @@ mod selection;
 
 use crate::finish::finish;
 use crate::form::{Form, HostAsk, ResetAsk, TableAsk, WordsAsk};
+use crate::inputs::host::fetch_host;
 use crate::inputs::reset_host::fetch_reset_host;
 use crate::outcome::Outcome;
 use crate::status::Status;
@@ -35,7 +36,7 @@ use list::list;
 use normal::normal;
 use plan::plan;
 use route::route;
-use script::{fetch_start, script};
+use script::{script, script_from_image};
 use std::alloc::Global;
 
 /// Carries out what the words ask for, and writes what it comes to.
@@ -67,17 +68,17 @@ pub(crate) fn carry_out<F: Fetch, S: Source, K: Sink, R: Regs, M: Roll>(
         Form::OfTable(cedt, ask) => of_table(alloc, cedt, ask, files, out),
         Form::OfResetHost(cedt, topo, ask) => match ask {
             ResetAsk::Plan(create) => finish(plan(alloc, cedt, topo, &create, files), out),
-            ResetAsk::Script => {
-                let host = fetch_reset_host(alloc, cedt, topo, files);
-                script(alloc, host, source, out, regs, media)
-            }
+            ResetAsk::Script => match fetch_reset_host(alloc, cedt, topo, files) {
+                Ok(host) => script(alloc, host, source, out, regs, media),
+                Err(stop) => finish(Err(stop), out),
+            },
         },
         Form::OfHost(cedt, topo, image, ask) => match ask {
             HostAsk::Check => check(alloc, cedt, topo, image, files, out),
-            HostAsk::Script => {
-                let host = fetch_start(alloc, cedt, topo, image, files);
-                script(alloc, host, source, out, regs, media)
-            }
+            HostAsk::Script => match fetch_host(alloc, cedt, topo, image, files) {
+                Ok(host) => script_from_image(alloc, host, source, out, regs, media),
+                Err(stop) => finish(Err(stop), out),
+            },
         },
         Form::OfWords(ask) => match ask {
             WordsAsk::Gen(n) => generated(alloc, n, out, regs, media),

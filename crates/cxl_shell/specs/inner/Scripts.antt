@@ -1,4 +1,4 @@
--- How a script over a host ends whose image is accepted.
+-- How a script over a host ends.
 use Rattle.std.specs.Prelude.{◌≡◌, ℕ, ◌<◌, List}
 use Rattle.cxl_io.specs.Sink.{SinkState}
 use Rattle.cxl_machine.specs.Machine.{Machine, region_limit}
@@ -10,9 +10,12 @@ use Rattle.cxl_session.specs.Opening.{HasRegions}
 use Rattle.cxl_shell.specs.Devices.{Devices}
 use Rattle.cxl_shell.specs.Endings.{HasCarriedOut, EndsScript}
 use Rattle.cxl_shell.specs.Ends.{Ends}
+use Rattle.cxl_shell.specs.Outcome.{Outcome}
 use Rattle.cxl_shell.specs.commands.Script.{too_many_regions, FailsToOpen}
 use Rattle.cxl_shell.specs.declared.status.Status.{Status}
+use Rattle.cxl_shell.specs.inner.Reports.{TellsBreach}
 
+-- its image is accepted
 pub data EndsOver (s : System) (frames : ℕ) (before after : Devices) (old new : SinkState) (status : Status) : Type 0 where
   -- the image has more regions than may live, which is told
   full : (n : ℕ) → HasRegions s n → region_limit < n → after ≡ before → Ends too_many_regions status old new → EndsOver s frames before after old new status
@@ -22,3 +25,8 @@ pub data EndsOver (s : System) (frames : ℕ) (before after : Devices) (old new 
   opened : (first : Machine) (asked : List Asked) (turns : List Turn) → Opens s frames first → IsMachine first → AreTurns first asked turns
       → HasCarriedOut first turns before after → EndsScript first.settled.nodes asked turns before.script after.script old new status
       → EndsOver s frames before after old new status
+
+-- its image is one of a file, whose first breach is told
+pub data EndsFromImage (s : System) (frames : ℕ) (before after : Devices) (old new : SinkState) (status : Status) : Type 0 where
+  broken : (outcome : Outcome) → TellsBreach s outcome → after ≡ before → Ends outcome status old new → EndsFromImage s frames before after old new status
+  whole : EndsOver s frames before after old new status → EndsFromImage s frames before after old new status

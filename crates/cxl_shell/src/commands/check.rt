@@ -7,7 +7,6 @@ ghost use Rattle.cxl_model.specs.System.{IsSystem, system_of};
 ghost use Rattle.cxl_regs.specs.Registers.{Registers};
 ghost use Rattle.cxl_reply.specs.Conditions.{IsToldFound};
 ghost use Rattle.cxl_topo.specs.Tree.{Tree};
-ghost use Rattle.cxl_shell.specs.Answers.{IsStop};
 ghost use Rattle.cxl_shell.specs.Ends.{Ends, IsBehind, IsStopped};
 ghost use Rattle.cxl_shell.specs.Form.{Check};
 ghost use Rattle.cxl_shell.specs.Outside.{outside};
@@ -22,7 +21,6 @@ use crate::finish::finish;
 use crate::inputs::host::{Host, fetch_host};
 use crate::outcome::Outcome;
 use crate::status::Status;
-use crate::stop::Stop;
 use cxl_cedt::one_reading;
 use cxl_check::{Breach, CheckFault, Found};
 use cxl_image::one_image_reading;
@@ -63,30 +61,31 @@ fn report<K: Sink>(alloc: Global, host: &Host, out: &mut K) -> Status
     ensures counts { (K.state out.old).faults ≤ (K.state out.new).faults }
 {
     match checked(alloc, host) {
-        Ok(regions) => match write_regions(alloc, &regions, &host.topo, out) {
+        Ok(Ok(regions)) => match write_regions(alloc, &regions, &host.topo, out) {
             Ok(status) => status,
             Err(Memory) => Status::Memory,
         },
-        Err(stop) => finish(Err(stop), out),
+        Ok(Err(broken)) => broken.write(out),
+        Err(Memory) => Status::Memory,
     }
 }
 
-/// The regions of the host's image by rising base. It stops where the image has a breach.
-pub(crate) fn checked(alloc: Global, host: &Host) -> Result<Vec<Found>, Stop>
+/// The regions of the host's image by rising base, or what its first breach comes to.
+pub(crate) fn checked(alloc: Global, host: &Host) -> Result<Result<Vec<Found>, Outcome>, Memory>
     requires { IsSystem (system_of host.now.image host.now.topo host.now.windows.items) }
-    ensures accepted { OnOk result
-        (IsAccepted (system_of host.now.image host.now.topo host.now.windows.items)) }
-    ensures regions { IfOk result (λ regions.
-        AreRegionsByBase (system_of host.now.image host.now.topo host.now.windows.items) regions.items) }
-    ensures told { IfOk result (λ regions. All (IsToldFound host.now.topo.nodes) regions.items) }
-    ensures stops { IfErr result (IsStop
-        (TellsBreach (system_of host.now.image host.now.topo host.now.windows.items)) (Unit {0})) }
+    ensures accepted { IfOk result (λ found. OnOk found
+        (IsAccepted (system_of host.now.image host.now.topo host.now.windows.items))) }
+    ensures regions { IfOk result (λ found. IfOk found (λ regions.
+        AreRegionsByBase (system_of host.now.image host.now.topo host.now.windows.items) regions.items)) }
+    ensures told { IfOk result (λ found. IfOk found (λ regions. All (IsToldFound host.now.topo.nodes) regions.items)) }
+    ensures breach { IfOk result (λ found. IfErr found
+        (TellsBreach (system_of host.now.image host.now.topo host.now.windows.items))) }
 {
     findings_are_told();
     match cxl_check::check(alloc, &host.image, &host.topo, &host.windows) {
-        Ok(regions) => Ok(regions),
-        Err(CheckFault::Breach(breach)) => Err(Stop::of(broken(alloc, breach, &host.topo))),
-        Err(CheckFault::Memory) => Err(Stop::Memory),
+        Ok(regions) => Ok(Ok(regions)),
+        Err(CheckFault::Breach(breach)) => Ok(Err(broken(alloc, breach, &host.topo)?)),
+        Err(CheckFault::Memory) => Err(Memory),
     }
 }
 

@@ -1,95 +1,58 @@
-ghost use Rattle.std.specs.Prelude.{◌≡◌, ◌≢◌, ℕ, ◌<◌, ◌≤◌, Some, Ok, Err, List, [], ◌∷◌, IfOk, IfErr, OnOk, map};
-ghost use Rattle.cxl_cedt.specs.CedtFields.{CedtFields};
+ghost use Rattle.std.specs.Prelude.{◌≡◌, ◌≢◌, ℕ, ◌≤◌, Ok, Err, List};
 ghost use Rattle.cxl_check.specs.declared.fault.Breach.{Breach};
-ghost use Rattle.cxl_io.specs.Fetch.{AsksFor};
 ghost use Rattle.cxl_machine.specs.Machine.{Machine};
 ghost use Rattle.cxl_machine.specs.Scripts.{Asked, Turn};
 ghost use Rattle.cxl_model.specs.Accepted.{IsAccepted};
-ghost use Rattle.cxl_model.specs.System.{IsSystem, system_of, bridge_uids};
+ghost use Rattle.cxl_model.specs.System.{IsSystem, system_of};
 ghost use Rattle.cxl_session.specs.Standing.{Stands, ForEachMachine};
 ghost use Rattle.cxl_turns.specs.Going.{HasGoneOn};
-ghost use Rattle.cxl_window.specs.Windows.{windows_of};
-ghost use Rattle.cxl_shell.specs.Answers.{IsOutcomeByFiles, IsStop};
 ghost use Rattle.cxl_shell.specs.Devices.{devices};
 ghost use Rattle.cxl_shell.specs.Endings.{EndsScript};
-ghost use Rattle.cxl_shell.specs.Ends.{Finishes};
-ghost use Rattle.cxl_shell.specs.Form.{Script};
 ghost use Rattle.cxl_shell.specs.commands.Script.{too_many_regions, bus_failed, script_stopped};
-ghost use Rattle.cxl_shell.specs.inner.Scripts.{EndsOver};
-ghost use Rattle.cxl_shell.specs.inputs.File.{AsksForSome};
-ghost use Rattle.cxl_shell.specs.inputs.Host.{AreRead};
+ghost use Rattle.cxl_shell.specs.inner.Scripts.{EndsOver, EndsFromImage};
 
 use crate::commands::check::checked;
 use crate::finish::finish;
-use crate::inputs::host::{Host, fetch_host};
+use crate::inputs::host::Host;
 use crate::outcome::Outcome;
 use crate::status::Status;
 use crate::stop::Stop;
 use cxl_bus::Regs;
-use cxl_io::{Fetch, Sink, Source};
+use cxl_io::{Memory, Sink, Source};
 use cxl_media::Roll;
 use cxl_model::accepted_or_breach;
 use cxl_session::{OpenFault, Session};
 use cxl_turns::{Ending, carry_out_lines};
 use std::alloc::Global;
 
-/// The host of a table, a topology and an image on which a session starts. It stops where the image has a breach,
-/// too: opening a session takes the topology, by which the breach is told.
-pub(crate) fn fetch_start<F: Fetch>(
+/// Carries out the commands of a script over a host with an image, or tells its first breach. Opening a session
+/// takes the topology, by which the breach is told.
+pub(crate) fn script_from_image<S: Source, K: Sink, R: Regs, M: Roll>(
     alloc: Global,
-    cedt: &str,
-    topo: &str,
-    image: &str,
-    files: &mut F,
-) -> Result<Host, Stop>
-    ensures read { IfOk result (λ host. (table : CedtFields)
-        × AreRead (F.state files.old).told cedt.now topo.now image.now table host.topo host.image
-        × (host.windows.items ≡ windows_of table.records (Some (bridge_uids host.topo.nodes)))) }
-    ensures system { IfOk result (λ host. IsSystem (system_of host.image host.topo host.windows.items)) }
-    ensures accepted { IfOk result (λ host. IsAccepted (system_of host.image host.topo host.windows.items)) }
-    ensures asked { OnOk result (AsksFor (F.state files.old) (F.state files.new) (cedt.now ∷ topo.now ∷ image.now ∷ [])) }
-    ensures stops { IfErr result (IsStop
-        (IsOutcomeByFiles (Script cedt.now topo.now (Some image.now)) (F.state files.old) (F.state files.new))
-        (AsksForSome (cedt.now ∷ topo.now ∷ image.now ∷ []) (F.state files.old) (F.state files.new))) }
-    ensures counts { (F.state files.old).faults ≤ (F.state files.new).faults }
-    ensures stays { (F.state files.new).told ≡ (F.state files.old).told }
-{
-    let host = fetch_host(alloc, cedt, topo, image, files)?;
-    match checked(alloc, &host) {
-        Ok(_) => Ok(host),
-        Err(stop) => Err(stop),
-    }
-}
-
-/// Carries out the commands of a script over a host, or tells why there is none.
-pub(crate) fn script<S: Source, K: Sink, R: Regs, M: Roll>(
-    alloc: Global,
-    host: Result<Host, Stop>,
+    host: Host,
     source: &mut S,
     out: &mut K,
     regs: &mut R,
     media: &mut M,
 ) -> Status
-    requires system { IfOk host (λ host. IsSystem (system_of host.image host.topo host.windows.items)) }
-    requires accepted { IfOk host (λ host. IsAccepted (system_of host.image host.topo host.windows.items)) }
-    ensures ends { IfOk host (λ host. EndsOver (system_of host.image host.topo host.windows.items) host.topo.frames
+    requires { IsSystem (system_of host.image host.topo host.windows.items) }
+    ensures ends { EndsFromImage (system_of host.image host.topo host.windows.items) host.topo.frames
         (devices (S.state source.old) (R.state regs.old) (M.state media.old))
         (devices (S.state source.new) (R.state regs.new) (M.state media.new))
-        (K.state out.old) (K.state out.new) result) }
-    ensures stopped { IfErr host (λ stop. Finishes (Err stop) result (K.state out.old) (K.state out.new)
-        × (source.new ≡ source.old) × (regs.new ≡ regs.old) × (media.new ≡ media.old)) }
+        (K.state out.old) (K.state out.new) result }
     ensures source { (S.state source.old).faults ≤ (S.state source.new).faults }
     ensures sink { (K.state out.old).faults ≤ (K.state out.new).faults }
     ensures bus { (R.state regs.old).faults ≤ (R.state regs.new).faults }
 {
-    match host {
-        Ok(host) => over_host(alloc, host, source, out, regs, media),
-        Err(stop) => finish(Err(stop), out),
+    match checked(alloc, &host) {
+        Ok(Ok(_)) => script(alloc, host, source, out, regs, media),
+        Ok(Err(broken)) => broken.write(out),
+        Err(Memory) => Status::Memory,
     }
 }
 
 /// Carries out the commands of a script over a host whose image is accepted.
-fn over_host<S: Source, K: Sink, R: Regs, M: Roll>(
+pub(crate) fn script<S: Source, K: Sink, R: Regs, M: Roll>(
     alloc: Global,
     host: Host,
     source: &mut S,

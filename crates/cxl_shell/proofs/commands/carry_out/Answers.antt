@@ -1,9 +1,9 @@
-use Rattle.std.proofs.Common.{◌≡◌, refl, ap}
+use Rattle.std.proofs.Common.{refl}
 use Rattle.cxl_shell.specs.Devices.{devices}
 use Rattle.cxl_shell.specs.Form.{Plan, OfWords}
 use Rattle.cxl_shell.specs.Outside.{outside}
 use Rattle.cxl_shell.proofs.Generated.{run-made}
-use Rattle.cxl_shell.proofs.Scripts.{devices_left, run-left, script-from_reset, script-from_image}
+use Rattle.cxl_shell.proofs.Scripts.{run-left, from_reset, reset-unread, from_image, image-unread}
 use Rattle.cxl_shell.proofs.Stops.{asks_nothing, run-ended, run-finished}
 use Rattle.cxl_shell.proofs.commands.carry_out.Goals as goal
 
@@ -15,31 +15,37 @@ returns-in-Plan-clause-run g c =
     let arm = c.in-OfResetHost in
     rw (arm.is, c.in-Plan.is) (run-left _ _ _ _ _ (Plan arm.cedt.now arm.topo.now c.in-Plan.create) (run-finished (Plan arm.cedt.now arm.topo.now c.in-Plan.create) _ _ _ refl c.plan.result c.plan.ensures.comes c.finish.ensures.finishes) refl)
 
-pub returns-in-Script-clause-run : goal.returns-in-Script-clause-run
-returns-in-Script-clause-run g c =
+pub returns-in-Ok-clause-run : goal.returns-in-Ok-clause-run
+returns-in-Ok-clause-run g c =
     let arm = c.in-OfResetHost in
-    let host = c.fetch_reset_host-host in
-    let before = devices (g.S.Source.state c.args.source.now) (g.R.Regs.state c.args.regs.now) (g.M.Media.state c.args.media.now) in
-    let after = devices (g.S.Source.state c.script.new.source) (g.R.Regs.state c.script.new.regs) (g.M.Media.state c.script.new.media) in
-    rw (arm.is, c.in-Script.is) (script-from_reset (outside (g.F.Fetch.state c.args.files.now) (g.K.Sink.state c.args.out.now)) (outside (g.F.Fetch.state c.fetch_reset_host-host.new.files) (g.K.Sink.state c.script.new.out)) before after c.script.result arm.cedt.now arm.topo.now host.result
-    (c.script.new.source ≡ c.args.source.now) (c.script.new.regs ≡ c.args.regs.now) (c.script.new.media ≡ c.args.media.now)
-    (λ script regs media. devices_left before after (ap g.S.Source.state script) (ap g.R.Regs.state regs) (ap g.M.Media.state media))
-    host.ensures.read host.ensures.reset host.ensures.asked host.ensures.stops c.script.ensures.ends c.script.ensures.stopped)
+    let host = c.in-Ok.host in
+    let read = c.in-Ok.ensures.read in
+    rw (arm.is, c.in-Script.is) (from_reset (outside (g.F.Fetch.state c.args.files.now) (g.K.Sink.state c.args.out.now)) (outside (g.F.Fetch.state c.fetch_reset_host.new.files) (g.K.Sink.state c.script.new.out)) (devices (g.S.Source.state c.args.source.now) (g.R.Regs.state c.args.regs.now) (g.M.Media.state c.args.media.now)) (devices (g.S.Source.state c.script.new.source) (g.R.Regs.state c.script.new.regs) (g.M.Media.state c.script.new.media)) c.script.result
+    arm.cedt.now arm.topo.now read.0 host.topo host.image host.windows.items read.1 read.2 c.in-Ok.ensures.reset c.in-Ok.ensures.asked c.script.ensures.ends)
+
+pub returns-in-Err-clause-run : goal.returns-in-Err-clause-run
+returns-in-Err-clause-run g c =
+    let arm = c.in-OfResetHost in
+    rw (arm.is, c.in-Script.is) (reset-unread (outside (g.F.Fetch.state c.args.files.now) (g.K.Sink.state c.args.out.now)) (outside (g.F.Fetch.state c.fetch_reset_host.new.files) (g.K.Sink.state c.finish-in-Err.new.out)) (devices (g.S.Source.state c.args.source.now) (g.R.Regs.state c.args.regs.now) (g.M.Media.state c.args.media.now)) (devices (g.S.Source.state c.args.source.now) (g.R.Regs.state c.args.regs.now) (g.M.Media.state c.args.media.now)) c.finish-in-Err.result
+    arm.cedt.now arm.topo.now c.in-Err.stop refl c.in-Err.ensures.stops c.finish-in-Err.ensures.finishes)
 
 pub returns-in-Check-clause-run : goal.returns-in-Check-clause-run
 returns-in-Check-clause-run g c = rw (c.in-OfHost.is, c.in-Check.is) (run-left _ _ _ _ _ _ c.check.ensures.run refl)
 
-pub returns-in-Script-ask-clause-run : goal.returns-in-Script-ask-clause-run
-returns-in-Script-ask-clause-run g c =
+pub returns-in-Ok-fetch_host-clause-run : goal.returns-in-Ok-fetch_host-clause-run
+returns-in-Ok-fetch_host-clause-run g c =
     let arm = c.in-OfHost in
-    let host = c.fetch_start-host in
-    let step = c.script-in-Script-ask in
-    let before = devices (g.S.Source.state c.args.source.now) (g.R.Regs.state c.args.regs.now) (g.M.Media.state c.args.media.now) in
-    let after = devices (g.S.Source.state step.new.source) (g.R.Regs.state step.new.regs) (g.M.Media.state step.new.media) in
-    rw (arm.is, c.in-Script-ask.is) (script-from_image (outside (g.F.Fetch.state c.args.files.now) (g.K.Sink.state c.args.out.now)) (outside (g.F.Fetch.state host.new.files) (g.K.Sink.state step.new.out)) before after step.result arm.cedt.now arm.topo.now arm.image.now host.result
-    (step.new.source ≡ c.args.source.now) (step.new.regs ≡ c.args.regs.now) (step.new.media ≡ c.args.media.now)
-    (λ script regs media. devices_left before after (ap g.S.Source.state script) (ap g.R.Regs.state regs) (ap g.M.Media.state media))
-    host.ensures.read host.ensures.asked host.ensures.stops step.ensures.ends step.ensures.stopped)
+    let found = c.in-Ok-fetch_host in
+    let read = found.ensures.read in
+    rw (arm.is, c.in-Script-ask.is) (from_image (outside (g.F.Fetch.state c.args.files.now) (g.K.Sink.state c.args.out.now)) (outside (g.F.Fetch.state c.fetch_host.new.files) (g.K.Sink.state c.script_from_image.new.out)) (devices (g.S.Source.state c.args.source.now) (g.R.Regs.state c.args.regs.now) (g.M.Media.state c.args.media.now)) (devices (g.S.Source.state c.script_from_image.new.source) (g.R.Regs.state c.script_from_image.new.regs) (g.M.Media.state c.script_from_image.new.media)) c.script_from_image.result
+    arm.cedt.now arm.topo.now arm.image.now read.0 found.host.topo found.host.image found.host.windows.items read.1 read.2 found.ensures.asked c.script_from_image.ensures.ends)
+
+pub returns-in-Err-fetch_host-clause-run : goal.returns-in-Err-fetch_host-clause-run
+returns-in-Err-fetch_host-clause-run g c =
+    let arm = c.in-OfHost in
+    let none = c.in-Err-fetch_host in
+    rw (arm.is, c.in-Script-ask.is) (image-unread (outside (g.F.Fetch.state c.args.files.now) (g.K.Sink.state c.args.out.now)) (outside (g.F.Fetch.state c.fetch_host.new.files) (g.K.Sink.state c.finish-in-Err-fetch_host.new.out)) (devices (g.S.Source.state c.args.source.now) (g.R.Regs.state c.args.regs.now) (g.M.Media.state c.args.media.now)) (devices (g.S.Source.state c.args.source.now) (g.R.Regs.state c.args.regs.now) (g.M.Media.state c.args.media.now)) c.finish-in-Err-fetch_host.result
+    arm.cedt.now arm.topo.now arm.image.now none.stop refl none.ensures.stops c.finish-in-Err-fetch_host.ensures.finishes)
 
 pub returns-in-Gen-clause-run : goal.returns-in-Gen-clause-run
 returns-in-Gen-clause-run g c =
