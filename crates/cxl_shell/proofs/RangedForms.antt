@@ -9,7 +9,7 @@ use Rattle.cxl_script.specs.declared.command.Command.{Command}
 use Rattle.cxl_script.specs.declared.command.Command.TheVariants as commands
 use Rattle.cxl_script.specs.declared.command.Create.{Create}
 use Rattle.cxl_script.specs.declared.fault.BadLine.{BadLine}
-use Rattle.cxl_shell.specs.Form.{Form, Gen, Help, Version, Unreadable, route_to, route_form, list_form, normal_form, check_form, create_asked, create_on_line, plan_over, plan_form, run_form, gen_of, gen_form, alone, form_of, IsRangedForm}
+use Rattle.cxl_shell.specs.Form.{Form, Gen, Help, Version, Unreadable, route_to, route_form, list_form, normal_form, check_form, create_asked, create_on_line, plan_form_over, plan_form, run_form, gen_of, gen_form, alone, form_of, IsRangedForm}
 
 abbrev pub StateCodes : Type 0
 StateCodes = (line : List ℕ) → IfOk (asked_in line) (λ asked. IfSome asked StatesGranCodes)
@@ -58,7 +58,7 @@ asked_code (Ok (Some command)) is = of_command command is
 asked_code (Ok None) is = tt
 asked_code (Err fault) is = tt
 
-planned_over : (cedt topo : List ℕ) (create : Option Create) → IfSome create StatesGranCode → IsRangedForm (plan_over cedt topo create)
+planned_over : (cedt topo : List ℕ) (create : Option Create) → IfSome create StatesGranCode → IsRangedForm (plan_form_over cedt topo create)
 planned_over cedt topo (Some create) is = is
 planned_over cedt topo None is = tt
 

@@ -104,13 +104,13 @@ create_asked asked = None
 abbrev pub create_on_line : List ℕ → Option Create
 create_on_line line = create_asked (asked_in line)
 
-abbrev pub plan_over : List ℕ → List ℕ → Option Create → Form
-plan_over cedt topo (Some create) = Plan cedt topo create
-plan_over cedt topo None = NoCreate
+abbrev pub plan_form_over : List ℕ → List ℕ → Option Create → Form
+plan_form_over cedt topo (Some create) = Plan cedt topo create
+plan_form_over cedt topo None = NoCreate
 
 -- the words after `plan`: the files of a table and a topology, and a create line
 abbrev pub plan_form : List (List ℕ) → Form
-plan_form (cedt ∷ topo ∷ line ∷ []) = plan_over cedt topo (create_on_line line)
+plan_form (cedt ∷ topo ∷ line ∷ []) = plan_form_over cedt topo (create_on_line line)
 plan_form words = Unreadable
 
 -- a form that has no words after its first

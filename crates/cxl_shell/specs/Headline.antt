@@ -50,15 +50,15 @@ pub record IsFlatSession (form : Form) (old new : Outside) (before after : Devic
   pub ends : EndsForm form first asked turns old new before after status
 
 -- a status with which no script was carried out
-pub record IsEarly (status : Status) : Type 0 where
+pub record EndsBeforeScript (status : Status) : Type 0 where
   pub not_done : status ≢ Done
   pub not_read : status ≢ ReadFault
   pub not_long : status ≢ TooMuch
 
 -- no session opened: script, registers and media are as they were, or could not be made ready and the script is unread
 pub data HasNoSession (form : Form) (old new : Outside) (before after : Devices) (status : Status) : Type 0 where
-  left : IsEarly status → after ≡ before → HasNoSession form old new before after status
-  unready : (s : System) (frames : ℕ) → IsEarly status → IsStart form old.files.told s frames → after.script ≡ before.script
+  left : EndsBeforeScript status → after ≡ before → HasNoSession form old new before after status
+  unready : (s : System) (frames : ℕ) → EndsBeforeScript status → IsStart form old.files.told s frames → after.script ≡ before.script
       → FailsToOpen s frames before after old.out new.out status → HasNoSession form old new before after status
 
 -- it is one or the other

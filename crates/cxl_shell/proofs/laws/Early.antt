@@ -5,7 +5,7 @@ use Rattle.cxl_model.specs.System.{System}
 use Rattle.cxl_shell.specs.Devices.{Devices}
 use Rattle.cxl_shell.specs.Ends.{Ends}
 use Rattle.cxl_shell.specs.Form.{Form, OfTable, OfResetHost, OfHost, OfWords, table_file, runs_session}
-use Rattle.cxl_shell.specs.Headline.{IsEarly}
+use Rattle.cxl_shell.specs.Headline.{EndsBeforeScript}
 use Rattle.cxl_shell.specs.Outcome.{Outcome}
 use Rattle.cxl_shell.specs.Outside.{Outside}
 use Rattle.cxl_shell.specs.Run.{IsRunByFiles, writes, is_cut, runs_out}
@@ -49,7 +49,7 @@ is_of_devices (BadImage fault) = false
 is_of_devices TooMuch = true
 is_of_devices TooLarge = false
 
-pub early : (status : Status) → comes_early status ≡ true → IsEarly status
+pub early : (status : Status) → comes_early status ≡ true → EndsBeforeScript status
 early status is = record {
   not_done = λ other. let own = ap comes_early other in cc;
   not_read = λ other. let own = ap comes_early other in cc;
@@ -104,7 +104,7 @@ module _ (old new : Outside) where
   early_by_files (OfWords (plain_asks.Gen n)) status runs (is_cut outcome answers short) = absurd answers.0
   early_by_files (OfWords (plain_asks.Gen n)) status runs (runs_out takes is left) = ap comes_early is
 
-  pub early_run : (form : Form) (status : Status) → runs_session form ≡ true → IsRunByFiles form old new status → IsEarly status
+  pub early_run : (form : Form) (status : Status) → runs_session form ≡ true → IsRunByFiles form old new status → EndsBeforeScript status
   early_run form status runs run = early status (early_by_files form status runs run)
 
   -- no run by files ends so
@@ -134,5 +134,5 @@ pub unready_early : (s : System) (frames : ℕ) (before after : Devices) (old ne
 unready_early s frames before after old new status (bus starts rose half empty ends) = told_early status old new ends
 unready_early s frames before after old new status (memory regs media is none) = ap comes_early is
 
-pub fails_early : (s : System) (frames : ℕ) (before after : Devices) (old new : SinkState) (status : Status) → FailsToOpen s frames before after old new status → IsEarly status
+pub fails_early : (s : System) (frames : ℕ) (before after : Devices) (old new : SinkState) (status : Status) → FailsToOpen s frames before after old new status → EndsBeforeScript status
 fails_early s frames before after old new status fails = early status (unready_early s frames before after old new status fails)

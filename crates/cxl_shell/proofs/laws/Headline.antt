@@ -23,7 +23,7 @@ use Rattle.cxl_shell.specs.Devices.{Devices}
 use Rattle.cxl_shell.specs.Endings.{EndsScript, read_out, ending_cut, reply_cut, runs_out, EndsGen, EndsForm}
 use Rattle.cxl_shell.specs.Endings as endings_of
 use Rattle.cxl_shell.specs.Form.{Form, OfTable, OfResetHost, OfHost, OfWords, Check, runs_session}
-use Rattle.cxl_shell.specs.Headline.{IsFlatSession, IsEarly, HasNoSession, left, unready, IsFlatOrUnopened, IsFlatImage, BehavesAsFlatMemory}
+use Rattle.cxl_shell.specs.Headline.{IsFlatSession, EndsBeforeScript, HasNoSession, left, unready, IsFlatOrUnopened, IsFlatImage, BehavesAsFlatMemory}
 use Rattle.cxl_shell.specs.Outside.{Outside}
 use Rattle.cxl_shell.specs.Run.{by_files, unopened, opened, IsRun}
 use Rattle.cxl_shell.specs.Run as ways
