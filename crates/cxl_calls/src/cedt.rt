@@ -1,3 +1,4 @@
+use crate::common::has_passed;
 use byteorder::{ByteOrder, LittleEndian};
 use cxl_cedt::{Cedt, CedtFault, Cfmws, Chbs, Cxims, Head, Record, read, write};
 use std::alloc::Global;
@@ -163,8 +164,8 @@ const FAULTS: [(&[(usize, u8)], CedtFault); 10] = [
 
 #[test]
 fn faults(rt: HostRuntime) {
-    for (changes, fault) in &FAULTS {
-        assert!(rt; is_refused(rt.alloc(), changes, *fault));
+    for (i, (changes, fault)) in FAULTS.iter().enumerate() {
+        has_passed(&rt, i, is_refused(rt.alloc(), changes, *fault));
     }
 }
 

@@ -1,5 +1,6 @@
 //! What the tests of all crates compare with and make their values by. A test states its facts as `assert!(rt; ..)` with no
-//! message, which is the cheapest to prove, over functions that answer whether they hold.
+//! message, which is the cheapest to prove, over functions that answer whether they hold; of a table, by `has_passed`, which
+//! names the row.
 
 use std::alloc::Global;
 use std::fmt::{Debug, Display};
@@ -41,4 +42,9 @@ pub fn prints<T: Display>(alloc: Global, value: &T, want: &str) -> bool {
         Ok(text) => text.as_str() == want,
         Err(_) => false,
     }
+}
+
+/// Checks that the row at this place is right.
+pub fn has_passed(rt: &impl Abort, place: usize, right: bool) {
+    assert!(rt; right, "row {place}");
 }

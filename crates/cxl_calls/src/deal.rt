@@ -1,5 +1,6 @@
 //! How a region's bytes are dealt over its slots, and gathered back.
 
+use crate::common::has_passed;
 use cxl_deal::{
     Dealt, Weave, chunks_deal_whole, deal, gather, place_tells_address, region_fills_slots,
     slot_digits, slots_keep_entries, slots_keep_positions,
@@ -9,90 +10,158 @@ use cxl_num::{are_usable_maps, ways_by};
 
 /// A weave's base, root bits, factor three, low bits and first two maps, where the first is 0 under modulo arithmetic; then
 /// an address, and the slot and the offset to which it is dealt. The granularity is 256 bytes.
-type Row = (u64, u8, bool, u8, u64, u64, u64, u32, u64);
+struct Row {
+    base: u64,
+    root_bits: u8,
+    third: bool,
+    low_bits: u8,
+    map: u64,
+    other_map: u64,
+    h: u64,
+    slot: u32,
+    offset: u64,
+}
 
 const ROWS: [Row; 11] = [
     // Modulo arithmetic, where the ways have the factor three.
-    (
-        0x1_0000_0000,
-        0,
-        true,
-        0,
-        0,
-        0,
-        0x1_2fff_ffff,
-        2,
-        0xfff_ffff,
-    ),
-    (0x1_0000_0000, 1, true, 1, 0, 0, 0x1_0000_0b00, 11, 0),
-    (0x1_0000_0000, 0, true, 1, 0, 0, 0x1_0000_0400, 4, 0),
-    (0x1_0000_0000, 0, true, 1, 0, 0, 0x1_0000_0600, 0, 0x100),
-    (0x1_0000_0000, 0, true, 1, 0, 0, 0x1_0000_0a00, 4, 0x100),
+    Row {
+        base: 0x1_0000_0000,
+        root_bits: 0,
+        third: true,
+        low_bits: 0,
+        map: 0,
+        other_map: 0,
+        h: 0x1_2fff_ffff,
+        slot: 2,
+        offset: 0xfff_ffff,
+    },
+    Row {
+        base: 0x1_0000_0000,
+        root_bits: 1,
+        third: true,
+        low_bits: 1,
+        map: 0,
+        other_map: 0,
+        h: 0x1_0000_0b00,
+        slot: 11,
+        offset: 0,
+    },
+    Row {
+        base: 0x1_0000_0000,
+        root_bits: 0,
+        third: true,
+        low_bits: 1,
+        map: 0,
+        other_map: 0,
+        h: 0x1_0000_0400,
+        slot: 4,
+        offset: 0,
+    },
+    Row {
+        base: 0x1_0000_0000,
+        root_bits: 0,
+        third: true,
+        low_bits: 1,
+        map: 0,
+        other_map: 0,
+        h: 0x1_0000_0600,
+        slot: 0,
+        offset: 0x100,
+    },
+    Row {
+        base: 0x1_0000_0000,
+        root_bits: 0,
+        third: true,
+        low_bits: 1,
+        map: 0,
+        other_map: 0,
+        h: 0x1_0000_0a00,
+        slot: 4,
+        offset: 0x100,
+    },
     // The same where they are a power of two.
-    (0x1_0000_0000, 0, false, 4, 0, 0, 0x1_0000_0b00, 11, 0),
-    (
-        0x10_0000_0000,
-        1,
-        false,
-        1,
-        0,
-        0,
-        0x10f_ffff_ffff,
-        3,
-        0x3f_ffff_ffff,
-    ),
+    Row {
+        base: 0x1_0000_0000,
+        root_bits: 0,
+        third: false,
+        low_bits: 4,
+        map: 0,
+        other_map: 0,
+        h: 0x1_0000_0b00,
+        slot: 11,
+        offset: 0,
+    },
+    Row {
+        base: 0x10_0000_0000,
+        root_bits: 1,
+        third: false,
+        low_bits: 1,
+        map: 0,
+        other_map: 0,
+        h: 0x10f_ffff_ffff,
+        slot: 3,
+        offset: 0x3f_ffff_ffff,
+    },
     // XOR arithmetic, whose map takes the bits 8, 14 and 22.
-    (
-        0x1_0000_0000,
-        1,
-        false,
-        0,
-        0x40_4100,
-        0,
-        0x1_0000_4000,
-        1,
-        0x2000,
-    ),
-    (
-        0x1_0000_0000,
-        1,
-        true,
-        0,
-        0x40_4100,
-        0,
-        0x1_0000_4200,
-        1,
-        0xb00,
-    ),
+    Row {
+        base: 0x1_0000_0000,
+        root_bits: 1,
+        third: false,
+        low_bits: 0,
+        map: 0x40_4100,
+        other_map: 0,
+        h: 0x1_0000_4000,
+        slot: 1,
+        offset: 0x2000,
+    },
+    Row {
+        base: 0x1_0000_0000,
+        root_bits: 1,
+        third: true,
+        low_bits: 0,
+        map: 0x40_4100,
+        other_map: 0,
+        h: 0x1_0000_4200,
+        slot: 1,
+        offset: 0xb00,
+    },
     // By hand: map 0 takes the bits 8 and 13 and gives the slot's bit 0, map 1 the bits 9 and 12.
-    (
-        0x1_0000_0000,
-        2,
-        false,
-        0,
-        0x2100,
-        0x1200,
-        0x1_0000_2000,
-        1,
-        0x800,
-    ),
-    (
-        0x1_0000_0000,
-        2,
-        false,
-        0,
-        0x2100,
-        0x1200,
-        0x1_0000_1000,
-        2,
-        0x400,
-    ),
+    Row {
+        base: 0x1_0000_0000,
+        root_bits: 2,
+        third: false,
+        low_bits: 0,
+        map: 0x2100,
+        other_map: 0x1200,
+        h: 0x1_0000_2000,
+        slot: 1,
+        offset: 0x800,
+    },
+    Row {
+        base: 0x1_0000_0000,
+        root_bits: 2,
+        third: false,
+        low_bits: 0,
+        map: 0x2100,
+        other_map: 0x1200,
+        h: 0x1_0000_1000,
+        slot: 2,
+        offset: 0x400,
+    },
 ];
 
 /// The weave of a row.
 fn weave(row: &Row) -> Option<Weave> {
-    let (base, root_bits, third, low_bits, map, other, _, _, _) = *row;
-    let maps = [map, other, 0, 0];
+    let Row {
+        base,
+        root_bits,
+        third,
+        low_bits,
+        map,
+        other_map,
+        ..
+    } = *row;
+    let maps = [map, other_map, 0, 0];
     if base % UNIT != 0 || 4 < root_bits || 4 - root_bits < low_bits {
         return None;
     }
@@ -115,17 +184,16 @@ fn deals(weave: &Weave, h: u64, slot: u32, offset: u64) -> bool {
 }
 
 fn is_dealt(row: &Row) -> bool {
-    let (_, _, _, _, _, _, h, slot, offset) = *row;
     match weave(row) {
-        Some(weave) => deals(&weave, h, slot, offset),
+        Some(weave) => deals(&weave, row.h, row.slot, row.offset),
         None => false,
     }
 }
 
 #[test]
 fn deals_addresses(rt: HostRuntime) {
-    for row in &ROWS {
-        assert!(rt; is_dealt(row));
+    for (i, row) in ROWS.iter().enumerate() {
+        has_passed(&rt, i, is_dealt(row));
     }
 }
 

@@ -1,6 +1,6 @@
 //! Codes, names, capability words, lists and calls that fail.
 
-use crate::common::list;
+use crate::common::{has_passed, list};
 use cxl_enc::{
     Caps, Factors, FailingCalls, FixedList, Name, cap_word, code_of, gran_code, gran_of, legal_cap,
     split, ways_of,
@@ -42,8 +42,12 @@ fn stands_for_bytes(code: u8, bytes: u32) -> bool {
 
 #[test]
 fn codes(rt: HostRuntime) {
-    for (code, ways, bytes) in &CODES {
-        assert!(rt; stands_for(*code, *ways) && stands_for_bytes(*code, *bytes));
+    for (i, (code, ways, bytes)) in CODES.iter().enumerate() {
+        has_passed(
+            &rt,
+            i,
+            stands_for(*code, *ways) && stands_for_bytes(*code, *bytes),
+        );
     }
 }
 
@@ -74,8 +78,8 @@ const WORDS: [(&str, bool); 5] = [
 
 #[test]
 fn names(rt: HostRuntime) {
-    for (word, want) in &WORDS {
-        assert!(rt; is_name(*word) == *want);
+    for (i, (word, want)) in WORDS.iter().enumerate() {
+        has_passed(&rt, i, is_name(*word) == *want);
     }
     assert!(rt; Name::read(b"e_15") == Name::read(b"e_15"));
 }
@@ -116,8 +120,8 @@ const LEGAL: [(u32, bool, bool); 7] = [
 
 #[test]
 fn legal_words(rt: HostRuntime) {
-    for (word, endpoint, want) in &LEGAL {
-        assert!(rt; legal_cap(*word, *endpoint) == *want);
+    for (i, (word, endpoint, want)) in LEGAL.iter().enumerate() {
+        has_passed(&rt, i, legal_cap(*word, *endpoint) == *want);
     }
 }
 

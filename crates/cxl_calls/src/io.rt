@@ -3,7 +3,7 @@
 mod files;
 mod lines;
 
-use crate::common::{list, prints, repeated, shows};
+use crate::common::{has_passed, list, prints, repeated, shows};
 use cxl_io::{
     FetchFault, MemSink, NumFault, Sink, StdSink, put_hex, put_number, read_number, write_all,
 };
@@ -30,8 +30,12 @@ const WORDS: [(&str, &str); 15] = [
 
 #[test]
 fn numbers_read(rt: HostRuntime) {
-    for (word, want) in &WORDS {
-        assert!(rt; shows(rt.alloc(), &read_number(word.as_bytes()), *want));
+    for (i, (word, want)) in WORDS.iter().enumerate() {
+        has_passed(
+            &rt,
+            i,
+            shows(rt.alloc(), &read_number(word.as_bytes()), *want),
+        );
     }
 }
 
@@ -84,8 +88,8 @@ fn are_put(
 
 #[test]
 fn numbers_printed(rt: HostRuntime) {
-    for (front, number, width, want) in &PRINTED {
-        assert!(rt; are_put(&rt, *front, *number, *width, *want));
+    for (i, (front, number, width, want)) in PRINTED.iter().enumerate() {
+        has_passed(&rt, i, are_put(&rt, *front, *number, *width, *want));
     }
 }
 

@@ -1,5 +1,6 @@
 //! Numbers of interleaving.
 
+use crate::common::has_passed;
 use cxl_enc::Factors;
 use cxl_num::{
     are_usable_maps, checked_end, factor_of, join_thirds, low_bits, parities,
@@ -36,8 +37,8 @@ const PARITIES: [(u64, bool); 6] = [
 
 #[test]
 fn counts_set_bits(rt: HostRuntime) {
-    for (word, odd) in &PARITIES {
-        assert!(rt; parity(*word) == *odd);
+    for (i, (word, odd)) in PARITIES.iter().enumerate() {
+        has_passed(&rt, i, parity(*word) == *odd);
     }
 }
 
@@ -87,8 +88,8 @@ fn ends(base: u64, size: u64, want: u64) -> bool {
 
 #[test]
 fn ends_below_2_64(rt: HostRuntime) {
-    for (base, size, end) in &ENDS {
-        assert!(rt; ends(*base, *size, *end));
+    for (i, (base, size, end)) in ENDS.iter().enumerate() {
+        has_passed(&rt, i, ends(*base, *size, *end));
     }
 }
 

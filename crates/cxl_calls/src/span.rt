@@ -3,6 +3,7 @@
 ghost use Rattle.std.specs.Prelude.{◌+◌, ◌<◌};
 ghost use Rattle.cxl_enc.specs.Limits.{address_limit};
 
+use crate::common::has_passed;
 use cxl_enc::{MemKind, UNIT};
 use cxl_regs::{Block, Decoder, decoder_of};
 use cxl_span::{
@@ -69,27 +70,198 @@ fn endpoint(
 
 /// A block's first two decoders, each with a word's place and value, and the rule that the block breaks first, at which
 /// decoder, or rule 0.
-type Row = (Plain, usize, u32, Plain, usize, u32, u8, u8);
+struct Row {
+    first: Plain,
+    first_place: usize,
+    first_word: u32,
+    second: Plain,
+    second_place: usize,
+    second_word: u32,
+    rule: u8,
+    decoder: u8,
+}
 
 const BLOCKS: [Row; 18] = [
-    (Plain::First, 8, 0, Plain::Second, 8, 0, 0, 0),
-    (Plain::Reset, 8, 0, Plain::Reset, 8, 0, 0, 0),
-    (Plain::First, 8, 0, Plain::Second, 5, 0x2000_0000, 0, 0),
-    (Plain::First, 8, 0, Plain::Second, 2, 0x2000_0000, 0, 0),
-    (Plain::First, 4, 0x1000, Plain::Second, 8, 0, 2, 1),
-    (Plain::First, 4, 0x1e00, Plain::Second, 8, 0, 3, 0),
-    (Plain::First, 8, 0, Plain::Reset, 4, 0x0a00, 3, 1),
-    (Plain::First, 8, 0, Plain::Second, 4, 0x0600, 3, 1),
-    (Plain::First, 8, 0, Plain::Second, 4, 0x1650, 4, 1),
-    (Plain::First, 8, 0, Plain::Second, 4, 0x1626, 5, 1),
-    (Plain::First, 8, 0, Plain::Second, 4, 0x1610, 6, 1),
-    (Plain::First, 2, 0, Plain::Second, 8, 0, 6, 0),
-    (Plain::First, 8, 0, Plain::Second, 1, 0x10_0000, 6, 1),
-    (Plain::First, 8, 0, Plain::Second, 0, 0, 7, 1),
-    (Plain::First, 5, 0x4000_0000, Plain::Second, 8, 0, 8, 1),
-    (Plain::First, 8, 0, Plain::Long, 5, 0x2000_0000, 8, 1),
-    (Plain::Late, 8, 0, Plain::Second, 8, 0, 8, 0),
-    (Plain::Late, 8, 0, Plain::Second, 4, 0x1e00, 3, 1),
+    Row {
+        first: Plain::First,
+        first_place: 8,
+        first_word: 0,
+        second: Plain::Second,
+        second_place: 8,
+        second_word: 0,
+        rule: 0,
+        decoder: 0,
+    },
+    Row {
+        first: Plain::Reset,
+        first_place: 8,
+        first_word: 0,
+        second: Plain::Reset,
+        second_place: 8,
+        second_word: 0,
+        rule: 0,
+        decoder: 0,
+    },
+    Row {
+        first: Plain::First,
+        first_place: 8,
+        first_word: 0,
+        second: Plain::Second,
+        second_place: 5,
+        second_word: 0x2000_0000,
+        rule: 0,
+        decoder: 0,
+    },
+    Row {
+        first: Plain::First,
+        first_place: 8,
+        first_word: 0,
+        second: Plain::Second,
+        second_place: 2,
+        second_word: 0x2000_0000,
+        rule: 0,
+        decoder: 0,
+    },
+    Row {
+        first: Plain::First,
+        first_place: 4,
+        first_word: 0x1000,
+        second: Plain::Second,
+        second_place: 8,
+        second_word: 0,
+        rule: 2,
+        decoder: 1,
+    },
+    Row {
+        first: Plain::First,
+        first_place: 4,
+        first_word: 0x1e00,
+        second: Plain::Second,
+        second_place: 8,
+        second_word: 0,
+        rule: 3,
+        decoder: 0,
+    },
+    Row {
+        first: Plain::First,
+        first_place: 8,
+        first_word: 0,
+        second: Plain::Reset,
+        second_place: 4,
+        second_word: 0x0a00,
+        rule: 3,
+        decoder: 1,
+    },
+    Row {
+        first: Plain::First,
+        first_place: 8,
+        first_word: 0,
+        second: Plain::Second,
+        second_place: 4,
+        second_word: 0x0600,
+        rule: 3,
+        decoder: 1,
+    },
+    Row {
+        first: Plain::First,
+        first_place: 8,
+        first_word: 0,
+        second: Plain::Second,
+        second_place: 4,
+        second_word: 0x1650,
+        rule: 4,
+        decoder: 1,
+    },
+    Row {
+        first: Plain::First,
+        first_place: 8,
+        first_word: 0,
+        second: Plain::Second,
+        second_place: 4,
+        second_word: 0x1626,
+        rule: 5,
+        decoder: 1,
+    },
+    Row {
+        first: Plain::First,
+        first_place: 8,
+        first_word: 0,
+        second: Plain::Second,
+        second_place: 4,
+        second_word: 0x1610,
+        rule: 6,
+        decoder: 1,
+    },
+    Row {
+        first: Plain::First,
+        first_place: 2,
+        first_word: 0,
+        second: Plain::Second,
+        second_place: 8,
+        second_word: 0,
+        rule: 6,
+        decoder: 0,
+    },
+    Row {
+        first: Plain::First,
+        first_place: 8,
+        first_word: 0,
+        second: Plain::Second,
+        second_place: 1,
+        second_word: 0x10_0000,
+        rule: 6,
+        decoder: 1,
+    },
+    Row {
+        first: Plain::First,
+        first_place: 8,
+        first_word: 0,
+        second: Plain::Second,
+        second_place: 0,
+        second_word: 0,
+        rule: 7,
+        decoder: 1,
+    },
+    Row {
+        first: Plain::First,
+        first_place: 5,
+        first_word: 0x4000_0000,
+        second: Plain::Second,
+        second_place: 8,
+        second_word: 0,
+        rule: 8,
+        decoder: 1,
+    },
+    Row {
+        first: Plain::First,
+        first_place: 8,
+        first_word: 0,
+        second: Plain::Long,
+        second_place: 5,
+        second_word: 0x2000_0000,
+        rule: 8,
+        decoder: 1,
+    },
+    Row {
+        first: Plain::Late,
+        first_place: 8,
+        first_word: 0,
+        second: Plain::Second,
+        second_place: 8,
+        second_word: 0,
+        rule: 8,
+        decoder: 0,
+    },
+    Row {
+        first: Plain::Late,
+        first_place: 8,
+        first_word: 0,
+        second: Plain::Second,
+        second_place: 4,
+        second_word: 0x1e00,
+        rule: 3,
+        decoder: 1,
+    },
 ];
 
 /// A block on a device of 1 GiB of each kind breaks this first.
@@ -101,16 +273,15 @@ fn breaks(block: &Block, rule: u8, decoder: u8) -> bool {
 }
 
 fn is_broken(rt: &(impl Abort + AllocGlobal), row: &Row) -> bool {
-    let (first, i, word, second, j, other, rule, decoder) = *row;
-    let first = changed(first, i, word);
-    let second = changed(second, j, other);
-    breaks(&endpoint(rt, true, &first, &second), rule, decoder)
+    let first = changed(row.first, row.first_place, row.first_word);
+    let second = changed(row.second, row.second_place, row.second_word);
+    breaks(&endpoint(rt, true, &first, &second), row.rule, row.decoder)
 }
 
 #[test]
 fn breaches(rt: HostRuntime) {
-    for row in &BLOCKS {
-        assert!(rt; is_broken(&rt, row));
+    for (i, row) in BLOCKS.iter().enumerate() {
+        has_passed(&rt, i, is_broken(&rt, row));
     }
 }
 
@@ -162,71 +333,77 @@ fn told(answer: Option<Result<Span, SpanFault>>) -> (u8, u64, u64, u64) {
 
 /// A block's first two decoders, the device's ram, and what is asked for; then the answer as `told` gives it. The device
 /// has as much pmem where its ram is 1 GiB, and else none.
-type Asked = (Plain, Plain, u64, MemKind, u64, (u8, u64, u64, u64));
+struct Asked {
+    first: Plain,
+    second: Plain,
+    ram: u64,
+    kind: MemKind,
+    len: u64,
+    told: (u8, u64, u64, u64),
+}
 
 const SPANS: [Asked; 6] = [
     // Ram, then pmem, then neither fits.
-    (
-        Plain::Reset,
-        Plain::Reset,
-        GIB,
-        MemKind::Ram,
-        UNIT,
-        (0, 0, 0, UNIT),
-    ),
-    (
-        Plain::First,
-        Plain::Reset,
-        GIB,
-        MemKind::Pmem,
-        UNIT,
-        (0, 0x3000_0000, 0x4000_0000, UNIT),
-    ),
-    (
-        Plain::First,
-        Plain::Second,
-        GIB,
-        MemKind::Ram,
-        UNIT,
-        (2, 0x5000_0000, 0, 0),
-    ),
-    (
-        Plain::First,
-        Plain::Second,
-        GIB,
-        MemKind::Pmem,
-        GIB,
-        (3, 0x5000_0000, 0x8000_0000, 0),
-    ),
-    (
-        Plain::First,
-        Plain::Second,
-        GIB,
-        MemKind::Pmem,
-        3 * UNIT,
-        (0, 0, 0x5000_0000, 3 * UNIT),
-    ),
+    Asked {
+        first: Plain::Reset,
+        second: Plain::Reset,
+        ram: GIB,
+        kind: MemKind::Ram,
+        len: UNIT,
+        told: (0, 0, 0, UNIT),
+    },
+    Asked {
+        first: Plain::First,
+        second: Plain::Reset,
+        ram: GIB,
+        kind: MemKind::Pmem,
+        len: UNIT,
+        told: (0, 0x3000_0000, 0x4000_0000, UNIT),
+    },
+    Asked {
+        first: Plain::First,
+        second: Plain::Second,
+        ram: GIB,
+        kind: MemKind::Ram,
+        len: UNIT,
+        told: (2, 0x5000_0000, 0, 0),
+    },
+    Asked {
+        first: Plain::First,
+        second: Plain::Second,
+        ram: GIB,
+        kind: MemKind::Pmem,
+        len: GIB,
+        told: (3, 0x5000_0000, 0x8000_0000, 0),
+    },
+    Asked {
+        first: Plain::First,
+        second: Plain::Second,
+        ram: GIB,
+        kind: MemKind::Pmem,
+        len: 3 * UNIT,
+        told: (0, 0, 0x5000_0000, 3 * UNIT),
+    },
     // Half of 4 GiB over two ways.
-    (
-        Plain::Shared,
-        Plain::Reset,
-        4 * GIB,
-        MemKind::Ram,
-        UNIT,
-        (0, 0, 0x8000_0000, UNIT),
-    ),
+    Asked {
+        first: Plain::Shared,
+        second: Plain::Reset,
+        ram: 4 * GIB,
+        kind: MemKind::Ram,
+        len: UNIT,
+        told: (0, 0, 0x8000_0000, UNIT),
+    },
 ];
 
 fn is_answered(rt: &(impl Abort + AllocGlobal), asked: &Asked) -> bool {
-    let (first, second, ram, kind, len, want) = *asked;
-    let block = endpoint(rt, true, &words(first), &words(second));
-    told(allots(&block, ram, kind, len)) == want
+    let block = endpoint(rt, true, &words(asked.first), &words(asked.second));
+    told(allots(&block, asked.ram, asked.kind, asked.len)) == asked.told
 }
 
 #[test]
 fn spans(rt: HostRuntime) {
-    for asked in &SPANS {
-        assert!(rt; is_answered(&rt, asked));
+    for (i, asked) in SPANS.iter().enumerate() {
+        has_passed(&rt, i, is_answered(&rt, asked));
     }
 }
 

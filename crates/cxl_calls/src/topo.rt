@@ -1,3 +1,4 @@
+use crate::common::has_passed;
 use cxl_topo::{Capacity, Name, Node, NodeKind, Parent, Path, Topo, TreeFault};
 use std::alloc::Global;
 
@@ -205,8 +206,12 @@ const CHANGED: [(usize, Change, TreeFault); 9] = [
 
 #[test]
 fn first_faults(rt: HostRuntime) {
-    for (place, change, fault) in &CHANGED {
-        assert!(rt; is_fault(rt.alloc(), &changed(*place, *change), *fault));
+    for (i, (place, change, fault)) in CHANGED.iter().enumerate() {
+        has_passed(
+            &rt,
+            i,
+            is_fault(rt.alloc(), &changed(*place, *change), *fault),
+        );
     }
 }
 

@@ -1,3 +1,4 @@
+use crate::common::has_passed;
 use cxl_topo::{Name, Topo};
 use cxl_topofile::read_topo;
 use std::alloc::Global;
@@ -156,8 +157,8 @@ fn fault_of(alloc: Global, text: &str) -> Option<String> {
 
 #[test]
 fn first_faults(rt: HostRuntime) {
-    for (text, want) in &FAULTS {
+    for (i, (text, want)) in FAULTS.iter().enumerate() {
         let said = fault_of(rt.alloc(), text).expect(&rt, "a fault");
-        assert!(rt; said.as_str() == *want);
+        has_passed(&rt, i, said.as_str() == *want);
     }
 }

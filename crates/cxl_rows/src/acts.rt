@@ -307,7 +307,7 @@ fn keeps(rt: &impl Abort, alloc: Global, session: &Session, row: &Keeping) -> bo
     if row.route.is_empty() {
         return many && kept.is_none();
     }
-    let route = Some(route_of(&numbers(rt, alloc, row.route)));
+    let route = Some(route_of(rt, &numbers(rt, alloc, row.route)));
     many && kept == route && route_by_registers(session, row.address) == route
 }
 

@@ -31,16 +31,20 @@ fn image_of(rt: &impl Abort, alloc: Global, digits: &str, topo: &Topo) -> Image
 }
 
 /// The digits of a table, a topology, the digits of an image, and stores of a guest in lines.
-type Row = (&'static str, &'static str, &'static str, &'static str);
+struct Row {
+    table: &'static str,
+    topology: &'static str,
+    image: &'static str,
+    stores: &'static str,
+}
 
 fn host_of(rt: &impl Abort, alloc: Global, row: &Row) -> Worked
     ensures caps { HasCapsOf result.image result.topo.nodes }
     ensures made { AreMadeWith result.windows.items (bridge_uids result.topo.nodes) }
 {
-    let (table, topology, image, _) = *row;
-    let topo = read_topo(alloc, topology.as_bytes()).expect(rt, "a topology");
-    let image = image_of(rt, alloc, image, &topo);
-    let windows = windows_of(rt, alloc, &table_of(rt, alloc, table), topo.uids());
+    let topo = read_topo(alloc, row.topology.as_bytes()).expect(rt, "a topology");
+    let image = image_of(rt, alloc, row.image, &topo);
+    let windows = windows_of(rt, alloc, &table_of(rt, alloc, row.table), topo.uids());
     Worked {
         topo,
         windows,
@@ -81,7 +85,7 @@ fn is_led(rt: &impl Abort, host: &Worked, line: &str) -> bool
 fn are_led(rt: &impl Abort, alloc: Global, row: &Row) -> bool {
     let host = host_of(rt, alloc, row);
     let mut count = 0_u32;
-    for line in row.3.split('\n') {
+    for line in row.stores.split('\n') {
         if !line.is_empty() {
             if !is_led(rt, &host, line) {
                 return false;
@@ -100,40 +104,40 @@ fn real_stores(rt: HostRuntime) {
 }
 
 const REAL: [Row; 6] = [
-    (
-        real_hosts::X2_BRIDGES_TABLE,
-        real_hosts::X2_BRIDGES_TOPOLOGY,
-        real_images::X2_BRIDGES,
-        stores::X2_BRIDGES_STORES,
-    ),
-    (
-        real_hosts::X4_SWITCHES_TABLE,
-        real_hosts::X4_SWITCHES_TOPOLOGY,
-        real_images::X4_SWITCHES,
-        stores::X4_SWITCHES_STORES,
-    ),
-    (
-        real_hosts::X8_TWO_WINDOWS_TABLE,
-        real_hosts::X8_TWO_WINDOWS_TOPOLOGY,
-        real_images::X8_TWO_WINDOWS,
-        stores::X8_TWO_WINDOWS_STORES,
-    ),
-    (
-        real_hosts::X6_THREE_WAYS_TABLE,
-        real_hosts::X6_THREE_WAYS_TOPOLOGY,
-        real_images::X6_THREE_WAYS,
-        stores::X6_THREE_WAYS_STORES,
-    ),
-    (
-        real_hosts::RAM_AND_PMEM_TABLE,
-        real_hosts::RAM_AND_PMEM_TOPOLOGY,
-        real_images::RAM_AND_PMEM,
-        stores::RAM_AND_PMEM_STORES,
-    ),
-    (
-        real_hosts::SINGLE_PORTS_TABLE,
-        real_hosts::SINGLE_PORTS_TOPOLOGY,
-        real_images::SINGLE_PORTS,
-        stores::SINGLE_PORTS_STORES,
-    ),
+    Row {
+        table: real_hosts::X2_BRIDGES_TABLE,
+        topology: real_hosts::X2_BRIDGES_TOPOLOGY,
+        image: real_images::X2_BRIDGES,
+        stores: stores::X2_BRIDGES_STORES,
+    },
+    Row {
+        table: real_hosts::X4_SWITCHES_TABLE,
+        topology: real_hosts::X4_SWITCHES_TOPOLOGY,
+        image: real_images::X4_SWITCHES,
+        stores: stores::X4_SWITCHES_STORES,
+    },
+    Row {
+        table: real_hosts::X8_TWO_WINDOWS_TABLE,
+        topology: real_hosts::X8_TWO_WINDOWS_TOPOLOGY,
+        image: real_images::X8_TWO_WINDOWS,
+        stores: stores::X8_TWO_WINDOWS_STORES,
+    },
+    Row {
+        table: real_hosts::X6_THREE_WAYS_TABLE,
+        topology: real_hosts::X6_THREE_WAYS_TOPOLOGY,
+        image: real_images::X6_THREE_WAYS,
+        stores: stores::X6_THREE_WAYS_STORES,
+    },
+    Row {
+        table: real_hosts::RAM_AND_PMEM_TABLE,
+        topology: real_hosts::RAM_AND_PMEM_TOPOLOGY,
+        image: real_images::RAM_AND_PMEM,
+        stores: stores::RAM_AND_PMEM_STORES,
+    },
+    Row {
+        table: real_hosts::SINGLE_PORTS_TABLE,
+        topology: real_hosts::SINGLE_PORTS_TOPOLOGY,
+        image: real_images::SINGLE_PORTS,
+        stores: stores::SINGLE_PORTS_STORES,
+    },
 ];

@@ -64,29 +64,29 @@ fn node_of(rt: &impl Abort, i: usize, item: &[u64]) -> Node {
     let letters = [b'n', b'a' + (i / 26 % 26) as u8, b'a' + (i % 26) as u8];
     Node {
         name: Name::read(&letters).expect(rt, "a name"),
-        kind: kind_of(i, item),
-        parent: parent_of(item),
-        cap: word(item, 0),
-        forwards: word(item, 0) == PLACEHOLDER,
+        kind: kind_of(rt, i, item),
+        parent: parent_of(rt, item),
+        cap: word(rt, item, 0),
+        forwards: word(rt, item, 0) == PLACEHOLDER,
     }
 }
 
-fn parent_of(item: &[u64]) -> Option<Parent> {
+fn parent_of(rt: &impl Abort, item: &[u64]) -> Option<Parent> {
     if item.len() > 1 {
         Some(Parent {
-            node: word(item, 1),
-            port: byte(item, 2),
+            node: word(rt, item, 1),
+            port: byte(rt, item, 2),
         })
     } else {
         None
     }
 }
 
-fn kind_of(i: usize, item: &[u64]) -> NodeKind {
+fn kind_of(rt: &impl Abort, i: usize, item: &[u64]) -> NodeKind {
     if item.len() > 3 {
         NodeKind::Endpoint(Capacity {
-            ram: at(item, 3),
-            pmem: at(item, 4),
+            ram: at(rt, item, 3),
+            pmem: at(rt, item, 4),
         })
     } else if item.len() > 1 {
         NodeKind::Switch
@@ -130,23 +130,23 @@ fn map_record(rt: &impl Abort, alloc: Global) -> Record {
 fn targets_of(rt: &impl Abort, alloc: Global, item: &[u64]) -> Vec<u32> {
     let mut targets = Vec::new(alloc);
     for i in 5..item.len() {
-        targets.push(word(item, i)).expect(rt, "memory");
+        targets.push(word(rt, item, i)).expect(rt, "memory");
     }
     targets
 }
 
 fn window_record(rt: &impl Abort, alloc: Global, item: &[u64]) -> Record {
     let targets = targets_of(rt, alloc, item);
-    let gran = byte(item, 2);
+    let gran = byte(rt, item, 2);
     assert!(rt; targets.len() <= 16 && gran <= 6);
     let ways = code_of(targets.len() as u8).expect(rt, "a number of ways");
     Record::Cfmws(Cfmws::new(
-        at(item, 0),
-        at(item, 1),
+        at(rt, item, 0),
+        at(rt, item, 1),
         ways,
-        at(item, 3) == 1,
+        at(rt, item, 3) == 1,
         gran,
-        (word(item, 4) % 0x1_0000) as u16,
+        u16::try_from(word(rt, item, 4)).expect(rt, "restrictions"),
         0,
         targets,
     ))
@@ -243,7 +243,10 @@ fn commit_all(rt: &impl Abort, alloc: Global, image: &mut Image, text: &str)
 fn commit_each(rt: &impl Abort, image: &mut Image, range: &[u64])
     ensures { (nodes : List Node) → HasCapsOf image.old nodes → HasCapsOf image.new nodes }
 {
-    for node in word(range, 0)..word(range, 1) {
+    if range.is_empty() {
+        return;
+    }
+    for node in word(rt, range, 0)..word(rt, range, 1) {
         commit(rt, image, range, node);
     }
 }
@@ -252,9 +255,9 @@ fn commit_each(rt: &impl Abort, image: &mut Image, range: &[u64])
 fn commit(rt: &impl Abort, image: &mut Image, range: &[u64], node: u32)
     ensures { (nodes : List Node) → HasCapsOf image.old nodes → HasCapsOf image.new nodes }
 {
-    let base = at(range, 3);
-    let size = at(range, 4);
-    let codes = byte(range, 5);
+    let base = at(rt, range, 3);
+    let size = at(rt, range, 4);
+    let codes = byte(rt, range, 5);
     assert!(rt; base % UNIT == 0 && size % UNIT == 0);
     let words = words_of(&Decoder {
         base,
@@ -263,7 +266,7 @@ fn commit(rt: &impl Abort, image: &mut Image, range: &[u64], node: u32)
         gran: codes % 16,
         commit: true,
         host_only: true,
-        tail: at(range, 6),
+        tail: at(rt, range, 6),
         ..Decoder::RESET
     });
     write_word(image, node, GLOBAL_CONTROL, 2);
@@ -271,7 +274,7 @@ fn commit(rt: &impl Abort, image: &mut Image, range: &[u64], node: u32)
         write_word(
             image,
             node,
-            offset_of(byte(range, 2), place),
+            offset_of(byte(rt, range, 2), place),
             words[place as usize],
         );
     }

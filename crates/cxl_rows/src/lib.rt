@@ -16,6 +16,8 @@ mod guest_stores;
 #[cfg(test)]
 mod host_files;
 #[cfg(test)]
+mod host_texts;
+#[cfg(test)]
 mod hosts;
 #[cfg(test)]
 mod listings;

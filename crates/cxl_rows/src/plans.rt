@@ -5,6 +5,10 @@ ghost use Rattle.cxl_model.specs.System.{bridge_uids};
 ghost use Rattle.cxl_topo.specs.Tree.{is_endpoint_at};
 ghost use Rattle.cxl_window.specs.Windows.{AreMadeWith};
 
+use crate::host_texts::{
+    FOUR_WAYS, ONE_OF_BOTH_KINDS, OVER_ONE, OVER_TWO, OVER_TWO_LONG, RAM_THEN_PMEM, THREE_BY_ONE,
+    TWO_BY_ONE, TWO_BY_TWO, TWO_FORWARDING,
+};
 use crate::hosts::{Worked, host_of};
 use crate::rows::{has_passed, numbers, shows};
 use cxl_check::check;
@@ -15,26 +19,30 @@ use cxl_topo::Topo;
 use std::alloc::Global;
 use std::process::Abort;
 
-/// What is asked for: a kind, a size, a granularity code, or 255 for any, and endpoints.
-type Asked = (MemKind, u64, u8, &'static str);
+/// What is asked for: a kind, a size, a granularity code, where one is stated, and endpoints.
+#[derive(Drop)]
+struct Asked {
+    kind: MemKind,
+    size: u64,
+    gran: Option<u8>,
+    endpoints: &'static str,
+}
 
-fn request_of(rt: &impl Abort, alloc: Global, asked: Asked) -> Request {
-    let (kind, size, gran, endpoints) = asked;
+fn request_of(rt: &impl Abort, alloc: Global, asked: &Asked) -> Request {
     Request {
         name: Name::read(b"r0").expect(rt, "a name"),
-        kind,
-        size,
-        gran: if gran == 255 { None } else { Some(gran) },
-        endpoints: FixedList::new(nodes_of(rt, alloc, endpoints)),
+        kind: asked.kind,
+        size: asked.size,
+        gran: asked.gran,
+        endpoints: FixedList::new(nodes_of(rt, alloc, asked.endpoints)),
     }
 }
 
 fn nodes_of(rt: &impl Abort, alloc: Global, text: &str) -> Vec<u32> {
     let mut nodes = Vec::new(alloc);
     for number in &numbers(rt, alloc, text) {
-        nodes
-            .push((*number % 0x1_0000_0000) as u32)
-            .expect(rt, "memory");
+        let node = u32::try_from(*number).expect(rt, "a node");
+        nodes.push(node).expect(rt, "memory");
     }
     nodes
 }
@@ -67,39 +75,40 @@ fn planned(
     }
 }
 
-/// A host's nodes, windows and decoders that are committed.
-type Parts = (&'static str, &'static str, &'static str);
-
 fn planned_over(
     rt: &impl Abort,
     alloc: Global,
-    parts: Parts,
-    asked: Asked,
+    nodes: &str,
+    windows: &str,
+    ranges: &str,
+    asked: &Asked,
 ) -> Result<Plan, PlanFault> {
-    let (nodes, windows, ranges) = parts;
     let host = host_of(rt, alloc, nodes, windows, ranges);
     planned(rt, alloc, &host, &request_of(rt, alloc, asked))
 }
 
-/// A host's nodes, windows and decoders that are committed; the kind, the size, the granularity code or 255 and the
-/// endpoints of what is asked for; and the plan's window, base, granularity code and ways, or the fault.
-type Answer = (
-    &'static str,
-    &'static str,
-    &'static str,
-    MemKind,
-    u64,
-    u8,
-    &'static str,
-    &'static str,
-);
+/// A host, what is asked for, and the plan's window, base, granularity code and ways, or the fault.
+struct Answer {
+    nodes: &'static str,
+    windows: &'static str,
+    ranges: &'static str,
+    kind: MemKind,
+    size: u64,
+    gran: Option<u8>,
+    endpoints: &'static str,
+    plan: &'static str,
+}
 
 fn is_answer(rt: &impl Abort, alloc: Global, row: &Answer) -> bool {
-    let (nodes, windows, ranges, kind, size, gran, endpoints, want) = *row;
-    let asked = (kind, size, gran, endpoints);
-    match planned_over(rt, alloc, (nodes, windows, ranges), asked) {
-        Ok(plan) => is_plan(&plan, &numbers(rt, alloc, want)),
-        Err(fault) => shows(rt, alloc, &fault, want),
+    let asked = Asked {
+        kind: row.kind,
+        size: row.size,
+        gran: row.gran,
+        endpoints: row.endpoints,
+    };
+    match planned_over(rt, alloc, row.nodes, row.windows, row.ranges, &asked) {
+        Ok(plan) => is_plan(&plan, &numbers(rt, alloc, row.plan)),
+        Err(fault) => shows(rt, alloc, &fault, row.plan),
     }
 }
 
@@ -121,50 +130,28 @@ fn answers(rt: HostRuntime) {
     }
 }
 
-/// Two bridges with two endpoints of 256 GiB each, and where the first endpoint has no memory.
-const TWO_EACH: &str = "0x382, 0x382, \
-    0x1b02 0 0 0x4000000000 0, 0x1b02 0 1 0x4000000000 0, \
-    0x1b02 1 0 0x4000000000 0, 0x1b02 1 1 0x4000000000 0";
-
-const BARE: &str = "0x382, 0x382, \
+/// Two bridges with two endpoints of 256 GiB each, of which the first has no memory.
+const FIRST_WITHOUT_MEMORY: &str = "0x382, 0x382, \
     0x1b02 0 0 0 0, 0x1b02 0 1 0x4000000000 0, \
     0x1b02 1 0 0x4000000000 0, 0x1b02 1 1 0x4000000000 0";
 
-const LARGE: &str = "0x1000000000 0x10000000000 0 0 0x000e 0 1";
+/// Two bridges with one endpoint of 4 GiB each.
+const TWO_BY_ONE_LARGER: &str = "0x382, 0x382, 0x1b02 0 0 0x100000000 0, 0x1b02 1 0 0x100000000 0";
 
-const OF_FOUR: &str =
-    "0 2 0 0x1000000000 0x40000000 0x11 0x0100, 2 6 0 0x1000000000 0x40000000 0x20 0";
-
-/// One bridge with an endpoint of 1 GiB of each kind, and two regions of it.
-const ONE: &str = "0x382, 0x1b02 0 0 0x40000000 0x40000000";
-
-const OVER_ONE: &str = "0x100000000 0x100000000 0 0 0x000e 0";
-
-const OF_ONE: &str = "0 2 0 0x100000000 0x10000000 0 0, \
-    0 1 1 0x110000000 0x10000000 0 0, 1 2 1 0x110000000 0x10000000 0 0x30000000";
-
-/// Two bridges with one endpoint of 2 GiB each; where it has 4 GiB; where the second bridge has one decoder; and where
-/// the bridges forward.
-const ONE_EACH: &str = "0x382, 0x382, 0x1b02 0 0 0x80000000 0, 0x1b02 1 0 0x80000000 0";
-
-const LARGER_EACH: &str = "0x382, 0x382, 0x1b02 0 0 0x100000000 0, 0x1b02 1 0 0x100000000 0";
-
-const ONE_DECODER: &str = "0x382, 0x380, 0x1b02 0 0 0x80000000 0, 0x1b02 1 0 0x80000000 0";
-
-const FORWARDING: &str = "0x10, 0x10, 0x1b02 0 0 0x80000000 0, 0x1b02 1 0 0x80000000 0";
-
-const OVER_TWO: &str = "0x100000000 0x100000000 0 0 0x000e 0 1";
+/// Two bridges with one endpoint of 2 GiB each, of which the second has one decoder.
+const SECOND_WITH_ONE_DECODER: &str =
+    "0x382, 0x380, 0x1b02 0 0 0x80000000 0, 0x1b02 1 0 0x80000000 0";
 
 /// Five endpoints below one bridge.
-const FIVE: &str = "0x382, 0x1b02 0 0 0x40000000 0, 0x1b02 0 1 0x40000000 0, \
+const ONE_BY_FIVE: &str = "0x382, 0x1b02 0 0 0x40000000 0, 0x1b02 0 1 0x40000000 0, \
     0x1b02 0 2 0x40000000 0, 0x1b02 0 3 0x40000000 0, 0x1b02 0 4 0x40000000 0";
 
 /// Two bridges with two endpoints of persistent memory each, and a window for each reason, in the order in which they
 /// are tried.
-const PMEM: &str = "0x382, 0x382, 0x1b02 0 0 0 0x80000000, 0x1b02 0 1 0 0x80000000, \
+const TWO_BY_TWO_PMEM: &str = "0x382, 0x382, 0x1b02 0 0 0 0x80000000, 0x1b02 0 1 0 0x80000000, \
     0x1b02 1 0 0 0x80000000, 0x1b02 1 1 0 0x80000000";
 
-const WINDOWS: &str = "0x500000001 0x40000000 0 0 0x000e 0 1, \
+const EACH_REASON: &str = "0x500000001 0x40000000 0 0 0x000e 0 1, \
     0x140000000 0x40000000 0 0 0x0006 0 1, 0x180000000 0x40000000 0 0 0x001e 0 1, \
     0x1c0000000 0x40000000 0 0 0x000e 0, 0x200000000 0x40000000 5 0 0x000e 0 1, \
     0x240000000 0x40000000 6 0 0x000e 0 1, 0x280000000 0x20000000 6 0 0x000e 0 1";
@@ -172,212 +159,219 @@ const WINDOWS: &str = "0x500000001 0x40000000 0 0 0x000e 0 1, \
 const REASONS: &str = "NoWindow(FixedList { vec: [Unusable, Kind, Fixed, Bridges, Gran, \
     Select(0), Select(0)] })";
 
-/// Three bridges with an endpoint each, of which one cannot have three ways; and two windows, where the first is taken.
-const THREE: &str = "0x382, 0x382, 0x382, \
-    0x1b02 0 0 0x10000000 0, 0x1b02 1 0 0x10000000 0, 0x1b02 2 0 0x10000000 0";
-
-const UNABLE: &str = "0x382, 0x382, 0x382, \
+/// Three bridges with an endpoint each, of which the second cannot have three ways.
+const SECOND_WITHOUT_THREE_WAYS: &str = "0x382, 0x382, 0x382, \
     0x1b02 0 0 0x10000000 0, 0x302 1 0 0x10000000 0, 0x1b02 2 0 0x10000000 0";
 
-const TWO_WINDOWS: &str =
+/// Two windows, of which the first is taken.
+const OVER_THREE_TWICE: &str =
     "0x100000000 0x30000000 0 0 0x000e 0 1 2, 0x200000000 0x30000000 0 0 0x000e 0 1 2";
 
 const RAM: MemKind = MemKind::Ram;
 
 const ANSWERS: [Answer; 20] = [
-    (
-        TWO_EACH,
-        LARGE,
-        "",
-        RAM,
-        0x4000_0000,
-        255,
-        "2 3 4 5",
-        "0 0x1000000000 0 4",
-    ),
-    (
-        TWO_EACH,
-        LARGE,
-        "",
-        RAM,
-        0x4000_0000,
-        255,
-        "5 2 4 3",
-        "0 0x1000000000 0 4",
-    ),
-    (
-        TWO_EACH,
-        LARGE,
-        "",
-        RAM,
-        0x1000_0000,
-        255,
-        "2 2",
-        "Repeat(2)",
-    ),
-    (
-        TWO_EACH,
-        LARGE,
-        "",
-        RAM,
-        0x3000_0000,
-        255,
-        "2 3 4",
-        "Uneven(1)",
-    ),
-    (
-        TWO_EACH,
-        LARGE,
-        "",
-        RAM,
-        0x2000_0000,
-        255,
-        "2 3",
-        "NoWindow(FixedList { vec: [Bridges] })",
-    ),
-    (
-        TWO_EACH,
-        LARGE,
-        OF_FOUR,
-        RAM,
-        0x2000_0000,
-        255,
-        "2 4",
-        "0 0x1040000000 0 2",
-    ),
-    (
-        BARE,
-        LARGE,
-        "",
-        RAM,
-        0x2000_0000,
-        255,
-        "3 4",
-        "0 0x1000000000 0 2",
-    ),
-    (
-        BARE,
-        LARGE,
-        "",
-        RAM,
-        0x4000_0000,
-        255,
-        "2 3 4 5",
-        "Span(2, NoRoom(Room { start: 0, limit: 0 }))",
-    ),
-    (
-        ONE,
-        OVER_ONE,
-        OF_ONE,
-        RAM,
-        0x1000_0000,
-        255,
-        "1",
-        "Span(1, PastRam(1342177280))",
-    ),
-    (
-        ONE,
-        OVER_ONE,
-        OF_ONE,
-        MemKind::Pmem,
-        0x4000_0000,
-        255,
-        "1",
-        "Span(1, NoRoom(Room { start: 1342177280, limit: 2147483648 }))",
-    ),
-    (ONE, OVER_ONE, OF_ONE, MemKind::Pmem, 0, 255, "1", "Size"),
-    (
-        ONE,
-        OVER_ONE,
-        "0 2 0 0x100000000 0x10000000 0 0",
-        MemKind::Pmem,
-        0x1000_0000,
-        255,
-        "1",
-        "0 0x110000000 0 1",
-    ),
+    Answer {
+        nodes: TWO_BY_TWO,
+        windows: OVER_TWO_LONG,
+        ranges: "",
+        kind: RAM,
+        size: 0x4000_0000,
+        gran: None,
+        endpoints: "2 3 4 5",
+        plan: "0 0x1000000000 0 4",
+    },
+    Answer {
+        nodes: TWO_BY_TWO,
+        windows: OVER_TWO_LONG,
+        ranges: "",
+        kind: RAM,
+        size: 0x4000_0000,
+        gran: None,
+        endpoints: "5 2 4 3",
+        plan: "0 0x1000000000 0 4",
+    },
+    Answer {
+        nodes: TWO_BY_TWO,
+        windows: OVER_TWO_LONG,
+        ranges: "",
+        kind: RAM,
+        size: 0x1000_0000,
+        gran: None,
+        endpoints: "2 2",
+        plan: "Repeat(2)",
+    },
+    Answer {
+        nodes: TWO_BY_TWO,
+        windows: OVER_TWO_LONG,
+        ranges: "",
+        kind: RAM,
+        size: 0x3000_0000,
+        gran: None,
+        endpoints: "2 3 4",
+        plan: "Uneven(1)",
+    },
+    Answer {
+        nodes: TWO_BY_TWO,
+        windows: OVER_TWO_LONG,
+        ranges: "",
+        kind: RAM,
+        size: 0x2000_0000,
+        gran: None,
+        endpoints: "2 3",
+        plan: "NoWindow(FixedList { vec: [Bridges] })",
+    },
+    Answer {
+        nodes: TWO_BY_TWO,
+        windows: OVER_TWO_LONG,
+        ranges: FOUR_WAYS,
+        kind: RAM,
+        size: 0x2000_0000,
+        gran: None,
+        endpoints: "2 4",
+        plan: "0 0x1040000000 0 2",
+    },
+    Answer {
+        nodes: FIRST_WITHOUT_MEMORY,
+        windows: OVER_TWO_LONG,
+        ranges: "",
+        kind: RAM,
+        size: 0x2000_0000,
+        gran: None,
+        endpoints: "3 4",
+        plan: "0 0x1000000000 0 2",
+    },
+    Answer {
+        nodes: FIRST_WITHOUT_MEMORY,
+        windows: OVER_TWO_LONG,
+        ranges: "",
+        kind: RAM,
+        size: 0x4000_0000,
+        gran: None,
+        endpoints: "2 3 4 5",
+        plan: "Span(2, NoRoom(Room { start: 0, limit: 0 }))",
+    },
+    Answer {
+        nodes: ONE_OF_BOTH_KINDS,
+        windows: OVER_ONE,
+        ranges: RAM_THEN_PMEM,
+        kind: RAM,
+        size: 0x1000_0000,
+        gran: None,
+        endpoints: "1",
+        plan: "Span(1, PastRam(1342177280))",
+    },
+    Answer {
+        nodes: ONE_OF_BOTH_KINDS,
+        windows: OVER_ONE,
+        ranges: RAM_THEN_PMEM,
+        kind: MemKind::Pmem,
+        size: 0x4000_0000,
+        gran: None,
+        endpoints: "1",
+        plan: "Span(1, NoRoom(Room { start: 1342177280, limit: 2147483648 }))",
+    },
+    Answer {
+        nodes: ONE_OF_BOTH_KINDS,
+        windows: OVER_ONE,
+        ranges: RAM_THEN_PMEM,
+        kind: MemKind::Pmem,
+        size: 0,
+        gran: None,
+        endpoints: "1",
+        plan: "Size",
+    },
+    Answer {
+        nodes: ONE_OF_BOTH_KINDS,
+        windows: OVER_ONE,
+        ranges: "0 2 0 0x100000000 0x10000000 0 0",
+        kind: MemKind::Pmem,
+        size: 0x1000_0000,
+        gran: None,
+        endpoints: "1",
+        plan: "0 0x110000000 0 1",
+    },
     // All of the window is taken.
-    (
-        LARGER_EACH,
-        OVER_TWO,
-        "0 2 0 0x100000000 0x100000000 0 0, 2 4 0 0x100000000 0x100000000 0x10 0",
-        RAM,
-        0x2000_0000,
-        255,
-        "2 3",
-        "NoWindow(FixedList { vec: [NoBase(Room { start: 8589934592, limit: 8589934592 })] })",
-    ),
+    Answer {
+        nodes: TWO_BY_ONE_LARGER,
+        windows: OVER_TWO,
+        ranges: "0 2 0 0x100000000 0x100000000 0 0, 2 4 0 0x100000000 0x100000000 0x10 0",
+        kind: RAM,
+        size: 0x2000_0000,
+        gran: None,
+        endpoints: "2 3",
+        plan: "NoWindow(FixedList { vec: [NoBase(Room { start: 8589934592, limit: 8589934592 })] })",
+    },
     // The only decoder of a bridge is committed.
-    (
-        ONE_DECODER,
-        OVER_TWO,
-        "0 2 0 0x100000000 0x20000000 0 0, 2 4 0 0x100000000 0x20000000 0x10 0",
-        RAM,
-        0x2000_0000,
-        255,
-        "2 3",
-        "NoDecoder(1)",
-    ),
-    (
-        FIVE,
-        OVER_ONE,
-        "",
-        RAM,
-        0x2000_0000,
-        255,
-        "1 2 3 4 5",
-        "Ways(5)",
-    ),
-    (
-        FIVE,
-        OVER_ONE,
-        "",
-        RAM,
-        0x2000_0000,
-        255,
-        "3 4",
-        "0 0x100000000 0 2",
-    ),
-    (
-        PMEM,
-        WINDOWS,
-        "",
-        MemKind::Pmem,
-        0x4000_0000,
-        6,
-        "2 3 4 5",
-        REASONS,
-    ),
-    (
-        PMEM,
-        WINDOWS,
-        "",
-        MemKind::Pmem,
-        0x4000_0000,
-        6,
-        "2 4",
-        "5 0x240000000 6 2",
-    ),
-    (
-        THREE,
-        TWO_WINDOWS,
-        "",
-        RAM,
-        0x3000_0000,
-        255,
-        "5 3 4",
-        "0 0x100000000 0 3",
-    ),
-    (
-        UNABLE,
-        TWO_WINDOWS,
-        "",
-        RAM,
-        0x3000_0000,
-        255,
-        "5 3 4",
-        "NoWindow(FixedList { vec: [WaysCap(4), WaysCap(4)] })",
-    ),
+    Answer {
+        nodes: SECOND_WITH_ONE_DECODER,
+        windows: OVER_TWO,
+        ranges: "0 2 0 0x100000000 0x20000000 0 0, 2 4 0 0x100000000 0x20000000 0x10 0",
+        kind: RAM,
+        size: 0x2000_0000,
+        gran: None,
+        endpoints: "2 3",
+        plan: "NoDecoder(1)",
+    },
+    Answer {
+        nodes: ONE_BY_FIVE,
+        windows: OVER_ONE,
+        ranges: "",
+        kind: RAM,
+        size: 0x2000_0000,
+        gran: None,
+        endpoints: "1 2 3 4 5",
+        plan: "Ways(5)",
+    },
+    Answer {
+        nodes: ONE_BY_FIVE,
+        windows: OVER_ONE,
+        ranges: "",
+        kind: RAM,
+        size: 0x2000_0000,
+        gran: None,
+        endpoints: "3 4",
+        plan: "0 0x100000000 0 2",
+    },
+    Answer {
+        nodes: TWO_BY_TWO_PMEM,
+        windows: EACH_REASON,
+        ranges: "",
+        kind: MemKind::Pmem,
+        size: 0x4000_0000,
+        gran: Some(6),
+        endpoints: "2 3 4 5",
+        plan: REASONS,
+    },
+    Answer {
+        nodes: TWO_BY_TWO_PMEM,
+        windows: EACH_REASON,
+        ranges: "",
+        kind: MemKind::Pmem,
+        size: 0x4000_0000,
+        gran: Some(6),
+        endpoints: "2 4",
+        plan: "5 0x240000000 6 2",
+    },
+    Answer {
+        nodes: THREE_BY_ONE,
+        windows: OVER_THREE_TWICE,
+        ranges: "",
+        kind: RAM,
+        size: 0x3000_0000,
+        gran: None,
+        endpoints: "5 3 4",
+        plan: "0 0x100000000 0 3",
+    },
+    Answer {
+        nodes: SECOND_WITHOUT_THREE_WAYS,
+        windows: OVER_THREE_TWICE,
+        ranges: "",
+        kind: RAM,
+        size: 0x3000_0000,
+        gran: None,
+        endpoints: "5 3 4",
+        plan: "NoWindow(FixedList { vec: [WaysCap(4), WaysCap(4)] })",
+    },
 ];
 
 /// The node, the decoder's number, the codes of ways and granularity, base, size and tail of each row.
@@ -408,24 +402,28 @@ fn numbers_of_spans(rt: &impl Abort, alloc: Global, spans: &[Place]) -> Vec<u64>
     numbers
 }
 
-/// A host's nodes and windows, the size and the endpoints of what is asked for, and the plan's rows and spans.
-type Rows = (
-    &'static str,
-    &'static str,
-    u64,
-    &'static str,
-    &'static str,
-    &'static str,
-);
+/// A host after reset, the size and the endpoints of a region of ram, and the plan's rows and spans.
+struct Rows {
+    nodes: &'static str,
+    windows: &'static str,
+    size: u64,
+    endpoints: &'static str,
+    rows: &'static str,
+    spans: &'static str,
+}
 
 fn has_rows(rt: &impl Abort, alloc: Global, row: &Rows) -> bool {
-    let (nodes, windows, size, endpoints, rows, spans) = *row;
-    let asked = (MemKind::Ram, size, 255, endpoints);
-    match planned_over(rt, alloc, (nodes, windows, ""), asked) {
+    let asked = Asked {
+        kind: MemKind::Ram,
+        size: row.size,
+        gran: None,
+        endpoints: row.endpoints,
+    };
+    match planned_over(rt, alloc, row.nodes, row.windows, "", &asked) {
         Ok(plan) => {
-            numbers_of(rt, alloc, plan.rows.items()) == numbers(rt, alloc, rows)
+            numbers_of(rt, alloc, plan.rows.items()) == numbers(rt, alloc, row.rows)
                 && numbers_of_spans(rt, alloc, plan.found.spans.items())
-                    == numbers(rt, alloc, spans)
+                    == numbers(rt, alloc, row.spans)
         }
         Err(_) => false,
     }
@@ -440,32 +438,32 @@ fn rows(rt: HostRuntime) {
 
 const ROWS: [Rows; 3] = [
     // Below bridges that decode, and below bridges that forward.
-    (
-        ONE_EACH,
-        OVER_TWO,
-        0x2000_0000,
-        "2 3",
-        "0 0 0 0 0x100000000 0x20000000 0  1 0 0 0 0x100000000 0x20000000 0 \
+    Rows {
+        nodes: TWO_BY_ONE,
+        windows: OVER_TWO,
+        size: 0x2000_0000,
+        endpoints: "2 3",
+        rows: "0 0 0 0 0x100000000 0x20000000 0  1 0 0 0 0x100000000 0x20000000 0 \
          2 0 1 0 0x100000000 0x20000000 0  3 0 1 0 0x100000000 0x20000000 0",
-        "2 0 3 0",
-    ),
-    (
-        FORWARDING,
-        OVER_TWO,
-        0x2000_0000,
-        "2 3",
-        "2 0 1 0 0x100000000 0x20000000 0  3 0 1 0 0x100000000 0x20000000 0",
-        "2 0 3 0",
-    ),
+        spans: "2 0 3 0",
+    },
+    Rows {
+        nodes: TWO_FORWARDING,
+        windows: OVER_TWO,
+        size: 0x2000_0000,
+        endpoints: "2 3",
+        rows: "2 0 1 0 0x100000000 0x20000000 0  3 0 1 0 0x100000000 0x20000000 0",
+        spans: "2 0 3 0",
+    },
     // The target lists of bridges with two endpoints each.
-    (
-        TWO_EACH,
-        LARGE,
-        0x4000_0000,
-        "2 3 4 5",
-        "0 0 1 1 0x1000000000 0x40000000 0x0100  1 0 1 1 0x1000000000 0x40000000 0x0100 \
+    Rows {
+        nodes: TWO_BY_TWO,
+        windows: OVER_TWO_LONG,
+        size: 0x4000_0000,
+        endpoints: "2 3 4 5",
+        rows: "0 0 1 1 0x1000000000 0x40000000 0x0100  1 0 1 1 0x1000000000 0x40000000 0x0100 \
          2 0 2 0 0x1000000000 0x40000000 0       3 0 2 0 0x1000000000 0x40000000 0 \
          4 0 2 0 0x1000000000 0x40000000 0       5 0 2 0 0x1000000000 0x40000000 0",
-        "2 0 4 0 3 0 5 0",
-    ),
+        spans: "2 0 4 0 3 0 5 0",
+    },
 ];

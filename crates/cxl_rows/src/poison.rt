@@ -3,6 +3,10 @@
 ghost use Rattle.cxl_window.specs.Windows.{AreMadeWith};
 ghost use Rattle.cxl_topo.specs.Tree.{bridge_uids};
 
+use crate::host_texts::{
+    ONE_OF_BOTH_KINDS, OVER_ONE, OVER_THREE_LONG, OVER_TWO, RAM_THEN_PMEM, SIX_WAYS_FROM_THREE,
+    THREE_BY_TWO, TWO_BY_ONE, TWO_WAYS,
+};
 use crate::hosts::{Worked, host_of};
 use crate::rows::{has_passed, numbers};
 use cxl_check::check;
@@ -36,20 +40,19 @@ fn pieces_found(
     }
 }
 
-/// A host's nodes, windows and decoders that are committed; a record's endpoint, device address and count of units;
-/// the parts of regions that it touches, each run as its first address, its length and its region, and many runs as
-/// the first addresses of the first and of the last, their count and their region; and how many more bytes it touches
-/// that no region has.
-type Row = (
-    &'static str,
-    &'static str,
-    &'static str,
-    u32,
-    u64,
-    u32,
-    &'static str,
-    u64,
-);
+/// A host; a record's endpoint, device address and count of units; the parts of regions that it touches, each run as its
+/// first address, its length and its region, and many runs as the first addresses of the first and of the last, their count
+/// and their region; and how many more bytes it touches that no region has.
+struct Row {
+    nodes: &'static str,
+    windows: &'static str,
+    ranges: &'static str,
+    endpoint: u32,
+    dpa: u64,
+    units: u32,
+    parts: &'static str,
+    unmapped: u64,
+}
 
 fn numbers_of(rt: &impl Abort, alloc: Global, parts: &[Part]) -> Vec<u64> {
     let mut numbers = Vec::new(alloc);
@@ -75,11 +78,10 @@ fn touches(rt: &impl Abort, alloc: Global, told: &Poisoned, parts: &str, unmappe
 }
 
 fn is_told(rt: &impl Abort, alloc: Global, row: &Row) -> bool {
-    let (nodes, windows, ranges, endpoint, dpa, units, parts, unmapped) = *row;
-    let host = host_of(rt, alloc, nodes, windows, ranges);
+    let host = host_of(rt, alloc, row.nodes, row.windows, row.ranges);
     let entry = Entry {
-        dpa,
-        units,
+        dpa: row.dpa,
+        units: row.units,
         source: 2,
     };
     match pieces_found(
@@ -87,10 +89,10 @@ fn is_told(rt: &impl Abort, alloc: Global, row: &Row) -> bool {
         &host.image,
         &host.topo,
         &host.windows,
-        endpoint,
+        row.endpoint,
         &entry,
     ) {
-        Some(told) => touches(rt, alloc, &told, parts, unmapped),
+        Some(told) => touches(rt, alloc, &told, row.parts, row.unmapped),
         None => false,
     }
 }
@@ -102,98 +104,81 @@ fn poison(rt: HostRuntime) {
     }
 }
 
-/// Two bridges with an endpoint each, under a window of 4 GiB, and a region of two ways.
-const TWO: &str = "0x382, 0x382, 0x1b02 0 0 0x80000000 0, 0x1b02 1 0 0x80000000 0";
-
-const OVER_TWO: &str = "0x100000000 0x100000000 0 0 0x000e 0 1";
-
-const OF_TWO: &str = "0 2 0 0x100000000 0x20000000 0 0, 2 4 0 0x100000000 0x20000000 0x10 0";
-
-/// Three bridges with two endpoints each, and a region of six ways.
-const THREE: &str = "0x382, 0x382, 0x382, \
-    0x1b02 0 0 0x80000000 0, 0x1b02 0 1 0x80000000 0, \
-    0x1b02 1 0 0x80000000 0, 0x1b02 1 1 0x80000000 0, \
-    0x1b02 2 0 0x80000000 0, 0x1b02 2 1 0x80000000 0";
-
-const OVER_THREE: &str = "0x100000000 0x60000000 0 0 0x000e 0 1 2";
-
-const OF_SIX: &str =
-    "0 3 0 0x100000000 0x60000000 0x10 0x0100, 3 9 0 0x100000000 0x60000000 0x90 0";
-
-/// Two regions of one way, the second behind a skip of the endpoint.
-const ONE: &str = "0x382, 0x1b02 0 0 0x40000000 0x40000000";
-
-const OVER_ONE: &str = "0x100000000 0x100000000 0 0 0x000e 0";
-
-const OF_ONE: &str = "0 2 0 0x100000000 0x10000000 0 0, \
-    0 1 1 0x110000000 0x10000000 0 0, 1 2 1 0x110000000 0x10000000 0 0x30000000";
-
 const ROWS: [Row; 7] = [
     // The last 64 bytes of a span, and 64 behind it.
-    (
-        TWO,
-        OVER_TWO,
-        OF_TWO,
-        2,
-        0xfff_ffc0,
-        2,
-        "0x11ffffec0 64 0",
-        64,
-    ),
-    (TWO, OVER_TWO, OF_TWO, 2, 0xfff_ffc0, 0, "", 0),
+    Row {
+        nodes: TWO_BY_ONE,
+        windows: OVER_TWO,
+        ranges: TWO_WAYS,
+        endpoint: 2,
+        dpa: 0xfff_ffc0,
+        units: 2,
+        parts: "0x11ffffec0 64 0",
+        unmapped: 64,
+    },
+    Row {
+        nodes: TWO_BY_ONE,
+        windows: OVER_TWO,
+        ranges: TWO_WAYS,
+        endpoint: 2,
+        dpa: 0xfff_ffc0,
+        units: 0,
+        parts: "",
+        unmapped: 0,
+    },
     // A part of one chunk, a whole one and a part of the next.
-    (
-        TWO,
-        OVER_TWO,
-        OF_TWO,
-        2,
-        0xc0,
-        6,
-        "0x1000000c0 64 0  0x100000200 256 0  0x100000400 64 0",
-        0,
-    ),
+    Row {
+        nodes: TWO_BY_ONE,
+        windows: OVER_TWO,
+        ranges: TWO_WAYS,
+        endpoint: 2,
+        dpa: 0xc0,
+        units: 6,
+        parts: "0x1000000c0 64 0  0x100000200 256 0  0x100000400 64 0",
+        unmapped: 0,
+    },
     // More than 64 chunks.
-    (
-        TWO,
-        OVER_TWO,
-        OF_TWO,
-        2,
-        0xc0,
-        254,
-        "0x1000000c0 0x100008000 65 0",
-        0,
-    ),
+    Row {
+        nodes: TWO_BY_ONE,
+        windows: OVER_TWO,
+        ranges: TWO_WAYS,
+        endpoint: 2,
+        dpa: 0xc0,
+        units: 254,
+        parts: "0x1000000c0 0x100008000 65 0",
+        unmapped: 0,
+    },
     // As much as a record can name, from the last device address on.
-    (
-        TWO,
-        OVER_TWO,
-        OF_TWO,
-        2,
-        0xffff_ffff_ffff_ffc0,
-        0xffff_ffff,
-        "",
-        0x3f_ffff_ffc0,
-    ),
+    Row {
+        nodes: TWO_BY_ONE,
+        windows: OVER_TWO,
+        ranges: TWO_WAYS,
+        endpoint: 2,
+        dpa: 0xffff_ffff_ffff_ffc0,
+        units: 0xffff_ffff,
+        parts: "",
+        unmapped: 0x3f_ffff_ffc0,
+    },
     // Six ways.
-    (
-        THREE,
-        OVER_THREE,
-        OF_SIX,
-        5,
-        0,
-        8,
-        "0x100000400 256 0  0x100000a00 256 0",
-        0,
-    ),
+    Row {
+        nodes: THREE_BY_TWO,
+        windows: OVER_THREE_LONG,
+        ranges: SIX_WAYS_FROM_THREE,
+        endpoint: 5,
+        dpa: 0,
+        units: 8,
+        parts: "0x100000400 256 0  0x100000a00 256 0",
+        unmapped: 0,
+    },
     // One run of each region, in the order of the device addresses, and the bytes between them.
-    (
-        ONE,
-        OVER_ONE,
-        OF_ONE,
-        1,
-        0xfff_ff80,
-        0xc0_0003,
-        "0x10fffff80 0x80 0  0x110000000 0x40 1",
-        0x3000_0000,
-    ),
+    Row {
+        nodes: ONE_OF_BOTH_KINDS,
+        windows: OVER_ONE,
+        ranges: RAM_THEN_PMEM,
+        endpoint: 1,
+        dpa: 0xfff_ff80,
+        units: 0xc0_0003,
+        parts: "0x10fffff80 0x80 0  0x110000000 0x40 1",
+        unmapped: 0x3000_0000,
+    },
 ];

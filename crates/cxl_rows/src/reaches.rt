@@ -6,8 +6,12 @@ ghost use Rattle.cxl_image.specs.Images.{HasCapsOf};
 ghost use Rattle.cxl_model.specs.System.{system_of, bridge_uids};
 ghost use Rattle.cxl_model.specs.Regions.{IsRegion};
 
+use crate::host_texts::{
+    FOUR_WAYS_LONG, OVER_SIX_XOR, OVER_THREE, OVER_TWO_LONG, OVER_TWO_XOR, SIX_BY_ONE, SIX_WAYS,
+    THREE_BY_ONE, THREE_WAYS, TWO_BY_ONE, TWO_BY_TWO, TWO_WAYS,
+};
 use crate::hosts::{Worked, host_of};
-use crate::rows::{at, has_passed, numbers};
+use crate::rows::{has_passed, numbers};
 use cxl_check::check;
 use cxl_model::{Extent, Found, regions_lie_in_windows};
 use cxl_range::{extents, spread};
@@ -71,18 +75,17 @@ fn told_in(alloc: Global, host: &Worked, region: &Found, h: u64, len: u64) -> Op
     Some(Told { extents, spread })
 }
 
-/// A host's nodes, windows and decoders that are committed; a range of host bytes; its extents, none for a long range,
-/// each as its host address, its length, its slot and its device address; and how many of the bytes each of the first
-/// slots has.
-type Row = (
-    &'static str,
-    &'static str,
-    &'static str,
-    u64,
-    u64,
-    &'static str,
-    &'static str,
-);
+/// A host; a range of host bytes; its extents, none for a long range, each as its host address, its length, its slot and its
+/// device address; and how many of the bytes each of the first slots has.
+struct Row {
+    nodes: &'static str,
+    windows: &'static str,
+    ranges: &'static str,
+    h: u64,
+    len: u64,
+    extents: &'static str,
+    spread: &'static str,
+}
 
 fn numbers_of(rt: &impl Abort, alloc: Global, extents: &[Extent]) -> Vec<u64> {
     let mut numbers = Vec::new(alloc);
@@ -101,7 +104,8 @@ fn numbers_of(rt: &impl Abort, alloc: Global, extents: &[Extent]) -> Vec<u64> {
 /// Whether the first slots have so many bytes, and all others none.
 fn has_spread(spread: &[u64; 16], want: &[u64]) -> bool {
     for (slot, count) in spread.iter().enumerate() {
-        if *count != at(want, slot) {
+        let counted = want.get(slot).copied().unwrap_or(0);
+        if *count != counted {
             return false;
         }
     }
@@ -109,12 +113,11 @@ fn has_spread(spread: &[u64; 16], want: &[u64]) -> bool {
 }
 
 fn is_told(rt: &impl Abort, alloc: Global, row: &Row) -> bool {
-    let (nodes, windows, ranges, h, len, extents, spread) = *row;
-    let host = host_of(rt, alloc, nodes, windows, ranges);
-    match told_of(alloc, &host, h, len) {
+    let host = host_of(rt, alloc, row.nodes, row.windows, row.ranges);
+    match told_of(alloc, &host, row.h, row.len) {
         Some(told) => {
-            numbers_of(rt, alloc, &told.extents) == numbers(rt, alloc, extents)
-                && has_spread(&told.spread, &numbers(rt, alloc, spread))
+            numbers_of(rt, alloc, &told.extents) == numbers(rt, alloc, row.extents)
+                && has_spread(&told.spread, &numbers(rt, alloc, row.spread))
         }
         None => false,
     }
@@ -127,112 +130,86 @@ fn reaches(rt: HostRuntime) {
     }
 }
 
-/// Two bridges with two endpoints of 256 GiB each, and a region of four ways.
-const LARGE: &str = "0x382, 0x382, \
-    0x1b02 0 0 0x4000000000 0, 0x1b02 0 1 0x4000000000 0, \
-    0x1b02 1 0 0x4000000000 0, 0x1b02 1 1 0x4000000000 0";
-
-const OVER_LARGE: &str = "0x1000000000 0x10000000000 0 0 0x000e 0 1";
-
-const OF_FOUR: &str =
-    "0 2 0 0x1000000000 0x10000000000 0x11 0x0100, 2 6 0 0x1000000000 0x10000000000 0x20 0";
-
-/// Three bridges with an endpoint of 256 MiB each.
-const THREE: &str = "0x382, 0x382, 0x382, \
-    0x1b02 0 0 0x10000000 0, 0x1b02 1 0 0x10000000 0, 0x1b02 2 0 0x10000000 0";
-
 /// One bridge with one endpoint.
-const ONE: &str = "0x382, 0x1b02 0 0 0x80000000 0";
-
-/// Two bridges with an endpoint each.
-const TWO: &str = "0x382, 0x382, 0x1b02 0 0 0x80000000 0, 0x1b02 1 0 0x80000000 0";
-
-/// Six bridges with an endpoint each, under a window with XOR arithmetic, and a region of six ways.
-const SIX: &str = "0x382, 0x382, 0x382, 0x382, 0x382, 0x382, \
-    0x1b02 0 0 0x80000000 0, 0x1b02 1 0 0x80000000 0, 0x1b02 2 0 0x80000000 0, \
-    0x1b02 3 0 0x80000000 0, 0x1b02 4 0 0x80000000 0, 0x1b02 5 0 0x80000000 0";
-
-const OVER_SIX: &str = "0x100000000 0x60000000 0 1 0x000e 0 1 2 3 4 5";
-
-const OF_SIX: &str = "0 6 0 0x100000000 0x60000000 0 0, 6 12 0 0x100000000 0x60000000 0x90 0";
+const ONE_OF_2_GIB: &str = "0x382, 0x1b02 0 0 0x80000000 0";
 
 const ROWS: [Row; 8] = [
-    (
-        LARGE,
-        OVER_LARGE,
-        OF_FOUR,
-        0x10_0000_0080,
-        512,
-        "0x1000000080 128 0 0x80  0x1000000100 256 1 0  0x1000000200 128 2 0",
-        "128 256 128 0",
-    ),
-    (
-        LARGE,
-        OVER_LARGE,
-        OF_FOUR,
-        0x10_0000_0080,
-        0x700,
-        "0x1000000080 128 0 0x80   0x1000000100 256 1 0 \
+    Row {
+        nodes: TWO_BY_TWO,
+        windows: OVER_TWO_LONG,
+        ranges: FOUR_WAYS_LONG,
+        h: 0x10_0000_0080,
+        len: 512,
+        extents: "0x1000000080 128 0 0x80  0x1000000100 256 1 0  0x1000000200 128 2 0",
+        spread: "128 256 128 0",
+    },
+    Row {
+        nodes: TWO_BY_TWO,
+        windows: OVER_TWO_LONG,
+        ranges: FOUR_WAYS_LONG,
+        h: 0x10_0000_0080,
+        len: 0x700,
+        extents: "0x1000000080 128 0 0x80   0x1000000100 256 1 0 \
          0x1000000200 256 2 0      0x1000000300 256 3 0 \
          0x1000000400 256 0 0x100  0x1000000500 256 1 0x100 \
          0x1000000600 256 2 0x100  0x1000000700 128 3 0x100",
-        "384 512 512 384",
-    ),
+        spread: "384 512 512 384",
+    },
     // The whole region.
-    (
-        LARGE,
-        OVER_LARGE,
-        OF_FOUR,
-        0x10_0000_0000,
-        0x100_0000_0000,
-        "",
-        "274877906944 274877906944 274877906944 274877906944",
-    ),
-    (
-        THREE,
-        "0x100000000 0x30000000 0 0 0x000e 0 1 2",
-        "0 3 0 0x100000000 0x30000000 0 0, 3 6 0 0x100000000 0x30000000 0x80 0",
-        0x1_0000_017f,
-        0x281,
-        "0x10000017f 0x81 1 0x7f  0x100000200 0x100 2 0  0x100000300 0x100 0 0x100",
-        "0x100 0x81 0x100",
-    ),
+    Row {
+        nodes: TWO_BY_TWO,
+        windows: OVER_TWO_LONG,
+        ranges: FOUR_WAYS_LONG,
+        h: 0x10_0000_0000,
+        len: 0x100_0000_0000,
+        extents: "",
+        spread: "274877906944 274877906944 274877906944 274877906944",
+    },
+    Row {
+        nodes: THREE_BY_ONE,
+        windows: OVER_THREE,
+        ranges: THREE_WAYS,
+        h: 0x1_0000_017f,
+        len: 0x281,
+        extents: "0x10000017f 0x81 1 0x7f  0x100000200 0x100 2 0  0x100000300 0x100 0 0x100",
+        spread: "0x100 0x81 0x100",
+    },
     // One way: the second of two regions, behind the first one's span.
-    (
-        ONE,
-        "0x100000000 0x80000000 0 0 0x000e 0",
-        "0 2 0 0x100000000 0x10000000 0 0, 0 2 1 0x110000000 0x10000000 0 0",
-        0x1_1000_00ff,
-        0x1000,
-        "0x1100000ff 0x1000 0 0x100000ff",
-        "0x1000",
-    ),
+    Row {
+        nodes: ONE_OF_2_GIB,
+        windows: "0x100000000 0x80000000 0 0 0x000e 0",
+        ranges: "0 2 0 0x100000000 0x10000000 0 0, 0 2 1 0x110000000 0x10000000 0 0",
+        h: 0x1_1000_00ff,
+        len: 0x1000,
+        extents: "0x1100000ff 0x1000 0 0x100000ff",
+        spread: "0x1000",
+    },
     // By parities.
-    (
-        TWO,
-        "0x100000000 0x100000000 0 1 0x000e 0 1",
-        "0 2 0 0x100000000 0x20000000 0 0, 2 4 0 0x100000000 0x20000000 0x10 0",
-        0x1_0000_3fc0,
-        0x180,
-        "0x100003fc0 0x40 1 0x1fc0  0x100004000 0x100 1 0x2000  0x100004100 0x40 0 0x2000",
-        "0x40 0x140",
-    ),
-    (
-        SIX,
-        OVER_SIX,
-        OF_SIX,
-        0x1_0000_3f80,
-        0x200,
-        "0x100003f80 0x80 3 0xa80  0x100004000 0x100 5 0xa00  0x100004100 0x80 4 0xa00",
-        "0 0 0 0x80 0x80 0x100",
-    ),
-    (
-        SIX,
-        OVER_SIX,
-        OF_SIX,
-        0x1_0000_0001,
-        0x5fff_fffe,
-        "",
-        "0xfffffff 0x10000000 0x10000000 0x10000000 0x10000000 0xfffffff",
-    ),
+    Row {
+        nodes: TWO_BY_ONE,
+        windows: OVER_TWO_XOR,
+        ranges: TWO_WAYS,
+        h: 0x1_0000_3fc0,
+        len: 0x180,
+        extents: "0x100003fc0 0x40 1 0x1fc0  0x100004000 0x100 1 0x2000  0x100004100 0x40 0 0x2000",
+        spread: "0x40 0x140",
+    },
+    Row {
+        nodes: SIX_BY_ONE,
+        windows: OVER_SIX_XOR,
+        ranges: SIX_WAYS,
+        h: 0x1_0000_3f80,
+        len: 0x200,
+        extents: "0x100003f80 0x80 3 0xa80  0x100004000 0x100 5 0xa00  0x100004100 0x80 4 0xa00",
+        spread: "0 0 0 0x80 0x80 0x100",
+    },
+    Row {
+        nodes: SIX_BY_ONE,
+        windows: OVER_SIX_XOR,
+        ranges: SIX_WAYS,
+        h: 0x1_0000_0001,
+        len: 0x5fff_fffe,
+        extents: "",
+        spread: "0xfffffff 0x10000000 0x10000000 0x10000000 0x10000000 0xfffffff",
+    },
 ];

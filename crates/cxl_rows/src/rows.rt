@@ -23,22 +23,19 @@ pub(crate) fn numbers(rt: &impl Abort, alloc: Global, text: &str) -> Vec<u64> {
     numbers
 }
 
-/// The number at a place, and 0 behind the last.
-pub(crate) fn at(numbers: &[u64], i: usize) -> u64 {
-    match numbers.get(i) {
-        Some(number) => *number,
-        None => 0,
-    }
+/// The number at a place, which has to be there.
+pub(crate) fn at(rt: &impl Abort, numbers: &[u64], i: usize) -> u64 {
+    *numbers.get(i).expect(rt, "a number")
 }
 
-/// The same as a word.
-pub(crate) fn word(numbers: &[u64], i: usize) -> u32 {
-    (at(numbers, i) % 0x1_0000_0000) as u32
+/// The same as a word, which it has to be.
+pub(crate) fn word(rt: &impl Abort, numbers: &[u64], i: usize) -> u32 {
+    u32::try_from(at(rt, numbers, i)).expect(rt, "a word")
 }
 
 /// The same as a byte.
-pub(crate) fn byte(numbers: &[u64], i: usize) -> u8 {
-    (at(numbers, i) % 256) as u8
+pub(crate) fn byte(rt: &impl Abort, numbers: &[u64], i: usize) -> u8 {
+    u8::try_from(at(rt, numbers, i)).expect(rt, "a byte")
 }
 
 /// Whether this is the value's debug text.
@@ -87,11 +84,12 @@ pub(crate) fn changed(
 pub(crate) fn change(rt: &impl Abort, file: &mut Vec<u8>, changes: &[u64], width: usize) {
     let odd = changes.len() % 2;
     if odd == 1 {
-        file.resize(at(changes, 0) as usize, 0).expect(rt, "memory");
+        file.resize(at(rt, changes, 0) as usize, 0)
+            .expect(rt, "memory");
     }
     for i in 0..changes.len() / 2 {
-        let place = at(changes, odd + 2 * i) as usize;
-        put(rt, file, place, at(changes, odd + 2 * i + 1), width);
+        let place = at(rt, changes, odd + 2 * i) as usize;
+        put(rt, file, place, at(rt, changes, odd + 2 * i + 1), width);
     }
 }
 

@@ -7,55 +7,58 @@ ghost use Rattle.cxl_model.specs.System.{system_of, bridge_uids};
 ghost use Rattle.cxl_model.specs.Regions.{IsRegion};
 
 use crate::breaches::breaks;
+use crate::host_texts::{
+    FOUR_WAYS_LONG, ONE_OF_BOTH_KINDS, OVER_ONE, OVER_SIX_XOR, OVER_THREE, OVER_THREE_LONG,
+    OVER_TWO, OVER_TWO_LONG, OVER_TWO_XOR, RAM_THEN_PMEM, SIX_BY_ONE, SIX_WAYS,
+    SIX_WAYS_FROM_THREE, THREE_BY_ONE, THREE_BY_TWO, THREE_WAYS, TWO_BY_ONE, TWO_BY_TWO,
+    TWO_FORWARDING, TWO_WAYS, TWO_WAYS_BELOW,
+};
 use crate::hosts::{Worked, host_of};
 use crate::rows::{at, byte, has_passed, numbers, shows, word};
-use cxl_check::check;
+use cxl_check::{Breach, check};
 use cxl_model::{Found, Step};
 use cxl_walk::{Host, Kept, Route, down, up};
 use std::alloc::Global;
 use std::process::Abort;
 
 /// The route that is written as its position, base, endpoint, decoder and device address, and the node, decoder and
-/// entry of each step; by window 0.
-pub(crate) fn route_of(numbers: &[u64]) -> Route {
+/// entry of each step, of which there are five at the most; by window 0.
+pub(crate) fn route_of(rt: &impl Abort, numbers: &[u64]) -> Route {
+    let len = numbers.len().saturating_sub(5) / 3;
+    assert!(rt; len <= 5 && numbers.len() == 5 + 3 * len);
     let steps = [
-        step_of(numbers, 5),
-        step_of(numbers, 8),
-        step_of(numbers, 11),
-        step_of(numbers, 14),
-        step_of(numbers, 17),
+        step_of(rt, numbers, 5),
+        step_of(rt, numbers, 8),
+        step_of(rt, numbers, 11),
+        step_of(rt, numbers, 14),
+        step_of(rt, numbers, 17),
     ];
     Route {
         window: 0,
-        position: word(numbers, 0),
-        base: at(numbers, 1),
-        len: steps_of(numbers),
+        position: word(rt, numbers, 0),
+        base: at(rt, numbers, 1),
+        len: len as u8,
         steps,
-        endpoint: word(numbers, 2),
-        decoder: byte(numbers, 3),
-        dpa: at(numbers, 4),
+        endpoint: word(rt, numbers, 2),
+        decoder: byte(rt, numbers, 3),
+        dpa: at(rt, numbers, 4),
     }
 }
 
-fn step_of(numbers: &[u64], i: u8) -> Step {
+/// The step that is written from a place on; behind the last, zeros.
+fn step_of(rt: &impl Abort, numbers: &[u64], i: u8) -> Step {
     let i = usize::from(i);
-    Step {
-        node: word(numbers, i),
-        decoder: byte(numbers, i + 1),
-        entry: byte(numbers, i + 2),
+    if i >= numbers.len() {
+        return Step {
+            node: 0,
+            decoder: 0,
+            entry: 0,
+        };
     }
-}
-
-/// How many steps are written, none past five.
-fn steps_of(numbers: &[u64]) -> u8
-    ensures { result ≤ 5 }
-{
-    if numbers.len() >= 20 {
-        5
-    } else if numbers.len() >= 8 {
-        1
-    } else {
-        0
+    Step {
+        node: word(rt, numbers, i),
+        decoder: byte(rt, numbers, i + 1),
+        entry: byte(rt, numbers, i + 2),
     }
 }
 
@@ -128,13 +131,19 @@ fn comes_back(host: &Worked, node: u32, dpa: u64, base: u64, h: u64) -> bool
     up_from(host, node, dpa) == Some(Host { base, h })
 }
 
-/// A host's nodes, windows and decoders that are committed, an address, and where it goes: a route, or the miss.
-type Row = (&'static str, &'static str, &'static str, u64, &'static str);
+/// A host, an address, and where it goes: a route, or the miss.
+struct Row {
+    nodes: &'static str,
+    windows: &'static str,
+    ranges: &'static str,
+    h: u64,
+    way: &'static str,
+}
 
 fn is_routed(rt: &impl Abort, alloc: Global, row: &Row) -> bool {
-    let (nodes, windows, ranges, h, want) = *row;
-    let host = host_of(rt, alloc, nodes, windows, ranges);
-    goes(alloc, &host, h, route_of(&numbers(rt, alloc, want)))
+    let host = host_of(rt, alloc, row.nodes, row.windows, row.ranges);
+    let route = route_of(rt, &numbers(rt, alloc, row.way));
+    goes(alloc, &host, row.h, route)
 }
 
 #[test]
@@ -144,29 +153,7 @@ fn routes(rt: HostRuntime) {
     }
 }
 
-/// Two bridges with an endpoint each, and a region of two ways.
-const TWO: &str = "0x382, 0x382, 0x1b02 0 0 0x80000000 0, 0x1b02 1 0 0x80000000 0";
-
-const OVER_TWO: &str = "0x100000000 0x100000000 0 0 0x000e 0 1";
-
-const OF_TWO: &str = "0 2 0 0x100000000 0x20000000 0 0, 2 4 0 0x100000000 0x20000000 0x10 0";
-
-/// Three bridges with one endpoint, and with two.
-const THREE: &str = "0x382, 0x382, 0x382, \
-    0x1b02 0 0 0x10000000 0, 0x1b02 1 0 0x10000000 0, 0x1b02 2 0 0x10000000 0";
-
-const THREE_BY_TWO: &str = "0x382, 0x382, 0x382, \
-    0x1b02 0 0 0x80000000 0, 0x1b02 0 1 0x80000000 0, \
-    0x1b02 1 0 0x80000000 0, 0x1b02 1 1 0x80000000 0, \
-    0x1b02 2 0 0x80000000 0, 0x1b02 2 1 0x80000000 0";
-
-const OVER_THREE_BY_TWO: &str = "0x100000000 0x60000000 0 0 0x000e 0 1 2";
-
-/// Six ways from three, two below each bridge.
-const OF_THREE_BY_TWO: &str =
-    "0 3 0 0x100000000 0x60000000 0x10 0x0100, 3 9 0 0x100000000 0x60000000 0x90 0";
-
-/// Six bridges with two endpoints, and with one.
+/// Six bridges with two endpoints each.
 const SIX_BY_TWO: &str = "0x382, 0x382, 0x382, 0x382, 0x382, 0x382, \
     0x1b02 0 0 0x80000000 0, 0x1b02 0 1 0x80000000 0, \
     0x1b02 1 0 0x80000000 0, 0x1b02 1 1 0x80000000 0, \
@@ -174,23 +161,6 @@ const SIX_BY_TWO: &str = "0x382, 0x382, 0x382, 0x382, 0x382, 0x382, \
     0x1b02 3 0 0x80000000 0, 0x1b02 3 1 0x80000000 0, \
     0x1b02 4 0 0x80000000 0, 0x1b02 4 1 0x80000000 0, \
     0x1b02 5 0 0x80000000 0, 0x1b02 5 1 0x80000000 0";
-
-const SIX: &str = "0x382, 0x382, 0x382, 0x382, 0x382, 0x382, \
-    0x1b02 0 0 0x80000000 0, 0x1b02 1 0 0x80000000 0, 0x1b02 2 0 0x80000000 0, \
-    0x1b02 3 0 0x80000000 0, 0x1b02 4 0 0x80000000 0, 0x1b02 5 0 0x80000000 0";
-
-/// Two bridges with two endpoints of 256 GiB each.
-const LARGE: &str = "0x382, 0x382, \
-    0x1b02 0 0 0x4000000000 0, 0x1b02 0 1 0x4000000000 0, \
-    0x1b02 1 0 0x4000000000 0, 0x1b02 1 1 0x4000000000 0";
-
-/// One bridge with an endpoint of 1 GiB of each kind.
-const BOTH_KINDS: &str = "0x382, 0x1b02 0 0 0x40000000 0x40000000";
-
-const OVER_ONE: &str = "0x100000000 0x100000000 0 0 0x000e 0";
-
-/// Bridges that forward.
-const FORWARDING: &str = "0x10, 0x10, 0x1b02 0 0 0x80000000 0, 0x1b02 1 0 0x80000000 0";
 
 /// A bridge, four levels of switches with two ports each, and sixteen endpoints.
 const FIVE_LEVELS: &str = "0x382, 0x382 0 0, \
@@ -205,105 +175,103 @@ const FIVE_LEVELS: &str = "0x382, 0x382 0 0, \
     0x1b02 14 0 0x10000000 0, 0x1b02 14 1 0x10000000 0, \
     0x1b02 15 0 0x10000000 0, 0x1b02 15 1 0x10000000 0";
 
-const OF_FIVE_LEVELS: &str = "0 1 0 0x100000000 0x100000000 0 0, \
+const SIXTEEN_WAYS: &str = "0 1 0 0x100000000 0x100000000 0 0, \
     1 2 0 0x100000000 0x100000000 0x10 0x0100, 2 4 0 0x100000000 0x100000000 0x11 0x0100, \
     4 8 0 0x100000000 0x100000000 0x12 0x0100, 8 16 0 0x100000000 0x100000000 0x13 0x0100, \
     16 32 0 0x100000000 0x100000000 0x40 0";
 
 const ROUTES: [Row; 11] = [
     // Two ways.
-    (
-        TWO,
-        OVER_TWO,
-        OF_TWO,
-        0x1_0000_0100,
-        "1 0x100000000 3 0 0  1 0 0",
-    ),
+    Row {
+        nodes: TWO_BY_ONE,
+        windows: OVER_TWO,
+        ranges: TWO_WAYS,
+        h: 0x1_0000_0100,
+        way: "1 0x100000000 3 0 0  1 0 0",
+    },
     // Three ways.
-    (
-        THREE,
-        "0x100000000 0x30000000 0 0 0x000e 0 1 2",
-        "0 3 0 0x100000000 0x30000000 0 0, 3 6 0 0x100000000 0x30000000 0x80 0",
-        0x1_2fff_ffff,
-        "2 0x100000000 5 0 0xfffffff  2 0 0",
-    ),
-    (
-        THREE_BY_TWO,
-        OVER_THREE_BY_TWO,
-        OF_THREE_BY_TWO,
-        0x1_0000_0400,
-        "1 0x100000000 5 0 0  1 0 0",
-    ),
-    (
-        THREE_BY_TWO,
-        OVER_THREE_BY_TWO,
-        OF_THREE_BY_TWO,
-        0x1_0000_0600,
-        "0 0x100000000 3 0 0x100  0 0 0",
-    ),
+    Row {
+        nodes: THREE_BY_ONE,
+        windows: OVER_THREE,
+        ranges: THREE_WAYS,
+        h: 0x1_2fff_ffff,
+        way: "2 0x100000000 5 0 0xfffffff  2 0 0",
+    },
+    Row {
+        nodes: THREE_BY_TWO,
+        windows: OVER_THREE_LONG,
+        ranges: SIX_WAYS_FROM_THREE,
+        h: 0x1_0000_0400,
+        way: "1 0x100000000 5 0 0  1 0 0",
+    },
+    Row {
+        nodes: THREE_BY_TWO,
+        windows: OVER_THREE_LONG,
+        ranges: SIX_WAYS_FROM_THREE,
+        h: 0x1_0000_0600,
+        way: "0 0x100000000 3 0 0x100  0 0 0",
+    },
     // Twelve ways from six.
-    (
-        SIX_BY_TWO,
-        "0x100000000 0xc0000000 0 0 0x000e 0 1 2 3 4 5",
-        "0 6 0 0x100000000 0xc0000000 0x11 0x0100, 6 18 0 0x100000000 0xc0000000 0xa0 0",
-        0x1_0000_0b00,
-        "5 0x100000000 17 0 0  5 0 1",
-    ),
+    Row {
+        nodes: SIX_BY_TWO,
+        windows: "0x100000000 0xc0000000 0 0 0x000e 0 1 2 3 4 5",
+        ranges: "0 6 0 0x100000000 0xc0000000 0x11 0x0100, 6 18 0 0x100000000 0xc0000000 0xa0 0",
+        h: 0x1_0000_0b00,
+        way: "5 0x100000000 17 0 0  5 0 1",
+    },
     // Two and six ways under XOR.
-    (
-        TWO,
-        "0x100000000 0x100000000 0 1 0x000e 0 1",
-        OF_TWO,
-        0x1_0000_4000,
-        "1 0x100000000 3 0 0x2000  1 0 0",
-    ),
-    (
-        SIX,
-        "0x100000000 0x60000000 0 1 0x000e 0 1 2 3 4 5",
-        "0 6 0 0x100000000 0x60000000 0 0, 6 12 0 0x100000000 0x60000000 0x90 0",
-        0x1_0000_4200,
-        "1 0x100000000 7 0 0xb00  1 0 0",
-    ),
+    Row {
+        nodes: TWO_BY_ONE,
+        windows: OVER_TWO_XOR,
+        ranges: TWO_WAYS,
+        h: 0x1_0000_4000,
+        way: "1 0x100000000 3 0 0x2000  1 0 0",
+    },
+    Row {
+        nodes: SIX_BY_ONE,
+        windows: OVER_SIX_XOR,
+        ranges: SIX_WAYS,
+        h: 0x1_0000_4200,
+        way: "1 0x100000000 7 0 0xb00  1 0 0",
+    },
     // The last byte of 1 TiB.
-    (
-        LARGE,
-        "0x1000000000 0x10000000000 0 0 0x000e 0 1",
-        "0 2 0 0x1000000000 0x10000000000 0x11 0x0100, 2 6 0 0x1000000000 0x10000000000 0x20 0",
-        0x10f_ffff_ffff,
-        "1 0x1000000000 5 0 0x3fffffffff  1 0 1",
-    ),
+    Row {
+        nodes: TWO_BY_TWO,
+        windows: OVER_TWO_LONG,
+        ranges: FOUR_WAYS_LONG,
+        h: 0x10f_ffff_ffff,
+        way: "1 0x1000000000 5 0 0x3fffffffff  1 0 1",
+    },
     // The second decoders, over a skip into persistent memory.
-    (
-        BOTH_KINDS,
-        OVER_ONE,
-        "0 2 0 0x100000000 0x10000000 0 0, 0 1 1 0x110000000 0x10000000 0 0, \
-         1 2 1 0x110000000 0x10000000 0 0x30000000",
-        0x1_1000_0000,
-        "0 0x110000000 1 1 0x40000000  0 1 0",
-    ),
+    Row {
+        nodes: ONE_OF_BOTH_KINDS,
+        windows: OVER_ONE,
+        ranges: RAM_THEN_PMEM,
+        h: 0x1_1000_0000,
+        way: "0 0x110000000 1 1 0x40000000  0 1 0",
+    },
     // Bridges that forward make no step.
-    (
-        FORWARDING,
-        OVER_TWO,
-        "2 4 0 0x100000000 0x20000000 0x10 0",
-        0x1_0000_0100,
-        "1 0x100000000 3 0 0",
-    ),
+    Row {
+        nodes: TWO_FORWARDING,
+        windows: OVER_TWO,
+        ranges: TWO_WAYS_BELOW,
+        h: 0x1_0000_0100,
+        way: "1 0x100000000 3 0 0",
+    },
     // Five steps.
-    (
-        FIVE_LEVELS,
-        OVER_ONE,
-        OF_FIVE_LEVELS,
-        0x1_0000_0b00,
-        "0 0x100000000 29 0 0  0 0 0  1 0 1  3 0 1  7 0 0  14 0 1",
-    ),
+    Row {
+        nodes: FIVE_LEVELS,
+        windows: OVER_ONE,
+        ranges: SIXTEEN_WAYS,
+        h: 0x1_0000_0b00,
+        way: "0 0x100000000 29 0 0  0 0 0  1 0 1  3 0 1  7 0 0  14 0 1",
+    },
 ];
 
 fn is_missed(rt: &impl Abort, alloc: Global, row: &Row) -> bool {
-    let (nodes, windows, ranges, h, want) = *row;
-    let host = host_of(rt, alloc, nodes, windows, ranges);
-    let way = down(&host.image, &host.topo, &host.windows, h);
-    shows(rt, alloc, &way, want) && kept_route(alloc, &host, h).is_none()
+    let host = host_of(rt, alloc, row.nodes, row.windows, row.ranges);
+    let way = down(&host.image, &host.topo, &host.windows, row.h);
+    shows(rt, alloc, &way, row.way) && kept_route(alloc, &host, row.h).is_none()
 }
 
 #[test]
@@ -313,62 +281,100 @@ fn misses(rt: HostRuntime) {
     }
 }
 
-const BRIDGES: &str = "0 2 0 0x100000000 0x20000000 0 0";
+const BRIDGES_ALONE: &str = "0 2 0 0x100000000 0x20000000 0 0";
 
 const MISSES: [Row; 7] = [
-    (TWO, OVER_TWO, "", 0x2_0000_0000, "Err(NoWindow)"),
-    (TWO, OVER_TWO, "", 0x1_0000_0100, "Err(NoDecoder(1))"),
-    (TWO, OVER_TWO, BRIDGES, 0x1_0000_0000, "Err(NoDecoder(2))"),
-    (TWO, OVER_TWO, BRIDGES, 0x1_2000_0000, "Err(NoDecoder(0))"),
-    (
-        TWO,
-        OVER_TWO,
-        "0 2 0 0x100000000 0x20000000 0 7",
-        0x1_0000_0000,
-        "Err(NoChild(0))",
-    ),
+    Row {
+        nodes: TWO_BY_ONE,
+        windows: OVER_TWO,
+        ranges: "",
+        h: 0x2_0000_0000,
+        way: "Err(NoWindow)",
+    },
+    Row {
+        nodes: TWO_BY_ONE,
+        windows: OVER_TWO,
+        ranges: "",
+        h: 0x1_0000_0100,
+        way: "Err(NoDecoder(1))",
+    },
+    Row {
+        nodes: TWO_BY_ONE,
+        windows: OVER_TWO,
+        ranges: BRIDGES_ALONE,
+        h: 0x1_0000_0000,
+        way: "Err(NoDecoder(2))",
+    },
+    Row {
+        nodes: TWO_BY_ONE,
+        windows: OVER_TWO,
+        ranges: BRIDGES_ALONE,
+        h: 0x1_2000_0000,
+        way: "Err(NoDecoder(0))",
+    },
+    Row {
+        nodes: TWO_BY_ONE,
+        windows: OVER_TWO,
+        ranges: "0 2 0 0x100000000 0x20000000 0 7",
+        h: 0x1_0000_0000,
+        way: "Err(NoChild(0))",
+    },
     // Bridges that forward, with nothing below.
-    ("0x10, 0x10", OVER_TWO, "", 0x1_0000_0100, "Err(NoChild(1))"),
-    (
-        TWO,
-        OVER_TWO,
-        "0 2 0 0x100000000 0 0 0",
-        0x1_0000_0000,
-        "Err(BadBlock(0))",
-    ),
+    Row {
+        nodes: "0x10, 0x10",
+        windows: OVER_TWO,
+        ranges: "",
+        h: 0x1_0000_0100,
+        way: "Err(NoChild(1))",
+    },
+    Row {
+        nodes: TWO_BY_ONE,
+        windows: OVER_TWO,
+        ranges: "0 2 0 0x100000000 0 0 0",
+        h: 0x1_0000_0000,
+        way: "Err(BadBlock(0))",
+    },
 ];
 
 /// Bytes of an endpoint's device, and the host address that comes back from each.
 #[test]
 fn ways_back(rt: HostRuntime) {
-    let host = host_of(&rt, rt.alloc(), TWO, OVER_TWO, OF_TWO);
+    let host = host_of(&rt, rt.alloc(), TWO_BY_ONE, OVER_TWO, TWO_WAYS);
     assert!(rt; comes_back(&host, 3, 0, 0x1_0000_0000, 0x1_0000_0100));
     assert!(rt; comes_back(&host, 3, 0xfff_ffff, 0x1_0000_0000, 0x1_1fff_ffff));
     assert!(rt; up_from(&host, 3, 0x1000_0000).is_none());
-    let empty = host_of(&rt, rt.alloc(), TWO, OVER_TWO, "");
+    let empty = host_of(&rt, rt.alloc(), TWO_BY_ONE, OVER_TWO, "");
     assert!(rt; up_from(&empty, 3, 0).is_none());
 }
 
 /// Whether both addresses lead to this byte, from which the lower one comes back.
-fn meet(host: &Worked, low: u64, high: u64, dpa: u64) -> bool
+fn meet(rt: &impl Abort, host: &Worked, low: u64, high: u64, dpa: u64) -> bool
     requires caps { HasCapsOf host.now.image host.now.topo.nodes }
     requires made { AreMadeWith host.now.windows.items (bridge_uids host.now.topo.nodes) }
 {
-    let route = route_of(&[0, 0x1_0000_0000, 1, 0, dpa, 0, 0, 0]);
+    let route = route_of(rt, &[0, 0x1_0000_0000, 1, 0, dpa, 0, 0, 0]);
     down(&host.image, &host.topo, &host.windows, low) == Ok(route)
         && down(&host.image, &host.topo, &host.windows, high) == Ok(route)
         && comes_back(host, 1, dpa, 0x1_0000_0000, low)
 }
 
+/// A bridge of one way above an endpoint of two.
+const BOTH_BY_ONE: Breach = Breach {
+    rule: 12,
+    node: 1,
+    decoder: 0,
+};
+
 /// An endpoint of two ways below a bridge and a window of one: two addresses lead to each byte.
 #[test]
 fn the_least_of_two_that_meet(rt: HostRuntime) {
-    let host = host_of(&rt, rt.alloc(), ONE, OVER_ONE, OF_ONE);
-    assert!(rt; breaks(rt.alloc(), &host, &host.image, (12, 1, 0)));
-    assert!(rt; meet(&host, 0x1_0000_0000, 0x1_0000_0100, 0));
-    assert!(rt; meet(&host, 0x1_0000_02ff, 0x1_0000_03ff, 0x1ff));
+    let host = host_of(&rt, rt.alloc(), ONE_OF_1_GIB, OVER_ONE, TWO_WAYS_OF_ONE);
+    assert!(rt; breaks(rt.alloc(), &host, &host.image, BOTH_BY_ONE));
+    assert!(rt; meet(&rt, &host, 0x1_0000_0000, 0x1_0000_0100, 0));
+    assert!(rt; meet(&rt, &host, 0x1_0000_02ff, 0x1_0000_03ff, 0x1ff));
 }
 
-const ONE: &str = "0x382, 0x1b02 0 0 0x40000000 0";
+const ONE_OF_1_GIB: &str = "0x382, 0x1b02 0 0 0x40000000 0";
 
-const OF_ONE: &str = "0 1 0 0x100000000 0x20000000 0 0, 1 2 0 0x100000000 0x20000000 0x10 0";
+const TWO_WAYS_OF_ONE: &str =
+    "0 1 0 0x100000000 0x20000000 0 0, 1 2 0 0x100000000 0x20000000 0x10 0";

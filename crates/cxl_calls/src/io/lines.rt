@@ -1,6 +1,6 @@
 //! Lines of a source.
 
-use crate::common::{list, repeated};
+use crate::common::{has_passed, list, repeated};
 use cxl_io::{LineReader, MemSource, Source, StdSource, Taken};
 use std::process::Abort;
 
@@ -69,8 +69,8 @@ fn is_read(rt: &(impl Abort + AllocGlobal), row: &(&str, usize, &str, u64, &str)
 
 #[test]
 fn lines(rt: HostRuntime) {
-    for row in &SOURCES {
-        assert!(rt; is_read(&rt, row));
+    for (i, row) in SOURCES.iter().enumerate() {
+        has_passed(&rt, i, is_read(&rt, row));
     }
 }
 
