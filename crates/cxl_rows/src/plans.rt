@@ -403,7 +403,7 @@ fn numbers_of_spans(rt: &impl Abort, alloc: Global, spans: &[Place]) -> Vec<u64>
 }
 
 /// A host after reset, the size and the endpoints of a region of ram, and the plan's rows and spans.
-struct Rows {
+struct RowsWanted {
     nodes: &'static str,
     windows: &'static str,
     size: u64,
@@ -412,7 +412,7 @@ struct Rows {
     spans: &'static str,
 }
 
-fn has_rows(rt: &impl Abort, alloc: Global, row: &Rows) -> bool {
+fn has_rows(rt: &impl Abort, alloc: Global, row: &RowsWanted) -> bool {
     let asked = Asked {
         kind: MemKind::Ram,
         size: row.size,
@@ -436,9 +436,9 @@ fn rows(rt: HostRuntime) {
     }
 }
 
-const ROWS: [Rows; 3] = [
+const ROWS: [RowsWanted; 3] = [
     // Below bridges that decode, and below bridges that forward.
-    Rows {
+    RowsWanted {
         nodes: TWO_BY_ONE,
         windows: OVER_TWO,
         size: 0x2000_0000,
@@ -447,7 +447,7 @@ const ROWS: [Rows; 3] = [
          2 0 1 0 0x100000000 0x20000000 0  3 0 1 0 0x100000000 0x20000000 0",
         spans: "2 0 3 0",
     },
-    Rows {
+    RowsWanted {
         nodes: TWO_FORWARDING,
         windows: OVER_TWO,
         size: 0x2000_0000,
@@ -456,7 +456,7 @@ const ROWS: [Rows; 3] = [
         spans: "2 0 3 0",
     },
     // The target lists of bridges with two endpoints each.
-    Rows {
+    RowsWanted {
         nodes: TWO_BY_TWO,
         windows: OVER_TWO_LONG,
         size: 0x4000_0000,
