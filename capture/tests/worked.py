@@ -12,7 +12,8 @@ ROWS = os.path.join(machines.TOP, "crates", "cxl_rows", "src")
 
 TEXT = r'"(?:[^"\\]|\\\n)*"|r#"[^#]*"#'
 PART = rf"({TEXT}|(?:[a-z_]+::)?[A-Z][A-Z0-9_]*)"
-THREE = re.compile(rf"\(\s*{PART},\s*{PART},\s*{PART},")
+FIELD = rf"(?:[a-z_]+:\s*)?{PART}"
+THREE = re.compile(rf"[({{]\s*{FIELD},\s*{FIELD},\s*{FIELD},")
 
 
 def threes():
@@ -60,7 +61,7 @@ def rows():
 def numbers(text):
     """The lists between the commas; none where there is another text."""
     items = [item.split() for item in re.sub(r"\\\n", " ", text).strip('"').split(",")]
-    if not all(re.fullmatch("0x[0-9a-f]+|[0-9]+", number) for item in items for number in item):
+    if not all(re.fullmatch("0x[0-9a-f]+|0|[1-9][0-9]*", number) for item in items for number in item):
         return None
     return [[int(number, 0) for number in item] for item in items]
 
