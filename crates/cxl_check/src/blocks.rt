@@ -7,7 +7,7 @@ ghost use Rattle.cxl_model.specs.Accepted.{breaks_block};
 ghost use Rattle.cxl_check.specs.inner.Found.{IsFoundOfNode, IsFoundAmong};
 
 use crate::fault::Breach;
-use crate::least::earlier;
+use crate::least::earlier_among_nodes;
 use cxl_model::Host;
 use cxl_span::{BlockBreach, block_breach};
 use cxl_topo::capacity_at;
@@ -20,7 +20,7 @@ pub(crate) fn blocks_breach(host: &Host) -> Option<Breach>
     let mut first = None;
     for node in 0..host.topo.count() {
         let found = node_breach(host, node);
-        first = earlier(first, node, found);
+        first = earlier_among_nodes(first, node, found);
     }
     first
 }

@@ -8,7 +8,7 @@ ghost use Rattle.cxl_check.specs.Spots.{TellsFirstBreach};
 
 use crate::blocks::blocks_breach;
 use crate::caps::caps_breach;
-use crate::children::children;
+use crate::children::all_children;
 use crate::fault::{Breach, CheckFault};
 use crate::firsts::first_endpoints;
 use crate::known::none_met;
@@ -51,7 +51,7 @@ pub fn check(
         return Err(CheckFault::Breach(breach));
     }
     let tables = Tables {
-        children: children(alloc, topo)?,
+        children: all_children(alloc, topo)?,
         landings: landings(alloc, topo)?,
         firsts: first_endpoints(alloc, &host)?,
     };

@@ -8,7 +8,7 @@ use cxl_topo::{Topo, tree_laws};
 use std::alloc::{AllocError, Global};
 
 /// The child of each node at each of its first eight ports, node by node. Takes memory.
-pub(crate) fn children(alloc: Global, topo: &Topo) -> Result<Vec<Option<u32>>, AllocError>
+pub(crate) fn all_children(alloc: Global, topo: &Topo) -> Result<Vec<Option<u32>>, AllocError>
     ensures { IfOk result (λ children. AreAllChildren topo.now.nodes children.items) }
 {
     let count = 8 * topo.count();

@@ -28,7 +28,7 @@ pub(crate) fn earlier_in_node(
 }
 
 /// The first breach of the nodes up to this one, from that of the nodes before and its own.
-pub(crate) fn earlier(
+pub(crate) fn earlier_among_nodes(
     first: Option<Breach>,
     node: u32,
     found: Option<BlockBreach>,

@@ -12,7 +12,7 @@ ghost use Rattle.cxl_check.specs.inner.Known.{IsKnown, IsKnownAs};
 
 use crate::fault::Breach;
 use crate::known::{Known, known_of};
-use crate::least::{earlier, earlier_in_node};
+use crate::least::{earlier_among_nodes, earlier_in_node};
 use crate::reach::keeps_reach;
 use crate::tables::Tables;
 use crate::targets::keeps_targets;
@@ -35,7 +35,7 @@ pub(crate) fn ranges_breach(met: &mut Vec<Known>, host: &Host, tables: &Tables) 
     let mut first = None;
     for node in 0..host.topo.count() {
         let found = node_breach(met, host, tables, node);
-        first = earlier(first, node, found);
+        first = earlier_among_nodes(first, node, found);
     }
     first
 }
@@ -52,14 +52,14 @@ fn node_breach(met: &mut Vec<Known>, host: &Host, tables: &Tables, node: u32) ->
     let block = host.image.block(node);
     let mut first = None;
     for i in 0..block.count() {
-        let rule = least_rule(met, host, tables, node, i, &block.decoder(i));
+        let rule = least_broken(met, host, tables, node, i, &block.decoder(i));
         first = earlier_in_node(first, i, rule);
     }
     first
 }
 
 /// The least of the rules K9 to K12 that a decoder breaks.
-fn least_rule(
+fn least_broken(
     met: &mut Vec<Known>,
     host: &Host,
     tables: &Tables,

@@ -2,7 +2,7 @@ ghost use Rattle.std.specs.Prelude.{◌≡◌, ℕ, ◌<◌, ◌≤◌, [], ◌�
 ghost use Rattle.cxl_machine.specs.Machine.{has_host, region_limit};
 ghost use Rattle.cxl_live.specs.Apart.{LieApart};
 
-use crate::ordering::{BaseAt, enter, order, reached};
+use crate::ordering::{BaseAt, bases_up_to, insert_by_base, order};
 use cxl_enc::Memory;
 use cxl_model::Found;
 use std::alloc::Global;
@@ -72,7 +72,7 @@ impl LiveRegions {
     pub fn holder(&self, h: u64) -> Option<usize>
         ensures { LieApart self.now → result ≡ position (λ found. has_host found h) self.now }
     {
-        let reached = reached(&self.bases, h);
+        let reached = bases_up_to(&self.bases, h);
         if reached == 0 {
             return None;
         }
@@ -92,7 +92,7 @@ impl LiveRegions {
     {
         let base = found.base;
         let place = self.founds.len();
-        enter(&mut self.bases, BaseAt { base, place });
+        insert_by_base(&mut self.bases, BaseAt { base, place });
         let _found = self.founds.push(found);
     }
 

@@ -2,16 +2,16 @@ ghost use Rattle.std.specs.Prelude.{◌≡◌, length};
 ghost use Rattle.cxl_pool.specs.Chain.{next_of};
 ghost use Rattle.cxl_pool.specs.Pool.{zeros};
 
-#[tactic(auto, unfolding(crate::specs::Chain::next_of))]
 /// The number that a free frame's first four bytes name.
+#[tactic(auto, unfolding(crate::specs::Chain::next_of))]
 pub fn next(bytes: &[u8; 256]) -> u32
     ensures { result ≡ next_of bytes.now }
 {
     u32::from_le_bytes([bytes[0], bytes[1], bytes[2], bytes[3]])
 }
 
-#[tactic(auto, unfolding(crate::specs::Chain::next_of))]
 /// Lets a frame's first four bytes name the next free frame.
+#[tactic(auto, unfolding(crate::specs::Chain::next_of))]
 pub fn link(bytes: &mut [u8; 256], next: u32)
     ensures { next_of bytes.new ≡ next }
 {
@@ -22,8 +22,8 @@ pub fn link(bytes: &mut [u8; 256], next: u32)
     bytes[3] = d;
 }
 
-#[tactic(auto, unfolding(crate::specs::Pool::zeros))]
 /// The bytes of a new frame.
+#[tactic(auto, unfolding(crate::specs::Pool::zeros))]
 pub fn zeroed() -> [u8; 256]
     ensures { result ≡ zeros }
 {

@@ -23,13 +23,13 @@ fn write_digits(bytes: &[u8], digits: &mut [u8])
     ensures { digits.new ≡ bytes_text bytes.now }
 {
     for i in 0..bytes.len() {
-        digits[2 * i] = digit_of(bytes[i] / 16);
-        digits[2 * i + 1] = digit_of(bytes[i] % 16);
+        digits[2 * i] = lower_digit(bytes[i] / 16);
+        digits[2 * i + 1] = lower_digit(bytes[i] % 16);
     }
 }
 
 #[tactic(auto, using(crate::proofs::DigitGlyphs::glyph))]
-fn digit_of(value: u8) -> u8
+fn lower_digit(value: u8) -> u8
     requires { value < 16 }
     ensures { result ≡ slice_index lower_digits value }
 {

@@ -97,11 +97,11 @@ over_read len head words None = over_names head (some_names_in len words)
 over_read len head words (Some next) = over_ways head (ranged next.0.at 1 ways_limit (number_of next.0.text)) next.1
 
 -- `ways=N`, where the word in the place of the first endpoint begins so, and else one endpoint or more
-abbrev pub endpoints_in : ℕ → Head → List Word → Result Create BadLine
-endpoints_in len head words = over_read len head words (behind (codes "ways=") words)
+abbrev pub names_or_ways_in : ℕ → Head → List Word → Result Create BadLine
+names_or_ways_in len head words = over_read len head words (behind (codes "ways=") words)
 
 abbrev pub create_in : ℕ → List Word → Result Create BadLine
-create_in len words = head_in len words >>= λ head. endpoints_in len head.0 head.1
+create_in len words = head_in len words >>= λ head. names_or_ways_in len head.0 head.1
 
 -- ---- the words behind the other verbs
 

@@ -28,10 +28,10 @@ fn are_digits(text: &[u8]) -> bool
 fn is_hex_digit(byte: u8) -> bool
     ensures { result ≡ is_digit byte 16 }
 {
-    is_between(byte, b'0', b'9') | is_between(byte, b'a', b'f') | is_between(byte, b'A', b'F')
+    is_from_to(byte, b'0', b'9') | is_from_to(byte, b'a', b'f') | is_from_to(byte, b'A', b'F')
 }
 
-fn is_between(byte: u8, first: u8, last: u8) -> bool
+fn is_from_to(byte: u8, first: u8, last: u8) -> bool
     ensures { result ≡ (nat_le first byte && nat_le byte last) }
 {
     (first <= byte) & (byte <= last)
@@ -53,20 +53,20 @@ fn write_bytes(digits: &[u8], bytes: &mut [u8])
     ensures { bytes.new ≡ hex_bytes digits.now }
 {
     for i in 0..bytes.len() {
-        bytes[i] = byte_of(digits[2 * i], digits[2 * i + 1]);
+        bytes[i] = pair_value(digits[2 * i], digits[2 * i + 1]);
     }
 }
 
-fn byte_of(high: u8, low: u8) -> u8
+fn pair_value(high: u8, low: u8) -> u8
     requires high { is_digit high 16 ≡ true }
     requires low { is_digit low 16 ≡ true }
     ensures { result ≡ 16 * digit_value high + digit_value low }
 {
-    16 * value_of(high) + value_of(low)
+    16 * digit_value(high) + digit_value(low)
 }
 
 /// Of a letter's code the lower four bits count from one.
-fn value_of(digit: u8) -> u8
+fn digit_value(digit: u8) -> u8
     requires { is_digit digit 16 ≡ true }
     ensures value { result ≡ digit_value digit }
     ensures below { result < 16 }

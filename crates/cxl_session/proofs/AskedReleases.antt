@@ -24,7 +24,7 @@ use Rattle.cxl_machine.specs.Jobs.{release_job}
 use Rattle.cxl_machine.specs.Requests.{busy, no_region, locked, not_last, spot_of, release_at, job_unless, asked_release}
 use Rattle.cxl_session.specs.declared.requests.Release.{Release}
 use Rattle.cxl_session.specs.declared.session.Session.TheInside.{Inside}
-use Rattle.cxl_session.specs.Inside.{job_fields, state_of}
+use Rattle.cxl_session.specs.Inside.{job_fields, session_view}
 use Rattle.cxl_session.specs.State.{SessionState}
 use Rattle.cxl_session.specs.Standing.{StandsFor}
 use Rattle.cxl_session.specs.inner.Requests.{IsNamedRelease}
@@ -188,7 +188,7 @@ found_unnamed session m name stands none past =
     unnamed_refused m name (no_job m session.job none m.job stands.job) (no_region_at m name (place_is session m name stands None past))
 
 -- the same by the fields of a session
-pub found_inside : (session : SessionState) (inside : Inside) → state_of inside ≡ session → inside.job ≡ None → (name : List ℕ) (place : ℕ) (names : List (List ℕ))
+pub found_inside : (session : SessionState) (inside : Inside) → session_view inside ≡ session → inside.job ≡ None → (name : List ℕ) (place : ℕ) (names : List (List ℕ))
     → Some place ≡ position (λ own. bytes_eq own name) names → names ≡ inside.names.items → (found : Found) → slice_get session.founds place ≡ Some found
     → (rows : List Row) → rows ≡ rows_of (system_of inside.image inside.topo []) found → IsFound session name place found rows
 found_inside session inside view none name place names named same found there rows are =

@@ -29,7 +29,7 @@ use Rattle.cxl_machine.proofs.LiveRegions.{live_is_region}
 use Rattle.cxl_machine.proofs.PendingJobs.{keeps_of}
 use Rattle.cxl_machine.proofs.Writes.{create_is, release_is}
 use Rattle.cxl_session.specs.State.{JobFields, SessionState}
-use Rattle.cxl_session.specs.Standing.{place_of, IsKeptIn, image_of_region, IsJobFor, StandsFor}
+use Rattle.cxl_session.specs.Standing.{released_place, IsKeptIn, image_of_region, IsJobFor, StandsFor}
 use Rattle.cxl_session.specs.inner.Regions.{put_behind, session_finished}
 use Rattle.cxl_session.proofs.Zips.{zip_append, zip_each}
 
@@ -92,21 +92,21 @@ module _ (laws : EndLaws) (m : Machine) (is : IsMachine m) (job : RegionJob) (pe
 
 -- ---- the session
 
-listed_behind : {A : Type 0} (f : Live → A) (live : List Live) (job : RegionJob) (kind : JobKind) → put_behind (place_of kind) (f job.region) (map f live) ≡ map f (live_when_done job kind live)
+listed_behind : {A : Type 0} (f : Live → A) (live : List Live) (job : RegionJob) (kind : JobKind) → put_behind (released_place kind) (f job.region) (map f live) ≡ map f (live_when_done job kind live)
 listed_behind f live job (Creates rows) = sym (map-append f live (job.region ∷ []))
 listed_behind f live job (Releases place) = refl
 
-listed_at_end : {A : Type 0} (f : Live → A) (live : List Live) (job : RegionJob) (place : Option ℕ) (x : A) (xs : List A) → place ≡ place_of job.kind → x ≡ f job.region → xs ≡ map f live
+listed_at_end : {A : Type 0} (f : Live → A) (live : List Live) (job : RegionJob) (place : Option ℕ) (x : A) (xs : List A) → place ≡ released_place job.kind → x ≡ f job.region → xs ≡ map f live
     → put_behind place x xs ≡ map f (live_when_done job job.kind live)
 listed_at_end {A = A} f live job place x xs at one all =
-    ap (λ (o : Option ℕ). put_behind o x xs) at ∙ ap (λ (y : A). put_behind (place_of job.kind) y xs) one
-    ∙ ap (λ (ys : List A). put_behind (place_of job.kind) (f job.region) ys) all ∙ listed_behind f live job job.kind
+    ap (λ (o : Option ℕ). put_behind o x xs) at ∙ ap (λ (y : A). put_behind (released_place job.kind) y xs) one
+    ∙ ap (λ (ys : List A). put_behind (released_place job.kind) (f job.region) ys) all ∙ listed_behind f live job job.kind
 
 abbrev KeepsIn : System → Live → KeptFields → Type 0
 KeepsIn s region kept = IsKeptIn s region.found kept
 
 kept_behind : (s : System) (live : List Live) (job : RegionJob) (own : KeptFields) (kept : List KeptFields) (kind : JobKind) → IsKeptIn (image_of_region kind s) job.region.found own
-    → AllZip (KeepsIn (settled_by job kind s)) live kept → AllZip (KeepsIn (settled_by job kind s)) (live_when_done job kind live) (put_behind (place_of kind) own kept)
+    → AllZip (KeepsIn (settled_by job kind s)) live kept → AllZip (KeepsIn (settled_by job kind s)) (live_when_done job kind live) (put_behind (released_place kind) own kept)
 kept_behind s live job own kept (Creates rows) one all =
     zip_append (KeepsIn (settled_by job (Creates rows) s)) live (job.region ∷ []) kept (own ∷ []) all (one, tt)
 kept_behind s live job own kept (Releases place) one all = all

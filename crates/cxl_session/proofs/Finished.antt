@@ -19,7 +19,7 @@ use Rattle.cxl_machine.specs.Jobs.{live_when_done, settled_by, finished}
 use Rattle.cxl_machine.specs.Sound.{IsMachine, IsSound, block_told}
 use Rattle.cxl_machine.proofs.KeepingBytes.{uncounted}
 use Rattle.cxl_machine.proofs.Released.{made_holds_none}
-use Rattle.cxl_session.specs.Standing.{place_of, HoldsMemory}
+use Rattle.cxl_session.specs.Standing.{released_place, HoldsMemory}
 use Rattle.cxl_session.specs.inner.Regions.{IsLeftBy}
 use Rattle.cxl_session.proofs.Holding.{CountLaw, kept_region, are_holdings, holdings_again, media_again, blocks_held}
 
@@ -61,7 +61,7 @@ module _ (laws : MediaLaws) (m : Machine) (is : IsMachine m) (job : RegionJob) (
   abbrev EndsAs : JobKind → Type 0
   EndsAs kind = AreMediaOf (map (holding_of (settled_by job kind m.settled)) (live_when_done job kind m.live ++ [])) (block_told new)
 
-  ended_by : (kind : JobKind) → job.kind ≡ kind → HoldsMemory m old → IsLeftBy (place_of kind) job.region.found old new → EndsAs kind
+  ended_by : (kind : JobKind) → job.kind ≡ kind → HoldsMemory m old → IsLeftBy (released_place kind) job.region.found old new → EndsAs kind
   ended_by (Creates rows) same memory left =
       let are : AreHeldAs (m.live ++ []) old = subst (λ (rs : List Live). AreHeldAs rs old) (kept_as (Creates rows) same) memory in
       let none = made_holds_none m job rows is pending same in
@@ -78,13 +78,13 @@ module _ (laws : MediaLaws) (m : Machine) (is : IsMachine m) (job : RegionJob) (
   counted_by None left = ap frame_count left
   counted_by (Some place) left = left.1
 
-  pub finished_sound : (before after : List Registers) → IsSound m before old → IsMachine (finished job m) → IsLeftBy (place_of job.kind) job.region.found old new
+  pub finished_sound : (before after : List Registers) → IsSound m before old → IsMachine (finished job m) → IsLeftBy (released_place job.kind) job.region.found old new
       → after ≡ (settled_by job job.kind m.settled).blocks → IsSound (finished job m) after new
   finished_sound before after sound next left image =
       let memory : HoldsMemory (finished job m) new = ended_by job.kind refl sound.memory left in
       let first = blocks_held laws.count m old (uncounted m is) sound.memory in
       let second = blocks_held laws.count (finished job m) new (uncounted (finished job m) next) memory in
-      let count = counted_by (place_of job.kind) left in
+      let count = counted_by (released_place job.kind) left in
       let frames = sound.frames in
       record { machine = next; registers = image; memory = memory; frames = omega (arith, first, second, count, frames) }
 

@@ -17,7 +17,7 @@ use Rattle.cxl_machine.proofs.KeepingJobs.{undone_keeps}
 use Rattle.cxl_machine.proofs.KeepingOrder.{put_back}
 use Rattle.cxl_machine.proofs.KeepingSteps.{at_done_keeps}
 use Rattle.cxl_session.specs.State.{JobFields, SessionState}
-use Rattle.cxl_session.specs.Standing.{place_of, IsKeptIn, image_of_region, IsJobFor, HasSameJob, StandsFor}
+use Rattle.cxl_session.specs.Standing.{released_place, IsKeptIn, image_of_region, IsJobFor, HasSameJob, StandsFor}
 use Rattle.cxl_session.specs.inner.Regions.{taken_in, session_undone}
 use Rattle.cxl_session.proofs.Rearranged.{IsRearranged, rearranged_sound}
 use Rattle.cxl_session.proofs.Zips.{map-insert, zip_insert}
@@ -62,22 +62,22 @@ undone_rearranged m job pending = record {
 
 -- ---- lists of a session
 
-listed_in : {A : Type 0} (f : Live → A) (live : List Live) (job : RegionJob) (kind : JobKind) → taken_in (place_of kind) (f job.region) (map f live) ≡ map f (live_when_undone job kind live)
+listed_in : {A : Type 0} (f : Live → A) (live : List Live) (job : RegionJob) (kind : JobKind) → taken_in (released_place kind) (f job.region) (map f live) ≡ map f (live_when_undone job kind live)
 listed_in f live job (Creates rows) = refl
 listed_in f live job (Releases place) = sym (map-insert f live place job.region)
 
-pub listed_again : {A : Type 0} (f : Live → A) (live : List Live) (job : RegionJob) (place : Option ℕ) (x : A) (xs : List A) → place ≡ place_of job.kind → x ≡ f job.region → xs ≡ map f live
+pub listed_again : {A : Type 0} (f : Live → A) (live : List Live) (job : RegionJob) (place : Option ℕ) (x : A) (xs : List A) → place ≡ released_place job.kind → x ≡ f job.region → xs ≡ map f live
     → taken_in place x xs ≡ map f (live_when_undone job job.kind live)
 listed_again {A = A} f live job place x xs at one all =
-    ap (λ (o : Option ℕ). taken_in o x xs) at ∙ ap (λ (y : A). taken_in (place_of job.kind) y xs) one
-    ∙ ap (λ (ys : List A). taken_in (place_of job.kind) (f job.region) ys) all ∙ listed_in f live job job.kind
+    ap (λ (o : Option ℕ). taken_in o x xs) at ∙ ap (λ (y : A). taken_in (released_place job.kind) y xs) one
+    ∙ ap (λ (ys : List A). taken_in (released_place job.kind) (f job.region) ys) all ∙ listed_in f live job job.kind
 
 module _ (m : Machine) where
   abbrev Keeps : Live → KeptFields → Type 0
   Keeps region kept = IsKeptIn m.settled region.found kept
 
   kept_in : (live : List Live) (job : RegionJob) (own : KeptFields) (kept : List KeptFields) (kind : JobKind) → AllZip Keeps live kept → IsKeptIn (image_of_region kind m.settled) job.region.found own
-      → AllZip Keeps (live_when_undone job kind live) (taken_in (place_of kind) own kept)
+      → AllZip Keeps (live_when_undone job kind live) (taken_in (released_place kind) own kept)
   kept_in live job own kept (Creates rows) all one = all
   kept_in live job own kept (Releases place) all one = zip_insert Keeps place live kept job.region own all one
 

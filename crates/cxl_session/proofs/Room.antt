@@ -6,7 +6,7 @@ use Rattle.cxl_machine.specs.Machine.{Live, RegionJob, JobKind, Creates, Release
 use Rattle.cxl_machine.specs.Sound.{IsMachine, IsJobOf, AreKept}
 use Rattle.cxl_machine.proofs.KeepingJobs.{job_of, kept_of}
 use Rattle.cxl_session.specs.State.{JobFields, SessionState}
-use Rattle.cxl_session.specs.Standing.{place_of, IsJobFor, StandsFor}
+use Rattle.cxl_session.specs.Standing.{released_place, IsJobFor, StandsFor}
 
 room_by : (m : Machine) (job : RegionJob) (kind : JobKind) → IsJobOf m job kind → AreKept m (m.live ++ region_released job kind) → length m.live < region_limit
 room_by m job (Creates rows) create kept = create.room
@@ -14,7 +14,7 @@ room_by m job (Releases place) release kept =
     let few = kept.few in
     omega (arith, few, length-append m.live (job.region ∷ []))
 
-place_by : (m : Machine) (job : RegionJob) (kind : JobKind) → IsJobOf m job kind → IfSome (place_of kind) (λ place. place ≤ length m.live)
+place_by : (m : Machine) (job : RegionJob) (kind : JobKind) → IsJobOf m job kind → IfSome (released_place kind) (λ place. place ≤ length m.live)
 place_by m job (Creates rows) create = tt
 place_by m job (Releases place) release = release.there
 
@@ -31,4 +31,4 @@ module _ (session : SessionState) (m : Machine) (own : JobFields) (job : RegionJ
   pub has_place : IfSome own.place (λ place. place ≤ length session.names)
   has_place =
       subst (λ (o : Option ℕ). IfSome o (λ place. place ≤ length session.names)) (sym same.place)
-      (subst (λ (n : ℕ). IfSome (place_of job.kind) (λ place. place ≤ n)) (sym as_many) (place_by m job job.kind (job_of m job is pending).kind))
+      (subst (λ (n : ℕ). IfSome (released_place job.kind) (λ place. place ≤ n)) (sym as_many) (place_by m job job.kind (job_of m job is pending).kind))

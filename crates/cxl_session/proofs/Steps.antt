@@ -21,7 +21,7 @@ use Rattle.cxl_machine.specs.Replies.{Answer, becomes}
 use Rattle.cxl_machine.specs.Scripts.{Turn, answer_of}
 use Rattle.cxl_machine.specs.Trails.{SendsSteps, SendsPending, forward}
 use Rattle.cxl_session.specs.State.{JobFields, SessionState}
-use Rattle.cxl_session.specs.Standing.{IsAt, IsJobFor, place_of}
+use Rattle.cxl_session.specs.Standing.{IsAt, IsJobFor, released_place}
 use Rattle.cxl_session.specs.inner.Answering.{IsTurnFor}
 use Rattle.cxl_session.specs.inner.Regions.{session_finished, named_region, finished_reply, ended_as, IsMadeTo, IsLeftByEnd, IsLeftBy}
 use Rattle.cxl_session.proofs.Ends.{EndLaws, finished_stands}
@@ -38,7 +38,7 @@ none_stepped session regs media steps none = still session regs media (commands.
       subst (λ (o : Option RegionJob). SendsPending o [] (λ (j : RegionJob). SendsSteps j steps NoFault [])) (sym idle) refl,
     ))
 
-pub ended_kind : (job : RegionJob) (own : JobFields) (kind : JobKind) → own.name ≡ job.region.name → own.found ≡ job.region.found → ended_as (place_of kind) own ≡ ended_reply job kind
+pub ended_kind : (job : RegionJob) (own : JobFields) (kind : JobKind) → own.name ≡ job.region.name → own.found ≡ job.region.found → ended_as (released_place kind) own ≡ ended_reply job kind
 ended_kind job own (Creates rows) name found =
     ap (λ (n : List ℕ). replies.Created (named_region n own.found)) name ∙ ap (λ (f : Found). replies.Created (named_region job.region.name f)) found
 ended_kind job own (Releases place) name found = ap replies.Destroyed name

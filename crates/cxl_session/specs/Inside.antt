@@ -5,7 +5,7 @@ use Rattle.cxl_apply.specs.Steps.{HasWordsOf}
 use Rattle.cxl_machine.specs.Machine.{region_limit}
 use Rattle.cxl_session.specs.declared.pending.Kind.{Kind}
 use Rattle.cxl_session.specs.declared.pending.Kind.TheVariants as kinds
-use Rattle.cxl_session.specs.declared.pending.Pending.{Pending}
+use Rattle.cxl_session.specs.declared.pending.PendingJob.{PendingJob}
 use Rattle.cxl_session.specs.declared.session.Session.TheInside.{Inside}
 use Rattle.cxl_session.specs.State.{JobFields, SessionState}
 
@@ -13,7 +13,7 @@ abbrev pub place_in : Kind → Option ℕ
 place_in kinds.Creates = None
 place_in (kinds.Releases place) = Some place
 
-abbrev pub job_fields : Pending → JobFields
+abbrev pub job_fields : PendingJob → JobFields
 job_fields pending = record {
   place = place_in pending.kind;
   name = pending.name;
@@ -23,8 +23,8 @@ job_fields pending = record {
   done = pending.job.done;
 }
 
-abbrev pub state_of : Inside → SessionState
-state_of session = record {
+abbrev pub session_view : Inside → SessionState
+session_view session = record {
   topo = session.topo;
   windows = session.windows.items;
   image = session.image;

@@ -19,9 +19,9 @@ use Rattle.cxl_session.specs.State.{JobFields, SessionState}
 -- ---- what a session keeps, and a machine
 
 -- where the region of a release stood
-abbrev pub place_of : JobKind → Option ℕ
-place_of (Creates rows) = None
-place_of (Releases place) = Some place
+abbrev pub released_place : JobKind → Option ℕ
+released_place (Creates rows) = None
+released_place (Releases place) = Some place
 
 -- the image in which the job's region is one: with its rows committed, or the settled one
 abbrev pub image_of_region : JobKind → System → System
@@ -34,7 +34,7 @@ IsKeptIn s found kept = IsKept s (region_window s found) found kept
 
 -- the pending job is the machine's
 pub record IsJobFor (m : Machine) (own : JobFields) (job : RegionJob) : Type 0 where
-  pub place : own.place ≡ place_of job.kind
+  pub place : own.place ≡ released_place job.kind
   pub name : own.name ≡ job.region.name
   pub found : own.found ≡ job.region.found
   pub writes : own.writes ≡ job.writes

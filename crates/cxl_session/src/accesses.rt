@@ -15,7 +15,7 @@ ghost use Rattle.cxl_session.specs.inner.Answering.{StandsSomehow, IsReadFor};
 use crate::endpoints::endpoints_by_slot;
 use crate::parts::load_bytes;
 use crate::session::Session;
-use crate::upward::host_of;
+use crate::upward::carried_address;
 use cxl_deal::deal;
 use cxl_enc::{FixedList, Memory, Name};
 use cxl_media::Media;
@@ -35,7 +35,7 @@ impl Session {
         ensures { (m : Machine) → StandsFor self.now m → IsMachine m → down_answer m h ≡ stays m result }
     {
         match self.place_of_host(h) {
-            Some(place) => Reply::Down(downed(h, self.name_at(place), self.kept_at(place))),
+            Some(place) => Reply::Down(down_details(h, self.name_at(place), self.kept_at(place))),
             None => Reply::Unmapped,
         }
     }
@@ -123,7 +123,7 @@ impl Session {
     {
         for place in 0..self.founds.len() {
             let weave = self.kept_at(place).weave();
-            if let Some(h) = host_of(self.found_at(place), weave, endpoint, dpa) {
+            if let Some(h) = carried_address(self.found_at(place), weave, endpoint, dpa) {
                 let name = self.name_at(place);
                 return Reply::Up(Upped { h, name });
             }
@@ -133,7 +133,7 @@ impl Session {
 }
 
 /// What a host byte of the region of this name is answered.
-fn downed(h: u64, name: Name, kept: &Kept) -> Downed
+fn down_details(h: u64, name: Name, kept: &Kept) -> Downed
     requires { IsKeptOf kept.now h }
     ensures { (m : Machine) (region : Live) → IsSystem m.settled
         → IsRegionIn m.settled (region_window m.settled region.found) region.found

@@ -55,7 +55,7 @@ impl Session {
         let to = self.side(second);
         let pieces = held(alloc, media, &from)?;
         move_bytes(media, &from, &to, &pieces);
-        Ok(Reply::Moved(carried(pair, &pieces)))
+        Ok(Reply::Moved(pair_details(pair, &pieces)))
     }
 
     /// Gives a region the bytes of another. Takes memory, all of it before the first write.
@@ -89,7 +89,7 @@ impl Session {
             }));
         }
         copy_bytes(media, &from, &to, &pieces);
-        Ok(Reply::Copied(carried(pair, &pieces)))
+        Ok(Reply::Copied(pair_details(pair, &pieces)))
     }
 
     /// The places of two live regions of one size, by their names; or why there are none.
@@ -146,7 +146,7 @@ fn is_same(name: &Name, other: &Name) -> bool
 }
 
 /// What is told of so many pieces.
-fn carried(pair: &Pair, pieces: &[u64]) -> Carried
+fn pair_details(pair: &Pair, pieces: &[u64]) -> Carried
     requires { length pieces.now ≤ frame_limit }
     ensures { result ≡ record { from = pair.now.from; to = pair.now.to; pieces = length pieces.now } }
 {

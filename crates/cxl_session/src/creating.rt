@@ -20,7 +20,7 @@ ghost use Rattle.cxl_session.specs.inner.Answering.{IsTurnFor};
 ghost use Rattle.cxl_session.specs.inner.Creating.{IsAskedPlan, IsPrepared, IsAskedCreate};
 
 use crate::copies::place_among;
-use crate::pending::{Kind, Pending};
+use crate::pending::{Kind, PendingJob};
 use crate::session::Session;
 use cxl_apply::{Job, create_commits_its_rows, regions_stay_after_a_create};
 use cxl_bus::Regs;
@@ -89,7 +89,11 @@ impl Session {
     }
 
     /// The create that a line asks for, ready to begin; or why it is refused. Takes memory.
-    fn asked_create(&self, alloc: Global, create: &Create) -> Result<Result<Pending, Reply>, Memory>
+    fn asked_create(
+        &self,
+        alloc: Global,
+        create: &Create,
+    ) -> Result<Result<PendingJob, Reply>, Memory>
         requires stands { (m : Machine) × StandsFor self.now m × IsMachine m }
         requires code { StatesGranCode create.now }
         ensures asked { IfOk result (λ asked. (m : Machine) → StandsFor self.now m → IsMachine m
@@ -150,7 +154,7 @@ impl Session {
 }
 
 /// The job of a plan, with the plan's region and its routes where all rows are committed. Takes memory.
-fn prepared(alloc: Global, host: &Host, plan: Plan) -> Result<Pending, Memory>
+fn prepared(alloc: Global, host: &Host, plan: Plan) -> Result<PendingJob, Memory>
     requires settled { IsSettled (as_system host.now) }
     requires legal { (request : Request) × IsLegalPlan (as_system host.now) request plan }
     ensures pending { IfOk result (λ pending. IsPrepared (as_system host.now) plan (job_fields pending)) }
@@ -162,7 +166,7 @@ fn prepared(alloc: Global, host: &Host, plan: Plan) -> Result<Pending, Memory>
     let job = Job::create(alloc, host.image, plan.rows.items())?;
     let ahead = job.ahead(alloc, host.image)?;
     let kept = Kept::new(alloc, &ahead, host.topo, host.windows, &plan.found)?;
-    Ok(Pending {
+    Ok(PendingJob {
         kind: Kind::Creates,
         name: plan.name,
         found: plan.found,

@@ -21,5 +21,5 @@ mod upward;
 
 pub use cxl_check::Breach;
 pub use cxl_machine::OpenFault;
-pub use pending::{Kind, Pending};
+pub use pending::{Kind, PendingJob};
 pub use session::Session;

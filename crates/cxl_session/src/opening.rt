@@ -110,7 +110,7 @@ impl Session {
         let Ok(session) = Session::over(alloc, topo, windows, start, founds, &endpoints) else {
             return Err(OpenFault::Memory);
         };
-        if enable(&endpoints, regs).is_err() {
+        if enable_endpoints(&endpoints, regs).is_err() {
             return Err(OpenFault::Bus);
         }
         Ok(session)
@@ -215,7 +215,7 @@ fn enabled(mut image: Image, endpoints: &[u32]) -> Image
 }
 
 /// Lets these endpoints decode, one after the other, until the bus fails.
-fn enable<R: Regs>(endpoints: &[u32], regs: &mut R) -> Result<(), Failed>
+fn enable_endpoints<R: Regs>(endpoints: &[u32], regs: &mut R) -> Result<(), Failed>
     requires { All (λ node. IsPlace (R.state regs.old).blocks node 4) endpoints.now }
     ensures blocks { OnOk result ((R.state regs.new).blocks ≡ blocks_sent (R.state regs.old).blocks (enabling endpoints.now)) }
     ensures words { OnOk result ((R.state regs.new).trail ≡ trail_with (R.state regs.old).trail (enabling endpoints.now)) }

@@ -14,7 +14,7 @@ pub enum Kind {
 
 /// A pending job, with its region and the routes of that region: so neither its end nor its undoing takes memory.
 #[derive(Debug, Drop)]
-pub struct Pending {
+pub struct PendingJob {
     pub kind: Kind,
     pub name: Name,
     pub found: Found,

@@ -16,7 +16,7 @@ ghost use Rattle.cxl_session.specs.Standing.{IsAt, Stands};
 ghost use Rattle.cxl_session.specs.inner.Answering.{IsTurnFor};
 ghost use Rattle.cxl_session.specs.inner.Regions.{session_undone, session_finished, named_region, finished_reply, BeginsRelease, IsTakenBackTo, IsMadeTo, IsLeftByEnd, IsWholeFor, LeavesUndone};
 
-use crate::pending::{Kind, Pending};
+use crate::pending::{Kind, PendingJob};
 use crate::session::Session;
 use cxl_apply::{
     Job, regions_stay_in_a_create, regions_stay_in_a_release, release_releases_its_rows,
@@ -30,7 +30,7 @@ use cxl_machine::{
 use cxl_media::Media;
 use cxl_model::{Found, whole_ranges_have_one_region};
 use cxl_move::{blocks_are_pieces, cleared_regions_leave_media, scrub_region};
-use cxl_reply::{Begun, Named, Progress, Reply};
+use cxl_reply::{Begun, Named, Pending, Progress, Reply};
 use cxl_walk::{Kept, kept_routes_stay};
 use std::alloc::Global;
 
@@ -192,7 +192,7 @@ impl Session {
         let found = self.founds.remove(place);
         let kept = self.kepts.remove(place);
         let kind = Kind::Releases(place as u32);
-        self.job = Some(Pending {
+        self.job = Some(PendingJob {
             kind,
             name,
             found,
@@ -202,7 +202,7 @@ impl Session {
     }
 
     /// The job that is pending, which the session then has no longer.
-    fn take_job(&mut self) -> Option<Pending>
+    fn take_job(&mut self) -> Option<PendingJob>
         ensures job { self.old.job ≡ option_map job_fields result }
         ensures taken { self.new ≡ record self.old { job = None } }
         ensures words { IfSome result (λ pending. HasWordsOf self.old.image pending.job.writes) }
@@ -211,7 +211,7 @@ impl Session {
     }
 
     /// Takes back what a job has written, the last word first, or up to the one at which the bus fails.
-    fn undo<R: Regs>(&mut self, pending: &mut Pending, regs: &mut R) -> Result<(), Failed>
+    fn undo<R: Regs>(&mut self, pending: &mut PendingJob, regs: &mut R) -> Result<(), Failed>
         requires idle { self.old.job ≡ None }
         requires words { HasWordsOf self.old.image pending.old.job.writes }
         requires same { (R.state regs.old).blocks ≡ self.old.image }
@@ -233,7 +233,7 @@ impl Session {
     /// Makes the next writes of a job until so many are made, or up to the one at which the bus fails.
     fn make<R: Regs>(
         &mut self,
-        pending: &mut Pending,
+        pending: &mut PendingJob,
         upto: u32,
         regs: &mut R,
     ) -> Result<(), Failed>
@@ -258,7 +258,7 @@ impl Session {
     }
 
     /// The job stays pending.
-    pub(crate) fn keep(&mut self, pending: Pending)
+    pub(crate) fn keep(&mut self, pending: PendingJob)
         requires { HasWordsOf self.old.image pending.job.writes }
         ensures { self.new ≡ record self.old { job = Some (job_fields pending) } }
     {
@@ -266,7 +266,7 @@ impl Session {
     }
 
     /// The job is done: the region that it made is the last of the live ones, and no byte is left of one that it ended.
-    fn finish<M: Media>(&mut self, pending: Pending, media: &mut M) -> Reply
+    fn finish<M: Media>(&mut self, pending: PendingJob, media: &mut M) -> Reply
         requires idle { self.old.job ≡ None }
         requires room { length self.old.names < region_limit }
         requires region { (s : System) × IsSystem s × IsRegion s pending.found }
@@ -276,7 +276,7 @@ impl Session {
     {
         match pending.kind {
             Kind::Creates => {
-                let reply = Reply::Created(named(pending.name, &pending.found));
+                let reply = Reply::Created(region_details(pending.name, &pending.found));
                 self.push(pending.name, pending.found, pending.kept);
                 reply
             }
@@ -302,7 +302,7 @@ impl Session {
     }
 
     /// The bus has failed, and the job stays pending.
-    fn leave(&mut self, pending: Pending) -> Reply
+    fn leave(&mut self, pending: PendingJob) -> Reply
         requires { HasWordsOf self.old.image pending.job.writes }
         ensures job { self.new ≡ record self.old { job = Some (job_fields pending) } }
         ensures reply { result ≡ Reply.BusPending record {
@@ -311,7 +311,7 @@ impl Session {
           total = length pending.job.writes;
         } }
     {
-        let left = cxl_reply::Pending {
+        let left = Pending {
             name: pending.name,
             done: pending.job.done(),
             total: pending.job.total(),
@@ -321,7 +321,7 @@ impl Session {
     }
 
     /// A job that is undone is gone; the region that it was to end is live again, at its place.
-    fn restore(&mut self, pending: Pending)
+    fn restore(&mut self, pending: PendingJob)
         requires idle { self.old.job ≡ None }
         requires place { IfSome (place_in pending.kind) (λ place. place ≤ length self.old.names) }
         requires room { length self.old.names < region_limit }
@@ -349,7 +349,7 @@ impl Session {
 }
 
 /// What is told of a region that was made.
-fn named(name: Name, found: &Found) -> Named
+fn region_details(name: Name, found: &Found) -> Named
     ensures { result ≡ named_region name found.now }
 {
     Named {

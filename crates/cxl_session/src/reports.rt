@@ -49,14 +49,14 @@ impl Session {
             → (pieces : List Poisoned) × AllZip (TouchesLive m endpoint) list.records pieces
             × (reply ≡ poison_reply m endpoint list pieces)) }
     {
-        let pieces = touched(
+        let pieces = touched_by_records(
             alloc,
             list.records.items(),
             endpoint,
             self.founds.as_slice(),
             &self.windows,
         )?;
-        let names = copied(alloc, &self.names)?;
+        let names = copied_names(alloc, &self.names)?;
         Ok(Reply::Poison(Report {
             endpoint,
             list,
@@ -67,7 +67,7 @@ impl Session {
 }
 
 /// What each of the records touches of the live regions.
-fn touched(
+fn touched_by_records(
     alloc: Global,
     records: &[Entry],
     endpoint: u32,
@@ -84,7 +84,7 @@ fn touched(
     Ok(FixedList::new(all))
 }
 
-fn copied(alloc: Global, names: &[Name]) -> Result<FixedList<Name>, Memory>
+fn copied_names(alloc: Global, names: &[Name]) -> Result<FixedList<Name>, Memory>
     ensures { IfOk result (λ copy. copy ≡ names.now) }
 {
     let mut copy = Vec::with_capacity(alloc, names.len())?;

@@ -8,7 +8,7 @@ ghost use Rattle.cxl_machine.specs.Sound.{IsMachine};
 ghost use Rattle.cxl_session.specs.State.{image_in};
 ghost use Rattle.cxl_session.specs.Standing.{StandsFor};
 
-use crate::pending::Pending;
+use crate::pending::PendingJob;
 use cxl_enc::Name;
 use cxl_image::Image;
 use cxl_live::LiveRegions;
@@ -29,7 +29,7 @@ pub struct Session {
     pub(crate) names: Vec<Name>,
     pub(crate) founds: LiveRegions,
     pub(crate) kepts: Vec<Kept>,
-    pub(crate) job: Option<Pending>,
+    pub(crate) job: Option<PendingJob>,
 }
 
 impl Model for Session {
@@ -37,9 +37,9 @@ impl Model for Session {
 
     ghost Value = { SessionState };
 
-    ghost use Rattle.cxl_session.specs.Inside.{state_of, HasRooms};
+    ghost use Rattle.cxl_session.specs.Inside.{session_view, HasRooms};
 
-    ghost view = { state_of };
+    ghost view = { session_view };
 
     ghost invariant = { HasRooms };
 }

@@ -40,7 +40,7 @@ impl Session {
         let Some(place) = self.place_of_name(&name) else {
             return Ok(Reply::NoRegion(name));
         };
-        let found = copy_of(alloc, self.found_at(place))?;
+        let found = copied_found(alloc, self.found_at(place))?;
         let rows = region_rows(alloc, &self.image, &self.topo, &found)?;
         let room = Vec::with_capacity(alloc, rows.len())?;
         match read_rows(&rows, regs, room) {
@@ -51,7 +51,7 @@ impl Session {
 }
 
 /// Takes memory.
-fn copy_of(alloc: Global, found: &Found) -> Result<Found, Memory>
+fn copied_found(alloc: Global, found: &Found) -> Result<Found, Memory>
     ensures { IfOk result (λ copy. copy ≡ found.now) }
 {
     let spans = Vec::from_slice(alloc, found.spans.items())?;

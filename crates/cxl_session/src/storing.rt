@@ -69,7 +69,7 @@ fn put_one<M: Media>(media: &mut M, byte: DeviceByte, bytes: &[u8]) -> Reply
     if need > free {
         return Reply::Full(Lack { need, free });
     }
-    put(media, byte, bytes);
+    put_in_block(media, byte, bytes);
     Reply::Stored(bytes.len() as u32)
 }
 
@@ -93,13 +93,13 @@ fn put_two<M: Media>(
     if need > free {
         return Reply::Full(Lack { need, free });
     }
-    put(media, first, front);
-    put(media, second, back);
+    put_in_block(media, first, front);
+    put_in_block(media, second, back);
     Reply::Stored((front.len() + back.len()) as u32)
 }
 
 /// Puts bytes into a block for which a frame is free, where it needs one.
-fn put<M: Media>(media: &mut M, byte: DeviceByte, bytes: &[u8])
+fn put_in_block<M: Media>(media: &mut M, byte: DeviceByte, bytes: &[u8])
     requires within { IsInOneBlock byte.dpa (length bytes.now) }
     requires room { need_at (M.state media.old) byte.ep byte.dpa ≤ (M.state media.old).free }
     ensures put { IsPut byte.ep byte.dpa bytes.now (M.state media.old) (M.state media.new) }

@@ -15,7 +15,7 @@ use cxl_model::{
 use cxl_move::span_byte;
 
 /// The host address that the region carries to a byte of an endpoint's device, where it carries one there.
-pub(crate) fn host_of(found: &Found, weave: &Weave, endpoint: u32, dpa: u64) -> Option<u64>
+pub(crate) fn carried_address(found: &Found, weave: &Weave, endpoint: u32, dpa: u64) -> Option<u64>
     requires { IsWovenSomewhere found.now weave.now }
     ensures some { IfSome result (λ h. (s : System) (w : WindowFields) → IsWovenIn s w found.now weave.now
         → Carries found.now w h endpoint dpa) }

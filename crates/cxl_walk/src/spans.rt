@@ -17,7 +17,7 @@ pub(crate) struct SpanByte {
 }
 
 /// The span of an endpoint's block that holds a device byte.
-pub(crate) fn span_byte(block: &Block, capacity: &Capacity, dpa: u64) -> Option<SpanByte>
+pub(crate) fn committed_byte(block: &Block, capacity: &Capacity, dpa: u64) -> Option<SpanByte>
     requires small { capacity.now.ram + capacity.now.pmem ≤ address_limit }
     requires keeps { BlockKeeps block.now capacity.now.ram capacity.now.pmem }
     requires endpoint { block.now.endpoint ≡ true }

@@ -14,7 +14,7 @@ ghost use Rattle.cxl_walk.specs.Hosts.{ComesTo, HasNoHost, IsLeastHost};
 ghost use Rattle.cxl_walk.specs.inner.WaysUp.{way_address, IsFirstWay};
 
 use crate::downward::down;
-use crate::spans::{SpanByte, span_byte};
+use crate::spans::{SpanByte, committed_byte};
 use cxl_image::Image;
 use cxl_model::{
     bytes_are_carried_one_to_one, carries_where_chain_ends, committed_spans_are_of_regions,
@@ -80,7 +80,7 @@ fn least(image: &Image, topo: &Topo, windows: &[Window], ep: u32, dpa: u64) -> O
     if block_breach(block, capacity.ram, capacity.pmem).is_some() {
         return None;
     }
-    let Some(byte) = span_byte(block, &capacity, dpa) else {
+    let Some(byte) = committed_byte(block, &capacity, dpa) else {
         return None;
     };
     first_way(image, topo, windows, ep, dpa, &byte)

@@ -15,18 +15,18 @@ use Rattle.cxl_worked.specs.Examples.{two_bridges}
 use Rattle.cxl_worked.specs.ExampleRegions.{region_of_two}
 use Rattle.cxl_machine.specs.Machine.{holding_of, region_window}
 use Rattle.cxl_machine.specs.Sound.{block_told}
-use Rattle.cxl_worked_machines.specs.Examples.{first_byte, first_piece, opened_region_with, one_block}
+use Rattle.cxl_worked_machines.specs.Examples.{first_byte, stored_piece, opened_region_with, one_block}
 use Rattle.cxl_worked_machines.proofs.ExampleBytes.{get-one_piece}
 
 key_total : IsTotalOrder key_cmp
 key_total = then_total (on_total (λ (k : Key). k.0) nat_cmp_total) (on_total (λ (k : Key). k.1) nat_cmp_total)
 
-told : (endpoint block : ℕ) → block_told one_block endpoint block ≡ cond (eq_by_cmp key_cmp (endpoint, block) (2, 0)) (Some first_piece) None
+told : (endpoint block : ℕ) → block_told one_block endpoint block ≡ cond (eq_by_cmp key_cmp (endpoint, block) (2, 0)) (Some stored_piece) None
 told endpoint block =
-    get-insert {X = List ℕ} key_total map.empty (2, 0) first_piece (endpoint, block)
-    ∙ ap (cond (eq_by_cmp key_cmp (endpoint, block) (2, 0)) (Some first_piece)) (get-empty {X = List ℕ} key_cmp (endpoint, block))
+    get-insert {X = List ℕ} key_total map.empty (2, 0) stored_piece (endpoint, block)
+    ∙ ap (cond (eq_by_cmp key_cmp (endpoint, block) (2, 0)) (Some stored_piece)) (get-empty {X = List ℕ} key_cmp (endpoint, block))
 
-told_there : block_told one_block 2 0 ≡ Some first_piece
+told_there : block_told one_block 2 0 ≡ Some stored_piece
 told_there = told 2 0
 
 abbrev holding : Holding
@@ -36,11 +36,11 @@ abbrev IsCarriedAt : ℕ → ℕ → ℕ → Type 0
 IsCarriedAt n endpoint block = Carries region_of_two (region_window two_bridges region_of_two) (region_of_two.base + 256 * n) endpoint (256 * block)
 
 -- the only piece is the first
-first_only : (n : ℕ) (bytes : List ℕ) → map.get first_byte n ≡ Some bytes → (n ≡ 0) × (first_piece ≡ bytes)
-first_only n bytes there = go (eq_by_cmp nat_cmp n 0) refl (sym (get-one_piece 0 first_piece n) ∙ there)
+first_only : (n : ℕ) (bytes : List ℕ) → map.get first_byte n ≡ Some bytes → (n ≡ 0) × (stored_piece ≡ bytes)
+first_only n bytes there = go (eq_by_cmp nat_cmp n 0) refl (sym (get-one_piece 0 stored_piece n) ∙ there)
   where
-    go : (b : Bool) → eq_by_cmp nat_cmp n 0 ≡ b → cond b (Some first_piece) None ≡ Some bytes → (n ≡ 0) × (first_piece ≡ bytes)
-    go true same is = (nat_cmp-IsAntisymmetric n 0 ((Equal-is (nat_cmp n 0)).0 same), same_Some first_piece bytes is)
+    go : (b : Bool) → eq_by_cmp nat_cmp n 0 ≡ b → cond b (Some stored_piece) None ≡ Some bytes → (n ≡ 0) × (stored_piece ≡ bytes)
+    go true same is = (nat_cmp-IsAntisymmetric n 0 ((Equal-is (nat_cmp n 0)).0 same), same_Some stored_piece bytes is)
     go false differ is = absurd (none-some bytes is)
 
 -- it is carried to the first block of the first endpoint
@@ -64,7 +64,7 @@ each other n endpoint block bytes (suc k, low, read) keeps = absurd (omega (arit
 only : (endpoint block : ℕ) (bytes : List ℕ) → block_told one_block endpoint block ≡ Some bytes → (other : Holding) × (n : ℕ) × Contains (holding ∷ []) other × KeepsPieceAt other n endpoint block bytes
 only endpoint block bytes there = go (eq_by_cmp key_cmp (endpoint, block) (2, 0)) refl (sym (told endpoint block) ∙ there)
   where
-    go : (b : Bool) → eq_by_cmp key_cmp (endpoint, block) (2, 0) ≡ b → cond b (Some first_piece) None ≡ Some bytes
+    go : (b : Bool) → eq_by_cmp key_cmp (endpoint, block) (2, 0) ≡ b → cond b (Some stored_piece) None ≡ Some bytes
         → (other : Holding) × (n : ℕ) × Contains (holding ∷ []) other × KeepsPieceAt other n endpoint block bytes
     go true same is =
         let keys : (endpoint, block) ≡ (2, 0) = exact_pairs nat_cmp nat_cmp exact_unsigned exact_unsigned (endpoint, block) (2, 0) ((Equal-is (key_cmp (endpoint, block) (2, 0))).0 same) in
@@ -75,7 +75,7 @@ only endpoint block bytes there = go (eq_by_cmp key_cmp (endpoint, block) (2, 0)
           0,
           (0, omega arith, refl),
           record {
-            piece = get-one_piece 0 first_piece 0 ∙ is;
+            piece = get-one_piece 0 stored_piece 0 ∙ is;
             carried = subst (λ (e : ℕ). IsCarriedAt 0 e block) first (subst (λ (b : ℕ). IsCarriedAt 0 2 b) second own);
           },
         )

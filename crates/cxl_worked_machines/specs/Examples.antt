@@ -190,11 +190,11 @@ abbrev pub first_byte : Contents
 first_byte = written nothing 0 (0x11 ∷ [])
 
 -- the piece that has it, and media with the block to which that is carried
-abbrev pub first_piece : List ℕ
-first_piece = piece_after nothing 0 (0x11 ∷ []) 0
+abbrev pub stored_piece : List ℕ
+stored_piece = piece_after nothing 0 (0x11 ∷ []) 0
 
 abbrev pub one_block : MediaState
-one_block = record { blocks = map.insert map.empty (2, 0) first_piece; free = 1 }
+one_block = record { blocks = map.insert map.empty (2, 0) stored_piece; free = 1 }
 
 -- beside the region with that byte a second one is being made; and the region is being released
 abbrev pub making_beside : ℕ → Machine

@@ -17,8 +17,8 @@ pub fn hint<R: Eprint + Files>(
     status: Status,
 ) -> io::Result<()> {
     match status {
-        Status::Usage => words::misused(rt, alloc, words),
-        Status::FetchFault => files::unread(rt, words),
+        Status::Usage => words::bad_words(rt, alloc, words),
+        Status::FetchFault => files::bad_file(rt, words),
         Status::BadTable(fault) => files::bad_table(rt, alloc, words, fault),
         Status::BadTopo(fault) => files::bad_topology(rt, alloc, words, fault),
         Status::BadImage(fault) => files::bad_image(rt, words, fault),

@@ -8,7 +8,7 @@ use Rattle.cxl_model.specs.System.{System}
 use Rattle.cxl_machine.specs.Machine.{Machine}
 use Rattle.cxl_machine.specs.Jobs.{create_job, create_writes}
 use Rattle.cxl_machine.specs.Requests.{AsksUnrefused, AsksCreate}
-use Rattle.cxl_session.specs.declared.pending.Pending.{Pending}
+use Rattle.cxl_session.specs.declared.pending.PendingJob.{PendingJob}
 use Rattle.cxl_session.specs.Inside.{job_fields}
 use Rattle.cxl_session.specs.State.{JobFields}
 use Rattle.cxl_session.specs.Standing.{IsKeptIn, IsJobFor}
@@ -34,6 +34,6 @@ pub record IsKeptCreate (m : Machine) (create : Create) (own : JobFields) : Type
   pub same : IsJobFor m own (create_job m.settled plan)
 
 -- that, or why it is refused
-abbrev pub IsAskedCreate : Machine → Create → Result Pending Reply → Type 0
+abbrev pub IsAskedCreate : Machine → Create → Result PendingJob Reply → Type 0
 IsAskedCreate m create (Ok pending) = IsKeptCreate m create (job_fields pending)
 IsAskedCreate m create (Err refusal) = AsksCreate m create (Err refusal)

@@ -10,7 +10,7 @@ use std::io::{self, Eprint, ErrorKind};
 use std::rt::Files;
 
 /// The first file of the command that cannot be read, and why.
-pub(crate) fn unread<R: Eprint + Files>(rt: &R, words: &[String]) -> io::Result<()> {
+pub(crate) fn bad_file<R: Eprint + Files>(rt: &R, words: &[String]) -> io::Result<()> {
     for name in words.iter().skip(1).take(count_of_files(words)) {
         if let Some(why) = why_unread(rt, name.as_str()) {
             return eprintln!(rt; "cxlplan: {name} {why}");
@@ -21,7 +21,7 @@ pub(crate) fn unread<R: Eprint + Files>(rt: &R, words: &[String]) -> io::Result<
 
 /// How many files a command names, behind its own name.
 fn count_of_files(words: &[String]) -> usize {
-    match word(words, 0) {
+    match command_word(words, 0) {
         "check" | "run" => 3,
         "plan" => 2,
         "gen" => 0,
@@ -49,7 +49,7 @@ pub(crate) fn bad_table<R: Eprint + Files>(
     words: &[String],
     fault: CedtFault,
 ) -> io::Result<()> {
-    let name = word(words, 1);
+    let name = command_word(words, 1);
     if let Some(bytes) = reread(rt, alloc, name) {
         if has_acpidump_text(bytes.as_slice()) {
             return eprintln!(rt;
@@ -75,7 +75,7 @@ pub(crate) fn bad_topology<R: Eprint + Files>(
     words: &[String],
     fault: TopoFault,
 ) -> io::Result<()> {
-    let name = word(words, 2);
+    let name = command_word(words, 2);
     match fault {
         TopoFault::Toml => bad_toml(rt, alloc, name),
         TopoFault::Key(_) => eprintln!(rt;
@@ -117,7 +117,7 @@ fn bad_toml<R: Eprint + Files>(rt: &R, alloc: Global, name: &str) -> io::Result<
 
 /// The fault of an image with the file's name.
 pub(crate) fn bad_image<R: Eprint>(rt: &R, words: &[String], fault: ImageFault) -> io::Result<()> {
-    let name = word(words, 3);
+    let name = command_word(words, 3);
     eprintln!(rt; "cxlplan: {name}: {fault}; it has to be captured with its topology")
 }
 
@@ -130,7 +130,7 @@ fn reread<R: Files>(rt: &R, alloc: Global, name: &str) -> Option<Vec<u8>> {
 }
 
 /// A word of the command line, and nothing where there is none.
-fn word(words: &[String], place: usize) -> &str {
+fn command_word(words: &[String], place: usize) -> &str {
     match words.get(place) {
         Some(word) => word.as_str(),
         None => "",

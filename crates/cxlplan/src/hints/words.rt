@@ -6,7 +6,7 @@ use std::alloc::Global;
 use std::io::{self, Eprint};
 
 /// Names the word that cannot be read.
-pub(crate) fn misused<R: Eprint>(rt: &R, alloc: Global, words: &[String]) -> io::Result<()> {
+pub(crate) fn bad_words<R: Eprint>(rt: &R, alloc: Global, words: &[String]) -> io::Result<()> {
     let Some((verb, operands)) = words.split_first() else {
         return eprintln!(rt;
             "cxlplan: no command is named, or a word is no UTF-8; see cxlplan --help"
@@ -72,7 +72,7 @@ fn no_create<R: Eprint>(rt: &R, alloc: Global, line: &str) -> io::Result<()> {
 fn bad_line<R: Eprint>(rt: &R, line: &str, bad: BadLine) -> io::Result<()> {
     let at = bad.at;
     let word = word_at(line, at as usize);
-    let why = why_text(bad.why);
+    let why = advice(bad.why);
     if word.is_empty() || bad.why == Why::Long {
         eprintln!(rt; "cxlplan: in LINE at byte {at}: {why}; see cxlplan --help")
     } else {
@@ -92,7 +92,7 @@ fn word_at(line: &str, at: usize) -> &str {
 }
 
 /// What to write in the place of a word.
-fn why_text(why: Why) -> &'static str {
+fn advice(why: Why) -> &'static str {
     match why {
         Why::Verb => "no command of a script; plan wants create NAME KIND SIZE EP..",
         Why::Missing =>

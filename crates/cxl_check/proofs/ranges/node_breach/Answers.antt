@@ -4,13 +4,13 @@ use Rattle.cxl_model.specs.Accepted.{breaks}
 use Rattle.cxl_check.proofs.RuleTests.{found_of_all}
 use Rattle.cxl_check.proofs.ranges.node_breach.Goals as goal
 
-pub least_rule-rule-requires-clause-met : goal.least_rule-rule-requires-clause-met
-least_rule-rule-requires-clause-met c = c.loop-i.invariant.met
+pub least_broken-rule-requires-clause-met : goal.least_broken-rule-requires-clause-met
+least_broken-rule-requires-clause-met c = c.loop-i.invariant.met
 
 pub loop-i-preserved : goal.loop-i-preserved
 loop-i-preserved c = record {
-  met = c.least_rule-rule.ensures.met;
-  found = c.earlier_in_node-first.ensures (breaks (as_system c.args.host.now)) c.args.node c.loop-i.invariant.found c.least_rule-rule.ensures.least;
+  met = c.least_broken-rule.ensures.met;
+  found = c.earlier_in_node-first.ensures (breaks (as_system c.args.host.now)) c.args.node c.loop-i.invariant.found c.least_broken-rule.ensures.least;
 }
 
 pub returns-clause-met : goal.returns-clause-met

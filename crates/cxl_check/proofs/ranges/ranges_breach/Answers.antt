@@ -10,7 +10,7 @@ node_breach-found-requires-clause-met c = c.loop-node.invariant.met
 pub loop-node-preserved : goal.loop-node-preserved
 loop-node-preserved c = record {
   met = c.node_breach-found.ensures.met;
-  found = c.earlier-first.ensures (breaks (as_system c.args.host.now)) c.loop-node.invariant.found c.node_breach-found.ensures.found;
+  found = c.earlier_among_nodes-first.ensures (breaks (as_system c.args.host.now)) c.loop-node.invariant.found c.node_breach-found.ensures.found;
 }
 
 pub returns-clause-met : goal.returns-clause-met

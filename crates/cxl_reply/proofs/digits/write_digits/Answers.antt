@@ -5,7 +5,7 @@ use Rattle.cxl_reply.proofs.digits.write_digits.Goals as goal
 
 pub loop-i-preserved : goal.loop-i-preserved
 loop-i-preserved c =
-    encode_step lower_digits c.args.bytes.now c.loop-i.digits c.loop-i.i _ _ (omega arith) (omega arith) c.digit_of.ensures c.digit_of-in-loop-i.ensures c.loop-i.invariant
+    encode_step lower_digits c.args.bytes.now c.loop-i.digits c.loop-i.i _ _ (omega arith) (omega arith) c.lower_digit.ensures c.lower_digit-in-loop-i.ensures c.loop-i.invariant
 
 pub returns : goal.returns
 returns c =

@@ -4,7 +4,7 @@ use Rattle.cxl_script.proofs.digits.write_bytes.Goals as goal
 
 pub loop-i-preserved : goal.loop-i-preserved
 loop-i-preserved c =
-    byte_step c.args.digits.now c.loop-i.bytes c.loop-i.i _ (omega arith) (omega arith) c.byte_of.ensures c.loop-i.invariant
+    byte_step c.args.digits.now c.loop-i.bytes c.loop-i.i _ (omega arith) (omega arith) c.pair_value.ensures c.loop-i.invariant
 
 pub returns : goal.returns
 returns c =

@@ -11,20 +11,20 @@ need_stays ep dpa other place bytes old new put apart =
     ap (λ (blocks : Blocks). frames_needed blocks (key_of other place)) put.blocks
     ∙ ap (λ (o : Option (List ℕ)). cond (is_some o) 0 1) (insert_other old.blocks (key_of ep dpa) (key_of other place) _ (λ same. apart (sym same)))
 
-pub put-requires-2-clause-room : goal.put-requires-2-clause-room
-put-requires-2-clause-room g c =
+pub put_in_block-requires-2-clause-room : goal.put_in_block-requires-2-clause-room
+put_in_block-requires-2-clause-room g c =
     let old : MediaState = g.M.Media.state c.args.media.now in
-    let between : MediaState = g.M.Media.state c.put.new.media in
+    let between : MediaState = g.M.Media.state c.put_in_block.new.media in
     let still : need_at between c.args.second.ep c.args.second.dpa ≡ need_at old c.args.second.ep c.args.second.dpa =
-    need_stays c.args.first.ep c.args.first.dpa c.args.second.ep c.args.second.dpa c.args.front.now old between c.put.ensures.put c.requires.apart in
+    need_stays c.args.first.ep c.args.first.dpa c.args.second.ep c.args.second.dpa c.args.front.now old between c.put_in_block.ensures.put c.requires.apart in
     let one : c.need.result ≡ need_at old c.args.first.ep c.args.first.dpa = c.need.ensures in
     let two : c.need-2.result ≡ need_at old c.args.second.ep c.args.second.dpa = c.need-2.ensures in
-    omega (arith, still, one, two, c.put.ensures.taken, c.free-free.ensures, c.if-need-free.false)
+    omega (arith, still, one, two, c.put_in_block.ensures.taken, c.free-free.ensures, c.if-need-free.false)
 
 pub returns-clause-puts : goal.returns-clause-puts
 returns-clause-puts g c =
     let old : MediaState = g.M.Media.state c.args.media.now in
-    let between : MediaState = g.M.Media.state c.put.new.media in
+    let between : MediaState = g.M.Media.state c.put_in_block.new.media in
     let one : c.need.result ≡ need_at old c.args.first.ep c.args.first.dpa = c.need.ensures in
     let two : c.need-2.result ≡ need_at old c.args.second.ep c.args.second.dpa = c.need-2.ensures in
-    both_stored between (omega (arith, one, two, c.free-free.ensures, c.if-need-free.false)) c.put.ensures.put c.put-2.ensures.put refl
+    both_stored between (omega (arith, one, two, c.free-free.ensures, c.if-need-free.false)) c.put_in_block.ensures.put c.put_in_block-2.ensures.put refl

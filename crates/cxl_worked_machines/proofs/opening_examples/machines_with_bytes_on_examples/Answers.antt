@@ -10,7 +10,7 @@ use Rattle.cxl_machine.specs.Machine.{free_frames}
 use Rattle.cxl_machine.specs.Outcomes.{NoFault}
 use Rattle.cxl_machine.specs.Replies.{becomes}
 use Rattle.cxl_machine.specs.Sound.{IsMachine}
-use Rattle.cxl_worked_machines.specs.Examples.{auto, b, create_named, job_b, plan_b, first_byte, first_piece, opened, opened_with, opened_region_with, making_beside, opened_releasing}
+use Rattle.cxl_worked_machines.specs.Examples.{auto, b, create_named, job_b, plan_b, first_byte, stored_piece, opened, opened_with, opened_region_with, making_beside, opened_releasing}
 use Rattle.cxl_worked_machines.proofs.ExampleBytes.{where_false, nothing, get-nothing, len-nothing, len-one_piece}
 use Rattle.cxl_worked_machines.proofs.ExampleMedia.{one_block_is}
 use Rattle.cxl_worked_machines.proofs.opening_examples.machines_with_bytes_on_examples.Goals as goal
@@ -63,10 +63,10 @@ releasing c =
     c.commands_keep_machines.ensures.machine (opened_releasing 0) (commands.Step 2) NoFault _ begun tt stepped_release
 
 pub returns-clause-stored : goal.returns-clause-stored
-returns-clause-stored c = record { machine = stored c; registers = refl; memory = one_block_is; frames = ap (λ (n : ℕ). 1 + (0 + n)) (len-one_piece 0 first_piece) }
+returns-clause-stored c = record { machine = stored c; registers = refl; memory = one_block_is; frames = ap (λ (n : ℕ). 1 + (0 + n)) (len-one_piece 0 stored_piece) }
 
 pub returns-clause-making : goal.returns-clause-making
-returns-clause-making c = record { machine = making c; registers = refl; memory = one_block_is; frames = ap (λ (n : ℕ). 1 + (0 + n)) (len-one_piece 0 first_piece) }
+returns-clause-making c = record { machine = making c; registers = refl; memory = one_block_is; frames = ap (λ (n : ℕ). 1 + (0 + n)) (len-one_piece 0 stored_piece) }
 
 pub returns-clause-releasing : goal.returns-clause-releasing
-returns-clause-releasing c = record { machine = releasing c; registers = refl; memory = one_block_is; frames = ap (λ (n : ℕ). 1 + (0 + n)) (len-one_piece 0 first_piece) }
+returns-clause-releasing c = record { machine = releasing c; registers = refl; memory = one_block_is; frames = ap (λ (n : ℕ). 1 + (0 + n)) (len-one_piece 0 stored_piece) }

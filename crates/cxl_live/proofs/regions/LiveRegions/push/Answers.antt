@@ -6,8 +6,8 @@ use Rattle.cxl_live.specs.ByBase.{base_at, AreByBase}
 use Rattle.cxl_live.proofs.Bases.{as_many, one_more}
 use Rattle.cxl_live.proofs.regions.LiveRegions.push.Goals as goal
 
-pub enter-requires-clause-room : goal.enter-requires-clause-room
-enter-requires-clause-room c =
+pub insert_by_base-requires-clause-room : goal.insert_by_base-requires-clause-room
+insert_by_base-requires-clause-room c =
     let many = as_many c.self.inside.founds.items c.self.inside.bases.items c.self.invariant.order in
     let same = ap length c.self.view_is in
     omega (arith, many, same, c.requires, c.self.invariant.bases_room)
@@ -29,8 +29,8 @@ invariant_of-self c =
     record {
       few = omega (arith, many, same, c.requires);
       founds_room = omega (arith, room, c.push-found.ensures.capacity);
-      bases_room = omega (arith, c.self.invariant.bases_room, c.enter.ensures.capacity);
+      bases_room = omega (arith, c.self.invariant.bases_room, c.insert_by_base.ensures.capacity);
       order =
-          subst (λ (fs : List Found). AreByBase fs c.enter.new.bases.items) (sym items)
-          (one_more founds bases c.self.invariant.order c.args.found entry c.enter.new.bases.items last c.enter.ensures.same c.enter.ensures.rising);
+          subst (λ (fs : List Found). AreByBase fs c.insert_by_base.new.bases.items) (sym items)
+          (one_more founds bases c.self.invariant.order c.args.found entry c.insert_by_base.new.bases.items last c.insert_by_base.ensures.same c.insert_by_base.ensures.rising);
     }

@@ -74,8 +74,8 @@ overflow_cast-result g c =
     two.from_at c.side-from.ensures c.in_ok-pieces.ensures in
     omega (arith, few, c.len-then-len-free.ensures)
 
-pub carried-requires : goal.carried-requires
-carried-requires g c =
+pub pair_details-requires : goal.pair_details-requires
+pair_details-requires g c =
     let holds = c.requires.1 in
     let two = c.in-Ok.ensures c.requires.0 holds.stands in
     let few =
@@ -109,6 +109,6 @@ returns-clause-answer g c = λ m holds.
     c.carried_pieces_are_answers.ensures.copied c.args.self.now old (g.M.Media.state c.copy_bytes.new.media) m c.args.pair.now c.in-Ok.places.0 c.in-Ok.places.1
     c.side-from.result.found.now c.side-to.result.found.now c.side-from.result.window.now c.side-to.result.window.now pieces others holds two c.side-from.ensures c.side-to.ensures c.in_ok-pieces.ensures
     c.in_ok-others.ensures room c.copy_bytes.ensures.copied c.copy_bytes.ensures.frames in
-    let told : record { from = c.args.pair.now.from; to = c.args.pair.now.to; pieces = length pieces } ≡ c.carried.result =
-    sym (c.carried.ensures ∙ (λ i. record { from = c.args.pair.now.from; to = c.args.pair.now.to; pieces = length (c.deref-2.ensures.value i) })) in
+    let told : record { from = c.args.pair.now.from; to = c.args.pair.now.to; pieces = length pieces } ≡ c.pair_details.result =
+    sym (c.pair_details.ensures ∙ (λ i. record { from = c.args.pair.now.from; to = c.args.pair.now.to; pieces = length (c.deref-2.ensures.value i) })) in
     subst (λ (x : Carried). IsWrittenAs c.args.self.now (g.M.Media.state c.copy_bytes.new.media) (copy_answer m c.args.pair.now) (replies.Copied x)) told written

@@ -2,7 +2,7 @@ use Rattle.std.proofs.Common.{Result, Ok, sym, subst}
 use Rattle.cxl_reply.specs.declared.reply.Reply.{Reply}
 use Rattle.cxl_machine.specs.Machine.{Machine}
 use Rattle.cxl_machine.specs.Jobs.{create_job, begun}
-use Rattle.cxl_session.specs.declared.pending.Pending.{Pending}
+use Rattle.cxl_session.specs.declared.pending.PendingJob.{PendingJob}
 use Rattle.cxl_session.specs.Inside.{job_fields}
 use Rattle.cxl_session.specs.State.{SessionState}
 use Rattle.cxl_session.specs.Standing.{IsAt}
@@ -14,7 +14,7 @@ use Rattle.cxl_session.proofs.session.Session.create.Goals as goal
 pub returns-in-Err-clause-turn : goal.returns-in-Err-clause-turn
 returns-in-Err-clause-turn g c =
     create_refused c.args.self.now c.args.create.now c.in-Err.refusal
-    (λ m stands is. subst (λ (a : Result Pending Reply). IsAskedCreate m c.args.create.now a) c.in-Err.is (c.in_ok-pending.ensures.asked m stands is))
+    (λ m stands is. subst (λ (a : Result PendingJob Reply). IsAskedCreate m c.args.create.now a) c.in-Err.is (c.in_ok-pending.ensures.asked m stands is))
     (g.R.Regs.state c.args.regs.now) (g.M.Media.state c.args.media.now)
 
 pub carry_out-requires : goal.carry_out-requires
@@ -23,7 +23,7 @@ carry_out-requires g c =
     let m : Machine = c.requires.stands.0 in
     let at = c.requires.stands.1 in
     let is : IsAskedCreate m c.args.create.now (Ok c.in-Ok.pending) =
-    subst (λ (a : Result Pending Reply). IsAskedCreate m c.args.create.now a) c.in-Ok.is (c.in_ok-pending.ensures.asked m at.stands at.sound.machine) in (
+    subst (λ (a : Result PendingJob Reply). IsAskedCreate m c.args.create.now a) c.in-Ok.is (c.in_ok-pending.ensures.asked m at.stands at.sound.machine) in (
       m,
       create_job m.settled is.plan,
       subst (λ (s : SessionState). IsAt s (g.R.Regs.state c.args.regs.now) (g.M.Media.state c.args.media.now) (begun (create_job m.settled is.plan) m)) (sym c.keep.ensures)
@@ -33,7 +33,7 @@ carry_out-requires g c =
 pub returns-clause-turn : goal.returns-clause-turn
 returns-clause-turn g c =
     created (record { machine = c.asked_creates_begin_as_machines.ensures.machine; idle = c.asked_creates_begin_as_machines.ensures.idle }) c.args.self.now c.args.create.now (job_fields c.in-Ok.pending)
-    (λ m stands is. subst (λ (a : Result Pending Reply). IsAskedCreate m c.args.create.now a) c.in-Ok.is (c.in_ok-pending.ensures.asked m stands is))
+    (λ m stands is. subst (λ (a : Result PendingJob Reply). IsAskedCreate m c.args.create.now a) c.in-Ok.is (c.in_ok-pending.ensures.asked m stands is))
     c.carry_out.new.self (g.R.Regs.state c.args.regs.now) (g.R.Regs.state c.carry_out.new.regs) (g.M.Media.state c.args.media.now) (g.M.Media.state c.carry_out.new.media) c.carry_out.result
     (subst (λ (s : SessionState). IsWholeFor s c.carry_out.new.self (g.R.Regs.state c.args.regs.now) (g.R.Regs.state c.carry_out.new.regs) (g.M.Media.state c.args.media.now) (g.M.Media.state c.carry_out.new.media)
     c.carry_out.result) c.keep.ensures c.carry_out.ensures.whole)
@@ -44,7 +44,7 @@ returns-clause-refused g c = λ refused.
     let m : Machine = c.requires.stands.0 in
     let at = c.requires.stands.1 in
     let is : IsAskedCreate m c.args.create.now (Ok c.in-Ok.pending) =
-    subst (λ (a : Result Pending Reply). IsAskedCreate m c.args.create.now a) c.in-Ok.is (c.in_ok-pending.ensures.asked m at.stands at.sound.machine) in
+    subst (λ (a : Result PendingJob Reply). IsAskedCreate m c.args.create.now a) c.in-Ok.is (c.in_ok-pending.ensures.asked m at.stands at.sound.machine) in
     undone_before laws c.args.self.now c.args.create.now (job_fields c.in-Ok.pending) m is c.carry_out.new.self (g.R.Regs.state c.args.regs.now) (g.R.Regs.state c.carry_out.new.regs)
     (g.M.Media.state c.args.media.now) (g.M.Media.state c.carry_out.new.media) at.stands
     (subst (λ (s : SessionState). LeavesUndone s c.carry_out.new.self (g.R.Regs.state c.args.regs.now) (g.R.Regs.state c.carry_out.new.regs) (g.M.Media.state c.args.media.now) (g.M.Media.state c.carry_out.new.media))

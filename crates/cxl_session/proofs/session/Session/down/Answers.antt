@@ -1,11 +1,11 @@
 use Rattle.cxl_session.proofs.Loads.{kept_down, told_down}
 use Rattle.cxl_session.proofs.session.Session.down.Goals as goal
 
-pub downed-requires : goal.downed-requires
-downed-requires c =
+pub down_details-requires : goal.down_details-requires
+down_details-requires c =
     let (m, stands, is) = c.requires in
     kept_down c.args.self.now m is c.args.h c.in-Some.place (c.in-Some.ensures m stands is) c.kept_at.result.now c.kept_at.ensures
 
 pub returns-in-Some : goal.returns-in-Some
 returns-in-Some c = λ m stands is.
-    told_down c.args.self.now m is c.args.h c.in-Some.place (c.in-Some.ensures m stands is) c.kept_at.result.now c.kept_at.ensures c.name_at.result c.downed.result c.name_at.ensures c.downed.ensures
+    told_down c.args.self.now m is c.args.h c.in-Some.place (c.in-Some.ensures m stands is) c.kept_at.result.now c.kept_at.ensures c.name_at.result c.down_details.result c.name_at.ensures c.down_details.ensures

@@ -27,8 +27,8 @@ held-requires g c =
     c.side-to.result.window.now holds.stands holds.machine two c.side-from.ensures c.side-to.ensures in
     (sides.s, sides.system, sides.first)
 
-pub carried-requires : goal.carried-requires
-carried-requires g c =
+pub pair_details-requires : goal.pair_details-requires
+pair_details-requires g c =
     let holds = c.requires.1 in
     let two = c.in-Ok.ensures c.requires.0 holds.stands in
     let few =
@@ -44,6 +44,6 @@ returns-clause-answer g c = λ m holds.
     c.carried_pieces_are_answers.ensures.moved c.args.self.now (g.M.Media.state c.args.media.now) (g.M.Media.state c.move_bytes.new.media) m c.args.pair.now c.in-Ok.places.0 c.in-Ok.places.1
     c.side-from.result.found.now c.side-to.result.found.now c.side-from.result.window.now c.side-to.result.window.now pieces holds two c.side-from.ensures c.side-to.ensures c.in_ok-pieces.ensures
     c.move_bytes.ensures.moved c.move_bytes.ensures.frames in
-    let told : record { from = c.args.pair.now.from; to = c.args.pair.now.to; pieces = length pieces } ≡ c.carried.result =
-    sym (c.carried.ensures ∙ (λ i. record { from = c.args.pair.now.from; to = c.args.pair.now.to; pieces = length (c.deref-2.ensures.value i) })) in
+    let told : record { from = c.args.pair.now.from; to = c.args.pair.now.to; pieces = length pieces } ≡ c.pair_details.result =
+    sym (c.pair_details.ensures ∙ (λ i. record { from = c.args.pair.now.from; to = c.args.pair.now.to; pieces = length (c.deref-2.ensures.value i) })) in
     subst (λ (x : Carried). IsWrittenAs c.args.self.now (g.M.Media.state c.move_bytes.new.media) (move_answer m c.args.pair.now) (replies.Moved x)) told written

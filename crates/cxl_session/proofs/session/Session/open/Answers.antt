@@ -29,8 +29,8 @@ returns-in_err-founds-clause-filled g c = λ n has more.
       | inr e ↦ inr (p.1 ∙ ap (λ (f : OpenFault). Err f) (p.2 ∙ same_fault c.in_err-founds.field-0.0 (faults.Full n) _ refl e))
     ]
 
-pub enable-requires : goal.enable-requires
-enable-requires g c =
+pub enable_endpoints-requires : goal.enable_endpoints-requires
+enable_endpoints-requires g c =
     let can = subst (λ (ws : List WindowFields). CanOpen (system_of c.args.start c.args.topo ws) c.in_ok-founds.founds.items) c.deref.ensures.value c.in_ok-founds.ensures.opens in
     let regs = g.R.Regs.state c.power_on.new.self in
     let holds : regs.blocks ≡ c.args.start = at_ok c.power_on.result _ (sym c.is_err.ensures.value ∙ c.if-is_err.false) c.power_on.ensures.holds ∙ c.blocks-2.ensures.value in
@@ -45,11 +45,11 @@ pub returns-then-is_err-3-clause-half_enabled : goal.returns-then-is_err-3-claus
 returns-then-is_err-3-clause-half_enabled g c = λ is.
     let old = g.R.Regs.state c.args.regs.now in
     let mid = g.R.Regs.state c.power_on.new.self in
-    let new = g.R.Regs.state c.enable.new.regs in
+    let new = g.R.Regs.state c.enable_endpoints.new.regs in
     let on = sym c.is_err.ensures.value ∙ c.if-is_err.false in
     let holds : mid.blocks ≡ c.args.start = at_ok c.power_on.result _ on c.power_on.ensures.holds ∙ c.blocks-2.ensures.value in
     let empties = at_ok c.power_on.result _ on c.power_on.ensures.empties in
-    let stops : StopsEnabling c.deref-3.result.now mid new = at_err c.enable.result _ (sym c.is_err-3.ensures.value ∙ c.if-is_err-3.true) c.enable.ensures.stopped in
+    let stops : StopsEnabling c.deref-3.result.now mid new = at_err c.enable_endpoints.result _ (sym c.is_err-3.ensures.value ∙ c.if-is_err-3.true) c.enable_endpoints.ensures.stopped in
     let powered = sym c.is_err-2.ensures.value ∙ c.if-is_err-2.false in
     let blocks = at_ok c.power_on-2.result _ powered c.power_on-2.ensures.blocks in
     let free = at_ok c.power_on-2.result _ powered c.power_on-2.ensures.free in (
@@ -61,9 +61,9 @@ pub returns-clause-image : goal.returns-clause-image
 returns-clause-image g c =
     let can = subst (λ (ws : List WindowFields). CanOpen (system_of c.args.start c.args.topo ws) c.in_ok-founds.founds.items) c.deref.ensures.value c.in_ok-founds.ensures.opens in
     let mid = g.R.Regs.state c.power_on.new.self in
-    let new = g.R.Regs.state c.enable.new.regs in
+    let new = g.R.Regs.state c.enable_endpoints.new.regs in
     let holds : mid.blocks ≡ c.args.start = at_ok c.power_on.result _ (sym c.is_err.ensures.value ∙ c.if-is_err.false) c.power_on.ensures.holds ∙ c.blocks-2.ensures.value in
-    let sent : new.blocks ≡ blocks_sent mid.blocks (enabling c.deref-3.result.now) = at_ok c.enable.result _ (sym c.is_err-3.ensures.value ∙ c.if-is_err-3.false) c.enable.ensures.blocks in
+    let sent : new.blocks ≡ blocks_sent mid.blocks (enabling c.deref-3.result.now) = at_ok c.enable_endpoints.result _ (sym c.is_err-3.ensures.value ∙ c.if-is_err-3.false) c.enable_endpoints.ensures.blocks in
     let all : new.blocks ≡ enabled_blocks c.args.start =
     image_is c.args.topo c.args.windows.items c.args.start new.blocks c.deref-3.result.now c.in_ok-founds.founds.items can (c.deref-3.ensures.value ∙ c.in-Ok.ensures)
     (sent ∙ ap (λ (bs : List Registers). blocks_sent bs (enabling c.deref-3.result.now)) holds) in
@@ -75,7 +75,7 @@ returns-clause-opened g c =
     let founds = c.in_ok-founds.founds.items in
     let can = subst (λ (ws : List WindowFields). CanOpen (system_of c.args.start c.args.topo ws) c.in_ok-founds.founds.items) c.deref.ensures.value c.in_ok-founds.ensures.opens in
     let machine = machine_is c.openings_are_machines.ensures s c.args.topo.frames founds can c.ports_are_bytes.ensures (subst AreFrames c.frames.ensures.frames c.frames.ensures.range) in
-    let new = g.R.Regs.state c.enable.new.regs in
+    let new = g.R.Regs.state c.enable_endpoints.new.regs in
     let media = g.M.Media.state c.power_on-2.new.self in
     let powered = sym c.is_err-2.ensures.value ∙ c.if-is_err-2.false in
     let blocks = at_ok c.power_on-2.result _ powered c.power_on-2.ensures.blocks in

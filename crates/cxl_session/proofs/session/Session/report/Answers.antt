@@ -3,8 +3,8 @@ use Rattle.cxl_session.specs.State.{SessionState}
 use Rattle.cxl_session.proofs.Poisons.{live_given, touched_given, reported}
 use Rattle.cxl_session.proofs.session.Session.report.Goals as goal
 
-pub touched-requires : goal.touched-requires
-touched-requires c =
+pub touched_by_records-requires : goal.touched_by_records-requires
+touched_by_records-requires c =
     let (m, stands, is) = c.requires in
     live_given c.args.self.now m stands is c.deref.result.now c.as_slice.result.now (c.deref.ensures.value ∙ ap (λ (s : SessionState). s.windows) c.self.view_is)
     (c.as_slice.ensures ∙ ap (λ (s : SessionState). s.founds) c.self.view_is)

@@ -3,8 +3,8 @@ use Rattle.cxl_session.specs.State.{SessionState}
 use Rattle.cxl_session.proofs.Ups.{woven_there, none_more, none_there, told_there}
 use Rattle.cxl_session.proofs.session.Session.told_host.Goals as goal
 
-pub host_of-requires : goal.host_of-requires
-host_of-requires c =
+pub carried_address-requires : goal.carried_address-requires
+carried_address-requires c =
     let (m, stands, is) = c.requires in
     woven_there c.args.self.now m stands is c.loop-place.place c.found_at.result.now c.kept_at.result.now c.weave-weave.result.now c.found_at.ensures c.kept_at.ensures c.weave-weave.ensures
 

@@ -1,7 +1,7 @@
 use Rattle.std.proofs.Common.{◌≡◌, ℕ, ◌/◌, ◌%◌, [], ◌∷◌, ◌++◌, get_or, None, ◌∙◌, arith, below_more}
 use Rattle.std.proofs.lemmas.List.{length-append, get_or_append_left, get_or_push}
 use Rattle.cxl_topo.specs.Tree.{child_of}
-use Rattle.cxl_check.proofs.children.children.Goals as goal
+use Rattle.cxl_check.proofs.children.all_children.Goals as goal
 
 pub loop-place-preserved : goal.loop-place-preserved
 loop-place-preserved c =

@@ -6,7 +6,7 @@ use Rattle.cxl_deal.specs.Weaves.{WeaveFields, turns_end, dealt_slot, dealt_offs
 use Rattle.cxl_model.specs.declared.found.Found.{Found}
 use Rattle.cxl_model.specs.Regions.{weave_fields}
 use Rattle.cxl_move.proofs.Dealt.{WovenLaws, turn_fits, gathered_carries}
-use Rattle.cxl_session.proofs.upward.host_of.Goals as goal
+use Rattle.cxl_session.proofs.upward.carried_address.Goals as goal
 
 pub gather-requires-clause-fits : goal.gather-requires-clause-fits
 gather-requires-clause-fits c =

@@ -2,7 +2,7 @@ use Rattle.std.proofs.Common.{◌≡◌, ℕ, ◌<◌, false, sym, ◌∙◌, ar
 use Rattle.cxl_model.specs.Hosts.{as_system}
 use Rattle.cxl_model.specs.Accepted.{breaks}
 use Rattle.cxl_check.proofs.RuleTests.{idle_here, kept_more, broken_here, all_rules}
-use Rattle.cxl_check.proofs.ranges.least_rule.Goals as goal
+use Rattle.cxl_check.proofs.ranges.least_broken.Goals as goal
 
 pub returns-then-not-d-clause-least : goal.returns-then-not-d-clause-least
 returns-then-not-d-clause-least c =

@@ -2,7 +2,7 @@ use Rattle.std.proofs.Common.{ℕ, arith, below_more}
 use Rattle.std.proofs.lemmas.Option.{slice_get_within}
 use Rattle.cxl_regs.specs.declared.decoder.Decoder.{Decoder}
 use Rattle.cxl_walk.specs.inner.WaysUp.{IsSpanByte}
-use Rattle.cxl_walk.proofs.spans.span_byte.Goals as goal
+use Rattle.cxl_walk.proofs.spans.committed_byte.Goals as goal
 
 pub loop-i-preserved : goal.loop-i-preserved
 loop-i-preserved c =

@@ -1,6 +1,6 @@
 use Rattle.std.proofs.Common.{◌≡◌, length}
 use Rattle.cxl_check.specs.inner.Children.{AreFirstChildren}
-use Rattle.cxl_check.proofs.children.children.Given as goal
+use Rattle.cxl_check.proofs.children.all_children.Given as goal
 
 abbrev pub invariant-loop-place : goal.invariant-loop-place
 invariant-loop-place l = record {

@@ -3,7 +3,7 @@ use Rattle.std.proofs.lemmas.List.{take_all}
 use Rattle.cxl_bus.specs.Trail.{blocks_sent, trail_with}
 use Rattle.cxl_session.specs.Opening.{enabling}
 use Rattle.cxl_session.proofs.Enabling.{enabled_none, enabled_more}
-use Rattle.cxl_session.proofs.opening.enable.Goals as goal
+use Rattle.cxl_session.proofs.opening.enable_endpoints.Goals as goal
 
 pub loop-node-init : goal.loop-node-init
 loop-node-init g c = enabled_none c.args.endpoints.now (g.R.Regs.state c.args.regs.now)

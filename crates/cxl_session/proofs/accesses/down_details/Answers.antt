@@ -3,7 +3,7 @@ use Rattle.cxl_deal.specs.Weaves.{WeaveFields, dealt_slot}
 use Rattle.cxl_machine.specs.Machine.{region_window}
 use Rattle.cxl_live.proofs.Hosts.{host_from, host_below}
 use Rattle.cxl_session.proofs.Downs.{downed_is, downed_by_chain}
-use Rattle.cxl_session.proofs.accesses.downed.Goals as goal
+use Rattle.cxl_session.proofs.accesses.down_details.Goals as goal
 
 pub deal-dealt-requires-clause-from : goal.deal-dealt-requires-clause-from
 deal-dealt-requires-clause-from c =

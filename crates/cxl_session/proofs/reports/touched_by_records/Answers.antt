@@ -5,7 +5,7 @@ use Rattle.std.proofs.lemmas.Slice.Zip.{all_zipped_more}
 use Rattle.cxl_model.specs.declared.poison.Entry.{Entry}
 use Rattle.cxl_model.specs.declared.poison.Poisoned.{Poisoned}
 use Rattle.cxl_poison.specs.Pieces.{ArePoisonedPieces}
-use Rattle.cxl_session.proofs.reports.touched.Goals as goal
+use Rattle.cxl_session.proofs.reports.touched_by_records.Goals as goal
 
 pub loop-record-preserved : goal.loop-record-preserved
 loop-record-preserved c =
