@@ -19,7 +19,7 @@ use std::marker::Model;
 
 /// The register writes that make a region, from its endpoints up, or that end one, from its bridges down, and how
 /// many of them are made. It takes all its memory when it is made. (This project's rule.)
-#[derive(Debug, Drop)]
+#[derive(Drop)]
 pub struct Job {
     writes: Vec<Write>,
     done: usize,

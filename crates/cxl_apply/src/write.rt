@@ -1,5 +1,5 @@
 /// One register write of a job, and the value that takes it back.
-#[derive(Clone, Copy, Debug, PartialEq, Eq)]
+#[derive(Clone, Copy, PartialEq, Eq)]
 pub struct Write {
     pub node: u32,
     /// The offset of the word in the node's block, in bytes.
@@ -9,7 +9,7 @@ pub struct Write {
 }
 
 /// What a step of a job came to.
-#[derive(Clone, Copy, Debug, PartialEq, Eq)]
+#[derive(Clone, Copy, PartialEq, Eq)]
 pub enum Stepped {
     /// It was the last.
     Done,

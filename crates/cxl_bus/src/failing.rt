@@ -16,7 +16,7 @@ const ROOM: usize = 65_536;
 
 /// A bus whose reads and writes fail at the calls of a list, numbered from 1 together, and a write also
 /// where 65,536 were answered `Ok` since it was powered on. Nothing else fails. It tells its trail.
-#[derive(Debug, Drop)]
+#[derive(Drop)]
 pub struct FailingBus {
     bus: SimBus,
     counters: FailingCalls,

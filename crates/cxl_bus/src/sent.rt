@@ -1,5 +1,5 @@
 /// A write that was answered `Ok`.
-#[derive(Clone, Copy, Debug, PartialEq, Eq)]
+#[derive(Clone, Copy, PartialEq, Eq)]
 pub struct Sent {
     pub node: u32,
     pub off: u32,

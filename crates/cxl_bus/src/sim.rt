@@ -8,7 +8,7 @@ use std::alloc::Global;
 use std::marker::Model;
 
 /// The simulator's bus: it never fails, and it tells no trail. Contracts see it as its blocks.
-#[derive(Debug, Drop)]
+#[derive(Drop)]
 pub struct SimBus {
     blocks: Vec<Block>,
 }

@@ -12,7 +12,7 @@ use cxl_enc::FixedList;
 use std::marker::Model;
 
 /// The header's fields, but for the signature, the length and the checksum, which follow from the table.
-#[derive(Clone, Copy, Debug, PartialEq, Eq)]
+#[derive(Clone, Copy, PartialEq, Eq)]
 pub struct Head {
     pub revision: u8,
     pub oem_id: [u8; 6],
@@ -23,7 +23,7 @@ pub struct Head {
 }
 
 /// A record of the table.
-#[derive(Debug, Drop)]
+#[derive(Drop)]
 pub enum Record {
     Chbs(Chbs),
     Cfmws(Cfmws),
@@ -32,7 +32,7 @@ pub enum Record {
 }
 
 /// A CEDT: at most 64 records each are CHBS, CFMWS and CXIMS, and its text has at most 1,048,576 bytes.
-#[derive(Debug, Drop)]
+#[derive(Drop)]
 pub struct Cedt {
     head: Head,
     records: FixedList<Record>,

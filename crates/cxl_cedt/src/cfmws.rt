@@ -6,7 +6,7 @@ use std::marker::Model;
 
 /// A CXL fixed memory window structure: a range of host addresses over some host bridges. Its codes are
 /// known, and it has one target for each way.
-#[derive(Debug, Drop)]
+#[derive(Drop)]
 pub struct Cfmws {
     base: u64,
     size: u64,

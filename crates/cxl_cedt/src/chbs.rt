@@ -1,5 +1,5 @@
 /// A CXL host bridge structure.
-#[derive(Clone, Copy, Debug, PartialEq, Eq)]
+#[derive(Clone, Copy, PartialEq, Eq)]
 pub struct Chbs {
     /// The bridge's unique number, which windows name as a target.
     pub uid: u32,

@@ -4,7 +4,7 @@ use cxl_enc::FixedList;
 use std::marker::Model;
 
 /// A CXL XOR interleave math structure: the maps of one granularity. Its code is known.
-#[derive(Debug, Drop)]
+#[derive(Drop)]
 pub struct Cxims {
     gran: u8,
     maps: FixedList<u64>,

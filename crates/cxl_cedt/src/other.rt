@@ -4,7 +4,7 @@ use cxl_enc::FixedList;
 use std::marker::Model;
 
 /// A record of another type, kept byte for byte.
-#[derive(Debug, Drop)]
+#[derive(Drop)]
 pub struct Other {
     kind: u8,
     reserved: u8,

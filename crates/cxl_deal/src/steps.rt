@@ -8,7 +8,7 @@ use cxl_enc::Factors;
 use cxl_num::{factor_of, low_bits, ways_by};
 
 /// Where a byte of a region is dealt: the slot, and how many bytes into the slot's span.
-#[derive(Clone, Copy, Debug, PartialEq, Eq)]
+#[derive(Clone, Copy, PartialEq, Eq)]
 pub struct Dealt {
     pub slot: u32,
     pub offset: u64,

@@ -13,7 +13,7 @@ use std::marker::Model;
 /// code, over `t * 2^(root_bits + low_bits)` ways, t being 3 where `third` and else 1. Under XOR the
 /// parities under the first `root_bits` maps stand in place of as many chunk bits. (CXL interleave
 /// arithmetic, CXIMS.)
-#[derive(Clone, Copy, Debug, PartialEq, Eq)]
+#[derive(Clone, Copy, PartialEq, Eq)]
 pub struct Weave {
     base: u64,
     gran: u8,

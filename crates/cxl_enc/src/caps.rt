@@ -2,14 +2,14 @@ ghost use Rattle.std.specs.Prelude.{◌≡◌, ◌*◌, ◌<◌, IsTrue};
 ghost use Rattle.cxl_enc.specs.Caps.{targets_of, has_bit, is_legal_cap, has_named_bits, has_own_bits, are_caps, bit_of, word_of};
 
 /// The two kinds of device memory: volatile and persistent.
-#[derive(Clone, Copy, Debug, PartialEq, Eq)]
+#[derive(Clone, Copy, PartialEq, Eq)]
 pub enum MemKind {
     Ram,
     Pmem,
 }
 
 /// What a decoder block can do, as its capability word states it.
-#[derive(Clone, Copy, Debug, PartialEq, Eq)]
+#[derive(Clone, Copy, PartialEq, Eq)]
 pub struct Caps {
     /// How many decoders: 1, 2, 4, 6, 8 or 10.
     pub decoders: u8,

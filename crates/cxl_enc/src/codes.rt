@@ -95,7 +95,7 @@ fn gran_code_in_table(bytes: u64) -> Option<u8>
 }
 
 /// Ways `t * 2^k`: `third` where t is 3 and not 1, and `bits` is k.
-#[derive(Clone, Copy, Debug, PartialEq, Eq)]
+#[derive(Clone, Copy, PartialEq, Eq)]
 pub struct Factors {
     pub third: bool,
     pub bits: u8,

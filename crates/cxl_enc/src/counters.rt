@@ -5,7 +5,7 @@ use std::marker::Model;
 
 /// The counters of an object in memory, and the numbers of its calls that are to fail, counted from 1. A counter
 /// that has reached 2^64 - 1 stays there.
-#[derive(Debug, Drop)]
+#[derive(Drop)]
 pub struct FailingCalls {
     fails: Vec<u64>,
     calls: u64,

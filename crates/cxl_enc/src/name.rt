@@ -8,7 +8,7 @@ use std::marker::Model;
 const ROOM: usize = 15;
 
 /// A name of a node or a region: 1 to 15 ASCII letters, digits and `_`.
-#[derive(Clone, Copy, Debug, PartialEq, Eq)]
+#[derive(Clone, Copy, PartialEq, Eq)]
 pub struct Name {
     len: u8,
     // The bytes past `len` are zero, so that equal names are equal bytes.

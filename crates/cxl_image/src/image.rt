@@ -12,7 +12,7 @@ use std::alloc::Global;
 use std::marker::Model;
 
 /// The decoder blocks of all nodes of a topology, in its order. Contracts see it as the list of its blocks.
-#[derive(Debug, Drop)]
+#[derive(Drop)]
 pub struct Image {
     blocks: Vec<Block>,
 }

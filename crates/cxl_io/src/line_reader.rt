@@ -26,7 +26,7 @@ const KEPT: usize = 4_098;
 const BLOCK: usize = 4_096;
 
 /// What a reader of lines comes to.
-#[derive(Clone, Copy, Debug, PartialEq, Eq)]
+#[derive(Clone, Copy, PartialEq, Eq)]
 pub enum Taken {
     /// A line, which `line` gives.
     Line,
@@ -41,7 +41,7 @@ pub enum Taken {
 }
 
 /// Reads the lines of a source, one after another, in blocks.
-#[derive(Debug, Drop)]
+#[derive(Drop)]
 pub struct LineReader {
     line: Vec<u8>,
     block: Vec<u8>,

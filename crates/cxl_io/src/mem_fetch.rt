@@ -11,7 +11,7 @@ use std::marker::Model;
 
 /// Files in memory, each its name and its bytes, which tell their contents and the names that they were
 /// asked for. A fetch can also be told to fail at some of its calls.
-#[derive(Debug, Drop)]
+#[derive(Drop)]
 pub struct MemFetch {
     files: Vec<(String, Vec<u8>)>,
     asked: Vec<String>,

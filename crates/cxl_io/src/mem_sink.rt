@@ -11,7 +11,7 @@ use std::marker::Model;
 
 /// A sink in memory, which tells what it took. A write takes the bytes that have room, and fails where
 /// none is left. It can also be told to fail at some of its calls.
-#[derive(Debug, Drop)]
+#[derive(Drop)]
 pub struct MemSink {
     taken: Vec<u8>,
     room: u32,

@@ -10,7 +10,7 @@ use std::marker::Model;
 
 /// A source in memory, which tells the bytes that it has left. It can also be told to fail at some of its
 /// calls.
-#[derive(Debug, Drop)]
+#[derive(Drop)]
 pub struct MemSource {
     bytes: Vec<u8>,
     at: usize,

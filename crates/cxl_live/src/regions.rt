@@ -12,7 +12,7 @@ use std::marker::Model;
 pub const REGION_LIMIT: usize = 256;
 
 /// Live regions in the order in which they were made, with room for as many as may live. Contracts see them as their list.
-#[derive(Debug, Drop)]
+#[derive(Drop)]
 pub struct LiveRegions {
     founds: Vec<Found>,
     // Their bases, rising, by which a host address finds its region.

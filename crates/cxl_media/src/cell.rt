@@ -4,7 +4,7 @@ ghost use Rattle.cxl_media.specs.Table.{key_at};
 use cxl_pool::Frame;
 
 /// A block of the map and the frame that holds its bytes.
-#[derive(Debug, Drop)]
+#[derive(Drop)]
 pub struct Cell {
     /// The block's number.
     pub number: u64,

@@ -8,7 +8,7 @@ use cxl_enc::Memory;
 use std::alloc::Global;
 
 /// A block had to be added and no frame was free.
-#[derive(Clone, Copy, Debug, PartialEq, Eq)]
+#[derive(Clone, Copy, PartialEq, Eq)]
 pub struct Full;
 
 /// The memory of all endpoints: a map from an endpoint's node number and a block number to 256 bytes, and a number of

@@ -5,7 +5,7 @@ ghost use Rattle.cxl_media.specs.Roll.{told_key, key_at_place, IsRoll};
 use crate::media::Media;
 
 /// A block of the map: its endpoint's node number, and its own number, of 256 bytes each.
-#[derive(Clone, Copy, Debug, PartialEq, Eq)]
+#[derive(Clone, Copy, PartialEq, Eq)]
 pub struct At {
     pub ep: u32,
     pub block: u64,

@@ -1,5 +1,5 @@
 /// Host bytes that follow each other and lie on device bytes that do.
-#[derive(Clone, Copy, Debug, PartialEq, Eq)]
+#[derive(Clone, Copy, PartialEq, Eq)]
 pub struct Extent {
     /// The first host address.
     pub h: u64,

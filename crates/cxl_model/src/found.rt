@@ -8,7 +8,7 @@ use cxl_enc::{FixedList, MemKind, split};
 use cxl_window::Window;
 
 /// A region of an image: a range of host addresses that is interleaved over the spans of its endpoints.
-#[derive(Debug, Drop)]
+#[derive(Drop)]
 pub struct Found {
     /// The first host address.
     pub base: u64,

@@ -4,7 +4,7 @@ use cxl_regs::Decoder;
 use cxl_span::{Room, SpanFault};
 
 /// The registers that a plan gives to one decoder.
-#[derive(Clone, Copy, Debug, PartialEq, Eq)]
+#[derive(Clone, Copy, PartialEq, Eq)]
 pub struct Row {
     pub node: u32,
     /// The decoder's number.
@@ -13,7 +13,7 @@ pub struct Row {
 }
 
 /// A plan of a new region: the decoders that make it, in rising node order.
-#[derive(Debug, Drop)]
+#[derive(Drop)]
 pub struct Plan {
     pub name: Name,
     pub found: Found,

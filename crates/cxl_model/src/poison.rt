@@ -1,7 +1,7 @@
 use cxl_enc::FixedList;
 
 /// A poison list. (CXL Get Poison List output.)
-#[derive(Debug, Drop)]
+#[derive(Drop)]
 pub struct PoisonList {
     /// More records than these are there.
     pub more: bool,
@@ -13,7 +13,7 @@ pub struct PoisonList {
 }
 
 /// A record of a poison list. (CXL media error record.)
-#[derive(Clone, Copy, Debug, PartialEq, Eq)]
+#[derive(Clone, Copy, PartialEq, Eq)]
 pub struct Entry {
     /// The first device address, a multiple of 64.
     pub dpa: u64,
@@ -24,7 +24,7 @@ pub struct Entry {
 }
 
 /// The host bytes that a poison record touches.
-#[derive(Debug, Drop)]
+#[derive(Drop)]
 pub struct Poisoned {
     /// In the order of the device addresses.
     pub parts: FixedList<Part>,
@@ -33,7 +33,7 @@ pub struct Poisoned {
 }
 
 /// The host bytes that a poison record touches in one span.
-#[derive(Clone, Copy, Debug, PartialEq, Eq)]
+#[derive(Clone, Copy, PartialEq, Eq)]
 pub enum Part {
     Run(Run),
     /// In place of more than 64 runs.
@@ -41,7 +41,7 @@ pub enum Part {
 }
 
 /// Host bytes that follow each other.
-#[derive(Clone, Copy, Debug, PartialEq, Eq)]
+#[derive(Clone, Copy, PartialEq, Eq)]
 pub struct Run {
     /// The first host address.
     pub h: u64,
@@ -52,7 +52,7 @@ pub struct Run {
 }
 
 /// The runs of a span, where they are many.
-#[derive(Clone, Copy, Debug, PartialEq, Eq)]
+#[derive(Clone, Copy, PartialEq, Eq)]
 pub struct Wide {
     /// The first host address of the first run.
     pub first: u64,

@@ -1,7 +1,7 @@
 use cxl_enc::{FixedList, MemKind, Name};
 
 /// What is asked of a plan: a new region over these endpoints.
-#[derive(Debug, Drop)]
+#[derive(Drop)]
 pub struct Request {
     pub name: Name,
     pub kind: MemKind,

@@ -1,7 +1,7 @@
 use cxl_enc::MemKind;
 
 /// What is wanted of a pick: a region of so many ways, whatever its endpoints.
-#[derive(Clone, Copy, Debug, PartialEq, Eq)]
+#[derive(Clone, Copy, PartialEq, Eq)]
 pub struct Want {
     pub kind: MemKind,
     /// In bytes.

@@ -10,7 +10,7 @@ use std::marker::Model;
 
 /// A frame that was taken from a pool. Contracts see it as its number. It is spent by `Pool::give`; a frame that is
 /// dropped stays out of its pool for good.
-#[derive(Debug, Drop)]
+#[derive(Drop)]
 pub struct Frame {
     number: u32,
 }

@@ -18,7 +18,7 @@ use std::marker::Model;
 
 /// The HDM decoder block of a bridge, a switch (both are ports here) or an endpoint. Contracts see its
 /// registers as records.
-#[derive(Debug, Drop)]
+#[derive(Drop)]
 pub struct Block {
     cap: u32,
     endpoint: bool,

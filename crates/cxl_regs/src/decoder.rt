@@ -1,5 +1,5 @@
 /// One HDM decoder's registers.
-#[derive(Clone, Copy, Debug, PartialEq, Eq)]
+#[derive(Clone, Copy, PartialEq, Eq)]
 pub struct Decoder {
     /// The first host physical address, a multiple of 256 MiB.
     pub base: u64,

@@ -1,5 +1,5 @@
 /// What became of a write to a register word.
-#[derive(Clone, Copy, Debug, PartialEq, Eq)]
+#[derive(Clone, Copy, PartialEq, Eq)]
 pub enum Effect {
     /// The word took the bits that count.
     Written,
@@ -15,7 +15,7 @@ pub enum Effect {
 
 /// The rules of a commit, in the order in which they are judged. (CXL HDM decoder commit; `NotEnabled`,
 /// `ZeroSize` and `Select` are this project's rules.)
-#[derive(Clone, Copy, Debug, PartialEq, Eq)]
+#[derive(Clone, Copy, PartialEq, Eq)]
 pub enum CommitRule {
     /// The block is an endpoint's, and decoding is not enabled.
     NotEnabled,

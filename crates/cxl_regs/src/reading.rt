@@ -8,7 +8,7 @@ use crate::decoder::Decoder;
 use cxl_enc::{chunk_size, split, ways_of};
 
 /// A range of host addresses.
-#[derive(Clone, Copy, Debug, PartialEq, Eq)]
+#[derive(Clone, Copy, PartialEq, Eq)]
 pub struct Range {
     /// The first address.
     pub base: u64,

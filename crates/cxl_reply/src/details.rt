@@ -2,7 +2,7 @@ use cxl_enc::{FixedList, Name};
 use cxl_model::{Extent, Found, PoisonList, Poisoned};
 
 /// A region that was made.
-#[derive(Clone, Copy, Debug, PartialEq, Eq)]
+#[derive(Clone, Copy, PartialEq, Eq)]
 pub struct Named {
     pub name: Name,
     /// The index of its window.
@@ -17,7 +17,7 @@ pub struct Named {
 }
 
 /// A region with its registers.
-#[derive(Debug, Drop)]
+#[derive(Drop)]
 pub struct Shown {
     pub name: Name,
     pub found: Found,
@@ -26,7 +26,7 @@ pub struct Shown {
 }
 
 /// The words of a decoder from base low to tail high.
-#[derive(Clone, Copy, Debug, PartialEq, Eq)]
+#[derive(Clone, Copy, PartialEq, Eq)]
 pub struct ShownRow {
     pub node: u32,
     pub decoder: u8,
@@ -34,7 +34,7 @@ pub struct ShownRow {
 }
 
 /// Where a host address goes.
-#[derive(Clone, Copy, Debug, PartialEq, Eq)]
+#[derive(Clone, Copy, PartialEq, Eq)]
 pub struct Downed {
     pub h: u64,
     /// Of the region that holds it.
@@ -52,7 +52,7 @@ pub struct Downed {
 }
 
 /// A port on an address's way.
-#[derive(Clone, Copy, Debug, PartialEq, Eq)]
+#[derive(Clone, Copy, PartialEq, Eq)]
 pub struct Via {
     pub node: u32,
     pub decoder: u8,
@@ -61,7 +61,7 @@ pub struct Via {
 }
 
 /// Which host address goes to a device byte.
-#[derive(Clone, Copy, Debug, PartialEq, Eq)]
+#[derive(Clone, Copy, PartialEq, Eq)]
 pub struct Upped {
     pub h: u64,
     /// Of the region that holds it.
@@ -69,7 +69,7 @@ pub struct Upped {
 }
 
 /// A poison list, and the host bytes that each of its records touches.
-#[derive(Debug, Drop)]
+#[derive(Drop)]
 pub struct Report {
     /// The endpoint's node number.
     pub endpoint: u32,
@@ -81,7 +81,7 @@ pub struct Report {
 }
 
 /// A job that was begun.
-#[derive(Clone, Copy, Debug, PartialEq, Eq)]
+#[derive(Clone, Copy, PartialEq, Eq)]
 pub struct Begun {
     /// Of the region that it makes or ends.
     pub name: Name,
@@ -90,35 +90,35 @@ pub struct Begun {
 }
 
 /// How far a job is, in register writes.
-#[derive(Clone, Copy, Debug, PartialEq, Eq)]
+#[derive(Clone, Copy, PartialEq, Eq)]
 pub struct Progress {
     pub done: u32,
     pub total: u32,
 }
 
 /// The frames that are needed, and those that are free.
-#[derive(Clone, Copy, Debug, PartialEq, Eq)]
+#[derive(Clone, Copy, PartialEq, Eq)]
 pub struct Lack {
     pub need: u32,
     pub free: u32,
 }
 
 /// A decoder of a node.
-#[derive(Clone, Copy, Debug, PartialEq, Eq)]
+#[derive(Clone, Copy, PartialEq, Eq)]
 pub struct Spot {
     pub node: u32,
     pub decoder: u8,
 }
 
 /// The records that a poison list says it has, and those for which it has room.
-#[derive(Clone, Copy, Debug, PartialEq, Eq)]
+#[derive(Clone, Copy, PartialEq, Eq)]
 pub struct Counted {
     pub said: u32,
     pub room: u32,
 }
 
 /// A job that the bus stopped, and how far it is, in register writes.
-#[derive(Clone, Copy, Debug, PartialEq, Eq)]
+#[derive(Clone, Copy, PartialEq, Eq)]
 pub struct Pending {
     /// Of the region that it makes or ends.
     pub name: Name,
@@ -127,7 +127,7 @@ pub struct Pending {
 }
 
 /// The device bytes that a range lies on.
-#[derive(Debug, Drop)]
+#[derive(Drop)]
 pub struct Extents {
     /// In rising host order.
     pub extents: FixedList<Extent>,
@@ -136,7 +136,7 @@ pub struct Extents {
 }
 
 /// How many bytes of a range lie on each slot.
-#[derive(Debug, Drop)]
+#[derive(Drop)]
 pub struct Spread {
     /// By slot; 0 past the ways.
     pub bytes: [u64; 16],
@@ -145,7 +145,7 @@ pub struct Spread {
 }
 
 /// A region was given the bytes of another.
-#[derive(Clone, Copy, Debug, PartialEq, Eq)]
+#[derive(Clone, Copy, PartialEq, Eq)]
 pub struct Carried {
     pub from: Name,
     pub to: Name,
@@ -154,7 +154,7 @@ pub struct Carried {
 }
 
 /// The sizes of two regions, in bytes.
-#[derive(Clone, Copy, Debug, PartialEq, Eq)]
+#[derive(Clone, Copy, PartialEq, Eq)]
 pub struct Sizes {
     pub from: u64,
     pub to: u64,

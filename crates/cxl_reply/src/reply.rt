@@ -7,7 +7,7 @@ use cxl_model::PlanFault;
 use cxl_script::BadLine;
 
 /// What a command is answered. (This project's rule.)
-#[derive(Debug, Drop)]
+#[derive(Drop)]
 pub enum Reply {
     Created(Named),
     Destroyed(Name),

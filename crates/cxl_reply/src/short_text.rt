@@ -14,7 +14,7 @@ use std::marker::Model;
 const SHORT_LIMIT: usize = 128;
 
 /// A text of at most 128 bytes. Contracts see it as the list of its bytes. It takes no memory.
-#[derive(Debug, Drop)]
+#[derive(Drop)]
 pub struct ShortText {
     text: ArrayVec<u8, SHORT_LIMIT>,
 }

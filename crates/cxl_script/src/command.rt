@@ -1,7 +1,7 @@
 use cxl_enc::{FixedList, MemKind, Name};
 
 /// What a line of a script asks for.
-#[derive(Debug, Drop)]
+#[derive(Drop)]
 pub enum Command {
     /// Make a region.
     Create(Create),
@@ -38,7 +38,7 @@ pub enum Command {
 }
 
 /// A region to be made: over named endpoints, or over a number of endpoints that are to be picked.
-#[derive(Debug, Drop)]
+#[derive(Drop)]
 pub struct Create {
     pub name: Name,
     pub kind: MemKind,
@@ -53,7 +53,7 @@ pub struct Create {
 }
 
 /// A byte of an endpoint's device.
-#[derive(Clone, Copy, Debug, PartialEq, Eq)]
+#[derive(Clone, Copy, PartialEq, Eq)]
 pub struct Up {
     pub endpoint: Name,
     /// The device address.
@@ -61,7 +61,7 @@ pub struct Up {
 }
 
 /// Bytes to be read.
-#[derive(Clone, Copy, Debug, PartialEq, Eq)]
+#[derive(Clone, Copy, PartialEq, Eq)]
 pub struct Load {
     /// The first host address.
     pub h: u64,
@@ -70,7 +70,7 @@ pub struct Load {
 }
 
 /// Bytes to be written.
-#[derive(Debug, Drop)]
+#[derive(Drop)]
 pub struct Store {
     /// The first host address.
     pub h: u64,
@@ -79,7 +79,7 @@ pub struct Store {
 }
 
 /// The poison list of an endpoint, as its device gave it.
-#[derive(Debug, Drop)]
+#[derive(Drop)]
 pub struct Poison {
     pub endpoint: Name,
     /// At least one.
@@ -87,7 +87,7 @@ pub struct Poison {
 }
 
 /// A range of host bytes.
-#[derive(Clone, Copy, Debug, PartialEq, Eq)]
+#[derive(Clone, Copy, PartialEq, Eq)]
 pub struct Reach {
     /// The first host address.
     pub h: u64,
@@ -96,7 +96,7 @@ pub struct Reach {
 }
 
 /// Two regions, by their names.
-#[derive(Clone, Copy, Debug, PartialEq, Eq)]
+#[derive(Clone, Copy, PartialEq, Eq)]
 pub struct Pair {
     pub from: Name,
     pub to: Name,

@@ -11,7 +11,7 @@ use cxl_enc::{FixedList, MemKind, Name};
 use std::alloc::Global;
 
 /// What a create line states before its endpoints.
-#[derive(Clone, Copy, Debug)]
+#[derive(Clone, Copy)]
 pub(crate) struct Head {
     pub(crate) name: Name,
     pub(crate) kind: MemKind,

@@ -1,7 +1,7 @@
 use std::alloc::{AllocError, AllocFailed};
 
 /// Why a line asks for nothing.
-#[derive(Clone, Copy, Debug, PartialEq, Eq)]
+#[derive(Clone, Copy, PartialEq, Eq)]
 pub enum Why {
     /// The first word is no verb, or that after `begin` is neither `create` nor `destroy`.
     Verb,
@@ -24,7 +24,7 @@ pub enum Why {
 }
 
 /// The first fault of a line.
-#[derive(Clone, Copy, Debug, PartialEq, Eq)]
+#[derive(Clone, Copy, PartialEq, Eq)]
 pub struct BadLine {
     /// The byte place at which the word begins: the line's length where a word is missing, 4,096 where the
     /// line is too long.
@@ -33,7 +33,7 @@ pub struct BadLine {
 }
 
 /// Why a line gave no command.
-#[derive(Clone, Copy, Debug, PartialEq, Eq)]
+#[derive(Clone, Copy, PartialEq, Eq)]
 pub enum LineFault {
     Bad(BadLine),
     Memory,

@@ -9,7 +9,7 @@ use memchr::memchr2;
 use std::marker::Model;
 
 /// A word of a line, and the byte place at which it begins.
-#[derive(Clone, Copy, Debug)]
+#[derive(Clone, Copy)]
 pub(crate) struct Word<'a> {
     pub(crate) at: u32,
     pub(crate) text: &'a [u8],

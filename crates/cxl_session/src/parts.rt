@@ -23,7 +23,7 @@ use cxl_script::Load;
 use std::alloc::Global;
 
 /// A byte of an endpoint's device.
-#[derive(Clone, Copy, Debug, PartialEq, Eq)]
+#[derive(Clone, Copy, PartialEq, Eq)]
 pub(crate) struct DeviceByte {
     pub(crate) ep: u32,
     /// The device address.

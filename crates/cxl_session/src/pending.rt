@@ -4,7 +4,7 @@ use cxl_model::Found;
 use cxl_walk::Kept;
 
 /// What a pending job does.
-#[derive(Clone, Copy, Debug, PartialEq, Eq)]
+#[derive(Clone, Copy, PartialEq, Eq)]
 pub enum Kind {
     /// It makes a region.
     Creates,
@@ -13,7 +13,7 @@ pub enum Kind {
 }
 
 /// A pending job, with its region and the routes of that region: so neither its end nor its undoing takes memory.
-#[derive(Debug, Drop)]
+#[derive(Drop)]
 pub struct PendingJob {
     pub kind: Kind,
     pub name: Name,

@@ -16,7 +16,7 @@ use cxl_reply::{Reply, Spot};
 use std::alloc::Global;
 
 /// The region that is to be ended: its place among the live ones, and its decoders.
-#[derive(Debug, Drop)]
+#[derive(Drop)]
 pub(crate) struct Release {
     pub(crate) place: usize,
     pub(crate) rows: Vec<Row>,

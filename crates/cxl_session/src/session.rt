@@ -21,7 +21,7 @@ use std::marker::Model;
 
 /// A session over a host: its topology, its windows, the register image, the live regions with their kept routes, and the job
 /// that is pending, if any. Contracts see it as a `SessionState`.
-#[derive(Debug, Drop)]
+#[derive(Drop)]
 pub struct Session {
     pub(crate) topo: Topo,
     pub(crate) windows: Vec<Window>,

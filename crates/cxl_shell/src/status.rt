@@ -5,7 +5,7 @@ use cxl_image::ImageFault;
 use cxl_topofile::TopoFault;
 
 /// How a run of the program ended. (This project's rule.)
-#[derive(Clone, Copy, Debug, PartialEq, Eq)]
+#[derive(Clone, Copy, PartialEq, Eq)]
 pub enum Status {
     /// The command was carried out.
     Done,

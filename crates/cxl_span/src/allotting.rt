@@ -11,7 +11,7 @@ use cxl_enc::MemKind;
 use cxl_regs::Block;
 
 /// Bytes of an endpoint's device for a new decoder.
-#[derive(Clone, Copy, Debug, PartialEq, Eq)]
+#[derive(Clone, Copy, PartialEq, Eq)]
 pub struct Span {
     /// How many bytes lie between the last span and this one: the decoder's device address skip.
     pub skip: u64,

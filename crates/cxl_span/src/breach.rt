@@ -8,7 +8,7 @@ use crate::spans::span_step;
 use cxl_regs::{Block, Decoder};
 
 /// The rule that a block breaks, from 2 to 8 for K2 to K8, and the decoder that breaks it.
-#[derive(Clone, Copy, Debug, PartialEq, Eq)]
+#[derive(Clone, Copy, PartialEq, Eq)]
 pub struct BlockBreach {
     pub rule: u8,
     pub decoder: u8,

@@ -1,7 +1,7 @@
 use cxl_enc::Name;
 
 /// A node of the tree: a host bridge, a switch or an endpoint.
-#[derive(Clone, Copy, Debug, PartialEq, Eq)]
+#[derive(Clone, Copy, PartialEq, Eq)]
 pub struct Node {
     pub name: Name,
     pub kind: NodeKind,
@@ -35,7 +35,7 @@ impl Node {
 }
 
 /// What a node is.
-#[derive(Clone, Copy, Debug, PartialEq, Eq)]
+#[derive(Clone, Copy, PartialEq, Eq)]
 pub enum NodeKind {
     /// A host bridge with the UID that its CHBS structure gives.
     Bridge(u32),
@@ -44,14 +44,14 @@ pub enum NodeKind {
 }
 
 /// The bytes of volatile and of persistent memory that an endpoint has. Volatile memory comes first.
-#[derive(Clone, Copy, Debug, PartialEq, Eq)]
+#[derive(Clone, Copy, PartialEq, Eq)]
 pub struct Capacity {
     pub ram: u64,
     pub pmem: u64,
 }
 
 /// A port of a node, by the node's number.
-#[derive(Clone, Copy, Debug, PartialEq, Eq, PartialOrd, Ord)]
+#[derive(Clone, Copy, PartialEq, Eq, PartialOrd, Ord)]
 pub struct Parent {
     pub node: u32,
     pub port: u8,

@@ -14,7 +14,7 @@ use std::cmp::Ordering;
 use std::collections::BTreeMap;
 
 /// A name as a key of a table, in the order of its bytes.
-#[derive(Clone, Copy, Debug)]
+#[derive(Clone, Copy)]
 pub struct NameKey(pub Name);
 
 impl PartialEq for NameKey {
@@ -56,7 +56,7 @@ impl Ord for NameKey {
 }
 
 /// Where to find the nodes of a tree, so that no search goes over all of them, and the UIDs of its bridges.
-#[derive(Debug, Drop)]
+#[derive(Drop)]
 pub(crate) struct Tables {
     pub(crate) children: BTreeMap<Parent, u32>,
     pub(crate) least_children: BTreeMap<u32, u32>,

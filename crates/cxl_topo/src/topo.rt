@@ -16,7 +16,7 @@ use std::marker::Model;
 
 /// A legal tree of nodes, and the frames of 256 bytes that its devices share. Contracts see it as a
 /// `Tree`: the list of its nodes by number, and the frames. Numbers of nodes count from 0.
-#[derive(Debug, Drop)]
+#[derive(Drop)]
 pub struct Topo {
     nodes: Vec<Node>,
     frames: u32,

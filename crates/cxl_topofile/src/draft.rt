@@ -52,7 +52,7 @@ const ENDPOINT_KEYS: [Key; 10] = [
 ];
 
 /// A switch or an endpoint as its table states it, before its parent is looked up.
-#[derive(Clone, Copy, Debug)]
+#[derive(Clone, Copy)]
 pub(crate) struct Draft {
     pub name: Name,
     pub kind: NodeKind,
@@ -64,7 +64,7 @@ pub(crate) struct Draft {
 }
 
 /// The capability word of a bridge or a switch, and whether it forwards.
-#[derive(Clone, Copy, Debug)]
+#[derive(Clone, Copy)]
 pub(crate) struct PortCaps {
     pub cap: u32,
     pub forwards: bool,

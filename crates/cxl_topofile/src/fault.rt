@@ -83,7 +83,7 @@ impl<T: Drop> From<AllocFailed<T>> for TopoFault {
 }
 
 /// What is wrong with the value of a key.
-#[derive(Clone, Copy, Debug, PartialEq, Eq)]
+#[derive(Clone, Copy, PartialEq, Eq)]
 pub(crate) struct Wrong {
     pub cause: Cause,
     pub key: Key,
@@ -134,7 +134,7 @@ impl Wrong {
     }
 }
 
-#[derive(Clone, Copy, Debug, PartialEq, Eq)]
+#[derive(Clone, Copy, PartialEq, Eq)]
 pub(crate) enum Cause {
     Missing,
     Kind,

@@ -7,7 +7,7 @@ use crate::fault::{Section, Wrong};
 use toml::Table;
 
 /// The two kinds of nodes that stand under others.
-#[derive(Clone, Copy, Debug, PartialEq, Eq)]
+#[derive(Clone, Copy, PartialEq, Eq)]
 pub(crate) enum Group {
     Switches,
     Endpoints,

@@ -12,7 +12,7 @@ pub(crate) struct Top<'a> {
 }
 
 /// All nodes of a file in order, of which the bridges come first, and the frames.
-#[derive(Debug, Drop)]
+#[derive(Drop)]
 pub(crate) struct Stated {
     pub bridges: Vec<Node>,
     pub drafts: Vec<Draft>,

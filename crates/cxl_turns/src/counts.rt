@@ -5,7 +5,7 @@ ghost use Rattle.cxl_turns.specs.inner.Counted.{counted, LoadsFew, AreWithin};
 use cxl_reply::Reply;
 
 /// What the replies to commands come to, counted. (This project's rule.)
-#[derive(Clone, Copy, Debug, PartialEq, Eq)]
+#[derive(Clone, Copy, PartialEq, Eq)]
 pub struct Counts {
     /// How many regions were made.
     pub regions: u32,

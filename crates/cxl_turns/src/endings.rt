@@ -1,5 +1,5 @@
 /// How the lines of a script came to their end. (This project's rule.)
-#[derive(Clone, Copy, Debug, PartialEq, Eq)]
+#[derive(Clone, Copy, PartialEq, Eq)]
 pub enum Ending {
     /// The script was read to its end.
     Done,

@@ -1,7 +1,7 @@
 use cxl_enc::{Failed, Memory};
 
 /// Why no further line is carried out.
-#[derive(Clone, Copy, Debug, PartialEq, Eq)]
+#[derive(Clone, Copy, PartialEq, Eq)]
 pub(crate) enum Stop {
     /// The sink failed.
     Sink,

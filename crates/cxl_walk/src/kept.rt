@@ -27,7 +27,7 @@ use std::marker::Model;
 
 /// The routes of a region: one for each slot, from which that of each of its host bytes follows without
 /// reading registers.
-#[derive(Debug, Drop)]
+#[derive(Drop)]
 pub struct Kept {
     weave: Weave,
     routes: FixedList<Route>,

@@ -25,7 +25,7 @@ use cxl_topo::{Topo, capacity_at};
 use cxl_window::Window;
 
 /// A host address that leads to a device byte.
-#[derive(Clone, Copy, Debug, PartialEq, Eq)]
+#[derive(Clone, Copy, PartialEq, Eq)]
 pub struct Host {
     /// The first host address of the endpoint's decoder.
     pub base: u64,

@@ -8,7 +8,7 @@ use std::alloc::Global;
 use std::marker::Model;
 
 /// Whether a window can be used, and else the first cause. (This project's rule.)
-#[derive(Clone, Copy, Debug, PartialEq, Eq)]
+#[derive(Clone, Copy, PartialEq, Eq)]
 pub enum Verdict {
     Usable,
     /// The base is no multiple of 256 MiB.
@@ -28,7 +28,7 @@ pub enum Verdict {
 }
 
 /// A fixed memory window, as `windows` judged it.
-#[derive(Debug, Drop)]
+#[derive(Drop)]
 pub struct Window {
     index: u32,
     base: u64,

@@ -4,7 +4,7 @@ ghost use Rattle.cxl_shell.specs.commands.Route.{IsNowhere, IsSelection};
 use cxl_window::{Window, positions, slot_of};
 
 /// The window that holds a host address, and the bridge that the address goes to.
-#[derive(Clone, Copy, Debug, PartialEq, Eq)]
+#[derive(Clone, Copy, PartialEq, Eq)]
 pub(crate) struct Selection {
     /// The window's place among the windows of the table.
     pub(crate) window: u32,
