@@ -2,6 +2,7 @@ ghost use Rattle.std.specs.Prelude.{◌≡◌, ◌≤◌, true, IfOk, OnErr};
 ghost use Rattle.cxl_enc.specs.Faults.{HasCause};
 ghost use Rattle.cxl_regs.specs.Blocks.{IsPlace, HasPlacesOf, blocks_after};
 
+use crate::common::has_passed;
 use cxl_bus::{FailingBus, Regs, Sent, SimBus};
 use cxl_enc::Failed;
 use cxl_regs::Block;
@@ -58,35 +59,38 @@ fn the_simulators_bus(rt: HostRuntime) {
 }
 
 /// Whether a call writes or reads, the node and the offset, the value that is written or read, and whether the call fails.
-type Call = (bool, u32, u32, u32, bool);
+struct Call {
+    writes: bool,
+    node: u32,
+    off: u32,
+    value: u32,
+    fails: bool,
+}
 
 /// Whether a call is answered so, on a bus that has the words of these blocks.
 fn is_answered(bus: &mut FailingBus, blocks: &[Block], call: &Call) -> bool
     requires { HasPlacesOf blocks.now bus.old.blocks }
     ensures { HasPlacesOf blocks.now bus.new.blocks }
 {
-    let (writes, node, off, value, fails) = *call;
-    if !is_place(blocks, node, off) {
+    if !is_place(blocks, call.node, call.off) {
         return false;
     }
-    if writes {
-        return bus.write32(node, off, value).is_err() == fails;
+    if call.writes {
+        return bus.write32(call.node, call.off, call.value).is_err() == call.fails;
     }
-    match bus.read32(node, off) {
-        Ok(word) => !fails && word == value,
-        Err(_) => fails,
+    match bus.read32(call.node, call.off) {
+        Ok(word) => !call.fails && word == call.value,
+        Err(_) => call.fails,
     }
 }
 
-fn are_answered(bus: &mut FailingBus, blocks: &[Block], calls: &[Call]) -> bool
+/// Checks each call.
+fn are_answered(rt: &impl Abort, bus: &mut FailingBus, blocks: &[Block], calls: &[Call])
     requires { HasPlacesOf blocks.now bus.old.blocks }
 {
-    for call in calls {
-        if !is_answered(bus, blocks, call) {
-            return false;
-        }
+    for (i, call) in calls.iter().enumerate() {
+        has_passed(rt, i, is_answered(bus, blocks, call));
     }
-    true
 }
 
 /// A bus over these blocks that fails at these calls.
@@ -104,14 +108,56 @@ fn has_trail(bus: &FailingBus, want: &[Sent]) -> bool {
 }
 
 /// A port's global control drops the value, and the trail tells the write all the same.
-const FAILING: [Call; 7] = [
-    (true, 0, 0x04, 0x2, false),
-    (false, 0, 0x00, 0, true),
-    (false, 0, 0x00, 0x382, false),
-    (true, 0, 0x18, 0x1000_0000, true),
-    (false, 0, 0x18, 0x0, false),
-    (true, 0, 0x18, 0x1fff_ffff, false),
-    (false, 0, 0x18, 0x1000_0000, false),
+const FAILING: &[Call] = &[
+    Call {
+        writes: true,
+        node: 0,
+        off: 0x04,
+        value: 0x2,
+        fails: false,
+    },
+    Call {
+        writes: false,
+        node: 0,
+        off: 0x00,
+        value: 0,
+        fails: true,
+    },
+    Call {
+        writes: false,
+        node: 0,
+        off: 0x00,
+        value: 0x382,
+        fails: false,
+    },
+    Call {
+        writes: true,
+        node: 0,
+        off: 0x18,
+        value: 0x1000_0000,
+        fails: true,
+    },
+    Call {
+        writes: false,
+        node: 0,
+        off: 0x18,
+        value: 0x0,
+        fails: false,
+    },
+    Call {
+        writes: true,
+        node: 0,
+        off: 0x18,
+        value: 0x1fff_ffff,
+        fails: false,
+    },
+    Call {
+        writes: false,
+        node: 0,
+        off: 0x18,
+        value: 0x1000_0000,
+        fails: false,
+    },
 ];
 
 const SENT: [Sent; 2] = [
@@ -131,19 +177,61 @@ const SENT: [Sent; 2] = [
 fn calls_that_fail(rt: HostRuntime) {
     let blocks = blocks(&rt, rt.alloc(), &[false]);
     let mut bus = bus_over(&rt, rt.alloc(), &blocks, &[2, 4]);
-    assert!(rt; are_answered(&mut bus, &blocks, &FAILING));
+    are_answered(&rt, &mut bus, &blocks, FAILING);
     assert!(rt; has_trail(&bus, &SENT));
 }
 
 /// The writes of a create of which the fifth fails, and those that take it back.
-const CREATE: [Call; 7] = [
-    (true, 2, 0x04, 2, false),
-    (true, 3, 0x04, 2, false),
-    (true, 3, 0x10, 0, false),
-    (true, 3, 0x14, 1, false),
-    (true, 3, 0x18, 0x1000_0000, true),
-    (true, 3, 0x14, 0, false),
-    (true, 3, 0x10, 0, false),
+const CREATE: &[Call] = &[
+    Call {
+        writes: true,
+        node: 2,
+        off: 0x04,
+        value: 2,
+        fails: false,
+    },
+    Call {
+        writes: true,
+        node: 3,
+        off: 0x04,
+        value: 2,
+        fails: false,
+    },
+    Call {
+        writes: true,
+        node: 3,
+        off: 0x10,
+        value: 0,
+        fails: false,
+    },
+    Call {
+        writes: true,
+        node: 3,
+        off: 0x14,
+        value: 1,
+        fails: false,
+    },
+    Call {
+        writes: true,
+        node: 3,
+        off: 0x18,
+        value: 0x1000_0000,
+        fails: true,
+    },
+    Call {
+        writes: true,
+        node: 3,
+        off: 0x14,
+        value: 0,
+        fails: false,
+    },
+    Call {
+        writes: true,
+        node: 3,
+        off: 0x10,
+        value: 0,
+        fails: false,
+    },
 ];
 
 const CREATE_SENT: [Sent; 6] = [
@@ -183,6 +271,6 @@ const CREATE_SENT: [Sent; 6] = [
 fn the_trail_of_a_create_that_is_undone(rt: HostRuntime) {
     let blocks = blocks(&rt, rt.alloc(), &[false, false, true, true]);
     let mut bus = bus_over(&rt, rt.alloc(), &blocks, &[5]);
-    assert!(rt; are_answered(&mut bus, &blocks, &CREATE));
+    are_answered(&rt, &mut bus, &blocks, CREATE);
     assert!(rt; has_trail(&bus, &CREATE_SENT));
 }

@@ -6,20 +6,74 @@ use cxl_enc::{
     split, ways_of,
 };
 
-/// The codes of the CXL HDM decoder control, each with its number of ways and its granularity, where 0 is none.
-const CODES: [(u8, u8, u32); 12] = [
-    (0, 1, 256),
-    (1, 2, 512),
-    (2, 4, 1_024),
-    (3, 8, 2_048),
-    (4, 16, 4_096),
-    (5, 0, 8_192),
-    (6, 0, 16_384),
-    (7, 0, 0),
-    (8, 3, 0),
-    (9, 6, 0),
-    (10, 12, 0),
-    (11, 0, 0),
+/// A code of the CXL HDM decoder control, with its number of ways and its granularity, where 0 is none.
+struct Code {
+    code: u8,
+    ways: u8,
+    bytes: u32,
+}
+
+const CODES: &[Code] = &[
+    Code {
+        code: 0,
+        ways: 1,
+        bytes: 256,
+    },
+    Code {
+        code: 1,
+        ways: 2,
+        bytes: 512,
+    },
+    Code {
+        code: 2,
+        ways: 4,
+        bytes: 1_024,
+    },
+    Code {
+        code: 3,
+        ways: 8,
+        bytes: 2_048,
+    },
+    Code {
+        code: 4,
+        ways: 16,
+        bytes: 4_096,
+    },
+    Code {
+        code: 5,
+        ways: 0,
+        bytes: 8_192,
+    },
+    Code {
+        code: 6,
+        ways: 0,
+        bytes: 16_384,
+    },
+    Code {
+        code: 7,
+        ways: 0,
+        bytes: 0,
+    },
+    Code {
+        code: 8,
+        ways: 3,
+        bytes: 0,
+    },
+    Code {
+        code: 9,
+        ways: 6,
+        bytes: 0,
+    },
+    Code {
+        code: 10,
+        ways: 12,
+        bytes: 0,
+    },
+    Code {
+        code: 11,
+        ways: 0,
+        bytes: 0,
+    },
 ];
 
 /// The number of ways of a code, and the code of that number.
@@ -42,11 +96,11 @@ fn stands_for_bytes(code: u8, bytes: u32) -> bool {
 
 #[test]
 fn codes(rt: HostRuntime) {
-    for (i, (code, ways, bytes)) in CODES.iter().enumerate() {
+    for (i, row) in CODES.iter().enumerate() {
         has_passed(
             &rt,
             i,
-            stands_for(*code, *ways) && stands_for_bytes(*code, *bytes),
+            stands_for(row.code, row.ways) && stands_for_bytes(row.code, row.bytes),
         );
     }
 }
@@ -105,23 +159,57 @@ fn capability_words(rt: HostRuntime) {
     assert!(rt; cap_word(&endpoint) == 0x1b02);
 }
 
-/// Words, whether each is an endpoint's, and whether it is legal.
-const LEGAL: [(u32, bool, bool); 7] = [
+/// A capability word, whether it is an endpoint's, and whether it is legal.
+struct CapWord {
+    word: u32,
+    endpoint: bool,
+    legal: bool,
+}
+
+const LEGAL: &[CapWord] = &[
     // A port, an endpoint, and one decoder with one target.
-    (0x382, false, true),
-    (0x1b02, true, true),
-    (0x10, false, true),
+    CapWord {
+        word: 0x382,
+        endpoint: false,
+        legal: true,
+    },
+    CapWord {
+        word: 0x1b02,
+        endpoint: true,
+        legal: true,
+    },
+    CapWord {
+        word: 0x10,
+        endpoint: false,
+        legal: true,
+    },
     // An endpoint with targets, a port with none, bit 10, and decoder count code 6.
-    (0x382, true, false),
-    (0x1b02, false, false),
-    (0x782, false, false),
-    (0x386, false, false),
+    CapWord {
+        word: 0x382,
+        endpoint: true,
+        legal: false,
+    },
+    CapWord {
+        word: 0x1b02,
+        endpoint: false,
+        legal: false,
+    },
+    CapWord {
+        word: 0x782,
+        endpoint: false,
+        legal: false,
+    },
+    CapWord {
+        word: 0x386,
+        endpoint: false,
+        legal: false,
+    },
 ];
 
 #[test]
 fn legal_words(rt: HostRuntime) {
-    for (i, (word, endpoint, want)) in LEGAL.iter().enumerate() {
-        has_passed(&rt, i, legal_cap(*word, *endpoint) == *want);
+    for (i, row) in LEGAL.iter().enumerate() {
+        has_passed(&rt, i, legal_cap(row.word, row.endpoint) == row.legal);
     }
 }
 

@@ -38,8 +38,17 @@ fn is_region(command: Option<&Command>, name: &str, last: &str) -> bool {
     }
 }
 
-/// A place among the commands, and what stands there.
-type Row<'a> = (usize, (&'a str, u64, u64));
+/// A place among the commands, and what the command there asks for, as `numbers` tells it.
+struct Row {
+    place: usize,
+    verb: &'static str,
+    first: u64,
+    second: u64,
+}
+
+fn stands_there(commands: &[Command], row: &Row) -> bool {
+    numbers(commands.get(row.place)) == (row.verb, row.first, row.second)
+}
 
 #[test]
 fn one_window(rt: HostRuntime) {
@@ -48,8 +57,8 @@ fn one_window(rt: HostRuntime) {
     assert!(rt; bytes.as_slice() == TABLE.as_slice());
     let commands = made.commands.items();
     assert!(rt; is_region(commands.first(), "r0", "e3"));
-    for row in &ONE {
-        assert!(rt; numbers(commands.get(row.0)) == row.1, "at {}", row.0);
+    for row in ONE {
+        assert!(rt; stands_there(commands, row), "at {}", row.place);
     }
 }
 
@@ -58,27 +67,87 @@ fn most_windows(rt: HostRuntime) {
     let made = make(rt.alloc(), 32).expect(&rt, "memory");
     let commands = made.commands.items();
     assert!(rt; is_region(commands.get(31_031), "r31", "e127"));
-    for row in &MOST {
-        assert!(rt; numbers(commands.get(row.0)) == row.1, "at {}", row.0);
+    for row in MOST {
+        assert!(rt; stands_there(commands, row), "at {}", row.place);
     }
 }
 
-const ONE: [Row<'static>; 6] = [
-    (0, ("create", 0x1_0000_0000, 4)),
-    (1, ("store", 0x10_0000_0000, 0)),
-    (1_000, ("store", 0x10_003e_ae70, 999)),
-    (1_001, ("load", 0x10_0000_0000, 8)),
-    (2_000, ("load", 0x10_003e_ae70, 8)),
-    (2_001, ("", 0, 0)),
+const ONE: &[Row] = &[
+    Row {
+        place: 0,
+        verb: "create",
+        first: 0x1_0000_0000,
+        second: 4,
+    },
+    Row {
+        place: 1,
+        verb: "store",
+        first: 0x10_0000_0000,
+        second: 0,
+    },
+    Row {
+        place: 1_000,
+        verb: "store",
+        first: 0x10_003e_ae70,
+        second: 999,
+    },
+    Row {
+        place: 1_001,
+        verb: "load",
+        first: 0x10_0000_0000,
+        second: 8,
+    },
+    Row {
+        place: 2_000,
+        verb: "load",
+        first: 0x10_003e_ae70,
+        second: 8,
+    },
+    Row {
+        place: 2_001,
+        verb: "",
+        first: 0,
+        second: 0,
+    },
 ];
 
-const MOST: [Row<'static>; 6] = [
-    (1_001, ("create", 0x1_0000_0000, 4)),
-    (1_002, ("store", 0x20_0000_0000, 0)),
-    (32_031, ("store", 0x200_003e_ae70, 999)),
-    (32_032, ("load", 0x10_0000_0000, 8)),
-    (64_031, ("load", 0x200_003e_ae70, 8)),
-    (64_032, ("", 0, 0)),
+const MOST: &[Row] = &[
+    Row {
+        place: 1_001,
+        verb: "create",
+        first: 0x1_0000_0000,
+        second: 4,
+    },
+    Row {
+        place: 1_002,
+        verb: "store",
+        first: 0x20_0000_0000,
+        second: 0,
+    },
+    Row {
+        place: 32_031,
+        verb: "store",
+        first: 0x200_003e_ae70,
+        second: 999,
+    },
+    Row {
+        place: 32_032,
+        verb: "load",
+        first: 0x10_0000_0000,
+        second: 8,
+    },
+    Row {
+        place: 64_031,
+        verb: "load",
+        first: 0x200_003e_ae70,
+        second: 8,
+    },
+    Row {
+        place: 64_032,
+        verb: "",
+        first: 0,
+        second: 0,
+    },
 ];
 
 /// The table of one window: the header, two bridges, the maps of the codes 1, 3 and 5, and the window.

@@ -124,36 +124,83 @@ fn laws() {
     image_laws();
 }
 
+/// The place of a byte that is changed, the byte, and the first fault.
+struct FirstFault {
+    at: usize,
+    byte: u8,
+    fault: ImageFault,
+}
+
 /// Whether a file with a byte changed is refused for this fault.
 fn is_refused_with(
     rt: &impl Abort,
     alloc: Global,
     topo: &Topo,
     whole: &[u8],
-    (at, byte, fault): (usize, u8, ImageFault),
+    row: &FirstFault,
 ) -> bool {
-    let bytes = with_byte(rt, alloc, whole, at, byte);
-    is_refused(alloc, topo, &bytes, fault)
+    let bytes = with_byte(rt, alloc, whole, row.at, row.byte);
+    is_refused(alloc, topo, &bytes, row.fault)
 }
 
 #[test]
 fn first_faults(rt: HostRuntime) {
     let topo = topology(&rt, rt.alloc(), false);
     let whole = reset_file(&rt, rt.alloc(), &topo);
-    let rows = [
-        (0, 0x63, ImageFault::Magic),
-        (7, 0x32, ImageFault::Magic),
-        (8, 0x05, ImageFault::Nodes(5)),
-        (11, 0x01, ImageFault::Nodes(0x0100_0004)),
-        (12, 0x83, ImageFault::Caps(0)),
-        (13, 0x0b, ImageFault::Caps(0)),
-        (157, 0x13, ImageFault::Caps(1)),
-        (444, 0x12, ImageFault::Caps(3)),
-    ];
-    for row in rows {
-        assert!(rt; is_refused_with(&rt, rt.alloc(), &topo, &whole, row));
+    for (i, row) in FIRST_FAULTS.iter().enumerate() {
+        has_passed(&rt, i, is_refused_with(&rt, rt.alloc(), &topo, &whole, row));
     }
 }
+
+const FIRST_FAULTS: &[FirstFault] = &[
+    FirstFault {
+        at: 0,
+        byte: 0x63,
+        fault: ImageFault::Magic,
+    },
+    FirstFault {
+        at: 7,
+        byte: 0x32,
+        fault: ImageFault::Magic,
+    },
+    FirstFault {
+        at: 8,
+        byte: 0x05,
+        fault: ImageFault::Nodes(5),
+    },
+    FirstFault {
+        at: 11,
+        byte: 0x01,
+        fault: ImageFault::Nodes(0x0100_0004),
+    },
+    FirstFault {
+        at: 12,
+        byte: 0x83,
+        fault: ImageFault::Caps(0),
+    },
+    FirstFault {
+        at: 13,
+        byte: 0x0b,
+        fault: ImageFault::Caps(0),
+    },
+    FirstFault {
+        at: 157,
+        byte: 0x13,
+        fault: ImageFault::Caps(1),
+    },
+    FirstFault {
+        at: 444,
+        byte: 0x12,
+        fault: ImageFault::Caps(3),
+    },
+];
+
+/// Another number of nodes.
+const OTHER_NODES: FirstFault = FirstFault {
+    at: 8,
+    byte: 5,
+    fault: ImageFault::Nodes(5),
+};
 
 /// A number of nodes before a capability word, and that before what is cut.
 #[test]
@@ -161,7 +208,7 @@ fn the_earlier_field_comes_first(rt: HostRuntime) {
     let topo = topology(&rt, rt.alloc(), false);
     let whole = reset_file(&rt, rt.alloc(), &topo);
     let other = with_byte(&rt, rt.alloc(), &whole, 12, 0);
-    assert!(rt; is_refused_with(&rt, rt.alloc(), &topo, &other, (8, 5, ImageFault::Nodes(5))));
+    assert!(rt; is_refused_with(&rt, rt.alloc(), &topo, &other, &OTHER_NODES));
     assert!(rt; is_cut(rt.alloc(), &topo, &other, 20, ImageFault::Caps(0)));
 }
 

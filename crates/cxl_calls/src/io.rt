@@ -51,17 +51,74 @@ fn long_numbers_read(rt: HostRuntime) {
 }
 
 /// What is there, a number, its width or 0 for decimal digits, and what is there then.
-const PRINTED: [(&str, u64, u8, &str); 10] = [
-    ("n=", 0, 0, "n=0"),
-    ("n=", 7, 0, "n=7"),
-    ("n=", 1_048_576, 0, "n=1048576"),
-    ("n=", u64::MAX, 0, "n=18446744073709551615"),
-    ("0x", 0, 1, "0x0"),
-    ("0x", 0, 4, "0x0000"),
-    ("0x", 31, 4, "0x001f"),
-    ("0x", 0xab_cdef, 2, "0xabcdef"),
-    ("0x", u64::MAX, 1, "0xffffffffffffffff"),
-    ("0x", 9, 16, "0x0000000000000009"),
+struct Row {
+    front: &'static str,
+    number: u64,
+    width: u8,
+    text: &'static str,
+}
+
+const PRINTED: &[Row] = &[
+    Row {
+        front: "n=",
+        number: 0,
+        width: 0,
+        text: "n=0",
+    },
+    Row {
+        front: "n=",
+        number: 7,
+        width: 0,
+        text: "n=7",
+    },
+    Row {
+        front: "n=",
+        number: 1_048_576,
+        width: 0,
+        text: "n=1048576",
+    },
+    Row {
+        front: "n=",
+        number: u64::MAX,
+        width: 0,
+        text: "n=18446744073709551615",
+    },
+    Row {
+        front: "0x",
+        number: 0,
+        width: 1,
+        text: "0x0",
+    },
+    Row {
+        front: "0x",
+        number: 0,
+        width: 4,
+        text: "0x0000",
+    },
+    Row {
+        front: "0x",
+        number: 31,
+        width: 4,
+        text: "0x001f",
+    },
+    Row {
+        front: "0x",
+        number: 0xab_cdef,
+        width: 2,
+        text: "0xabcdef",
+    },
+    Row {
+        front: "0x",
+        number: u64::MAX,
+        width: 1,
+        text: "0xffffffffffffffff",
+    },
+    Row {
+        front: "0x",
+        number: 9,
+        width: 16,
+        text: "0x0000000000000009",
+    },
 ];
 
 fn puts(text: &mut Vec<u8>, number: u64, width: u8) -> bool {
@@ -74,22 +131,15 @@ fn puts(text: &mut Vec<u8>, number: u64, width: u8) -> bool {
     }
 }
 
-/// Whether the text with that front is this one.
-fn are_put(
-    rt: &(impl Abort + AllocGlobal),
-    front: &str,
-    number: u64,
-    width: u8,
-    want: &str,
-) -> bool {
-    let mut text = list(rt, front.as_bytes());
-    puts(&mut text, number, width) && text.as_slice() == want.as_bytes()
+fn are_put(rt: &(impl Abort + AllocGlobal), row: &Row) -> bool {
+    let mut text = list(rt, row.front.as_bytes());
+    puts(&mut text, row.number, row.width) && text.as_slice() == row.text.as_bytes()
 }
 
 #[test]
 fn numbers_printed(rt: HostRuntime) {
-    for (i, (front, number, width, want)) in PRINTED.iter().enumerate() {
-        has_passed(&rt, i, are_put(&rt, *front, *number, *width, *want));
+    for (i, row) in PRINTED.iter().enumerate() {
+        has_passed(&rt, i, are_put(&rt, row));
     }
 }
 

@@ -4,8 +4,10 @@ ghost use Rattle.std.specs.Prelude.{◌↔◌, IsTrue};
 ghost use Rattle.std.specs.FinMap.{contains_key};
 ghost use Rattle.cxl_media.specs.Blocks.{IsInOneBlock};
 
+use crate::common::has_passed;
 use cxl_media::{At, Full, MapMedia, Media, Roll, SimMedia};
 use std::alloc::Global;
+use std::process::Abort;
 
 fn is_in_block(dpa: u64, len: usize) -> bool
     ensures { IsTrue result → IsInOneBlock dpa len }
@@ -26,7 +28,13 @@ enum Call {
 
 /// A call, an endpoint's number, a device address, the bytes that are put or read, and the number that is answered or the
 /// address up to which blocks are scrubbed.
-type Row = (Call, u32, u64, &'static str, u64);
+struct Row {
+    call: Call,
+    ep: u32,
+    dpa: u64,
+    bytes: &'static str,
+    number: u64,
+}
 
 /// What a `put` answers, where the bytes lie in one block.
 fn puts<M: Media>(media: &mut M, ep: u32, dpa: u64, bytes: &str) -> Option<Result<(), Full>> {
@@ -57,61 +65,238 @@ fn scrubs<M: Media>(media: &mut M, ep: u32, from: u64, to: u64) -> bool {
 }
 
 /// Whether a call gives its answer.
-fn answers<M: Media>(media: &mut M, row: Row) -> bool {
-    let (call, ep, dpa, bytes, number) = row;
-    match call {
-        Call::Put => puts(media, ep, dpa, bytes) == Some(Ok(())),
-        Call::PutFull => puts(media, ep, dpa, bytes) == Some(Err(Full)),
-        Call::Get => gets(media, ep, dpa, bytes),
-        Call::Need => u64::from(media.need(ep, dpa)) == number,
-        Call::Scrub => scrubs(media, ep, dpa, number),
-        Call::Free => u64::from(media.free()) == number,
+fn answers<M: Media>(media: &mut M, row: &Row) -> bool {
+    match row.call {
+        Call::Put => puts(media, row.ep, row.dpa, row.bytes) == Some(Ok(())),
+        Call::PutFull => puts(media, row.ep, row.dpa, row.bytes) == Some(Err(Full)),
+        Call::Get => gets(media, row.ep, row.dpa, row.bytes),
+        Call::Need => u64::from(media.need(row.ep, row.dpa)) == row.number,
+        Call::Scrub => scrubs(media, row.ep, row.dpa, row.number),
+        Call::Free => u64::from(media.free()) == row.number,
     }
 }
 
 /// Over two frames: a block with bytes in two places.
-const CALLS: [Row; 30] = [
-    (Call::Free, 0, 0, "", 2),
-    (Call::Need, 7, 0, "", 1),
-    (Call::Get, 7, 250, "\0\0\0\0\0\0", 0),
-    (Call::Put, 7, 250, "abcdef", 0),
-    (Call::Need, 7, 0, "", 0),
-    (Call::Free, 0, 0, "", 1),
-    (Call::Get, 7, 248, "\0\0abcdef", 0),
-    (Call::Put, 7, 0, "start", 0),
-    (Call::Free, 0, 0, "", 1),
-    (Call::Get, 7, 0, "start\0", 0),
-    (Call::Get, 7, 250, "abcdef", 0),
+const CALLS: &[Row] = &[
+    Row {
+        call: Call::Free,
+        ep: 0,
+        dpa: 0,
+        bytes: "",
+        number: 2,
+    },
+    Row {
+        call: Call::Need,
+        ep: 7,
+        dpa: 0,
+        bytes: "",
+        number: 1,
+    },
+    Row {
+        call: Call::Get,
+        ep: 7,
+        dpa: 250,
+        bytes: "\0\0\0\0\0\0",
+        number: 0,
+    },
+    Row {
+        call: Call::Put,
+        ep: 7,
+        dpa: 250,
+        bytes: "abcdef",
+        number: 0,
+    },
+    Row {
+        call: Call::Need,
+        ep: 7,
+        dpa: 0,
+        bytes: "",
+        number: 0,
+    },
+    Row {
+        call: Call::Free,
+        ep: 0,
+        dpa: 0,
+        bytes: "",
+        number: 1,
+    },
+    Row {
+        call: Call::Get,
+        ep: 7,
+        dpa: 248,
+        bytes: "\0\0abcdef",
+        number: 0,
+    },
+    Row {
+        call: Call::Put,
+        ep: 7,
+        dpa: 0,
+        bytes: "start",
+        number: 0,
+    },
+    Row {
+        call: Call::Free,
+        ep: 0,
+        dpa: 0,
+        bytes: "",
+        number: 1,
+    },
+    Row {
+        call: Call::Get,
+        ep: 7,
+        dpa: 0,
+        bytes: "start\0",
+        number: 0,
+    },
+    Row {
+        call: Call::Get,
+        ep: 7,
+        dpa: 250,
+        bytes: "abcdef",
+        number: 0,
+    },
     // A second block, after which the media are full.
-    (Call::Put, 8, 0, "other", 0),
-    (Call::Free, 0, 0, "", 0),
-    (Call::PutFull, 7, 256, "late", 0),
-    (Call::Need, 7, 256, "", 1),
-    (Call::Get, 7, 256, "\0\0\0\0", 0),
-    (Call::Put, 8, 5, "!", 0),
-    (Call::Get, 8, 0, "other!", 0),
+    Row {
+        call: Call::Put,
+        ep: 8,
+        dpa: 0,
+        bytes: "other",
+        number: 0,
+    },
+    Row {
+        call: Call::Free,
+        ep: 0,
+        dpa: 0,
+        bytes: "",
+        number: 0,
+    },
+    Row {
+        call: Call::PutFull,
+        ep: 7,
+        dpa: 256,
+        bytes: "late",
+        number: 0,
+    },
+    Row {
+        call: Call::Need,
+        ep: 7,
+        dpa: 256,
+        bytes: "",
+        number: 1,
+    },
+    Row {
+        call: Call::Get,
+        ep: 7,
+        dpa: 256,
+        bytes: "\0\0\0\0",
+        number: 0,
+    },
+    Row {
+        call: Call::Put,
+        ep: 8,
+        dpa: 5,
+        bytes: "!",
+        number: 0,
+    },
+    Row {
+        call: Call::Get,
+        ep: 8,
+        dpa: 0,
+        bytes: "other!",
+        number: 0,
+    },
     // The first block is scrubbed, and the second not.
-    (Call::Scrub, 7, 0, "", 256),
-    (Call::Free, 0, 0, "", 1),
-    (Call::Get, 7, 250, "\0\0\0\0\0\0", 0),
-    (Call::Get, 8, 0, "other!", 0),
-    (Call::Scrub, 8, 256, "", 1 << 62),
-    (Call::Scrub, 8, 0, "", 0),
-    (Call::Free, 0, 0, "", 1),
-    (Call::Put, 7, 511, "z", 0),
-    (Call::Scrub, 7, 0, "", 1 << 62),
-    (Call::Free, 0, 0, "", 1),
-    (Call::Need, 7, 511, "", 1),
-    (Call::Get, 8, 0, "other!", 0),
+    Row {
+        call: Call::Scrub,
+        ep: 7,
+        dpa: 0,
+        bytes: "",
+        number: 256,
+    },
+    Row {
+        call: Call::Free,
+        ep: 0,
+        dpa: 0,
+        bytes: "",
+        number: 1,
+    },
+    Row {
+        call: Call::Get,
+        ep: 7,
+        dpa: 250,
+        bytes: "\0\0\0\0\0\0",
+        number: 0,
+    },
+    Row {
+        call: Call::Get,
+        ep: 8,
+        dpa: 0,
+        bytes: "other!",
+        number: 0,
+    },
+    Row {
+        call: Call::Scrub,
+        ep: 8,
+        dpa: 256,
+        bytes: "",
+        number: 1 << 62,
+    },
+    Row {
+        call: Call::Scrub,
+        ep: 8,
+        dpa: 0,
+        bytes: "",
+        number: 0,
+    },
+    Row {
+        call: Call::Free,
+        ep: 0,
+        dpa: 0,
+        bytes: "",
+        number: 1,
+    },
+    Row {
+        call: Call::Put,
+        ep: 7,
+        dpa: 511,
+        bytes: "z",
+        number: 0,
+    },
+    Row {
+        call: Call::Scrub,
+        ep: 7,
+        dpa: 0,
+        bytes: "",
+        number: 1 << 62,
+    },
+    Row {
+        call: Call::Free,
+        ep: 0,
+        dpa: 0,
+        bytes: "",
+        number: 1,
+    },
+    Row {
+        call: Call::Need,
+        ep: 7,
+        dpa: 511,
+        bytes: "",
+        number: 1,
+    },
+    Row {
+        call: Call::Get,
+        ep: 8,
+        dpa: 0,
+        bytes: "other!",
+        number: 0,
+    },
 ];
 
-fn answers_all<M: Media>(media: &mut M) -> bool {
-    for row in &CALLS {
-        if !answers(media, *row) {
-            return false;
-        }
+/// Checks each call.
+fn answers_all<M: Media>(rt: &impl Abort, media: &mut M) {
+    for (i, row) in CALLS.iter().enumerate() {
+        has_passed(rt, i, answers(media, row));
     }
-    true
 }
 
 /// Whether some place tells this block, over any media: going through all places finds each block of the map.
@@ -149,22 +334,24 @@ fn tells_one_block<M: Roll>(media: &M) -> bool {
 }
 
 /// From two free frames on.
-fn answers_anew<M: Roll>(alloc: Global, media: &mut M) -> bool {
-    media.power_on(alloc, 2).is_ok() && answers_all(media) && tells_one_block(media)
+fn answers_anew<M: Roll>(rt: &impl Abort, alloc: Global, media: &mut M) -> bool {
+    let powered = media.power_on(alloc, 2).is_ok();
+    answers_all(rt, media);
+    powered && tells_one_block(media)
 }
 
 /// Full before it is powered on, and then twice the same.
-fn answers_twice<M: Roll>(alloc: Global, media: &mut M) -> bool {
+fn answers_twice<M: Roll>(rt: &impl Abort, alloc: Global, media: &mut M) -> bool {
     puts(media, 7, 0, "x") == Some(Err(Full))
-        && answers_anew(alloc, media)
-        && answers_anew(alloc, media)
+        && answers_anew(rt, alloc, media)
+        && answers_anew(rt, alloc, media)
 }
 
 #[test]
 fn both_media_answer_alike(rt: HostRuntime) {
     let alloc = rt.alloc();
-    assert!(rt; answers_twice(alloc, &mut MapMedia::new(alloc)));
-    assert!(rt; answers_twice(alloc, &mut SimMedia::new(alloc)));
+    assert!(rt; answers_twice(&rt, alloc, &mut MapMedia::new(alloc)));
+    assert!(rt; answers_twice(&rt, alloc, &mut SimMedia::new(alloc)));
 }
 
 /// The bytes of a block are those of its frame in the pool.

@@ -71,12 +71,38 @@ fn parities_and_factors(rt: HostRuntime) {
 }
 
 /// A base, a size, and the end or 1 where it is not below 2^64.
-const ENDS: [(u64, u64, u64); 5] = [
-    (0x1_0000_0000, 0x2000_0000, 0x1_2000_0000),
-    (0, 0, 0),
-    (u64::MAX, 0, u64::MAX),
-    (u64::MAX, 1, 1),
-    (1 << 63, 1 << 63, 1),
+struct Row {
+    base: u64,
+    size: u64,
+    end: u64,
+}
+
+const ENDS: &[Row] = &[
+    Row {
+        base: 0x1_0000_0000,
+        size: 0x2000_0000,
+        end: 0x1_2000_0000,
+    },
+    Row {
+        base: 0,
+        size: 0,
+        end: 0,
+    },
+    Row {
+        base: u64::MAX,
+        size: 0,
+        end: u64::MAX,
+    },
+    Row {
+        base: u64::MAX,
+        size: 1,
+        end: 1,
+    },
+    Row {
+        base: 1 << 63,
+        size: 1 << 63,
+        end: 1,
+    },
 ];
 
 fn ends(base: u64, size: u64, want: u64) -> bool {
@@ -88,8 +114,8 @@ fn ends(base: u64, size: u64, want: u64) -> bool {
 
 #[test]
 fn ends_below_2_64(rt: HostRuntime) {
-    for (i, (base, size, end)) in ENDS.iter().enumerate() {
-        has_passed(&rt, i, ends(*base, *size, *end));
+    for (i, row) in ENDS.iter().enumerate() {
+        has_passed(&rt, i, ends(row.base, row.size, row.end));
     }
 }
 

@@ -26,40 +26,97 @@ const DISK: NodeKind = NodeKind::Endpoint(Capacity {
     pmem: 0,
 });
 
-/// A node's name, kind and capability word, with its parent and the port there; a bridge has none.
-type NodeRow<'a> = (&'a str, NodeKind, u32, Option<(u32, u8)>);
+/// A node, with its parent and the port there; a bridge has none.
+struct NodeRow {
+    name: &'static str,
+    kind: NodeKind,
+    cap: u32,
+    parent: Option<Parent>,
+}
 
 /// Two bridges with two endpoints each, and four switches above one more.
-const NODES: [(&str, NodeKind, u32, Option<(u32, u8)>); 11] = [
-    ("hb0", NodeKind::Bridge(0), 0x382, None),
-    ("hb1", NodeKind::Bridge(1), 0x382, None),
-    ("s0", NodeKind::Switch, 0x382, Some((0, 2))),
-    ("s2", NodeKind::Switch, 0x382, Some((2, 0))),
-    ("s6", NodeKind::Switch, 0x382, Some((3, 0))),
-    ("s13", NodeKind::Switch, 0x382, Some((4, 0))),
-    ("e0", DISK, 0x1b02, Some((0, 0))),
-    ("e1", DISK, 0x1b02, Some((0, 1))),
-    ("e2", DISK, 0x1b02, Some((1, 0))),
-    ("e3", DISK, 0x1b02, Some((1, 1))),
-    ("e13", DISK, 0x1b02, Some((5, 0))),
+const NODES: &[NodeRow] = &[
+    NodeRow {
+        name: "hb0",
+        kind: NodeKind::Bridge(0),
+        cap: 0x382,
+        parent: None,
+    },
+    NodeRow {
+        name: "hb1",
+        kind: NodeKind::Bridge(1),
+        cap: 0x382,
+        parent: None,
+    },
+    NodeRow {
+        name: "s0",
+        kind: NodeKind::Switch,
+        cap: 0x382,
+        parent: Some(Parent { node: 0, port: 2 }),
+    },
+    NodeRow {
+        name: "s2",
+        kind: NodeKind::Switch,
+        cap: 0x382,
+        parent: Some(Parent { node: 2, port: 0 }),
+    },
+    NodeRow {
+        name: "s6",
+        kind: NodeKind::Switch,
+        cap: 0x382,
+        parent: Some(Parent { node: 3, port: 0 }),
+    },
+    NodeRow {
+        name: "s13",
+        kind: NodeKind::Switch,
+        cap: 0x382,
+        parent: Some(Parent { node: 4, port: 0 }),
+    },
+    NodeRow {
+        name: "e0",
+        kind: DISK,
+        cap: 0x1b02,
+        parent: Some(Parent { node: 0, port: 0 }),
+    },
+    NodeRow {
+        name: "e1",
+        kind: DISK,
+        cap: 0x1b02,
+        parent: Some(Parent { node: 0, port: 1 }),
+    },
+    NodeRow {
+        name: "e2",
+        kind: DISK,
+        cap: 0x1b02,
+        parent: Some(Parent { node: 1, port: 0 }),
+    },
+    NodeRow {
+        name: "e3",
+        kind: DISK,
+        cap: 0x1b02,
+        parent: Some(Parent { node: 1, port: 1 }),
+    },
+    NodeRow {
+        name: "e13",
+        kind: DISK,
+        cap: 0x1b02,
+        parent: Some(Parent { node: 5, port: 0 }),
+    },
 ];
 
-fn node(rt: &impl Abort, row: &NodeRow<'_>) -> Node {
+fn node(rt: &impl Abort, row: &NodeRow) -> Node {
     Node {
-        name: name(rt, row.0),
-        kind: row.1,
-        parent: match row.3 {
-            Some((node, port)) => Some(Parent { node, port }),
-            None => None,
-        },
-        cap: row.2,
+        name: name(rt, row.name),
+        kind: row.kind,
+        parent: row.parent,
+        cap: row.cap,
         forwards: false,
     }
 }
 
 fn nodes(rt: &(impl Abort + AllocGlobal)) -> Vec<Node> {
     let mut nodes = Vec::new(rt.alloc());
-    for row in &NODES {
+    for row in NODES {
         nodes.push(node(rt, row)).expect(rt, "memory");
     }
     nodes

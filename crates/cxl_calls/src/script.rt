@@ -5,6 +5,7 @@ use cxl_script::{BadLine, Command, Create, LINE_LIMIT, LineFault, Why, read_comm
 use std::process::Abort;
 
 mod faults;
+mod words;
 
 type Read = Result<Option<Command>, LineFault>;
 
@@ -22,35 +23,99 @@ fn numbers(read: &Read) -> (&'static str, u64, u64) {
     }
 }
 
-type Numbers<'a> = (&'a str, (&'a str, u64, u64));
+/// A line, and the verb and the numbers of its command, as `numbers` tells them.
+struct NumbersRow {
+    line: &'static str,
+    verb: &'static str,
+    first: u64,
+    second: u64,
+}
 
-fn has_numbers(rt: &impl AllocGlobal, row: &Numbers<'_>) -> bool {
-    numbers(&read_command(rt.alloc(), row.0.as_bytes())) == row.1
+fn has_numbers(rt: &impl AllocGlobal, row: &NumbersRow) -> bool {
+    let read = read_command(rt.alloc(), row.line.as_bytes());
+    numbers(&read) == (row.verb, row.first, row.second)
 }
 
 #[test]
 fn numbers_of_commands(rt: HostRuntime) {
-    for row in &NUMBERS {
-        assert!(rt; has_numbers(&rt, row), "at {}", row.0);
+    for row in NUMBERS {
+        assert!(rt; has_numbers(&rt, row), "at {}", row.line);
     }
 }
 
-const NUMBERS: [(&str, (&str, u64, u64)); 12] = [
-    ("", ("", 0, 0)),
-    (" \t ", ("", 0, 0)),
-    ("# create r0", ("", 0, 0)),
-    ("\t#down 5", ("", 0, 0)),
-    ("down 0x100000100", ("down", 0x1_0000_0100, 0)),
-    ("\t down\t 18446744073709551615 ", ("down", u64::MAX, 0)),
-    ("load 0x1000000fe 4", ("load", 0x1_0000_00fe, 4)),
-    ("load 0 256", ("load", 0, 256)),
-    ("step 1000000", ("step", 1_000_000, 0)),
-    (
-        "range 0x1000000080 65536",
-        ("range", 0x10_0000_0080, 65_536),
-    ),
-    ("spread 1 0x10000000000000", ("spread", 1, 1 << 52)),
-    ("abort", ("abort", 0, 0)),
+const NUMBERS: &[NumbersRow] = &[
+    NumbersRow {
+        line: "",
+        verb: "",
+        first: 0,
+        second: 0,
+    },
+    NumbersRow {
+        line: " \t ",
+        verb: "",
+        first: 0,
+        second: 0,
+    },
+    NumbersRow {
+        line: "# create r0",
+        verb: "",
+        first: 0,
+        second: 0,
+    },
+    NumbersRow {
+        line: "\t#down 5",
+        verb: "",
+        first: 0,
+        second: 0,
+    },
+    NumbersRow {
+        line: "down 0x100000100",
+        verb: "down",
+        first: 0x1_0000_0100,
+        second: 0,
+    },
+    NumbersRow {
+        line: "\t down\t 18446744073709551615 ",
+        verb: "down",
+        first: u64::MAX,
+        second: 0,
+    },
+    NumbersRow {
+        line: "load 0x1000000fe 4",
+        verb: "load",
+        first: 0x1_0000_00fe,
+        second: 4,
+    },
+    NumbersRow {
+        line: "load 0 256",
+        verb: "load",
+        first: 0,
+        second: 256,
+    },
+    NumbersRow {
+        line: "step 1000000",
+        verb: "step",
+        first: 1_000_000,
+        second: 0,
+    },
+    NumbersRow {
+        line: "range 0x1000000080 65536",
+        verb: "range",
+        first: 0x10_0000_0080,
+        second: 65_536,
+    },
+    NumbersRow {
+        line: "spread 1 0x10000000000000",
+        verb: "spread",
+        first: 1,
+        second: 1 << 52,
+    },
+    NumbersRow {
+        line: "abort",
+        verb: "abort",
+        first: 0,
+        second: 0,
+    },
 ];
 
 /// The verb of a command that holds no more than names and a device address, and these.
@@ -70,13 +135,20 @@ fn names_of(rt: &impl AllocGlobal, line: &str) -> Option<(&'static str, Name, Na
     names(&read_command(rt.alloc(), line.as_bytes()))
 }
 
-type Names<'a> = (&'a str, (&'a str, &'a str, &'a str, u64));
+/// A line, and the verb, the names and the device address of its command, as `names` tells them.
+struct NamesRow {
+    line: &'static str,
+    verb: &'static str,
+    from: &'static str,
+    to: &'static str,
+    dpa: u64,
+}
 
-fn has_names(rt: &impl AllocGlobal, row: &Names<'_>) -> bool {
-    match names_of(rt, row.0) {
+fn has_names(rt: &impl AllocGlobal, row: &NamesRow) -> bool {
+    match names_of(rt, row.line) {
         Some((verb, from, to, dpa)) => {
             let same = (verb, from.bytes(), to.bytes(), dpa);
-            same == (row.1.0, row.1.1.as_bytes(), row.1.2.as_bytes(), row.1.3)
+            same == (row.verb, row.from.as_bytes(), row.to.as_bytes(), row.dpa)
         }
         None => false,
     }
@@ -84,21 +156,54 @@ fn has_names(rt: &impl AllocGlobal, row: &Names<'_>) -> bool {
 
 #[test]
 fn names_of_commands(rt: HostRuntime) {
-    for row in &NAMES {
-        assert!(rt; has_names(&rt, row), "at {}", row.0);
+    for row in NAMES {
+        assert!(rt; has_names(&rt, row), "at {}", row.line);
     }
 }
 
-const NAMES: [(&str, (&str, &str, &str, u64)); 6] = [
-    ("destroy r0", ("destroy", "r0", "r0", 0)),
-    (
-        "show abcdefghijklmno",
-        ("show", "abcdefghijklmno", "abcdefghijklmno", 0),
-    ),
-    ("begin destroy r0", ("begin destroy", "r0", "r0", 0)),
-    ("up e1 0x2000", ("up", "e1", "e1", 0x2000)),
-    ("copy r0 r1", ("copy", "r0", "r1", 0)),
-    ("move r1 r0", ("move", "r1", "r0", 0)),
+const NAMES: &[NamesRow] = &[
+    NamesRow {
+        line: "destroy r0",
+        verb: "destroy",
+        from: "r0",
+        to: "r0",
+        dpa: 0,
+    },
+    NamesRow {
+        line: "show abcdefghijklmno",
+        verb: "show",
+        from: "abcdefghijklmno",
+        to: "abcdefghijklmno",
+        dpa: 0,
+    },
+    NamesRow {
+        line: "begin destroy r0",
+        verb: "begin destroy",
+        from: "r0",
+        to: "r0",
+        dpa: 0,
+    },
+    NamesRow {
+        line: "up e1 0x2000",
+        verb: "up",
+        from: "e1",
+        to: "e1",
+        dpa: 0x2000,
+    },
+    NamesRow {
+        line: "copy r0 r1",
+        verb: "copy",
+        from: "r0",
+        to: "r1",
+        dpa: 0,
+    },
+    NamesRow {
+        line: "move r1 r0",
+        verb: "move",
+        from: "r1",
+        to: "r0",
+        dpa: 0,
+    },
 ];
 
 /// The region that a line asks for, at once or begun.
@@ -121,18 +226,24 @@ fn is_spaced(rt: &(impl Abort + AllocGlobal), names: &[Name], want: &str) -> boo
 }
 
 /// A line, and the region that it makes: its kind, its granularity, its endpoints and its ways.
-type Created<'a> = (&'a str, MemKind, Option<u8>, &'a str, Option<u8>);
-
-/// A region `r0` of half a gigabyte.
-fn is_created(rt: &(impl Abort + AllocGlobal), create: &Create, row: &Created<'_>) -> bool {
-    create.name.bytes() == b"r0".as_slice()
-        && create.size == 0x2000_0000
-        && (create.kind, create.gran, create.ways) == (row.1, row.2, row.4)
-        && is_spaced(rt, create.endpoints.items(), row.3)
+struct RegionRow {
+    line: &'static str,
+    kind: MemKind,
+    gran: Option<u8>,
+    endpoints: &'static str,
+    ways: Option<u8>,
 }
 
-fn has_created(rt: &(impl Abort + AllocGlobal), row: &Created<'_>) -> bool {
-    let read = read_command(rt.alloc(), row.0.as_bytes());
+/// A region `r0` of half a gigabyte.
+fn is_created(rt: &(impl Abort + AllocGlobal), create: &Create, row: &RegionRow) -> bool {
+    create.name.bytes() == b"r0".as_slice()
+        && create.size == 0x2000_0000
+        && (create.kind, create.gran, create.ways) == (row.kind, row.gran, row.ways)
+        && is_spaced(rt, create.endpoints.items(), row.endpoints)
+}
+
+fn has_created(rt: &(impl Abort + AllocGlobal), row: &RegionRow) -> bool {
+    let read = read_command(rt.alloc(), row.line.as_bytes());
     match created(&read) {
         Some(create) => is_created(rt, create, row),
         None => false,
@@ -141,55 +252,55 @@ fn has_created(rt: &(impl Abort + AllocGlobal), row: &Created<'_>) -> bool {
 
 #[test]
 fn created_regions(rt: HostRuntime) {
-    for row in &CREATED {
-        assert!(rt; has_created(&rt, row), "at {}", row.0);
+    for row in CREATED {
+        assert!(rt; has_created(&rt, row), "at {}", row.line);
     }
 }
 
 /// `gran=` and `ways=` count only in their places, and `gran` and `ways` are names.
-const CREATED: [(&str, MemKind, Option<u8>, &str, Option<u8>); 6] = [
-    (
-        "create r0 ram 536870912 e1 e0",
-        MemKind::Ram,
-        None,
-        " e1 e0",
-        None,
-    ),
-    (
-        "create r0 pmem 0x20000000 gran=512 e0",
-        MemKind::Pmem,
-        Some(1),
-        " e0",
-        None,
-    ),
-    (
-        "create r0 ram 0x20000000 gran ways e0 e0",
-        MemKind::Ram,
-        None,
-        " gran ways e0 e0",
-        None,
-    ),
-    (
-        "create r0 ram 0x20000000 ways=16",
-        MemKind::Ram,
-        None,
-        "",
-        Some(16),
-    ),
-    (
-        "begin create r0 pmem 0x20000000 e2",
-        MemKind::Pmem,
-        None,
-        " e2",
-        None,
-    ),
-    (
-        "begin create r0 ram 0x20000000 gran=0x4000 ways=1",
-        MemKind::Ram,
-        Some(6),
-        "",
-        Some(1),
-    ),
+const CREATED: &[RegionRow] = &[
+    RegionRow {
+        line: "create r0 ram 536870912 e1 e0",
+        kind: MemKind::Ram,
+        gran: None,
+        endpoints: " e1 e0",
+        ways: None,
+    },
+    RegionRow {
+        line: "create r0 pmem 0x20000000 gran=512 e0",
+        kind: MemKind::Pmem,
+        gran: Some(1),
+        endpoints: " e0",
+        ways: None,
+    },
+    RegionRow {
+        line: "create r0 ram 0x20000000 gran ways e0 e0",
+        kind: MemKind::Ram,
+        gran: None,
+        endpoints: " gran ways e0 e0",
+        ways: None,
+    },
+    RegionRow {
+        line: "create r0 ram 0x20000000 ways=16",
+        kind: MemKind::Ram,
+        gran: None,
+        endpoints: "",
+        ways: Some(16),
+    },
+    RegionRow {
+        line: "begin create r0 pmem 0x20000000 e2",
+        kind: MemKind::Pmem,
+        gran: None,
+        endpoints: " e2",
+        ways: None,
+    },
+    RegionRow {
+        line: "begin create r0 ram 0x20000000 gran=0x4000 ways=1",
+        kind: MemKind::Ram,
+        gran: Some(6),
+        endpoints: "",
+        ways: Some(1),
+    },
 ];
 
 /// The granularity code of the region that a line asks for.

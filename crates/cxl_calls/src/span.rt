@@ -320,26 +320,15 @@ fn allots(block: &Block, ram: u64, kind: MemKind, len: u64) -> Option<Result<Spa
     }
 }
 
-/// A span's skip, start and length, or why there is none.
-fn told(answer: Option<Result<Span, SpanFault>>) -> (u8, u64, u64, u64) {
-    match answer {
-        Some(Ok(Span { skip, start, len })) => (0, skip, start, len),
-        Some(Err(SpanFault::NoDecoder)) => (1, 0, 0, 0),
-        Some(Err(SpanFault::PastRam(end))) => (2, end, 0, 0),
-        Some(Err(SpanFault::NoRoom(Room { start, limit }))) => (3, start, limit, 0),
-        None => (4, 0, 0, 0),
-    }
-}
-
-/// A block's first two decoders, the device's ram, and what is asked for; then the answer as `told` gives it. The device
-/// has as much pmem where its ram is 1 GiB, and else none.
+/// A block's first two decoders, the device's ram, and what is asked for; then the answer. The device has as much pmem where
+/// its ram is 1 GiB, and else none.
 struct Asked {
     first: Plain,
     second: Plain,
     ram: u64,
     kind: MemKind,
     len: u64,
-    told: (u8, u64, u64, u64),
+    answer: Result<Span, SpanFault>,
 }
 
 const SPANS: [Asked; 6] = [
@@ -350,7 +339,11 @@ const SPANS: [Asked; 6] = [
         ram: GIB,
         kind: MemKind::Ram,
         len: UNIT,
-        told: (0, 0, 0, UNIT),
+        answer: Ok(Span {
+            skip: 0,
+            start: 0,
+            len: UNIT,
+        }),
     },
     Asked {
         first: Plain::First,
@@ -358,7 +351,11 @@ const SPANS: [Asked; 6] = [
         ram: GIB,
         kind: MemKind::Pmem,
         len: UNIT,
-        told: (0, 0x3000_0000, 0x4000_0000, UNIT),
+        answer: Ok(Span {
+            skip: 0x3000_0000,
+            start: 0x4000_0000,
+            len: UNIT,
+        }),
     },
     Asked {
         first: Plain::First,
@@ -366,7 +363,7 @@ const SPANS: [Asked; 6] = [
         ram: GIB,
         kind: MemKind::Ram,
         len: UNIT,
-        told: (2, 0x5000_0000, 0, 0),
+        answer: Err(SpanFault::PastRam(0x5000_0000)),
     },
     Asked {
         first: Plain::First,
@@ -374,7 +371,10 @@ const SPANS: [Asked; 6] = [
         ram: GIB,
         kind: MemKind::Pmem,
         len: GIB,
-        told: (3, 0x5000_0000, 0x8000_0000, 0),
+        answer: Err(SpanFault::NoRoom(Room {
+            start: 0x5000_0000,
+            limit: 0x8000_0000,
+        })),
     },
     Asked {
         first: Plain::First,
@@ -382,7 +382,11 @@ const SPANS: [Asked; 6] = [
         ram: GIB,
         kind: MemKind::Pmem,
         len: 3 * UNIT,
-        told: (0, 0, 0x5000_0000, 3 * UNIT),
+        answer: Ok(Span {
+            skip: 0,
+            start: 0x5000_0000,
+            len: 3 * UNIT,
+        }),
     },
     // Half of 4 GiB over two ways.
     Asked {
@@ -391,13 +395,17 @@ const SPANS: [Asked; 6] = [
         ram: 4 * GIB,
         kind: MemKind::Ram,
         len: UNIT,
-        told: (0, 0, 0x8000_0000, UNIT),
+        answer: Ok(Span {
+            skip: 0,
+            start: 0x8000_0000,
+            len: UNIT,
+        }),
     },
 ];
 
 fn is_answered(rt: &(impl Abort + AllocGlobal), asked: &Asked) -> bool {
     let block = endpoint(rt, true, &words(asked.first), &words(asked.second));
-    told(allots(&block, asked.ram, asked.kind, asked.len)) == asked.told
+    allots(&block, asked.ram, asked.kind, asked.len) == Some(asked.answer)
 }
 
 #[test]
@@ -414,7 +422,7 @@ fn a_full_block(rt: HostRuntime) {
         .to_vec(rt.alloc())
         .expect(&rt, "memory");
     let block = Block::with_decoders(0x1b00, true, true, decoders);
-    assert!(rt; told(allots(&block, GIB, MemKind::Ram, UNIT)) == (1, 0, 0, 0));
+    assert!(rt; allots(&block, GIB, MemKind::Ram, UNIT) == Some(Err(SpanFault::NoDecoder)));
 }
 
 /// The start of a committed decoder of an endpoint's block that keeps the rules on a device of 1 GiB of each kind.

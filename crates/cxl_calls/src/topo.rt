@@ -187,30 +187,68 @@ fn changed(place: usize, change: Change) -> [Row; 4] {
     rows
 }
 
-/// Changes of one node, each with the first fault.
-const CHANGED: [(usize, Change, TreeFault); 9] = [
-    (1, Change::Parent(0, 1), TreeFault::NoParent(1)),
-    (2, Change::Parent(3, 0), TreeFault::NoParent(2)),
-    (3, Change::Parent(0, 0), TreeFault::PortTaken(3)),
-    (3, Change::Name("hb1"), TreeFault::NameTaken(3)),
-    (1, Change::Uid(0), TreeFault::UidTaken(1)),
-    (0, Change::Cap(0x1b02), TreeFault::Caps(0)),
-    (3, Change::Forwards, TreeFault::Caps(3)),
-    (3, Change::Capacity(0x1800_0000, 0), TreeFault::Capacity(3)),
-    (
-        3,
-        Change::Capacity(1 << 52, 0x1000_0000),
-        TreeFault::Capacity(3),
-    ),
+/// The place of a node that is changed, its change, and the first fault.
+struct FirstFault {
+    place: usize,
+    change: Change,
+    fault: TreeFault,
+}
+
+const CHANGED: &[FirstFault] = &[
+    FirstFault {
+        place: 1,
+        change: Change::Parent(0, 1),
+        fault: TreeFault::NoParent(1),
+    },
+    FirstFault {
+        place: 2,
+        change: Change::Parent(3, 0),
+        fault: TreeFault::NoParent(2),
+    },
+    FirstFault {
+        place: 3,
+        change: Change::Parent(0, 0),
+        fault: TreeFault::PortTaken(3),
+    },
+    FirstFault {
+        place: 3,
+        change: Change::Name("hb1"),
+        fault: TreeFault::NameTaken(3),
+    },
+    FirstFault {
+        place: 1,
+        change: Change::Uid(0),
+        fault: TreeFault::UidTaken(1),
+    },
+    FirstFault {
+        place: 0,
+        change: Change::Cap(0x1b02),
+        fault: TreeFault::Caps(0),
+    },
+    FirstFault {
+        place: 3,
+        change: Change::Forwards,
+        fault: TreeFault::Caps(3),
+    },
+    FirstFault {
+        place: 3,
+        change: Change::Capacity(0x1800_0000, 0),
+        fault: TreeFault::Capacity(3),
+    },
+    FirstFault {
+        place: 3,
+        change: Change::Capacity(1 << 52, 0x1000_0000),
+        fault: TreeFault::Capacity(3),
+    },
 ];
 
 #[test]
 fn first_faults(rt: HostRuntime) {
-    for (i, (place, change, fault)) in CHANGED.iter().enumerate() {
+    for (i, row) in CHANGED.iter().enumerate() {
         has_passed(
             &rt,
             i,
-            is_fault(rt.alloc(), &changed(*place, *change), *fault),
+            is_fault(rt.alloc(), &changed(row.place, row.change), row.fault),
         );
     }
 }

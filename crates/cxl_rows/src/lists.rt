@@ -30,80 +30,146 @@ const NORMAL: &str = "normal table";
 
 #[test]
 fn lists(rt: HostRuntime) {
-    are_answered(&rt, &LISTS);
+    are_answered(&rt, LISTS);
 }
 
-const LISTS: [Row; 17] = [
+const LISTS: &[Row] = &[
     // The two-bridge table with a record of type 4 behind it.
-    (
-        LIST,
-        TWO_BRIDGES,
-        "152 4 0x98 9 0xa8 144 4 146 8 148 0xaa 149 0xbb 150 0xcc 151 0xdd",
-        0,
-        RECORDS,
-    ),
+    Row {
+        line: LIST,
+        table: TWO_BRIDGES,
+        changes: "152 4 0x98 9 0xa8 144 4 146 8 148 0xaa 149 0xbb 150 0xcc 151 0xdd",
+        code: 0,
+        text: RECORDS,
+    },
     // XOR arithmetic, with no map and with one.
-    (LIST, TWO_BRIDGES, "125 0x01 9 0xc9", 0, NO_MAP),
-    (LIST, TWO_BRIDGES_XOR, "", 0, ONE_MAP),
+    Row {
+        line: LIST,
+        table: TWO_BRIDGES,
+        changes: "125 0x01 9 0xc9",
+        code: 0,
+        text: NO_MAP,
+    },
+    Row {
+        line: LIST,
+        table: TWO_BRIDGES_XOR,
+        changes: "",
+        code: 0,
+        text: ONE_MAP,
+    },
     // The tables that other programs made.
-    (LIST, real_tables::QEMU_TWO, "", 0, listings::QEMU_TWO),
-    (LIST, real_tables::QEMU_SWITCH, "", 0, listings::QEMU_SWITCH),
-    (LIST, real_tables::QEMU_THREE, "", 0, listings::QEMU_THREE),
-    (LIST, real_tables::QEMU_EIGHT, "", 0, listings::QEMU_EIGHT),
-    (
-        LIST,
-        real_tables::QEMU_SAME_TARGET,
-        "",
-        0,
-        listings::QEMU_SAME_TARGET,
-    ),
-    (LIST, real_tables::IASL_XOR, "", 0, listings::IASL_XOR),
-    (
-        LIST,
-        real_tables::IASL_MIXED_ORDER,
-        "",
-        0,
-        listings::IASL_MIXED_ORDER,
-    ),
-    (
-        LIST,
-        real_tables::IASL_CXL_1_1,
-        "",
-        0,
-        listings::IASL_CXL_1_1,
-    ),
-    (LIST, real_tables::LONG_WINDOW, "", 3, listings::LONG_WINDOW),
-    (
-        NORMAL,
-        real_tables::LONG_WINDOW,
-        "",
-        3,
-        listings::LONG_WINDOW,
-    ),
+    Row {
+        line: LIST,
+        table: real_tables::QEMU_TWO,
+        changes: "",
+        code: 0,
+        text: listings::QEMU_TWO,
+    },
+    Row {
+        line: LIST,
+        table: real_tables::QEMU_SWITCH,
+        changes: "",
+        code: 0,
+        text: listings::QEMU_SWITCH,
+    },
+    Row {
+        line: LIST,
+        table: real_tables::QEMU_THREE,
+        changes: "",
+        code: 0,
+        text: listings::QEMU_THREE,
+    },
+    Row {
+        line: LIST,
+        table: real_tables::QEMU_EIGHT,
+        changes: "",
+        code: 0,
+        text: listings::QEMU_EIGHT,
+    },
+    Row {
+        line: LIST,
+        table: real_tables::QEMU_SAME_TARGET,
+        changes: "",
+        code: 0,
+        text: listings::QEMU_SAME_TARGET,
+    },
+    Row {
+        line: LIST,
+        table: real_tables::IASL_XOR,
+        changes: "",
+        code: 0,
+        text: listings::IASL_XOR,
+    },
+    Row {
+        line: LIST,
+        table: real_tables::IASL_MIXED_ORDER,
+        changes: "",
+        code: 0,
+        text: listings::IASL_MIXED_ORDER,
+    },
+    Row {
+        line: LIST,
+        table: real_tables::IASL_CXL_1_1,
+        changes: "",
+        code: 0,
+        text: listings::IASL_CXL_1_1,
+    },
+    Row {
+        line: LIST,
+        table: real_tables::LONG_WINDOW,
+        changes: "",
+        code: 3,
+        text: listings::LONG_WINDOW,
+    },
+    Row {
+        line: NORMAL,
+        table: real_tables::LONG_WINDOW,
+        changes: "",
+        code: 3,
+        text: listings::LONG_WINDOW,
+    },
     // Faults.
-    (LIST, TWO_BRIDGES, "9 0xcb", 3, "error: table checksum\n"),
-    (NORMAL, TWO_BRIDGES, "9 0xcb", 3, "error: table checksum\n"),
-    (
-        LIST,
-        TWO_BRIDGES,
-        "124 0x05 9 0xc6",
-        3,
-        "error: table ways-code 100\n",
-    ),
-    (
-        NORMAL,
-        TWO_BRIDGES,
-        "124 0x05 9 0xc6",
-        3,
-        "error: table ways-code 100\n",
-    ),
+    Row {
+        line: LIST,
+        table: TWO_BRIDGES,
+        changes: "9 0xcb",
+        code: 3,
+        text: "error: table checksum\n",
+    },
+    Row {
+        line: NORMAL,
+        table: TWO_BRIDGES,
+        changes: "9 0xcb",
+        code: 3,
+        text: "error: table checksum\n",
+    },
+    Row {
+        line: LIST,
+        table: TWO_BRIDGES,
+        changes: "124 0x05 9 0xc6",
+        code: 3,
+        text: "error: table ways-code 100\n",
+    },
+    Row {
+        line: NORMAL,
+        table: TWO_BRIDGES,
+        changes: "124 0x05 9 0xc6",
+        code: 3,
+        text: "error: table ways-code 100\n",
+    },
 ];
 
+/// The digits of a table, changes of its bytes, and the digits of its normal form.
+struct NormalForm {
+    table: &'static str,
+    changes: &'static str,
+    normal: &'static str,
+}
+
 /// Whether the table with these changes has the other as its normal form.
-fn is_normal(rt: &impl Abort, alloc: Global, row: &(&str, &str, &str)) -> bool {
-    let (table, changes, normal) = *row;
-    let table = changed(rt, alloc, table, changes, 1);
-    let normal = bytes(rt, alloc, normal);
+fn is_normal(rt: &impl Abort, alloc: Global, row: &NormalForm) -> bool {
+    let table = changed(rt, alloc, row.table, row.changes, 1);
+    let normal = bytes(rt, alloc, row.normal);
     answers(rt, alloc, NORMAL, table, 0, &normal)
 }
 
@@ -114,26 +180,54 @@ fn normal_forms(rt: HostRuntime) {
     }
 }
 
-const NORMAL_FORMS: [(&str, &str, &str); 9] = [
+const NORMAL_FORMS: &[NormalForm] = &[
     // The reserved fields of real tables are zero, so that each is its own normal form.
-    (real_tables::QEMU_TWO, "", real_tables::QEMU_TWO),
-    (real_tables::QEMU_SWITCH, "", real_tables::QEMU_SWITCH),
-    (real_tables::QEMU_THREE, "", real_tables::QEMU_THREE),
-    (real_tables::QEMU_EIGHT, "", real_tables::QEMU_EIGHT),
-    (
-        real_tables::QEMU_SAME_TARGET,
-        "",
-        real_tables::QEMU_SAME_TARGET,
-    ),
-    (real_tables::IASL_XOR, "", real_tables::IASL_XOR),
-    (
-        real_tables::IASL_MIXED_ORDER,
-        "",
-        real_tables::IASL_MIXED_ORDER,
-    ),
-    (real_tables::IASL_CXL_1_1, "", real_tables::IASL_CXL_1_1),
+    NormalForm {
+        table: real_tables::QEMU_TWO,
+        changes: "",
+        normal: real_tables::QEMU_TWO,
+    },
+    NormalForm {
+        table: real_tables::QEMU_SWITCH,
+        changes: "",
+        normal: real_tables::QEMU_SWITCH,
+    },
+    NormalForm {
+        table: real_tables::QEMU_THREE,
+        changes: "",
+        normal: real_tables::QEMU_THREE,
+    },
+    NormalForm {
+        table: real_tables::QEMU_EIGHT,
+        changes: "",
+        normal: real_tables::QEMU_EIGHT,
+    },
+    NormalForm {
+        table: real_tables::QEMU_SAME_TARGET,
+        changes: "",
+        normal: real_tables::QEMU_SAME_TARGET,
+    },
+    NormalForm {
+        table: real_tables::IASL_XOR,
+        changes: "",
+        normal: real_tables::IASL_XOR,
+    },
+    NormalForm {
+        table: real_tables::IASL_MIXED_ORDER,
+        changes: "",
+        normal: real_tables::IASL_MIXED_ORDER,
+    },
+    NormalForm {
+        table: real_tables::IASL_CXL_1_1,
+        changes: "",
+        normal: real_tables::IASL_CXL_1_1,
+    },
     // A reserved byte of the first bridge is 5.
-    (TWO_BRIDGES, "37 0x05 9 0xc5", TWO_BRIDGES),
+    NormalForm {
+        table: TWO_BRIDGES,
+        changes: "37 0x05 9 0xc5",
+        normal: TWO_BRIDGES,
+    },
 ];
 
 /// The text of a front of so many bytes.
@@ -155,6 +249,6 @@ fn is_front(rt: &impl Abort, alloc: Global, n: usize) -> bool {
 #[test]
 fn fronts(rt: HostRuntime) {
     for n in 0..144 {
-        assert!(rt; is_front(&rt, rt.alloc(), n));
+        has_passed(&rt, n, is_front(&rt, rt.alloc(), n));
     }
 }

@@ -1,6 +1,7 @@
 use crate::routes::repeated;
 use crate::rows::{
-    ROOM, Row, are_answered, bytes, code_of_run, ends, files_of, sink_of, table_file, words_of,
+    ROOM, Row, are_answered, bytes, code_of_run, ends, files_of, has_passed, sink_of, table_file,
+    words_of,
 };
 use crate::tables::{HEADER_OF_OTHERS, TWO_BRIDGES};
 use cxl_io::MemFetch;
@@ -10,86 +11,248 @@ use std::process::Abort;
 
 #[test]
 fn outside(rt: HostRuntime) {
-    are_answered(&rt, &OUTSIDE);
+    are_answered(&rt, OUTSIDE);
 }
 
 const USAGE: &str = "usage\n";
 
-const OUTSIDE: [Row; 33] = [
+const OUTSIDE: &[Row] = &[
     // Words that are none of the forms, or whose address is no number.
-    ("", TWO_BRIDGES, "", 1, USAGE),
-    ("route", TWO_BRIDGES, "", 1, USAGE),
-    ("route table", TWO_BRIDGES, "", 1, USAGE),
-    ("route table 0x100000000 0", TWO_BRIDGES, "", 1, USAGE),
-    ("routes table 0x100000000", TWO_BRIDGES, "", 1, USAGE),
-    ("route table 0x", TWO_BRIDGES, "", 1, USAGE),
-    ("route table 0x10000000g", TWO_BRIDGES, "", 1, USAGE),
-    (
-        "route table 18446744073709551616",
-        TWO_BRIDGES,
-        "",
-        1,
-        USAGE,
-    ),
-    ("list", TWO_BRIDGES, "", 1, USAGE),
-    ("list table table", TWO_BRIDGES, "", 1, USAGE),
-    ("lists table", TWO_BRIDGES, "", 1, USAGE),
-    ("normal", TWO_BRIDGES, "", 1, USAGE),
-    ("normal table 0", TWO_BRIDGES, "", 1, USAGE),
-    ("check", TWO_BRIDGES, "", 1, USAGE),
-    ("check table table", TWO_BRIDGES, "", 1, USAGE),
-    ("check table table table table", TWO_BRIDGES, "", 1, USAGE),
-    ("run table", TWO_BRIDGES, "", 1, USAGE),
-    ("run table table table table", TWO_BRIDGES, "", 1, USAGE),
-    ("gen", "", "", 1, USAGE),
-    ("gen 0", "", "", 1, USAGE),
-    ("gen 33", "", "", 1, USAGE),
-    ("gen 0x", "", "", 1, USAGE),
-    ("gen 1 1", "", "", 1, USAGE),
+    Row {
+        line: "",
+        table: TWO_BRIDGES,
+        changes: "",
+        code: 1,
+        text: USAGE,
+    },
+    Row {
+        line: "route",
+        table: TWO_BRIDGES,
+        changes: "",
+        code: 1,
+        text: USAGE,
+    },
+    Row {
+        line: "route table",
+        table: TWO_BRIDGES,
+        changes: "",
+        code: 1,
+        text: USAGE,
+    },
+    Row {
+        line: "route table 0x100000000 0",
+        table: TWO_BRIDGES,
+        changes: "",
+        code: 1,
+        text: USAGE,
+    },
+    Row {
+        line: "routes table 0x100000000",
+        table: TWO_BRIDGES,
+        changes: "",
+        code: 1,
+        text: USAGE,
+    },
+    Row {
+        line: "route table 0x",
+        table: TWO_BRIDGES,
+        changes: "",
+        code: 1,
+        text: USAGE,
+    },
+    Row {
+        line: "route table 0x10000000g",
+        table: TWO_BRIDGES,
+        changes: "",
+        code: 1,
+        text: USAGE,
+    },
+    Row {
+        line: "route table 18446744073709551616",
+        table: TWO_BRIDGES,
+        changes: "",
+        code: 1,
+        text: USAGE,
+    },
+    Row {
+        line: "list",
+        table: TWO_BRIDGES,
+        changes: "",
+        code: 1,
+        text: USAGE,
+    },
+    Row {
+        line: "list table table",
+        table: TWO_BRIDGES,
+        changes: "",
+        code: 1,
+        text: USAGE,
+    },
+    Row {
+        line: "lists table",
+        table: TWO_BRIDGES,
+        changes: "",
+        code: 1,
+        text: USAGE,
+    },
+    Row {
+        line: "normal",
+        table: TWO_BRIDGES,
+        changes: "",
+        code: 1,
+        text: USAGE,
+    },
+    Row {
+        line: "normal table 0",
+        table: TWO_BRIDGES,
+        changes: "",
+        code: 1,
+        text: USAGE,
+    },
+    Row {
+        line: "check",
+        table: TWO_BRIDGES,
+        changes: "",
+        code: 1,
+        text: USAGE,
+    },
+    Row {
+        line: "check table table",
+        table: TWO_BRIDGES,
+        changes: "",
+        code: 1,
+        text: USAGE,
+    },
+    Row {
+        line: "check table table table table",
+        table: TWO_BRIDGES,
+        changes: "",
+        code: 1,
+        text: USAGE,
+    },
+    Row {
+        line: "run table",
+        table: TWO_BRIDGES,
+        changes: "",
+        code: 1,
+        text: USAGE,
+    },
+    Row {
+        line: "run table table table table",
+        table: TWO_BRIDGES,
+        changes: "",
+        code: 1,
+        text: USAGE,
+    },
+    Row {
+        line: "gen",
+        table: "",
+        changes: "",
+        code: 1,
+        text: USAGE,
+    },
+    Row {
+        line: "gen 0",
+        table: "",
+        changes: "",
+        code: 1,
+        text: USAGE,
+    },
+    Row {
+        line: "gen 33",
+        table: "",
+        changes: "",
+        code: 1,
+        text: USAGE,
+    },
+    Row {
+        line: "gen 0x",
+        table: "",
+        changes: "",
+        code: 1,
+        text: USAGE,
+    },
+    Row {
+        line: "gen 1 1",
+        table: "",
+        changes: "",
+        code: 1,
+        text: USAGE,
+    },
     // Generated systems.
-    (
-        "gen 1",
-        "",
-        "",
-        0,
-        "gen 1 regions 1 stores 1000 loads 1000 unmapped 0 sum 126180 checked 1\n",
-    ),
-    (
-        "gen 32",
-        "",
-        "",
-        0,
-        "gen 32 regions 32 stores 32000 loads 32000 unmapped 0 sum 4037760 checked 32\n",
-    ),
-    ("--help route", TWO_BRIDGES, "", 1, USAGE),
-    ("--version 0", TWO_BRIDGES, "", 1, USAGE),
+    Row {
+        line: "gen 1",
+        table: "",
+        changes: "",
+        code: 0,
+        text: "gen 1 regions 1 stores 1000 loads 1000 unmapped 0 sum 126180 checked 1\n",
+    },
+    Row {
+        line: "gen 32",
+        table: "",
+        changes: "",
+        code: 0,
+        text: "gen 32 regions 32 stores 32000 loads 32000 unmapped 0 sum 4037760 checked 32\n",
+    },
+    Row {
+        line: "--help route",
+        table: TWO_BRIDGES,
+        changes: "",
+        code: 1,
+        text: USAGE,
+    },
+    Row {
+        line: "--version 0",
+        table: TWO_BRIDGES,
+        changes: "",
+        code: 1,
+        text: USAGE,
+    },
     // Help and version.
-    ("--help", "", "", 0, HELP),
-    ("--version", "", "", 0, "cxlplan 0.1.0\n"),
+    Row {
+        line: "--help",
+        table: "",
+        changes: "",
+        code: 0,
+        text: HELP,
+    },
+    Row {
+        line: "--version",
+        table: "",
+        changes: "",
+        code: 0,
+        text: "cxlplan 0.1.0\n",
+    },
     // A file that is not there.
-    (
-        "route missing.cedt 0x100000000",
-        TWO_BRIDGES,
-        "",
-        2,
-        "error: cannot read missing.cedt\n",
-    ),
+    Row {
+        line: "route missing.cedt 0x100000000",
+        table: TWO_BRIDGES,
+        changes: "",
+        code: 2,
+        text: "error: cannot read missing.cedt\n",
+    },
     // A file of 1,048,577 bytes.
-    (
-        "route table 0x100000000",
-        "0x100001",
-        "",
-        12,
-        "error: table too large\n",
-    ),
-    ("list table", "0x100001", "", 12, "error: table too large\n"),
-    (
-        "normal table",
-        "0x100001",
-        "",
-        12,
-        "error: table too large\n",
-    ),
+    Row {
+        line: "route table 0x100000000",
+        table: "0x100001",
+        changes: "",
+        code: 12,
+        text: "error: table too large\n",
+    },
+    Row {
+        line: "list table",
+        table: "0x100001",
+        changes: "",
+        code: 12,
+        text: "error: table too large\n",
+    },
+    Row {
+        line: "normal table",
+        table: "0x100001",
+        changes: "",
+        code: 12,
+        text: "error: table too large\n",
+    },
 ];
 
 #[test]
@@ -130,8 +293,8 @@ fn unread_file(rt: HostRuntime) {
 
 #[test]
 fn help_of_forms(rt: HostRuntime) {
-    for form in &FORMS {
-        assert!(rt; HELP.contains(*form));
+    for (i, form) in FORMS.iter().enumerate() {
+        has_passed(&rt, i, HELP.contains(*form));
     }
 }
 
@@ -148,36 +311,55 @@ const FORMS: [&str; 8] = [
 
 /// A line, the room of a sink, the number of the write that fails or 0, and what is written over the two-bridge
 /// table.
-type SinkRow = (&'static str, u32, u64, &'static str);
+struct SinkRow {
+    line: &'static str,
+    room: u32,
+    fail: u64,
+    text: &'static str,
+}
 
 fn fails_behind(rt: &impl Abort, alloc: Global, row: &SinkRow) -> bool {
-    let (line, room, fail, text) = *row;
-    let words = words_of(rt, alloc, line);
+    let words = words_of(rt, alloc, row.line);
     let mut files = table_file(rt, alloc, bytes(rt, alloc, TWO_BRIDGES));
-    let mut sink = sink_of(rt, alloc, room, fail);
+    let mut sink = sink_of(rt, alloc, row.room, row.fail);
     let code = code_of_run(alloc, &words, &mut files, &mut sink);
-    code == 6 && sink.bytes() == text.as_bytes()
+    code == 6 && sink.bytes() == row.text.as_bytes()
 }
 
 #[test]
 fn sinks(rt: HostRuntime) {
-    for row in &SINKS {
-        assert!(rt; fails_behind(&rt, rt.alloc(), row));
+    for (i, row) in SINKS.iter().enumerate() {
+        has_passed(&rt, i, fails_behind(&rt, rt.alloc(), row));
     }
 }
 
-const SINKS: [SinkRow; 4] = [
+const SINKS: &[SinkRow] = &[
     // A sink with room for five bytes, and one whose first write fails.
-    ("route table 0x100000000", 5, 0, "windo"),
-    ("route table 0x100000000", ROOM, 1, ""),
+    SinkRow {
+        line: "route table 0x100000000",
+        room: 5,
+        fail: 0,
+        text: "windo",
+    },
+    SinkRow {
+        line: "route table 0x100000000",
+        room: ROOM,
+        fail: 1,
+        text: "",
+    },
     // A list with room for its first line and five bytes of the second, and one whose first write fails.
-    (
-        "list table",
-        53,
-        0,
-        "chbs 0 version 1 base 0x80000000 length 0x10000\nchbs ",
-    ),
-    ("list table", ROOM, 1, ""),
+    SinkRow {
+        line: "list table",
+        room: 53,
+        fail: 0,
+        text: "chbs 0 version 1 base 0x80000000 length 0x10000\nchbs ",
+    },
+    SinkRow {
+        line: "list table",
+        room: ROOM,
+        fail: 1,
+        text: "",
+    },
 ];
 
 /// Whether a list of 5,000 lines of 17 bytes, whose write of this number fails, ends so behind so many bytes.

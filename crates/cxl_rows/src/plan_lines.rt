@@ -102,17 +102,23 @@ row e1 0 ways 2 gran 512 skip 0x0
 ";
 
 /// The digits of a table, a topology, a line that asks for a region, the exit status and the text of the plan.
-type Row = (&'static str, &'static str, &'static str, u8, &'static str);
+#[derive(Drop)]
+struct Row {
+    table: &'static str,
+    topology: &'static str,
+    line: &'static str,
+    code: u8,
+    text: &'static str,
+}
 
 /// Whether `plan` with this line ends with this exit status and this text, where the table is changed and the fetch of
 /// this number fails.
 fn is_planned(rt: &impl Abort, alloc: Global, row: &Row, changes: &str, fail: u64) -> bool {
-    let (table, topology, line, code, text) = *row;
-    let table = changed(rt, alloc, table, changes, 1);
-    let mut files = files_of(rt, alloc, table, topology, Vec::new(alloc), fail);
+    let table = changed(rt, alloc, row.table, changes, 1);
+    let mut files = files_of(rt, alloc, table, row.topology, Vec::new(alloc), fail);
     let mut words = words_of(rt, alloc, "plan table topology");
-    put_word(rt, alloc, &mut words, line);
-    ends(rt, alloc, &words, &mut files, code, text.as_bytes())
+    put_word(rt, alloc, &mut words, row.line);
+    ends(rt, alloc, &words, &mut files, row.code, row.text.as_bytes())
 }
 
 fn are_planned(rt: &(impl Abort + AllocGlobal), rows: &[Row]) {
@@ -124,227 +130,238 @@ fn are_planned(rt: &(impl Abort + AllocGlobal), rows: &[Row]) {
 /// Plans and refusals of named endpoints.
 #[test]
 fn named_endpoints(rt: HostRuntime) {
-    are_planned(&rt, &NAMED);
+    are_planned(&rt, NAMED);
 }
 
-const NAMED: [Row; 17] = [
+const NAMED: &[Row] = &[
     // Plans over hosts after reset.
-    (
-        TWO_BRIDGES,
-        TWO_ENDPOINTS,
-        "create r0 ram 0x20000000 e0 e1",
-        0,
-        FIRST_PLAN,
-    ),
-    (
-        TWO_BRIDGES,
-        TWO_ENDPOINTS_FORWARDED,
-        "create r0 ram 0x20000000 e0 e1",
-        0,
-        FORWARDED_PLAN,
-    ),
-    (
-        SERVER,
-        FOUR_ENDPOINTS,
-        "create r0 ram 0x10000000000 e3 e1 e0 e2",
-        0,
-        SERVER_PLAN,
-    ),
-    (
-        ONE_BRIDGE,
-        FIVE_ENDPOINTS,
-        "create b pmem 0x10000000 gran=4096 e2",
-        0,
-        PMEM_PLAN,
-    ),
+    Row {
+        table: TWO_BRIDGES,
+        topology: TWO_ENDPOINTS,
+        line: "create r0 ram 0x20000000 e0 e1",
+        code: 0,
+        text: FIRST_PLAN,
+    },
+    Row {
+        table: TWO_BRIDGES,
+        topology: TWO_ENDPOINTS_FORWARDED,
+        line: "create r0 ram 0x20000000 e0 e1",
+        code: 0,
+        text: FORWARDED_PLAN,
+    },
+    Row {
+        table: SERVER,
+        topology: FOUR_ENDPOINTS,
+        line: "create r0 ram 0x10000000000 e3 e1 e0 e2",
+        code: 0,
+        text: SERVER_PLAN,
+    },
+    Row {
+        table: ONE_BRIDGE,
+        topology: FIVE_ENDPOINTS,
+        line: "create b pmem 0x10000000 gran=4096 e2",
+        code: 0,
+        text: PMEM_PLAN,
+    },
     // Names that are no endpoint's, and the faults of requests.
-    (
-        TWO_BRIDGES,
-        TWO_ENDPOINTS,
-        "create x ram 0x10000000 e9",
-        8,
-        "no such endpoint e9\n",
-    ),
-    (
-        TWO_BRIDGES,
-        TWO_ENDPOINTS,
-        "create x ram 0x10000000 e0 hb1 e9",
-        8,
-        "no such endpoint hb1\n",
-    ),
-    (
-        SERVER,
-        FOUR_ENDPOINTS,
-        "create x ram 0x10000000 e0 e0",
-        8,
-        "refused repeat e0\n",
-    ),
-    (
-        ONE_BRIDGE,
-        FIVE_ENDPOINTS,
-        "create x ram 0x50000000 e0 e1 e2 e3 e4",
-        8,
-        "refused ways 5\n",
-    ),
-    (
-        TWO_BRIDGES,
-        TWO_ENDPOINTS,
-        "create x ram 0x10000000 e0 e1",
-        8,
-        "refused size\n",
-    ),
-    (
-        SERVER,
-        FOUR_ENDPOINTS,
-        "create x ram 0x30000000 e0 e1 e2",
-        8,
-        "refused uneven hb1\n",
-    ),
-    (
-        ONE_BRIDGE,
-        FIVE_ENDPOINTS,
-        "create d pmem 0x50000000 e0",
-        8,
-        "refused span e0 no-room 0x40000000 0x80000000\n",
-    ),
+    Row {
+        table: TWO_BRIDGES,
+        topology: TWO_ENDPOINTS,
+        line: "create x ram 0x10000000 e9",
+        code: 8,
+        text: "no such endpoint e9\n",
+    },
+    Row {
+        table: TWO_BRIDGES,
+        topology: TWO_ENDPOINTS,
+        line: "create x ram 0x10000000 e0 hb1 e9",
+        code: 8,
+        text: "no such endpoint hb1\n",
+    },
+    Row {
+        table: SERVER,
+        topology: FOUR_ENDPOINTS,
+        line: "create x ram 0x10000000 e0 e0",
+        code: 8,
+        text: "refused repeat e0\n",
+    },
+    Row {
+        table: ONE_BRIDGE,
+        topology: FIVE_ENDPOINTS,
+        line: "create x ram 0x50000000 e0 e1 e2 e3 e4",
+        code: 8,
+        text: "refused ways 5\n",
+    },
+    Row {
+        table: TWO_BRIDGES,
+        topology: TWO_ENDPOINTS,
+        line: "create x ram 0x10000000 e0 e1",
+        code: 8,
+        text: "refused size\n",
+    },
+    Row {
+        table: SERVER,
+        topology: FOUR_ENDPOINTS,
+        line: "create x ram 0x30000000 e0 e1 e2",
+        code: 8,
+        text: "refused uneven hb1\n",
+    },
+    Row {
+        table: ONE_BRIDGE,
+        topology: FIVE_ENDPOINTS,
+        line: "create d pmem 0x50000000 e0",
+        code: 8,
+        text: "refused span e0 no-room 0x40000000 0x80000000\n",
+    },
     // Why windows take no region.
-    (
-        SERVER,
-        FOUR_ENDPOINTS,
-        "create x ram 0x20000000 e0 e1",
-        8,
-        "refused no-window\nwindow 0 bridges\n",
-    ),
-    (
-        TWO_BRIDGES_WIDE,
-        FOUR_ENDPOINTS,
-        "create x ram 0x40000000 e0 e1 e2 e3",
-        8,
-        "refused no-window\nwindow 0 select hb0\n",
-    ),
-    (
-        THREE_BRIDGES,
-        NO_THREE_WAYS,
-        "create t ram 0x30000000 e0 e1 e2",
-        8,
-        "refused no-window\nwindow 0 ways-cap e1\n",
-    ),
-    (
-        TWO_BRIDGES,
-        FOUR_ENDPOINTS,
-        "create b ram 0x200000000 e0 e2",
-        8,
-        "refused no-window\nwindow 0 no-base 0x100000000 0x200000000\n",
-    ),
-    (
-        FOUR_WINDOWS,
-        FIVE_ENDPOINTS,
-        "create x pmem 0x20000000 e0",
-        8,
-        "refused no-window\nwindow 0 kind\nwindow 1 fixed\nwindow 2 unusable\nwindow 3 no-base 0x400000000 0x410000000\n",
-    ),
-    (
-        FOUR_WINDOWS,
-        TWO_ENDPOINTS,
-        "create x ram 0x20000000 gran=256 e0 e1",
-        8,
-        "refused no-window\nwindow 0 bridges\nwindow 1 fixed\nwindow 2 gran\nwindow 3 bridges\n",
-    ),
+    Row {
+        table: SERVER,
+        topology: FOUR_ENDPOINTS,
+        line: "create x ram 0x20000000 e0 e1",
+        code: 8,
+        text: "refused no-window\nwindow 0 bridges\n",
+    },
+    Row {
+        table: TWO_BRIDGES_WIDE,
+        topology: FOUR_ENDPOINTS,
+        line: "create x ram 0x40000000 e0 e1 e2 e3",
+        code: 8,
+        text: "refused no-window\nwindow 0 select hb0\n",
+    },
+    Row {
+        table: THREE_BRIDGES,
+        topology: NO_THREE_WAYS,
+        line: "create t ram 0x30000000 e0 e1 e2",
+        code: 8,
+        text: "refused no-window\nwindow 0 ways-cap e1\n",
+    },
+    Row {
+        table: TWO_BRIDGES,
+        topology: FOUR_ENDPOINTS,
+        line: "create b ram 0x200000000 e0 e2",
+        code: 8,
+        text: "refused no-window\nwindow 0 no-base 0x100000000 0x200000000\n",
+    },
+    Row {
+        table: FOUR_WINDOWS,
+        topology: FIVE_ENDPOINTS,
+        line: "create x pmem 0x20000000 e0",
+        code: 8,
+        text: "refused no-window\nwindow 0 kind\nwindow 1 fixed\nwindow 2 unusable\nwindow 3 no-base 0x400000000 0x410000000\n",
+    },
+    Row {
+        table: FOUR_WINDOWS,
+        topology: TWO_ENDPOINTS,
+        line: "create x ram 0x20000000 gran=256 e0 e1",
+        code: 8,
+        text: "refused no-window\nwindow 0 bridges\nwindow 1 fixed\nwindow 2 gran\nwindow 3 bridges\n",
+    },
 ];
 
 /// Plans over endpoints that are picked, and why none are.
 #[test]
 fn picked_endpoints(rt: HostRuntime) {
-    are_planned(&rt, &PICKED);
+    are_planned(&rt, PICKED);
 }
 
-const PICKED: [Row; 11] = [
+const PICKED: &[Row] = &[
     // Plans.
-    (
-        SERVER,
-        FOUR_ENDPOINTS,
-        "create a ram 0x40000000 ways=4",
-        0,
-        PICKED_FOUR,
-    ),
-    (
-        SERVER,
-        FOUR_ENDPOINTS,
-        "create b ram 0x20000000 gran=256 ways=2",
-        0,
-        PICKED_TWO,
-    ),
-    (
-        SERVER,
-        NO_RAM_IN_THE_FIRST,
-        "create b ram 0x20000000 ways=2",
-        0,
-        PICKED_BESIDE,
-    ),
-    (
-        ONE_BRIDGE,
-        FIVE_ENDPOINTS,
-        "create p pmem 0x20000000 gran=4096 ways=2",
-        0,
-        PICKED_WIDE,
-    ),
-    (
-        FOUR_WINDOWS,
-        TWO_ENDPOINTS,
-        "create x ram 0x20000000 ways=2",
-        0,
-        PICKED_BEHIND,
-    ),
+    Row {
+        table: SERVER,
+        topology: FOUR_ENDPOINTS,
+        line: "create a ram 0x40000000 ways=4",
+        code: 0,
+        text: PICKED_FOUR,
+    },
+    Row {
+        table: SERVER,
+        topology: FOUR_ENDPOINTS,
+        line: "create b ram 0x20000000 gran=256 ways=2",
+        code: 0,
+        text: PICKED_TWO,
+    },
+    Row {
+        table: SERVER,
+        topology: NO_RAM_IN_THE_FIRST,
+        line: "create b ram 0x20000000 ways=2",
+        code: 0,
+        text: PICKED_BESIDE,
+    },
+    Row {
+        table: ONE_BRIDGE,
+        topology: FIVE_ENDPOINTS,
+        line: "create p pmem 0x20000000 gran=4096 ways=2",
+        code: 0,
+        text: PICKED_WIDE,
+    },
+    Row {
+        table: FOUR_WINDOWS,
+        topology: TWO_ENDPOINTS,
+        line: "create x ram 0x20000000 ways=2",
+        code: 0,
+        text: PICKED_BEHIND,
+    },
     // Why none are picked.
-    (
-        SERVER,
-        FOUR_ENDPOINTS,
-        "create c ram 0x30000000 ways=3",
-        8,
-        "refused no-set\n",
-    ),
-    (
-        SERVER,
-        FOUR_ENDPOINTS,
-        "create c ram 0x50000000 ways=5",
-        8,
-        "refused ways 5\n",
-    ),
-    (
-        SERVER,
-        FOUR_ENDPOINTS,
-        "create c ram 0x10000000 ways=2",
-        8,
-        "refused size\n",
-    ),
-    (
-        SERVER,
-        FOUR_ENDPOINTS,
-        "create c pmem 0x20000000 ways=2",
-        8,
-        "refused no-set\n",
-    ),
-    (
-        SERVER,
-        FOUR_ENDPOINTS,
-        "create c ram 0x40000000 gran=512 ways=4",
-        8,
-        "refused no-set\n",
-    ),
-    (
-        SERVER,
-        NO_RAM_IN_THE_FIRST,
-        "create c ram 0x40000000 ways=4",
-        8,
-        "refused no-set\n",
-    ),
+    Row {
+        table: SERVER,
+        topology: FOUR_ENDPOINTS,
+        line: "create c ram 0x30000000 ways=3",
+        code: 8,
+        text: "refused no-set\n",
+    },
+    Row {
+        table: SERVER,
+        topology: FOUR_ENDPOINTS,
+        line: "create c ram 0x50000000 ways=5",
+        code: 8,
+        text: "refused ways 5\n",
+    },
+    Row {
+        table: SERVER,
+        topology: FOUR_ENDPOINTS,
+        line: "create c ram 0x10000000 ways=2",
+        code: 8,
+        text: "refused size\n",
+    },
+    Row {
+        table: SERVER,
+        topology: FOUR_ENDPOINTS,
+        line: "create c pmem 0x20000000 ways=2",
+        code: 8,
+        text: "refused no-set\n",
+    },
+    Row {
+        table: SERVER,
+        topology: FOUR_ENDPOINTS,
+        line: "create c ram 0x40000000 gran=512 ways=4",
+        code: 8,
+        text: "refused no-set\n",
+    },
+    Row {
+        table: SERVER,
+        topology: NO_RAM_IN_THE_FIRST,
+        line: "create c ram 0x40000000 ways=4",
+        code: 8,
+        text: "refused no-set\n",
+    },
 ];
 
-/// Lines that ask for no region: no file is asked for, so that it is no matter that the first fetch fails.
+/// Whether a line asks for no region: no file is asked for, so that it is no matter that the first fetch fails.
+fn asks_for_none(rt: &impl Abort, alloc: Global, line: &'static str) -> bool {
+    let row = Row {
+        table: "",
+        topology: "",
+        line,
+        code: 1,
+        text: "usage\n",
+    };
+    is_planned(rt, alloc, &row, "", 1)
+}
+
 #[test]
 fn lines(rt: HostRuntime) {
-    for line in &NO_CREATE {
-        assert!(rt; is_planned(&rt, rt.alloc(), &("", "", *line, 1, "usage\n"), "", 1));
+    for (i, line) in NO_CREATE.iter().enumerate() {
+        has_passed(&rt, i, asks_for_none(&rt, rt.alloc(), *line));
     }
 }
 
@@ -362,25 +379,69 @@ const NO_CREATE: [&str; 11] = [
     "begin create x ram 0x20000000 ways=2",
 ];
 
+/// A topology, changes of the table, the number of the fetch that fails or 0, the exit status and the text.
+struct FileFault {
+    topology: &'static str,
+    changes: &'static str,
+    fail: u64,
+    code: u8,
+    text: &'static str,
+}
+
+/// Whether a plan over these files ends with this fault.
+fn ends_with_fault(rt: &impl Abort, alloc: Global, fault: &FileFault) -> bool {
+    let row = Row {
+        table: TWO_BRIDGES,
+        topology: fault.topology,
+        line: "create x ram 0x20000000 e0 e1",
+        code: fault.code,
+        text: fault.text,
+    };
+    is_planned(rt, alloc, &row, fault.changes, fault.fail)
+}
+
 /// A file that cannot be read or has no reading; the table comes first.
 #[test]
 fn files_in_order(rt: HostRuntime) {
-    for (topology, changes, fail, code, text) in &IN_ORDER {
-        let row = (
-            TWO_BRIDGES,
-            *topology,
-            "create x ram 0x20000000 e0 e1",
-            *code,
-            *text,
-        );
-        assert!(rt; is_planned(&rt, rt.alloc(), &row, changes, *fail));
+    for (i, fault) in IN_ORDER.iter().enumerate() {
+        has_passed(&rt, i, ends_with_fault(&rt, rt.alloc(), fault));
     }
 }
 
-const IN_ORDER: [(&str, &str, u64, u8, &str); 5] = [
-    ("", "", 1, 2, "error: cannot read table\n"),
-    ("", "", 2, 2, "error: cannot read topology\n"),
-    ("[[bridge", "143", 2, 3, "error: table length\n"),
-    ("[[bridge", "", 0, 4, "error: topology toml\n"),
-    ("", "1048577", 0, 12, "error: table too large\n"),
+const IN_ORDER: &[FileFault] = &[
+    FileFault {
+        topology: "",
+        changes: "",
+        fail: 1,
+        code: 2,
+        text: "error: cannot read table\n",
+    },
+    FileFault {
+        topology: "",
+        changes: "",
+        fail: 2,
+        code: 2,
+        text: "error: cannot read topology\n",
+    },
+    FileFault {
+        topology: "[[bridge",
+        changes: "143",
+        fail: 2,
+        code: 3,
+        text: "error: table length\n",
+    },
+    FileFault {
+        topology: "[[bridge",
+        changes: "",
+        fail: 0,
+        code: 4,
+        text: "error: topology toml\n",
+    },
+    FileFault {
+        topology: "",
+        changes: "1048577",
+        fail: 0,
+        code: 12,
+        text: "error: table too large\n",
+    },
 ];

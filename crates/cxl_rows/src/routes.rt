@@ -9,111 +9,135 @@ const FIRST: &str = "route table 0x100000000";
 /// Addresses of tables, and faults of tables.
 #[test]
 fn routes(rt: HostRuntime) {
-    are_answered(&rt, &ROUTES);
+    are_answered(&rt, ROUTES);
 }
 
-const ROUTES: [Row; 17] = [
+const ROUTES: &[Row] = &[
     // The first chunk of the two-bridge table, its last byte, the byte behind it, and one that is written in
     // decimal digits.
-    (FIRST, TWO_BRIDGES, "", 0, "window 0 position 0 bridge 0\n"),
-    (
-        "route table 0x1ffffffff",
-        TWO_BRIDGES,
-        "",
-        0,
-        "window 0 position 1 bridge 1\n",
-    ),
-    ("route table 0x200000000", TWO_BRIDGES, "", 8, "no window\n"),
-    (
-        "route table 4294967296",
-        TWO_BRIDGES,
-        "",
-        0,
-        "window 0 position 0 bridge 0\n",
-    ),
+    Row {
+        line: FIRST,
+        table: TWO_BRIDGES,
+        changes: "",
+        code: 0,
+        text: "window 0 position 0 bridge 0\n",
+    },
+    Row {
+        line: "route table 0x1ffffffff",
+        table: TWO_BRIDGES,
+        changes: "",
+        code: 0,
+        text: "window 0 position 1 bridge 1\n",
+    },
+    Row {
+        line: "route table 0x200000000",
+        table: TWO_BRIDGES,
+        changes: "",
+        code: 8,
+        text: "no window\n",
+    },
+    Row {
+        line: "route table 4294967296",
+        table: TWO_BRIDGES,
+        changes: "",
+        code: 0,
+        text: "window 0 position 0 bridge 0\n",
+    },
     // Under XOR the chunk's lowest bit is 0 and the parity is 1.
-    (
-        "route table 0x100004000",
-        TWO_BRIDGES_XOR,
-        "",
-        0,
-        "window 0 position 1 bridge 1\n",
-    ),
+    Row {
+        line: "route table 0x100004000",
+        table: TWO_BRIDGES_XOR,
+        changes: "",
+        code: 0,
+        text: "window 0 position 1 bridge 1\n",
+    },
     // Tables that other programs made.
-    (
-        "route table 0x110004500",
-        QEMU_EIGHT,
-        "",
-        0,
-        "window 0 position 5 bridge 48\n",
-    ),
-    (
-        "route table 0x310004500",
-        QEMU_EIGHT,
-        "",
-        0,
-        "window 1 position 2 bridge 56\n",
-    ),
-    ("route table 0x350004500", QEMU_EIGHT, "", 8, "no window\n"),
-    (
-        "route table 0x280004500",
-        IASL_XOR,
-        "",
-        0,
-        "window 1 position 0 bridge 0\n",
-    ),
+    Row {
+        line: "route table 0x110004500",
+        table: QEMU_EIGHT,
+        changes: "",
+        code: 0,
+        text: "window 0 position 5 bridge 48\n",
+    },
+    Row {
+        line: "route table 0x310004500",
+        table: QEMU_EIGHT,
+        changes: "",
+        code: 0,
+        text: "window 1 position 2 bridge 56\n",
+    },
+    Row {
+        line: "route table 0x350004500",
+        table: QEMU_EIGHT,
+        changes: "",
+        code: 8,
+        text: "no window\n",
+    },
+    Row {
+        line: "route table 0x280004500",
+        table: IASL_XOR,
+        changes: "",
+        code: 0,
+        text: "window 1 position 0 bridge 0\n",
+    },
     // Each fault of the two-bridge table, made by a few bytes: the second of them keeps the sum, which stands at
     // byte 9.
-    (
-        FIRST,
-        TWO_BRIDGES,
-        "0 0x44 9 0xc9",
-        3,
-        "error: table signature\n",
-    ),
-    (
-        FIRST,
-        TWO_BRIDGES,
-        "4 0x91 9 0xc9",
-        3,
-        "error: table length\n",
-    ),
-    (FIRST, TWO_BRIDGES, "9 0xcb", 3, "error: table checksum\n"),
-    (
-        FIRST,
-        TWO_BRIDGES,
-        "102 0x2d 9 0xc9",
-        3,
-        "error: table record-cut 100\n",
-    ),
-    (
-        FIRST,
-        TWO_BRIDGES,
-        "38 0x1f 9 0xcb",
-        3,
-        "error: table record-length 36\n",
-    ),
-    (
-        FIRST,
-        TWO_BRIDGES,
-        "124 0x05 9 0xc6",
-        3,
-        "error: table ways-code 100\n",
-    ),
-    (
-        FIRST,
-        TWO_BRIDGES,
-        "128 0x07 9 0xc3",
-        3,
-        "error: table gran-code 100\n",
-    ),
-    (
-        FIRST,
-        TWO_BRIDGES,
-        "125 0x02 9 0xc8",
-        3,
-        "error: table arithmetic 100\n",
-    ),
+    Row {
+        line: FIRST,
+        table: TWO_BRIDGES,
+        changes: "0 0x44 9 0xc9",
+        code: 3,
+        text: "error: table signature\n",
+    },
+    Row {
+        line: FIRST,
+        table: TWO_BRIDGES,
+        changes: "4 0x91 9 0xc9",
+        code: 3,
+        text: "error: table length\n",
+    },
+    Row {
+        line: FIRST,
+        table: TWO_BRIDGES,
+        changes: "9 0xcb",
+        code: 3,
+        text: "error: table checksum\n",
+    },
+    Row {
+        line: FIRST,
+        table: TWO_BRIDGES,
+        changes: "102 0x2d 9 0xc9",
+        code: 3,
+        text: "error: table record-cut 100\n",
+    },
+    Row {
+        line: FIRST,
+        table: TWO_BRIDGES,
+        changes: "38 0x1f 9 0xcb",
+        code: 3,
+        text: "error: table record-length 36\n",
+    },
+    Row {
+        line: FIRST,
+        table: TWO_BRIDGES,
+        changes: "124 0x05 9 0xc6",
+        code: 3,
+        text: "error: table ways-code 100\n",
+    },
+    Row {
+        line: FIRST,
+        table: TWO_BRIDGES,
+        changes: "128 0x07 9 0xc3",
+        code: 3,
+        text: "error: table gran-code 100\n",
+    },
+    Row {
+        line: FIRST,
+        table: TWO_BRIDGES,
+        changes: "125 0x02 9 0xc8",
+        code: 3,
+        text: "error: table arithmetic 100\n",
+    },
 ];
 
 /// A table with so many equal records behind its header.

@@ -203,12 +203,17 @@ pub(crate) fn answers(
 }
 
 /// A line, the digits of a table and changes of its bytes, the exit status and the text.
-pub(crate) type Row = (&'static str, &'static str, &'static str, u8, &'static str);
+pub(crate) struct Row {
+    pub(crate) line: &'static str,
+    pub(crate) table: &'static str,
+    pub(crate) changes: &'static str,
+    pub(crate) code: u8,
+    pub(crate) text: &'static str,
+}
 
 fn is_answered(rt: &impl Abort, alloc: Global, row: &Row) -> bool {
-    let (line, table, changes, code, text) = *row;
-    let table = changed(rt, alloc, table, changes, 1);
-    answers(rt, alloc, line, table, code, text.as_bytes())
+    let table = changed(rt, alloc, row.table, row.changes, 1);
+    answers(rt, alloc, row.line, table, row.code, row.text.as_bytes())
 }
 
 /// Checks that the row at this place is right.

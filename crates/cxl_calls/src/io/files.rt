@@ -28,34 +28,49 @@ fn gives<F: Fetch>(alloc: Global, files: &mut F, name: &str, want: &str) -> bool
     }
 }
 
-/// Adds a file of that name, of a text or of so many bytes.
-fn add(
-    rt: &(impl Abort + AllocGlobal),
-    files: &mut Vec<(String, Vec<u8>)>,
-    name: &str,
-    text: &str,
+/// A file of a name, a text and so many bytes more.
+struct File {
+    name: &'static str,
+    text: &'static str,
     more: usize,
-) {
-    let name = String::from_str(rt.alloc(), name).expect(rt, "memory");
+}
+
+fn add(rt: &(impl Abort + AllocGlobal), files: &mut Vec<(String, Vec<u8>)>, file: &File) {
+    let name = String::from_str(rt.alloc(), file.name).expect(rt, "memory");
     files
-        .push((name, repeated(rt, text, 7, more, "")))
+        .push((name, repeated(rt, file.text, 7, file.more, "")))
         .expect(rt, "memory");
 }
 
-/// Four files, each a text and so many bytes more: two have the same name, one has the most bytes that a file may have and
-/// one a byte more.
-const FILES: [(&str, &str, usize); 4] = [
-    ("table", "CEDT", 0),
-    ("full", "", 1_048_576),
-    ("over", "", 1_048_577),
-    ("table", "other", 0),
+/// Four files: two have the same name, one has the most bytes that a file may have and one a byte more.
+const FILES: &[File] = &[
+    File {
+        name: "table",
+        text: "CEDT",
+        more: 0,
+    },
+    File {
+        name: "full",
+        text: "",
+        more: 1_048_576,
+    },
+    File {
+        name: "over",
+        text: "",
+        more: 1_048_577,
+    },
+    File {
+        name: "table",
+        text: "other",
+        more: 0,
+    },
 ];
 
 /// These files, of which the fourth fetch fails.
 fn files(rt: &(impl Abort + AllocGlobal)) -> MemFetch {
     let mut files = Vec::new(rt.alloc());
-    for (name, text, more) in &FILES {
-        add(rt, &mut files, *name, *text, *more);
+    for file in FILES {
+        add(rt, &mut files, file);
     }
     MemFetch::new(files, list(rt, &[4]))
 }

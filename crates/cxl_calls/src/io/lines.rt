@@ -40,31 +40,117 @@ fn gives<S: Source>(rt: &(impl Abort + AllocGlobal), source: &mut S, want: &str)
 }
 
 /// A text, so many letters and a text, the read that fails or 0, and the answers up to the end, which comes twice.
-const SOURCES: [(&str, usize, &str, u64, &str); 13] = [
+struct Row {
+    front: &'static str,
+    letters: usize,
+    rest: &'static str,
+    fails: u64,
+    answers: &'static str,
+}
+
+const SOURCES: &[Row] = &[
     // Lines that end with 0x0a, with 0x0d 0x0a and with the source.
-    ("", 0, "", 0, ".|.|"),
-    ("\n", 0, "", 0, "|.|.|"),
-    ("show a", 0, "", 0, "show a|.|.|"),
-    ("show a\n", 0, "down 0x0\r\n", 0, "show a|down 0x0|.|.|"),
-    ("a\r\r\n\r\n\nb\r", 0, "", 0, "a\r|||b\r|.|.|"),
-    ("a\n\n", 0, "", 0, "a||.|.|"),
+    Row {
+        front: "",
+        letters: 0,
+        rest: "",
+        fails: 0,
+        answers: ".|.|",
+    },
+    Row {
+        front: "\n",
+        letters: 0,
+        rest: "",
+        fails: 0,
+        answers: "|.|.|",
+    },
+    Row {
+        front: "show a",
+        letters: 0,
+        rest: "",
+        fails: 0,
+        answers: "show a|.|.|",
+    },
+    Row {
+        front: "show a\n",
+        letters: 0,
+        rest: "down 0x0\r\n",
+        fails: 0,
+        answers: "show a|down 0x0|.|.|",
+    },
+    Row {
+        front: "a\r\r\n\r\n\nb\r",
+        letters: 0,
+        rest: "",
+        fails: 0,
+        answers: "a\r|||b\r|.|.|",
+    },
+    Row {
+        front: "a\n\n",
+        letters: 0,
+        rest: "",
+        fails: 0,
+        answers: "a||.|.|",
+    },
     // A read that fails is final.
-    ("a\nb", 0, "", 1, "!|!|"),
-    ("a\nb", 0, "", 2, "a|!|!|"),
+    Row {
+        front: "a\nb",
+        letters: 0,
+        rest: "",
+        fails: 1,
+        answers: "!|!|",
+    },
+    Row {
+        front: "a\nb",
+        letters: 0,
+        rest: "",
+        fails: 2,
+        answers: "a|!|!|",
+    },
     // A line of 4,097 bytes is passed over, one of 4,096 with its ending of two bytes is given.
-    ("", 4_097, "\nend", 0, "-|end|.|.|"),
-    ("", 20_000, "\nend", 0, "-|end|.|.|"),
-    ("", 4_096, "\r\n", 0, "*|.|.|"),
+    Row {
+        front: "",
+        letters: 4_097,
+        rest: "\nend",
+        fails: 0,
+        answers: "-|end|.|.|",
+    },
+    Row {
+        front: "",
+        letters: 20_000,
+        rest: "\nend",
+        fails: 0,
+        answers: "-|end|.|.|",
+    },
+    Row {
+        front: "",
+        letters: 4_096,
+        rest: "\r\n",
+        fails: 0,
+        answers: "*|.|.|",
+    },
     // A script of 16,777,216 bytes is read to its end; one byte more is too much.
-    ("\n", 16_777_215, "", 0, "|-|.|.|"),
-    ("\n", 16_777_216, "", 0, "|#|#|"),
+    Row {
+        front: "\n",
+        letters: 16_777_215,
+        rest: "",
+        fails: 0,
+        answers: "|-|.|.|",
+    },
+    Row {
+        front: "\n",
+        letters: 16_777_216,
+        rest: "",
+        fails: 0,
+        answers: "|#|#|",
+    },
 ];
 
 /// Whether a source in memory gives the answers of its row.
-fn is_read(rt: &(impl Abort + AllocGlobal), row: &(&str, usize, &str, u64, &str)) -> bool {
-    let (front, letters, rest, fails, want) = *row;
-    let bytes = repeated(rt, front, b'a', letters, rest);
-    gives(rt, &mut MemSource::new(bytes, list(rt, &[fails])), want)
+fn is_read(rt: &(impl Abort + AllocGlobal), row: &Row) -> bool {
+    let bytes = repeated(rt, row.front, b'a', row.letters, row.rest);
+    let fails = list(rt, &[row.fails]);
+    gives(rt, &mut MemSource::new(bytes, fails), row.answers)
 }
 
 #[test]

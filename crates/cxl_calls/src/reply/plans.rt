@@ -72,20 +72,55 @@ window 7 no-base 0x200000000 0x200000000
 }
 
 /// A decoder of a plan, by its node, its code of ways, its granularity code and its tail.
-fn planned(row: &(u32, u8, u8, u64)) -> Row {
+struct PlannedRow {
+    node: u32,
+    ways: u8,
+    gran: u8,
+    tail: u64,
+}
+
+/// The last row but one is of a port with two ways.
+const PLANNED_ROWS: &[PlannedRow] = &[
+    PlannedRow {
+        node: 0,
+        ways: 0,
+        gran: 0,
+        tail: 0,
+    },
+    PlannedRow {
+        node: 1,
+        ways: 1,
+        gran: 1,
+        tail: 0x0300,
+    },
+    PlannedRow {
+        node: 6,
+        ways: 1,
+        gran: 0,
+        tail: 0,
+    },
+    PlannedRow {
+        node: 7,
+        ways: 9,
+        gran: 6,
+        tail: 0x3000_0000,
+    },
+];
+
+fn planned(row: &PlannedRow) -> Row {
     Row {
-        node: row.0,
+        node: row.node,
         index: 0,
         decoder: Decoder {
-            ways: row.1,
-            gran: row.2,
-            tail: row.3,
+            ways: row.ways,
+            gran: row.gran,
+            tail: row.tail,
             ..Decoder::RESET
         },
     }
 }
 
-fn planned_rows(rt: &(impl Abort + AllocGlobal), rows: &[(u32, u8, u8, u64)]) -> FixedList<Row> {
+fn planned_rows(rt: &(impl Abort + AllocGlobal), rows: &[PlannedRow]) -> FixedList<Row> {
     let mut list = Vec::new(rt.alloc());
     for row in rows {
         list.push(planned(row)).expect(rt, "memory");
@@ -116,18 +151,11 @@ fn two_ways(rt: &(impl Abort + AllocGlobal)) -> Found {
     }
 }
 
-/// The last row but one is of a port with two ways.
 fn plan(rt: &(impl Abort + AllocGlobal)) -> Plan {
-    let rows = [
-        (0, 0, 0, 0),
-        (1, 1, 1, 0x0300),
-        (6, 1, 0, 0),
-        (7, 9, 6, 0x3000_0000),
-    ];
     Plan {
         name: name(rt, "r0"),
         found: two_ways(rt),
-        rows: planned_rows(rt, &rows),
+        rows: planned_rows(rt, PLANNED_ROWS),
     }
 }
 

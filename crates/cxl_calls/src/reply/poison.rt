@@ -203,26 +203,50 @@ fn sources(rt: HostRuntime) {
     }
 }
 
-const FLAGS: [(bool, Option<u64>, bool, &str); 4] = [
-    (true, None, false, "poison e0 records 0 more\n"),
-    (false, Some(0), false, "poison e0 records 0 overflow 0\n"),
-    (false, None, true, "poison e0 records 0 scanning\n"),
-    (
-        true,
-        Some(7),
-        true,
-        "poison e0 records 0 more overflow 7 scanning\n",
-    ),
+/// What a list of no record says of itself, and its text.
+struct Flagged {
+    flags: Flags,
+    text: &'static str,
+}
+
+const FLAGS: &[Flagged] = &[
+    Flagged {
+        flags: Flags {
+            more: true,
+            overflow: None,
+            scanning: false,
+        },
+        text: "poison e0 records 0 more\n",
+    },
+    Flagged {
+        flags: Flags {
+            more: false,
+            overflow: Some(0),
+            scanning: false,
+        },
+        text: "poison e0 records 0 overflow 0\n",
+    },
+    Flagged {
+        flags: Flags {
+            more: false,
+            overflow: None,
+            scanning: true,
+        },
+        text: "poison e0 records 0 scanning\n",
+    },
+    Flagged {
+        flags: Flags {
+            more: true,
+            overflow: Some(7),
+            scanning: true,
+        },
+        text: "poison e0 records 0 more overflow 7 scanning\n",
+    },
 ];
 
 #[test]
 fn flags_of_lists(rt: HostRuntime) {
-    for row in &FLAGS {
-        let flags = Flags {
-            more: row.0,
-            overflow: row.1,
-            scanning: row.2,
-        };
-        reports(&rt, flags, &[], row.3);
+    for row in FLAGS {
+        reports(&rt, row.flags, &[], row.text);
     }
 }

@@ -86,32 +86,45 @@ fn shown_rows(rt: &(impl Abort + AllocGlobal), rows: &[ShownRow]) -> FixedList<S
     FixedList::new(rows.to_vec(rt.alloc()).expect(rt, "memory"))
 }
 
-/// Base, size and ways.
-type Range = (u64, u64, u8);
+/// A region of window 0 by 256 bytes.
+struct Region {
+    name: &'static str,
+    kind: MemKind,
+    base: u64,
+    size: u64,
+    ways: u8,
+}
 
-/// A region of window 0 by 256 bytes, shown by its rows and spans.
+/// A region, shown by its rows and spans.
 fn shown(
     rt: &(impl Abort + AllocGlobal),
-    named: (&str, MemKind),
-    range: Range,
+    region: &Region,
     rows: &[ShownRow],
     spans: &[Place],
 ) -> Reply {
     let found = Found {
-        base: range.0,
-        size: range.1,
+        base: region.base,
+        size: region.size,
         window: 0,
         gran: 0,
-        ways: range.2,
-        kind: named.1,
+        ways: region.ways,
+        kind: region.kind,
         spans: places(rt, spans),
     };
     Reply::Shown(Shown {
-        name: name(rt, named.0),
+        name: name(rt, region.name),
         found,
         rows: shown_rows(rt, rows),
     })
 }
+
+const ONE: Region = Region {
+    name: "b",
+    kind: MemKind::Pmem,
+    base: 0x1_1000_0000,
+    size: 0x1000_0000,
+    ways: 1,
+};
 
 const ONE_ROWS: [ShownRow; 2] = [
     ShownRow {
@@ -133,8 +146,7 @@ const ONE_SPAN: [Place; 1] = [Place {
 
 #[test]
 fn shown_region(rt: HostRuntime) {
-    let range = (0x1_1000_0000, 0x1000_0000, 1);
-    let region = shown(&rt, ("b", MemKind::Pmem), range, &ONE_ROWS, &ONE_SPAN);
+    let region = shown(&rt, &ONE, &ONE_ROWS, &ONE_SPAN);
     let want = "region b pmem window 0 base 0x110000000 size 0x10000000 gran 256 ways 1
 node hb0 1 10000000 00000001 10000000 00000000 00001600 00000000 00000000
 node e0 1 10000000 00000001 10000000 00000000 00001600 30000000 00000000
@@ -142,6 +154,14 @@ slot 0 e0 0x40000000
 ";
     prints(&rt, &region, want);
 }
+
+const FOUR: Region = Region {
+    name: "r0",
+    kind: MemKind::Ram,
+    base: 0x10_0000_0000,
+    size: 0x100_0000_0000,
+    ways: 4,
+};
 
 const PORT: [u32; 7] = [0, 0x10, 0, 0x100, 0x1611, 0x100, 0];
 
@@ -202,8 +222,7 @@ const FOUR_SPANS: [Place; 4] = [
 /// Four ways over two bridges.
 #[test]
 fn shown_ways(rt: HostRuntime) {
-    let range = (0x10_0000_0000, 0x100_0000_0000, 4);
-    let region = shown(&rt, ("r0", MemKind::Ram), range, &FOUR_ROWS, &FOUR_SPANS);
+    let region = shown(&rt, &FOUR, &FOUR_ROWS, &FOUR_SPANS);
     let want = "region r0 ram window 0 base 0x1000000000 size 0x10000000000 gran 256 ways 4
 node hb0 0 00000000 00000010 00000000 00000100 00001611 00000100 00000000
 node hb1 0 00000000 00000010 00000000 00000100 00001611 00000100 00000000

@@ -1,3 +1,5 @@
+//! Words that are missing or left over, which of two faults counts, and long lines.
+
 use super::*;
 
 /// The line has this first fault, at this place.
@@ -5,200 +7,440 @@ fn is_bad(rt: &impl AllocGlobal, line: &[u8], at: u32, why: Why) -> bool {
     read_command(rt.alloc(), line).err() == Some(LineFault::Bad(BadLine { at, why }))
 }
 
-fn are_bad(rt: &(impl Abort + AllocGlobal), rows: &[(&str, u32, Why)]) {
+/// A line, and the place and the cause of its first fault.
+pub(super) struct FaultRow {
+    pub(super) line: &'static str,
+    pub(super) at: u32,
+    pub(super) why: Why,
+}
+
+pub(super) fn are_bad(rt: &(impl Abort + AllocGlobal), rows: &[FaultRow]) {
     for row in rows {
-        assert!(rt; is_bad(rt, row.0.as_bytes(), row.1, row.2), "at {}", row.0);
+        assert!(rt;
+            is_bad(rt, row.line.as_bytes(), row.at, row.why),
+            "at {}",
+            row.line
+        );
     }
 }
 
-const VERBS: [(&str, u32, Why); 7] = [
-    ("bring r0", 0, Why::Verb),
-    ("\t Abort", 2, Why::Verb),
-    ("creates r0 ram 1 e0", 0, Why::Verb),
-    ("create# r0 ram 1 e0", 0, Why::Verb),
-    ("begin show r0", 6, Why::Verb),
-    ("begin begin", 6, Why::Verb),
-    ("begin # create", 6, Why::Verb),
+const VERBS: &[FaultRow] = &[
+    FaultRow {
+        line: "bring r0",
+        at: 0,
+        why: Why::Verb,
+    },
+    FaultRow {
+        line: "\t Abort",
+        at: 2,
+        why: Why::Verb,
+    },
+    FaultRow {
+        line: "creates r0 ram 1 e0",
+        at: 0,
+        why: Why::Verb,
+    },
+    FaultRow {
+        line: "create# r0 ram 1 e0",
+        at: 0,
+        why: Why::Verb,
+    },
+    FaultRow {
+        line: "begin show r0",
+        at: 6,
+        why: Why::Verb,
+    },
+    FaultRow {
+        line: "begin begin",
+        at: 6,
+        why: Why::Verb,
+    },
+    FaultRow {
+        line: "begin # create",
+        at: 6,
+        why: Why::Verb,
+    },
 ];
 
 #[test]
 fn verbs(rt: HostRuntime) {
-    are_bad(&rt, &VERBS);
+    are_bad(&rt, VERBS);
 }
 
 /// A word is missing at the end of the line, whatever blanks stand there.
-const MISSING_WORDS: [(&str, u32, Why); 29] = [
-    ("create", 6, Why::Missing),
-    ("create r0  ", 11, Why::Missing),
-    ("create r0 ram", 13, Why::Missing),
-    ("create r0 ram 1", 15, Why::Missing),
-    ("create r0 ram 1 gran=256", 24, Why::Missing),
-    ("destroy", 7, Why::Missing),
-    ("show\t", 5, Why::Missing),
-    ("down", 4, Why::Missing),
-    ("up", 2, Why::Missing),
-    ("up e0", 5, Why::Missing),
-    ("load", 4, Why::Missing),
-    ("load 0", 6, Why::Missing),
-    ("store", 5, Why::Missing),
-    ("store 0", 7, Why::Missing),
-    ("poison", 6, Why::Missing),
-    ("poison e0", 9, Why::Missing),
-    ("begin", 5, Why::Missing),
-    ("begin create", 12, Why::Missing),
-    ("begin create r0 ram 1", 21, Why::Missing),
-    ("begin destroy", 13, Why::Missing),
-    ("step", 4, Why::Missing),
-    ("range", 5, Why::Missing),
-    ("range 0", 7, Why::Missing),
-    ("spread", 6, Why::Missing),
-    ("spread 0 ", 9, Why::Missing),
-    ("copy", 4, Why::Missing),
-    ("copy r0", 7, Why::Missing),
-    ("move", 4, Why::Missing),
-    ("move r0", 7, Why::Missing),
+const MISSING_WORDS: &[FaultRow] = &[
+    FaultRow {
+        line: "create",
+        at: 6,
+        why: Why::Missing,
+    },
+    FaultRow {
+        line: "create r0  ",
+        at: 11,
+        why: Why::Missing,
+    },
+    FaultRow {
+        line: "create r0 ram",
+        at: 13,
+        why: Why::Missing,
+    },
+    FaultRow {
+        line: "create r0 ram 1",
+        at: 15,
+        why: Why::Missing,
+    },
+    FaultRow {
+        line: "create r0 ram 1 gran=256",
+        at: 24,
+        why: Why::Missing,
+    },
+    FaultRow {
+        line: "destroy",
+        at: 7,
+        why: Why::Missing,
+    },
+    FaultRow {
+        line: "show\t",
+        at: 5,
+        why: Why::Missing,
+    },
+    FaultRow {
+        line: "down",
+        at: 4,
+        why: Why::Missing,
+    },
+    FaultRow {
+        line: "up",
+        at: 2,
+        why: Why::Missing,
+    },
+    FaultRow {
+        line: "up e0",
+        at: 5,
+        why: Why::Missing,
+    },
+    FaultRow {
+        line: "load",
+        at: 4,
+        why: Why::Missing,
+    },
+    FaultRow {
+        line: "load 0",
+        at: 6,
+        why: Why::Missing,
+    },
+    FaultRow {
+        line: "store",
+        at: 5,
+        why: Why::Missing,
+    },
+    FaultRow {
+        line: "store 0",
+        at: 7,
+        why: Why::Missing,
+    },
+    FaultRow {
+        line: "poison",
+        at: 6,
+        why: Why::Missing,
+    },
+    FaultRow {
+        line: "poison e0",
+        at: 9,
+        why: Why::Missing,
+    },
+    FaultRow {
+        line: "begin",
+        at: 5,
+        why: Why::Missing,
+    },
+    FaultRow {
+        line: "begin create",
+        at: 12,
+        why: Why::Missing,
+    },
+    FaultRow {
+        line: "begin create r0 ram 1",
+        at: 21,
+        why: Why::Missing,
+    },
+    FaultRow {
+        line: "begin destroy",
+        at: 13,
+        why: Why::Missing,
+    },
+    FaultRow {
+        line: "step",
+        at: 4,
+        why: Why::Missing,
+    },
+    FaultRow {
+        line: "range",
+        at: 5,
+        why: Why::Missing,
+    },
+    FaultRow {
+        line: "range 0",
+        at: 7,
+        why: Why::Missing,
+    },
+    FaultRow {
+        line: "spread",
+        at: 6,
+        why: Why::Missing,
+    },
+    FaultRow {
+        line: "spread 0 ",
+        at: 9,
+        why: Why::Missing,
+    },
+    FaultRow {
+        line: "copy",
+        at: 4,
+        why: Why::Missing,
+    },
+    FaultRow {
+        line: "copy r0",
+        at: 7,
+        why: Why::Missing,
+    },
+    FaultRow {
+        line: "move",
+        at: 4,
+        why: Why::Missing,
+    },
+    FaultRow {
+        line: "move r0",
+        at: 7,
+        why: Why::Missing,
+    },
 ];
 
 #[test]
 fn missing_words(rt: HostRuntime) {
-    are_bad(&rt, &MISSING_WORDS);
+    are_bad(&rt, MISSING_WORDS);
 }
 
-const WORDS_LEFT_OVER: [(&str, u32, Why); 17] = [
-    ("create r0 ram 1 ways=2 e0", 23, Why::Extra),
-    ("create r0 ram 1 ways=2 gran=256", 23, Why::Extra),
-    ("begin create r0 ram 1 ways=2 e0", 29, Why::Extra),
-    ("destroy r0 r1", 11, Why::Extra),
-    ("begin destroy r0 r1", 17, Why::Extra),
-    ("show r0 \tr1 r2", 9, Why::Extra),
-    ("down 5 6", 7, Why::Extra),
-    ("up e0 0 1", 8, Why::Extra),
-    ("load 0 1 2", 9, Why::Extra),
-    ("store 0 00 x", 11, Why::Extra),
-    ("poison e0 00 x", 13, Why::Extra),
-    ("step 1 2", 7, Why::Extra),
-    ("abort now", 6, Why::Extra),
-    ("range 0 1 2", 10, Why::Extra),
-    ("spread 0 1 2", 11, Why::Extra),
-    ("copy r0 r1 r2", 11, Why::Extra),
-    ("move r0 r1 r2", 11, Why::Extra),
+const WORDS_LEFT_OVER: &[FaultRow] = &[
+    FaultRow {
+        line: "create r0 ram 1 ways=2 e0",
+        at: 23,
+        why: Why::Extra,
+    },
+    FaultRow {
+        line: "create r0 ram 1 ways=2 gran=256",
+        at: 23,
+        why: Why::Extra,
+    },
+    FaultRow {
+        line: "begin create r0 ram 1 ways=2 e0",
+        at: 29,
+        why: Why::Extra,
+    },
+    FaultRow {
+        line: "destroy r0 r1",
+        at: 11,
+        why: Why::Extra,
+    },
+    FaultRow {
+        line: "begin destroy r0 r1",
+        at: 17,
+        why: Why::Extra,
+    },
+    FaultRow {
+        line: "show r0 \tr1 r2",
+        at: 9,
+        why: Why::Extra,
+    },
+    FaultRow {
+        line: "down 5 6",
+        at: 7,
+        why: Why::Extra,
+    },
+    FaultRow {
+        line: "up e0 0 1",
+        at: 8,
+        why: Why::Extra,
+    },
+    FaultRow {
+        line: "load 0 1 2",
+        at: 9,
+        why: Why::Extra,
+    },
+    FaultRow {
+        line: "store 0 00 x",
+        at: 11,
+        why: Why::Extra,
+    },
+    FaultRow {
+        line: "poison e0 00 x",
+        at: 13,
+        why: Why::Extra,
+    },
+    FaultRow {
+        line: "step 1 2",
+        at: 7,
+        why: Why::Extra,
+    },
+    FaultRow {
+        line: "abort now",
+        at: 6,
+        why: Why::Extra,
+    },
+    FaultRow {
+        line: "range 0 1 2",
+        at: 10,
+        why: Why::Extra,
+    },
+    FaultRow {
+        line: "spread 0 1 2",
+        at: 11,
+        why: Why::Extra,
+    },
+    FaultRow {
+        line: "copy r0 r1 r2",
+        at: 11,
+        why: Why::Extra,
+    },
+    FaultRow {
+        line: "move r0 r1 r2",
+        at: 11,
+        why: Why::Extra,
+    },
 ];
 
 #[test]
 fn words_left_over(rt: HostRuntime) {
-    are_bad(&rt, &WORDS_LEFT_OVER);
-}
-
-/// The word after the size is a granularity only in its own place, and so is a number of ways.
-const NAMES_AND_KINDS: [(&str, u32, Why); 19] = [
-    ("create r-0 ram 1 e0", 7, Why::Name),
-    ("create abcdefghijklmnop ram 0x20000000 e0 e1", 7, Why::Name),
-    ("create r0 ram 1 e-", 16, Why::Name),
-    ("create r0 ram 1 e0 gran=256", 19, Why::Name),
-    ("create r0 ram 1 gran=256 gran=512", 25, Why::Name),
-    ("create r0 ram 1 e0 ways=2", 19, Why::Name),
-    ("create r0 rom 1 e0", 10, Why::Kind),
-    ("create r0 Ram 1 e0", 10, Why::Kind),
-    ("begin create r-0 ram 1 e0", 13, Why::Name),
-    ("begin create r0 pmemory 1 e0", 16, Why::Kind),
-    ("destroy r-", 8, Why::Name),
-    ("begin destroy r-", 14, Why::Name),
-    ("show \u{e9}", 5, Why::Name),
-    ("up e- 0", 3, Why::Name),
-    ("poison e- 00", 7, Why::Name),
-    ("copy r- r1", 5, Why::Name),
-    ("copy r0 r-", 8, Why::Name),
-    ("move r- r1", 5, Why::Name),
-    ("move r0 r-", 8, Why::Name),
-];
-
-#[test]
-fn names_and_kinds(rt: HostRuntime) {
-    are_bad(&rt, &NAMES_AND_KINDS);
-}
-
-const NUMBERS_AND_DIGITS: [(&str, u32, Why); 21] = [
-    ("create r0 ram 0x e0", 14, Why::Number),
-    ("create r0 ram 1 gran= e0", 16, Why::Number),
-    ("create r0 ram 1 gran=1k e0", 16, Why::Number),
-    ("create r0 ram 1 ways=", 16, Why::Number),
-    ("create r0 ram 1 ways=x", 16, Why::Number),
-    ("begin create r0 ram x e0", 20, Why::Number),
-    ("down 0x10000000000000000", 5, Why::Number),
-    ("up e0 x", 6, Why::Number),
-    ("load x 1", 5, Why::Number),
-    ("load 0 99999999999999999999", 7, Why::Number),
-    ("store x 00", 6, Why::Number),
-    ("step -1", 5, Why::Number),
-    ("range x 1", 6, Why::Number),
-    ("range 0 x", 8, Why::Number),
-    ("spread x 1", 7, Why::Number),
-    ("spread 0 x", 9, Why::Number),
-    ("store 0 123", 8, Why::Hex),
-    ("store 0 0g", 8, Why::Hex),
-    ("store 0 0x00", 8, Why::Hex),
-    ("poison e0 0", 10, Why::Hex),
-    ("poison e0 0x00", 10, Why::Hex),
-];
-
-#[test]
-fn numbers_and_digits(rt: HostRuntime) {
-    are_bad(&rt, &NUMBERS_AND_DIGITS);
-}
-
-const RANGES: [(&str, u32, Why); 14] = [
-    ("create r0 ram 1 gran=0 e0", 16, Why::Range),
-    ("create r0 ram 1 gran=128 e0", 16, Why::Range),
-    ("create r0 ram 1 gran=300 e0", 16, Why::Range),
-    ("create r0 ram 1 gran=32768 e0", 16, Why::Range),
-    ("create r0 ram 1 ways=0", 16, Why::Range),
-    ("create r0 ram 1 ways=17", 16, Why::Range),
-    ("load 0x100000000 0", 17, Why::Range),
-    ("load 0 257", 7, Why::Range),
-    ("step 0", 5, Why::Range),
-    ("step 1000001", 5, Why::Range),
-    ("range 0 0", 8, Why::Range),
-    ("range 0 65537", 8, Why::Range),
-    ("spread 0 0", 9, Why::Range),
-    ("spread 0 4503599627370497", 9, Why::Range),
-];
-
-#[test]
-fn ranges(rt: HostRuntime) {
-    are_bad(&rt, &RANGES);
+    are_bad(&rt, WORDS_LEFT_OVER);
 }
 
 /// Of two faults in a line the one further left counts, and of one word a number or digits that are none.
-const FIRST_OF_TWO: [(&str, u32, Why); 24] = [
-    ("begin bring r- r-", 6, Why::Verb),
-    ("create r-0 rom x", 7, Why::Name),
-    ("create r0 rom x", 10, Why::Kind),
-    ("create r0 ram x gran=300 e-", 14, Why::Number),
-    ("create r0 ram 1 gran= e-", 16, Why::Number),
-    ("create r0 ram 1 gran=300 e-", 16, Why::Range),
-    ("create r0 ram 1 gran=300", 16, Why::Range),
-    ("create r0 ram 1 ways=0 e0", 16, Why::Range),
-    ("create r0 ram 1 e0 e- ways=2", 19, Why::Name),
-    ("destroy r- r1", 8, Why::Name),
-    ("down x 1", 5, Why::Number),
-    ("up e- x", 3, Why::Name),
-    ("up e0 x 1", 6, Why::Number),
-    ("load x", 5, Why::Number),
-    ("load x 0", 5, Why::Number),
-    ("load 0 0 1", 7, Why::Range),
-    ("store x 0g", 6, Why::Number),
-    ("store 0 0g 1", 8, Why::Hex),
-    ("poison e- 0g", 7, Why::Name),
-    ("step 0 1", 5, Why::Range),
-    ("range x 0", 6, Why::Number),
-    ("spread 0 0 1", 9, Why::Range),
-    ("copy r- e-", 5, Why::Name),
-    ("move r0 r- r1", 8, Why::Name),
+const FIRST_OF_TWO: &[FaultRow] = &[
+    FaultRow {
+        line: "begin bring r- r-",
+        at: 6,
+        why: Why::Verb,
+    },
+    FaultRow {
+        line: "create r-0 rom x",
+        at: 7,
+        why: Why::Name,
+    },
+    FaultRow {
+        line: "create r0 rom x",
+        at: 10,
+        why: Why::Kind,
+    },
+    FaultRow {
+        line: "create r0 ram x gran=300 e-",
+        at: 14,
+        why: Why::Number,
+    },
+    FaultRow {
+        line: "create r0 ram 1 gran= e-",
+        at: 16,
+        why: Why::Number,
+    },
+    FaultRow {
+        line: "create r0 ram 1 gran=300 e-",
+        at: 16,
+        why: Why::Range,
+    },
+    FaultRow {
+        line: "create r0 ram 1 gran=300",
+        at: 16,
+        why: Why::Range,
+    },
+    FaultRow {
+        line: "create r0 ram 1 ways=0 e0",
+        at: 16,
+        why: Why::Range,
+    },
+    FaultRow {
+        line: "create r0 ram 1 e0 e- ways=2",
+        at: 19,
+        why: Why::Name,
+    },
+    FaultRow {
+        line: "destroy r- r1",
+        at: 8,
+        why: Why::Name,
+    },
+    FaultRow {
+        line: "down x 1",
+        at: 5,
+        why: Why::Number,
+    },
+    FaultRow {
+        line: "up e- x",
+        at: 3,
+        why: Why::Name,
+    },
+    FaultRow {
+        line: "up e0 x 1",
+        at: 6,
+        why: Why::Number,
+    },
+    FaultRow {
+        line: "load x",
+        at: 5,
+        why: Why::Number,
+    },
+    FaultRow {
+        line: "load x 0",
+        at: 5,
+        why: Why::Number,
+    },
+    FaultRow {
+        line: "load 0 0 1",
+        at: 7,
+        why: Why::Range,
+    },
+    FaultRow {
+        line: "store x 0g",
+        at: 6,
+        why: Why::Number,
+    },
+    FaultRow {
+        line: "store 0 0g 1",
+        at: 8,
+        why: Why::Hex,
+    },
+    FaultRow {
+        line: "poison e- 0g",
+        at: 7,
+        why: Why::Name,
+    },
+    FaultRow {
+        line: "step 0 1",
+        at: 5,
+        why: Why::Range,
+    },
+    FaultRow {
+        line: "range x 0",
+        at: 6,
+        why: Why::Number,
+    },
+    FaultRow {
+        line: "spread 0 0 1",
+        at: 9,
+        why: Why::Range,
+    },
+    FaultRow {
+        line: "copy r- e-",
+        at: 5,
+        why: Why::Name,
+    },
+    FaultRow {
+        line: "move r0 r- r1",
+        at: 8,
+        why: Why::Name,
+    },
 ];
 
 #[test]
 fn first_of_two(rt: HostRuntime) {
-    are_bad(&rt, &FIRST_OF_TWO);
+    are_bad(&rt, FIRST_OF_TWO);
 }
 
 /// A line of so many bytes, which ends in the same ones.
