@@ -26,7 +26,7 @@ fn two_bridges(rt: &impl Abort, alloc: Global) -> Image {
 }
 
 /// Enables a node's block, on the bus and in the image, which hold the same. It does nothing where the bus fails.
-fn enable<R: Regs>(image: &mut Image, regs: &mut R, node: u32)
+fn enable_node<R: Regs>(image: &mut Image, regs: &mut R, node: u32)
     requires { (R.state regs.old).blocks ≡ image.old }
     ensures { (R.state regs.new).blocks ≡ image.new }
 {
@@ -245,8 +245,8 @@ impl Run {
     fn create(rt: &impl Abort, alloc: Global, fails: &[u64]) -> Run {
         let mut image = two_bridges(rt, alloc);
         let mut bus = bus_over(rt, alloc, &image, fails);
-        enable(&mut image, &mut bus, 2);
-        enable(&mut image, &mut bus, 3);
+        enable_node(&mut image, &mut bus, 2);
+        enable_node(&mut image, &mut bus, 3);
         let job = create(rt, alloc, &image);
         Run { job, image, bus }
     }

@@ -2,7 +2,7 @@ ghost use Rattle.std.specs.Prelude.{◌≡◌, ◌≤◌, true, IfOk, OnErr};
 ghost use Rattle.cxl_enc.specs.Faults.{HasCause};
 ghost use Rattle.cxl_regs.specs.Blocks.{IsPlace, HasPlacesOf, blocks_after};
 
-use crate::common::has_passed;
+use crate::common::row_passes;
 use cxl_bus::{FailingBus, Regs, Sent, SimBus};
 use cxl_enc::Failed;
 use cxl_regs::Block;
@@ -89,7 +89,7 @@ fn are_answered(rt: &impl Abort, bus: &mut FailingBus, blocks: &[Block], calls: 
     requires { HasPlacesOf blocks.now bus.old.blocks }
 {
     for (i, call) in calls.iter().enumerate() {
-        has_passed(rt, i, is_answered(bus, blocks, call));
+        row_passes(rt, i, is_answered(bus, blocks, call));
     }
 }
 

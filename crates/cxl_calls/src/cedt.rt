@@ -1,4 +1,4 @@
-use crate::common::has_passed;
+use crate::common::row_passes;
 use byteorder::{ByteOrder, LittleEndian};
 use cxl_cedt::{Cedt, CedtFault, Cfmws, Chbs, Cxims, Head, Record, read, write};
 use std::alloc::Global;
@@ -165,7 +165,7 @@ const FAULTS: [(&[(usize, u8)], CedtFault); 10] = [
 #[test]
 fn faults(rt: HostRuntime) {
     for (i, (changes, fault)) in FAULTS.iter().enumerate() {
-        has_passed(&rt, i, is_refused(rt.alloc(), changes, *fault));
+        row_passes(&rt, i, is_refused(rt.alloc(), changes, *fault));
     }
 }
 

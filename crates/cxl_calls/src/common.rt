@@ -1,5 +1,5 @@
 //! What the tests of all crates compare with and make their values by. A test states its facts as `assert!(rt; ..)` with no
-//! message, which is the cheapest to prove, over functions that answer whether they hold; of a table, by `has_passed`, which
+//! message, which is the cheapest to prove, over functions that answer whether they hold; of a table, by `row_passes`, which
 //! names the row.
 
 use std::alloc::Global;
@@ -45,6 +45,6 @@ pub fn prints<T: Display>(alloc: Global, value: &T, want: &str) -> bool {
 }
 
 /// Checks that the row at this place is right.
-pub fn has_passed(rt: &impl Abort, place: usize, right: bool) {
+pub fn row_passes(rt: &impl Abort, place: usize, right: bool) {
     assert!(rt; right, "row {place}");
 }

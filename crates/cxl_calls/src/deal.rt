@@ -1,6 +1,6 @@
 //! How a region's bytes are dealt over its slots, and gathered back.
 
-use crate::common::has_passed;
+use crate::common::row_passes;
 use cxl_deal::{
     Dealt, Weave, chunks_deal_whole, deal, gather, place_tells_address, region_fills_slots,
     slot_digits, slots_keep_entries, slots_keep_positions,
@@ -193,7 +193,7 @@ fn is_dealt(row: &Row) -> bool {
 #[test]
 fn deals_addresses(rt: HostRuntime) {
     for (i, row) in ROWS.iter().enumerate() {
-        has_passed(&rt, i, is_dealt(row));
+        row_passes(&rt, i, is_dealt(row));
     }
 }
 

@@ -1,6 +1,6 @@
 //! Codes, names, capability words, lists and calls that fail.
 
-use crate::common::{has_passed, list};
+use crate::common::{list, row_passes};
 use cxl_enc::{
     Caps, Factors, FailingCalls, FixedList, Name, cap_word, code_of, gran_code, gran_of, legal_cap,
     split, ways_of,
@@ -97,7 +97,7 @@ fn stands_for_bytes(code: u8, bytes: u32) -> bool {
 #[test]
 fn codes(rt: HostRuntime) {
     for (i, row) in CODES.iter().enumerate() {
-        has_passed(
+        row_passes(
             &rt,
             i,
             stands_for(row.code, row.ways) && stands_for_bytes(row.code, row.bytes),
@@ -133,7 +133,7 @@ const WORDS: [(&str, bool); 5] = [
 #[test]
 fn names(rt: HostRuntime) {
     for (i, (word, want)) in WORDS.iter().enumerate() {
-        has_passed(&rt, i, is_name(*word) == *want);
+        row_passes(&rt, i, is_name(*word) == *want);
     }
     assert!(rt; Name::read(b"e_15") == Name::read(b"e_15"));
 }
@@ -209,7 +209,7 @@ const LEGAL: &[CapWord] = &[
 #[test]
 fn legal_words(rt: HostRuntime) {
     for (i, row) in LEGAL.iter().enumerate() {
-        has_passed(&rt, i, legal_cap(row.word, row.endpoint) == row.legal);
+        row_passes(&rt, i, legal_cap(row.word, row.endpoint) == row.legal);
     }
 }
 

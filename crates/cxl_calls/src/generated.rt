@@ -51,13 +51,13 @@ fn stands_there(commands: &[Command], row: &Row) -> bool {
 }
 
 #[test]
-fn one_window(rt: HostRuntime) {
+fn fewest_windows(rt: HostRuntime) {
     let made = make(rt.alloc(), 1).expect(&rt, "memory");
     let bytes = write(rt.alloc(), &made.cedt).expect(&rt, "memory");
     assert!(rt; bytes.as_slice() == TABLE.as_slice());
     let commands = made.commands.items();
     assert!(rt; is_region(commands.first(), "r0", "e3"));
-    for row in ONE {
+    for row in FEWEST {
         assert!(rt; stands_there(commands, row), "at {}", row.place);
     }
 }
@@ -72,7 +72,7 @@ fn most_windows(rt: HostRuntime) {
     }
 }
 
-const ONE: &[Row] = &[
+const FEWEST: &[Row] = &[
     Row {
         place: 0,
         verb: "create",

@@ -1,4 +1,4 @@
-use crate::common::has_passed;
+use crate::common::row_passes;
 use cxl_image::{Image, ImageFault, image_laws, one_image_reading, read_image, write_image};
 use cxl_regs::Effect;
 use cxl_topo::{Capacity, Name, Node, NodeKind, Parent, Topo};
@@ -148,7 +148,7 @@ fn first_faults(rt: HostRuntime) {
     let topo = topology(&rt, rt.alloc(), false);
     let whole = reset_file(&rt, rt.alloc(), &topo);
     for (i, row) in FIRST_FAULTS.iter().enumerate() {
-        has_passed(&rt, i, is_refused_with(&rt, rt.alloc(), &topo, &whole, row));
+        row_passes(&rt, i, is_refused_with(&rt, rt.alloc(), &topo, &whole, row));
     }
 }
 
@@ -269,7 +269,7 @@ fn what_does_not_count_is_dropped(rt: HostRuntime) {
     let topo = topology(&rt, rt.alloc(), false);
     let whole = reset_file(&rt, rt.alloc(), &topo);
     for (i, (at, byte)) in DROPPED.iter().enumerate() {
-        has_passed(
+        row_passes(
             &rt,
             i,
             is_dropped(&rt, rt.alloc(), &topo, &whole, *at, *byte),

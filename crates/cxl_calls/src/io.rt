@@ -3,7 +3,7 @@
 mod files;
 mod lines;
 
-use crate::common::{has_passed, list, prints, repeated, shows};
+use crate::common::{list, prints, repeated, row_passes, shows};
 use cxl_io::{
     FetchFault, MemSink, NumFault, Sink, StdSink, put_hex, put_number, read_number, write_all,
 };
@@ -31,7 +31,7 @@ const WORDS: [(&str, &str); 15] = [
 #[test]
 fn numbers_read(rt: HostRuntime) {
     for (i, (word, want)) in WORDS.iter().enumerate() {
-        has_passed(
+        row_passes(
             &rt,
             i,
             shows(rt.alloc(), &read_number(word.as_bytes()), *want),
@@ -139,7 +139,7 @@ fn are_put(rt: &(impl Abort + AllocGlobal), row: &Row) -> bool {
 #[test]
 fn numbers_printed(rt: HostRuntime) {
     for (i, row) in PRINTED.iter().enumerate() {
-        has_passed(&rt, i, are_put(&rt, row));
+        row_passes(&rt, i, are_put(&rt, row));
     }
 }
 

@@ -4,7 +4,7 @@ ghost use Rattle.std.specs.Prelude.{◌↔◌, IsTrue};
 ghost use Rattle.std.specs.FinMap.{contains_key};
 ghost use Rattle.cxl_media.specs.Blocks.{IsInOneBlock};
 
-use crate::common::has_passed;
+use crate::common::row_passes;
 use cxl_media::{At, Full, MapMedia, Media, Roll, SimMedia};
 use std::alloc::Global;
 use std::process::Abort;
@@ -295,7 +295,7 @@ const CALLS: &[Row] = &[
 /// Checks each call.
 fn answers_all<M: Media>(rt: &impl Abort, media: &mut M) {
     for (i, row) in CALLS.iter().enumerate() {
-        has_passed(rt, i, answers(media, row));
+        row_passes(rt, i, answers(media, row));
     }
 }
 

@@ -91,7 +91,12 @@ fn regions_are_sides()
 }
 
 /// How many pieces are moved.
-fn moved<M: Roll>(alloc: Global, media: &mut M, from: &Side<'_>, to: &Side<'_>) -> Option<usize>
+fn pieces_moved<M: Roll>(
+    alloc: Global,
+    media: &mut M,
+    from: &Side<'_>,
+    to: &Side<'_>,
+) -> Option<usize>
     requires { AreSides from.now.found.now from.now.window.now to.now.found.now to.now.window.now }
 {
     let pieces = held(alloc, media, from).ok()?;
@@ -100,7 +105,12 @@ fn moved<M: Roll>(alloc: Global, media: &mut M, from: &Side<'_>, to: &Side<'_>) 
 }
 
 /// How many pieces are copied, where there are frames for them.
-fn copied<M: Roll>(alloc: Global, media: &mut M, from: &Side<'_>, to: &Side<'_>) -> Option<usize>
+fn pieces_copied<M: Roll>(
+    alloc: Global,
+    media: &mut M,
+    from: &Side<'_>,
+    to: &Side<'_>,
+) -> Option<usize>
     requires { AreSides from.now.found.now from.now.window.now to.now.found.now to.now.window.now }
 {
     let pieces = held(alloc, media, from).ok()?;
@@ -129,16 +139,16 @@ fn carries<M: Roll>(alloc: Global, media: &mut M, ram: &Side<'_>, pmem: &Side<'_
 {
     media.power_on(alloc, 1).is_ok()
         && stores(media, 0x1ff, 0x11)
-        && moved(alloc, media, ram, pmem) == Some(1)
+        && pieces_moved(alloc, media, ram, pmem) == Some(1)
         && loads(media, 0x4000_01ff, 0x11)
         && loads(media, 0x1ff, 0)
-        && copied(alloc, media, pmem, ram).is_none()
-        && moved(alloc, media, pmem, ram) == Some(1)
-        && moved(alloc, media, pmem, ram) == Some(0)
+        && pieces_copied(alloc, media, pmem, ram).is_none()
+        && pieces_moved(alloc, media, pmem, ram) == Some(1)
+        && pieces_moved(alloc, media, pmem, ram) == Some(0)
         && !loads(media, 0x1ff, 0x11)
         && media.power_on(alloc, 2).is_ok()
         && stores(media, 0x1ff, 0x22)
-        && copied(alloc, media, ram, pmem) == Some(1)
+        && pieces_copied(alloc, media, ram, pmem) == Some(1)
         && loads(media, 0x1ff, 0x22)
         && loads(media, 0x4000_01ff, 0x22)
         && media.free() == 0

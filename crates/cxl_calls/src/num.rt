@@ -1,6 +1,6 @@
 //! Numbers of interleaving.
 
-use crate::common::has_passed;
+use crate::common::row_passes;
 use cxl_enc::Factors;
 use cxl_num::{
     are_usable_maps, checked_end, factor_of, join_thirds, low_bits, parities,
@@ -38,7 +38,7 @@ const PARITIES: [(u64, bool); 6] = [
 #[test]
 fn counts_set_bits(rt: HostRuntime) {
     for (i, (word, odd)) in PARITIES.iter().enumerate() {
-        has_passed(&rt, i, parity(*word) == *odd);
+        row_passes(&rt, i, parity(*word) == *odd);
     }
 }
 
@@ -115,7 +115,7 @@ fn ends(base: u64, size: u64, want: u64) -> bool {
 #[test]
 fn ends_below_2_64(rt: HostRuntime) {
     for (i, row) in ENDS.iter().enumerate() {
-        has_passed(&rt, i, ends(row.base, row.size, row.end));
+        row_passes(&rt, i, ends(row.base, row.size, row.end));
     }
 }
 

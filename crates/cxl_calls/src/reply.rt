@@ -215,7 +215,7 @@ fn short_replies(rt: HostRuntime) {
     }
 }
 
-fn carried(from: Name, to: Name) -> Carried {
+fn carried_piece(from: Name, to: Name) -> Carried {
     Carried {
         from,
         to,
@@ -242,11 +242,11 @@ fn more_short_replies(rt: HostRuntime) {
     };
     let rows = [
         (
-            Reply::Copied(carried(from, to)),
+            Reply::Copied(carried_piece(from, to)),
             "copied r0 abcdefghijklmno pieces 1\n",
         ),
         (
-            Reply::Moved(carried(from, to)),
+            Reply::Moved(carried_piece(from, to)),
             "moved r0 abcdefghijklmno pieces 1\n",
         ),
         (Reply::BusUndone, "bus fault undone\n"),

@@ -3,7 +3,7 @@
 ghost use Rattle.std.specs.Prelude.{◌+◌, ◌<◌};
 ghost use Rattle.cxl_enc.specs.Limits.{address_limit};
 
-use crate::common::has_passed;
+use crate::common::row_passes;
 use cxl_enc::{MemKind, UNIT};
 use cxl_regs::{Block, Decoder, decoder_of};
 use cxl_span::{
@@ -281,7 +281,7 @@ fn is_broken(rt: &(impl Abort + AllocGlobal), row: &Row) -> bool {
 #[test]
 fn breaches(rt: HostRuntime) {
     for (i, row) in BLOCKS.iter().enumerate() {
-        has_passed(&rt, i, is_broken(&rt, row));
+        row_passes(&rt, i, is_broken(&rt, row));
     }
 }
 
@@ -411,7 +411,7 @@ fn is_answered(rt: &(impl Abort + AllocGlobal), asked: &Asked) -> bool {
 #[test]
 fn spans(rt: HostRuntime) {
     for (i, asked) in SPANS.iter().enumerate() {
-        has_passed(&rt, i, is_answered(&rt, asked));
+        row_passes(&rt, i, is_answered(&rt, asked));
     }
 }
 

@@ -1,4 +1,4 @@
-use crate::common::has_passed;
+use crate::common::row_passes;
 use cxl_topo::{Capacity, Name, Node, NodeKind, Parent, Path, Topo, TreeFault};
 use std::alloc::Global;
 
@@ -245,7 +245,7 @@ const CHANGED: &[FirstFault] = &[
 #[test]
 fn first_faults(rt: HostRuntime) {
     for (i, row) in CHANGED.iter().enumerate() {
-        has_passed(
+        row_passes(
             &rt,
             i,
             is_fault(rt.alloc(), &changed(row.place, row.change), row.fault),

@@ -1,4 +1,4 @@
-use crate::common::has_passed;
+use crate::common::row_passes;
 use cxl_topo::{Name, Topo};
 use cxl_topofile::read_topo;
 use std::alloc::Global;
@@ -30,7 +30,7 @@ bridge = [{ name = \"hb0\", uid = 4294967295, passthrough = true }]
 endpoint = [{ name = \"e0\", parent = \"s1\", port = 0, ways3 = false, ways16 = false, pmem = 0x10000000 }]
 ";
 
-fn topo_of(alloc: Global, text: &str) -> Option<Topo> {
+fn topo_from_text(alloc: Global, text: &str) -> Option<Topo> {
     read_topo(alloc, text.as_bytes()).ok()
 }
 
@@ -55,7 +55,7 @@ fn is_path(topo: &Topo, node: u32, len: u8, nodes: [u32; 6]) -> bool {
 
 #[test]
 fn plain(rt: HostRuntime) {
-    let topo = topo_of(rt.alloc(), PLAIN).expect(&rt, "a topology");
+    let topo = topo_from_text(rt.alloc(), PLAIN).expect(&rt, "a topology");
     assert!(rt; are_caps(&topo, [0x382, 0x382, 0x1b02, 0x1b02]));
     assert!(rt; is_path(&topo, 2, 2, [0, 2, 0, 0, 0, 0]));
     assert!(rt; topo.frames() == 65_536 && topo.bridge(1) == Some(1));
@@ -64,14 +64,14 @@ fn plain(rt: HostRuntime) {
 
 #[test]
 fn finds_names(rt: HostRuntime) {
-    let topo = topo_of(rt.alloc(), PLAIN).expect(&rt, "a topology");
+    let topo = topo_from_text(rt.alloc(), PLAIN).expect(&rt, "a topology");
     let name = Name::read(b"e1").expect(&rt, "a name");
     assert!(rt; topo.find(&name) == Some(3));
 }
 
 #[test]
 fn other_spelling(rt: HostRuntime) {
-    let topo = topo_of(rt.alloc(), INLINE).expect(&rt, "a topology");
+    let topo = topo_from_text(rt.alloc(), INLINE).expect(&rt, "a topology");
     assert!(rt; are_caps(&topo, [0x10, 0x220, 0x185, 0x302]));
     assert!(rt; is_path(&topo, 3, 4, [0, 1, 2, 3, 0, 0]));
     assert!(rt; topo.frames() == 2 && topo.bridge(4_294_967_295) == Some(0));
@@ -79,7 +79,7 @@ fn other_spelling(rt: HostRuntime) {
 
 #[test]
 fn no_nodes(rt: HostRuntime) {
-    let topo = topo_of(rt.alloc(), "bridge = []\n").expect(&rt, "a topology");
+    let topo = topo_from_text(rt.alloc(), "bridge = []\n").expect(&rt, "a topology");
     assert!(rt; topo.count() == 0);
 }
 
@@ -159,6 +159,6 @@ fn fault_of(alloc: Global, text: &str) -> Option<String> {
 fn first_faults(rt: HostRuntime) {
     for (i, (text, want)) in FAULTS.iter().enumerate() {
         let said = fault_of(rt.alloc(), text).expect(&rt, "a fault");
-        has_passed(&rt, i, said.as_str() == *want);
+        row_passes(&rt, i, said.as_str() == *want);
     }
 }

@@ -7,7 +7,7 @@ ghost use Rattle.cxl_machine.specs.Sound.{IsMachine};
 ghost use Rattle.cxl_script.specs.Grammar.{IsRanged};
 ghost use Rattle.cxl_session.specs.Standing.{Stands, StandsFor};
 
-use crate::guest_stores::table_of;
+use crate::guest_stores::table_of_digits;
 use crate::host_files::ONE_FRAME;
 use crate::hosts::windows_of;
 use crate::rows::{changed, has_passed, numbers};
@@ -33,7 +33,7 @@ use std::process::Abort;
 // ---- a session and its commands
 
 /// The image that a script starts from: its own, or the one after reset.
-fn start_of(rt: &impl Abort, alloc: Global, script: &Script, topo: &Topo) -> Image {
+fn start_image(rt: &impl Abort, alloc: Global, script: &Script, topo: &Topo) -> Image {
     if script.image.is_empty() {
         return Image::new(alloc, topo).expect(rt, "memory");
     }
@@ -52,9 +52,9 @@ fn opened<R: Regs, M: Roll>(
     ensures { IfOk result (λ session. Stands session (R.state regs.new) (M.state media.new)) }
 {
     let topo = read_topo(alloc, script.topology.as_bytes()).expect(rt, "a topology");
-    let table = table_of(rt, alloc, script.table);
+    let table = table_of_digits(rt, alloc, script.table);
     let windows = windows_of(rt, alloc, &table, topo.uids());
-    let start = start_of(rt, alloc, script, &topo);
+    let start = start_image(rt, alloc, script, &topo);
     Session::open(alloc, topo, windows, start, regs, media)
 }
 
@@ -125,7 +125,7 @@ fn replies<R: Regs, M: Roll>(
 // ---- the scripts
 
 /// The exit status of a script whose session does not open.
-fn code_of(fault: OpenFault) -> u8 {
+fn code_of_unopened(fault: OpenFault) -> u8 {
     match fault {
         OpenFault::Breach(_) | OpenFault::Full(_) => 8,
         OpenFault::Bus => 7,
@@ -146,7 +146,7 @@ fn comes_to<R: Regs, M: Roll>(
             let text = replies(rt, alloc, &mut session, script.lines, regs, media);
             script.code == 0 && text.as_slice() == script.text.as_bytes()
         }
-        Err(fault) => script.code == code_of(fault),
+        Err(fault) => script.code == code_of_unopened(fault),
     }
 }
 
@@ -175,7 +175,7 @@ fn ways(rt: HostRuntime) {
 }
 
 #[test]
-fn regions(rt: HostRuntime) {
+fn made_and_ended(rt: HostRuntime) {
     come_to(&rt, &REGIONS);
 }
 

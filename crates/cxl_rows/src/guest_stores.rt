@@ -14,7 +14,7 @@ use cxl_walk::down;
 use std::alloc::Global;
 use std::process::Abort;
 
-pub(crate) fn table_of(rt: &impl Abort, alloc: Global, digits: &str) -> Cedt {
+pub(crate) fn table_of_digits(rt: &impl Abort, alloc: Global, digits: &str) -> Cedt {
     let table = bytes(rt, alloc, digits);
     assert!(rt; table.len() <= 1_048_576);
     read(alloc, &table).expect(rt, "a table")
@@ -44,7 +44,12 @@ fn host_of(rt: &impl Abort, alloc: Global, row: &Row) -> Worked
 {
     let topo = read_topo(alloc, row.topology.as_bytes()).expect(rt, "a topology");
     let image = image_of(rt, alloc, row.image, &topo);
-    let windows = windows_of(rt, alloc, &table_of(rt, alloc, row.table), topo.uids());
+    let windows = windows_of(
+        rt,
+        alloc,
+        &table_of_digits(rt, alloc, row.table),
+        topo.uids(),
+    );
     Worked {
         topo,
         windows,

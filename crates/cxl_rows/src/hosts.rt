@@ -7,7 +7,7 @@ ghost use Rattle.cxl_window.specs.Windows.{AreMadeWith};
 ghost use Rattle.cxl_image.specs.Images.{HasCapsOf};
 ghost use Rattle.cxl_model.specs.System.{bridge_uids};
 
-use crate::rows::{at, byte, numbers, word};
+use crate::rows::{as_byte, as_word, at, numbers};
 use cxl_cedt::{Cedt, Cfmws, Chbs, Cxims, Head, Record};
 use cxl_enc::{Name, code_of};
 use cxl_image::Image;
@@ -66,16 +66,16 @@ fn node_of(rt: &impl Abort, i: usize, item: &[u64]) -> Node {
         name: Name::read(&letters).expect(rt, "a name"),
         kind: kind_of(rt, i, item),
         parent: parent_of(rt, item),
-        cap: word(rt, item, 0),
-        forwards: word(rt, item, 0) == PLACEHOLDER,
+        cap: as_word(rt, item, 0),
+        forwards: as_word(rt, item, 0) == PLACEHOLDER,
     }
 }
 
 fn parent_of(rt: &impl Abort, item: &[u64]) -> Option<Parent> {
     if item.len() > 1 {
         Some(Parent {
-            node: word(rt, item, 1),
-            port: byte(rt, item, 2),
+            node: as_word(rt, item, 1),
+            port: as_byte(rt, item, 2),
         })
     } else {
         None
@@ -96,7 +96,7 @@ fn kind_of(rt: &impl Abort, i: usize, item: &[u64]) -> NodeKind {
 }
 
 /// The table with so many bridges, the windows, and a map of 256 bytes.
-fn table_of(rt: &impl Abort, alloc: Global, text: &str, bridges: u32) -> Cedt {
+fn table_of_windows(rt: &impl Abort, alloc: Global, text: &str, bridges: u32) -> Cedt {
     let mut records = Vec::new(alloc);
     put_bridges(rt, &mut records, bridges);
     for item in text.split(',') {
@@ -130,14 +130,14 @@ fn map_record(rt: &impl Abort, alloc: Global) -> Record {
 fn targets_of(rt: &impl Abort, alloc: Global, item: &[u64]) -> Vec<u32> {
     let mut targets = Vec::new(alloc);
     for i in 5..item.len() {
-        targets.push(word(rt, item, i)).expect(rt, "memory");
+        targets.push(as_word(rt, item, i)).expect(rt, "memory");
     }
     targets
 }
 
 fn window_record(rt: &impl Abort, alloc: Global, item: &[u64]) -> Record {
     let targets = targets_of(rt, alloc, item);
-    let gran = byte(rt, item, 2);
+    let gran = as_byte(rt, item, 2);
     assert!(rt; targets.len() <= 16 && gran <= 6);
     let ways = code_of(targets.len() as u8).expect(rt, "a number of ways");
     Record::Cfmws(Cfmws::new(
@@ -146,7 +146,7 @@ fn window_record(rt: &impl Abort, alloc: Global, item: &[u64]) -> Record {
         ways,
         at(rt, item, 3) == 1,
         gran,
-        u16::try_from(word(rt, item, 4)).expect(rt, "restrictions"),
+        u16::try_from(as_word(rt, item, 4)).expect(rt, "restrictions"),
         0,
         targets,
     ))
@@ -198,7 +198,7 @@ pub(crate) fn host_of(
 {
     let topo = Topo::new(alloc, nodes_of(rt, alloc, nodes), 65_536).expect(rt, "a tree");
     assert!(rt; topo.uids().len() <= 16);
-    let table = table_of(rt, alloc, spans, topo.uids().len() as u32);
+    let table = table_of_windows(rt, alloc, spans, topo.uids().len() as u32);
     let windows = windows_of(rt, alloc, &table, topo.uids());
     let mut image = image_of(rt, alloc, &topo);
     commit_all(rt, alloc, &mut image, ranges);
@@ -246,7 +246,7 @@ fn commit_each(rt: &impl Abort, image: &mut Image, range: &[u64])
     if range.is_empty() {
         return;
     }
-    for node in word(rt, range, 0)..word(rt, range, 1) {
+    for node in as_word(rt, range, 0)..as_word(rt, range, 1) {
         commit(rt, image, range, node);
     }
 }
@@ -257,7 +257,7 @@ fn commit(rt: &impl Abort, image: &mut Image, range: &[u64], node: u32)
 {
     let base = at(rt, range, 3);
     let size = at(rt, range, 4);
-    let codes = byte(rt, range, 5);
+    let codes = as_byte(rt, range, 5);
     assert!(rt; base % UNIT == 0 && size % UNIT == 0);
     let words = words_of(&Decoder {
         base,
@@ -274,7 +274,7 @@ fn commit(rt: &impl Abort, image: &mut Image, range: &[u64], node: u32)
         write_word(
             image,
             node,
-            offset_of(byte(rt, range, 2), place),
+            offset_of(as_byte(rt, range, 2), place),
             words[place as usize],
         );
     }

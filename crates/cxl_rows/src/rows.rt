@@ -29,12 +29,12 @@ pub(crate) fn at(rt: &impl Abort, numbers: &[u64], i: usize) -> u64 {
 }
 
 /// The same as a word, which it has to be.
-pub(crate) fn word(rt: &impl Abort, numbers: &[u64], i: usize) -> u32 {
+pub(crate) fn as_word(rt: &impl Abort, numbers: &[u64], i: usize) -> u32 {
     u32::try_from(at(rt, numbers, i)).expect(rt, "a word")
 }
 
 /// The same as a byte.
-pub(crate) fn byte(rt: &impl Abort, numbers: &[u64], i: usize) -> u8 {
+pub(crate) fn as_byte(rt: &impl Abort, numbers: &[u64], i: usize) -> u8 {
     u8::try_from(at(rt, numbers, i)).expect(rt, "a byte")
 }
 
@@ -50,12 +50,12 @@ pub(crate) fn shows(rt: &impl Abort, alloc: Global, value: &impl Debug, text: &s
 pub(crate) fn bytes(rt: &impl Abort, alloc: Global, text: &str) -> Vec<u8> {
     let mut bytes = Vec::new(alloc);
     for word in text.split(' ') {
-        put_bytes(rt, alloc, &mut bytes, word);
+        put_digits(rt, alloc, &mut bytes, word);
     }
     bytes
 }
 
-fn put_bytes(rt: &impl Abort, alloc: Global, bytes: &mut Vec<u8>, word: &str) {
+fn put_digits(rt: &impl Abort, alloc: Global, bytes: &mut Vec<u8>, word: &str) {
     match hex::decode(alloc, word) {
         Ok(part) => bytes.extend_from_slice(&part).expect(rt, "memory"),
         Err(_) => {
@@ -89,11 +89,11 @@ pub(crate) fn change(rt: &impl Abort, file: &mut Vec<u8>, changes: &[u64], width
     }
     for i in 0..changes.len() / 2 {
         let place = at(rt, changes, odd + 2 * i) as usize;
-        put(rt, file, place, at(rt, changes, odd + 2 * i + 1), width);
+        put_value(rt, file, place, at(rt, changes, odd + 2 * i + 1), width);
     }
 }
 
-fn put(rt: &impl Abort, file: &mut [u8], place: usize, value: u64, width: usize) {
+fn put_value(rt: &impl Abort, file: &mut [u8], place: usize, value: u64, width: usize) {
     assert!(rt; width <= 8 && place <= file.len() && width <= file.len() - place);
     file[place..place + width].copy_from_slice(&value.to_le_bytes()[..width]);
 }

@@ -35,7 +35,7 @@ fn repeated(rt: &impl Abort, alloc: Global, parts: &[&[u8]], times: usize) -> Ve
 }
 
 /// Runs a script over two bridges with an endpoint each, and gives the exit status.
-fn code_of(
+fn code_of_script(
     rt: &impl Abort,
     alloc: Global,
     topology: &str,
@@ -68,7 +68,7 @@ fn ends(rt: &impl Abort, alloc: Global, read: u64, write: u64, code: u8, replies
     let mut source = MemSource::new(lines, [read].to_vec(alloc).expect(rt, "memory"));
     let mut sink = sink_of(rt, alloc, ROOM, write);
     let mut regs = FailingBus::new(alloc, Vec::new(alloc));
-    let status = code_of(rt, alloc, TWO_ENDPOINTS, &mut source, &mut sink, &mut regs);
+    let status = code_of_script(rt, alloc, TWO_ENDPOINTS, &mut source, &mut sink, &mut regs);
     let mut text = repeated(rt, alloc, &[ANSWER], replies);
     if code == 5 {
         text.extend_from_slice(b"error: script read failed\n")
@@ -107,7 +107,7 @@ fn left_behind(rt: &impl Abort, alloc: Global, write: u64) -> usize {
     let mut source = MemSource::new(lines, Vec::new(alloc));
     let mut sink = sink_of(rt, alloc, ROOM, write);
     let mut regs = FailingBus::new(alloc, Vec::new(alloc));
-    code_of(rt, alloc, TWO_ENDPOINTS, &mut source, &mut sink, &mut regs);
+    code_of_script(rt, alloc, TWO_ENDPOINTS, &mut source, &mut sink, &mut regs);
     left_in(rt, &mut source)
 }
 
@@ -128,7 +128,7 @@ fn is_undone(rt: &impl Abort, alloc: Global, call: u64) -> bool {
     let mut sink = sink_of(rt, alloc, ROOM, 0);
     let fails = [call].to_vec(alloc).expect(rt, "memory");
     let mut regs = FailingBus::new(alloc, fails);
-    let code = code_of(rt, alloc, TWO_ENDPOINTS, &mut source, &mut sink, &mut regs);
+    let code = code_of_script(rt, alloc, TWO_ENDPOINTS, &mut source, &mut sink, &mut regs);
     let text = repeated(rt, alloc, &[b"bus fault undone\n", CREATED], 1);
     let made = (call as usize).saturating_sub(3);
     code == 0 && sink.bytes() == text.as_slice() && goes_back_and_on(regs.trail(), made)
@@ -176,7 +176,7 @@ fn one_frame_serves_a_thousand_regions(rt: HostRuntime) {
     let mut source = MemSource::new(lines, Vec::new(alloc));
     let mut sink = sink_of(&rt, alloc, ROOM, 0);
     let mut regs = FailingBus::new(alloc, Vec::new(alloc));
-    let code = code_of(&rt, alloc, ONE_FRAME, &mut source, &mut sink, &mut regs);
+    let code = code_of_script(&rt, alloc, ONE_FRAME, &mut source, &mut sink, &mut regs);
     assert!(&rt; code == 0);
     assert!(&rt; sink.bytes() == repeated(&rt, alloc, &told, 1_000).as_slice());
 }

@@ -7,7 +7,7 @@ use crate::scripts::{Script, come_to};
 use crate::tables::{ONE_BRIDGE, SERVER, TWO_BRIDGES};
 
 #[test]
-fn regions(rt: HostRuntime) {
+fn made_and_ended(rt: HostRuntime) {
     come_to(&rt, &REGIONS);
 }
 

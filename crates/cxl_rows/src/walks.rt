@@ -14,7 +14,7 @@ use crate::host_texts::{
     TWO_FORWARDING, TWO_WAYS, TWO_WAYS_BELOW,
 };
 use crate::hosts::{Worked, host_of};
-use crate::rows::{at, byte, has_passed, numbers, shows, word};
+use crate::rows::{as_byte, as_word, at, has_passed, numbers, shows};
 use cxl_check::{Breach, check};
 use cxl_model::{Found, Step};
 use cxl_walk::{Host, Kept, Route, down, up};
@@ -35,12 +35,12 @@ pub(crate) fn route_of(rt: &impl Abort, numbers: &[u64]) -> Route {
     ];
     Route {
         window: 0,
-        position: word(rt, numbers, 0),
+        position: as_word(rt, numbers, 0),
         base: at(rt, numbers, 1),
         len: len as u8,
         steps,
-        endpoint: word(rt, numbers, 2),
-        decoder: byte(rt, numbers, 3),
+        endpoint: as_word(rt, numbers, 2),
+        decoder: as_byte(rt, numbers, 3),
         dpa: at(rt, numbers, 4),
     }
 }
@@ -56,9 +56,9 @@ fn step_of(rt: &impl Abort, numbers: &[u64], i: u8) -> Step {
         };
     }
     Step {
-        node: word(rt, numbers, i),
-        decoder: byte(rt, numbers, i + 1),
-        entry: byte(rt, numbers, i + 2),
+        node: as_word(rt, numbers, i),
+        decoder: as_byte(rt, numbers, i + 1),
+        entry: as_byte(rt, numbers, i + 2),
     }
 }
 

@@ -1,6 +1,6 @@
 //! Lines of a source.
 
-use crate::common::{has_passed, list, repeated};
+use crate::common::{list, repeated, row_passes};
 use cxl_io::{LineReader, MemSource, Source, StdSource, Taken};
 use std::process::Abort;
 
@@ -156,7 +156,7 @@ fn is_read(rt: &(impl Abort + AllocGlobal), row: &Row) -> bool {
 #[test]
 fn lines(rt: HostRuntime) {
     for (i, row) in SOURCES.iter().enumerate() {
-        has_passed(&rt, i, is_read(&rt, row));
+        row_passes(&rt, i, is_read(&rt, row));
     }
 }
 

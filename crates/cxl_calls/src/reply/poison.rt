@@ -41,7 +41,7 @@ fn entries(rt: &(impl Abort + AllocGlobal), listed: &[Record<'_>]) -> FixedList<
     FixedList::new(records)
 }
 
-fn poisoned(rt: &(impl Abort + AllocGlobal), record: &Record<'_>) -> Poisoned {
+fn piece_of(rt: &(impl Abort + AllocGlobal), record: &Record<'_>) -> Poisoned {
     Poisoned {
         parts: FixedList::new(record.parts.to_vec(rt.alloc()).expect(rt, "memory")),
         unmapped: record.unmapped,
@@ -51,7 +51,7 @@ fn poisoned(rt: &(impl Abort + AllocGlobal), record: &Record<'_>) -> Poisoned {
 fn pieces(rt: &(impl Abort + AllocGlobal), listed: &[Record<'_>]) -> FixedList<Poisoned> {
     let mut pieces = Vec::new(rt.alloc());
     for record in listed {
-        pieces.push(poisoned(rt, record)).expect(rt, "memory");
+        pieces.push(piece_of(rt, record)).expect(rt, "memory");
     }
     FixedList::new(pieces)
 }

@@ -14,7 +14,7 @@ fn via(node: u32, entry: u8) -> Via {
 }
 
 /// An address that goes to an endpoint by so many of these ports.
-fn downed(rt: &impl Abort, len: u8, via: [Via; 5], endpoint: u32) -> Reply {
+fn down_reply(rt: &impl Abort, len: u8, via: [Via; 5], endpoint: u32) -> Reply {
     Reply::Down(Downed {
         h: 0x10f_ffff_ffff,
         name: name(rt, "r0"),
@@ -44,15 +44,15 @@ fn addresses(rt: HostRuntime) {
     let five = ports_of([0, 2, 3, 4, 5], [0, 1, 1, 0, 1]);
     let rows = [
         (
-            downed(&rt, 1, one, 9),
+            down_reply(&rt, 1, one, 9),
             "down 0x10fffffffff region r0 slot 3 position 1 via hb1:0:1 endpoint e3 dpa 0x3fffffffff\n",
         ),
         (
-            downed(&rt, 0, five, 7),
+            down_reply(&rt, 0, five, 7),
             "down 0x10fffffffff region r0 slot 3 position 1 via - endpoint e1 dpa 0x3fffffffff\n",
         ),
         (
-            downed(&rt, 5, five, 10),
+            down_reply(&rt, 5, five, 10),
             "down 0x10fffffffff region r0 slot 3 position 1 via hb0:0:0 s0:0:1 s2:0:1 s6:0:0 s13:0:1 endpoint e13 dpa 0x3fffffffff\n",
         ),
     ];
