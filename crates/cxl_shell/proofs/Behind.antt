@@ -1,31 +1,30 @@
 -- What the files say of a run that left them behind: each has a reading.
-use Rattle.std.proofs.Common.{◌≡◌, ◌≢◌, ◌⊎◌, ℕ, ◌<◌, true, Some, List, [], ◌∷◌, length, refl, sym, ap, subst, ◌∙◌, inl, inr}
+use Rattle.std.proofs.Common.{◌≡◌, ℕ, Some, List, length, sym, subst}
 use Rattle.std.proofs.Math.Seq.{take-length}
 use Rattle.cxl_cedt.specs.CedtFields.{CedtFields}
 use Rattle.cxl_cedt.specs.declared.fault.CedtFault.{CedtFault}
 use Rattle.cxl_image.specs.declared.fault.ImageFault.{ImageFault}
 use Rattle.cxl_io.specs.Fetch.{AsksFor}
-use Rattle.cxl_io.specs.Told.{Told, Bytes}
+use Rattle.cxl_io.specs.Told.{Told}
 use Rattle.cxl_model.specs.System.{System}
 use Rattle.cxl_regs.specs.Registers.{Registers}
 use Rattle.cxl_topo.specs.Tree.{Tree}
 use Rattle.cxl_topofile.specs.declared.fault.TopoFault.{TopoFault}
-use Rattle.cxl_shell.specs.Form.{Form, OfTable, OfResetHost, OfHost, OfWords, own_files, table_file, topology_file, image_file}
-use Rattle.cxl_shell.specs.Outside.{Outside}
-use Rattle.cxl_shell.specs.Readings.{KnowsTree}
+use Rattle.cxl_commands.specs.Form.{Form, OfTable, OfResetHost, OfHost, OfWords, own_files, table_file, topology_file, image_file}
+use Rattle.cxl_commands.specs.Outside.{Outside}
+use Rattle.cxl_commands.specs.Readings.{KnowsTree}
 use Rattle.cxl_shell.specs.commands.Script.{IsStart}
-use Rattle.cxl_shell.specs.declared.form.HostAsk.TheVariants as host_asks
-use Rattle.cxl_shell.specs.declared.form.ResetAsk.TheVariants as reset_asks
-use Rattle.cxl_shell.specs.declared.form.WordsAsk.TheVariants as plain_asks
-use Rattle.cxl_shell.specs.declared.status.Status.{Status}
-use Rattle.cxl_shell.specs.declared.status.Status.TheVariants.{BadTable, BadTopo, BadImage}
-use Rattle.cxl_shell.specs.inputs.File.{AsksForSome}
-use Rattle.cxl_shell.specs.inputs.Image.{IsImageOf}
-use Rattle.cxl_shell.specs.inputs.Table.{IsTableOf, IsReading, IsFaulty}
-use Rattle.cxl_shell.specs.inputs.Topology.{IsTreeOf, IsTreeReading, IsFaultyTree}
+use Rattle.cxl_commands.specs.declared.form.HostAsk.TheVariants as host_asks
+use Rattle.cxl_commands.specs.declared.form.ResetAsk.TheVariants as reset_asks
+use Rattle.cxl_commands.specs.declared.status.Status.{Status}
+use Rattle.cxl_commands.specs.declared.status.Status.TheVariants.{BadTable, BadTopo, BadImage}
+use Rattle.cxl_commands.specs.inputs.File.{AsksForSome}
+use Rattle.cxl_commands.specs.inputs.Image.{IsImageOf}
+use Rattle.cxl_commands.specs.inputs.Table.{IsTableOf, IsReading, IsFaulty}
+use Rattle.cxl_commands.specs.inputs.Topology.{IsTreeOf, IsTreeReading, IsFaultyTree}
 use Rattle.cxl_shell.proofs.Lifted.{IsBehindFiles}
-use Rattle.cxl_shell.proofs.Readings.{HaveOneReading, ReadsImage, FailsImage}
-use Rattle.cxl_shell.proofs.Steps.{same_bytes, Step, read}
+use Rattle.cxl_commands.proofs.Readings.{HaveOneReading, ReadsImage, FailsImage}
+use Rattle.cxl_commands.proofs.Steps.{same_bytes, Step, read}
 
 -- ---- where a session starts, file by file
 

@@ -1,5 +1,5 @@
 -- Runs that have all that they ask for are answered whole.
-use Rattle.std.proofs.Common.{◌≡◌, ◌≢◌, ◌⊎◌, ℕ, ◌+◌, ◌≤◌, false, true, Option, Some, None, List, ◌++◌, length, refl, sym, ap, subst, ◌∙◌, inl, inr, arith, length-append}
+use Rattle.std.proofs.Common.{◌≡◌, ◌⊎◌, ℕ, ◌+◌, ◌≤◌, Option, Some, None, List, ◌++◌, length, refl, sym, ap, subst, ◌∙◌, inl, inr, arith, length-append}
 use Rattle.std.specs.Option.{IsSomeAnd}
 use Rattle.cxl_enc.specs.Faults.{Rose}
 use Rattle.cxl_gen.specs.Made.{made_tree}
@@ -11,32 +11,29 @@ use Rattle.cxl_machine.specs.Scripts.{Asked, Turn}
 use Rattle.cxl_machine.specs.Sound.{Opens}
 use Rattle.cxl_machine.specs.Turns.{AreTurns, machine_after}
 use Rattle.cxl_model.specs.System.{System}
-use Rattle.cxl_turns.specs.Endings.{StopsReading}
-use Rattle.cxl_turns.specs.declared.endings.Ending.{Ending}
 use Rattle.cxl_turns.specs.declared.endings.Ending.TheVariants as endings
-use Rattle.cxl_shell.specs.Answers.{IsOutcomeByFiles, IsAnswerBy}
-use Rattle.cxl_shell.specs.Completeness.{AreReady, IsReadyScript, IsReady, HasReadOut, HasMadeAll, IsWholeByFiles, IsScriptAnswered, IsAnsweredWhole}
+use Rattle.cxl_commands.specs.Answers.{IsOutcomeByFiles, IsAnswerBy}
+use Rattle.cxl_shell.specs.Completeness.{AreReadyFiles, IsReadyScript, IsReady, HasReadOut, IsWholeByFiles, IsScriptAnswered, IsAnsweredWhole}
 use Rattle.cxl_shell.specs.Devices.{Devices}
 use Rattle.cxl_shell.specs.Endings.{HasCarriedOut, EndsScript, read_out, ending_cut, reply_cut, runs_out, EndsGen, told}
 use Rattle.cxl_shell.specs.Endings as endings_of
-use Rattle.cxl_shell.specs.Ends.{IsWritten, IsStopped}
-use Rattle.cxl_shell.specs.Form.{Form, OfTable, OfResetHost, OfHost, OfWords, runs_session}
-use Rattle.cxl_shell.specs.Outcome.{Outcome}
-use Rattle.cxl_shell.specs.Outside.{Outside}
-use Rattle.cxl_shell.specs.Readings.{Readings, ByTable, ByTree, ByHost}
-use Rattle.cxl_shell.specs.Run.{IsRunByFiles, writes, is_cut, by_files, unready, unopened, opened, IsRun}
-use Rattle.cxl_shell.specs.Run as runs
-use Rattle.cxl_shell.specs.commands.Help.{helped, version_told}
-use Rattle.cxl_shell.specs.commands.Script.{IsStart, FailsToOpen, bus, memory, status_of}
-use Rattle.cxl_shell.specs.declared.form.HostAsk.TheVariants as host_asks
-use Rattle.cxl_shell.specs.declared.form.ResetAsk.TheVariants as reset_asks
-use Rattle.cxl_shell.specs.declared.form.WordsAsk.{WordsAsk}
-use Rattle.cxl_shell.specs.declared.form.WordsAsk.TheVariants as plain_asks
-use Rattle.cxl_shell.specs.declared.status.Status.{Status}
-use Rattle.cxl_shell.specs.declared.status.Status.TheVariants.{Done, BusFault, Refused, Memory}
+use Rattle.cxl_commands.specs.Ends.{IsWritten}
+use Rattle.cxl_commands.specs.Form.{Form, OfTable, OfResetHost, OfHost, OfWords}
+use Rattle.cxl_commands.specs.Outcome.{Outcome}
+use Rattle.cxl_commands.specs.Outside.{Outside}
+use Rattle.cxl_commands.specs.RunByFiles.{IsRunByFiles, writes, is_cut}
+use Rattle.cxl_shell.specs.Run.{by_files, unready, unopened, opened, IsRun}
+use Rattle.cxl_commands.specs.RunByFiles as runs
+use Rattle.cxl_commands.specs.commands.Help.{helped, version_told}
+use Rattle.cxl_shell.specs.commands.Script.{IsStart, FailsToOpen, bus, memory}
+use Rattle.cxl_commands.specs.declared.form.HostAsk.TheVariants as host_asks
+use Rattle.cxl_commands.specs.declared.form.ResetAsk.TheVariants as reset_asks
+use Rattle.cxl_commands.specs.declared.form.WordsAsk.TheVariants as plain_asks
+use Rattle.cxl_commands.specs.declared.status.Status.{Status}
+use Rattle.cxl_commands.specs.declared.status.Status.TheVariants.{Done, BusFault, Refused, Memory}
 use Rattle.cxl_shell.proofs.Lifted.{no_session}
-use Rattle.cxl_shell.proofs.Readings.{HaveOneReading, answer_comes, unless_stopped}
-use Rattle.cxl_shell.proofs.Runs.{answer_status}
+use Rattle.cxl_commands.proofs.Readings.{HaveOneReading, answer_comes, unless_stopped}
+use Rattle.cxl_commands.proofs.Runs.{answer_status}
 
 -- a script that is known and within its limit has no byte past it
 within : (before after : SourceState) (bytes : List ℕ) → IsReadyScript before → before.left ≡ told_behind bytes after.left → length bytes ≡ script_limit + 1 → ⊥
@@ -67,7 +64,7 @@ module _ (old new : Outside) (before after : Devices) (status : Status) (files_w
   ends_so o outcome (inr refused) is own = inr (sym own ∙ is ∙ refused)
 
   module _ (one : HaveOneReading) where
-    by_its_files : (form : Form) → AreReady form old.files → IsRunByFiles form old new status → after ≡ before → (status ≡ Memory) ⊎ IsWholeByFiles form old new before after status
+    by_its_files : (form : Form) → AreReadyFiles form old.files → IsRunByFiles form old new status → after ≡ before → (status ≡ Memory) ⊎ IsWholeByFiles form old new before after status
     by_its_files form ready (writes outcome answers written) left =
         at (unless_stopped old new status files_well sink_well (answer_comes old new status one form (writes outcome answers written) ready.0 ready.1))
       where
@@ -132,25 +129,25 @@ module _ (old new : Outside) (before after : Devices) (status : Status) (files_w
     pub completes : (form : Form) → IsReady form old.files before.script → IsRun form old new before after status → Completes form
     completes (OfTable cedt ask) ready run =
         let by = no_session (OfTable cedt ask) old new before after status run refl in
-        either one (OfTable cedt ask) (λ is. is) (by_its_files one (OfTable cedt ask) ready by.0 by.1)
+        either one (OfTable cedt ask) (λ is. is) (by_its_files one (OfTable cedt ask) ready.0 by.0 by.1)
     completes (OfResetHost cedt topo (reset_asks.Plan create)) ready run =
         let by = no_session (OfResetHost cedt topo (reset_asks.Plan create)) old new before after status run refl in
-        either one (OfResetHost cedt topo (reset_asks.Plan create)) (λ is. is) (by_its_files one (OfResetHost cedt topo (reset_asks.Plan create)) ready by.0 by.1)
+        either one (OfResetHost cedt topo (reset_asks.Plan create)) (λ is. is) (by_its_files one (OfResetHost cedt topo (reset_asks.Plan create)) ready.0 by.0 by.1)
     completes (OfResetHost cedt topo reset_asks.Script) ready (unopened (by_files left run)) =
         either one (OfResetHost cedt topo reset_asks.Script) (λ is. inr is) (by_its_files one (OfResetHost cedt topo reset_asks.Script) ready.0 run left)
     completes (OfResetHost cedt topo reset_asks.Script) ready (unopened (unready s frames start asks unread fails)) = failed_to_open (OfResetHost cedt topo reset_asks.Script) s frames fails
     completes (OfResetHost cedt topo reset_asks.Script) ready (opened s frames first asked turns start asks opens is answered carried ends) =
-        script_completes (OfResetHost cedt topo reset_asks.Script) (λ is. is) (read_whole (OfResetHost cedt topo reset_asks.Script) s frames first asked turns start opens answered carried ready.1 ends)
+        script_completes (OfResetHost cedt topo reset_asks.Script) (λ is. is) (read_whole (OfResetHost cedt topo reset_asks.Script) s frames first asked turns start opens answered carried (ready.1 refl) ends)
     completes (OfHost cedt topo image host_asks.Check) ready run =
         let by = no_session (OfHost cedt topo image host_asks.Check) old new before after status run refl in
-        either one (OfHost cedt topo image host_asks.Check) (λ is. is) (by_its_files one (OfHost cedt topo image host_asks.Check) ready by.0 by.1)
+        either one (OfHost cedt topo image host_asks.Check) (λ is. is) (by_its_files one (OfHost cedt topo image host_asks.Check) ready.0 by.0 by.1)
     completes (OfHost cedt topo image host_asks.Script) ready (unopened (by_files left run)) =
         either one (OfHost cedt topo image host_asks.Script) (λ is. inr is) (by_its_files one (OfHost cedt topo image host_asks.Script) ready.0 run left)
     completes (OfHost cedt topo image host_asks.Script) ready (unopened (unready s frames start asks unread fails)) = failed_to_open (OfHost cedt topo image host_asks.Script) s frames fails
     completes (OfHost cedt topo image host_asks.Script) ready (opened s frames first asked turns start asks opens is answered carried ends) =
-        script_completes (OfHost cedt topo image host_asks.Script) (λ is. is) (read_whole (OfHost cedt topo image host_asks.Script) s frames first asked turns start opens answered carried ready.1 ends)
-    completes (OfWords plain_asks.NoCreate) ready run = absurd ready
-    completes (OfWords plain_asks.Unreadable) ready run = absurd ready
+        script_completes (OfHost cedt topo image host_asks.Script) (λ is. is) (read_whole (OfHost cedt topo image host_asks.Script) s frames first asked turns start opens answered carried (ready.1 refl) ends)
+    completes (OfWords plain_asks.NoCreate) ready run = absurd ready.0
+    completes (OfWords plain_asks.Unreadable) ready run = absurd ready.0
     completes (OfWords plain_asks.Help) ready run =
         let by = no_session (OfWords plain_asks.Help) old new before after status run refl in
         told_so (OfWords plain_asks.Help) helped refl (λ o answers. answers.0) (λ is. is) by.0 by.1

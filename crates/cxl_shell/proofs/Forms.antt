@@ -1,6 +1,6 @@
 -- The files of a form.
 use Rattle.std.proofs.Common.{◌≡◌, ℕ, Some, List, ◌∷◌, ap}
-use Rattle.cxl_shell.specs.Form.{Form, OfTable, OfResetHost, OfHost, OfWords, own_files, table_file}
+use Rattle.cxl_commands.specs.Form.{Form, OfTable, OfResetHost, OfHost, OfWords, own_files, table_file}
 
 -- the first file is that with the table
 pub first_file : (form : Form) (file : List ℕ) (others : List (List ℕ)) → own_files form ≡ file ∷ others → table_file form ≡ Some file

@@ -31,20 +31,20 @@ use Rattle.cxl_turns.specs.Going.{HasGoneOn}
 use Rattle.cxl_window.specs.Fields.{WindowFields}
 use Rattle.cxl_window.specs.Windows.{windows_of}
 use Rattle.cxl_shell.specs.Devices.{Devices}
-use Rattle.cxl_shell.specs.Ends.{Finishes}
-use Rattle.cxl_shell.specs.Form.{Gen}
-use Rattle.cxl_shell.specs.Outcome.{Outcome}
-use Rattle.cxl_shell.specs.Outside.{Outside}
+use Rattle.cxl_commands.specs.Ends.{Finishes}
+use Rattle.cxl_commands.specs.Form.{Gen}
+use Rattle.cxl_commands.specs.Outcome.{Outcome}
+use Rattle.cxl_commands.specs.Outside.{Outside}
 use Rattle.cxl_shell.specs.Run.{unopened, unready, opened, IsRun}
 use Rattle.cxl_shell.specs.commands.Gen.{made_asked}
 use Rattle.cxl_shell.specs.commands.Script.{FailsToOpen, bus, memory, bus_failed}
-use Rattle.cxl_shell.specs.declared.status.Status.{Status}
-use Rattle.cxl_shell.specs.declared.status.Status.TheVariants.{Memory}
-use Rattle.cxl_shell.specs.declared.stop.Stop.{Stop}
-use Rattle.cxl_shell.specs.declared.stop.Stop.TheVariants as stop
+use Rattle.cxl_commands.specs.declared.status.Status.{Status}
+use Rattle.cxl_commands.specs.declared.status.Status.TheVariants.{Memory}
+use Rattle.cxl_commands.specs.declared.stop.Stop.{Stop}
+use Rattle.cxl_commands.specs.declared.stop.Stop.TheVariants as stop
 use Rattle.cxl_shell.specs.inner.Generated.{made_host, IsMadeHost, EndsMade}
 use Rattle.cxl_shell.specs.inner.Generated as made
-use Rattle.cxl_shell.specs.inputs.ResetHost.{reset_host_of}
+use Rattle.cxl_commands.specs.inputs.ResetHost.{reset_host_of}
 use Rattle.cxl_shell.proofs.ResetHosts.{no_regions}
 use Rattle.cxl_shell.proofs.Scripts.{starts_session}
 

@@ -15,19 +15,20 @@ use Rattle.cxl_turns.specs.declared.endings.Ending.TheVariants as endings
 use Rattle.cxl_shell.specs.Devices.{Devices}
 use Rattle.cxl_shell.specs.Endings.{EndsScript, read_out, ending_cut, reply_cut, runs_out, EndsGen, EndsForm}
 use Rattle.cxl_shell.specs.Endings as endings_of
-use Rattle.cxl_shell.specs.Ends.{Ends}
-use Rattle.cxl_shell.specs.Form.{Form, OfTable, OfResetHost, OfHost, OfWords, own_files, runs_session, takes_memory}
-use Rattle.cxl_shell.specs.Outcome.{Outcome}
-use Rattle.cxl_shell.specs.Outside.{Outside}
-use Rattle.cxl_shell.specs.Run.{IsRunByFiles, EachRunByFiles, by_files, unready, unopened, opened, IsRun, EachRun}
+use Rattle.cxl_commands.specs.Ends.{Ends}
+use Rattle.cxl_commands.specs.Form.{Form, OfTable, OfResetHost, OfHost, OfWords, own_files, runs_session, takes_memory}
+use Rattle.cxl_commands.specs.Outcome.{Outcome}
+use Rattle.cxl_commands.specs.Outside.{Outside}
+use Rattle.cxl_commands.specs.RunByFiles.{IsRunByFiles, EachRunByFiles}
+use Rattle.cxl_shell.specs.Run.{by_files, unready, unopened, opened, IsRun, EachRun}
 use Rattle.cxl_shell.specs.Statuses.{is_of_files}
 use Rattle.cxl_shell.specs.commands.Script.{IsStart, FailsToOpen, bus_failed, bus, memory, status_of}
 use Rattle.cxl_shell.specs.commands.Gen.{gen_told}
-use Rattle.cxl_shell.specs.declared.form.HostAsk.TheVariants as host_asks
-use Rattle.cxl_shell.specs.declared.form.ResetAsk.TheVariants as reset_asks
-use Rattle.cxl_shell.specs.declared.form.WordsAsk.TheVariants as plain_asks
-use Rattle.cxl_shell.specs.declared.status.Status.{Status}
-use Rattle.cxl_shell.specs.declared.status.Status.TheVariants.{WriteFault}
+use Rattle.cxl_commands.specs.declared.form.HostAsk.TheVariants as host_asks
+use Rattle.cxl_commands.specs.declared.form.ResetAsk.TheVariants as reset_asks
+use Rattle.cxl_commands.specs.declared.form.WordsAsk.TheVariants as plain_asks
+use Rattle.cxl_commands.specs.declared.status.Status.{Status}
+use Rattle.cxl_commands.specs.declared.status.Status.TheVariants.{WriteFault}
 
 -- such a status comes behind the files; status 6 has its cause
 pub record IsLate (status : Status) (old new : SinkState) : Type 0 where

@@ -15,7 +15,7 @@ use Rattle.cxl_regs.specs.declared.reading.Range.{Range}
 use Rattle.cxl_session.specs.Opening.{HasRegions}
 use Rattle.cxl_topo.specs.Tree.{Tree}
 use Rattle.cxl_topo.specs.declared.node.Node.{Node}
-use Rattle.cxl_shell.specs.inputs.ResetHost.{reset_host_of}
+use Rattle.cxl_commands.specs.inputs.ResetHost.{reset_host_of}
 
 none_committed : (r : Range) (count : ℕ) → list_any (has_range r) (replicate count reset_decoder) ≡ false
 none_committed r zero = refl

@@ -1,5 +1,5 @@
 -- How a script ends: over an open session, over a host, and over the files of its form.
-use Rattle.std.proofs.Common.{◌≡◌, ◌≢◌, ◌⊎◌, ℕ, ◌<◌, ◌≤◌, true, Option, Some, None, option_map, List, [], ◌∷◌, ◌++◌, take, length, Result, Ok, Err, refl, sym, ap, subst, ◌∙◌, inl, inr, arith, append_assoc}
+use Rattle.std.proofs.Common.{◌≡◌, ◌≢◌, ◌⊎◌, ℕ, ◌<◌, ◌≤◌, true, Option, Some, None, option_map, List, [], ◌∷◌, ◌++◌, take, Result, Ok, Err, refl, sym, ap, subst, ◌∙◌, inl, inr, arith}
 use Rattle.std.proofs.lemmas.Bool.{cases_lt}
 use Rattle.std.proofs.lemmas.List.{append-nil}
 use Rattle.cxl_bus.specs.RegsState.{RegsState}
@@ -19,7 +19,6 @@ use Rattle.cxl_machine.specs.Sound.{Opens}
 use Rattle.cxl_machine.specs.Turns.{text_of, words_sent}
 use Rattle.cxl_machine.specs.declared.fault.OpenFault.{OpenFault}
 use Rattle.cxl_machine.specs.declared.fault.OpenFault.TheVariants as faults
-use Rattle.cxl_media.specs.MediaState.{MediaState}
 use Rattle.cxl_model.specs.Accepted.{IsAccepted}
 use Rattle.cxl_model.specs.System.{System, system_of, bridge_uids}
 use Rattle.cxl_regs.specs.Registers.{Registers}
@@ -34,27 +33,29 @@ use Rattle.cxl_turns.specs.declared.endings.Ending.{Ending}
 use Rattle.cxl_turns.specs.declared.endings.Ending.TheVariants as endings
 use Rattle.cxl_window.specs.Fields.{WindowFields}
 use Rattle.cxl_window.specs.Windows.{windows_of}
-use Rattle.cxl_shell.specs.Answers.{IsOutcomeByFiles, IsStop}
+use Rattle.cxl_commands.specs.Answers.{IsOutcomeByFiles, IsStop}
 use Rattle.cxl_shell.specs.Devices.{Devices, devices}
 use Rattle.cxl_shell.specs.Endings.{HasCarriedOut, EndsScript, read_out, ending_cut, reply_cut, runs_out}
-use Rattle.cxl_shell.specs.Ends.{Ends, Finishes}
-use Rattle.cxl_shell.specs.Form.{Form, Script, own_files, takes_memory}
-use Rattle.cxl_shell.specs.Outcome.{Outcome}
-use Rattle.cxl_shell.specs.Outside.{Outside}
-use Rattle.cxl_shell.specs.Run.{IsRunByFiles, by_files, unready, unopened, opened, IsRun}
-use Rattle.cxl_shell.specs.commands.Script.{StartsSession, bus, memory, breach_told, many_told, too_many_regions, bus_failed, status_of, ends_reading, ending_text, script_stopped}
-use Rattle.cxl_shell.specs.declared.status.Status.{Status}
-use Rattle.cxl_shell.specs.declared.status.Status.TheVariants.{Done, WriteFault, Memory}
-use Rattle.cxl_shell.specs.declared.stop.Stop.{Stop}
-use Rattle.cxl_shell.specs.declared.stop.Stop.TheVariants as stop
+use Rattle.cxl_commands.specs.Ends.{Ends, Finishes}
+use Rattle.cxl_commands.specs.Form.{Form, Script, own_files, takes_memory}
+use Rattle.cxl_commands.specs.Outcome.{Outcome}
+use Rattle.cxl_commands.specs.Outside.{Outside}
+use Rattle.cxl_commands.specs.RunByFiles.{IsRunByFiles}
+use Rattle.cxl_shell.specs.Run.{by_files, unready, unopened, opened, IsRun}
+use Rattle.cxl_commands.specs.commands.RefusedStart.{breach_told, many_told, too_many_regions}
+use Rattle.cxl_shell.specs.commands.Script.{StartsSession, bus, memory, bus_failed, status_of, ends_reading, ending_text, script_stopped}
+use Rattle.cxl_commands.specs.declared.status.Status.{Status}
+use Rattle.cxl_commands.specs.declared.status.Status.TheVariants.{Done, WriteFault, Memory}
+use Rattle.cxl_commands.specs.declared.stop.Stop.{Stop}
+use Rattle.cxl_commands.specs.declared.stop.Stop.TheVariants as stop
 use Rattle.cxl_shell.specs.inner.Scripts.{EndsOver, EndsFromImage}
 use Rattle.cxl_shell.specs.inner.Scripts as over
-use Rattle.cxl_shell.specs.inputs.File.{AsksForSome}
-use Rattle.cxl_shell.specs.inputs.Host.{AreRead, HasNoHost, host_of, no_host, by_host}
-use Rattle.cxl_shell.specs.inputs.ResetHost.{AreBothRead, HasNoResetHost, reset_host_of, no_reset_host}
-use Rattle.cxl_shell.proofs.Hosts.{told_twice}
+use Rattle.cxl_commands.specs.inputs.File.{AsksForSome}
+use Rattle.cxl_commands.specs.inputs.Host.{AreRead, HasNoHost, host_of, no_host, by_host}
+use Rattle.cxl_commands.specs.inputs.ResetHost.{AreBothRead, HasNoResetHost, reset_host_of, no_reset_host}
+use Rattle.cxl_commands.proofs.Hosts.{told_twice}
 use Rattle.cxl_shell.proofs.ResetHosts.{no_regions}
-use Rattle.cxl_shell.proofs.Stops.{stop-weaker, run-ended, run-finished}
+use Rattle.cxl_commands.proofs.Stops.{stop-weaker, run-ended, run-finished}
 
 -- ---- over an open session
 
@@ -200,7 +201,7 @@ module _ (old new : Outside) (before after : Devices) (status : Status) where
 
   image_over : (cedt topo image : List ℕ) (table : CedtFields) (tree : Tree) (blocks : List Registers) → AreRead old.files.told cedt topo image table tree blocks → AsksFor old.files new.files (cedt ∷ topo ∷ image ∷ []) → EndsOver (host_of table tree blocks) tree.frames before after old.out new.out status → IsRun (Script cedt topo (Some image)) old new before after status
   image_over cedt topo image table tree blocks read asks (over.full n has many left ends) =
-      unopened (by_files left (run-ended (Script cedt topo (Some image)) old new status too_many_regions (by_host table tree blocks read (asks, many_told n has many refl)) ends))
+      unopened (by_files left (run-ended (Script cedt topo (Some image)) old new status too_many_regions (by_host table tree blocks read (asks, many_told has.1.0 has.0 has.1.1 (subst (λ k. region_limit < k) (sym has.1.2) many) refl)) ends))
   image_over cedt topo image table tree blocks read asks (over.unready unread fails) = unopened (unready (host_of table tree blocks) tree.frames (table, tree, blocks, read, refl, refl) asks unread fails)
   image_over cedt topo image table tree blocks read asks (over.opened first asked turns opens is answered carried ends) =
       opened (host_of table tree blocks) tree.frames first asked turns (table, tree, blocks, read, refl, refl) asks opens is answered carried ends

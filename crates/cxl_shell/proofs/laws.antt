@@ -1,9 +1,4 @@
--- What a run of each command comes to.
-pub mod Route
-pub mod List
-pub mod Normal
-pub mod Check
-pub mod Plan
+-- What a run comes to that works on a session, and what runs promise of memory.
 pub mod Early
 pub mod Script
 pub mod Gen

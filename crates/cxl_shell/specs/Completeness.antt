@@ -1,5 +1,5 @@
 -- When a run has all that it asks for, and when it is answered whole.
-use Rattle.std.specs.Prelude.{◌≡◌, ℕ, ◌≤◌, ◌⊎◌, List, ◌++◌, length, IsSomeAnd}
+use Rattle.std.specs.Prelude.{◌≡◌, ℕ, ◌≤◌, ◌⊎◌, true, List, ◌++◌, length, IsSomeAnd}
 use Rattle.cxl_io.specs.Fetch.{FetchState}
 use Rattle.cxl_io.specs.Reader.{script_limit}
 use Rattle.cxl_io.specs.Sink.{Takes}
@@ -10,36 +10,32 @@ use Rattle.cxl_machine.specs.Scripts.{Turn, lines_asked}
 use Rattle.cxl_machine.specs.Sound.{Opens}
 use Rattle.cxl_machine.specs.Turns.{AreTurns, machine_after, text_of}
 use Rattle.cxl_model.specs.System.{System}
-use Rattle.cxl_shell.specs.Answers.{IsOutcomeByFiles}
+use Rattle.cxl_commands.specs.Answers.{IsOutcomeByFiles}
 use Rattle.cxl_shell.specs.Devices.{Devices}
 use Rattle.cxl_turns.specs.Endings.{StopsReading}
 use Rattle.cxl_turns.specs.declared.endings.Ending.{Ending}
 use Rattle.cxl_turns.specs.declared.endings.Ending.TheVariants as endings
 use Rattle.cxl_shell.specs.Endings.{HasCarriedOut}
-use Rattle.cxl_shell.specs.Ends.{IsWritten}
-use Rattle.cxl_shell.specs.Form.{Form, OfTable, OfResetHost, OfHost, OfWords}
-use Rattle.cxl_shell.specs.Outcome.{Outcome}
-use Rattle.cxl_shell.specs.Outside.{Outside}
-use Rattle.cxl_shell.specs.Readings.{Readings, AreKnown}
+use Rattle.cxl_commands.specs.Ends.{IsWritten}
+use Rattle.cxl_commands.specs.Form.{Form, OfResetHost, OfHost, OfWords, reads_script}
+use Rattle.cxl_commands.specs.Outcome.{Outcome}
+use Rattle.cxl_commands.specs.Outside.{Outside}
+use Rattle.cxl_commands.specs.Readings.{Readings, AreKnown}
 use Rattle.cxl_shell.specs.commands.Gen.{made_asked, gen_told, HasChecked}
 use Rattle.cxl_shell.specs.commands.Script.{IsStart, ending_text}
-use Rattle.cxl_shell.specs.declared.form.HostAsk.TheVariants as host_asks
-use Rattle.cxl_shell.specs.declared.form.ResetAsk.TheVariants as reset_asks
-use Rattle.cxl_shell.specs.declared.form.WordsAsk.{WordsAsk}
-use Rattle.cxl_shell.specs.declared.form.WordsAsk.TheVariants as plain_asks
-use Rattle.cxl_shell.specs.declared.status.Status.{Status}
-use Rattle.cxl_shell.specs.declared.status.Status.TheVariants.{Done, Refused}
-use Rattle.cxl_shell.specs.inputs.ResetHost.{reset_host_of}
+use Rattle.cxl_commands.specs.declared.form.HostAsk.TheVariants as host_asks
+use Rattle.cxl_commands.specs.declared.form.ResetAsk.TheVariants as reset_asks
+use Rattle.cxl_commands.specs.declared.form.WordsAsk.{WordsAsk}
+use Rattle.cxl_commands.specs.declared.form.WordsAsk.TheVariants as plain_asks
+use Rattle.cxl_commands.specs.declared.status.Status.{Status}
+use Rattle.cxl_commands.specs.declared.status.Status.TheVariants.{Done, Refused}
+use Rattle.cxl_commands.specs.inputs.ResetHost.{reset_host_of}
 
 -- ---- all that is asked for is there
 
 -- all files of the form are known and have a reading
-abbrev pub AreReady : Form → FetchState → Type 0
-AreReady form files = (readings : Readings) × AreKnown form files.told readings
-
--- the script is known and within its limit
-abbrev pub IsReadyScript : SourceState → Type 0
-IsReadyScript script = IsSomeAnd script.left (λ bytes. length bytes ≤ script_limit)
+abbrev pub AreReadyFiles : Form → FetchState → Type 0
+AreReadyFiles form files = (readings : Readings) × AreKnown form files.told readings
 
 -- the words ask for something that no file tells
 abbrev pub AreReadyWords : WordsAsk → Type 0
@@ -47,14 +43,18 @@ AreReadyWords plain_asks.NoCreate = ⊥
 AreReadyWords plain_asks.Unreadable = ⊥
 AreReadyWords ask = Unit {0}
 
+-- the words ask for something, of which the files that they name tell
+abbrev pub AreReady : Form → FetchState → Type 0
+AreReady (OfWords ask) files = AreReadyWords ask
+AreReady form files = AreReadyFiles form files
+
+-- the script is known and within its limit
+abbrev pub IsReadyScript : SourceState → Type 0
+IsReadyScript script = IsSomeAnd script.left (λ bytes. length bytes ≤ script_limit)
+
 -- the words ask for something, and files and script, where they are asked for, are known and have a reading
 abbrev pub IsReady : Form → FetchState → SourceState → Type 0
-IsReady (OfTable cedt ask) files script = AreReady (OfTable cedt ask) files
-IsReady (OfResetHost cedt topo reset_asks.Script) files script = AreReady (OfResetHost cedt topo reset_asks.Script) files × IsReadyScript script
-IsReady (OfResetHost cedt topo ask) files script = AreReady (OfResetHost cedt topo ask) files
-IsReady (OfHost cedt topo image host_asks.Script) files script = AreReady (OfHost cedt topo image host_asks.Script) files × IsReadyScript script
-IsReady (OfHost cedt topo image ask) files script = AreReady (OfHost cedt topo image ask) files
-IsReady (OfWords ask) files script = AreReadyWords ask
+IsReady form files script = AreReady form files × (reads_script form ≡ true → IsReadyScript script)
 
 -- ---- it is answered whole
 

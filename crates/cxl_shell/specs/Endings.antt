@@ -14,16 +14,16 @@ use Rattle.cxl_topo.specs.declared.node.Node.{Node}
 use Rattle.cxl_turns.specs.Endings.{AreFirstLines, StopsReading, IsCutBehind}
 use Rattle.cxl_turns.specs.declared.endings.Ending.{Ending}
 use Rattle.cxl_shell.specs.Devices.{Devices}
-use Rattle.cxl_shell.specs.Ends.{Ends}
-use Rattle.cxl_shell.specs.Form.{Form, OfTable, OfResetHost, OfHost, OfWords}
-use Rattle.cxl_shell.specs.Outside.{Outside}
+use Rattle.cxl_commands.specs.Ends.{Ends}
+use Rattle.cxl_commands.specs.Form.{Form, OfResetHost, OfHost, OfWords}
+use Rattle.cxl_commands.specs.Outside.{Outside}
 use Rattle.cxl_shell.specs.commands.Gen.{made_asked, gen_told, HasChecked}
 use Rattle.cxl_shell.specs.commands.Script.{status_of, ending_text}
-use Rattle.cxl_shell.specs.declared.form.HostAsk.TheVariants as host_asks
-use Rattle.cxl_shell.specs.declared.form.ResetAsk.TheVariants as reset_asks
-use Rattle.cxl_shell.specs.declared.form.WordsAsk.TheVariants as plain_asks
-use Rattle.cxl_shell.specs.declared.status.Status.{Status}
-use Rattle.cxl_shell.specs.declared.status.Status.TheVariants.{Done, WriteFault, Memory}
+use Rattle.cxl_commands.specs.declared.form.HostAsk.TheVariants as host_asks
+use Rattle.cxl_commands.specs.declared.form.ResetAsk.TheVariants as reset_asks
+use Rattle.cxl_commands.specs.declared.form.WordsAsk.TheVariants as plain_asks
+use Rattle.cxl_commands.specs.declared.status.Status.{Status}
+use Rattle.cxl_commands.specs.declared.status.Status.TheVariants.{Done, WriteFault, Memory}
 
 -- From a first machine these turns were taken: registers and media hold the last one, the words behind the enabling ones are theirs, and the
 -- bus had cause for each fault that they tell.

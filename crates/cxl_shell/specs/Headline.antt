@@ -16,16 +16,16 @@ use Rattle.cxl_topo.specs.declared.node.Node.{Node}
 use Rattle.cxl_walk.specs.Carrying.{CarriesRegions}
 use Rattle.cxl_shell.specs.Devices.{Devices}
 use Rattle.cxl_shell.specs.Endings.{HasCarriedOut, EndsForm}
-use Rattle.cxl_shell.specs.Form.{Form, OfTable, OfResetHost, OfHost, OfWords}
-use Rattle.cxl_shell.specs.Outside.{Outside}
-use Rattle.cxl_shell.specs.commands.Check.{AreRegionsIn}
+use Rattle.cxl_commands.specs.Form.{Form, OfResetHost, OfHost, OfWords}
+use Rattle.cxl_commands.specs.Outside.{Outside}
+use Rattle.cxl_commands.specs.commands.Check.{AreRegionsIn}
 use Rattle.cxl_shell.specs.commands.Script.{IsStart, FailsToOpen}
-use Rattle.cxl_shell.specs.declared.form.HostAsk.TheVariants as host_asks
-use Rattle.cxl_shell.specs.declared.form.ResetAsk.TheVariants as reset_asks
-use Rattle.cxl_shell.specs.declared.form.WordsAsk.TheVariants as plain_asks
-use Rattle.cxl_shell.specs.declared.status.Status.{Status}
-use Rattle.cxl_shell.specs.declared.status.Status.TheVariants.{Done, ReadFault, TooMuch}
-use Rattle.cxl_shell.specs.inputs.Host.{host_of}
+use Rattle.cxl_commands.specs.declared.form.HostAsk.TheVariants as host_asks
+use Rattle.cxl_commands.specs.declared.form.ResetAsk.TheVariants as reset_asks
+use Rattle.cxl_commands.specs.declared.form.WordsAsk.TheVariants as plain_asks
+use Rattle.cxl_commands.specs.declared.status.Status.{Status}
+use Rattle.cxl_commands.specs.declared.status.Status.TheVariants.{Done, ReadFault, TooMuch}
+use Rattle.cxl_commands.specs.inputs.Host.{host_of}
 
 -- ---- a session
 

@@ -1,17 +1,5 @@
-pub mod Exit
-pub mod Form
-pub mod Words
-pub mod Plain
-pub mod Outcome
-pub mod Text
-pub mod Outside
 pub mod Devices
-pub mod Blocks
-pub mod inputs
 pub mod commands
-pub mod Readings
-pub mod Answers
-pub mod Ends
 pub mod Endings
 pub mod Run
 pub mod Statuses

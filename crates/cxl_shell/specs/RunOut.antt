@@ -10,11 +10,11 @@ use Rattle.cxl_model.specs.System.{System}
 use Rattle.cxl_turns.specs.Endings.{AreFirstLines}
 use Rattle.cxl_shell.specs.Devices.{Devices}
 use Rattle.cxl_shell.specs.Endings.{HasCarriedOut}
-use Rattle.cxl_shell.specs.Form.{Form}
-use Rattle.cxl_shell.specs.Outside.{Outside}
+use Rattle.cxl_commands.specs.Form.{Form}
+use Rattle.cxl_commands.specs.Outside.{Outside}
 use Rattle.cxl_shell.specs.commands.Gen.{made_asked}
 use Rattle.cxl_shell.specs.commands.Script.{IsStart}
-use Rattle.cxl_shell.specs.inputs.ResetHost.{reset_host_of}
+use Rattle.cxl_commands.specs.inputs.ResetHost.{reset_host_of}
 
 -- The first lines of the script were carried out, and their replies are written: registers and media are as before the line that met the want.
 pub record HasRunOut (form : Form) (old new : Outside) (before after : Devices) : Type 0 where

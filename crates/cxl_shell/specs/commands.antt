@@ -1,11 +1,3 @@
--- The commands: what each comes to, and the text that it writes.
-pub mod Help
-pub mod Route
-pub mod Lines
-pub mod LinePlaces
-pub mod List
-pub mod Normal
-pub mod Check
-pub mod Plan
+-- The commands that work on a session: where it starts, what is asked, and what is told.
 pub mod Script
 pub mod Gen

@@ -1,4 +1,3 @@
 -- Definitions that only the inner calls and the proofs speak of.
-pub mod Reports
 pub mod Scripts
 pub mod Generated

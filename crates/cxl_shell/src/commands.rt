@@ -1,41 +1,23 @@
 //! The commands.
 
 ghost use Rattle.std.specs.Prelude.{◌≡◌, ◌≤◌, None, false};
-ghost use Rattle.cxl_io.specs.Fetch.{FetchState};
-ghost use Rattle.cxl_shell.specs.Answers.{IsOutcomeByFiles};
 ghost use Rattle.cxl_shell.specs.Devices.{devices};
-ghost use Rattle.cxl_shell.specs.Form.{OfTable, OfWords, table_file, runs_session, reads_script, IsRangedForm};
-ghost use Rattle.cxl_shell.specs.Outside.{outside};
-ghost use Rattle.cxl_shell.specs.Plain.{plain};
-ghost use Rattle.cxl_shell.specs.Run.{IsRunByFiles, IsRun};
+ghost use Rattle.cxl_commands.specs.Form.{OfTable, OfWords, table_file, runs_session, reads_script, IsRangedForm};
+ghost use Rattle.cxl_commands.specs.Outside.{outside};
+ghost use Rattle.cxl_commands.specs.Plain.{plain};
+ghost use Rattle.cxl_shell.specs.Run.{IsRun};
 
-pub(crate) mod check;
 pub(crate) mod generated;
-pub(crate) mod help;
-mod lines;
-pub(crate) mod list;
-pub(crate) mod normal;
-pub(crate) mod plan;
-pub(crate) mod route;
 pub(crate) mod script;
-mod selection;
 
-use crate::finish::finish;
-use crate::form::{Form, HostAsk, ResetAsk, TableAsk, WordsAsk};
-use crate::inputs::host::fetch_host;
-use crate::inputs::reset_host::fetch_reset_host;
-use crate::outcome::Outcome;
-use crate::status::Status;
-use check::check;
 use cxl_bus::Regs;
+use cxl_commands::{
+    Form, HostAsk, ResetAsk, Status, WordsAsk, check, fetch_host, fetch_reset_host, finish,
+    of_table, plan, said,
+};
 use cxl_io::{Fetch, Sink, Source};
 use cxl_media::Roll;
 use generated::generated;
-use help::{helped, misused, version_told};
-use list::list;
-use normal::normal;
-use plan::plan;
-use route::route;
 use script::{script, script_from_image};
 use std::alloc::Global;
 
@@ -84,39 +66,5 @@ pub(crate) fn carry_out<F: Fetch, S: Source, K: Sink, R: Regs, M: Roll>(
             WordsAsk::Gen(n) => generated(alloc, n, out, regs, media),
             ask => finish(Ok(said(ask)), out),
         },
-    }
-}
-
-/// What is asked of the table in a file.
-fn of_table<F: Fetch, K: Sink>(
-    alloc: Global,
-    cedt: &str,
-    ask: TableAsk,
-    files: &mut F,
-    out: &mut K,
-) -> Status
-    ensures run { IsRunByFiles (OfTable cedt.now ask) (outside (F.state files.old) (K.state out.old))
-        (outside (F.state files.new) (K.state out.new)) result }
-    ensures files { (F.state files.old).faults ≤ (F.state files.new).faults }
-    ensures sink { (K.state out.old).faults ≤ (K.state out.new).faults }
-    ensures told { (F.state files.new).told ≡ (F.state files.old).told }
-{
-    match ask {
-        TableAsk::Route(h) => finish(route(alloc, cedt, h, files), out),
-        TableAsk::Listing => list(alloc, cedt, files, out),
-        TableAsk::Normal => finish(normal(alloc, cedt, files), out),
-    }
-}
-
-/// What the words alone come to.
-fn said(ask: WordsAsk) -> Outcome
-    requires { runs_session (OfWords ask) ≡ false }
-    ensures { (files : FetchState) → IsOutcomeByFiles (OfWords ask) files files result }
-{
-    match ask {
-        WordsAsk::Help => helped(),
-        WordsAsk::Version => version_told(),
-        WordsAsk::NoCreate | WordsAsk::Unreadable => misused(),
-        WordsAsk::Gen(_) => unreachable!(),
     }
 }

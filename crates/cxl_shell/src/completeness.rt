@@ -3,8 +3,8 @@ ghost use Rattle.cxl_enc.specs.Faults.{Rose};
 ghost use Rattle.cxl_shell.specs.Completeness.{IsReady, IsAnsweredWhole};
 ghost use Rattle.cxl_shell.specs.Run.{EachRun};
 
-use crate::status::Status;
 use cxl_cedt::one_reading;
+use cxl_commands::Status;
 use cxl_image::one_image_reading;
 use cxl_topofile::one_topology_reading;
 

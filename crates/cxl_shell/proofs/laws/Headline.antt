@@ -1,5 +1,5 @@
 -- That runs behave as flat memory.
-use Rattle.std.proofs.Common.{◌≡◌, ℕ, Bool, true, false, Ok, List, All, IfOk, take, refl, sym, ap, subst, ◌∙◌, inl, inr}
+use Rattle.std.proofs.Common.{◌≡◌, ℕ, true, Ok, List, All, IfOk, refl, sym, subst, inl, inr}
 use Rattle.std.proofs.lemmas.List.Elements.{All-map, All-take}
 use Rattle.cxl_flat.specs.Flat.{AreRanged, IsFlatTurn}
 use Rattle.cxl_gen.specs.Made.{made_commands}
@@ -17,27 +17,26 @@ use Rattle.cxl_model.specs.declared.found.Found.{Found}
 use Rattle.cxl_script.specs.Grammar.{IsRanged}
 use Rattle.cxl_script.specs.declared.command.Command.{Command}
 use Rattle.cxl_topo.specs.declared.node.Node.{Node}
-use Rattle.cxl_turns.specs.declared.endings.Ending.TheVariants as endings
 use Rattle.cxl_walk.specs.Carrying.{CarriesRegions}
 use Rattle.cxl_shell.specs.Devices.{Devices}
 use Rattle.cxl_shell.specs.Endings.{EndsScript, read_out, ending_cut, reply_cut, runs_out, EndsGen, EndsForm}
 use Rattle.cxl_shell.specs.Endings as endings_of
-use Rattle.cxl_shell.specs.Form.{Form, OfTable, OfResetHost, OfHost, OfWords, Check, runs_session}
-use Rattle.cxl_shell.specs.Headline.{IsFlatSession, EndsBeforeScript, HasNoSession, left, unready, IsFlatOrUnopened, IsFlatImage, BehavesAsFlatMemory}
-use Rattle.cxl_shell.specs.Outside.{Outside}
+use Rattle.cxl_commands.specs.Form.{Form, OfTable, OfResetHost, OfHost, OfWords, Check, runs_session}
+use Rattle.cxl_shell.specs.Headline.{left, unready, IsFlatOrUnopened, IsFlatImage, BehavesAsFlatMemory}
+use Rattle.cxl_commands.specs.Outside.{Outside}
 use Rattle.cxl_shell.specs.Run.{by_files, unopened, opened, IsRun}
 use Rattle.cxl_shell.specs.Run as ways
 use Rattle.cxl_shell.specs.commands.Gen.{made_asked}
-use Rattle.cxl_shell.specs.declared.form.HostAsk.TheVariants as host_asks
-use Rattle.cxl_shell.specs.declared.form.ResetAsk.TheVariants as reset_asks
-use Rattle.cxl_shell.specs.declared.form.WordsAsk.TheVariants as plain_asks
-use Rattle.cxl_shell.specs.declared.status.Status.{Status}
-use Rattle.cxl_shell.specs.declared.status.Status.TheVariants.{Done}
-use Rattle.cxl_shell.specs.inputs.Host.{host_of}
+use Rattle.cxl_commands.specs.declared.form.HostAsk.TheVariants as host_asks
+use Rattle.cxl_commands.specs.declared.form.ResetAsk.TheVariants as reset_asks
+use Rattle.cxl_commands.specs.declared.form.WordsAsk.TheVariants as plain_asks
+use Rattle.cxl_commands.specs.declared.status.Status.{Status}
+use Rattle.cxl_commands.specs.declared.status.Status.TheVariants.{Done}
+use Rattle.cxl_commands.specs.inputs.Host.{host_of}
 use Rattle.cxl_shell.proofs.Lifted.{no_session}
-use Rattle.cxl_shell.proofs.Runs.{came_to}
-use Rattle.cxl_shell.proofs.laws.Check.{check_accepted}
-use Rattle.cxl_shell.proofs.laws.Early.{comes_early, early_run, fails_early}
+use Rattle.cxl_commands.proofs.Runs.{came_to}
+use Rattle.cxl_commands.proofs.laws.Check.{check_accepted}
+use Rattle.cxl_shell.proofs.laws.Early.{early_run, fails_early}
 
 -- ---- what a session is asked for, a line can ask for
 

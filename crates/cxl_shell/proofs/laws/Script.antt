@@ -1,8 +1,8 @@
 -- What a run of a script comes to.
-use Rattle.std.proofs.Common.{◌≡◌, ◌≢◌, ◌⊎◌, ℕ, ◌+◌, ◌<◌, ◌≤◌, Bool, true, false, Option, Some, None, List, [], ◌++◌, length, IfSome, refl, sym, ap, subst, ◌∙◌, inl, inr, arith, length-append}
+use Rattle.std.proofs.Common.{◌≡◌, ◌⊎◌, ℕ, ◌+◌, ◌<◌, ◌≤◌, true, false, Option, Some, None, List, [], ◌++◌, length, IfSome, refl, sym, ap, subst, ◌∙◌, inl, inr, arith, length-append}
 use Rattle.cxl_cedt.specs.CedtFields.{CedtFields}
 use Rattle.cxl_enc.specs.Faults.{Rose}
-use Rattle.cxl_io.specs.Reader.{script_limit, HasStopped}
+use Rattle.cxl_io.specs.Reader.{script_limit}
 use Rattle.cxl_io.specs.Sink.{SinkState, Takes}
 use Rattle.cxl_io.specs.Source.{SourceState}
 use Rattle.cxl_io.specs.Told.{Told, Bytes, told_behind}
@@ -27,30 +27,31 @@ use Rattle.cxl_shell.specs.Completeness.{HasReadOut}
 use Rattle.cxl_shell.specs.Devices.{Devices}
 use Rattle.cxl_shell.specs.Endings.{HasCarriedOut, EndsScript, read_out, ending_cut, reply_cut, runs_out, EndsGen, EndsForm}
 use Rattle.cxl_shell.specs.Endings as endings_of
-use Rattle.cxl_shell.specs.Answers.{IsAnswerBy}
-use Rattle.cxl_shell.specs.Ends.{Ends, IsWritten, IsStopped}
-use Rattle.cxl_shell.specs.Form.{Form, OfTable, OfResetHost, OfHost, OfWords, runs_session, reads_script}
-use Rattle.cxl_shell.specs.Outcome.{Outcome}
-use Rattle.cxl_shell.specs.Outside.{Outside}
-use Rattle.cxl_shell.specs.Readings.{AreKnown, ByHost}
-use Rattle.cxl_shell.specs.Run.{IsRunByFiles, IsUnopened, by_files, unready, unopened, opened, IsRun}
+use Rattle.cxl_commands.specs.Answers.{IsAnswerBy}
+use Rattle.cxl_commands.specs.Ends.{IsWritten, IsStopped}
+use Rattle.cxl_commands.specs.Form.{Form, OfTable, OfResetHost, OfHost, OfWords, runs_session, reads_script}
+use Rattle.cxl_commands.specs.Outcome.{Outcome}
+use Rattle.cxl_commands.specs.Outside.{Outside}
+use Rattle.cxl_commands.specs.Readings.{AreKnown, ByHost}
+use Rattle.cxl_commands.specs.RunByFiles.{IsRunByFiles}
+use Rattle.cxl_shell.specs.Run.{IsUnopened, by_files, unready, unopened, opened, IsRun}
 use Rattle.cxl_shell.specs.RunOut.{HasRunOut}
-use Rattle.cxl_shell.specs.commands.Gen.{gen_told}
-use Rattle.cxl_shell.specs.commands.Script.{IsStart, IsRefusedStart, breach_told, many_told, StartsSession, FailsToOpen, bus_failed, bus, memory, status_of, ends_reading, ending_text}
-use Rattle.cxl_shell.specs.declared.form.HostAsk.TheVariants as host_asks
-use Rattle.cxl_shell.specs.declared.form.ResetAsk.TheVariants as reset_asks
-use Rattle.cxl_shell.specs.declared.form.WordsAsk.TheVariants as plain_asks
-use Rattle.cxl_shell.specs.declared.status.Status.{Status}
-use Rattle.cxl_shell.specs.declared.status.Status.TheVariants.{Done, Usage, FetchFault, BadTable, BadTopo, ReadFault, WriteFault, BusFault, Refused, Memory, BadImage, TooMuch, TooLarge}
-use Rattle.cxl_shell.specs.inputs.Host.{host_of, AreRead}
-use Rattle.cxl_shell.specs.inputs.Image.{IsImageOf, IsImageReading}
-use Rattle.cxl_shell.specs.inputs.Table.{IsTableOf, IsReading}
-use Rattle.cxl_shell.specs.inputs.Topology.{IsTreeOf, IsTreeReading}
+use Rattle.cxl_commands.specs.commands.RefusedStart.{IsRefusedStart, breach_told, many_told}
+use Rattle.cxl_shell.specs.commands.Script.{IsStart, StartsSession, FailsToOpen, bus, memory, status_of, ends_reading, ending_text}
+use Rattle.cxl_commands.specs.declared.form.HostAsk.TheVariants as host_asks
+use Rattle.cxl_commands.specs.declared.form.ResetAsk.TheVariants as reset_asks
+use Rattle.cxl_commands.specs.declared.form.WordsAsk.TheVariants as plain_asks
+use Rattle.cxl_commands.specs.declared.status.Status.{Status}
+use Rattle.cxl_commands.specs.declared.status.Status.TheVariants.{Done, ReadFault, WriteFault, BusFault, Refused, Memory, TooMuch}
+use Rattle.cxl_commands.specs.inputs.Host.{host_of, AreRead}
+use Rattle.cxl_commands.specs.inputs.Image.{IsImageOf, IsImageReading}
+use Rattle.cxl_commands.specs.inputs.Table.{IsTableOf, IsReading}
+use Rattle.cxl_commands.specs.inputs.Topology.{IsTreeOf, IsTreeReading}
 use Rattle.cxl_shell.specs.Statuses.{is_of_files}
 use Rattle.cxl_shell.proofs.Lifted.{of_its_files}
-use Rattle.cxl_shell.proofs.Readings.{HaveOneReading, answer_comes}
-use Rattle.cxl_shell.proofs.Runs.{came_to, reset_refused, host_refused, start_status}
-use Rattle.cxl_shell.proofs.Steps.{same_bytes}
+use Rattle.cxl_commands.proofs.Readings.{HaveOneReading, answer_comes}
+use Rattle.cxl_commands.proofs.Runs.{came_to, reset_refused, host_refused, start_status}
+use Rattle.cxl_commands.proofs.Steps.{same_bytes}
 use Rattle.cxl_shell.proofs.laws.Early.{comes_early, early_by_files, is_of_devices, without_devices, unready_early}
 
 -- ---- a form that works on a session ends as a script or as a generated system does
@@ -334,16 +335,15 @@ ImageScript cedt topo image = OfHost cedt topo image host_asks.Script
 -- a session that opened is of no such image
 refused_not_opened : ((s : System) → IsAccepted s → HasFirstBreach s → ⊥) → (s : System) → KnownTree s.nodes → (frames : ℕ) (first : Machine) (outcome : Outcome) → Opens s frames first → IsRefusedStart s outcome → ⊥
 refused_not_opened not_both s tree frames first outcome opens (breach_told rule node decoder is e) = not_both s opens.accepted (rule, node, decoder, is)
-refused_not_opened not_both s tree frames first outcome opens (many_told n has more e) =
-    let same : length has.1.0 ≡ length opens.regions = ap length (one_list s has.1.0 opens.regions tree has.1.1 opens.listed) in
-    let count = has.1.2 in
+refused_not_opened not_both s tree frames first outcome opens (many_told regions is listed more e) =
+    let same : length regions ≡ length opens.regions = ap length (one_list s regions opens.regions tree listed opens.listed) in
     let few = opens.few in
-    absurd (omega (arith, same, count, few, more))
+    absurd (omega (arith, same, few, more))
 
 -- nor does one start
 refused_not_started : ((s : System) → IsAccepted s → HasFirstBreach s → ⊥) → (s : System) (outcome : Outcome) → StartsSession s → IsRefusedStart s outcome → ⊥
 refused_not_started not_both s outcome starts (breach_told rule node decoder is e) = not_both s starts.accepted (rule, node, decoder, is)
-refused_not_started not_both s outcome starts (many_told n has more e) = let few = starts.few n has in absurd (omega (arith, few, more))
+refused_not_started not_both s outcome starts (many_told regions is listed more e) = let few = starts.few (length regions) (is, (regions, listed, refl)) in absurd (omega (arith, few, more))
 
 -- the table, the tree and the image that a session starts on are the known ones
 module _ (one : HaveOneReading) (told : List ℕ → Told) (cedt topo image : List ℕ) (table : CedtFields) (tree : Tree) (blocks : List Registers) (known : AreKnown (ImageScript cedt topo image) told (ByHost table tree blocks)) where

@@ -9,8 +9,8 @@ use Rattle.cxl_reply.specs.declared.reply.Reply.{Reply}
 use Rattle.cxl_session.specs.Opening.{HasRegions}
 use Rattle.cxl_turns.specs.Counts.{counts_of}
 use Rattle.cxl_turns.specs.declared.counts.Counts.{Counts}
-use Rattle.cxl_shell.specs.Outcome.{Outcome, one_piece}
-use Rattle.cxl_shell.specs.declared.status.Status.TheVariants.{Done}
+use Rattle.cxl_commands.specs.Outcome.{Outcome, one_piece}
+use Rattle.cxl_commands.specs.declared.status.Status.TheVariants.{Done}
 
 -- the commands of the number, none of which is a faulty line
 abbrev pub made_asked : ℕ → List Asked

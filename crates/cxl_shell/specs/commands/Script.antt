@@ -1,12 +1,12 @@
 -- On which host a session starts, where none opens, and what is told where a script ends.
-use Rattle.std.specs.Prelude.{◌≡◌, ℕ, ◌<◌, ◌≤◌, ◌⊎◌, Bool, true, false, List, [], codes}
+use Rattle.std.specs.Prelude.{◌≡◌, ℕ, ◌≤◌, ◌⊎◌, Bool, true, false, List, [], codes}
 use Rattle.cxl_cedt.specs.CedtFields.{CedtFields}
 use Rattle.cxl_enc.specs.Faults.{Rose}
 use Rattle.cxl_gen.specs.Made.{made_table, made_tree}
 use Rattle.cxl_io.specs.Sink.{SinkState, Takes}
 use Rattle.cxl_io.specs.Told.{Told}
 use Rattle.cxl_machine.specs.Machine.{region_limit}
-use Rattle.cxl_model.specs.Accepted.{IsAccepted, IsFirstBreach}
+use Rattle.cxl_model.specs.Accepted.{IsAccepted}
 use Rattle.cxl_model.specs.System.{System}
 use Rattle.cxl_regs.specs.Registers.{Registers}
 use Rattle.cxl_reply.specs.Words.{line}
@@ -15,17 +15,16 @@ use Rattle.cxl_topo.specs.Tree.{Tree}
 use Rattle.cxl_turns.specs.declared.endings.Ending.{Ending}
 use Rattle.cxl_turns.specs.declared.endings.Ending.TheVariants as endings
 use Rattle.cxl_shell.specs.Devices.{Devices}
-use Rattle.cxl_shell.specs.Ends.{Ends}
-use Rattle.cxl_shell.specs.Form.{Form, OfTable, OfResetHost, OfHost, OfWords}
-use Rattle.cxl_shell.specs.Outcome.{Outcome, one_piece}
-use Rattle.cxl_shell.specs.commands.Check.{broken}
-use Rattle.cxl_shell.specs.declared.form.HostAsk.TheVariants as host_asks
-use Rattle.cxl_shell.specs.declared.form.ResetAsk.TheVariants as reset_asks
-use Rattle.cxl_shell.specs.declared.form.WordsAsk.TheVariants as plain_asks
-use Rattle.cxl_shell.specs.declared.status.Status.{Status}
-use Rattle.cxl_shell.specs.declared.status.Status.TheVariants.{Done, ReadFault, WriteFault, BusFault, Refused, Memory, TooMuch}
-use Rattle.cxl_shell.specs.inputs.Host.{host_of, AreRead}
-use Rattle.cxl_shell.specs.inputs.ResetHost.{reset_host_of, AreBothRead}
+use Rattle.cxl_commands.specs.Ends.{Ends}
+use Rattle.cxl_commands.specs.Form.{Form, OfResetHost, OfHost, OfWords}
+use Rattle.cxl_commands.specs.Outcome.{Outcome, one_piece}
+use Rattle.cxl_commands.specs.declared.form.HostAsk.TheVariants as host_asks
+use Rattle.cxl_commands.specs.declared.form.ResetAsk.TheVariants as reset_asks
+use Rattle.cxl_commands.specs.declared.form.WordsAsk.TheVariants as plain_asks
+use Rattle.cxl_commands.specs.declared.status.Status.{Status}
+use Rattle.cxl_commands.specs.declared.status.Status.TheVariants.{Done, ReadFault, WriteFault, BusFault, Memory, TooMuch}
+use Rattle.cxl_commands.specs.inputs.Host.{host_of, AreRead}
+use Rattle.cxl_commands.specs.inputs.ResetHost.{reset_host_of, AreBothRead}
 
 -- ---- where a session starts
 
@@ -38,15 +37,6 @@ IsStart (OfHost cedt topo image host_asks.Script) told s frames =
     × (s ≡ host_of table tree blocks) × (frames ≡ tree.frames)
 IsStart (OfWords (plain_asks.Gen n)) told s frames = (s ≡ reset_host_of (made_table n) (made_tree n)) × (frames ≡ (made_tree n).frames)
 IsStart form told s frames = ⊥
-
--- there are more regions than may live
-abbrev pub too_many_regions : Outcome
-too_many_regions = one_piece Refused (line (codes "regions full"))
-
--- an image from which no session starts: its first breach is told, or that it has too many regions
-pub data IsRefusedStart (s : System) (outcome : Outcome) : Type 0 where
-  breach_told : (rule node decoder : ℕ) → IsFirstBreach s rule node decoder → outcome ≡ broken s.nodes rule node decoder → IsRefusedStart s outcome
-  many_told : (n : ℕ) → HasRegions s n → region_limit < n → outcome ≡ too_many_regions → IsRefusedStart s outcome
 
 -- one from which a session can start: it is accepted, and has no more regions than may live
 pub record StartsSession (s : System) : Type 0 where

@@ -13,8 +13,8 @@ use Rattle.cxl_topo.specs.Tree.{Tree}
 use Rattle.cxl_shell.specs.Devices.{Devices}
 use Rattle.cxl_shell.specs.Endings.{HasCarriedOut, EndsGen}
 use Rattle.cxl_shell.specs.commands.Script.{FailsToOpen}
-use Rattle.cxl_shell.specs.declared.status.Status.{Status}
-use Rattle.cxl_shell.specs.inputs.ResetHost.{reset_host_of}
+use Rattle.cxl_commands.specs.declared.status.Status.{Status}
+use Rattle.cxl_commands.specs.inputs.ResetHost.{reset_host_of}
 
 -- the host of the number after reset
 abbrev pub made_host : ℕ → System

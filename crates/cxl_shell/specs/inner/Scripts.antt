@@ -9,11 +9,12 @@ use Rattle.cxl_model.specs.System.{System}
 use Rattle.cxl_session.specs.Opening.{HasRegions}
 use Rattle.cxl_shell.specs.Devices.{Devices}
 use Rattle.cxl_shell.specs.Endings.{HasCarriedOut, EndsScript}
-use Rattle.cxl_shell.specs.Ends.{Ends}
-use Rattle.cxl_shell.specs.Outcome.{Outcome}
-use Rattle.cxl_shell.specs.commands.Script.{too_many_regions, FailsToOpen}
-use Rattle.cxl_shell.specs.declared.status.Status.{Status}
-use Rattle.cxl_shell.specs.inner.Reports.{TellsBreach}
+use Rattle.cxl_commands.specs.Ends.{Ends}
+use Rattle.cxl_commands.specs.Outcome.{Outcome}
+use Rattle.cxl_commands.specs.commands.RefusedStart.{too_many_regions}
+use Rattle.cxl_shell.specs.commands.Script.{FailsToOpen}
+use Rattle.cxl_commands.specs.declared.status.Status.{Status}
+use Rattle.cxl_commands.specs.inner.Reports.{TellsBreach}
 
 -- its image is accepted
 pub data EndsOver (s : System) (frames : ℕ) (before after : Devices) (old new : SinkState) (status : Status) : Type 0 where

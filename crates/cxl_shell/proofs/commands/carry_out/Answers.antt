@@ -1,10 +1,10 @@
 use Rattle.std.proofs.Common.{refl}
 use Rattle.cxl_shell.specs.Devices.{devices}
-use Rattle.cxl_shell.specs.Form.{Plan, OfWords}
-use Rattle.cxl_shell.specs.Outside.{outside}
+use Rattle.cxl_commands.specs.Form.{Plan, OfWords}
+use Rattle.cxl_commands.specs.Outside.{outside}
 use Rattle.cxl_shell.proofs.Generated.{run-made}
 use Rattle.cxl_shell.proofs.Scripts.{run-left, from_reset, reset-unread, from_image, image-unread}
-use Rattle.cxl_shell.proofs.Stops.{asks_nothing, run-ended, run-finished}
+use Rattle.cxl_commands.proofs.Stops.{asks_nothing, run-ended, run-finished}
 use Rattle.cxl_shell.proofs.commands.carry_out.Goals as goal
 
 pub returns-in-OfTable-clause-run : goal.returns-in-OfTable-clause-run

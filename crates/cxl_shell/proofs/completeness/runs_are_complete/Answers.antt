@@ -1,5 +1,5 @@
 use Rattle.cxl_shell.proofs.Complete.{completes}
-use Rattle.cxl_shell.proofs.Readings.{one_table, one_topology, one_image}
+use Rattle.cxl_commands.proofs.Readings.{one_table, one_topology, one_image}
 use Rattle.cxl_shell.proofs.completeness.runs_are_complete.Goals as goal
 
 pub returns : goal.returns

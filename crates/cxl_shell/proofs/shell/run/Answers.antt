@@ -1,9 +1,10 @@
 use Rattle.std.proofs.Common.{refl, ap, sym, subst}
-use Rattle.cxl_shell.specs.Form.{form_of, runs_session, IsRangedForm}
-use Rattle.cxl_shell.specs.Run.{runs_out, before, by_files, unopened}
-use Rattle.cxl_shell.specs.Words.{bytes_of}
+use Rattle.cxl_commands.specs.Form.{runs_session, IsRangedForm}
+use Rattle.cxl_commands.specs.RunByFiles.{runs_out, before}
+use Rattle.cxl_shell.specs.Run.{by_files, unopened}
+use Rattle.cxl_commands.specs.Words.{bytes_of}
 use Rattle.cxl_shell.proofs.RangedForms.{form_is_ranged}
-use Rattle.cxl_shell.proofs.Stops.{asks_nothing, told-nothing_more}
+use Rattle.cxl_commands.proofs.Stops.{asks_nothing, told-nothing_more}
 use Rattle.cxl_shell.proofs.shell.run.Goals as goal
 
 pub carry_out-requires : goal.carry_out-requires

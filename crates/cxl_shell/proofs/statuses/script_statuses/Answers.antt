@@ -1,8 +1,7 @@
-use Rattle.std.proofs.Common.{Some, subst}
-use Rattle.cxl_shell.specs.Form.{Script}
-use Rattle.cxl_shell.specs.Readings.{AreKnown, ByHost}
+use Rattle.std.proofs.Common.{subst}
+use Rattle.cxl_commands.specs.Readings.{AreKnown, ByHost}
 use Rattle.cxl_shell.specs.Run.{IsRun}
-use Rattle.cxl_shell.proofs.Readings.{HaveOneReading, one_table, one_topology, one_image}
+use Rattle.cxl_commands.proofs.Readings.{HaveOneReading, one_table, one_topology, one_image}
 use Rattle.cxl_shell.proofs.laws.Script.{reads_out, read_failed, bus_rose, is_refused, refused_comes, only_long, is_too_long, memory_in_script}
 use Rattle.cxl_shell.proofs.statuses.script_statuses.Goals as goal
 

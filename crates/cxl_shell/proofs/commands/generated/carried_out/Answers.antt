@@ -1,7 +1,7 @@
 use Rattle.std.proofs.Common.{ℕ, ◌<◌, ◌^◌, length, sym, subst}
 use Rattle.cxl_shell.specs.commands.Gen.{made_asked}
 use Rattle.cxl_shell.proofs.Generated.{few_commands, gone_first, gone_first_all}
-use Rattle.cxl_shell.proofs.Results.{on_err_from}
+use Rattle.cxl_commands.proofs.Results.{on_err_from}
 use Rattle.cxl_shell.proofs.commands.generated.carried_out.Goals as goal
 
 pub carry_out_commands-requires-clause-few : goal.carry_out_commands-requires-clause-few

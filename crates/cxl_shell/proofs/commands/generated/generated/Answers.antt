@@ -5,7 +5,7 @@ use Rattle.cxl_gen.specs.Made.{made_tree}
 use Rattle.cxl_shell.specs.Devices.{devices}
 use Rattle.cxl_shell.specs.commands.Script.{memory}
 use Rattle.cxl_shell.specs.inner.Generated.{made_host, EndsMade, unready}
-use Rattle.cxl_shell.proofs.Stops.{told-nothing_more}
+use Rattle.cxl_commands.proofs.Stops.{told-nothing_more}
 use Rattle.cxl_shell.proofs.commands.generated.generated.Goals as goal
 
 pub returns-in-Ok-clause-ends : goal.returns-in-Ok-clause-ends

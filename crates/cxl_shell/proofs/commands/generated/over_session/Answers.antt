@@ -1,8 +1,8 @@
 use Rattle.std.proofs.Common.{refl, sym, subst, take}
 use Rattle.cxl_shell.specs.Endings.{told, runs_out}
-use Rattle.cxl_shell.specs.Ends.{Ends}
+use Rattle.cxl_commands.specs.Ends.{Ends}
 use Rattle.cxl_shell.specs.commands.Gen.{made_asked}
-use Rattle.cxl_shell.proofs.Stops.{told-nothing_more}
+use Rattle.cxl_commands.proofs.Stops.{told-nothing_more}
 use Rattle.cxl_shell.proofs.commands.generated.over_session.Goals as goal
 
 pub returns-in-Ok-clause-ends : goal.returns-in-Ok-clause-ends

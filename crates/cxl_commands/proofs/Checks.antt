@@ -1,0 +1,39 @@
+-- How a run of `check` ends.
+use Rattle.std.proofs.Common.{◌≡◌, Some, List, ℕ, [], ◌∷◌, Err, refl, subst}
+use Rattle.cxl_cedt.specs.CedtFields.{CedtFields}
+use Rattle.cxl_io.specs.Fetch.{AsksFor}
+use Rattle.cxl_model.specs.System.{system_of, bridge_uids}
+use Rattle.cxl_regs.specs.Registers.{Registers}
+use Rattle.cxl_topo.specs.Tree.{Tree}
+use Rattle.cxl_window.specs.Fields.{WindowFields}
+use Rattle.cxl_window.specs.Windows.{windows_of}
+use Rattle.cxl_commands.specs.Answers.{IsOutcomeByFiles, IsStop}
+use Rattle.cxl_commands.specs.Ends.{Finishes}
+use Rattle.cxl_commands.specs.Form.{Check}
+use Rattle.cxl_commands.specs.Outside.{Outside}
+use Rattle.cxl_commands.specs.RunByFiles.{IsRunByFiles, runs_out, before, behind}
+use Rattle.cxl_commands.specs.declared.status.Status.{Status}
+use Rattle.cxl_commands.specs.declared.stop.Stop.{Stop}
+use Rattle.cxl_commands.specs.inner.Reports.{IsReported, ended, cut, unmade}
+use Rattle.cxl_commands.specs.inputs.File.{AsksForSome}
+use Rattle.cxl_commands.specs.inputs.Host.{host_of, AreRead, HasNoHost, no_host, by_host}
+use Rattle.cxl_commands.proofs.Stops.{stop-weaker, run-ended, run-finished}
+
+module _ (cedt topo image : List ℕ) (old new : Outside) (status : Status) where
+  reported : (table : CedtFields) (tree : Tree) (blocks : List Registers) → AreRead old.files.told cedt topo image table tree blocks → AsksFor old.files new.files (cedt ∷ topo ∷ image ∷ []) → IsReported (host_of table tree blocks) status old.out new.out → IsRunByFiles (Check cedt topo image) old new status
+  reported table tree blocks of asks (ended outcome is ends) =
+      run-ended (Check cedt topo image) old new status outcome (by_host table tree blocks of (asks, is)) ends
+  reported table tree blocks of asks (cut outcome is e lines) = runs_out refl e (behind outcome (by_host table tree blocks of (asks, is)) lines)
+  reported table tree blocks of asks (unmade e none) = runs_out refl e (before (record { count = 3; asks = asks }) none)
+
+  -- the check of a host that was read
+  pub run-reported : (table : CedtFields) (tree : Tree) (blocks : List Registers) (windows : List WindowFields) → AreRead old.files.told cedt topo image table tree blocks → windows ≡ windows_of table.records (Some (bridge_uids tree.nodes)) → AsksFor old.files new.files (cedt ∷ topo ∷ image ∷ []) → IsReported (system_of blocks tree windows) status old.out new.out → IsRunByFiles (Check cedt topo image) old new status
+  run-reported table tree blocks windows of made asks is =
+      reported table tree blocks of asks (subst (λ ws. IsReported (system_of blocks tree ws) status old.out new.out) made is)
+
+  -- a host without a reading
+  pub run-unread : (reason : Stop) → IsStop (HasNoHost cedt topo image old.files new.files) (AsksForSome (cedt ∷ topo ∷ image ∷ []) old.files new.files) reason → Finishes (Err reason) status old.out new.out → IsRunByFiles (Check cedt topo image) old new status
+  run-unread reason stops finishes =
+      run-finished (Check cedt topo image) old new status refl (Err reason)
+      (stop-weaker (HasNoHost cedt topo image old.files new.files) (IsOutcomeByFiles (Check cedt topo image) old.files new.files) (AsksForSome (cedt ∷ topo ∷ image ∷ []) old.files new.files) (AsksForSome (cedt ∷ topo ∷ image ∷ []) old.files new.files) reason (λ o none. no_host none) (λ out. out) stops)
+      finishes

@@ -1,0 +1,80 @@
+use Rattle.std.proofs.Common.{◌+◌, map, sym, subst, ◌∙◌, inl, inr, refl, arith}
+use Rattle.cxl_enc.specs.Faults.{Rose}
+use Rattle.cxl_io.specs.Sink.{Takes, TakesPrefix}
+use Rattle.cxl_reply.specs.Plans.{found_text}
+use Rattle.cxl_commands.specs.Blocks.{KeepsOrWrites}
+use Rattle.cxl_commands.proofs.InBlocks.{blocks-written, blocks-flushed, blocks-cut}
+use Rattle.cxl_commands.proofs.Regions.{blocks-region, length-region_lines, all_regions}
+use Rattle.cxl_commands.proofs.Results.{on_ok_at, on_err_at, on_err_from}
+use Rattle.cxl_commands.proofs.commands.check.write_regions.Goals as goal
+
+pub returns-in_err-put_found-clause-behind : goal.returns-in_err-put_found-clause-behind
+returns-in_err-put_found-clause-behind g c =
+    let so_far = c.loop-region.invariant.blocks in
+    on_err_from c.from_residual.result _ (record {
+      count = so_far.written;
+      short = let few = so_far.few in let there = c.loop-region-test.true in omega (arith, length-region_lines c.args.topo.now.nodes c.args.regions.now);
+      taken = so_far.taken;
+    })
+
+pub returns-then-is_err-clause-ends : goal.returns-then-is_err-clause-ends
+returns-then-is_err-clause-ends g c =
+    let l = c.loop-region in
+    let lines = map (found_text c.args.topo.now.nodes) c.args.regions.now in
+    let old = g.K.Sink.state c.args.out.now in
+    let now = g.K.Sink.state l.out in
+    let new = g.K.Sink.state c.write_full.new.out in
+    let next = blocks-region c.args.topo.now.nodes c.args.regions.now l.region-index c.region-item.result c.loop-region-test.true c.region-item.is l.block.items c.put_found.new.out.items old now c.in_ok-put_found.ensures.ok l.invariant.blocks in
+    let failed = sym c.is_err.ensures.value ∙ c.if-is_err.true in
+    let part : TakesPrefix now new c.put_found.new.out.items = on_err_at c.write_full.result _ failed c.write_full.ensures.failed in
+    let rose : Rose now.faults new.faults = on_err_at c.write_full.result _ failed c.write_full.ensures.cause in
+    inr (record {
+      status_is = refl;
+      rose = let so_far = l.invariant.counts in omega (arith, rose, so_far);
+      taken = blocks-cut c.writes_join.ensures.both c.writes_join.ensures.first c.writes_join.ensures.second lines (l.region-index + 1) c.put_found.new.out.items old now new next part;
+    })
+
+pub loop-region-preserved : goal.loop-region-preserved
+loop-region-preserved g c =
+    let l = c.loop-region in
+    let lines = map (found_text c.args.topo.now.nodes) c.args.regions.now in
+    let old = g.K.Sink.state c.args.out.now in
+    let now = g.K.Sink.state l.out in
+    let new = g.K.Sink.state c.write_full.new.out in
+    let next = blocks-region c.args.topo.now.nodes c.args.regions.now l.region-index c.region-item.result c.loop-region-test.true c.region-item.is l.block.items c.put_found.new.out.items old now c.in_ok-put_found.ensures.ok l.invariant.blocks in
+    let flushed : KeepsOrWrites now new c.put_found.new.out.items c.write_full.new.block.items = on_ok_at c.write_full.result _ (sym c.is_err.ensures.value ∙ c.if-is_err.false) c.write_full.ensures.ok in
+    record {
+      blocks = blocks-flushed c.writes_join.ensures.both c.writes_join.ensures.first c.writes_join.ensures.second lines (l.region-index + 1) c.put_found.new.out.items c.write_full.new.block.items old now new next flushed;
+      counts = let more = c.write_full.ensures.counts in let so_far = l.invariant.counts in omega arith;
+    }
+
+pub returns-then-is_err-2-clause-ends : goal.returns-then-is_err-2-clause-ends
+returns-then-is_err-2-clause-ends g c =
+    let l = c.loop-region in
+    let lines = map (found_text c.args.topo.now.nodes) c.args.regions.now in
+    let old = g.K.Sink.state c.args.out.now in
+    let now = g.K.Sink.state l.out in
+    let new = g.K.Sink.state c.write_all.new.sink in
+    let failed = sym c.is_err-2.ensures.value ∙ c.if-is_err-2.true in
+    let part : TakesPrefix now new c.as_slice.result.now = on_err_at c.write_all.result _ failed c.write_all.ensures.failed in
+    let rose : Rose now.faults new.faults = on_err_at c.write_all.result _ failed c.write_all.ensures.cause in
+    inr (record {
+      status_is = refl;
+      rose = let so_far = l.invariant.counts in omega (arith, rose, so_far);
+      taken = blocks-cut c.writes_join.ensures.both c.writes_join.ensures.first c.writes_join.ensures.second lines l.region-index l.block.items old now new l.invariant.blocks (subst (TakesPrefix now new) c.as_slice.ensures.value part);
+    })
+
+pub returns-clause-ends : goal.returns-clause-ends
+returns-clause-ends g c =
+    let l = c.loop-region in
+    let lines = map (found_text c.args.topo.now.nodes) c.args.regions.now in
+    let old = g.K.Sink.state c.args.out.now in
+    let now = g.K.Sink.state l.out in
+    let new = g.K.Sink.state c.write_all.new.sink in
+    let taken : Takes now new c.as_slice.result.now = on_ok_at c.write_all.result _ (sym c.is_err-2.ensures.value ∙ c.if-is_err-2.false) c.write_all.ensures.ok in
+    inl (record {
+      status_is = refl;
+      taken =
+          subst (Takes old new) (all_regions c.args.topo.now.nodes c.args.regions.now l.region-index c.loop-region-test.false)
+          (blocks-written c.writes_join.ensures.both c.writes_join.ensures.first c.writes_join.ensures.second lines l.region-index l.block.items old now new l.invariant.blocks (subst (Takes now new) c.as_slice.ensures.value taken));
+    })

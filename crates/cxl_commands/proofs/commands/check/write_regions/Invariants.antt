@@ -1,0 +1,11 @@
+use Rattle.std.proofs.Common.{◌≤◌, map}
+use Rattle.cxl_reply.specs.Plans.{found_text}
+use Rattle.cxl_commands.proofs.InBlocks.{IsInBlocks}
+use Rattle.cxl_commands.proofs.commands.check.write_regions.Given as goal
+
+-- the lines of the regions so far are written or in the block
+abbrev pub invariant-loop-region : goal.invariant-loop-region
+invariant-loop-region g l = record {
+  blocks : IsInBlocks (map (found_text l.topo.nodes) l.regions) l.region-index l.block.items (g.K.Sink.state l.fn.out) (g.K.Sink.state l.out);
+  counts : (g.K.Sink.state l.fn.out).faults ≤ (g.K.Sink.state l.out).faults;
+}

@@ -1,0 +1,15 @@
+-- What the program says of itself, and to words that are no command.
+use Rattle.std.specs.Prelude.{codes}
+use Rattle.cxl_reply.specs.Words.{line}
+use Rattle.cxl_commands.specs.Outcome.{Outcome, one_piece}
+use Rattle.cxl_commands.specs.declared.commands.help.TheConstants.{HELP, VERSION}
+use Rattle.cxl_commands.specs.declared.status.Status.TheVariants.{Done, Usage}
+
+abbrev pub helped : Outcome
+helped = one_piece Done HELP.now
+
+abbrev pub version_told : Outcome
+version_told = one_piece Done VERSION.now
+
+abbrev pub misused : Outcome
+misused = one_piece Usage (line (codes "usage"))

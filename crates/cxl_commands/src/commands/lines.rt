@@ -1,0 +1,221 @@
+ghost use Rattle.std.specs.Prelude.{◌≡◌, ◌++◌, ◌<◌, IsSome, OnOk, length, codes, decimal};
+ghost use Rattle.cxl_commands.specs.commands.LinePlaces.{line_at};
+ghost use Rattle.cxl_commands.specs.commands.Lines.{more_targets_text, targets_text, more_maps_text, maps_text, verdict_text, bridge_text, registers_text, range_text, interleave_text, restrict_text, policy_text, use_text, chbs_line, window_line, cxims_line, other_line};
+ghost use Rattle.cxl_window.specs.Windows.{cfmws_in};
+
+use cxl_cedt::{Chbs, Cxims, Other, Record};
+use cxl_io::{Memory, put_hex, put_number};
+use cxl_reply::{put_address, put_gran};
+use cxl_window::{Verdict, Window};
+
+/// Appends the line of a record, before which so many of the windows stand.
+pub(crate) fn put_line(
+    out: &mut Vec<u8>,
+    item: &Record,
+    windows: &[Window],
+    place: usize,
+) -> Result<(), Memory>
+    requires { IsSome (cfmws_in item.now) → place < length windows.now }
+    ensures { OnOk result (out.new.items ≡ out.old.items ++ line_at windows.now place item.now) }
+{
+    match item {
+        Record::Chbs(chbs) => put_chbs_line(out, chbs),
+        Record::Cfmws(window) => put_window_line(out, &windows[place], window.qtg()),
+        Record::Cxims(maps) => put_cxims_line(out, maps),
+        Record::Other(other) => put_other_line(out, other),
+    }
+}
+
+fn put_chbs_line(out: &mut Vec<u8>, chbs: &Chbs) -> Result<(), Memory>
+    ensures { OnOk result (out.new.items ≡ out.old.items ++ chbs_line chbs.now) }
+{
+    put_bridge(out, chbs)?;
+    put_registers(out, chbs)?;
+    out.push(b'\n')?;
+    Ok(())
+}
+
+#[tactic(auto, unfolding(crate::specs::commands::Lines::bridge_text))]
+fn put_bridge(out: &mut Vec<u8>, chbs: &Chbs) -> Result<(), Memory>
+    ensures { OnOk result (out.new.items ≡ out.old.items ++ bridge_text chbs.now) }
+{
+    out.extend_from_slice(b"chbs ")?;
+    put_number(out, u64::from(chbs.uid))?;
+    out.extend_from_slice(b" version ")?;
+    put_number(out, u64::from(chbs.version))
+}
+
+#[tactic(auto, unfolding(crate::specs::commands::Lines::registers_text))]
+fn put_registers(out: &mut Vec<u8>, chbs: &Chbs) -> Result<(), Memory>
+    ensures { OnOk result (out.new.items ≡ out.old.items ++ registers_text chbs.now) }
+{
+    out.extend_from_slice(b" base ")?;
+    put_address(out, chbs.base)?;
+    out.extend_from_slice(b" length ")?;
+    put_address(out, chbs.length)
+}
+
+/// Appends the line of a window whose record has this throttling group.
+fn put_window_line(out: &mut Vec<u8>, window: &Window, qtg: u16) -> Result<(), Memory>
+    ensures { OnOk result (out.new.items ≡ out.old.items ++ window_line window.now qtg) }
+{
+    put_range(out, window)?;
+    put_interleave(out, window)?;
+    put_policy(out, window.restrict(), qtg)?;
+    put_use(out, window)?;
+    out.push(b'\n')?;
+    Ok(())
+}
+
+#[tactic(auto, unfolding(crate::specs::commands::Lines::range_text))]
+fn put_range(out: &mut Vec<u8>, window: &Window) -> Result<(), Memory>
+    ensures { OnOk result (out.new.items ≡ out.old.items ++ range_text window.now) }
+{
+    out.extend_from_slice(b"window ")?;
+    put_number(out, u64::from(window.index()))?;
+    out.extend_from_slice(b" base ")?;
+    put_address(out, window.base())?;
+    out.extend_from_slice(b" size ")?;
+    put_address(out, window.size())
+}
+
+#[tactic(auto, unfolding(crate::specs::commands::Lines::interleave_text))]
+fn put_interleave(out: &mut Vec<u8>, window: &Window) -> Result<(), Memory>
+    ensures { OnOk result (out.new.items ≡ out.old.items ++ interleave_text window.now) }
+{
+    out.extend_from_slice(b" ways ")?;
+    put_number(out, u64::from(window.ways()))?;
+    out.extend_from_slice(b" gran ")?;
+    put_gran(out, window.gran())?;
+    out.push(b' ')?;
+    out.extend_from_slice(if window.xor() { b"xor" } else { b"modulo" })?;
+    Ok(())
+}
+
+#[tactic(auto, unfolding(crate::specs::commands::Lines::policy_text))]
+fn put_policy(out: &mut Vec<u8>, restrict: u16, qtg: u16) -> Result<(), Memory>
+    ensures { OnOk result (out.new.items ≡ out.old.items ++ policy_text restrict qtg) }
+{
+    out.extend_from_slice(b" restrict ")?;
+    put_restrict(out, restrict)?;
+    out.extend_from_slice(b" qtg ")?;
+    put_number(out, u64::from(qtg))
+}
+
+#[tactic(auto, unfolding(crate::specs::commands::Lines::restrict_text))]
+fn put_restrict(out: &mut Vec<u8>, restrict: u16) -> Result<(), Memory>
+    ensures { OnOk result (out.new.items ≡ out.old.items ++ restrict_text restrict) }
+{
+    out.extend_from_slice(b"0x")?;
+    put_hex(out, u64::from(restrict), 4)
+}
+
+#[tactic(auto, unfolding(crate::specs::commands::Lines::use_text))]
+fn put_use(out: &mut Vec<u8>, window: &Window) -> Result<(), Memory>
+    ensures { OnOk result (out.new.items ≡ out.old.items ++ use_text window.now) }
+{
+    out.extend_from_slice(b" targets ")?;
+    put_targets(out, window.targets())?;
+    out.push(b' ')?;
+    put_verdict(out, window.verdict())
+}
+
+fn put_verdict(out: &mut Vec<u8>, verdict: Verdict) -> Result<(), Memory>
+    ensures { OnOk result (out.new.items ≡ out.old.items ++ verdict_text verdict) }
+{
+    match verdict {
+        Verdict::Usable => put_text(out, b"usable"),
+        Verdict::Align => put_text(out, b"align"),
+        Verdict::Size => put_text(out, b"size"),
+        Verdict::TooHigh => put_text(out, b"too-high"),
+        Verdict::Overlap(index) => put_cause(out, b"overlap ", index),
+        Verdict::Target(uid) => put_cause(out, b"target ", uid),
+        Verdict::Repeat(uid) => put_cause(out, b"repeat ", uid),
+        Verdict::Maps => put_text(out, b"maps"),
+    }
+}
+
+fn put_text(out: &mut Vec<u8>, word: &[u8]) -> Result<(), Memory>
+    ensures { OnOk result (out.new.items ≡ out.old.items ++ word.now) }
+{
+    out.extend_from_slice(word)?;
+    Ok(())
+}
+
+/// Appends a word and a number.
+fn put_cause(out: &mut Vec<u8>, word: &[u8], number: u32) -> Result<(), Memory>
+    ensures { OnOk result (out.new.items ≡ out.old.items ++ (word.now ++ decimal number)) }
+{
+    out.extend_from_slice(word)?;
+    put_number(out, u64::from(number))
+}
+
+fn put_cxims_line(out: &mut Vec<u8>, maps: &Cxims) -> Result<(), Memory>
+    ensures { OnOk result (out.new.items ≡ out.old.items ++ cxims_line maps.now) }
+{
+    out.extend_from_slice(b"cxims gran ")?;
+    put_gran(out, maps.gran())?;
+    out.extend_from_slice(b" maps ")?;
+    put_maps(out, maps.maps())?;
+    out.push(b'\n')?;
+    Ok(())
+}
+
+fn put_other_line(out: &mut Vec<u8>, other: &Other) -> Result<(), Memory>
+    ensures { OnOk result (out.new.items ≡ out.old.items ++ other_line other.now) }
+{
+    out.extend_from_slice(b"other ")?;
+    put_number(out, u64::from(other.kind()))?;
+    out.extend_from_slice(b" length ")?;
+    put_number(out, 4 + other.body().len() as u64)?;
+    out.push(b'\n')?;
+    Ok(())
+}
+
+/// Appends UIDs, separated by commas.
+fn put_targets(out: &mut Vec<u8>, uids: &[u32]) -> Result<(), Memory>
+    ensures { OnOk result (out.new.items ≡ out.old.items ++ targets_text uids.now) }
+{
+    match uids {
+        [] => Ok(()),
+        [first, others @ ..] => {
+            put_number(out, u64::from(*first))?;
+            put_more_targets(out, others)
+        }
+    }
+}
+
+/// Appends UIDs, each behind a comma.
+fn put_more_targets(out: &mut Vec<u8>, uids: &[u32]) -> Result<(), Memory>
+    ensures { OnOk result (out.new.items ≡ out.old.items ++ more_targets_text uids.now) }
+{
+    for uid in uids {
+        out.push(b',')?;
+        put_number(out, u64::from(*uid))?;
+    }
+    Ok(())
+}
+
+/// Appends XOR maps, separated by commas, or `none`.
+fn put_maps(out: &mut Vec<u8>, maps: &[u64]) -> Result<(), Memory>
+    ensures { OnOk result (out.new.items ≡ out.old.items ++ maps_text maps.now) }
+{
+    match maps {
+        [] => put_text(out, b"none"),
+        [first, others @ ..] => {
+            put_address(out, *first)?;
+            put_more_maps(out, others)
+        }
+    }
+}
+
+/// Appends XOR maps, each behind a comma.
+fn put_more_maps(out: &mut Vec<u8>, maps: &[u64]) -> Result<(), Memory>
+    ensures { OnOk result (out.new.items ≡ out.old.items ++ more_maps_text maps.now) }
+{
+    for map in maps {
+        out.push(b',')?;
+        put_address(out, *map)?;
+    }
+    Ok(())
+}

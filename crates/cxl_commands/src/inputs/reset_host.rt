@@ -1,0 +1,54 @@
+ghost use Rattle.std.specs.Prelude.{◌≡◌, ◌≤◌, Some, [], ◌∷◌, IfOk, IfErr, OnOk};
+ghost use Rattle.cxl_cedt.specs.CedtFields.{CedtFields};
+ghost use Rattle.cxl_image.specs.Images.{reset_blocks};
+ghost use Rattle.cxl_io.specs.Fetch.{AsksFor};
+ghost use Rattle.cxl_model.specs.Accepted.{IsAccepted};
+ghost use Rattle.cxl_model.specs.System.{IsSystem, system_of, bridge_uids};
+ghost use Rattle.cxl_window.specs.Windows.{windows_of};
+ghost use Rattle.cxl_commands.specs.Answers.{IsStop};
+ghost use Rattle.cxl_commands.specs.inputs.File.{AsksForSome};
+ghost use Rattle.cxl_commands.specs.inputs.ResetHost.{AreBothRead, HasNoResetHost};
+
+use crate::inputs::host::Host;
+use crate::inputs::table::fetch_table;
+use crate::inputs::topology::fetch_topology;
+use crate::stop::Stop;
+use cxl_image::Image;
+use cxl_io::Fetch;
+use cxl_model::reset_hosts_are_accepted;
+use cxl_window::windows;
+use std::alloc::Global;
+
+/// The host of a table and a topology after reset; the table is read before the topology is asked for. It
+/// stops at the first that has no reading.
+pub fn fetch_reset_host<F: Fetch>(
+    alloc: Global,
+    cedt: &str,
+    topo: &str,
+    files: &mut F,
+) -> Result<Host, Stop>
+    ensures read { IfOk result (λ host. (table : CedtFields)
+        × AreBothRead (F.state files.old).told cedt.now topo.now table host.topo
+        × (host.windows.items ≡ windows_of table.records (Some (bridge_uids host.topo.nodes)))) }
+    ensures reset { IfOk result (λ host. host.image ≡ reset_blocks host.topo.nodes) }
+    ensures system { IfOk result (λ host. IsSystem (system_of host.image host.topo host.windows.items)) }
+    ensures accepted { IfOk result (λ host. IsAccepted (system_of host.image host.topo host.windows.items)) }
+    ensures asked { OnOk result (AsksFor (F.state files.old) (F.state files.new) (cedt.now ∷ topo.now ∷ [])) }
+    ensures stops { IfErr result (IsStop (HasNoResetHost cedt.now topo.now (F.state files.old) (F.state files.new))
+        (AsksForSome (cedt.now ∷ topo.now ∷ []) (F.state files.old) (F.state files.new))) }
+    ensures counts { (F.state files.old).faults ≤ (F.state files.new).faults }
+    ensures stays { (F.state files.new).told ≡ (F.state files.old).told }
+{
+    reset_hosts_are_accepted();
+    let table = fetch_table(alloc, cedt, files)?;
+    let topo = fetch_topology(alloc, topo, files)?;
+    let image = Image::new(alloc, &topo)?;
+    let windows = windows(alloc, &table, Some(topo.uids()))?;
+    let _nodes = topo.count();
+    let _blocks = image.count();
+    Ok(Host {
+        topo,
+        image,
+        windows,
+    })
+}
