@@ -7,20 +7,20 @@ use Rattle.std.specs.declared.cmp.Ordering.{Ordering}
 use Rattle.std.specs.declared.cmp.Ordering.TheVariants.{Less, Equal, Greater}
 use Rattle.std.specs.Ordering.{is_eq, nat_cmp, ordering_then}
 use Rattle.std.specs.Cmp.{unsigned_ties}
-use Rattle.std.specs.Cmp.Lexicographic.{texts_ties}
 use Rattle.std.specs.BTreeMap.{BTreeMap, get, is_at}
 use Rattle.std.proofs.lemmas.Bool.{cases_Bool}
 use Rattle.std.proofs.lemmas.List.{take_more, length-take}
 use Rattle.std.proofs.lemmas.List.Elements.{filter_map-append}
 use Rattle.std.proofs.lemmas.Iterator.Adapters.{position_from-zero}
+use Rattle.cxl_enc.specs.Name.{IsName}
 use Rattle.cxl_topo.specs.declared.node.Node.{Node}
 use Rattle.cxl_topo.specs.declared.node.NodeKind.TheVariants.{Bridge}
 use Rattle.cxl_topo.specs.declared.node.Parent.{Parent}
-use Rattle.cxl_topo.specs.declared.tables.NameKey.{NameKey}
 use Rattle.cxl_topo.specs.Kinds.{uid_of}
 use Rattle.cxl_topo.specs.Tree.{stands_at, stands_under, is_bridge_with, is_named, bridge_uids}
-use Rattle.cxl_topo.specs.Keys.{Enters, name_cmp}
+use Rattle.cxl_topo.specs.Keys.{Enters, name_key, name_cmp}
 use Rattle.cxl_topo.specs.inner.Tables.{port_cmp}
+use Rattle.cxl_topo.proofs.NameKeys.{name_ties}
 
 module _ {X : Type 0} (test : X → Bool) where
   position_from_push : (xs : List X) (x : X) (i : ℕ) → position_from test i (xs ++ x ∷ []) ≡ option_or (position_from test i xs) (cond (test x) (Some (i + length xs)) None)
@@ -46,9 +46,12 @@ module _ {K : Type 0} (cmp : K → K → Ordering) (test : K → Node → Bool) 
   here : (key : K) → position (test key) (take (i + 1) nodes) ≡ option_or (position (test key) (take i nodes)) (cond (test key node) (Some i) None)
   here key = position_more (test key) nodes i node lt ∙ rw (← is)
 
-  -- the node is entered under its key
+  -- the node is entered under its key, and so is found at this one where it passes its test
+  pub entered_at : (old new : BTreeMap K ℕ) (own key : K) → get cmp old key ≡ position (test key) (take i nodes) → test key node ≡ is_at (cmp own) key → Enters cmp old new own i → get cmp new key ≡ position (test key) (take (i + 1) nodes)
+  entered_at old new own key before fits enters = enters key ∙ rw (before, ← fits) (sym (here key))
+
   pub entered : (old new : BTreeMap K ℕ) (own : K) → ((key : K) → get cmp old key ≡ position (test key) (take i nodes)) → ((key : K) → test key node ≡ is_at (cmp own) key) → Enters cmp old new own i → (key : K) → get cmp new key ≡ position (test key) (take (i + 1) nodes)
-  entered old new own before fits enters key = enters key ∙ rw (before key, ← fits key) (sym (here key))
+  entered old new own before fits enters key = entered_at old new own key (before key) (fits key) enters
 
   -- the node has no key
   pub passed : (old : BTreeMap K ℕ) → ((key : K) → get cmp old key ≡ position (test key) (take i nodes)) → ((key : K) → test key node ≡ false) → (key : K) → get cmp old key ≡ position (test key) (take (i + 1) nodes)
@@ -74,8 +77,8 @@ stands_under-own node own is n = rw is (unsigned_ties own.node n)
 pub is_bridge_with-own : (node : Node) (own : ℕ) → node.kind ≡ Bridge own → (uid : ℕ) → is_bridge_with uid node ≡ is_at (nat_cmp own) uid
 is_bridge_with-own node own is uid = rw is (unsigned_ties own uid)
 
-pub is_named-own : (node : Node) (key : NameKey) → is_named key.0 node ≡ is_at (name_cmp (record { 0 = node.name })) key
-is_named-own node key = texts_ties node.name key.0
+pub is_named-own : (node : Node) (name : List ℕ) → IsName node.name → IsName name → is_named name node ≡ is_at (name_cmp (name_key node.name)) (name_key name)
+is_named-own node name own is = name_ties node.name name own is
 
 -- ---- the UIDs of the bridges
 

@@ -1,3 +1,4 @@
+pub mod NameKeys
 pub mod Entering
 pub mod PathsUp
 pub mod Sound

@@ -1,15 +1,22 @@
 -- Names as keys of a table, and what it is to enter a number under a key.
-use Rattle.std.specs.Prelude.{◌≡◌, ℕ, Some, None, if◌then◌else◌}
+use Rattle.std.specs.Prelude.{◌≡◌, ℕ, ◌+◌, ◌*◌, List, [], ◌∷◌, Some, None, if◌then◌else◌}
 use Rattle.std.specs.Option.{option_or}
 use Rattle.std.specs.declared.cmp.Ordering.{Ordering}
 use Rattle.std.specs.Ordering.{nat_cmp, on}
-use Rattle.std.specs.Cmp.Lexicographic.{slice_cmp}
 use Rattle.std.specs.BTreeMap.{BTreeMap, get, is_at}
 use Rattle.cxl_topo.specs.declared.tables.NameKey.{NameKey}
 
--- the order of names: by their bytes
+-- the number of a name: its bytes are the digits to the base 256, the first one lowest
+abbrev pub name_number : List ℕ → ℕ
+name_number [] = 0
+name_number (byte ∷ bytes) = byte + 256 * name_number bytes
+
+abbrev pub name_key : List ℕ → NameKey
+name_key name = record { 0 = name_number name }
+
+-- the order of names as keys: by their numbers
 abbrev pub name_cmp : NameKey → NameKey → Ordering
-name_cmp = on (λ key. key.0) (slice_cmp nat_cmp)
+name_cmp = on (λ key. key.0) nat_cmp
 
 -- the new map has what the old one has, and the number at the key where the old one has nothing there
 abbrev pub Enters : {K : Type 0} → (K → K → Ordering) → BTreeMap K ℕ → BTreeMap K ℕ → K → ℕ → Type 0

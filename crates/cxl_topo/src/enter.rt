@@ -65,7 +65,7 @@ pub(crate) fn enter_name(
     ensures { OnOk result (ListsNames (take (i + 1) nodes.now) table.new) }
 {
     let node = &nodes[i as usize];
-    enter_first(table, NameKey(node.name), i)
+    enter_first(table, NameKey::of(&node.name), i)
 }
 
 /// Enters node `i` under its UID, where it is a bridge.

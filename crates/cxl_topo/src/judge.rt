@@ -138,7 +138,7 @@ fn forwards(nodes: &[Node], i: u32) -> bool
 fn has_taken_name(tables: &Tables, node: &Node) -> bool
     ensures { (earlier : List Node) → ListsNames earlier tables.now.names → result ≡ has_taken_name earlier node.now }
 {
-    tables.names.get(&NameKey(node.name)).is_some()
+    tables.names.get(&NameKey::of(&node.name)).is_some()
 }
 
 fn has_taken_uid(tables: &Tables, node: &Node) -> bool

@@ -1,62 +1,38 @@
-ghost use Rattle.std.specs.Prelude.{◌+◌, ◌<◌, length, take, OnOk};
-ghost use Rattle.std.specs.Cmp.{partial_order_from_own_ties};
-ghost use Rattle.std.specs.Cmp.Rules.{comparing};
-ghost use Rattle.std.specs.Cmp.Lexicographic.{slice_cmp, pointwise};
-ghost use Rattle.std.specs.Ordering.{nat_cmp, on, as_partial_cmp};
-ghost use Rattle.std.specs.Prelude.{nat_eq};
-ghost use Rattle.std.proofs.Common.{rules};
+ghost use Rattle.std.specs.Prelude.{◌≡◌, ◌+◌, ◌<◌, length, take, OnOk};
 
 use crate::enter::{add_uid, enter_bridge, enter_child, enter_least_child, enter_name};
 use crate::node::{Node, Parent};
 use cxl_enc::Name;
 use std::alloc::{AllocError, Global};
-use std::cmp::Ordering;
 use std::collections::BTreeMap;
 
-/// A name as a key of a table, in the order of its bytes.
-#[derive(Clone, Copy)]
-pub struct NameKey(pub Name);
+/// A name as a key of a table: the number whose digits to the base 256 are its bytes, the first one
+/// lowest, so that one comparison tells two names apart.
+#[derive(Clone, Copy, Debug, PartialEq, Eq, PartialOrd, Ord)]
+pub struct NameKey(pub u128);
 
-impl PartialEq for NameKey {
-    ghost eq = { on (λ key. key.0) (pointwise nat_eq) };
+impl NameKey {
+    ghost use Rattle.cxl_enc.specs.Name.{IsName};
+    ghost use Rattle.cxl_topo.specs.Keys.{name_key};
 
-    ghost laws = { Prim.search (comparing, rules) };
-
-    fn eq(&self, other: &NameKey) -> bool {
-        self.0.bytes() == other.0.bytes()
-    }
-}
-
-impl Eq for NameKey {
-    ghost laws = { Prim.search (comparing, rules) };
-}
-
-impl PartialOrd for NameKey {
-    ghost partial_cmp = { as_partial_cmp (on (λ key. key.0) (slice_cmp nat_cmp)) };
-
-    ghost laws = { partial_order_from_own_ties (Prim.search (comparing, rules)) (Prim.search (comparing, rules)) };
-
-    fn partial_cmp(&self, other: &NameKey) -> Option<Ordering> {
-        Some(self.cmp(other))
-    }
-}
-
-impl Ord for NameKey {
-    ghost cmp = { on (λ key. key.0) (slice_cmp nat_cmp) };
-
-    ghost total = { Prim.search (comparing, rules) };
-
-    ghost matches_partial_cmp = { Prim.search (comparing, rules) };
-
-    ghost matches_eq = { Prim.search (comparing, rules) };
-
-    fn cmp(&self, other: &NameKey) -> Ordering {
-        self.0.bytes().cmp(other.0.bytes())
+    /// The key of a name.
+    pub fn of(name: &Name) -> NameKey
+        ensures key { result ≡ name_key name.now }
+        ensures name { IsName name.now }
+    {
+        let bytes = name.bytes();
+        let mut number: u128 = 0;
+        let mut left = bytes.len();
+        while left > 0 {
+            left -= 1;
+            number = 256 * number + u128::from(bytes[left]);
+        }
+        NameKey(number)
     }
 }
 
 /// Where to find the nodes of a tree, so that no search goes over all of them, and the UIDs of its bridges.
-#[derive(Drop)]
+#[derive(Debug, Drop)]
 pub(crate) struct Tables {
     pub(crate) children: BTreeMap<Parent, u32>,
     pub(crate) least_children: BTreeMap<u32, u32>,

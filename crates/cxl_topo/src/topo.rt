@@ -129,7 +129,7 @@ impl Topo {
         ensures found { result ≡ node_named self.now.nodes name.now }
         ensures named { (i : ℕ) → (result ≡ Some i) ↔ (name_at self.now.nodes i ≡ Some name.now) }
     {
-        self.tables.names.get(&NameKey(*name)).copied()
+        self.tables.names.get(&NameKey::of(name)).copied()
     }
 
     /// The bridge with a UID.

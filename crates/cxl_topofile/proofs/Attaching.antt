@@ -4,12 +4,13 @@ use Rattle.std.specs.Prelude.{nat_lt, count_by, position}
 use Rattle.std.specs.List.{position_from}
 use Rattle.std.specs.Option.{option_or}
 use Rattle.std.specs.BTreeMap.{BTreeMap, is_at}
-use Rattle.std.specs.Cmp.Lexicographic.{texts_ties}
 use Rattle.std.proofs.lemmas.Bool.{cases_Bool, lt-ltb, or_left}
 use Rattle.std.proofs.lemmas.List.{drop_more, drop_all, length_push}
 use Rattle.std.proofs.lemmas.Iterator.Adapters.{position_from-zero}
+use Rattle.cxl_enc.specs.Name.{IsName}
+use Rattle.cxl_topo.proofs.NameKeys.{name_ties}
 use Rattle.cxl_topo.specs.Kinds.{is_bridge, is_endpoint}
-use Rattle.cxl_topo.specs.Keys.{Enters, name_cmp}
+use Rattle.cxl_topo.specs.Keys.{Enters, name_key, name_cmp}
 use Rattle.cxl_topo.specs.declared.tables.NameKey.{NameKey}
 use Rattle.cxl_topo.specs.Faults.{IsTree, IsFirstTreeFault}
 use Rattle.cxl_topo.specs.declared.node.Node.{Node}
@@ -65,8 +66,8 @@ module _ (test : Node → Bool) where
 
 module _ (nodes : List Node) (node : Node) (old : BTreeMap NameKey ℕ) (before : ListsPorts nodes old) where
   -- a bridge or a switch is entered under its name
-  pub port_entered : (new : BTreeMap NameKey ℕ) → not (is_endpoint node.kind) ≡ true → Enters name_cmp old new (record { 0 = node.name }) (length nodes) → ListsPorts (nodes ++ node ∷ []) new
-  port_entered new port enters key = enters key ∙ rw (before key, ← fits) (sym (position_push (is_port_named key.0) nodes node))
+  pub port_entered : (new : BTreeMap NameKey ℕ) → IsName node.name → not (is_endpoint node.kind) ≡ true → Enters name_cmp old new (name_key node.name) (length nodes) → ListsPorts (nodes ++ node ∷ []) new
+  port_entered new own port enters name is = enters (name_key name) ∙ rw (before name is, ← fits) (sym (position_push (is_port_named name) nodes node))
     where
-      fits : is_port_named key.0 node ≡ is_at (name_cmp (record { 0 = node.name })) key
-      fits = rw port (texts_ties node.name key.0)
+      fits : is_port_named name node ≡ is_at (name_cmp (name_key node.name)) (name_key name)
+      fits = rw port (name_ties node.name name own is)

@@ -1,4 +1,5 @@
 pub mod Unknowns
+pub mod KeyTexts
 pub mod Turns
 pub mod Attaching
 pub mod Whole

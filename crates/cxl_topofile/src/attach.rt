@@ -60,7 +60,7 @@ impl Attached {
     fn port_named(&self, name: &Name) -> Option<u32>
         ensures { result ≡ position (is_port_named name.now) self.now }
     {
-        self.ports.get(&NameKey(*name)).copied()
+        self.ports.get(&NameKey::of(name)).copied()
     }
 
     /// The node of a draft, under the first bridge or switch with its parent's name.
@@ -111,7 +111,7 @@ fn enter_port(
     if !may_be_parent(node) {
         return Ok(());
     }
-    enter_first(ports, NameKey(node.name), earlier.len() as u32)
+    enter_first(ports, NameKey::of(&node.name), earlier.len() as u32)
 }
 
 /// The bridges, and after them the others, each under the first earlier bridge or switch with its

@@ -3,10 +3,11 @@ use Rattle.std.specs.Prelude.{◌≡◌, ℕ, List}
 use Rattle.std.specs.declared.cmp.Ordering.{Ordering}
 use Rattle.std.specs.Ordering.{nat_cmp, on, then_cmp}
 use Rattle.std.specs.BTreeMap.{BTreeMap, get}
+use Rattle.cxl_enc.specs.Name.{IsName}
 use Rattle.cxl_topo.specs.declared.node.Node.{Node}
 use Rattle.cxl_topo.specs.declared.node.Parent.{Parent}
 use Rattle.cxl_topo.specs.declared.tables.NameKey.{NameKey}
-use Rattle.cxl_topo.specs.Keys.{name_cmp}
+use Rattle.cxl_topo.specs.Keys.{name_key, name_cmp}
 use Rattle.cxl_topo.specs.Tree.{node_named, bridge_with, child_of, least_child_of}
 
 -- the order of ports: by node, then by port
@@ -21,7 +22,7 @@ abbrev pub ListsLeastChildren : List Node → BTreeMap ℕ ℕ → Type 0
 ListsLeastChildren nodes table = (n : ℕ) → get nat_cmp table n ≡ least_child_of nodes n
 
 abbrev pub ListsNames : List Node → BTreeMap NameKey ℕ → Type 0
-ListsNames nodes table = (key : NameKey) → get name_cmp table key ≡ node_named nodes key.0
+ListsNames nodes table = (name : List ℕ) → IsName name → get name_cmp table (name_key name) ≡ node_named nodes name
 
 abbrev pub ListsBridges : List Node → BTreeMap ℕ ℕ → Type 0
 ListsBridges nodes table = (uid : ℕ) → get nat_cmp table uid ≡ bridge_with nodes uid

@@ -3,4 +3,4 @@ use Rattle.std.proofs.lemmas.Grind.{common_steps}
 use Rattle.cxl_topo.proofs.judge.has_taken_name.Goals as goal
 
 pub returns : goal.returns
-returns c = λ earlier listed. let here = listed (record { 0 = c.args.node.now.name }) in grind (arith, common_steps)
+returns c = λ earlier listed. let here = listed c.args.node.now.name c.of.ensures.name in let key = c.of.ensures.key in grind (arith, common_steps)

@@ -8,7 +8,7 @@ pub returns : goal.returns
 returns c =
     let now = c.args.self.now in
     let name = c.args.name.now in
-    let is : c.copied.result ≡ node_named now.nodes name = c.copied.ensures ∙ c.get.ensures.value ∙ c.self.invariant.listed.names (record { 0 = name }) ∙ ap (λ (tree : Tree). node_named tree.nodes name) c.self.view_is in
+    let is : c.copied.result ≡ node_named now.nodes name = c.copied.ensures ∙ c.get.ensures.value ∙ rw c.of.ensures.key (c.self.invariant.listed.names name c.of.ensures.name) ∙ ap (λ (tree : Tree). node_named tree.nodes name) c.self.view_is in
     let tree : IsTree now.nodes = subst (λ (tree : Tree). IsTree tree.nodes) c.self.view_is c.self.invariant.tree in
     record {
       found = is;

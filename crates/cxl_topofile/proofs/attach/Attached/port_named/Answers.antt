@@ -5,4 +5,4 @@ use Rattle.cxl_topofile.specs.File.{is_port_named}
 use Rattle.cxl_topofile.proofs.attach.Attached.port_named.Goals as goal
 
 pub returns : goal.returns
-returns c = c.copied.ensures ∙ c.get.ensures.value ∙ c.self.invariant (record { 0 = c.args.name.now }) ∙ ap (λ (nodes : List Node). position (is_port_named c.args.name.now) nodes) c.self.view_is
+returns c = c.copied.ensures ∙ c.get.ensures.value ∙ rw c.of.ensures.key (c.self.invariant c.args.name.now c.of.ensures.name) ∙ ap (λ (nodes : List Node). position (is_port_named c.args.name.now) nodes) c.self.view_is
