@@ -1,15 +1,65 @@
-ghost use Rattle.std.specs.Prelude.{◌≡◌, ◌+◌, ◌<◌, length, take, OnOk};
+ghost use Rattle.std.specs.Prelude.{◌≡◌, ◌+◌, ◌<◌, length, take, nat_eq, OnOk};
+ghost use Rattle.std.specs.Cmp.{partial_order_from_own_ties};
+ghost use Rattle.std.specs.Cmp.Rules.{comparing};
+ghost use Rattle.std.specs.Ordering.{nat_cmp, on, as_partial_cmp};
+ghost use Rattle.std.proofs.Common.{rules};
 
 use crate::enter::{add_uid, enter_bridge, enter_child, enter_least_child, enter_name};
 use crate::node::{Node, Parent};
 use cxl_enc::Name;
 use std::alloc::{AllocError, Global};
+use std::cmp::Ordering;
 use std::collections::BTreeMap;
 
 /// A name as a key of a table: the number whose digits to the base 256 are its bytes, the first one
 /// lowest, so that one comparison tells two names apart.
-#[derive(Clone, Copy, Debug, PartialEq, Eq, PartialOrd, Ord)]
+#[derive(Clone, Copy, Debug)]
 pub struct NameKey(pub u128);
+
+impl PartialEq for NameKey {
+    ghost eq = { on (λ key. key.0) nat_eq };
+
+    ghost laws = { Prim.search (comparing, rules) };
+
+    fn eq(&self, other: &NameKey) -> bool {
+        self.0 == other.0
+    }
+}
+
+impl Eq for NameKey {
+    ghost laws = { Prim.search (comparing, rules) };
+}
+
+impl PartialOrd for NameKey {
+    ghost partial_cmp = { as_partial_cmp (on (λ key. key.0) nat_cmp) };
+
+    ghost laws = { partial_order_from_own_ties (Prim.search (comparing, rules)) (Prim.search (comparing, rules)) };
+
+    fn partial_cmp(&self, other: &NameKey) -> Option<Ordering> {
+        Some(self.cmp(other))
+    }
+}
+
+impl Ord for NameKey {
+    ghost cmp = { on (λ key. key.0) nat_cmp };
+
+    ghost total = { Prim.search (comparing, rules) };
+
+    ghost matches_partial_cmp = { Prim.search (comparing, rules) };
+
+    ghost matches_eq = { Prim.search (comparing, rules) };
+
+    // `Greater` comes first: a search passes most keys by it.
+    fn cmp(&self, other: &NameKey) -> Ordering {
+        if self.0 > other.0 {
+            Ordering::Greater
+        } else if self.0 == other.0 {
+            Ordering::Equal
+        } else {
+            Ordering::Less
+        }
+    }
+}
 
 impl NameKey {
     ghost use Rattle.cxl_enc.specs.Name.{IsName};
