@@ -13,7 +13,7 @@ use std::collections::BTreeMap;
 
 /// A name as a key of a table: the number whose digits to the base 256 are its bytes, the first one
 /// lowest, so that one comparison tells two names apart.
-#[derive(Clone, Copy, Debug)]
+#[derive(Clone, Copy)]
 pub struct NameKey(pub u128);
 
 impl PartialEq for NameKey {
@@ -82,7 +82,7 @@ impl NameKey {
 }
 
 /// Where to find the nodes of a tree, so that no search goes over all of them, and the UIDs of its bridges.
-#[derive(Debug, Drop)]
+#[derive(Drop)]
 pub(crate) struct Tables {
     pub(crate) children: BTreeMap<Parent, u32>,
     pub(crate) least_children: BTreeMap<u32, u32>,

@@ -7,30 +7,30 @@ use Rattle.cxl_topofile.specs.declared.key.Key.{Key}
 use Rattle.cxl_topofile.specs.declared.key.Key.TheVariants as keys
 
 -- a key as the file writes it
-abbrev pub text_of : Key → List ℕ
-text_of keys.Frames = codes "frames"
-text_of keys.Bridge = codes "bridge"
-text_of keys.Switch = codes "switch"
-text_of keys.Endpoint = codes "endpoint"
-text_of keys.Name = codes "name"
-text_of keys.Uid = codes "uid"
-text_of keys.Parent = codes "parent"
-text_of keys.Port = codes "port"
-text_of keys.Decoders = codes "decoders"
-text_of keys.Targets = codes "targets"
-text_of keys.Low = codes "low"
-text_of keys.High = codes "high"
-text_of keys.Passthrough = codes "passthrough"
-text_of keys.Ways3 = codes "ways3"
-text_of keys.Ways16 = codes "ways16"
-text_of keys.Ram = codes "ram"
-text_of keys.Pmem = codes "pmem"
-text_of keys.Unknown = []
+abbrev pub key_text : Key → List ℕ
+key_text keys.Frames = codes "frames"
+key_text keys.Bridge = codes "bridge"
+key_text keys.Switch = codes "switch"
+key_text keys.Endpoint = codes "endpoint"
+key_text keys.Name = codes "name"
+key_text keys.Uid = codes "uid"
+key_text keys.Parent = codes "parent"
+key_text keys.Port = codes "port"
+key_text keys.Decoders = codes "decoders"
+key_text keys.Targets = codes "targets"
+key_text keys.Low = codes "low"
+key_text keys.High = codes "high"
+key_text keys.Passthrough = codes "passthrough"
+key_text keys.Ways3 = codes "ways3"
+key_text keys.Ways16 = codes "ways16"
+key_text keys.Ram = codes "ram"
+key_text keys.Pmem = codes "pmem"
+key_text keys.Unknown = []
 
 -- a key as a message names it
 abbrev pub shown_key : Key → List ℕ
 shown_key keys.Unknown = codes "unknown"
-shown_key key = text_of key
+shown_key key = key_text key
 
 abbrev pub all_keys : List Key
 all_keys =
@@ -60,11 +60,11 @@ rank_of keys.Unknown = 17
 
 -- the key that a text is; no text is the unknown one
 abbrev pub key_named : List ℕ → Option Key
-key_named text = find (λ key. bytes_eq text (text_of key)) all_keys
+key_named text = find (λ key. bytes_eq text (key_text key)) all_keys
 
 -- whether a text is one of these keys
 abbrev pub is_key : List ℕ → List Key → Bool
-is_key text keys = list_any (λ key. bytes_eq (text_of key) text) keys
+is_key text keys = list_any (λ key. bytes_eq (key_text key) text) keys
 
 -- whether a table has a key beside these
 abbrev pub has_unknown : Members → List Key → Bool

@@ -7,7 +7,7 @@ use Rattle.toml.specs.Data.{Data, Members, get_member, as_str, as_integer, as_bo
 use Rattle.cxl_topofile.specs.declared.key.Key.{Key}
 use Rattle.cxl_topofile.specs.declared.key.Key.TheVariants as keys
 use Rattle.cxl_topofile.specs.declared.fault.Wrong.{Wrong}
-use Rattle.cxl_topofile.specs.Keys.{text_of}
+use Rattle.cxl_topofile.specs.Keys.{key_text}
 use Rattle.cxl_topofile.specs.Wrongs.{missing, of_other_kind, out_of_range}
 
 infixl 10 ◌>>=◌
@@ -26,7 +26,7 @@ taken_or take key default None = ok_or default (missing key)
 taken_or take key default (Some value) = ok_or (take value) (of_other_kind key)
 
 abbrev pub value_at : {A : Type 0} → (Data → Option A) → Members → Key → Option A → Result A Wrong
-value_at take table key default = taken_or take key default (get_member (text_of key) table)
+value_at take table key default = taken_or take key default (get_member (key_text key) table)
 
 -- a value that passes the test
 abbrev pub within : {A : Type 0} → Key → (A → Bool) → A → Result A Wrong

@@ -1,6 +1,6 @@
 ghost use Rattle.std.specs.Prelude.{◌≡◌, ◌==◌};
 ghost use Rattle.std.specs.List.{list_any};
-ghost use Rattle.cxl_topofile.specs.Keys.{text_of, shown_key, is_key, rank_of, key_named};
+ghost use Rattle.cxl_topofile.specs.Keys.{key_text, shown_key, is_key, rank_of, key_named};
 
 /// A key of a topology file, or one that no table of it has.
 #[derive(Clone, Copy, Debug, PartialEq, Eq)]
@@ -29,7 +29,7 @@ pub enum Key {
 impl Key {
     /// The key as a file writes it, and no text for `Unknown`.
     pub(crate) fn text(self) -> &'static str
-        ensures { result.now ≡ text_of self }
+        ensures { result.now ≡ key_text self }
     {
         match self {
             Key::Frames => "frames",

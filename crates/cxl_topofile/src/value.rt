@@ -3,7 +3,7 @@ ghost use Rattle.cxl_enc.specs.Caps.{is_decoder_count, is_target_count};
 ghost use Rattle.cxl_enc.specs.Name.{is_name};
 ghost use Rattle.toml.specs.Data.{get_member, as_integer, as_bool, as_str};
 ghost use Rattle.toml.specs.View.{view, table_view};
-ghost use Rattle.cxl_topofile.specs.Keys.{text_of};
+ghost use Rattle.cxl_topofile.specs.Keys.{key_text};
 ghost use Rattle.cxl_topofile.specs.Values.{value_at, number_at, natural, is_within, within, flag_at, stated_name, stated_decoders, stated_targets, Gives};
 
 use crate::fault::Wrong;
@@ -13,7 +13,7 @@ use toml::{Table, Value};
 
 /// What stands at a key.
 pub(crate) fn found(table: &Table, key: Key) -> Option<&Value>
-    ensures { option_map (λ value. view value.now) result ≡ get_member (text_of key) (table_view table.now) }
+    ensures { option_map (λ value. view value.now) result ≡ get_member (key_text key) (table_view table.now) }
 {
     table.get(key.text())
 }
