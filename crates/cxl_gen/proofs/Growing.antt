@@ -1,9 +1,10 @@
--- Lists that grow by one item, or by one part.
-use Rattle.std.proofs.Common.{◌≡◌, ℕ, ◌+◌, suc, zero, List, [], ◌∷◌, ◌++◌, Result, Ok, Err, refl, sym, ap, ◌∙◌, append_assoc, arith}
-use Rattle.std.specs.Prelude.{map, OnOk}
-use Rattle.std.specs.List.{range_with_len, flat_map}
-use Rattle.std.proofs.lemmas.List.{flat_map_more}
+-- Lists that grow by one item.
+use Rattle.std.proofs.Common.{◌≡◌, ℕ, ◌+◌, List, [], ◌∷◌, ◌++◌, take, Some, sym, ap, ◌∙◌, append_assoc}
+use Rattle.std.specs.Prelude.{map, slice_get}
+use Rattle.std.specs.List.{range_with_len}
+use Rattle.std.proofs.lemmas.List.{take_more}
 use Rattle.std.proofs.lemmas.List.FromFn.{map-range_with_len_more}
+use Rattle.std.proofs.lemmas.Option.{slice_get_within, get_or_from_slice_get}
 
 -- the item of the next number is pushed
 module _ {X : Type 0} (f : ℕ → X) where
@@ -15,26 +16,9 @@ module _ {X : Type 0} (f : ℕ → X) where
   pushed old now new a n j x e before is push =
       push ∙ ap (λ xs. xs ++ x ∷ []) before ∙ ap (λ (y : X). old ++ map f (range_with_len a n) ++ y ∷ []) is ∙ mapped_more old a n j e
 
-range_more : (a n j : ℕ) → a + n ≡ j → range_with_len a (suc n) ≡ range_with_len a n ++ j ∷ []
-range_more a zero j e = let same : a ≡ j = omega arith in ap (λ (x : ℕ). x ∷ []) same
-range_more a (suc n) j e = let next : a + 1 + n ≡ j = omega arith in ap (λ xs. a ∷ xs) (range_more (a + 1) n j next)
+-- the next item is taken, too
+pub take_next : {X : Type 0} (xs : List X) (i : ℕ) (x : X) → slice_get xs i ≡ Some x → take (i + 1) xs ≡ take i xs ++ x ∷ []
+take_next xs i x is = take_more xs i x (slice_get_within xs i x is) ∙ ap (λ y. take i xs ++ y ∷ []) (get_or_from_slice_get xs i x x is)
 
--- the part of the next number is added
-module _ {X : Type 0} (f : ℕ → List X) where
-  parts_more : (old : List X) (n : ℕ) → old ++ flat_map f (range_with_len 0 n) ++ f n ≡ old ++ flat_map f (range_with_len 0 (n + 1))
-  parts_more old n =
-      let next : suc n ≡ n + 1 = omega arith in let here : 0 + n ≡ n = omega arith in
-      flat_map_more f old (range_with_len 0 n) n ∙ ap (λ xs. old ++ flat_map f xs) (sym (range_more 0 n n here) ∙ ap (λ k. range_with_len 0 k) next)
-
-  pub added : (old now new : List X) (n : ℕ) → now ≡ old ++ flat_map f (range_with_len 0 n) → new ≡ now ++ f n → new ≡ old ++ flat_map f (range_with_len 0 (n + 1))
-  added old now new n before part = part ∙ ap (λ xs. xs ++ f n) before ∙ parts_more old n
-
--- an item, and a part behind it
-module _ {X : Type 0} where
-  pub behind_item : (old mid new more : List X) (x y : X) → mid ≡ old ++ x ∷ [] → x ≡ y → new ≡ mid ++ more → new ≡ old ++ (y ∷ more)
-  behind_item old mid new more x y push is part =
-      part ∙ ap (λ xs. xs ++ more) push ∙ append_assoc old (x ∷ []) more ∙ ap (λ (z : X). old ++ (z ∷ more)) is
-
-pub on_ok : {A E : Type 0} (r : Result A E) (P Q : Type 0) → (P → Q) → OnOk r P → OnOk r Q
-on_ok (Ok a) P Q f p = f p
-on_ok (Err e) P Q f p = tt
+pub next_taken : {X : Type 0} (xs now new : List X) (i : ℕ) (x : X) → now ≡ take i xs → slice_get xs i ≡ Some x → new ≡ now ++ x ∷ [] → new ≡ take (i + 1) xs
+next_taken xs now new i x before is push = push ∙ ap (λ ys. ys ++ x ∷ []) before ∙ sym (take_next xs i x is)

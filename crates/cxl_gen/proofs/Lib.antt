@@ -4,3 +4,4 @@ pub mod Places
 pub mod Trees
 pub mod Numbered
 pub mod RangedCommands
+pub mod Order

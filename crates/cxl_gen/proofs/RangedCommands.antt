@@ -1,10 +1,9 @@
 -- What the commands of generated systems ask for is ranged.
-use Rattle.std.proofs.Common.{◌≡◌, ℕ, ◌+◌, ◌*◌, ◌/◌, ◌%◌, ◌^◌, ◌<◌, ◌≤◌, suc, zero, List, [], ◌∷◌, ◌++◌, refl, arith}
+use Rattle.std.proofs.Common.{ℕ, ◌+◌, ◌/◌, ◌%◌, ◌^◌, ◌<◌, suc, zero, List, arith}
 use Rattle.std.specs.Prelude.{map, All}
 use Rattle.std.specs.List.{range_with_len, flat_map}
 use Rattle.std.proofs.lemmas.List.Elements.{All-nil, All-cons, All-append}
 use Rattle.cxl_script.specs.Grammar.{IsRanged}
-use Rattle.cxl_script.specs.declared.command.Command.{Command}
 use Rattle.cxl_gen.specs.Made.{eight_bytes, made_create, made_store, made_load, made_stores, made_loads, made_region, made_commands}
 
 module _ {X : Type 0} (P : X → Type 0) (f : ℕ → X) (each : (i : ℕ) → P (f i)) where

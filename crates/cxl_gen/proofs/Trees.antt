@@ -1,18 +1,17 @@
 -- The topology of a generated system is a legal tree.
-use Rattle.std.proofs.Common.{◌≡◌, ℕ, ◌+◌, ◌*◌, ◌/◌, ◌%◌, ◌^◌, ◌<◌, ◌≤◌, Bool, true, false, not, List, [], ◌∷◌, ◌++◌, length, drop, get_or, cond, Option, Some, None, Result, Ok, Err, refl, sym, ap, ◌∙◌, subst, arith}
+use Rattle.std.proofs.Common.{◌≡◌, ℕ, ◌+◌, ◌*◌, ◌/◌, ◌%◌, ◌<◌, ◌≤◌, Bool, true, false, not, List, ◌++◌, length, drop, get_or, cond, Option, Some, None, Result, Ok, Err, refl, sym, ap, ◌∙◌, subst, arith}
 use Rattle.std.specs.Prelude.{map, decimal, codes, count_by, slice_get, option_map, IsTrue}
 use Rattle.std.specs.List.{range_with_len}
 use Rattle.std.specs.Option.{option_and_then, option_map_or}
 use Rattle.std.proofs.lemmas.List.Sums.{sum_by-append}
 use Rattle.std.proofs.lemmas.Option.{slice_get-get_or}
 use Rattle.cxl_enc.specs.Caps.{is_legal_cap}
-use Rattle.cxl_enc.specs.Limits.{node_limit, bridge_limit, placeholder_cap}
 use Rattle.cxl_io.specs.Numbers.{number_of}
 use Rattle.cxl_io.specs.declared.number.NumFault.{NumFault}
 use Rattle.cxl_io.proofs.ReadBack.{number_of-decimal}
-use Rattle.cxl_topo.specs.Faults.{IsTree, IsUnder, is_capacity, switches_above}
+use Rattle.cxl_topo.specs.Faults.{IsTree, IsUnder, is_capacity}
 use Rattle.cxl_topo.specs.Kinds.{is_bridge, is_switch, is_endpoint, uid_of, capacity_of}
-use Rattle.cxl_topo.specs.Tree.{holds_at, is_bridge_at, is_switch_at, is_port_at, forwards_at, parent_of, name_at, uid_at}
+use Rattle.cxl_topo.specs.Tree.{is_bridge_at, is_switch_at, forwards_at, parent_of, name_at, uid_at}
 use Rattle.cxl_topo.specs.declared.node.Capacity.{Capacity}
 use Rattle.cxl_topo.specs.declared.node.Node.{Node}
 use Rattle.cxl_topo.specs.declared.node.Parent.{Parent}

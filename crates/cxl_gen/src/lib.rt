@@ -9,9 +9,12 @@ mod names;
 mod table;
 mod tree;
 
+pub use commands::{command_count, made_command};
 pub use cxl_cedt::{Cedt, FixedList};
 pub use cxl_enc::Memory;
 pub use cxl_script::Command;
 pub use cxl_topo::Topo;
 pub use laws::made_systems_are_sound;
 pub use making::{Made, make};
+pub use table::made_table;
+pub use tree::made_tree;

@@ -2,8 +2,8 @@ ghost use Rattle.std.specs.Prelude.{◌≡◌, ◌≤◌, IfOk};
 ghost use Rattle.cxl_gen.specs.Made.{made_table, made_tree, made_commands};
 
 use crate::commands::commands_of;
-use crate::table::table_of;
-use crate::tree::topo_of;
+use crate::table::made_table;
+use crate::tree::made_tree;
 use cxl_cedt::Cedt;
 use cxl_enc::{FixedList, Memory};
 use cxl_script::Command;
@@ -27,8 +27,8 @@ pub fn make(alloc: Global, n: u32) -> Result<Made, Memory>
     ensures tree { IfOk result (λ made. made.topo ≡ made_tree n) }
     ensures commands { IfOk result (λ made. made.commands ≡ made_commands n) }
 {
-    let cedt = table_of(alloc, n)?;
-    let topo = topo_of(alloc, n)?;
+    let cedt = made_table(alloc, n)?;
+    let topo = made_tree(alloc, n)?;
     let commands = FixedList::new(commands_of(alloc, n)?);
     Ok(Made {
         cedt,

@@ -8,7 +8,7 @@ use itoa::Buffer;
 use std::alloc::Global;
 
 /// The name of these bytes and a number in decimal digits.
-pub(crate) fn numbered(alloc: Global, front: &[u8], i: u32) -> Result<Name, Memory>
+pub(crate) fn made_name(alloc: Global, front: &[u8], i: u32) -> Result<Name, Memory>
     requires front { IsFront front.now }
     requires few { i < 1000 }
     ensures { IfOk result (λ name. name ≡ front.now ++ decimal i) }

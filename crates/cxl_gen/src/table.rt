@@ -8,8 +8,8 @@ use cxl_cedt::{Cedt, Cfmws, Chbs, Cxims, Head, Record};
 use cxl_enc::Memory;
 use std::alloc::Global;
 
-/// The table of a number: two bridges and a window for each, and three maps.
-pub(crate) fn table_of(alloc: Global, n: u32) -> Result<Cedt, Memory>
+/// The table of a number: so many windows, two bridges for each, and three maps. (This project's rule.) Takes memory.
+pub fn made_table(alloc: Global, n: u32) -> Result<Cedt, Memory>
     requires { n ≤ 32 }
     ensures { IfOk result (λ cedt. cedt ≡ made_table n) }
 {

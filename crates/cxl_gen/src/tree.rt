@@ -4,7 +4,7 @@ ghost use Rattle.std.specs.Prelude.{◌≡◌, ◌*◌, ◌<◌, ◌≤◌, ◌+
 ghost use Rattle.std.specs.List.{range_with_len};
 ghost use Rattle.cxl_gen.specs.Made.{made_bridge, made_endpoint, made_tree};
 
-use crate::names::numbered;
+use crate::names::made_name;
 use cxl_enc::{Caps, Memory, cap_word};
 use cxl_topo::{Capacity, Node, NodeKind, Parent, Topo};
 use std::alloc::Global;
@@ -12,8 +12,8 @@ use std::alloc::Global;
 /// The frames of a topology that states none.
 const FRAMES: u32 = 65_536;
 
-/// The topology of a number: two bridges and four endpoints for each window.
-pub(crate) fn topo_of(alloc: Global, n: u32) -> Result<Topo, Memory>
+/// The topology of a number: two bridges and four endpoints for each window of its table. (This project's rule.) Takes memory.
+pub fn made_tree(alloc: Global, n: u32) -> Result<Topo, Memory>
     requires { n ≤ 32 }
     ensures { IfOk result (λ topo. topo ≡ made_tree n) }
 {
@@ -49,7 +49,7 @@ fn made_bridge(alloc: Global, i: u32) -> Result<Node, Memory>
         ways16: false,
     };
     Ok(Node {
-        name: numbered(alloc, b"hb", i)?,
+        name: made_name(alloc, b"hb", i)?,
         kind: NodeKind::Bridge(i),
         parent: None,
         cap: cap_word(&caps),
@@ -88,7 +88,7 @@ fn made_endpoint(alloc: Global, i: u32) -> Result<Node, Memory>
         port: (i % 2) as u8,
     };
     Ok(Node {
-        name: numbered(alloc, b"e", i)?,
+        name: made_name(alloc, b"e", i)?,
         kind: NodeKind::Endpoint(capacity),
         parent: Some(parent),
         cap: cap_word(&caps),

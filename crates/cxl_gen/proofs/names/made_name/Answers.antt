@@ -1,7 +1,7 @@
-use Rattle.std.proofs.Common.{◌≡◌, ◌++◌, ap, ◌∙◌, true, false, arith}
+use Rattle.std.proofs.Common.{◌≡◌, ◌++◌, ap, ◌∙◌, true, false}
 use Rattle.std.specs.Prelude.{decimal}
 use Rattle.cxl_gen.proofs.Numbered.{numbered_named}
-use Rattle.cxl_gen.proofs.names.numbered.Goals as goal
+use Rattle.cxl_gen.proofs.names.made_name.Goals as goal
 
 pub unreachable-requires : goal.unreachable-requires
 unreachable-requires c =
