@@ -1,5 +1,5 @@
 -- What one line comes to: it is answered, or cut short, or left.
-use Rattle.std.proofs.Common.{◌≡◌, ◌≢◌, ℕ, ◌≤◌, false, Result, Ok, Err, List, [], ◌∷◌, refl, sym, ap, subst, ◌∙◌, arith}
+use Rattle.std.proofs.Common.{◌≡◌, ◌≢◌, ◌≤◌, false, Result, Ok, Err, List, [], ◌∷◌, refl, sym, ap, subst, ◌∙◌, arith}
 use Rattle.std.specs.Prelude.{OnOk}
 use Rattle.cxl_enc.specs.Faults.{Rose, LeavesCount}
 use Rattle.cxl_bus.specs.RegsState.{RegsState, IsUntouched}
@@ -15,7 +15,6 @@ use Rattle.cxl_reply.specs.Replies.{reply_text, has_short_text}
 use Rattle.cxl_machine.specs.Machine.{Machine}
 use Rattle.cxl_machine.specs.Scripts.{Asked, Turn, TakesTurn}
 use Rattle.cxl_machine.specs.Sound.{IsSound}
-use Rattle.cxl_machine.specs.Turns.{text_of}
 use Rattle.cxl_machine.proofs.Leaving.{quiet_turn}
 use Rattle.cxl_machine.proofs.WritingNothing.{quiet_words}
 use Rattle.cxl_session.specs.State.{SessionState}

@@ -1,5 +1,5 @@
 -- Commands that were carried out and counted so far, and one more.
-use Rattle.std.proofs.Common.{◌≡◌, ℕ, ◌+◌, ◌<◌, ◌≤◌, Bool, true, false, Result, Ok, Err, List, [], ◌∷◌, ◌++◌, length, get_or, take, refl, sym, ap, subst, ◌∙◌, arith, if◌then◌else◌}
+use Rattle.std.proofs.Common.{◌≡◌, ℕ, ◌+◌, Bool, true, false, Result, Ok, Err, List, [], ◌∷◌, ◌++◌, take, refl, sym, ap, subst, ◌∙◌, arith, if◌then◌else◌}
 use Rattle.std.specs.Prelude.{map, sum_by, count_by, OnErr}
 use Rattle.std.proofs.lemmas.List.{map-append}
 use Rattle.std.proofs.lemmas.List.Sums.{sum_by-append}
@@ -7,15 +7,13 @@ use Rattle.cxl_bus.specs.RegsState.{RegsState}
 use Rattle.cxl_media.specs.MediaState.{MediaState}
 use Rattle.cxl_script.specs.declared.command.Command.{Command}
 use Rattle.cxl_reply.specs.declared.reply.Reply.{Reply}
-use Rattle.cxl_machine.specs.Machine.{Machine}
 use Rattle.cxl_machine.specs.Scripts.{Asked, Turn}
 use Rattle.cxl_machine.specs.Turns.{machine_after}
 use Rattle.cxl_session.specs.State.{SessionState}
-use Rattle.cxl_session.specs.Standing.{IsAt, Stands, ForEachMachine}
+use Rattle.cxl_session.specs.Standing.{Stands, ForEachMachine}
 use Rattle.cxl_turns.specs.declared.counts.Counts.{Counts}
-use Rattle.cxl_turns.specs.Counts.{is_created, is_stored, is_loaded, is_unmapped_reply, loaded_sum, counts_of}
+use Rattle.cxl_turns.specs.Counts.{is_created, is_stored, is_loaded, is_unmapped_reply, loaded_sum, counts_of, one_if, counted}
 use Rattle.cxl_turns.specs.Going.{HasGoneOn}
-use Rattle.cxl_turns.specs.inner.Counted.{one_if, counted}
 use Rattle.cxl_turns.proofs.Going.{gone_same, gone_still, gone_both}
 
 -- ---- replies

@@ -1,13 +1,13 @@
 -- Which lines stand first in a script: those that a reader has passed on.
-use Rattle.std.proofs.Common.{◌≡◌, ◌≢◌, ℕ, suc, ◌+◌, ◌-◌, ◌<◌, ◌≤◌, ◌⊎◌, Option, None, Some, IfSome, List, [], ◌∷◌, ◌++◌, length, take, drop, refl, sym, ap, subst, ◌∙◌, inl, inr, arith, append_assoc, length-append, if◌then◌else◌}
+use Rattle.std.proofs.Common.{◌≡◌, ℕ, suc, ◌+◌, ◌-◌, ◌<◌, ◌≤◌, ◌⊎◌, Option, None, Some, IfSome, List, [], ◌∷◌, ◌++◌, length, take, drop, refl, sym, ap, subst, ◌∙◌, inl, inr, arith, append_assoc, length-append, if◌then◌else◌}
 use Rattle.std.specs.Prelude.{is_none}
 use Rattle.std.proofs.lemmas.List.{append-nil, take-append-drop, length-take}
 use Rattle.cxl_enc.specs.Faults.{Rose}
-use Rattle.cxl_io.specs.Lines.{HasPassed, lines_of, ended_lines}
-use Rattle.cxl_io.specs.Reader.{Reader, script_limit, IsNext, ended, last, at_end, fails, too_much, stopped, HasStopped, IsGoingOn, HasRead, goes_on, has_stopped}
-use Rattle.cxl_io.specs.Source.{SourceState, GivesFront}
+use Rattle.cxl_io.specs.Lines.{HasPassed, lines_of}
+use Rattle.cxl_io.specs.Reader.{Reader, script_limit, IsNext, ended, last, at_end, fails, too_much, stopped, HasStopped, HasRead, goes_on, has_stopped}
+use Rattle.cxl_io.specs.Source.{SourceState}
 use Rattle.cxl_io.specs.declared.line_reader.Taken.{Taken}
-use Rattle.cxl_io.specs.declared.line_reader.Taken.TheVariants.{Line, Long, End, Fault, TooMuch}
+use Rattle.cxl_io.specs.declared.line_reader.Taken.TheVariants.{Line, Long, End, Fault}
 use Rattle.cxl_io.proofs.Reading.{GivesFront-same}
 use Rattle.cxl_turns.specs.Endings.{AreFirstLines}
 

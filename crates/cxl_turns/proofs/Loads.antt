@@ -1,5 +1,5 @@
 -- A reply gives no more bytes than its line asked for.
-use Rattle.std.proofs.Common.{◌≡◌, ℕ, ◌+◌, ◌-◌, ◌≤◌, Bool, true, false, not, if◌then◌else◌, List, [], ◌∷◌, length, Result, Ok, Err, Option, Some, None, refl, sym, subst, ◌∙◌, arith}
+use Rattle.std.proofs.Common.{◌≡◌, ℕ, ◌+◌, ◌≤◌, Bool, true, false, not, if◌then◌else◌, List, [], ◌∷◌, length, Result, Ok, Err, Option, Some, None, refl, sym, subst, arith}
 use Rattle.std.specs.Prelude.{◌==◌, nat_lt, nat_le, find, is_none, option_map, option_and_then}
 use Rattle.std.specs.Option.{option_map_or}
 use Rattle.std.specs.Str.{bytes_eq}
@@ -12,7 +12,6 @@ use Rattle.cxl_model.specs.declared.found.Found.{Found}
 use Rattle.cxl_model.specs.declared.plan.Plan.{Plan}
 use Rattle.cxl_model.specs.declared.plan.PlanFault.{PlanFault}
 use Rattle.cxl_model.specs.declared.plan.Row.{Row}
-use Rattle.cxl_model.specs.declared.request.Request.{Request}
 use Rattle.cxl_apply.specs.Releases.{first_locked, first_not_last}
 use Rattle.cxl_script.specs.declared.command.Command.{Command}
 use Rattle.cxl_script.specs.declared.command.Command.TheVariants as commands
@@ -25,13 +24,13 @@ use Rattle.cxl_script.specs.Grammar.{IsRanged, access_limit}
 use Rattle.cxl_reply.specs.declared.reply.Reply.{Reply}
 use Rattle.cxl_reply.specs.declared.reply.Reply.TheVariants as replies
 use Rattle.cxl_request.specs.Endpoints.{first_unknown}
-use Rattle.cxl_request.specs.Requests.{request_for, request_by_name, want_of, pick_reply, plan_or_refusal, plan_over, plan_unless_unknown, plan_over_pick, plan_of_line}
+use Rattle.cxl_request.specs.Requests.{request_for, request_by_name, want_of, pick_reply, plan_or_refusal, plan_unless_unknown, plan_over_pick, plan_of_line}
 use Rattle.cxl_plan.specs.Planned.{planned}
 use Rattle.cxl_pick.specs.Picked.{picked}
 use Rattle.cxl_machine.specs.Machine.{Live, RegionJob, JobKind, Creates, Releases, Machine, region_limit, live_at, live_named, free_frames}
 use Rattle.cxl_model.specs.Contents.{content_at}
 use Rattle.cxl_machine.specs.Bytes.{bytes_at}
-use Rattle.cxl_machine.specs.Jobs.{total_of, begun, create_job}
+use Rattle.cxl_machine.specs.Jobs.{total_of}
 use Rattle.cxl_machine.specs.Outcomes.{BusOutcome, NoFault, Undone, LeftPending, ReadFailed}
 use Rattle.cxl_machine.specs.Replies.{Answer, within_region, ends_within, endpoint_named}
 use Rattle.cxl_machine.specs.Accesses.{offset_in, store_into, frames_wanted, AnswersUp, TellsHost, no_endpoint, told, carried, unmapped}
@@ -42,7 +41,7 @@ use Rattle.cxl_machine.specs.Requests.{busy, name_taken, regions_full, no_region
 use Rattle.cxl_machine.specs.Regions.{CarriesOutWhole, AnswersWhole, begin_answer, ended_reply, ended_answer, stepped_answer, Steps, Aborts, OfPending}
 use Rattle.cxl_machine.specs.Copies.{for_two, copy_between, frames_for, pieces_of}
 use Rattle.cxl_machine.specs.Answers.{Answers}
-use Rattle.cxl_machine.specs.Scripts.{Asked, Turn, answer_of, TakesTurn}
+use Rattle.cxl_machine.specs.Scripts.{Turn, answer_of, TakesTurn}
 use Rattle.cxl_turns.specs.inner.Counted.{LoadsFew}
 
 module _ (m : Machine) where

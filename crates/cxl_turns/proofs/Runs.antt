@@ -1,5 +1,5 @@
 -- The lines of a script that were carried out so far, one more of them, and how they end.
-use Rattle.std.proofs.Common.{◌≡◌, ◌≢◌, ℕ, ◌+◌, ◌<◌, ◌≤◌, ◌⊎◌, true, Result, Ok, Err, List, [], ◌∷◌, ◌++◌, length, take, refl, sym, ap, subst, ◌∙◌, inl, inr, arith, if◌then◌else◌}
+use Rattle.std.proofs.Common.{◌≡◌, ◌≢◌, ℕ, ◌<◌, ◌≤◌, ◌⊎◌, Result, Ok, Err, List, [], ◌∷◌, ◌++◌, length, take, refl, sym, ap, subst, ◌∙◌, inl, inr, arith, if◌then◌else◌}
 use Rattle.std.specs.Prelude.{OnOk}
 use Rattle.std.proofs.lemmas.Bool.{lt-ltb}
 use Rattle.std.proofs.lemmas.List.{append-nil}
@@ -8,11 +8,10 @@ use Rattle.cxl_bus.specs.RegsState.{RegsState}
 use Rattle.cxl_io.specs.Reader.{Reader, line_limit, fresh_reader, IsNext, HasStopped, HasRead}
 use Rattle.cxl_io.specs.Sink.{SinkState, Takes, TakesPrefix}
 use Rattle.cxl_io.specs.Source.{SourceState}
-use Rattle.cxl_io.specs.Told.{told_with}
 use Rattle.cxl_io.specs.declared.line_reader.Taken.{Taken}
 use Rattle.cxl_io.specs.declared.line_reader.Taken.TheVariants as readers
 use Rattle.cxl_io.proofs.HasRead.{read-begin, read-line, read-long, read-stop}
-use Rattle.cxl_io.proofs.Writes.{told_with-told_with, Takes-append}
+use Rattle.cxl_io.proofs.Writes.{Takes-append}
 use Rattle.cxl_media.specs.MediaState.{MediaState}
 use Rattle.cxl_script.specs.declared.fault.BadLine.{BadLine}
 use Rattle.cxl_script.specs.declared.fault.Why.TheVariants as whys
@@ -27,13 +26,13 @@ use Rattle.cxl_machine.specs.Scripts.{Asked, Turn, asked_before, lines_asked}
 use Rattle.cxl_machine.specs.Turns.{AreTurns, machine_after, text_of}
 use Rattle.cxl_machine.proofs.GoingOn.{lines_more}
 use Rattle.cxl_session.specs.State.{SessionState}
-use Rattle.cxl_session.specs.Standing.{IsAt, Stands, ForEachMachine}
+use Rattle.cxl_session.specs.Standing.{ForEachMachine}
 use Rattle.cxl_turns.specs.declared.endings.Ending.{Ending}
 use Rattle.cxl_turns.specs.declared.endings.Ending.TheVariants as endings
 use Rattle.cxl_turns.specs.declared.stops.Stop.{Stop}
 use Rattle.cxl_turns.specs.declared.stops.Stop.TheVariants as stops
 use Rattle.cxl_turns.specs.Going.{HasGoneOn}
-use Rattle.cxl_turns.specs.Endings.{AreFirstLines, StopsReading, IsCutBehind, EndsLines, read_out, reply_cut, runs_out}
+use Rattle.cxl_turns.specs.Endings.{StopsReading, IsCutBehind, EndsLines, read_out, reply_cut, runs_out}
 use Rattle.cxl_turns.specs.inner.Carried.{IsAnswered, IsCutOff, IsLeft}
 use Rattle.cxl_turns.proofs.FirstLines.{GoesOnOrEnds, first_lines, first_but_last, no_first_lines, goes_on_or_ends, fault_rose}
 use Rattle.cxl_turns.proofs.Going.{nodes_after, text_both, gone_same, gone_still, gone_both}

@@ -1,5 +1,5 @@
 -- Replies of a kind, counted, and the bytes that were loaded, added up (this project's rule).
-use Rattle.std.specs.Prelude.{ℕ, Bool, true, false, List, sum, sum_by, count_by}
+use Rattle.std.specs.Prelude.{ℕ, ◌+◌, ◌*◌, ◌≤◌, Bool, true, false, List, sum, sum_by, count_by}
 use Rattle.cxl_reply.specs.declared.reply.Reply.{Reply}
 use Rattle.cxl_reply.specs.declared.reply.Reply.TheVariants as replies
 use Rattle.cxl_turns.specs.declared.counts.Counts.{Counts}
@@ -34,3 +34,25 @@ counts_of replies = record {
   unmapped = count_by is_unmapped_reply replies;
   sum = sum_by loaded_sum replies;
 }
+
+abbrev pub one_if : Bool → ℕ
+one_if true = 1
+one_if false = 0
+
+-- the counts with one reply more
+abbrev pub counted : Counts → Reply → Counts
+counted counts reply = record {
+  regions = counts.regions + one_if (is_created reply);
+  stores = counts.stores + one_if (is_stored reply);
+  loads = counts.loads + one_if (is_loaded reply);
+  unmapped = counts.unmapped + one_if (is_unmapped_reply reply);
+  sum = counts.sum + loaded_sum reply;
+}
+
+-- the counts of so many replies at the most: each loads at most 256 bytes, of at most 255
+pub record AreWithin (counts : Counts) (n : ℕ) : Type 0 where
+  pub regions : counts.regions ≤ n
+  pub stores : counts.stores ≤ n
+  pub loads : counts.loads ≤ n
+  pub unmapped : counts.unmapped ≤ n
+  pub sum : counts.sum ≤ 65280 * n

@@ -4,11 +4,10 @@ ghost use Rattle.std.specs.Prelude.{◌≡◌, ℕ, ◌+◌, ◌-◌, ◌^◌, �
 ghost use Rattle.cxl_script.specs.Grammar.{IsRanged};
 ghost use Rattle.cxl_machine.specs.Scripts.{Turn};
 ghost use Rattle.cxl_session.specs.Standing.{Stands, ForEachMachine};
-ghost use Rattle.cxl_turns.specs.Counts.{counts_of};
+ghost use Rattle.cxl_turns.specs.Counts.{counts_of, counted, AreWithin};
 ghost use Rattle.cxl_turns.specs.Going.{HasGoneOn};
-ghost use Rattle.cxl_turns.specs.inner.Counted.{counted, AreWithin};
 
-use crate::counts::{Counts, NONE, count};
+use crate::counts::{Counts, count};
 use cxl_bus::Regs;
 use cxl_enc::Memory;
 use cxl_media::Roll;
@@ -40,15 +39,16 @@ pub fn carry_out_commands<R: Regs, M: Roll>(
         session.new (R.state regs.old) (R.state regs.new) (M.state media.new))) }
     ensures bus { (R.state regs.old).faults ≤ (R.state regs.new).faults }
 {
-    let mut counts = NONE;
+    let mut counts = Counts::none();
     for command in commands {
         carry_out_counted(alloc, session, command, &mut counts, regs, media)?;
     }
     Ok(counts)
 }
 
-/// Carries out a command, and counts what it is answered.
-fn carry_out_counted<R: Regs, M: Roll>(
+/// Carries out a command, and counts what it is answered, with the counts of those before it. Registers and media hold what the
+/// last call on this session left in them. After `Memory` they are as they were. (This project's rule.) Takes memory.
+pub fn carry_out_counted<R: Regs, M: Roll>(
     alloc: Global,
     session: &mut Session,
     command: &Command,
@@ -58,11 +58,15 @@ fn carry_out_counted<R: Regs, M: Roll>(
 ) -> Result<(), Memory>
     requires stands { Stands session.old (R.state regs.old) (M.state media.old) }
     requires ranged { IsRanged command.now }
+    // One more can be counted.
     requires few { (n : ℕ) × (n < 2 ^ 32 - 1) × AreWithin counts.old n }
+    // It is answered, and this is counted.
     ensures taken { OnOk result (ForEachMachine session.old (R.state regs.old) (M.state media.old) (λ m. (turn : Turn)
         × HasGoneOn m (Ok command.now ∷ []) (turn ∷ []) session.new (R.state regs.old) (R.state regs.new) (M.state media.new)
         × (counts.new ≡ counted counts.old turn.reply))) }
+    // So one more can be counted as long as they are fewer than that.
     ensures within { OnOk result ((n : ℕ) → AreWithin counts.old n → AreWithin counts.new (n + 1)) }
+    // Or it met want of memory.
     ensures left { OnErr result (ForEachMachine session.old (R.state regs.old) (M.state media.old) (λ m.
         HasGoneOn m [] [] session.new (R.state regs.old) (R.state regs.new) (M.state media.new))) }
     ensures bus { (R.state regs.old).faults ≤ (R.state regs.new).faults }

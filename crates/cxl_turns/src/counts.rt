@@ -1,6 +1,7 @@
 ghost use Rattle.std.specs.Prelude.{◌≡◌, ℕ, ◌+◌, ◌*◌, ◌-◌, ◌^◌, ◌<◌, ◌≤◌, length, sum};
 ghost use Rattle.cxl_script.specs.Grammar.{access_limit};
-ghost use Rattle.cxl_turns.specs.inner.Counted.{counted, LoadsFew, AreWithin};
+ghost use Rattle.cxl_turns.specs.Counts.{counted, AreWithin};
+ghost use Rattle.cxl_turns.specs.inner.Counted.{LoadsFew};
 
 use cxl_reply::Reply;
 
@@ -19,14 +20,24 @@ pub struct Counts {
     pub sum: u64,
 }
 
-/// Of no reply.
-pub(crate) const NONE: Counts = Counts {
-    regions: 0,
-    stores: 0,
-    loads: 0,
-    unmapped: 0,
-    sum: 0,
-};
+impl Counts {
+    ghost use Rattle.std.specs.Prelude.{◌≡◌, []};
+    ghost use Rattle.cxl_turns.specs.Counts.{counts_of, AreWithin};
+
+    /// Of no reply.
+    pub fn none() -> Counts
+        ensures counts { result ≡ counts_of [] }
+        ensures within { AreWithin result 0 }
+    {
+        Counts {
+            regions: 0,
+            stores: 0,
+            loads: 0,
+            unmapped: 0,
+            sum: 0,
+        }
+    }
+}
 
 /// Counts one reply more.
 pub(crate) fn count(counts: &mut Counts, reply: &Reply)

@@ -9,7 +9,7 @@ mod lines;
 mod replies;
 mod stops;
 
-pub use commands::carry_out_commands;
+pub use commands::{carry_out_commands, carry_out_counted};
 pub use counts::Counts;
 pub use cxl_enc::Memory;
 pub use endings::Ending;

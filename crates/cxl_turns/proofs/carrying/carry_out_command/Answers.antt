@@ -1,6 +1,5 @@
-use Rattle.std.proofs.Common.{◌≡◌, Ok, sym, ap, ◌∙◌}
+use Rattle.std.proofs.Common.{Ok, sym, ap, ◌∙◌}
 use Rattle.cxl_topo.specs.Tree.{Tree}
-use Rattle.cxl_session.specs.Standing.{IsAt}
 use Rattle.cxl_turns.proofs.Carried.{on_ok, answered_one, cut_one, left_one}
 use Rattle.cxl_turns.proofs.carrying.carry_out_command.Goals as goal
 

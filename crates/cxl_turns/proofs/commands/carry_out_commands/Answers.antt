@@ -1,6 +1,6 @@
-use Rattle.std.proofs.Common.{◌++◌, ◌∷◌, [], take, sym, ap, ◌∙◌, refl, arith}
+use Rattle.std.proofs.Common.{◌++◌, ◌∷◌, [], take, sym, ap, ◌∙◌, arith}
 use Rattle.std.proofs.lemmas.List.{take_more}
-use Rattle.cxl_turns.proofs.Counting.{none_counted, one_counted, left_counted, all_counted, stands_there, on_err}
+use Rattle.cxl_turns.proofs.Counting.{one_counted, left_counted, stands_there, on_err}
 use Rattle.cxl_turns.proofs.commands.carry_out_commands.Goals as goal
 
 pub carry_out_counted-requires-clause-stands : goal.carry_out_counted-requires-clause-stands

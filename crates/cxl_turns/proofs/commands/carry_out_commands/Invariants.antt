@@ -1,5 +1,5 @@
 use Rattle.std.proofs.Common.{◌≤◌}
-use Rattle.cxl_turns.specs.inner.Counted.{AreWithin}
+use Rattle.cxl_turns.specs.Counts.{AreWithin}
 use Rattle.cxl_turns.proofs.Counting.{AreCounted}
 use Rattle.cxl_turns.proofs.commands.carry_out_commands.Given as goal
 

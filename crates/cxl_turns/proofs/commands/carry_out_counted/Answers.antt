@@ -1,5 +1,6 @@
 use Rattle.std.proofs.Common.{Ok, sym, ap, subst, ◌∙◌}
-use Rattle.cxl_turns.specs.inner.Counted.{counted, LoadsFew}
+use Rattle.cxl_turns.specs.Counts.{counted}
+use Rattle.cxl_turns.specs.inner.Counted.{LoadsFew}
 use Rattle.cxl_turns.proofs.Going.{gone_one}
 use Rattle.cxl_turns.proofs.Loads.{loads_few}
 use Rattle.cxl_turns.proofs.commands.carry_out_counted.Goals as goal

@@ -1,8 +1,8 @@
-use Rattle.std.proofs.Common.{◌≡◌, ◌<◌, Ok, Err, [], ◌∷◌, refl, ap, ◌∙◌, inl, inr, arith, Result}
+use Rattle.std.proofs.Common.{◌<◌, Err, refl, ap, ◌∙◌, inl, inr, arith}
 use Rattle.cxl_io.specs.declared.line_reader.Taken.TheVariants as readers
 use Rattle.cxl_turns.specs.declared.stops.Stop.{Stop}
 use Rattle.cxl_turns.proofs.FirstLines.{still, falls}
-use Rattle.cxl_turns.proofs.Runs.{Stage, Took, Carries, took_one, on_ok_so, run_begins, none_run, reads_line, reads_long, long_fault, took_so, took_more, took_cut, took_left, run_done, run_fails, run_too_much}
+use Rattle.cxl_turns.proofs.Runs.{Stage, Took, took_one, on_ok_so, run_begins, none_run, reads_line, reads_long, took_so, took_more, took_cut, took_left, run_done, run_fails, run_too_much}
 use Rattle.cxl_turns.proofs.lines.carry_out_lines.Goals as goal
 use Rattle.cxl_turns.proofs.lines.carry_out_lines.Goals.{in-Line, in-Long}
 
