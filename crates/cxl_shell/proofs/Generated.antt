@@ -1,15 +1,15 @@
 -- How the commands of a generated system end: over an open session, and over its host.
-use Rattle.std.proofs.Common.{◌≡◌, ◌≢◌, ◌⊎◌, ℕ, zero, suc, ◌+◌, ◌*◌, ◌^◌, ◌<◌, ◌≤◌, Some, List, [], ◌∷◌, ◌++◌, map, take, length, Result, Ok, Err, refl, sym, ap, subst, ◌∙◌, arith}
+use Rattle.std.proofs.Common.{◌≡◌, ◌≢◌, ◌⊎◌, ℕ, ◌<◌, Some, List, [], ◌∷◌, map, take, length, Result, Ok, Err, refl, sym, ap, subst, ◌∙◌}
+use Rattle.std.specs.Prelude.{All, slice_get}
 use Rattle.std.proofs.Math.Seq.{take-length}
-use Rattle.std.proofs.lemmas.List.{length-append, take-map}
-use Rattle.std.proofs.lemmas.List.Concat.{flat_map-cons}
-use Rattle.std.proofs.lemmas.List.FromFn.{length-map-range_with_len}
-use Rattle.std.specs.List.{range_with_len, flat_map}
+use Rattle.std.proofs.lemmas.List.{take-map}
+use Rattle.std.proofs.lemmas.List.Elements.{All-get_or}
+use Rattle.std.proofs.lemmas.Option.{slice_get_within, get_or_from_slice_get}
 use Rattle.cxl_bus.specs.RegsState.{RegsState}
 use Rattle.cxl_cedt.specs.CedtFields.{CedtFields}
 use Rattle.cxl_check.specs.declared.fault.Breach.{Breach}
 use Rattle.cxl_enc.specs.Faults.{Rose}
-use Rattle.cxl_gen.specs.Made.{made_table, made_tree, made_store, made_load, made_region, made_loads, made_commands}
+use Rattle.cxl_gen.specs.Made.{made_table, made_tree, made_commands}
 use Rattle.cxl_image.specs.Images.{reset_blocks}
 use Rattle.cxl_io.specs.Fetch.{AsksFor}
 use Rattle.cxl_io.specs.Sink.{SinkState, Takes}
@@ -21,13 +21,16 @@ use Rattle.cxl_media.specs.MediaState.{MediaState}
 use Rattle.cxl_model.specs.Accepted.{IsAccepted}
 use Rattle.cxl_model.specs.System.{System, IsSystem, system_of, bridge_uids}
 use Rattle.cxl_regs.specs.Registers.{Registers}
+use Rattle.cxl_script.specs.Grammar.{IsRanged}
 use Rattle.cxl_script.specs.declared.command.Command.{Command}
 use Rattle.cxl_session.specs.Opening.{ArePoweredOn, IsHalfEnabled, HasRegions, empty_media}
-use Rattle.cxl_session.specs.Standing.{StandsFor}
+use Rattle.cxl_session.specs.Standing.{StandsFor, ForEachMachine}
 use Rattle.cxl_session.specs.State.{SessionState, image_in}
 use Rattle.cxl_topo.specs.Tree.{Tree}
 use Rattle.cxl_topo.specs.declared.node.Node.{Node}
 use Rattle.cxl_turns.specs.Going.{HasGoneOn}
+use Rattle.cxl_turns.specs.declared.counts.Counts.{Counts}
+use Rattle.cxl_turns.proofs.Counting.{AreCounted, left_counted}
 use Rattle.cxl_window.specs.Fields.{WindowFields}
 use Rattle.cxl_window.specs.Windows.{windows_of}
 use Rattle.cxl_shell.specs.Devices.{Devices}
@@ -48,30 +51,6 @@ use Rattle.cxl_commands.specs.inputs.ResetHost.{reset_host_of}
 use Rattle.cxl_shell.proofs.ResetHosts.{no_regions}
 use Rattle.cxl_shell.proofs.Scripts.{starts_session}
 
--- ---- how many commands there are
-
-module _ (f : ℕ → List Command) (k : ℕ) (each : (j : ℕ) → length (f j) ≡ k) where
-  length_of_all : (a n : ℕ) → length (flat_map f (range_with_len a n)) ≡ n * k
-  length_of_all a zero = omega arith
-  length_of_all a (suc n) =
-      let rest = length_of_all (a + 1) n in
-      let one = each a in
-      let joined = ap length (flat_map-cons f a (range_with_len (a + 1) n)) ∙ length-append (f a) (flat_map f (range_with_len (a + 1) n)) in
-      omega (arith, rest, one, joined)
-
-region_length : (j : ℕ) → length (made_region j) ≡ 1001
-region_length j = let stores = length-map-range_with_len (made_store j) 0 1000 in ap suc stores
-
-loads_length : (j : ℕ) → length (made_loads j) ≡ 1000
-loads_length j = length-map-range_with_len (made_load j) 0 1000
-
-pub few_commands : (n : ℕ) → n ≤ 32 → length (made_commands n) < 2 ^ 32
-few_commands n few =
-    let regions = length_of_all made_region 1001 region_length 0 n in
-    let loads = length_of_all made_loads 1000 loads_length 0 n in
-    let both = length-append (flat_map made_region (range_with_len 0 n)) (flat_map made_loads (range_with_len 0 n)) in
-    omega (arith, few, regions, loads, both)
-
 -- ---- over an open session
 
 -- its image is the machine's
@@ -81,30 +60,43 @@ image_is_present session m stands =
     ap (λ nodes. over nodes session.image session.windows) (sym stands.nodes) ∙ ap (λ blocks. over m.settled.nodes blocks session.windows) stands.image
     ∙ ap (λ windows. over m.settled.nodes (image_of m) windows) (sym stands.windows)
 
-module _ (n : ℕ) (commands : List Command) (these : commands ≡ made_commands n) (m : Machine) (turns : List Turn) (session : SessionState) (old new : RegsState) (media : MediaState) where
-  pub gone_all : HasGoneOn m (map (λ command. Ok command) commands) turns session old new media → HasGoneOn m (made_asked n) turns session old new media
-  gone_all gone = subst (λ cs. HasGoneOn m (map (λ command. Ok command) cs) turns session old new media) these gone
-
+module _ (n : ℕ) (m : Machine) (turns : List Turn) (session : SessionState) (old new : RegsState) (media : MediaState) where
   -- all of them are the first of them
-  pub gone_first_all : HasGoneOn m (map (λ command. Ok command) commands) turns session old new media → HasGoneOn m (take (length (made_asked n)) (made_asked n)) turns session old new media
-  gone_first_all gone = subst (λ asked. HasGoneOn m asked turns session old new media) (sym (take-length (made_asked n))) (gone_all gone)
+  pub gone_first_all : HasGoneOn m (made_asked n) turns session old new media → HasGoneOn m (take (length (made_asked n)) (made_asked n)) turns session old new media
+  gone_first_all gone = subst (λ asked. HasGoneOn m asked turns session old new media) (sym (take-length (made_asked n))) gone
 
-  pub gone_first : (count : ℕ) → HasGoneOn m (map (λ command. Ok command) (take count commands)) turns session old new media → HasGoneOn m (take count (made_asked n)) turns session old new media
-  gone_first count gone =
-      subst (λ asked. HasGoneOn m asked turns session old new media) (sym (take-map (λ command. Ok command) count (made_commands n)))
-      (subst (λ cs. HasGoneOn m (map (λ command. Ok command) (take count cs)) turns session old new media) these gone)
+  pub gone_first : (count : ℕ) → HasGoneOn m (map (λ command. Ok command) (take count (made_commands n))) turns session old new media → HasGoneOn m (take count (made_asked n)) turns session old new media
+  gone_first count gone = subst (λ asked. HasGoneOn m asked turns session old new media) (sym (take-map (λ command. Ok command) count (made_commands n))) gone
+
+-- the next of them, as a line could ask for it
+pub next_ranged : (n k : ℕ) (command : Command) → ((n : ℕ) → All IsRanged (made_commands n)) → slice_get (made_commands n) k ≡ Some command → IsRanged command
+next_ranged n k command ranged is =
+    subst IsRanged (get_or_from_slice_get (made_commands n) k command command is) (All-get_or IsRanged (made_commands n) k command (slice_get_within (made_commands n) k command is) (ranged n))
+
+-- memory ran out for the next one, or while it was carried out
+pub before_next : (n k : ℕ) (start session : SessionState) (old new : RegsState) (before media : MediaState) (counts : Counts)
+    → AreCounted k (made_commands n) start session old new before media counts
+    → ForEachMachine start old before (λ m. (count : ℕ) × (turns : List Turn) × HasGoneOn m (take count (made_asked n)) turns session old new media)
+before_next n k start session old new before media counts so_far m at =
+    let (turns, gone, is) = so_far.each m at in (k, turns, gone_first n m turns session old new media k gone)
+
+pub at_next : (n k : ℕ) (start mid session : SessionState) (old now new : RegsState) (before between media : MediaState) (counts : Counts)
+    → AreCounted k (made_commands n) start mid old now before between counts → ForEachMachine mid now between (λ m. HasGoneOn m [] [] session now new media)
+    → ForEachMachine start old before (λ m. (count : ℕ) × (turns : List Turn) × HasGoneOn m (take count (made_asked n)) turns session old new media)
+at_next n k start mid session old now new before between media counts so_far none m at =
+    let (count, turns, gone) = left_counted k (made_commands n) start mid session old now new before between media counts so_far none m at in
+    (count, turns, gone_first n m turns session old new media count gone)
 
 -- ---- its host
 
-module _ (n : ℕ) (table : CedtFields) (tree : Tree) (blocks : List Registers) (windows : List WindowFields) (commands : List Command) where
-  pub host-made : table ≡ made_table n → tree ≡ made_tree n → commands ≡ made_commands n → blocks ≡ reset_blocks tree.nodes → windows ≡ windows_of table.records (Some (bridge_uids tree.nodes)) → IsSystem (system_of blocks tree windows)
-      → ((t : Tree) (ws : List WindowFields) → IsSystem (system_of (reset_blocks t.nodes) t ws) → IsAccepted (system_of (reset_blocks t.nodes) t ws)) → IsMadeHost n (system_of blocks tree windows) tree commands
-  host-made of_table of_tree these reset judged system law = record {
+module _ (n : ℕ) (table : CedtFields) (tree : Tree) (blocks : List Registers) (windows : List WindowFields) where
+  pub host-made : table ≡ made_table n → tree ≡ made_tree n → blocks ≡ reset_blocks tree.nodes → windows ≡ windows_of table.records (Some (bridge_uids tree.nodes)) → IsSystem (system_of blocks tree windows)
+      → ((t : Tree) (ws : List WindowFields) → IsSystem (system_of (reset_blocks t.nodes) t ws) → IsAccepted (system_of (reset_blocks t.nodes) t ws)) → IsMadeHost n (system_of blocks tree windows) tree
+  host-made of_table of_tree reset judged system law = record {
     host_is =
         ap (λ bs. system_of bs tree windows) reset ∙ ap (λ ws. system_of (reset_blocks tree.nodes) tree ws) judged
         ∙ ap (λ t. reset_host_of t tree) of_table ∙ ap (λ t. reset_host_of (made_table n) t) of_tree;
     tree_is = of_tree;
-    commands_are = these;
     system = system;
     accepted = subst (λ bs. IsAccepted (system_of bs tree windows)) (sym reset) (law tree windows (subst (λ bs. IsSystem (system_of bs tree windows)) reset system));
   }

@@ -1,6 +1,6 @@
 -- How the commands of a generated system end over its host.
 use Rattle.std.specs.Prelude.{◌≡◌, ℕ, List}
-use Rattle.cxl_gen.specs.Made.{made_table, made_tree, made_commands}
+use Rattle.cxl_gen.specs.Made.{made_table, made_tree}
 use Rattle.cxl_io.specs.Sink.{SinkState}
 use Rattle.cxl_machine.specs.Machine.{Machine}
 use Rattle.cxl_machine.specs.Scripts.{Asked, Turn}
@@ -8,7 +8,6 @@ use Rattle.cxl_machine.specs.Sound.{IsMachine, Opens}
 use Rattle.cxl_machine.specs.Turns.{AreTurns, machine_after}
 use Rattle.cxl_model.specs.Accepted.{IsAccepted}
 use Rattle.cxl_model.specs.System.{System, IsSystem}
-use Rattle.cxl_script.specs.declared.command.Command.{Command}
 use Rattle.cxl_topo.specs.Tree.{Tree}
 use Rattle.cxl_shell.specs.Devices.{Devices}
 use Rattle.cxl_shell.specs.Endings.{HasCarriedOut, EndsGen}
@@ -20,11 +19,10 @@ use Rattle.cxl_commands.specs.inputs.ResetHost.{reset_host_of}
 abbrev pub made_host : ℕ → System
 made_host n = reset_host_of (made_table n) (made_tree n)
 
--- it is the host of the number after reset, over this tree, and these are the number's commands
-pub record IsMadeHost (n : ℕ) (s : System) (tree : Tree) (commands : List Command) : Type 0 where
+-- it is the host of the number after reset, over this tree
+pub record IsMadeHost (n : ℕ) (s : System) (tree : Tree) : Type 0 where
   pub host_is : s ≡ made_host n
   pub tree_is : tree ≡ made_tree n
-  pub commands_are : commands ≡ made_commands n
   pub system : IsSystem s
   pub accepted : IsAccepted s
 

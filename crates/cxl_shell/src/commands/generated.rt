@@ -1,5 +1,5 @@
-ghost use Rattle.std.specs.Prelude.{◌≡◌, ℕ, ◌≤◌, List, take, IfOk, OnErr};
-ghost use Rattle.cxl_gen.specs.Made.{made_tree, made_commands};
+ghost use Rattle.std.specs.Prelude.{◌≡◌, ℕ, ◌≤◌, List, take, map, IfOk, OnErr};
+ghost use Rattle.cxl_gen.specs.Made.{made_tree};
 ghost use Rattle.cxl_io.specs.Source.{SourceState};
 ghost use Rattle.cxl_machine.specs.Machine.{present};
 ghost use Rattle.cxl_machine.specs.Scripts.{Asked, Turn};
@@ -7,6 +7,7 @@ ghost use Rattle.cxl_machine.specs.Turns.{machine_after};
 ghost use Rattle.cxl_model.specs.System.{system_of, bridge_uids};
 ghost use Rattle.cxl_session.specs.Standing.{Stands, ForEachMachine};
 ghost use Rattle.cxl_session.specs.State.{image_in};
+ghost use Rattle.cxl_turns.specs.Counts.{counts_of};
 ghost use Rattle.cxl_turns.specs.Going.{HasGoneOn};
 ghost use Rattle.cxl_window.specs.Windows.{AreMadeWith};
 ghost use Rattle.cxl_shell.specs.Devices.{devices};
@@ -19,24 +20,15 @@ use crate::commands::script::unopened;
 use cxl_bus::Regs;
 use cxl_check::{CheckFault, check};
 use cxl_commands::{Host, Outcome, Status, finish};
-use cxl_enc::FixedList;
-use cxl_gen::{Made, made_systems_are_sound, make};
+use cxl_gen::{command_count, made_command, made_systems_are_sound, made_table, made_tree};
 use cxl_image::Image;
 use cxl_io::{Memory, Sink};
 use cxl_media::Roll;
 use cxl_model::{accepted_or_breach, reset_hosts_are_accepted};
-use cxl_script::Command;
 use cxl_session::Session;
-use cxl_turns::{Counts, carry_out_commands};
+use cxl_turns::{Counts, carry_out_counted};
 use cxl_window::windows;
 use std::alloc::Global;
-
-/// A generated host after reset, and the commands that are given to it.
-#[derive(Drop)]
-struct MadeHost {
-    host: Host,
-    commands: FixedList<Command>,
-}
 
 /// Carries out the commands of the generated system of a number, from reset on. It tells what is counted of the
 /// replies, and how many regions a check of the last image finds. It reads nothing.
@@ -56,65 +48,56 @@ pub(crate) fn generated<K: Sink, R: Regs, M: Roll>(
     ensures bus { (R.state regs.old).faults ≤ (R.state regs.new).faults }
 {
     match made_host(alloc, n) {
-        Ok(made) => over_host(alloc, n, made, out, regs, media),
+        Ok(host) => over_host(alloc, n, host, out, regs, media),
         Err(Memory) => Status::Memory,
     }
 }
 
-/// The host of a number after reset, with its commands.
-fn made_host(alloc: Global, n: u32) -> Result<MadeHost, Memory>
+/// The host of a number after reset.
+fn made_host(alloc: Global, n: u32) -> Result<Host, Memory>
     requires some { 1 ≤ n }
     requires few { n ≤ 32 }
-    ensures { IfOk result (λ made.
-        IsMadeHost n (system_of made.host.image made.host.topo made.host.windows.items) made.host.topo made.commands) }
+    ensures { IfOk result (λ host. IsMadeHost n (system_of host.image host.topo host.windows.items) host.topo) }
 {
     made_systems_are_sound();
     reset_hosts_are_accepted();
-    let Made {
-        cedt,
-        topo,
-        commands,
-    } = make(alloc, n)?;
+    let cedt = made_table(alloc, n)?;
+    let topo = made_tree(alloc, n)?;
     let image = Image::new(alloc, &topo)?;
     let windows = windows(alloc, &cedt, Some(topo.uids()))?;
     let _blocks = image.count();
-    let host = Host {
+    Ok(Host {
         topo,
         image,
         windows,
-    };
-    Ok(MadeHost { host, commands })
+    })
 }
 
-/// Carries out the commands over the host of the number.
+/// Carries out the commands of the number over its host.
 fn over_host<K: Sink, R: Regs, M: Roll>(
     alloc: Global,
     n: u32,
-    made: MadeHost,
+    host: Host,
     out: &mut K,
     regs: &mut R,
     media: &mut M,
 ) -> Status
     requires few { n ≤ 32 }
-    requires made { IsMadeHost n (system_of made.host.image made.host.topo made.host.windows.items) made.host.topo made.commands }
-    ensures ends { (script : SourceState) → EndsMade n
-        (system_of made.host.image made.host.topo made.host.windows.items) made.host.topo.frames
+    requires made { IsMadeHost n (system_of host.image host.topo host.windows.items) host.topo }
+    ensures ends { (script : SourceState) → EndsMade n (system_of host.image host.topo host.windows.items) host.topo.frames
         (devices script (R.state regs.old) (M.state media.old)) (devices script (R.state regs.new) (M.state media.new))
         (K.state out.old) (K.state out.new) result }
     ensures sink { (K.state out.old).faults ≤ (K.state out.new).faults }
     ensures bus { (R.state regs.old).faults ≤ (R.state regs.new).faults }
 {
-    accepted_or_breach();
-    let MadeHost { host, commands } = made;
     let Host {
         topo,
         image,
         windows,
     } = host;
+    accepted_or_breach();
     match Session::open(alloc, topo, windows, image, regs, media) {
-        Ok(mut session) => {
-            over_session(alloc, n, &mut session, commands.items(), out, regs, media)
-        }
+        Ok(mut session) => over_session(alloc, n, &mut session, out, regs, media),
         Err(fault) => finish(unopened(fault), out),
     }
 }
@@ -124,21 +107,19 @@ fn over_session<K: Sink, R: Regs, M: Roll>(
     alloc: Global,
     n: u32,
     session: &mut Session,
-    commands: &[Command],
     out: &mut K,
     regs: &mut R,
     media: &mut M,
 ) -> Status
     requires few { n ≤ 32 }
     requires stands { Stands session.old (R.state regs.old) (M.state media.old) }
-    requires commands { commands.now ≡ made_commands n }
     ensures ends { ForEachMachine session.old (R.state regs.old) (M.state media.old) (λ m. (asked : List Asked) × (turns : List Turn)
         × HasGoneOn m asked turns session.new (R.state regs.old) (R.state regs.new) (M.state media.new)
         × EndsGen n (machine_after m turns) asked turns (K.state out.old) (K.state out.new) result) }
     ensures sink { (K.state out.old).faults ≤ (K.state out.new).faults }
     ensures bus { (R.state regs.old).faults ≤ (R.state regs.new).faults }
 {
-    match carried_out(alloc, n, session, commands, regs, media) {
+    match carried_out(alloc, n, session, regs, media) {
         Ok(outcome) => finish(Ok(outcome), out),
         Err(Memory) => Status::Memory,
     }
@@ -149,13 +130,11 @@ fn carried_out<R: Regs, M: Roll>(
     alloc: Global,
     n: u32,
     session: &mut Session,
-    commands: &[Command],
     regs: &mut R,
     media: &mut M,
 ) -> Result<Outcome, Memory>
     requires few { n ≤ 32 }
     requires stands { Stands session.old (R.state regs.old) (M.state media.old) }
-    requires commands { commands.now ≡ made_commands n }
     // All of them are carried out, and the last image is checked.
     ensures all { IfOk result (λ outcome. ForEachMachine session.old (R.state regs.old) (M.state media.old) (λ m. (turns : List Turn)
         × HasGoneOn m (made_asked n) turns session.new (R.state regs.old) (R.state regs.new) (M.state media.new)
@@ -166,10 +145,37 @@ fn carried_out<R: Regs, M: Roll>(
         session.new (R.state regs.old) (R.state regs.new) (M.state media.new))) }
     ensures bus { (R.state regs.old).faults ≤ (R.state regs.new).faults }
 {
-    made_systems_are_sound();
-    let counts = carry_out_commands(alloc, session, commands, regs, media)?;
+    let counts = carry_out_made(alloc, n, session, regs, media)?;
     let checked = regions_found(alloc, session)?;
     told(alloc, n, counts, checked)
+}
+
+/// Carries out the commands of the number over an open session, each of them made when the one before it is done, and counts
+/// what they are answered.
+fn carry_out_made<R: Regs, M: Roll>(
+    alloc: Global,
+    n: u32,
+    session: &mut Session,
+    regs: &mut R,
+    media: &mut M,
+) -> Result<Counts, Memory>
+    requires few { n ≤ 32 }
+    requires stands { Stands session.old (R.state regs.old) (M.state media.old) }
+    ensures all { IfOk result (λ counts. ForEachMachine session.old (R.state regs.old) (M.state media.old) (λ m. (turns : List Turn)
+        × HasGoneOn m (made_asked n) turns session.new (R.state regs.old) (R.state regs.new) (M.state media.new)
+        × (counts ≡ counts_of (map (λ (turn : Turn). turn.reply) turns)))) }
+    ensures some { OnErr result (ForEachMachine session.old (R.state regs.old) (M.state media.old) (λ m. (count : ℕ) × (turns : List Turn)
+        × HasGoneOn m (take count (made_asked n)) turns
+        session.new (R.state regs.old) (R.state regs.new) (M.state media.new))) }
+    ensures bus { (R.state regs.old).faults ≤ (R.state regs.new).faults }
+{
+    made_systems_are_sound();
+    let mut counts = Counts::none();
+    for k in 0..command_count(n) {
+        let command = made_command(alloc, n, k)?;
+        carry_out_counted(alloc, session, &command, &mut counts, regs, media)?;
+    }
+    Ok(counts)
 }
 
 /// How many regions a check finds in the session's image: none where it has a breach.

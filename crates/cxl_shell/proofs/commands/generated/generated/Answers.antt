@@ -10,7 +10,7 @@ use Rattle.cxl_shell.proofs.commands.generated.generated.Goals as goal
 
 pub returns-in-Ok-clause-ends : goal.returns-in-Ok-clause-ends
 returns-in-Ok-clause-ends g c = λ script.
-    let host = c.in-Ok.made.host in
+    let host = c.in-Ok.host in
     let before = devices script (g.R.Regs.state c.args.regs.now) (g.M.Media.state c.args.media.now) in
     let after = devices script (g.R.Regs.state c.over_host.new.regs) (g.M.Media.state c.over_host.new.media) in
     let old = g.K.Sink.state c.args.out.now in

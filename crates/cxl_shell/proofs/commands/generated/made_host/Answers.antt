@@ -7,14 +7,14 @@ use Rattle.cxl_shell.proofs.commands.generated.made_host.Goals as goal
 
 pub returns : goal.returns
 returns c =
-    let made = c.in_ok-cedt.field-0 in
-    let of = c.in_ok-cedt.ensures in
-    host-made c.args.n made.cedt made.topo c.in_ok-image.image c.in_ok-windows.windows.items made.commands of.table of.tree of.commands
-    c.in_ok-image.ensures.reset (c.in_ok-windows.ensures.windows ∙ ap (λ uids. windows_of made.cedt.records (Some uids)) c.uids.ensures)
+    let cedt = c.in_ok-cedt.cedt in
+    let topo = c.in_ok-topo.topo in
+    host-made c.args.n cedt topo c.in_ok-image.image c.in_ok-windows.windows.items c.in_ok-cedt.ensures c.in_ok-topo.ensures
+    c.in_ok-image.ensures.reset (c.in_ok-windows.ensures.windows ∙ ap (λ uids. windows_of cedt.records (Some uids)) c.uids.ensures)
     (record {
-      tree = subst (λ (t : Tree). IsTree t.nodes) (sym of.tree) (c.made_systems_are_sound.ensures.tree c.args.n c.requires.some c.requires.few);
+      tree = subst (λ (t : Tree). IsTree t.nodes) (sym c.in_ok-topo.ensures) (c.made_systems_are_sound.ensures.tree c.args.n c.requires.some c.requires.few);
       blocks = c.count-blocks.ensures.image.each;
       caps = c.in_ok-image.ensures.caps;
-      made = c.in_ok-windows.ensures.made (bridge_uids made.topo.nodes) (ap (λ uids. Some uids) c.uids.ensures);
+      made = c.in_ok-windows.ensures.made (bridge_uids topo.nodes) (ap (λ uids. Some uids) c.uids.ensures);
     })
     c.reset_hosts_are_accepted.ensures

@@ -8,12 +8,12 @@ use Rattle.cxl_shell.proofs.commands.generated.over_host.Goals as goal
 
 pub unopened-requires : goal.unopened-requires
 unopened-requires g c = λ b is.
-    let host = c.args.made.host in
+    let host = c.args.host in
     c.accepted_or_breach.ensures.not_both (system_of host.image host.topo host.windows.items) c.requires.made.accepted (b.rule, b.node, b.decoder, c.in-Err.ensures.breach b (ap Err is))
 
 pub returns-in-Ok-clause-ends : goal.returns-in-Ok-clause-ends
 returns-in-Ok-clause-ends g c = λ script.
-    let host = c.args.made.host in
+    let host = c.args.host in
     let s = system_of host.image host.topo host.windows.items in
     let before = devices script (g.R.Regs.state c.args.regs.now) (g.M.Media.state c.args.media.now) in
     let after = devices script (g.R.Regs.state c.over_session.new.regs) (g.M.Media.state c.over_session.new.media) in
@@ -23,9 +23,9 @@ returns-in-Ok-clause-ends g c = λ script.
     (carried-out s host.topo.frames opens.0 gone.0 gone.1 c.over_session.new.session host.topo.nodes (g.R.Regs.state c.open.new.regs) before after opens.1 refl c.in-Ok.ensures.enabled c.in-Ok.ensures.counts c.in-Ok.ensures.alone c.in-Ok.ensures.unswallowed gone.2)
     gone.3
 
-pub returns-clause-ends : goal.returns-clause-ends
-returns-clause-ends g c = λ script.
-    let host = c.args.made.host in
+pub returns-in-Err-clause-ends : goal.returns-in-Err-clause-ends
+returns-in-Err-clause-ends g c = λ script.
+    let host = c.args.host in
     let s = system_of host.image host.topo host.windows.items in
     let before = devices script (g.R.Regs.state c.args.regs.now) (g.M.Media.state c.args.media.now) in
     let after = devices script (g.R.Regs.state c.open.new.regs) (g.M.Media.state c.open.new.media) in
