@@ -9,7 +9,7 @@ use Rattle.cxl_script.specs.declared.command.Command.{Command}
 use Rattle.cxl_script.specs.declared.command.Command.TheVariants as commands
 use Rattle.cxl_script.specs.declared.command.Create.{Create}
 use Rattle.cxl_script.specs.declared.fault.BadLine.{BadLine}
-use Rattle.cxl_commands.specs.Form.{Form, Gen, Unreadable, route_to, route_form, list_form, normal_form, check_form, create_asked, create_on_line, plan_form_over, plan_form, run_form, gen_of, gen_form, alone, form_of, IsRangedForm}
+use Rattle.cxl_commands.specs.Form.{Form, Gen, Help, Version, Unreadable, route_to, route_form, list_form, normal_form, check_form, create_asked, create_on_line, plan_form_over, plan_form, run_form, gen_of, gen_form, alone, form_of, IsRangedForm}
 
 abbrev pub StateCodes : Type 0
 StateCodes = (line : List ℕ) → IfOk (asked_in line) (λ asked. IfSome asked StatesGranCodes)
