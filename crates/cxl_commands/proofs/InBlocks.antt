@@ -3,7 +3,7 @@ use Rattle.std.proofs.Common.{◌≡◌, ℕ, ◌+◌, ◌≤◌, List, [], ◌�
 use Rattle.std.specs.List.{concat}
 use Rattle.std.proofs.lemmas.List.{take-append-drop, append-nil}
 use Rattle.cxl_io.specs.Sink.{SinkState, Takes, TakesPrefix}
-use Rattle.cxl_commands.specs.Blocks.{KeepsOrWrites}
+use Rattle.cxl_lines.specs.Blocks.{KeepsOrWrites}
 
 pub concat-append : (xs ys : List (List ℕ)) → concat (xs ++ ys) ≡ concat xs ++ concat ys
 concat-append [] ys = refl
@@ -35,18 +35,18 @@ module _ (both : (old mid new : SinkState) (xs ys : List ℕ) → Takes old mid 
       subst (Takes old new) so_far.together (both old now new (concat (take so_far.written lines)) block so_far.taken takes)
 
   -- the block is kept or written
-  pub blocks-flushed : (lines : List (List ℕ)) (i : ℕ) (block block' : List ℕ) (old now new : SinkState) → IsInBlocks lines i block old now → KeepsOrWrites now new block block' → IsInBlocks lines i block' old new
+  pub blocks-flushed : {from : ℕ} (lines : List (List ℕ)) (i : ℕ) (block block' : List ℕ) (old now new : SinkState) → IsInBlocks lines i block old now → KeepsOrWrites from now new block block' → IsInBlocks lines i block' old new
   blocks-flushed lines i block block' old now new so_far (inl kept) = record {
     written = so_far.written;
     few = so_far.few;
-    taken = subst (λ s. Takes old s (concat (take so_far.written lines))) (sym kept.1) so_far.taken;
-    together = ap (λ b. concat (take so_far.written lines) ++ b) kept.0 ∙ so_far.together;
+    taken = subst (λ s. Takes old s (concat (take so_far.written lines))) (sym kept.2) so_far.taken;
+    together = ap (λ b. concat (take so_far.written lines) ++ b) kept.1 ∙ so_far.together;
   }
   blocks-flushed lines i block block' old now new so_far (inr written) = record {
     written = i;
     few = omega arith;
-    taken = blocks-written lines i block old now new so_far written.1;
-    together = ap (λ b. concat (take i lines) ++ b) written.0 ∙ append-nil (concat (take i lines));
+    taken = blocks-written lines i block old now new so_far written.2;
+    together = ap (λ b. concat (take i lines) ++ b) written.1 ∙ append-nil (concat (take i lines));
   }
 
   -- writing the block fails

@@ -5,7 +5,6 @@ pub mod Plain
 pub mod Outcome
 pub mod Text
 pub mod Outside
-pub mod Blocks
 pub mod inputs
 pub mod commands
 pub mod Readings

@@ -27,6 +27,10 @@ use normal::normal;
 use route::route;
 use std::alloc::Global;
 
+/// From this many bytes on a block of lines is written, so that memory holds one block and never the whole text. (This
+/// project's rule.)
+const BLOCK: usize = 65_536;
+
 /// What is asked of the table in a file.
 pub fn of_table<F: Fetch, K: Sink>(
     alloc: Global,

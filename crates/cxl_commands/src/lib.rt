@@ -1,7 +1,6 @@
 //! The commands of `cxlplan` that work by their words and files alone, and the files that every command reads.
 #![tactic(auto)]
 
-mod blocks;
 mod commands;
 mod form;
 mod inputs;

@@ -14,6 +14,7 @@ use crate::replies::write_reply;
 use crate::stops::Stop;
 use cxl_bus::Regs;
 use cxl_io::Sink;
+use cxl_lines::Lines;
 use cxl_machine::answers_are_told;
 use cxl_media::Roll;
 use cxl_reply::Reply;
@@ -26,7 +27,7 @@ pub(crate) fn carry_out_line<K: Sink, R: Regs, M: Roll>(
     alloc: Global,
     session: &mut Session,
     line: &[u8],
-    text: &mut Vec<u8>,
+    lines: &mut Lines<0>,
     out: &mut K,
     regs: &mut R,
     media: &mut M,
@@ -46,8 +47,8 @@ pub(crate) fn carry_out_line<K: Sink, R: Regs, M: Roll>(
     asked_commands_are_ranged();
     match read_command(alloc, line) {
         Ok(None) => Ok(()),
-        Ok(Some(command)) => carry_out_command(alloc, session, &command, text, out, regs, media),
-        Err(LineFault::Bad(fault)) => tell_bad_line(fault, session, text, out),
+        Ok(Some(command)) => carry_out_command(alloc, session, &command, lines, out, regs, media),
+        Err(LineFault::Bad(fault)) => tell_bad_line(fault, session, lines, out),
         Err(LineFault::Memory) => Err(Stop::Memory),
     }
 }
@@ -57,7 +58,7 @@ fn carry_out_command<K: Sink, R: Regs, M: Roll>(
     alloc: Global,
     session: &mut Session,
     command: &Command,
-    text: &mut Vec<u8>,
+    lines: &mut Lines<0>,
     out: &mut K,
     regs: &mut R,
     media: &mut M,
@@ -77,14 +78,14 @@ fn carry_out_command<K: Sink, R: Regs, M: Roll>(
 {
     answers_are_told();
     let reply = session.act(alloc, command, regs, media)?;
-    write_reply(&reply, session.topo(), text, out)
+    write_reply(&reply, session.topo(), lines, out)
 }
 
 /// Writes the reply to a line that asks for nothing.
 pub(crate) fn tell_bad_line<K: Sink>(
     fault: BadLine,
     session: &Session,
-    text: &mut Vec<u8>,
+    lines: &mut Lines<0>,
     out: &mut K,
 ) -> Result<(), Stop>
     ensures answered { OnOk result ((m : Machine) (regs : RegsState) (media : MediaState) → IsAt session.now regs media m
@@ -95,5 +96,5 @@ pub(crate) fn tell_bad_line<K: Sink>(
         → IsLeft m session.now regs regs media (K.state out.old) (K.state out.new) }
     ensures sink { (K.state out.old).faults ≤ (K.state out.new).faults }
 {
-    write_reply(&Reply::BadLine(fault), session.topo(), text, out)
+    write_reply(&Reply::BadLine(fault), session.topo(), lines, out)
 }

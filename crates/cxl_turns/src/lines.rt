@@ -11,6 +11,7 @@ use crate::endings::Ending;
 use crate::stops::Stop;
 use cxl_bus::Regs;
 use cxl_io::{LineReader, Sink, Source, Taken};
+use cxl_lines::Lines;
 use cxl_media::Roll;
 use cxl_script::{BadLine, LINE_LIMIT, Why};
 use cxl_session::Session;
@@ -48,19 +49,19 @@ pub fn carry_out_lines<S: Source, K: Sink, R: Regs, M: Roll>(
         Ok(reader) => reader,
         Err(_memory) => return Ending::Memory,
     };
-    let mut text = Vec::new(alloc);
+    let mut replies = Lines::new(alloc);
     'lines: loop {
         let carried = match reader.next(script) {
             Taken::Line => carry_out_line(
                 alloc,
                 session,
                 reader.line(),
-                &mut text,
+                &mut replies,
                 out,
                 regs,
                 media,
             ),
-            Taken::Long => tell_bad_line(LONG, session, &mut text, out),
+            Taken::Long => tell_bad_line(LONG, session, &mut replies, out),
             Taken::End => return Ending::Done,
             Taken::Fault => return Ending::ReadFault,
             Taken::TooMuch => return Ending::TooMuch,

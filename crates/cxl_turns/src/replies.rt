@@ -11,15 +11,16 @@ ghost use Rattle.cxl_turns.specs.declared.stops.Stop.TheVariants as stops;
 
 use crate::stops::Stop;
 use cxl_io::{Sink, write_all};
+use cxl_lines::Lines;
 use cxl_reply::{Reply, put_reply, short};
 use cxl_topo::Topo;
 
-/// Writes the text of a reply in one write, with `text` as the place for it. A reply to a command that changed something, or
+/// Writes the text of a reply in one write, with the block of `lines` as the place for it. A reply to a command that changed something, or
 /// that met a fault of the bus, takes no memory, so that it can be told where none is left.
 pub(crate) fn write_reply<K: Sink>(
     reply: &Reply,
     topo: &Topo,
-    text: &mut Vec<u8>,
+    lines: &mut Lines<0>,
     out: &mut K,
 ) -> Result<(), Stop>
     requires { IsTold topo.now.nodes reply.now }
@@ -42,9 +43,9 @@ pub(crate) fn write_reply<K: Sink>(
         write_all(out, fixed)?;
         return Ok(());
     }
-    text.clear();
-    put_reply(reply, topo, text)?;
-    write_all(out, text.as_slice())?;
+    lines.block.clear();
+    put_reply(reply, topo, &mut lines.block)?;
+    lines.line_done(out)?;
     Ok(())
 }
 

@@ -16,7 +16,7 @@ ghost use Rattle.cxl_commands.specs.commands.Check.{IsRegionsText, IsBreachText,
 ghost use Rattle.cxl_commands.specs.inner.Reports.{TellsBreach, IsReported};
 ghost use Rattle.cxl_commands.specs.inputs.Host.{host_of};
 
-use crate::blocks::write_full;
+use crate::commands::BLOCK;
 use crate::inputs::host::{Host, fetch_host};
 use crate::outcome::Outcome;
 use crate::status::Status;
@@ -24,7 +24,8 @@ use crate::stop::finish;
 use cxl_cedt::one_reading;
 use cxl_check::{Breach, CheckFault, Found};
 use cxl_image::one_image_reading;
-use cxl_io::{Fetch, Memory, Sink, write_all, writes_join};
+use cxl_io::{Fetch, Memory, Sink, writes_join};
+use cxl_lines::Lines;
 use cxl_model::accepted_or_breach;
 use cxl_reply::{findings_are_told, put_breach, put_found};
 use cxl_topo::Topo;
@@ -115,14 +116,14 @@ fn write_regions<K: Sink>(
     ensures counts { (K.state out.old).faults ≤ (K.state out.new).faults }
 {
     writes_join();
-    let mut block = Vec::new(alloc);
+    let mut lines: Lines<BLOCK> = Lines::new(alloc);
     for region in regions {
-        put_found(&mut block, region, topo)?;
-        if write_full(&mut block, out).is_err() {
+        put_found(&mut lines.block, region, topo)?;
+        if lines.line_done(out).is_err() {
             return Ok(Status::WriteFault);
         }
     }
-    if write_all(out, block.as_slice()).is_err() {
+    if lines.end(out).is_err() {
         return Ok(Status::WriteFault);
     }
     Ok(Status::Done)

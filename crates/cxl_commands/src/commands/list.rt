@@ -14,13 +14,14 @@ ghost use Rattle.cxl_commands.specs.inputs.File.{AsksForSome};
 ghost use Rattle.cxl_commands.specs.inputs.Table.{IsReading, IsTableOf, HasNoTable};
 ghost use Rattle.cxl_window.specs.Windows.{cfmws_in, windows_of};
 
-use crate::blocks::write_full;
+use crate::commands::BLOCK;
 use crate::commands::lines::put_line;
 use crate::inputs::table::fetch_table;
 use crate::status::Status;
 use crate::stop::{Stop, finish};
 use cxl_cedt::{Cedt, Record, one_reading};
-use cxl_io::{Fetch, Memory, Sink, write_all, writes_join};
+use cxl_io::{Fetch, Memory, Sink, writes_join};
+use cxl_lines::Lines;
 use cxl_window::{Window, windows};
 use std::alloc::Global;
 
@@ -75,16 +76,16 @@ fn write_lines<K: Sink>(
     ensures counts { (K.state out.old).faults ≤ (K.state out.new).faults }
 {
     writes_join();
-    let mut block = Vec::new(alloc);
+    let mut lines: Lines<BLOCK> = Lines::new(alloc);
     let mut place = 0;
     for item in records {
-        put_line(&mut block, item, windows, place)?;
-        if write_full(&mut block, out).is_err() {
+        put_line(&mut lines.block, item, windows, place)?;
+        if lines.line_done(out).is_err() {
             return Ok(Status::WriteFault);
         }
         place += window_count(item);
     }
-    if write_all(out, block.as_slice()).is_err() {
+    if lines.end(out).is_err() {
         return Ok(Status::WriteFault);
     }
     Ok(Status::Done)

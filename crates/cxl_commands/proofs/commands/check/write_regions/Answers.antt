@@ -2,7 +2,7 @@ use Rattle.std.proofs.Common.{◌+◌, map, sym, subst, ◌∙◌, inl, inr, ref
 use Rattle.cxl_enc.specs.Faults.{Rose}
 use Rattle.cxl_io.specs.Sink.{Takes, TakesPrefix}
 use Rattle.cxl_reply.specs.Plans.{found_text}
-use Rattle.cxl_commands.specs.Blocks.{KeepsOrWrites}
+use Rattle.cxl_lines.specs.Blocks.{KeepsOrWrites}
 use Rattle.cxl_commands.proofs.InBlocks.{blocks-written, blocks-flushed, blocks-cut}
 use Rattle.cxl_commands.proofs.Regions.{blocks-region, length-region_lines, all_regions}
 use Rattle.cxl_commands.proofs.Results.{on_ok_at, on_err_at, on_err_from}
@@ -23,11 +23,11 @@ returns-then-is_err-clause-ends g c =
     let lines = map (found_text c.args.topo.now.nodes) c.args.regions.now in
     let old = g.K.Sink.state c.args.out.now in
     let now = g.K.Sink.state l.out in
-    let new = g.K.Sink.state c.write_full.new.out in
-    let next = blocks-region c.args.topo.now.nodes c.args.regions.now l.region-index c.region-item.result c.loop-region-test.true c.region-item.is l.block.items c.put_found.new.out.items old now c.in_ok-put_found.ensures.ok l.invariant.blocks in
+    let new = g.K.Sink.state c.line_done.new.out in
+    let next = blocks-region c.args.topo.now.nodes c.args.regions.now l.region-index c.region-item.result c.loop-region-test.true c.region-item.is l.lines.block.items c.put_found.new.out.items old now c.in_ok-put_found.ensures.ok l.invariant.blocks in
     let failed = sym c.is_err.ensures.value ∙ c.if-is_err.true in
-    let part : TakesPrefix now new c.put_found.new.out.items = on_err_at c.write_full.result _ failed c.write_full.ensures.failed in
-    let rose : Rose now.faults new.faults = on_err_at c.write_full.result _ failed c.write_full.ensures.cause in
+    let part : TakesPrefix now new c.put_found.new.out.items = on_err_at c.line_done.result _ failed c.line_done.ensures.failed in
+    let rose : Rose now.faults new.faults = on_err_at c.line_done.result _ failed c.line_done.ensures.cause in
     inr (record {
       status_is = refl;
       rose = let so_far = l.invariant.counts in omega (arith, rose, so_far);
@@ -40,12 +40,12 @@ loop-region-preserved g c =
     let lines = map (found_text c.args.topo.now.nodes) c.args.regions.now in
     let old = g.K.Sink.state c.args.out.now in
     let now = g.K.Sink.state l.out in
-    let new = g.K.Sink.state c.write_full.new.out in
-    let next = blocks-region c.args.topo.now.nodes c.args.regions.now l.region-index c.region-item.result c.loop-region-test.true c.region-item.is l.block.items c.put_found.new.out.items old now c.in_ok-put_found.ensures.ok l.invariant.blocks in
-    let flushed : KeepsOrWrites now new c.put_found.new.out.items c.write_full.new.block.items = on_ok_at c.write_full.result _ (sym c.is_err.ensures.value ∙ c.if-is_err.false) c.write_full.ensures.ok in
+    let new = g.K.Sink.state c.line_done.new.out in
+    let next = blocks-region c.args.topo.now.nodes c.args.regions.now l.region-index c.region-item.result c.loop-region-test.true c.region-item.is l.lines.block.items c.put_found.new.out.items old now c.in_ok-put_found.ensures.ok l.invariant.blocks in
+    let flushed : KeepsOrWrites _ now new c.put_found.new.out.items c.line_done.new.self.block.items = on_ok_at c.line_done.result _ (sym c.is_err.ensures.value ∙ c.if-is_err.false) c.line_done.ensures.ok in
     record {
-      blocks = blocks-flushed c.writes_join.ensures.both c.writes_join.ensures.first c.writes_join.ensures.second lines (l.region-index + 1) c.put_found.new.out.items c.write_full.new.block.items old now new next flushed;
-      counts = let more = c.write_full.ensures.counts in let so_far = l.invariant.counts in omega arith;
+      blocks = blocks-flushed c.writes_join.ensures.both c.writes_join.ensures.first c.writes_join.ensures.second lines (l.region-index + 1) c.put_found.new.out.items c.line_done.new.self.block.items old now new next flushed;
+      counts = let more = c.line_done.ensures.counts in let so_far = l.invariant.counts in omega arith;
     }
 
 pub returns-then-is_err-2-clause-ends : goal.returns-then-is_err-2-clause-ends
@@ -54,14 +54,14 @@ returns-then-is_err-2-clause-ends g c =
     let lines = map (found_text c.args.topo.now.nodes) c.args.regions.now in
     let old = g.K.Sink.state c.args.out.now in
     let now = g.K.Sink.state l.out in
-    let new = g.K.Sink.state c.write_all.new.sink in
+    let new = g.K.Sink.state c.end.new.out in
     let failed = sym c.is_err-2.ensures.value ∙ c.if-is_err-2.true in
-    let part : TakesPrefix now new c.as_slice.result.now = on_err_at c.write_all.result _ failed c.write_all.ensures.failed in
-    let rose : Rose now.faults new.faults = on_err_at c.write_all.result _ failed c.write_all.ensures.cause in
+    let part : TakesPrefix now new l.lines.block.items = on_err_at c.end.result _ failed c.end.ensures.failed in
+    let rose : Rose now.faults new.faults = on_err_at c.end.result _ failed c.end.ensures.cause in
     inr (record {
       status_is = refl;
       rose = let so_far = l.invariant.counts in omega (arith, rose, so_far);
-      taken = blocks-cut c.writes_join.ensures.both c.writes_join.ensures.first c.writes_join.ensures.second lines l.region-index l.block.items old now new l.invariant.blocks (subst (TakesPrefix now new) c.as_slice.ensures.value part);
+      taken = blocks-cut c.writes_join.ensures.both c.writes_join.ensures.first c.writes_join.ensures.second lines l.region-index l.lines.block.items old now new l.invariant.blocks part;
     })
 
 pub returns-clause-ends : goal.returns-clause-ends
@@ -70,11 +70,11 @@ returns-clause-ends g c =
     let lines = map (found_text c.args.topo.now.nodes) c.args.regions.now in
     let old = g.K.Sink.state c.args.out.now in
     let now = g.K.Sink.state l.out in
-    let new = g.K.Sink.state c.write_all.new.sink in
-    let taken : Takes now new c.as_slice.result.now = on_ok_at c.write_all.result _ (sym c.is_err-2.ensures.value ∙ c.if-is_err-2.false) c.write_all.ensures.ok in
+    let new = g.K.Sink.state c.end.new.out in
+    let taken : Takes now new l.lines.block.items = on_ok_at c.end.result _ (sym c.is_err-2.ensures.value ∙ c.if-is_err-2.false) c.end.ensures.ok in
     inl (record {
       status_is = refl;
       taken =
           subst (Takes old new) (all_regions c.args.topo.now.nodes c.args.regions.now l.region-index c.loop-region-test.false)
-          (blocks-written c.writes_join.ensures.both c.writes_join.ensures.first c.writes_join.ensures.second lines l.region-index l.block.items old now new l.invariant.blocks (subst (Takes now new) c.as_slice.ensures.value taken));
+          (blocks-written c.writes_join.ensures.both c.writes_join.ensures.first c.writes_join.ensures.second lines l.region-index l.lines.block.items old now new l.invariant.blocks taken);
     })

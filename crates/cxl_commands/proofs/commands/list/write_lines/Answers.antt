@@ -1,7 +1,7 @@
 use Rattle.std.proofs.Common.{◌+◌, sym, subst, ◌∙◌, inl, inr, refl, arith}
 use Rattle.cxl_enc.specs.Faults.{Rose}
 use Rattle.cxl_io.specs.Sink.{Takes, TakesPrefix}
-use Rattle.cxl_commands.specs.Blocks.{KeepsOrWrites}
+use Rattle.cxl_lines.specs.Blocks.{KeepsOrWrites}
 use Rattle.cxl_commands.specs.commands.Lines.{list_lines}
 use Rattle.cxl_commands.proofs.InBlocks.{blocks-written, blocks-flushed, blocks-cut}
 use Rattle.cxl_commands.proofs.ListLines.{place-next, place_within, length-list_lines, blocks-line, all_lines}
@@ -26,11 +26,11 @@ returns-then-is_err-clause-ends g c =
     let l = c.loop-item in
     let old = g.K.Sink.state c.args.out.now in
     let now = g.K.Sink.state l.out in
-    let new = g.K.Sink.state c.write_full.new.out in
-    let next = blocks-line c.args.records.now c.args.windows.now c.requires l.item-index l.place l.invariant.place c.loop-item-test.true c.item-item.result c.item-item.is l.block.items c.put_line.new.out.items old now c.in_ok-put_line.ensures l.invariant.blocks in
+    let new = g.K.Sink.state c.line_done.new.out in
+    let next = blocks-line c.args.records.now c.args.windows.now c.requires l.item-index l.place l.invariant.place c.loop-item-test.true c.item-item.result c.item-item.is l.lines.block.items c.put_line.new.out.items old now c.in_ok-put_line.ensures l.invariant.blocks in
     let failed = sym c.is_err.ensures.value ∙ c.if-is_err.true in
-    let part : TakesPrefix now new c.put_line.new.out.items = on_err_at c.write_full.result _ failed c.write_full.ensures.failed in
-    let rose : Rose now.faults new.faults = on_err_at c.write_full.result _ failed c.write_full.ensures.cause in
+    let part : TakesPrefix now new c.put_line.new.out.items = on_err_at c.line_done.result _ failed c.line_done.ensures.failed in
+    let rose : Rose now.faults new.faults = on_err_at c.line_done.result _ failed c.line_done.ensures.cause in
     inr (record {
       status_is = refl;
       rose = let so_far = l.invariant.counts in omega (arith, rose, so_far);
@@ -42,14 +42,14 @@ loop-item-preserved g c =
     let l = c.loop-item in
     let old = g.K.Sink.state c.args.out.now in
     let now = g.K.Sink.state l.out in
-    let new = g.K.Sink.state c.write_full.new.out in
-    let next = blocks-line c.args.records.now c.args.windows.now c.requires l.item-index l.place l.invariant.place c.loop-item-test.true c.item-item.result c.item-item.is l.block.items c.put_line.new.out.items old now c.in_ok-put_line.ensures l.invariant.blocks in
-    let flushed : KeepsOrWrites now new c.put_line.new.out.items c.write_full.new.block.items = on_ok_at c.write_full.result _ (sym c.is_err.ensures.value ∙ c.if-is_err.false) c.write_full.ensures.ok in
+    let new = g.K.Sink.state c.line_done.new.out in
+    let next = blocks-line c.args.records.now c.args.windows.now c.requires l.item-index l.place l.invariant.place c.loop-item-test.true c.item-item.result c.item-item.is l.lines.block.items c.put_line.new.out.items old now c.in_ok-put_line.ensures l.invariant.blocks in
+    let flushed : KeepsOrWrites _ now new c.put_line.new.out.items c.line_done.new.self.block.items = on_ok_at c.line_done.result _ (sym c.is_err.ensures.value ∙ c.if-is_err.false) c.line_done.ensures.ok in
     record {
       place = place-next c.args.records.now l.item-index c.item-item.result c.loop-item-test.true c.item-item.is l.place c.window_count-place.result l.invariant.place c.window_count-place.ensures.value;
       few = let one = c.window_count-place.ensures.few in let so_far = l.invariant.few in omega arith;
-      blocks = blocks-flushed c.writes_join.ensures.both c.writes_join.ensures.first c.writes_join.ensures.second (list_lines c.args.records.now) (l.item-index + 1) c.put_line.new.out.items c.write_full.new.block.items old now new next flushed;
-      counts = let more = c.write_full.ensures.counts in let so_far = l.invariant.counts in omega arith;
+      blocks = blocks-flushed c.writes_join.ensures.both c.writes_join.ensures.first c.writes_join.ensures.second (list_lines c.args.records.now) (l.item-index + 1) c.put_line.new.out.items c.line_done.new.self.block.items old now new next flushed;
+      counts = let more = c.line_done.ensures.counts in let so_far = l.invariant.counts in omega arith;
     }
 
 pub returns-then-is_err-2-clause-ends : goal.returns-then-is_err-2-clause-ends
@@ -57,14 +57,14 @@ returns-then-is_err-2-clause-ends g c =
     let l = c.loop-item in
     let old = g.K.Sink.state c.args.out.now in
     let now = g.K.Sink.state l.out in
-    let new = g.K.Sink.state c.write_all.new.sink in
+    let new = g.K.Sink.state c.end.new.out in
     let failed = sym c.is_err-2.ensures.value ∙ c.if-is_err-2.true in
-    let part : TakesPrefix now new c.as_slice.result.now = on_err_at c.write_all.result _ failed c.write_all.ensures.failed in
-    let rose : Rose now.faults new.faults = on_err_at c.write_all.result _ failed c.write_all.ensures.cause in
+    let part : TakesPrefix now new l.lines.block.items = on_err_at c.end.result _ failed c.end.ensures.failed in
+    let rose : Rose now.faults new.faults = on_err_at c.end.result _ failed c.end.ensures.cause in
     inr (record {
       status_is = refl;
       rose = let so_far = l.invariant.counts in omega (arith, rose, so_far);
-      taken = blocks-cut c.writes_join.ensures.both c.writes_join.ensures.first c.writes_join.ensures.second (list_lines c.args.records.now) l.item-index l.block.items old now new l.invariant.blocks (subst (TakesPrefix now new) c.as_slice.ensures.value part);
+      taken = blocks-cut c.writes_join.ensures.both c.writes_join.ensures.first c.writes_join.ensures.second (list_lines c.args.records.now) l.item-index l.lines.block.items old now new l.invariant.blocks part;
     })
 
 pub returns-clause-ends : goal.returns-clause-ends
@@ -72,11 +72,11 @@ returns-clause-ends g c =
     let l = c.loop-item in
     let old = g.K.Sink.state c.args.out.now in
     let now = g.K.Sink.state l.out in
-    let new = g.K.Sink.state c.write_all.new.sink in
-    let taken : Takes now new c.as_slice.result.now = on_ok_at c.write_all.result _ (sym c.is_err-2.ensures.value ∙ c.if-is_err-2.false) c.write_all.ensures.ok in
+    let new = g.K.Sink.state c.end.new.out in
+    let taken : Takes now new l.lines.block.items = on_ok_at c.end.result _ (sym c.is_err-2.ensures.value ∙ c.if-is_err-2.false) c.end.ensures.ok in
     inl (record {
       status_is = refl;
       taken =
           subst (Takes old new) (all_lines c.args.records.now l.item-index c.loop-item-test.false)
-          (blocks-written c.writes_join.ensures.both c.writes_join.ensures.first c.writes_join.ensures.second (list_lines c.args.records.now) l.item-index l.block.items old now new l.invariant.blocks (subst (Takes now new) c.as_slice.ensures.value taken));
+          (blocks-written c.writes_join.ensures.both c.writes_join.ensures.first c.writes_join.ensures.second (list_lines c.args.records.now) l.item-index l.lines.block.items old now new l.invariant.blocks taken);
     })

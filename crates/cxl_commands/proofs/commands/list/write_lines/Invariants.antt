@@ -10,6 +10,6 @@ abbrev pub invariant-loop-item : goal.invariant-loop-item
 invariant-loop-item g l = record {
   place : l.place ≡ length (filter_map cfmws_in (take l.item-index l.records));
   few : l.place ≤ l.item-index;
-  blocks : IsInBlocks (list_lines l.records) l.item-index l.block.items (g.K.Sink.state l.fn.out) (g.K.Sink.state l.out);
+  blocks : IsInBlocks (list_lines l.records) l.item-index l.lines.block.items (g.K.Sink.state l.fn.out) (g.K.Sink.state l.out);
   counts : (g.K.Sink.state l.fn.out).faults ≤ (g.K.Sink.state l.out).faults;
 }
