@@ -8,7 +8,7 @@ use std::alloc::Global;
 
 /// Lines on their way to a sink. They are kept in a block, which is written once it has `FROM` bytes, and at the end:
 /// from 0, each line is written at once.
-#[derive(Debug, Drop)]
+#[derive(Drop)]
 pub struct Lines<const FROM: usize> {
     /// Where the next line is put.
     pub block: Vec<u8>,
