@@ -16,7 +16,7 @@ pub use commands::plan::{plan, plan_statuses};
 pub use commands::route::route_statuses;
 pub use commands::{of_table, said};
 pub use form::{Form, HostAsk, ResetAsk, TableAsk, WordsAsk, form_of};
-pub use inputs::host::{Host, fetch_host};
+pub use inputs::host::{OwnedHost, fetch_host};
 pub use inputs::reset_host::fetch_reset_host;
 pub use outcome::Outcome;
 pub use status::Status;

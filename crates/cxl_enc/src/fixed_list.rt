@@ -1,7 +1,7 @@
 use std::marker::Model;
 
-/// A list that stays as it was made. Contracts see it as the list of its items, whatever room it was
-/// made with.
+/// A list that keeps the length with which it was made. Contracts see it as the list of its items, whatever
+/// room it was made with.
 #[derive(Debug, Drop)]
 pub struct FixedList<T> {
     vec: Vec<T>,
@@ -16,7 +16,7 @@ impl<T> Model for FixedList<T> {
 }
 
 impl<T> FixedList<T> {
-    ghost use Rattle.std.specs.Prelude.{◌≡◌};
+    ghost use Rattle.std.specs.Prelude.{◌≡◌, length};
 
     /// The list of these items. Takes no memory.
     pub fn new(vec: Vec<T>) -> FixedList<T>
@@ -30,5 +30,15 @@ impl<T> FixedList<T> {
         ensures { result.now ≡ self.now }
     {
         self.vec.as_slice()
+    }
+
+    /// Puts these items in the place of as many. Takes no memory.
+    pub fn replace_all(&mut self, items: &[T])
+    where
+        T: Copy,
+        requires { length items.now ≡ length self.old }
+        ensures { self.new ≡ items.now }
+    {
+        self.vec.as_mut_slice().copy_from_slice(items);
     }
 }

@@ -1,6 +1,6 @@
 //! The commands that are given to a generated system.
 
-ghost use Rattle.std.specs.Prelude.{◌≡◌, ◌*◌, ◌<◌, ◌≤◌, map, length, slice_get, Some, IfOk};
+ghost use Rattle.std.specs.Prelude.{◌≡◌, ◌*◌, ◌<◌, ◌≤◌, map, length, slice_get, Some, IfOk, OnOk};
 ghost use Rattle.std.specs.List.{range_with_len};
 ghost use Rattle.cxl_gen.specs.Made.{endpoint_name, store_place, made_create, made_store, made_load, made_region, made_commands};
 
@@ -24,7 +24,9 @@ pub(crate) fn commands_of(alloc: Global, n: u32) -> Result<Vec<Command>, Memory>
     let count = command_count(n);
     let mut commands = Vec::with_capacity(alloc, count as usize)?;
     for k in 0..count {
-        commands.push(made_command(alloc, n, k)?)?;
+        let mut command = Command::Abort;
+        make_command(alloc, n, k, &mut command)?;
+        commands.push(command)?;
     }
     Ok(commands)
 }
@@ -37,31 +39,34 @@ pub fn command_count(n: u32) -> u32
     (FILLING + ACCESSES) * n
 }
 
-/// The command of a number that stands behind `k` others, so that one can be carried out before the next is made. (This
-/// project's rule.) Takes memory for it alone.
-pub fn made_command(alloc: Global, n: u32, k: u32) -> Result<Command, Memory>
+/// Makes a command the one of a number that stands behind `k` others, whatever it was before, so that each can be carried out
+/// before the next is made. (This project's rule.) Takes memory for it alone; a store behind a store keeps the memory of its
+/// bytes. After `Memory` the command is as before.
+pub fn make_command(alloc: Global, n: u32, k: u32, command: &mut Command) -> Result<(), Memory>
     requires few { n ≤ 32 }
     requires there { k < length (made_commands n) }
-    ensures { IfOk result (λ command. slice_get (made_commands n) k ≡ Some command) }
+    ensures { OnOk result (slice_get (made_commands n) k ≡ Some command.new) }
 {
     let filling = FILLING * n;
     if k < filling {
-        return region_command(alloc, k / FILLING, k % FILLING);
+        return make_filling(alloc, k / FILLING, k % FILLING, command);
     }
     let load = k - filling;
-    Ok(made_load(load / ACCESSES, load % ACCESSES))
+    *command = made_load(load / ACCESSES, load % ACCESSES);
+    Ok(())
 }
 
-/// Command `i` of those by which region `j` is made and stored to.
-fn region_command(alloc: Global, j: u32, i: u32) -> Result<Command, Memory>
+/// Makes a command the one behind `i` others of those by which region `j` is made and stored to.
+fn make_filling(alloc: Global, j: u32, i: u32, command: &mut Command) -> Result<(), Memory>
     requires region { j < 32 }
     requires place { i < 1001 }
-    ensures { IfOk result (λ command. slice_get (made_region j) i ≡ Some command) }
+    ensures { OnOk result (slice_get (made_region j) i ≡ Some command.new) }
 {
     if i == 0 {
-        made_create(alloc, j)
+        *command = made_create(alloc, j)?;
+        Ok(())
     } else {
-        made_store(alloc, j, i - 1)
+        make_store(alloc, j, i - 1, command)
     }
 }
 
@@ -90,16 +95,25 @@ fn endpoint_names(alloc: Global, j: u32) -> Result<Vec<Name>, Memory>
     Ok(names)
 }
 
-fn made_store(alloc: Global, j: u32, i: u32) -> Result<Command, Memory>
+/// Makes a command the store of number `i` in region `j`. One that is a store of as many bytes keeps their memory.
+fn make_store(alloc: Global, j: u32, i: u32, command: &mut Command) -> Result<(), Memory>
     requires region { j < 32 }
     requires access { i < 1000 }
-    ensures { IfOk result (λ command. command ≡ made_store j i) }
+    ensures { OnOk result (command.new ≡ made_store j i) }
 {
+    let h = store_place(j, i);
     let bytes = u64::from(i).to_le_bytes();
-    Ok(Command::Store(Store {
-        h: store_place(j, i),
-        bytes: FixedList::new(Vec::from_slice(alloc, &bytes)?),
-    }))
+    match command {
+        Command::Store(store) if store.bytes.items().len() == 8 => {
+            store.h = h;
+            store.bytes.replace_all(&bytes);
+        }
+        _ => {
+            let bytes = FixedList::new(Vec::from_slice(alloc, &bytes)?);
+            *command = Command::Store(Store { h, bytes });
+        }
+    }
+    Ok(())
 }
 
 fn made_load(j: u32, i: u32) -> Command

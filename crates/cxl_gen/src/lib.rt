@@ -9,7 +9,7 @@ mod names;
 mod table;
 mod tree;
 
-pub use commands::{command_count, made_command};
+pub use commands::{command_count, make_command};
 pub use cxl_cedt::{Cedt, FixedList};
 pub use cxl_enc::Memory;
 pub use cxl_script::Command;

@@ -2,13 +2,11 @@
 //! devices in memory.
 #![tactic(auto)]
 
-mod hints;
-
 use cxl_bus::SimBus;
+use cxl_hints::hint;
 use cxl_io::{StdFetch, StdSink, StdSource};
 use cxl_media::SimMedia;
 use cxl_shell::{Status, run};
-use hints::hint;
 use std::io::ErrorKind;
 use std::process::ExitCode;
 use std::rt::Env;

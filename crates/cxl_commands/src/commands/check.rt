@@ -17,7 +17,7 @@ ghost use Rattle.cxl_commands.specs.inner.Reports.{TellsBreach, IsReported};
 ghost use Rattle.cxl_commands.specs.inputs.Host.{host_of};
 
 use crate::commands::BLOCK;
-use crate::inputs::host::{Host, fetch_host};
+use crate::inputs::host::{OwnedHost, fetch_host};
 use crate::outcome::Outcome;
 use crate::status::Status;
 use crate::stop::finish;
@@ -55,7 +55,7 @@ pub fn check<F: Fetch, K: Sink>(
 }
 
 /// Writes what a check of the host comes to.
-fn report<K: Sink>(alloc: Global, host: &Host, out: &mut K) -> Status
+fn report<K: Sink>(alloc: Global, host: &OwnedHost, out: &mut K) -> Status
     requires { IsSystem (system_of host.now.image host.now.topo host.now.windows.items) }
     ensures reports { IsReported (system_of host.now.image host.now.topo host.now.windows.items)
         result (K.state out.old) (K.state out.new) }
@@ -72,7 +72,7 @@ fn report<K: Sink>(alloc: Global, host: &Host, out: &mut K) -> Status
 }
 
 /// The regions of the host's image by rising base, or what its first breach comes to.
-pub fn checked(alloc: Global, host: &Host) -> Result<Result<Vec<Found>, Outcome>, Memory>
+pub fn checked(alloc: Global, host: &OwnedHost) -> Result<Result<Vec<Found>, Outcome>, Memory>
     requires { IsSystem (system_of host.now.image host.now.topo host.now.windows.items) }
     ensures accepted { IfOk result (λ found. OnOk found
         (IsAccepted (system_of host.now.image host.now.topo host.now.windows.items))) }

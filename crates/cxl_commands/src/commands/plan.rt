@@ -17,7 +17,7 @@ ghost use Rattle.cxl_commands.specs.RunByFiles.{EachRunByFiles};
 ghost use Rattle.cxl_commands.specs.commands.Plan.{plan_outcome, refusal_outcome, IsPlanned, IsPlanText, IsRefusalText};
 ghost use Rattle.cxl_commands.specs.inputs.ResetHost.{reset_host_of};
 
-use crate::inputs::host::Host;
+use crate::inputs::host::OwnedHost;
 use crate::inputs::reset_host::fetch_reset_host;
 use crate::outcome::Outcome;
 use crate::status::Status;
@@ -53,7 +53,7 @@ pub fn plan<F: Fetch>(
 }
 
 /// What a create line comes to over a host. Takes memory.
-fn line_outcome(alloc: Global, host: &Host, create: &Create) -> Result<Outcome, Memory>
+fn line_outcome(alloc: Global, host: &OwnedHost, create: &Create) -> Result<Outcome, Memory>
     requires system { IsSystem (system_of host.now.image host.now.topo host.now.windows.items) }
     requires accepted { IsAccepted (system_of host.now.image host.now.topo host.now.windows.items) }
     requires code { StatesGranCode create.now }

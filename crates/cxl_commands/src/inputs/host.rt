@@ -20,7 +20,7 @@ use std::alloc::Global;
 /// What a command's three files describe: a topology, an image over it, and the table's windows as the
 /// topology's bridges make them.
 #[derive(Drop)]
-pub struct Host {
+pub struct OwnedHost {
     pub topo: Topo,
     pub image: Image,
     pub windows: Vec<Window>,
@@ -34,7 +34,7 @@ pub fn fetch_host<F: Fetch>(
     topo: &str,
     image: &str,
     files: &mut F,
-) -> Result<Host, Stop>
+) -> Result<OwnedHost, Stop>
     ensures read { IfOk result (λ host. (table : CedtFields)
         × AreRead (F.state files.old).told cedt.now topo.now image.now table host.topo host.image
         × (host.windows.items ≡ windows_of table.records (Some (bridge_uids host.topo.nodes)))) }
@@ -51,7 +51,7 @@ pub fn fetch_host<F: Fetch>(
     let windows = windows(alloc, &table, Some(topo.uids()))?;
     let _nodes = topo.count();
     let _blocks = image.count();
-    Ok(Host {
+    Ok(OwnedHost {
         topo,
         image,
         windows,

@@ -9,7 +9,7 @@ ghost use Rattle.cxl_commands.specs.Answers.{IsStop};
 ghost use Rattle.cxl_commands.specs.inputs.File.{AsksForSome};
 ghost use Rattle.cxl_commands.specs.inputs.ResetHost.{AreBothRead, HasNoResetHost};
 
-use crate::inputs::host::Host;
+use crate::inputs::host::OwnedHost;
 use crate::inputs::table::fetch_table;
 use crate::inputs::topology::fetch_topology;
 use crate::stop::Stop;
@@ -26,7 +26,7 @@ pub fn fetch_reset_host<F: Fetch>(
     cedt: &str,
     topo: &str,
     files: &mut F,
-) -> Result<Host, Stop>
+) -> Result<OwnedHost, Stop>
     ensures read { IfOk result (λ host. (table : CedtFields)
         × AreBothRead (F.state files.old).told cedt.now topo.now table host.topo
         × (host.windows.items ≡ windows_of table.records (Some (bridge_uids host.topo.nodes)))) }
@@ -46,7 +46,7 @@ pub fn fetch_reset_host<F: Fetch>(
     let windows = windows(alloc, &table, Some(topo.uids()))?;
     let _nodes = topo.count();
     let _blocks = image.count();
-    Ok(Host {
+    Ok(OwnedHost {
         topo,
         image,
         windows,

@@ -19,8 +19,10 @@ ghost use Rattle.cxl_shell.specs.inner.Generated.{made_host, IsMadeHost, EndsMad
 use crate::commands::script::unopened;
 use cxl_bus::Regs;
 use cxl_check::{CheckFault, check};
-use cxl_commands::{Host, Outcome, Status, finish};
-use cxl_gen::{command_count, made_command, made_systems_are_sound, made_table, made_tree};
+use cxl_commands::{Outcome, OwnedHost, Status, finish};
+use cxl_gen::{
+    Command, command_count, made_systems_are_sound, made_table, made_tree, make_command,
+};
 use cxl_image::Image;
 use cxl_io::{Memory, Sink};
 use cxl_media::Roll;
@@ -54,7 +56,7 @@ pub(crate) fn generated<K: Sink, R: Regs, M: Roll>(
 }
 
 /// The host of a number after reset.
-fn made_host(alloc: Global, n: u32) -> Result<Host, Memory>
+fn made_host(alloc: Global, n: u32) -> Result<OwnedHost, Memory>
     requires some { 1 ≤ n }
     requires few { n ≤ 32 }
     ensures { IfOk result (λ host. IsMadeHost n (system_of host.image host.topo host.windows.items) host.topo) }
@@ -66,7 +68,7 @@ fn made_host(alloc: Global, n: u32) -> Result<Host, Memory>
     let image = Image::new(alloc, &topo)?;
     let windows = windows(alloc, &cedt, Some(topo.uids()))?;
     let _blocks = image.count();
-    Ok(Host {
+    Ok(OwnedHost {
         topo,
         image,
         windows,
@@ -77,7 +79,7 @@ fn made_host(alloc: Global, n: u32) -> Result<Host, Memory>
 fn over_host<K: Sink, R: Regs, M: Roll>(
     alloc: Global,
     n: u32,
-    host: Host,
+    host: OwnedHost,
     out: &mut K,
     regs: &mut R,
     media: &mut M,
@@ -90,7 +92,7 @@ fn over_host<K: Sink, R: Regs, M: Roll>(
     ensures sink { (K.state out.old).faults ≤ (K.state out.new).faults }
     ensures bus { (R.state regs.old).faults ≤ (R.state regs.new).faults }
 {
-    let Host {
+    let OwnedHost {
         topo,
         image,
         windows,
@@ -171,8 +173,9 @@ fn carry_out_made<R: Regs, M: Roll>(
 {
     made_systems_are_sound();
     let mut counts = Counts::none();
+    let mut command = Command::Abort;
     for k in 0..command_count(n) {
-        let command = made_command(alloc, n, k)?;
+        make_command(alloc, n, k, &mut command)?;
         carry_out_counted(alloc, session, &command, &mut counts, regs, media)?;
     }
     Ok(counts)

@@ -13,7 +13,7 @@ ghost use Rattle.cxl_shell.specs.commands.Script.{bus_failed, script_stopped};
 ghost use Rattle.cxl_shell.specs.inner.Scripts.{EndsOver, EndsFromImage};
 
 use cxl_bus::Regs;
-use cxl_commands::{Host, Outcome, Status, Stop, checked, finish};
+use cxl_commands::{Outcome, OwnedHost, Status, Stop, checked, finish};
 use cxl_io::{Memory, Sink, Source};
 use cxl_media::Roll;
 use cxl_model::accepted_or_breach;
@@ -25,7 +25,7 @@ use std::alloc::Global;
 /// takes the topology, by which the breach is told.
 pub(crate) fn script_from_image<S: Source, K: Sink, R: Regs, M: Roll>(
     alloc: Global,
-    host: Host,
+    host: OwnedHost,
     source: &mut S,
     out: &mut K,
     regs: &mut R,
@@ -50,7 +50,7 @@ pub(crate) fn script_from_image<S: Source, K: Sink, R: Regs, M: Roll>(
 /// Carries out the commands of a script over a host whose image is accepted.
 pub(crate) fn script<S: Source, K: Sink, R: Regs, M: Roll>(
     alloc: Global,
-    host: Host,
+    host: OwnedHost,
     source: &mut S,
     out: &mut K,
     regs: &mut R,
@@ -67,7 +67,7 @@ pub(crate) fn script<S: Source, K: Sink, R: Regs, M: Roll>(
     ensures bus { (R.state regs.old).faults ≤ (R.state regs.new).faults }
 {
     accepted_or_breach();
-    let Host {
+    let OwnedHost {
         topo,
         image,
         windows,

@@ -21,13 +21,13 @@ carry_out_counted-requires-clause-stands g c = stands_there _ _ _ _ _ _ _ _ _ c.
 
 pub carry_out_counted-requires-clause-ranged : goal.carry_out_counted-requires-clause-ranged
 carry_out_counted-requires-clause-ranged g c =
-    next_ranged c.args.n c.loop-k.k c.in_ok-command.command c.made_systems_are_sound.ensures.ranged c.in_ok-command.ensures
+    next_ranged c.args.n c.loop-k.k c.make_command.new.command c.made_systems_are_sound.ensures.ranged c.in_ok-make_command.ensures
 
 pub carry_out_counted-requires-clause-few : goal.carry_out_counted-requires-clause-few
 carry_out_counted-requires-clause-few g c = (c.loop-k.k, omega arith, c.loop-k.invariant.within)
 
-pub returns-in_err-command-clause-some : goal.returns-in_err-command-clause-some
-returns-in_err-command-clause-some g c =
+pub returns-in_err-make_command-clause-some : goal.returns-in_err-make_command-clause-some
+returns-in_err-make_command-clause-some g c =
     on_err_from c.from_residual.result _
     (before_next c.args.n c.loop-k.k c.args.session.now c.loop-k.session (g.R.Regs.state c.args.regs.now) (g.R.Regs.state c.loop-k.regs)
     (g.M.Media.state c.args.media.now) (g.M.Media.state c.loop-k.media) c.loop-k.counts c.loop-k.invariant.each)
@@ -42,10 +42,10 @@ returns-in_err-carry_out_counted-clause-some g c =
 pub loop-k-preserved : goal.loop-k-preserved
 loop-k-preserved g c = record {
   each =
-      one_counted c.loop-k.k (made_commands c.args.n) c.in_ok-command.command c.args.session.now c.loop-k.session c.carry_out_counted.new.session
+      one_counted c.loop-k.k (made_commands c.args.n) c.make_command.new.command c.args.session.now c.loop-k.session c.carry_out_counted.new.session
       (g.R.Regs.state c.args.regs.now) (g.R.Regs.state c.loop-k.regs) (g.R.Regs.state c.carry_out_counted.new.regs) (g.M.Media.state c.args.media.now)
       (g.M.Media.state c.loop-k.media) (g.M.Media.state c.carry_out_counted.new.media) c.loop-k.counts c.carry_out_counted.new.counts c.loop-k.invariant.each
-      (take_next (made_commands c.args.n) c.loop-k.k c.in_ok-command.command c.in_ok-command.ensures) c.in_ok-carry_out_counted.ensures.taken;
+      (take_next (made_commands c.args.n) c.loop-k.k c.make_command.new.command c.in_ok-make_command.ensures) c.in_ok-carry_out_counted.ensures.taken;
   within = c.in_ok-carry_out_counted.ensures.within c.loop-k.k c.loop-k.invariant.within;
   bus = (let so_far = c.loop-k.invariant.bus in let more = c.in_ok-carry_out_counted.ensures.bus in omega (arith, so_far, more));
 }

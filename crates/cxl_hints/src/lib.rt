@@ -1,15 +1,17 @@
 //! What helps beside a fault: one line on standard error. No contract speaks of it, and standard output has none of it.
+#![tactic(auto)]
 
 mod files;
 mod words;
 
-use cxl_shell::Status;
+use cxl_commands::Status;
 use std::alloc::Global;
 use std::io::{self, Eprint};
 use std::rt::Files;
 
-/// Says in one line what is wrong and what to do, by the status with which the command ended. A command that was
-/// carried out, and one without an answer, has no such line.
+/// Says in one line what is wrong and what to do, by the words of the command and the status with which it ended. A command
+/// that was carried out, and one without an answer, has no such line. The error is that of standard error. (This project's
+/// rule.) Takes memory.
 pub fn hint<R: Eprint + Files>(
     rt: &R,
     alloc: Global,
