@@ -56,7 +56,7 @@ pub record IsFlatTurn (m : Machine) (one : Asked) (turn : Turn) : Type 0 where
   -- it is answered by the machine, of which loads and stores read and write one flat memory
   pub answered : TakesTurn m one turn
   pub memory : IsFlatAccess m one turn
-  -- each other command but a copy and a move leaves the bytes that each region behind it has, or zeros where it is new
+  -- each region behind a command that writes no bytes has those that it had, or zeros where it is new
   pub bytes : writes_bytes one ≡ false → KeepsBytes m turn.machine
   -- what it leaves is a machine that a session can stand for, over the same host
   pub machine : IsMachine turn.machine
