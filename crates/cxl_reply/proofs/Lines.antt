@@ -4,6 +4,7 @@ use Rattle.std.specs.Prelude.{codes, decimal}
 use Rattle.std.proofs.lemmas.List.{append-nil, length-take, take_more, take_all, map-append}
 use Rattle.std.proofs.lemmas.Grind.{flat_map-append}
 use Rattle.std.specs.List.{flat_map, enumerate_from, zip, range_with_len}
+use Rattle.cxl_reply.specs.Words.{more_spaced}
 use Rattle.cxl_reply.specs.Plans.{more_ports_text, ports_text}
 
 module _ {X : Type 0} where
@@ -101,6 +102,27 @@ same_item (x ∷ xs) (suc i) a b within = same_item xs i a b (omega arith)
 
 appended : (o p q text more : List ℕ) → p ≡ o ++ text → q ≡ p ++ more → q ≡ o ++ (text ++ more)
 appended o p q text more h k = k ∙ ap (λ (t : List ℕ). t ++ more) h ∙ append_assoc o text more
+
+-- a line for each item
+pub item_step : {X : Type 0} (f : X → List ℕ) (xs : List X) (i : ℕ) (d : X) (o p q : List ℕ) → i < length xs → p ≡ o ++ flat_map f (take i xs) → q ≡ p ++ f (get_or xs i d) → q ≡ o ++ flat_map f (take (i + 1) xs)
+item_step f xs i d o p q within so_far e =
+    appended o p q (flat_map f (take i xs)) (f (get_or xs i d)) so_far e
+    ∙ ap (λ (t : List ℕ). o ++ t) (sym (ap (flat_map f) (take_more xs i d within) ∙ one_line f (take i xs) (get_or xs i d)))
+
+-- a word for each item, behind a space
+pub word_step : {X : Type 0} (f : X → List ℕ) (xs : List X) (i : ℕ) (d : X) (o p r q : List ℕ) → i < length xs → p ≡ o ++ more_spaced (map f (take i xs)) → r ≡ p ++ codes " " → q ≡ r ++ f (get_or xs i d) → q ≡ o ++ more_spaced (map f (take (i + 1) xs))
+word_step {X = X} f xs i d o p r q within so_far space e =
+    let word : List ℕ = f (get_or xs i d) in
+    let more =
+    ap (λ (ys : List X). more_spaced (map f ys)) (take_more xs i d within)
+    ∙ ap more_spaced (map-append f (take i xs) (get_or xs i d ∷ []))
+    ∙ one_line (λ w. codes " " ++ w) (map f (take i xs)) word in
+    appended o p q (more_spaced (map f (take i xs))) (codes " " ++ word) so_far (appended p r q (codes " ") word space e)
+    ∙ ap (λ (t : List ℕ). o ++ t) (sym more)
+
+-- the text of all items
+pub all_items : {X : Type 0} (text : List X → List ℕ) (xs : List X) (i : ℕ) (o p : List ℕ) → length xs ≤ i → p ≡ o ++ text (take i xs) → p ≡ o ++ text xs
+all_items {X = X} text xs i o p long so_far = so_far ∙ ap (λ (ys : List X). o ++ text ys) (take_all i xs long)
 
 -- a line for each item, with its number
 pub line_step : {X : Type 0} (f : ℕ × X → List ℕ) (xs : List X) (i : ℕ) (d : X) (o p q : List ℕ) → i < length xs → p ≡ o ++ flat_map f (enumerate_from 0 (take i xs)) → q ≡ p ++ f (i, get_or xs i d) → q ≡ o ++ flat_map f (enumerate_from 0 (take (i + 1) xs))

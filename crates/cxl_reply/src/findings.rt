@@ -1,11 +1,12 @@
-ghost use Rattle.std.specs.Prelude.{◌≡◌, ◌<◌, ◌≤◌, ◌++◌, length, OnOk, OnErr};
+ghost use Rattle.std.specs.Prelude.{◌≡◌, ◌+◌, ◌<◌, ◌≤◌, ◌++◌, length, OnOk, OnErr};
 ghost use Rattle.cxl_reply.specs.Plans.{found_range_text, found_ways_text, found_head_text, found_text, breach_text};
 ghost use Rattle.cxl_reply.specs.Conditions.{IsToldFound};
 
+use crate::refusal::put_text;
 use crate::region::put_slots;
-use crate::words::{kind_text, put_address, put_gran, put_node};
+use crate::short_text::ShortText;
+use crate::words::kind_text;
 use cxl_enc::Memory;
-use cxl_io::put_number;
 use cxl_model::Found;
 use cxl_topo::Topo;
 
@@ -27,35 +28,40 @@ fn put_found_head(out: &mut Vec<u8>, found: &Found) -> Result<(), Memory>
     requires { found.now.gran ≤ 6 }
     ensures { OnOk result (out.new.items ≡ out.old.items ++ found_head_text found.now) }
 {
-    put_found_range(out, found)?;
-    put_found_ways(out, found)?;
-    out.push(b' ')?;
-    out.extend_from_slice(kind_text(found.kind))?;
-    out.push(b'\n')?;
-    Ok(())
+    let mut line = ShortText::new();
+    put_found_range(&mut line, found);
+    put_found_ways(&mut line, found);
+    line.put(b" ");
+    line.put(kind_text(found.kind));
+    line.put(b"\n");
+    put_text(out, line.bytes())
 }
 
 #[tactic(auto, unfolding(crate::specs::Plans::found_ways_text))]
-fn put_found_ways(out: &mut Vec<u8>, found: &Found) -> Result<(), Memory>
-    requires { found.now.gran ≤ 6 }
-    ensures { OnOk result (out.new.items ≡ out.old.items ++ found_ways_text found.now) }
+fn put_found_ways(line: &mut ShortText, found: &Found)
+    requires room { length line.old ≤ 80 }
+    requires gran { found.now.gran ≤ 6 }
+    ensures text { line.new ≡ line.old ++ found_ways_text found.now }
+    ensures len { length line.new ≤ length line.old + 32 }
 {
-    out.extend_from_slice(b" gran ")?;
-    put_gran(out, found.gran)?;
-    out.extend_from_slice(b" ways ")?;
-    put_number(out, u64::from(found.ways))
+    line.put(b" gran ");
+    line.put_gran(found.gran);
+    line.put(b" ways ");
+    line.put_number(u32::from(found.ways));
 }
 
 #[tactic(auto, unfolding(crate::specs::Plans::found_range_text))]
-fn put_found_range(out: &mut Vec<u8>, found: &Found) -> Result<(), Memory>
-    ensures { OnOk result (out.new.items ≡ out.old.items ++ found_range_text found.now) }
+fn put_found_range(line: &mut ShortText, found: &Found)
+    requires { length line.old ≤ 60 }
+    ensures text { line.new ≡ line.old ++ found_range_text found.now }
+    ensures len { length line.new ≤ length line.old + 67 }
 {
-    out.extend_from_slice(b"region ")?;
-    put_address(out, found.base)?;
-    out.extend_from_slice(b" size ")?;
-    put_address(out, found.size)?;
-    out.extend_from_slice(b" window ")?;
-    put_number(out, u64::from(found.window))
+    line.put(b"region ");
+    line.put_hex(found.base);
+    line.put(b" size ");
+    line.put_hex(found.size);
+    line.put(b" window ");
+    line.put_number(found.window);
 }
 
 /// Appends the rule that an image breaks first, by its number, with the node and the decoder that break
@@ -71,28 +77,14 @@ pub fn put_breach(
     ensures ok { OnOk result (out.new.items ≡ out.old.items ++ breach_text topo.now.nodes rule node decoder) }
     ensures err { OnErr result (out.new.items ≡ out.old.items) }
 {
-    let mut text = Vec::new(*out.allocator());
-    put_breach_line(&mut text, rule, node, decoder, topo)?;
-    out.extend_from_slice(&text)?;
-    Ok(())
-}
-
-fn put_breach_line(
-    out: &mut Vec<u8>,
-    rule: u8,
-    node: u32,
-    decoder: u8,
-    topo: &Topo,
-) -> Result<(), Memory>
-    requires { node < length topo.now.nodes }
-    ensures { OnOk result (out.new.items ≡ out.old.items ++ breach_text topo.now.nodes rule node decoder) }
-{
-    out.extend_from_slice(b"breach K")?;
-    put_number(out, u64::from(rule))?;
-    out.push(b' ')?;
-    put_node(out, node, topo)?;
-    out.push(b' ')?;
-    put_number(out, u64::from(decoder))?;
-    out.push(b'\n')?;
+    let mut line = ShortText::new();
+    line.put(b"breach K");
+    line.put_number(u32::from(rule));
+    line.put(b" ");
+    line.put_node(node, topo);
+    line.put(b" ");
+    line.put_number(u32::from(decoder));
+    line.put(b"\n");
+    out.extend_from_slice(line.bytes())?;
     Ok(())
 }

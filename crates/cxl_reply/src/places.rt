@@ -1,13 +1,13 @@
-ghost use Rattle.std.specs.Prelude.{◌≡◌, ◌<◌, ◌≤◌, ◌++◌, All, length, map, OnOk};
+ghost use Rattle.std.specs.Prelude.{◌≡◌, ◌+◌, ◌<◌, ◌≤◌, ◌++◌, All, length, map, OnOk};
 ghost use Rattle.cxl_reply.specs.Words.{more_spaced};
-ghost use Rattle.cxl_reply.specs.Texts.{via_text, vias_text, down_head_text, down_end_text, down_text, up_text, loaded_text, slot_endpoint_text, extent_bytes_text, extent_text, extents_text, share_text, shares_text, spread_text};
+ghost use Rattle.cxl_reply.specs.Texts.{via_text, vias_text, down_head_text, down_end_text, down_text, up_text, loaded_text, extent_bytes_text, extent_text, extents_text, share_text, shares_text, spread_text};
 ghost use Rattle.cxl_reply.specs.Conditions.{IsToldDown, IsToldExtents, AreToldSlots};
 
 use crate::details::{Downed, Extents, Spread, Upped, Via};
 use crate::digits::put_bytes;
-use crate::words::{put_address, put_node};
+use crate::refusal::put_text;
+use crate::short_text::ShortText;
 use cxl_enc::Memory;
-use cxl_io::put_number;
 use cxl_model::Extent;
 use cxl_topo::Topo;
 
@@ -24,28 +24,30 @@ pub(crate) fn put_down(out: &mut Vec<u8>, downed: &Downed, topo: &Topo) -> Resul
 fn put_down_head(out: &mut Vec<u8>, downed: &Downed) -> Result<(), Memory>
     ensures { OnOk result (out.new.items ≡ out.old.items ++ down_head_text downed.now) }
 {
-    out.extend_from_slice(b"down ")?;
-    put_address(out, downed.h)?;
-    out.extend_from_slice(b" region ")?;
-    out.extend_from_slice(downed.name.bytes())?;
-    out.extend_from_slice(b" slot ")?;
-    put_number(out, u64::from(downed.slot))?;
-    out.extend_from_slice(b" position ")?;
-    put_number(out, u64::from(downed.position))?;
-    out.extend_from_slice(b" via ")?;
-    Ok(())
+    let mut head = ShortText::new();
+    head.put(b"down ");
+    head.put_hex(downed.h);
+    head.put(b" region ");
+    head.put_name(&downed.name);
+    head.put(b" slot ");
+    head.put_number(downed.slot);
+    head.put(b" position ");
+    head.put_number(downed.position);
+    head.put(b" via ");
+    put_text(out, head.bytes())
 }
 
 fn put_down_end(out: &mut Vec<u8>, downed: &Downed, topo: &Topo) -> Result<(), Memory>
     requires { downed.now.endpoint < length topo.now.nodes }
     ensures { OnOk result (out.new.items ≡ out.old.items ++ down_end_text topo.now.nodes downed.now) }
 {
-    out.extend_from_slice(b" endpoint ")?;
-    put_node(out, downed.endpoint, topo)?;
-    out.extend_from_slice(b" dpa ")?;
-    put_address(out, downed.dpa)?;
-    out.push(b'\n')?;
-    Ok(())
+    let mut end = ShortText::new();
+    end.put(b" endpoint ");
+    end.put_node(downed.endpoint, topo);
+    end.put(b" dpa ");
+    end.put_hex(downed.dpa);
+    end.put(b"\n");
+    put_text(out, end.bytes())
 }
 
 /// Appends the ports on the way with spaces between, or a dash where there is none.
@@ -81,23 +83,26 @@ fn put_via(out: &mut Vec<u8>, via: &Via, topo: &Topo) -> Result<(), Memory>
     requires { via.now.node < length topo.now.nodes }
     ensures { OnOk result (out.new.items ≡ out.old.items ++ via_text topo.now.nodes via.now) }
 {
-    put_node(out, via.node, topo)?;
-    out.push(b':')?;
-    put_number(out, u64::from(via.decoder))?;
-    out.push(b':')?;
-    put_number(out, u64::from(via.entry))
+    let mut text = ShortText::new();
+    text.put_node(via.node, topo);
+    text.put(b":");
+    text.put_number(u32::from(via.decoder));
+    text.put(b":");
+    text.put_number(u32::from(via.entry));
+    put_text(out, text.bytes())
 }
 
 /// Appends which host address goes to a device byte.
 pub(crate) fn put_up(out: &mut Vec<u8>, upped: &Upped) -> Result<(), Memory>
     ensures { OnOk result (out.new.items ≡ out.old.items ++ up_text upped.now) }
 {
-    out.extend_from_slice(b"host ")?;
-    put_address(out, upped.h)?;
-    out.extend_from_slice(b" region ")?;
-    out.extend_from_slice(upped.name.bytes())?;
-    out.push(b'\n')?;
-    Ok(())
+    let mut line = ShortText::new();
+    line.put(b"host ");
+    line.put_hex(upped.h);
+    line.put(b" region ");
+    line.put_name(&upped.name);
+    line.put(b"\n");
+    put_text(out, line.bytes())
 }
 
 /// Appends bytes in hexadecimal digits.
@@ -106,8 +111,7 @@ pub(crate) fn put_loaded(out: &mut Vec<u8>, bytes: &[u8]) -> Result<(), Memory>
 {
     out.extend_from_slice(b"bytes ")?;
     put_bytes(out, bytes)?;
-    out.push(b'\n')?;
-    Ok(())
+    put_text(out, b"\n")
 }
 
 /// Appends a line for each extent.
@@ -132,33 +136,27 @@ fn put_extent(
     requires endpoints { All (λ n. n < length topo.now.nodes) endpoints.now }
     ensures { OnOk result (out.new.items ≡ out.old.items ++ extent_text topo.now.nodes endpoints.now extent.now) }
 {
-    put_extent_bytes(out, extent)?;
-    out.push(b' ')?;
-    put_endpoint(out, endpoints, extent.slot, topo)?;
-    out.push(b' ')?;
-    put_address(out, extent.dpa)?;
-    out.push(b'\n')?;
-    Ok(())
+    let mut line = ShortText::new();
+    put_extent_bytes(&mut line, extent);
+    line.put(b" ");
+    line.put_node(endpoints[extent.slot as usize], topo);
+    line.put(b" ");
+    line.put_hex(extent.dpa);
+    line.put(b"\n");
+    put_text(out, line.bytes())
 }
 
 /// Appends the host bytes of an extent.
 #[tactic(auto, unfolding(crate::specs::Texts::extent_bytes_text))]
-fn put_extent_bytes(out: &mut Vec<u8>, extent: &Extent) -> Result<(), Memory>
-    ensures { OnOk result (out.new.items ≡ out.old.items ++ extent_bytes_text extent.now) }
+fn put_extent_bytes(line: &mut ShortText, extent: &Extent)
+    requires { length line.old ≤ 60 }
+    ensures text { line.new ≡ line.old ++ extent_bytes_text extent.now }
+    ensures len { length line.new ≤ length line.old + 36 }
 {
-    out.extend_from_slice(b"extent ")?;
-    put_address(out, extent.h)?;
-    out.push(b' ')?;
-    put_number(out, u64::from(extent.len))
-}
-
-/// Appends the endpoint of a slot.
-fn put_endpoint(out: &mut Vec<u8>, endpoints: &[u32], slot: u32, topo: &Topo) -> Result<(), Memory>
-    requires slot { slot < length endpoints.now }
-    requires endpoints { All (λ n. n < length topo.now.nodes) endpoints.now }
-    ensures { OnOk result (out.new.items ≡ out.old.items ++ slot_endpoint_text topo.now.nodes endpoints.now slot) }
-{
-    put_node(out, endpoints[slot as usize], topo)
+    line.put(b"extent ");
+    line.put_hex(extent.h);
+    line.put(b" ");
+    line.put_number(extent.len);
 }
 
 /// Appends a line for each slot.
@@ -195,12 +193,13 @@ fn put_share(
     requires { endpoint < length topo.now.nodes }
     ensures { OnOk result (out.new.items ≡ out.old.items ++ share_text topo.now.nodes (slot, (endpoint, bytes))) }
 {
-    out.extend_from_slice(b"slot ")?;
-    put_number(out, slot as u64)?;
-    out.push(b' ')?;
-    put_node(out, endpoint, topo)?;
-    out.push(b' ')?;
-    put_number(out, bytes)?;
-    out.push(b'\n')?;
-    Ok(())
+    let mut line = ShortText::new();
+    line.put(b"slot ");
+    line.put_long_number(slot as u64);
+    line.put(b" ");
+    line.put_node(endpoint, topo);
+    line.put(b" ");
+    line.put_long_number(bytes);
+    line.put(b"\n");
+    put_text(out, line.bytes())
 }

@@ -4,8 +4,10 @@ ghost use Rattle.cxl_regs.specs.Reading.{entries_of};
 ghost use Rattle.cxl_topo.specs.Tree.{is_endpoint_at};
 ghost use Rattle.cxl_reply.specs.Plans.{plan_head_text, more_ports_text, ports_text, tail_text, decoder_text, planned_text, plan_text, IsToldRow, IsToldPlan};
 
-use crate::region::put_layout;
-use crate::words::{kind_text, put_address, put_node};
+use crate::refusal::put_text;
+use crate::region::put_head;
+use crate::short_text::ShortText;
+use crate::words::put_address;
 use cxl_enc::Memory;
 use cxl_io::put_number;
 use cxl_model::{Plan, Row};
@@ -30,14 +32,7 @@ fn put_plan_head(out: &mut Vec<u8>, plan: &Plan) -> Result<(), Memory>
     requires { plan.now.found.gran ≤ 6 }
     ensures { OnOk result (out.new.items ≡ out.old.items ++ plan_head_text plan.now) }
 {
-    out.extend_from_slice(b"plan ")?;
-    out.extend_from_slice(plan.name.bytes())?;
-    out.push(b' ')?;
-    out.extend_from_slice(kind_text(plan.found.kind))?;
-    out.push(b' ')?;
-    put_layout(out, &plan.found)?;
-    out.push(b'\n')?;
-    Ok(())
+    put_head(out, b"plan ", &plan.name, &plan.found)
 }
 
 fn put_plan_rows(out: &mut Vec<u8>, rows: &[Row], topo: &Topo) -> Result<(), Memory>
@@ -54,14 +49,15 @@ fn put_planned(out: &mut Vec<u8>, row: &Row, topo: &Topo) -> Result<(), Memory>
     requires { IsToldRow topo.now.nodes row.now }
     ensures { OnOk result (out.new.items ≡ out.old.items ++ planned_text topo.now.nodes row.now) }
 {
-    out.extend_from_slice(b"row ")?;
-    put_node(out, row.node, topo)?;
-    out.push(b' ')?;
-    put_number(out, u64::from(row.index))?;
-    put_decoder(out, &row.decoder)?;
+    let mut head = ShortText::new();
+    head.put(b"row ");
+    head.put_node(row.node, topo);
+    head.put(b" ");
+    head.put_number(u32::from(row.index));
+    put_decoder(&mut head, &row.decoder);
+    put_text(out, head.bytes())?;
     put_tail(out, is_endpoint(row.node, topo), &row.decoder)?;
-    out.push(b'\n')?;
-    Ok(())
+    put_text(out, b"\n")
 }
 
 fn is_endpoint(node: u32, topo: &Topo) -> bool
@@ -71,14 +67,15 @@ fn is_endpoint(node: u32, topo: &Topo) -> bool
     matches!(topo.node(node).kind, NodeKind::Endpoint(_))
 }
 
-fn put_decoder(out: &mut Vec<u8>, decoder: &Decoder) -> Result<(), Memory>
-    requires { decoder.now.gran < 16 }
-    ensures { OnOk result (out.new.items ≡ out.old.items ++ decoder_text decoder.now) }
+fn put_decoder(text: &mut ShortText, decoder: &Decoder)
+    requires room { length text.old ≤ 60 }
+    requires gran { decoder.now.gran < 16 }
+    ensures { text.new ≡ text.old ++ decoder_text decoder.now }
 {
-    out.extend_from_slice(b" ways ")?;
-    put_number(out, u64::from(decoder.interleave_ways()))?;
-    out.extend_from_slice(b" gran ")?;
-    put_number(out, u64::from(decoder.interleave_granularity()))
+    text.put(b" ways ");
+    text.put_number(u32::from(decoder.interleave_ways()));
+    text.put(b" gran ");
+    text.put_number(decoder.interleave_granularity());
 }
 
 /// Appends a port's target list, or an endpoint's skip.

@@ -1,14 +1,14 @@
-ghost use Rattle.std.specs.Prelude.{◌≡◌, ◌<◌, ◌++◌, All, codes, length, OnOk};
+ghost use Rattle.std.specs.Prelude.{◌≡◌, ◌+◌, ◌<◌, ◌≤◌, ◌++◌, All, codes, length, OnOk};
 ghost use Rattle.std.specs.List.{flat_map, zip};
 ghost use Rattle.cxl_reply.specs.Words.{line};
 ghost use Rattle.cxl_reply.specs.Texts.{flag_text, overflow_text, flags_text, list_text, source_text, entry_text, region_text, part_text, unmapped_text, record_text, report_text};
+ghost use Rattle.cxl_reply.specs.Short.{short_limit};
 ghost use Rattle.cxl_reply.specs.Conditions.{region_of, IsToldReport};
 
 use crate::details::Report;
 use crate::refusal::put_text;
-use crate::words::{put_address, put_node};
+use crate::short_text::ShortText;
 use cxl_enc::{Memory, Name};
-use cxl_io::put_number;
 use cxl_model::{Entry, Part, PoisonList, Poisoned};
 use cxl_topo::Topo;
 
@@ -26,39 +26,45 @@ fn put_list(out: &mut Vec<u8>, endpoint: u32, list: &PoisonList, topo: &Topo) ->
     requires { endpoint < length topo.now.nodes }
     ensures { OnOk result (out.new.items ≡ out.old.items ++ list_text topo.now.nodes endpoint list.now) }
 {
-    out.extend_from_slice(b"poison ")?;
-    put_node(out, endpoint, topo)?;
-    out.extend_from_slice(b" records ")?;
-    put_number(out, list.records.items().len() as u64)?;
-    put_flags(out, list)?;
-    out.push(b'\n')?;
-    Ok(())
+    let mut line = ShortText::new();
+    line.put(b"poison ");
+    line.put_node(endpoint, topo);
+    line.put(b" records ");
+    line.put_long_number(list.records.items().len() as u64);
+    put_flags(&mut line, list);
+    line.put(b"\n");
+    put_text(out, line.bytes())
 }
 
 /// Appends what a poison list says of itself.
-fn put_flags(out: &mut Vec<u8>, list: &PoisonList) -> Result<(), Memory>
-    ensures { OnOk result (out.new.items ≡ out.old.items ++ flags_text list.now) }
+fn put_flags(line: &mut ShortText, list: &PoisonList)
+    requires { length line.old ≤ 60 }
+    ensures text { line.new ≡ line.old ++ flags_text list.now }
+    ensures len { length line.new ≤ length line.old + 50 }
 {
-    put_flag(out, list.more, b" more")?;
-    put_overflow(out, list.overflow)?;
-    put_flag(out, list.scanning, b" scanning")
+    put_flag(line, list.more, b" more");
+    put_overflow(line, list.overflow);
+    put_flag(line, list.scanning, b" scanning");
 }
 
-fn put_flag(out: &mut Vec<u8>, flag: bool, text: &[u8]) -> Result<(), Memory>
-    ensures { OnOk result (out.new.items ≡ out.old.items ++ flag_text flag text.now) }
+fn put_flag(line: &mut ShortText, flag: bool, text: &[u8])
+    requires { length line.old + length text.now ≤ short_limit }
+    ensures text { line.new ≡ line.old ++ flag_text flag text.now }
+    ensures len { length line.new ≤ length line.old + length text.now }
 {
-    if flag { put_text(out, text) } else { Ok(()) }
+    if flag {
+        line.put(text);
+    }
 }
 
-fn put_overflow(out: &mut Vec<u8>, overflow: Option<u64>) -> Result<(), Memory>
-    ensures { OnOk result (out.new.items ≡ out.old.items ++ overflow_text overflow) }
+fn put_overflow(line: &mut ShortText, overflow: Option<u64>)
+    requires { length line.old ≤ 80 }
+    ensures text { line.new ≡ line.old ++ overflow_text overflow }
+    ensures len { length line.new ≤ length line.old + 30 }
 {
-    match overflow {
-        None => Ok(()),
-        Some(timestamp) => {
-            out.extend_from_slice(b" overflow ")?;
-            put_number(out, timestamp)
-        }
+    if let Some(timestamp) = overflow {
+        line.put(b" overflow ");
+        line.put_long_number(timestamp);
     }
 }
 
@@ -95,27 +101,30 @@ fn put_record(
 fn put_entry(out: &mut Vec<u8>, entry: &Entry) -> Result<(), Memory>
     ensures { OnOk result (out.new.items ≡ out.old.items ++ entry_text entry.now) }
 {
-    out.extend_from_slice(b"record ")?;
-    put_address(out, entry.dpa)?;
-    out.extend_from_slice(b" length ")?;
-    put_number(out, 64 * u64::from(entry.units))?;
-    out.extend_from_slice(b" source ")?;
-    put_source(out, entry.source)?;
-    out.push(b'\n')?;
-    Ok(())
+    let mut line = ShortText::new();
+    line.put(b"record ");
+    line.put_hex(entry.dpa);
+    line.put(b" length ");
+    line.put_long_number(64 * u64::from(entry.units));
+    line.put(b" source ");
+    put_source(&mut line, entry.source);
+    line.put(b"\n");
+    put_text(out, line.bytes())
 }
 
 /// Appends what found the poison, or the number of a source that has no name.
-fn put_source(out: &mut Vec<u8>, source: u8) -> Result<(), Memory>
-    ensures { OnOk result (out.new.items ≡ out.old.items ++ source_text source) }
+fn put_source(line: &mut ShortText, source: u8)
+    requires { length line.old ≤ 80 }
+    ensures text { line.new ≡ line.old ++ source_text source }
+    ensures len { length line.new ≤ length line.old + 10 }
 {
     match source {
-        0 => put_text(out, b"unknown"),
-        1 => put_text(out, b"external"),
-        2 => put_text(out, b"internal"),
-        3 => put_text(out, b"injected"),
-        7 => put_text(out, b"vendor"),
-        _ => put_number(out, u64::from(source)),
+        0 => line.put(b"unknown"),
+        1 => line.put(b"external"),
+        2 => line.put(b"internal"),
+        3 => line.put(b"injected"),
+        7 => line.put(b"vendor"),
+        _ => line.put_number(u32::from(source)),
     }
 }
 
@@ -133,35 +142,37 @@ fn put_part(out: &mut Vec<u8>, part: &Part, names: &[Name]) -> Result<(), Memory
     requires { region_of part.now < length names.now }
     ensures { OnOk result (out.new.items ≡ out.old.items ++ part_text names.now part.now) }
 {
+    let mut line = ShortText::new();
     match part {
         Part::Run(run) => {
-            out.extend_from_slice(b"run ")?;
-            put_address(out, run.h)?;
-            out.push(b' ')?;
-            put_number(out, run.len)?;
-            put_region(out, run.region, names)
+            line.put(b"run ");
+            line.put_hex(run.h);
+            line.put(b" ");
+            line.put_long_number(run.len);
+            put_region(&mut line, run.region, names);
         }
         Part::Wide(wide) => {
-            out.extend_from_slice(b"wide ")?;
-            put_address(out, wide.first)?;
-            out.push(b' ')?;
-            put_address(out, wide.last)?;
-            out.push(b' ')?;
-            put_number(out, wide.count)?;
-            put_region(out, wide.region, names)
+            line.put(b"wide ");
+            line.put_hex(wide.first);
+            line.put(b" ");
+            line.put_hex(wide.last);
+            line.put(b" ");
+            line.put_long_number(wide.count);
+            put_region(&mut line, wide.region, names);
         }
     }
+    put_text(out, line.bytes())
 }
 
 /// Appends the end of a line that tells a region by its place among the names.
-fn put_region(out: &mut Vec<u8>, region: u32, names: &[Name]) -> Result<(), Memory>
-    requires { region < length names.now }
-    ensures { OnOk result (out.new.items ≡ out.old.items ++ line (codes " region " ++ region_text names.now region)) }
+fn put_region(text: &mut ShortText, region: u32, names: &[Name])
+    requires room { length text.old ≤ 100 }
+    requires region { region < length names.now }
+    ensures { text.new ≡ text.old ++ line (codes " region " ++ region_text names.now region) }
 {
-    out.extend_from_slice(b" region ")?;
-    out.extend_from_slice(names[region as usize].bytes())?;
-    out.push(b'\n')?;
-    Ok(())
+    text.put(b" region ");
+    text.put_name(&names[region as usize]);
+    text.put(b"\n");
 }
 
 fn put_unmapped(out: &mut Vec<u8>, bytes: u64) -> Result<(), Memory>
@@ -170,8 +181,9 @@ fn put_unmapped(out: &mut Vec<u8>, bytes: u64) -> Result<(), Memory>
     if bytes == 0 {
         return Ok(());
     }
-    out.extend_from_slice(b"unmapped ")?;
-    put_number(out, bytes)?;
-    out.push(b'\n')?;
-    Ok(())
+    let mut line = ShortText::new();
+    line.put(b"unmapped ");
+    line.put_long_number(bytes);
+    line.put(b"\n");
+    put_text(out, line.bytes())
 }

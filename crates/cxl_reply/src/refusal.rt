@@ -1,13 +1,13 @@
-ghost use Rattle.std.specs.Prelude.{◌≡◌, ◌<◌, ◌++◌, All, codes, decimal, length, OnOk};
+ghost use Rattle.std.specs.Prelude.{◌≡◌, ◌+◌, ◌<◌, ◌≤◌, ◌++◌, All, codes, decimal, length, OnOk};
 ghost use Rattle.cxl_reply.specs.Words.{line, hex_text, node_text};
 ghost use Rattle.std.specs.List.{flat_map, enumerate_from};
 ghost use Rattle.cxl_reply.specs.Refusals.{why_text, bad_line_text, named_text, full_text, spot_text, sizes_text, span_text, reason_text, window_text, plan_fault_text, count_text};
 ghost use Rattle.cxl_reply.specs.Conditions.{IsToldReason, IsToldFault};
 
 use crate::details::{Counted, Lack, Sizes, Spot};
-use crate::words::{put_address, put_node};
+use crate::short_lines::named_line;
+use crate::short_text::ShortText;
 use cxl_enc::{Memory, Name};
-use cxl_io::put_number;
 use cxl_model::{PlanFault, Reason, Room, SpanFault};
 use cxl_script::{BadLine, Why};
 use cxl_topo::Topo;
@@ -15,16 +15,18 @@ use cxl_topo::Topo;
 pub(crate) fn put_bad_line(out: &mut Vec<u8>, fault: &BadLine) -> Result<(), Memory>
     ensures { OnOk result (out.new.items ≡ out.old.items ++ bad_line_text fault.now) }
 {
-    out.extend_from_slice(b"bad line ")?;
-    put_number(out, u64::from(fault.at))?;
-    out.push(b' ')?;
-    out.extend_from_slice(why_text(fault.why))?;
-    out.push(b'\n')?;
-    Ok(())
+    let mut line = ShortText::new();
+    line.put(b"bad line ");
+    line.put_number(fault.at);
+    line.put(b" ");
+    line.put(why_text(fault.why));
+    line.put(b"\n");
+    put_text(out, line.bytes())
 }
 
 fn why_text(why: Why) -> &'static [u8]
-    ensures { result.now ≡ why_text why }
+    ensures text { result.now ≡ why_text why }
+    ensures few { length result.now ≤ 10 }
 {
     match why {
         Why::Verb => b"verb",
@@ -41,24 +43,22 @@ fn why_text(why: Why) -> &'static [u8]
 
 /// Appends words and a name.
 pub(crate) fn put_named(out: &mut Vec<u8>, words: &[u8], name: &Name) -> Result<(), Memory>
+    requires { length words.now ≤ 20 }
     ensures { OnOk result (out.new.items ≡ out.old.items ++ named_text words.now name.now) }
 {
-    out.extend_from_slice(words)?;
-    out.push(b' ')?;
-    out.extend_from_slice(name.bytes())?;
-    out.push(b'\n')?;
-    Ok(())
+    put_text(out, named_line(words, name).bytes())
 }
 
 pub(crate) fn put_full(out: &mut Vec<u8>, lack: &Lack) -> Result<(), Memory>
     ensures { OnOk result (out.new.items ≡ out.old.items ++ full_text lack.now) }
 {
-    out.extend_from_slice(b"full need ")?;
-    put_number(out, u64::from(lack.need))?;
-    out.extend_from_slice(b" free ")?;
-    put_number(out, u64::from(lack.free))?;
-    out.push(b'\n')?;
-    Ok(())
+    let mut line = ShortText::new();
+    line.put(b"full need ");
+    line.put_number(lack.need);
+    line.put(b" free ");
+    line.put_number(lack.free);
+    line.put(b"\n");
+    put_text(out, line.bytes())
 }
 
 /// Appends words, a node and a decoder of it.
@@ -68,38 +68,42 @@ pub(crate) fn put_spot(
     spot: &Spot,
     topo: &Topo,
 ) -> Result<(), Memory>
-    requires { spot.now.node < length topo.now.nodes }
+    requires few { length words.now ≤ 20 }
+    requires node { spot.now.node < length topo.now.nodes }
     ensures { OnOk result (out.new.items ≡ out.old.items ++ spot_text words.now topo.now.nodes spot.now) }
 {
-    out.extend_from_slice(words)?;
-    out.push(b' ')?;
-    put_node(out, spot.node, topo)?;
-    out.push(b' ')?;
-    put_number(out, u64::from(spot.decoder))?;
-    out.push(b'\n')?;
-    Ok(())
+    let mut line = ShortText::new();
+    line.put(words);
+    line.put(b" ");
+    line.put_node(spot.node, topo);
+    line.put(b" ");
+    line.put_number(u32::from(spot.decoder));
+    line.put(b"\n");
+    put_text(out, line.bytes())
 }
 
 pub(crate) fn put_sizes(out: &mut Vec<u8>, sizes: &Sizes) -> Result<(), Memory>
     ensures { OnOk result (out.new.items ≡ out.old.items ++ sizes_text sizes.now) }
 {
-    out.extend_from_slice(b"sizes differ ")?;
-    put_address(out, sizes.from)?;
-    out.push(b' ')?;
-    put_address(out, sizes.to)?;
-    out.push(b'\n')?;
-    Ok(())
+    let mut line = ShortText::new();
+    line.put(b"sizes differ ");
+    line.put_hex(sizes.from);
+    line.put(b" ");
+    line.put_hex(sizes.to);
+    line.put(b"\n");
+    put_text(out, line.bytes())
 }
 
 pub(crate) fn put_count(out: &mut Vec<u8>, counted: &Counted) -> Result<(), Memory>
     ensures { OnOk result (out.new.items ≡ out.old.items ++ count_text counted.now) }
 {
-    out.extend_from_slice(b"poison count ")?;
-    put_number(out, u64::from(counted.said))?;
-    out.push(b' ')?;
-    put_number(out, u64::from(counted.room))?;
-    out.push(b'\n')?;
-    Ok(())
+    let mut line = ShortText::new();
+    line.put(b"poison count ");
+    line.put_number(counted.said);
+    line.put(b" ");
+    line.put_number(counted.room);
+    line.put(b"\n");
+    put_text(out, line.bytes())
 }
 
 /// Appends why there is no plan.
@@ -132,22 +136,25 @@ pub(crate) fn put_text(out: &mut Vec<u8>, text: &[u8]) -> Result<(), Memory>
 
 /// Appends words that end with a space, and a node.
 fn put_at_node(out: &mut Vec<u8>, words: &[u8], node: u32, topo: &Topo) -> Result<(), Memory>
-    requires { node < length topo.now.nodes }
+    requires few { length words.now ≤ 20 }
+    requires node { node < length topo.now.nodes }
     ensures { OnOk result (out.new.items ≡ out.old.items ++ line (words.now ++ node_text topo.now.nodes node)) }
 {
-    out.extend_from_slice(words)?;
-    put_node(out, node, topo)?;
-    out.push(b'\n')?;
-    Ok(())
+    let mut line = ShortText::new();
+    line.put(words);
+    line.put_node(node, topo);
+    line.put(b"\n");
+    put_text(out, line.bytes())
 }
 
 fn put_ways(out: &mut Vec<u8>, ways: u32) -> Result<(), Memory>
     ensures { OnOk result (out.new.items ≡ out.old.items ++ line (codes "refused ways " ++ decimal ways)) }
 {
-    out.extend_from_slice(b"refused ways ")?;
-    put_number(out, u64::from(ways))?;
-    out.push(b'\n')?;
-    Ok(())
+    let mut line = ShortText::new();
+    line.put(b"refused ways ");
+    line.put_number(ways);
+    line.put(b"\n");
+    put_text(out, line.bytes())
 }
 
 fn put_span_fault(
@@ -160,35 +167,41 @@ fn put_span_fault(
     ensures { OnOk result (out.new.items ≡ out.old.items
         ++ line (codes "refused span " ++ node_text topo.now.nodes endpoint ++ codes " " ++ span_text fault.now)) }
 {
-    out.extend_from_slice(b"refused span ")?;
-    put_node(out, endpoint, topo)?;
-    out.push(b' ')?;
-    put_span_cause(out, fault)?;
-    out.push(b'\n')?;
-    Ok(())
+    let mut line = ShortText::new();
+    line.put(b"refused span ");
+    line.put_node(endpoint, topo);
+    line.put(b" ");
+    put_span_cause(&mut line, fault);
+    line.put(b"\n");
+    put_text(out, line.bytes())
 }
 
-fn put_span_cause(out: &mut Vec<u8>, fault: &SpanFault) -> Result<(), Memory>
-    ensures { OnOk result (out.new.items ≡ out.old.items ++ span_text fault.now) }
+fn put_span_cause(line: &mut ShortText, fault: &SpanFault)
+    requires { length line.old ≤ 60 }
+    ensures text { line.new ≡ line.old ++ span_text fault.now }
+    ensures len { length line.new ≤ length line.old + 60 }
 {
     match fault {
-        SpanFault::NoDecoder => put_text(out, b"no-decoder"),
+        SpanFault::NoDecoder => line.put(b"no-decoder"),
         SpanFault::PastRam(cursor) => {
-            out.extend_from_slice(b"past-ram ")?;
-            put_address(out, *cursor)
+            line.put(b"past-ram ");
+            line.put_hex(*cursor);
         }
-        SpanFault::NoRoom(room) => put_room(out, b"no-room ", room),
+        SpanFault::NoRoom(room) => put_room(line, b"no-room ", room),
     }
 }
 
 /// Appends a word that ends with a space, and where a span or a region would lie.
-fn put_room(out: &mut Vec<u8>, word: &[u8], room: &Room) -> Result<(), Memory>
-    ensures { OnOk result (out.new.items ≡ out.old.items ++ (word.now ++ hex_text room.now.start ++ codes " " ++ hex_text room.now.limit)) }
+fn put_room(line: &mut ShortText, word: &[u8], room: &Room)
+    requires before { length line.old ≤ 60 }
+    requires word { length word.now ≤ 10 }
+    ensures text { line.new ≡ line.old ++ (word.now ++ hex_text room.now.start ++ codes " " ++ hex_text room.now.limit) }
+    ensures len { length line.new ≤ length line.old + 60 }
 {
-    out.extend_from_slice(word)?;
-    put_address(out, room.start)?;
-    out.push(b' ')?;
-    put_address(out, room.limit)
+    line.put(word);
+    line.put_hex(room.start);
+    line.put(b" ");
+    line.put_hex(room.limit);
 }
 
 fn put_no_window(out: &mut Vec<u8>, reasons: &[Reason], topo: &Topo) -> Result<(), Memory>
@@ -216,32 +229,35 @@ fn put_window(out: &mut Vec<u8>, index: usize, reason: &Reason, topo: &Topo) -> 
     requires { IsToldReason topo.now.nodes reason.now }
     ensures { OnOk result (out.new.items ≡ out.old.items ++ window_text topo.now.nodes (index, reason.now)) }
 {
-    out.extend_from_slice(b"window ")?;
-    put_number(out, index as u64)?;
-    out.push(b' ')?;
-    put_reason(out, reason, topo)?;
-    out.push(b'\n')?;
-    Ok(())
+    let mut line = ShortText::new();
+    line.put(b"window ");
+    line.put_long_number(index as u64);
+    line.put(b" ");
+    put_reason(&mut line, reason, topo);
+    line.put(b"\n");
+    put_text(out, line.bytes())
 }
 
-fn put_reason(out: &mut Vec<u8>, reason: &Reason, topo: &Topo) -> Result<(), Memory>
-    requires { IsToldReason topo.now.nodes reason.now }
-    ensures { OnOk result (out.new.items ≡ out.old.items ++ reason_text topo.now.nodes reason.now) }
+fn put_reason(line: &mut ShortText, reason: &Reason, topo: &Topo)
+    requires before { length line.old ≤ 60 }
+    requires told { IsToldReason topo.now.nodes reason.now }
+    ensures text { line.new ≡ line.old ++ reason_text topo.now.nodes reason.now }
+    ensures len { length line.new ≤ length line.old + 60 }
 {
     match reason {
-        Reason::Unusable => put_text(out, b"unusable"),
-        Reason::Kind => put_text(out, b"kind"),
-        Reason::Fixed => put_text(out, b"fixed"),
-        Reason::Bridges => put_text(out, b"bridges"),
-        Reason::Gran => put_text(out, b"gran"),
+        Reason::Unusable => line.put(b"unusable"),
+        Reason::Kind => line.put(b"kind"),
+        Reason::Fixed => line.put(b"fixed"),
+        Reason::Bridges => line.put(b"bridges"),
+        Reason::Gran => line.put(b"gran"),
         Reason::Select(node) => {
-            out.extend_from_slice(b"select ")?;
-            put_node(out, *node, topo)
+            line.put(b"select ");
+            line.put_node(*node, topo);
         }
         Reason::WaysCap(node) => {
-            out.extend_from_slice(b"ways-cap ")?;
-            put_node(out, *node, topo)
+            line.put(b"ways-cap ");
+            line.put_node(*node, topo);
         }
-        Reason::NoBase(room) => put_room(out, b"no-base ", room),
+        Reason::NoBase(room) => put_room(line, b"no-base ", room),
     }
 }

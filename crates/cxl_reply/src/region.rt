@@ -1,14 +1,15 @@
-ghost use Rattle.std.specs.Prelude.{◌≡◌, ◌<◌, ◌≤◌, ◌++◌, All, length, map, OnOk, OnErr};
+ghost use Rattle.std.specs.Prelude.{◌≡◌, ◌<◌, ◌≤◌, ◌++◌, All, codes, length, map, OnOk, OnErr};
 ghost use Rattle.std.specs.List.{flat_map, enumerate_from};
-ghost use Rattle.cxl_reply.specs.Words.{more_spaced};
+ghost use Rattle.cxl_reply.specs.Words.{line, kind_text, more_spaced};
 ghost use Rattle.cxl_reply.specs.Texts.{shown_head_text, layout_text, row_text, word_text, shown_words_text, slot_text, slots_text, shown_text};
 ghost use Rattle.cxl_reply.specs.Conditions.{IsToldFound, IsToldShown};
 
 use crate::details::{Shown, ShownRow};
+use crate::refusal::put_text;
 use crate::short_text::ShortText;
-use crate::words::{kind_text, put_address, put_node};
-use cxl_enc::Memory;
-use cxl_io::{put_hex, put_number};
+use crate::words::kind_text;
+use cxl_enc::{Memory, Name};
+use cxl_io::put_hex;
 use cxl_model::{Found, Place};
 use cxl_topo::Topo;
 
@@ -26,25 +27,30 @@ fn put_shown_head(out: &mut Vec<u8>, shown: &Shown) -> Result<(), Memory>
     requires { shown.now.found.gran ≤ 6 }
     ensures { OnOk result (out.new.items ≡ out.old.items ++ shown_head_text shown.now) }
 {
-    out.extend_from_slice(b"region ")?;
-    out.extend_from_slice(shown.name.bytes())?;
-    out.push(b' ')?;
-    out.extend_from_slice(kind_text(shown.found.kind))?;
-    out.push(b' ')?;
-    put_layout(out, &shown.found)?;
-    out.push(b'\n')?;
-    Ok(())
+    put_head(out, b"region ", &shown.name, &shown.found)
 }
 
-/// Appends where a region lies, and how it interleaves.
-pub(crate) fn put_layout(out: &mut Vec<u8>, found: &Found) -> Result<(), Memory>
-    requires { found.now.gran ≤ 6 }
-    ensures { OnOk result (out.new.items ≡ out.old.items ++ layout_text found.now.window found.now.base found.now.size found.now.gran found.now.ways) }
+/// Appends a word that ends with a space, and a name with its region's kind and layout.
+pub(crate) fn put_head(
+    out: &mut Vec<u8>,
+    word: &[u8],
+    name: &Name,
+    found: &Found,
+) -> Result<(), Memory>
+    requires few { length word.now ≤ 7 }
+    requires gran { found.now.gran ≤ 6 }
+    ensures { OnOk result (out.new.items ≡ out.old.items ++ line (word.now ++ name.now ++ codes " " ++ kind_text found.now.kind ++ codes " "
+        ++ layout_text found.now.window found.now.base found.now.size found.now.gran found.now.ways)) }
 {
-    let mut layout = ShortText::new();
-    layout.put_layout(found.window, found.base, found.size, found.gran, found.ways);
-    out.extend_from_slice(layout.bytes())?;
-    Ok(())
+    let mut line = ShortText::new();
+    line.put(word);
+    line.put_name(name);
+    line.put(b" ");
+    line.put(kind_text(found.kind));
+    line.put(b" ");
+    line.put_layout(found.window, found.base, found.size, found.gran, found.ways);
+    line.put(b"\n");
+    put_text(out, line.bytes())
 }
 
 fn put_rows(out: &mut Vec<u8>, rows: &[ShownRow], topo: &Topo) -> Result<(), Memory>
@@ -61,14 +67,15 @@ fn put_row(out: &mut Vec<u8>, row: &ShownRow, topo: &Topo) -> Result<(), Memory>
     requires { row.now.node < length topo.now.nodes }
     ensures { OnOk result (out.new.items ≡ out.old.items ++ row_text topo.now.nodes row.now) }
 {
-    out.extend_from_slice(b"node ")?;
-    put_node(out, row.node, topo)?;
-    out.push(b' ')?;
-    put_number(out, u64::from(row.decoder))?;
-    out.push(b' ')?;
+    let mut head = ShortText::new();
+    head.put(b"node ");
+    head.put_node(row.node, topo);
+    head.put(b" ");
+    head.put_number(u32::from(row.decoder));
+    head.put(b" ");
+    put_text(out, head.bytes())?;
     put_words(out, &row.words)?;
-    out.push(b'\n')?;
-    Ok(())
+    put_text(out, b"\n")
 }
 
 /// Appends words of eight hexadecimal digits, with spaces between.
@@ -110,12 +117,13 @@ fn put_slot(out: &mut Vec<u8>, slot: usize, place: &Place, topo: &Topo) -> Resul
     requires { place.now.endpoint < length topo.now.nodes }
     ensures { OnOk result (out.new.items ≡ out.old.items ++ slot_text topo.now.nodes (slot, place.now)) }
 {
-    out.extend_from_slice(b"slot ")?;
-    put_number(out, slot as u64)?;
-    out.push(b' ')?;
-    put_node(out, place.endpoint, topo)?;
-    out.push(b' ')?;
-    put_address(out, place.start)?;
-    out.push(b'\n')?;
-    Ok(())
+    let mut line = ShortText::new();
+    line.put(b"slot ");
+    line.put_long_number(slot as u64);
+    line.put(b" ");
+    line.put_node(place.endpoint, topo);
+    line.put(b" ");
+    line.put_hex(place.start);
+    line.put(b"\n");
+    put_text(out, line.bytes())
 }

@@ -53,7 +53,7 @@ fn created(named: &Named) -> ShortText
 
 /// A word and a name.
 #[inline(never)]
-fn named_line(word: &[u8], name: &Name) -> ShortText
+pub(crate) fn named_line(word: &[u8], name: &Name) -> ShortText
     requires { length word.now ≤ 20 }
     ensures { result ≡ named_text word.now name.now }
 {

@@ -1,12 +1,13 @@
-ghost use Rattle.std.specs.Prelude.{◌≡◌, ◌+◌, ◌≤◌, [], ◌∷◌, ◌++◌, length, decimal, Some};
+ghost use Rattle.std.specs.Prelude.{◌≡◌, ◌+◌, ◌<◌, ◌≤◌, [], ◌∷◌, ◌++◌, length, decimal, Some};
 ghost use Rattle.cxl_enc.specs.Codes.{granularity_of};
-ghost use Rattle.cxl_reply.specs.Words.{hex_text, gran_text};
+ghost use Rattle.cxl_reply.specs.Words.{hex_text, gran_text, node_text};
 ghost use Rattle.cxl_reply.specs.Short.{short_limit};
 ghost use Rattle.cxl_reply.specs.Texts.{layout_text};
 
 use arrayvec::ArrayVec;
 use cxl_enc::{Name, gran_of};
 use cxl_io::write_hex;
+use cxl_topo::Topo;
 use itoa::Buffer;
 use std::marker::Model;
 
@@ -63,11 +64,31 @@ impl ShortText {
         self.put(name.bytes());
     }
 
+    /// A node's name.
+    pub(crate) fn put_node(&mut self, node: u32, topo: &Topo)
+        requires room { length self.old + 15 ≤ short_limit }
+        requires node { node < length topo.now.nodes }
+        ensures text { self.new ≡ self.old ++ node_text topo.now.nodes node }
+        ensures len { length self.new ≤ length self.old + 15 }
+    {
+        self.put_name(&topo.node(node).name);
+    }
+
     /// In decimal digits.
     pub(crate) fn put_number(&mut self, number: u32)
         requires { length self.old + 10 ≤ short_limit }
         ensures text { self.new ≡ self.old ++ decimal number }
         ensures len { length self.new ≤ length self.old + 10 }
+    {
+        let mut buffer = Buffer::new();
+        self.put(buffer.format(number).as_bytes());
+    }
+
+    /// In decimal digits, at most twenty.
+    pub(crate) fn put_long_number(&mut self, number: u64)
+        requires { length self.old + 20 ≤ short_limit }
+        ensures text { self.new ≡ self.old ++ decimal number }
+        ensures len { length self.new ≤ length self.old + 20 }
     {
         let mut buffer = Buffer::new();
         self.put(buffer.format(number).as_bytes());

@@ -1,18 +1,8 @@
-ghost use Rattle.std.specs.Prelude.{◌≡◌, ◌<◌, ◌≤◌, ◌++◌, length, OnOk, OnErr};
-ghost use Rattle.cxl_reply.specs.Words.{hex_text, gran_text, kind_text, node_text};
+ghost use Rattle.std.specs.Prelude.{◌≡◌, ◌≤◌, ◌++◌, length, OnOk, OnErr};
+ghost use Rattle.cxl_reply.specs.Words.{hex_text, gran_text, kind_text};
 
 use cxl_enc::{MemKind, Memory, gran_of};
 use cxl_io::{put_number, write_hex};
-use cxl_topo::Topo;
-
-/// Appends a node's name.
-pub(crate) fn put_node(out: &mut Vec<u8>, node: u32, topo: &Topo) -> Result<(), Memory>
-    requires { node < length topo.now.nodes }
-    ensures { OnOk result (out.new.items ≡ out.old.items ++ node_text topo.now.nodes node) }
-{
-    out.extend_from_slice(topo.node(node).name.bytes())?;
-    Ok(())
-}
 
 /// Appends an address or a size in hexadecimal digits, behind `0x`. After `Memory` the text is as before.
 /// (This project's rule.) Takes memory.
@@ -39,7 +29,8 @@ pub fn put_gran(out: &mut Vec<u8>, code: u8) -> Result<(), Memory>
 }
 
 pub(crate) fn kind_text(kind: MemKind) -> &'static [u8]
-    ensures { result.now ≡ kind_text kind }
+    ensures text { result.now ≡ kind_text kind }
+    ensures few { length result.now ≤ 4 }
 {
     match kind {
         MemKind::Ram => b"ram",

@@ -1,6 +1,0 @@
-use Rattle.std.proofs.Common.{append_assoc}
-use Rattle.cxl_reply.proofs.region.put_row.Goals as goal
-
-pub returns : goal.returns
-returns c =
-    rw (c.in_ok-push-3.ensures.items, c.in_ok-put_words.ensures, c.in_ok-push-2.ensures.items, c.in_ok-put_number.ensures.ok, c.in_ok-push.ensures.items, c.in_ok-put_node.ensures, c.in_ok-extend_from_slice.ensures.items) (simp (append_assoc, c.from.ensures))
