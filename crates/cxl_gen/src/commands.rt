@@ -1,6 +1,6 @@
 //! The commands that are given to a generated system.
 
-ghost use Rattle.std.specs.Prelude.{◌≡◌, ◌*◌, ◌<◌, ◌≤◌, map, length, slice_get, Some, IfOk, OnOk};
+ghost use Rattle.std.specs.Prelude.{◌≡◌, ◌*◌, ◌<◌, ◌≤◌, map, length, slice_get, Some, IfOk, OnOk, OnErr};
 ghost use Rattle.std.specs.List.{range_with_len};
 ghost use Rattle.cxl_gen.specs.Made.{endpoint_name, store_place, made_create, made_store, made_load, made_region, made_commands};
 
@@ -45,7 +45,8 @@ pub fn command_count(n: u32) -> u32
 pub fn make_command(alloc: Global, n: u32, k: u32, command: &mut Command) -> Result<(), Memory>
     requires few { n ≤ 32 }
     requires there { k < length (made_commands n) }
-    ensures { OnOk result (slice_get (made_commands n) k ≡ Some command.new) }
+    ensures ok { OnOk result (slice_get (made_commands n) k ≡ Some command.new) }
+    ensures err { OnErr result (command.new ≡ command.old) }
 {
     let filling = FILLING * n;
     if k < filling {
@@ -60,7 +61,8 @@ pub fn make_command(alloc: Global, n: u32, k: u32, command: &mut Command) -> Res
 fn make_filling(alloc: Global, j: u32, i: u32, command: &mut Command) -> Result<(), Memory>
     requires region { j < 32 }
     requires place { i < 1001 }
-    ensures { OnOk result (slice_get (made_region j) i ≡ Some command.new) }
+    ensures ok { OnOk result (slice_get (made_region j) i ≡ Some command.new) }
+    ensures err { OnErr result (command.new ≡ command.old) }
 {
     if i == 0 {
         *command = made_create(alloc, j)?;
@@ -99,7 +101,8 @@ fn endpoint_names(alloc: Global, j: u32) -> Result<Vec<Name>, Memory>
 fn make_store(alloc: Global, j: u32, i: u32, command: &mut Command) -> Result<(), Memory>
     requires region { j < 32 }
     requires access { i < 1000 }
-    ensures { OnOk result (command.new ≡ made_store j i) }
+    ensures ok { OnOk result (command.new ≡ made_store j i) }
+    ensures err { OnErr result (command.new ≡ command.old) }
 {
     let h = store_place(j, i);
     let bytes = u64::from(i).to_le_bytes();

@@ -21,7 +21,7 @@ carry_out_counted-requires-clause-stands g c = stands_there _ _ _ _ _ _ _ _ _ c.
 
 pub carry_out_counted-requires-clause-ranged : goal.carry_out_counted-requires-clause-ranged
 carry_out_counted-requires-clause-ranged g c =
-    next_ranged c.args.n c.loop-k.k c.make_command.new.command c.made_systems_are_sound.ensures.ranged c.in_ok-make_command.ensures
+    next_ranged c.args.n c.loop-k.k c.make_command.new.command c.made_systems_are_sound.ensures.ranged c.in_ok-make_command.ensures.ok
 
 pub carry_out_counted-requires-clause-few : goal.carry_out_counted-requires-clause-few
 carry_out_counted-requires-clause-few g c = (c.loop-k.k, omega arith, c.loop-k.invariant.within)
@@ -45,7 +45,7 @@ loop-k-preserved g c = record {
       one_counted c.loop-k.k (made_commands c.args.n) c.make_command.new.command c.args.session.now c.loop-k.session c.carry_out_counted.new.session
       (g.R.Regs.state c.args.regs.now) (g.R.Regs.state c.loop-k.regs) (g.R.Regs.state c.carry_out_counted.new.regs) (g.M.Media.state c.args.media.now)
       (g.M.Media.state c.loop-k.media) (g.M.Media.state c.carry_out_counted.new.media) c.loop-k.counts c.carry_out_counted.new.counts c.loop-k.invariant.each
-      (take_next (made_commands c.args.n) c.loop-k.k c.make_command.new.command c.in_ok-make_command.ensures) c.in_ok-carry_out_counted.ensures.taken;
+      (take_next (made_commands c.args.n) c.loop-k.k c.make_command.new.command c.in_ok-make_command.ensures.ok) c.in_ok-carry_out_counted.ensures.taken;
   within = c.in_ok-carry_out_counted.ensures.within c.loop-k.k c.loop-k.invariant.within;
   bus = (let so_far = c.loop-k.invariant.bus in let more = c.in_ok-carry_out_counted.ensures.bus in omega (arith, so_far, more));
 }
