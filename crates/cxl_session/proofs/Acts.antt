@@ -1,8 +1,8 @@
 -- The turn of one command, by what the part of the session that carries it out says.
-use Rattle.std.proofs.Common.{◌≡◌, [], Result, refl, sym, ◌∙◌, subst, arith}
-use Rattle.std.specs.Prelude.{IfOk}
+use Rattle.std.proofs.Common.{◌≡◌, [], Result, Ok, Err, refl, sym, ap, ◌∙◌, subst, arith}
+use Rattle.std.specs.Prelude.{IfOk, IfErr, OnErr}
 use Rattle.cxl_enc.specs.declared.faults.Memory.{Memory}
-use Rattle.cxl_bus.specs.RegsState.{RegsState}
+use Rattle.cxl_bus.specs.RegsState.{RegsState, IsUntouched}
 use Rattle.cxl_media.specs.MediaState.{MediaState}
 use Rattle.cxl_script.specs.declared.command.Command.{Command}
 use Rattle.cxl_reply.specs.declared.reply.Reply.{Reply}
@@ -13,9 +13,27 @@ use Rattle.cxl_machine.specs.Replies.{Answer, stays}
 use Rattle.cxl_machine.specs.Sound.{IsMachine}
 use Rattle.cxl_machine.specs.Trails.{TrailOf}
 use Rattle.cxl_session.specs.State.{SessionState}
-use Rattle.cxl_session.specs.Standing.{StandsFor, HoldsMemory}
-use Rattle.cxl_session.specs.inner.Answering.{IsWrittenFor, IsTurnFor}
+use Rattle.cxl_session.specs.Standing.{StandsFor, IsAt, HoldsMemory, Stands}
+use Rattle.cxl_session.specs.inner.Answering.{StandsSomehow, HoldsMachine, HoldsSome, IsWrittenFor, IsTurnFor}
 use Rattle.cxl_session.proofs.Turns.{still, no_words}
+
+-- ---- where they stand for a machine
+
+pub holds_at : (session : SessionState) (regs : RegsState) (media : MediaState) (m : Machine) → IsAt session regs media m → HoldsMachine session media m
+holds_at session regs media m at = record { stands = at.stands; machine = at.sound.machine; memory = at.sound.memory; frames = at.sound.frames }
+
+module _ (session : SessionState) (regs : RegsState) (media : MediaState) (stands : Stands session regs media) where
+  pub image_held : session.image ≡ regs.blocks
+  image_held = stands.1.stands.image ∙ sym stands.1.sound.registers
+
+  pub some_machine : (m : Machine) × StandsFor session m × IsMachine m
+  some_machine = (stands.0, stands.1.stands, stands.1.sound.machine)
+
+  pub somehow : StandsSomehow session media
+  somehow = (stands.0, stands.1.stands, stands.1.sound.machine, stands.1.sound.memory)
+
+  pub holds_some : HoldsSome session media
+  holds_some = (stands.0, holds_at session regs media stands.0 stands.1)
 
 -- ---- by the command
 
@@ -38,7 +56,7 @@ module _ (session : SessionState) (regs : RegsState) (command : Command) (none :
   pub write_turn : (old new : MediaState) (reply : Reply) (answer : Machine → Answer) → ((m : Machine) → Answers m command NoFault (answer m)) → IsWrittenFor session old new answer reply
       → IsTurnFor session session regs regs old new command reply
   write_turn old new reply answer given written m at =
-      let own = written m (record { stands = at.stands; machine = at.sound.machine; memory = at.sound.memory; frames = at.sound.frames }) in
+      let own = written m (holds_at session regs old m at) in
       let left = own.holds in (
         record { reply = (answer m).reply; machine = (answer m).machine; faults = 0; trail = [] },
         (NoFault, given m, silent m, sym none),
@@ -59,3 +77,34 @@ module _ (session : SessionState) (regs : RegsState) (command : Command) (none :
           unswallowed = λ _ _. refl;
         },
       )
+
+-- ---- what else is known after a turn
+
+module _ (session next : SessionState) (old new : RegsState) (media left : MediaState) (command : Command) where
+  pub image_after : (reply : Reply) → Stands session old media → IsTurnFor session next old new media left command reply → next.image ≡ new.blocks
+  image_after reply stands turn = let taken = turn stands.0 stands.1 in image_held next new left (taken.0.machine, taken.2.at)
+
+  -- want of memory leaves the registers as they are
+  pub image_after_result : (result : Result Reply Memory) → Stands session old media → IfOk result (IsTurnFor session next old new media left command)
+      → OnErr result ((next ≡ session) × (new ≡ old)) → next.image ≡ new.blocks
+  image_after_result (Ok reply) stands turn same = image_after reply stands turn
+  image_after_result (Err memory) stands turn same =
+      ap (λ (s : SessionState). s.image) same.0 ∙ image_held session old media stands ∙ ap (λ (regs : RegsState). regs.blocks) (sym same.1)
+
+pub untouched_by : (old new : RegsState) → new ≡ old → IsUntouched old new
+untouched_by old new same = record {
+  blocks = ap (λ (regs : RegsState). regs.blocks) same;
+  trail = ap (λ (regs : RegsState). regs.trail) same;
+  alone = ap (λ (regs : RegsState). regs.counts_failures_alone) same;
+}
+
+-- ---- what holds of each reply, or of each error
+
+module _ {T E : Type 0} where
+  pub ok_always : (result : Result T E) (P : T → Type 0) → ((x : T) → P x) → IfOk result P
+  ok_always (Ok x) P all = all x
+  ok_always (Err e) P all = tt
+
+  pub err_always : (result : Result T E) (P : E → Type 0) → ((e : E) → P e) → IfErr result P
+  err_always (Ok x) P all = tt
+  err_always (Err e) P all = all e

@@ -11,6 +11,7 @@ use Rattle.std.proofs.lemmas.List.Elements.{All-map}
 use Rattle.std.proofs.lemmas.List.Sums.{sum_by-cons}
 use Rattle.std.proofs.lemmas.Option.{none-some}
 use Rattle.std.proofs.lemmas.Slice.Zip.{AllZip-long}
+use Rattle.cxl_enc.specs.Faults.{Rose}
 use Rattle.cxl_enc.specs.Limits.{frame_limit}
 use Rattle.cxl_regs.specs.Registers.{Registers}
 use Rattle.cxl_regs.specs.Blocks.{IsPlace}
@@ -29,12 +30,15 @@ use Rattle.cxl_model.specs.Contents.{Contents, Holding, AreMediaOf}
 use Rattle.cxl_model.specs.Regions.{IsRegion, IsRegionIn}
 use Rattle.cxl_model.specs.System.{System, IsSystem, system_of}
 use Rattle.cxl_walk.specs.Keeping.{KeptFields, IsKept}
+use Rattle.cxl_check.specs.declared.fault.Breach.{Breach}
+use Rattle.cxl_machine.specs.declared.fault.OpenFault.{OpenFault}
+use Rattle.cxl_machine.specs.declared.fault.OpenFault.TheVariants as faults
 use Rattle.cxl_machine.specs.Copies.{pieces_of}
-use Rattle.cxl_machine.specs.Machine.{Live, Machine, region_window, absent_window, holding_of, kept_regions, pieces_held}
+use Rattle.cxl_machine.specs.Machine.{Live, Machine, region_limit, region_window, absent_window, holding_of, kept_regions, pieces_held}
 use Rattle.cxl_machine.specs.Sound.{IsMachine, Opens, auto_name, block_told, opened_region, enabled_blocks}
 use Rattle.cxl_session.specs.State.{SessionState}
 use Rattle.cxl_session.specs.Standing.{IsKeptIn, StandsFor, IsAt}
-use Rattle.cxl_session.specs.Opening.{endpoints_in, enabling, empty_media, IsHalfEnabled}
+use Rattle.cxl_session.specs.Opening.{endpoints_in, enabling, empty_media, IsHalfEnabled, HasRegions}
 use Rattle.cxl_session.specs.inner.Opened.{opened_machine, CanOpen, AreRoutesOf, StopsEnabling}
 use Rattle.cxl_session.proofs.Enabling.{enabled_all, endpoints_there, places_there}
 use Rattle.cxl_session.proofs.Zipped.{zip_weaker}
@@ -184,7 +188,7 @@ pub at_err : {T E : Type 0} (r : Result T E) (P : Type 0) → is_err r ≡ true 
 at_err (Ok x) P failed so = absurd (false≢true failed)
 at_err (Err e) P failed so = so
 
-trail_from_none : (old now : Option (List Sent)) (words : List Sent) → now ≡ option_map (λ _. []) old → trail_with now words ≡ option_map (λ _. words) old
+pub trail_from_none : (old now : Option (List Sent)) (words : List Sent) → now ≡ option_map (λ _. []) old → trail_with now words ≡ option_map (λ _. words) old
 trail_from_none None now words is = ap (λ (t : Option (List Sent)). trail_with t words) is
 trail_from_none (Some sent) now words is = ap (λ (t : Option (List Sent)). trail_with t words) is
 
@@ -228,3 +232,38 @@ err_or (Err e) d = e
 pub same_fault : {T E : Type 0} (x y : E) (r : Result T E) → r ≡ Err x → r ≡ Err y → x ≡ y
 unfolding err_or
 same_fault {T} {E} x y r one two = ap (λ (s : Result T E). err_or s x) (sym one ∙ two)
+
+-- an image that can open has no more regions than may live
+pub uncrowded : (start : System) (regions : List Found) → CanOpen start regions → (n : ℕ) → HasRegions start n → region_limit < n → ⊥
+uncrowded start regions can n has more = let least = can.uncrowded n has in omega (arith, least, more)
+
+-- ---- a result is no other
+
+module _ {T : Type 0} where
+  abbrev stops : OpenFault → Result T OpenFault
+  stops fault = Err fault
+
+  pub memory_not_breach : (b : Breach) → stops faults.Memory ≡ stops (faults.Breach b) → ⊥
+  memory_not_breach b is = cc
+
+  pub memory_not_full : (n : ℕ) → stops faults.Memory ≡ stops (faults.Full n) → ⊥
+  memory_not_full n is = cc
+
+  pub memory_not_bus : stops faults.Memory ≡ stops faults.Bus → ⊥
+  memory_not_bus is = cc
+
+  pub bus_not_breach : (b : Breach) → stops faults.Bus ≡ stops (faults.Breach b) → ⊥
+  bus_not_breach b is = cc
+
+  pub bus_not_full : (n : ℕ) → stops faults.Bus ≡ stops (faults.Full n) → ⊥
+  bus_not_full n is = cc
+
+  pub bus_not_memory : stops faults.Bus ≡ stops faults.Memory → ⊥
+  bus_not_memory is = cc
+
+pub ok_not_err : {T E : Type 0} (x : T) (e : E) → Ok x ≡ Err e → ⊥
+ok_not_err x e is = cc
+
+-- what rose after a count that did not fall rose from there
+pub rose_after : (old mid new : ℕ) → old ≤ mid → Rose mid new → Rose old new
+rose_after old mid new up rose = omega arith

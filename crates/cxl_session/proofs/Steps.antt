@@ -1,7 +1,7 @@
 -- The turns of a step: the job ends, is pending with more writes made, or is left where the bus failed.
 use Rattle.std.proofs.Common.{◌≡◌, ℕ, ◌+◌, ◌<◌, ◌≤◌, min, Bool, true, false, if◌then◌else◌, List, [], length, Option, Some, None, refl, sym, ap, ◌∙◌, subst, arith}
 use Rattle.std.specs.Prelude.{nat_le}
-use Rattle.std.proofs.lemmas.Bool.{le-leb, lt-leb}
+use Rattle.std.proofs.lemmas.Bool.{le-leb, lt-leb, false≢true}
 use Rattle.cxl_enc.specs.Faults.{Rose, LeavesCount}
 use Rattle.cxl_regs.specs.Registers.{Registers}
 use Rattle.cxl_bus.specs.RegsState.{RegsState}
@@ -12,12 +12,13 @@ use Rattle.cxl_model.specs.declared.found.Found.{Found}
 use Rattle.cxl_apply.specs.declared.write.Write.{Write}
 use Rattle.cxl_apply.specs.Jobs.{blocks_done}
 use Rattle.cxl_apply.specs.WordsSent.{words_made}
+use Rattle.cxl_reply.specs.declared.reply.Reply.{Reply}
 use Rattle.cxl_reply.specs.declared.reply.Reply.TheVariants as replies
 use Rattle.cxl_machine.specs.Machine.{RegionJob, JobKind, Creates, Releases, Machine}
 use Rattle.cxl_machine.specs.Jobs.{total_of, at_done, finished, settled_by}
 use Rattle.cxl_machine.specs.Outcomes.{NoFault, LeftPending}
 use Rattle.cxl_machine.specs.Regions.{Steps, OfPending, pending_reply, ended_answer, ended_reply, stepped_answer}
-use Rattle.cxl_machine.specs.Replies.{Answer, becomes}
+use Rattle.cxl_machine.specs.Replies.{Answer, becomes, is_refusal}
 use Rattle.cxl_machine.specs.Scripts.{Turn, answer_of}
 use Rattle.cxl_machine.specs.Trails.{SendsSteps, SendsPending, forward}
 use Rattle.cxl_session.specs.State.{JobFields, SessionState}
@@ -172,3 +173,15 @@ module _ (session : SessionState) (old new : RegsState) (own : JobFields) (here 
           unswallowed = λ _. count;
         },
       )
+
+-- ---- what is no refusal
+
+done_unrefused : (place : Option ℕ) (own : JobFields) → is_refusal (ended_as place own) ≡ true → ⊥
+done_unrefused None own is = false≢true is
+done_unrefused (Some place) own is = false≢true is
+
+pub end_unrefused : (own : JobFields) (reply : Reply) → reply ≡ finished_reply own → is_refusal reply ≡ true → ⊥
+end_unrefused own reply told is = done_unrefused own.place own (sym (ap is_refusal told) ∙ is)
+
+pub left_unrefused : (name : List ℕ) (done total : ℕ) (reply : Reply) → reply ≡ replies.BusPending record { name = name; done = done; total = total } → is_refusal reply ≡ true → ⊥
+left_unrefused name done total reply told is = false≢true (sym (ap is_refusal told) ∙ is)

@@ -21,7 +21,7 @@ ghost use Rattle.cxl_session.specs.inner.Storing.{need_at, IsPut, PutsOne, PutsT
 
 use crate::parts::{DeviceByte, bytes_lie_in_pieces, device_byte, first_part};
 use crate::session::Session;
-use cxl_media::Media;
+use cxl_media::{Full, Media};
 use cxl_model::{regions_lie_in_windows, weaves_fill_their_regions};
 use cxl_move::{
     blocks_are_pieces, blocks_hold_their_pieces, pieces_are_carried_to_blocks,
@@ -64,13 +64,10 @@ fn put_one<M: Media>(media: &mut M, byte: DeviceByte, bytes: &[u8]) -> Reply
     ensures puts { PutsOne byte.ep byte.dpa bytes.now (M.state media.old) (M.state media.new) result }
     ensures refused { is_refusal result ≡ true → M.state media.new ≡ M.state media.old }
 {
-    let need = media.need(byte.ep, byte.dpa);
-    let free = media.free();
-    if need > free {
-        return Reply::Full(Lack { need, free });
+    match media.put(byte.ep, byte.dpa, bytes) {
+        Ok(()) => Reply::Stored(bytes.len() as u32),
+        Err(Full) => Reply::Full(Lack { need: 1, free: 0 }),
     }
-    put_in_block(media, byte, bytes);
-    Reply::Stored(bytes.len() as u32)
 }
 
 /// Puts bytes into two blocks, where the frames that both need are free.

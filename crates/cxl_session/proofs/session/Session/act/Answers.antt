@@ -1,114 +1,361 @@
-use Rattle.std.proofs.Common.{refl, sym}
-use Rattle.std.proofs.lemmas.Result.{IfOk-weaker}
+use Rattle.std.proofs.Common.{refl, sym, ap, ◌∙◌, subst}
+use Rattle.std.proofs.lemmas.Result.{IfOk-weaker, IfErr-weaker}
+use Rattle.std.proofs.Math.Nat.{le_refl}
+use Rattle.cxl_bus.specs.RegsState.{RegsState}
+use Rattle.cxl_script.specs.Grammar.{IsRanged}
 use Rattle.cxl_script.specs.declared.command.Command.TheVariants as commands
 use Rattle.cxl_machine.specs.Accesses.{store_answer}
 use Rattle.cxl_machine.specs.Copies.{copy_answer, move_answer}
-use Rattle.cxl_session.proofs.Acts.{of_command, of_result, read_turn, write_turn}
+use Rattle.cxl_session.specs.inner.Answering.{IsTurnFor}
+use Rattle.cxl_session.proofs.Acts.{of_command, of_result, read_turn, write_turn, image_held, some_machine, somehow, holds_some, image_after, image_after_result, untouched_by, ok_always, err_always}
 use Rattle.cxl_session.proofs.session.Session.act.Goals as goal
 
-pub returns-in-Create-clause-answer : goal.returns-in-Create-clause-answer
-returns-in-Create-clause-answer g c =
-    of_result c.args.self.now c.create.new.self (g.R.Regs.state c.args.regs.now) (g.R.Regs.state c.create.new.regs) (g.M.Media.state c.args.media.now) (g.M.Media.state c.create.new.media)
-    c.args.command.now (commands.Create c.in-Create.create) c.create.result c.in-Create.is c.create.ensures.turn
+pub create-requires : goal.create-requires
+create-requires g c = record { stands = c.requires.stands; code = subst IsRanged c.in-Create.is c.requires.ranged }
 
-pub returns-in-Destroy-clause-answer : goal.returns-in-Destroy-clause-answer
-returns-in-Destroy-clause-answer g c =
-    of_result c.args.self.now c.destroy.new.self (g.R.Regs.state c.args.regs.now) (g.R.Regs.state c.destroy.new.regs) (g.M.Media.state c.args.media.now) (g.M.Media.state c.destroy.new.media)
-    c.args.command.now (commands.Destroy c.in-Destroy.name) c.destroy.result c.in-Destroy.is c.destroy.ensures.turn
+pub returns-in-Create : goal.returns-in-Create
+returns-in-Create g c =
+    let session = c.args.self.now in
+    let next = c.create.new.self in
+    let old = g.R.Regs.state c.args.regs.now in
+    let new = g.R.Regs.state c.create.new.regs in
+    let media = g.M.Media.state c.args.media.now in
+    let left = g.M.Media.state c.create.new.media in
+    record {
+      answer =
+          of_result session next old new media left c.args.command.now (commands.Create c.in-Create.create) c.create.result c.in-Create.is
+          c.create.ensures.turn;
+      refused = c.create.ensures.refused;
+      memory = IfErr-weaker c.create.result _ _ (λ _ same. (same.0, untouched_by old new same.1, same.2)) c.create.ensures.memory;
+      unswallowed = IfErr-weaker c.create.result _ _ (λ _ same _. ap (λ (regs : RegsState). regs.faults) same.1) c.create.ensures.memory;
+      image = image_after_result session next old new media left (commands.Create c.in-Create.create) c.create.result c.requires.stands c.create.ensures.turn (IfErr-weaker c.create.result _ _ (λ _ same. (same.0, same.1)) c.create.ensures.memory);
+      host = c.create.ensures.host;
+      counts = c.create.ensures.counts;
+    }
 
-pub returns-in-Show-clause-answer : goal.returns-in-Show-clause-answer
-returns-in-Show-clause-answer g c =
-    of_result c.args.self.now c.args.self.now (g.R.Regs.state c.args.regs.now) (g.R.Regs.state c.show.new.regs) (g.M.Media.state c.args.media.now) (g.M.Media.state c.args.media.now)
-    c.args.command.now (commands.Show c.in-Show.name) c.show.result c.in-Show.is
-    (IfOk-weaker c.show.result _ _ (λ reply turn. turn (g.M.Media.state c.args.media.now)) c.show.ensures.turn)
+pub destroy-requires : goal.destroy-requires
+destroy-requires g c = c.requires.stands
 
-pub returns-in-Down-clause-answer : goal.returns-in-Down-clause-answer
-returns-in-Down-clause-answer g c =
-    of_command c.args.self.now c.args.self.now (g.R.Regs.state c.args.regs.now) (g.R.Regs.state c.args.regs.now) (g.M.Media.state c.args.media.now) (g.M.Media.state c.args.media.now)
-    c.args.command.now (commands.Down c.in-Down.h) c.down.result c.in-Down.is
-    (read_turn c.args.self.now (g.R.Regs.state c.args.regs.now) (commands.Down c.in-Down.h) refl (λ m. refl) (g.M.Media.state c.args.media.now) c.down.result
-    (λ m stands is memory. record { unfailing = refl; told = sym (c.down.ensures m stands is) }))
+pub returns-in-Destroy : goal.returns-in-Destroy
+returns-in-Destroy g c =
+    let session = c.args.self.now in
+    let next = c.destroy.new.self in
+    let old = g.R.Regs.state c.args.regs.now in
+    let new = g.R.Regs.state c.destroy.new.regs in
+    let media = g.M.Media.state c.args.media.now in
+    let left = g.M.Media.state c.destroy.new.media in
+    record {
+      answer =
+          of_result session next old new media left c.args.command.now (commands.Destroy c.in-Destroy.name) c.destroy.result c.in-Destroy.is
+          c.destroy.ensures.turn;
+      refused = c.destroy.ensures.refused;
+      memory = IfErr-weaker c.destroy.result _ _ (λ _ same. (same.0, untouched_by old new same.1, same.2)) c.destroy.ensures.memory;
+      unswallowed = IfErr-weaker c.destroy.result _ _ (λ _ same _. ap (λ (regs : RegsState). regs.faults) same.1) c.destroy.ensures.memory;
+      image = image_after_result session next old new media left (commands.Destroy c.in-Destroy.name) c.destroy.result c.requires.stands c.destroy.ensures.turn (IfErr-weaker c.destroy.result _ _ (λ _ same. (same.0, same.1)) c.destroy.ensures.memory);
+      host = c.destroy.ensures.host;
+      counts = c.destroy.ensures.counts;
+    }
 
-pub returns-in-Up-clause-answer : goal.returns-in-Up-clause-answer
-returns-in-Up-clause-answer g c =
-    of_command c.args.self.now c.args.self.now (g.R.Regs.state c.args.regs.now) (g.R.Regs.state c.args.regs.now) (g.M.Media.state c.args.media.now) (g.M.Media.state c.args.media.now)
-    c.args.command.now (commands.Up c.in-Up.up) c.up.result c.in-Up.is
-    (read_turn c.args.self.now (g.R.Regs.state c.args.regs.now) (commands.Up c.in-Up.up) refl (λ m. refl) (g.M.Media.state c.args.media.now) c.up.result
-    (λ m stands is memory. (refl, c.up.ensures m stands is)))
+pub show-requires : goal.show-requires
+show-requires g c = (g.M.Media.state c.args.media.now, c.requires.stands)
 
-pub returns-in-Load-clause-answer : goal.returns-in-Load-clause-answer
-returns-in-Load-clause-answer g c =
-    of_result c.args.self.now c.args.self.now (g.R.Regs.state c.args.regs.now) (g.R.Regs.state c.args.regs.now) (g.M.Media.state c.args.media.now) (g.M.Media.state c.args.media.now)
-    c.args.command.now (commands.Load c.in-Load.load) c.load.result c.in-Load.is
-    (IfOk-weaker c.load.result _ _
-    (λ reply reads. read_turn c.args.self.now (g.R.Regs.state c.args.regs.now) (commands.Load c.in-Load.load) refl (λ m. refl) (g.M.Media.state c.args.media.now) reply
-    (λ m stands is memory. record { unfailing = refl; told = sym (reads m stands is memory) })) c.load.ensures)
+pub returns-in-Show : goal.returns-in-Show
+returns-in-Show g c =
+    let session = c.args.self.now in
+    let old = g.R.Regs.state c.args.regs.now in
+    let new = g.R.Regs.state c.show.new.regs in
+    let media = g.M.Media.state c.args.media.now in
+    record {
+      answer =
+          of_result session session old new media media c.args.command.now (commands.Show c.in-Show.name) c.show.result c.in-Show.is
+          (IfOk-weaker c.show.result _ _ (λ _ turn. turn media) c.show.ensures.turn);
+      refused = ok_always c.show.result _ (λ _ _. (refl, c.show.ensures.untouched.blocks, refl));
+      memory = err_always c.show.result _ (λ _. (refl, c.show.ensures.untouched, refl));
+      unswallowed = IfErr-weaker c.show.result _ _ (λ _ same _. ap (λ (regs : RegsState). regs.faults) same) c.show.ensures.memory;
+      image = image_held session old media c.requires.stands ∙ sym c.show.ensures.untouched.blocks;
+      host = (refl, refl);
+      counts = c.show.ensures.counts;
+    }
 
-pub returns-in-Store-clause-answer : goal.returns-in-Store-clause-answer
-returns-in-Store-clause-answer g c =
-    of_command c.args.self.now c.args.self.now (g.R.Regs.state c.args.regs.now) (g.R.Regs.state c.args.regs.now) (g.M.Media.state c.args.media.now) (g.M.Media.state c.store.new.media)
-    c.args.command.now (commands.Store c.in-Store.store) c.store.result c.in-Store.is
-    (write_turn c.args.self.now (g.R.Regs.state c.args.regs.now) (commands.Store c.in-Store.store) refl (λ m. refl) (g.M.Media.state c.args.media.now) (g.M.Media.state c.store.new.media) c.store.result
-    (λ m. store_answer m c.in-Store.store) (λ m. record { unfailing = refl; told = refl }) c.store.ensures.answer)
+pub down-requires : goal.down-requires
+down-requires g c = some_machine c.args.self.now (g.R.Regs.state c.args.regs.now) (g.M.Media.state c.args.media.now) c.requires.stands
 
-pub returns-in-Poison-clause-answer : goal.returns-in-Poison-clause-answer
-returns-in-Poison-clause-answer g c =
-    of_result c.args.self.now c.args.self.now (g.R.Regs.state c.args.regs.now) (g.R.Regs.state c.args.regs.now) (g.M.Media.state c.args.media.now) (g.M.Media.state c.args.media.now)
-    c.args.command.now (commands.Poison c.in-Poison.poison) c.poison.result c.in-Poison.is
-    (IfOk-weaker c.poison.result _ _
-    (λ reply reads. read_turn c.args.self.now (g.R.Regs.state c.args.regs.now) (commands.Poison c.in-Poison.poison) refl (λ m. refl) (g.M.Media.state c.args.media.now) reply
-    (λ m stands is memory. (refl, reads m stands is))) c.poison.ensures)
+pub returns-in-Down : goal.returns-in-Down
+returns-in-Down g c =
+    let session = c.args.self.now in
+    let old = g.R.Regs.state c.args.regs.now in
+    let media = g.M.Media.state c.args.media.now in
+    record {
+      answer =
+          of_command session session old old media media c.args.command.now (commands.Down c.in-Down.h) c.down.result c.in-Down.is
+          (read_turn session old (commands.Down c.in-Down.h) refl (λ m. refl) media c.down.result
+          (λ m stands is memory. record { unfailing = refl; told = sym (c.down.ensures m stands is) }));
+      refused = λ _. (refl, refl, refl);
+      memory = tt;
+      unswallowed = tt;
+      image = image_held session old media c.requires.stands;
+      host = (refl, refl);
+      counts = le_refl old.faults;
+    }
 
-pub returns-in-BeginCreate-clause-answer : goal.returns-in-BeginCreate-clause-answer
-returns-in-BeginCreate-clause-answer g c =
-    of_result c.args.self.now c.begin_create.new.self (g.R.Regs.state c.args.regs.now) (g.R.Regs.state c.args.regs.now) (g.M.Media.state c.args.media.now) (g.M.Media.state c.args.media.now)
-    c.args.command.now (commands.BeginCreate c.in-BeginCreate.create) c.begin_create.result c.in-BeginCreate.is
-    (IfOk-weaker c.begin_create.result _ _ (λ reply turn. turn (g.R.Regs.state c.args.regs.now) (g.M.Media.state c.args.media.now)) c.begin_create.ensures.turn)
+pub up-requires : goal.up-requires
+up-requires g c = some_machine c.args.self.now (g.R.Regs.state c.args.regs.now) (g.M.Media.state c.args.media.now) c.requires.stands
 
-pub returns-in-BeginDestroy-clause-answer : goal.returns-in-BeginDestroy-clause-answer
-returns-in-BeginDestroy-clause-answer g c =
-    of_result c.args.self.now c.begin_destroy.new.self (g.R.Regs.state c.args.regs.now) (g.R.Regs.state c.args.regs.now) (g.M.Media.state c.args.media.now) (g.M.Media.state c.args.media.now)
-    c.args.command.now (commands.BeginDestroy c.in-BeginDestroy.name) c.begin_destroy.result c.in-BeginDestroy.is
-    (IfOk-weaker c.begin_destroy.result _ _ (λ reply turn. turn (g.R.Regs.state c.args.regs.now) (g.M.Media.state c.args.media.now)) c.begin_destroy.ensures.turn)
+pub returns-in-Up : goal.returns-in-Up
+returns-in-Up g c =
+    let session = c.args.self.now in
+    let old = g.R.Regs.state c.args.regs.now in
+    let media = g.M.Media.state c.args.media.now in
+    record {
+      answer =
+          of_command session session old old media media c.args.command.now (commands.Up c.in-Up.up) c.up.result c.in-Up.is
+          (read_turn session old (commands.Up c.in-Up.up) refl (λ m. refl) media c.up.result
+          (λ m stands is memory. (refl, c.up.ensures m stands is)));
+      refused = λ _. (refl, refl, refl);
+      memory = tt;
+      unswallowed = tt;
+      image = image_held session old media c.requires.stands;
+      host = (refl, refl);
+      counts = le_refl old.faults;
+    }
 
-pub returns-in-Step-clause-answer : goal.returns-in-Step-clause-answer
-returns-in-Step-clause-answer g c =
-    of_command c.args.self.now c.step.new.self (g.R.Regs.state c.args.regs.now) (g.R.Regs.state c.step.new.regs) (g.M.Media.state c.args.media.now) (g.M.Media.state c.step.new.media)
-    c.args.command.now (commands.Step c.in-Step.steps) c.step.result c.in-Step.is c.step.ensures.turn
+pub load-requires : goal.load-requires
+load-requires g c =
+    let ranged = subst IsRanged c.in-Load.is c.requires.ranged in record { stands = somehow c.args.self.now (g.R.Regs.state c.args.regs.now) (g.M.Media.state c.args.media.now) c.requires.stands; some = ranged.0; few = ranged.1 }
 
-pub returns-in-Abort-clause-answer : goal.returns-in-Abort-clause-answer
-returns-in-Abort-clause-answer g c =
-    of_command c.args.self.now c.abort.new.self (g.R.Regs.state c.args.regs.now) (g.R.Regs.state c.abort.new.regs) (g.M.Media.state c.args.media.now) (g.M.Media.state c.args.media.now)
-    c.args.command.now commands.Abort c.abort.result c.in-Abort.is (c.abort.ensures.turn (g.M.Media.state c.args.media.now))
+pub returns-in-Load : goal.returns-in-Load
+returns-in-Load g c =
+    let session = c.args.self.now in
+    let old = g.R.Regs.state c.args.regs.now in
+    let media = g.M.Media.state c.args.media.now in
+    record {
+      answer =
+          of_result session session old old media media c.args.command.now (commands.Load c.in-Load.load) c.load.result c.in-Load.is
+          (IfOk-weaker c.load.result _ _ (λ reply reads. read_turn session old (commands.Load c.in-Load.load) refl (λ m. refl) media reply
+          (λ m stands is memory. record { unfailing = refl; told = sym (reads m stands is memory) })) c.load.ensures);
+      refused = ok_always c.load.result _ (λ _ _. (refl, refl, refl));
+      memory = err_always c.load.result _ (λ _. (refl, untouched_by old old refl, refl));
+      unswallowed = err_always c.load.result _ (λ _ _. refl);
+      image = image_held session old media c.requires.stands;
+      host = (refl, refl);
+      counts = le_refl old.faults;
+    }
 
-pub returns-in-Range-clause-answer : goal.returns-in-Range-clause-answer
-returns-in-Range-clause-answer g c =
-    of_result c.args.self.now c.args.self.now (g.R.Regs.state c.args.regs.now) (g.R.Regs.state c.args.regs.now) (g.M.Media.state c.args.media.now) (g.M.Media.state c.args.media.now)
-    c.args.command.now (commands.Range c.in-Range.reach) c.range.result c.in-Range.is
-    (IfOk-weaker c.range.result _ _
-    (λ reply reads. read_turn c.args.self.now (g.R.Regs.state c.args.regs.now) (commands.Range c.in-Range.reach) refl (λ m. refl) (g.M.Media.state c.args.media.now) reply
-    (λ m stands is memory. record { unfailing = refl; told = sym (reads m stands is) })) c.range.ensures)
+pub store-requires : goal.store-requires
+store-requires g c = record { holds = holds_some c.args.self.now (g.R.Regs.state c.args.regs.now) (g.M.Media.state c.args.media.now) c.requires.stands; ranged = subst IsRanged c.in-Store.is c.requires.ranged }
 
-pub returns-in-Spread-clause-answer : goal.returns-in-Spread-clause-answer
-returns-in-Spread-clause-answer g c =
-    of_result c.args.self.now c.args.self.now (g.R.Regs.state c.args.regs.now) (g.R.Regs.state c.args.regs.now) (g.M.Media.state c.args.media.now) (g.M.Media.state c.args.media.now)
-    c.args.command.now (commands.Spread c.in-Spread.reach) c.spread.result c.in-Spread.is
-    (IfOk-weaker c.spread.result _ _
-    (λ reply reads. read_turn c.args.self.now (g.R.Regs.state c.args.regs.now) (commands.Spread c.in-Spread.reach) refl (λ m. refl) (g.M.Media.state c.args.media.now) reply
-    (λ m stands is memory. record { unfailing = refl; told = sym (reads m stands is) })) c.spread.ensures)
+pub returns-in-Store : goal.returns-in-Store
+returns-in-Store g c =
+    let session = c.args.self.now in
+    let old = g.R.Regs.state c.args.regs.now in
+    let media = g.M.Media.state c.args.media.now in
+    let left = g.M.Media.state c.store.new.media in
+    record {
+      answer =
+          of_command session session old old media left c.args.command.now (commands.Store c.in-Store.store) c.store.result c.in-Store.is
+          (write_turn session old (commands.Store c.in-Store.store) refl (λ m. refl) media left c.store.result
+          (λ m. store_answer m c.in-Store.store) (λ m. record { unfailing = refl; told = refl }) c.store.ensures.answer);
+      refused = λ is. (refl, refl, c.store.ensures.refused is);
+      memory = tt;
+      unswallowed = tt;
+      image = image_held session old media c.requires.stands;
+      host = (refl, refl);
+      counts = le_refl old.faults;
+    }
 
-pub returns-in-Copy-clause-answer : goal.returns-in-Copy-clause-answer
-returns-in-Copy-clause-answer g c =
-    of_result c.args.self.now c.args.self.now (g.R.Regs.state c.args.regs.now) (g.R.Regs.state c.args.regs.now) (g.M.Media.state c.args.media.now) (g.M.Media.state c.copy_region.new.media)
-    c.args.command.now (commands.Copy c.in-Copy.pair) c.copy_region.result c.in-Copy.is
-    (IfOk-weaker c.copy_region.result _ _
-    (λ reply written. write_turn c.args.self.now (g.R.Regs.state c.args.regs.now) (commands.Copy c.in-Copy.pair) refl (λ m. refl) (g.M.Media.state c.args.media.now) (g.M.Media.state c.copy_region.new.media) reply
-    (λ m. copy_answer m c.in-Copy.pair) (λ m. record { unfailing = refl; told = refl }) written) c.copy_region.ensures.answer)
+pub poison-requires : goal.poison-requires
+poison-requires g c = some_machine c.args.self.now (g.R.Regs.state c.args.regs.now) (g.M.Media.state c.args.media.now) c.requires.stands
 
-pub returns-in-Move-clause-answer : goal.returns-in-Move-clause-answer
-returns-in-Move-clause-answer g c =
-    of_result c.args.self.now c.args.self.now (g.R.Regs.state c.args.regs.now) (g.R.Regs.state c.args.regs.now) (g.M.Media.state c.args.media.now) (g.M.Media.state c.move_region.new.media)
-    c.args.command.now (commands.Move c.in-Move.pair) c.move_region.result c.in-Move.is
-    (IfOk-weaker c.move_region.result _ _
-    (λ reply written. write_turn c.args.self.now (g.R.Regs.state c.args.regs.now) (commands.Move c.in-Move.pair) refl (λ m. refl) (g.M.Media.state c.args.media.now) (g.M.Media.state c.move_region.new.media) reply
-    (λ m. move_answer m c.in-Move.pair) (λ m. record { unfailing = refl; told = refl }) written) c.move_region.ensures.answer)
+pub returns-in-Poison : goal.returns-in-Poison
+returns-in-Poison g c =
+    let session = c.args.self.now in
+    let old = g.R.Regs.state c.args.regs.now in
+    let media = g.M.Media.state c.args.media.now in
+    record {
+      answer =
+          of_result session session old old media media c.args.command.now (commands.Poison c.in-Poison.poison) c.poison.result c.in-Poison.is
+          (IfOk-weaker c.poison.result _ _ (λ reply reads. read_turn session old (commands.Poison c.in-Poison.poison) refl (λ m. refl) media reply
+          (λ m stands is memory. (refl, reads m stands is))) c.poison.ensures);
+      refused = ok_always c.poison.result _ (λ _ _. (refl, refl, refl));
+      memory = err_always c.poison.result _ (λ _. (refl, untouched_by old old refl, refl));
+      unswallowed = err_always c.poison.result _ (λ _ _. refl);
+      image = image_held session old media c.requires.stands;
+      host = (refl, refl);
+      counts = le_refl old.faults;
+    }
+
+pub begin_create-requires : goal.begin_create-requires
+begin_create-requires g c = record { stands = (g.R.Regs.state c.args.regs.now, g.M.Media.state c.args.media.now, c.requires.stands); code = subst IsRanged c.in-BeginCreate.is c.requires.ranged }
+
+pub returns-in-BeginCreate : goal.returns-in-BeginCreate
+returns-in-BeginCreate g c =
+    let session = c.args.self.now in
+    let next = c.begin_create.new.self in
+    let old = g.R.Regs.state c.args.regs.now in
+    let media = g.M.Media.state c.args.media.now in
+    let turn = IfOk-weaker c.begin_create.result _ (IsTurnFor session next old old media media (commands.BeginCreate c.in-BeginCreate.create)) (λ _ turn. turn old media) c.begin_create.ensures.turn in
+    record {
+      answer =
+          of_result session next old old media media c.args.command.now (commands.BeginCreate c.in-BeginCreate.create) c.begin_create.result c.in-BeginCreate.is
+          turn;
+      refused = IfOk-weaker c.begin_create.result _ _ (λ _ same is. (same is, refl, refl)) c.begin_create.ensures.refused;
+      memory = IfErr-weaker c.begin_create.result _ _ (λ _ same. (same, untouched_by old old refl, refl)) c.begin_create.ensures.memory;
+      unswallowed = err_always c.begin_create.result _ (λ _ _. refl);
+      image = image_after_result session next old old media media (commands.BeginCreate c.in-BeginCreate.create) c.begin_create.result c.requires.stands turn (IfErr-weaker c.begin_create.result _ _ (λ _ same. (same, refl)) c.begin_create.ensures.memory);
+      host = c.begin_create.ensures.host;
+      counts = le_refl old.faults;
+    }
+
+pub begin_destroy-requires : goal.begin_destroy-requires
+begin_destroy-requires g c = (g.R.Regs.state c.args.regs.now, g.M.Media.state c.args.media.now, c.requires.stands)
+
+pub returns-in-BeginDestroy : goal.returns-in-BeginDestroy
+returns-in-BeginDestroy g c =
+    let session = c.args.self.now in
+    let next = c.begin_destroy.new.self in
+    let old = g.R.Regs.state c.args.regs.now in
+    let media = g.M.Media.state c.args.media.now in
+    let turn = IfOk-weaker c.begin_destroy.result _ (IsTurnFor session next old old media media (commands.BeginDestroy c.in-BeginDestroy.name)) (λ _ turn. turn old media) c.begin_destroy.ensures.turn in
+    record {
+      answer =
+          of_result session next old old media media c.args.command.now (commands.BeginDestroy c.in-BeginDestroy.name) c.begin_destroy.result c.in-BeginDestroy.is
+          turn;
+      refused = IfOk-weaker c.begin_destroy.result _ _ (λ _ same is. (same is, refl, refl)) c.begin_destroy.ensures.refused;
+      memory = IfErr-weaker c.begin_destroy.result _ _ (λ _ same. (same, untouched_by old old refl, refl)) c.begin_destroy.ensures.memory;
+      unswallowed = err_always c.begin_destroy.result _ (λ _ _. refl);
+      image = image_after_result session next old old media media (commands.BeginDestroy c.in-BeginDestroy.name) c.begin_destroy.result c.requires.stands turn (IfErr-weaker c.begin_destroy.result _ _ (λ _ same. (same, refl)) c.begin_destroy.ensures.memory);
+      host = c.begin_destroy.ensures.host;
+      counts = le_refl old.faults;
+    }
+
+pub step-requires : goal.step-requires
+step-requires g c = c.requires.stands
+
+pub returns-in-Step : goal.returns-in-Step
+returns-in-Step g c =
+    let session = c.args.self.now in
+    let next = c.step.new.self in
+    let old = g.R.Regs.state c.args.regs.now in
+    let new = g.R.Regs.state c.step.new.regs in
+    let media = g.M.Media.state c.args.media.now in
+    let left = g.M.Media.state c.step.new.media in
+    record {
+      answer =
+          of_command session next old new media left c.args.command.now (commands.Step c.in-Step.steps) c.step.result c.in-Step.is
+          c.step.ensures.turn;
+      refused = c.step.ensures.refused;
+      memory = tt;
+      unswallowed = tt;
+      image = image_after session next old new media left (commands.Step c.in-Step.steps) c.step.result c.requires.stands c.step.ensures.turn;
+      host = c.step.ensures.host;
+      counts = c.step.ensures.counts;
+    }
+
+pub abort-requires : goal.abort-requires
+abort-requires g c = (g.M.Media.state c.args.media.now, c.requires.stands)
+
+pub returns-in-Abort : goal.returns-in-Abort
+returns-in-Abort g c =
+    let session = c.args.self.now in
+    let next = c.abort.new.self in
+    let old = g.R.Regs.state c.args.regs.now in
+    let new = g.R.Regs.state c.abort.new.regs in
+    let media = g.M.Media.state c.args.media.now in
+    record {
+      answer =
+          of_command session next old new media media c.args.command.now commands.Abort c.abort.result c.in-Abort.is
+          (c.abort.ensures.turn media);
+      refused = λ is. ((c.abort.ensures.refused is).0, (c.abort.ensures.refused is).1, refl);
+      memory = tt;
+      unswallowed = tt;
+      image = image_after session next old new media media commands.Abort c.abort.result c.requires.stands (c.abort.ensures.turn media);
+      host = c.abort.ensures.host;
+      counts = c.abort.ensures.counts;
+    }
+
+pub range-requires : goal.range-requires
+range-requires g c =
+    let ranged = subst IsRanged c.in-Range.is c.requires.ranged in record { stands = some_machine c.args.self.now (g.R.Regs.state c.args.regs.now) (g.M.Media.state c.args.media.now) c.requires.stands; some = ranged.0; few = ranged.1 }
+
+pub returns-in-Range : goal.returns-in-Range
+returns-in-Range g c =
+    let session = c.args.self.now in
+    let old = g.R.Regs.state c.args.regs.now in
+    let media = g.M.Media.state c.args.media.now in
+    record {
+      answer =
+          of_result session session old old media media c.args.command.now (commands.Range c.in-Range.reach) c.range.result c.in-Range.is
+          (IfOk-weaker c.range.result _ _ (λ reply reads. read_turn session old (commands.Range c.in-Range.reach) refl (λ m. refl) media reply
+          (λ m stands is memory. record { unfailing = refl; told = sym (reads m stands is) })) c.range.ensures);
+      refused = ok_always c.range.result _ (λ _ _. (refl, refl, refl));
+      memory = err_always c.range.result _ (λ _. (refl, untouched_by old old refl, refl));
+      unswallowed = err_always c.range.result _ (λ _ _. refl);
+      image = image_held session old media c.requires.stands;
+      host = (refl, refl);
+      counts = le_refl old.faults;
+    }
+
+pub spread-requires : goal.spread-requires
+spread-requires g c = record { stands = some_machine c.args.self.now (g.R.Regs.state c.args.regs.now) (g.M.Media.state c.args.media.now) c.requires.stands; some = subst IsRanged c.in-Spread.is c.requires.ranged }
+
+pub returns-in-Spread : goal.returns-in-Spread
+returns-in-Spread g c =
+    let session = c.args.self.now in
+    let old = g.R.Regs.state c.args.regs.now in
+    let media = g.M.Media.state c.args.media.now in
+    record {
+      answer =
+          of_result session session old old media media c.args.command.now (commands.Spread c.in-Spread.reach) c.spread.result c.in-Spread.is
+          (IfOk-weaker c.spread.result _ _ (λ reply reads. read_turn session old (commands.Spread c.in-Spread.reach) refl (λ m. refl) media reply
+          (λ m stands is memory. record { unfailing = refl; told = sym (reads m stands is) })) c.spread.ensures);
+      refused = ok_always c.spread.result _ (λ _ _. (refl, refl, refl));
+      memory = err_always c.spread.result _ (λ _. (refl, untouched_by old old refl, refl));
+      unswallowed = err_always c.spread.result _ (λ _ _. refl);
+      image = image_held session old media c.requires.stands;
+      host = (refl, refl);
+      counts = le_refl old.faults;
+    }
+
+pub copy_region-requires : goal.copy_region-requires
+copy_region-requires g c = holds_some c.args.self.now (g.R.Regs.state c.args.regs.now) (g.M.Media.state c.args.media.now) c.requires.stands
+
+pub returns-in-Copy : goal.returns-in-Copy
+returns-in-Copy g c =
+    let session = c.args.self.now in
+    let old = g.R.Regs.state c.args.regs.now in
+    let media = g.M.Media.state c.args.media.now in
+    let left = g.M.Media.state c.copy_region.new.media in
+    record {
+      answer =
+          of_result session session old old media left c.args.command.now (commands.Copy c.in-Copy.pair) c.copy_region.result c.in-Copy.is
+          (IfOk-weaker c.copy_region.result _ _ (λ reply written. write_turn session old (commands.Copy c.in-Copy.pair) refl (λ m. refl) media left reply
+          (λ m. copy_answer m c.in-Copy.pair) (λ m. record { unfailing = refl; told = refl }) written) c.copy_region.ensures.answer);
+      refused = IfOk-weaker c.copy_region.result _ _ (λ _ same is. (refl, refl, same is)) c.copy_region.ensures.refused;
+      memory = IfErr-weaker c.copy_region.result _ _ (λ _ same. (refl, untouched_by old old refl, same)) c.copy_region.ensures.memory;
+      unswallowed = err_always c.copy_region.result _ (λ _ _. refl);
+      image = image_held session old media c.requires.stands;
+      host = (refl, refl);
+      counts = le_refl old.faults;
+    }
+
+pub move_region-requires : goal.move_region-requires
+move_region-requires g c = holds_some c.args.self.now (g.R.Regs.state c.args.regs.now) (g.M.Media.state c.args.media.now) c.requires.stands
+
+pub returns-in-Move : goal.returns-in-Move
+returns-in-Move g c =
+    let session = c.args.self.now in
+    let old = g.R.Regs.state c.args.regs.now in
+    let media = g.M.Media.state c.args.media.now in
+    let left = g.M.Media.state c.move_region.new.media in
+    record {
+      answer =
+          of_result session session old old media left c.args.command.now (commands.Move c.in-Move.pair) c.move_region.result c.in-Move.is
+          (IfOk-weaker c.move_region.result _ _ (λ reply written. write_turn session old (commands.Move c.in-Move.pair) refl (λ m. refl) media left reply
+          (λ m. move_answer m c.in-Move.pair) (λ m. record { unfailing = refl; told = refl }) written) c.move_region.ensures.answer);
+      refused = IfOk-weaker c.move_region.result _ _ (λ _ same is. (refl, refl, same is)) c.move_region.ensures.refused;
+      memory = IfErr-weaker c.move_region.result _ _ (λ _ same. (refl, untouched_by old old refl, same)) c.move_region.ensures.memory;
+      unswallowed = err_always c.move_region.result _ (λ _ _. refl);
+      image = image_held session old media c.requires.stands;
+      host = (refl, refl);
+      counts = le_refl old.faults;
+    }

@@ -1,6 +1,8 @@
 use Rattle.std.proofs.Common.{◌≡◌, ℕ, ◌<◌, ◌≤◌, List, Option, Some, None, length, refl, sym, ap, ◌∙◌, subst, arith}
 use Rattle.std.specs.Prelude.{IfSome}
 use Rattle.std.proofs.lemmas.Option.{none-some, same_Some}
+use Rattle.std.proofs.Math.Nat.{le_refl, le_trans}
+use Rattle.cxl_apply.specs.Steps.{HasWordsOf}
 use Rattle.cxl_regs.specs.Registers.{Registers}
 use Rattle.cxl_model.specs.declared.found.Found.{Found}
 use Rattle.cxl_model.specs.System.{System, IsSystem}
@@ -12,10 +14,11 @@ use Rattle.cxl_session.specs.Inside.{job_fields}
 use Rattle.cxl_session.specs.Standing.{HasSameJob}
 use Rattle.cxl_session.specs.State.{JobFields, SessionState}
 use Rattle.cxl_session.specs.inner.Regions.{session_undone, session_finished, finished_reply, IsMadeTo, IsTakenBackTo, IsLeftByEnd}
+use Rattle.cxl_session.proofs.Acts.{image_held}
 use Rattle.cxl_session.proofs.Ends.{EndLaws}
 use Rattle.cxl_session.proofs.Finished.{MediaLaws, region_of_job}
 use Rattle.cxl_session.proofs.Room.{has_room, has_place}
-use Rattle.cxl_session.proofs.Steps.{reply_same}
+use Rattle.cxl_session.proofs.Steps.{reply_same, end_unrefused, left_unrefused}
 use Rattle.cxl_session.proofs.Turns.{on_err, on_ok, on_pass, on_fail}
 use Rattle.cxl_session.proofs.Wholes.{whole_ended, whole_undone, whole_undone_again, whole_left, own_job_for, same_whole}
 use Rattle.cxl_session.proofs.session.Session.carry_out.Goals as goal
@@ -213,3 +216,77 @@ restore-requires-clause-place g c =
     let same = own_job_for session own c.in-Some.ensures.job (begun job m) job refl at.stands.job in
     subst (λ (s : SessionState). IfSome (job_fields c.undo.new.pending).place (λ place. place ≤ length s.names)) (sym image_is)
     (subst (λ (j : JobFields). IfSome j.place (λ place. place ≤ length session.names)) (sym as_kept) (has_place session (begun job m) own job at.stands at.sound.machine refl same))
+
+pub make-requires-clause-idle : goal.make-requires-clause-idle
+make-requires-clause-idle g c = ap (λ (s : SessionState). s.job) c.take_job.ensures.taken
+
+pub make-requires-clause-words : goal.make-requires-clause-words
+make-requires-clause-words g c = subst (λ (blocks : List Registers). HasWordsOf blocks c.in-Some.pending.job.writes) (sym (ap (λ (s : SessionState). s.image) c.take_job.ensures.taken)) c.in-Some.ensures.words
+
+pub make-requires-clause-same : goal.make-requires-clause-same
+make-requires-clause-same g c = sym (image_held c.args.self.now (g.R.Regs.state c.args.regs.now) (g.M.Media.state c.args.media.now) (begun c.requires.1 c.requires.0, c.requires.2)) ∙ sym (ap (λ (s : SessionState). s.image) c.take_job.ensures.taken)
+
+pub undo-requires : goal.undo-requires
+undo-requires g c = record { idle = ap (λ (s : SessionState). s.job) c.make.ensures.image ∙ ap (λ (s : SessionState). s.job) c.take_job.ensures.taken; words = c.make.ensures.kept_words; same = c.make.ensures.made.same }
+
+pub leave-requires : goal.leave-requires
+leave-requires g c = c.undo.ensures.kept_words
+
+pub finish-requires-clause-idle : goal.finish-requires-clause-idle
+finish-requires-clause-idle g c = ap (λ (s : SessionState). s.job) c.make.ensures.image ∙ ap (λ (s : SessionState). s.job) c.take_job.ensures.taken
+
+pub restore-requires-clause-idle : goal.restore-requires-clause-idle
+restore-requires-clause-idle g c = ap (λ (s : SessionState). s.job) c.undo.ensures.image ∙ ap (λ (s : SessionState). s.job) c.make.ensures.image ∙ ap (λ (s : SessionState). s.job) c.take_job.ensures.taken
+
+pub returns-in_default-clause-host : goal.returns-in_default-clause-host
+returns-in_default-clause-host g c =
+    let topo = λ (s : SessionState). s.topo in
+    let windows = λ (s : SessionState). s.windows in
+    (ap topo c.take_job.ensures.taken, ap windows c.take_job.ensures.taken)
+
+pub returns-in_default-clause-counts : goal.returns-in_default-clause-counts
+returns-in_default-clause-counts g c = le_refl (g.R.Regs.state c.args.regs.now).faults
+
+pub returns-then-is_ok-clause-refused : goal.returns-then-is_ok-clause-refused
+returns-then-is_ok-clause-refused g c = λ is. absurd (end_unrefused (job_fields c.make.new.pending) c.finish.result c.finish.ensures.reply is)
+
+pub returns-then-is_ok-clause-host : goal.returns-then-is_ok-clause-host
+returns-then-is_ok-clause-host g c =
+    let topo = λ (s : SessionState). s.topo in
+    let windows = λ (s : SessionState). s.windows in
+    (ap topo c.finish.ensures.session ∙ ap topo c.make.ensures.image ∙ ap topo c.take_job.ensures.taken, ap windows c.finish.ensures.session ∙ ap windows c.make.ensures.image ∙ ap windows c.take_job.ensures.taken)
+
+pub returns-then-is_ok-clause-counts : goal.returns-then-is_ok-clause-counts
+returns-then-is_ok-clause-counts g c = c.make.ensures.made.counts
+
+pub returns-then-is_err-clause-refused : goal.returns-then-is_err-clause-refused
+returns-then-is_err-clause-refused g c = λ is. absurd (left_unrefused _ _ _ c.leave.result c.leave.ensures.reply is)
+
+pub returns-then-is_err-clause-host : goal.returns-then-is_err-clause-host
+returns-then-is_err-clause-host g c =
+    let topo = λ (s : SessionState). s.topo in
+    let windows = λ (s : SessionState). s.windows in
+    (ap topo c.leave.ensures.job ∙ ap topo c.undo.ensures.image ∙ ap topo c.make.ensures.image ∙ ap topo c.take_job.ensures.taken, ap windows c.leave.ensures.job ∙ ap windows c.undo.ensures.image ∙ ap windows c.make.ensures.image ∙ ap windows c.take_job.ensures.taken)
+
+pub returns-then-is_err-clause-counts : goal.returns-then-is_err-clause-counts
+returns-then-is_err-clause-counts g c = le_trans c.make.ensures.made.counts c.undo.ensures.back.counts
+
+pub returns-clause-host : goal.returns-clause-host
+returns-clause-host g c =
+    let topo = λ (s : SessionState). s.topo in
+    let windows = λ (s : SessionState). s.windows in
+    (ap topo c.restore.ensures ∙ ap topo c.undo.ensures.image ∙ ap topo c.make.ensures.image ∙ ap topo c.take_job.ensures.taken, ap windows c.restore.ensures ∙ ap windows c.undo.ensures.image ∙ ap windows c.make.ensures.image ∙ ap windows c.take_job.ensures.taken)
+
+pub returns-clause-counts : goal.returns-clause-counts
+returns-clause-counts g c = le_trans c.make.ensures.made.counts c.undo.ensures.back.counts
+
+pub finish-requires-clause-room : goal.finish-requires-clause-room
+finish-requires-clause-room g c =
+    let session : SessionState = c.args.self.now in
+    let own : JobFields = job_fields c.in-Some.pending in
+    let m : Machine = c.requires.0 in
+    let job : RegionJob = c.requires.1 in
+    let at = c.requires.2 in
+    let same = own_job_for session own c.in-Some.ensures.job (begun job m) job refl at.stands.job in
+    subst (λ (names : List (List ℕ)). length names < region_limit) (sym (ap (λ (s : SessionState). s.names) c.make.ensures.image ∙ ap (λ (s : SessionState). s.names) c.take_job.ensures.taken))
+    (has_room session (begun job m) own job at.stands at.sound.machine refl same)

@@ -1,18 +1,23 @@
-use Rattle.std.proofs.Common.{◌≡◌, ℕ, ◌+◌, List, Option, Some, None, length, refl, sym, ap, ◌∙◌, subst, arith}
+use Rattle.std.proofs.Common.{◌≡◌, ℕ, ◌+◌, ◌<◌, List, Option, Some, None, length, refl, sym, ap, ◌∙◌, subst, arith}
+use Rattle.std.proofs.lemmas.Bool.{false≢true}
+use Rattle.std.proofs.Math.Nat.{le_refl}
+use Rattle.cxl_apply.specs.Steps.{HasWordsOf}
 use Rattle.cxl_regs.specs.Registers.{Registers}
 use Rattle.cxl_model.specs.declared.found.Found.{Found}
 use Rattle.cxl_model.specs.System.{System, IsSystem}
 use Rattle.cxl_model.specs.Regions.{IsRegion}
 use Rattle.cxl_script.specs.declared.command.Command.TheVariants as commands
 use Rattle.cxl_reply.specs.declared.reply.Reply.TheVariants as replies
-use Rattle.cxl_machine.specs.Machine.{Machine}
+use Rattle.cxl_machine.specs.Machine.{Machine, region_limit}
 use Rattle.cxl_session.specs.Inside.{job_fields}
 use Rattle.cxl_session.specs.State.{JobFields, SessionState}
 use Rattle.cxl_session.specs.inner.Regions.{session_finished, finished_reply, IsMadeTo, IsLeftByEnd}
+use Rattle.cxl_session.proofs.Acts.{image_held}
 use Rattle.cxl_session.proofs.Ends.{EndLaws}
 use Rattle.cxl_session.proofs.Finished.{MediaLaws, region_of_job}
 use Rattle.cxl_session.proofs.PendingJobs.{same_job}
-use Rattle.cxl_session.proofs.Steps.{none_stepped, left_stepped, stepped, ended, reply_same}
+use Rattle.cxl_session.proofs.Room.{has_room}
+use Rattle.cxl_session.proofs.Steps.{none_stepped, left_stepped, stepped, ended, reply_same, end_unrefused, left_unrefused}
 use Rattle.cxl_session.proofs.Turns.{on_err, on_ok, same_turn}
 use Rattle.cxl_session.proofs.session.Session.step.Goals as goal
 
@@ -121,3 +126,83 @@ returns-clause-turn g c =
     (g.M.Media.state c.args.media.now) (g.M.Media.state c.finish.new.media) (omega (arith, all, few, done, within, total, last)) (omega (arith, few, done, within, total, last))
     (on_ok c.make.result went c.make.ensures.unswallowed)
     (subst (λ (j : JobFields). IsLeftByEnd j (g.M.Media.state c.args.media.now) (g.M.Media.state c.finish.new.media)) c.make.ensures.job c.finish.ensures.media))
+
+pub make-requires : goal.make-requires
+make-requires g c =
+    let few = c.min.ensures in
+    let done = c.done-done.ensures.value in
+    let within = c.done-done.ensures.within in
+    let total = c.total-total.ensures in
+    record {
+      idle = ap (λ (s : SessionState). s.job) c.take_job.ensures.taken;
+      ahead = omega (arith, done);
+      within = omega (arith, few, done, within, total);
+      words = subst (λ (blocks : List Registers). HasWordsOf blocks c.in-Some.pending.job.writes) (sym (ap (λ (s : SessionState). s.image) c.take_job.ensures.taken)) c.in-Some.ensures.words;
+      same = sym (image_held c.args.self.now (g.R.Regs.state c.args.regs.now) (g.M.Media.state c.args.media.now) c.requires) ∙ sym (ap (λ (s : SessionState). s.image) c.take_job.ensures.taken);
+    }
+
+pub leave-requires : goal.leave-requires
+leave-requires g c = c.make.ensures.kept_words
+
+pub keep-requires : goal.keep-requires
+keep-requires g c = c.make.ensures.kept_words
+
+pub finish-requires-clause-idle : goal.finish-requires-clause-idle
+finish-requires-clause-idle g c = ap (λ (s : SessionState). s.job) c.make.ensures.image ∙ ap (λ (s : SessionState). s.job) c.take_job.ensures.taken
+
+pub returns-in_default-clause-refused : goal.returns-in_default-clause-refused
+returns-in_default-clause-refused g c = λ _. (c.take_job.ensures.taken ∙ ap (λ (o : Option JobFields). record c.args.self.now { job = o }) (sym c.in_default.ensures.job), refl, refl)
+
+pub returns-in_default-clause-host : goal.returns-in_default-clause-host
+returns-in_default-clause-host g c =
+    let topo = λ (s : SessionState). s.topo in
+    let windows = λ (s : SessionState). s.windows in
+    (ap topo c.take_job.ensures.taken, ap windows c.take_job.ensures.taken)
+
+pub returns-in_default-clause-counts : goal.returns-in_default-clause-counts
+returns-in_default-clause-counts g c = le_refl (g.R.Regs.state c.args.regs.now).faults
+
+pub returns-then-is_err-clause-refused : goal.returns-then-is_err-clause-refused
+returns-then-is_err-clause-refused g c = λ is. absurd (left_unrefused _ _ _ c.leave.result c.leave.ensures.reply is)
+
+pub returns-then-is_err-clause-host : goal.returns-then-is_err-clause-host
+returns-then-is_err-clause-host g c =
+    let topo = λ (s : SessionState). s.topo in
+    let windows = λ (s : SessionState). s.windows in
+    (ap topo c.leave.ensures.job ∙ ap topo c.make.ensures.image ∙ ap topo c.take_job.ensures.taken, ap windows c.leave.ensures.job ∙ ap windows c.make.ensures.image ∙ ap windows c.take_job.ensures.taken)
+
+pub returns-then-is_err-clause-counts : goal.returns-then-is_err-clause-counts
+returns-then-is_err-clause-counts g c = c.make.ensures.made.counts
+
+pub returns-then-upto-total-clause-refused : goal.returns-then-upto-total-clause-refused
+returns-then-upto-total-clause-refused g c = λ is. absurd (false≢true is)
+
+pub returns-then-upto-total-clause-host : goal.returns-then-upto-total-clause-host
+returns-then-upto-total-clause-host g c =
+    let topo = λ (s : SessionState). s.topo in
+    let windows = λ (s : SessionState). s.windows in
+    (ap topo c.keep.ensures ∙ ap topo c.make.ensures.image ∙ ap topo c.take_job.ensures.taken, ap windows c.keep.ensures ∙ ap windows c.make.ensures.image ∙ ap windows c.take_job.ensures.taken)
+
+pub returns-then-upto-total-clause-counts : goal.returns-then-upto-total-clause-counts
+returns-then-upto-total-clause-counts g c = c.make.ensures.made.counts
+
+pub returns-clause-refused : goal.returns-clause-refused
+returns-clause-refused g c = λ is. absurd (end_unrefused (job_fields c.make.new.pending) c.finish.result c.finish.ensures.reply is)
+
+pub returns-clause-host : goal.returns-clause-host
+returns-clause-host g c =
+    let topo = λ (s : SessionState). s.topo in
+    let windows = λ (s : SessionState). s.windows in
+    (ap topo c.finish.ensures.session ∙ ap topo c.make.ensures.image ∙ ap topo c.take_job.ensures.taken, ap windows c.finish.ensures.session ∙ ap windows c.make.ensures.image ∙ ap windows c.take_job.ensures.taken)
+
+pub returns-clause-counts : goal.returns-clause-counts
+returns-clause-counts g c = c.make.ensures.made.counts
+
+pub finish-requires-clause-room : goal.finish-requires-clause-room
+finish-requires-clause-room g c =
+    let m : Machine = c.requires.0 in
+    let at = c.requires.1 in
+    let own : JobFields = job_fields c.in-Some.pending in
+    let (job, pending, same) = same_job m own c.args.self.now.job c.in-Some.ensures.job m.job at.stands.job in
+    subst (λ (names : List (List ℕ)). length names < region_limit) (sym (ap (λ (s : SessionState). s.names) c.make.ensures.image ∙ ap (λ (s : SessionState). s.names) c.take_job.ensures.taken))
+    (has_room c.args.self.now m own job at.stands at.sound.machine pending same)
