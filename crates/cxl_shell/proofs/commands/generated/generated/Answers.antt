@@ -1,7 +1,5 @@
 use Rattle.std.proofs.Common.{inl, refl, subst}
-use Rattle.cxl_model.specs.System.{System, system_of}
 use Rattle.cxl_topo.specs.Tree.{Tree}
-use Rattle.cxl_gen.specs.Made.{made_tree}
 use Rattle.cxl_shell.specs.Devices.{devices}
 use Rattle.cxl_shell.specs.commands.Script.{memory}
 use Rattle.cxl_shell.specs.inner.Generated.{made_host, EndsMade, unready}

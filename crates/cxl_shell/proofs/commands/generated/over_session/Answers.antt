@@ -1,4 +1,4 @@
-use Rattle.std.proofs.Common.{refl, sym, subst, take}
+use Rattle.std.proofs.Common.{refl, subst, take}
 use Rattle.cxl_shell.specs.Endings.{told, runs_out}
 use Rattle.cxl_commands.specs.Ends.{Ends}
 use Rattle.cxl_shell.specs.commands.Gen.{made_asked}

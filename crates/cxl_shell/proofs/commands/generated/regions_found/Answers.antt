@@ -1,6 +1,5 @@
 use Rattle.std.proofs.Common.{sym, ◌∙◌}
-use Rattle.cxl_session.specs.State.{image_in}
-use Rattle.cxl_shell.specs.commands.Gen.{HasChecked, regions_found, breach_found}
+use Rattle.cxl_shell.specs.commands.Gen.{regions_found, breach_found}
 use Rattle.cxl_shell.proofs.commands.generated.regions_found.Goals as goal
 
 pub returns-in-Ok : goal.returns-in-Ok
