@@ -53,7 +53,7 @@ pub fn make_command(alloc: Global, n: u32, k: u32, command: &mut Command) -> Res
         return make_filling(alloc, k / FILLING, k % FILLING, command);
     }
     let load = k - filling;
-    *command = made_load(load / ACCESSES, load % ACCESSES);
+    make_load(load / ACCESSES, load % ACCESSES, command);
     Ok(())
 }
 
@@ -119,15 +119,20 @@ fn make_store(alloc: Global, j: u32, i: u32, command: &mut Command) -> Result<()
     Ok(())
 }
 
-fn made_load(j: u32, i: u32) -> Command
+/// Makes a command the load of number `i` in region `j`, within a load where it is one.
+fn make_load(j: u32, i: u32, command: &mut Command)
     requires region { j < 32 }
     requires access { i < 1000 }
-    ensures { result ≡ made_load j i }
+    ensures { command.new ≡ made_load j i }
 {
-    Command::Load(Load {
+    let asked = Load {
         h: store_place(j, i),
         len: 8,
-    })
+    };
+    match command {
+        Command::Load(load) => *load = asked,
+        _ => *command = Command::Load(asked),
+    }
 }
 
 /// Where the bytes of number `i` stand in region `j`.

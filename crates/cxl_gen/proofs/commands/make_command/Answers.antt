@@ -7,12 +7,12 @@ pub returns-then-k-filling-clause-ok : goal.returns-then-k-filling-clause-ok
 returns-then-k-filling-clause-ok c =
     on_ok_weaker c.make_filling.result (in_region c.args.n c.args.k c.make_filling.new.command c.if-k-filling.true) c.make_filling.ensures.ok
 
-pub made_load-requires-clause-region : goal.made_load-requires-clause-region
-made_load-requires-clause-region c =
+pub make_load-requires-clause-region : goal.make_load-requires-clause-region
+make_load-requires-clause-region c =
     let there = c.requires.there in let few = c.requires.few in
     omega (arith, few, there, commands_length c.args.n)
 
 pub returns-clause-ok : goal.returns-clause-ok
 returns-clause-ok c =
     let there = c.requires.there in
-    in_loads c.args.n c.args.k c.made_load.result (omega arith) (omega (arith, there, commands_length c.args.n)) c.made_load.ensures
+    in_loads c.args.n c.args.k c.make_load.new.command (omega arith) (omega (arith, there, commands_length c.args.n)) c.make_load.ensures
