@@ -6,8 +6,8 @@ ghost use Rattle.cxl_reply.specs.Conditions.{IsTold, HasKnownCode};
 use cxl_enc::Name;
 use cxl_reply::{
     BadLine, Begun, Carried, Counted, Lack, Named, Pending, Progress, Reply, Sizes, Spot, Why,
-    put_reply, short,
 };
+use cxl_text::{put_reply, short};
 use cxl_topo::{Capacity, Node, NodeKind, Parent, Topo};
 use std::process::Abort;
 use told::is_told;

@@ -2,7 +2,7 @@
 use Rattle.std.specs.Prelude.{◌≤◌, List, length}
 use Rattle.std.specs.Vec.{vec_capacity}
 use Rattle.cxl_model.specs.declared.found.Found.{Found}
-use Rattle.cxl_machine.specs.Machine.{region_limit}
+use Rattle.cxl_model.specs.Listed.{region_limit}
 use Rattle.cxl_live.specs.declared.regions.LiveRegions.TheInside.{Inside}
 use Rattle.cxl_live.specs.ByBase.{AreByBase}
 

@@ -1,5 +1,6 @@
 ghost use Rattle.std.specs.Prelude.{◌≡◌, ℕ, ◌<◌, ◌≤◌, [], ◌∷◌, ◌++◌, length, insert, remove, position, slice_get, Some, IfOk};
-ghost use Rattle.cxl_machine.specs.Machine.{has_host, region_limit};
+ghost use Rattle.cxl_machine.specs.Machine.{has_host};
+ghost use Rattle.cxl_model.specs.Listed.{region_limit};
 ghost use Rattle.cxl_live.specs.Apart.{LieApart};
 
 use crate::ordering::{BaseAt, bases_up_to, insert_by_base, order};

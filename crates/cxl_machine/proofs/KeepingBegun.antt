@@ -21,7 +21,8 @@ use Rattle.cxl_apply.specs.Jobs.{row_writes, release_write}
 use Rattle.cxl_apply.specs.Releases.{rows_of, first_locked, first_not_last}
 use Rattle.cxl_reply.specs.declared.reply.Reply.{Reply}
 use Rattle.cxl_reply.specs.declared.reply.Reply.TheVariants as replies
-use Rattle.cxl_machine.specs.Machine.{Live, RegionJob, Machine, region_limit, under_release, live_named, place_named}
+use Rattle.cxl_machine.specs.Machine.{Live, RegionJob, Machine, under_release, live_named, place_named}
+use Rattle.cxl_model.specs.Listed.{region_limit}
 use Rattle.cxl_legal.specs.Firsts.{first_there}
 use Rattle.cxl_machine.specs.Jobs.{create_job, release_job, begun}
 use Rattle.cxl_machine.specs.Requests.{busy, no_region, locked, not_last, spot_of, refusal_of_release, release_at, release_named, job_unless, asked_release}

@@ -14,7 +14,8 @@ use Rattle.cxl_model.specs.declared.request.Request.{Request}
 use Rattle.cxl_model.specs.Plans.{IsLegalPlan}
 use Rattle.cxl_reply.specs.declared.reply.Reply.{Reply}
 use Rattle.cxl_reply.specs.declared.reply.Reply.TheVariants as replies
-use Rattle.cxl_machine.specs.Machine.{Live, RegionJob, Machine, region_limit, live_named}
+use Rattle.cxl_machine.specs.Machine.{Live, RegionJob, Machine, live_named}
+use Rattle.cxl_model.specs.Listed.{region_limit}
 use Rattle.cxl_machine.specs.Jobs.{create_job, begun, finished, undone}
 use Rattle.cxl_machine.specs.Outcomes.{BusOutcome, NoFault, Undone, LeftPending, ReadFailed, is_access, StoresBytes}
 use Rattle.cxl_machine.specs.Requests.{busy, name_taken, no_endpoint, regions_full, refusal_of_create, AsksUnless, AsksCreate, asked_release}

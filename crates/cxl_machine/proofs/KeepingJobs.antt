@@ -16,7 +16,8 @@ use Rattle.cxl_model.specs.Ranges.{IsCommittedRange}
 use Rattle.cxl_model.specs.Regions.{region_range, IsRegionIn}
 use Rattle.cxl_model.specs.System.{System, IsSystem}
 use Rattle.cxl_apply.specs.Releases.{first_locked, first_not_last, blocks_without, system_without}
-use Rattle.cxl_machine.specs.Machine.{Live, RegionJob, JobKind, Creates, Releases, Machine, region_limit, region_released, under_release}
+use Rattle.cxl_machine.specs.Machine.{Live, RegionJob, JobKind, Creates, Releases, Machine, region_released, under_release}
+use Rattle.cxl_model.specs.Listed.{region_limit}
 use Rattle.cxl_machine.specs.Jobs.{planned_region, live_when_undone, finished, undone}
 use Rattle.cxl_machine.specs.Sound.{IsMachine, IsJob, IsJobOf, AreKept}
 use Rattle.cxl_machine.proofs.KeepingMachines.{no_contents}

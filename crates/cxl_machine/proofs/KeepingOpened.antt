@@ -24,12 +24,12 @@ use Rattle.cxl_window.specs.Fields.{WindowFields}
 use Rattle.cxl_model.specs.declared.found.Found.{Found}
 use Rattle.cxl_model.specs.Accepted.{breaks, breaks_block, KeepsBlocks, IsWhole, IsAccepted}
 use Rattle.cxl_model.specs.Changes.{HaveSameDecoders}
-use Rattle.cxl_model.specs.Listed.{AreRegions}
+use Rattle.cxl_model.specs.Listed.{AreRegions, region_limit}
 use Rattle.cxl_model.specs.Ranges.{IsCommittedRange}
 use Rattle.cxl_model.specs.Regions.{region_range, IsRegionIn}
 use Rattle.cxl_model.specs.System.{System, IsSystem, decoders_at, ram_at, pmem_at}
 use Rattle.cxl_legal.specs.Used.{HasBytePorts}
-use Rattle.cxl_machine.specs.Machine.{Live, Machine, region_limit}
+use Rattle.cxl_machine.specs.Machine.{Live, Machine}
 use Rattle.cxl_machine.specs.Sound.{IsMachine, Opens, auto_name, opened_region, enabled_system}
 use Rattle.cxl_machine.proofs.KeepingBytes.{HoldsOwn}
 use Rattle.cxl_machine.proofs.KeepingLists.{founds, HaveOwnNames}

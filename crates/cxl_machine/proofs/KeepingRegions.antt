@@ -9,11 +9,11 @@ use Rattle.std.proofs.lemmas.List.Sorted.{All-permutation, Contains-permutation,
 use Rattle.cxl_window.specs.Fields.{WindowFields}
 use Rattle.cxl_regs.specs.declared.reading.Range.{Range}
 use Rattle.cxl_model.specs.declared.found.Found.{Found}
-use Rattle.cxl_model.specs.Listed.{AreRegions}
+use Rattle.cxl_model.specs.Listed.{AreRegions, region_limit}
 use Rattle.cxl_model.specs.Ranges.{IsCommittedRange}
 use Rattle.cxl_model.specs.Regions.{region_range, IsRegion, IsRegionIn}
 use Rattle.cxl_model.specs.System.{System, IsSystem}
-use Rattle.cxl_machine.specs.Machine.{Live, Machine, region_limit}
+use Rattle.cxl_machine.specs.Machine.{Live, Machine}
 use Rattle.cxl_machine.specs.Sound.{AreKept}
 use Rattle.cxl_machine.proofs.KeepingBytes.{HoldsOwn}
 use Rattle.cxl_machine.proofs.KeepingLists.{founds}

@@ -29,7 +29,8 @@ use Rattle.cxl_reply.specs.declared.reply.Reply.TheVariants as replies
 use Rattle.cxl_reply.specs.Conditions.{IsNode, IsToldFound, IsTold}
 use Rattle.cxl_request.specs.Endpoints.{first_unknown}
 use Rattle.cxl_request.specs.Requests.{AsksForPlan}
-use Rattle.cxl_machine.specs.Machine.{Live, RegionJob, Machine, has_host, live_at, live_named, region_window, region_limit}
+use Rattle.cxl_machine.specs.Machine.{Live, RegionJob, Machine, has_host, live_at, live_named, region_window}
+use Rattle.cxl_model.specs.Listed.{region_limit}
 use Rattle.cxl_machine.specs.Jobs.{begun, create_job}
 use Rattle.cxl_machine.specs.Replies.{ends_within}
 use Rattle.cxl_machine.specs.Accesses.{downed, slot_of_host, slot_place, endpoints_by_slot}

@@ -43,10 +43,6 @@ pub record Machine : Type 0 where
   pub frames : ℕ
   pub job : Option RegionJob
 
--- the most regions that live
-abbrev pub region_limit : ℕ
-region_limit = 256
-
 -- ---- finding a region
 
 -- the live region of a name

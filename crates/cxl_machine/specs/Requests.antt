@@ -11,7 +11,8 @@ use Rattle.cxl_reply.specs.declared.reply.Reply.TheVariants as replies
 use Rattle.cxl_reply.specs.declared.details.Spot.{Spot}
 use Rattle.cxl_request.specs.Endpoints.{first_unknown}
 use Rattle.cxl_request.specs.Requests.{AsksForPlan}
-use Rattle.cxl_machine.specs.Machine.{Live, RegionJob, Machine, region_limit, live_named, place_named}
+use Rattle.cxl_machine.specs.Machine.{Live, RegionJob, Machine, live_named, place_named}
+use Rattle.cxl_model.specs.Listed.{region_limit}
 use Rattle.cxl_machine.specs.Jobs.{create_job, release_job}
 
 -- ---- refusals, each where it holds

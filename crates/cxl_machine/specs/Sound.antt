@@ -11,12 +11,12 @@ use Rattle.cxl_model.specs.declared.plan.Plan.{Plan}
 use Rattle.cxl_model.specs.declared.request.Request.{Request}
 use Rattle.cxl_model.specs.System.{System, IsSystem}
 use Rattle.cxl_model.specs.Accepted.{IsAccepted}
-use Rattle.cxl_model.specs.Listed.{AreRegions, AreRegionsByBase}
+use Rattle.cxl_model.specs.Listed.{AreRegions, AreRegionsByBase, region_limit}
 use Rattle.cxl_model.specs.Plans.{IsLegalPlan}
 use Rattle.cxl_model.specs.Contents.{AreContents, AreMediaOf}
 use Rattle.cxl_legal.specs.Used.{HasBytePorts}
 use Rattle.cxl_apply.specs.Releases.{first_locked, first_not_last}
-use Rattle.cxl_machine.specs.Machine.{Live, RegionJob, JobKind, Creates, Releases, Machine, region_limit, kept_regions, pieces_held, holding_of, image_of}
+use Rattle.cxl_machine.specs.Machine.{Live, RegionJob, JobKind, Creates, Releases, Machine, kept_regions, pieces_held, holding_of, image_of}
 use Rattle.cxl_machine.specs.Jobs.{create_job, release_job, total_of}
 
 -- ---- a job

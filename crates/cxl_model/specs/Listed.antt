@@ -1,5 +1,5 @@
 -- All regions of an image as a list.
-use Rattle.std.specs.Prelude.{◌≡◌, ◌≢◌, ◌<◌, List, All, AllPairs, Contains}
+use Rattle.std.specs.Prelude.{ℕ, ◌≡◌, ◌≢◌, ◌<◌, List, All, AllPairs, Contains}
 use Rattle.cxl_model.specs.declared.found.Found.{Found}
 use Rattle.cxl_model.specs.System.{System}
 use Rattle.cxl_regs.specs.declared.reading.Range.{Range}
@@ -16,3 +16,7 @@ pub record AreRegions (s : System) (regions : List Found) : Type 0 where
 pub record AreRegionsByBase (s : System) (regions : List Found) : Type 0 where
   pub listed : AreRegions s regions
   pub rising : AllPairs (λ a b. a.base < b.base) regions
+
+-- the most regions that live at once (this project's rule)
+abbrev pub region_limit : ℕ
+region_limit = 256

@@ -1,4 +1,1 @@
-pub mod Lines
-pub mod Codes
-pub mod DigitGlyphs
 pub mod FindingsNamed

@@ -1,5 +1,4 @@
 pub mod Words
-pub mod Short
 pub mod Texts
 pub mod Refusals
 pub mod Replies

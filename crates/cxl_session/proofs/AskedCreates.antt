@@ -17,7 +17,8 @@ use Rattle.cxl_model.specs.System.{System}
 use Rattle.cxl_reply.specs.declared.reply.Reply.{Reply}
 use Rattle.cxl_reply.specs.declared.reply.Reply.TheVariants as replies
 use Rattle.cxl_legal.specs.Firsts.{first_there}
-use Rattle.cxl_machine.specs.Machine.{Live, RegionJob, JobKind, Creates, Releases, Machine, region_limit, blocks_with}
+use Rattle.cxl_machine.specs.Machine.{Live, RegionJob, JobKind, Creates, Releases, Machine, blocks_with}
+use Rattle.cxl_model.specs.Listed.{region_limit}
 use Rattle.cxl_machine.specs.Creating.{AsksLegally}
 use Rattle.cxl_machine.specs.Jobs.{create_job}
 use Rattle.cxl_machine.specs.Replies.{endpoint_named}

@@ -34,7 +34,8 @@ use Rattle.cxl_check.specs.declared.fault.Breach.{Breach}
 use Rattle.cxl_machine.specs.declared.fault.OpenFault.{OpenFault}
 use Rattle.cxl_machine.specs.declared.fault.OpenFault.TheVariants as faults
 use Rattle.cxl_machine.specs.Copies.{pieces_of}
-use Rattle.cxl_machine.specs.Machine.{Live, Machine, region_limit, region_window, absent_window, holding_of, kept_regions, pieces_held}
+use Rattle.cxl_machine.specs.Machine.{Live, Machine, region_window, absent_window, holding_of, kept_regions, pieces_held}
+use Rattle.cxl_model.specs.Listed.{region_limit}
 use Rattle.cxl_machine.specs.Sound.{IsMachine, Opens, auto_name, block_told, opened_region, enabled_blocks}
 use Rattle.cxl_session.specs.State.{SessionState}
 use Rattle.cxl_session.specs.Standing.{IsKeptIn, StandsFor, IsAt}

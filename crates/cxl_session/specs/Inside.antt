@@ -2,7 +2,7 @@
 use Rattle.std.specs.Prelude.{◌≡◌, ℕ, ◌≤◌, length, Option, Some, None, option_map, IfSome}
 use Rattle.std.specs.Vec.{vec_capacity}
 use Rattle.cxl_apply.specs.Steps.{HasWordsOf}
-use Rattle.cxl_machine.specs.Machine.{region_limit}
+use Rattle.cxl_model.specs.Listed.{region_limit}
 use Rattle.cxl_session.specs.declared.pending.Kind.{Kind}
 use Rattle.cxl_session.specs.declared.pending.Kind.TheVariants as kinds
 use Rattle.cxl_session.specs.declared.pending.PendingJob.{PendingJob}

@@ -8,7 +8,8 @@ ghost use Rattle.cxl_script.specs.declared.command.Command.TheVariants as comman
 ghost use Rattle.cxl_apply.specs.Steps.{HasWordsOf};
 ghost use Rattle.cxl_model.specs.System.{System, IsSystem};
 ghost use Rattle.cxl_model.specs.Regions.{IsRegion};
-ghost use Rattle.cxl_machine.specs.Machine.{RegionJob, Machine, region_limit};
+ghost use Rattle.cxl_machine.specs.Machine.{RegionJob, Machine};
+ghost use Rattle.cxl_model.specs.Listed.{region_limit};
 ghost use Rattle.cxl_machine.specs.Jobs.{begun};
 ghost use Rattle.cxl_machine.specs.Replies.{is_refusal};
 ghost use Rattle.cxl_session.specs.Inside.{place_in, job_fields};

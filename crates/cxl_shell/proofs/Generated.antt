@@ -13,7 +13,8 @@ use Rattle.cxl_gen.specs.Made.{made_table, made_tree, made_commands}
 use Rattle.cxl_image.specs.Images.{reset_blocks}
 use Rattle.cxl_io.specs.Fetch.{AsksFor}
 use Rattle.cxl_io.specs.Sink.{SinkState, Takes}
-use Rattle.cxl_machine.specs.Machine.{Machine, present, image_of, region_limit}
+use Rattle.cxl_machine.specs.Machine.{Machine, present, image_of}
+use Rattle.cxl_model.specs.Listed.{region_limit}
 use Rattle.cxl_machine.specs.Scripts.{Turn}
 use Rattle.cxl_machine.specs.declared.fault.OpenFault.{OpenFault}
 use Rattle.cxl_machine.specs.declared.fault.OpenFault.TheVariants as faults

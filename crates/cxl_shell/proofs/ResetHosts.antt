@@ -5,8 +5,7 @@ use Rattle.std.specs.List.{list_any}
 use Rattle.cxl_cedt.specs.CedtFields.{CedtFields}
 use Rattle.cxl_enc.specs.Caps.{decoders_code, decoders_of}
 use Rattle.cxl_image.specs.Images.{reset_blocks}
-use Rattle.cxl_machine.specs.Machine.{region_limit}
-use Rattle.cxl_model.specs.Listed.{AreRegionsByBase}
+use Rattle.cxl_model.specs.Listed.{AreRegionsByBase, region_limit}
 use Rattle.cxl_model.specs.Regions.{region_range}
 use Rattle.cxl_model.specs.declared.found.Found.{Found}
 use Rattle.cxl_regs.specs.Reading.{has_range}

@@ -13,7 +13,8 @@ use Rattle.cxl_io.specs.Fetch.{AsksFor}
 use Rattle.cxl_io.specs.Sink.{SinkState, Takes, TakesPrefix}
 use Rattle.cxl_io.specs.Source.{SourceState}
 use Rattle.cxl_io.specs.Told.{told_with}
-use Rattle.cxl_machine.specs.Machine.{Machine, region_limit}
+use Rattle.cxl_machine.specs.Machine.{Machine}
+use Rattle.cxl_model.specs.Listed.{region_limit}
 use Rattle.cxl_machine.specs.Scripts.{Asked, Turn, lines_asked}
 use Rattle.cxl_machine.specs.Sound.{Opens}
 use Rattle.cxl_machine.specs.Turns.{text_of, words_sent}

@@ -27,7 +27,8 @@ use Rattle.cxl_request.specs.Endpoints.{first_unknown}
 use Rattle.cxl_request.specs.Requests.{request_for, request_by_name, want_of, pick_reply, plan_or_refusal, plan_unless_unknown, plan_over_pick, plan_of_line}
 use Rattle.cxl_plan.specs.Planned.{planned}
 use Rattle.cxl_pick.specs.Picked.{picked}
-use Rattle.cxl_machine.specs.Machine.{Live, RegionJob, JobKind, Creates, Releases, Machine, region_limit, live_at, live_named, free_frames}
+use Rattle.cxl_machine.specs.Machine.{Live, RegionJob, JobKind, Creates, Releases, Machine, live_at, live_named, free_frames}
+use Rattle.cxl_model.specs.Listed.{region_limit}
 use Rattle.cxl_model.specs.Contents.{content_at}
 use Rattle.cxl_machine.specs.Bytes.{bytes_at}
 use Rattle.cxl_machine.specs.Jobs.{total_of}

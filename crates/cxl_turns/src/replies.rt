@@ -12,7 +12,8 @@ ghost use Rattle.cxl_turns.specs.declared.stops.Stop.TheVariants as stops;
 use crate::stops::Stop;
 use cxl_io::{Sink, write_all};
 use cxl_lines::Lines;
-use cxl_reply::{Reply, put_reply, short};
+use cxl_reply::Reply;
+use cxl_text::{put_reply, short};
 use cxl_topo::Topo;
 
 /// Writes the text of a reply in one write, with the block of `lines` as the place for it. A reply to a command that changed something, or

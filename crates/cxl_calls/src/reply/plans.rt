@@ -9,7 +9,8 @@ use super::*;
 use cxl_enc::MemKind;
 use cxl_model::{Found, Place, Plan, PlanFault, Reason, Room, Row, SpanFault};
 use cxl_regs::Decoder;
-use cxl_reply::{FixedList, put_breach, put_found, put_plan};
+use cxl_reply::FixedList;
+use cxl_text::{put_breach, put_found, put_plan};
 
 #[test]
 fn refused_plans(rt: HostRuntime) {

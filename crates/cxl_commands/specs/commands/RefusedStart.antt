@@ -1,8 +1,7 @@
 -- On which image no session starts, and what is told of it.
 use Rattle.std.specs.Prelude.{◌≡◌, ℕ, ◌<◌, List, length, codes}
-use Rattle.cxl_machine.specs.Machine.{region_limit}
 use Rattle.cxl_model.specs.Accepted.{IsAccepted, IsFirstBreach}
-use Rattle.cxl_model.specs.Listed.{AreRegionsByBase}
+use Rattle.cxl_model.specs.Listed.{AreRegionsByBase, region_limit}
 use Rattle.cxl_model.specs.System.{System}
 use Rattle.cxl_model.specs.declared.found.Found.{Found}
 use Rattle.cxl_reply.specs.Words.{line}

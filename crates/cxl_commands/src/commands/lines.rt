@@ -5,7 +5,7 @@ ghost use Rattle.cxl_window.specs.Windows.{cfmws_in};
 
 use cxl_cedt::{Chbs, Cxims, Other, Record};
 use cxl_io::{Memory, put_hex, put_number};
-use cxl_reply::{put_address, put_gran};
+use cxl_text::{put_address, put_gran};
 use cxl_window::{Verdict, Window};
 
 /// Appends the line of a record, before which so many of the windows stand.

@@ -6,11 +6,11 @@ use Rattle.cxl_bus.specs.Trail.{blocks_sent, trail_with}
 use Rattle.cxl_window.specs.Fields.{WindowFields}
 use Rattle.cxl_model.specs.declared.found.Found.{Found}
 use Rattle.cxl_model.specs.Accepted.{IsAccepted, HasFirstBreach}
-use Rattle.cxl_model.specs.Listed.{AreRegionsByBase}
+use Rattle.cxl_model.specs.Listed.{AreRegionsByBase, region_limit}
 use Rattle.cxl_model.specs.Regions.{IsRegionIn}
 use Rattle.cxl_model.specs.System.{System, IsSystem}
 use Rattle.cxl_walk.specs.Keeping.{KeptFields, IsKept}
-use Rattle.cxl_machine.specs.Machine.{Machine, region_limit}
+use Rattle.cxl_machine.specs.Machine.{Machine}
 use Rattle.cxl_machine.specs.Sound.{opened_region, enabled_system}
 use Rattle.cxl_session.specs.Opening.{enabling, HasRegions}
 

@@ -5,7 +5,7 @@ use Rattle.cxl_enc.specs.Faults.{Rose}
 use Rattle.cxl_gen.specs.Made.{made_table, made_tree}
 use Rattle.cxl_io.specs.Sink.{SinkState, Takes}
 use Rattle.cxl_io.specs.Told.{Told}
-use Rattle.cxl_machine.specs.Machine.{region_limit}
+use Rattle.cxl_model.specs.Listed.{region_limit}
 use Rattle.cxl_model.specs.Accepted.{IsAccepted}
 use Rattle.cxl_model.specs.System.{System}
 use Rattle.cxl_regs.specs.Registers.{Registers}

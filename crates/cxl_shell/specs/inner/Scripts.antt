@@ -1,7 +1,8 @@
 -- How a script over a host ends.
 use Rattle.std.specs.Prelude.{◌≡◌, ℕ, ◌<◌, List}
 use Rattle.cxl_io.specs.Sink.{SinkState}
-use Rattle.cxl_machine.specs.Machine.{Machine, region_limit}
+use Rattle.cxl_machine.specs.Machine.{Machine}
+use Rattle.cxl_model.specs.Listed.{region_limit}
 use Rattle.cxl_machine.specs.Scripts.{Asked, Turn}
 use Rattle.cxl_machine.specs.Sound.{IsMachine, Opens}
 use Rattle.cxl_machine.specs.Turns.{AreTurns}

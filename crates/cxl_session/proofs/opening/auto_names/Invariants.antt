@@ -1,7 +1,7 @@
 use Rattle.std.proofs.Common.{◌≡◌, ◌≤◌, map}
 use Rattle.std.specs.List.{range_with_len}
 use Rattle.std.specs.Vec.{vec_capacity}
-use Rattle.cxl_machine.specs.Machine.{region_limit}
+use Rattle.cxl_model.specs.Listed.{region_limit}
 use Rattle.cxl_machine.specs.Sound.{auto_name}
 use Rattle.cxl_session.proofs.opening.auto_names.Given as goal
 

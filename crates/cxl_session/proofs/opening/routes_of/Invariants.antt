@@ -1,7 +1,7 @@
 use Rattle.std.proofs.Common.{◌≤◌, take}
 use Rattle.std.specs.Vec.{vec_capacity}
 use Rattle.cxl_model.specs.System.{system_of}
-use Rattle.cxl_machine.specs.Machine.{region_limit}
+use Rattle.cxl_model.specs.Listed.{region_limit}
 use Rattle.cxl_session.specs.inner.Opened.{AreRoutesOf}
 use Rattle.cxl_session.proofs.opening.routes_of.Given as goal
 

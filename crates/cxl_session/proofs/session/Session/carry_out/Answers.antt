@@ -8,7 +8,8 @@ use Rattle.cxl_model.specs.declared.found.Found.{Found}
 use Rattle.cxl_model.specs.System.{System, IsSystem}
 use Rattle.cxl_model.specs.Regions.{IsRegion}
 use Rattle.cxl_reply.specs.declared.reply.Reply.TheVariants as replies
-use Rattle.cxl_machine.specs.Machine.{RegionJob, Machine, region_limit}
+use Rattle.cxl_machine.specs.Machine.{RegionJob, Machine}
+use Rattle.cxl_model.specs.Listed.{region_limit}
 use Rattle.cxl_machine.specs.Jobs.{begun}
 use Rattle.cxl_session.specs.Inside.{job_fields}
 use Rattle.cxl_session.specs.Standing.{HasSameJob}

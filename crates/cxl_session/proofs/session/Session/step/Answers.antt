@@ -8,7 +8,8 @@ use Rattle.cxl_model.specs.System.{System, IsSystem}
 use Rattle.cxl_model.specs.Regions.{IsRegion}
 use Rattle.cxl_script.specs.declared.command.Command.TheVariants as commands
 use Rattle.cxl_reply.specs.declared.reply.Reply.TheVariants as replies
-use Rattle.cxl_machine.specs.Machine.{Machine, region_limit}
+use Rattle.cxl_machine.specs.Machine.{Machine}
+use Rattle.cxl_model.specs.Listed.{region_limit}
 use Rattle.cxl_session.specs.Inside.{job_fields}
 use Rattle.cxl_session.specs.State.{JobFields, SessionState}
 use Rattle.cxl_session.specs.inner.Regions.{session_finished, finished_reply, IsMadeTo, IsLeftByEnd}

@@ -1,0 +1,24 @@
+//! Replies, plans, regions and breaches as text.
+#![tactic(auto)]
+
+mod digits;
+mod findings;
+mod places;
+mod plan;
+mod poison;
+mod refusal;
+mod region;
+mod short_lines;
+mod short_text;
+mod text;
+mod words;
+
+pub use cxl_enc::Memory;
+pub use cxl_model::Found;
+pub use cxl_reply::Reply;
+pub use findings::{put_breach, put_found};
+pub use plan::put_plan;
+pub use short_lines::short;
+pub use short_text::ShortText;
+pub use text::put_reply;
+pub use words::{put_address, put_gran};

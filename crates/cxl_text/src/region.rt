@@ -1,0 +1,129 @@
+ghost use Rattle.std.specs.Prelude.{◌≡◌, ◌<◌, ◌≤◌, ◌++◌, All, codes, length, map, OnOk, OnErr};
+ghost use Rattle.std.specs.List.{flat_map, enumerate_from};
+ghost use Rattle.cxl_reply.specs.Words.{line, kind_text, more_spaced};
+ghost use Rattle.cxl_reply.specs.Texts.{shown_head_text, layout_text, row_text, word_text, shown_words_text, slot_text, slots_text, shown_text};
+ghost use Rattle.cxl_reply.specs.Conditions.{IsToldFound, IsToldShown};
+
+use crate::refusal::put_text;
+use crate::short_text::ShortText;
+use crate::words::kind_text;
+use cxl_enc::{Memory, Name};
+use cxl_io::put_hex;
+use cxl_model::{Found, Place};
+use cxl_reply::{Shown, ShownRow};
+use cxl_topo::Topo;
+
+/// Appends a region with its registers and its slots.
+pub(crate) fn put_shown(out: &mut Vec<u8>, shown: &Shown, topo: &Topo) -> Result<(), Memory>
+    requires { IsToldShown topo.now.nodes shown.now }
+    ensures { OnOk result (out.new.items ≡ out.old.items ++ shown_text topo.now.nodes shown.now) }
+{
+    put_shown_head(out, shown)?;
+    put_rows(out, shown.rows.items(), topo)?;
+    put_slots(out, shown.found.spans.items(), topo)
+}
+
+fn put_shown_head(out: &mut Vec<u8>, shown: &Shown) -> Result<(), Memory>
+    requires { shown.now.found.gran ≤ 6 }
+    ensures { OnOk result (out.new.items ≡ out.old.items ++ shown_head_text shown.now) }
+{
+    put_head(out, b"region ", &shown.name, &shown.found)
+}
+
+/// Appends a word that ends with a space, and a name with its region's kind and layout.
+pub(crate) fn put_head(
+    out: &mut Vec<u8>,
+    word: &[u8],
+    name: &Name,
+    found: &Found,
+) -> Result<(), Memory>
+    requires few { length word.now ≤ 7 }
+    requires gran { found.now.gran ≤ 6 }
+    ensures { OnOk result (out.new.items ≡ out.old.items ++ line (word.now ++ name.now ++ codes " " ++ kind_text found.now.kind ++ codes " "
+        ++ layout_text found.now.window found.now.base found.now.size found.now.gran found.now.ways)) }
+{
+    let mut line = ShortText::new();
+    line.put(word);
+    line.put_name(name);
+    line.put(b" ");
+    line.put(kind_text(found.kind));
+    line.put(b" ");
+    line.put_layout(found.window, found.base, found.size, found.gran, found.ways);
+    line.put(b"\n");
+    put_text(out, line.bytes())
+}
+
+fn put_rows(out: &mut Vec<u8>, rows: &[ShownRow], topo: &Topo) -> Result<(), Memory>
+    requires { All (λ row. row.node < length topo.now.nodes) rows.now }
+    ensures { OnOk result (out.new.items ≡ out.old.items ++ flat_map (row_text topo.now.nodes) rows.now) }
+{
+    for row in rows {
+        put_row(out, row, topo)?;
+    }
+    Ok(())
+}
+
+fn put_row(out: &mut Vec<u8>, row: &ShownRow, topo: &Topo) -> Result<(), Memory>
+    requires { row.now.node < length topo.now.nodes }
+    ensures { OnOk result (out.new.items ≡ out.old.items ++ row_text topo.now.nodes row.now) }
+{
+    let mut head = ShortText::new();
+    head.put(b"node ");
+    head.put_node(row.node, topo);
+    head.put(b" ");
+    head.put_number(u32::from(row.decoder));
+    head.put(b" ");
+    put_text(out, head.bytes())?;
+    put_words(out, &row.words)?;
+    put_text(out, b"\n")
+}
+
+/// Appends words of eight hexadecimal digits, with spaces between.
+fn put_words(out: &mut Vec<u8>, words: &[u32]) -> Result<(), Memory>
+    ensures { OnOk result (out.new.items ≡ out.old.items ++ shown_words_text words.now) }
+{
+    match words {
+        [] => Ok(()),
+        [first, others @ ..] => {
+            put_hex(out, u64::from(*first), 8)?;
+            put_more_words(out, others)
+        }
+    }
+}
+
+/// Appends words of eight hexadecimal digits, each behind a space.
+fn put_more_words(out: &mut Vec<u8>, words: &[u32]) -> Result<(), Memory>
+    ensures { OnOk result (out.new.items ≡ out.old.items ++ more_spaced (map word_text words.now)) }
+{
+    for word in words {
+        out.push(b' ')?;
+        put_hex(out, u64::from(*word), 8)?;
+    }
+    Ok(())
+}
+
+/// Appends a line for each slot.
+pub(crate) fn put_slots(out: &mut Vec<u8>, places: &[Place], topo: &Topo) -> Result<(), Memory>
+    requires { All (λ place. place.endpoint < length topo.now.nodes) places.now }
+    ensures { OnOk result (out.new.items ≡ out.old.items ++ slots_text topo.now.nodes places.now) }
+{
+    for (slot, place) in places.iter().enumerate() {
+        put_slot(out, slot, place, topo)?;
+    }
+    Ok(())
+}
+
+fn put_slot(out: &mut Vec<u8>, slot: usize, place: &Place, topo: &Topo) -> Result<(), Memory>
+    requires { place.now.endpoint < length topo.now.nodes }
+    ensures { OnOk result (out.new.items ≡ out.old.items ++ slot_text topo.now.nodes (slot, place.now)) }
+{
+    let mut line = ShortText::new();
+    line.put(b"slot ");
+    line.put_long_number(slot as u64);
+    line.put(b" ");
+    line.put_node(place.endpoint, topo);
+    line.put(b" ");
+    line.put_hex(place.start);
+    line.put(b"\n");
+    put_text(out, line.bytes())
+}

@@ -1,0 +1,95 @@
+ghost use Rattle.std.specs.Prelude.{◌≡◌, ◌++◌, [], false, OnOk, OnErr};
+ghost use Rattle.cxl_reply.specs.Conditions.{IsTold, HasKnownCode};
+ghost use Rattle.cxl_reply.specs.Replies.{reply_text, has_short_text};
+
+use crate::places::{put_down, put_extents, put_loaded, put_spread, put_up};
+use crate::poison::put_report;
+use crate::refusal::{
+    put_bad_line, put_count, put_full, put_named, put_plan_fault, put_sizes, put_spot, put_text,
+};
+use crate::region::put_shown;
+use crate::short_lines::short;
+use cxl_enc::Memory;
+use cxl_reply::Reply;
+use cxl_topo::Topo;
+
+/// Appends the text of a reply, in which nodes stand by their names in the topology. After `Memory` the
+/// text is as before. (This project's rule.) Takes memory.
+pub fn put_reply(reply: &Reply, topo: &Topo, out: &mut Vec<u8>) -> Result<(), Memory>
+    requires { IsTold topo.now.nodes reply.now }
+    ensures ok { OnOk result (out.new.items ≡ out.old.items ++ reply_text topo.now.nodes reply.now) }
+    ensures err { OnErr result (out.new.items ≡ out.old.items) }
+{
+    if let Some(text) = short(reply) {
+        out.extend_from_slice(text.bytes())?;
+        return Ok(());
+    }
+    if out.is_empty() {
+        return put_first(out, reply, topo);
+    }
+    let mut text = Vec::new(*out.allocator());
+    put_long(&mut text, reply, topo)?;
+    out.extend_from_slice(&text)?;
+    Ok(())
+}
+
+/// Puts the text of a reply that has no short text where none is yet, in the room that is there.
+fn put_first(out: &mut Vec<u8>, reply: &Reply, topo: &Topo) -> Result<(), Memory>
+    requires told { IsTold topo.now.nodes reply.now }
+    requires long { has_short_text reply.now ≡ false }
+    requires none { out.old.items ≡ [] }
+    ensures ok { OnOk result (out.new.items ≡ reply_text topo.now.nodes reply.now) }
+    ensures err { OnErr result (out.new.items ≡ []) }
+{
+    let put = put_long(out, reply, topo);
+    if put.is_err() {
+        out.clear();
+    }
+    put
+}
+
+/// Appends the text of a reply that has no short text.
+fn put_long(out: &mut Vec<u8>, reply: &Reply, topo: &Topo) -> Result<(), Memory>
+    requires told { IsTold topo.now.nodes reply.now }
+    requires long { has_short_text reply.now ≡ false }
+    ensures { OnOk result (out.new.items ≡ out.old.items ++ reply_text topo.now.nodes reply.now) }
+{
+    match reply {
+        Reply::Shown(shown) => put_shown(out, shown, topo),
+        Reply::Down(downed) => put_down(out, downed, topo),
+        Reply::Up(upped) => put_up(out, upped),
+        Reply::Loaded(bytes) => put_loaded(out, bytes.items()),
+        Reply::Poison(report) => put_report(out, report, topo),
+        Reply::Extents(extents) => put_extents(out, extents, topo),
+        Reply::Spread(spread) => put_spread(out, spread, topo),
+        Reply::Refused(fault) => put_plan_fault(out, fault, topo),
+        Reply::Locked(spot) => put_spot(out, b"locked", spot, topo),
+        Reply::NotLast(spot) => put_spot(out, b"not last", spot, topo),
+        Reply::BadLine(fault) => put_bad_line(out, fault),
+        Reply::Busy(name) => put_named(out, b"busy", name),
+        Reply::NameTaken(name) => put_named(out, b"name taken", name),
+        Reply::NoRegion(name) => put_named(out, b"no such region", name),
+        Reply::NoEndpoint(name) => put_named(out, b"no such endpoint", name),
+        Reply::SameRegion(name) => put_named(out, b"same region", name),
+        Reply::Full(lack) => put_full(out, lack),
+        Reply::SizesDiffer(sizes) => put_sizes(out, sizes),
+        Reply::PoisonCount(counted) => put_count(out, counted),
+        Reply::RegionsFull => put_text(out, b"regions full\n"),
+        Reply::Unmapped => put_text(out, b"unmapped\n"),
+        Reply::CrossesEnd => put_text(out, b"crosses end\n"),
+        Reply::NoSet => put_text(out, b"refused no-set\n"),
+        Reply::PoisonShort => put_text(out, b"poison short\n"),
+        Reply::BusRead => put_text(out, b"bus fault read\n"),
+        Reply::NothingPending => put_text(out, b"nothing pending\n"),
+        Reply::Created(_)
+        | Reply::Destroyed(_)
+        | Reply::Stored(_)
+        | Reply::Begun(_)
+        | Reply::Stepped(_)
+        | Reply::Aborted(_)
+        | Reply::Copied(_)
+        | Reply::Moved(_)
+        | Reply::BusUndone
+        | Reply::BusPending(_) => Ok(()),
+    }
+}
