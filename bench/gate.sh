@@ -2,7 +2,7 @@
 # Measures what the gate takes for each crate, from nothing: its proof, that of its tests, and its must-fail edits, in processor
 # seconds of the prover.
 #
-# bench/gate.sh [CRATE..]    the whole gate, or these crates and those below them
+# bench/gate.sh [CRATE..]    the whole gate, or, with a kit whose `rt ci` takes names, these crates and those below them
 #
 # It runs `rt ci` on a copy of the repository, whose last lines it shows, and adds up what its provers take, once a second: so
 # what a prover takes in its last second may be missing, and what two crates share, as a library that is read, counts for both.
@@ -63,7 +63,10 @@ def what(process):
 def main():
     start = time.time()
     with open("log", "wb") as log:
-        gate = subprocess.Popen(["rt", "ci", "--anew", *sys.argv[1:]], stdin=subprocess.DEVNULL, stdout=log, stderr=subprocess.STDOUT)
+        # a kit that keeps what passed is told to take nothing of it; the other takes nothing, and no names
+        keeps = "--anew" in subprocess.run(["rt", "help"], capture_output=True, text=True, check=False).stderr
+        words = ["--anew", *sys.argv[1:]] if keeps else []
+        gate = subprocess.Popen(["rt", "ci", *words], stdin=subprocess.DEVNULL, stdout=log, stderr=subprocess.STDOUT)
     known, taken = {}, {}
     while gate.poll() is None:
         found = parents()

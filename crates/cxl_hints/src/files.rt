@@ -78,19 +78,16 @@ pub(crate) fn bad_topology<R: Eprint + Files>(
     let name = command_word(words, 2);
     match fault {
         TopoFault::Toml => bad_toml(rt, alloc, name),
-        TopoFault::Key(_) => eprintln!(rt;
-            "cxlplan: {name}: {fault} (tables of a kind count from 0)"
-        ),
-        TopoFault::Kind(_) => eprintln!(rt;
-            "cxlplan: {name}: {fault} (tables of a kind count from 0)"
-        ),
-        TopoFault::Range(_) => eprintln!(rt;
-            "cxlplan: {name}: {fault} (tables of a kind count from 0)"
-        ),
-        TopoFault::Tree(_) => eprintln!(rt;
-            "cxlplan: {name}: {fault} (nodes count from 0: bridges, then switches, then endpoints)"
-        ),
         TopoFault::Memory => eprintln!(rt; "cxlplan: memory ran out"),
+        _ => eprintln!(rt; "cxlplan: {name}: {fault} ({})", counted(fault)),
+    }
+}
+
+/// From where the places count that a fault of a topology names.
+fn counted(fault: TopoFault) -> &'static str {
+    match fault {
+        TopoFault::Tree(_) => "nodes count from 0: bridges, then switches, then endpoints",
+        _ => "tables of a kind count from 0",
     }
 }
 

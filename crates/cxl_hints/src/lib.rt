@@ -24,17 +24,23 @@ pub fn hint<R: Eprint + Files>(
         Status::BadTable(fault) => files::bad_table(rt, alloc, words, fault),
         Status::BadTopo(fault) => files::bad_topology(rt, alloc, words, fault),
         Status::BadImage(fault) => files::bad_image(rt, words, fault),
-        Status::TooLarge => eprintln!(rt;
-            "cxlplan: a table, a topology or an image has 1048576 bytes at the most"
+        _ => match cause(status) {
+            Some(text) => eprintln!(rt; "cxlplan: {text}"),
+            None => Ok(()),
+        },
+    }
+}
+
+/// What ended a command, where its status alone says that.
+fn cause(status: Status) -> Option<&'static str> {
+    match status {
+        Status::TooLarge => Some("a table, a topology or an image has 1048576 bytes at the most"),
+        Status::ReadFault => Some("reading the script failed; the lines before are answered"),
+        Status::TooMuch => Some(
+            "a script has 16777216 bytes at the most; the lines that ended within them are answered",
         ),
-        Status::ReadFault => eprintln!(rt;
-            "cxlplan: reading the script failed; the lines before are answered"
-        ),
-        Status::TooMuch => eprintln!(rt;
-            "cxlplan: a script has 16777216 bytes at the most; the lines that ended within them are answered"
-        ),
-        Status::WriteFault => eprintln!(rt; "cxlplan: writing failed, so the text may be cut"),
-        Status::Memory => eprintln!(rt; "cxlplan: memory ran out"),
-        _ => Ok(()),
+        Status::WriteFault => Some("writing failed, so the text may be cut"),
+        Status::Memory => Some("memory ran out"),
+        _ => None,
     }
 }

@@ -12,33 +12,28 @@ pub(crate) fn bad_words<R: Eprint>(rt: &R, alloc: Global, words: &[String]) -> i
             "cxlplan: no command is named, or a word is no UTF-8; see cxlplan --help"
         );
     };
-    match verb.as_str() {
-        "route" => match operands {
-            [_, address] => bad_number(rt, address.as_str()),
-            _ => other_words(rt, "route", "CEDT HPA"),
+    match (verb.as_str(), operands) {
+        ("route", [_, address]) => bad_number(rt, address.as_str()),
+        ("plan", [_, _, line]) => no_create(rt, alloc, line.as_str()),
+        (verb, _) => match operands_of(verb) {
+            Some(takes) => eprintln!(rt; "cxlplan: {verb} takes {takes}; see cxlplan --help"),
+            None => eprintln!(rt; "cxlplan: {verb} is no command; see cxlplan --help"),
         },
-        "list" => other_words(rt, "list", "CEDT"),
-        "normal" => other_words(rt, "normal", "CEDT"),
-        "check" => other_words(rt, "check", "CEDT TOPO IMAGE"),
-        "plan" => match operands {
-            [_, _, line] => no_create(rt, alloc, line.as_str()),
-            _ => other_words(
-                rt,
-                "plan",
-                "CEDT TOPO LINE, with LINE as one word in quotes",
-            ),
-        },
-        "run" => other_words(rt, "run", "CEDT TOPO or CEDT TOPO IMAGE"),
-        "gen" => eprintln!(rt; "cxlplan: gen takes a number from 1 to 32; see cxlplan --help"),
-        "--help" => eprintln!(rt; "cxlplan: --help takes no other word"),
-        "--version" => eprintln!(rt; "cxlplan: --version takes no other word"),
-        _ => eprintln!(rt; "cxlplan: {verb} is no command; see cxlplan --help"),
     }
 }
 
-/// The words that a command takes, where others stand behind it.
-fn other_words<R: Eprint>(rt: &R, verb: &str, takes: &str) -> io::Result<()> {
-    eprintln!(rt; "cxlplan: {verb} takes {takes}; see cxlplan --help")
+/// The words that a command takes behind its own.
+fn operands_of(verb: &str) -> Option<&'static str> {
+    match verb {
+        "route" => Some("CEDT HPA"),
+        "list" | "normal" => Some("CEDT"),
+        "check" => Some("CEDT TOPO IMAGE"),
+        "plan" => Some("CEDT TOPO LINE, with LINE as one word in quotes"),
+        "run" => Some("CEDT TOPO or CEDT TOPO IMAGE"),
+        "gen" => Some("a number from 1 to 32"),
+        "--help" | "--version" => Some("no other word"),
+        _ => None,
+    }
 }
 
 /// Why a word is no number.
