@@ -63,6 +63,3 @@ padded_hex-one n fits =
     let some = (digits_is_IsNumeral 16 false (omega arith) (omega arith) n (omega arith)).0.0 in
     let none : 1 - length (hex_of n) ≡ 0 = omega arith in
     ap (λ k. replicate k 48 ++ hex_of n) none
-
--- what is known of every number's text
-pub ruleset texts = (number_of-decimal, number_of-padded_hex, padded_hex-one, decimal-one)

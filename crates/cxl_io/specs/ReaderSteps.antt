@@ -1,8 +1,10 @@
 -- The steps of a reader of lines within one answer.
-use Rattle.std.specs.Prelude.{◌≡◌, ℕ, ◌+◌, ◌-◌, ◌≤◌, nat_le, ◌==◌, if◌then◌else◌, List, [], ◌∷◌, ◌++◌, length, take}
+use Rattle.std.specs.Prelude.{◌≡◌, ℕ, ◌+◌, ◌-◌, ◌≤◌, nat_le, ◌==◌, if◌then◌else◌, List, [], ◌∷◌, ◌++◌, length, take, Result, IfOk, OnOk, OnErr}
+use Rattle.cxl_enc.specs.Faults.{HasCause, LeavesCount}
+use Rattle.cxl_enc.specs.declared.faults.Failed.{Failed}
 use Rattle.cxl_io.specs.Lines.{ended_lines}
 use Rattle.cxl_io.specs.Reader.{Reader, line_limit, script_limit}
-use Rattle.cxl_io.specs.Source.{SourceState, GivesFront}
+use Rattle.cxl_io.specs.Source.{SourceState, GivesFront, IsAtEnd}
 use Rattle.cxl_io.specs.declared.line_reader.Taken.{Taken}
 use Rattle.cxl_io.specs.declared.line_reader.Taken.TheVariants.{Line, Long, End}
 
@@ -26,6 +28,15 @@ pub record PassesBreak (old new : Reader) : Type 0 where
 pub record PassesAll (old new : Reader) : Type 0 where
   pub unbroken : ended_lines old.held ≡ []
   pub after : new ≡ record old { held = []; line = kept_with old.line old.held }
+
+-- what a read that is answered so says of the source
+pub record IsRead (result : Result ℕ Failed) (before after : SourceState) : Type 0 where
+  pub end : IfOk result (λ n. n ≡ 0 → IsAtEnd before)
+  pub failed : OnErr result (after.left ≡ before.left)
+  pub cause : HasCause result before.faults after.faults
+  pub counts : before.faults ≤ after.faults
+  pub alone : after.counts_failures_alone ≡ before.counts_failures_alone
+  pub unswallowed : OnOk result (LeavesCount before.counts_failures_alone before.faults after.faults)
 
 -- so many bytes are taken
 pub record Refills (old new : Reader) (before after : SourceState) (count : ℕ) : Type 0 where

@@ -1,10 +1,10 @@
-ghost use Rattle.std.specs.Prelude.{◌≡◌, ◌≢◌, ℕ, ◌+◌, ◌<◌, ◌≤◌, ◌↔◌, ◌==◌, Some, List, [], ◌∷◌, ◌++◌, length, take, IsTrue, IfOk, OnOk, OnErr, position, vec_len, vec_capacity};
+ghost use Rattle.std.specs.Prelude.{◌≡◌, ◌≢◌, ℕ, ◌+◌, ◌<◌, ◌≤◌, ◌↔◌, ◌==◌, Some, List, [], ◌∷◌, ◌++◌, length, take, IsTrue, IfOk, OnErr, position, vec_len, vec_capacity};
 ghost use Rattle.std.specs.Bool.{OnTrue, OnFalse};
 ghost use Rattle.std.specs.Str.Lines.{strip_carriage_return};
-ghost use Rattle.cxl_enc.specs.Faults.{HasCause, LeavesCount};
+ghost use Rattle.cxl_enc.specs.Faults.{LeavesCount};
 ghost use Rattle.cxl_io.specs.Reader.{Reader, line_limit, script_limit, fresh_reader, IsNext, HoldsLine, HasRead, HasStopped};
-ghost use Rattle.cxl_io.specs.ReaderSteps.{kept_with, PassesBreak, PassesAll, Refills, line_answer, last_answer};
-ghost use Rattle.cxl_io.specs.Source.{SourceState, GivesFront, IsAtEnd};
+ghost use Rattle.cxl_io.specs.ReaderSteps.{kept_with, PassesBreak, PassesAll, IsRead, Refills, line_answer, last_answer};
+ghost use Rattle.cxl_io.specs.Source.{SourceState, GivesFront};
 
 use crate::source::Source;
 use cxl_enc::{Failed, Memory};
@@ -178,14 +178,8 @@ impl LineReader {
         requires held { self.old.held ≡ [] }
         requires taken { self.old.taken ≤ script_limit }
         ensures ok { IfOk result (Refills self.old self.new (S.state source.old) (S.state source.new)) }
-        ensures end { IfOk result (λ n. n ≡ 0 → IsAtEnd (S.state source.old)) }
         ensures err { OnErr result (self.new ≡ self.old) }
-        ensures failed { OnErr result ((S.state source.new).left ≡ (S.state source.old).left) }
-        ensures cause { HasCause result (S.state source.old).faults (S.state source.new).faults }
-        ensures counts { (S.state source.old).faults ≤ (S.state source.new).faults }
-        ensures alone { (S.state source.new).counts_failures_alone ≡ (S.state source.old).counts_failures_alone }
-        ensures unswallowed { OnOk result (LeavesCount (S.state source.old).counts_failures_alone
-            (S.state source.old).faults (S.state source.new).faults) }
+        ensures read { IsRead result (S.state source.old) (S.state source.new) }
     {
         let room = self.block.len().min(SCRIPT_LIMIT + 1 - self.taken);
         let n = read_front(source, &mut self.block, room)?;
@@ -200,7 +194,7 @@ impl LineReader {
         ensures answer { result ≡ line_answer (strip_carriage_return self.old.line) }
         ensures after { self.new ≡ record self.old { line = strip_carriage_return self.old.line } }
     {
-        if self.line.last() == Some(&b'\r') {
+        if let Some(b'\r') = self.line.last() {
             self.line.pop();
         }
         line_answer(&self.line)
@@ -226,13 +220,7 @@ fn read_front<S: Source>(source: &mut S, block: &mut [u8], room: usize) -> Resul
     requires within { room ≤ length block.old }
     ensures within { IfOk result (λ n. n ≤ room) }
     ensures given { IfOk result (λ n. GivesFront (S.state source.old) (S.state source.new) (take n block.new)) }
-    ensures end { IfOk result (λ n. n ≡ 0 → IsAtEnd (S.state source.old)) }
-    ensures failed { OnErr result ((S.state source.new).left ≡ (S.state source.old).left) }
-    ensures cause { HasCause result (S.state source.old).faults (S.state source.new).faults }
-    ensures counts { (S.state source.old).faults ≤ (S.state source.new).faults }
-    ensures alone { (S.state source.new).counts_failures_alone ≡ (S.state source.old).counts_failures_alone }
-    ensures unswallowed { OnOk result (LeavesCount (S.state source.old).counts_failures_alone
-        (S.state source.old).faults (S.state source.new).faults) }
+    ensures read { IsRead result (S.state source.old) (S.state source.new) }
 {
     source.read(&mut block[..room])
 }

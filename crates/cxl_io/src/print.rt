@@ -7,7 +7,6 @@ use cxl_enc::Memory;
 use itoa::Buffer;
 
 /// Appends the decimal digits of a number. After `Memory` the text is as before.
-#[tactic(auto, using(crate::proofs::ReadBack::texts))]
 pub fn put_number(out: &mut Vec<u8>, n: u64) -> Result<(), Memory>
     ensures ok { OnOk result (out.new.items ≡ out.old.items ++ decimal n) }
     ensures err { OnErr result (out.new.items ≡ out.old.items) }
@@ -26,7 +25,6 @@ pub fn put_number(out: &mut Vec<u8>, n: u64) -> Result<(), Memory>
 
 /// Appends the lower-case hexadecimal digits of a number, with leading zeros up to `width` digits, and
 /// no `0x`. After `Memory` the text is as before.
-#[tactic(auto, using(crate::proofs::ReadBack::texts))]
 pub fn put_hex(out: &mut Vec<u8>, n: u64, width: u8) -> Result<(), Memory>
     requires width { (1 ≤ width) × (width ≤ 16) }
     ensures ok { OnOk result (out.new.items ≡ out.old.items ++ padded_hex n width) }

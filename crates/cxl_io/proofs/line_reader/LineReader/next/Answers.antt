@@ -38,7 +38,7 @@ returns-in-Ok-eq0-clause-next g c =
     let few = not_over c.pass_break.new.self.taken (λ over. let e = c.if-is_over.ensures.1 over in cc) in
     next-at_end c.args.self.now c.pass_break.new.self c.refill.new.self c.last.new.self _ _ _ c.in-Ok-eq0.field-0 c.last.result
     (reading-all c.args.self.now c.turns.self c.pass_break.new.self _ _ c.turns.invariant.so_far passes) (ap (λ r. r.held) passes.after) few
-    c.in-Ok-eq0.ensures.ok c.in-Ok-eq0.field-0-test (c.in-Ok-eq0.ensures.end c.in-Ok-eq0.field-0-test) c.last.ensures.answer c.last.ensures.after
+    c.in-Ok-eq0.ensures.ok c.in-Ok-eq0.field-0-test (c.in-Ok-eq0.ensures.read.end c.in-Ok-eq0.field-0-test) c.last.ensures.answer c.last.ensures.after
 
 pub turns-preserved : goal.turns-preserved
 turns-preserved g c =
@@ -49,9 +49,9 @@ turns-preserved g c =
           reading-refilled c.args.self.now c.pass_break.new.self c.refill.new.self _ _ _ c.in-Ok.field-0
           (reading-all c.args.self.now c.turns.self c.pass_break.new.self _ _ c.turns.invariant.so_far passes) (ap (λ r. r.held) passes.after) few
           c.in-Ok.ensures.ok;
-      counts = let so_far = c.turns.invariant.counts in let more = c.in-Ok.ensures.counts in omega arith;
-      alone = c.in-Ok.ensures.alone ∙ c.turns.invariant.alone;
-      unswallowed = λ alone. c.in-Ok.ensures.unswallowed (c.turns.invariant.alone ∙ alone) ∙ c.turns.invariant.unswallowed alone;
+      counts = let so_far = c.turns.invariant.counts in let more = c.in-Ok.ensures.read.counts in omega arith;
+      alone = c.in-Ok.ensures.read.alone ∙ c.turns.invariant.alone;
+      unswallowed = λ alone. c.in-Ok.ensures.read.unswallowed (c.turns.invariant.alone ∙ alone) ∙ c.turns.invariant.unswallowed alone;
       first = λ holds. absurd (holds (sym (ap (λ (r : Reader). ended_lines r.held) (c.turns.invariant.first holds).1) ∙ passes.unbroken));
     }
 
@@ -59,9 +59,9 @@ pub returns-in-Err-clause-next : goal.returns-in-Err-clause-next
 returns-in-Err-clause-next g c =
     let passes = c.if-pass_break.ensures.none in
     let few = not_over c.pass_break.new.self.taken (λ over. let e = c.if-is_over.ensures.1 over in cc) in
-    let rose = c.in-Err.ensures.cause in
+    let rose = c.in-Err.ensures.read.cause in
     let so_far = c.turns.invariant.counts in
     next-fails c.args.self.now c.pass_break.new.self _ _
     (reading-all c.args.self.now c.turns.self c.pass_break.new.self _ _ c.turns.invariant.so_far passes) (ap (λ r. r.held) passes.after)
-    c.stop-in-Err.new.self _ c.stop-in-Err.result c.in-Err.ensures.failed (omega (arith, rose, so_far)) few
+    c.stop-in-Err.new.self _ c.stop-in-Err.result c.in-Err.ensures.read.failed (omega (arith, rose, so_far)) few
     (c.stop-in-Err.ensures.after ∙ ap failing c.in-Err.ensures.err) c.stop-in-Err.ensures.answer
