@@ -1,4 +1,5 @@
 pub mod BelowWays
+pub mod RawBits
 pub mod WindowLists
 pub mod BridgeLists
 pub mod FilterMaps

@@ -1,15 +1,15 @@
-ghost use Rattle.std.specs.Prelude.{◌≡◌, ◌≤◌, ◌==◌, ◌&&◌, ℕ, length, IfOk, find, unwrap_or, [], false};
-ghost use Rattle.std.specs.Option.{option_copied, option_map_or};
+ghost use Rattle.std.specs.Prelude.{◌≡◌, ◌≤◌, length, IfOk, OnOk, find, unwrap_or, [], ◌++◌};
+ghost use Rattle.std.specs.Option.{option_copied};
 ghost use Rattle.cxl_window.specs.Fields.{IsWindow};
-ghost use Rattle.cxl_window.specs.Judging.{is_no_bridge};
-ghost use Rattle.cxl_window.specs.Windows.{is_cxl2_bridge, topology_has, lacks_maps, maps_of};
+ghost use Rattle.cxl_window.specs.Judging.{is_no_bridge, bridges_in};
+ghost use Rattle.cxl_window.specs.Windows.{topology_has, lacks_maps, maps_of};
 
 use crate::cfmws::{
     cfmws_ways, first_overlapped, first_repeat, is_aligned, is_too_high, is_uneven,
 };
 use crate::padding::padded_maps;
 use crate::window::{Verdict, Window};
-use cxl_cedt::{Cfmws, Cxims, Record};
+use cxl_cedt::{Cfmws, Chbs, Cxims, Record};
 use cxl_enc::{Memory, split};
 use cxl_num::are_usable_maps;
 use std::alloc::Global;
@@ -26,7 +26,9 @@ pub(crate) struct Judge<'a> {
 }
 
 impl<'a> Judge<'a> {
-    ghost use Rattle.cxl_window.specs.Judging.{IsJudgeOf, maps_known, verdict_by, window_by};
+    ghost use Rattle.std.specs.List.{cons_option};
+    ghost use Rattle.cxl_window.specs.Windows.{cfmws_in, cxims_in};
+    ghost use Rattle.cxl_window.specs.Judging.{IsJudgeOf, tables_behind, windows_behind, maps_known, verdict_by, window_by};
 
     /// The bridges, the XOR maps and the windows of a table, from one walk over its records, of which most may be of other
     /// types. `uids` are the bridges of the topology, where there is one.
@@ -37,29 +39,33 @@ impl<'a> Judge<'a> {
     ) -> Result<Judge<'a>, Memory>
         ensures { IfOk result (λ judge. IsJudgeOf judge records.now (option_copied uids.entry)) }
     {
-        let mut bridges = Vec::new(alloc);
-        let mut tables = Vec::new(alloc);
-        let mut windows = Vec::new(alloc);
+        let mut judge = Judge {
+            bridges: Vec::new(alloc),
+            tables: Vec::new(alloc),
+            windows: Vec::new(alloc),
+        };
         for record in records {
-            // Most of them, in a large table.
-            if matches!(record, Record::Other(_)) {
-                continue;
-            }
-            if let Some(uid) = bridge_in(record, uids) {
-                bridges.push(uid)?;
-            }
-            if let Record::Cxims(cxims) = record {
-                tables.push(cxims)?;
-            }
-            if let Record::Cfmws(cfmws) = record {
-                windows.push(cfmws)?;
-            }
+            judge.add(record, uids)?;
         }
-        Ok(Judge {
-            bridges,
-            tables,
-            windows,
-        })
+        Ok(judge)
+    }
+
+    /// Adds what the next record of the table is.
+    fn add(&mut self, item: &'a Record, uids: Option<&[u32]>) -> Result<(), Memory>
+        ensures bridges { OnOk result (self.new.bridges.items
+            ≡ self.old.bridges.items ++ bridges_in (option_copied uids.entry) item.now) }
+        ensures tables { OnOk result (tables_behind self.new.tables.items
+            ≡ tables_behind self.old.tables.items ++ cons_option (cxims_in item.now) []) }
+        ensures windows { OnOk result (windows_behind self.new.windows.items
+            ≡ windows_behind self.old.windows.items ++ cons_option (cfmws_in item.now) []) }
+    {
+        match item {
+            // Most of them, in a large table.
+            Record::Other(_) => Ok(()),
+            Record::Chbs(chbs) => add_bridge(&mut self.bridges, chbs, uids),
+            Record::Cfmws(cfmws) => Ok(self.windows.push(cfmws)?),
+            Record::Cxims(cxims) => Ok(self.tables.push(cxims)?),
+        }
     }
 
     /// The window of a record behind those before it in the table.
@@ -149,18 +155,15 @@ impl<'a> Judge<'a> {
     }
 }
 
-/// The UID of a record that is a CXL 2.0 bridge, one of the topology's where there is one.
-fn bridge_in(item: &Record, uids: Option<&[u32]>) -> Option<u32>
-    ensures { (uid : ℕ) → option_map_or (λ own. own == uid) result false
-        ≡ (is_cxl2_bridge uid item.now && topology_has (option_copied uids.entry) uid) }
+/// Adds the UID of a bridge of CXL 2.0, one of the topology's where there is one.
+fn add_bridge(bridges: &mut Vec<u32>, chbs: &Chbs, uids: Option<&[u32]>) -> Result<(), Memory>
+    ensures { OnOk result (bridges.new.items
+        ≡ bridges.old.items ++ bridges_in (option_copied uids.entry) (Record.Chbs chbs.now)) }
 {
-    if let Record::Chbs(chbs) = item
-        && chbs.version == 1
-        && topology_has(uids, chbs.uid)
-    {
-        return Some(chbs.uid);
+    if chbs.version == 1 && topology_has(uids, chbs.uid) {
+        bridges.push(chbs.uid)?;
     }
-    None
+    Ok(())
 }
 
 /// Whether the topology has a bridge of this UID, where there is a topology.

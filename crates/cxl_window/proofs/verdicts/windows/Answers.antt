@@ -6,6 +6,7 @@ use Rattle.cxl_cedt.specs.declared.cedt.Record.{Record}
 use Rattle.cxl_window.specs.Fields.{WindowFields, IsWindow}
 use Rattle.cxl_window.specs.Judging.{IsJudgeOf, tables_behind, windows_behind}
 use Rattle.cxl_window.specs.Windows.{windows_of, AreMadeWith}
+use Rattle.cxl_window.proofs.BridgeLists.{no_bridge_missing}
 use Rattle.cxl_window.proofs.WindowLists.{windows_from-next, length-windows_from, window_of-judged, few_taken, behind_more, windows_at_end, length-windows_of}
 use Rattle.cxl_window.proofs.MadeWith.{windows_made}
 use Rattle.cxl_window.proofs.verdicts.windows.Goals as goal
@@ -37,7 +38,7 @@ loop-cfmws-preserved c =
     let more = behind_more items i c.cfmws-item.result c.loop-cfmws-test.true c.cfmws-item.is in
     let window_is =
     window_of-judged records uids front cfmws ws held.bridges.items (tables_behind held.tables.items) w
-    c.loop-cfmws.invariant.are judge.bridges judge.tables (rw c.deref.ensures.value at c.in_ok-window.ensures.value) in
+    c.loop-cfmws.invariant.are (no_bridge_missing records uids held.bridges.items judge.bridges) judge.tables (rw c.deref.ensures.value at c.in_ok-window.ensures.value) in
     rw c.in_ok-push.ensures.items (record {
       are = windows_from-next records uids front _ cfmws ws w c.loop-cfmws.invariant.are window_is more;
       windows = All-push IsWindow ws w c.loop-cfmws.invariant.windows c.in_ok-window.ensures.window;
