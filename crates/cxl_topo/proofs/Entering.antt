@@ -2,12 +2,13 @@
 use Rattle.std.proofs.Common.{◌≡◌, ℕ, suc, ◌+◌, ◌<◌, Bool, false, ◌&&◌, ◌==◌, cond, List, [], ◌∷◌, ◌++◌, length, get_or, take, Option, Some, None, refl, sym, ap, zero-add, ◌∙◌, inl, inr, arith}
 use Rattle.std.specs.Prelude.{position}
 use Rattle.std.specs.List.{position_from, cons_option}
-use Rattle.std.specs.Option.{option_or}
+use Rattle.std.specs.Option.{option_or, unwrap_or}
 use Rattle.std.specs.declared.cmp.Ordering.{Ordering}
 use Rattle.std.specs.declared.cmp.Ordering.TheVariants.{Less, Equal, Greater}
 use Rattle.std.specs.Ordering.{is_eq, nat_cmp, ordering_then}
-use Rattle.std.specs.Cmp.{unsigned_ties}
-use Rattle.std.specs.BTreeMap.{BTreeMap, get, is_at}
+use Rattle.std.specs.Cmp.{IsTotalOrder, Equal-is, unsigned_ties}
+use Rattle.std.specs.Map.{lookup}
+use Rattle.std.specs.BTreeMap.{BTreeMap, Updates, get, is_at}
 use Rattle.std.proofs.lemmas.Bool.{cases_Bool}
 use Rattle.std.proofs.lemmas.List.{take_more, length-take}
 use Rattle.std.proofs.lemmas.List.Elements.{filter_map-append}
@@ -21,6 +22,32 @@ use Rattle.cxl_topo.specs.Tree.{stands_at, stands_under, is_bridge_with, is_name
 use Rattle.cxl_topo.specs.Keys.{Enters, name_key, name_cmp}
 use Rattle.cxl_topo.specs.inner.Tables.{port_cmp}
 use Rattle.cxl_topo.proofs.NameKeys.{name_ties}
+
+-- ---- the first number under a key stays
+
+module _ {K : Type 0} {cmp : K → K → Ordering} (total : IsTotalOrder cmp) where
+  -- equal keys find one value
+  alike : (es : List (K × ℕ)) (key q : K) → cmp key q ≡ Equal → lookup (is_at (cmp key)) es ≡ lookup (is_at (cmp q)) es
+  alike [] key q e = refl
+  alike (x ∷ es) key q e = rw (total.congr key q x.0 e) (ap (λ (rest : Option ℕ). cond (is_at (cmp q) x.0) (Some x.1) rest) (alike es key q e))
+
+  -- a table with what stood at the key, or else the number, is entered
+  pub enters : (old new : BTreeMap K ℕ) (key : K) (i w : ℕ) → w ≡ unwrap_or (get cmp old key) i → Updates cmp old new key (Some w) → Enters cmp old new key i
+  enters old new key i w is updates q = updates.0 q ∙ go
+    where
+      kept : (o : Option ℕ) → Some (unwrap_or o i) ≡ option_or o (Some i)
+      kept None = refl
+      kept (Some j) = refl
+
+      left : (o : Option ℕ) → o ≡ option_or o None
+      left None = refl
+      left (Some j) = refl
+
+      go : cond (is_at (cmp key) q) (Some w) (get cmp old q) ≡ option_or (get cmp old q) (cond (is_at (cmp key) q) (Some i) None)
+      go = elim (cases_Bool (is_at (cmp key) q)) [
+        | inl e ↦ rw e (ap Some is ∙ kept (get cmp old key) ∙ ap (λ (o : Option ℕ). option_or o (Some i)) (alike old.entries key q ((Equal-is (cmp key q)).0 e)))
+        | inr e ↦ rw e (left (get cmp old q))
+      ]
 
 module _ {X : Type 0} (test : X → Bool) where
   position_from_push : (xs : List X) (x : X) (i : ℕ) → position_from test i (xs ++ x ∷ []) ≡ option_or (position_from test i xs) (cond (test x) (Some (i + length xs)) None)

@@ -2,11 +2,12 @@ ghost use Rattle.std.specs.Prelude.{◌≡◌};
 ghost use Rattle.cxl_topo.specs.declared.fault.TreeFault.TheVariants.{Memory};
 
 use std::alloc::{AllocError, AllocFailed};
+use std::fmt;
 use thiserror::Error;
 
 /// Why nodes are no legal tree: the first fault of the least node, in the order of these variants. The
 /// number is that node's.
-#[derive(Clone, Copy, Debug, PartialEq, Eq, Error)]
+#[derive(Clone, Copy, PartialEq, Eq, Error)]
 pub enum TreeFault {
     /// There are more than 1,024 nodes or more than 64 bridges.
     #[error("there are more than 1024 nodes or more than 64 bridges")]
@@ -39,6 +40,13 @@ pub enum TreeFault {
     Capacity(u32),
     #[error("out of memory")]
     Memory,
+}
+
+// The debug text of a fault is its message, since an error needs one and nothing else asks for it.
+impl fmt::Debug for TreeFault {
+    fn fmt<W: fmt::Write>(&self, f: &mut fmt::Formatter<W>) -> fmt::Result {
+        write!(f, "{self}")
+    }
 }
 
 impl From<AllocError> for TreeFault {

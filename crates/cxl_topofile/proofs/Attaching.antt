@@ -1,13 +1,11 @@
 -- Nodes under earlier ones, one after another, and the table of those that others may stand under.
-use Rattle.std.proofs.Common.{not, true, ◌≡◌, ℕ, suc, ◌+◌, ◌<◌, ◌≤◌, Bool, cond, List, [], ◌∷◌, ◌++◌, length, get_or, drop, Some, None, sym, ap, zero-add, ◌∙◌, inl, inr, arith}
-use Rattle.std.specs.Prelude.{nat_lt, count_by, position}
-use Rattle.std.specs.List.{position_from}
-use Rattle.std.specs.Option.{option_or}
+use Rattle.std.proofs.Common.{not, true, ◌≡◌, ℕ, ◌+◌, ◌<◌, ◌≤◌, List, [], ◌∷◌, ◌++◌, length, get_or, drop, sym, ap, ◌∙◌, arith}
+use Rattle.std.specs.Prelude.{nat_lt, count_by}
 use Rattle.std.specs.BTreeMap.{BTreeMap, is_at}
-use Rattle.std.proofs.lemmas.Bool.{cases_Bool, lt-ltb, or_left}
+use Rattle.std.proofs.lemmas.Bool.{lt-ltb, or_left}
 use Rattle.std.proofs.lemmas.List.{drop_more, drop_all, length_push}
-use Rattle.std.proofs.lemmas.Iterator.Adapters.{position_from-zero}
 use Rattle.cxl_enc.specs.Name.{IsName}
+use Rattle.cxl_topo.proofs.Entering.{position_push}
 use Rattle.cxl_topo.proofs.NameKeys.{name_ties}
 use Rattle.cxl_topo.specs.Kinds.{is_bridge, is_endpoint}
 use Rattle.cxl_topo.specs.Keys.{Enters, name_key, name_cmp}
@@ -49,20 +47,6 @@ no_tree nodes drafts lt tree =
     omega (arith, length-attached nodes drafts)
 
 -- ---- the table of ports by name
-
-module _ (test : Node → Bool) where
-  position_from_push : (xs : List Node) (x : Node) (i : ℕ) → position_from test i (xs ++ x ∷ []) ≡ option_or (position_from test i xs) (cond (test x) (Some (i + length xs)) None)
-  position_from_push [] x i = let here : i + 0 ≡ i = omega arith in rw here
-  position_from_push (y ∷ ys) x i =
-      let there : (i + 1) + length ys ≡ i + suc (length ys) = omega arith in
-      elim (cases_Bool (test y)) [
-        | inl e ↦ rw e
-        | inr e ↦ rw e (position_from_push ys x (i + 1) ∙ rw there)
-      ]
-
-  -- where a search ends, over one node more
-  position_push : (xs : List Node) (x : Node) → position test (xs ++ x ∷ []) ≡ option_or (position test xs) (cond (test x) (Some (length xs)) None)
-  position_push xs x = position_from-zero test (xs ++ x ∷ []) ∙ position_from_push xs x 0 ∙ ap (λ (n : ℕ). option_or (position_from test 0 xs) (cond (test x) (Some n) None)) (zero-add (length xs)) ∙ rw (position_from-zero test xs)
 
 module _ (nodes : List Node) (node : Node) (old : BTreeMap NameKey ℕ) (before : ListsPorts nodes old) where
   -- a bridge or a switch is entered under its name

@@ -1,5 +1,4 @@
 pub mod Unknowns
-pub mod KeyTexts
 pub mod Turns
 pub mod Attaching
 pub mod Whole

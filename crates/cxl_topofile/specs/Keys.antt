@@ -1,5 +1,5 @@
 -- The keys of a topology file.
-use Rattle.std.specs.Prelude.{codes, ℕ, Bool, false, not, ◌||◌, List, [], ◌∷◌, find, Option}
+use Rattle.std.specs.Prelude.{codes, ℕ, Bool, false, not, ◌||◌, List, []}
 use Rattle.std.specs.List.{list_any}
 use Rattle.std.specs.Str.{bytes_eq}
 use Rattle.toml.specs.Data.{Members, no_members, member}
@@ -31,36 +31,6 @@ key_text keys.Unknown = []
 abbrev pub shown_key : Key → List ℕ
 shown_key keys.Unknown = codes "unknown"
 shown_key key = key_text key
-
-abbrev pub all_keys : List Key
-all_keys =
-    keys.Frames ∷ keys.Bridge ∷ keys.Switch ∷ keys.Endpoint ∷ keys.Name ∷ keys.Uid ∷ keys.Parent ∷ keys.Port ∷ keys.Decoders
-    ∷ keys.Targets ∷ keys.Low ∷ keys.High ∷ keys.Passthrough ∷ keys.Ways3 ∷ keys.Ways16 ∷ keys.Ram ∷ keys.Pmem ∷ keys.Unknown ∷ []
-
--- the place of a key among all keys
-abbrev pub rank_of : Key → ℕ
-rank_of keys.Frames = 0
-rank_of keys.Bridge = 1
-rank_of keys.Switch = 2
-rank_of keys.Endpoint = 3
-rank_of keys.Name = 4
-rank_of keys.Uid = 5
-rank_of keys.Parent = 6
-rank_of keys.Port = 7
-rank_of keys.Decoders = 8
-rank_of keys.Targets = 9
-rank_of keys.Low = 10
-rank_of keys.High = 11
-rank_of keys.Passthrough = 12
-rank_of keys.Ways3 = 13
-rank_of keys.Ways16 = 14
-rank_of keys.Ram = 15
-rank_of keys.Pmem = 16
-rank_of keys.Unknown = 17
-
--- the key that a text is; no text is the unknown one
-abbrev pub key_named : List ℕ → Option Key
-key_named text = find (λ key. bytes_eq text (key_text key)) all_keys
 
 -- whether a text is one of these keys
 abbrev pub is_key : List ℕ → List Key → Bool

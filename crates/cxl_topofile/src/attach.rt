@@ -1,93 +1,101 @@
 //! Parents by name.
 
-ghost use Rattle.std.specs.Prelude.{◌≡◌, [], ◌∷◌, ◌++◌, ◌+◌, ◌<◌, ◌≤◌, length, not, position, IfOk, OnOk};
+ghost use Rattle.std.specs.Prelude.{◌≡◌, [], ◌∷◌, ◌++◌, ◌+◌, ◌<◌, ◌≤◌, List, length, not, IfOk, OnOk};
 ghost use Rattle.cxl_enc.specs.Limits.{node_limit};
 ghost use Rattle.cxl_topo.specs.Kinds.{is_endpoint};
-ghost use Rattle.cxl_topofile.specs.File.{is_port_named, node_under, attached};
+ghost use Rattle.cxl_topo.specs.declared.node.Node.{Node};
+ghost use Rattle.cxl_topofile.specs.File.{node_under, attached};
 ghost use Rattle.cxl_topofile.specs.inner.Ports.{ListsPorts};
 
 use crate::draft::Draft;
-use cxl_topo::{Name, NameKey, Node, Parent, enter_first};
+use cxl_topo::{NameKey, Node, Parent, enter_first};
 use std::alloc::{AllocError, Global};
 use std::collections::BTreeMap;
-use std::marker::Model;
 
-/// Nodes one after another, with a table of the bridges and switches among them by name. Contracts see
-/// the list of the nodes.
-#[derive(Drop)]
-struct Attached {
-    nodes: Vec<Node>,
-    ports: BTreeMap<NameKey, u32>,
+/// The bridges, and after them the others, each under the first earlier bridge or switch with its
+/// parent's name. Takes memory.
+pub(crate) fn attach(
+    alloc: Global,
+    bridges: &[Node],
+    drafts: &[Draft],
+) -> Result<Vec<Node>, AllocError>
+    requires { length bridges.now + length drafts.now ≤ node_limit }
+    ensures { IfOk result (λ nodes. nodes.items ≡ attached bridges.now drafts.now) }
+{
+    let mut nodes = Vec::new(alloc);
+    let mut ports = BTreeMap::new(alloc);
+    add_bridges(&mut nodes, &mut ports, bridges)?;
+    add_drafts(&mut nodes, &mut ports, drafts)?;
+    Ok(nodes)
 }
 
-impl Model for Attached {
-    ghost use Rattle.std.specs.Prelude.{List};
-    ghost use Rattle.cxl_topo.specs.declared.node.Node.{Node};
-    ghost use Rattle.cxl_topofile.specs.inner.Ports.{ListsPorts};
-
-    ghost Value = { List Node };
-
-    ghost view = { λ attached. attached.nodes.items };
-
-    ghost invariant = { λ attached. ListsPorts attached.nodes.items attached.ports };
+/// Adds the bridges, the first nodes.
+fn add_bridges(
+    nodes: &mut Vec<Node>,
+    ports: &mut BTreeMap<NameKey, u32>,
+    bridges: &[Node],
+) -> Result<(), AllocError>
+    requires few { length bridges.now ≤ node_limit }
+    requires none { nodes.old.items ≡ [] }
+    requires listed { ListsPorts nodes.old.items ports.old }
+    ensures added { OnOk result (nodes.new.items ≡ bridges.now) }
+    ensures listed { OnOk result (ListsPorts nodes.new.items ports.new) }
+{
+    for bridge in bridges {
+        add(nodes, ports, *bridge)?;
+    }
+    Ok(())
 }
 
-impl Attached {
-    fn new(alloc: Global) -> Attached
-        ensures { result ≡ [] }
-    {
-        Attached {
-            nodes: Vec::new(alloc),
-            ports: BTreeMap::new(alloc),
-        }
+/// Adds the nodes of the drafts, each under one of the nodes before it.
+fn add_drafts(
+    nodes: &mut Vec<Node>,
+    ports: &mut BTreeMap<NameKey, u32>,
+    drafts: &[Draft],
+) -> Result<(), AllocError>
+    requires few { length nodes.old.items + length drafts.now ≤ node_limit }
+    requires listed { ListsPorts nodes.old.items ports.old }
+    ensures { OnOk result (nodes.new.items ≡ attached nodes.old.items drafts.now) }
+{
+    for draft in drafts {
+        let node = node_under(ports, draft);
+        add(nodes, ports, node)?;
     }
+    Ok(())
+}
 
-    /// The same with one node more.
-    fn with(self, node: Node) -> Result<Attached, AllocError>
-        requires { length self < node_limit }
-        ensures { IfOk result (λ more. more ≡ self ++ node ∷ []) }
-    {
-        let Attached {
-            mut nodes,
-            mut ports,
-        } = self;
-        enter_port(&mut ports, &nodes, &node)?;
-        nodes.push(node)?;
-        Ok(Attached { nodes, ports })
-    }
+/// Adds a node, and enters it among the bridges and switches by name where it is one.
+fn add(
+    nodes: &mut Vec<Node>,
+    ports: &mut BTreeMap<NameKey, u32>,
+    node: Node,
+) -> Result<(), AllocError>
+    requires few { length nodes.old.items < node_limit }
+    requires listed { ListsPorts nodes.old.items ports.old }
+    ensures added { OnOk result (nodes.new.items ≡ nodes.old.items ++ node ∷ []) }
+    ensures listed { OnOk result (ListsPorts nodes.new.items ports.new) }
+{
+    enter_port(ports, nodes, &node)?;
+    Ok(nodes.push(node)?)
+}
 
-    /// The first bridge or switch with a name.
-    fn port_named(&self, name: &Name) -> Option<u32>
-        ensures { result ≡ position (is_port_named name.now) self.now }
-    {
-        self.ports.get(&NameKey::of(name)).copied()
-    }
-
-    /// The node of a draft, under the first bridge or switch with its parent's name.
-    fn node_under(&self, draft: &Draft) -> Node
-        ensures { result ≡ node_under self.now draft.now }
-    {
-        let parent = match self.port_named(&draft.parent) {
-            Some(node) => Some(Parent {
-                node,
-                port: draft.port,
-            }),
-            None => None,
-        };
-        Node {
-            name: draft.name,
-            kind: draft.kind,
-            parent,
-            cap: draft.cap,
-            forwards: draft.forwards,
-        }
-    }
-
-    fn into_nodes(self) -> Vec<Node>
-        ensures { result.items ≡ self }
-    {
-        let Attached { nodes, ports: _ } = self;
-        nodes
+/// The node of a draft, under the first bridge or switch with its parent's name.
+fn node_under(ports: &BTreeMap<NameKey, u32>, draft: &Draft) -> Node
+    ensures { (nodes : List Node) → ListsPorts nodes ports.now → result ≡ node_under nodes draft.now }
+{
+    let parent = match ports.get(&NameKey::of(&draft.parent)).copied() {
+        Some(node) => Some(Parent {
+            node,
+            port: draft.port,
+        }),
+        None => None,
+    };
+    Node {
+        name: draft.name,
+        kind: draft.kind,
+        parent,
+        cap: draft.cap,
+        forwards: draft.forwards,
     }
 }
 
@@ -112,41 +120,4 @@ fn enter_port(
         return Ok(());
     }
     enter_first(ports, NameKey::of(&node.name), earlier.len() as u32)
-}
-
-/// The bridges, and after them the others, each under the first earlier bridge or switch with its
-/// parent's name. Takes memory.
-pub(crate) fn attach(
-    alloc: Global,
-    bridges: &[Node],
-    drafts: &[Draft],
-) -> Result<Vec<Node>, AllocError>
-    requires { length bridges.now + length drafts.now ≤ node_limit }
-    ensures { IfOk result (λ nodes. nodes.items ≡ attached bridges.now drafts.now) }
-{
-    let top = with_bridges(alloc, bridges)?;
-    Ok(with_drafts(top, drafts)?.into_nodes())
-}
-
-fn with_bridges(alloc: Global, bridges: &[Node]) -> Result<Attached, AllocError>
-    requires { length bridges.now ≤ node_limit }
-    ensures { IfOk result (λ so_far. so_far ≡ bridges.now) }
-{
-    let mut so_far = Attached::new(alloc);
-    for bridge in bridges {
-        so_far = so_far.with(*bridge)?;
-    }
-    Ok(so_far)
-}
-
-fn with_drafts(top: Attached, drafts: &[Draft]) -> Result<Attached, AllocError>
-    requires { length top + length drafts.now ≤ node_limit }
-    ensures { IfOk result (λ all. all ≡ attached top drafts.now) }
-{
-    let mut so_far = top;
-    for draft in drafts {
-        let node = so_far.node_under(draft);
-        so_far = so_far.with(node)?;
-    }
-    Ok(so_far)
 }

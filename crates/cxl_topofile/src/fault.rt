@@ -9,7 +9,7 @@ use thiserror::Error;
 
 /// Why a file stands for no topology: the first fault of the text, then of the tables (the top table, the
 /// bridges, the switches, the endpoints, each kind in file order), then of the tree.
-#[derive(Clone, Copy, Debug, PartialEq, Eq, Error)]
+#[derive(Clone, Copy, PartialEq, Eq, Error)]
 pub enum TopoFault {
     /// The file is no TOML document.
     #[error("no TOML document")]
@@ -30,9 +30,16 @@ pub enum TopoFault {
     Memory,
 }
 
+// The debug text of a fault is its message, since an error needs one and nothing else asks for it.
+impl fmt::Debug for TopoFault {
+    fn fmt<W: fmt::Write>(&self, f: &mut fmt::Formatter<W>) -> fmt::Result {
+        write!(f, "{self}")
+    }
+}
+
 /// A key of a table: of the top table, where the index is 0, or of the bridge, switch or endpoint with
 /// this index among its kind.
-#[derive(Clone, Copy, Debug, PartialEq, Eq)]
+#[derive(Clone, Copy, PartialEq, Eq)]
 pub struct Place {
     pub section: Section,
     pub index: u32,
@@ -40,7 +47,7 @@ pub struct Place {
 }
 
 /// Which table of a topology file.
-#[derive(Clone, Copy, Debug, PartialEq, Eq)]
+#[derive(Clone, Copy, PartialEq, Eq)]
 pub enum Section {
     Top,
     Bridge,
@@ -83,7 +90,7 @@ impl<T: Drop> From<AllocFailed<T>> for TopoFault {
 }
 
 /// What is wrong with the value of a key.
-#[derive(Clone, Copy, PartialEq, Eq)]
+#[derive(Clone, Copy)]
 pub(crate) struct Wrong {
     pub cause: Cause,
     pub key: Key,
@@ -134,7 +141,7 @@ impl Wrong {
     }
 }
 
-#[derive(Clone, Copy, PartialEq, Eq)]
+#[derive(Clone, Copy)]
 pub(crate) enum Cause {
     Missing,
     Kind,

@@ -7,7 +7,7 @@ use crate::fault::{Section, Wrong};
 use toml::Table;
 
 /// The two kinds of nodes that stand under others.
-#[derive(Clone, Copy, PartialEq, Eq)]
+#[derive(Clone, Copy)]
 pub(crate) enum Group {
     Switches,
     Endpoints,
