@@ -1,8 +1,7 @@
 -- Where blocks begin, and that none ends past the longest file.
-use Rattle.std.proofs.Common.{◌≡◌, ℕ, ◌+◌, ◌*◌, ◌/◌, ◌%◌, ◌<◌, ◌≤◌, Bool, IsTrue, leb, ltb, eqb, ◌&&◌, List, length, take, get_or, sum_by, Some, ap, arith}
+use Rattle.std.proofs.Common.{◌≡◌, ℕ, ◌+◌, ◌/◌, ◌%◌, ◌<◌, ◌≤◌, Bool, IsTrue, leb, ltb, eqb, ◌&&◌, List, length, take, get_or, sum_by, Some, ap, inl, inr, arith}
 use Rattle.std.proofs.lemmas.List.{take-take, take_all}
-use Rattle.std.proofs.lemmas.Bool.{and_parts, leb-true}
-use Rattle.std.proofs.lemmas.Bool.Decides.{nat_tests}
+use Rattle.std.proofs.lemmas.Bool.{and_parts, leb-true, ne_eqb, cases_eq}
 use Rattle.std.proofs.lemmas.List.Sums.{sum_by_more, sum_by-take-le, sum_by-le}
 use Rattle.std.proofs.lemmas.Option.{slice_get_within, slice_get-get_or, get_or_from_slice_get}
 use Rattle.std.specs.Prelude.{slice_get, All}
@@ -36,9 +35,15 @@ start_before nodes i j node here lt =
 pub ends_within : (nodes : List Node) (i : ℕ) (node : Node) → slice_get nodes i ≡ Some node → start_of nodes i + block_size node ≤ end_of nodes
 ends_within nodes i node here = start_before nodes i (length nodes) node here (slice_get_within nodes i node here)
 
+some_decoders : (code : ℕ) → 1 ≤ decoders_of code
+some_decoders code = elim (cases_eq code 0) [
+  | inl none ↦ rw none (omega arith)
+  | inr other ↦ rw (ne_eqb code 0 other) (omega arith)
+]
+
 -- a block has 48 bytes at least
 pub block_long : (node : Node) → 48 ≤ block_size node
-block_long node = grind (arith, nat_tests)
+block_long node = omega (arith, some_decoders (decoders_code node.cap))
 
 -- ---- and few
 
@@ -51,7 +56,10 @@ few_decoders cap endpoint legal =
     go (decoders_code cap) small
   where
     go : (code : ℕ) → code ≤ 5 → decoders_of code ≤ 10
-    go code small = grind (arith, nat_tests)
+    go code small = elim (cases_eq code 0) [
+      | inl none ↦ rw none (omega arith)
+      | inr other ↦ rw (ne_eqb code 0 other) (omega arith)
+    ]
 
 module _ (nodes : List Node) (tree : IsTree nodes) where
   -- a topology's blocks end within the longest file

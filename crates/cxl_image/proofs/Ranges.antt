@@ -1,5 +1,5 @@
 -- A function's values at numbers one after the other, and words read one after the other.
-use Rattle.std.proofs.Common.{◌≡◌, ℕ, zero, suc, ◌+◌, ◌-◌, ◌*◌, ◌<◌, List, [], ◌∷◌, ◌++◌, length, map, take, drop, get_or, refl, sym, ap, ◌∙◌, add-one, arith}
+use Rattle.std.proofs.Common.{◌≡◌, ℕ, zero, suc, ◌+◌, ◌-◌, ◌*◌, ◌<◌, List, length, map, take, drop, get_or, refl, sym, ap, ◌∙◌, arith}
 use Rattle.std.proofs.lemmas.List.{same_lists, get_or_default, drop-drop, drop-take}
 use Rattle.std.specs.List.{range_with_len}
 use Rattle.byteorder.specs.Endian.{little_number, IsRead}
@@ -12,17 +12,6 @@ range_at f a (suc n) zero d h = let e : a ≡ a + 0 = omega arith in ap f e
 range_at f a (suc n) (suc k) d h =
     let e : (a + 1) + k ≡ a + suc k = omega arith in
     range_at f (a + 1) n k d (omega arith) ∙ ap f e
-
-range_suc : {X : Type 0} (f : ℕ → X) (a n : ℕ) → map f (range_with_len a (suc n)) ≡ map f (range_with_len a n) ++ f (a + n) ∷ []
-range_suc {X} f a zero = let e : a ≡ a + 0 = omega arith in ap (λ (k : ℕ). f k ∷ []) e
-range_suc {X} f a (suc n) =
-    let e : (a + 1) + n ≡ a + suc n = omega arith in
-    ap (λ (xs : List X). f a ∷ xs) (range_suc f (a + 1) n ∙ ap (λ (k : ℕ). map f (range_with_len (a + 1) n) ++ f k ∷ []) e)
-
-pub range_push : {X : Type 0} (f : ℕ → X) (n : ℕ) → map f (range_with_len 0 (n + 1)) ≡ map f (range_with_len 0 n) ++ f n ∷ []
-range_push f n =
-    let e : 0 + n ≡ n = omega arith in
-    rw add-one (range_suc f 0 n ∙ ap (λ (k : ℕ). map f (range_with_len 0 n) ++ f k ∷ []) e)
 
 pub length-range : {X : Type 0} (f : ℕ → X) (a n : ℕ) → length (map f (range_with_len a n)) ≡ n
 length-range f a zero = refl

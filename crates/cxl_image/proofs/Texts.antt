@@ -1,9 +1,8 @@
 -- What the writer writes is a file of the image.
 use Rattle.std.proofs.Common.{◌≡◌, ℕ, zero, suc, ◌+◌, ◌*◌, ◌/◌, ◌%◌, ◌^◌, ◌<◌, ◌≤◌, Bool, true, false, IsTrue, not, leb, ltb, eqb, ◌&&◌, ◌||◌, List, [], ◌∷◌, ◌++◌, length, map, take, drop, get_or, sum_by, codes, Some, refl, sym, ap, subst, ◌∙◌, inl, inr, append_assoc, arith, length-append}
-use Rattle.std.proofs.lemmas.Bool.Decides.{nat_tests}
 use Rattle.std.proofs.lemmas.Bool.{and_parts, ltb-true}
 use Rattle.std.proofs.lemmas.Grind.{flat_map-append}
-use Rattle.std.proofs.lemmas.List.{same_lists, get_or_default, take_more, take_all, drop_at, drop_more, drop-drop, take-append-drop}
+use Rattle.std.proofs.lemmas.List.{append-nil, same_lists, get_or_default, take_more, take_all, drop_at, drop_more, drop-drop, take-append-drop}
 use Rattle.std.proofs.lemmas.List.Concat.{length-flat_map}
 use Rattle.std.proofs.lemmas.List.Elements.{All-nil, All-head, All-tail, All-append, All-from_recursion}
 use Rattle.std.proofs.lemmas.List.Sums.{sum_by-cons, sum_by-le}
@@ -35,6 +34,15 @@ length-words_text : (ws : List ℕ) → length (words_text ws) ≡ 4 * length ws
 unfolding words_text word_bytes
 length-words_text [] = refl
 length-words_text (w ∷ ws) = let more = length-words_text ws in omega arith
+
+-- what is appended for one element more
+pub appended_more : {X : Type 0} (f : X → List ℕ) (start out next : List ℕ) (xs : List X) (i : ℕ) (d : X) → i < length xs → out ≡ start ++ flat_map f (take i xs) → next ≡ out ++ f (get_or xs i d)
+    → next ≡ start ++ flat_map f (take (i + 1) xs)
+appended_more {X} f start out next xs i d within so_far pushed =
+    let x : X = get_or xs i d in
+    let more : flat_map f (take (i + 1) xs) ≡ flat_map f (take i xs) ++ f x =
+    ap (flat_map f) (take_more xs i d within) ∙ flat_map-append f (take i xs) (x ∷ []) ∙ ap (λ (t : List ℕ). flat_map f (take i xs) ++ t) (append-nil (f x)) in
+    pushed ∙ ap (λ (t : List ℕ). t ++ f x) so_far ∙ append_assoc start (flat_map f (take i xs)) (f x) ∙ ap (λ (t : List ℕ). start ++ t) (sym more)
 
 -- the words of one decoder more
 pub put_more : (start out next head : List ℕ) (ds : List Decoder) (i : ℕ) (d : Decoder) → out ≡ start ++ words_text (head ++ flat_map words_of (take i ds)) → next ≡ out ++ words_text (words_of d) → slice_get ds i ≡ Some d

@@ -1,10 +1,11 @@
 ghost use Rattle.std.specs.Prelude.{◌≡◌};
 ghost use Rattle.cxl_image.specs.declared.fault.ImageFault.TheVariants as faults;
 
+use std::fmt;
 use thiserror::Error;
 
 /// Why bytes are no image file of a topology: the first fault from the front. (This project's rule.)
-#[derive(Clone, Copy, Debug, PartialEq, Eq, Error)]
+#[derive(Clone, Copy, PartialEq, Eq, Error)]
 pub enum ImageFault {
     #[error("the file does not begin with CXLHDM01")]
     Magic,
@@ -22,6 +23,13 @@ pub enum ImageFault {
     Trailing(u32),
     #[error("out of memory")]
     Memory,
+}
+
+// The debug text of a fault is its message, since an error needs one and nothing else asks for it.
+impl fmt::Debug for ImageFault {
+    fn fmt<W: fmt::Write>(&self, f: &mut fmt::Formatter<W>) -> fmt::Result {
+        write!(f, "{self}")
+    }
 }
 
 impl From<cxl_enc::Memory> for ImageFault {

@@ -56,7 +56,7 @@ fn sound_image(alloc: Global, bytes: &[u8], topo: &Topo) -> Result<Image, Memory
     let mut at = HEAD;
     for i in 0..topo.count() {
         let node = topo.node(i);
-        blocks.push(block_from(alloc, bytes, at, node)?)?;
+        blocks.push_reserved(block_from(alloc, bytes, at, node)?);
         at += block_size(node);
     }
     Ok(Image::with_blocks(blocks))
@@ -96,10 +96,8 @@ fn decoders_from(
     ensures value { IfOk result (λ decoders. decoders.items ≡ map (λ i. decoder_from bytes.now endpoint (at + 32 * i)) (range_with_len 0 count)) }
     ensures each { IfOk result (λ decoders. All (IsDecoder endpoint) decoders.items) }
 {
-    let mut decoders = Vec::with_capacity(alloc, count)?;
-    for i in 0..count {
-        let words = decoder_words(bytes, at + 32 * i);
-        decoders.push(decoder_of(&words, endpoint))?;
-    }
+    let decoders = (0..count)
+        .map(|i| decoder_of(&decoder_words(bytes, at + 32 * i), endpoint))
+        .collect(alloc)?;
     Ok(decoders)
 }

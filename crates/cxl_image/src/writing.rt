@@ -1,13 +1,14 @@
 //! The writer.
 
-ghost use Rattle.std.specs.Prelude.{◌≡◌, ◌++◌, ◌≤◌, List, length, IfOk, OnOk};
+ghost use Rattle.std.specs.Prelude.{◌≡◌, ◌++◌, ◌≤◌, List, length, codes, IfOk, OnOk};
+ghost use Rattle.std.specs.List.{flat_map};
 ghost use Rattle.cxl_regs.specs.Registers.{Registers};
 ghost use Rattle.cxl_regs.specs.Words.{head_words};
 ghost use Rattle.cxl_topo.specs.declared.node.Node.{Node};
 ghost use Rattle.cxl_image.specs.Images.{IsImage, HasCapsOf};
 ghost use Rattle.cxl_image.specs.Fields.{image_limit};
 ghost use Rattle.cxl_image.specs.File.{IsImageFile};
-ghost use Rattle.cxl_image.specs.Text.{block_text, image_text};
+ghost use Rattle.cxl_image.specs.Text.{word_bytes, block_text, image_text};
 
 use crate::image::Image;
 use crate::judging::MAGIC;
@@ -34,13 +35,27 @@ fn text_of(alloc: Global, image: &Image) -> Result<Vec<u8>, Memory>
     ensures image { IsImage image.now }
 {
     let mut out = Vec::new(alloc);
-    let count = image.count();
-    out.extend_from_slice(MAGIC)?;
-    append_word(&mut out, count)?;
-    for block in image.blocks() {
-        put_block(&mut out, block)?;
-    }
+    put_opening(&mut out, image.count())?;
+    put_blocks(&mut out, image.blocks())?;
     Ok(out)
+}
+
+/// Appends the magic and the number of nodes.
+fn put_opening(out: &mut Vec<u8>, count: u32) -> Result<(), Memory>
+    ensures { OnOk result (out.new.items ≡ out.old.items ++ codes "CXLHDM01" ++ word_bytes count) }
+{
+    out.extend_from_slice(MAGIC)?;
+    append_word(out, count)
+}
+
+/// Appends the words of all blocks.
+fn put_blocks(out: &mut Vec<u8>, blocks: &[Block]) -> Result<(), Memory>
+    ensures { OnOk result (out.new.items ≡ out.old.items ++ flat_map block_text blocks.now) }
+{
+    for block in blocks {
+        put_block(out, block)?;
+    }
+    Ok(())
 }
 
 /// Appends all words of a block.

@@ -3,3 +3,4 @@ pub mod Shape
 pub mod Kept
 pub mod TargetLists
 pub mod Places
+pub mod WordPlaces

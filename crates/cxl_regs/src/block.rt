@@ -1,7 +1,7 @@
 ghost use Rattle.std.specs.Prelude.{◌≡◌, ◌<◌, ◌≤◌, ◌+◌, ◌-◌, ◌*◌, ◌/◌, ◌%◌, ◌↔◌, true, IsTrue, IsSome, Some, length, IfOk, IfSome, slice_get};
 ghost use Rattle.cxl_enc.specs.Caps.{is_legal_cap};
 ghost use Rattle.cxl_regs.specs.Registers.{Registers, IsBlock, IsDecoder, IsSameShape, reset_block};
-ghost use Rattle.cxl_regs.specs.Words.{word_at, HasWord};
+ghost use Rattle.cxl_regs.specs.Words.{head_words, word_at, HasWord};
 ghost use Rattle.cxl_regs.specs.Rules.{first_broken_rule, before};
 ghost use Rattle.cxl_regs.specs.Reading.{committed_count};
 ghost use Rattle.cxl_regs.specs.Writes.{WritesWord, any_committed, with_decoder, after_global, after_decoder, after_release, after_control, after_commit};
@@ -132,18 +132,28 @@ impl Block {
         ensures word { result ≡ word_at self.now off }
         ensures some { IsSome result ↔ HasWord self.now off }
     {
+        self.word(off)
+    }
+
+    fn word(&self, off: u32) -> Option<u32>
+        ensures { result ≡ word_at self.now off }
+    {
         if off % 4 != 0 {
             return None;
         }
-        match off {
-            0 => Some(self.cap),
-            GLOBAL_CONTROL => Some(if self.endpoint && self.enabled { 2 } else { 0 }),
-            8 | 12 => Some(0),
-            _ => {
-                let d = self.decoders.get(index_at(off))?;
-                Some(words_of(d)[place_at(off) as usize])
-            }
+        if off < HEAD_SIZE {
+            return Some(self.head_words()[(off / 4) as usize]);
         }
+        let d = self.find(index_at(off))?;
+        Some(words_of(&d)[place_at(off) as usize])
+    }
+
+    /// The words before the decoders.
+    fn head_words(&self) -> [u32; 4]
+        ensures { result ≡ head_words self.now }
+    {
+        let control = if self.endpoint && self.enabled { 2 } else { 0 };
+        [self.cap, control, 0, 0]
     }
 
     /// Writes a word. What becomes of it is the first that fits of this project's write rules: words that
@@ -328,7 +338,7 @@ pub fn copies(alloc: Global, blocks: &[Block]) -> Result<Vec<Block>, Memory>
 {
     let mut copies = Vec::with_capacity(alloc, blocks.len())?;
     for block in blocks {
-        copies.push(block.copy(alloc)?)?;
+        copies.push_reserved(block.copy(alloc)?);
     }
     Ok(copies)
 }

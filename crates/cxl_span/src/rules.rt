@@ -77,8 +77,7 @@ fn breaks_size(block: &Block, d: &Decoder) -> bool
 {
     d.committed
         && (d.size == 0
-            || d.base > ADDRESS_LIMIT
-            || d.size > ADDRESS_LIMIT - d.base
+            || u128::from(d.base) + u128::from(d.size) > u128::from(ADDRESS_LIMIT)
             || (block.endpoint() && d.size % (UNIT * u64::from(d.interleave_ways())) != 0))
 }
 
