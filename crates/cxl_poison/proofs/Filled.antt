@@ -1,8 +1,8 @@
 -- The chunks of a region fill its spans, and the bytes of a slot are host bytes of the region.
-use Rattle.std.proofs.Common.{◌≡◌, ℕ, zero, suc, ◌+◌, ◌*◌, ◌/◌, ◌<◌, ◌≤◌, ◌^◌, Some, Option, refl, sym, ap, subst, ◌∙◌, arith}
-use Rattle.std.specs.Prelude.{slice_get, IsSomeAnd}
+use Rattle.std.proofs.Common.{◌≡◌, ℕ, zero, suc, ◌+◌, ◌*◌, ◌/◌, ◌<◌, ◌≤◌, ◌^◌, Bool, true, false, cond, Some, Option, refl, sym, ap, subst, ◌∙◌, arith}
+use Rattle.std.specs.Prelude.{◌==◌, slice_get, IsSomeAnd}
 use Rattle.std.proofs.Math.Nat.{zero-mul, mul-zero, le_antisymm, mul-le-mul_right, le_of_mul-le-mul_right, div-lt_iff_lt-mul}
-use Rattle.std.proofs.lemmas.Nat.{pow_pos}
+use Rattle.std.proofs.lemmas.Nat.{pow_pos, div-mul-add}
 use Rattle.cxl_num.specs.Interleave.{chunk_size}
 use Rattle.cxl_window.specs.Fields.{WindowFields}
 use Rattle.cxl_deal.specs.Weaves.{weave_ways, turns_end, dealt_slot, dealt_offset}
@@ -12,6 +12,7 @@ use Rattle.cxl_model.specs.Regions.{weave_fields, Carries}
 use Rattle.cxl_model.specs.Bytes.{slot_length}
 use Rattle.cxl_poison.specs.declared.live.LiveSpan.{LiveSpan}
 use Rattle.cxl_poison.specs.Live.{IsSpanOf}
+use Rattle.cxl_poison.specs.Pieces.{stretch_size}
 
 -- what the laws of regions say of one
 pub record Filled (found : Found) (w : WindowFields) : Type 0 where
@@ -37,6 +38,12 @@ whole_share n w g len is some =
 more_turns : (a b w g : ℕ) → a ≤ b → a * w * g ≤ b * w * g
 more_turns a b w g le = mul-le-mul_right g (mul-le-mul_right w le)
 
+one_stretch : (len : ℕ) → 0 < len → len / len * len ≡ len
+one_stretch len some =
+    let whole : 1 * len + 0 ≡ len = omega arith in
+    let one : len / len ≡ 1 = sym (ap (λ (n : ℕ). n / len) whole) ∙ div-mul-add 1 len 0 some in
+    ap (λ (n : ℕ). n * len) one ∙ omega arith
+
 module _ (found : Found) (w : WindowFields) (filled : Filled found w) where
   pub some_ways : 0 < found.ways
   some_ways = (factors (slot_length found) found.ways found.size filled.shares filled.some).1
@@ -53,6 +60,14 @@ module _ (found : Found) (w : WindowFields) (filled : Filled found w) where
       let all : n * found.ways * chunk_size found.gran ≡ slot_length found * found.ways =
       ap (λ (x : ℕ). n * x * chunk_size found.gran) (sym filled.ways) ∙ (let turns = filled.turns in omega (arith, turns)) ∙ sym filled.shares in
       whole_share n found.ways (chunk_size found.gran) (slot_length found) all some_ways
+
+  -- all of a span at one way, and its chunks at more
+  pub stretches_fill : (span : LiveSpan) → span.len ≡ slot_length found → (0 < stretch_size found span) × (span.len / stretch_size found span * stretch_size found span ≡ span.len)
+  stretches_fill span len = go (found.ways == 1)
+    where
+      go : (one : Bool) → (0 < cond one span.len (chunk_size found.gran)) × (span.len / cond one span.len (chunk_size found.gran) * cond one span.len (chunk_size found.gran) ≡ span.len)
+      go true = let some : 0 < span.len = subst (λ (n : ℕ). 0 < n) (sym len) some_length in (some, one_stretch span.len some)
+      go false = (some_chunk, subst (λ (n : ℕ). n / chunk_size found.gran * chunk_size found.gran ≡ n) (sym len) chunks_whole)
 
   pub turn_fits : (offset : ℕ) → offset < slot_length found → turns_end (weave_fields found w) (offset / chunk_size found.gran + 1) ≤ 2 ^ 52
   turn_fits offset below =

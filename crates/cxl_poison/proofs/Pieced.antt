@@ -1,10 +1,10 @@
 -- The parts and the unmapped bytes of a record, one live span more at a time.
-use Rattle.std.proofs.Common.{◌≡◌, ℕ, ◌+◌, ◌<◌, ◌≤◌, true, List, [], ◌∷◌, ◌++◌, length, take, get_or, Some, sym, ap, subst, ◌∙◌, inl, inr, append_assoc, arith}
+use Rattle.std.proofs.Common.{◌≡◌, ℕ, ◌+◌, ◌-◌, ◌<◌, ◌≤◌, true, List, [], ◌∷◌, ◌++◌, length, take, get_or, Some, sym, ap, subst, ◌∙◌, inl, inr, append_assoc, arith}
 use Rattle.std.specs.Prelude.{slice_get, nat_le, nat_lt}
 use Rattle.std.specs.List.{list_any}
 use Rattle.std.proofs.lemmas.Bool.{cases_Bool, and_parts, leb-true, ltb-true}
-use Rattle.std.proofs.lemmas.Option.{same_Some, slice_get_within, get_or_from_slice_get}
-use Rattle.std.proofs.lemmas.List.{append-nil, length-take, get_or-take}
+use Rattle.std.proofs.lemmas.Option.{same_Some, slice_get_within, slice_get-get_or, get_or_from_slice_get}
+use Rattle.std.proofs.lemmas.List.{append-nil, length-take, get_or-take, get_or_default, take_more}
 use Rattle.std.proofs.lemmas.List.Folds.{Any-from_list_any}
 use Rattle.cxl_window.specs.Fields.{WindowFields}
 use Rattle.cxl_model.specs.declared.found.Found.{Found}
@@ -15,9 +15,9 @@ use Rattle.cxl_model.specs.Regions.{IsRegion, IsRegionIn}
 use Rattle.cxl_poison.specs.declared.live.LiveSpan.{LiveSpan}
 use Rattle.cxl_poison.specs.declared.cutting.Touched.{Touched}
 use Rattle.cxl_poison.specs.Live.{AreLive, IsSpanOf, IsLiveSpan, AreLiveSpans}
-use Rattle.cxl_poison.specs.Pieces.{touched_from, touched_end, stretch_size, cuts_between, cuts_of, has_byte, ArePartsIn, ArePartsInAll, none, next}
+use Rattle.cxl_poison.specs.Pieces.{touched_from, touched_end, stretch_size, cuts_between, cuts_of, has_byte, unmapped_count, ArePartsIn, ArePartsInAll, none, next}
 use Rattle.cxl_poison.specs.inner.Cuts.{IsSpanIn, touched_cuts}
-use Rattle.cxl_poison.proofs.Unmapped.{LiesApart}
+use Rattle.cxl_poison.proofs.Unmapped.{LiesApart, one_mapped}
 
 -- ---- the region of a span, and its window
 
@@ -47,6 +47,21 @@ module _ (there : WindowsThere) (windows : List WindowFields) (live : List Found
     endpoint = endpoint;
     is = subst (λ (f : Found). IsSpanOf f endpoint span) (same_Some is.found found (sym is.there ∙ at)) is.here;
   }
+
+-- ---- a region and its window, as they are read by their places
+
+pub found_read : (live : List Found) (endpoint : ℕ) (span : LiveSpan) (found : Found) → IsLiveSpan live endpoint span → found ≡ get_or live span.region found → slice_get live span.region ≡ Some found
+found_read live endpoint span found is read =
+    slice_get-get_or live span.region found (slice_get_within live span.region is.found is.there) ∙ ap (λ (f : Found). Some f) (sym read)
+
+module _ (there : WindowsThere) (windows : List WindowFields) (live : List Found) (are : AreLive windows live) (endpoint : ℕ) (span : LiveSpan) (found : Found) (w : WindowFields)
+    (is : IsLiveSpan live endpoint span) (read : found ≡ get_or live span.region found) (window : w ≡ get_or windows found.window w) where
+  pub window_read : slice_get windows found.window ≡ Some w
+  window_read =
+      slice_get-get_or windows found.window w (window_within there windows live are span.region found (found_read live endpoint span found is read)) ∙ ap (λ (v : WindowFields). Some v) (sym window)
+
+  pub span_read : IsSpanIn found w span
+  span_read = span_in there windows live are endpoint span found w is (found_read live endpoint span found is read) window_read
 
 -- ---- parts
 
@@ -89,6 +104,14 @@ lies_apart live endpoint spans k x apart are within is dpa has =
           let second : (get_or spans k x).start ≡ x.start = ap (λ (z : LiveSpan). z.start) is in
           absurd (omega (arith, rises, first, second))
     ]
+
+-- of the bytes that lie in none of the first spans, the next one takes those that the record touches of it
+pub next_mapped : (entry : Entry) (live : List Found) (endpoint : ℕ) (spans : List LiveSpan) (k : ℕ) (d : LiveSpan) → Apart live endpoint → AreLiveSpans live endpoint spans → k < length spans
+    → unmapped_count entry (take k spans) ≡ unmapped_count entry (take (k + 1) spans) + (touched_end entry (get_or spans k d) - touched_from entry (get_or spans k d))
+next_mapped entry live endpoint spans k d apart are within =
+    let x : LiveSpan = get_or spans k d in
+    one_mapped entry (take k spans) x (lies_apart live endpoint spans k x apart are within (get_or_default spans k x d within))
+    ∙ ap (λ (xs : List LiveSpan). unmapped_count entry xs + (touched_end entry x - touched_from entry x)) (sym (take_more spans k d within))
 
 pub none_so_far : (entry : Entry) (endpoint : ℕ) (live : List Found) (windows : List WindowFields) → ArePartsInAll entry endpoint live windows [] []
 none_so_far entry endpoint live windows = none

@@ -106,6 +106,16 @@ module _ (span : LiveSpan) (touched : Touched) (has : HasTouched span touched) w
       let any = has.any in
       some_cut (max touched.from (n * touched.size)) (min touched.end ((n + 1) * touched.size)) (omega (arith, at.low, at.high, at.one, some, any))
 
+  -- the last stretch begins before the end, and it is one of few
+  pub last_low : first_stretch touched < last_stretch touched → last_stretch touched * touched.size < touched.end
+  last_low many = (touched_at (last_stretch touched) (omega (arith, many)) (omega arith)).low
+
+  pub last_small : first_stretch touched < last_stretch touched → last_stretch touched < touched.end
+  last_small many =
+      let some : 1 ≤ touched.size = omega (arith, has.is.some) in
+      let more = mul-le-mul_right (last_stretch touched) some in
+      omega (arith, more, mul_comm touched.size (last_stretch touched), last_low many)
+
   pub last_within : last_stretch touched < span.len / touched.size
   last_within =
       let some = has.is.some in

@@ -98,7 +98,7 @@ fn run_of(found: &Found, window: &Window, span: &LiveSpan, touched: &Touched, n:
 {
     let start = n * touched.size;
     let from = touched.from.max(start);
-    let end = start + touched.size.min(touched.end - start);
+    let end = touched.end.min(start + touched.size);
     Run {
         h: host_at(found, window, span, from),
         len: end - from,

@@ -79,10 +79,9 @@ fn entries_from(alloc: Global, bytes: &[u8], count: u16) -> Result<Vec<Entry>, M
     requires { payload_head + record_size * count ≤ length bytes.now }
     ensures { IfOk result (λ entries. entries.items ≡ entries_from bytes.now count) }
 {
-    let mut entries = Vec::with_capacity(alloc, usize::from(count))?;
-    for i in 0..count {
-        entries.push(entry_from(bytes, HEAD + RECORD * usize::from(i)))?;
-    }
+    let entries = (0..count)
+        .map(|i| entry_from(bytes, HEAD + RECORD * usize::from(i)))
+        .collect(alloc)?;
     Ok(entries)
 }
 

@@ -6,6 +6,7 @@ ghost use Rattle.cxl_model.specs.System.{System, IsSystem};
 ghost use Rattle.cxl_model.specs.Regions.{IsRegion};
 ghost use Rattle.cxl_poison.specs.declared.live.LiveSpan.{LiveSpan};
 ghost use Rattle.cxl_poison.specs.Live.{AreLive, IsSpanOf, AreLiveSpans};
+ghost use Rattle.cxl_poison.specs.inner.Cuts.{slot_on};
 
 use crate::apart::live_spans_are_apart;
 use cxl_model::{Found, Memory};
@@ -50,12 +51,23 @@ fn span_on(found: &Found, region: u32, endpoint: u32) -> Option<LiveSpan>
     ensures some { IfSome result (λ span. IsSpanOf found.now endpoint span) }
     ensures none { IfNone result ((other : LiveSpan) → IsSpanOf found.now endpoint other → ⊥) }
 {
-    let spans = found.spans.items();
-    let slot = spans.iter().position(|place| place.endpoint == endpoint)?;
+    let slot = slot_on(found, endpoint)?;
+    let ways = found.ways;
     Some(LiveSpan {
         region,
         slot: slot as u32,
-        start: spans[slot].start,
-        len: found.size / u64::from(found.ways),
+        start: found.spans.items()[slot].start,
+        len: found.size / u64::from(ways),
     })
+}
+
+/// The first slot whose span lies on the endpoint's device, where one does.
+fn slot_on(found: &Found, endpoint: u32) -> Option<usize>
+    ensures { result ≡ slot_on endpoint found.now.spans }
+{
+    found
+        .spans
+        .items()
+        .iter()
+        .position(|place| place.endpoint == endpoint)
 }

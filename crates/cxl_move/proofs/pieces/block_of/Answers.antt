@@ -1,11 +1,42 @@
-use Rattle.std.proofs.Common.{◌≡◌, ℕ, ◌+◌, ◌*◌, ◌/◌, ◌%◌, ◌<◌, ◌∙◌, get_or, subst, arith}
+use Rattle.std.proofs.Common.{◌≡◌, ℕ, ◌+◌, ◌*◌, ◌/◌, ◌%◌, ◌<◌, ◌∙◌, List, length, get_or, ap, subst, arith}
 use Rattle.cxl_enc.specs.Limits.{address_limit}
 use Rattle.cxl_window.specs.Fields.{WindowFields}
+use Rattle.cxl_deal.specs.Weaves.{WeaveFields, weave_ways}
 use Rattle.cxl_model.specs.declared.found.Found.{Found}
 use Rattle.cxl_model.specs.declared.found.Place.{Place}
 use Rattle.cxl_model.specs.Regions.{Carries}
 use Rattle.cxl_move.proofs.Dealt.{dealt_carries}
 use Rattle.cxl_move.proofs.pieces.block_of.Goals as goal
+
+pub weave_of-weave-requires : goal.weave_of-weave-requires
+weave_of-weave-requires c =
+    let r = c.requires.region in
+    record { region = (r.0, record { tree = r.1.tree; blocks = r.1.blocks; made = r.1.made }, r.2) }
+
+pub overflow_mul-n : goal.overflow_mul-n
+overflow_mul-n c =
+    let r = c.requires.region in
+    omega (arith, c.requires.within, c.regions_lie_in_windows.ensures.low r.0 c.args.side.now.window.now c.args.side.now.found.now r.1 r.2)
+
+pub overflow_add-side : goal.overflow_add-side
+overflow_add-side c =
+    let r = c.requires.region in
+    omega (arith, c.requires.within, c.regions_lie_in_windows.ensures.low r.0 c.args.side.now.window.now c.args.side.now.found.now r.1 r.2)
+
+pub deal-dealt-requires-clause-from : goal.deal-dealt-requires-clause-from
+deal-dealt-requires-clause-from c = omega (arith, ap (λ (v : WeaveFields). v.base) c.weave_of-weave.ensures)
+
+pub deal-dealt-requires-clause-below : goal.deal-dealt-requires-clause-below
+deal-dealt-requires-clause-below c =
+    let r = c.requires.region in
+    omega (arith, c.requires.within, c.regions_lie_in_windows.ensures.low r.0 c.args.side.now.window.now c.args.side.now.found.now r.1 r.2)
+
+pub bounds-items-dealt : goal.bounds-items-dealt
+bounds-items-dealt c =
+    let r = c.requires.region in
+    let weave = ap (λ (v : WeaveFields). weave_ways v) c.weave_of-weave.ensures in
+    let ways = c.weaves_fill_their_regions.ensures.ways r.0 c.args.side.now.window.now c.args.side.now.found.now r.1 r.2 in
+    omega (arith, c.deal-dealt.ensures.within, weave, ways, r.2.slots, ap (λ (places : List Place). length places) c.items.ensures)
 
 pub overflow_add-result : goal.overflow_add-result
 overflow_add-result c =

@@ -1,12 +1,40 @@
-use Rattle.std.proofs.Common.{◌≡◌, ℕ, ◌+◌, ◌-◌, ◌*◌, ◌/◌, ◌%◌, ◌≤◌, ◌∙◌, sym, subst, arith}
+use Rattle.std.proofs.Common.{◌≡◌, ℕ, ◌+◌, ◌-◌, ◌*◌, ◌/◌, ◌%◌, ◌≤◌, ◌∙◌, sym, ap, subst, arith}
+use Rattle.std.proofs.lemmas.Option.{slice_get_within}
 use Rattle.cxl_enc.specs.Limits.{address_limit}
 use Rattle.cxl_num.specs.Interleave.{chunk_size}
 use Rattle.cxl_window.specs.Fields.{WindowFields}
-use Rattle.cxl_deal.specs.Weaves.{WeaveFields, turns_end, dealt_slot, dealt_offset}
+use Rattle.cxl_deal.specs.Weaves.{WeaveFields, weave_ways, turns_end, dealt_slot, dealt_offset}
 use Rattle.cxl_model.specs.declared.found.Found.{Found}
 use Rattle.cxl_model.specs.Regions.{weave_fields, Carries}
 use Rattle.cxl_move.proofs.Dealt.{WovenLaws, turn_fits, gathered_carries}
 use Rattle.cxl_move.proofs.pieces.piece_at.Goals as goal
+
+pub block_byte-requires : goal.block_byte-requires
+block_byte-requires c = let r = c.requires.region in (r.0, r.1, (c.args.side.now.window.now, r.2))
+
+pub returns-in_err-byte-clause-none : goal.returns-in_err-byte-clause-none
+returns-in_err-byte-clause-none c =
+    let found : Found = c.args.side.now.found.now in
+    let r = c.requires.region in
+    rw c.from_residual.ensures
+    (λ n at. c.in_err-byte.ensures.none (c.bytes_are_carried_one_to_one.ensures.inside r.0 c.args.side.now.window.now found (found.base + 256 * n) c.args.at.ep (256 * c.args.at.block) r.1 r.2 at))
+
+pub weave_of-weave-requires : goal.weave_of-weave-requires
+weave_of-weave-requires c =
+    let r = c.requires.region in
+    record { region = (r.0, record { tree = r.1.tree; blocks = r.1.blocks; made = r.1.made }, r.2) }
+
+pub gather-h-requires-clause-slot_below : goal.gather-h-requires-clause-slot_below
+gather-h-requires-clause-slot_below c =
+    let found : Found = c.args.side.now.found.now in
+    let r = c.requires.region in
+    let byte = c.in_ok-byte.ensures.some in
+    let within = slice_get_within found.spans c.in_ok-byte.byte.slot byte.place byte.there in
+    let ways = c.weaves_fill_their_regions.ensures.ways r.0 c.args.side.now.window.now found r.1 r.2 in
+    omega (arith, within, ways, r.2.slots, ap (λ (v : WeaveFields). weave_ways v) c.weave_of-weave.ensures)
+
+pub overflow_sub-result : goal.overflow_sub-result
+overflow_sub-result c = omega (arith, c.gather-h.ensures.from, ap (λ (v : WeaveFields). v.base) c.weave_of-weave.ensures)
 
 pub gather-h-requires-clause-fits : goal.gather-h-requires-clause-fits
 gather-h-requires-clause-fits c =

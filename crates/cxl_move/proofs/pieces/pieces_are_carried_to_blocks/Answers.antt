@@ -1,3 +1,4 @@
+use Rattle.std.proofs.Common.{◌+◌, ◌*◌}
 use Rattle.cxl_move.proofs.PieceLaws.{CarryLaws, piece_each, piece_within, piece_one, piece_apart, piece_onto}
 use Rattle.cxl_move.proofs.pieces.pieces_are_carried_to_blocks.Goals as goal
 
@@ -52,6 +53,9 @@ returns-clause-apart c = λ s w found n other endpoint block system is.
       together = λ h k endpoint dpa. c.pieces_are_carried_whole.ensures.together s w found h k endpoint dpa system is;
     } in
     piece_apart found w laws n other endpoint block
+
+pub returns-clause-inside : goal.returns-clause-inside
+returns-clause-inside c = λ s w found n endpoint block system is at. c.bytes_are_carried_one_to_one.ensures.inside s w found (found.base + 256 * n) endpoint (256 * block) system is at
 
 pub returns-clause-onto : goal.returns-clause-onto
 returns-clause-onto c = λ s w found endpoint block system is.

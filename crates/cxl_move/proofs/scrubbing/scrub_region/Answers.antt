@@ -13,6 +13,15 @@ use Rattle.cxl_move.proofs.scrubbing.scrub_region.Goals as goal
 slice_there : (found : Found) (spans : List Place) (slot : ℕ) (d : Place) → spans ≡ found.spans → slot < length spans → slice_get found.spans slot ≡ Some (get_or spans slot d)
 slice_there found spans slot d same within = ap (λ (xs : List Place). slice_get xs slot) (sym same) ∙ slice_get-get_or spans slot d within
 
+pub slot_length-length-requires : goal.slot_length-length-requires
+slot_length-length-requires g c = c.requires
+
+pub scrub-requires-clause-order : goal.scrub-requires-clause-order
+scrub-requires-clause-order g c = omega arith
+
+pub returns-clause-frames : goal.returns-clause-frames
+returns-clause-frames g c = c.loop-place.invariant.frames
+
 pub overflow_add-place : goal.overflow_add-place
 overflow_add-place g c =
     let found : Found = c.args.found.now in

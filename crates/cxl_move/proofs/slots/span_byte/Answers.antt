@@ -1,9 +1,23 @@
-use Rattle.std.proofs.Common.{ℕ, List, get_or, arith}
+use Rattle.std.proofs.Common.{ℕ, List, length, get_or, ap, arith}
 use Rattle.cxl_model.specs.declared.found.Found.{Found}
 use Rattle.cxl_model.specs.declared.found.Place.{Place}
 use Rattle.cxl_move.proofs.Dealt.{slot_within, lies_there, byte_there}
 use Rattle.cxl_move.proofs.slots.span_byte.Goals as goal
 use Rattle.cxl_move.proofs.slots.span_byte.Goals.{then-dpa-start-via-then-dpa-start, then-dpa-start-via-else-dpa-start+then-dpa-start-2}
+
+pub returns-in_err-slot-clause-none : goal.returns-in_err-slot-clause-none
+returns-in_err-slot-clause-none c = rw c.from_residual.ensures (λ lies. c.in_err-slot.ensures.none lies.slot lies.place lies.there lies.here)
+
+pub bounds-items-slot : goal.bounds-items-slot
+bounds-items-slot c =
+    let found : Found = c.args.found.now in
+    let d : Place = record { endpoint = 0; start = 0 } in
+    let within =
+    slot_within found (λ a b p q. c.slots_are_endpoints.ensures.apart c.requires.0 c.requires.2.0 found a b p q c.requires.1 c.requires.2.1) c.items.result.now d c.items.ensures c.args.endpoint c.in_ok-slot.slot c.in_ok-slot.ensures.some in
+    omega (arith, within, ap (λ (places : List Place). length places) c.items.ensures)
+
+pub slot_length-requires : goal.slot_length-requires
+slot_length-requires c = c.requires
 
 pub returns-then-dpa-start-clause-none : goal.returns-then-dpa-start-clause-none
 returns-then-dpa-start-clause-none c = λ lies.

@@ -1,11 +1,24 @@
-use Rattle.std.proofs.Common.{◌≡◌, ℕ, ◌+◌, ◌/◌, ◌<◌, ◌≤◌, ◌^◌, sym, subst}
+use Rattle.std.proofs.Common.{◌≡◌, ℕ, ◌+◌, ◌/◌, ◌<◌, ◌≤◌, ◌^◌, sym, subst, arith}
+use Rattle.std.proofs.lemmas.Option.{slice_get_within}
 use Rattle.cxl_num.specs.Interleave.{chunk_size}
 use Rattle.cxl_window.specs.Fields.{WindowFields}
-use Rattle.cxl_deal.specs.Weaves.{WeaveFields, turns_end, dealt_slot, dealt_offset}
+use Rattle.cxl_deal.specs.Weaves.{WeaveFields, weave_ways, turns_end, dealt_slot, dealt_offset}
 use Rattle.cxl_model.specs.declared.found.Found.{Found}
 use Rattle.cxl_model.specs.Regions.{weave_fields}
 use Rattle.cxl_poison.proofs.Filled.{Filled, turn_fits, carried}
 use Rattle.cxl_poison.proofs.cutting.host_at.Goals as goal
+
+pub weave_of-requires : goal.weave_of-requires
+weave_of-requires c =
+    let of = c.requires.span in
+    record { region = (of.s, record { tree = of.system.tree; blocks = of.system.blocks; made = of.system.made }, of.region) }
+
+pub gather-requires-clause-slot_below : goal.gather-requires-clause-slot_below
+gather-requires-clause-slot_below c =
+    let of = c.requires.span in
+    let within = slice_get_within c.args.found.now.spans c.args.span.now.slot _ of.is.place in
+    let ways = c.weaves_fill_their_regions.ensures.ways of.s c.args.window.now c.args.found.now of.system of.region in
+    subst (λ (v : WeaveFields). c.args.span.now.slot < weave_ways v) (sym c.weave_of.ensures) (omega (arith, within, ways, of.region.slots))
 
 pub gather-requires-clause-fits : goal.gather-requires-clause-fits
 gather-requires-clause-fits c =

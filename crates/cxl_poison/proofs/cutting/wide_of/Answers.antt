@@ -1,10 +1,38 @@
-use Rattle.std.proofs.Common.{◌≡◌, ℕ, ◌+◌, ◌-◌, ◌*◌, List, length, Some, Option, refl, sym, ap, subst, ◌∙◌, arith}
+use Rattle.std.proofs.Common.{◌≡◌, ℕ, ◌+◌, ◌-◌, ◌*◌, ◌<◌, List, length, Some, Option, refl, sym, ap, subst, ◌∙◌, arith}
 use Rattle.std.specs.Prelude.{slice_get, IsSomeAnd}
 use Rattle.cxl_model.specs.Regions.{Carries}
 use Rattle.cxl_poison.specs.Pieces.{Cut, BeginsCut}
 use Rattle.cxl_poison.specs.inner.Cuts.{first_stretch, last_stretch, touched_cuts, stretch_cut, first_cuts}
-use Rattle.cxl_poison.proofs.Stretches.{cuts_are, count_cuts, cut_there, first_begins, last_begins}
+use Rattle.cxl_poison.proofs.Stretches.{cuts_are, count_cuts, cut_there, first_begins, last_begins, last_low, last_small}
 use Rattle.cxl_poison.proofs.cutting.wide_of.Goals as goal
+
+pub last_stretch-last-requires-clause-some : goal.last_stretch-last-requires-clause-some
+last_stretch-last-requires-clause-some c = c.requires.touched.is.some
+
+pub last_stretch-last-requires-clause-any : goal.last_stretch-last-requires-clause-any
+last_stretch-last-requires-clause-any c = c.requires.touched.any
+
+pub host_at-requires-clause-within : goal.host_at-requires-clause-within
+host_at-requires-clause-within c = omega (arith, c.requires.touched.any, c.requires.touched.is.ends)
+
+pub overflow_mul-last : goal.overflow_mul-last
+overflow_mul-last c =
+    let low = subst (λ (n : ℕ). n * c.args.touched.now.size < c.args.touched.now.end) (sym c.last_stretch-last.ensures.value) (last_low c.args.span.now c.args.touched.now c.requires.touched c.requires.many) in
+    omega (arith, low)
+
+pub host_at-requires-2-clause-within : goal.host_at-requires-2-clause-within
+host_at-requires-2-clause-within c =
+    let low = subst (λ (n : ℕ). n * c.args.touched.now.size < c.args.touched.now.end) (sym c.last_stretch-last.ensures.value) (last_low c.args.span.now c.args.touched.now c.requires.touched c.requires.many) in
+    omega (arith, low, c.requires.touched.is.ends)
+
+pub first_stretch-requires : goal.first_stretch-requires
+first_stretch-requires c = c.requires.touched.is.some
+
+pub overflow_sub-result : goal.overflow_sub-result
+overflow_sub-result c = omega (arith, c.last_stretch-last.ensures.from, c.first_stretch.ensures)
+
+pub overflow_add-result : goal.overflow_add-result
+overflow_add-result c = omega (arith, last_small c.args.span.now c.args.touched.now c.requires.touched c.requires.many, c.last_stretch-last.ensures.value)
 
 pub returns : goal.returns
 returns c = λ endpoint is.
