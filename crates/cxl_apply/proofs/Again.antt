@@ -1,8 +1,7 @@
 -- An accepted image is accepted again without a region's decoders.
-use Rattle.std.proofs.Common.{◌≡◌, ◌≢◌, ◌⊎◌, ◌↔◌, ℕ, ◌+◌, ◌<◌, ◌≤◌, Bool, true, false, List, [], ◌∷◌, length, get_or, set, map, take, drop, Option, Some, None, refl, sym, ap, ◌∙◌, subst, inl, inr, arith}
+use Rattle.std.proofs.Common.{◌≡◌, ◌≢◌, ◌⊎◌, ◌↔◌, ℕ, ◌+◌, ◌<◌, true, false, List, [], ◌∷◌, length, get_or, set, map, drop, Option, Some, None, refl, sym, ap, ◌∙◌, subst, inl, inr, arith}
 use Rattle.std.specs.Option.{option_map_or}
-use Rattle.std.specs.Prelude.{slice_get, slice_set, All, Contains, fold, position, option_map}
-use Rattle.std.specs.List.{list_any}
+use Rattle.std.specs.Prelude.{slice_get, slice_set, All, Contains, fold, option_map}
 use Rattle.std.proofs.lemmas.Bool.{cases_eq, cases_order, false≢true}
 use Rattle.std.proofs.lemmas.List.{take_all}
 use Rattle.std.proofs.lemmas.List.Elements.{All-set}
@@ -11,13 +10,13 @@ use Rattle.std.proofs.lemmas.List.Quantifiers.{position-Some}
 use Rattle.std.proofs.lemmas.Option.{slice_get-get_or, slice_get_within, get_or_from_slice_get, same_Some, none-some}
 use Rattle.cxl_regs.specs.declared.decoder.Decoder.{Decoder}
 use Rattle.cxl_regs.specs.Registers.{Registers, IsBlock, reset_decoder}
-use Rattle.cxl_regs.specs.Writes.{any_committed, with_decoder}
+use Rattle.cxl_regs.specs.Writes.{any_committed}
 use Rattle.cxl_model.specs.declared.found.Found.{Found}
 use Rattle.cxl_model.specs.declared.plan.Row.{Row}
-use Rattle.cxl_model.specs.System.{System, IsSystem, decoders_at, decoder_at}
+use Rattle.cxl_model.specs.System.{System, decoders_at, decoder_at}
 use Rattle.cxl_regs.specs.declared.reading.Range.{Range}
-use Rattle.cxl_regs.specs.Reading.{range_of, has_range}
-use Rattle.cxl_model.specs.Ranges.{serves, index_for, IsCommittedRange}
+use Rattle.cxl_regs.specs.Reading.{has_range}
+use Rattle.cxl_model.specs.Ranges.{index_for, IsCommittedRange}
 use Rattle.cxl_model.specs.Accepted.{KeepsBlocks, IsWhole, IsAccepted}
 use Rattle.cxl_model.specs.Changes.{HaveSameDecoders}
 use Rattle.cxl_model.specs.Regions.{region_range}
@@ -30,8 +29,8 @@ use Rattle.cxl_apply.proofs.JobWrites.{AllGood, all_at}
 use Rattle.cxl_apply.proofs.Bounds.{length_done}
 use Rattle.cxl_apply.proofs.BlockRules.{each_above}
 use Rattle.cxl_apply.proofs.Folds.{change, get_fold_none, get_fold_some}
-use Rattle.cxl_apply.proofs.Systems.{HasBlock, block_of, decoders_are}
-use Rattle.cxl_apply.proofs.Freed.{IsRowFor, row_parts, row_has_range, no_position, all_rows, row_there, rows_apart, rows_rise, IsLast, last_rows, InBlock, in_block, range_parts, HasRange, all_released}
+use Rattle.cxl_apply.proofs.Systems.{block_of, decoders_are}
+use Rattle.cxl_apply.proofs.Freed.{IsRowFor, row_parts, no_position, all_rows, row_there, rows_apart, rows_rise, IsLast, last_rows, InBlock, in_block, range_parts, HasRange, all_released}
 use Rattle.cxl_apply.proofs.Staying.{StaysAt, stays_keep, stays_same, release_good}
 
 -- ---- the whole release

@@ -1,23 +1,21 @@
 -- How many rows and writes a job has, and the words that it writes.
-use Rattle.std.proofs.Common.{◌≡◌, ◌≢◌, ℕ, zero, suc, ◌+◌, ◌-◌, ◌*◌, ◌%◌, ◌<◌, ◌≤◌, List, [], ◌∷◌, ◌++◌, length, get_or, set, map, take, drop, Option, Some, None, refl, sym, ap, ◌∙◌, subst, inl, inr, arith}
-use Rattle.std.specs.Prelude.{slice_get, slice_set, All, AllPairs, IsSomeAnd, fold}
+use Rattle.std.proofs.Common.{◌≡◌, ℕ, zero, suc, ◌+◌, ◌-◌, ◌*◌, ◌<◌, ◌≤◌, List, [], ◌∷◌, ◌++◌, length, get_or, map, take, drop, Option, Some, None, refl, sym, ap, ◌∙◌, subst, arith}
+use Rattle.std.specs.Prelude.{slice_get, slice_set, All, AllPairs, IsSomeAnd}
 use Rattle.std.specs.List.{flat_map}
 use Rattle.std.specs.Option.{option_map_or}
-use Rattle.std.proofs.lemmas.Bool.{cases_eq}
-use Rattle.std.proofs.lemmas.List.{length-append, length-map, length-set, take_all, take_rest, take-append-drop}
+use Rattle.std.proofs.lemmas.List.{length-append, length-set, take_all, take_rest, take-append-drop}
 use Rattle.std.proofs.lemmas.List.Elements.{All-nil, All-from_recursion, All-cons, All-head, All-tail, All-append}
 use Rattle.std.proofs.lemmas.List.Sums.{fold-append}
-use Rattle.std.proofs.lemmas.Option.{slice_get_within, slice_get-get_or, slice_get_past}
-use Rattle.cxl_regs.specs.Registers.{Registers, IsSameShape}
+use Rattle.std.proofs.lemmas.Option.{slice_get_within}
+use Rattle.cxl_regs.specs.Registers.{Registers}
 use Rattle.cxl_regs.specs.Words.{HasWord, offset_of}
 use Rattle.cxl_regs.specs.Writes.{after_word}
-use Rattle.cxl_regs.specs.Blocks.{IsPlace, blocks_after}
+use Rattle.cxl_regs.specs.Blocks.{IsPlace}
 use Rattle.cxl_model.specs.declared.plan.Row.{Row}
 use Rattle.cxl_apply.specs.declared.write.Write.{Write}
-use Rattle.cxl_apply.specs.Jobs.{word_write, commit_write, row_writes, release_write, CanCreate, CanRelease, IsTopRow, AreFalling, AreRising, blocks_after_write, blocks_after_writes, blocks_done}
+use Rattle.cxl_apply.specs.Jobs.{row_writes, release_write, CanCreate, CanRelease, IsTopRow, AreFalling, AreRising, blocks_after_write, blocks_after_writes, blocks_done}
 use Rattle.cxl_apply.specs.Steps.{HasWordsOf}
-use Rattle.cxl_apply.proofs.Places.{get_same, get_other}
-use Rattle.cxl_apply.proofs.JobWrites.{some_of, some_at, all_falling, all_rising}
+use Rattle.cxl_apply.proofs.JobWrites.{some_of, all_falling, all_rising}
 
 -- ---- how many
 

@@ -1,17 +1,17 @@
 -- Rows that each change the block of a node of their own can come in any order.
-use Rattle.std.proofs.Common.{◌≡◌, ◌≢◌, ℕ, zero, suc, ◌+◌, ◌<◌, ◌≤◌, Bool, true, false, List, [], ◌∷◌, length, get_or, set, Option, Some, None, refl, sym, ap, ◌∙◌, subst, inl, inr, eq-eqb, arith}
+use Rattle.std.proofs.Common.{◌≡◌, ◌≢◌, ℕ, zero, suc, ◌<◌, false, List, [], ◌∷◌, length, get_or, Option, Some, None, refl, sym, ap, ◌∙◌, subst, inl, inr, eq-eqb, arith}
 use Rattle.std.specs.Prelude.{slice_get, slice_set, All, Contains, fold, option_map, ◌==◌}
 use Rattle.std.specs.Option.{option_map_or}
 use Rattle.std.specs.List.{list_any}
 use Rattle.std.proofs.lemmas.Bool.{cases_Bool, eqb-true, false≢true}
-use Rattle.std.proofs.lemmas.List.Elements.{All-head, All-tail, Contains-get_or}
+use Rattle.std.proofs.lemmas.List.Elements.{All-tail, Contains-get_or}
 use Rattle.std.proofs.lemmas.List.Folds.{list_any_at, Any-from_list_any}
 use Rattle.std.proofs.lemmas.Option.{slice_get_within, none-some, same_Some}
 use Rattle.cxl_regs.specs.Registers.{Registers}
 use Rattle.cxl_model.specs.declared.plan.Row.{Row}
 use Rattle.cxl_apply.specs.Jobs.{AreOfDifferentNodes}
 use Rattle.cxl_apply.proofs.Places.{get_same, get_other}
-use Rattle.cxl_apply.proofs.JobWrites.{StandElsewhere, elsewhere, apart_rest}
+use Rattle.cxl_apply.proofs.JobWrites.{elsewhere, apart_rest}
 
 -- the block of a row's node is changed
 abbrev pub change : (Row → Registers → Registers) → List Registers → Row → List Registers

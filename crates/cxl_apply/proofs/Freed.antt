@@ -1,17 +1,17 @@
 -- The decoders of a region can be released, and the writes of its release leave the image without them.
-use Rattle.std.proofs.Common.{◌≡◌, ◌≢◌, ℕ, zero, suc, ◌+◌, ◌<◌, ◌≤◌, Bool, true, false, cond, not, ◌&&◌, List, [], ◌∷◌, ◌++◌, length, get_or, set, map, drop, Option, Some, None, refl, sym, ap, ◌∙◌, subst, inl, inr, arith}
-use Rattle.std.specs.Prelude.{slice_get, slice_set, All, AllPairs, Contains, IsSomeAnd, fold, find, position, option_map, option_and_then, ◌==◌}
+use Rattle.std.proofs.Common.{◌≡◌, ℕ, zero, suc, ◌+◌, ◌<◌, ◌≤◌, Bool, true, false, ◌&&◌, List, [], ◌∷◌, length, get_or, set, map, drop, Option, Some, None, refl, sym, ap, ◌∙◌, subst, inl, inr, arith}
+use Rattle.std.specs.Prelude.{slice_get, slice_set, All, AllPairs, Contains, fold, find, position, option_map, option_and_then, ◌==◌}
 use Rattle.std.specs.Option.{option_map_or}
 use Rattle.std.specs.List.{filter_map, cons_option, range_with_len, position_or_len}
-use Rattle.std.proofs.lemmas.Bool.{cases_Bool, cases_lt, cases_eq, eqb-true, and_parts, cond-true, cond-false, lt-ltb, false≢true, false_from_ne_true}
+use Rattle.std.proofs.lemmas.Bool.{cases_Bool, cases_lt, cases_eq, eqb-true, and_parts, cond-true, cond-false, lt-ltb, false≢true}
 use Rattle.std.proofs.lemmas.List.Elements.{All-nil, All-cons, All-head, All-tail, Contains-append_right}
 use Rattle.std.proofs.lemmas.List.Quantifiers.{position-Some}
-use Rattle.std.proofs.lemmas.List.Sums.{fold-append, fails_before_first}
-use Rattle.std.proofs.lemmas.Option.{slice_get-get_or, slice_get_within, get_or_from_slice_get, same_Some, none-some}
+use Rattle.std.proofs.lemmas.List.Sums.{fails_before_first}
+use Rattle.std.proofs.lemmas.Option.{slice_get_within, get_or_from_slice_get, same_Some, none-some}
 use Rattle.cxl_regs.specs.declared.decoder.Decoder.{Decoder}
 use Rattle.cxl_regs.specs.Registers.{Registers, IsBlock}
 use Rattle.cxl_regs.specs.Rules.{first_broken_rule}
-use Rattle.cxl_regs.specs.Writes.{any_committed, with_decoder}
+use Rattle.cxl_regs.specs.Writes.{any_committed}
 use Rattle.cxl_model.specs.declared.found.Found.{Found}
 use Rattle.cxl_model.specs.declared.plan.Row.{Row}
 use Rattle.cxl_model.specs.System.{System, decoders_at, decoder_at, ram_at, pmem_at}
@@ -22,14 +22,13 @@ use Rattle.cxl_model.specs.Accepted.{KeepsBlocks}
 use Rattle.cxl_model.specs.Regions.{region_range}
 use Rattle.cxl_apply.specs.declared.write.Write.{Write}
 use Rattle.cxl_apply.specs.Jobs.{release_write, CanRelease, AreOfDifferentNodes, AreReleaseWrites, blocks_after_write, blocks_after_writes}
-use Rattle.cxl_apply.specs.Releases.{row_for, rows_of, first_locked, first_not_last, released, block_without_row, blocks_without_row, blocks_without}
-use Rattle.cxl_apply.proofs.Places.{IsThere}
+use Rattle.cxl_apply.specs.Releases.{row_for, rows_of, first_locked, first_not_last, block_without_row, blocks_without}
 use Rattle.cxl_apply.proofs.Words.{WordsLaw}
-use Rattle.cxl_apply.proofs.RowWrites.{IsBound, let_go, release_leads}
+use Rattle.cxl_apply.proofs.RowWrites.{IsBound, release_leads}
 use Rattle.cxl_apply.proofs.JobWrites.{AreUntouched, bound_of, bound_in, apart_rest, untouched_rest, all_rising, rising_apart}
 use Rattle.cxl_apply.proofs.BlockRules.{set_flags, kept_at, no_rule, each_above}
 use Rattle.cxl_apply.proofs.Folds.{change, fold_order}
-use Rattle.cxl_apply.proofs.Systems.{HasBlock, block_of, block_keeps}
+use Rattle.cxl_apply.proofs.Systems.{block_of, block_keeps}
 use Rattle.cxl_apply.proofs.Planned.{some_and}
 
 -- ---- the rows of a range

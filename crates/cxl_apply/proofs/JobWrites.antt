@@ -1,12 +1,11 @@
 -- All writes of a job, forth and back.
-use Rattle.std.proofs.Common.{◌≡◌, ◌≢◌, ℕ, zero, suc, ◌+◌, ◌-◌, ◌%◌, ◌^◌, ◌<◌, ◌≤◌, Bool, true, false, List, [], ◌∷◌, ◌++◌, length, get_or, set, map, drop, Option, Some, None, refl, sym, ap, ◌∙◌, subst, inl, inr, arith}
-use Rattle.std.specs.Prelude.{slice_get, All, AllPairs, Contains, IsSomeAnd, fold}
+use Rattle.std.proofs.Common.{◌≡◌, ◌≢◌, ℕ, zero, suc, ◌+◌, ◌-◌, ◌<◌, Bool, false, List, [], ◌∷◌, length, get_or, set, map, drop, Option, Some, None, refl, sym, ◌∙◌, subst, inl, inr, arith}
+use Rattle.std.specs.Prelude.{slice_get, All, IsSomeAnd}
 use Rattle.std.specs.List.{flat_map}
 use Rattle.std.proofs.lemmas.Bool.{cases_eq}
 use Rattle.std.proofs.lemmas.List.{get_or-drop, length-drop}
 use Rattle.std.proofs.lemmas.List.Elements.{All-head, All-tail, All-contains, Contains-get_or}
 use Rattle.std.proofs.lemmas.List.Folds.{list_any_none}
-use Rattle.std.proofs.lemmas.List.Sums.{fold-append}
 use Rattle.std.proofs.lemmas.Option.{slice_get_within, slice_get-get_or, get_or_from_slice_get, same_Some}
 use Rattle.cxl_regs.specs.declared.decoder.Decoder.{Decoder}
 use Rattle.cxl_regs.specs.Registers.{Registers, IsDecoder, IsBlock}
@@ -14,8 +13,8 @@ use Rattle.cxl_regs.specs.Rules.{first_broken_rule}
 use Rattle.cxl_regs.specs.Writes.{any_committed, with_decoder}
 use Rattle.cxl_model.specs.declared.plan.Row.{Row}
 use Rattle.cxl_apply.specs.declared.write.Write.{Write}
-use Rattle.cxl_apply.specs.Jobs.{unmarked, with_commit, row_writes, release_write, HasWords, IsTopRow, CanCreate, CanRelease, AreOfDifferentNodes, AreFalling, AreRising, AreCreateWrites, AreReleaseWrites, AreTakenBack, blocks_after_write, blocks_after_writes}
-use Rattle.cxl_apply.proofs.Places.{get_same, get_other, IsThere, put}
+use Rattle.cxl_apply.specs.Jobs.{unmarked, with_commit, row_writes, release_write, HasWords, CanCreate, CanRelease, AreOfDifferentNodes, AreFalling, AreRising, AreCreateWrites, AreReleaseWrites, AreTakenBack}
+use Rattle.cxl_apply.proofs.Places.{get_same, get_other}
 use Rattle.cxl_apply.proofs.Words.{ControlReads, WordsLaw, control_reads}
 use Rattle.cxl_apply.proofs.Walks.{Walks, Leads, walks_append, taken_back}
 use Rattle.cxl_apply.proofs.RowWrites.{IsFree, HoldsOnWay, made8, row_leads, IsBound, let_go, release_leads}

@@ -17,3 +17,4 @@ pub mod BetweenWrites
 pub mod FewWrites
 pub mod Again
 pub mod After
+pub mod OneStep

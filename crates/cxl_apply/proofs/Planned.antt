@@ -1,20 +1,19 @@
 -- The rows of a legal plan can be made, and their writes commit them.
-use Rattle.std.proofs.Common.{◌≡◌, ◌≢◌, ℕ, zero, suc, ◌+◌, ◌%◌, ◌^◌, ◌<◌, ◌≤◌, Bool, true, false, cond, not, List, [], ◌∷◌, ◌++◌, length, get_or, set, Option, Some, None, refl, sym, ap, ◌∙◌, subst, arith}
-use Rattle.std.specs.Prelude.{slice_get, slice_set, All, Contains, IsSomeAnd, fold, position, option_map}
+use Rattle.std.proofs.Common.{◌≡◌, ℕ, zero, ◌%◌, ◌^◌, ◌<◌, Bool, true, false, cond, not, List, [], ◌∷◌, length, get_or, set, Option, Some, None, refl, sym, ap, ◌∙◌, subst, arith}
+use Rattle.std.specs.Prelude.{slice_get, slice_set, All, Contains, IsSomeAnd, fold, option_map}
 use Rattle.std.specs.Option.{option_map_or}
 use Rattle.std.specs.List.{flat_map}
 use Rattle.std.proofs.lemmas.Bool.{not-true}
 use Rattle.std.proofs.lemmas.List.Elements.{All-head, All-tail, All-contains, Contains-get_or}
 use Rattle.std.proofs.lemmas.List.Quantifiers.{position-Some}
 use Rattle.std.proofs.lemmas.List.Sums.{fold-append}
-use Rattle.std.proofs.lemmas.Option.{slice_get-get_or, slice_get_within, same_Some}
-use Rattle.cxl_topo.specs.Tree.{is_endpoint_at}
+use Rattle.std.proofs.lemmas.Option.{slice_get-get_or, slice_get_within}
 use Rattle.cxl_regs.specs.declared.decoder.Decoder.{Decoder}
 use Rattle.cxl_regs.specs.declared.effect.CommitRule.{CommitRule}
 use Rattle.cxl_regs.specs.Registers.{Registers, IsDecoder, IsBlock, reset_decoder}
 use Rattle.cxl_image.specs.Images.{HasCapsOf}
 use Rattle.cxl_regs.specs.Words.{low_half, high_half, top_bits}
-use Rattle.cxl_regs.specs.Rules.{first_broken_rule, before}
+use Rattle.cxl_regs.specs.Rules.{first_broken_rule}
 use Rattle.cxl_regs.specs.Writes.{with_decoder, with_low, with_high}
 use Rattle.cxl_model.specs.declared.plan.Row.{Row}
 use Rattle.cxl_model.specs.declared.plan.Plan.{Plan}
@@ -23,17 +22,17 @@ use Rattle.cxl_model.specs.System.{System, IsSystem, decoders_at, ram_at, pmem_a
 use Rattle.cxl_regs.specs.declared.reading.Range.{Range}
 use Rattle.cxl_model.specs.Accepted.{KeepsBlocks, IsAccepted}
 use Rattle.cxl_model.specs.Regions.{region_range}
-use Rattle.cxl_model.specs.Plans.{committed_row, block_with_row, blocks_with_row, with_rows, IsRow, IsLegalPlan}
+use Rattle.cxl_model.specs.Plans.{committed_row, block_with_row, with_rows, IsRow, IsLegalPlan}
 use Rattle.cxl_span.specs.Breaches.{BlockKeeps}
 use Rattle.cxl_apply.specs.declared.write.Write.{Write}
-use Rattle.cxl_apply.specs.Jobs.{row_writes, CanCreate, AreOfDifferentNodes, AreCreateWrites, HasWords, blocks_after_write, blocks_after_writes}
-use Rattle.cxl_apply.proofs.Places.{IsThere, put, get_same}
+use Rattle.cxl_apply.specs.Jobs.{row_writes, CanCreate, AreOfDifferentNodes, AreCreateWrites, blocks_after_write, blocks_after_writes}
+use Rattle.cxl_apply.proofs.Places.{get_same}
 use Rattle.cxl_apply.proofs.Words.{WordsLaw, takes_words, takes_all_words}
-use Rattle.cxl_apply.proofs.RowWrites.{IsFree, HoldsOnWay, made7, made8, broken, tried, row_leads}
+use Rattle.cxl_apply.proofs.RowWrites.{IsFree, made7, made8, broken, tried, row_leads}
 use Rattle.cxl_apply.proofs.JobWrites.{AreUntouched, free_of, free_in, apart_rest, untouched_rest, all_at, all_falling, falling_apart}
 use Rattle.cxl_apply.proofs.BlockRules.{FirstLaw, clean_flags, kept_at, no_rule, none_above_free, same_before}
 use Rattle.cxl_apply.proofs.Folds.{change, get_fold_some, fold_order}
-use Rattle.cxl_apply.proofs.Systems.{HasBlock, block_of, decoders_are, endpoint_is, block_keeps}
+use Rattle.cxl_apply.proofs.Systems.{HasBlock, block_of, endpoint_is, block_keeps}
 
 -- ---- a row of a plan
 

@@ -1,6 +1,6 @@
 -- The writes of one row, forth and back.
-use Rattle.std.proofs.Common.{◌≡◌, ◌≢◌, ℕ, zero, suc, ◌+◌, ◌-◌, ◌*◌, ◌/◌, ◌%◌, ◌^◌, ◌<◌, ◌≤◌, Bool, true, false, cond, not, List, [], ◌∷◌, ◌++◌, length, get_or, set, drop, Option, Some, None, refl, sym, ap, ◌∙◌, subst, inl, inr, eq-eqb, arith}
-use Rattle.std.specs.Prelude.{slice_get, slice_set, slice_index, nat_lt, ◌==◌, unwrap_or}
+use Rattle.std.proofs.Common.{◌≡◌, ℕ, ◌+◌, ◌-◌, ◌%◌, ◌^◌, ◌<◌, ◌≤◌, Bool, true, false, cond, List, [], ◌∷◌, set, drop, Option, Some, None, refl, sym, ap, ◌∙◌, subst, inl, inr, eq-eqb, arith}
+use Rattle.std.specs.Prelude.{slice_get, slice_index, nat_lt, ◌==◌, unwrap_or}
 use Rattle.std.proofs.lemmas.Bool.{le-ltb, cases_eq}
 use Rattle.std.proofs.lemmas.List.{drop-set-lt}
 use Rattle.cxl_regs.specs.declared.decoder.Decoder.{Decoder}
@@ -10,13 +10,13 @@ use Rattle.cxl_regs.specs.declared.effect.Effect.TheVariants.{Written, Committed
 use Rattle.cxl_regs.specs.Registers.{Registers, IsDecoder}
 use Rattle.cxl_regs.specs.Words.{words_of, control_of, low_half, high_half, top_bits, word_at, index_at, place_at, offset_of}
 use Rattle.cxl_regs.specs.Rules.{first_broken_rule, before}
-use Rattle.cxl_regs.specs.Writes.{AfterWrite, with_decoder, with_low, with_word, any_committed, after_commit, after_decoder}
-use Rattle.cxl_regs.specs.Blocks.{word_in, blocks_after}
+use Rattle.cxl_regs.specs.Writes.{with_decoder, with_low, with_word, any_committed, after_commit, after_decoder}
+use Rattle.cxl_regs.specs.Blocks.{word_in}
 use Rattle.cxl_model.specs.declared.plan.Row.{Row}
 use Rattle.cxl_apply.specs.declared.write.Write.{Write}
 use Rattle.cxl_apply.specs.Jobs.{unmarked, with_commit, word_write, commit_write, row_writes, release_write, HasWords}
-use Rattle.cxl_apply.proofs.Places.{get_same, get_other, IsThere, put, same_put, put_step}
-use Rattle.cxl_apply.proofs.Words.{takes_words, takes_all_words, low_back, low_back_whole, high_back, ControlReads, configured, word_put, control_put, commit_put, release_put}
+use Rattle.cxl_apply.proofs.Places.{get_other, IsThere, put, same_put, put_step}
+use Rattle.cxl_apply.proofs.Words.{low_back, low_back_whole, high_back, ControlReads, configured, word_put, control_put, commit_put, release_put}
 use Rattle.cxl_apply.proofs.Walks.{Leads, leads_none, leads_more}
 
 -- ---- words that are read

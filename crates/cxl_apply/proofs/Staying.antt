@@ -1,9 +1,8 @@
 -- Between two writes of a job the rules K1 to K8 hold, and the decoders of every other range are as they were.
-use Rattle.std.proofs.Common.{◌≡◌, ◌≢◌, ℕ, zero, suc, ◌+◌, ◌<◌, ◌≤◌, Bool, true, false, List, [], ◌∷◌, ◌++◌, length, get_or, set, map, drop, Option, Some, None, refl, sym, ap, ◌∙◌, subst, inl, inr, arith}
+use Rattle.std.proofs.Common.{◌≡◌, ◌≢◌, ℕ, ◌+◌, ◌<◌, ◌≤◌, true, false, List, length, get_or, set, drop, Option, Some, None, refl, sym, ap, ◌∙◌, subst, inl, inr, arith}
 use Rattle.std.specs.Prelude.{slice_get, All, Contains, option_map}
-use Rattle.std.specs.List.{flat_map}
 use Rattle.std.proofs.lemmas.Bool.{cases_order, false≢true}
-use Rattle.std.proofs.lemmas.List.Elements.{Contains-get_or, All-contains}
+use Rattle.std.proofs.lemmas.List.Elements.{Contains-get_or}
 use Rattle.std.proofs.lemmas.Option.{slice_get_within, same_Some, none-some}
 use Rattle.cxl_regs.specs.declared.decoder.Decoder.{Decoder}
 use Rattle.cxl_regs.specs.Registers.{Registers, IsBlock}
@@ -11,22 +10,21 @@ use Rattle.cxl_regs.specs.Writes.{any_committed, with_decoder}
 use Rattle.cxl_span.specs.Breaches.{BlockKeeps}
 use Rattle.cxl_model.specs.declared.found.Found.{Found}
 use Rattle.cxl_model.specs.declared.plan.Row.{Row}
-use Rattle.cxl_model.specs.System.{System, decoders_at, decoder_at, ram_at, pmem_at}
+use Rattle.cxl_model.specs.System.{System, decoders_at, ram_at, pmem_at}
 use Rattle.cxl_regs.specs.declared.reading.Range.{Range}
-use Rattle.cxl_regs.specs.Reading.{range_of, has_range}
+use Rattle.cxl_regs.specs.Reading.{range_of}
 use Rattle.cxl_model.specs.Accepted.{KeepsBlocks}
 use Rattle.cxl_model.specs.Changes.{HaveSameDecoders}
 use Rattle.cxl_model.specs.Plans.{committed_row}
 use Rattle.cxl_model.specs.Regions.{region_range}
 use Rattle.cxl_apply.specs.declared.write.Write.{Write}
-use Rattle.cxl_apply.specs.Jobs.{row_writes, release_write, CanCreate, CanRelease, AreCreateWrites, AreReleaseWrites, blocks_done, system_done}
+use Rattle.cxl_apply.specs.Jobs.{CanCreate, CanRelease, AreCreateWrites, AreReleaseWrites, blocks_done}
 use Rattle.cxl_apply.specs.Releases.{rows_of, first_locked, first_not_last}
 use Rattle.cxl_apply.proofs.Places.{get_same, get_other}
 use Rattle.cxl_apply.proofs.Words.{WordsLaw}
 use Rattle.cxl_apply.proofs.Walks.{Walks, holds_at}
-use Rattle.cxl_apply.proofs.RowWrites.{IsFree, IsBound, let_go, made8}
+use Rattle.cxl_apply.proofs.RowWrites.{let_go, made8}
 use Rattle.cxl_apply.proofs.JobWrites.{AllGood, FitsCreate, FitsRelease, create_walks, release_walks, all_falling, falling_apart, all_rising, rising_apart}
-use Rattle.cxl_apply.proofs.Bounds.{length_done}
 use Rattle.cxl_apply.proofs.BlockRules.{FirstLaw, each_above, clean_keeps}
 use Rattle.cxl_apply.proofs.Systems.{block_of, decoders_are, block_keeps, some_within, keeps_again}
 use Rattle.cxl_apply.proofs.Planned.{Planned, all_can, row_commits, with_row_keeps}

@@ -1,16 +1,14 @@
 -- The words of a decoder, one after the other, and back.
-use Rattle.std.proofs.Common.{◌≡◌, ◌≢◌, ℕ, ◌+◌, ◌-◌, ◌*◌, ◌/◌, ◌%◌, ◌^◌, ◌<◌, ◌≤◌, Bool, true, false, cond, not, ◌||◌, List, [], ◌∷◌, length, get_or, set, drop, Option, Some, None, refl, sym, ap, ◌∙◌, subst, eq-eqb, arith}
-use Rattle.std.specs.Prelude.{slice_get, slice_set, slice_index, ◌==◌}
+use Rattle.std.proofs.Common.{◌≡◌, ℕ, ◌+◌, ◌/◌, ◌%◌, ◌^◌, ◌<◌, Bool, true, false, set, drop, refl, ap, ◌∙◌, arith}
+use Rattle.std.specs.Prelude.{◌==◌}
 use Rattle.std.proofs.lemmas.Bool.{cond-true, cond-false}
 use Rattle.cxl_regs.specs.declared.decoder.Decoder.{Decoder}
-use Rattle.cxl_regs.specs.declared.effect.CommitRule.{CommitRule}
-use Rattle.cxl_regs.specs.declared.effect.Effect.{Effect}
-use Rattle.cxl_regs.specs.declared.effect.Effect.TheVariants.{Written, Committed, Released, NotCommitted}
-use Rattle.cxl_regs.specs.Registers.{Registers, IsDecoder, IsAligned}
+use Rattle.cxl_regs.specs.declared.effect.Effect.TheVariants.{Written, Released}
+use Rattle.cxl_regs.specs.Registers.{Registers, IsDecoder}
 use Rattle.cxl_regs.specs.Words.{has_bit, words_of, control_of, decoder_of, top_bits, low_half, high_half}
 use Rattle.cxl_regs.specs.Rules.{first_broken_rule}
-use Rattle.cxl_regs.specs.Writes.{AfterWrite, with_decoder, with_low, with_high, with_word, with_control, any_committed, after_decoder, after_commit, after_control, after_release}
-use Rattle.cxl_apply.specs.Jobs.{unmarked, with_commit, HasWords}
+use Rattle.cxl_regs.specs.Writes.{with_decoder, with_low, with_high, with_word, with_control, any_committed, after_decoder, after_commit, after_control, after_release}
+use Rattle.cxl_apply.specs.Jobs.{HasWords}
 
 -- ---- numbers of two words
 

@@ -7,13 +7,13 @@ ghost use Rattle.cxl_apply.specs.Steps.{HasWordsOf, MakesWrite, TakesBack, IsAsB
 ghost use Rattle.cxl_apply.specs.WordsSent.{words_made, words_taken_back};
 
 use crate::laws::writes_are_taken_back;
-use crate::rows::{falling, release_write, rising, row_writes};
+use crate::rows::{create_writes, falling, release_writes, rising};
 use crate::write::{Stepped, Write};
 use cxl_bus::Regs;
 use cxl_enc::Failed;
 use cxl_image::Image;
 use cxl_model::{Memory, Row};
-use cxl_regs::write_laws;
+use cxl_regs::writes_keep_places;
 use std::alloc::Global;
 use std::marker::Model;
 
@@ -50,10 +50,7 @@ impl Job {
         // No node stands twice.
         let few = rows.len() <= image.count() as usize;
         prove!(few);
-        let mut writes = Vec::with_capacity(alloc, 8 * rows.len())?;
-        for row in &rows {
-            writes.extend_from_slice(&row_writes(image, row))?;
-        }
+        let writes = create_writes(alloc, image, &rows)?;
         Ok(Job { writes, done: 0 })
     }
 
@@ -71,10 +68,7 @@ impl Job {
         // No node stands twice.
         let few = rows.len() <= image.count() as usize;
         prove!(few);
-        let mut writes = Vec::with_capacity(alloc, rows.len())?;
-        for row in &rows {
-            writes.push(release_write(image, row))?;
-        }
+        let writes = release_writes(alloc, image, &rows)?;
         Ok(Job { writes, done: 0 })
     }
 
@@ -115,7 +109,7 @@ impl Job {
         ensures kept_words { HasWordsOf image.new self.new.writes }
         ensures kept_same { (R.state regs.new).blocks ≡ image.new }
     {
-        write_laws();
+        writes_keep_places();
         let write = self.writes[self.done];
         if regs.write32(write.node, write.off, write.value).is_err() {
             return Stepped::BusFault;
@@ -152,7 +146,7 @@ impl Job {
         ensures kept_words { HasWordsOf image.new self.new.writes }
         ensures kept_same { (R.state regs.new).blocks ≡ image.new }
     {
-        write_laws();
+        writes_keep_places();
         let write = self.writes[self.done - 1];
         if regs.write32(write.node, write.off, write.back).is_err() {
             return Stepped::BusFault;

@@ -27,6 +27,7 @@ use Rattle.cxl_model.specs.Counts.{is_endpoint_of, endpoints_of}
 use Rattle.cxl_model.specs.Listed.{AreRegionsByBase}
 use Rattle.cxl_check.specs.declared.firsts.RangeKey.{RangeKey}
 use Rattle.cxl_check.specs.inner.Firsts.{key_cmp, range_at, ListsFirsts}
+use Rattle.cxl_check.specs.inner.Listing.{AreListed, IsWholeKey}
 use Rattle.cxl_check.proofs.Kept.{kept_block}
 use Rattle.cxl_check.proofs.Keys.{lookup_place, mapped_at, filter_none, same_key, key_rises}
 use Rattle.cxl_check.proofs.Numbers.{found}
@@ -48,12 +49,7 @@ SharesNoByte =
 abbrev pub HasBytes : Type 0
 HasBytes = (block : Registers) (ram pmem i : ℕ) (d : Decoder) → BlockKeeps block ram pmem → slice_get block.decoders i ≡ Some d → d.committed ≡ true → 0 < d.size
 
--- ---- so far
-
--- the first regions are those of the first keys
-pub record AreListed (s : System) (keys : List RangeKey) (regions : List Found) : Type 0 where
-  pub ranges : map region_range regions ≡ map range_at keys
-  pub each : All (IsRegion s) regions
+-- ---- the keys
 
 module _ (s : System) (ready : IsOrderlySystem s) (accepted : IsAccepted s) (firsts : BTreeMap RangeKey ℕ) (listed : ListsFirsts s (length s.nodes) firsts) (wholes : WholesAreAccepted) where
   key_found : (key : RangeKey) → ContainsKey key_cmp firsts key → (n : ℕ) × (get key_cmp firsts key ≡ Some n)
@@ -64,14 +60,17 @@ module _ (s : System) (ready : IsOrderlySystem s) (accepted : IsAccepted s) (fir
       go (Some n) e h = (n, e)
 
   -- the range of a key is one of the image
-  pub committed_at : (key : RangeKey) → ContainsKey key_cmp firsts key → IsCommittedRange s (range_at key)
+  committed_at : (key : RangeKey) → ContainsKey key_cmp firsts key → IsCommittedRange s (range_at key)
   committed_at key there =
       let first = key_found key there in
       let endpoint = found (λ (n : ℕ). is_endpoint_at s.nodes n && serves s (range_at key) n) (length s.nodes) first.0 (sym (listed key) ∙ first.1) in
       (first.0, (and_parts (is_endpoint_at s.nodes first.0) (serves s (range_at key) first.0) endpoint.1).1)
 
-  pub whole_at : (r : Range) → IsCommittedRange s r → IsWhole s r
-  whole_at r committed = ((wholes s).0 accepted).1 r committed
+  -- and each committed range is whole
+  pub whole_keys : All (ContainsKey key_cmp firsts) (keys firsts) → All (IsWholeKey s) (keys firsts)
+  whole_keys found k none below =
+      let committed = committed_at (get_or (keys firsts) k none) (found k none below) in
+      record { committed = committed; whole = ((wholes s).0 accepted).1 (range_at (get_or (keys firsts) k none)) committed }
 
 -- ---- one more
 

@@ -1,11 +1,11 @@
 -- First places, and tests that go over a list from a place on.
-use Rattle.std.proofs.Common.{◌≡◌, ℕ, suc, ◌+◌, ◌-◌, ◌<◌, ◌≤◌, Bool, true, false, List, [], ◌∷◌, length, get_or, map, Option, Some, None, refl, sym, ap, ◌∙◌, inl, inr, arith}
+use Rattle.std.proofs.Common.{◌≡◌, ℕ, suc, ◌+◌, ◌-◌, ◌<◌, ◌≤◌, Bool, true, false, List, [], ◌∷◌, length, get_or, map, take, Option, Some, None, refl, sym, ap, ◌∙◌, inl, inr, arith}
 use Rattle.std.specs.Prelude.{slice_get, position, find, is_some}
 use Rattle.std.specs.Option.{option_and_then, option_map_or}
 use Rattle.std.specs.List.{list_any, list_all, range_with_len, position_or_len}
 use Rattle.std.proofs.lemmas.Bool.{cases_Bool, cases_lt, lt-ltb, le-ltb, false≢true}
 use Rattle.std.proofs.lemmas.List.Sums.{position_or_len_is, passes_at_first, fails_before_first}
-use Rattle.std.proofs.lemmas.List.Folds.{find_at, list_any_at, list_any_none}
+use Rattle.std.proofs.lemmas.List.Folds.{find_at, list_any_at, list_any_none, list_all_more}
 use Rattle.std.proofs.lemmas.List.Quantifiers.{position-Some}
 use Rattle.std.proofs.lemmas.Option.{none-some, same_Some, slice_get_within, slice_get_past, slice_get-get_or, get_or_from_slice_get}
 
@@ -86,6 +86,10 @@ module _ {X : Type 0} (p : X → Bool) where
 
   pub list_any_no : (xs : List X) → ((k : ℕ) (y : X) → slice_get xs k ≡ Some y → p y ≡ false) → list_any p xs ≡ false
   list_any_no xs none = list_any_none p xs (λ k d below. none k (get_or xs k d) (slice_get-get_or xs k d below))
+
+  -- all items up to the next place pass
+  pub all_more : (xs : List X) (i : ℕ) (d : X) → i < length xs → list_all p (take i xs) ≡ true → p (get_or xs i d) ≡ true → list_all p (take (i + 1) xs) ≡ true
+  all_more xs i d below before here = list_all_more p xs i d below ∙ rw (before, here) refl
 
   -- none below the next place
   pub none_more : (xs : List X) (i : ℕ) (x : X) → slice_get xs i ≡ Some x → p x ≡ false → ((k : ℕ) (y : X) → k < i → slice_get xs k ≡ Some y → p y ≡ false)

@@ -13,6 +13,7 @@ use Rattle.cxl_model.specs.System.{System, IsSystem}
 use Rattle.cxl_model.specs.Ranges.{IsCommittedRange, window_for, range_ways}
 use Rattle.cxl_model.specs.Accepted.{IsWhole}
 use Rattle.cxl_model.specs.Regions.{region_range, HasSpan, IsRegionIn}
+use Rattle.cxl_check.specs.inner.Listing.{AreSpans}
 use Rattle.cxl_check.proofs.Kept.{item}
 
 -- the item at a place of a list with one more
@@ -22,11 +23,6 @@ pushed_at [] x zero y is P each last = subst (P 0) (same_Some x y is) last
 pushed_at [] x (suc k) y is P each last = absurd (none-some y is)
 pushed_at (z ∷ xs) x zero y is P each last = each 0 y is
 pushed_at (z ∷ xs) x (suc k) y is P each last = pushed_at xs x k y is (λ j. P (suc j)) (λ j v at. each (suc j) v at) last
-
--- the spans of the first slots
-pub record AreSpans (s : System) (w : WindowFields) (r : Range) (n : ℕ) (spans : List Place) : Type 0 where
-  pub count : length spans ≡ n
-  pub each : (slot : ℕ) (place : Place) → slice_get spans slot ≡ Some place → HasSpan s w r slot place
 
 pub no_spans : (s : System) (w : WindowFields) (r : Range) → AreSpans s w r 0 []
 no_spans s w r = record { count = refl; each = λ slot place is. absurd (none-some place is) }

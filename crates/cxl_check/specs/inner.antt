@@ -8,3 +8,4 @@ pub mod Firsts
 pub mod Facts
 pub mod Known
 pub mod Slots
+pub mod Listing

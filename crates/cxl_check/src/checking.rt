@@ -1,21 +1,20 @@
-ghost use Rattle.std.specs.Prelude.{◌≡◌, length, IsErr, OnOk, IfOk, IfErr, IfSome, IfNone};
+ghost use Rattle.std.specs.Prelude.{◌≡◌, length, All, IsErr, OnOk, IfOk, IfErr, IfSome, IfNone};
 ghost use Rattle.cxl_window.specs.Windows.{AreMadeWith};
 ghost use Rattle.cxl_model.specs.Hosts.{as_system};
 ghost use Rattle.cxl_model.specs.System.{system_of, bridge_uids};
 ghost use Rattle.cxl_model.specs.Accepted.{IsAccepted, IsFirstBreach, HasFirstBreach, IsOrderlySystem};
 ghost use Rattle.cxl_model.specs.Listed.{AreRegionsByBase};
 ghost use Rattle.cxl_check.specs.Spots.{TellsFirstBreach};
+ghost use Rattle.cxl_check.specs.inner.Facts.{AreSystemTables};
+ghost use Rattle.cxl_check.specs.inner.Known.{IsKnown};
 
 use crate::blocks::blocks_breach;
 use crate::caps::caps_breach;
-use crate::children::all_children;
 use crate::fault::{Breach, CheckFault};
-use crate::firsts::first_endpoints;
-use crate::known::none_met;
-use crate::landings::landings;
+use crate::known::{Known, none_met};
 use crate::ranges::ranges_breach;
 use crate::regions::regions;
-use crate::tables::Tables;
+use crate::tables::{Tables, tables_of};
 use cxl_image::Image;
 use cxl_model::{Found, Host, accepted_or_breach, hosts_with_caps_are_systems};
 use cxl_topo::Topo;
@@ -47,19 +46,42 @@ pub fn check(
         topo,
         windows,
     };
-    if let Some(breach) = early_breach(&host) {
+    match early_breach(&host) {
+        Some(breach) => Err(CheckFault::Breach(breach)),
+        None => check_ranges(alloc, &host),
+    }
+}
+
+/// The same of an image that keeps K1 to K8. Takes memory.
+fn check_ranges(alloc: Global, host: &Host) -> Result<Vec<Found>, CheckFault>
+    requires ready { IsOrderlySystem (as_system host.now) }
+    ensures accepted { OnOk result (IsAccepted (as_system host.now)) }
+    ensures regions { IfOk result (λ regions. AreRegionsByBase (as_system host.now) regions.items) }
+    ensures breach { IfErr result (TellsFirstBreach (as_system host.now)) }
+{
+    let tables = tables_of(alloc, host)?;
+    let mut met = none_met(alloc, host, &tables.firsts)?;
+    regions_or_breach(alloc, &mut met, host, &tables)
+}
+
+/// The same by the tables of the image. Takes memory.
+fn regions_or_breach(
+    alloc: Global,
+    met: &mut Vec<Known>,
+    host: &Host,
+    tables: &Tables,
+) -> Result<Vec<Found>, CheckFault>
+    requires met { All (IsKnown (as_system host.now)) met.old.items }
+    requires ready { IsOrderlySystem (as_system host.now) }
+    requires tables { AreSystemTables (as_system host.now) tables.now }
+    ensures accepted { OnOk result (IsAccepted (as_system host.now)) }
+    ensures regions { IfOk result (λ regions. AreRegionsByBase (as_system host.now) regions.items) }
+    ensures breach { IfErr result (TellsFirstBreach (as_system host.now)) }
+{
+    if let Some(breach) = ranges_breach(met, host, tables) {
         return Err(CheckFault::Breach(breach));
     }
-    let tables = Tables {
-        children: all_children(alloc, topo)?,
-        landings: landings(alloc, topo)?,
-        firsts: first_endpoints(alloc, &host)?,
-    };
-    let mut met = none_met(alloc, &host, &tables.firsts)?;
-    if let Some(breach) = ranges_breach(&mut met, &host, &tables) {
-        return Err(CheckFault::Breach(breach));
-    }
-    Ok(regions(alloc, &mut met, &host, &tables)?)
+    Ok(regions(alloc, met, host, tables)?)
 }
 
 /// The first breach of K1 to K8, which speak of blocks alone.

@@ -41,11 +41,7 @@ pub(crate) fn none_met(
 {
     let known = learn(host, firsts, &Range { base: 0, size: 0 });
     let count = firsts.len() | 1;
-    let mut met = Vec::with_capacity(alloc, count)?;
-    for _ in 0..count {
-        met.push(known)?;
-    }
-    Ok(met)
+    vec![in alloc; known; count]
 }
 
 /// What is known of a range, which is then the last one met at its place.

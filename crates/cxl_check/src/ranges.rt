@@ -79,16 +79,35 @@ fn least_broken(
         return None;
     }
     let known = known_of(met, host, &tables.firsts, &d.range());
-    if !keeps_window(host, &known, node, i, d) {
+    broken_rule(host, &known, tables, node, i, d)
+}
+
+/// The same of a committed decoder, by what is known of its range.
+fn broken_rule(
+    host: &Host,
+    known: &Known,
+    tables: &Tables,
+    node: u32,
+    i: u8,
+    d: &Decoder,
+) -> Option<u8>
+    requires ready { IsOrderlySystem (as_system host.now) }
+    requires known { IsKnownAs (as_system host.now) (range_of d.now) known.now }
+    requires tables { AreSystemTables (as_system host.now) tables.now }
+    requires here { node < length host.now.topo.now.nodes }
+    requires committed { IsCommitted (as_system host.now) node i d.now }
+    ensures { IsLeastBrokenAt (breaks (as_system host.now)) node i result }
+{
+    if !keeps_window(host, known, node, i, d) {
         return Some(9);
     }
-    if !keeps_targets(host, &known, tables, node, i, d) {
+    if !keeps_targets(host, known, tables, node, i, d) {
         return Some(10);
     }
-    if !keeps_reach(host, &known, node, i, d) {
+    if !keeps_reach(host, known, node, i, d) {
         return Some(11);
     }
-    if !keeps_ways(host, &known, node, i, d) {
+    if !keeps_ways(host, known, node, i, d) {
         return Some(12);
     }
     None

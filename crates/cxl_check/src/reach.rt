@@ -75,9 +75,12 @@ fn is_targeted(host: &Host, known: &Known, range: &Range, node: u32) -> bool
     requires here { node < length host.now.topo.now.nodes }
     ensures { result ≡ is_targeted (as_system host.now) range.now node }
 {
-    match (window_of(host, range, known), uid_above(host.topo, node)) {
-        (Some(w), Some(uid)) => w.targets().contains(&uid),
-        _ => false,
+    let Some(w) = window_of(host, range, known) else {
+        return false;
+    };
+    match uid_above(host.topo, node) {
+        Some(uid) => w.targets().contains(&uid),
+        None => false,
     }
 }
 

@@ -1,15 +1,17 @@
 //! The regions of an accepted image.
 
-ghost use Rattle.std.specs.Prelude.{◌≡◌, length, All, IfOk};
+ghost use Rattle.std.specs.Prelude.{◌≡◌, ℕ, ◌<◌, ◌≤◌, length, All, IfOk};
 ghost use Rattle.std.specs.BTreeMap.{keys, IsOrdered, ContainsKey};
 ghost use Rattle.cxl_model.specs.Hosts.{as_system};
 ghost use Rattle.cxl_model.specs.Accepted.{IsAccepted, IsWhole, IsOrderlySystem};
 ghost use Rattle.cxl_model.specs.Ranges.{IsCommittedRange};
-ghost use Rattle.cxl_model.specs.Regions.{IsRegion, region_range};
+ghost use Rattle.cxl_model.specs.Regions.{HasSpan, IsRegion, region_range};
+ghost use Rattle.cxl_model.specs.declared.found.Place.{Place};
 ghost use Rattle.cxl_model.specs.Listed.{AreRegionsByBase};
 ghost use Rattle.cxl_check.specs.inner.Firsts.{key_cmp};
 ghost use Rattle.cxl_check.specs.inner.Facts.{AreSystemTables};
 ghost use Rattle.cxl_check.specs.inner.Known.{IsKnown, IsKnownAs};
+ghost use Rattle.cxl_check.specs.inner.Listing.{IsWholeKey, AreListed, AreSpans};
 
 use crate::decoders::index_for;
 use crate::firsts::{RangeKey, first_of};
@@ -19,11 +21,12 @@ use crate::tables::Tables;
 use crate::ways::region_code;
 use cxl_enc::FixedList;
 use cxl_model::{
-    Found, Host, accepted_where_whole, endpoints_lie_evenly, regions_share_no_byte,
+    Found, Host, Place, accepted_where_whole, endpoints_lie_evenly, regions_share_no_byte,
     whole_ranges_have_one_region,
 };
 use cxl_regs::Range;
 use cxl_span::ranges_rise;
+use cxl_window::Window;
 use std::alloc::{AllocError, Global};
 use std::collections::BTreeMap;
 
@@ -46,17 +49,7 @@ pub(crate) fn regions(
     regions_share_no_byte();
     ranges_rise();
     let keys = keys_of(alloc, &tables.firsts)?;
-    let mut regions = Vec::with_capacity(alloc, keys.len())?;
-    for key in &keys {
-        let range = Range {
-            base: key.base,
-            size: key.size,
-        };
-        let known = known_of(met, host, &tables.firsts, &range);
-        let region = region_of(alloc, host, tables, &known, &range)?;
-        regions.push(region)?;
-    }
-    Ok(regions)
+    regions_at(alloc, met, host, tables, &keys)
 }
 
 /// The ranges of a table, by rising base. Takes memory.
@@ -66,6 +59,33 @@ fn keys_of(alloc: Global, firsts: &BTreeMap<RangeKey, u32>) -> Result<Vec<RangeK
     ensures found { All (ContainsKey key_cmp firsts.now) (keys firsts.now) }
 {
     firsts.keys().copied().collect(alloc)
+}
+
+/// The regions of these ranges, in their order. Takes memory.
+fn regions_at(
+    alloc: Global,
+    met: &mut Vec<Known>,
+    host: &Host,
+    tables: &Tables,
+    keys: &[RangeKey],
+) -> Result<Vec<Found>, AllocError>
+    requires met { All (IsKnown (as_system host.now)) met.old.items }
+    requires ready { IsOrderlySystem (as_system host.now) }
+    requires tables { AreSystemTables (as_system host.now) tables.now }
+    requires whole { All (IsWholeKey (as_system host.now)) keys.now }
+    ensures { IfOk result (λ regions. AreListed (as_system host.now) keys.now regions.items) }
+{
+    let mut regions = Vec::with_capacity(alloc, keys.len())?;
+    for key in keys {
+        let range = Range {
+            base: key.base,
+            size: key.size,
+        };
+        let known = known_of(met, host, &tables.firsts, &range);
+        let region = region_of(alloc, host, tables, &known, &range)?;
+        regions.push(region)?;
+    }
+    Ok(regions)
 }
 
 /// The region of a committed range that is whole. Takes memory.
@@ -87,22 +107,41 @@ fn region_of(
     whole_ranges_have_one_region();
     let w = window_of(host, range, known).unwrap();
     let facts = known.facts;
-    let likely = likely_index(host, &tables.firsts, range);
-    let ways = facts.ways;
-    let first = first_target(host.topo, w);
-    let mut spans = Vec::with_capacity(alloc, usize::from(ways))?;
-    for slot in 0..ways {
-        spans.push(span_of(host, &tables.children, range, w, &first, slot, likely))?;
-    }
+    let spans = spans_of(alloc, host, tables, range, w, facts.ways)?;
     Ok(Found {
         base: range.base,
         size: range.size,
         window: w.index(),
         gran: region_code(&facts, w),
-        ways,
+        ways: facts.ways,
         kind: facts.kind,
         spans: FixedList::new(spans),
     })
+}
+
+/// The spans of so many slots. Takes memory.
+fn spans_of(
+    alloc: Global,
+    host: &Host,
+    tables: &Tables,
+    range: &Range,
+    w: &Window,
+    ways: u8,
+) -> Result<Vec<Place>, AllocError>
+    requires ready { IsOrderlySystem (as_system host.now) }
+    requires tables { AreSystemTables (as_system host.now) tables.now }
+    requires few { ways ≤ 16 }
+    requires some { (slot : ℕ) → slot < ways
+        → (place : Place) × HasSpan (as_system host.now) w.now range.now slot place }
+    ensures { IfOk result (λ spans. AreSpans (as_system host.now) w.now range.now ways spans.items) }
+{
+    let likely = likely_index(host, &tables.firsts, range);
+    let first = first_target(host.topo, w);
+    let mut spans = Vec::with_capacity(alloc, usize::from(ways))?;
+    for slot in 0..ways {
+        spans.push(span_of(host, &tables.children, range, w, &first, slot, likely))?;
+    }
+    Ok(spans)
 }
 
 /// The number that a range is likely to have in all nodes: that in its first endpoint.

@@ -1,4 +1,12 @@
-use crate::firsts::RangeKey;
+ghost use Rattle.std.specs.Prelude.{IfOk};
+ghost use Rattle.cxl_model.specs.Hosts.{as_system};
+ghost use Rattle.cxl_check.specs.inner.Facts.{AreSystemTables};
+
+use crate::children::all_children;
+use crate::firsts::{RangeKey, first_endpoints};
+use crate::landings::landings;
+use cxl_model::Host;
+use std::alloc::{AllocError, Global};
 use std::collections::BTreeMap;
 
 /// What is looked up for many decoders, made once for an image.
@@ -10,4 +18,18 @@ pub struct Tables {
     pub landings: Vec<bool>,
     /// The first endpoint of each committed range that has one.
     pub firsts: BTreeMap<RangeKey, u32>,
+}
+
+/// The tables of an image. Takes memory.
+pub(crate) fn tables_of(alloc: Global, host: &Host) -> Result<Tables, AllocError>
+    ensures { IfOk result (AreSystemTables (as_system host.now)) }
+{
+    let children = all_children(alloc, host.topo)?;
+    let landings = landings(alloc, host.topo)?;
+    let firsts = first_endpoints(alloc, host)?;
+    Ok(Tables {
+        children,
+        landings,
+        firsts,
+    })
 }

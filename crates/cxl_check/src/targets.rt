@@ -167,9 +167,13 @@ fn lands_on(host: &Host, range: &Range, node: u32, likely: u8) -> bool
 fn targets_land(host: &Host, range: &Range, w: &Window, likely: u8) -> bool
     ensures { result ≡ targets_land (as_system host.now) range.now w.now }
 {
-    w.targets()
-        .iter()
-        .all(|uid| target_lands(host, range, *uid, likely))
+    let targets = w.targets();
+    for uid in targets {
+        if !target_lands(host, range, *uid, likely) {
+            return false;
+        }
+    }
+    true
 }
 
 /// Whether a UID is that of a bridge that lands on the range.

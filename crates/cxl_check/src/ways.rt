@@ -36,11 +36,10 @@ pub(crate) fn keeps_ways(host: &Host, known: &Known, node: u32, i: u8, d: &Decod
     let Some(w) = window_of(host, &range, known) else {
         return true;
     };
-    let facts = known.facts;
     if host.topo.is_endpoint(node) {
-        keeps_endpoint_ways(host, &facts, w, node, i, d)
+        keeps_endpoint_ways(host, &known.facts, w, node, i, d)
     } else {
-        keeps_port_code(host, &facts, w, node, i, d)
+        keeps_port_code(host, &known.facts, w, node, i, d)
     }
 }
 

@@ -1,6 +1,5 @@
-use Rattle.std.proofs.Common.{◌≡◌, ◌-◌, ◌<◌, ◌≤◌, List, length, take, drop, ap, arith}
+use Rattle.std.proofs.Common.{◌-◌, List, length, take, drop, ap, arith}
 use Rattle.cxl_apply.specs.declared.write.Write.{Write}
-use Rattle.cxl_apply.specs.Jobs.{blocks_after_writes}
 use Rattle.cxl_apply.proofs.Bounds.{all_ahead, ahead_whole}
 use Rattle.cxl_apply.proofs.job.Job.ahead.Goals as goal
 

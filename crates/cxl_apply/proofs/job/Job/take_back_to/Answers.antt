@@ -12,3 +12,10 @@ loop-self-preserved g c =
     let other : c.undo_step.result ≢ BusFault = (λ e. false≢true (c.if-eq.ensures ∙ ap (λ (r : Stepped). sameb the_type r BusFault) e)) in
     back_on c.undo_step.result c.args.downto _ _ _ _ _ _ _ _ _ c.loop-self.invariant (let test = c.loop-self-test.true in let done = c.done.ensures.value in omega arith) c.undo_step.ensures.event other c.undo_step.ensures.on_way
     c.undo_step.ensures.kept_words c.undo_step.ensures.kept_same c.undo_step.ensures.counts c.undo_step.ensures.alone c.undo_step.ensures.unswallowed
+
+pub undo_step-requires : goal.undo_step-requires
+undo_step-requires g c = record {
+  made = omega (arith, c.loop-self-test.true, c.done.ensures.value);
+  words = c.loop-self.invariant.words;
+  same = c.loop-self.invariant.same;
+}

@@ -1,0 +1,49 @@
+use Rattle.std.proofs.Common.{◌≡◌, ◌+◌, ◌<◌, false, List, length, sym, ap, subst, ◌∙◌}
+use Rattle.std.specs.Result.{is_err}
+use Rattle.cxl_regs.specs.Registers.{Registers}
+use Rattle.cxl_regs.specs.Blocks.{blocks_after}
+use Rattle.cxl_bus.specs.Trail.{trail_after}
+use Rattle.cxl_apply.specs.declared.write.Write.{Write}
+use Rattle.cxl_apply.specs.Jobs.{blocks_done}
+use Rattle.cxl_apply.specs.Steps.{JobState, HasWordsOf, IsSent, MakesWrite}
+use Rattle.cxl_apply.proofs.OneStep.{at_ok, keeps_words, makes, made_on_way}
+use Rattle.cxl_apply.proofs.job.Job.step.Goals as goal
+use Rattle.cxl_apply.proofs.job.Job.step.Goals.{then-self-len, else-self-len}
+
+pub returns-clause-kept_words : goal.returns-clause-kept_words
+returns-clause-kept_words g c =
+    let write : Write = c.index-write.result.now in
+    keeps_words c.writes_keep_places.ensures c.args.image.now c.write32-2.new.self c.self.inside.writes.items write.node write.off write.value c.write32-2.ensures.left
+    (subst (λ (j : JobState). HasWordsOf c.args.image.now j.writes) (sym c.self.view_is) c.requires.words)
+
+pub returns-clause-on_way : goal.returns-clause-on_way
+returns-clause-on_way g c = λ start before.
+    let within : c.self.inside.done < length c.self.inside.writes.items = subst (λ (j : JobState). j.done < length j.writes) (sym c.self.view_is) c.requires.left in
+    made_on_way c.self.inside.writes.items c.self.inside.done c.index-write.result.now c.index-write.ensures within start c.args.image.now c.write32-2.new.self c.write32-2.ensures.left
+    (subst (λ (j : JobState). c.args.image.now ≡ blocks_done start j.writes j.done) (sym c.self.view_is) before)
+
+pub returns-clause-event : goal.returns-clause-event
+returns-clause-event g c =
+    let write : Write = c.index-write.result.now in
+    let old = g.R.Regs.state c.args.regs.now in
+    let new = g.R.Regs.state c.write32.new.self in
+    let fine : is_err c.write32.result ≡ false = sym c.is_err.ensures.value ∙ c.if-is_err.false in
+    let regs : new.blocks ≡ blocks_after old.blocks write.node write.off write.value = at_ok c.write32.result _ c.write32.ensures.written fine in
+    let trail : new.trail ≡ trail_after old.trail write.node write.off write.value = at_ok c.write32.result _ c.write32.ensures.sent fine in
+    let sent : IsSent write.node write.off write.value c.args.image.now c.write32-2.new.self old new = record { image = c.write32-2.ensures.left; regs = regs; trail = trail } in
+    let within : c.self.inside.done < length c.self.inside.writes.items = subst (λ (j : JobState). j.done < length j.writes) (sym c.self.view_is) c.requires.left in
+    let event : MakesWrite c.args.self.now (record { writes = c.self.inside.writes.items; done = c.self.inside.done + 1 }) c.args.image.now c.write32-2.new.self old new =
+    subst (λ (j : JobState). MakesWrite j (record { writes = c.self.inside.writes.items; done = c.self.inside.done + 1 }) c.args.image.now c.write32-2.new.self old new) c.self.view_is
+    (makes c.self.inside.writes.items c.self.inside.done write c.index-write.ensures within c.args.image.now c.write32-2.new.self old new sent) in
+    elim c.if-self-len.branch [ then-self-len w ↦ rw w.result-is event | else-self-len w ↦ rw w.result-is event ]
+
+pub returns-clause-kept_same : goal.returns-clause-kept_same
+returns-clause-kept_same g c =
+    let write : Write = c.index-write.result.now in
+    let fine : is_err c.write32.result ≡ false = sym c.is_err.ensures.value ∙ c.if-is_err.false in
+    at_ok c.write32.result _ c.write32.ensures.written fine ∙ ap (λ (blocks : List Registers). blocks_after blocks write.node write.off write.value) c.requires.same ∙ sym c.write32-2.ensures.left
+
+pub returns-clause-unswallowed : goal.returns-clause-unswallowed
+returns-clause-unswallowed g c = λ other.
+    let fine : is_err c.write32.result ≡ false = sym c.is_err.ensures.value ∙ c.if-is_err.false in
+    at_ok c.write32.result _ c.write32.ensures.unswallowed fine

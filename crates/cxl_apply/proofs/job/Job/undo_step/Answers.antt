@@ -1,0 +1,54 @@
+use Rattle.std.proofs.Common.{◌≡◌, ◌+◌, ◌-◌, ◌<◌, false, List, length, sym, ap, subst, ◌∙◌, arith}
+use Rattle.std.specs.Result.{is_err}
+use Rattle.cxl_regs.specs.Registers.{Registers}
+use Rattle.cxl_regs.specs.Blocks.{blocks_after}
+use Rattle.cxl_bus.specs.Trail.{trail_after}
+use Rattle.cxl_apply.specs.declared.write.Write.{Write}
+use Rattle.cxl_apply.specs.Jobs.{AreTakenBack, blocks_done}
+use Rattle.cxl_apply.specs.Steps.{JobState, HasWordsOf, IsSent, TakesBack}
+use Rattle.cxl_apply.proofs.OneStep.{at_ok, keeps_words, takes, taken_on_way}
+use Rattle.cxl_apply.proofs.job.Job.undo_step.Goals as goal
+use Rattle.cxl_apply.proofs.job.Job.undo_step.Goals.{then-self-eq0, else-self-eq0}
+
+pub returns-clause-kept_words : goal.returns-clause-kept_words
+returns-clause-kept_words g c =
+    let write : Write = c.index-write.result.now in
+    keeps_words c.writes_keep_places.ensures c.args.image.now c.write32-2.new.self c.self.inside.writes.items write.node write.off write.back c.write32-2.ensures.left
+    (subst (λ (j : JobState). HasWordsOf c.args.image.now j.writes) (sym c.self.view_is) c.requires.words)
+
+pub returns-clause-on_way : goal.returns-clause-on_way
+returns-clause-on_way g c = λ start taken before.
+    let some : 0 < c.self.inside.done = subst (λ (j : JobState). 0 < j.done) (sym c.self.view_is) c.requires.made in
+    let next : c.self.inside.done ≡ c.self.inside.done - 1 + 1 = omega (arith, some) in
+    let within : c.self.inside.done - 1 < length c.self.inside.writes.items = omega (arith, some, c.self.invariant.within) in
+    taken_on_way c.self.inside.writes.items (c.self.inside.done - 1) c.index-write.result.now c.index-write.ensures within start c.args.image.now c.write32-2.new.self c.self.inside.done
+    (subst (λ (j : JobState). AreTakenBack start j.writes) (sym c.self.view_is) taken) next c.write32-2.ensures.left
+    (subst (λ (j : JobState). c.args.image.now ≡ blocks_done start j.writes j.done) (sym c.self.view_is) before)
+
+pub returns-clause-event : goal.returns-clause-event
+returns-clause-event g c =
+    let write : Write = c.index-write.result.now in
+    let old = g.R.Regs.state c.args.regs.now in
+    let new = g.R.Regs.state c.write32.new.self in
+    let fine : is_err c.write32.result ≡ false = sym c.is_err.ensures.value ∙ c.if-is_err.false in
+    let regs : new.blocks ≡ blocks_after old.blocks write.node write.off write.back = at_ok c.write32.result _ c.write32.ensures.written fine in
+    let trail : new.trail ≡ trail_after old.trail write.node write.off write.back = at_ok c.write32.result _ c.write32.ensures.sent fine in
+    let sent : IsSent write.node write.off write.back c.args.image.now c.write32-2.new.self old new = record { image = c.write32-2.ensures.left; regs = regs; trail = trail } in
+    let some : 0 < c.self.inside.done = subst (λ (j : JobState). 0 < j.done) (sym c.self.view_is) c.requires.made in
+    let next : c.self.inside.done ≡ c.self.inside.done - 1 + 1 = omega (arith, some) in
+    let within : c.self.inside.done - 1 < length c.self.inside.writes.items = omega (arith, some, c.self.invariant.within) in
+    let event : TakesBack c.args.self.now (record { writes = c.self.inside.writes.items; done = c.self.inside.done - 1 }) c.args.image.now c.write32-2.new.self old new =
+    subst (λ (j : JobState). TakesBack j (record { writes = c.self.inside.writes.items; done = c.self.inside.done - 1 }) c.args.image.now c.write32-2.new.self old new) c.self.view_is
+    (takes c.self.inside.writes.items (c.self.inside.done - 1) write c.index-write.ensures within c.self.inside.done c.args.image.now c.write32-2.new.self old new next sent) in
+    elim c.if-self-eq0.branch [ then-self-eq0 w ↦ rw w.result-is event | else-self-eq0 w ↦ rw w.result-is event ]
+
+pub returns-clause-kept_same : goal.returns-clause-kept_same
+returns-clause-kept_same g c =
+    let write : Write = c.index-write.result.now in
+    let fine : is_err c.write32.result ≡ false = sym c.is_err.ensures.value ∙ c.if-is_err.false in
+    at_ok c.write32.result _ c.write32.ensures.written fine ∙ ap (λ (blocks : List Registers). blocks_after blocks write.node write.off write.back) c.requires.same ∙ sym c.write32-2.ensures.left
+
+pub returns-clause-unswallowed : goal.returns-clause-unswallowed
+returns-clause-unswallowed g c = λ other.
+    let fine : is_err c.write32.result ≡ false = sym c.is_err.ensures.value ∙ c.if-is_err.false in
+    at_ok c.write32.result _ c.write32.ensures.unswallowed fine
