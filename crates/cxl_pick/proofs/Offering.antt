@@ -243,6 +243,15 @@ port_offers_none s known want w start n m table offers below within port some fe
 
 -- ---- the first test that passes
 
+pub first_eight : (t : ℕ → Bool) → t 8 ≡ true → Some 8 ≡ find t (8 ∷ 4 ∷ 2 ∷ 1 ∷ [])
+first_eight t a = sym (λ i. cond (a i) (Some 8) (find t (4 ∷ 2 ∷ 1 ∷ [])))
+
+pub first_four : (t : ℕ → Bool) → t 8 ≡ false → t 4 ≡ true → Some 4 ≡ find t (8 ∷ 4 ∷ 2 ∷ 1 ∷ [])
+first_four t a b = sym (λ i. cond (a i) (Some 8) (cond (b i) (Some 4) (find t (2 ∷ 1 ∷ []))))
+
+pub first_two : (t : ℕ → Bool) → t 8 ≡ false → t 4 ≡ false → t 2 ≡ true → Some 2 ≡ find t (8 ∷ 4 ∷ 2 ∷ 1 ∷ [])
+first_two t a b c = sym (λ i. cond (a i) (Some 8) (cond (b i) (Some 4) (cond (c i) (Some 2) (find t (1 ∷ [])))))
+
 pub first_one : (t : ℕ → Bool) → t 8 ≡ false → t 4 ≡ false → t 2 ≡ false → t 1 ≡ true → Some 1 ≡ find t (8 ∷ 4 ∷ 2 ∷ 1 ∷ [])
 first_one t a b c d = sym (λ i. cond (a i) (Some 8) (cond (b i) (Some 4) (cond (c i) (Some 2) (cond (d i) (Some 1) None))))
 

@@ -1,6 +1,6 @@
 //! What a node could give by its registers, in one window.
 
-ghost use Rattle.std.specs.Prelude.{◌≡◌, ◌<◌, ◌≤◌, nat_le, ◌&&◌, [], true, false, length};
+ghost use Rattle.std.specs.Prelude.{◌≡◌, ◌<◌, ◌≤◌, nat_le, ◌&&◌, true, false, length};
 ghost use Rattle.cxl_enc.specs.Codes.{bits_of};
 ghost use Rattle.cxl_enc.specs.Caps.{is_target_count};
 ghost use Rattle.cxl_topo.specs.Tree.{is_endpoint_at};

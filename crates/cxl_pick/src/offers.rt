@@ -1,12 +1,11 @@
 //! What each node gives for each number of endpoints, in one window, and from one window to the next.
 
-ghost use Rattle.std.specs.Prelude.{◌≡◌, ℕ, ◌+◌, ◌-◌, ◌*◌, ◌/◌, ◌^◌, ◌<◌, ◌≤◌, ◌==◌, ◌&&◌, not, if◌then◌else◌, [], ◌∷◌, true, false, List, length, take, find, slice_get, slice_index_or, Some, IfOk, unwrap_or, OnOk};
+ghost use Rattle.std.specs.Prelude.{◌≡◌, ℕ, ◌+◌, ◌-◌, ◌*◌, ◌/◌, ◌<◌, ◌≤◌, ◌==◌, ◌&&◌, not, if◌then◌else◌, [], ◌∷◌, true, false, length, take, find, slice_index_or, Some, IfOk, OnOk};
 ghost use Rattle.std.specs.List.{filter_map, flat_map, range_with_len};
 ghost use Rattle.cxl_enc.specs.Caps.{is_target_count};
 ghost use Rattle.cxl_enc.specs.Codes.{third_of};
 ghost use Rattle.cxl_topo.specs.declared.node.Parent.{Parent};
 ghost use Rattle.cxl_topo.specs.Tree.{is_endpoint_at, parent_of, child_of};
-ghost use Rattle.cxl_window.specs.Fields.{WindowFields};
 ghost use Rattle.cxl_model.specs.Hosts.{as_system};
 ghost use Rattle.cxl_model.specs.System.{System};
 ghost use Rattle.cxl_pick.specs.declared.want.Want.{Want};

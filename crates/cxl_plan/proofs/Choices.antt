@@ -2,7 +2,7 @@
 use Rattle.std.proofs.Common.{◌≡◌, ℕ, zero, suc, ◌+◌, ◌<◌, List, [], ◌∷◌, ◌++◌, length, Some, refl, sym, ap, subst, ◌∙◌, inl, inr, arith}
 use Rattle.std.specs.Prelude.{slice_get}
 use Rattle.std.proofs.lemmas.Bool.{cases_lt}
-use Rattle.std.proofs.lemmas.Option.{same_Some, slice_get_within}
+use Rattle.std.proofs.lemmas.Option.{none-some, same_Some, slice_get_within}
 use Rattle.cxl_window.specs.Fields.{WindowFields}
 use Rattle.cxl_model.specs.declared.request.Request.{Request}
 use Rattle.cxl_model.specs.declared.plan.Reason.{Reason}
@@ -14,6 +14,12 @@ use Rattle.cxl_plan.proofs.Tables.{slice_get_front, slice_get_end, length_end}
 pub record AreReasonsBelow (s : System) (request : Request) (i : ℕ) (reasons : List Reason) : Type 0 where
   pub count : length reasons ≡ i
   pub each : (j : ℕ) (w : WindowFields) (reason : Reason) → slice_get s.windows j ≡ Some w → slice_get reasons j ≡ Some reason → IsReason s request w reason
+
+pub no_reasons : (s : System) (request : Request) (reasons : List Reason) → reasons ≡ [] → AreReasonsBelow s request 0 reasons
+no_reasons s request reasons none = record {
+  count = ap length none;
+  each = λ j w reason there at. absurd (none-some reason (sym (ap (λ (xs : List Reason). slice_get xs j) none) ∙ at));
+}
 
 pub one_reason_more : (s : System) (request : Request) (i : ℕ) (w : WindowFields) (old new : List Reason) (reason : Reason) → slice_get s.windows i ≡ Some w → AreReasonsBelow s request i old → new ≡ old ++ reason ∷ []
     → IsReason s request w reason → AreReasonsBelow s request (i + 1) new

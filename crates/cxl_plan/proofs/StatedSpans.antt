@@ -3,7 +3,7 @@ use Rattle.std.proofs.Common.{◌≡◌, ℕ, ◌+◌, ◌*◌, ◌/◌, ◌%◌
 use Rattle.std.specs.Prelude.{slice_get}
 use Rattle.std.specs.Option.{option_and_then}
 use Rattle.std.proofs.lemmas.Bool.{cases_lt}
-use Rattle.std.proofs.lemmas.Option.{same_Some, slice_get_within}
+use Rattle.std.proofs.lemmas.Option.{none-some, same_Some, slice_get_within}
 use Rattle.cxl_enc.specs.Codes.{bits_of}
 use Rattle.cxl_topo.specs.declared.node.Node.{Node}
 use Rattle.cxl_topo.specs.Tree.{is_endpoint_at, child_of}
@@ -38,6 +38,12 @@ module _ (nodes : List Node) (request : Request) (w : WindowFields) (slot : ℕ)
 pub record AreStatedBelow (s : System) (request : Request) (w : WindowFields) (slot : ℕ) (places : List Place) : Type 0 where
   pub count : length places ≡ slot
   pub each : (j : ℕ) (place : Place) → slice_get places j ≡ Some place → IsStatedPlace s request w j place
+
+pub no_places : (s : System) (request : Request) (w : WindowFields) (places : List Place) → places ≡ [] → AreStatedBelow s request w 0 places
+no_places s request w places none = record {
+  count = ap length none;
+  each = λ j place at. absurd (none-some place (sym (ap (λ (xs : List Place). slice_get xs j) none) ∙ at));
+}
 
 pub one_place_more : (s : System) (request : Request) (w : WindowFields) (slot : ℕ) (old new : List Place) (place : Place) → AreStatedBelow s request w slot old → new ≡ old ++ place ∷ [] → IsStatedPlace s request w slot place
     → AreStatedBelow s request w (slot + 1) new

@@ -12,7 +12,6 @@ use crate::used::Uses;
 use cxl_enc::UNIT;
 use cxl_legal::last_end;
 use cxl_model::{Host, Request};
-use cxl_topo::tree_laws;
 use cxl_window::Window;
 
 /// The end of all that is committed in the used nodes, or 0.
@@ -21,10 +20,6 @@ pub(crate) fn floor(host: &Host, request: &Request, uses: &Uses) -> u64
     requires uses { AreUses host.now.topo.now.nodes request.now uses.now }
     ensures { IsFloor host.now.topo.now.nodes host.now.image.now request.now result }
 {
-    let _count = host.topo.count();
-    let _windows = host.windows.len();
-    let _ways = request.endpoints.items().len();
-    tree_laws();
     let mut floor = 0;
     for node in &uses.nodes {
         floor = greater(last_end(host.image.block(*node)), floor);

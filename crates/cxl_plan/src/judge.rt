@@ -5,7 +5,6 @@ ghost use Rattle.std.specs.Option.{option_map_or};
 ghost use Rattle.std.specs.List.{list_all, range_with_len, All};
 ghost use Rattle.cxl_enc.specs.Caps.{targets_of, is_target_count};
 ghost use Rattle.cxl_topo.specs.declared.node.Node.{Node};
-ghost use Rattle.cxl_image.specs.Images.{HasCapsOf};
 ghost use Rattle.cxl_model.specs.declared.request.Request.{Request};
 ghost use Rattle.cxl_window.specs.Windows.{first_repeat};
 ghost use Rattle.cxl_legal.specs.Used.{is_used, count_under};
@@ -61,7 +60,6 @@ fn first_bridge(topo: &Topo, request: &Request, uses: &Uses) -> Option<u32>
     ensures first { result ≡ first_bridge (tree_alone topo.now.nodes) request.now }
     ensures inside { IfSome result (λ n. n < length topo.now.nodes) }
 {
-    let _ways = request.endpoints.items().len();
     for node in &uses.nodes {
         if topo.node(*node).is_bridge() {
             return Some(*node);
@@ -79,7 +77,6 @@ fn is_uneven(topo: &Topo, request: &Request, uses: &Uses, share: Option<u8>, nod
     requires share { share ≡ option_map (count_under (tree_alone topo.now.nodes) request.now) (first_bridge (tree_alone topo.now.nodes) request.now) }
     ensures { result ≡ uneven_at topo.now.nodes request.now node }
 {
-    let _ways = request.endpoints.items().len();
     let own = topo.node(node);
     let ports = uses.ports[node as usize].as_slice();
     let at = counts_at_ports(topo, &uses.counts, &uses.nodes, node);

@@ -1,7 +1,6 @@
-ghost use Rattle.std.specs.Prelude.{◌≡◌, ◌≢◌, ◌<◌, ◌≤◌, length, IfOk, IfErr, IfSome, IfNone, OnOk, Err, slice_get, Some};
+ghost use Rattle.std.specs.Prelude.{◌≡◌, ◌≢◌, ◌<◌, IfOk, IfErr, IfSome, IfNone, OnOk, Err, Some};
 ghost use Rattle.cxl_topo.specs.Tree.{bridge_uids};
 ghost use Rattle.cxl_window.specs.Windows.{AreMadeWith};
-ghost use Rattle.cxl_window.specs.Fields.{WindowFields};
 ghost use Rattle.cxl_model.specs.Hosts.{as_system};
 ghost use Rattle.cxl_model.specs.System.{System, system_of};
 ghost use Rattle.cxl_model.specs.Accepted.{IsAccepted};
@@ -62,6 +61,7 @@ pub fn plan(
     legal_plans_fit();
     fitting_plans_are_legal();
     requests_come_to_answers();
+    tree_laws();
     ports_are_bytes(topo);
     accepted_image_is_system(image, topo, windows);
     if let Some(fault) = early_fault(topo, request) {
@@ -110,8 +110,6 @@ fn plan_fitting(
     ensures endpoints { OnOk result (FitsEndpoints (as_system host.now) request.now) }
     ensures plan { IfOk result (λ plan. IsFirstPlan (as_system host.now) request.now plan) }
 {
-    tree_laws();
-    let _count = host.topo.count();
     let windows = host.windows;
     let Ok(choice) = choose(alloc, host, request, uses) else {
         return Err(PlanFault::Memory);
@@ -153,8 +151,6 @@ fn node_fault(host: &Host, request: &Request, uses: &Uses) -> Option<PlanFault>
     ensures some { IfSome result (IsFirstPlanFault (as_system host.now) request.now) }
     ensures none { IfNone result (FitsEndpoints (as_system host.now) request.now) }
 {
-    tree_laws();
-    let _count = host.topo.count();
     if let Some(node) = first_uneven(host.topo, request, uses) {
         return Some(PlanFault::Uneven(node));
     }

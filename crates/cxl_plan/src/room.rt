@@ -16,7 +16,7 @@ ghost use Rattle.cxl_plan.specs.inner.Judging.{AsksOrderlySystem, HasLowShare};
 use crate::used::Uses;
 use cxl_model::{Host, Request, SpanFault};
 use cxl_span::{Span, allot};
-use cxl_topo::{capacity_at, tree_laws};
+use cxl_topo::capacity_at;
 
 /// The span that an endpoint gives for its share of the request, or why it gives none.
 pub(crate) fn span_of(host: &Host, request: &Request, endpoint: u32) -> Result<Span, SpanFault>
@@ -27,7 +27,6 @@ pub(crate) fn span_of(host: &Host, request: &Request, endpoint: u32) -> Result<S
         ↔ Allots (decoders_at (as_system host.now) endpoint) (ram_at (as_system host.now) endpoint)
         (pmem_at (as_system host.now) endpoint) request.now.kind (share_of request.now) answer }
 {
-    let _windows = host.windows.len();
     let capacity = capacity_at(host.topo, endpoint);
     let share = share_of(request);
     allot(
@@ -57,8 +56,6 @@ pub(crate) fn first_refused(host: &Host, request: &Request, uses: &Uses) -> Opti
     ensures none { IfNone result ((m : ℕ) → Contains request.now.endpoints m
         → HasRoom (as_system host.now) request.now m) }
 {
-    tree_laws();
-    let _count = host.topo.count();
     for node in &uses.nodes {
         if let Some(fault) = refusal(host, request, *node) {
             return Some((*node, fault));

@@ -14,7 +14,6 @@ use crate::ways::{planned_code, planned_ways};
 use cxl_enc::code_of;
 use cxl_model::{Host, Request, Row};
 use cxl_regs::Decoder;
-use cxl_topo::tree_laws;
 use cxl_window::Window;
 use std::alloc::{AllocError, Global};
 
@@ -46,7 +45,6 @@ fn row(host: &Host, request: &Request, uses: &Uses, w: &Window, base: u64, node:
     requires used { is_used (tree_alone host.now.topo.now.nodes) request.now node ≡ true }
     ensures { result ≡ row_at host.now.topo.now.nodes host.now.image.now request.now w.now base node }
 {
-    let _count = host.topo.count();
     let ways = planned_ways(host.topo, request, uses, node);
     Row {
         node,
@@ -73,9 +71,6 @@ fn tail(host: &Host, request: &Request, uses: &Uses, w: &Window, node: u32) -> u
     requires used { is_used (tree_alone host.now.topo.now.nodes) request.now node ≡ true }
     ensures { result ≡ tail_at host.now.topo.now.nodes host.now.image.now request.now node }
 {
-    tree_laws();
-    let _count = host.topo.count();
-    let _index = w.index();
     if host.topo.is_endpoint(node) {
         span_of(host, request, node).unwrap().skip
     } else {

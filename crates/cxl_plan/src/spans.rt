@@ -46,8 +46,6 @@ fn place_of(host: &Host, request: &Request, uses: &Uses, w: &Window, slot: u8) -
     requires slot { slot < 16 }
     ensures { IsStatedPlace (as_system host.now) request.now w.now slot result }
 {
-    tree_laws();
-    let _count = host.topo.count();
     let uid = w.targets()[usize::from(target_position(w, slot))];
     let bridge = host.topo.bridge(uid).unwrap();
     let endpoint = reached(host.topo, request, uses, w, slot, bridge);

@@ -1,6 +1,6 @@
 //! Which nodes and ports of the tree lead to the endpoints of a request.
 
-ghost use Rattle.std.specs.Prelude.{◌≡◌, ℕ, ◌<◌, ◌≤◌, ◌==◌, nat_lt, ◌||◌, ◌&&◌, true, false, if◌then◌else◌, take, length, filter, slice_get, slice_index_or, Some, IfOk, All};
+ghost use Rattle.std.specs.Prelude.{◌≡◌, ℕ, ◌<◌, ◌≤◌, ◌==◌, nat_lt, ◌||◌, ◌&&◌, true, false, if◌then◌else◌, take, length, filter, slice_index_or, Some, IfOk, All};
 ghost use Rattle.std.specs.List.{list_any, range_with_len};
 ghost use Rattle.std.specs.Option.{option_map_or};
 ghost use Rattle.cxl_topo.specs.Tree.{is_endpoint_at, parent_of};

@@ -1,8 +1,8 @@
 //! Why a window does not take a request, or the least base where it does.
 
-ghost use Rattle.std.specs.Prelude.{◌≡◌, ℕ, ◌<◌, ◌≤◌, ◌+◌, ◌&&◌, ◌||◌, ◌==◌, not, nat_le, true, false, List, length, find, slice_get, Some, IfOk, IfErr, IfSome, IfNone};
+ghost use Rattle.std.specs.Prelude.{◌≡◌, ◌<◌, ◌≤◌, ◌+◌, ◌&&◌, ◌||◌, not, nat_le, true, false, List, length, find, slice_get, Some, IfOk, IfErr, IfSome, IfNone};
 ghost use Rattle.std.specs.Option.{option_map_or};
-ghost use Rattle.std.specs.List.{list_all, list_any, range_with_len, All};
+ghost use Rattle.std.specs.List.{list_all, range_with_len, All};
 ghost use Rattle.cxl_enc.specs.Codes.{is_ways, code_in_table};
 ghost use Rattle.cxl_enc.specs.Limits.{address_limit};
 ghost use Rattle.cxl_regs.specs.Registers.{Registers};
@@ -11,7 +11,7 @@ ghost use Rattle.cxl_topo.specs.Tree.{is_endpoint_at, is_bridge_at};
 ghost use Rattle.cxl_window.specs.Fields.{WindowFields};
 ghost use Rattle.cxl_legal.specs.Used.{request_ways, is_used};
 ghost use Rattle.cxl_legal.specs.Windows.{has_used_bridges, is_used_bridge, is_target, can_have_ways};
-ghost use Rattle.cxl_plan.specs.Faults.{Takes, IsReason, LacksRoom};
+ghost use Rattle.cxl_plan.specs.Faults.{Takes, IsReason};
 ghost use Rattle.cxl_plan.specs.inner.Uses.{tree_alone, AreUses, HasWays};
 ghost use Rattle.cxl_plan.specs.inner.Judging.{over, selects_at, KeepsWindow};
 ghost use Rattle.cxl_plan.specs.inner.Floors.{IsFloor};
@@ -120,7 +120,6 @@ fn is_used_bridge(topo: &Topo, request: &Request, uses: &Uses, uid: u32) -> bool
 {
     tree_laws();
     let _count = topo.count();
-    let _ways = request.endpoints.items().len();
     match topo.bridge(uid) {
         Some(bridge) => uses.counts.as_slice()[bridge as usize] > 0,
         None => false,
@@ -132,7 +131,6 @@ fn are_targets(topo: &Topo, request: &Request, uses: &Uses, w: &Window) -> bool
     requires { AreUses topo.now.nodes request.now uses.now }
     ensures { result ≡ list_all (λ n. not (is_bridge_at topo.now.nodes n && is_used (tree_alone topo.now.nodes) request.now n) || is_target (tree_alone topo.now.nodes) w.now n) (range_with_len 0 (length topo.now.nodes)) }
 {
-    let _ways = request.endpoints.items().len();
     for node in &uses.nodes {
         if !is_other_or_target(topo, w, *node) {
             return false;

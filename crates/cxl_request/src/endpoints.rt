@@ -27,12 +27,10 @@ pub fn endpoint_named(topo: &Topo, name: &Name) -> Option<u32>
 pub fn first_unknown(topo: &Topo, names: &[Name]) -> Option<Name>
     ensures { result ≡ first_unknown topo.now.nodes names.now }
 {
-    for name in names {
-        if endpoint_named(topo, name).is_none() {
-            return Some(*name);
-        }
-    }
-    None
+    names
+        .iter()
+        .copied()
+        .find(|name| endpoint_named(topo, name).is_none())
 }
 
 /// The endpoints that have one of these names, in their order. Takes memory.
@@ -43,11 +41,9 @@ pub(crate) fn endpoints_named(
 ) -> Result<Vec<u32>, Memory>
     ensures endpoints { IfOk result (λ endpoints. endpoints.items ≡ endpoints_named topo.now.nodes names.now) }
 {
-    let mut endpoints = Vec::new(alloc);
-    for name in names {
-        if let Some(endpoint) = endpoint_named(topo, name) {
-            endpoints.push(endpoint)?;
-        }
-    }
+    let endpoints = names
+        .iter()
+        .filter_map(|name| endpoint_named(topo, name))
+        .collect(alloc)?;
     Ok(endpoints)
 }

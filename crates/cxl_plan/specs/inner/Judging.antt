@@ -4,6 +4,7 @@ use Rattle.std.specs.List.{range_with_len}
 use Rattle.cxl_enc.specs.Codes.{is_ways}
 use Rattle.cxl_enc.specs.Limits.{address_limit}
 use Rattle.cxl_topo.specs.declared.node.Node.{Node}
+use Rattle.cxl_topo.specs.Laws.{AreTreeLaws}
 use Rattle.cxl_regs.specs.Registers.{Registers}
 use Rattle.cxl_regs.specs.Words.{has_bit}
 use Rattle.cxl_window.specs.Fields.{WindowFields}
@@ -29,9 +30,10 @@ even_at nodes request n = has_even_ports (tree_alone nodes) request n
 unfoldable pub same_at : List Node → Request → ℕ → Bool
 same_at nodes request n = has_even_children (tree_alone nodes) request n
 
--- a system whose blocks keep K2 to K8, for a request of endpoints
+-- a system whose blocks keep K2 to K8, for a request of endpoints; with what is known of its tree
 pub record AsksOrderlySystem (s : System) (request : Request) : Type 0 where
   pub system : IsSystem s
+  pub laws : AreTreeLaws s.nodes
   pub blocks : KeepsBlocks s
   pub named : AreEndpoints s request
 

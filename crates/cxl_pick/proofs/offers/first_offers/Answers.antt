@@ -3,7 +3,7 @@ use Rattle.std.specs.Prelude.{◌==◌, take}
 use Rattle.std.specs.List.{flat_map}
 use Rattle.std.proofs.lemmas.Bool.{not-true}
 use Rattle.cxl_pick.specs.inner.Offers.{listed_at, offers_at}
-use Rattle.cxl_pick.proofs.Tables.{to_come, take_step, take_skip}
+use Rattle.cxl_pick.proofs.Tables.{to_come, take_step, take_skip, take_end}
 use Rattle.cxl_pick.proofs.offers.first_offers.Goals as goal
 use Rattle.cxl_pick.proofs.offers.first_offers.Goals.{then-left-gt0+then-gives+in_ok-extend_from_slice, else-left-gt0, else-left-gt0-via-then-left-gt0+else-gives, else-left-gt0-via-else-left-gt0}
 
@@ -38,3 +38,12 @@ loop-child-preserved c =
           (λ k. given k ++ to_come table count v (left k) cs (i + 1))
           ∙ take_skip table count v i c.loop-child.left cs c.loop-child.given.items all c.loop-child-test.true c.loop-child.invariant fails
     ]
+
+pub loop-child-init : goal.loop-child-init
+loop-child-init c = ap (λ (xs : List ℕ). xs ++ to_come c.args.table.now c.args.count c.args.share c.args.u c.args.children.now 0) c.new-given.ensures.items
+
+pub returns : goal.returns
+returns c =
+    let cs = c.args.children.now in
+    let all : List ℕ = flat_map (λ (ns : List ℕ). ns) (take c.args.u (offers_at c.args.table.now c.args.count cs c.args.share)) in
+    take_end c.args.table.now c.args.count c.args.share c.loop-child.child-index c.loop-child.left cs c.loop-child.given.items all c.loop-child-test.false c.loop-child.invariant

@@ -3,7 +3,7 @@ use Rattle.std.specs.Prelude.{◌==◌, option_map, option_and_then, if◌then�
 use Rattle.std.proofs.lemmas.Bool.{not-true}
 use Rattle.cxl_pick.specs.Picking.{all_given}
 use Rattle.cxl_pick.specs.inner.Offers.{some_of, listed_at}
-use Rattle.cxl_pick.proofs.Givings.{at_uid, uid_step, uid_none}
+use Rattle.cxl_pick.proofs.Givings.{at_uid, uid_step, uid_none, uid_end}
 use Rattle.cxl_pick.proofs.picking.all_given.Goals as goal
 
 not_false : (b : Bool) → not b ≡ false → b ≡ true
@@ -48,3 +48,9 @@ loop-uid-preserved c =
     (ap (option_and_then (λ b. some_of (listed_at c.args.table.now (length nodes) b c.args.share))) (sym c.in-Some.ensures.bridge)
     ∙ ap (λ (k : ℕ). some_of (listed_at c.args.table.now k c.in-Some.bridge c.args.share)) (sym all)
     ∙ full own c.gives.result c.gives.ensures c.if-not-gives.false)
+
+pub returns : goal.returns
+returns c =
+    let nodes = c.args.topo.now.nodes in
+    let uids : List ℕ = c.args.targets.now in
+    uid_end nodes c.args.table.now c.args.share c.loop-uid.uid-index uids c.loop-uid.given.items (all_given (map (at_uid nodes c.args.table.now c.args.share) uids)) c.loop-uid-test.false c.loop-uid.invariant

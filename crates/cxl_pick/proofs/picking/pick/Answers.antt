@@ -1,4 +1,4 @@
-use Rattle.std.proofs.Common.{sym, ap, ◌∙◌}
+use Rattle.std.proofs.Common.{refl, sym, ap, ◌∙◌}
 use Rattle.cxl_enc.specs.Codes.{is_ways}
 use Rattle.cxl_model.specs.System.{System, system_of}
 use Rattle.cxl_pick.specs.declared.want.Want.{Want}
@@ -108,3 +108,6 @@ returns-in-Ok-None-clause-refusal c = λ real.
     let size = c.is_size.ensures.0 c.if-not-is_size.false in
     let own = rw c.in-Ok-None.field-0-is at c.in-Ok-None.ensures in
     c.wants_come_to_answers.ensures.fault s want faults.NoSet (ways, size, own) real
+
+pub returns-in-Err-clause-refusal : goal.returns-in-Err-clause-refusal
+returns-in-Err-clause-refusal c = λ real. absurd (real refl)

@@ -35,7 +35,7 @@ returns c =
     let nodes = c.args.host.now.topo.now.nodes in
     let request = c.args.request.now in
     let items = c.deref-node-items.result.now in
-    let tree : KnownTree nodes = record { tree = c.count-count.ensures.tree; laws = c.tree_laws.ensures.laws nodes c.count-count.ensures.tree } in
+    let tree : KnownTree nodes = record { tree = c.requires.ready.system.tree; laws = c.requires.ready.laws } in
     let is = c.deref-node-items.ensures.value ∙ c.requires.uses.listed in
     record {
       above = λ n used.

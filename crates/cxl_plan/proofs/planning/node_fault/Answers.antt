@@ -35,6 +35,6 @@ returns-in-Some-first_refused-clause-some c = record {
 pub returns-in-None-clause-none : goal.returns-in-None-clause-none
 returns-in-None-clause-none c =
     let nodes = c.args.host.now.topo.now.nodes in
-    let tree : KnownTree nodes = record { tree = c.count-count.ensures.tree; laws = c.tree_laws.ensures.laws nodes c.count-count.ensures.tree } in
+    let tree : KnownTree nodes = record { tree = c.requires.ready.system.tree; laws = c.requires.ready.laws } in
     fits_endpoints nodes tree c.args.request.now c.requires.ready.named c.args.host.now.image.now c.args.host.now.windows.now c.requires.early (sym c.in_default.ensures)
     (sym (c.in_default-first_full.ensures nodes c.args.request.now c.requires.ready.system.caps.count c.requires.uses)) c.in-None.ensures.none

@@ -3,6 +3,16 @@ use Rattle.cxl_model.specs.System.{system_of}
 use Rattle.cxl_plan.proofs.LegalAnswers.{legal_answer, least_answer, no_plan, no_plan_answer, computed_answer}
 use Rattle.cxl_plan.proofs.planning.plan.Goals as goal
 
+pub plan_ready-requires-clause-ready : goal.plan_ready-requires-clause-ready
+plan_ready-requires-clause-ready c =
+    let system = c.accepted_image_is_system.ensures in
+    record {
+      system = system;
+      laws = c.tree_laws.ensures.laws c.args.topo.now.nodes system.tree;
+      blocks = λ rule n i low. c.requires.accepted.each rule n i;
+      named = c.requires.named;
+    }
+
 pub returns-in-Some-clause-fault : goal.returns-in-Some-clause-fault
 returns-in-Some-clause-fault c not_memory = c.in-Some.ensures.some (system_of c.args.image.now c.args.topo.now c.args.windows.now)
 

@@ -17,3 +17,9 @@ returns c = record {
   places = λ slot place at. c.in_ok-spans.ensures.places slot place (ap (λ (xs : List Place). slice_get xs slot) (sym c.new.ensures) ∙ at);
   rows = rows_told c.args.host.now.topo.now.nodes c.args.host.now.image.now c.args.host.now.windows.now c.args.request.now c.args.w.now c.args.base c.args.base _ refl (c.new-2.ensures ∙ c.in_ok-rows.ensures);
 }
+
+pub places-requires : goal.places-requires
+places-requires c = c.requires
+
+pub rows-requires : goal.rows-requires
+rows-requires c = c.requires

@@ -1,4 +1,4 @@
-use Rattle.std.proofs.Common.{◌≡◌, ℕ, List, Some, sym, ap, subst, ◌∙◌}
+use Rattle.std.proofs.Common.{◌≡◌, ℕ, List, Some, refl, sym, ap, subst, ◌∙◌}
 use Rattle.std.proofs.lemmas.Option.{same_Some, slice_get_within, slice_get-get_or}
 use Rattle.cxl_window.specs.Fields.{WindowFields}
 use Rattle.cxl_legal.specs.Stated.{IsStatedPlan}
@@ -14,7 +14,7 @@ use Rattle.cxl_plan.proofs.planning.plan_fitting.Goals as goal
 pub choose-requires-clause-ways : goal.choose-requires-clause-ways
 choose-requires-clause-ways c =
     let s = as_system c.args.host.now in
-    let tree : KnownTree s.nodes = record { tree = c.count-count.ensures.tree; laws = c.tree_laws.ensures.laws s.nodes c.count-count.ensures.tree } in
+    let tree : KnownTree s.nodes = record { tree = c.requires.ready.system.tree; laws = c.requires.ready.laws } in
     has_ways s tree c.args.request.now c.requires.ready.named c.requires.fits
 
 pub choose-requires-clause-sound : goal.choose-requires-clause-sound
@@ -35,7 +35,7 @@ plan_at-requires c =
     let inside = slice_get_within windows c.in-Found.i found.0 found.1 in
     let same : found.0 ≡ w = same_Some found.0 w (sym found.1 ∙ slice_get-get_or windows c.in-Found.i w inside ∙ ap Some (sym c.index-windows-i.is)) in
     let first : TakesFirst s c.args.request.now w c.in-Found.base = subst (λ (v : WindowFields). TakesFirst s c.args.request.now v c.in-Found.base) same found.2 in
-    let tree : KnownTree s.nodes = record { tree = c.count-count.ensures.tree; laws = c.tree_laws.ensures.laws s.nodes c.count-count.ensures.tree } in
+    let tree : KnownTree s.nodes = record { tree = c.requires.ready.system.tree; laws = c.requires.ready.laws } in
     record {
       ready = c.requires.ready;
       tables = c.requires.uses;
@@ -69,3 +69,39 @@ returns-in-Ok-plan_at-clause-plan c =
       first = subst (λ (b : ℕ). TakesFirst s c.args.request.now w b) (sym stated.starts) first;
       stated = subst (λ (b : ℕ). IsStatedPlan s c.args.request.now w b plan) (sym stated.starts) stated;
     }
+
+pub choose-requires-clause-ready : goal.choose-requires-clause-ready
+choose-requires-clause-ready c = c.requires.ready
+
+pub choose-requires-clause-uses : goal.choose-requires-clause-uses
+choose-requires-clause-uses c = c.requires.uses
+
+pub returns-in_default-clause-fault : goal.returns-in_default-clause-fault
+returns-in_default-clause-fault c not_memory = absurd (not_memory refl)
+
+pub returns-in-Err-clause-fault : goal.returns-in-Err-clause-fault
+returns-in-Err-clause-fault c not_memory = absurd (not_memory refl)
+
+pub returns-in-Ok-plan_at-clause-endpoints : goal.returns-in-Ok-plan_at-clause-endpoints
+returns-in-Ok-plan_at-clause-endpoints c = c.requires.fits
+
+pub returns-in_default-clause-endpoints : goal.returns-in_default-clause-endpoints
+returns-in_default-clause-endpoints c = tt
+
+pub returns-in_default-clause-plan : goal.returns-in_default-clause-plan
+returns-in_default-clause-plan c = tt
+
+pub returns-in-Ok-plan_at-clause-fault : goal.returns-in-Ok-plan_at-clause-fault
+returns-in-Ok-plan_at-clause-fault c = tt
+
+pub returns-in-Err-clause-endpoints : goal.returns-in-Err-clause-endpoints
+returns-in-Err-clause-endpoints c = tt
+
+pub returns-in-Err-clause-plan : goal.returns-in-Err-clause-plan
+returns-in-Err-clause-plan c = tt
+
+pub returns-in-Nowhere-clause-endpoints : goal.returns-in-Nowhere-clause-endpoints
+returns-in-Nowhere-clause-endpoints c = tt
+
+pub returns-in-Nowhere-clause-plan : goal.returns-in-Nowhere-clause-plan
+returns-in-Nowhere-clause-plan c = tt

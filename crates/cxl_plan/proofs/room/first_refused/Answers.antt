@@ -1,4 +1,4 @@
-use Rattle.std.proofs.Common.{get_or, ap, subst, ◌∙◌, arith}
+use Rattle.std.proofs.Common.{get_or, ap, subst, ◌∙◌, arith, below_more}
 use Rattle.cxl_topo.specs.Tree.{is_endpoint_at}
 use Rattle.cxl_model.specs.Hosts.{as_system}
 use Rattle.cxl_legal.specs.Endpoints.{HasRoom}
@@ -16,7 +16,7 @@ returns-in-Some-clause-refused c =
     let request = c.args.request.now in
     let items = c.deref-node-items.result.now in
     let i = c.loop-node.node-index in
-    let tree : KnownTree nodes = record { tree = c.count-count.ensures.tree; laws = c.tree_laws.ensures.laws nodes c.count-count.ensures.tree } in
+    let tree : KnownTree nodes = record { tree = c.requires.ready.system.tree; laws = c.requires.ready.laws } in
     let named = c.requires.ready.named in
     let is = c.deref-node-items.ensures.value ∙ c.requires.uses.listed in
     let used = item_used nodes request items is i (omega arith) in
@@ -35,9 +35,18 @@ returns-clause-none c m asked =
     let nodes = c.args.host.now.topo.now.nodes in
     let request = c.args.request.now in
     let items = c.deref-node-items.result.now in
-    let tree : KnownTree nodes = record { tree = c.count-count.ensures.tree; laws = c.tree_laws.ensures.laws nodes c.count-count.ensures.tree } in
+    let tree : KnownTree nodes = record { tree = c.requires.ready.system.tree; laws = c.requires.ready.laws } in
     let named = c.requires.ready.named in
     let is = c.deref-node-items.ensures.value ∙ c.requires.uses.listed in
     let at = used_stands nodes tree request named items is m (asked_used nodes tree request named m asked) in
     let within = at.within in
     subst (HasRoom s request) at.here (c.loop-node.invariant at.place (omega arith) (ap (is_endpoint_at nodes) at.here ∙ asked_endpoint nodes tree request named m asked))
+
+pub refusal-requires-clause-ready : goal.refusal-requires-clause-ready
+refusal-requires-clause-ready c = c.requires.ready
+
+pub refusal-requires-clause-sound : goal.refusal-requires-clause-sound
+refusal-requires-clause-sound c = c.requires.sound
+
+pub loop-node-preserved : goal.loop-node-preserved
+loop-node-preserved c = below_more _ _ c.loop-node.invariant c.in_default.ensures.none

@@ -2,7 +2,8 @@ use Rattle.std.proofs.Common.{ℕ, sym, subst}
 use Rattle.cxl_span.specs.Breaches.{BlockKeeps}
 use Rattle.cxl_model.specs.Hosts.{as_system}
 use Rattle.cxl_model.specs.System.{ram_at}
-use Rattle.cxl_plan.proofs.KeptBlocks.{kept_block, endpoint_at}
+use Rattle.cxl_plan.proofs.Tables.{endpoint_inside}
+use Rattle.cxl_plan.proofs.KeptBlocks.{kept_block, endpoint_at, node_inside}
 use Rattle.cxl_plan.proofs.room.span_of.Goals as goal
 
 pub allot-requires-clause-endpoint : goal.allot-requires-clause-endpoint
@@ -15,3 +16,18 @@ allot-requires-clause-keeps c =
     let block = c.block.result.now in
     subst (λ (r : ℕ). BlockKeeps block r c.capacity_at-capacity.result.pmem) (sym c.capacity_at-capacity.ensures.ram)
     (subst (λ (p : ℕ). BlockKeeps block (ram_at s c.args.endpoint) p) (sym c.capacity_at-capacity.ensures.pmem) (kept_block s c.args.request.now c.requires.ready c.args.endpoint block c.block.ensures.value))
+
+pub block-requires : goal.block-requires
+block-requires c = node_inside (as_system c.args.host.now) c.args.request.now c.requires.ready c.args.endpoint c.requires.endpoint
+
+pub capacity_at-capacity-requires : goal.capacity_at-capacity-requires
+capacity_at-capacity-requires c = endpoint_inside c.args.host.now.topo.now.nodes c.args.endpoint c.requires.endpoint
+
+pub share_of-share-requires : goal.share_of-share-requires
+share_of-share-requires c = c.requires.sound
+
+pub allot-requires-clause-capacity : goal.allot-requires-clause-capacity
+allot-requires-clause-capacity c = c.capacity_at-capacity.ensures.small
+
+pub allot-requires-clause-short : goal.allot-requires-clause-short
+allot-requires-clause-short c = c.share_of-share.ensures.low

@@ -54,7 +54,7 @@ pub unwrap-requires : goal.unwrap-requires
 unwrap-requires c =
     let nodes = c.args.host.now.topo.now.nodes in
     let request = c.args.request.now in
-    let tree : KnownTree nodes = record { tree = c.count-count.ensures.tree; laws = c.tree_laws.ensures.laws nodes c.count-count.ensures.tree } in
+    let tree : KnownTree nodes = record { tree = c.requires.settled.ready.system.tree; laws = c.requires.settled.ready.laws } in
     let asked = used_asked nodes tree request c.requires.settled.ready.named c.reached-endpoint.result c.reached-endpoint.ensures.endpoint c.reached-endpoint.ensures.used in
     let room = c.requires.settled.endpoints.room c.reached-endpoint.result asked in
     subst (λ r. IsOk r) (sym ((c.span_of.ensures (Ok room.0)).1 room.1)) refl
