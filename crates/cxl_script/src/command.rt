@@ -53,7 +53,7 @@ pub struct Create {
 }
 
 /// A byte of an endpoint's device.
-#[derive(Clone, Copy, PartialEq, Eq)]
+#[derive(Clone, Copy)]
 pub struct Up {
     pub endpoint: Name,
     /// The device address.
@@ -61,7 +61,7 @@ pub struct Up {
 }
 
 /// Bytes to be read.
-#[derive(Clone, Copy, PartialEq, Eq)]
+#[derive(Clone, Copy)]
 pub struct Load {
     /// The first host address.
     pub h: u64,
@@ -87,7 +87,7 @@ pub struct Poison {
 }
 
 /// A range of host bytes.
-#[derive(Clone, Copy, PartialEq, Eq)]
+#[derive(Clone, Copy)]
 pub struct Reach {
     /// The first host address.
     pub h: u64,
@@ -96,7 +96,7 @@ pub struct Reach {
 }
 
 /// Two regions, by their names.
-#[derive(Clone, Copy, PartialEq, Eq)]
+#[derive(Clone, Copy)]
 pub struct Pair {
     pub from: Name,
     pub to: Name,

@@ -1,12 +1,13 @@
 ghost use Rattle.std.specs.Prelude.{◌≡◌};
-ghost use Rattle.cxl_script.specs.Reading.{IsUnlessMemory, GivesWithRest};
-ghost use Rattle.cxl_script.specs.Grammar.{head_in, names_in, create_over, create_in};
+ghost use Rattle.cxl_io.specs.Numbers.{number_of};
+ghost use Rattle.cxl_script.specs.Reading.{IsUnlessMemory, GivesWithRest, ranged};
+ghost use Rattle.cxl_script.specs.Grammar.{head_in, names_in, some_names_in, create_over, over_ways, over_names, ways_limit, create_in};
 
 use crate::command::Create;
 use crate::fault::{BadLine, LineFault};
 use crate::limits::WAYS_LIMIT;
 use crate::reading::{ranged, word_as_name};
-use crate::words::Words;
+use crate::words::{Word, Words};
 use cxl_enc::{FixedList, MemKind, Name};
 use std::alloc::Global;
 
@@ -24,11 +25,30 @@ pub(crate) fn create(alloc: Global, words: &mut Words<'_>) -> Result<Create, Lin
     ensures { IsUnlessMemory result (create_in words.old.len words.old.words) }
 {
     let head = read_head(words)?;
-    if let Some(word) = words.next_behind(b"ways=") {
-        let ways = ranged(word, 1, WAYS_LIMIT)?;
-        let none = FixedList::new(Vec::new(alloc));
-        return Ok(words.ends(create_over(head, none, Some(ways as u8)))?);
+    match words.next_behind(b"ways=") {
+        Some(word) => Ok(over_ways(alloc, head, word, words)?),
+        None => over_names(alloc, head, words),
     }
+}
+
+/// A region over as many endpoints as a word says, which are to be picked.
+fn over_ways(
+    alloc: Global,
+    head: Head,
+    word: Word<'_>,
+    words: &Words<'_>,
+) -> Result<Create, BadLine>
+    ensures { result ≡ over_ways head (ranged word.entry.at 1 ways_limit (number_of word.entry.text.now)) words.now.words }
+{
+    let ways = ranged(word, 1, WAYS_LIMIT)?;
+    let none = FixedList::new(Vec::new(alloc));
+    words.ends(create_over(head, none, Some(ways as u8)))
+}
+
+/// A region over the endpoints that the line names, one or more.
+fn over_names(alloc: Global, head: Head, words: &mut Words<'_>) -> Result<Create, LineFault>
+    ensures { IsUnlessMemory result (over_names head (some_names_in words.old.len words.old.words)) }
+{
     if words.is_empty() {
         return Err(LineFault::Bad(words.missing()));
     }

@@ -100,7 +100,8 @@ same_item [] i a b within = absurd (omega arith)
 same_item (x ∷ xs) zero a b within = refl
 same_item (x ∷ xs) (suc i) a b within = same_item xs i a b (omega arith)
 
-appended : (o p q text more : List ℕ) → p ≡ o ++ text → q ≡ p ++ more → q ≡ o ++ (text ++ more)
+-- a text behind another
+pub appended : (o p q text more : List ℕ) → p ≡ o ++ text → q ≡ p ++ more → q ≡ o ++ (text ++ more)
 appended o p q text more h k = k ∙ ap (λ (t : List ℕ). t ++ more) h ∙ append_assoc o text more
 
 -- a line for each item
@@ -110,14 +111,14 @@ item_step f xs i d o p q within so_far e =
     ∙ ap (λ (t : List ℕ). o ++ t) (sym (ap (flat_map f) (take_more xs i d within) ∙ one_line f (take i xs) (get_or xs i d)))
 
 -- a word for each item, behind a space
-pub word_step : {X : Type 0} (f : X → List ℕ) (xs : List X) (i : ℕ) (d : X) (o p r q : List ℕ) → i < length xs → p ≡ o ++ more_spaced (map f (take i xs)) → r ≡ p ++ codes " " → q ≡ r ++ f (get_or xs i d) → q ≡ o ++ more_spaced (map f (take (i + 1) xs))
-word_step {X = X} f xs i d o p r q within so_far space e =
+pub word_step : {X : Type 0} (f : X → List ℕ) (xs : List X) (i : ℕ) (d : X) (o p q : List ℕ) → i < length xs → p ≡ o ++ more_spaced (map f (take i xs)) → q ≡ p ++ (codes " " ++ f (get_or xs i d)) → q ≡ o ++ more_spaced (map f (take (i + 1) xs))
+word_step {X = X} f xs i d o p q within so_far e =
     let word : List ℕ = f (get_or xs i d) in
     let more =
     ap (λ (ys : List X). more_spaced (map f ys)) (take_more xs i d within)
     ∙ ap more_spaced (map-append f (take i xs) (get_or xs i d ∷ []))
     ∙ one_line (λ w. codes " " ++ w) (map f (take i xs)) word in
-    appended o p q (more_spaced (map f (take i xs))) (codes " " ++ word) so_far (appended p r q (codes " ") word space e)
+    appended o p q (more_spaced (map f (take i xs))) (codes " " ++ word) so_far e
     ∙ ap (λ (t : List ℕ). o ++ t) (sym more)
 
 -- the text of all items

@@ -2,7 +2,7 @@ ghost use Rattle.std.specs.Prelude.{◌≡◌, ◌+◌, ◌<◌, ◌≤◌, ◌+
 ghost use Rattle.cxl_reply.specs.Plans.{found_range_text, found_ways_text, found_head_text, found_text, breach_text};
 ghost use Rattle.cxl_reply.specs.Conditions.{IsToldFound};
 
-use crate::refusal::put_text;
+use crate::refusal::{put_line, put_text};
 use crate::region::put_slots;
 use crate::short_text::ShortText;
 use crate::words::kind_text;
@@ -18,10 +18,16 @@ pub fn put_found(out: &mut Vec<u8>, found: &Found, topo: &Topo) -> Result<(), Me
     ensures err { OnErr result (out.new.items ≡ out.old.items) }
 {
     let mut text = Vec::new(*out.allocator());
-    put_found_head(&mut text, found)?;
-    put_slots(&mut text, found.spans.items(), topo)?;
-    out.extend_from_slice(&text)?;
-    Ok(())
+    put_found_lines(&mut text, found, topo)?;
+    put_text(out, &text)
+}
+
+fn put_found_lines(out: &mut Vec<u8>, found: &Found, topo: &Topo) -> Result<(), Memory>
+    requires { IsToldFound topo.now.nodes found.now }
+    ensures { OnOk result (out.new.items ≡ out.old.items ++ found_text topo.now.nodes found.now) }
+{
+    put_found_head(out, found)?;
+    put_slots(out, found.spans.items(), topo)
 }
 
 fn put_found_head(out: &mut Vec<u8>, found: &Found) -> Result<(), Memory>
@@ -33,8 +39,7 @@ fn put_found_head(out: &mut Vec<u8>, found: &Found) -> Result<(), Memory>
     put_found_ways(&mut line, found);
     line.put(b" ");
     line.put(kind_text(found.kind));
-    line.put(b"\n");
-    put_text(out, line.bytes())
+    put_line(out, &mut line)
 }
 
 #[tactic(auto, unfolding(cxl_reply::specs::Plans::found_ways_text))]
@@ -44,10 +49,8 @@ fn put_found_ways(line: &mut ShortText, found: &Found)
     ensures text { line.new ≡ line.old ++ found_ways_text found.now }
     ensures len { length line.new ≤ length line.old + 32 }
 {
-    line.put(b" gran ");
-    line.put_gran(found.gran);
-    line.put(b" ways ");
-    line.put_number(u32::from(found.ways));
+    line.put_gran(b" gran ", found.gran);
+    line.put_number(b" ways ", u32::from(found.ways));
 }
 
 #[tactic(auto, unfolding(cxl_reply::specs::Plans::found_range_text))]
@@ -56,12 +59,9 @@ fn put_found_range(line: &mut ShortText, found: &Found)
     ensures text { line.new ≡ line.old ++ found_range_text found.now }
     ensures len { length line.new ≤ length line.old + 67 }
 {
-    line.put(b"region ");
-    line.put_hex(found.base);
-    line.put(b" size ");
-    line.put_hex(found.size);
-    line.put(b" window ");
-    line.put_number(found.window);
+    line.put_hex(b"region ", found.base);
+    line.put_hex(b" size ", found.size);
+    line.put_number(b" window ", found.window);
 }
 
 /// Appends the rule that an image breaks first, by its number, with the node and the decoder that break
@@ -78,13 +78,8 @@ pub fn put_breach(
     ensures err { OnErr result (out.new.items ≡ out.old.items) }
 {
     let mut line = ShortText::new();
-    line.put(b"breach K");
-    line.put_number(u32::from(rule));
-    line.put(b" ");
-    line.put_node(node, topo);
-    line.put(b" ");
-    line.put_number(u32::from(decoder));
-    line.put(b"\n");
-    out.extend_from_slice(line.bytes())?;
-    Ok(())
+    line.put_number(b"breach K", u32::from(rule));
+    line.put_node(b" ", node, topo);
+    line.put_number(b" ", u32::from(decoder));
+    put_line(out, &mut line)
 }

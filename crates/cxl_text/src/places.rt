@@ -4,7 +4,7 @@ ghost use Rattle.cxl_reply.specs.Texts.{via_text, vias_text, down_head_text, dow
 ghost use Rattle.cxl_reply.specs.Conditions.{IsToldDown, IsToldExtents, AreToldSlots};
 
 use crate::digits::put_bytes;
-use crate::refusal::put_text;
+use crate::refusal::{put_line, put_text};
 use crate::short_text::ShortText;
 use cxl_enc::Memory;
 use cxl_model::Extent;
@@ -25,14 +25,10 @@ fn put_down_head(out: &mut Vec<u8>, downed: &Downed) -> Result<(), Memory>
     ensures { OnOk result (out.new.items ≡ out.old.items ++ down_head_text downed.now) }
 {
     let mut head = ShortText::new();
-    head.put(b"down ");
-    head.put_hex(downed.h);
-    head.put(b" region ");
-    head.put_name(&downed.name);
-    head.put(b" slot ");
-    head.put_number(downed.slot);
-    head.put(b" position ");
-    head.put_number(downed.position);
+    head.put_hex(b"down ", downed.h);
+    head.put_name(b" region ", &downed.name);
+    head.put_number(b" slot ", downed.slot);
+    head.put_number(b" position ", downed.position);
     head.put(b" via ");
     put_text(out, head.bytes())
 }
@@ -42,12 +38,9 @@ fn put_down_end(out: &mut Vec<u8>, downed: &Downed, topo: &Topo) -> Result<(), M
     ensures { OnOk result (out.new.items ≡ out.old.items ++ down_end_text topo.now.nodes downed.now) }
 {
     let mut end = ShortText::new();
-    end.put(b" endpoint ");
-    end.put_node(downed.endpoint, topo);
-    end.put(b" dpa ");
-    end.put_hex(downed.dpa);
-    end.put(b"\n");
-    put_text(out, end.bytes())
+    end.put_node(b" endpoint ", downed.endpoint, topo);
+    end.put_hex(b" dpa ", downed.dpa);
+    put_line(out, &mut end)
 }
 
 /// Appends the ports on the way with spaces between, or a dash where there is none.
@@ -61,7 +54,7 @@ fn put_vias(out: &mut Vec<u8>, vias: &[Via], topo: &Topo) -> Result<(), Memory>
             Ok(())
         }
         [first, others @ ..] => {
-            put_via(out, first, topo)?;
+            put_via(out, b"", first, topo)?;
             put_more_vias(out, others, topo)
         }
     }
@@ -73,22 +66,21 @@ fn put_more_vias(out: &mut Vec<u8>, vias: &[Via], topo: &Topo) -> Result<(), Mem
     ensures { OnOk result (out.new.items ≡ out.old.items ++ more_spaced (map (via_text topo.now.nodes) vias.now)) }
 {
     for via in vias {
-        out.push(b' ')?;
-        put_via(out, via, topo)?;
+        put_via(out, b" ", via, topo)?;
     }
     Ok(())
 }
 
-fn put_via(out: &mut Vec<u8>, via: &Via, topo: &Topo) -> Result<(), Memory>
-    requires { via.now.node < length topo.now.nodes }
-    ensures { OnOk result (out.new.items ≡ out.old.items ++ via_text topo.now.nodes via.now) }
+/// Appends a port on the way behind what parts it from the one before.
+fn put_via(out: &mut Vec<u8>, before: &[u8], via: &Via, topo: &Topo) -> Result<(), Memory>
+    requires few { length before.now ≤ 1 }
+    requires node { via.now.node < length topo.now.nodes }
+    ensures { OnOk result (out.new.items ≡ out.old.items ++ (before.now ++ via_text topo.now.nodes via.now)) }
 {
     let mut text = ShortText::new();
-    text.put_node(via.node, topo);
-    text.put(b":");
-    text.put_number(u32::from(via.decoder));
-    text.put(b":");
-    text.put_number(u32::from(via.entry));
+    text.put_node(before, via.node, topo);
+    text.put_number(b":", u32::from(via.decoder));
+    text.put_number(b":", u32::from(via.entry));
     put_text(out, text.bytes())
 }
 
@@ -97,19 +89,16 @@ pub(crate) fn put_up(out: &mut Vec<u8>, upped: &Upped) -> Result<(), Memory>
     ensures { OnOk result (out.new.items ≡ out.old.items ++ up_text upped.now) }
 {
     let mut line = ShortText::new();
-    line.put(b"host ");
-    line.put_hex(upped.h);
-    line.put(b" region ");
-    line.put_name(&upped.name);
-    line.put(b"\n");
-    put_text(out, line.bytes())
+    line.put_hex(b"host ", upped.h);
+    line.put_name(b" region ", &upped.name);
+    put_line(out, &mut line)
 }
 
 /// Appends bytes in hexadecimal digits.
 pub(crate) fn put_loaded(out: &mut Vec<u8>, bytes: &[u8]) -> Result<(), Memory>
     ensures { OnOk result (out.new.items ≡ out.old.items ++ loaded_text bytes.now) }
 {
-    out.extend_from_slice(b"bytes ")?;
+    put_text(out, b"bytes ")?;
     put_bytes(out, bytes)?;
     put_text(out, b"\n")
 }
@@ -138,12 +127,9 @@ fn put_extent(
 {
     let mut line = ShortText::new();
     put_extent_bytes(&mut line, extent);
-    line.put(b" ");
-    line.put_node(endpoints[extent.slot as usize], topo);
-    line.put(b" ");
-    line.put_hex(extent.dpa);
-    line.put(b"\n");
-    put_text(out, line.bytes())
+    line.put_node(b" ", endpoints[extent.slot as usize], topo);
+    line.put_hex(b" ", extent.dpa);
+    put_line(out, &mut line)
 }
 
 /// Appends the host bytes of an extent.
@@ -153,10 +139,8 @@ fn put_extent_bytes(line: &mut ShortText, extent: &Extent)
     ensures text { line.new ≡ line.old ++ extent_bytes_text extent.now }
     ensures len { length line.new ≤ length line.old + 36 }
 {
-    line.put(b"extent ");
-    line.put_hex(extent.h);
-    line.put(b" ");
-    line.put_number(extent.len);
+    line.put_hex(b"extent ", extent.h);
+    line.put_number(b" ", extent.len);
 }
 
 /// Appends a line for each slot.
@@ -194,12 +178,8 @@ fn put_share(
     ensures { OnOk result (out.new.items ≡ out.old.items ++ share_text topo.now.nodes (slot, (endpoint, bytes))) }
 {
     let mut line = ShortText::new();
-    line.put(b"slot ");
-    line.put_long_number(slot as u64);
-    line.put(b" ");
-    line.put_node(endpoint, topo);
-    line.put(b" ");
-    line.put_long_number(bytes);
-    line.put(b"\n");
-    put_text(out, line.bytes())
+    line.put_long_number(b"slot ", slot as u64);
+    line.put_node(b" ", endpoint, topo);
+    line.put_long_number(b" ", bytes);
+    put_line(out, &mut line)
 }

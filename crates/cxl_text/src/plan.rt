@@ -1,7 +1,8 @@
-ghost use Rattle.std.specs.Prelude.{◌≡◌, ◌<◌, ◌≤◌, ◌++◌, All, length, OnOk, OnErr};
+ghost use Rattle.std.specs.Prelude.{◌≡◌, ◌<◌, ◌≤◌, ◌++◌, All, codes, decimal, length, OnOk, OnErr};
 ghost use Rattle.std.specs.List.{flat_map};
 ghost use Rattle.cxl_regs.specs.Reading.{entries_of};
 ghost use Rattle.cxl_topo.specs.Tree.{is_endpoint_at};
+ghost use Rattle.cxl_reply.specs.Words.{node_text};
 ghost use Rattle.cxl_reply.specs.Plans.{plan_head_text, more_ports_text, ports_text, tail_text, decoder_text, planned_text, plan_text, IsToldRow, IsToldPlan};
 
 use crate::refusal::put_text;
@@ -22,10 +23,16 @@ pub fn put_plan(out: &mut Vec<u8>, plan: &Plan, topo: &Topo) -> Result<(), Memor
     ensures err { OnErr result (out.new.items ≡ out.old.items) }
 {
     let mut text = Vec::new(*out.allocator());
-    put_plan_head(&mut text, plan)?;
-    put_plan_rows(&mut text, plan.rows.items(), topo)?;
-    out.extend_from_slice(&text)?;
-    Ok(())
+    put_plan_lines(&mut text, plan, topo)?;
+    put_text(out, &text)
+}
+
+fn put_plan_lines(out: &mut Vec<u8>, plan: &Plan, topo: &Topo) -> Result<(), Memory>
+    requires { IsToldPlan topo.now.nodes plan.now }
+    ensures { OnOk result (out.new.items ≡ out.old.items ++ plan_text topo.now.nodes plan.now) }
+{
+    put_plan_head(out, plan)?;
+    put_plan_rows(out, plan.rows.items(), topo)
 }
 
 fn put_plan_head(out: &mut Vec<u8>, plan: &Plan) -> Result<(), Memory>
@@ -49,15 +56,22 @@ fn put_planned(out: &mut Vec<u8>, row: &Row, topo: &Topo) -> Result<(), Memory>
     requires { IsToldRow topo.now.nodes row.now }
     ensures { OnOk result (out.new.items ≡ out.old.items ++ planned_text topo.now.nodes row.now) }
 {
-    let mut head = ShortText::new();
-    head.put(b"row ");
-    head.put_node(row.node, topo);
-    head.put(b" ");
-    head.put_number(u32::from(row.index));
-    put_decoder(&mut head, &row.decoder);
-    put_text(out, head.bytes())?;
+    put_planned_head(out, row, topo)?;
     put_tail(out, is_endpoint(row.node, topo), &row.decoder)?;
     put_text(out, b"\n")
+}
+
+/// Appends a decoder of a node, with its ways and its granularity.
+fn put_planned_head(out: &mut Vec<u8>, row: &Row, topo: &Topo) -> Result<(), Memory>
+    requires { IsToldRow topo.now.nodes row.now }
+    ensures { OnOk result (out.new.items ≡ out.old.items
+        ++ (codes "row " ++ node_text topo.now.nodes row.now.node ++ codes " " ++ decimal row.now.index ++ decoder_text row.now.decoder)) }
+{
+    let mut head = ShortText::new();
+    head.put_node(b"row ", row.node, topo);
+    head.put_number(b" ", u32::from(row.index));
+    put_decoder(&mut head, &row.decoder);
+    put_text(out, head.bytes())
 }
 
 fn is_endpoint(node: u32, topo: &Topo) -> bool
@@ -72,10 +86,8 @@ fn put_decoder(text: &mut ShortText, decoder: &Decoder)
     requires gran { decoder.now.gran < 16 }
     ensures { text.new ≡ text.old ++ decoder_text decoder.now }
 {
-    text.put(b" ways ");
-    text.put_number(u32::from(decoder.interleave_ways()));
-    text.put(b" gran ");
-    text.put_number(decoder.interleave_granularity());
+    text.put_number(b" ways ", u32::from(decoder.interleave_ways()));
+    text.put_number(b" gran ", decoder.interleave_granularity());
 }
 
 /// Appends a port's target list, or an endpoint's skip.
@@ -83,10 +95,10 @@ fn put_tail(out: &mut Vec<u8>, endpoint: bool, decoder: &Decoder) -> Result<(), 
     ensures { OnOk result (out.new.items ≡ out.old.items ++ tail_text endpoint decoder.now) }
 {
     if endpoint {
-        out.extend_from_slice(b" skip ")?;
+        put_text(out, b" skip ")?;
         put_address(out, decoder.tail)
     } else {
-        out.extend_from_slice(b" targets ")?;
+        put_text(out, b" targets ")?;
         put_ports(out, decoder)
     }
 }

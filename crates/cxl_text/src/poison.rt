@@ -1,14 +1,15 @@
 ghost use Rattle.std.specs.Prelude.{◌≡◌, ◌+◌, ◌<◌, ◌≤◌, ◌++◌, All, codes, length, OnOk};
 ghost use Rattle.std.specs.List.{flat_map, zip};
+ghost use Rattle.cxl_model.specs.declared.poison.Part.TheVariants as parts;
 ghost use Rattle.cxl_reply.specs.Words.{line};
 ghost use Rattle.cxl_reply.specs.Texts.{flag_text, overflow_text, flags_text, list_text, source_text, entry_text, region_text, part_text, unmapped_text, record_text, report_text};
 ghost use Rattle.cxl_text.specs.Short.{short_limit};
 ghost use Rattle.cxl_reply.specs.Conditions.{region_of, IsToldReport};
 
-use crate::refusal::put_text;
+use crate::refusal::{put_line, put_text};
 use crate::short_text::ShortText;
 use cxl_enc::{Memory, Name};
-use cxl_model::{Entry, Part, PoisonList, Poisoned};
+use cxl_model::{Entry, Part, PoisonList, Poisoned, Run, Wide};
 use cxl_reply::Report;
 use cxl_topo::Topo;
 
@@ -27,13 +28,10 @@ fn put_list(out: &mut Vec<u8>, endpoint: u32, list: &PoisonList, topo: &Topo) ->
     ensures { OnOk result (out.new.items ≡ out.old.items ++ list_text topo.now.nodes endpoint list.now) }
 {
     let mut line = ShortText::new();
-    line.put(b"poison ");
-    line.put_node(endpoint, topo);
-    line.put(b" records ");
-    line.put_long_number(list.records.items().len() as u64);
+    line.put_node(b"poison ", endpoint, topo);
+    line.put_long_number(b" records ", list.records.items().len() as u64);
     put_flags(&mut line, list);
-    line.put(b"\n");
-    put_text(out, line.bytes())
+    put_line(out, &mut line)
 }
 
 /// Appends what a poison list says of itself.
@@ -63,8 +61,7 @@ fn put_overflow(line: &mut ShortText, overflow: Option<u64>)
     ensures len { length line.new ≤ length line.old + 30 }
 {
     if let Some(timestamp) = overflow {
-        line.put(b" overflow ");
-        line.put_long_number(timestamp);
+        line.put_long_number(b" overflow ", timestamp);
     }
 }
 
@@ -102,14 +99,11 @@ fn put_entry(out: &mut Vec<u8>, entry: &Entry) -> Result<(), Memory>
     ensures { OnOk result (out.new.items ≡ out.old.items ++ entry_text entry.now) }
 {
     let mut line = ShortText::new();
-    line.put(b"record ");
-    line.put_hex(entry.dpa);
-    line.put(b" length ");
-    line.put_long_number(64 * u64::from(entry.units));
+    line.put_hex(b"record ", entry.dpa);
+    line.put_long_number(b" length ", 64 * u64::from(entry.units));
     line.put(b" source ");
     put_source(&mut line, entry.source);
-    line.put(b"\n");
-    put_text(out, line.bytes())
+    put_line(out, &mut line)
 }
 
 /// Appends what found the poison, or the number of a source that has no name.
@@ -124,7 +118,7 @@ fn put_source(line: &mut ShortText, source: u8)
         2 => line.put(b"internal"),
         3 => line.put(b"injected"),
         7 => line.put(b"vendor"),
-        _ => line.put_number(u32::from(source)),
+        _ => line.put_number(b"", u32::from(source)),
     }
 }
 
@@ -142,25 +136,32 @@ fn put_part(out: &mut Vec<u8>, part: &Part, names: &[Name]) -> Result<(), Memory
     requires { region_of part.now < length names.now }
     ensures { OnOk result (out.new.items ≡ out.old.items ++ part_text names.now part.now) }
 {
-    let mut line = ShortText::new();
     match part {
-        Part::Run(run) => {
-            line.put(b"run ");
-            line.put_hex(run.h);
-            line.put(b" ");
-            line.put_long_number(run.len);
-            put_region(&mut line, run.region, names);
-        }
-        Part::Wide(wide) => {
-            line.put(b"wide ");
-            line.put_hex(wide.first);
-            line.put(b" ");
-            line.put_hex(wide.last);
-            line.put(b" ");
-            line.put_long_number(wide.count);
-            put_region(&mut line, wide.region, names);
-        }
+        Part::Run(run) => put_run(out, run, names),
+        Part::Wide(wide) => put_wide(out, wide, names),
     }
+}
+
+fn put_run(out: &mut Vec<u8>, run: &Run, names: &[Name]) -> Result<(), Memory>
+    requires { run.now.region < length names.now }
+    ensures { OnOk result (out.new.items ≡ out.old.items ++ part_text names.now (parts.Run run.now)) }
+{
+    let mut line = ShortText::new();
+    line.put_hex(b"run ", run.h);
+    line.put_long_number(b" ", run.len);
+    put_region(&mut line, run.region, names);
+    put_text(out, line.bytes())
+}
+
+fn put_wide(out: &mut Vec<u8>, wide: &Wide, names: &[Name]) -> Result<(), Memory>
+    requires { wide.now.region < length names.now }
+    ensures { OnOk result (out.new.items ≡ out.old.items ++ part_text names.now (parts.Wide wide.now)) }
+{
+    let mut line = ShortText::new();
+    line.put_hex(b"wide ", wide.first);
+    line.put_hex(b" ", wide.last);
+    line.put_long_number(b" ", wide.count);
+    put_region(&mut line, wide.region, names);
     put_text(out, line.bytes())
 }
 
@@ -170,8 +171,7 @@ fn put_region(text: &mut ShortText, region: u32, names: &[Name])
     requires region { region < length names.now }
     ensures { text.new ≡ text.old ++ line (codes " region " ++ region_text names.now region) }
 {
-    text.put(b" region ");
-    text.put_name(&names[region as usize]);
+    text.put_name(b" region ", &names[region as usize]);
     text.put(b"\n");
 }
 
@@ -182,8 +182,6 @@ fn put_unmapped(out: &mut Vec<u8>, bytes: u64) -> Result<(), Memory>
         return Ok(());
     }
     let mut line = ShortText::new();
-    line.put(b"unmapped ");
-    line.put_long_number(bytes);
-    line.put(b"\n");
-    put_text(out, line.bytes())
+    line.put_long_number(b"unmapped ", bytes);
+    put_line(out, &mut line)
 }

@@ -1,7 +1,8 @@
-ghost use Rattle.std.specs.Prelude.{◌≡◌, ◌+◌, ◌<◌, ◌≤◌, ◌++◌, All, codes, decimal, length, OnOk};
+ghost use Rattle.std.specs.Prelude.{◌≡◌, ◌+◌, ◌<◌, ◌≤◌, ◌++◌, All, codes, decimal, length, OnOk, OnErr};
 ghost use Rattle.cxl_reply.specs.Words.{line, hex_text, node_text};
 ghost use Rattle.std.specs.List.{flat_map, enumerate_from};
 ghost use Rattle.cxl_reply.specs.Refusals.{why_text, bad_line_text, named_text, full_text, spot_text, sizes_text, span_text, reason_text, window_text, plan_fault_text, count_text};
+ghost use Rattle.cxl_text.specs.Short.{short_limit};
 ghost use Rattle.cxl_reply.specs.Conditions.{IsToldReason, IsToldFault};
 
 use crate::short_lines::named_line;
@@ -16,12 +17,10 @@ pub(crate) fn put_bad_line(out: &mut Vec<u8>, fault: &BadLine) -> Result<(), Mem
     ensures { OnOk result (out.new.items ≡ out.old.items ++ bad_line_text fault.now) }
 {
     let mut line = ShortText::new();
-    line.put(b"bad line ");
-    line.put_number(fault.at);
+    line.put_number(b"bad line ", fault.at);
     line.put(b" ");
     line.put(why_text(fault.why));
-    line.put(b"\n");
-    put_text(out, line.bytes())
+    put_line(out, &mut line)
 }
 
 fn why_text(why: Why) -> &'static [u8]
@@ -53,12 +52,9 @@ pub(crate) fn put_full(out: &mut Vec<u8>, lack: &Lack) -> Result<(), Memory>
     ensures { OnOk result (out.new.items ≡ out.old.items ++ full_text lack.now) }
 {
     let mut line = ShortText::new();
-    line.put(b"full need ");
-    line.put_number(lack.need);
-    line.put(b" free ");
-    line.put_number(lack.free);
-    line.put(b"\n");
-    put_text(out, line.bytes())
+    line.put_number(b"full need ", lack.need);
+    line.put_number(b" free ", lack.free);
+    put_line(out, &mut line)
 }
 
 /// Appends words, a node and a decoder of it.
@@ -74,36 +70,27 @@ pub(crate) fn put_spot(
 {
     let mut line = ShortText::new();
     line.put(words);
-    line.put(b" ");
-    line.put_node(spot.node, topo);
-    line.put(b" ");
-    line.put_number(u32::from(spot.decoder));
-    line.put(b"\n");
-    put_text(out, line.bytes())
+    line.put_node(b" ", spot.node, topo);
+    line.put_number(b" ", u32::from(spot.decoder));
+    put_line(out, &mut line)
 }
 
 pub(crate) fn put_sizes(out: &mut Vec<u8>, sizes: &Sizes) -> Result<(), Memory>
     ensures { OnOk result (out.new.items ≡ out.old.items ++ sizes_text sizes.now) }
 {
     let mut line = ShortText::new();
-    line.put(b"sizes differ ");
-    line.put_hex(sizes.from);
-    line.put(b" ");
-    line.put_hex(sizes.to);
-    line.put(b"\n");
-    put_text(out, line.bytes())
+    line.put_hex(b"sizes differ ", sizes.from);
+    line.put_hex(b" ", sizes.to);
+    put_line(out, &mut line)
 }
 
 pub(crate) fn put_count(out: &mut Vec<u8>, counted: &Counted) -> Result<(), Memory>
     ensures { OnOk result (out.new.items ≡ out.old.items ++ count_text counted.now) }
 {
     let mut line = ShortText::new();
-    line.put(b"poison count ");
-    line.put_number(counted.said);
-    line.put(b" ");
-    line.put_number(counted.room);
-    line.put(b"\n");
-    put_text(out, line.bytes())
+    line.put_number(b"poison count ", counted.said);
+    line.put_number(b" ", counted.room);
+    put_line(out, &mut line)
 }
 
 /// Appends why there is no plan.
@@ -127,11 +114,23 @@ pub(crate) fn put_plan_fault(
     }
 }
 
+/// Appends a text, whole or not at all.
 pub(crate) fn put_text(out: &mut Vec<u8>, text: &[u8]) -> Result<(), Memory>
-    ensures { OnOk result (out.new.items ≡ out.old.items ++ text.now) }
+    ensures ok { OnOk result (out.new.items ≡ out.old.items ++ text.now) }
+    ensures err { OnErr result (out.new.items ≡ out.old.items) }
 {
     out.extend_from_slice(text)?;
     Ok(())
+}
+
+/// Ends a text as a line, and appends it, whole or not at all.
+pub(crate) fn put_line(out: &mut Vec<u8>, text: &mut ShortText) -> Result<(), Memory>
+    requires { length text.old < short_limit }
+    ensures ok { OnOk result (out.new.items ≡ out.old.items ++ line text.old) }
+    ensures err { OnErr result (out.new.items ≡ out.old.items) }
+{
+    text.put(b"\n");
+    put_text(out, text.bytes())
 }
 
 /// Appends words that end with a space, and a node.
@@ -141,20 +140,16 @@ fn put_at_node(out: &mut Vec<u8>, words: &[u8], node: u32, topo: &Topo) -> Resul
     ensures { OnOk result (out.new.items ≡ out.old.items ++ line (words.now ++ node_text topo.now.nodes node)) }
 {
     let mut line = ShortText::new();
-    line.put(words);
-    line.put_node(node, topo);
-    line.put(b"\n");
-    put_text(out, line.bytes())
+    line.put_node(words, node, topo);
+    put_line(out, &mut line)
 }
 
 fn put_ways(out: &mut Vec<u8>, ways: u32) -> Result<(), Memory>
     ensures { OnOk result (out.new.items ≡ out.old.items ++ line (codes "refused ways " ++ decimal ways)) }
 {
     let mut line = ShortText::new();
-    line.put(b"refused ways ");
-    line.put_number(ways);
-    line.put(b"\n");
-    put_text(out, line.bytes())
+    line.put_number(b"refused ways ", ways);
+    put_line(out, &mut line)
 }
 
 fn put_span_fault(
@@ -168,12 +163,10 @@ fn put_span_fault(
         ++ line (codes "refused span " ++ node_text topo.now.nodes endpoint ++ codes " " ++ span_text fault.now)) }
 {
     let mut line = ShortText::new();
-    line.put(b"refused span ");
-    line.put_node(endpoint, topo);
+    line.put_node(b"refused span ", endpoint, topo);
     line.put(b" ");
     put_span_cause(&mut line, fault);
-    line.put(b"\n");
-    put_text(out, line.bytes())
+    put_line(out, &mut line)
 }
 
 fn put_span_cause(line: &mut ShortText, fault: &SpanFault)
@@ -183,10 +176,7 @@ fn put_span_cause(line: &mut ShortText, fault: &SpanFault)
 {
     match fault {
         SpanFault::NoDecoder => line.put(b"no-decoder"),
-        SpanFault::PastRam(cursor) => {
-            line.put(b"past-ram ");
-            line.put_hex(*cursor);
-        }
+        SpanFault::PastRam(cursor) => line.put_hex(b"past-ram ", *cursor),
         SpanFault::NoRoom(room) => put_room(line, b"no-room ", room),
     }
 }
@@ -198,10 +188,8 @@ fn put_room(line: &mut ShortText, word: &[u8], room: &Room)
     ensures text { line.new ≡ line.old ++ (word.now ++ hex_text room.now.start ++ codes " " ++ hex_text room.now.limit) }
     ensures len { length line.new ≤ length line.old + 60 }
 {
-    line.put(word);
-    line.put_hex(room.start);
-    line.put(b" ");
-    line.put_hex(room.limit);
+    line.put_hex(word, room.start);
+    line.put_hex(b" ", room.limit);
 }
 
 fn put_no_window(out: &mut Vec<u8>, reasons: &[Reason], topo: &Topo) -> Result<(), Memory>
@@ -209,7 +197,7 @@ fn put_no_window(out: &mut Vec<u8>, reasons: &[Reason], topo: &Topo) -> Result<(
     ensures { OnOk result (out.new.items ≡ out.old.items
         ++ (line (codes "refused no-window") ++ flat_map (window_text topo.now.nodes) (enumerate_from 0 reasons.now))) }
 {
-    out.extend_from_slice(b"refused no-window\n")?;
+    put_text(out, b"refused no-window\n")?;
     put_windows(out, reasons, topo)?;
     Ok(())
 }
@@ -230,12 +218,10 @@ fn put_window(out: &mut Vec<u8>, index: usize, reason: &Reason, topo: &Topo) -> 
     ensures { OnOk result (out.new.items ≡ out.old.items ++ window_text topo.now.nodes (index, reason.now)) }
 {
     let mut line = ShortText::new();
-    line.put(b"window ");
-    line.put_long_number(index as u64);
+    line.put_long_number(b"window ", index as u64);
     line.put(b" ");
     put_reason(&mut line, reason, topo);
-    line.put(b"\n");
-    put_text(out, line.bytes())
+    put_line(out, &mut line)
 }
 
 fn put_reason(line: &mut ShortText, reason: &Reason, topo: &Topo)
@@ -250,14 +236,8 @@ fn put_reason(line: &mut ShortText, reason: &Reason, topo: &Topo)
         Reason::Fixed => line.put(b"fixed"),
         Reason::Bridges => line.put(b"bridges"),
         Reason::Gran => line.put(b"gran"),
-        Reason::Select(node) => {
-            line.put(b"select ");
-            line.put_node(*node, topo);
-        }
-        Reason::WaysCap(node) => {
-            line.put(b"ways-cap ");
-            line.put_node(*node, topo);
-        }
+        Reason::Select(node) => line.put_node(b"select ", *node, topo),
+        Reason::WaysCap(node) => line.put_node(b"ways-cap ", *node, topo),
         Reason::NoBase(room) => put_room(line, b"no-base ", room),
     }
 }

@@ -1,10 +1,10 @@
-ghost use Rattle.std.specs.Prelude.{◌≡◌, ◌<◌, ◌≤◌, ◌++◌, All, codes, length, map, OnOk, OnErr};
+ghost use Rattle.std.specs.Prelude.{◌≡◌, ◌<◌, ◌≤◌, ◌++◌, All, codes, decimal, length, map, OnOk};
 ghost use Rattle.std.specs.List.{flat_map, enumerate_from};
-ghost use Rattle.cxl_reply.specs.Words.{line, kind_text, more_spaced};
+ghost use Rattle.cxl_reply.specs.Words.{line, kind_text, node_text, more_spaced};
 ghost use Rattle.cxl_reply.specs.Texts.{shown_head_text, layout_text, row_text, word_text, shown_words_text, slot_text, slots_text, shown_text};
 ghost use Rattle.cxl_reply.specs.Conditions.{IsToldFound, IsToldShown};
 
-use crate::refusal::put_text;
+use crate::refusal::{put_line, put_text};
 use crate::short_text::ShortText;
 use crate::words::kind_text;
 use cxl_enc::{Memory, Name};
@@ -43,14 +43,12 @@ pub(crate) fn put_head(
         ++ layout_text found.now.window found.now.base found.now.size found.now.gran found.now.ways)) }
 {
     let mut line = ShortText::new();
-    line.put(word);
-    line.put_name(name);
+    line.put_name(word, name);
     line.put(b" ");
     line.put(kind_text(found.kind));
     line.put(b" ");
     line.put_layout(found.window, found.base, found.size, found.gran, found.ways);
-    line.put(b"\n");
-    put_text(out, line.bytes())
+    put_line(out, &mut line)
 }
 
 fn put_rows(out: &mut Vec<u8>, rows: &[ShownRow], topo: &Topo) -> Result<(), Memory>
@@ -67,15 +65,22 @@ fn put_row(out: &mut Vec<u8>, row: &ShownRow, topo: &Topo) -> Result<(), Memory>
     requires { row.now.node < length topo.now.nodes }
     ensures { OnOk result (out.new.items ≡ out.old.items ++ row_text topo.now.nodes row.now) }
 {
-    let mut head = ShortText::new();
-    head.put(b"node ");
-    head.put_node(row.node, topo);
-    head.put(b" ");
-    head.put_number(u32::from(row.decoder));
-    head.put(b" ");
-    put_text(out, head.bytes())?;
+    put_row_head(out, row, topo)?;
     put_words(out, &row.words)?;
     put_text(out, b"\n")
+}
+
+/// Appends a node and a decoder of it.
+fn put_row_head(out: &mut Vec<u8>, row: &ShownRow, topo: &Topo) -> Result<(), Memory>
+    requires { row.now.node < length topo.now.nodes }
+    ensures { OnOk result (out.new.items ≡ out.old.items
+        ++ (codes "node " ++ node_text topo.now.nodes row.now.node ++ codes " " ++ decimal row.now.decoder ++ codes " ")) }
+{
+    let mut head = ShortText::new();
+    head.put_node(b"node ", row.node, topo);
+    head.put_number(b" ", u32::from(row.decoder));
+    head.put(b" ");
+    put_text(out, head.bytes())
 }
 
 /// Appends words of eight hexadecimal digits, with spaces between.
@@ -118,12 +123,8 @@ fn put_slot(out: &mut Vec<u8>, slot: usize, place: &Place, topo: &Topo) -> Resul
     ensures { OnOk result (out.new.items ≡ out.old.items ++ slot_text topo.now.nodes (slot, place.now)) }
 {
     let mut line = ShortText::new();
-    line.put(b"slot ");
-    line.put_long_number(slot as u64);
-    line.put(b" ");
-    line.put_node(place.endpoint, topo);
-    line.put(b" ");
-    line.put_hex(place.start);
-    line.put(b"\n");
-    put_text(out, line.bytes())
+    line.put_long_number(b"slot ", slot as u64);
+    line.put_node(b" ", place.endpoint, topo);
+    line.put_hex(b" ", place.start);
+    put_line(out, &mut line)
 }

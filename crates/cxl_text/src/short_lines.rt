@@ -42,8 +42,7 @@ fn created(named: &Named) -> ShortText
     ensures { result ≡ created_text named.now }
 {
     let mut text = ShortText::new();
-    text.put(b"created ");
-    text.put_name(&named.name);
+    text.put_name(b"created ", &named.name);
     text.put(b" ");
     text.put_layout(named.window, named.base, named.size, named.gran, named.ways);
     text.put(b"\n");
@@ -58,8 +57,7 @@ pub(crate) fn named_line(word: &[u8], name: &Name) -> ShortText
 {
     let mut text = ShortText::new();
     text.put(word);
-    text.put(b" ");
-    text.put_name(name);
+    text.put_name(b" ", name);
     text.put(b"\n");
     text
 }
@@ -69,8 +67,7 @@ fn stored(len: u32) -> ShortText
     ensures { result ≡ stored_text len }
 {
     let mut text = ShortText::new();
-    text.put(b"stored ");
-    text.put_number(len);
+    text.put_number(b"stored ", len);
     text.put(b"\n");
     text
 }
@@ -80,10 +77,8 @@ fn begun_line(begun: &Begun) -> ShortText
     ensures { result ≡ begun_text begun.now }
 {
     let mut text = ShortText::new();
-    text.put(b"begun ");
-    text.put_name(&begun.name);
-    text.put(b" writes ");
-    text.put_number(begun.writes);
+    text.put_name(b"begun ", &begun.name);
+    text.put_number(b" writes ", begun.writes);
     text.put(b"\n");
     text
 }
@@ -93,20 +88,20 @@ fn stepped(progress: &Progress) -> ShortText
     ensures { result ≡ stepped_text progress.now }
 {
     let mut text = ShortText::new();
-    text.put(b"stepped ");
-    put_progress(&mut text, progress.done, progress.total);
+    put_progress(&mut text, b"stepped ", progress.done, progress.total);
     text.put(b"\n");
     text
 }
 
-fn put_progress(text: &mut ShortText, done: u32, total: u32)
-    requires { length text.old ≤ 60 }
-    ensures text { text.new ≡ text.old ++ progress_text done total }
-    ensures len { length text.new ≤ 90 }
+/// Appends words, and how many writes of how many are made.
+fn put_progress(text: &mut ShortText, words: &[u8], done: u32, total: u32)
+    requires before { length text.old ≤ 60 }
+    requires words { length words.now ≤ 8 }
+    ensures text { text.new ≡ text.old ++ words.now ++ progress_text done total }
+    ensures len { length text.new ≤ 92 }
 {
-    text.put_number(done);
-    text.put(b" of ");
-    text.put_number(total);
+    text.put_number(words, done);
+    text.put_number(b" of ", total);
 }
 
 /// A region was given the bytes of another, with the verb for how.
@@ -117,12 +112,9 @@ fn carried_line(verb: &[u8], carried: &Carried) -> ShortText
 {
     let mut text = ShortText::new();
     text.put(verb);
-    text.put(b" ");
-    text.put_name(&carried.from);
-    text.put(b" ");
-    text.put_name(&carried.to);
-    text.put(b" pieces ");
-    text.put_number(carried.pieces);
+    text.put_name(b" ", &carried.from);
+    text.put_name(b" ", &carried.to);
+    text.put_number(b" pieces ", carried.pieces);
     text.put(b"\n");
     text
 }
@@ -141,10 +133,8 @@ fn pending_line(pending: &Pending) -> ShortText
     ensures { result ≡ pending_text pending.now }
 {
     let mut text = ShortText::new();
-    text.put(b"bus fault pending ");
-    text.put_name(&pending.name);
-    text.put(b" ");
-    put_progress(&mut text, pending.done, pending.total);
+    text.put_name(b"bus fault pending ", &pending.name);
+    put_progress(&mut text, b" ", pending.done, pending.total);
     text.put(b"\n");
     text
 }

@@ -56,64 +56,69 @@ impl ShortText {
         let _ = self.text.try_extend_from_slice(text);
     }
 
-    pub(crate) fn put_name(&mut self, name: &Name)
-        requires { length self.old + 15 ≤ short_limit }
-        ensures text { self.new ≡ self.old ++ name.now }
-        ensures len { length self.new ≤ length self.old + 15 }
+    /// Words, and a name behind them.
+    pub(crate) fn put_name(&mut self, words: &[u8], name: &Name)
+        requires { length self.old + length words.now + 15 ≤ short_limit }
+        ensures text { self.new ≡ self.old ++ words.now ++ name.now }
+        ensures len { length self.new ≤ length self.old + length words.now + 15 }
     {
+        self.put(words);
         self.put(name.bytes());
     }
 
-    /// A node's name.
-    pub(crate) fn put_node(&mut self, node: u32, topo: &Topo)
-        requires room { length self.old + 15 ≤ short_limit }
+    /// Words, and a node's name behind them.
+    pub(crate) fn put_node(&mut self, words: &[u8], node: u32, topo: &Topo)
+        requires room { length self.old + length words.now + 15 ≤ short_limit }
         requires node { node < length topo.now.nodes }
-        ensures text { self.new ≡ self.old ++ node_text topo.now.nodes node }
-        ensures len { length self.new ≤ length self.old + 15 }
+        ensures text { self.new ≡ self.old ++ words.now ++ node_text topo.now.nodes node }
+        ensures len { length self.new ≤ length self.old + length words.now + 15 }
     {
-        self.put_name(&topo.node(node).name);
+        self.put_name(words, &topo.node(node).name);
     }
 
-    /// In decimal digits.
-    pub(crate) fn put_number(&mut self, number: u32)
-        requires { length self.old + 10 ≤ short_limit }
-        ensures text { self.new ≡ self.old ++ decimal number }
-        ensures len { length self.new ≤ length self.old + 10 }
+    /// Words, and a number behind them in decimal digits.
+    pub(crate) fn put_number(&mut self, words: &[u8], number: u32)
+        requires { length self.old + length words.now + 10 ≤ short_limit }
+        ensures text { self.new ≡ self.old ++ words.now ++ decimal number }
+        ensures len { length self.new ≤ length self.old + length words.now + 10 }
     {
         let mut buffer = Buffer::new();
+        self.put(words);
         self.put(buffer.format(number).as_bytes());
     }
 
-    /// In decimal digits, at most twenty.
-    pub(crate) fn put_long_number(&mut self, number: u64)
-        requires { length self.old + 20 ≤ short_limit }
-        ensures text { self.new ≡ self.old ++ decimal number }
-        ensures len { length self.new ≤ length self.old + 20 }
+    /// Words, and a number behind them in decimal digits, at most twenty.
+    pub(crate) fn put_long_number(&mut self, words: &[u8], number: u64)
+        requires { length self.old + length words.now + 20 ≤ short_limit }
+        ensures text { self.new ≡ self.old ++ words.now ++ decimal number }
+        ensures len { length self.new ≤ length self.old + length words.now + 20 }
     {
         let mut buffer = Buffer::new();
+        self.put(words);
         self.put(buffer.format(number).as_bytes());
     }
 
-    /// In hexadecimal digits, behind `0x`.
-    pub(crate) fn put_hex(&mut self, number: u64)
-        requires { length self.old + 18 ≤ short_limit }
-        ensures text { self.new ≡ self.old ++ hex_text number }
-        ensures len { length self.new ≤ length self.old + 18 }
+    /// Words, and a number behind them in hexadecimal digits, behind `0x`.
+    pub(crate) fn put_hex(&mut self, words: &[u8], number: u64)
+        requires { length self.old + length words.now + 18 ≤ short_limit }
+        ensures text { self.new ≡ self.old ++ words.now ++ hex_text number }
+        ensures len { length self.new ≤ length self.old + length words.now + 18 }
     {
         let mut digits = [b'0'; 16];
         let start = write_hex(number, &mut digits);
+        self.put(words);
         self.put(b"0x");
         self.put(&digits[start..]);
     }
 
-    /// The bytes of a granularity code, in decimal digits.
-    pub(crate) fn put_gran(&mut self, code: u8)
-        requires room { length self.old + 10 ≤ short_limit }
+    /// Words, and the bytes of a granularity code behind them, in decimal digits.
+    pub(crate) fn put_gran(&mut self, words: &[u8], code: u8)
+        requires room { length self.old + length words.now + 10 ≤ short_limit }
         requires code { code ≤ 6 }
-        ensures text { self.new ≡ self.old ++ gran_text code }
-        ensures len { length self.new ≤ length self.old + 10 }
+        ensures text { self.new ≡ self.old ++ words.now ++ gran_text code }
+        ensures len { length self.new ≤ length self.old + length words.now + 10 }
     {
-        self.put_number(gran_of(code).unwrap());
+        self.put_number(words, gran_of(code).unwrap());
     }
 
     /// Where a region lies, and how it interleaves.
@@ -123,15 +128,10 @@ impl ShortText {
         ensures text { self.new ≡ self.old ++ layout_text window base size gran ways }
         ensures len { length self.new ≤ length self.old + 98 }
     {
-        self.put(b"window ");
-        self.put_number(window);
-        self.put(b" base ");
-        self.put_hex(base);
-        self.put(b" size ");
-        self.put_hex(size);
-        self.put(b" gran ");
-        self.put_gran(gran);
-        self.put(b" ways ");
-        self.put_number(u32::from(ways));
+        self.put_number(b"window ", window);
+        self.put_hex(b" base ", base);
+        self.put_hex(b" size ", size);
+        self.put_gran(b" gran ", gran);
+        self.put_number(b" ways ", u32::from(ways));
     }
 }

@@ -20,17 +20,23 @@ pub fn put_reply(reply: &Reply, topo: &Topo, out: &mut Vec<u8>) -> Result<(), Me
     ensures ok { OnOk result (out.new.items ≡ out.old.items ++ reply_text topo.now.nodes reply.now) }
     ensures err { OnErr result (out.new.items ≡ out.old.items) }
 {
-    if let Some(text) = short(reply) {
-        out.extend_from_slice(text.bytes())?;
-        return Ok(());
+    match short(reply) {
+        Some(text) => put_text(out, text.bytes()),
+        None if out.is_empty() => put_first(out, reply, topo),
+        None => put_behind(out, reply, topo),
     }
-    if out.is_empty() {
-        return put_first(out, reply, topo);
-    }
+}
+
+/// Appends the text of a reply that has no short text, whole or not at all.
+fn put_behind(out: &mut Vec<u8>, reply: &Reply, topo: &Topo) -> Result<(), Memory>
+    requires told { IsTold topo.now.nodes reply.now }
+    requires long { has_short_text reply.now ≡ false }
+    ensures ok { OnOk result (out.new.items ≡ out.old.items ++ reply_text topo.now.nodes reply.now) }
+    ensures err { OnErr result (out.new.items ≡ out.old.items) }
+{
     let mut text = Vec::new(*out.allocator());
     put_long(&mut text, reply, topo)?;
-    out.extend_from_slice(&text)?;
-    Ok(())
+    put_text(out, &text)
 }
 
 /// Puts the text of a reply that has no short text where none is yet, in the room that is there.

@@ -7,7 +7,7 @@ use Rattle.cxl_text.proofs.places.put_more_vias.Goals as goal
 
 pub loop-via-preserved : goal.loop-via-preserved
 loop-via-preserved c =
-    word_step (via_text c.args.topo.now.nodes) c.args.vias.now c.loop-via.via-index _ _ _ _ _ c.loop-via-test.true c.loop-via.invariant c.in_ok-push.ensures.items c.in_ok-put_via.ensures
+    word_step (via_text c.args.topo.now.nodes) c.args.vias.now c.loop-via.via-index _ _ _ _ c.loop-via-test.true c.loop-via.invariant c.in_ok-put_via.ensures
 
 pub returns : goal.returns
 returns c =

@@ -5,4 +5,4 @@ use Rattle.cxl_text.proofs.poison.put_region.Goals as goal
 pub returns : goal.returns
 returns c =
     let name = slice_get_read c.args.names.now (length c.args.names.now) c.args.region c.index-names-region.result refl c.requires.region c.index-names-region.is in
-    rw (c.put-2.ensures.text, c.put_name.ensures.text, c.put.ensures.text, name) (simp append_assoc)
+    rw (c.put.ensures.text, c.put_name.ensures.text, name) (simp append_assoc)
