@@ -111,12 +111,17 @@ fn make_store(alloc: Global, j: u32, i: u32, command: &mut Command) -> Result<()
             store.h = h;
             store.bytes.replace_all(&bytes);
         }
-        _ => {
-            let bytes = FixedList::new(Vec::from_slice(alloc, &bytes)?);
-            *command = Command::Store(Store { h, bytes });
-        }
+        _ => *command = new_store(alloc, h, &bytes)?,
     }
     Ok(())
+}
+
+/// The store of these bytes, in memory of their own.
+fn new_store(alloc: Global, h: u64, bytes: &[u8]) -> Result<Command, Memory>
+    ensures { IfOk result (λ command. command ≡ Command.Store (record { h = h; bytes = bytes.now })) }
+{
+    let bytes = FixedList::new(Vec::from_slice(alloc, bytes)?);
+    Ok(Command::Store(Store { h, bytes }))
 }
 
 /// Makes a command the load of number `i` in region `j`, within a load where it is one.

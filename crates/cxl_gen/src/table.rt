@@ -61,9 +61,17 @@ fn made_chbs(i: u32) -> Record
 fn add_maps(records: &mut Vec<Record>, alloc: Global) -> Result<(), Memory>
     ensures { OnOk result (records.new.items ≡ records.old.items ++ map made_cxims (1 ∷ 3 ∷ 5 ∷ [])) }
 {
-    records.push(made_cxims(alloc, 1)?)?;
-    records.push(made_cxims(alloc, 3)?)?;
-    Ok(records.push(made_cxims(alloc, 5)?)?)
+    add_map(records, alloc, 1)?;
+    add_map(records, alloc, 3)?;
+    add_map(records, alloc, 5)?;
+    Ok(())
+}
+
+fn add_map(records: &mut Vec<Record>, alloc: Global, gran: u8) -> Result<(), Memory>
+    requires { gran ≤ 6 }
+    ensures { OnOk result (records.new.items ≡ records.old.items ++ made_cxims gran ∷ []) }
+{
+    Ok(records.push(made_cxims(alloc, gran)?)?)
 }
 
 fn made_cxims(alloc: Global, gran: u8) -> Result<Record, Memory>
