@@ -4,7 +4,7 @@ use Rattle.std.specs.Prelude.{slice_get, slice_set, filter, All, IsSomeAnd}
 use Rattle.std.specs.Option.{option_map_or}
 use Rattle.std.specs.List.{range_with_len}
 use Rattle.std.proofs.lemmas.List.{take_more, map-append, append-nil, length-set}
-use Rattle.std.proofs.lemmas.List.Elements.{All-filter, filter-append}
+use Rattle.std.proofs.lemmas.List.Elements.{All-filter}
 use Rattle.std.proofs.lemmas.List.FromFn.{length-range_with_len, get_or-range_with_len}
 use Rattle.std.proofs.lemmas.List.Sums.{fold-append}
 use Rattle.std.proofs.lemmas.Option.{slice_get_within, slice_get-get_or, get_or_from_slice_get}
@@ -231,26 +231,3 @@ enabled_stops endpoints n old now new low so_far untouched = record {
   blocks = untouched.blocks ∙ so_far.blocks;
   words = untouched.trail ∙ so_far.words;
 }
-
--- ---- the endpoints by number
-
-range_more : (a n : ℕ) → range_with_len a (suc n) ≡ range_with_len a n ++ (a + n) ∷ []
-range_more a zero = ap (λ (m : ℕ). m ∷ []) (let e : a ≡ a + 0 = omega arith in e)
-range_more a (suc n) =
-    ap (λ (ns : List ℕ). a ∷ ns) (range_more (a + 1) n ∙ ap (λ (m : ℕ). range_with_len (a + 1) n ++ m ∷ []) (let e : a + 1 + n ≡ a + suc n = omega arith in e))
-
-passing_more : (test : ℕ → Bool) (n : ℕ) → filter test (range_with_len 0 (n + 1)) ≡ filter test (range_with_len 0 n) ++ cond (test n) (n ∷ []) []
-passing_more test n =
-    ap (λ (k : ℕ). filter test (range_with_len 0 k)) (let e : n + 1 ≡ suc n = omega arith in e)
-    ∙ ap (filter test) (range_more 0 n ∙ ap (λ (m : ℕ). range_with_len 0 n ++ m ∷ []) (let e : 0 + n ≡ n = omega arith in e))
-    ∙ filter-append test (range_with_len 0 n) (n ∷ [])
-
--- one that passes is one more, and any other is none
-pub passing_one : (test : ℕ → Bool) (n : ℕ) (found : List ℕ) → found ≡ filter test (range_with_len 0 n) → test n ≡ true → found ++ n ∷ [] ≡ filter test (range_with_len 0 (n + 1))
-passing_one test n found so_far is =
-    ap (λ (ns : List ℕ). ns ++ n ∷ []) so_far ∙ sym (passing_more test n ∙ ap (λ (b : Bool). filter test (range_with_len 0 n) ++ cond b (n ∷ []) []) is)
-
-pub passing_none : (test : ℕ → Bool) (n : ℕ) (found : List ℕ) → found ≡ filter test (range_with_len 0 n) → test n ≡ false → found ≡ filter test (range_with_len 0 (n + 1))
-passing_none test n found so_far is =
-    so_far ∙ sym (append-nil (filter test (range_with_len 0 n)))
-    ∙ sym (passing_more test n ∙ ap (λ (b : Bool). filter test (range_with_len 0 n) ++ cond b (n ∷ []) []) is)

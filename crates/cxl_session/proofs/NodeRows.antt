@@ -1,10 +1,7 @@
 -- The rows of a region's decoders, found node by node.
-use Rattle.std.proofs.Common.{◌≡◌, ℕ, zero, suc, ◌+◌, ◌<◌, ◌≤◌, Bool, true, false, ◌||◌, List, [], ◌∷◌, ◌++◌, length, drop, Option, Some, None, refl, sym, ap, ◌∙◌, arith}
+use Rattle.std.proofs.Common.{◌≡◌, ℕ, zero, suc, ◌+◌, ◌<◌, ◌≤◌, Bool, true, false, ◌||◌, List, [], ◌∷◌, length, drop, Option, Some, None, refl, ap, ◌∙◌, arith}
 use Rattle.std.specs.Prelude.{slice_get, option_map, option_and_then, position}
 use Rattle.std.specs.Option.{option_map_or}
-use Rattle.std.specs.List.{filter_map, cons_option, range_with_len}
-use Rattle.std.proofs.lemmas.List.{append-nil}
-use Rattle.std.proofs.lemmas.List.Elements.{filter_map-append}
 use Rattle.std.proofs.lemmas.Option.{none-some, same_Some, slice_get_past}
 use Rattle.cxl_regs.specs.declared.decoder.Decoder.{Decoder}
 use Rattle.cxl_regs.specs.declared.reading.Range.{Range}
@@ -14,23 +11,8 @@ use Rattle.cxl_regs.specs.Writes.{any_committed}
 use Rattle.cxl_model.specs.declared.plan.Row.{Row}
 use Rattle.cxl_apply.specs.Releases.{row_for}
 use Rattle.cxl_model.specs.System.{blocks_alone}
-use Rattle.cxl_check.proofs.Numbers.{numbers_more}
 use Rattle.cxl_check.proofs.Searches.{position_is, position_none}
 use Rattle.cxl_session.specs.inner.Rows.{is_not_last}
-
--- ---- one node more
-
-module _ {X : Type 0} (f : ℕ → Option X) (n : ℕ) where
-  one_more : filter_map f (range_with_len 0 (n + 1)) ≡ filter_map f (range_with_len 0 n) ++ cons_option (f n) []
-  one_more =
-      ap (filter_map f) (numbers_more 0 n ∙ ap (λ (k : ℕ). range_with_len 0 n ++ k ∷ []) (omega arith))
-      ∙ filter_map-append f (range_with_len 0 n) (n ∷ [])
-
-  pub some_more : (x : X) (xs : List X) → xs ≡ filter_map f (range_with_len 0 n) → f n ≡ Some x → xs ++ x ∷ [] ≡ filter_map f (range_with_len 0 (n + 1))
-  some_more x xs is at = ap (λ (ys : List X). ys ++ x ∷ []) is ∙ ap (λ (o : Option X). filter_map f (range_with_len 0 n) ++ cons_option o []) (sym at) ∙ sym one_more
-
-  pub none_more : (xs : List X) → xs ≡ filter_map f (range_with_len 0 n) → f n ≡ None → xs ≡ filter_map f (range_with_len 0 (n + 1))
-  none_more xs is at = is ∙ sym (append-nil (filter_map f (range_with_len 0 n))) ∙ ap (λ (o : Option X). filter_map f (range_with_len 0 n) ++ cons_option o []) (sym at) ∙ sym one_more
 
 -- ---- a node's row
 

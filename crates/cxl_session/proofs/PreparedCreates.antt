@@ -40,8 +40,8 @@ module _ (laws : CommitLaws) (s : System) (settled : IsSettled s) (request : Req
     region_ahead = subst (λ (bs : List Registers). IsRegion (record s { blocks = bs }) plan.found) (sym ahead) (legal.0, legal.1.region)
 
     -- its routes there
-    pub routes_ahead : (kept : KeptFields) → ((w : WindowFields) → IsRegionIn (record s { blocks = blocks }) w plan.found → IsKept (record s { blocks = blocks }) w plan.found kept) → IsKeptIn (with_rows s plan.rows) plan.found kept
-    routes_ahead kept each =
+    pub kept_ahead : (kept : KeptFields) → ((w : WindowFields) → IsRegionIn (record s { blocks = blocks }) w plan.found → IsKept (record s { blocks = blocks }) w plan.found kept) → IsKeptIn (with_rows s plan.rows) plan.found kept
+    kept_ahead kept each =
         let own : IsRegionIn (with_rows s plan.rows) legal.0 plan.found = legal.1.region in
         let each_there = subst (λ (bs : List Registers). (w : WindowFields) → IsRegionIn (record s { blocks = bs }) w plan.found → IsKept (record s { blocks = bs }) w plan.found kept) ahead each in
         let there : region_window (with_rows s plan.rows) plan.found ≡ legal.0 = window_there (with_rows s plan.rows) legal.0 plan.found after own in

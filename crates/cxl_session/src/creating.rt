@@ -5,9 +5,10 @@ ghost use Rattle.cxl_bus.specs.RegsState.{RegsState};
 ghost use Rattle.cxl_media.specs.MediaState.{MediaState};
 ghost use Rattle.cxl_script.specs.Grammar.{StatesGranCode};
 ghost use Rattle.cxl_script.specs.declared.command.Command.TheVariants as commands;
+ghost use Rattle.cxl_apply.specs.Jobs.{AreCreateWrites};
 ghost use Rattle.cxl_apply.specs.Steps.{HasWordsOf};
 ghost use Rattle.cxl_model.specs.Hosts.{as_system};
-ghost use Rattle.cxl_model.specs.Plans.{IsLegalPlan};
+ghost use Rattle.cxl_model.specs.Plans.{IsLegalPlan, with_rows};
 ghost use Rattle.cxl_model.specs.declared.request.Request.{Request};
 ghost use Rattle.cxl_machine.specs.Machine.{Machine};
 ghost use Rattle.cxl_machine.specs.Replies.{is_refusal};
@@ -15,7 +16,7 @@ ghost use Rattle.cxl_machine.specs.Requests.{refusal_of_create};
 ghost use Rattle.cxl_machine.specs.Sound.{IsMachine, IsSettled};
 ghost use Rattle.cxl_session.specs.Inside.{job_fields};
 ghost use Rattle.cxl_session.specs.State.{image_in};
-ghost use Rattle.cxl_session.specs.Standing.{StandsFor, Stands};
+ghost use Rattle.cxl_session.specs.Standing.{StandsFor, Stands, IsKeptIn};
 ghost use Rattle.cxl_session.specs.inner.Answering.{IsTurnFor};
 ghost use Rattle.cxl_session.specs.inner.Creating.{IsAskedPlan, IsPrepared, IsAskedCreate};
 
@@ -161,11 +162,9 @@ fn prepared(alloc: Global, host: &Host, plan: Plan) -> Result<PendingJob, Memory
     ensures words { IfOk result (λ pending. HasWordsOf host.now.image.now pending.job.writes) }
 {
     create_commits_its_rows();
-    regions_stay_after_a_create();
     jobs_have_one_list_of_writes();
     let job = Job::create(alloc, host.image, plan.rows.items())?;
-    let ahead = job.ahead(alloc, host.image)?;
-    let kept = Kept::new(alloc, &ahead, host.topo, host.windows, &plan.found)?;
+    let kept = routes_ahead(alloc, host, &plan, &job)?;
     Ok(PendingJob {
         kind: Kind::Creates,
         name: plan.name,
@@ -173,4 +172,20 @@ fn prepared(alloc: Global, host: &Host, plan: Plan) -> Result<PendingJob, Memory
         kept,
         job,
     })
+}
+
+/// The routes of a plan's region where the job has committed all rows. Takes memory.
+fn routes_ahead(alloc: Global, host: &Host, plan: &Plan, job: &Job) -> Result<Kept, Memory>
+    requires settled { IsSettled (as_system host.now) }
+    requires legal { (request : Request) × IsLegalPlan (as_system host.now) request plan.now }
+    requires writes { AreCreateWrites host.now.image.now plan.now.rows job.now.writes }
+    requires none_done { job.now.done ≡ 0 }
+    requires words { HasWordsOf host.now.image.now job.now.writes }
+    ensures { IfOk result (IsKeptIn (with_rows (as_system host.now) plan.now.rows) plan.now.found) }
+{
+    create_commits_its_rows();
+    regions_stay_after_a_create();
+    let ahead = job.ahead(alloc, host.image)?;
+    let kept = Kept::new(alloc, &ahead, host.topo, host.windows, &plan.found)?;
+    Ok(kept)
 }

@@ -11,9 +11,7 @@ use std::alloc::Global;
 pub(crate) fn endpoints_by_slot(alloc: Global, found: &Found) -> Result<FixedList<u32>, Memory>
     ensures { IfOk result (λ endpoints. endpoints ≡ endpoints_by_slot found.now) }
 {
-    let mut endpoints = Vec::new(alloc);
-    for place in found.spans.items() {
-        endpoints.push(place.endpoint)?;
-    }
+    let spans = found.spans.items();
+    let endpoints = spans.iter().map(|place| place.endpoint).collect(alloc)?;
     Ok(FixedList::new(endpoints))
 }

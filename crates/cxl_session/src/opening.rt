@@ -35,7 +35,6 @@ use cxl_regs::writes_keep_places;
 use cxl_topo::Topo;
 use cxl_walk::Kept;
 use cxl_window::Window;
-use itoa::Buffer;
 use std::alloc::Global;
 
 /// What a write to an endpoint's global control holds to enable decoding, and its offset there. (CXL HDM decoder global
@@ -193,12 +192,9 @@ fn regions_to_open(
 fn endpoints_of(alloc: Global, topo: &Topo) -> Result<Vec<u32>, Memory>
     ensures { IfOk result (λ endpoints. endpoints.items ≡ endpoints_in topo.now.nodes) }
 {
-    let mut endpoints = Vec::new(alloc);
-    for node in 0..topo.count() {
-        if topo.is_endpoint(node) {
-            endpoints.push(node)?;
-        }
-    }
+    let endpoints = (0..topo.count())
+        .filter(|node| topo.is_endpoint(*node))
+        .collect(alloc)?;
     Ok(endpoints)
 }
 
@@ -246,7 +242,7 @@ fn auto_names(alloc: Global, count: usize) -> Result<Vec<Name>, Memory>
     let mut names = Vec::with_capacity(alloc, REGION_LIMIT)?;
     for i in 0..count {
         let name = auto_name(alloc, i as u32)?;
-        names.push(name)?;
+        names.push_reserved(name);
     }
     Ok(names)
 }
@@ -256,10 +252,8 @@ fn auto_name(alloc: Global, i: u32) -> Result<Name, Memory>
     requires { i < region_limit }
     ensures { IfOk result (λ name. name ≡ auto_name i) }
 {
-    let mut buffer = Buffer::new();
-    let mut bytes = Vec::from_slice(alloc, b"auto")?;
-    bytes.extend_from_slice(buffer.format(i).as_bytes())?;
-    match Name::read(&bytes) {
+    let text = format!(in alloc; "auto{i}")?;
+    match Name::read(text.as_bytes()) {
         Some(name) => Ok(name),
         None => unreachable!(),
     }
@@ -276,13 +270,14 @@ fn routes_of(
     requires caps { HasCapsOf image.now topo.now.nodes }
     requires made { AreMadeWith windows.now (bridge_uids topo.now.nodes) }
     requires regions { All (IsRegion (system_of image.now topo.now windows.now)) founds.now }
+    requires few { length founds.now ≤ region_limit }
     ensures routes { IfOk result (λ kepts. AreRoutesOf (system_of image.now topo.now windows.now) founds.now kepts.items) }
     ensures room { IfOk result (λ kepts. region_limit ≤ vec_capacity kepts) }
 {
     let mut kepts = Vec::with_capacity(alloc, REGION_LIMIT)?;
     for found in founds {
         let kept = Kept::new(alloc, image, topo, windows, found)?;
-        kepts.push(kept)?;
+        kepts.push_reserved(kept);
     }
     Ok(kepts)
 }

@@ -87,9 +87,6 @@ fn touched_by_records(
 fn copied_names(alloc: Global, names: &[Name]) -> Result<FixedList<Name>, Memory>
     ensures { IfOk result (λ copy. copy ≡ names.now) }
 {
-    let mut copy = Vec::with_capacity(alloc, names.len())?;
-    for name in names {
-        copy.push(*name)?;
-    }
+    let copy = names.to_vec(alloc)?;
     Ok(FixedList::new(copy))
 }

@@ -27,12 +27,9 @@ pub(crate) fn region_rows(
         base: found.base,
         size: found.size,
     };
-    let mut rows = Vec::new(alloc);
-    for node in 0..topo.count() {
-        if let Some(row) = row_for(image, &range, node) {
-            rows.push(row)?;
-        }
-    }
+    let rows = (0..topo.count())
+        .filter_map(|node| row_for(image, &range, node))
+        .collect(alloc)?;
     Ok(rows)
 }
 

@@ -1,8 +1,9 @@
-use Rattle.std.proofs.Common.{◌≤◌, sym, subst, arith}
+use Rattle.std.proofs.Common.{◌≡◌, ◌≤◌, List, length, sym, ap, subst, arith}
 use Rattle.cxl_window.specs.Fields.{WindowFields}
-use Rattle.cxl_deal.specs.Weaves.{WeaveFields}
+use Rattle.cxl_deal.specs.Weaves.{WeaveFields, weave_ways}
 use Rattle.cxl_model.specs.declared.found.Found.{Found}
 use Rattle.cxl_model.specs.declared.found.Place.{Place}
+use Rattle.cxl_model.specs.Regions.{weave_fields}
 use Rattle.cxl_move.proofs.Dealt.{dealt_carries}
 use Rattle.cxl_session.proofs.parts.device_byte.Goals as goal
 
@@ -33,3 +34,13 @@ returns c = λ s w is.
     let d : Place = record { endpoint = 0; start = 0 } in
     dealt_carries c.args.found.now w c.args.weave.now c.items.result.now d c.args.h c.deal-dealt.result.slot c.deal-dealt.result.offset is.dealt c.items.ensures c.deal-dealt.ensures.slot c.deal-dealt.ensures.offset
     c.deal-dealt.ensures.within (c.weaves_fill_their_regions.ensures.ways s w c.args.found.now is.system is.region) is.region.slots c.requires.from c.requires.below
+
+pub bounds-items-dealt : goal.bounds-items-dealt
+bounds-items-dealt c =
+    let is = c.requires.region.2 in
+    let within = c.deal-dealt.ensures.within in
+    let ways = c.weaves_fill_their_regions.ensures.ways c.requires.region.0 c.requires.region.1 c.args.found.now is.system is.region in
+    let same : weave_ways c.args.weave.now ≡ weave_ways (weave_fields c.args.found.now c.requires.region.1) = ap weave_ways is.dealt in
+    let slots = is.region.slots in
+    let count : length c.items.result.now ≡ length c.args.found.now.spans = ap (λ (places : List Place). length places) c.items.ensures in
+    omega (arith, within, ways, same, slots, count)

@@ -1,6 +1,41 @@
-use Rattle.std.proofs.Common.{arith}
+use Rattle.std.proofs.Common.{◌≡◌, ◌<◌, List, map, take, length, ap, ◌∙◌, arith}
+use Rattle.std.proofs.Math.Nat.{le_trans}
+use Rattle.std.proofs.lemmas.List.{length-map, length-take, take_all}
 use Rattle.std.proofs.lemmas.Grind.{common_steps}
+use Rattle.cxl_model.specs.declared.plan.Row.{Row}
+use Rattle.cxl_reply.specs.declared.details.ShownRow.{ShownRow}
+use Rattle.cxl_machine.specs.Reports.{shown_row}
+use Rattle.cxl_session.proofs.Shows.{untouched_more}
 use Rattle.cxl_session.proofs.showing.read_rows.Goals as goal
 
 pub loop-row-preserved : goal.loop-row-preserved
 loop-row-preserved g c = grind (arith, common_steps)
+
+pub push_reserved-requires : goal.push_reserved-requires
+push_reserved-requires g c =
+    let rows : List Row = c.args.rows.now in
+    let shown : List ShownRow = c.loop-row.shown.items in
+    let low : c.loop-row.row-index < length rows = omega arith in
+    let size = c.loop-row.shown.ok.0 in
+    let long : length shown ≡ length (map shown_row (take c.loop-row.row-index rows)) = ap (λ (all : List ShownRow). length all) c.loop-row.invariant.rows.are in
+    let room = c.loop-row.invariant.room in
+    omega (arith, low, size, long, length-map (take c.loop-row.row-index rows) shown_row, length-take c.loop-row.row-index rows, room)
+
+pub returns-clause-shown : goal.returns-clause-shown
+returns-clause-shown g c =
+    c.new.ensures ∙ c.loop-row.invariant.rows.are ∙ ap (λ (rows : List Row). map shown_row rows) (take_all c.loop-row.row-index c.args.rows.now (omega arith))
+
+pub returns-clause-same : goal.returns-clause-same
+returns-clause-same g c = c.loop-row.invariant.rows.read.same
+
+pub returns-clause-counts : goal.returns-clause-counts
+returns-clause-counts g c = c.loop-row.invariant.rows.read.counts
+
+pub returns-clause-unswallowed : goal.returns-clause-unswallowed
+returns-clause-unswallowed g c = c.loop-row.invariant.rows.read.unswallowed
+
+pub returns-in_err-words-clause-same : goal.returns-in_err-words-clause-same
+returns-in_err-words-clause-same g c = untouched_more _ _ _ c.loop-row.invariant.rows.read.same c.read_row.ensures.same
+
+pub returns-in_err-words-clause-counts : goal.returns-in_err-words-clause-counts
+returns-in_err-words-clause-counts g c = le_trans c.loop-row.invariant.rows.read.counts c.read_row.ensures.counts

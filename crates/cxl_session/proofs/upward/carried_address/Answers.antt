@@ -1,12 +1,25 @@
-use Rattle.std.proofs.Common.{◌≡◌, ℕ, ◌+◌, ◌/◌, ◌≤◌, sym, subst}
+use Rattle.std.proofs.Common.{◌≡◌, ℕ, ◌+◌, ◌/◌, ◌≤◌, sym, ap, subst, arith}
+use Rattle.std.proofs.lemmas.Option.{slice_get_within}
 use Rattle.cxl_enc.specs.Limits.{address_limit}
 use Rattle.cxl_num.specs.Interleave.{chunk_size}
 use Rattle.cxl_window.specs.Fields.{WindowFields}
-use Rattle.cxl_deal.specs.Weaves.{WeaveFields, turns_end, dealt_slot, dealt_offset}
+use Rattle.cxl_deal.specs.Weaves.{WeaveFields, weave_ways, turns_end, dealt_slot, dealt_offset}
 use Rattle.cxl_model.specs.declared.found.Found.{Found}
 use Rattle.cxl_model.specs.Regions.{weave_fields}
 use Rattle.cxl_move.proofs.Dealt.{WovenLaws, turn_fits, gathered_carries}
 use Rattle.cxl_session.proofs.upward.carried_address.Goals as goal
+
+pub gather-requires-clause-slot_below : goal.gather-requires-clause-slot_below
+gather-requires-clause-slot_below c =
+    let found : Found = c.args.found.now in
+    let w : WindowFields = c.requires.1 in
+    let is = c.requires.2 in
+    let byte = c.in_ok-byte.ensures.some in
+    let low = slice_get_within found.spans c.in_ok-byte.byte.slot byte.place byte.there in
+    let slots = is.region.slots in
+    let ways = c.weaves_fill_their_regions.ensures.ways c.requires.0 w found is.system is.region in
+    let same : weave_ways c.args.weave.now ≡ weave_ways (weave_fields found w) = ap weave_ways is.dealt in
+    omega (arith, low, slots, ways, same)
 
 pub gather-requires-clause-fits : goal.gather-requires-clause-fits
 gather-requires-clause-fits c =

@@ -1,10 +1,11 @@
-use Rattle.std.proofs.Common.{◌≡◌, ◌<◌, ℕ, List, length, map, sym, ap, subst, ◌∙◌, arith}
+use Rattle.std.proofs.Common.{◌≡◌, ◌<◌, ◌≤◌, ℕ, List, length, map, sym, ap, subst, ◌∙◌, arith}
 use Rattle.std.specs.Prelude.{All}
 use Rattle.std.specs.List.{range_with_len}
 use Rattle.std.proofs.lemmas.List.FromFn.{length-map-range_with_len}
 use Rattle.cxl_topo.specs.Frames.{AreFrames}
 use Rattle.cxl_window.specs.Fields.{WindowFields}
 use Rattle.cxl_machine.specs.Sound.{IsMachine, auto_name, enabled_blocks}
+use Rattle.cxl_model.specs.Listed.{region_limit}
 use Rattle.cxl_model.specs.declared.found.Found.{Found}
 use Rattle.cxl_model.specs.Regions.{IsRegion}
 use Rattle.cxl_model.specs.System.{System, system_of}
@@ -36,6 +37,9 @@ routes_of-requires-clause-regions c =
     subst (λ (ws : List WindowFields). All (IsRegion (system_of c.enabled-image.result c.args.topo ws)) c.deref-2.result.now) (sym c.deref.ensures.value)
     (subst (λ (fs : List Found). All (IsRegion (system_of c.enabled-image.result c.args.topo c.args.windows.items)) fs) (sym c.deref-2.ensures.value)
     (regions_are c.args.topo c.args.windows.items c.args.start c.enabled-image.result founds (is c) (every c)))
+
+pub routes_of-requires-clause-few : goal.routes_of-requires-clause-few
+routes_of-requires-clause-few c = subst (λ (founds : List Found). length founds ≤ region_limit) (sym c.deref-2.ensures.value) c.requires.opens.few
 
 pub invariant_of-result : goal.invariant_of-result
 invariant_of-result c =

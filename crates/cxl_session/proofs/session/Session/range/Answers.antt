@@ -1,6 +1,7 @@
-use Rattle.std.proofs.Common.{◌∙◌}
-use Rattle.cxl_session.proofs.Loads.{lies_from}
+use Rattle.std.proofs.Common.{◌∙◌, arith}
+use Rattle.cxl_session.proofs.Loads.{lies_from, lies_ends}
 use Rattle.cxl_session.proofs.Ranges.{window_within, region_there, ranged}
+use Rattle.cxl_session.proofs.Within.{found_within}
 use Rattle.cxl_session.proofs.session.Session.range.Goals as goal
 
 pub window_at-window-requires : goal.window_at-window-requires
@@ -25,3 +26,20 @@ pub returns : goal.returns
 returns c = λ m stands is.
     ranged c.args.self.now m stands is c.args.reach c.in-Ok.place (c.in-Ok.ensures m stands is) c.found_at-found.result.now c.found_at-found.ensures c.window_at-window.result.now c.window_at-window.ensures
     c.new.result c.in_ok-endpoints.endpoints (c.new.ensures ∙ c.in_ok-extents.ensures.exact) c.in_ok-endpoints.ensures
+
+pub found_at-found-requires : goal.found_at-found-requires
+found_at-found-requires c =
+    let (m, stands, is) = c.requires.stands in
+    let within = c.in-Ok.ensures m stands is in
+    found_within c.args.self.now m c.in-Ok.place within.0 within.1
+
+pub overflow_cast-reach : goal.overflow_cast-reach
+overflow_cast-reach c = let few = c.requires.few in omega (arith, few)
+
+pub extents-requires-clause-some : goal.extents-requires-clause-some
+extents-requires-clause-some c = c.requires.some
+
+pub extents-requires-clause-ends : goal.extents-requires-clause-ends
+extents-requires-clause-ends c =
+    let (m, stands, is) = c.requires.stands in
+    lies_ends c.args.self.now m is c.args.reach.h c.args.reach.len c.in-Ok.place (c.in-Ok.ensures m stands is) c.found_at-found.result.now c.found_at-found.ensures

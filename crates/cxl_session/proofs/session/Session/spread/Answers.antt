@@ -1,5 +1,6 @@
-use Rattle.cxl_session.proofs.Loads.{lies_from}
+use Rattle.cxl_session.proofs.Loads.{lies_from, lies_ends}
 use Rattle.cxl_session.proofs.Ranges.{window_within, region_there, spreaded}
+use Rattle.cxl_session.proofs.Within.{found_within}
 use Rattle.cxl_session.proofs.session.Session.spread.Goals as goal
 
 pub window_at-requires : goal.window_at-requires
@@ -24,3 +25,17 @@ pub returns : goal.returns
 returns c = λ m stands is.
     spreaded c.args.self.now m stands is c.args.reach c.in-Ok.place (c.in-Ok.ensures m stands is) c.found_at-found.result.now c.found_at-found.ensures c.window_at.result.now c.window_at.ensures
     c.spread-bytes.result c.in_ok-endpoints.endpoints c.spread-bytes.ensures.exact c.in_ok-endpoints.ensures
+
+pub found_at-found-requires : goal.found_at-found-requires
+found_at-found-requires c =
+    let (m, stands, is) = c.requires.stands in
+    let within = c.in-Ok.ensures m stands is in
+    found_within c.args.self.now m c.in-Ok.place within.0 within.1
+
+pub spread-bytes-requires-clause-some : goal.spread-bytes-requires-clause-some
+spread-bytes-requires-clause-some c = c.requires.some
+
+pub spread-bytes-requires-clause-ends : goal.spread-bytes-requires-clause-ends
+spread-bytes-requires-clause-ends c =
+    let (m, stands, is) = c.requires.stands in
+    lies_ends c.args.self.now m is c.args.reach.h c.args.reach.len c.in-Ok.place (c.in-Ok.ensures m stands is) c.found_at-found.result.now c.found_at-found.ensures

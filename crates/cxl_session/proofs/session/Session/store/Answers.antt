@@ -12,6 +12,7 @@ use Rattle.cxl_session.specs.State.{SessionState}
 use Rattle.cxl_session.specs.inner.Storing.{PutsOne}
 use Rattle.cxl_session.proofs.Sites.{site, region_carries, store_written}
 use Rattle.cxl_session.proofs.Stores.{one_fits, cut_is, cut_ends}
+use Rattle.cxl_session.proofs.Within.{found_within, kept_within}
 use Rattle.cxl_session.proofs.session.Session.store.Goals as goal
 
 pub overflow_sub-store : goal.overflow_sub-store
@@ -239,3 +240,64 @@ returns-clause-answer g c = λ m holds.
     c.put_two.result holds here.there here.fits c.requires.ranged.2 cut (sym (ap (λ (k : ℕ). k + length front) same) ∙ ends) some c.requires.ranged.1
     (region_carries m store found weave here store.h c.device_byte-first.result.ep c.device_byte-first.result.dpa carries)
     (region_carries m store found weave here (store.h + length front) c.device_byte-second.result.ep c.device_byte-second.result.dpa further) c.put_two.ensures.puts)
+
+pub found_at-found-requires : goal.found_at-found-requires
+found_at-found-requires g c =
+    let holds = c.requires.holds.1 in
+    let within = c.in-Ok.ensures c.requires.holds.0 holds.stands holds.machine in
+    found_within c.args.self.now c.requires.holds.0 c.in-Ok.place within.0 within.1
+
+pub kept_at-requires : goal.kept_at-requires
+kept_at-requires g c =
+    let holds = c.requires.holds.1 in
+    let within = c.in-Ok.ensures c.requires.holds.0 holds.stands holds.machine in
+    kept_within c.args.self.now c.requires.holds.0 c.in-Ok.place within.0 within.1
+
+pub device_byte-first-requires-clause-below : goal.device_byte-first-requires-clause-below
+device_byte-first-requires-clause-below g c =
+    let session : SessionState = c.args.self.now in
+    let store : Store = c.args.store.now in
+    let found : Found = c.found_at-found.result.now in
+    let weave : WeaveFields = c.weave-weave.result.now in
+    let bytes : List ℕ = c.items-bytes.result.now in
+    let m : Machine = c.requires.holds.0 in
+    let holds = c.requires.holds.1 in
+    let here =
+    site session m holds.machine store bytes c.in-Ok.place c.items-bytes.ensures (c.in-Ok.ensures m holds.stands holds.machine) found c.found_at-found.ensures c.kept_at.result.now c.kept_at.ensures weave c.weave-weave.ensures in
+    let ends = here.ends in
+    let some = c.requires.ranged.0 in
+    omega (arith, ends, some)
+
+pub device_byte-second-requires-clause-from : goal.device_byte-second-requires-clause-from
+device_byte-second-requires-clause-from g c =
+    let session : SessionState = c.args.self.now in
+    let store : Store = c.args.store.now in
+    let found : Found = c.found_at-found.result.now in
+    let weave : WeaveFields = c.weave-weave.result.now in
+    let bytes : List ℕ = c.items-bytes.result.now in
+    let m : Machine = c.requires.holds.0 in
+    let holds = c.requires.holds.1 in
+    let here =
+    site session m holds.machine store bytes c.in-Ok.place c.items-bytes.ensures (c.in-Ok.ensures m holds.stands holds.machine) found c.found_at-found.ensures c.kept_at.result.now c.kept_at.ensures weave c.weave-weave.ensures in
+    let from = here.from in
+    omega (arith, from)
+
+pub device_byte-second-requires-clause-below : goal.device_byte-second-requires-clause-below
+device_byte-second-requires-clause-below g c =
+    let session : SessionState = c.args.self.now in
+    let store : Store = c.args.store.now in
+    let found : Found = c.found_at-found.result.now in
+    let weave : WeaveFields = c.weave-weave.result.now in
+    let bytes : List ℕ = c.items-bytes.result.now in
+    let m : Machine = c.requires.holds.0 in
+    let holds = c.requires.holds.1 in
+    let here =
+    site session m holds.machine store bytes c.in-Ok.place c.items-bytes.ensures (c.in-Ok.ensures m holds.stands holds.machine) found c.found_at-found.ensures c.kept_at.result.now c.kept_at.ensures weave c.weave-weave.ensures in
+    let long : length bytes ≡ length store.bytes = ap (λ (xs : List ℕ). length xs) c.items-bytes.ensures in
+    let offset : ℕ = store.h - found.base in
+    let front : List ℕ = c.split_at.result.0.now in
+    let back : List ℕ = c.split_at.result.1.now in
+    let some : 1 ≤ length back = let other = eqb-false (length back) 0 (sym c.is_empty.ensures ∙ c.if-is_empty.false) in omega (arith, other) in
+    let both : length bytes ≡ length front + length back = ap (λ (xs : List ℕ). length xs) (cut_is bytes front back offset c.first_part.result c.first_part.ensures c.split_at.ensures.front c.split_at.ensures.back) ∙ length-append front back in
+    let ends = here.ends in
+    omega (arith, some, both, long, ends)
