@@ -7,6 +7,10 @@ use Rattle.cxl_commands.specs.Outcome.{Outcome}
 use Rattle.cxl_commands.specs.inputs.File.{HasNoBytes, not_read, not_small, AsksForSome}
 use Rattle.cxl_commands.specs.inputs.Image.{IsFaultyImageFile, HasNoImage}
 use Rattle.cxl_commands.specs.inputs.Image as images
+use Rattle.cxl_commands.specs.inputs.Host.{HasNoHost}
+use Rattle.cxl_commands.specs.inputs.Host as host
+use Rattle.cxl_commands.specs.inputs.ResetHost.{HasNoResetHost}
+use Rattle.cxl_commands.specs.inputs.ResetHost as reset
 use Rattle.cxl_commands.specs.inputs.Topology.{IsFaultyTreeFile, HasNoTree}
 use Rattle.cxl_commands.specs.inputs.Topology as trees
 
@@ -45,24 +49,22 @@ module _ (old mid new : FetchState) (names : List (List ℕ)) (asks : AsksFor ol
   image_behind file nodes outcome (images.not_sound fault is then e) =
       images.not_sound fault (subst (λ (t : List ℕ → Told). IsFaultyImageFile (t file) nodes fault) told is) (asks_behind (file ∷ []) then) e
 
--- the first of three names are asked for
+-- the first two of three names are asked for, or the first three
 module _ (cedt topo image : List ℕ) (old : FetchState) where
-  pub some_first : (new : FetchState) → AsksForSome (cedt ∷ []) old new → AsksForSome (cedt ∷ topo ∷ image ∷ []) old new
-  some_first new some = at (one_or_none cedt old new some)
+  pub first_of_three : (new : FetchState) → AsksForSome (cedt ∷ topo ∷ []) old new → AsksForSome (cedt ∷ topo ∷ image ∷ []) old new
+  first_of_three new some = at some.count some.asks
     where
-      at : AsksFor old new [] ⊎ AsksFor old new (cedt ∷ []) → AsksForSome (cedt ∷ topo ∷ image ∷ []) old new
-      at (inl asks) = record { count = 0; asks = asks }
-      at (inr asks) = record { count = 1; asks = asks }
+      at : (count : ℕ) → AsksFor old new (take count (cedt ∷ topo ∷ [])) → AsksForSome (cedt ∷ topo ∷ image ∷ []) old new
+      at zero asks = record { count = 0; asks = asks }
+      at (suc zero) asks = record { count = 1; asks = asks }
+      at (suc (suc k)) asks = record { count = 2; asks = subst (λ names. AsksFor old new (cedt ∷ topo ∷ names)) (take_none k) asks }
 
-  pub some_second : (mid new : FetchState) → AsksFor old mid (cedt ∷ []) → mid.told ≡ old.told → old.faults ≤ mid.faults → AsksForSome (topo ∷ []) mid new → AsksForSome (cedt ∷ topo ∷ image ∷ []) old new
-  some_second mid new first told counts some = at (one_or_none topo mid new some)
-    where
-      at : AsksFor mid new [] ⊎ AsksFor mid new (topo ∷ []) → AsksForSome (cedt ∷ topo ∷ image ∷ []) old new
-      at (inl asks) = record { count = 1; asks = asks_behind old mid new (cedt ∷ []) first told counts [] asks }
-      at (inr asks) = record { count = 2; asks = asks_behind old mid new (cedt ∷ []) first told counts (topo ∷ []) asks }
+  pub host_behind : (new : FetchState) (outcome : Outcome) → HasNoResetHost cedt topo old new outcome → HasNoHost cedt topo image old new outcome
+  host_behind new outcome (reset.no_table none) = host.no_table none
+  host_behind new outcome (reset.no_tree table is none) = host.no_tree table is none
 
-  pub some_third : (mid new : FetchState) → AsksFor old mid (cedt ∷ topo ∷ []) → mid.told ≡ old.told → old.faults ≤ mid.faults → AsksForSome (image ∷ []) mid new → AsksForSome (cedt ∷ topo ∷ image ∷ []) old new
-  some_third mid new first told counts some = at (one_or_none image mid new some)
+  pub third_of_three : (mid new : FetchState) → AsksFor old mid (cedt ∷ topo ∷ []) → mid.told ≡ old.told → old.faults ≤ mid.faults → AsksForSome (image ∷ []) mid new → AsksForSome (cedt ∷ topo ∷ image ∷ []) old new
+  third_of_three mid new first told counts some = at (one_or_none image mid new some)
     where
       at : AsksFor mid new [] ⊎ AsksFor mid new (image ∷ []) → AsksForSome (cedt ∷ topo ∷ image ∷ []) old new
       at (inl asks) = record { count = 2; asks = asks_behind old mid new (cedt ∷ topo ∷ []) first told counts [] asks }

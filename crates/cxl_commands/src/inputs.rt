@@ -1,5 +1,6 @@
 //! The files that commands read.
 
+pub(crate) mod faults;
 pub(crate) mod file;
 pub(crate) mod host;
 pub(crate) mod image;

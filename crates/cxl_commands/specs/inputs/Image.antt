@@ -1,5 +1,5 @@
 -- What reading an image from a file comes to.
-use Rattle.std.specs.Prelude.{◌≡◌, ℕ, ◌≤◌, List, [], ◌∷◌, ◌++◌, length, codes, decimal}
+use Rattle.std.specs.Prelude.{◌≡◌, ℕ, ◌≤◌, Option, None, Some, List, [], ◌∷◌, ◌++◌, length, codes}
 use Rattle.cxl_enc.specs.Limits.{file_limit}
 use Rattle.cxl_image.specs.File.{IsImageFile, IsFirstImageFault}
 use Rattle.cxl_image.specs.declared.fault.ImageFault.{ImageFault}
@@ -11,18 +11,30 @@ use Rattle.cxl_reply.specs.Words.{line}
 use Rattle.cxl_topo.specs.declared.node.Node.{Node}
 use Rattle.cxl_commands.specs.Outcome.{Outcome, one_piece}
 use Rattle.cxl_commands.specs.declared.status.Status.TheVariants.{BadImage}
+use Rattle.cxl_commands.specs.inputs.Faults.{numbered}
 use Rattle.cxl_commands.specs.inputs.File.{HasNoBytes}
 
 -- ---- the text of a fault
 
--- a fault by its name, and the number that it tells; want of memory never is one
+-- the word of a fault; want of memory never is one
+abbrev pub image_fault_word : ImageFault → List ℕ
+image_fault_word Magic = codes "magic"
+image_fault_word (Cut bytes) = codes "cut"
+image_fault_word (Nodes said) = codes "nodes"
+image_fault_word (Caps node) = codes "caps"
+image_fault_word (Trailing at) = codes "trailing"
+image_fault_word Memory = codes "memory"
+
+-- the number that it tells
+abbrev pub image_fault_number : ImageFault → Option ℕ
+image_fault_number (Cut bytes) = Some bytes
+image_fault_number (Nodes said) = Some said
+image_fault_number (Caps node) = Some node
+image_fault_number (Trailing at) = Some at
+image_fault_number other = None
+
 abbrev pub image_fault_name : ImageFault → List ℕ
-image_fault_name Magic = codes "magic"
-image_fault_name (Cut bytes) = codes "cut " ++ decimal bytes
-image_fault_name (Nodes said) = codes "nodes " ++ decimal said
-image_fault_name (Caps node) = codes "caps " ++ decimal node
-image_fault_name (Trailing at) = codes "trailing " ++ decimal at
-image_fault_name Memory = codes "memory"
+image_fault_name fault = numbered (image_fault_word fault) (image_fault_number fault)
 
 abbrev pub image_fault_text : ImageFault → List ℕ
 image_fault_text fault = line (codes "error: image " ++ image_fault_name fault)

@@ -1,5 +1,5 @@
 -- What reading a table from a file comes to.
-use Rattle.std.specs.Prelude.{◌≡◌, ℕ, ◌≤◌, List, [], ◌∷◌, ◌++◌, length, codes, decimal}
+use Rattle.std.specs.Prelude.{◌≡◌, ℕ, ◌≤◌, Option, None, Some, List, [], ◌∷◌, ◌++◌, length, codes}
 use Rattle.cxl_cedt.specs.CedtFields.{CedtFields}
 use Rattle.cxl_cedt.specs.Table.{IsTableText, FirstTableFault}
 use Rattle.cxl_cedt.specs.declared.fault.CedtFault.{CedtFault}
@@ -10,23 +10,37 @@ use Rattle.cxl_io.specs.Told.{Told, AreTold}
 use Rattle.cxl_reply.specs.Words.{line}
 use Rattle.cxl_commands.specs.Outcome.{Outcome, one_piece}
 use Rattle.cxl_commands.specs.declared.status.Status.TheVariants.{BadTable}
+use Rattle.cxl_commands.specs.inputs.Faults.{numbered}
 use Rattle.cxl_commands.specs.inputs.File.{HasNoBytes}
 
 -- ---- the text of a fault
 
--- a fault by its name, and the place of the record that has it; want of memory never is one
+-- the word of a fault; want of memory never is one
+abbrev pub fault_word : CedtFault → List ℕ
+fault_word Short = codes "short"
+fault_word Signature = codes "signature"
+fault_word Length = codes "length"
+fault_word Checksum = codes "checksum"
+fault_word (RecordCut at) = codes "record-cut"
+fault_word (RecordLength at) = codes "record-length"
+fault_word (WaysCode at) = codes "ways-code"
+fault_word (GranCode at) = codes "gran-code"
+fault_word (Arithmetic at) = codes "arithmetic"
+fault_word (TooMany at) = codes "too-many"
+fault_word Memory = codes "memory"
+
+-- the byte at which the record begins that has it
+abbrev pub fault_place : CedtFault → Option ℕ
+fault_place (RecordCut at) = Some at
+fault_place (RecordLength at) = Some at
+fault_place (WaysCode at) = Some at
+fault_place (GranCode at) = Some at
+fault_place (Arithmetic at) = Some at
+fault_place (TooMany at) = Some at
+fault_place other = None
+
 abbrev pub fault_name : CedtFault → List ℕ
-fault_name Short = codes "short"
-fault_name Signature = codes "signature"
-fault_name Length = codes "length"
-fault_name Checksum = codes "checksum"
-fault_name (RecordCut at) = codes "record-cut " ++ decimal at
-fault_name (RecordLength at) = codes "record-length " ++ decimal at
-fault_name (WaysCode at) = codes "ways-code " ++ decimal at
-fault_name (GranCode at) = codes "gran-code " ++ decimal at
-fault_name (Arithmetic at) = codes "arithmetic " ++ decimal at
-fault_name (TooMany at) = codes "too-many " ++ decimal at
-fault_name Memory = codes "memory"
+fault_name fault = numbered (fault_word fault) (fault_place fault)
 
 abbrev pub table_fault_text : CedtFault → List ℕ
 table_fault_text fault = line (codes "error: table " ++ fault_name fault)

@@ -1,5 +1,5 @@
 -- What reading a topology from a file comes to.
-use Rattle.std.specs.Prelude.{◌≡◌, ◌≢◌, ℕ, ◌≤◌, List, [], ◌∷◌, ◌++◌, length, codes, decimal}
+use Rattle.std.specs.Prelude.{◌≡◌, ◌≢◌, ℕ, ◌≤◌, Option, None, Some, List, [], ◌∷◌, ◌++◌, length, codes}
 use Rattle.cxl_enc.specs.Limits.{file_limit}
 use Rattle.cxl_io.specs.Fetch.{FetchState, AsksFor}
 use Rattle.cxl_io.specs.Told.{Told, AreTold}
@@ -13,22 +13,35 @@ use Rattle.cxl_topofile.specs.declared.fault.TopoFault.{TopoFault}
 use Rattle.cxl_topofile.specs.declared.fault.TopoFault.TheVariants as faults
 use Rattle.cxl_commands.specs.Outcome.{Outcome, one_piece}
 use Rattle.cxl_commands.specs.declared.status.Status.TheVariants.{BadTopo}
+use Rattle.cxl_commands.specs.inputs.Faults.{numbered}
 use Rattle.cxl_commands.specs.inputs.File.{HasNoBytes}
 
 -- ---- the text of a fault
 
--- a fault of a tree by its name, and the node that has it; want of memory never is one
-abbrev pub tree_fault_name : TreeFault → List ℕ
-tree_fault_name trees.TooMany = codes "too-many"
-tree_fault_name (trees.NoParent node) = codes "no-parent " ++ decimal node
-tree_fault_name (trees.PortTaken node) = codes "port-taken " ++ decimal node
-tree_fault_name (trees.Forks node) = codes "forks " ++ decimal node
-tree_fault_name (trees.NameTaken node) = codes "name-taken " ++ decimal node
-tree_fault_name (trees.UidTaken node) = codes "uid-taken " ++ decimal node
-tree_fault_name (trees.Depth node) = codes "depth " ++ decimal node
-tree_fault_name (trees.Caps node) = codes "caps " ++ decimal node
-tree_fault_name (trees.Capacity node) = codes "capacity " ++ decimal node
-tree_fault_name trees.Memory = codes "memory"
+-- the word of a tree's fault; want of memory never is one
+abbrev pub tree_fault_word : TreeFault → List ℕ
+tree_fault_word trees.TooMany = codes "too-many"
+tree_fault_word (trees.NoParent node) = codes "no-parent"
+tree_fault_word (trees.PortTaken node) = codes "port-taken"
+tree_fault_word (trees.Forks node) = codes "forks"
+tree_fault_word (trees.NameTaken node) = codes "name-taken"
+tree_fault_word (trees.UidTaken node) = codes "uid-taken"
+tree_fault_word (trees.Depth node) = codes "depth"
+tree_fault_word (trees.Caps node) = codes "caps"
+tree_fault_word (trees.Capacity node) = codes "capacity"
+tree_fault_word trees.Memory = codes "memory"
+
+-- the node that has it
+abbrev pub tree_fault_node : TreeFault → Option ℕ
+tree_fault_node (trees.NoParent node) = Some node
+tree_fault_node (trees.PortTaken node) = Some node
+tree_fault_node (trees.Forks node) = Some node
+tree_fault_node (trees.NameTaken node) = Some node
+tree_fault_node (trees.UidTaken node) = Some node
+tree_fault_node (trees.Depth node) = Some node
+tree_fault_node (trees.Caps node) = Some node
+tree_fault_node (trees.Capacity node) = Some node
+tree_fault_node other = None
 
 -- a fault by its name, and the place in the file, or what the tree's fault says
 abbrev pub topology_fault_name : TopoFault → List ℕ
@@ -36,7 +49,7 @@ topology_fault_name faults.Toml = codes "toml"
 topology_fault_name (faults.Key place) = codes "key " ++ place_text place
 topology_fault_name (faults.Kind place) = codes "kind " ++ place_text place
 topology_fault_name (faults.Range place) = codes "range " ++ place_text place
-topology_fault_name (faults.Tree fault) = tree_fault_name fault
+topology_fault_name (faults.Tree fault) = numbered (tree_fault_word fault) (tree_fault_node fault)
 topology_fault_name faults.Memory = codes "memory"
 
 abbrev pub topology_fault_text : TopoFault → List ℕ

@@ -1,6 +1,6 @@
 ghost use Rattle.std.specs.Prelude.{◌≡◌, ◌++◌, ◌<◌, IsSome, OnOk, length, codes, decimal};
 ghost use Rattle.cxl_commands.specs.commands.LinePlaces.{line_at};
-ghost use Rattle.cxl_commands.specs.commands.Lines.{more_targets_text, targets_text, more_maps_text, maps_text, verdict_text, bridge_text, registers_text, range_text, interleave_text, restrict_text, policy_text, use_text, chbs_line, window_line, cxims_line, other_line};
+ghost use Rattle.cxl_commands.specs.commands.Lines.{more_targets_text, targets_text, more_maps_text, maps_text, verdict_text, bridge_text, registers_text, range_text, interleave_text, arithmetic_text, restrict_text, policy_text, use_text, chbs_line, window_line, cxims_line, other_line};
 ghost use Rattle.cxl_window.specs.Windows.{cfmws_in};
 
 use cxl_cedt::{Chbs, Cxims, Other, Record};
@@ -87,9 +87,18 @@ fn put_interleave(out: &mut Vec<u8>, window: &Window) -> Result<(), Memory>
     put_number(out, u64::from(window.ways()))?;
     out.extend_from_slice(b" gran ")?;
     put_gran(out, window.gran())?;
-    out.push(b' ')?;
-    out.extend_from_slice(if window.xor() { b"xor" } else { b"modulo" })?;
-    Ok(())
+    put_arithmetic(out, window.xor())
+}
+
+/// Appends the arithmetic of a window, behind a space.
+fn put_arithmetic(out: &mut Vec<u8>, xor: bool) -> Result<(), Memory>
+    ensures { OnOk result (out.new.items ≡ out.old.items ++ (codes " " ++ arithmetic_text xor)) }
+{
+    if xor {
+        put_text(out, b" xor")
+    } else {
+        put_text(out, b" modulo")
+    }
 }
 
 #[tactic(auto, unfolding(crate::specs::commands::Lines::policy_text))]

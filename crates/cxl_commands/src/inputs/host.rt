@@ -1,5 +1,6 @@
 ghost use Rattle.std.specs.Prelude.{◌≡◌, ◌≤◌, Some, [], ◌∷◌, IfOk, IfErr, OnOk};
 ghost use Rattle.cxl_cedt.specs.CedtFields.{CedtFields};
+ghost use Rattle.cxl_image.specs.Images.{HasCapsOf};
 ghost use Rattle.cxl_io.specs.Fetch.{AsksFor};
 ghost use Rattle.cxl_model.specs.System.{IsSystem, system_of, bridge_uids};
 ghost use Rattle.cxl_window.specs.Windows.{windows_of};
@@ -8,11 +9,11 @@ ghost use Rattle.cxl_commands.specs.inputs.File.{AsksForSome};
 ghost use Rattle.cxl_commands.specs.inputs.Host.{AreRead, HasNoHost};
 
 use crate::inputs::image::fetch_image;
-use crate::inputs::table::fetch_table;
-use crate::inputs::topology::fetch_topology;
+use crate::inputs::reset_host::fetch_both;
 use crate::stop::Stop;
+use cxl_cedt::Cedt;
 use cxl_image::Image;
-use cxl_io::Fetch;
+use cxl_io::{Fetch, Memory};
 use cxl_topo::Topo;
 use cxl_window::{Window, windows};
 use std::alloc::Global;
@@ -24,6 +25,26 @@ pub struct OwnedHost {
     pub topo: Topo,
     pub image: Image,
     pub windows: Vec<Window>,
+}
+
+impl OwnedHost {
+    /// The host with this topology, an image over it, and the windows of this table.
+    pub fn of(alloc: Global, table: &Cedt, topo: Topo, image: Image) -> Result<OwnedHost, Memory>
+        requires { HasCapsOf image topo.nodes }
+        ensures parts { IfOk result (λ host. (host.topo ≡ topo) × (host.image ≡ image)) }
+        ensures windows { IfOk result (λ host. host.windows.items ≡ windows_of table.now.records (Some (bridge_uids topo.nodes))) }
+        ensures system { IfOk result (λ host. IsSystem (system_of image topo host.windows.items)) }
+    {
+        let windows = windows(alloc, table, Some(topo.uids()))?;
+        // what is known of a tree and of an image, by asking them
+        let _nodes = topo.count();
+        let _blocks = image.count();
+        Ok(OwnedHost {
+            topo,
+            image,
+            windows,
+        })
+    }
 }
 
 /// The host of a table, a topology and an image, each of which is read before the next is asked for. It
@@ -45,15 +66,8 @@ pub fn fetch_host<F: Fetch>(
     ensures counts { (F.state files.old).faults ≤ (F.state files.new).faults }
     ensures stays { (F.state files.new).told ≡ (F.state files.old).told }
 {
-    let table = fetch_table(alloc, cedt, files)?;
-    let topo = fetch_topology(alloc, topo, files)?;
+    let (table, topo) = fetch_both(alloc, cedt, topo, files)?;
     let image = fetch_image(alloc, image, &topo, files)?;
-    let windows = windows(alloc, &table, Some(topo.uids()))?;
-    let _nodes = topo.count();
-    let _blocks = image.count();
-    Ok(OwnedHost {
-        topo,
-        image,
-        windows,
-    })
+    let host = OwnedHost::of(alloc, &table, topo, image)?;
+    Ok(host)
 }

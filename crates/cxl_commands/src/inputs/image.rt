@@ -4,8 +4,9 @@ ghost use Rattle.cxl_image.specs.declared.fault.ImageFault.{ImageFault};
 ghost use Rattle.cxl_io.specs.Fetch.{AsksFor};
 ghost use Rattle.cxl_commands.specs.Answers.{IsStop};
 ghost use Rattle.cxl_commands.specs.inputs.File.{AsksForSome};
-ghost use Rattle.cxl_commands.specs.inputs.Image.{IsImageOf, HasNoImage, bad_image};
+ghost use Rattle.cxl_commands.specs.inputs.Image.{IsImageOf, HasNoImage, bad_image, image_fault_word, image_fault_number};
 
+use crate::inputs::faults::fault_line;
 use crate::inputs::file::fetch_file;
 use crate::outcome::Outcome;
 use crate::status::Status;
@@ -14,7 +15,6 @@ use cxl_image::{Image, ImageFault, read_image};
 use cxl_io::{Fetch, Memory};
 use cxl_topo::Topo;
 use std::alloc::Global;
-use std::fmt;
 
 /// The image over a topology of a command's file. It stops where there is none.
 pub(crate) fn fetch_image<F: Fetch>(
@@ -45,29 +45,32 @@ fn faulty(alloc: Global, fault: ImageFault) -> Result<Outcome, Memory>
     if fault == ImageFault::Memory {
         return Err(Memory);
     }
-    let name = FaultName(fault);
-    let text = format!(in alloc; "error: image {name}\n")?;
-    Ok(Outcome::made(Status::BadImage(fault), text.into_bytes()))
+    let text = fault_line(alloc, "image", fault_word(fault), fault_number(fault))?;
+    Ok(Outcome::made(Status::BadImage(fault), text))
 }
 
-/// A fault as the program names it.
-#[derive(Drop)]
-struct FaultName(ImageFault);
+fn fault_word(fault: ImageFault) -> &'static str
+    ensures { result.now ≡ image_fault_word fault }
+{
+    match fault {
+        ImageFault::Magic => "magic",
+        ImageFault::Cut(_) => "cut",
+        ImageFault::Nodes(_) => "nodes",
+        ImageFault::Caps(_) => "caps",
+        ImageFault::Trailing(_) => "trailing",
+        ImageFault::Memory => "memory",
+    }
+}
 
-impl fmt::Display for FaultName {
-    ghost use Rattle.std.specs.Prelude.{Some};
-    ghost use Rattle.cxl_commands.specs.inputs.Image.{image_fault_name};
-
-    ghost output = { λ name. Some (image_fault_name name.0) };
-
-    fn fmt<W: fmt::Write>(&self, f: &mut fmt::Formatter<W>) -> fmt::Result {
-        match self.0 {
-            ImageFault::Magic => write!(f, "magic"),
-            ImageFault::Cut(bytes) => write!(f, "cut {bytes}"),
-            ImageFault::Nodes(said) => write!(f, "nodes {said}"),
-            ImageFault::Caps(node) => write!(f, "caps {node}"),
-            ImageFault::Trailing(at) => write!(f, "trailing {at}"),
-            ImageFault::Memory => write!(f, "memory"),
-        }
+/// The number that the fault tells.
+fn fault_number(fault: ImageFault) -> Option<u32>
+    ensures { result ≡ image_fault_number fault }
+{
+    match fault {
+        ImageFault::Cut(number)
+        | ImageFault::Nodes(number)
+        | ImageFault::Caps(number)
+        | ImageFault::Trailing(number) => Some(number),
+        ImageFault::Magic | ImageFault::Memory => None,
     }
 }

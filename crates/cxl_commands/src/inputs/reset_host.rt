@@ -13,11 +13,31 @@ use crate::inputs::host::OwnedHost;
 use crate::inputs::table::fetch_table;
 use crate::inputs::topology::fetch_topology;
 use crate::stop::Stop;
+use cxl_cedt::Cedt;
 use cxl_image::Image;
 use cxl_io::Fetch;
 use cxl_model::reset_hosts_are_accepted;
-use cxl_window::windows;
+use cxl_topo::Topo;
 use std::alloc::Global;
+
+/// A table, and a topology that is asked for behind it. It stops at the first that has no reading.
+pub(crate) fn fetch_both<F: Fetch>(
+    alloc: Global,
+    cedt: &str,
+    topo: &str,
+    files: &mut F,
+) -> Result<(Cedt, Topo), Stop>
+    ensures read { IfOk result (λ both. AreBothRead (F.state files.old).told cedt.now topo.now both.0 both.1) }
+    ensures asked { OnOk result (AsksFor (F.state files.old) (F.state files.new) (cedt.now ∷ topo.now ∷ [])) }
+    ensures stops { IfErr result (IsStop (HasNoResetHost cedt.now topo.now (F.state files.old) (F.state files.new))
+        (AsksForSome (cedt.now ∷ topo.now ∷ []) (F.state files.old) (F.state files.new))) }
+    ensures counts { (F.state files.old).faults ≤ (F.state files.new).faults }
+    ensures stays { (F.state files.new).told ≡ (F.state files.old).told }
+{
+    let table = fetch_table(alloc, cedt, files)?;
+    let topo = fetch_topology(alloc, topo, files)?;
+    Ok((table, topo))
+}
 
 /// The host of a table and a topology after reset; the table is read before the topology is asked for. It
 /// stops at the first that has no reading.
@@ -40,15 +60,8 @@ pub fn fetch_reset_host<F: Fetch>(
     ensures stays { (F.state files.new).told ≡ (F.state files.old).told }
 {
     reset_hosts_are_accepted();
-    let table = fetch_table(alloc, cedt, files)?;
-    let topo = fetch_topology(alloc, topo, files)?;
+    let (table, topo) = fetch_both(alloc, cedt, topo, files)?;
     let image = Image::new(alloc, &topo)?;
-    let windows = windows(alloc, &table, Some(topo.uids()))?;
-    let _nodes = topo.count();
-    let _blocks = image.count();
-    Ok(OwnedHost {
-        topo,
-        image,
-        windows,
-    })
+    let host = OwnedHost::of(alloc, &table, topo, image)?;
+    Ok(host)
 }

@@ -3,8 +3,9 @@ ghost use Rattle.cxl_cedt.specs.declared.fault.CedtFault.{CedtFault};
 ghost use Rattle.cxl_io.specs.Fetch.{AsksFor};
 ghost use Rattle.cxl_commands.specs.Answers.{IsStop};
 ghost use Rattle.cxl_commands.specs.inputs.File.{AsksForSome};
-ghost use Rattle.cxl_commands.specs.inputs.Table.{IsTableOf, HasNoTable, bad_table};
+ghost use Rattle.cxl_commands.specs.inputs.Table.{IsTableOf, HasNoTable, bad_table, fault_word, fault_place};
 
+use crate::inputs::faults::fault_line;
 use crate::inputs::file::fetch_file;
 use crate::outcome::Outcome;
 use crate::status::Status;
@@ -12,7 +13,6 @@ use crate::stop::Stop;
 use cxl_cedt::{Cedt, CedtFault, read};
 use cxl_io::{Fetch, Memory};
 use std::alloc::Global;
-use std::fmt;
 
 /// The table of a command's first file. It stops where there is none.
 pub(crate) fn fetch_table<F: Fetch>(alloc: Global, file: &str, files: &mut F) -> Result<Cedt, Stop>
@@ -37,34 +37,43 @@ fn faulty(alloc: Global, fault: CedtFault) -> Result<Outcome, Memory>
     if fault == CedtFault::Memory {
         return Err(Memory);
     }
-    let name = FaultName(fault);
-    let text = format!(in alloc; "error: table {name}\n")?;
-    Ok(Outcome::made(Status::BadTable(fault), text.into_bytes()))
+    let text = fault_line(alloc, "table", fault_word(fault), fault_place(fault))?;
+    Ok(Outcome::made(Status::BadTable(fault), text))
 }
 
-/// A fault as the program names it.
-#[derive(Drop)]
-struct FaultName(CedtFault);
+fn fault_word(fault: CedtFault) -> &'static str
+    ensures { result.now ≡ fault_word fault }
+{
+    match fault {
+        CedtFault::Short => "short",
+        CedtFault::Signature => "signature",
+        CedtFault::Length => "length",
+        CedtFault::Checksum => "checksum",
+        CedtFault::RecordCut(_) => "record-cut",
+        CedtFault::RecordLength(_) => "record-length",
+        CedtFault::WaysCode(_) => "ways-code",
+        CedtFault::GranCode(_) => "gran-code",
+        CedtFault::Arithmetic(_) => "arithmetic",
+        CedtFault::TooMany(_) => "too-many",
+        CedtFault::Memory => "memory",
+    }
+}
 
-impl fmt::Display for FaultName {
-    ghost use Rattle.std.specs.Prelude.{Some};
-    ghost use Rattle.cxl_commands.specs.inputs.Table.{fault_name};
-
-    ghost output = { λ name. Some (fault_name name.0) };
-
-    fn fmt<W: fmt::Write>(&self, f: &mut fmt::Formatter<W>) -> fmt::Result {
-        match self.0 {
-            CedtFault::Short => write!(f, "short"),
-            CedtFault::Signature => write!(f, "signature"),
-            CedtFault::Length => write!(f, "length"),
-            CedtFault::Checksum => write!(f, "checksum"),
-            CedtFault::RecordCut(at) => write!(f, "record-cut {at}"),
-            CedtFault::RecordLength(at) => write!(f, "record-length {at}"),
-            CedtFault::WaysCode(at) => write!(f, "ways-code {at}"),
-            CedtFault::GranCode(at) => write!(f, "gran-code {at}"),
-            CedtFault::Arithmetic(at) => write!(f, "arithmetic {at}"),
-            CedtFault::TooMany(at) => write!(f, "too-many {at}"),
-            CedtFault::Memory => write!(f, "memory"),
-        }
+/// The byte at which the record begins that has the fault.
+fn fault_place(fault: CedtFault) -> Option<u32>
+    ensures { result ≡ fault_place fault }
+{
+    match fault {
+        CedtFault::RecordCut(at)
+        | CedtFault::RecordLength(at)
+        | CedtFault::WaysCode(at)
+        | CedtFault::GranCode(at)
+        | CedtFault::Arithmetic(at)
+        | CedtFault::TooMany(at) => Some(at),
+        CedtFault::Short
+        | CedtFault::Signature
+        | CedtFault::Length
+        | CedtFault::Checksum
+        | CedtFault::Memory => None,
     }
 }

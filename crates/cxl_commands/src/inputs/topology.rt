@@ -1,11 +1,11 @@
-ghost use Rattle.std.specs.Prelude.{◌≡◌, ◌≢◌, ◌<◌, ◌≤◌, Some, [], ◌∷◌, IfOk, IfErr, OnOk};
+ghost use Rattle.std.specs.Prelude.{◌≡◌, ◌≢◌, ◌<◌, ◌≤◌, [], ◌∷◌, IfOk, IfErr, OnOk};
 ghost use Rattle.cxl_io.specs.Fetch.{AsksFor};
 ghost use Rattle.cxl_topo.specs.Faults.{IsTree};
 ghost use Rattle.cxl_topo.specs.declared.fault.TreeFault.TheVariants as trees;
 ghost use Rattle.cxl_topofile.specs.declared.fault.TopoFault.{TopoFault};
 ghost use Rattle.cxl_commands.specs.Answers.{IsStop};
 ghost use Rattle.cxl_commands.specs.inputs.File.{AsksForSome};
-ghost use Rattle.cxl_commands.specs.inputs.Topology.{IsTreeOf, HasNoTree, bad_topology};
+ghost use Rattle.cxl_commands.specs.inputs.Topology.{IsTreeOf, HasNoTree, bad_topology, tree_fault_word, tree_fault_node};
 
 use crate::inputs::file::fetch_file;
 use crate::outcome::Outcome;
@@ -66,36 +66,48 @@ impl fmt::Display for FaultName {
             TopoFault::Kind(place) => write!(f, "kind {place}"),
             TopoFault::Range(place) => write!(f, "range {place}"),
             TopoFault::Tree(fault) => {
-                let name = TreeFaultName(fault);
-                write!(f, "{name}")
+                let word = fault_word(fault);
+                match fault_node(fault) {
+                    None => write!(f, "{word}"),
+                    Some(node) => write!(f, "{word} {node}"),
+                }
             }
             TopoFault::Memory => write!(f, "memory"),
         }
     }
 }
 
-/// A fault of the tree as the program names it.
-#[derive(Drop)]
-struct TreeFaultName(TreeFault);
+/// The word of a tree's fault.
+fn fault_word(fault: TreeFault) -> &'static str
+    ensures { result.now ≡ tree_fault_word fault }
+{
+    match fault {
+        TreeFault::TooMany => "too-many",
+        TreeFault::NoParent(_) => "no-parent",
+        TreeFault::PortTaken(_) => "port-taken",
+        TreeFault::Forks(_) => "forks",
+        TreeFault::NameTaken(_) => "name-taken",
+        TreeFault::UidTaken(_) => "uid-taken",
+        TreeFault::Depth(_) => "depth",
+        TreeFault::Caps(_) => "caps",
+        TreeFault::Capacity(_) => "capacity",
+        TreeFault::Memory => "memory",
+    }
+}
 
-impl fmt::Display for TreeFaultName {
-    ghost use Rattle.std.specs.Prelude.{Some};
-    ghost use Rattle.cxl_commands.specs.inputs.Topology.{tree_fault_name};
-
-    ghost output = { λ name. Some (tree_fault_name name.0) };
-
-    fn fmt<W: fmt::Write>(&self, f: &mut fmt::Formatter<W>) -> fmt::Result {
-        match self.0 {
-            TreeFault::TooMany => write!(f, "too-many"),
-            TreeFault::NoParent(node) => write!(f, "no-parent {node}"),
-            TreeFault::PortTaken(node) => write!(f, "port-taken {node}"),
-            TreeFault::Forks(node) => write!(f, "forks {node}"),
-            TreeFault::NameTaken(node) => write!(f, "name-taken {node}"),
-            TreeFault::UidTaken(node) => write!(f, "uid-taken {node}"),
-            TreeFault::Depth(node) => write!(f, "depth {node}"),
-            TreeFault::Caps(node) => write!(f, "caps {node}"),
-            TreeFault::Capacity(node) => write!(f, "capacity {node}"),
-            TreeFault::Memory => write!(f, "memory"),
-        }
+/// The node that has the fault.
+fn fault_node(fault: TreeFault) -> Option<u32>
+    ensures { result ≡ tree_fault_node fault }
+{
+    match fault {
+        TreeFault::NoParent(node)
+        | TreeFault::PortTaken(node)
+        | TreeFault::Forks(node)
+        | TreeFault::NameTaken(node)
+        | TreeFault::UidTaken(node)
+        | TreeFault::Depth(node)
+        | TreeFault::Caps(node)
+        | TreeFault::Capacity(node) => Some(node),
+        TreeFault::TooMany | TreeFault::Memory => None,
     }
 }

@@ -29,7 +29,6 @@ use cxl_media::Roll;
 use cxl_model::{accepted_or_breach, reset_hosts_are_accepted};
 use cxl_session::Session;
 use cxl_turns::{Counts, carry_out_counted};
-use cxl_window::windows;
 use std::alloc::Global;
 
 /// Carries out the commands of the generated system of a number, from reset on. It tells what is counted of the
@@ -66,13 +65,8 @@ fn made_host(alloc: Global, n: u32) -> Result<OwnedHost, Memory>
     let cedt = made_table(alloc, n)?;
     let topo = made_tree(alloc, n)?;
     let image = Image::new(alloc, &topo)?;
-    let windows = windows(alloc, &cedt, Some(topo.uids()))?;
-    let _blocks = image.count();
-    Ok(OwnedHost {
-        topo,
-        image,
-        windows,
-    })
+    let host = OwnedHost::of(alloc, &cedt, topo, image)?;
+    Ok(host)
 }
 
 /// Carries out the commands of the number over its host.

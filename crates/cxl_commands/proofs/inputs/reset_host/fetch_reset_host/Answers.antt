@@ -1,62 +1,29 @@
-use Rattle.std.proofs.Common.{[], ◌∷◌, Err, ap, sym, subst, ◌∙◌, rules}
+use Rattle.std.proofs.Common.{◌≡◌, sym, subst, ◌∙◌}
 use Rattle.std.proofs.lemmas.Result.{err_from_is_err_and}
+use Rattle.cxl_image.specs.Images.{reset_blocks}
 use Rattle.cxl_model.specs.Accepted.{IsAccepted}
 use Rattle.cxl_model.specs.System.{IsSystem, system_of}
-use Rattle.cxl_commands.specs.inputs.ResetHost.{no_table, no_tree}
-use Rattle.cxl_commands.proofs.Hosts.{asks_behind, tree_behind, first_of_two, second_of_two}
-use Rattle.cxl_commands.proofs.Stops.{stopped-behind, stop-memory}
+use Rattle.cxl_topo.specs.Tree.{Tree}
+use Rattle.cxl_commands.proofs.Stops.{stop-memory}
 use Rattle.cxl_commands.proofs.inputs.reset_host.fetch_reset_host.Goals as goal
-
-pub returns-in_err-table-clause-stops : goal.returns-in_err-table-clause-stops
-returns-in_err-table-clause-stops g c =
-    let p = err_from_is_err_and c.from_residual.result c.from_residual.ensures.1 in
-    stopped-behind _ _ _ _ c.from_residual.result _ (p.1 ∙ ap Err p.2) (λ o none. no_table none)
-    (first_of_two c.args.cedt.now c.args.topo.now (g.F.Fetch.state c.args.files.now) (g.F.Fetch.state c.fetch_table.new.files)) c.in_err-table.ensures.stops
-
-pub returns-in_err-topo-clause-stops : goal.returns-in_err-topo-clause-stops
-returns-in_err-topo-clause-stops g c =
-    let p = err_from_is_err_and c.from_residual-in_err-topo.result c.from_residual-in_err-topo.ensures.1 in
-    let old = g.F.Fetch.state c.args.files.now in
-    let mid = g.F.Fetch.state c.fetch_table.new.files in
-    let new = g.F.Fetch.state c.fetch_topology.new.files in
-    let table = c.in_ok-table.ensures in
-    stopped-behind _ _ _ _ c.from_residual-in_err-topo.result _ (p.1 ∙ ap Err p.2)
-    (λ o none. no_tree c.in_ok-table.table table.table (tree_behind old mid new (c.args.cedt.now ∷ []) table.asked table.stays table.counts c.args.topo.now o none))
-    (second_of_two c.args.cedt.now c.args.topo.now old mid new table.asked table.stays table.counts) c.in_err-topo.ensures.stops
 
 pub returns-in_err-image-clause-stops : goal.returns-in_err-image-clause-stops
 returns-in_err-image-clause-stops g c =
     let p = err_from_is_err_and c.from_residual-in_err-image.result c.from_residual-in_err-image.ensures.1 in
-    let old = g.F.Fetch.state c.args.files.now in
-    let mid = g.F.Fetch.state c.fetch_table.new.files in
-    let new = g.F.Fetch.state c.fetch_topology.new.files in
-    let table = c.in_ok-table.ensures in
-    let topo = c.in_ok-topo.ensures in
-    rw p.1 (stop-memory _ _ _ p.2 (record { count = 2; asks = asks_behind old mid new (c.args.cedt.now ∷ []) table.asked table.stays table.counts (c.args.topo.now ∷ []) topo.asked }))
+    rw p.1 (stop-memory _ _ _ p.2 (record { count = 2; asks = c.in_ok-table.ensures.asked }))
 
-pub returns-in_err-windows-clause-stops : goal.returns-in_err-windows-clause-stops
-returns-in_err-windows-clause-stops g c =
-    let p = err_from_is_err_and c.from_residual-in_err-windows.result c.from_residual-in_err-windows.ensures.1 in
-    let old = g.F.Fetch.state c.args.files.now in
-    let mid = g.F.Fetch.state c.fetch_table.new.files in
-    let new = g.F.Fetch.state c.fetch_topology.new.files in
-    let table = c.in_ok-table.ensures in
-    let topo = c.in_ok-topo.ensures in
-    rw p.1 (stop-memory _ _ _ p.2 (record { count = 2; asks = asks_behind old mid new (c.args.cedt.now ∷ []) table.asked table.stays table.counts (c.args.topo.now ∷ []) topo.asked }))
-
-pub returns-clause-asked : goal.returns-clause-asked
-returns-clause-asked g c =
-    let old = g.F.Fetch.state c.args.files.now in
-    let mid = g.F.Fetch.state c.fetch_table.new.files in
-    let new = g.F.Fetch.state c.fetch_topology.new.files in
-    let table = c.in_ok-table.ensures in
-    let topo = c.in_ok-topo.ensures in
-    asks_behind old mid new (c.args.cedt.now ∷ []) table.asked table.stays table.counts (c.args.topo.now ∷ []) topo.asked
+pub returns-in_err-host-clause-stops : goal.returns-in_err-host-clause-stops
+returns-in_err-host-clause-stops g c =
+    let p = err_from_is_err_and c.from_residual-in_err-host.result c.from_residual-in_err-host.ensures.1 in
+    rw p.1 (stop-memory _ _ _ p.2 (record { count = 2; asks = c.in_ok-table.ensures.asked }))
 
 pub returns-clause-accepted : goal.returns-clause-accepted
 returns-clause-accepted g c =
-    let topo = c.in_ok-topo.topo in
-    let windows = c.in_ok-windows.windows.items in
-    let system : IsSystem (system_of c.in_ok-image.image topo windows) = search rules in
-    subst (λ blocks. IsAccepted (system_of blocks topo windows)) (sym c.in_ok-image.ensures.reset)
-    (c.reset_hosts_are_accepted.ensures topo windows (subst (λ blocks. IsSystem (system_of blocks topo windows)) c.in_ok-image.ensures.reset system))
+    let topo = c.in_ok-table.topo in
+    let host = c.in_ok-host.host in
+    let parts = c.in_ok-host.ensures.parts in
+    let reset = parts.1 ∙ c.in_ok-image.ensures.reset in
+    let system : IsSystem (system_of (reset_blocks topo.nodes) topo host.windows.items) = subst (λ blocks. IsSystem (system_of blocks topo host.windows.items)) c.in_ok-image.ensures.reset c.in_ok-host.ensures.system in
+    subst (λ blocks. IsAccepted (system_of blocks host.topo host.windows.items)) (sym reset)
+    (subst (λ (tree : Tree). IsAccepted (system_of (reset_blocks topo.nodes) tree host.windows.items)) (sym parts.0)
+    (c.reset_hosts_are_accepted.ensures topo host.windows.items system))
