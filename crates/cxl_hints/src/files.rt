@@ -1,5 +1,6 @@
 //! What is wrong with a file.
 
+use crate::say;
 use cxl_cedt::CedtFault;
 use cxl_image::ImageFault;
 use cxl_io::{Fetch, StdFetch};
@@ -13,10 +14,10 @@ use std::rt::Files;
 pub(crate) fn bad_file<R: Eprint + Files>(rt: &R, words: &[String]) -> io::Result<()> {
     for name in words.iter().skip(1).take(count_of_files(words)) {
         if let Some(why) = why_unread(rt, name.as_str()) {
-            return eprintln!(rt; "cxlplan: {name} {why}");
+            return say(rt, name.as_str(), why);
         }
     }
-    eprintln!(rt; "cxlplan: a file cannot be read")
+    say(rt, "", "a file cannot be read")
 }
 
 /// How many files a command names, behind its own name.
@@ -32,11 +33,11 @@ fn count_of_files(words: &[String]) -> usize {
 /// Why a file cannot be read, where that can be told without reading it.
 fn why_unread<R: Files>(rt: &R, name: &str) -> Option<&'static str> {
     match fs::metadata(rt, name) {
-        Err(e) if e.kind() == ErrorKind::NotFound => Some("is not there"),
-        Err(_) => Some("cannot be reached"),
-        Ok(found) if found.is_dir() => Some("is a folder"),
+        Err(e) if e.kind() == ErrorKind::NotFound => Some(" is not there"),
+        Err(_) => Some(" cannot be reached"),
+        Ok(found) if found.is_dir() => Some(" is a folder"),
         Ok(found) if found.is_file() && File::open(rt, name).is_err() => {
-            Some("may not be read by you; the files below /sys/firmware/acpi are root's")
+            Some(" may not be read by you; the files below /sys/firmware/acpi are root's")
         }
         Ok(_) => None,
     }
@@ -57,7 +58,7 @@ pub(crate) fn bad_table<R: Eprint + Files>(
             );
         }
         if bytes.starts_with(b"CXLHDM01") {
-            return eprintln!(rt; "cxlplan: {name} is an image; the order is CEDT TOPO IMAGE");
+            return say(rt, name, " is an image; the order is CEDT TOPO IMAGE");
         }
     }
     match fault {
@@ -78,7 +79,7 @@ pub(crate) fn bad_topology<R: Eprint + Files>(
     let name = command_word(words, 2);
     match fault {
         TopoFault::Toml => bad_toml(rt, alloc, name),
-        TopoFault::Memory => eprintln!(rt; "cxlplan: memory ran out"),
+        TopoFault::Memory => say(rt, "", "memory ran out"),
         _ => eprintln!(rt; "cxlplan: {name}: {fault} ({})", counted(fault)),
     }
 }
@@ -93,19 +94,23 @@ fn counted(fault: TopoFault) -> &'static str {
 
 /// Where a file stops to be TOML.
 fn bad_toml<R: Eprint + Files>(rt: &R, alloc: Global, name: &str) -> io::Result<()> {
-    let Some(bytes) = reread(rt, alloc, name) else {
-        return eprintln!(rt; "cxlplan: {name} is no TOML document");
-    };
-    if bytes.starts_with(b"CEDT") || bytes.starts_with(b"CXLHDM01") {
-        return eprintln!(rt; "cxlplan: {name} is no topology; the order is CEDT TOPO IMAGE");
+    match reread(rt, alloc, name) {
+        Some(bytes) => bad_text(rt, alloc, name, bytes.as_slice()),
+        None => say(rt, name, " is no TOML document"),
     }
-    let Err(error) = toml::table_from_slice(alloc, bytes.as_slice()) else {
-        return eprintln!(rt; "cxlplan: {name} is no TOML document");
+}
+
+fn bad_text<R: Eprint>(rt: &R, alloc: Global, name: &str, text: &[u8]) -> io::Result<()> {
+    if text.starts_with(b"CEDT") || text.starts_with(b"CXLHDM01") {
+        return say(rt, name, " is no topology; the order is CEDT TOPO IMAGE");
+    }
+    let Err(error) = toml::table_from_slice(alloc, text) else {
+        return say(rt, name, " is no TOML document");
     };
     let message = error.message();
     match error.span() {
         Some(span) => {
-            let line = line_of(bytes.as_slice(), span.start);
+            let line = line_of(text, span.start);
             eprintln!(rt; "cxlplan: {name}, line {line}: {message}")
         }
         None => eprintln!(rt; "cxlplan: {name}: {message}"),

@@ -25,10 +25,15 @@ pub fn hint<R: Eprint + Files>(
         Status::BadTopo(fault) => files::bad_topology(rt, alloc, words, fault),
         Status::BadImage(fault) => files::bad_image(rt, words, fault),
         _ => match cause(status) {
-            Some(text) => eprintln!(rt; "cxlplan: {text}"),
+            Some(text) => say(rt, "", text),
             None => Ok(()),
         },
     }
+}
+
+/// One line: what it is about, as a file's name or a word, and what is to be said of it.
+fn say<R: Eprint>(rt: &R, about: &str, text: &str) -> io::Result<()> {
+    eprintln!(rt; "cxlplan: {about}{text}")
 }
 
 /// What ended a command, where its status alone says that.

@@ -1,5 +1,6 @@
 //! Why words are no command.
 
+use crate::say;
 use cxl_io::{NumFault, read_number};
 use cxl_script::{BadLine, LineFault, Why, read_command};
 use std::alloc::Global;
@@ -8,8 +9,10 @@ use std::io::{self, Eprint};
 /// Names the word that cannot be read.
 pub(crate) fn bad_words<R: Eprint>(rt: &R, alloc: Global, words: &[String]) -> io::Result<()> {
     let Some((verb, operands)) = words.split_first() else {
-        return eprintln!(rt;
-            "cxlplan: no command is named, or a word is no UTF-8; see cxlplan --help"
+        return say(
+            rt,
+            "",
+            "no command is named, or a word is no UTF-8; see cxlplan --help",
         );
     };
     match (verb.as_str(), operands) {
@@ -17,7 +20,7 @@ pub(crate) fn bad_words<R: Eprint>(rt: &R, alloc: Global, words: &[String]) -> i
         ("plan", [_, _, line]) => no_create(rt, alloc, line.as_str()),
         (verb, _) => match operands_of(verb) {
             Some(takes) => eprintln!(rt; "cxlplan: {verb} takes {takes}; see cxlplan --help"),
-            None => eprintln!(rt; "cxlplan: {verb} is no command; see cxlplan --help"),
+            None => say(rt, verb, " is no command; see cxlplan --help"),
         },
     }
 }
@@ -42,9 +45,11 @@ fn bad_number<R: Eprint>(rt: &R, word: &str) -> io::Result<()> {
         Err(NumFault::BadDigit(at)) => eprintln!(rt;
             "cxlplan: {word} has no digit at byte {at}; write decimal digits, or hexadecimal ones after 0x"
         ),
-        Err(NumFault::TooLarge) => eprintln!(rt; "cxlplan: {word} is no address of 64 bits"),
-        _ => eprintln!(rt;
-            "cxlplan: {word} is no number; write decimal digits, or hexadecimal ones after 0x"
+        Err(NumFault::TooLarge) => say(rt, word, " is no address of 64 bits"),
+        _ => say(
+            rt,
+            word,
+            " is no number; write decimal digits, or hexadecimal ones after 0x",
         ),
     }
 }
@@ -53,12 +58,16 @@ fn bad_number<R: Eprint>(rt: &R, word: &str) -> io::Result<()> {
 fn no_create<R: Eprint>(rt: &R, alloc: Global, line: &str) -> io::Result<()> {
     match read_command(alloc, line.as_bytes()) {
         Err(LineFault::Bad(bad)) => bad_line(rt, line, bad),
-        Err(LineFault::Memory) => eprintln!(rt; "cxlplan: memory ran out"),
-        Ok(Some(_)) => eprintln!(rt;
-            "cxlplan: plan wants a line that begins with create, and no other command"
+        Err(LineFault::Memory) => say(rt, "", "memory ran out"),
+        Ok(Some(_)) => say(
+            rt,
+            "",
+            "plan wants a line that begins with create, and no other command",
         ),
-        Ok(None) => eprintln!(rt;
-            "cxlplan: the line is empty or a comment; write create NAME KIND SIZE EP.."
+        Ok(None) => say(
+            rt,
+            "",
+            "the line is empty or a comment; write create NAME KIND SIZE EP..",
         ),
     }
 }
