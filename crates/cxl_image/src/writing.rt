@@ -3,7 +3,6 @@
 ghost use Rattle.std.specs.Prelude.{◌≡◌, ◌++◌, ◌≤◌, List, length, codes, IfOk, OnOk};
 ghost use Rattle.std.specs.List.{flat_map};
 ghost use Rattle.cxl_regs.specs.Registers.{Registers};
-ghost use Rattle.cxl_regs.specs.Words.{head_words};
 ghost use Rattle.cxl_topo.specs.declared.node.Node.{Node};
 ghost use Rattle.cxl_image.specs.Images.{IsImage, HasCapsOf};
 ghost use Rattle.cxl_image.specs.Fields.{image_limit};
@@ -62,22 +61,10 @@ fn put_blocks(out: &mut Vec<u8>, blocks: &[Block]) -> Result<(), Memory>
 fn put_block(out: &mut Vec<u8>, block: &Block) -> Result<(), Memory>
     ensures { OnOk result (out.new.items ≡ out.old.items ++ block_text block.now) }
 {
-    append_words(out, &head_words(block))?;
+    append_words(out, &block.head_words())?;
     for i in 0..block.count() {
         let decoder = block.decoder(i);
         append_words(out, &words_of(&decoder))?;
     }
     Ok(())
-}
-
-/// The words before the decoders.
-fn head_words(block: &Block) -> [u32; 4]
-    ensures { result ≡ head_words block.now }
-{
-    let control = if block.endpoint() && block.enabled() {
-        2
-    } else {
-        0
-    };
-    [block.cap(), control, 0, 0]
 }

@@ -148,8 +148,9 @@ impl Block {
         Some(words_of(&d)[place_at(off) as usize])
     }
 
-    /// The words before the decoders.
-    fn head_words(&self) -> [u32; 4]
+    /// The words before the decoders: the capability, the global control and two that are reserved. (CXL HDM decoder
+    /// capability.)
+    pub fn head_words(&self) -> [u32; 4]
         ensures { result ≡ head_words self.now }
     {
         let control = if self.endpoint && self.enabled { 2 } else { 0 };
