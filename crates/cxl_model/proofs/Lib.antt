@@ -37,3 +37,4 @@ pub mod DealingSpans
 pub mod DealingStays
 pub mod Hosting
 pub mod Resetting
+pub mod FirstSlots

@@ -1,5 +1,5 @@
 -- The device bytes of regions, and of committed decoders.
-use Rattle.std.specs.Prelude.{◌≡◌, ℕ, ◌+◌, ◌/◌, ◌<◌, ◌≤◌, true, slice_get, Some}
+use Rattle.std.specs.Prelude.{◌≡◌, ℕ, ◌+◌, ◌/◌, ◌<◌, ◌≤◌, ◌==◌, true, List, slice_get, position, Option, Some}
 use Rattle.cxl_regs.specs.declared.decoder.Decoder.{Decoder}
 use Rattle.cxl_regs.specs.Reading.{span_length}
 use Rattle.cxl_span.specs.Spans.{span_start_of}
@@ -10,6 +10,10 @@ use Rattle.cxl_model.specs.System.{System, decoders_at, decoder_at}
 -- how many bytes of a device each slot has
 abbrev pub slot_length : Found → ℕ
 slot_length found = found.size / found.ways
+
+-- the first slot whose span lies on the endpoint's device
+abbrev pub slot_on : ℕ → List Place → Option ℕ
+slot_on endpoint spans = position (λ (place : Place). place.endpoint == endpoint) spans
 
 -- the byte of the endpoint's device lies in the span of one of the region's slots
 pub record LiesInSpan (found : Found) (endpoint dpa : ℕ) : Type 0 where

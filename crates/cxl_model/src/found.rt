@@ -2,6 +2,7 @@ ghost use Rattle.std.specs.Prelude.{◌≡◌};
 ghost use Rattle.cxl_model.specs.System.{System};
 ghost use Rattle.cxl_model.specs.Hosts.{IsHost};
 ghost use Rattle.cxl_model.specs.Regions.{IsRegionIn, weave_fields};
+ghost use Rattle.cxl_model.specs.Bytes.{slot_on};
 
 use cxl_deal::Weave;
 use cxl_enc::{FixedList, MemKind, split};
@@ -52,4 +53,15 @@ pub fn weave_of(found: &Found, window: &Window) -> Weave
         window.xor(),
         [maps[0], maps[1], maps[2], maps[3]],
     )
+}
+
+/// The first slot whose span lies on the endpoint's device, where one does.
+pub fn slot_on(found: &Found, endpoint: u32) -> Option<usize>
+    ensures { result ≡ slot_on endpoint found.now.spans }
+{
+    found
+        .spans
+        .items()
+        .iter()
+        .position(|place| place.endpoint == endpoint)
 }

@@ -25,7 +25,7 @@ pub use dealing::{
     routes_are_of_regions, routes_lie_in_ranges, routes_stay,
 };
 pub use extent::Extent;
-pub use found::{Found, Place, weave_of};
+pub use found::{Found, Place, slot_on, weave_of};
 pub use host::Host;
 pub use laws::{
     accepted_image_is_system, accepted_or_breach, accepted_where_whole, breaches_lie_in_images,

@@ -3,7 +3,7 @@ use Rattle.std.proofs.Common.{◌≡◌, ℕ, ◌+◌, ◌-◌, ◌*◌, ◌/◌
 use Rattle.std.specs.Prelude.{slice_get, IsSomeAnd}
 use Rattle.std.proofs.Math.Nat.{mul-le-mul_right, div-lt_iff_lt-mul}
 use Rattle.std.proofs.lemmas.Nat.{pow_pos}
-use Rattle.std.proofs.lemmas.Option.{slice_get-get_or, slice_get_within, get_or_from_slice_get, same_Some}
+use Rattle.std.proofs.lemmas.Option.{slice_get-get_or, same_Some}
 use Rattle.cxl_enc.specs.Limits.{address_limit}
 use Rattle.cxl_num.specs.Interleave.{chunk_size}
 use Rattle.cxl_window.specs.Fields.{WindowFields}
@@ -11,7 +11,8 @@ use Rattle.cxl_deal.specs.Weaves.{WeaveFields, weave_ways, turns_end, dealt_slot
 use Rattle.cxl_model.specs.declared.found.Found.{Found}
 use Rattle.cxl_model.specs.declared.found.Place.{Place}
 use Rattle.cxl_model.specs.Regions.{weave_fields, Carries}
-use Rattle.cxl_model.specs.Bytes.{slot_length, LiesInSpan}
+use Rattle.cxl_model.specs.Bytes.{slot_length, slot_on, LiesInSpan}
+use Rattle.cxl_model.proofs.FirstSlots.{slot_there}
 use Rattle.cxl_move.specs.Slots.{IsByteOfSlot}
 
 -- the place of the slot to which a byte is dealt is where it is carried
@@ -102,30 +103,23 @@ module _ (found : Found) (w : WindowFields) (laws : WovenLaws found w) (endpoint
 -- ---- the one slot on an endpoint
 
 module _ (found : Found) (apart : (a b : ℕ) (p q : Place) → slice_get found.spans a ≡ Some p → slice_get found.spans b ≡ Some q → p.endpoint ≡ q.endpoint → a ≡ b) (spans : List Place) (d : Place) (same : spans ≡ found.spans) (endpoint slot : ℕ)
-    (on : IsSomeAnd (slice_get found.spans slot) (λ place. place.endpoint ≡ endpoint)) where
-  record IsOn : Type 0 where
-    there : slice_get found.spans slot ≡ Some (get_or spans slot d)
-    here : (get_or spans slot d).endpoint ≡ endpoint
+    (on : slot_on endpoint found.spans ≡ Some slot) where
+  own : Place
+  own = record { endpoint = endpoint; start = (get_or spans slot d).start }
 
-  is_on : IsOn
-  is_on = by_place (slice_get found.spans slot) refl on
-    where
-      by_place : (o : Option Place) → slice_get found.spans slot ≡ o → IsSomeAnd o (λ place. place.endpoint ≡ endpoint) → IsOn
-      by_place None is here = elim here [ ]
-      by_place (Some place) is here =
-          let own : get_or spans slot d ≡ place = ap (λ (xs : List Place). get_or xs slot d) same ∙ get_or_from_slice_get found.spans slot place d is in
-          record { there = is ∙ ap (λ (p : Place). Some p) (sym own); here = ap (λ (p : Place). p.endpoint) own ∙ here }
-
-  pub slot_within : slot < length found.spans
-  slot_within = slice_get_within found.spans slot (get_or spans slot d) is_on.there
+  own_there : slice_get found.spans slot ≡ Some own
+  unfolding own
+  own_there = subst (λ (xs : List Place). slice_get found.spans slot ≡ Some (record { endpoint = endpoint; start = (get_or xs slot d).start })) (sym same) (slot_there endpoint found.spans slot d on)
 
   -- what lies in a span on the endpoint lies in this one
   pub lies_there : (dpa : ℕ) → LiesInSpan found endpoint dpa → ((get_or spans slot d).start ≤ dpa) × (dpa < (get_or spans slot d).start + slot_length found)
+  unfolding own
   lies_there dpa lies =
-      let one : lies.slot ≡ slot = apart lies.slot slot lies.place (get_or spans slot d) lies.there is_on.there (lies.here ∙ sym is_on.here) in
-      let place : lies.place ≡ get_or spans slot d = same_Some lies.place (get_or spans slot d) (sym lies.there ∙ ap (slice_get found.spans) one ∙ is_on.there) in
+      let one : lies.slot ≡ slot = apart lies.slot slot lies.place own lies.there own_there lies.here in
+      let place : lies.place ≡ own = same_Some lies.place own (sym lies.there ∙ ap (slice_get found.spans) one ∙ own_there) in
       let start = ap (λ (p : Place). p.start) place in
       (omega (arith, start, lies.from), omega (arith, start, lies.below))
 
   pub byte_there : (dpa : ℕ) → (get_or spans slot d).start ≤ dpa → dpa - (get_or spans slot d).start < slot_length found → IsByteOfSlot found endpoint dpa slot (dpa - (get_or spans slot d).start)
-  byte_there dpa from within = record { place = get_or spans slot d; there = is_on.there; here = is_on.here; at = omega arith; within = within }
+  unfolding own
+  byte_there dpa from within = record { place = own; there = own_there; here = refl; at = omega arith; within = within }

@@ -1,14 +1,13 @@
 //! The slots of a region on the device of an endpoint.
 
-ghost use Rattle.std.specs.Prelude.{◌≡◌, ℕ, Some, IsSomeAnd, IfSome, IfNone, slice_get};
-ghost use Rattle.cxl_model.specs.declared.found.Place.{Place};
+ghost use Rattle.std.specs.Prelude.{◌≡◌, IfSome, IfNone};
 ghost use Rattle.cxl_model.specs.Bytes.{slot_length, LiesInSpan};
 ghost use Rattle.cxl_model.specs.Regions.{IsRegion};
 ghost use Rattle.cxl_model.specs.System.{System, IsSystem};
 ghost use Rattle.cxl_move.specs.Slots.{IsByteOfSlot};
 
 use cxl_deal::{Dealt, region_fills_slots};
-use cxl_model::{Found, slots_are_endpoints, weaves_fill_their_regions};
+use cxl_model::{Found, slot_on, slots_are_endpoints, weaves_fill_their_regions};
 
 /// The slot and the offset in its span, in bytes, at which a device byte of an endpoint lies, where it lies in one of the
 /// region's spans.
@@ -28,19 +27,6 @@ pub fn span_byte(found: &Found, endpoint: u32, dpa: u64) -> Option<Dealt>
         slot: slot as u32,
         offset: dpa - start,
     })
-}
-
-/// The first slot whose span lies on the endpoint's device, where one does.
-fn slot_on(found: &Found, endpoint: u32) -> Option<usize>
-    ensures some { IfSome result (λ slot. IsSomeAnd (slice_get found.now.spans slot) (λ place. place.endpoint ≡ endpoint)) }
-    ensures none { IfNone result ((slot : ℕ) (place : Place) → slice_get found.now.spans slot ≡ Some place
-        → place.endpoint ≡ endpoint → ⊥) }
-{
-    found
-        .spans
-        .items()
-        .iter()
-        .position(|place| place.endpoint == endpoint)
 }
 
 /// How many bytes of a device each slot has.

@@ -3,7 +3,6 @@ pub mod Filled
 pub mod Stretches
 pub mod RunLists
 pub mod PartLists
-pub mod FirstSlots
 pub mod LiveLists
 pub mod Unmapped
 pub mod Pieced

@@ -6,10 +6,9 @@ ghost use Rattle.cxl_model.specs.System.{System, IsSystem};
 ghost use Rattle.cxl_model.specs.Regions.{IsRegion};
 ghost use Rattle.cxl_poison.specs.declared.live.LiveSpan.{LiveSpan};
 ghost use Rattle.cxl_poison.specs.Live.{AreLive, IsSpanOf, AreLiveSpans};
-ghost use Rattle.cxl_poison.specs.inner.Cuts.{slot_on};
 
 use crate::apart::live_spans_are_apart;
-use cxl_model::{Found, Memory};
+use cxl_model::{Found, Memory, slot_on};
 use std::alloc::Global;
 
 /// The span that a live region has of a device.
@@ -59,15 +58,4 @@ fn span_on(found: &Found, region: u32, endpoint: u32) -> Option<LiveSpan>
         start: found.spans.items()[slot].start,
         len: found.size / u64::from(ways),
     })
-}
-
-/// The first slot whose span lies on the endpoint's device, where one does.
-fn slot_on(found: &Found, endpoint: u32) -> Option<usize>
-    ensures { result ≡ slot_on endpoint found.now.spans }
-{
-    found
-        .spans
-        .items()
-        .iter()
-        .position(|place| place.endpoint == endpoint)
 }

@@ -1,9 +1,8 @@
 -- The bytes of a span that a record touches, and the cuts of them.
-use Rattle.std.specs.Prelude.{◌≡◌, ℕ, ◌+◌, ◌-◌, ◌*◌, ◌/◌, ◌<◌, ◌≤◌, ◌==◌, ◌++◌, max, min, List, map, Option, position}
+use Rattle.std.specs.Prelude.{◌≡◌, ℕ, ◌+◌, ◌-◌, ◌*◌, ◌/◌, ◌<◌, ◌≤◌, ◌++◌, max, min, List, map}
 use Rattle.std.specs.List.{range_with_len}
 use Rattle.cxl_window.specs.Fields.{WindowFields}
 use Rattle.cxl_model.specs.declared.found.Found.{Found}
-use Rattle.cxl_model.specs.declared.found.Place.{Place}
 use Rattle.cxl_model.specs.declared.poison.Entry.{Entry}
 use Rattle.cxl_model.specs.declared.poison.Part.{Part}
 use Rattle.cxl_model.specs.declared.poison.Part.TheVariants as parts
@@ -14,10 +13,6 @@ use Rattle.cxl_poison.specs.declared.live.LiveSpan.{LiveSpan}
 use Rattle.cxl_poison.specs.declared.cutting.Touched.{Touched}
 use Rattle.cxl_poison.specs.Live.{IsSpanOf}
 use Rattle.cxl_poison.specs.Pieces.{Cut, cuts_between, AreRunsOf, ArePartsOf, ArePartsIn}
-
--- the first slot whose span lies on the endpoint's device
-abbrev pub slot_on : ℕ → List Place → Option ℕ
-slot_on endpoint spans = position (λ (place : Place). place.endpoint == endpoint) spans
 
 -- the span is one of a region with this window
 pub record IsSpanIn (found : Found) (w : WindowFields) (span : LiveSpan) : Type 0 where

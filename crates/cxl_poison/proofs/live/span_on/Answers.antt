@@ -1,8 +1,8 @@
 use Rattle.std.proofs.Common.{◌≡◌, ℕ, ◌/◌, List, length, get_or, Some, None, refl, sym, ap, subst, ◌∙◌, arith}
 use Rattle.std.specs.Prelude.{slice_get}
 use Rattle.cxl_model.specs.declared.found.Place.{Place}
-use Rattle.cxl_poison.specs.inner.Cuts.{slot_on}
-use Rattle.cxl_poison.proofs.FirstSlots.{slot_within, slot_there, no_slot}
+use Rattle.cxl_model.specs.Bytes.{slot_on}
+use Rattle.cxl_model.proofs.FirstSlots.{slot_within, slot_there, no_slot}
 use Rattle.cxl_poison.proofs.live.span_on.Goals as goal
 
 pub returns-in_err-slot-clause-none : goal.returns-in_err-slot-clause-none

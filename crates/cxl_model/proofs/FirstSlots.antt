@@ -7,7 +7,7 @@ use Rattle.std.proofs.lemmas.List.Quantifiers.{position-Some}
 use Rattle.std.proofs.lemmas.List.Sums.{fails_before_first}
 use Rattle.std.proofs.lemmas.Option.{none-some, slice_get_within, slice_get-get_or, get_or_from_slice_get}
 use Rattle.cxl_model.specs.declared.found.Place.{Place}
-use Rattle.cxl_poison.specs.inner.Cuts.{slot_on}
+use Rattle.cxl_model.specs.Bytes.{slot_on}
 
 abbrev is_on : ℕ → Place → Bool
 is_on endpoint place = place.endpoint == endpoint
