@@ -47,7 +47,7 @@ impl Regs for SimBus {
         ensures word { IfOk result (λ word. word_in self.old node off ≡ Some word) }
         ensures same { self.new ≡ self.old }
     {
-        Ok(read_word(&self.blocks, node, off))
+        Ok(word_at_place(&self.blocks, node, off))
     }
 
     fn write32(&mut self, node: u32, off: u32, value: u32) -> Result<(), Failed>
@@ -61,7 +61,7 @@ impl Regs for SimBus {
     }
 }
 
-fn read_word(blocks: &[Block], node: u32, off: u32) -> u32
+fn word_at_place(blocks: &[Block], node: u32, off: u32) -> u32
     requires { IsPlace blocks.now node off }
     ensures { word_in blocks.now node off ≡ Some result }
 {

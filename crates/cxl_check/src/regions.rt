@@ -16,7 +16,7 @@ ghost use Rattle.cxl_check.specs.inner.Listing.{IsWholeKey, AreListed, AreSpans}
 use crate::decoders::index_for;
 use crate::firsts::{RangeKey, first_of};
 use crate::known::{Known, known_of, window_of};
-use crate::slots::{first_target, span_of};
+use crate::slots::{first_target, place_of_slot};
 use crate::tables::Tables;
 use crate::ways::region_code;
 use cxl_enc::FixedList;
@@ -139,7 +139,7 @@ fn spans_of(
     let first = first_target(host.topo, w);
     let mut spans = Vec::with_capacity(alloc, usize::from(ways))?;
     for slot in 0..ways {
-        spans.push(span_of(host, &tables.children, range, w, &first, slot, likely))?;
+        spans.push(place_of_slot(host, &tables.children, range, w, &first, slot, likely))?;
     }
     Ok(spans)
 }

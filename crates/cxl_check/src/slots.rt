@@ -53,7 +53,7 @@ fn target_with(topo: &Topo, first: &Target, uid: u32) -> Option<u32>
 }
 
 /// The span of a slot that has one, from the window's target down.
-pub(crate) fn span_of(
+pub(crate) fn place_of_slot(
     host: &Host,
     children: &[Option<u32>],
     range: &Range,

@@ -410,7 +410,7 @@ fn first_offers(
     let mut left = u;
     for child in children {
         if left > 0 && gives(count, table, *child, share) {
-            given.extend_from_slice(listed(count, table, *child, share))?;
+            given.extend_from_slice(offer_of(count, table, *child, share))?;
             left -= 1;
         }
     }
@@ -421,11 +421,11 @@ fn first_offers(
 pub(crate) fn gives(count: u32, table: &[Vec<u32>], child: u32, share: u8) -> bool
     ensures { result ≡ not (length (listed_at table.now count child share) == 0) }
 {
-    !listed(count, table, child, share).is_empty()
+    !offer_of(count, table, child, share).is_empty()
 }
 
 /// What a node gives for `share` endpoints, by the table of `count` nodes.
-pub(crate) fn listed<'a>(count: u32, table: &'a [Vec<u32>], node: u32, share: u8) -> &'a [u32]
+pub(crate) fn offer_of<'a>(count: u32, table: &'a [Vec<u32>], node: u32, share: u8) -> &'a [u32]
     ensures { result.now ≡ listed_at table.now count node share }
 {
     if !matches!(share, 1 | 2 | 4 | 8 | 16) {

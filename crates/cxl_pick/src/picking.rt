@@ -16,7 +16,7 @@ use crate::fault::PickFault;
 use crate::laws::{
     fitting_sets_are_given, fitting_sets_have_plans, given_sets_fit, wants_come_to_answers,
 };
-use crate::offers::{KeptOffers, children, gives, listed, no_offers, renew};
+use crate::offers::{KeptOffers, children, gives, no_offers, offer_of, renew};
 use crate::terms::{can_take, latest_start};
 use crate::want::Want;
 use cxl_image::Image;
@@ -179,7 +179,7 @@ fn all_given(
         if !gives(count, table, bridge, share) {
             return Ok(None);
         }
-        given.extend_from_slice(listed(count, table, bridge, share))?;
+        given.extend_from_slice(offer_of(count, table, bridge, share))?;
     }
     Ok(Some(given))
 }

@@ -187,7 +187,7 @@ fn ports_of(
     if counts[node as usize] == 0 {
         return Ok(Vec::new(alloc));
     }
-    listed(alloc, &counts_at_ports(topo, counts, nodes, node))
+    ports_with_count(alloc, &counts_at_ports(topo, counts, nodes, node))
 }
 
 /// How many of the endpoints lie under the child at each port of a node.
@@ -232,7 +232,7 @@ fn enter_at(parent: &Parent, node: u32, count: u8, at: &mut [u8; 256])
 }
 
 /// The ports with a count, in rising order. Takes memory.
-fn listed(alloc: Global, at: &[u8; 256]) -> Result<Vec<u8>, AllocError>
+fn ports_with_count(alloc: Global, at: &[u8; 256]) -> Result<Vec<u8>, AllocError>
     ensures sized { length at.now ≡ 256 }
     ensures listed { IfOk result (λ ports. ports.items
         ≡ filter (λ port. nat_lt 0 (slice_index_or at.now port 0)) (range_with_len 0 (length at.now))) }

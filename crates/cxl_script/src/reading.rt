@@ -72,14 +72,14 @@ impl<'a> Words<'a> {
             return Ok(None);
         };
         let bytes = ranged(word, 0, u64::MAX)?;
-        match gran_of(bytes) {
+        match code_of_bytes(bytes) {
             Some(code) => Ok(Some(code)),
             None => Err(word.bad(Why::Range)),
         }
     }
 }
 
-fn gran_of(bytes: u64) -> Option<u8>
+fn code_of_bytes(bytes: u64) -> Option<u8>
     ensures { result ≡ gran_code_in_table bytes }
 {
     gran_code(bytes)

@@ -2,7 +2,7 @@ ghost use Rattle.std.specs.Prelude.{◌≡◌, ◌+◌, ◌<◌, ◌≤◌, ◌+
 ghost use Rattle.cxl_reply.specs.Plans.{found_range_text, found_ways_text, found_head_text, found_text, breach_text};
 ghost use Rattle.cxl_reply.specs.Conditions.{IsToldFound};
 
-use crate::refusal::{put_line, put_text};
+use crate::refusal::{put_short_line, put_whole_text};
 use crate::region::put_slots;
 use crate::short_text::ShortText;
 use crate::words::kind_text;
@@ -19,7 +19,7 @@ pub fn put_found(out: &mut Vec<u8>, found: &Found, topo: &Topo) -> Result<(), Me
 {
     let mut text = Vec::new(*out.allocator());
     put_found_lines(&mut text, found, topo)?;
-    put_text(out, &text)
+    put_whole_text(out, &text)
 }
 
 fn put_found_lines(out: &mut Vec<u8>, found: &Found, topo: &Topo) -> Result<(), Memory>
@@ -39,7 +39,7 @@ fn put_found_head(out: &mut Vec<u8>, found: &Found) -> Result<(), Memory>
     put_found_ways(&mut line, found);
     line.put(b" ");
     line.put(kind_text(found.kind));
-    put_line(out, &mut line)
+    put_short_line(out, &mut line)
 }
 
 #[tactic(auto, unfolding(cxl_reply::specs::Plans::found_ways_text))]
@@ -81,5 +81,5 @@ pub fn put_breach(
     line.put_number(b"breach K", u32::from(rule));
     line.put_node(b" ", node, topo);
     line.put_number(b" ", u32::from(decoder));
-    put_line(out, &mut line)
+    put_short_line(out, &mut line)
 }

@@ -4,7 +4,7 @@ ghost use Rattle.cxl_reply.specs.Texts.{via_text, vias_text, down_head_text, dow
 ghost use Rattle.cxl_reply.specs.Conditions.{IsToldDown, IsToldExtents, AreToldSlots};
 
 use crate::digits::put_bytes;
-use crate::refusal::{put_line, put_text};
+use crate::refusal::{put_short_line, put_whole_text};
 use crate::short_text::ShortText;
 use cxl_enc::Memory;
 use cxl_model::Extent;
@@ -30,7 +30,7 @@ fn put_down_head(out: &mut Vec<u8>, downed: &Downed) -> Result<(), Memory>
     head.put_number(b" slot ", downed.slot);
     head.put_number(b" position ", downed.position);
     head.put(b" via ");
-    put_text(out, head.bytes())
+    put_whole_text(out, head.bytes())
 }
 
 fn put_down_end(out: &mut Vec<u8>, downed: &Downed, topo: &Topo) -> Result<(), Memory>
@@ -40,7 +40,7 @@ fn put_down_end(out: &mut Vec<u8>, downed: &Downed, topo: &Topo) -> Result<(), M
     let mut end = ShortText::new();
     end.put_node(b" endpoint ", downed.endpoint, topo);
     end.put_hex(b" dpa ", downed.dpa);
-    put_line(out, &mut end)
+    put_short_line(out, &mut end)
 }
 
 /// Appends the ports on the way with spaces between, or a dash where there is none.
@@ -81,7 +81,7 @@ fn put_via(out: &mut Vec<u8>, before: &[u8], via: &Via, topo: &Topo) -> Result<(
     text.put_node(before, via.node, topo);
     text.put_number(b":", u32::from(via.decoder));
     text.put_number(b":", u32::from(via.entry));
-    put_text(out, text.bytes())
+    put_whole_text(out, text.bytes())
 }
 
 /// Appends which host address goes to a device byte.
@@ -91,16 +91,16 @@ pub(crate) fn put_up(out: &mut Vec<u8>, upped: &Upped) -> Result<(), Memory>
     let mut line = ShortText::new();
     line.put_hex(b"host ", upped.h);
     line.put_name(b" region ", &upped.name);
-    put_line(out, &mut line)
+    put_short_line(out, &mut line)
 }
 
 /// Appends bytes in hexadecimal digits.
 pub(crate) fn put_loaded(out: &mut Vec<u8>, bytes: &[u8]) -> Result<(), Memory>
     ensures { OnOk result (out.new.items ≡ out.old.items ++ loaded_text bytes.now) }
 {
-    put_text(out, b"bytes ")?;
+    put_whole_text(out, b"bytes ")?;
     put_bytes(out, bytes)?;
-    put_text(out, b"\n")
+    put_whole_text(out, b"\n")
 }
 
 /// Appends a line for each extent.
@@ -129,7 +129,7 @@ fn put_extent(
     put_extent_bytes(&mut line, extent);
     line.put_node(b" ", endpoints[extent.slot as usize], topo);
     line.put_hex(b" ", extent.dpa);
-    put_line(out, &mut line)
+    put_short_line(out, &mut line)
 }
 
 /// Appends the host bytes of an extent.
@@ -181,5 +181,5 @@ fn put_share(
     line.put_long_number(b"slot ", slot as u64);
     line.put_node(b" ", endpoint, topo);
     line.put_long_number(b" ", bytes);
-    put_line(out, &mut line)
+    put_short_line(out, &mut line)
 }

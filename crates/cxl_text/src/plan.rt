@@ -5,7 +5,7 @@ ghost use Rattle.cxl_topo.specs.Tree.{is_endpoint_at};
 ghost use Rattle.cxl_reply.specs.Words.{node_text};
 ghost use Rattle.cxl_reply.specs.Plans.{plan_head_text, more_ports_text, ports_text, tail_text, decoder_text, planned_text, plan_text, IsToldRow, IsToldPlan};
 
-use crate::refusal::put_text;
+use crate::refusal::put_whole_text;
 use crate::region::put_head;
 use crate::short_text::ShortText;
 use crate::words::put_address;
@@ -24,7 +24,7 @@ pub fn put_plan(out: &mut Vec<u8>, plan: &Plan, topo: &Topo) -> Result<(), Memor
 {
     let mut text = Vec::new(*out.allocator());
     put_plan_lines(&mut text, plan, topo)?;
-    put_text(out, &text)
+    put_whole_text(out, &text)
 }
 
 fn put_plan_lines(out: &mut Vec<u8>, plan: &Plan, topo: &Topo) -> Result<(), Memory>
@@ -58,7 +58,7 @@ fn put_planned(out: &mut Vec<u8>, row: &Row, topo: &Topo) -> Result<(), Memory>
 {
     put_planned_head(out, row, topo)?;
     put_tail(out, is_endpoint(row.node, topo), &row.decoder)?;
-    put_text(out, b"\n")
+    put_whole_text(out, b"\n")
 }
 
 /// Appends a decoder of a node, with its ways and its granularity.
@@ -71,7 +71,7 @@ fn put_planned_head(out: &mut Vec<u8>, row: &Row, topo: &Topo) -> Result<(), Mem
     head.put_node(b"row ", row.node, topo);
     head.put_number(b" ", u32::from(row.index));
     put_decoder(&mut head, &row.decoder);
-    put_text(out, head.bytes())
+    put_whole_text(out, head.bytes())
 }
 
 fn is_endpoint(node: u32, topo: &Topo) -> bool
@@ -95,10 +95,10 @@ fn put_tail(out: &mut Vec<u8>, endpoint: bool, decoder: &Decoder) -> Result<(), 
     ensures { OnOk result (out.new.items ≡ out.old.items ++ tail_text endpoint decoder.now) }
 {
     if endpoint {
-        put_text(out, b" skip ")?;
+        put_whole_text(out, b" skip ")?;
         put_address(out, decoder.tail)
     } else {
-        put_text(out, b" targets ")?;
+        put_whole_text(out, b" targets ")?;
         put_ports(out, decoder)
     }
 }

@@ -6,7 +6,7 @@ ghost use Rattle.cxl_reply.specs.Texts.{flag_text, overflow_text, flags_text, li
 ghost use Rattle.cxl_text.specs.Short.{short_limit};
 ghost use Rattle.cxl_reply.specs.Conditions.{region_of, IsToldReport};
 
-use crate::refusal::{put_line, put_text};
+use crate::refusal::{put_short_line, put_whole_text};
 use crate::short_text::ShortText;
 use cxl_enc::{Memory, Name};
 use cxl_model::{Entry, Part, PoisonList, Poisoned, Run, Wide};
@@ -31,7 +31,7 @@ fn put_list(out: &mut Vec<u8>, endpoint: u32, list: &PoisonList, topo: &Topo) ->
     line.put_node(b"poison ", endpoint, topo);
     line.put_long_number(b" records ", list.records.items().len() as u64);
     put_flags(&mut line, list);
-    put_line(out, &mut line)
+    put_short_line(out, &mut line)
 }
 
 /// Appends what a poison list says of itself.
@@ -103,7 +103,7 @@ fn put_entry(out: &mut Vec<u8>, entry: &Entry) -> Result<(), Memory>
     line.put_long_number(b" length ", 64 * u64::from(entry.units));
     line.put(b" source ");
     put_source(&mut line, entry.source);
-    put_line(out, &mut line)
+    put_short_line(out, &mut line)
 }
 
 /// Appends what found the poison, or the number of a source that has no name.
@@ -150,7 +150,7 @@ fn put_run(out: &mut Vec<u8>, run: &Run, names: &[Name]) -> Result<(), Memory>
     line.put_hex(b"run ", run.h);
     line.put_long_number(b" ", run.len);
     put_region(&mut line, run.region, names);
-    put_text(out, line.bytes())
+    put_whole_text(out, line.bytes())
 }
 
 fn put_wide(out: &mut Vec<u8>, wide: &Wide, names: &[Name]) -> Result<(), Memory>
@@ -162,7 +162,7 @@ fn put_wide(out: &mut Vec<u8>, wide: &Wide, names: &[Name]) -> Result<(), Memory
     line.put_hex(b" ", wide.last);
     line.put_long_number(b" ", wide.count);
     put_region(&mut line, wide.region, names);
-    put_text(out, line.bytes())
+    put_whole_text(out, line.bytes())
 }
 
 /// Appends the end of a line that tells a region by its place among the names.
@@ -183,5 +183,5 @@ fn put_unmapped(out: &mut Vec<u8>, bytes: u64) -> Result<(), Memory>
     }
     let mut line = ShortText::new();
     line.put_long_number(b"unmapped ", bytes);
-    put_line(out, &mut line)
+    put_short_line(out, &mut line)
 }

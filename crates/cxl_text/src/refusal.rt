@@ -20,7 +20,7 @@ pub(crate) fn put_bad_line(out: &mut Vec<u8>, fault: &BadLine) -> Result<(), Mem
     line.put_number(b"bad line ", fault.at);
     line.put(b" ");
     line.put(why_text(fault.why));
-    put_line(out, &mut line)
+    put_short_line(out, &mut line)
 }
 
 fn why_text(why: Why) -> &'static [u8]
@@ -45,7 +45,7 @@ pub(crate) fn put_named(out: &mut Vec<u8>, words: &[u8], name: &Name) -> Result<
     requires { length words.now ≤ 20 }
     ensures { OnOk result (out.new.items ≡ out.old.items ++ named_text words.now name.now) }
 {
-    put_text(out, named_line(words, name).bytes())
+    put_whole_text(out, named_line(words, name).bytes())
 }
 
 pub(crate) fn put_full(out: &mut Vec<u8>, lack: &Lack) -> Result<(), Memory>
@@ -54,7 +54,7 @@ pub(crate) fn put_full(out: &mut Vec<u8>, lack: &Lack) -> Result<(), Memory>
     let mut line = ShortText::new();
     line.put_number(b"full need ", lack.need);
     line.put_number(b" free ", lack.free);
-    put_line(out, &mut line)
+    put_short_line(out, &mut line)
 }
 
 /// Appends words, a node and a decoder of it.
@@ -72,7 +72,7 @@ pub(crate) fn put_spot(
     line.put(words);
     line.put_node(b" ", spot.node, topo);
     line.put_number(b" ", u32::from(spot.decoder));
-    put_line(out, &mut line)
+    put_short_line(out, &mut line)
 }
 
 pub(crate) fn put_sizes(out: &mut Vec<u8>, sizes: &Sizes) -> Result<(), Memory>
@@ -81,7 +81,7 @@ pub(crate) fn put_sizes(out: &mut Vec<u8>, sizes: &Sizes) -> Result<(), Memory>
     let mut line = ShortText::new();
     line.put_hex(b"sizes differ ", sizes.from);
     line.put_hex(b" ", sizes.to);
-    put_line(out, &mut line)
+    put_short_line(out, &mut line)
 }
 
 pub(crate) fn put_count(out: &mut Vec<u8>, counted: &Counted) -> Result<(), Memory>
@@ -90,7 +90,7 @@ pub(crate) fn put_count(out: &mut Vec<u8>, counted: &Counted) -> Result<(), Memo
     let mut line = ShortText::new();
     line.put_number(b"poison count ", counted.said);
     line.put_number(b" ", counted.room);
-    put_line(out, &mut line)
+    put_short_line(out, &mut line)
 }
 
 /// Appends why there is no plan.
@@ -105,7 +105,7 @@ pub(crate) fn put_plan_fault(
     match fault {
         PlanFault::Repeat(endpoint) => put_at_node(out, b"refused repeat ", *endpoint, topo),
         PlanFault::Ways(ways) => put_ways(out, *ways),
-        PlanFault::Size => put_text(out, b"refused size\n"),
+        PlanFault::Size => put_whole_text(out, b"refused size\n"),
         PlanFault::Uneven(node) => put_at_node(out, b"refused uneven ", *node, topo),
         PlanFault::NoDecoder(node) => put_at_node(out, b"refused no-decoder ", *node, topo),
         PlanFault::Span(endpoint, fault) => put_span_fault(out, *endpoint, fault, topo),
@@ -115,7 +115,7 @@ pub(crate) fn put_plan_fault(
 }
 
 /// Appends a text, whole or not at all.
-pub(crate) fn put_text(out: &mut Vec<u8>, text: &[u8]) -> Result<(), Memory>
+pub(crate) fn put_whole_text(out: &mut Vec<u8>, text: &[u8]) -> Result<(), Memory>
     ensures ok { OnOk result (out.new.items ≡ out.old.items ++ text.now) }
     ensures err { OnErr result (out.new.items ≡ out.old.items) }
 {
@@ -124,13 +124,13 @@ pub(crate) fn put_text(out: &mut Vec<u8>, text: &[u8]) -> Result<(), Memory>
 }
 
 /// Ends a text as a line, and appends it, whole or not at all.
-pub(crate) fn put_line(out: &mut Vec<u8>, text: &mut ShortText) -> Result<(), Memory>
+pub(crate) fn put_short_line(out: &mut Vec<u8>, text: &mut ShortText) -> Result<(), Memory>
     requires { length text.old < short_limit }
     ensures ok { OnOk result (out.new.items ≡ out.old.items ++ line text.old) }
     ensures err { OnErr result (out.new.items ≡ out.old.items) }
 {
     text.put(b"\n");
-    put_text(out, text.bytes())
+    put_whole_text(out, text.bytes())
 }
 
 /// Appends words that end with a space, and a node.
@@ -141,7 +141,7 @@ fn put_at_node(out: &mut Vec<u8>, words: &[u8], node: u32, topo: &Topo) -> Resul
 {
     let mut line = ShortText::new();
     line.put_node(words, node, topo);
-    put_line(out, &mut line)
+    put_short_line(out, &mut line)
 }
 
 fn put_ways(out: &mut Vec<u8>, ways: u32) -> Result<(), Memory>
@@ -149,7 +149,7 @@ fn put_ways(out: &mut Vec<u8>, ways: u32) -> Result<(), Memory>
 {
     let mut line = ShortText::new();
     line.put_number(b"refused ways ", ways);
-    put_line(out, &mut line)
+    put_short_line(out, &mut line)
 }
 
 fn put_span_fault(
@@ -166,7 +166,7 @@ fn put_span_fault(
     line.put_node(b"refused span ", endpoint, topo);
     line.put(b" ");
     put_span_cause(&mut line, fault);
-    put_line(out, &mut line)
+    put_short_line(out, &mut line)
 }
 
 fn put_span_cause(line: &mut ShortText, fault: &SpanFault)
@@ -197,7 +197,7 @@ fn put_no_window(out: &mut Vec<u8>, reasons: &[Reason], topo: &Topo) -> Result<(
     ensures { OnOk result (out.new.items ≡ out.old.items
         ++ (line (codes "refused no-window") ++ flat_map (window_text topo.now.nodes) (enumerate_from 0 reasons.now))) }
 {
-    put_text(out, b"refused no-window\n")?;
+    put_whole_text(out, b"refused no-window\n")?;
     put_windows(out, reasons, topo)?;
     Ok(())
 }
@@ -221,7 +221,7 @@ fn put_window(out: &mut Vec<u8>, index: usize, reason: &Reason, topo: &Topo) -> 
     line.put_long_number(b"window ", index as u64);
     line.put(b" ");
     put_reason(&mut line, reason, topo);
-    put_line(out, &mut line)
+    put_short_line(out, &mut line)
 }
 
 fn put_reason(line: &mut ShortText, reason: &Reason, topo: &Topo)

@@ -4,7 +4,7 @@ ghost use Rattle.cxl_reply.specs.Words.{line, kind_text, node_text, more_spaced}
 ghost use Rattle.cxl_reply.specs.Texts.{shown_head_text, layout_text, row_text, word_text, shown_words_text, slot_text, slots_text, shown_text};
 ghost use Rattle.cxl_reply.specs.Conditions.{IsToldFound, IsToldShown};
 
-use crate::refusal::{put_line, put_text};
+use crate::refusal::{put_short_line, put_whole_text};
 use crate::short_text::ShortText;
 use crate::words::kind_text;
 use cxl_enc::{Memory, Name};
@@ -48,7 +48,7 @@ pub(crate) fn put_head(
     line.put(kind_text(found.kind));
     line.put(b" ");
     line.put_layout(found.window, found.base, found.size, found.gran, found.ways);
-    put_line(out, &mut line)
+    put_short_line(out, &mut line)
 }
 
 fn put_rows(out: &mut Vec<u8>, rows: &[ShownRow], topo: &Topo) -> Result<(), Memory>
@@ -67,7 +67,7 @@ fn put_row(out: &mut Vec<u8>, row: &ShownRow, topo: &Topo) -> Result<(), Memory>
 {
     put_row_head(out, row, topo)?;
     put_words(out, &row.words)?;
-    put_text(out, b"\n")
+    put_whole_text(out, b"\n")
 }
 
 /// Appends a node and a decoder of it.
@@ -80,7 +80,7 @@ fn put_row_head(out: &mut Vec<u8>, row: &ShownRow, topo: &Topo) -> Result<(), Me
     head.put_node(b"node ", row.node, topo);
     head.put_number(b" ", u32::from(row.decoder));
     head.put(b" ");
-    put_text(out, head.bytes())
+    put_whole_text(out, head.bytes())
 }
 
 /// Appends words of eight hexadecimal digits, with spaces between.
@@ -126,5 +126,5 @@ fn put_slot(out: &mut Vec<u8>, slot: usize, place: &Place, topo: &Topo) -> Resul
     line.put_long_number(b"slot ", slot as u64);
     line.put_node(b" ", place.endpoint, topo);
     line.put_hex(b" ", place.start);
-    put_line(out, &mut line)
+    put_short_line(out, &mut line)
 }

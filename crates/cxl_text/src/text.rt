@@ -5,7 +5,8 @@ ghost use Rattle.cxl_reply.specs.Replies.{reply_text, has_short_text};
 use crate::places::{put_down, put_extents, put_loaded, put_spread, put_up};
 use crate::poison::put_report;
 use crate::refusal::{
-    put_bad_line, put_count, put_full, put_named, put_plan_fault, put_sizes, put_spot, put_text,
+    put_bad_line, put_count, put_full, put_named, put_plan_fault, put_sizes, put_spot,
+    put_whole_text,
 };
 use crate::region::put_shown;
 use crate::short_lines::short;
@@ -21,7 +22,7 @@ pub fn put_reply(reply: &Reply, topo: &Topo, out: &mut Vec<u8>) -> Result<(), Me
     ensures err { OnErr result (out.new.items ≡ out.old.items) }
 {
     match short(reply) {
-        Some(text) => put_text(out, text.bytes()),
+        Some(text) => put_whole_text(out, text.bytes()),
         None if out.is_empty() => put_first(out, reply, topo),
         None => put_behind(out, reply, topo),
     }
@@ -36,7 +37,7 @@ fn put_behind(out: &mut Vec<u8>, reply: &Reply, topo: &Topo) -> Result<(), Memor
 {
     let mut text = Vec::new(*out.allocator());
     put_long(&mut text, reply, topo)?;
-    put_text(out, &text)
+    put_whole_text(out, &text)
 }
 
 /// Puts the text of a reply that has no short text where none is yet, in the room that is there.
@@ -80,13 +81,13 @@ fn put_long(out: &mut Vec<u8>, reply: &Reply, topo: &Topo) -> Result<(), Memory>
         Reply::Full(lack) => put_full(out, lack),
         Reply::SizesDiffer(sizes) => put_sizes(out, sizes),
         Reply::PoisonCount(counted) => put_count(out, counted),
-        Reply::RegionsFull => put_text(out, b"regions full\n"),
-        Reply::Unmapped => put_text(out, b"unmapped\n"),
-        Reply::CrossesEnd => put_text(out, b"crosses end\n"),
-        Reply::NoSet => put_text(out, b"refused no-set\n"),
-        Reply::PoisonShort => put_text(out, b"poison short\n"),
-        Reply::BusRead => put_text(out, b"bus fault read\n"),
-        Reply::NothingPending => put_text(out, b"nothing pending\n"),
+        Reply::RegionsFull => put_whole_text(out, b"regions full\n"),
+        Reply::Unmapped => put_whole_text(out, b"unmapped\n"),
+        Reply::CrossesEnd => put_whole_text(out, b"crosses end\n"),
+        Reply::NoSet => put_whole_text(out, b"refused no-set\n"),
+        Reply::PoisonShort => put_whole_text(out, b"poison short\n"),
+        Reply::BusRead => put_whole_text(out, b"bus fault read\n"),
+        Reply::NothingPending => put_whole_text(out, b"nothing pending\n"),
         Reply::Created(_)
         | Reply::Destroyed(_)
         | Reply::Stored(_)

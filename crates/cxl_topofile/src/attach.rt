@@ -24,13 +24,13 @@ pub(crate) fn attach(
 {
     let mut nodes = Vec::new(alloc);
     let mut ports = BTreeMap::new(alloc);
-    add_bridges(&mut nodes, &mut ports, bridges)?;
+    add_bridge_nodes(&mut nodes, &mut ports, bridges)?;
     add_drafts(&mut nodes, &mut ports, drafts)?;
     Ok(nodes)
 }
 
 /// Adds the bridges, the first nodes.
-fn add_bridges(
+fn add_bridge_nodes(
     nodes: &mut Vec<Node>,
     ports: &mut BTreeMap<NameKey, u32>,
     bridges: &[Node],
@@ -42,7 +42,7 @@ fn add_bridges(
     ensures listed { OnOk result (ListsPorts nodes.new.items ports.new) }
 {
     for bridge in bridges {
-        add(nodes, ports, *bridge)?;
+        add_node(nodes, ports, *bridge)?;
     }
     Ok(())
 }
@@ -59,13 +59,13 @@ fn add_drafts(
 {
     for draft in drafts {
         let node = node_under(ports, draft);
-        add(nodes, ports, node)?;
+        add_node(nodes, ports, node)?;
     }
     Ok(())
 }
 
 /// Adds a node, and enters it among the bridges and switches by name where it is one.
-fn add(
+fn add_node(
     nodes: &mut Vec<Node>,
     ports: &mut BTreeMap<NameKey, u32>,
     node: Node,

@@ -57,7 +57,7 @@ fn tree_from(alloc: Global, stated: &Stated) -> Result<Topo, TopoFault>
     ensures only { IsTree (tree_of (seen_stated stated.now)).nodes → IfErr result (λ fault. fault ≡ TopoFault.Memory) }
     ensures fault { IfErr result (λ fault. IsTreeRefusal (tree_of (seen_stated stated.now)).nodes fault) }
 {
-    if are_too_many(&stated.bridges, &stated.drafts) {
+    if exceed_node_limit(&stated.bridges, &stated.drafts) {
         return Err(TopoFault::Tree(TreeFault::TooMany));
     }
     let nodes = attach(alloc, &stated.bridges, &stated.drafts)?;
@@ -65,7 +65,7 @@ fn tree_from(alloc: Global, stated: &Stated) -> Result<Topo, TopoFault>
 }
 
 /// Whether these are more nodes than a tree may have.
-fn are_too_many(bridges: &[Node], drafts: &[Draft]) -> bool
+fn exceed_node_limit(bridges: &[Node], drafts: &[Draft]) -> bool
     ensures { result ≡ nat_lt node_limit (length bridges.now + length drafts.now) }
 {
     bridges.len() > NODE_LIMIT || drafts.len() > NODE_LIMIT - bridges.len()

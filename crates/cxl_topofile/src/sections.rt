@@ -121,12 +121,12 @@ fn read_bridges(alloc: Global, values: &[Value]) -> Result<Vec<Node>, TopoFault>
     }
     let mut nodes = Vec::new(alloc);
     for (i, value) in values.iter().enumerate() {
-        add_bridge(&mut nodes, i as u32, value)?;
+        add_bridge_of(&mut nodes, i as u32, value)?;
     }
     Ok(nodes)
 }
 
-fn add_bridge(nodes: &mut Vec<Node>, index: u32, value: &Value) -> Result<(), TopoFault>
+fn add_bridge_of(nodes: &mut Vec<Node>, index: u32, value: &Value) -> Result<(), TopoFault>
     requires { IsTrue (is_table value.now) }
     ensures { AddsTable nodes.old.items nodes.new.items result Section.Bridge bridge_of index value.now }
 {
@@ -148,12 +148,12 @@ fn read_drafts(alloc: Global, group: Group, values: &[Value]) -> Result<Vec<Draf
     }
     let mut drafts = Vec::new(alloc);
     for (i, value) in values.iter().enumerate() {
-        add_draft(&mut drafts, group, i as u32, value)?;
+        add_draft_of(&mut drafts, group, i as u32, value)?;
     }
     Ok(drafts)
 }
 
-fn add_draft(
+fn add_draft_of(
     drafts: &mut Vec<Draft>,
     group: Group,
     index: u32,

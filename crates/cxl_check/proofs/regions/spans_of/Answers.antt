@@ -5,14 +5,14 @@ use Rattle.cxl_check.specs.inner.Listing.{AreSpans}
 use Rattle.cxl_check.proofs.Wholes.{one_more_span}
 use Rattle.cxl_check.proofs.regions.spans_of.Goals as goal
 
-pub span_of-requires-clause-some : goal.span_of-requires-clause-some
-span_of-requires-clause-some c = c.requires.some c.loop-slot.slot (omega arith)
+pub place_of_slot-requires-clause-some : goal.place_of_slot-requires-clause-some
+place_of_slot-requires-clause-some c = c.requires.some c.loop-slot.slot (omega arith)
 
 pub loop-slot-preserved : goal.loop-slot-preserved
 loop-slot-preserved c =
     let s = as_system c.args.host.now in
     subst (λ (spans : List Place). AreSpans s c.args.w.now c.args.range.now (c.loop-slot.slot + 1) spans) (sym c.in_ok-push.ensures.items)
-    (one_more_span s c.args.w.now c.args.range.now c.loop-slot.slot c.loop-slot.spans.items c.span_of.result c.loop-slot.invariant c.span_of.ensures)
+    (one_more_span s c.args.w.now c.args.range.now c.loop-slot.slot c.loop-slot.spans.items c.place_of_slot.result c.loop-slot.invariant c.place_of_slot.ensures)
 
 pub returns : goal.returns
 returns c =

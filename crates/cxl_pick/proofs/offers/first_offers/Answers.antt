@@ -23,7 +23,7 @@ loop-child-preserved c =
     elim c.if-left-gt0.branch [
       | then-left-gt0+then-gives+in_ok-extend_from_slice w ↦
           let given : c.if-left-gt0.given.items ≡ c.loop-child.given.items ++ own =
-          ap (λ (x : Vec ℕ Global). x.items) w.given-is ∙ w.in_ok-extend_from_slice.ensures.items ∙ ap (λ (ys : List ℕ). c.loop-child.given.items ++ ys) w.listed.ensures in
+          ap (λ (x : Vec ℕ Global). x.items) w.given-is ∙ w.in_ok-extend_from_slice.ensures.items ∙ ap (λ (ys : List ℕ). c.loop-child.given.items ++ ys) w.offer_of.ensures in
           let left : c.if-left-gt0.left ≡ c.loop-child.left - 1 = w.left-is in
           (λ k. given k ++ to_come table count v (left k) cs (i + 1))
           ∙ take_step table count v i c.loop-child.left cs c.loop-child.given.items all c.loop-child-test.true c.loop-child.invariant w.if-left-gt0.true (not-true (length own == 0) (sym w.gives.ensures ∙ w.if-gives.true))

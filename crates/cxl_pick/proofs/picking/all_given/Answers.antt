@@ -42,7 +42,7 @@ loop-uid-preserved c =
     let i : ℕ = c.loop-uid.uid-index in
     let all = c.count-count.ensures.count in
     let own : List ℕ = listed_at c.args.table.now c.count-count.result c.in-Some.bridge c.args.share in
-    let items = c.in_ok-extend_from_slice.ensures.items ∙ ap (λ (ys : List ℕ). c.loop-uid.given.items ++ ys) c.listed.ensures in
+    let items = c.in_ok-extend_from_slice.ensures.items ∙ ap (λ (ys : List ℕ). c.loop-uid.given.items ++ ys) c.offer_of.ensures in
     (λ k. option_map (λ ms. items k ++ ms) (all_given (map (at_uid nodes c.args.table.now c.args.share) (drop (i + 1) uids))))
     ∙ uid_step nodes c.args.table.now c.args.share i uids c.loop-uid.given.items own (all_given (map (at_uid nodes c.args.table.now c.args.share) uids)) c.loop-uid-test.true c.loop-uid.invariant
     (ap (option_and_then (λ b. some_of (listed_at c.args.table.now (length nodes) b c.args.share))) (sym c.in-Some.ensures.bridge)

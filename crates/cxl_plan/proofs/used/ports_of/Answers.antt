@@ -13,5 +13,5 @@ returns-then-counts-node-eq0 c request bytes known listed =
 pub returns : goal.returns
 returns c request bytes known listed =
     let nodes = c.args.topo.now.nodes in
-    then_ok c.listed.result _ (ports_at nodes request c.args.node) c.listed.ensures.listed
-    (ports_listed nodes request c.args.node c.counts_at_ports.result c.listed.ensures.sized (λ port below. c.counts_at_ports.ensures request port below known listed))
+    then_ok c.ports_with_count.result _ (ports_at nodes request c.args.node) c.ports_with_count.ensures.listed
+    (ports_listed nodes request c.args.node c.counts_at_ports.result c.ports_with_count.ensures.sized (λ port below. c.counts_at_ports.ensures request port below known listed))

@@ -9,11 +9,11 @@ loop-draft-preserved c =
     let before = c.loop-draft.nodes.items in
     let node = node_under before c.draft-item.result in
     let is = c.node_under-node.ensures before c.loop-draft.invariant.listed in
-    let more : c.add.new.nodes.items ≡ before ++ node ∷ [] = c.in_ok-add.ensures.added ∙ ap (λ node. before ++ node ∷ []) is in
+    let more : c.add_node.new.nodes.items ≡ before ++ node ∷ [] = c.in_ok-add_node.ensures.added ∙ ap (λ node. before ++ node ∷ []) is in
     record {
       same = rw more (sym (attached_more before c.args.drafts.now c.loop-draft.draft-index c.draft-item.result (omega arith) c.draft-item.is) ∙ c.loop-draft.invariant.same);
       len = omega (arith, ap length more, length_push before node, c.loop-draft.invariant.len);
-      listed = c.in_ok-add.ensures.listed;
+      listed = c.in_ok-add_node.ensures.listed;
     }
 
 pub returns : goal.returns

@@ -1,5 +1,5 @@
 use Rattle.cxl_script.proofs.Grans.{gran_code-in_table}
-use Rattle.cxl_script.proofs.reading.gran_of.Goals as goal
+use Rattle.cxl_script.proofs.reading.code_of_bytes.Goals as goal
 
 pub returns : goal.returns
 returns c =

@@ -1,6 +1,6 @@
 use Rattle.std.proofs.Common.{◌≡◌, take}
 use Rattle.cxl_topofile.specs.inner.Ports.{ListsPorts}
-use Rattle.cxl_topofile.proofs.attach.add_bridges.Given as goal
+use Rattle.cxl_topofile.proofs.attach.add_bridge_nodes.Given as goal
 
 abbrev pub invariant-loop-bridge : goal.invariant-loop-bridge
 invariant-loop-bridge l = record {

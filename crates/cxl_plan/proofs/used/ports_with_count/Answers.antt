@@ -3,8 +3,8 @@ use Rattle.std.specs.List.{range_with_len}
 use Rattle.std.specs.Prelude.{nat_lt}
 use Rattle.std.proofs.lemmas.Bool.{lt-ltb, le-ltb}
 use Rattle.cxl_plan.proofs.Tables.{keep_number, skip_number}
-use Rattle.cxl_plan.proofs.used.listed.Goals as goal
-use Rattle.cxl_plan.proofs.used.listed.Goals.{then-at-port-gt0+in_ok-push, else-at-port-gt0}
+use Rattle.cxl_plan.proofs.used.ports_with_count.Goals as goal
+use Rattle.cxl_plan.proofs.used.ports_with_count.Goals.{then-at-port-gt0+in_ok-push, else-at-port-gt0}
 
 pub loop-port-preserved : goal.loop-port-preserved
 loop-port-preserved c =

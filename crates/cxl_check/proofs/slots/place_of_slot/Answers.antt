@@ -5,7 +5,7 @@ use Rattle.cxl_topo.specs.Tree.{bridge_with}
 use Rattle.cxl_model.specs.Hosts.{as_system}
 use Rattle.cxl_model.specs.Regions.{target_position, LeadsTo}
 use Rattle.cxl_check.proofs.Kept.{some_and}
-use Rattle.cxl_check.proofs.slots.span_of.Goals as goal
+use Rattle.cxl_check.proofs.slots.place_of_slot.Goals as goal
 
 pub offset_bounds-targets-from : goal.offset_bounds-targets-from
 offset_bounds-targets-from c =
