@@ -1,5 +1,5 @@
 -- How many records of a type there are after one more.
-use Rattle.std.proofs.Common.{◌≡◌, ℕ, ◌+◌, ◌<◌, ◌≤◌, true, false, cond, eqb, leb, List, [], ◌∷◌, ◌++◌, refl, sym, ap, subst, inl, inr, arith}
+use Rattle.std.proofs.Common.{◌≡◌, ℕ, zero, suc, ◌+◌, ◌<◌, ◌≤◌, true, false, cond, eqb, leb, List, [], ◌∷◌, ◌++◌, slice_index_or, slice_set, refl, sym, ap, subst, ◌∙◌, inl, inr, arith}
 use Rattle.std.proofs.lemmas.Bool.{eqb-true, eqb-false, eq-eqb, ne_eqb, le-leb, leb-true, cases_Bool}
 use Rattle.std.proofs.lemmas.List.Sums.{sum_by_push, sum_by-append}
 use Rattle.cxl_cedt.specs.declared.cedt.Record.{Record}
@@ -60,18 +60,24 @@ few_push xs y room few = record {
   cxims = few_of 2 xs y (omega arith) room few.cxims;
 }
 
--- the counts after one more record, which is of type k
-counted : (k kind m n : ℕ) (xs : List Record) (y : Record) → n ≡ count_of kind xs → kind_of y ≡ k → m ≡ n + cond (eqb k kind) 1 0 → m ≡ count_of kind (xs ++ y ∷ [])
-counted k kind m n xs y is of_k more =
-    let one : one_of kind y ≡ cond (eqb k kind) 1 0 = ap (λ (x : ℕ). cond (eqb x kind) 1 0) of_k in
-    omega (arith, count_of-push kind xs y)
+-- the count of a type after one more record, which is of type k
+counted : (k kind : ℕ) (xs : List Record) (y : Record) → kind_of y ≡ k → count_of kind xs + cond (eqb k kind) 1 0 ≡ count_of kind (xs ++ y ∷ [])
+counted k kind xs y of_k = sym (count_of-push kind xs y ∙ ap (λ (x : ℕ). count_of kind xs + cond (eqb x kind) 1 0) of_k)
 
-pub counted_push : (k : ℕ) (xs ys : List Record) (y : Record) (a b c a' b' c' : ℕ) → ys ≡ xs ++ y ∷ [] → is_kind_full (kind_of y) xs ≡ false → IsCounted xs a b c → kind_of y ≡ k
-    → a' ≡ a + cond (eqb k 0) 1 0 → b' ≡ b + cond (eqb k 1) 1 0 → c' ≡ c + cond (eqb k 2) 1 0 → IsCounted ys a' b' c'
-counted_push k xs ys y a b c a' b' c' is room before of_k more_chbs more_cfmws more_cxims =
-    subst (λ (l : List Record). IsCounted l a' b' c') (sym is) (record {
-      chbs_counted = counted k 0 a' a xs y before.chbs_counted of_k more_chbs;
-      cfmws_counted = counted k 1 b' b xs y before.cfmws_counted of_k more_cfmws;
-      cxims_counted = counted k 2 c' c xs y before.cxims_counted of_k more_cxims;
+same_three : {a a' b b' c c' : ℕ} → a ≡ a' → b ≡ b' → c ≡ c' → ◌≡◌ {A = List ℕ} (a ∷ b ∷ c ∷ []) (a' ∷ b' ∷ c' ∷ [])
+same_three p q r = cc
+
+-- of three numbers one is raised
+one_raised : (k a b c : ℕ) → k ≤ 2 → slice_set (a ∷ b ∷ c ∷ []) k (slice_index_or (a ∷ b ∷ c ∷ []) k 0 + 1) ≡ (a + cond (eqb k 0) 1 0) ∷ (b + cond (eqb k 1) 1 0) ∷ (c + cond (eqb k 2) 1 0) ∷ []
+one_raised zero a b c judged = same_three refl (omega arith) (omega arith)
+one_raised (suc zero) a b c judged = same_three (omega arith) refl (omega arith)
+one_raised (suc (suc zero)) a b c judged = same_three (omega arith) (omega arith) refl
+one_raised (suc (suc (suc k))) a b c judged = absurd (omega arith)
+
+pub counted_push : (k : ℕ) (xs ys : List Record) (y : Record) (counts : List ℕ) → k ≤ 2 → kind_of y ≡ k → ys ≡ xs ++ y ∷ [] → is_kind_full (kind_of y) xs ≡ false → IsCounted xs counts
+    → IsCounted ys (slice_set counts k (slice_index_or counts k 0 + 1))
+counted_push k xs ys y counts judged of_k is room before =
+    subst (λ (l : List Record). IsCounted l (slice_set counts k (slice_index_or counts k 0 + 1))) (sym is) (record {
+      counted = ap (λ (l : List ℕ). slice_set l k (slice_index_or l k 0 + 1)) before.counted ∙ one_raised k (count_of 0 xs) (count_of 1 xs) (count_of 2 xs) judged ∙ same_three (counted k 0 xs y of_k) (counted k 1 xs y of_k) (counted k 2 xs y of_k);
       few = few_push xs y room before.few;
     })

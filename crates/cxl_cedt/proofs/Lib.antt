@@ -1,5 +1,6 @@
 pub mod Counts
 pub mod Places
+pub mod Appended
 pub mod RecordTests
 pub mod Sound
 pub mod Fronts

@@ -1,6 +1,6 @@
 -- The tests of a record, read as facts on numbers and back.
 use Rattle.std.proofs.Common.{◌≡◌, ℕ, ◌+◌, ◌*◌, ◌<◌, ◌≤◌, Bool, true, false, cond, eqb, ltb, not, ◌&&◌, List, length, Option, Some, None, refl, sym, ap, inl, inr, arith}
-use Rattle.std.specs.Prelude.{is_none, unwrap_or}
+use Rattle.std.specs.Prelude.{is_none, is_some, unwrap_or}
 use Rattle.std.proofs.lemmas.Bool.{eqb-true, eq-eqb, le-ltb, ltb-false, cases_Bool, or_parts, or_left, or_from, not-false, not_from_true, false≢true}
 use Rattle.cxl_cedt.specs.declared.cedt.Record.{Record}
 use Rattle.cxl_cedt.specs.declared.fault.CedtFault.{CedtFault}
@@ -10,7 +10,7 @@ use Rattle.cxl_cedt.specs.Table.{field, kind_said, length_said, ways_said, is_cu
 use Rattle.cxl_cedt.proofs.Counts.{room_from}
 
 -- a test that only one type is put to
-unless : (a k : ℕ) (c : Bool) → (a ≡ k → c ≡ false) → (eqb a k && c) ≡ false
+pub unless : (a k : ℕ) (c : Bool) → (a ≡ k → c ≡ false) → (eqb a k && c) ≡ false
 unless a k c h =
     elim (cases_Bool (eqb a k)) [
       | inl same ↦ rw same (h (eqb-true a k same))
@@ -25,6 +25,10 @@ equal_from a b h = eqb-true a b (not-false (eqb a b) h)
 
 not_other : (a b : ℕ) → a ≡ b → not (eqb a b) ≡ false
 not_other a b e = not_from_true (eqb a b) (eq-eqb a b e)
+
+pub not_none : (o : Option ℕ) (none : Bool) → is_some o ≡ not none → none ≡ false → is_none o ≡ false
+not_none (Some n) none e there = refl
+not_none None none e there = absurd (false≢true (rw there at e))
 
 -- ---- one test after another
 

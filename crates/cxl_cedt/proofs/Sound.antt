@@ -118,7 +118,7 @@ same_chbs : {a a' b b' c c' d d' : ℕ} → a ≡ a' → b ≡ b' → c ≡ c' �
     → ◌≡◌ {A = chbs.Chbs} (record { uid = a; version = b; base = c; length = d }) (record { uid = a'; version = b'; base = c'; length = d' })
 same_chbs p q r s = cc
 
-same_cfmws : {a a' b b' c c' d d' e e' f f' : ℕ} {x x' : Bool} {t t' : List ℕ} → a ≡ a' → b ≡ b' → c ≡ c' → x ≡ x' → d ≡ d' → e ≡ e' → f ≡ f' → t ≡ t'
+pub same_cfmws : {a a' b b' c c' d d' e e' f f' : ℕ} {x x' : Bool} {t t' : List ℕ} → a ≡ a' → b ≡ b' → c ≡ c' → x ≡ x' → d ≡ d' → e ≡ e' → f ≡ f' → t ≡ t'
     → ◌≡◌ {A = CfmwsFields} (record { base = a; size = b; ways = c; xor = x; gran = d; restrict = e; qtg = f; targets = t })
     (record { base = a'; size = b'; ways = c'; xor = x'; gran = d'; restrict = e'; qtg = f'; targets = t' })
 same_cfmws p q r s t u v w = cc

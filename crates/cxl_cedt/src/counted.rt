@@ -12,9 +12,8 @@ use std::marker::Model;
 #[derive(Drop)]
 pub struct CountedRecords {
     records: Vec<Record>,
-    chbs: u8,
-    cfmws: u8,
-    cxims: u8,
+    /// How many there are of each judged type, by the type.
+    counts: [u8; 3],
 }
 
 impl Model for CountedRecords {
@@ -26,7 +25,7 @@ impl Model for CountedRecords {
 
     ghost view = { λ found. found.records.items };
 
-    ghost invariant = { λ found. IsCounted found.records.items found.chbs found.cfmws found.cxims };
+    ghost invariant = { λ found. IsCounted found.records.items found.counts };
 }
 
 impl CountedRecords {
@@ -35,9 +34,7 @@ impl CountedRecords {
     {
         CountedRecords {
             records: Vec::new(alloc),
-            chbs: 0,
-            cfmws: 0,
-            cxims: 0,
+            counts: [0; 3],
         }
     }
 
@@ -45,12 +42,7 @@ impl CountedRecords {
     pub fn is_kind_full(&self, kind: u8) -> bool
         ensures { result ≡ is_kind_full kind self.now }
     {
-        match kind {
-            CHBS_KIND => self.chbs == KIND_LIMIT,
-            CFMWS_KIND => self.cfmws == KIND_LIMIT,
-            CXIMS_KIND => self.cxims == KIND_LIMIT,
-            _ => false,
-        }
+        kind <= CXIMS_KIND && self.counts[usize::from(kind)] == KIND_LIMIT
     }
 
     /// Adds a record at the end.
@@ -60,11 +52,8 @@ impl CountedRecords {
     {
         let kind = kind_of(&next);
         self.records.push(next)?;
-        match kind {
-            CHBS_KIND => self.chbs += 1,
-            CFMWS_KIND => self.cfmws += 1,
-            CXIMS_KIND => self.cxims += 1,
-            _ => {}
+        if kind <= CXIMS_KIND {
+            self.counts[usize::from(kind)] += 1;
         }
         Ok(())
     }
@@ -81,12 +70,7 @@ impl CountedRecords {
         ensures records { result.items ≡ self }
         ensures few { HasFewOfEach self }
     {
-        let CountedRecords {
-            records,
-            chbs: _,
-            cfmws: _,
-            cxims: _,
-        } = self;
+        let CountedRecords { records, counts: _ } = self;
         records
     }
 }

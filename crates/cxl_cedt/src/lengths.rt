@@ -1,6 +1,6 @@
 //! How long the texts of records are, and how many records of a type there are.
 
-ghost use Rattle.std.specs.Prelude.{◌≡◌, ◌≤◌, nat_le};
+ghost use Rattle.std.specs.Prelude.{◌≡◌, ◌≤◌, nat_le, if◌then◌else◌, Some, None};
 ghost use Rattle.cxl_enc.specs.Limits.{file_limit};
 ghost use Rattle.cxl_cedt.specs.Records.{record_length, table_length, count_of};
 
@@ -22,30 +22,33 @@ fn record_length(item: &Record) -> u32
     }
 }
 
+/// The length of the text of a table, where that is no longer than a file may be.
+fn length_in_file(records: &[Record]) -> Option<u32>
+    ensures { result ≡ (if nat_le (table_length records.now) file_limit then Some (table_length records.now) else None) }
+{
+    let mut size = HEADER_SIZE as u32;
+    for item in records {
+        size += record_length(item);
+        if size > FILE_LIMIT as u32 {
+            return None;
+        }
+    }
+    Some(size)
+}
+
 /// The length of the text of a table.
 pub fn table_length(records: &[Record]) -> u32
     requires { table_length records.now ≤ file_limit }
     ensures { result ≡ table_length records.now }
 {
-    let mut size = HEADER_SIZE as u32;
-    for item in records {
-        size += record_length(item);
-    }
-    size
+    length_in_file(records).unwrap()
 }
 
 /// Whether that is no longer than a file may be.
 pub fn fits_file(records: &[Record]) -> bool
     ensures { result ≡ nat_le (table_length records.now) file_limit }
 {
-    let mut size = HEADER_SIZE;
-    for item in records {
-        size += record_length(item) as usize;
-        if size > FILE_LIMIT {
-            return false;
-        }
-    }
-    true
+    length_in_file(records).is_some()
 }
 
 /// How many records of a type there are.

@@ -42,10 +42,8 @@ pub fn u32s_at(alloc: Global, text: &[u8], at: usize, count: usize) -> Result<Ve
     requires { at + 4 * count ≤ length text.now }
     ensures { IfOk result (λ numbers. numbers.items ≡ fields text.now at 4 count) }
 {
-    let mut numbers = Vec::with_capacity(alloc, count)?;
-    for i in 0..count {
-        numbers.push(u32_at(text, at + 4 * i))?;
-    }
+    let mut numbers = vec![in alloc; 0; count]?;
+    LittleEndian::read_u32_into(&text[at..at + 4 * count], &mut numbers);
     Ok(numbers)
 }
 
@@ -54,10 +52,8 @@ pub fn u64s_at(alloc: Global, text: &[u8], at: usize, count: usize) -> Result<Ve
     requires { at + 8 * count ≤ length text.now }
     ensures { IfOk result (λ numbers. numbers.items ≡ fields text.now at 8 count) }
 {
-    let mut numbers = Vec::with_capacity(alloc, count)?;
-    for i in 0..count {
-        numbers.push(u64_at(text, at + 8 * i))?;
-    }
+    let mut numbers = vec![in alloc; 0; count]?;
+    LittleEndian::read_u64_into(&text[at..at + 8 * count], &mut numbers);
     Ok(numbers)
 }
 

@@ -1,12 +1,12 @@
 //! The writer: reserved fields are zero.
 
-ghost use Rattle.std.specs.Prelude.{◌≡◌, ◌++◌, ◌≤◌, ◌<◌, length, IfOk, OnOk};
+ghost use Rattle.std.specs.Prelude.{◌≡◌, ◌++◌, ◌∷◌, [], ◌≤◌, ◌<◌, length, codes, IfOk, OnOk};
 ghost use Rattle.std.specs.List.{flat_map};
 ghost use Rattle.cxl_enc.specs.Limits.{file_limit};
 ghost use Rattle.cxl_cedt.specs.CedtFields.{CedtFields};
 ghost use Rattle.cxl_cedt.specs.Records.{table_length};
 ghost use Rattle.cxl_cedt.specs.Table.{IsTableText, AreRecordTexts};
-ghost use Rattle.cxl_cedt.specs.Spelling.{frame, chbs_spelling, window_range, window_codes, cfmws_spelling, cxims_spelling, other_spelling, record_spelling, header, spelling_with, spelling};
+ghost use Rattle.cxl_cedt.specs.Spelling.{number_bytes, frame, chbs_spelling, window_range, window_codes, cfmws_spelling, cxims_spelling, other_spelling, record_spelling, header, spelling_with, spelling};
 ghost use Rattle.cxl_cedt.specs.inner.Widths.{HeadFits, ChbsFits, CfmwsFits, CximsFits, OtherFits, RecordFits, HasText};
 
 use crate::cedt::{Cedt, Head, Record};
@@ -55,15 +55,22 @@ fn put_header(out: &mut Vec<u8>, head: &Head, size: u32) -> Result<(), Memory>
     ensures spelled { OnOk result (out.new.items ≡ out.old.items ++ header size 0 head.now) }
     ensures fits { OnOk result (HeadFits head.now) }
 {
-    out.extend_from_slice(b"CEDT")?;
-    put_u32(out, size)?;
-    out.push(head.revision)?;
-    out.push(0)?;
+    put_opening(out, size, head.revision)?;
     out.extend_from_slice(&head.oem_id)?;
     out.extend_from_slice(&head.oem_table)?;
     put_u32(out, head.oem_revision)?;
     out.extend_from_slice(&head.creator)?;
     put_u32(out, head.creator_revision)
+}
+
+/// Appends the first ten bytes of the header, with 0 in the place of its checksum.
+fn put_opening(out: &mut Vec<u8>, size: u32, revision: u8) -> Result<(), Memory>
+    ensures spelled { OnOk result (out.new.items ≡ out.old.items ++ (codes "CEDT" ++ number_bytes 4 size ++ revision ∷ 0 ∷ [])) }
+    ensures fits { revision < 256 }
+{
+    out.extend_from_slice(b"CEDT")?;
+    put_u32(out, size)?;
+    Ok(out.extend_from_slice(&[revision, 0])?)
 }
 
 fn spell_records(out: &mut Vec<u8>, records: &[Record]) -> Result<(), Memory>
@@ -104,11 +111,8 @@ fn spell_chbs(out: &mut Vec<u8>, chbs: &Chbs) -> Result<(), Memory>
     ensures fits { OnOk result (ChbsFits chbs.now) }
 {
     put_frame(out, CHBS_KIND, 0, CHBS_SIZE)?;
-    put_u32(out, chbs.uid)?;
-    put_u32(out, chbs.version)?;
-    put_u32(out, 0)?;
-    put_u64(out, chbs.base)?;
-    put_u64(out, chbs.length)
+    put_u32s(out, &[chbs.uid, chbs.version, 0])?;
+    put_u64s(out, &[chbs.base, chbs.length])
 }
 
 fn spell_cfmws(out: &mut Vec<u8>, window: &Cfmws) -> Result<(), Memory>
@@ -141,9 +145,7 @@ fn put_window_range(out: &mut Vec<u8>, count: usize, base: u64, size: u64) -> Re
 fn put_window_codes(out: &mut Vec<u8>, ways: u8, xor: bool, gran: u8) -> Result<(), Memory>
     ensures { OnOk result (out.new.items ≡ out.old.items ++ window_codes ways xor gran) }
 {
-    out.push(ways)?;
-    out.push(u8::from(xor))?;
-    put_u16(out, 0)?;
+    out.extend_from_slice(&[ways, u8::from(xor), 0, 0])?;
     put_u32(out, u32::from(gran))
 }
 
@@ -151,12 +153,10 @@ fn spell_cxims(out: &mut Vec<u8>, maps: &Cxims) -> Result<(), Memory>
     ensures spelled { OnOk result (out.new.items ≡ out.old.items ++ cxims_spelling maps.now) }
     ensures fits { OnOk result (CximsFits maps.now) }
 {
-    let count = maps.maps().len();
-    put_frame(out, CXIMS_KIND, 0, MAPS_FRONT_SIZE + 8 * count as u16)?;
-    put_u16(out, 0)?;
-    out.push(maps.gran())?;
-    out.push(count as u8)?;
-    put_u64s(out, maps.maps())
+    let list = maps.maps();
+    put_frame(out, CXIMS_KIND, 0, MAPS_FRONT_SIZE + 8 * list.len() as u16)?;
+    out.extend_from_slice(&[0, 0, maps.gran(), list.len() as u8])?;
+    put_u64s(out, list)
 }
 
 fn spell_other(out: &mut Vec<u8>, other: &Other) -> Result<(), Memory>
@@ -170,8 +170,8 @@ fn spell_other(out: &mut Vec<u8>, other: &Other) -> Result<(), Memory>
         other.reserved(),
         FRAME_SIZE + body.len() as u16,
     )?;
-    if !body.is_empty() {
-        out.extend_from_slice(body)?;
+    if body.is_empty() {
+        return Ok(());
     }
-    Ok(())
+    Ok(out.extend_from_slice(body)?)
 }

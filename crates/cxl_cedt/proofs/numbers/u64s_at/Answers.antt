@@ -1,5 +1,6 @@
-use Rattle.cxl_cedt.proofs.Places.{fields_pushed}
+use Rattle.std.proofs.Common.{arith}
+use Rattle.cxl_cedt.proofs.Places.{fields_read}
 use Rattle.cxl_cedt.proofs.numbers.u64s_at.Goals as goal
 
-pub loop-i-preserved : goal.loop-i-preserved
-loop-i-preserved c = fields_pushed c.args.text.now c.args.at 8 c.loop-i.i _ _ c.u64_at.result c.loop-i.invariant c.in_ok-push.ensures.items c.u64_at.ensures
+pub returns : goal.returns
+returns c = fields_read c.args.text.now c.args.at 8 c.args.count _ _ _ _ (omega arith) (omega (arith, c.read_u64_into.auto.dst, c.deref_mut.ensures.len, c.in_ok-numbers.ensures.len)) (omega (arith, c.in_ok-numbers.ensures.len)) c.read_u64_into.ensures

@@ -1,7 +1,0 @@
-use Rattle.std.proofs.Common.{◌≡◌}
-use Rattle.cxl_cedt.specs.Table.{fields}
-use Rattle.cxl_cedt.proofs.numbers.u32s_at.Given as goal
-
--- the numbers so far
-abbrev pub invariant-loop-i : goal.invariant-loop-i
-invariant-loop-i l = l.numbers.items ≡ fields l.text l.at 4 l.i
