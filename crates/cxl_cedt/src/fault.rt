@@ -1,11 +1,12 @@
 ghost use Rattle.std.specs.Prelude.{◌≡◌};
 ghost use Rattle.cxl_cedt.specs.declared.fault.CedtFault.TheVariants as faults;
 
+use std::fmt;
 use thiserror::Error;
 
 /// Why bytes are no CEDT: the first fault from the front. A number is the byte place at which the record
 /// begins. The order is this project's rule.
-#[derive(Clone, Copy, Debug, PartialEq, Eq, Error)]
+#[derive(Clone, Copy, PartialEq, Eq, Error)]
 pub enum CedtFault {
     #[error("the table is shorter than its header")]
     Short,
@@ -29,6 +30,13 @@ pub enum CedtFault {
     TooMany(u32),
     #[error("out of memory")]
     Memory,
+}
+
+// The debug text of a fault is its message, since an error needs one and nothing else asks for it.
+impl fmt::Debug for CedtFault {
+    fn fmt<W: fmt::Write>(&self, f: &mut fmt::Formatter<W>) -> fmt::Result {
+        write!(f, "{self}")
+    }
 }
 
 impl From<cxl_enc::Memory> for CedtFault {
