@@ -14,7 +14,7 @@ ghost use Rattle.cxl_model.specs.Regions.{IsRegion};
 ghost use Rattle.cxl_model.specs.System.{system_of, bridge_uids};
 ghost use Rattle.cxl_machine.specs.Machine.{Machine};
 ghost use Rattle.cxl_model.specs.Listed.{region_limit};
-ghost use Rattle.cxl_machine.specs.Sound.{Opens, auto_name, enabled_blocks};
+ghost use Rattle.cxl_machine.specs.Sound.{IsMachine, Opens, auto_name, enabled_blocks};
 ghost use Rattle.cxl_session.specs.Opening.{endpoints_in, enabling, ArePoweredOn, empty_media, IsHalfEnabled, IsRefusedImage, HasRegions};
 ghost use Rattle.cxl_session.specs.Standing.{StandsFor, IsAt};
 ghost use Rattle.cxl_session.specs.inner.Opened.{opened_machine, CanOpen, AreRoutesOf, StopsEnabling};
@@ -27,7 +27,7 @@ use cxl_image::Image;
 use cxl_legal::ports_are_bytes;
 use cxl_live::{LiveRegions, REGION_LIMIT};
 use cxl_machine::{OpenFault, openings_are_machines};
-use cxl_media::Roll;
+use cxl_media::{Media, Roll};
 use cxl_model::{
     Found, accepted_image_is_system, accepted_or_breach, regions_are_listed, regions_lie_in_windows,
 };
@@ -95,18 +95,10 @@ impl Session {
         ensures unswallowed { OnOk result
             (LeavesCount (R.state regs.old).counts_failures_alone (R.state regs.old).faults (R.state regs.new).faults) }
     {
-        openings_are_machines();
-        ports_are_bytes(&topo);
         let founds = regions_to_open(alloc, &topo, &windows, &start)?;
-        let Ok(endpoints) = endpoints_of(alloc, &topo) else {
+        let Ok(endpoints) = powered_on(alloc, &topo, &start, regs, media) else {
             return Err(OpenFault::Memory);
         };
-        if regs.power_on(alloc, start.blocks()).is_err() {
-            return Err(OpenFault::Memory);
-        }
-        if media.power_on(alloc, topo.frames()).is_err() {
-            return Err(OpenFault::Memory);
-        }
         let Ok(session) = Session::over(alloc, topo, windows, start, founds, &endpoints) else {
             return Err(OpenFault::Memory);
         };
@@ -127,6 +119,8 @@ impl Session {
     ) -> Result<Session, Memory>
         requires opens { CanOpen (system_of start topo windows.items) founds.items }
         requires endpoints { endpoints.now ≡ endpoints_in topo.nodes }
+        ensures machine { IfOk result (λ session. IsMachine
+            (opened_machine (system_of start topo windows.items) topo.frames founds.items)) }
         ensures stands { IfOk result (λ session. StandsFor session
             (opened_machine (system_of start topo windows.items) topo.frames founds.items)) }
         ensures handed { IfOk result (λ session. (session.topo ≡ topo) × (session.windows ≡ windows.items)) }
@@ -137,16 +131,14 @@ impl Session {
         regions_lie_in_windows();
         let _frames = topo.frames();
         let image = enabled(start, endpoints);
-        let names = auto_names(alloc, founds.len())?;
-        let kepts = routes_of(alloc, &image, &topo, &windows, &founds)?;
-        let founds = LiveRegions::new(alloc, founds)?;
+        let live = opened_regions(alloc, &image, &topo, &windows, founds)?;
         Ok(Session {
             topo,
             windows,
             image,
-            names,
-            founds,
-            kepts,
+            names: live.names,
+            founds: live.founds,
+            kepts: live.kepts,
             job: None,
         })
     }
@@ -198,6 +190,33 @@ fn endpoints_of(alloc: Global, topo: &Topo) -> Result<Vec<u32>, Memory>
     Ok(endpoints)
 }
 
+/// Powers registers and media on, and tells the endpoints that are to decode then. Takes memory.
+fn powered_on<R: Regs, M: Media>(
+    alloc: Global,
+    topo: &Topo,
+    start: &Image,
+    regs: &mut R,
+    media: &mut M,
+) -> Result<Vec<u32>, Memory>
+    ensures endpoints { IfOk result (λ endpoints. endpoints.items ≡ endpoints_in topo.now.nodes) }
+    ensures powered { OnOk result (ArePoweredOn start.now (R.state regs.old) (R.state regs.new)
+        × (M.state media.new ≡ empty_media topo.now.frames)) }
+    // After want of memory each is as before, or as powering it on left it.
+    ensures memory { OnErr result
+        (((R.state regs.new ≡ R.state regs.old) ⊎ ArePoweredOn start.now (R.state regs.old) (R.state regs.new))
+        × ((M.state media.new ≡ M.state media.old) ⊎ (M.state media.new ≡ empty_media topo.now.frames))) }
+    ensures counts { (R.state regs.old).faults ≤ (R.state regs.new).faults }
+    ensures alone { (R.state regs.new).counts_failures_alone ≡ (R.state regs.old).counts_failures_alone }
+    // A fault is not swallowed.
+    ensures unswallowed { OnOk result
+        (LeavesCount (R.state regs.old).counts_failures_alone (R.state regs.old).faults (R.state regs.new).faults) }
+{
+    let endpoints = endpoints_of(alloc, topo)?;
+    regs.power_on(alloc, start.blocks())?;
+    media.power_on(alloc, topo.frames())?;
+    Ok(endpoints)
+}
+
 // ---- decoding is enabled
 
 /// The image in which these endpoints decode.
@@ -232,6 +251,41 @@ fn enable_endpoints<R: Regs>(endpoints: &[u32], regs: &mut R) -> Result<(), Fail
 }
 
 // ---- what a session keeps of its regions, with room for as many as may live
+
+/// The regions that are live from the opening on, as a session keeps them.
+#[derive(Drop)]
+struct OpenedRegions {
+    names: Vec<Name>,
+    founds: LiveRegions,
+    kepts: Vec<Kept>,
+}
+
+/// Regions of an image, with their names and routes. Takes memory.
+fn opened_regions(
+    alloc: Global,
+    image: &Image,
+    topo: &Topo,
+    windows: &[Window],
+    founds: Vec<Found>,
+) -> Result<OpenedRegions, Memory>
+    requires caps { HasCapsOf image.now topo.now.nodes }
+    requires made { AreMadeWith windows.now (bridge_uids topo.now.nodes) }
+    requires regions { All (IsRegion (system_of image.now topo.now windows.now)) founds.items }
+    requires few { length founds.items ≤ region_limit }
+    ensures founds { IfOk result (λ live. live.founds ≡ founds.items) }
+    ensures names { IfOk result (λ live. live.names.items ≡ map auto_name (range_with_len 0 (length founds.items))) }
+    ensures routes { IfOk result (λ live. AreRoutesOf (system_of image.now topo.now windows.now) founds.items live.kepts.items) }
+    ensures room { IfOk result (λ live. (region_limit ≤ vec_capacity live.names) × (region_limit ≤ vec_capacity live.kepts)) }
+{
+    let names = auto_names(alloc, founds.len())?;
+    let kepts = routes_of(alloc, image, topo, windows, &founds)?;
+    let founds = LiveRegions::new(alloc, founds)?;
+    Ok(OpenedRegions {
+        names,
+        founds,
+        kepts,
+    })
+}
 
 /// The names of so many regions. Takes memory.
 fn auto_names(alloc: Global, count: usize) -> Result<Vec<Name>, Memory>
