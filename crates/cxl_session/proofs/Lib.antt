@@ -29,6 +29,7 @@ pub mod Turns
 pub mod Aborts
 pub mod NodeRows
 pub mod Room
+pub mod Rooms
 pub mod AskedReleases
 pub mod Begins
 pub mod Ends

@@ -193,7 +193,7 @@ impl Session {
         let found = self.founds.remove(place);
         let kept = self.kepts.remove(place);
         let kind = Kind::Releases(place as u32);
-        self.job = Some(PendingJob {
+        self.keep(PendingJob {
             kind,
             name,
             found,
@@ -297,9 +297,9 @@ impl Session {
           kept = self.old.kept ++ kept ∷ [];
         } }
     {
-        let _name = self.names.push(name);
+        self.names.push_reserved(name);
         self.founds.push(found);
-        let _kept = self.kepts.push(kept);
+        self.kepts.push_reserved(kept);
     }
 
     /// The bus has failed, and the job stays pending.
@@ -317,7 +317,7 @@ impl Session {
             done: pending.job.done(),
             total: pending.job.total(),
         };
-        self.job = Some(pending);
+        self.keep(pending);
         Reply::BusPending(left)
     }
 
