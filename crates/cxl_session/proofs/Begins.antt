@@ -1,18 +1,20 @@
 -- A release begins: its region is no longer live, and no register is written.
 use Rattle.std.proofs.Common.{◌≡◌, ℕ, ◌<◌, List, [], ◌++◌, length, Ok, Err, Option, Some, None, refl, sym, ap, ◌∙◌, subst, arith}
-use Rattle.std.specs.Prelude.{slice_get, remove, IsSomeAnd}
+use Rattle.std.specs.Prelude.{slice_get, remove, All, IsSomeAnd}
 use Rattle.std.specs.List.Sorted.{IsPermutation}
 use Rattle.std.proofs.lemmas.List.{append-nil}
 use Rattle.std.proofs.lemmas.Option.{slice_get_within, get_or_from_slice_get}
+use Rattle.cxl_regs.specs.Registers.{Registers}
 use Rattle.cxl_bus.specs.RegsState.{RegsState}
 use Rattle.cxl_media.specs.MediaState.{MediaState}
 use Rattle.cxl_script.specs.declared.command.Command.TheVariants as commands
 use Rattle.cxl_model.specs.declared.found.Found.{Found}
 use Rattle.cxl_model.specs.declared.plan.Row.{Row}
+use Rattle.cxl_model.specs.Accepted.{KeepsBlocks}
 use Rattle.cxl_model.specs.System.{System}
 use Rattle.cxl_apply.specs.declared.write.Write.{Write}
-use Rattle.cxl_apply.specs.Jobs.{AreReleaseWrites}
-use Rattle.cxl_apply.specs.Releases.{rows_of}
+use Rattle.cxl_apply.specs.Jobs.{AreReleaseWrites, AreOfDifferentNodes, CanRelease}
+use Rattle.cxl_apply.specs.Releases.{rows_of, first_locked, first_not_last}
 use Rattle.cxl_apply.specs.Steps.{JobState}
 use Rattle.cxl_reply.specs.declared.reply.Reply.{Reply}
 use Rattle.cxl_reply.specs.declared.reply.Reply.TheVariants as replies
@@ -157,6 +159,25 @@ pub begin_refused : (session : SessionState) (name : List ℕ) (refusal : Reply)
     → ((m : Machine) → StandsFor session m → IsMachine m → asked_release m name ≡ Err refusal) → IsTurnFor session session regs regs media media (commands.BeginDestroy name) refusal
 begin_refused session name refusal regs media asked = still session regs media (commands.BeginDestroy name) refusal refl
     (λ m at. (record { unfailing = refl; told = ap (begin_answer m) (sym (asked m at.stands at.sound.machine)) }, refl))
+
+-- ---- its rows
+
+-- the decoders of a region that may be ended can be released, and stand in different nodes
+abbrev pub RowsLaw : Type 0
+RowsLaw = (s : System) (found : Found) → KeepsBlocks s → first_locked s found ≡ None → first_not_last s found ≡ None → All (CanRelease s.blocks) (rows_of s found)
+
+abbrev pub ApartLaw : Type 0
+ApartLaw = (s : System) (found : Found) → AreOfDifferentNodes (rows_of s found)
+
+module _ (session : SessionState) (m : Machine) (name : List ℕ) (release : Release) (rows : List Row) (is : IsNamedRelease m name release) (same : rows ≡ release.rows.items) where
+  pub can_release : RowsLaw → StandsFor session m → IsMachine m → All (CanRelease session.image) rows
+  can_release law stands machine =
+      subst (λ (blocks : List Registers). All (CanRelease blocks) rows) (sym (stands.image ∙ ap (blocks_with m.settled.blocks) is.idle))
+      (subst (All (CanRelease m.settled.blocks)) (sym (same ∙ is.rows))
+      (law m.settled is.region.found (λ rule n i low. machine.settled.accepted.each rule n i) is.unlocked is.last))
+
+  pub released_apart : ApartLaw → AreOfDifferentNodes rows
+  released_apart law = subst AreOfDifferentNodes (sym (same ∙ is.rows)) (law m.settled is.region.found)
 
 -- the place of a release is one of the session's
 pub release_within : (session : SessionState) (m : Machine) (name : List ℕ) (release : Release) → StandsFor session m → IsNamedRelease m name release → release.place < length session.names

@@ -1,3 +1,4 @@
+pub mod Errors
 pub mod Places
 pub mod Apart
 pub mod Pairs

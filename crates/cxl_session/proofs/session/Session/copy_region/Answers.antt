@@ -1,11 +1,15 @@
-use Rattle.std.proofs.Common.{◌≡◌, ◌+◌, ◌<◌, ◌≤◌, ◌∙◌, ap, sym, subst, length, List, ℕ, arith}
+use Rattle.std.proofs.Common.{◌≡◌, ◌+◌, ◌<◌, ◌≤◌, ◌∙◌, ap, refl, sym, subst, length, List, ℕ, arith}
+use Rattle.std.proofs.lemmas.Bool.{false≢true}
 use Rattle.cxl_media.specs.MediaState.{MediaState}
+use Rattle.cxl_move.specs.Sides.{AreHeld}
 use Rattle.cxl_reply.specs.declared.details.Carried.{Carried}
 use Rattle.cxl_reply.specs.declared.details.Lack.{Lack}
 use Rattle.cxl_reply.specs.declared.reply.Reply.TheVariants as replies
-use Rattle.cxl_machine.specs.Copies.{copy_answer}
+use Rattle.cxl_machine.specs.Copies.{copy_between, copy_answer}
+use Rattle.cxl_machine.specs.Replies.{Answer}
 use Rattle.cxl_session.specs.inner.Answering.{IsWrittenAs}
 use Rattle.cxl_session.proofs.Carrying.{window_within}
+use Rattle.cxl_session.proofs.Errors.{not_ok, at_any_err}
 use Rattle.cxl_session.proofs.session.Session.copy_region.Goals as goal
 
 pub side-from-requires : goal.side-from-requires
@@ -112,3 +116,60 @@ returns-clause-answer g c = λ m holds.
     let told : record { from = c.args.pair.now.from; to = c.args.pair.now.to; pieces = length pieces } ≡ c.pair_details.result =
     sym (c.pair_details.ensures ∙ (λ i. record { from = c.args.pair.now.from; to = c.args.pair.now.to; pieces = length (c.deref-2.ensures.value i) })) in
     subst (λ (x : Carried). IsWrittenAs c.args.self.now (g.M.Media.state c.copy_bytes.new.media) (copy_answer m c.args.pair.now) (replies.Copied x)) told written
+
+pub returns-in_err-pieces-clause-answer : goal.returns-in_err-pieces-clause-answer
+returns-in_err-pieces-clause-answer g c = not_ok _ c.from_residual.result _ c.from_residual.ensures.1
+
+pub returns-in_err-pieces-clause-refused : goal.returns-in_err-pieces-clause-refused
+returns-in_err-pieces-clause-refused g c = not_ok _ c.from_residual.result _ c.from_residual.ensures.1
+
+pub returns-in_err-pieces-clause-memory : goal.returns-in_err-pieces-clause-memory
+returns-in_err-pieces-clause-memory g c = at_any_err c.from_residual.result _ refl
+
+pub returns-in_err-others-clause-answer : goal.returns-in_err-others-clause-answer
+returns-in_err-others-clause-answer g c = not_ok _ c.from_residual-in_err-others.result _ c.from_residual-in_err-others.ensures.1
+
+pub returns-in_err-others-clause-refused : goal.returns-in_err-others-clause-refused
+returns-in_err-others-clause-refused g c = not_ok _ c.from_residual-in_err-others.result _ c.from_residual-in_err-others.ensures.1
+
+pub returns-in_err-others-clause-memory : goal.returns-in_err-others-clause-memory
+returns-in_err-others-clause-memory g c = at_any_err c.from_residual-in_err-others.result _ refl
+
+pub returns-in-Err-clause-answer : goal.returns-in-Err-clause-answer
+returns-in-Err-clause-answer g c = λ m holds.
+    subst (λ (a : Answer). IsWrittenAs c.args.self.now (g.M.Media.state c.args.media.now) a c.in-Err.refusal) (sym (c.in-Err.ensures m holds.stands (copy_between m)))
+    (record { told = refl; holds = holds })
+
+pub returns-in-Err-clause-refused : goal.returns-in-Err-clause-refused
+returns-in-Err-clause-refused g c = λ _. refl
+
+pub returns-in-Err-clause-memory : goal.returns-in-Err-clause-memory
+returns-in-Err-clause-memory g c = tt
+
+pub returns-clause-memory : goal.returns-clause-memory
+returns-clause-memory g c = tt
+
+pub returns-clause-refused : goal.returns-clause-refused
+returns-clause-refused g c = λ is. absurd (false≢true is)
+
+pub returns-then-len-free-clause-refused : goal.returns-then-len-free-clause-refused
+returns-then-len-free-clause-refused g c = λ _. refl
+
+pub returns-then-len-free-clause-memory : goal.returns-then-len-free-clause-memory
+returns-then-len-free-clause-memory g c = tt
+
+pub copy_bytes-requires-clause-room : goal.copy_bytes-requires-clause-room
+copy_bytes-requires-clause-room g c =
+    let same : length c.deref.result.now ≡ length c.in_ok-pieces.pieces.items = ap (λ (ns : List ℕ). length ns) c.deref.ensures.value in
+    (c.in_ok-others.others.items, c.in_ok-others.ensures, omega (arith, same, c.len.ensures, c.len-2.ensures, c.free.ensures))
+
+pub copy_bytes-requires-clause-sides : goal.copy_bytes-requires-clause-sides
+copy_bytes-requires-clause-sides g c =
+    let holds = c.requires.1 in
+    let two = c.in-Ok.ensures c.requires.0 holds.stands in
+    c.sides_hold_pieces.ensures.sides c.args.self.now c.requires.0 c.args.pair.now c.in-Ok.places.0 c.in-Ok.places.1 c.side-from.result.found.now c.side-to.result.found.now c.side-from.result.window.now
+    c.side-to.result.window.now holds.stands holds.machine two c.side-from.ensures c.side-to.ensures
+
+pub copy_bytes-requires-clause-held : goal.copy_bytes-requires-clause-held
+copy_bytes-requires-clause-held g c =
+    subst (λ (ns : List ℕ). AreHeld c.side-from.result.found.now c.side-from.result.window.now (g.M.Media.state c.args.media.now).blocks ns) (sym c.deref.ensures.value) c.in_ok-pieces.ensures

@@ -1,12 +1,18 @@
-use Rattle.std.proofs.Common.{List, Result, subst}
-use Rattle.cxl_apply.specs.Jobs.{AreReleaseWrites}
+use Rattle.std.proofs.Common.{List, Result, refl, sym, ap, subst, ◌∙◌}
+use Rattle.std.proofs.Math.Nat.{le_refl}
+use Rattle.std.specs.Prelude.{All}
+use Rattle.cxl_regs.specs.Registers.{Registers}
+use Rattle.cxl_apply.specs.Jobs.{AreReleaseWrites, CanRelease}
+use Rattle.cxl_apply.specs.Steps.{HasWordsOf}
 use Rattle.cxl_model.specs.declared.plan.Row.{Row}
 use Rattle.cxl_reply.specs.declared.reply.Reply.{Reply}
 use Rattle.cxl_machine.specs.Machine.{Machine}
 use Rattle.cxl_machine.specs.Jobs.{release_job}
 use Rattle.cxl_session.specs.declared.requests.Release.{Release}
+use Rattle.cxl_session.specs.State.{SessionState}
 use Rattle.cxl_session.specs.inner.Requests.{IsNamedRelease, IsAskedRelease}
-use Rattle.cxl_session.proofs.Begins.{begun_here, begun_from, release_within}
+use Rattle.cxl_session.proofs.Begins.{begun_here, begun_from, release_within, can_release, released_apart}
+use Rattle.cxl_session.proofs.Errors.{not_ok, at_any_err}
 use Rattle.cxl_session.proofs.Undoing.{refused_again}
 use Rattle.cxl_session.proofs.Wholes.{destroyed, destroy_refused}
 use Rattle.cxl_session.proofs.session.Session.destroy.Goals as goal
@@ -57,3 +63,76 @@ returns-clause-refused g c = λ refused.
     m at.stands is in
     refused_again c.args.self.now c.begin_release.new.self c.carry_out.new.self own (g.R.Regs.state c.args.regs.now) (g.R.Regs.state c.carry_out.new.regs)
     (g.M.Media.state c.args.media.now) (g.M.Media.state c.carry_out.new.media) from begun fresh (c.carry_out.ensures.refused refused)
+
+pub release-requires-clause-each : goal.release-requires-clause-each
+release-requires-clause-each g c =
+    let m : Machine = c.requires.0 in
+    let at = c.requires.1 in
+    subst (λ (blocks : List Registers). All (CanRelease blocks) c.deref.result.now) (ap (λ (s : SessionState). s.image) (sym c.self.view_is))
+    (can_release c.args.self.now m c.args.name c.in-Ok.release c.deref.result.now
+    (subst (λ (a : Result Release Reply). IsAskedRelease m c.args.name a) c.in-Ok.is (c.in_ok-release.ensures m at.stands at.sound.machine)) c.deref.ensures.value
+    c.release_releases_its_rows.ensures.rows at.stands at.sound.machine)
+
+pub release-requires-clause-apart : goal.release-requires-clause-apart
+release-requires-clause-apart g c =
+    let m : Machine = c.requires.0 in
+    let at = c.requires.1 in
+    released_apart c.args.self.now m c.args.name c.in-Ok.release c.deref.result.now
+    (subst (λ (a : Result Release Reply). IsAskedRelease m c.args.name a) c.in-Ok.is (c.in_ok-release.ensures m at.stands at.sound.machine)) c.deref.ensures.value
+    c.release_releases_its_rows.ensures.apart
+
+pub begin_release-requires-clause-words : goal.begin_release-requires-clause-words
+begin_release-requires-clause-words g c =
+    subst (λ (blocks : List Registers). HasWordsOf blocks c.in_ok-job.job.writes) (ap (λ (s : SessionState). s.image) c.self.view_is) c.in_ok-job.ensures.words
+
+pub returns-in_err-release-clause-turn : goal.returns-in_err-release-clause-turn
+returns-in_err-release-clause-turn g c = not_ok _ c.from_residual.result _ c.from_residual.ensures.1
+
+pub returns-in_err-release-clause-refused : goal.returns-in_err-release-clause-refused
+returns-in_err-release-clause-refused g c = not_ok _ c.from_residual.result _ c.from_residual.ensures.1
+
+pub returns-in_err-release-clause-memory : goal.returns-in_err-release-clause-memory
+returns-in_err-release-clause-memory g c = at_any_err c.from_residual.result _ (refl, refl, refl)
+
+pub returns-in_err-release-clause-host : goal.returns-in_err-release-clause-host
+returns-in_err-release-clause-host g c = (refl, refl)
+
+pub returns-in_err-release-clause-counts : goal.returns-in_err-release-clause-counts
+returns-in_err-release-clause-counts g c = le_refl (g.R.Regs.state c.args.regs.now).faults
+
+pub returns-in_err-job-clause-turn : goal.returns-in_err-job-clause-turn
+returns-in_err-job-clause-turn g c = not_ok _ c.from_residual-in_err-job.result _ c.from_residual-in_err-job.ensures.1
+
+pub returns-in_err-job-clause-refused : goal.returns-in_err-job-clause-refused
+returns-in_err-job-clause-refused g c = not_ok _ c.from_residual-in_err-job.result _ c.from_residual-in_err-job.ensures.1
+
+pub returns-in_err-job-clause-memory : goal.returns-in_err-job-clause-memory
+returns-in_err-job-clause-memory g c = at_any_err c.from_residual-in_err-job.result _ (refl, refl, refl)
+
+pub returns-in_err-job-clause-host : goal.returns-in_err-job-clause-host
+returns-in_err-job-clause-host g c = (refl, refl)
+
+pub returns-in_err-job-clause-counts : goal.returns-in_err-job-clause-counts
+returns-in_err-job-clause-counts g c = le_refl (g.R.Regs.state c.args.regs.now).faults
+
+pub returns-in-Err-clause-refused : goal.returns-in-Err-clause-refused
+returns-in-Err-clause-refused g c = λ _. (refl, refl, refl)
+
+pub returns-in-Err-clause-memory : goal.returns-in-Err-clause-memory
+returns-in-Err-clause-memory g c = tt
+
+pub returns-in-Err-clause-host : goal.returns-in-Err-clause-host
+returns-in-Err-clause-host g c = (refl, refl)
+
+pub returns-in-Err-clause-counts : goal.returns-in-Err-clause-counts
+returns-in-Err-clause-counts g c = le_refl (g.R.Regs.state c.args.regs.now).faults
+
+pub returns-clause-memory : goal.returns-clause-memory
+returns-clause-memory g c = tt
+
+pub returns-clause-host : goal.returns-clause-host
+returns-clause-host g c =
+    (c.carry_out.ensures.host.0 ∙ c.begin_release.ensures.host.0, c.carry_out.ensures.host.1 ∙ c.begin_release.ensures.host.1)
+
+pub returns-clause-counts : goal.returns-clause-counts
+returns-clause-counts g c = c.carry_out.ensures.counts

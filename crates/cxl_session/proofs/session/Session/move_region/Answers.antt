@@ -1,9 +1,13 @@
-use Rattle.std.proofs.Common.{◌≡◌, ◌∙◌, ap, sym, subst, length, List, ℕ, arith}
+use Rattle.std.proofs.Common.{◌≡◌, ◌∙◌, ap, refl, sym, subst, length, List, ℕ, arith}
+use Rattle.std.proofs.lemmas.Bool.{false≢true}
+use Rattle.cxl_move.specs.Sides.{AreHeld}
 use Rattle.cxl_reply.specs.declared.details.Carried.{Carried}
 use Rattle.cxl_reply.specs.declared.reply.Reply.TheVariants as replies
-use Rattle.cxl_machine.specs.Copies.{move_answer}
+use Rattle.cxl_machine.specs.Copies.{move_between, move_answer}
+use Rattle.cxl_machine.specs.Replies.{Answer}
 use Rattle.cxl_session.specs.inner.Answering.{IsWrittenAs}
 use Rattle.cxl_session.proofs.Carrying.{window_within}
+use Rattle.cxl_session.proofs.Errors.{not_ok, at_any_err}
 use Rattle.cxl_session.proofs.session.Session.move_region.Goals as goal
 
 pub side-from-requires : goal.side-from-requires
@@ -47,3 +51,40 @@ returns-clause-answer g c = λ m holds.
     let told : record { from = c.args.pair.now.from; to = c.args.pair.now.to; pieces = length pieces } ≡ c.pair_details.result =
     sym (c.pair_details.ensures ∙ (λ i. record { from = c.args.pair.now.from; to = c.args.pair.now.to; pieces = length (c.deref-2.ensures.value i) })) in
     subst (λ (x : Carried). IsWrittenAs c.args.self.now (g.M.Media.state c.move_bytes.new.media) (move_answer m c.args.pair.now) (replies.Moved x)) told written
+
+pub returns-in_err-pieces-clause-answer : goal.returns-in_err-pieces-clause-answer
+returns-in_err-pieces-clause-answer g c = not_ok _ c.from_residual.result _ c.from_residual.ensures.1
+
+pub returns-in_err-pieces-clause-refused : goal.returns-in_err-pieces-clause-refused
+returns-in_err-pieces-clause-refused g c = not_ok _ c.from_residual.result _ c.from_residual.ensures.1
+
+pub returns-in_err-pieces-clause-memory : goal.returns-in_err-pieces-clause-memory
+returns-in_err-pieces-clause-memory g c = at_any_err c.from_residual.result _ refl
+
+pub returns-in-Err-clause-answer : goal.returns-in-Err-clause-answer
+returns-in-Err-clause-answer g c = λ m holds.
+    subst (λ (a : Answer). IsWrittenAs c.args.self.now (g.M.Media.state c.args.media.now) a c.in-Err.refusal) (sym (c.in-Err.ensures m holds.stands (move_between m)))
+    (record { told = refl; holds = holds })
+
+pub returns-in-Err-clause-refused : goal.returns-in-Err-clause-refused
+returns-in-Err-clause-refused g c = λ _. refl
+
+pub returns-in-Err-clause-memory : goal.returns-in-Err-clause-memory
+returns-in-Err-clause-memory g c = tt
+
+pub returns-clause-memory : goal.returns-clause-memory
+returns-clause-memory g c = tt
+
+pub returns-clause-refused : goal.returns-clause-refused
+returns-clause-refused g c = λ is. absurd (false≢true is)
+
+pub move_bytes-requires-clause-sides : goal.move_bytes-requires-clause-sides
+move_bytes-requires-clause-sides g c =
+    let holds = c.requires.1 in
+    let two = c.in-Ok.ensures c.requires.0 holds.stands in
+    c.sides_hold_pieces.ensures.sides c.args.self.now c.requires.0 c.args.pair.now c.in-Ok.places.0 c.in-Ok.places.1 c.side-from.result.found.now c.side-to.result.found.now c.side-from.result.window.now
+    c.side-to.result.window.now holds.stands holds.machine two c.side-from.ensures c.side-to.ensures
+
+pub move_bytes-requires-clause-held : goal.move_bytes-requires-clause-held
+move_bytes-requires-clause-held g c =
+    subst (λ (ns : List ℕ). AreHeld c.side-from.result.found.now c.side-from.result.window.now (g.M.Media.state c.args.media.now).blocks ns) (sym c.deref.ensures.value) c.in_ok-pieces.ensures
