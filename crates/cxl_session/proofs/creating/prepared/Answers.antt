@@ -1,8 +1,9 @@
 use Rattle.std.proofs.Common.{List, refl, sym, subst}
 use Rattle.std.specs.Prelude.{All}
-use Rattle.cxl_apply.specs.Jobs.{AreCreateWrites, CanCreate}
+use Rattle.cxl_apply.specs.Jobs.{AreCreateWrites, AreOfDifferentNodes, CanCreate}
 use Rattle.cxl_model.specs.declared.plan.Row.{Row}
 use Rattle.cxl_model.specs.Hosts.{as_system}
+use Rattle.cxl_session.proofs.Errors.{not_ok}
 use Rattle.cxl_session.proofs.creating.prepared.Goals as goal
 
 pub create-requires-clause-each : goal.create-requires-clause-each
@@ -24,3 +25,34 @@ returns-clause-pending c = record {
   done = c.in_ok-job.ensures.none_done;
   kept = c.in_ok-kept.ensures;
 }
+
+pub returns-in_err-job-clause-pending : goal.returns-in_err-job-clause-pending
+returns-in_err-job-clause-pending c = not_ok _ c.from_residual.result _ c.from_residual.ensures.1
+
+pub returns-in_err-job-clause-words : goal.returns-in_err-job-clause-words
+returns-in_err-job-clause-words c = not_ok _ c.from_residual.result _ c.from_residual.ensures.1
+
+pub returns-in_err-kept-clause-pending : goal.returns-in_err-kept-clause-pending
+returns-in_err-kept-clause-pending c = not_ok _ c.from_residual-in_err-kept.result _ c.from_residual-in_err-kept.ensures.1
+
+pub returns-in_err-kept-clause-words : goal.returns-in_err-kept-clause-words
+returns-in_err-kept-clause-words c = not_ok _ c.from_residual-in_err-kept.result _ c.from_residual-in_err-kept.ensures.1
+
+pub create-requires-clause-apart : goal.create-requires-clause-apart
+create-requires-clause-apart c =
+    subst AreOfDifferentNodes (sym c.items.ensures) (c.create_commits_its_rows.ensures.apart (as_system c.args.host.now) c.requires.legal.0 c.args.plan c.requires.legal.1)
+
+pub routes_ahead-requires-clause-legal : goal.routes_ahead-requires-clause-legal
+routes_ahead-requires-clause-legal c = c.requires.legal
+
+pub routes_ahead-requires-clause-settled : goal.routes_ahead-requires-clause-settled
+routes_ahead-requires-clause-settled c = c.requires.settled
+
+pub routes_ahead-requires-clause-none_done : goal.routes_ahead-requires-clause-none_done
+routes_ahead-requires-clause-none_done c = c.in_ok-job.ensures.none_done
+
+pub routes_ahead-requires-clause-words : goal.routes_ahead-requires-clause-words
+routes_ahead-requires-clause-words c = c.in_ok-job.ensures.words
+
+pub returns-clause-words : goal.returns-clause-words
+returns-clause-words c = c.in_ok-job.ensures.words

@@ -1,4 +1,5 @@
-use Rattle.std.proofs.Common.{Result, Ok, sym, subst}
+use Rattle.std.proofs.Common.{Result, Ok, refl, sym, ap, subst, ◌∙◌}
+use Rattle.std.proofs.Math.Nat.{le_refl}
 use Rattle.cxl_reply.specs.declared.reply.Reply.{Reply}
 use Rattle.cxl_machine.specs.Machine.{Machine}
 use Rattle.cxl_machine.specs.Jobs.{create_job, begun}
@@ -9,6 +10,7 @@ use Rattle.cxl_session.specs.Standing.{IsAt}
 use Rattle.cxl_session.specs.inner.Creating.{IsAskedCreate}
 use Rattle.cxl_session.specs.inner.Regions.{IsWholeFor, LeavesUndone}
 use Rattle.cxl_session.proofs.Creates.{BeginLaws, begun_at, undone_before, created, create_refused}
+use Rattle.cxl_session.proofs.Errors.{not_ok, at_any_err}
 use Rattle.cxl_session.proofs.session.Session.create.Goals as goal
 
 pub returns-in-Err-clause-turn : goal.returns-in-Err-clause-turn
@@ -49,3 +51,42 @@ returns-clause-refused g c = λ refused.
     (g.M.Media.state c.args.media.now) (g.M.Media.state c.carry_out.new.media) at.stands
     (subst (λ (s : SessionState). LeavesUndone s c.carry_out.new.self (g.R.Regs.state c.args.regs.now) (g.R.Regs.state c.carry_out.new.regs) (g.M.Media.state c.args.media.now) (g.M.Media.state c.carry_out.new.media))
     c.keep.ensures (c.carry_out.ensures.refused refused))
+
+pub returns-in_err-pending-clause-turn : goal.returns-in_err-pending-clause-turn
+returns-in_err-pending-clause-turn g c = not_ok _ c.from_residual.result _ c.from_residual.ensures.1
+
+pub returns-in_err-pending-clause-refused : goal.returns-in_err-pending-clause-refused
+returns-in_err-pending-clause-refused g c = not_ok _ c.from_residual.result _ c.from_residual.ensures.1
+
+pub returns-in_err-pending-clause-memory : goal.returns-in_err-pending-clause-memory
+returns-in_err-pending-clause-memory g c = at_any_err c.from_residual.result _ (refl, refl, refl)
+
+pub returns-in_err-pending-clause-host : goal.returns-in_err-pending-clause-host
+returns-in_err-pending-clause-host g c = (refl, refl)
+
+pub returns-in_err-pending-clause-counts : goal.returns-in_err-pending-clause-counts
+returns-in_err-pending-clause-counts g c = le_refl (g.R.Regs.state c.args.regs.now).faults
+
+pub returns-in-Err-clause-refused : goal.returns-in-Err-clause-refused
+returns-in-Err-clause-refused g c = λ _. (refl, refl, refl)
+
+pub returns-in-Err-clause-memory : goal.returns-in-Err-clause-memory
+returns-in-Err-clause-memory g c = tt
+
+pub returns-in-Err-clause-host : goal.returns-in-Err-clause-host
+returns-in-Err-clause-host g c = (refl, refl)
+
+pub returns-in-Err-clause-counts : goal.returns-in-Err-clause-counts
+returns-in-Err-clause-counts g c = le_refl (g.R.Regs.state c.args.regs.now).faults
+
+pub returns-clause-memory : goal.returns-clause-memory
+returns-clause-memory g c = tt
+
+pub returns-clause-host : goal.returns-clause-host
+returns-clause-host g c = (
+  c.carry_out.ensures.host.0 ∙ ap (λ (s : SessionState). s.topo) c.keep.ensures,
+  c.carry_out.ensures.host.1 ∙ ap (λ (s : SessionState). s.windows) c.keep.ensures,
+)
+
+pub returns-clause-counts : goal.returns-clause-counts
+returns-clause-counts g c = c.carry_out.ensures.counts

@@ -1,13 +1,16 @@
-use Rattle.std.proofs.Common.{◌≡◌, List, [], Some, sym, ap, ◌∙◌, subst}
+use Rattle.std.proofs.Common.{◌≡◌, List, [], Some, refl, sym, ap, ◌∙◌, subst}
 use Rattle.cxl_script.specs.declared.command.Command.TheVariants as commands
 use Rattle.cxl_model.specs.declared.found.Found.{Found}
 use Rattle.cxl_model.specs.declared.plan.Row.{Row}
 use Rattle.cxl_model.specs.System.{system_of}
+use Rattle.std.proofs.Math.Nat.{le_refl}
 use Rattle.cxl_apply.specs.Releases.{rows_of}
 use Rattle.cxl_reply.specs.declared.reply.Reply.TheVariants as replies
 use Rattle.cxl_reply.specs.declared.details.ShownRow.{ShownRow}
 use Rattle.cxl_session.specs.State.{SessionState}
 use Rattle.cxl_session.specs.inner.Answering.{IsTurnFor}
+use Rattle.cxl_session.proofs.Acts.{untouched_by}
+use Rattle.cxl_session.proofs.Errors.{not_ok, at_any_err}
 use Rattle.cxl_session.proofs.Shows.{IsShown, HasRead, rows_stand, shown_turn, unread_turn, unnamed_turn}
 use Rattle.cxl_session.proofs.session.Session.show.Goals as goal
 
@@ -48,3 +51,66 @@ returns-in-Err-clause-turn g c = λ media.
     } in
     unread_turn c.live_regions_stay.ensures.region session c.args.name c.in-Some.place found rows is (g.R.Regs.state c.args.regs.now) (g.R.Regs.state c.read_rows.new.regs) media
     c.read_rows.ensures.same c.in-Err.ensures.cause
+
+pub returns-in_err-found-clause-turn : goal.returns-in_err-found-clause-turn
+returns-in_err-found-clause-turn g c = not_ok _ c.from_residual.result _ c.from_residual.ensures.1
+
+pub returns-in_err-found-clause-untouched : goal.returns-in_err-found-clause-untouched
+returns-in_err-found-clause-untouched g c = untouched_by (g.R.Regs.state c.args.regs.now) (g.R.Regs.state c.args.regs.now) refl
+
+pub returns-in_err-found-clause-memory : goal.returns-in_err-found-clause-memory
+returns-in_err-found-clause-memory g c = at_any_err c.from_residual.result _ refl
+
+pub returns-in_err-found-clause-counts : goal.returns-in_err-found-clause-counts
+returns-in_err-found-clause-counts g c = le_refl (g.R.Regs.state c.args.regs.now).faults
+
+pub returns-in_err-rows-clause-turn : goal.returns-in_err-rows-clause-turn
+returns-in_err-rows-clause-turn g c = not_ok _ c.from_residual-in_err-rows.result _ c.from_residual-in_err-rows.ensures.1
+
+pub returns-in_err-rows-clause-untouched : goal.returns-in_err-rows-clause-untouched
+returns-in_err-rows-clause-untouched g c = untouched_by (g.R.Regs.state c.args.regs.now) (g.R.Regs.state c.args.regs.now) refl
+
+pub returns-in_err-rows-clause-memory : goal.returns-in_err-rows-clause-memory
+returns-in_err-rows-clause-memory g c = at_any_err c.from_residual-in_err-rows.result _ refl
+
+pub returns-in_err-rows-clause-counts : goal.returns-in_err-rows-clause-counts
+returns-in_err-rows-clause-counts g c = le_refl (g.R.Regs.state c.args.regs.now).faults
+
+pub returns-in_err-room-clause-turn : goal.returns-in_err-room-clause-turn
+returns-in_err-room-clause-turn g c = not_ok _ c.from_residual-in_err-room.result _ c.from_residual-in_err-room.ensures.1
+
+pub returns-in_err-room-clause-untouched : goal.returns-in_err-room-clause-untouched
+returns-in_err-room-clause-untouched g c = untouched_by (g.R.Regs.state c.args.regs.now) (g.R.Regs.state c.args.regs.now) refl
+
+pub returns-in_err-room-clause-memory : goal.returns-in_err-room-clause-memory
+returns-in_err-room-clause-memory g c = at_any_err c.from_residual-in_err-room.result _ refl
+
+pub returns-in_err-room-clause-counts : goal.returns-in_err-room-clause-counts
+returns-in_err-room-clause-counts g c = le_refl (g.R.Regs.state c.args.regs.now).faults
+
+pub returns-in_default-clause-untouched : goal.returns-in_default-clause-untouched
+returns-in_default-clause-untouched g c = untouched_by (g.R.Regs.state c.args.regs.now) (g.R.Regs.state c.args.regs.now) refl
+
+pub returns-in_default-clause-memory : goal.returns-in_default-clause-memory
+returns-in_default-clause-memory g c = tt
+
+pub returns-in_default-clause-counts : goal.returns-in_default-clause-counts
+returns-in_default-clause-counts g c = le_refl (g.R.Regs.state c.args.regs.now).faults
+
+pub returns-in-Ok-clause-untouched : goal.returns-in-Ok-clause-untouched
+returns-in-Ok-clause-untouched g c = c.read_rows.ensures.same
+
+pub returns-in-Ok-clause-memory : goal.returns-in-Ok-clause-memory
+returns-in-Ok-clause-memory g c = tt
+
+pub returns-in-Ok-clause-counts : goal.returns-in-Ok-clause-counts
+returns-in-Ok-clause-counts g c = c.read_rows.ensures.counts
+
+pub returns-in-Err-clause-untouched : goal.returns-in-Err-clause-untouched
+returns-in-Err-clause-untouched g c = c.read_rows.ensures.same
+
+pub returns-in-Err-clause-memory : goal.returns-in-Err-clause-memory
+returns-in-Err-clause-memory g c = tt
+
+pub returns-in-Err-clause-counts : goal.returns-in-Err-clause-counts
+returns-in-Err-clause-counts g c = c.read_rows.ensures.counts
