@@ -10,7 +10,7 @@ use Rattle.std.proofs.lemmas.Cmp.{eq_by_cmp_equiv}
 use Rattle.std.proofs.lemmas.Bool.{cases_lt, cond-true, cond-false, false≢true, lt-ltb, le-ltb, le-leb, lt-leb}
 use Rattle.std.proofs.lemmas.List.FromFn.{get_or-map-range_with_len}
 use Rattle.cxl_model.specs.Contents.{Contents, content_at}
-use Rattle.cxl_machine.specs.Bytes.{byte_after, piece_after, written}
+use Rattle.cxl_bytes.specs.Bytes.{byte_after, piece_after, written}
 
 -- ---- a piece that is put
 

@@ -4,4 +4,4 @@
 mod ordering;
 mod regions;
 
-pub use regions::{LiveRegions, REGION_LIMIT};
+pub use regions::LiveRegions;

@@ -5,12 +5,10 @@ ghost use Rattle.cxl_live.specs.Apart.{LieApart};
 
 use crate::ordering::{BaseAt, bases_up_to, insert_by_base, order};
 use cxl_enc::Memory;
+use cxl_machine::REGION_LIMIT;
 use cxl_model::Found;
 use std::alloc::Global;
 use std::marker::Model;
-
-/// How many regions live at the most. (This project's rule.)
-pub const REGION_LIMIT: usize = 256;
 
 /// Live regions in the order in which they were made, with room for as many as may live. Contracts see them as their list.
 #[derive(Drop)]

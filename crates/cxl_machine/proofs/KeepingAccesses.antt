@@ -12,7 +12,7 @@ use Rattle.cxl_script.specs.declared.command.Store.{Store}
 use Rattle.cxl_script.specs.declared.command.Up.{Up}
 use Rattle.cxl_machine.specs.Machine.{Live, Machine, live_named, live_at, free_frames, with_contents, has_host}
 use Rattle.cxl_machine.specs.Outcomes.{BusOutcome, NoFault, Undone, LeftPending, ReadFailed, is_access, StoresBytes}
-use Rattle.cxl_machine.specs.Bytes.{AreBytes}
+use Rattle.cxl_bytes.specs.Bytes.{AreBytes}
 use Rattle.cxl_machine.specs.Replies.{Answer, within_region, ends_within}
 use Rattle.cxl_machine.specs.Accesses.{store_into, frames_wanted, AnswersUp, no_endpoint, told}
 use Rattle.cxl_machine.specs.Reports.{AnswersShow, AnswersPoison}

@@ -1,7 +1,6 @@
 pub mod Machine
 pub mod Jobs
 pub mod Outcomes
-pub mod Bytes
 pub mod Elsewhere
 pub mod Replies
 pub mod Accesses

@@ -6,6 +6,7 @@ mod counting;
 mod fault;
 mod keeping;
 mod laws;
+mod limits;
 mod pending;
 mod texts;
 
@@ -23,6 +24,7 @@ pub use laws::{
     jobs_have_one_list_of_writes, one_answer, only_short_replies_change, outcomes_show_in_replies,
     refusals_leave_the_machine, refusals_write_nothing, scripts_go_on,
 };
+pub use limits::REGION_LIMIT;
 pub use pending::{
     ended_jobs_leave_nothing, live_regions_stay, pending_jobs_settle, pending_regions_are_unmapped,
     words_pass_by_machines,

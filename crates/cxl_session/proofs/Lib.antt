@@ -6,7 +6,6 @@ pub mod Fronts
 pub mod Stays
 pub mod Holding
 pub mod Carrying
-pub mod ReadParts
 pub mod Held
 pub mod Downs
 pub mod Within
@@ -14,15 +13,10 @@ pub mod Loads
 pub mod Ranges
 pub mod Ups
 pub mod Poisons
-pub mod Putting
 pub mod Stores
 pub mod Sites
-pub mod Zipped
 pub mod LiveRegions
-pub mod Enabling
 pub mod Opened
-pub mod FewRegions
-pub mod AutoNames
 pub mod Zips
 pub mod Rearranged
 pub mod PendingJobs

@@ -16,7 +16,7 @@ use Rattle.cxl_machine.specs.Machine.{Live, Machine, region_window, image_of, pr
 use Rattle.cxl_machine.specs.Sound.{IsMachine}
 use Rattle.cxl_session.specs.State.{SessionState, image_in}
 use Rattle.cxl_session.specs.Standing.{IsKeptIn, StandsFor}
-use Rattle.cxl_session.proofs.Zipped.{there, zip_map}
+use Rattle.cxl_opening.proofs.Zipped.{there, zip_map}
 
 -- ---- what is known of live regions while a job is pending, and of kept routes
 

@@ -10,7 +10,6 @@ use Rattle.std.proofs.lemmas.List.{append-nil}
 use Rattle.std.proofs.lemmas.List.Elements.{All-map}
 use Rattle.std.proofs.lemmas.List.Sums.{sum_by-cons}
 use Rattle.std.proofs.lemmas.Option.{none-some}
-use Rattle.std.proofs.lemmas.Slice.Zip.{AllZip-long}
 use Rattle.cxl_enc.specs.Faults.{Rose}
 use Rattle.cxl_enc.specs.Limits.{frame_limit}
 use Rattle.cxl_regs.specs.Registers.{Registers}
@@ -39,10 +38,10 @@ use Rattle.cxl_model.specs.Listed.{region_limit}
 use Rattle.cxl_machine.specs.Sound.{IsMachine, Opens, auto_name, block_told, opened_region, enabled_blocks}
 use Rattle.cxl_session.specs.State.{SessionState}
 use Rattle.cxl_session.specs.Standing.{IsKeptIn, StandsFor, IsAt}
-use Rattle.cxl_session.specs.Opening.{endpoints_in, enabling, empty_media, IsHalfEnabled, HasRegions}
-use Rattle.cxl_session.specs.inner.Opened.{opened_machine, CanOpen, AreRoutesOf, StopsEnabling}
-use Rattle.cxl_session.proofs.Enabling.{enabled_all, endpoints_there, places_there}
-use Rattle.cxl_session.proofs.Zipped.{zip_weaker}
+use Rattle.cxl_opening.specs.Opening.{endpoints_in, enabling, empty_media, IsHalfEnabled, HasRegions}
+use Rattle.cxl_opening.specs.Opened.{opened_machine, CanOpen, AreRoutesOf, StopsEnabling}
+use Rattle.cxl_opening.proofs.Enabling.{enabled_all, endpoints_there, places_there}
+use Rattle.cxl_opening.proofs.Zipped.{zip_weaker}
 
 -- ---- regions that are opened
 
@@ -175,9 +174,6 @@ opened_stands lies topo windows start image regions founds names kepts is enable
       kept = routes_kept s topo.frames regions lies is kepts (subst (λ (blocks : List Registers). AreRoutesOf (system_of blocks topo windows) regions kepts) enabled routes);
       job = tt;
     }
-
-pub routes_long : (s : System) (founds : List Found) (kepts : List KeptFields) → AreRoutesOf s founds kepts → length kepts ≡ length founds
-routes_long s founds kepts routes = AllZip-long (λ (found : Found) (kept : KeptFields). (w : WindowFields) → IsRegionIn s w found → IsKept s w found kept) founds kepts routes
 
 -- ---- on the bus
 

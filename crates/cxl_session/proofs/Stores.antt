@@ -4,7 +4,7 @@ use Rattle.std.specs.Prelude.{unwrap_or, replicate, nat_lt, nat_le, Contains}
 use Rattle.std.specs.FinMap as fin
 use Rattle.std.specs.List.Sorted.{IsPermutation}
 use Rattle.std.specs.Str.{bytes_eq}
-use Rattle.std.proofs.lemmas.Bool.{cond-true, cond-false, lt-ltb, le-ltb, leb-true, and_parts}
+use Rattle.std.proofs.lemmas.Bool.{cond-true, cond-false, lt-ltb, le-ltb, leb-true, and_parts, false≢true}
 use Rattle.std.proofs.lemmas.List.{length-append, length-take, length-drop, take_all, take-append-drop}
 use Rattle.std.proofs.lemmas.List.Sorted.{IsPermutation-sym, IsPermutation-map, IsPermutation-append_left}
 use Rattle.cxl_script.specs.declared.command.Store.{Store}
@@ -21,9 +21,9 @@ use Rattle.cxl_move.specs.Holdings.{told_in, AreHoldings}
 use Rattle.cxl_reply.specs.declared.reply.Reply.{Reply}
 use Rattle.cxl_reply.specs.declared.reply.Reply.TheVariants as replies
 use Rattle.cxl_machine.specs.Accesses.{offset_in, frames_wanted, store_into}
-use Rattle.cxl_machine.specs.Bytes.{AreBytes, piece_after, written}
+use Rattle.cxl_bytes.specs.Bytes.{AreBytes, piece_after, written}
 use Rattle.cxl_machine.specs.Machine.{Live, Machine, live_at, has_host, region_window, holding_of, under_release, kept_regions, free_frames, with_contents}
-use Rattle.cxl_machine.specs.Replies.{Answer, stays, becomes, ends_within}
+use Rattle.cxl_machine.specs.Replies.{Answer, stays, becomes, ends_within, is_refusal}
 use Rattle.cxl_machine.specs.Sound.{block_told}
 use Rattle.cxl_machine.proofs.KeepingBytes.{IsUncounted, uncounted}
 use Rattle.cxl_machine.proofs.KeepingLists.{changed, HaveOwnNames}
@@ -33,11 +33,11 @@ use Rattle.cxl_machine.proofs.LiveRegions.{live_is_region}
 use Rattle.cxl_session.specs.State.{SessionState}
 use Rattle.cxl_session.specs.Standing.{HoldsMemory}
 use Rattle.cxl_session.specs.inner.Answering.{HoldsMachine, IsWrittenAs}
-use Rattle.cxl_session.specs.inner.Storing.{need_at, IsPut, PutsOne, PutsTwo}
-use Rattle.cxl_session.specs.inner.Storing as puts
+use Rattle.cxl_bytes.specs.Puts.{need_at, IsPut, PutsOne, PutsTwo}
+use Rattle.cxl_bytes.specs.Puts as puts
 use Rattle.cxl_session.proofs.Fronts.{at_front, front_with, own_again, own_changed}
 use Rattle.cxl_session.proofs.Holding.{CountLaw, holdings_of, are_holdings, holdings_again, media_again, holds_next, contains_map, live_kept}
-use Rattle.cxl_session.proofs.Putting.{put_over, written_one, written_two, one_new, two_new}
+use Rattle.cxl_bytes.proofs.WrittenPieces.{put_over, written_one, written_two, one_new, two_new}
 use Rattle.cxl_session.proofs.Stays.{stands_with}
 
 -- the laws that these rest on
@@ -299,3 +299,13 @@ module _ (laws : StoreLaws) (session : SessionState) (old : MediaState) (m : Mac
     stored_two (puts.both_stored between room one two told) =
         is_stored new reply (need_at old ep dpa + need_at old other place) two_wanted room (both_hold between one two) (told ∙ ap replies.Stored (sym both_long))
     stored_two (puts.both_full short same told) = is_full new reply (need_at old ep dpa + need_at old other place) two_wanted short same told
+
+-- ---- a store that is refused
+
+pub refused_one : (ep dpa : ℕ) (bytes : List ℕ) (old new : MediaState) (reply : Reply) → PutsOne ep dpa bytes old new reply → is_refusal reply ≡ true → new ≡ old
+refused_one ep dpa bytes old new reply (puts.stored room put told) refuses = absurd (false≢true (sym (ap is_refusal told) ∙ refuses))
+refused_one ep dpa bytes old new reply (puts.full short same told) refuses = same
+
+pub refused_two : (ep dpa other place : ℕ) (front back : List ℕ) (old new : MediaState) (reply : Reply) → PutsTwo ep dpa front other place back old new reply → is_refusal reply ≡ true → new ≡ old
+refused_two ep dpa other place front back old new reply (puts.both_stored between room one two told) refuses = absurd (false≢true (sym (ap is_refusal told) ∙ refuses))
+refused_two ep dpa other place front back old new reply (puts.both_full short same told) refuses = same

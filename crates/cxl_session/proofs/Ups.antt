@@ -17,7 +17,7 @@ use Rattle.cxl_machine.specs.Accesses.{TellsHost, carried, unmapped}
 use Rattle.cxl_machine.proofs.Deciding.{contains_at, at_contains}
 use Rattle.cxl_session.specs.State.{SessionState}
 use Rattle.cxl_session.specs.Standing.{StandsFor}
-use Rattle.cxl_session.specs.inner.Parts.{IsWovenIn}
+use Rattle.cxl_bytes.specs.Woven.{IsWovenIn}
 use Rattle.cxl_session.specs.inner.Places.{StandsAt}
 use Rattle.cxl_session.proofs.Places.{within, as_many, stands_at}
 use Rattle.cxl_session.proofs.Within.{found_is, name_is}

@@ -1,5 +1,4 @@
 pub mod State
 pub mod Inside
 pub mod Standing
-pub mod Opening
 pub mod inner

@@ -1,9 +1,6 @@
 pub mod Places
 pub mod Answering
-pub mod Opened
-pub mod Parts
 pub mod Pairs
-pub mod Storing
 pub mod Regions
 pub mod Rows
 pub mod Requests

@@ -13,9 +13,8 @@ ghost use Rattle.cxl_session.specs.Standing.{StandsFor, IsKeptIn};
 ghost use Rattle.cxl_session.specs.inner.Answering.{StandsSomehow, IsReadFor};
 
 use crate::endpoints::endpoints_by_slot;
-use crate::parts::load_bytes;
 use crate::session::Session;
-use crate::upward::carried_address;
+use cxl_bytes::{carried_address, load_bytes};
 use cxl_deal::deal;
 use cxl_enc::{FixedList, Memory, Name};
 use cxl_media::Media;

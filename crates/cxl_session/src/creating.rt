@@ -26,9 +26,8 @@ use crate::session::Session;
 use cxl_apply::{Job, create_commits_its_rows, regions_stay_after_a_create};
 use cxl_bus::Regs;
 use cxl_enc::Memory;
-use cxl_live::REGION_LIMIT;
 use cxl_machine::{
-    asked_creates_begin_as_machines, creates_are_legal, jobs_have_one_list_of_writes,
+    REGION_LIMIT, asked_creates_begin_as_machines, creates_are_legal, jobs_have_one_list_of_writes,
 };
 use cxl_media::Media;
 use cxl_model::{Host, Plan};

@@ -8,7 +8,6 @@ mod creating;
 mod endpoints;
 mod located;
 mod opening;
-mod parts;
 mod pending;
 mod regions;
 mod reports;
@@ -17,7 +16,6 @@ mod rows;
 mod session;
 mod showing;
 mod storing;
-mod upward;
 
 pub use cxl_check::Breach;
 pub use cxl_machine::OpenFault;

@@ -1,47 +1,36 @@
 //! How a session opens on a register image.
 
-ghost use Rattle.std.specs.Prelude.{◌≡◌, ◌⊎◌, ℕ, ◌<◌, ◌≤◌, length, All, option_map, map, decimal, IfOk, IfErr, OnOk, OnErr};
+ghost use Rattle.std.specs.Prelude.{◌≡◌, ◌⊎◌, ℕ, ◌<◌, ◌≤◌, length, All, option_map, map, IfOk, IfErr, OnOk};
 ghost use Rattle.std.specs.List.{range_with_len};
 ghost use Rattle.std.specs.Vec.{vec_capacity};
-ghost use Rattle.cxl_enc.specs.Faults.{Rose, HasCause, LeavesCount};
-ghost use Rattle.cxl_window.specs.Windows.{AreMadeWith};
-ghost use Rattle.cxl_regs.specs.Blocks.{IsPlace};
-ghost use Rattle.cxl_bus.specs.Trail.{blocks_sent, trail_with};
+ghost use Rattle.cxl_enc.specs.Faults.{Rose, LeavesCount};
 ghost use Rattle.cxl_image.specs.Images.{HasCapsOf};
+ghost use Rattle.cxl_window.specs.Windows.{AreMadeWith};
 ghost use Rattle.cxl_check.specs.declared.fault.Breach.{Breach};
 ghost use Rattle.cxl_model.specs.Accepted.{IsFirstBreach, HasFirstBreach};
+ghost use Rattle.cxl_model.specs.Listed.{region_limit};
 ghost use Rattle.cxl_model.specs.Regions.{IsRegion};
 ghost use Rattle.cxl_model.specs.System.{system_of, bridge_uids};
 ghost use Rattle.cxl_machine.specs.Machine.{Machine};
-ghost use Rattle.cxl_model.specs.Listed.{region_limit};
 ghost use Rattle.cxl_machine.specs.Sound.{IsMachine, Opens, auto_name, enabled_blocks};
-ghost use Rattle.cxl_session.specs.Opening.{endpoints_in, enabling, ArePoweredOn, empty_media, IsHalfEnabled, IsRefusedImage, HasRegions};
+ghost use Rattle.cxl_opening.specs.Opening.{endpoints_in, enabling, ArePoweredOn, empty_media, IsHalfEnabled, IsRefusedImage, HasRegions};
+ghost use Rattle.cxl_opening.specs.Opened.{opened_machine, CanOpen, AreRoutesOf};
 ghost use Rattle.cxl_session.specs.Standing.{StandsFor, IsAt};
-ghost use Rattle.cxl_session.specs.inner.Opened.{opened_machine, CanOpen, AreRoutesOf, StopsEnabling};
 
 use crate::session::Session;
 use cxl_bus::Regs;
-use cxl_check::{CheckFault, check};
-use cxl_enc::{Failed, Memory, Name};
+use cxl_enc::{Memory, Name};
 use cxl_image::Image;
 use cxl_legal::ports_are_bytes;
-use cxl_live::{LiveRegions, REGION_LIMIT};
+use cxl_live::LiveRegions;
 use cxl_machine::{OpenFault, openings_are_machines};
-use cxl_media::{Media, Roll};
-use cxl_model::{
-    Found, accepted_image_is_system, accepted_or_breach, regions_are_listed, regions_lie_in_windows,
-};
-use cxl_regs::writes_keep_places;
+use cxl_media::Roll;
+use cxl_model::{Found, regions_lie_in_windows};
+use cxl_opening::{auto_names, enable_endpoints, enabled, powered_on, regions_to_open, routes_of};
 use cxl_topo::Topo;
 use cxl_walk::Kept;
 use cxl_window::Window;
 use std::alloc::Global;
-
-/// What a write to an endpoint's global control holds to enable decoding, and its offset there. (CXL HDM decoder global
-/// control.)
-const DECODE: u32 = 2;
-
-const GLOBAL_CONTROL: u32 = 4;
 
 impl Session {
     /// Starts a session from a register image: powers registers and media on, and lets each endpoint decode. The image's
@@ -144,114 +133,6 @@ impl Session {
     }
 }
 
-// ---- what it opens on
-
-/// The regions of an image, no more than may live; or why no session opens on it. Takes memory.
-fn regions_to_open(
-    alloc: Global,
-    topo: &Topo,
-    windows: &[Window],
-    start: &Image,
-) -> Result<Vec<Found>, OpenFault>
-    requires { AreMadeWith windows.now (bridge_uids topo.now.nodes) }
-    ensures opens { IfOk result (λ regions. CanOpen (system_of start.now topo.now windows.now) regions.items) }
-    ensures breach { (b : Breach) → result ≡ Err (OpenFault.Breach b)
-        → IsFirstBreach (system_of start.now topo.now windows.now) b.rule b.node b.decoder }
-    ensures breached { HasFirstBreach (system_of start.now topo.now windows.now)
-        → (result ≡ Err OpenFault.Memory) ⊎ ((b : Breach) × (result ≡ Err (OpenFault.Breach b))) }
-    ensures full { (n : ℕ) → result ≡ Err (OpenFault.Full n)
-        → HasRegions (system_of start.now topo.now windows.now) n × (region_limit < n) }
-    ensures filled { (n : ℕ) → HasRegions (system_of start.now topo.now windows.now) n → region_limit < n
-        → (result ≡ Err OpenFault.Memory) ⊎ (result ≡ Err (OpenFault.Full n)) }
-    ensures no_bus { result ≡ Err OpenFault.Bus → ⊥ }
-{
-    accepted_or_breach();
-    regions_are_listed();
-    regions_lie_in_windows();
-    let founds = match check(alloc, start, topo, windows) {
-        Ok(founds) => founds,
-        Err(CheckFault::Breach(breach)) => return Err(OpenFault::Breach(breach)),
-        Err(CheckFault::Memory) => return Err(OpenFault::Memory),
-    };
-    accepted_image_is_system(start, topo, windows);
-    if founds.len() > REGION_LIMIT {
-        return Err(OpenFault::Full(founds.len() as u32));
-    }
-    Ok(founds)
-}
-
-/// The endpoints by number. Takes memory.
-fn endpoints_of(alloc: Global, topo: &Topo) -> Result<Vec<u32>, Memory>
-    ensures { IfOk result (λ endpoints. endpoints.items ≡ endpoints_in topo.now.nodes) }
-{
-    let endpoints = (0..topo.count())
-        .filter(|node| topo.is_endpoint(*node))
-        .collect(alloc)?;
-    Ok(endpoints)
-}
-
-/// Powers registers and media on, and tells the endpoints that are to decode then. Takes memory.
-fn powered_on<R: Regs, M: Media>(
-    alloc: Global,
-    topo: &Topo,
-    start: &Image,
-    regs: &mut R,
-    media: &mut M,
-) -> Result<Vec<u32>, Memory>
-    ensures endpoints { IfOk result (λ endpoints. endpoints.items ≡ endpoints_in topo.now.nodes) }
-    ensures powered { OnOk result (ArePoweredOn start.now (R.state regs.old) (R.state regs.new)
-        × (M.state media.new ≡ empty_media topo.now.frames)) }
-    // After want of memory each is as before, or as powering it on left it.
-    ensures memory { OnErr result
-        (((R.state regs.new ≡ R.state regs.old) ⊎ ArePoweredOn start.now (R.state regs.old) (R.state regs.new))
-        × ((M.state media.new ≡ M.state media.old) ⊎ (M.state media.new ≡ empty_media topo.now.frames))) }
-    ensures counts { (R.state regs.old).faults ≤ (R.state regs.new).faults }
-    ensures alone { (R.state regs.new).counts_failures_alone ≡ (R.state regs.old).counts_failures_alone }
-    // A fault is not swallowed.
-    ensures unswallowed { OnOk result
-        (LeavesCount (R.state regs.old).counts_failures_alone (R.state regs.old).faults (R.state regs.new).faults) }
-{
-    let endpoints = endpoints_of(alloc, topo)?;
-    regs.power_on(alloc, start.blocks())?;
-    media.power_on(alloc, topo.frames())?;
-    Ok(endpoints)
-}
-
-// ---- decoding is enabled
-
-/// The image in which these endpoints decode.
-fn enabled(mut image: Image, endpoints: &[u32]) -> Image
-    requires { All (λ node. node < length image) endpoints.now }
-    ensures { result ≡ blocks_sent image (enabling endpoints.now) }
-{
-    for node in endpoints {
-        image.write32(*node, GLOBAL_CONTROL, DECODE);
-    }
-    image
-}
-
-/// Lets these endpoints decode, one after the other, until the bus fails.
-fn enable_endpoints<R: Regs>(endpoints: &[u32], regs: &mut R) -> Result<(), Failed>
-    requires { All (λ node. IsPlace (R.state regs.old).blocks node 4) endpoints.now }
-    ensures blocks { OnOk result ((R.state regs.new).blocks ≡ blocks_sent (R.state regs.old).blocks (enabling endpoints.now)) }
-    ensures words { OnOk result ((R.state regs.new).trail ≡ trail_with (R.state regs.old).trail (enabling endpoints.now)) }
-    ensures stopped { OnErr result (StopsEnabling endpoints.now (R.state regs.old) (R.state regs.new)) }
-    ensures cause { HasCause result (R.state regs.old).faults (R.state regs.new).faults }
-    ensures counts { (R.state regs.old).faults ≤ (R.state regs.new).faults }
-    ensures alone { (R.state regs.new).counts_failures_alone ≡ (R.state regs.old).counts_failures_alone }
-    // A fault is not swallowed.
-    ensures unswallowed { OnOk result
-        (LeavesCount (R.state regs.old).counts_failures_alone (R.state regs.old).faults (R.state regs.new).faults) }
-{
-    writes_keep_places();
-    for node in endpoints {
-        regs.write32(*node, GLOBAL_CONTROL, DECODE)?;
-    }
-    Ok(())
-}
-
-// ---- what a session keeps of its regions, with room for as many as may live
-
 /// The regions that are live from the opening on, as a session keeps them.
 #[derive(Drop)]
 struct OpenedRegions {
@@ -285,53 +166,4 @@ fn opened_regions(
         founds,
         kepts,
     })
-}
-
-/// The names of so many regions. Takes memory.
-fn auto_names(alloc: Global, count: usize) -> Result<Vec<Name>, Memory>
-    requires { count ≤ region_limit }
-    ensures names { IfOk result (λ names. names.items ≡ map auto_name (range_with_len 0 count)) }
-    ensures room { IfOk result (λ names. region_limit ≤ vec_capacity names) }
-{
-    let mut names = Vec::with_capacity(alloc, REGION_LIMIT)?;
-    for i in 0..count {
-        let name = auto_name(alloc, i as u32)?;
-        names.push_reserved(name);
-    }
-    Ok(names)
-}
-
-/// The name of the region that is opened as this one. Takes memory.
-fn auto_name(alloc: Global, i: u32) -> Result<Name, Memory>
-    requires { i < region_limit }
-    ensures { IfOk result (λ name. name ≡ auto_name i) }
-{
-    let text = format!(in alloc; "auto{i}")?;
-    match Name::read(text.as_bytes()) {
-        Some(name) => Ok(name),
-        None => unreachable!(),
-    }
-}
-
-/// The routes of regions of an image. Takes memory.
-fn routes_of(
-    alloc: Global,
-    image: &Image,
-    topo: &Topo,
-    windows: &[Window],
-    founds: &[Found],
-) -> Result<Vec<Kept>, Memory>
-    requires caps { HasCapsOf image.now topo.now.nodes }
-    requires made { AreMadeWith windows.now (bridge_uids topo.now.nodes) }
-    requires regions { All (IsRegion (system_of image.now topo.now windows.now)) founds.now }
-    requires few { length founds.now ≤ region_limit }
-    ensures routes { IfOk result (λ kepts. AreRoutesOf (system_of image.now topo.now windows.now) founds.now kepts.items) }
-    ensures room { IfOk result (λ kepts. region_limit ≤ vec_capacity kepts) }
-{
-    let mut kepts = Vec::with_capacity(alloc, REGION_LIMIT)?;
-    for found in founds {
-        let kept = Kept::new(alloc, image, topo, windows, found)?;
-        kepts.push_reserved(kept);
-    }
-    Ok(kepts)
 }

@@ -12,22 +12,22 @@ ghost use Rattle.cxl_model.specs.System.{System, IsSystem};
 ghost use Rattle.cxl_model.specs.Regions.{IsRegionIn, Carries};
 ghost use Rattle.cxl_reply.specs.declared.reply.Reply.{Reply};
 ghost use Rattle.cxl_machine.specs.Machine.{Live, Machine, live_at, region_window};
-ghost use Rattle.cxl_machine.specs.Bytes.{AreBytes};
+ghost use Rattle.cxl_bytes.specs.Bytes.{AreBytes};
 ghost use Rattle.cxl_machine.specs.Replies.{is_refusal, ends_within};
 ghost use Rattle.cxl_machine.specs.Accesses.{offset_in, store_answer, store_into};
 ghost use Rattle.cxl_session.specs.State.{SessionState};
 ghost use Rattle.cxl_session.specs.inner.Answering.{HoldsMachine, HoldsSome, IsWrittenAs, IsWrittenFor};
-ghost use Rattle.cxl_session.specs.inner.Storing.{need_at, IsPut, PutsOne, PutsTwo};
+ghost use Rattle.cxl_bytes.specs.Puts.{PutsOne, PutsTwo};
 
-use crate::parts::{DeviceByte, bytes_lie_in_pieces, device_byte, first_part};
 use crate::session::Session;
-use cxl_media::{Full, Media};
+use cxl_bytes::{bytes_lie_in_pieces, device_byte, first_part, put_one, put_two};
+use cxl_media::Media;
 use cxl_model::{regions_lie_in_windows, weaves_fill_their_regions};
 use cxl_move::{
     blocks_are_pieces, blocks_hold_their_pieces, pieces_are_carried_to_blocks,
     put_pieces_are_contents,
 };
-use cxl_reply::{Lack, Reply};
+use cxl_reply::Reply;
 use cxl_script::Store;
 
 impl Session {
@@ -56,55 +56,6 @@ impl Session {
         let second = device_byte(found, weave, store.h + front.len() as u64);
         put_two(media, first, front, second, back)
     }
-}
-
-/// Puts bytes into one block, where the frame that it needs is free.
-fn put_one<M: Media>(media: &mut M, byte: DeviceByte, bytes: &[u8]) -> Reply
-    requires { IsInOneBlock byte.dpa (length bytes.now) }
-    ensures puts { PutsOne byte.ep byte.dpa bytes.now (M.state media.old) (M.state media.new) result }
-    ensures refused { is_refusal result ≡ true → M.state media.new ≡ M.state media.old }
-{
-    match media.put(byte.ep, byte.dpa, bytes) {
-        Ok(()) => Reply::Stored(bytes.len() as u32),
-        Err(Full) => Reply::Full(Lack { need: 1, free: 0 }),
-    }
-}
-
-/// Puts bytes into two blocks, where the frames that both need are free.
-fn put_two<M: Media>(
-    media: &mut M,
-    first: DeviceByte,
-    front: &[u8],
-    second: DeviceByte,
-    back: &[u8],
-) -> Reply
-    requires front { IsInOneBlock first.dpa (length front.now) }
-    requires back { IsInOneBlock second.dpa (length back.now) }
-    requires apart { key_of first.ep first.dpa ≢ key_of second.ep second.dpa }
-    ensures puts { PutsTwo first.ep first.dpa front.now second.ep second.dpa back.now (M.state media.old)
-        (M.state media.new) result }
-    ensures refused { is_refusal result ≡ true → M.state media.new ≡ M.state media.old }
-{
-    let need = media.need(first.ep, first.dpa) + media.need(second.ep, second.dpa);
-    let free = media.free();
-    if need > free {
-        return Reply::Full(Lack { need, free });
-    }
-    put_in_block(media, first, front);
-    put_in_block(media, second, back);
-    Reply::Stored((front.len() + back.len()) as u32)
-}
-
-/// Puts bytes into a block for which a frame is free, where it needs one.
-fn put_in_block<M: Media>(media: &mut M, byte: DeviceByte, bytes: &[u8])
-    requires within { IsInOneBlock byte.dpa (length bytes.now) }
-    requires room { need_at (M.state media.old) byte.ep byte.dpa ≤ (M.state media.old).free }
-    ensures put { IsPut byte.ep byte.dpa bytes.now (M.state media.old) (M.state media.new) }
-    ensures taken { (M.state media.new).free + need_at (M.state media.old) byte.ep byte.dpa
-        ≡ (M.state media.old).free }
-{
-    // The frame that is needed is free, so it is put.
-    let _put = media.put(byte.ep, byte.dpa, bytes);
 }
 
 /// A law of stores: where bytes of a live region are put into the block of their piece, or in two parts into those of two

@@ -24,7 +24,7 @@ use Rattle.cxl_model.specs.System.{System, IsSystem, system_of, bridge_uids}
 use Rattle.cxl_regs.specs.Registers.{Registers}
 use Rattle.cxl_script.specs.Grammar.{IsRanged}
 use Rattle.cxl_script.specs.declared.command.Command.{Command}
-use Rattle.cxl_session.specs.Opening.{ArePoweredOn, IsHalfEnabled, HasRegions, empty_media}
+use Rattle.cxl_opening.specs.Opening.{ArePoweredOn, IsHalfEnabled, HasRegions, empty_media}
 use Rattle.cxl_session.specs.Standing.{StandsFor, ForEachMachine}
 use Rattle.cxl_session.specs.State.{SessionState, image_in}
 use Rattle.cxl_topo.specs.Tree.{Tree}

@@ -11,7 +11,7 @@ use Rattle.cxl_model.specs.declared.found.Found.{Found}
 use Rattle.cxl_regs.specs.Reading.{has_range}
 use Rattle.cxl_regs.specs.Registers.{Registers, reset_decoder}
 use Rattle.cxl_regs.specs.declared.reading.Range.{Range}
-use Rattle.cxl_session.specs.Opening.{HasRegions}
+use Rattle.cxl_opening.specs.Opening.{HasRegions}
 use Rattle.cxl_topo.specs.Tree.{Tree}
 use Rattle.cxl_topo.specs.declared.node.Node.{Node}
 use Rattle.cxl_commands.specs.inputs.ResetHost.{reset_host_of}

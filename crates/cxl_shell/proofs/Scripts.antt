@@ -23,7 +23,7 @@ use Rattle.cxl_machine.specs.declared.fault.OpenFault.TheVariants as faults
 use Rattle.cxl_model.specs.Accepted.{IsAccepted}
 use Rattle.cxl_model.specs.System.{System, system_of, bridge_uids}
 use Rattle.cxl_regs.specs.Registers.{Registers}
-use Rattle.cxl_session.specs.Opening.{endpoints_in, enabling, ArePoweredOn, empty_media, IsHalfEnabled, IsRefusedImage, HasRegions}
+use Rattle.cxl_opening.specs.Opening.{endpoints_in, enabling, ArePoweredOn, empty_media, IsHalfEnabled, IsRefusedImage, HasRegions}
 use Rattle.cxl_session.specs.State.{SessionState}
 use Rattle.cxl_topo.specs.Tree.{Tree}
 use Rattle.cxl_topo.specs.declared.node.Node.{Node}

@@ -9,7 +9,7 @@ use Rattle.cxl_machine.specs.Scripts.{Asked, Turn, lines_asked}
 use Rattle.cxl_machine.specs.Sound.{IsSound}
 use Rattle.cxl_machine.specs.Turns.{machine_after, text_of, words_sent, faults_told}
 use Rattle.cxl_reply.specs.Replies.{reply_text}
-use Rattle.cxl_session.specs.Opening.{endpoints_in, enabling}
+use Rattle.cxl_opening.specs.Opening.{endpoints_in, enabling}
 use Rattle.cxl_topo.specs.declared.node.Node.{Node}
 use Rattle.cxl_turns.specs.Endings.{AreFirstLines, StopsReading, IsCutBehind}
 use Rattle.cxl_turns.specs.declared.endings.Ending.{Ending}

@@ -5,7 +5,7 @@ ghost use Rattle.cxl_io.specs.Reader.{script_limit};
 ghost use Rattle.cxl_io.specs.Sink.{Takes};
 ghost use Rattle.cxl_model.specs.System.{System};
 ghost use Rattle.cxl_regs.specs.Registers.{Registers};
-ghost use Rattle.cxl_session.specs.Opening.{IsHalfEnabled, empty_media};
+ghost use Rattle.cxl_opening.specs.Opening.{IsHalfEnabled, empty_media};
 ghost use Rattle.cxl_topo.specs.Tree.{Tree};
 ghost use Rattle.cxl_shell.specs.Completeness.{HasReadOut, HasMadeAll};
 ghost use Rattle.cxl_commands.specs.Ends.{IsWritten, IsCutShort, IsStopped};

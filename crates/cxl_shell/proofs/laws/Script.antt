@@ -15,7 +15,7 @@ use Rattle.cxl_model.specs.System.{System}
 use Rattle.cxl_model.proofs.CountingTrees.{KnownTree}
 use Rattle.cxl_model.proofs.SpansListed.{one_list}
 use Rattle.cxl_regs.specs.Registers.{Registers}
-use Rattle.cxl_session.specs.Opening.{IsHalfEnabled, empty_media}
+use Rattle.cxl_opening.specs.Opening.{IsHalfEnabled, empty_media}
 use Rattle.cxl_topo.specs.Faults.{IsTree}
 use Rattle.cxl_topo.specs.Laws.{AreTreeLaws}
 use Rattle.cxl_topo.specs.Tree.{Tree}

@@ -6,7 +6,7 @@ use Rattle.cxl_model.specs.Accepted.{HasFirstBreach}
 use Rattle.cxl_model.specs.System.{System}
 use Rattle.cxl_reply.specs.Words.{line}
 use Rattle.cxl_reply.specs.declared.reply.Reply.{Reply}
-use Rattle.cxl_session.specs.Opening.{HasRegions}
+use Rattle.cxl_opening.specs.Opening.{HasRegions}
 use Rattle.cxl_turns.specs.Counts.{counts_of}
 use Rattle.cxl_turns.specs.declared.counts.Counts.{Counts}
 use Rattle.cxl_commands.specs.Outcome.{Outcome, one_piece}

@@ -10,7 +10,7 @@ use Rattle.cxl_model.specs.Accepted.{IsAccepted}
 use Rattle.cxl_model.specs.System.{System}
 use Rattle.cxl_regs.specs.Registers.{Registers}
 use Rattle.cxl_reply.specs.Words.{line}
-use Rattle.cxl_session.specs.Opening.{ArePoweredOn, IsHalfEnabled, HasRegions, empty_media}
+use Rattle.cxl_opening.specs.Opening.{ArePoweredOn, IsHalfEnabled, HasRegions, empty_media}
 use Rattle.cxl_topo.specs.Tree.{Tree}
 use Rattle.cxl_turns.specs.declared.endings.Ending.{Ending}
 use Rattle.cxl_turns.specs.declared.endings.Ending.TheVariants as endings

@@ -7,7 +7,7 @@ use Rattle.cxl_machine.specs.Scripts.{Asked, Turn}
 use Rattle.cxl_machine.specs.Sound.{IsMachine, Opens}
 use Rattle.cxl_machine.specs.Turns.{AreTurns}
 use Rattle.cxl_model.specs.System.{System}
-use Rattle.cxl_session.specs.Opening.{HasRegions}
+use Rattle.cxl_opening.specs.Opening.{HasRegions}
 use Rattle.cxl_shell.specs.Devices.{Devices}
 use Rattle.cxl_shell.specs.Endings.{HasCarriedOut, EndsScript}
 use Rattle.cxl_commands.specs.Ends.{Ends}

@@ -11,8 +11,8 @@ use Rattle.cxl_machine.specs.declared.fault.OpenFault.TheVariants as faults
 use Rattle.cxl_machine.specs.Sound.{enabled_blocks}
 use Rattle.cxl_model.specs.Accepted.{IsFirstBreach}
 use Rattle.cxl_model.specs.System.{System, system_of, bridge_uids}
-use Rattle.cxl_session.specs.Opening.{endpoints_in, enabling, HasRegions}
-use Rattle.cxl_session.specs.inner.Opened.{opened_machine, CanOpen, StopsEnabling}
+use Rattle.cxl_opening.specs.Opening.{endpoints_in, enabling, HasRegions}
+use Rattle.cxl_opening.specs.Opened.{opened_machine, CanOpen, StopsEnabling}
 use Rattle.cxl_session.proofs.Opened.{at_ok, at_err, opens_so, image_is, half_is, places_are, opened_is_at, same_fault, trail_from_none, memory_not_breach, memory_not_full, memory_not_bus, bus_not_breach, bus_not_full, bus_not_memory, ok_not_err, rose_after, uncrowded}
 use Rattle.cxl_session.proofs.session.Session.open.Goals as goal
 

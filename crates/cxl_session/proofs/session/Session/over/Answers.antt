@@ -9,9 +9,10 @@ use Rattle.cxl_model.specs.Listed.{region_limit}
 use Rattle.cxl_model.specs.declared.found.Found.{Found}
 use Rattle.cxl_model.specs.Regions.{IsRegion}
 use Rattle.cxl_model.specs.System.{System, system_of, bridge_uids}
-use Rattle.cxl_session.specs.inner.Opened.{AreRoutesOf}
-use Rattle.cxl_session.proofs.Enabling.{endpoints_there}
-use Rattle.cxl_session.proofs.Opened.{machine_is, image_is, caps_are, regions_are, opened_stands, routes_long}
+use Rattle.cxl_opening.specs.Opened.{AreRoutesOf}
+use Rattle.cxl_opening.proofs.Enabling.{endpoints_there}
+use Rattle.cxl_opening.proofs.Routes.{routes_long}
+use Rattle.cxl_session.proofs.Opened.{machine_is, image_is, caps_are, regions_are, opened_stands}
 use Rattle.cxl_session.proofs.session.Session.over.Goals as goal
 
 pub enabled-image-requires : goal.enabled-image-requires

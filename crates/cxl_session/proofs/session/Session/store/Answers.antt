@@ -9,9 +9,9 @@ use Rattle.cxl_machine.specs.Machine.{Machine, region_window}
 use Rattle.cxl_machine.specs.Accesses.{offset_in}
 use Rattle.cxl_window.specs.Fields.{WindowFields}
 use Rattle.cxl_session.specs.State.{SessionState}
-use Rattle.cxl_session.specs.inner.Storing.{PutsOne}
+use Rattle.cxl_bytes.specs.Puts.{PutsOne}
 use Rattle.cxl_session.proofs.Sites.{site, region_carries, store_written}
-use Rattle.cxl_session.proofs.Stores.{one_fits, cut_is, cut_ends}
+use Rattle.cxl_session.proofs.Stores.{one_fits, cut_is, cut_ends, refused_one, refused_two}
 use Rattle.cxl_session.proofs.Within.{found_within, kept_within}
 use Rattle.cxl_session.proofs.session.Session.store.Goals as goal
 
@@ -102,7 +102,7 @@ returns-then-is_empty-clause-answer g c = λ m holds.
     (let fits = one_fits bytes front back offset c.first_part.result c.first_part.ensures c.split_at.ensures.front c.split_at.ensures.back none in omega (arith, fits, long)) in
     let old : MediaState = g.M.Media.state c.args.media.now in
     let new : MediaState = g.M.Media.state c.put_one.new.media in
-    let puts = subst (λ (xs : List ℕ). PutsOne c.device_byte-first.result.ep c.device_byte-first.result.dpa xs old new c.put_one.result) c.items-bytes.ensures c.put_one.ensures.puts in
+    let puts = subst (λ (xs : List ℕ). PutsOne c.device_byte-first.result.ep c.device_byte-first.result.dpa xs old new c.put_one.result) c.items-bytes.ensures c.put_one.ensures in
     store_written m store found weave here session new c.put_one.result
     (c.parts_are_answers.ensures.one session old new m store here.region c.device_byte-first.result.ep c.device_byte-first.result.dpa c.put_one.result holds here.there here.fits c.requires.ranged.2
     (region_carries m store found weave here store.h c.device_byte-first.result.ep c.device_byte-first.result.dpa carries) within puts)
@@ -239,7 +239,7 @@ returns-clause-answer g c = λ m holds.
     (c.parts_are_answers.ensures.two session old new m store here.region c.device_byte-first.result.ep c.device_byte-first.result.dpa c.device_byte-second.result.ep c.device_byte-second.result.dpa front back
     c.put_two.result holds here.there here.fits c.requires.ranged.2 cut (sym (ap (λ (k : ℕ). k + length front) same) ∙ ends) some c.requires.ranged.1
     (region_carries m store found weave here store.h c.device_byte-first.result.ep c.device_byte-first.result.dpa carries)
-    (region_carries m store found weave here (store.h + length front) c.device_byte-second.result.ep c.device_byte-second.result.dpa further) c.put_two.ensures.puts)
+    (region_carries m store found weave here (store.h + length front) c.device_byte-second.result.ep c.device_byte-second.result.dpa further) c.put_two.ensures)
 
 pub found_at-found-requires : goal.found_at-found-requires
 found_at-found-requires g c =
@@ -301,3 +301,9 @@ device_byte-second-requires-clause-below g c =
     let both : length bytes ≡ length front + length back = ap (λ (xs : List ℕ). length xs) (cut_is bytes front back offset c.first_part.result c.first_part.ensures c.split_at.ensures.front c.split_at.ensures.back) ∙ length-append front back in
     let ends = here.ends in
     omega (arith, some, both, long, ends)
+
+pub returns-then-is_empty-clause-refused : goal.returns-then-is_empty-clause-refused
+returns-then-is_empty-clause-refused g c = refused_one _ _ _ _ _ _ c.put_one.ensures
+
+pub returns-clause-refused : goal.returns-clause-refused
+returns-clause-refused g c = refused_two _ _ _ _ _ _ _ _ _ c.put_two.ensures

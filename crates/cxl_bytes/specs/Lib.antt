@@ -1,0 +1,3 @@
+pub mod Bytes
+pub mod Woven
+pub mod Puts

@@ -1,0 +1,5 @@
+pub mod Zipped
+pub mod Enabling
+pub mod FewRegions
+pub mod AutoNames
+pub mod Routes

@@ -1,0 +1,30 @@
+use Rattle.std.proofs.Common.{◌<◌, List, ℕ, length, ap, ◌∙◌, arith}
+use Rattle.std.proofs.lemmas.List.{take_all}
+use Rattle.cxl_bus.specs.Trail.{blocks_sent, trail_with}
+use Rattle.cxl_opening.specs.Opening.{enabling}
+use Rattle.cxl_opening.proofs.Enabling.{enabled_none, enabled_more}
+use Rattle.cxl_opening.proofs.endpoints.enable_endpoints.Goals as goal
+
+pub loop-node-init : goal.loop-node-init
+loop-node-init g c = enabled_none c.args.endpoints.now (g.R.Regs.state c.args.regs.now)
+
+pub write32-requires : goal.write32-requires
+write32-requires g c =
+    let low : c.loop-node.node-index < length c.args.endpoints.now = omega arith in
+    c.loop-node.invariant.places _ _ (c.requires c.loop-node.node-index 0 low)
+
+pub loop-node-preserved : goal.loop-node-preserved
+loop-node-preserved g c =
+    let low : c.loop-node.node-index < length c.args.endpoints.now = omega arith in
+    enabled_more c.args.endpoints.now c.loop-node.node-index (g.R.Regs.state c.args.regs.now) (g.R.Regs.state c.loop-node.regs) (g.R.Regs.state c.write32.new.self) low c.loop-node.invariant
+    c.in_ok-write32.ensures.written c.in_ok-write32.ensures.sent c.write32.ensures.counts c.write32.ensures.alone c.in_ok-write32.ensures.unswallowed c.writes_keep_places.ensures
+
+pub returns-clause-blocks : goal.returns-clause-blocks
+returns-clause-blocks g c =
+    c.loop-node.invariant.blocks
+    ∙ ap (λ (nodes : List ℕ). blocks_sent (g.R.Regs.state c.args.regs.now).blocks (enabling nodes)) (take_all c.loop-node.node-index c.args.endpoints.now (omega arith))
+
+pub returns-clause-words : goal.returns-clause-words
+returns-clause-words g c =
+    c.loop-node.invariant.words
+    ∙ ap (λ (nodes : List ℕ). trail_with (g.R.Regs.state c.args.regs.now).trail (enabling nodes)) (take_all c.loop-node.node-index c.args.endpoints.now (omega arith))

@@ -1,0 +1,70 @@
+//! What a session keeps of the regions with which it opens, with room for as many as may live: their names and routes.
+
+ghost use Rattle.std.specs.Prelude.{◌≡◌, ◌<◌, ◌≤◌, length, All, map, IfOk};
+ghost use Rattle.std.specs.List.{range_with_len};
+ghost use Rattle.std.specs.Vec.{vec_capacity};
+ghost use Rattle.cxl_image.specs.Images.{HasCapsOf};
+ghost use Rattle.cxl_window.specs.Windows.{AreMadeWith};
+ghost use Rattle.cxl_model.specs.Listed.{region_limit};
+ghost use Rattle.cxl_model.specs.Regions.{IsRegion};
+ghost use Rattle.cxl_model.specs.System.{system_of, bridge_uids};
+ghost use Rattle.cxl_machine.specs.Sound.{auto_name};
+ghost use Rattle.cxl_opening.specs.Opened.{AreRoutesOf};
+
+use cxl_enc::{Memory, Name};
+use cxl_image::Image;
+use cxl_machine::REGION_LIMIT;
+use cxl_model::Found;
+use cxl_topo::Topo;
+use cxl_walk::Kept;
+use cxl_window::Window;
+use std::alloc::Global;
+
+/// The names of so many regions. Takes memory.
+pub fn auto_names(alloc: Global, count: usize) -> Result<Vec<Name>, Memory>
+    requires { count ≤ region_limit }
+    ensures names { IfOk result (λ names. names.items ≡ map auto_name (range_with_len 0 count)) }
+    ensures room { IfOk result (λ names. region_limit ≤ vec_capacity names) }
+{
+    let mut names = Vec::with_capacity(alloc, REGION_LIMIT)?;
+    for i in 0..count {
+        let name = auto_name(alloc, i as u32)?;
+        names.push_reserved(name);
+    }
+    Ok(names)
+}
+
+/// The name of the region that is opened as this one. Takes memory.
+fn auto_name(alloc: Global, i: u32) -> Result<Name, Memory>
+    requires { i < region_limit }
+    ensures { IfOk result (λ name. name ≡ auto_name i) }
+{
+    let text = format!(in alloc; "auto{i}")?;
+    match Name::read(text.as_bytes()) {
+        Some(name) => Ok(name),
+        None => unreachable!(),
+    }
+}
+
+/// The routes of regions of an image. Takes memory.
+pub fn routes_of(
+    alloc: Global,
+    image: &Image,
+    topo: &Topo,
+    windows: &[Window],
+    founds: &[Found],
+) -> Result<Vec<Kept>, Memory>
+    requires caps { HasCapsOf image.now topo.now.nodes }
+    requires made { AreMadeWith windows.now (bridge_uids topo.now.nodes) }
+    requires regions { All (IsRegion (system_of image.now topo.now windows.now)) founds.now }
+    requires few { length founds.now ≤ region_limit }
+    ensures routes { IfOk result (λ kepts. AreRoutesOf (system_of image.now topo.now windows.now) founds.now kepts.items) }
+    ensures room { IfOk result (λ kepts. region_limit ≤ vec_capacity kepts) }
+{
+    let mut kepts = Vec::with_capacity(alloc, REGION_LIMIT)?;
+    for found in founds {
+        let kept = Kept::new(alloc, image, topo, windows, found)?;
+        kepts.push_reserved(kept);
+    }
+    Ok(kepts)
+}
