@@ -1,23 +1,25 @@
 -- How a run of `check` ends.
 use Rattle.std.proofs.Common.{◌≡◌, Some, List, ℕ, [], ◌∷◌, Err, refl, subst}
 use Rattle.cxl_cedt.specs.CedtFields.{CedtFields}
+use Rattle.cxl_inputs.specs.Ends.{Finishes}
+use Rattle.cxl_inputs.specs.File.{AsksForSome}
+use Rattle.cxl_inputs.specs.Host.{host_of, AreRead, HasNoHost, no_host, by_host}
+use Rattle.cxl_inputs.specs.Stop.{IsStop}
+use Rattle.cxl_inputs.specs.declared.status.Status.{Status}
+use Rattle.cxl_inputs.specs.declared.stop.Stop.{Stop}
+use Rattle.cxl_inputs.proofs.Stops.{stop-weaker}
 use Rattle.cxl_io.specs.Fetch.{AsksFor}
 use Rattle.cxl_model.specs.System.{system_of, bridge_uids}
 use Rattle.cxl_regs.specs.Registers.{Registers}
 use Rattle.cxl_topo.specs.Tree.{Tree}
 use Rattle.cxl_window.specs.Fields.{WindowFields}
 use Rattle.cxl_window.specs.Windows.{windows_of}
-use Rattle.cxl_commands.specs.Answers.{IsOutcomeByFiles, IsStop}
-use Rattle.cxl_commands.specs.Ends.{Finishes}
+use Rattle.cxl_commands.specs.Answers.{IsOutcomeByFiles}
 use Rattle.cxl_commands.specs.Form.{Check}
 use Rattle.cxl_commands.specs.Outside.{Outside}
 use Rattle.cxl_commands.specs.RunByFiles.{IsRunByFiles, runs_out, before, behind}
-use Rattle.cxl_commands.specs.declared.status.Status.{Status}
-use Rattle.cxl_commands.specs.declared.stop.Stop.{Stop}
 use Rattle.cxl_commands.specs.inner.Reports.{IsReported, ended, cut, unmade}
-use Rattle.cxl_commands.specs.inputs.File.{AsksForSome}
-use Rattle.cxl_commands.specs.inputs.Host.{host_of, AreRead, HasNoHost, no_host, by_host}
-use Rattle.cxl_commands.proofs.Stops.{stop-weaker, run-ended, run-finished}
+use Rattle.cxl_commands.proofs.Stops.{run-ended, run-finished}
 
 module _ (cedt topo image : List ℕ) (old new : Outside) (status : Status) where
   reported : (table : CedtFields) (tree : Tree) (blocks : List Registers) → AreRead old.files.told cedt topo image table tree blocks → AsksFor old.files new.files (cedt ∷ topo ∷ image ∷ []) → IsReported (host_of table tree blocks) status old.out new.out → IsRunByFiles (Check cedt topo image) old new status

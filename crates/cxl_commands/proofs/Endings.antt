@@ -1,14 +1,21 @@
 -- How a run ends, whatever it was asked: what is written where memory ran out, and outcomes that are fixed.
 use Rattle.std.proofs.Common.{◌≡◌, ◌⊎◌, false, List, ℕ, subst, inl, inr}
 use Rattle.cxl_cedt.specs.CedtFields.{CedtFields}
+use Rattle.cxl_inputs.specs.Ends.{IsWritten, IsCutShort, Ends}
+use Rattle.cxl_inputs.specs.Host.{host_of}
+use Rattle.cxl_inputs.specs.Host as hosts
+use Rattle.cxl_inputs.specs.Outcome.{Outcome}
+use Rattle.cxl_inputs.specs.ResetHost.{reset_host_of}
+use Rattle.cxl_inputs.specs.ResetHost as resets
+use Rattle.cxl_inputs.specs.Table as tables
+use Rattle.cxl_inputs.specs.declared.status.Status.{Status}
+use Rattle.cxl_inputs.specs.declared.status.Status.TheVariants.{Memory}
 use Rattle.cxl_model.specs.System.{System}
 use Rattle.cxl_regs.specs.Registers.{Registers}
 use Rattle.cxl_script.specs.declared.command.Create.{Create}
 use Rattle.cxl_topo.specs.Tree.{Tree}
 use Rattle.cxl_commands.specs.Answers.{IsOutcomeByFiles, IsTableAnswer, IsResetAnswer, IsHostAnswer, IsPlainAnswer}
-use Rattle.cxl_commands.specs.Ends.{IsWritten, IsCutShort, Ends}
 use Rattle.cxl_commands.specs.Form.{Form, OfTable, OfResetHost, OfHost, OfWords, has_many_pieces, takes_memory}
-use Rattle.cxl_commands.specs.Outcome.{Outcome}
 use Rattle.cxl_commands.specs.Outside.{Outside}
 use Rattle.cxl_commands.specs.RunByFiles.{RunsOut, before, behind, IsRunByFiles, writes, is_cut, runs_out}
 use Rattle.cxl_commands.specs.commands.Plan.{IsPlanned, plan_told, refusal_told}
@@ -22,13 +29,6 @@ use Rattle.cxl_commands.specs.declared.form.TableAsk.{TableAsk}
 use Rattle.cxl_commands.specs.declared.form.TableAsk.TheVariants as table_asks
 use Rattle.cxl_commands.specs.declared.form.WordsAsk.{WordsAsk}
 use Rattle.cxl_commands.specs.declared.form.WordsAsk.TheVariants as plain_asks
-use Rattle.cxl_commands.specs.declared.status.Status.{Status}
-use Rattle.cxl_commands.specs.declared.status.Status.TheVariants.{Memory}
-use Rattle.cxl_commands.specs.inputs.Host.{host_of}
-use Rattle.cxl_commands.specs.inputs.Host as hosts
-use Rattle.cxl_commands.specs.inputs.ResetHost.{reset_host_of}
-use Rattle.cxl_commands.specs.inputs.ResetHost as resets
-use Rattle.cxl_commands.specs.inputs.Table as tables
 use Rattle.cxl_commands.proofs.Pieces.{IsOnePiece, nothing_taken, nothing_of, no_table_is_one, no_reset_host_is_one, no_host_is_one}
 use Rattle.cxl_commands.proofs.Runs.{Came, memory_left}
 

@@ -2,10 +2,6 @@ pub mod Results
 pub mod Holders
 pub mod WordCounts
 pub mod Stops
-pub mod Tables
-pub mod Topologies
-pub mod Images
-pub mod Hosts
 pub mod Planned
 pub mod InBlocks
 pub mod ListLines

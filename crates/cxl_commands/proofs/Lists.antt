@@ -1,19 +1,22 @@
 -- How a run of `list` ends.
 use Rattle.std.proofs.Common.{◌≡◌, List, ℕ, [], ◌∷◌, Err, refl}
 use Rattle.cxl_cedt.specs.CedtFields.{CedtFields}
+use Rattle.cxl_inputs.specs.Ends.{Ends, Finishes}
+use Rattle.cxl_inputs.specs.File.{AsksForSome}
+use Rattle.cxl_inputs.specs.Stop.{IsStop}
+use Rattle.cxl_inputs.specs.Table.{IsTableOf, HasNoTable, no_table, by_table}
+use Rattle.cxl_inputs.specs.declared.status.Status.{Status}
+use Rattle.cxl_inputs.specs.declared.status.Status.TheVariants.{Memory}
+use Rattle.cxl_inputs.specs.declared.stop.Stop.{Stop}
+use Rattle.cxl_inputs.proofs.Stops.{stop-weaker}
 use Rattle.cxl_io.specs.Fetch.{AsksFor}
-use Rattle.cxl_commands.specs.Answers.{IsOutcomeByFiles, IsStop}
-use Rattle.cxl_commands.specs.Ends.{Ends, IsBehind, Finishes}
+use Rattle.cxl_commands.specs.Answers.{IsOutcomeByFiles}
+use Rattle.cxl_commands.specs.Stopped.{IsBehind}
 use Rattle.cxl_commands.specs.Form.{Listing}
 use Rattle.cxl_commands.specs.Outside.{Outside}
 use Rattle.cxl_commands.specs.RunByFiles.{IsRunByFiles, runs_out, behind}
 use Rattle.cxl_commands.specs.commands.List.{listed}
-use Rattle.cxl_commands.specs.declared.status.Status.{Status}
-use Rattle.cxl_commands.specs.declared.status.Status.TheVariants.{Memory}
-use Rattle.cxl_commands.specs.declared.stop.Stop.{Stop}
-use Rattle.cxl_commands.specs.inputs.File.{AsksForSome}
-use Rattle.cxl_commands.specs.inputs.Table.{IsTableOf, HasNoTable, no_table, by_table}
-use Rattle.cxl_commands.proofs.Stops.{stop-weaker, run-ended, run-finished}
+use Rattle.cxl_commands.proofs.Stops.{run-ended, run-finished}
 
 module _ (file : List ℕ) (old new : Outside) (status : Status) where
   listed-answers : (table : CedtFields) → IsTableOf (old.files.told file) table → AsksFor old.files new.files (file ∷ []) → IsOutcomeByFiles (Listing file) old.files new.files (listed table.records)

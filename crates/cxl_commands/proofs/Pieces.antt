@@ -2,18 +2,18 @@
 use Rattle.std.proofs.Common.{◌≡◌, ℕ, zero, suc, ◌<◌, List, [], ◌∷◌, take, sym, ap, subst, ◌∙◌, arith}
 use Rattle.std.specs.List.{concat}
 use Rattle.std.proofs.lemmas.List.{append-nil}
+use Rattle.cxl_inputs.specs.File.{HasNoBytes, not_read, not_small}
+use Rattle.cxl_inputs.specs.Host as hosts
+use Rattle.cxl_inputs.specs.Image as images
+use Rattle.cxl_inputs.specs.Outcome.{Outcome, whole_text, one_piece}
+use Rattle.cxl_inputs.specs.ResetHost as resets
+use Rattle.cxl_inputs.specs.Table as tables
+use Rattle.cxl_inputs.specs.Topology as trees
+use Rattle.cxl_inputs.specs.declared.status.Status.{Status}
 use Rattle.cxl_io.specs.Fetch.{FetchState}
 use Rattle.cxl_io.specs.Sink.{SinkState, Takes}
 use Rattle.cxl_topo.specs.declared.node.Node.{Node}
-use Rattle.cxl_commands.specs.Ends.{IsBehind}
-use Rattle.cxl_commands.specs.Outcome.{Outcome, whole_text, one_piece}
-use Rattle.cxl_commands.specs.declared.status.Status.{Status}
-use Rattle.cxl_commands.specs.inputs.File.{HasNoBytes, not_read, not_small}
-use Rattle.cxl_commands.specs.inputs.Host as hosts
-use Rattle.cxl_commands.specs.inputs.Image as images
-use Rattle.cxl_commands.specs.inputs.ResetHost as resets
-use Rattle.cxl_commands.specs.inputs.Table as tables
-use Rattle.cxl_commands.specs.inputs.Topology as trees
+use Rattle.cxl_commands.specs.Stopped.{IsBehind}
 use Rattle.cxl_commands.proofs.Stops.{told-nothing_more}
 
 pub record IsOnePiece (outcome : Outcome) : Type 0 where

@@ -3,6 +3,8 @@ use Rattle.std.proofs.Common.{◌≡◌, ℕ, Some, List, [], ◌∷◌, Result,
 use Rattle.cxl_cedt.specs.CedtFields.{CedtFields}
 use Rattle.cxl_enc.specs.declared.faults.Memory.{Memory}
 use Rattle.cxl_image.specs.Images.{reset_blocks}
+use Rattle.cxl_inputs.specs.Outcome.{Outcome}
+use Rattle.cxl_inputs.specs.ResetHost.{AreBothRead, by_reset_host}
 use Rattle.cxl_io.specs.Fetch.{FetchState, AsksFor}
 use Rattle.cxl_model.specs.System.{System, system_of, bridge_uids}
 use Rattle.cxl_model.specs.declared.plan.Plan.{Plan}
@@ -15,9 +17,7 @@ use Rattle.cxl_window.specs.Fields.{WindowFields}
 use Rattle.cxl_window.specs.Windows.{windows_of}
 use Rattle.cxl_commands.specs.Answers.{IsOutcomeByFiles}
 use Rattle.cxl_commands.specs.Form as forms
-use Rattle.cxl_commands.specs.Outcome.{Outcome}
 use Rattle.cxl_commands.specs.commands.Plan.{plan_outcome, refusal_outcome, IsPlanned, plan_told, refusal_told}
-use Rattle.cxl_commands.specs.inputs.ResetHost.{AreBothRead, by_reset_host}
 
 module _ (s : System) (create : Create) where
   -- what is made of a plan, and of a refusal

@@ -6,6 +6,18 @@ use Rattle.cxl_cedt.specs.Table.{IsTableText, FirstTableFault}
 use Rattle.cxl_cedt.specs.declared.fault.CedtFault.{CedtFault}
 use Rattle.cxl_image.specs.File.{IsImageFile, IsFirstImageFault}
 use Rattle.cxl_image.specs.declared.fault.ImageFault.{ImageFault}
+use Rattle.cxl_inputs.specs.Ends.{IsWritten}
+use Rattle.cxl_inputs.specs.Host as hosts
+use Rattle.cxl_inputs.specs.Image.{IsImageReading, IsFaultyImage, IsFaultyImageFile}
+use Rattle.cxl_inputs.specs.Image as images
+use Rattle.cxl_inputs.specs.Outcome.{Outcome}
+use Rattle.cxl_inputs.specs.ResetHost as resets
+use Rattle.cxl_inputs.specs.Table.{IsReading, IsFaulty}
+use Rattle.cxl_inputs.specs.Table as tables
+use Rattle.cxl_inputs.specs.Topology.{IsTreeReading, IsFaultyTree, IsTreeOf}
+use Rattle.cxl_inputs.specs.Topology as trees
+use Rattle.cxl_inputs.specs.declared.status.Status.{Status}
+use Rattle.cxl_inputs.specs.declared.status.Status.TheVariants.{BadTable, BadTopo, BadImage, Memory}
 use Rattle.cxl_io.specs.Told.{Bytes}
 use Rattle.cxl_regs.specs.Registers.{Registers}
 use Rattle.cxl_topo.specs.Tree.{Tree}
@@ -14,9 +26,8 @@ use Rattle.cxl_topofile.specs.File.{IsTopologyFile, IsFirstTopoFault}
 use Rattle.cxl_topofile.specs.declared.fault.TopoFault.{TopoFault}
 use Rattle.cxl_topofile.specs.declared.fault.TopoFault.TheVariants as faults
 use Rattle.cxl_commands.specs.Answers.{IsOutcomeByFiles, IsTableAnswer, IsAnswerBy}
-use Rattle.cxl_commands.specs.Ends.{IsWritten, IsStopped}
+use Rattle.cxl_commands.specs.Stopped.{IsStopped}
 use Rattle.cxl_commands.specs.Form.{Form, OfTable, OfResetHost, OfHost, OfWords, table_file, topology_file, image_file}
-use Rattle.cxl_commands.specs.Outcome.{Outcome}
 use Rattle.cxl_commands.specs.Outside.{Outside}
 use Rattle.cxl_commands.specs.Readings.{KnowsTable, KnowsTree, KnowsImage, Readings, ByTable, ByTree, ByHost, AreKnown}
 use Rattle.cxl_commands.specs.RunByFiles.{IsRunByFiles, writes, is_cut, runs_out}
@@ -24,16 +35,6 @@ use Rattle.cxl_commands.specs.declared.form.HostAsk.{HostAsk}
 use Rattle.cxl_commands.specs.declared.form.ResetAsk.{ResetAsk}
 use Rattle.cxl_commands.specs.declared.form.TableAsk.{TableAsk}
 use Rattle.cxl_commands.specs.declared.form.TableAsk.TheVariants as table_asks
-use Rattle.cxl_commands.specs.declared.status.Status.{Status}
-use Rattle.cxl_commands.specs.declared.status.Status.TheVariants.{BadTable, BadTopo, BadImage, Memory}
-use Rattle.cxl_commands.specs.inputs.Host as hosts
-use Rattle.cxl_commands.specs.inputs.ResetHost as resets
-use Rattle.cxl_commands.specs.inputs.Image.{IsImageReading, IsFaultyImage, IsFaultyImageFile}
-use Rattle.cxl_commands.specs.inputs.Image as images
-use Rattle.cxl_commands.specs.inputs.Table.{IsReading, IsFaulty}
-use Rattle.cxl_commands.specs.inputs.Table as tables
-use Rattle.cxl_commands.specs.inputs.Topology.{IsTreeReading, IsFaultyTree, IsTreeOf}
-use Rattle.cxl_commands.specs.inputs.Topology as trees
 use Rattle.cxl_commands.proofs.Routes.{one_route}
 use Rattle.cxl_commands.proofs.Steps.{same_bytes, HasOneReading, Step, faulty, read, unwritten, no_bytes_step, next_step, unless_before}
 

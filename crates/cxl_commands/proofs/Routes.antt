@@ -2,11 +2,11 @@
 use Rattle.std.proofs.Common.{◌≡◌, ℕ, Option, Some, None, Result, Ok, MatchOption, IfSome, IfOk, refl, ap, subst, ◌∙◌, sym, ◌⊎◌, inl, inr}
 use Rattle.std.proofs.lemmas.Result.{IfOk-weaker}
 use Rattle.cxl_cedt.specs.CedtFields.{CedtFields}
+use Rattle.cxl_inputs.specs.Outcome.{Outcome}
+use Rattle.cxl_inputs.specs.declared.status.Status.TheVariants.{Done, Refused}
 use Rattle.cxl_window.specs.Windows.{windows_of}
-use Rattle.cxl_commands.specs.Outcome.{Outcome}
 use Rattle.cxl_commands.specs.commands.Route.{IsSelection, IsNowhere, routed, no_window, IsRouted, to_bridge, nowhere}
 use Rattle.cxl_commands.specs.declared.commands.selection.Selection.{Selection}
-use Rattle.cxl_commands.specs.declared.status.Status.TheVariants.{Done, Refused}
 use Rattle.cxl_commands.proofs.Holders.{one_selection, selection_and_none}
 
 module _ (table : CedtFields) (h : ℕ) where

@@ -5,6 +5,21 @@ use Rattle.cxl_enc.specs.Faults.{Rose}
 use Rattle.cxl_cedt.specs.CedtFields.{CedtFields}
 use Rattle.cxl_cedt.specs.declared.fault.CedtFault.{CedtFault}
 use Rattle.cxl_image.specs.declared.fault.ImageFault.{ImageFault}
+use Rattle.cxl_inputs.specs.Ends.{IsWritten, IsCutShort}
+use Rattle.cxl_inputs.specs.File.{HasNoBytes, not_read, not_small, AsksForSome, HasFailed}
+use Rattle.cxl_inputs.specs.Host.{host_of, AreRead}
+use Rattle.cxl_inputs.specs.Host as hosts
+use Rattle.cxl_inputs.specs.Image.{IsFaultyImageFile}
+use Rattle.cxl_inputs.specs.Image as images
+use Rattle.cxl_inputs.specs.Outcome.{Outcome}
+use Rattle.cxl_inputs.specs.ResetHost.{reset_host_of, AreBothRead}
+use Rattle.cxl_inputs.specs.ResetHost as resets
+use Rattle.cxl_inputs.specs.Table.{IsTableOf, IsFaultyFile}
+use Rattle.cxl_inputs.specs.Table as tables
+use Rattle.cxl_inputs.specs.Topology.{IsTreeOf, IsFaultyTreeFile}
+use Rattle.cxl_inputs.specs.Topology as trees
+use Rattle.cxl_inputs.specs.declared.status.Status.{Status}
+use Rattle.cxl_inputs.specs.declared.status.Status.TheVariants.{Done, Usage, FetchFault, BadTable, BadTopo, WriteFault, Refused, Memory, BadImage, TooLarge}
 use Rattle.cxl_io.specs.Fetch.{AsksFor, IsTooLarge}
 use Rattle.cxl_regs.specs.Registers.{Registers}
 use Rattle.cxl_script.specs.declared.command.Create.{Create}
@@ -12,9 +27,7 @@ use Rattle.cxl_model.specs.System.{System}
 use Rattle.cxl_topo.specs.Tree.{Tree}
 use Rattle.cxl_topofile.specs.declared.fault.TopoFault.{TopoFault}
 use Rattle.cxl_commands.specs.Answers.{IsOutcomeByFiles, IsTableAnswer, IsResetAnswer, IsHostAnswer, IsAnswerBy}
-use Rattle.cxl_commands.specs.Ends.{IsWritten, IsCutShort}
 use Rattle.cxl_commands.specs.Form.{Form, OfTable, OfResetHost, OfHost, OfWords, Route, Check, Plan, Script, NoCreate, Help, Version, Unreadable, own_files, table_file, topology_file, image_file, takes_memory}
-use Rattle.cxl_commands.specs.Outcome.{Outcome}
 use Rattle.cxl_commands.specs.Outside.{Outside}
 use Rattle.cxl_commands.specs.Readings.{Readings, ByTable, ByTree, ByHost}
 use Rattle.cxl_commands.specs.RunByFiles.{RunsOut, before, behind, IsRunByFiles, writes, is_cut, runs_out}
@@ -30,19 +43,6 @@ use Rattle.cxl_commands.specs.declared.form.TableAsk.{TableAsk}
 use Rattle.cxl_commands.specs.declared.form.TableAsk.TheVariants as table_asks
 use Rattle.cxl_commands.specs.declared.form.WordsAsk.{WordsAsk}
 use Rattle.cxl_commands.specs.declared.form.WordsAsk.TheVariants as plain_asks
-use Rattle.cxl_commands.specs.declared.status.Status.{Status}
-use Rattle.cxl_commands.specs.declared.status.Status.TheVariants.{Done, Usage, FetchFault, BadTable, BadTopo, WriteFault, Refused, Memory, BadImage, TooLarge}
-use Rattle.cxl_commands.specs.inputs.File.{HasNoBytes, not_read, not_small, AsksForSome, HasFailed}
-use Rattle.cxl_commands.specs.inputs.Host.{host_of, AreRead}
-use Rattle.cxl_commands.specs.inputs.Host as hosts
-use Rattle.cxl_commands.specs.inputs.Image.{IsFaultyImageFile}
-use Rattle.cxl_commands.specs.inputs.Image as images
-use Rattle.cxl_commands.specs.inputs.ResetHost.{reset_host_of, AreBothRead}
-use Rattle.cxl_commands.specs.inputs.ResetHost as resets
-use Rattle.cxl_commands.specs.inputs.Table.{IsTableOf, IsFaultyFile}
-use Rattle.cxl_commands.specs.inputs.Table as tables
-use Rattle.cxl_commands.specs.inputs.Topology.{IsTreeOf, IsFaultyTreeFile}
-use Rattle.cxl_commands.specs.inputs.Topology as trees
 use Rattle.cxl_commands.proofs.Routes.{route_status}
 
 -- an outcome by a table has one of two statuses

@@ -2,14 +2,15 @@
 use Rattle.std.proofs.Common.{◌≡◌, ℕ, ◌<◌, ◌≤◌, ◌⊎◌, List, length, inl, inr, ap, subst, ◌∙◌, arith}
 use Rattle.cxl_enc.specs.Faults.{Rose}
 use Rattle.cxl_enc.specs.Limits.{file_limit}
+use Rattle.cxl_inputs.specs.Ends.{IsWritten}
+use Rattle.cxl_inputs.specs.File.{HasNoBytes, not_read, not_small}
+use Rattle.cxl_inputs.specs.Outcome.{Outcome}
+use Rattle.cxl_inputs.specs.declared.status.Status.{Status}
+use Rattle.cxl_inputs.specs.declared.status.Status.TheVariants.{FetchFault, TooLarge}
 use Rattle.cxl_io.specs.Fetch.{IsTooLarge}
 use Rattle.cxl_io.specs.Told.{Told, Untold, Absent, Bytes, AreTold}
-use Rattle.cxl_commands.specs.Ends.{IsWritten, IsUnwritten, IsStopped}
-use Rattle.cxl_commands.specs.Outcome.{Outcome}
+use Rattle.cxl_commands.specs.Stopped.{IsUnwritten, IsStopped}
 use Rattle.cxl_commands.specs.Outside.{Outside}
-use Rattle.cxl_commands.specs.declared.status.Status.{Status}
-use Rattle.cxl_commands.specs.declared.status.Status.TheVariants.{FetchFault, TooLarge}
-use Rattle.cxl_commands.specs.inputs.File.{HasNoBytes, not_read, not_small}
 
 -- the bytes are those that are known
 pub same_bytes : (told : Told) (bytes known : List ℕ) → AreTold told bytes → told ≡ Bytes known → bytes ≡ known

@@ -1,37 +1,20 @@
--- Commands that stop early, and how a run ends that writes what they give.
-use Rattle.std.proofs.Common.{◌≡◌, true, Option, Some, None, List, ℕ, [], ◌∷◌, Result, Ok, Err, IfErr, refl, sym, ap, subst, inl, inr}
+-- How a run ends that writes what a command gives, also one that stopped early.
+use Rattle.std.proofs.Common.{◌≡◌, true, Option, Some, None, List, [], Result, Ok, Err, refl, sym, ap, subst, inl, inr}
 use Rattle.std.proofs.lemmas.List.{append-nil}
+use Rattle.cxl_inputs.specs.Ends.{Ends, Finishes}
+use Rattle.cxl_inputs.specs.File.{AsksForSome}
+use Rattle.cxl_inputs.specs.Outcome.{Outcome}
+use Rattle.cxl_inputs.specs.Stop.{IsStop}
+use Rattle.cxl_inputs.specs.declared.status.Status.{Status}
+use Rattle.cxl_inputs.specs.declared.stop.Stop.{Stop}
+use Rattle.cxl_inputs.specs.declared.stop.Stop.TheVariants as stop
+use Rattle.cxl_inputs.proofs.Stops.{stop-weaker, stop-memory}
 use Rattle.cxl_io.specs.Fetch.{FetchState, AsksFor}
 use Rattle.cxl_io.specs.Told.{told_with}
-use Rattle.cxl_commands.specs.Answers.{IsOutcomeByFiles, IsStop, ComesTo}
-use Rattle.cxl_commands.specs.Ends.{Ends, Finishes}
+use Rattle.cxl_commands.specs.Answers.{IsOutcomeByFiles, ComesTo}
 use Rattle.cxl_commands.specs.Form.{Form, own_files, takes_memory}
-use Rattle.cxl_commands.specs.Outcome.{Outcome}
 use Rattle.cxl_commands.specs.Outside.{Outside}
 use Rattle.cxl_commands.specs.RunByFiles.{IsRunByFiles, writes, is_cut, runs_out, before}
-use Rattle.cxl_commands.specs.declared.status.Status.{Status}
-use Rattle.cxl_commands.specs.declared.stop.Stop.{Stop}
-use Rattle.cxl_commands.specs.declared.stop.Stop.TheVariants as stop
-use Rattle.cxl_commands.specs.inputs.File.{AsksForSome}
-
--- a stop of another kind
-pub stop-weaker : (P Q : Outcome → Type 0) (M N : Type 0) (reason : Stop) → ((o : Outcome) → P o → Q o) → (M → N) → IsStop P M reason → IsStop Q N reason
-stop-weaker P Q M N (stop.Outcome o) follows out is = follows o is
-stop-weaker P Q M N stop.Memory follows out is = out is
-
--- want of memory
-pub stop-memory : (P : Outcome → Type 0) (M : Type 0) (reason : Stop) → reason ≡ stop.Memory → M → IsStop P M reason
-stop-memory P M (stop.Outcome o) e out = absurd (cc)
-stop-memory P M stop.Memory e out = out
-
--- a call that stops as a step before it did
-pub stopped-behind : {A : Type 0} (P Q : Outcome → Type 0) (M N : Type 0) (answer : Result A Stop) (reason : Stop) → answer ≡ Err reason → ((o : Outcome) → P o → Q o) → (M → N) → IsStop P M reason → IfErr answer (IsStop Q N)
-stopped-behind P Q M N answer reason e follows out is =
-    subst (λ r. IfErr r (IsStop Q N)) (sym e) (stop-weaker P Q M N reason follows out is)
-
--- all of one file's names are asked for
-pub asks_one : (file : List ℕ) (old new : FetchState) → AsksFor old new (file ∷ []) → AsksForSome (file ∷ []) old new
-asks_one file old new asks = record { count = 1; asks = asks }
 
 module _ (form : Form) (old new : Outside) (status : Status) where
   pub run-ended : (outcome : Outcome) → IsOutcomeByFiles form old.files new.files outcome → Ends outcome status old.out new.out → IsRunByFiles form old new status

@@ -1,12 +1,17 @@
 -- Which outcome answers a form, by what the outside holds before it and after it.
 use Rattle.std.specs.Prelude.{◌≡◌, List, [], ◌∷◌, Result, Ok, Err}
 use Rattle.cxl_cedt.specs.CedtFields.{CedtFields}
-use Rattle.cxl_enc.specs.declared.faults.Memory.{Memory}
+use Rattle.cxl_inputs.specs.File.{AsksForSome}
+use Rattle.cxl_inputs.specs.Host.{host_of, IsByHost}
+use Rattle.cxl_inputs.specs.Outcome.{Outcome}
+use Rattle.cxl_inputs.specs.ResetHost.{reset_host_of, IsByResetHost}
+use Rattle.cxl_inputs.specs.Stop.{IsStop}
+use Rattle.cxl_inputs.specs.Table.{IsByTable}
+use Rattle.cxl_inputs.specs.declared.stop.Stop.{Stop}
 use Rattle.cxl_io.specs.Fetch.{FetchState, AsksFor}
 use Rattle.cxl_regs.specs.Registers.{Registers}
 use Rattle.cxl_topo.specs.Tree.{Tree}
 use Rattle.cxl_commands.specs.Form.{Form, OfTable, OfResetHost, OfHost, OfWords, own_files}
-use Rattle.cxl_commands.specs.Outcome.{Outcome}
 use Rattle.cxl_commands.specs.Outside.{Outside}
 use Rattle.cxl_commands.specs.Readings.{Readings, ByTable, ByTree, ByHost}
 use Rattle.cxl_commands.specs.commands.Check.{IsChecked}
@@ -24,12 +29,6 @@ use Rattle.cxl_commands.specs.declared.form.TableAsk.{TableAsk}
 use Rattle.cxl_commands.specs.declared.form.TableAsk.TheVariants as table_asks
 use Rattle.cxl_commands.specs.declared.form.WordsAsk.{WordsAsk}
 use Rattle.cxl_commands.specs.declared.form.WordsAsk.TheVariants as plain_asks
-use Rattle.cxl_commands.specs.declared.stop.Stop.{Stop}
-use Rattle.cxl_commands.specs.declared.stop.Stop.TheVariants as stop
-use Rattle.cxl_commands.specs.inputs.File.{AsksForSome}
-use Rattle.cxl_commands.specs.inputs.Host.{host_of, IsByHost}
-use Rattle.cxl_commands.specs.inputs.ResetHost.{reset_host_of, IsByResetHost}
-use Rattle.cxl_commands.specs.inputs.Table.{IsByTable}
 
 -- what is asked of a table comes to this
 abbrev pub IsTableAnswer : TableAsk → CedtFields → Outcome → Type 0
@@ -77,16 +76,6 @@ abbrev pub IsOutcomeOf : Form → Outside → Outside → Outcome → Type 0
 IsOutcomeOf form old new outcome = IsOutcomeByFiles form old.files new.files outcome
 
 -- ---- commands that stop early
-
--- what stops a command: an outcome of this kind, or want of memory, where `IsOut` says what holds
-abbrev pub IsStop : (Outcome → Type 0) → Type 0 → Stop → Type 0
-IsStop IsOutcome IsOut (stop.Outcome outcome) = IsOutcome outcome
-IsStop IsOutcome IsOut stop.Memory = IsOut
-
--- an outcome, unless there was no memory to make it
-abbrev pub stop_of : Result Outcome Memory → Stop
-stop_of (Ok outcome) = stop.Outcome outcome
-stop_of (Err memory) = stop.Memory
 
 -- a command gives an outcome that answers the form; or memory ran out behind the first of its files
 abbrev pub ComesTo : Form → FetchState → FetchState → Result Outcome Stop → Type 0

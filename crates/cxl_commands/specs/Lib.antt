@@ -1,15 +1,11 @@
-pub mod Exit
 pub mod Form
 pub mod Words
 pub mod Plain
-pub mod Outcome
-pub mod Text
 pub mod Outside
-pub mod inputs
 pub mod commands
 pub mod Readings
 pub mod Answers
-pub mod Ends
+pub mod Stopped
 pub mod RunByFiles
 pub mod inner
 pub use Rattle.cxl_enc.specs.Codes

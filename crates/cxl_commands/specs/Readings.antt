@@ -1,14 +1,14 @@
 -- What the files of a form are read as, where their bytes are known.
 use Rattle.std.specs.Prelude.{◌≡◌, ℕ, Some, None, List}
 use Rattle.cxl_cedt.specs.CedtFields.{CedtFields}
+use Rattle.cxl_inputs.specs.Image.{IsImageReading}
+use Rattle.cxl_inputs.specs.Table.{IsReading}
+use Rattle.cxl_inputs.specs.Topology.{IsTreeReading}
 use Rattle.cxl_io.specs.Told.{Told, Bytes}
 use Rattle.cxl_regs.specs.Registers.{Registers}
 use Rattle.cxl_topo.specs.Tree.{Tree}
 use Rattle.cxl_topo.specs.declared.node.Node.{Node}
 use Rattle.cxl_commands.specs.Form.{Form, table_file, topology_file, image_file}
-use Rattle.cxl_commands.specs.inputs.Table.{IsReading}
-use Rattle.cxl_commands.specs.inputs.Topology.{IsTreeReading}
-use Rattle.cxl_commands.specs.inputs.Image.{IsImageReading}
 
 -- the file with the table has these bytes
 pub record IsTableFile (form : Form) (told : List ℕ → Told) (bytes : List ℕ) : Type 0 where

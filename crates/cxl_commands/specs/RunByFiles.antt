@@ -1,14 +1,15 @@
 -- How a run comes to its end by its words and files alone.
 use Rattle.std.specs.Prelude.{◌≡◌, true, []}
+use Rattle.cxl_inputs.specs.Ends.{IsWritten, IsCutShort}
+use Rattle.cxl_inputs.specs.File.{AsksForSome}
+use Rattle.cxl_inputs.specs.Outcome.{Outcome}
+use Rattle.cxl_inputs.specs.declared.status.Status.{Status}
+use Rattle.cxl_inputs.specs.declared.status.Status.TheVariants.{Memory}
 use Rattle.cxl_io.specs.Sink.{Takes}
 use Rattle.cxl_commands.specs.Answers.{IsOutcomeOf}
-use Rattle.cxl_commands.specs.Ends.{IsWritten, IsCutShort, IsBehind}
+use Rattle.cxl_commands.specs.Stopped.{IsBehind}
 use Rattle.cxl_commands.specs.Form.{Form, own_files, takes_memory}
-use Rattle.cxl_commands.specs.Outcome.{Outcome}
 use Rattle.cxl_commands.specs.Outside.{Outside}
-use Rattle.cxl_commands.specs.declared.status.Status.{Status}
-use Rattle.cxl_commands.specs.declared.status.Status.TheVariants.{Memory}
-use Rattle.cxl_commands.specs.inputs.File.{AsksForSome}
 
 -- Memory ran out: before there was an outcome, and nothing is written; or behind whole pieces of an outcome that answers.
 pub data RunsOut (form : Form) (old new : Outside) : Type 0 where

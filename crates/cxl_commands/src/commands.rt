@@ -17,9 +17,7 @@ pub(crate) mod route;
 mod selection;
 
 use crate::form::{TableAsk, WordsAsk};
-use crate::outcome::Outcome;
-use crate::status::Status;
-use crate::stop::finish;
+use cxl_inputs::{Outcome, Status, finish};
 use cxl_io::{Fetch, Sink};
 use help::{helped, misused, version_told};
 use list::list;

@@ -1,12 +1,8 @@
-//! The commands of `cxlplan` that work by their words and files alone, and the files that every command reads.
+//! The commands of `cxlplan` that work by their words and files alone.
 #![tactic(auto)]
 
 mod commands;
 mod form;
-mod inputs;
-mod outcome;
-mod status;
-mod stop;
 
 pub use commands::check::{check, check_statuses, checked};
 pub use commands::help::{HELP, VERSION, help_statuses};
@@ -16,8 +12,3 @@ pub use commands::plan::{plan, plan_statuses};
 pub use commands::route::route_statuses;
 pub use commands::{of_table, said};
 pub use form::{Form, HostAsk, ResetAsk, TableAsk, WordsAsk, form_of};
-pub use inputs::host::{OwnedHost, fetch_host};
-pub use inputs::reset_host::fetch_reset_host;
-pub use outcome::Outcome;
-pub use status::Status;
-pub use stop::{Stop, finish};

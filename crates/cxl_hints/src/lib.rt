@@ -4,7 +4,7 @@
 mod files;
 mod words;
 
-use cxl_commands::Status;
+use cxl_inputs::Status;
 use std::alloc::Global;
 use std::io::{self, Eprint};
 use std::rt::Files;

@@ -4,6 +4,12 @@ use Rattle.std.proofs.Math.Seq.{take-length}
 use Rattle.cxl_cedt.specs.CedtFields.{CedtFields}
 use Rattle.cxl_cedt.specs.declared.fault.CedtFault.{CedtFault}
 use Rattle.cxl_image.specs.declared.fault.ImageFault.{ImageFault}
+use Rattle.cxl_inputs.specs.File.{AsksForSome}
+use Rattle.cxl_inputs.specs.Image.{IsImageOf}
+use Rattle.cxl_inputs.specs.Table.{IsTableOf, IsReading, IsFaulty}
+use Rattle.cxl_inputs.specs.Topology.{IsTreeOf, IsTreeReading, IsFaultyTree}
+use Rattle.cxl_inputs.specs.declared.status.Status.{Status}
+use Rattle.cxl_inputs.specs.declared.status.Status.TheVariants.{BadTable, BadTopo, BadImage}
 use Rattle.cxl_io.specs.Fetch.{AsksFor}
 use Rattle.cxl_io.specs.Told.{Told}
 use Rattle.cxl_model.specs.System.{System}
@@ -16,12 +22,6 @@ use Rattle.cxl_commands.specs.Readings.{KnowsTree}
 use Rattle.cxl_shell.specs.commands.Script.{IsStart}
 use Rattle.cxl_commands.specs.declared.form.HostAsk.TheVariants as host_asks
 use Rattle.cxl_commands.specs.declared.form.ResetAsk.TheVariants as reset_asks
-use Rattle.cxl_commands.specs.declared.status.Status.{Status}
-use Rattle.cxl_commands.specs.declared.status.Status.TheVariants.{BadTable, BadTopo, BadImage}
-use Rattle.cxl_commands.specs.inputs.File.{AsksForSome}
-use Rattle.cxl_commands.specs.inputs.Image.{IsImageOf}
-use Rattle.cxl_commands.specs.inputs.Table.{IsTableOf, IsReading, IsFaulty}
-use Rattle.cxl_commands.specs.inputs.Topology.{IsTreeOf, IsTreeReading, IsFaultyTree}
 use Rattle.cxl_shell.proofs.Lifted.{IsBehindFiles}
 use Rattle.cxl_commands.proofs.Readings.{HaveOneReading, ReadsImage, FailsImage}
 use Rattle.cxl_commands.proofs.Steps.{same_bytes, Step, read}

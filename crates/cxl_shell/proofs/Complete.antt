@@ -3,6 +3,10 @@ use Rattle.std.proofs.Common.{◌≡◌, ◌⊎◌, ℕ, ◌+◌, ◌≤◌, Opt
 use Rattle.std.specs.Option.{IsSomeAnd}
 use Rattle.cxl_enc.specs.Faults.{Rose}
 use Rattle.cxl_gen.specs.Made.{made_tree}
+use Rattle.cxl_inputs.specs.Ends.{IsWritten}
+use Rattle.cxl_inputs.specs.Outcome.{Outcome}
+use Rattle.cxl_inputs.specs.declared.status.Status.{Status}
+use Rattle.cxl_inputs.specs.declared.status.Status.TheVariants.{Done, BusFault, Refused, Memory}
 use Rattle.cxl_io.specs.Reader.{script_limit}
 use Rattle.cxl_io.specs.Source.{SourceState}
 use Rattle.cxl_io.specs.Told.{told_behind}
@@ -17,9 +21,7 @@ use Rattle.cxl_shell.specs.Completeness.{AreReadyFiles, IsReadyScript, IsReady, 
 use Rattle.cxl_shell.specs.Devices.{Devices}
 use Rattle.cxl_shell.specs.Endings.{HasCarriedOut, EndsScript, read_out, ending_cut, reply_cut, runs_out, EndsGen, told}
 use Rattle.cxl_shell.specs.Endings as endings_of
-use Rattle.cxl_commands.specs.Ends.{IsWritten}
 use Rattle.cxl_commands.specs.Form.{Form, OfTable, OfResetHost, OfHost, OfWords}
-use Rattle.cxl_commands.specs.Outcome.{Outcome}
 use Rattle.cxl_commands.specs.Outside.{Outside}
 use Rattle.cxl_commands.specs.RunByFiles.{IsRunByFiles, writes, is_cut}
 use Rattle.cxl_shell.specs.Run.{by_files, unready, unopened, opened, IsRun}
@@ -29,8 +31,6 @@ use Rattle.cxl_shell.specs.commands.Script.{IsStart, FailsToOpen, bus, memory}
 use Rattle.cxl_commands.specs.declared.form.HostAsk.TheVariants as host_asks
 use Rattle.cxl_commands.specs.declared.form.ResetAsk.TheVariants as reset_asks
 use Rattle.cxl_commands.specs.declared.form.WordsAsk.TheVariants as plain_asks
-use Rattle.cxl_commands.specs.declared.status.Status.{Status}
-use Rattle.cxl_commands.specs.declared.status.Status.TheVariants.{Done, BusFault, Refused, Memory}
 use Rattle.cxl_shell.proofs.Lifted.{no_session}
 use Rattle.cxl_commands.proofs.Readings.{HaveOneReading, answer_comes, unless_stopped}
 use Rattle.cxl_commands.proofs.Runs.{answer_status}

@@ -11,6 +11,13 @@ use Rattle.cxl_check.specs.declared.fault.Breach.{Breach}
 use Rattle.cxl_enc.specs.Faults.{Rose}
 use Rattle.cxl_gen.specs.Made.{made_table, made_tree, made_commands}
 use Rattle.cxl_image.specs.Images.{reset_blocks}
+use Rattle.cxl_inputs.specs.Ends.{Finishes}
+use Rattle.cxl_inputs.specs.Outcome.{Outcome}
+use Rattle.cxl_inputs.specs.ResetHost.{reset_host_of}
+use Rattle.cxl_inputs.specs.declared.status.Status.{Status}
+use Rattle.cxl_inputs.specs.declared.status.Status.TheVariants.{Memory}
+use Rattle.cxl_inputs.specs.declared.stop.Stop.{Stop}
+use Rattle.cxl_inputs.specs.declared.stop.Stop.TheVariants as stop
 use Rattle.cxl_io.specs.Fetch.{AsksFor}
 use Rattle.cxl_io.specs.Sink.{SinkState, Takes}
 use Rattle.cxl_machine.specs.Machine.{Machine, present, image_of}
@@ -35,20 +42,13 @@ use Rattle.cxl_turns.proofs.Counting.{AreCounted, left_counted}
 use Rattle.cxl_window.specs.Fields.{WindowFields}
 use Rattle.cxl_window.specs.Windows.{windows_of}
 use Rattle.cxl_shell.specs.Devices.{Devices}
-use Rattle.cxl_commands.specs.Ends.{Finishes}
 use Rattle.cxl_commands.specs.Form.{Gen}
-use Rattle.cxl_commands.specs.Outcome.{Outcome}
 use Rattle.cxl_commands.specs.Outside.{Outside}
 use Rattle.cxl_shell.specs.Run.{unopened, unready, opened, IsRun}
 use Rattle.cxl_shell.specs.commands.Gen.{made_asked}
 use Rattle.cxl_shell.specs.commands.Script.{FailsToOpen, bus, memory, bus_failed}
-use Rattle.cxl_commands.specs.declared.status.Status.{Status}
-use Rattle.cxl_commands.specs.declared.status.Status.TheVariants.{Memory}
-use Rattle.cxl_commands.specs.declared.stop.Stop.{Stop}
-use Rattle.cxl_commands.specs.declared.stop.Stop.TheVariants as stop
 use Rattle.cxl_shell.specs.inner.Generated.{made_host, IsMadeHost, EndsMade}
 use Rattle.cxl_shell.specs.inner.Generated as made
-use Rattle.cxl_commands.specs.inputs.ResetHost.{reset_host_of}
 use Rattle.cxl_shell.proofs.ResetHosts.{no_regions}
 use Rattle.cxl_shell.proofs.Scripts.{starts_session}
 

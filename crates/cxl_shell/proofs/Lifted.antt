@@ -1,6 +1,10 @@
 -- What holds of each run: of those that end by their files, and of those that left their files behind.
 use Rattle.std.proofs.Common.{◌≡◌, ◌⊎◌, ℕ, true, false, List, refl, sym, ap, ◌∙◌, inl, inr}
 use Rattle.cxl_enc.specs.Faults.{Rose}
+use Rattle.cxl_inputs.specs.Ends.{Ends}
+use Rattle.cxl_inputs.specs.Outcome.{Outcome}
+use Rattle.cxl_inputs.specs.declared.status.Status.{Status}
+use Rattle.cxl_inputs.specs.declared.status.Status.TheVariants.{WriteFault}
 use Rattle.cxl_io.specs.Fetch.{AsksFor}
 use Rattle.cxl_io.specs.Sink.{SinkState}
 use Rattle.cxl_io.specs.Source.{SourceState}
@@ -15,9 +19,7 @@ use Rattle.cxl_turns.specs.declared.endings.Ending.TheVariants as endings
 use Rattle.cxl_shell.specs.Devices.{Devices}
 use Rattle.cxl_shell.specs.Endings.{EndsScript, read_out, ending_cut, reply_cut, runs_out, EndsGen, EndsForm}
 use Rattle.cxl_shell.specs.Endings as endings_of
-use Rattle.cxl_commands.specs.Ends.{Ends}
 use Rattle.cxl_commands.specs.Form.{Form, OfTable, OfResetHost, OfHost, OfWords, own_files, runs_session, takes_memory}
-use Rattle.cxl_commands.specs.Outcome.{Outcome}
 use Rattle.cxl_commands.specs.Outside.{Outside}
 use Rattle.cxl_commands.specs.RunByFiles.{IsRunByFiles, EachRunByFiles}
 use Rattle.cxl_shell.specs.Run.{by_files, unready, unopened, opened, IsRun, EachRun}
@@ -27,8 +29,6 @@ use Rattle.cxl_shell.specs.commands.Gen.{gen_told}
 use Rattle.cxl_commands.specs.declared.form.HostAsk.TheVariants as host_asks
 use Rattle.cxl_commands.specs.declared.form.ResetAsk.TheVariants as reset_asks
 use Rattle.cxl_commands.specs.declared.form.WordsAsk.TheVariants as plain_asks
-use Rattle.cxl_commands.specs.declared.status.Status.{Status}
-use Rattle.cxl_commands.specs.declared.status.Status.TheVariants.{WriteFault}
 
 -- such a status comes behind the files; status 6 has its cause
 pub record IsLate (status : Status) (old new : SinkState) : Type 0 where

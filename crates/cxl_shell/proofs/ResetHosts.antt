@@ -5,6 +5,7 @@ use Rattle.std.specs.List.{list_any}
 use Rattle.cxl_cedt.specs.CedtFields.{CedtFields}
 use Rattle.cxl_enc.specs.Caps.{decoders_code, decoders_of}
 use Rattle.cxl_image.specs.Images.{reset_blocks}
+use Rattle.cxl_inputs.specs.ResetHost.{reset_host_of}
 use Rattle.cxl_model.specs.Listed.{AreRegionsByBase, region_limit}
 use Rattle.cxl_model.specs.Regions.{region_range}
 use Rattle.cxl_model.specs.declared.found.Found.{Found}
@@ -14,7 +15,6 @@ use Rattle.cxl_regs.specs.declared.reading.Range.{Range}
 use Rattle.cxl_opening.specs.Opening.{HasRegions}
 use Rattle.cxl_topo.specs.Tree.{Tree}
 use Rattle.cxl_topo.specs.declared.node.Node.{Node}
-use Rattle.cxl_commands.specs.inputs.ResetHost.{reset_host_of}
 
 none_committed : (r : Range) (count : ℕ) → list_any (has_range r) (replicate count reset_decoder) ≡ false
 none_committed r zero = refl

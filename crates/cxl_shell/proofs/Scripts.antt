@@ -9,6 +9,18 @@ use Rattle.cxl_cedt.specs.CedtFields.{CedtFields}
 use Rattle.cxl_check.specs.declared.fault.Breach.{Breach}
 use Rattle.cxl_enc.specs.Faults.{Rose, LeavesCount}
 use Rattle.cxl_image.specs.Images.{reset_blocks}
+use Rattle.cxl_inputs.specs.Ends.{Ends, Finishes}
+use Rattle.cxl_inputs.specs.File.{AsksForSome}
+use Rattle.cxl_inputs.specs.Host.{AreRead, HasNoHost, host_of, no_host, by_host}
+use Rattle.cxl_inputs.specs.Outcome.{Outcome}
+use Rattle.cxl_inputs.specs.ResetHost.{AreBothRead, HasNoResetHost, reset_host_of, no_reset_host}
+use Rattle.cxl_inputs.specs.Stop.{IsStop}
+use Rattle.cxl_inputs.specs.declared.status.Status.{Status}
+use Rattle.cxl_inputs.specs.declared.status.Status.TheVariants.{Done, WriteFault, Memory}
+use Rattle.cxl_inputs.specs.declared.stop.Stop.{Stop}
+use Rattle.cxl_inputs.specs.declared.stop.Stop.TheVariants as stop
+use Rattle.cxl_inputs.proofs.Hosts.{told_twice}
+use Rattle.cxl_inputs.proofs.Stops.{stop-weaker}
 use Rattle.cxl_io.specs.Fetch.{AsksFor}
 use Rattle.cxl_io.specs.Sink.{SinkState, Takes, TakesPrefix}
 use Rattle.cxl_io.specs.Source.{SourceState}
@@ -34,29 +46,19 @@ use Rattle.cxl_turns.specs.declared.endings.Ending.{Ending}
 use Rattle.cxl_turns.specs.declared.endings.Ending.TheVariants as endings
 use Rattle.cxl_window.specs.Fields.{WindowFields}
 use Rattle.cxl_window.specs.Windows.{windows_of}
-use Rattle.cxl_commands.specs.Answers.{IsOutcomeByFiles, IsStop}
+use Rattle.cxl_commands.specs.Answers.{IsOutcomeByFiles}
 use Rattle.cxl_shell.specs.Devices.{Devices, devices}
 use Rattle.cxl_shell.specs.Endings.{HasCarriedOut, EndsScript, read_out, ending_cut, reply_cut, runs_out}
-use Rattle.cxl_commands.specs.Ends.{Ends, Finishes}
 use Rattle.cxl_commands.specs.Form.{Form, Script, own_files, takes_memory}
-use Rattle.cxl_commands.specs.Outcome.{Outcome}
 use Rattle.cxl_commands.specs.Outside.{Outside}
 use Rattle.cxl_commands.specs.RunByFiles.{IsRunByFiles}
 use Rattle.cxl_shell.specs.Run.{by_files, unready, unopened, opened, IsRun}
 use Rattle.cxl_commands.specs.commands.RefusedStart.{breach_told, many_told, too_many_regions}
 use Rattle.cxl_shell.specs.commands.Script.{StartsSession, bus, memory, bus_failed, status_of, ends_reading, ending_text, script_stopped}
-use Rattle.cxl_commands.specs.declared.status.Status.{Status}
-use Rattle.cxl_commands.specs.declared.status.Status.TheVariants.{Done, WriteFault, Memory}
-use Rattle.cxl_commands.specs.declared.stop.Stop.{Stop}
-use Rattle.cxl_commands.specs.declared.stop.Stop.TheVariants as stop
 use Rattle.cxl_shell.specs.inner.Scripts.{EndsOver, EndsFromImage}
 use Rattle.cxl_shell.specs.inner.Scripts as over
-use Rattle.cxl_commands.specs.inputs.File.{AsksForSome}
-use Rattle.cxl_commands.specs.inputs.Host.{AreRead, HasNoHost, host_of, no_host, by_host}
-use Rattle.cxl_commands.specs.inputs.ResetHost.{AreBothRead, HasNoResetHost, reset_host_of, no_reset_host}
-use Rattle.cxl_commands.proofs.Hosts.{told_twice}
 use Rattle.cxl_shell.proofs.ResetHosts.{no_regions}
-use Rattle.cxl_commands.proofs.Stops.{stop-weaker, run-ended, run-finished}
+use Rattle.cxl_commands.proofs.Stops.{run-ended, run-finished}
 
 -- ---- over an open session
 

@@ -1,5 +1,10 @@
 -- When a run has all that it asks for, and when it is answered whole.
 use Rattle.std.specs.Prelude.{◌≡◌, ℕ, ◌≤◌, ◌⊎◌, true, List, ◌++◌, length, IsSomeAnd}
+use Rattle.cxl_inputs.specs.Ends.{IsWritten}
+use Rattle.cxl_inputs.specs.Outcome.{Outcome}
+use Rattle.cxl_inputs.specs.ResetHost.{reset_host_of}
+use Rattle.cxl_inputs.specs.declared.status.Status.{Status}
+use Rattle.cxl_inputs.specs.declared.status.Status.TheVariants.{Done, Refused}
 use Rattle.cxl_io.specs.Fetch.{FetchState}
 use Rattle.cxl_io.specs.Reader.{script_limit}
 use Rattle.cxl_io.specs.Sink.{Takes}
@@ -16,9 +21,7 @@ use Rattle.cxl_turns.specs.Endings.{StopsReading}
 use Rattle.cxl_turns.specs.declared.endings.Ending.{Ending}
 use Rattle.cxl_turns.specs.declared.endings.Ending.TheVariants as endings
 use Rattle.cxl_shell.specs.Endings.{HasCarriedOut}
-use Rattle.cxl_commands.specs.Ends.{IsWritten}
 use Rattle.cxl_commands.specs.Form.{Form, OfResetHost, OfHost, OfWords, reads_script}
-use Rattle.cxl_commands.specs.Outcome.{Outcome}
 use Rattle.cxl_commands.specs.Outside.{Outside}
 use Rattle.cxl_commands.specs.Readings.{Readings, AreKnown}
 use Rattle.cxl_shell.specs.commands.Gen.{made_asked, gen_told, HasChecked}
@@ -27,9 +30,6 @@ use Rattle.cxl_commands.specs.declared.form.HostAsk.TheVariants as host_asks
 use Rattle.cxl_commands.specs.declared.form.ResetAsk.TheVariants as reset_asks
 use Rattle.cxl_commands.specs.declared.form.WordsAsk.{WordsAsk}
 use Rattle.cxl_commands.specs.declared.form.WordsAsk.TheVariants as plain_asks
-use Rattle.cxl_commands.specs.declared.status.Status.{Status}
-use Rattle.cxl_commands.specs.declared.status.Status.TheVariants.{Done, Refused}
-use Rattle.cxl_commands.specs.inputs.ResetHost.{reset_host_of}
 
 -- ---- all that is asked for is there
 

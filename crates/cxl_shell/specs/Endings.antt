@@ -2,6 +2,9 @@
 use Rattle.std.specs.Prelude.{◌≡◌, ℕ, List, [], ◌∷◌, ◌++◌, take, option_map}
 use Rattle.cxl_bus.specs.declared.sent.Sent.{Sent}
 use Rattle.cxl_enc.specs.Faults.{RoseBy, LeavesCount}
+use Rattle.cxl_inputs.specs.Ends.{Ends}
+use Rattle.cxl_inputs.specs.declared.status.Status.{Status}
+use Rattle.cxl_inputs.specs.declared.status.Status.TheVariants.{Done, WriteFault, Memory}
 use Rattle.cxl_io.specs.Sink.{SinkState, Takes}
 use Rattle.cxl_io.specs.Source.{SourceState}
 use Rattle.cxl_machine.specs.Machine.{Machine, present}
@@ -14,7 +17,6 @@ use Rattle.cxl_topo.specs.declared.node.Node.{Node}
 use Rattle.cxl_turns.specs.Endings.{AreFirstLines, StopsReading, IsCutBehind}
 use Rattle.cxl_turns.specs.declared.endings.Ending.{Ending}
 use Rattle.cxl_shell.specs.Devices.{Devices}
-use Rattle.cxl_commands.specs.Ends.{Ends}
 use Rattle.cxl_commands.specs.Form.{Form, OfResetHost, OfHost, OfWords}
 use Rattle.cxl_commands.specs.Outside.{Outside}
 use Rattle.cxl_shell.specs.commands.Gen.{made_asked, gen_told, HasChecked}
@@ -22,8 +24,6 @@ use Rattle.cxl_shell.specs.commands.Script.{status_of, ending_text}
 use Rattle.cxl_commands.specs.declared.form.HostAsk.TheVariants as host_asks
 use Rattle.cxl_commands.specs.declared.form.ResetAsk.TheVariants as reset_asks
 use Rattle.cxl_commands.specs.declared.form.WordsAsk.TheVariants as plain_asks
-use Rattle.cxl_commands.specs.declared.status.Status.{Status}
-use Rattle.cxl_commands.specs.declared.status.Status.TheVariants.{Done, WriteFault, Memory}
 
 -- From a first machine these turns were taken: registers and media hold the last one, the words behind the enabling ones are theirs, and the
 -- bus had cause for each fault that they tell.

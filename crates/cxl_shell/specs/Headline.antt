@@ -2,6 +2,9 @@
 use Rattle.std.specs.Prelude.{◌≡◌, ◌≢◌, ℕ, ◌⊎◌, List, map}
 use Rattle.std.specs.List.{concat}
 use Rattle.cxl_flat.specs.Flat.{IsFlatTurn}
+use Rattle.cxl_inputs.specs.Host.{host_of}
+use Rattle.cxl_inputs.specs.declared.status.Status.{Status}
+use Rattle.cxl_inputs.specs.declared.status.Status.TheVariants.{Done, ReadFault, TooMuch}
 use Rattle.cxl_io.specs.Sink.{SinkState, Takes}
 use Rattle.cxl_io.specs.Told.{Told}
 use Rattle.cxl_machine.specs.Machine.{Machine, HasSameHost, present}
@@ -23,9 +26,6 @@ use Rattle.cxl_shell.specs.commands.Script.{IsStart, FailsToOpen}
 use Rattle.cxl_commands.specs.declared.form.HostAsk.TheVariants as host_asks
 use Rattle.cxl_commands.specs.declared.form.ResetAsk.TheVariants as reset_asks
 use Rattle.cxl_commands.specs.declared.form.WordsAsk.TheVariants as plain_asks
-use Rattle.cxl_commands.specs.declared.status.Status.{Status}
-use Rattle.cxl_commands.specs.declared.status.Status.TheVariants.{Done, ReadFault, TooMuch}
-use Rattle.cxl_commands.specs.inputs.Host.{host_of}
 
 -- ---- a session
 

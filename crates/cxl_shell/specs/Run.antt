@@ -1,5 +1,6 @@
 -- How a run comes to its end.
 use Rattle.std.specs.Prelude.{◌≡◌, ℕ, List}
+use Rattle.cxl_inputs.specs.declared.status.Status.{Status}
 use Rattle.cxl_io.specs.Fetch.{AsksFor}
 use Rattle.cxl_machine.specs.Machine.{Machine}
 use Rattle.cxl_machine.specs.Scripts.{Asked, Turn}
@@ -12,7 +13,6 @@ use Rattle.cxl_commands.specs.Form.{Form, own_files}
 use Rattle.cxl_commands.specs.Outside.{Outside}
 use Rattle.cxl_commands.specs.RunByFiles.{IsRunByFiles}
 use Rattle.cxl_shell.specs.commands.Script.{IsStart, FailsToOpen}
-use Rattle.cxl_commands.specs.declared.status.Status.{Status}
 
 -- No session opened: the run ends by its words and files alone, or the devices could not be made ready.
 pub data IsUnopened (form : Form) (old new : Outside) (before after : Devices) (status : Status) : Type 0 where

@@ -1,6 +1,7 @@
 -- Where memory ran out in a session: how far its commands were carried out.
 use Rattle.std.specs.Prelude.{ℕ, List, take}
 use Rattle.cxl_gen.specs.Made.{made_table, made_tree}
+use Rattle.cxl_inputs.specs.ResetHost.{reset_host_of}
 use Rattle.cxl_io.specs.Sink.{Takes}
 use Rattle.cxl_machine.specs.Machine.{Machine}
 use Rattle.cxl_machine.specs.Scripts.{Turn, lines_asked}
@@ -14,7 +15,6 @@ use Rattle.cxl_commands.specs.Form.{Form}
 use Rattle.cxl_commands.specs.Outside.{Outside}
 use Rattle.cxl_shell.specs.commands.Gen.{made_asked}
 use Rattle.cxl_shell.specs.commands.Script.{IsStart}
-use Rattle.cxl_commands.specs.inputs.ResetHost.{reset_host_of}
 
 -- The first lines of the script were carried out, and their replies are written: registers and media are as before the line that met the want.
 pub record HasRunOut (form : Form) (old new : Outside) (before after : Devices) : Type 0 where

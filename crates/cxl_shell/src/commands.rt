@@ -11,10 +11,8 @@ pub(crate) mod generated;
 pub(crate) mod script;
 
 use cxl_bus::Regs;
-use cxl_commands::{
-    Form, HostAsk, ResetAsk, Status, WordsAsk, check, fetch_host, fetch_reset_host, finish,
-    of_table, plan, said,
-};
+use cxl_commands::{Form, HostAsk, ResetAsk, WordsAsk, check, of_table, plan, said};
+use cxl_inputs::{Status, fetch_host, fetch_reset_host, finish};
 use cxl_io::{Fetch, Sink, Source};
 use cxl_media::Roll;
 use generated::generated;

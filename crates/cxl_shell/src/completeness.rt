@@ -4,8 +4,8 @@ ghost use Rattle.cxl_shell.specs.Completeness.{IsReady, IsAnsweredWhole};
 ghost use Rattle.cxl_shell.specs.Run.{EachRun};
 
 use cxl_cedt::one_reading;
-use cxl_commands::Status;
 use cxl_image::one_image_reading;
+use cxl_inputs::Status;
 use cxl_topofile::one_topology_reading;
 
 /// A law of each run: where the words ask for something, all files are known and have a reading, the script is known and

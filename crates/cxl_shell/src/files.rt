@@ -4,17 +4,17 @@ ghost use Rattle.std.specs.Prelude.{◌≡◌, ◌≢◌, ℕ, ◌<◌, ◌≤�
 ghost use Rattle.cxl_cedt.specs.CedtFields.{CedtFields};
 ghost use Rattle.cxl_cedt.specs.Table.{HasTable};
 ghost use Rattle.cxl_cedt.specs.declared.fault.CedtFault.{CedtFault};
-ghost use Rattle.cxl_commands.specs.Ends.{IsUnwritten, IsStopped};
+ghost use Rattle.cxl_commands.specs.Stopped.{IsUnwritten, IsStopped};
 ghost use Rattle.cxl_commands.specs.Form.{own_files, table_file, topology_file, image_file};
 ghost use Rattle.cxl_commands.specs.Readings.{IsTreeFile, IsFileOfImage, KnowsTable, KnowsTree};
-ghost use Rattle.cxl_commands.specs.inputs.File.{AsksForSome, HasFailed};
-ghost use Rattle.cxl_commands.specs.inputs.Image.{IsFaultyImage, IsFaultyImageFile};
-ghost use Rattle.cxl_commands.specs.inputs.Table.{IsFaulty, IsFaultyFile};
-ghost use Rattle.cxl_commands.specs.inputs.Topology.{IsFaultyTree, IsFaultyTreeFile, HasTree};
 ghost use Rattle.cxl_enc.specs.Limits.{file_limit};
 ghost use Rattle.cxl_image.specs.File.{HasImage};
 ghost use Rattle.cxl_image.specs.Images.{IsImage, HasCapsOf};
 ghost use Rattle.cxl_image.specs.declared.fault.ImageFault.{ImageFault};
+ghost use Rattle.cxl_inputs.specs.File.{AsksForSome, HasFailed};
+ghost use Rattle.cxl_inputs.specs.Image.{IsFaultyImage, IsFaultyImageFile};
+ghost use Rattle.cxl_inputs.specs.Table.{IsFaulty, IsFaultyFile};
+ghost use Rattle.cxl_inputs.specs.Topology.{IsFaultyTree, IsFaultyTreeFile, HasTree};
 ghost use Rattle.cxl_io.specs.Fetch.{AsksFor, IsTooLarge};
 ghost use Rattle.cxl_io.specs.Told.{Absent, Bytes};
 ghost use Rattle.cxl_shell.specs.Run.{EachRun};
@@ -24,8 +24,8 @@ ghost use Rattle.cxl_topo.specs.declared.fault.TreeFault.TheVariants as trees;
 ghost use Rattle.cxl_topofile.specs.declared.fault.TopoFault.{TopoFault};
 
 use cxl_cedt::{CedtFault, one_reading};
-use cxl_commands::Status;
 use cxl_image::{ImageFault, one_image_reading};
+use cxl_inputs::Status;
 use cxl_topofile::{TopoFault, one_topology_reading};
 
 /// Laws of each run: what its statuses say of its files.

@@ -1,18 +1,19 @@
 ghost use Rattle.std.specs.Prelude.{◌≡◌, ◌≢◌, ℕ, ◌⊎◌, Some, false, true, List};
 ghost use Rattle.cxl_enc.specs.Faults.{Rose};
+ghost use Rattle.cxl_inputs.specs.Ends.{Ends, IsWritten};
+ghost use Rattle.cxl_inputs.specs.Outcome.{Outcome};
 ghost use Rattle.cxl_script.specs.declared.command.Create.{Create};
 ghost use Rattle.cxl_commands.specs.Answers.{IsOutcomeOf, IsAnswerBy};
-ghost use Rattle.cxl_commands.specs.Ends.{Ends, IsWritten, IsStopped};
+ghost use Rattle.cxl_commands.specs.Stopped.{IsStopped};
 ghost use Rattle.cxl_commands.specs.Form.{Route, Check, Plan, Script, has_many_pieces, takes_memory, runs_session};
-ghost use Rattle.cxl_commands.specs.Outcome.{Outcome};
 ghost use Rattle.cxl_commands.specs.Readings.{Readings, AreKnown};
 ghost use Rattle.cxl_commands.specs.RunByFiles.{RunsOut, IsRunByFiles, EachRunByFiles};
 ghost use Rattle.cxl_shell.specs.Run.{EachRun};
 ghost use Rattle.cxl_shell.specs.Statuses.{is_of_files};
 
 use cxl_cedt::one_reading;
-use cxl_commands::Status;
 use cxl_image::one_image_reading;
+use cxl_inputs::Status;
 use cxl_topofile::one_topology_reading;
 
 /// Laws of each run: what it leaves alone.

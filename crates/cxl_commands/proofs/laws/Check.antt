@@ -1,22 +1,23 @@
 -- What a run of `check` comes to.
 use Rattle.std.proofs.Common.{◌≡◌, ℕ, ◌⊎◌, List, refl, ap, subst, ◌∙◌, inl, inr}
 use Rattle.cxl_cedt.specs.CedtFields.{CedtFields}
+use Rattle.cxl_inputs.specs.Ends.{IsWritten}
+use Rattle.cxl_inputs.specs.Host.{host_of, AreRead, no_host, by_host}
+use Rattle.cxl_inputs.specs.Outcome.{Outcome, whole_text}
+use Rattle.cxl_inputs.specs.declared.status.Status.{Status}
+use Rattle.cxl_inputs.specs.declared.status.Status.TheVariants.{Done, Refused}
 use Rattle.cxl_io.specs.Sink.{Takes}
 use Rattle.cxl_model.specs.Accepted.{IsAccepted, HasFirstBreach}
 use Rattle.cxl_model.specs.System.{System}
 use Rattle.cxl_regs.specs.Registers.{Registers}
 use Rattle.cxl_topo.specs.Tree.{Tree}
 use Rattle.cxl_commands.specs.Answers.{IsOutcomeByFiles}
-use Rattle.cxl_commands.specs.Ends.{IsWritten, IsBehind, IsStopped}
+use Rattle.cxl_commands.specs.Stopped.{IsBehind, IsStopped}
 use Rattle.cxl_commands.specs.Form.{Check}
-use Rattle.cxl_commands.specs.Outcome.{Outcome, whole_text}
 use Rattle.cxl_commands.specs.Outside.{Outside}
 use Rattle.cxl_commands.specs.RunByFiles.{RunsOut, before, behind}
 use Rattle.cxl_commands.specs.commands.Check.{IsChecked, regions_told, breach_told, IsRegionsText, IsBreachText, TakesRegions}
 use Rattle.cxl_commands.specs.declared.form.HostAsk.TheVariants as asks
-use Rattle.cxl_commands.specs.declared.status.Status.{Status}
-use Rattle.cxl_commands.specs.declared.status.Status.TheVariants.{Done, Refused}
-use Rattle.cxl_commands.specs.inputs.Host.{host_of, AreRead, no_host, by_host}
 use Rattle.cxl_commands.proofs.Pieces.{one_text, nothing_taken, nothing_of, no_host_is_one}
 use Rattle.cxl_commands.proofs.Runs.{Came, host_done, host_refused}
 

@@ -1,16 +1,16 @@
 -- What a run of `list` comes to.
 use Rattle.std.proofs.Common.{◌≡◌, ℕ, ◌⊎◌, List, ap, subst, inl, inr}
+use Rattle.cxl_inputs.specs.Outcome.{Outcome, whole_text}
+use Rattle.cxl_inputs.specs.Table.{no_table, by_table}
+use Rattle.cxl_inputs.specs.declared.status.Status.TheVariants.{Done}
 use Rattle.cxl_io.specs.Sink.{Takes}
 use Rattle.cxl_commands.specs.Answers.{IsOutcomeByFiles}
-use Rattle.cxl_commands.specs.Ends.{IsBehind}
+use Rattle.cxl_commands.specs.Stopped.{IsBehind}
 use Rattle.cxl_commands.specs.Form.{Listing}
-use Rattle.cxl_commands.specs.Outcome.{Outcome, whole_text}
 use Rattle.cxl_commands.specs.Outside.{Outside}
 use Rattle.cxl_commands.specs.RunByFiles.{RunsOut, before, behind}
 use Rattle.cxl_commands.specs.commands.List.{IsListText, TakesLines}
 use Rattle.cxl_commands.specs.declared.form.TableAsk.TheVariants as asks
-use Rattle.cxl_commands.specs.declared.status.Status.TheVariants.{Done}
-use Rattle.cxl_commands.specs.inputs.Table.{no_table, by_table}
 use Rattle.cxl_commands.proofs.Pieces.{nothing_taken, nothing_of, no_table_is_one}
 use Rattle.cxl_commands.proofs.Runs.{Came, table_done}
 

@@ -1,12 +1,12 @@
 -- What a run of `normal` comes to.
 use Rattle.std.proofs.Common.{List, ℕ}
+use Rattle.cxl_inputs.specs.Outcome.{whole_text}
+use Rattle.cxl_inputs.specs.declared.status.Status.TheVariants.{Done}
 use Rattle.cxl_io.specs.Sink.{Takes}
 use Rattle.cxl_commands.specs.Form.{Normal}
-use Rattle.cxl_commands.specs.Outcome.{whole_text}
 use Rattle.cxl_commands.specs.Outside.{Outside}
 use Rattle.cxl_commands.specs.commands.Normal.{IsNormalText}
 use Rattle.cxl_commands.specs.declared.form.TableAsk.TheVariants as asks
-use Rattle.cxl_commands.specs.declared.status.Status.TheVariants.{Done}
 use Rattle.cxl_commands.proofs.Pieces.{one_text}
 use Rattle.cxl_commands.proofs.Runs.{Came, table_done}
 

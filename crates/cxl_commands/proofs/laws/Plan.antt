@@ -1,22 +1,23 @@
 -- What a run of `plan` comes to.
 use Rattle.std.proofs.Common.{◌≡◌, ℕ, ◌⊎◌, List, refl, ap, subst, ◌∙◌, inl, inr}
 use Rattle.cxl_cedt.specs.CedtFields.{CedtFields}
+use Rattle.cxl_inputs.specs.Ends.{IsWritten}
+use Rattle.cxl_inputs.specs.Outcome.{Outcome}
+use Rattle.cxl_inputs.specs.ResetHost.{reset_host_of, AreBothRead}
+use Rattle.cxl_inputs.specs.declared.status.Status.{Status}
+use Rattle.cxl_inputs.specs.declared.status.Status.TheVariants.{Done, Refused}
 use Rattle.cxl_io.specs.Sink.{Takes}
 use Rattle.cxl_model.specs.System.{System}
 use Rattle.cxl_model.specs.declared.plan.Plan as plans
 use Rattle.cxl_reply.specs.declared.reply.Reply.{Reply}
 use Rattle.cxl_script.specs.declared.command.Create.{Create}
 use Rattle.cxl_topo.specs.Tree.{Tree}
-use Rattle.cxl_commands.specs.Ends.{IsWritten, IsStopped}
+use Rattle.cxl_commands.specs.Stopped.{IsStopped}
 use Rattle.cxl_commands.specs.Form.{Plan}
-use Rattle.cxl_commands.specs.Outcome.{Outcome}
 use Rattle.cxl_commands.specs.Outside.{Outside}
 use Rattle.cxl_request.specs.Plans.{IsPlanFor, IsRefusal, HasPlan, HasNoPlan}
 use Rattle.cxl_commands.specs.commands.Plan.{IsPlanned, plan_told, refusal_told, IsPlanText, IsRefusalText}
 use Rattle.cxl_commands.specs.declared.form.ResetAsk.TheVariants as asks
-use Rattle.cxl_commands.specs.declared.status.Status.{Status}
-use Rattle.cxl_commands.specs.declared.status.Status.TheVariants.{Done, Refused}
-use Rattle.cxl_commands.specs.inputs.ResetHost.{reset_host_of, AreBothRead}
 use Rattle.cxl_commands.proofs.Pieces.{one_text}
 use Rattle.cxl_commands.proofs.Runs.{Came, reset_done, reset_refused}
 

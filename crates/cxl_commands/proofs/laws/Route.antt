@@ -1,16 +1,17 @@
 -- What a run of `route` comes to.
 use Rattle.std.proofs.Common.{◌≡◌, ℕ, ◌⊎◌, None, List, refl, sym, subst, inl, inr}
 use Rattle.cxl_cedt.specs.CedtFields.{CedtFields}
+use Rattle.cxl_inputs.specs.Ends.{IsWritten}
+use Rattle.cxl_inputs.specs.Table.{IsTableOf}
+use Rattle.cxl_inputs.specs.declared.status.Status.{Status}
+use Rattle.cxl_inputs.specs.declared.status.Status.TheVariants.{Done, Refused}
 use Rattle.cxl_io.specs.Sink.{Takes}
 use Rattle.cxl_window.specs.Windows.{windows_of}
-use Rattle.cxl_commands.specs.Ends.{IsWritten, IsStopped}
+use Rattle.cxl_commands.specs.Stopped.{IsStopped}
 use Rattle.cxl_commands.specs.Form.{Route}
 use Rattle.cxl_commands.specs.Outside.{Outside}
 use Rattle.cxl_commands.specs.commands.Route.{IsNowhere, no_window, IsRouteLine}
 use Rattle.cxl_commands.specs.declared.form.TableAsk.TheVariants as asks
-use Rattle.cxl_commands.specs.declared.status.Status.{Status}
-use Rattle.cxl_commands.specs.declared.status.Status.TheVariants.{Done, Refused}
-use Rattle.cxl_commands.specs.inputs.Table.{IsTableOf}
 use Rattle.cxl_commands.proofs.Pieces.{one_text}
 use Rattle.cxl_commands.proofs.Routes.{done_selection, refused_nowhere}
 use Rattle.cxl_commands.proofs.Runs.{Came, table_done, table_refused}

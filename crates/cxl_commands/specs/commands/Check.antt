@@ -2,6 +2,9 @@
 use Rattle.std.specs.Prelude.{◌≡◌, ℕ, List, map, take}
 use Rattle.std.specs.List.{concat}
 use Rattle.cxl_cedt.specs.CedtFields.{CedtFields}
+use Rattle.cxl_inputs.specs.Host.{host_of, AreRead}
+use Rattle.cxl_inputs.specs.Outcome.{Outcome, one_piece}
+use Rattle.cxl_inputs.specs.declared.status.Status.TheVariants.{Done, Refused}
 use Rattle.cxl_io.specs.Sink.{SinkState, Takes}
 use Rattle.cxl_io.specs.Told.{Told}
 use Rattle.cxl_model.specs.Accepted.{IsAccepted, IsFirstBreach}
@@ -12,9 +15,6 @@ use Rattle.cxl_regs.specs.Registers.{Registers}
 use Rattle.cxl_reply.specs.Plans.{found_text, breach_text}
 use Rattle.cxl_topo.specs.Tree.{Tree}
 use Rattle.cxl_topo.specs.declared.node.Node.{Node}
-use Rattle.cxl_commands.specs.Outcome.{Outcome, one_piece}
-use Rattle.cxl_commands.specs.declared.status.Status.TheVariants.{Done, Refused}
-use Rattle.cxl_commands.specs.inputs.Host.{host_of, AreRead}
 
 -- a piece for each region, with its slots
 abbrev pub accepted : List Node → List Found → Outcome

@@ -1,9 +1,9 @@
 -- What the program says of itself, and to words that are no command.
 use Rattle.std.specs.Prelude.{codes}
+use Rattle.cxl_inputs.specs.Outcome.{Outcome, one_piece}
+use Rattle.cxl_inputs.specs.declared.status.Status.TheVariants.{Done, Usage}
 use Rattle.cxl_reply.specs.Words.{line}
-use Rattle.cxl_commands.specs.Outcome.{Outcome, one_piece}
 use Rattle.cxl_commands.specs.declared.commands.help.TheConstants.{HELP, VERSION}
-use Rattle.cxl_commands.specs.declared.status.Status.TheVariants.{Done, Usage}
 
 abbrev pub helped : Outcome
 helped = one_piece Done HELP.now

@@ -3,12 +3,12 @@ use Rattle.std.specs.Prelude.{◌≡◌, ℕ, List, take}
 use Rattle.std.specs.List.{concat}
 use Rattle.cxl_cedt.specs.CedtFields.{CedtFields}
 use Rattle.cxl_cedt.specs.declared.cedt.Record.{Record}
+use Rattle.cxl_inputs.specs.Outcome.{Outcome}
+use Rattle.cxl_inputs.specs.Table.{IsTableOf}
+use Rattle.cxl_inputs.specs.declared.status.Status.TheVariants.{Done}
 use Rattle.cxl_io.specs.Sink.{SinkState, Takes}
 use Rattle.cxl_io.specs.Told.{Told}
-use Rattle.cxl_commands.specs.Outcome.{Outcome}
 use Rattle.cxl_commands.specs.commands.Lines.{list_lines}
-use Rattle.cxl_commands.specs.declared.status.Status.TheVariants.{Done}
-use Rattle.cxl_commands.specs.inputs.Table.{IsTableOf}
 
 -- a line for each record of a table
 abbrev pub listed : List Record → Outcome

@@ -2,10 +2,10 @@
 use Rattle.std.specs.Prelude.{◌≡◌, ℕ, List}
 use Rattle.cxl_cedt.specs.CedtFields.{CedtFields}
 use Rattle.cxl_cedt.specs.Spelling.{spelling}
+use Rattle.cxl_inputs.specs.Outcome.{Outcome, one_piece}
+use Rattle.cxl_inputs.specs.Table.{IsTableOf}
+use Rattle.cxl_inputs.specs.declared.status.Status.TheVariants.{Done}
 use Rattle.cxl_io.specs.Told.{Told}
-use Rattle.cxl_commands.specs.Outcome.{Outcome, one_piece}
-use Rattle.cxl_commands.specs.declared.status.Status.TheVariants.{Done}
-use Rattle.cxl_commands.specs.inputs.Table.{IsTableOf}
 
 -- the bytes that spell a table with its reserved fields zero
 abbrev pub normalized : CedtFields → Outcome

@@ -1,6 +1,9 @@
 -- What `plan` comes to.
 use Rattle.std.specs.Prelude.{◌≡◌, ℕ, List}
 use Rattle.cxl_cedt.specs.CedtFields.{CedtFields}
+use Rattle.cxl_inputs.specs.Outcome.{Outcome, one_piece}
+use Rattle.cxl_inputs.specs.ResetHost.{reset_host_of, AreBothRead}
+use Rattle.cxl_inputs.specs.declared.status.Status.TheVariants.{Done, Refused}
 use Rattle.cxl_io.specs.Told.{Told}
 use Rattle.cxl_model.specs.System.{System}
 use Rattle.cxl_model.specs.declared.plan.Plan.{Plan}
@@ -11,9 +14,6 @@ use Rattle.cxl_request.specs.Plans.{IsPlanFor, IsRefusal}
 use Rattle.cxl_script.specs.declared.command.Create.{Create}
 use Rattle.cxl_topo.specs.Tree.{Tree}
 use Rattle.cxl_topo.specs.declared.node.Node.{Node}
-use Rattle.cxl_commands.specs.Outcome.{Outcome, one_piece}
-use Rattle.cxl_commands.specs.declared.status.Status.TheVariants.{Done, Refused}
-use Rattle.cxl_commands.specs.inputs.ResetHost.{reset_host_of, AreBothRead}
 
 -- ---- what it comes to
 

@@ -1,13 +1,13 @@
 -- On which image no session starts, and what is told of it.
 use Rattle.std.specs.Prelude.{◌≡◌, ℕ, ◌<◌, List, length, codes}
+use Rattle.cxl_inputs.specs.Outcome.{Outcome, one_piece}
+use Rattle.cxl_inputs.specs.declared.status.Status.TheVariants.{Refused}
 use Rattle.cxl_model.specs.Accepted.{IsAccepted, IsFirstBreach}
 use Rattle.cxl_model.specs.Listed.{AreRegionsByBase, region_limit}
 use Rattle.cxl_model.specs.System.{System}
 use Rattle.cxl_model.specs.declared.found.Found.{Found}
 use Rattle.cxl_reply.specs.Words.{line}
-use Rattle.cxl_commands.specs.Outcome.{Outcome, one_piece}
 use Rattle.cxl_commands.specs.commands.Check.{broken}
-use Rattle.cxl_commands.specs.declared.status.Status.TheVariants.{Refused}
 
 -- there are more regions than may live
 abbrev pub too_many_regions : Outcome

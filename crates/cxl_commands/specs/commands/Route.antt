@@ -1,16 +1,16 @@
 -- Where a host address goes.
 use Rattle.std.specs.Prelude.{◌≡◌, ℕ, ◌+◌, ◌<◌, ◌≤◌, Some, None, List, ◌∷◌, ◌++◌, All, slice_get, codes, decimal}
 use Rattle.cxl_cedt.specs.CedtFields.{CedtFields}
+use Rattle.cxl_inputs.specs.Outcome.{Outcome, one_piece}
+use Rattle.cxl_inputs.specs.Table.{IsTableOf}
+use Rattle.cxl_inputs.specs.declared.status.Status.TheVariants.{Done, Refused}
 use Rattle.cxl_io.specs.Told.{Told}
 use Rattle.cxl_window.specs.Fields.{WindowFields}
 use Rattle.cxl_window.specs.Position.{position_of}
 use Rattle.cxl_window.specs.Windows.{windows_of}
 use Rattle.cxl_window.specs.declared.window.Verdict.TheVariants.{Usable}
 use Rattle.cxl_reply.specs.Words.{line}
-use Rattle.cxl_commands.specs.Outcome.{Outcome, one_piece}
 use Rattle.cxl_commands.specs.declared.commands.selection.Selection.{Selection}
-use Rattle.cxl_commands.specs.declared.status.Status.TheVariants.{Done, Refused}
-use Rattle.cxl_commands.specs.inputs.Table.{IsTableOf}
 
 -- the window can be used, and holds the address
 pub record Holds (h : ℕ) (window : WindowFields) : Type 0 where

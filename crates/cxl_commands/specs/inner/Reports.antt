@@ -1,13 +1,14 @@
 -- How writing what a check comes to ends.
 use Rattle.std.specs.Prelude.{◌≡◌, ℕ, []}
+use Rattle.cxl_inputs.specs.Ends.{Ends}
+use Rattle.cxl_inputs.specs.Outcome.{Outcome}
+use Rattle.cxl_inputs.specs.declared.status.Status.{Status}
+use Rattle.cxl_inputs.specs.declared.status.Status.TheVariants.{Memory}
 use Rattle.cxl_io.specs.Sink.{SinkState, Takes}
 use Rattle.cxl_model.specs.Accepted.{IsFirstBreach}
 use Rattle.cxl_model.specs.System.{System}
-use Rattle.cxl_commands.specs.Ends.{Ends, IsBehind}
-use Rattle.cxl_commands.specs.Outcome.{Outcome}
+use Rattle.cxl_commands.specs.Stopped.{IsBehind}
 use Rattle.cxl_commands.specs.commands.Check.{IsChecked, broken}
-use Rattle.cxl_commands.specs.declared.status.Status.{Status}
-use Rattle.cxl_commands.specs.declared.status.Status.TheVariants.{Memory}
 
 -- the first breach is told
 pub record TellsBreach (s : System) (outcome : Outcome) : Type 0 where

@@ -1,11 +1,10 @@
 ghost use Rattle.std.specs.Prelude.{◌≡◌, ◌⊎◌};
-ghost use Rattle.cxl_commands.specs.Ends.{Ends};
+ghost use Rattle.cxl_inputs.specs.Ends.{Ends};
 ghost use Rattle.cxl_commands.specs.Form.{NoCreate, Help, Version, Unreadable};
 ghost use Rattle.cxl_commands.specs.RunByFiles.{EachRunByFiles};
 ghost use Rattle.cxl_commands.specs.commands.Help.{helped, version_told, misused};
 
-use crate::outcome::Outcome;
-use crate::status::Status;
+use cxl_inputs::{Outcome, Status};
 
 /// What `--help` writes.
 pub const HELP: &str = "\

@@ -1,19 +1,17 @@
 ghost use Rattle.std.specs.Prelude.{◌≡◌, ℕ, ◌≤◌, ◌⊎◌, List};
 ghost use Rattle.cxl_cedt.specs.CedtFields.{CedtFields};
+ghost use Rattle.cxl_inputs.specs.Ends.{IsWritten};
+ghost use Rattle.cxl_inputs.specs.Table.{IsReading};
 ghost use Rattle.cxl_io.specs.Sink.{Takes};
 ghost use Rattle.cxl_io.specs.Told.{Bytes};
 ghost use Rattle.cxl_commands.specs.Answers.{ComesTo};
-ghost use Rattle.cxl_commands.specs.Ends.{IsWritten, IsStopped};
+ghost use Rattle.cxl_commands.specs.Stopped.{IsStopped};
 ghost use Rattle.cxl_commands.specs.Form.{Normal};
 ghost use Rattle.cxl_commands.specs.RunByFiles.{EachRunByFiles};
 ghost use Rattle.cxl_commands.specs.commands.Normal.{normalized, IsNormalText};
-ghost use Rattle.cxl_commands.specs.inputs.Table.{IsReading};
 
-use crate::inputs::table::fetch_table;
-use crate::outcome::Outcome;
-use crate::status::Status;
-use crate::stop::Stop;
 use cxl_cedt::{one_reading, write};
+use cxl_inputs::{Outcome, Status, Stop, fetch_table};
 use cxl_io::Fetch;
 use std::alloc::Global;
 

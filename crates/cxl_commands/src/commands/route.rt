@@ -1,22 +1,20 @@
 ghost use Rattle.std.specs.Prelude.{◌≡◌, ℕ, ◌≤◌, ◌⊎◌, None, Ok, List, IfOk, IfSome};
 ghost use Rattle.cxl_cedt.specs.CedtFields.{CedtFields};
+ghost use Rattle.cxl_inputs.specs.Ends.{IsWritten};
+ghost use Rattle.cxl_inputs.specs.Outcome.{Outcome};
+ghost use Rattle.cxl_inputs.specs.Table.{IsReading, IsTableOf};
 ghost use Rattle.cxl_io.specs.Sink.{Takes};
 ghost use Rattle.cxl_io.specs.Told.{Bytes};
 ghost use Rattle.cxl_commands.specs.Answers.{ComesTo};
-ghost use Rattle.cxl_commands.specs.Ends.{IsWritten, IsStopped};
+ghost use Rattle.cxl_commands.specs.Stopped.{IsStopped};
 ghost use Rattle.cxl_commands.specs.Form.{Route};
-ghost use Rattle.cxl_commands.specs.Outcome.{Outcome};
 ghost use Rattle.cxl_commands.specs.RunByFiles.{EachRunByFiles};
 ghost use Rattle.cxl_commands.specs.commands.Route.{IsNowhere, IsRouted, IsRouteLine, routed, no_window};
-ghost use Rattle.cxl_commands.specs.inputs.Table.{IsReading, IsTableOf};
 ghost use Rattle.cxl_window.specs.Windows.{windows_of};
 
 use crate::commands::selection::{Selection, select};
-use crate::inputs::table::fetch_table;
-use crate::outcome::Outcome;
-use crate::status::Status;
-use crate::stop::Stop;
 use cxl_cedt::{Cedt, one_reading};
+use cxl_inputs::{Outcome, Status, Stop, fetch_table};
 use cxl_io::{Fetch, Memory};
 use cxl_window::windows;
 use std::alloc::Global;

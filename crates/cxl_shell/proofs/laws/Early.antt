@@ -1,9 +1,11 @@
 -- Statuses with which no script was carried out: by files, or while the devices were made ready.
 use Rattle.std.proofs.Common.{◌≡◌, ℕ, Bool, true, false, List, refl, ap, inl, inr}
+use Rattle.cxl_inputs.specs.Ends.{Ends}
+use Rattle.cxl_inputs.specs.declared.status.Status.{Status}
+use Rattle.cxl_inputs.specs.declared.status.Status.TheVariants.{Done, Usage, FetchFault, BadTable, BadTopo, ReadFault, WriteFault, BusFault, Refused, Memory, BadImage, TooMuch, TooLarge}
 use Rattle.cxl_io.specs.Sink.{SinkState}
 use Rattle.cxl_model.specs.System.{System}
 use Rattle.cxl_shell.specs.Devices.{Devices}
-use Rattle.cxl_commands.specs.Ends.{Ends}
 use Rattle.cxl_commands.specs.Form.{Form, OfTable, OfResetHost, OfHost, OfWords, table_file, runs_session}
 use Rattle.cxl_shell.specs.Headline.{EndsBeforeScript}
 use Rattle.cxl_commands.specs.Outside.{Outside}
@@ -12,8 +14,6 @@ use Rattle.cxl_shell.specs.commands.Script.{FailsToOpen, bus_failed, bus, memory
 use Rattle.cxl_commands.specs.declared.form.HostAsk.TheVariants as host_asks
 use Rattle.cxl_commands.specs.declared.form.ResetAsk.TheVariants as reset_asks
 use Rattle.cxl_commands.specs.declared.form.WordsAsk.TheVariants as plain_asks
-use Rattle.cxl_commands.specs.declared.status.Status.{Status}
-use Rattle.cxl_commands.specs.declared.status.Status.TheVariants.{Done, Usage, FetchFault, BadTable, BadTopo, ReadFault, WriteFault, BusFault, Refused, Memory, BadImage, TooMuch, TooLarge}
 use Rattle.cxl_commands.proofs.Runs.{Came, misused, helped, unread, large, faulty, faulty_tree, faulty_image, done, refuses, cut, out, came_to, reset_done, host_done, start_status}
 
 -- reading the script came to no end, and all was not done

@@ -1,6 +1,10 @@
 -- What a run of a generated system comes to.
 use Rattle.std.proofs.Common.{◌≡◌, ◌⊎◌, ℕ, true, List, [], ap, subst, inl, inr}
 use Rattle.cxl_gen.specs.Made.{made_table, made_tree}
+use Rattle.cxl_inputs.specs.Ends.{IsWritten, IsCutShort}
+use Rattle.cxl_inputs.specs.ResetHost.{reset_host_of}
+use Rattle.cxl_inputs.specs.declared.status.Status.{Status}
+use Rattle.cxl_inputs.specs.declared.status.Status.TheVariants.{Done, WriteFault, BusFault, Memory}
 use Rattle.cxl_io.specs.Sink.{Takes}
 use Rattle.cxl_machine.specs.Machine.{Machine}
 use Rattle.cxl_machine.specs.Scripts.{Asked, Turn}
@@ -10,7 +14,6 @@ use Rattle.cxl_model.specs.System.{System}
 use Rattle.cxl_shell.specs.Completeness.{HasMadeAll}
 use Rattle.cxl_shell.specs.Devices.{Devices}
 use Rattle.cxl_shell.specs.Endings.{HasCarriedOut, EndsGen, told, runs_out}
-use Rattle.cxl_commands.specs.Ends.{IsWritten, IsCutShort}
 use Rattle.cxl_commands.specs.Form.{Gen}
 use Rattle.cxl_commands.specs.Outside.{Outside}
 use Rattle.cxl_commands.specs.RunByFiles.{before, behind, IsRunByFiles, writes, is_cut}
@@ -18,9 +21,6 @@ use Rattle.cxl_shell.specs.Run.{IsUnopened, by_files, unready, unopened, opened,
 use Rattle.cxl_commands.specs.RunByFiles as ways
 use Rattle.cxl_shell.specs.RunOut.{HasMadeSome}
 use Rattle.cxl_shell.specs.commands.Script.{FailsToOpen, bus, memory}
-use Rattle.cxl_commands.specs.declared.status.Status.{Status}
-use Rattle.cxl_commands.specs.declared.status.Status.TheVariants.{Done, WriteFault, BusFault, Memory}
-use Rattle.cxl_commands.specs.inputs.ResetHost.{reset_host_of}
 use Rattle.cxl_shell.proofs.laws.Early.{comes_early, unready_early}
 use Rattle.cxl_shell.proofs.laws.Script.{gen_ended}
 

@@ -3,6 +3,9 @@ use Rattle.std.proofs.Common.{◌≡◌, ℕ, true, Ok, List, All, IfOk, refl, s
 use Rattle.std.proofs.lemmas.List.Elements.{All-map, All-take}
 use Rattle.cxl_flat.specs.Flat.{AreRanged, IsFlatTurn}
 use Rattle.cxl_gen.specs.Made.{made_commands}
+use Rattle.cxl_inputs.specs.Host.{host_of}
+use Rattle.cxl_inputs.specs.declared.status.Status.{Status}
+use Rattle.cxl_inputs.specs.declared.status.Status.TheVariants.{Done}
 use Rattle.cxl_io.specs.Sink.{SinkState, Takes}
 use Rattle.cxl_io.specs.Source.{SourceState}
 use Rattle.cxl_machine.specs.Machine.{Machine, HasSameHost, present}
@@ -30,9 +33,6 @@ use Rattle.cxl_shell.specs.commands.Gen.{made_asked}
 use Rattle.cxl_commands.specs.declared.form.HostAsk.TheVariants as host_asks
 use Rattle.cxl_commands.specs.declared.form.ResetAsk.TheVariants as reset_asks
 use Rattle.cxl_commands.specs.declared.form.WordsAsk.TheVariants as plain_asks
-use Rattle.cxl_commands.specs.declared.status.Status.{Status}
-use Rattle.cxl_commands.specs.declared.status.Status.TheVariants.{Done}
-use Rattle.cxl_commands.specs.inputs.Host.{host_of}
 use Rattle.cxl_shell.proofs.Lifted.{no_session}
 use Rattle.cxl_commands.proofs.Runs.{came_to}
 use Rattle.cxl_commands.proofs.laws.Check.{check_accepted}

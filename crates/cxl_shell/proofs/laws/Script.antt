@@ -2,6 +2,14 @@
 use Rattle.std.proofs.Common.{◌≡◌, ◌⊎◌, ℕ, ◌+◌, ◌<◌, ◌≤◌, true, false, Option, Some, None, List, [], ◌++◌, length, IfSome, refl, sym, ap, subst, ◌∙◌, inl, inr, arith, length-append}
 use Rattle.cxl_cedt.specs.CedtFields.{CedtFields}
 use Rattle.cxl_enc.specs.Faults.{Rose}
+use Rattle.cxl_inputs.specs.Ends.{IsWritten}
+use Rattle.cxl_inputs.specs.Host.{host_of, AreRead}
+use Rattle.cxl_inputs.specs.Image.{IsImageOf, IsImageReading}
+use Rattle.cxl_inputs.specs.Outcome.{Outcome}
+use Rattle.cxl_inputs.specs.Table.{IsTableOf, IsReading}
+use Rattle.cxl_inputs.specs.Topology.{IsTreeOf, IsTreeReading}
+use Rattle.cxl_inputs.specs.declared.status.Status.{Status}
+use Rattle.cxl_inputs.specs.declared.status.Status.TheVariants.{Done, ReadFault, WriteFault, BusFault, Refused, Memory, TooMuch}
 use Rattle.cxl_io.specs.Reader.{script_limit}
 use Rattle.cxl_io.specs.Sink.{SinkState, Takes}
 use Rattle.cxl_io.specs.Source.{SourceState}
@@ -28,9 +36,8 @@ use Rattle.cxl_shell.specs.Devices.{Devices}
 use Rattle.cxl_shell.specs.Endings.{HasCarriedOut, EndsScript, read_out, ending_cut, reply_cut, runs_out, EndsGen, EndsForm}
 use Rattle.cxl_shell.specs.Endings as endings_of
 use Rattle.cxl_commands.specs.Answers.{IsAnswerBy}
-use Rattle.cxl_commands.specs.Ends.{IsWritten, IsStopped}
+use Rattle.cxl_commands.specs.Stopped.{IsStopped}
 use Rattle.cxl_commands.specs.Form.{Form, OfTable, OfResetHost, OfHost, OfWords, runs_session, reads_script}
-use Rattle.cxl_commands.specs.Outcome.{Outcome}
 use Rattle.cxl_commands.specs.Outside.{Outside}
 use Rattle.cxl_commands.specs.Readings.{AreKnown, ByHost}
 use Rattle.cxl_commands.specs.RunByFiles.{IsRunByFiles}
@@ -41,12 +48,6 @@ use Rattle.cxl_shell.specs.commands.Script.{IsStart, StartsSession, FailsToOpen,
 use Rattle.cxl_commands.specs.declared.form.HostAsk.TheVariants as host_asks
 use Rattle.cxl_commands.specs.declared.form.ResetAsk.TheVariants as reset_asks
 use Rattle.cxl_commands.specs.declared.form.WordsAsk.TheVariants as plain_asks
-use Rattle.cxl_commands.specs.declared.status.Status.{Status}
-use Rattle.cxl_commands.specs.declared.status.Status.TheVariants.{Done, ReadFault, WriteFault, BusFault, Refused, Memory, TooMuch}
-use Rattle.cxl_commands.specs.inputs.Host.{host_of, AreRead}
-use Rattle.cxl_commands.specs.inputs.Image.{IsImageOf, IsImageReading}
-use Rattle.cxl_commands.specs.inputs.Table.{IsTableOf, IsReading}
-use Rattle.cxl_commands.specs.inputs.Topology.{IsTreeOf, IsTreeReading}
 use Rattle.cxl_shell.specs.Statuses.{is_of_files}
 use Rattle.cxl_shell.proofs.Lifted.{of_its_files}
 use Rattle.cxl_commands.proofs.Readings.{HaveOneReading, answer_comes}

@@ -1,6 +1,8 @@
 -- What `gen` asks of a generated system, and what it tells.
 use Rattle.std.specs.Prelude.{ℕ, ◌++◌, List, map, Ok, codes, decimal}
 use Rattle.cxl_gen.specs.Made.{made_commands}
+use Rattle.cxl_inputs.specs.Outcome.{Outcome, one_piece}
+use Rattle.cxl_inputs.specs.declared.status.Status.TheVariants.{Done}
 use Rattle.cxl_machine.specs.Scripts.{Asked, Turn}
 use Rattle.cxl_model.specs.Accepted.{HasFirstBreach}
 use Rattle.cxl_model.specs.System.{System}
@@ -9,8 +11,6 @@ use Rattle.cxl_reply.specs.declared.reply.Reply.{Reply}
 use Rattle.cxl_opening.specs.Opening.{HasRegions}
 use Rattle.cxl_turns.specs.Counts.{counts_of}
 use Rattle.cxl_turns.specs.declared.counts.Counts.{Counts}
-use Rattle.cxl_commands.specs.Outcome.{Outcome, one_piece}
-use Rattle.cxl_commands.specs.declared.status.Status.TheVariants.{Done}
 
 -- the commands of the number, none of which is a faulty line
 abbrev pub made_asked : ℕ → List Asked

@@ -3,6 +3,12 @@ use Rattle.std.specs.Prelude.{◌≡◌, ℕ, ◌≤◌, ◌⊎◌, Bool, true, 
 use Rattle.cxl_cedt.specs.CedtFields.{CedtFields}
 use Rattle.cxl_enc.specs.Faults.{Rose}
 use Rattle.cxl_gen.specs.Made.{made_table, made_tree}
+use Rattle.cxl_inputs.specs.Ends.{Ends}
+use Rattle.cxl_inputs.specs.Host.{host_of, AreRead}
+use Rattle.cxl_inputs.specs.Outcome.{Outcome, one_piece}
+use Rattle.cxl_inputs.specs.ResetHost.{reset_host_of, AreBothRead}
+use Rattle.cxl_inputs.specs.declared.status.Status.{Status}
+use Rattle.cxl_inputs.specs.declared.status.Status.TheVariants.{Done, ReadFault, WriteFault, BusFault, Memory, TooMuch}
 use Rattle.cxl_io.specs.Sink.{SinkState, Takes}
 use Rattle.cxl_io.specs.Told.{Told}
 use Rattle.cxl_model.specs.Listed.{region_limit}
@@ -15,16 +21,10 @@ use Rattle.cxl_topo.specs.Tree.{Tree}
 use Rattle.cxl_turns.specs.declared.endings.Ending.{Ending}
 use Rattle.cxl_turns.specs.declared.endings.Ending.TheVariants as endings
 use Rattle.cxl_shell.specs.Devices.{Devices}
-use Rattle.cxl_commands.specs.Ends.{Ends}
 use Rattle.cxl_commands.specs.Form.{Form, OfResetHost, OfHost, OfWords}
-use Rattle.cxl_commands.specs.Outcome.{Outcome, one_piece}
 use Rattle.cxl_commands.specs.declared.form.HostAsk.TheVariants as host_asks
 use Rattle.cxl_commands.specs.declared.form.ResetAsk.TheVariants as reset_asks
 use Rattle.cxl_commands.specs.declared.form.WordsAsk.TheVariants as plain_asks
-use Rattle.cxl_commands.specs.declared.status.Status.{Status}
-use Rattle.cxl_commands.specs.declared.status.Status.TheVariants.{Done, ReadFault, WriteFault, BusFault, Memory, TooMuch}
-use Rattle.cxl_commands.specs.inputs.Host.{host_of, AreRead}
-use Rattle.cxl_commands.specs.inputs.ResetHost.{reset_host_of, AreBothRead}
 
 -- ---- where a session starts
 

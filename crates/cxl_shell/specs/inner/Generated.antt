@@ -1,6 +1,8 @@
 -- How the commands of a generated system end over its host.
 use Rattle.std.specs.Prelude.{◌≡◌, ℕ, List}
 use Rattle.cxl_gen.specs.Made.{made_table, made_tree}
+use Rattle.cxl_inputs.specs.ResetHost.{reset_host_of}
+use Rattle.cxl_inputs.specs.declared.status.Status.{Status}
 use Rattle.cxl_io.specs.Sink.{SinkState}
 use Rattle.cxl_machine.specs.Machine.{Machine}
 use Rattle.cxl_machine.specs.Scripts.{Asked, Turn}
@@ -12,8 +14,6 @@ use Rattle.cxl_topo.specs.Tree.{Tree}
 use Rattle.cxl_shell.specs.Devices.{Devices}
 use Rattle.cxl_shell.specs.Endings.{HasCarriedOut, EndsGen}
 use Rattle.cxl_shell.specs.commands.Script.{FailsToOpen}
-use Rattle.cxl_commands.specs.declared.status.Status.{Status}
-use Rattle.cxl_commands.specs.inputs.ResetHost.{reset_host_of}
 
 -- the host of the number after reset
 abbrev pub made_host : ℕ → System

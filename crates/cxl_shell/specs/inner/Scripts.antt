@@ -1,5 +1,8 @@
 -- How a script over a host ends.
 use Rattle.std.specs.Prelude.{◌≡◌, ℕ, ◌<◌, List}
+use Rattle.cxl_inputs.specs.Ends.{Ends}
+use Rattle.cxl_inputs.specs.Outcome.{Outcome}
+use Rattle.cxl_inputs.specs.declared.status.Status.{Status}
 use Rattle.cxl_io.specs.Sink.{SinkState}
 use Rattle.cxl_machine.specs.Machine.{Machine}
 use Rattle.cxl_model.specs.Listed.{region_limit}
@@ -10,11 +13,8 @@ use Rattle.cxl_model.specs.System.{System}
 use Rattle.cxl_opening.specs.Opening.{HasRegions}
 use Rattle.cxl_shell.specs.Devices.{Devices}
 use Rattle.cxl_shell.specs.Endings.{HasCarriedOut, EndsScript}
-use Rattle.cxl_commands.specs.Ends.{Ends}
-use Rattle.cxl_commands.specs.Outcome.{Outcome}
 use Rattle.cxl_commands.specs.commands.RefusedStart.{too_many_regions}
 use Rattle.cxl_shell.specs.commands.Script.{FailsToOpen}
-use Rattle.cxl_commands.specs.declared.status.Status.{Status}
 use Rattle.cxl_commands.specs.inner.Reports.{TellsBreach}
 
 -- its image is accepted

@@ -1,5 +1,6 @@
 ghost use Rattle.std.specs.Prelude.{◌≡◌, ℕ, ◌≤◌, List, take, map, IfOk, OnErr};
 ghost use Rattle.cxl_gen.specs.Made.{made_tree};
+ghost use Rattle.cxl_inputs.specs.Outcome.{one_piece};
 ghost use Rattle.cxl_io.specs.Source.{SourceState};
 ghost use Rattle.cxl_machine.specs.Machine.{present};
 ghost use Rattle.cxl_machine.specs.Scripts.{Asked, Turn};
@@ -12,18 +13,17 @@ ghost use Rattle.cxl_turns.specs.Going.{HasGoneOn};
 ghost use Rattle.cxl_window.specs.Windows.{AreMadeWith};
 ghost use Rattle.cxl_shell.specs.Devices.{devices};
 ghost use Rattle.cxl_shell.specs.Endings.{EndsGen};
-ghost use Rattle.cxl_commands.specs.Outcome.{one_piece};
 ghost use Rattle.cxl_shell.specs.commands.Gen.{made_asked, gen_text, gen_told, HasChecked};
 ghost use Rattle.cxl_shell.specs.inner.Generated.{made_host, IsMadeHost, EndsMade};
 
 use crate::commands::script::unopened;
 use cxl_bus::Regs;
 use cxl_check::{CheckFault, check};
-use cxl_commands::{Outcome, OwnedHost, Status, finish};
 use cxl_gen::{
     Command, command_count, made_systems_are_sound, made_table, made_tree, make_command,
 };
 use cxl_image::Image;
+use cxl_inputs::{Outcome, OwnedHost, Status, finish};
 use cxl_io::{Memory, Sink};
 use cxl_media::Roll;
 use cxl_model::{accepted_or_breach, reset_hosts_are_accepted};

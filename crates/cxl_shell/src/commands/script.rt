@@ -13,7 +13,8 @@ ghost use Rattle.cxl_shell.specs.commands.Script.{bus_failed, script_stopped};
 ghost use Rattle.cxl_shell.specs.inner.Scripts.{EndsOver, EndsFromImage};
 
 use cxl_bus::Regs;
-use cxl_commands::{Outcome, OwnedHost, Status, Stop, checked, finish};
+use cxl_commands::checked;
+use cxl_inputs::{Outcome, OwnedHost, Status, Stop, finish};
 use cxl_io::{Memory, Sink, Source};
 use cxl_media::Roll;
 use cxl_model::accepted_or_breach;

@@ -1,13 +1,13 @@
 use Rattle.std.proofs.Common.{◌≡◌, ◌⊎◌, refl, subst, inl, inr}
 use Rattle.cxl_cedt.specs.CedtFields.{CedtFields}
 use Rattle.cxl_cedt.specs.declared.fault.CedtFault.{CedtFault}
+use Rattle.cxl_inputs.specs.Table.{IsReading, IsFaulty}
+use Rattle.cxl_inputs.specs.declared.status.Status.{Status}
+use Rattle.cxl_inputs.specs.declared.status.Status.TheVariants.{Done, FetchFault, BadTable, Refused, TooLarge}
 use Rattle.cxl_io.specs.Fetch.{AsksFor}
 use Rattle.cxl_commands.specs.Form.{Form, own_files}
 use Rattle.cxl_commands.specs.Outside.{Outside}
 use Rattle.cxl_commands.specs.RunByFiles.{IsRunByFiles}
-use Rattle.cxl_commands.specs.declared.status.Status.{Status}
-use Rattle.cxl_commands.specs.declared.status.Status.TheVariants.{Done, FetchFault, BadTable, Refused, TooLarge}
-use Rattle.cxl_commands.specs.inputs.Table.{IsReading, IsFaulty}
 use Rattle.cxl_shell.proofs.Behind.{table_behind, some_behind}
 use Rattle.cxl_shell.proofs.Forms.{first_file}
 use Rattle.cxl_shell.proofs.Lifted.{lifted, not_early}

@@ -1,8 +1,8 @@
 use Rattle.std.proofs.Common.{List, refl}
 use Rattle.cxl_image.specs.declared.fault.ImageFault.{ImageFault}
 use Rattle.cxl_image.specs.declared.fault.ImageFault.TheVariants.{Memory}
+use Rattle.cxl_inputs.specs.declared.status.Status.TheVariants.{BadImage}
 use Rattle.cxl_regs.specs.Registers.{Registers}
-use Rattle.cxl_commands.specs.declared.status.Status.TheVariants.{BadImage}
 use Rattle.cxl_shell.proofs.Behind.{image_behind}
 use Rattle.cxl_shell.proofs.Lifted.{lifted, not_early}
 use Rattle.cxl_commands.proofs.Readings.{HaveOneReading, one_table, one_topology, one_image, ReadsImage, FailsImage, AnsweredByHost, image_step, after_tree, known_tree}

@@ -2,8 +2,8 @@ use Rattle.std.proofs.Common.{refl}
 use Rattle.cxl_cedt.specs.CedtFields.{CedtFields}
 use Rattle.cxl_cedt.specs.declared.fault.CedtFault.{CedtFault}
 use Rattle.cxl_cedt.specs.declared.fault.CedtFault.TheVariants.{Memory}
-use Rattle.cxl_commands.specs.declared.status.Status.TheVariants.{BadTable}
-use Rattle.cxl_commands.specs.inputs.Table.{IsReading, IsFaulty}
+use Rattle.cxl_inputs.specs.Table.{IsReading, IsFaulty}
+use Rattle.cxl_inputs.specs.declared.status.Status.TheVariants.{BadTable}
 use Rattle.cxl_shell.proofs.Behind.{table_behind}
 use Rattle.cxl_shell.proofs.Faults.{no_memory}
 use Rattle.cxl_shell.proofs.Lifted.{lifted, not_early}

@@ -1,12 +1,12 @@
 use Rattle.std.proofs.Common.{refl}
 use Rattle.cxl_cedt.specs.CedtFields.{CedtFields}
 use Rattle.cxl_cedt.specs.declared.fault.CedtFault.{CedtFault}
+use Rattle.cxl_inputs.specs.Table.{IsReading, IsFaulty}
+use Rattle.cxl_inputs.specs.Topology.{IsTreeReading, IsFaultyTree}
+use Rattle.cxl_inputs.specs.declared.status.Status.TheVariants.{BadTopo}
 use Rattle.cxl_topo.specs.Tree.{Tree}
 use Rattle.cxl_topofile.specs.declared.fault.TopoFault.{TopoFault}
 use Rattle.cxl_topofile.specs.declared.fault.TopoFault.TheVariants.{Memory}
-use Rattle.cxl_commands.specs.declared.status.Status.TheVariants.{BadTopo}
-use Rattle.cxl_commands.specs.inputs.Table.{IsReading, IsFaulty}
-use Rattle.cxl_commands.specs.inputs.Topology.{IsTreeReading, IsFaultyTree}
 use Rattle.cxl_shell.proofs.Behind.{tree_behind}
 use Rattle.cxl_shell.proofs.Lifted.{lifted, not_early}
 use Rattle.cxl_commands.proofs.Readings.{one_table, one_topology, AfterTree, tree_step, after_table}

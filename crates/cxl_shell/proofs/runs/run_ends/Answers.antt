@@ -1,5 +1,5 @@
 use Rattle.std.proofs.Common.{refl}
-use Rattle.cxl_commands.specs.declared.status.Status.TheVariants.{WriteFault, Refused, Memory}
+use Rattle.cxl_inputs.specs.declared.status.Status.TheVariants.{WriteFault, Refused, Memory}
 use Rattle.cxl_shell.proofs.Lifted.{lifted, not_early, behind_takes}
 use Rattle.cxl_commands.proofs.Endings.{memory_writes, ends_or_memory, no_memory_left}
 use Rattle.cxl_commands.proofs.Readings.{HaveOneReading, one_table, one_topology, one_image, answer_comes}

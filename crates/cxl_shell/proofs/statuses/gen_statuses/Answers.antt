@@ -1,7 +1,7 @@
 use Rattle.std.proofs.Common.{◌⊎◌, [], sym, subst}
+use Rattle.cxl_inputs.specs.Ends.{IsCutShort}
 use Rattle.cxl_io.specs.Sink.{Takes}
 use Rattle.cxl_shell.specs.Completeness.{HasMadeAll}
-use Rattle.cxl_commands.specs.Ends.{IsCutShort}
 use Rattle.cxl_shell.specs.Run.{IsRun, IsUnopened}
 use Rattle.cxl_shell.specs.RunOut.{HasMadeSome}
 use Rattle.cxl_shell.proofs.laws.Gen.{gen_unread, gen_done, gen_cut, gen_memory, gen_others}

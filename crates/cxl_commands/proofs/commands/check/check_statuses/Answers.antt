@@ -1,9 +1,9 @@
 use Rattle.std.proofs.Common.{subst}
+use Rattle.cxl_inputs.specs.Host.{host_of}
+use Rattle.cxl_inputs.specs.declared.status.Status.TheVariants.{Done, Refused, Memory}
 use Rattle.cxl_commands.specs.Form.{Check}
 use Rattle.cxl_commands.specs.Readings.{ByHost, AreKnown}
 use Rattle.cxl_commands.specs.RunByFiles.{IsRunByFiles}
-use Rattle.cxl_commands.specs.declared.status.Status.TheVariants.{Done, Refused, Memory}
-use Rattle.cxl_commands.specs.inputs.Host.{host_of}
 use Rattle.cxl_commands.proofs.laws.Check.{check_accepted, check_broken, accepted_comes, broken_comes, memory_in_check}
 use Rattle.cxl_commands.proofs.Readings.{HaveOneReading, one_table, one_topology, one_image, answer_comes}
 use Rattle.cxl_commands.proofs.Runs.{came_to, memory_left}

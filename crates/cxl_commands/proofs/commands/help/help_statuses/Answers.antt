@@ -1,8 +1,8 @@
 use Rattle.std.proofs.Common.{refl, subst}
+use Rattle.cxl_inputs.specs.declared.status.Status.TheVariants.{Usage}
 use Rattle.cxl_commands.specs.Form.{NoCreate, Help, Version, Unreadable}
 use Rattle.cxl_commands.specs.RunByFiles.{IsRunByFiles}
 use Rattle.cxl_commands.specs.commands.Help.{helped, version_told, misused}
-use Rattle.cxl_commands.specs.declared.status.Status.TheVariants.{Usage}
 use Rattle.cxl_commands.proofs.Endings.{fixed_ends, fixed_or_memory}
 use Rattle.cxl_commands.proofs.Runs.{came_to, usage_asked}
 use Rattle.cxl_commands.proofs.commands.help.help_statuses.Goals as goal

@@ -1,5 +1,5 @@
 use Rattle.std.proofs.lemmas.Result.{err_from_is_err_and}
-use Rattle.cxl_commands.proofs.Stops.{stop-memory, asks_one}
+use Rattle.cxl_inputs.proofs.Stops.{stop-memory, asks_one}
 use Rattle.cxl_commands.proofs.commands.list.judged.Goals as goal
 
 pub returns-in_err-windows-clause-stops : goal.returns-in_err-windows-clause-stops

@@ -1,8 +1,8 @@
 use Rattle.std.proofs.Common.{refl, subst}
+use Rattle.cxl_inputs.specs.declared.status.Status.TheVariants.{Done, Memory}
 use Rattle.cxl_commands.specs.Form.{Listing}
 use Rattle.cxl_commands.specs.RunByFiles.{IsRunByFiles}
 use Rattle.cxl_commands.specs.commands.List.{listed}
-use Rattle.cxl_commands.specs.declared.status.Status.TheVariants.{Done, Memory}
 use Rattle.cxl_commands.proofs.laws.List.{list_written, memory_in_list}
 use Rattle.cxl_commands.proofs.Readings.{one_table, knows_table, table_answer_comes}
 use Rattle.cxl_commands.proofs.Runs.{came_to, memory_left}

@@ -1,8 +1,8 @@
 use Rattle.std.proofs.Common.{refl, subst}
+use Rattle.cxl_inputs.specs.declared.status.Status.TheVariants.{Done}
 use Rattle.cxl_commands.specs.Form.{Normal}
 use Rattle.cxl_commands.specs.RunByFiles.{IsRunByFiles}
 use Rattle.cxl_commands.specs.commands.Normal.{normalized}
-use Rattle.cxl_commands.specs.declared.status.Status.TheVariants.{Done}
 use Rattle.cxl_commands.proofs.laws.Normal.{normal_written}
 use Rattle.cxl_commands.proofs.Readings.{one_table, knows_table, table_answer_comes}
 use Rattle.cxl_commands.proofs.Runs.{came_to}

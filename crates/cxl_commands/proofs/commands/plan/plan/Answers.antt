@@ -1,7 +1,7 @@
 use Rattle.std.proofs.Common.{Err, ap, ◌∙◌}
 use Rattle.std.proofs.lemmas.Result.{err_from_is_err_and}
+use Rattle.cxl_inputs.specs.ResetHost.{no_reset_host}
 use Rattle.cxl_commands.specs.Form as forms
-use Rattle.cxl_commands.specs.inputs.ResetHost.{no_reset_host}
 use Rattle.cxl_commands.proofs.Planned.{plan-comes}
 use Rattle.cxl_commands.proofs.Stops.{comes-stopped, comes-out_of_memory}
 use Rattle.cxl_commands.proofs.commands.plan.plan.Goals as goal

@@ -1,11 +1,11 @@
 use Rattle.std.proofs.Common.{subst}
+use Rattle.cxl_inputs.specs.ResetHost.{reset_host_of}
+use Rattle.cxl_inputs.specs.declared.status.Status.TheVariants.{Done, Refused}
 use Rattle.cxl_model.specs.System.{System}
 use Rattle.cxl_script.specs.declared.command.Create.{Create}
 use Rattle.cxl_commands.specs.Form.{Plan}
 use Rattle.cxl_commands.specs.Readings.{ByTree, AreKnown}
 use Rattle.cxl_commands.specs.RunByFiles.{IsRunByFiles}
-use Rattle.cxl_commands.specs.declared.status.Status.TheVariants.{Done, Refused}
-use Rattle.cxl_commands.specs.inputs.ResetHost.{reset_host_of}
 use Rattle.cxl_commands.proofs.laws.Plan.{LineLaws, plan_written, refusal_written, plan_comes, refusal_comes}
 use Rattle.cxl_commands.proofs.Readings.{HaveOneReading, one_table, one_topology, one_image, answer_comes}
 use Rattle.cxl_commands.proofs.Runs.{came_to}

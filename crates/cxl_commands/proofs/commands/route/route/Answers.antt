@@ -1,8 +1,9 @@
 use Rattle.std.proofs.Common.{Err, ap, ◌∙◌}
 use Rattle.std.proofs.lemmas.Result.{err_from_is_err_and}
+use Rattle.cxl_inputs.specs.Table.{no_table, by_table}
+use Rattle.cxl_inputs.proofs.Stops.{asks_one}
 use Rattle.cxl_commands.specs.Form.{Route}
-use Rattle.cxl_commands.specs.inputs.Table.{no_table, by_table}
-use Rattle.cxl_commands.proofs.Stops.{comes-stopped, comes-out_of_memory, asks_one}
+use Rattle.cxl_commands.proofs.Stops.{comes-stopped, comes-out_of_memory}
 use Rattle.cxl_commands.proofs.commands.route.route.Goals as goal
 
 pub returns-in_err-table-clause-comes : goal.returns-in_err-table-clause-comes

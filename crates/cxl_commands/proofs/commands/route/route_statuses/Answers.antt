@@ -1,8 +1,8 @@
 use Rattle.std.proofs.Common.{refl, subst}
+use Rattle.cxl_inputs.specs.declared.status.Status.TheVariants.{Done, Refused}
 use Rattle.cxl_commands.specs.Form.{Route}
 use Rattle.cxl_commands.specs.RunByFiles.{IsRunByFiles}
 use Rattle.cxl_commands.specs.commands.Route.{nowhere, no_window}
-use Rattle.cxl_commands.specs.declared.status.Status.TheVariants.{Done, Refused}
 use Rattle.cxl_commands.proofs.laws.Route.{route_line, refused_by, refusal}
 use Rattle.cxl_commands.proofs.Readings.{one_table, knows_table, table_answer_comes}
 use Rattle.cxl_commands.proofs.Runs.{came_to}

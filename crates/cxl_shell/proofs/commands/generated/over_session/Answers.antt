@@ -1,6 +1,6 @@
 use Rattle.std.proofs.Common.{refl, subst, take}
+use Rattle.cxl_inputs.specs.Ends.{Ends}
 use Rattle.cxl_shell.specs.Endings.{told, runs_out}
-use Rattle.cxl_commands.specs.Ends.{Ends}
 use Rattle.cxl_shell.specs.commands.Gen.{made_asked}
 use Rattle.cxl_commands.proofs.Stops.{told-nothing_more}
 use Rattle.cxl_shell.proofs.commands.generated.over_session.Goals as goal

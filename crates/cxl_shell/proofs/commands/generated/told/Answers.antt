@@ -1,6 +1,6 @@
 use Rattle.std.proofs.Common.{Vec, Global, ℕ, ap, ◌∙◌, append_assoc}
-use Rattle.cxl_commands.specs.Outcome.{one_piece}
-use Rattle.cxl_commands.specs.declared.status.Status.TheVariants.{Done}
+use Rattle.cxl_inputs.specs.Outcome.{one_piece}
+use Rattle.cxl_inputs.specs.declared.status.Status.TheVariants.{Done}
 use Rattle.cxl_shell.proofs.commands.generated.told.Goals as goal
 
 pub returns : goal.returns

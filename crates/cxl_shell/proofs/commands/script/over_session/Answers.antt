@@ -1,6 +1,6 @@
 use Rattle.std.proofs.Common.{refl, subst}
+use Rattle.cxl_inputs.specs.Ends.{Ends}
 use Rattle.cxl_turns.specs.declared.endings.Ending.TheVariants as endings
-use Rattle.cxl_commands.specs.Ends.{Ends}
 use Rattle.cxl_shell.proofs.Scripts.{script-done, script-cut, script-out, script-stopped}
 use Rattle.cxl_shell.proofs.commands.script.over_session.Goals as goal
 

@@ -1,7 +1,0 @@
-use Rattle.cxl_commands.proofs.Topologies.{bad_tree-stops}
-use Rattle.cxl_commands.proofs.inputs.topology.fetch_topology.Goals as goal
-
-pub returns-clause-stops : goal.returns-clause-stops
-returns-clause-stops g c =
-    let of = rw c.as_slice.ensures.value at c.in-Err.ensures.fault in
-    rw c.of.ensures (bad_tree-stops c.args.file.now _ _ c.in_ok-bytes.bytes.items c.in-Err.fault c.faulty.result c.in_ok-bytes.ensures.file c.in_ok-bytes.ensures.asked of c.faulty.ensures)

@@ -1,0 +1,27 @@
+-- Commands that stop early.
+use Rattle.std.proofs.Common.{◌≡◌, List, ℕ, [], ◌∷◌, Result, Err, IfErr, sym, subst}
+use Rattle.cxl_io.specs.Fetch.{FetchState, AsksFor}
+use Rattle.cxl_inputs.specs.File.{AsksForSome}
+use Rattle.cxl_inputs.specs.Outcome.{Outcome}
+use Rattle.cxl_inputs.specs.Stop.{IsStop}
+use Rattle.cxl_inputs.specs.declared.stop.Stop.{Stop}
+use Rattle.cxl_inputs.specs.declared.stop.Stop.TheVariants as stop
+
+-- a stop of another kind
+pub stop-weaker : (P Q : Outcome → Type 0) (M N : Type 0) (reason : Stop) → ((o : Outcome) → P o → Q o) → (M → N) → IsStop P M reason → IsStop Q N reason
+stop-weaker P Q M N (stop.Outcome o) follows out is = follows o is
+stop-weaker P Q M N stop.Memory follows out is = out is
+
+-- want of memory
+pub stop-memory : (P : Outcome → Type 0) (M : Type 0) (reason : Stop) → reason ≡ stop.Memory → M → IsStop P M reason
+stop-memory P M (stop.Outcome o) e out = absurd (cc)
+stop-memory P M stop.Memory e out = out
+
+-- a call that stops as a step before it did
+pub stopped-behind : {A : Type 0} (P Q : Outcome → Type 0) (M N : Type 0) (answer : Result A Stop) (reason : Stop) → answer ≡ Err reason → ((o : Outcome) → P o → Q o) → (M → N) → IsStop P M reason → IfErr answer (IsStop Q N)
+stopped-behind P Q M N answer reason e follows out is =
+    subst (λ r. IfErr r (IsStop Q N)) (sym e) (stop-weaker P Q M N reason follows out is)
+
+-- all of one file's names are asked for
+pub asks_one : (file : List ℕ) (old new : FetchState) → AsksFor old new (file ∷ []) → AsksForSome (file ∷ []) old new
+asks_one file old new asks = record { count = 1; asks = asks }

@@ -1,0 +1,18 @@
+-- Reading a topology that has a fault.
+use Rattle.std.proofs.Common.{◌≡◌, ◌≢◌, List, ℕ, [], ◌∷◌, Result, Ok, Err, IfOk}
+use Rattle.cxl_enc.specs.declared.faults.Memory.{Memory as NoMemory}
+use Rattle.cxl_io.specs.Fetch.{FetchState, AsksFor, IsFile}
+use Rattle.cxl_topofile.specs.File.{IsFirstTopoFault}
+use Rattle.cxl_topofile.specs.declared.fault.TopoFault.{TopoFault}
+use Rattle.cxl_topofile.specs.declared.fault.TopoFault.TheVariants.{Memory}
+use Rattle.cxl_inputs.specs.File.{AsksForSome}
+use Rattle.cxl_inputs.specs.Outcome.{Outcome}
+use Rattle.cxl_inputs.specs.Stop.{IsStop, stop_of}
+use Rattle.cxl_inputs.specs.Topology.{bad_topology, HasNoTree, not_sound}
+use Rattle.cxl_inputs.proofs.Stops.{asks_one}
+
+-- the fault ends the command, or there was no memory to say so
+pub bad_tree-stops : (file : List ℕ) (old new : FetchState) (bytes : List ℕ) (fault : TopoFault) (made : Result Outcome NoMemory) → IsFile (old.told file) bytes → AsksFor old new (file ∷ []) → IsFirstTopoFault bytes fault → IfOk made (λ outcome. (fault ≢ Memory) × (outcome ≡ bad_topology fault)) → IsStop (HasNoTree [] file old new) (AsksForSome (file ∷ []) old new) (stop_of made)
+bad_tree-stops file old new bytes fault (Ok outcome) is asks of is_made =
+    not_sound fault (record { bytes = bytes; told_so = is.same; faulty = record { within = is.within; real = is_made.0; first = of } }) asks is_made.1
+bad_tree-stops file old new bytes fault (Err e) is asks of is_made = asks_one file old new asks

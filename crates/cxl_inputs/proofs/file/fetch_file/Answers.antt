@@ -1,0 +1,5 @@
+use Rattle.std.proofs.Common.{rules}
+use Rattle.cxl_inputs.proofs.file.fetch_file.Goals as goal
+
+pub returns-in-Err-TooLarge-clause-stops : goal.returns-in-Err-TooLarge-clause-stops
+returns-in-Err-TooLarge-clause-stops g c = search rules

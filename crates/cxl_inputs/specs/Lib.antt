@@ -1,0 +1,12 @@
+pub mod Exit
+pub mod Outcome
+pub mod Text
+pub mod Stop
+pub mod Ends
+pub mod Faults
+pub mod File
+pub mod Table
+pub mod Topology
+pub mod Image
+pub mod Host
+pub mod ResetHost

@@ -1,0 +1,47 @@
+ghost use Rattle.std.specs.Prelude.{◌≡◌, ◌<◌, ◌≤◌, [], ◌∷◌, IfOk, IfErr, OnOk};
+ghost use Rattle.cxl_io.specs.Fetch.{AsksFor, IsFile};
+ghost use Rattle.cxl_inputs.specs.File.{HasNoBytes, AsksForSome, unread, too_large};
+ghost use Rattle.cxl_inputs.specs.Stop.{IsStop};
+
+use crate::outcome::Outcome;
+use crate::status::Status;
+use crate::stop::Stop;
+use cxl_io::{Fetch, FetchFault, Memory};
+use std::alloc::Global;
+
+/// The bytes of a command's first file. It stops where there are none.
+pub(crate) fn fetch_file<F: Fetch>(
+    alloc: Global,
+    file: &str,
+    files: &mut F,
+) -> Result<Vec<u8>, Stop>
+    ensures file { IfOk result (λ bytes. IsFile ((F.state files.old).told file.now) bytes.items) }
+    ensures asked { OnOk result (AsksFor (F.state files.old) (F.state files.new) (file.now ∷ [])) }
+    ensures stops { IfErr result (IsStop (HasNoBytes [] file.now (F.state files.old) (F.state files.new))
+        (AsksForSome (file.now ∷ []) (F.state files.old) (F.state files.new))) }
+    ensures counts { (F.state files.old).faults ≤ (F.state files.new).faults }
+    ensures stays { (F.state files.new).told ≡ (F.state files.old).told }
+{
+    match files.fetch(alloc, file) {
+        Ok(bytes) => Ok(bytes),
+        Err(FetchFault::Failed) => Err(Stop::of(unread(alloc, file))),
+        Err(FetchFault::TooLarge) => Err(Stop::of(too_large(alloc, file))),
+        Err(FetchFault::Memory) => Err(Stop::Memory),
+    }
+}
+
+/// The file of this name was not read.
+fn unread(alloc: Global, file: &str) -> Result<Outcome, Memory>
+    ensures { IfOk result (λ outcome. outcome ≡ unread file.now) }
+{
+    let text = format!(in alloc; "error: cannot read {file}\n")?;
+    Ok(Outcome::made(Status::FetchFault, text.into_bytes()))
+}
+
+/// The file of this name has too many bytes.
+fn too_large(alloc: Global, file: &str) -> Result<Outcome, Memory>
+    ensures { IfOk result (λ outcome. outcome ≡ too_large file.now) }
+{
+    let text = format!(in alloc; "error: {file} too large\n")?;
+    Ok(Outcome::made(Status::TooLarge, text.into_bytes()))
+}

@@ -1,0 +1,73 @@
+ghost use Rattle.std.specs.Prelude.{◌≡◌, ◌≤◌, Some, [], ◌∷◌, IfOk, IfErr, OnOk};
+ghost use Rattle.cxl_cedt.specs.CedtFields.{CedtFields};
+ghost use Rattle.cxl_image.specs.Images.{HasCapsOf};
+ghost use Rattle.cxl_io.specs.Fetch.{AsksFor};
+ghost use Rattle.cxl_model.specs.System.{IsSystem, system_of, bridge_uids};
+ghost use Rattle.cxl_window.specs.Windows.{windows_of};
+ghost use Rattle.cxl_inputs.specs.File.{AsksForSome};
+ghost use Rattle.cxl_inputs.specs.Host.{AreRead, HasNoHost};
+ghost use Rattle.cxl_inputs.specs.Stop.{IsStop};
+
+use crate::image::fetch_image;
+use crate::reset_host::fetch_both;
+use crate::stop::Stop;
+use cxl_cedt::Cedt;
+use cxl_image::Image;
+use cxl_io::{Fetch, Memory};
+use cxl_topo::Topo;
+use cxl_window::{Window, windows};
+use std::alloc::Global;
+
+/// What a command's three files describe: a topology, an image over it, and the table's windows as the
+/// topology's bridges make them.
+#[derive(Drop)]
+pub struct OwnedHost {
+    pub topo: Topo,
+    pub image: Image,
+    pub windows: Vec<Window>,
+}
+
+impl OwnedHost {
+    /// The host with this topology, an image over it, and the windows of this table.
+    pub fn of(alloc: Global, table: &Cedt, topo: Topo, image: Image) -> Result<OwnedHost, Memory>
+        requires { HasCapsOf image topo.nodes }
+        ensures parts { IfOk result (λ host. (host.topo ≡ topo) × (host.image ≡ image)) }
+        ensures windows { IfOk result (λ host. host.windows.items ≡ windows_of table.now.records (Some (bridge_uids topo.nodes))) }
+        ensures system { IfOk result (λ host. IsSystem (system_of image topo host.windows.items)) }
+    {
+        let windows = windows(alloc, table, Some(topo.uids()))?;
+        // what is known of a tree and of an image, by asking them
+        let _nodes = topo.count();
+        let _blocks = image.count();
+        Ok(OwnedHost {
+            topo,
+            image,
+            windows,
+        })
+    }
+}
+
+/// The host of a table, a topology and an image, each of which is read before the next is asked for. It
+/// stops at the first that has no reading.
+pub fn fetch_host<F: Fetch>(
+    alloc: Global,
+    cedt: &str,
+    topo: &str,
+    image: &str,
+    files: &mut F,
+) -> Result<OwnedHost, Stop>
+    ensures read { IfOk result (λ host. (table : CedtFields)
+        × AreRead (F.state files.old).told cedt.now topo.now image.now table host.topo host.image
+        × (host.windows.items ≡ windows_of table.records (Some (bridge_uids host.topo.nodes)))) }
+    ensures system { IfOk result (λ host. IsSystem (system_of host.image host.topo host.windows.items)) }
+    ensures asked { OnOk result (AsksFor (F.state files.old) (F.state files.new) (cedt.now ∷ topo.now ∷ image.now ∷ [])) }
+    ensures stops { IfErr result (IsStop (HasNoHost cedt.now topo.now image.now (F.state files.old) (F.state files.new))
+        (AsksForSome (cedt.now ∷ topo.now ∷ image.now ∷ []) (F.state files.old) (F.state files.new))) }
+    ensures counts { (F.state files.old).faults ≤ (F.state files.new).faults }
+    ensures stays { (F.state files.new).told ≡ (F.state files.old).told }
+{
+    let (table, topo) = fetch_both(alloc, cedt, topo, files)?;
+    let image = fetch_image(alloc, image, &topo, files)?;
+    let host = OwnedHost::of(alloc, &table, topo, image)?;
+    Ok(host)
+}

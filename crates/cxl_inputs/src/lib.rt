@@ -1,0 +1,20 @@
+//! The files that commands read, and how a command ends, early or well.
+#![tactic(auto)]
+
+mod faults;
+mod file;
+mod host;
+mod image;
+mod outcome;
+mod reset_host;
+mod status;
+mod stop;
+mod table;
+mod topology;
+
+pub use host::{OwnedHost, fetch_host};
+pub use outcome::Outcome;
+pub use reset_host::fetch_reset_host;
+pub use status::Status;
+pub use stop::{Stop, finish};
+pub use table::fetch_table;

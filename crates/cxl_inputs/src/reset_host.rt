@@ -1,0 +1,67 @@
+ghost use Rattle.std.specs.Prelude.{◌≡◌, ◌≤◌, Some, [], ◌∷◌, IfOk, IfErr, OnOk};
+ghost use Rattle.cxl_cedt.specs.CedtFields.{CedtFields};
+ghost use Rattle.cxl_image.specs.Images.{reset_blocks};
+ghost use Rattle.cxl_io.specs.Fetch.{AsksFor};
+ghost use Rattle.cxl_model.specs.Accepted.{IsAccepted};
+ghost use Rattle.cxl_model.specs.System.{IsSystem, system_of, bridge_uids};
+ghost use Rattle.cxl_window.specs.Windows.{windows_of};
+ghost use Rattle.cxl_inputs.specs.File.{AsksForSome};
+ghost use Rattle.cxl_inputs.specs.ResetHost.{AreBothRead, HasNoResetHost};
+ghost use Rattle.cxl_inputs.specs.Stop.{IsStop};
+
+use crate::host::OwnedHost;
+use crate::stop::Stop;
+use crate::table::fetch_table;
+use crate::topology::fetch_topology;
+use cxl_cedt::Cedt;
+use cxl_image::Image;
+use cxl_io::Fetch;
+use cxl_model::reset_hosts_are_accepted;
+use cxl_topo::Topo;
+use std::alloc::Global;
+
+/// A table, and a topology that is asked for behind it. It stops at the first that has no reading.
+pub(crate) fn fetch_both<F: Fetch>(
+    alloc: Global,
+    cedt: &str,
+    topo: &str,
+    files: &mut F,
+) -> Result<(Cedt, Topo), Stop>
+    ensures read { IfOk result (λ both. AreBothRead (F.state files.old).told cedt.now topo.now both.0 both.1) }
+    ensures asked { OnOk result (AsksFor (F.state files.old) (F.state files.new) (cedt.now ∷ topo.now ∷ [])) }
+    ensures stops { IfErr result (IsStop (HasNoResetHost cedt.now topo.now (F.state files.old) (F.state files.new))
+        (AsksForSome (cedt.now ∷ topo.now ∷ []) (F.state files.old) (F.state files.new))) }
+    ensures counts { (F.state files.old).faults ≤ (F.state files.new).faults }
+    ensures stays { (F.state files.new).told ≡ (F.state files.old).told }
+{
+    let table = fetch_table(alloc, cedt, files)?;
+    let topo = fetch_topology(alloc, topo, files)?;
+    Ok((table, topo))
+}
+
+/// The host of a table and a topology after reset; the table is read before the topology is asked for. It
+/// stops at the first that has no reading.
+pub fn fetch_reset_host<F: Fetch>(
+    alloc: Global,
+    cedt: &str,
+    topo: &str,
+    files: &mut F,
+) -> Result<OwnedHost, Stop>
+    ensures read { IfOk result (λ host. (table : CedtFields)
+        × AreBothRead (F.state files.old).told cedt.now topo.now table host.topo
+        × (host.windows.items ≡ windows_of table.records (Some (bridge_uids host.topo.nodes)))) }
+    ensures reset { IfOk result (λ host. host.image ≡ reset_blocks host.topo.nodes) }
+    ensures system { IfOk result (λ host. IsSystem (system_of host.image host.topo host.windows.items)) }
+    ensures accepted { IfOk result (λ host. IsAccepted (system_of host.image host.topo host.windows.items)) }
+    ensures asked { OnOk result (AsksFor (F.state files.old) (F.state files.new) (cedt.now ∷ topo.now ∷ [])) }
+    ensures stops { IfErr result (IsStop (HasNoResetHost cedt.now topo.now (F.state files.old) (F.state files.new))
+        (AsksForSome (cedt.now ∷ topo.now ∷ []) (F.state files.old) (F.state files.new))) }
+    ensures counts { (F.state files.old).faults ≤ (F.state files.new).faults }
+    ensures stays { (F.state files.new).told ≡ (F.state files.old).told }
+{
+    reset_hosts_are_accepted();
+    let (table, topo) = fetch_both(alloc, cedt, topo, files)?;
+    let image = Image::new(alloc, &topo)?;
+    let host = OwnedHost::of(alloc, &table, topo, image)?;
+    Ok(host)
+}
