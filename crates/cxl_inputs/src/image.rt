@@ -1,5 +1,5 @@
 ghost use Rattle.std.specs.Prelude.{◌≡◌, ◌≢◌, ◌<◌, ◌≤◌, Some, [], ◌∷◌, IfOk, IfErr, OnOk};
-ghost use Rattle.cxl_image.specs.Images.{IsImage, HasCapsOf};
+ghost use Rattle.cxl_image.specs.Images.{HasCapsOf};
 ghost use Rattle.cxl_image.specs.declared.fault.ImageFault.{ImageFault};
 ghost use Rattle.cxl_io.specs.Fetch.{AsksFor};
 ghost use Rattle.cxl_inputs.specs.File.{AsksForSome};

@@ -15,7 +15,7 @@ use crate::table::fetch_table;
 use crate::topology::fetch_topology;
 use cxl_cedt::Cedt;
 use cxl_image::Image;
-use cxl_io::Fetch;
+use cxl_io::{Fetch, Memory};
 use cxl_model::reset_hosts_are_accepted;
 use cxl_topo::Topo;
 use std::alloc::Global;
@@ -59,9 +59,21 @@ pub fn fetch_reset_host<F: Fetch>(
     ensures counts { (F.state files.old).faults ≤ (F.state files.new).faults }
     ensures stays { (F.state files.new).told ≡ (F.state files.old).told }
 {
-    reset_hosts_are_accepted();
     let (table, topo) = fetch_both(alloc, cedt, topo, files)?;
+    let host = after_reset(alloc, &table, topo)?;
+    Ok(host)
+}
+
+/// The host with this topology, its image after reset, and the windows of this table.
+fn after_reset(alloc: Global, table: &Cedt, topo: Topo) -> Result<OwnedHost, Memory>
+    ensures topo { IfOk result (λ host. host.topo ≡ topo) }
+    ensures windows { IfOk result (λ host. host.windows.items ≡ windows_of table.now.records (Some (bridge_uids host.topo.nodes))) }
+    ensures reset { IfOk result (λ host. host.image ≡ reset_blocks host.topo.nodes) }
+    ensures system { IfOk result (λ host. IsSystem (system_of host.image host.topo host.windows.items)) }
+    ensures accepted { IfOk result (λ host. IsAccepted (system_of host.image host.topo host.windows.items)) }
+{
     let image = Image::new(alloc, &topo)?;
-    let host = OwnedHost::of(alloc, &table, topo, image)?;
+    let host = OwnedHost::of(alloc, table, topo, image)?;
+    reset_hosts_are_accepted();
     Ok(host)
 }

@@ -1,21 +1,21 @@
-ghost use Rattle.std.specs.Prelude.{◌≡◌, ◌≢◌, ◌<◌, ◌≤◌, [], ◌∷◌, IfOk, IfErr, OnOk};
+ghost use Rattle.std.specs.Prelude.{◌≡◌, ◌≢◌, ◌≤◌, [], ◌∷◌, ◌++◌, codes, IfOk, IfErr, OnOk};
 ghost use Rattle.cxl_io.specs.Fetch.{AsksFor};
-ghost use Rattle.cxl_topo.specs.Faults.{IsTree};
-ghost use Rattle.cxl_topo.specs.declared.fault.TreeFault.TheVariants as trees;
+ghost use Rattle.cxl_reply.specs.Words.{line};
+ghost use Rattle.cxl_topofile.specs.Places.{place_text};
 ghost use Rattle.cxl_topofile.specs.declared.fault.TopoFault.{TopoFault};
 ghost use Rattle.cxl_inputs.specs.File.{AsksForSome};
 ghost use Rattle.cxl_inputs.specs.Stop.{IsStop};
 ghost use Rattle.cxl_inputs.specs.Topology.{IsTreeOf, HasNoTree, bad_topology, tree_fault_word, tree_fault_node};
 
+use crate::faults::fault_line;
 use crate::file::fetch_file;
 use crate::outcome::Outcome;
 use crate::status::Status;
 use crate::stop::Stop;
 use cxl_io::{Fetch, Memory};
 use cxl_topo::{Topo, TreeFault};
-use cxl_topofile::{TopoFault, read_topo};
+use cxl_topofile::{Place, TopoFault, read_topo};
 use std::alloc::Global;
-use std::fmt;
 
 /// The topology of a command's file. It stops where there is none.
 pub(crate) fn fetch_topology<F: Fetch>(
@@ -41,40 +41,25 @@ pub(crate) fn fetch_topology<F: Fetch>(
 fn faulty(alloc: Global, fault: TopoFault) -> Result<Outcome, Memory>
     ensures { IfOk result (λ outcome. (fault ≢ TopoFault.Memory) × (outcome ≡ bad_topology fault)) }
 {
-    if fault == TopoFault::Memory {
-        return Err(Memory);
-    }
-    let name = FaultName(fault);
-    let text = format!(in alloc; "error: topology {name}\n")?;
-    Ok(Outcome::made(Status::BadTopo(fault), text.into_bytes()))
+    let text = match fault {
+        TopoFault::Toml => fault_line(alloc, "topology", "toml", None),
+        TopoFault::Key(place) => place_line(alloc, "key", place),
+        TopoFault::Kind(place) => place_line(alloc, "kind", place),
+        TopoFault::Range(place) => place_line(alloc, "range", place),
+        TopoFault::Tree(fault) => {
+            fault_line(alloc, "topology", fault_word(fault), fault_node(fault))
+        }
+        TopoFault::Memory => Err(Memory),
+    }?;
+    Ok(Outcome::made(Status::BadTopo(fault), text))
 }
 
-/// A fault as the program names it.
-#[derive(Drop)]
-struct FaultName(TopoFault);
-
-impl fmt::Display for FaultName {
-    ghost use Rattle.std.specs.Prelude.{Some};
-    ghost use Rattle.cxl_inputs.specs.Topology.{topology_fault_name};
-
-    ghost output = { λ name. Some (topology_fault_name name.0) };
-
-    fn fmt<W: fmt::Write>(&self, f: &mut fmt::Formatter<W>) -> fmt::Result {
-        match self.0 {
-            TopoFault::Toml => write!(f, "toml"),
-            TopoFault::Key(place) => write!(f, "key {place}"),
-            TopoFault::Kind(place) => write!(f, "kind {place}"),
-            TopoFault::Range(place) => write!(f, "range {place}"),
-            TopoFault::Tree(fault) => {
-                let word = fault_word(fault);
-                match fault_node(fault) {
-                    None => write!(f, "{word}"),
-                    Some(node) => write!(f, "{word} {node}"),
-                }
-            }
-            TopoFault::Memory => write!(f, "memory"),
-        }
-    }
+/// The line that names a fault by a word and its place in the file.
+fn place_line(alloc: Global, word: &str, place: Place) -> Result<Vec<u8>, Memory>
+    ensures { IfOk result (λ text. text.items ≡ line (codes "error: topology " ++ word.now ++ codes " " ++ place_text place)) }
+{
+    let text = format!(in alloc; "error: topology {word} {place}\n")?;
+    Ok(text.into_bytes())
 }
 
 /// The word of a tree's fault.

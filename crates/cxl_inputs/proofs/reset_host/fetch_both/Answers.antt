@@ -1,6 +1,9 @@
 use Rattle.std.proofs.Common.{[], ◌∷◌, Err, ap, ◌∙◌}
 use Rattle.std.proofs.lemmas.Result.{err_from_is_err_and}
-use Rattle.cxl_inputs.specs.ResetHost.{no_table, no_tree}
+use Rattle.cxl_inputs.specs.File.{AsksForSome}
+use Rattle.cxl_inputs.specs.ResetHost.{HasNoResetHost, no_table, no_tree}
+use Rattle.cxl_inputs.specs.Table.{HasNoTable}
+use Rattle.cxl_inputs.specs.Topology.{HasNoTree}
 use Rattle.cxl_inputs.proofs.Hosts.{asks_behind, tree_behind, first_of_two, second_of_two}
 use Rattle.cxl_inputs.proofs.Stops.{stopped-behind}
 use Rattle.cxl_inputs.proofs.reset_host.fetch_both.Goals as goal
@@ -8,19 +11,27 @@ use Rattle.cxl_inputs.proofs.reset_host.fetch_both.Goals as goal
 pub returns-in_err-table-clause-stops : goal.returns-in_err-table-clause-stops
 returns-in_err-table-clause-stops g c =
     let p = err_from_is_err_and c.from_residual.result c.from_residual.ensures.1 in
-    stopped-behind _ _ _ _ c.from_residual.result _ (p.1 ∙ ap Err p.2) (λ o none. no_table none)
-    (first_of_two c.args.cedt.now c.args.topo.now (g.F.Fetch.state c.args.files.now) (g.F.Fetch.state c.fetch_table.new.files)) c.in_err-table.ensures.stops
+    let cedt = c.args.cedt.now in
+    let topo = c.args.topo.now in
+    let old = g.F.Fetch.state c.args.files.now in
+    let new = g.F.Fetch.state c.fetch_table.new.files in
+    stopped-behind (HasNoTable cedt old new) (HasNoResetHost cedt topo old new)
+    (AsksForSome (cedt ∷ []) old new) (AsksForSome (cedt ∷ topo ∷ []) old new) c.from_residual.result _ (p.1 ∙ ap Err p.2)
+    (λ o none. no_table none) (first_of_two cedt topo old new) c.in_err-table.ensures.stops
 
 pub returns-in_err-topo-clause-stops : goal.returns-in_err-topo-clause-stops
 returns-in_err-topo-clause-stops g c =
     let p = err_from_is_err_and c.from_residual-in_err-topo.result c.from_residual-in_err-topo.ensures.1 in
+    let cedt = c.args.cedt.now in
+    let topo = c.args.topo.now in
     let old = g.F.Fetch.state c.args.files.now in
     let mid = g.F.Fetch.state c.fetch_table.new.files in
     let new = g.F.Fetch.state c.fetch_topology.new.files in
     let table = c.in_ok-table.ensures in
-    stopped-behind _ _ _ _ c.from_residual-in_err-topo.result _ (p.1 ∙ ap Err p.2)
-    (λ o none. no_tree c.in_ok-table.table table.table (tree_behind old mid new (c.args.cedt.now ∷ []) table.asked table.stays table.counts c.args.topo.now o none))
-    (second_of_two c.args.cedt.now c.args.topo.now old mid new table.asked table.stays table.counts) c.in_err-topo.ensures.stops
+    stopped-behind (HasNoTree [] topo mid new) (HasNoResetHost cedt topo old new)
+    (AsksForSome (topo ∷ []) mid new) (AsksForSome (cedt ∷ topo ∷ []) old new) c.from_residual-in_err-topo.result _ (p.1 ∙ ap Err p.2)
+    (λ o none. no_tree c.in_ok-table.table table.table (tree_behind old mid new (cedt ∷ []) table.asked table.stays table.counts topo o none))
+    (second_of_two cedt topo old mid new table.asked table.stays table.counts) c.in_err-topo.ensures.stops
 
 pub returns-clause-asked : goal.returns-clause-asked
 returns-clause-asked g c =
