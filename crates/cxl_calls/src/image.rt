@@ -36,7 +36,7 @@ fn endpoint(rt: &impl Abort, name: &[u8], bridge: u32) -> Node {
 }
 
 /// Two bridges with an endpoint each.
-pub(crate) fn topology(rt: &impl Abort, alloc: Global, forwards: bool) -> Topo {
+fn topology(rt: &impl Abort, alloc: Global, forwards: bool) -> Topo {
     let nodes = [
         bridge(rt, b"hb0", 0, forwards),
         bridge(rt, b"hb1", 1, forwards),
@@ -50,12 +50,12 @@ pub(crate) fn topology(rt: &impl Abort, alloc: Global, forwards: bool) -> Topo {
 }
 
 /// The image of a topology after reset.
-pub(crate) fn after_reset(rt: &impl Abort, alloc: Global, topo: &Topo) -> Image {
+fn after_reset(rt: &impl Abort, alloc: Global, topo: &Topo) -> Image {
     Image::new(alloc, topo).expect(rt, "memory")
 }
 
 /// The bytes of an image's file.
-pub(crate) fn text_of(rt: &impl Abort, alloc: Global, image: &Image) -> Vec<u8> {
+fn text_of(rt: &impl Abort, alloc: Global, image: &Image) -> Vec<u8> {
     write_image(alloc, image).expect(rt, "memory")
 }
 

@@ -1,9 +1,8 @@
-//! Tests of the crates' public calls, a module for each crate: worked values, outside vectors and printed texts, which no
-//! contract says. They stand apart from the crates, so that a crate is proved once and not a second time with its tests.
+//! Tests of the calls that make the parts of a host, a module for each crate below `cxl_model`: worked values, outside vectors
+//! and printed texts, which no contract says. They stand apart from the crates, so that a crate is proved once and not a
+//! second time with its tests.
 #![tactic(auto)]
 
-#[cfg(test)]
-mod apply;
 #[cfg(test)]
 mod bus;
 #[cfg(test)]
@@ -15,27 +14,17 @@ mod deal;
 #[cfg(test)]
 mod enc;
 #[cfg(test)]
-mod generated;
-#[cfg(test)]
 mod image;
 #[cfg(test)]
 mod io;
 #[cfg(test)]
 mod media;
 #[cfg(test)]
-mod moves;
-#[cfg(test)]
 mod num;
-#[cfg(test)]
-mod poison;
 #[cfg(test)]
 mod pool;
 #[cfg(test)]
 mod regs;
-#[cfg(test)]
-mod reply;
-#[cfg(test)]
-mod script;
 #[cfg(test)]
 mod span;
 #[cfg(test)]
@@ -44,5 +33,3 @@ mod topo;
 mod topofile;
 #[cfg(test)]
 mod window;
-#[cfg(test)]
-mod worked;

@@ -1,6 +1,6 @@
 use Rattle.std.proofs.Common.{refl}
 use Rattle.cxl_worked.specs.Examples.{two_bridges}
-use Rattle.cxl_calls.proofs.worked.weave_of_two.Goals as goal
+use Rattle.cxl_command_calls.proofs.worked.weave_of_two.Goals as goal
 
 pub weave_of-requires : goal.weave_of-requires
 weave_of-requires c =

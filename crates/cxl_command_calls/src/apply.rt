@@ -5,24 +5,55 @@ ghost use Rattle.cxl_model.specs.declared.plan.Row.{Row};
 ghost use Rattle.cxl_apply.specs.Jobs.{CanCreate, CanRelease, AreOfDifferentNodes};
 ghost use Rattle.cxl_apply.specs.Steps.{HasWordsOf};
 
-use crate::image::{after_reset, text_of, topology};
 use cxl_apply::{
     Job, Row, create_commits_its_rows, jobs_have_few_writes, regions_stay_after_a_create,
     regions_stay_after_a_release, regions_stay_in_a_create, regions_stay_in_a_release,
     release_releases_its_rows, released_image_is_accepted, writes_are_taken_back,
 };
 use cxl_bus::{FailingBus, Regs, Sent, SimBus};
-use cxl_image::Image;
+use cxl_image::{Image, write_image};
 use cxl_regs::{Block, Decoder, codes_ok, select_ok};
+use cxl_topo::Topo;
+use cxl_topofile::read_topo;
 use std::alloc::{AllocError, Global};
 use std::marker::Model;
 use std::process::Abort;
 use std::test::*;
 
-/// Two bridges with an endpoint each, after reset.
+/// Two bridges with an endpoint each.
+const TWO_BRIDGES: &str = "[[bridge]]
+name = \"hb0\"
+uid = 0
+[[bridge]]
+name = \"hb1\"
+uid = 1
+[[endpoint]]
+name = \"e0\"
+parent = \"hb0\"
+port = 0
+ram = 0x80000000
+[[endpoint]]
+name = \"e1\"
+parent = \"hb1\"
+port = 0
+ram = 0x80000000
+";
+
+fn topology(rt: &impl Abort, alloc: Global) -> Topo {
+    read_topo(alloc, TWO_BRIDGES.as_bytes())
+        .ok()
+        .expect(rt, "a topology")
+}
+
+/// Its image after reset.
 fn two_bridges(rt: &impl Abort, alloc: Global) -> Image {
-    let topo = topology(rt, alloc, false);
-    after_reset(rt, alloc, &topo)
+    let topo = topology(rt, alloc);
+    Image::new(alloc, &topo).expect(rt, "memory")
+}
+
+/// The bytes of an image's file.
+fn text_of(rt: &impl Abort, alloc: Global, image: &Image) -> Vec<u8> {
+    write_image(alloc, image).expect(rt, "memory")
 }
 
 /// Enables a node's block, on the bus and in the image, which hold the same. It does nothing where the bus fails.

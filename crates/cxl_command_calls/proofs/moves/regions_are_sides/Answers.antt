@@ -5,7 +5,7 @@ use Rattle.cxl_model.specs.Regions.{region_range, IsRegionIn}
 use Rattle.cxl_worked.specs.ExampleRegions.{region}
 use Rattle.cxl_worked.specs.ExampleLayouts.{both_kinds, region_of_pmem, window_of_one}
 use Rattle.cxl_worked.proofs.ExamplesRegions.{behind_bridge, HasSpansBelow, no_spans, one_more_span, all_spans}
-use Rattle.cxl_calls.proofs.moves.regions_are_sides.Goals as goal
+use Rattle.cxl_command_calls.proofs.moves.regions_are_sides.Goals as goal
 
 abbrev region_of_ram : Found
 region_of_ram = region 0x100000000 0x10000000 1 (1 ∷ [])

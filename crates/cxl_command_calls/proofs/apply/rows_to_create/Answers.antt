@@ -1,7 +1,7 @@
 use Rattle.std.proofs.Common.{◌+◌, sym, subst}
 use Rattle.cxl_apply.specs.Jobs.{CanCreate}
-use Rattle.cxl_calls.proofs.RowsOfNodes.{AreRowsBelow, one_more}
-use Rattle.cxl_calls.proofs.apply.rows_to_create.Goals as goal
+use Rattle.cxl_command_calls.proofs.RowsOfNodes.{AreRowsBelow, one_more}
+use Rattle.cxl_command_calls.proofs.apply.rows_to_create.Goals as goal
 
 pub loop-node-preserved : goal.loop-node-preserved
 loop-node-preserved c =

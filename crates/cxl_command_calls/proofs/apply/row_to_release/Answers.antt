@@ -3,8 +3,8 @@ use Rattle.std.specs.Prelude.{slice_get}
 use Rattle.cxl_regs.specs.declared.decoder.Decoder.{Decoder}
 use Rattle.cxl_regs.specs.Registers.{Registers}
 use Rattle.cxl_regs.specs.Rules.{first_broken_rule}
-use Rattle.cxl_calls.proofs.RowsOfNodes.{there_is}
-use Rattle.cxl_calls.proofs.apply.row_to_release.Goals as goal
+use Rattle.cxl_command_calls.proofs.RowsOfNodes.{there_is}
+use Rattle.cxl_command_calls.proofs.apply.row_to_release.Goals as goal
 
 pub returns-clause-can : goal.returns-clause-can
 returns-clause-can c =
