@@ -103,8 +103,19 @@ fn bus_over(rt: &impl Abort, alloc: Global, blocks: &[Block], fails: &[u64]) -> 
     bus
 }
 
-fn has_trail(bus: &FailingBus, want: &[Sent]) -> bool {
-    bus.trail() == want
+/// What is called on a bus over blocks after reset that fails at some calls, and which writes it is sent.
+struct Run {
+    endpoints: &'static [bool],
+    fails: &'static [u64],
+    calls: &'static [Call],
+    sent: &'static [Sent],
+}
+
+fn is_sent(rt: &impl Abort, alloc: Global, run: &Run) -> bool {
+    let blocks = blocks(rt, alloc, run.endpoints);
+    let mut bus = bus_over(rt, alloc, &blocks, run.fails);
+    are_answered(rt, &mut bus, &blocks, run.calls);
+    bus.trail() == run.sent
 }
 
 /// A port's global control drops the value, and the trail tells the write all the same.
@@ -160,7 +171,7 @@ const FAILING: &[Call] = &[
     },
 ];
 
-const SENT: [Sent; 2] = [
+const SENT: &[Sent] = &[
     Sent {
         node: 0,
         off: 0x04,
@@ -173,12 +184,16 @@ const SENT: [Sent; 2] = [
     },
 ];
 
+const ON_A_PORT: Run = Run {
+    endpoints: &[false],
+    fails: &[2, 4],
+    calls: FAILING,
+    sent: SENT,
+};
+
 #[test]
 fn calls_that_fail(rt: HostRuntime) {
-    let blocks = blocks(&rt, rt.alloc(), &[false]);
-    let mut bus = bus_over(&rt, rt.alloc(), &blocks, &[2, 4]);
-    are_answered(&rt, &mut bus, &blocks, FAILING);
-    assert!(rt; has_trail(&bus, &SENT));
+    assert!(rt; is_sent(&rt, rt.alloc(), &ON_A_PORT));
 }
 
 /// The writes of a create of which the fifth fails, and those that take it back.
@@ -234,7 +249,7 @@ const CREATE: &[Call] = &[
     },
 ];
 
-const CREATE_SENT: [Sent; 6] = [
+const CREATE_SENT: &[Sent] = &[
     Sent {
         node: 2,
         off: 0x04,
@@ -267,10 +282,14 @@ const CREATE_SENT: [Sent; 6] = [
     },
 ];
 
+const CREATE_AND_BACK: Run = Run {
+    endpoints: &[false, false, true, true],
+    fails: &[5],
+    calls: CREATE,
+    sent: CREATE_SENT,
+};
+
 #[test]
 fn the_trail_of_a_create_that_is_undone(rt: HostRuntime) {
-    let blocks = blocks(&rt, rt.alloc(), &[false, false, true, true]);
-    let mut bus = bus_over(&rt, rt.alloc(), &blocks, &[5]);
-    are_answered(&rt, &mut bus, &blocks, CREATE);
-    assert!(rt; has_trail(&bus, &CREATE_SENT));
+    assert!(rt; is_sent(&rt, rt.alloc(), &CREATE_AND_BACK));
 }

@@ -2,6 +2,8 @@ use crate::common::row_passes;
 use byteorder::{ByteOrder, LittleEndian};
 use cxl_cedt::{Cedt, CedtFault, Cfmws, Chbs, Cxims, Head, Record, read, write};
 use std::alloc::Global;
+use std::process::Abort;
+use std::test::*;
 
 /// Two bridges, 0 and 1, and one window of 4 GiB over both, 256 bytes each in turn.
 const TWO_BRIDGES: [u8; 144] = [
@@ -31,15 +33,15 @@ const FOR_XOR: &[(usize, u8)] = &[(4, 0xa0), (9, 0x25), (125, 0x01)];
 const FOR_OTHER: &[(usize, u8)] = &[(4, 0x98), (9, 0xa8)];
 
 /// The two bridges' table with some bytes changed, and with more behind it.
-fn changed(alloc: Global, changes: &[(usize, u8)], more: &[u8]) -> Option<Vec<u8>> {
-    let mut bytes = TWO_BRIDGES.to_vec(alloc).ok()?;
+fn changed(rt: &impl Abort, alloc: Global, changes: &[(usize, u8)], more: &[u8]) -> Vec<u8> {
+    let mut bytes = TWO_BRIDGES.to_vec(alloc).expect(rt, "memory");
     for (at, byte) in changes {
         if *at < bytes.len() {
             bytes[*at] = *byte;
         }
     }
-    bytes.extend_from_slice(more).ok()?;
-    Some(bytes)
+    bytes.extend_from_slice(more).expect(rt, "memory");
+    bytes
 }
 
 /// The table that the bytes spell.
@@ -48,6 +50,12 @@ fn table(alloc: Global, bytes: &[u8]) -> Option<Cedt> {
         return None;
     }
     read(alloc, bytes).ok()
+}
+
+/// The two bridges' table with some bytes changed, and with more behind it, as it is read.
+fn changed_table(rt: &impl Abort, alloc: Global, changes: &[(usize, u8)], more: &[u8]) -> Cedt {
+    let bytes = changed(rt, alloc, changes, more);
+    table(alloc, &bytes).expect(rt, "a table")
 }
 
 /// Whether the bytes have this fault.
@@ -62,11 +70,8 @@ fn is_fault(alloc: Global, bytes: &[u8], want: CedtFault) -> bool {
 }
 
 /// Whether the two bridges' table with some bytes changed has this fault.
-fn is_refused(alloc: Global, changes: &[(usize, u8)], want: CedtFault) -> bool {
-    match changed(alloc, changes, &[]) {
-        Some(bytes) => is_fault(alloc, &bytes, want),
-        None => false,
-    }
+fn is_refused(rt: &impl Abort, alloc: Global, changes: &[(usize, u8)], want: CedtFault) -> bool {
+    is_fault(alloc, &changed(rt, alloc, changes, &[]), want)
 }
 
 /// Whether a table is written as these bytes.
@@ -75,6 +80,17 @@ fn is_written(alloc: Global, cedt: &Cedt, want: &[u8]) -> bool {
         Ok(bytes) => bytes.as_slice() == want,
         Err(_) => false,
     }
+}
+
+/// Whether a table is written as the two bridges' with some bytes changed, and with more behind it.
+fn is_written_changed(
+    rt: &impl Abort,
+    alloc: Global,
+    cedt: &Cedt,
+    changes: &[(usize, u8)],
+    more: &[u8],
+) -> bool {
+    is_written(alloc, cedt, &changed(rt, alloc, changes, more))
 }
 
 /// A bridge with version 1 and 64 KiB of registers.
@@ -146,7 +162,7 @@ fn two_bridges(rt: HostRuntime) {
 }
 
 /// Changes of the two bridges' table, by places and bytes, each with its fault.
-const FAULTS: [(&[(usize, u8)], CedtFault); 10] = [
+const FAULTS: &[(&[(usize, u8)], CedtFault)] = &[
     (&[(0, 0x44)], CedtFault::Signature),
     (&[(4, 0x91)], CedtFault::Length),
     (&[(9, 0xcb)], CedtFault::Checksum),
@@ -165,7 +181,7 @@ const FAULTS: [(&[(usize, u8)], CedtFault); 10] = [
 #[test]
 fn faults(rt: HostRuntime) {
     for (i, (changes, fault)) in FAULTS.iter().enumerate() {
-        row_passes(&rt, i, is_refused(rt.alloc(), changes, *fault));
+        row_passes(&rt, i, is_refused(&rt, rt.alloc(), *changes, *fault));
     }
 }
 
@@ -184,17 +200,16 @@ fn prefixes(rt: HostRuntime) {
 
 #[test]
 fn xor_maps(rt: HostRuntime) {
-    let bytes = changed(rt.alloc(), FOR_XOR, &ONE_MAP).expect(&rt, "memory");
-    let cedt = table(rt.alloc(), &bytes).expect(&rt, "a table");
+    let cedt = changed_table(&rt, rt.alloc(), FOR_XOR, &ONE_MAP);
     assert!(rt; have_xor(cedt.records()));
 }
 
 /// A record of another type is kept, and written as it was.
 #[test]
 fn other_records(rt: HostRuntime) {
-    let bytes = changed(rt.alloc(), FOR_OTHER, &OTHER).expect(&rt, "memory");
-    let cedt = table(rt.alloc(), &bytes).expect(&rt, "a table");
-    assert!(rt; have_other(cedt.records()) && is_written(rt.alloc(), &cedt, &bytes));
+    let cedt = changed_table(&rt, rt.alloc(), FOR_OTHER, &OTHER);
+    assert!(rt; have_other(cedt.records()));
+    assert!(rt; is_written_changed(&rt, rt.alloc(), &cedt, FOR_OTHER, &OTHER));
 }
 
 /// Gives the table its length and its checksum.
@@ -213,66 +228,70 @@ fn seal(bytes: &mut [u8]) {
 }
 
 /// A table of as many bridges.
-fn bridges(alloc: Global, count: u32) -> Option<Vec<u8>> {
-    let mut bytes = TWO_BRIDGES[..36].to_vec(alloc).ok()?;
+fn bridges(rt: &impl Abort, alloc: Global, count: u32) -> Vec<u8> {
+    let mut bytes = TWO_BRIDGES[..36].to_vec(alloc).expect(rt, "memory");
     for _ in 0..count {
-        bytes.extend_from_slice(&TWO_BRIDGES[36..68]).ok()?;
+        bytes
+            .extend_from_slice(&TWO_BRIDGES[36..68])
+            .expect(rt, "memory");
     }
     seal(&mut bytes);
-    Some(bytes)
+    bytes
+}
+
+/// Whether a table has so many records.
+fn has_records(alloc: Global, bytes: &[u8], count: usize) -> bool {
+    match table(alloc, bytes) {
+        Some(cedt) => cedt.records().len() == count,
+        None => false,
+    }
 }
 
 /// The 65th bridge is one too many, and the 64th is not.
 #[test]
 fn many_bridges(rt: HostRuntime) {
-    let bytes = bridges(rt.alloc(), 64).expect(&rt, "memory");
-    let most = table(rt.alloc(), &bytes).expect(&rt, "a table");
-    assert!(rt; most.records().len() == 64);
-}
-
-#[test]
-fn too_many_bridges(rt: HostRuntime) {
-    let bytes = bridges(rt.alloc(), 65).expect(&rt, "memory");
-    assert!(rt; is_fault(rt.alloc(), &bytes, CedtFault::TooMany(2_084)));
+    let most = bridges(&rt, rt.alloc(), 64);
+    assert!(rt; has_records(rt.alloc(), &most, 64));
+    let more = bridges(&rt, rt.alloc(), 65);
+    assert!(rt; is_fault(rt.alloc(), &more, CedtFault::TooMany(2_084)));
 }
 
 /// Reserved fields are written as zero, and the checksum anew.
 #[test]
 fn written_again(rt: HostRuntime) {
-    let bytes = changed(rt.alloc(), &[(37, 0x05), (9, 0xc5)], &[]).expect(&rt, "memory");
-    let cedt = table(rt.alloc(), &bytes).expect(&rt, "a table");
+    let cedt = changed_table(&rt, rt.alloc(), &[(37, 0x05), (9, 0xc5)], &[]);
     assert!(rt; is_written(rt.alloc(), &cedt, &TWO_BRIDGES));
 }
 
 /// The window of 4 GiB over both bridges, under XOR.
-fn window(alloc: Global) -> Option<Record> {
+fn window(rt: &impl Abort, alloc: Global) -> Record {
     let base = 0x1_0000_0000;
-    let targets = vec![in alloc; 0, 1].ok()?;
-    Some(Record::Cfmws(Cfmws::new(base, base, 1, true, 0, 0x000e, 0, targets)))
+    let targets = vec![in alloc; 0, 1].expect(rt, "memory");
+    Record::Cfmws(Cfmws::new(base, base, 1, true, 0, 0x000e, 0, targets))
 }
 
 /// The table of one map.
-fn one_map(alloc: Global) -> Option<Record> {
-    let maps = vec![in alloc; 0x40_4100].ok()?;
-    Some(Record::Cxims(Cxims::new(0, maps)))
+fn one_map(rt: &impl Abort, alloc: Global) -> Record {
+    let maps = vec![in alloc; 0x40_4100].expect(rt, "memory");
+    Record::Cxims(Cxims::new(0, maps))
 }
 
 /// Both bridges, the window and the map.
-fn parts(alloc: Global) -> Option<Vec<Record>> {
-    let mut records = Vec::new(alloc);
-    records.push(Record::Chbs(bridge(0, 0x8000_0000))).ok()?;
-    records.push(Record::Chbs(bridge(1, 0x8001_0000))).ok()?;
-    records.push(window(alloc)?).ok()?;
-    records.push(one_map(alloc)?).ok()?;
-    Some(records)
+fn parts(rt: &impl Abort, alloc: Global) -> Vec<Record> {
+    let records = vec![in alloc;
+        Record::Chbs(bridge(0, 0x8000_0000)),
+        Record::Chbs(bridge(1, 0x8001_0000)),
+        window(rt, alloc),
+        one_map(rt, alloc),
+    ];
+    records.expect(rt, "memory")
 }
 
 /// A table made of its parts is written as its bytes.
 #[test]
 fn made(rt: HostRuntime) {
-    let records = parts(rt.alloc()).expect(&rt, "memory");
+    let records = parts(&rt, rt.alloc());
     assert!(rt; Cedt::can_hold(&records));
     let cedt = Cedt::new(HEAD, records);
-    let bytes = changed(rt.alloc(), FOR_XOR, &ONE_MAP).expect(&rt, "memory");
-    assert!(rt; is_written(rt.alloc(), &cedt, &bytes));
+    assert!(rt; is_written_changed(&rt, rt.alloc(), &cedt, FOR_XOR, &ONE_MAP));
 }

@@ -197,13 +197,24 @@ fn deals_addresses(rt: HostRuntime) {
     }
 }
 
+/// Whether a weave of six ways is told as it was made.
+fn is_of_six(six: &Weave) -> bool {
+    six.ways() == 6
+        && six.base() == 0x1_0000_0000
+        && six.gran() == 0
+        && six.root_bits() == 1
+        && six.low_bits() == 0
+        && six.third()
+        && six.xor()
+        && six.maps() == SIX_MAPS
+}
+
+const SIX_MAPS: [u64; 4] = [0x40_4100, 0, 0, 0];
+
 #[test]
 fn keeps_fields(rt: HostRuntime) {
-    let maps = [0x40_4100, 0, 0, 0];
-    let six = Weave::new(0x1_0000_0000, 0, 1, true, 0, true, maps);
-    assert!(rt; six.ways() == 6 && six.base() == 0x1_0000_0000 && six.gran() == 0);
-    assert!(rt; six.root_bits() == 1 && six.low_bits() == 0 && six.third() && six.xor());
-    assert!(rt; six.maps() == maps);
+    let six = Weave::new(0x1_0000_0000, 0, 1, true, 0, true, SIX_MAPS);
+    assert!(rt; is_of_six(&six));
 }
 
 #[test]

@@ -75,10 +75,15 @@ fn read(rt: &impl Abort, alloc: Global, topo: &Topo, bytes: &[u8]) -> Image {
     read_image(alloc, bytes, topo).ok().expect(rt, "an image")
 }
 
+/// Whether an image is written as these bytes.
+fn has_text(rt: &impl Abort, alloc: Global, image: &Image, want: &[u8]) -> bool {
+    text_of(rt, alloc, image).as_slice() == want
+}
+
 /// Whether a file is read, and written as these bytes.
 fn is_written(rt: &impl Abort, alloc: Global, topo: &Topo, bytes: &[u8], want: &[u8]) -> bool {
     let image = read(rt, alloc, topo, bytes);
-    text_of(rt, alloc, &image).as_slice() == want
+    has_text(rt, alloc, &image, want)
 }
 
 /// Whether a file is refused for this fault.
@@ -93,22 +98,28 @@ fn is_cap(image: &Image, node: u32, cap: u32) -> bool {
     node < image.count() && image.block(node).cap() == cap
 }
 
+fn is_reset(image: &Image) -> bool {
+    image.count() == 4 && image.blocks().len() == 4 && is_cap(image, 3, ENDPOINT_CAP)
+}
+
 #[test]
 fn the_reset_image(rt: HostRuntime) {
     let topo = topology(&rt, rt.alloc(), false);
     let image = after_reset(&rt, rt.alloc(), &topo);
-    assert!(rt; image.count() == 4 && image.blocks().len() == 4);
-    assert!(rt; is_cap(&image, 3, ENDPOINT_CAP));
+    assert!(rt; is_reset(&image));
+}
+
+fn is_reset_file(bytes: &[u8]) -> bool {
+    bytes.len() == 588 && bytes.starts_with(b"CXLHDM01\x04\x00\x00\x00\x82\x03\x00\x00")
 }
 
 #[test]
 fn the_reset_file(rt: HostRuntime) {
     let topo = topology(&rt, rt.alloc(), false);
-    let bytes = reset_file(&rt, rt.alloc(), &topo);
-    assert!(rt;
-        bytes.len() == 588 && bytes.starts_with(b"CXLHDM01\x04\x00\x00\x00\x82\x03\x00\x00")
-    );
-    assert!(rt; is_written(&rt, rt.alloc(), &topo, &bytes, &bytes));
+    let whole = reset_file(&rt, rt.alloc(), &topo);
+    assert!(rt; is_reset_file(&whole));
+    assert!(rt; is_written(&rt, rt.alloc(), &topo, &whole, &whole));
+    drops_what_does_not_count(&rt, rt.alloc(), &topo, &whole);
 }
 
 #[test]
@@ -143,12 +154,9 @@ fn is_refused_with(
     is_refused(alloc, topo, &bytes, row.fault)
 }
 
-#[test]
-fn first_faults(rt: HostRuntime) {
-    let topo = topology(&rt, rt.alloc(), false);
-    let whole = reset_file(&rt, rt.alloc(), &topo);
+fn have_first_faults(rt: &impl Abort, alloc: Global, topo: &Topo, whole: &[u8]) {
     for (i, row) in FIRST_FAULTS.iter().enumerate() {
-        row_passes(&rt, i, is_refused_with(&rt, rt.alloc(), &topo, &whole, row));
+        row_passes(rt, i, is_refused_with(rt, alloc, topo, whole, row));
     }
 }
 
@@ -203,13 +211,10 @@ const OTHER_NODES: FirstFault = FirstFault {
 };
 
 /// A number of nodes before a capability word, and that before what is cut.
-#[test]
-fn the_earlier_field_comes_first(rt: HostRuntime) {
-    let topo = topology(&rt, rt.alloc(), false);
-    let whole = reset_file(&rt, rt.alloc(), &topo);
-    let other = with_byte(&rt, rt.alloc(), &whole, 12, 0);
-    assert!(rt; is_refused_with(&rt, rt.alloc(), &topo, &other, &OTHER_NODES));
-    assert!(rt; is_cut(rt.alloc(), &topo, &other, 20, ImageFault::Caps(0)));
+fn earlier_field_comes_first(rt: &impl Abort, alloc: Global, topo: &Topo, whole: &[u8]) -> bool {
+    let other = with_byte(rt, alloc, whole, 12, 0);
+    is_refused_with(rt, alloc, topo, &other, &OTHER_NODES)
+        && is_cut(alloc, topo, &other, 20, ImageFault::Caps(0))
 }
 
 /// Whether the first bytes of a file are refused for this fault.
@@ -220,22 +225,27 @@ fn is_cut(alloc: Global, topo: &Topo, bytes: &[u8], len: u32, fault: ImageFault)
     }
 }
 
-#[test]
-fn bytes_too_many_come_last(rt: HostRuntime) {
-    let topo = topology(&rt, rt.alloc(), false);
-    let mut more = reset_file(&rt, rt.alloc(), &topo);
-    more.push(0).expect(&rt, "memory");
-    assert!(rt; is_refused(rt.alloc(), &topo, &more, ImageFault::Trailing(588)));
+fn byte_too_many_comes_last(rt: &impl Abort, alloc: Global, topo: &Topo, whole: &[u8]) -> bool {
+    let mut more = whole.to_vec(alloc).expect(rt, "memory");
+    more.push(0).expect(rt, "memory");
+    is_refused(alloc, topo, &more, ImageFault::Trailing(588))
+}
+
+fn each_prefix_is_cut(rt: &impl Abort, alloc: Global, topo: &Topo, whole: &[u8]) {
+    assert!(rt; whole.len() == 588);
+    for n in 0..588_u32 {
+        assert!(rt; is_cut(alloc, topo, whole, n, ImageFault::Cut(n)));
+    }
 }
 
 #[test]
-fn each_prefix_is_cut(rt: HostRuntime) {
+fn faults(rt: HostRuntime) {
     let topo = topology(&rt, rt.alloc(), false);
     let whole = reset_file(&rt, rt.alloc(), &topo);
-    assert!(rt; whole.len() == 588);
-    for n in 0..588_u32 {
-        assert!(rt; is_cut(rt.alloc(), &topo, &whole, n, ImageFault::Cut(n)));
-    }
+    have_first_faults(&rt, rt.alloc(), &topo, &whole);
+    assert!(rt; earlier_field_comes_first(&rt, rt.alloc(), &topo, &whole));
+    assert!(rt; byte_too_many_comes_last(&rt, rt.alloc(), &topo, &whole));
+    each_prefix_is_cut(&rt, rt.alloc(), &topo, &whole);
 }
 
 /// Bytes of the reset file that are read as the reset image: an unnamed bit of a capability word, a port's word 0x4, a
@@ -264,16 +274,9 @@ fn is_dropped(
     is_written(rt, alloc, topo, &bytes, whole)
 }
 
-#[test]
-fn what_does_not_count_is_dropped(rt: HostRuntime) {
-    let topo = topology(&rt, rt.alloc(), false);
-    let whole = reset_file(&rt, rt.alloc(), &topo);
+fn drops_what_does_not_count(rt: &impl Abort, alloc: Global, topo: &Topo, whole: &[u8]) {
     for (i, (at, byte)) in DROPPED.iter().enumerate() {
-        row_passes(
-            &rt,
-            i,
-            is_dropped(&rt, rt.alloc(), &topo, &whole, *at, *byte),
-        );
+        row_passes(rt, i, is_dropped(rt, alloc, topo, whole, *at, *byte));
     }
 }
 
@@ -299,14 +302,18 @@ fn has_second(image: &Image, node: u32, size: u64) -> bool {
     decoder.committed && decoder.host_only && decoder.size == size
 }
 
+/// Whether a file is kept, with the second decoder of the first endpoint.
+fn keeps_second(rt: &impl Abort, alloc: Global, topo: &Topo, bytes: &[u8]) -> bool {
+    let image = read(rt, alloc, topo, bytes);
+    has_text(rt, alloc, &image, bytes) && has_second(&image, 2, 0x2000_0000_0000)
+}
+
 /// A decoder that is committed behind one that is not: no writes lead to it, and a file may hold it.
 #[test]
 fn any_registers_are_read(rt: HostRuntime) {
     let topo = topology(&rt, rt.alloc(), false);
     let bytes = with_bytes(&rt, rt.alloc(), &topo, (365, 0x14), (361, 0x20));
-    assert!(rt; is_written(&rt, rt.alloc(), &topo, &bytes, &bytes));
-    let image = read(&rt, rt.alloc(), &topo, &bytes);
-    assert!(rt; has_second(&image, 2, 0x2000_0000_0000));
+    assert!(rt; keeps_second(&rt, rt.alloc(), &topo, &bytes));
 }
 
 /// Whether a write to the third node has this effect.
@@ -314,16 +321,19 @@ fn writes(image: &mut Image, off: u32, value: u32, effect: Effect) -> bool {
     2 < image.count() && image.write32(2, off, value) == effect
 }
 
+/// It is enabled, and gets a size.
+fn writes_three(image: &mut Image) -> bool {
+    writes(image, 0x04, 0x2, Effect::Written)
+        && writes(image, 0x18, 0x1234_5678, Effect::Written)
+        && writes(image, 0x08, 0x1, Effect::Dropped)
+}
+
 #[test]
 fn writes_one_block(rt: HostRuntime) {
     let topo = topology(&rt, rt.alloc(), false);
     let mut image = after_reset(&rt, rt.alloc(), &topo);
-    let enabled = writes(&mut image, 0x04, 0x2, Effect::Written);
-    let sized = writes(&mut image, 0x18, 0x1234_5678, Effect::Written);
-    let dropped = writes(&mut image, 0x08, 0x1, Effect::Dropped);
-    assert!(rt; enabled && sized && dropped);
+    assert!(rt; writes_three(&mut image));
     let copy = image.copy(rt.alloc()).expect(&rt, "memory");
-    // Enabled, and with the size.
     let want = with_bytes(&rt, rt.alloc(), &topo, (304, 0x02), (327, 0x10));
-    assert!(rt; text_of(&rt, rt.alloc(), &copy).as_slice() == want.as_slice());
+    assert!(rt; has_text(&rt, rt.alloc(), &copy, &want));
 }

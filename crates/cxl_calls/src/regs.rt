@@ -9,29 +9,13 @@ use std::alloc::Global;
 use std::process::Abort;
 use std::test::*;
 
-/// A write to a word, what becomes of it, and the word that is read there afterwards.
-#[derive(Clone, Copy)]
-struct Case {
-    off: u32,
-    value: u32,
-    effect: Effect,
-    word: u32,
-}
-
-const fn write(off: u32, value: u32, effect: Effect, word: u32) -> Case {
-    Case {
-        off,
-        value,
-        effect,
-        word,
-    }
-}
+/// The offset and the value of a write, what becomes of it, and the word that is read there afterwards.
+type Write = (u32, u32, Effect, u32);
 
 /// Whether each write has its effect and leaves its word.
-fn are_carried_out(block: &mut Block, cases: &[Case]) -> bool {
-    for case in cases {
-        let effect = block.write32(case.off, case.value);
-        if effect != case.effect || !has_word(block, case.off, case.word) {
+fn are_carried_out(block: &mut Block, writes: &[Write]) -> bool {
+    for (off, value, effect, word) in writes {
+        if block.write32(*off, *value) != *effect || !has_word(block, *off, *word) {
             return false;
         }
     }
@@ -46,70 +30,85 @@ fn endpoint(rt: &impl Abort, alloc: Global) -> Block {
     Block::new(alloc, 0x1b02, true).expect(rt, "memory")
 }
 
+const TO_AN_ENDPOINT: [Write; 16] = [
+    (0x20, 0x1200, NotCommitted(NotEnabled), 0x1a00),
+    (0x04, 0x2, Written, 0x2),
+    (0x20, 0x1200, NotCommitted(ZeroSize), 0x1a00),
+    (0x18, 0x1fff_ffff, Written, 0x1000_0000),
+    (0x38, 0x1000_0000, Written, 0x1000_0000),
+    (0x40, 0x1200, NotCommitted(Order), 0x1a00),
+    (0x20, 0x1200, Committed, 0x1600),
+    (0x18, 0x2000_0000, Dropped, 0x1000_0000),
+    (0x40, 0x1200, NotCommitted(Rise), 0x1a00),
+    (0x30, 0x1000_0000, Written, 0x1000_0000),
+    (0x40, 0x1247, NotCommitted(Codes), 0x1a47),
+    (0x40, 0x1226, NotCommitted(Select), 0x1a26),
+    (0x40, 0x1216, Committed, 0x1616),
+    (0x20, 0x1000, Dropped, 0x1600),
+    (0x40, 0x1000, Released, 0x1016),
+    (0x04, 0x0, Dropped, 0x2),
+];
+
 #[test]
 fn writes_to_an_endpoint(rt: HostRuntime) {
     let mut block = endpoint(&rt, rt.alloc());
-    let cases = [
-        write(0x20, 0x1200, NotCommitted(NotEnabled), 0x1a00),
-        write(0x04, 0x2, Written, 0x2),
-        write(0x20, 0x1200, NotCommitted(ZeroSize), 0x1a00),
-        write(0x18, 0x1fff_ffff, Written, 0x1000_0000),
-        write(0x38, 0x1000_0000, Written, 0x1000_0000),
-        write(0x40, 0x1200, NotCommitted(Order), 0x1a00),
-        write(0x20, 0x1200, Committed, 0x1600),
-        write(0x18, 0x2000_0000, Dropped, 0x1000_0000),
-        write(0x40, 0x1200, NotCommitted(Rise), 0x1a00),
-        write(0x30, 0x1000_0000, Written, 0x1000_0000),
-        write(0x40, 0x1247, NotCommitted(Codes), 0x1a47),
-        write(0x40, 0x1226, NotCommitted(Select), 0x1a26),
-        write(0x40, 0x1216, Committed, 0x1616),
-        write(0x20, 0x1000, Dropped, 0x1600),
-        write(0x40, 0x1000, Released, 0x1016),
-        write(0x04, 0x0, Dropped, 0x2),
-    ];
-    assert!(rt; are_carried_out(&mut block, &cases));
+    assert!(rt; are_carried_out(&mut block, &TO_AN_ENDPOINT));
 }
+
+const TO_A_PORT: [Write; 2] = [
+    (0x04, 0x2, Dropped, 0x0),
+    (0x20, 0x1200, NotCommitted(ZeroSize), 0x1a00),
+];
 
 #[test]
 fn writes_to_a_port(rt: HostRuntime) {
     let mut block = Block::new(rt.alloc(), 0x382, false).expect(&rt, "memory");
-    let cases = [
-        write(0x04, 0x2, Dropped, 0x0),
-        write(0x20, 0x1200, NotCommitted(ZeroSize), 0x1a00),
-    ];
-    assert!(rt; are_carried_out(&mut block, &cases));
+    assert!(rt; are_carried_out(&mut block, &TO_A_PORT));
+}
+
+fn is_reset(block: &Block) -> bool {
+    block.count() == 4
+        && block.cap() == 0x1b02
+        && block.endpoint()
+        && !block.enabled()
+        && block.read32(0x90).is_none()
+        && block.read32(0x8e).is_none()
+        && has_word(block, 0x8c, 0)
 }
 
 #[test]
 fn a_block_after_reset(rt: HostRuntime) {
     let block = endpoint(&rt, rt.alloc());
-    assert!(rt; block.count() == 4 && block.cap() == 0x1b02);
-    assert!(rt; block.endpoint() && !block.enabled());
-    assert!(rt; block.read32(0x90).is_none() && block.read32(0x8e).is_none());
-    assert!(rt; has_word(&block, 0x8c, 0));
+    assert!(rt; is_reset(&block));
 }
 
-/// An endpoint's block with its first decoder committed, as a copy.
-fn committed(rt: &impl Abort, alloc: Global) -> Block {
-    let mut block = endpoint(rt, alloc);
-    let cases = [
-        write(0x04, 0x2, Written, 0x2),
-        write(0x1c, 0x1, Written, 0x1),
-        write(0x18, 0x4000_0000, Written, 0x4000_0000),
-        write(0x20, 0x1210, Committed, 0x1610),
-    ];
-    assert!(rt; are_carried_out(&mut block, &cases));
-    block.copy(alloc).expect(rt, "memory")
+/// With these an endpoint's first decoder is committed.
+const TO_COMMIT: [Write; 4] = [
+    (0x04, 0x2, Written, 0x2),
+    (0x1c, 0x1, Written, 0x1),
+    (0x18, 0x4000_0000, Written, 0x4000_0000),
+    (0x20, 0x1210, Committed, 0x1610),
+];
+
+/// Whether a block's first decoder alone is committed, and has the words of it.
+fn is_committed(block: &Block) -> bool {
+    if block.count() == 0 {
+        return false;
+    }
+    let decoder = block.decoder(0);
+    let words = words_of(&decoder);
+    block.enabled()
+        && block.committed() == 1
+        && words == [0, 0, 0x4000_0000, 1, 0x1610, 0, 0, 0]
+        && decoder_of(&words, true) == decoder
 }
 
 #[test]
 fn a_block_and_its_words(rt: HostRuntime) {
-    let block = committed(&rt, rt.alloc());
-    assert!(rt; block.enabled() && block.committed() == 1);
-    let decoder = block.decoder(0);
-    let words = words_of(&decoder);
-    assert!(rt; words == [0, 0, 0x4000_0000, 1, 0x1610, 0, 0, 0]);
-    assert!(rt; decoder_of(&words, true) == decoder);
+    let mut block = endpoint(&rt, rt.alloc());
+    assert!(rt; are_carried_out(&mut block, &TO_COMMIT));
+    let copy = block.copy(rt.alloc()).expect(&rt, "memory");
+    assert!(rt; is_committed(&copy));
 }
 
 #[test]
@@ -147,24 +146,36 @@ const PORT: Decoder = Decoder {
     ..Decoder::RESET
 };
 
+fn has_its_range() -> bool {
+    let range = PORT.range();
+    range.base == 0x10_0000_0000
+        && range.size == 0x100_0000_0000
+        && PORT.has_range(&range)
+        && !Decoder::RESET.has_range(&Decoder::RESET.range())
+        && PORT.holds_address(0x10f_ffff_ffff)
+        && !PORT.holds_address(0x110_0000_0000)
+}
+
 #[test]
 fn the_range_of_a_port(rt: HostRuntime) {
-    let range = PORT.range();
-    assert!(rt; range.base == 0x10_0000_0000 && range.size == 0x100_0000_0000);
-    assert!(rt; PORT.has_range(&range) && !Decoder::RESET.has_range(&Decoder::RESET.range()));
-    assert!(rt; PORT.holds_address(0x10f_ffff_ffff) && !PORT.holds_address(0x110_0000_0000));
+    assert!(rt; has_its_range());
     assert!(rt; breaks_order(Some(Decoder::RESET)) && breaks_rise(Some(PORT), &PORT));
+}
+
+fn has_its_entries() -> bool {
+    PORT.interleave_ways() == 2
+        && PORT.interleave_granularity() == 512
+        && PORT.select_bits() == 1
+        && PORT.entry_of(0x10f_ffff_ffff) == 1
+        && PORT.entry_of(0x10_0000_05ff) == 0
+        && PORT.entry_at(0) == 1
+        && PORT.entry_at(1) == 2
+        && PORT.entry_at(8) == 0
 }
 
 #[test]
 fn the_entries_of_a_port(rt: HostRuntime) {
-    assert!(rt;
-        PORT.interleave_ways() == 2
-            && PORT.interleave_granularity() == 512
-            && PORT.select_bits() == 1
-    );
-    assert!(rt; PORT.entry_of(0x10f_ffff_ffff) == 1 && PORT.entry_of(0x10_0000_05ff) == 0);
-    assert!(rt; PORT.entry_at(0) == 1 && PORT.entry_at(1) == 2 && PORT.entry_at(8) == 0);
+    assert!(rt; has_its_entries());
 }
 
 /// An endpoint's decoder of six ways, and one with a code that stands for no ways.

@@ -1,6 +1,7 @@
 use crate::common::row_passes;
 use cxl_topo::{Capacity, Name, Node, NodeKind, Parent, Path, Topo, TreeFault};
 use std::alloc::Global;
+use std::process::Abort;
 
 /// A node as a test states it.
 #[derive(Clone, Copy)]
@@ -71,40 +72,54 @@ const FORWARDING: [Row; 4] = [
     },
 ];
 
-fn nodes_of(alloc: Global, rows: &[Row]) -> Option<Vec<Node>> {
+fn nodes_of(rt: &impl Abort, alloc: Global, rows: &[Row]) -> Vec<Node> {
     let mut nodes = Vec::new(alloc);
     for row in rows {
         let node = Node {
-            name: Name::read(row.name.as_bytes())?,
+            name: Name::read(row.name.as_bytes()).expect(rt, "a name"),
             kind: row.kind,
             parent: row.parent,
             cap: row.cap,
             forwards: row.forwards,
         };
-        nodes.push(node).ok()?;
+        nodes.push(node).expect(rt, "memory");
     }
-    Some(nodes)
+    nodes
 }
 
-fn tree(alloc: Global, rows: &[Row]) -> Option<Topo> {
-    Topo::new(alloc, nodes_of(alloc, rows)?, 65_536).ok()
+fn tree(rt: &impl Abort, alloc: Global, rows: &[Row]) -> Topo {
+    Topo::new(alloc, nodes_of(rt, alloc, rows), 65_536)
+        .ok()
+        .expect(rt, "a legal tree")
+}
+
+/// Whether the nodes are a tree of so many.
+fn is_tree(rt: &impl Abort, alloc: Global, rows: &[Row], count: u32) -> bool {
+    let topo = tree(rt, alloc, rows);
+    topo.count() == count
 }
 
 /// Whether the nodes have this fault.
-fn is_fault(alloc: Global, rows: &[Row], want: TreeFault) -> bool {
-    match nodes_of(alloc, rows) {
-        Some(nodes) => Topo::new(alloc, nodes, 65_536).err() == Some(want),
+fn is_fault(rt: &impl Abort, alloc: Global, rows: &[Row], want: TreeFault) -> bool {
+    let nodes = nodes_of(rt, alloc, rows);
+    Topo::new(alloc, nodes, 65_536).err() == Some(want)
+}
+
+fn finds(topo: &Topo, name: &str, node: u32) -> bool {
+    match Name::read(name.as_bytes()) {
+        Some(name) => topo.find(&name) == Some(node),
         None => false,
     }
 }
 
-#[test]
-fn finds_nodes(rt: HostRuntime) {
-    let topo = tree(rt.alloc(), &PLAIN).expect(&rt, "a legal tree");
-    assert!(rt; topo.count() == 4 && topo.frames() == 65_536 && topo.node(3).cap == 0x1b02);
-    assert!(rt; topo.bridge(7) == Some(1) && topo.uids() == [0, 7].as_slice());
-    let name = Name::read(b"e0").expect(&rt, "a name");
-    assert!(rt; topo.find(&name) == Some(3));
+/// Whether the plain tree's nodes are found.
+fn are_found(topo: &Topo) -> bool {
+    topo.count() == 4
+        && topo.frames() == 65_536
+        && topo.node(3).cap == 0x1b02
+        && topo.bridge(7) == Some(1)
+        && topo.uids() == [0, 7].as_slice()
+        && finds(topo, "e0", 3)
 }
 
 /// Whether the plain tree's children are found.
@@ -132,8 +147,10 @@ fn is_path(path: &Path) -> bool {
 
 #[test]
 fn says_what_nodes_are(rt: HostRuntime) {
-    let topo = tree(rt.alloc(), &PLAIN).expect(&rt, "a legal tree");
-    assert!(rt; are_children(&topo) && are_said(&topo));
+    let topo = tree(&rt, rt.alloc(), &PLAIN);
+    assert!(rt; are_found(&topo));
+    assert!(rt; are_children(&topo));
+    assert!(rt; are_said(&topo));
 }
 
 /// Whether the landings are below what forwards, and the decoding ports above.
@@ -148,7 +165,7 @@ fn are_passed(topo: &Topo) -> bool {
 
 #[test]
 fn passes_what_forwards(rt: HostRuntime) {
-    let topo = tree(rt.alloc(), &FORWARDING).expect(&rt, "a legal tree");
+    let topo = tree(&rt, rt.alloc(), &FORWARDING);
     assert!(rt; are_passed(&topo));
 }
 
@@ -248,7 +265,7 @@ fn first_faults(rt: HostRuntime) {
         row_passes(
             &rt,
             i,
-            is_fault(rt.alloc(), &changed(row.place, row.change), row.fault),
+            is_fault(&rt, rt.alloc(), &changed(row.place, row.change), row.fault),
         );
     }
 }
@@ -258,14 +275,14 @@ fn first_faults(rt: HostRuntime) {
 fn name_before_uid(rt: HostRuntime) {
     let mut rows = changed(1, Change::Uid(0));
     rows[1].name = "hb0";
-    assert!(rt; is_fault(rt.alloc(), &rows, TreeFault::NameTaken(1)));
+    assert!(rt; is_fault(&rt, rt.alloc(), &rows, TreeFault::NameTaken(1)));
 }
 
 /// An endpoint may have 2^52 bytes.
 #[test]
 fn full_endpoint(rt: HostRuntime) {
     let rows = changed(3, Change::Capacity(1 << 51, 1 << 51));
-    assert!(rt; tree(rt.alloc(), &rows).is_some());
+    assert!(rt; is_tree(&rt, rt.alloc(), &rows, 4));
 }
 
 /// A switch at port 1 of a node.
@@ -293,9 +310,8 @@ fn row_of_five() -> [Row; 6] {
 #[test]
 fn too_deep(rt: HostRuntime) {
     let row = row_of_five();
-    assert!(rt; is_fault(rt.alloc(), &row, TreeFault::Depth(5)));
-    let legal = tree(rt.alloc(), &row[..5]).expect(&rt, "a legal tree");
-    assert!(rt; legal.count() == 5);
+    assert!(rt; is_fault(&rt, rt.alloc(), &row, TreeFault::Depth(5)));
+    assert!(rt; is_tree(&rt, rt.alloc(), &row[..5], 5));
 }
 
 /// A bridge that forwards, and two children below it.
@@ -318,19 +334,17 @@ const FORK: [Row; 3] = [
 
 #[test]
 fn forks(rt: HostRuntime) {
-    assert!(rt; is_fault(rt.alloc(), &FORK, TreeFault::Forks(2)));
+    assert!(rt; is_fault(&rt, rt.alloc(), &FORK, TreeFault::Forks(2)));
 }
 
 /// Whether as many nodes are too many.
-fn are_too_many(alloc: Global, row: Row, count: usize) -> bool {
-    match Vec::from_elem(alloc, row, count) {
-        Ok(rows) => is_fault(alloc, &rows, TreeFault::TooMany),
-        Err(_) => false,
-    }
+fn are_too_many(rt: &impl Abort, alloc: Global, row: Row, count: usize) -> bool {
+    let rows = Vec::from_elem(alloc, row, count).expect(rt, "memory");
+    is_fault(rt, alloc, &rows, TreeFault::TooMany)
 }
 
 #[test]
 fn too_many_nodes(rt: HostRuntime) {
-    assert!(rt; are_too_many(rt.alloc(), BRIDGE, 65));
-    assert!(rt; are_too_many(rt.alloc(), SWITCH, 1_025));
+    assert!(rt; are_too_many(&rt, rt.alloc(), BRIDGE, 65));
+    assert!(rt; are_too_many(&rt, rt.alloc(), SWITCH, 1_025));
 }

@@ -1,4 +1,4 @@
-use crate::common::row_passes;
+use crate::common::{prints, row_passes};
 use cxl_topo::{Name, Topo};
 use cxl_topofile::read_topo;
 use std::alloc::Global;
@@ -53,28 +53,42 @@ fn is_path(topo: &Topo, node: u32, len: u8, nodes: [u32; 6]) -> bool {
     path.len == len && path.nodes == nodes
 }
 
-#[test]
-fn plain(rt: HostRuntime) {
-    let topo = topo_from_text(rt.alloc(), PLAIN).expect(&rt, "a topology");
-    assert!(rt; are_caps(&topo, [0x382, 0x382, 0x1b02, 0x1b02]));
-    assert!(rt; is_path(&topo, 2, 2, [0, 2, 0, 0, 0, 0]));
-    assert!(rt; topo.frames() == 65_536 && topo.bridge(1) == Some(1));
-    assert!(rt; topo.count() == 4 && topo.child(0, 1).is_none());
+fn finds(topo: &Topo, name: &str, node: u32) -> bool {
+    match Name::read(name.as_bytes()) {
+        Some(name) => topo.find(&name) == Some(node),
+        None => false,
+    }
+}
+
+/// Whether a tree is that of the plain text.
+fn is_plain(topo: &Topo) -> bool {
+    are_caps(topo, [0x382, 0x382, 0x1b02, 0x1b02])
+        && is_path(topo, 2, 2, [0, 2, 0, 0, 0, 0])
+        && topo.frames() == 65_536
+        && topo.bridge(1) == Some(1)
+        && topo.count() == 4
+        && topo.child(0, 1).is_none()
 }
 
 #[test]
-fn finds_names(rt: HostRuntime) {
+fn plain(rt: HostRuntime) {
     let topo = topo_from_text(rt.alloc(), PLAIN).expect(&rt, "a topology");
-    let name = Name::read(b"e1").expect(&rt, "a name");
-    assert!(rt; topo.find(&name) == Some(3));
+    assert!(rt; is_plain(&topo));
+    assert!(rt; finds(&topo, "e1", 3));
+}
+
+/// Whether a tree is that of the text with other values.
+fn is_inline(topo: &Topo) -> bool {
+    are_caps(topo, [0x10, 0x220, 0x185, 0x302])
+        && is_path(topo, 3, 4, [0, 1, 2, 3, 0, 0])
+        && topo.frames() == 2
+        && topo.bridge(4_294_967_295) == Some(0)
 }
 
 #[test]
 fn other_spelling(rt: HostRuntime) {
     let topo = topo_from_text(rt.alloc(), INLINE).expect(&rt, "a topology");
-    assert!(rt; are_caps(&topo, [0x10, 0x220, 0x185, 0x302]));
-    assert!(rt; is_path(&topo, 3, 4, [0, 1, 2, 3, 0, 0]));
-    assert!(rt; topo.frames() == 2 && topo.bridge(4_294_967_295) == Some(0));
+    assert!(rt; is_inline(&topo));
 }
 
 #[test]
@@ -149,16 +163,17 @@ const FAULTS: [(&str, &str); 17] = [
     ),
 ];
 
-/// What is said of a text's fault.
-fn fault_of(alloc: Global, text: &str) -> Option<String> {
-    let fault = read_topo(alloc, text.as_bytes()).err()?;
-    format!(in alloc; "{fault}").ok()
+/// Whether this is said of a text's fault.
+fn is_fault(alloc: Global, text: &str, want: &str) -> bool {
+    match read_topo(alloc, text.as_bytes()) {
+        Ok(_) => false,
+        Err(fault) => prints(alloc, &fault, want),
+    }
 }
 
 #[test]
 fn first_faults(rt: HostRuntime) {
     for (i, (text, want)) in FAULTS.iter().enumerate() {
-        let said = fault_of(rt.alloc(), text).expect(&rt, "a fault");
-        row_passes(&rt, i, said.as_str() == *want);
+        row_passes(&rt, i, is_fault(rt.alloc(), *text, *want));
     }
 }

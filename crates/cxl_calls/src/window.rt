@@ -1,7 +1,9 @@
+use crate::common::row_passes;
 use cxl_cedt::{Cedt, Cfmws, Chbs, Cxims, Head, Record};
 use cxl_enc::code_of;
 use cxl_window::{Verdict, Window, positions, slot_of, unxor, windows};
 use std::alloc::Global;
+use std::process::Abort;
 
 const HEAD: Head = Head {
     revision: 1,
@@ -25,37 +27,43 @@ struct Row {
     verdict: Verdict,
 }
 
-fn plain(base: u64, size: u64, targets: &'static [u32], verdict: Verdict) -> Row {
-    Row {
-        base,
-        size,
-        gran: 0,
-        xor: false,
-        targets,
-        verdict,
-    }
-}
+/// Two ways over the bridges 0 and 1.
+const TWO: Row = Row {
+    base: BASE,
+    size: 0x1_0000_0000,
+    gran: 0,
+    xor: false,
+    targets: &[0, 1],
+    verdict: Verdict::Usable,
+};
 
-fn xor(base: u64, size: u64, gran: u8, targets: &'static [u32], verdict: Verdict) -> Row {
-    Row {
-        base,
-        size,
-        gran,
-        xor: true,
-        targets,
-        verdict,
-    }
-}
+const TWO_XOR: Row = Row { xor: true, ..TWO };
 
-fn window(alloc: Global, row: &Row) -> Option<Record> {
-    if row.gran > 6 || row.targets.len() > 16 {
-        return None;
-    }
-    let ways = code_of(row.targets.len() as u8)?;
-    let targets = Vec::from_slice(alloc, row.targets).ok()?;
-    Some(Record::Cfmws(Cfmws::new(
+const THREE: Row = Row {
+    size: 0x6000_0000,
+    targets: &[0, 1, 2],
+    ..TWO
+};
+
+const SIX: Row = Row {
+    size: 0xc000_0000,
+    targets: &[0, 1, 2, 3, 4, 5],
+    ..TWO
+};
+
+const SIX_XOR: Row = Row {
+    size: 0x6000_0000,
+    targets: &[0, 1, 2, 3, 4, 5],
+    ..TWO_XOR
+};
+
+fn window(rt: &impl Abort, alloc: Global, row: &Row) -> Record {
+    assert!(rt; row.gran <= 6 && row.targets.len() <= 16);
+    let ways = code_of(row.targets.len() as u8).expect(rt, "a number of ways");
+    let targets = Vec::from_slice(alloc, row.targets).expect(rt, "memory");
+    Record::Cfmws(Cfmws::new(
         row.base, row.size, ways, row.xor, row.gran, 0x000e, 0, targets,
-    )))
+    ))
 }
 
 fn bridge(uid: u32, version: u32) -> Record {
@@ -67,12 +75,10 @@ fn bridge(uid: u32, version: u32) -> Record {
     })
 }
 
-fn one_map(alloc: Global, gran: u8, map: u64) -> Option<Record> {
-    if gran > 6 {
-        return None;
-    }
-    let maps = vec![in alloc; map].ok()?;
-    Some(Record::Cxims(Cxims::new(gran, maps)))
+fn one_map(rt: &impl Abort, alloc: Global, gran: u8, map: u64) -> Record {
+    assert!(rt; gran <= 6);
+    let maps = vec![in alloc; map].expect(rt, "memory");
+    Record::Cxims(Cxims::new(gran, maps))
 }
 
 /// The UIDs and versions of the bridges of all tables here: 0 to 5 and 7 of CXL 2.0, and 9 of CXL 1.1.
@@ -91,32 +97,32 @@ const BRIDGES: [(u32, u32); 8] = [
 const MAPS: [(u8, u64); 3] = [(0, 0x40_4100), (1, 0x200), (2, 0x800)];
 
 /// The records of the bridges, of these windows, and of the maps.
-fn records_of(alloc: Global, rows: &[Row]) -> Option<Vec<Record>> {
+fn records_of(rt: &impl Abort, alloc: Global, rows: &[Row]) -> Vec<Record> {
     let mut records = Vec::new(alloc);
     for (uid, version) in &BRIDGES {
-        records.push(bridge(*uid, *version)).ok()?;
+        records.push(bridge(*uid, *version)).expect(rt, "memory");
     }
     for row in rows {
-        records.push(window(alloc, row)?).ok()?;
+        records.push(window(rt, alloc, row)).expect(rt, "memory");
     }
     for (gran, map) in &MAPS {
-        records.push(one_map(alloc, *gran, *map)?).ok()?;
+        records
+            .push(one_map(rt, alloc, *gran, *map))
+            .expect(rt, "memory");
     }
-    Some(records)
+    records
 }
 
 /// The windows of a table of these.
-fn judged(alloc: Global, rows: &[Row], uids: Option<&[u32]>) -> Option<Vec<Window>> {
-    let records = records_of(alloc, rows)?;
-    if !Cedt::can_hold(&records) {
-        return None;
-    }
-    windows(alloc, &Cedt::new(HEAD, records), uids).ok()
+fn judged(rt: &impl Abort, alloc: Global, rows: &[Row], uids: Option<&[u32]>) -> Vec<Window> {
+    let records = records_of(rt, alloc, rows);
+    assert!(rt; Cedt::can_hold(&records));
+    windows(alloc, &Cedt::new(HEAD, records), uids).expect(rt, "memory")
 }
 
 /// The window of a table of one.
-fn only(alloc: Global, row: Row, uids: Option<&[u32]>) -> Option<Window> {
-    judged(alloc, &[row], uids)?.pop()
+fn only(rt: &impl Abort, alloc: Global, row: Row, uids: Option<&[u32]>) -> Window {
+    judged(rt, alloc, &[row], uids).pop().expect(rt, "a window")
 }
 
 /// Whether windows have the verdicts of their rows.
@@ -130,54 +136,125 @@ fn are_verdicts(found: &[Window], rows: &[Row]) -> bool {
 }
 
 /// Each verdict, in the order of the causes.
+const JUDGED: &[Row] = &[
+    TWO,
+    Row {
+        base: 0x2_0800_0000,
+        size: 0x2000_0000,
+        verdict: Verdict::Align,
+        ..TWO
+    },
+    Row {
+        base: 0x2_0000_0000,
+        size: 0x1000_0000,
+        verdict: Verdict::Size,
+        ..TWO
+    },
+    Row {
+        base: 0x2_0000_0000,
+        size: 0,
+        targets: &[0],
+        verdict: Verdict::Size,
+        ..TWO
+    },
+    Row {
+        base: 0xf_ffff_f000_0000,
+        size: 0x2000_0000,
+        targets: &[0],
+        verdict: Verdict::TooHigh,
+        ..TWO
+    },
+    Row {
+        base: 0x1_f000_0000,
+        size: 0x1000_0000,
+        targets: &[0],
+        verdict: Verdict::Overlap(0),
+        ..TWO
+    },
+    // The earlier window cannot be used, and this one ends at 2^52.
+    Row {
+        base: 0xf_ffff_f000_0000,
+        size: 0x1000_0000,
+        targets: &[0],
+        verdict: Verdict::Overlap(4),
+        ..TWO
+    },
+    Row {
+        base: 0x3_0000_0000,
+        size: 0x2000_0000,
+        targets: &[0, 8],
+        verdict: Verdict::Target(8),
+        ..TWO
+    },
+    Row {
+        base: 0x4_0000_0000,
+        size: 0x1000_0000,
+        targets: &[9],
+        verdict: Verdict::Target(9),
+        ..TWO
+    },
+    Row {
+        base: 0x5_0000_0000,
+        size: 0x4000_0000,
+        targets: &[5, 7, 7, 5],
+        verdict: Verdict::Repeat(7),
+        ..TWO
+    },
+    // No table of maps, too few maps, and a map with another lowest bit.
+    Row {
+        base: 0x6_0000_0000,
+        size: 0x2000_0000,
+        gran: 3,
+        verdict: Verdict::Maps,
+        ..TWO_XOR
+    },
+    Row {
+        base: 0x7_0000_0000,
+        size: 0x4000_0000,
+        gran: 1,
+        targets: &[0, 1, 2, 5],
+        verdict: Verdict::Maps,
+        ..TWO_XOR
+    },
+    Row {
+        base: 0x8_0000_0000,
+        size: 0x2000_0000,
+        gran: 2,
+        verdict: Verdict::Maps,
+        ..TWO_XOR
+    },
+    // One way needs no map.
+    Row {
+        base: 0x9_0000_0000,
+        size: 0x1000_0000,
+        gran: 3,
+        targets: &[0],
+        ..TWO_XOR
+    },
+];
+
 #[test]
 fn judges_windows(rt: HostRuntime) {
-    let rows = [
-        plain(BASE, 0x1_0000_0000, &[0, 1], Verdict::Usable),
-        plain(0x2_0800_0000, 0x2000_0000, &[0, 1], Verdict::Align),
-        plain(0x2_0000_0000, 0x1000_0000, &[0, 1], Verdict::Size),
-        plain(0x2_0000_0000, 0, &[0], Verdict::Size),
-        plain(0xf_ffff_f000_0000, 0x2000_0000, &[0], Verdict::TooHigh),
-        plain(0x1_f000_0000, 0x1000_0000, &[0], Verdict::Overlap(0)),
-        // The earlier window cannot be used, and this one ends at 2^52.
-        plain(0xf_ffff_f000_0000, 0x1000_0000, &[0], Verdict::Overlap(4)),
-        plain(0x3_0000_0000, 0x2000_0000, &[0, 8], Verdict::Target(8)),
-        plain(0x4_0000_0000, 0x1000_0000, &[9], Verdict::Target(9)),
-        plain(
-            0x5_0000_0000,
-            0x4000_0000,
-            &[5, 7, 7, 5],
-            Verdict::Repeat(7),
-        ),
-        // No table of maps, too few maps, and a map with another lowest bit.
-        xor(0x6_0000_0000, 0x2000_0000, 3, &[0, 1], Verdict::Maps),
-        xor(0x7_0000_0000, 0x4000_0000, 1, &[0, 1, 2, 5], Verdict::Maps),
-        xor(0x8_0000_0000, 0x2000_0000, 2, &[0, 1], Verdict::Maps),
-        // One way needs no map.
-        xor(0x9_0000_0000, 0x1000_0000, 3, &[0], Verdict::Usable),
-    ];
-    let found = judged(rt.alloc(), &rows, None).expect(&rt, "windows");
-    assert!(rt; are_verdicts(&found, &rows));
+    let found = judged(&rt, rt.alloc(), JUDGED, None);
+    assert!(rt; are_verdicts(&found, JUDGED));
 }
 
 /// The verdict of a table's only window where the topology has these bridges.
-fn verdict_with(alloc: Global, uids: &[u32]) -> Option<Verdict> {
-    let row = plain(BASE, 0x1_0000_0000, &[0, 1], Verdict::Usable);
-    let window = only(alloc, row, Some(uids))?;
-    Some(window.verdict())
+fn verdict_with(rt: &impl Abort, alloc: Global, uids: &[u32]) -> Verdict {
+    let window = only(rt, alloc, TWO, Some(uids));
+    window.verdict()
 }
 
 /// A target has to be one of the topology's bridges, where there is a topology.
 #[test]
 fn judges_for_topologies(rt: HostRuntime) {
-    assert!(rt; verdict_with(rt.alloc(), &[1, 0]) == Some(Verdict::Usable));
-    assert!(rt; verdict_with(rt.alloc(), &[0, 2]) == Some(Verdict::Target(1)));
+    assert!(rt; verdict_with(&rt, rt.alloc(), &[1, 0]) == Verdict::Usable);
+    assert!(rt; verdict_with(&rt, rt.alloc(), &[0, 2]) == Verdict::Target(1));
 }
 
 /// The window of two ways under XOR.
-fn two_by_xor(alloc: Global) -> Option<Window> {
-    let row = xor(BASE, 0x1_0000_0000, 0, &[0, 1], Verdict::Usable);
-    only(alloc, row, None)
+fn two_by_xor(rt: &impl Abort, alloc: Global) -> Window {
+    only(rt, alloc, TWO_XOR, None)
 }
 
 fn is_two_by_xor(window: &Window) -> bool {
@@ -190,45 +267,88 @@ fn is_two_by_xor(window: &Window) -> bool {
         && window.targets() == [0, 1].as_slice()
 }
 
-#[test]
-fn keeps_fields(rt: HostRuntime) {
-    let window = two_by_xor(rt.alloc()).expect(&rt, "a window");
-    assert!(rt; is_two_by_xor(&window));
+/// A window, an address, and its position there.
+struct Position {
+    row: Row,
+    h: u64,
+    position: Option<u32>,
 }
 
-/// Whether an address has this position in the only window of a table.
-fn is_position(alloc: Global, row: Row, h: u64, position: Option<u32>) -> bool {
-    match only(alloc, row, None) {
-        Some(window) => slot_of(&window, h) == position,
-        None => false,
-    }
+/// Whether an address has its position in the only window of a table.
+fn is_position(rt: &impl Abort, alloc: Global, at: &Position) -> bool {
+    let window = only(rt, alloc, at.row, None);
+    slot_of(&window, at.h) == at.position
 }
 
 /// Positions of two, three and six ways, without XOR and with it.
+const POSITIONS: &[Position] = &[
+    Position {
+        row: TWO,
+        h: 0x1_0000_0000,
+        position: Some(0),
+    },
+    Position {
+        row: TWO,
+        h: 0x1_ffff_ffff,
+        position: Some(1),
+    },
+    Position {
+        row: TWO,
+        h: 0x2_0000_0000,
+        position: None,
+    },
+    Position {
+        row: TWO_XOR,
+        h: 0x1_0000_4000,
+        position: Some(1),
+    },
+    Position {
+        row: THREE,
+        h: 0x1_2fff_ffff,
+        position: Some(2),
+    },
+    Position {
+        row: THREE,
+        h: 0x1_0000_0400,
+        position: Some(1),
+    },
+    Position {
+        row: THREE,
+        h: 0x1_0000_0600,
+        position: Some(0),
+    },
+    Position {
+        row: SIX,
+        h: 0x1_0000_0b00,
+        position: Some(5),
+    },
+    Position {
+        row: SIX_XOR,
+        h: 0x1_0000_4200,
+        position: Some(1),
+    },
+];
+
 #[test]
 fn gives_positions(rt: HostRuntime) {
-    let two = plain(BASE, 0x1_0000_0000, &[0, 1], Verdict::Usable);
-    let two_xor = xor(BASE, 0x1_0000_0000, 0, &[0, 1], Verdict::Usable);
-    let three = plain(BASE, 0x6000_0000, &[0, 1, 2], Verdict::Usable);
-    let six = plain(BASE, 0xc000_0000, &[0, 1, 2, 3, 4, 5], Verdict::Usable);
-    let six_xor = xor(BASE, 0x6000_0000, 0, &[0, 1, 2, 3, 4, 5], Verdict::Usable);
-    assert!(rt; is_position(rt.alloc(), two, 0x1_0000_0000, Some(0)));
-    assert!(rt; is_position(rt.alloc(), two, 0x1_ffff_ffff, Some(1)));
-    assert!(rt; is_position(rt.alloc(), two, 0x2_0000_0000, None));
-    assert!(rt; is_position(rt.alloc(), two_xor, 0x1_0000_4000, Some(1)));
-    assert!(rt; is_position(rt.alloc(), three, 0x1_2fff_ffff, Some(2)));
-    assert!(rt; is_position(rt.alloc(), three, 0x1_0000_0400, Some(1)));
-    assert!(rt; is_position(rt.alloc(), three, 0x1_0000_0600, Some(0)));
-    assert!(rt; is_position(rt.alloc(), six, 0x1_0000_0b00, Some(5)));
-    assert!(rt; is_position(rt.alloc(), six_xor, 0x1_0000_4200, Some(1)));
+    for (i, at) in POSITIONS.iter().enumerate() {
+        row_passes(&rt, i, is_position(&rt, rt.alloc(), at));
+    }
 }
 
-/// The raw bits with which an address has these parities.
+/// Whether these are the raw bits with which an address has its parities.
+fn undoes(window: &Window) -> bool {
+    window.verdict() == Verdict::Usable
+        && window.ways() == 2
+        && unxor(window, 0x1_0000_4000, 1) == 0
+        && unxor(window, 0x1_0000_4000, 0) == 1
+}
+
 #[test]
-fn undoes_parities(rt: HostRuntime) {
-    let window = two_by_xor(rt.alloc()).expect(&rt, "a window");
-    assert!(rt; window.verdict() == Verdict::Usable && window.ways() == 2);
-    assert!(rt; unxor(&window, 0x1_0000_4000, 1) == 0 && unxor(&window, 0x1_0000_4000, 0) == 1);
+fn keeps_fields_and_undoes_parities(rt: HostRuntime) {
+    let window = two_by_xor(&rt, rt.alloc());
+    assert!(rt; is_two_by_xor(&window));
+    assert!(rt; undoes(&window));
 }
 
 #[test]

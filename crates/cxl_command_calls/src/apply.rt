@@ -5,6 +5,7 @@ ghost use Rattle.cxl_model.specs.declared.plan.Row.{Row};
 ghost use Rattle.cxl_apply.specs.Jobs.{CanCreate, CanRelease, AreOfDifferentNodes};
 ghost use Rattle.cxl_apply.specs.Steps.{HasWordsOf};
 
+use crate::common::topology_of;
 use cxl_apply::{
     Job, Row, create_commits_its_rows, jobs_have_few_writes, regions_stay_after_a_create,
     regions_stay_after_a_release, regions_stay_in_a_create, regions_stay_in_a_release,
@@ -13,41 +14,20 @@ use cxl_apply::{
 use cxl_bus::{FailingBus, Regs, Sent, SimBus};
 use cxl_image::{Image, write_image};
 use cxl_regs::{Block, Decoder, codes_ok, select_ok};
-use cxl_topo::Topo;
-use cxl_topofile::read_topo;
 use std::alloc::{AllocError, Global};
 use std::marker::Model;
 use std::process::Abort;
 use std::test::*;
 
 /// Two bridges with an endpoint each.
-const TWO_BRIDGES: &str = "[[bridge]]
-name = \"hb0\"
-uid = 0
-[[bridge]]
-name = \"hb1\"
-uid = 1
-[[endpoint]]
-name = \"e0\"
-parent = \"hb0\"
-port = 0
-ram = 0x80000000
-[[endpoint]]
-name = \"e1\"
-parent = \"hb1\"
-port = 0
-ram = 0x80000000
+const TWO_BRIDGES: &str = "bridge = [{ name = \"hb0\", uid = 0 }, { name = \"hb1\", uid = 1 }]
+endpoint = [{ name = \"e0\", parent = \"hb0\", port = 0, ram = 0x80000000 },
+  { name = \"e1\", parent = \"hb1\", port = 0, ram = 0x80000000 }]
 ";
-
-fn topology(rt: &impl Abort, alloc: Global) -> Topo {
-    read_topo(alloc, TWO_BRIDGES.as_bytes())
-        .ok()
-        .expect(rt, "a topology")
-}
 
 /// Its image after reset.
 fn two_bridges(rt: &impl Abort, alloc: Global) -> Image {
-    let topo = topology(rt, alloc);
+    let topo = topology_of(rt, alloc, TWO_BRIDGES);
     Image::new(alloc, &topo).expect(rt, "memory")
 }
 
@@ -300,10 +280,6 @@ impl Run {
         self.job.done() == done && self.job.total() == total
     }
 
-    fn has_trail(&self, trail: &[Sent]) -> bool {
-        self.bus.trail() == trail
-    }
-
     /// Whether the first decoders of a bridge and of an endpoint have these controls.
     fn has_controls(&self, bridge: u32, endpoint: u32) -> bool {
         control_of(&self.image, 0) == bridge && control_of(&self.image, 3) == endpoint
@@ -365,14 +341,18 @@ const TRAIL: [Sent; 6] = [
     },
 ];
 
+/// Whether a create makes two writes up to its fault, and takes them back.
+fn is_undone(run: &mut Run) -> bool {
+    run.forth();
+    let made = run.has_made(2, 32);
+    run.back();
+    made && run.has_made(0, 32) && run.bus.trail() == TRAIL.as_slice()
+}
+
 #[test]
 fn a_create_that_is_undone(rt: HostRuntime) {
     let mut run = Run::create(&rt, rt.alloc(), &[5]);
-    run.forth();
-    assert!(rt; run.has_made(2, 32));
-    run.back();
-    assert!(rt; run.has_made(0, 32));
-    assert!(rt; run.has_trail(&TRAIL));
+    assert!(rt; is_undone(&mut run));
 }
 
 /// Whether a create goes on up to a fault at this write, and back up to one at this call after it began.
@@ -407,30 +387,41 @@ fn a_fault_at_each_call(rt: HostRuntime) {
     }
 }
 
+/// Whether a release of four writes ends the region, and is taken back.
+fn is_released_and_back(run: &mut Run) -> bool {
+    let before = run.has_made(0, 4) && run.has_controls(0x1600, 0x1610);
+    run.forth();
+    let released = run.has_controls(0x1000, 0x1010);
+    run.back();
+    before && released && run.has_controls(0x1600, 0x1610)
+}
+
 #[test]
 fn a_release(rt: HostRuntime) {
     let mut run = Run::create(&rt, rt.alloc(), &[]);
     run.forth();
     run.release(&rt, rt.alloc());
-    assert!(rt; run.has_made(0, 4) && run.has_controls(0x1600, 0x1610));
-    run.forth();
-    assert!(rt; run.has_controls(0x1000, 0x1010));
-    run.back();
-    assert!(rt; run.has_controls(0x1600, 0x1610));
+    assert!(rt; is_released_and_back(&mut run));
+}
+
+/// Whether a job makes all its writes on the simulator's bus.
+fn is_made(rt: &impl Abort, alloc: Global, job: &mut Job, image: &mut Image) -> bool
+    requires { HasWordsOf image.old job.old.writes }
+{
+    let mut bus = SimBus::new(alloc);
+    bus.power_on(alloc, image.blocks()).expect(rt, "memory");
+    forth(job, image, &mut bus);
+    job.done() == job.total()
 }
 
 #[test]
 fn over_the_simulators_bus(rt: HostRuntime) {
-    let alloc = rt.alloc();
     let Run {
         mut job,
         mut image,
         bus: _,
-    } = Run::create(&rt, alloc, &[]);
-    let mut bus = SimBus::new(alloc);
-    bus.power_on(alloc, image.blocks()).expect(&rt, "memory");
-    forth(&mut job, &mut image, &mut bus);
-    assert!(rt; job.done() == job.total());
+    } = Run::create(&rt, rt.alloc(), &[]);
+    assert!(rt; is_made(&rt, rt.alloc(), &mut job, &mut image));
 }
 
 #[test]

@@ -1,8 +1,9 @@
 //! Generated systems: the bytes of a table, how many commands there are, and the first and last of each part.
 
-use cxl_cedt::write;
-use cxl_gen::make;
+use cxl_cedt::{Cedt, write};
+use cxl_gen::{Made, make};
 use cxl_script::Command;
+use std::alloc::Global;
 use std::process::Abort;
 
 /// What a command asks for: of a region its size and how many endpoints it names, of a store its address and the number
@@ -50,27 +51,70 @@ fn stands_there(commands: &[Command], row: &Row) -> bool {
     numbers(commands.get(row.place)) == (row.verb, row.first, row.second)
 }
 
-#[test]
-fn fewest_windows(rt: HostRuntime) {
-    let made = make(rt.alloc(), 1).expect(&rt, "memory");
-    let bytes = write(rt.alloc(), &made.cedt).expect(&rt, "memory");
-    assert!(rt; bytes.as_slice() == TABLE.as_slice());
-    let commands = made.commands.items();
-    assert!(rt; is_region(commands.first(), "r0", "e3"));
-    for row in FEWEST {
+fn stand_there(rt: &impl Abort, commands: &[Command], rows: &[Row]) {
+    for row in rows {
         assert!(rt; stands_there(commands, row), "at {}", row.place);
     }
 }
 
-#[test]
-fn most_windows(rt: HostRuntime) {
-    let made = make(rt.alloc(), 32).expect(&rt, "memory");
-    let commands = made.commands.items();
-    assert!(rt; is_region(commands.get(31_031), "r31", "e127"));
-    for row in MOST {
-        assert!(rt; stands_there(commands, row), "at {}", row.place);
+/// Whether a table has these bytes, where they are told.
+fn is_table(alloc: Global, cedt: &Cedt, want: Option<&[u8]>) -> bool {
+    let Some(want) = want else {
+        return true;
+    };
+    match write(alloc, cedt) {
+        Ok(bytes) => bytes.as_slice() == want,
+        Err(_) => false,
     }
 }
+
+/// A generated system: its number, its table where it is told, the place of a region's command, with the region's name and
+/// last endpoint, and what other commands ask for.
+struct System {
+    number: u32,
+    table: Option<&'static [u8]>,
+    place: usize,
+    name: &'static str,
+    last: &'static str,
+    rows: &'static [Row],
+}
+
+fn is_made(rt: &(impl Abort + AllocGlobal), system: &System) -> bool {
+    assert!(rt; 1 <= system.number && system.number <= 32);
+    let made = make(rt.alloc(), system.number).expect(rt, "memory");
+    let commands = made.commands.items();
+    stand_there(rt, commands, system.rows);
+    is_region(commands.get(system.place), system.name, system.last)
+        && is_table(rt.alloc(), &made.cedt, system.table)
+}
+
+#[test]
+fn fewest_windows(rt: HostRuntime) {
+    assert!(rt; is_made(&rt, &FEWEST_WINDOWS));
+}
+
+#[test]
+fn most_windows(rt: HostRuntime) {
+    assert!(rt; is_made(&rt, &MOST_WINDOWS));
+}
+
+const FEWEST_WINDOWS: System = System {
+    number: 1,
+    table: Some(&TABLE),
+    place: 0,
+    name: "r0",
+    last: "e3",
+    rows: FEWEST,
+};
+
+const MOST_WINDOWS: System = System {
+    number: 32,
+    table: None,
+    place: 31_031,
+    name: "r31",
+    last: "e127",
+    rows: MOST,
+};
 
 const FEWEST: &[Row] = &[
     Row {

@@ -6,6 +6,8 @@
 #[cfg(test)]
 mod apply;
 #[cfg(test)]
+mod common;
+#[cfg(test)]
 mod generated;
 #[cfg(test)]
 mod moves;

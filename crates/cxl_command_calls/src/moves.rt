@@ -4,7 +4,7 @@
 ghost use Rattle.std.specs.Prelude.{◌≡◌, [], ◌∷◌, Some, IfOk};
 ghost use Rattle.cxl_enc.specs.declared.caps.MemKind.TheVariants.{Ram, Pmem};
 ghost use Rattle.cxl_window.specs.Windows.{windows_of};
-ghost use Rattle.cxl_move.specs.Sides.{AreSides};
+ghost use Rattle.cxl_move.specs.Sides.{AreSides, AreHeld};
 ghost use Rattle.cxl_worked.specs.ExampleRegions.{region};
 ghost use Rattle.cxl_worked.specs.ExampleLayouts.{region_of_pmem, window_of_one};
 
@@ -104,6 +104,25 @@ fn pieces_moved<M: Roll>(
     Some(pieces.len())
 }
 
+/// Copies these pieces, where there are frames for them beside those of the other region's.
+fn copies<M: Roll>(
+    media: &mut M,
+    from: &Side<'_>,
+    to: &Side<'_>,
+    pieces: &[u64],
+    others: &[u64],
+) -> bool
+    requires sides { AreSides from.now.found.now from.now.window.now to.now.found.now to.now.window.now }
+    requires held { AreHeld from.now.found.now from.now.window.now (M.state media.old).blocks pieces.now }
+    requires others { AreHeld to.now.found.now to.now.window.now (M.state media.old).blocks others.now }
+{
+    let fits = pieces.len() <= others.len().saturating_add(media.free() as usize);
+    if fits {
+        copy_bytes(media, from, to, pieces);
+    }
+    fits
+}
+
 /// How many pieces are copied, where there are frames for them.
 fn pieces_copied<M: Roll>(
     alloc: Global,
@@ -115,11 +134,11 @@ fn pieces_copied<M: Roll>(
 {
     let pieces = held(alloc, media, from).ok()?;
     let others = held(alloc, media, to).ok()?;
-    if pieces.len() > others.len().saturating_add(media.free() as usize) {
-        return None;
+    if copies(media, from, to, &pieces, &others) {
+        Some(pieces.len())
+    } else {
+        None
     }
-    copy_bytes(media, from, to, &pieces);
-    Some(pieces.len())
 }
 
 fn stores<M: Roll>(media: &mut M, dpa: u64, byte: u8) -> bool {
@@ -132,8 +151,13 @@ fn loads<M: Roll>(media: &M, dpa: u64, want: u8) -> bool {
     byte == [want]
 }
 
-/// With one frame a piece goes over and back, and is not copied; with two it is.
-fn carries<M: Roll>(alloc: Global, media: &mut M, ram: &Side<'_>, pmem: &Side<'_>) -> bool
+/// With one frame a piece goes over and back, and is not copied.
+fn goes_over_and_back<M: Roll>(
+    alloc: Global,
+    media: &mut M,
+    ram: &Side<'_>,
+    pmem: &Side<'_>,
+) -> bool
     requires ram { AreSides ram.now.found.now ram.now.window.now pmem.now.found.now pmem.now.window.now }
     requires pmem { AreSides pmem.now.found.now pmem.now.window.now ram.now.found.now ram.now.window.now }
 {
@@ -146,7 +170,13 @@ fn carries<M: Roll>(alloc: Global, media: &mut M, ram: &Side<'_>, pmem: &Side<'_
         && pieces_moved(alloc, media, pmem, ram) == Some(1)
         && pieces_moved(alloc, media, pmem, ram) == Some(0)
         && !loads(media, 0x1ff, 0x11)
-        && media.power_on(alloc, 2).is_ok()
+}
+
+/// With two it is.
+fn is_copied<M: Roll>(alloc: Global, media: &mut M, ram: &Side<'_>, pmem: &Side<'_>) -> bool
+    requires { AreSides ram.now.found.now ram.now.window.now pmem.now.found.now pmem.now.window.now }
+{
+    media.power_on(alloc, 2).is_ok()
         && stores(media, 0x1ff, 0x22)
         && pieces_copied(alloc, media, ram, pmem) == Some(1)
         && loads(media, 0x1ff, 0x22)
@@ -154,21 +184,42 @@ fn carries<M: Roll>(alloc: Global, media: &mut M, ram: &Side<'_>, pmem: &Side<'_
         && media.free() == 0
 }
 
+fn carries<M: Roll>(alloc: Global, media: &mut M, ram: &Side<'_>, pmem: &Side<'_>) -> bool
+    requires ram { AreSides ram.now.found.now ram.now.window.now pmem.now.found.now pmem.now.window.now }
+    requires pmem { AreSides pmem.now.found.now pmem.now.window.now ram.now.found.now ram.now.window.now }
+{
+    goes_over_and_back(alloc, media, ram, pmem) && is_copied(alloc, media, ram, pmem)
+}
+
+/// Over both media.
+fn both_carry(alloc: Global, ram: &Side<'_>, pmem: &Side<'_>) -> bool
+    requires ram { AreSides ram.now.found.now ram.now.window.now pmem.now.found.now pmem.now.window.now }
+    requires pmem { AreSides pmem.now.found.now pmem.now.window.now ram.now.found.now ram.now.window.now }
+{
+    carries(alloc, &mut MapMedia::new(alloc), ram, pmem)
+        && carries(alloc, &mut SimMedia::new(alloc), ram, pmem)
+}
+
+/// Whether the bytes of one region of the window are carried to the other.
+fn are_carried(alloc: Global, window: &Window, ram: &Found, pmem: &Found) -> bool
+    requires window { window.now ≡ window_of_one }
+    requires ram { ram.now ≡ region 0x100000000 0x10000000 1 (1 ∷ []) }
+    requires pmem { pmem.now ≡ region_of_pmem }
+{
+    regions_are_sides();
+    let ram = Side { found: ram, window };
+    let pmem = Side {
+        found: pmem,
+        window,
+    };
+    both_carry(alloc, &ram, &pmem)
+}
+
 #[test]
 fn pieces_are_carried_over(rt: HostRuntime) {
     let alloc = rt.alloc();
     let windows = windows_of_one(&rt, alloc);
-    let first = region_at(&rt, alloc, 0x1_0000_0000, MemKind::Ram, 0);
-    let second = region_at(&rt, alloc, 0x1_1000_0000, MemKind::Pmem, 0x4000_0000);
-    regions_are_sides();
-    let ram = Side {
-        found: &first,
-        window: &windows[0],
-    };
-    let pmem = Side {
-        found: &second,
-        window: &windows[0],
-    };
-    assert!(rt; carries(alloc, &mut MapMedia::new(alloc), &ram, &pmem));
-    assert!(rt; carries(alloc, &mut SimMedia::new(alloc), &ram, &pmem));
+    let ram = region_at(&rt, alloc, 0x1_0000_0000, MemKind::Ram, 0);
+    let pmem = region_at(&rt, alloc, 0x1_1000_0000, MemKind::Pmem, 0x4000_0000);
+    assert!(rt; are_carried(alloc, &windows[0], &ram, &pmem));
 }

@@ -33,16 +33,20 @@ fn has_record(list: &PoisonList, dpa: u64, units: u32, source: u8) -> bool {
     }
 }
 
-#[test]
-fn a_list_of_one_record(rt: HostRuntime) {
-    let list = read(&rt, rt.alloc(), &payload(0, 1, ADDRESS, 2));
-    assert!(rt; says(&list, false, None, false) && has_record(&list, 0xfff_ffc0, 2, 2));
+fn has_one_record(list: &PoisonList) -> bool {
+    says(list, false, None, false) && has_record(list, 0xfff_ffc0, 2, 2)
+}
+
+fn has_every_flag(list: &PoisonList) -> bool {
+    says(list, true, Some(0x0a0b), true) && list.records.items().is_empty()
 }
 
 #[test]
-fn a_list_with_every_flag(rt: HostRuntime) {
-    let list = read(&rt, rt.alloc(), &payload(0b111, 0, ADDRESS, 2));
-    assert!(rt; says(&list, true, Some(0x0a0b), true) && list.records.items().is_empty());
+fn lists(rt: HostRuntime) {
+    let one = read(&rt, rt.alloc(), &payload(0, 1, ADDRESS, 2));
+    assert!(rt; has_one_record(&one));
+    let flagged = read(&rt, rt.alloc(), &payload(0b111, 0, ADDRESS, 2));
+    assert!(rt; has_every_flag(&flagged));
 }
 
 /// Whether the first bytes of these are refused for this fault.

@@ -3,12 +3,13 @@
 ghost use Rattle.std.specs.Prelude.{◌≡◌, length};
 ghost use Rattle.cxl_reply.specs.Conditions.{IsTold, HasKnownCode};
 
+use crate::common::{passes, topology_of};
 use cxl_enc::Name;
 use cxl_reply::{
     BadLine, Begun, Carried, Counted, Lack, Named, Pending, Progress, Reply, Sizes, Spot, Why,
 };
 use cxl_text::{put_reply, short};
-use cxl_topo::{Capacity, Node, NodeKind, Parent, Topo};
+use cxl_topo::Topo;
 use std::process::Abort;
 use told::is_told;
 
@@ -21,111 +22,21 @@ fn name(rt: &impl Abort, text: &str) -> Name {
     Name::read(text.as_bytes()).expect(rt, "a name")
 }
 
-const DISK: NodeKind = NodeKind::Endpoint(Capacity {
-    ram: 0x8000_0000,
-    pmem: 0,
-});
-
-/// A node, with its parent and the port there; a bridge has none.
-struct NodeRow {
-    name: &'static str,
-    kind: NodeKind,
-    cap: u32,
-    parent: Option<Parent>,
-}
-
 /// Two bridges with two endpoints each, and four switches above one more.
-const NODES: &[NodeRow] = &[
-    NodeRow {
-        name: "hb0",
-        kind: NodeKind::Bridge(0),
-        cap: 0x382,
-        parent: None,
-    },
-    NodeRow {
-        name: "hb1",
-        kind: NodeKind::Bridge(1),
-        cap: 0x382,
-        parent: None,
-    },
-    NodeRow {
-        name: "s0",
-        kind: NodeKind::Switch,
-        cap: 0x382,
-        parent: Some(Parent { node: 0, port: 2 }),
-    },
-    NodeRow {
-        name: "s2",
-        kind: NodeKind::Switch,
-        cap: 0x382,
-        parent: Some(Parent { node: 2, port: 0 }),
-    },
-    NodeRow {
-        name: "s6",
-        kind: NodeKind::Switch,
-        cap: 0x382,
-        parent: Some(Parent { node: 3, port: 0 }),
-    },
-    NodeRow {
-        name: "s13",
-        kind: NodeKind::Switch,
-        cap: 0x382,
-        parent: Some(Parent { node: 4, port: 0 }),
-    },
-    NodeRow {
-        name: "e0",
-        kind: DISK,
-        cap: 0x1b02,
-        parent: Some(Parent { node: 0, port: 0 }),
-    },
-    NodeRow {
-        name: "e1",
-        kind: DISK,
-        cap: 0x1b02,
-        parent: Some(Parent { node: 0, port: 1 }),
-    },
-    NodeRow {
-        name: "e2",
-        kind: DISK,
-        cap: 0x1b02,
-        parent: Some(Parent { node: 1, port: 0 }),
-    },
-    NodeRow {
-        name: "e3",
-        kind: DISK,
-        cap: 0x1b02,
-        parent: Some(Parent { node: 1, port: 1 }),
-    },
-    NodeRow {
-        name: "e13",
-        kind: DISK,
-        cap: 0x1b02,
-        parent: Some(Parent { node: 5, port: 0 }),
-    },
-];
-
-fn node(rt: &impl Abort, row: &NodeRow) -> Node {
-    Node {
-        name: name(rt, row.name),
-        kind: row.kind,
-        parent: row.parent,
-        cap: row.cap,
-        forwards: false,
-    }
-}
-
-fn nodes(rt: &(impl Abort + AllocGlobal)) -> Vec<Node> {
-    let mut nodes = Vec::new(rt.alloc());
-    for row in NODES {
-        nodes.push(node(rt, row)).expect(rt, "memory");
-    }
-    nodes
-}
+const NODES: &str = "bridge = [{ name = \"hb0\", uid = 0 }, { name = \"hb1\", uid = 1 }]
+switch = [{ name = \"s0\", parent = \"hb0\", port = 2 }, { name = \"s2\", parent = \"s0\", port = 0 },
+  { name = \"s6\", parent = \"s2\", port = 0 }, { name = \"s13\", parent = \"s6\", port = 0 }]
+endpoint = [{ name = \"e0\", parent = \"hb0\", port = 0, ram = 0x80000000 },
+  { name = \"e1\", parent = \"hb0\", port = 1, ram = 0x80000000 },
+  { name = \"e2\", parent = \"hb1\", port = 0, ram = 0x80000000 },
+  { name = \"e3\", parent = \"hb1\", port = 1, ram = 0x80000000 },
+  { name = \"e13\", parent = \"s13\", port = 0, ram = 0x80000000 }]
+";
 
 fn topology(rt: &(impl Abort + AllocGlobal)) -> Topo
     ensures { length result.nodes ≡ 11 }
 {
-    let topo = Topo::new(rt.alloc(), nodes(rt), 65_536).expect(rt, "a legal tree");
+    let topo = topology_of(rt, rt.alloc(), NODES);
     assert!(rt; topo.count() == 11);
     topo
 }
@@ -167,17 +78,25 @@ fn is_put(
         && is_short(reply, want) == in_short
 }
 
+/// Whether the reply has this text, and a short one that is the same or another.
+fn is_printed(
+    rt: &(impl Abort + AllocGlobal),
+    reply: Reply,
+    want: &str,
+    in_short: Option<bool>,
+) -> bool {
+    let topo = topology(rt);
+    is_put(rt, &topo, &reply, want, in_short)
+}
+
 /// The reply has this text, and no short one.
-fn prints(rt: &(impl Abort + AllocGlobal), reply: &Reply, want: &str) {
-    assert!(rt; is_put(rt, &topology(rt), reply, want, None), "for {want}");
+fn prints(rt: &(impl Abort + AllocGlobal), reply: Reply, want: &str) {
+    passes(rt, is_printed(rt, reply, want, None), want);
 }
 
 /// The reply has this text, which is its short one, too.
-fn tells(rt: &(impl Abort + AllocGlobal), reply: &Reply, want: &str) {
-    assert!(rt;
-        is_put(rt, &topology(rt), reply, want, Some(true)),
-        "for {want}"
-    );
+fn tells(rt: &(impl Abort + AllocGlobal), reply: Reply, want: &str) {
+    passes(rt, is_printed(rt, reply, want, Some(true)), want);
 }
 
 #[test]
@@ -199,20 +118,16 @@ fn short_replies(rt: HostRuntime) {
         done: 24,
         total: 32,
     };
-    let rows = [
-        (
-            Reply::Created(created),
-            "created r0 window 0 base 0x100000000 size 0x20000000 gran 256 ways 2\n",
-        ),
-        (Reply::Destroyed(r0), "destroyed r0\n"),
-        (Reply::Stored(4), "stored 4\n"),
-        (Reply::Begun(begun), "begun r0 writes 32\n"),
-        (Reply::Stepped(stepped), "stepped 24 of 32\n"),
-        (Reply::Aborted(r0), "aborted r0\n"),
-    ];
-    for (reply, want) in &rows {
-        tells(&rt, reply, want);
-    }
+    tells(
+        &rt,
+        Reply::Created(created),
+        "created r0 window 0 base 0x100000000 size 0x20000000 gran 256 ways 2\n",
+    );
+    tells(&rt, Reply::Destroyed(r0), "destroyed r0\n");
+    tells(&rt, Reply::Stored(4), "stored 4\n");
+    tells(&rt, Reply::Begun(begun), "begun r0 writes 32\n");
+    tells(&rt, Reply::Stepped(stepped), "stepped 24 of 32\n");
+    tells(&rt, Reply::Aborted(r0), "aborted r0\n");
 }
 
 fn carried_piece(from: Name, to: Name) -> Carried {
@@ -240,26 +155,28 @@ fn more_short_replies(rt: HostRuntime) {
         gran: 6,
         ways: u8::MAX,
     };
-    let rows = [
-        (
-            Reply::Copied(carried_piece(from, to)),
-            "copied r0 abcdefghijklmno pieces 1\n",
-        ),
-        (
-            Reply::Moved(carried_piece(from, to)),
-            "moved r0 abcdefghijklmno pieces 1\n",
-        ),
-        (Reply::BusUndone, "bus fault undone\n"),
-        (Reply::BusPending(pending), "bus fault pending r0 2 of 32\n"),
-        // The longest short text.
-        (
-            Reply::Created(longest),
-            "created abcdefghijklmno window 4294967295 base 0xffffffffffffffff size 0xffffffffffffffff gran 16384 ways 255\n",
-        ),
-    ];
-    for (reply, want) in &rows {
-        tells(&rt, reply, want);
-    }
+    tells(
+        &rt,
+        Reply::Copied(carried_piece(from, to)),
+        "copied r0 abcdefghijklmno pieces 1\n",
+    );
+    tells(
+        &rt,
+        Reply::Moved(carried_piece(from, to)),
+        "moved r0 abcdefghijklmno pieces 1\n",
+    );
+    tells(&rt, Reply::BusUndone, "bus fault undone\n");
+    tells(
+        &rt,
+        Reply::BusPending(pending),
+        "bus fault pending r0 2 of 32\n",
+    );
+    // The longest short text.
+    tells(
+        &rt,
+        Reply::Created(longest),
+        "created abcdefghijklmno window 4294967295 base 0xffffffffffffffff size 0xffffffffffffffff gran 16384 ways 255\n",
+    );
 }
 
 #[test]
@@ -274,41 +191,32 @@ fn refusals(rt: HostRuntime) {
         from: 0x2000_0000,
         to: 0x4000_0000,
     };
-    let rows = [
-        (Reply::Busy(b), "busy b\n"),
-        (Reply::NameTaken(b), "name taken b\n"),
-        (Reply::NoRegion(b), "no such region b\n"),
-        (Reply::NoEndpoint(b), "no such endpoint b\n"),
-        (Reply::SameRegion(b), "same region b\n"),
-        (Reply::RegionsFull, "regions full\n"),
-        (Reply::Full(lack), "full need 2 free 1\n"),
-        (Reply::Locked(spot), "locked hb0 1\n"),
-        (Reply::NotLast(spot), "not last hb0 1\n"),
-        (
-            Reply::SizesDiffer(sizes),
-            "sizes differ 0x20000000 0x40000000\n",
-        ),
-    ];
-    for (reply, want) in &rows {
-        prints(&rt, reply, want);
-    }
+    prints(&rt, Reply::Busy(b), "busy b\n");
+    prints(&rt, Reply::NameTaken(b), "name taken b\n");
+    prints(&rt, Reply::NoRegion(b), "no such region b\n");
+    prints(&rt, Reply::NoEndpoint(b), "no such endpoint b\n");
+    prints(&rt, Reply::SameRegion(b), "same region b\n");
+    prints(&rt, Reply::RegionsFull, "regions full\n");
+    prints(&rt, Reply::Full(lack), "full need 2 free 1\n");
+    prints(&rt, Reply::Locked(spot), "locked hb0 1\n");
+    prints(&rt, Reply::NotLast(spot), "not last hb0 1\n");
+    prints(
+        &rt,
+        Reply::SizesDiffer(sizes),
+        "sizes differ 0x20000000 0x40000000\n",
+    );
 }
 
 #[test]
 fn more_refusals(rt: HostRuntime) {
     let counted = Counted { said: 2, room: 1 };
-    let rows = [
-        (Reply::Unmapped, "unmapped\n"),
-        (Reply::CrossesEnd, "crosses end\n"),
-        (Reply::NoSet, "refused no-set\n"),
-        (Reply::PoisonShort, "poison short\n"),
-        (Reply::PoisonCount(counted), "poison count 2 1\n"),
-        (Reply::BusRead, "bus fault read\n"),
-        (Reply::NothingPending, "nothing pending\n"),
-    ];
-    for (reply, want) in &rows {
-        prints(&rt, reply, want);
-    }
+    prints(&rt, Reply::Unmapped, "unmapped\n");
+    prints(&rt, Reply::CrossesEnd, "crosses end\n");
+    prints(&rt, Reply::NoSet, "refused no-set\n");
+    prints(&rt, Reply::PoisonShort, "poison short\n");
+    prints(&rt, Reply::PoisonCount(counted), "poison count 2 1\n");
+    prints(&rt, Reply::BusRead, "bus fault read\n");
+    prints(&rt, Reply::NothingPending, "nothing pending\n");
 }
 
 const WHYS: [(Why, &str); 9] = [
@@ -323,10 +231,13 @@ const WHYS: [(Why, &str); 9] = [
     (Why::Long, "bad line 7 long\n"),
 ];
 
+fn bad_line(why: Why) -> Reply {
+    Reply::BadLine(BadLine { at: 7, why })
+}
+
 #[test]
 fn bad_lines(rt: HostRuntime) {
     for (why, want) in &WHYS {
-        let fault = BadLine { at: 7, why: *why };
-        prints(&rt, &Reply::BadLine(fault), want);
+        prints(&rt, bad_line(*why), *want);
     }
 }

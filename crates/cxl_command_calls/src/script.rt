@@ -1,5 +1,6 @@
 //! What the lines of a script ask for, and their faults.
 
+use crate::common::passes;
 use cxl_enc::{MemKind, Name};
 use cxl_script::{BadLine, Command, Create, LINE_LIMIT, LineFault, Why, read_command};
 use std::process::Abort;
@@ -8,6 +9,36 @@ mod faults;
 mod words;
 
 type Read = Result<Option<Command>, LineFault>;
+
+/// What a line is to ask for.
+enum Wanted<'a> {
+    Numbers(&'a NumbersRow),
+    Names(&'a NamesRow),
+    Region(&'a RegionRow),
+    /// A region by this code.
+    Granularity(u8),
+    /// A store of bytes at this address, or a poison list of this endpoint.
+    Bytes(u64, &'a [u8], &'a [u8]),
+    /// Any command.
+    Command,
+}
+
+fn is_wanted(rt: &(impl Abort + AllocGlobal), read: &Read, wanted: Wanted<'_>) -> bool {
+    match wanted {
+        Wanted::Numbers(row) => numbers(read) == (row.verb, row.first, row.second),
+        Wanted::Names(row) => has_names(read, row),
+        Wanted::Region(row) => creates(rt, read, row),
+        Wanted::Granularity(code) => granularity(read) == Some(code),
+        Wanted::Bytes(h, endpoint, bytes) => has_bytes(read, h, endpoint, bytes),
+        Wanted::Command => matches!(read, Ok(Some(_))),
+    }
+}
+
+/// Whether a line asks for this.
+fn asks_for(rt: &(impl Abort + AllocGlobal), line: &[u8], wanted: Wanted<'_>) -> bool {
+    let read = read_command(rt.alloc(), line);
+    is_wanted(rt, &read, wanted)
+}
 
 /// A command that holds numbers alone, by its verb.
 fn numbers(read: &Read) -> (&'static str, u64, u64) {
@@ -31,15 +62,14 @@ struct NumbersRow {
     second: u64,
 }
 
-fn has_numbers(rt: &impl AllocGlobal, row: &NumbersRow) -> bool {
-    let read = read_command(rt.alloc(), row.line.as_bytes());
-    numbers(&read) == (row.verb, row.first, row.second)
-}
-
 #[test]
 fn numbers_of_commands(rt: HostRuntime) {
     for row in NUMBERS {
-        assert!(rt; has_numbers(&rt, row), "at {}", row.line);
+        passes(
+            &rt,
+            asks_for(&rt, row.line.as_bytes(), Wanted::Numbers(row)),
+            row.line,
+        );
     }
 }
 
@@ -131,10 +161,6 @@ fn names(read: &Read) -> Option<(&'static str, Name, Name, u64)> {
     }
 }
 
-fn names_of(rt: &impl AllocGlobal, line: &str) -> Option<(&'static str, Name, Name, u64)> {
-    names(&read_command(rt.alloc(), line.as_bytes()))
-}
-
 /// A line, and the verb, the names and the device address of its command, as `names` tells them.
 struct NamesRow {
     line: &'static str,
@@ -144,8 +170,8 @@ struct NamesRow {
     dpa: u64,
 }
 
-fn has_names(rt: &impl AllocGlobal, row: &NamesRow) -> bool {
-    match names_of(rt, row.line) {
+fn has_names(read: &Read, row: &NamesRow) -> bool {
+    match names(read) {
         Some((verb, from, to, dpa)) => {
             let same = (verb, from.bytes(), to.bytes(), dpa);
             same == (row.verb, row.from.as_bytes(), row.to.as_bytes(), row.dpa)
@@ -157,7 +183,11 @@ fn has_names(rt: &impl AllocGlobal, row: &NamesRow) -> bool {
 #[test]
 fn names_of_commands(rt: HostRuntime) {
     for row in NAMES {
-        assert!(rt; has_names(&rt, row), "at {}", row.line);
+        passes(
+            &rt,
+            asks_for(&rt, row.line.as_bytes(), Wanted::Names(row)),
+            row.line,
+        );
     }
 }
 
@@ -242,9 +272,8 @@ fn is_created(rt: &(impl Abort + AllocGlobal), create: &Create, row: &RegionRow)
         && is_spaced(rt, create.endpoints.items(), row.endpoints)
 }
 
-fn has_created(rt: &(impl Abort + AllocGlobal), row: &RegionRow) -> bool {
-    let read = read_command(rt.alloc(), row.line.as_bytes());
-    match created(&read) {
+fn creates(rt: &(impl Abort + AllocGlobal), read: &Read, row: &RegionRow) -> bool {
+    match created(read) {
         Some(create) => is_created(rt, create, row),
         None => false,
     }
@@ -253,7 +282,11 @@ fn has_created(rt: &(impl Abort + AllocGlobal), row: &RegionRow) -> bool {
 #[test]
 fn created_regions(rt: HostRuntime) {
     for row in CREATED {
-        assert!(rt; has_created(&rt, row), "at {}", row.line);
+        passes(
+            &rt,
+            asks_for(&rt, row.line.as_bytes(), Wanted::Region(row)),
+            row.line,
+        );
     }
 }
 
@@ -304,8 +337,8 @@ const CREATED: &[RegionRow] = &[
 ];
 
 /// The granularity code of the region that a line asks for.
-fn granularity(rt: &impl AllocGlobal, line: &str) -> Option<u8> {
-    match created(&read_command(rt.alloc(), line.as_bytes())) {
+fn granularity(read: &Read) -> Option<u8> {
+    match created(read) {
         Some(create) => create.gran,
         None => None,
     }
@@ -314,7 +347,11 @@ fn granularity(rt: &impl AllocGlobal, line: &str) -> Option<u8> {
 #[test]
 fn granularities(rt: HostRuntime) {
     for (line, code) in &GRANULARITIES {
-        assert!(rt; granularity(&rt, line) == Some(*code), "at {line}");
+        passes(
+            &rt,
+            asks_for(&rt, line.as_bytes(), Wanted::Granularity(*code)),
+            *line,
+        );
     }
 }
 
@@ -341,12 +378,8 @@ fn has_bytes(read: &Read, h: u64, endpoint: &[u8], bytes: &[u8]) -> bool {
 
 #[test]
 fn bytes_of_commands(rt: HostRuntime) {
-    let store = read_command(rt.alloc(), b"store 0x1000000fe aAbBccdd");
-    assert!(rt; has_bytes(&store, 0x1_0000_00fe, b"", &[0xaa, 0xbb, 0xcc, 0xdd]));
-}
-
-#[test]
-fn bytes_of_poison_lists(rt: HostRuntime) {
-    let poison = read_command(rt.alloc(), b"poison e0 00ff");
-    assert!(rt; has_bytes(&poison, u64::MAX, b"e0", &[0, 0xff]));
+    let stored = Wanted::Bytes(0x1_0000_00fe, b"", &[0xaa, 0xbb, 0xcc, 0xdd]);
+    assert!(rt; asks_for(&rt, b"store 0x1000000fe aAbBccdd", stored));
+    let listed = Wanted::Bytes(u64::MAX, b"e0", &[0, 0xff]);
+    assert!(rt; asks_for(&rt, b"poison e0 00ff", listed));
 }

@@ -18,27 +18,33 @@ fn refused_plans(rt: HostRuntime) {
         start: 0x5000_0000,
         limit: 0x8000_0000,
     };
-    let rows = [
-        (Reply::Refused(PlanFault::Repeat(6)), "refused repeat e0\n"),
-        (Reply::Refused(PlanFault::Ways(5)), "refused ways 5\n"),
-        (Reply::Refused(PlanFault::Size), "refused size\n"),
-        (Reply::Refused(PlanFault::Uneven(1)), "refused uneven hb1\n"),
-        (
-            Reply::Refused(PlanFault::NoDecoder(0)),
-            "refused no-decoder hb0\n",
-        ),
-        (
-            Reply::Refused(PlanFault::Span(6, SpanFault::PastRam(0x5000_0000))),
-            "refused span e0 past-ram 0x50000000\n",
-        ),
-        (
-            Reply::Refused(PlanFault::Span(6, SpanFault::NoRoom(room))),
-            "refused span e0 no-room 0x50000000 0x80000000\n",
-        ),
-    ];
-    for (reply, want) in &rows {
-        prints(&rt, reply, want);
-    }
+    prints(
+        &rt,
+        Reply::Refused(PlanFault::Repeat(6)),
+        "refused repeat e0\n",
+    );
+    prints(&rt, Reply::Refused(PlanFault::Ways(5)), "refused ways 5\n");
+    prints(&rt, Reply::Refused(PlanFault::Size), "refused size\n");
+    prints(
+        &rt,
+        Reply::Refused(PlanFault::Uneven(1)),
+        "refused uneven hb1\n",
+    );
+    prints(
+        &rt,
+        Reply::Refused(PlanFault::NoDecoder(0)),
+        "refused no-decoder hb0\n",
+    );
+    prints(
+        &rt,
+        Reply::Refused(PlanFault::Span(6, SpanFault::PastRam(0x5000_0000))),
+        "refused span e0 past-ram 0x50000000\n",
+    );
+    prints(
+        &rt,
+        Reply::Refused(PlanFault::Span(6, SpanFault::NoRoom(room))),
+        "refused span e0 no-room 0x50000000 0x80000000\n",
+    );
 }
 
 const REASONS: [Reason; 8] = [
@@ -69,7 +75,7 @@ window 5 select hb0
 window 6 ways-cap e1
 window 7 no-base 0x200000000 0x200000000
 ";
-    prints(&rt, &Reply::Refused(refused), want);
+    prints(&rt, Reply::Refused(refused), want);
 }
 
 /// A decoder of a plan, by its node, its code of ways, its granularity code and its tail.
@@ -168,10 +174,10 @@ fn plan_text(rt: &(impl Abort + AllocGlobal), topo: &Topo, plan: &Plan) -> Vec<u
     text
 }
 
-fn is_planned(rt: &(impl Abort + AllocGlobal), topo: &Topo, plan: &Plan, want: &str) -> bool
-    requires { length topo.now.nodes ≡ 11 }
-{
-    is_told_plan(plan, topo) && plan_text(rt, topo, plan).as_slice() == want.as_bytes()
+fn is_planned(rt: &(impl Abort + AllocGlobal), want: &str) -> bool {
+    let topo = topology(rt);
+    let plan = plan(rt);
+    is_told_plan(&plan, &topo) && plan_text(rt, &topo, &plan).as_slice() == want.as_bytes()
 }
 
 #[test]
@@ -182,23 +188,23 @@ row hb1 0 ways 2 gran 512 targets 0,3
 row e0 0 ways 2 gran 256 skip 0x0
 row e1 0 ways 6 gran 16384 skip 0x30000000
 ";
-    assert!(rt; is_planned(&rt, &topology(&rt), &plan(&rt), want));
+    assert!(rt; is_planned(&rt, want));
 }
 
 /// A region of an image, and the rule that the image breaks.
-fn image_text(rt: &(impl Abort + AllocGlobal), topo: &Topo, found: &Found) -> Vec<u8>
-    requires { length topo.now.nodes ≡ 11 }
-{
+fn image_text(rt: &(impl Abort + AllocGlobal)) -> Vec<u8> {
+    let topo = topology(rt);
+    let found = two_ways(rt);
     let mut text = Vec::new(rt.alloc());
-    assert!(rt; is_told_found(found, topo));
-    put_found(&mut text, found, topo).expect(rt, "memory");
-    put_breach(&mut text, 9, 0, 0, topo).expect(rt, "memory");
+    assert!(rt; is_told_found(&found, &topo));
+    put_found(&mut text, &found, &topo).expect(rt, "memory");
+    put_breach(&mut text, 9, 0, 0, &topo).expect(rt, "memory");
     text
 }
 
 #[test]
 fn checked_image(rt: HostRuntime) {
-    let text = image_text(&rt, &topology(&rt), &two_ways(&rt));
+    let text = image_text(&rt);
     let want = "region 0x100000000 size 0x20000000 window 0 gran 256 ways 2 ram
 slot 0 e0 0x0
 slot 1 e1 0x0

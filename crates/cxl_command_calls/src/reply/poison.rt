@@ -78,7 +78,7 @@ fn report(rt: &(impl Abort + AllocGlobal), flags: Flags, listed: &[Record<'_>]) 
 }
 
 fn reports(rt: &(impl Abort + AllocGlobal), flags: Flags, listed: &[Record<'_>], want: &str) {
-    prints(rt, &report(rt, flags, listed), want);
+    prints(rt, report(rt, flags, listed), want);
 }
 
 /// A record of the one payload, one of two runs, one of no byte, and one of more runs than are told.

@@ -42,23 +42,21 @@ fn ports_of(nodes: [u32; 5], entries: [u8; 5]) -> [Via; 5] {
 fn addresses(rt: HostRuntime) {
     let one = ports_of([1, 0, 0, 0, 0], [1, 0, 0, 0, 0]);
     let five = ports_of([0, 2, 3, 4, 5], [0, 1, 1, 0, 1]);
-    let rows = [
-        (
-            down_reply(&rt, 1, one, 9),
-            "down 0x10fffffffff region r0 slot 3 position 1 via hb1:0:1 endpoint e3 dpa 0x3fffffffff\n",
-        ),
-        (
-            down_reply(&rt, 0, five, 7),
-            "down 0x10fffffffff region r0 slot 3 position 1 via - endpoint e1 dpa 0x3fffffffff\n",
-        ),
-        (
-            down_reply(&rt, 5, five, 10),
-            "down 0x10fffffffff region r0 slot 3 position 1 via hb0:0:0 s0:0:1 s2:0:1 s6:0:0 s13:0:1 endpoint e13 dpa 0x3fffffffff\n",
-        ),
-    ];
-    for (reply, want) in &rows {
-        prints(&rt, reply, want);
-    }
+    prints(
+        &rt,
+        down_reply(&rt, 1, one, 9),
+        "down 0x10fffffffff region r0 slot 3 position 1 via hb1:0:1 endpoint e3 dpa 0x3fffffffff\n",
+    );
+    prints(
+        &rt,
+        down_reply(&rt, 0, five, 7),
+        "down 0x10fffffffff region r0 slot 3 position 1 via - endpoint e1 dpa 0x3fffffffff\n",
+    );
+    prints(
+        &rt,
+        down_reply(&rt, 5, five, 10),
+        "down 0x10fffffffff region r0 slot 3 position 1 via hb0:0:0 s0:0:1 s2:0:1 s6:0:0 s13:0:1 endpoint e13 dpa 0x3fffffffff\n",
+    );
 }
 
 #[test]
@@ -68,14 +66,14 @@ fn upped_address(rt: HostRuntime) {
         name: name(&rt, "r0"),
     };
     let want = "host 0x100004000 region r0\n";
-    prints(&rt, &Reply::Up(upped), want);
+    prints(&rt, Reply::Up(upped), want);
 }
 
 #[test]
 fn loaded_bytes(rt: HostRuntime) {
     let bytes = [0xaa, 0xbb, 0x0c, 0xdd].to_vec(rt.alloc());
     let bytes = FixedList::new(bytes.expect(&rt, "memory"));
-    prints(&rt, &Reply::Loaded(bytes), "bytes aabb0cdd\n");
+    prints(&rt, Reply::Loaded(bytes), "bytes aabb0cdd\n");
 }
 
 pub(super) fn places(rt: &(impl Abort + AllocGlobal), places: &[Place]) -> FixedList<Place> {
@@ -152,7 +150,7 @@ node hb0 1 10000000 00000001 10000000 00000000 00001600 00000000 00000000
 node e0 1 10000000 00000001 10000000 00000000 00001600 30000000 00000000
 slot 0 e0 0x40000000
 ";
-    prints(&rt, &region, want);
+    prints(&rt, region, want);
 }
 
 const FOUR: Region = Region {
@@ -235,7 +233,7 @@ slot 1 e2 0x0
 slot 2 e1 0x0
 slot 3 e3 0x0
 ";
-    prints(&rt, &region, want);
+    prints(&rt, region, want);
 }
 
 const EXTENTS: [Extent; 3] = [
@@ -275,7 +273,7 @@ fn extents(rt: HostRuntime) {
 extent 0x1000000100 256 e2 0x0
 extent 0x1000000200 128 e1 0x0
 ";
-    prints(&rt, &Reply::Extents(range), want);
+    prints(&rt, Reply::Extents(range), want);
 }
 
 #[test]
@@ -289,5 +287,5 @@ slot 1 e2 512
 slot 2 e1 512
 slot 3 e3 384
 ";
-    prints(&rt, &Reply::Spread(spread), want);
+    prints(&rt, Reply::Spread(spread), want);
 }

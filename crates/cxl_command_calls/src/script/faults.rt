@@ -16,10 +16,10 @@ pub(super) struct FaultRow {
 
 pub(super) fn are_bad(rt: &(impl Abort + AllocGlobal), rows: &[FaultRow]) {
     for row in rows {
-        assert!(rt;
+        passes(
+            rt,
             is_bad(rt, row.line.as_bytes(), row.at, row.why),
-            "at {}",
-            row.line
+            row.line,
         );
     }
 }
@@ -454,15 +454,14 @@ fn is_bad_store(rt: &(impl Abort + AllocGlobal), len: usize, why: Why) -> bool {
     is_bad(rt, &padded(rt, "store 0 ", len, b'0'), 8, why)
 }
 
-fn is_command(read: &Read) -> bool {
-    matches!(read, Ok(Some(_)))
+fn is_store(rt: &(impl Abort + AllocGlobal), len: usize) -> bool {
+    asks_for(rt, &padded(rt, "store 0 ", len, b'0'), Wanted::Command)
 }
 
 /// A store of 256 bytes is none of 257, and an odd digit more is no byte.
 #[test]
 fn long_stores(rt: HostRuntime) {
-    let line = padded(&rt, "store 0 ", 8 + 512, b'0');
-    assert!(rt; is_command(&read_command(rt.alloc(), &line)));
+    assert!(rt; is_store(&rt, 8 + 512));
     assert!(rt; is_bad_store(&rt, 8 + 514, Why::Range));
     assert!(rt; is_bad_store(&rt, 8 + 515, Why::Hex));
 }
@@ -475,7 +474,7 @@ fn is_long(rt: &(impl Abort + AllocGlobal), first: &str, len: usize) -> bool {
 #[test]
 fn long_lines(rt: HostRuntime) {
     for first in &["#", "abort", "bring"] {
-        assert!(rt; !is_long(&rt, first, LINE_LIMIT), "at {first}");
-        assert!(rt; is_long(&rt, first, LINE_LIMIT + 1), "at {first}");
+        passes(&rt, !is_long(&rt, *first, LINE_LIMIT), *first);
+        passes(&rt, is_long(&rt, *first, LINE_LIMIT + 1), *first);
     }
 }
