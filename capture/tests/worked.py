@@ -1,4 +1,4 @@
-"""The worked hosts of crates/cxl_rows as files that cxlplan reads, and what it says of them."""
+"""The hosts of crates/cxl_rows and crates/cxl_hosts as files that cxlplan reads, and what it says of them."""
 
 import os
 import re
@@ -6,9 +6,9 @@ import struct
 
 import machines
 
-ROWS = os.path.join(machines.TOP, "crates", "cxl_rows", "src")
+ROWS = [os.path.join(machines.TOP, "crates", crate, "src") for crate in ("cxl_rows", "cxl_hosts")]
 
-# ---- What the rows of crates/cxl_rows write in threes: texts, or the names of texts.
+# ---- What their rows write in threes: texts, or the names of texts.
 
 TEXT = r'"(?:[^"\\]|\\\n)*"|r#"[^#]*"#'
 PART = rf"({TEXT}|(?:[a-z_]+::)?[A-Z][A-Z0-9_]*)"
@@ -19,8 +19,8 @@ THREE = re.compile(rf"[({{]\s*{FIELD},\s*{FIELD},\s*{FIELD},")
 def threes():
     """Each three texts that begin a row."""
     texts, found = {}, []
-    for file in sorted(os.listdir(ROWS)):
-        with open(os.path.join(ROWS, file), encoding="utf-8") as opened:
+    for file in sorted(os.path.join(folder, file) for folder in ROWS for file in os.listdir(folder)):
+        with open(file, encoding="utf-8") as opened:
             texts[file] = opened.read()
     named = {file: dict(re.findall(rf"const ([A-Z0-9_]+): &str =\s*({TEXT});", text)) for file, text in texts.items()}
     everywhere = {name: text for names in named.values() for name, text in names.items()}
@@ -50,7 +50,7 @@ def digits(text):
     return b"".join(bytes(int(word, 0)) if word[:2] == "0x" else bytes.fromhex(word) for word in words)
 
 
-# ---- Hosts as lists of numbers (crates/cxl_rows/src/hosts.rt says what they mean).
+# ---- Hosts as lists of numbers (crates/cxl_hosts/src/hosts.rt says what they mean).
 
 def rows():
     """Each row's nodes, windows and committed decoders."""

@@ -7,20 +7,19 @@ ghost use Rattle.cxl_machine.specs.Sound.{IsMachine};
 ghost use Rattle.cxl_script.specs.Grammar.{IsRanged};
 ghost use Rattle.cxl_session.specs.Standing.{Stands, StandsFor};
 
-use crate::guest_stores::table_of_digits;
+use crate::guest_stores::windows_of;
 use crate::host_files::ONE_FRAME;
-use crate::hosts::windows_of;
 use crate::rows::{changed, has_passed, numbers};
 use crate::script_bytes::BYTES_BY_HOST;
 use crate::script_regions::REGIONS;
 use crate::script_words::{BETWEEN_WORDS, FAILING_BUSES};
 use crate::scripts::{FIRMWARE, POISONED, Script, WAYS};
 use crate::tables::TWO_BRIDGES;
-use crate::walks::route_of;
 use cxl_bus::{FailingBus, Regs, SimBus};
 use cxl_image::{Image, read_image, write_image};
 use cxl_machine::{OpenFault, answers_are_told, live_regions_stay};
 use cxl_media::{MapMedia, Media, Roll, SimMedia};
+use cxl_model::Step;
 use cxl_reply::Reply;
 use cxl_script::{Command, LineFault, asked_commands_are_ranged, read_command};
 use cxl_session::Session;
@@ -53,8 +52,7 @@ fn opened<R: Regs, M: Roll>(
     ensures { IfOk result (λ session. Stands session (R.state regs.new) (M.state media.new)) }
 {
     let topo = read_topo(alloc, script.topology.as_bytes()).expect(rt, "a topology");
-    let table = table_of_digits(rt, alloc, script.table);
-    let windows = windows_of(rt, alloc, &table, topo.uids());
+    let windows = windows_of(rt, alloc, script.table, topo.uids());
     let start = start_image(rt, alloc, script, &topo);
     Session::open(alloc, topo, windows, start, regs, media)
 }
@@ -232,84 +230,132 @@ fn route_by_registers(session: &Session, h: u64) -> Option<Route>
 }
 
 /// A line; how many regions live behind it; the address of the first byte of a slot, and the route that is kept for it there,
-/// as the rows of walks write theirs, or none.
+/// or none.
 struct Keeping {
     line: &'static str,
     live: usize,
     address: u64,
-    route: &'static str,
+    route: Option<Route>,
 }
+
+const NO_STEP: Step = Step {
+    node: 0,
+    decoder: 0,
+    entry: 0,
+};
+
+/// The route of the first region's first slot.
+const TO_FIRST: Route = Route {
+    window: 0,
+    position: 0,
+    base: 0x1_0000_0000,
+    len: 1,
+    steps: [NO_STEP; 5],
+    endpoint: 2,
+    decoder: 0,
+    dpa: 0,
+};
+
+/// The step by the first decoder of the second bridge.
+const BY_SECOND: Step = Step { node: 1, ..NO_STEP };
+
+/// The route of its second slot.
+const TO_SECOND: Route = Route {
+    window: 0,
+    position: 1,
+    base: 0x1_0000_0000,
+    len: 1,
+    steps: [BY_SECOND, NO_STEP, NO_STEP, NO_STEP, NO_STEP],
+    endpoint: 3,
+    decoder: 0,
+    dpa: 0,
+};
+
+/// The step by the second decoder of the second bridge.
+const BY_SECOND_DECODER: Step = Step {
+    decoder: 1,
+    ..BY_SECOND
+};
+
+/// The route of the second slot of the region behind it.
+const TO_SECOND_BEHIND: Route = Route {
+    window: 0,
+    position: 1,
+    base: 0x1_2000_0000,
+    len: 1,
+    steps: [BY_SECOND_DECODER, NO_STEP, NO_STEP, NO_STEP, NO_STEP],
+    endpoint: 3,
+    decoder: 1,
+    dpa: 0x1000_0000,
+};
 
 const KEEPING: [Keeping; 9] = [
     Keeping {
         line: "create r0 ram 0x20000000 e0 e1",
         live: 1,
         address: 0x1_0000_0100,
-        route: "1 0x100000000 3 0 0  1 0 0",
+        route: Some(TO_SECOND),
     },
     // A region that is being made keeps no route, though its address leads to an endpoint before the last write.
     Keeping {
         line: "begin create b ram 0x20000000 e0 e1",
         live: 1,
         address: 0x1_2000_0100,
-        route: "",
+        route: None,
     },
     Keeping {
         line: "step 24",
         live: 1,
         address: 0x1_2000_0100,
-        route: "",
+        route: None,
     },
     Keeping {
         line: "step 8",
         live: 2,
         address: 0x1_2000_0100,
-        route: "1 0x120000000 3 1 0x10000000  1 1 0",
+        route: Some(TO_SECOND_BEHIND),
     },
     Keeping {
         line: "store 0x120000100 11",
         live: 2,
         address: 0x1_0000_0000,
-        route: "0 0x100000000 2 0 0  0 0 0",
+        route: Some(TO_FIRST),
     },
     // Nor does one that is being ended, until that is undone.
     Keeping {
         line: "begin destroy b",
         live: 1,
         address: 0x1_2000_0000,
-        route: "",
+        route: None,
     },
     Keeping {
         line: "abort",
         live: 2,
         address: 0x1_2000_0100,
-        route: "1 0x120000000 3 1 0x10000000  1 1 0",
+        route: Some(TO_SECOND_BEHIND),
     },
     Keeping {
         line: "destroy b",
         live: 1,
         address: 0x1_0000_0000,
-        route: "0 0x100000000 2 0 0  0 0 0",
+        route: Some(TO_FIRST),
     },
     Keeping {
         line: "destroy r0",
         live: 0,
         address: 0x1_0000_0100,
-        route: "",
+        route: None,
     },
 ];
 
 /// Whether a session keeps so many routes, and for the row's address the one to which the registers lead, or none.
-fn keeps(rt: &impl Abort, alloc: Global, session: &Session, row: &Keeping) -> bool
+fn keeps(session: &Session, row: &Keeping) -> bool
     requires { (m : Machine) × StandsFor session.now m × IsMachine m }
 {
-    let many = session.live().len() == row.live && session.kept().len() == row.live;
-    let kept = kept_route(session, row.address);
-    if row.route.is_empty() {
-        return many && kept.is_none();
-    }
-    let route = Some(route_of(rt, &numbers(rt, alloc, row.route)));
-    many && kept == route && route_by_registers(session, row.address) == route
+    session.live().len() == row.live
+        && session.kept().len() == row.live
+        && kept_route(session, row.address) == row.route
+        && (row.route.is_none() || route_by_registers(session, row.address) == row.route)
 }
 
 /// Checks the kept routes behind each line.
@@ -317,7 +363,7 @@ fn all_keep<R: Regs, M: Roll>(rt: &impl Abort, alloc: Global, regs: &mut R, medi
     let mut session = opened(rt, alloc, &HOST, regs, media).expect(rt, "a session");
     for (i, row) in KEEPING.iter().enumerate() {
         replies(rt, alloc, &mut session, row.line, regs, media);
-        has_passed(rt, i, keeps(rt, alloc, &session, row));
+        has_passed(rt, i, keeps(&session, row));
     }
 }
 

@@ -2,22 +2,32 @@ ghost use Rattle.cxl_image.specs.Images.{HasCapsOf};
 ghost use Rattle.cxl_model.specs.System.{bridge_uids};
 ghost use Rattle.cxl_window.specs.Windows.{AreMadeWith};
 
-use crate::hosts::{Worked, windows_of};
 use crate::rows::{bytes, has_passed};
 use crate::{real_hosts, real_images, stores};
-use cxl_cedt::{Cedt, read};
+use cxl_cedt::read;
 use cxl_image::{Image, read_image};
 use cxl_io::read_number;
 use cxl_topo::Topo;
 use cxl_topofile::read_topo;
 use cxl_walk::down;
+use cxl_window::{Window, windows};
 use std::alloc::Global;
 use std::process::Abort;
 
-pub(crate) fn table_of_digits(rt: &impl Abort, alloc: Global, digits: &str) -> Cedt {
+/// The windows of a table, which is written in digits, over these bridges.
+pub(crate) fn windows_of(rt: &impl Abort, alloc: Global, digits: &str, uids: &[u32]) -> Vec<Window>
+    ensures { AreMadeWith result.items uids.now }
+{
     let table = bytes(rt, alloc, digits);
     assert!(rt; table.len() <= 1_048_576);
-    read(alloc, &table).expect(rt, "a table")
+    match windows(
+        alloc,
+        &read(alloc, &table).expect(rt, "a table"),
+        Some(uids),
+    ) {
+        Ok(windows) => windows,
+        Err(_) => panic!(rt; "memory"),
+    }
 }
 
 fn image_of(rt: &impl Abort, alloc: Global, digits: &str, topo: &Topo) -> Image
@@ -38,19 +48,22 @@ struct Row {
     stores: &'static str,
 }
 
-fn host_of(rt: &impl Abort, alloc: Global, row: &Row) -> Worked
+/// A real host: its tree of nodes, its windows, and an image of its registers.
+#[derive(Drop)]
+struct Real {
+    topo: Topo,
+    windows: Vec<Window>,
+    image: Image,
+}
+
+fn host_of(rt: &impl Abort, alloc: Global, row: &Row) -> Real
     ensures caps { HasCapsOf result.image result.topo.nodes }
     ensures made { AreMadeWith result.windows.items (bridge_uids result.topo.nodes) }
 {
     let topo = read_topo(alloc, row.topology.as_bytes()).expect(rt, "a topology");
     let image = image_of(rt, alloc, row.image, &topo);
-    let windows = windows_of(
-        rt,
-        alloc,
-        &table_of_digits(rt, alloc, row.table),
-        topo.uids(),
-    );
-    Worked {
+    let windows = windows_of(rt, alloc, row.table, topo.uids());
+    Real {
         topo,
         windows,
         image,
@@ -58,7 +71,7 @@ fn host_of(rt: &impl Abort, alloc: Global, row: &Row) -> Worked
 }
 
 /// Whether a store leads to the device byte in which it was found.
-fn leads_to(host: &Worked, h: u64, endpoint: &[u8], dpa: u64) -> bool
+fn leads_to(host: &Real, h: u64, endpoint: &[u8], dpa: u64) -> bool
     requires caps { HasCapsOf host.now.image host.now.topo.nodes }
     requires made { AreMadeWith host.now.windows.items (bridge_uids host.now.topo.nodes) }
 {
@@ -73,7 +86,7 @@ fn leads_to(host: &Worked, h: u64, endpoint: &[u8], dpa: u64) -> bool
 }
 
 /// The same of a line with the address, the endpoint and the device byte.
-fn is_led(rt: &impl Abort, host: &Worked, line: &str) -> bool
+fn is_led(rt: &impl Abort, host: &Real, line: &str) -> bool
     requires caps { HasCapsOf host.now.image host.now.topo.nodes }
     requires made { AreMadeWith host.now.windows.items (bridge_uids host.now.topo.nodes) }
 {
@@ -103,12 +116,12 @@ fn are_led(rt: &impl Abort, alloc: Global, row: &Row) -> bool {
 
 #[test]
 fn real_stores(rt: HostRuntime) {
-    for (i, row) in REAL.iter().enumerate() {
+    for (i, row) in ROWS.iter().enumerate() {
         has_passed(&rt, i, are_led(&rt, rt.alloc(), row));
     }
 }
 
-const REAL: [Row; 6] = [
+const ROWS: [Row; 6] = [
     Row {
         table: real_hosts::X2_BRIDGES_TABLE,
         topology: real_hosts::X2_BRIDGES_TOPOLOGY,

@@ -1,12 +1,10 @@
 //! Worked rows of the whole program, as tests of `run` over files and a sink in memory: each is the words of a
-//! command line with the exit status and the text that they must give. And the messages of errors, where
-//! addresses lead in worked hosts, on which devices ranges of them lie, and which of their images break a rule.
+//! command line with the exit status and the text that they must give. And scripts command by command, as calls of
+//! `Session::act`; where stores lead in real images; and the messages of errors.
 #![tactic(auto)]
 
 #[cfg(test)]
 mod acts;
-#[cfg(test)]
-mod breaches;
 #[cfg(test)]
 mod checks;
 #[cfg(test)]
@@ -16,10 +14,6 @@ mod guest_stores;
 #[cfg(test)]
 mod host_files;
 #[cfg(test)]
-mod host_texts;
-#[cfg(test)]
-mod hosts;
-#[cfg(test)]
 mod listings;
 #[cfg(test)]
 mod lists;
@@ -28,15 +22,7 @@ mod messages;
 #[cfg(test)]
 mod outside;
 #[cfg(test)]
-mod picks;
-#[cfg(test)]
 mod plan_lines;
-#[cfg(test)]
-mod plans;
-#[cfg(test)]
-mod poison;
-#[cfg(test)]
-mod reaches;
 #[cfg(test)]
 mod real_hosts;
 #[cfg(test)]
@@ -61,5 +47,3 @@ mod scripts;
 mod stores;
 #[cfg(test)]
 mod tables;
-#[cfg(test)]
-mod walks;

@@ -3,7 +3,6 @@ use cxl_io::{MemFetch, MemSink, MemSource, read_number};
 use cxl_media::SimMedia;
 use cxl_shell::run;
 use std::alloc::Global;
-use std::fmt::Debug;
 use std::process::Abort;
 
 /// How much a sink takes where a row says nothing of it.
@@ -26,22 +25,6 @@ pub(crate) fn numbers(rt: &impl Abort, alloc: Global, text: &str) -> Vec<u64> {
 /// The number at a place, which has to be there.
 pub(crate) fn at(rt: &impl Abort, numbers: &[u64], i: usize) -> u64 {
     *numbers.get(i).expect(rt, "a number")
-}
-
-/// The same as a word, which it has to be.
-pub(crate) fn as_word(rt: &impl Abort, numbers: &[u64], i: usize) -> u32 {
-    u32::try_from(at(rt, numbers, i)).expect(rt, "a word")
-}
-
-/// The same as a byte.
-pub(crate) fn as_byte(rt: &impl Abort, numbers: &[u64], i: usize) -> u8 {
-    u8::try_from(at(rt, numbers, i)).expect(rt, "a byte")
-}
-
-/// Whether this is the value's debug text.
-pub(crate) fn shows(rt: &impl Abort, alloc: Global, value: &impl Debug, text: &str) -> bool {
-    let own = format!(in alloc; "{value:?}").expect(rt, "memory");
-    own.as_str() == text
 }
 
 // ---- files

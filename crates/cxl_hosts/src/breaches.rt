@@ -1,0 +1,254 @@
+//! Images of worked hosts that break a rule, each named by its rule, node and decoder; and one that breaks none.
+
+ghost use Rattle.cxl_window.specs.Windows.{AreMadeWith};
+ghost use Rattle.cxl_model.specs.System.{bridge_uids};
+
+use crate::host_texts::{OVER_TWO, TWO_BY_ONE, TWO_FORWARDING, TWO_WAYS, TWO_WAYS_BELOW};
+use crate::hosts::{Worked, host_of};
+use crate::rows::{as_word, at, has_passed, numbers};
+use cxl_check::{Breach, CheckFault, Found, check};
+use cxl_enc::MemKind;
+use cxl_image::{Image, read_image, write_image};
+use cxl_model::Place;
+use std::alloc::Global;
+use std::process::Abort;
+
+/// The second bridge cannot select on address bits 14:12.
+const SECOND_WITHOUT_LOW_BITS: &str =
+    "0x382, 0x182, 0x1b02 0 0 0x80000000 0, 0x1b02 1 0 0x80000000 0";
+
+/// Two bridges, of which the second has no endpoint.
+const SECOND_WITHOUT_ENDPOINT: &str = "0x382, 0x382, 0x1b02 0 0 0x80000000 0";
+
+/// A region over both endpoints below bridges that forward, where the first of them decodes, too.
+const TWO_WAYS_BELOW_AND_FIRST: &str =
+    "2 4 0 0x100000000 0x20000000 0x10 0, 0 1 0 0x100000000 0x20000000 0 0";
+
+/// The host's image with other words, each at its byte place in the image's file.
+fn changed(rt: &impl Abort, alloc: Global, host: &Worked, words: &str) -> Image {
+    let mut bytes = write_image(alloc, &host.image).expect(rt, "memory");
+    put_words(rt, &mut bytes, &numbers(rt, alloc, words));
+    assert!(rt; bytes.len() < 0x1_0000_0000);
+    read_image(alloc, &bytes, &host.topo).expect(rt, "an image")
+}
+
+fn put_words(rt: &impl Abort, bytes: &mut [u8], words: &[u64]) {
+    for i in 0..words.len() / 2 {
+        let place = at(rt, words, 2 * i) as usize;
+        put_word(rt, bytes, place, as_word(rt, words, 2 * i + 1));
+    }
+}
+
+fn put_word(rt: &impl Abort, bytes: &mut [u8], place: usize, word: u32) {
+    assert!(rt; place <= bytes.len() && bytes.len() - place >= 4);
+    bytes[place..place + 4].copy_from_slice(&word.to_le_bytes());
+}
+
+/// Whether the image breaks this rule of the host first, by this node and decoder.
+pub(crate) fn breaks(alloc: Global, host: &Worked, image: &Image, breach: Breach) -> bool
+    requires { AreMadeWith host.now.windows.items (bridge_uids host.now.topo.nodes) }
+{
+    check(alloc, image, &host.topo, &host.windows).err() == Some(CheckFault::Breach(breach))
+}
+
+/// The nodes of the host and those of the image, the decoders that are committed in this, other words of its file, and the
+/// rule, node and decoder of the breach.
+struct Row {
+    nodes: &'static str,
+    own: &'static str,
+    ranges: &'static str,
+    words: &'static str,
+    rule: u8,
+    node: u32,
+    decoder: u8,
+}
+
+fn image_of(rt: &impl Abort, alloc: Global, row: &Row) -> Image {
+    let other = host_of(rt, alloc, row.own, OVER_TWO, row.ranges);
+    changed(rt, alloc, &other, row.words)
+}
+
+fn is_breach(rt: &impl Abort, alloc: Global, row: &Row) -> bool {
+    let host = host_of(rt, alloc, row.nodes, OVER_TWO, "");
+    let image = image_of(rt, alloc, row);
+    let breach = Breach {
+        rule: row.rule,
+        node: row.node,
+        decoder: row.decoder,
+    };
+    breaks(alloc, &host, &image, breach)
+}
+
+#[test]
+fn breaches(rt: HostRuntime) {
+    for (i, row) in ROWS.iter().enumerate() {
+        has_passed(&rt, i, is_breach(&rt, rt.alloc(), row));
+    }
+}
+
+/// The blocks of four nodes begin at bytes 12, 156, 300 and 444, and their first decoder 16 bytes further.
+const ROWS: [Row; 14] = [
+    // A bridge that cannot select on the bits that its decoder selects on.
+    Row {
+        nodes: SECOND_WITHOUT_LOW_BITS,
+        own: TWO_BY_ONE,
+        ranges: TWO_WAYS,
+        words: "",
+        rule: 1,
+        node: 1,
+        decoder: 0,
+    },
+    // Three blocks over four nodes.
+    Row {
+        nodes: TWO_BY_ONE,
+        own: SECOND_WITHOUT_ENDPOINT,
+        ranges: "",
+        words: "",
+        rule: 1,
+        node: 0,
+        decoder: 0,
+    },
+    Row {
+        nodes: TWO_BY_ONE,
+        own: TWO_BY_ONE,
+        ranges: TWO_WAYS,
+        words: "304 0",
+        rule: 2,
+        node: 2,
+        decoder: 0,
+    },
+    Row {
+        nodes: TWO_BY_ONE,
+        own: TWO_BY_ONE,
+        ranges: TWO_WAYS,
+        words: "476 0x1e10",
+        rule: 3,
+        node: 3,
+        decoder: 0,
+    },
+    Row {
+        nodes: TWO_BY_ONE,
+        own: TWO_BY_ONE,
+        ranges: TWO_WAYS,
+        words: "332 0x1670",
+        rule: 4,
+        node: 2,
+        decoder: 0,
+    },
+    Row {
+        nodes: TWO_BY_ONE,
+        own: TWO_BY_ONE,
+        ranges: TWO_WAYS,
+        words: "332 0x1626",
+        rule: 5,
+        node: 2,
+        decoder: 0,
+    },
+    Row {
+        nodes: TWO_BY_ONE,
+        own: TWO_BY_ONE,
+        ranges: TWO_WAYS,
+        words: "324 0x10000000",
+        rule: 6,
+        node: 2,
+        decoder: 0,
+    },
+    Row {
+        nodes: TWO_BY_ONE,
+        own: TWO_BY_ONE,
+        ranges: TWO_WAYS,
+        words: "352 1 356 0x20000000 364 0x1610",
+        rule: 7,
+        node: 2,
+        decoder: 1,
+    },
+    Row {
+        nodes: TWO_BY_ONE,
+        own: TWO_BY_ONE,
+        ranges: TWO_WAYS,
+        words: "324 0 328 2",
+        rule: 8,
+        node: 2,
+        decoder: 0,
+    },
+    Row {
+        nodes: TWO_BY_ONE,
+        own: TWO_BY_ONE,
+        ranges: TWO_WAYS,
+        words: "320 2",
+        rule: 9,
+        node: 2,
+        decoder: 0,
+    },
+    Row {
+        nodes: TWO_BY_ONE,
+        own: TWO_BY_ONE,
+        ranges: TWO_WAYS,
+        words: "188 0x1000",
+        rule: 10,
+        node: 0,
+        decoder: 0,
+    },
+    Row {
+        nodes: TWO_BY_ONE,
+        own: TWO_BY_ONE,
+        ranges: TWO_WAYS,
+        words: "348 0x20000000 352 1 356 0x20000000 364 0x1610",
+        rule: 11,
+        node: 2,
+        decoder: 1,
+    },
+    Row {
+        nodes: TWO_BY_ONE,
+        own: TWO_BY_ONE,
+        ranges: TWO_WAYS,
+        words: "332 0x1611",
+        rule: 12,
+        node: 2,
+        decoder: 0,
+    },
+    // A bridge that forwards decodes nothing itself.
+    Row {
+        nodes: TWO_FORWARDING,
+        own: TWO_FORWARDING,
+        ranges: TWO_WAYS_BELOW_AND_FIRST,
+        words: "",
+        rule: 11,
+        node: 0,
+        decoder: 0,
+    },
+];
+
+/// Whether the region is that of both endpoints.
+fn is_of_both(region: &Found) -> bool {
+    region.base == 0x1_0000_0000
+        && region.size == 0x2000_0000
+        && region.window == 0
+        && region.gran == 0
+        && region.ways == 2
+        && region.kind == MemKind::Ram
+        && are_spans(region.spans.items())
+}
+
+/// Whether the spans of both endpoints begin with their memory.
+pub(crate) fn are_spans(spans: &[Place]) -> bool {
+    spans.len() == 2
+        && spans[0].endpoint == 2
+        && spans[0].start == 0
+        && spans[1].endpoint == 3
+        && spans[1].start == 0
+}
+
+/// The regions of bridges that forward, with these decoders committed.
+fn regions_of(rt: &impl Abort, alloc: Global, ranges: &str) -> Vec<Found> {
+    let host = host_of(rt, alloc, TWO_FORWARDING, OVER_TWO, ranges);
+    check(alloc, &host.image, &host.topo, &host.windows).expect(rt, "regions")
+}
+
+#[test]
+fn no_breach(rt: HostRuntime) {
+    let one = regions_of(&rt, rt.alloc(), TWO_WAYS_BELOW);
+    assert!(rt; one.len() == 1 && is_of_both(&one[0]));
+    let none = regions_of(&rt, rt.alloc(), "");
+    assert!(rt; none.is_empty());
+}

@@ -1,0 +1,200 @@
+//! Picks over hosts of a few nodes, with regions that are made by register writes.
+
+ghost use Rattle.std.specs.Prelude.{◌≤◌, IfSome};
+ghost use Rattle.cxl_model.specs.System.{bridge_uids};
+ghost use Rattle.cxl_window.specs.Windows.{AreMadeWith};
+
+use crate::host_texts::{FOUR_WAYS, OVER_TWO_LONG, TWO_BY_TWO};
+use crate::hosts::{Worked, host_of};
+use crate::rows::{has_passed, shows};
+use cxl_check::check;
+use cxl_enc::MemKind;
+use cxl_pick::{PickFault, Want, pick};
+use std::alloc::Global;
+use std::process::Abort;
+
+/// What is picked over a host's image, which has to be accepted.
+fn picked(rt: &impl Abort, alloc: Global, host: &Worked, want: &Want) -> Result<Vec<u32>, PickFault>
+    requires made { AreMadeWith host.now.windows.items (bridge_uids host.now.topo.nodes) }
+    requires code { IfSome want.now.gran (λ code. code ≤ 6) }
+{
+    match check(alloc, &host.image, &host.topo, &host.windows) {
+        Ok(_) => pick(alloc, &host.image, &host.topo, &host.windows, want),
+        Err(_) => panic!(rt; "the image is not accepted"),
+    }
+}
+
+/// A host; how many bytes of ram are wanted in how many ways; and the endpoints that are picked for them, or the fault.
+struct Row {
+    nodes: &'static str,
+    windows: &'static str,
+    ranges: &'static str,
+    size: u64,
+    ways: u8,
+    picked: &'static str,
+}
+
+fn is_picked(rt: &impl Abort, alloc: Global, row: &Row) -> bool {
+    let host = host_of(rt, alloc, row.nodes, row.windows, row.ranges);
+    let want = Want {
+        kind: MemKind::Ram,
+        size: row.size,
+        gran: None,
+        ways: row.ways,
+    };
+    shows(alloc, &picked(rt, alloc, &host, &want), row.picked)
+}
+
+#[test]
+fn picks(rt: HostRuntime) {
+    for (i, row) in ROWS.iter().enumerate() {
+        has_passed(&rt, i, is_picked(&rt, rt.alloc(), row));
+    }
+}
+
+/// A window over both bridges, and behind it one of the first.
+const OVER_TWO_AND_ONE: &str =
+    "0x1000000000 0x10000000000 0 0 0x000e 0 1, 0x21000000000 0x10000000000 0 0 0x000e 0";
+
+/// A region of all four endpoints of a server, and behind it one of the first endpoint of each bridge.
+const FOUR_WAYS_AND_TWO: &str =
+    "0 2 0 0x1000000000 0x40000000 0x11 0x0100, 2 6 0 0x1000000000 0x40000000 0x20 0, \
+    0 2 1 0x1040000000 0x20000000 0 0, 2 3 1 0x1040000000 0x20000000 0x10 0, \
+    4 5 1 0x1040000000 0x20000000 0x10 0";
+
+/// A server whose first endpoint has no ram.
+const FIRST_WITHOUT_RAM: &str = "0x382, 0x382, \
+    0x1b02 0 0 0 0x40000000, 0x1b02 0 1 0x4000000000 0, \
+    0x1b02 1 0 0x4000000000 0, 0x1b02 1 1 0x4000000000 0";
+
+/// A window of 1 GiB over one bridge.
+const OVER_ONE_SHORT: &str = "0x1000000000 0x40000000 0 0 0x000e 0";
+
+/// A bridge with two endpoints, the first of which has one decoder.
+const FIRST_WITH_ONE_DECODER: &str = "0x382, 0x1b00 0 0 0x40000000 0, 0x1b02 0 1 0x40000000 0";
+
+/// Two switches with two endpoints each.
+const BELOW_TWO_SWITCHES: &str = "0x382, 0x382 0 0, 0x382 0 1, \
+    0x1b02 1 0 0x40000000 0, 0x1b02 1 1 0x40000000 0, \
+    0x1b02 2 0 0x40000000 0, 0x1b02 2 1 0x40000000 0";
+
+/// A bridge that forwards leads to all by one port.
+const BELOW_ONE_PORT: &str = "0x10, 0x382 0 3, \
+    0x1b02 1 5 0x40000000 0, 0x1b02 1 2 0x40000000 0, 0x1b02 1 7 0x40000000 0";
+
+const ROWS: [Row; 14] = [
+    Row {
+        nodes: TWO_BY_TWO,
+        windows: OVER_TWO_AND_ONE,
+        ranges: "",
+        size: 0x4000_0000,
+        ways: 4,
+        picked: "Ok([2, 3, 4, 5])",
+    },
+    Row {
+        nodes: TWO_BY_TWO,
+        windows: OVER_TWO_AND_ONE,
+        ranges: FOUR_WAYS,
+        size: 0x2000_0000,
+        ways: 2,
+        picked: "Ok([2, 4])",
+    },
+    Row {
+        nodes: TWO_BY_TWO,
+        windows: OVER_TWO_AND_ONE,
+        ranges: FOUR_WAYS_AND_TWO,
+        size: 0x3000_0000,
+        ways: 3,
+        picked: "Err(NoSet)",
+    },
+    Row {
+        nodes: TWO_BY_TWO,
+        windows: OVER_TWO_AND_ONE,
+        ranges: FOUR_WAYS_AND_TWO,
+        size: 0x5000_0000,
+        ways: 5,
+        picked: "Err(Ways(5))",
+    },
+    Row {
+        nodes: TWO_BY_TWO,
+        windows: OVER_TWO_AND_ONE,
+        ranges: FOUR_WAYS_AND_TWO,
+        size: 0x3000_0000,
+        ways: 2,
+        picked: "Err(Size)",
+    },
+    Row {
+        nodes: TWO_BY_TWO,
+        windows: OVER_TWO_AND_ONE,
+        ranges: FOUR_WAYS_AND_TWO,
+        size: 0,
+        ways: 2,
+        picked: "Err(Size)",
+    },
+    Row {
+        nodes: TWO_BY_TWO,
+        windows: OVER_TWO_AND_ONE,
+        ranges: FOUR_WAYS_AND_TWO,
+        size: 0x1000_0000,
+        ways: 1,
+        picked: "Ok([2])",
+    },
+    Row {
+        nodes: FIRST_WITHOUT_RAM,
+        windows: OVER_TWO_LONG,
+        ranges: "",
+        size: 0x2000_0000,
+        ways: 2,
+        picked: "Ok([3, 4])",
+    },
+    Row {
+        nodes: FIRST_WITHOUT_RAM,
+        windows: OVER_TWO_LONG,
+        ranges: "",
+        size: 0x4000_0000,
+        ways: 4,
+        picked: "Err(NoSet)",
+    },
+    // The only decoder of the first endpoint is committed.
+    Row {
+        nodes: FIRST_WITH_ONE_DECODER,
+        windows: OVER_ONE_SHORT,
+        ranges: "0 2 0 0x1000000000 0x10000000 0 0",
+        size: 0x1000_0000,
+        ways: 1,
+        picked: "Ok([2])",
+    },
+    // As many ports as can be are used, each for as few endpoints as can be.
+    Row {
+        nodes: BELOW_TWO_SWITCHES,
+        windows: OVER_ONE_SHORT,
+        ranges: "",
+        size: 0x2000_0000,
+        ways: 2,
+        picked: "Ok([3, 5])",
+    },
+    Row {
+        nodes: BELOW_ONE_PORT,
+        windows: OVER_ONE_SHORT,
+        ranges: "",
+        size: 0x2000_0000,
+        ways: 2,
+        picked: "Ok([2, 3])",
+    },
+    Row {
+        nodes: BELOW_ONE_PORT,
+        windows: OVER_ONE_SHORT,
+        ranges: "",
+        size: 0x1000_0000,
+        ways: 1,
+        picked: "Ok([3])",
+    },
+    Row {
+        nodes: BELOW_ONE_PORT,
+        windows: OVER_ONE_SHORT,
+        ranges: "",
+        size: 0x4000_0000,
+        ways: 4,
+        picked: "Err(NoSet)",
+    },
+];

@@ -1,0 +1,414 @@
+//! Where addresses lead in worked hosts: by their registers, by kept routes, and back.
+
+ghost use Rattle.std.specs.Prelude.{◌+◌, ◌<◌, ◌≤◌, All};
+ghost use Rattle.cxl_window.specs.Windows.{AreMadeWith};
+ghost use Rattle.cxl_image.specs.Images.{HasCapsOf};
+ghost use Rattle.cxl_model.specs.System.{system_of, bridge_uids};
+ghost use Rattle.cxl_model.specs.Regions.{IsRegion};
+
+use crate::breaches::breaks;
+use crate::host_texts::{
+    FOUR_WAYS_LONG, ONE_OF_BOTH_KINDS, OVER_ONE, OVER_SIX_XOR, OVER_THREE, OVER_THREE_LONG,
+    OVER_TWO, OVER_TWO_LONG, OVER_TWO_XOR, RAM_THEN_PMEM, SIX_BY_ONE, SIX_WAYS,
+    SIX_WAYS_FROM_THREE, THREE_BY_ONE, THREE_BY_TWO, THREE_WAYS, TWO_BY_ONE, TWO_BY_TWO,
+    TWO_FORWARDING, TWO_WAYS, TWO_WAYS_BELOW,
+};
+use crate::hosts::{Worked, host_of};
+use crate::rows::{as_byte, as_word, at, has_passed, numbers, shows};
+use cxl_check::{Breach, check};
+use cxl_model::{Found, Step};
+use cxl_walk::{Host, Kept, Route, down, up};
+use std::alloc::Global;
+use std::process::Abort;
+
+/// The route that is written as its position, base, endpoint, decoder and device address, and the node, decoder and
+/// entry of each step, of which there are five at the most; by window 0.
+pub(crate) fn route_of(rt: &impl Abort, numbers: &[u64]) -> Route {
+    let len = numbers.len().saturating_sub(5) / 3;
+    assert!(rt; len <= 5 && numbers.len() == 5 + 3 * len);
+    let steps = [
+        step_of(rt, numbers, 5),
+        step_of(rt, numbers, 8),
+        step_of(rt, numbers, 11),
+        step_of(rt, numbers, 14),
+        step_of(rt, numbers, 17),
+    ];
+    Route {
+        window: 0,
+        position: as_word(rt, numbers, 0),
+        base: at(rt, numbers, 1),
+        len: len as u8,
+        steps,
+        endpoint: as_word(rt, numbers, 2),
+        decoder: as_byte(rt, numbers, 3),
+        dpa: at(rt, numbers, 4),
+    }
+}
+
+/// The step that is written from a place on; behind the last, zeros.
+fn step_of(rt: &impl Abort, numbers: &[u64], i: u8) -> Step {
+    let i = usize::from(i);
+    if i >= numbers.len() {
+        return Step {
+            node: 0,
+            decoder: 0,
+            entry: 0,
+        };
+    }
+    Step {
+        node: as_word(rt, numbers, i),
+        decoder: as_byte(rt, numbers, i + 1),
+        entry: as_byte(rt, numbers, i + 2),
+    }
+}
+
+/// The address that leads to the byte, where the node is an endpoint.
+fn up_from(host: &Worked, node: u32, dpa: u64) -> Option<Host>
+    requires caps { HasCapsOf host.now.image host.now.topo.nodes }
+    requires made { AreMadeWith host.now.windows.items (bridge_uids host.now.topo.nodes) }
+{
+    if node < host.topo.count() && host.topo.is_endpoint(node) {
+        up(&host.image, &host.topo, &host.windows, node, dpa)
+    } else {
+        None
+    }
+}
+
+/// The route that is kept for the address, where the image is accepted and a region holds it.
+fn kept_route(alloc: Global, host: &Worked, h: u64) -> Option<Route>
+    requires caps { HasCapsOf host.now.image host.now.topo.nodes }
+    requires made { AreMadeWith host.now.windows.items (bridge_uids host.now.topo.nodes) }
+{
+    match check(alloc, &host.image, &host.topo, &host.windows) {
+        Ok(regions) => kept_in(alloc, host, &regions, h),
+        Err(_) => None,
+    }
+}
+
+/// The route that is kept for the address in the one of these regions that holds it.
+fn kept_in(alloc: Global, host: &Worked, regions: &[Found], h: u64) -> Option<Route>
+    requires caps { HasCapsOf host.now.image host.now.topo.nodes }
+    requires made { AreMadeWith host.now.windows.items (bridge_uids host.now.topo.nodes) }
+    requires regions { All (IsRegion (system_of host.now.image host.now.topo host.now.windows.items)) regions.now }
+{
+    for region in regions {
+        if region.base <= h && h - region.base < region.size {
+            return route_in(alloc, host, region, h);
+        }
+    }
+    None
+}
+
+/// The route that is kept for an address of a region.
+fn route_in(alloc: Global, host: &Worked, region: &Found, h: u64) -> Option<Route>
+    requires caps { HasCapsOf host.now.image host.now.topo.nodes }
+    requires made { AreMadeWith host.now.windows.items (bridge_uids host.now.topo.nodes) }
+    requires region { IsRegion (system_of host.now.image host.now.topo host.now.windows.items) region.now }
+    requires from { region.now.base ≤ h }
+    requires below { h < region.now.base + region.now.size }
+{
+    let _nodes = host.topo.count();
+    let _blocks = host.image.count();
+    let kept = Kept::new(alloc, &host.image, &host.topo, &host.windows, region).ok()?;
+    Some(kept.route(h))
+}
+
+/// Whether an address goes by this route, by the registers and by kept routes, and comes back from its end.
+fn goes(alloc: Global, host: &Worked, h: u64, route: Route) -> bool
+    requires caps { HasCapsOf host.now.image host.now.topo.nodes }
+    requires made { AreMadeWith host.now.windows.items (bridge_uids host.now.topo.nodes) }
+{
+    down(&host.image, &host.topo, &host.windows, h) == Ok(route)
+        && kept_route(alloc, host, h) == Some(route)
+        && comes_back(host, route.endpoint, route.dpa, route.base, h)
+}
+
+/// Whether the address comes back from a byte of an endpoint's device.
+fn comes_back(host: &Worked, node: u32, dpa: u64, base: u64, h: u64) -> bool
+    requires caps { HasCapsOf host.now.image host.now.topo.nodes }
+    requires made { AreMadeWith host.now.windows.items (bridge_uids host.now.topo.nodes) }
+{
+    up_from(host, node, dpa) == Some(Host { base, h })
+}
+
+/// A host, an address, and where it goes: a route, or the miss.
+struct Row {
+    nodes: &'static str,
+    windows: &'static str,
+    ranges: &'static str,
+    h: u64,
+    way: &'static str,
+}
+
+fn is_routed(rt: &impl Abort, alloc: Global, row: &Row) -> bool {
+    let host = host_of(rt, alloc, row.nodes, row.windows, row.ranges);
+    let route = route_of(rt, &numbers(rt, alloc, row.way));
+    goes(alloc, &host, row.h, route)
+}
+
+#[test]
+fn routes(rt: HostRuntime) {
+    for (i, row) in ROUTES.iter().enumerate() {
+        has_passed(&rt, i, is_routed(&rt, rt.alloc(), row));
+    }
+}
+
+/// Six bridges with two endpoints each.
+const SIX_BY_TWO: &str = "0x382, 0x382, 0x382, 0x382, 0x382, 0x382, \
+    0x1b02 0 0 0x80000000 0, 0x1b02 0 1 0x80000000 0, \
+    0x1b02 1 0 0x80000000 0, 0x1b02 1 1 0x80000000 0, \
+    0x1b02 2 0 0x80000000 0, 0x1b02 2 1 0x80000000 0, \
+    0x1b02 3 0 0x80000000 0, 0x1b02 3 1 0x80000000 0, \
+    0x1b02 4 0 0x80000000 0, 0x1b02 4 1 0x80000000 0, \
+    0x1b02 5 0 0x80000000 0, 0x1b02 5 1 0x80000000 0";
+
+/// A bridge, four levels of switches with two ports each, and sixteen endpoints.
+const FIVE_LEVELS: &str = "0x382, 0x382 0 0, \
+    0x382 1 0, 0x382 1 1, 0x382 2 0, 0x382 2 1, 0x382 3 0, 0x382 3 1, 0x382 4 0, 0x382 4 1, \
+    0x382 5 0, 0x382 5 1, 0x382 6 0, 0x382 6 1, 0x382 7 0, 0x382 7 1, \
+    0x1b02 8 0 0x10000000 0, 0x1b02 8 1 0x10000000 0, \
+    0x1b02 9 0 0x10000000 0, 0x1b02 9 1 0x10000000 0, \
+    0x1b02 10 0 0x10000000 0, 0x1b02 10 1 0x10000000 0, \
+    0x1b02 11 0 0x10000000 0, 0x1b02 11 1 0x10000000 0, \
+    0x1b02 12 0 0x10000000 0, 0x1b02 12 1 0x10000000 0, \
+    0x1b02 13 0 0x10000000 0, 0x1b02 13 1 0x10000000 0, \
+    0x1b02 14 0 0x10000000 0, 0x1b02 14 1 0x10000000 0, \
+    0x1b02 15 0 0x10000000 0, 0x1b02 15 1 0x10000000 0";
+
+const SIXTEEN_WAYS: &str = "0 1 0 0x100000000 0x100000000 0 0, \
+    1 2 0 0x100000000 0x100000000 0x10 0x0100, 2 4 0 0x100000000 0x100000000 0x11 0x0100, \
+    4 8 0 0x100000000 0x100000000 0x12 0x0100, 8 16 0 0x100000000 0x100000000 0x13 0x0100, \
+    16 32 0 0x100000000 0x100000000 0x40 0";
+
+const ROUTES: [Row; 11] = [
+    // Two ways.
+    Row {
+        nodes: TWO_BY_ONE,
+        windows: OVER_TWO,
+        ranges: TWO_WAYS,
+        h: 0x1_0000_0100,
+        way: "1 0x100000000 3 0 0  1 0 0",
+    },
+    // Three ways.
+    Row {
+        nodes: THREE_BY_ONE,
+        windows: OVER_THREE,
+        ranges: THREE_WAYS,
+        h: 0x1_2fff_ffff,
+        way: "2 0x100000000 5 0 0xfffffff  2 0 0",
+    },
+    Row {
+        nodes: THREE_BY_TWO,
+        windows: OVER_THREE_LONG,
+        ranges: SIX_WAYS_FROM_THREE,
+        h: 0x1_0000_0400,
+        way: "1 0x100000000 5 0 0  1 0 0",
+    },
+    Row {
+        nodes: THREE_BY_TWO,
+        windows: OVER_THREE_LONG,
+        ranges: SIX_WAYS_FROM_THREE,
+        h: 0x1_0000_0600,
+        way: "0 0x100000000 3 0 0x100  0 0 0",
+    },
+    // Twelve ways from six.
+    Row {
+        nodes: SIX_BY_TWO,
+        windows: "0x100000000 0xc0000000 0 0 0x000e 0 1 2 3 4 5",
+        ranges: "0 6 0 0x100000000 0xc0000000 0x11 0x0100, 6 18 0 0x100000000 0xc0000000 0xa0 0",
+        h: 0x1_0000_0b00,
+        way: "5 0x100000000 17 0 0  5 0 1",
+    },
+    // Two and six ways under XOR.
+    Row {
+        nodes: TWO_BY_ONE,
+        windows: OVER_TWO_XOR,
+        ranges: TWO_WAYS,
+        h: 0x1_0000_4000,
+        way: "1 0x100000000 3 0 0x2000  1 0 0",
+    },
+    Row {
+        nodes: SIX_BY_ONE,
+        windows: OVER_SIX_XOR,
+        ranges: SIX_WAYS,
+        h: 0x1_0000_4200,
+        way: "1 0x100000000 7 0 0xb00  1 0 0",
+    },
+    // The last byte of 1 TiB.
+    Row {
+        nodes: TWO_BY_TWO,
+        windows: OVER_TWO_LONG,
+        ranges: FOUR_WAYS_LONG,
+        h: 0x10f_ffff_ffff,
+        way: "1 0x1000000000 5 0 0x3fffffffff  1 0 1",
+    },
+    // The second decoders, over a skip into persistent memory.
+    Row {
+        nodes: ONE_OF_BOTH_KINDS,
+        windows: OVER_ONE,
+        ranges: RAM_THEN_PMEM,
+        h: 0x1_1000_0000,
+        way: "0 0x110000000 1 1 0x40000000  0 1 0",
+    },
+    // Bridges that forward make no step.
+    Row {
+        nodes: TWO_FORWARDING,
+        windows: OVER_TWO,
+        ranges: TWO_WAYS_BELOW,
+        h: 0x1_0000_0100,
+        way: "1 0x100000000 3 0 0",
+    },
+    // Five steps.
+    Row {
+        nodes: FIVE_LEVELS,
+        windows: OVER_ONE,
+        ranges: SIXTEEN_WAYS,
+        h: 0x1_0000_0b00,
+        way: "0 0x100000000 29 0 0  0 0 0  1 0 1  3 0 1  7 0 0  14 0 1",
+    },
+];
+
+fn is_missed(rt: &impl Abort, alloc: Global, row: &Row) -> bool {
+    let host = host_of(rt, alloc, row.nodes, row.windows, row.ranges);
+    let way = down(&host.image, &host.topo, &host.windows, row.h);
+    shows(alloc, &way, row.way) && kept_route(alloc, &host, row.h).is_none()
+}
+
+#[test]
+fn misses(rt: HostRuntime) {
+    for (i, row) in MISSES.iter().enumerate() {
+        has_passed(&rt, i, is_missed(&rt, rt.alloc(), row));
+    }
+}
+
+const BRIDGES_ALONE: &str = "0 2 0 0x100000000 0x20000000 0 0";
+
+const MISSES: [Row; 7] = [
+    Row {
+        nodes: TWO_BY_ONE,
+        windows: OVER_TWO,
+        ranges: "",
+        h: 0x2_0000_0000,
+        way: "Err(NoWindow)",
+    },
+    Row {
+        nodes: TWO_BY_ONE,
+        windows: OVER_TWO,
+        ranges: "",
+        h: 0x1_0000_0100,
+        way: "Err(NoDecoder(1))",
+    },
+    Row {
+        nodes: TWO_BY_ONE,
+        windows: OVER_TWO,
+        ranges: BRIDGES_ALONE,
+        h: 0x1_0000_0000,
+        way: "Err(NoDecoder(2))",
+    },
+    Row {
+        nodes: TWO_BY_ONE,
+        windows: OVER_TWO,
+        ranges: BRIDGES_ALONE,
+        h: 0x1_2000_0000,
+        way: "Err(NoDecoder(0))",
+    },
+    Row {
+        nodes: TWO_BY_ONE,
+        windows: OVER_TWO,
+        ranges: "0 2 0 0x100000000 0x20000000 0 7",
+        h: 0x1_0000_0000,
+        way: "Err(NoChild(0))",
+    },
+    // Bridges that forward, with nothing below.
+    Row {
+        nodes: "0x10, 0x10",
+        windows: OVER_TWO,
+        ranges: "",
+        h: 0x1_0000_0100,
+        way: "Err(NoChild(1))",
+    },
+    Row {
+        nodes: TWO_BY_ONE,
+        windows: OVER_TWO,
+        ranges: "0 2 0 0x100000000 0 0 0",
+        h: 0x1_0000_0000,
+        way: "Err(BadBlock(0))",
+    },
+];
+
+/// Committed decoders of two bridges, a byte of the second endpoint's device, and the host address that comes back from it.
+struct Back {
+    ranges: &'static str,
+    dpa: u64,
+    h: Option<u64>,
+}
+
+fn is_back(rt: &impl Abort, alloc: Global, row: &Back) -> bool {
+    let host = host_of(rt, alloc, TWO_BY_ONE, OVER_TWO, row.ranges);
+    match row.h {
+        Some(h) => comes_back(&host, 3, row.dpa, 0x1_0000_0000, h),
+        None => up_from(&host, 3, row.dpa).is_none(),
+    }
+}
+
+#[test]
+fn ways_back(rt: HostRuntime) {
+    for (i, row) in BACK.iter().enumerate() {
+        has_passed(&rt, i, is_back(&rt, rt.alloc(), row));
+    }
+}
+
+const BACK: [Back; 4] = [
+    Back {
+        ranges: TWO_WAYS,
+        dpa: 0,
+        h: Some(0x1_0000_0100),
+    },
+    Back {
+        ranges: TWO_WAYS,
+        dpa: 0xfff_ffff,
+        h: Some(0x1_1fff_ffff),
+    },
+    Back {
+        ranges: TWO_WAYS,
+        dpa: 0x1000_0000,
+        h: None,
+    },
+    Back {
+        ranges: "",
+        dpa: 0,
+        h: None,
+    },
+];
+
+/// Whether both addresses lead to this byte, from which the lower one comes back.
+fn meet(rt: &impl Abort, host: &Worked, low: u64, high: u64, dpa: u64) -> bool
+    requires caps { HasCapsOf host.now.image host.now.topo.nodes }
+    requires made { AreMadeWith host.now.windows.items (bridge_uids host.now.topo.nodes) }
+{
+    let route = route_of(rt, &[0, 0x1_0000_0000, 1, 0, dpa, 0, 0, 0]);
+    down(&host.image, &host.topo, &host.windows, low) == Ok(route)
+        && down(&host.image, &host.topo, &host.windows, high) == Ok(route)
+        && comes_back(host, 1, dpa, 0x1_0000_0000, low)
+}
+
+/// A bridge of one way above an endpoint of two.
+const BOTH_BY_ONE: Breach = Breach {
+    rule: 12,
+    node: 1,
+    decoder: 0,
+};
+
+/// An endpoint of two ways below a bridge and a window of one: two addresses lead to each byte.
+#[test]
+fn the_least_of_two_that_meet(rt: HostRuntime) {
+    let host = host_of(&rt, rt.alloc(), ONE_OF_1_GIB, OVER_ONE, TWO_WAYS_OF_ONE);
+    assert!(rt; breaks(rt.alloc(), &host, &host.image, BOTH_BY_ONE));
+    assert!(rt; meet(&rt, &host, 0x1_0000_0000, 0x1_0000_0100, 0));
+    assert!(rt; meet(&rt, &host, 0x1_0000_02ff, 0x1_0000_03ff, 0x1ff));
+}
+
+const ONE_OF_1_GIB: &str = "0x382, 0x1b02 0 0 0x40000000 0";
+
+const TWO_WAYS_OF_ONE: &str =
+    "0 1 0 0x100000000 0x20000000 0 0, 1 2 0 0x100000000 0x20000000 0x10 0";

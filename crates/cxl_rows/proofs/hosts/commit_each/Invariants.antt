@@ -1,7 +1,0 @@
-use Rattle.std.proofs.Common.{List}
-use Rattle.cxl_topo.specs.declared.node.Node.{Node}
-use Rattle.cxl_image.specs.Images.{HasCapsOf}
-use Rattle.cxl_rows.proofs.hosts.commit_each.Given as goal
-
-abbrev pub invariant-loop-node : goal.invariant-loop-node
-invariant-loop-node g l = (nodes : List Node) → HasCapsOf l.initial.image nodes → HasCapsOf l.image nodes
