@@ -10,10 +10,7 @@ ghost use Rattle.cxl_session.specs.Standing.{Stands, StandsFor};
 use crate::guest_stores::windows_of;
 use crate::host_files::ONE_FRAME;
 use crate::rows::{changed, has_passed, numbers};
-use crate::script_bytes::BYTES_BY_HOST;
-use crate::script_regions::REGIONS;
-use crate::script_words::{BETWEEN_WORDS, FAILING_BUSES};
-use crate::scripts::{FIRMWARE, POISONED, Script, WAYS};
+use crate::scripts::Script;
 use crate::tables::TWO_BRIDGES;
 use cxl_bus::{FailingBus, Regs, SimBus};
 use cxl_image::{Image, read_image, write_image};
@@ -121,6 +118,22 @@ fn replies<R: Regs, M: Roll>(
     text
 }
 
+/// Whether lines are answered so.
+fn is_answered<R: Regs, M: Roll>(
+    rt: &impl Abort,
+    alloc: Global,
+    session: &mut Session,
+    lines: &str,
+    text: &str,
+    regs: &mut R,
+    media: &mut M,
+) -> bool
+    requires { Stands session.old (R.state regs.old) (M.state media.old) }
+    ensures { Stands session.new (R.state regs.new) (M.state media.new) }
+{
+    replies(rt, alloc, session, lines, regs, media).as_slice() == text.as_bytes()
+}
+
 // ---- the scripts
 
 /// The exit status of a script whose session does not open.
@@ -142,8 +155,16 @@ fn comes_to<R: Regs, M: Roll>(
 ) -> bool {
     match opened(rt, alloc, script, regs, media) {
         Ok(mut session) => {
-            let text = replies(rt, alloc, &mut session, script.lines, regs, media);
-            script.code == 0 && text.as_slice() == script.text.as_bytes()
+            script.code == 0
+                && is_answered(
+                    rt,
+                    alloc,
+                    &mut session,
+                    script.lines,
+                    script.text,
+                    regs,
+                    media,
+                )
         }
         Err(fault) => script.code == code_of_unopened(fault),
     }
@@ -157,42 +178,11 @@ fn comes_to_over<M: Roll>(rt: &impl Abort, alloc: Global, script: &Script, media
         && (!script.fails.is_empty() || comes_to(rt, alloc, script, &mut sim, media))
 }
 
-/// Checks each script over both kinds of device memory.
-fn come_to(rt: &(impl Abort + AllocGlobal), scripts: &[Script]) {
-    let alloc = rt.alloc();
-    for (i, script) in scripts.iter().enumerate() {
-        let mut sim = SimMedia::new(alloc);
-        has_passed(rt, i, comes_to_over(rt, alloc, script, &mut sim));
-        let mut map = MapMedia::new(alloc);
-        has_passed(rt, i, comes_to_over(rt, alloc, script, &mut map));
-    }
-}
-
-#[test]
-fn ways(rt: HostRuntime) {
-    come_to(&rt, &WAYS);
-}
-
-#[test]
-fn made_and_ended(rt: HostRuntime) {
-    come_to(&rt, &REGIONS);
-}
-
-#[test]
-fn bytes_by_host(rt: HostRuntime) {
-    come_to(&rt, &BYTES_BY_HOST);
-}
-
-#[test]
-fn between_words(rt: HostRuntime) {
-    come_to(&rt, &BETWEEN_WORDS);
-    come_to(&rt, &FAILING_BUSES);
-}
-
-#[test]
-fn firmware_and_poison(rt: HostRuntime) {
-    come_to(&rt, &FIRMWARE);
-    come_to(&rt, &POISONED);
+/// Whether a script comes to its text and its exit status command by command, over both kinds of device memory.
+pub(crate) fn comes_to_by_commands(rt: &impl Abort, alloc: Global, script: &Script) -> bool {
+    let mut sim = SimMedia::new(alloc);
+    let mut map = MapMedia::new(alloc);
+    comes_to_over(rt, alloc, script, &mut sim) && comes_to_over(rt, alloc, script, &mut map)
 }
 
 // ---- kept routes
@@ -359,20 +349,30 @@ fn keeps(session: &Session, row: &Keeping) -> bool
 }
 
 /// Checks the kept routes behind each line.
-fn all_keep<R: Regs, M: Roll>(rt: &impl Abort, alloc: Global, regs: &mut R, media: &mut M) {
+fn all_keep<R: Regs, M: Roll>(
+    rt: &impl Abort,
+    alloc: Global,
+    rows: &[Keeping],
+    regs: &mut R,
+    media: &mut M,
+) {
     let mut session = opened(rt, alloc, &HOST, regs, media).expect(rt, "a session");
-    for (i, row) in KEEPING.iter().enumerate() {
+    for (i, row) in rows.iter().enumerate() {
         replies(rt, alloc, &mut session, row.line, regs, media);
         has_passed(rt, i, keeps(&session, row));
     }
 }
 
+/// The same over both kinds of device memory.
+fn all_keep_over_each(rt: &impl Abort, alloc: Global, rows: &[Keeping]) {
+    let mut regs = SimBus::new(alloc);
+    all_keep(rt, alloc, rows, &mut regs, &mut SimMedia::new(alloc));
+    all_keep(rt, alloc, rows, &mut regs, &mut MapMedia::new(alloc));
+}
+
 #[test]
 fn kept_routes(rt: HostRuntime) {
-    let alloc = rt.alloc();
-    let mut regs = SimBus::new(alloc);
-    all_keep(&rt, alloc, &mut regs, &mut SimMedia::new(alloc));
-    all_keep(&rt, alloc, &mut regs, &mut MapMedia::new(alloc));
+    all_keep_over_each(&rt, rt.alloc(), &KEEPING);
 }
 
 // ---- the image behind a command that meets a fault
@@ -427,6 +427,21 @@ fn words_of(rt: &impl Abort, alloc: Global, session: &Session) -> Vec<u8> {
     write_image(alloc, session.image()).expect(rt, "memory")
 }
 
+/// A session behind the lines that go before a command.
+fn before<R: Regs, M: Roll>(
+    rt: &impl Abort,
+    alloc: Global,
+    writing: &Writing,
+    regs: &mut R,
+    media: &mut M,
+) -> Session
+    ensures { Stands result (R.state regs.new) (M.state media.new) }
+{
+    let mut session = opened(rt, alloc, &HOST, regs, media).expect(rt, "a session");
+    replies(rt, alloc, &mut session, writing.before, regs, media);
+    session
+}
+
 /// The words of the image behind so many writes of a command, over a bus that does not fail.
 fn words_behind<M: Roll>(
     rt: &impl Abort,
@@ -435,11 +450,9 @@ fn words_behind<M: Roll>(
     writes: u64,
     media: &mut M,
 ) -> Vec<u8> {
+    let steps = format!(in alloc; "{}\nstep {writes}", writing.begin).expect(rt, "memory");
     let mut regs = SimBus::new(alloc);
-    let mut session = opened(rt, alloc, &HOST, &mut regs, media).expect(rt, "a session");
-    let steps = format!(in alloc; "{}\n{}\nstep {writes}", writing.before, writing.begin).expect(
-        rt, "memory",
-    );
+    let mut session = before(rt, alloc, writing, &mut regs, media);
     replies(rt, alloc, &mut session, &steps, &mut regs, media);
     words_of(rt, alloc, &session)
 }
@@ -453,15 +466,53 @@ fn is_undone<M: Roll>(
     media: &mut M,
 ) -> bool {
     let mut regs = failing_from(rt, alloc, writing, write, 1);
-    let mut session = opened(rt, alloc, &HOST, &mut regs, media).expect(rt, "a session");
-    replies(rt, alloc, &mut session, writing.before, &mut regs, media);
-    let before = words_of(rt, alloc, &session);
-    let undone = replies(rt, alloc, &mut session, writing.line, &mut regs, media);
-    let behind = words_of(rt, alloc, &session);
-    let done = replies(rt, alloc, &mut session, writing.line, &mut regs, media);
-    undone.as_slice() == b"bus fault undone\n".as_slice()
-        && behind == before
-        && done.as_slice() == writing.reply.as_bytes()
+    let mut session = before(rt, alloc, writing, &mut regs, media);
+    is_undone_in(rt, alloc, &mut session, writing, &mut regs, media)
+}
+
+/// The same in a session whose bus fails at the write.
+fn is_undone_in<R: Regs, M: Roll>(
+    rt: &impl Abort,
+    alloc: Global,
+    session: &mut Session,
+    writing: &Writing,
+    regs: &mut R,
+    media: &mut M,
+) -> bool
+    requires { Stands session.old (R.state regs.old) (M.state media.old) }
+{
+    let words = words_of(rt, alloc, session);
+    let undone = "bus fault undone\n";
+    is_answered(rt, alloc, session, writing.line, undone, regs, media)
+        && words_of(rt, alloc, session) == words
+        && is_answered(rt, alloc, session, writing.line, writing.reply, regs, media)
+}
+
+/// A command that is left pending: its line, what it is answered, and the words of the image behind it.
+#[derive(Drop)]
+struct Left {
+    line: &'static str,
+    told: String,
+    words: Vec<u8>,
+}
+
+/// A command that is left pending with so many writes made.
+fn left_of<M: Roll>(
+    rt: &impl Abort,
+    alloc: Global,
+    writing: &Writing,
+    made: u64,
+    media: &mut M,
+) -> Left {
+    let words = words_behind(rt, alloc, writing, made, media);
+    let told = format!(in alloc; "bus fault pending r0 {made} of {}\n", writing.writes).expect(
+        rt, "memory",
+    );
+    Left {
+        line: writing.line,
+        told,
+        words,
+    }
 }
 
 /// Whether a command that fails behind so many writes, and as the last of them is taken back, too, is left pending with as
@@ -473,21 +524,35 @@ fn is_left_pending<M: Roll>(
     made: u64,
     media: &mut M,
 ) -> bool {
-    let made_so_far = words_behind(rt, alloc, writing, made, media);
+    let left = left_of(rt, alloc, writing, made, media);
     let mut regs = failing_from(rt, alloc, writing, made, 2);
-    let mut session = opened(rt, alloc, &HOST, &mut regs, media).expect(rt, "a session");
-    replies(rt, alloc, &mut session, writing.before, &mut regs, media);
-    let before = words_of(rt, alloc, &session);
-    let pending = replies(rt, alloc, &mut session, writing.line, &mut regs, media);
-    let behind = words_of(rt, alloc, &session);
-    let aborted = replies(rt, alloc, &mut session, "abort", &mut regs, media);
-    let told = format!(in alloc; "bus fault pending r0 {made} of {}\n", writing.writes).expect(
-        rt, "memory",
-    );
-    pending.as_slice() == told.as_bytes()
-        && behind == made_so_far
-        && aborted.as_slice() == b"aborted r0\n".as_slice()
-        && words_of(rt, alloc, &session) == before
+    let mut session = before(rt, alloc, writing, &mut regs, media);
+    is_left_pending_in(rt, alloc, &mut session, &left, &mut regs, media)
+}
+
+/// The same in a session whose bus fails so.
+fn is_left_pending_in<R: Regs, M: Roll>(
+    rt: &impl Abort,
+    alloc: Global,
+    session: &mut Session,
+    left: &Left,
+    regs: &mut R,
+    media: &mut M,
+) -> bool
+    requires { Stands session.old (R.state regs.old) (M.state media.old) }
+{
+    let words = words_of(rt, alloc, session);
+    is_answered(
+        rt,
+        alloc,
+        session,
+        left.line,
+        left.told.as_str(),
+        regs,
+        media,
+    ) && words_of(rt, alloc, session) == left.words
+        && is_answered(rt, alloc, session, "abort", "aborted r0\n", regs, media)
+        && words_of(rt, alloc, session) == words
 }
 
 /// Checks a command that fails at each of its writes, over any device memory.

@@ -114,11 +114,16 @@ fn are_led(rt: &impl Abort, alloc: Global, row: &Row) -> bool {
     count == 12
 }
 
+/// Checks each row.
+fn all_are_led(rt: &(impl Abort + AllocGlobal), rows: &[Row]) {
+    for (i, row) in rows.iter().enumerate() {
+        has_passed(rt, i, are_led(rt, rt.alloc(), row));
+    }
+}
+
 #[test]
 fn real_stores(rt: HostRuntime) {
-    for (i, row) in ROWS.iter().enumerate() {
-        has_passed(&rt, i, are_led(&rt, rt.alloc(), row));
-    }
+    all_are_led(&rt, &ROWS);
 }
 
 const ROWS: [Row; 6] = [

@@ -1,11 +1,12 @@
 //! The messages of errors that are derived: one for each cause.
 
+use crate::rows::has_passed;
 use cxl_cedt::CedtFault;
 use cxl_image::ImageFault;
 use cxl_topo::TreeFault;
 use cxl_topofile::{Key, Place, Section, TopoFault};
+use std::alloc::Global;
 use std::fmt::Display;
-use std::process::Abort;
 
 const SPEED: Place = Place {
     section: Section::Endpoint,
@@ -13,16 +14,18 @@ const SPEED: Place = Place {
     key: Key::Unknown,
 };
 
-/// Checks that this is the message of a fault.
-fn is_said(rt: &(impl Abort + AllocGlobal), fault: &impl Display, text: &str) {
-    let said = format!(in rt.alloc(); "{fault}").expect(rt, "memory");
-    assert_eq!(rt; said.as_str(), text);
+/// Whether this is the message of a fault.
+fn is_said<T: Display>(alloc: Global, fault: &T, text: &str) -> bool {
+    match format!(in alloc; "{fault}") {
+        Ok(said) => said.as_str() == text,
+        Err(_) => false,
+    }
 }
 
 #[test]
 fn of_tables(rt: HostRuntime) {
-    for (fault, text) in &OF_TABLES {
-        is_said(&rt, fault, text);
+    for (i, (fault, text)) in OF_TABLES.iter().enumerate() {
+        has_passed(&rt, i, is_said(rt.alloc(), fault, *text));
     }
 }
 
@@ -63,8 +66,8 @@ const OF_TABLES: [(CedtFault, &str); 11] = [
 
 #[test]
 fn of_images(rt: HostRuntime) {
-    for (fault, text) in &OF_IMAGES {
-        is_said(&rt, fault, text);
+    for (i, (fault, text)) in OF_IMAGES.iter().enumerate() {
+        has_passed(&rt, i, is_said(rt.alloc(), fault, *text));
     }
 }
 
@@ -88,8 +91,8 @@ const OF_IMAGES: [(ImageFault, &str); 6] = [
 
 #[test]
 fn of_topologies(rt: HostRuntime) {
-    for (fault, text) in &OF_TOPOLOGIES {
-        is_said(&rt, fault, text);
+    for (i, (fault, text)) in OF_TOPOLOGIES.iter().enumerate() {
+        has_passed(&rt, i, is_said(rt.alloc(), fault, *text));
     }
 }
 

@@ -9,7 +9,7 @@ fn bytes_by_host(rt: HostRuntime) {
     come_to(&rt, &BYTES_BY_HOST);
 }
 
-pub(crate) const BYTES_BY_HOST: [Script; 8] = [
+const BYTES_BY_HOST: [Script; 8] = [
     // Bytes over two devices.
     Script {
         table: TWO_BRIDGES,

@@ -11,7 +11,7 @@ fn made_and_ended(rt: HostRuntime) {
     come_to(&rt, &REGIONS);
 }
 
-pub(crate) const REGIONS: [Script; 8] = [
+const REGIONS: [Script; 8] = [
     // Both kinds of memory in one endpoint.
     Script {
         table: ONE_BRIDGE,

@@ -9,7 +9,7 @@ fn between_words(rt: HostRuntime) {
     come_to(&rt, &BETWEEN_WORDS);
 }
 
-pub(crate) const BETWEEN_WORDS: [Script; 4] = [
+const BETWEEN_WORDS: [Script; 4] = [
     // A region that is pending.
     Script {
         table: TWO_BRIDGES,
@@ -119,7 +119,7 @@ fn failing_buses(rt: HostRuntime) {
     come_to(&rt, &FAILING_BUSES);
 }
 
-pub(crate) const FAILING_BUSES: [Script; 10] = [
+const FAILING_BUSES: [Script; 10] = [
     // A write fails, and the first is taken back.
     Script {
         table: TWO_BRIDGES,

@@ -1,6 +1,7 @@
 // What scripts come to: hosts as a table, a topology and, where one is named, an image; the lines of a script; the exit
 // status, and all that is written. Each over a bus that fails at stated calls, and over both kinds of device memory.
 
+use crate::acts::comes_to_by_commands;
 use crate::host_files::{
     FIRST_REGION, FIVE_LEVELS, FOUR_ENDPOINTS, SIX_ENDPOINTS, SIX_ON_SIX, THREE_SMALL_ENDPOINTS,
     TWELVE_ENDPOINTS, TWO_ENDPOINTS, TWO_ENDPOINTS_FORWARDED,
@@ -11,7 +12,7 @@ use crate::tables::{
     TWO_BRIDGES, TWO_BRIDGES_XOR,
 };
 use cxl_bus::FailingBus;
-use cxl_io::MemSource;
+use cxl_io::{MemFetch, MemSource};
 use cxl_media::{MapMedia, Roll, SimMedia};
 use cxl_shell::run;
 use std::alloc::Global;
@@ -30,24 +31,32 @@ pub(crate) struct Script {
     pub(crate) text: &'static str,
 }
 
-fn comes_to<M: Roll>(rt: &impl Abort, alloc: Global, script: &Script, media: &mut M) -> bool {
-    let line = if script.image.is_empty() {
-        "run table topology"
+/// The words that run a script.
+fn words_of_run(rt: &impl Abort, alloc: Global, script: &Script) -> Vec<String> {
+    if script.image.is_empty() {
+        words_of(rt, alloc, "run table topology")
     } else {
-        "run table topology image"
-    };
-    let words = words_of(rt, alloc, line);
+        words_of(rt, alloc, "run table topology image")
+    }
+}
+
+/// The files of a script's host.
+fn files_of_host(rt: &impl Abort, alloc: Global, script: &Script) -> MemFetch {
+    let table = bytes(rt, alloc, script.table);
     let image = changed(rt, alloc, script.image, script.changes, 4);
-    let mut files = files_of(
-        rt,
-        alloc,
-        bytes(rt, alloc, script.table),
-        script.topology,
-        image,
-        0,
-    );
+    files_of(rt, alloc, table, script.topology, image, 0)
+}
+
+/// The lines of a script.
+fn source_of(rt: &impl Abort, alloc: Global, script: &Script) -> MemSource {
     let lines = Vec::from_slice(alloc, script.lines.as_bytes()).expect(rt, "memory");
-    let mut source = MemSource::new(lines, Vec::new(alloc));
+    MemSource::new(lines, Vec::new(alloc))
+}
+
+fn comes_to<M: Roll>(rt: &impl Abort, alloc: Global, script: &Script, media: &mut M) -> bool {
+    let words = words_of_run(rt, alloc, script);
+    let mut files = files_of_host(rt, alloc, script);
+    let mut source = source_of(rt, alloc, script);
     let mut sink = sink_of(rt, alloc, ROOM, 0);
     let mut regs = FailingBus::new(alloc, numbers(rt, alloc, script.fails));
     let status = run(
@@ -62,8 +71,10 @@ fn comes_to<M: Roll>(rt: &impl Abort, alloc: Global, script: &Script, media: &mu
     status.code() == script.code && sink.bytes() == script.text.as_bytes()
 }
 
+/// Checks each script, as a run and command by command.
 pub(crate) fn come_to(rt: &(impl Abort + AllocGlobal), scripts: &[Script]) {
     for (i, script) in scripts.iter().enumerate() {
+        has_passed(rt, i, comes_to_by_commands(rt, rt.alloc(), script));
         let mut sim = SimMedia::new(rt.alloc());
         has_passed(rt, i, comes_to(rt, rt.alloc(), script, &mut sim));
         let mut map = MapMedia::new(rt.alloc());
@@ -76,7 +87,7 @@ fn ways(rt: HostRuntime) {
     come_to(&rt, &WAYS);
 }
 
-pub(crate) const WAYS: [Script; 8] = [
+const WAYS: [Script; 8] = [
     // Three ways.
     Script {
         table: THREE_BRIDGES_SMALL,
@@ -220,7 +231,7 @@ fn firmware(rt: HostRuntime) {
     come_to(&rt, &FIRMWARE);
 }
 
-pub(crate) const FIRMWARE: [Script; 3] = [
+const FIRMWARE: [Script; 3] = [
     // Locked decoders.
     Script {
         table: TWO_BRIDGES,
@@ -277,7 +288,7 @@ fn poisoned(rt: HostRuntime) {
     come_to(&rt, &POISONED);
 }
 
-pub(crate) const POISONED: [Script; 2] = [
+const POISONED: [Script; 2] = [
     // A record past the end of a span, one of no length, a false count, and a list that is cut.
     Script {
         table: TWO_BRIDGES,
