@@ -1,7 +1,14 @@
+use Rattle.std.proofs.Common.{rules}
 use Rattle.std.proofs.lemmas.Result.{err_from_is_err_and}
 use Rattle.cxl_topo.proofs.Fitting.{memory_alone}
 use Rattle.cxl_topo.proofs.Legal.{is_tree, none_fits}
 use Rattle.cxl_topo.proofs.topo.Topo.new.Goals as goal
+
+pub returns-then-are_too_many-clause-only : goal.returns-then-are_too_many-clause-only
+returns-then-are_too_many-clause-only c = search rules
+
+pub returns-then-are_too_many-clause-fault : goal.returns-then-are_too_many-clause-fault
+returns-then-are_too_many-clause-fault c = search rules
 
 pub returns-in_err-tables-clause-only : goal.returns-in_err-tables-clause-only
 returns-in_err-tables-clause-only c =
