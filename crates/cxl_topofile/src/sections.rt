@@ -6,7 +6,7 @@ ghost use Rattle.toml.specs.View.{view, table_view, items_view};
 ghost use Rattle.cxl_topofile.specs.Values.{value_at, Gives};
 ghost use Rattle.cxl_topofile.specs.Drafts.{bridge_of};
 ghost use Rattle.cxl_topofile.specs.Groups.{Reads, section_of, draft_of, all_of, are_tables, tables_of, tables_at, top_of, stated_of};
-ghost use Rattle.cxl_topofile.specs.inner.Seen.{seen_top, seen_stated, is_table, AddsTable};
+ghost use Rattle.cxl_topofile.specs.inner.Seen.{seen_top, seen_stated, is_table, IsTop, AddsTable};
 ghost use Rattle.std.specs.Prelude.{Some};
 
 use crate::draft::{Draft, known, read_bridge};
@@ -49,10 +49,7 @@ pub(crate) fn read_table(alloc: Global, table: &Table) -> Result<Stated, TopoFau
 #[tactic(auto, unfolding(crate::specs::Groups::top_of))]
 fn read_top(table: &Table) -> Result<Top<'_>, Wrong>
     ensures top { Gives seen_top result (top_of (table_view table.now)) }
-    ensures frames { IfOk result (λ top. (1 ≤ top.frames) × (top.frames ≤ frame_limit)) }
-    ensures bridges { IfOk result (λ top. IsTrue (are_tables (items_view top.bridges.now))) }
-    ensures switches { IfOk result (λ top. IsTrue (are_tables (items_view top.switches.now))) }
-    ensures endpoints { IfOk result (λ top. IsTrue (are_tables (items_view top.endpoints.now))) }
+    ensures sound { IfOk result IsTop }
 {
     known(table, &TOP_KEYS)?;
     let frames = number(

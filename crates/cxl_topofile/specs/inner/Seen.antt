@@ -1,5 +1,6 @@
 -- What was read, without where it lies in memory.
-use Rattle.std.specs.Prelude.{◌≡◌, ℕ, Bool, is_some, List, [], ◌∷◌, ◌++◌, Some, Result, Ok, Err}
+use Rattle.std.specs.Prelude.{◌≡◌, ℕ, ◌≤◌, Bool, IsTrue, is_some, List, [], ◌∷◌, ◌++◌, Some, Result, Ok, Err}
+use Rattle.cxl_enc.specs.Limits.{frame_limit}
 use Rattle.toml.specs.Data.{Members, as_table}
 use Rattle.toml.specs.View.{view, items_view}
 use Rattle.toml.specs.declared.value.Value.{Value}
@@ -8,7 +9,7 @@ use Rattle.cxl_topofile.specs.declared.stated.Stated.{Stated as StatedRead}
 use Rattle.cxl_topofile.specs.declared.fault.Section.{Section}
 use Rattle.cxl_topofile.specs.declared.fault.Wrong.{Wrong}
 use Rattle.cxl_topofile.specs.declared.fault.TopoFault.{TopoFault}
-use Rattle.cxl_topofile.specs.Groups.{Top, Stated, placed, FailsAs}
+use Rattle.cxl_topofile.specs.Groups.{Top, Stated, are_tables, placed, FailsAs}
 
 abbrev pub is_table : Value → Bool
 is_table value = is_some (as_table (view value))
@@ -20,6 +21,14 @@ seen_top top = record {
   switches = items_view top.switches.now;
   endpoints = items_view top.endpoints.now;
 }
+
+-- its frames are within their limits, and its arrays hold tables alone
+pub record IsTop (top : TopRead) : Type 0 where
+  pub some : 1 ≤ top.frames
+  pub few : top.frames ≤ frame_limit
+  pub bridges : IsTrue (are_tables (items_view top.bridges.now))
+  pub switches : IsTrue (are_tables (items_view top.switches.now))
+  pub endpoints : IsTrue (are_tables (items_view top.endpoints.now))
 
 abbrev pub seen_stated : StatedRead → Stated
 seen_stated stated = record { bridges = stated.bridges.items; drafts = stated.drafts.items; frames = stated.frames }
