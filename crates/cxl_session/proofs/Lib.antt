@@ -1,4 +1,3 @@
-pub mod Errors
 pub mod Places
 pub mod Apart
 pub mod Pairs

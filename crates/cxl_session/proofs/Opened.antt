@@ -214,12 +214,6 @@ places_are topo windows start blocks endpoints regions can are holds =
     (subst (λ (bs : List Registers). All (λ node. node < length bs) endpoints) (sym holds)
     (subst (All (λ node. node < length start)) (sym are) (endpoints_there (system_of start topo windows) can.system)))
 
-pub media_is : (media : MediaState) (frames : ℕ) → media.blocks ≡ finmap.empty → media.free ≡ frames → media ≡ empty_media frames
-media_is media frames blocks free = ap (λ (b : Blocks). state b media.free) blocks ∙ ap (λ (n : ℕ). state finmap.empty n) free
-  where
-    state : Blocks → ℕ → MediaState
-    state b n = record { blocks = b; free = n }
-
 -- ---- faults
 
 err_or : {T E : Type 0} → Result T E → E → E

@@ -3,7 +3,7 @@ use Rattle.std.specs.Prelude.{All}
 use Rattle.cxl_apply.specs.Jobs.{AreCreateWrites, AreOfDifferentNodes, CanCreate}
 use Rattle.cxl_model.specs.declared.plan.Row.{Row}
 use Rattle.cxl_model.specs.Hosts.{as_system}
-use Rattle.cxl_session.proofs.Errors.{not_ok}
+use Rattle.cxl_opening.proofs.Errors.{not_ok}
 use Rattle.cxl_session.proofs.creating.prepared.Goals as goal
 
 pub create-requires-clause-each : goal.create-requires-clause-each

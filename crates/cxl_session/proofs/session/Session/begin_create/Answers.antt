@@ -9,7 +9,7 @@ use Rattle.cxl_session.specs.State.{SessionState}
 use Rattle.cxl_session.specs.inner.Answering.{IsTurnFor}
 use Rattle.cxl_session.specs.inner.Creating.{IsAskedCreate}
 use Rattle.cxl_session.proofs.Creates.{begin_turn, begin_refused}
-use Rattle.cxl_session.proofs.Errors.{not_ok, at_any_err}
+use Rattle.cxl_opening.proofs.Errors.{not_ok, at_any_err}
 use Rattle.cxl_session.proofs.session.Session.begin_create.Goals as goal
 
 pub returns-in-Err-clause-turn : goal.returns-in-Err-clause-turn

@@ -11,7 +11,7 @@ use Rattle.cxl_session.specs.declared.requests.Release.{Release}
 use Rattle.cxl_session.specs.State.{SessionState}
 use Rattle.cxl_session.specs.inner.Requests.{IsAskedRelease}
 use Rattle.cxl_session.proofs.Begins.{begin_refused, begin_turn, release_within, can_release, released_apart}
-use Rattle.cxl_session.proofs.Errors.{not_ok, at_any_err}
+use Rattle.cxl_opening.proofs.Errors.{not_ok, at_any_err}
 use Rattle.cxl_session.proofs.session.Session.begin_destroy.Goals as goal
 
 pub returns-in-Err-clause-turn : goal.returns-in-Err-clause-turn

@@ -10,7 +10,7 @@ use Rattle.cxl_session.specs.Standing.{IsAt}
 use Rattle.cxl_session.specs.inner.Creating.{IsAskedCreate}
 use Rattle.cxl_session.specs.inner.Regions.{IsWholeFor, LeavesUndone}
 use Rattle.cxl_session.proofs.Creates.{BeginLaws, begun_at, undone_before, created, create_refused}
-use Rattle.cxl_session.proofs.Errors.{not_ok, at_any_err}
+use Rattle.cxl_opening.proofs.Errors.{not_ok, at_any_err}
 use Rattle.cxl_session.proofs.session.Session.create.Goals as goal
 
 pub returns-in-Err-clause-turn : goal.returns-in-Err-clause-turn

@@ -12,7 +12,7 @@ use Rattle.cxl_session.specs.declared.requests.Release.{Release}
 use Rattle.cxl_session.specs.State.{SessionState}
 use Rattle.cxl_session.specs.inner.Requests.{IsNamedRelease, IsAskedRelease}
 use Rattle.cxl_session.proofs.Begins.{begun_here, begun_from, release_within, can_release, released_apart}
-use Rattle.cxl_session.proofs.Errors.{not_ok, at_any_err}
+use Rattle.cxl_opening.proofs.Errors.{not_ok, at_any_err}
 use Rattle.cxl_session.proofs.Undoing.{refused_again}
 use Rattle.cxl_session.proofs.Wholes.{destroyed, destroy_refused}
 use Rattle.cxl_session.proofs.session.Session.destroy.Goals as goal

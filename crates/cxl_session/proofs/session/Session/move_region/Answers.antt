@@ -7,7 +7,7 @@ use Rattle.cxl_machine.specs.Copies.{move_between, move_answer}
 use Rattle.cxl_machine.specs.Replies.{Answer}
 use Rattle.cxl_session.specs.inner.Answering.{IsWrittenAs}
 use Rattle.cxl_session.proofs.Carrying.{window_within}
-use Rattle.cxl_session.proofs.Errors.{not_ok, at_any_err}
+use Rattle.cxl_opening.proofs.Errors.{not_ok, at_any_err}
 use Rattle.cxl_session.proofs.session.Session.move_region.Goals as goal
 
 pub side-from-requires : goal.side-from-requires

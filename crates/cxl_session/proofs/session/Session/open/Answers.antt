@@ -1,6 +1,6 @@
 use Rattle.std.proofs.Common.{◌≡◌, ℕ, List, Err, refl, sym, ap, subst, ◌∙◌, inl, inr}
 use Rattle.std.proofs.lemmas.Result.{err_from_is_err_and}
-use Rattle.std.proofs.Math.Nat.{le_trans}
+use Rattle.std.proofs.Math.Nat.{le_refl, le_trans}
 use Rattle.cxl_media.specs.MediaState.{MediaState}
 use Rattle.cxl_window.specs.Fields.{WindowFields}
 use Rattle.cxl_window.specs.Windows.{AreMadeWith}
@@ -9,10 +9,12 @@ use Rattle.cxl_bus.specs.Trail.{blocks_sent, trail_with}
 use Rattle.cxl_machine.specs.declared.fault.OpenFault.{OpenFault}
 use Rattle.cxl_machine.specs.declared.fault.OpenFault.TheVariants as faults
 use Rattle.cxl_machine.specs.Sound.{enabled_blocks}
-use Rattle.cxl_model.specs.Accepted.{IsFirstBreach}
+use Rattle.cxl_model.specs.Accepted.{IsFirstBreach, HasFirstBreach}
 use Rattle.cxl_model.specs.System.{System, system_of, bridge_uids}
 use Rattle.cxl_opening.specs.Opening.{endpoints_in, enabling, HasRegions}
 use Rattle.cxl_opening.specs.Opened.{opened_machine, CanOpen, StopsEnabling}
+use Rattle.cxl_session.proofs.Acts.{err_always}
+use Rattle.cxl_opening.proofs.Errors.{not_ok}
 use Rattle.cxl_session.proofs.Opened.{at_ok, at_err, opens_so, image_is, half_is, places_are, opened_is_at, same_fault, trail_from_none, memory_not_breach, memory_not_full, memory_not_bus, bus_not_breach, bus_not_full, bus_not_memory, ok_not_err, rose_after, uncrowded}
 use Rattle.cxl_session.proofs.session.Session.open.Goals as goal
 
@@ -30,6 +32,59 @@ returns-in_err-founds-clause-filled g c = λ n has more.
       | inl e ↦ inl (p.1 ∙ ap (λ (f : OpenFault). Err f) (p.2 ∙ same_fault c.in_err-founds.field-0.0 faults.Memory _ refl e))
       | inr e ↦ inr (p.1 ∙ ap (λ (f : OpenFault). Err f) (p.2 ∙ same_fault c.in_err-founds.field-0.0 (faults.Full n) _ refl e))
     ]
+
+pub returns-in_err-founds-clause-breached : goal.returns-in_err-founds-clause-breached
+returns-in_err-founds-clause-breached g c = λ has.
+    let p = err_from_is_err_and c.from_residual.result c.from_residual.ensures.1 in
+    let own = subst (λ (ws : List WindowFields). HasFirstBreach (system_of c.args.start c.args.topo ws)) (sym c.deref.ensures.value) has in
+    elim (c.in_err-founds.ensures.breached own) [
+      | inl e ↦ inl (p.1 ∙ ap (λ (f : OpenFault). Err f) (p.2 ∙ same_fault c.in_err-founds.field-0.0 faults.Memory _ refl e))
+      | inr e ↦ inr (e.0, p.1 ∙ ap (λ (f : OpenFault). Err f) (p.2 ∙ same_fault c.in_err-founds.field-0.0 (faults.Breach e.0) _ refl e.1))
+    ]
+
+pub returns-in_err-founds-clause-full : goal.returns-in_err-founds-clause-full
+returns-in_err-founds-clause-full g c = λ n is.
+    let p = err_from_is_err_and c.from_residual.result c.from_residual.ensures.1 in
+    let told : c.in_err-founds.field-0.0 ≡ faults.Full n = sym p.2 ∙ same_fault p.0 (faults.Full n) c.from_residual.result p.1 is in
+    let own = c.in_err-founds.ensures.full n (ap (λ (f : OpenFault). Err f) told) in
+    (subst (λ (ws : List WindowFields). HasRegions (system_of c.args.start c.args.topo ws) n) c.deref.ensures.value own.0, own.1)
+
+pub returns-in_err-founds-clause-bus : goal.returns-in_err-founds-clause-bus
+returns-in_err-founds-clause-bus g c = λ is.
+    let p = err_from_is_err_and c.from_residual.result c.from_residual.ensures.1 in
+    absurd (c.in_err-founds.ensures.no_bus (ap (λ (f : OpenFault). Err f) (sym p.2 ∙ same_fault p.0 faults.Bus c.from_residual.result p.1 is)))
+
+pub returns-in_err-founds-clause-half_enabled : goal.returns-in_err-founds-clause-half_enabled
+returns-in_err-founds-clause-half_enabled g c = λ is.
+    let p = err_from_is_err_and c.from_residual.result c.from_residual.ensures.1 in
+    absurd (c.in_err-founds.ensures.no_bus (ap (λ (f : OpenFault). Err f) (sym p.2 ∙ same_fault p.0 faults.Bus c.from_residual.result p.1 is)))
+
+pub returns-in_err-founds-clause-untouched : goal.returns-in_err-founds-clause-untouched
+returns-in_err-founds-clause-untouched g c = err_always c.from_residual.result _ (λ _ _. (refl, refl))
+
+pub returns-in_err-founds-clause-memory : goal.returns-in_err-founds-clause-memory
+returns-in_err-founds-clause-memory g c = λ _. (inl refl, inl refl)
+
+pub returns-in_err-founds-clause-counts : goal.returns-in_err-founds-clause-counts
+returns-in_err-founds-clause-counts g c = le_refl (g.R.Regs.state c.args.regs.now).faults
+
+pub returns-in_err-founds-clause-alone : goal.returns-in_err-founds-clause-alone
+returns-in_err-founds-clause-alone g c = refl
+
+pub returns-in_err-founds-clause-opened : goal.returns-in_err-founds-clause-opened
+returns-in_err-founds-clause-opened g c = not_ok _ c.from_residual.result _ c.from_residual.ensures.1
+
+pub returns-in_err-founds-clause-enabled : goal.returns-in_err-founds-clause-enabled
+returns-in_err-founds-clause-enabled g c = not_ok _ c.from_residual.result _ c.from_residual.ensures.1
+
+pub returns-in_err-founds-clause-handed : goal.returns-in_err-founds-clause-handed
+returns-in_err-founds-clause-handed g c = not_ok _ c.from_residual.result _ c.from_residual.ensures.1
+
+pub returns-in_err-founds-clause-image : goal.returns-in_err-founds-clause-image
+returns-in_err-founds-clause-image g c = not_ok _ c.from_residual.result _ c.from_residual.ensures.1
+
+pub returns-in_err-founds-clause-unswallowed : goal.returns-in_err-founds-clause-unswallowed
+returns-in_err-founds-clause-unswallowed g c = not_ok _ c.from_residual.result _ c.from_residual.ensures.1
 
 pub enable_endpoints-requires : goal.enable_endpoints-requires
 enable_endpoints-requires g c =

@@ -10,7 +10,7 @@ use Rattle.cxl_reply.specs.declared.details.ShownRow.{ShownRow}
 use Rattle.cxl_session.specs.State.{SessionState}
 use Rattle.cxl_session.specs.inner.Answering.{IsTurnFor}
 use Rattle.cxl_session.proofs.Acts.{untouched_by}
-use Rattle.cxl_session.proofs.Errors.{not_ok, at_any_err}
+use Rattle.cxl_opening.proofs.Errors.{not_ok, at_any_err}
 use Rattle.cxl_session.proofs.Shows.{IsShown, HasRead, rows_stand, shown_turn, unread_turn, unnamed_turn}
 use Rattle.cxl_session.proofs.session.Session.show.Goals as goal
 
