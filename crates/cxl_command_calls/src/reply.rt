@@ -3,13 +3,14 @@
 ghost use Rattle.std.specs.Prelude.{◌≡◌, length};
 ghost use Rattle.cxl_reply.specs.Conditions.{IsTold, HasKnownCode};
 
-use crate::common::{passes, topology_of};
+use crate::common::passes;
 use cxl_enc::Name;
 use cxl_reply::{
     BadLine, Begun, Carried, Counted, Lack, Named, Pending, Progress, Reply, Sizes, Spot, Why,
 };
 use cxl_text::{put_reply, short};
 use cxl_topo::Topo;
+use cxl_topofile::read_topo;
 use std::process::Abort;
 use told::is_told;
 
@@ -36,7 +37,9 @@ endpoint = [{ name = \"e0\", parent = \"hb0\", port = 0, ram = 0x80000000 },
 fn topology(rt: &(impl Abort + AllocGlobal)) -> Topo
     ensures { length result.nodes ≡ 11 }
 {
-    let topo = topology_of(rt, rt.alloc(), NODES);
+    let topo = read_topo(rt.alloc(), NODES.as_bytes())
+        .ok()
+        .expect(rt, "a topology");
     assert!(rt; topo.count() == 11);
     topo
 }

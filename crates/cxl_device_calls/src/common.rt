@@ -1,0 +1,9 @@
+//! What the tests of several modules compare with: `row_passes` of `cxl_calls`, since its bound `Abort` may stand in tests alone,
+//! so that no library can hold it for both.
+
+use std::process::Abort;
+
+/// Checks that the row at this place is right.
+pub fn row_passes(rt: &impl Abort, place: usize, right: bool) {
+    assert!(rt; right, "row {place}");
+}

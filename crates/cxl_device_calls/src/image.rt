@@ -1,0 +1,339 @@
+use crate::common::row_passes;
+use cxl_image::{Image, ImageFault, image_laws, one_image_reading, read_image, write_image};
+use cxl_regs::Effect;
+use cxl_topo::{Capacity, Name, Node, NodeKind, Parent, Topo};
+use std::alloc::Global;
+use std::process::Abort;
+use std::test::*;
+
+const ENDPOINT_CAP: u32 = 0x1b02;
+
+fn bridge(rt: &impl Abort, name: &[u8], uid: u32, forwards: bool) -> Node {
+    Node {
+        name: Name::read(name).expect(rt, "a name"),
+        kind: NodeKind::Bridge(uid),
+        parent: None,
+        cap: if forwards { 0x10 } else { 0x382 },
+        forwards,
+    }
+}
+
+fn endpoint(rt: &impl Abort, name: &[u8], bridge: u32) -> Node {
+    let two_gib = Capacity {
+        ram: 0x8000_0000,
+        pmem: 0,
+    };
+    Node {
+        name: Name::read(name).expect(rt, "a name"),
+        kind: NodeKind::Endpoint(two_gib),
+        parent: Some(Parent {
+            node: bridge,
+            port: 0,
+        }),
+        cap: ENDPOINT_CAP,
+        forwards: false,
+    }
+}
+
+/// Two bridges with an endpoint each.
+pub(crate) fn topology(rt: &impl Abort, alloc: Global, forwards: bool) -> Topo {
+    let nodes = [
+        bridge(rt, b"hb0", 0, forwards),
+        bridge(rt, b"hb1", 1, forwards),
+        endpoint(rt, b"e0", 0),
+        endpoint(rt, b"e1", 1),
+    ];
+    let nodes = Vec::from_slice(alloc, &nodes).expect(rt, "memory");
+    Topo::new(alloc, nodes, 65_536)
+        .ok()
+        .expect(rt, "a legal tree")
+}
+
+/// The image of a topology after reset.
+pub(crate) fn after_reset(rt: &impl Abort, alloc: Global, topo: &Topo) -> Image {
+    Image::new(alloc, topo).expect(rt, "memory")
+}
+
+/// The bytes of an image's file.
+pub(crate) fn text_of(rt: &impl Abort, alloc: Global, image: &Image) -> Vec<u8> {
+    write_image(alloc, image).expect(rt, "memory")
+}
+
+fn reset_file(rt: &impl Abort, alloc: Global, topo: &Topo) -> Vec<u8> {
+    let image = after_reset(rt, alloc, topo);
+    text_of(rt, alloc, &image)
+}
+
+/// The file with the byte at a place changed.
+fn with_byte(rt: &impl Abort, alloc: Global, bytes: &[u8], at: usize, byte: u8) -> Vec<u8> {
+    let mut changed = bytes.to_vec(alloc).expect(rt, "memory");
+    *changed.get_mut(at).expect(rt, "a place in the file") = byte;
+    changed
+}
+
+fn read(rt: &impl Abort, alloc: Global, topo: &Topo, bytes: &[u8]) -> Image {
+    read_image(alloc, bytes, topo).ok().expect(rt, "an image")
+}
+
+/// Whether an image is written as these bytes.
+fn has_text(rt: &impl Abort, alloc: Global, image: &Image, want: &[u8]) -> bool {
+    text_of(rt, alloc, image).as_slice() == want
+}
+
+/// Whether a file is read, and written as these bytes.
+fn is_written(rt: &impl Abort, alloc: Global, topo: &Topo, bytes: &[u8], want: &[u8]) -> bool {
+    let image = read(rt, alloc, topo, bytes);
+    has_text(rt, alloc, &image, want)
+}
+
+/// Whether a file is refused for this fault.
+fn is_refused(alloc: Global, topo: &Topo, bytes: &[u8], want: ImageFault) -> bool {
+    match read_image(alloc, bytes, topo) {
+        Ok(_) => false,
+        Err(fault) => fault == want,
+    }
+}
+
+fn is_cap(image: &Image, node: u32, cap: u32) -> bool {
+    node < image.count() && image.block(node).cap() == cap
+}
+
+fn is_reset(image: &Image) -> bool {
+    image.count() == 4 && image.blocks().len() == 4 && is_cap(image, 3, ENDPOINT_CAP)
+}
+
+#[test]
+fn the_reset_image(rt: HostRuntime) {
+    let topo = topology(&rt, rt.alloc(), false);
+    let image = after_reset(&rt, rt.alloc(), &topo);
+    assert!(rt; is_reset(&image));
+}
+
+fn is_reset_file(bytes: &[u8]) -> bool {
+    bytes.len() == 588 && bytes.starts_with(b"CXLHDM01\x04\x00\x00\x00\x82\x03\x00\x00")
+}
+
+#[test]
+fn the_reset_file(rt: HostRuntime) {
+    let topo = topology(&rt, rt.alloc(), false);
+    let whole = reset_file(&rt, rt.alloc(), &topo);
+    assert!(rt; is_reset_file(&whole));
+    assert!(rt; is_written(&rt, rt.alloc(), &topo, &whole, &whole));
+    drops_what_does_not_count(&rt, rt.alloc(), &topo, &whole);
+}
+
+#[test]
+fn the_file_of_forwarding_bridges(rt: HostRuntime) {
+    let topo = topology(&rt, rt.alloc(), true);
+    let bytes = reset_file(&rt, rt.alloc(), &topo);
+    assert!(rt; bytes.len() == 396);
+}
+
+#[test]
+fn laws() {
+    one_image_reading();
+    image_laws();
+}
+
+/// The place of a byte that is changed, the byte, and the first fault.
+struct FirstFault {
+    at: usize,
+    byte: u8,
+    fault: ImageFault,
+}
+
+/// Whether a file with a byte changed is refused for this fault.
+fn is_refused_with(
+    rt: &impl Abort,
+    alloc: Global,
+    topo: &Topo,
+    whole: &[u8],
+    row: &FirstFault,
+) -> bool {
+    let bytes = with_byte(rt, alloc, whole, row.at, row.byte);
+    is_refused(alloc, topo, &bytes, row.fault)
+}
+
+fn have_first_faults(rt: &impl Abort, alloc: Global, topo: &Topo, whole: &[u8]) {
+    for (i, row) in FIRST_FAULTS.iter().enumerate() {
+        row_passes(rt, i, is_refused_with(rt, alloc, topo, whole, row));
+    }
+}
+
+const FIRST_FAULTS: &[FirstFault] = &[
+    FirstFault {
+        at: 0,
+        byte: 0x63,
+        fault: ImageFault::Magic,
+    },
+    FirstFault {
+        at: 7,
+        byte: 0x32,
+        fault: ImageFault::Magic,
+    },
+    FirstFault {
+        at: 8,
+        byte: 0x05,
+        fault: ImageFault::Nodes(5),
+    },
+    FirstFault {
+        at: 11,
+        byte: 0x01,
+        fault: ImageFault::Nodes(0x0100_0004),
+    },
+    FirstFault {
+        at: 12,
+        byte: 0x83,
+        fault: ImageFault::Caps(0),
+    },
+    FirstFault {
+        at: 13,
+        byte: 0x0b,
+        fault: ImageFault::Caps(0),
+    },
+    FirstFault {
+        at: 157,
+        byte: 0x13,
+        fault: ImageFault::Caps(1),
+    },
+    FirstFault {
+        at: 444,
+        byte: 0x12,
+        fault: ImageFault::Caps(3),
+    },
+];
+
+/// Another number of nodes.
+const OTHER_NODES: FirstFault = FirstFault {
+    at: 8,
+    byte: 5,
+    fault: ImageFault::Nodes(5),
+};
+
+/// A number of nodes before a capability word, and that before what is cut.
+fn earlier_field_comes_first(rt: &impl Abort, alloc: Global, topo: &Topo, whole: &[u8]) -> bool {
+    let other = with_byte(rt, alloc, whole, 12, 0);
+    is_refused_with(rt, alloc, topo, &other, &OTHER_NODES)
+        && is_cut(alloc, topo, &other, 20, ImageFault::Caps(0))
+}
+
+/// Whether the first bytes of a file are refused for this fault.
+fn is_cut(alloc: Global, topo: &Topo, bytes: &[u8], len: u32, fault: ImageFault) -> bool {
+    match bytes.get(..len as usize) {
+        Some(front) => is_refused(alloc, topo, front, fault),
+        None => false,
+    }
+}
+
+fn byte_too_many_comes_last(rt: &impl Abort, alloc: Global, topo: &Topo, whole: &[u8]) -> bool {
+    let mut more = whole.to_vec(alloc).expect(rt, "memory");
+    more.push(0).expect(rt, "memory");
+    is_refused(alloc, topo, &more, ImageFault::Trailing(588))
+}
+
+fn each_prefix_is_cut(rt: &impl Abort, alloc: Global, topo: &Topo, whole: &[u8]) {
+    assert!(rt; whole.len() == 588);
+    for n in 0..588_u32 {
+        assert!(rt; is_cut(alloc, topo, whole, n, ImageFault::Cut(n)));
+    }
+}
+
+#[test]
+fn faults(rt: HostRuntime) {
+    let topo = topology(&rt, rt.alloc(), false);
+    let whole = reset_file(&rt, rt.alloc(), &topo);
+    have_first_faults(&rt, rt.alloc(), &topo, &whole);
+    assert!(rt; earlier_field_comes_first(&rt, rt.alloc(), &topo, &whole));
+    assert!(rt; byte_too_many_comes_last(&rt, rt.alloc(), &topo, &whole));
+    each_prefix_is_cut(&rt, rt.alloc(), &topo, &whole);
+}
+
+/// Bytes of the reset file that are read as the reset image: an unnamed bit of a capability word, a port's word 0x4, a
+/// word that is reserved, the low bits of a base, a bit of a control that is reserved, a decoder's last word, and the low
+/// bits of an endpoint's skip.
+const DROPPED: [(usize, u8); 8] = [
+    (13, 0x07),
+    (15, 0x80),
+    (16, 0x02),
+    (20, 0xff),
+    (28, 0xff),
+    (46, 0x01),
+    (56, 0xff),
+    (336, 0xff),
+];
+
+fn is_dropped(
+    rt: &impl Abort,
+    alloc: Global,
+    topo: &Topo,
+    whole: &[u8],
+    at: usize,
+    byte: u8,
+) -> bool {
+    let bytes = with_byte(rt, alloc, whole, at, byte);
+    is_written(rt, alloc, topo, &bytes, whole)
+}
+
+fn drops_what_does_not_count(rt: &impl Abort, alloc: Global, topo: &Topo, whole: &[u8]) {
+    for (i, (at, byte)) in DROPPED.iter().enumerate() {
+        row_passes(rt, i, is_dropped(rt, alloc, topo, whole, *at, *byte));
+    }
+}
+
+/// The reset file with two bytes changed.
+fn with_bytes(
+    rt: &impl Abort,
+    alloc: Global,
+    topo: &Topo,
+    first: (usize, u8),
+    second: (usize, u8),
+) -> Vec<u8> {
+    let whole = reset_file(rt, alloc, topo);
+    let once = with_byte(rt, alloc, &whole, first.0, first.1);
+    with_byte(rt, alloc, &once, second.0, second.1)
+}
+
+/// Whether the second decoder of a node is committed, for host addresses only, and of this size.
+fn has_second(image: &Image, node: u32, size: u64) -> bool {
+    if node >= image.count() || image.block(node).count() < 2 {
+        return false;
+    }
+    let decoder = image.block(node).decoder(1);
+    decoder.committed && decoder.host_only && decoder.size == size
+}
+
+/// Whether a file is kept, with the second decoder of the first endpoint.
+fn keeps_second(rt: &impl Abort, alloc: Global, topo: &Topo, bytes: &[u8]) -> bool {
+    let image = read(rt, alloc, topo, bytes);
+    has_text(rt, alloc, &image, bytes) && has_second(&image, 2, 0x2000_0000_0000)
+}
+
+/// A decoder that is committed behind one that is not: no writes lead to it, and a file may hold it.
+#[test]
+fn any_registers_are_read(rt: HostRuntime) {
+    let topo = topology(&rt, rt.alloc(), false);
+    let bytes = with_bytes(&rt, rt.alloc(), &topo, (365, 0x14), (361, 0x20));
+    assert!(rt; keeps_second(&rt, rt.alloc(), &topo, &bytes));
+}
+
+/// Whether a write to the third node has this effect.
+fn writes(image: &mut Image, off: u32, value: u32, effect: Effect) -> bool {
+    2 < image.count() && image.write32(2, off, value) == effect
+}
+
+/// It is enabled, and gets a size.
+fn writes_three(image: &mut Image) -> bool {
+    writes(image, 0x04, 0x2, Effect::Written)
+        && writes(image, 0x18, 0x1234_5678, Effect::Written)
+        && writes(image, 0x08, 0x1, Effect::Dropped)
+}
+
+#[test]
+fn writes_one_block(rt: HostRuntime) {
+    let topo = topology(&rt, rt.alloc(), false);
+    let mut image = after_reset(&rt, rt.alloc(), &topo);
+    assert!(rt; writes_three(&mut image));
+    let copy = image.copy(rt.alloc()).expect(&rt, "memory");
+    let want = with_bytes(&rt, rt.alloc(), &topo, (304, 0x02), (327, 0x10));
+    assert!(rt; has_text(&rt, rt.alloc(), &copy, &want));
+}
