@@ -18,7 +18,7 @@ use cxl_machine::{OpenFault, answers_are_told, live_regions_stay};
 use cxl_media::{MapMedia, Media, Roll, SimMedia};
 use cxl_model::Step;
 use cxl_reply::Reply;
-use cxl_script::{Command, LineFault, asked_commands_are_ranged, read_command};
+use cxl_script::{BadLine, Command, LineFault, asked_commands_are_ranged, read_command};
 use cxl_session::Session;
 use cxl_text::put_reply;
 use cxl_topo::Topo;
@@ -52,6 +52,11 @@ fn opened<R: Regs, M: Roll>(
     let windows = windows_of(rt, alloc, script.table, topo.uids());
     let start = start_image(rt, alloc, script, &topo);
     Session::open(alloc, topo, windows, start, regs, media)
+}
+
+/// Appends what a line that asks for no command is answered.
+fn refuse(rt: &impl Abort, session: &Session, fault: BadLine, text: &mut Vec<u8>) {
+    put_reply(&Reply::BadLine(fault), session.topo(), text).expect(rt, "memory");
 }
 
 /// Carries out a command, and appends the text of its reply.
@@ -92,9 +97,7 @@ fn act_on_line<R: Regs, M: Roll>(
     match read_command(alloc, line.as_bytes()) {
         Ok(None) => {}
         Ok(Some(command)) => act(rt, alloc, session, &command, text, regs, media),
-        Err(LineFault::Bad(fault)) => {
-            put_reply(&Reply::BadLine(fault), session.topo(), text).expect(rt, "memory");
-        }
+        Err(LineFault::Bad(fault)) => refuse(rt, session, fault, text),
         Err(LineFault::Memory) => panic!(rt; "memory"),
     }
 }

@@ -385,7 +385,11 @@ fn asks_for(rt: &impl Abort, alloc: Global, line: &str, name: &str) -> bool {
     let mut files = table_file(rt, alloc, bytes(rt, alloc, TWO_BRIDGES));
     let mut sink = sink_of(rt, alloc, ROOM, 0);
     code_of_run(alloc, &words, &mut files, &mut sink);
-    let asked = files.asked();
+    is_only(files.asked(), name)
+}
+
+/// Whether this name is asked for, and no other.
+fn is_only(asked: &[String], name: &str) -> bool {
     asked.len() == 1 && asked[0].as_str() == name
 }
 

@@ -34,6 +34,18 @@ fn repeated(rt: &impl Abort, alloc: Global, parts: &[&[u8]], times: usize) -> Ve
     text
 }
 
+/// A script of the parts, so many times, whose read of this number fails, or none where that is 0.
+fn source_of(
+    rt: &impl Abort,
+    alloc: Global,
+    parts: &[&[u8]],
+    times: usize,
+    read: u64,
+) -> MemSource {
+    let lines = repeated(rt, alloc, parts, times);
+    MemSource::new(lines, [read].to_vec(alloc).expect(rt, "memory"))
+}
+
 /// Runs a script over two bridges with an endpoint each, and gives the exit status.
 fn code_of_script(
     rt: &impl Abort,
@@ -64,17 +76,21 @@ fn left_in(rt: &impl Abort, source: &mut MemSource) -> usize {
 /// Whether the run of a thousand lines, whose reads and writes of these numbers fail, ends so behind so many replies and
 /// leaves so many bytes of the script.
 fn ends(rt: &impl Abort, alloc: Global, read: u64, write: u64, code: u8, replies: usize) -> bool {
-    let lines = repeated(rt, alloc, &[LINE], LINES);
-    let mut source = MemSource::new(lines, [read].to_vec(alloc).expect(rt, "memory"));
+    let mut source = source_of(rt, alloc, &[LINE], LINES, read);
     let mut sink = sink_of(rt, alloc, ROOM, write);
     let mut regs = FailingBus::new(alloc, Vec::new(alloc));
     let status = code_of_script(rt, alloc, TWO_ENDPOINTS, &mut source, &mut sink, &mut regs);
+    status == code && is_written(rt, alloc, sink.bytes(), code, replies)
+}
+
+/// Whether these bytes are so many replies, and the error where the script was not read to its end.
+fn is_written(rt: &impl Abort, alloc: Global, bytes: &[u8], code: u8, replies: usize) -> bool {
     let mut text = repeated(rt, alloc, &[ANSWER], replies);
     if code == 5 {
         text.extend_from_slice(b"error: script read failed\n")
             .expect(rt, "memory");
     }
-    status == code && sink.bytes() == text.as_slice()
+    bytes == text.as_slice()
 }
 
 /// A reply is one write, and each stands before the next line is carried out.
@@ -103,8 +119,7 @@ fn source_fails_at_each_read(rt: HostRuntime) {
 
 /// How many bytes of a script of a thousand lines are left where the write of this number fails.
 fn left_behind(rt: &impl Abort, alloc: Global, write: u64) -> usize {
-    let lines = repeated(rt, alloc, &[LINE], LINES);
-    let mut source = MemSource::new(lines, Vec::new(alloc));
+    let mut source = source_of(rt, alloc, &[LINE], LINES, 0);
     let mut sink = sink_of(rt, alloc, ROOM, write);
     let mut regs = FailingBus::new(alloc, Vec::new(alloc));
     code_of_script(rt, alloc, TWO_ENDPOINTS, &mut source, &mut sink, &mut regs);
@@ -123,8 +138,7 @@ fn reads_no_block_ahead(rt: HostRuntime) {
 /// Whether a create whose bus fails at this call is undone, and made when it is asked for again: behind the words that
 /// enable the endpoints stand those that were made and taken back, and then all of the create.
 fn is_undone(rt: &impl Abort, alloc: Global, call: u64) -> bool {
-    let lines = repeated(rt, alloc, &[CREATE], 2);
-    let mut source = MemSource::new(lines, Vec::new(alloc));
+    let mut source = source_of(rt, alloc, &[CREATE], 2, 0);
     let mut sink = sink_of(rt, alloc, ROOM, 0);
     let fails = [call].to_vec(alloc).expect(rt, "memory");
     let mut regs = FailingBus::new(alloc, fails);
@@ -172,8 +186,7 @@ fn one_frame_serves_a_thousand_regions(rt: HostRuntime) {
     let alloc = rt.alloc();
     let turn: [&[u8]; 3] = [CREATE, b"store 0x100000000 11\n", b"destroy r0\n"];
     let told: [&[u8]; 3] = [CREATED, b"stored 1\n", b"destroyed r0\n"];
-    let lines = repeated(&rt, alloc, &turn, 1_000);
-    let mut source = MemSource::new(lines, Vec::new(alloc));
+    let mut source = source_of(&rt, alloc, &turn, 1_000, 0);
     let mut sink = sink_of(&rt, alloc, ROOM, 0);
     let mut regs = FailingBus::new(alloc, Vec::new(alloc));
     let code = code_of_script(&rt, alloc, ONE_FRAME, &mut source, &mut sink, &mut regs);
