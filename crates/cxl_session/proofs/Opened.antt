@@ -38,7 +38,7 @@ use Rattle.cxl_model.specs.Listed.{region_limit}
 use Rattle.cxl_machine.specs.Sound.{IsMachine, Opens, auto_name, block_told, opened_region, enabled_blocks}
 use Rattle.cxl_session.specs.State.{SessionState}
 use Rattle.cxl_session.specs.Standing.{IsKeptIn, StandsFor, IsAt}
-use Rattle.cxl_opening.specs.Opening.{endpoints_in, enabling, empty_media, IsHalfEnabled, HasRegions}
+use Rattle.cxl_opening.specs.Opening.{endpoints_in, enabling, IsHalfEnabled, HasRegions}
 use Rattle.cxl_opening.specs.Opened.{opened_machine, CanOpen, AreRoutesOf, StopsEnabling}
 use Rattle.cxl_opening.proofs.Enabling.{enabled_all, endpoints_there, places_there}
 use Rattle.cxl_opening.proofs.Zipped.{zip_weaker}

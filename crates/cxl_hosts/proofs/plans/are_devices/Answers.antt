@@ -1,4 +1,4 @@
-use Rattle.std.proofs.Common.{◌≡◌, ℕ, true, List, All, take, subst, rules, arith}
+use Rattle.std.proofs.Common.{◌≡◌, ℕ, true, List, All, subst, rules, arith}
 use Rattle.std.proofs.lemmas.List.{take_all}
 use Rattle.std.proofs.lemmas.List.Elements.{All-more}
 use Rattle.cxl_topo.specs.Tree.{is_endpoint_at}

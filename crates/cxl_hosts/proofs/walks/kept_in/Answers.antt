@@ -1,4 +1,4 @@
-use Rattle.std.proofs.Common.{List, All, sym, subst}
+use Rattle.std.proofs.Common.{sym, subst}
 use Rattle.std.proofs.lemmas.List.Elements.{All-get_or}
 use Rattle.cxl_model.specs.System.{System, system_of}
 use Rattle.cxl_model.specs.Regions.{IsRegion}
