@@ -7,6 +7,7 @@ use crate::common::{list, prints, repeated, row_passes, shows};
 use cxl_io::{
     FetchFault, MemSink, NumFault, Sink, StdSink, put_hex, put_number, read_number, write_all,
 };
+use std::io;
 use std::process::Abort;
 
 /// Words, and the numbers that they stand for, as debug text.
@@ -178,7 +179,7 @@ fn failing_sink(rt: HostRuntime) {
 
 #[test]
 fn standard_output(rt: HostRuntime) {
-    assert!(rt; writes(&mut StdSink::new(&rt), "written\n"));
+    assert!(rt; writes(&mut StdSink::new(io::writer(&rt)), "written\n"));
 }
 
 #[test]

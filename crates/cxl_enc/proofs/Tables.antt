@@ -2,10 +2,8 @@
 use Rattle.std.proofs.Common.{◌≡◌, ◌≤◌, ℕ, zero, suc, true, false, ltb, leb, ◌*◌, ◌^◌, cond, eqb, Option, Some, None, refl, sym, subst, arith}
 use Rattle.std.proofs.lemmas.Bool.{le-ltb, le-leb, eqb-true, false≢true}
 use Rattle.std.specs.Prelude.{IsTrue, is_some, IfSome}
+use Rattle.std.proofs.lemmas.Option.{same_Some}
 use Rattle.cxl_enc.specs.Codes.{ways_of, granularity_of, code_in_table, gran_code_in_table, is_ways, third_of, bits_of}
-
-some_is : (a b : ℕ) → Some a ≡ Some b → a ≡ b
-some_is a b e = cc
 
 -- a value is there
 abbrev IsNothing : Option ℕ → Type 0
@@ -23,31 +21,31 @@ past_ways code w past e =
     let from : leb 8 code ≡ true = le-leb 8 code (omega arith) in
     no_some w (rw (low, from, high) at e)
 
-past_granularity : (code b : ℕ) → 7 ≤ code → granularity_of code ≡ Some b → ⊥
+pub past_granularity : (code b : ℕ) → 7 ≤ code → granularity_of code ≡ Some b → ⊥
 past_granularity code b past e = let high : ltb code 7 ≡ false = le-ltb code 7 past in no_some b (rw high at e)
 
 pub code_is : (code w : ℕ) → ways_of code ≡ Some w → code_in_table w ≡ Some code
-code_is zero w e = subst (λ (v : ℕ). code_in_table v ≡ Some 0) (some_is 1 w e) refl
-code_is (suc zero) w e = subst (λ (v : ℕ). code_in_table v ≡ Some 1) (some_is 2 w e) refl
-code_is (suc (suc zero)) w e = subst (λ (v : ℕ). code_in_table v ≡ Some 2) (some_is 4 w e) refl
-code_is (suc (suc (suc zero))) w e = subst (λ (v : ℕ). code_in_table v ≡ Some 3) (some_is 8 w e) refl
-code_is (suc (suc (suc (suc zero)))) w e = subst (λ (v : ℕ). code_in_table v ≡ Some 4) (some_is 16 w e) refl
+code_is zero w e = subst (λ (v : ℕ). code_in_table v ≡ Some 0) (same_Some 1 w e) refl
+code_is (suc zero) w e = subst (λ (v : ℕ). code_in_table v ≡ Some 1) (same_Some 2 w e) refl
+code_is (suc (suc zero)) w e = subst (λ (v : ℕ). code_in_table v ≡ Some 2) (same_Some 4 w e) refl
+code_is (suc (suc (suc zero))) w e = subst (λ (v : ℕ). code_in_table v ≡ Some 3) (same_Some 8 w e) refl
+code_is (suc (suc (suc (suc zero)))) w e = subst (λ (v : ℕ). code_in_table v ≡ Some 4) (same_Some 16 w e) refl
 code_is (suc (suc (suc (suc (suc zero))))) w e = absurd (no_some w e)
 code_is (suc (suc (suc (suc (suc (suc zero)))))) w e = absurd (no_some w e)
 code_is (suc (suc (suc (suc (suc (suc (suc zero))))))) w e = absurd (no_some w e)
-code_is (suc (suc (suc (suc (suc (suc (suc (suc zero)))))))) w e = subst (λ (v : ℕ). code_in_table v ≡ Some 8) (some_is 3 w e) refl
-code_is (suc (suc (suc (suc (suc (suc (suc (suc (suc zero))))))))) w e = subst (λ (v : ℕ). code_in_table v ≡ Some 9) (some_is 6 w e) refl
-code_is (suc (suc (suc (suc (suc (suc (suc (suc (suc (suc zero)))))))))) w e = subst (λ (v : ℕ). code_in_table v ≡ Some 10) (some_is 12 w e) refl
+code_is (suc (suc (suc (suc (suc (suc (suc (suc zero)))))))) w e = subst (λ (v : ℕ). code_in_table v ≡ Some 8) (same_Some 3 w e) refl
+code_is (suc (suc (suc (suc (suc (suc (suc (suc (suc zero))))))))) w e = subst (λ (v : ℕ). code_in_table v ≡ Some 9) (same_Some 6 w e) refl
+code_is (suc (suc (suc (suc (suc (suc (suc (suc (suc (suc zero)))))))))) w e = subst (λ (v : ℕ). code_in_table v ≡ Some 10) (same_Some 12 w e) refl
 code_is (suc (suc (suc (suc (suc (suc (suc (suc (suc (suc (suc n))))))))))) w e = absurd (past_ways (suc (suc (suc (suc (suc (suc (suc (suc (suc (suc (suc n))))))))))) w (omega arith) e)
 
 pub gran_code_is : (code b : ℕ) → granularity_of code ≡ Some b → gran_code_in_table b ≡ Some code
-gran_code_is zero b e = subst (λ (v : ℕ). gran_code_in_table v ≡ Some 0) (some_is 256 b e) refl
-gran_code_is (suc zero) b e = subst (λ (v : ℕ). gran_code_in_table v ≡ Some 1) (some_is 512 b e) refl
-gran_code_is (suc (suc zero)) b e = subst (λ (v : ℕ). gran_code_in_table v ≡ Some 2) (some_is 1024 b e) refl
-gran_code_is (suc (suc (suc zero))) b e = subst (λ (v : ℕ). gran_code_in_table v ≡ Some 3) (some_is 2048 b e) refl
-gran_code_is (suc (suc (suc (suc zero)))) b e = subst (λ (v : ℕ). gran_code_in_table v ≡ Some 4) (some_is 4096 b e) refl
-gran_code_is (suc (suc (suc (suc (suc zero))))) b e = subst (λ (v : ℕ). gran_code_in_table v ≡ Some 5) (some_is 8192 b e) refl
-gran_code_is (suc (suc (suc (suc (suc (suc zero)))))) b e = subst (λ (v : ℕ). gran_code_in_table v ≡ Some 6) (some_is 16384 b e) refl
+gran_code_is zero b e = subst (λ (v : ℕ). gran_code_in_table v ≡ Some 0) (same_Some 256 b e) refl
+gran_code_is (suc zero) b e = subst (λ (v : ℕ). gran_code_in_table v ≡ Some 1) (same_Some 512 b e) refl
+gran_code_is (suc (suc zero)) b e = subst (λ (v : ℕ). gran_code_in_table v ≡ Some 2) (same_Some 1024 b e) refl
+gran_code_is (suc (suc (suc zero))) b e = subst (λ (v : ℕ). gran_code_in_table v ≡ Some 3) (same_Some 2048 b e) refl
+gran_code_is (suc (suc (suc (suc zero)))) b e = subst (λ (v : ℕ). gran_code_in_table v ≡ Some 4) (same_Some 4096 b e) refl
+gran_code_is (suc (suc (suc (suc (suc zero))))) b e = subst (λ (v : ℕ). gran_code_in_table v ≡ Some 5) (same_Some 8192 b e) refl
+gran_code_is (suc (suc (suc (suc (suc (suc zero)))))) b e = subst (λ (v : ℕ). gran_code_in_table v ≡ Some 6) (same_Some 16384 b e) refl
 gran_code_is (suc (suc (suc (suc (suc (suc (suc n))))))) b e = absurd (past_granularity (suc (suc (suc (suc (suc (suc (suc n))))))) b (omega arith) e)
 
 -- a look-up that finds something was found by one of its tests
@@ -78,17 +76,17 @@ pub record Factored (w : ℕ) : Type 0 where
   pub few : bits_of w ≤ 4
 
 by_code : (code w : ℕ) → ways_of code ≡ Some w → Factored w
-by_code zero w e = subst Factored (some_is 1 w e) (record { product = refl; few = omega arith })
-by_code (suc zero) w e = subst Factored (some_is 2 w e) (record { product = refl; few = omega arith })
-by_code (suc (suc zero)) w e = subst Factored (some_is 4 w e) (record { product = refl; few = omega arith })
-by_code (suc (suc (suc zero))) w e = subst Factored (some_is 8 w e) (record { product = refl; few = omega arith })
-by_code (suc (suc (suc (suc zero)))) w e = subst Factored (some_is 16 w e) (record { product = refl; few = omega arith })
+by_code zero w e = subst Factored (same_Some 1 w e) (record { product = refl; few = omega arith })
+by_code (suc zero) w e = subst Factored (same_Some 2 w e) (record { product = refl; few = omega arith })
+by_code (suc (suc zero)) w e = subst Factored (same_Some 4 w e) (record { product = refl; few = omega arith })
+by_code (suc (suc (suc zero))) w e = subst Factored (same_Some 8 w e) (record { product = refl; few = omega arith })
+by_code (suc (suc (suc (suc zero)))) w e = subst Factored (same_Some 16 w e) (record { product = refl; few = omega arith })
 by_code (suc (suc (suc (suc (suc zero))))) w e = absurd (no_some w e)
 by_code (suc (suc (suc (suc (suc (suc zero)))))) w e = absurd (no_some w e)
 by_code (suc (suc (suc (suc (suc (suc (suc zero))))))) w e = absurd (no_some w e)
-by_code (suc (suc (suc (suc (suc (suc (suc (suc zero)))))))) w e = subst Factored (some_is 3 w e) (record { product = refl; few = omega arith })
-by_code (suc (suc (suc (suc (suc (suc (suc (suc (suc zero))))))))) w e = subst Factored (some_is 6 w e) (record { product = refl; few = omega arith })
-by_code (suc (suc (suc (suc (suc (suc (suc (suc (suc (suc zero)))))))))) w e = subst Factored (some_is 12 w e) (record { product = refl; few = omega arith })
+by_code (suc (suc (suc (suc (suc (suc (suc (suc zero)))))))) w e = subst Factored (same_Some 3 w e) (record { product = refl; few = omega arith })
+by_code (suc (suc (suc (suc (suc (suc (suc (suc (suc zero))))))))) w e = subst Factored (same_Some 6 w e) (record { product = refl; few = omega arith })
+by_code (suc (suc (suc (suc (suc (suc (suc (suc (suc (suc zero)))))))))) w e = subst Factored (same_Some 12 w e) (record { product = refl; few = omega arith })
 by_code (suc (suc (suc (suc (suc (suc (suc (suc (suc (suc (suc n))))))))))) w e = absurd (past_ways (suc (suc (suc (suc (suc (suc (suc (suc (suc (suc (suc n))))))))))) w (omega arith) e)
 
 by_found : (w : ℕ) (found_code : Option ℕ) → IsTrue (is_some found_code) → IfSome found_code (λ code. ways_of code ≡ Some w) → Factored w

@@ -1,8 +1,6 @@
 -- Names of nodes and regions.
-use Rattle.std.specs.Prelude.{◌≡◌, ℕ, ◌+◌, ◌-◌, ◌<◌, ◌≤◌, Bool, ◌&&◌, ◌||◌, ◌==◌, nat_le, IsTrue, List, ◌++◌, length, take, replicate}
+use Rattle.std.specs.Prelude.{◌≡◌, ℕ, ◌-◌, ◌<◌, ◌≤◌, Bool, ◌&&◌, ◌||◌, ◌==◌, nat_le, IsTrue, List, ◌++◌, length, take, replicate}
 use Rattle.std.specs.List.{list_all}
-use Rattle.std.proofs.Common.{ap, ◌∙◌, arith}
-use Rattle.std.proofs.lemmas.List.{length-append, length-take, length-replicate}
 
 -- an ASCII letter or digit, or `_`
 abbrev pub is_name_byte : ℕ → Bool
@@ -27,12 +25,3 @@ pub record IsPadded (len : ℕ) (room : List ℕ) : Type 0 where
   pub name : IsName (take len room)
   pub fits : len ≤ 15
   pub zeros : room ≡ padded (take len room)
-
--- so many bytes of the room are the name
-pub length-take_padded : (len : ℕ) (room : List ℕ) → IsPadded len room → length (take len room) ≡ len
-length-take_padded len room padded_so =
-    let all : length room ≡ length (take len room) + (15 - length (take len room)) =
-    ap length padded_so.zeros ∙ length-append (take len room) (replicate (15 - length (take len room)) 0)
-    ∙ ap (λ (n : ℕ). length (take len room) + n) (length-replicate (15 - length (take len room)) 0) in
-    let fits = padded_so.fits in
-    omega (arith, length-take len room)

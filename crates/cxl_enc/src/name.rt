@@ -29,8 +29,7 @@ impl Model for Name {
     ghost inverse = { λ bytes. record { len = length bytes; room = padded bytes } };
 
     ghost use Rattle.std.proofs.Common.{sym};
-    ghost use Rattle.cxl_enc.specs.Name.{length-take_padded};
-    ghost use Rattle.cxl_enc.specs.inner.Name.{same_inside};
+    ghost use Rattle.cxl_enc.specs.inner.Name.{length-take_padded, same_inside};
 
     ghost inverse_ok = { λ name h. same_inside (length-take_padded name.len name.room h) (sym h.zeros) };
 }

@@ -6,3 +6,4 @@ pub mod FirstByte
 pub mod LineBreaks
 pub mod Reading
 pub mod HasRead
+pub mod WholeFiles

@@ -5,6 +5,7 @@ use Rattle.std.specs.Prelude.{position, nat_lt}
 use Rattle.std.proofs.lemmas.Bool.{eqb-true, ltb-true, ltb-false}
 use Rattle.std.proofs.lemmas.List.{append-nil}
 use Rattle.std.specs.Str.Lines.{strip_carriage_return}
+use Rattle.cxl_enc.proofs.Options.{some_if, none_if}
 use Rattle.cxl_io.specs.Lines.{first_piece, later_pieces, lines_in, ended_in, lines_of, ended_lines, IsFirstLine, HasPassed}
 
 -- ---- pieces
@@ -143,21 +144,13 @@ no_break (b ∷ bytes) e =
     beyond true n m e = absurd (omega arith)
     beyond false n m e = (refl, omega arith)
 
-found_at : (t : Bool) (p n : ℕ) → cond t (Some p) None ≡ Some n → (t ≡ true) × (n ≡ p)
-found_at true p n e = (refl, cc)
-found_at false p n e = absurd (cc)
-
-found_none : (t : Bool) (p : ℕ) → cond t (Some p) None ≡ None → t ≡ false
-found_none true p e = cc
-found_none false p e = refl
-
 pub break_found : (bytes : List ℕ) (n : ℕ) → position (λ byte. byte == 10) bytes ≡ Some n → (n < length bytes) × IsBreakAt bytes n
 break_found bytes n e =
-    let found = found_at (nat_lt (position_or_len (λ byte. byte == 10) bytes) (length bytes)) (position_or_len (λ byte. byte == 10) bytes) n e in
+    let found = some_if (nat_lt (position_or_len (λ byte. byte == 10) bytes) (length bytes)) (position_or_len (λ byte. byte == 10) bytes) n e in
     let within : n < length bytes = subst (λ k. k < length bytes) (sym found.1) (ltb-true (position_or_len (λ byte. byte == 10) bytes) (length bytes) found.0) in
     (within, break_at bytes n found.1 within)
 
 pub break_none : (bytes : List ℕ) → position (λ byte. byte == 10) bytes ≡ None → ended_lines bytes ≡ []
 break_none bytes e =
-    let none = found_none (nat_lt (position_or_len (λ byte. byte == 10) bytes) (length bytes)) (position_or_len (λ byte. byte == 10) bytes) e in
+    let none = none_if (nat_lt (position_or_len (λ byte. byte == 10) bytes) (length bytes)) (position_or_len (λ byte. byte == 10) bytes) e in
     later-unbroken bytes (no_break bytes (ltb-false (position_or_len (λ byte. byte == 10) bytes) (length bytes) none))

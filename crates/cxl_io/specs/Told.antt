@@ -18,6 +18,16 @@ AreTold Untold bytes = Unit {0}
 AreTold Absent bytes = ⊥
 AreTold (Bytes told) bytes = bytes ≡ told
 
+-- what is told of a list by one who told `first` of it at first: where that was nothing, still nothing
+abbrev pub told_since : Option (List ℕ) → Option (List ℕ) → Option (List ℕ)
+told_since None now = None
+told_since (Some first) now = now
+
+-- what is told of a file by what is told of the bytes that its reader has left
+abbrev pub told_by : Option (List ℕ) → Told
+told_by None = Untold
+told_by (Some bytes) = Bytes bytes
+
 -- what is told of a list, with these in front
 abbrev pub told_behind : {A : Type 0} → List A → Option (List A) → Option (List A)
 told_behind front None = None

@@ -1,8 +1,9 @@
-ghost use Rattle.std.specs.Prelude.{◌≡◌, ◌≢◌, ◌≤◌, true, None, Err, IfOk};
+ghost use Rattle.std.specs.Prelude.{◌≡◌, ◌≢◌, ◌+◌, ◌≤◌, true, None, Err, IfOk, IfSome, take};
 ghost use Rattle.cxl_enc.specs.Faults.{Rose};
 ghost use Rattle.cxl_enc.specs.Counters.{next_count};
-ghost use Rattle.cxl_io.specs.Fetch.{IsFile};
-ghost use Rattle.cxl_io.specs.Told.{Untold};
+ghost use Rattle.cxl_enc.specs.Limits.{file_limit};
+ghost use Rattle.cxl_io.specs.Fetch.{IsFile, IsTooLarge};
+ghost use Rattle.cxl_io.specs.Told.{Untold, told_by};
 
 use crate::fetch::{Fetch, FetchFault};
 use cxl_enc::FILE_LIMIT;
@@ -50,23 +51,45 @@ impl<R: Files> Fetch for StdFetch<R> {
         ensures raised { result ≡ Err FetchFault.Failed → self.new ≡ next_count self.old }
         ensures kept { (result ≢ Err FetchFault.Failed) → self.new ≡ self.old }
     {
-        let mut file = Vec::new(alloc);
-        match read_to_limit(&self.rt, name, &mut file) {
-            Ok(()) if file.len() > FILE_LIMIT => Err(FetchFault::TooLarge),
-            Ok(()) => Ok(file),
-            Err(e) if e.kind() == ErrorKind::OutOfMemory => Err(FetchFault::Memory),
-            Err(_) => {
-                self.faults = self.faults.saturating_add(1);
-                Err(FetchFault::Failed)
-            }
+        let answer = match File::open(&self.rt, name) {
+            Ok(file) => whole_file(alloc, file),
+            Err(e) => Err(fault_of(&e)),
+        };
+        if let Err(FetchFault::Failed) = &answer {
+            self.faults = self.faults.saturating_add(1);
         }
+        answer
     }
 }
 
-/// Appends the file, or its first bytes, one more than a file may have.
-fn read_to_limit<R: Files>(rt: &R, name: &str, into: &mut Vec<u8>) -> io::Result<()> {
-    File::open(rt, name)?
-        .take(FILE_LIMIT as u64 + 1)
-        .read_to_end(into)?;
-    Ok(())
+/// All that a reader has left, as a file.
+fn whole_file<F: Read + Drop>(alloc: Global, file: F) -> Result<Vec<u8>, FetchFault>
+    ensures ok { IfOk result (λ bytes. IsFile (told_by (F.remaining file)) bytes.items) }
+    ensures too_large { result ≡ Err FetchFault.TooLarge → IsTooLarge (told_by (F.remaining file)) }
+{
+    match read_to_limit(alloc, file) {
+        Ok(bytes) if bytes.len() > FILE_LIMIT => Err(FetchFault::TooLarge),
+        Ok(bytes) => Ok(bytes),
+        Err(e) => Err(fault_of(&e)),
+    }
+}
+
+/// The bytes that a reader has left, up to one more than a file may have.
+fn read_to_limit<F: Read + Drop>(alloc: Global, file: F) -> io::Result<Vec<u8>>
+    ensures { IfOk result (λ bytes. IfSome (F.remaining file) (λ left. bytes.items ≡ take (file_limit + 1) left)) }
+{
+    let mut bytes = Vec::new(alloc);
+    file.take(FILE_LIMIT as u64 + 1).read_to_end(&mut bytes)?;
+    Ok(bytes)
+}
+
+/// Want of memory is none of the file's.
+fn fault_of(e: &io::Error) -> FetchFault
+    ensures { result ≢ FetchFault.TooLarge }
+{
+    if e.kind() == ErrorKind::OutOfMemory {
+        FetchFault::Memory
+    } else {
+        FetchFault::Failed
+    }
 }

@@ -1,8 +1,8 @@
 -- Granularity codes, as the table tells them.
-use Rattle.std.proofs.Common.{◌≡◌, ℕ, zero, suc, ◌≤◌, Bool, cond, ◌==◌, Option, Some, None, IfSome, refl, sym, ap, ◌∙◌, arith, inl, inr, eq-eqb}
+use Rattle.std.proofs.Common.{◌≡◌, ℕ, zero, suc, Bool, cond, ◌==◌, Option, Some, None, IfSome, refl, sym, ap, ◌∙◌, arith, inl, inr, eq-eqb}
 use Rattle.std.proofs.lemmas.Bool.{cases_eq, ne_eqb}
-use Rattle.std.proofs.lemmas.Bool.Decides.{nat_tests}
 use Rattle.cxl_enc.specs.Codes.{granularity_of, gran_code_in_table}
+use Rattle.cxl_enc.proofs.Tables.{past_granularity}
 
 -- one row of the table
 row : (bytes n i : ℕ) (rest code : Option ℕ) → (bytes ≡ n → code ≡ Some i) → ((bytes ≡ n → ⊥) → code ≡ rest) → code ≡ cond (bytes == n) (Some i) rest
@@ -11,9 +11,6 @@ row bytes n i rest code here behind =
       | inl e ↦ here e ∙ sym (ap (λ (t : Bool). cond t (Some i) rest) (eq-eqb bytes n e))
       | inr other ↦ behind other ∙ sym (ap (λ (t : Bool). cond t (Some i) rest) (ne_eqb bytes n other))
     ]
-
-above : (c bytes : ℕ) → 7 ≤ c → granularity_of c ≡ Some bytes → ⊥
-above c bytes large e = grind (arith, nat_tests)
 
 number : (n bytes : ℕ) → Some n ≡ Some bytes → bytes ≡ n
 number n bytes e = cc
@@ -27,7 +24,7 @@ none_stands (suc (suc (suc zero))) bytes e a0 a1 a2 a3 a4 a5 a6 = a3 (number 204
 none_stands (suc (suc (suc (suc zero)))) bytes e a0 a1 a2 a3 a4 a5 a6 = a4 (number 4096 bytes e)
 none_stands (suc (suc (suc (suc (suc zero))))) bytes e a0 a1 a2 a3 a4 a5 a6 = a5 (number 8192 bytes e)
 none_stands (suc (suc (suc (suc (suc (suc zero)))))) bytes e a0 a1 a2 a3 a4 a5 a6 = a6 (number 16384 bytes e)
-none_stands (suc (suc (suc (suc (suc (suc (suc c))))))) bytes e a0 a1 a2 a3 a4 a5 a6 = above (suc (suc (suc (suc (suc (suc (suc c))))))) bytes (omega arith) e
+none_stands (suc (suc (suc (suc (suc (suc (suc c))))))) bytes e a0 a1 a2 a3 a4 a5 a6 = past_granularity (suc (suc (suc (suc (suc (suc (suc c))))))) bytes (omega arith) e
 
 no_code : (bytes : ℕ) (code : Option ℕ) → IfSome code (λ c. granularity_of c ≡ Some bytes) → ((c : ℕ) → granularity_of c ≡ Some bytes → ⊥) → code ≡ None
 no_code bytes None known none = refl

@@ -1,0 +1,32 @@
+-- What reading a file up to one byte more than a file may have comes to.
+use Rattle.std.proofs.Common.{◌≡◌, ℕ, ◌+◌, ◌<◌, ◌≤◌, Option, None, Some, IfSome, List, [], ◌++◌, length, take, ap, subst, ◌∙◌, arith}
+use Rattle.std.proofs.lemmas.List.{length-take, take_all}
+use Rattle.std.specs.Io.Take.{take_limit, take_inner, take_remaining}
+use Rattle.std.specs.Option.{option_map}
+use Rattle.std.specs.declared.io.traits.Take.{Take}
+use Rattle.cxl_enc.specs.Limits.{file_limit}
+use Rattle.cxl_io.specs.Fetch.{IsFile, IsTooLarge}
+use Rattle.cxl_io.specs.Told.{told_by}
+
+-- ---- a reader cut at a limit, read to its end
+
+front_of : (bytes : List ℕ) (limit : ℕ) (known : Option (List ℕ)) → IfSome (option_map (take limit) known) (λ left. bytes ≡ [] ++ left) → IfSome known (λ left. bytes ≡ take limit left)
+front_of bytes limit None holds = tt
+front_of bytes limit (Some left) holds = holds
+
+pub front_read : {R : Type 0} (remaining : R → Option (List ℕ)) (cut : Take R) (file : R) (limit : ℕ) (before bytes : List ℕ) → take_limit cut ≡ limit → take_inner cut ≡ file → before ≡ []
+    → IfSome (take_remaining remaining cut) (λ left. bytes ≡ before ++ left) → IfSome (remaining file) (λ left. bytes ≡ take limit left)
+front_read remaining cut file limit before bytes limit_is inner_is none read =
+    subst (λ reader. IfSome (remaining reader) (λ left. bytes ≡ take limit left)) inner_is
+    (subst (λ n. IfSome (remaining (take_inner cut)) (λ left. bytes ≡ take n left)) limit_is
+    (front_of bytes (take_limit cut) (remaining (take_inner cut)) (subst (λ front. IfSome (take_remaining remaining cut) (λ left. bytes ≡ front ++ left)) none read)))
+
+-- ---- by how many bytes were read
+
+pub over_limit : (known : Option (List ℕ)) (bytes : List ℕ) → IfSome known (λ left. bytes ≡ take (file_limit + 1) left) → file_limit < length bytes → IsTooLarge (told_by known)
+over_limit None bytes front more = tt
+over_limit (Some left) bytes front more = let count = ap length front in omega (arith, count, length-take (file_limit + 1) left, more)
+
+pub within_limit : (known : Option (List ℕ)) (bytes : List ℕ) → IfSome known (λ left. bytes ≡ take (file_limit + 1) left) → length bytes ≤ file_limit → IsFile (told_by known) bytes
+within_limit None bytes front few = record { within = few; same = tt }
+within_limit (Some left) bytes front few = record { within = few; same = front ∙ take_all (file_limit + 1) left (let count = ap length front in omega (arith, count, length-take (file_limit + 1) left, few)) }

@@ -1,0 +1,13 @@
+use Rattle.std.proofs.Common.{arith}
+use Rattle.cxl_io.proofs.WholeFiles.{over_limit, within_limit}
+use Rattle.cxl_io.proofs.std_fetch.whole_file.Goals as goal
+
+pub returns-in-Ok-clause-too_large : goal.returns-in-Ok-clause-too_large
+returns-in-Ok-clause-too_large g c = λ _.
+    let bytes = c.in-Ok.bytes in
+    over_limit (g.F.Read.remaining c.args.file) bytes.items c.in-Ok.ensures (let more = c.if-len-gt-FILE_LIMIT.true in let count = c.len.ensures in omega (arith, more, count, bytes.ok.0))
+
+pub returns-in-Ok-2-clause-ok : goal.returns-in-Ok-2-clause-ok
+returns-in-Ok-2-clause-ok g c =
+    let bytes = c.in-Ok.bytes in
+    within_limit (g.F.Read.remaining c.args.file) bytes.items c.in-Ok.ensures (let few = c.if-len-gt-FILE_LIMIT.false in let count = c.len.ensures in omega (arith, few, count, bytes.ok.0))
