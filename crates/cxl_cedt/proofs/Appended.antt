@@ -7,11 +7,6 @@ use Rattle.cxl_cedt.specs.declared.cedt.Head.{Head}
 use Rattle.cxl_cedt.specs.Fields.{CximsFields}
 use Rattle.cxl_cedt.specs.Spelling.{number_bytes, numbers_bytes, frame, chbs_spelling, cxims_spelling, header}
 
--- what holds on success, holds of what follows from it
-pub on_ok : {T E : Type 0} (r : Result T E) (P Q : Type 0) → OnOk r P → (P → Q) → OnOk r Q
-on_ok (Ok done) P Q p follows = follows p
-on_ok (Err e) P Q p follows = tt
-
 -- and what holds anyway
 pub always : {T E : Type 0} (r : Result T E) (P : Type 0) → P → OnOk r P
 always (Ok done) P p = p

@@ -127,7 +127,7 @@ pub record SameStart (a b x y : List ℕ) (r s : Record) : Type 0 where
   pub rest : x ≡ y
   pub value : r ≡ s
 
-length_seen : (text more : List ℕ) (r : Record) → IsRecordText text r → length_said (text ++ more) ≡ length text
+pub length_seen : (text more : List ℕ) (r : Record) → IsRecordText text r → length_said (text ++ more) ≡ length text
 length_seen text more r h = let sound = is_sound text r h in length_front text more sound.long ∙ sound.said
 
 pub same_start : (a b x y : List ℕ) (r s : Record) → IsRecordText a r → IsRecordText b s → a ++ x ≡ b ++ y → SameStart a b x y r s

@@ -1,5 +1,5 @@
 -- Bytes have one table or one first fault, and never both.
-use Rattle.std.proofs.Common.{◌≡◌, ℕ, zero, suc, ◌+◌, ◌≤◌, Bool, true, false, cond, eqb, not, ◌%◌, List, [], ◌∷◌, ◌++◌, length, take, drop, sum, sum_by, Option, Some, None, Result, Ok, Err, refl, sym, ap, subst, ◌∙◌, ◌⊎◌, inl, inr, arith, length-append, length-drop}
+use Rattle.std.proofs.Common.{◌≡◌, ℕ, zero, suc, ◌+◌, ◌≤◌, true, false, eqb, not, ◌%◌, List, [], ◌∷◌, ◌++◌, length, take, drop, sum, sum_by, Option, Some, None, Result, Ok, Err, refl, sym, ap, subst, ◌∙◌, ◌⊎◌, inl, inr, arith, length-append, length-drop}
 use Rattle.std.specs.Prelude.{IfOk, IfErr}
 use Rattle.std.proofs.lemmas.List.{append-nil}
 use Rattle.std.proofs.lemmas.List.Sums.{sum_by-cons}
@@ -9,15 +9,18 @@ use Rattle.cxl_enc.specs.Limits.{file_limit}
 use Rattle.cxl_cedt.specs.declared.cedt.Head.{Head}
 use Rattle.cxl_cedt.specs.declared.cedt.Record.{Record}
 use Rattle.cxl_cedt.specs.declared.fault.CedtFault.{CedtFault}
+use Rattle.cxl_cedt.specs.declared.fault.CedtFault.TheVariants.{Memory}
 use Rattle.cxl_cedt.specs.CedtFields.{CedtFields}
 use Rattle.cxl_cedt.specs.Records.{kind_of, count_of, record_length, table_length, is_kind_full, HasFewOfEach}
-use Rattle.cxl_cedt.specs.Table.{field, some_bytes, has_signature, AreRecordTexts, IsTableText, length_said, header_fault, record_fault, IsRecordFault, FirstTableFault, HasTable, HasFault, IsFaultOf, IsAnswer}
+use Rattle.cxl_cedt.specs.Table.{field, has_signature, AreRecordTexts, IsTableText, length_said, header_fault, record_fault, IsRecordFault, FirstTableFault, HasTable, HasFault, IsFaultOf, IsAnswer, IsReadAs}
+use Rattle.cxl_cedt.specs.Reading.{head_in}
 use Rattle.cxl_cedt.specs.inner.Decoding.{record_of}
 use Rattle.cxl_cedt.specs.inner.Scan.{AreReadTo}
 use Rattle.cxl_cedt.proofs.Counts.{one_of, one_of_same, count_of-push, count_of-append, room_from}
 use Rattle.cxl_cedt.proofs.Sound.{is_sound, text_length}
 use Rattle.cxl_cedt.proofs.Fronts.{no_fault_at_record, has_record, Leads, leads_from, leads_to_end, one_goes_on}
 use Rattle.cxl_cedt.proofs.Scanning.{read_none, read_more, fault_there, all_read}
+use Rattle.cxl_cedt.proofs.RecordTests.{no_fault_here}
 
 -- ---- no fault where another record follows
 
@@ -59,12 +62,12 @@ one_list text rs ss h k =
       | inr (more, is, leads) ↦ is ∙ ap (λ (l : List Record). ss ++ l) (nothing_follows more [] leads) ∙ append-nil ss
     ]
 
-same_head : {a a' d d' f f' : ℕ} {b b' c c' e e' : List ℕ} → a ≡ a' → b ≡ b' → c ≡ c' → d ≡ d' → e ≡ e' → f ≡ f'
+pub same_head : {a a' d d' f f' : ℕ} {b b' c c' e e' : List ℕ} → a ≡ a' → b ≡ b' → c ≡ c' → d ≡ d' → e ≡ e' → f ≡ f'
     → ◌≡◌ {A = Head} (record { revision = a; oem_id = b; oem_table = c; oem_revision = d; creator = e; creator_revision = f })
     (record { revision = a'; oem_id = b'; oem_table = c'; oem_revision = d'; creator = e'; creator_revision = f' })
 same_head p q r s t u = cc
 
-same_table : {h h' : Head} {rs rs' : List Record} → h ≡ h' → rs ≡ rs' → ◌≡◌ {A = CedtFields} (record { head = h; records = rs }) (record { head = h'; records = rs' })
+pub same_table : {h h' : Head} {rs rs' : List Record} → h ≡ h' → rs ≡ rs' → ◌≡◌ {A = CedtFields} (record { head = h; records = rs }) (record { head = h'; records = rs' })
 same_table p q = cc
 
 pub one_table : (bytes : List ℕ) (c d : CedtFields) → IsTableText bytes c → IsTableText bytes d → c ≡ d
@@ -81,17 +84,13 @@ pub record HasHeader (bytes : List ℕ) : Type 0 where
   pub length_said : field bytes 4 4 ≡ length bytes
   pub checksum : sum bytes % 256 ≡ 0
 
-no_fault_yet : (b : Bool) (f : CedtFault) (others : Option CedtFault) → cond b (Some f) others ≡ None → (b ≡ false) × (others ≡ None)
-no_fault_yet true f others e = absurd cc
-no_fault_yet false f others e = (refl, e)
-
 pub header_from : (bytes : List ℕ) → header_fault bytes ≡ None → HasHeader bytes
 unfolding header_fault
 header_from bytes e =
-    let a = no_fault_yet _ _ _ e in
-    let b = no_fault_yet _ _ _ a.1 in
-    let c = no_fault_yet _ _ _ b.1 in
-    let d = no_fault_yet _ _ _ c.1 in
+    let a = no_fault_here _ _ _ e in
+    let b = no_fault_here _ _ _ a.1 in
+    let c = no_fault_here _ _ _ b.1 in
+    let d = no_fault_here _ _ _ c.1 in
     record {
       long = ltb-false _ _ a.0;
       signature = not-false _ b.0;
@@ -159,18 +158,7 @@ one_fault bytes f g (inr (none, h)) (inr (none', k)) = one_record_fault bytes f 
 
 -- ---- some table or some fault
 
-head_in : List ℕ → Head
-head_in bytes = record {
-  revision = field bytes 8 1;
-  oem_id = some_bytes bytes 10 6;
-  oem_table = some_bytes bytes 16 8;
-  oem_revision = field bytes 24 4;
-  creator = some_bytes bytes 28 4;
-  creator_revision = field bytes 32 4;
-}
-
-table_from : (bytes : List ℕ) (records : List Record) → HasHeader bytes → AreRecordTexts (drop 36 bytes) records → HasFewOfEach records → HasTable bytes
-unfolding head_in
+pub table_from : (bytes : List ℕ) (records : List Record) → HasHeader bytes → AreRecordTexts (drop 36 bytes) records → HasFewOfEach records → HasTable bytes
 table_from bytes records h texts few = (
   record { head = head_in bytes; records = records },
   record {
@@ -240,3 +228,11 @@ pub only_fault : (bytes : List ℕ) (result : Result CedtFields CedtFault) → I
 only_fault bytes (Ok d) table fault f h = absurd (not_both bytes d f table h)
 only_fault bytes (Err g) table (inl memory) f h = inr (ap Err memory)
 only_fault bytes (Err g) table (inr first) f h = inl (ap Err (one_fault bytes g f first h))
+
+pub read_alike : (bytes : List ℕ) (one other : Result CedtFields CedtFault) → IsReadAs bytes one → IsReadAs bytes other → IsAnswer one other ⊎ (other ≡ Err Memory)
+read_alike bytes one (Ok d) h k = inl (only_table bytes one h.table h.fault d k.table)
+read_alike bytes one (Err g) h k =
+    elim k.fault [
+      | inl memory ↦ inr (ap Err memory)
+      | inr first ↦ inl (only_fault bytes one h.table h.fault g first)
+    ]

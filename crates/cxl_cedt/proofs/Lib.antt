@@ -6,4 +6,8 @@ pub mod Sound
 pub mod Fronts
 pub mod Scanning
 pub mod Laws
+pub mod Keeping
+pub mod Kept
+pub mod Walks
 pub mod Spelled
+pub mod Mended

@@ -41,7 +41,7 @@ pub record PassesTests (before : List Record) (rest : List ℕ) : Type 0 where
   pub arithmetic : (eqb (kind_said rest) 1 && ltb 1 (field rest 25 1)) ≡ false
   pub room : is_kind_full (kind_said rest) before ≡ false
 
-no_fault_here : (b : Bool) (f : CedtFault) (others : Option CedtFault) → cond b (Some f) others ≡ None → (b ≡ false) × (others ≡ None)
+pub no_fault_here : (b : Bool) (f : CedtFault) (others : Option CedtFault) → cond b (Some f) others ≡ None → (b ≡ false) × (others ≡ None)
 no_fault_here true f others e = absurd cc
 no_fault_here false f others e = (refl, e)
 

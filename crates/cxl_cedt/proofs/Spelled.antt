@@ -4,7 +4,7 @@ use Rattle.std.proofs.lemmas.Bool.{cases_Bool, ltb-true, and_parts}
 use Rattle.std.proofs.lemmas.List.{take_at, drop_at, take_more, append-nil}
 use Rattle.std.proofs.lemmas.Grind.{flat_map-append}
 use Rattle.std.proofs.lemmas.List.Sums.{sum_by-set}
-use Rattle.std.proofs.lemmas.Option.{none-some}
+use Rattle.std.proofs.lemmas.Option.{none-some, same_Some}
 use Rattle.std.proofs.Math.Pow.{pow_mono}
 use Rattle.std.specs.List.{flat_map}
 use Rattle.cxl_enc.specs.Codes.{ways_of}
@@ -69,21 +69,18 @@ spelled_chbs c fits = record {
   register_length = little_number-reads_back 8 c.length [] fits.register_length;
 }
 
-some_is : (a b : ℕ) → Some a ≡ Some b → a ≡ b
-some_is a b e = cc
-
 -- a code stands for 16 ways at the most
 pub ways_few : (code n : ℕ) → ways_of code ≡ Some n → n ≤ 16
 ways_few code n e =
     elim (cases_Bool (ltb code 5)) [
       | inl low ↦
-          let is : 2 ^ code ≡ n = some_is (2 ^ code) n (rw low at e) in
+          let is : 2 ^ code ≡ n = same_Some (2 ^ code) n (rw low at e) in
           let le : code ≤ 4 = omega (arith, ltb-true code 5 low) in
           let top : 2 ^ code ≤ 2 ^ 4 = pow_mono le in
           omega arith
       | inr high ↦ elim (cases_Bool (leb 8 code && ltb code 11)) [
         | inl there ↦
-            let is : 3 * 2 ^ (code - 8) ≡ n = some_is (3 * 2 ^ (code - 8)) n (rw (high, there) at e) in
+            let is : 3 * 2 ^ (code - 8) ≡ n = same_Some (3 * 2 ^ (code - 8)) n (rw (high, there) at e) in
             let below = ltb-true code 11 (and_parts (leb 8 code) (ltb code 11) there).1 in
             let le : code - 8 ≤ 2 = omega arith in
             let top : 2 ^ (code - 8) ≤ 2 ^ 2 = pow_mono le in

@@ -1,9 +1,12 @@
 pub mod Layout
 pub mod Fields
 pub mod Records
+pub mod Judged
 pub mod CedtFields
 pub mod Table
 pub mod Spelling
+pub mod Reading
+pub mod RecordTexts
 pub mod inner
 pub use Rattle.cxl_enc.specs.Codes
 pub use Rattle.byteorder.specs.Endian

@@ -1,5 +1,5 @@
 -- Which bytes spell a table (ACPI CEDT: CHBS, CFMWS and CXIMS), and the first fault of bytes that spell none.
-use Rattle.std.specs.Prelude.{◌≡◌, ℕ, zero, suc, ◌+◌, ◌*◌, ◌%◌, ◌<◌, ◌≤◌, nat_lt, ◌==◌, ◌&&◌, ◌||◌, not, Bool, IsTrue, nat_eq, if◌then◌else◌, List, [], ◌∷◌, ◌++◌, length, take, drop, sum, codes, Option, Some, None, is_none, unwrap_or, Result, Err, ◌⊎◌}
+use Rattle.std.specs.Prelude.{◌≡◌, ℕ, zero, suc, ◌+◌, ◌*◌, ◌%◌, ◌<◌, ◌≤◌, nat_lt, ◌==◌, ◌&&◌, ◌||◌, not, Bool, IsTrue, nat_eq, if◌then◌else◌, List, [], ◌∷◌, ◌++◌, length, take, drop, sum, codes, Option, Some, None, is_none, unwrap_or, Result, Err, IfOk, IfErr, ◌⊎◌}
 use Rattle.cxl_cedt.specs.Layout.{chbs_kind, cfmws_kind, cxims_kind, table_length_place, revision_place, oem_id_place, oem_table_place, oem_revision_place, creator_place, creator_revision_place, header_size, kind_place, reserved_place, length_place, frame_size, uid_place, version_place, register_base_place, register_length_place, chbs_size, window_base_place, window_size_place, ways_place, arithmetic_place, window_gran_place, restrict_place, qtg_place, window_front_size, maps_gran_place, maps_count_place, maps_front_size}
 use Rattle.cxl_enc.specs.Codes.{ways_of}
 use Rattle.byteorder.specs.Endian.{little_number}
@@ -190,3 +190,8 @@ IsFaultOf bytes fault = (fault ≡ Memory) ⊎ FirstTableFault bytes fault
 -- this answer, unless memory ran out
 abbrev pub IsAnswer : Result CedtFields CedtFault → Result CedtFields CedtFault → Type 0
 IsAnswer result answer = (result ≡ answer) ⊎ (result ≡ Err Memory)
+
+-- what a reader may answer: a table that the bytes spell, or their first fault, or want of memory
+pub record IsReadAs (bytes : List ℕ) (result : Result CedtFields CedtFault) : Type 0 where
+  pub table : IfOk result (λ cedt. IsTableText bytes cedt)
+  pub fault : IfErr result (λ fault. IsFaultOf bytes fault)

@@ -3,12 +3,14 @@
 ghost use Rattle.std.specs.Prelude.{◌≡◌, ◌<◌, ◌≤◌, [], ◌∷◌, ◌++◌, length, false, IfOk, OnOk};
 ghost use Rattle.cxl_cedt.specs.Records.{kind_of, is_kind_full};
 ghost use Rattle.cxl_cedt.specs.Table.{kind_said};
+ghost use Rattle.cxl_cedt.specs.Judged.{judged_places};
+ghost use Rattle.cxl_cedt.specs.inner.Kept.{kept_of};
 ghost use Rattle.cxl_cedt.specs.inner.Decoding.{IsSoundText, IsSoundWindow, AreSoundMaps, chbs_of, cfmws_of, cxims_of, other_of, record_of};
 
 use crate::cedt::Record;
 use crate::cfmws::Cfmws;
 use crate::chbs::Chbs;
-use crate::counted::CountedRecords;
+use crate::counted::{CountedRecords, Others};
 use crate::cxims::Cxims;
 use crate::layout::{
     ARITHMETIC_PLACE, CFMWS_KIND, CHBS_KIND, CXIMS_KIND, FRAME_SIZE, KIND_PLACE, MAPS_COUNT_PLACE,
@@ -21,29 +23,57 @@ use crate::other::Other;
 use cxl_enc::{Memory, ways_of};
 use std::alloc::Global;
 
-/// Adds the record of a text to those found.
-pub fn add_record(alloc: Global, found: &mut CountedRecords, text: &[u8]) -> Result<(), Memory>
+/// Adds the record of a text, which begins at byte `at`, to those that are kept, unless it is of another type and those
+/// are passed over.
+pub fn add_record(
+    alloc: Global,
+    kept: &mut CountedRecords,
+    others: Others,
+    text: &[u8],
+    at: u32,
+) -> Result<(), Memory>
     requires sound { IsSoundText text.now }
     requires few { length text.now ≤ 65535 }
-    requires room { is_kind_full (kind_of (record_of text.now)) found.old ≡ false }
-    ensures { OnOk result (found.new ≡ found.old ++ record_of text.now ∷ []) }
+    requires room { is_kind_full (kind_of (record_of text.now)) kept.old.records ≡ false }
+    ensures records { OnOk result (kept.new.records ≡ kept.old.records ++ kept_of others (record_of text.now ∷ [])) }
+    ensures places { OnOk result (kept.new.places ≡ kept.old.places ++ judged_places at (record_of text.now ∷ [])) }
 {
     if u8_at(text, KIND_PLACE) > CXIMS_KIND {
-        return found.push_other(other_of(alloc, text)?);
+        return add_other(alloc, kept, others, text);
     }
-    add_judged(alloc, found, text)
+    add_judged(alloc, kept, text, at)
+}
+
+/// Adds the record of a text of another type, unless those are passed over.
+fn add_other(
+    alloc: Global,
+    kept: &mut CountedRecords,
+    others: Others,
+    text: &[u8],
+) -> Result<(), Memory>
+    requires sound { IsSoundText text.now }
+    requires few { length text.now ≤ 65535 }
+    requires other { 2 < kind_said text.now }
+    ensures records { OnOk result (kept.new.records ≡ kept.old.records ++ kept_of others (record_of text.now ∷ [])) }
+    ensures places { OnOk result (kept.new.places ≡ kept.old.places) }
+{
+    match others {
+        Others::Kept => kept.push_other(other_of(alloc, text)?),
+        Others::PassedOver => Ok(()),
+    }
 }
 
 /// Adds the record of a text of one of the three judged types. A table has few of them, so this stands apart from the loop
 /// over its records.
 #[inline(never)]
-fn add_judged(alloc: Global, found: &mut CountedRecords, text: &[u8]) -> Result<(), Memory>
+fn add_judged(alloc: Global, kept: &mut CountedRecords, text: &[u8], at: u32) -> Result<(), Memory>
     requires sound { IsSoundText text.now }
     requires judged { kind_said text.now ≤ 2 }
-    requires room { is_kind_full (kind_of (record_of text.now)) found.old ≡ false }
-    ensures { OnOk result (found.new ≡ found.old ++ record_of text.now ∷ []) }
+    requires room { is_kind_full (kind_of (record_of text.now)) kept.old.records ≡ false }
+    ensures records { OnOk result (kept.new.records ≡ kept.old.records ++ record_of text.now ∷ []) }
+    ensures places { OnOk result (kept.new.places ≡ kept.old.places ++ at ∷ []) }
 {
-    found.push(judged_of(alloc, text)?)
+    kept.push(judged_of(alloc, text)?, at)
 }
 
 /// The record of a text of one of the three judged types.

@@ -1,13 +1,13 @@
-ghost use Rattle.std.specs.Prelude.{◌≡◌, ℕ, ◌⊎◌, ◌≤◌, List, length, drop, Ok, Err, IfOk, IfErr};
+ghost use Rattle.std.specs.Prelude.{◌≡◌, ℕ, ◌⊎◌, ◌≤◌, List, length, None, Result, Ok, Err, IfOk, IfErr, OnOk};
 ghost use Rattle.cxl_enc.specs.Limits.{file_limit};
 ghost use Rattle.cxl_cedt.specs.CedtFields.{CedtFields};
 ghost use Rattle.cxl_cedt.specs.Layout.{header_size};
-ghost use Rattle.cxl_cedt.specs.Records.{HasFewOfEach};
+ghost use Rattle.cxl_cedt.specs.inner.Kept.{IsKeptIn};
 ghost use Rattle.cxl_cedt.specs.declared.fault.CedtFault.{CedtFault};
-ghost use Rattle.cxl_cedt.specs.Table.{AreRecordTexts, IsTableText, IsRecordFault, FirstTableFault, HasTable, HasFault, IsFaultOf, IsAnswer};
+ghost use Rattle.cxl_cedt.specs.Table.{IsTableText, header_fault, IsRecordFault, FirstTableFault, HasTable, HasFault, IsFaultOf, IsAnswer, IsReadAs};
 
-use crate::cedt::{Cedt, Record};
-use crate::counted::CountedRecords;
+use crate::cedt::Cedt;
+use crate::counted::{CountedRecords, Others};
 use crate::decoding::add_record;
 use crate::fault::CedtFault;
 use crate::header::{head_of, header_fault};
@@ -38,6 +38,9 @@ pub fn one_reading()
     ensures not_both { (bytes : List ℕ) (cedt : CedtFields) (fault : CedtFault) →
         IsTableText bytes cedt → FirstTableFault bytes fault → ⊥ }
     ensures some { (bytes : List ℕ) → HasTable bytes ⊎ HasFault bytes }
+    // So two readers answer alike, unless memory runs out for one of them.
+    ensures alike { (bytes : List ℕ) (one other : Result CedtFields CedtFault) →
+        IsReadAs bytes one → IsReadAs bytes other → IsAnswer one other ⊎ (other ≡ Err CedtFault.Memory) }
 {}
 
 fn cedt_from(alloc: Global, bytes: &[u8]) -> Result<Cedt, CedtFault>
@@ -45,33 +48,46 @@ fn cedt_from(alloc: Global, bytes: &[u8]) -> Result<Cedt, CedtFault>
     ensures table { IfOk result (λ cedt. IsTableText bytes.now cedt) }
     ensures fault { IfErr result (λ fault. IsFaultOf bytes.now fault) }
 {
+    let kept = judged(alloc, bytes, Others::Kept)?;
+    Ok(Cedt::of_size(head_of(bytes), kept.into_records(), bytes.len() as u32))
+}
+
+/// The records of a table that its reader keeps, or the bytes' first fault.
+pub(crate) fn judged(
+    alloc: Global,
+    bytes: &[u8],
+    others: Others,
+) -> Result<CountedRecords, CedtFault>
+    requires { length bytes.now ≤ file_limit }
+    ensures header { OnOk result (header_fault bytes.now ≡ None) }
+    ensures kept { IfOk result (λ kept. IsKeptIn others bytes.now kept) }
+    ensures fault { IfErr result (λ fault. IsFaultOf bytes.now fault) }
+{
     if let Some(fault) = header_fault(bytes) {
         return Err(fault);
     }
-    let records = records_of(alloc, bytes)?;
-    Ok(Cedt::of_size(head_of(bytes), records, bytes.len() as u32))
+    records_of(alloc, bytes, others)
 }
 
-/// The records behind the header, or the fault of the first that has one.
+/// The records behind the header that are kept, or the fault of the first that has one.
 #[inline(never)]
-fn records_of(alloc: Global, bytes: &[u8]) -> Result<Vec<Record>, CedtFault>
+fn records_of(alloc: Global, bytes: &[u8], others: Others) -> Result<CountedRecords, CedtFault>
     requires long { header_size ≤ length bytes.now }
     requires short { length bytes.now ≤ file_limit }
-    ensures texts { IfOk result (λ records. AreRecordTexts (drop header_size bytes.now) records.items) }
-    ensures few { IfOk result (λ records. HasFewOfEach records.items) }
+    ensures kept { IfOk result (λ kept. IsKeptIn others bytes.now kept) }
     ensures fault { IfErr result (λ fault. (fault ≡ CedtFault.Memory) ⊎ IsRecordFault bytes.now fault) }
 {
-    let mut found = CountedRecords::new(alloc);
+    let mut kept = CountedRecords::new(alloc);
     let mut rest = &bytes[HEADER_SIZE..];
     let mut at = HEADER_SIZE as u32;
     while !rest.is_empty() {
-        if let Some(fault) = record_fault(&found, rest, at) {
+        if let Some(fault) = record_fault(&kept, rest, at) {
             return Err(fault);
         }
         let (text, after) = rest.split_at(length_said(rest) as usize);
-        add_record(alloc, &mut found, text)?;
+        add_record(alloc, &mut kept, others, text, at)?;
         rest = after;
         at += text.len() as u32;
     }
-    Ok(found.into_records())
+    Ok(kept)
 }

@@ -19,7 +19,7 @@ use cxl_enc::ways_of;
 /// records before it.
 #[tactic(auto, unfolding(crate::specs::Table::record_fault))]
 pub fn record_fault(before: &CountedRecords, rest: &[u8], at: u32) -> Option<CedtFault>
-    ensures { result ≡ record_fault before.now rest.now at }
+    ensures { result ≡ record_fault before.now.records rest.now at }
 {
     if is_cut(rest) {
         return Some(CedtFault::RecordCut(at));

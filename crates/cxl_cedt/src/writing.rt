@@ -51,7 +51,7 @@ fn without_checksum(alloc: Global, cedt: &Cedt) -> Result<Vec<u8>, Memory>
 }
 
 /// Appends the header, with 0 in the place of its checksum.
-fn put_header(out: &mut Vec<u8>, head: &Head, size: u32) -> Result<(), Memory>
+pub fn put_header(out: &mut Vec<u8>, head: &Head, size: u32) -> Result<(), Memory>
     ensures spelled { OnOk result (out.new.items ≡ out.old.items ++ header size 0 head.now) }
     ensures fits { OnOk result (HeadFits head.now) }
 {
@@ -83,7 +83,7 @@ fn spell_records(out: &mut Vec<u8>, records: &[Record]) -> Result<(), Memory>
     Ok(())
 }
 
-fn spell_record(out: &mut Vec<u8>, item: &Record) -> Result<(), Memory>
+pub fn spell_record(out: &mut Vec<u8>, item: &Record) -> Result<(), Memory>
     ensures spelled { OnOk result (out.new.items ≡ out.old.items ++ record_spelling item.now) }
     ensures fits { OnOk result (RecordFits item.now) }
 {

@@ -6,6 +6,7 @@ use Rattle.std.proofs.Math.Pow.{pow_pos}
 use Rattle.std.proofs.lemmas.Bool.{false≢true, eqb-true, cond_both}
 use Rattle.std.proofs.lemmas.Nat.{mul-add-lt}
 use Rattle.cxl_enc.specs.Codes.{is_ways, third_of, bits_of}
+use Rattle.cxl_enc.proofs.Ways.{some_third}
 use Rattle.cxl_num.specs.Laws.{ParitiesTellRawBits}
 use Rattle.cxl_window.specs.Fields.{WindowFields, IsWindow}
 use Rattle.cxl_window.specs.Position.{parities_of, chunk_of, low_of, position_of, position_at, is_usable, holds}
@@ -31,9 +32,6 @@ module _ (n : ℕ) where
       (one_of 16 4 _ refl (one_of 3 8 _ refl (one_of 6 9 _ refl (one_of 12 10 _ refl
       (λ known. absurd (false≢true known)))))))))
 
-third_of_pos : (n : ℕ) → 0 < third_of n
-third_of_pos n = cond_both (eqb (n % 3) 0) 3 1 (λ third. 0 < third) (λ e. omega arith) (λ e. omega arith)
-
 -- a low part and a third
 two_parts : (low third power thirds ways : ℕ) → low < power → third < thirds → ways ≡ thirds * power → low + power * third < ways
 two_parts low third power thirds ways p q product = omega (arith, mul-add-lt third power low thirds q p)
@@ -53,7 +51,7 @@ module _ (told : ParitiesTellRawBits) where
   unfolding IsFactored
   position_of-lt w h window =
       two_parts (low_of w h) (chunk_of w h / 2 ^ bits_of w.ways % third_of w.ways) (2 ^ bits_of w.ways) (third_of w.ways) w.ways
-      (low_of-lt w h) (mod-lt (chunk_of w h / 2 ^ bits_of w.ways) (third_of_pos w.ways)) (factored w.ways window.ways_known)
+      (low_of-lt w h) (mod-lt (chunk_of w h / 2 ^ bits_of w.ways) (some_third w.ways)) (factored w.ways window.ways_known)
 
   pub position_at-lt : (w : WindowFields) (h position : ℕ) → IsWindow w → position_at w h ≡ Some position → position < w.ways
   position_at-lt w h position window there =

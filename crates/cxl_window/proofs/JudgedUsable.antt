@@ -1,16 +1,16 @@
 -- What a verdict of Usable says.
-use Rattle.std.proofs.Common.{◌≡◌, ◌≢◌, ℕ, zero, suc, ◌+◌, ◌*◌, ◌%◌, ◌<◌, Bool, true, false, cond, List, [], ◌∷◌, ◌++◌, length, get_or, take, Option, Some, None, ltb, refl, sym, subst, append_assoc, unwrap_or, replicate, ◌-◌, arith}
+use Rattle.std.proofs.Common.{◌≡◌, ◌≢◌, ℕ, zero, suc, ◌+◌, ◌*◌, ◌%◌, Bool, true, false, cond, List, [], ◌∷◌, ◌++◌, length, take, Option, Some, None, ltb, refl, sym, subst, append_assoc, unwrap_or, replicate, ◌-◌, arith}
 use Rattle.std.specs.Prelude.{◌==◌, ◌&&◌, not, nat_lt, IsTrue, if◌then◌else◌}
 use Rattle.std.specs.List.{list_any}
 use Rattle.std.specs.Option.{option_map_or}
-use Rattle.std.proofs.lemmas.Bool.{false≢true, eqb-true, eqb-false, eq-eqb, ltb-false, lt-ltb, and_parts, and_from, or_parts, both_ways, not-false}
+use Rattle.std.proofs.lemmas.Bool.{false≢true, eqb-true, eqb-false, ltb-false, lt-ltb, and_parts, and_from, or_parts, not-false}
 use Rattle.std.proofs.lemmas.List.{append-nil}
-use Rattle.std.proofs.lemmas.List.Folds.{list_any_at}
 use Rattle.std.proofs.lemmas.List.Quantifiers.{all_pairs_push}
 use Rattle.cxl_enc.specs.Codes.{bits_of}
 use Rattle.cxl_cedt.specs.Fields.{CfmwsFields}
 use Rattle.cxl_window.specs.declared.window.Verdict.TheVariants.{Usable, Align, Size, TooHigh, Overlap, Target, Repeat, Maps}
 use Rattle.cxl_enc.specs.Limits.{unit, address_limit}
+use Rattle.cxl_enc.proofs.Lists.{not_among}
 use Rattle.cxl_num.specs.Maps.{is_usable_map, are_usable_from, are_usable_maps}
 use Rattle.cxl_window.specs.Fields.{AreDistinct, IsUsable}
 use Rattle.cxl_window.specs.Windows.{first_verdict, cfmws_ways, first_repeat, maps_of, window_with}
@@ -38,10 +38,6 @@ no_cause false false false lacking None None (Some u) e = cc
 no_cause false false false true None None None e = cc
 no_cause false false false false None None None e =
     record { aligned = refl; even = refl; low = refl; complete = refl; apart = refl; present = refl; distinct = refl }
-
--- a target that no earlier one equals
-not_among : (before : List ℕ) (u : ℕ) → list_any (λ v. v == u) before ≡ false → (k d : ℕ) → k < length before → get_or before k d ≢ u
-not_among before u none k d inside same = both_ways _ none (list_any_at (λ v. v == u) before k d inside (eq-eqb (get_or before k d) u same))
 
 -- where nothing is found, the first test fails, and the others find nothing
 pub first_fails : {X : Type 0} (found : Bool) (x : X) (others : Option X) → cond found (Some x) others ≡ None → (found ≡ false) × (others ≡ None)

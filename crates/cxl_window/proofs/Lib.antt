@@ -1,3 +1,4 @@
+pub mod Usable
 pub mod BelowWays
 pub mod RawBits
 pub mod WindowLists
@@ -5,3 +6,4 @@ pub mod BridgeLists
 pub mod FilterMaps
 pub mod JudgedUsable
 pub mod MadeWith
+pub mod JudgedRecords

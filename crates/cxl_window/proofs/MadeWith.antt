@@ -3,11 +3,11 @@ use Rattle.std.proofs.Common.{◌≡◌, ℕ, zero, suc, ◌+◌, ◌<◌, ◌�
 use Rattle.std.specs.Prelude.{◌==◌, not, find, position, slice_get, All, Contains}
 use Rattle.std.specs.List.{list_any, position_from, filter_map}
 use Rattle.std.proofs.lemmas.List.{length-append}
-use Rattle.std.proofs.lemmas.Bool.{eqb-true, or_parts, not-false, lt-ltb, both_ways, cases_order}
+use Rattle.std.proofs.lemmas.Bool.{or_parts, not-false, lt-ltb, both_ways, cases_order}
 use Rattle.std.proofs.lemmas.List.Elements.{All-nil, All-cons, Contains-append_left, Contains-push, All-contains, All-weaker}
-use Rattle.std.proofs.lemmas.List.Folds.{Any-from_list_any}
 use Rattle.std.proofs.lemmas.Option.{slice_get_read}
 use Rattle.std.proofs.lemmas.Iterator.Adapters.{position_from-zero}
+use Rattle.cxl_enc.proofs.Lists.{in_is}
 use Rattle.cxl_cedt.specs.Fields.{CfmwsFields}
 use Rattle.cxl_cedt.specs.declared.cedt.Record.{Record}
 use Rattle.cxl_window.specs.declared.window.Verdict.{Verdict}
@@ -33,11 +33,6 @@ position_from-none p i (x ∷ xs) none =
 position-none : {X : Type 0} (p : X → Bool) (xs : List X) → position p xs ≡ None → All (λ x. p x ≡ false) xs
 position-none p xs none = position_from-none p 0 xs (sym (position_from-zero p xs) ∙ none)
 
-Contains-list_any : (us : List ℕ) (u : ℕ) → list_any (λ v. v == u) us ≡ true → Contains us u
-Contains-list_any us u found =
-    let there = Any-from_list_any (λ v. v == u) us found in
-    subst (Contains us) (eqb-true there.1 u there.4) (there.0, there.2, there.3)
-
 -- ---- one window
 
 module _ (records : List Record) (bridges : List ℕ) where
@@ -45,7 +40,7 @@ module _ (records : List Record) (bridges : List ℕ) where
   bridge_present : (u : ℕ) → is_missing records (Some bridges) u ≡ false → Contains bridges u
   bridge_present u present =
       let parts = or_parts (not (list_any (is_cxl2_bridge u) records)) (not (list_any (λ v. v == u) bridges)) present in
-      Contains-list_any bridges u (not-false (list_any (λ v. v == u) bridges) parts.1)
+      in_is bridges u (not-false (list_any (λ v. v == u) bridges) parts.1)
 
   judged_usable : (before : List CfmwsFields) (c : CfmwsFields) → verdict_of records (Some bridges) before c ≡ Usable
       → IsJudgedUsable (position (overlaps c) before) (find (is_missing records (Some bridges)) c.targets) (maps_in c.gran records) c

@@ -15,7 +15,7 @@ use Rattle.cxl_window.specs.Judging.{is_no_bridge, windows_behind}
 use Rattle.cxl_window.specs.Windows.{cfmws_in, cxims_in, first_maps, maps_in, maps_of, overlaps, first_verdict, ranges_meet, is_missing, window_with, window_of, windows_from, windows_of}
 
 -- tests that agree find the same
-find-agree : (p q : ℕ → Bool) → ((x : ℕ) → p x ≡ q x) → (xs : List ℕ) → find p xs ≡ find q xs
+pub find-agree : (p q : ℕ → Bool) → ((x : ℕ) → p x ≡ q x) → (xs : List ℕ) → find p xs ≡ find q xs
 find-agree p q agree [] = refl
 find-agree p q agree (x ∷ xs) = ap (λ b. cond b (Some x) (find p xs)) (agree x) ∙ ap (λ r. cond (q x) (Some x) r) (find-agree p q agree xs)
 

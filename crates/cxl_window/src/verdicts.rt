@@ -1,11 +1,13 @@
-ghost use Rattle.std.specs.Prelude.{◌≡◌, List, ℕ, Some, length, vec_len, IfOk};
+ghost use Rattle.std.specs.Prelude.{◌≡◌, ◌≤◌, List, ℕ, Some, length, vec_len, IfOk};
 ghost use Rattle.std.specs.List.{filter_map};
 ghost use Rattle.std.specs.Option.{option_copied};
+ghost use Rattle.cxl_cedt.specs.Layout.{cfmws_kind, kind_limit};
+ghost use Rattle.cxl_cedt.specs.Records.{count_of};
 ghost use Rattle.cxl_window.specs.Windows.{cfmws_in, windows_of, AreMadeWith};
 
 use crate::judge::Judge;
 use crate::window::Window;
-use cxl_cedt::Cedt;
+use cxl_cedt::{Cedt, Record, TableText};
 use cxl_enc::Memory;
 use std::alloc::Global;
 
@@ -19,7 +21,40 @@ pub fn windows(alloc: Global, cedt: &Cedt, uids: Option<&[u32]>) -> Result<Vec<W
     ensures made { IfOk result (λ ws. (bridges : List ℕ)
         → option_copied uids.entry ≡ Some bridges → AreMadeWith ws.items bridges) }
 {
-    let judge = Judge::new(alloc, cedt.records(), uids)?;
+    windows_by(alloc, cedt.records(), uids)
+}
+
+/// The windows of a table that is read and not copied, as `windows` gives them.
+pub fn text_windows(
+    alloc: Global,
+    table: &TableText,
+    uids: Option<&[u32]>,
+) -> Result<Vec<Window>, Memory>
+    ensures windows { IfOk result
+        (λ ws. ws.items ≡ windows_of table.now.records (option_copied uids.entry)) }
+    ensures one_each { IfOk result
+        (λ ws. vec_len ws ≡ length (filter_map cfmws_in table.now.records)) }
+    ensures made { IfOk result (λ ws. (bridges : List ℕ)
+        → option_copied uids.entry ≡ Some bridges → AreMadeWith ws.items bridges) }
+{
+    windows_by(alloc, table.judged(), uids)
+}
+
+/// The windows by some records of a table, among which are all that are judged by their types.
+fn windows_by(
+    alloc: Global,
+    records: &[Record],
+    uids: Option<&[u32]>,
+) -> Result<Vec<Window>, Memory>
+    requires few { count_of cfmws_kind records.now ≤ kind_limit }
+    ensures windows { IfOk result
+        (λ ws. ws.items ≡ windows_of records.now (option_copied uids.entry)) }
+    ensures one_each { IfOk result
+        (λ ws. vec_len ws ≡ length (filter_map cfmws_in records.now)) }
+    ensures made { IfOk result (λ ws. (bridges : List ℕ)
+        → option_copied uids.entry ≡ Some bridges → AreMadeWith ws.items bridges) }
+{
+    let judge = Judge::new(alloc, records, uids)?;
     let mut windows = Vec::new(alloc);
     for cfmws in &judge.windows {
         let window = judge.window(alloc, &windows, cfmws)?;

@@ -1,17 +1,33 @@
-use Rattle.std.proofs.Common.{sym}
+use Rattle.std.proofs.Common.{◌≡◌, List, sym, ap, subst, ◌∙◌}
+use Rattle.cxl_cedt.specs.declared.cedt.Record.{Record}
+use Rattle.cxl_cedt.specs.Records.{HasFewOfEach}
+use Rattle.cxl_cedt.specs.Table.{AreRecordTexts}
 use Rattle.cxl_cedt.proofs.Laws.{header_from, size_from, fits_from}
 use Rattle.cxl_cedt.proofs.reading.cedt_from.Goals as goal
 
+pub head_of-requires : goal.head_of-requires
+head_of-requires c = (header_from c.args.bytes.now c.in_ok-kept.ensures.header).long
+
+pub of_size-requires-clause-few : goal.of_size-requires-clause-few
+of_size-requires-clause-few c = rw c.into_records.ensures.records c.into_records.ensures.few
+
 pub of_size-requires-clause-size : goal.of_size-requires-clause-size
-of_size-requires-clause-size c = size_from c.args.bytes.now c.in_ok-records.records.items c.in_default.ensures.long c.in_ok-records.ensures.texts
+of_size-requires-clause-size c =
+    let kept = c.in_ok-kept.ensures.kept in
+    let header = header_from c.args.bytes.now c.in_ok-kept.ensures.header in
+    rw (c.into_records.ensures.records, kept.kept_are.records) (size_from c.args.bytes.now kept.all header.long kept.texts)
 
 pub of_size-requires-clause-fits : goal.of_size-requires-clause-fits
-of_size-requires-clause-fits c = fits_from c.args.bytes.now c.in_ok-records.records.items c.in_default.ensures.long c.requires c.in_ok-records.ensures.texts
+of_size-requires-clause-fits c =
+    let kept = c.in_ok-kept.ensures.kept in
+    let header = header_from c.args.bytes.now c.in_ok-kept.ensures.header in
+    rw (c.into_records.ensures.records, kept.kept_are.records) (fits_from c.args.bytes.now kept.all header.long c.requires kept.texts)
 
 pub returns-clause-table : goal.returns-clause-table
 returns-clause-table c =
-    let header = header_from c.args.bytes.now (sym c.in_default.ensures.value) in
-    rw c.of_size.ensures (record {
+    let kept = c.in_ok-kept.ensures.kept in
+    let header = header_from c.args.bytes.now c.in_ok-kept.ensures.header in
+    rw (c.of_size.ensures, c.into_records.ensures.records, kept.kept_are.records) (record {
       long = header.long;
       signature = header.signature;
       length_said = header.length_said;
@@ -22,6 +38,6 @@ returns-clause-table c =
       oem_revision = c.head_of.ensures.oem_revision;
       creator = c.head_of.ensures.creator;
       creator_revision = c.head_of.ensures.creator_revision;
-      texts = c.in_ok-records.ensures.texts;
-      few = c.in_ok-records.ensures.few;
+      texts = kept.texts;
+      few = kept.few;
     })

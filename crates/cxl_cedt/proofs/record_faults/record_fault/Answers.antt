@@ -10,7 +10,7 @@ pub returns-then-kind-gt-CXIMS_KIND : goal.returns-then-kind-gt-CXIMS_KIND
 returns-then-kind-gt-CXIMS_KIND c =
     let cut : is_cut c.args.rest.now ≡ false = cc in
     let said : c.other_fault.result ≡ cond (ltb (length_said c.args.rest.now) 4) (Some (RecordLength c.args.at)) None = rw (← c.length_said.ensures) c.other_fault.ensures in
-    said ∙ sym (fault_of_other c.args.before.now c.args.rest.now c.args.at cut (omega arith))
+    said ∙ sym (fault_of_other c.args.before.now.records c.args.rest.now c.args.at cut (omega arith))
 
 pub returns : goal.returns
 returns c =
@@ -24,7 +24,7 @@ returns c =
       | else-kind-eq-CFMWS_KIND-2-via-then-kind-eq-CFMWS_KIND-2+else-u8_at-gt1 w ↦ rw (← w.u8_at.ensures) (le-ltb 1 w.u8_at.result w.if-u8_at-gt1.false)
       | else-kind-eq-CFMWS_KIND-2-via-else-kind-eq-CFMWS_KIND-2 w ↦ absurd (omega (arith, w.if-kind-eq-CFMWS_KIND-2.false, kind, window))
     ]) in
-    sym (no_fault c.args.before.now rest c.args.at (record {
+    sym (no_fault c.args.before.now.records rest c.args.at (record {
       whole = sym c.if-is_cut.ensures.value;
       long = rw (← kind, ← c.length_said-2.ensures) (sym c.if-has_short_length.ensures.value);
       ways = ways;

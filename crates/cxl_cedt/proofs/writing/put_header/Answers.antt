@@ -1,6 +1,7 @@
 use Rattle.std.proofs.Common.{◌≡◌, ◌++◌, arith}
+use Rattle.cxl_enc.proofs.Options.{on_ok}
 use Rattle.cxl_cedt.specs.Spelling.{number_bytes}
-use Rattle.cxl_cedt.proofs.Appended.{on_ok, always, header_appended}
+use Rattle.cxl_cedt.proofs.Appended.{always, header_appended}
 use Rattle.cxl_cedt.proofs.writing.put_header.Goals as goal
 
 pub returns-clause-spelled : goal.returns-clause-spelled

@@ -1,6 +1,7 @@
 use Rattle.std.proofs.Common.{◌≡◌, [], ◌∷◌, ◌++◌}
+use Rattle.cxl_enc.proofs.Options.{on_ok}
 use Rattle.cxl_cedt.specs.Spelling.{numbers_bytes}
-use Rattle.cxl_cedt.proofs.Appended.{on_ok, always, chbs_appended}
+use Rattle.cxl_cedt.proofs.Appended.{always, chbs_appended}
 use Rattle.cxl_cedt.proofs.writing.spell_chbs.Goals as goal
 
 pub returns-clause-spelled : goal.returns-clause-spelled

@@ -1,7 +1,8 @@
 use Rattle.std.proofs.Common.{◌≡◌, ℕ, ◌^◌, ◌≤◌, ◌++◌, subst}
+use Rattle.cxl_enc.proofs.Options.{on_ok}
 use Rattle.cxl_cedt.specs.Spelling.{numbers_bytes}
 use Rattle.cxl_cedt.specs.inner.Widths.{AreBelow}
-use Rattle.cxl_cedt.proofs.Appended.{on_ok, always, cxims_appended}
+use Rattle.cxl_cedt.proofs.Appended.{always, cxims_appended}
 use Rattle.cxl_cedt.proofs.writing.spell_cxims.Goals as goal
 
 pub returns-clause-spelled : goal.returns-clause-spelled
