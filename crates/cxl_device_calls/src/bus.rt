@@ -30,8 +30,7 @@ fn blocks(rt: &impl Abort, alloc: Global, endpoints: &[bool]) -> Vec<Block> {
     let mut blocks = Vec::new(alloc);
     for endpoint in endpoints {
         let cap = if *endpoint { 0x1b02 } else { 0x382 };
-        let block = Block::new(alloc, cap, *endpoint).expect(rt, "memory");
-        blocks.push(block).expect(rt, "memory");
+        blocks.push(Block::new(cap, *endpoint)).expect(rt, "memory");
     }
     blocks
 }

@@ -5,8 +5,6 @@ use cxl_regs::{
     decoder_of, offset_of, select_ok, words_of, words_stand_for_decoder, write_laws,
     writes_keep_places,
 };
-use std::alloc::Global;
-use std::process::Abort;
 use std::test::*;
 
 /// The offset and the value of a write, what becomes of it, and the word that is read there afterwards.
@@ -26,8 +24,8 @@ fn has_word(block: &Block, off: u32, word: u32) -> bool {
     block.read32(off) == Some(word)
 }
 
-fn endpoint(rt: &impl Abort, alloc: Global) -> Block {
-    Block::new(alloc, 0x1b02, true).expect(rt, "memory")
+fn endpoint() -> Block {
+    Block::new(0x1b02, true)
 }
 
 const TO_AN_ENDPOINT: [Write; 16] = [
@@ -51,7 +49,7 @@ const TO_AN_ENDPOINT: [Write; 16] = [
 
 #[test]
 fn writes_to_an_endpoint(rt: HostRuntime) {
-    let mut block = endpoint(&rt, rt.alloc());
+    let mut block = endpoint();
     assert!(rt; are_carried_out(&mut block, &TO_AN_ENDPOINT));
 }
 
@@ -62,7 +60,7 @@ const TO_A_PORT: [Write; 2] = [
 
 #[test]
 fn writes_to_a_port(rt: HostRuntime) {
-    let mut block = Block::new(rt.alloc(), 0x382, false).expect(&rt, "memory");
+    let mut block = Block::new(0x382, false);
     assert!(rt; are_carried_out(&mut block, &TO_A_PORT));
 }
 
@@ -78,7 +76,7 @@ fn is_reset(block: &Block) -> bool {
 
 #[test]
 fn a_block_after_reset(rt: HostRuntime) {
-    let block = endpoint(&rt, rt.alloc());
+    let block = endpoint();
     assert!(rt; is_reset(&block));
 }
 
@@ -105,16 +103,15 @@ fn is_committed(block: &Block) -> bool {
 
 #[test]
 fn a_block_and_its_words(rt: HostRuntime) {
-    let mut block = endpoint(&rt, rt.alloc());
+    let mut block = endpoint();
     assert!(rt; are_carried_out(&mut block, &TO_COMMIT));
-    let copy = block.copy(rt.alloc()).expect(&rt, "memory");
+    let copy = block.copy();
     assert!(rt; is_committed(&copy));
 }
 
 #[test]
 fn a_block_of_one_decoder(rt: HostRuntime) {
-    let decoders = Vec::from_slice(rt.alloc(), &[Decoder::RESET]).expect(&rt, "memory");
-    let block = Block::with_decoders(0x1b00, true, false, decoders);
+    let block = Block::with_decoders(0x1b00, true, false, &[Decoder::RESET]);
     assert!(rt; block.read32(0x30).is_none());
 }
 

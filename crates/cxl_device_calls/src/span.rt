@@ -11,7 +11,6 @@ use cxl_span::{
     endpoint_place_of, one_holder, ranges_rise, spans_are_whole, spans_follow,
     spans_lie_in_partitions, start_of,
 };
-use std::process::Abort;
 
 const GIB: u64 = 0x4000_0000;
 
@@ -53,19 +52,11 @@ fn changed(plain: Plain, place: usize, word: u32) -> [u32; 8] {
 }
 
 /// An endpoint's block of four decoders, of which these are the words of the first two.
-fn endpoint(
-    rt: &(impl Abort + AllocGlobal),
-    enabled: bool,
-    first: &[u32; 8],
-    second: &[u32; 8],
-) -> Block {
+fn endpoint(enabled: bool, first: &[u32; 8], second: &[u32; 8]) -> Block {
     let first = decoder_of(first, true);
     let second = decoder_of(second, true);
     let reset = decoder_of(&[0; 8], true);
-    let decoders = [first, second, reset, reset]
-        .to_vec(rt.alloc())
-        .expect(rt, "memory");
-    Block::with_decoders(0x1b02, true, enabled, decoders)
+    Block::with_decoders(0x1b02, true, enabled, &[first, second, reset, reset])
 }
 
 /// A block's first two decoders, each with a word's place and value, and the rule that the block breaks first, at which
@@ -272,27 +263,27 @@ fn breaks(block: &Block, rule: u8, decoder: u8) -> bool {
     }
 }
 
-fn is_broken(rt: &(impl Abort + AllocGlobal), row: &Row) -> bool {
+fn is_broken(row: &Row) -> bool {
     let first = changed(row.first, row.first_place, row.first_word);
     let second = changed(row.second, row.second_place, row.second_word);
-    breaks(&endpoint(rt, true, &first, &second), row.rule, row.decoder)
+    breaks(&endpoint(true, &first, &second), row.rule, row.decoder)
 }
 
 #[test]
 fn breaches(rt: HostRuntime) {
     for (i, row) in BLOCKS.iter().enumerate() {
-        row_passes(&rt, i, is_broken(&rt, row));
+        row_passes(&rt, i, is_broken(row));
     }
 }
 
 /// The block of the first and the second.
-fn plain_block(rt: &(impl Abort + AllocGlobal), enabled: bool) -> Block {
-    endpoint(rt, enabled, &words(Plain::First), &words(Plain::Second))
+fn plain_block(enabled: bool) -> Block {
+    endpoint(enabled, &words(Plain::First), &words(Plain::Second))
 }
 
 #[test]
 fn breach_of_a_disabled_block(rt: HostRuntime) {
-    assert!(rt; breaks(&plain_block(&rt, false), 2, 0));
+    assert!(rt; breaks(&plain_block(false), 2, 0));
 }
 
 /// A port's ranges take no bytes of a device.
@@ -305,7 +296,7 @@ fn is_a_port(block: &mut Block) -> bool {
 
 #[test]
 fn a_port(rt: HostRuntime) {
-    let mut block = Block::new(rt.alloc(), 0x382, false).expect(&rt, "memory");
+    let mut block = Block::new(0x382, false);
     assert!(rt; is_a_port(&mut block));
 }
 
@@ -403,25 +394,23 @@ const SPANS: [Asked; 6] = [
     },
 ];
 
-fn is_answered(rt: &(impl Abort + AllocGlobal), asked: &Asked) -> bool {
-    let block = endpoint(rt, true, &words(asked.first), &words(asked.second));
+fn is_answered(asked: &Asked) -> bool {
+    let block = endpoint(true, &words(asked.first), &words(asked.second));
     allots(&block, asked.ram, asked.kind, asked.len) == Some(asked.answer)
 }
 
 #[test]
 fn spans(rt: HostRuntime) {
     for (i, asked) in SPANS.iter().enumerate() {
-        row_passes(&rt, i, is_answered(&rt, asked));
+        row_passes(&rt, i, is_answered(asked));
     }
 }
 
 /// A block with no decoder left.
 #[test]
 fn a_full_block(rt: HostRuntime) {
-    let decoders = [decoder_of(&words(Plain::First), true)]
-        .to_vec(rt.alloc())
-        .expect(&rt, "memory");
-    let block = Block::with_decoders(0x1b00, true, true, decoders);
+    let decoders = [decoder_of(&words(Plain::First), true)];
+    let block = Block::with_decoders(0x1b00, true, true, &decoders);
     assert!(rt; allots(&block, GIB, MemKind::Ram, UNIT) == Some(Err(SpanFault::NoDecoder)));
 }
 
@@ -438,7 +427,7 @@ fn starts(block: &Block, i: u8) -> Option<u64> {
 
 #[test]
 fn start_in_pmem(rt: HostRuntime) {
-    assert!(rt; starts(&plain_block(&rt, true), 1) == Some(0x4000_0000));
+    assert!(rt; starts(&plain_block(true), 1) == Some(0x4000_0000));
 }
 
 /// The byte of its device to which a decoder of an endpoint sends an address.

@@ -5,13 +5,13 @@ use Rattle.std.proofs.lemmas.List.{length-set}
 use Rattle.std.proofs.lemmas.List.Elements.{All-set}
 use Rattle.std.proofs.lemmas.Option.{same_Some, slice_get_within, slice_get_cases, get_or_from_slice_get}
 use Rattle.std.specs.Prelude.{slice_get, slice_set, IsSomeAnd}
+use Rattle.cxl_enc.proofs.Lists.{get_same, get_other}
 use Rattle.cxl_regs.specs.declared.effect.Effect.{Effect}
 use Rattle.cxl_regs.specs.Registers.{Registers, IsBlock, IsSameShape}
 use Rattle.cxl_regs.specs.Writes.{WritesWord, after_word}
 use Rattle.cxl_regs.specs.Blocks.{blocks_after}
 use Rattle.cxl_topo.specs.declared.node.Node.{Node}
 use Rattle.cxl_image.specs.Images.{IsImage, IsBlockOf, HasCapsOf}
-use Rattle.cxl_image.proofs.Blocks.{get_same, get_other}
 
 pub after_left : (blocks : List Registers) (node off v : ℕ) (old new : Registers) (effect : Effect) → slice_get blocks node ≡ Some old → WritesWord old off v new effect → slice_set blocks node new ≡ blocks_after blocks node off v
 after_left blocks node off v old new effect here write = rw here (ap (slice_set blocks node) write.left)

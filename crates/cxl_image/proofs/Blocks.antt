@@ -1,13 +1,13 @@
 -- Blocks one after the other: those of a file, those after reset, and those after a write.
-use Rattle.std.proofs.Common.{◌≡◌, ◌≢◌, ℕ, zero, suc, ◌+◌, ◌<◌, Bool, true, false, not, IsTrue, List, [], ◌∷◌, ◌++◌, length, map, take, Some, refl, sym, ap, subst, ◌∙◌, inl, inr, arith}
-use Rattle.std.proofs.lemmas.Bool.{cases_lt}
-use Rattle.std.proofs.lemmas.List.{length-replicate, length_push, take_more, map-append}
+use Rattle.std.proofs.Common.{◌≡◌, ℕ, zero, suc, ◌+◌, ◌<◌, Bool, IsTrue, List, [], ◌∷◌, ◌++◌, length, map, take, Some, refl, sym, ap, subst, ◌∙◌, inl, inr, arith}
+use Rattle.std.proofs.lemmas.Bool.{cases_lt, not_from_false}
+use Rattle.std.proofs.lemmas.List.{length-replicate, length_push, take_more, map-append, length-map}
 use Rattle.std.proofs.lemmas.List.Elements.{All-nil, All-push, All-replicate}
 use Rattle.std.proofs.lemmas.Option.{same_Some, slice_get_within, slice_get-map, get_or_from_slice_get}
 use Rattle.std.specs.Option.{option_map}
-use Rattle.std.proofs.lemmas.List.{length-map}
-use Rattle.std.specs.Prelude.{slice_get, slice_set, All}
+use Rattle.std.specs.Prelude.{slice_get, All}
 use Rattle.cxl_enc.specs.Caps.{is_legal_cap}
+use Rattle.cxl_enc.proofs.Lists.{get_last}
 use Rattle.cxl_regs.specs.Registers.{Registers, IsBlock, IsDecoder, reset_decoder, reset_block}
 use Rattle.cxl_topo.specs.declared.node.Node.{Node}
 use Rattle.cxl_image.specs.Images.{reset_block_of, reset_blocks, HasCapsOf}
@@ -21,10 +21,6 @@ pub get_front : {X : Type 0} (xs : List X) (x : X) (k : ℕ) → k < length xs �
 get_front [] x k h = absurd (omega arith)
 get_front (y ∷ xs) x zero h = refl
 get_front (y ∷ xs) x (suc k) h = get_front xs x k (omega arith)
-
-pub get_last : {X : Type 0} (xs : List X) (x : X) → slice_get (xs ++ x ∷ []) (length xs) ≡ Some x
-get_last [] x = refl
-get_last (y ∷ xs) x = get_last xs x
 
 -- ---- a file's blocks
 
@@ -89,13 +85,10 @@ reset_is_decoder endpoint = record {
   skip = λ e. refl;
 }
 
-port_decodes : (endpoint : Bool) → endpoint ≡ false → not endpoint ≡ true
-port_decodes endpoint e = ap not e
-
 pub reset_is_block : (cap : ℕ) (endpoint : Bool) → IsTrue (is_legal_cap cap endpoint) → IsBlock (reset_block cap endpoint)
 reset_is_block cap endpoint legal = record {
   cap = legal;
-  enabled = port_decodes endpoint;
+  enabled = not_from_false endpoint;
   count = length-replicate _ reset_decoder;
   each = All-replicate (IsDecoder endpoint) _ reset_decoder (reset_is_decoder endpoint);
 }
@@ -114,17 +107,3 @@ reset_caps nodes = record {
       let is : block ≡ reset_block_of node = same_Some _ _ (sym at ∙ slice_get-map reset_block_of nodes i ∙ ap (option_map reset_block_of) here) in
       record { cap = ap (λ (b : Registers). b.cap) is; endpoint = ap (λ (b : Registers). b.endpoint) is };
 }
-
--- ---- after a write
-
-pub get_same : {X : Type 0} (xs : List X) (i : ℕ) (x : X) → i < length xs → slice_get (slice_set xs i x) i ≡ Some x
-get_same [] i x h = absurd (omega arith)
-get_same (y ∷ xs) zero x h = refl
-get_same (y ∷ xs) (suc i) x h = get_same xs i x (omega arith)
-
-pub get_other : {X : Type 0} (xs : List X) (i k : ℕ) (x : X) → k ≢ i → slice_get (slice_set xs i x) k ≡ slice_get xs k
-get_other [] i k x h = refl
-get_other (y ∷ xs) zero zero x h = absurd (h refl)
-get_other (y ∷ xs) zero (suc k) x h = refl
-get_other (y ∷ xs) (suc i) zero x h = refl
-get_other (y ∷ xs) (suc i) (suc k) x h = get_other xs i k x (λ e. h (ap suc e))

@@ -16,6 +16,7 @@ use Rattle.cxl_regs.specs.declared.decoder.Decoder.{Decoder}
 use Rattle.cxl_regs.specs.Registers.{Registers, IsBlock, IsDecoder}
 use Rattle.cxl_regs.specs.Words.{has_bit, low_half, high_half, control_of, words_of, decoder_of, head_words}
 use Rattle.cxl_topo.specs.declared.node.Node.{Node}
+use Rattle.cxl_regs.proofs.Fields.{bit_of_le}
 use Rattle.cxl_image.specs.Images.{IsImage, IsBlockOf, HasCapsOf}
 use Rattle.cxl_image.specs.Fields.{decoder_count, block_size, start_of, word_from, words_from, count_said, named_bits, decoder_from, block_from, image_limit}
 use Rattle.cxl_image.specs.File.{IsImageFile}
@@ -118,10 +119,6 @@ words_stand bytes at n ws size stand fits =
 
 -- ---- the words of a block fit
 
-bit_le : (b : Bool) → bit_of b ≤ 1
-bit_le true = omega arith
-bit_le false = omega arith
-
 low_fits : (n : ℕ) → IsWord (low_half n)
 low_fits n = omega arith
 
@@ -130,11 +127,11 @@ high_fits n lt = omega arith
 
 control_fits : (d : Decoder) → d.ways < 16 → d.gran < 16 → IsWord (control_of d)
 control_fits d ways gran =
-    let b8 = bit_le d.lock in
-    let b9 = bit_le d.commit in
-    let b10 = bit_le d.committed in
-    let b11 = bit_le d.error in
-    let b12 = bit_le d.host_only in
+    let b8 = bit_of_le d.lock in
+    let b9 = bit_of_le d.commit in
+    let b10 = bit_of_le d.committed in
+    let b11 = bit_of_le d.error in
+    let b12 = bit_of_le d.host_only in
     omega arith
 
 decoder_fits : (endpoint : Bool) (d : Decoder) → IsDecoder endpoint d → All IsWord (words_of d)
@@ -166,7 +163,7 @@ cap_fits cap endpoint legal =
 
 head_fits : (block : Registers) → IsBlock block → All IsWord (head_words block)
 head_fits block is =
-    let bit = bit_le (block.endpoint && block.enabled) in
+    let bit = bit_of_le (block.endpoint && block.enabled) in
     All-from_recursion IsWord (head_words block) (cap_fits block.cap block.endpoint is.cap, (omega arith, (omega arith, (omega arith, tt))))
 
 block_fits : (block : Registers) → IsBlock block → All IsWord (block_words block)

@@ -38,7 +38,7 @@ impl Image {
         let mut blocks = Vec::with_capacity(alloc, topo.count() as usize)?;
         for i in 0..topo.count() {
             let node = topo.node(i);
-            blocks.push_reserved(Block::new(alloc, node.cap, node.is_endpoint())?);
+            blocks.push_reserved(Block::new(node.cap, node.is_endpoint()));
         }
         Ok(Image { blocks })
     }

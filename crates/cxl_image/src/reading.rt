@@ -1,6 +1,6 @@
 //! The reader.
 
-ghost use Rattle.std.specs.Prelude.{◌≡◌, ◌+◌, ◌*◌, ◌≤◌, IsTrue, not, ◌||◌, List, length, map, All, Ok, Err, IfOk, IfErr};
+ghost use Rattle.std.specs.Prelude.{◌≡◌, ◌+◌, ◌*◌, ◌≤◌, IsTrue, not, ◌||◌, List, length, map, take, All, Ok, Err, IfOk, IfErr};
 ghost use Rattle.std.specs.List.{range_with_len};
 ghost use Rattle.cxl_enc.specs.Caps.{is_legal_cap};
 ghost use Rattle.cxl_regs.specs.Registers.{Registers, IsBlock, IsDecoder};
@@ -17,7 +17,7 @@ use crate::judging::{HEAD, first_image_fault};
 use crate::nodes::block_size;
 use crate::words::{decoder_words, word_from};
 use cxl_enc::Memory;
-use cxl_regs::{Block, Decoder, decoder_count, decoder_of};
+use cxl_regs::{Block, Decoder, MOST_DECODERS, decoder_count, decoder_of};
 use cxl_topo::{Node, Topo};
 use std::alloc::Global;
 
@@ -56,24 +56,24 @@ fn sound_image(alloc: Global, bytes: &[u8], topo: &Topo) -> Result<Image, Memory
     let mut at = HEAD;
     for i in 0..topo.count() {
         let node = topo.node(i);
-        blocks.push_reserved(block_from(alloc, bytes, at, node)?);
+        blocks.push_reserved(block_from(bytes, at, node));
         at += block_size(node);
     }
     Ok(Image::with_blocks(blocks))
 }
 
 /// The block of a node, whose words begin at byte place `at`.
-fn block_from(alloc: Global, bytes: &[u8], at: usize, node: &Node) -> Result<Block, Memory>
+fn block_from(bytes: &[u8], at: usize, node: &Node) -> Block
     requires legal { IsTrue (is_legal_cap node.now.cap (is_endpoint node.now.kind)) }
     requires fits { at + block_size node.now ≤ length bytes.now }
-    ensures value { IfOk result (λ block. block ≡ block_from bytes.now at node.now) }
-    ensures block { IfOk result (λ block. IsBlock block) }
+    ensures value { result ≡ block_from bytes.now at node.now }
+    ensures block { IsBlock result }
 {
     let endpoint = node.is_endpoint();
     let enabled = decodes(bytes, at, endpoint);
     let count = decoder_count(node.cap) as usize;
-    let decoders = decoders_from(alloc, bytes, at + 16, count, endpoint)?;
-    Ok(Block::with_decoders(node.cap, endpoint, enabled, decoders))
+    let decoders = decoders_from(bytes, at + 16, count, endpoint);
+    Block::with_decoders(node.cap, endpoint, enabled, &decoders[..count])
 }
 
 /// Whether the block that begins at byte place `at` decodes.
@@ -84,20 +84,16 @@ fn decodes(bytes: &[u8], at: usize, endpoint: bool) -> bool
     !endpoint || (word_from(bytes, at + 4) >> 1) & 1 == 1
 }
 
-/// So many decoders, of which the first begins at byte place `at`.
-fn decoders_from(
-    alloc: Global,
-    bytes: &[u8],
-    at: usize,
-    count: usize,
-    endpoint: bool,
-) -> Result<Vec<Decoder>, Memory>
-    requires { at + 32 * count ≤ length bytes.now }
-    ensures value { IfOk result (λ decoders. decoders.items ≡ map (λ i. decoder_from bytes.now endpoint (at + 32 * i)) (range_with_len 0 count)) }
-    ensures each { IfOk result (λ decoders. All (IsDecoder endpoint) decoders.items) }
+/// So many decoders, of which the first begins at byte place `at`, and others after reset behind them.
+fn decoders_from(bytes: &[u8], at: usize, count: usize, endpoint: bool) -> [Decoder; MOST_DECODERS]
+    requires fits { at + 32 * count ≤ length bytes.now }
+    requires few { count ≤ 10 }
+    ensures value { take count result ≡ map (λ i. decoder_from bytes.now endpoint (at + 32 * i)) (range_with_len 0 count) }
+    ensures each { All (IsDecoder endpoint) (take count result) }
 {
-    let decoders = (0..count)
-        .map(|i| decoder_of(&decoder_words(bytes, at + 32 * i), endpoint))
-        .collect(alloc)?;
-    Ok(decoders)
+    let mut decoders = [Decoder::RESET; MOST_DECODERS];
+    for i in 0..count {
+        decoders[i] = decoder_of(&decoder_words(bytes, at + 32 * i), endpoint);
+    }
+    decoders
 }

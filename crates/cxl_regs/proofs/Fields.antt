@@ -12,7 +12,7 @@ same_decoder : (a b : Decoder) → a.base ≡ b.base → a.size ≡ b.size → a
 same_decoder a b base size ways gran lock commit committed error host_only tail =
     λ i. record { base = base i; size = size i; ways = ways i; gran = gran i; lock = lock i; commit = commit i; committed = committed i; error = error i; host_only = host_only i; tail = tail i }
 
-bit_of_le : (b : Bool) → bit_of b ≤ 1
+pub bit_of_le : (b : Bool) → bit_of b ≤ 1
 bit_of_le true = omega arith
 bit_of_le false = omega arith
 

@@ -6,6 +6,7 @@ use Rattle.std.proofs.lemmas.List.Elements.{All-set}
 use Rattle.std.proofs.lemmas.Option.{slice_get_within, get_or_from_slice_get}
 use Rattle.std.specs.Prelude.{slice_get}
 use Rattle.std.specs.Option.{option_map_or}
+use Rattle.cxl_enc.proofs.Tests.{and_false}
 use Rattle.cxl_regs.specs.declared.decoder.Decoder.{Decoder}
 use Rattle.cxl_regs.specs.declared.effect.CommitRule.{CommitRule}
 use Rattle.cxl_regs.specs.declared.effect.Effect.{Effect}
@@ -119,15 +120,10 @@ global_sound block v is endpoint =
     (either_sound (any_committed block.decoders) _ _ (dropped_sound block is)
     (record { block = record { cap = is.cap; enabled = λ port. absurd (false≢true (sym port ∙ endpoint)); count = is.count; each = is.each } }))
 
--- a port's word 0x4 takes no value
-never : (b : Bool) → (b && false) ≡ false
-never true = refl
-never false = refl
-
 head_sound : (block : Registers) (off v : ℕ) (endpoint : Bool) → block.endpoint ≡ endpoint → IsBlock block → IsSound (cond ((off == 4) && endpoint) (after_global block v) (dropped block))
 head_sound block off v true e is = either_sound ((off == 4) && true) _ _ (global_sound block v is e) (dropped_sound block is)
 head_sound block off v false e is =
-    subst (λ (test : Bool). IsSound (cond test (after_global block v) (dropped block))) (sym (never (off == 4))) (dropped_sound block is)
+    subst (λ (test : Bool). IsSound (cond test (after_global block v) (dropped block))) (sym (and_false (off == 4))) (dropped_sound block is)
 
 pub after_word_block : (block : Registers) (off v : ℕ) → IsBlock block → v < 2 ^ 32 → IsBlock (after_word block off v).block
 unfolding after_word

@@ -1,3 +1,4 @@
+pub mod DecoderRanges
 pub mod Fields
 pub mod Shape
 pub mod Kept

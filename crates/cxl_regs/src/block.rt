@@ -7,6 +7,7 @@ ghost use Rattle.cxl_regs.specs.Reading.{committed_count};
 ghost use Rattle.cxl_regs.specs.Writes.{WritesWord, any_committed, with_decoder, after_global, after_decoder, after_release, after_control, after_commit};
 
 use crate::decoder::Decoder;
+use crate::decoders::Decoders;
 use crate::effect::{CommitRule, Effect};
 use crate::offsets::{CONTROL, GLOBAL_CONTROL, HEAD_SIZE, RESERVED, index_at, place_at};
 use crate::rules::{breaks_order, breaks_rise, codes_ok, decoder_count, select_ok};
@@ -23,7 +24,7 @@ pub struct Block {
     cap: u32,
     endpoint: bool,
     enabled: bool,
-    decoders: Vec<Decoder>,
+    decoders: Decoders,
 }
 
 impl Model for Block {
@@ -31,50 +32,48 @@ impl Model for Block {
 
     ghost Value = { Registers };
 
-    ghost view = { λ b. record { cap = b.cap; endpoint = b.endpoint; enabled = b.enabled; decoders = b.decoders.items } };
+    ghost view = { λ b. record { cap = b.cap; endpoint = b.endpoint; enabled = b.enabled; decoders = b.decoders } };
 
-    ghost invariant = { λ b. IsBlock (record { cap = b.cap; endpoint = b.endpoint; enabled = b.enabled; decoders = b.decoders.items }) };
+    ghost invariant = { λ b. IsBlock (record { cap = b.cap; endpoint = b.endpoint; enabled = b.enabled; decoders = b.decoders }) };
 }
 
 impl Block {
-    /// A block after reset. Takes memory.
-    pub fn new(alloc: Global, cap: u32, endpoint: bool) -> Result<Block, Memory>
+    /// A block after reset.
+    pub fn new(cap: u32, endpoint: bool) -> Block
         requires { IsTrue (is_legal_cap cap endpoint) }
-        ensures { IfOk result (λ block. block ≡ reset_block cap endpoint) }
+        ensures { result ≡ reset_block cap endpoint }
     {
-        let decoders = vec![in alloc; Decoder::RESET; decoder_count(cap) as usize]?;
-        Ok(Block {
+        Block {
             cap,
             endpoint,
             enabled: !endpoint,
-            decoders,
-        })
+            decoders: Decoders::reset(decoder_count(cap)),
+        }
     }
 
-    /// The block with these registers. Takes no memory.
-    pub fn with_decoders(cap: u32, endpoint: bool, enabled: bool, decoders: Vec<Decoder>) -> Block
-        requires { IsBlock (record { cap = cap; endpoint = endpoint; enabled = enabled; decoders = decoders.items }) }
-        ensures { result ≡ record { cap = cap; endpoint = endpoint; enabled = enabled; decoders = decoders.items } }
+    /// The block with these registers.
+    pub fn with_decoders(cap: u32, endpoint: bool, enabled: bool, decoders: &[Decoder]) -> Block
+        requires { IsBlock (record { cap = cap; endpoint = endpoint; enabled = enabled; decoders = decoders.now }) }
+        ensures { result ≡ record { cap = cap; endpoint = endpoint; enabled = enabled; decoders = decoders.now } }
     {
         Block {
             cap,
             endpoint,
             enabled,
-            decoders,
+            decoders: Decoders::of(decoders),
         }
     }
 
-    /// An equal block. Takes memory.
-    pub fn copy(&self, alloc: Global) -> Result<Block, Memory>
-        ensures { IfOk result (λ block. block ≡ self.now) }
+    /// An equal block.
+    pub fn copy(&self) -> Block
+        ensures { result ≡ self.now }
     {
-        let decoders = Vec::from_slice(alloc, self.decoders.as_slice())?;
-        Ok(Block {
+        Block {
             cap: self.cap,
             endpoint: self.endpoint,
             enabled: self.enabled,
-            decoders,
-        })
+            decoders: self.decoders.copy(),
+        }
     }
 
     /// The capability word.
@@ -107,14 +106,18 @@ impl Block {
         ensures few { result ≤ 10 }
         ensures block { IsBlock self.now }
     {
-        self.decoders.len() as u8
+        self.decoders.count()
     }
 
     /// How many committed decoders stand before the first that is not committed.
     pub fn committed(&self) -> u8
         ensures { result ≡ committed_count self.now.decoders }
     {
-        self.decoders.iter().take_while(|d| d.committed).count() as u8
+        self.decoders
+            .as_slice()
+            .iter()
+            .take_while(|d| d.committed)
+            .count() as u8
     }
 
     /// The registers of decoder `i`.
@@ -123,7 +126,7 @@ impl Block {
         ensures value { slice_get self.now.decoders i ≡ Some result }
         ensures decoder { IsDecoder self.now.endpoint result }
     {
-        self.decoders[i as usize]
+        self.decoders.as_slice()[i as usize]
     }
 
     /// The word at an offset, `None` exactly where the block has none there: the offset is no multiple of 4
@@ -186,7 +189,7 @@ impl Block {
         ensures here { IsSome result → index < length self.now.decoders }
         ensures decoder { IfSome result (IsDecoder self.now.endpoint) }
     {
-        self.decoders.get(index).copied()
+        self.decoders.as_slice().get(index).copied()
     }
 
     /// A write to the global control of an endpoint.
@@ -199,7 +202,7 @@ impl Block {
             self.enabled = true;
             return Effect::Written;
         }
-        if any_committed(&self.decoders) {
+        if any_committed(self.decoders.as_slice()) {
             return Effect::Dropped;
         }
         self.enabled = false;
@@ -232,7 +235,7 @@ impl Block {
         ensures left { self.new ≡ (after_release self.old index d value).block }
         ensures told { result ≡ (after_release self.old index d value).effect }
     {
-        if d.lock || has_bit(value, 9) || any_committed(&self.decoders[index + 1..]) {
+        if d.lock || has_bit(value, 9) || any_committed(&self.decoders.as_slice()[index + 1..]) {
             return Effect::Dropped;
         }
         let released = Decoder {
@@ -320,7 +323,7 @@ impl Block {
         if index == 0 {
             return None;
         }
-        Some(self.decoders[index - 1])
+        Some(self.decoders.as_slice()[index - 1])
     }
 
     /// Gives the decoder these registers.
@@ -329,7 +332,7 @@ impl Block {
         requires decoder { IsDecoder self.old.endpoint d }
         ensures { self.new ≡ with_decoder self.old index d }
     {
-        self.decoders[index] = d;
+        self.decoders.put(index, d);
     }
 }
 
@@ -339,7 +342,7 @@ pub fn copies(alloc: Global, blocks: &[Block]) -> Result<Vec<Block>, Memory>
 {
     let mut copies = Vec::with_capacity(alloc, blocks.len())?;
     for block in blocks {
-        copies.push_reserved(block.copy(alloc)?);
+        copies.push_reserved(block.copy());
     }
     Ok(copies)
 }

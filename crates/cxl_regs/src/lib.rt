@@ -4,6 +4,7 @@
 
 mod block;
 mod decoder;
+mod decoders;
 mod effect;
 mod laws;
 mod offsets;
@@ -14,6 +15,7 @@ mod writing;
 
 pub use block::{Block, copies};
 pub use decoder::Decoder;
+pub use decoders::MOST_DECODERS;
 pub use effect::{CommitRule, Effect};
 pub use laws::{write_laws, writes_keep_places};
 pub use offsets::{

@@ -1,9 +1,10 @@
 -- Committed decoders stand before all others, and their ranges rise.
-use Rattle.std.proofs.Common.{◌≡◌, ℕ, zero, suc, ◌+◌, ◌<◌, ◌≤◌, Bool, true, false, List, length, get_or, Some, sym, ap, ◌∙◌, inl, inr, arith}
+use Rattle.std.proofs.Common.{◌≡◌, ℕ, zero, suc, ◌+◌, ◌<◌, ◌≤◌, true, false, List, length, get_or, Some, sym, ap, ◌∙◌, inl, inr, arith}
 use Rattle.std.specs.Prelude.{slice_get}
 use Rattle.std.proofs.lemmas.Bool.{cases_lt}
 use Rattle.std.proofs.lemmas.Option.{slice_get_within, slice_get-get_or, get_or_from_slice_get}
 use Rattle.std.proofs.lemmas.List.Sums.{prefix_len_passes, prefix_len_stops}
+use Rattle.cxl_enc.proofs.Tests.{clash}
 use Rattle.cxl_regs.specs.declared.decoder.Decoder.{Decoder}
 use Rattle.cxl_regs.specs.Registers.{Registers}
 use Rattle.cxl_regs.specs.Reading.{committed_count}
@@ -52,9 +53,6 @@ pub counted_is_committed : (decoders : List Decoder) (i : ℕ) (d : Decoder) →
 counted_is_committed decoders i d at_d below =
     ap (λ (x : Decoder). x.committed) (sym (get_or_from_slice_get decoders i d d at_d)) ∙ prefix_len_passes (λ (x : Decoder). x.committed) decoders i d below
 
-not_both : (a : Bool) → a ≡ true → a ≡ false → ⊥
-not_both a is_true is_false = cc
-
 pub committed_is_counted : (block : Registers) (ram pmem : ℕ) → BlockKeeps block ram pmem → (i : ℕ) (d : Decoder) → slice_get block.decoders i ≡ Some d
     → d.committed ≡ true → i < committed_count block.decoders
 committed_is_counted block ram pmem keeps i d at_d committed =
@@ -68,7 +66,7 @@ committed_is_counted block ram pmem keeps i d at_d committed =
           let at_stop = slice_get-get_or block.decoders n d room in
           let not_committed : stop.committed ≡ false = prefix_len_stops (λ (x : Decoder). x.committed) block.decoders d room in
           elim (cases_lt n i) [
-            | inl above ↦ absurd (not_both stop.committed (committed_before block ram pmem keeps i d at_d committed n stop at_stop above) not_committed)
-            | inr at ↦ absurd (not_both stop.committed (ap (λ (x : Decoder). x.committed) (same_decoder block.decoders n i stop d (omega arith) at_stop at_d) ∙ committed) not_committed)
+            | inl above ↦ absurd (clash stop.committed (committed_before block ram pmem keeps i d at_d committed n stop at_stop above) not_committed)
+            | inr at ↦ absurd (clash stop.committed (ap (λ (x : Decoder). x.committed) (same_decoder block.decoders n i stop d (omega arith) at_stop at_d) ∙ committed) not_committed)
           ])
     ]

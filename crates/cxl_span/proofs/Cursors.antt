@@ -1,33 +1,22 @@
 -- The cursor: the end of the last committed span.
-use Rattle.std.proofs.Common.{◌≡◌, ℕ, zero, suc, ◌+◌, ◌-◌, ◌<◌, ◌≤◌, Bool, true, false, cond, List, [], ◌∷◌, take, length, Option, Some, sum_by, refl, sym, ap, ◌∙◌, inl, inr, arith}
-use Rattle.std.specs.Prelude.{slice_get, ◌==◌}
+use Rattle.std.proofs.Common.{◌≡◌, ℕ, ◌+◌, ◌-◌, ◌<◌, ◌≤◌, true, false, List, [], ◌∷◌, take, length, Option, Some, sum_by, refl, sym, ap, ◌∙◌, inl, inr, arith}
+use Rattle.std.specs.Prelude.{slice_get}
 use Rattle.std.specs.Option.{option_map_or}
-use Rattle.std.proofs.lemmas.Bool.{ne_eqb, cases_lt}
+use Rattle.std.proofs.lemmas.Bool.{cases_lt}
 use Rattle.std.proofs.lemmas.List.Elements.{All-from_get_or}
 use Rattle.std.proofs.lemmas.List.Folds.{list_all_at}
 use Rattle.std.proofs.lemmas.List.Sums.{prefix_len_passes, prefix_len_stops, prefix_len-le-length, list_all-from_AllPass}
-use Rattle.cxl_enc.specs.declared.caps.MemKind.{MemKind}
-use Rattle.cxl_enc.specs.declared.caps.MemKind.TheVariants.{Ram, Pmem}
+use Rattle.cxl_enc.proofs.Numbers.{some_count, no_count}
 use Rattle.cxl_regs.specs.declared.decoder.Decoder.{Decoder}
 use Rattle.cxl_regs.specs.Registers.{Registers}
 use Rattle.cxl_regs.specs.Reading.{span_length, committed_count}
 use Rattle.cxl_span.specs.Spans.{span_step, span_start_of, span_end_of}
-use Rattle.cxl_span.specs.Partitions.{partition_end}
 use Rattle.cxl_span.specs.Breaches.{BlockKeeps}
 use Rattle.cxl_span.specs.Allotting.{all_committed, cursor_of}
 use Rattle.cxl_span.proofs.Committed.{counted_is_committed}
 use Rattle.cxl_span.proofs.SpanLaws.{end_here, taken_same, lies_in_some, lies_in_means}
 use Rattle.cxl_span.proofs.Wholes.{at_place}
-
-unless_none : (n x : ℕ) → 0 < n → cond (n == 0) 0 x ≡ x
-unless_none zero x some = absurd (omega arith)
-unless_none (suc n) x some =
-    let test : (suc n == 0) ≡ false = ne_eqb (suc n) 0 (omega arith) in
-    ap (λ (b : Bool). cond b 0 x) test
-
-when_none : (n x : ℕ) → n ≡ 0 → cond (n == 0) 0 x ≡ 0
-when_none zero x none = refl
-when_none (suc n) x none = absurd (omega arith)
+use Rattle.cxl_span.proofs.Ends.{partition_ends}
 
 -- all that the committed decoders skip and take
 pub taken_to_cursor : (decoders : List Decoder) → sum_by span_step (take (committed_count decoders) decoders) ≡ cursor_of decoders
@@ -40,15 +29,11 @@ taken_to_cursor decoders =
           let back : n ≡ n - 1 + 1 = omega arith in
           taken_same decoders n (n - 1 + 1) back
           ∙ sym (end_here decoders (n - 1) last.0 last.1)
-          ∙ sym (unless_none n (span_end_of decoders (n - 1)) some))
+          ∙ sym (some_count n (span_end_of decoders (n - 1)) some))
       | inr few ↦
           (let none : n ≡ 0 = omega arith in
-          taken_same decoders n 0 none ∙ sym (when_none n (span_end_of decoders (n - 1)) none))
+          taken_same decoders n 0 none ∙ sym (no_count n (span_end_of decoders (n - 1)) none))
     ]
-
-partition_ends : (kind : MemKind) (ram pmem : ℕ) → partition_end kind ram pmem ≤ ram + pmem
-partition_ends Ram ram pmem = omega arith
-partition_ends Pmem ram pmem = omega arith
 
 -- a committed span ends on the device
 pub span_ends : (block : Registers) (ram pmem i : ℕ) (d : Decoder) → BlockKeeps block ram pmem → block.endpoint ≡ true
@@ -69,12 +54,12 @@ cursor_within block ram pmem keeps endpoint =
           (let last = at_place block.decoders (n - 1) (omega arith) in
           let committed = counted_is_committed block.decoders (n - 1) last.0 last.1 (omega arith) in
           let ends = span_ends block ram pmem (n - 1) last.0 keeps endpoint last.1 committed in
-          let at_end : cursor_of block.decoders ≡ span_end_of block.decoders (n - 1) = unless_none n (span_end_of block.decoders (n - 1)) some in
+          let at_end : cursor_of block.decoders ≡ span_end_of block.decoders (n - 1) = some_count n (span_end_of block.decoders (n - 1)) some in
           let length_there : option_map_or span_length (slice_get block.decoders (n - 1)) 0 ≡ span_length last.0 = ap (λ (o : Option Decoder). option_map_or span_length o 0) last.1 in
           omega (arith, ends, at_end, length_there))
       | inr few ↦
           (let none : n ≡ 0 = omega arith in
-          let at_zero : cursor_of block.decoders ≡ 0 = when_none n (span_end_of block.decoders (n - 1)) none in
+          let at_zero : cursor_of block.decoders ≡ 0 = no_count n (span_end_of block.decoders (n - 1)) none in
           omega (arith, at_zero))
     ]
 

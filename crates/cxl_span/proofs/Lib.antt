@@ -1,3 +1,5 @@
+pub mod Ends
+pub mod RulesBroken
 pub mod Sums
 pub mod Turns
 pub mod BreaksAt

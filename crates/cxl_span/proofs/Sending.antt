@@ -8,9 +8,9 @@ use Rattle.std.proofs.lemmas.List.Elements.{All-get_or}
 use Rattle.cxl_regs.specs.declared.decoder.Decoder.{Decoder}
 use Rattle.cxl_regs.specs.Registers.{Registers, IsBlock, IsDecoder}
 use Rattle.cxl_regs.specs.Reading.{decoder_ways, decoder_granularity, span_length, holds_address}
+use Rattle.cxl_regs.proofs.DecoderRanges.{holds_parts}
 use Rattle.cxl_span.specs.Spans.{span_start_of, endpoint_place_of}
 use Rattle.cxl_span.specs.Breaches.{BlockKeeps}
-use Rattle.cxl_span.proofs.OneHolder.{holds}
 use Rattle.cxl_span.proofs.Wholes.{ways_some, length_aligned, length_times_ways}
 
 -- an address below the end of w shares of m chunks goes to a place below m chunks
@@ -30,7 +30,7 @@ chunks gran few =
     let sum : 28 ≡ 20 - gran + (8 + gran) = omega arith in
     ap (λ (x : ℕ). 2 ^ x) sum ∙ pow-add 2 (20 - gran) (8 + gran) ∙ ap (λ (x : ℕ). 2 ^ (20 - gran) * x) (pow-add 2 8 gran)
 
--- so a share of whole 256 MiB holds the place of each address
+-- so a share of whole 256 MiB holds_parts the place of each address
 in_share : (gran w x share : ℕ) → gran < 16 → 0 < w → 0 < 256 * 2 ^ gran → 0 < 256 * 2 ^ gran * w → share % 2 ^ 28 ≡ 0 → x < share * w
     → x / (256 * 2 ^ gran * w) * (256 * 2 ^ gran) + x % (256 * 2 ^ gran) < share
 in_share gran w x share few some_w some_g some aligned less =
@@ -50,7 +50,7 @@ pub sent_below : (block : Registers) (ram pmem i h : ℕ) (d : Decoder) → IsBl
     → slice_get block.decoders i ≡ Some d → holds_address d h ≡ true
     → endpoint_place_of (span_start_of block.decoders i) d h < span_start_of block.decoders i + span_length d
 sent_below block ram pmem i h d is keeps endpoint here held =
-    let own = holds d h held in
+    let own = holds_parts d h held in
     let from = own.from in
     let below = own.below in
     let g : ℕ = decoder_granularity d in

@@ -1,7 +1,7 @@
 -- Spans follow each other, in whole units, and each lies in one partition.
-use Rattle.std.proofs.Common.{◌≡◌, ℕ, zero, suc, ◌+◌, ◌<◌, ◌≤◌, ◌⊎◌, Bool, true, false, ◌||◌, List, [], ◌∷◌, take, length, get_or, Some, sum_by, refl, ap, ◌∙◌, inl, inr, arith}
+use Rattle.std.proofs.Common.{◌≡◌, ℕ, zero, suc, ◌+◌, ◌<◌, ◌≤◌, true, List, [], ◌∷◌, take, length, get_or, Some, sum_by, refl, ap, ◌∙◌, inl, inr, arith}
 use Rattle.std.specs.Prelude.{slice_get, nat_le, IsTrue}
-use Rattle.std.proofs.lemmas.Bool.{cases_lt, leb-true, le-leb}
+use Rattle.std.proofs.lemmas.Bool.{cases_lt, leb-true, le-leb, and_parts, or_cases}
 use Rattle.std.proofs.lemmas.Option.{slice_get-get_or}
 use Rattle.cxl_enc.specs.declared.caps.MemKind.{MemKind}
 use Rattle.cxl_enc.specs.declared.caps.MemKind.TheVariants.{Ram, Pmem}
@@ -12,7 +12,7 @@ use Rattle.cxl_span.specs.Spans.{span_step, span_start_of, span_end_of}
 use Rattle.cxl_span.specs.Partitions.{lies_in, partition_start, partition_end}
 use Rattle.cxl_span.specs.Breaches.{BlockKeeps}
 use Rattle.cxl_span.proofs.Sums.{taken_more}
-use Rattle.cxl_span.proofs.KeptRules.{and_true, in_ram_or_pmem}
+use Rattle.cxl_span.proofs.KeptRules.{in_ram_or_pmem}
 
 pub start_here : (decoders : List Decoder) (i : ℕ) (d : Decoder) → slice_get decoders i ≡ Some d
     → span_start_of decoders i ≡ sum_by span_step (take i decoders) + d.tail
@@ -63,19 +63,15 @@ spans_follow (first ∷ rest) i j below within =
 pub lies_in_means : (kind : MemKind) (ram pmem start len : ℕ) → lies_in kind ram pmem start len ≡ true
     → (partition_start kind ram ≤ start) × (start + len ≤ partition_end kind ram pmem)
 lies_in_means kind ram pmem start len inside =
-    let parts = and_true (nat_le (partition_start kind ram) start) (nat_le (start + len) (partition_end kind ram pmem)) inside in
+    let parts = and_parts (nat_le (partition_start kind ram) start) (nat_le (start + len) (partition_end kind ram pmem)) inside in
     (leb-true (partition_start kind ram) start parts.0, leb-true (start + len) (partition_end kind ram pmem) parts.1)
-
-or_true : (a b : Bool) → (a || b) ≡ true → (a ≡ true) ⊎ (b ≡ true)
-or_true true b h = inl refl
-or_true false b h = inr h
 
 -- a committed span lies in some partition
 pub lies_in_some : (block : Registers) (ram pmem i : ℕ) (d : Decoder) → BlockKeeps block ram pmem → block.endpoint ≡ true
     → slice_get block.decoders i ≡ Some d → d.committed ≡ true
     → (kind : MemKind) × IsTrue (lies_in kind ram pmem (span_start_of block.decoders i) (span_length d))
 lies_in_some block ram pmem i d keeps endpoint here committed =
-    elim (or_true (lies_in Ram ram pmem (sum_by span_step (take i block.decoders) + d.tail) (span_length d))
+    elim (or_cases (lies_in Ram ram pmem (sum_by span_step (take i block.decoders) + d.tail) (span_length d))
     (lies_in Pmem ram pmem (sum_by span_step (take i block.decoders) + d.tail) (span_length d))
     (in_ram_or_pmem block ram pmem i d keeps here committed endpoint)) [
       | inl in_ram ↦ (Ram, moved Ram in_ram)

@@ -7,6 +7,7 @@ use Rattle.std.proofs.lemmas.List.Elements.{All-get_or}
 use Rattle.std.proofs.lemmas.List.Sums.{prefix_len-le-length}
 use Rattle.std.proofs.Math.Nat.{mul-div_cancel_left}
 use Rattle.cxl_enc.specs.Limits.{unit}
+use Rattle.cxl_enc.proofs.Numbers.{some_factor}
 use Rattle.cxl_regs.specs.declared.decoder.Decoder.{Decoder}
 use Rattle.cxl_regs.specs.Registers.{Registers, IsBlock, IsDecoder}
 use Rattle.cxl_regs.specs.Reading.{span_length, decoder_ways, committed_count}
@@ -66,14 +67,10 @@ pub length_times_ways : (block : Registers) (ram pmem i : ℕ) (d : Decoder) →
 length_times_ways block ram pmem i d keeps endpoint here committed =
     shares_whole d.size (decoder_ways d) (ways_some d) (size_even block ram pmem i d keeps here committed endpoint)
 
-none_of_nothing : (n w size : ℕ) → n * w ≡ size → 0 < size → 0 < n
-none_of_nothing zero w size e some = let same : 0 * w ≡ size = e in omega arith
-none_of_nothing (suc n) w size e some = omega arith
-
 pub length_some : (block : Registers) (ram pmem i : ℕ) (d : Decoder) → BlockKeeps block ram pmem → block.endpoint ≡ true
     → slice_get block.decoders i ≡ Some d → d.committed ≡ true → 0 < span_length d
 length_some block ram pmem i d keeps endpoint here committed =
-    none_of_nothing (span_length d) (decoder_ways d) d.size (length_times_ways block ram pmem i d keeps endpoint here committed)
+    some_factor (span_length d) (decoder_ways d) d.size (length_times_ways block ram pmem i d keeps endpoint here committed)
     (size_some block ram pmem i d keeps here committed)
 
 skip_aligned : (block : Registers) (i : ℕ) (d : Decoder) → IsBlock block → block.endpoint ≡ true → slice_get block.decoders i ≡ Some d → d.tail % unit ≡ 0

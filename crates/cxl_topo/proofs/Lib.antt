@@ -1,3 +1,4 @@
+pub mod Trees
 pub mod NameKeys
 pub mod Entering
 pub mod PathsUp

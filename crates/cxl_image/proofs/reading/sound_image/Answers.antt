@@ -23,13 +23,13 @@ push_reserved-requires c = omega (arith, c.loop-i.blocks.ok.0, c.loop-i.invarian
 pub overflow_add-at : goal.overflow_add-at
 overflow_add-at c =
     let few = place_few c.args.topo.now.nodes c.count-i-end.ensures.tree c.loop-i.i c.node-node.result.now c.node-node.ensures in
-    omega (arith, few, c.loop-i.invariant.read.place, c.block_size.ensures.size)
+    omega (arith, few, c.loop-i.invariant.read.place, c.block_size-at.ensures.size)
 
 pub loop-i-preserved : goal.loop-i-preserved
 loop-i-preserved c = record {
   read =
-      rw (c.push_reserved.ensures.items, c.block_size.ensures.size)
-      (read_more c.args.bytes.now c.args.topo.now.nodes c.loop-i.blocks.items c.loop-i.i c.loop-i.at c.node-node.result.now c.in_ok-block_from.field-0 c.loop-i.invariant.read c.node-node.ensures c.in_ok-block_from.ensures.value c.in_ok-block_from.ensures.block);
+      rw (c.push_reserved.ensures.items, c.block_size-at.ensures.size)
+      (read_more c.args.bytes.now c.args.topo.now.nodes c.loop-i.blocks.items c.loop-i.i c.loop-i.at c.node-node.result.now c.block_from.result c.loop-i.invariant.read c.node-node.ensures c.block_from.ensures.value c.block_from.ensures.block);
   room = omega (arith, c.push_reserved.ensures.capacity, c.loop-i.invariant.room);
 }
 

@@ -23,12 +23,12 @@ new-requires c = rw c.is_endpoint.ensures (c.count-i-end.ensures.tree.caps c.loo
 pub loop-i-preserved : goal.loop-i-preserved
 loop-i-preserved c =
     let node : Node = c.node-node.result.now in
-    let is : c.in_ok-new.field-0 ≡ reset_block_of node = c.in_ok-new.ensures ∙ ap (reset_block node.cap) c.is_endpoint.ensures in
+    let is : c.new.result ≡ reset_block_of node = c.new.ensures ∙ ap (reset_block node.cap) c.is_endpoint.ensures in
     let legal = c.count.ensures.tree.caps c.loop-i.i node c.node-node.ensures in
     rw c.push_reserved.ensures.items (record {
-      reset = ap (λ (front : List Registers). front ++ c.in_ok-new.field-0 ∷ []) c.loop-i.invariant.reset ∙ reset_more c.args.topo.now.nodes c.loop-i.i node c.in_ok-new.field-0 c.node-node.ensures is;
-      each = All-push IsBlock c.loop-i.blocks.items c.in_ok-new.field-0 c.loop-i.invariant.each (subst IsBlock (sym is) (reset_is_block node.cap (is_endpoint node.kind) legal));
-      count = omega (arith, c.loop-i.invariant.count, length_push c.loop-i.blocks.items c.in_ok-new.field-0);
+      reset = ap (λ (front : List Registers). front ++ c.new.result ∷ []) c.loop-i.invariant.reset ∙ reset_more c.args.topo.now.nodes c.loop-i.i node c.new.result c.node-node.ensures is;
+      each = All-push IsBlock c.loop-i.blocks.items c.new.result c.loop-i.invariant.each (subst IsBlock (sym is) (reset_is_block node.cap (is_endpoint node.kind) legal));
+      count = omega (arith, c.loop-i.invariant.count, length_push c.loop-i.blocks.items c.new.result);
       room = omega (arith, c.push_reserved.ensures.capacity, c.loop-i.invariant.room);
     })
 

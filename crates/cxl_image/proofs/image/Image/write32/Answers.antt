@@ -1,8 +1,8 @@
 use Rattle.std.proofs.Common.{◌≡◌, List, length, Some, refl, sym, ap, subst, arith}
 use Rattle.std.proofs.lemmas.Option.{slice_get_read}
 use Rattle.std.specs.Prelude.{slice_get}
+use Rattle.cxl_enc.proofs.Lists.{get_other}
 use Rattle.cxl_regs.specs.Registers.{Registers, IsBlock}
-use Rattle.cxl_image.proofs.Blocks.{get_other}
 use Rattle.cxl_image.proofs.AfterWrite.{after_left, after_told, after_caps, after_image, block_there}
 use Rattle.cxl_image.proofs.image.Image.write32.Goals as goal
 
