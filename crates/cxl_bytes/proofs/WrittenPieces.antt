@@ -11,6 +11,7 @@ use Rattle.std.proofs.lemmas.List.{length-append, length-take, length-drop, get_
 use Rattle.std.proofs.lemmas.List.FromFn.{length-map-range_with_len, get_or-map-range_with_len}
 use Rattle.cxl_media.specs.Blocks.{overwritten}
 use Rattle.cxl_model.specs.Contents.{Contents, content_at}
+use Rattle.cxl_model.proofs.NewBytes.{absent}
 use Rattle.cxl_bytes.specs.Bytes.{touched_pieces, new_pieces, byte_after, piece_after, written}
 
 -- ---- one byte behind a store
@@ -126,9 +127,6 @@ pub written_one : (contents : Contents) (offset : ℕ) (bytes : List ℕ) → 1 
 written_one contents offset bytes some fits = ap (put_all contents offset bytes contents) (one_touched offset (length bytes) some fits)
 
 -- ---- how many of them are new
-
-abbrev absent : Contents → ℕ → Bool
-absent contents n = not (fin.contains_key contents n)
 
 one_counted : (b : Bool) (n : ℕ) → length (cond (not b) (n ∷ []) []) ≡ cond b 0 1
 one_counted true n = refl

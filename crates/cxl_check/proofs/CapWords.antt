@@ -1,17 +1,14 @@
 -- K1, node by node.
-use Rattle.std.proofs.Common.{◌≡◌, ℕ, ◌+◌, ◌<◌, Bool, true, false, ◌&&◌, length, Some, refl, ◌∙◌, inl, inr, arith}
+use Rattle.std.proofs.Common.{◌≡◌, ℕ, ◌+◌, ◌<◌, false, length, Some, refl, ◌∙◌, inl, inr, arith}
 use Rattle.std.specs.Prelude.{slice_get, ◌==◌}
 use Rattle.std.proofs.lemmas.Bool.{eq-eqb, ne_eqb, cases_lt}
 use Rattle.std.proofs.lemmas.Option.{slice_get_past}
+use Rattle.cxl_enc.proofs.Tests.{and_false}
 use Rattle.cxl_topo.specs.declared.node.Node.{Node}
 use Rattle.cxl_regs.specs.Registers.{Registers}
 use Rattle.cxl_model.specs.System.{System}
 use Rattle.cxl_model.specs.Accepted.{breaks, breaks_caps}
 use Rattle.cxl_check.specs.Spots.{Keeps, IsFirstSpot}
-
-and_false : (b : Bool) → (b && false) ≡ false
-and_false true = refl
-and_false false = refl
 
 module _ (s : System) where
   as_caps : (n i : ℕ) → breaks s 1 n i ≡ breaks_caps s n i

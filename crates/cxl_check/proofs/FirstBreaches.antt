@@ -6,12 +6,13 @@ use Rattle.std.proofs.lemmas.Bool.{cases_lt, cases_eq, false≢true}
 use Rattle.std.proofs.lemmas.Option.{slice_get_past}
 use Rattle.cxl_regs.specs.Registers.{Registers}
 use Rattle.cxl_span.specs.Breaches.{breaks as block_breaks}
+use Rattle.cxl_span.proofs.RulesBroken.{no_other_rule}
 use Rattle.cxl_model.specs.System.{System, IsSystem, ram_at, pmem_at}
 use Rattle.cxl_model.specs.Accepted.{breaks, breaks_block, IsAccepted, IsFirstBreach, IsOrderlySystem}
+use Rattle.cxl_model.proofs.OtherBlocks.{block_rule}
 use Rattle.cxl_check.specs.declared.fault.Breach.{Breach}
 use Rattle.cxl_check.specs.Spots.{Keeps, IsFirstSpot}
 use Rattle.cxl_check.specs.inner.Found.{IsFoundAmong}
-use Rattle.cxl_check.proofs.Kept.{no_rule, block_rule}
 use Rattle.cxl_check.proofs.RuleTests.{all_rules, past_nodes}
 
 module _ (s : System) where
@@ -21,7 +22,7 @@ module _ (s : System) where
     where
       go : (o : Option Registers) → option_map_or (λ (block : Registers). block_breaks rule block (ram_at s n) (pmem_at s n) i) o false ≡ false
       go None = refl
-      go (Some block) = no_rule rule block (ram_at s n) (pmem_at s n) i far
+      go (Some block) = no_other_rule rule block (ram_at s n) (pmem_at s n) i far
 
   -- and there is none past the nodes
   block_past : (rule n i : ℕ) → length s.blocks ≤ n → breaks_block s rule n i ≡ false

@@ -1,12 +1,13 @@
 -- What K1 to K8 give of one node.
-use Rattle.std.proofs.Common.{◌≡◌, ℕ, zero, suc, ◌+◌, ◌%◌, ◌^◌, ◌<◌, ◌≤◌, ◌&&◌, Bool, true, false, List, [], ◌∷◌, length, Option, Some, None, refl, sym, ◌∙◌, inl, inr, if◌then◌else◌, arith}
+use Rattle.std.proofs.Common.{◌≡◌, ℕ, ◌+◌, ◌%◌, ◌^◌, ◌<◌, ◌≤◌, ◌&&◌, Bool, true, false, List, length, Option, Some, None, refl, sym, ◌∙◌, inl, inr, if◌then◌else◌, arith}
 use Rattle.std.specs.Prelude.{slice_get, IsSomeAnd, ◌==◌, nat_le}
 use Rattle.std.specs.Option.{option_map_or, option_and_then}
-use Rattle.std.proofs.lemmas.Bool.{and_parts, leb-true, le-leb, lt-leb, ne_eqb, lt-ltb, cases_lt, cases_eq, false≢true}
+use Rattle.std.proofs.lemmas.Bool.{and_parts, leb-true, le-leb, lt-leb, cases_lt, cases_eq, false≢true}
 use Rattle.std.proofs.lemmas.Option.{slice_get_within}
 use Rattle.cxl_topo.specs.declared.node.Node.{Node}
 use Rattle.cxl_enc.specs.Limits.{address_limit}
 use Rattle.cxl_enc.specs.declared.caps.MemKind.TheVariants.{Ram, Pmem}
+use Rattle.cxl_enc.proofs.Options.{some_and}
 use Rattle.cxl_topo.specs.declared.node.Capacity.{Capacity}
 use Rattle.cxl_topo.specs.Kinds.{is_endpoint, capacity_of}
 use Rattle.cxl_topo.specs.Tree.{is_endpoint_at}
@@ -14,35 +15,14 @@ use Rattle.cxl_regs.specs.declared.decoder.Decoder.{Decoder}
 use Rattle.cxl_regs.specs.Registers.{Registers}
 use Rattle.cxl_regs.specs.declared.reading.Range.{Range}
 use Rattle.cxl_regs.specs.Reading.{has_range, span_length}
-use Rattle.cxl_regs.specs.Rules.{before}
-use Rattle.cxl_span.specs.Rules.{breaks_rule}
 use Rattle.cxl_span.specs.Spans.{span_start_of}
 use Rattle.cxl_span.specs.Breaches.{breaks as block_breaks, BlockKeeps}
+use Rattle.cxl_span.proofs.RulesBroken.{no_other_rule}
 use Rattle.cxl_model.specs.System.{System, decoders_at, decoder_at, ram_at, pmem_at}
 use Rattle.cxl_model.specs.Ranges.{span_kind}
-use Rattle.cxl_model.specs.Accepted.{breaks, breaks_block, IsOrderlySystem}
+use Rattle.cxl_model.specs.Accepted.{IsOrderlySystem}
+use Rattle.cxl_model.proofs.OtherBlocks.{block_rule}
 use Rattle.cxl_check.specs.inner.Holders.{HasOneHolder}
-
--- a rule that is none of K2 to K8 is broken by no decoder
-pub no_rule : (rule : ℕ) (block : Registers) (ram pmem i : ℕ) → ((k : ℕ) → 2 ≤ k → k < 9 → rule ≡ k → ⊥) → block_breaks rule block ram pmem i ≡ false
-unfolding block_breaks
-no_rule rule block ram pmem i far = go (slice_get block.decoders i)
-  where
-    go : (o : Option Decoder) → option_map_or (breaks_rule rule block ram pmem (before block.decoders i) (span_start_of block.decoders i)) o false ≡ false
-    go None = refl
-    go (Some d) =
-        rw (ne_eqb rule 2 (far 2 (omega arith) (omega arith)), ne_eqb rule 3 (far 3 (omega arith) (omega arith)), ne_eqb rule 4 (far 4 (omega arith) (omega arith)), ne_eqb rule 5 (far 5 (omega arith) (omega arith)), ne_eqb rule 6 (far 6 (omega arith) (omega arith)), ne_eqb rule 7 (far 7 (omega arith) (omega arith)), ne_eqb rule 8 (far 8 (omega arith) (omega arith)))
-        refl
-
--- but for K1, a rule below nine is one of blocks
-pub block_rule : (s : System) (rule n i : ℕ) → (rule ≡ 1 → ⊥) → rule < 9 → breaks s rule n i ≡ breaks_block s rule n i
-unfolding breaks
-block_rule s rule n i other low = rw (ne_eqb rule 1 other, lt-ltb rule 9 low) refl
-
-pub item : {X : Type 0} (xs : List X) (i : ℕ) → i < length xs → (x : X) × (slice_get xs i ≡ Some x)
-item [] i lt = absurd (omega arith)
-item (x ∷ xs) zero lt = (x, refl)
-item (x ∷ xs) (suc i) lt = item xs i (omega arith)
 
 -- what is said of the ends of spans
 abbrev pub SpansEnd : Type 0
@@ -56,11 +36,6 @@ OneHolds =
     (block : Registers) (ram pmem i j : ℕ) (r : Range) (d e : Decoder) → BlockKeeps block ram pmem → slice_get block.decoders i ≡ Some d → slice_get block.decoders j ≡ Some e
     → has_range r d ≡ true → has_range r e ≡ true → i ≡ j
 
--- a decoder that is there, with what holds of it
-pub some_and : {A : Type 0} (o : Option A) (P : A → Type 0) → IsSomeAnd o P → (x : A) × (o ≡ Some x) × P x
-some_and None P h = absurd h
-some_and (Some x) P h = (x, refl, h)
-
 -- the node of an endpoint, which is there
 endpoint_there : (nodes : List Node) (n : ℕ) → is_endpoint_at nodes n ≡ true → (node : Node) × (slice_get nodes n ≡ Some node) × (is_endpoint node.kind ≡ true)
 endpoint_there nodes n endpoint = go (slice_get nodes n) refl endpoint
@@ -68,11 +43,6 @@ endpoint_there nodes n endpoint = go (slice_get nodes n) refl endpoint
     go : (o : Option Node) → slice_get nodes n ≡ o → option_map_or (λ node. is_endpoint node.kind) o false ≡ true → (node : Node) × (slice_get nodes n ≡ Some node) × (is_endpoint node.kind ≡ true)
     go None e h = absurd (false≢true h)
     go (Some node) e h = (node, e, h)
-
-pub endpoint_inside : (nodes : List Node) (n : ℕ) → is_endpoint_at nodes n ≡ true → n < length nodes
-endpoint_inside nodes n endpoint =
-    let node = endpoint_there nodes n endpoint in
-    slice_get_within nodes n node.0 node.1
 
 -- a committed decoder is one of its block's
 pub decoder_inside : (s : System) (n i : ℕ) (block : Registers) → slice_get s.blocks n ≡ Some block → IsSomeAnd (decoder_at s n i) (λ (d : Decoder). d.committed ≡ true) → i < length block.decoders
@@ -103,9 +73,9 @@ module _ (s : System) (ready : IsOrderlySystem s) where
       each : (rule i : ℕ) → block_breaks rule block (ram_at s n) (pmem_at s n) i ≡ false
       each rule i =
           elim (cases_lt rule 9) [
-            | inr high ↦ no_rule rule block (ram_at s n) (pmem_at s n) i (λ k from to same. omega arith)
+            | inr high ↦ no_other_rule rule block (ram_at s n) (pmem_at s n) i (λ k from to same. omega arith)
             | inl low ↦ elim (cases_eq rule 1) [
-              | inl one ↦ no_rule rule block (ram_at s n) (pmem_at s n) i (λ k from to same. omega arith)
+              | inl one ↦ no_other_rule rule block (ram_at s n) (pmem_at s n) i (λ k from to same. omega arith)
               | inr other ↦
                   let kept = sym (block_rule s rule n i other low) ∙ ready.blocks rule n i low in
                   rw here at kept

@@ -4,6 +4,8 @@ use Rattle.std.specs.Prelude.{slice_get, IsSomeAnd, option_and_then, option_map}
 use Rattle.std.specs.Option.{option_map_or}
 use Rattle.std.proofs.lemmas.Bool.{cases_Bool, not-true, false≢true}
 use Rattle.std.proofs.lemmas.Option.{none-some, same_Some, slice_get_within}
+use Rattle.cxl_enc.proofs.Options.{some_and}
+use Rattle.cxl_enc.proofs.Lists.{item}
 use Rattle.cxl_topo.specs.declared.node.Node.{Node}
 use Rattle.cxl_topo.specs.declared.node.Parent.{Parent}
 use Rattle.cxl_topo.specs.Kinds as kinds
@@ -20,7 +22,6 @@ use Rattle.cxl_model.specs.System.{System, decoders_at}
 use Rattle.cxl_model.specs.Ranges.{decoder_for, index_for}
 use Rattle.cxl_model.specs.Regions.{slots_an_entry, LeadsTo, past_forwarding, past_port, at_endpoint, LeadsSlot}
 use Rattle.cxl_check.specs.inner.Slots.{child_of_slot, next_of}
-use Rattle.cxl_check.proofs.Kept.{some_and, item}
 use Rattle.cxl_check.proofs.Trees.{IsBelow, below_parent}
 
 holding : (nodes : List Node) (n : ℕ) (test : Node → Bool) → holds_at nodes n test ≡ true → (node : Node) × (slice_get nodes n ≡ Some node) × (test node ≡ true)

@@ -1,6 +1,6 @@
 -- The regions of an accepted image, listed by the keys of its ranges.
-use Rattle.std.proofs.Common.{◌≡◌, ℕ, ◌+◌, ◌<◌, ◌≤◌, ◌&&◌, true, List, [], ◌∷◌, ◌++◌, length, get_or, map, take, Option, Some, None, refl, sym, ap, subst, ◌∙◌, inl, inr, arith}
-use Rattle.std.specs.Prelude.{slice_get, ◌==◌, IsSome, All, AllPairs, Contains, option_map, ◌↔◌}
+use Rattle.std.proofs.Common.{◌≡◌, ℕ, ◌+◌, ◌<◌, ◌&&◌, true, List, [], ◌∷◌, ◌++◌, length, get_or, map, take, Option, Some, None, refl, sym, ap, subst, ◌∙◌, inl, inr, arith}
+use Rattle.std.specs.Prelude.{slice_get, ◌==◌, IsSome, All, AllPairs, Contains, option_map}
 use Rattle.std.specs.declared.cmp.Ordering.TheVariants.{Less}
 use Rattle.std.specs.List.{list_any, range_with_len}
 use Rattle.std.specs.Option.{option_map_or}
@@ -17,14 +17,14 @@ use Rattle.cxl_regs.specs.declared.reading.Range.{Range}
 use Rattle.cxl_regs.specs.Registers.{Registers}
 use Rattle.cxl_regs.specs.Reading.{has_range}
 use Rattle.cxl_span.specs.Breaches.{BlockKeeps}
-use Rattle.cxl_window.specs.Fields.{WindowFields}
 use Rattle.cxl_model.specs.declared.found.Found.{Found}
 use Rattle.cxl_model.specs.System.{System, IsSystem, ram_at, pmem_at}
 use Rattle.cxl_model.specs.Ranges.{serves, IsCommittedRange, first_endpoint, range_ways}
-use Rattle.cxl_model.specs.Accepted.{IsAccepted, KeepsBlocks, IsWhole, IsOrderlySystem}
-use Rattle.cxl_model.specs.Regions.{region_range, IsRegionIn, IsRegion}
+use Rattle.cxl_model.specs.Accepted.{IsAccepted, IsWhole, IsOrderlySystem}
+use Rattle.cxl_model.specs.Regions.{region_range, IsRegion}
 use Rattle.cxl_model.specs.Counts.{is_endpoint_of, endpoints_of}
 use Rattle.cxl_model.specs.Listed.{AreRegionsByBase}
+use Rattle.cxl_model.proofs.ImageLaws.{AcceptedLaw, ShareLaw}
 use Rattle.cxl_check.specs.declared.firsts.RangeKey.{RangeKey}
 use Rattle.cxl_check.specs.inner.Firsts.{key_cmp, range_at, ListsFirsts}
 use Rattle.cxl_check.specs.inner.Listing.{AreListed, IsWholeKey}
@@ -35,23 +35,15 @@ use Rattle.cxl_check.proofs.WaysUp.{range_ways_some}
 
 -- ---- the laws that this rests on
 
-abbrev pub WholesAreAccepted : Type 0
-WholesAreAccepted = (s : System) → IsAccepted s ↔ (KeepsBlocks s × ((r : Range) → IsCommittedRange s r → IsWhole s r))
-
 abbrev pub CountsEndpoints : Type 0
 CountsEndpoints = (s : System) (r : Range) → IsSystem s → IsWhole s r → IsCommittedRange s r → length (endpoints_of s r) ≡ range_ways s r
-
-abbrev pub SharesNoByte : Type 0
-SharesNoByte =
-    (s : System) (w v : WindowFields) (found other : Found) (h : ℕ) → IsSystem s → IsRegionIn s w found → IsRegionIn s v other
-    → found.base ≤ h → h < found.base + found.size → other.base ≤ h → h < other.base + other.size → found ≡ other
 
 abbrev pub HasBytes : Type 0
 HasBytes = (block : Registers) (ram pmem i : ℕ) (d : Decoder) → BlockKeeps block ram pmem → slice_get block.decoders i ≡ Some d → d.committed ≡ true → 0 < d.size
 
 -- ---- the keys
 
-module _ (s : System) (ready : IsOrderlySystem s) (accepted : IsAccepted s) (firsts : BTreeMap RangeKey ℕ) (listed : ListsFirsts s (length s.nodes) firsts) (wholes : WholesAreAccepted) where
+module _ (s : System) (ready : IsOrderlySystem s) (accepted : IsAccepted s) (firsts : BTreeMap RangeKey ℕ) (listed : ListsFirsts s (length s.nodes) firsts) (wholes : AcceptedLaw) where
   key_found : (key : RangeKey) → ContainsKey key_cmp firsts key → (n : ℕ) × (get key_cmp firsts key ≡ Some n)
   key_found key there = go (get key_cmp firsts key) refl there
     where
@@ -90,7 +82,7 @@ one_listed s keys i key regions region known below is one same = record {
 -- ---- all of them
 
 module _ (s : System) (ready : IsOrderlySystem s) (accepted : IsAccepted s) (firsts : BTreeMap RangeKey ℕ) (listed : ListsFirsts s (length s.nodes) firsts) (ordered : IsOrdered key_cmp firsts)
-    (wholes : WholesAreAccepted) (counts : CountsEndpoints) (apart : SharesNoByte) (bytes : HasBytes) (regions : List Found) (known : AreListed s (keys firsts) regions) where
+    (wholes : AcceptedLaw) (counts : CountsEndpoints) (apart : ShareLaw) (bytes : HasBytes) (regions : List Found) (known : AreListed s (keys firsts) regions) where
   -- each committed range has a first endpoint
   first_of : (r : Range) → IsCommittedRange s r → (n : ℕ) × (first_endpoint s r ≡ Some n)
   first_of r committed = go (first_endpoint s r) refl

@@ -5,6 +5,7 @@ use Rattle.std.specs.List.{list_any, range_with_len}
 use Rattle.std.proofs.lemmas.Bool.{eq-eqb, ne_eqb, cases_eq, or_right}
 use Rattle.std.proofs.lemmas.List.{get_or-set_same, get_or-set_other, length-set}
 use Rattle.std.proofs.lemmas.Option.{slice_get-get_or}
+use Rattle.cxl_enc.proofs.Tests.{or_false}
 use Rattle.cxl_topo.specs.declared.node.Node.{Node}
 use Rattle.cxl_check.specs.inner.Landings.{lands_at}
 use Rattle.cxl_check.specs.inner.Firsts.{AreLandings}
@@ -14,10 +15,6 @@ use Rattle.cxl_check.proofs.Numbers.{any_more}
 pub record AreMarked (nodes : List Node) (b : ℕ) (landings : List Bool) : Type 0 where
   pub count : length landings ≡ length nodes
   pub marked : (k : ℕ) → k < length nodes → get_or landings k false ≡ list_any (lands_at nodes k) (range_with_len 0 b)
-
-or_false : (b : Bool) → (b || false) ≡ b
-or_false true = refl
-or_false false = refl
 
 module _ (nodes : List Node) (b : ℕ) (old : List Bool) (marked : AreMarked nodes b old) where
   -- a node that is no bridge, or has no landing, marks nothing

@@ -1,18 +1,16 @@
 -- The rules K9 to K12 as one test of a decoder, and what is found of all rules and of all decoders of a node.
-use Rattle.std.proofs.Common.{◌≡◌, ℕ, ◌+◌, ◌<◌, ◌≤◌, Bool, true, false, not, ◌&&◌, length, Option, Some, None, refl, ◌∙◌, inl, inr, arith, below_more}
+use Rattle.std.proofs.Common.{◌≡◌, ℕ, ◌+◌, ◌<◌, ◌≤◌, true, false, not, ◌&&◌, length, Option, Some, None, refl, ◌∙◌, inl, inr, arith, below_more}
 use Rattle.std.specs.Prelude.{◌==◌}
 use Rattle.std.proofs.lemmas.Bool.{eq-eqb, ne_eqb, le-ltb, cases_Bool, cases_lt, eqb-false}
 use Rattle.std.proofs.lemmas.Option.{slice_get_past}
+use Rattle.cxl_enc.proofs.Tests.{and_false}
 use Rattle.cxl_regs.specs.declared.decoder.Decoder.{Decoder}
 use Rattle.cxl_model.specs.System.{System, decoders_at, decoder_at}
 use Rattle.cxl_span.specs.declared.breach.BlockBreach.{BlockBreach}
 use Rattle.cxl_model.specs.Accepted.{breaks, breaks_at, IsOrderlySystem}
+use Rattle.cxl_model.proofs.Breaches.{past_rules}
 use Rattle.cxl_check.specs.inner.Facts.{keeps_rule}
 use Rattle.cxl_check.specs.inner.Found.{IsFoundWithin, IsFoundOfNode}
-
-and_false : (b : Bool) → (b && false) ≡ false
-and_false true = refl
-and_false false = refl
 
 module _ (s : System) (rule : ℕ) (from : 9 ≤ rule) (to : rule < 13) where
   as_test : (n i : ℕ) → breaks s rule n i ≡ breaks_at s n i (keeps_rule s rule n i)
@@ -64,11 +62,6 @@ module _ (s : System) (rule : ℕ) (from : 9 ≤ rule) (to : rule < 13) where
   past_nodes n i past = let none = slice_get_past s.blocks n past in breaks_none n i (rw none refl)
 
 -- ---- all rules
-
-past_rules : (s : System) (rule n i : ℕ) → 13 ≤ rule → breaks s rule n i ≡ false
-unfolding breaks
-past_rules s rule n i past =
-    rw (ne_eqb rule 1 (omega arith), le-ltb rule 9 (omega arith), ne_eqb rule 9 (omega arith), ne_eqb rule 10 (omega arith), ne_eqb rule 11 (omega arith), ne_eqb rule 12 (omega arith)) refl
 
 -- where K1 to K8 are kept, a decoder that keeps K9 to K12 breaks nothing
 pub all_rules : (s : System) → IsOrderlySystem s → (n i : ℕ) → ((rule : ℕ) → 9 ≤ rule → rule < 13 → breaks s rule n i ≡ false) → (rule : ℕ) → breaks s rule n i ≡ false

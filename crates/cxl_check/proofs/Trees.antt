@@ -1,16 +1,15 @@
 -- Where nodes stand.
-use Rattle.std.proofs.Common.{◌≡◌, ℕ, zero, suc, ◌<◌, Bool, true, false, not, List, [], ◌∷◌, length, Option, Some, None, refl, sym, ap, subst, ◌∙◌, inl, inr, arith}
+use Rattle.std.proofs.Common.{◌≡◌, ℕ, zero, suc, ◌<◌, Bool, true, false, List, [], ◌∷◌, length, Option, Some, None, refl, sym, ap, subst, ◌∙◌, inl, inr, arith}
 use Rattle.std.specs.Prelude.{slice_get, position}
-use Rattle.std.specs.Option.{option_map_or}
-use Rattle.std.proofs.lemmas.Bool.{cases_Bool, not-true, false≢true}
+use Rattle.std.proofs.lemmas.Bool.{cases_Bool, false≢true}
 use Rattle.std.proofs.lemmas.Option.{none-some, same_Some, slice_get_within, option_and_then_some}
 use Rattle.std.proofs.lemmas.List.Quantifiers.{position-Some}
 use Rattle.cxl_topo.specs.declared.node.Node.{Node}
 use Rattle.cxl_topo.specs.declared.node.Parent.{Parent}
-use Rattle.cxl_topo.specs.Kinds.{is_endpoint}
 use Rattle.cxl_topo.specs.Tree.{is_bridge_at, is_endpoint_at, is_port_at, forwards_at, parent_of, child_of, least_child_of, landing_within}
 use Rattle.cxl_topo.specs.Faults.{IsTree}
 use Rattle.cxl_topo.specs.Laws.{AreTreeLaws}
+use Rattle.cxl_topo.proofs.Trees.{port_no_endpoint}
 
 -- a first place lies inside the list
 pub position_below : {X : Type 0} (p : X → Bool) (xs : List X) (i : ℕ) → position p xs ≡ Some i → i < length xs
@@ -34,14 +33,6 @@ landing_below (suc k) nodes n m below is =
 pub record IsBelow (nodes : List Node) (n c : ℕ) : Type 0 where
   pub later : n < c
   pub inside : c < length nodes
-
--- a port is no endpoint
-port_no_endpoint : (nodes : List Node) (n : ℕ) → is_port_at nodes n ≡ true → is_endpoint_at nodes n ≡ false
-port_no_endpoint nodes n port = go (slice_get nodes n) port
-  where
-    go : (o : Option Node) → option_map_or (λ (node : Node). not (is_endpoint node.kind)) o false ≡ true → option_map_or (λ (node : Node). is_endpoint node.kind) o false ≡ false
-    go None h = absurd (false≢true h)
-    go (Some node) h = not-true (is_endpoint node.kind) h
 
 module _ (nodes : List Node) (tree : IsTree nodes) where
   there : (c : ℕ) (parent : Parent) → parent_of nodes c ≡ Some parent → c < length nodes

@@ -1,11 +1,12 @@
 -- How many ways and bits the ports above a node can have.
-use Rattle.std.proofs.Common.{◌≡◌, ℕ, zero, suc, ◌+◌, ◌*◌, ◌<◌, ◌≤◌, Bool, true, false, List, [], ◌∷◌, length, map, Option, Some, None, refl, sym, ap, ◌∙◌, subst, inl, inr, arith}
+use Rattle.std.proofs.Common.{◌≡◌, ℕ, zero, suc, ◌+◌, ◌*◌, ◌≤◌, Bool, true, false, List, [], ◌∷◌, length, map, Option, Some, None, refl, sym, ap, ◌∙◌, subst, inl, inr, arith}
 use Rattle.std.specs.Prelude.{slice_get, sum_by, nat_lt, nat_le}
 use Rattle.std.specs.Option.{option_map_or, unwrap_or}
 use Rattle.std.specs.List.{filter_map}
 use Rattle.std.proofs.lemmas.Bool.{agree_below_at, cases_lt, le-ltb, le-leb, leb-true}
 use Rattle.std.proofs.lemmas.List.Sums.{sum_by-cons}
 use Rattle.cxl_enc.specs.Codes.{ways_of}
+use Rattle.cxl_enc.proofs.Numbers.{sixteens, times}
 use Rattle.cxl_topo.specs.declared.node.Node.{Node}
 use Rattle.cxl_topo.specs.declared.node.Parent.{Parent}
 use Rattle.cxl_topo.specs.Tree.{parent_of, ports_above}
@@ -46,16 +47,9 @@ few_bits d =
 
 -- ---- those in a row of ports
 
-abbrev sixteens : ℕ → ℕ
-sixteens zero = 1
-sixteens (suc m) = 16 * sixteens m
-
 some_sixteens : (m : ℕ) → 1 ≤ sixteens m
 some_sixteens zero = omega arith
 some_sixteens (suc m) = let some = some_sixteens m in omega arith
-
-times : (a b p q : ℕ) → a ≤ b → p ≤ q → a * p ≤ b * q
-times a b p q ab pq = grind arith
 
 product_step : (f : Parent → Option Decoder) (p : Parent) (ps : List Parent) (m : ℕ) (o : Option Decoder) → f p ≡ o → product (map decoder_ways (filter_map f ps)) ≤ sixteens m
     → product (map decoder_ways (filter_map f (p ∷ ps))) ≤ sixteens (suc m)
@@ -100,9 +94,6 @@ ways_once_more a p few rest = times a 16 p 65536 few rest
 -- the numbers of one decoder more fit
 pub ways_fit : (a p : ℕ) → a ≤ 16 → p ≤ 1048576 → a * p ≤ 16777216
 ways_fit a p few rest = times a 16 p 1048576 few rest
-
-pub some_ways : (a p : ℕ) → 0 < a → 0 < p → 0 < a * p
-some_ways a p some rest = times 1 a 1 p some rest
 
 -- what is said of the ports above a node
 abbrev pub PortsAbove : List Node → ℕ → Type 0

@@ -5,6 +5,7 @@ use Rattle.std.specs.Borrow.{Bor}
 use Rattle.std.specs.Option.{option_copied}
 use Rattle.std.proofs.lemmas.Option.{none-some, same_Some}
 use Rattle.std.proofs.lemmas.List.{length-append}
+use Rattle.cxl_enc.proofs.Lists.{item}
 use Rattle.cxl_regs.specs.declared.reading.Range.{Range}
 use Rattle.cxl_window.specs.Fields.{WindowFields}
 use Rattle.cxl_model.specs.declared.found.Found.{Found}
@@ -14,7 +15,6 @@ use Rattle.cxl_model.specs.Ranges.{IsCommittedRange, window_for, range_ways}
 use Rattle.cxl_model.specs.Accepted.{IsWhole}
 use Rattle.cxl_model.specs.Regions.{region_range, HasSpan, IsRegionIn}
 use Rattle.cxl_check.specs.inner.Listing.{AreSpans}
-use Rattle.cxl_check.proofs.Kept.{item}
 
 -- the item at a place of a list with one more
 pushed_at : {X : Type 0} (xs : List X) (x : X) (k : ℕ) (y : X) → slice_get (xs ++ x ∷ []) k ≡ Some y → (P : ℕ → X → Type 0)

@@ -5,10 +5,12 @@ use Rattle.std.proofs.lemmas.Bool.{cases_Bool, cases_eq, not-true, false≢true}
 use Rattle.std.proofs.lemmas.List.Quantifiers.{position-Some}
 use Rattle.std.proofs.lemmas.Option.{get_or_from_slice_get, same_Some}
 use Rattle.std.specs.List.{list_any}
+use Rattle.std.proofs.lemmas.Map.Keys.{any_passes_from_place}
 use Rattle.cxl_regs.specs.declared.decoder.Decoder.{Decoder}
 use Rattle.cxl_regs.specs.Registers.{reset_decoder}
 use Rattle.cxl_regs.specs.declared.reading.Range.{Range}
 use Rattle.cxl_regs.specs.Reading.{has_range}
+use Rattle.cxl_regs.proofs.DecoderRanges.{has_parts, same_range}
 use Rattle.cxl_model.specs.declared.plan.Plan.{Plan}
 use Rattle.cxl_model.specs.declared.request.Request.{Request}
 use Rattle.cxl_model.specs.System.{System, IsSystem, decoders_at, decoder_at}
@@ -16,9 +18,8 @@ use Rattle.cxl_model.specs.Ranges.{serves, IsCommittedRange}
 use Rattle.cxl_model.specs.Changes.{AddsOneRange}
 use Rattle.cxl_model.specs.Regions.{region_range}
 use Rattle.cxl_model.specs.Plans.{committed_row, with_rows, IsLegalPlan}
+use Rattle.cxl_model.proofs.RangeRules.{served}
 use Rattle.cxl_legal.specs.Stated.{has_row}
-use Rattle.cxl_legal.proofs.FittingServers.{passes_one, has_parts, same_range}
-use Rattle.cxl_legal.proofs.FittingRules.{served}
 use Rattle.cxl_legal.proofs.FittingRows.{Rowed, ByRow, by_row, no_row_of, same_decoders}
 
 -- a decoder of two ranges has one
@@ -47,7 +48,7 @@ module _ (s : System) (request : Request) (r : Range) (plan : Plan) (rowed : Row
         | inl is ↦
             let own = by_row s request r plan.rows rowed n is in
             let at = served s q n serving in
-            passes_one (has_range q) (decoders_at t n) at.i at.d (own.others at.i (other_place q n at.i at.d own at.there at.has) ∙ at.there) at.has
+            any_passes_from_place (has_range q) (decoders_at t n) at.i at.d (own.others at.i (other_place q n at.i at.d own at.there at.has) ∙ at.there) at.has
         | inr none ↦ ap (λ (ds : List Decoder). list_any (has_range q) ds) (same_decoders s plan.rows n (no_row_of s request plan.rows n rowed.rows_of none)) ∙ serving
       ]
 
@@ -62,7 +63,7 @@ module _ (s : System) (request : Request) (r : Range) (plan : Plan) (rowed : Row
               | inl same ↦
                   let decoder : at.d ≡ committed_row own.row = same_Some at.d (committed_row own.row) (sym at.there ∙ ap (decoder_at t n) same ∙ own.at) in
                   inr (one_range q r at.d (committed_row own.row) at.has own.has decoder)
-              | inr other ↦ inl (n, passes_one (has_range q) (decoders_at s n) at.i at.d (sym (own.others at.i other) ∙ at.there) at.has)
+              | inr other ↦ inl (n, any_passes_from_place (has_range q) (decoders_at s n) at.i at.d (sym (own.others at.i other) ∙ at.there) at.has)
             ]
         | inr none ↦ inl (n, ap (λ (ds : List Decoder). list_any (has_range q) ds) (sym (same_decoders s plan.rows n (no_row_of s request plan.rows n rowed.rows_of none))) ∙ serving)
       ]

@@ -5,22 +5,23 @@ use Rattle.std.specs.Option.{option_map_or}
 use Rattle.std.proofs.lemmas.Bool.{cases_Bool, cases_eq, eqb-true, eq-eqb, ne_eqb, cond-true, cond-false}
 use Rattle.std.proofs.lemmas.Option.{slice_get-get_or}
 use Rattle.cxl_enc.specs.Limits.{unit}
+use Rattle.cxl_enc.proofs.Tests.{asked_or}
 use Rattle.cxl_topo.specs.Tree.{forwards_at}
 use Rattle.cxl_regs.specs.declared.decoder.Decoder.{Decoder}
 use Rattle.cxl_regs.specs.Registers.{reset_decoder}
 use Rattle.cxl_regs.specs.Reading.{committed_count}
 use Rattle.cxl_window.specs.Fields.{WindowFields}
+use Rattle.cxl_regs.proofs.DecoderRanges.{has_parts}
 use Rattle.cxl_model.specs.declared.plan.Plan.{Plan}
 use Rattle.cxl_model.specs.declared.request.Request.{Request}
 use Rattle.cxl_model.specs.System.{System, decoders_at, decoder_at}
 use Rattle.cxl_model.specs.Accepted.{IsAccepted}
 use Rattle.cxl_model.specs.Regions.{region_range}
 use Rattle.cxl_model.specs.Plans.{committed_row, with_rows}
+use Rattle.cxl_model.proofs.RangeRules.{rise_at}
+use Rattle.cxl_model.proofs.RangeWindows.{HasWindow, has_window}
 use Rattle.cxl_legal.specs.Used.{is_used}
 use Rattle.cxl_legal.specs.Bases.{last_end, base_step, FitsBase}
-use Rattle.cxl_legal.proofs.FittingServers.{asked_or, has_parts}
-use Rattle.cxl_legal.proofs.FittingRules.{rise_at}
-use Rattle.cxl_legal.proofs.FittingTargets.{HasWindow, has_window}
 use Rattle.cxl_legal.proofs.FittingBlocks.{Kept, kept_of}
 use Rattle.cxl_legal.proofs.FittingUsed.{Planned}
 use Rattle.cxl_legal.proofs.FittingRoom.{own_row, row_first, first_is_count, forwarding_free}

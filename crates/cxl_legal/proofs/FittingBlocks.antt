@@ -1,12 +1,14 @@
 -- What K2 to K8 say of a committed decoder of a node.
-use Rattle.std.proofs.Common.{◌≡◌, ℕ, ◌+◌, ◌*◌, ◌%◌, ◌^◌, ◌<◌, ◌≤◌, Bool, true, false, not, ◌&&◌, ◌||◌, if◌then◌else◌, List, [], ◌∷◌, length, get_or, Option, Some, refl, sym, ap, ◌∙◌, arith}
+use Rattle.std.proofs.Common.{◌≡◌, ℕ, ◌+◌, ◌*◌, ◌%◌, ◌^◌, ◌<◌, ◌≤◌, Bool, true, false, not, ◌&&◌, ◌||◌, if◌then◌else◌, length, Option, Some, refl, sym, ap, ◌∙◌, arith}
 use Rattle.std.specs.Prelude.{slice_get, ◌==◌, nat_le, nat_lt, unwrap_or}
 use Rattle.std.specs.Option.{option_map_or}
 use Rattle.std.proofs.lemmas.Bool.{and_parts, eqb-true, leb-true, agree_below_at, false≢true, true≢false}
-use Rattle.std.proofs.lemmas.Option.{slice_get_within, slice_get-get_or}
+use Rattle.std.proofs.lemmas.Option.{slice_get_within}
 use Rattle.cxl_enc.specs.Caps.{targets_of, is_target_count}
 use Rattle.cxl_enc.specs.Codes.{ways_of}
 use Rattle.cxl_enc.specs.Limits.{unit, address_limit}
+use Rattle.cxl_enc.proofs.Lists.{All-at, item}
+use Rattle.cxl_enc.proofs.Tests.{asked}
 use Rattle.cxl_topo.specs.declared.node.Node.{Node}
 use Rattle.cxl_topo.specs.Kinds.{is_endpoint}
 use Rattle.cxl_topo.specs.Tree.{is_endpoint_at}
@@ -15,17 +17,13 @@ use Rattle.cxl_regs.specs.Registers.{Registers, IsBlock, IsDecoder}
 use Rattle.cxl_regs.specs.Rules.{codes_ok, select_ok, port_ways_ok, endpoint_ways_ok}
 use Rattle.cxl_regs.specs.Reading.{decoder_ways, select_bits}
 use Rattle.cxl_span.specs.Breaches.{breaks as block_breaks, BlockKeeps}
-use Rattle.cxl_span.specs.Rules.{breaks_codes, breaks_select, breaks_size, size_unit}
+use Rattle.cxl_span.specs.Rules.{breaks_select, breaks_size, size_unit}
+use Rattle.cxl_span.proofs.RulesBroken.{codes_here}
 use Rattle.cxl_model.specs.System.{System, IsSystem, decoder_at, ram_at, pmem_at}
 use Rattle.cxl_model.specs.Accepted.{KeepsBlocks}
+use Rattle.cxl_model.proofs.RangeServers.{in_block}
+use Rattle.cxl_model.proofs.RangeRules.{block_keeps}
 use Rattle.cxl_legal.specs.Endpoints.{cap_at}
-use Rattle.cxl_legal.proofs.FittingServers.{All-at, asked, in_block}
-use Rattle.cxl_legal.proofs.FittingRules.{block_keeps}
-
-codes_here : (block : Registers) (ram pmem i : ℕ) (d : Decoder) → slice_get block.decoders i ≡ Some d
-    → block_breaks 4 block ram pmem i ≡ breaks_codes block d
-unfolding block_breaks
-codes_here block ram pmem i d at = rw at refl
 
 select_here : (block : Registers) (ram pmem i : ℕ) (d : Decoder) → slice_get block.decoders i ≡ Some d
     → block_breaks 5 block ram pmem i ≡ breaks_select block d
@@ -47,10 +45,6 @@ not_any false b c d e is one two = absurd (false≢true one)
 
 -- ---- a committed decoder
 
-pub some_within : {X : Type 0} (xs : List X) (k : ℕ) → k < length xs → (x : X) × (slice_get xs k ≡ Some x)
-some_within [] k low = absurd (omega arith)
-some_within (x ∷ xs) k low = (get_or (x ∷ xs) k x, slice_get-get_or (x ∷ xs) k x low)
-
 -- a block is its node's
 pub record OfNode (s : System) (n : ℕ) (block : Registers) : Type 0 where
   pub cap : block.cap ≡ cap_at s n
@@ -60,7 +54,7 @@ pub of_node : (s : System) (n : ℕ) (block : Registers) → IsSystem s → slic
 of_node s n block system here =
     let low : n < length s.blocks = slice_get_within s.blocks n block here in
     let count : length s.blocks ≡ length s.nodes = system.caps.count in
-    let node = some_within s.nodes n (omega (arith, low, count)) in
+    let node = item s.nodes n (omega (arith, low, count)) in
     let own = system.caps.each n block node.0 here node.1 in
     record {
       cap = own.cap ∙ sym (ap (λ (o : Option Node). option_map_or (λ x. x.cap) o 0) node.1);

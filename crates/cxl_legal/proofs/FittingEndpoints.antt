@@ -18,6 +18,7 @@ use Rattle.cxl_span.specs.Spans.{span_start_of}
 use Rattle.cxl_span.specs.Allotting.{cursor_of}
 use Rattle.cxl_span.specs.Partitions.{lies_in}
 use Rattle.cxl_window.specs.Fields.{WindowFields}
+use Rattle.cxl_regs.proofs.DecoderRanges.{Has, has_parts}
 use Rattle.cxl_model.specs.declared.found.Found.{Found}
 use Rattle.cxl_model.specs.declared.found.Place.{Place}
 use Rattle.cxl_model.specs.declared.plan.Plan.{Plan}
@@ -29,11 +30,11 @@ use Rattle.cxl_model.specs.Bytes.{slot_length}
 use Rattle.cxl_model.specs.Accepted.{IsAccepted}
 use Rattle.cxl_model.specs.Counts.{is_endpoint_of}
 use Rattle.cxl_model.specs.Plans.{committed_row, with_rows, IsLegalPlanIn}
+use Rattle.cxl_model.proofs.RangeServers.{has_ways}
+use Rattle.cxl_model.proofs.RangeRules.{RangesRise, ServesAt, served, bytes_at}
+use Rattle.cxl_model.proofs.RangeWindows.{has_window}
 use Rattle.cxl_legal.specs.Used.{HasBytePorts, AreEndpoints, request_ways, is_used}
 use Rattle.cxl_legal.specs.Endpoints.{IsSize, share_of, HasRoom, FitsEndpoints}
-use Rattle.cxl_legal.proofs.FittingServers.{Has, has_parts, has_ways}
-use Rattle.cxl_legal.proofs.FittingRules.{RangesRise, ServesAt, served, bytes_at}
-use Rattle.cxl_legal.proofs.FittingTargets.{has_window}
 use Rattle.cxl_legal.proofs.FittingBlocks.{kept_of}
 use Rattle.cxl_legal.proofs.FittingRows.{Rowed, still_system}
 use Rattle.cxl_legal.proofs.FittingUsed.{CountLaw, Planned, ways_are, ways_known, some_requested, endpoint_is, endpoint_own, used_endpoint}

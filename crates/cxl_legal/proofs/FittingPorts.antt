@@ -1,11 +1,10 @@
 -- The used ports of the nodes of a legal plan, and how evenly the requested endpoints lie under them.
-use Rattle.std.proofs.Common.{◌≡◌, ℕ, zero, suc, ◌*◌, ◌<◌, Bool, true, false, not, ◌&&◌, cond, List, [], ◌∷◌, length, get_or, map, Option, Some, None, refl, sym, ap, ◌∙◌, subst, inl, inr, arith}
-use Rattle.std.specs.Prelude.{slice_get, ◌==◌, nat_le, All, find}
+use Rattle.std.proofs.Common.{◌≡◌, ℕ, zero, suc, ◌*◌, ◌<◌, true, false, not, ◌&&◌, List, length, get_or, map, Option, Some, None, refl, sym, ap, ◌∙◌, subst, inl, inr, arith}
+use Rattle.std.specs.Prelude.{slice_get, ◌==◌, nat_le, All}
 use Rattle.std.specs.Option.{option_map_or}
 use Rattle.std.specs.List.{list_any, list_all, cons_option, filter_map, range_with_len}
 use Rattle.std.proofs.Math.Nat.{mul_comm, mul_assoc}
-use Rattle.std.proofs.lemmas.Bool.{cases_Bool, and_parts, and_from, or_right, or_left, eqb-true, eq-eqb, false≢true, not_from_false, not_from_true}
-use Rattle.std.proofs.lemmas.Option.{none-some, same_Some}
+use Rattle.std.proofs.lemmas.Bool.{cases_Bool, and_parts, and_from, or_right, or_left, eqb-true, eq-eqb, false≢true, not_from_false}
 use Rattle.std.proofs.lemmas.List.{get_or-map}
 use Rattle.std.proofs.lemmas.List.FromFn.{length-range_with_len, length-map-range_with_len}
 use Rattle.std.proofs.lemmas.List.Folds.{Any-from_list_any, list_any_at}
@@ -13,6 +12,9 @@ use Rattle.std.proofs.lemmas.List.Elements.{filter_passes}
 use Rattle.std.proofs.lemmas.List.Sums.{AllPass-from_list_all, list_all-from_AllPass}
 use Rattle.cxl_enc.specs.Caps.{targets_of, is_target_count}
 use Rattle.cxl_enc.specs.Limits.{placeholder_cap}
+use Rattle.cxl_enc.proofs.Tests.{same_test, not_lacking}
+use Rattle.cxl_enc.proofs.Numbers.{times_tell}
+use Rattle.cxl_enc.proofs.Lists.{find_passes}
 use Rattle.cxl_topo.specs.declared.node.Node.{Node}
 use Rattle.cxl_topo.specs.declared.node.Parent.{Parent}
 use Rattle.cxl_topo.specs.Tree.{forwards_at, is_bridge_at, is_endpoint_at, is_port_at, parent_of, child_of}
@@ -20,6 +22,8 @@ use Rattle.cxl_regs.specs.declared.decoder.Decoder.{Decoder}
 use Rattle.cxl_regs.specs.declared.reading.Range.{Range}
 use Rattle.cxl_regs.specs.Reading.{decoder_ways, entries_of, entry_at}
 use Rattle.cxl_window.specs.Fields.{WindowFields}
+use Rattle.cxl_topo.proofs.Trees.{KnownTree, ports_some, leaves_at, port_no_endpoint}
+use Rattle.cxl_regs.proofs.DecoderRanges.{has_parts}
 use Rattle.cxl_model.specs.declared.plan.Row.{Row}
 use Rattle.cxl_model.specs.declared.request.Request.{Request}
 use Rattle.cxl_model.specs.System.{System}
@@ -27,13 +31,12 @@ use Rattle.cxl_model.specs.Ranges.{serves, decoder_for, ports_for, product, ways
 use Rattle.cxl_model.specs.Rules.{lands_on, leads_on}
 use Rattle.cxl_model.specs.Counts.{is_under}
 use Rattle.cxl_model.specs.Plans.{committed_row, with_rows}
+use Rattle.cxl_model.proofs.Sums.{one}
+use Rattle.cxl_model.proofs.Under.{under_child}
+use Rattle.cxl_model.proofs.RangeRules.{ServesAt, leads, reached, listed_by, all_listed}
+use Rattle.cxl_model.proofs.RangeCounts.{Child, child_at, no_ways_above}
 use Rattle.cxl_legal.specs.Used.{request_ways, is_used, count_under, is_port_used, used_ports, count_at_port}
 use Rattle.cxl_legal.specs.Endpoints.{cap_at, has_even_ports, has_even_children, first_bridge, has_bridge_share, is_uneven}
-use Rattle.cxl_legal.proofs.FittingServers.{has_parts}
-use Rattle.cxl_legal.proofs.FittingSums.{one}
-use Rattle.cxl_legal.proofs.FittingTrees.{KnownTree, ports_some, leaves_at, under_child, port_no_endpoint, same_test}
-use Rattle.cxl_legal.proofs.FittingRules.{ServesAt, leads, reached, listed_by, all_listed}
-use Rattle.cxl_legal.proofs.FittingCounts.{Child, child_at, times_tell, no_ways_above}
 use Rattle.cxl_legal.proofs.FittingBlocks.{kept_of, port_ways}
 use Rattle.cxl_legal.proofs.FittingRows.{by_row}
 use Rattle.cxl_legal.proofs.UsedPorts.{forwarding_ports}
@@ -190,14 +193,6 @@ children_even {s} {request} {w} {r} {rows} plan n =
     used : All (λ e. is_port_used s request n e ≡ true) (used_ports s request n)
     used = filter_passes (is_port_used s request n) (range_with_len 0 256)
 
-find_step : {X : Type 0} (p : X → Bool) (y : X) (ys : List X) (x : X) (b : Bool) → p y ≡ b → (find p ys ≡ Some x → p x ≡ true) → cond b (Some y) (find p ys) ≡ Some x → p x ≡ true
-find_step p y ys x true at rest is = ap p (sym (same_Some y x is)) ∙ at
-find_step p y ys x false at rest is = rest is
-
-pub find_passes : {X : Type 0} (p : X → Bool) (xs : List X) (x : X) → find p xs ≡ Some x → p x ≡ true
-find_passes p [] x is = absurd (none-some x is)
-find_passes p (y ∷ ys) x is = find_step p y ys x (p y) refl (find_passes p ys x) is
-
 bridge_share : {s : System} {request : Request} {w : WindowFields} {r : Range} {rows : List Row} → Planned s request w r rows → (n : ℕ) → is_used s request n ≡ true → has_bridge_share s request n ≡ true
 bridge_share {s} {request} {w} {r} {rows} plan n used =
     elim (cases_Bool (is_bridge_at s.nodes n)) [
@@ -215,13 +210,6 @@ bridge_share {s} {request} {w} {r} {rows} plan n used =
         let passes = find_passes (λ k. is_bridge_at s.nodes k && is_used s request k) (range_with_len 0 (length s.nodes)) m at in
         let parts = and_parts (is_bridge_at s.nodes m) (is_used s request m) passes in
         eq-eqb (count_under s request n) (count_under s request m) (even_bridges plan n m bridge used parts.0 parts.1)
-
-not_lacking : (p u a b c : Bool) → (p ≡ true → u ≡ true → (a ≡ true) × (b ≡ true) × (c ≡ true)) → (p && u && not (a && b && c)) ≡ false
-not_lacking true true a b c all =
-    let are = all refl refl in
-    not_from_true (a && b && c) (and_from (a && b) c (and_from a b are.0 are.1) are.2)
-not_lacking true false a b c all = refl
-not_lacking false u a b c all = refl
 
 pub none_uneven : {s : System} {request : Request} {w : WindowFields} {r : Range} {rows : List Row} → Planned s request w r rows → (n : ℕ) → is_uneven s request n ≡ false
 none_uneven {s} {request} plan n =

@@ -12,6 +12,7 @@ use Rattle.std.proofs.lemmas.List.Quantifiers.{position-Some}
 use Rattle.cxl_enc.specs.declared.caps.MemKind.{MemKind}
 use Rattle.cxl_enc.specs.Caps.{decoders_of, decoders_code}
 use Rattle.cxl_enc.specs.Limits.{placeholder_cap}
+use Rattle.cxl_enc.proofs.Lists.{All-at}
 use Rattle.cxl_topo.specs.Tree.{forwards_at}
 use Rattle.cxl_regs.specs.declared.decoder.Decoder.{Decoder}
 use Rattle.cxl_regs.specs.declared.reading.Range.{Range}
@@ -22,18 +23,17 @@ use Rattle.cxl_span.specs.Allotting.{all_committed, cursor_of, IsLeastSpan}
 use Rattle.cxl_span.specs.Partitions.{partition_start, partition_end, lies_in}
 use Rattle.cxl_span.specs.Spans.{span_step, span_start_of, span_end_of}
 use Rattle.cxl_window.specs.Fields.{WindowFields}
+use Rattle.cxl_topo.proofs.Trees.{KnownTree}
 use Rattle.cxl_model.specs.declared.plan.Row.{Row}
 use Rattle.cxl_model.specs.declared.request.Request.{Request}
 use Rattle.cxl_model.specs.System.{System, IsSystem, decoders_at, decoder_at}
 use Rattle.cxl_model.specs.Rules.{keeps_reach}
 use Rattle.cxl_model.specs.Accepted.{IsAccepted}
 use Rattle.cxl_model.specs.Plans.{with_rows}
+use Rattle.cxl_model.proofs.RangeRules.{kept, rule_eleven, is_reached}
+use Rattle.cxl_model.proofs.RangeCounts.{lands_within}
 use Rattle.cxl_legal.specs.Used.{is_used}
 use Rattle.cxl_legal.specs.Endpoints.{lacks_decoder}
-use Rattle.cxl_legal.proofs.FittingServers.{All-at}
-use Rattle.cxl_legal.proofs.FittingRules.{kept, rule_eleven, is_reached}
-use Rattle.cxl_legal.proofs.FittingTrees.{KnownTree}
-use Rattle.cxl_legal.proofs.FittingCounts.{lands_within}
 use Rattle.cxl_legal.proofs.FittingBlocks.{of_node}
 use Rattle.cxl_legal.proofs.FittingRows.{ByRow, by_row}
 use Rattle.cxl_legal.proofs.FittingUsed.{Planned, used_lands}

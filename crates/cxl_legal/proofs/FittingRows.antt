@@ -10,6 +10,7 @@ use Rattle.std.proofs.lemmas.List.Folds.{Any-from_list_any, list_any_at, find_at
 use Rattle.std.proofs.lemmas.List.Sums.{position_or_len_is}
 use Rattle.std.proofs.lemmas.List.Quantifiers.{position-Some}
 use Rattle.std.proofs.lemmas.Option.{slice_get_within, slice_get-get_or, get_or_from_slice_get, same_Some}
+use Rattle.cxl_enc.proofs.Lists.{All-at, get_same, get_other}
 use Rattle.cxl_topo.specs.Tree.{forwards_at, path_of}
 use Rattle.cxl_regs.specs.declared.decoder.Decoder.{Decoder}
 use Rattle.cxl_regs.specs.declared.reading.Range.{Range}
@@ -21,23 +22,12 @@ use Rattle.cxl_model.specs.System.{System, IsSystem, decoders_at, decoder_at}
 use Rattle.cxl_model.specs.Ranges.{serves, decoder_for, index_for}
 use Rattle.cxl_model.specs.Counts.{is_under}
 use Rattle.cxl_model.specs.Plans.{committed_row, block_with_row, blocks_with_row, with_rows, IsUsed, AreRowsOf, IsRow}
+use Rattle.cxl_model.proofs.RangeServers.{in_block}
 use Rattle.cxl_legal.specs.Used.{is_used}
 use Rattle.cxl_legal.specs.Stated.{has_row}
 use Rattle.cxl_legal.proofs.FittingBlocks.{of_node}
-use Rattle.cxl_legal.proofs.FittingServers.{All-at, in_block}
 
 -- ---- lists with one element set
-
-pub get_same : {X : Type 0} (xs : List X) (i : ℕ) (x : X) → i < length xs → slice_get (slice_set xs i x) i ≡ Some x
-get_same xs i x within =
-    slice_get-get_or (set xs i x) i x (omega (arith, length-set xs i x)) ∙ ap (λ y. Some y) (get_or-set_same xs i x x within)
-
-pub get_other : {X : Type 0} (xs : List X) (i k : ℕ) (x : X) → k ≢ i → slice_get (slice_set xs i x) k ≡ slice_get xs k
-get_other [] i k x ne = refl
-get_other (y ∷ ys) zero zero x ne = absurd (ne refl)
-get_other (y ∷ ys) zero (suc k) x ne = refl
-get_other (y ∷ ys) (suc i) zero x ne = refl
-get_other (y ∷ ys) (suc i) (suc k) x ne = get_other ys i k x (λ e. ne (ap (λ (n : ℕ). suc n) e))
 
 pub none_at : {X : Type 0} (d : X) (p : X → Bool) (xs : List X) (k : ℕ) → list_any p xs ≡ false → k < length xs → p (get_or xs k d) ≡ false
 none_at d p xs k none within = false_from_ne_true (p (get_or xs k d)) (λ passes. false≢true (sym none ∙ list_any_at p xs k d within passes))
@@ -69,13 +59,13 @@ set_passes {X} p xs i x none within passes = record {
 -- ---- the blocks
 
 -- no two rows are of one node
-abbrev pub AreApart : List Row → Type 0
-AreApart rows = AllPairs (λ row next. row.node ≢ next.node) rows
+abbrev pub StandApart : List Row → Type 0
+StandApart rows = AllPairs (λ row next. row.node ≢ next.node) rows
 
-elsewhere : (row : Row) (rest : List Row) → AreApart (row ∷ rest) → All (λ (other : Row). other.node ≢ row.node) rest
+elsewhere : (row : Row) (rest : List Row) → StandApart (row ∷ rest) → All (λ (other : Row). other.node ≢ row.node) rest
 elsewhere row rest apart = λ k d within e. apart zero (suc k) d (omega arith) (omega arith) (sym e)
 
-apart_rest : (row : Row) (rest : List Row) → AreApart (row ∷ rest) → AreApart rest
+apart_rest : (row : Row) (rest : List Row) → StandApart (row ∷ rest) → StandApart rest
 apart_rest row rest apart = λ i j d less within. apart (suc i) (suc j) d (omega arith) (omega arith)
 
 changed_here : (blocks : List Registers) (row : Row) (o : Option Registers) → slice_get blocks row.node ≡ o
@@ -102,7 +92,7 @@ get_fold_none (row ∷ rest) blocks m none =
     get_fold_none rest (blocks_with_row blocks row) m (All-tail (λ (r : Row). r.node ≢ m) row rest none)
     ∙ get_unchanged blocks row m (λ e. none zero row (omega arith) (sym e))
 
-get_fold_at : (rows : List Row) (blocks : List Registers) (row : Row) (k : ℕ) → AreApart rows → k < length rows → get_or rows k row ≡ row
+get_fold_at : (rows : List Row) (blocks : List Registers) (row : Row) (k : ℕ) → StandApart rows → k < length rows → get_or rows k row ≡ row
     → slice_get (fold blocks_with_row blocks rows) row.node ≡ option_map (block_with_row row) (slice_get blocks row.node)
 get_fold_at [] blocks row k apart within is = absurd (omega arith)
 get_fold_at (first ∷ rest) blocks row zero apart within is =
@@ -114,7 +104,7 @@ get_fold_at (first ∷ rest) blocks row (suc k) apart within is =
     get_fold_at rest (blocks_with_row blocks first) row k (apart_rest first rest apart) inside is ∙ ap (option_map (block_with_row row)) (get_unchanged blocks first row.node other)
 
 -- the node of a row has its block changed once
-pub get_fold_some : (rows : List Row) (blocks : List Registers) (row : Row) → AreApart rows → Contains rows row
+pub get_fold_some : (rows : List Row) (blocks : List Registers) (row : Row) → StandApart rows → Contains rows row
     → slice_get (fold blocks_with_row blocks rows) row.node ≡ option_map (block_with_row row) (slice_get blocks row.node)
 get_fold_some rows blocks row apart there = get_fold_at rows blocks row there.0 apart there.1 there.2
 
@@ -153,7 +143,7 @@ pub record Rowed (s : System) (request : Request) (r : Range) (rows : List Row) 
   pub each : (row : Row) → Contains rows row → IsRow s r row
   pub new : (n : ℕ) → serves s r n ≡ false
 
-pub apart_of : (s : System) (request : Request) (rows : List Row) → AreRowsOf s request rows → AreApart rows
+pub apart_of : (s : System) (request : Request) (rows : List Row) → AreRowsOf s request rows → StandApart rows
 apart_of s request rows are = λ i j d less within e. let rises = are.rising i j d less within in omega (arith, e)
 
 -- some row is of a node, or none is
@@ -192,7 +182,7 @@ pub record RowPlace (s : System) (rows : List Row) (row : Row) : Type 0 where
   pub within : row.index < length block.decoders
   pub changed : slice_get (with_rows s rows).blocks row.node ≡ Some (block_with_row row block)
 
-pub row_place : (s : System) (r : Range) (rows : List Row) (row : Row) → AreApart rows → Contains rows row → IsRow s r row → RowPlace s rows row
+pub row_place : (s : System) (r : Range) (rows : List Row) (row : Row) → StandApart rows → Contains rows row → IsRow s r row → RowPlace s rows row
 row_place s r rows row apart there is =
     let first = position-Some (λ (d : Decoder). not d.committed) (decoders_at s row.node) row.index reset_decoder is.first in
     let own = in_block s row.node row.index (get_or (decoders_at s row.node) row.index reset_decoder) (slice_get-get_or (decoders_at s row.node) row.index reset_decoder first.0) in

@@ -4,10 +4,13 @@ use Rattle.std.specs.Prelude.{◌==◌, nat_le, sum_by, unwrap_or}
 use Rattle.std.specs.Option.{option_map_or}
 use Rattle.std.specs.List.{filter_map, cons_option, range_with_len}
 use Rattle.std.proofs.Math.Nat.{mul_assoc, mul_left_comm}
-use Rattle.std.proofs.lemmas.Bool.{cases_Bool, cases_eq, and_parts, and_from, or_cases, or_left, or_right, eqb-true, ne_eqb, agree_below_at, leb-true, false≢true, not_from_false, cond-true, cond-false}
+use Rattle.std.proofs.lemmas.Bool.{cases_Bool, cases_eq, and_parts, and_from, or_cases, or_left, or_right, eqb-true, ne_eqb, agree_below_at, leb-true, false≢true, not_from_false, cond-true, cond-false, or_cases as or_true}
 use Rattle.std.proofs.lemmas.List.Elements.{filter_passes}
 use Rattle.std.proofs.lemmas.List.Sums.{sum_by-cons}
 use Rattle.cxl_enc.specs.Codes.{ways_of, bits_of, code_in_table}
+use Rattle.cxl_enc.proofs.Tests.{asked, asked_or}
+use Rattle.cxl_enc.proofs.Ways.{some_ways}
+use Rattle.cxl_enc.proofs.Numbers.{factor_one}
 use Rattle.cxl_topo.specs.declared.node.Parent.{Parent}
 use Rattle.cxl_topo.specs.Tree.{forwards_at, is_endpoint_at, ports_above}
 use Rattle.cxl_regs.specs.declared.decoder.Decoder.{Decoder}
@@ -16,6 +19,8 @@ use Rattle.cxl_regs.specs.Reading.{decoder_ways, select_bits, has_range}
 use Rattle.cxl_regs.specs.Rules.{select_ok, endpoint_ways_ok}
 use Rattle.cxl_regs.specs.Words.{has_bit}
 use Rattle.cxl_window.specs.Fields.{WindowFields}
+use Rattle.cxl_topo.proofs.Trees.{up_tree, ports_none, ports_some, forwards_no_endpoint}
+use Rattle.cxl_regs.proofs.DecoderRanges.{has_parts, same_range, decoder_ways_known}
 use Rattle.cxl_model.specs.declared.plan.Row.{Row}
 use Rattle.cxl_model.specs.declared.plan.Plan.{Plan}
 use Rattle.cxl_model.specs.declared.request.Request.{Request}
@@ -25,13 +30,12 @@ use Rattle.cxl_model.specs.Rules.{keeps_ways}
 use Rattle.cxl_model.specs.Accepted.{IsWhole}
 use Rattle.cxl_model.specs.Regions.{region_range}
 use Rattle.cxl_model.specs.Plans.{with_rows, plan_code}
+use Rattle.cxl_model.proofs.RangeServers.{has_ways, endpoint_test, rule_twelve}
+use Rattle.cxl_model.proofs.RangeRules.{ServesAt}
+use Rattle.cxl_model.proofs.RangeCounts.{ways_below, forwards_none}
 use Rattle.cxl_legal.specs.Used.{request_ways, is_used, count_under, is_port_used, used_ports, planned_ways, planned_bits_above, planned_code}
 use Rattle.cxl_legal.specs.Endpoints.{cap_at}
 use Rattle.cxl_legal.specs.Windows.{can_select, can_have_ways}
-use Rattle.cxl_legal.proofs.FittingServers.{asked, asked_or, has_parts, same_range, has_ways, endpoint_test, rule_twelve, or_true, some_ways, decoder_ways_known}
-use Rattle.cxl_legal.proofs.FittingTrees.{up_tree, ports_none, ports_some, forwards_no_endpoint}
-use Rattle.cxl_legal.proofs.FittingRules.{ServesAt}
-use Rattle.cxl_legal.proofs.FittingCounts.{factor_one, ways_below, forwards_none}
 use Rattle.cxl_legal.proofs.FittingBlocks.{Kept, kept_of, gran_of, endpoint_ways}
 use Rattle.cxl_legal.proofs.UsedNodes.{used_parent}
 use Rattle.cxl_legal.proofs.UsedPorts.{forwarding_ports}

@@ -1,14 +1,11 @@
 -- The endpoints of a legal plan's range are those of its request, and the nodes to which the range leads are the used ones.
-use Rattle.std.proofs.Common.{◌≡◌, ◌≢◌, ℕ, ◌*◌, ◌<◌, Bool, true, false, not, ◌&&◌, ◌||◌, cond, List, [], ◌∷◌, length, get_or, Option, Some, None, refl, sym, ap, ◌∙◌, subst, inl, inr, arith, ◌⊎◌}
+use Rattle.std.proofs.Common.{◌≡◌, ◌≢◌, ℕ, ◌*◌, ◌<◌, Bool, true, false, not, ◌&&◌, ◌||◌, List, [], ◌∷◌, length, get_or, Option, Some, None, refl, sym, ap, ◌∙◌, subst, inl, inr, arith}
 use Rattle.std.specs.Prelude.{◌==◌, All, AllPairs, filter, IsTrue}
 use Rattle.std.specs.Option.{option_map_or}
 use Rattle.std.specs.List.{list_any, range_with_len}
-use Rattle.std.proofs.lemmas.Bool.{cases_lt, cases_Bool, and_parts, and_from, or_parts, eqb-true, eq-eqb, false_from_ne_true, false≢true, not_from_false}
-use Rattle.std.proofs.lemmas.Option.{slice_get_past}
-use Rattle.std.proofs.lemmas.List.Elements.{All-tail, All-head}
+use Rattle.std.proofs.lemmas.Bool.{cases_Bool, and_parts, and_from, eqb-true, false_from_ne_true, false≢true, not_from_false}
 use Rattle.std.proofs.lemmas.List.Folds.{Any-from_list_any}
 use Rattle.cxl_topo.specs.declared.node.Node.{Node}
-use Rattle.cxl_topo.specs.Kinds.{is_endpoint}
 use Rattle.cxl_topo.specs.Tree.{forwards_at, is_endpoint_at}
 use Rattle.cxl_regs.specs.declared.reading.Range.{Range}
 use Rattle.cxl_window.specs.Fields.{WindowFields}
@@ -21,31 +18,23 @@ use Rattle.cxl_model.specs.Accepted.{IsWhole}
 use Rattle.cxl_model.specs.Counts.{is_under, is_endpoint_of, endpoints_of, endpoints_under}
 use Rattle.cxl_model.specs.Plans.{with_rows}
 use Rattle.cxl_enc.specs.Codes.{is_ways}
+use Rattle.cxl_enc.proofs.Ways.{some_ways}
+use Rattle.cxl_enc.proofs.Lists.{list_any-weaker, none_filtered, some_filtered}
+use Rattle.cxl_enc.proofs.Tests.{same_test, and_true}
+use Rattle.cxl_topo.proofs.Trees.{KnownTree, forwards_no_endpoint, endpoint_within}
 use Rattle.cxl_regs.specs.Reading.{decoder_ways}
 use Rattle.cxl_regs.specs.declared.decoder.Decoder.{Decoder}
+use Rattle.cxl_regs.proofs.DecoderRanges.{decoder_ways_known}
+use Rattle.cxl_model.proofs.Sums.{one, total, length-filter-total, total-same, exchange, once, total_each, length_total, once_below}
+use Rattle.cxl_model.proofs.Under.{under_endpoint}
+use Rattle.cxl_model.proofs.RangeRules.{RangesRise}
+use Rattle.cxl_model.proofs.RangeCounts.{numbers, count_of, count_under as count_of_under}
+use Rattle.cxl_model.proofs.Distinct.{distinct_test}
 use Rattle.cxl_legal.specs.Used.{HasBytePorts, AreEndpoints, request_ways, is_used, count_under}
 use Rattle.cxl_legal.specs.Stated.{has_row}
-use Rattle.cxl_legal.proofs.FittingServers.{some_ways, decoder_ways_known}
-use Rattle.cxl_legal.proofs.FittingSums.{one, total, length-filter-total, total-same, exchange, list_any-weaker, once}
-use Rattle.cxl_legal.proofs.FittingTrees.{KnownTree, under_endpoint, forwards_no_endpoint, same_test}
-use Rattle.cxl_legal.proofs.FittingRules.{RangesRise}
-use Rattle.cxl_legal.proofs.FittingCounts.{numbers, count_of, numbers_differ, is_number}
-use Rattle.cxl_legal.proofs.FittingCounts.{count_under as count_of_under}
 use Rattle.cxl_legal.proofs.FittingRows.{Rowed, serves_row}
-use Rattle.cxl_legal.proofs.FittingTargets.{distinct_test}
 
 -- ---- sums over numbers that are listed
-
-pub total_each : {X : Type 0} (f g : X → ℕ) (xs : List X) → All (λ x. f x ≡ g x) xs → total f xs ≡ total g xs
-total_each f g [] each = refl
-total_each f g (x ∷ xs) each =
-    let first = All-head (λ y. f y ≡ g y) x xs each in
-    let rest = total_each f g xs (All-tail (λ y. f y ≡ g y) x xs each) in
-    omega (arith, first, rest)
-
-pub length_total : {X : Type 0} (xs : List X) → total (λ (x : X). one true) xs ≡ length xs
-length_total [] = refl
-length_total (x ∷ xs) = let rest = length_total xs in omega (arith, rest)
 
 -- a number that is listed, with a test that it passes
 both_listed : (p : ℕ → Bool) (m : ℕ) (xs : List ℕ) → (list_any (λ e. e == m) xs && p m) ≡ list_any (λ e. (e == m) && p m) xs
@@ -65,21 +54,6 @@ once_listed p xs distinct m = ap one (both_listed p m xs) ∙ sym (once (λ e. (
     same : (a b : ℕ) → ((a == m) && p m) ≡ true → ((b == m) && p m) ≡ true → a ≡ b
     same a b first second = eqb-true a m (and_parts (a == m) (p m) first).0 ∙ sym (eqb-true b m (and_parts (b == m) (p m) second).0)
 
-once_below : (p : ℕ → Bool) (n e : ℕ) → e < n → total (λ m. one ((e == m) && p m)) (range_with_len 0 n) ≡ one (p e)
-once_below p n e within =
-    once (λ m. (e == m) && p m) same (range_with_len 0 n) (numbers_differ 0 n) ∙ ap one (there (cases_Bool (p e)))
-  where
-    same : (a b : ℕ) → ((e == a) && p a) ≡ true → ((e == b) && p b) ≡ true → a ≡ b
-    same a b first second = sym (eqb-true e a (and_parts (e == a) (p a) first).0) ∙ eqb-true e b (and_parts (e == b) (p b) second).0
-
-    there : (p e ≡ true) ⊎ (p e ≡ false) → list_any (λ m. (e == m) && p m) (range_with_len 0 n) ≡ p e
-    there (inl passes) = is_number (λ m. (e == m) && p m) n e within (and_from (e == e) (p e) (eq-eqb e e refl) passes) ∙ sym passes
-    there (inr fails) =
-        false_from_ne_true (list_any (λ m. (e == m) && p m) (range_with_len 0 n)) (λ any.
-        let some = Any-from_list_any (λ m. (e == m) && p m) (range_with_len 0 n) any in
-        let parts = and_parts (e == some.1) (p some.1) some.4 in
-        false≢true (sym fails ∙ ap p (eqb-true e some.1 parts.0) ∙ parts.1)) ∙ sym fails
-
 -- of numbers that differ and are below n, as many pass a test as of the numbers below n that are listed
 pub listed_total : (n : ℕ) (p : ℕ → Bool) (xs : List ℕ) → are_distinct xs ≡ true → All (λ x. x < n) xs
     → total (λ m. one (list_any (λ e. e == m) xs && p m)) (range_with_len 0 n) ≡ total (λ x. one (p x)) xs
@@ -87,10 +61,6 @@ listed_total n p xs distinct within =
     total-same (λ m. one (list_any (λ e. e == m) xs && p m)) (λ m. total (λ e. one ((e == m) && p m)) xs) (once_listed p xs distinct) (range_with_len 0 n)
     ∙ exchange (λ m e. one ((e == m) && p m)) (range_with_len 0 n) xs
     ∙ total_each (λ e. total (λ m. one ((e == m) && p m)) (range_with_len 0 n)) (λ e. one (p e)) xs (λ k d inside. once_below p n (get_or xs k d) (within k d inside))
-
-and_true : (a : Bool) → (a && true) ≡ a
-and_true true = refl
-and_true false = refl
 
 -- and there are as many of them as pass the test of being listed
 pub listed_length : (n : ℕ) (p : ℕ → Bool) (xs : List ℕ) → are_distinct xs ≡ true → All (λ x. x < n) xs → ((m : ℕ) → p m ≡ list_any (λ e. e == m) xs)
@@ -100,20 +70,6 @@ listed_length n p xs distinct within same =
     ∙ total-same (λ m. one (p m)) (λ m. one (list_any (λ e. e == m) xs && true)) (λ m. ap one (same m ∙ sym (and_true (list_any (λ e. e == m) xs)))) (range_with_len 0 n)
     ∙ listed_total n (λ m. true) xs distinct within
     ∙ length_total xs
-
-pub none_filtered : {X : Type 0} (p : X → Bool) (xs : List X) → list_any p xs ≡ false → length (filter p xs) ≡ 0
-none_filtered p [] none = refl
-none_filtered p (x ∷ xs) none =
-    let parts = or_parts (p x) (list_any p xs) none in
-    ap (λ b. length (cond b (x ∷ filter p xs) (filter p xs))) parts.0 ∙ none_filtered p xs parts.1
-
-some_step : {X : Type 0} (b any : Bool) (x : X) (ys : List X) → (any ≡ true → 0 < length ys) → (b || any) ≡ true → 0 < length (cond b (x ∷ ys) ys)
-some_step true any x ys rest is = omega arith
-some_step false any x ys rest is = rest is
-
-pub some_filtered : {X : Type 0} (p : X → Bool) (xs : List X) → list_any p xs ≡ true → 0 < length (filter p xs)
-some_filtered p [] any = absurd (false≢true any)
-some_filtered p (x ∷ xs) any = some_step (p x) (list_any p xs) x (filter p xs) (some_filtered p xs) any
 
 -- ---- the image of a legal plan
 
@@ -139,13 +95,6 @@ pub record Planned (s : System) (request : Request) (w : WindowFields) (r : Rang
   pub committed : IsCommittedRange (with_rows s rows) r
 
 -- ---- its endpoints
-
-pub endpoint_within : (nodes : List Node) (m : ℕ) → is_endpoint_at nodes m ≡ true → m < length nodes
-endpoint_within nodes m is =
-    elim (cases_lt m (length nodes)) [
-      | inl within ↦ within
-      | inr past ↦ absurd (false≢true (sym (ap (λ (o : Option Node). option_map_or (λ node. is_endpoint node.kind) o false) (slice_get_past nodes m past)) ∙ is))
-    ]
 
 pub endpoint_own : {nodes : List Node} → KnownTree nodes → (m : ℕ) → is_endpoint_at nodes m ≡ true → forwards_at nodes m ≡ false
 endpoint_own {nodes} known m is = false_from_ne_true (forwards_at nodes m) (λ forwards. false≢true (sym (forwards_no_endpoint known m forwards) ∙ is))

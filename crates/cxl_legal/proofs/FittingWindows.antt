@@ -1,35 +1,36 @@
 -- The window of a legal plan keeps what it has to.
-use Rattle.std.proofs.Common.{◌≡◌, ℕ, ◌*◌, Bool, true, false, not, ◌&&◌, ◌||◌, length, get_or, Option, Some, None, refl, sym, ap, ◌∙◌, inl, inr, arith}
+use Rattle.std.proofs.Common.{◌≡◌, ℕ, Bool, true, false, not, ◌&&◌, ◌||◌, length, get_or, Option, Some, None, refl, sym, ap, ◌∙◌, inl, inr, arith}
 use Rattle.std.specs.Prelude.{◌==◌, nat_lt, IfSome}
 use Rattle.std.specs.Option.{option_map_or}
 use Rattle.std.specs.List.{list_any, list_all, range_with_len}
-use Rattle.std.proofs.lemmas.Bool.{cases_Bool, and_parts, and_from, or_left, or_right, ltb-true, eq-eqb, false≢true, not_from_false}
+use Rattle.std.proofs.lemmas.Bool.{cases_Bool, and_parts, and_from, or_left, or_right, ltb-true, eq-eqb, not_from_false}
 use Rattle.std.proofs.lemmas.Option.{same_Some}
 use Rattle.std.proofs.lemmas.List.Folds.{Any-from_list_any, list_any_at}
 use Rattle.std.proofs.lemmas.List.Sums.{list_all-from_AllPass}
-use Rattle.cxl_enc.specs.declared.caps.MemKind.{MemKind}
-use Rattle.cxl_enc.specs.declared.caps.MemKind.TheVariants.{Ram, Pmem}
+use Rattle.cxl_enc.proofs.Tests.{asked_or}
 use Rattle.cxl_topo.specs.Tree.{is_bridge_at, is_endpoint_at, uid_at}
 use Rattle.cxl_regs.specs.declared.decoder.Decoder.{Decoder}
 use Rattle.cxl_regs.specs.declared.reading.Range.{Range}
-use Rattle.cxl_regs.specs.Reading.{decoder_ways, has_range}
+use Rattle.cxl_regs.specs.Reading.{has_range}
 use Rattle.cxl_window.specs.Fields.{WindowFields}
 use Rattle.cxl_window.specs.Position.{is_usable}
+use Rattle.cxl_regs.proofs.DecoderRanges.{has_parts, same_range}
 use Rattle.cxl_model.specs.declared.plan.Plan.{Plan}
 use Rattle.cxl_model.specs.declared.request.Request.{Request}
 use Rattle.cxl_model.specs.System.{System, decoder_at}
-use Rattle.cxl_model.specs.Ranges.{serves, window_for, ways_above, span_kind, same_kind, range_ways, range_kind, range_code}
-use Rattle.cxl_model.specs.Rules.{starts_in_thirds, permits, keeps_window, keeps_ways}
+use Rattle.cxl_model.specs.Ranges.{serves, window_for, span_kind}
+use Rattle.cxl_model.specs.Rules.{starts_in_thirds, permits, keeps_window}
 use Rattle.cxl_model.specs.Accepted.{IsWhole}
 use Rattle.cxl_model.specs.Counts.{is_under}
 use Rattle.cxl_model.specs.Regions.{region_range}
 use Rattle.cxl_model.specs.Plans.{with_rows, AgreesOnCode}
+use Rattle.cxl_model.proofs.Under.{under_top}
+use Rattle.cxl_model.proofs.RangeRules.{kept, rule_nine}
+use Rattle.cxl_model.proofs.RangeWindows.{has_window, rooted}
+use Rattle.cxl_model.proofs.SpansKinds.{has_kind}
 use Rattle.cxl_legal.specs.Used.{is_used}
 use Rattle.cxl_legal.specs.Windows.{is_used_bridge, is_target, has_used_bridges, agrees_on_gran, FitsWindow}
-use Rattle.cxl_legal.proofs.FittingServers.{asked, asked_or, has_parts, same_range, endpoint_test, ways_test, rule_twelve}
-use Rattle.cxl_legal.proofs.FittingTrees.{under_top}
-use Rattle.cxl_legal.proofs.FittingRules.{kept, rule_nine}
-use Rattle.cxl_legal.proofs.FittingTargets.{has_window, targets, rooted}
+use Rattle.cxl_legal.proofs.FittingTargets.{targets}
 use Rattle.cxl_legal.proofs.FittingUsed.{lands_used, endpoint_is}
 use Rattle.cxl_legal.proofs.FittingEndpoints.{Legal, planned, first_requested}
 use Rattle.cxl_legal.proofs.FittingSelects.{all_select, all_have_ways}
@@ -54,30 +55,6 @@ lies_there s w r n i d whole window there has =
     record { thirds = parts.0; kind = asked_or (is_endpoint_at s.nodes n) (permits w (span_kind s n i)) parts.1 }
 
 -- ---- K12, of the kind
-
-kinds_same : (a b : MemKind) → same_kind a b ≡ true → a ≡ b
-kinds_same Ram Ram same = refl
-kinds_same Ram Pmem same = absurd (false≢true same)
-kinds_same Pmem Ram same = absurd (false≢true same)
-kinds_same Pmem Pmem same = refl
-
--- an endpoint's span is of the range's kind
-has_kind : (s : System) (w : WindowFields) (r : Range) (n i : ℕ) (d : Decoder) → IsWhole s r → window_for s r ≡ Some w → is_endpoint_at s.nodes n ≡ true → decoder_at s n i ≡ Some d → has_range r d ≡ true
-    → span_kind s n i ≡ range_kind s r
-has_kind s w r n i d whole window endpoint there has =
-    let own = has_parts r d has in
-    let broken = rule_twelve s n i d there (whole.range 12 n i d (omega arith) there has) in
-    let keeps : keeps_ways s n i d ≡ true = asked d.committed (keeps_ways s n i d) broken own.committed in
-    let test : endpoint_test s w n i d r ≡ true =
-    sym (ap (λ (q : Range). ways_test s n i d q (window_for s q) (is_endpoint_at s.nodes n)) (same_range r d own)
-    ∙ ap (λ (o : Option WindowFields). ways_test s n i d r o (is_endpoint_at s.nodes n)) window
-    ∙ ap (ways_test s n i d r (Some w)) endpoint)
-    ∙ keeps in
-    let product : Bool = decoder_ways d == w.ways * ways_above s r n in
-    let ways : Bool = decoder_ways d == range_ways s r in
-    let kind : Bool = same_kind (span_kind s n i) (range_kind s r) in
-    let outer = and_parts (product && ways && kind) ((decoder_ways d == 1) || (d.gran == range_code s w r)) test in
-    kinds_same (span_kind s n i) (range_kind s r) (and_parts (product && ways) kind outer.0).1
 
 -- the window permits the kind
 permits_kind : {s : System} {request : Request} {w : WindowFields} {plan : Plan} → Legal s request w plan → permits w request.kind ≡ true

@@ -1,10 +1,5 @@
-pub mod FittingTrees
-pub mod FittingSums
 pub mod UsedNodes
 pub mod UsedPorts
-pub mod FittingServers
-pub mod FittingRules
-pub mod FittingCounts
 pub mod FittingTargets
 pub mod FittingRows
 pub mod FittingUsed

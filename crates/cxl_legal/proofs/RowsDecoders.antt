@@ -6,6 +6,9 @@ use Rattle.std.specs.List.{position_or_len}
 use Rattle.std.proofs.lemmas.Bool.{and_parts, and_from, leb-true, cond-true, cond-false, lt-ltb, false≢true, not_from_true, not_from_false}
 use Rattle.std.proofs.lemmas.List.Sums.{position_or_len_is, prefix_len_passes, prefix_len_stops}
 use Rattle.cxl_enc.specs.Codes.{ways_of, code_in_table, is_ways, bits_of}
+use Rattle.cxl_enc.proofs.Lists.{All-at}
+use Rattle.cxl_enc.proofs.Tests.{asked_or}
+use Rattle.cxl_enc.proofs.Ways.{count_is_ways}
 use Rattle.cxl_topo.specs.Tree.{is_endpoint_at}
 use Rattle.cxl_regs.specs.declared.decoder.Decoder.{Decoder}
 use Rattle.cxl_regs.specs.Registers.{IsDecoder, reset_decoder}
@@ -14,23 +17,23 @@ use Rattle.cxl_regs.specs.Rules.{endpoint_ways_ok, select_ok}
 use Rattle.cxl_span.specs.Partitions.{lies_in}
 use Rattle.cxl_span.specs.Allotting.{cursor_of}
 use Rattle.cxl_window.specs.Fields.{WindowFields, IsWindow, IsUsable}
+use Rattle.cxl_window.proofs.Usable.{usable_is}
+use Rattle.cxl_span.proofs.Ends.{partition_ends}
 use Rattle.cxl_model.specs.declared.request.Request.{Request}
 use Rattle.cxl_model.specs.declared.plan.Row.{Row}
 use Rattle.cxl_model.specs.System.{System, decoders_at, ram_at, pmem_at}
 use Rattle.cxl_model.specs.Plans.{IsRow}
+use Rattle.cxl_model.proofs.RangeRules.{block_keeps}
 use Rattle.cxl_legal.specs.Used.{request_ways, is_used, used_ports, planned_ways, planned_code, planned_ways_code}
 use Rattle.cxl_legal.specs.Endpoints.{share_of, cap_at}
 use Rattle.cxl_legal.specs.Stated.{Fits, planned_range, targets_word, stated_start, stated_tail, stated_decoder, stated_row, stated_rows, has_row}
-use Rattle.cxl_legal.proofs.FittingServers.{All-at, asked_or}
-use Rattle.cxl_legal.proofs.FittingRules.{block_keeps}
-use Rattle.cxl_legal.proofs.FittingTargets.{usable_is}
 use Rattle.cxl_legal.proofs.RowsSystems.{HasBlock}
 use Rattle.cxl_legal.proofs.RowsRanges.{Lower, known_tree}
 use Rattle.cxl_legal.proofs.RowsUsed.{used_kind, row_is}
 use Rattle.cxl_legal.proofs.UsedPorts.{ports_small, port_ways, even_at}
 use Rattle.cxl_legal.proofs.RowsImages.{row_of}
-use Rattle.cxl_legal.proofs.RowsNumbers.{HasCode, code_of, count_is_ways, word_wide, of_ways, of_step}
-use Rattle.cxl_legal.proofs.RowsSpans.{SpanLaw, capacity_known, least_start, end_within, cursor_aligned, skip_aligned}
+use Rattle.cxl_legal.proofs.RowsNumbers.{HasCode, code_of, word_wide, of_ways, of_step}
+use Rattle.cxl_legal.proofs.RowsSpans.{SpanLaw, capacity_known, least_start, cursor_aligned, skip_aligned}
 
 -- the first that is not committed stands behind those that are counted
 first_free : (ds : List Decoder) → committed_count ds < length ds → position (λ d. not d.committed) ds ≡ Some (committed_count ds)
@@ -120,7 +123,7 @@ module _ (lower : Lower) (spans : SpanLaw) (s : System) (request : Request) (w :
       let room = fits.endpoints.room n there in
       let least = least_start request.kind (ram_at s n) (pmem_at s n) (cursor_of (decoders_at s n)) room.0.start (share_of request) room.1.can_start.after room.1.can_start.inside in
       let end = least.1 in
-      let within = end_within request.kind (ram_at s n) (pmem_at s n) in
+      let within = partition_ends request.kind (ram_at s n) (pmem_at s n) in
       let capacity = capacity_known s n fits.system.tree in
       let low = capacity.low in
       record { inside = least.0; low = omega arith; ram = capacity.aligned }

@@ -15,12 +15,13 @@ use Rattle.cxl_model.specs.declared.plan.Row.{Row}
 use Rattle.cxl_model.specs.System.{System, decoders_at}
 use Rattle.cxl_model.specs.Ranges.{decoder_for, index_for}
 use Rattle.cxl_model.specs.Plans.{committed_row, block_with_row, with_rows}
+use Rattle.cxl_model.proofs.OtherBlocks.{decoders_are}
+use Rattle.cxl_model.proofs.RangeRules.{no_decoder}
 use Rattle.cxl_legal.specs.Used.{is_used}
 use Rattle.cxl_legal.specs.Stated.{Fits, planned_range, has_row, stated_row, stated_rows}
-use Rattle.cxl_legal.proofs.RowsSystems.{HasBlock, block_of, decoders_are}
+use Rattle.cxl_legal.proofs.RowsSystems.{HasBlock, block_of}
 use Rattle.cxl_legal.proofs.RowsRanges.{Lower, known_tree, new_range}
 use Rattle.cxl_legal.proofs.RowsUsed.{used_within, row_is, row_there, rows_apart}
-use Rattle.cxl_legal.proofs.FittingRules.{no_decoder}
 use Rattle.cxl_legal.proofs.FittingRows.{set_passes, get_fold_none, get_fold_some}
 use Rattle.cxl_legal.proofs.RowsFolds.{position_none, count_below}
 

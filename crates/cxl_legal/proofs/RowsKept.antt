@@ -11,6 +11,7 @@ use Rattle.cxl_enc.specs.declared.caps.MemKind.TheVariants.{Ram, Pmem}
 use Rattle.cxl_enc.specs.Codes.{code_in_table}
 use Rattle.cxl_enc.specs.Caps.{targets_of}
 use Rattle.cxl_enc.specs.Limits.{unit}
+use Rattle.cxl_enc.proofs.Lists.{All-at}
 use Rattle.cxl_topo.specs.Tree.{is_endpoint_at, is_port_at}
 use Rattle.cxl_regs.specs.declared.decoder.Decoder.{Decoder}
 use Rattle.cxl_regs.specs.Registers.{Registers, IsBlock, IsDecoder}
@@ -24,14 +25,14 @@ use Rattle.cxl_model.specs.declared.request.Request.{Request}
 use Rattle.cxl_model.specs.System.{System, IsSystem, decoders_at, ram_at, pmem_at}
 use Rattle.cxl_model.specs.Accepted.{KeepsBlocks}
 use Rattle.cxl_model.specs.Plans.{committed_row, block_with_row}
+use Rattle.cxl_model.proofs.RangeRules.{block_keeps}
+use Rattle.cxl_model.proofs.OtherBlocks.{keeps_again}
 use Rattle.cxl_legal.specs.Used.{request_ways, is_used, used_ports, planned_code, planned_ways_code}
 use Rattle.cxl_legal.specs.Endpoints.{share_of, cap_at}
 use Rattle.cxl_legal.specs.Bases.{last_end}
 use Rattle.cxl_legal.specs.Stated.{Fits, has_row, targets_word, stated_start, stated_tail, stated_decoder, stated_row, stated_rows}
-use Rattle.cxl_legal.proofs.FittingServers.{All-at}
-use Rattle.cxl_legal.proofs.FittingRules.{block_keeps}
 use Rattle.cxl_legal.proofs.FittingRows.{length-fold}
-use Rattle.cxl_legal.proofs.RowsSystems.{HasBlock, keeps_again}
+use Rattle.cxl_legal.proofs.RowsSystems.{HasBlock}
 use Rattle.cxl_legal.proofs.RowsRanges.{Lower, known_tree, end_at}
 use Rattle.cxl_legal.proofs.RowsUsed.{used_kind}
 use Rattle.cxl_legal.proofs.UsedPorts.{port_ways, even_at}

@@ -1,38 +1,14 @@
 -- The codes of ways, target lists as numbers, and multiples of 256 MiB.
-use Rattle.std.proofs.Common.{◌≡◌, ℕ, suc, ◌-◌, ◌*◌, ◌%◌, ◌^◌, ◌<◌, ◌≤◌, Bool, true, false, cond, List, [], ◌∷◌, length, Some, refl, sym, ◌∙◌, subst, inl, inr, lit≤, arith}
+use Rattle.std.proofs.Common.{◌≡◌, ℕ, suc, ◌-◌, ◌*◌, ◌%◌, ◌^◌, ◌<◌, ◌≤◌, Bool, true, false, cond, List, [], ◌∷◌, length, Some, refl, lit≤, arith}
 use Rattle.std.specs.Prelude.{All}
 use Rattle.std.proofs.Math.Nat.{pow-succ'}
-use Rattle.std.proofs.lemmas.Bool.{cases_eq, ne_eqb, false≢true}
 use Rattle.std.proofs.lemmas.List.Elements.{All-head, All-tail}
 use Rattle.cxl_enc.specs.Codes.{ways_of, code_in_table, is_ways}
 use Rattle.cxl_enc.specs.Caps.{is_target_count}
+use Rattle.cxl_enc.proofs.Ways.{each_ways, each_count}
 use Rattle.cxl_legal.specs.Stated.{targets_word}
-use Rattle.cxl_legal.proofs.FittingServers.{each_ways}
 
 -- ---- ways
-
-pub each_count : (P : ℕ → Type 0) (p : ℕ) → is_target_count p ≡ true → P 1 → P 2 → P 4 → P 8 → P p
-each_count P p is p1 p2 p4 p8 =
-    elim (cases_eq p 1) [
-      | inl e ↦ subst P (sym e) p1
-      | inr n1 ↦
-          elim (cases_eq p 2) [
-            | inl e ↦ subst P (sym e) p2
-            | inr n2 ↦
-                elim (cases_eq p 4) [
-                  | inl e ↦ subst P (sym e) p4
-                  | inr n4 ↦
-                      elim (cases_eq p 8) [
-                        | inl e ↦ subst P (sym e) p8
-                        | inr n8 ↦
-                            absurd (false≢true (sym (none n1 n2 n4 n8) ∙ is))
-                      ]
-                ]
-          ]
-    ]
-  where
-    none : (p ≡ 1 → ⊥) → (p ≡ 2 → ⊥) → (p ≡ 4 → ⊥) → (p ≡ 8 → ⊥) → is_target_count p ≡ false
-    none n1 n2 n4 n8 = rw (ne_eqb p 1 n1, ne_eqb p 2 n2, ne_eqb p 4 n4, ne_eqb p 8 n8) refl
 
 -- ways with their code, of four bits, which stands for them
 pub record HasCode (p : ℕ) : Type 0 where
@@ -67,9 +43,6 @@ exponent_of p known =
     (record { code = 1; is = refl; power = refl; small = omega arith })
     (record { code = 2; is = refl; power = refl; small = omega arith })
     (record { code = 3; is = refl; power = refl; small = omega arith })
-
-pub count_is_ways : (p : ℕ) → is_target_count p ≡ true → is_ways p ≡ true
-count_is_ways p known = each_count (λ n. is_ways n ≡ true) p known refl refl refl refl
 
 -- ---- target lists
 

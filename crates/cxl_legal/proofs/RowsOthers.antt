@@ -6,10 +6,13 @@ use Rattle.std.specs.List.{list_any}
 use Rattle.std.proofs.Math.Nat.{le-max_left}
 use Rattle.std.proofs.lemmas.Bool.{cases_Bool, cases_eq, and_from, cond-true, cond-false, or_cases, false≢true, false_from_ne_true, not_from_false}
 use Rattle.std.proofs.lemmas.Option.{none-some, same_Some}
+use Rattle.std.proofs.lemmas.Map.Keys.{any_passes_from_place}
 use Rattle.cxl_enc.specs.declared.caps.MemKind.{MemKind}
 use Rattle.cxl_enc.specs.declared.caps.MemKind.TheVariants.{Ram, Pmem}
 use Rattle.cxl_enc.specs.Codes.{is_ways}
 use Rattle.cxl_enc.specs.Limits.{unit}
+use Rattle.cxl_enc.proofs.Lists.{get_same, get_other}
+use Rattle.cxl_enc.proofs.Ways.{each_ways}
 use Rattle.cxl_topo.specs.declared.node.Node.{Node}
 use Rattle.cxl_topo.specs.Kinds.{is_endpoint}
 use Rattle.cxl_topo.specs.Tree.{forwards_at, is_endpoint_at}
@@ -20,22 +23,20 @@ use Rattle.cxl_span.specs.Spans.{span_start_of}
 use Rattle.cxl_span.specs.Partitions.{lies_in}
 use Rattle.cxl_span.specs.Allotting.{cursor_of}
 use Rattle.cxl_window.specs.Fields.{WindowFields}
+use Rattle.cxl_regs.proofs.DecoderRanges.{has_parts, same_range}
 use Rattle.cxl_model.specs.declared.request.Request.{Request}
 use Rattle.cxl_model.specs.System.{System, decoders_at, decoder_at, ram_at, pmem_at}
 use Rattle.cxl_model.specs.Changes.{HaveSameDecoders}
 use Rattle.cxl_model.specs.Plans.{committed_row}
 use Rattle.cxl_model.specs.Ranges.{lies_within, window_for, span_kind}
+use Rattle.cxl_model.proofs.RangeRules.{block_keeps}
 use Rattle.cxl_legal.specs.Used.{request_ways, is_used, used_ports}
 use Rattle.cxl_legal.specs.Endpoints.{share_of}
 use Rattle.cxl_legal.specs.Stated.{Fits, planned_range, has_row, targets_word, stated_start, stated_tail, stated_row}
-use Rattle.cxl_legal.proofs.FittingServers.{has_parts, same_range, passes_one}
-use Rattle.cxl_legal.proofs.FittingRules.{block_keeps}
 use Rattle.cxl_legal.proofs.RowsSystems.{block_of, decoder_within}
 use Rattle.cxl_legal.proofs.RowsRanges.{Lower, known_tree, window_there, lies_in_window, some_first}
 use Rattle.cxl_legal.proofs.RowsUsed.{used_kind}
-use Rattle.cxl_legal.proofs.FittingRows.{get_same, get_other}
 use Rattle.cxl_legal.proofs.RowsImages.{after, decoders_with, left_at, decoders_else}
-use Rattle.cxl_legal.proofs.FittingServers.{each_ways}
 use Rattle.cxl_legal.proofs.RowsSpans.{SpanLaw}
 use Rattle.cxl_legal.proofs.RowsDecoders.{span_room}
 use Rattle.cxl_legal.proofs.RowsKept.{endpoint_decoder_ways}
@@ -128,7 +129,7 @@ module _ (lower : Lower) (s : System) (request : Request) (w : WindowFields) (ba
   in_window = go (window_for s (planned_range request base)) refl
     where
       any : list_any (lies_within (planned_range request base)) s.windows ≡ true
-      any = passes_one (lies_within (planned_range request base)) s.windows w.index w fits.window.there (lies_in_window lower s request w base fits)
+      any = any_passes_from_place (lies_within (planned_range request base)) s.windows w.index w fits.window.there (lies_in_window lower s request w base fits)
 
       go : (o : Option WindowFields) → window_for s (planned_range request base) ≡ o → o ≡ Some w
       go None none = absurd (found_some (lies_within (planned_range request base)) s.windows any none)

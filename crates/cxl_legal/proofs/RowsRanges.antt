@@ -8,6 +8,7 @@ use Rattle.std.proofs.lemmas.Option.{slice_get_within, slice_get-get_or, get_or_
 use Rattle.std.proofs.lemmas.List.Elements.{All-contains}
 use Rattle.std.proofs.lemmas.List.Folds.{Any-from_list_any, list_any-from_Any, find_at}
 use Rattle.std.proofs.lemmas.List.Sums.{AllPass-from_list_all, passes_at_first, prefix_len-le-length}
+use Rattle.cxl_enc.proofs.Numbers.{from_lower}
 use Rattle.cxl_topo.specs.declared.node.Node.{Node}
 use Rattle.cxl_topo.specs.declared.node.Parent.{Parent}
 use Rattle.cxl_topo.specs.Faults.{IsTree}
@@ -21,20 +22,20 @@ use Rattle.cxl_span.specs.Breaches.{BlockKeeps}
 use Rattle.cxl_window.specs.Fields.{WindowFields}
 use Rattle.cxl_window.specs.Position.{is_usable}
 use Rattle.cxl_window.specs.Windows.{AreMadeWith}
+use Rattle.cxl_topo.proofs.Trees.{KnownTree, root_of}
+use Rattle.cxl_regs.proofs.DecoderRanges.{has_parts}
 use Rattle.cxl_model.specs.declared.request.Request.{Request}
 use Rattle.cxl_model.specs.System.{System, IsSystem, decoders_at, decoder_at, ram_at, pmem_at}
 use Rattle.cxl_model.specs.Ranges.{serves, lies_within, window_for}
 use Rattle.cxl_model.specs.Rules.{lists, is_targeted}
 use Rattle.cxl_model.specs.Accepted.{IsAccepted, IsWhole}
 use Rattle.cxl_model.specs.Counts.{is_under}
+use Rattle.cxl_model.proofs.RangeRules.{block_keeps, served, reached}
 use Rattle.cxl_legal.specs.Used.{is_used}
 use Rattle.cxl_legal.specs.Windows.{is_used_bridge}
 use Rattle.cxl_legal.specs.Bases.{last_end}
 use Rattle.cxl_legal.specs.Stated.{Fits, planned_range}
-use Rattle.cxl_legal.proofs.FittingTrees.{KnownTree, from_lower, root_of}
 use Rattle.cxl_legal.proofs.RowsTrees.{decoding_earlier, under_landing}
-use Rattle.cxl_legal.proofs.FittingServers.{has_parts}
-use Rattle.cxl_legal.proofs.FittingRules.{block_keeps, served, reached}
 use Rattle.cxl_legal.proofs.RowsSystems.{block_of, decoder_within}
 
 -- ---- what lower laws say
@@ -42,21 +43,21 @@ use Rattle.cxl_legal.proofs.RowsSystems.{block_of, decoder_within}
 abbrev pub CountedLaw : Type 0
 CountedLaw = (block : Registers) (ram pmem i : ℕ) (d : Decoder) → BlockKeeps block ram pmem → slice_get block.decoders i ≡ Some d → (d.committed ≡ true) ↔ (i < committed_count block.decoders)
 
-abbrev pub ApartLaw : Type 0
-ApartLaw =
+abbrev pub RisingLaw : Type 0
+RisingLaw =
     (block : Registers) (ram pmem i j : ℕ) (d e : Decoder) → BlockKeeps block ram pmem → slice_get block.decoders i ≡ Some d → slice_get block.decoders j ≡ Some e
     → i < j → e.committed ≡ true → d.base + d.size ≤ e.base
 
-abbrev pub WindowLaw : Type 0
-WindowLaw =
+abbrev pub OneWindowLaw : Type 0
+OneWindowLaw =
     (s : System) (r : Range) (w v : WindowFields) → AreMadeWith s.windows (bridge_uids s.nodes) → 0 < r.size → Contains s.windows w → Contains s.windows v
     → lies_within r w ≡ true → lies_within r v ≡ true → w ≡ v
 
 pub record Lower : Type 0 where
   pub trees : (nodes : List Node) → IsTree nodes → AreTreeLaws nodes
   pub counted : CountedLaw
-  pub apart : ApartLaw
-  pub window : WindowLaw
+  pub apart : RisingLaw
+  pub window : OneWindowLaw
 
 -- ---- the end of all that is committed
 

@@ -1,11 +1,14 @@
 -- A block that keeps K2 to K8 keeps them with one more decoder committed, the first that was not.
-use Rattle.std.proofs.Common.{◌≡◌, ◌≢◌, ℕ, ◌+◌, ◌-◌, ◌%◌, ◌<◌, ◌≤◌, ◌⊎◌, Bool, true, false, cond, not, ◌&&◌, ◌||◌, List, length, set, take, Option, Some, None, sum_by, refl, sym, ap, ◌∙◌, subst, inl, inr, eq-eqb, arith}
+use Rattle.std.proofs.Common.{◌≡◌, ◌≢◌, ℕ, ◌+◌, ◌-◌, ◌%◌, ◌<◌, ◌≤◌, Bool, true, false, cond, not, ◌&&◌, ◌||◌, List, length, set, take, Option, Some, None, sum_by, refl, sym, ap, ◌∙◌, subst, inl, inr, eq-eqb, arith}
 use Rattle.std.specs.Prelude.{slice_get, slice_set, nat_lt, ◌==◌}
 use Rattle.std.specs.Option.{option_map_or}
-use Rattle.std.proofs.lemmas.Bool.{cases_order, cases_eq, or_parts, or_from, and_left, and_right, not_from_true, false_from_ne_true, le-ltb, ne_eqb}
+use Rattle.std.proofs.lemmas.Bool.{cases_order, cases_eq, or_from, and_left, and_right, not_from_true, false_from_ne_true, le-ltb, ne_eqb}
 use Rattle.std.proofs.lemmas.List.{take-set-le}
 use Rattle.cxl_enc.specs.declared.caps.MemKind.TheVariants.{Ram, Pmem}
 use Rattle.cxl_enc.specs.Limits.{address_limit}
+use Rattle.cxl_enc.proofs.Lists.{get_same, get_other}
+use Rattle.cxl_enc.proofs.Tests.{neither, stays_false}
+use Rattle.cxl_enc.proofs.Options.{cases_Option}
 use Rattle.cxl_regs.specs.declared.decoder.Decoder.{Decoder}
 use Rattle.cxl_regs.specs.Registers.{Registers}
 use Rattle.cxl_regs.specs.Reading.{committed_count, select_bits, span_length}
@@ -15,41 +18,24 @@ use Rattle.cxl_span.specs.Partitions.{lies_in}
 use Rattle.cxl_span.specs.Allotting.{cursor_of}
 use Rattle.cxl_span.specs.Rules.{breaks_rule, breaks_flags, breaks_commit_order, breaks_codes, breaks_select, breaks_size, breaks_base_order, breaks_capacity, size_unit}
 use Rattle.cxl_span.specs.Breaches.{breaks, BlockKeeps}
-use Rattle.cxl_legal.proofs.FittingRows.{get_same, get_other}
+use Rattle.cxl_span.proofs.RulesBroken.{at_decoder, at_none, kept_at}
 use Rattle.cxl_legal.proofs.RowsRanges.{CountedLaw}
 use Rattle.cxl_legal.proofs.RowsSpans.{HasLast, cases_last, taken_to_cursor}
 
 -- ---- a rule at a decoder
-
-at_decoder : (block : Registers) (rule ram pmem i : ℕ) (d : Decoder) → slice_get block.decoders i ≡ Some d
-    → breaks rule block ram pmem i ≡ breaks_rule rule block ram pmem (before block.decoders i) (span_start_of block.decoders i) d
-unfolding breaks
-at_decoder block rule ram pmem i d here = ap (λ (o : Option Decoder). option_map_or (breaks_rule rule block ram pmem (before block.decoders i) (span_start_of block.decoders i)) o false) here
-
-at_none : (block : Registers) (rule ram pmem i : ℕ) → slice_get block.decoders i ≡ None → breaks rule block ram pmem i ≡ false
-unfolding breaks
-at_none block rule ram pmem i none = ap (λ (o : Option Decoder). option_map_or (breaks_rule rule block ram pmem (before block.decoders i) (span_start_of block.decoders i)) o false) none
-
-kept_at : (block : Registers) (rule ram pmem i : ℕ) (d : Decoder) → BlockKeeps block ram pmem → slice_get block.decoders i ≡ Some d
-    → breaks_rule rule block ram pmem (before block.decoders i) (span_start_of block.decoders i) d ≡ false
-kept_at block rule ram pmem i d keeps here = sym (at_decoder block rule ram pmem i d here) ∙ keeps.each rule i
-
-either : (b x y : Bool) → x ≡ false → y ≡ false → cond b x y ≡ false
-either true x y p q = p
-either false x y p q = q
 
 -- all seven rules are kept
 all_rules : (block : Registers) (rule ram pmem start : ℕ) (below : Option Decoder) (d : Decoder) → breaks_commit_order block below d ≡ false → breaks_flags d ≡ false → breaks_codes block d ≡ false
     → breaks_select block d ≡ false → breaks_size block d ≡ false → breaks_base_order below d ≡ false → breaks_capacity block ram pmem start d ≡ false
     → breaks_rule rule block ram pmem below start d ≡ false
 all_rules block rule ram pmem start below d k2 k3 k4 k5 k6 k7 k8 =
-    either (rule == 2) (breaks_commit_order block below d) _ k2
-    (either (rule == 3) (breaks_flags d) _ k3
-    (either (rule == 4) (breaks_codes block d) _ k4
-    (either (rule == 5) (breaks_select block d) _ k5
-    (either (rule == 6) (breaks_size block d) _ k6
-    (either (rule == 7) (breaks_base_order below d) _ k7
-    (either (rule == 8) (breaks_capacity block ram pmem start d) _ k8 refl))))))
+    neither (rule == 2) (breaks_commit_order block below d) _ k2
+    (neither (rule == 3) (breaks_flags d) _ k3
+    (neither (rule == 4) (breaks_codes block d) _ k4
+    (neither (rule == 5) (breaks_select block d) _ k5
+    (neither (rule == 6) (breaks_size block d) _ k6
+    (neither (rule == 7) (breaks_base_order below d) _ k7
+    (neither (rule == 8) (breaks_capacity block ram pmem start d) _ k8 refl))))))
 
 -- ---- a decoder that is not committed
 
@@ -60,10 +46,6 @@ clean_rules block rule ram pmem start below d flags free =
 
 -- ---- a block that decodes
 
-enabled_order : (committed order enabled : Bool) → (committed && (order || not enabled)) ≡ false → (committed && (order || not true)) ≡ false
-enabled_order false order enabled keeps = refl
-enabled_order true order enabled keeps = or_from order false (or_parts order (not enabled) keeps).0 refl
-
 other_choice : (b x new y : Bool) → cond b x y ≡ false → (x ≡ false → new ≡ false) → cond b new y ≡ false
 other_choice true x new y keeps weaker = weaker keeps
 other_choice false x new y keeps weaker = keeps
@@ -72,7 +54,7 @@ other_choice false x new y keeps weaker = keeps
 decoding_rule : (block : Registers) (decoders : List Decoder) (rule ram pmem start : ℕ) (below : Option Decoder) (d : Decoder) → breaks_rule rule block ram pmem below start d ≡ false
     → breaks_rule rule (record block { enabled = true; decoders = decoders }) ram pmem below start d ≡ false
 decoding_rule block decoders rule ram pmem start below d keeps =
-    other_choice (rule == 2) (breaks_commit_order block below d) (d.committed && (breaks_order below || not true)) _ keeps (enabled_order d.committed (breaks_order below) block.enabled)
+    other_choice (rule == 2) (breaks_commit_order block below d) (d.committed && (breaks_order below || not true)) _ keeps (stays_false d.committed (breaks_order below) block.enabled)
 
 -- ---- decoders before one that is set
 
@@ -124,10 +106,6 @@ unless_both false c b then = refl
 
 set_flags : (error committed commit host_only : Bool) → error ≡ false → commit ≡ true → host_only ≡ true → committed ≡ true → (error || cond committed (not (commit && host_only)) commit) ≡ false
 set_flags error committed commit host_only good is host set = rw (good, set, is, host) refl
-
-cases_Option : {X : Type 0} (o : Option X) → (o ≡ None) ⊎ ((x : X) × (o ≡ Some x))
-cases_Option None = inl refl
-cases_Option (Some x) = inr (x, refl)
 
 module _ (counted : CountedLaw) (block : Registers) (ram pmem : ℕ) (new : Decoder) (keeps : BlockKeeps block ram pmem) (left : committed_count block.decoders < length block.decoders) (can : CanFollow block ram pmem new) where
   -- the decoder before it is committed, and ends at or below its base

@@ -1,14 +1,15 @@
 -- Where the next span of an endpoint stands, and that it is a multiple of 256 MiB within the kind's partition.
-use Rattle.std.proofs.Common.{◌≡◌, ℕ, ◌+◌, ◌-◌, ◌%◌, ◌^◌, ◌<◌, ◌≤◌, ◌⊎◌, true, cond, ◌&&◌, ◌||◌, List, length, get_or, take, Option, Some, None, max, sum_by, refl, sym, ap, ◌∙◌, inl, inr, arith}
+use Rattle.std.proofs.Common.{◌≡◌, ℕ, ◌+◌, ◌-◌, ◌%◌, ◌^◌, ◌<◌, ◌≤◌, ◌⊎◌, true, ◌&&◌, ◌||◌, List, length, get_or, take, Option, Some, None, max, sum_by, refl, sym, ap, ◌∙◌, inl, inr, arith}
 use Rattle.std.specs.Prelude.{slice_get, nat_le, ◌==◌}
 use Rattle.std.specs.Option.{option_map_or, option_and_then}
 use Rattle.std.proofs.Math.Nat.{le-max_right, max-le}
-use Rattle.std.proofs.lemmas.Bool.{cases_lt, and_parts, and_from, leb-true, le-leb, ne_eqb, eqb-true, or_left, or_right}
+use Rattle.std.proofs.lemmas.Bool.{cases_lt, and_parts, and_from, leb-true, le-leb, eqb-true, or_left, or_right}
 use Rattle.std.proofs.lemmas.List.Sums.{sum_by_more, prefix_len-le-length}
 use Rattle.std.proofs.lemmas.Option.{slice_get-get_or, slice_get_within, get_or_from_slice_get}
 use Rattle.cxl_enc.specs.declared.caps.MemKind.{MemKind}
 use Rattle.cxl_enc.specs.declared.caps.MemKind.TheVariants.{Ram, Pmem}
 use Rattle.cxl_enc.specs.Limits.{unit, address_limit}
+use Rattle.cxl_enc.proofs.Numbers.{some_count, no_count}
 use Rattle.cxl_topo.specs.declared.node.Node.{Node}
 use Rattle.cxl_topo.specs.declared.node.Capacity.{Capacity}
 use Rattle.cxl_topo.specs.Faults.{IsTree, is_capacity}
@@ -42,10 +43,6 @@ pub in_one : (kind : MemKind) (ram pmem start len : ℕ) → lies_in kind ram pm
 in_one Ram ram pmem start len inside = or_left (lies_in Ram ram pmem start len) (lies_in Pmem ram pmem start len) inside
 in_one Pmem ram pmem start len inside = or_right (lies_in Ram ram pmem start len) (lies_in Pmem ram pmem start len) inside
 
-pub end_within : (kind : MemKind) (ram pmem : ℕ) → partition_end kind ram pmem ≤ ram + pmem
-end_within Ram ram pmem = omega arith
-end_within Pmem ram pmem = omega arith
-
 -- ---- capacities
 
 pub record HasCapacity (ram pmem : ℕ) : Type 0 where
@@ -67,12 +64,6 @@ capacity_known s n tree = go (slice_get s.nodes n) refl
     go (Some node) is = capacity_if (capacity_of node.kind) (λ c own. tree.capacities n node c is own)
 
 -- ---- the cursor
-
-some_count : (n x : ℕ) → 0 < n → cond (n == 0) 0 x ≡ x
-some_count n x some = ap (λ b. cond b 0 x) (ne_eqb n 0 (λ e. omega (arith, e)))
-
-no_count : (n x : ℕ) → n ≡ 0 → cond (n == 0) 0 x ≡ 0
-no_count n x none = ap (λ (k : ℕ). cond (k == 0) 0 x) none
 
 -- the last committed decoder, where one is
 pub record HasLast (ds : List Decoder) : Type 0 where

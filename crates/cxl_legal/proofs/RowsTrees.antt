@@ -6,9 +6,9 @@ use Rattle.std.proofs.lemmas.Option.{none-some, same_Some}
 use Rattle.cxl_topo.specs.declared.node.Node.{Node}
 use Rattle.cxl_topo.specs.declared.node.Parent.{Parent}
 use Rattle.cxl_topo.specs.Tree.{forwards_at, is_port_at, is_endpoint_at, parent_of, decoding_port_of}
+use Rattle.cxl_topo.proofs.Trees.{KnownTree, parent_is_port, up_tree, is_above, above_port, port_no_endpoint, root_of, root_root, root_step, decoding_none, decoding_here, decoding_past}
 use Rattle.cxl_model.specs.Counts.{is_under}
-use Rattle.cxl_legal.proofs.FittingTrees.{KnownTree, parent_is_port, up_tree, under_root, under_step, under_is, is_above, above_port, port_no_endpoint, root_of, root_root, root_step}
-use Rattle.cxl_legal.proofs.FittingRules.{decoding_none, decoding_here, decoding_past}
+use Rattle.cxl_model.proofs.Under.{under_root, under_step, under_is}
 
 -- what stands on a path is its end, or a port
 pub on_path : {nodes : List Node} → KnownTree nodes → (n m : ℕ) → is_under nodes n m ≡ true → (m ≡ n) ⊎ (is_port_at nodes n ≡ true)

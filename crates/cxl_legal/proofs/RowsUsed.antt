@@ -4,16 +4,19 @@ use Rattle.std.specs.Prelude.{slice_get, AllPairs, Contains, filter}
 use Rattle.std.specs.Option.{option_map, option_map_or}
 use Rattle.std.specs.List.{range_with_len}
 use Rattle.std.proofs.lemmas.Bool.{cases_lt, cases_Bool, and_parts, and_from, false≢true, not-true, not_from_false}
-use Rattle.std.proofs.lemmas.Option.{slice_get_within, slice_get_past, slice_get-map, slice_get-get_or, get_or_from_slice_get, none-some}
+use Rattle.std.proofs.lemmas.Option.{slice_get_past, slice_get-map, slice_get-get_or, none-some}
 use Rattle.std.proofs.lemmas.List.{length-map, get_or-map}
 use Rattle.std.proofs.lemmas.List.Elements.{All-contains, All-map, filter_passes}
 use Rattle.std.proofs.lemmas.List.Folds.{Any-from_list_any}
 use Rattle.std.proofs.lemmas.List.FromFn.{length-range_with_len, get_or-range_with_len}
 use Rattle.std.proofs.lemmas.List.Kept.{AllPairs-filter}
+use Rattle.cxl_enc.proofs.Lists.{contains_at}
+use Rattle.cxl_enc.proofs.Numbers.{numbers_rise}
 use Rattle.cxl_topo.specs.declared.node.Node.{Node}
 use Rattle.cxl_topo.specs.Kinds.{is_endpoint}
 use Rattle.cxl_topo.specs.Tree.{forwards_at, is_endpoint_at, is_port_at}
 use Rattle.cxl_window.specs.Fields.{WindowFields}
+use Rattle.cxl_topo.proofs.Trees.{KnownTree, port_no_endpoint}
 use Rattle.cxl_model.specs.declared.request.Request.{Request}
 use Rattle.cxl_model.specs.declared.plan.Row.{Row}
 use Rattle.cxl_model.specs.System.{System}
@@ -21,8 +24,7 @@ use Rattle.cxl_model.specs.Counts.{is_under}
 use Rattle.cxl_model.specs.Plans.{IsUsed, AreRowsOf}
 use Rattle.cxl_legal.specs.Used.{AreEndpoints, is_used}
 use Rattle.cxl_legal.specs.Stated.{has_row, stated_row, stated_rows}
-use Rattle.cxl_legal.proofs.FittingTrees.{KnownTree, port_no_endpoint}
-use Rattle.cxl_legal.proofs.FittingRows.{AreApart, used_is, used_from}
+use Rattle.cxl_legal.proofs.FittingRows.{StandApart, used_is, used_from}
 use Rattle.cxl_legal.proofs.RowsTrees.{on_path}
 
 -- ---- lists
@@ -40,16 +42,6 @@ filter_keeps p (y ∷ ys) (suc k) x here passes =
       | inl here_too ↦ (suc rest.0, ap (λ b. slice_get (cond b (y ∷ filter p ys) (filter p ys)) (suc rest.0)) here_too ∙ rest.1)
       | inr dropped ↦ (rest.0, ap (λ b. slice_get (cond b (y ∷ filter p ys) (filter p ys)) rest.0) dropped ∙ rest.1)
     ]
-
-pub contains_at : {X : Type 0} (xs : List X) (k : ℕ) (x : X) → slice_get xs k ≡ Some x → Contains xs x
-contains_at xs k x here = (k, slice_get_within xs k x here, get_or_from_slice_get xs k x x here)
-
-pub numbers_rise : (n : ℕ) → AllPairs (λ a b. a < b) (range_with_len 0 n)
-numbers_rise n i j d less within =
-    let long = length-range_with_len 0 n in
-    let first = get_or-range_with_len 0 n i d (omega arith) in
-    let next = get_or-range_with_len 0 n j d (omega arith) in
-    omega arith
 
 pub number_at : (n k : ℕ) → k < n → slice_get (range_with_len 0 n) k ≡ Some k
 number_at n k low =
@@ -115,7 +107,7 @@ rows_rise s request w base i j d less within =
     let next : (get_or (stated_rows s request w base) j d).node ≡ get_or kept j 0 = ap (λ (row : Row). row.node) (get_or-map (stated_row s request w base) kept j 0 d (omega arith)) in
     omega arith
 
-pub rows_apart : (s : System) (request : Request) (w : WindowFields) (base : ℕ) → AreApart (stated_rows s request w base)
+pub rows_apart : (s : System) (request : Request) (w : WindowFields) (base : ℕ) → StandApart (stated_rows s request w base)
 rows_apart s request w base i j d less within e = let rises = rows_rise s request w base i j d less within in omega (arith, e)
 
 pub rows_of : (s : System) (request : Request) (w : WindowFields) (base : ℕ) → KnownTree s.nodes → AreEndpoints s request → AreRowsOf s request (stated_rows s request w base)

@@ -1,14 +1,17 @@
 -- How many requested endpoints lie under the used nodes of a request that fits.
-use Rattle.std.proofs.Common.{◌≡◌, ℕ, ◌*◌, ◌<◌, Bool, true, false, not, ◌&&◌, ◌||◌, List, [], ◌∷◌, length, get_or, map, Option, Some, None, refl, sym, ap, ◌∙◌, subst, eq-eqb, arith}
-use Rattle.std.specs.Prelude.{slice_get, ◌==◌, All, Contains}
+use Rattle.std.proofs.Common.{◌≡◌, ℕ, ◌*◌, ◌<◌, Bool, true, false, not, ◌&&◌, ◌||◌, List, length, get_or, map, Option, Some, None, refl, sym, ap, ◌∙◌, subst, eq-eqb, arith}
+use Rattle.std.specs.Prelude.{slice_get, ◌==◌, Contains}
 use Rattle.std.specs.Option.{option_map_or}
 use Rattle.std.specs.List.{list_any, list_all, range_with_len}
 use Rattle.std.proofs.lemmas.Bool.{and_parts, and_from, or_right, eqb-true, false≢true}
 use Rattle.std.proofs.lemmas.Option.{same_Some}
-use Rattle.std.proofs.lemmas.List.Elements.{All-head, All-tail, All-contains, Contains-get_or}
+use Rattle.std.proofs.lemmas.List.Elements.{All-contains, Contains-get_or}
 use Rattle.std.proofs.lemmas.List.Folds.{Any-from_list_any, list_any_at}
 use Rattle.std.proofs.lemmas.List.FromFn.{length-range_with_len, get_or-range_with_len}
 use Rattle.std.proofs.lemmas.List.Sums.{AllPass-from_list_all}
+use Rattle.cxl_enc.proofs.Tests.{same_test, asked_or}
+use Rattle.cxl_enc.proofs.Lists.{list_any-weaker, All-at}
+use Rattle.cxl_enc.proofs.Numbers.{is_number}
 use Rattle.cxl_topo.specs.declared.node.Node.{Node}
 use Rattle.cxl_topo.specs.declared.node.NodeKind.{NodeKind}
 use Rattle.cxl_topo.specs.declared.node.NodeKind.TheVariants.{Bridge, Switch, Endpoint}
@@ -16,33 +19,23 @@ use Rattle.cxl_topo.specs.Kinds.{is_bridge, is_endpoint}
 use Rattle.cxl_topo.specs.declared.node.Parent.{Parent}
 use Rattle.cxl_topo.specs.Tree.{is_bridge_at, is_endpoint_at, is_port_at, uid_at, parent_of, bridge_with}
 use Rattle.cxl_window.specs.Fields.{WindowFields, IsWindow}
+use Rattle.cxl_window.proofs.Usable.{usable_is}
+use Rattle.cxl_topo.proofs.Trees.{KnownTree, parent_is_port, up_tree, ports_none, ports_some, is_above, leaves_at, leaves_above, leaves_once, root_of, port_no_endpoint, uid_top, endpoint_within}
 use Rattle.cxl_model.specs.declared.request.Request.{Request}
 use Rattle.cxl_model.specs.System.{System}
 use Rattle.cxl_model.specs.Ranges.{product}
 use Rattle.cxl_model.specs.Rules.{are_distinct}
 use Rattle.cxl_model.specs.Counts.{is_under}
+use Rattle.cxl_model.proofs.Under.{under_self, under_is, under_child, under_endpoint, under_top}
+use Rattle.cxl_model.proofs.Sums.{one, total, length-filter-total, total-same, exchange, once, total_each, length_total, total_same_each}
+use Rattle.cxl_model.proofs.Distinct.{distinct_test}
 use Rattle.cxl_legal.specs.Used.{request_ways, is_used, count_under, is_port_used, used_ports, count_at_port, planned_ways, planned_ways_above}
 use Rattle.cxl_legal.specs.Endpoints.{first_bridge}
 use Rattle.cxl_legal.specs.Windows.{is_used_bridge, is_target}
-use Rattle.cxl_legal.proofs.FittingTrees.{under_self, KnownTree, parent_is_port, up_tree, ports_none, ports_some, under_is, is_above, leaves_at, leaves_above, leaves_once, under_child, under_endpoint, under_top, root_of, same_test, port_no_endpoint}
-use Rattle.cxl_legal.proofs.FittingSums.{one, total, length-filter-total, total-same, exchange, list_any-weaker, once}
-use Rattle.cxl_legal.proofs.FittingServers.{All-at, asked_or}
-use Rattle.cxl_legal.proofs.FittingCounts.{is_number}
-use Rattle.cxl_legal.proofs.FittingTargets.{distinct_test, uid_top, usable_is}
-use Rattle.cxl_legal.proofs.FittingUsed.{total_each, length_total, endpoint_within}
 use Rattle.cxl_legal.proofs.RowsOthers.{found_some}
 use Rattle.cxl_legal.proofs.UsedNodes.{child_to, above_requested, used_by, used_parent, used_root, top_bridge}
 use Rattle.cxl_legal.proofs.StatedImages.{Stated}
 use Rattle.cxl_legal.proofs.UsedPorts.{even_at, port_ways, port_used, port_child, listed_port, ports_pass, ports_distinct}
-
--- ---- sums
-
-total_const : {X : Type 0} (f : X → ℕ) (n : ℕ) (xs : List X) → All (λ x. f x ≡ n) xs → total f xs ≡ length xs * n
-total_const f n [] each = omega arith
-total_const f n (x ∷ xs) each =
-    let first = All-head (λ y. f y ≡ n) x xs each in
-    let rest = total_const f n xs (All-tail (λ y. f y ≡ n) x xs each) in
-    omega (arith, first, rest)
 
 -- ---- the endpoints under a port
 
@@ -102,7 +95,7 @@ count_child {s} {request} c n p parent used =
     let own = Any-from_list_any (λ x. x == p.port) (used_ports s request p.node) (listed_port s request p.node p.port (c.fits.ports n p parent) (port_used s request c.known p.node p.port n parent used)) in
     let at : get_or (used_ports s request p.node) own.0 own.1 ≡ p.port = own.3 ∙ eqb-true own.1 p.port own.4 in
     count_ports c p.node (port_no_endpoint s.nodes p.node port)
-    ∙ total_const (count_at_port s request p.node) (count_under s request n) (used_ports s request p.node) (λ k d within.
+    ∙ total_same_each (count_at_port s request p.node) (count_under s request n) (used_ports s request p.node) (λ k d within.
     let e : ℕ = get_or (used_ports s request p.node) k d in
     let all : list_all (λ f. count_at_port s request p.node e == count_at_port s request p.node f) (used_ports s request p.node) ≡ true =
     AllPass-from_list_all (λ x. list_all (λ f. count_at_port s request p.node x == count_at_port s request p.node f) (used_ports s request p.node)) (used_ports s request p.node) even.children k d within in
@@ -223,7 +216,7 @@ count_bridge : {s : System} {request : Request} {w : WindowFields} {base : ℕ} 
     → w.ways * count_under s request b ≡ request_ways request
 count_bridge {s} {request} {w} c b bridge used within =
     ap (λ (k : ℕ). k * count_under s request b) (sym window.target_each_way)
-    ∙ sym (total_const (λ uid. total (λ m. one (tops s uid m)) request.endpoints) (count_under s request b) w.targets
+    ∙ sym (total_same_each (λ uid. total (λ m. one (tops s uid m)) request.endpoints) (count_under s request b) w.targets
     (λ k d inside. count_target c b bridge used within (get_or w.targets k d) (AllPass-from_list_all (is_used_bridge s request) w.targets all k d inside)))
     ∙ exchange (λ uid m. one (tops s uid m)) w.targets request.endpoints
     ∙ sym (total_each (λ m. one true) (λ m. total (λ uid. one (tops s uid m)) w.targets) request.endpoints

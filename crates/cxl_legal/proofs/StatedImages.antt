@@ -5,16 +5,16 @@ use Rattle.cxl_topo.specs.Tree.{is_endpoint_at}
 use Rattle.cxl_regs.specs.Reading.{committed_count}
 use Rattle.cxl_span.specs.Spans.{span_start_of}
 use Rattle.cxl_window.specs.Fields.{WindowFields}
+use Rattle.cxl_topo.proofs.Trees.{KnownTree}
 use Rattle.cxl_model.specs.declared.plan.Row.{Row}
 use Rattle.cxl_model.specs.declared.request.Request.{Request}
 use Rattle.cxl_model.specs.System.{System, IsSystem, decoders_at}
 use Rattle.cxl_model.specs.Ranges.{serves, decoder_for, index_for, window_for, span_kind}
 use Rattle.cxl_model.specs.Accepted.{KeepsBlocks}
 use Rattle.cxl_model.specs.Plans.{AreRowsOf, IsRow, committed_row, with_rows}
+use Rattle.cxl_model.proofs.RangeRules.{RangesRise}
 use Rattle.cxl_legal.specs.Used.{is_used}
 use Rattle.cxl_legal.specs.Stated.{has_row, stated_row, stated_rows, stated_start, planned_range, Fits}
-use Rattle.cxl_legal.proofs.FittingTrees.{KnownTree}
-use Rattle.cxl_legal.proofs.FittingRules.{RangesRise}
 use Rattle.cxl_legal.proofs.RowsRanges.{Lower}
 use Rattle.cxl_legal.proofs.RowsSpans.{SpanLaw}
 

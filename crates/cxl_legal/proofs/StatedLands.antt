@@ -6,23 +6,23 @@ use Rattle.std.specs.List.{list_any, list_all}
 use Rattle.std.proofs.lemmas.Bool.{cases_Bool, and_parts, and_from, or_left, or_right, cond-true, cond-false, false≢true, not-true, not_from_false}
 use Rattle.std.proofs.lemmas.Option.{none-some, same_Some}
 use Rattle.std.proofs.lemmas.List.Sums.{AllPass-from_list_all, list_all-from_AllPass}
+use Rattle.std.proofs.lemmas.Map.Keys.{any_passes_from_place}
 use Rattle.cxl_topo.specs.declared.node.Parent.{Parent}
 use Rattle.cxl_topo.specs.Tree.{forwards_at, is_endpoint_at, is_port_at, uid_at, least_child_of, landing_of, bridge_with, decoding_port_of}
 use Rattle.cxl_regs.specs.declared.decoder.Decoder.{Decoder}
 use Rattle.cxl_regs.specs.Reading.{committed_count, has_range, entries_of}
 use Rattle.cxl_window.specs.Fields.{WindowFields}
+use Rattle.cxl_topo.proofs.Trees.{parent_is_port, up_tree, forwards_no_endpoint, port_no_endpoint, root_of, decoding_none, decoding_here, decoding_past}
 use Rattle.cxl_model.specs.declared.request.Request.{Request}
 use Rattle.cxl_model.specs.System.{System, decoders_at, decoder_at}
 use Rattle.cxl_model.specs.Ranges.{serves, decoder_for, index_for, window_for}
 use Rattle.cxl_model.specs.Rules.{are_distinct, lands_on, leads_on, is_bridge_landing, targets_land, keeps_targets, keeps_reach, lists, is_targeted}
 use Rattle.cxl_model.specs.Plans.{committed_row}
+use Rattle.cxl_model.proofs.RangeRules.{served, no_decoder, one_of_range, is_reached}
+use Rattle.cxl_model.proofs.RangeCounts.{lands_here}
 use Rattle.cxl_legal.specs.Used.{is_used, is_port_used, used_ports}
 use Rattle.cxl_legal.specs.Windows.{is_used_bridge}
 use Rattle.cxl_legal.specs.Stated.{has_row, stated_row, planned_range}
-use Rattle.cxl_legal.proofs.FittingTrees.{parent_is_port, up_tree, forwards_no_endpoint, port_no_endpoint, root_of}
-use Rattle.cxl_legal.proofs.FittingServers.{passes_one}
-use Rattle.cxl_legal.proofs.FittingRules.{served, no_decoder, one_of_range, is_reached, decoding_none, decoding_here, decoding_past}
-use Rattle.cxl_legal.proofs.FittingCounts.{lands_here}
 use Rattle.cxl_legal.proofs.RowsUsed.{used_within}
 use Rattle.cxl_legal.proofs.UsedNodes.{used_child, used_parent, used_root}
 use Rattle.cxl_legal.proofs.StatedImages.{stated_image, Stated}
@@ -78,7 +78,7 @@ pub record IsStatedAt (s : System) (request : Request) (w : WindowFields) (base 
 pub stated_at : {s : System} {request : Request} {w : WindowFields} {base : ℕ} → Stated s request w base → (n i : ℕ) (d : Decoder) → decoder_at (stated_image s request w base) n i ≡ Some d
     → has_range (planned_range request base) d ≡ true → IsStatedAt s request w base n i d
 stated_at {s} {request} {w} {base} c n i d there has =
-    let is : serves (stated_image s request w base) (planned_range request base) n ≡ true = passes_one (has_range (planned_range request base)) (decoders_at (stated_image s request w base) n) i d there has in
+    let is : serves (stated_image s request w base) (planned_range request base) n ≡ true = any_passes_from_place (has_range (planned_range request base)) (decoders_at (stated_image s request w base) n) i d there has in
     let row : has_row s request n ≡ true = sym (serves_row c n) ∙ is in
     let at = served (stated_image s request w base) (planned_range request base) n is in
     let same : i ≡ at.i = one_of_range c.rise (stated_image s request w base) (planned_range request base) c.blocks n i at.i d at.d there at.there has at.has in
@@ -192,7 +192,7 @@ lists_it {s} {request} {w} {base} c p listed =
     let at = served (stated_image s request w base) (planned_range request base) p.node (serves_row c p.node ∙ row) in
     let is = stated_at c p.node at.i at.d at.there at.has in
     let entries : entries_of at.d ≡ used_ports s request p.node = ap entries_of is.decoder ∙ entries_stated c p.node (port_no_endpoint s.nodes p.node listed.port) listed.used in
-    passes_one (λ d. has_range (planned_range request base) d && list_any (λ port. port == p.port) (entries_of d)) (decoders_at (stated_image s request w base) p.node) at.i at.d at.there
+    any_passes_from_place (λ d. has_range (planned_range request base) d && list_any (λ port. port == p.port) (entries_of d)) (decoders_at (stated_image s request w base) p.node) at.i at.d at.there
     (and_from (has_range (planned_range request base) at.d) (list_any (λ port. port == p.port) (entries_of at.d)) at.has
     (ap (list_any (λ port. port == p.port)) entries ∙ listed_port s request p.node p.port listed.low listed.is))
 

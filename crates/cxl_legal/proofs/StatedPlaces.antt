@@ -7,12 +7,14 @@ use Rattle.std.proofs.lemmas.Bool.{cases_Bool, and_parts}
 use Rattle.std.proofs.lemmas.Option.{none-some}
 use Rattle.std.proofs.lemmas.List.Sums.{AllPass-from_list_all}
 use Rattle.cxl_enc.specs.Codes.{bits_of}
+use Rattle.cxl_enc.proofs.Lists.{All-at}
 use Rattle.cxl_topo.specs.declared.node.Parent.{Parent}
 use Rattle.cxl_topo.specs.Tree.{forwards_at, is_endpoint_at, is_port_at, child_of, bridge_with}
 use Rattle.cxl_regs.specs.declared.decoder.Decoder.{Decoder}
 use Rattle.cxl_regs.specs.Reading.{decoder_ways, entry_at}
 use Rattle.cxl_span.specs.Spans.{span_start_of}
 use Rattle.cxl_window.specs.Fields.{WindowFields}
+use Rattle.cxl_topo.proofs.Trees.{port_no_endpoint}
 use Rattle.cxl_model.specs.declared.found.Place.{Place}
 use Rattle.cxl_model.specs.declared.request.Request.{Request}
 use Rattle.cxl_model.specs.System.{System, decoders_at}
@@ -21,8 +23,6 @@ use Rattle.cxl_model.specs.Plans.{committed_row}
 use Rattle.cxl_legal.specs.Used.{is_used, is_port_used, used_ports, planned_ways}
 use Rattle.cxl_legal.specs.Windows.{is_used_bridge}
 use Rattle.cxl_legal.specs.Stated.{stated_row, stated_start, planned_range, planned_slots_an_entry, planned_port}
-use Rattle.cxl_legal.proofs.FittingTrees.{port_no_endpoint}
-use Rattle.cxl_legal.proofs.FittingServers.{All-at}
 use Rattle.cxl_legal.proofs.FittingUsed.{endpoint_own}
 use Rattle.cxl_legal.proofs.StatedImages.{stated_image, Stated}
 use Rattle.cxl_legal.proofs.UsedPorts.{ports_pass}

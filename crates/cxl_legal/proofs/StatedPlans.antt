@@ -9,8 +9,11 @@ use Rattle.std.proofs.lemmas.Option.{slice_get-get_or, slice_get_within, get_or_
 use Rattle.std.proofs.lemmas.List.FromFn.{length-map-range_with_len, get_or-map-range_with_len}
 use Rattle.std.proofs.lemmas.List.Sums.{AllPass-from_list_all}
 use Rattle.cxl_enc.specs.Codes.{is_ways, third_of, bits_of}
+use Rattle.cxl_enc.proofs.Lists.{some_filtered}
+use Rattle.cxl_enc.proofs.Ways.{each_ways}
 use Rattle.cxl_topo.specs.Tree.{is_endpoint_at, child_of, bridge_with}
 use Rattle.cxl_window.specs.Fields.{WindowFields}
+use Rattle.cxl_topo.proofs.Trees.{parent_is_port}
 use Rattle.cxl_model.specs.declared.found.Place.{Place}
 use Rattle.cxl_model.specs.declared.plan.Plan.{Plan}
 use Rattle.cxl_model.specs.declared.request.Request.{Request}
@@ -20,9 +23,6 @@ use Rattle.cxl_model.specs.Plans.{plan_code}
 use Rattle.cxl_legal.specs.Used.{request_ways, is_used, is_port_used, used_ports, planned_ways}
 use Rattle.cxl_legal.specs.Windows.{is_used_bridge}
 use Rattle.cxl_legal.specs.Stated.{stated_rows, stated_start, planned_slots_an_entry, planned_port, Reaches, at_endpoint, past_port, IsStatedPlace, IsStatedPlan}
-use Rattle.cxl_legal.proofs.FittingTrees.{parent_is_port}
-use Rattle.cxl_legal.proofs.FittingUsed.{some_filtered}
-use Rattle.cxl_legal.proofs.FittingServers.{each_ways}
 use Rattle.cxl_legal.proofs.RowsUsed.{used_kind}
 use Rattle.cxl_legal.proofs.StatedImages.{Stated}
 use Rattle.cxl_legal.proofs.UsedPorts.{port_ways, port_child, ports_pass, own_port}

@@ -3,6 +3,7 @@ use Rattle.std.proofs.Common.{◌≡◌, ℕ, true, if◌then◌else◌, List, O
 use Rattle.std.specs.Prelude.{◌==◌, nat_lt, Contains, IfSome}
 use Rattle.std.specs.Option.{option_map_or}
 use Rattle.std.proofs.lemmas.Bool.{cases_eq, cond-true, cond-false, eq-eqb, eqb-true, ne_eqb, lt-ltb}
+use Rattle.cxl_enc.proofs.Tests.{asked_or}
 use Rattle.cxl_topo.specs.Tree.{is_endpoint_at}
 use Rattle.cxl_regs.specs.declared.reading.Range.{Range}
 use Rattle.cxl_window.specs.Fields.{WindowFields}
@@ -17,7 +18,6 @@ use Rattle.cxl_model.specs.Regions.{region_range, LeadsTo, HasSpan, IsRegionIn}
 use Rattle.cxl_model.specs.Plans.{AgreesOnCode, AreRowsOf, IsRow, IsLegalPlanIn, plan_code, with_rows}
 use Rattle.cxl_legal.specs.Used.{request_ways, is_used}
 use Rattle.cxl_legal.specs.Stated.{stated_start, planned_range, Reaches, at_endpoint, past_port, IsStatedPlace, IsStatedPlan}
-use Rattle.cxl_legal.proofs.FittingServers.{asked_or}
 use Rattle.cxl_legal.proofs.StatedImages.{stated_image, Stated}
 use Rattle.cxl_legal.proofs.StatedRules.{whole, committed}
 use Rattle.cxl_legal.proofs.StatedWays.{ways_is, kind_is, code_is}

@@ -1,5 +1,5 @@
 -- With the stated rows of a request that fits committed, the new range is whole, and the image is accepted.
-use Rattle.std.proofs.Common.{◌≡◌, ◌≢◌, ◌↔◌, ℕ, ◌-◌, ◌*◌, ◌%◌, ◌≤◌, Bool, true, false, not, ◌&&◌, ◌||◌, if◌then◌else◌, get_or, Option, Some, refl, sym, ap, ◌∙◌, subst, inl, inr, eq-eqb, arith}
+use Rattle.std.proofs.Common.{◌≡◌, ◌≢◌, ℕ, ◌-◌, ◌*◌, ◌%◌, ◌≤◌, Bool, true, false, not, ◌&&◌, ◌||◌, if◌then◌else◌, get_or, Option, Some, refl, sym, ap, ◌∙◌, subst, inl, inr, eq-eqb, arith}
 use Rattle.std.specs.Prelude.{◌==◌}
 use Rattle.std.specs.Option.{option_map_or}
 use Rattle.std.proofs.lemmas.Bool.{cases_Bool, cases_eq, and_from, or_left, or_right, ne_eqb, le-ltb, not_from_false}
@@ -17,8 +17,10 @@ use Rattle.cxl_model.specs.Rules.{starts_in_thirds, permits, keeps_window, keeps
 use Rattle.cxl_model.specs.Changes.{HaveSameDecoders}
 use Rattle.cxl_model.specs.Accepted.{breaks, breaks_at, IsAccepted, KeepsBlocks, IsWhole}
 use Rattle.cxl_model.specs.Plans.{committed_row}
+use Rattle.cxl_model.proofs.RangeRules.{rule_nine, rule_ten, rule_eleven}
+use Rattle.cxl_model.proofs.SpansKinds.{rule_twelve}
+use Rattle.cxl_model.proofs.ImageLaws.{AcceptedLaw}
 use Rattle.cxl_legal.specs.Stated.{has_row, stated_row, planned_range}
-use Rattle.cxl_legal.proofs.FittingRules.{rule_nine, rule_ten, rule_eleven}
 use Rattle.cxl_legal.proofs.StatedImages.{stated_image, Stated}
 use Rattle.cxl_legal.proofs.StatedLands.{stated_at, row_parts, serves_row, targets_kept, reach_kept}
 use Rattle.cxl_legal.proofs.StatedWays.{some_requested, is_requested, ways_kept}
@@ -49,10 +51,6 @@ window_kept {s} {request} {w} {base} c n row =
 
 -- ---- K9 to K12 together
 
-rule_last : (s : System) (n i : ℕ) → breaks s 12 n i ≡ breaks_at s n i (keeps_ways s n i)
-unfolding breaks
-rule_last s n i = refl
-
 no_later : (s : System) (rule n i : ℕ) → 9 ≤ rule → rule ≢ 9 → rule ≢ 10 → rule ≢ 11 → rule ≢ 12 → breaks s rule n i ≡ false
 unfolding breaks
 no_later s rule n i past nine ten eleven twelve =
@@ -79,7 +77,7 @@ range_kept {s} {request} {w} {base} c rule n past there row =
         | inr ten ↦ elim (cases_eq rule 11) [
           | inl e ↦ ap (λ (k : ℕ). breaks t k n i) e ∙ rule_eleven t n i ∙ unbroken t n i d (keeps_reach t n) there (reach_kept c n row)
           | inr eleven ↦ elim (cases_eq rule 12) [
-            | inl e ↦ ap (λ (k : ℕ). breaks t k n i) e ∙ rule_last t n i ∙ unbroken t n i d (keeps_ways t n i) there (ways_kept c n row)
+            | inl e ↦ ap (λ (k : ℕ). breaks t k n i) e ∙ rule_twelve t n i ∙ unbroken t n i d (keeps_ways t n i) there (ways_kept c n row)
             | inr twelve ↦ no_later t rule n i past nine ten eleven twelve
           ]
         ]
@@ -111,9 +109,6 @@ committed {s} {request} c =
 
 -- ---- the other ranges
 
-abbrev pub WholeLaw : Type 0
-WholeLaw = (s : System) → IsAccepted s ↔ (KeepsBlocks s × ((r : Range) → IsCommittedRange s r → IsWhole s r))
-
 abbrev pub StayLaw : Type 0
 StayLaw = (s t : System) (r : Range) → HaveSameDecoders s t r → KeepsBlocks t → IsWhole s r → IsWhole t r
 
@@ -124,7 +119,7 @@ other_whole : {s : System} {request : Request} {w : WindowFields} {base : ℕ} �
 other_whole {s} {request} {w} {base} c stay others r other =
     stay s (stated_image s request w base) r (others r other) c.blocks (record { blocks = λ rule n i low. c.fits.accepted.each rule n i; range = λ rule n i d past there has. c.fits.accepted.each rule n i })
 
-pub accepted : {s : System} {request : Request} {w : WindowFields} {base : ℕ} → Stated s request w base → WholeLaw → StayLaw → OthersLaw s request w base → IsAccepted (stated_image s request w base)
+pub accepted : {s : System} {request : Request} {w : WindowFields} {base : ℕ} → Stated s request w base → AcceptedLaw → StayLaw → OthersLaw s request w base → IsAccepted (stated_image s request w base)
 accepted {s} {request} {w} {base} c law stay others =
     (law (stated_image s request w base)).1 (
       c.blocks,

@@ -10,23 +10,24 @@ use Rattle.std.proofs.lemmas.List.Sums.{sum_by-cons}
 use Rattle.cxl_enc.specs.declared.caps.MemKind.{MemKind}
 use Rattle.cxl_enc.specs.declared.caps.MemKind.TheVariants.{Ram, Pmem}
 use Rattle.cxl_enc.specs.Codes.{bits_of}
+use Rattle.cxl_enc.proofs.Ways.{some_ways}
+use Rattle.cxl_enc.proofs.Numbers.{factor_one, is_number}
+use Rattle.cxl_enc.proofs.Lists.{find_passes}
 use Rattle.cxl_topo.specs.declared.node.Parent.{Parent}
 use Rattle.cxl_topo.specs.Tree.{forwards_at, is_endpoint_at, ports_above}
 use Rattle.cxl_regs.specs.declared.decoder.Decoder.{Decoder}
 use Rattle.cxl_regs.specs.declared.reading.Range.{Range}
 use Rattle.cxl_regs.specs.Reading.{committed_count, decoder_ways, select_bits}
 use Rattle.cxl_window.specs.Fields.{WindowFields}
+use Rattle.cxl_topo.proofs.Trees.{up_tree, ports_none, ports_some, forwards_no_endpoint}
 use Rattle.cxl_model.specs.declared.request.Request.{Request}
 use Rattle.cxl_model.specs.System.{System, decoders_at}
 use Rattle.cxl_model.specs.Ranges.{serves, decoder_for, index_for, ports_for, product, ways_above, bits_above, span_kind, same_kind, first_endpoint, first_decoder, range_ways, range_kind, range_code}
 use Rattle.cxl_model.specs.Rules.{keeps_ways, keeps_endpoint_ways, keeps_port_code}
 use Rattle.cxl_model.specs.Plans.{committed_row, plan_code}
+use Rattle.cxl_model.proofs.Under.{under_self}
 use Rattle.cxl_legal.specs.Used.{request_ways, is_used, count_under, used_ports, planned_ways, planned_ways_above, planned_bits_above, planned_code}
 use Rattle.cxl_legal.specs.Stated.{has_row, stated_row, planned_range}
-use Rattle.cxl_legal.proofs.FittingTrees.{under_self, up_tree, ports_none, ports_some, forwards_no_endpoint}
-use Rattle.cxl_legal.proofs.FittingServers.{some_ways}
-use Rattle.cxl_legal.proofs.FittingCounts.{factor_one, is_number}
-use Rattle.cxl_legal.proofs.FittingPorts.{find_passes}
 use Rattle.cxl_legal.proofs.FittingUsed.{endpoint_own}
 use Rattle.cxl_legal.proofs.RowsUsed.{used_kind}
 use Rattle.cxl_legal.proofs.RowsDecoders.{own_code}

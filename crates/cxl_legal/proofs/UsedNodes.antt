@@ -8,11 +8,12 @@ use Rattle.std.proofs.lemmas.List.Folds.{Any-from_list_any, list_any-from_Any}
 use Rattle.cxl_topo.specs.declared.node.Node.{Node}
 use Rattle.cxl_topo.specs.declared.node.Parent.{Parent}
 use Rattle.cxl_topo.specs.Tree.{is_bridge_at, is_endpoint_at, parent_of}
+use Rattle.cxl_topo.proofs.Trees.{KnownTree, parent_is_port, up_tree, is_above, above_root, above_step, root_of, root_root, root_step}
 use Rattle.cxl_model.specs.declared.request.Request.{Request}
 use Rattle.cxl_model.specs.System.{System}
 use Rattle.cxl_model.specs.Counts.{is_under}
+use Rattle.cxl_model.proofs.Under.{under_self, under_parent, under_step, under_is}
 use Rattle.cxl_legal.specs.Used.{AreEndpoints, is_used}
-use Rattle.cxl_legal.proofs.FittingTrees.{KnownTree, under_self, under_parent, parent_is_port, up_tree, under_step, under_is, is_above, above_root, above_step, root_of, root_root, root_step}
 
 -- ---- ways down
 

@@ -8,20 +8,21 @@ use Rattle.std.proofs.lemmas.Option.{same_Some}
 use Rattle.std.proofs.lemmas.List.Elements.{All-filter, filter_passes}
 use Rattle.std.proofs.lemmas.List.FromFn.{length-range_with_len, get_or-range_with_len}
 use Rattle.std.proofs.lemmas.List.Kept.{AllPairs-filter}
+use Rattle.std.proofs.lemmas.Map.Keys.{any_passes_from_place}
 use Rattle.cxl_enc.specs.Caps.{targets_of, is_target_count}
+use Rattle.cxl_enc.proofs.Numbers.{is_number, numbers_rise}
+use Rattle.cxl_enc.proofs.Tests.{asked}
 use Rattle.cxl_topo.specs.declared.node.Parent.{Parent}
 use Rattle.cxl_topo.specs.Tree.{forwards_at, is_endpoint_at, is_port_at, parent_of, child_of}
+use Rattle.cxl_topo.proofs.Trees.{KnownTree, forwards_no_endpoint}
 use Rattle.cxl_model.specs.declared.request.Request.{Request}
 use Rattle.cxl_model.specs.System.{System}
 use Rattle.cxl_model.specs.Rules.{are_distinct}
+use Rattle.cxl_model.proofs.Sums.{one, length-filter-total, once}
+use Rattle.cxl_model.proofs.Distinct.{numbers_differ, distinct_test}
 use Rattle.cxl_legal.specs.Used.{HasBytePorts, AreEndpoints, request_ways, is_used, is_port_used, used_ports, planned_ways}
 use Rattle.cxl_legal.specs.Endpoints.{FitsEndpoints, cap_at, has_even_ports, has_even_children, has_bridge_share}
-use Rattle.cxl_legal.proofs.FittingTrees.{KnownTree, forwards_no_endpoint}
-use Rattle.cxl_legal.proofs.FittingSums.{one, length-filter-total, once}
-use Rattle.cxl_legal.proofs.FittingCounts.{numbers_differ, is_number}
-use Rattle.cxl_legal.proofs.FittingTargets.{distinct_test}
-use Rattle.cxl_legal.proofs.FittingServers.{asked, passes_one}
-use Rattle.cxl_legal.proofs.RowsUsed.{filter_keeps, number_at, numbers_rise}
+use Rattle.cxl_legal.proofs.RowsUsed.{filter_keeps, number_at}
 use Rattle.cxl_legal.proofs.UsedNodes.{used_child}
 
 -- ---- used ports
@@ -48,7 +49,7 @@ port_child s request known n e used = go (child_of s.nodes n e) refl used
 pub listed_port : (s : System) (request : Request) (n e : ℕ) → e < 256 → is_port_used s request n e ≡ true → list_any (λ x. x == e) (used_ports s request n) ≡ true
 listed_port s request n e low used =
     let kept = filter_keeps (is_port_used s request n) (range_with_len 0 256) e e (number_at 256 e low) used in
-    passes_one (λ x. x == e) (used_ports s request n) kept.0 e kept.1 (eq-eqb e e refl)
+    any_passes_from_place (λ x. x == e) (used_ports s request n) kept.0 e kept.1 (eq-eqb e e refl)
 
 pub ports_pass : (s : System) (request : Request) (n : ℕ) → All (λ e. is_port_used s request n e ≡ true) (used_ports s request n)
 ports_pass s request n = filter_passes (is_port_used s request n) (range_with_len 0 256)

@@ -18,10 +18,6 @@ use Rattle.cxl_media.proofs.Tables.{find_item, find_nowhere_stands, get_frames, 
 use Rattle.cxl_media.proofs.Gap.{cell_within}
 use Rattle.cxl_media.proofs.Sims.{held_by, get_block}
 
-some_of : {X : Type 0} (o : Option X) → is_some o ≡ true → (x : X) × (o ≡ Some x)
-some_of None there = absurd (false≢true there)
-some_of (Some x) there = (x, refl)
-
 module _ {X : Type 0} where
   -- a place for each item
   abbrev places : List (Key × X) → List (Option Key)

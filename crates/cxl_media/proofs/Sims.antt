@@ -1,5 +1,5 @@
 -- What the shipped media holds after a block was written, added or dropped.
-use Rattle.std.proofs.Common.{◌≡◌, ◌≢◌, ◌⊎◌, ℕ, zero, suc, ◌+◌, ◌-◌, ◌<◌, cond, List, length, replicate, set, unwrap_or, Option, None, Some, IsSome, is_some, refl, sym, ap, ◌∙◌, inl, inr, arith}
+use Rattle.std.proofs.Common.{◌≡◌, ◌≢◌, ◌⊎◌, ℕ, zero, suc, ◌+◌, ◌-◌, ◌<◌, cond, List, length, replicate, set, unwrap_or, Option, None, Some, is_some, refl, sym, ap, ◌∙◌, inl, inr, arith}
 use Rattle.std.specs.Prelude.{is_none}
 use Rattle.std.specs.Option.{option_map}
 use Rattle.std.proofs.lemmas.Bool.{cases_eq, cases_lt, cond-true, cond-false, false≢true}
@@ -8,6 +8,7 @@ use Rattle.std.proofs.lemmas.List.Sums.{sum_by-set, sum_by-cons}
 use Rattle.std.specs.FinMap as fin
 use Rattle.std.specs.FinMap.{FinMap}
 use Rattle.cxl_pool.specs.Pool.{Frames, frame_bytes, IsOut, IsFree, free_count, zeros}
+use Rattle.cxl_pool.proofs.Steps.{not_counted}
 use Rattle.cxl_media.specs.Blocks.{Key, key_cmp, block_at, frames_needed}
 use Rattle.cxl_media.specs.Sim.{Sim, blocks_of, IsSim}
 use Rattle.cxl_media.proofs.Keys.{key_total, key_exact, key_is, key_is_not, keys_cases, not_none, same_some}
@@ -62,10 +63,6 @@ free_unused s room n sim free q is = false≢true (sym (ap is_some free.1) ∙ s
 count-set : (pool : Frames) (n : ℕ) (o : Option (List ℕ)) → n < length pool → free_count (set pool n o) + cond (is_none (frame_bytes pool n)) 1 0 ≡ free_count pool + cond (is_none o) 1 0
 count-set pool n o within = sum_by-set (λ p. cond (is_none p) 1 0) pool n o None within
 
-out_counts : (o : Option (List ℕ)) → IsSome o → ◌≡◌ {A = ℕ} (cond (is_none o) 1 0) 0
-out_counts None out = absurd (false≢true out)
-out_counts (Some b) out = refl
-
 -- the blocks of maps of frames that agree but for one block
 blocks_but_one : (s t : Sim) (k : Key) (b : List ℕ) → fin.get (blocks_of t) k ≡ Some b → ((q : Key) → q ≢ k → fin.get (blocks_of t) q ≡ fin.get (blocks_of s) q) → blocks_of t ≡ fin.insert (blocks_of s) k b
 blocks_but_one s t k b here elsewhere =
@@ -108,7 +105,7 @@ module _ (s : Sim) (room : ℕ) (sim : IsSim s room) (k : Key) (n : ℕ) (there 
   pub rewritten_free : free_count (set s.pool n (Some b)) ≡ free_count s.pool
   rewritten_free =
       let out = sim.out k n there in
-      omega (arith, count-set s.pool n (Some b) (out_within s.pool n out), out_counts (frame_bytes s.pool n) out)
+      omega (arith, count-set s.pool n (Some b) (out_within s.pool n out), not_counted (frame_bytes s.pool n) out)
 
 -- what a map has after a value was set
 insert_cases : (m : FinMap key_cmp ℕ) (k q : Key) (n x : ℕ) → fin.get (fin.insert m k n) q ≡ Some x → ((q ≡ k) × (x ≡ n)) ⊎ ((q ≢ k) × (fin.get m q ≡ Some x))
@@ -196,7 +193,7 @@ module _ (s : Sim) (room : ℕ) (sim : IsSim s room) (k : Key) (n : ℕ) (there 
         let fewer : fin.len (fin.remove s.frames k) ≡ fin.len s.frames - 1 =
         fin.len-remove key_total s.frames k ∙ ap (λ (o : Option ℕ). cond (is_some o) (fin.len s.frames - 1) (fin.len s.frames)) there in
         let some : 0 < fin.len s.frames = some_len there in
-        omega (arith, fewer, some, sim.counted, length-set s.pool n slot, count-set s.pool n slot (out_within s.pool n out), out_counts (frame_bytes s.pool n) out);
+        omega (arith, fewer, some, sim.counted, length-set s.pool n slot, count-set s.pool n slot (out_within s.pool n out), not_counted (frame_bytes s.pool n) out);
     size = length-set {A = Option (List ℕ)} s.pool n None ∙ sim.size;
   }
     where

@@ -1,9 +1,10 @@
 -- Where no decoder can break a rule, and the first breach among the places that are left.
-use Rattle.std.proofs.Common.{◌≡◌, ◌⊎◌, ℕ, zero, suc, ◌+◌, ◌<◌, ◌≤◌, Bool, true, false, not, ◌&&◌, [], length, Option, Some, None, refl, sym, subst, inl, inr, arith, if◌then◌else◌}
+use Rattle.std.proofs.Common.{◌≡◌, ◌⊎◌, ℕ, zero, suc, ◌+◌, ◌<◌, ◌≤◌, Bool, true, false, not, ◌&&◌, [], length, Option, Some, None, refl, sym, subst, inl, inr, arith}
 use Rattle.std.specs.Prelude.{slice_get, ◌==◌, nat_lt}
 use Rattle.std.specs.Option.{option_map_or}
 use Rattle.std.proofs.lemmas.Option.{slice_get_past}
 use Rattle.std.proofs.lemmas.Bool.{ne_eqb, le-ltb, cases_lt, cases_eq, cases_Bool}
+use Rattle.cxl_enc.proofs.Tests.{either}
 use Rattle.cxl_regs.specs.declared.decoder.Decoder.{Decoder}
 use Rattle.cxl_regs.specs.Registers.{Registers}
 use Rattle.cxl_span.specs.Breaches.{breaks as block_breaks}
@@ -52,10 +53,6 @@ block_past : (rule : ℕ) (o : Option Registers) (ram pmem i : ℕ) → length (
 unfolding block_breaks
 block_past rule None ram pmem i past = refl
 block_past rule (Some block) ram pmem i past = rw (slice_get_past block.decoders i past) refl
-
-pub either : (P : Bool → Type 0) (b : Bool) (x y : Bool) → P x → P y → P (if b then x else y)
-either P true x y p q = p
-either P false x y p q = q
 
 -- what holds of each rule's test holds of the test of all
 by_rule : (P : Bool → Type 0) (s : System) (rule n i : ℕ)

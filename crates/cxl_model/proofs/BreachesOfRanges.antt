@@ -1,22 +1,18 @@
 -- An image is accepted exactly where the rules on blocks hold of it and each committed range is whole.
-use Rattle.std.proofs.Common.{◌≡◌, ◌⊎◌, ◌↔◌, ℕ, ◌≤◌, Bool, true, false, List, Option, Some, None, refl, inl, inr, arith}
-use Rattle.std.specs.Prelude.{slice_get, ◌==◌}
-use Rattle.std.specs.List.{list_any}
-use Rattle.std.proofs.lemmas.Option.{slice_get_within, get_or_from_slice_get}
-use Rattle.std.proofs.lemmas.Bool.{ne_eqb, eq-eqb, le-ltb, cases_lt, cases_Bool}
-use Rattle.std.proofs.lemmas.List.Folds.{list_any-from_Any}
+use Rattle.std.proofs.Common.{◌≡◌, ◌↔◌, ℕ, ◌≤◌, Bool, true, false, Some, None, refl, inl, inr, arith}
+use Rattle.std.specs.Prelude.{◌==◌}
+use Rattle.std.proofs.lemmas.Bool.{ne_eqb, le-ltb, cases_lt, cases_Bool}
+use Rattle.std.proofs.lemmas.Map.Keys.{any_passes_from_place}
+use Rattle.cxl_enc.proofs.Tests.{either}
+use Rattle.cxl_enc.proofs.Options.{cases_Option}
 use Rattle.cxl_regs.specs.declared.decoder.Decoder.{Decoder}
 use Rattle.cxl_regs.specs.declared.reading.Range.{Range}
 use Rattle.cxl_regs.specs.Reading.{range_of, has_range}
+use Rattle.cxl_regs.proofs.DecoderRanges.{has_own_range}
 use Rattle.cxl_model.specs.System.{System, decoders_at, decoder_at}
 use Rattle.cxl_model.specs.Ranges.{IsCommittedRange}
 use Rattle.cxl_model.specs.Rules.{keeps_window, keeps_targets, keeps_reach, keeps_ways}
 use Rattle.cxl_model.specs.Accepted.{breaks, breaks_at, IsAccepted, KeepsBlocks, IsWhole}
-use Rattle.cxl_model.proofs.Breaches.{either}
-
-cases_Option : {X : Type 0} (o : Option X) → (o ≡ None) ⊎ ((x : X) × (o ≡ Some x))
-cases_Option None = inl refl
-cases_Option (Some x) = inr (x, refl)
 
 -- K9 to K12 say nothing where no committed decoder is
 from_nine : (P : Bool → Type 0) (s : System) (rule n i : ℕ) → 9 ≤ rule → ((keeps : Decoder → Bool) → P (breaks_at s n i keeps)) → P false
@@ -35,15 +31,9 @@ kept_at_none s rule n i high none = from_nine (λ b. b ≡ false) s rule n i hig
 kept_at_other : (s : System) (rule n i : ℕ) (d : Decoder) → 9 ≤ rule → decoder_at s n i ≡ Some d → d.committed ≡ false → breaks s rule n i ≡ false
 kept_at_other s rule n i d high here other = from_nine (λ b. b ≡ false) s rule n i high (λ keeps. rw (here, other) refl) refl
 
-pub has_own_range : (d : Decoder) → d.committed ≡ true → has_range (range_of d) d ≡ true
-has_own_range d committed = rw (committed, eq-eqb d.base d.base refl, eq-eqb d.size d.size refl) refl
-
-pub passes_one : {X : Type 0} (p : X → Bool) (xs : List X) (i : ℕ) (x : X) → slice_get xs i ≡ Some x → p x ≡ true → list_any p xs ≡ true
-passes_one p xs i x here passes = list_any-from_Any p xs (i, x, slice_get_within xs i x here, get_or_from_slice_get xs i x x here, passes)
-
 -- the range of a committed decoder is one of the image
 is_range : (s : System) (n i : ℕ) (d : Decoder) → decoder_at s n i ≡ Some d → d.committed ≡ true → IsCommittedRange s (range_of d)
-is_range s n i d here committed = (n, passes_one (has_range (range_of d)) (decoders_at s n) i d here (has_own_range d committed))
+is_range s n i d here committed = (n, any_passes_from_place (has_range (range_of d)) (decoders_at s n) i d here (has_own_range d committed))
 
 wholes_keep : (s : System) → ((r : Range) → IsCommittedRange s r → IsWhole s r) → (rule n i : ℕ) → 9 ≤ rule → breaks s rule n i ≡ false
 wholes_keep s whole rule n i high =

@@ -2,25 +2,15 @@
 use Rattle.std.proofs.Common.{◌≡◌, ℕ, ◌+◌, ◌<◌, ◌≤◌, true, ◌&&◌, List, length, Option, Some, refl, sym, ap, ◌∙◌, arith}
 use Rattle.std.specs.Prelude.{slice_get, unwrap_or, nat_le, Contains}
 use Rattle.std.proofs.lemmas.Option.{slice_get_read}
-use Rattle.std.proofs.lemmas.Bool.{and_parts, leb-true, false≢true}
+use Rattle.std.proofs.lemmas.Bool.{and_parts, leb-true}
 use Rattle.cxl_window.specs.Fields.{WindowFields}
-use Rattle.cxl_window.specs.declared.window.Verdict.{Verdict}
-use Rattle.cxl_window.specs.declared.window.Verdict.TheVariants.{Usable, Align, Size, TooHigh, Overlap, Target, Repeat, Maps}
+use Rattle.cxl_window.specs.declared.window.Verdict.TheVariants.{Usable}
 use Rattle.cxl_window.specs.Position.{is_usable}
 use Rattle.cxl_window.specs.Windows.{AreMadeWith}
+use Rattle.cxl_window.proofs.Usable.{usable_is}
 use Rattle.cxl_model.specs.System.{System, bridge_uids}
 use Rattle.cxl_regs.specs.declared.reading.Range.{Range}
 use Rattle.cxl_model.specs.Ranges.{lies_within}
-
-usable_is : (v : Verdict) → is_usable v ≡ true → v ≡ Usable
-usable_is Usable h = refl
-usable_is Align h = absurd (false≢true h)
-usable_is Size h = absurd (false≢true h)
-usable_is TooHigh h = absurd (false≢true h)
-usable_is (Overlap i) h = absurd (false≢true h)
-usable_is (Target u) h = absurd (false≢true h)
-usable_is (Repeat u) h = absurd (false≢true h)
-usable_is Maps h = absurd (false≢true h)
 
 -- what it says that a range lies in a window
 record LiesIn (r : Range) (w : WindowFields) : Type 0 where

@@ -7,6 +7,8 @@ use Rattle.std.proofs.lemmas.Bool.{cases_Bool, agree_below_at, and_parts, leb-tr
 use Rattle.std.proofs.lemmas.Option.{slice_get_within, slice_get-get_or}
 use Rattle.cxl_enc.specs.Codes.{is_ways, third_of, bits_of, ways_of}
 use Rattle.cxl_enc.specs.Caps.{targets_of}
+use Rattle.cxl_enc.proofs.Options.{some_and as value_of}
+use Rattle.cxl_enc.proofs.Tests.{asked}
 use Rattle.cxl_topo.specs.declared.node.Node.{Node}
 use Rattle.cxl_topo.specs.Kinds.{is_endpoint}
 use Rattle.cxl_topo.specs.Tree.{is_port_at}
@@ -19,6 +21,8 @@ use Rattle.cxl_span.specs.Breaches.{breaks as block_breaks, BlockKeeps}
 use Rattle.cxl_span.specs.Rules.{breaks_codes}
 use Rattle.cxl_window.specs.Fields.{WindowFields}
 use Rattle.cxl_num.specs.Interleave.{chunk_size, ways_by}
+use Rattle.cxl_topo.proofs.Trees.{KnownTree, up_tree, parent_is_port}
+use Rattle.cxl_regs.proofs.DecoderRanges.{Has, has_parts}
 use Rattle.cxl_deal.specs.Weaves.{WeaveFields, IsWeave, weave_ways, turns_end, dealt_slot, dealt_offset}
 use Rattle.cxl_model.specs.declared.found.Found.{Found}
 use Rattle.cxl_model.specs.declared.found.Place.{Place}
@@ -27,13 +31,12 @@ use Rattle.cxl_model.specs.Ranges.{serves, ways_above}
 use Rattle.cxl_model.specs.Accepted.{IsWhole}
 use Rattle.cxl_model.specs.Regions.{region_range, IsRegionIn, weave_fields, Carries}
 use Rattle.cxl_model.specs.Bytes.{slot_length, LiesInSpan}
-use Rattle.cxl_model.proofs.Outcomes.{value_of, one_value}
+use Rattle.cxl_model.proofs.Outcomes.{one_value}
 use Rattle.cxl_model.proofs.Weaving.{found_ways_known, first_reached, told, window_divides, found_gran_known, found_maps_usable}
-use Rattle.cxl_model.proofs.WeavingServers.{Reaches, Has, has_parts, has_ways, InBlock, in_block}
-use Rattle.cxl_model.proofs.CountingTrees.{KnownTree, up_tree, parent_is_port}
-use Rattle.cxl_model.proofs.CountingRules.{block_keeps, not_broken, ServesAt, served, no_decoder}
-use Rattle.cxl_model.proofs.Counting.{ways_below, ways_past, no_ways_above}
-use Rattle.cxl_model.proofs.SpansWindows.{has_window}
+use Rattle.cxl_model.proofs.RangeServers.{Reaches, has_ways, InBlock, in_block}
+use Rattle.cxl_model.proofs.RangeRules.{block_keeps, ServesAt, served, no_decoder}
+use Rattle.cxl_model.proofs.RangeCounts.{ways_below, ways_past, no_ways_above}
+use Rattle.cxl_model.proofs.RangeWindows.{has_window}
 use Rattle.cxl_model.proofs.SpansNumbers.{ways_are}
 use Rattle.cxl_model.proofs.SpansApart.{power}
 use Rattle.cxl_model.proofs.SpansKinds.{endpoint_block}
@@ -74,7 +77,7 @@ block_codes block ram pmem i d keeps at = rw at at (keeps.each 4 i)
 few_codes : (block : Registers) (d : Decoder) → block.endpoint ≡ false → d.committed ≡ true → breaks_codes block d ≡ false → d.ways ≤ 3
 few_codes block d port committed kept =
     let ways : Bool = if block.endpoint then endpoint_ways_ok block.cap d.ways else port_ways_ok block.cap d.ways in
-    let parts = and_parts (nat_le d.gran 6) ways (not_broken d.committed (nat_le d.gran 6 && ways) kept committed) in
+    let parts = and_parts (nat_le d.gran 6) ways (asked d.committed (nat_le d.gran 6 && ways) kept committed) in
     let own : port_ways_ok block.cap d.ways ≡ true = sym (ap (λ b. if b then endpoint_ways_ok block.cap d.ways else port_ways_ok block.cap d.ways) port) ∙ parts.1 in
     leb-true d.ways 3 (and_parts (nat_le d.ways 3) (nat_le (2 ^ d.ways) (targets_of block.cap)) own).0
 

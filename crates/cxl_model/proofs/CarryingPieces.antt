@@ -10,15 +10,16 @@ use Rattle.cxl_span.specs.Spans.{span_start_of}
 use Rattle.cxl_span.specs.Breaches.{BlockKeeps}
 use Rattle.cxl_window.specs.Fields.{WindowFields}
 use Rattle.cxl_num.specs.Interleave.{chunk_size}
+use Rattle.cxl_topo.proofs.Trees.{KnownTree}
+use Rattle.cxl_regs.proofs.DecoderRanges.{has_parts}
 use Rattle.cxl_deal.specs.Weaves.{WeaveFields, IsWeave, weave_ways, dealt_chunk, dealt_slot, dealt_offset}
 use Rattle.cxl_model.specs.declared.found.Found.{Found}
 use Rattle.cxl_model.specs.declared.found.Place.{Place}
 use Rattle.cxl_model.specs.System.{System, IsSystem, decoders_at, ram_at, pmem_at}
 use Rattle.cxl_model.specs.Regions.{region_range, IsRegionIn, weave_fields, Carries}
 use Rattle.cxl_model.specs.Bytes.{slot_length}
-use Rattle.cxl_model.proofs.WeavingServers.{has_parts, in_block}
-use Rattle.cxl_model.proofs.CountingTrees.{KnownTree}
-use Rattle.cxl_model.proofs.CountingRules.{block_keeps}
+use Rattle.cxl_model.proofs.RangeServers.{in_block}
+use Rattle.cxl_model.proofs.RangeRules.{block_keeps}
 use Rattle.cxl_model.proofs.SpansNumbers.{digit_below, remainder_by}
 use Rattle.cxl_model.proofs.SpansApart.{power}
 use Rattle.cxl_model.proofs.SpansKinds.{of_place, endpoint_block}

@@ -6,12 +6,16 @@ use Rattle.std.proofs.Math.Nat.{add_assoc}
 use Rattle.std.proofs.lemmas.Bool.{and_parts, eqb-true, ne_eqb}
 use Rattle.cxl_num.specs.Interleave.{chunk_size}
 use Rattle.cxl_enc.specs.Codes.{is_ways, bits_of}
+use Rattle.cxl_enc.proofs.Options.{some_and}
+use Rattle.cxl_enc.proofs.Ways.{some_ways}
+use Rattle.cxl_enc.proofs.Tests.{asked}
 use Rattle.cxl_topo.specs.Tree.{is_endpoint_at}
 use Rattle.cxl_regs.specs.declared.decoder.Decoder.{Decoder}
 use Rattle.cxl_regs.specs.declared.reading.Range.{Range}
 use Rattle.cxl_regs.specs.Reading.{decoder_ways, decoder_granularity}
 use Rattle.cxl_span.specs.Spans.{span_start_of, endpoint_place_of}
 use Rattle.cxl_window.specs.Fields.{WindowFields}
+use Rattle.cxl_regs.proofs.DecoderRanges.{Has, has_parts, same_range}
 use Rattle.cxl_deal.specs.Weaves.{weave_ways, dealt_offset}
 use Rattle.cxl_model.specs.declared.found.Found.{Found}
 use Rattle.cxl_model.specs.declared.found.Place.{Place}
@@ -21,10 +25,8 @@ use Rattle.cxl_model.specs.Ranges.{index_for, window_for, bits_above, span_kind,
 use Rattle.cxl_model.specs.Rules.{keeps_window, starts_in_thirds, permits}
 use Rattle.cxl_model.specs.Accepted.{breaks, IsWhole}
 use Rattle.cxl_model.specs.Regions.{LeadsTo, past_forwarding, past_port, at_endpoint, region_range, IsRegionIn, weave_fields}
-use Rattle.cxl_model.proofs.Outcomes.{value_of}
-use Rattle.cxl_model.proofs.WeavingWays.{some_ways}
 use Rattle.cxl_model.proofs.Weaving.{found_ways_known}
-use Rattle.cxl_model.proofs.WeavingServers.{asked, Has, has_parts, same_range, has_ways}
+use Rattle.cxl_model.proofs.RangeServers.{has_ways}
 use Rattle.cxl_model.proofs.DealingNumbers.{bits_more, not_one, offset_same, offset_whole}
 use Rattle.cxl_model.proofs.DealingNodes.{keeps_own_block, Owns, owns_index, own_node}
 use Rattle.cxl_model.proofs.DealingSteps.{IsPower, in_range}
@@ -43,7 +45,7 @@ pub ends_at : (s : System) (w : WindowFields) (r : Range) (slot n : ℕ) (place 
 ends_at s w r slot n place (past_forwarding _ child _ forwards first leads) = ends_at s w r slot child place leads
 ends_at s w r slot n place (past_port _ child _ own port way leads) = ends_at s w r slot child place leads
 ends_at s w r slot n place (at_endpoint _ endpoint start) =
-    let index = value_of (index_for s r place.endpoint) (λ (i : ℕ). place.start ≡ span_start_of (decoders_at s place.endpoint) i) start in
+    let index = some_and (index_for s r place.endpoint) (λ (i : ℕ). place.start ≡ span_start_of (decoders_at s place.endpoint) i) start in
     let owner = owns_index s r place.endpoint index.0 index.1 in
     record { endpoint = endpoint; i = index.0; d = owner.0; owns = owner.1; start = index.2 }
 

@@ -3,10 +3,11 @@ use Rattle.std.proofs.Common.{◌≡◌, ℕ, zero, suc, ◌+◌, ◌^◌, ◌�
 use Rattle.std.specs.Prelude.{slice_get, ◌==◌, nat_lt, nat_le, length, reverse, option_map, IfSome}
 use Rattle.std.specs.Option.{option_map_or}
 use Rattle.std.specs.List.{filter_map, cons_option, position_or_len}
-use Rattle.std.proofs.lemmas.Bool.{and_parts, eqb-true, leb-true, lt-ltb}
+use Rattle.std.proofs.lemmas.Bool.{and_parts, eqb-true, leb-true, lt-ltb, or_cases}
 use Rattle.std.proofs.lemmas.Option.{slice_get_within, slice_get-get_or, get_or_from_slice_get}
 use Rattle.std.proofs.lemmas.List.Folds.{find_at}
 use Rattle.std.proofs.lemmas.List.Quantifiers.{position-Some}
+use Rattle.std.proofs.lemmas.Map.Keys.{any_passes_from_place}
 use Rattle.cxl_topo.specs.declared.node.Node.{Node}
 use Rattle.cxl_topo.specs.declared.node.Parent.{Parent}
 use Rattle.cxl_topo.specs.Kinds.{is_endpoint}
@@ -15,22 +16,24 @@ use Rattle.cxl_topo.specs.Laws.{AreTreeLaws}
 use Rattle.cxl_regs.specs.declared.decoder.Decoder.{Decoder}
 use Rattle.cxl_regs.specs.Registers.{Registers, reset_decoder}
 use Rattle.cxl_enc.specs.Codes.{bits_of}
+use Rattle.cxl_enc.proofs.Tests.{clash, asked}
 use Rattle.cxl_regs.specs.declared.reading.Range.{Range}
 use Rattle.cxl_regs.specs.Reading.{select_bits, decoder_ways, range_of, has_range}
 use Rattle.cxl_regs.specs.Rules.{codes_ok, endpoint_ways_ok, port_ways_ok}
 use Rattle.cxl_image.specs.Images.{HasCapsOf}
 use Rattle.cxl_span.specs.Breaches.{BlockKeeps}
 use Rattle.cxl_window.specs.Fields.{WindowFields}
+use Rattle.cxl_regs.proofs.DecoderRanges.{has_parts, same_range}
+use Rattle.cxl_span.proofs.RulesBroken.{codes_here}
 use Rattle.cxl_model.specs.System.{System, KeepsBlock, decoders_at, decoder_at, ram_at, pmem_at}
 use Rattle.cxl_model.specs.Ranges.{decoder_for, index_for, window_for, ports_for, bits_above, range_code}
 use Rattle.cxl_model.specs.Rules.{keeps_ways, keeps_port_code}
 use Rattle.cxl_model.specs.Accepted.{KeepsBlocks, IsWhole}
 use Rattle.cxl_model.specs.Dealing.{slot_step, slot_steps}
-use Rattle.cxl_model.proofs.Outcomes.{clash, no_endpoint}
-use Rattle.cxl_model.proofs.BreachesOfRanges.{passes_one}
-use Rattle.cxl_model.proofs.WeavingServers.{or_true, asked, has_parts, same_range, in_block, block_keeps as block_kept, codes_here, rule_twelve, ways_test}
-use Rattle.cxl_model.proofs.CountingRules.{block_keeps, reached}
-use Rattle.cxl_model.proofs.Counting.{forwards_none}
+use Rattle.cxl_model.proofs.Outcomes.{no_endpoint}
+use Rattle.cxl_model.proofs.RangeServers.{in_block, block_keeps as block_kept, rule_twelve, ways_test}
+use Rattle.cxl_model.proofs.RangeRules.{block_keeps, reached}
+use Rattle.cxl_model.proofs.RangeCounts.{forwards_none}
 
 -- ---- a node's decoder of a range
 
@@ -75,7 +78,7 @@ keeps_own_block s n keeps = go (slice_get s.blocks n) refl
 -- ---- K11: a node that forwards has no decoder of the range
 
 pub own_node : (s : System) (r : Range) (n i : ℕ) (d : Decoder) → IsWhole s r → Owns s r n i d → forwards_at s.nodes n ≡ false
-own_node s r n i d whole owns = (reached s r whole n (passes_one (has_range r) (decoders_at s n) i d owns.there owns.has)).0
+own_node s r n i d whole owns = (reached s r whole n (any_passes_from_place (has_range r) (decoders_at s n) i d owns.there owns.has)).0
 
 pub record OwnsNone (s : System) (r : Range) (n : ℕ) : Type 0 where
   pub decoder : decoder_for s r n ≡ None
@@ -135,7 +138,7 @@ port_code s w r n i d whole window port owns =
     sym (ap (λ (b : Bool). ways_test s n i d (range_of d) (Some w) b) endpoint)
     ∙ sym (ap (λ (o : Option WindowFields). ways_test s n i d (range_of d) o (is_endpoint_at s.nodes n)) (ap (window_for s) (same_range r d has) ∙ window))
     ∙ keeps in
-    elim (or_true (decoder_ways d == 1) (d.gran == range_code s w (range_of d) + bits_of w.ways + bits_above s (range_of d) n) test) [
+    elim (or_cases (decoder_ways d == 1) (d.gran == range_code s w (range_of d) + bits_of w.ways + bits_above s (range_of d) n) test) [
       | inl one ↦ inl (eqb-true (decoder_ways d) 1 one)
       | inr same ↦ inr (eqb-true d.gran (range_code s w (range_of d) + bits_of w.ways + bits_above s (range_of d) n) same
           ∙ ap (λ (q : Range). range_code s w q + bits_of w.ways + bits_above s q n) (same_range r d has))

@@ -6,8 +6,8 @@ use Rattle.std.proofs.Math.Nat.{mul_comm, mul_assoc, div-div-eq-div-mul, mul-one
 use Rattle.std.proofs.lemmas.Nat.{pow-add, div-add-mod'}
 use Rattle.std.proofs.lemmas.Bool.{eqb-true}
 use Rattle.cxl_enc.specs.Codes.{is_ways, bits_of}
+use Rattle.cxl_enc.proofs.Ways.{each_ways, some_ways}
 use Rattle.cxl_num.specs.Interleave.{chunk_size}
-use Rattle.cxl_model.proofs.WeavingWays.{each_ways, some_ways}
 
 -- ---- ways and bits
 

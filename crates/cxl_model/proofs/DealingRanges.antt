@@ -1,15 +1,16 @@
 -- An address whose chain is a route lies in a committed range.
 use Rattle.std.proofs.Common.{◌≡◌, ℕ, ◌+◌, ◌<◌, ◌≤◌, true, List, refl, sym, subst}
 use Rattle.std.proofs.lemmas.Bool.{eq-eqb}
+use Rattle.std.proofs.lemmas.Map.Keys.{any_passes_from_place}
+use Rattle.cxl_enc.proofs.Options.{some_and}
 use Rattle.cxl_regs.specs.declared.decoder.Decoder.{Decoder}
 use Rattle.cxl_model.specs.declared.chain.Step.{Step}
 use Rattle.cxl_model.specs.System.{System, decoders_at, decoder_at}
 use Rattle.cxl_model.specs.Chain.{Arrival, End, Arrives, Misses, Places, IsArrival, Walk, on_forwarding, on_step, at_end, Routing, Routed, chain_end_by, Chain, unheld, held}
 use Rattle.cxl_regs.specs.Reading.{range_of, has_range}
 use Rattle.cxl_regs.specs.declared.reading.Range.{Range}
+use Rattle.cxl_regs.proofs.DecoderRanges.{holds_parts}
 use Rattle.cxl_model.specs.Ranges.{IsCommittedRange}
-use Rattle.cxl_model.proofs.Outcomes.{value_of, holds_parts}
-use Rattle.cxl_model.proofs.BreachesOfRanges.{passes_one}
 
 -- ---- where a way down ends
 
@@ -48,14 +49,14 @@ pub record InRange (s : System) (h first : ℕ) : Type 0 where
 
 of_arrival : (s : System) (h n : ℕ) (arrival : Arrival) → IsArrival s h n arrival → InRange s h arrival.base
 of_arrival s h n arrival is =
-    let found = value_of (decoder_at s n arrival.decoder) (Places s h n arrival) is.place in
+    let found = some_and (decoder_at s n arrival.decoder) (Places s h n arrival) is.place in
     let d : Decoder = found.0 in
     let parts = holds_parts d h found.2.holds in
     let committed = parts.committed in
     let own : has_range (range_of d) d ≡ true = rw (committed, eq-eqb d.base d.base refl, eq-eqb d.size d.size refl) refl in
     record {
       range = range_of d;
-      committed = (n, passes_one (has_range (range_of d)) (decoders_at s n) arrival.decoder d found.1 own);
+      committed = (n, any_passes_from_place (has_range (range_of d)) (decoders_at s n) arrival.decoder d found.1 own);
       base = sym found.2.base;
       from = parts.from;
       below = parts.below;

@@ -7,6 +7,8 @@ use Rattle.std.proofs.lemmas.Option.{slice_get-get_or}
 use Rattle.cxl_num.specs.Interleave.{chunk_size, factor_of}
 use Rattle.cxl_enc.specs.Limits.{unit}
 use Rattle.cxl_enc.specs.Codes.{is_ways, bits_of}
+use Rattle.cxl_enc.proofs.Options.{some_and}
+use Rattle.cxl_enc.proofs.Ways.{some_ways}
 use Rattle.cxl_topo.specs.declared.node.Parent.{Parent}
 use Rattle.cxl_topo.specs.Tree.{bridge_with, ports_above}
 use Rattle.cxl_regs.specs.declared.decoder.Decoder.{Decoder}
@@ -14,6 +16,7 @@ use Rattle.cxl_regs.specs.declared.reading.Range.{Range}
 use Rattle.cxl_regs.specs.Reading.{select_bits, decoder_ways}
 use Rattle.cxl_window.specs.Fields.{WindowFields}
 use Rattle.cxl_window.specs.Position.{is_usable, holds, position_of}
+use Rattle.cxl_topo.proofs.Trees.{KnownTree, ports_none, uid_top}
 use Rattle.cxl_deal.specs.Weaves.{WeaveFields, IsWeave, weave_ways, dealt_slot, dealt_offset}
 use Rattle.cxl_model.specs.declared.chain.Step.{Step}
 use Rattle.cxl_model.specs.declared.found.Found.{Found}
@@ -23,10 +26,8 @@ use Rattle.cxl_model.specs.Chain.{Arrival, Arrives, Routing, Routed, Targets, Ch
 use Rattle.cxl_model.specs.Ranges.{decoder_for, product}
 use Rattle.cxl_model.specs.Regions.{region_range, HasSpan, IsRegionIn, target_position, weave_fields, Carries}
 use Rattle.cxl_model.specs.Dealing.{slot_step, slot_steps, IsDealtRoute}
-use Rattle.cxl_model.proofs.Outcomes.{value_of, one_value}
-use Rattle.cxl_model.proofs.WeavingWays.{some_ways}
-use Rattle.cxl_model.proofs.CountingTrees.{KnownTree, ports_none}
-use Rattle.cxl_model.proofs.SpansWindows.{HasWindow, has_window, uid_top}
+use Rattle.cxl_model.proofs.Outcomes.{one_value}
+use Rattle.cxl_model.proofs.RangeWindows.{HasWindow, has_window}
 use Rattle.cxl_model.proofs.Weaving.{told, root_code}
 use Rattle.cxl_model.proofs.DealingNumbers.{granularity_above, bits_parts}
 use Rattle.cxl_model.proofs.DealingSteps.{Given, IsPower, power_at_place, Deals, goes_down}
@@ -116,7 +117,7 @@ at_slot s w found slot lower system is known few =
     let place : Place = get_or found.spans slot any in
     let there : slice_get found.spans slot ≡ Some place = slice_get-get_or found.spans slot any (omega (arith, few, slots)) in
     let span : HasSpan s w r slot place = is.spans slot place there in
-    let target = value_of (slice_get w.targets (target_position w slot)) (λ (uid : ℕ). bridge_with s.nodes uid ≡ Some span.bridge) span.target in
+    let target = some_and (slice_get w.targets (target_position w slot)) (λ (uid : ℕ). bridge_with s.nodes uid ≡ Some span.bridge) span.target in
     let above : IsTop s w r slot span.bridge = top s w r slot span.bridge target.0 lower.tree target.2 in
     let at = ends_at s w r slot span.bridge place span.leads in
     let power = power_at_place s w r slot span.bridge place (given_of s w found lower system is) span.leads above.power in
@@ -192,7 +193,7 @@ pub carried_once : (found : Found) (w : WindowFields) (h endpoint dpa other plac
 carried_once found w h endpoint dpa other place one two =
     let slot : ℕ = dealt_slot (weave_fields found w) h in
     let offset : ℕ = dealt_offset (weave_fields found w) h in
-    let a = value_of (slice_get found.spans slot) (λ (p : Place). (p.endpoint ≡ endpoint) × (p.start + offset ≡ dpa)) one.place in
-    let b = value_of (slice_get found.spans slot) (λ (p : Place). (p.endpoint ≡ other) × (p.start + offset ≡ place)) two.place in
+    let a = some_and (slice_get found.spans slot) (λ (p : Place). (p.endpoint ≡ endpoint) × (p.start + offset ≡ dpa)) one.place in
+    let b = some_and (slice_get found.spans slot) (λ (p : Place). (p.endpoint ≡ other) × (p.start + offset ≡ place)) two.place in
     let same : a.0 ≡ b.0 = one_value (slice_get found.spans slot) a.0 b.0 a.1 b.1 in
     (sym a.2.0 ∙ ap (λ (p : Place). p.endpoint) same ∙ b.2.0, sym a.2.1 ∙ ap (λ (p : Place). p.start + offset) same ∙ b.2.1)

@@ -3,21 +3,24 @@ use Rattle.std.proofs.Common.{◌≡◌, ℕ, ◌+◌, ◌<◌, ◌≤◌, true,
 use Rattle.std.specs.Prelude.{slice_get}
 use Rattle.std.specs.Option.{option_map_or}
 use Rattle.std.proofs.lemmas.Option.{slice_get_within}
+use Rattle.cxl_enc.proofs.Options.{some_and}
+use Rattle.cxl_enc.proofs.Lists.{All-at}
 use Rattle.cxl_regs.specs.declared.decoder.Decoder.{Decoder}
 use Rattle.cxl_regs.specs.Registers.{Registers, IsBlock}
 use Rattle.cxl_regs.specs.Reading.{span_length, holds_address, has_range}
 use Rattle.cxl_span.specs.Spans.{span_start_of, span_end_of, endpoint_place_of}
 use Rattle.cxl_span.specs.Breaches.{BlockKeeps}
 use Rattle.cxl_window.specs.Fields.{WindowFields}
+use Rattle.cxl_regs.proofs.DecoderRanges.{holds_parts, has_parts}
 use Rattle.cxl_model.specs.declared.found.Found.{Found}
 use Rattle.cxl_model.specs.System.{System, IsSystem, decoders_at, decoder_at, ram_at, pmem_at}
 use Rattle.cxl_model.specs.Chain.{Arrival, Places, IsArrival}
 use Rattle.cxl_model.specs.Accepted.{KeepsBlocks}
 use Rattle.cxl_model.specs.Regions.{region_range, IsRegionIn}
 use Rattle.cxl_model.specs.Bytes.{LiesInSpan}
-use Rattle.cxl_model.proofs.Outcomes.{value_of, one_value, holds_parts}
-use Rattle.cxl_model.proofs.WeavingServers.{All-at, has_parts, InBlock, in_block}
-use Rattle.cxl_model.proofs.CountingRules.{block_keeps}
+use Rattle.cxl_model.proofs.Outcomes.{one_value}
+use Rattle.cxl_model.proofs.RangeServers.{InBlock, in_block}
+use Rattle.cxl_model.proofs.RangeRules.{block_keeps}
 use Rattle.cxl_model.proofs.SpansKinds.{endpoint_block}
 use Rattle.cxl_model.proofs.SpansShared.{InSpan, one_span, SpansFollow, of_byte}
 
@@ -57,7 +60,7 @@ pub comes_in : SpansFollow → GoIntoSpans → (s : System) (w : WindowFields) (
     → LiesInSpan found arrival.endpoint arrival.dpa → IsArrival s h arrival.endpoint arrival → ComesIn found h arrival
 comes_in follow into s w found h arrival system region lies is =
     let n : ℕ = arrival.endpoint in
-    let at = value_of (decoder_at s n arrival.decoder) (Places s h n arrival) is.place in
+    let at = some_and (decoder_at s n arrival.decoder) (Places s h n arrival) is.place in
     let d : Decoder = at.0 in
     let own = of_byte s w found n arrival.dpa region lies in
     let number : arrival.decoder ≡ own.i =

@@ -9,6 +9,7 @@ use Rattle.std.proofs.lemmas.Nat.{pow-add}
 use Rattle.std.proofs.lemmas.List.{append_assoc, append-nil, reverse-append}
 use Rattle.std.proofs.lemmas.List.Sums.{sum_by-cons}
 use Rattle.cxl_enc.specs.Codes.{bits_of}
+use Rattle.cxl_enc.proofs.Options.{some_and}
 use Rattle.cxl_topo.specs.Tree.{forwards_at, is_port_at, child_of, least_child_of, ports_above}
 use Rattle.cxl_topo.specs.Laws.{AreTreeLaws}
 use Rattle.cxl_regs.specs.declared.decoder.Decoder.{Decoder}
@@ -16,6 +17,7 @@ use Rattle.cxl_regs.specs.declared.reading.Range.{Range}
 use Rattle.cxl_regs.specs.Reading.{select_bits, decoder_ways, decoder_granularity, holds_address, entry_at, entry_of, has_range}
 use Rattle.cxl_image.specs.Images.{HasCapsOf}
 use Rattle.cxl_window.specs.Fields.{WindowFields}
+use Rattle.cxl_regs.proofs.DecoderRanges.{Has, has_parts}
 use Rattle.cxl_model.specs.declared.chain.Step.{Step}
 use Rattle.cxl_model.specs.declared.found.Place.{Place}
 use Rattle.cxl_model.specs.System.{System}
@@ -24,8 +26,6 @@ use Rattle.cxl_model.specs.Ranges.{decoder_for, window_for, ports_for, product, 
 use Rattle.cxl_model.specs.Accepted.{IsWhole}
 use Rattle.cxl_model.specs.Regions.{slots_an_entry, LeadsTo, past_forwarding, past_port, at_endpoint}
 use Rattle.cxl_model.specs.Dealing.{slot_entry, slot_step, slot_steps}
-use Rattle.cxl_model.proofs.Outcomes.{value_of}
-use Rattle.cxl_model.proofs.WeavingServers.{Has, has_parts}
 use Rattle.cxl_model.proofs.DealingNodes.{keeps_own_block, Owns, owns_decoder, owns_none, port_ways, port_code, under_port, under_forwarding, ports_below, steps_below}
 
 -- what the way down rests on
@@ -104,7 +104,7 @@ pub power_at_place : (s : System) (w : WindowFields) (r : Range) (slot n : ℕ) 
 power_at_place s w r slot n place given (past_forwarding _ child _ forwards first leads) power =
     power_at_place s w r slot child place given leads ((below_forwarding s w r slot n child given forwards first).power power)
 power_at_place s w r slot n place given (past_port _ child _ own port way leads) power =
-    let found = value_of (decoder_for s r n) (λ (d : Decoder). child_of s.nodes n (entry_at d (slot / slots_an_entry s w r n % decoder_ways d)) ≡ Some child) way in
+    let found = some_and (decoder_for s r n) (λ (d : Decoder). child_of s.nodes n (entry_at d (slot / slots_an_entry s w r n % decoder_ways d)) ≡ Some child) way in
     let d : Decoder = found.0 in
     let owns = owns_decoder s r n d found.1 in
     let more = below_port s w r slot n child owns.0 (entry_at d (slot / slots_an_entry s w r n % decoder_ways d)) d given port found.1 owns.1 found.2 in
@@ -231,7 +231,7 @@ goes_down s w r slot h n gran place arrival given deals arrives (past_forwarding
     past s w r slot h n child place.endpoint arrival forwards first same
     (goes_down s w r slot h child gran place arrival given deals arrives leads (same.power power))
 goes_down s w r slot h n gran place arrival given deals arrives (past_port _ child _ own port way leads) power =
-    let found = value_of (decoder_for s r n) (λ (d : Decoder). child_of s.nodes n (entry_at d (slot / slots_an_entry s w r n % decoder_ways d)) ≡ Some child) way in
+    let found = some_and (decoder_for s r n) (λ (d : Decoder). child_of s.nodes n (entry_at d (slot / slots_an_entry s w r n % decoder_ways d)) ≡ Some child) way in
     let d : Decoder = found.0 in
     let owns = owns_decoder s r n d found.1 in
     let listed : ℕ = entry_at d (slot / slots_an_entry s w r n % decoder_ways d) in

@@ -1,15 +1,18 @@
 -- A node does one thing with an address.
-use Rattle.std.proofs.Common.{◌≡◌, ℕ, ◌+◌, ◌<◌, ◌≤◌, Bool, true, false, not, ◌&&◌, if◌then◌else◌, [], Option, Some, None, refl, sym, ap, ◌∙◌, subst, inl, inr, arith}
-use Rattle.std.specs.Prelude.{slice_get, nat_lt, nat_le, IsSomeAnd, IfSome}
+use Rattle.std.proofs.Common.{◌≡◌, ℕ, ◌+◌, ◌<◌, ◌≤◌, Bool, true, false, not, if◌then◌else◌, [], Option, Some, None, refl, sym, ap, ◌∙◌, subst, inl, inr, arith}
+use Rattle.std.specs.Prelude.{slice_get, IfSome}
 use Rattle.std.specs.Option.{option_map_or}
-use Rattle.std.proofs.lemmas.Bool.{and_parts, cases_lt, leb-true, ltb-true}
+use Rattle.std.proofs.lemmas.Bool.{cases_lt}
 use Rattle.std.proofs.lemmas.Option.{slice_get_within, same_Some}
+use Rattle.cxl_enc.proofs.Tests.{clash}
+use Rattle.cxl_enc.proofs.Options.{some_and}
 use Rattle.cxl_topo.specs.declared.node.Node.{Node}
 use Rattle.cxl_topo.specs.Kinds.{is_endpoint}
 use Rattle.cxl_topo.specs.Tree.{forwards_at, is_port_at, is_endpoint_at, child_of, least_child_of}
 use Rattle.cxl_regs.specs.declared.decoder.Decoder.{Decoder}
 use Rattle.cxl_regs.specs.Registers.{Registers}
 use Rattle.cxl_regs.specs.Reading.{holds_address, entry_at, entry_of}
+use Rattle.cxl_regs.proofs.DecoderRanges.{Holds, holds_parts}
 use Rattle.cxl_span.specs.Spans.{span_start_of, endpoint_place_of}
 use Rattle.cxl_span.specs.Breaches.{BlockKeeps}
 use Rattle.cxl_model.specs.declared.chain.Step.{Step}
@@ -18,30 +21,12 @@ use Rattle.cxl_model.specs.declared.chain.Miss.TheVariants.{NoWindow, BadBlock, 
 use Rattle.cxl_model.specs.System.{System, decoders_at, decoder_at}
 use Rattle.cxl_model.specs.Chain.{Arrival, Arrives, Misses, Move, Forwards, Steps, Ends, Decodes, Chooses, IsStep, Places, IsArrival, IsBadBlock, ListsNoChild, Moves}
 
-pub clash : (a : Bool) → a ≡ true → a ≡ false → ⊥
-clash a is_true is_false = cc
-
 -- ---- options
-
-pub value_of : {A : Type 0} (o : Option A) (P : A → Type 0) → IsSomeAnd o P → (x : A) × (o ≡ Some x) × P x
-value_of None P h = absurd h
-value_of (Some x) P h = (x, refl, h)
 
 pub one_value : {A : Type 0} (o : Option A) (x y : A) → o ≡ Some x → o ≡ Some y → x ≡ y
 one_value o x y one other = same_Some x y (sym one ∙ other)
 
 -- ---- one committed decoder holds an address
-
-pub record Holds (d : Decoder) (h : ℕ) : Type 0 where
-  pub committed : d.committed ≡ true
-  pub from : d.base ≤ h
-  pub below : h < d.base + d.size
-
-pub holds_parts : (d : Decoder) (h : ℕ) → holds_address d h ≡ true → Holds d h
-holds_parts d h holds =
-    let outer = and_parts (d.committed && nat_le d.base h) (nat_lt h (d.base + d.size)) holds in
-    let inner = and_parts d.committed (nat_le d.base h) outer.0 in
-    record { committed = inner.0; from = leb-true d.base h inner.1; below = ltb-true h (d.base + d.size) outer.1 }
 
 -- what the law of ranges says of a block that keeps K2 to K8
 abbrev pub RangesRise : Type 0
@@ -165,7 +150,7 @@ place_move s h n a d endpoint here places =
 
 does_step : (s : System) (h n : ℕ) (step : Step) (child : ℕ) → IsStep s h n step child → Does s h n (Steps step child)
 does_step s h n step child is =
-    let found = value_of (decoder_at s n step.decoder) (λ (d : Decoder). Chooses s h n d step.entry (Some child)) is.choice in
+    let found = some_and (decoder_at s n step.decoder) (λ (d : Decoder). Chooses s h n d step.entry (Some child)) is.choice in
     let d : Decoder = found.0 in
     let chooses : Chooses s h n d step.entry (Some child) = found.2 in
     deciding is.decodes
@@ -174,7 +159,7 @@ does_step s h n step child is =
 
 does_arrive : (s : System) (h n : ℕ) (a : Arrival) → IsArrival s h n a → Does s h n (Ends (Arrives a))
 does_arrive s h n a is =
-    let found = value_of (decoder_at s n a.decoder) (Places s h n a) is.place in
+    let found = some_and (decoder_at s n a.decoder) (Places s h n a) is.place in
     let d : Decoder = found.0 in
     let places : Places s h n a d = found.2 in
     deciding is.decodes (by_one a.decoder d record { there = found.1; holds = places.holds } (place_move s h n a d is.endpoint is.here places))
@@ -184,7 +169,7 @@ does_list_no_child s h n is =
     let choice = is.choice in
     let i : ℕ = choice.0 in
     let entry : ℕ = choice.1 in
-    let found = value_of (decoder_at s n i) (λ (d : Decoder). Chooses s h n d entry None) choice.2 in
+    let found = some_and (decoder_at s n i) (λ (d : Decoder). Chooses s h n d entry None) choice.2 in
     let d : Decoder = found.0 in
     let chooses : Chooses s h n d entry None = found.2 in
     deciding is.decodes (by_one i d record { there = found.1; holds = chooses.holds } (port_move s h n i entry d None is.port chooses))

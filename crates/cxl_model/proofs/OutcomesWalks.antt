@@ -1,19 +1,20 @@
 -- An address has one way down, and its chain one end.
-use Rattle.std.proofs.Common.{◌≡◌, ℕ, ◌+◌, ◌<◌, ◌≤◌, Bool, true, false, ◌&&◌, if◌then◌else◌, List, ◌∷◌, Some, None, refl, sym, ap, ◌∙◌, subst, Contains}
+use Rattle.std.proofs.Common.{◌≡◌, ℕ, ◌+◌, ◌<◌, ◌≤◌, Bool, true, false, ◌&&◌, if◌then◌else◌, List, ◌∷◌, Some, None, refl, sym, ap, ◌∙◌, subst}
 use Rattle.std.specs.Prelude.{slice_get, nat_lt, nat_le}
 use Rattle.std.proofs.lemmas.Bool.{and_parts, leb-true, ltb-true}
-use Rattle.std.proofs.lemmas.Option.{slice_get_within, get_or_from_slice_get, none-some}
-use Rattle.std.proofs.lemmas.List.Elements.{Contains-get_or}
+use Rattle.std.proofs.lemmas.Option.{none-some}
+use Rattle.cxl_enc.proofs.Options.{some_and}
+use Rattle.cxl_enc.proofs.Lists.{contains_at}
 use Rattle.cxl_topo.specs.Tree.{bridge_with}
-use Rattle.cxl_window.specs.declared.window.Verdict.{Verdict}
-use Rattle.cxl_window.specs.declared.window.Verdict.TheVariants.{Usable, Align, Size, TooHigh, Overlap, Target, Repeat, Maps}
+use Rattle.cxl_window.specs.declared.window.Verdict.TheVariants.{Usable}
 use Rattle.cxl_window.specs.Fields.{WindowFields}
 use Rattle.cxl_window.specs.Position.{is_usable, holds, position_at, position_of}
 use Rattle.cxl_window.specs.Windows.{AreMadeWith}
+use Rattle.cxl_window.proofs.Usable.{usable_is}
 use Rattle.cxl_model.specs.declared.chain.Step.{Step}
 use Rattle.cxl_model.specs.System.{System, bridge_uids}
 use Rattle.cxl_model.specs.Chain.{End, Move, Forwards, Steps, Ends, Walk, on_forwarding, on_step, at_end, ChainEnd, chain_end_by, Targets, Chain, unheld, held}
-use Rattle.cxl_model.proofs.Outcomes.{RangesRise, value_of, one_value, one_move}
+use Rattle.cxl_model.proofs.Outcomes.{RangesRise, one_value, one_move}
 
 -- ---- the way down
 
@@ -71,19 +72,6 @@ one_way rise s h n steps others end other (at_end _ _ move) (at_end _ _ moves) =
 
 -- ---- the window
 
-pub contains_at : {X : Type 0} (xs : List X) (i : ℕ) (x : X) → slice_get xs i ≡ Some x → Contains xs x
-contains_at xs i x at = subst (Contains xs) (get_or_from_slice_get xs i x x at) (Contains-get_or xs i x (slice_get_within xs i x at))
-
-pub usable_is : (verdict : Verdict) → is_usable verdict ≡ true → verdict ≡ Usable
-usable_is Usable h = refl
-usable_is Align h = cc
-usable_is Size h = cc
-usable_is TooHigh h = cc
-usable_is (Overlap i) h = cc
-usable_is (Target u) h = cc
-usable_is (Repeat u) h = cc
-usable_is Maps h = cc
-
 record Slotted (w : WindowFields) (h own : ℕ) : Type 0 where
   usable : w.verdict ≡ Usable
   from : w.base ≤ h
@@ -113,8 +101,8 @@ one_held s h w v position other bridge way is one two =
 -- the bridge at a position of a window
 one_bridge : (s : System) (h : ℕ) (w : WindowFields) (position bridge way : ℕ) → Targets s h w position bridge → Targets s h w position way → bridge ≡ way
 one_bridge s h w position bridge way one two =
-    let a = value_of (slice_get w.targets position) (λ (uid : ℕ). bridge_with s.nodes uid ≡ Some bridge) one.target in
-    let b = value_of (slice_get w.targets position) (λ (uid : ℕ). bridge_with s.nodes uid ≡ Some way) two.target in
+    let a = some_and (slice_get w.targets position) (λ (uid : ℕ). bridge_with s.nodes uid ≡ Some bridge) one.target in
+    let b = some_and (slice_get w.targets position) (λ (uid : ℕ). bridge_with s.nodes uid ≡ Some way) two.target in
     let uid : a.0 ≡ b.0 = one_value (slice_get w.targets position) a.0 b.0 a.1 b.1 in
     one_value (bridge_with s.nodes b.0) bridge way (ap (bridge_with s.nodes) (sym uid) ∙ a.2) b.2
 

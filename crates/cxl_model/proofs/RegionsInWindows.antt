@@ -4,12 +4,12 @@ use Rattle.std.specs.Prelude.{slice_get}
 use Rattle.cxl_enc.specs.Limits.{address_limit}
 use Rattle.cxl_regs.specs.declared.reading.Range.{Range}
 use Rattle.cxl_window.specs.Fields.{WindowFields}
+use Rattle.cxl_regs.proofs.DecoderRanges.{has_parts}
 use Rattle.cxl_model.specs.declared.found.Found.{Found}
 use Rattle.cxl_model.specs.System.{System, IsSystem}
 use Rattle.cxl_model.specs.Regions.{region_range, IsRegionIn}
-use Rattle.cxl_model.proofs.WeavingServers.{has_parts}
-use Rattle.cxl_model.proofs.CountingRules.{RangesRise, bytes_at, served}
-use Rattle.cxl_model.proofs.SpansWindows.{HasWindow, has_window}
+use Rattle.cxl_model.proofs.RangeRules.{RangesRise, bytes_at, served}
+use Rattle.cxl_model.proofs.RangeWindows.{HasWindow, has_window}
 
 own_window : (s : System) (w : WindowFields) (found : Found) → IsSystem s → IsRegionIn s w found → HasWindow s (region_range found) w
 own_window s w found system is = has_window s (region_range found) w system is.window

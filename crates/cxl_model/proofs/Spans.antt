@@ -9,8 +9,10 @@ use Rattle.std.proofs.lemmas.List.{length-map, get_or-map, get_or_default}
 use Rattle.std.proofs.lemmas.List.Folds.{Any-from_list_any}
 use Rattle.std.proofs.lemmas.List.FromFn.{length-range_with_len, get_or-range_with_len}
 use Rattle.cxl_enc.specs.Codes.{is_ways, third_of, bits_of}
+use Rattle.cxl_enc.proofs.Options.{some_and}
 use Rattle.cxl_topo.specs.Tree.{is_endpoint_at, uid_at, parent_of, bridge_with}
 use Rattle.cxl_window.specs.Fields.{WindowFields}
+use Rattle.cxl_topo.proofs.Trees.{KnownTree, root_of, uid_top}
 use Rattle.cxl_model.specs.declared.found.Found.{Found}
 use Rattle.cxl_model.specs.declared.found.Place.{Place}
 use Rattle.cxl_model.specs.System.{System, IsSystem}
@@ -20,17 +22,18 @@ use Rattle.cxl_model.specs.Rules.{are_distinct}
 use Rattle.cxl_model.specs.Accepted.{IsWhole}
 use Rattle.cxl_model.specs.Regions.{target_position, slots_an_entry, LeadsTo, HasSpan, region_range, IsRegionIn}
 use Rattle.cxl_model.specs.Counts.{is_endpoint_of}
-use Rattle.cxl_model.proofs.Outcomes.{value_of, one_value}
+use Rattle.cxl_model.proofs.Outcomes.{one_value}
 use Rattle.cxl_model.proofs.Weaving.{found_ways_known}
-use Rattle.cxl_model.proofs.WeavingServers.{has_ways}
-use Rattle.cxl_model.proofs.CountingSums.{one, total, total_even, once, summands_same}
-use Rattle.cxl_model.proofs.CountingTrees.{KnownTree, under_top, root_of}
-use Rattle.cxl_model.proofs.CountingRules.{RangesRise, served}
-use Rattle.cxl_model.proofs.Counting.{numbers, count_of, count_parts, one_there, no_ways_above, serves_within}
-use Rattle.cxl_model.proofs.SpansWindows.{HasWindow, has_window, uid_top, distinct_test, count_all, counted_all}
+use Rattle.cxl_model.proofs.RangeServers.{has_ways}
+use Rattle.cxl_model.proofs.RangeRules.{RangesRise, served}
+use Rattle.cxl_model.proofs.RangeCounts.{numbers, count_of, count_parts, one_there, no_ways_above, serves_within}
+use Rattle.cxl_model.proofs.RangeWindows.{HasWindow, has_window, count_all, counted_all}
 use Rattle.cxl_model.proofs.SpansNumbers.{position_parts}
 use Rattle.cxl_model.proofs.SpansSlots.{IsPlace, is_place, leads_under}
 use Rattle.cxl_model.proofs.SpansApart.{Agree, agree, one_index, one_slot, power}
+use Rattle.cxl_model.proofs.Sums.{one, total, total_even, once, summands_same}
+use Rattle.cxl_model.proofs.Under.{under_top}
+use Rattle.cxl_model.proofs.Distinct.{distinct_test}
 
 -- ---- the bridge of a slot
 
@@ -41,7 +44,7 @@ pub record Rooting (s : System) (w : WindowFields) (slot bridge : ℕ) : Type 0 
 
 pub rooting : (s : System) (w : WindowFields) (r : Range) (slot : ℕ) (place : Place) → (span : HasSpan s w r slot place) → Rooting s w slot span.bridge
 rooting s w r slot place span =
-    let own = value_of (slice_get w.targets (target_position w slot)) (λ uid. bridge_with s.nodes uid ≡ Some span.bridge) span.target in
+    let own = some_and (slice_get w.targets (target_position w slot)) (λ uid. bridge_with s.nodes uid ≡ Some span.bridge) span.target in
     record { uid = own.0; at = own.1; found = own.2 }
 
 -- slots of one bridge have one position among the targets
@@ -131,7 +134,7 @@ slot_place s w found is slot place at = let span = is.spans slot place at in is_
 abbrev ends : Found → List ℕ
 ends found = map (λ place. place.endpoint) found.spans
 
-no_place : Place
+pub no_place : Place
 no_place = record { endpoint = 0; start = 0 }
 
 ends_differ : (s : System) (w : WindowFields) (found : Found) → IsSystem s → KnownTree s.nodes → IsRegionIn s w found → are_distinct (ends found) ≡ true

@@ -8,11 +8,14 @@ use Rattle.std.proofs.lemmas.Option.{none-some}
 use Rattle.std.proofs.lemmas.List.Folds.{list_any_at}
 use Rattle.std.proofs.lemmas.List.FromFn.{get_or-map-range_with_len, length-map-range_with_len}
 use Rattle.cxl_enc.specs.Codes.{is_ways, third_of, bits_of}
+use Rattle.cxl_enc.proofs.Ways.{some_ways, some_third}
 use Rattle.cxl_topo.specs.Tree.{is_endpoint_at, child_of}
 use Rattle.cxl_regs.specs.declared.decoder.Decoder.{Decoder}
 use Rattle.cxl_regs.specs.declared.reading.Range.{Range}
 use Rattle.cxl_regs.specs.Reading.{decoder_ways, entries_of, entry_at}
 use Rattle.cxl_window.specs.Fields.{WindowFields}
+use Rattle.cxl_topo.proofs.Trees.{KnownTree, leaves_once, only_child, port_no_endpoint}
+use Rattle.cxl_regs.proofs.DecoderRanges.{decoder_ways_known}
 use Rattle.cxl_model.specs.declared.found.Place.{Place}
 use Rattle.cxl_model.specs.System.{System}
 use Rattle.cxl_model.specs.Ranges.{serves, decoder_for, ways_above}
@@ -21,11 +24,9 @@ use Rattle.cxl_model.specs.Accepted.{IsWhole}
 use Rattle.cxl_model.specs.Regions.{target_position, slots_an_entry, LeadsTo, past_forwarding, past_port, at_endpoint}
 use Rattle.cxl_model.specs.Counts.{is_under}
 use Rattle.cxl_model.proofs.Outcomes.{one_value}
-use Rattle.cxl_model.proofs.WeavingWays.{some_ways, decoder_ways_known}
-use Rattle.cxl_model.proofs.CountingTrees.{KnownTree, leaves_once, only_child, port_no_endpoint}
-use Rattle.cxl_model.proofs.CountingRules.{served, leads, no_decoder}
-use Rattle.cxl_model.proofs.Counting.{ways_below, ways_past, forwards_none}
-use Rattle.cxl_model.proofs.SpansNumbers.{digit_below, agree_by_product, ways_are, some_third, remainders_tell}
+use Rattle.cxl_model.proofs.RangeRules.{served, leads, no_decoder}
+use Rattle.cxl_model.proofs.RangeCounts.{ways_below, ways_past, forwards_none}
+use Rattle.cxl_model.proofs.SpansNumbers.{digit_below, agree_by_product, ways_are, remainders_tell}
 use Rattle.cxl_model.proofs.SpansSlots.{goes, entry_for, leads_under, leaves_for, from_forwarding, from_port}
 
 -- ---- numbers that differ

@@ -9,6 +9,7 @@ use Rattle.cxl_regs.specs.Reading.{span_length, has_range}
 use Rattle.cxl_span.specs.Spans.{span_start_of}
 use Rattle.cxl_span.specs.Breaches.{BlockKeeps}
 use Rattle.cxl_window.specs.Fields.{WindowFields}
+use Rattle.cxl_regs.proofs.DecoderRanges.{has_parts}
 use Rattle.cxl_model.specs.declared.found.Found.{Found}
 use Rattle.cxl_model.specs.declared.found.Place.{Place}
 use Rattle.cxl_model.specs.System.{System, decoders_at, decoder_at, ram_at, pmem_at}
@@ -16,8 +17,8 @@ use Rattle.cxl_model.specs.Accepted.{KeepsBlocks}
 use Rattle.cxl_model.specs.Regions.{region_range, IsRegionIn}
 use Rattle.cxl_model.specs.Bytes.{slot_length, LiesInSpan, LiesInCommittedSpan}
 use Rattle.cxl_model.proofs.Outcomes.{one_value}
-use Rattle.cxl_model.proofs.WeavingServers.{has_parts, in_block}
-use Rattle.cxl_model.proofs.CountingRules.{block_keeps}
+use Rattle.cxl_model.proofs.RangeServers.{in_block}
+use Rattle.cxl_model.proofs.RangeRules.{block_keeps}
 use Rattle.cxl_model.proofs.Spans.{slot_place}
 use Rattle.cxl_model.proofs.SpansKinds.{OfPlace, of_place}
 

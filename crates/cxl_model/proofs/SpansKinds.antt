@@ -16,6 +16,7 @@ use Rattle.cxl_span.specs.Spans.{span_start_of}
 use Rattle.cxl_span.specs.Partitions.{lies_in}
 use Rattle.cxl_span.specs.Breaches.{BlockKeeps}
 use Rattle.cxl_window.specs.Fields.{WindowFields}
+use Rattle.cxl_regs.proofs.DecoderRanges.{has_parts, same_range}
 use Rattle.cxl_model.specs.declared.found.Found.{Found}
 use Rattle.cxl_model.specs.declared.found.Place.{Place}
 use Rattle.cxl_model.specs.System.{System, IsSystem, decoders_at, decoder_at, ram_at, pmem_at}
@@ -25,8 +26,8 @@ use Rattle.cxl_model.specs.Accepted.{breaks, breaks_at, IsWhole}
 use Rattle.cxl_model.specs.Regions.{region_range, IsRegionIn}
 use Rattle.cxl_model.specs.Bytes.{slot_length}
 use Rattle.cxl_model.proofs.Outcomes.{one_value}
-use Rattle.cxl_model.proofs.WeavingServers.{has_parts, same_range, has_ways, InBlock, in_block}
-use Rattle.cxl_model.proofs.CountingRules.{block_keeps, served, kept}
+use Rattle.cxl_model.proofs.RangeServers.{has_ways, InBlock, in_block, endpoint_test}
+use Rattle.cxl_model.proofs.RangeRules.{block_keeps, served, kept}
 use Rattle.cxl_model.proofs.SpansSlots.{IsPlace}
 use Rattle.cxl_model.proofs.Spans.{slot_place}
 
@@ -61,20 +62,12 @@ of_place s w r place whole window is =
 
 -- ---- the kind
 
-rule_twelve : (s : System) (n i : ℕ) → breaks s 12 n i ≡ breaks_at s n i (keeps_ways s n i)
+pub rule_twelve : (s : System) (n i : ℕ) → breaks s 12 n i ≡ breaks_at s n i (keeps_ways s n i)
 unfolding breaks
 rule_twelve s n i = refl
 
--- K12's test of an endpoint's decoder, by its range
-abbrev end_test : System → WindowFields → ℕ → ℕ → Decoder → Range → Bool
-end_test s w n i d r =
-    (decoder_ways d == w.ways * ways_above s r n)
-    && (decoder_ways d == range_ways s r)
-    && same_kind (span_kind s n i) (range_kind s r)
-    && ((decoder_ways d == 1) || (d.gran == range_code s w r))
-
 abbrev kind_test : System → ℕ → ℕ → Decoder → Range → Option WindowFields → Bool → Bool
-kind_test s n i d r o endpoint = option_map_or (λ w. if endpoint then end_test s w n i d r else keeps_port_code s w n d) o true
+kind_test s n i d r o endpoint = option_map_or (λ w. if endpoint then endpoint_test s w n i d r else keeps_port_code s w n d) o true
 
 kinds_same : (a b : MemKind) → same_kind a b ≡ true → a ≡ b
 kinds_same Ram Ram same = refl
@@ -83,12 +76,12 @@ kinds_same Pmem Ram same = absurd (false≢true same)
 kinds_same Pmem Pmem same = refl
 
 -- K12: an endpoint's span is of the range's kind
-has_kind : (s : System) (w : WindowFields) (r : Range) (n i : ℕ) (d : Decoder) → IsWhole s r → window_for s r ≡ Some w → is_endpoint_at s.nodes n ≡ true → decoder_at s n i ≡ Some d → has_range r d ≡ true
+pub has_kind : (s : System) (w : WindowFields) (r : Range) (n i : ℕ) (d : Decoder) → IsWhole s r → window_for s r ≡ Some w → is_endpoint_at s.nodes n ≡ true → decoder_at s n i ≡ Some d → has_range r d ≡ true
     → span_kind s n i ≡ range_kind s r
 has_kind s w r n i d whole window endpoint there has =
     let own = has_parts r d has in
     let keeps : keeps_ways s n i d ≡ true = kept s n i d (keeps_ways s n i) there own.committed (sym (rule_twelve s n i) ∙ whole.range 12 n i d (omega arith) there has) in
-    let test : end_test s w n i d r ≡ true =
+    let test : endpoint_test s w n i d r ≡ true =
     sym (ap (λ (q : Range). kind_test s n i d q (window_for s q) (is_endpoint_at s.nodes n)) (same_range r d own)
     ∙ ap (λ (o : Option WindowFields). kind_test s n i d r o (is_endpoint_at s.nodes n)) window
     ∙ ap (kind_test s n i d r (Some w)) endpoint)

@@ -1,47 +1,28 @@
 -- The regions of an accepted image as one list by rising base.
 use Rattle.std.proofs.Common.{◌≡◌, ◌≢◌, ℕ, zero, suc, ◌<◌, true, false, List, [], ◌∷◌, length, get_or, Some, refl, sym, ap, ◌∙◌, subst, inl, inr, arith, ◌⊎◌}
 use Rattle.std.specs.Prelude.{slice_get, All, AllPairs, Contains}
-use Rattle.std.proofs.lemmas.Bool.{cases_lt, cases_order, cases_Bool, eq-eqb, false≢true}
-use Rattle.std.proofs.lemmas.Option.{slice_get_within, get_or_from_slice_get, slice_get-get_or, same_Some}
+use Rattle.std.proofs.lemmas.Bool.{cases_lt, cases_order, cases_Bool, false≢true}
+use Rattle.std.proofs.lemmas.Option.{slice_get_within, slice_get-get_or, same_Some}
 use Rattle.std.proofs.lemmas.List.Elements.{All-head, All-tail, All-nil, All-cons, All-contains}
+use Rattle.std.proofs.lemmas.Map.Keys.{any_passes_from_place}
+use Rattle.cxl_enc.proofs.Lists.{contains_head, contains_tail, contains_cases, contains_none, contains_at}
 use Rattle.cxl_regs.specs.declared.decoder.Decoder.{Decoder}
 use Rattle.cxl_window.specs.Fields.{WindowFields}
+use Rattle.cxl_topo.proofs.Trees.{KnownTree}
 use Rattle.cxl_model.specs.declared.found.Found.{Found}
 use Rattle.cxl_model.specs.System.{System, IsSystem, decoders_at}
 use Rattle.cxl_regs.specs.Reading.{range_of, has_range}
 use Rattle.cxl_regs.specs.declared.reading.Range.{Range}
+use Rattle.cxl_regs.proofs.DecoderRanges.{has_parts, same_range, has_own_range}
 use Rattle.cxl_model.specs.Ranges.{serves, IsCommittedRange}
 use Rattle.cxl_model.specs.Accepted.{IsAccepted, IsWhole}
 use Rattle.cxl_model.specs.Regions.{region_range, IsRegionIn, IsRegion}
 use Rattle.cxl_model.specs.Listed.{AreRegions, AreRegionsByBase}
-use Rattle.cxl_model.proofs.BreachesOfRanges.{accepted_where_whole, passes_one}
-use Rattle.cxl_model.proofs.WeavingServers.{has_parts, same_range}
-use Rattle.cxl_model.proofs.CountingTrees.{KnownTree}
-use Rattle.cxl_model.proofs.CountingRules.{RangesRise, served}
-use Rattle.cxl_model.proofs.Counting.{serves_within}
+use Rattle.cxl_model.proofs.BreachesOfRanges.{accepted_where_whole}
+use Rattle.cxl_model.proofs.RangeRules.{RangesRise, served}
+use Rattle.cxl_model.proofs.RangeCounts.{serves_within}
 use Rattle.cxl_model.proofs.SpansRegions.{HasRegion, has_region, one_region}
 use Rattle.cxl_model.proofs.SpansShared.{one_base}
-
--- ---- elements of a list
-
-contains_head : {X : Type 0} (x : X) (xs : List X) → Contains (x ∷ xs) x
-contains_head x xs = (0, omega arith, refl)
-
-contains_tail : {X : Type 0} (x y : X) (xs : List X) → Contains xs y → Contains (x ∷ xs) y
-contains_tail x y xs there = let within = there.1 in (suc there.0, omega arith, there.2)
-
-contains_cases : {X : Type 0} (x y : X) (xs : List X) → Contains (x ∷ xs) y → (x ≡ y) ⊎ Contains xs y
-contains_cases {X} x y xs there = go there.0 there.1 there.2
-  where
-    go : (k : ℕ) → k < length (x ∷ xs) → get_or (x ∷ xs) k y ≡ y → (x ≡ y) ⊎ Contains xs y
-    go zero within is = inl is
-    go (suc k) within is = inr (k, omega arith, is)
-
-contains_none : {X : Type 0} (y : X) → Contains {X = X} [] y → ⊥
-contains_none y there = let within = there.1 in omega arith
-
-contains_at : {X : Type 0} (xs : List X) (i : ℕ) (x : X) → slice_get xs i ≡ Some x → Contains xs x
-contains_at xs i x at = (i, slice_get_within xs i x at, get_or_from_slice_get xs i x x at)
 
 -- ---- lists by rising base
 
@@ -175,9 +156,6 @@ with_range s one regions old r committed =
 
 -- ---- the ranges of a node's decoders
 
-own_range : (d : Decoder) → d.committed ≡ true → has_range (range_of d) d ≡ true
-own_range d committed = rw (committed, eq-eqb d.base d.base refl, eq-eqb d.size d.size refl) refl
-
 record WithDecoders (s : System) (old : Listed s) (ds : List Decoder) : Type 0 where
   grown : Grown s old
   has : (i : ℕ) (d : Decoder) → slice_get ds i ≡ Some d → d.committed ≡ true → Has (grown.new).all (range_of d)
@@ -225,7 +203,7 @@ below s one regions zero = record {
 }
 below s one regions (suc k) =
     let rest = below s one regions k in
-    let now = with_decoders s one regions rest.all (decoders_at s k) (λ i d at committed. (k, passes_one (has_range (range_of d)) (decoders_at s k) i d at (own_range d committed))) in
+    let now = with_decoders s one regions rest.all (decoders_at s k) (λ i d at committed. (k, any_passes_from_place (has_range (range_of d)) (decoders_at s k) i d at (has_own_range d committed))) in
     record {
       all = (now.grown).new;
       has = λ n r less is. elim (cases_lt n k) [

@@ -1,10 +1,10 @@
 -- Remainders that tell a slot.
-use Rattle.std.proofs.Common.{◌≡◌, ℕ, ◌+◌, ◌*◌, ◌/◌, ◌%◌, ◌^◌, ◌<◌, ◌≤◌, Bool, true, false, not, ◌&&◌, ◌||◌, if◌then◌else◌, refl, sym, ap, ◌∙◌, subst, inl, inr, arith}
+use Rattle.std.proofs.Common.{◌≡◌, ℕ, ◌+◌, ◌*◌, ◌/◌, ◌%◌, ◌^◌, ◌<◌, ◌≤◌, Bool, true, false, not, ◌&&◌, ◌||◌, refl, sym, ap, ◌∙◌, subst, inl, inr, arith}
 use Rattle.std.specs.Prelude.{◌==◌, IsTrue}
 use Rattle.std.proofs.Math.Nat.{mul_comm, mul_assoc, mul-add, mul-le-mul_left, mul-add-mod_self_left, mul-add-div, mod-eq_of_lt, mod-lt, div-add-mod, div-lt_iff_lt-mul, mul-mod_right, mul-div_cancel_left, one-mul}
 use Rattle.std.proofs.lemmas.Bool.{eqb-true, eq-eqb, or_cases, and_parts, false≢true}
 use Rattle.cxl_enc.specs.Codes.{is_ways, third_of, bits_of}
-use Rattle.cxl_model.proofs.WeavingWays.{each_ways, some_ways}
+use Rattle.cxl_enc.proofs.Ways.{each_ways, some_ways}
 
 -- ---- remainders by a product
 
@@ -55,13 +55,6 @@ position_parts k x y below =
 -- ways are a power of two, times three or not
 pub ways_are : (w : ℕ) → IsTrue (is_ways w) → 2 ^ bits_of w * third_of w ≡ w
 ways_are w known = each_ways (λ n. 2 ^ bits_of n * third_of n ≡ n) w known refl refl refl refl refl refl refl refl
-
-pub some_third : (w : ℕ) → 0 < third_of w
-some_third w = go (w % 3 == 0)
-  where
-    go : (b : Bool) → 0 < (if b then 3 else 1)
-    go true = omega arith
-    go false = omega arith
 
 -- the ways that a window of three times a power of two leaves to the ports
 abbrev leaves_few : ℕ → ℕ → Bool

@@ -1,51 +1,34 @@
 -- Each slot of a whole range has a span.
-use Rattle.std.proofs.Common.{◌≡◌, ℕ, zero, suc, ◌+◌, ◌/◌, ◌<◌, ◌≤◌, true, false, not, List, [], ◌∷◌, length, get_or, Option, Some, None, refl, sym, ap, ◌∙◌, subst, inl, inr, arith}
+use Rattle.std.proofs.Common.{◌≡◌, ℕ, zero, suc, ◌+◌, ◌/◌, ◌<◌, ◌≤◌, true, false, length, get_or, Option, Some, refl, sym, ap, ◌∙◌, subst, inl, inr, arith}
 use Rattle.std.specs.Prelude.{slice_get, IsSomeAnd}
-use Rattle.std.specs.Option.{option_map_or}
 use Rattle.std.proofs.Math.Nat.{mod-lt}
-use Rattle.std.proofs.lemmas.Bool.{cases_Bool, not_from_false}
-use Rattle.std.proofs.lemmas.Option.{slice_get-get_or, none-some}
+use Rattle.std.proofs.lemmas.Bool.{cases_Bool}
+use Rattle.std.proofs.lemmas.Option.{slice_get-get_or}
 use Rattle.std.proofs.lemmas.List.Sums.{AllPass-from_list_all}
 use Rattle.std.proofs.lemmas.List.FromFn.{get_or-map-range_with_len, length-map-range_with_len}
-use Rattle.cxl_topo.specs.declared.node.Node.{Node}
-use Rattle.cxl_topo.specs.Kinds.{is_endpoint}
-use Rattle.cxl_topo.specs.Tree.{forwards_at, is_port_at, is_endpoint_at, child_of, bridge_with}
+use Rattle.cxl_enc.proofs.Ways.{some_ways}
+use Rattle.cxl_topo.specs.Tree.{forwards_at, is_endpoint_at, child_of, bridge_with}
 use Rattle.cxl_regs.specs.declared.decoder.Decoder.{Decoder}
 use Rattle.cxl_regs.specs.declared.reading.Range.{Range}
 use Rattle.cxl_regs.specs.Reading.{decoder_ways, entries_of, entry_at}
 use Rattle.cxl_span.specs.Spans.{span_start_of}
 use Rattle.cxl_window.specs.Fields.{WindowFields}
+use Rattle.cxl_topo.proofs.Trees.{KnownTree, parent_is_port, inside_port}
+use Rattle.cxl_regs.proofs.DecoderRanges.{decoder_ways_known}
 use Rattle.cxl_model.specs.declared.found.Place.{Place}
 use Rattle.cxl_model.specs.System.{System, IsSystem, decoders_at}
 use Rattle.cxl_model.specs.Ranges.{IsCommittedRange, serves, decoder_for, index_for, window_for}
 use Rattle.cxl_model.specs.Rules.{lands_on, leads_on}
 use Rattle.cxl_model.specs.Accepted.{IsWhole}
 use Rattle.cxl_model.specs.Regions.{target_position, slots_an_entry, LeadsTo, past_forwarding, past_port, at_endpoint, HasSpan}
-use Rattle.cxl_model.proofs.WeavingWays.{some_ways, decoder_ways_known}
-use Rattle.cxl_model.proofs.CountingTrees.{KnownTree, parent_is_port}
-use Rattle.cxl_model.proofs.CountingRules.{RangesRise, ServesAt, served, leads}
-use Rattle.cxl_model.proofs.Counting.{lands_within, lands_below, lands_here, Child, child_at}
-use Rattle.cxl_model.proofs.SpansWindows.{has_window, targets}
+use Rattle.cxl_model.proofs.RangeRules.{RangesRise, ServesAt, served, leads}
+use Rattle.cxl_model.proofs.RangeCounts.{lands_within, lands_below, lands_here, Child, child_at}
+use Rattle.cxl_model.proofs.RangeWindows.{has_window, targets}
 use Rattle.cxl_model.proofs.SpansSlots.{entry_for}
 use Rattle.cxl_model.proofs.SpansApart.{position_below}
 
 pub some_and : {X : Type 0} (o : Option X) (x : X) (P : X → Type 0) → o ≡ Some x → P x → IsSomeAnd o P
 some_and o x P is holds = subst (λ q. IsSomeAnd q P) (sym is) holds
-
-some_at : {X : Type 0} (xs : List X) (i : ℕ) → i < length xs → (x : X) × (slice_get xs i ≡ Some x)
-some_at [] i within = absurd (omega arith)
-some_at (x ∷ xs) zero within = (x, refl)
-some_at (x ∷ xs) (suc i) within = some_at xs i (omega arith)
-
-port_at : (nodes : List Node) (n : ℕ) → n < length nodes → is_endpoint_at nodes n ≡ false → is_port_at nodes n ≡ true
-port_at nodes n within other = go (slice_get nodes n) some other
-  where
-    some : (node : Node) × (slice_get nodes n ≡ Some node)
-    some = some_at nodes n within
-
-    go : (o : Option Node) → (node : Node) × (o ≡ Some node) → option_map_or (λ node. is_endpoint node.kind) o false ≡ false → option_map_or (λ node. not (is_endpoint node.kind)) o false ≡ true
-    go None none is = absurd (none-some none.0 none.1)
-    go (Some node) there is = not_from_false (is_endpoint node.kind) is
 
 pub record Leading (s : System) (w : WindowFields) (r : Range) (slot n : ℕ) : Type 0 where
   pub place : Place
@@ -88,7 +71,7 @@ leading s w r system known whole slot (suc k) n past lands =
                 let rest = leading s w r system known whole slot k child.node (omega (arith, higher)) child.lands in
                 record {
                   place = rest.place;
-                  leads = past_port n child.node rest.place own (port_at s.nodes n (lands_within s r n system lands) port)
+                  leads = past_port n child.node rest.place own (inside_port s.nodes n (lands_within s r n system lands) port)
                       (some_and (decoder_for s r n) at.d (λ (d : Decoder). child_of s.nodes n (entry_at d (entry_for s w r slot n d)) ≡ Some child.node) at.first child.stands) rest.leads;
                 }
           ]

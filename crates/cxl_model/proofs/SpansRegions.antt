@@ -7,6 +7,7 @@ use Rattle.std.proofs.lemmas.List.{same_lists}
 use Rattle.std.proofs.lemmas.List.FromFn.{length-map-range_with_len, get_or-map-range_with_len}
 use Rattle.cxl_topo.specs.Tree.{bridge_with}
 use Rattle.cxl_window.specs.Fields.{WindowFields}
+use Rattle.cxl_topo.proofs.Trees.{KnownTree}
 use Rattle.cxl_model.specs.declared.found.Found.{Found}
 use Rattle.cxl_model.specs.declared.found.Place.{Place}
 use Rattle.cxl_model.specs.System.{System, IsSystem}
@@ -15,8 +16,7 @@ use Rattle.cxl_model.specs.Ranges.{IsCommittedRange, window_for, range_ways, ran
 use Rattle.cxl_model.specs.Accepted.{IsWhole}
 use Rattle.cxl_model.specs.Regions.{target_position, LeadsTo, HasSpan, region_range, IsRegionIn}
 use Rattle.cxl_model.proofs.Outcomes.{one_value}
-use Rattle.cxl_model.proofs.CountingTrees.{KnownTree}
-use Rattle.cxl_model.proofs.CountingRules.{RangesRise, served, in_window}
+use Rattle.cxl_model.proofs.RangeRules.{RangesRise, served, in_window}
 use Rattle.cxl_model.proofs.SpansSlots.{one_place}
 use Rattle.cxl_model.proofs.SpansPlaces.{Spanned, spanned}
 use Rattle.cxl_model.proofs.Spans.{rooting}
@@ -103,9 +103,6 @@ parts s w v r found is range same = record {
   slots = is.slots;
   spans = λ slot place at. subst (λ (q : Range). HasSpan s w q slot place) range (subst (λ (u : WindowFields). HasSpan s u (region_range found) slot place) (sym same) (is.spans slot place at));
 }
-
-no_place : Place
-no_place = record { endpoint = 0; start = 0 }
 
 same_parts : (s : System) (w : WindowFields) (r : Range) (found other : Found) → KnownTree s.nodes → Parts s w r found → Parts s w r other → found ≡ other
 same_parts s w r found other known one two =

@@ -4,12 +4,15 @@ use Rattle.std.specs.Prelude.{slice_get, Contains}
 use Rattle.std.specs.Option.{option_map_or}
 use Rattle.std.proofs.lemmas.Bool.{cases_lt, false≢true}
 use Rattle.std.proofs.lemmas.Option.{slice_get_within, get_or_from_slice_get}
+use Rattle.cxl_enc.proofs.Ways.{some_ways}
 use Rattle.cxl_topo.specs.Tree.{landing_of, bridge_with}
 use Rattle.cxl_regs.specs.declared.decoder.Decoder.{Decoder}
 use Rattle.cxl_regs.specs.declared.reading.Range.{Range}
 use Rattle.cxl_regs.specs.Reading.{span_length, range_of, has_range}
 use Rattle.cxl_span.specs.Spans.{span_start_of, span_end_of}
 use Rattle.cxl_window.specs.Fields.{WindowFields}
+use Rattle.cxl_topo.proofs.Trees.{KnownTree}
+use Rattle.cxl_regs.proofs.DecoderRanges.{has_parts, same_range, range_held}
 use Rattle.cxl_model.specs.declared.found.Found.{Found}
 use Rattle.cxl_model.specs.declared.found.Place.{Place}
 use Rattle.cxl_model.specs.System.{System, IsSystem, decoders_at, decoder_at}
@@ -19,11 +22,8 @@ use Rattle.cxl_model.specs.Accepted.{KeepsBlocks}
 use Rattle.cxl_model.specs.Regions.{region_range, IsRegionIn}
 use Rattle.cxl_model.specs.Bytes.{LiesInSpan, slot_length}
 use Rattle.cxl_model.proofs.Outcomes.{one_value}
-use Rattle.cxl_model.proofs.WeavingWays.{some_ways}
-use Rattle.cxl_model.proofs.WeavingServers.{has_parts, same_range}
-use Rattle.cxl_model.proofs.CountingTrees.{KnownTree}
-use Rattle.cxl_model.proofs.CountingRules.{RangesRise, bytes_at, one_holder, range_held, served}
-use Rattle.cxl_model.proofs.SpansWindows.{HasWindow, has_window, targets}
+use Rattle.cxl_model.proofs.RangeRules.{RangesRise, bytes_at, one_holder, served}
+use Rattle.cxl_model.proofs.RangeWindows.{HasWindow, has_window, targets}
 use Rattle.cxl_model.proofs.SpansRegions.{one_region}
 use Rattle.cxl_model.proofs.SpansKinds.{of_place}
 use Rattle.cxl_model.proofs.Spans.{slot_place}

@@ -4,6 +4,8 @@ use Rattle.std.specs.Prelude.{◌==◌}
 use Rattle.std.proofs.lemmas.Bool.{and_from, or_right, eq-eqb, false≢true}
 use Rattle.std.proofs.lemmas.Option.{slice_get-get_or}
 use Rattle.std.proofs.lemmas.List.Quantifiers.{position-Some}
+use Rattle.std.proofs.lemmas.Map.Keys.{any_passes_from_place}
+use Rattle.cxl_enc.proofs.Options.{some_and}
 use Rattle.cxl_topo.specs.declared.node.Node.{Node}
 use Rattle.cxl_topo.specs.Tree.{forwards_at, is_port_at, is_endpoint_at, child_of, least_child_of}
 use Rattle.cxl_regs.specs.declared.decoder.Decoder.{Decoder}
@@ -12,15 +14,15 @@ use Rattle.cxl_regs.specs.declared.reading.Range.{Range}
 use Rattle.cxl_regs.specs.Reading.{decoder_ways, entry_at, has_range}
 use Rattle.cxl_span.specs.Spans.{span_start_of}
 use Rattle.cxl_window.specs.Fields.{WindowFields}
+use Rattle.cxl_topo.proofs.Trees.{KnownTree, is_above, leaves_at, leaves_above, only_child, forwards_no_endpoint, port_no_endpoint}
 use Rattle.cxl_model.specs.declared.found.Place.{Place}
 use Rattle.cxl_model.specs.System.{System, decoders_at}
 use Rattle.cxl_model.specs.Ranges.{serves, decoder_for, index_for}
 use Rattle.cxl_model.specs.Regions.{slots_an_entry, LeadsSlot, LeadsTo, past_forwarding, past_port, at_endpoint}
 use Rattle.cxl_model.specs.Counts.{is_under, is_endpoint_of}
-use Rattle.cxl_model.proofs.Outcomes.{value_of, one_value}
-use Rattle.cxl_model.proofs.BreachesOfRanges.{passes_one}
-use Rattle.cxl_model.proofs.CountingTrees.{KnownTree, is_above, leaves_at, under_is, leaves_above, under_child, under_only, under_endpoint, only_child, forwards_no_endpoint, port_no_endpoint}
-use Rattle.cxl_model.proofs.CountingRules.{leads}
+use Rattle.cxl_model.proofs.Outcomes.{one_value}
+use Rattle.cxl_model.proofs.RangeRules.{leads}
+use Rattle.cxl_model.proofs.Under.{under_is, under_child, under_only, under_endpoint}
 
 -- ---- one move of a slot
 
@@ -36,7 +38,7 @@ pub record Goes (s : System) (w : WindowFields) (r : Range) (slot n child : ℕ)
 
 pub goes : (s : System) (w : WindowFields) (r : Range) (slot n child : ℕ) → LeadsSlot s w r slot n child → Goes s w r slot n child
 goes s w r slot n child way =
-    let own = value_of (decoder_for s r n) (λ d. child_of s.nodes n (entry_at d (slot / slots_an_entry s w r n % decoder_ways d)) ≡ Some child) way in
+    let own = some_and (decoder_for s r n) (λ d. child_of s.nodes n (entry_at d (slot / slots_an_entry s w r n % decoder_ways d)) ≡ Some child) way in
     record { d = own.0; first = own.1; stands = own.2 }
 
 -- ---- the place
@@ -52,10 +54,10 @@ pub is_place : (s : System) (w : WindowFields) (r : Range) (slot n : ℕ) (place
 is_place s w r slot n place (past_forwarding _ child _ forwards first leads) = is_place s w r slot child place leads
 is_place s w r slot n place (past_port _ child _ own port way leads) = is_place s w r slot child place leads
 is_place s w r slot n place (at_endpoint _ endpoint start) =
-    let at = value_of (index_for s r place.endpoint) (λ (i : ℕ). place.start ≡ span_start_of (decoders_at s place.endpoint) i) start in
+    let at = some_and (index_for s r place.endpoint) (λ (i : ℕ). place.start ≡ span_start_of (decoders_at s place.endpoint) i) start in
     let found = position-Some (has_range r) (decoders_at s place.endpoint) at.0 reset_decoder at.1 in
     let is : serves s r place.endpoint ≡ true =
-    passes_one (has_range r) (decoders_at s place.endpoint) at.0 (get_or (decoders_at s place.endpoint) at.0 reset_decoder) (slice_get-get_or (decoders_at s place.endpoint) at.0 reset_decoder found.0) found.1 in
+    any_passes_from_place (has_range r) (decoders_at s place.endpoint) at.0 (get_or (decoders_at s place.endpoint) at.0 reset_decoder) (slice_get-get_or (decoders_at s place.endpoint) at.0 reset_decoder found.0) found.1 in
     record { endpoint = and_from (is_endpoint_at s.nodes place.endpoint) (serves s r place.endpoint) endpoint is; i = at.0; number = at.1; start = at.2 }
 
 -- ---- the place lies under the node

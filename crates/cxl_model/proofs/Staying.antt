@@ -8,9 +8,12 @@ use Rattle.std.proofs.lemmas.Option.{slice_get_within, slice_get-get_or, get_or_
 use Rattle.std.proofs.lemmas.List.{length-take-le, get_or-take, same_lists}
 use Rattle.std.proofs.lemmas.List.Folds.{list_any_at}
 use Rattle.std.proofs.lemmas.List.Quantifiers.{position-Some}
+use Rattle.std.proofs.lemmas.Map.Keys.{any_passes_from_place}
 use Rattle.cxl_enc.specs.declared.caps.MemKind.{MemKind}
 use Rattle.cxl_enc.specs.declared.caps.MemKind.TheVariants.{Ram, Pmem}
 use Rattle.cxl_enc.specs.Codes.{bits_of}
+use Rattle.cxl_enc.proofs.Tests.{same_test}
+use Rattle.cxl_enc.proofs.Lists.{first_of}
 use Rattle.cxl_topo.specs.declared.node.Node.{Node}
 use Rattle.cxl_topo.specs.declared.node.Parent.{Parent}
 use Rattle.cxl_topo.specs.Kinds.{capacity_of}
@@ -22,6 +25,7 @@ use Rattle.cxl_regs.specs.Reading.{select_bits, decoder_ways, span_length, entri
 use Rattle.cxl_span.specs.Spans.{span_step, span_start_of}
 use Rattle.cxl_span.specs.Partitions.{lies_in}
 use Rattle.cxl_window.specs.Fields.{WindowFields}
+use Rattle.cxl_regs.proofs.DecoderRanges.{has_parts, same_range}
 use Rattle.cxl_model.specs.declared.found.Found.{Found}
 use Rattle.cxl_model.specs.declared.found.Place.{Place}
 use Rattle.cxl_model.specs.System.{System, decoders_at, decoder_at}
@@ -30,10 +34,6 @@ use Rattle.cxl_model.specs.Rules.{starts_in_thirds, permits, keeps_window, are_d
 use Rattle.cxl_model.specs.Accepted.{breaks, breaks_at, KeepsBlocks, IsWhole}
 use Rattle.cxl_model.specs.Regions.{target_position, LeadsTo, past_forwarding, past_port, at_endpoint, HasSpan, region_range, IsRegionIn}
 use Rattle.cxl_model.specs.Changes.{KeepsDecoders, HaveSameDecoders, KeepsOwnDecoders, HaveSameOwnDecoders}
-use Rattle.cxl_model.proofs.BreachesOfRanges.{passes_one}
-use Rattle.cxl_model.proofs.WeavingServers.{has_parts, same_range}
-use Rattle.cxl_model.proofs.CountingTrees.{same_test}
-use Rattle.cxl_model.proofs.CountingRules.{first_of}
 
 -- ---- lists with the same elements that pass
 
@@ -44,12 +44,12 @@ any_kept : {X : Type 0} (d : X) (p q : X → Bool) (xs ys : List X) → KeepsPas
 any_kept d p q xs ys keeps any =
     let some = first_of d (λ x. p x && q x) xs any in
     let at : slice_get ys some.i ≡ Some some.x = keeps some.i some.x some.at (and_parts (p some.x) (q some.x) some.passes).0 in
-    passes_one (λ x. p x && q x) ys some.i some.x at some.passes
+    any_passes_from_place (λ x. p x && q x) ys some.i some.x at some.passes
 
 any_plain : {X : Type 0} (d : X) (p : X → Bool) (xs ys : List X) → KeepsPassing p xs ys → list_any p xs ≡ true → list_any p ys ≡ true
 any_plain d p xs ys keeps any =
     let some = first_of d p xs any in
-    passes_one p ys some.i some.x (keeps some.i some.x some.at some.passes) some.passes
+    any_passes_from_place p ys some.i some.x (keeps some.i some.x some.at some.passes) some.passes
 
 -- the first that passes stands no later in the other list
 not_later : {X : Type 0} (d : X) (p : X → Bool) (xs ys : List X) (i j : ℕ) (x : X) → KeepsPassing p xs ys → slice_get xs i ≡ Some x → p x ≡ true → position p ys ≡ Some j → j ≤ i

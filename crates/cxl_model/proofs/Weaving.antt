@@ -1,12 +1,14 @@
 -- What a region's weave needs: an aligned base, a known code, few ways and usable maps.
-use Rattle.std.proofs.Common.{◌≡◌, ℕ, zero, suc, ◌+◌, ◌-◌, ◌*◌, ◌%◌, ◌^◌, ◌<◌, ◌≤◌, ◌⊎◌, Bool, true, false, ◌&&◌, cond, if◌then◌else◌, List, [], ◌∷◌, length, get_or, Option, Some, None, refl, sym, ap, ◌∙◌, subst, inl, inr, arith}
-use Rattle.std.specs.Prelude.{◌==◌, nat_lt, nat_le, find, IsTrue}
+use Rattle.std.proofs.Common.{◌≡◌, ℕ, zero, suc, ◌+◌, ◌-◌, ◌*◌, ◌%◌, ◌^◌, ◌<◌, ◌≤◌, ◌⊎◌, Bool, true, false, ◌&&◌, if◌then◌else◌, List, [], ◌∷◌, length, get_or, Option, Some, None, refl, sym, ap, ◌∙◌, subst, inl, inr, arith}
+use Rattle.std.specs.Prelude.{◌==◌, nat_lt, nat_le, IsTrue}
 use Rattle.std.specs.Option.{option_map_or}
 use Rattle.std.proofs.Math.Pow.{pow_mono}
 use Rattle.std.proofs.lemmas.Nat.{mul-le}
 use Rattle.std.proofs.lemmas.Bool.{and_parts, eqb-false, ne_eqb, lt-ltb, cases_lt}
-use Rattle.std.proofs.lemmas.Option.{slice_get-get_or, none-some, same_Some}
+use Rattle.std.proofs.lemmas.Option.{slice_get-get_or}
 use Rattle.cxl_enc.specs.Codes.{is_ways, third_of, bits_of}
+use Rattle.cxl_enc.proofs.Ways.{some_ways}
+use Rattle.cxl_enc.proofs.Lists.{find_passes}
 use Rattle.cxl_regs.specs.declared.decoder.Decoder.{Decoder}
 use Rattle.cxl_regs.specs.declared.reading.Range.{Range}
 use Rattle.cxl_regs.specs.Reading.{decoder_ways}
@@ -15,14 +17,15 @@ use Rattle.cxl_window.specs.Position.{is_usable}
 use Rattle.cxl_window.specs.Fields.{WindowFields}
 use Rattle.cxl_num.specs.Maps.{are_usable_maps}
 use Rattle.cxl_num.specs.Interleave.{ways_by}
+use Rattle.cxl_window.proofs.Usable.{usable_is}
+use Rattle.cxl_regs.proofs.DecoderRanges.{decoder_ways_known, has_parts}
 use Rattle.cxl_model.specs.declared.found.Found.{Found}
 use Rattle.cxl_model.specs.declared.found.Place.{Place}
 use Rattle.cxl_model.specs.System.{System, IsSystem}
 use Rattle.cxl_model.specs.Ranges.{lies_within, window_for, ways_above, first_decoder, range_code}
 use Rattle.cxl_model.specs.Regions.{region_range, IsRegionIn}
-use Rattle.cxl_model.proofs.OutcomesWalks.{usable_is}
-use Rattle.cxl_model.proofs.WeavingWays.{some_ways, decoder_ways_known, Divides, divides}
-use Rattle.cxl_model.proofs.WeavingServers.{Reaches, reached, Serves, has_parts, has_ways, base_aligned, gran_known}
+use Rattle.cxl_model.proofs.WeavingWays.{Divides, divides}
+use Rattle.cxl_model.proofs.RangeServers.{Reaches, reached, Serves, has_ways, base_aligned, gran_known}
 
 -- ---- its ways
 
@@ -120,14 +123,6 @@ found_gran_known s w found system is =
     ])
 
 -- ---- its maps
-
-find_passes : {X : Type 0} (p : X → Bool) (xs : List X) (x : X) → find p xs ≡ Some x → p x ≡ true
-find_passes p [] x is = absurd (none-some x is)
-find_passes p (y ∷ ys) x is =
-    elim (p y) as (λ b. p y ≡ b → cond b (Some y) (find p ys) ≡ Some x → p x ≡ true) [
-      | true ↦ λ e at. subst (λ z. p z ≡ true) (same_Some y x at) e
-      | false ↦ λ e at. find_passes p ys x at
-    ] refl is
 
 usable_window : (s : System) (w : WindowFields) (r : Range) → window_for s r ≡ Some w → w.verdict ≡ Usable
 usable_window s w r is =

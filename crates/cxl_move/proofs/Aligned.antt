@@ -1,9 +1,9 @@
 -- The spans of a region begin and end at blocks.
-use Rattle.std.proofs.Common.{◌≡◌, ℕ, zero, suc, ◌+◌, ◌-◌, ◌*◌, ◌%◌, ◌<◌, ◌≤◌, Some, sym, ap, subst, ◌∙◌, inl, inr, arith}
+use Rattle.std.proofs.Common.{◌≡◌, ℕ, ◌+◌, ◌-◌, ◌*◌, ◌%◌, ◌<◌, ◌≤◌, Some, sym, ap, subst, ◌∙◌, inl, inr, arith}
 use Rattle.std.specs.Prelude.{slice_get}
-use Rattle.std.proofs.Math.Nat.{zero-mul}
 use Rattle.std.proofs.lemmas.Bool.{cases_lt}
 use Rattle.std.proofs.lemmas.Option.{same_Some}
+use Rattle.cxl_enc.proofs.Numbers.{some_factor}
 use Rattle.cxl_window.specs.Fields.{WindowFields}
 use Rattle.cxl_model.specs.declared.found.Found.{Found}
 use Rattle.cxl_model.specs.declared.found.Place.{Place}
@@ -11,15 +11,10 @@ use Rattle.cxl_model.specs.Regions.{Carries}
 use Rattle.cxl_model.specs.Bytes.{slot_length, LiesInSpan}
 use Rattle.cxl_move.proofs.PieceLaws.{CarryLaws}
 
--- a slot of a region with bytes has some
-some_share : (len ways size : ℕ) → len * ways ≡ size → 0 < size → 0 < len
-some_share zero ways size is some = let none : zero * ways ≡ 0 = zero-mul ways in absurd (omega (arith, is, none, some))
-some_share (suc len) ways size is some = omega arith
-
 module _ (found : Found) (w : WindowFields) (laws : CarryLaws found w) (apart : (a b : ℕ) (p q : Place) → slice_get found.spans a ≡ Some p → slice_get found.spans b ≡ Some q → p.endpoint ≡ q.endpoint → a ≡ b)
     (shares : slot_length found * found.ways ≡ found.size) (some : 0 < found.size) (slot : ℕ) (place : Place) (there : slice_get found.spans slot ≡ Some place) where
   some_bytes : 0 < slot_length found
-  some_bytes = some_share (slot_length found) found.ways found.size shares some
+  some_bytes = some_factor (slot_length found) found.ways found.size shares some
 
   -- what lies in a span on this endpoint lies in this one
   lies_here : (endpoint dpa : ℕ) → place.endpoint ≡ endpoint → LiesInSpan found endpoint dpa → (place.start ≤ dpa) × (dpa < place.start + slot_length found)

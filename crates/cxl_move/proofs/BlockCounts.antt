@@ -6,6 +6,8 @@ use Rattle.std.specs.FinMap.{nat_cmp-IsAntisymmetric}
 use Rattle.std.specs.Cmp.{nat_cmp_total}
 use Rattle.std.proofs.lemmas.List.Elements.{Contains-append_left, Contains-append_right, Contains-append_cases}
 use Rattle.std.proofs.lemmas.List.Sums.{sum_by-cons}
+use Rattle.cxl_enc.proofs.Lists.{contains_head, contains_tail, contains_cases, contains_none}
+use Rattle.cxl_enc.proofs.Options.{some_of}
 use Rattle.cxl_media.specs.Blocks.{Key, Blocks}
 use Rattle.cxl_media.proofs.Keys.{key_total, key_exact}
 use Rattle.cxl_model.specs.System.{System, IsSystem}
@@ -13,9 +15,9 @@ use Rattle.cxl_model.specs.Regions.{IsRegionIn}
 use Rattle.cxl_model.specs.Contents.{Holding, AreContents, AreMediaOf}
 use Rattle.cxl_move.specs.Sides.{IsPieceAt, AreHeld}
 use Rattle.cxl_move.specs.Holdings.{told_in, AreHoldings}
-use Rattle.cxl_move.proofs.Lists.{contains_head, contains_tail, contains_cases, contains_none, AreApart, rising_apart, picked, length-picked, picked_from, picked_to, apart-picked}
+use Rattle.cxl_move.proofs.Lists.{AreApart, rising_apart, picked, length-picked, picked_from, picked_to, apart-picked}
 use Rattle.cxl_move.proofs.Counts.{len_is, apart-keys, length-keys, keys_to, keys_from}
-use Rattle.cxl_move.proofs.Told.{HoldingLaws, AreTold, some_of, own_region, own_contents}
+use Rattle.cxl_move.proofs.Told.{HoldingLaws, AreTold, own_region, own_contents}
 use Rattle.cxl_move.proofs.Changed.{apart_from}
 use Rattle.cxl_move.proofs.CarriedOver.{AreHoldings-tail}
 

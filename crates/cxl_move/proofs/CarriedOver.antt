@@ -2,6 +2,7 @@
 use Rattle.std.proofs.Common.{◌≡◌, ℕ, suc, ◌*◌, ◌/◌, ◌<◌, List, ◌∷◌, Option, sym, ap, subst, ◌∙◌, inl, inr, arith}
 use Rattle.std.specs.Prelude.{Contains}
 use Rattle.std.specs.FinMap as map
+use Rattle.cxl_enc.proofs.Lists.{contains_head, contains_tail, contains_cases}
 use Rattle.cxl_media.specs.Blocks.{Blocks}
 use Rattle.cxl_model.specs.System.{System}
 use Rattle.cxl_model.specs.Regions.{IsRegionIn}
@@ -9,7 +10,6 @@ use Rattle.cxl_model.specs.Bytes.{LiesInSpan}
 use Rattle.cxl_model.specs.Contents.{Contents, Holding}
 use Rattle.cxl_move.specs.Sides.{IsPieceAt, IsCarriedOver}
 use Rattle.cxl_move.specs.Holdings.{told_in, AreHoldings}
-use Rattle.cxl_move.proofs.Lists.{contains_head, contains_tail, contains_cases}
 use Rattle.cxl_move.proofs.Told.{HoldingLaws, AreTold, AreRegionsOf, own_region, regions_with}
 use Rattle.cxl_move.proofs.Changed.{apart_from}
 

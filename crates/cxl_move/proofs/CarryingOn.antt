@@ -1,13 +1,15 @@
 -- The pieces of a region are carried over to another, one after the other.
-use Rattle.std.proofs.Common.{◌≡◌, ◌≢◌, ℕ, zero, suc, ◌+◌, ◌*◌, ◌/◌, ◌<◌, ◌≤◌, ◌||◌, Bool, true, false, cond, eqb, List, [], ◌∷◌, ◌++◌, length, get_or, take, Option, None, is_some, refl, sym, ap, subst, ◌∙◌, inl, inr, arith}
+use Rattle.std.proofs.Common.{◌≡◌, ◌≢◌, ℕ, zero, suc, ◌+◌, ◌*◌, ◌/◌, ◌<◌, ◌≤◌, ◌||◌, true, false, cond, eqb, List, [], ◌∷◌, ◌++◌, length, get_or, take, Option, None, is_some, refl, sym, ap, subst, ◌∙◌, inl, inr, arith}
 use Rattle.std.specs.Prelude.{Contains}
-use Rattle.std.specs.List.{list_any}
 use Rattle.std.specs.List.Sorted.{IsStrictlySortedBy}
 use Rattle.std.specs.Ordering.{nat_cmp}
 use Rattle.std.specs.FinMap as map
-use Rattle.std.proofs.lemmas.Bool.{cases_Bool, cases_eq, cond-true, cond-false, or_left, or_right, or_from, eq-eqb, ne_eqb, eqb-true, or_cases, false≢true}
+use Rattle.std.proofs.lemmas.Bool.{cases_Bool, cases_eq, cond-true, cond-false, or_right, or_from, eq-eqb, ne_eqb, false≢true}
 use Rattle.std.proofs.lemmas.List.{take_all}
 use Rattle.std.proofs.lemmas.Map.Keys.{sorted_from_strictly_increasing, below_from_sorted, sorted_tail}
+use Rattle.cxl_enc.proofs.Lists.{is_in, in_from}
+use Rattle.cxl_enc.proofs.Tests.{or_false}
+use Rattle.cxl_enc.proofs.Options.{none_where}
 use Rattle.cxl_window.specs.Fields.{WindowFields}
 use Rattle.cxl_media.specs.Blocks.{Key, Blocks}
 use Rattle.cxl_media.proofs.Keys.{key_total, key_exact}
@@ -15,39 +17,19 @@ use Rattle.cxl_model.specs.declared.found.Found.{Found}
 use Rattle.cxl_model.specs.Bytes.{LiesInSpan}
 use Rattle.cxl_move.specs.Sides.{IsPieceAt, HasPiece, AreHeld, IsCleared, AreSides, IsCarriedOver}
 use Rattle.cxl_move.specs.inner.Steps.{IsPieceCarried}
-use Rattle.cxl_move.proofs.Lists.{contains_head, contains_tail, contains_cases, contains_none, AreApart, rising_apart, picked, length-picked, picked_from, picked_to, apart-picked}
+use Rattle.cxl_move.proofs.Lists.{AreApart, rising_apart, picked, length-picked, picked_from, picked_to, apart-picked}
 use Rattle.cxl_move.proofs.Counts.{IsWithout, len_without}
 use Rattle.cxl_move.proofs.Clearing.{any-append}
 use Rattle.cxl_move.proofs.Spans.{lies_cases}
-use Rattle.cxl_move.proofs.Told.{PieceLaws, none_unless}
-
--- the number stands in the list
-abbrev pub is_in : ℕ → List ℕ → Bool
-is_in n ns = list_any (eqb n) ns
-
-in_from : (ns : List ℕ) (n : ℕ) → Contains ns n → is_in n ns ≡ true
-in_from [] n there = absurd (contains_none n there)
-in_from (m ∷ ms) n there =
-    elim (contains_cases m n ms there) [
-      | inl is ↦ or_left (eqb n m) (is_in n ms) (eq-eqb n m (sym is))
-      | inr later ↦ or_right (eqb n m) (is_in n ms) (in_from ms n later)
-    ]
-
-pub in_to : (ns : List ℕ) (n : ℕ) → is_in n ns ≡ true → Contains ns n
-in_to [] n is = absurd (false≢true is)
-in_to (m ∷ ms) n is =
-    elim (or_cases (eqb n m) (is_in n ms) is) [
-      | inl here ↦ subst (Contains (m ∷ ms)) (sym (eqb-true n m here)) (contains_head m ms)
-      | inr later ↦ contains_tail m n ms (in_to ms n later)
-    ]
+use Rattle.cxl_move.proofs.Told.{PieceLaws}
 
 -- a number of a rising list does not stand before its place
 not_before : (ns : List ℕ) (i : ℕ) → IsStrictlySortedBy nat_cmp ns → i < length ns → is_in (get_or ns i 0) (take i ns) ≡ false
 not_before [] i sorted within = absurd (omega arith)
 not_before (n ∷ ns) zero sorted within = refl
 not_before (n ∷ ns) (suc i) sorted within =
-    or_from (eqb (get_or ns i 0) n) (is_in (get_or ns i 0) (take i ns))
-    (ne_eqb (get_or ns i 0) n (λ same. let below : n < get_or ns i 0 = below_from_sorted (n ∷ ns) 0 (suc i) 0 sorted (omega arith) (omega arith) in omega (arith, below, same)))
+    or_from (eqb n (get_or ns i 0)) (is_in (get_or ns i 0) (take i ns))
+    (ne_eqb n (get_or ns i 0) (λ same. let below : n < get_or ns i 0 = below_from_sorted (n ∷ ns) 0 (suc i) 0 sorted (omega arith) (omega arith) in omega (arith, below, same)))
     (not_before ns i (sorted_tail nat_cmp n ns sorted) (omega arith))
 
 -- these pieces are carried over, and the second region has no other
@@ -86,18 +68,14 @@ module _ (laws : PieceLaws) (rest : Option (List ℕ) → Option (List ℕ)) (fr
     pub target_free : map.get mid target ≡ None
     target_free = before.second p target.0 target.1 source.0 source.1 goal own ∙ cond-false _ (map.get old source) None fresh
 
-    in_more : (n : ℕ) → is_in n (done ++ p ∷ []) ≡ (is_in n done || eqb n p)
-    in_more n = any-append (eqb n) done p
+    in_more : (n : ℕ) → is_in n (done ++ p ∷ []) ≡ (is_in n done || eqb p n)
+    in_more n = any-append (λ m. eqb m n) done p
 
     now_in : (n : ℕ) → n ≡ p → is_in n (done ++ p ∷ []) ≡ true
-    now_in n is = in_more n ∙ or_right (is_in n done) (eqb n p) (eq-eqb n p is)
+    now_in n is = in_more n ∙ or_right (is_in n done) (eqb p n) (eq-eqb p n (sym is))
 
     in_still : (n : ℕ) → n ≢ p → is_in n (done ++ p ∷ []) ≡ is_in n done
-    in_still n other = in_more n ∙ ap (λ b. is_in n done || b) (ne_eqb n p other) ∙ or_false (is_in n done)
-      where
-        or_false : (b : Bool) → (b || false) ≡ b
-        or_false true = refl
-        or_false false = refl
+    in_still n other = in_more n ∙ ap (λ b. is_in n done || b) (ne_eqb p n (λ same. other (sym same))) ∙ or_false (is_in n done)
 
     pub carried_more : IsPieceCarried rest source target mid new → AreCarried rest from v to w (done ++ p ∷ []) old new
     carried_more step = record {
@@ -162,7 +140,7 @@ module _ (laws : PieceLaws) (rest : Option (List ℕ) → Option (List ℕ)) (fr
 
       was_none : (n source place : ℕ) → IsPieceAt from v n source place → is_in n pieces ≡ false → map.get old (source, place) ≡ None
       was_none n source place own not =
-          none_unless (map.get old (source, place)) (λ bytes is.
+          none_where (map.get old (source, place)) (λ bytes is.
           false≢true (sym not ∙ in_from pieces n ((held.exact n).1 (record { endpoint = source; block = place; at = own; there = ap is_some is }))))
 
   -- the piece at a place of the list
@@ -225,7 +203,7 @@ module _ (laws : PieceLaws) (rest : Option (List ℕ) → Option (List ℕ)) (fr
             | inl lies ↦
                 let piece = laws.onto sides.s w to key.0 key.1 sides.system sides.second lies in
                 cleared.gone key.0 key.1 lies
-                ∙ sym (none_unless (map.get old key) (λ bytes is.
+                ∙ sym (none_where (map.get old key) (λ bytes is.
                 not (picked_to At one_key others tells piece.0 key ((held.exact piece.0).1 (record { endpoint = key.0; block = key.1; at = piece.1; there = ap is_some is })) piece.1)))
           ];
     }

@@ -7,6 +7,7 @@ use Rattle.std.specs.Cmp.{nat_cmp_total, eq_by_cmp_equiv, Equal-is}
 use Rattle.std.proofs.lemmas.Map.Lookups.{exact_unsigned}
 use Rattle.std.proofs.lemmas.Bool.{cases_eq, cond-true, cond-false, false_from_ne_true}
 use Rattle.std.proofs.lemmas.Option.{none-some}
+use Rattle.cxl_enc.proofs.Lists.{contains_head, contains_tail, contains_cases}
 use Rattle.cxl_media.specs.Blocks.{Key, Blocks}
 use Rattle.cxl_media.proofs.Keys.{key_total, key_is, key_is_not}
 use Rattle.cxl_model.specs.System.{System}
@@ -14,7 +15,6 @@ use Rattle.cxl_model.specs.Bytes.{LiesInSpan}
 use Rattle.cxl_model.specs.Contents.{Contents, Holding, AreMediaOf}
 use Rattle.cxl_move.specs.Sides.{IsPieceAt, IsCleared}
 use Rattle.cxl_move.specs.Holdings.{told_in, AreHoldings}
-use Rattle.cxl_move.proofs.Lists.{contains_head, contains_tail, contains_cases}
 use Rattle.cxl_move.proofs.Spans.{lies_cases}
 use Rattle.cxl_move.proofs.Told.{HoldingLaws, AreTold, own_region}
 

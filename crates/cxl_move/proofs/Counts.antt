@@ -10,7 +10,8 @@ use Rattle.std.specs.FinMap.{FinMap, IsAntisymmetric}
 use Rattle.std.specs.FinMap.Entries.{below_all, is_sorted}
 use Rattle.std.proofs.lemmas.Bool.{false≢true, cases_Bool, cond-true, cond-false, or_cases, or_left, or_right}
 use Rattle.std.proofs.lemmas.List.{length-map}
-use Rattle.cxl_move.proofs.Lists.{contains_head, contains_tail, contains_cases, contains_none, AreApart}
+use Rattle.cxl_enc.proofs.Lists.{contains_head, contains_tail, contains_cases, contains_none}
+use Rattle.cxl_move.proofs.Lists.{AreApart}
 
 positive : (n : ℕ) → (n ≡ 0 → ⊥) → 0 < n
 positive zero none = absurd (none refl)

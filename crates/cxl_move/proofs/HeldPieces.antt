@@ -1,24 +1,24 @@
 -- The pieces of a region, by going through the places of media.
-use Rattle.std.proofs.Common.{◌≡◌, ℕ, ◌+◌, ◌<◌, ◌≤◌, eqb, List, [], ◌∷◌, ◌++◌, length, Option, Some, None, sym, ap, subst, ◌∙◌, inl, inr, arith}
+use Rattle.std.proofs.Common.{◌≡◌, ℕ, ◌+◌, ◌<◌, ◌≤◌, ◌==◌, true, eqb, List, [], ◌∷◌, ◌++◌, length, get_or, Option, Some, None, sym, ap, subst, ◌∙◌, inl, inr, arith}
 use Rattle.std.specs.Prelude.{Contains}
 use Rattle.std.specs.List.{IsDistinct, list_any}
 use Rattle.std.specs.List.Sorted.{IsPermutation, IsSorted}
 use Rattle.std.specs.Ordering.{nat_cmp}
-use Rattle.std.proofs.lemmas.Bool.{cases_lt, false_from_ne_true}
+use Rattle.std.proofs.lemmas.Bool.{cases_lt, eq-eqb, eqb-true, false_from_ne_true}
 use Rattle.std.specs.Cmp.{nat_eq_equiv}
 use Rattle.std.proofs.lemmas.List.{get_or_past}
+use Rattle.std.proofs.lemmas.List.Folds.{Any-from_list_any, list_any_at}
 use Rattle.std.proofs.lemmas.List.Elements.{Contains-push, Contains-push_cases, Contains-append_left}
 use Rattle.std.proofs.lemmas.List.Sorted.{IsNonDecreasingBy-from_sort, IsPermutation-sym, Contains-permutation}
 use Rattle.std.proofs.lemmas.Map.Keys.{IsDistinct-push, IsDistinct-from_apart, IsDistinct-IsPermutation, IsStrictlyIncreasing-from_distinct}
 use Rattle.std.proofs.lemmas.Option.{none-some, same_Some}
+use Rattle.cxl_enc.proofs.Lists.{contains_none, in_is}
 use Rattle.cxl_window.specs.Fields.{WindowFields}
 use Rattle.cxl_media.specs.Blocks.{Key, Blocks}
 use Rattle.cxl_media.specs.Roll.{key_at_place, IsRoll}
 use Rattle.cxl_model.specs.declared.found.Found.{Found}
 use Rattle.cxl_move.specs.Sides.{IsPieceAt, AreHeld}
 use Rattle.cxl_move.specs.inner.Steps.{HasPieceAt}
-use Rattle.cxl_move.proofs.Lists.{contains_none}
-use Rattle.cxl_move.proofs.CarryingOn.{in_to}
 
 -- what the laws of pieces say of one region
 pub record OneToOne (found : Found) (w : WindowFields) : Type 0 where
@@ -55,6 +55,12 @@ module _ (found : Found) (w : WindowFields) (roll : List (Option Key)) where
     distinct = before.distinct;
   }
 
+  -- a number that one of them equals
+  equal_is : (ns : List ℕ) (n : ℕ) → list_any (eqb n) ns ≡ true → Contains ns n
+  equal_is ns n any =
+      let some = Any-from_list_any (eqb n) ns any in
+      in_is ns n (list_any_at (λ m. m == n) ns some.0 some.1 some.2 (eq-eqb (get_or ns some.0 some.1) n (some.3 ∙ sym (eqb-true n some.1 some.4))))
+
   -- a piece more
   pub listed_more : (blocks : Blocks) → IsRoll roll blocks → OneToOne found w → (i : ℕ) (pieces : List ℕ) (n : ℕ) → AreListed found w roll i pieces → HasPieceAt found w (key_at_place roll i) n → AreListed found w roll (i + 1) (pieces ++ n ∷ [])
   listed_more blocks is_roll laws i pieces n before has = record {
@@ -74,7 +80,7 @@ module _ (found : Found) (w : WindowFields) (roll : List (Option Key)) where
         ];
     distinct =
         IsDistinct-push nat_eq_equiv pieces n before.distinct (false_from_ne_true (list_any (eqb n) pieces) (λ any.
-        let there = in_to pieces n any in
+        let there = equal_is pieces n any in
         let place = before.each n there in
         let same = laws.one n place.key.0 place.key.1 has.key.0 has.key.1 place.at has.at in
         let key_is : place.key ≡ has.key = λ k. (same.0 k, same.1 k) in

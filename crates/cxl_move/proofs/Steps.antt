@@ -5,12 +5,12 @@ use Rattle.std.specs.FinMap as map
 use Rattle.std.proofs.lemmas.Bool.{and_parts, and_from, eq-eqb, le-leb, lt-ltb, eqb-true, leb-true, ltb-true, false_from_ne_true}
 use Rattle.std.proofs.lemmas.List.{take_all, drop_all, append-nil}
 use Rattle.std.proofs.lemmas.Option.{none-some}
+use Rattle.cxl_enc.proofs.Lists.{contains_head, contains_cases, contains_none}
+use Rattle.cxl_enc.proofs.Options.{some_of}
 use Rattle.cxl_media.specs.Blocks.{Key, Blocks, key_of, block_at, frames_needed, bytes_from, overwritten, is_between, scrubbed}
 use Rattle.cxl_media.proofs.Keys.{key_total, key_exact}
 use Rattle.cxl_move.specs.inner.Steps.{IsPieceCarried}
-use Rattle.cxl_move.proofs.Lists.{contains_head, contains_cases, contains_none}
 use Rattle.cxl_move.proofs.Counts.{len_without}
-use Rattle.cxl_move.proofs.Told.{some_of}
 use Rattle.cxl_move.proofs.Changed.{insert_same, insert_other}
 
 unwrapped : (o : Option (List ℕ)) (z bytes : List ℕ) → o ≡ Some bytes → unwrap_or o z ≡ bytes

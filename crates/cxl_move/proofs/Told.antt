@@ -1,10 +1,12 @@
 -- What media tells of each block, by the regions whose pieces are carried there.
-use Rattle.std.proofs.Common.{◌≡◌, ℕ, ◌*◌, ◌/◌, ◌<◌, ◌⊎◌, true, List, [], ◌∷◌, get_or, Option, None, Some, is_some, refl, sym, ap, subst, ◌∙◌, inl, inr}
+use Rattle.std.proofs.Common.{◌≡◌, ℕ, ◌*◌, ◌/◌, ◌<◌, ◌⊎◌, List, [], ◌∷◌, get_or, Option, None, Some, refl, sym, ap, subst, ◌∙◌, inl, inr}
 use Rattle.std.specs.Prelude.{◌↔◌, Contains}
 use Rattle.std.specs.FinMap as map
 use Rattle.std.proofs.lemmas.Bool.{cases_order}
 use Rattle.std.proofs.lemmas.List.{get_or_default}
 use Rattle.std.proofs.lemmas.List.Elements.{All-contains}
+use Rattle.cxl_enc.proofs.Lists.{contains_head, contains_tail, contains_cases, contains_none}
+use Rattle.cxl_enc.proofs.Options.{none_where}
 use Rattle.cxl_window.specs.Fields.{WindowFields}
 use Rattle.cxl_model.specs.declared.found.Found.{Found}
 use Rattle.cxl_model.specs.System.{System, IsSystem}
@@ -13,7 +15,6 @@ use Rattle.cxl_model.specs.Bytes.{LiesInSpan}
 use Rattle.cxl_model.specs.Contents.{Contents, Holding, AreContents, AreMediaOf}
 use Rattle.cxl_move.specs.Sides.{IsPieceAt}
 use Rattle.cxl_move.specs.Holdings.{AreHoldings}
-use Rattle.cxl_move.proofs.Lists.{contains_head, contains_tail, contains_cases, contains_none}
 use Rattle.cxl_move.proofs.Spans.{lies_cases}
 
 -- the laws of pieces
@@ -41,14 +42,6 @@ pub record AreTold (holdings : List Holding) (told : Telling) : Type 0 where
   pub none : (endpoint block : ℕ) → ((one : Holding) → Contains holdings one → LiesInSpan one.found endpoint (256 * block) → ⊥) → told endpoint block ≡ None
 
 -- ---- elements of holdings
-
-pub none_unless : {X : Type 0} (o : Option X) → ((x : X) → o ≡ Some x → ⊥) → o ≡ None
-none_unless None not = refl
-none_unless (Some x) not = absurd (not x refl)
-
-pub some_of : {X : Type 0} (o : Option X) → is_some o ≡ true → (x : X) × (o ≡ Some x)
-some_of None there = cc
-some_of (Some x) there = (x, refl)
 
 module _ (s : System) (holdings : List Holding) (are : AreHoldings s holdings) where
   pub own_region : (one : Holding) → Contains holdings one → IsRegionIn s one.window one.found
@@ -101,7 +94,7 @@ module _ (laws : HoldingLaws) (s : System) (holdings : List Holding) (told : Tel
   told_from_media are media = record {
     each = λ one n endpoint block there at. told_piece one n endpoint block there at (map.get one.contents n) refl;
     none = λ endpoint block beside.
-        none_unless (told endpoint block) (λ bytes is.
+        none_where (told endpoint block) (λ bytes is.
         let held = media.only endpoint block bytes is in
         beside held.0 held.2 (laws.pieces.inside s held.0.window held.0.found held.1 endpoint block are.system (own_region s holdings are held.0 held.2) held.3.carried));
   }
@@ -109,7 +102,7 @@ module _ (laws : HoldingLaws) (s : System) (holdings : List Holding) (told : Tel
       told_piece : (one : Holding) (n endpoint block : ℕ) → Contains holdings one → IsPieceAt one.found one.window n endpoint block → (piece : Option (List ℕ)) → map.get one.contents n ≡ piece → told endpoint block ≡ piece
       told_piece one n endpoint block there at (Some bytes) is = media.each one n endpoint block bytes there (record { piece = is; carried = at })
       told_piece one n endpoint block there at None is =
-          none_unless (told endpoint block) (λ bytes told_is.
+          none_where (told endpoint block) (λ bytes told_is.
           let held = media.only endpoint block bytes told_is in
           let other : Holding = held.0 in
           let region = own_region s holdings are one there in

@@ -1,48 +1,14 @@
 -- The children of a node, and what stands under each of them.
-use Rattle.std.proofs.Common.{◌≡◌, ℕ, ◌≤◌, ◌⊎◌, true, List, Some, refl, sym, ap, ◌∙◌, subst, inl, inr, arith}
+use Rattle.std.proofs.Common.{◌≡◌, ℕ, ◌⊎◌, true, List, Some, sym, ap, ◌∙◌, inl, inr, arith}
 use Rattle.std.specs.Prelude.{◌==◌}
-use Rattle.std.proofs.lemmas.Bool.{or_cases, or_left, or_right, eqb-true, eq-eqb}
+use Rattle.std.proofs.lemmas.Bool.{or_cases, or_right, eqb-true}
 use Rattle.std.proofs.lemmas.Option.{none-some, same_Some}
 use Rattle.cxl_topo.specs.declared.node.Node.{Node}
 use Rattle.cxl_topo.specs.declared.node.Parent.{Parent}
 use Rattle.cxl_topo.specs.Tree.{parent_of}
+use Rattle.cxl_topo.proofs.Trees.{KnownTree, up_tree, parent_is_port}
 use Rattle.cxl_model.specs.Counts.{is_under}
-use Rattle.cxl_pick.proofs.Trees.{KnownTree, up_tree, under_root, under_step, parent_is_port}
-
-pub under_self : {nodes : List Node} → KnownTree nodes → (n : ℕ) → is_under nodes n n ≡ true
-under_self {nodes} known =
-    up_tree known (λ n. is_under nodes n n ≡ true)
-    (λ n none. under_root known n n none ∙ eq-eqb n n refl)
-    (λ n p some rest. under_step known n n p some ∙ or_left (n == n) (is_under nodes n p.node) (eq-eqb n n refl))
-
--- a node has no greater number than what stands under it
-pub under_later : {nodes : List Node} → KnownTree nodes → (n i : ℕ) → is_under nodes n i ≡ true → n ≤ i
-under_later {nodes} known n =
-    up_tree known (λ i. is_under nodes n i ≡ true → n ≤ i)
-    (λ i none under. let same = eqb-true i n (sym (under_root known n i none) ∙ under) in omega (arith, same))
-    (λ i p some rest under.
-    let lower = (parent_is_port known i p some).0 in
-    elim (or_cases (i == n) (is_under nodes n p.node) (sym (under_step known n i p some) ∙ under)) [
-      | inl here ↦ let same = eqb-true i n here in omega (arith, same)
-      | inr higher ↦ let before = rest higher in omega (arith, before, lower)
-    ])
-
--- what stands under a child stands under its parent
-pub under_parent : {nodes : List Node} → KnownTree nodes → (c : ℕ) (q : Parent) → parent_of nodes c ≡ Some q → (i : ℕ) → is_under nodes c i ≡ true → is_under nodes q.node i ≡ true
-under_parent {nodes} known c q child =
-    up_tree known (λ i. is_under nodes c i ≡ true → is_under nodes q.node i ≡ true)
-    (λ i none under.
-    let same = eqb-true i c (sym (under_root known c i none) ∙ under) in
-    absurd (none-some q (sym none ∙ ap (parent_of nodes) same ∙ child)))
-    (λ i p some rest under.
-    under_step known q.node i p some ∙ or_right (i == q.node) (is_under nodes q.node p.node)
-    (elim (or_cases (i == c) (is_under nodes c p.node) (sym (under_step known c i p some) ∙ under)) [
-      | inl here ↦
-          let same = eqb-true i c here in
-          let one : p ≡ q = same_Some p q (sym some ∙ ap (parent_of nodes) same ∙ child) in
-          subst (λ (x : Parent). is_under nodes q.node x.node ≡ true) (sym one) (under_self known q.node)
-      | inr higher ↦ rest higher
-    ]))
+use Rattle.cxl_model.proofs.Under.{under_root, under_step, under_self, under_later}
 
 -- the child of a node at a port, under which node i stands
 pub record WayDown (nodes : List Node) (n i : ℕ) : Type 0 where

@@ -8,6 +8,7 @@ use Rattle.cxl_enc.specs.Caps.{is_target_count}
 use Rattle.cxl_topo.specs.declared.node.Parent.{Parent}
 use Rattle.cxl_topo.specs.Tree.{is_endpoint_at, is_port_at, parent_of, ports_above}
 use Rattle.cxl_window.specs.Fields.{WindowFields}
+use Rattle.cxl_topo.proofs.Trees.{up_tree, ports_none, ports_some, port_no_endpoint, parent_is_port}
 use Rattle.cxl_model.specs.declared.request.Request.{Request}
 use Rattle.cxl_model.specs.System.{System}
 use Rattle.cxl_model.specs.Ranges.{product}
@@ -15,7 +16,6 @@ use Rattle.cxl_model.specs.Plans.{plan_code}
 use Rattle.cxl_legal.specs.Used.{request_ways, is_used, count_under, used_ports, planned_ways, planned_ways_above, planned_bits_above, planned_code}
 use Rattle.cxl_pick.specs.declared.want.Want.{Want}
 use Rattle.cxl_pick.specs.Picking.{asked, port_code}
-use Rattle.cxl_pick.proofs.Trees.{up_tree, ports_none, ports_some, port_no_endpoint, parent_is_port}
 use Rattle.cxl_pick.proofs.Shares.{Asked, used_parent}
 use Rattle.cxl_pick.proofs.Numbers.{count_split, exponent_is}
 

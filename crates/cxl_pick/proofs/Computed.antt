@@ -6,6 +6,7 @@ use Rattle.std.specs.Result.{is_err}
 use Rattle.std.proofs.lemmas.Bool.{cases_Bool, cases_eq, cond-true, cond-false, eq-eqb, ne_eqb, false≢true}
 use Rattle.std.proofs.lemmas.Option.{none-some, same_Some}
 use Rattle.cxl_enc.specs.Codes.{is_ways}
+use Rattle.cxl_enc.proofs.Lists.{is_in, in_from, in_is}
 use Rattle.cxl_topo.specs.Laws.{AreTreeLaws}
 use Rattle.cxl_window.specs.Fields.{WindowFields}
 use Rattle.cxl_model.specs.System.{System, IsSystem}
@@ -18,7 +19,6 @@ use Rattle.cxl_pick.specs.declared.fault.PickFault.TheVariants as faults
 use Rattle.cxl_pick.specs.Picking.{asked, given_in, AreInOrder, IsPicked, IsWantedSize, TellsPickFault}
 use Rattle.cxl_pick.specs.Picked.{in_rising_order, set_or_none, picked}
 use Rattle.cxl_legal.proofs.SizeTests.{size_holds, size_passes}
-use Rattle.cxl_pick.proofs.Lists.{is_in, in_from, in_is}
 use Rattle.cxl_pick.proofs.Givings.{are_in_order}
 use Rattle.cxl_pick.proofs.Parts.{OfWindow, Picked, in_window, named}
 use Rattle.cxl_pick.proofs.Picks.{given_low, window_there}

@@ -10,37 +10,30 @@ use Rattle.std.proofs.lemmas.List.Folds.{Any-from_list_any, list_any_at}
 use Rattle.std.proofs.lemmas.List.Sums.{AllPass-from_list_all}
 use Rattle.std.proofs.lemmas.List.FromFn.{length-range_with_len, get_or-range_with_len}
 use Rattle.cxl_enc.specs.Caps.{targets_of, is_target_count}
+use Rattle.cxl_enc.proofs.Lists.{list_any-weaker, is_in}
+use Rattle.cxl_enc.proofs.Numbers.{is_number}
+use Rattle.cxl_enc.proofs.Tests.{asked_or}
 use Rattle.cxl_topo.specs.declared.node.Parent.{Parent}
 use Rattle.cxl_topo.specs.Tree.{is_bridge_at, is_endpoint_at, is_port_at, uid_at, parent_of, child_of, bridge_with}
 use Rattle.cxl_topo.specs.Laws.{AreTreeLaws}
-use Rattle.cxl_window.specs.declared.window.Verdict.{Verdict}
-use Rattle.cxl_window.specs.declared.window.Verdict.TheVariants.{Usable, Align, Size, TooHigh, Overlap, Target, Repeat, Maps}
 use Rattle.cxl_window.specs.Fields.{WindowFields, IsWindow, IsUsable}
 use Rattle.cxl_window.specs.Position.{is_usable}
+use Rattle.cxl_window.proofs.Usable.{usable_is}
+use Rattle.cxl_topo.proofs.Trees.{KnownTree, parent_is_port, port_no_endpoint, endpoint_within}
 use Rattle.cxl_model.specs.declared.request.Request.{Request}
 use Rattle.cxl_model.specs.System.{System, IsSystem}
 use Rattle.cxl_model.specs.Counts.{is_under}
+use Rattle.cxl_model.proofs.Under.{under_later}
+use Rattle.cxl_model.proofs.Distinct.{distinct_test}
+use Rattle.cxl_model.proofs.Sums.{total_same_each}
 use Rattle.cxl_legal.specs.Used.{request_ways, is_used, count_under, is_port_used, used_ports, count_at_port}
 use Rattle.cxl_legal.specs.Endpoints.{cap_at, has_even_ports, has_even_children, first_bridge, has_bridge_share}
 use Rattle.cxl_legal.specs.Windows.{is_used_bridge, is_target}
 use Rattle.cxl_legal.specs.Stated.{Fits}
-use Rattle.cxl_pick.proofs.Sums.{list_any-weaker}
-use Rattle.cxl_pick.proofs.Trees.{KnownTree, parent_is_port, port_no_endpoint}
-use Rattle.cxl_pick.proofs.Below.{under_later}
-use Rattle.cxl_pick.proofs.Lists.{is_in, is_number, in_passes, kept_in, distinct_test, found}
-use Rattle.cxl_pick.proofs.Shares.{Asked, used_parent, endpoint_within, even_shares, total_same_each}
+use Rattle.cxl_pick.proofs.Lists.{in_passes, kept_in, found}
+use Rattle.cxl_pick.proofs.Shares.{Asked, used_parent, even_shares}
 use Rattle.cxl_pick.proofs.Tops.{top_of, top_bridge, bridge_port, is_below, bridge_of, count_at_target, target_shares}
 use Rattle.cxl_pick.proofs.Codes.{LieEvenly}
-
-pub usable_is : (verdict : Verdict) → is_usable verdict ≡ true → verdict ≡ Usable
-usable_is Usable h = refl
-usable_is Align h = cc
-usable_is Size h = cc
-usable_is TooHigh h = cc
-usable_is (Overlap i) h = cc
-usable_is (Target u) h = cc
-usable_is (Repeat u) h = cc
-usable_is Maps h = cc
 
 -- a window of a system
 pub record Windowed (w : WindowFields) : Type 0 where
@@ -123,10 +116,6 @@ number_passes p n k all within =
     let at : get_or (range_with_len 0 n) k 0 ≡ k = get_or-range_with_len 0 n k 0 within ∙ omega arith in
     ap p (sym at) ∙ AllPass-from_list_all p (range_with_len 0 n) all k 0 (omega (arith, long, within))
 
-pub told : (a b : Bool) → (not a || b) ≡ true → a ≡ true → b ≡ true
-told true b is first = is
-told false b is first = absurd (false≢true first)
-
 under_target : {s : System} {request : Request} {w : WindowFields} {base : ℕ} → AreTreeLaws s.nodes → Fits s request w base
     → All (λ i. list_any (λ uid. is_below s.nodes uid i) w.targets ≡ true) request.endpoints
 under_target {s} {request} {w} {base} laws fits = λ k d within. each (get_or request.endpoints k d) (fits.named k d within) (used k d within)
@@ -146,7 +135,7 @@ under_target {s} {request} {w} {base} laws fits = λ k d within. each (get_or re
         let within : top.node < length s.nodes = omega (arith, low, high) in
         let bridge = top_bridge is.known top.node top.none within in
         let parts = and_parts (list_all (is_used_bridge s request) w.targets) (list_all (λ n. not (is_bridge_at s.nodes n && is_used s request n) || is_target s w n) (range_with_len 0 (length s.nodes))) fits.window.bridges in
-        let targeted = told (is_bridge_at s.nodes top.node && is_used s request top.node) (is_target s w top.node)
+        let targeted = asked_or (is_bridge_at s.nodes top.node && is_used s request top.node) (is_target s w top.node)
         (number_passes (λ n. not (is_bridge_at s.nodes n && is_used s request n) || is_target s w n) (length s.nodes) top.node parts.1 within)
         (and_from (is_bridge_at s.nodes top.node) (is_used s request top.node) bridge there) in
         let own = target_is s w top.node targeted in

@@ -9,18 +9,19 @@ use Rattle.std.proofs.lemmas.Option.{none-some}
 use Rattle.cxl_enc.specs.Codes.{is_ways, bits_of, code_in_table}
 use Rattle.cxl_regs.specs.Rules.{endpoint_ways_ok, select_ok}
 use Rattle.cxl_enc.specs.Caps.{is_target_count}
+use Rattle.cxl_enc.proofs.Lists.{some_filtered}
+use Rattle.cxl_enc.proofs.Numbers.{times_tell}
 use Rattle.cxl_topo.specs.Tree.{is_endpoint_at, parent_of}
 use Rattle.cxl_window.specs.Fields.{WindowFields}
+use Rattle.cxl_topo.proofs.Trees.{parent_is_port, port_no_endpoint}
 use Rattle.cxl_model.specs.System.{System}
 use Rattle.cxl_model.specs.Counts.{is_under}
 use Rattle.cxl_legal.specs.Used.{is_used, count_under, is_port_used, used_ports, count_at_port}
 use Rattle.cxl_legal.specs.Endpoints.{cap_at}
+use Rattle.cxl_legal.proofs.UsedPorts.{ports_pass}
 use Rattle.cxl_pick.specs.declared.want.Want.{Want}
 use Rattle.cxl_pick.specs.Picking.{asked, is_open, wanted_code, has_room, children_of, gives_within}
-use Rattle.cxl_pick.proofs.Trees.{parent_is_port, port_no_endpoint}
-use Rattle.cxl_pick.proofs.Lists.{some_filtered}
-use Rattle.cxl_pick.proofs.Numbers.{times_tell}
-use Rattle.cxl_pick.proofs.Shares.{used_parent, even_shares, used_child, ports_are_used}
+use Rattle.cxl_pick.proofs.Shares.{used_parent, even_shares, used_child}
 use Rattle.cxl_pick.proofs.Codes.{LieEvenly}
 use Rattle.cxl_pick.proofs.Giving.{gives_none}
 use Rattle.cxl_pick.proofs.Taking.{gives_itself, offer, Can, can_parts, whole_share}
@@ -58,7 +59,7 @@ port_facts {s} {want} {w} {given} {set} picked n port used =
     part_count picked c share.part ∙ share.is in
     let long : length (used_ports s (asked want set) n) * (part.m / at.own.u) ≡ count_under s (asked want set) n =
     even_shares (set_asked picked) n (part.m / at.own.u) port (λ k d within.
-    let own = used_child (set_asked picked) n (get_or (used_ports s (asked want set) n) k d) (ports_are_used s (asked want set) n k d within) in
+    let own = used_child (set_asked picked) n (get_or (used_ports s (asked want set) n) k d) (ports_pass s (asked want set) n k d within) in
     own.count ∙ each own.child (get_or (used_ports s (asked want set) n) k d) own.parent own.used) in
     let some : 0 < count_under s (asked want set) n = some_filtered (is_under s.nodes n) set used in
     let more : 0 < part.m = subst (λ (k : ℕ). 0 < k) all some in

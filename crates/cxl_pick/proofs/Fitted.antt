@@ -3,29 +3,29 @@ use Rattle.std.proofs.Common.{◌≡◌, ℕ, ◌+◌, ◌-◌, ◌/◌, ◌≤�
 use Rattle.std.specs.Prelude.{◌==◌, nat_le, nat_lt, max, unwrap_or, IfSome}
 use Rattle.std.specs.Option.{option_map_or}
 use Rattle.std.specs.List.{list_all, range_with_len}
-use Rattle.std.proofs.lemmas.Bool.{cases_Bool, and_parts, and_from, or_left, or_right, eq-eqb, leb-true, le-leb, not-true, not_from_false, not_from_true}
+use Rattle.std.proofs.lemmas.Bool.{cases_Bool, and_parts, and_from, or_left, or_right, eq-eqb, leb-true, le-leb, not-true, not_from_false}
 use Rattle.std.proofs.lemmas.List.Sums.{list_all-from_AllPass}
 use Rattle.std.proofs.lemmas.List.Folds.{list_any_at}
 use Rattle.cxl_enc.specs.Codes.{is_ways}
 use Rattle.cxl_enc.specs.Caps.{targets_of, is_target_count}
+use Rattle.cxl_enc.proofs.Lists.{is_in, in_from, in_is, find_passes}
+use Rattle.cxl_enc.proofs.Tests.{not_lacking}
 use Rattle.cxl_topo.specs.Tree.{is_port_at, is_bridge_at, parent_of}
 use Rattle.cxl_window.specs.Fields.{WindowFields}
+use Rattle.cxl_topo.proofs.Trees.{port_no_endpoint}
 use Rattle.cxl_model.specs.declared.request.Request.{Request}
-use Rattle.cxl_model.specs.System.{System}
+use Rattle.cxl_model.specs.System.{System, decoders_at, ram_at, pmem_at}
 use Rattle.cxl_model.specs.Counts.{is_under}
 use Rattle.cxl_legal.specs.Used.{is_used, count_under, used_ports, count_at_port}
-use Rattle.cxl_model.specs.System.{decoders_at, ram_at, pmem_at}
 use Rattle.cxl_span.specs.declared.allotting.Span.{Span}
 use Rattle.cxl_span.specs.Allotting.{all_committed, cursor_of}
 use Rattle.cxl_span.specs.Partitions.{partition_start, partition_end}
+use Rattle.cxl_model.proofs.Under.{under_self}
 use Rattle.cxl_legal.specs.Endpoints.{IsSize, cap_at, share_of, has_even_ports, has_even_children, first_bridge, has_bridge_share, HasRoom, FitsEndpoints}
 use Rattle.cxl_legal.specs.Bases.{last_end}
+use Rattle.cxl_legal.proofs.UsedPorts.{ports_pass}
 use Rattle.cxl_pick.specs.declared.want.Want.{Want}
 use Rattle.cxl_pick.specs.Picking.{asked, is_open, wanted_code, wanted_share, has_room}
-use Rattle.cxl_pick.proofs.Trees.{port_no_endpoint}
-use Rattle.cxl_pick.proofs.Below.{under_self}
-use Rattle.cxl_pick.proofs.Lists.{is_in, in_from, in_is, find_passes}
-use Rattle.cxl_pick.proofs.Shares.{ports_are_used}
 use Rattle.cxl_pick.proofs.Parts.{Picked, known_of, own_window, in_given, given_endpoint, differ, set_long}
 use Rattle.cxl_pick.proofs.Facts.{port_facts, port_share, top_count, itself, opened}
 
@@ -66,7 +66,7 @@ even_children_is {s} {want} {w} {given} {set} picked n port used =
     list_all-from_AllPass (λ f. count_at_port s request n e == count_at_port s request n f) (used_ports s request n) (λ j c inside.
     let f : ℕ = get_or (used_ports s request n) j c in
     eq-eqb (count_at_port s request n e) (count_at_port s request n f)
-    (port_share picked n facts e (ports_are_used s request n k d within) ∙ sym (port_share picked n facts f (ports_are_used s request n j c inside)))))
+    (port_share picked n facts e (ports_pass s request n k d within) ∙ sym (port_share picked n facts f (ports_pass s request n j c inside)))))
 
 bridge_share_is : {s : System} {want : Want} {w : WindowFields} {given set : List ℕ} → (picked : Picked s want w given set) → (n : ℕ) → is_used s (asked want set) n ≡ true
     → has_bridge_share s (asked want set) n ≡ true
@@ -83,13 +83,6 @@ bridge_share_is {s} {want} {w} {given} {set} picked n used =
     go top (Some m) at =
         let parts = and_parts (is_bridge_at s.nodes m) (is_used s (asked want set) m) (find_passes (λ k. is_bridge_at s.nodes k && is_used s (asked want set) k) (range_with_len 0 (length s.nodes)) m at) in
         eq-eqb (count_under s (asked want set) n) (count_under s (asked want set) m) (top_count picked n top used ∙ sym (top_count picked m (picked.of.system.tree.bridges m parts.0) parts.1))
-
-not_lacking : (p u a b c : Bool) → (p ≡ true → u ≡ true → (a ≡ true) × (b ≡ true) × (c ≡ true)) → (p && u && not (a && b && c)) ≡ false
-not_lacking true true a b c all =
-    let are = all refl refl in
-    not_from_true (a && b && c) (and_from (a && b) c (and_from a b are.0 are.1) are.2)
-not_lacking true false a b c all = refl
-not_lacking false u a b c all = refl
 
 pub left_of : (s : System) (start n : ℕ) → is_open s start n ≡ true → (all_committed (decoders_at s n) ≡ false) × (last_end s n ≤ start)
 left_of s start n is =

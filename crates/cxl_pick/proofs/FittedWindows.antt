@@ -10,24 +10,23 @@ use Rattle.std.proofs.lemmas.List.Sums.{list_all-from_AllPass}
 use Rattle.std.proofs.lemmas.Option.{none-some, same_Some}
 use Rattle.std.proofs.lemmas.List.Folds.{list_any_at}
 use Rattle.cxl_enc.specs.Codes.{bits_of, code_in_table}
+use Rattle.cxl_enc.proofs.Lists.{is_in, in_is}
+use Rattle.cxl_enc.proofs.Ways.{some_ways}
 use Rattle.cxl_regs.specs.Rules.{endpoint_ways_ok, select_ok}
 use Rattle.cxl_topo.specs.Tree.{is_endpoint_at, is_port_at, is_bridge_at, uid_at, parent_of}
 use Rattle.cxl_window.specs.Fields.{WindowFields}
 use Rattle.cxl_regs.specs.Words.{has_bit}
 use Rattle.cxl_model.specs.System.{System}
 use Rattle.cxl_model.specs.Counts.{is_under}
-use Rattle.cxl_legal.specs.Used.{is_used, count_under, used_ports}
+use Rattle.cxl_legal.specs.Used.{is_used, count_under, used_ports, planned_ways, planned_code, planned_bits_above}
 use Rattle.cxl_model.specs.Accepted.{IsAccepted}
 use Rattle.cxl_model.specs.Plans.{plan_code}
-use Rattle.cxl_legal.specs.Used.{planned_ways, planned_code, planned_bits_above}
 use Rattle.cxl_legal.specs.Endpoints.{IsSize, cap_at}
 use Rattle.cxl_legal.specs.Windows.{is_used_bridge, is_target, has_used_bridges, can_select, can_have_ways, FitsWindow}
 use Rattle.cxl_legal.specs.Bases.{base_step, FitsBase}
 use Rattle.cxl_legal.specs.Stated.{Fits}
 use Rattle.cxl_pick.specs.declared.want.Want.{Want}
 use Rattle.cxl_pick.specs.Picking.{asked, wanted_code, port_code, latest_start}
-use Rattle.cxl_pick.proofs.Lists.{is_in, in_is}
-use Rattle.cxl_pick.proofs.Numbers.{some_ways}
 use Rattle.cxl_pick.proofs.Tops.{one_top}
 use Rattle.cxl_pick.proofs.Codes.{port_ways, code_told}
 use Rattle.cxl_pick.proofs.Serving.{endpoint_code, used_port}

@@ -1,17 +1,19 @@
 -- What is given in a window from the table of offers.
-use Rattle.std.proofs.Common.{◌≡◌, ℕ, zero, suc, ◌+◌, ◌<◌, ◌≤◌, Bool, true, false, cond, List, [], ◌∷◌, ◌++◌, length, get_or, map, drop, Option, Some, None, Vec, Global, refl, sym, ap, ◌∙◌, subst, arith, append_assoc}
-use Rattle.std.specs.Prelude.{◌==◌, option_map, option_and_then, filter, All, AllPairs}
+use Rattle.std.proofs.Common.{◌≡◌, ℕ, suc, ◌+◌, ◌<◌, ◌≤◌, Bool, true, false, cond, List, [], ◌∷◌, ◌++◌, length, get_or, map, drop, Option, Some, None, Vec, Global, refl, sym, ap, ◌∙◌, subst, arith, append_assoc}
+use Rattle.std.specs.Prelude.{◌==◌, option_map, option_and_then, filter, All}
 use Rattle.std.specs.List.{range_with_len}
 use Rattle.std.proofs.Math.Seq.{drop-cons}
 use Rattle.std.proofs.lemmas.Bool.{eq-eqb}
 use Rattle.std.proofs.lemmas.List.Elements.{filter_passes}
 use Rattle.std.proofs.lemmas.List.Kept.{AllPairs-filter}
-use Rattle.std.proofs.lemmas.List.FromFn.{length-range_with_len, get_or-range_with_len}
+use Rattle.std.proofs.lemmas.List.{append-nil}
+use Rattle.cxl_enc.proofs.Lists.{is_in, in_from, in_is, drop_all}
+use Rattle.cxl_enc.proofs.Numbers.{is_number, range_more, numbers_rise}
 use Rattle.cxl_topo.specs.declared.node.Node.{Node}
 use Rattle.cxl_topo.specs.Tree.{bridge_with}
 use Rattle.cxl_pick.specs.Picking.{gives, all_given, AreInOrder}
 use Rattle.cxl_pick.specs.inner.Offers.{some_of, listed_at}
-use Rattle.cxl_pick.proofs.Lists.{is_in, in_from, in_is, is_number, kept_in}
+use Rattle.cxl_pick.proofs.Lists.{kept_in}
 
 -- ---- the targets, one by one
 
@@ -47,26 +49,12 @@ uid_none nodes table share i uids xs all within is gives =
     ∙ ap (option_and_then (λ ns. option_map (λ ms. ns ++ ms) (all_given (map (at_uid nodes table share) (drop (i + 1) uids))))) gives))
     ∙ is
 
-drop_all : {X : Type 0} (xs : List X) (i : ℕ) → length xs ≤ i → drop i xs ≡ []
-drop_all [] zero past = refl
-drop_all [] (suc i) past = refl
-drop_all (x ∷ xs) zero past = absurd (omega arith)
-drop_all (x ∷ xs) (suc i) past = drop_all xs i (omega arith)
-
-append_none : (ys : List ℕ) → ys ++ [] ≡ ys
-append_none [] = refl
-append_none (y ∷ ys) = ap (λ zs. y ∷ zs) (append_none ys)
-
 pub uid_end : (nodes : List Node) (table : List (Vec ℕ Global)) (share i : ℕ) (uids xs : List ℕ) (all : Option (List ℕ)) → length uids ≤ i
     → option_map (λ ms. xs ++ ms) (all_given (map (at_uid nodes table share) (drop i uids))) ≡ all → Some xs ≡ all
 uid_end nodes table share i uids xs all past is =
-    ap Some (sym (append_none xs)) ∙ sym (ap (λ us. option_map (λ ms. xs ++ ms) (all_given (map (at_uid nodes table share) us))) (drop_all uids i past)) ∙ is
+    ap Some (sym (append-nil xs)) ∙ sym (ap (λ us. option_map (λ ms. xs ++ ms) (all_given (map (at_uid nodes table share) us))) (drop_all uids i past)) ∙ is
 
 -- ---- in rising order
-
-range_more : (a n j : ℕ) → a + n ≡ j → range_with_len a (suc n) ≡ range_with_len a n ++ j ∷ []
-range_more a zero j is = ap (λ (k : ℕ). k ∷ []) (omega arith)
-range_more a (suc n) j is = ap (λ (ks : List ℕ). a ∷ ks) (range_more (a + 1) n j (omega arith))
 
 filter_append : (p : ℕ → Bool) (xs ys : List ℕ) → filter p (xs ++ ys) ≡ filter p xs ++ filter p ys
 filter_append p [] ys = refl
@@ -85,14 +73,7 @@ pub node_in : (p : ℕ → Bool) (n : ℕ) (xs : List ℕ) → xs ≡ filter p (
 node_in p n xs is passes = ap (λ ys. ys ++ n ∷ []) is ∙ ap (λ b. filter p (range_with_len 0 n) ++ cond b (n ∷ []) []) (sym passes) ∙ sym (node_more p n)
 
 pub node_out : (p : ℕ → Bool) (n : ℕ) (xs : List ℕ) → xs ≡ filter p (range_with_len 0 n) → p n ≡ false → xs ≡ filter p (range_with_len 0 (n + 1))
-node_out p n xs is fails = is ∙ sym (append_none (filter p (range_with_len 0 n))) ∙ ap (λ b. filter p (range_with_len 0 n) ++ cond b (n ∷ []) []) (sym fails) ∙ sym (node_more p n)
-
-numbers_rise : (n : ℕ) → AllPairs (λ a b. a < b) (range_with_len 0 n)
-numbers_rise n i j d less within =
-    let long = length-range_with_len 0 n in
-    let first = get_or-range_with_len 0 n i d (omega arith) in
-    let next = get_or-range_with_len 0 n j d (omega arith) in
-    omega arith
+node_out p n xs is fails = is ∙ sym (append-nil (filter p (range_with_len 0 n))) ∙ ap (λ b. filter p (range_with_len 0 n) ++ cond b (n ∷ []) []) (sym fails) ∙ sym (node_more p n)
 
 pub are_in_order : (count : ℕ) (given : List ℕ) → All (λ n. n < count) given → AreInOrder given (filter (λ n. is_in n given) (range_with_len 0 count))
 are_in_order count given low = record {

@@ -10,13 +10,13 @@ use Rattle.cxl_topo.specs.Tree.{is_endpoint_at}
 use Rattle.cxl_regs.specs.Rules.{endpoint_ways_ok, select_ok}
 use Rattle.cxl_span.specs.Allotting.{all_committed}
 use Rattle.cxl_window.specs.Fields.{WindowFields}
+use Rattle.cxl_topo.proofs.Trees.{KnownTree}
 use Rattle.cxl_model.specs.System.{System, decoders_at}
 use Rattle.cxl_legal.specs.Endpoints.{cap_at}
 use Rattle.cxl_legal.specs.Bases.{last_end}
 use Rattle.cxl_pick.specs.declared.want.Want.{Want}
 use Rattle.cxl_pick.specs.Picking.{wanted_code, is_open, has_room, children_of, gives_within}
 use Rattle.cxl_pick.specs.inner.Offers.{AreOffers, offered}
-use Rattle.cxl_pick.proofs.Trees.{KnownTree}
 use Rattle.cxl_pick.proofs.Giving.{gives_none, at_endpoint, at_port}
 use Rattle.cxl_pick.proofs.Levels.{filter_map-same, child_later}
 

@@ -2,37 +2,19 @@
 use Rattle.std.proofs.Common.{◌≡◌, ℕ, ◌+◌, ◌%◌, ◌^◌, ◌<◌, ◌≤◌, ◌&&◌, true, false, length, Option, Some, None, refl, sym, ◌∙◌, inl, inr, arith}
 use Rattle.std.specs.Prelude.{slice_get, ◌==◌}
 use Rattle.std.specs.Option.{option_map_or, option_and_then}
-use Rattle.std.proofs.lemmas.Bool.{and_parts, leb-true, ne_eqb, lt-ltb, cases_lt, cases_eq, false≢true}
+use Rattle.std.proofs.lemmas.Bool.{and_parts, leb-true, cases_lt, cases_eq, false≢true}
 use Rattle.std.proofs.lemmas.Option.{slice_get_within}
 use Rattle.cxl_topo.specs.declared.node.Node.{Node}
 use Rattle.cxl_enc.specs.Limits.{address_limit}
 use Rattle.cxl_topo.specs.declared.node.Capacity.{Capacity}
 use Rattle.cxl_topo.specs.Kinds.{is_endpoint, capacity_of}
 use Rattle.cxl_topo.specs.Tree.{is_endpoint_at}
-use Rattle.cxl_regs.specs.declared.decoder.Decoder.{Decoder}
 use Rattle.cxl_regs.specs.Registers.{Registers}
-use Rattle.cxl_regs.specs.Rules.{before}
-use Rattle.cxl_span.specs.Rules.{breaks_rule}
-use Rattle.cxl_span.specs.Spans.{span_start_of}
 use Rattle.cxl_span.specs.Breaches.{breaks as block_breaks, BlockKeeps}
+use Rattle.cxl_span.proofs.RulesBroken.{no_other_rule}
 use Rattle.cxl_model.specs.System.{System, ram_at, pmem_at}
-use Rattle.cxl_model.specs.Accepted.{breaks, breaks_block, IsOrderlySystem}
-
--- a rule that is none of K2 to K8 is broken by no decoder
-pub no_rule : (rule : ℕ) (block : Registers) (ram pmem i : ℕ) → ((k : ℕ) → 2 ≤ k → k < 9 → rule ≡ k → ⊥) → block_breaks rule block ram pmem i ≡ false
-unfolding block_breaks
-no_rule rule block ram pmem i far = go (slice_get block.decoders i)
-  where
-    go : (o : Option Decoder) → option_map_or (breaks_rule rule block ram pmem (before block.decoders i) (span_start_of block.decoders i)) o false ≡ false
-    go None = refl
-    go (Some d) =
-        rw (ne_eqb rule 2 (far 2 (omega arith) (omega arith)), ne_eqb rule 3 (far 3 (omega arith) (omega arith)), ne_eqb rule 4 (far 4 (omega arith) (omega arith)), ne_eqb rule 5 (far 5 (omega arith) (omega arith)), ne_eqb rule 6 (far 6 (omega arith) (omega arith)), ne_eqb rule 7 (far 7 (omega arith) (omega arith)), ne_eqb rule 8 (far 8 (omega arith) (omega arith)))
-        refl
-
--- but for K1, a rule below nine is one of blocks
-pub block_rule : (s : System) (rule n i : ℕ) → (rule ≡ 1 → ⊥) → rule < 9 → breaks s rule n i ≡ breaks_block s rule n i
-unfolding breaks
-block_rule s rule n i other low = rw (ne_eqb rule 1 other, lt-ltb rule 9 low) refl
+use Rattle.cxl_model.specs.Accepted.{IsOrderlySystem}
+use Rattle.cxl_model.proofs.OtherBlocks.{block_rule}
 
 module _ (s : System) (ready : IsOrderlySystem s) where
   pub kept_block : (n : ℕ) (block : Registers) → slice_get s.blocks n ≡ Some block → BlockKeeps block (ram_at s n) (pmem_at s n)
@@ -41,9 +23,9 @@ module _ (s : System) (ready : IsOrderlySystem s) where
       each : (rule i : ℕ) → block_breaks rule block (ram_at s n) (pmem_at s n) i ≡ false
       each rule i =
           elim (cases_lt rule 9) [
-            | inr high ↦ no_rule rule block (ram_at s n) (pmem_at s n) i (λ k from to same. omega arith)
+            | inr high ↦ no_other_rule rule block (ram_at s n) (pmem_at s n) i (λ k from to same. omega arith)
             | inl low ↦ elim (cases_eq rule 1) [
-              | inl one ↦ no_rule rule block (ram_at s n) (pmem_at s n) i (λ k from to same. omega arith)
+              | inl one ↦ no_other_rule rule block (ram_at s n) (pmem_at s n) i (λ k from to same. omega arith)
               | inr other ↦
                   let kept = sym (block_rule s rule n i other low) ∙ ready.blocks rule n i low in
                   rw here at kept

@@ -3,14 +3,14 @@ use Rattle.std.proofs.Common.{◌≡◌, ℕ, zero, suc, ◌+◌, ◌/◌, ◌<�
 use Rattle.std.specs.Prelude.{◌==◌, unwrap_or}
 use Rattle.std.specs.List.{filter_map, cons_option}
 use Rattle.std.proofs.lemmas.Bool.{cases_Bool, or_left, or_right, eq-eqb, ne_eqb}
+use Rattle.cxl_enc.proofs.Lists.{is_in}
 use Rattle.cxl_topo.specs.Tree.{is_endpoint_at}
 use Rattle.cxl_window.specs.Fields.{WindowFields}
+use Rattle.cxl_topo.proofs.Trees.{KnownTree, parent_within, parent_is_port}
 use Rattle.cxl_model.specs.System.{System}
 use Rattle.cxl_pick.specs.declared.want.Want.{Want}
 use Rattle.cxl_pick.specs.Picking.{can_serve_itself, children_of, port_gives, gives_within, gives}
 use Rattle.cxl_pick.specs.inner.Offers.{offered, some_of}
-use Rattle.cxl_pick.proofs.Trees.{KnownTree, parent_within, parent_is_port}
-use Rattle.cxl_pick.proofs.Lists.{is_in}
 use Rattle.cxl_pick.proofs.Giving.{at_endpoint, at_port}
 use Rattle.cxl_pick.proofs.Taking.{child_from, given_is}
 

@@ -1,5 +1,3 @@
-mod Trees
-mod Sums
 mod Below
 mod Lists
 mod Numbers

@@ -7,71 +7,15 @@ use Rattle.std.proofs.lemmas.Nat.{pow-add, pow_pos}
 use Rattle.std.proofs.lemmas.Bool.{cases_eq, or_cases, or_left, or_right, eqb-true, ne_eqb, false≢true}
 use Rattle.cxl_enc.specs.Codes.{third_of, bits_of, log2_of, is_ways}
 use Rattle.cxl_enc.specs.Caps.{is_target_count}
+use Rattle.cxl_enc.proofs.Ways.{each_count, each_ways, some_ways}
+use Rattle.cxl_enc.proofs.Numbers.{some_factor}
 use Rattle.cxl_pick.specs.inner.Offers.{has_list}
-
--- what holds of each number of ways holds of one that has a code
-pub each_ways : (P : ℕ → Type 0) (p : ℕ) → is_ways p ≡ true → P 1 → P 2 → P 4 → P 8 → P 16 → P 3 → P 6 → P 12 → P p
-each_ways P p is p1 p2 p4 p8 p16 p3 p6 p12 =
-    elim (cases_eq p 1) [
-      | inl e ↦ subst P (sym e) p1
-      | inr n1 ↦ elim (cases_eq p 2) [
-        | inl e ↦ subst P (sym e) p2
-        | inr n2 ↦ elim (cases_eq p 4) [
-          | inl e ↦ subst P (sym e) p4
-          | inr n4 ↦ elim (cases_eq p 8) [
-            | inl e ↦ subst P (sym e) p8
-            | inr n8 ↦ elim (cases_eq p 16) [
-              | inl e ↦ subst P (sym e) p16
-              | inr n16 ↦ elim (cases_eq p 3) [
-                | inl e ↦ subst P (sym e) p3
-                | inr n3 ↦ elim (cases_eq p 6) [
-                  | inl e ↦ subst P (sym e) p6
-                  | inr n6 ↦ elim (cases_eq p 12) [
-                    | inl e ↦ subst P (sym e) p12
-                    | inr n12 ↦ absurd (false≢true (sym (none n1 n2 n4 n8 n16 n3 n6 n12) ∙ is))
-                  ]
-                ]
-              ]
-            ]
-          ]
-        ]
-      ]
-    ]
-  where
-    none : (p ≡ 1 → ⊥) → (p ≡ 2 → ⊥) → (p ≡ 4 → ⊥) → (p ≡ 8 → ⊥) → (p ≡ 16 → ⊥) → (p ≡ 3 → ⊥) → (p ≡ 6 → ⊥) → (p ≡ 12 → ⊥) → is_ways p ≡ false
-    none n1 n2 n4 n8 n16 n3 n6 n12 =
-        rw (ne_eqb p 1 n1, ne_eqb p 2 n2, ne_eqb p 4 n4, ne_eqb p 8 n8, ne_eqb p 16 n16, ne_eqb p 3 n3, ne_eqb p 6 n6, ne_eqb p 12 n12) refl
-
-pub each_count : (P : ℕ → Type 0) (p : ℕ) → is_target_count p ≡ true → P 1 → P 2 → P 4 → P 8 → P p
-each_count P p is p1 p2 p4 p8 =
-    elim (cases_eq p 1) [
-      | inl e ↦ subst P (sym e) p1
-      | inr n1 ↦ elim (cases_eq p 2) [
-        | inl e ↦ subst P (sym e) p2
-        | inr n2 ↦ elim (cases_eq p 4) [
-          | inl e ↦ subst P (sym e) p4
-          | inr n4 ↦ elim (cases_eq p 8) [
-            | inl e ↦ subst P (sym e) p8
-            | inr n8 ↦ absurd (false≢true (sym (none n1 n2 n4 n8) ∙ is))
-          ]
-        ]
-      ]
-    ]
-  where
-    none : (p ≡ 1 → ⊥) → (p ≡ 2 → ⊥) → (p ≡ 4 → ⊥) → (p ≡ 8 → ⊥) → is_target_count p ≡ false
-    none n1 n2 n4 n8 = rw (ne_eqb p 1 n1, ne_eqb p 2 n2, ne_eqb p 4 n4, ne_eqb p 8 n8) refl
-
-pub some_ways : (p : ℕ) → is_ways p ≡ true → 0 < p
-some_ways p is = each_ways (λ n. 0 < n) p is (omega arith) (omega arith) (omega arith) (omega arith) (omega arith) (omega arith) (omega arith) (omega arith)
 
 pub few_ways : (p : ℕ) → is_ways p ≡ true → p ≤ 16
 few_ways p is = each_ways (λ n. n ≤ 16) p is (omega arith) (omega arith) (omega arith) (omega arith) (omega arith) (omega arith) (omega arith) (omega arith)
 
 pub ways_split : (p : ℕ) → is_ways p ≡ true → third_of p * 2 ^ bits_of p ≡ p
 ways_split p is = each_ways (λ n. third_of n * 2 ^ bits_of n ≡ n) p is refl refl refl refl refl refl refl refl
-
-pub some_third : (p : ℕ) → is_ways p ≡ true → 0 < third_of p
-some_third p is = each_ways (λ n. 0 < third_of n) p is (omega arith) (omega arith) (omega arith) (omega arith) (omega arith) (omega arith) (omega arith) (omega arith)
 
 pub count_split : (p : ℕ) → is_target_count p ≡ true → 2 ^ bits_of p ≡ p
 count_split p is = each_count (λ n. 2 ^ bits_of n ≡ n) p is refl refl refl refl
@@ -161,10 +105,6 @@ no_less (suc p) q n is some = let out : suc p * q ≡ q + p * q = suc-mul-to-add
     suc-mul-to-add : (p q : ℕ) → suc p * q ≡ q + p * q
     suc-mul-to-add p q = omega arith
 
-some_factor : (p q n : ℕ) → p * q ≡ n → 0 < n → 0 < p
-some_factor zero q n is some = absurd (omega (arith, is, some))
-some_factor (suc p) q n is some = omega arith
-
 -- where m times a times the ways w are n, and a is 2 ^ b, the exponent of n over m and the t of w is b and the k of w
 pub exponent_is : (n m a b w : ℕ) → is_ways n ≡ true → is_ways w ≡ true → m * a * w ≡ n → 2 ^ b ≡ a → log2_of (n / (third_of w * m)) ≡ bits_of w + b
 exponent_is n m a b w known ways is power =
@@ -194,7 +134,3 @@ exponent_is n m a b w known ways is power =
         let most = few_ways n known in
         let less = no_less (third_of w * m) (2 ^ (bits_of w + b)) n whole (some_ways n known) in
         omega (arith, most, less)
-
--- p times a is p times b only where a is b
-pub times_tell : (p a b : ℕ) → 0 < p → p * a ≡ p * b → a ≡ b
-times_tell p a b some same = sym (mul-div_cancel_left a some) ∙ ap (λ (k : ℕ). k / p) same ∙ mul-div_cancel_left b some

@@ -8,25 +8,20 @@ use Rattle.std.proofs.lemmas.Bool.{cases_Bool, cases_lt, false≢true, false_fro
 use Rattle.std.proofs.lemmas.Option.{none-some}
 use Rattle.cxl_enc.specs.Codes.{bits_of, log2_of}
 use Rattle.cxl_enc.specs.Caps.{is_target_count, targets_of}
+use Rattle.cxl_enc.proofs.Lists.{find_passes, item}
 use Rattle.cxl_regs.specs.Rules.{select_ok}
 use Rattle.cxl_legal.specs.Endpoints.{cap_at}
 use Rattle.cxl_topo.specs.Tree.{is_endpoint_at}
 use Rattle.cxl_window.specs.Fields.{WindowFields}
+use Rattle.cxl_topo.proofs.Trees.{KnownTree}
 use Rattle.cxl_model.specs.System.{System}
 use Rattle.cxl_pick.specs.declared.want.Want.{Want}
 use Rattle.cxl_pick.specs.Picking.{is_open, can_serve_itself, port_code, can_serve_by, children_of, gives_within, gives}
 use Rattle.cxl_pick.specs.inner.Offers.{AreOffers, offered, has_list, some_of, place_of, listed_at, offers_at}
-use Rattle.cxl_pick.proofs.Trees.{KnownTree}
-use Rattle.cxl_pick.proofs.Lists.{find_passes}
 use Rattle.cxl_pick.proofs.Numbers.{some_count, count_found, listed_power, listed_few, listed_product}
 use Rattle.cxl_pick.proofs.Giving.{gives_none}
 use Rattle.cxl_pick.proofs.Taking.{gives_itself, offer, serves, find_in, can_parts, whole_share}
 use Rattle.cxl_pick.proofs.Levels.{filter_map-same, child_later, gives_at_port, gives_at_endpoint, some_offered}
-
-pub item : {X : Type 0} (xs : List X) (i : ℕ) → i < length xs → (x : X) × (slice_get xs i ≡ Some x)
-item [] i lt = absurd (omega arith)
-item (x ∷ xs) zero lt = (x, refl)
-item (x ∷ xs) (suc i) lt = item xs i (omega arith)
 
 pub if_ok : {A E : Type 0} (r : Result A E) (P Q : A → Type 0) → ((x : A) → P x → Q x) → IfOk r P → IfOk r Q
 if_ok (Ok x) P Q weaker holds = weaker x holds

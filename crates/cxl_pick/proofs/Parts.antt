@@ -6,21 +6,24 @@ use Rattle.std.proofs.lemmas.Bool.{and_parts, eqb-true, eq-eqb}
 use Rattle.std.proofs.lemmas.Option.{none-some, same_Some}
 use Rattle.std.proofs.lemmas.List.Folds.{list_any_at}
 use Rattle.cxl_enc.specs.Codes.{is_ways}
+use Rattle.cxl_enc.proofs.Tests.{same_test, and_true}
+use Rattle.cxl_enc.proofs.Lists.{is_in, in_from, in_is}
+use Rattle.cxl_enc.proofs.Ways.{some_ways}
 use Rattle.cxl_topo.specs.Laws.{AreTreeLaws}
 use Rattle.cxl_topo.specs.Tree.{is_endpoint_at, uid_at, bridge_with}
 use Rattle.cxl_window.specs.Fields.{WindowFields}
 use Rattle.cxl_window.specs.Position.{is_usable}
+use Rattle.cxl_topo.proofs.Trees.{KnownTree, endpoint_within}
 use Rattle.cxl_regs.specs.Words.{has_bit}
 use Rattle.cxl_model.specs.System.{System, IsSystem}
 use Rattle.cxl_model.specs.Rules.{permits}
+use Rattle.cxl_model.proofs.Distinct.{distinct_test}
 use Rattle.cxl_legal.specs.Used.{HasBytePorts, AreEndpoints}
 use Rattle.cxl_legal.specs.Windows.{agrees_on_gran}
 use Rattle.cxl_pick.specs.declared.want.Want.{Want}
 use Rattle.cxl_pick.specs.Picking.{asked, can_take, latest_start, gives, gives_within, all_given, given_in, AreInOrder}
-use Rattle.cxl_pick.proofs.Trees.{KnownTree, same_test}
-use Rattle.cxl_pick.proofs.Lists.{is_in, in_from, in_is, distinct_test, same_length}
-use Rattle.cxl_pick.proofs.Numbers.{some_ways}
-use Rattle.cxl_pick.proofs.Shares.{Asked, endpoint_within}
+use Rattle.cxl_pick.proofs.Lists.{same_length}
+use Rattle.cxl_pick.proofs.Shares.{Asked}
 use Rattle.cxl_pick.proofs.Tops.{BridgeOf, bridge_of, bridge_node, one_top}
 use Rattle.cxl_pick.proofs.Evenly.{Windowed, windowed}
 use Rattle.cxl_pick.proofs.Pieces.{Apart, AllPieces, all_pieces}
@@ -153,10 +156,6 @@ pub all_below : (s : System) (xs : List ℕ) → ((x : ℕ) → is_in x xs ≡ t
 all_below s xs ends = λ k d within.
     let x : ℕ = get_or xs k d in
     endpoint_within s.nodes x (ends x (list_any_at (λ m. m == x) xs k d within (eq-eqb x x refl)))
-
-and_true : (a : Bool) → (a && true) ≡ a
-and_true true = refl
-and_true false = refl
 
 filter_all : (xs : List ℕ) → filter (λ (x : ℕ). true) xs ≡ xs
 filter_all [] = refl

@@ -6,9 +6,9 @@ use Rattle.std.proofs.lemmas.Bool.{and_parts, and_from, or_cases, or_left, or_ri
 use Rattle.std.proofs.lemmas.Option.{none-some, same_Some}
 use Rattle.std.proofs.lemmas.List.{length-append}
 use Rattle.std.proofs.lemmas.List.Folds.{list_any-append}
+use Rattle.cxl_enc.proofs.Lists.{is_in}
 use Rattle.cxl_model.specs.Rules.{are_distinct}
 use Rattle.cxl_pick.specs.Picking.{all_given}
-use Rattle.cxl_pick.proofs.Lists.{is_in}
 
 -- ---- lists that differ, in a row
 

@@ -8,31 +8,36 @@ use Rattle.std.proofs.lemmas.Bool.{cases_Bool, and_parts, and_from, or_left, or_
 use Rattle.std.proofs.lemmas.List.Folds.{Any-from_list_any}
 use Rattle.cxl_enc.specs.Codes.{bits_of, code_in_table}
 use Rattle.cxl_enc.specs.Caps.{targets_of, is_target_count}
+use Rattle.cxl_enc.proofs.Lists.{is_in, in_is}
+use Rattle.cxl_enc.proofs.Tests.{asked_or, asked_not}
 use Rattle.cxl_topo.specs.Tree.{is_endpoint_at, is_port_at, parent_of, child_of}
 use Rattle.cxl_topo.specs.Laws.{AreTreeLaws}
 use Rattle.cxl_regs.specs.Rules.{endpoint_ways_ok, select_ok}
 use Rattle.cxl_span.specs.Allotting.{all_committed, cursor_of}
 use Rattle.cxl_span.specs.Partitions.{partition_start, partition_end}
 use Rattle.cxl_window.specs.Fields.{WindowFields}
+use Rattle.cxl_topo.proofs.Trees.{parent_is_port}
 use Rattle.cxl_model.specs.declared.request.Request.{Request}
 use Rattle.cxl_model.specs.System.{System, decoders_at, ram_at, pmem_at}
 use Rattle.cxl_model.specs.Counts.{is_under}
 use Rattle.cxl_model.specs.Rules.{are_distinct}
 use Rattle.cxl_model.specs.Plans.{plan_code}
+use Rattle.cxl_model.proofs.Sums.{one, length-filter-total, total-same, once}
+use Rattle.cxl_model.proofs.Under.{under_endpoint}
+use Rattle.cxl_model.proofs.Distinct.{distinct_test}
 use Rattle.cxl_legal.specs.Used.{request_ways, is_used, count_under, is_port_used, used_ports, planned_ways, planned_bits_above, planned_code}
 use Rattle.cxl_legal.specs.Endpoints.{cap_at, share_of}
 use Rattle.cxl_legal.specs.Bases.{last_end, base_step}
 use Rattle.cxl_legal.specs.Stated.{Fits}
+use Rattle.cxl_legal.proofs.UsedPorts.{ports_pass}
 use Rattle.cxl_pick.specs.declared.want.Want.{Want}
 use Rattle.cxl_pick.specs.Picking.{asked, wanted_code, is_open, wanted_share, has_room, can_serve_itself, port_code, can_serve_by, children_of, gives_within}
-use Rattle.cxl_pick.proofs.Sums.{one, length-filter-total, total-same, once}
-use Rattle.cxl_pick.proofs.Trees.{parent_is_port, under_endpoint}
 use Rattle.cxl_pick.proofs.Below.{way_down}
-use Rattle.cxl_pick.proofs.Lists.{is_in, in_is, distinct_test, found}
-use Rattle.cxl_pick.proofs.Shares.{Asked, used_endpoint, used_child, ports_are_used}
+use Rattle.cxl_pick.proofs.Lists.{found}
+use Rattle.cxl_pick.proofs.Shares.{Asked, used_endpoint, used_child}
 use Rattle.cxl_pick.proofs.Numbers.{count_tried, some_count}
 use Rattle.cxl_pick.proofs.Codes.{port_ways, code_told}
-use Rattle.cxl_pick.proofs.Evenly.{even_at, evenly, asked_of, told, used_within}
+use Rattle.cxl_pick.proofs.Evenly.{even_at, evenly, asked_of, used_within}
 use Rattle.cxl_pick.proofs.Giving.{step_below, at_endpoint, at_port, more_given}
 
 pub record Kept (s : System) (want : Want) (w : WindowFields) (set : List ℕ) (base : ℕ) : Type 0 where
@@ -58,13 +63,9 @@ base_low {s} {want} {w} {set} {base} kept =
     let last = step_below (w.ways % 3 == 0) (base - w.base) (w.size - want.size) kept.fits.starts.can.step less in
     omega (arith, from, last)
 
-not_both : (a b : Bool) → (a && b) ≡ false → a ≡ true → b ≡ false
-not_both true b is first = is
-not_both false b is first = absurd (false≢true first)
-
 pub open_used : {s : System} {want : Want} {w : WindowFields} {set : List ℕ} {base : ℕ} → Kept s want w set base → (n : ℕ) → is_used s (asked want set) n ≡ true → is_open s (latest want w) n ≡ true
 open_used {s} {want} {w} {set} {base} kept n used =
-    let left = not_both (is_used s (asked want set) n) (all_committed (decoders_at s n)) (kept.fits.endpoints.left n) used in
+    let left = asked_not (is_used s (asked want set) n) (all_committed (decoders_at s n)) (kept.fits.endpoints.left n) used in
     let after = kept.fits.starts.can.after n used in
     let low = base_low kept in
     and_from (not (all_committed (decoders_at s n))) (nat_le (last_end s n) (latest want w)) (not_from_false (all_committed (decoders_at s n)) left)
@@ -118,14 +119,14 @@ serves_itself {s} {want} {w} {set} {base} kept n endpoint used =
     ways_is : option_map_or (endpoint_ways_ok (cap_at s n)) (code_in_table want.ways) false ≡ true
     ways_is =
         ap (λ (k : ℕ). option_map_or (endpoint_ways_ok (cap_at s n)) (code_in_table k) false) (sym kept.all)
-        ∙ told (is_endpoint_at s.nodes n && is_used s (asked want set) n) (option_map_or (endpoint_ways_ok (cap_at s n)) (code_in_table (length set)) false) (kept.fits.window.ways n)
+        ∙ asked_or (is_endpoint_at s.nodes n && is_used s (asked want set) n) (option_map_or (endpoint_ways_ok (cap_at s n)) (code_in_table (length set)) false) (kept.fits.window.ways n)
         (and_from (is_endpoint_at s.nodes n) (is_used s (asked want set) n) endpoint used)
 
     select_is : select_ok (cap_at s n) (wanted_code want w) (bits_of want.ways) ≡ true
     select_is =
         let code : planned_code s (asked want set) w n ≡ wanted_code want w = endpoint_code s (asked want set) w n endpoint ∙ ap (plan_code (asked want []) w) kept.all in
         let count : planned_ways s (asked want set) n ≡ want.ways = ap (λ (b : Bool). if b then length set else length (used_ports s (asked want set) n)) endpoint ∙ kept.all in
-        let both = told (is_used s (asked want set) n) (nat_le (planned_code s (asked want set) w n) 6 && select_ok (cap_at s n) (planned_code s (asked want set) w n) (bits_of (planned_ways s (asked want set) n))) (kept.fits.window.selects n) used in
+        let both = asked_or (is_used s (asked want set) n) (nat_le (planned_code s (asked want set) w n) 6 && select_ok (cap_at s n) (planned_code s (asked want set) w n) (bits_of (planned_ways s (asked want set) n))) (kept.fits.window.selects n) used in
         let own = (and_parts (nat_le (planned_code s (asked want set) w n) 6) (select_ok (cap_at s n) (planned_code s (asked want set) w n) (bits_of (planned_ways s (asked want set) n))) both).1 in
         (λ k. select_ok (cap_at s n) (sym code k) (bits_of (sym count k))) ∙ own
 
@@ -152,7 +153,7 @@ selects_port {s} {want} {w} {set} {base} kept n port used =
           let ways : planned_ways s (asked want set) n ≡ ports_of s want set n = port_ways s (asked want set) n port in
           let code : planned_code s (asked want set) w n ≡ port_code want w (under_of s want set n) =
           code_told (evenly kept.laws kept.fits) kept.all n port used (ap (λ (k : ℕ). k == 1) ways ∙ several) in
-          let both = told (is_used s (asked want set) n) (nat_le (planned_code s (asked want set) w n) 6 && select_ok (cap_at s n) (planned_code s (asked want set) w n) (bits_of (planned_ways s (asked want set) n))) (kept.fits.window.selects n) used in
+          let both = asked_or (is_used s (asked want set) n) (nat_le (planned_code s (asked want set) w n) 6 && select_ok (cap_at s n) (planned_code s (asked want set) w n) (bits_of (planned_ways s (asked want set) n))) (kept.fits.window.selects n) used in
           or_right (ports_of s want set n == 1) (selecting s want w set n)
           ((λ k. nat_le (sym code k) 6 && select_ok (cap_at s n) (sym code k) (bits_of (sym ways k))) ∙ both)
     ]
@@ -221,7 +222,7 @@ port_gives_some {s} {want} {w} {set} {base} kept k n other used each =
     let offers : ℕ → List (List ℕ) = λ u. filter_map (λ child. gives_within k s want w (latest want w) child (m / u)) (children_of s n) in
     let count : is_target_count p ≡ true = even.counts n port used in
     let some = some_count p count in
-    let first = used_child is n (get_or (used_ports s (asked want set) n) 0 0) (ports_are_used s (asked want set) n 0 0 some) in
+    let first = used_child is n (get_or (used_ports s (asked want set) n) 0 0) (ports_pass s (asked want set) n 0 0 some) in
     let share : p * under_of s want set first.child ≡ m = even.children first.child (record { node = n; port = get_or (used_ports s (asked want set) n) 0 0 }) first.parent first.used in
     let enough : p ≤ length (offers p) =
     more_given (is_port_used s (asked want set) n) (child_of s.nodes n) (λ child. gives_within k s want w (latest want w) child (m / p))

@@ -13,14 +13,15 @@ use Rattle.cxl_enc.specs.Codes.{is_ways}
 use Rattle.cxl_pick.specs.declared.want.Want.{Want}
 use Rattle.cxl_pick.specs.Picking.{can_take, latest_start, gives, all_given, given_in}
 use Rattle.cxl_pick.specs.inner.Offers.{AreOffers, some_of, listed_at}
-use Rattle.cxl_pick.proofs.Trees.{KnownTree}
-use Rattle.cxl_pick.proofs.Numbers.{some_ways, few_ways}
+use Rattle.cxl_pick.proofs.Numbers.{few_ways}
 use Rattle.cxl_pick.proofs.Tops.{bridge_of}
 use Rattle.cxl_pick.proofs.Parts.{take_parts}
 use Rattle.cxl_pick.proofs.Levels.{some_offered}
 use Rattle.cxl_pick.proofs.Offering.{list_whole, quotient_low}
 use Rattle.cxl_pick.proofs.Givings.{at_uid}
 use Rattle.std.proofs.Math.Nat.{div-add-mod}
+use Rattle.cxl_enc.proofs.Ways.{some_ways}
+use Rattle.cxl_topo.proofs.Trees.{KnownTree}
 
 bridge_within : (nodes : List Node) (b : ℕ) → is_bridge_at nodes b ≡ true → b < length nodes
 bridge_within nodes b is =

@@ -1,24 +1,27 @@
 -- The endpoints of a request that lie under a node lie under its used ports.
-use Rattle.std.proofs.Common.{◌≡◌, ℕ, suc, ◌+◌, ◌*◌, ◌<◌, Bool, true, false, List, [], ◌∷◌, length, get_or, Option, Some, None, refl, sym, ap, ◌∙◌, inl, inr, arith}
+use Rattle.std.proofs.Common.{◌≡◌, ℕ, ◌*◌, Bool, true, false, List, length, get_or, Option, Some, None, refl, sym, ap, ◌∙◌, inl, inr}
 use Rattle.std.specs.Prelude.{◌==◌, All}
 use Rattle.std.specs.Option.{option_map_or}
 use Rattle.std.specs.List.{list_any, range_with_len}
-use Rattle.std.proofs.lemmas.Bool.{cases_lt, false≢true}
-use Rattle.std.proofs.lemmas.Option.{slice_get_past, same_Some}
-use Rattle.std.proofs.lemmas.List.Elements.{All-head, All-tail, filter_passes}
+use Rattle.std.proofs.lemmas.Bool.{false≢true}
+use Rattle.std.proofs.lemmas.Option.{same_Some}
 use Rattle.std.proofs.lemmas.List.Folds.{Any-from_list_any}
+use Rattle.cxl_enc.proofs.Lists.{list_any-weaker, is_in, none_filtered}
+use Rattle.cxl_enc.proofs.Tests.{same_test}
+use Rattle.cxl_enc.proofs.Numbers.{is_number}
 use Rattle.cxl_topo.specs.declared.node.Node.{Node}
 use Rattle.cxl_topo.specs.declared.node.Parent.{Parent}
-use Rattle.cxl_topo.specs.Kinds.{is_endpoint}
 use Rattle.cxl_topo.specs.Tree.{is_endpoint_at, parent_of, child_of}
+use Rattle.cxl_topo.proofs.Trees.{KnownTree}
 use Rattle.cxl_model.specs.declared.request.Request.{Request}
 use Rattle.cxl_model.specs.System.{System}
 use Rattle.cxl_model.specs.Counts.{is_under}
+use Rattle.cxl_model.proofs.Sums.{one, total, length-filter-total, total-same, total-zero, exchange, once, total_each, total_same_each}
+use Rattle.cxl_model.proofs.Under.{under_endpoint, under_parent}
+use Rattle.cxl_model.proofs.Distinct.{numbers_differ}
 use Rattle.cxl_legal.specs.Used.{HasBytePorts, AreEndpoints, is_used, count_under, is_port_used, used_ports, count_at_port}
-use Rattle.cxl_pick.proofs.Sums.{one, total, length-filter-total, total-same, total-zero, exchange, list_any-weaker, once}
-use Rattle.cxl_pick.proofs.Trees.{KnownTree, same_test, under_endpoint}
-use Rattle.cxl_pick.proofs.Below.{under_parent, way_down, one_child}
-use Rattle.cxl_pick.proofs.Lists.{is_in, numbers_differ, is_number, none_filtered, filter_total, total_each}
+use Rattle.cxl_pick.proofs.Below.{way_down, one_child}
+use Rattle.cxl_pick.proofs.Lists.{filter_total}
 
 -- a request of endpoints over a legal tree
 pub record Asked (s : System) (request : Request) : Type 0 where
@@ -27,13 +30,6 @@ pub record Asked (s : System) (request : Request) : Type 0 where
   pub named : AreEndpoints s request
 
 -- ---- used nodes
-
-pub endpoint_within : (nodes : List Node) (m : ℕ) → is_endpoint_at nodes m ≡ true → m < length nodes
-endpoint_within nodes m is =
-    elim (cases_lt m (length nodes)) [
-      | inl within ↦ within
-      | inr past ↦ absurd (false≢true (sym (ap (λ (o : Option Node). option_map_or (λ node. is_endpoint node.kind) o false) (slice_get_past nodes m past)) ∙ is))
-    ]
 
 -- the parent of a used node is used
 pub used_parent : {s : System} {request : Request} → Asked s request → (c : ℕ) (p : Parent) → parent_of s.nodes c ≡ Some p → is_used s request c ≡ true → is_used s request p.node ≡ true
@@ -119,14 +115,6 @@ shares {s} {request} is n port =
     ∙ ap one (some_port is n port (get_or request.endpoints k d) (is.named k d within)))
     ∙ sym (length-filter-total (is_under s.nodes n) request.endpoints)
 
-pub total_same_each : {X : Type 0} (f : X → ℕ) (v : ℕ) (xs : List X) → All (λ x. f x ≡ v) xs → total f xs ≡ length xs * v
-total_same_each f v [] each = omega arith
-total_same_each f v (x ∷ xs) each =
-    let first = All-head (λ y. f y ≡ v) x xs each in
-    let rest = total_same_each f v xs (All-tail (λ y. f y ≡ v) x xs each) in
-    let out : suc (length xs) * v ≡ v + length xs * v = omega arith in
-    omega (arith, first, rest, out)
-
 -- where each used port has the same share, as many times that share lie under the node
 pub even_shares : {s : System} {request : Request} → Asked s request → (n v : ℕ) → is_endpoint_at s.nodes n ≡ false
     → All (λ e. count_at_port s request n e ≡ v) (used_ports s request n) → length (used_ports s request n) * v ≡ count_under s request n
@@ -152,6 +140,3 @@ used_child {s} {request} is n e used = go (child_of s.nodes n e) refl used
       used = there;
       count = ap (λ (o : Option ℕ). option_map_or (count_under s request) o 0) at;
     }
-
-pub ports_are_used : (s : System) (request : Request) (n : ℕ) → All (λ e. is_port_used s request n e ≡ true) (used_ports s request n)
-ports_are_used s request n = filter_passes (is_port_used s request n) (range_with_len 0 256)

@@ -4,17 +4,21 @@ use Rattle.std.specs.Prelude.{◌==◌}
 use Rattle.std.proofs.lemmas.Bool.{and_parts, and_from, eq-eqb}
 use Rattle.std.proofs.lemmas.Option.{none-some, same_Some}
 use Rattle.std.proofs.lemmas.List.Folds.{Any-from_list_any, list_any_at}
+use Rattle.cxl_enc.proofs.Tests.{same_test}
+use Rattle.cxl_enc.proofs.Lists.{is_in}
 use Rattle.cxl_topo.specs.declared.node.Parent.{Parent}
 use Rattle.cxl_topo.specs.Tree.{is_endpoint_at, parent_of}
 use Rattle.cxl_window.specs.Fields.{WindowFields}
+use Rattle.cxl_topo.proofs.Trees.{up_tree, parent_is_port, port_no_endpoint}
 use Rattle.cxl_model.specs.System.{System}
 use Rattle.cxl_model.specs.Counts.{is_under}
+use Rattle.cxl_model.proofs.Under.{under_parent}
+use Rattle.cxl_model.proofs.Distinct.{distinct_test}
 use Rattle.cxl_legal.specs.Used.{is_used, count_under}
 use Rattle.cxl_pick.specs.declared.want.Want.{Want}
 use Rattle.cxl_pick.specs.Picking.{asked, children_of, gives_within}
-use Rattle.cxl_pick.proofs.Trees.{up_tree, same_test, parent_is_port, port_no_endpoint}
-use Rattle.cxl_pick.proofs.Below.{under_parent, one_child}
-use Rattle.cxl_pick.proofs.Lists.{is_in, distinct_test, same_length}
+use Rattle.cxl_pick.proofs.Below.{one_child}
+use Rattle.cxl_pick.proofs.Lists.{same_length}
 use Rattle.cxl_pick.proofs.Shares.{used_parent}
 use Rattle.cxl_pick.proofs.Tops.{one_top}
 use Rattle.cxl_pick.proofs.Giving.{gives_none}

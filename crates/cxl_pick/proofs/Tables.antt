@@ -5,13 +5,12 @@ use Rattle.std.specs.List.{filter_map, flat_map, cons_option, range_with_len}
 use Rattle.std.proofs.Math.Seq.{drop-cons}
 use Rattle.std.proofs.lemmas.Option.{none-some, same_Some}
 use Rattle.std.proofs.lemmas.List.Elements.{filter_map-append}
+use Rattle.std.proofs.lemmas.List.{append-nil}
+use Rattle.cxl_enc.proofs.Numbers.{range_more}
+use Rattle.cxl_enc.proofs.Lists.{drop_all}
 use Rattle.cxl_pick.specs.inner.Offers.{some_of, listed_at, offers_at}
 
 -- ---- ranges
-
-range_more : (a n j : ℕ) → a + n ≡ j → range_with_len a (suc n) ≡ range_with_len a n ++ j ∷ []
-range_more a zero j is = ap (λ (k : ℕ). k ∷ []) (omega arith)
-range_more a (suc n) j is = ap (λ (ks : List ℕ). a ∷ ks) (range_more (a + 1) n j (omega arith))
 
 -- what one port more gives
 pub port_more : (g : ℕ → Option ℕ) (port : ℕ) → filter_map g (range_with_len 0 (port + 1)) ≡ filter_map g (range_with_len 0 port) ++ cons_option (g port) []
@@ -90,12 +89,6 @@ count_skip table count v i n all cs within is empty =
     ap (λ ys. length ys) (next_offers table count v i cs within ∙ ap (λ o. cons_option o (offers_at table count (drop (i + 1) cs) v)) (empty_of (listed_at table count (get_or cs i 0) v) empty)) in
     omega (arith, is, next)
 
-drop_all : {X : Type 0} (xs : List X) (i : ℕ) → length xs ≤ i → drop i xs ≡ []
-drop_all [] zero past = refl
-drop_all [] (suc i) past = refl
-drop_all (x ∷ xs) zero past = absurd (omega arith)
-drop_all (x ∷ xs) (suc i) past = drop_all xs i (omega arith)
-
 pub count_end : (table : List (Vec ℕ Global)) (count v i n all : ℕ) (cs : List ℕ) → length cs ≤ i → n + length (offers_at table count (drop i cs) v) ≡ all → n ≡ all
 count_end table count v i n all cs past is =
     let none : length (offers_at table count (drop i cs) v) ≡ 0 = ap (λ ds. length (offers_at table count ds v)) (drop_all cs i past) in
@@ -133,12 +126,8 @@ nothing_taken : (left : ℕ) → flat_map (λ (ns : List ℕ). ns) (take left []
 nothing_taken zero = refl
 nothing_taken (suc left) = refl
 
-append_none : (ys : List ℕ) → ys ++ [] ≡ ys
-append_none [] = refl
-append_none (y ∷ ys) = ap (λ zs. y ∷ zs) (append_none ys)
-
 pub take_end : (table : List (Vec ℕ Global)) (count v i left : ℕ) (cs given all : List ℕ) → length cs ≤ i → given ++ to_come table count v left cs i ≡ all → given ≡ all
 take_end table count v i left cs given all past is =
-    sym (append_none given)
+    sym (append-nil given)
     ∙ ap (λ ys. given ++ ys) (sym (ap (λ ds. flat_map (λ ns. ns) (take left (offers_at table count ds v))) (drop_all cs i past) ∙ nothing_taken left))
     ∙ is

@@ -6,20 +6,23 @@ use Rattle.std.proofs.lemmas.Bool.{cases_Bool, and_parts, or_cases, or_left, or_
 use Rattle.std.proofs.lemmas.Option.{none-some, same_Some}
 use Rattle.cxl_enc.specs.Codes.{bits_of}
 use Rattle.cxl_enc.specs.Caps.{targets_of, is_target_count}
+use Rattle.cxl_enc.proofs.Lists.{is_in, find_passes}
+use Rattle.cxl_enc.proofs.Ways.{each_count}
 use Rattle.cxl_regs.specs.Rules.{select_ok}
 use Rattle.cxl_topo.specs.declared.node.Parent.{Parent}
 use Rattle.cxl_topo.specs.Tree.{is_endpoint_at, parent_of, child_of}
 use Rattle.cxl_window.specs.Fields.{WindowFields}
+use Rattle.cxl_topo.proofs.Trees.{KnownTree}
 use Rattle.cxl_model.specs.System.{System}
 use Rattle.cxl_model.specs.Rules.{are_distinct}
 use Rattle.cxl_model.specs.Counts.{is_under}
+use Rattle.cxl_model.proofs.Under.{under_self, under_parent}
+use Rattle.cxl_model.proofs.Distinct.{numbers_differ}
 use Rattle.cxl_legal.specs.Endpoints.{cap_at}
 use Rattle.cxl_pick.specs.declared.want.Want.{Want}
 use Rattle.cxl_pick.specs.Picking.{is_open, can_serve_itself, port_code, can_serve_by, children_of, gives_within}
-use Rattle.cxl_pick.proofs.Trees.{KnownTree}
-use Rattle.cxl_pick.proofs.Below.{under_self, under_parent, one_child}
-use Rattle.cxl_pick.proofs.Lists.{is_in, numbers_differ, find_passes}
-use Rattle.cxl_pick.proofs.Numbers.{each_count, count_found}
+use Rattle.cxl_pick.proofs.Below.{one_child}
+use Rattle.cxl_pick.proofs.Numbers.{count_found}
 use Rattle.cxl_pick.proofs.Giving.{gives_none, at_endpoint, at_port}
 use Rattle.cxl_pick.proofs.Pieces.{Apart, first_pieces, taken, taken_length, given_from, given_differ}
 

@@ -5,6 +5,7 @@ use Rattle.std.proofs.Math.Nat.{mul-div_cancel, mul-mod_left}
 use Rattle.std.proofs.lemmas.Bool.{and_from, eq-eqb, not_from_false}
 use Rattle.std.proofs.lemmas.Option.{same_Some}
 use Rattle.std.proofs.lemmas.List.Elements.{All-head, All-tail}
+use Rattle.cxl_enc.proofs.Ways.{some_ways}
 use Rattle.cxl_topo.specs.Tree.{parent_of, bridge_with}
 use Rattle.cxl_regs.specs.Words.{has_bit}
 use Rattle.cxl_window.specs.Fields.{WindowFields}
@@ -15,7 +16,6 @@ use Rattle.cxl_legal.specs.Used.{count_under}
 use Rattle.cxl_legal.specs.Windows.{agrees_on_gran}
 use Rattle.cxl_pick.specs.declared.want.Want.{Want}
 use Rattle.cxl_pick.specs.Picking.{asked, can_take, latest_start, gives, all_given, given_in}
-use Rattle.cxl_pick.proofs.Numbers.{some_ways}
 use Rattle.cxl_pick.proofs.Tops.{bridge_of}
 use Rattle.cxl_pick.proofs.Evenly.{asked_of, evenly, windowed, UsedTarget, used_target}
 use Rattle.cxl_pick.proofs.Giving.{start_is}

@@ -1,24 +1,23 @@
 -- The bridges above endpoints, and a window whose targets are the bridges above all endpoints of a request.
 use Rattle.std.proofs.Common.{◌≡◌, ℕ, ◌<◌, Bool, true, false, not, List, [], ◌∷◌, length, get_or, Option, Some, None, refl, sym, ap, ◌∙◌, inl, inr, arith}
 use Rattle.std.specs.Prelude.{◌==◌, All, slice_get}
-use Rattle.std.specs.Option.{option_map_or, option_and_then}
+use Rattle.std.specs.Option.{option_map_or}
 use Rattle.std.specs.List.{list_any}
 use Rattle.std.proofs.lemmas.Bool.{cases_Bool, or_cases, or_right, eqb-true, false≢true}
 use Rattle.std.proofs.lemmas.Option.{none-some, same_Some}
 use Rattle.cxl_topo.specs.declared.node.Node.{Node}
 use Rattle.cxl_topo.specs.declared.node.NodeKind.{NodeKind}
 use Rattle.cxl_topo.specs.declared.node.NodeKind.TheVariants.{Bridge, Switch, Endpoint}
-use Rattle.cxl_topo.specs.Kinds.{is_bridge, is_endpoint, uid_of}
+use Rattle.cxl_topo.specs.Kinds.{is_bridge, is_endpoint}
 use Rattle.cxl_topo.specs.Tree.{is_bridge_at, is_port_at, uid_at, parent_of, bridge_with}
+use Rattle.cxl_topo.proofs.Trees.{KnownTree, up_tree, uid_top}
 use Rattle.cxl_model.specs.declared.request.Request.{Request}
 use Rattle.cxl_model.specs.System.{System}
 use Rattle.cxl_model.specs.Rules.{are_distinct}
 use Rattle.cxl_model.specs.Counts.{is_under}
+use Rattle.cxl_model.proofs.Sums.{one, total, length-filter-total, total-same, total-zero, exchange, once, total_each}
+use Rattle.cxl_model.proofs.Under.{under_root, under_step, under_self}
 use Rattle.cxl_legal.specs.Used.{request_ways, count_under}
-use Rattle.cxl_pick.proofs.Sums.{one, total, length-filter-total, total-same, total-zero, exchange, once}
-use Rattle.cxl_pick.proofs.Trees.{KnownTree, up_tree, under_root, under_step}
-use Rattle.cxl_pick.proofs.Below.{under_self}
-use Rattle.cxl_pick.proofs.Lists.{total_each}
 use Rattle.cxl_pick.proofs.Shares.{Asked}
 
 -- ---- a node without a parent
@@ -53,21 +52,6 @@ top_bridge {nodes} known b none within =
       | inl bridge ↦ bridge
       | inr other ↦ let own = known.tree.others b within other in absurd (none-some own.0 (sym none ∙ own.1))
     ]
-
-uid_of_bridge : (kind : NodeKind) (uid : ℕ) → uid_of kind ≡ Some uid → is_bridge kind ≡ true
-uid_of_bridge (Bridge own) uid is = refl
-uid_of_bridge Switch uid is = absurd (none-some uid is)
-uid_of_bridge (Endpoint capacity) uid is = absurd (none-some uid is)
-
--- a node with a UID is a bridge, and has no parent
-pub uid_top : {nodes : List Node} → KnownTree nodes → (b uid : ℕ) → uid_at nodes b ≡ Some uid → (is_bridge_at nodes b ≡ true) × (parent_of nodes b ≡ None)
-uid_top {nodes} known b uid is =
-    let bridge = go (slice_get nodes b) is in
-    (bridge, known.tree.bridges b bridge)
-  where
-    go : (o : Option Node) → option_and_then (λ node. uid_of node.kind) o ≡ Some uid → option_map_or (λ node. is_bridge node.kind) o false ≡ true
-    go None none = absurd (none-some uid none)
-    go (Some node) some = uid_of_bridge node.kind uid some
 
 kind_port : (kind : NodeKind) → is_bridge kind ≡ true → is_endpoint kind ≡ false
 kind_port (Bridge uid) is = refl

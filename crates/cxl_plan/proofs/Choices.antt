@@ -3,12 +3,13 @@ use Rattle.std.proofs.Common.{◌≡◌, ℕ, zero, suc, ◌+◌, ◌<◌, List,
 use Rattle.std.specs.Prelude.{slice_get}
 use Rattle.std.proofs.lemmas.Bool.{cases_lt}
 use Rattle.std.proofs.lemmas.Option.{none-some, same_Some, slice_get_within}
+use Rattle.cxl_enc.proofs.Lists.{get_last}
 use Rattle.cxl_window.specs.Fields.{WindowFields}
 use Rattle.cxl_model.specs.declared.request.Request.{Request}
 use Rattle.cxl_model.specs.declared.plan.Reason.{Reason}
 use Rattle.cxl_model.specs.System.{System}
 use Rattle.cxl_plan.specs.Faults.{Takes, TakesFirst, IsReason, AreReasons}
-use Rattle.cxl_plan.proofs.Tables.{slice_get_front, slice_get_end, length_end}
+use Rattle.cxl_plan.proofs.Tables.{slice_get_front, length_end}
 
 -- reasons of the windows before the place i
 pub record AreReasonsBelow (s : System) (request : Request) (i : ℕ) (reasons : List Reason) : Type 0 where
@@ -38,7 +39,7 @@ one_reason_more s request i w old new reason here known is own = record {
               let longer = ap length is ∙ length_end old reason in
               let same : j ≡ length old = omega arith in
               let place : i ≡ j = omega arith in
-              let one : reason ≡ other = same_Some reason other (sym (slice_get_end old reason) ∙ ap (λ (m : ℕ). slice_get (old ++ reason ∷ []) m) (sym same) ∙ ap (λ (xs : List Reason). slice_get xs j) (sym is) ∙ at) in
+              let one : reason ≡ other = same_Some reason other (sym (get_last old reason) ∙ ap (λ (m : ℕ). slice_get (old ++ reason ∷ []) m) (sym same) ∙ ap (λ (xs : List Reason). slice_get xs j) (sym is) ∙ at) in
               let window : w ≡ v = same_Some w v (sym here ∙ ap (slice_get s.windows) place ∙ there) in
               subst (λ (x : WindowFields). IsReason s request x other) window (subst (IsReason s request w) one own)
         ]

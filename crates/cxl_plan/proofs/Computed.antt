@@ -1,6 +1,7 @@
 -- What a request comes to, as it is computed, is what the planner's answer is known to be.
 use Rattle.std.proofs.Common.{◌≡◌, ℕ, ◌<◌, List, [], Ok, Err, ap, ◌∙◌, arith}
 use Rattle.cxl_topo.specs.Laws.{AreTreeLaws}
+use Rattle.cxl_topo.proofs.Trees.{KnownTree}
 use Rattle.cxl_model.specs.declared.request.Request.{Request}
 use Rattle.cxl_model.specs.declared.plan.Plan.{Plan}
 use Rattle.cxl_model.specs.declared.plan.PlanFault.{PlanFault}
@@ -12,7 +13,6 @@ use Rattle.cxl_legal.specs.Endpoints.{FitsEndpoints}
 use Rattle.cxl_plan.specs.Faults.{IsFirstPlan, IsFirstPlanFault, turn_of_fault}
 use Rattle.cxl_plan.specs.Planned.{planned, unless_fault, in_first_window, stated_plan}
 use Rattle.cxl_plan.specs.inner.Judging.{IsEarly}
-use Rattle.cxl_plan.proofs.Trees.{KnownTree}
 use Rattle.cxl_plan.proofs.FaultOrder.{faults_6}
 use Rattle.cxl_plan.proofs.LegalPlans.{none_repeats}
 use Rattle.cxl_plan.proofs.ComputedFaults.{fault_told, none_before_windows}

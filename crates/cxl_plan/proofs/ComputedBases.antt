@@ -6,12 +6,12 @@ use Rattle.std.proofs.lemmas.Bool.{cases_Bool, cases_eq}
 use Rattle.cxl_enc.specs.Limits.{unit}
 use Rattle.cxl_topo.specs.Tree.{is_endpoint_at}
 use Rattle.cxl_window.specs.Fields.{WindowFields}
+use Rattle.cxl_topo.proofs.Trees.{KnownTree}
 use Rattle.cxl_model.specs.declared.request.Request.{Request}
 use Rattle.cxl_model.specs.System.{System}
 use Rattle.cxl_legal.specs.Used.{is_used}
 use Rattle.cxl_legal.specs.Bases.{IsBase, IsLeastBase, last_end, base_step}
 use Rattle.cxl_plan.specs.Planned.{used_end, least_base}
-use Rattle.cxl_plan.proofs.Trees.{KnownTree}
 use Rattle.cxl_plan.proofs.UsedItems.{used_below}
 
 -- ---- the greatest of some ends

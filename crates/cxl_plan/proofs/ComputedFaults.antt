@@ -7,15 +7,18 @@ use Rattle.std.proofs.lemmas.Bool.{cases_Bool, eqb-true, eq-eqb, false≢true}
 use Rattle.std.proofs.lemmas.List.Folds.{list_any_at, Any-from_list_any}
 use Rattle.std.proofs.lemmas.Option.{none-some}
 use Rattle.cxl_enc.specs.Codes.{is_ways}
+use Rattle.cxl_enc.proofs.Options.{cases_Option, none_where}
 use Rattle.cxl_topo.specs.Tree.{is_endpoint_at}
 use Rattle.cxl_span.specs.declared.allotting.SpanFault.{SpanFault}
 use Rattle.cxl_span.specs.Allotting.{all_committed}
 use Rattle.cxl_window.specs.Windows.{first_repeat}
+use Rattle.cxl_topo.proofs.Trees.{KnownTree, endpoint_within}
 use Rattle.cxl_model.specs.declared.request.Request.{Request}
 use Rattle.cxl_model.specs.declared.plan.PlanFault.{PlanFault}
 use Rattle.cxl_model.specs.declared.plan.PlanFault.TheVariants as faults
 use Rattle.cxl_model.specs.Counts.{is_under}
 use Rattle.cxl_model.specs.System.{System, decoders_at, ram_at, pmem_at}
+use Rattle.cxl_model.proofs.Under.{under_self}
 use Rattle.cxl_legal.specs.Firsts.{first_there}
 use Rattle.cxl_legal.specs.Sizes.{is_size_for}
 use Rattle.cxl_legal.specs.Used.{request_ways, is_used}
@@ -24,15 +27,13 @@ use Rattle.cxl_plan.specs.Faults.{SaysOfRequest, turn_of_fault, IsRefusedSpan, l
 use Rattle.cxl_plan.specs.Planned.{fault_before_windows, span_fault, refused_span}
 use Rattle.cxl_legal.proofs.SizeTests.{size_holds, size_passes}
 use Rattle.cxl_plan.proofs.Finding.{none_found}
-use Rattle.cxl_plan.proofs.Trees.{KnownTree, under_itself}
-use Rattle.cxl_plan.proofs.Tables.{endpoint_inside}
 use Rattle.cxl_plan.proofs.FaultOrder.{not_refused}
-use Rattle.cxl_plan.proofs.FirstThere.{cases_there, past_none, at_some, all_none, first_of_nodes, first_or_none, none_where, some_then, none_then}
+use Rattle.cxl_plan.proofs.FirstThere.{past_none, at_some, all_none, first_of_nodes, first_or_none, some_then, none_then}
 use Rattle.cxl_plan.proofs.ComputedSpans.{room_where, told_refusal, refusal_told}
 
 -- ---- requested endpoints
 
-abbrev is_asked : Request → ℕ → Bool
+abbrev pub is_asked : Request → ℕ → Bool
 is_asked request m = list_any (λ endpoint. endpoint == m) request.endpoints
 
 asked_where : (request : Request) (m : ℕ) → Contains request.endpoints m → is_asked request m ≡ true
@@ -92,14 +93,14 @@ module _ (s : System) (known : KnownTree s.nodes) (request : Request) (named : A
   HasDecoders = least s (lacks_decoder s request) ≡ None
 
   pub asked_inside : (m : ℕ) → Contains request.endpoints m → m < length s.nodes
-  asked_inside m (k, below, read) = endpoint_inside s.nodes m (subst (λ (n : ℕ). is_endpoint_at s.nodes n ≡ true) read (named k m below))
+  asked_inside m (k, below, read) = endpoint_within s.nodes m (subst (λ (n : ℕ). is_endpoint_at s.nodes n ≡ true) read (named k m below))
 
   left : HasDecoders → (m : ℕ) → Contains request.endpoints m → all_committed (decoders_at s m) ≡ false
   left has m asked =
       let low = asked_inside m asked in
       let kept : lacks_decoder s request m ≡ false = none_found (lacks_decoder s request) 0 (length s.nodes) has m (omega arith) (omega arith) in
       let used : is_used s request m ≡ true =
-      list_any_at (is_under s.nodes m) request.endpoints asked.0 m asked.1 (ap (is_under s.nodes m) asked.2 ∙ under_itself known m) in
+      list_any_at (is_under s.nodes m) request.endpoints asked.0 m asked.1 (ap (is_under s.nodes m) asked.2 ∙ under_self known m) in
       sym (ap (λ (b : Bool). b && all_committed (decoders_at s m)) used) ∙ kept
 
   pub no_fault_room : HasDecoders → (m : ℕ) → Contains request.endpoints m → span_fault s request m ≡ None → HasRoom s request m
@@ -137,7 +138,7 @@ module _ (s : System) (known : KnownTree s.nodes) (request : Request) (named : A
   refused_first has m x here before =
       elim (cases_Bool (is_asked request m)) [
         | inr other ↦ absurd (none-some x (sym (fault_unasked s request m other) ∙ here))
-        | inl asked ↦ elim (cases_there (refused_span s request m)) [
+        | inl asked ↦ elim (cases_Option (refused_span s request m)) [
           | inl none ↦ absurd (none-some x (sym (fault_asked s request m asked ∙ ap (option_map (faults.Span m)) none) ∙ here))
           | inr some ↦ (
             some.0,

@@ -1,12 +1,14 @@
 -- The plan that is stated in a window, as it is computed.
-use Rattle.std.proofs.Common.{◌≡◌, ℕ, zero, suc, ◌+◌, ◌<◌, ◌≤◌, Bool, true, false, List, [], ◌∷◌, length, Option, Some, None, sym, ap, ◌∙◌, arith}
+use Rattle.std.proofs.Common.{◌≡◌, ℕ, zero, suc, ◌+◌, ◌<◌, ◌≤◌, Bool, true, List, [], ◌∷◌, length, Option, Some, None, sym, ap, ◌∙◌, arith}
 use Rattle.std.specs.Prelude.{slice_get, option_map, option_and_then, IsSomeAnd, if◌then◌else◌}
 use Rattle.std.specs.List.{filter_map, range_with_len}
-use Rattle.std.proofs.lemmas.Bool.{not-true, false≢true}
+use Rattle.std.proofs.lemmas.Bool.{false≢true}
 use Rattle.std.proofs.lemmas.Option.{same_Some, slice_get_within, option_and_then_some}
+use Rattle.std.proofs.lemmas.List.FromFn.{length-range_with_len}
 use Rattle.cxl_topo.specs.declared.node.Node.{Node}
-use Rattle.cxl_topo.specs.Tree.{is_endpoint_at, is_port_at, child_of, bridge_with}
+use Rattle.cxl_topo.specs.Tree.{is_port_at, child_of, bridge_with}
 use Rattle.cxl_window.specs.Fields.{WindowFields}
+use Rattle.cxl_topo.proofs.Trees.{KnownTree, parent_is_port, endpoint_within, port_no_endpoint}
 use Rattle.cxl_model.specs.declared.found.Place.{Place}
 use Rattle.cxl_model.specs.declared.plan.Plan.{Plan}
 use Rattle.cxl_model.specs.declared.request.Request.{Request}
@@ -15,14 +17,7 @@ use Rattle.cxl_model.specs.System.{System}
 use Rattle.cxl_legal.specs.Used.{request_ways}
 use Rattle.cxl_legal.specs.Stated.{stated_start, planned_port, Reaches, at_endpoint, past_port, IsStatedPlace, IsStatedPlan}
 use Rattle.cxl_plan.specs.Planned.{led_within, stated_place, stated_plan}
-use Rattle.cxl_plan.proofs.Trees.{KnownTree, parent_is_port}
-use Rattle.cxl_plan.proofs.Tables.{endpoint_inside}
-use Rattle.cxl_plan.proofs.FirstThere.{answers_of, number_at, count_of_numbers}
-
-port_no_endpoint : (nodes : List Node) (n : ℕ) → is_port_at nodes n ≡ true → is_endpoint_at nodes n ≡ false
-port_no_endpoint [] n is = absurd (false≢true is)
-port_no_endpoint (x ∷ xs) zero is = not-true _ is
-port_no_endpoint (x ∷ xs) (suc n) is = port_no_endpoint xs n is
+use Rattle.cxl_plan.proofs.FirstThere.{answers_of, number_at}
 
 and_some : {A B : Type 0} (o : Option A) (f : A → Option B) (b : B) → IsSomeAnd o (λ x. f x ≡ Some b) → option_and_then f o ≡ Some b
 and_some (Some x) f b is = is
@@ -33,7 +28,7 @@ module _ (s : System) (known : KnownTree s.nodes) (request : Request) (w : Windo
 
   -- children come after their parents, so that there are more levels than nodes from here on
   led : (slot n m : ℕ) → Reaches s request w slot n m → (k : ℕ) → length s.nodes ≤ n + k → led_within k s request w slot n ≡ Some m
-  led slot n m (at_endpoint _ endpoint) zero enough = let inside = endpoint_inside s.nodes n endpoint in absurd (omega arith)
+  led slot n m (at_endpoint _ endpoint) zero enough = let inside = endpoint_within s.nodes n endpoint in absurd (omega arith)
   led slot n m (at_endpoint _ endpoint) (suc k) enough =
       ap (λ (b : Bool). if b then Some n else option_and_then (led_within k s request w slot) (option_and_then (child_of s.nodes n) (planned_port s request w slot n))) endpoint
   led slot n m (past_port _ child _ port way rest) zero enough =
@@ -83,7 +78,7 @@ module _ (s : System) (known : KnownTree s.nodes) (request : Request) (w : Windo
     where
       spans : filter_map (stated_place s request w) (range_with_len 0 (request_ways request)) ≡ plan.found.spans
       spans =
-          answers_of (stated_place s request w) (range_with_len 0 (request_ways request)) plan.found.spans (is.slots ∙ sym (count_of_numbers 0 (request_ways request)))
+          answers_of (stated_place s request w) (range_with_len 0 (request_ways request)) plan.found.spans (is.slots ∙ sym (length-range_with_len 0 (request_ways request)))
           (λ i slot place at there.
           let count = is.slots in
           let within = slice_get_within plan.found.spans i place there in

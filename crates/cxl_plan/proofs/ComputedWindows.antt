@@ -5,11 +5,13 @@ use Rattle.std.specs.Bool.{then_some}
 use Rattle.std.specs.List.{All, filter_map}
 use Rattle.std.proofs.lemmas.Bool.{cases_Bool, lt-ltb, ltb-true}
 use Rattle.std.proofs.lemmas.Option.{slice_get_within}
+use Rattle.cxl_enc.proofs.Options.{none_where}
 use Rattle.cxl_topo.specs.Tree.{is_endpoint_at}
 use Rattle.cxl_regs.specs.Words.{has_bit}
 use Rattle.cxl_span.specs.declared.allotting.Room.{Room}
 use Rattle.cxl_window.specs.Fields.{WindowFields}
 use Rattle.cxl_window.specs.Position.{is_usable}
+use Rattle.cxl_topo.proofs.Trees.{KnownTree}
 use Rattle.cxl_model.specs.declared.request.Request.{Request}
 use Rattle.cxl_model.specs.declared.plan.Reason.{Reason}
 use Rattle.cxl_model.specs.declared.plan.Reason.TheVariants as reasons
@@ -19,9 +21,8 @@ use Rattle.cxl_legal.specs.Firsts.{first_there}
 use Rattle.cxl_legal.specs.Windows.{has_used_bridges, agrees_on_gran, can_select, can_have_ways}
 use Rattle.cxl_plan.specs.Faults.{SaysOfWindow, turn_of_reason, IsReason, Takes, TakesFirst, AreReasons, least}
 use Rattle.cxl_plan.specs.Planned.{reason_of, room_in, least_base}
-use Rattle.cxl_plan.proofs.Trees.{KnownTree}
 use Rattle.cxl_plan.proofs.LegalPlans.{no_reason}
-use Rattle.cxl_plan.proofs.FirstThere.{past_none, at_some, none_where, some_then, none_then, find_at, find_nothing, answers_of}
+use Rattle.cxl_plan.proofs.FirstThere.{past_none, at_some, some_then, none_then, find_at, find_nothing, answers_of}
 use Rattle.cxl_plan.proofs.ComputedBases.{least_base_known, one_least}
 
 module _ (s : System) (known : KnownTree s.nodes) (request : Request) (named : All (λ m. is_endpoint_at s.nodes m ≡ true) request.endpoints) where

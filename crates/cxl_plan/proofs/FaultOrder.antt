@@ -1,11 +1,11 @@
 -- Faults in the order in which they are tried, and requests without one.
-use Rattle.std.proofs.Common.{◌≡◌, ◌≢◌, ℕ, zero, suc, ◌+◌, ◌<◌, ◌≤◌, Bool, true, false, not, List, [], ◌∷◌, ◌++◌, length, get_or, Option, Some, None, cond, refl, sym, ap, subst, ◌∙◌, inl, inr, arith, append_assoc}
+use Rattle.std.proofs.Common.{◌≡◌, ◌≢◌, ℕ, zero, suc, ◌+◌, ◌<◌, ◌≤◌, Bool, true, false, List, [], ◌∷◌, ◌++◌, length, get_or, Option, Some, None, cond, refl, sym, ap, subst, ◌∙◌, inl, inr, arith, append_assoc}
 use Rattle.std.specs.Prelude.{nat_le, Err, find, ◌==◌, AllPairs, Contains}
 use Rattle.std.specs.List.{list_any, range_with_len, All}
-use Rattle.std.proofs.lemmas.Bool.{cases_Bool, cases_eq, cases_lt, and_parts, leb-true, eq-eqb, eqb-true, ne_eqb, false≢true}
+use Rattle.std.proofs.lemmas.Bool.{cases_Bool, cases_eq, cases_lt, and_parts, leb-true, eqb-true, ne_eqb, false≢true}
 use Rattle.std.proofs.lemmas.Bool.Decides.{Decides-eqb}
 use Rattle.std.proofs.lemmas.List.{append-nil}
-use Rattle.std.proofs.lemmas.List.Folds.{list_any_at, Any-from_list_any}
+use Rattle.std.proofs.lemmas.List.Folds.{Any-from_list_any}
 use Rattle.std.proofs.lemmas.List.Quantifiers.{all_pairs_push}
 use Rattle.std.proofs.lemmas.Map.Made.{IsDistinct-from_AllPairs}
 use Rattle.std.proofs.lemmas.Map.Steps.{length-le_from_distinct_below}
@@ -13,7 +13,7 @@ use Rattle.std.proofs.lemmas.Option.{none-some}
 use Rattle.cxl_enc.specs.Codes.{is_ways}
 use Rattle.cxl_enc.specs.Caps.{is_target_count}
 use Rattle.cxl_topo.specs.declared.node.Node.{Node}
-use Rattle.cxl_topo.specs.Tree.{is_endpoint_at, is_port_at}
+use Rattle.cxl_topo.specs.Tree.{is_endpoint_at}
 use Rattle.cxl_regs.specs.Registers.{Registers}
 use Rattle.cxl_window.specs.Windows.{first_repeat}
 use Rattle.cxl_window.specs.Fields.{WindowFields}
@@ -22,6 +22,9 @@ use Rattle.cxl_model.specs.declared.plan.PlanFault.{PlanFault}
 use Rattle.cxl_model.specs.declared.plan.PlanFault.TheVariants as faults
 use Rattle.cxl_model.specs.System.{System, decoders_at, ram_at, pmem_at}
 use Rattle.cxl_enc.specs.declared.caps.MemKind.{MemKind}
+use Rattle.cxl_enc.proofs.Lists.{not_among}
+use Rattle.cxl_enc.proofs.Ways.{count_is_ways}
+use Rattle.cxl_topo.proofs.Trees.{KnownTree, endpoint_within, inside_port}
 use Rattle.cxl_regs.specs.declared.decoder.Decoder.{Decoder}
 use Rattle.cxl_span.specs.declared.allotting.Span.{Span}
 use Rattle.cxl_span.specs.declared.allotting.SpanFault.{SpanFault}
@@ -34,8 +37,6 @@ use Rattle.cxl_plan.specs.Faults.{SaysOfRequest, turn_of_fault, least}
 use Rattle.cxl_plan.specs.inner.Uses.{tree_alone, HasWays, ports_at}
 use Rattle.cxl_plan.specs.inner.Judging.{uneven_at, over, IsEarly}
 use Rattle.cxl_plan.proofs.Finding.{none_found}
-use Rattle.cxl_plan.proofs.Trees.{KnownTree}
-use Rattle.cxl_plan.proofs.Tables.{endpoint_inside}
 use Rattle.cxl_plan.proofs.UsedItems.{used_below}
 use Rattle.cxl_plan.proofs.UnevenNodes.{uneven_used, even_of}
 use Rattle.cxl_plan.proofs.PlannedWays.{endpoint_ways, port_ways}
@@ -93,9 +94,6 @@ module _ (s : System) (request : Request) where
 
 -- ---- different endpoints
 
-not_among : (before : List ℕ) (u : ℕ) → list_any (λ v. v == u) before ≡ false → (k d : ℕ) → k < length before → get_or before k d ≢ u
-not_among before u none k d inside same = false≢true (sym none ∙ list_any_at (λ v. v == u) before k d inside (eq-eqb (get_or before k d) u same))
-
 first_fails : (found : Bool) (x : ℕ) (others : Option ℕ) → cond found (Some x) others ≡ None → (found ≡ false) × (others ≡ None)
 first_fails true x others e = cc
 first_fails false x others e = (refl, e)
@@ -122,7 +120,7 @@ few_different xs n distinct below =
     omega arith)
 
 pub endpoints_inside : (nodes : List Node) (endpoints : List ℕ) → All (λ m. is_endpoint_at nodes m ≡ true) endpoints → All (λ m. m < length nodes) endpoints
-endpoints_inside nodes endpoints named k d below = endpoint_inside nodes (get_or endpoints k d) (named k d below)
+endpoints_inside nodes endpoints named k d below = endpoint_within nodes (get_or endpoints k d) (named k d below)
 
 -- ---- all nodes
 
@@ -164,27 +162,6 @@ even_nodes s request fits n = fits.even n
 
 -- ---- the ways of used nodes
 
-target_ways : (n : ℕ) → is_target_count n ≡ true → is_ways n ≡ true
-target_ways n is =
-    elim (cases_Bool (n == 1)) [
-      | inl e ↦ rw e refl
-      | inr a ↦ elim (cases_Bool (n == 2)) [
-        | inl e ↦ rw (a, e) refl
-        | inr b ↦ elim (cases_Bool (n == 4)) [
-          | inl e ↦ rw (a, b, e) refl
-          | inr d ↦ elim (cases_Bool (n == 8)) [
-            | inl e ↦ rw (a, b, d, e) refl
-            | inr f ↦ absurd (false≢true (rw (a, b, d, f) at is))
-          ]
-        ]
-      ]
-    ]
-
-pub inside_port : (nodes : List Node) (n : ℕ) → n < length nodes → is_endpoint_at nodes n ≡ false → is_port_at nodes n ≡ true
-inside_port [] n below is = absurd (omega arith)
-inside_port (x ∷ xs) zero below is = ap not is
-inside_port (x ∷ xs) (suc n) below is = inside_port xs n (omega arith) is
-
 pub has_ways : (s : System) (known : KnownTree s.nodes) (request : Request) → All (λ m. is_endpoint_at s.nodes m ≡ true) request.endpoints → FitsEndpoints s request → HasWays s.nodes request
 has_ways s known request named fits n used =
     elim (cases_Bool (is_endpoint_at s.nodes n)) [
@@ -192,7 +169,7 @@ has_ways s known request named fits n used =
       | inr other ↦
           let below = used_below s.nodes known request named n used in
           let count = even_of s.nodes request n used (inside_port s.nodes n below other) (even_nodes s request fits n) in
-          subst (λ (m : ℕ). is_ways m ≡ true) (sym (port_ways s.nodes request n other)) (target_ways (length (ports_at s.nodes request n)) count)
+          subst (λ (m : ℕ). is_ways m ≡ true) (sym (port_ways s.nodes request n other)) (count_is_ways (length (ports_at s.nodes request n)) count)
     ]
 
 -- ---- the faults before those of windows

@@ -5,15 +5,8 @@ use Rattle.std.specs.Bool.{then_some}
 use Rattle.std.specs.List.{filter_map, range_with_len}
 use Rattle.std.proofs.lemmas.Bool.{cases_eq}
 use Rattle.std.proofs.lemmas.Option.{none-some, same_Some}
+use Rattle.cxl_enc.proofs.Options.{cases_Option}
 use Rattle.cxl_legal.specs.Firsts.{first_there}
-
-pub cases_there : {A : Type 0} (o : Option A) → (o ≡ None) ⊎ ((x : A) × (o ≡ Some x))
-cases_there None = inl refl
-cases_there (Some x) = inr (x, refl)
-
-pub none_where : {A : Type 0} (o : Option A) → ((x : A) → o ≡ Some x → ⊥) → o ≡ None
-none_where None never = refl
-none_where (Some x) never = absurd (never x refl)
 
 -- ---- the first that is there
 
@@ -50,7 +43,7 @@ pub record IsFirstOf {A : Type 0} (h : ℕ → Option A) (a k : ℕ) : Type 0 wh
 pub first_or_none : {A : Type 0} (h : ℕ → Option A) (a k : ℕ) → ((n : ℕ) → a ≤ n → n < a + k → h n ≡ None) ⊎ IsFirstOf h a k
 first_or_none h a zero = inl (λ n from below. absurd (omega arith))
 first_or_none h a (suc k) =
-    elim (cases_there (h a)) [
+    elim (cases_Option (h a)) [
       | inr some ↦ inr record { m = a; x = some.0; from = omega arith; below = omega arith; here = some.1; before = λ n from low. absurd (omega arith) }
       | inl none ↦ elim (first_or_none h (a + 1) k) [
         | inl all ↦ inl (λ n from below. elim (cases_eq a n) [ inl same ↦ ap h (sym same) ∙ none | inr other ↦ all n (omega arith) (omega arith) ])
@@ -108,7 +101,3 @@ pub number_at : (a k i : ℕ) → i < k → slice_get (range_with_len a k) i ≡
 number_at a zero i below = absurd (omega arith)
 number_at a (suc k) zero below = ap Some (omega arith)
 number_at a (suc k) (suc i) below = number_at (a + 1) k i (omega arith) ∙ ap Some (omega arith)
-
-pub count_of_numbers : (a k : ℕ) → length (range_with_len a k) ≡ k
-count_of_numbers a zero = refl
-count_of_numbers a (suc k) = ap suc (count_of_numbers (a + 1) k)

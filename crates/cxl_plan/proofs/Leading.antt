@@ -7,11 +7,11 @@ use Rattle.std.proofs.lemmas.List.Elements.{filter_passes}
 use Rattle.cxl_topo.specs.declared.node.Node.{Node}
 use Rattle.cxl_topo.specs.declared.node.Parent.{Parent}
 use Rattle.cxl_topo.specs.Tree.{child_of, parent_of, bridge_with}
+use Rattle.cxl_topo.proofs.Trees.{KnownTree, parent_within, parent_is_port}
 use Rattle.cxl_model.specs.declared.request.Request.{Request}
 use Rattle.cxl_legal.specs.Used.{is_used, is_port_used}
 use Rattle.cxl_legal.specs.Windows.{is_used_bridge}
 use Rattle.cxl_plan.specs.inner.Uses.{tree_alone, ports_at}
-use Rattle.cxl_plan.proofs.Trees.{KnownTree, parent_within, parent_is_port}
 
 pub ports_used : (nodes : List Node) (request : Request) (n : ℕ) → All (λ p. is_port_used (tree_alone nodes) request n p ≡ true) (ports_at nodes request n)
 unfolding ports_at

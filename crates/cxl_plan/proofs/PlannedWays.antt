@@ -1,20 +1,22 @@
 -- The ways and codes that used nodes would have, one node up at a time.
-use Rattle.std.proofs.Common.{◌≡◌, ℕ, zero, suc, ◌+◌, ◌*◌, ◌/◌, ◌<◌, ◌≤◌, Bool, true, false, List, length, get_or, map, Vec, Global, Option, Some, None, refl, sym, ap, ◌∙◌, inl, inr, arith, if◌then◌else◌}
+use Rattle.std.proofs.Common.{◌≡◌, ℕ, zero, suc, ◌+◌, ◌*◌, ◌/◌, ◌<◌, ◌≤◌, Bool, true, false, List, length, get_or, map, Vec, Global, Some, None, refl, sym, ap, ◌∙◌, inl, inr, arith, if◌then◌else◌}
 use Rattle.std.specs.Prelude.{slice_get, sum_by, ◌==◌}
 use Rattle.std.proofs.lemmas.Bool.{cases_Bool, cases_lt, eq-eqb, ne_eqb, false≢true}
 use Rattle.std.proofs.lemmas.Option.{slice_get-get_or}
 use Rattle.std.proofs.lemmas.List.Sums.{sum_by-cons}
 use Rattle.cxl_enc.specs.Codes.{is_ways, bits_of, third_of, log2_of}
+use Rattle.cxl_enc.proofs.Numbers.{sixteens, times, some_product}
 use Rattle.cxl_topo.specs.declared.node.Node.{Node}
 use Rattle.cxl_topo.specs.declared.node.Parent.{Parent}
 use Rattle.cxl_topo.specs.Tree.{is_endpoint_at, parent_of, ports_above}
 use Rattle.cxl_window.specs.Fields.{WindowFields}
+use Rattle.cxl_topo.proofs.Trees.{KnownTree, up_tree, ports_none, ports_some}
 use Rattle.cxl_model.specs.declared.request.Request.{Request}
 use Rattle.cxl_model.specs.Ranges.{product}
 use Rattle.cxl_model.specs.Plans.{plan_code}
 use Rattle.cxl_legal.specs.Used.{request_ways, is_used, used_ports, planned_ways}
 use Rattle.cxl_plan.specs.inner.Uses.{tree_alone, ports_at, ways_at, ways_above_at, bits_above_at, code_at, HasWays, ArePorts}
-use Rattle.cxl_plan.proofs.Trees.{KnownTree, up_tree, ports_none, ports_some, parent_used}
+use Rattle.cxl_plan.proofs.Trees.{parent_used}
 
 -- ---- numbers of ways
 
@@ -71,16 +73,6 @@ module _ (nodes : List Node) (request : Request) where
 
 -- ---- how many they can be
 
-abbrev sixteens : ℕ → ℕ
-sixteens zero = 1
-sixteens (suc m) = 16 * sixteens m
-
-times : (a b p q : ℕ) → a ≤ b → p ≤ q → a * p ≤ b * q
-times a b p q ab pq = grind arith
-
-some_times : (a b : ℕ) → 0 < a → 0 < b → 0 < a * b
-some_times a b some other = grind arith
-
 record IsFewAbove (nodes : List Node) (request : Request) (m n : ℕ) : Type 0 where
   ways : ways_above_at nodes request n ≤ sixteens m
   some : 0 < ways_above_at nodes request n
@@ -107,7 +99,7 @@ few_above nodes request known ways =
         let below = rest m parent (omega arith) in
         let own = few_ways (ways_at nodes request p.node) (ways p.node parent) in
         let more = times (ways_at nodes request p.node) 16 (ways_above_at nodes request p.node) (sixteens m) own below.ways in
-        let least = some_times (ways_at nodes request p.node) (ways_above_at nodes request p.node) (some_ways (ways_at nodes request p.node) (ways p.node parent)) below.some in
+        let least = some_product (ways_at nodes request p.node) (ways_above_at nodes request p.node) (some_ways (ways_at nodes request p.node) (ways p.node parent)) below.some in
         let is = ways_step nodes request known n p up in
         record { ways = omega arith; some = omega arith }
 
@@ -170,9 +162,6 @@ module _ (nodes : List Node) (request : Request) (w : WindowFields) where
       code_is n ∙ ap (λ (b : Bool). choose_code n b (is_endpoint_at nodes n)) (ne_eqb (ways_at nodes request n) 1 many) ∙ ap (choose_code n false) is
 
 -- ---- what the tables give
-
-pub up_of : (nodes : List Node) (n : ℕ) (node : Node) (up : Option Parent) → slice_get nodes n ≡ Some node → node.parent ≡ up → parent_of nodes n ≡ up
-up_of nodes n node up here is = rw here is
 
 pub count_of_ports : (nodes : List Node) (request : Request) (ports : List (Vec ℕ Global)) → ArePorts nodes request ports → (n : ℕ) → n < length nodes → (own : Vec ℕ Global) → own ≡ get_or ports n own
     → is_endpoint_at nodes n ≡ false → length own.items ≡ ways_at nodes request n

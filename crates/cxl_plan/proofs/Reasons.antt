@@ -3,9 +3,10 @@ use Rattle.std.proofs.Common.{◌≡◌, ℕ, zero, suc, ◌+◌, ◌-◌, ◌%�
 use Rattle.std.specs.Prelude.{slice_get, find, ◌==◌, nat_le}
 use Rattle.std.specs.Option.{option_map_or}
 use Rattle.std.specs.List.{list_all, range_with_len, All}
-use Rattle.std.proofs.lemmas.Bool.{cases_Bool, cases_eq, and_parts, leb-true, eqb-true, false≢true}
+use Rattle.std.proofs.lemmas.Bool.{cases_Bool, cases_eq, and_parts, leb-true, eqb-true, false≢true, not-false}
 use Rattle.std.proofs.lemmas.Option.{none-some, slice_get_within, option_and_then_some}
 use Rattle.cxl_enc.specs.Codes.{is_ways, bits_of, code_in_table, ways_of}
+use Rattle.cxl_enc.proofs.Tests.{and_true, and_false}
 use Rattle.cxl_topo.specs.declared.node.Node.{Node}
 use Rattle.cxl_topo.specs.Kinds.{uid_of}
 use Rattle.cxl_topo.specs.Tree.{is_endpoint_at, bridge_with}
@@ -15,6 +16,7 @@ use Rattle.cxl_regs.specs.Words.{has_bit}
 use Rattle.cxl_regs.specs.Rules.{select_ok, endpoint_ways_ok}
 use Rattle.cxl_window.specs.Fields.{WindowFields}
 use Rattle.cxl_window.specs.Position.{is_usable}
+use Rattle.cxl_topo.proofs.Trees.{KnownTree}
 use Rattle.cxl_model.specs.declared.request.Request.{Request}
 use Rattle.cxl_model.specs.declared.plan.Reason.{Reason}
 use Rattle.cxl_model.specs.declared.plan.Reason.TheVariants as reasons
@@ -29,7 +31,6 @@ use Rattle.cxl_plan.specs.inner.Uses.{tree_alone, ways_at, code_at}
 use Rattle.cxl_plan.specs.inner.Judging.{selects_at, over, KeepsWindow}
 use Rattle.cxl_plan.specs.inner.Floors.{IsFloor}
 use Rattle.cxl_plan.proofs.Finding.{none_found}
-use Rattle.cxl_plan.proofs.Trees.{KnownTree}
 use Rattle.cxl_plan.proofs.UsedItems.{used_below}
 
 -- ---- the order of reasons
@@ -122,14 +123,6 @@ module _ (nodes : List Node) (request : Request) (w : WindowFields) where
 
 -- ---- ways of endpoints
 
-and_true : (a : Bool) → (a && true) ≡ a
-and_true true = refl
-and_true false = refl
-
-and_false : (a : Bool) → (a && false) ≡ false
-and_false true = refl
-and_false false = refl
-
 module _ (nodes : List Node) (request : Request) where
   pub ways_tested : (n : ℕ) → is_used (tree_alone nodes) request n ≡ true
       → (not (is_endpoint_at nodes n) || option_map_or (endpoint_ways_ok (cap_at (tree_alone nodes) n)) (code_in_table (request_ways request)) false) ≡ can_have_ways (tree_alone nodes) request n
@@ -207,10 +200,6 @@ bridge_inside nodes laws uid n is = option_and_then_some (λ (node : Node). uid_
 
 -- ---- a window without a reason
 
-not_false : (b : Bool) → not b ≡ false → b ≡ true
-not_false true e = refl
-not_false false e = absurd (false≢true (sym e))
-
 pub fits_window : (nodes : List Node) → KnownTree nodes → (request : Request) → All (λ m. is_endpoint_at nodes m ≡ true) request.endpoints → (w : WindowFields) → KeepsWindow nodes request w
     → (blocks : List Registers) (windows : List WindowFields) → slice_get windows w.index ≡ Some w → FitsWindow (over nodes blocks windows) request w
 unfolding selects_at
@@ -230,7 +219,7 @@ fits_window nodes known request named w kept blocks windows there = record {
         elim (cases_Bool (is_used (tree_alone nodes) request n)) [
           | inl used ↦
               let below = used_below nodes known request named n used in
-              not_false (selects_at nodes request w n) (none_found (λ m. not (selects_at nodes request w m)) 0 (length nodes) kept.selects n (omega arith) (omega arith))
+              not-false (selects_at nodes request w n) (none_found (λ m. not (selects_at nodes request w m)) 0 (length nodes) kept.selects n (omega arith) (omega arith))
           | inr not_used ↦ unused_selects nodes request w n not_used
         ]
 
@@ -239,7 +228,7 @@ fits_window nodes known request named w kept blocks windows there = record {
         elim (cases_Bool (is_used (tree_alone nodes) request n)) [
           | inl used ↦
               let below = used_below nodes known request named n used in
-              not_false (can_have_ways (tree_alone nodes) request n) (none_found (λ m. not (can_have_ways (tree_alone nodes) request m)) 0 (length nodes) kept.ways n (omega arith) (omega arith))
+              not-false (can_have_ways (tree_alone nodes) request n) (none_found (λ m. not (can_have_ways (tree_alone nodes) request m)) 0 (length nodes) kept.ways n (omega arith) (omega arith))
           | inr not_used ↦ unused_ways nodes request n not_used
         ]
 

@@ -50,11 +50,9 @@ use Rattle.cxl_plan.specs.Faults.{least}
 use Rattle.cxl_plan.specs.Planned.{next_room, refused_span, span_fault, fault_before_windows, least_base, reason_of, led_within, stated_plan, in_first_window, unless_fault, planned}
 use Rattle.cxl_plan.proofs.FaultOrder.{different}
 use Rattle.cxl_plan.proofs.LegalPlans.{none_repeats}
+use Rattle.cxl_plan.proofs.ComputedFaults.{is_asked}
 
 -- ---- what is asked of the endpoints, and all that follows from it
-
-abbrev is_asked : Request → ℕ → Bool
-is_asked request m = list_any (λ endpoint. endpoint == m) request.endpoints
 
 module _ (s : System) (request : Request) (ways : ℕ) (used : ℕ → Bool) (under : ℕ → ℕ) (asked : ℕ → Bool) where
   -- nodes

@@ -5,10 +5,12 @@ use Rattle.std.specs.Option.{option_and_then}
 use Rattle.std.proofs.lemmas.Bool.{cases_lt}
 use Rattle.std.proofs.lemmas.Option.{none-some, same_Some, slice_get_within}
 use Rattle.cxl_enc.specs.Codes.{bits_of}
+use Rattle.cxl_enc.proofs.Lists.{get_last}
 use Rattle.cxl_topo.specs.declared.node.Node.{Node}
 use Rattle.cxl_topo.specs.Tree.{is_endpoint_at, child_of}
 use Rattle.cxl_regs.specs.Registers.{Registers}
 use Rattle.cxl_window.specs.Fields.{WindowFields}
+use Rattle.cxl_topo.proofs.Trees.{inside_port}
 use Rattle.cxl_model.specs.declared.request.Request.{Request}
 use Rattle.cxl_model.specs.declared.found.Place.{Place}
 use Rattle.cxl_model.specs.System.{System}
@@ -16,8 +18,7 @@ use Rattle.cxl_legal.specs.Stated.{Reaches, at_endpoint, past_port, IsStatedPlac
 use Rattle.cxl_plan.specs.inner.Uses.{ports_at, ways_at, ways_above_at}
 use Rattle.cxl_plan.specs.inner.Judging.{over}
 use Rattle.cxl_plan.specs.inner.Planned.{ReachesAt}
-use Rattle.cxl_plan.proofs.FaultOrder.{inside_port}
-use Rattle.cxl_plan.proofs.Tables.{slice_get_front, slice_get_end, length_end}
+use Rattle.cxl_plan.proofs.Tables.{slice_get_front, length_end}
 
 module _ (nodes : List Node) (request : Request) (w : WindowFields) (slot : ℕ) where
   pub reach_end : (m : ℕ) → is_endpoint_at nodes m ≡ true → ReachesAt nodes request w slot m m
@@ -62,6 +63,6 @@ one_place_more s request w slot old new place known is own = record {
               let longer = ap length is ∙ length_end old place in
               let same : j ≡ length old = omega arith in
               let turn : slot ≡ j = omega arith in
-              let one : place ≡ other = same_Some place other (sym (slice_get_end old place) ∙ ap (λ (m : ℕ). slice_get (old ++ place ∷ []) m) (sym same) ∙ ap (λ (xs : List Place). slice_get xs j) (sym is) ∙ at) in
+              let one : place ≡ other = same_Some place other (sym (get_last old place) ∙ ap (λ (m : ℕ). slice_get (old ++ place ∷ []) m) (sym same) ∙ ap (λ (xs : List Place). slice_get xs j) (sym is) ∙ at) in
               subst (λ (k : ℕ). IsStatedPlace s request w k other) turn (subst (IsStatedPlace s request w slot) one own)
         ]

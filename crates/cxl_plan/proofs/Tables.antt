@@ -1,5 +1,5 @@
 -- The tables of used nodes and ports, one entry at a time.
-use Rattle.std.proofs.Common.{append-nil, ◌⊎◌, ◌≡◌, ℕ, zero, suc, ◌+◌, ◌<◌, ◌≤◌, Bool, true, false, ◌||◌, ◌&&◌, List, [], ◌∷◌, ◌++◌, length, get_or, take, filter, replicate, Option, Some, None, refl, sym, ap, ◌∙◌, inl, inr, arith, if◌then◌else◌}
+use Rattle.std.proofs.Common.{append-nil, ◌≡◌, ℕ, zero, suc, ◌+◌, ◌<◌, ◌≤◌, Bool, true, false, ◌||◌, ◌&&◌, List, [], ◌∷◌, ◌++◌, length, get_or, take, filter, replicate, Option, Some, None, refl, sym, ap, ◌∙◌, inl, inr, arith, if◌then◌else◌}
 use Rattle.std.specs.Prelude.{Vec, slice_get, ◌==◌, nat_lt, Result, Ok, Err, IfOk}
 use Rattle.std.specs.Global.{Global}
 use Rattle.std.specs.Option.{option_map_or}
@@ -9,22 +9,21 @@ use Rattle.std.proofs.lemmas.List.{take_more}
 use Rattle.std.proofs.lemmas.List.Folds.{list_any-append}
 use Rattle.std.proofs.lemmas.List.Elements.{filter-append}
 use Rattle.std.proofs.lemmas.Option.{none-some, same_Some, slice_get_within}
+use Rattle.cxl_enc.proofs.Numbers.{numbers_more}
+use Rattle.cxl_enc.proofs.Tests.{or_false}
+use Rattle.cxl_enc.proofs.Options.{cases_Option}
+use Rattle.cxl_enc.proofs.Lists.{get_last}
 use Rattle.cxl_topo.specs.declared.node.Node.{Node}
 use Rattle.cxl_topo.specs.declared.node.Parent.{Parent}
-use Rattle.cxl_topo.specs.Kinds.{is_endpoint}
-use Rattle.cxl_topo.specs.Tree.{is_endpoint_at, parent_of, child_of, path_of}
+use Rattle.cxl_topo.specs.Tree.{parent_of, child_of, path_of}
 use Rattle.cxl_topo.specs.Laws.{AreTreeLaws}
+use Rattle.cxl_topo.proofs.Trees.{KnownTree, parent_within}
 use Rattle.cxl_model.specs.declared.request.Request.{Request}
 use Rattle.cxl_model.specs.Counts.{is_under}
 use Rattle.cxl_legal.specs.Used.{is_used, count_at_port, is_port_used}
 use Rattle.cxl_plan.specs.inner.Uses.{tree_alone, ports_at, used_nodes, AreMarks, AreCounts}
 use Rattle.cxl_plan.specs.inner.AtPorts.{entered_at}
-use Rattle.cxl_plan.proofs.Finding.{numbers_more}
-use Rattle.cxl_plan.proofs.Trees.{KnownTree, parent_within, parent_used}
-
-or_false : (b : Bool) → (b || false) ≡ b
-or_false true = refl
-or_false false = refl
+use Rattle.cxl_plan.proofs.Trees.{parent_used}
 
 or_assoc : (a b c : Bool) → ((a || b) || c) ≡ (a || (b || c))
 or_assoc true b c = refl
@@ -43,13 +42,6 @@ pub marked_more : (xs : List ℕ) (i n : ℕ) (start old new : Bool) → i < len
 marked_more xs i n start old new lt before now =
     now ∙ ap (λ (b : Bool). b || (get_or xs i 0 == n)) before ∙ or_assoc start (list_any (λ q. q == n) (take i xs)) (get_or xs i 0 == n)
     ∙ ap (λ (b : Bool). start || b) (sym (any_more (λ q. q == n) xs i 0 lt))
-
-pub endpoint_inside : (nodes : List Node) (m : ℕ) → is_endpoint_at nodes m ≡ true → m < length nodes
-endpoint_inside nodes m is = go (slice_get nodes m) refl is
-  where
-    go : (o : Option Node) → slice_get nodes m ≡ o → option_map_or (λ node. is_endpoint node.kind) o false ≡ true → m < length nodes
-    go None e h = absurd (false≢true h)
-    go (Some node) e h = slice_get_within nodes m node e
 
 pub none_marked : (nodes : List Node) (marks : List Bool) → length marks ≡ length nodes → ((n : ℕ) → get_or marks n false ≡ false) → AreMarks nodes [] marks
 none_marked nodes marks count none = record { count = count; each = λ n below. none n }
@@ -179,10 +171,6 @@ any_filtered q a (suc n) c from below =
           ]
     ]
 
-cases_option : (o : Option ℕ) → (o ≡ None) ⊎ ((c : ℕ) × (o ≡ Some c))
-cases_option None = inl refl
-cases_option (Some c) = inr (c, refl)
-
 -- whether the parent is node n, at the port
 abbrev pub parent_at : ℕ → ℕ → Parent → Bool
 parent_at n port parent = (parent.node == n) && (parent.port == port)
@@ -203,14 +191,14 @@ zeros (suc k) (suc port) = zeros k port
 -- nothing is entered yet
 pub none_entered : (nodes : List Node) (counts : List ℕ) (n port : ℕ) (at : List ℕ) → at ≡ replicate 256 0 → get_or at port 0 ≡ entered_at nodes counts [] n port
 none_entered nodes counts n port at is =
-    ap (λ (xs : List ℕ). get_or xs port 0) is ∙ zeros 256 port ∙ elim (cases_option (child_of nodes n port)) [ inl none ↦ rw none refl | inr some ↦ rw some.1 refl ]
+    ap (λ (xs : List ℕ). get_or xs port 0) is ∙ zeros 256 port ∙ elim (cases_Option (child_of nodes n port)) [ inl none ↦ rw none refl | inr some ↦ rw some.1 refl ]
 
 module _ (nodes : List Node) (laws : AreTreeLaws nodes) (counts : List ℕ) where
   -- a child more is entered
   pub entered_more : (xs : List ℕ) (i n port old new : ℕ) → i < length xs → old ≡ entered_at nodes counts (take i xs) n port
       → new ≡ (if option_map_or (parent_at n port) (parent_of nodes (get_or xs i 0)) false then get_or counts (get_or xs i 0) 0 else old) → new ≡ entered_at nodes counts (take (i + 1) xs) n port
   entered_more xs i n port old new lt before now =
-      elim (cases_option (child_of nodes n port)) [
+      elim (cases_Option (child_of nodes n port)) [
         | inl none ↦
             let apart : option_map_or (parent_at n port) (parent_of nodes x) false ≡ false = not_child (λ is. none-some x (sym none ∙ sym (child_here is))) in
             now ∙ rw apart (before ∙ rw none refl)
@@ -250,7 +238,7 @@ module _ (nodes : List Node) (laws : AreTreeLaws nodes) (counts : List ℕ) wher
   -- when all used nodes are entered, each port has its count
   pub entered_all : (request : Request) (n port : ℕ) → AreCounts nodes request.endpoints counts → entered_at nodes counts (used_nodes nodes request) n port ≡ count_at_port (tree_alone nodes) request n port
   entered_all request n port known =
-      elim (cases_option (child_of nodes n port)) [
+      elim (cases_Option (child_of nodes n port)) [
         | inl none ↦ rw none refl
         | inr some ↦
             let c = some.0 in
@@ -267,7 +255,7 @@ module _ (nodes : List Node) (laws : AreTreeLaws nodes) (counts : List ℕ) wher
 
 port_by_count : (nodes : List Node) (request : Request) (n port : ℕ) → nat_lt 0 (count_at_port (tree_alone nodes) request n port) ≡ is_port_used (tree_alone nodes) request n port
 port_by_count nodes request n port =
-    elim (cases_option (child_of nodes n port)) [
+    elim (cases_Option (child_of nodes n port)) [
       | inl none ↦ rw none refl
       | inr some ↦ rw some.1 (counted (is_under nodes some.0) request.endpoints)
     ]
@@ -284,7 +272,7 @@ none_below nodes known request n limit not_used =
   where
     go : (port : ℕ) → is_port_used (tree_alone nodes) request n port ≡ false
     go port =
-        elim (cases_option (child_of nodes n port)) [
+        elim (cases_Option (child_of nodes n port)) [
           | inl none ↦ rw none refl
           | inr some ↦
               let up : parent_of nodes some.0 ≡ Some (record { node = n; port = port }) = (known.laws.children n port some.0).0 some.1 in
@@ -318,10 +306,6 @@ slice_get_front [] ys n lt = absurd (omega arith)
 slice_get_front (y ∷ xs) ys zero lt = refl
 slice_get_front (y ∷ xs) ys (suc n) lt = slice_get_front xs ys n (omega arith)
 
-pub slice_get_end : {X : Type 0} (xs : List X) (x : X) → slice_get (xs ++ x ∷ []) (length xs) ≡ Some x
-slice_get_end [] x = refl
-slice_get_end (y ∷ xs) x = slice_get_end xs x
-
 pub length_end : {X : Type 0} (xs : List X) (x : X) → length (xs ++ x ∷ []) ≡ suc (length xs)
 length_end [] x = refl
 length_end (y ∷ xs) x = ap suc (length_end xs x)
@@ -336,7 +320,7 @@ ports_more nodes request old new k own count known is here n it there =
           let within = slice_get_within new n it there in
           let longer : length new ≡ suc (length old) = ap length is ∙ length_end old own in
           let same : n ≡ length old = omega arith in
-          let one : own ≡ it = same_Some own it (sym (slice_get_end old own) ∙ ap (λ (m : ℕ). slice_get (old ++ own ∷ []) m) (sym same) ∙ ap (λ (xs : List (Vec ℕ Global)). slice_get xs n) (sym is) ∙ there) in
+          let one : own ≡ it = same_Some own it (sym (get_last old own) ∙ ap (λ (m : ℕ). slice_get (old ++ own ∷ []) m) (sym same) ∙ ap (λ (xs : List (Vec ℕ Global)). slice_get xs n) (sym is) ∙ there) in
           ap (λ (v : Vec ℕ Global). v.items) (sym one) ∙ here ∙ ap (ports_at nodes request) (sym count ∙ sym same)
     ]
 

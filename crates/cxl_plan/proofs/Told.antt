@@ -5,11 +5,14 @@ use Rattle.std.specs.List.{filter_map, range_with_len}
 use Rattle.std.proofs.lemmas.Bool.{cases_Bool, cases_eq, ltb-true, ltb-false, false≢true}
 use Rattle.std.proofs.lemmas.Option.{none-some, same_Some, slice_get_within}
 use Rattle.cxl_enc.specs.Codes.{is_ways}
+use Rattle.cxl_enc.proofs.Options.{cases_Option}
+use Rattle.cxl_enc.proofs.Lists.{item as item_at}
 use Rattle.cxl_topo.specs.Laws.{AreTreeLaws}
 use Rattle.cxl_regs.specs.Words.{has_bit}
 use Rattle.cxl_window.specs.Fields.{WindowFields}
 use Rattle.cxl_window.specs.Position.{is_usable}
 use Rattle.cxl_window.specs.Windows.{first_repeat}
+use Rattle.cxl_topo.proofs.Trees.{KnownTree}
 use Rattle.cxl_model.specs.declared.request.Request.{Request}
 use Rattle.cxl_model.specs.declared.plan.Plan.{Plan}
 use Rattle.cxl_model.specs.declared.plan.PlanFault.{PlanFault}
@@ -27,10 +30,9 @@ use Rattle.cxl_legal.specs.Stated.{IsStatedPlan, Fits}
 use Rattle.cxl_plan.specs.Faults.{IsFirstPlan, IsFirstPlanFault, IsReason, SaysOfWindow, Takes, TakesFirst, turn_of_reason, least}
 use Rattle.cxl_plan.specs.Planned.{reason_of, room_in, least_base, span_fault}
 use Rattle.cxl_plan.specs.inner.Judging.{IsEarly, KeepsWindow, uneven_at, selects_at}
-use Rattle.cxl_plan.proofs.Trees.{KnownTree}
 use Rattle.cxl_plan.proofs.FaultOrder.{faults_1, faults_2, faults_3, faults_4, faults_5, faults_6, fits_endpoints}
 use Rattle.cxl_plan.proofs.Reasons.{AllFrom, onward, none_0, none_1, none_2, none_3, from_5, from_6, from_7, fits_window}
-use Rattle.cxl_plan.proofs.FirstThere.{cases_there, first_or_none}
+use Rattle.cxl_plan.proofs.FirstThere.{first_or_none}
 use Rattle.cxl_plan.proofs.ComputedBases.{least_base_known}
 use Rattle.cxl_legal.proofs.SizeTests.{size_holds, size_passes}
 use Rattle.cxl_plan.proofs.ComputedFaults.{asked_inside, refused_first, no_fault_room}
@@ -56,11 +58,6 @@ module _ {X Y : Type 0} (h : X → Option Y) where
   answer_at (z ∷ zs) each (suc i) x y at there =
       let here = (each 0 z refl).1 in
       answer_at zs (λ j v below. each (suc j) v below) i x y at (rw here at there)
-
-item_at : {X : Type 0} (xs : List X) (k : ℕ) → k < length xs → (x : X) × (slice_get xs k ≡ Some x)
-item_at [] k lt = absurd (omega arith)
-item_at (x ∷ xs) zero lt = (x, refl)
-item_at (x ∷ xs) (suc k) lt = item_at xs k (omega arith)
 
 -- ---- opaque tests
 
@@ -107,9 +104,9 @@ module _ (s : System) (request : Request) (system : IsSystem s) (laws : AreTreeL
 
     keeps_nodes : is_usable w.verdict ≡ true → permits w request.kind ≡ true → has_bit w.restrict 4 ≡ false → has_used_bridges s request w ≡ true → agrees_on_gran request.gran w ≡ true → HasReason w ⊎ TakesAt w
     keeps_nodes usable kind open_to bridges gran =
-        elim (cases_there (least s (λ m. not (can_select s request w m)))) [
+        elim (cases_Option (least s (λ m. not (can_select s request w m)))) [
           | inr some ↦ reasoned (reasons.Select some.0) some.1 from
-          | inl selects ↦ elim (cases_there (least s (λ m. not (can_have_ways s request m)))) [
+          | inl selects ↦ elim (cases_Option (least s (λ m. not (can_have_ways s request m)))) [
             | inr some ↦ reasoned (reasons.WaysCap some.0) some.1 (from_6 s request w from selects)
             | inl ways ↦
                 keeps_room
@@ -236,9 +233,9 @@ module _ (s : System) (request : Request) (system : IsSystem s) (laws : AreTreeL
 
   over_nodes : IsEarly request → HasPlan ⊎ HasFault
   over_nodes early =
-      elim (cases_there (least s (is_uneven s request))) [
+      elim (cases_Option (least s (is_uneven s request))) [
         | inr some ↦ inr (faults.Uneven some.0, record { holds = some.1; first = faults_3 s request early })
-        | inl even ↦ elim (cases_there (least s (lacks_decoder s request))) [
+        | inl even ↦ elim (cases_Option (least s (lacks_decoder s request))) [
           | inr some ↦ inr (faults.NoDecoder some.0, record { holds = some.1; first = faults_4 s request early even })
           | inl has ↦ elim (first_or_none (span_fault s request) 0 (length s.nodes)) [
             | inr first ↦
@@ -257,7 +254,7 @@ module _ (s : System) (request : Request) (system : IsSystem s) (laws : AreTreeL
 
   pub answered : HasPlan ⊎ HasFault
   answered =
-      elim (cases_there (first_repeat [] request.endpoints)) [
+      elim (cases_Option (first_repeat [] request.endpoints)) [
         | inr some ↦ inr (faults.Repeat some.0, record { holds = some.1; first = λ other says. omega arith })
         | inl distinct ↦ elim (cases_Bool (is_ways (request_ways request))) [
           | inr fails ↦ inr (faults.Ways (request_ways request), record { holds = (fails, refl); first = faults_1 s request distinct })

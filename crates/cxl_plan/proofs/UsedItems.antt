@@ -9,13 +9,14 @@ use Rattle.std.proofs.lemmas.List.Elements.{filter_passes}
 use Rattle.cxl_topo.specs.declared.node.Node.{Node}
 use Rattle.cxl_topo.specs.Kinds.{is_endpoint}
 use Rattle.cxl_topo.specs.Tree.{is_endpoint_at, is_port_at}
+use Rattle.cxl_topo.proofs.Trees.{endpoint_within, KnownTree, up_tree, parent_is_port}
 use Rattle.cxl_model.specs.Counts.{is_under}
 use Rattle.cxl_model.specs.declared.request.Request.{Request}
+use Rattle.cxl_model.proofs.Under.{under_root, under_step, under_self, under_later}
 use Rattle.cxl_legal.specs.Used.{is_used}
 use Rattle.cxl_plan.specs.inner.Uses.{tree_alone, used_nodes}
 use Rattle.cxl_plan.proofs.Finding.{find_here, find_none, find_filtered}
-use Rattle.cxl_plan.proofs.Tables.{used_within, endpoint_inside}
-use Rattle.cxl_plan.proofs.Trees.{KnownTree, up_tree, parent_is_port, under_root, under_step, under_itself}
+use Rattle.cxl_plan.proofs.Tables.{used_within}
 
 module _ (nodes : List Node) (request : Request) (items : List ℕ) (is : items ≡ used_nodes nodes request) where
   pub all_inside : All (λ n. n < length nodes) items
@@ -82,17 +83,6 @@ pub stands_in : (nodes : List Node) (request : Request) (items : List ℕ) → i
 stands_in nodes request items is n below used =
     subst (λ (xs : List ℕ). StandsAt xs n) (sym is) (stands (is_used (tree_alone nodes) request) 0 (length nodes) n (omega arith) (omega arith) used)
 
-under_low : {nodes : List Node} → KnownTree nodes → (n m : ℕ) → is_under nodes n m ≡ true → n ≤ m
-under_low {nodes} known n =
-    up_tree known (λ m. is_under nodes n m ≡ true → n ≤ m)
-    (λ m none under. let same : m ≡ n = eqb-true m n (sym (under_root known n m none) ∙ under) in omega arith)
-    (λ m p some rest under.
-    let before = (parent_is_port known m p some).0 in
-    elim (or_cases (m == n) (is_under nodes n p.node) (sym (under_step known n m p some) ∙ under)) [
-      | inl here ↦ let same : m ≡ n = eqb-true m n here in omega arith
-      | inr higher ↦ let low = rest higher in omega arith
-    ])
-
 -- a port, or the node itself
 under_endpoint : {nodes : List Node} → KnownTree nodes → (n : ℕ) → is_port_at nodes n ≡ false → (m : ℕ) → is_under nodes n m ≡ true → m ≡ n
 under_endpoint {nodes} known n no_port =
@@ -109,9 +99,9 @@ module _ (nodes : List Node) (known : KnownTree nodes) (request : Request) (name
   pub used_below : (n : ℕ) → is_used (tree_alone nodes) request n ≡ true → n < length nodes
   used_below n used =
       let some = Any-from_list_any (is_under nodes n) request.endpoints used in
-      let low = under_low known n some.1 some.4 in
+      let low = under_later known n some.1 some.4 in
       let endpoint : is_endpoint_at nodes some.1 ≡ true = subst (λ (m : ℕ). is_endpoint_at nodes m ≡ true) some.3 (named some.0 some.1 some.2) in
-      let inside = endpoint_inside nodes some.1 endpoint in
+      let inside = endpoint_within nodes some.1 endpoint in
       omega arith
 
   pub used_stands : (items : List ℕ) → items ≡ used_nodes nodes request → (n : ℕ) → is_used (tree_alone nodes) request n ≡ true → StandsAt items n
@@ -121,7 +111,7 @@ module _ (nodes : List Node) (known : KnownTree nodes) (request : Request) (name
 
   -- an endpoint that is asked for is used
   pub asked_used : (m : ℕ) → Contains request.endpoints m → is_used (tree_alone nodes) request m ≡ true
-  asked_used m asked = list_any-from_Any (is_under nodes m) request.endpoints (asked.0, m, asked.1, asked.2, under_itself known m)
+  asked_used m asked = list_any-from_Any (is_under nodes m) request.endpoints (asked.0, m, asked.1, asked.2, under_self known m)
 
   pub asked_endpoint : (m : ℕ) → Contains request.endpoints m → is_endpoint_at nodes m ≡ true
   asked_endpoint m asked = subst (λ (k : ℕ). is_endpoint_at nodes k ≡ true) asked.2 (named asked.0 m asked.1)

@@ -1,5 +1,5 @@
 -- The parts of one span.
-use Rattle.std.proofs.Common.{◌≡◌, ℕ, ◌+◌, ◌-◌, ◌<◌, ◌≤◌, List, [], ◌∷◌, ◌++◌, length, map, Result, Ok, Err, OnOk, sym, ap, subst, ◌∙◌, arith}
+use Rattle.std.proofs.Common.{◌≡◌, ℕ, ◌+◌, ◌-◌, ◌<◌, ◌≤◌, List, [], ◌∷◌, ◌++◌, length, map, sym, ap, subst, ◌∙◌, arith}
 use Rattle.std.proofs.lemmas.List.{append-nil}
 use Rattle.cxl_window.specs.Fields.{WindowFields}
 use Rattle.cxl_model.specs.declared.found.Found.{Found}
@@ -11,10 +11,6 @@ use Rattle.cxl_poison.specs.declared.cutting.Touched.{Touched}
 use Rattle.cxl_poison.specs.Pieces.{Cut, AreRunsOf, none, IsWideOf, ArePartsOf, few, many, run_limit}
 use Rattle.cxl_poison.specs.inner.Cuts.{HasTouched, first_stretch, last_stretch, touched_cuts, first_cuts, AddsRuns, AddsParts}
 use Rattle.cxl_poison.proofs.Stretches.{no_cuts, cuts_are, count_cuts}
-
-pub on_ok : {T E : Type 0} (r : Result T E) (P Q : Type 0) → OnOk r P → (P → Q) → OnOk r Q
-on_ok (Ok x) P Q is more = more is
-on_ok (Err e) P Q is more = tt
 
 module _ (found : Found) (w : WindowFields) (endpoint : ℕ) (span : LiveSpan) (touched : Touched) where
   pub no_parts : (parts : List Part) → touched.end ≤ touched.from → AddsParts found w endpoint span (touched_cuts touched span) parts parts

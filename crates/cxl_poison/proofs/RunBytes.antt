@@ -1,11 +1,12 @@
 -- The cuts of a span are the bytes that a record touches, and each byte of a run is carried.
 use Rattle.std.proofs.Common.{◌≡◌, ℕ, zero, suc, ◌+◌, ◌-◌, ◌*◌, ◌/◌, ◌%◌, ◌<◌, ◌≤◌, Bool, cond, ◌∷◌, length, get_or, Option, Some, None, max, min, refl, sym, ap, subst, ◌∙◌, inl, inr, arith}
-use Rattle.std.specs.Prelude.{slice_get, Contains, IsSomeAnd, ◌==◌}
+use Rattle.std.specs.Prelude.{slice_get, Contains, ◌==◌}
 use Rattle.std.specs.List.{range_with_len, filter_map, cons_option}
 use Rattle.std.proofs.Math.Nat.{div-one, div-eq_of_eq-mul_left, one-mul, div-mul-le_self, lt-div-mul-add, div-lt_iff_lt-mul, mod-lt}
 use Rattle.std.proofs.lemmas.Nat.{div-mul-add, div-add-mod'}
 use Rattle.std.proofs.lemmas.Bool.{cases_Bool, cases_lt, cases_eq, lt-ltb, le-ltb, eqb-true}
 use Rattle.std.proofs.lemmas.Option.{none-some, same_Some}
+use Rattle.cxl_enc.proofs.Options.{some_and}
 use Rattle.cxl_num.specs.Interleave.{chunk_size}
 use Rattle.cxl_window.specs.Fields.{WindowFields}
 use Rattle.cxl_deal.specs.Weaves.{weave_ways, turns_end, dealt_slot, dealt_offset}
@@ -102,10 +103,6 @@ each_cut from end size len offset some whole ends at below =
     (cut, of_number (cut_at from end size) 0 (len / size) n cut (omega arith) (omega (arith, few)) is, omega (arith, low, at), omega (arith, low, past, one, at, below))
 
 -- ---- the host bytes of a run
-
-some_and : {X : Type 0} (o : Option X) (P : X → Type 0) → IsSomeAnd o P → (x : X) × (o ≡ Some x) × P x
-some_and None P is = absurd is
-some_and (Some x) P is = (x, refl, is)
 
 -- what the laws of dealing say of a region
 pub record Dealt (found : Found) (w : WindowFields) : Type 0 where

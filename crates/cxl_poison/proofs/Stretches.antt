@@ -8,22 +8,13 @@ use Rattle.std.proofs.lemmas.Bool.{cases_lt, lt-ltb, le-ltb}
 use Rattle.std.proofs.lemmas.List.Elements.{filter_map-append}
 use Rattle.std.proofs.lemmas.List.FromFn.{length-map-range_with_len}
 use Rattle.std.proofs.lemmas.List.{append-nil}
+use Rattle.cxl_enc.proofs.Numbers.{numbers_append}
 use Rattle.cxl_poison.specs.declared.live.LiveSpan.{LiveSpan}
 use Rattle.cxl_poison.specs.declared.cutting.Touched.{Touched}
 use Rattle.cxl_poison.specs.Pieces.{Cut, cut_between, cut_at, cuts_between}
 use Rattle.cxl_poison.specs.inner.Cuts.{HasTouched, touched_cuts, first_stretch, last_stretch, stretch_cut, first_cuts}
 
 -- ---- lists of numbers
-
-range_append : (a m n : ℕ) → range_with_len a (m + n) ≡ range_with_len a m ++ range_with_len (a + m) n
-range_append a zero n =
-    let none : zero + n ≡ n = omega arith in
-    let here : a ≡ a + zero = omega arith in
-    ap (range_with_len a) none ∙ ap (λ (x : ℕ). range_with_len x n) here
-range_append a (suc m) n =
-    let more : suc m + n ≡ suc (m + n) = omega arith in
-    let next : (a + 1) + m ≡ a + suc m = omega arith in
-    ap (range_with_len a) more ∙ ap (λ (xs : List ℕ). a ∷ xs) (range_append (a + 1) m n ∙ ap (λ (x : ℕ). range_with_len (a + 1) m ++ range_with_len x n) next)
 
 none_of : {X : Type 0} (f : ℕ → Option X) (a n : ℕ) → ((k : ℕ) → a ≤ k → k < a + n → f k ≡ None) → filter_map f (range_with_len a n) ≡ []
 none_of f a zero none = refl
@@ -150,10 +141,10 @@ module _ (span : LiveSpan) (touched : Touched) (has : HasTouched span touched) w
       let start = after touched.from touched.end touched.size span.len has.is.some has.is.whole has.is.ends has.any k (omega (arith, at)) in
       empty_cut (max touched.from (k * touched.size)) (min touched.end ((k + 1) * touched.size)) (omega (arith, start))) in
       ap (λ (m : ℕ). filter_map cut (range_with_len 0 m)) all
-      ∙ ap (filter_map cut) (range_append 0 first (n + rest))
+      ∙ ap (filter_map cut) (numbers_append 0 first (n + rest))
       ∙ filter_map-append cut (range_with_len 0 first) (range_with_len (0 + first) (n + rest))
       ∙ ap (λ (xs : List Cut). xs ++ filter_map cut (range_with_len (0 + first) (n + rest))) front
-      ∙ ap (filter_map cut) (range_append (0 + first) n rest)
+      ∙ ap (filter_map cut) (numbers_append (0 + first) n rest)
       ∙ filter_map-append cut (range_with_len (0 + first) n) (range_with_len ((0 + first) + n) rest)
       ∙ ap (λ (m : ℕ). filter_map cut (range_with_len (0 + first) n) ++ filter_map cut (range_with_len m rest)) past
       ∙ ap (λ (xs : List Cut). filter_map cut (range_with_len (0 + first) n) ++ xs) back

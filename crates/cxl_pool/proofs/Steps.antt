@@ -13,7 +13,7 @@ use Rattle.cxl_pool.proofs.Chains.{listed_past, listed_head, chain-set, length-m
 counted-set : (pool : List (Option (List ℕ))) (i : ℕ) (slot : Option (List ℕ)) → i < length pool → free_count (set pool i slot) + cond (is_none (get_or pool i None)) 1 0 ≡ free_count pool + cond (is_none slot) 1 0
 counted-set pool i slot within = sum_by-set (λ o. cond (is_none o) 1 0) pool i slot None within
 
-not_counted : (o : Option (List ℕ)) → IsSome o → ◌≡◌ {A = ℕ} (cond (is_none o) 1 0) 0
+pub not_counted : (o : Option (List ℕ)) → IsSome o → ◌≡◌ {A = ℕ} (cond (is_none o) 1 0) 0
 not_counted None h = absurd (false≢true h)
 not_counted (Some bytes) h = refl
 

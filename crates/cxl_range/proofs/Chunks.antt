@@ -2,11 +2,8 @@
 use Rattle.std.proofs.Common.{◌≡◌, ℕ, ◌+◌, ◌-◌, ◌*◌, ◌/◌, ◌%◌, ◌^◌, ◌<◌, ◌≤◌, ap, ◌∙◌, arith}
 use Rattle.std.proofs.Math.Nat.{mul-le-mul_right, div-mul-le_self, lt-div-mul-add}
 use Rattle.std.proofs.Math.Pow.{pow_mono}
-use Rattle.std.proofs.lemmas.Nat.{pow_pos, mod-mul-add}
+use Rattle.std.proofs.lemmas.Nat.{mod-mul-add}
 use Rattle.cxl_num.specs.Interleave.{chunk_size}
-
-pub some_chunk : (gran : ℕ) → 0 < chunk_size gran
-some_chunk gran = let some = pow_pos gran in omega (arith, some)
 
 pub small_chunk : (gran : ℕ) → gran ≤ 6 → chunk_size gran ≤ 16384
 small_chunk gran known = let few : 2 ^ gran ≤ 2 ^ 6 = pow_mono known in omega (arith, few)

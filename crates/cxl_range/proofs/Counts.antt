@@ -1,18 +1,9 @@
 -- Counts of numbers that follow each other.
-use Rattle.std.proofs.Common.{◌≡◌, ℕ, zero, suc, ◌+◌, ◌<◌, ◌≤◌, Bool, true, false, cond, List, ◌∷◌, ◌++◌, count_by, refl, ap, ◌∙◌, arith}
+use Rattle.std.proofs.Common.{◌≡◌, ℕ, zero, suc, ◌+◌, ◌<◌, ◌≤◌, Bool, true, false, cond, count_by, refl, ap, ◌∙◌, arith}
 use Rattle.std.specs.List.{range_with_len}
 use Rattle.std.proofs.lemmas.List.Sums.{sum_by-append, sum_by-cons, count_by-le-length}
 use Rattle.std.proofs.lemmas.List.FromFn.{length-range_with_len}
-
-numbers_append : (a m n : ℕ) → range_with_len a (m + n) ≡ range_with_len a m ++ range_with_len (a + m) n
-numbers_append a zero n =
-    let none : zero + n ≡ n = omega arith in
-    let here : a ≡ a + zero = omega arith in
-    ap (range_with_len a) none ∙ ap (λ (x : ℕ). range_with_len x n) here
-numbers_append a (suc m) n =
-    let more : suc m + n ≡ suc (m + n) = omega arith in
-    let next : (a + 1) + m ≡ a + suc m = omega arith in
-    ap (range_with_len a) more ∙ ap (λ (xs : List ℕ). a ∷ xs) (numbers_append (a + 1) m n ∙ ap (λ (x : ℕ). range_with_len (a + 1) m ++ range_with_len x n) next)
+use Rattle.cxl_enc.proofs.Numbers.{numbers_append}
 
 module _ (p : ℕ → Bool) where
   pub count_more : (a m n : ℕ) → count_by p (range_with_len a (m + n)) ≡ count_by p (range_with_len a m) + count_by p (range_with_len (a + m) n)

@@ -10,13 +10,14 @@ use Rattle.std.proofs.lemmas.List.FromFn.{get_or-map-range_with_len, length-map-
 use Rattle.cxl_num.specs.Interleave.{chunk_size}
 use Rattle.cxl_window.specs.Fields.{WindowFields}
 use Rattle.cxl_deal.specs.Weaves.{WeaveFields, weave_ways, dealt_slot, dealt_offset}
+use Rattle.cxl_deal.proofs.Ways.{chunk_size-pos}
 use Rattle.cxl_model.specs.declared.extent.Extent.{Extent}
 use Rattle.cxl_model.specs.declared.found.Found.{Found}
 use Rattle.cxl_model.specs.Regions.{weave_fields}
 use Rattle.cxl_range.specs.Extents.{extent_at, chunk_start, chunk_extent, touched_chunks, extents_of}
 use Rattle.cxl_range.specs.Carried.{IsCarried, Follow}
 use Rattle.cxl_range.specs.inner.Woven.{IsWoven}
-use Rattle.cxl_range.proofs.Chunks.{some_chunk, TouchedAt, touched_at, within_chunk}
+use Rattle.cxl_range.proofs.Chunks.{TouchedAt, touched_at, within_chunk}
 use Rattle.cxl_range.proofs.Places.{AreTogether, carried}
 
 -- the lengths of extents that follow each other add up to the distance of their ends
@@ -70,7 +71,7 @@ module _ (found : Found) (w : WindowFields) (h len : ℕ) where
       let begins = touched.begins in
       let past = touched.past in
       let one = touched.one in
-      let g = some_chunk found.gran in
+      let g = chunk_size-pos found.gran in
       record {
         some = omega (arith, any, begins, past, one, g);
         start = omega arith;
@@ -111,7 +112,7 @@ module _ (found : Found) (w : WindowFields) (h len : ℕ) where
         let next = has.next in
         let x : ℕ = max h (chunk_start found c) in
         let n : ℕ = min (h + len) (chunk_start found (c + 1)) - x in
-        let within = within_chunk found.base (chunk_size found.gran) c x n (some_chunk found.gran) start (omega (arith, some, next)) (omega (arith, some)) in
+        let within = within_chunk found.base (chunk_size found.gran) c x n (chunk_size-pos found.gran) start (omega (arith, some, next)) (omega (arith, some)) in
         carried found w x n
         (
         record {
@@ -124,7 +125,7 @@ module _ (found : Found) (w : WindowFields) (h len : ℕ) where
     chunks_told : All (IsCarried found w) (map (chunk_extent found w h len) (touched_chunks found w h len)) × Follow h (h + len) (map (chunk_extent found w h len) (touched_chunks found w h len))
     chunks_told =
         let g : ℕ = chunk_size found.gran in
-        let some : 0 < g = some_chunk found.gran in
+        let some : 0 < g = chunk_size-pos found.gran in
         let first : ℕ = (h - found.base) / g in
         let last : ℕ = (h + len - 1 - found.base) / g in
         let low = div-mul-le_self (h - found.base) g in
@@ -185,7 +186,7 @@ module _ (found : Found) (w : WindowFields) (h len size : ℕ) (is : size ≡ ch
   -- the last chunk's number, as the code has it
   pub chunks_rise : (last : ℕ) → 0 < len → found.base ≤ h → last ≡ (h + len - 1 - found.base) / size → (h - found.base) / size ≤ last
   chunks_rise last any from last_is =
-      let some : 0 < size = subst (λ (x : ℕ). 0 < x) (sym is) (some_chunk found.gran) in
+      let some : 0 < size = subst (λ (x : ℕ). 0 < x) (sym is) (chunk_size-pos found.gran) in
       let low = div-mul-le_self (h - found.base) size in
       omega (arith, last_is, le-div ((h - found.base) / size) (h + len - 1 - found.base) size some (omega (arith, low, from, any)))
 

@@ -12,12 +12,10 @@ use Rattle.cxl_model.specs.declared.found.Found.{Found}
 use Rattle.cxl_model.specs.declared.found.Place.{Place}
 use Rattle.cxl_model.specs.Regions.{weave_fields}
 use Rattle.cxl_model.specs.Bytes.{slot_length}
+use Rattle.cxl_model.proofs.Spans.{no_place}
 use Rattle.cxl_range.specs.Extents.{extent_at}
 use Rattle.cxl_range.specs.Carried.{IsCarried}
 use Rattle.cxl_range.specs.inner.Woven.{IsWoven}
-
-no_place : Place
-no_place = record { endpoint = 0; start = 0 }
 
 -- the law of dealing on regions of whole turns
 abbrev pub Lands : WeaveFields → Type 0

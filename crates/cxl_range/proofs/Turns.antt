@@ -7,9 +7,9 @@ use Rattle.std.proofs.lemmas.Bool.{eq-eqb, ne_eqb}
 use Rattle.std.proofs.lemmas.Nat.{div-add-mod', div-mul-add, mod-mul-add, div_below, le-div, same_from_place}
 use Rattle.cxl_num.specs.Interleave.{chunk_size}
 use Rattle.cxl_deal.specs.Weaves.{WeaveFields, weave_ways, turns_end, dealt_chunk, dealt_slot, dealt_offset}
+use Rattle.cxl_deal.proofs.Ways.{chunk_size-pos}
 use Rattle.cxl_range.specs.inner.Woven.{bytes_before}
 use Rattle.cxl_range.proofs.Counts.{count_more, count_all, count_none, count_few}
-use Rattle.cxl_range.proofs.Chunks.{some_chunk}
 
 -- what the laws of dealing say of whole turns
 pub record TurnLaws (v : WeaveFields) : Type 0 where
@@ -65,7 +65,7 @@ module _ (v : WeaveFields) (laws : TurnLaws v) (some_ways : 0 < weave_ways v) wh
       let g : ℕ = chunk_size v.gran in
       let c : ℕ = dealt_chunk v h in
       let r : ℕ = (h - v.base) % g in
-      let some : 0 < g = some_chunk v.gran in
+      let some : 0 < g = chunk_size-pos v.gran in
       let below : r < g = mod-lt (h - v.base) some in
       let whole : c * g + r ≡ h - v.base = div-add-mod' (h - v.base) g in
       let along : h ≡ v.base + c * g + r = omega (arith, whole, from) in
@@ -90,7 +90,7 @@ module _ (v : WeaveFields) (laws : TurnLaws v) (some_ways : 0 < weave_ways v) wh
   unfolding head
   chunk_of n slot below =
       let g : ℕ = chunk_size v.gran in
-      let some : 0 < g = some_chunk v.gran in
+      let some : 0 < g = chunk_size-pos v.gran in
       let next : n * g + g ≡ (n + 1) * g = grind arith in
       let at = laws.hit (n + 1) slot (n * g) below (omega (arith, next, some)) in
       let h : ℕ = at.0 in

@@ -7,6 +7,7 @@ use Rattle.std.proofs.lemmas.Bool.{cases_Bool, cases_eq, eq-eqb, or_left, or_rig
 use Rattle.std.proofs.lemmas.List.Elements.{All-head, All-tail, All-contains, Contains-get_or}
 use Rattle.std.proofs.lemmas.List.Folds.{list_any-from_Any}
 use Rattle.std.proofs.lemmas.Option.{none-some, same_Some, slice_get_within, slice_get-get_or}
+use Rattle.cxl_enc.proofs.Lists.{item}
 use Rattle.cxl_legal.specs.Endpoints.{FitsEndpoints, is_uneven, lacks_decoder, share_of}
 use Rattle.cxl_legal.specs.Stated.{Fits, stated_rows}
 use Rattle.cxl_legal.specs.Used.{AreEndpoints, HasBytePorts, is_used}
@@ -95,11 +96,6 @@ stands_last nodes i [] leads = absurd leads
 stands_last nodes i (n ∷ []) leads = or_left (n == i) false (eq-eqb n i leads)
 stands_last nodes i (n ∷ m ∷ ns) leads = or_right (n == i) (list_any (λ q. q == i) (m ∷ ns)) (stands_last nodes i (m ∷ ns) leads.1)
 
-item_at : {A : Type 0} (xs : List A) (i : ℕ) → i < length xs → (x : A) × (slice_get xs i ≡ Some x)
-item_at [] i within = absurd (omega arith)
-item_at (x ∷ xs) zero within = (x, refl)
-item_at (x ∷ xs) (suc i) within = item_at xs i (omega arith)
-
 module _ (s : System) (request : Request) (system : IsSystem s) (laws : AreTreeLaws s.nodes) (named : AreEndpoints s request) where
   pub endpoint_inside : (m : ℕ) → is_endpoint_at s.nodes m ≡ true → m < length s.nodes
   endpoint_inside m is = let node = some_there _ (slice_get s.nodes m) is in slice_get_within s.nodes m node.0 node.1
@@ -144,7 +140,7 @@ module _ (s : System) (request : Request) (system : IsSystem s) (laws : AreTreeL
       )
   told_fault (faults.NoWindow told) is = λ k d within.
       let count = is.holds.count in
-      let w = item_at s.windows k (omega arith) in
+      let w = item s.windows k (omega arith) in
       told_reason w.0 (get_or told k d) (is.holds.each k w.0 (get_or told k d) w.1 (slice_get-get_or told k d within))
   told_fault faults.Memory is = absurd is.holds
 

@@ -18,7 +18,7 @@ use Rattle.cxl_apply.specs.Releases.{rows_of, first_locked, first_not_last}
 use Rattle.cxl_reply.specs.declared.reply.Reply.{Reply}
 use Rattle.cxl_reply.specs.declared.reply.Reply.TheVariants as replies
 use Rattle.cxl_legal.specs.Firsts.{first_there}
-use Rattle.cxl_legal.proofs.FittingPorts.{find_passes}
+use Rattle.cxl_enc.proofs.Lists.{find_passes}
 use Rattle.cxl_machine.specs.Machine.{Live, RegionJob, Machine, live_named, place_named, blocks_with}
 use Rattle.cxl_machine.specs.Jobs.{release_job}
 use Rattle.cxl_machine.specs.Requests.{busy, no_region, locked, not_last, spot_of, release_at, job_unless, asked_release}

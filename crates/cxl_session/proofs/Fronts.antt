@@ -8,7 +8,7 @@ use Rattle.std.proofs.lemmas.List.Elements.{All-head, All-tail}
 use Rattle.std.proofs.lemmas.List.Sorted.{IsPermutation-cons, IsPermutation-trans, IsPermutation-middle, IsPermutation-remove, IsPermutation-map, Contains-permutation}
 use Rattle.std.proofs.lemmas.Slice.Eq.{bytes_eq-Decides}
 use Rattle.cxl_model.specs.Contents.{Contents}
-use Rattle.cxl_move.proofs.Lists.{contains_cases}
+use Rattle.cxl_enc.proofs.Lists.{contains_cases}
 use Rattle.cxl_machine.specs.Machine.{Live}
 use Rattle.cxl_machine.proofs.KeepingLists.{changed, HaveOwnNames, own_names}
 use Rattle.cxl_machine.proofs.KeepingOrder.{pairs_again}

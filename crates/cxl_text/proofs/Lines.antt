@@ -1,9 +1,10 @@
 -- Lines that are appended one after the other.
 use Rattle.std.proofs.Common.{◌≡◌, ℕ, zero, suc, ◌+◌, ◌<◌, ◌≤◌, List, [], ◌∷◌, ◌++◌, length, take, get_or, map, refl, sym, ap, ◌∙◌, arith, append_assoc}
 use Rattle.std.specs.Prelude.{codes, decimal}
-use Rattle.std.proofs.lemmas.List.{append-nil, length-take, take_more, take_all, map-append}
+use Rattle.std.proofs.lemmas.List.{append-nil, length-take, take_more, take_all, map-append, get_or_default}
 use Rattle.std.proofs.lemmas.Grind.{flat_map-append}
 use Rattle.std.specs.List.{flat_map, enumerate_from, zip, range_with_len}
+use Rattle.cxl_enc.proofs.Numbers.{numbers_more}
 use Rattle.cxl_reply.specs.Words.{more_spaced}
 use Rattle.cxl_reply.specs.Plans.{more_ports_text, ports_text}
 
@@ -76,29 +77,17 @@ ports_text-push port ports more =
     ap (λ (text : List ℕ). decimal port ++ text) (one_line (λ p. codes "," ++ decimal p) ports more)
     ∙ sym (append_assoc (decimal port) (more_ports_text ports) (codes "," ++ decimal more))
 
-range-push : (a n : ℕ) → range_with_len a (n + 1) ≡ range_with_len a n ++ (a + n) ∷ []
-range-push a zero = let same : a ≡ a + 0 = omega arith in ap (λ (i : ℕ). i ∷ []) same
-range-push a (suc n) =
-    let shift : suc n + 1 ≡ suc (n + 1) = omega arith in
-    let last : a + 1 + n ≡ a + suc n = omega arith in
-    ap (range_with_len a) shift ∙ ap (λ (is : List ℕ). a ∷ is) (range-push (a + 1) n ∙ ap (λ (i : ℕ). range_with_len (a + 1) n ++ i ∷ []) last)
-
 -- a port more, behind at least one
 pub one_port : (f : ℕ → ℕ) (n : ℕ) → 1 ≤ n → ports_text (map f (range_with_len 0 (n + 1))) ≡ ports_text (map f (range_with_len 0 n)) ++ (codes "," ++ decimal (f n))
 one_port f zero some = absurd (omega arith)
 one_port f (suc n) some =
     let last : 0 + suc n ≡ suc n = omega arith in
-    ap (λ (is : List ℕ). ports_text (map f is)) (range-push 0 (suc n))
+    ap (λ (is : List ℕ). ports_text (map f is)) (numbers_more 0 (suc n))
     ∙ ap ports_text (map-append f (range_with_len 0 (suc n)) ((0 + suc n) ∷ []))
     ∙ ports_text-push (f 0) (map f (range_with_len 1 n)) (f (0 + suc n))
     ∙ ap (λ (i : ℕ). ports_text (map f (range_with_len 0 (suc n))) ++ (codes "," ++ decimal (f i))) last
 
 -- ---- steps of loops
-
-same_item : {X : Type 0} (xs : List X) (i : ℕ) (a b : X) → i < length xs → get_or xs i a ≡ get_or xs i b
-same_item [] i a b within = absurd (omega arith)
-same_item (x ∷ xs) zero a b within = refl
-same_item (x ∷ xs) (suc i) a b within = same_item xs i a b (omega arith)
 
 -- a text behind another
 pub appended : (o p q text more : List ℕ) → p ≡ o ++ text → q ≡ p ++ more → q ≡ o ++ (text ++ more)
@@ -129,19 +118,19 @@ all_items {X = X} text xs i o p long so_far = so_far ∙ ap (λ (ys : List X). o
 pub line_step : {X : Type 0} (f : ℕ × X → List ℕ) (xs : List X) (i : ℕ) (d : X) (o p q : List ℕ) → i < length xs → p ≡ o ++ flat_map f (enumerate_from 0 (take i xs)) → q ≡ p ++ f (i, get_or xs i d) → q ≡ o ++ flat_map f (enumerate_from 0 (take (i + 1) xs))
 line_step f xs i d o p q within so_far e =
     appended o p q (flat_map f (enumerate_from 0 (take i xs))) (f (i, get_or xs i d)) so_far e
-    ∙ ap (λ (t : List ℕ). o ++ t) (sym (numbered_line f xs i (get_or xs i d) within (same_item xs i (get_or xs i d) d within)))
+    ∙ ap (λ (t : List ℕ). o ++ t) (sym (numbered_line f xs i (get_or xs i d) within (get_or_default xs i (get_or xs i d) d within)))
 
 -- lines for each pair
 pub pair_step : {K V : Type 0} (f : K × V → List ℕ) (ks : List K) (vs : List V) (i : ℕ) (d : K) (v : V) (o p q : List ℕ) → i < length ks → i < length vs → v ≡ get_or vs i v → p ≡ o ++ flat_map f (zip (take i ks) (take i vs)) → q ≡ p ++ f (get_or ks i d, v) → q ≡ o ++ flat_map f (zip (take (i + 1) ks) (take (i + 1) vs))
 pair_step f ks vs i d v o p q in_ks in_vs is so_far e =
     appended o p q (flat_map f (zip (take i ks) (take i vs))) (f (get_or ks i d, v)) so_far e
-    ∙ ap (λ (t : List ℕ). o ++ t) (sym (paired_line f ks vs i (get_or ks i d) v in_ks in_vs (same_item ks i (get_or ks i d) d in_ks) (sym is)))
+    ∙ ap (λ (t : List ℕ). o ++ t) (sym (paired_line f ks vs i (get_or ks i d) v in_ks in_vs (get_or_default ks i (get_or ks i d) d in_ks) (sym is)))
 
 -- a line for each pair of numbers, with its number
 pub share_step : (f : ℕ × (ℕ × ℕ) → List ℕ) (ks vs : List ℕ) (i : ℕ) (o p q : List ℕ) → i < length ks → i < length vs → p ≡ o ++ flat_map f (enumerate_from 0 (zip (take i ks) (take i vs))) → q ≡ p ++ f (i, (get_or ks i 0, get_or vs i 0)) → q ≡ o ++ flat_map f (enumerate_from 0 (zip (take (i + 1) ks) (take (i + 1) vs)))
 share_step f ks vs i o p q in_ks in_vs so_far e =
     appended o p q (flat_map f (enumerate_from 0 (zip (take i ks) (take i vs)))) (f (i, (get_or ks i 0, get_or vs i 0))) so_far e
-    ∙ ap (λ (t : List ℕ). o ++ t) (sym (numbered_pair f ks vs i (get_or ks i 0) (get_or vs i 0) in_ks in_vs (same_item ks i (get_or ks i 0) 0 in_ks) (same_item vs i (get_or vs i 0) 0 in_vs)))
+    ∙ ap (λ (t : List ℕ). o ++ t) (sym (numbered_pair f ks vs i (get_or ks i 0) (get_or vs i 0) in_ks in_vs (get_or_default ks i (get_or ks i 0) 0 in_ks) (get_or_default vs i (get_or vs i 0) 0 in_vs)))
 
 -- the pairs of all first items
 pub all_shares : (f : ℕ × (ℕ × ℕ) → List ℕ) (ks vs : List ℕ) (i : ℕ) → length ks ≤ i → i ≤ length ks → flat_map f (enumerate_from 0 (zip (take i ks) (take i vs))) ≡ flat_map f (enumerate_from 0 (zip ks vs))

@@ -5,6 +5,7 @@ use Rattle.std.proofs.Math.Nat.{mul-pos, mul-zero}
 use Rattle.std.proofs.lemmas.Nat.{pow_pos}
 use Rattle.std.proofs.lemmas.Bool.{false≢true, and_parts, leb-true, ltb-true, cases_lt}
 use Rattle.std.proofs.lemmas.Option.{slice_get_within}
+use Rattle.cxl_enc.proofs.Options.{some_and}
 use Rattle.cxl_topo.specs.declared.node.Node.{Node}
 use Rattle.cxl_topo.specs.Tree.{is_endpoint_at}
 use Rattle.cxl_regs.specs.declared.decoder.Decoder.{Decoder}
@@ -13,15 +14,14 @@ use Rattle.cxl_regs.specs.Reading.{decoder_ways, decoder_granularity, span_lengt
 use Rattle.cxl_span.specs.Spans.{span_start_of, span_end_of, endpoint_place_of}
 use Rattle.cxl_span.specs.Breaches.{BlockKeeps}
 use Rattle.cxl_image.specs.Images.{HasCapsOf}
-use Rattle.cxl_model.specs.declared.chain.Step.{Step}
 use Rattle.cxl_model.specs.declared.chain.Miss.{Miss}
 use Rattle.cxl_model.specs.System.{System, decoders_at, decoder_at, ram_at, pmem_at}
-use Rattle.cxl_model.specs.Chain.{Arrival, End, Arrives, Misses, Places, IsArrival, Walk, on_forwarding, on_step, at_end, Routing, Routed, Missed, chain_end_by, Chain, unheld, held}
+use Rattle.cxl_model.specs.Chain.{Arrival, Places, IsArrival, Routing, Routed, Missed}
+use Rattle.cxl_model.proofs.DealingRanges.{arrives}
 use Rattle.cxl_walk.specs.declared.upward.Host.{Host}
 use Rattle.cxl_walk.specs.declared.spans.SpanByte.{SpanByte}
 use Rattle.cxl_walk.specs.Hosts.{ComesTo, HasNoHost, IsLeastHost}
 use Rattle.cxl_walk.specs.inner.WaysUp.{IsSpanByte, way_address, IsFirstWay}
-use Rattle.cxl_walk.proofs.Nodes.{some_and}
 use Rattle.cxl_walk.proofs.Places.{by_way, ways_rise}
 
 -- ---- the route of an address
@@ -36,29 +36,6 @@ same_byte s ep dpa first h routing comes is =
 
 pub not_missed : (routing : Routing) (miss : Miss) → Routed routing ≡ Missed miss → ⊥
 not_missed routing miss is = cc
-
--- ---- where it ends
-
-abbrev Reached : System → ℕ → End → Type 0
-Reached s h (Arrives arrival) = (n : ℕ) × IsArrival s h n arrival
-Reached s h (Misses miss) = Unit {0}
-
-reached : (s : System) (h n : ℕ) (steps : List Step) (end : End) → Walk s h n steps end → Reached s h end
-reached s h n steps end (on_forwarding _ child _ _ move walk) = reached s h child steps end walk
-reached s h n steps end (on_step _ child step rest _ move walk) = reached s h child rest end walk
-reached s h n steps end (at_end _ (Arrives arrival) move) = (n, move)
-reached s h n steps end (at_end _ (Misses miss) move) = tt
-
-by_end : (s : System) (h index position : ℕ) (steps : List Step) (end : End) (route : Routing) → Reached s h end → Routed route ≡ chain_end_by index position steps end
-    → IsArrival s h route.arrival.endpoint route.arrival
-by_end s h index position steps (Arrives arrival) route at is =
-    let same : route ≡ record { window = index; position = position; steps = steps; arrival = arrival } = cc in
-    subst (λ (r : Routing). IsArrival s h r.arrival.endpoint r.arrival) (sym same) (subst (λ (n : ℕ). IsArrival s h n arrival) (sym at.1.here) at.1)
-by_end s h index position steps (Misses miss) route at is = cc
-
-arrives : (s : System) (h : ℕ) (route : Routing) → Chain s h (Routed route) → IsArrival s h route.arrival.endpoint route.arrival
-arrives s h route (unheld none is) = cc
-arrives s h route (held w position bridge steps end targets walk is) = by_end s h w.index position steps end route (reached s h bridge steps end walk) is
 
 -- ---- the endpoint's block
 

@@ -1,57 +1,47 @@
 -- The routes of a region's host bytes follow from those of the first byte of each slot.
 use Rattle.std.proofs.Common.{◌≡◌, ℕ, zero, suc, ◌+◌, ◌*◌, ◌/◌, ◌%◌, ◌^◌, ◌<◌, ◌≤◌, Bool, true, false, List, [], ◌∷◌, ◌++◌, length, get_or, Option, Some, None, refl, sym, ap, subst, ◌∙◌, inl, inr, arith}
-use Rattle.std.specs.Prelude.{slice_get, nat_le, nat_lt, ◌==◌, ◌&&◌, ◌||◌, not, IsTrue, find, Result, Ok, Err}
+use Rattle.std.specs.Prelude.{slice_get, nat_le, nat_lt, ◌==◌, ◌&&◌, ◌||◌, not, find, Result, Ok, Err}
 use Rattle.std.specs.Result.{IsOk}
-use Rattle.std.specs.Option.{option_map_or, option_and_then}
-use Rattle.std.specs.List.{list_any}
-use Rattle.std.proofs.Math.Nat.{mul-pos, zero-mul, zero-div, div-mul-le_self, mul-le-mul_right}
+use Rattle.std.specs.Option.{option_map_or}
+use Rattle.std.proofs.Math.Nat.{mul-pos, zero-div, div-mul-le_self, mul-le-mul_right}
 use Rattle.std.proofs.lemmas.Nat.{pow_pos}
-use Rattle.std.proofs.lemmas.Bool.{false≢true, and_parts, or_parts, or_cases, leb-true, eqb-true, eq-eqb, cases_lt, cases_Bool}
+use Rattle.std.proofs.lemmas.Bool.{false≢true, and_parts, or_parts, leb-true, eqb-true, eq-eqb, cases_lt, cases_Bool}
 use Rattle.std.proofs.lemmas.Option.{slice_get-get_or, same_Some}
-use Rattle.cxl_enc.specs.declared.caps.MemKind.{MemKind}
-use Rattle.cxl_enc.specs.declared.caps.MemKind.TheVariants.{Ram, Pmem}
 use Rattle.cxl_num.specs.Interleave.{chunk_size}
-use Rattle.cxl_topo.specs.declared.node.Node.{Node}
-use Rattle.cxl_topo.specs.declared.node.Capacity.{Capacity}
-use Rattle.cxl_topo.specs.Kinds.{capacity_of}
-use Rattle.cxl_topo.specs.Faults.{IsTree, is_capacity}
+use Rattle.cxl_topo.specs.Faults.{IsTree}
 use Rattle.cxl_regs.specs.declared.decoder.Decoder.{Decoder}
 use Rattle.cxl_regs.specs.declared.reading.Range.{Range}
 use Rattle.cxl_regs.specs.Registers.{Registers}
 use Rattle.cxl_regs.specs.Reading.{has_range}
 use Rattle.cxl_span.specs.Breaches.{breaks as block_breaks}
 use Rattle.cxl_enc.specs.Limits.{address_limit}
+use Rattle.cxl_enc.proofs.Options.{some_and}
+use Rattle.cxl_enc.proofs.Lists.{All-at, some_passes}
+use Rattle.cxl_enc.proofs.Numbers.{some_first_factor}
 use Rattle.cxl_span.specs.Rules.{size_unit}
 use Rattle.cxl_span.specs.Partitions.{partition_start, partition_end, lies_in}
 use Rattle.cxl_window.specs.Fields.{WindowFields, IsWindow}
 use Rattle.cxl_window.specs.Position.{is_usable}
+use Rattle.cxl_window.proofs.Usable.{usable_is}
+use Rattle.cxl_span.proofs.Ends.{partition_ends}
 use Rattle.cxl_deal.specs.Weaves.{WeaveFields, weave_ways, turns_end, dealt_slot, dealt_offset}
 use Rattle.cxl_model.specs.declared.chain.Step.{Step}
 use Rattle.cxl_model.specs.declared.chain.Miss.{Miss}
 use Rattle.cxl_model.specs.declared.found.Found.{Found}
 use Rattle.cxl_model.specs.declared.found.Place.{Place}
-use Rattle.cxl_model.specs.System.{System, IsSystem, decoders_at, decoder_at, capacity_at, ram_at, pmem_at}
+use Rattle.cxl_model.specs.System.{System, IsSystem, decoders_at, decoder_at, ram_at, pmem_at}
 use Rattle.cxl_model.specs.Chain.{Arrival, Routing, ChainEnd, Routed, Missed, Chain}
 use Rattle.cxl_model.specs.Ranges.{lies_within, index_for}
 use Rattle.cxl_model.specs.Accepted.{KeepsBlocks, breaks}
 use Rattle.cxl_model.specs.Regions.{region_range, IsRegionIn, target_position, weave_fields}
 use Rattle.cxl_model.specs.Bytes.{slot_length}
 use Rattle.cxl_model.specs.Dealing.{slot_steps, IsDealtRoute}
+use Rattle.cxl_model.proofs.SpansLow.{device_low}
 use Rattle.cxl_walk.specs.declared.route.Route.{Route}
 use Rattle.cxl_walk.specs.Routes.{routing_of, chain_end_of}
 use Rattle.cxl_walk.specs.Keeping.{KeptFields, IsFirstByte, IsSlotRoute}
-use Rattle.cxl_walk.proofs.Nodes.{some_and}
-use Rattle.cxl_walk.proofs.Targets.{all_at, usable_is}
 
 -- ---- lists
-
-any_at : {X : Type 0} (p : X → Bool) (xs : List X) → list_any p xs ≡ true → (i : ℕ) × (x : X) × (slice_get xs i ≡ Some x) × (p x ≡ true)
-any_at p [] is = absurd (false≢true is)
-any_at p (x ∷ xs) is =
-    elim (or_cases (p x) (list_any p xs) is) [
-      | inl own ↦ (zero, x, refl, own)
-      | inr rest ↦ let later = any_at p xs rest in (suc later.0, later.1, later.2, later.3)
-    ]
 
 find_at_place : {X : Type 0} (p : X → Bool) (xs : List X) (y : X) → find p xs ≡ Some y → (i : ℕ) × (slice_get xs i ≡ Some y) × (p y ≡ true)
 find_at_place p [] y is = cc
@@ -109,10 +99,10 @@ facts s w found system region =
     let at = find_at_place (lies_within r) s.windows w region.window in
     let outer = and_parts (is_usable w.verdict && nat_le w.base r.base) (nat_le (r.base + r.size) (w.base + w.size)) at.2 in
     let verdict = usable_is w.verdict (and_parts (is_usable w.verdict) (nat_le w.base r.base) outer.0).0 in
-    let own : IsWindow w = all_at IsWindow s.windows at.0 w at.1 system.made.each in
+    let own : IsWindow w = All-at IsWindow s.windows at.0 w at.1 system.made.each in
     let low = (own.usable verdict).low in
     let to : r.base + r.size ≤ w.base + w.size = leb-true (r.base + r.size) (w.base + w.size) outer.1 in
-    let server = any_at (has_range r) (decoders_at s region.committed.0) region.committed.1 in
+    let server = some_passes (has_range r) (decoders_at s region.committed.0) region.committed.1 in
     let d : Decoder = server.1 in
     let has = and_parts (d.committed && (d.base == r.base)) (d.size == r.size) server.3 in
     let committed = (and_parts d.committed (d.base == r.base) has.0).0 in
@@ -126,11 +116,6 @@ facts s w found system region =
 
 -- ---- the turns of its weave
 
-some_turns : (n w c size : ℕ) → n * w * c ≡ size → 0 < size → 0 < n
-some_turns zero w c size is some =
-    absurd (let none : zero * w * c ≡ 0 = ap (λ (x : ℕ). x * c) (zero-mul w) ∙ zero-mul c in omega (arith, is, none, some))
-some_turns (suc n) w c size is some = omega arith
-
 -- what the laws of weaves and of dealing say of a region
 pub record WeaveLaws (s : System) (w : WindowFields) (found : Found) : Type 0 where
   pub ways : weave_ways (weave_fields found w) ≡ found.ways
@@ -141,7 +126,7 @@ pub record WeaveLaws (s : System) (w : WindowFields) (found : Found) : Type 0 wh
 module _ (s : System) (w : WindowFields) (found : Found) (known : RegionFacts s w found) (laws : WeaveLaws s w found) where
   has_turns : 0 < slot_length found / chunk_size found.gran
   has_turns =
-      some_turns (slot_length found / chunk_size found.gran) (weave_ways (weave_fields found w)) (chunk_size found.gran) found.size (omega (arith, laws.turns)) known.some
+      some_first_factor (slot_length found / chunk_size found.gran) (weave_ways (weave_fields found w)) (chunk_size found.gran) found.size (omega (arith, laws.turns)) known.some
 
   -- there is room for one turn
   pub first_turn : turns_end (weave_fields found w) (0 / chunk_size found.gran + 1) ≤ 2 ^ 52
@@ -170,22 +155,6 @@ module _ (s : System) (w : WindowFields) (found : Found) (known : RegionFacts s 
 
 -- ---- the end of a device
 
-small_by : (o : Option Capacity) → ((cap : Capacity) → o ≡ Some cap → IsTrue (is_capacity cap)) → option_map_or (λ c. c.ram) o 0 + option_map_or (λ c. c.pmem) o 0 ≤ 2 ^ 52
-small_by None each = omega arith
-small_by (Some cap) each =
-    leb-true (cap.ram + cap.pmem) (2 ^ 52) (and_parts ((cap.ram % 2 ^ 28 == 0) && (cap.pmem % 2 ^ 28 == 0)) (nat_le (cap.ram + cap.pmem) (2 ^ 52)) (each cap refl)).1
-
-small_device : (s : System) (n : ℕ) → IsTree s.nodes → ram_at s n + pmem_at s n ≤ 2 ^ 52
-small_device s n tree = small_by (capacity_at s n) (λ cap is. go (slice_get s.nodes n) refl cap is)
-  where
-    go : (o : Option Node) → slice_get s.nodes n ≡ o → (cap : Capacity) → option_and_then (λ node. capacity_of node.kind) o ≡ Some cap → IsTrue (is_capacity cap)
-    go None e cap is = cc
-    go (Some node) e cap is = tree.capacities n node cap e is
-
-partition_low : (kind : MemKind) (ram pmem : ℕ) → partition_end kind ram pmem ≤ ram + pmem
-partition_low Ram ram pmem = omega arith
-partition_low Pmem ram pmem = omega arith
-
 pub span_low : (s : System) (found : Found) (place : Place) → IsTree s.nodes → lies_in found.kind (ram_at s place.endpoint) (pmem_at s place.endpoint) place.start (slot_length found) ≡ true
     → place.start + slot_length found ≤ 2 ^ 52
 span_low s found place tree inside =
@@ -193,7 +162,7 @@ span_low s found place tree inside =
     let last : ℕ = partition_end found.kind (ram_at s n) (pmem_at s n) in
     let ends : place.start + slot_length found ≤ last =
     leb-true (place.start + slot_length found) last (and_parts (nat_le (partition_start found.kind (ram_at s n)) place.start) (nat_le (place.start + slot_length found) last) inside).1 in
-    omega (arith, ends, partition_low found.kind (ram_at s n) (pmem_at s n), small_device s n tree)
+    omega (arith, ends, partition_ends found.kind (ram_at s n) (pmem_at s n), device_low s n tree)
 
 -- ---- the routes of a slot
 

@@ -1,9 +1,10 @@
 -- What a node that does not forward does with an address.
 use Rattle.std.proofs.Common.{◌≡◌, ℕ, zero, suc, ◌<◌, true, false, not, List, [], ◌∷◌, length, Option, Some, None, refl, sym, ap, subst, ◌∙◌, inr, arith}
-use Rattle.std.specs.Prelude.{slice_get, IsSomeAnd, IsNone, is_some, ◌↔◌}
+use Rattle.std.specs.Prelude.{slice_get, IsNone, is_some, ◌↔◌}
 use Rattle.std.specs.Option.{option_map_or}
 use Rattle.std.proofs.lemmas.Bool.{false≢true}
 use Rattle.std.proofs.lemmas.Option.{slice_get_within}
+use Rattle.cxl_enc.proofs.Options.{and_some}
 use Rattle.cxl_topo.specs.declared.node.Node.{Node}
 use Rattle.cxl_topo.specs.Kinds.{is_endpoint}
 use Rattle.cxl_topo.specs.Tree.{Tree, forwards_at, is_port_at, is_endpoint_at, child_of}
@@ -14,17 +15,8 @@ use Rattle.cxl_span.specs.Spans.{span_start_of, endpoint_place_of}
 use Rattle.cxl_span.specs.Breaches.{BlockKeeps}
 use Rattle.cxl_window.specs.Fields.{WindowFields}
 use Rattle.cxl_image.specs.Images.{HasCapsOf}
-use Rattle.cxl_model.specs.System.{KeepsBlock, ram_at, pmem_at, decoder_at}
+use Rattle.cxl_model.specs.System.{KeepsBlock, ram_at, pmem_at, decoder_at, system_of}
 use Rattle.cxl_model.specs.Chain.{Decodes, IsStep, IsArrival, IsBadBlock, LacksDecoder, LacksChild}
-use Rattle.cxl_model.specs.System.{system_of}
-
--- a value that is there, with what holds of it
-pub some_and : {A : Type 0} (o : Option A) (P : A → Type 0) → IsSomeAnd o P → (x : A) × (o ≡ Some x) × P x
-some_and None P h = absurd h
-some_and (Some x) P h = (x, refl, h)
-
-pub and_some : {A : Type 0} (o : Option A) (P : A → Type 0) (x : A) → o ≡ Some x → P x → IsSomeAnd o P
-and_some {A = A} o P x e p = subst (λ (v : Option A). IsSomeAnd v P) (sym e) p
 
 -- a test that an option is a value
 pub none_then : {A : Type 0} (o : Option A) (P : Type 0) → IsNone o ↔ P → is_some o ≡ false → P

@@ -1,47 +1,32 @@
 -- From the window that holds an address to its bridge, and the whole chain from there.
-use Rattle.std.proofs.Common.{◌≡◌, ℕ, zero, suc, ◌<◌, true, List, [], ◌∷◌, length, get_or, Option, Some, None, refl, ap, subst, ◌∙◌, arith}
+use Rattle.std.proofs.Common.{◌≡◌, ℕ, zero, suc, ◌<◌, List, [], ◌∷◌, length, get_or, Option, Some, None, refl, ap, ◌∙◌, arith}
 use Rattle.std.specs.Prelude.{slice_get, All, Contains, ◌&&◌, Result, Ok, Err, IfOk, IfErr}
-use Rattle.std.proofs.lemmas.Bool.{false≢true, and_parts}
-use Rattle.std.proofs.lemmas.List.Elements.{All-get_or}
-use Rattle.std.proofs.lemmas.Option.{cond_some, slice_get_within, get_or_from_slice_get}
+use Rattle.std.proofs.lemmas.Bool.{and_parts}
+use Rattle.std.proofs.lemmas.Option.{cond_some}
+use Rattle.cxl_enc.proofs.Options.{and_some}
+use Rattle.cxl_enc.proofs.Lists.{All-at}
 use Rattle.cxl_topo.specs.declared.node.Node.{Node}
 use Rattle.cxl_topo.specs.Kinds.{uid_of}
 use Rattle.cxl_topo.specs.Tree.{Tree, uid_at, bridge_with}
 use Rattle.cxl_regs.specs.Registers.{Registers}
-use Rattle.cxl_window.specs.declared.window.Verdict.{Verdict}
-use Rattle.cxl_window.specs.declared.window.Verdict.TheVariants.{Usable, Align, Size, TooHigh, Overlap, Target, Repeat, Maps}
+use Rattle.cxl_window.specs.declared.window.Verdict.TheVariants.{Usable}
 use Rattle.cxl_window.specs.Fields.{WindowFields, IsUsable}
 use Rattle.cxl_window.specs.Position.{is_usable, holds, position_of, position_at}
 use Rattle.cxl_window.specs.Windows.{AreMadeWith}
+use Rattle.cxl_window.proofs.Usable.{usable_is}
 use Rattle.cxl_model.specs.declared.chain.Step.{Step}
 use Rattle.cxl_model.specs.declared.chain.Miss.{Miss}
-use Rattle.cxl_model.specs.System.{System, bridge_uids}
+use Rattle.cxl_model.specs.System.{System, bridge_uids, system_of}
 use Rattle.cxl_model.specs.Chain.{Arrival, Arrives, Misses, Targets, Chain, held, Routed, Missed}
 use Rattle.cxl_walk.specs.declared.route.Route.{Route}
 use Rattle.cxl_walk.specs.declared.target.Target as slots
-use Rattle.cxl_model.specs.System.{system_of}
 use Rattle.cxl_walk.specs.inner.Calls.{Leads, Fails, IsTarget}
 use Rattle.cxl_walk.specs.Routes.{routing_of, chain_end_of}
-use Rattle.cxl_walk.proofs.Nodes.{and_some}
-
-pub usable_is : (verdict : Verdict) → is_usable verdict ≡ true → verdict ≡ Usable
-usable_is Usable h = refl
-usable_is Align h = absurd (false≢true h)
-usable_is Size h = absurd (false≢true h)
-usable_is TooHigh h = absurd (false≢true h)
-usable_is (Overlap i) h = absurd (false≢true h)
-usable_is (Target uid) h = absurd (false≢true h)
-usable_is (Repeat uid) h = absurd (false≢true h)
-usable_is Maps h = absurd (false≢true h)
 
 -- a window that holds an address can be used
 usable_of : (w : WindowFields) (h position : ℕ) → position_at w h ≡ Some position → w.verdict ≡ Usable
 usable_of w h position there =
     usable_is w.verdict (and_parts (is_usable w.verdict) (holds w h) (cond_some (is_usable w.verdict && holds w h) (position_of w h) position there).0).0
-
-pub all_at : {A : Type 0} (P : A → Type 0) (xs : List A) (i : ℕ) (x : A) → slice_get xs i ≡ Some x → All P xs → P x
-all_at P xs i x there all =
-    subst P (get_or_from_slice_get xs i x x there) (All-get_or P xs i x (slice_get_within xs i x there) all)
 
 -- the bridge of a UID among those of a tree
 uid_there : (nodes : List Node) (uid : ℕ) → Contains (bridge_uids nodes) uid → (i : ℕ) × (uid_at nodes i ≡ Some uid)
@@ -61,8 +46,8 @@ module _ (blocks : List Registers) (tree : Tree) (windows : List WindowFields) (
   -- its bridge is there
   pub bridge_there : AreMadeWith windows (bridge_uids tree.nodes) → (i : ℕ) × (uid_at tree.nodes i ≡ Some target.uid)
   bridge_there made =
-      let usable = all_at (λ v. v.verdict ≡ Usable → IsUsable v × All (λ u. Contains (bridge_uids tree.nodes) u) v.targets) windows w.index w is.there made.usable in
-      uid_there tree.nodes target.uid (all_at (λ u. Contains (bridge_uids tree.nodes) u) w.targets target.position target.uid is.inside.uid (usable (usable_of w h target.position is.inside.holds)).1)
+      let usable = All-at (λ v. v.verdict ≡ Usable → IsUsable v × All (λ u. Contains (bridge_uids tree.nodes) u) v.targets) windows w.index w is.there made.usable in
+      uid_there tree.nodes target.uid (All-at (λ u. Contains (bridge_uids tree.nodes) u) w.targets target.position target.uid is.inside.uid (usable (usable_of w h target.position is.inside.holds)).1)
 
   targets : (bridge : ℕ) → bridge_with tree.nodes target.uid ≡ Some bridge → Targets (system_of blocks tree windows) h w target.position bridge
   targets bridge found = record {

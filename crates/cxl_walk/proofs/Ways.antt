@@ -2,6 +2,7 @@
 use Rattle.std.proofs.Common.{◌≡◌, ℕ, ◌+◌, ◌-◌, ◌<◌, ◌≤◌, List, [], ◌∷◌, ◌++◌, length, take, drop, replicate, append_assoc, Some, refl, sym, ap, subst, ◌∙◌, arith}
 use Rattle.std.proofs.Math.ListN.{set}
 use Rattle.std.proofs.lemmas.List.{append-nil, length-set, take_more_set, drop-set-lt, drop-drop, drop-replicate}
+use Rattle.cxl_enc.proofs.Options.{some_and}
 use Rattle.cxl_topo.specs.Tree.{Tree, ports_above}
 use Rattle.cxl_topo.specs.Faults.{IsTree}
 use Rattle.cxl_topo.specs.Laws.{AreTreeLaws}
@@ -9,13 +10,11 @@ use Rattle.cxl_regs.specs.Registers.{Registers}
 use Rattle.cxl_regs.specs.Reading.{entry_at}
 use Rattle.cxl_model.specs.declared.chain.Step.{Step}
 use Rattle.cxl_model.specs.declared.chain.Miss.{Miss}
-use Rattle.cxl_model.specs.System.{decoder_at}
+use Rattle.cxl_model.specs.System.{decoder_at, system_of}
 use Rattle.cxl_model.specs.Chain.{End, Forwards, Steps, Ends, Misses, on_forwarding, on_step, at_end, Chooses}
-use Rattle.cxl_model.specs.System.{system_of}
 use Rattle.cxl_walk.specs.Routes.{no_step}
 use Rattle.cxl_walk.specs.inner.Calls.{Makes, MissesAt, Leads, Fails}
 use Rattle.cxl_walk.proofs.Children.{IsChild, child_at_port, only_child}
-use Rattle.cxl_walk.proofs.Nodes.{some_and}
 
 -- the steps made from node top down to node at
 pub record IsOnWay (blocks : List Registers) (tree : Tree) (h top at len : ℕ) (steps : List Step) : Type 0 where

@@ -4,7 +4,6 @@ use Rattle.std.specs.Prelude.{slice_get, ◌==◌, nat_lt, All, Contains, slice_
 use Rattle.std.proofs.lemmas.Option.{slice_get_past, slice_get_within, slice_get_read}
 use Rattle.std.specs.Bool.{beq}
 use Rattle.std.specs.List.{list_all, list_any}
-use Rattle.std.proofs.lemmas.List.Folds.{Any-from_list_any}
 use Rattle.std.proofs.lemmas.List.Elements.{All-nil, All-cons}
 use Rattle.std.proofs.lemmas.Bool.{agree_below, agree_below_at, cases_lt, eqb-true, eqb-false, ltb-true, and_parts, false≢true}
 use Rattle.cxl_topo.specs.declared.node.Node.{Node}
@@ -16,6 +15,8 @@ use Rattle.cxl_topo.specs.Faults.{fits, are_too_many, lacks_parent, has_taken_po
 use Rattle.cxl_regs.specs.declared.decoder.Decoder.{Decoder}
 use Rattle.cxl_regs.specs.Registers.{Registers, IsAligned, IsDecoder, IsBlock}
 use Rattle.cxl_enc.specs.Caps.{is_legal_cap, decoders_code, decoders_of}
+use Rattle.cxl_enc.proofs.Tests.{asked_of}
+use Rattle.cxl_enc.proofs.Lists.{in_is}
 use Rattle.cxl_window.specs.Fields.{WindowFields, IsWindow, IsUsable, AreDistinct}
 use Rattle.cxl_window.specs.declared.window.Verdict.TheVariants.{Usable}
 use Rattle.cxl_window.specs.Windows.{AreMadeWith}
@@ -132,10 +133,6 @@ is_block block =
     is_legal_cap block.cap block.endpoint && (block.endpoint || block.enabled) && (length block.decoders == decoders_of (decoders_code block.cap))
     && list_all (is_decoder block.endpoint) block.decoders
 
-enabled_from : (endpoint enabled : Bool) → (endpoint || enabled) ≡ true → endpoint ≡ false → enabled ≡ true
-enabled_from true enabled is of = absurd (false≢true (sym of))
-enabled_from false enabled is of = is
-
 block_from : (block : Registers) → is_block block ≡ true → IsBlock block
 block_from block is =
     let to_each = and_parts _ _ is in
@@ -143,7 +140,7 @@ block_from block is =
     let to_enabled = and_parts _ _ to_count.0 in
     record {
       cap = to_enabled.0;
-      enabled = enabled_from block.endpoint block.enabled to_enabled.1;
+      enabled = asked_of block.endpoint block.enabled to_enabled.1;
       count = eqb-true (length block.decoders) (decoders_of (decoders_code block.cap)) to_count.1;
       each = decoders_from block.endpoint block.decoders to_each.1;
     }
@@ -183,13 +180,8 @@ distinct_from ns differs i j d before within =
     (agree_below_at (λ k. slice_index_or ns k d == slice_index_or ns j d) (λ k. false) j i
     (agree_below_at (λ m. agree_below (λ k. slice_index_or ns k d == slice_index_or ns m d) (λ k. false) m) (λ m. true) (length ns) j (differs d) within) before)
 
-contains_from : (ns : List ℕ) (n : ℕ) → list_any (λ m. m == n) ns ≡ true → Contains ns n
-contains_from ns n found =
-    let there = Any-from_list_any (λ m. m == n) ns found in
-    subst (Contains ns) (eqb-true there.1 n there.4) (there.0, there.2, there.3)
-
 pub targets_from : (bridges us : List ℕ) → list_all (λ u. list_any (λ v. v == u) bridges) us ≡ true → All (λ u. Contains bridges u) us
 targets_from bridges [] all = All-nil (λ u. Contains bridges u)
 targets_from bridges (u ∷ us) all =
     let parts = and_parts (list_any (λ v. v == u) bridges) (list_all (λ n. list_any (λ v. v == n) bridges) us) all in
-    All-cons (λ n. Contains bridges n) u us (contains_from bridges u parts.0) (targets_from bridges us parts.1)
+    All-cons (λ n. Contains bridges n) u us (in_is bridges u parts.0) (targets_from bridges us parts.1)

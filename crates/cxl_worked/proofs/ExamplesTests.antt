@@ -3,7 +3,8 @@ use Rattle.std.proofs.Common.{◌≡◌, ℕ, ◌+◌, ◌<◌, ◌≤◌, Bool,
 use Rattle.std.specs.Prelude.{slice_get, ◌==◌, if◌then◌else◌}
 use Rattle.std.specs.Option.{option_map_or}
 use Rattle.std.proofs.lemmas.Option.{slice_get_past}
-use Rattle.std.proofs.lemmas.Bool.{agree_below, agree_below_at, cases_lt, cases_eq, ne_eqb, lt-ltb}
+use Rattle.std.proofs.lemmas.Bool.{agree_below, agree_below_at, cases_lt, cases_eq, ne_eqb, lt-ltb, or_parts}
+use Rattle.cxl_enc.proofs.Tests.{either}
 use Rattle.cxl_regs.specs.declared.decoder.Decoder.{Decoder}
 use Rattle.cxl_regs.specs.Registers.{Registers}
 use Rattle.cxl_regs.specs.Rules.{before}
@@ -44,10 +45,6 @@ none_below test nodes decoders none past_nodes past_decoders n i =
 abbrev IsOff : Bool → Type 0
 IsOff b = b ≡ false
 
-either : (P : Bool → Type 0) (b : Bool) (x y : Bool) → P x → P y → P (if b then x else y)
-either P true x y p q = p
-either P false x y p q = q
-
 -- ---- K1
 
 abbrev pub caps_hold : System → Bool
@@ -77,10 +74,6 @@ breaks_some_at s n i = option_map_or (λ block. block_breaks_some block (ram_at 
 abbrev pub blocks_hold : System → Bool
 blocks_hold s = agree_below (λ n. agree_below (breaks_some_at s n) (λ i. false) (length (decoders_at s n))) (λ n. true) (length s.blocks)
 
-or_false : (a b : Bool) → (a || b) ≡ false → (a ≡ false) × (b ≡ false)
-or_false true b h = cc
-or_false false b h = (refl, h)
-
 chosen_is_false : (rule : ℕ) (a b c d e f g : Bool) → (a || b || c || d || e || f || g) ≡ false
     → (if rule == 2 then a
     else (if rule == 3 then b
@@ -91,12 +84,12 @@ chosen_is_false : (rule : ℕ) (a b c d e f g : Bool) → (a || b || c || d || e
     else (if rule == 8 then g
     else false))))))) ≡ false
 chosen_is_false rule a b c d e f g none =
-    let to_g = or_false (a || b || c || d || e || f) g none in
-    let to_f = or_false (a || b || c || d || e) f to_g.0 in
-    let to_e = or_false (a || b || c || d) e to_f.0 in
-    let to_d = or_false (a || b || c) d to_e.0 in
-    let to_c = or_false (a || b) c to_d.0 in
-    let to_b = or_false a b to_c.0 in
+    let to_g = or_parts (a || b || c || d || e || f) g none in
+    let to_f = or_parts (a || b || c || d || e) f to_g.0 in
+    let to_e = or_parts (a || b || c || d) e to_f.0 in
+    let to_d = or_parts (a || b || c) d to_e.0 in
+    let to_c = or_parts (a || b) c to_d.0 in
+    let to_b = or_parts a b to_c.0 in
     either IsOff (rule == 2) _ _ to_b.0
     (either IsOff (rule == 3) _ _ to_b.1
     (either IsOff (rule == 4) _ _ to_c.1

@@ -20,7 +20,7 @@ use Rattle.cxl_machine.specs.Sound.{Opens}
 use Rattle.cxl_machine.specs.Turns.{AreTurns, machine_after, text_of}
 use Rattle.cxl_model.specs.Accepted.{IsAccepted, HasFirstBreach}
 use Rattle.cxl_model.specs.System.{System}
-use Rattle.cxl_model.proofs.CountingTrees.{KnownTree}
+use Rattle.cxl_topo.proofs.Trees.{KnownTree}
 use Rattle.cxl_model.proofs.SpansListed.{one_list}
 use Rattle.cxl_regs.specs.Registers.{Registers}
 use Rattle.cxl_opening.specs.Opening.{IsHalfEnabled, empty_media}

@@ -1,8 +1,9 @@
 use Rattle.std.proofs.Common.{ℕ, ◌+◌, ◌*◌, sym, ap, ◌∙◌, arith}
+use Rattle.cxl_enc.proofs.Numbers.{some_product}
 use Rattle.cxl_regs.specs.Reading.{decoder_ways, select_bits}
 use Rattle.cxl_model.specs.Hosts.{as_system}
 use Rattle.cxl_check.proofs.Trees.{below_parent}
-use Rattle.cxl_check.proofs.WaysUp.{few_ways, few_bits, ways_few, bits_few, ways_once_more, ways_fit, some_ways, no_ports, one_more, fewer, top_ways, top_bits, more_ways, more_bits, same_ways, same_bits}
+use Rattle.cxl_check.proofs.WaysUp.{few_ways, few_bits, ways_few, bits_few, ways_once_more, ways_fit, no_ports, one_more, fewer, top_ways, top_bits, more_ways, more_bits, same_ways, same_bits}
 use Rattle.cxl_check.proofs.above.+ports_above.Goals as goal
 
 pub returns-in_default-clause-ways : goal.returns-in_default-clause-ways
@@ -56,7 +57,7 @@ returns-in-Some-decoder_for-clause-bits t c =
 
 pub returns-in-Some-decoder_for-clause-some : goal.returns-in-Some-decoder_for-clause-some
 returns-in-Some-decoder_for-clause-some t c =
-    some_ways c.from.result c.ports_above-above.result.ways (omega (arith, c.interleave_ways.ensures.some, c.from.ensures)) c.ports_above-above.ensures.some
+    some_product c.from.result c.ports_above-above.result.ways (omega (arith, c.interleave_ways.ensures.some, c.from.ensures)) c.ports_above-above.ensures.some
 
 pub returns-in-Some-decoder_for-clause-few_ways : goal.returns-in-Some-decoder_for-clause-few_ways
 returns-in-Some-decoder_for-clause-few_ways t c =

@@ -1,15 +1,17 @@
 use Rattle.std.proofs.Common.{◌≡◌, true, sym, ◌∙◌, arith}
 use Rattle.std.specs.Prelude.{slice_get}
+use Rattle.cxl_enc.proofs.Options.{some_and}
+use Rattle.cxl_topo.proofs.Trees.{endpoint_within}
 use Rattle.cxl_regs.specs.declared.decoder.Decoder.{Decoder}
 use Rattle.cxl_model.specs.Hosts.{as_system}
-use Rattle.cxl_check.proofs.Kept.{node_inside, endpoint_inside, decoder_inside, some_and, span_few, ram_span, pmem_span, ram_only}
+use Rattle.cxl_check.proofs.Kept.{node_inside, decoder_inside, span_few, ram_span, pmem_span, ram_only}
 use Rattle.cxl_check.proofs.kind.span_kind.Goals as goal
 
 pub block-block-requires : goal.block-block-requires
 block-block-requires c = node_inside (as_system c.args.host.now) c.requires.ready c.args.node c.requires.endpoint
 
 pub capacity_at-capacity-requires : goal.capacity_at-capacity-requires
-capacity_at-capacity-requires c = endpoint_inside c.args.host.now.topo.now.nodes c.args.node c.requires.endpoint
+capacity_at-capacity-requires c = endpoint_within c.args.host.now.topo.now.nodes c.args.node c.requires.endpoint
 
 pub decoder-requires : goal.decoder-requires
 decoder-requires c =

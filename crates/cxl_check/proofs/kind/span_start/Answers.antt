@@ -1,8 +1,9 @@
 use Rattle.std.proofs.Common.{◌≡◌, true, arith}
 use Rattle.std.specs.Prelude.{slice_get, IsSomeAnd}
+use Rattle.cxl_enc.proofs.Options.{some_and}
 use Rattle.cxl_regs.specs.declared.decoder.Decoder.{Decoder}
 use Rattle.cxl_model.specs.Hosts.{as_system}
-use Rattle.cxl_check.proofs.Kept.{node_inside, decoder_inside, some_and, span_few}
+use Rattle.cxl_check.proofs.Kept.{node_inside, decoder_inside, span_few}
 use Rattle.cxl_check.proofs.kind.span_start.Goals as goal
 
 pub block-requires : goal.block-requires

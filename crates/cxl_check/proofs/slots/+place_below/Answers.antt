@@ -8,10 +8,10 @@ use Rattle.cxl_model.specs.Ranges.{index_for, ways_above}
 use Rattle.cxl_model.specs.Regions.{LeadsTo, at_endpoint}
 use Rattle.cxl_model.specs.declared.found.Place.{Place}
 use Rattle.std.specs.Option.{option_map_or}
+use Rattle.cxl_enc.proofs.Options.{some_and}
 use Rattle.cxl_regs.specs.Reading.{decoder_ways}
 use Rattle.cxl_check.specs.inner.Slots.{AreWaysAbove, next_of}
 use Rattle.cxl_check.proofs.FirstFacts.{is_committed}
-use Rattle.cxl_check.proofs.Kept.{some_and}
 use Rattle.cxl_check.proofs.Leading.{within, ends_there, goes_on, leads_by_next, next_below, next_parent}
 use Rattle.cxl_check.proofs.WaysUp.{ways_below, ways_few_up}
 use Rattle.cxl_check.proofs.slots.+place_below.Goals as goal

@@ -1,10 +1,10 @@
 use Rattle.std.proofs.Common.{◌≡◌, ℕ, ◌<◌, Some, length, get_or, refl, sym, ap, subst, ◌∙◌, arith}
 use Rattle.std.specs.Prelude.{slice_get}
 use Rattle.std.proofs.lemmas.Option.{slice_get_within, get_or_from_slice_get, same_Some}
+use Rattle.cxl_enc.proofs.Options.{some_and}
 use Rattle.cxl_topo.specs.Tree.{bridge_with}
 use Rattle.cxl_model.specs.Hosts.{as_system}
 use Rattle.cxl_model.specs.Regions.{target_position, LeadsTo}
-use Rattle.cxl_check.proofs.Kept.{some_and}
 use Rattle.cxl_check.proofs.slots.place_of_slot.Goals as goal
 
 pub offset_bounds-targets-from : goal.offset_bounds-targets-from

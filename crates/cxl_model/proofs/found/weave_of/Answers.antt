@@ -7,7 +7,7 @@ use Rattle.cxl_model.specs.declared.found.Found.{Found}
 use Rattle.cxl_model.specs.System.{System, IsSystem}
 use Rattle.cxl_model.specs.Regions.{region_range, IsRegionIn}
 use Rattle.cxl_model.proofs.Weaving.{found_ways_known, told, window_divides, few_ways, few_below, found_gran_known, found_maps_usable, usable_front}
-use Rattle.cxl_model.proofs.SpansWindows.{has_window}
+use Rattle.cxl_model.proofs.RangeWindows.{has_window}
 use Rattle.cxl_model.proofs.Hosting.{region_system}
 use Rattle.cxl_model.proofs.found.weave_of.Goals as goal
 

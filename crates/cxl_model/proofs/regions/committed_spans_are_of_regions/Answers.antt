@@ -1,13 +1,14 @@
 use Rattle.std.proofs.Common.{◌≡◌, true, refl, sym, subst}
+use Rattle.std.proofs.lemmas.Map.Keys.{any_passes_from_place}
 use Rattle.cxl_regs.specs.declared.reading.Range.{Range}
 use Rattle.cxl_regs.specs.Reading.{range_of, has_range}
 use Rattle.cxl_window.specs.Fields.{WindowFields}
+use Rattle.cxl_regs.proofs.DecoderRanges.{has_own_range}
 use Rattle.cxl_model.specs.declared.found.Found.{Found}
 use Rattle.cxl_model.specs.System.{decoders_at}
 use Rattle.cxl_model.specs.Ranges.{serves}
 use Rattle.cxl_model.specs.Regions.{region_range}
 use Rattle.cxl_model.specs.Counts.{is_endpoint_of}
-use Rattle.cxl_model.proofs.BreachesOfRanges.{has_own_range, passes_one}
 use Rattle.cxl_model.proofs.SpansCommitted.{in_decoder, in_slot}
 use Rattle.cxl_model.proofs.regions.committed_spans_are_of_regions.Goals as goal
 
@@ -18,7 +19,7 @@ pub returns-clause-region : goal.returns-clause-region
 returns-clause-region c = λ s endpoint dpa system accepted end own.
     let r : Range = range_of own.d in
     let own_range : has_range r own.d ≡ true = has_own_range own.d own.committed in
-    let serving : serves s r endpoint ≡ true = passes_one (has_range r) (decoders_at s endpoint) own.i own.d own.there own_range in
+    let serving : serves s r endpoint ≡ true = any_passes_from_place (has_range r) (decoders_at s endpoint) own.i own.d own.there own_range in
     let whole = ((c.accepted_where_whole.ensures s).0 accepted).1 r (endpoint, serving) in
     let region = c.whole_ranges_have_one_region.ensures.some s r system (endpoint, serving) whole in
     let w : WindowFields = region.0 in

@@ -1,5 +1,5 @@
-use Rattle.cxl_model.proofs.Counting.{counted, served_lands}
-use Rattle.cxl_model.proofs.SpansWindows.{counted_endpoints, none_under}
+use Rattle.cxl_model.proofs.RangeCounts.{counted, served_lands}
+use Rattle.cxl_model.proofs.RangeWindows.{counted_endpoints, none_under}
 use Rattle.cxl_model.proofs.regions.endpoints_lie_evenly.Goals as goal
 
 pub returns-clause-under : goal.returns-clause-under

@@ -1,6 +1,6 @@
 use Rattle.std.proofs.Common.{◌∷◌}
+use Rattle.cxl_enc.proofs.Lists.{contains_tail}
 use Rattle.cxl_move.specs.Holdings.{told_in}
-use Rattle.cxl_move.proofs.Lists.{contains_tail}
 use Rattle.cxl_move.proofs.Told.{PieceLaws, HoldingLaws, told_from_media, media_from_told, own_region}
 use Rattle.cxl_move.proofs.Changed.{cleared_told, with_empty}
 use Rattle.cxl_move.proofs.holdings.cleared_regions_leave_media.Goals as goal

@@ -2,7 +2,7 @@ use Rattle.std.proofs.Common.{◌<◌, List, length, sym, ap, ◌∙◌, inl, in
 use Rattle.std.proofs.lemmas.Bool.{cases_eq}
 use Rattle.cxl_topo.specs.declared.node.Node.{Node}
 use Rattle.cxl_topo.specs.Tree.{parent_of}
-use Rattle.cxl_pick.proofs.Trees.{KnownTree, parent_within, parent_is_port}
+use Rattle.cxl_topo.proofs.Trees.{KnownTree, parent_within, parent_is_port}
 use Rattle.cxl_pick.proofs.offers.highest_ports.Goals as goal
 
 pub loop-node-preserved : goal.loop-node-preserved

@@ -2,11 +2,11 @@ use Rattle.std.proofs.Common.{◌≡◌, ℕ, ◌/◌, Bool, if◌then◌else◌
 use Rattle.std.specs.Prelude.{take, find}
 use Rattle.std.specs.List.{flat_map}
 use Rattle.std.proofs.lemmas.Option.{slice_get-get_or}
+use Rattle.cxl_topo.proofs.Trees.{KnownTree}
 use Rattle.cxl_model.specs.Hosts.{as_system}
 use Rattle.cxl_model.specs.System.{System}
 use Rattle.cxl_pick.specs.Picking.{can_serve_by, children_of}
 use Rattle.cxl_pick.specs.inner.Offers.{offered, offers_at}
-use Rattle.cxl_pick.proofs.Trees.{KnownTree}
 use Rattle.cxl_pick.proofs.Numbers.{some_count}
 use Rattle.cxl_pick.proofs.Offering.{if_ok, itself_offered, found_count, port_offered, port_offers_none}
 use Rattle.cxl_pick.proofs.offers.offer.Goals as goal

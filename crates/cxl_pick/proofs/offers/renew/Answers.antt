@@ -1,8 +1,8 @@
 use Rattle.std.proofs.Common.{sym, ◌∙◌}
+use Rattle.cxl_topo.proofs.Trees.{KnownTree}
 use Rattle.cxl_model.specs.Hosts.{as_system}
 use Rattle.cxl_model.specs.System.{System}
 use Rattle.cxl_pick.specs.declared.want.Want.{Want}
-use Rattle.cxl_pick.proofs.Trees.{KnownTree}
 use Rattle.cxl_pick.proofs.Keeping.{AskSame, same_offers, open_alike}
 use Rattle.cxl_pick.proofs.offers.renew.Goals as goal
 

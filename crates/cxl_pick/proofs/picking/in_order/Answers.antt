@@ -1,8 +1,8 @@
 use Rattle.std.proofs.Common.{◌≡◌, ℕ, Vec, Global, sym, ap, ◌∙◌, subst, arith}
 use Rattle.std.specs.Prelude.{filter}
 use Rattle.std.specs.List.{range_with_len}
+use Rattle.cxl_enc.proofs.Lists.{is_in}
 use Rattle.cxl_pick.specs.Picking.{AreInOrder}
-use Rattle.cxl_pick.proofs.Lists.{is_in}
 use Rattle.cxl_pick.proofs.Givings.{node_in, node_out, are_in_order}
 use Rattle.cxl_pick.proofs.picking.in_order.Goals as goal
 use Rattle.cxl_pick.proofs.picking.in_order.Goals.{then-is_given+in_ok-push, else-is_given}

@@ -1,9 +1,9 @@
 use Rattle.std.proofs.Common.{◌≡◌, ℕ, ◌/◌, map, Vec, Global, sym, ◌∙◌}
 use Rattle.std.specs.Prelude.{option_map}
+use Rattle.cxl_topo.proofs.Trees.{KnownTree}
 use Rattle.cxl_model.specs.Hosts.{as_system}
 use Rattle.cxl_model.specs.System.{System}
 use Rattle.cxl_pick.specs.Picking.{all_given, given_in}
-use Rattle.cxl_pick.proofs.Trees.{KnownTree}
 use Rattle.cxl_pick.proofs.Offering.{if_ok}
 use Rattle.cxl_pick.proofs.Givings.{at_uid}
 use Rattle.cxl_pick.proofs.Settled.{given_by_table}

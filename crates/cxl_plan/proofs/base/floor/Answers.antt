@@ -1,10 +1,10 @@
 use Rattle.std.proofs.Common.{◌≡◌, ℕ, ◌≤◌, max, get_or, sym, ap, subst, ◌∙◌, arith}
 use Rattle.cxl_enc.specs.Limits.{address_limit}
+use Rattle.cxl_topo.proofs.Trees.{KnownTree}
 use Rattle.cxl_model.specs.Hosts.{as_system}
 use Rattle.cxl_model.specs.System.{ram_at, pmem_at}
 use Rattle.cxl_legal.specs.Bases.{last_end}
 use Rattle.cxl_plan.specs.inner.Judging.{without_windows}
-use Rattle.cxl_plan.proofs.Trees.{KnownTree}
 use Rattle.cxl_plan.proofs.KeptBlocks.{kept_block}
 use Rattle.cxl_plan.proofs.UsedItems.{item_inside, item_used, used_stands, floor_more}
 use Rattle.cxl_plan.proofs.base.floor.Goals as goal

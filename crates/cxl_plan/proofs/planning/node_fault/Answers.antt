@@ -1,6 +1,6 @@
 use Rattle.std.proofs.Common.{Some, None, sym, arith}
+use Rattle.cxl_topo.proofs.Trees.{KnownTree}
 use Rattle.cxl_model.specs.Hosts.{as_system}
-use Rattle.cxl_plan.proofs.Trees.{KnownTree}
 use Rattle.cxl_plan.proofs.UsedItems.{all_inside}
 use Rattle.cxl_plan.proofs.FaultOrder.{faults_3, faults_4, faults_5, found_uneven, fits_endpoints}
 use Rattle.cxl_plan.proofs.planning.node_fault.Goals as goal

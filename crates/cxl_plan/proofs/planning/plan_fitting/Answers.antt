@@ -1,13 +1,13 @@
 use Rattle.std.proofs.Common.{◌≡◌, ℕ, List, Some, refl, sym, ap, subst, ◌∙◌}
 use Rattle.std.proofs.lemmas.Option.{same_Some, slice_get_within, slice_get-get_or}
 use Rattle.cxl_window.specs.Fields.{WindowFields}
+use Rattle.cxl_topo.proofs.Trees.{KnownTree}
 use Rattle.cxl_legal.specs.Stated.{IsStatedPlan}
 use Rattle.cxl_model.specs.Hosts.{as_system}
 use Rattle.cxl_model.specs.declared.plan.Reason.{Reason}
 use Rattle.cxl_plan.specs.declared.choosing.Choice.TheVariants.{Found, Nowhere}
 use Rattle.cxl_plan.specs.Faults.{AreReasons, TakesFirst}
 use Rattle.cxl_plan.specs.inner.Choices.{IsChoice}
-use Rattle.cxl_plan.proofs.Trees.{KnownTree}
 use Rattle.cxl_plan.proofs.FaultOrder.{has_ways, faults_6}
 use Rattle.cxl_plan.proofs.planning.plan_fitting.Goals as goal
 

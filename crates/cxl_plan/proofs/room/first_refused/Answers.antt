@@ -1,8 +1,8 @@
 use Rattle.std.proofs.Common.{get_or, ap, subst, ◌∙◌, arith, below_more}
 use Rattle.cxl_topo.specs.Tree.{is_endpoint_at}
+use Rattle.cxl_topo.proofs.Trees.{KnownTree}
 use Rattle.cxl_model.specs.Hosts.{as_system}
 use Rattle.cxl_legal.specs.Endpoints.{HasRoom}
-use Rattle.cxl_plan.proofs.Trees.{KnownTree}
 use Rattle.cxl_plan.proofs.UsedItems.{item_inside, item_used, used_stands, asked_used, asked_endpoint, used_asked}
 use Rattle.cxl_plan.proofs.room.first_refused.Goals as goal
 

@@ -1,8 +1,8 @@
 use Rattle.std.proofs.Common.{ℕ, sym, subst}
+use Rattle.cxl_topo.proofs.Trees.{endpoint_within}
 use Rattle.cxl_span.specs.Breaches.{BlockKeeps}
 use Rattle.cxl_model.specs.Hosts.{as_system}
 use Rattle.cxl_model.specs.System.{ram_at}
-use Rattle.cxl_plan.proofs.Tables.{endpoint_inside}
 use Rattle.cxl_plan.proofs.KeptBlocks.{kept_block, endpoint_at, node_inside}
 use Rattle.cxl_plan.proofs.room.span_of.Goals as goal
 
@@ -21,7 +21,7 @@ pub block-requires : goal.block-requires
 block-requires c = node_inside (as_system c.args.host.now) c.args.request.now c.requires.ready c.args.endpoint c.requires.endpoint
 
 pub capacity_at-capacity-requires : goal.capacity_at-capacity-requires
-capacity_at-capacity-requires c = endpoint_inside c.args.host.now.topo.now.nodes c.args.endpoint c.requires.endpoint
+capacity_at-capacity-requires c = endpoint_within c.args.host.now.topo.now.nodes c.args.endpoint c.requires.endpoint
 
 pub share_of-share-requires : goal.share_of-share-requires
 share_of-share-requires c = c.requires.sound

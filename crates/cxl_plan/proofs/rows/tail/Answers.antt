@@ -9,7 +9,7 @@ use Rattle.cxl_plan.specs.inner.Uses.{ports_at}
 use Rattle.cxl_plan.proofs.StatedRows.{skip_is, tail_endpoint, tail_port}
 use Rattle.cxl_plan.proofs.FaultOrder.{few_ports}
 use Rattle.std.specs.Result.{IsOk}
-use Rattle.cxl_plan.proofs.Trees.{KnownTree}
+use Rattle.cxl_topo.proofs.Trees.{KnownTree}
 use Rattle.cxl_plan.proofs.UsedItems.{used_asked}
 use Rattle.cxl_plan.proofs.rows.tail.Goals as goal
 

@@ -2,9 +2,9 @@ use Rattle.cxl_plan.proofs.StatedSpans.{reach_end, reach_past}
 use Rattle.std.proofs.Common.{◌≡◌, ℕ, true, sym, subst, refl, ◌∙◌, arith}
 use Rattle.std.specs.Prelude.{IsSome}
 use Rattle.std.proofs.lemmas.Option.{same_Some}
+use Rattle.cxl_topo.proofs.Trees.{KnownTree}
 use Rattle.cxl_legal.specs.Used.{is_used}
 use Rattle.cxl_plan.specs.inner.Uses.{tree_alone}
-use Rattle.cxl_plan.proofs.Trees.{KnownTree}
 use Rattle.cxl_plan.proofs.Leading.{used_child}
 use Rattle.cxl_plan.proofs.spans.+reached.Goals as goal
 

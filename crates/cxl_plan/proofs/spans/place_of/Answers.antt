@@ -1,5 +1,5 @@
-use Rattle.std.specs.Prelude.{slice_get}
-use Rattle.std.proofs.lemmas.Option.{slice_get-get_or}
+use Rattle.std.specs.Prelude.{slice_get, IsSome}
+use Rattle.std.proofs.lemmas.Option.{slice_get-get_or, same_Some}
 use Rattle.cxl_topo.specs.Tree.{bridge_with}
 use Rattle.cxl_model.specs.Hosts.{as_system}
 use Rattle.cxl_model.specs.System.{decoders_at, ram_at, pmem_at}
@@ -8,15 +8,13 @@ use Rattle.cxl_legal.specs.Endpoints.{share_of}
 use Rattle.cxl_plan.proofs.StatedRows.{least_start}
 use Rattle.cxl_plan.proofs.StatedSpans.{reached_over}
 use Rattle.std.proofs.Common.{Some, ◌≡◌, ℕ, List, Ok, true, length, get_or, refl, sym, ap, subst, ◌∙◌, arith}
-use Rattle.std.specs.Prelude.{IsSome}
 use Rattle.std.specs.Result.{IsOk}
 use Rattle.std.specs.List.{list_all}
 use Rattle.std.proofs.lemmas.Bool.{and_parts}
-use Rattle.std.proofs.lemmas.Option.{same_Some}
+use Rattle.cxl_topo.proofs.Trees.{KnownTree}
 use Rattle.cxl_legal.specs.Used.{is_used}
 use Rattle.cxl_legal.specs.Windows.{is_used_bridge}
 use Rattle.cxl_plan.specs.inner.Uses.{tree_alone}
-use Rattle.cxl_plan.proofs.Trees.{KnownTree}
 use Rattle.cxl_plan.proofs.UsedItems.{used_asked}
 use Rattle.cxl_plan.proofs.Leading.{target_at, used_bridge}
 use Rattle.cxl_plan.proofs.spans.place_of.Goals as goal

@@ -1,11 +1,12 @@
 use Rattle.std.proofs.Common.{ℕ, ◌≤◌, List, length, arith, subst}
 use Rattle.std.proofs.lemmas.List.{take_all}
+use Rattle.cxl_topo.proofs.Trees.{endpoint_within}
 use Rattle.cxl_plan.specs.inner.Uses.{AreMarks}
-use Rattle.cxl_plan.proofs.Tables.{endpoint_inside, path_marked}
+use Rattle.cxl_plan.proofs.Tables.{path_marked}
 use Rattle.cxl_plan.proofs.used.marks.Goals as goal
 
 pub path-requires : goal.path-requires
-path-requires c = endpoint_inside c.args.topo.now.nodes _ (c.requires c.loop-endpoint.endpoint-index 0 (omega arith))
+path-requires c = endpoint_within c.args.topo.now.nodes _ (c.requires c.loop-endpoint.endpoint-index 0 (omega arith))
 
 pub loop-endpoint-preserved : goal.loop-endpoint-preserved
 loop-endpoint-preserved c =

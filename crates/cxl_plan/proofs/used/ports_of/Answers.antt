@@ -1,6 +1,6 @@
 use Rattle.std.proofs.Common.{sym, ◌∙◌}
+use Rattle.cxl_topo.proofs.Trees.{KnownTree}
 use Rattle.cxl_plan.specs.inner.Uses.{ports_at}
-use Rattle.cxl_plan.proofs.Trees.{KnownTree}
 use Rattle.cxl_plan.proofs.Tables.{ports_listed, no_ports, not_counted, then_ok}
 use Rattle.cxl_plan.proofs.used.ports_of.Goals as goal
 

@@ -1,6 +1,6 @@
 use Rattle.std.proofs.Common.{None, arith}
+use Rattle.cxl_topo.proofs.Trees.{KnownTree}
 use Rattle.cxl_plan.specs.inner.Judging.{over}
-use Rattle.cxl_plan.proofs.Trees.{KnownTree}
 use Rattle.cxl_plan.proofs.Reasons.{fits_window, least_base_is, from_5, from_6, from_7, found_select}
 use Rattle.cxl_plan.proofs.windows.base_in.Goals as goal
 

@@ -1,6 +1,7 @@
 use Rattle.std.proofs.Common.{arith}
+use Rattle.cxl_enc.proofs.Options.{on_ok}
 use Rattle.cxl_poison.specs.inner.Cuts.{HasTouched}
-use Rattle.cxl_poison.proofs.PartLists.{on_ok, no_parts, few_parts, wide_part}
+use Rattle.cxl_poison.proofs.PartLists.{no_parts, few_parts, wide_part}
 use Rattle.cxl_poison.proofs.cutting.put_span.Goals as goal
 
 pub returns-then-touched : goal.returns-then-touched

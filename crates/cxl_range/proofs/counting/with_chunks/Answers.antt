@@ -3,8 +3,8 @@ use Rattle.std.specs.Prelude.{slice_index, slice_set}
 use Rattle.std.proofs.Math.Nat.{mod-lt}
 use Rattle.cxl_num.specs.Interleave.{chunk_size}
 use Rattle.cxl_deal.specs.Weaves.{WeaveFields}
+use Rattle.cxl_deal.proofs.Ways.{chunk_size-pos}
 use Rattle.cxl_range.specs.inner.Woven.{bytes_before}
-use Rattle.cxl_range.proofs.Chunks.{some_chunk}
 use Rattle.cxl_range.proofs.Turns.{before_few}
 use Rattle.cxl_range.proofs.Slots.{next_chunk}
 use Rattle.cxl_range.proofs.counting.with_chunks.Goals as goal
@@ -14,7 +14,7 @@ fits_chunk : (v : WeaveFields) (size base at end len : ℕ) → size ≡ chunk_s
 fits_chunk v size base at end len is base_is len_is =
     let g : ℕ = chunk_size v.gran in
     let rest : (at - base) % size ≡ (at - v.base) % g = ap (λ (b : ℕ). (at - b) % size) base_is ∙ ap (λ (s : ℕ). (at - v.base) % s) is in
-    let below : (at - v.base) % g < g = mod-lt (at - v.base) (some_chunk v.gran) in
+    let below : (at - v.base) % g < g = mod-lt (at - v.base) (chunk_size-pos v.gran) in
     omega (arith, len_is, rest, below, is)
 
 pub overflow_add-counts : goal.overflow_add-counts

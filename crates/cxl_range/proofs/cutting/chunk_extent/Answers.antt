@@ -1,10 +1,11 @@
 use Rattle.std.proofs.Common.{◌≡◌, ℕ, ◌+◌, ◌-◌, ◌*◌, ◌/◌, ◌<◌, ◌≤◌, min, max, ap, ◌∙◌, arith}
 use Rattle.cxl_num.specs.Interleave.{chunk_size}
 use Rattle.cxl_deal.specs.Weaves.{WeaveFields, dealt_chunk}
+use Rattle.cxl_deal.proofs.Ways.{chunk_size-pos}
 use Rattle.cxl_model.specs.declared.found.Found.{Found}
 use Rattle.cxl_range.specs.Extents.{extent_at, chunk_start}
 use Rattle.cxl_range.specs.inner.Woven.{IsWoven}
-use Rattle.cxl_range.proofs.Chunks.{some_chunk, small_chunk, TouchedAt, touched_at}
+use Rattle.cxl_range.proofs.Chunks.{small_chunk, TouchedAt, touched_at}
 use Rattle.cxl_range.proofs.cutting.chunk_extent.Goals as goal
 
 -- the chunk, with the bytes of one as the code has them
@@ -20,7 +21,7 @@ cut_at found v h end chunk size woven from any first last is =
     let same : chunk_size v.gran ≡ g = ap chunk_size woven.gran in
     let own : size ≡ g = is ∙ same in
     let at : (x : ℕ) → dealt_chunk v x ≡ (x - found.base) / g = λ x. ap (λ (b : ℕ). (x - b) / chunk_size v.gran) woven.base ∙ ap (λ (b : ℕ). (x - found.base) / b) same in
-    let touched = touched_at found.base g h end chunk (some_chunk found.gran) from any (omega (arith, first, at h)) (omega (arith, last, at (end - 1))) in
+    let touched = touched_at found.base g h end chunk (chunk_size-pos found.gran) from any (omega (arith, first, at h)) (omega (arith, last, at (end - 1))) in
     let start : chunk * size ≡ chunk * g = ap (λ (x : ℕ). chunk * x) own in
     record {
       start = start;

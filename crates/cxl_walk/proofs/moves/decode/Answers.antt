@@ -1,11 +1,12 @@
 use Rattle.std.proofs.Common.{◌≡◌, ℕ, true, refl, sym, ap, ◌∙◌}
 use Rattle.std.proofs.lemmas.Option.{slice_get_within}
 use Rattle.std.specs.Prelude.{slice_get}
+use Rattle.cxl_enc.proofs.Options.{some_and}
 use Rattle.cxl_topo.specs.Tree.{child_of}
 use Rattle.cxl_regs.specs.declared.decoder.Decoder.{Decoder}
 use Rattle.cxl_regs.specs.Reading.{holds_address}
 use Rattle.cxl_walk.specs.inner.Calls.{byte_at}
-use Rattle.cxl_walk.proofs.Nodes.{some_and, none_then, some_not, here, bad_block, arrives, steps, lacks_child}
+use Rattle.cxl_walk.proofs.Nodes.{none_then, some_not, here, bad_block, arrives, steps, lacks_child}
 use Rattle.cxl_walk.proofs.moves.decode.Goals as goal
 
 pub decoder-d-requires : goal.decoder-d-requires

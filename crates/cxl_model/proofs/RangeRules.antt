@@ -1,60 +1,32 @@
 -- What the rules of a whole range say of a node that serves it.
-use Rattle.std.proofs.Common.{◌≡◌, ℕ, ◌+◌, ◌<◌, ◌≤◌, Bool, true, false, not, ◌&&◌, ◌||◌, cond, List, [], ◌∷◌, length, get_or, Option, Some, None, refl, sym, ap, ◌∙◌, subst, inl, inr, arith, ◌⊎◌}
-use Rattle.std.specs.Prelude.{slice_get, ◌==◌, nat_lt, find, position}
+use Rattle.std.proofs.Common.{◌≡◌, ℕ, ◌+◌, ◌<◌, ◌≤◌, Bool, true, false, not, ◌&&◌, ◌||◌, cond, List, [], ◌∷◌, Option, Some, None, refl, sym, ap, ◌∙◌, subst, inl, inr, arith}
+use Rattle.std.specs.Prelude.{slice_get, ◌==◌, find}
 use Rattle.std.specs.Option.{option_map_or, option_and_then}
-use Rattle.std.specs.List.{list_any, list_all, position_or_len}
-use Rattle.std.proofs.lemmas.Bool.{cases_lt, cases_Bool, and_parts, or_cases, or_parts, eqb-true, ne_eqb, lt-ltb, cond-true, false≢true, not-true, not_from_true, true≢false}
-use Rattle.std.proofs.lemmas.Option.{slice_get-get_or, same_Some}
-use Rattle.std.proofs.lemmas.List.Folds.{Any-from_list_any, find_at}
-use Rattle.std.proofs.lemmas.List.Sums.{fails_before_first, passes_at_first}
-use Rattle.cxl_topo.specs.declared.node.Node.{Node}
+use Rattle.std.specs.List.{list_any, list_all}
+use Rattle.std.proofs.lemmas.Bool.{cases_lt, cases_Bool, and_parts, or_cases, or_parts, eqb-true, false≢true, not-true, not_from_true, true≢false}
+use Rattle.std.proofs.lemmas.Option.{same_Some}
+use Rattle.std.proofs.lemmas.Map.Keys.{any_passes_from_place}
+use Rattle.cxl_enc.proofs.Lists.{first_of}
+use Rattle.cxl_enc.proofs.Tests.{asked, asked_of}
 use Rattle.cxl_topo.specs.declared.node.Parent.{Parent}
 use Rattle.cxl_topo.specs.Tree.{forwards_at, is_endpoint_at, uid_at, parent_of, decoding_port_of}
 use Rattle.cxl_regs.specs.declared.decoder.Decoder.{Decoder}
 use Rattle.cxl_regs.specs.Registers.{Registers, reset_decoder}
-use Rattle.cxl_regs.specs.Rules.{before}
-use Rattle.cxl_span.specs.Spans.{span_start_of}
-use Rattle.cxl_span.specs.Rules.{breaks_rule}
 use Rattle.cxl_span.specs.Breaches.{breaks as block_breaks, BlockKeeps}
 use Rattle.cxl_window.specs.Fields.{WindowFields}
+use Rattle.cxl_topo.proofs.Trees.{KnownTree, up_tree, leaves_at, leaves_root, leaves_step, root_step, decoding_none, decoding_here, decoding_past, same_port}
 use Rattle.cxl_regs.specs.declared.reading.Range.{Range}
 use Rattle.cxl_regs.specs.Reading.{entries_of, range_of, has_range}
+use Rattle.cxl_regs.proofs.DecoderRanges.{Holds, has_parts, same_range, range_held}
+use Rattle.cxl_span.proofs.RulesBroken.{no_rule}
 use Rattle.cxl_model.specs.System.{System, decoders_at, decoder_at, ram_at, pmem_at}
 use Rattle.cxl_model.specs.Ranges.{serves, decoder_for, index_for, window_for}
 use Rattle.cxl_model.specs.Rules.{keeps_window, keeps_targets, keeps_reach, are_distinct, leads_on, is_bridge_landing, targets_land, lists, is_targeted}
-use Rattle.cxl_model.specs.Accepted.{breaks, breaks_at, breaks_block, KeepsBlocks, IsWhole}
-use Rattle.cxl_model.proofs.Outcomes.{Holds}
-use Rattle.cxl_model.proofs.BreachesOfRanges.{passes_one}
-use Rattle.cxl_model.proofs.WeavingServers.{has_parts, same_range, in_block}
-use Rattle.cxl_model.proofs.CountingTrees.{KnownTree, up_tree, ports_none, ports_some, leaves_at, leaves_root, leaves_step, root_step}
+use Rattle.cxl_model.specs.Accepted.{breaks, breaks_at, KeepsBlocks, IsWhole}
+use Rattle.cxl_model.proofs.OtherBlocks.{block_rule}
+use Rattle.cxl_model.proofs.RangeServers.{in_block}
 
 -- ---- blocks
-
-block_rule : (s : System) (rule n i : ℕ) → 2 ≤ rule → rule < 9 → breaks s rule n i ≡ breaks_block s rule n i
-unfolding breaks
-block_rule s rule n i low high = rw (ne_eqb rule 1 (omega arith), lt-ltb rule 9 high) refl
-
-no_such_rule : (rule : ℕ) (block : Registers) (ram pmem start : ℕ) (below : Option Decoder) (d : Decoder) → (rule < 2) ⊎ (9 ≤ rule)
-    → breaks_rule rule block ram pmem below start d ≡ false
-no_such_rule rule block ram pmem start below d other =
-    let apart : (k : ℕ) → 2 ≤ k → k < 9 → rule ≡ k → ⊥ = λ k low high e. elim other [ inl less ↦ omega arith | inr more ↦ omega arith ] in
-    rw (
-      ne_eqb rule 2 (apart 2 (omega arith) (omega arith)),
-      ne_eqb rule 3 (apart 3 (omega arith) (omega arith)),
-      ne_eqb rule 4 (apart 4 (omega arith) (omega arith)),
-      ne_eqb rule 5 (apart 5 (omega arith) (omega arith)),
-      ne_eqb rule 6 (apart 6 (omega arith) (omega arith)),
-      ne_eqb rule 7 (apart 7 (omega arith) (omega arith)),
-      ne_eqb rule 8 (apart 8 (omega arith) (omega arith)),
-    ) refl
-
-no_rule : (rule : ℕ) (block : Registers) (ram pmem i : ℕ) → (rule < 2) ⊎ (9 ≤ rule) → block_breaks rule block ram pmem i ≡ false
-unfolding block_breaks
-no_rule rule block ram pmem i other = go (slice_get block.decoders i)
-  where
-    go : (o : Option Decoder) → option_map_or (breaks_rule rule block ram pmem (before block.decoders i) (span_start_of block.decoders i)) o false ≡ false
-    go None = refl
-    go (Some d) = no_such_rule rule block ram pmem (span_start_of block.decoders i) (before block.decoders i) d other
 
 -- each block keeps the rules K2 to K8
 pub block_keeps : (s : System) → KeepsBlocks s → (n : ℕ) (block : Registers) → slice_get s.blocks n ≡ Some block → BlockKeeps block (ram_at s n) (pmem_at s n)
@@ -64,7 +36,7 @@ block_keeps s keeps n block at = record {
     | inr past ↦ elim (cases_lt rule 9) [
       | inl within ↦
           sym (ap (λ (o : Option Registers). option_map_or (λ b. block_breaks rule b (ram_at s n) (pmem_at s n) i) o false) at)
-          ∙ sym (block_rule s rule n i past within) ∙ keeps rule n i within
+          ∙ sym (block_rule s rule n i (λ e. omega arith) within) ∙ keeps rule n i within
       | inr high ↦ no_rule rule block (ram_at s n) (pmem_at s n) i (inr high)
     ]
   ];
@@ -75,35 +47,6 @@ pub at_in_block : (s : System) (n : ℕ) (block : Registers) → slice_get s.blo
 at_in_block s n block at i d there = sym (ap (λ (o : Option Registers). slice_get (option_map_or (λ b. b.decoders) o []) i) at) ∙ there
 
 -- ---- the decoder of the range
-
-pub record FirstOf {X : Type 0} (p : X → Bool) (xs : List X) : Type 0 where
-  pub i : ℕ
-  pub x : X
-  pub at : slice_get xs i ≡ Some x
-  pub passes : p x ≡ true
-  pub found : find p xs ≡ Some x
-  pub place : position p xs ≡ Some i
-
-pub first_of : {X : Type 0} (d : X) (p : X → Bool) (xs : List X) → list_any p xs ≡ true → FirstOf p xs
-first_of d p xs any =
-    let i : ℕ = position_or_len p xs in
-    let some = Any-from_list_any p xs any in
-    let within : i < length xs = elim (cases_lt i (length xs)) [
-      | inl below ↦ below
-      | inr past ↦
-          let k : ℕ = some.0 in
-          let x = some.1 in
-          let inside = some.2 in
-          absurd (false≢true (sym (fails_before_first p xs k x (omega arith)) ∙ ap p some.3 ∙ some.4))
-    ] in
-    record {
-      i = i;
-      x = get_or xs i d;
-      at = slice_get-get_or xs i d within;
-      passes = passes_at_first p xs d within;
-      found = find_at p xs ∙ slice_get-get_or xs i d within;
-      place = cond-true (nat_lt i (length xs)) (Some i) None (lt-ltb i (length xs) within);
-    }
 
 -- decoder d, with number i, is the first of node n with the range
 pub record ServesAt (s : System) (r : Range) (n : ℕ) : Type 0 where
@@ -161,16 +104,8 @@ one_holder rise s keeps h n i j d e d_there e_there one other =
       ]
     ]
 
--- a decoder of a range holds its addresses, such as the first
-pub range_held : (r : Range) (d : Decoder) (h : ℕ) → has_range r d ≡ true → r.base ≤ h → h < r.base + r.size → Holds d h
-range_held r d h has from below =
-    let own = has_parts r d has in
-    let base = own.base in
-    let size = own.size in
-    record { committed = own.committed; from = omega (arith, base, from); below = omega (arith, base, size, below) }
-
 -- a node has one decoder of a range
-one_of_range : RangesRise → (s : System) (r : Range) → KeepsBlocks s → (n i j : ℕ) (d e : Decoder) → decoder_at s n i ≡ Some d → decoder_at s n j ≡ Some e
+pub one_of_range : RangesRise → (s : System) (r : Range) → KeepsBlocks s → (n i j : ℕ) (d e : Decoder) → decoder_at s n i ≡ Some d → decoder_at s n j ≡ Some e
     → has_range r d ≡ true → has_range r e ≡ true → i ≡ j
 one_of_range rise s r keeps n i j d e d_there e_there d_has e_has =
     let own = has_parts r d d_has in
@@ -181,25 +116,20 @@ one_of_range rise s r keeps n i j d e d_there e_there d_has e_has =
 
 -- ---- the rules
 
-pub not_broken : (a b : Bool) → (a && not b) ≡ false → a ≡ true → b ≡ true
-not_broken true true h is = refl
-not_broken true false h is = cc
-not_broken false b h is = cc
-
 -- a rule that is kept of a committed decoder
 pub kept : (s : System) (n i : ℕ) (d : Decoder) (keeps : Decoder → Bool) → decoder_at s n i ≡ Some d → d.committed ≡ true → breaks_at s n i keeps ≡ false → keeps d ≡ true
 kept s n i d keeps there committed unbroken =
-    not_broken d.committed (keeps d) (sym (ap (λ (o : Option Decoder). option_map_or (λ e. e.committed && not (keeps e)) o false) there) ∙ unbroken) committed
+    asked d.committed (keeps d) (sym (ap (λ (o : Option Decoder). option_map_or (λ e. e.committed && not (keeps e)) o false) there) ∙ unbroken) committed
 
-rule_nine : (s : System) (n i : ℕ) → breaks s 9 n i ≡ breaks_at s n i (keeps_window s n i)
+pub rule_nine : (s : System) (n i : ℕ) → breaks s 9 n i ≡ breaks_at s n i (keeps_window s n i)
 unfolding breaks
 rule_nine s n i = refl
 
-rule_ten : (s : System) (n i : ℕ) → breaks s 10 n i ≡ breaks_at s n i (keeps_targets s n)
+pub rule_ten : (s : System) (n i : ℕ) → breaks s 10 n i ≡ breaks_at s n i (keeps_targets s n)
 unfolding breaks
 rule_ten s n i = refl
 
-rule_eleven : (s : System) (n i : ℕ) → breaks s 11 n i ≡ breaks_at s n i (keeps_reach s n)
+pub rule_eleven : (s : System) (n i : ℕ) → breaks s 11 n i ≡ breaks_at s n i (keeps_reach s n)
 unfolding breaks
 rule_eleven s n i = refl
 
@@ -225,10 +155,6 @@ abbrev targets_test : System → ℕ → Decoder → Range → Bool
 targets_test s n d r =
     (is_endpoint_at s.nodes n || (are_distinct (entries_of d) && list_all (leads_on s r n) (entries_of d)))
     && (not (is_bridge_landing s.nodes n) || option_map_or (targets_land s r) (window_for s r) true)
-
-asked_of : (a b : Bool) → (a || b) ≡ true → a ≡ false → b ≡ true
-asked_of true b either fails = absurd (true≢false fails)
-asked_of false b either fails = either
 
 pub leads : (s : System) (r : Range) → IsWhole s r → (n i : ℕ) (d : Decoder) → decoder_at s n i ≡ Some d → has_range r d ≡ true → Leads s r n d
 leads s r whole n i d there has =
@@ -269,7 +195,7 @@ listed_by rise s r keeps p listed =
     let d : Decoder = some.x in
     let parts = and_parts (has_range r d) (list_any (λ port. port == p.port) (entries_of d)) some.passes in
     record {
-      serves = passes_one (has_range r) (decoders_at s p.node) some.i d some.at parts.0;
+      serves = any_passes_from_place (has_range r) (decoders_at s p.node) some.i d some.at parts.0;
       entry = λ i e there has.
           let same : some.i ≡ i = one_of_range rise s r keeps p.node some.i i d e some.at there parts.0 has in
           let here : d ≡ e = same_Some d e (sym some.at ∙ ap (slice_get (decoders_at s p.node)) same ∙ there) in
@@ -277,18 +203,6 @@ listed_by rise s r keeps p listed =
     }
 
 -- ---- ways up
-
-pub decoding_none : {nodes : List Node} → KnownTree nodes → (i : ℕ) → parent_of nodes i ≡ None → decoding_port_of nodes i ≡ None
-decoding_none {nodes} known i none = ap (find (λ parent. not (forwards_at nodes parent.node))) (ports_none known i none)
-
-pub decoding_here : {nodes : List Node} → KnownTree nodes → (i : ℕ) (p : Parent) → parent_of nodes i ≡ Some p → forwards_at nodes p.node ≡ false → decoding_port_of nodes i ≡ Some p
-decoding_here {nodes} known i p some own =
-    ap (find (λ parent. not (forwards_at nodes parent.node))) (ports_some known i p some) ∙ ap (λ b. cond (not b) (Some p) (decoding_port_of nodes p.node)) own
-
-pub decoding_past : {nodes : List Node} → KnownTree nodes → (i : ℕ) (p : Parent) → parent_of nodes i ≡ Some p → forwards_at nodes p.node ≡ true
-    → decoding_port_of nodes i ≡ decoding_port_of nodes p.node
-decoding_past {nodes} known i p some forwards =
-    ap (find (λ parent. not (forwards_at nodes parent.node))) (ports_some known i p some) ∙ ap (λ b. cond (not b) (Some p) (decoding_port_of nodes p.node)) forwards
 
 targeted_step : (s : System) (r : Range) → KnownTree s.nodes → (i : ℕ) (p : Parent) → parent_of s.nodes i ≡ Some p → is_targeted s r i ≡ is_targeted s r p.node
 targeted_step s r known i p some =
@@ -309,9 +223,6 @@ parent_reached rise s r known whole i p some is =
           let listed : lists s r p ≡ true = sym (ap (λ (o : Option Parent). option_map_or (lists s r) o (is_targeted s r i)) (decoding_here known i p some own)) ∙ is in
           ((reached s r whole p.node (listed_by rise s r whole.blocks p listed).serves).1, λ same. listed)
     ]
-
-same_port : (p : Parent) (n e : ℕ) → p.node ≡ n → p.port ≡ e → p ≡ record { node = n; port = e }
-same_port p n e node port = λ k. record { node = node k; port = port k }
 
 -- each node above that does not forward lists the port by which it is left
 pub all_listed : RangesRise → (s : System) (r : Range) → KnownTree s.nodes → IsWhole s r → (n e : ℕ) → forwards_at s.nodes n ≡ false

@@ -1,11 +1,12 @@
 -- What K4 and K12 say of an endpoint's decoder of a whole range, and how a slot's span leads to one.
-use Rattle.std.proofs.Common.{◌≡◌, ℕ, ◌*◌, ◌%◌, ◌^◌, ◌≤◌, ◌⊎◌, Bool, true, false, not, ◌&&◌, ◌||◌, if◌then◌else◌, List, [], get_or, Option, Some, None, refl, sym, ap, ◌∙◌, subst, inl, inr, arith}
+use Rattle.std.proofs.Common.{◌≡◌, ℕ, ◌*◌, ◌%◌, ◌^◌, ◌≤◌, ◌⊎◌, Bool, true, false, not, ◌&&◌, ◌||◌, if◌then◌else◌, [], get_or, Option, Some, None, refl, sym, ap, ◌∙◌, inl, inr, arith}
 use Rattle.std.specs.Prelude.{slice_get, ◌==◌, nat_le, IsSomeAnd, All}
 use Rattle.std.specs.Option.{option_map_or}
-use Rattle.std.proofs.lemmas.Bool.{and_parts, eqb-true, leb-true}
-use Rattle.std.proofs.lemmas.Option.{slice_get_within, slice_get-get_or, get_or_from_slice_get}
-use Rattle.std.proofs.lemmas.List.Elements.{All-get_or}
+use Rattle.std.proofs.lemmas.Bool.{and_parts, eqb-true, leb-true, or_cases}
+use Rattle.std.proofs.lemmas.Option.{slice_get_within, slice_get-get_or}
 use Rattle.std.proofs.lemmas.List.Quantifiers.{position-Some}
+use Rattle.cxl_enc.proofs.Tests.{asked}
+use Rattle.cxl_enc.proofs.Lists.{All-at}
 use Rattle.cxl_topo.specs.Tree.{is_endpoint_at}
 use Rattle.cxl_regs.specs.declared.decoder.Decoder.{Decoder}
 use Rattle.cxl_regs.specs.Registers.{Registers, IsBlock, IsDecoder, reset_decoder}
@@ -14,26 +15,15 @@ use Rattle.cxl_regs.specs.declared.reading.Range.{Range}
 use Rattle.cxl_regs.specs.Reading.{decoder_ways, range_of, has_range}
 use Rattle.cxl_span.specs.Spans.{span_start_of}
 use Rattle.cxl_span.specs.Breaches.{breaks as block_breaks}
-use Rattle.cxl_span.specs.Rules.{breaks_codes}
 use Rattle.cxl_window.specs.Fields.{WindowFields}
+use Rattle.cxl_regs.proofs.DecoderRanges.{has_parts, same_range}
+use Rattle.cxl_span.proofs.RulesBroken.{codes_here}
 use Rattle.cxl_model.specs.declared.found.Place.{Place}
 use Rattle.cxl_model.specs.System.{System, decoders_at, decoder_at, ram_at, pmem_at}
 use Rattle.cxl_model.specs.Ranges.{index_for, window_for, ways_above, span_kind, same_kind, range_ways, range_kind, range_code}
 use Rattle.cxl_model.specs.Rules.{keeps_ways, keeps_port_code}
 use Rattle.cxl_model.specs.Accepted.{breaks, KeepsBlocks, IsWhole}
 use Rattle.cxl_model.specs.Regions.{LeadsTo, past_forwarding, past_port, at_endpoint}
-
--- ---- tests
-
-pub or_true : (a b : Bool) → (a || b) ≡ true → (a ≡ true) ⊎ (b ≡ true)
-or_true true b h = inl refl
-or_true false b h = inr h
-
--- a test that is kept where it is asked for
-pub asked : (a b : Bool) → (a && not b) ≡ false → a ≡ true → b ≡ true
-asked true true h is = refl
-asked true false h is = cc
-asked false b h is = cc
 
 -- ---- a decoder of a range
 
@@ -42,23 +32,6 @@ pub record Serves (s : System) (r : Range) (n i : ℕ) (d : Decoder) : Type 0 wh
   pub endpoint : is_endpoint_at s.nodes n ≡ true
   pub there : decoder_at s n i ≡ Some d
   pub has : has_range r d ≡ true
-
-pub record Has (r : Range) (d : Decoder) : Type 0 where
-  pub committed : d.committed ≡ true
-  pub base : d.base ≡ r.base
-  pub size : d.size ≡ r.size
-
-pub has_parts : (r : Range) (d : Decoder) → has_range r d ≡ true → Has r d
-has_parts r d has =
-    let outer = and_parts (d.committed && (d.base == r.base)) (d.size == r.size) has in
-    let inner = and_parts d.committed (d.base == r.base) outer.0 in
-    record { committed = inner.0; base = eqb-true d.base r.base inner.1; size = eqb-true d.size r.size outer.1 }
-
-pub same_range : (r : Range) (d : Decoder) → Has r d → range_of d ≡ r
-same_range r d has =
-    let base = has.base in
-    let size = has.size in
-    λ k. record { base = base k; size = size k }
 
 -- ---- the way of a slot
 
@@ -105,9 +78,6 @@ in_block_if s n i d (Some block) at there = record { block = block; at = at; the
 pub in_block : (s : System) (n i : ℕ) (d : Decoder) → decoder_at s n i ≡ Some d → InBlock s n i d
 in_block s n i d there = in_block_if s n i d (slice_get s.blocks n) refl there
 
-pub All-at : {X : Type 0} (P : X → Type 0) (xs : List X) (i : ℕ) (x : X) → slice_get xs i ≡ Some x → All P xs → P x
-All-at P xs i x at each = subst P (get_or_from_slice_get xs i x x at) (All-get_or P xs i x (slice_get_within xs i x at) each)
-
 -- its base is a multiple of 256 MiB
 pub base_aligned : (s : System) (n i : ℕ) (d : Decoder) → All IsBlock s.blocks → decoder_at s n i ≡ Some d → d.base % 2 ^ 28 ≡ 0
 base_aligned s n i d blocks there =
@@ -122,12 +92,6 @@ pub block_keeps : (s : System) (n i : ℕ) (block : Registers) → slice_get s.b
 unfolding breaks
 block_keeps s n i block at kept =
     sym (ap (λ (o : Option Registers). option_map_or (λ b. block_breaks 4 b (ram_at s n) (pmem_at s n) i) o false) at) ∙ kept
-
--- K4 of a decoder of the block
-pub codes_here : (block : Registers) (ram pmem i : ℕ) (d : Decoder) → slice_get block.decoders i ≡ Some d
-    → block_breaks 4 block ram pmem i ≡ breaks_codes block d
-unfolding block_breaks
-codes_here block ram pmem i d at = rw at refl
 
 pub gran_known : (s : System) (n i : ℕ) (d : Decoder) → KeepsBlocks s → decoder_at s n i ≡ Some d → d.committed ≡ true → d.gran ≤ 6
 gran_known s n i d keeps there committed =
@@ -170,7 +134,7 @@ has_ways_by s w r n i d test =
     record {
       product = eqb-true (decoder_ways d) (w.ways * ways_above s r n) inner.0;
       ways = eqb-true (decoder_ways d) (range_ways s r) inner.1;
-      code = elim (or_true (decoder_ways d == 1) (d.gran == range_code s w r) outer.1) [
+      code = elim (or_cases (decoder_ways d == 1) (d.gran == range_code s w r) outer.1) [
         | inl one ↦ inl (eqb-true (decoder_ways d) 1 one)
         | inr same ↦ inr (eqb-true d.gran (range_code s w r) same)
       ];

@@ -1,35 +1,35 @@
 -- The window of a whole range, and its targets.
-use Rattle.std.proofs.Common.{◌≡◌, ℕ, suc, ◌+◌, ◌*◌, ◌<◌, ◌≤◌, Bool, true, false, not, ◌&&◌, if◌then◌else◌, List, [], ◌∷◌, length, get_or, Option, Some, None, refl, sym, ap, ◌∙◌, subst, inl, inr, arith}
+use Rattle.std.proofs.Common.{◌≡◌, ℕ, ◌+◌, ◌*◌, ◌<◌, ◌≤◌, Bool, true, false, ◌&&◌, if◌then◌else◌, [], length, get_or, Option, Some, None, refl, sym, ap, ◌∙◌, subst, inl, inr, arith}
 use Rattle.std.specs.Prelude.{slice_get, ◌==◌, nat_le, All, option_map}
 use Rattle.std.specs.Option.{option_map_or, option_and_then}
 use Rattle.std.specs.List.{list_any, position_or_len}
 use Rattle.std.proofs.Math.Nat.{mul_comm, one-mul}
-use Rattle.std.proofs.lemmas.Bool.{cases_Bool, and_parts, and_from, or_cases, leb-true, eqb-true, eq-eqb, false_from_ne_true, false≢true, not_from_false}
+use Rattle.std.proofs.lemmas.Bool.{cases_Bool, and_parts, and_from, or_cases, leb-true, eqb-true, eq-eqb, false≢true}
 use Rattle.std.proofs.lemmas.Option.{slice_get_within, get_or_from_slice_get, none-some, same_Some}
 use Rattle.std.proofs.lemmas.List.{nil_from_length}
-use Rattle.std.proofs.lemmas.List.Folds.{Any-from_list_any, find_at}
+use Rattle.std.proofs.lemmas.List.Folds.{find_at}
 use Rattle.std.proofs.lemmas.List.Sums.{AllPass-from_list_all, passes_at_first}
-use Rattle.cxl_topo.specs.declared.node.Node.{Node}
-use Rattle.cxl_topo.specs.declared.node.NodeKind.{NodeKind}
-use Rattle.cxl_topo.specs.declared.node.NodeKind.TheVariants.{Bridge, Switch, Endpoint}
+use Rattle.cxl_enc.proofs.Ways.{some_ways}
+use Rattle.cxl_enc.proofs.Lists.{list_any-weaker}
+use Rattle.cxl_enc.proofs.Numbers.{is_number, times_tell}
 use Rattle.cxl_topo.specs.declared.node.Parent.{Parent}
-use Rattle.cxl_topo.specs.Kinds.{is_bridge, uid_of}
 use Rattle.cxl_topo.specs.Tree.{forwards_at, is_bridge_at, is_endpoint_at, uid_at, parent_of, least_child_of, landing_of, bridge_with}
 use Rattle.cxl_window.specs.declared.window.Verdict.TheVariants.{Usable}
-use Rattle.cxl_window.specs.Fields.{WindowFields, IsWindow, IsUsable, AreDistinct}
+use Rattle.cxl_window.specs.Fields.{WindowFields, IsWindow, IsUsable}
 use Rattle.cxl_window.specs.Position.{is_usable}
+use Rattle.cxl_window.proofs.Usable.{usable_is}
+use Rattle.cxl_topo.proofs.Trees.{KnownTree, parent_within, parent_is_port, up_tree, root_of, uid_top}
 use Rattle.cxl_model.specs.System.{System, IsSystem}
 use Rattle.cxl_regs.specs.declared.reading.Range.{Range}
 use Rattle.cxl_model.specs.Ranges.{serves, window_for, lies_within, ways_above, range_ways, IsCommittedRange}
-use Rattle.cxl_model.specs.Rules.{are_distinct, lands_on, is_bridge_landing, targets_land}
+use Rattle.cxl_model.specs.Rules.{lands_on, is_bridge_landing, targets_land}
 use Rattle.cxl_model.specs.Accepted.{IsWhole}
 use Rattle.cxl_model.specs.Counts.{is_under, is_endpoint_of, endpoints_of, endpoints_under}
-use Rattle.cxl_model.proofs.OutcomesWalks.{usable_is}
-use Rattle.cxl_model.proofs.WeavingWays.{some_ways}
-use Rattle.cxl_model.proofs.CountingSums.{one, total, length-filter-total, total-same, total-zero, total_even, list_any-weaker, once}
-use Rattle.cxl_model.proofs.CountingTrees.{KnownTree, parent_within, parent_is_port, up_tree, under_root, under_step, root_of, under_top}
-use Rattle.cxl_model.proofs.CountingRules.{RangesRise, served, leads, reached, is_reached, parent_reached, all_targeted, listed_by, in_window}
-use Rattle.cxl_model.proofs.Counting.{counted_within, lands_within, lands_here, served_lands, numbers, count_of, count_under, count_parts, is_number, times_tell, no_ways_above}
+use Rattle.cxl_model.proofs.RangeRules.{RangesRise, served, leads, reached, is_reached, parent_reached, all_targeted, listed_by, in_window}
+use Rattle.cxl_model.proofs.RangeCounts.{counted_within, lands_within, lands_here, served_lands, numbers, count_of, count_under, count_parts, no_ways_above}
+use Rattle.cxl_model.proofs.Sums.{one, total, length-filter-total, total-same, total-zero, total_even, once}
+use Rattle.cxl_model.proofs.Under.{under_root, under_step, under_top}
+use Rattle.cxl_model.proofs.Distinct.{distinct_test}
 
 -- ---- the window
 
@@ -60,35 +60,6 @@ has_window s r w system is =
       from = leb-true w.base r.base inner.1;
       to = leb-true (r.base + r.size) (w.base + w.size) outer.1;
     }
-
--- the test of numbers that differ
-pub distinct_test : (ns : List ℕ) → AreDistinct ns → are_distinct ns ≡ true
-distinct_test [] distinct = refl
-distinct_test (n ∷ ns) distinct =
-    and_from (not (list_any (λ m. m == n) ns)) (are_distinct ns)
-    (not_from_false (list_any (λ m. m == n) ns) (false_from_ne_true (list_any (λ m. m == n) ns) (λ any.
-    let some = Any-from_list_any (λ m. m == n) ns any in
-    let k : ℕ = some.0 in
-    let within = some.2 in
-    distinct 0 (suc k) some.1 (omega arith) (omega arith) (sym (eqb-true some.1 n some.4) ∙ sym some.3))))
-    (distinct_test ns (λ i j d less within. distinct (suc i) (suc j) d (omega arith) (omega arith)))
-
--- ---- bridges
-
-uid_of_bridge : (kind : NodeKind) (uid : ℕ) → uid_of kind ≡ Some uid → is_bridge kind ≡ true
-uid_of_bridge (Bridge own) uid is = refl
-uid_of_bridge Switch uid is = absurd (none-some uid is)
-uid_of_bridge (Endpoint capacity) uid is = absurd (none-some uid is)
-
--- a node with a UID has no parent
-pub uid_top : {nodes : List Node} → KnownTree nodes → (b uid : ℕ) → uid_at nodes b ≡ Some uid → (is_bridge_at nodes b ≡ true) × (parent_of nodes b ≡ None)
-uid_top {nodes} known b uid is =
-    let bridge = go (slice_get nodes b) is in
-    (bridge, known.tree.bridges b bridge)
-  where
-    go : (o : Option Node) → option_and_then (λ node. uid_of node.kind) o ≡ Some uid → option_map_or (λ node. is_bridge node.kind) o false ≡ true
-    go None none = absurd (none-some uid none)
-    go (Some node) some = uid_of_bridge node.kind uid some
 
 -- ---- the bridges of a range
 
@@ -125,7 +96,7 @@ above_lands rise s r system known whole n =
     ])
 
 -- so does one that comes to its bridge
-bridge_lands : RangesRise → (s : System) (r : Range) → IsSystem s → KnownTree s.nodes → IsWhole s r → (i : ℕ) → is_reached s r i ≡ true → lands_on s r i ≡ true
+pub bridge_lands : RangesRise → (s : System) (r : Range) → IsSystem s → KnownTree s.nodes → IsWhole s r → (i : ℕ) → is_reached s r i ≡ true → lands_on s r i ≡ true
     → (b : ℕ) × (is_bridge_at s.nodes b ≡ true) × (lands_on s r b ≡ true)
 bridge_lands rise s r system known whole =
     up_tree known (λ i. is_reached s r i ≡ true → lands_on s r i ≡ true → (b : ℕ) × (is_bridge_at s.nodes b ≡ true) × (lands_on s r b ≡ true))
@@ -158,7 +129,7 @@ none_under rise s r system known whole n other =
         false≢true (sym other ∙ above_lands rise s r system known whole n m (reached s r whole m serving).1 (served_lands s r m system known whole serving) under)
 
 -- the landing of the bridge serves the range
-landing_serves : (s : System) (r : Range) (b : ℕ) → is_bridge_at s.nodes b ≡ true → b < length s.nodes → lands_on s r b ≡ true
+pub landing_serves : (s : System) (r : Range) (b : ℕ) → is_bridge_at s.nodes b ≡ true → b < length s.nodes → lands_on s r b ≡ true
     → (q : ℕ) × (is_bridge_landing s.nodes q ≡ true) × (serves s r q ≡ true)
 landing_serves s r b bridge within lands = go (landing_of s.nodes b) refl lands
   where

@@ -1,15 +1,18 @@
 -- The endpoints of a whole range under a node.
-use Rattle.std.proofs.Common.{◌≡◌, ℕ, zero, suc, ◌+◌, ◌*◌, ◌/◌, ◌<◌, ◌≤◌, Bool, true, false, not, ◌&&◌, ◌||◌, if◌then◌else◌, List, [], length, get_or, map, Option, Some, None, refl, sym, ap, ◌∙◌, subst, inl, inr, arith}
+use Rattle.std.proofs.Common.{◌≡◌, ℕ, zero, suc, ◌+◌, ◌*◌, ◌<◌, ◌≤◌, Bool, true, false, ◌&&◌, ◌||◌, if◌then◌else◌, List, [], length, get_or, map, Option, Some, None, refl, sym, ap, ◌∙◌, inl, inr, arith}
 use Rattle.std.specs.Prelude.{slice_get, ◌==◌, All}
 use Rattle.std.proofs.lemmas.List.Sums.{AllPass-from_list_all}
 use Rattle.std.specs.Option.{option_map_or, option_and_then}
 use Rattle.std.specs.List.{list_any, list_all, filter_map, cons_option, range_with_len}
-use Rattle.std.proofs.Math.Nat.{mul_comm, mul_assoc, mul_left_comm, mul-div_cancel_left}
-use Rattle.std.proofs.lemmas.Bool.{cases_lt, cases_Bool, and_parts, and_from, or_cases, or_right, eqb-true, eq-eqb, ne_eqb, false_from_ne_true, false≢true, not_from_false}
+use Rattle.std.proofs.Math.Nat.{mul_comm, mul_assoc, mul_left_comm}
+use Rattle.std.proofs.lemmas.Bool.{cases_lt, cases_Bool, and_parts, and_from, or_cases, or_right, eqb-true, eq-eqb, ne_eqb, false_from_ne_true, false≢true}
 use Rattle.std.proofs.lemmas.Option.{slice_get_past}
-use Rattle.std.proofs.lemmas.List.Folds.{Any-from_list_any, list_any_at}
-use Rattle.std.proofs.lemmas.List.FromFn.{length-range_with_len, get_or-range_with_len, length-map-range_with_len}
-use Rattle.cxl_topo.specs.declared.node.Node.{Node}
+use Rattle.std.proofs.lemmas.List.Folds.{Any-from_list_any}
+use Rattle.std.proofs.lemmas.List.FromFn.{length-map-range_with_len}
+use Rattle.cxl_enc.proofs.Ways.{some_ways}
+use Rattle.cxl_enc.proofs.Lists.{filter-filter, list_any-weaker}
+use Rattle.cxl_enc.proofs.Tests.{same_test}
+use Rattle.cxl_enc.proofs.Numbers.{is_number, times_tell}
 use Rattle.cxl_topo.specs.declared.node.Parent.{Parent}
 use Rattle.cxl_topo.specs.Tree.{forwards_at, is_endpoint_at, parent_of, child_of, least_child_of, landing_within, landing_of}
 use Rattle.cxl_regs.specs.declared.decoder.Decoder.{Decoder}
@@ -17,16 +20,18 @@ use Rattle.cxl_regs.specs.Registers.{Registers}
 use Rattle.cxl_regs.specs.declared.reading.Range.{Range}
 use Rattle.cxl_regs.specs.Reading.{decoder_ways, entries_of, entry_at, has_range}
 use Rattle.cxl_window.specs.Fields.{WindowFields}
+use Rattle.cxl_topo.proofs.Trees.{KnownTree, parent_is_port, ports_none, ports_some, is_above, leaves_at, leaves_above, above_leaves, leaves_once, only_child, forwards_within}
+use Rattle.cxl_regs.proofs.DecoderRanges.{decoder_ways_known}
 use Rattle.cxl_model.specs.System.{System, IsSystem}
 use Rattle.cxl_model.specs.Ranges.{serves, decoder_for, window_for, ports_for, product, ways_above, range_ways}
 use Rattle.cxl_model.specs.Rules.{are_distinct, lands_on, leads_on}
 use Rattle.cxl_model.specs.Accepted.{IsWhole}
 use Rattle.cxl_model.specs.Counts.{is_under, is_endpoint_of, endpoints_under}
-use Rattle.cxl_model.proofs.WeavingWays.{some_ways, decoder_ways_known}
-use Rattle.cxl_model.proofs.WeavingServers.{has_ways}
-use Rattle.cxl_model.proofs.CountingSums.{one, total, length-filter-total, filter-filter, total-same, total-zero, exchange, total_even, list_any-weaker, once}
-use Rattle.cxl_model.proofs.CountingTrees.{KnownTree, parent_is_port, ports_none, ports_some, is_above, leaves_at, under_is, leaves_above, above_leaves, leaves_once, under_child, under_only, under_endpoint, only_child, same_test}
-use Rattle.cxl_model.proofs.CountingRules.{RangesRise, ServesAt, served, leads, no_decoder, reached, listed_by, all_listed}
+use Rattle.cxl_model.proofs.RangeServers.{has_ways}
+use Rattle.cxl_model.proofs.RangeRules.{RangesRise, ServesAt, served, leads, no_decoder, reached, listed_by, all_listed}
+use Rattle.cxl_model.proofs.Sums.{one, total, length-filter-total, total-same, total-zero, exchange, total_even, once}
+use Rattle.cxl_model.proofs.Under.{under_is, under_child, under_only, under_endpoint}
+use Rattle.cxl_model.proofs.Distinct.{numbers_differ}
 
 -- ---- ways above
 
@@ -62,9 +67,6 @@ serves_within s r n system is =
           let none : slice_get s.blocks n ≡ None = slice_get_past s.blocks n (omega (arith, count)) in
           absurd (false≢true (sym (ap (λ (o : Option Registers). list_any (has_range r) (option_map_or (λ block. block.decoders) o [])) none) ∙ is))
     ]
-
-forwards_within : (nodes : List Node) (n : ℕ) → length nodes ≤ n → forwards_at nodes n ≡ false
-forwards_within nodes n past = ap (λ (o : Option Node). option_map_or (λ node. node.forwards) o false) (slice_get_past nodes n past)
 
 pub lands_within : (s : System) (r : Range) (n : ℕ) → IsSystem s → lands_on s r n ≡ true → n < length s.nodes
 lands_within s r n system lands =
@@ -146,23 +148,6 @@ count_parts s r p q ns parts =
     at : (b : Bool) (m : ℕ) → (b ≡ true → one (p m) ≡ total (λ n. one (q n m)) ns) → one (b && p m) ≡ total (λ n. one (b && q n m)) ns
     at true m same = same refl
     at false m same = sym (none_of_none ns (λ n. q n m))
-
--- ---- the numbers differ
-
-not_before : (x a n : ℕ) → x < a → list_any (λ m. m == x) (range_with_len a n) ≡ false
-not_before x a zero less = refl
-not_before x a (suc n) less = ap (λ b. b || list_any (λ m. m == x) (range_with_len (a + 1) n)) (ne_eqb a x (omega arith)) ∙ not_before x (a + 1) n (omega arith)
-
-pub numbers_differ : (a n : ℕ) → are_distinct (range_with_len a n) ≡ true
-numbers_differ a zero = refl
-numbers_differ a (suc n) =
-    and_from (not (list_any (λ m. m == a) (range_with_len (a + 1) n))) (are_distinct (range_with_len (a + 1) n))
-    (not_from_false (list_any (λ m. m == a) (range_with_len (a + 1) n)) (not_before a (a + 1) n (omega arith))) (numbers_differ (a + 1) n)
-
-pub is_number : (test : ℕ → Bool) (n k : ℕ) → k < n → test k ≡ true → list_any test (range_with_len 0 n) ≡ true
-is_number test n k within passes =
-    list_any_at test (range_with_len 0 n) k 0 (subst (λ (m : ℕ). k < m) (sym (length-range_with_len 0 n)) within)
-    (ap test (get_or-range_with_len 0 n k 0 within ∙ omega arith) ∙ passes)
 
 -- ---- at an endpoint
 
@@ -287,10 +272,6 @@ leaves_by_entry rise s r n known whole at port own distinct m is =
     from any =
         let some = Any-from_list_any (λ e. leaves_at s.nodes n e m) (entries_of at.d) any in
         under_is known n m ∙ or_right (m == n) (is_above s.nodes n m) (leaves_above known n some.1 m some.4)
-
--- p times a is p times b only where a is b
-pub times_tell : (p a b : ℕ) → 0 < p → p * a ≡ p * b → a ≡ b
-times_tell p a b some same = sym (mul-div_cancel_left a some) ∙ ap (λ (k : ℕ). k / p) same ∙ mul-div_cancel_left b some
 
 regroup : (c p a w : ℕ) → c * (p * a * w) ≡ p * (c * (a * w))
 regroup c p a w = ap (λ (k : ℕ). c * k) (mul_assoc p a w) ∙ mul_left_comm c p (a * w)

@@ -1,11 +1,15 @@
 -- Sums over a list: how many of its elements pass a test, and two sums in either order.
-use Rattle.std.proofs.Common.{◌≡◌, ℕ, ◌+◌, ◌*◌, ◌≤◌, Bool, true, false, not, ◌&&◌, ◌||◌, cond, List, [], ◌∷◌, length, refl, sym, ap, ◌∙◌, arith}
-use Rattle.std.specs.Prelude.{◌==◌, filter, All}
-use Rattle.std.specs.List.{list_any}
+use Rattle.std.proofs.Common.{ℕ, Bool, true, false, ◌+◌, List, [], ◌∷◌, ◌≡◌, cond, length, arith, refl, ap, ◌∙◌, sym, ◌*◌, suc, ◌||◌, not, ◌<◌, ◌⊎◌, ◌&&◌, inl, inr, ◌≤◌}
+use Rattle.std.specs.Prelude.{filter, All, ◌==◌}
 use Rattle.std.proofs.Math.Nat.{add-mul}
-use Rattle.std.proofs.lemmas.Bool.{and_parts, or_left, or_right, eq-eqb, false_from_ne_true, false≢true, not-true}
 use Rattle.std.proofs.lemmas.List.Elements.{All-head, All-tail, All-nil, All-cons}
+use Rattle.std.specs.List.{list_any, range_with_len}
+use Rattle.std.proofs.lemmas.Bool.{eq-eqb, false_from_ne_true, false≢true, not-true, and_parts, cases_Bool, and_from, eqb-true}
+use Rattle.std.proofs.lemmas.List.Folds.{Any-from_list_any}
+use Rattle.cxl_enc.proofs.Lists.{list_any-weaker}
+use Rattle.cxl_enc.proofs.Numbers.{is_number}
 use Rattle.cxl_model.specs.Rules.{are_distinct}
+use Rattle.cxl_model.proofs.Distinct.{numbers_differ}
 
 abbrev pub one : Bool → ℕ
 one true = 1
@@ -24,15 +28,6 @@ kept_or_not false x ys = omega arith
 pub length-filter-total : {X : Type 0} (p : X → Bool) (xs : List X) → length (filter p xs) ≡ total (λ x. one (p x)) xs
 length-filter-total p [] = refl
 length-filter-total p (x ∷ xs) = kept_or_not (p x) x (filter p xs) ∙ ap (λ n. one (p x) + n) (length-filter-total p xs)
-
-kept_twice : {X : Type 0} (p q : X → Bool) (b : Bool) (x : X) (ys : List X) → filter q (cond b (x ∷ ys) ys) ≡ cond (b && q x) (x ∷ filter q ys) (filter q ys)
-kept_twice p q true x ys = refl
-kept_twice p q false x ys = refl
-
-pub filter-filter : {X : Type 0} (p q : X → Bool) (xs : List X) → filter q (filter p xs) ≡ filter (λ x. p x && q x) xs
-filter-filter p q [] = refl
-filter-filter p q (x ∷ xs) =
-    kept_twice p q (p x) x (filter p xs) ∙ ap (λ ys. cond (p x && q x) (x ∷ ys) ys) (filter-filter p q xs)
 
 -- ---- sums
 
@@ -67,15 +62,26 @@ total_even f c r (x ∷ xs) each =
     let right : length (x ∷ xs) * r ≡ (1 + length xs) * r = ap (λ n. n * r) suc_is in
     omega (arith, first, rest, parts, more, right)
 
--- ---- tests of lists
+pub total_each : {X : Type 0} (f g : X → ℕ) (xs : List X) → All (λ x. f x ≡ g x) xs → total f xs ≡ total g xs
+total_each f g [] each = refl
+total_each f g (x ∷ xs) each =
+    let first = All-head (λ y. f y ≡ g y) x xs each in
+    let rest = total_each f g xs (All-tail (λ y. f y ≡ g y) x xs each) in
+    omega (arith, first, rest)
 
-weaker_step : (a b c d : Bool) → (a ≡ true → b ≡ true) → (c ≡ true → d ≡ true) → (a || c) ≡ true → (b || d) ≡ true
-weaker_step true b c d now later any = or_left b d (now refl)
-weaker_step false b c d now later any = or_right b d (later any)
+pub length_total : {X : Type 0} (xs : List X) → total (λ (x : X). one true) xs ≡ length xs
+length_total [] = refl
+length_total (x ∷ xs) = let rest = length_total xs in omega (arith, rest)
 
-pub list_any-weaker : {X : Type 0} (p q : X → Bool) → ((x : X) → p x ≡ true → q x ≡ true) → (xs : List X) → list_any p xs ≡ true → list_any q xs ≡ true
-list_any-weaker p q weaker [] any = any
-list_any-weaker p q weaker (x ∷ xs) any = weaker_step (p x) (q x) (list_any p xs) (list_any q xs) (weaker x) (list_any-weaker p q weaker xs) any
+pub total_same_each : {X : Type 0} (f : X → ℕ) (v : ℕ) (xs : List X) → All (λ x. f x ≡ v) xs → total f xs ≡ length xs * v
+total_same_each f v [] each = omega arith
+total_same_each f v (x ∷ xs) each =
+    let first = All-head (λ y. f y ≡ v) x xs each in
+    let rest = total_same_each f v xs (All-tail (λ y. f y ≡ v) x xs each) in
+    let out : suc (length xs) * v ≡ v + length xs * v = omega arith in
+    omega (arith, first, rest, out)
+
+-- ---- numbers of which one passes
 
 -- a test that at most one number passes, over numbers that differ: one of them passes, or none
 once_step : (passes any : Bool) (rest : ℕ) → rest ≡ one any → (passes ≡ true → any ≡ false) → one passes + rest ≡ one (passes || any)
@@ -97,6 +103,21 @@ once q same [] distinct = refl
 once q same (n ∷ ns) distinct =
     let parts = and_parts (not (list_any (λ m. m == n) ns)) (are_distinct ns) distinct in
     once_step (q n) (list_any q ns) (total (λ n. one (q n)) ns) (once q same ns parts.1) (others_fail q same n ns parts.0)
+
+pub once_below : (p : ℕ → Bool) (n e : ℕ) → e < n → total (λ m. one ((e == m) && p m)) (range_with_len 0 n) ≡ one (p e)
+once_below p n e within =
+    once (λ m. (e == m) && p m) same (range_with_len 0 n) (numbers_differ 0 n) ∙ ap one (there (cases_Bool (p e)))
+  where
+    same : (a b : ℕ) → ((e == a) && p a) ≡ true → ((e == b) && p b) ≡ true → a ≡ b
+    same a b first second = sym (eqb-true e a (and_parts (e == a) (p a) first).0) ∙ eqb-true e b (and_parts (e == b) (p b) second).0
+
+    there : (p e ≡ true) ⊎ (p e ≡ false) → list_any (λ m. (e == m) && p m) (range_with_len 0 n) ≡ p e
+    there (inl passes) = is_number (λ m. (e == m) && p m) n e within (and_from (e == e) (p e) (eq-eqb e e refl) passes) ∙ sym passes
+    there (inr fails) =
+        false_from_ne_true (list_any (λ m. (e == m) && p m) (range_with_len 0 n)) (λ any.
+        let some = Any-from_list_any (λ m. (e == m) && p m) (range_with_len 0 n) any in
+        let parts = and_parts (e == some.1) (p some.1) some.4 in
+        false≢true (sym fails ∙ ap p (eqb-true e some.1 parts.0) ∙ parts.1)) ∙ sym fails
 
 -- ---- sums of which one is nowhere above the other
 
