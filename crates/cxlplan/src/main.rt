@@ -2,6 +2,10 @@
 //! devices in memory.
 #![tactic(auto)]
 
+ghost use Rattle.std.specs.Prelude.{◌≡◌};
+ghost use Rattle.std.specs.Process.{exit_status};
+ghost use Rattle.cxl_inputs.specs.Exit.{exit_code};
+
 use cxl_bus::SimBus;
 use cxl_hints::hint;
 use cxl_io::{StdFetch, StdSink, StdSource};
@@ -16,15 +20,13 @@ fn main(rt: HostRuntime) -> ExitCode {
     let alloc = rt.alloc();
     let words = match words(&rt) {
         Ok(words) => words,
-        Err(e) if e.kind() == ErrorKind::OutOfMemory => return ExitCode::from(
-            Status::Memory.code(),
-        ),
+        Err(e) if e.kind() == ErrorKind::OutOfMemory => return ended(Status::Memory),
         // A word that is no text is in no command, and neither are no words.
         Err(_) => Vec::new(alloc),
     };
     let mut files = StdFetch::new(&rt);
     let mut script = StdSource::new(rt.reader());
-    let mut out = StdSink::new(&rt);
+    let mut out = StdSink::new(io::writer(&rt));
     let mut regs = SimBus::new(alloc);
     let mut media = SimMedia::new(alloc);
     let status = run(
@@ -38,6 +40,13 @@ fn main(rt: HostRuntime) -> ExitCode {
     );
     // A hint that cannot be written changes nothing.
     let _ = hint(&rt, alloc, words.as_slice(), status);
+    ended(status)
+}
+
+/// The exit status of the program is that of its run.
+fn ended(status: Status) -> ExitCode
+    ensures { exit_status result ≡ exit_code status }
+{
     ExitCode::from(status.code())
 }
 
