@@ -33,7 +33,7 @@ _cxl_files() {
 }
 
 _cxl_capture() {
-    _cxl_files '--registers --copy --from --list --table --help'
+    _cxl_files '--registers --copy --from --list --table --leave-empty --help'
 }
 
 _cxl_regions() {

@@ -1,4 +1,4 @@
-"""What the tests know of the six machines: their trees as folders, and what other programs say of them."""
+"""What the tests know of the machines: their trees as folders, and what other programs say of them."""
 
 import importlib.machinery
 import importlib.util
@@ -17,8 +17,19 @@ HERE = os.path.dirname(os.path.abspath(__file__))
 TOP = os.path.dirname(os.path.dirname(HERE))
 TOOLS = os.path.dirname(HERE)
 MACHINES = ["x2-hb", "x4-pass-switch", "ram-and-pmem", "single-rp", "x6", "odd-ids"]
+HOLES = ["uncommitted-below", "destroyed-below", "destroy-failed"]  # hosts with a decoder released below others
+NEWER = ["two-regions", "x4-hb-rp"]  # under a newer Linux
 DEVICES = "sys/bus/cxl/devices"
 TABLE = "sys/firmware/acpi/tables/CEDT"
+
+
+def guide():
+    """The text of the guide, chapter by chapter."""
+    folder, text = os.path.join(TOP, "docs", "guide"), ""
+    for name in sorted(os.listdir(folder)):
+        with open(os.path.join(folder, name), encoding="utf-8") as chapter:
+            text += chapter.read()
+    return text
 
 
 def load(tool):
@@ -51,6 +62,35 @@ def items_of(archive):
             item = opened.extractfile(member).read() if member.isreg() else member.linkname or None
             items[member.name.rstrip("/")] = item
     return items
+
+
+def live_tree(host):
+    """What cxl-capture reads of one of HOLES and NEWER, as a tree. Their copies are of an earlier cxl-capture, which
+    read no regions: these are added as `cxl list` of the same moment shows them."""
+    items = items_of(data_of(host, "copy.tar.gz"))
+    for listed in objects_of(json.loads(data_of(host, "cxl-list.json"))):
+        if "decoder" in listed and "position" not in listed and f"{DEVICES}/{listed['decoder']}" in items:
+            folder = folder_of(items, listed["decoder"])
+            if not re.match("decoder0", listed["decoder"]):
+                items[f"{folder}/region"] = f"{listed.get('region', '')}\n".encode()
+            for region in listed.get(f"regions:{listed['decoder']}", []):
+                items[f"{DEVICES}/{region['region']}"] = f"../../../../{folder}/{region['region']}"
+                commit = {"commit": b"1\n", "reset": b"0\n"}[region["decode_state"]]
+                items[f"{folder}/{region['region']}/commit"] = commit
+    return items
+
+
+def folder_of(items, device):
+    """Where the link to a device leads in a tree."""
+    return os.path.normpath(os.path.join(DEVICES, items[f"{DEVICES}/{device}"]))
+
+
+def objects_of(item):
+    """Each object of a list of `cxl list`, parents first."""
+    if isinstance(item, dict):
+        yield item
+    for part in item.values() if isinstance(item, dict) else item if isinstance(item, list) else []:
+        yield from objects_of(part)
 
 
 def pack(items):

@@ -4,6 +4,7 @@ import itertools
 import json
 import os
 import posixpath
+import re
 import struct
 
 import machines
@@ -91,9 +92,12 @@ def made_list(bridges, switches, endpoints):
                           for s in range(switches)]}, [
             {"dport": f"{b:04x}:00:{s:02x}.0", "id": s} for s in range(switches)]
 
+    ports = [port("port", f"pci{b:04x}:00", lambda: below_bridge(b)) for b in range(bridges)]
+    regions = [{"region": part["region"], "decode_state": "commit"} for part in machines.objects_of(ports)
+               if "region" in part]
     return json.dumps([{
-        "bus": "root0", "dports": [{"dport": f"pci{b:04x}:00", "id": b} for b in range(bridges)],
-        "ports:root0": [port("port", f"pci{b:04x}:00", lambda: below_bridge(b)) for b in range(bridges)]}]).encode()
+        "bus": "root0", "dports": [{"dport": f"pci{b:04x}:00", "id": b} for b in range(bridges)], "ports:root0": ports,
+        "decoders:root0": [{"decoder": "decoder0.0", "regions:decoder0.0": regions}]}]).encode()
 
 
 # ---- Hardware as files.
@@ -108,6 +112,32 @@ def lay_hardware(machine, host):
             put_words(os.path.join(host, "dev", "mem"), component["address"], component_words(component))
         else:
             put_words(os.path.join(devices[component["path"][-1]], "resource0"), 0, component_words(component))
+
+
+def lay_image(machine, host):
+    """The registers of a machine of which there is an image, in the same files below `host`. The configuration space of
+    an endpoint holds nothing but where its registers are."""
+    folders = {posixpath.basename(folder): folder for folder, _, _ in os.walk(host)}
+    nodes = machines.read_topology(machines.data_of(machine, "topo.toml").decode())
+    table, bases, at = machines.data_of(machine, "cedt"), {}, 36
+    while at < len(table):
+        kind, length, uid = struct.unpack_from("<BxHI", table, at)
+        bases.update({uid: struct.unpack_from("<Q", table, at + 16)[0]} if kind == 0 else {})
+        at += length
+    os.makedirs(os.path.join(host, "dev"))
+    for node, (head, decoders) in zip(nodes, machines.read_image(machines.data_of(machine, "registers.bin"), nodes)):
+        component = {"header": 1 << 24 | 0x10001, "capabilities": [(5, 0x128)], "capability": head[0],
+                     "global": head[1], "decoders": decoders}
+        if node["kind"] == "bridge":
+            put_words(os.path.join(host, "dev", "mem"), bases[node["uid"]], component_words(component))
+        else:
+            device = folders[re.search("PCI ([^ ,]+)", node["comment"]).group(1)]
+            put_words(os.path.join(device, "config"), 0x100, LOCATOR)
+            put_words(os.path.join(device, "resource0"), 0, component_words(component))
+
+
+# A register locator, the DVSEC 8 of CXL: component registers, 1, at offset 0 of BAR 0.
+LOCATOR = [0x10023, 20 << 20 | 0x1e98, 8, 1 << 8, 0]
 
 
 def pci_devices(host):

@@ -15,5 +15,6 @@ asks_the_program = unittest.skipUnless(os.access(CXLPLAN, os.X_OK), "./prove bui
 
 def cxlplan(*words):
     """What the program answers to these words: its exit status, and the text of both outputs."""
-    ran = subprocess.run([CXLPLAN, *words], stdout=subprocess.PIPE, stderr=subprocess.STDOUT, check=False)
+    ran = subprocess.run([CXLPLAN, *words], stdin=subprocess.DEVNULL, stdout=subprocess.PIPE, stderr=subprocess.STDOUT,
+                         check=False)
     return ran.returncode, ran.stdout.decode()

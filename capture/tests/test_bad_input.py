@@ -7,6 +7,8 @@ import os
 import shlex
 import shutil
 import struct
+import subprocess
+import sys
 import tarfile
 import tempfile
 import unittest
@@ -48,8 +50,9 @@ def both(*spoils):
 
 SPOILED = {
     "a kernel without CXL": [
-        (removed(DEVICES), "/sys/bus/cxl/devices: not there; this kernel shows no CXL"),
-        (removed(f"{DEVICES}/root0"), "/sys/bus/cxl/devices: 0 roots, not 1, or more than 1024 ports"),
+        (removed(DEVICES), "/sys/bus/cxl/devices: not there; no CXL root: are cxl_acpi and cxl_pci loaded?"),
+        (removed(f"{DEVICES}/root0"), "/sys/bus/cxl/devices: no CXL root: are cxl_acpi and cxl_pci loaded?"),
+        (leading(f"{DEVICES}/root1", f"../../../../{ROOT}"), "/sys/bus/cxl/devices: 2 roots, not 1, or more than 1024"),
     ],
     "the table": [
         (removed(TABLE), "/sys/firmware/acpi/tables/CEDT: No such file or directory"),
@@ -96,9 +99,6 @@ SPOILED = {
         (holding(f"{MEM0}/pmem/size", "268435457"), f"/{MEM0}/pmem/size: 0x10000001 is no multiple of 256 MiB"),
         (holding(f"{DECODER}/start", "0x110001000"), f"{BELOW}.0/start: 0x110001000 is no multiple of 256 MiB"),
         (holding(f"{DECODER}/size", "0x20000100"), f"{BELOW}.0/size: 0x20000100 is no multiple of 256 MiB"),
-        (holding(f"{DECODER}/dpa_resource", "0x8000000"),
-         f"{BELOW}.0/dpa_resource: 0x8000000 is below 0x0, or no multiple of 256 MiB"),
-        (holding(f"{DECODER}/dpa_size", "0x8000000"), f"{BELOW}.0/dpa_size: 0x8000000 is not the share of one way"),
     ],
     "what the registers cannot hold, or what says nothing": [
         (holding(f"{DECODER}/interleave_ways", "5"), f"{BELOW}.0/interleave_ways: '5' is none of 1, 2, 3, 4, 6, "),
@@ -108,7 +108,8 @@ SPOILED = {
         (holding(f"{DECODER}/size", "much"), f"{BELOW}.0/size: 'much' is not 1 numbers"),
         (holding(f"{DECODER}/size", "0x10000000000000000"), f"{BELOW}.0/size: '0x10000000000000000' is not 1 numbers"),
         (holding(f"{DECODER}/size", b"\xff\n\x1b[2J"), f"{BELOW}.0/size: '"),
-        (holding(f"{DECODER}/dpa_size", "0x20000000"), f"{BELOW}.0/dpa_size: 0x20000000 is not the share of one way"),
+        (holding(f"{DECODER}/region", "region0/.."), f"{BELOW}.0/region: 'region0/..' is no region"),
+        (holding(f"{ROOT}/decoder0.0/region0/commit", "2"), "devices/region0/commit: '2' is none of 0, 1"),
         (holding(f"{HB16}/decoder2.0/target_list", "0,1"), "decoder2.0/target_list: '0,1' is not 1 numbers"),
         (holding(f"{HB16}/decoder2.0/target_list", ""), "decoder2.0/target_list: '' is not 1 numbers"),
         (holding(f"{HB16}/decoder2.0/target_list", "256"), "decoder2.0/target_list: [256] is more than the register"),
@@ -116,11 +117,6 @@ SPOILED = {
               holding(f"{HB16}/decoder2.0/interleave_ways", "12")),
          "decoder2.0/target_list: [0, 1, 2, 3, 4, 5, 6, 7, 8, 9, 10, 11] is more than the register holds: 8 numbers"),
         (holding(f"{ENDPOINT}/decoders_committed", "5"), f"/{ENDPOINT}: 5 of 4 decoders committed; known are ["),
-        (both(holding(f"{ENDPOINT}/decoders_committed", "2"), *[
-            holding(f"{ENDPOINT}/decoder3.1/{name}", value) for name, value in {
-                "start": "0x130000000", "size": "0x10000000", "dpa_resource": "0x0", "dpa_size": "0x10000000",
-            }.items()]),
-         f"{BELOW}.1/dpa_resource: 0x0 is below 0x10000000, or no multiple of 256 MiB"),
     ],
 }
 
@@ -209,7 +205,7 @@ class BadInput(unittest.TestCase):
         self.assert_refused(["--from", host, taken], f"{taken}: there already")
         self.assert_refused(["--from", host, os.path.join(taken, "topo.toml")], "topo.toml: there already")
         none = os.path.join(self.place, "none")
-        self.assert_refused(["--from", host, os.path.join(none, "made")], f"there already, or no folder {none}")
+        self.assert_refused(["--from", host, os.path.join(none, "made")], f"/made: there is no folder {none}")
         self.assertEqual(sorted(os.listdir(taken)), ["image.bin", "report.txt", "table.cedt", "topo.toml"])
         with self.assertRaises(CAPTURE.BadInput):
             CAPTURE.write(os.path.join(taken, "topo.toml"), {"": b""})
@@ -222,16 +218,44 @@ class BadInput(unittest.TestCase):
 
         host = self.host()
         with mock.patch.object(CAPTURE, "open", refuse, create=True):
-            self.assert_refused(["--from", host, self.made], "No space left on device")
+            self.assert_refused(["--from", host, self.made], f"cxl-capture: {self.made}: No space left on device\n")
+
+    def test_a_place_that_may_only_be_read(self):
+        host = CAPTURE.Folder(self.host())
+        fault = OSError(30, "Read-only file system", os.path.join(self.place, ".cxl-capture-1"))
+        with mock.patch.object(CAPTURE.tempfile, "TemporaryDirectory", side_effect=fault):
+            with mock.patch.object(CAPTURE, "Folder", lambda root: host):
+                for words in ([self.made], ["--copy", self.made]):
+                    self.assert_refused(words, f"cxl-capture: {self.made}: Read-only file system\n")
 
     def test_words(self):
-        for words in ("", "--from a", "--copy", "--copy a b", "a b", "-x", "--table a", "--list a b", "--registers",
-                      "--list a --table b", "--copy a --registers", "--list a --table b --registers c",
-                      "--from a --from b c", "--from a --list b --table c d", "--from '' made", "--copy ''", "''"):
+        """Words that are no form: one line that names what is wrong, and nothing is read or made."""
+        no_folder, no_table = "no folder is named in which to make", "--list wants --table FILE"
+        for words, wanted in {
+            "": no_folder, "--from a": no_folder, "--copy": "argument --copy: expected one argument",
+            "--copy a b": "--copy and b do not go together", "a b": "b: one name too many", "-x": "unknown option -x",
+            "--tabel a b": "unknown option --tabel", "--fro a b": "unknown option --fro", "--table a": no_folder,
+            "--list a b": no_table, "--registers": no_folder, "--list a --table b": no_folder,
+            "--copy a --registers": "--copy and --registers do not go together",
+            "--from a --list b c": "--list and --from do not go together", "--from a --from b c": "--from stands there",
+            "--list a --table b --registers c": "--list and --registers do not go together",
+            "--copy a --leave-empty": "--copy and --leave-empty do not go together",
+            "--from a --list b --table c d": "--list and --from do not go together", "--from '' made": "an empty name",
+            "--copy ''": "an empty name", "''": "an empty name", "--copy a --from b": "--copy and --from do not go",
+        }.items():
             with self.subTest(words):
-                self.assertEqual(run(shlex.split(words))[0], 1)
-                self.assertEqual(os.listdir(self.place), [])
+                self.assert_refused(shlex.split(words), f"cxl-capture: {wanted}", "; see cxl-capture --help\n")
         self.assertEqual(run(["--help"]), (0, ""))
+        self.assertEqual(run(["made", "-h"]), (0, ""))
+
+    def test_help_into_a_pipe_that_nobody_reads(self):
+        for tool in ("cxl-capture", "cxl-regions", "cxl-picture"):
+            end, other = os.pipe()
+            os.close(end)
+            ran = subprocess.run([sys.executable, os.path.join(machines.TOOLS, tool), "--help"], stdout=other,
+                                 stderr=subprocess.PIPE, check=False)
+            os.close(other)
+            self.assertEqual((ran.returncode, ran.stderr), (0, b""))
 
     # ---- Archives that anybody may have made.
 

@@ -118,7 +118,7 @@ class Machines(unittest.TestCase):
         known = re.compile(
             r"sys/bus/cxl/devices/[a-z]+[0-9.]+|sys/firmware/acpi/tables/CEDT|sys/devices/(.*/)?(uport|parent_dport|"
             r"dport[0-9]+|decoders_committed|start|size|interleave_(ways|granularity)|locked|target_(type|list)|"
-            r"dpa_(resource|size)|serial|(ram|pmem)/size|(pci)?[0-9a-f:.]+|mem[0-9]+|ACPI0017:00)")
+            r"dpa_(resource|size)|region|commit|serial|(ram|pmem)/size|(pci)?[0-9a-f:.]+|mem[0-9]+|ACPI0017:00)")
         for machine in machines.MACHINES:
             for path in machines.items_of(self.copies[machine]):
                 self.assertTrue(known.fullmatch(path), path)
@@ -154,8 +154,7 @@ class Machines(unittest.TestCase):
             self.assertEqual(machines.items_of(example.read()), machines.items_of(self.copies["x4-pass-switch"]))
 
     def test_the_guide_shows_what_is_made(self):
-        with open(os.path.join(machines.TOP, "docs", "GUIDE.md"), encoding="utf-8") as guide:
-            text, made = guide.read(), self.files["x4-pass-switch"]
+        text, made = machines.guide(), self.files["x4-pass-switch"]
         topology, report = made["topo.toml"].decode().splitlines(), made["report.txt"].decode().splitlines()
         self.assertIn("\n$ head -22 host/topo.toml\n" + "\n".join(topology[:22]) + "\n$ tail -3", text)
         self.assertIn("\n$ tail -3 host/report.txt\n" + "\n".join(report[-3:]) + "\n```", text)

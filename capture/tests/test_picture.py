@@ -175,7 +175,9 @@ class Pictures(unittest.TestCase):
         other = os.path.join(self.place, "other")
         for case, wanted in ((words, "out.html: there already"), (words[:2] + [words[0], other], "no region in it"),
                              (words[:2] + [other, other], "No such file"),
-                             (words[:3] + [other + "/in"], "No such file")):
+                             (words[:3] + [other + "/in"], f"{other}/in.svg: No such file or directory"),
+                             (words[:2], "2 names are given, and wanted are CEDT, TOPO, REPLY, NAME; see cxl-picture"),
+                             (["--widht", *words], "unknown option --widht; see cxl-picture --help")):
             line = io.StringIO()
             with contextlib.redirect_stderr(line):
                 self.assertEqual(PICTURE.main(case), 1)

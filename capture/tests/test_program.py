@@ -83,8 +83,7 @@ class Program(unittest.TestCase):
         changed = machines.save(text.encode(), os.path.join(self.place, "list"))
         lost, table = os.path.join(self.place, "lost"), machines.path_of("x2-hb", "cedt")
         self.assertEqual(CAPTURE.main(["--list", changed, "--table", table, lost]), 0)
-        with open(os.path.join(machines.TOP, "docs", "GUIDE.md"), encoding="utf-8") as guide:
-            shown = guide.read()
+        shown = machines.guide()
         for folder, name, status in [(lost, "lost", 8), (self.captured("odd-ids", "list"), "bug", 0)]:
             said = cxlplan("check", *[os.path.join(folder, file) for file in ("table.cedt", "topo.toml", "image.bin")])
             self.assertEqual(said[0], status)

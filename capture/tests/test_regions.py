@@ -5,8 +5,11 @@ import io
 import json
 import os
 import re
+import subprocess
+import sys
 import tempfile
 import unittest
+from unittest import mock
 
 import machines
 import worked
@@ -153,13 +156,48 @@ class Texts(Case):
                 status, text, line = self.said("--image", out, table, topology, self.file("reply", reply))
                 self.assertEqual((status, text, line.count("\n"), os.path.exists(out)), (1, "", 1, False))
                 self.assertIn(wanted, line)
-        self.assertEqual(self.said()[0], 1)
         self.file("out", b"mine")
         self.assertIn("there already", self.said("--image", out, *FOUR, self.file("reply", PLAN))[2])
         self.assertIn("no registers in it", self.said("--words", *FOUR, self.file("reply", (
             "region 0x110000000 size 0x20000000 window 0 gran 256 ways 2 pmem\nslot 0 d1 0x0\nslot 1 d2 0x0\n")))[2])
         self.assertEqual(sorted(os.listdir(self.place)),
                          ["cut", "key", "kind", "odd", "out", "range", "reply", "topology"])
+
+    def test_words(self):
+        """Words that are no form: one line that names what is wrong. Options may stand anywhere."""
+        wanted = "names are given, and wanted are CEDT, TOPO, REPLY"
+        for words, why in {
+            "": f"0 {wanted}", "a b": f"2 {wanted}", "--words a b c d": f"4 {wanted}",
+            "--wrods a b c": "unknown option --wrods", "--wrods": "unknown option --wrods",
+            "--image": "argument --image: expected one argument",
+            "--words --image f a b c": "argument --image: not allowed with argument --words",
+        }.items():
+            with self.subTest(words):
+                self.assertEqual(self.said(*words.split()), (1, "", f"cxl-regions: {why}; see cxl-regions --help\n"))
+        self.assertEqual(self.said("--help"), (0, REGIONS.__doc__ + "\n", ""))
+        reply = self.file("reply", PLAN)
+        self.assertEqual(self.said(FOUR[0], "--words", FOUR[1], reply), self.said("--words", *FOUR, reply))
+
+    def test_places_that_take_no_file(self):
+        reply, none = self.file("reply", PLAN), os.path.join(self.place, "none", "out")
+        self.assertEqual(self.said("--image", none, *FOUR, reply), (
+            1, "", f"cxl-regions: {none}: No such file or directory\n"))
+        out = os.path.join(self.place, "out")
+        fault = OSError(30, "Read-only file system", os.path.join(self.place, ".cxl-regions-1"))
+        with mock.patch.object(REGIONS.tempfile, "TemporaryDirectory", side_effect=fault):
+            self.assertEqual(self.said("--image", out, *FOUR, reply), (
+                1, "", f"cxl-regions: {out}: Read-only file system\n"))
+        self.assertEqual(os.listdir(self.place), ["reply"])
+
+    def test_an_output_that_takes_nothing(self):
+        """A pipe whose reader is gone ends it quietly; a full disk is said."""
+        words = [sys.executable, os.path.join(machines.TOOLS, "cxl-regions"), *FOUR, self.file("reply", PLAN)]
+        end, other = os.pipe()
+        os.close(end)
+        with open(other, "wb") as pipe, open("/dev/full", "wb") as full:
+            for output, said in ((pipe, b""), (full, b"cxl-regions: standard output: No space left on device\n")):
+                ran = subprocess.run(words, stdout=output, stderr=subprocess.PIPE, check=False)
+                self.assertEqual((ran.returncode, ran.stderr), (1, said))
 
 
 @asks_the_program

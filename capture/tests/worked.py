@@ -124,7 +124,7 @@ def image_of(nodes, ranges):
 
 def shown(checked, image, names):
     """What a `show` of each region says that `check` has found in this image, over nodes of these names: how `show`
-    prints them is docs/GUIDE.md's."""
+    prints them is the guide's."""
     text, blocks = "", blocks_of(image, len(names))
     for number, part in enumerate(checked.split("region ")[1:]):
         line, slots = part.split("\n", 1)
