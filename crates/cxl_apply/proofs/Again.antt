@@ -1,5 +1,5 @@
 -- An accepted image is accepted again without a region's decoders.
-use Rattle.std.proofs.Common.{◌≡◌, ◌≢◌, ◌⊎◌, ◌↔◌, ℕ, ◌+◌, ◌<◌, true, false, List, [], ◌∷◌, length, get_or, set, map, drop, Option, Some, None, refl, sym, ap, ◌∙◌, subst, inl, inr, arith}
+use Rattle.std.proofs.Common.{◌≡◌, ◌≢◌, ◌⊎◌, ℕ, ◌+◌, ◌<◌, true, false, List, [], ◌∷◌, length, get_or, set, map, drop, Option, Some, None, refl, sym, ap, ◌∙◌, subst, inl, inr, arith}
 use Rattle.std.specs.Option.{option_map_or}
 use Rattle.std.specs.Prelude.{slice_get, slice_set, All, Contains, fold, option_map}
 use Rattle.std.proofs.lemmas.Bool.{cases_eq, cases_order, false≢true}
@@ -8,6 +8,8 @@ use Rattle.std.proofs.lemmas.List.Elements.{All-set}
 use Rattle.std.proofs.lemmas.List.Folds.{Any-from_list_any, list_any-from_Any}
 use Rattle.std.proofs.lemmas.List.Quantifiers.{position-Some}
 use Rattle.std.proofs.lemmas.Option.{slice_get-get_or, slice_get_within, get_or_from_slice_get, same_Some, none-some}
+use Rattle.cxl_enc.proofs.Lists.{get_same, get_other}
+use Rattle.cxl_enc.proofs.Options.{cases_Option}
 use Rattle.cxl_regs.specs.declared.decoder.Decoder.{Decoder}
 use Rattle.cxl_regs.specs.Registers.{Registers, IsBlock, reset_decoder}
 use Rattle.cxl_regs.specs.Writes.{any_committed}
@@ -20,16 +22,17 @@ use Rattle.cxl_model.specs.Ranges.{index_for, IsCommittedRange}
 use Rattle.cxl_model.specs.Accepted.{KeepsBlocks, IsWhole, IsAccepted}
 use Rattle.cxl_model.specs.Changes.{HaveSameDecoders}
 use Rattle.cxl_model.specs.Regions.{region_range}
+use Rattle.cxl_model.proofs.OtherBlocks.{decoders_are}
+use Rattle.cxl_model.proofs.ImageLaws.{AcceptedLaw}
 use Rattle.cxl_apply.specs.declared.write.Write.{Write}
 use Rattle.cxl_apply.specs.Jobs.{release_write, AreReleaseWrites, blocks_after_writes, blocks_done}
 use Rattle.cxl_apply.specs.Releases.{row_for, rows_of, first_locked, first_not_last, released, block_without_row, blocks_without, system_without}
-use Rattle.cxl_apply.proofs.Places.{get_same, get_other}
 use Rattle.cxl_apply.proofs.Words.{WordsLaw}
 use Rattle.cxl_apply.proofs.JobWrites.{AllGood, all_at}
 use Rattle.cxl_apply.proofs.Bounds.{length_done}
 use Rattle.cxl_apply.proofs.BlockRules.{each_above}
 use Rattle.cxl_apply.proofs.Folds.{change, get_fold_none, get_fold_some}
-use Rattle.cxl_apply.proofs.Systems.{block_of, decoders_are}
+use Rattle.cxl_apply.proofs.Systems.{block_of}
 use Rattle.cxl_apply.proofs.Freed.{IsRowFor, row_parts, no_position, all_rows, row_there, rows_apart, rows_rise, IsLast, last_rows, InBlock, in_block, range_parts, HasRange, all_released}
 use Rattle.cxl_apply.proofs.Staying.{StaysAt, stays_keep, stays_same, release_good}
 
@@ -57,10 +60,6 @@ without_good law s found can =
     )
 
 -- ---- no decoder has the range any more
-
-cases_Option : {X : Type 0} (o : Option X) → (o ≡ None) ⊎ ((x : X) × (o ≡ Some x))
-cases_Option None = inl refl
-cases_Option (Some x) = inr (x, refl)
 
 -- where a node has no decoder of the range there is no row, and its block stays
 no_row : (s : System) (found : Found) (n : ℕ) → index_for s (region_range found) n ≡ None → slice_get (blocks_without s found) n ≡ slice_get s.blocks n
@@ -179,9 +178,6 @@ same_range r other =
       ]
       | inr apart ↦ inr (λ e. apart (ap (λ (x : Range). x.base) e))
     ]
-
-abbrev pub AcceptedLaw : Type 0
-AcceptedLaw = (s : System) → IsAccepted s ↔ (KeepsBlocks s × ((r : Range) → IsCommittedRange s r → IsWhole s r))
 
 abbrev pub WholeLaw : Type 0
 WholeLaw = (s t : System) (r : Range) → HaveSameDecoders s t r → KeepsBlocks t → IsWhole s r → IsWhole t r

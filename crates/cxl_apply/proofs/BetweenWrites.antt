@@ -1,15 +1,15 @@
 -- Between two writes of a job the image is one of the same host, in which every block decodes that did.
-use Rattle.std.proofs.Common.{◌≡◌, ℕ, zero, suc, ◌^◌, ◌<◌, ◌≤◌, Bool, true, false, List, [], ◌∷◌, get_or, map, Option, Some, None, refl, sym, ◌∙◌, subst, arith}
+use Rattle.std.proofs.Common.{◌≡◌, ℕ, zero, suc, ◌^◌, ◌<◌, true, List, [], ◌∷◌, get_or, map, Option, Some, None, refl, sym, ◌∙◌, subst, arith}
 use Rattle.std.specs.Prelude.{slice_get, slice_set, All}
 use Rattle.std.specs.List.{flat_map}
 use Rattle.std.specs.Option.{option_map_or}
 use Rattle.std.proofs.lemmas.List.Elements.{All-nil, All-cons, All-head, All-tail, All-append, All-from_recursion}
-use Rattle.cxl_enc.specs.Caps.{bit_of}
 use Rattle.cxl_regs.specs.declared.decoder.Decoder.{Decoder}
 use Rattle.cxl_regs.specs.Registers.{Registers, IsBlock, IsSameShape}
 use Rattle.cxl_regs.specs.Words.{control_of}
 use Rattle.cxl_regs.specs.Writes.{after_word}
 use Rattle.cxl_regs.specs.declared.reading.Range.{Range}
+use Rattle.cxl_regs.proofs.Fields.{bit_of_le}
 use Rattle.cxl_model.specs.declared.found.Found.{Found}
 use Rattle.cxl_model.specs.declared.plan.Row.{Row}
 use Rattle.cxl_model.specs.System.{System, IsSystem}
@@ -31,13 +31,9 @@ use Rattle.cxl_apply.proofs.Shapes.{IsBlockAt, own_blocks, system_of_blocks, row
 abbrev IsWord : Write → Type 0
 IsWord write = write.value < 2 ^ 32
 
-bit_small : (b : Bool) → bit_of b ≤ 1
-bit_small true = omega arith
-bit_small false = omega arith
-
 control_small : (d : Decoder) → d.gran < 16 → d.ways < 16 → control_of d < 2 ^ 32
 control_small d gran ways =
-    omega (arith, bit_small d.lock, bit_small d.commit, bit_small d.committed, bit_small d.error, bit_small d.host_only)
+    omega (arith, bit_of_le d.lock, bit_of_le d.commit, bit_of_le d.committed, bit_of_le d.error, bit_of_le d.host_only)
 
 row_values : (blocks : List Registers) (row : Row) → HasWords row.decoder → All IsWord (row_writes blocks row)
 row_values blocks row has =

@@ -1,11 +1,14 @@
 -- The rules K2 to K8 of a block, where one of its decoders changes.
-use Rattle.std.proofs.Common.{◌≡◌, ◌≢◌, ◌⊎◌, ℕ, ◌+◌, ◌-◌, ◌<◌, ◌≤◌, Bool, true, false, cond, not, ◌&&◌, ◌||◌, List, length, get_or, set, take, drop, Option, Some, None, refl, sym, ap, ◌∙◌, subst, inl, inr, eq-eqb, arith}
+use Rattle.std.proofs.Common.{◌≡◌, ◌≢◌, ℕ, ◌+◌, ◌-◌, ◌<◌, ◌≤◌, Bool, true, false, cond, not, ◌&&◌, ◌||◌, List, length, get_or, set, take, drop, Option, Some, None, refl, sym, ap, ◌∙◌, subst, inl, inr, eq-eqb, arith}
 use Rattle.std.specs.Prelude.{slice_get, sum_by, ◌==◌}
 use Rattle.std.specs.Option.{option_map_or}
 use Rattle.std.proofs.lemmas.Bool.{cases_eq, cases_order, false≢true, or_parts, and_parts, or_from, and_left, and_right, not-false, false_from_ne_true}
 use Rattle.std.proofs.lemmas.List.{take-set-le, get_or-drop, length-drop}
 use Rattle.std.proofs.lemmas.List.Folds.{list_any_at}
 use Rattle.std.proofs.lemmas.Option.{slice_get_within, get_or_from_slice_get}
+use Rattle.cxl_enc.proofs.Lists.{get_same, get_other}
+use Rattle.cxl_enc.proofs.Options.{cases_Option}
+use Rattle.cxl_enc.proofs.Tests.{asked_not, neither}
 use Rattle.cxl_regs.specs.declared.decoder.Decoder.{Decoder}
 use Rattle.cxl_regs.specs.Registers.{Registers}
 use Rattle.cxl_regs.specs.Reading.{select_bits}
@@ -14,22 +17,7 @@ use Rattle.cxl_regs.specs.Writes.{any_committed, with_decoder}
 use Rattle.cxl_span.specs.Spans.{span_step, span_start_of}
 use Rattle.cxl_span.specs.Rules.{breaks_rule, breaks_flags, breaks_commit_order, breaks_codes, breaks_select, breaks_size, breaks_base_order, breaks_capacity}
 use Rattle.cxl_span.specs.Breaches.{breaks, BlockKeeps}
-use Rattle.cxl_apply.proofs.Places.{get_same, get_other}
-
--- ---- a rule at a decoder
-
-pub at_decoder : (block : Registers) (rule ram pmem i : ℕ) (d : Decoder) → slice_get block.decoders i ≡ Some d
-    → breaks rule block ram pmem i ≡ breaks_rule rule block ram pmem (before block.decoders i) (span_start_of block.decoders i) d
-unfolding breaks
-at_decoder block rule ram pmem i d here = ap (λ (o : Option Decoder). option_map_or (breaks_rule rule block ram pmem (before block.decoders i) (span_start_of block.decoders i)) o false) here
-
-at_none : (block : Registers) (rule ram pmem i : ℕ) → slice_get block.decoders i ≡ None → breaks rule block ram pmem i ≡ false
-unfolding breaks
-at_none block rule ram pmem i none = ap (λ (o : Option Decoder). option_map_or (breaks_rule rule block ram pmem (before block.decoders i) (span_start_of block.decoders i)) o false) none
-
-pub kept_at : (block : Registers) (rule ram pmem i : ℕ) (d : Decoder) → BlockKeeps block ram pmem → slice_get block.decoders i ≡ Some d
-    → breaks_rule rule block ram pmem (before block.decoders i) (span_start_of block.decoders i) d ≡ false
-kept_at block rule ram pmem i d keeps here = sym (at_decoder block rule ram pmem i d here) ∙ keeps.each rule i
+use Rattle.cxl_span.proofs.RulesBroken.{at_decoder, at_none, kept_at}
 
 -- ---- what the rules say
 
@@ -45,19 +33,14 @@ set_flags d keeps committed =
     let flags : not (d.commit && d.host_only) ≡ false = subst (λ (b : Bool). cond b (not (d.commit && d.host_only)) d.commit ≡ false) committed parts.1 in
     (parts.0, (and_parts d.commit d.host_only (not-false (d.commit && d.host_only) flags)).0)
 
--- a committed decoder breaks a rule where a test holds
-asked : (a b : Bool) → (a && b) ≡ false → a ≡ true → b ≡ false
-asked true b keeps e = keeps
-asked false b keeps e = absurd (false≢true e)
-
 -- no commit rule is broken by a decoder that keeps K2 and K4 to K7
 pub no_rule : (block : Registers) (ram pmem i : ℕ) (d : Decoder) → BlockKeeps block ram pmem → slice_get block.decoders i ≡ Some d → d.committed ≡ true → first_broken_rule block i d ≡ None
 no_rule block ram pmem i d keeps here committed =
-    let order = or_parts (breaks_order below) (not block.enabled) (asked d.committed (breaks_order below || not block.enabled) (kept_at block 2 ram pmem i d keeps here) committed) in
-    let codes = asked d.committed (not (codes_ok block.cap block.endpoint d)) (kept_at block 4 ram pmem i d keeps here) committed in
-    let select = asked d.committed (not (select_ok block.cap d.gran (select_bits d.ways))) (kept_at block 5 ram pmem i d keeps here) committed in
-    let rise = asked d.committed (breaks_rise below d) (kept_at block 7 ram pmem i d keeps here) committed in
-    let sizes = asked d.committed _ (kept_at block 6 ram pmem i d keeps here) committed in
+    let order = or_parts (breaks_order below) (not block.enabled) (asked_not d.committed (breaks_order below || not block.enabled) (kept_at block 2 ram pmem i d keeps here) committed) in
+    let codes = asked_not d.committed (not (codes_ok block.cap block.endpoint d)) (kept_at block 4 ram pmem i d keeps here) committed in
+    let select = asked_not d.committed (not (select_ok block.cap d.gran (select_bits d.ways))) (kept_at block 5 ram pmem i d keeps here) committed in
+    let rise = asked_not d.committed (breaks_rise below d) (kept_at block 7 ram pmem i d keeps here) committed in
+    let sizes = asked_not d.committed _ (kept_at block 6 ram pmem i d keeps here) committed in
     let size = (or_parts (d.size == 0) _ (or_parts _ _ sizes).0).0 in
     none_broken block i d (and_right block.endpoint (not block.enabled) order.1) size order.0 rise codes select
   where
@@ -95,19 +78,15 @@ each_above ds i j d top above here =
 -- ---- a decoder that is not committed in the place of another
 
 -- a decoder with no mark of a commit breaks no rule
-either : (b x y : Bool) → x ≡ false → y ≡ false → cond b x y ≡ false
-either true x y p q = p
-either false x y p q = q
-
 clean_rules : (block : Registers) (rule ram pmem start : ℕ) (below : Option Decoder) (d : Decoder) → d.committed ≡ false → d.commit ≡ false → d.error ≡ false → breaks_rule rule block ram pmem below start d ≡ false
 clean_rules block rule ram pmem start below d free clear good =
-    either (rule == 2) (breaks_commit_order block below d) _ (and_left d.committed _ free)
-    (either (rule == 3) (breaks_flags d) _ (or_from d.error _ good (ap (λ (b : Bool). cond b (not (d.commit && d.host_only)) d.commit) free ∙ clear))
-    (either (rule == 4) (breaks_codes block d) _ (and_left d.committed _ free)
-    (either (rule == 5) (breaks_select block d) _ (and_left d.committed _ free)
-    (either (rule == 6) (breaks_size block d) _ (and_left d.committed _ free)
-    (either (rule == 7) (breaks_base_order below d) _ (and_left d.committed _ free)
-    (either (rule == 8) (breaks_capacity block ram pmem start d) _ (and_left (block.endpoint && d.committed) _ (and_right block.endpoint d.committed free)) refl))))))
+    neither (rule == 2) (breaks_commit_order block below d) _ (and_left d.committed _ free)
+    (neither (rule == 3) (breaks_flags d) _ (or_from d.error _ good (ap (λ (b : Bool). cond b (not (d.commit && d.host_only)) d.commit) free ∙ clear))
+    (neither (rule == 4) (breaks_codes block d) _ (and_left d.committed _ free)
+    (neither (rule == 5) (breaks_select block d) _ (and_left d.committed _ free)
+    (neither (rule == 6) (breaks_size block d) _ (and_left d.committed _ free)
+    (neither (rule == 7) (breaks_base_order below d) _ (and_left d.committed _ free)
+    (neither (rule == 8) (breaks_capacity block ram pmem start d) _ (and_left (block.endpoint && d.committed) _ (and_right block.endpoint d.committed free)) refl))))))
 
 pub same_before : (ds : List Decoder) (i j : ℕ) (new : Decoder) → j ≤ i → before (set ds i new) j ≡ before ds j
 same_before ds i j new low =
@@ -120,10 +99,6 @@ same_start : (ds : List Decoder) (i j : ℕ) (new : Decoder) → j < i → span_
 same_start ds i j new low =
     ap (λ (xs : List Decoder). sum_by span_step xs + option_map_or (λ d. d.tail) (slice_get (set ds i new) j) 0) (take-set-le j ds i new (omega arith))
     ∙ ap (λ (o : Option Decoder). sum_by span_step (take j ds) + option_map_or (λ d. d.tail) o 0) (get_other ds i j new (λ e. omega (arith, e)))
-
-cases_Option : {X : Type 0} (o : Option X) → (o ≡ None) ⊎ ((x : X) × (o ≡ Some x))
-cases_Option None = inl refl
-cases_Option (Some x) = inr (x, refl)
 
 -- a block keeps its rules where its last committed decoder, or one above that, has no mark of a commit any more
 pub clean_keeps : (block : Registers) (ram pmem i : ℕ) (new : Decoder) → BlockKeeps block ram pmem → i < length block.decoders → any_committed (drop (i + 1) block.decoders) ≡ false

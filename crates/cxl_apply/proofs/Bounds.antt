@@ -7,6 +7,7 @@ use Rattle.std.proofs.lemmas.List.{length-append, length-set, take_all, take_res
 use Rattle.std.proofs.lemmas.List.Elements.{All-nil, All-from_recursion, All-cons, All-head, All-tail, All-append}
 use Rattle.std.proofs.lemmas.List.Sums.{fold-append}
 use Rattle.std.proofs.lemmas.Option.{slice_get_within}
+use Rattle.cxl_enc.proofs.Options.{some_and}
 use Rattle.cxl_regs.specs.Registers.{Registers}
 use Rattle.cxl_regs.specs.Words.{HasWord, offset_of}
 use Rattle.cxl_regs.specs.Writes.{after_word}
@@ -15,7 +16,7 @@ use Rattle.cxl_model.specs.declared.plan.Row.{Row}
 use Rattle.cxl_apply.specs.declared.write.Write.{Write}
 use Rattle.cxl_apply.specs.Jobs.{row_writes, release_write, CanCreate, CanRelease, IsTopRow, AreFalling, AreRising, blocks_after_write, blocks_after_writes, blocks_done}
 use Rattle.cxl_apply.specs.Steps.{HasWordsOf}
-use Rattle.cxl_apply.proofs.JobWrites.{some_of, all_falling, all_rising}
+use Rattle.cxl_apply.proofs.JobWrites.{all_falling, all_rising}
 
 -- ---- how many
 
@@ -50,7 +51,7 @@ below_rising (row ∷ rest) low n rises from below =
     omega arith
 
 top_within : (blocks : List Registers) (row : Row) → IsTopRow blocks row → row.node < length blocks
-top_within blocks row top = let block = some_of (slice_get blocks row.node) _ top.there in slice_get_within blocks row.node block.0 block.1
+top_within blocks row top = let block = some_and (slice_get blocks row.node) _ top.there in slice_get_within blocks row.node block.0 block.1
 
 pub few_falling : (blocks : List Registers) (rows falling : List Row) → AreFalling rows falling → All (CanCreate blocks) rows → length falling ≤ length blocks
 few_falling blocks rows falling is can =
@@ -73,7 +74,7 @@ length_created blocks (row ∷ rest) =
 
 place_of : (blocks : List Registers) (row : Row) (p : ℕ) → IsTopRow blocks row → p < 8 → IsPlace blocks row.node (offset_of row.index p)
 place_of blocks row p top word =
-    let block = some_of (slice_get blocks row.node) (λ (b : Registers). row.index < length b.decoders) top.there in
+    let block = some_and (slice_get blocks row.node) (λ (b : Registers). row.index < length b.decoders) top.there in
     let inside : row.index < length block.0.decoders = block.2 in
     subst (λ (o : Option Registers). IsSomeAnd o (λ b. HasWord b (offset_of row.index p))) (sym block.1) (record { whole = omega arith; inside = omega arith })
 

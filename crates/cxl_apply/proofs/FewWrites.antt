@@ -11,6 +11,7 @@ use Rattle.std.proofs.lemmas.List.Folds.{list_any-append, list_any-from_Any}
 use Rattle.std.proofs.lemmas.Map.Keys.{IsDistinct-from_apart}
 use Rattle.std.proofs.lemmas.Map.Made.{length-le_from_is_member}
 use Rattle.std.proofs.lemmas.Option.{slice_get_within, get_or_from_slice_get}
+use Rattle.cxl_enc.proofs.Lists.{get_same}
 use Rattle.cxl_topo.specs.declared.node.Node.{Node}
 use Rattle.cxl_topo.specs.declared.node.Parent.{Parent}
 use Rattle.cxl_topo.specs.Laws.{AreTreeLaws}
@@ -25,11 +26,10 @@ use Rattle.cxl_model.specs.Counts.{is_under, endpoints_of, endpoints_under}
 use Rattle.cxl_model.specs.Plans.{committed_row, block_with_row, with_rows, IsRow}
 use Rattle.cxl_model.specs.Ranges.{serves}
 use Rattle.cxl_model.specs.Regions.{region_range}
+use Rattle.cxl_model.proofs.OtherBlocks.{decoders_are}
 use Rattle.cxl_apply.specs.Jobs.{AreOfDifferentNodes}
 use Rattle.cxl_apply.specs.Releases.{rows_of}
-use Rattle.cxl_apply.proofs.Places.{get_same}
 use Rattle.cxl_apply.proofs.Folds.{get_fold_some}
-use Rattle.cxl_apply.proofs.Systems.{decoders_are}
 use Rattle.cxl_apply.proofs.Planned.{place_of_row}
 use Rattle.cxl_apply.proofs.Freed.{row_parts, row_has_range, all_rows}
 
@@ -113,11 +113,6 @@ few_servers s r rows laws servers apart serving =
     let long = length-paths s.nodes (endpoints_of s r) laws in
     let ends = servers.few in
     omega (arith, length-map rows node_of)
-
--- so many times so many are some
-pub some_of_product : (n a b k : ℕ) → n * a * b ≡ k → 0 < k → 0 < n
-some_of_product zero a b k is some = absurd (omega (arith, is, some))
-some_of_product (suc n) a b k is some = omega arith
 
 pub some_of_factor : (a n k : ℕ) → a * n ≡ k → 0 < k → 0 < n
 some_of_factor a zero k is some = absurd (omega (arith, is, some))

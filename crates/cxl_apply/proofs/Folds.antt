@@ -7,10 +7,10 @@ use Rattle.std.proofs.lemmas.Bool.{cases_Bool, eqb-true, false≢true}
 use Rattle.std.proofs.lemmas.List.Elements.{All-tail, Contains-get_or}
 use Rattle.std.proofs.lemmas.List.Folds.{list_any_at, Any-from_list_any}
 use Rattle.std.proofs.lemmas.Option.{slice_get_within, none-some, same_Some}
+use Rattle.cxl_enc.proofs.Lists.{get_same, get_other}
 use Rattle.cxl_regs.specs.Registers.{Registers}
 use Rattle.cxl_model.specs.declared.plan.Row.{Row}
 use Rattle.cxl_apply.specs.Jobs.{AreOfDifferentNodes}
-use Rattle.cxl_apply.proofs.Places.{get_same, get_other}
 use Rattle.cxl_apply.proofs.JobWrites.{elsewhere, apart_rest}
 
 -- the block of a row's node is changed

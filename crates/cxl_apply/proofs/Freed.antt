@@ -8,6 +8,7 @@ use Rattle.std.proofs.lemmas.List.Elements.{All-nil, All-cons, All-head, All-tai
 use Rattle.std.proofs.lemmas.List.Quantifiers.{position-Some}
 use Rattle.std.proofs.lemmas.List.Sums.{fails_before_first}
 use Rattle.std.proofs.lemmas.Option.{slice_get_within, get_or_from_slice_get, same_Some, none-some}
+use Rattle.cxl_enc.proofs.Options.{and_some}
 use Rattle.cxl_regs.specs.declared.decoder.Decoder.{Decoder}
 use Rattle.cxl_regs.specs.Registers.{Registers, IsBlock}
 use Rattle.cxl_regs.specs.Rules.{first_broken_rule}
@@ -17,19 +18,20 @@ use Rattle.cxl_model.specs.declared.plan.Row.{Row}
 use Rattle.cxl_model.specs.System.{System, decoders_at, decoder_at, ram_at, pmem_at}
 use Rattle.cxl_regs.specs.declared.reading.Range.{Range}
 use Rattle.cxl_regs.specs.Reading.{range_of, has_range}
+use Rattle.cxl_span.proofs.RulesBroken.{kept_at}
 use Rattle.cxl_model.specs.Ranges.{index_for}
 use Rattle.cxl_model.specs.Accepted.{KeepsBlocks}
 use Rattle.cxl_model.specs.Regions.{region_range}
+use Rattle.cxl_model.proofs.RangeRules.{block_keeps}
 use Rattle.cxl_apply.specs.declared.write.Write.{Write}
 use Rattle.cxl_apply.specs.Jobs.{release_write, CanRelease, AreOfDifferentNodes, AreReleaseWrites, blocks_after_write, blocks_after_writes}
 use Rattle.cxl_apply.specs.Releases.{row_for, rows_of, first_locked, first_not_last, block_without_row, blocks_without}
 use Rattle.cxl_apply.proofs.Words.{WordsLaw}
 use Rattle.cxl_apply.proofs.RowWrites.{IsBound, release_leads}
 use Rattle.cxl_apply.proofs.JobWrites.{AreUntouched, bound_of, bound_in, apart_rest, untouched_rest, all_rising, rising_apart}
-use Rattle.cxl_apply.proofs.BlockRules.{set_flags, kept_at, no_rule, each_above}
+use Rattle.cxl_apply.proofs.BlockRules.{set_flags, no_rule, each_above}
 use Rattle.cxl_apply.proofs.Folds.{change, fold_order}
-use Rattle.cxl_apply.proofs.Systems.{block_of, block_keeps}
-use Rattle.cxl_apply.proofs.Planned.{some_and}
+use Rattle.cxl_apply.proofs.Systems.{block_of}
 
 -- ---- the rows of a range
 
@@ -195,14 +197,14 @@ can_release s r row keeps last =
     let top : any_committed (drop (row.index + 1) block.decoders) ≡ false = ap (λ (ds : List Decoder). any_committed (drop (row.index + 1) ds)) (sym at.decoders) ∙ last.top in
     record {
       top = record {
-        there = some_and (slice_get s.blocks row.node) (λ (b : Registers). row.index < length b.decoders) block at.block_here (slice_get_within block.decoders row.index row.decoder at.here);
-        top = some_and (slice_get s.blocks row.node) (λ (b : Registers). (j : ℕ) (e : Decoder) → row.index < j → slice_get b.decoders j ≡ Some e → e.committed ≡ false) block at.block_here
+        there = and_some (slice_get s.blocks row.node) (λ (b : Registers). row.index < length b.decoders) block at.block_here (slice_get_within block.decoders row.index row.decoder at.here);
+        top = and_some (slice_get s.blocks row.node) (λ (b : Registers). (j : ℕ) (e : Decoder) → row.index < j → slice_get b.decoders j ≡ Some e → e.committed ≡ false) block at.block_here
             (λ j e above here. each_above block.decoders row.index j e top above here);
       };
-      same = some_and (slice_get s.blocks row.node) (λ (b : Registers). slice_get b.decoders row.index ≡ Some row.decoder) block at.block_here at.here;
+      same = and_some (slice_get s.blocks row.node) (λ (b : Registers). slice_get b.decoders row.index ≡ Some row.decoder) block at.block_here at.here;
       committed = (has.committed, flags.1, flags.0);
       unlocked = last.unlocked;
-      keeps = some_and (slice_get s.blocks row.node) (λ (b : Registers). first_broken_rule b row.index row.decoder ≡ None) block at.block_here
+      keeps = and_some (slice_get s.blocks row.node) (λ (b : Registers). first_broken_rule b row.index row.decoder ≡ None) block at.block_here
           (no_rule block (ram_at s row.node) (pmem_at s row.node) row.index row.decoder rules at.here has.committed);
     }
 

@@ -7,6 +7,8 @@ use Rattle.std.proofs.lemmas.List.{get_or-drop, length-drop}
 use Rattle.std.proofs.lemmas.List.Elements.{All-head, All-tail, All-contains, Contains-get_or}
 use Rattle.std.proofs.lemmas.List.Folds.{list_any_none}
 use Rattle.std.proofs.lemmas.Option.{slice_get_within, slice_get-get_or, get_or_from_slice_get, same_Some}
+use Rattle.cxl_enc.proofs.Lists.{get_same, get_other}
+use Rattle.cxl_enc.proofs.Options.{some_and}
 use Rattle.cxl_regs.specs.declared.decoder.Decoder.{Decoder}
 use Rattle.cxl_regs.specs.Registers.{Registers, IsDecoder, IsBlock}
 use Rattle.cxl_regs.specs.Rules.{first_broken_rule}
@@ -14,16 +16,11 @@ use Rattle.cxl_regs.specs.Writes.{any_committed, with_decoder}
 use Rattle.cxl_model.specs.declared.plan.Row.{Row}
 use Rattle.cxl_apply.specs.declared.write.Write.{Write}
 use Rattle.cxl_apply.specs.Jobs.{unmarked, with_commit, row_writes, release_write, HasWords, CanCreate, CanRelease, AreOfDifferentNodes, AreFalling, AreRising, AreCreateWrites, AreReleaseWrites, AreTakenBack}
-use Rattle.cxl_apply.proofs.Places.{get_same, get_other}
 use Rattle.cxl_apply.proofs.Words.{ControlReads, WordsLaw, control_reads}
 use Rattle.cxl_apply.proofs.Walks.{Walks, Leads, walks_append, taken_back}
 use Rattle.cxl_apply.proofs.RowWrites.{IsFree, HoldsOnWay, made8, row_leads, IsBound, let_go, release_leads}
 
 -- ---- lists and options
-
-pub some_of : {X : Type 0} (o : Option X) (P : X → Type 0) → IsSomeAnd o P → (x : X) × (o ≡ Some x) × P x
-some_of None P h = absurd h
-some_of (Some x) P h = (x, refl, h)
 
 pub some_at : {X : Type 0} (o : Option X) (P : X → Type 0) (x : X) → o ≡ Some x → IsSomeAnd o P → P x
 some_at o P x is h = subst (λ p. IsSomeAnd p P) is h
@@ -50,9 +47,9 @@ reads_commit law d has = control_reads law (with_commit d) (record { base = has.
 
 pub free_of : WordsLaw → (blocks : List Registers) (row : Row) → All IsBlock blocks → CanCreate blocks row → (block : Registers) × (d : Decoder) × IsFree blocks row block d
 free_of law blocks row are can =
-    let block = some_of (slice_get blocks row.node) (λ (b : Registers). row.index < length b.decoders) can.top.there in
+    let block = some_and (slice_get blocks row.node) (λ (b : Registers). row.index < length b.decoders) can.top.there in
     let at = some_at (slice_get blocks row.node) (λ (b : Registers). IsSomeAnd (slice_get b.decoders row.index) (λ (d : Decoder). (d.committed ≡ false) × (d.commit ≡ false) × (d.error ≡ false))) block.0 block.1 can.free in
-    let d = some_of (slice_get block.0.decoders row.index) (λ (d : Decoder). (d.committed ≡ false) × (d.commit ≡ false) × (d.error ≡ false)) at in
+    let d = some_and (slice_get block.0.decoders row.index) (λ (d : Decoder). (d.committed ≡ false) × (d.commit ≡ false) × (d.error ≡ false)) at in
     let is : IsDecoder block.0.endpoint d.0 = all_at (IsDecoder block.0.endpoint) block.0.decoders row.index d.0 (all_at IsBlock blocks row.node block.0 are block.1).each d.1 in (
       block.0,
       d.0,
@@ -88,7 +85,7 @@ free_in settled blocks row block d same is = record {
 
 pub bound_of : WordsLaw → (blocks : List Registers) (row : Row) → All IsBlock blocks → CanRelease blocks row → (block : Registers) × IsBound blocks row block
 bound_of law blocks row are can =
-    let block = some_of (slice_get blocks row.node) (λ (b : Registers). row.index < length b.decoders) can.top.there in
+    let block = some_and (slice_get blocks row.node) (λ (b : Registers). row.index < length b.decoders) can.top.there in
     let here = some_at (slice_get blocks row.node) (λ (b : Registers). slice_get b.decoders row.index ≡ Some row.decoder) block.0 block.1 can.same in
     let is : IsDecoder block.0.endpoint row.decoder = all_at (IsDecoder block.0.endpoint) block.0.decoders row.index row.decoder (all_at IsBlock blocks row.node block.0 are block.1).each here in
     let has = words_of_decoder block.0.endpoint row.decoder is in (

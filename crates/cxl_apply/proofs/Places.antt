@@ -1,10 +1,11 @@
 -- A write to a word of one decoder of a block.
-use Rattle.std.proofs.Common.{◌≡◌, ◌≢◌, ℕ, zero, suc, ◌%◌, ◌<◌, ◌≤◌, false, List, [], ◌∷◌, length, set, Option, Some, refl, sym, ap, ◌∙◌, arith}
+use Rattle.std.proofs.Common.{◌≡◌, ℕ, ◌%◌, ◌<◌, ◌≤◌, false, List, set, Option, Some, refl, sym, ap, ◌∙◌, arith}
 use Rattle.std.specs.Prelude.{slice_get, slice_set, nat_lt}
 use Rattle.std.specs.Option.{option_map_or}
 use Rattle.std.proofs.lemmas.Bool.{le-ltb}
-use Rattle.std.proofs.lemmas.List.{length-set, set-set, set-get_or, get_or-set_same}
-use Rattle.std.proofs.lemmas.Option.{slice_get-get_or, slice_get_within, get_or_from_slice_get}
+use Rattle.std.proofs.lemmas.List.{set-set, set-get_or}
+use Rattle.std.proofs.lemmas.Option.{slice_get_within, get_or_from_slice_get}
+use Rattle.cxl_enc.proofs.Lists.{get_same}
 use Rattle.cxl_regs.specs.declared.decoder.Decoder.{Decoder}
 use Rattle.cxl_regs.specs.declared.effect.Effect.{Effect}
 use Rattle.cxl_regs.specs.Registers.{Registers}
@@ -13,17 +14,6 @@ use Rattle.cxl_regs.specs.Writes.{AfterWrite, with_decoder, after_decoder, after
 use Rattle.cxl_regs.specs.Blocks.{blocks_after}
 
 -- ---- lists with one element set
-
-pub get_same : {X : Type 0} (xs : List X) (i : ℕ) (x : X) → i < length xs → slice_get (slice_set xs i x) i ≡ Some x
-get_same xs i x within =
-    slice_get-get_or (set xs i x) i x (omega (arith, length-set xs i x)) ∙ ap (λ y. Some y) (get_or-set_same xs i x x within)
-
-pub get_other : {X : Type 0} (xs : List X) (i k : ℕ) (x : X) → k ≢ i → slice_get (slice_set xs i x) k ≡ slice_get xs k
-get_other [] i k x ne = refl
-get_other (y ∷ ys) zero zero x ne = absurd (ne refl)
-get_other (y ∷ ys) zero (suc k) x ne = refl
-get_other (y ∷ ys) (suc i) zero x ne = refl
-get_other (y ∷ ys) (suc i) (suc k) x ne = get_other ys i k x (λ e. ne (ap (λ (n : ℕ). suc n) e))
 
 pub set_there : {X : Type 0} (xs : List X) (i : ℕ) (x : X) → slice_get xs i ≡ Some x → set xs i x ≡ xs
 set_there xs i x here = ap (set xs i) (sym (get_or_from_slice_get xs i x x here)) ∙ set-get_or xs i x

@@ -8,6 +8,8 @@ use Rattle.std.proofs.lemmas.List.Elements.{All-head, All-tail, All-contains, Co
 use Rattle.std.proofs.lemmas.List.Quantifiers.{position-Some}
 use Rattle.std.proofs.lemmas.List.Sums.{fold-append}
 use Rattle.std.proofs.lemmas.Option.{slice_get-get_or, slice_get_within}
+use Rattle.cxl_enc.proofs.Lists.{get_same}
+use Rattle.cxl_enc.proofs.Options.{and_some}
 use Rattle.cxl_regs.specs.declared.decoder.Decoder.{Decoder}
 use Rattle.cxl_regs.specs.declared.effect.CommitRule.{CommitRule}
 use Rattle.cxl_regs.specs.Registers.{Registers, IsDecoder, IsBlock, reset_decoder}
@@ -23,16 +25,17 @@ use Rattle.cxl_regs.specs.declared.reading.Range.{Range}
 use Rattle.cxl_model.specs.Accepted.{KeepsBlocks, IsAccepted}
 use Rattle.cxl_model.specs.Regions.{region_range}
 use Rattle.cxl_model.specs.Plans.{committed_row, block_with_row, with_rows, IsRow, IsLegalPlan}
+use Rattle.cxl_model.proofs.RangeRules.{block_keeps}
 use Rattle.cxl_span.specs.Breaches.{BlockKeeps}
+use Rattle.cxl_span.proofs.RulesBroken.{kept_at}
 use Rattle.cxl_apply.specs.declared.write.Write.{Write}
 use Rattle.cxl_apply.specs.Jobs.{row_writes, CanCreate, AreOfDifferentNodes, AreCreateWrites, blocks_after_write, blocks_after_writes}
-use Rattle.cxl_apply.proofs.Places.{get_same}
 use Rattle.cxl_apply.proofs.Words.{WordsLaw, takes_words, takes_all_words}
 use Rattle.cxl_apply.proofs.RowWrites.{IsFree, made7, made8, broken, tried, row_leads}
 use Rattle.cxl_apply.proofs.JobWrites.{AreUntouched, free_of, free_in, apart_rest, untouched_rest, all_at, all_falling, falling_apart}
-use Rattle.cxl_apply.proofs.BlockRules.{FirstLaw, clean_flags, kept_at, no_rule, none_above_free, same_before}
+use Rattle.cxl_apply.proofs.BlockRules.{FirstLaw, clean_flags, no_rule, none_above_free, same_before}
 use Rattle.cxl_apply.proofs.Folds.{change, get_fold_some, fold_order}
-use Rattle.cxl_apply.proofs.Systems.{HasBlock, block_of, endpoint_is, block_keeps}
+use Rattle.cxl_apply.proofs.Systems.{HasBlock, block_of, endpoint_is}
 
 -- ---- a row of a plan
 
@@ -55,9 +58,6 @@ place_of_row s r row is =
       free = not-true (get_or at.block.decoders row.index reset_decoder).committed (ap (λ (ds : List Decoder). not (get_or ds row.index reset_decoder).committed) (sym at.decoders) ∙ found.1);
     }
 
-pub some_and : {X : Type 0} (o : Option X) (P : X → Type 0) (x : X) → o ≡ Some x → P x → IsSomeAnd o P
-some_and o P x is holds = subst (λ p. IsSomeAnd p P) (sym is) holds
-
 -- a row of a plan over an image that keeps its rules can be made
 pub can_create : FirstLaw → (s : System) (r : Range) (row : Row) → KeepsBlocks s → IsRow s r row → CanCreate s.blocks row
 can_create law s r row keeps is =
@@ -67,12 +67,12 @@ can_create law s r row keeps is =
     let flags = clean_flags place.d (kept_at block 3 (ram_at s row.node) (pmem_at s row.node) row.index place.d rules place.here) place.free in
     record {
       top = record {
-        there = some_and (slice_get s.blocks row.node) (λ (b : Registers). row.index < length b.decoders) block place.at.here (slice_get_within block.decoders row.index place.d place.here);
-        top = some_and (slice_get s.blocks row.node) (λ (b : Registers). (j : ℕ) (e : Decoder) → row.index < j → slice_get b.decoders j ≡ Some e → e.committed ≡ false) block place.at.here
+        there = and_some (slice_get s.blocks row.node) (λ (b : Registers). row.index < length b.decoders) block place.at.here (slice_get_within block.decoders row.index place.d place.here);
+        top = and_some (slice_get s.blocks row.node) (λ (b : Registers). (j : ℕ) (e : Decoder) → row.index < j → slice_get b.decoders j ≡ Some e → e.committed ≡ false) block place.at.here
             (λ j e above here. none_above_free law block (ram_at s row.node) (pmem_at s row.node) row.index j place.d e rules place.here place.free above here);
       };
-      free = some_and (slice_get s.blocks row.node) (λ (b : Registers). IsSomeAnd (slice_get b.decoders row.index) (λ (d : Decoder). (d.committed ≡ false) × (d.commit ≡ false) × (d.error ≡ false))) block place.at.here
-          (some_and (slice_get block.decoders row.index) (λ (d : Decoder). (d.committed ≡ false) × (d.commit ≡ false) × (d.error ≡ false)) place.d place.here (place.free, flags.1, flags.0));
+      free = and_some (slice_get s.blocks row.node) (λ (b : Registers). IsSomeAnd (slice_get b.decoders row.index) (λ (d : Decoder). (d.committed ≡ false) × (d.commit ≡ false) × (d.error ≡ false))) block place.at.here
+          (and_some (slice_get block.decoders row.index) (λ (d : Decoder). (d.committed ≡ false) × (d.commit ≡ false) × (d.error ≡ false)) place.d place.here (place.free, flags.1, flags.0));
       unlocked = is.unlocked;
       kept = record { base = is.kept.base; size = is.kept.size; ways = is.kept.ways; gran = is.kept.gran; tail = is.kept.tail };
     }

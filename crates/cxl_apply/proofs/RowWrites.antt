@@ -3,6 +3,7 @@ use Rattle.std.proofs.Common.{◌≡◌, ℕ, ◌+◌, ◌-◌, ◌%◌, ◌^◌
 use Rattle.std.specs.Prelude.{slice_get, slice_index, nat_lt, ◌==◌, unwrap_or}
 use Rattle.std.proofs.lemmas.Bool.{le-ltb, cases_eq}
 use Rattle.std.proofs.lemmas.List.{drop-set-lt}
+use Rattle.cxl_enc.proofs.Lists.{get_other}
 use Rattle.cxl_regs.specs.declared.decoder.Decoder.{Decoder}
 use Rattle.cxl_regs.specs.declared.effect.CommitRule.{CommitRule}
 use Rattle.cxl_regs.specs.declared.effect.Effect.{Effect}
@@ -15,7 +16,7 @@ use Rattle.cxl_regs.specs.Blocks.{word_in}
 use Rattle.cxl_model.specs.declared.plan.Row.{Row}
 use Rattle.cxl_apply.specs.declared.write.Write.{Write}
 use Rattle.cxl_apply.specs.Jobs.{unmarked, with_commit, word_write, commit_write, row_writes, release_write, HasWords}
-use Rattle.cxl_apply.proofs.Places.{get_other, IsThere, put, same_put, put_step}
+use Rattle.cxl_apply.proofs.Places.{IsThere, put, same_put, put_step}
 use Rattle.cxl_apply.proofs.Words.{low_back, low_back_whole, high_back, ControlReads, configured, word_put, control_put, commit_put, release_put}
 use Rattle.cxl_apply.proofs.Walks.{Leads, leads_none, leads_more}
 

@@ -4,6 +4,7 @@ use Rattle.std.specs.Prelude.{slice_get, All, Contains, option_map}
 use Rattle.std.proofs.lemmas.Bool.{cases_order, false≢true}
 use Rattle.std.proofs.lemmas.List.Elements.{Contains-get_or}
 use Rattle.std.proofs.lemmas.Option.{slice_get_within, same_Some, none-some}
+use Rattle.cxl_enc.proofs.Lists.{get_same, get_other, item}
 use Rattle.cxl_regs.specs.declared.decoder.Decoder.{Decoder}
 use Rattle.cxl_regs.specs.Registers.{Registers, IsBlock}
 use Rattle.cxl_regs.specs.Writes.{any_committed, with_decoder}
@@ -17,16 +18,17 @@ use Rattle.cxl_model.specs.Accepted.{KeepsBlocks}
 use Rattle.cxl_model.specs.Changes.{HaveSameDecoders}
 use Rattle.cxl_model.specs.Plans.{committed_row}
 use Rattle.cxl_model.specs.Regions.{region_range}
+use Rattle.cxl_model.proofs.RangeRules.{block_keeps}
+use Rattle.cxl_model.proofs.OtherBlocks.{decoders_are, keeps_again}
 use Rattle.cxl_apply.specs.declared.write.Write.{Write}
 use Rattle.cxl_apply.specs.Jobs.{CanCreate, CanRelease, AreCreateWrites, AreReleaseWrites, blocks_done}
 use Rattle.cxl_apply.specs.Releases.{rows_of, first_locked, first_not_last}
-use Rattle.cxl_apply.proofs.Places.{get_same, get_other}
 use Rattle.cxl_apply.proofs.Words.{WordsLaw}
 use Rattle.cxl_apply.proofs.Walks.{Walks, holds_at}
 use Rattle.cxl_apply.proofs.RowWrites.{let_go, made8}
 use Rattle.cxl_apply.proofs.JobWrites.{AllGood, FitsCreate, FitsRelease, create_walks, release_walks, all_falling, falling_apart, all_rising, rising_apart}
 use Rattle.cxl_apply.proofs.BlockRules.{FirstLaw, each_above, clean_keeps}
-use Rattle.cxl_apply.proofs.Systems.{block_of, decoders_are, block_keeps, some_within, keeps_again}
+use Rattle.cxl_apply.proofs.Systems.{block_of}
 use Rattle.cxl_apply.proofs.Planned.{Planned, all_can, row_commits, with_row_keeps}
 use Rattle.cxl_apply.proofs.Freed.{HasRange, range_parts, row_has_range, IsLast, last_rows, all_can_release}
 
@@ -99,7 +101,7 @@ stays_caps s r blocks long good n None is =
     none_too None at = refl
     none_too (Some b) at =
         let within : n < length s.blocks = slice_get_within s.blocks n b at in
-        let some = some_within blocks n (omega arith) in
+        let some = item blocks n (omega arith) in
         absurd (none-some some.0 (sym is ∙ some.1))
 stays_caps s r blocks long good n (Some new) is =
     let stays = good n new is in ap (λ (c : ℕ). Some c) stays.cap ∙ sym (ap (λ (o : Option Registers). option_map (λ (b : Registers). b.cap) o) stays.was)
@@ -116,7 +118,7 @@ stays_same s r other blocks long good apart = record {
   there = λ n i j d at has low.
       let mine = block_of s n i (slice_get_within (decoders_at s n) i d at) in
       let within : n < length s.blocks = slice_get_within s.blocks n mine.block mine.here in
-      let new = some_within blocks n (omega arith) in
+      let new = item blocks n (omega arith) in
       let stays = good n new.0 new.1 in
       let same : mine.block ≡ stays.block = same_Some mine.block stays.block (sym mine.here ∙ stays.was) in
       let is = range_parts other d has in

@@ -1,6 +1,7 @@
 use Rattle.std.proofs.Common.{◌≡◌, true, ◌<◌, List, length, get_or, All, ap, ◌∙◌, arith}
 use Rattle.std.proofs.lemmas.List.{length-map}
 use Rattle.std.proofs.lemmas.List.Elements.{Contains-get_or}
+use Rattle.cxl_enc.proofs.Numbers.{some_first_factor}
 use Rattle.cxl_regs.specs.declared.reading.Range.{Range}
 use Rattle.cxl_window.specs.Fields.{WindowFields}
 use Rattle.cxl_model.specs.declared.found.Found.{Found}
@@ -14,7 +15,7 @@ use Rattle.cxl_apply.specs.declared.write.Write.{Write}
 use Rattle.cxl_apply.specs.Jobs.{release_write}
 use Rattle.cxl_apply.specs.Releases.{rows_of}
 use Rattle.cxl_apply.proofs.Bounds.{length_created}
-use Rattle.cxl_apply.proofs.FewWrites.{ServersLaw, few_servers, some_of_product, some_of_factor, released_rows_serve, created_row_serves}
+use Rattle.cxl_apply.proofs.FewWrites.{ServersLaw, few_servers, some_of_factor, released_rows_serve, created_row_serves}
 use Rattle.cxl_apply.proofs.JobWrites.{all_falling, falling_apart, all_rising, rising_apart}
 use Rattle.cxl_apply.proofs.Planned.{plan_apart}
 use Rattle.cxl_apply.proofs.Shapes.{planned_system}
@@ -30,7 +31,7 @@ servers c s w found system region =
     let all = c.endpoints_lie_evenly.ensures.all s r system region.whole region.committed in
     record {
       under = λ n serving.
-          some_of_product (length (endpoints_under s r n)) (ways_above s r n) w.ways (range_ways s r)
+          some_first_factor (length (endpoints_under s r n)) (ways_above s r n) w.ways (range_ways s r)
           (c.endpoints_lie_evenly.ensures.under s r w n system region.whole region.window (c.endpoints_lie_evenly.ensures.served s r n system region.whole serving)) (omega arith);
       few = omega arith;
     }
