@@ -1,13 +1,13 @@
 -- Writes that are made, or taken back, one after another.
-use Rattle.std.proofs.Common.{◌≡◌, ◌≢◌, ℕ, suc, ◌+◌, ◌-◌, ◌<◌, ◌≤◌, List, [], ◌∷◌, ◌++◌, length, get_or, map, reverse, take, drop, Option, Some, None, refl, sym, ap, ◌∙◌, subst, arith, append_assoc, length-drop}
+use Rattle.std.proofs.Common.{◌≡◌, ◌≢◌, ℕ, suc, ◌+◌, ◌-◌, ◌<◌, ◌≤◌, List, [], ◌∷◌, ◌++◌, length, get_or, map, reverse, take, drop, Some, refl, sym, ap, ◌∙◌, subst, arith, length-drop}
 use Rattle.std.specs.Prelude.{slice_get}
-use Rattle.std.proofs.lemmas.List.{append-nil, map-append, reverse-append, take_more, drop_more, get_or-drop}
+use Rattle.std.proofs.lemmas.List.{map-append, reverse-append, take_more, drop_more, get_or-drop}
 use Rattle.std.proofs.lemmas.Option.{slice_get_within, get_or_from_slice_get}
 use Rattle.cxl_enc.specs.Faults.{LeavesCount}
 use Rattle.cxl_regs.specs.Registers.{Registers}
-use Rattle.cxl_bus.specs.declared.sent.Sent.{Sent}
 use Rattle.cxl_bus.specs.RegsState.{RegsState}
-use Rattle.cxl_bus.specs.Trail.{trail_after, trail_with}
+use Rattle.cxl_bus.specs.Trail.{trail_with}
+use Rattle.cxl_bus.proofs.Trails.{trail_nothing, trail_more}
 use Rattle.cxl_apply.specs.declared.write.Write.{Write}
 use Rattle.cxl_apply.specs.declared.write.Stepped.{Stepped}
 use Rattle.cxl_apply.specs.declared.write.Stepped.TheVariants.{Done, More, BusFault}
@@ -54,19 +54,6 @@ taken_back_next writes n upto write order is =
   where
     reverse-cons : (x : Write) (xs : List Write) → reverse (x ∷ xs) ≡ reverse xs ++ x ∷ []
     reverse-cons x xs = reverse-append (x ∷ []) xs
-
--- ---- trails
-
-trail_nothing : (trail : Option (List Sent)) → trail ≡ trail_with trail []
-trail_nothing None = refl
-trail_nothing (Some sent) = ap (λ (words : List Sent). Some words) (sym (append-nil sent))
-
--- words, and one more
-trail_more : (trail now : Option (List Sent)) (words : List Sent) (node off value : ℕ) → now ≡ trail_with trail words
-    → trail_after now node off value ≡ trail_with trail (words ++ record { node = node; off = off; value = value } ∷ [])
-trail_more None now words node off value is = ap (λ (t : Option (List Sent)). trail_after t node off value) is
-trail_more (Some sent) now words node off value is =
-    ap (λ (t : Option (List Sent)). trail_after t node off value) is ∙ ap (λ (all : List Sent). Some all) (append_assoc sent words (record { node = node; off = off; value = value } ∷ []))
 
 -- ---- writes that are made
 
