@@ -1,28 +1,14 @@
 -- `auto` and decimal digits are a name.
-use Rattle.std.proofs.Common.{◌≡◌, ℕ, ◌^◌, ◌<◌, Bool, true, false, ◌&&◌, List, [], ◌∷◌, length, refl, sym, subst, ◌∙◌, arith}
+use Rattle.std.proofs.Common.{◌≡◌, ℕ, ◌^◌, ◌<◌, List, length, refl, sym, subst, ◌∙◌, arith}
 use Rattle.std.specs.Prelude.{decimal, codes}
-use Rattle.std.specs.Char.{digit_value}
 use Rattle.std.specs.List.{list_all}
-use Rattle.std.specs.Str.Parse.{AllDigits}
-use Rattle.std.proofs.lemmas.Bool.Decides.{nat_tests}
 use Rattle.std.proofs.lemmas.Fmt.{decimal_is_IsNumeral, decimal_nonempty, length-decimal-le}
 use Rattle.std.proofs.lemmas.List.{length-append}
 use Rattle.std.proofs.lemmas.List.Folds.{list_all-append}
-use Rattle.std.proofs.lemmas.Str.Parse.{digit_from_value}
+use Rattle.std.proofs.lemmas.Bool.{and_from}
 use Rattle.cxl_enc.specs.Name.{IsName, is_name_byte}
+use Rattle.cxl_enc.proofs.NameBytes.{digits_named}
 use Rattle.cxl_machine.specs.Sound.{auto_name}
-
-both : (p q : Bool) → p ≡ true → q ≡ true → (p && q) ≡ true
-both true true a b = refl
-both true false a b = b
-both false q a b = a
-
-digit_named : (c : ℕ) → digit_value c < 10 → is_name_byte c ≡ true
-digit_named c low = let range = digit_from_value c low in grind (arith, nat_tests)
-
-digits_named : (ds : List ℕ) → AllDigits 10 ds → list_all is_name_byte ds ≡ true
-digits_named [] all = refl
-digits_named (d ∷ ds) all = both (is_name_byte d) (list_all is_name_byte ds) (digit_named d all.0) (digits_named ds all.1)
 
 auto_is_name : (i : ℕ) → i < 256 → IsName (auto_name i)
 auto_is_name i few =
@@ -35,7 +21,7 @@ auto_is_name i few =
     record {
       some = omega (arith, len, some);
       few = omega (arith, len, short, front);
-      each = list_all-append is_name_byte (codes "auto") (decimal i) ∙ both (list_all is_name_byte (codes "auto")) (list_all is_name_byte (decimal i)) refl (digits_named (decimal i) (decimal_is_IsNumeral i fits).0.1);
+      each = list_all-append is_name_byte (codes "auto") (decimal i) ∙ and_from (list_all is_name_byte (codes "auto")) (list_all is_name_byte (decimal i)) refl (digits_named (decimal i) (decimal_is_IsNumeral i fits).0.1);
     }
 
 pub named_so : (bytes : List ℕ) (i : ℕ) → i < 256 → bytes ≡ auto_name i → IsName bytes

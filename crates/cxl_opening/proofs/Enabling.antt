@@ -3,7 +3,7 @@ use Rattle.std.proofs.Common.{◌≡◌, ℕ, zero, suc, ◌+◌, ◌<◌, ◌�
 use Rattle.std.specs.Prelude.{slice_get, slice_set, filter, All, IsSomeAnd}
 use Rattle.std.specs.Option.{option_map_or}
 use Rattle.std.specs.List.{range_with_len}
-use Rattle.std.proofs.lemmas.List.{take_more, map-append, append-nil, length-set}
+use Rattle.std.proofs.lemmas.List.{take_more, map-append, length-set}
 use Rattle.std.proofs.lemmas.List.Elements.{All-filter}
 use Rattle.std.proofs.lemmas.List.FromFn.{length-range_with_len, get_or-range_with_len}
 use Rattle.std.proofs.lemmas.List.Sums.{fold-append}
@@ -13,19 +13,18 @@ use Rattle.cxl_regs.specs.Registers.{Registers, IsBlock}
 use Rattle.cxl_regs.specs.Words.{HasWord}
 use Rattle.cxl_regs.specs.Writes.{after_word, after_global, dropped}
 use Rattle.cxl_regs.specs.Blocks.{IsPlace, HasPlacesOf, blocks_after}
+use Rattle.cxl_regs.proofs.DecoderRanges.{decoding}
 use Rattle.cxl_topo.specs.declared.node.Node.{Node}
 use Rattle.cxl_topo.specs.Kinds.{is_endpoint}
 use Rattle.cxl_topo.specs.Tree.{is_endpoint_at}
 use Rattle.cxl_bus.specs.declared.sent.Sent.{Sent}
 use Rattle.cxl_bus.specs.RegsState.{RegsState, IsUntouched}
 use Rattle.cxl_bus.specs.Trail.{trail_after, trail_with, blocks_sent}
+use Rattle.cxl_bus.proofs.Trails.{trail_nothing, trail_more}
 use Rattle.cxl_model.specs.System.{System, IsSystem}
 use Rattle.cxl_machine.specs.Sound.{enabled_blocks}
 use Rattle.cxl_opening.specs.Opening.{endpoints_in, enabling}
 use Rattle.cxl_opening.specs.Opened.{StopsEnabling}
-
-abbrev decoding : Registers → Registers
-decoding block = record block { enabled = true }
 
 abbrev enables : ℕ → Sent
 enables node = record { node = node; off = 4; value = 2 }
@@ -178,15 +177,6 @@ decoding_more endpoints n old now new low so_far is = record {
 
 -- ---- on the bus
 
-trail_nothing : (trail : Option (List Sent)) → trail ≡ trail_with trail []
-trail_nothing None = refl
-trail_nothing (Some sent) = ap (λ (words : List Sent). Some words) (sym (append-nil sent))
-
-trail_more : (trail now : Option (List Sent)) (words : List Sent) (word : Sent) → now ≡ trail_with trail words → trail_after now word.node word.off word.value ≡ trail_with trail (words ++ word ∷ [])
-trail_more None now words word is = ap (λ (t : Option (List Sent)). trail_after t word.node word.off word.value) is
-trail_more (Some sent) now words word is =
-    ap (λ (t : Option (List Sent)). trail_after t word.node word.off word.value) is ∙ ap (λ (all : List Sent). Some all) (append_assoc sent words (word ∷ []))
-
 -- the first n of these endpoints were let decode
 pub record HasEnabled (endpoints : List ℕ) (n : ℕ) (old new : RegsState) : Type 0 where
   pub blocks : new.blocks ≡ blocks_sent old.blocks (enabling (take n endpoints))
@@ -215,7 +205,7 @@ enabled_more endpoints n old now new low so_far blocks trail counts alone unswal
     record {
       blocks = blocks ∙ ap (λ (bs : List Registers). blocks_after bs (get_or endpoints n 0) 4 2) so_far.blocks ∙ sym (sent_more old.blocks endpoints n low);
       words =
-          trail ∙ trail_more old.trail now.trail (enabling (take n endpoints)) (enables (get_or endpoints n 0)) so_far.words
+          trail ∙ trail_more old.trail now.trail (enabling (take n endpoints)) (get_or endpoints n 0) 4 2 so_far.words
           ∙ ap (trail_with old.trail) (sym (enabling_more endpoints n low));
       places = λ node off there. subst (λ (bs : List Registers). IsPlace bs node off) (sym blocks) (keep now.blocks (get_or endpoints n 0) 4 2 node off (so_far.places node off there));
       counts = omega arith;
