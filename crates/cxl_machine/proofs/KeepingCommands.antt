@@ -7,7 +7,6 @@ use Rattle.std.proofs.lemmas.List.Elements.{All-nil, All-cons}
 use Rattle.std.proofs.lemmas.Option.{none-some}
 use Rattle.std.proofs.lemmas.Slice.Eq.{bytes_eq-Decides}
 use Rattle.cxl_script.specs.declared.command.Command.{Command}
-use Rattle.cxl_script.specs.declared.command.Command.TheVariants as commands
 use Rattle.cxl_script.specs.declared.command.Create.{Create}
 use Rattle.cxl_model.specs.declared.plan.Plan.{Plan}
 use Rattle.cxl_model.specs.declared.request.Request.{Request}
@@ -24,6 +23,7 @@ use Rattle.cxl_machine.specs.Regions.{AnswersWhole, begin_answer}
 use Rattle.cxl_machine.specs.Answers.{Answers}
 use Rattle.cxl_machine.specs.Creating.{AsksLegally}
 use Rattle.cxl_machine.specs.Sound.{IsMachine}
+use Rattle.cxl_machine.proofs.CommandKinds.{by_kind}
 use Rattle.cxl_machine.proofs.KeepingSteps.{at_done_keeps, step_keeps, abort_keeps}
 use Rattle.cxl_machine.proofs.KeepingBegun.{none_of_map, none_there, idle}
 
@@ -124,21 +124,15 @@ module _ (laws : PartLaws) (m : Machine) (is : IsMachine m) where
   undoes after job pending same = subst IsMachine (sym same) (laws.undoes m job is pending)
 
   pub command_keeps : (command : Command) (outcome : BusOutcome) (answer : Answer) → StoresBytes command → Answers m command outcome answer → IsMachine answer.machine
-  command_keeps (commands.Create create) outcome answer stores at =
-      whole_keeps at.0 outcome answer (λ job same. laws.creates m create job is (subst (AsksCreate m create) same at.1)) at.2
-  command_keeps (commands.Destroy name) outcome answer stores at = whole_keeps (asked_release m name) outcome answer (release_begins name) at
-  command_keeps (commands.BeginCreate create) outcome answer stores at =
-      given answer _ at.2.told (begin_keeps at.0 (λ job same. laws.creates m create job is (subst (AsksCreate m create) same at.1)))
-  command_keeps (commands.BeginDestroy name) outcome answer stores at = given answer _ at.told (begin_keeps (asked_release m name) (release_begins name))
-  command_keeps (commands.Step steps) outcome answer stores at = step_keeps m is answer (finishes answer.machine) (undoes answer.machine) steps outcome at
-  command_keeps commands.Abort outcome answer stores at = abort_keeps m is answer (finishes answer.machine) (undoes answer.machine) outcome at
-  command_keeps (commands.Show name) outcome answer stores at = laws.accesses m (commands.Show name) outcome answer is refl stores at
-  command_keeps (commands.Down h) outcome answer stores at = laws.accesses m (commands.Down h) outcome answer is refl stores at
-  command_keeps (commands.Up asked) outcome answer stores at = laws.accesses m (commands.Up asked) outcome answer is refl stores at
-  command_keeps (commands.Load load) outcome answer stores at = laws.accesses m (commands.Load load) outcome answer is refl stores at
-  command_keeps (commands.Store store) outcome answer stores at = laws.accesses m (commands.Store store) outcome answer is refl stores at
-  command_keeps (commands.Poison asked) outcome answer stores at = laws.accesses m (commands.Poison asked) outcome answer is refl stores at
-  command_keeps (commands.Range reach) outcome answer stores at = laws.accesses m (commands.Range reach) outcome answer is refl stores at
-  command_keeps (commands.Spread reach) outcome answer stores at = laws.accesses m (commands.Spread reach) outcome answer is refl stores at
-  command_keeps (commands.Copy pair) outcome answer stores at = laws.accesses m (commands.Copy pair) outcome answer is refl stores at
-  command_keeps (commands.Move pair) outcome answer stores at = laws.accesses m (commands.Move pair) outcome answer is refl stores at
+  command_keeps =
+      by_kind (λ command. (outcome : BusOutcome) (answer : Answer) → StoresBytes command → Answers m command outcome answer → IsMachine answer.machine)
+      record {
+        create = λ create outcome answer stores at. whole_keeps at.0 outcome answer (λ job same. laws.creates m create job is (subst (AsksCreate m create) same at.1)) at.2;
+        destroy = λ name outcome answer stores at. whole_keeps (asked_release m name) outcome answer (release_begins name) at;
+        begin_create = λ create outcome answer stores at.
+            given answer _ at.2.told (begin_keeps at.0 (λ job same. laws.creates m create job is (subst (AsksCreate m create) same at.1)));
+        begin_destroy = λ name outcome answer stores at. given answer _ at.told (begin_keeps (asked_release m name) (release_begins name));
+        step = λ steps outcome answer stores at. step_keeps m is answer (finishes answer.machine) (undoes answer.machine) steps outcome at;
+        abort = λ outcome answer stores at. abort_keeps m is answer (finishes answer.machine) (undoes answer.machine) outcome at;
+      }
+      (λ command access outcome answer stores at. laws.accesses m command outcome answer is access stores at)

@@ -1,3 +1,5 @@
+pub mod CommandKinds
+pub mod AccessesLeave
 pub mod Going
 pub mod Leaving
 pub mod LiveRegions

@@ -1,28 +1,18 @@
 -- No command changes the host, and an access no image and no job.
-use Rattle.std.proofs.Common.{◌≡◌, ℕ, ◌+◌, Bool, true, false, not, if◌then◌else◌, List, Result, Ok, Err, Option, Some, None, refl, sym, ap, ◌∙◌, subst}
-use Rattle.std.specs.Prelude.{◌==◌, nat_lt, nat_le}
-use Rattle.std.specs.Option.{option_map_or}
-use Rattle.std.specs.Str.{bytes_eq}
-use Rattle.std.proofs.lemmas.Bool.{false≢true}
+use Rattle.std.proofs.Common.{◌≡◌, ℕ, ◌+◌, Bool, true, false, if◌then◌else◌, Result, Ok, Err, Option, Some, None, refl, sym, ap, ◌∙◌, subst}
+use Rattle.std.specs.Prelude.{nat_le}
 use Rattle.cxl_script.specs.declared.command.Command.{Command}
-use Rattle.cxl_script.specs.declared.command.Command.TheVariants as commands
-use Rattle.cxl_script.specs.declared.command.Pair.{Pair}
-use Rattle.cxl_script.specs.declared.command.Poison.{Poison}
-use Rattle.cxl_script.specs.declared.command.Store.{Store}
-use Rattle.cxl_script.specs.declared.command.Up.{Up}
 use Rattle.cxl_reply.specs.declared.reply.Reply.{Reply}
 use Rattle.cxl_model.specs.System.{System}
-use Rattle.cxl_machine.specs.Machine.{Live, RegionJob, JobKind, Creates, Releases, Machine, HasSameHost, live_named, live_at, free_frames}
+use Rattle.cxl_machine.specs.Machine.{RegionJob, JobKind, Creates, Releases, Machine, HasSameHost}
 use Rattle.cxl_machine.specs.Jobs.{total_of, begun, settled_by, finished}
 use Rattle.cxl_machine.specs.Outcomes.{BusOutcome, NoFault, Undone, LeftPending, ReadFailed, is_access}
-use Rattle.cxl_machine.specs.Replies.{Answer, within_region, ends_within}
-use Rattle.cxl_machine.specs.Accesses.{store_into, frames_wanted, AnswersUp, no_endpoint, told}
-use Rattle.cxl_machine.specs.Reports.{AnswersShow, AnswersPoison}
-use Rattle.cxl_machine.specs.Reports as reports
+use Rattle.cxl_machine.specs.Replies.{Answer}
 use Rattle.cxl_machine.specs.Regions.{CarriesOutWhole, AnswersWhole, begin_answer, Steps, Aborts, OfPending}
-use Rattle.cxl_machine.specs.Copies.{for_two, copy_between, move_between, frames_for, pieces_of}
 use Rattle.cxl_machine.specs.Requests.{asked_release}
 use Rattle.cxl_machine.specs.Answers.{Answers}
+use Rattle.cxl_machine.proofs.AccessesLeave.{AccessLeaves, as_it_was, stored, copied, moved, access_leaves}
+use Rattle.cxl_machine.proofs.CommandKinds.{by_kind}
 
 -- the same image, job and frames
 pub record IsSameButBytes (m n : Machine) : Type 0 where
@@ -39,68 +29,14 @@ module _ (m : Machine) where
   same : IsSameButBytes m m
   same = record { settled = refl; job = refl; frames = refl }
 
-  given : (answer other : Answer) → answer ≡ other → Same other → Same answer
-  given answer other is own = subst Same (sym is) own
-
-  by_test : (b : Bool) (answer other : Answer) → Same answer → Same other → Same (if b then answer else other)
-  by_test true answer other first second = first
-  by_test false answer other first second = second
-
-  by_region : (o : Option Live) (answer : Live → Answer) (other : Answer) → ((region : Live) → Same (answer region)) → Same other → Same (option_map_or answer o other)
-  by_region None answer other each none = none
-  by_region (Some region) answer other each none = each region
-
-  inside : (h len : ℕ) (answer : Live → Answer) → ((region : Live) → Same (answer region)) → Same (within_region m h len answer)
-  inside h len answer each = by_region (live_at m h) _ _ (λ region. by_test (ends_within region.found h len) _ _ (each region) same) same
-
-  stored : (store : Store) (region : Live) → Same (store_into m store region)
-  stored store region = by_test (nat_lt (free_frames m) (frames_wanted region store)) _ _ same record { settled = refl; job = refl; frames = refl }
-
-  copied : (from to : Live) → Same (copy_between m from to)
-  copied from to = by_test (nat_lt (frames_for m to) (pieces_of from)) _ _ same record { settled = refl; job = refl; frames = refl }
-
-  moved : (from to : Live) → Same (move_between m from to)
-  moved from to = record { settled = refl; job = refl; frames = refl }
-
-  between : (pair : Pair) (answer : Live → Live → Answer) → ((from to : Live) → Same (answer from to)) → Same (for_two m pair answer)
-  between pair answer each =
-      by_region (live_named m pair.from) _ _
-      (λ from. by_region (live_named m pair.to) _ _
-      (λ to. by_test (bytes_eq pair.from pair.to) _ _ same (by_test (not (from.found.size == to.found.size)) _ _ same (each from to)))
-      same)
-      same
-
-  shown : (name : List ℕ) (outcome : BusOutcome) (answer : Answer) → AnswersShow m name outcome answer → Same answer
-  shown name NoFault answer at = given answer _ at (by_region (live_named m name) _ _ (λ region. same) same)
-  shown name Undone answer at = absurd at
-  shown name (LeftPending left) answer at = absurd at
-  shown name ReadFailed answer at = given answer _ at.1 same
-
-  up : (asked : Up) (answer : Answer) → AnswersUp m asked answer → Same answer
-  up asked answer (no_endpoint none at) = given answer _ at same
-  up asked answer (told endpoint reply there tells at) = given answer _ at same
-
-  poison : (asked : Poison) (answer : Answer) → AnswersPoison m asked answer → Same answer
-  poison asked answer (reports.no_endpoint none at) = given answer _ at same
-  poison asked answer (reports.told endpoint reply there tells at) = given answer _ at same
+  by_leaving : (command : Command) (answer : Answer) → AccessLeaves m command answer → Same answer
+  by_leaving command answer (as_it_was stays) = subst (IsSameButBytes m) (sym stays) same
+  by_leaving command answer (stored store region asks at fits room is) = subst Same (sym is) record { settled = refl; job = refl; frames = refl }
+  by_leaving command answer (copied pair from to asks are room is) = subst Same (sym is) record { settled = refl; job = refl; frames = refl }
+  by_leaving command answer (moved pair from to asks are is) = subst Same (sym is) record { settled = refl; job = refl; frames = refl }
 
   pub access_same : (command : Command) (outcome : BusOutcome) (answer : Answer) → is_access command ≡ true → Answers m command outcome answer → IsSameButBytes m answer.machine
-  access_same (commands.Create create) outcome answer access at = absurd (false≢true access)
-  access_same (commands.Destroy name) outcome answer access at = absurd (false≢true access)
-  access_same (commands.BeginCreate create) outcome answer access at = absurd (false≢true access)
-  access_same (commands.BeginDestroy name) outcome answer access at = absurd (false≢true access)
-  access_same (commands.Step steps) outcome answer access at = absurd (false≢true access)
-  access_same commands.Abort outcome answer access at = absurd (false≢true access)
-  access_same (commands.Show name) outcome answer access at = shown name outcome answer at
-  access_same (commands.Down h) outcome answer access at = given answer _ at.told (by_region (live_at m h) _ _ (λ region. same) same)
-  access_same (commands.Up asked) outcome answer access at = up asked answer at.1
-  access_same (commands.Load load) outcome answer access at = given answer _ at.told (inside load.h load.len _ (λ region. same))
-  access_same (commands.Store store) outcome answer access at = given answer _ at.told (inside store.h _ _ (stored store))
-  access_same (commands.Poison asked) outcome answer access at = poison asked answer at.1
-  access_same (commands.Range reach) outcome answer access at = given answer _ at.told (inside reach.h reach.len _ (λ region. same))
-  access_same (commands.Spread reach) outcome answer access at = given answer _ at.told (inside reach.h reach.len _ (λ region. same))
-  access_same (commands.Copy pair) outcome answer access at = given answer _ at.told (between pair _ copied)
-  access_same (commands.Move pair) outcome answer access at = given answer _ at.told (between pair _ moved)
+  access_same command outcome answer access at = by_leaving command answer (access_leaves m command outcome answer access at)
 
   -- ---- jobs
 
@@ -164,26 +100,20 @@ module _ (m : Machine) where
   pending None outcome answer goes each at = told_as answer _ at.told host
   pending (Some job) outcome answer goes each at = each job at
 
-  by_access : (command : Command) (outcome : BusOutcome) (answer : Answer) → is_access command ≡ true → Answers m command outcome answer → Hosts answer
-  by_access command outcome answer access at =
+  by_access : (command : Command) → is_access command ≡ true → (outcome : BusOutcome) (answer : Answer) → Answers m command outcome answer → Hosts answer
+  by_access command access outcome answer at =
       let own = access_same command outcome answer access at in
       record { nodes = ap (λ (s : System). s.nodes) own.settled; windows = ap (λ (s : System). s.windows) own.settled; frames = own.frames }
 
   pub same_host : (command : Command) (outcome : BusOutcome) (answer : Answer) → Answers m command outcome answer → HasSameHost m answer.machine
-  same_host (commands.Create create) outcome answer at = whole at.0 outcome answer at.2
-  same_host (commands.Destroy name) outcome answer at = whole (asked_release m name) outcome answer at
-  same_host (commands.BeginCreate create) outcome answer at = told_as answer _ at.2.told (begins at.0)
-  same_host (commands.BeginDestroy name) outcome answer at = told_as answer _ at.told (begins (asked_release m name))
-  same_host (commands.Step steps) outcome answer at =
-      pending m.job outcome answer (λ job. Steps m job steps outcome answer) (λ job. stepped job steps outcome answer) at
-  same_host commands.Abort outcome answer at = pending m.job outcome answer (λ job. Aborts m job outcome answer) (λ job. aborted job outcome answer) at
-  same_host (commands.Show name) outcome answer at = by_access (commands.Show name) outcome answer refl at
-  same_host (commands.Down h) outcome answer at = by_access (commands.Down h) outcome answer refl at
-  same_host (commands.Up asked) outcome answer at = by_access (commands.Up asked) outcome answer refl at
-  same_host (commands.Load load) outcome answer at = by_access (commands.Load load) outcome answer refl at
-  same_host (commands.Store store) outcome answer at = by_access (commands.Store store) outcome answer refl at
-  same_host (commands.Poison asked) outcome answer at = by_access (commands.Poison asked) outcome answer refl at
-  same_host (commands.Range reach) outcome answer at = by_access (commands.Range reach) outcome answer refl at
-  same_host (commands.Spread reach) outcome answer at = by_access (commands.Spread reach) outcome answer refl at
-  same_host (commands.Copy pair) outcome answer at = by_access (commands.Copy pair) outcome answer refl at
-  same_host (commands.Move pair) outcome answer at = by_access (commands.Move pair) outcome answer refl at
+  same_host =
+      by_kind (λ command. (outcome : BusOutcome) (answer : Answer) → Answers m command outcome answer → HasSameHost m answer.machine)
+      record {
+        create = λ create outcome answer at. whole at.0 outcome answer at.2;
+        destroy = λ name outcome answer at. whole (asked_release m name) outcome answer at;
+        begin_create = λ create outcome answer at. told_as answer _ at.2.told (begins at.0);
+        begin_destroy = λ name outcome answer at. told_as answer _ at.told (begins (asked_release m name));
+        step = λ steps outcome answer at. pending m.job outcome answer (λ job. Steps m job steps outcome answer) (λ job. stepped job steps outcome answer) at;
+        abort = λ outcome answer at. pending m.job outcome answer (λ job. Aborts m job outcome answer) (λ job. aborted job outcome answer) at;
+      }
+      by_access

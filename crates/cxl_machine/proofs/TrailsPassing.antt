@@ -22,6 +22,7 @@ use Rattle.cxl_machine.specs.Answers.{Answers}
 use Rattle.cxl_machine.specs.Sound.{IsMachine}
 use Rattle.cxl_machine.specs.Trails.{forward, SendsWhole, SendsAsked, SendsSteps, SendsAbort, SendsPending, TrailOf, IsOnTheWay}
 use Rattle.cxl_machine.proofs.AlikeAnswers.{one_asked}
+use Rattle.cxl_machine.proofs.CommandKinds.{by_kind, sends_nothing}
 use Rattle.cxl_machine.proofs.KeepingSteps.{part_of}
 use Rattle.cxl_machine.proofs.PendingJobs.{JobLaws}
 use Rattle.cxl_machine.proofs.SameHost.{access_same}
@@ -131,29 +132,26 @@ module _ (laws : JobLaws) (begins : BegunLaws) (m : Machine) (is : IsMachine m) 
 
   pub between : (command : Command) (outcome : BusOutcome) (answer : Answer) (trail : List Sent) (k : ℕ) → Answers m command outcome answer → TrailOf m command outcome trail → k < length trail
       → IsOnTheWay m command (take k trail)
-  between (commands.Create create) outcome answer trail k (asked, asks, at) (asked', asks', sends) low =
-      whole_between (commands.Create create) asked (asked_create create asked asks) outcome answer trail k at
-      (subst (λ (a : Result RegionJob Reply). SendsAsked a outcome trail) (one_asked m create asked' asked asks' asks) sends) low
-  between (commands.Destroy name) outcome answer trail k at sends low =
-      whole_between (commands.Destroy name) (asked_release m name) (asked_name name) outcome answer trail k at sends low
-  between (commands.Step steps) outcome answer trail k at sends low =
-      by_job m.job refl outcome answer trail (λ job. Steps m job steps outcome answer) (λ job. SendsSteps job steps outcome trail) (λ none stays. no_word trail k none low)
-      (λ job pending goes sent. steps_between steps job pending outcome answer trail k goes sent low) at sends
-  between commands.Abort outcome answer trail k at sends low =
-      by_job m.job refl outcome answer trail (λ job. Aborts m job outcome answer) (λ job. SendsAbort job outcome trail) (λ none stays. no_word trail k none low)
-      (λ job pending goes sent. abort_between job pending outcome answer trail k goes sent low) at sends
-  between (commands.Show name) outcome answer trail k at sends low = no_word trail k sends low
-  between (commands.Down h) outcome answer trail k at sends low = no_word trail k sends low
-  between (commands.Up up) outcome answer trail k at sends low = no_word trail k sends low
-  between (commands.Load load) outcome answer trail k at sends low = no_word trail k sends low
-  between (commands.Store store) outcome answer trail k at sends low = no_word trail k sends low
-  between (commands.Poison poison) outcome answer trail k at sends low = no_word trail k sends low
-  between (commands.BeginCreate create) outcome answer trail k at sends low = no_word trail k sends low
-  between (commands.BeginDestroy name) outcome answer trail k at sends low = no_word trail k sends low
-  between (commands.Range reach) outcome answer trail k at sends low = no_word trail k sends low
-  between (commands.Spread reach) outcome answer trail k at sends low = no_word trail k sends low
-  between (commands.Copy pair) outcome answer trail k at sends low = no_word trail k sends low
-  between (commands.Move pair) outcome answer trail k at sends low = no_word trail k sends low
+  between =
+      by_kind
+      (λ command. (outcome : BusOutcome) (answer : Answer) (trail : List Sent) (k : ℕ) → Answers m command outcome answer → TrailOf m command outcome trail → k < length trail
+      → IsOnTheWay m command (take k trail))
+      record {
+        create = λ create outcome answer trail k at sent low.
+            whole_between (commands.Create create) at.0 (asked_create create at.0 at.1) outcome answer trail k at.2
+            (subst (λ (a : Result RegionJob Reply). SendsAsked a outcome trail) (one_asked m create sent.0 at.0 sent.1 at.1) sent.2) low;
+        destroy = λ name outcome answer trail k at sends low.
+            whole_between (commands.Destroy name) (asked_release m name) (asked_name name) outcome answer trail k at sends low;
+        begin_create = λ create outcome answer trail k at sends low. no_word trail k sends low;
+        begin_destroy = λ name outcome answer trail k at sends low. no_word trail k sends low;
+        step = λ steps outcome answer trail k at sends low.
+            by_job m.job refl outcome answer trail (λ job. Steps m job steps outcome answer) (λ job. SendsSteps job steps outcome trail) (λ none stays. no_word trail k none low)
+            (λ job pending goes sent. steps_between steps job pending outcome answer trail k goes sent low) at sends;
+        abort = λ outcome answer trail k at sends low.
+            by_job m.job refl outcome answer trail (λ job. Aborts m job outcome answer) (λ job. SendsAbort job outcome trail) (λ none stays. no_word trail k none low)
+            (λ job pending goes sent. abort_between job pending outcome answer trail k goes sent low) at sends;
+      }
+      (λ command access outcome answer trail k at sends low. no_word trail k (sends_nothing m command outcome trail access sends) low)
 
   -- ---- behind the last word
 
@@ -238,29 +236,26 @@ module _ (laws : JobLaws) (begins : BegunLaws) (m : Machine) (is : IsMachine m) 
 
   pub left : (command : Command) (outcome : BusOutcome) (answer : Answer) (trail : List Sent) → Answers m command outcome answer → TrailOf m command outcome trail
       → blocks_sent (image_of m) trail ≡ image_of answer.machine
-  left (commands.Create create) outcome answer trail (asked, asks, at) (asked', asks', sends) =
-      asked_left (commands.Create create) asked (asked_create create asked asks) outcome answer trail at
-      (subst (λ (a : Result RegionJob Reply). SendsAsked a outcome trail) (one_asked m create asked' asked asks' asks) sends)
-  left (commands.Destroy name) outcome answer trail at sends = asked_left (commands.Destroy name) (asked_release m name) (asked_name name) outcome answer trail at sends
-  left (commands.BeginCreate create) outcome answer trail (asked, asks, at) sends =
-      quiet trail answer sends
-      (begin_left asked (λ job same. (asked_create create asked asks job same).0.holds) ∙ sym (ap (λ (a : Answer). image_of a.machine) at.told))
-  left (commands.BeginDestroy name) outcome answer trail at sends =
-      quiet trail answer sends
-      (begin_left (asked_release m name) (λ job same. (asked_name name job same).0.holds) ∙ sym (ap (λ (a : Answer). image_of a.machine) at.told))
-  left (commands.Step steps) outcome answer trail at sends =
-      by_job m.job refl outcome answer trail (λ job. Steps m job steps outcome answer) (λ job. SendsSteps job steps outcome trail) (λ none stays. quiet trail answer none (sym (ap image_of stays)))
-      (λ job pending goes sent. steps_left steps job pending outcome answer trail goes sent) at sends
-  left commands.Abort outcome answer trail at sends =
-      by_job m.job refl outcome answer trail (λ job. Aborts m job outcome answer) (λ job. SendsAbort job outcome trail) (λ none stays. quiet trail answer none (sym (ap image_of stays)))
-      (λ job pending goes sent. abort_left job pending outcome answer trail goes sent) at sends
-  left (commands.Show name) outcome answer trail at sends = access_left (commands.Show name) outcome answer trail refl at sends
-  left (commands.Down h) outcome answer trail at sends = access_left (commands.Down h) outcome answer trail refl at sends
-  left (commands.Up up) outcome answer trail at sends = access_left (commands.Up up) outcome answer trail refl at sends
-  left (commands.Load load) outcome answer trail at sends = access_left (commands.Load load) outcome answer trail refl at sends
-  left (commands.Store store) outcome answer trail at sends = access_left (commands.Store store) outcome answer trail refl at sends
-  left (commands.Poison poison) outcome answer trail at sends = access_left (commands.Poison poison) outcome answer trail refl at sends
-  left (commands.Range reach) outcome answer trail at sends = access_left (commands.Range reach) outcome answer trail refl at sends
-  left (commands.Spread reach) outcome answer trail at sends = access_left (commands.Spread reach) outcome answer trail refl at sends
-  left (commands.Copy pair) outcome answer trail at sends = access_left (commands.Copy pair) outcome answer trail refl at sends
-  left (commands.Move pair) outcome answer trail at sends = access_left (commands.Move pair) outcome answer trail refl at sends
+  left =
+      by_kind
+      (λ command. (outcome : BusOutcome) (answer : Answer) (trail : List Sent) → Answers m command outcome answer → TrailOf m command outcome trail
+      → blocks_sent (image_of m) trail ≡ image_of answer.machine)
+      record {
+        create = λ create outcome answer trail at sent.
+            asked_left (commands.Create create) at.0 (asked_create create at.0 at.1) outcome answer trail at.2
+            (subst (λ (a : Result RegionJob Reply). SendsAsked a outcome trail) (one_asked m create sent.0 at.0 sent.1 at.1) sent.2);
+        destroy = λ name outcome answer trail at sends. asked_left (commands.Destroy name) (asked_release m name) (asked_name name) outcome answer trail at sends;
+        begin_create = λ create outcome answer trail at sends.
+            quiet trail answer sends
+            (begin_left at.0 (λ job same. (asked_create create at.0 at.1 job same).0.holds) ∙ sym (ap (λ (a : Answer). image_of a.machine) at.2.told));
+        begin_destroy = λ name outcome answer trail at sends.
+            quiet trail answer sends
+            (begin_left (asked_release m name) (λ job same. (asked_name name job same).0.holds) ∙ sym (ap (λ (a : Answer). image_of a.machine) at.told));
+        step = λ steps outcome answer trail at sends.
+            by_job m.job refl outcome answer trail (λ job. Steps m job steps outcome answer) (λ job. SendsSteps job steps outcome trail) (λ none stays. quiet trail answer none (sym (ap image_of stays)))
+            (λ job pending goes sent. steps_left steps job pending outcome answer trail goes sent) at sends;
+        abort = λ outcome answer trail at sends.
+            by_job m.job refl outcome answer trail (λ job. Aborts m job outcome answer) (λ job. SendsAbort job outcome trail) (λ none stays. quiet trail answer none (sym (ap image_of stays)))
+            (λ job pending goes sent. abort_left job pending outcome answer trail goes sent) at sends;
+      }
+      (λ command access outcome answer trail at sends. access_left command outcome answer trail access at (sends_nothing m command outcome trail access sends))
