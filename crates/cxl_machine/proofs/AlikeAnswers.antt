@@ -102,19 +102,12 @@ module _ (laws : CarriageLaws) (lists : OneTelling) (m : Machine) (is : IsMachin
       whole m asked outcome answer other one (subst (λ (a : Result RegionJob Reply). AnswersWhole m a outcome other) (one_asked m create asked' asked asks' asks) two)
   one_answer (commands.Destroy name) outcome answer other one two = whole m _ outcome answer other one two
   one_answer (commands.Show name) outcome answer other one two = shown m name outcome answer other one two
-  one_answer (commands.Down h) outcome answer other one two = gives outcome answer other _ one two
   one_answer (commands.Up asked) outcome answer other one two = up asked answer other one.1 two.1
-  one_answer (commands.Load load) outcome answer other one two = gives outcome answer other _ one two
-  one_answer (commands.Store store) outcome answer other one two = gives outcome answer other _ one two
   one_answer (commands.Poison asked) outcome answer other one two = poison asked answer other one.1 two.1
   one_answer (commands.BeginCreate create) outcome answer other (asked, asks, one) (asked', asks', two) =
       gives outcome answer other (begin_answer m asked) one (subst (λ (a : Result RegionJob Reply). Gives outcome other (begin_answer m a)) (one_asked m create asked' asked asks' asks) two)
-  one_answer (commands.BeginDestroy name) outcome answer other one two = gives outcome answer other _ one two
   one_answer (commands.Step steps) outcome answer other one two =
       pending m m.job outcome answer other (λ a job. Steps m job steps outcome a) (λ job. stepped m job steps outcome answer other) one two
   one_answer commands.Abort outcome answer other one two =
       pending m m.job outcome answer other (λ a job. Aborts m job outcome a) (λ job. aborted m job outcome answer other) one two
-  one_answer (commands.Range reach) outcome answer other one two = gives outcome answer other _ one two
-  one_answer (commands.Spread reach) outcome answer other one two = gives outcome answer other _ one two
-  one_answer (commands.Copy pair) outcome answer other one two = gives outcome answer other _ one two
-  one_answer (commands.Move pair) outcome answer other one two = gives outcome answer other _ one two
+  one_answer command outcome answer other one two = gives outcome answer other _ one two

@@ -1,68 +1,61 @@
 -- How a command can go, by its kind.
-use Rattle.std.proofs.Common.{◌≡◌, ℕ, Bool, true, Result, Ok, Err, Option, Some, None, List, refl, sym, subst}
+use Rattle.std.proofs.Common.{◌≡◌, ℕ, Bool, true, Result, Ok, Err, Option, Some, None, refl, sym, subst}
 use Rattle.cxl_script.specs.declared.command.Command.{Command}
 use Rattle.cxl_script.specs.declared.command.Command.TheVariants as commands
 use Rattle.cxl_reply.specs.declared.reply.Reply.{Reply}
-use Rattle.cxl_machine.specs.Machine.{RegionJob, Machine}
+use Rattle.cxl_machine.specs.Machine.{Live, RegionJob, Machine, live_named}
+use Rattle.cxl_machine.specs.Jobs.{total_of}
+use Rattle.cxl_machine.specs.Goings.{GoesWhole, GoesAsked, GoesSteps, GoesBack, GoesPending, GoesRead, CanGo}
 use Rattle.cxl_machine.specs.Outcomes.{BusOutcome, NoFault, Undone, LeftPending, ReadFailed, can_go, of_whole_job, of_steps, of_reads, of_no_call}
 use Rattle.cxl_machine.specs.Replies.{Answer}
-use Rattle.cxl_machine.specs.Reports.{AnswersShow}
-use Rattle.cxl_machine.specs.Regions.{CarriesOutWhole, AnswersWhole, Steps, Aborts, OfPending}
+use Rattle.cxl_machine.specs.Requests.{asked_release}
 use Rattle.cxl_machine.specs.Answers.{Answers}
+use Rattle.cxl_machine.proofs.GoingAnswers.{answered_goes}
 
 -- a test that passes where no call failed
 calm : (test : BusOutcome → Bool) (outcome : BusOutcome) → test NoFault ≡ true → outcome ≡ NoFault → test outcome ≡ true
 calm test outcome at is = subst (λ (o : BusOutcome). test o ≡ true) (sym is) at
 
-carried_out : (m : Machine) (job : RegionJob) (outcome : BusOutcome) (answer : Answer) → CarriesOutWhole m job outcome answer → of_whole_job outcome ≡ true
-carried_out m job NoFault answer is = refl
-carried_out m job Undone answer is = refl
-carried_out m job (LeftPending done) answer is = refl
-carried_out m job ReadFailed answer is = absurd is
+of_whole : (total : ℕ) (outcome : BusOutcome) → GoesWhole total outcome → of_whole_job outcome ≡ true
+of_whole total NoFault can = refl
+of_whole total Undone can = refl
+of_whole total (LeftPending done) can = refl
+of_whole total ReadFailed can = absurd can
 
-whole : (m : Machine) (asked : Result RegionJob Reply) (outcome : BusOutcome) (answer : Answer) → AnswersWhole m asked outcome answer → of_whole_job outcome ≡ true
-whole m (Ok job) outcome answer is = carried_out m job outcome answer is
-whole m (Err refusal) outcome answer is = calm of_whole_job outcome refl is.unfailing
+asked_goes : (asked : Result RegionJob Reply) (outcome : BusOutcome) → GoesAsked asked outcome → of_whole_job outcome ≡ true
+asked_goes (Ok job) outcome can = of_whole (total_of job) outcome can
+asked_goes (Err refusal) outcome can = calm of_whole_job outcome refl can
 
-stepped : (m : Machine) (job : RegionJob) (steps : ℕ) (outcome : BusOutcome) (answer : Answer) → Steps m job steps outcome answer → of_steps outcome ≡ true
-stepped m job steps NoFault answer is = refl
-stepped m job steps Undone answer is = absurd is
-stepped m job steps (LeftPending done) answer is = refl
-stepped m job steps ReadFailed answer is = absurd is
+steps_go : (job : RegionJob) (steps : ℕ) (outcome : BusOutcome) → GoesSteps job steps outcome → of_steps outcome ≡ true
+steps_go job steps NoFault can = refl
+steps_go job steps Undone can = absurd can
+steps_go job steps (LeftPending done) can = refl
+steps_go job steps ReadFailed can = absurd can
 
-aborted : (m : Machine) (job : RegionJob) (outcome : BusOutcome) (answer : Answer) → Aborts m job outcome answer → of_steps outcome ≡ true
-aborted m job NoFault answer is = refl
-aborted m job Undone answer is = absurd is
-aborted m job (LeftPending done) answer is = refl
-aborted m job ReadFailed answer is = absurd is
+back_goes : (job : RegionJob) (outcome : BusOutcome) → GoesBack job outcome → of_steps outcome ≡ true
+back_goes job NoFault can = refl
+back_goes job Undone can = absurd can
+back_goes job (LeftPending done) can = refl
+back_goes job ReadFailed can = absurd can
 
-pending : (m : Machine) (o : Option RegionJob) (outcome : BusOutcome) (answer : Answer) (goes : RegionJob → Type 0) → ((job : RegionJob) → goes job → of_steps outcome ≡ true)
-    → OfPending m o outcome answer goes → of_steps outcome ≡ true
-pending m None outcome answer goes each is = calm of_steps outcome refl is.unfailing
-pending m (Some job) outcome answer goes each is = each job is
+pending_goes : (o : Option RegionJob) (outcome : BusOutcome) (goes : RegionJob → Type 0) → ((job : RegionJob) → goes job → of_steps outcome ≡ true) → GoesPending o outcome goes
+    → of_steps outcome ≡ true
+pending_goes None outcome goes each can = calm of_steps outcome refl can
+pending_goes (Some job) outcome goes each can = each job can
 
-shown : (m : Machine) (name : List ℕ) (outcome : BusOutcome) (answer : Answer) → AnswersShow m name outcome answer → of_reads outcome ≡ true
-shown m name NoFault answer is = refl
-shown m name Undone answer is = absurd is
-shown m name (LeftPending done) answer is = absurd is
-shown m name ReadFailed answer is = refl
+read_goes : (region : Option Live) (outcome : BusOutcome) → GoesRead region outcome → of_reads outcome ≡ true
+read_goes region NoFault can = refl
+read_goes region Undone can = absurd can
+read_goes region (LeftPending done) can = absurd can
+read_goes region ReadFailed can = refl
+
+can_so : (m : Machine) (command : Command) (outcome : BusOutcome) → CanGo m command outcome → can_go command outcome ≡ true
+can_so m (commands.Create create) outcome can = asked_goes can.0 outcome can.2
+can_so m (commands.Destroy name) outcome can = asked_goes (asked_release m name) outcome can
+can_so m (commands.Step steps) outcome can = pending_goes m.job outcome (λ job. GoesSteps job steps outcome) (λ job. steps_go job steps outcome) can
+can_so m commands.Abort outcome can = pending_goes m.job outcome (λ job. GoesBack job outcome) (λ job. back_goes job outcome) can
+can_so m (commands.Show name) outcome can = read_goes (live_named m name) outcome can
+can_so m other outcome can = calm of_no_call outcome refl can
 
 pub goes : (m : Machine) (command : Command) (outcome : BusOutcome) (answer : Answer) → Answers m command outcome answer → can_go command outcome ≡ true
-goes m (commands.Create create) outcome answer (asked, asks, is) = whole m asked outcome answer is
-goes m (commands.Destroy name) outcome answer is = whole m _ outcome answer is
-goes m (commands.Show name) outcome answer is = shown m name outcome answer is
-goes m (commands.Down h) outcome answer is = calm of_no_call outcome refl is.unfailing
-goes m (commands.Up up) outcome answer is = calm of_no_call outcome refl is.0
-goes m (commands.Load load) outcome answer is = calm of_no_call outcome refl is.unfailing
-goes m (commands.Store store) outcome answer is = calm of_no_call outcome refl is.unfailing
-goes m (commands.Poison poison) outcome answer is = calm of_no_call outcome refl is.0
-goes m (commands.BeginCreate create) outcome answer (asked, asks, is) = calm of_no_call outcome refl is.unfailing
-goes m (commands.BeginDestroy name) outcome answer is = calm of_no_call outcome refl is.unfailing
-goes m (commands.Step steps) outcome answer is =
-    pending m m.job outcome answer (λ job. Steps m job steps outcome answer) (λ job. stepped m job steps outcome answer) is
-goes m commands.Abort outcome answer is =
-    pending m m.job outcome answer (λ job. Aborts m job outcome answer) (λ job. aborted m job outcome answer) is
-goes m (commands.Range reach) outcome answer is = calm of_no_call outcome refl is.unfailing
-goes m (commands.Spread reach) outcome answer is = calm of_no_call outcome refl is.unfailing
-goes m (commands.Copy pair) outcome answer is = calm of_no_call outcome refl is.unfailing
-goes m (commands.Move pair) outcome answer is = calm of_no_call outcome refl is.unfailing
+goes m command outcome answer is = can_so m command outcome (answered_goes m command outcome answer is)

@@ -66,17 +66,7 @@ module _ (m : Machine) where
     goes_answered commands.Abort outcome goes =
         pending_goes m.job outcome (λ job. GoesBack job outcome) (λ answer job. Aborts m job outcome answer) (λ job. abort_answer job outcome) goes
     goes_answered (commands.Show name) outcome goes = show_answered name outcome goes
-    goes_answered (commands.Down h) outcome goes = calm (commands.Down h) outcome goes
-    goes_answered (commands.Up up) outcome goes = calm (commands.Up up) outcome goes
-    goes_answered (commands.Load load) outcome goes = calm (commands.Load load) outcome goes
-    goes_answered (commands.Store store) outcome goes = calm (commands.Store store) outcome goes
-    goes_answered (commands.Poison poison) outcome goes = calm (commands.Poison poison) outcome goes
-    goes_answered (commands.BeginCreate create) outcome goes = calm (commands.BeginCreate create) outcome goes
-    goes_answered (commands.BeginDestroy name) outcome goes = calm (commands.BeginDestroy name) outcome goes
-    goes_answered (commands.Range reach) outcome goes = calm (commands.Range reach) outcome goes
-    goes_answered (commands.Spread reach) outcome goes = calm (commands.Spread reach) outcome goes
-    goes_answered (commands.Copy pair) outcome goes = calm (commands.Copy pair) outcome goes
-    goes_answered (commands.Move pair) outcome goes = calm (commands.Move pair) outcome goes
+    goes_answered other outcome goes = calm other outcome goes
 
   -- ---- and no other
 
@@ -118,14 +108,7 @@ module _ (m : Machine) where
   answered_goes commands.Abort outcome answer at =
       went_pending m.job outcome answer (λ job. GoesBack job outcome) (λ job. Aborts m job outcome answer) (λ job. abort_goes job outcome answer) at
   answered_goes (commands.Show name) outcome answer at = show_goes name outcome answer at
-  answered_goes (commands.Down h) outcome answer at = at.unfailing
   answered_goes (commands.Up up) outcome answer at = at.0
-  answered_goes (commands.Load load) outcome answer at = at.unfailing
-  answered_goes (commands.Store store) outcome answer at = at.unfailing
   answered_goes (commands.Poison poison) outcome answer at = at.0
   answered_goes (commands.BeginCreate create) outcome answer (asked, asks, at) = at.unfailing
-  answered_goes (commands.BeginDestroy name) outcome answer at = at.unfailing
-  answered_goes (commands.Range reach) outcome answer at = at.unfailing
-  answered_goes (commands.Spread reach) outcome answer at = at.unfailing
-  answered_goes (commands.Copy pair) outcome answer at = at.unfailing
-  answered_goes (commands.Move pair) outcome answer at = at.unfailing
+  answered_goes other outcome answer at = at.unfailing

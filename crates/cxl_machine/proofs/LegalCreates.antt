@@ -64,17 +64,4 @@ module _ (law : LegalLaw) (m : Machine) (is : IsMachine m) where
   pub creates_legally : (command : Command) → CreatesLegally m command
   creates_legally (commands.Create create) = asks_legally create
   creates_legally (commands.BeginCreate create) = asks_legally create
-  creates_legally (commands.Destroy name) = tt
-  creates_legally (commands.Show name) = tt
-  creates_legally (commands.Down h) = tt
-  creates_legally (commands.Up up) = tt
-  creates_legally (commands.Load load) = tt
-  creates_legally (commands.Store store) = tt
-  creates_legally (commands.Poison poison) = tt
-  creates_legally (commands.BeginDestroy name) = tt
-  creates_legally (commands.Step steps) = tt
-  creates_legally commands.Abort = tt
-  creates_legally (commands.Range reach) = tt
-  creates_legally (commands.Spread reach) = tt
-  creates_legally (commands.Copy pair) = tt
-  creates_legally (commands.Move pair) = tt
+  creates_legally other = tt

@@ -62,22 +62,15 @@ module _ (onto : OntoLaw) (lists : SomeTelling) (m : Machine) (is : IsMachine m)
       (answer, (asked, asks, is_answer))
   some_answer (commands.Destroy name) = some_whole m (asked_release m name)
   some_answer (commands.Show name) = (_, refl)
-  some_answer (commands.Down h) = given _
   some_answer (commands.Up asked) =
       let (answer, tells) = up_by asked _ refl in
       (answer, (refl, tells))
-  some_answer (commands.Load load) = given _
-  some_answer (commands.Store store) = given _
   some_answer (commands.Poison asked) =
       let (answer, tells) = poison_by asked _ refl in
       (answer, (refl, tells))
   some_answer (commands.BeginCreate create) =
       let (asked, asks) = some_asked m create in
       (begin_answer m asked, (asked, asks, record { unfailing = refl; told = refl }))
-  some_answer (commands.BeginDestroy name) = given _
   some_answer (commands.Step steps) = some_pending m m.job (λ a job. Steps m job steps NoFault a) (λ job. (_, refl))
   some_answer commands.Abort = some_pending m m.job (λ a job. Aborts m job NoFault a) (λ job. (_, refl))
-  some_answer (commands.Range reach) = given _
-  some_answer (commands.Spread reach) = given _
-  some_answer (commands.Copy pair) = given _
-  some_answer (commands.Move pair) = given _
+  some_answer other = given _

@@ -74,18 +74,7 @@ module _ (m : Machine) (answer : Answer) where
         pending m.job (λ job. Steps m job steps outcome answer) (λ job. SendsSteps job steps outcome trail) (λ job. stepped job steps outcome) is sends
     told commands.Abort is sends =
         pending m.job (λ job. Aborts m job outcome answer) (λ job. SendsAbort job outcome trail) (λ job. aborted job outcome) is sends
-    told (commands.Show name) is sends = inl sends
-    told (commands.Down h) is sends = inl sends
-    told (commands.Up up) is sends = inl sends
-    told (commands.Load load) is sends = inl sends
-    told (commands.Store store) is sends = inl sends
-    told (commands.Poison poison) is sends = inl sends
-    told (commands.BeginCreate create) is sends = inl sends
-    told (commands.BeginDestroy name) is sends = inl sends
-    told (commands.Range reach) is sends = inl sends
-    told (commands.Spread reach) is sends = inl sends
-    told (commands.Copy pair) is sends = inl sends
-    told (commands.Move pair) is sends = inl sends
+    told other is sends = inl sends
 
   pub nothing : (trail : List Sent) → is_refusal answer.reply ≡ true → (command : Command) → Answers m command NoFault answer → TrailOf m command NoFault trail → trail ≡ []
   nothing trail refused command is sends =
