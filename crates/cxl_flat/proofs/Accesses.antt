@@ -1,15 +1,14 @@
 -- Loads and stores, copies and moves are of one flat memory.
-use Rattle.std.proofs.Common.{◌≡◌, ◌≢◌, ℕ, ◌+◌, ◌/◌, ◌%◌, ◌<◌, ◌≤◌, ◌⊎◌, Bool, true, false, not, if◌then◌else◌, List, length, Option, Some, None, Ok, inl, inr, refl, sym, ap, ◌∙◌, subst, arith}
+use Rattle.std.proofs.Common.{◌≡◌, ℕ, ◌+◌, ◌/◌, ◌%◌, ◌<◌, ◌≤◌, ◌⊎◌, Bool, true, false, not, if◌then◌else◌, List, length, Option, Some, None, Ok, inl, inr, refl, sym, ap, ◌∙◌, subst, arith}
 use Rattle.std.specs.Prelude.{Contains, nat_lt, ◌==◌, slice_index, replicate, unwrap_or}
 use Rattle.std.specs.Option.{option_map_or}
 use Rattle.std.specs.FinMap as fin
 use Rattle.std.specs.FinMap.{get-empty}
 use Rattle.std.specs.Ordering.{nat_cmp}
 use Rattle.std.specs.Str.{bytes_eq}
-use Rattle.std.proofs.lemmas.Bool.{cases_Bool, leb-true, le-leb, le-ltb, eqb-true, false≢true}
+use Rattle.std.proofs.lemmas.Bool.{cases_Bool, leb-true, le-leb, le-ltb}
 use Rattle.std.proofs.lemmas.List.{get_or-replicate}
 use Rattle.std.proofs.lemmas.List.FromFn.{length-map-range_with_len, get_or-map-range_with_len}
-use Rattle.std.proofs.lemmas.Slice.Eq.{bytes_eq-Decides}
 use Rattle.cxl_script.specs.declared.command.Command.TheVariants as commands
 use Rattle.cxl_script.specs.declared.command.Load.{Load}
 use Rattle.cxl_script.specs.declared.command.Pair.{Pair}
@@ -25,7 +24,7 @@ use Rattle.cxl_machine.specs.Copies.{pieces_of, copied, moved, frames_for, copy_
 use Rattle.cxl_machine.specs.Replies.{Answer, stays, becomes, ends_within}
 use Rattle.cxl_machine.specs.Scripts.{Asked, Turn, TakesTurn}
 use Rattle.cxl_machine.specs.Sound.{IsMachine}
-use Rattle.cxl_machine.proofs.KeepingBytes.{same_bytes}
+use Rattle.cxl_machine.proofs.AccessesLeave.{AreTwo, are_two}
 use Rattle.cxl_machine.proofs.KeepingLists.{changed}
 use Rattle.cxl_machine.proofs.KeepingMachines.{live_there}
 use Rattle.cxl_flat.specs.Memory.{byte_of, HasBytes, LiesBeside, LieWithin, IsFlatLoad, IsFlatStore, AreNamed, HasBytesOf, IsFlatCopy, IsFlatMove, IsFlatAccess}
@@ -218,27 +217,6 @@ module _ (m : Machine) (apart : AreApart m) where
       ap (λ (o : Option Live). option_map_or (λ (one : Live). option_map_or (λ (other : Live). two pair one other answer) (live_named m pair.to) (stays m (replies.NoRegion pair.to))) o (stays m (replies.NoRegion pair.from))) named.first
       ∙ ap (λ (o : Option Live). option_map_or (λ (other : Live). two pair from other answer) o (stays m (replies.NoRegion pair.to))) named.second
 
-  -- two live regions of one size
-  record AreTwo (from to : Live) : Type 0 where
-    there : Contains m.live from
-    here : Contains m.live to
-    sizes : from.found.size ≡ to.found.size
-    differ : from.name ≢ to.name
-
-  are_two : (pair : Pair) (from to : Live) → AreNamed m pair from to → bytes_eq pair.from pair.to ≡ false → not (from.found.size == to.found.size) ≡ false → AreTwo from to
-  are_two pair from to named apart_names alike =
-      let one = live_there m (λ (r : Live). bytes_eq r.name pair.from) from named.first in
-      let other = live_there m (λ (r : Live). bytes_eq r.name pair.to) to named.second in
-      record {
-        there = one.0;
-        here = other.0;
-        sizes = elim (cases_Bool (from.found.size == to.found.size)) [
-          | inl same ↦ eqb-true from.found.size to.found.size same
-          | inr differs ↦ absurd (false≢true (sym alike ∙ ap not differs))
-        ];
-        differ = λ same. false≢true (sym apart_names ∙ (bytes_eq-Decides pair.from pair.to).1 (sym (same_bytes from.name pair.from one.1) ∙ same ∙ same_bytes to.name pair.to other.1));
-      }
-
   -- the reply tells of no copy and no move
   record IsNoCarry (reply : Reply) : Type 0 where
     copy : (told : Carried) → reply ≡ replies.Copied told → ⊥
@@ -257,12 +235,12 @@ module _ (m : Machine) (apart : AreApart m) where
   by_test P true answer other first second = first refl
   by_test P false answer other first second = second refl
 
-  by_two : (P : Answer → Type 0) (pair : Pair) (from to : Live) (answer : Live → Live → Answer) → AreNamed m pair from to → (AreTwo from to → P (answer from to)) → ((reply : Reply) → IsNoCarry reply → P (stays m reply))
+  by_two : (P : Answer → Type 0) (pair : Pair) (from to : Live) (answer : Live → Live → Answer) → AreNamed m pair from to → (AreTwo m from to → P (answer from to)) → ((reply : Reply) → IsNoCarry reply → P (stays m reply))
       → P (for_two m pair answer)
   by_two P pair from to answer named made refused =
       subst P (sym (named_two pair answer from to named))
       (by_test P (bytes_eq pair.from pair.to) _ _ (λ one. refused (replies.SameRegion pair.from) (same_region pair.from))
-      (λ differ. by_test P (not (from.found.size == to.found.size)) _ _ (λ uneven. refused _ (sizes_differ from.found.size to.found.size)) (λ alike. made (are_two pair from to named differ alike))))
+      (λ differ. by_test P (not (from.found.size == to.found.size)) _ _ (λ uneven. refused _ (sizes_differ from.found.size to.found.size)) (λ alike. made (are_two m pair from to named.first named.second differ alike))))
 
   has_byte : (region : Live) (k : ℕ) → k < region.found.size → has_host region.found (region.found.base + k) ≡ true
   has_byte region k below = has_between region.found (region.found.base + k) (omega arith) (omega (arith, below))
@@ -275,7 +253,7 @@ module _ (m : Machine) (apart : AreApart m) where
   byte_in region k there below =
       byte_at m apart region (region.found.base + k) there (has_byte region k below) ∙ ap (λ (i : ℕ). Some (content_at region.contents i)) (offset_of region k)
 
-  copied_bytes : (from to : Live) → AreTwo from to → HasBytesOf m (copied m from to) from to
+  copied_bytes : (from to : Live) → AreTwo m from to → HasBytesOf m (copied m from to) from to
   copied_bytes from to are k below =
       let sizes = are.sizes in
       byte_inside m apart to are.here from.contents (to.found.base + k) (has_byte to k below) ∙ ap (λ (i : ℕ). Some (content_at from.contents i)) (offset_of to k)
@@ -288,7 +266,7 @@ module _ (m : Machine) (apart : AreApart m) where
   copy_refused : (from to : Live) (reply : Reply) → IsNoCarry reply → CopyOf from to (stays m reply)
   copy_refused from to reply none = record { bytes = λ told is. absurd (none.copy told is); others = λ h beside. refl }
 
-  copy_made : (from to : Live) → AreTwo from to → CopyOf from to (copy_between m from to)
+  copy_made : (from to : Live) → AreTwo m from to → CopyOf from to (copy_between m from to)
   copy_made from to are =
       by_test (CopyOf from to) (nat_lt (frames_for m to) (pieces_of from)) _ _ (λ lack. copy_refused from to _ (lacks_frames (pieces_of from) (frames_for m to)))
       (λ room. record { bytes = λ told is. copied_bytes from to are; others = λ h beside. byte_outside m apart to are.here from.contents h (has_not to.found h beside) })
@@ -308,7 +286,7 @@ module _ (m : Machine) (apart : AreApart m) where
   zero_content i =
       ap (λ (o : Option (List ℕ)). slice_index (unwrap_or o (replicate 256 0)) (i % 256)) (get-empty {X = List ℕ} nat_cmp (i / 256)) ∙ get_or-replicate 256 (i % 256) 0 0 (omega arith)
 
-  module _ (from to : Live) (are : AreTwo from to) where
+  module _ (from to : Live) (are : AreTwo m from to) where
     abbrev between : Machine
     between = copied m from to
 

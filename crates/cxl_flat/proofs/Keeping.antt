@@ -2,7 +2,6 @@
 use Rattle.std.proofs.Common.{◌≡◌, ◌≢◌, ℕ, ◌+◌, ◌⊎◌, Bool, true, false, if◌then◌else◌, List, [], ◌∷◌, ◌++◌, Result, Ok, Err, Option, Some, None, inl, inr, refl, sym, ap, ◌∙◌, subst}
 use Rattle.std.specs.Prelude.{Contains, nat_le}
 use Rattle.std.specs.List.Sorted.{IsPermutation}
-use Rattle.std.specs.Option.{option_map_or}
 use Rattle.std.specs.FinMap as fin
 use Rattle.std.proofs.lemmas.Bool.{false≢true}
 use Rattle.std.proofs.lemmas.List.{append-nil}
@@ -13,24 +12,21 @@ use Rattle.std.proofs.lemmas.Option.{slice_get_within, get_or_from_slice_get}
 use Rattle.cxl_script.specs.declared.command.Command.{Command}
 use Rattle.cxl_script.specs.declared.command.Command.TheVariants as commands
 use Rattle.cxl_script.specs.declared.command.Create.{Create}
-use Rattle.cxl_script.specs.declared.command.Poison.{Poison}
-use Rattle.cxl_script.specs.declared.command.Up.{Up}
 use Rattle.cxl_model.specs.declared.plan.Row.{Row}
 use Rattle.cxl_reply.specs.declared.reply.Reply.{Reply}
-use Rattle.cxl_machine.specs.Machine.{Live, RegionJob, JobKind, Creates, Releases, Machine, live_named, live_at, region_released, under_release, kept_regions}
+use Rattle.cxl_machine.specs.Machine.{Live, RegionJob, JobKind, Creates, Releases, Machine, live_named, region_released, under_release, kept_regions}
 use Rattle.cxl_machine.specs.Jobs.{total_of, create_job, release_job, live_while, live_when_done, live_when_undone, at_done, begun, finished, undone}
 use Rattle.cxl_machine.specs.Outcomes.{BusOutcome, NoFault, Undone, LeftPending, ReadFailed}
 use Rattle.cxl_machine.specs.Requests.{AsksCreate, asked_release}
-use Rattle.cxl_machine.specs.Replies.{Answer, within_region, ends_within}
-use Rattle.cxl_machine.specs.Accesses.{AnswersUp, no_endpoint, told}
-use Rattle.cxl_machine.specs.Reports.{AnswersShow, AnswersPoison}
-use Rattle.cxl_machine.specs.Reports as reports
+use Rattle.cxl_machine.specs.Replies.{Answer}
 use Rattle.cxl_machine.specs.Regions.{CarriesOutWhole, AnswersWhole, begin_answer, Steps, Aborts, OfPending}
 use Rattle.cxl_machine.specs.Answers.{Answers}
 use Rattle.cxl_machine.specs.Creating.{AsksLegally}
 use Rattle.cxl_machine.specs.Scripts.{Asked, Turn, answer_of, TakesTurn}
 use Rattle.cxl_machine.specs.Sound.{IsMachine}
 use Rattle.cxl_machine.specs.Trails.{WorksOn}
+use Rattle.cxl_machine.proofs.AccessesLeave.{AccessLeaves, as_it_was, stored, copied, moved, access_leaves}
+use Rattle.cxl_machine.proofs.CommandKinds.{by_kind}
 use Rattle.cxl_machine.proofs.KeepingBegun.{asked_is}
 use Rattle.cxl_machine.proofs.KeepingCommands.{none_named, asked_idle}
 use Rattle.cxl_machine.proofs.KeepingOrder.{put_back, put_last}
@@ -155,6 +151,10 @@ pub record JobLaws : Type 0 where
   pub creates : (m : Machine) (create : Create) (job : RegionJob) → IsMachine m → AsksCreate m create (Ok job) → IsMachine (begun job m)
   pub releases : (m : Machine) (name : List ℕ) (job : RegionJob) → IsMachine m → asked_release m name ≡ Ok job → IsMachine (begun job m)
 
+-- what writes no bytes is none of those that do
+no_write : (command other : Command) → writes_bytes (Ok command) ≡ false → command ≡ other → writes_bytes (Ok other) ≡ true → ⊥
+no_write command other reads same writes = false≢true (sym reads ∙ ap (λ (c : Command). writes_bytes (Ok c)) same ∙ writes)
+
 module _ (laws : JobLaws) (m : Machine) (is : IsMachine m) where
   abbrev Keeps : Answer → Type 0
   Keeps answer = KeepsBytes m answer.machine
@@ -169,26 +169,11 @@ module _ (laws : JobLaws) (m : Machine) (is : IsMachine m) where
   by_test true answer other first second = first
   by_test false answer other first second = second
 
-  by_region : (o : Option Live) (answer : Live → Answer) (other : Answer) → ((region : Live) → Keeps (answer region)) → Keeps other → Keeps (option_map_or answer o other)
-  by_region None answer other each none = none
-  by_region (Some region) answer other each none = each region
-
-  inside : (h len : ℕ) (answer : Live → Answer) → ((region : Live) → Keeps (answer region)) → Keeps (within_region m h len answer)
-  inside h len answer each = by_region (live_at m h) _ _ (λ region. by_test (ends_within region.found h len) _ _ (each region) stays_so) stays_so
-
-  shown : (name : List ℕ) (outcome : BusOutcome) (answer : Answer) → AnswersShow m name outcome answer → Keeps answer
-  shown name NoFault answer at = given answer _ at (by_region (live_named m name) _ _ (λ region. stays_so) stays_so)
-  shown name Undone answer at = absurd at
-  shown name (LeftPending left) answer at = absurd at
-  shown name ReadFailed answer at = given answer _ at.1 stays_so
-
-  up : (asked : Up) (answer : Answer) → AnswersUp m asked answer → Keeps answer
-  up asked answer (no_endpoint none at) = given answer _ at stays_so
-  up asked answer (told endpoint reply there tells at) = given answer _ at stays_so
-
-  poison : (asked : Poison) (answer : Answer) → AnswersPoison m asked answer → Keeps answer
-  poison asked answer (reports.no_endpoint none at) = given answer _ at stays_so
-  poison asked answer (reports.told endpoint reply there tells at) = given answer _ at stays_so
+  by_leaving : (command : Command) (answer : Answer) → writes_bytes (Ok command) ≡ false → AccessLeaves m command answer → Keeps answer
+  by_leaving command answer reads (as_it_was stays) = subst (KeepsBytes m) (sym stays) stays_so
+  by_leaving command answer reads (stored store region asks at fits room is) = absurd (no_write command (commands.Store store) reads asks refl)
+  by_leaving command answer reads (copied pair from to asks are room is) = absurd (no_write command (commands.Copy pair) reads asks refl)
+  by_leaving command answer reads (moved pair from to asks are is) = absurd (no_write command (commands.Move pair) reads asks refl)
 
   carried_out : (job : RegionJob) → IsMachine (begun job m) → BeginsWith m job → (outcome : BusOutcome) (answer : Answer) → CarriesOutWhole m job outcome answer → Keeps answer
   carried_out job at begins NoFault answer same =
@@ -234,24 +219,19 @@ module _ (laws : JobLaws) (m : Machine) (is : IsMachine m) where
   pending_keeps (Some job) pending outcome answer goes each at = each job pending at
 
   command_keeps : (command : Command) (outcome : BusOutcome) (answer : Answer) → writes_bytes (Ok command) ≡ false → Answers m command outcome answer → Keeps answer
-  command_keeps (commands.Create create) outcome answer reads at = whole at.0 (creates create at.0 at.1) outcome answer at.2
-  command_keeps (commands.Destroy name) outcome answer reads at = whole (asked_release m name) (releases name) outcome answer at
-  command_keeps (commands.BeginCreate create) outcome answer reads at = given answer _ at.2.told (begin at.0 (creates create at.0 at.1))
-  command_keeps (commands.BeginDestroy name) outcome answer reads at = given answer _ at.told (begin (asked_release m name) (releases name))
-  command_keeps (commands.Step steps) outcome answer reads at =
-      pending_keeps m.job refl outcome answer (λ job. Steps m job steps outcome answer) (λ job pending. stepped job pending steps outcome answer) at
-  command_keeps commands.Abort outcome answer reads at =
-      pending_keeps m.job refl outcome answer (λ job. Aborts m job outcome answer) (λ job pending. aborted job pending outcome answer) at
-  command_keeps (commands.Show name) outcome answer reads at = shown name outcome answer at
-  command_keeps (commands.Down h) outcome answer reads at = given answer _ at.told (by_region (live_at m h) _ _ (λ region. stays_so) stays_so)
-  command_keeps (commands.Up asked) outcome answer reads at = up asked answer at.1
-  command_keeps (commands.Load load) outcome answer reads at = given answer _ at.told (inside load.h load.len _ (λ region. stays_so))
-  command_keeps (commands.Poison asked) outcome answer reads at = poison asked answer at.1
-  command_keeps (commands.Range reach) outcome answer reads at = given answer _ at.told (inside reach.h reach.len _ (λ region. stays_so))
-  command_keeps (commands.Spread reach) outcome answer reads at = given answer _ at.told (inside reach.h reach.len _ (λ region. stays_so))
-  command_keeps (commands.Store store) outcome answer reads at = absurd (false≢true (sym reads))
-  command_keeps (commands.Copy pair) outcome answer reads at = absurd (false≢true (sym reads))
-  command_keeps (commands.Move pair) outcome answer reads at = absurd (false≢true (sym reads))
+  command_keeps =
+      by_kind (λ command. (outcome : BusOutcome) (answer : Answer) → writes_bytes (Ok command) ≡ false → Answers m command outcome answer → Keeps answer)
+      record {
+        create = λ create outcome answer reads at. whole at.0 (creates create at.0 at.1) outcome answer at.2;
+        destroy = λ name outcome answer reads at. whole (asked_release m name) (releases name) outcome answer at;
+        begin_create = λ create outcome answer reads at. given answer _ at.2.told (begin at.0 (creates create at.0 at.1));
+        begin_destroy = λ name outcome answer reads at. given answer _ at.told (begin (asked_release m name) (releases name));
+        step = λ steps outcome answer reads at.
+            pending_keeps m.job refl outcome answer (λ job. Steps m job steps outcome answer) (λ job pending. stepped job pending steps outcome answer) at;
+        abort = λ outcome answer reads at.
+            pending_keeps m.job refl outcome answer (λ job. Aborts m job outcome answer) (λ job pending. aborted job pending outcome answer) at;
+      }
+      (λ command access outcome answer reads at. by_leaving command answer reads (access_leaves m command outcome answer access at))
 
   pub turn_keeps : (one : Asked) (turn : Turn) → TakesTurn m one turn → writes_bytes one ≡ false → KeepsBytes m turn.machine
   turn_keeps (Err fault) turn takes reads = subst (λ (t : Turn). KeepsBytes m t.machine) (sym takes) stays_so
