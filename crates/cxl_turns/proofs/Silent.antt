@@ -14,6 +14,7 @@ use Rattle.cxl_machine.specs.Requests.{asked_release}
 use Rattle.cxl_machine.specs.Regions.{CarriesOutWhole, AnswersWhole, Steps, Aborts, OfPending}
 use Rattle.cxl_machine.specs.Answers.{Answers}
 use Rattle.cxl_machine.specs.Scripts.{Asked, Turn, answer_of, TakesTurn}
+use Rattle.cxl_machine.proofs.GoingAnswers.{answered_goes}
 
 -- no call failed, or the reply tells of it
 abbrev Tells : BusOutcome → Answer → Type 0
@@ -60,39 +61,16 @@ module _ (m : Machine) where
   told (commands.Create create) outcome answer (asked, asks, is) = whole asked outcome answer is
   told (commands.Destroy name) outcome answer is = whole (asked_release m name) outcome answer is
   told (commands.Show name) outcome answer is = shown name outcome answer is
-  told (commands.Down h) outcome answer is = inl is.unfailing
-  told (commands.Up up) outcome answer is = inl is.0
-  told (commands.Load load) outcome answer is = inl is.unfailing
-  told (commands.Store store) outcome answer is = inl is.unfailing
-  told (commands.Poison poison) outcome answer is = inl is.0
-  told (commands.BeginCreate create) outcome answer (asked, asks, is) = inl is.unfailing
-  told (commands.BeginDestroy name) outcome answer is = inl is.unfailing
   told (commands.Step steps) outcome answer is =
       pending m.job outcome answer (λ job. Steps m job steps outcome answer) (λ job. stepped job steps outcome answer) is
   told commands.Abort outcome answer is =
       pending m.job outcome answer (λ job. Aborts m job outcome answer) (λ job. aborted job outcome answer) is
-  told (commands.Range reach) outcome answer is = inl is.unfailing
-  told (commands.Spread reach) outcome answer is = inl is.unfailing
-  told (commands.Copy pair) outcome answer is = inl is.unfailing
-  told (commands.Move pair) outcome answer is = inl is.unfailing
+  told other outcome answer is = inl (answered_goes m other outcome answer is)
 
   no_faults : (command : Command) → faults_of command NoFault ≡ 0
   no_faults (commands.Create create) = refl
   no_faults (commands.Destroy name) = refl
-  no_faults (commands.Show name) = refl
-  no_faults (commands.Down h) = refl
-  no_faults (commands.Up up) = refl
-  no_faults (commands.Load load) = refl
-  no_faults (commands.Store store) = refl
-  no_faults (commands.Poison poison) = refl
-  no_faults (commands.BeginCreate create) = refl
-  no_faults (commands.BeginDestroy name) = refl
-  no_faults (commands.Step steps) = refl
-  no_faults commands.Abort = refl
-  no_faults (commands.Range reach) = refl
-  no_faults (commands.Spread reach) = refl
-  no_faults (commands.Copy pair) = refl
-  no_faults (commands.Move pair) = refl
+  no_faults other = refl
 
   -- a reply without a short text tells of no fault, unless a read failed
   pub silent_turn : (one : Asked) (turn : Turn) → TakesTurn m one turn → has_short_text turn.reply ≡ false → turn.reply ≢ replies.BusRead → turn.faults ≡ 0
