@@ -1,28 +1,16 @@
 -- Which of several places lies where, told by a test.
-use Rattle.std.proofs.Common.{◌≡◌, ℕ, zero, suc, ◌+◌, Bool, true, false, ◌&&◌, ◌||◌, List, [], ◌∷◌, Some, refl, sym, ap, ◌∙◌, inl, inr}
+use Rattle.std.proofs.Common.{◌≡◌, ℕ, zero, suc, ◌+◌, Bool, true, ◌&&◌, ◌||◌, List, [], ◌∷◌, Some, ap, ◌∙◌}
 use Rattle.std.specs.Prelude.{◌==◌, nat_lt, nat_le, slice_get, Contains}
 use Rattle.std.specs.List.{list_any}
-use Rattle.std.proofs.lemmas.Bool.{cases_Bool, and_parts, and_from, eqb-true, eq-eqb, leb-true, le-leb, ltb-true, lt-ltb, false≢true}
-use Rattle.std.proofs.lemmas.Option.{none-some, same_Some, slice_get_within, get_or_from_slice_get, slice_get-get_or}
+use Rattle.std.proofs.lemmas.Bool.{and_parts, and_from, eqb-true, eq-eqb, leb-true, le-leb, ltb-true, lt-ltb}
+use Rattle.std.proofs.lemmas.Option.{none-some, same_Some, slice_get-get_or}
+use Rattle.cxl_enc.proofs.Lists.{some_passes}
+use Rattle.cxl_enc.proofs.Tests.{or_true}
 use Rattle.cxl_model.specs.declared.found.Found.{Found}
 use Rattle.cxl_model.specs.declared.found.Place.{Place}
 use Rattle.cxl_model.specs.Bytes.{LiesInSpan, slot_length}
 
 -- ---- lists
-
-pub some_passes : {X : Type 0} (p : X → Bool) (xs : List X) → list_any p xs ≡ true → (k : ℕ) × (x : X) × (slice_get xs k ≡ Some x) × (p x ≡ true)
-some_passes p [] is = absurd (false≢true is)
-some_passes p (x ∷ xs) is =
-    elim (cases_Bool (p x)) [
-      | inl passes ↦ (zero, x, refl, passes)
-      | inr fails ↦
-          let rest = some_passes p xs (sym (ap (λ (b : Bool). b || list_any p xs) fails) ∙ is) in
-          (suc rest.0, rest.1, rest.2, rest.3)
-    ]
-
-or_true : (b : Bool) → (b || true) ≡ true
-or_true true = refl
-or_true false = refl
 
 pub passes_some : {X : Type 0} (p : X → Bool) (xs : List X) (k : ℕ) (x : X) → slice_get xs k ≡ Some x → p x ≡ true → list_any p xs ≡ true
 passes_some p [] k x there passes = absurd (none-some x there)
@@ -57,9 +45,6 @@ passes_where found endpoint dpa lies =
     (and_from (lies.place.endpoint == endpoint) _ (eq-eqb lies.place.endpoint endpoint lies.here)
     (and_from (nat_le lies.place.start dpa) (nat_lt dpa (lies.place.start + slot_length found)) (le-leb lies.place.start dpa lies.from)
     (lt-ltb dpa (lies.place.start + slot_length found) lies.below)))
-
-pub contains_at : {X : Type 0} (xs : List X) (k : ℕ) (x : X) → slice_get xs k ≡ Some x → Contains xs x
-contains_at xs k x there = (k, slice_get_within xs k x there, get_or_from_slice_get xs k x x there)
 
 pub at_contains : {X : Type 0} (xs : List X) (x : X) → Contains xs x → (k : ℕ) × (slice_get xs k ≡ Some x)
 at_contains xs x (k, below, read) = (k, slice_get-get_or xs k x below ∙ ap Some read)

@@ -9,17 +9,17 @@ use Rattle.std.specs.FinMap.{get-insert, len-empty, len-insert, nat_cmp-IsAntisy
 use Rattle.std.specs.Str.{bytes_eq}
 use Rattle.std.proofs.lemmas.Bool.{false≢true, ltb-false}
 use Rattle.std.proofs.lemmas.List.{get_or-map, length-map}
-use Rattle.std.proofs.lemmas.List.Elements.{All-head, All-tail}
 use Rattle.std.proofs.lemmas.List.Sums.{sum_by-append, sum_by-cons}
 use Rattle.std.proofs.lemmas.Slice.Eq.{bytes_eq-Decides}
 use Rattle.cxl_script.specs.declared.command.Store.{Store}
 use Rattle.cxl_model.specs.Contents.{Contents}
+use Rattle.cxl_model.proofs.NewBytes.{absent}
 use Rattle.cxl_bytes.specs.Bytes.{piece_after, new_pieces, written}
 use Rattle.cxl_machine.specs.Machine.{Live, Machine, under_release, kept_regions, pieces_held, free_frames, with_contents}
 use Rattle.cxl_machine.specs.Accesses.{frames_wanted, offset_in}
 use Rattle.cxl_machine.specs.Copies.{pieces_of, copied, moved, frames_for}
 use Rattle.cxl_machine.specs.Sound.{IsMachine}
-use Rattle.cxl_machine.proofs.KeepingLists.{changed, HaveOwnNames, own_names, same_names}
+use Rattle.cxl_machine.proofs.KeepingLists.{changed, HaveOwnNames, own_names, same_names, unchanged, all_unchanged}
 use Rattle.cxl_machine.proofs.KeepingOrder.{pairs_front}
 
 -- ---- new pieces of a region
@@ -39,9 +39,6 @@ front p q from (suc n) same =
     let rest = front p q (from + 1) n (λ k above. same k (omega arith)) in
     ap (λ (b : Bool). if b then from ∷ filter p (range_with_len (from + 1) n) else filter p (range_with_len (from + 1) n)) (same from (omega arith))
     ∙ ap (λ (xs : List ℕ). if q from then from ∷ xs else xs) rest
-
-abbrev absent : Contents → ℕ → Bool
-absent contents n = not (fin.contains_key contents n)
 
 counted : (b : Bool) (n from : ℕ) (rest : List ℕ) → cond b n (n + 1) + length rest ≡ n + length (if not b then from ∷ rest else rest)
 counted true n from rest = refl
@@ -68,19 +65,6 @@ pieces_written contents offset bytes =
 
 abbrev frames_of : List Live → ℕ
 frames_of regions = sum_by pieces_of regions
-
-unchanged : (name : List ℕ) (contents : Contents) (region : Live) → region.name ≢ name → changed name contents region ≡ region
-unchanged name contents region other = go (bytes_eq region.name name) refl
-  where
-    go : (b : Bool) → bytes_eq region.name name ≡ b → (if b then record region { contents = contents } else region) ≡ region
-    go true same = absurd (other ((bytes_eq-Decides region.name name).0 same))
-    go false differ = refl
-
-all_unchanged : (name : List ℕ) (contents : Contents) (regions : List Live) → All (λ (region : Live). region.name ≢ name) regions → map (changed name contents) regions ≡ regions
-all_unchanged name contents [] others = refl
-all_unchanged name contents (region ∷ regions) others =
-    ap (λ (r : Live). r ∷ map (changed name contents) regions) (unchanged name contents region (All-head (λ (r : Live). r.name ≢ name) region regions others))
-    ∙ ap (λ (rs : List Live). region ∷ rs) (all_unchanged name contents regions (All-tail (λ (r : Live). r.name ≢ name) region regions others))
 
 changed_pieces : (contents : Contents) (region : Live) → pieces_of (changed region.name contents region) ≡ fin.len contents
 changed_pieces contents region = go (bytes_eq region.name region.name) ((bytes_eq-Decides region.name region.name).1 refl)

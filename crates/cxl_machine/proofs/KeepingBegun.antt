@@ -9,6 +9,7 @@ use Rattle.std.proofs.lemmas.List.Edits.{length-remove}
 use Rattle.std.proofs.lemmas.List.Folds.{find_at}
 use Rattle.std.proofs.lemmas.List.Sorted.{IsPermutation-refl, sum_by-IsPermutation}
 use Rattle.std.proofs.lemmas.Option.{none-some, same_Some, cond_some, slice_get_within, get_or_from_slice_get}
+use Rattle.cxl_enc.proofs.Lists.{contains_at}
 use Rattle.cxl_model.specs.declared.found.Found.{Found}
 use Rattle.cxl_model.specs.declared.plan.Plan.{Plan}
 use Rattle.cxl_model.specs.declared.plan.Row.{Row}
@@ -27,7 +28,6 @@ use Rattle.cxl_legal.specs.Firsts.{first_there}
 use Rattle.cxl_machine.specs.Jobs.{create_job, release_job, begun}
 use Rattle.cxl_machine.specs.Requests.{busy, no_region, locked, not_last, spot_of, refusal_of_release, release_at, release_named, job_unless, asked_release}
 use Rattle.cxl_machine.specs.Sound.{IsMachine, AreKept}
-use Rattle.cxl_machine.proofs.Deciding.{contains_at}
 use Rattle.cxl_machine.proofs.KeepingOrder.{put_last}
 use Rattle.cxl_machine.proofs.KeepingRegions.{kept_again, kept_alone, kept_beside}
 use Rattle.cxl_machine.proofs.LiveRegions.{live_is_region}

@@ -1,9 +1,11 @@
 -- Lists of regions of which one has other bytes.
 use Rattle.std.proofs.Common.{◌≡◌, ◌≢◌, ℕ, ◌<◌, Bool, true, false, if◌then◌else◌, List, [], ◌∷◌, ◌++◌, map, length, get_or, refl, sym, ap, ◌∙◌, inl, inr, arith}
-use Rattle.std.specs.Prelude.{AllPairs, Contains}
+use Rattle.std.specs.Prelude.{AllPairs, Contains, All}
 use Rattle.std.specs.Str.{bytes_eq}
 use Rattle.std.proofs.lemmas.Bool.{cases_lt}
 use Rattle.std.proofs.lemmas.List.{get_or-map, get_or_default, length-map}
+use Rattle.std.proofs.lemmas.List.Elements.{All-head, All-tail}
+use Rattle.std.proofs.lemmas.Slice.Eq.{bytes_eq-Decides}
 use Rattle.cxl_model.specs.declared.found.Found.{Found}
 use Rattle.cxl_model.specs.Contents.{Contents}
 use Rattle.cxl_machine.specs.Machine.{Live}
@@ -25,6 +27,20 @@ changed-found name contents region = found_by (bytes_eq region.name name) region
 
 pub changed-name : (name : List ℕ) (contents : Contents) (region : Live) → (changed name contents region).name ≡ region.name
 changed-name name contents region = name_by (bytes_eq region.name name) region contents
+
+-- a region of another name stays as it is
+pub unchanged : (name : List ℕ) (contents : Contents) (region : Live) → region.name ≢ name → changed name contents region ≡ region
+unchanged name contents region other = go (bytes_eq region.name name) refl
+  where
+    go : (b : Bool) → bytes_eq region.name name ≡ b → (if b then record region { contents = contents } else region) ≡ region
+    go true same = absurd (other ((bytes_eq-Decides region.name name).0 same))
+    go false differ = refl
+
+pub all_unchanged : (name : List ℕ) (contents : Contents) (regions : List Live) → All (λ (region : Live). region.name ≢ name) regions → map (changed name contents) regions ≡ regions
+all_unchanged name contents [] others = refl
+all_unchanged name contents (region ∷ regions) others =
+    ap (λ (r : Live). r ∷ map (changed name contents) regions) (unchanged name contents region (All-head (λ (r : Live). r.name ≢ name) region regions others))
+    ∙ ap (λ (rs : List Live). region ∷ rs) (all_unchanged name contents regions (All-tail (λ (r : Live). r.name ≢ name) region regions others))
 
 abbrev pub founds : List Live → List Found
 founds regions = map (λ (r : Live). r.found) regions

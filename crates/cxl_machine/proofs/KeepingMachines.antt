@@ -9,12 +9,13 @@ use Rattle.std.specs.FinMap.{get-insert, get-empty, nat_cmp-IsAntisymmetric}
 use Rattle.std.specs.Str.{bytes_eq}
 use Rattle.std.proofs.Math.Nat.{mul_assoc, mul_comm, mul-div_cancel, div-lt_iff_lt-mul}
 use Rattle.std.proofs.lemmas.Bool.{and_parts, leb-true, ltb-true, cases_lt}
-use Rattle.std.proofs.lemmas.List.{get_or_append_left, length-append, get_or_past, get_or-replicate, length-replicate}
-use Rattle.std.proofs.lemmas.List.Elements.{All-get_or, All-map}
+use Rattle.std.proofs.lemmas.List.{get_or_past, get_or-replicate, length-replicate}
+use Rattle.std.proofs.lemmas.List.Elements.{All-get_or, All-map, Contains-append_left}
 use Rattle.std.proofs.lemmas.List.Folds.{find_at}
 use Rattle.std.proofs.lemmas.List.Sums.{passes_at_first}
 use Rattle.std.proofs.lemmas.List.FromFn.{length-map-range_with_len}
 use Rattle.std.proofs.lemmas.Option.{same_Some, none-some, slice_get_within, get_or_from_slice_get}
+use Rattle.cxl_enc.proofs.Lists.{contains_at}
 use Rattle.cxl_num.specs.Interleave.{chunk_size}
 use Rattle.cxl_deal.specs.Weaves.{turns_end, weave_ways}
 use Rattle.cxl_window.specs.Fields.{WindowFields}
@@ -26,7 +27,6 @@ use Rattle.cxl_model.specs.Regions.{IsRegionIn, weave_fields}
 use Rattle.cxl_bytes.specs.Bytes.{AreBytes, written, piece_after, byte_after}
 use Rattle.cxl_machine.specs.Machine.{Live, Machine, has_host, live_at, region_window, kept_regions, under_release, with_contents}
 use Rattle.cxl_machine.specs.Sound.{IsMachine}
-use Rattle.cxl_machine.proofs.Deciding.{contains_at}
 use Rattle.cxl_machine.proofs.KeepingLists.{one_named}
 use Rattle.cxl_machine.proofs.KeepingBytes.{IsUncounted, uncounted, stays_uncounted, same_bytes}
 use Rattle.cxl_machine.proofs.LiveRegions.{live_is_region}
@@ -138,9 +138,9 @@ live_there m p region is =
     let read : get_or m.live i region ≡ region = get_or_from_slice_get m.live i region region at in
     (contains_at m.live i region at, sym (ap p read) ∙ passes_at_first p m.live region (slice_get_within m.live i region at))
 
-kept_there : (m : Machine) (region : Live) → Contains m.live region → Contains (kept_regions m) region
-kept_there m region (k, below, read) =
-    (k, omega (arith, below, length-append m.live (under_release m.job)), get_or_append_left m.live (under_release m.job) region k below ∙ read)
+-- a live region is kept
+pub kept_there : (m : Machine) (region : Live) → Contains m.live region → Contains (kept_regions m) region
+kept_there m region there = Contains-append_left m.live (under_release m.job) region there
 
 module _ (laws : TurnsLaw) (m : Machine) (is : IsMachine m) where
   -- a live region that has the name of one is that one

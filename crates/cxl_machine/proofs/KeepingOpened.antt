@@ -1,5 +1,5 @@
 -- The machine with which a session opens is one that a session can stand for.
-use Rattle.std.proofs.Common.{◌≡◌, ◌≢◌, ◌↔◌, ℕ, ◌+◌, ◌<◌, ◌≤◌, Bool, true, false, not, ◌&&◌, ◌||◌, if◌then◌else◌, List, [], ◌∷◌, map, length, get_or, Option, Some, None, refl, sym, ap, ◌∙◌, subst, inl, inr, arith}
+use Rattle.std.proofs.Common.{◌≡◌, ◌≢◌, ◌↔◌, ℕ, ◌+◌, ◌<◌, ◌≤◌, Bool, true, false, if◌then◌else◌, List, [], ◌∷◌, map, length, get_or, Option, Some, None, refl, sym, ap, ◌∙◌, subst, inl, inr, arith}
 use Rattle.std.specs.Prelude.{slice_get, ◌==◌, option_map, codes, decimal, sum_by}
 use Rattle.std.specs.Option.{option_map_or}
 use Rattle.std.specs.List.{enumerate_from, list_any}
@@ -10,6 +10,7 @@ use Rattle.std.proofs.lemmas.List.Elements.{All-map}
 use Rattle.std.proofs.lemmas.List.FromFn.{length-enumerate_from, get_or-enumerate_from}
 use Rattle.std.proofs.lemmas.Option.{none-some, same_Some, slice_get-map}
 use Rattle.cxl_enc.specs.Limits.{frame_limit}
+use Rattle.cxl_enc.proofs.Tests.{stays_false}
 use Rattle.cxl_topo.specs.declared.node.Node.{Node}
 use Rattle.cxl_image.specs.Images.{IsBlockOf}
 use Rattle.cxl_regs.specs.declared.decoder.Decoder.{Decoder}
@@ -17,6 +18,7 @@ use Rattle.cxl_regs.specs.Registers.{Registers, IsBlock}
 use Rattle.cxl_regs.specs.declared.reading.Range.{Range}
 use Rattle.cxl_regs.specs.Reading.{has_range}
 use Rattle.cxl_regs.specs.Rules.{before, breaks_order}
+use Rattle.cxl_regs.proofs.DecoderRanges.{decoding}
 use Rattle.cxl_span.specs.Breaches.{breaks as block_breaks}
 use Rattle.cxl_span.specs.Rules.{breaks_rule}
 use Rattle.cxl_span.specs.Spans.{span_start_of}
@@ -40,22 +42,14 @@ use Rattle.std.proofs.lemmas.List.Sums.{sum_by-append, sum_by-cons}
 use Rattle.std.specs.FinMap.{len-empty}
 use Rattle.std.specs.Ordering.{nat_cmp}
 
-abbrev decoding : Registers → Registers
-decoding block = record block { enabled = true }
-
 -- ---- the rules of a block that decodes
-
-still : (a b c : Bool) → (a && (b || not c)) ≡ false → (a && (b || not true)) ≡ false
-still false b c keeps = refl
-still true false c keeps = refl
-still true true c keeps = keeps
 
 by_rule : (b x later y : Bool) → (x ≡ false → later ≡ false) → (if b then x else y) ≡ false → (if b then later else y) ≡ false
 by_rule true x later y first keeps = first keeps
 by_rule false x later y first keeps = keeps
 
 rule_decoding : (rule : ℕ) (block : Registers) (ram pmem : ℕ) (below : Option Decoder) (start : ℕ) (d : Decoder) → breaks_rule rule block ram pmem below start d ≡ false → breaks_rule rule (decoding block) ram pmem below start d ≡ false
-rule_decoding rule block ram pmem below start d keeps = by_rule (rule == 2) _ _ _ (still d.committed (breaks_order below) block.enabled) keeps
+rule_decoding rule block ram pmem below start d keeps = by_rule (rule == 2) _ _ _ (stays_false d.committed (breaks_order below) block.enabled) keeps
 
 decoder_decoding : (rule : ℕ) (block : Registers) (ram pmem : ℕ) (below : Option Decoder) (start : ℕ) (o : Option Decoder) → option_map_or (breaks_rule rule block ram pmem below start) o false ≡ false
     → option_map_or (breaks_rule rule (decoding block) ram pmem below start) o false ≡ false

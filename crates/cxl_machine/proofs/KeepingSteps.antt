@@ -12,7 +12,8 @@ use Rattle.cxl_machine.specs.Regions.{ended_answer, stepped_answer, Steps, Abort
 use Rattle.cxl_machine.specs.Sound.{IsMachine, IsJob, IsJobOf, AreKept}
 use Rattle.cxl_machine.specs.Copies.{pieces_of}
 
-released_same : (job : RegionJob) (done : ℕ) (kind : JobKind) → region_released (record job { done = done }) kind ≡ region_released job kind
+-- a job at another number of writes has the same regions
+pub released_same : (job : RegionJob) (done : ℕ) (kind : JobKind) → region_released (record job { done = done }) kind ≡ region_released job kind
 released_same job done (Creates rows) = refl
 released_same job done (Releases place) = refl
 

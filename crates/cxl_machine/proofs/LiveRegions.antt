@@ -1,27 +1,21 @@
 -- The live regions of a machine are regions of its settled image, each once.
-use Rattle.std.proofs.Common.{◌≡◌, ◌≢◌, ℕ, ◌<◌, List, ◌++◌, map, length, get_or, Option, Some, refl, sym, ap, ◌∙◌, subst, arith, inl, inr}
-use Rattle.std.specs.Prelude.{slice_get, unwrap_or, All, AllPairs, Contains}
-use Rattle.std.specs.List.{position_or_len}
+use Rattle.std.proofs.Common.{◌≡◌, ◌≢◌, ℕ, ◌<◌, List, ◌++◌, map, length, get_or, Option, refl, sym, ap, ◌∙◌, subst, arith, inl, inr}
+use Rattle.std.specs.Prelude.{unwrap_or, All, AllPairs, Contains}
 use Rattle.std.proofs.lemmas.Bool.{cases_lt}
 use Rattle.std.proofs.lemmas.List.{get_or-map, get_or_append_left, get_or_default, length-map, length-append, map-append}
-use Rattle.std.proofs.lemmas.List.Folds.{find_at}
 use Rattle.cxl_window.specs.Fields.{WindowFields}
 use Rattle.cxl_model.specs.declared.found.Found.{Found}
 use Rattle.cxl_model.specs.System.{System, IsSystem}
-use Rattle.cxl_model.specs.Ranges.{lies_within}
-use Rattle.cxl_model.specs.Regions.{region_range, IsRegion, IsRegionIn}
+use Rattle.cxl_model.specs.Regions.{IsRegion, IsRegionIn}
+use Rattle.cxl_model.proofs.RegionsInWindows.{window_there as window_at}
 use Rattle.cxl_poison.specs.Live.{AreLive}
 use Rattle.cxl_machine.specs.Machine.{Live, Machine, absent_window, region_window, kept_regions, under_release}
 use Rattle.cxl_machine.specs.Reports.{live_regions}
 use Rattle.cxl_machine.specs.Sound.{IsMachine}
 
 -- the region lies in the window of its number
-window_there : (s : System) (w : WindowFields) (found : Found) → IsSystem s → IsRegionIn s w found → region_window s found ≡ w
-window_there s w found system is =
-    let i : ℕ = position_or_len (lies_within (region_range found)) s.windows in
-    let at : slice_get s.windows i ≡ Some w = sym (find_at (lies_within (region_range found)) s.windows) ∙ is.window in
-    let place : found.window ≡ i = is.index ∙ system.made.indexed i w at in
-    ap (λ (n : ℕ). unwrap_or (slice_get s.windows n) absent_window) place ∙ ap (λ (o : Option WindowFields). unwrap_or o absent_window) at
+pub window_there : (s : System) (w : WindowFields) (found : Found) → IsSystem s → IsRegionIn s w found → region_window s found ≡ w
+window_there s w found system is = ap (λ (o : Option WindowFields). unwrap_or o absent_window) (window_at s w found system is)
 
 -- the found at a place of those kept is that of the live region there
 found_at : (m : Machine) (region : Live) (k : ℕ) (d : Found) → k < length m.live → get_or m.live k region ≡ region

@@ -25,6 +25,13 @@ use Rattle.cxl_machine.proofs.LiveRegions.{live_is_region}
 use Rattle.cxl_machine.proofs.PendingJobs.{keeps_of}
 use Rattle.cxl_machine.proofs.Writes.{create_is, release_is}
 
+-- what is known of the live regions of a machine: in the image that the registers hold they are regions, with the decoders that they had
+abbrev pub StaysLaw : Type 0
+StaysLaw =
+    (m : Machine) (region : Live) → IsMachine m → Contains m.live region
+    → IsRegionIn m.settled (region_window m.settled region.found) region.found × IsRegionIn (present m) (region_window m.settled region.found) region.found
+    × HaveSameDecoders m.settled (present m) (region_range region.found)
+
 -- what is known of an image between two writes of a job
 pub record BetweenLaws : Type 0 where
   pub one : OneLaw

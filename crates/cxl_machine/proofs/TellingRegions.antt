@@ -8,6 +8,7 @@ use Rattle.std.proofs.lemmas.List.Elements.{All-nil, All-cons, All-map, All-cont
 use Rattle.std.proofs.lemmas.List.Folds.{find_at}
 use Rattle.std.proofs.lemmas.List.Sorted.{All-permutation, IsPermutation-reverse}
 use Rattle.std.proofs.lemmas.Option.{none-some, same_Some, slice_get_within}
+use Rattle.cxl_enc.proofs.Lists.{contains_at}
 use Rattle.cxl_deal.specs.Weaves.{IsWeave, weave_ways, dealt_slot}
 use Rattle.cxl_topo.specs.declared.node.Node.{Node}
 use Rattle.cxl_topo.specs.declared.node.Parent.{Parent}
@@ -25,13 +26,12 @@ use Rattle.cxl_model.specs.Ranges.{index_for}
 use Rattle.cxl_model.specs.Regions.{region_range, IsRegionIn, weave_fields, Carries}
 use Rattle.cxl_model.specs.System.{System, IsSystem}
 use Rattle.cxl_apply.specs.Releases.{row_for, rows_of}
+use Rattle.cxl_apply.proofs.Freed.{row_parts}
 use Rattle.cxl_reply.specs.declared.details.ShownRow.{ShownRow}
 use Rattle.cxl_reply.specs.declared.details.Via.{Via}
 use Rattle.cxl_reply.specs.Conditions.{IsNode, IsToldFound, AreToldSlots}
 use Rattle.cxl_machine.specs.Accesses.{via_of, five_vias, slot_place, endpoints_by_slot}
 use Rattle.cxl_machine.specs.Reports.{shown_row}
-use Rattle.cxl_machine.proofs.Deciding.{contains_at}
-use Rattle.cxl_machine.proofs.Writes.{row_node}
 
 -- ---- lists
 
@@ -77,7 +77,7 @@ module _ (s : System) (system : IsSystem s) where
   -- ---- rows
 
   row_inside : (r : Range) (n : ℕ) (row : Row) → n < length s.nodes → row_for s r n ≡ Some row → row.node < length s.nodes
-  row_inside r n row low is = subst (λ (k : ℕ). k < length s.nodes) (sym (row_node s r n row is)) low
+  row_inside r n row low is = subst (λ (k : ℕ). k < length s.nodes) (sym (row_parts s r n row is).node) low
 
   rows_below : (r : Range) (from n : ℕ) → from + n ≤ length s.nodes → All (λ (row : Row). IsNode s.nodes row.node) (filter_map (row_for s r) (range_with_len from n))
   rows_below r from zero low = All-nil (λ (row : Row). IsNode s.nodes row.node)

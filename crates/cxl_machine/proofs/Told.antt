@@ -3,25 +3,18 @@ use Rattle.std.proofs.Common.{ℕ, refl, sym, ◌∙◌, inl, inr}
 use Rattle.std.specs.Prelude.{Contains}
 use Rattle.std.specs.List.{list_any}
 use Rattle.std.proofs.lemmas.Bool.{cases_Bool, false≢true}
-use Rattle.cxl_window.specs.Fields.{WindowFields}
-use Rattle.cxl_model.specs.declared.found.Found.{Found}
-use Rattle.cxl_model.specs.System.{System, IsSystem}
+use Rattle.cxl_enc.proofs.Lists.{some_passes, contains_at}
 use Rattle.cxl_model.specs.Bytes.{LiesInSpan}
-use Rattle.cxl_model.specs.Regions.{IsRegionIn, Carries}
+use Rattle.cxl_poison.proofs.SomeTelling.{CarriesSome}
 use Rattle.cxl_reply.specs.declared.reply.Reply.{Reply}
 use Rattle.cxl_reply.specs.declared.reply.Reply.TheVariants as replies
 use Rattle.cxl_machine.specs.Machine.{Live, Machine, region_window}
 use Rattle.cxl_machine.specs.Accesses.{TellsHost, carried, unmapped}
 use Rattle.cxl_machine.specs.Sound.{IsMachine}
-use Rattle.cxl_machine.proofs.Deciding.{some_passes, passes_some, found_test, lies_where, passes_where, contains_at, at_contains}
+use Rattle.cxl_machine.proofs.Deciding.{passes_some, found_test, lies_where, passes_where, at_contains}
 use Rattle.cxl_machine.proofs.LiveRegions.{live_is_region}
 
--- each byte of a region's spans is reached
-abbrev pub OntoLaw : Type 0
-OntoLaw =
-    (s : System) (w : WindowFields) (found : Found) (endpoint dpa : ℕ) → IsSystem s → IsRegionIn s w found → LiesInSpan found endpoint dpa → (h : ℕ) × Carries found w h endpoint dpa
-
-module _ (onto : OntoLaw) (m : Machine) (is : IsMachine m) (endpoint dpa : ℕ) where
+module _ (onto : CarriesSome) (m : Machine) (is : IsMachine m) (endpoint dpa : ℕ) where
   pub some_told : (reply : Reply) × TellsHost m endpoint dpa reply
   some_told =
       let test = λ (region : Live). found_test region.found endpoint dpa in

@@ -1,5 +1,6 @@
 -- Each command is answered where no call of the bus failed.
 use Rattle.std.proofs.Common.{◌≡◌, ℕ, Result, Ok, Err, Option, Some, None, refl}
+use Rattle.cxl_poison.proofs.SomeTelling.{CarriesSome}
 use Rattle.cxl_script.specs.declared.command.Command.{Command}
 use Rattle.cxl_script.specs.declared.command.Command.TheVariants as commands
 use Rattle.cxl_script.specs.declared.command.Create.{Create}
@@ -20,7 +21,7 @@ use Rattle.cxl_machine.specs.Regions.{AnswersWhole, begin_answer, Steps, Aborts,
 use Rattle.cxl_machine.specs.Answers.{Answers}
 use Rattle.cxl_machine.specs.Sound.{IsMachine}
 use Rattle.cxl_machine.proofs.PoisonReplies.{SomeTelling, some_reply}
-use Rattle.cxl_machine.proofs.Told.{OntoLaw, some_told}
+use Rattle.cxl_machine.proofs.Told.{some_told}
 
 given : (answer : Answer) → (a : Answer) × Gives NoFault a answer
 given answer = (answer, record { unfailing = refl; told = refl })
@@ -42,7 +43,7 @@ module _ (m : Machine) where
   some_pending None goes each = given (stays m replies.NothingPending)
   some_pending (Some job) goes each = each job
 
-module _ (onto : OntoLaw) (lists : SomeTelling) (m : Machine) (is : IsMachine m) where
+module _ (onto : CarriesSome) (lists : SomeTelling) (m : Machine) (is : IsMachine m) where
   up_by : (asked : Up) (o : Option ℕ) → endpoint_named m.settled.nodes asked.endpoint ≡ o → (answer : Answer) × AnswersUp m asked answer
   up_by asked None is_none = (stays m (replies.NoEndpoint asked.endpoint), no_endpoint is_none refl)
   up_by asked (Some endpoint) is_some =

@@ -1,22 +1,16 @@
 -- The writes of a job are those of its rows in the one order that they have.
-use Rattle.std.proofs.Common.{◌≡◌, ◌⊎◌, ℕ, zero, suc, ◌+◌, ◌-◌, ◌<◌, ◌≤◌, List, [], ◌∷◌, length, get_or, map, reverse, Option, Some, None, refl, sym, ap, ◌∙◌, subst, inl, inr, arith}
-use Rattle.std.specs.Prelude.{AllPairs, Contains, option_map, option_and_then}
-use Rattle.std.specs.List.{cons_option, filter_map, flat_map, range_with_len}
+use Rattle.std.proofs.Common.{◌≡◌, ◌⊎◌, ℕ, zero, suc, ◌+◌, ◌-◌, ◌<◌, ◌≤◌, List, [], ◌∷◌, length, map, reverse, refl, sym, ap, ◌∙◌, subst, inl, inr, arith}
+use Rattle.std.specs.Prelude.{AllPairs, Contains}
+use Rattle.std.specs.List.{flat_map}
 use Rattle.std.proofs.lemmas.List.{get_or-reverse, length-reverse}
-use Rattle.std.proofs.lemmas.List.Elements.{Contains-get_or}
 use Rattle.std.proofs.lemmas.List.Sorted.{Contains-permutation, IsPermutation-sym, IsPermutation-reverse}
 use mathlib.Core.List.{reverse-reverse}
-use Rattle.std.proofs.lemmas.Option.{none-some, same_Some}
-use Rattle.cxl_regs.specs.declared.decoder.Decoder.{Decoder}
-use Rattle.cxl_model.specs.declared.found.Found.{Found}
 use Rattle.cxl_model.specs.declared.plan.Row.{Row}
-use Rattle.cxl_model.specs.System.{System, decoder_at}
-use Rattle.cxl_regs.specs.declared.reading.Range.{Range}
-use Rattle.cxl_model.specs.Ranges.{index_for}
-use Rattle.cxl_model.specs.Regions.{region_range}
+use Rattle.cxl_model.specs.System.{System}
 use Rattle.cxl_apply.specs.declared.write.Write.{Write}
 use Rattle.cxl_apply.specs.Jobs.{AreCreateWrites, AreReleaseWrites, row_writes, release_write}
-use Rattle.cxl_apply.specs.Releases.{row_for, rows_of}
+use Rattle.cxl_apply.specs.Releases.{rows_of}
+use Rattle.cxl_apply.proofs.Freed.{rows_rise}
 use Rattle.cxl_machine.specs.Machine.{Live}
 use Rattle.cxl_machine.specs.Jobs.{create_writes, release_writes}
 
@@ -135,44 +129,6 @@ one_create s rows writes rising are =
     are.each ∙ ap (λ (rs : List Row). flat_map (row_writes s.blocks) rs) back
 
 -- ---- the writes of a release
-
-rises_next : (low : ℕ) (rows : List Row) → Rises (low + 1) rows → Rises low rows
-rises_next low [] rises = tt
-rises_next low (row ∷ rows) rises = let above = rises.0 in (omega arith, rises.1)
-
--- a row of this node, where there is one, before those of later nodes
-rises_with : (low : ℕ) (o : Option Row) (rows : List Row) → ((row : Row) → o ≡ Some row → row.node ≡ low) → Rises (low + 1) rows → Rises low (cons_option o rows)
-rises_with low None rows at rises = rises_next low rows rises
-rises_with low (Some row) rows at rises =
-    let node : row.node ≡ low = at row refl in
-    (omega (arith, node), subst (λ (k : ℕ). Rises (k + 1) rows) (sym node) rises)
-
-rises_found : (f : ℕ → Option Row) → ((n : ℕ) (row : Row) → f n ≡ Some row → row.node ≡ n) → (low n : ℕ) → Rises low (filter_map f (range_with_len low n))
-rises_found f at low zero = tt
-rises_found f at low (suc n) = rises_with low (f low) _ (at low) (rises_found f at (low + 1) n)
-
-pub row_node : (s : System) (r : Range) (n : ℕ) (row : Row) → row_for s r n ≡ Some row → row.node ≡ n
-row_node s r n row is = by_index (index_for s r n) is
-  where
-    of_decoder : (i : ℕ) (o : Option Decoder) → option_map (λ d. record { node = n; index = i; decoder = d }) o ≡ Some row → row.node ≡ n
-    of_decoder i None none = absurd (none-some row none)
-    of_decoder i (Some d) some = sym (ap (λ (r : Row). r.node) (same_Some record { node = n; index = i; decoder = d } row some))
-
-    by_index : (o : Option ℕ) → option_and_then (λ i. option_map (λ d. record { node = n; index = i; decoder = d }) (decoder_at s n i)) o ≡ Some row → row.node ≡ n
-    by_index None none = absurd (none-some row none)
-    by_index (Some i) some = of_decoder i (decoder_at s n i) some
-
-pairs_of : (low : ℕ) (rows : List Row) → Rises low rows → AllPairs (λ (row next : Row). row.node < next.node) rows
-pairs_of low [] rises i j d before within = absurd (omega (arith, within))
-pairs_of low (row ∷ rows) rises i zero d before within = absurd (omega (arith, before))
-pairs_of low (row ∷ rows) rises zero (suc j) d before within =
-    let above = above_low (row.node + 1) rows rises.1 (get_or rows j d) (Contains-get_or rows j d (omega (arith, within))) in
-    omega (arith, above)
-pairs_of low (row ∷ rows) rises (suc i) (suc j) d before within = pairs_of (row.node + 1) rows rises.1 i j d (omega (arith, before)) (omega (arith, within))
-
-rows_rise : (s : System) (found : Found) → AllPairs (λ (row next : Row). row.node < next.node) (rows_of s found)
-rows_rise s found =
-    pairs_of 0 (rows_of s found) (rises_found (row_for s (region_range found)) (row_node s (region_range found)) 0 (length s.nodes))
 
 pub release_is : (s : System) (region : Live) → AreReleaseWrites (rows_of s region.found) (release_writes s region)
 release_is s region = record {

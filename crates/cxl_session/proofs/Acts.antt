@@ -3,6 +3,7 @@ use Rattle.std.proofs.Common.{◌≡◌, [], Result, Ok, Err, refl, sym, ap, ◌
 use Rattle.std.specs.Prelude.{IfOk, IfErr, OnErr}
 use Rattle.cxl_enc.specs.declared.faults.Memory.{Memory}
 use Rattle.cxl_bus.specs.RegsState.{RegsState, IsUntouched}
+use Rattle.cxl_bus.proofs.Trails.{trail_nothing}
 use Rattle.cxl_media.specs.MediaState.{MediaState}
 use Rattle.cxl_script.specs.declared.command.Command.{Command}
 use Rattle.cxl_reply.specs.declared.reply.Reply.{Reply}
@@ -15,7 +16,7 @@ use Rattle.cxl_machine.specs.Trails.{TrailOf}
 use Rattle.cxl_session.specs.State.{SessionState}
 use Rattle.cxl_session.specs.Standing.{StandsFor, IsAt, HoldsMemory, Stands}
 use Rattle.cxl_session.specs.inner.Answering.{StandsSomehow, HoldsMachine, HoldsSome, IsWrittenFor, IsTurnFor}
-use Rattle.cxl_session.proofs.Turns.{still, no_words}
+use Rattle.cxl_session.proofs.Turns.{still}
 
 -- ---- where they stand for a machine
 
@@ -71,7 +72,7 @@ module _ (session : SessionState) (regs : RegsState) (command : Command) (none :
               frames = left.frames;
             };
           };
-          words = no_words regs.trail;
+          words = trail_nothing regs.trail;
           faults = omega arith;
           alone = refl;
           unswallowed = λ _ _. refl;

@@ -1,5 +1,5 @@
 -- No live region of a machine holds the base of another.
-use Rattle.std.proofs.Common.{◌≡◌, ◌≢◌, ℕ, ◌+◌, ◌<◌, ◌≤◌, false, List, map, inl, inr, sym, subst, arith}
+use Rattle.std.proofs.Common.{◌≡◌, ◌≢◌, ◌<◌, false, List, map, inl, inr, sym, subst, arith}
 use Rattle.std.specs.Prelude.{All, AllPairs}
 use Rattle.std.proofs.lemmas.Bool.{cases_Bool}
 use Rattle.std.proofs.lemmas.List.{map-append}
@@ -7,6 +7,7 @@ use Rattle.cxl_window.specs.Fields.{WindowFields}
 use Rattle.cxl_model.specs.declared.found.Found.{Found}
 use Rattle.cxl_model.specs.Regions.{IsRegion, IsRegionIn}
 use Rattle.cxl_model.specs.System.{System, IsSystem}
+use Rattle.cxl_model.proofs.ImageLaws.{ShareLaw}
 use Rattle.cxl_machine.specs.Machine.{Live, Machine, has_host, under_release, kept_regions}
 use Rattle.cxl_machine.specs.Sound.{IsMachine}
 use Rattle.cxl_machine.proofs.KeepingOrder.{pairs_front}
@@ -14,12 +15,6 @@ use Rattle.cxl_live.specs.Apart.{LieApart}
 use Rattle.cxl_live.proofs.Hosts.{host_from, host_below}
 use Rattle.cxl_session.specs.State.{SessionState}
 use Rattle.cxl_session.specs.Standing.{StandsFor}
-
--- two regions of an image that share a host byte are one
-abbrev pub ShareLaw : Type 0
-ShareLaw =
-    (s : System) (w v : WindowFields) (found other : Found) (h : ℕ) → IsSystem s → IsRegionIn s w found → IsRegionIn s v other → found.base ≤ h → h < found.base + found.size
-    → other.base ≤ h → h < other.base + other.size → found ≡ other
 
 -- each holds some byte
 abbrev pub SizeLaw : Type 0

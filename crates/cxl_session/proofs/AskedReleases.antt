@@ -18,7 +18,7 @@ use Rattle.cxl_apply.specs.Releases.{rows_of, first_locked, first_not_last}
 use Rattle.cxl_reply.specs.declared.reply.Reply.{Reply}
 use Rattle.cxl_reply.specs.declared.reply.Reply.TheVariants as replies
 use Rattle.cxl_legal.specs.Firsts.{first_there}
-use Rattle.cxl_enc.proofs.Lists.{find_passes}
+use Rattle.cxl_enc.proofs.Lists.{find_passes, item}
 use Rattle.cxl_machine.specs.Machine.{Live, RegionJob, Machine, live_named, place_named, blocks_with}
 use Rattle.cxl_machine.specs.Jobs.{release_job}
 use Rattle.cxl_machine.specs.Requests.{busy, no_region, locked, not_last, spot_of, release_at, job_unless, asked_release}
@@ -30,7 +30,7 @@ use Rattle.cxl_session.specs.Standing.{StandsFor}
 use Rattle.cxl_session.specs.inner.Requests.{IsNamedRelease}
 use Rattle.cxl_session.specs.inner.Rows.{is_locked, is_not_last}
 use Rattle.cxl_session.proofs.PendingJobs.{no_job}
-use Rattle.cxl_session.proofs.Places.{within, position_or_len-map, stands_at}
+use Rattle.cxl_session.proofs.Places.{position_or_len-map, stands_at}
 
 -- ---- a region by its name
 
@@ -54,7 +54,7 @@ module _ (m : Machine) (name : List ℕ) where
   region_at place is =
       let first = cond_some _ (position_or_len has_name m.live) place is in
       let low : place < length m.live = (let test = ltb-true (position_or_len has_name m.live) (length m.live) first.0 in let same = first.1 in omega (arith, test, same)) in
-      let at = within m.live place low in
+      let at = item m.live place low in
       (at.0, at.1, find_at has_name m.live ∙ ap (slice_get m.live) first.1 ∙ at.1)
 
   -- it has the name

@@ -6,6 +6,7 @@ use Rattle.std.proofs.lemmas.List.{append-nil}
 use Rattle.std.proofs.lemmas.Option.{slice_get_within, get_or_from_slice_get}
 use Rattle.cxl_regs.specs.Registers.{Registers}
 use Rattle.cxl_bus.specs.RegsState.{RegsState}
+use Rattle.cxl_bus.proofs.Trails.{trail_nothing}
 use Rattle.cxl_media.specs.MediaState.{MediaState}
 use Rattle.cxl_script.specs.declared.command.Command.TheVariants as commands
 use Rattle.cxl_model.specs.declared.found.Found.{Found}
@@ -34,13 +35,13 @@ use Rattle.cxl_session.specs.inner.Regions.{session_begun, own_job, BeginsReleas
 use Rattle.cxl_session.specs.inner.Requests.{IsNamedRelease}
 use Rattle.cxl_session.proofs.Places.{stands_at}
 use Rattle.cxl_session.proofs.Rearranged.{IsRearranged, rearranged_sound}
-use Rattle.cxl_session.proofs.Turns.{still, no_words}
+use Rattle.cxl_session.proofs.Turns.{still}
 use Rattle.cxl_session.proofs.Undoing.{IsBegunFrom, no_own_job}
 use Rattle.cxl_session.proofs.Zips.{map-remove, zip_remove}
 
 -- a release that a line asks for begins as a machine
-abbrev pub BeginsLaw : Type 0
-BeginsLaw = (m : Machine) (name : List ℕ) (job : RegionJob) → IsMachine m → asked_release m name ≡ Ok job → IsMachine (begun job m)
+abbrev pub ReleaseBeginsLaw : Type 0
+ReleaseBeginsLaw = (m : Machine) (name : List ℕ) (job : RegionJob) → IsMachine m → asked_release m name ≡ Ok job → IsMachine (begun job m)
 
 module _ (m : Machine) (place : ℕ) (region : Live) (there : slice_get m.live place ≡ Some region) (idle : m.job ≡ None) where
   abbrev job : RegionJob
@@ -71,7 +72,7 @@ module _ (m : Machine) (place : ℕ) (region : Live) (there : slice_get m.live p
           job = record { place = refl; name = same.name; found = same.found; writes = same.writes; done = same.done; kept = same.kept };
         })
 
-    module _ (law : BeginsLaw) (name : List ℕ) (asked : asked_release m name ≡ Ok job) (regs : RegsState) (media : MediaState) (at : IsAt session regs media m) where
+    module _ (law : ReleaseBeginsLaw) (name : List ℕ) (asked : asked_release m name ≡ Ok job) (regs : RegsState) (media : MediaState) (at : IsAt session regs media m) where
       pub begun_at : IsAt (session_begun own session) regs media (begun job m)
       begun_at = record {
         stands = begun_stands;
@@ -90,7 +91,7 @@ some_of : {X : Type 0} (P : X → Type 0) (o : Option X) → IsSomeAnd o P → (
 some_of P None is = absurd is
 some_of P (Some x) is = (x, refl, is)
 
-module _ (release_law : ReleaseLaw) (begins_law : BeginsLaw) (session next : SessionState) (name : List ℕ) (release : Release) (job : JobState)
+module _ (release_law : ReleaseLaw) (begins_law : ReleaseBeginsLaw) (session next : SessionState) (name : List ℕ) (release : Release) (job : JobState)
     (is_next : BeginsRelease session release.place job next) (writes : AreReleaseWrites release.rows.items job.writes) (fresh : job.done ≡ 0) where
   begun_as : (m : Machine) → StandsFor session m → (is : IsNamedRelease m name release)
       → (own : JobFields) × (next ≡ session_begun own session) × IsJobFor m own (release_job m.settled release.place is.region) × (own.writes ≡ job.writes)
@@ -147,7 +148,7 @@ module _ (release_law : ReleaseLaw) (begins_law : BeginsLaw) (session next : Ses
               ap (λ (n : ℕ). replies.Begun record { name = name; writes = n }) (many ∙ ap (λ (ws : List Write). length ws) (sym as_own.3 ∙ for_job.writes))
               ∙ ap (λ (n : List ℕ). replies.Begun record { name = n; writes = total_of made }) (sym is.named);
           at = begun_here m regs media at is;
-          words = no_words regs.trail;
+          words = trail_nothing regs.trail;
           faults = omega arith;
           alone = refl;
           unswallowed = λ _ _. refl;

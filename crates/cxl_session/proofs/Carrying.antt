@@ -6,6 +6,7 @@ use Rattle.std.specs.List.Sorted.{IsPermutation}
 use Rattle.std.proofs.lemmas.Bool.{cond-true, cond-false, lt-ltb, le-ltb}
 use Rattle.std.proofs.lemmas.List.Sorted.{IsPermutation-sym, IsPermutation-map, IsPermutation-append_left}
 use Rattle.std.proofs.lemmas.Option.{slice_get_within}
+use Rattle.cxl_enc.proofs.Lists.{contains_at}
 use Rattle.cxl_script.specs.declared.command.Command.{Command}
 use Rattle.cxl_script.specs.declared.command.Command.TheVariants as commands
 use Rattle.cxl_script.specs.declared.command.Pair.{Pair}
@@ -17,6 +18,7 @@ use Rattle.cxl_model.specs.System.{System, IsSystem}
 use Rattle.cxl_model.specs.Regions.{IsRegionIn}
 use Rattle.cxl_model.specs.Bytes.{LiesInSpan}
 use Rattle.cxl_model.specs.Contents.{Holding, AreMediaOf}
+use Rattle.cxl_model.proofs.RegionsInWindows.{window_there}
 use Rattle.cxl_move.specs.Sides.{AreHeld, AreSides, IsMoved, IsCopied}
 use Rattle.cxl_move.specs.Holdings.{told_in, AreHoldings}
 use Rattle.cxl_reply.specs.declared.reply.Reply.TheVariants as replies
@@ -26,7 +28,6 @@ use Rattle.cxl_machine.specs.Copies.{pieces_of, carried, copied, moved, frames_f
 use Rattle.cxl_machine.specs.Outcomes.{BusOutcome, NoFault, is_access, StoresBytes}
 use Rattle.cxl_machine.specs.Replies.{Answer, stays, becomes}
 use Rattle.cxl_machine.specs.Sound.{IsMachine, block_told}
-use Rattle.cxl_machine.proofs.Deciding.{contains_at}
 use Rattle.cxl_machine.proofs.KeepingBytes.{uncounted}
 use Rattle.cxl_machine.proofs.KeepingLists.{HaveOwnNames}
 use Rattle.cxl_machine.proofs.KeepingOrder.{pairs_front}
@@ -37,7 +38,7 @@ use Rattle.cxl_session.specs.inner.Answering.{HoldsMachine, IsWrittenAs}
 use Rattle.cxl_session.specs.inner.Pairs.{IsSideAt, AreTwo}
 use Rattle.cxl_session.specs.inner.Places.{StandsAt}
 use Rattle.cxl_session.proofs.Fronts.{two_at_front, second_with, both_with}
-use Rattle.cxl_session.proofs.Holding.{CountLaw, PieceCountLaw, holdings_of, are_holdings, holdings_again, media_again, holds_next, pieces_are, window_at}
+use Rattle.cxl_session.proofs.Holding.{CountLaw, PieceCountLaw, holdings_of, are_holdings, holdings_again, media_again, holds_next, pieces_are}
 use Rattle.cxl_session.proofs.Stays.{stands_with}
 
 -- ---- sides
@@ -63,7 +64,7 @@ pub window_within : (session : SessionState) (m : Machine) (place : ℕ) (region
 window_within session m place region stands is at =
     let here : Contains m.live region = contains_at m.live place region at.there in
     let own = live_is_region m is region here in
-    let there = window_at m.settled (region_window m.settled region.found) region.found is.settled.system own in
+    let there = window_there m.settled (region_window m.settled region.found) region.found is.settled.system own in
     let below : region.found.window < length session.windows =
     subst (λ (ws : List WindowFields). region.found.window < length ws) stands.windows (slice_get_within m.settled.windows region.found.window (region_window m.settled region.found) there) in
     subst (λ (o : Option Found). IsSomeAnd o (λ (found : Found). found.window < length session.windows)) (sym at.found) below

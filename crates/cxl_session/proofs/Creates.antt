@@ -3,6 +3,7 @@ use Rattle.std.proofs.Common.{◌≡◌, ℕ, List, [], ◌++◌, length, Ok, Er
 use Rattle.std.specs.List.Sorted.{IsPermutation}
 use Rattle.std.proofs.lemmas.List.Sorted.{IsPermutation-refl}
 use Rattle.cxl_bus.specs.RegsState.{RegsState}
+use Rattle.cxl_bus.proofs.Trails.{trail_nothing}
 use Rattle.cxl_media.specs.MediaState.{MediaState}
 use Rattle.cxl_script.specs.declared.command.Command.TheVariants as commands
 use Rattle.cxl_script.specs.declared.command.Create.{Create}
@@ -22,7 +23,7 @@ use Rattle.cxl_session.specs.inner.Answering.{IsTurnFor}
 use Rattle.cxl_session.specs.inner.Creating.{IsKeptCreate}
 use Rattle.cxl_session.specs.inner.Regions.{taken_out, session_begun, IsWholeFor, LeavesUndone}
 use Rattle.cxl_session.proofs.Rearranged.{IsRearranged, rearranged_sound}
-use Rattle.cxl_session.proofs.Turns.{still, no_words}
+use Rattle.cxl_session.proofs.Turns.{still}
 use Rattle.cxl_session.proofs.Undoing.{IsAtPlace, IsBegunFrom, no_own_job, refused_again}
 
 -- a create that a line asks for begins as a machine, where no job was pending
@@ -110,7 +111,7 @@ module _ (laws : BeginLaws) (session : SessionState) (create : Create) (own : Jo
                 ap (λ (n : ℕ). replies.Begun record { name = own.name; writes = n }) (many ∙ ap (λ (ws : List Write). length ws) is.same.writes)
                 ∙ ap (λ (n : List ℕ). replies.Begun record { name = n; writes = total_of made }) is.same.name;
             at = begun_at m is regs media at;
-            words = no_words regs.trail;
+            words = trail_nothing regs.trail;
             faults = omega arith;
             alone = refl;
             unswallowed = λ _ _. refl;

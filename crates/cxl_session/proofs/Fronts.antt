@@ -1,16 +1,15 @@
 -- Live regions at the front of a list in some order, and one of them with other bytes.
-use Rattle.std.proofs.Common.{◌≡◌, ◌≢◌, ℕ, suc, Bool, true, false, if◌then◌else◌, List, [], ◌∷◌, map, refl, sym, ap, ◌∙◌, subst, inl, inr, arith}
+use Rattle.std.proofs.Common.{◌≡◌, ◌≢◌, suc, Bool, true, false, if◌then◌else◌, List, [], ◌∷◌, map, refl, sym, ap, ◌∙◌, subst, inl, inr, arith}
 use Rattle.std.specs.Prelude.{All, Contains, remove}
 use Rattle.std.specs.Str.{bytes_eq}
 use Rattle.std.specs.List.Sorted.{IsPermutation}
 use Rattle.std.proofs.lemmas.Bool.{false≢true}
-use Rattle.std.proofs.lemmas.List.Elements.{All-head, All-tail}
 use Rattle.std.proofs.lemmas.List.Sorted.{IsPermutation-cons, IsPermutation-trans, IsPermutation-middle, IsPermutation-remove, IsPermutation-map, Contains-permutation}
 use Rattle.std.proofs.lemmas.Slice.Eq.{bytes_eq-Decides}
 use Rattle.cxl_model.specs.Contents.{Contents}
 use Rattle.cxl_enc.proofs.Lists.{contains_cases}
 use Rattle.cxl_machine.specs.Machine.{Live}
-use Rattle.cxl_machine.proofs.KeepingLists.{changed, HaveOwnNames, own_names}
+use Rattle.cxl_machine.proofs.KeepingLists.{changed, HaveOwnNames, own_names, all_unchanged}
 use Rattle.cxl_machine.proofs.KeepingOrder.{pairs_again}
 
 -- ---- lists
@@ -35,19 +34,6 @@ turned x y rest = IsPermutation-middle (x ∷ []) y rest
 
 pub own_again : (xs ys : List Live) → IsPermutation xs ys → HaveOwnNames xs → HaveOwnNames ys
 own_again xs ys same own = pairs_again (λ (a b : Live). a.name ≢ b.name) (λ a b apart e. apart (sym e)) xs ys same own
-
-unchanged : (name : List ℕ) (contents : Contents) (region : Live) → region.name ≢ name → changed name contents region ≡ region
-unchanged name contents region other = go (bytes_eq region.name name) refl
-  where
-    go : (b : Bool) → bytes_eq region.name name ≡ b → (if b then record region { contents = contents } else region) ≡ region
-    go true same = absurd (other ((bytes_eq-Decides region.name name).0 same))
-    go false differ = refl
-
-all_unchanged : (name : List ℕ) (contents : Contents) (regions : List Live) → All (λ (region : Live). region.name ≢ name) regions → map (changed name contents) regions ≡ regions
-all_unchanged name contents [] others = refl
-all_unchanged name contents (region ∷ regions) others =
-    ap (λ (r : Live). r ∷ map (changed name contents) regions) (unchanged name contents region (All-head (λ (r : Live). r.name ≢ name) region regions others))
-    ∙ ap (λ (rs : List Live). region ∷ rs) (all_unchanged name contents regions (All-tail (λ (r : Live). r.name ≢ name) region regions others))
 
 pub own_changed : (contents : Contents) (region : Live) → changed region.name contents region ≡ record region { contents = contents }
 own_changed contents region = go (bytes_eq region.name region.name) ((bytes_eq-Decides region.name region.name).1 refl)

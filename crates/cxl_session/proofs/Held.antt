@@ -1,6 +1,6 @@
 -- The regions of a machine that have bytes, and the blocks in which media has them.
-use Rattle.std.proofs.Common.{◌≡◌, ◌≢◌, ℕ, ◌<◌, List, [], map, length, get_or, Option, Some, sym, ap, ◌∙◌, subst, arith}
-use Rattle.std.specs.Prelude.{All, AllPairs, Contains, slice_get, unwrap_or}
+use Rattle.std.proofs.Common.{◌≡◌, ◌≢◌, ℕ, ◌<◌, List, [], map, length, get_or, Option, sym, ap, ◌∙◌, subst, arith}
+use Rattle.std.specs.Prelude.{All, AllPairs, Contains, unwrap_or}
 use Rattle.std.specs.FinMap as fin
 use Rattle.std.proofs.lemmas.List.{length-map, get_or-map, get_or_append_left, length-append}
 use Rattle.std.proofs.lemmas.List.Elements.{All-map}
@@ -8,9 +8,10 @@ use Rattle.cxl_window.specs.Fields.{WindowFields}
 use Rattle.cxl_media.specs.MediaState.{MediaState}
 use Rattle.cxl_media.specs.Blocks.{Blocks}
 use Rattle.cxl_model.specs.declared.found.Found.{Found}
-use Rattle.cxl_model.specs.System.{System, IsSystem}
+use Rattle.cxl_model.specs.System.{System}
 use Rattle.cxl_model.specs.Regions.{IsRegion, IsRegionIn}
 use Rattle.cxl_model.specs.Contents.{Holding, AreContents, AreMediaOf}
+use Rattle.cxl_poison.proofs.Pieced.{WindowsThere}
 use Rattle.cxl_move.specs.Sides.{IsPieceAt}
 use Rattle.cxl_move.specs.Holdings.{told_in, AreHoldings}
 use Rattle.cxl_machine.specs.Machine.{Live, Machine, absent_window, region_window, under_release, kept_regions, holding_of}
@@ -18,11 +19,7 @@ use Rattle.cxl_machine.specs.Sound.{IsMachine}
 use Rattle.cxl_session.specs.Standing.{HoldsMemory}
 use Rattle.cxl_bytes.specs.Woven.{HasPieces}
 
--- a region lies in the window of its number
-abbrev pub WindowLaw : Type 0
-WindowLaw = (s : System) (w : WindowFields) (found : Found) → IsSystem s → IsRegionIn s w found → slice_get s.windows found.window ≡ Some w
-
-module _ (law : WindowLaw) (m : Machine) (is : IsMachine m) where
+module _ (law : WindowsThere) (m : Machine) (is : IsMachine m) where
   -- the region and its bytes
   abbrev Stays : Holding → Type 0
   Stays one = IsRegionIn m.settled one.window one.found × AreContents one.found one.contents

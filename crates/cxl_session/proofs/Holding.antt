@@ -1,30 +1,28 @@
 -- The regions of a machine with their bytes, the blocks of media that hold these, and frames.
-use Rattle.std.proofs.Common.{◌≡◌, ◌≢◌, ℕ, ◌+◌, ◌<◌, ◌≤◌, List, [], ◌∷◌, map, length, get_or, Option, Some, unwrap_or, refl, sym, ap, ◌∙◌, subst, arith}
-use Rattle.std.specs.Prelude.{slice_get, sum_by, AllPairs, Contains}
+use Rattle.std.proofs.Common.{◌≡◌, ◌≢◌, ℕ, ◌+◌, ◌<◌, ◌≤◌, List, [], ◌∷◌, map, length, get_or, Option, refl, sym, ap, ◌∙◌, subst, arith}
+use Rattle.std.specs.Prelude.{sum_by, AllPairs, Contains}
 use Rattle.std.specs.FinMap as fin
-use Rattle.std.specs.List.{position_or_len}
 use Rattle.std.specs.List.Sorted.{IsPermutation}
 use Rattle.std.proofs.lemmas.List.{get_or-map, length-map}
-use Rattle.std.proofs.lemmas.List.Elements.{All-map, Contains-get_or, Contains-append_left}
-use Rattle.std.proofs.lemmas.List.Folds.{find_at}
+use Rattle.std.proofs.lemmas.List.Elements.{All-map, Contains-get_or}
 use Rattle.std.proofs.lemmas.List.Sorted.{IsPermutation-sym, All-permutation, Contains-permutation, sum_by_popped}
 use Rattle.std.proofs.lemmas.List.Sums.{sum_by-cons}
 use Rattle.cxl_enc.specs.Limits.{frame_limit}
 use Rattle.cxl_window.specs.Fields.{WindowFields}
 use Rattle.cxl_media.specs.Blocks.{Blocks}
 use Rattle.cxl_media.specs.MediaState.{MediaState, frame_count}
-use Rattle.cxl_model.specs.declared.found.Found.{Found}
-use Rattle.cxl_model.specs.System.{System, IsSystem}
-use Rattle.cxl_model.specs.Ranges.{lies_within}
-use Rattle.cxl_model.specs.Regions.{region_range, IsRegion, IsRegionIn}
+use Rattle.cxl_model.specs.System.{System}
+use Rattle.cxl_model.specs.Regions.{IsRegion, IsRegionIn}
 use Rattle.cxl_model.specs.Contents.{Holding, AreContents, AreMediaOf}
 use Rattle.cxl_move.specs.Sides.{AreHeld}
 use Rattle.cxl_move.specs.Holdings.{told_in, AreHoldings}
 use Rattle.cxl_move.proofs.Told.{media_of_alike}
-use Rattle.cxl_machine.specs.Machine.{Live, Machine, absent_window, region_window, holding_of, under_release, kept_regions, pieces_held}
+use Rattle.cxl_machine.specs.Machine.{Live, Machine, region_window, holding_of, kept_regions, pieces_held}
 use Rattle.cxl_machine.specs.Copies.{pieces_of}
 use Rattle.cxl_machine.proofs.KeepingBytes.{IsUncounted, uncounted, counted}
 use Rattle.cxl_machine.proofs.KeepingOrder.{pairs_again}
+use Rattle.cxl_machine.proofs.LiveRegions.{window_there}
+use Rattle.cxl_machine.proofs.KeepingMachines.{kept_there}
 use Rattle.cxl_session.specs.State.{SessionState}
 use Rattle.cxl_session.specs.Standing.{StandsFor, HoldsMemory}
 use Rattle.cxl_session.specs.inner.Answering.{HoldsMachine}
@@ -39,19 +37,6 @@ sum_of_map : {A B : Type 0} (f : B → ℕ) (g : A → B) (xs : List A) → sum_
 sum_of_map f g [] = refl
 sum_of_map {A = A} f g (x ∷ xs) =
     sum_by-cons f (g x) (map g xs) ∙ ap (λ (n : ℕ). f (g x) + n) (sum_of_map f g xs) ∙ sym (sum_by-cons (λ (y : A). f (g y)) x xs)
-
--- ---- windows
-
--- the region lies in the window of its number
-pub window_at : (s : System) (w : WindowFields) (found : Found) → IsSystem s → IsRegionIn s w found → slice_get s.windows found.window ≡ Some w
-window_at s w found system is =
-    let i : ℕ = position_or_len (lies_within (region_range found)) s.windows in
-    let at : slice_get s.windows i ≡ Some w = sym (find_at (lies_within (region_range found)) s.windows) ∙ is.window in
-    let place : found.window ≡ i = is.index ∙ system.made.indexed i w at in
-    ap (λ (n : ℕ). slice_get s.windows n) place ∙ at
-
-pub window_there : (s : System) (w : WindowFields) (found : Found) → IsSystem s → IsRegionIn s w found → region_window s found ≡ w
-window_there s w found system is = ap (λ (o : Option WindowFields). unwrap_or o absent_window) (window_at s w found system is)
 
 -- ---- the regions of a machine with their bytes
 
@@ -84,9 +69,6 @@ module _ (m : Machine) (is : IsUncounted m) where
         (λ k d below. (kept_region (get_or (kept_regions m) k d) (Contains-get_or (kept_regions m) k d below), is.regions.contents k d below));
     once = once;
   }
-
-pub live_kept : (m : Machine) (region : Live) → Contains m.live region → Contains (kept_regions m) region
-live_kept m region live = Contains-append_left m.live (under_release m.job) region live
 
 -- ---- in another order
 
@@ -135,11 +117,11 @@ module _ (law : PieceCountLaw) (session : SessionState) (media : MediaState) (m 
   pub pieces_are : (pieces : List ℕ) → AreHeld region.found (region_window m.settled region.found) media.blocks pieces → length pieces ≡ pieces_of region
   pieces_are pieces held =
       law m.settled (holdings_of m) (holding_of m.settled region) media.blocks pieces (are_holdings m (uncounted m holds.machine)) holds.memory
-      (contains_map (holding_of m.settled) (kept_regions m) region (live_kept m region live)) held
+      (contains_map (holding_of m.settled) (kept_regions m) region (kept_there m region live)) held
 
   pub pieces_fit : (pieces : List ℕ) → AreHeld region.found (region_window m.settled region.found) media.blocks pieces → media.free + length pieces ≤ frame_limit
   pieces_fit pieces held =
-      let front = at_front (kept_regions m) region (live_kept m region live) in
+      let front = at_front (kept_regions m) region (kept_there m region live) in
       let part : sum_by pieces_of front.0 + pieces_of region ≡ pieces_held m = sum_by_popped pieces_of region (kept_regions m) front.0 front.1 in
       let own = pieces_are pieces held in
       let all = holds.frames in

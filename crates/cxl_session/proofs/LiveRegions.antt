@@ -14,6 +14,7 @@ use Rattle.cxl_model.specs.System.{System, IsSystem}
 use Rattle.cxl_walk.specs.Keeping.{KeptFields, IsKept}
 use Rattle.cxl_machine.specs.Machine.{Live, Machine, region_window, image_of, present}
 use Rattle.cxl_machine.specs.Sound.{IsMachine}
+use Rattle.cxl_machine.proofs.Present.{StaysLaw}
 use Rattle.cxl_session.specs.State.{SessionState, image_in}
 use Rattle.cxl_session.specs.Standing.{IsKeptIn, StandsFor}
 use Rattle.cxl_opening.proofs.Zipped.{there, zip_map}
@@ -22,12 +23,6 @@ use Rattle.cxl_opening.proofs.Zipped.{there, zip_map}
 
 abbrev pub StaysSystem : Type 0
 StaysSystem = (m : Machine) → IsMachine m → IsSystem (present m) × KeepsBlocks (present m)
-
-abbrev pub StaysRegion : Type 0
-StaysRegion =
-    (m : Machine) (region : Live) → IsMachine m → Contains m.live region
-    → IsRegionIn m.settled (region_window m.settled region.found) region.found × IsRegionIn (present m) (region_window m.settled region.found) region.found
-    × HaveSameDecoders m.settled (present m) (region_range region.found)
 
 abbrev pub KeepsRoutes : Type 0
 KeepsRoutes =
@@ -47,7 +42,7 @@ module _ (session : SessionState) (m : Machine) (stands : StandsFor session m) w
       ∙ ap (λ blocks. system_with session.topo.nodes blocks m.settled.windows) (sym stands.image)
       ∙ ap (λ windows. system_with session.topo.nodes session.image windows) stands.windows
 
-  pub regions_stand : StaysRegion → IsMachine m → All (IsRegion (image_in session)) session.founds
+  pub regions_stand : StaysLaw → IsMachine m → All (IsRegion (image_in session)) session.founds
   regions_stand region is =
       subst (All (IsRegion (image_in session))) (sym stands.founds)
       (All-map (IsRegion (image_in session)) (λ (r : Live). r.found) m.live (λ k d low.
@@ -57,7 +52,7 @@ module _ (session : SessionState) (m : Machine) (stands : StandsFor session m) w
   abbrev HasRoutes : Found → KeptFields → Type 0
   HasRoutes found kept = (w : WindowFields) × IsRegionIn (image_in session) w found × IsKept (image_in session) w found kept
 
-  pub routes_stand : StaysSystem → StaysRegion → KeepsRoutes → IsMachine m → AllZip HasRoutes session.founds session.kept
+  pub routes_stand : StaysSystem → StaysLaw → KeepsRoutes → IsMachine m → AllZip HasRoutes session.founds session.kept
   routes_stand system region keeps is =
       subst (λ (founds : List Found). AllZip HasRoutes founds session.kept) (sym stands.founds)
       (zip_map (λ (r : Live). r.found) (λ (r : Live) (kept : KeptFields). IsKeptIn m.settled r.found kept) HasRoutes m.live session.kept each stands.kept)

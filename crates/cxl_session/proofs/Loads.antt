@@ -13,6 +13,7 @@ use Rattle.cxl_model.specs.declared.found.Found.{Found}
 use Rattle.cxl_model.specs.System.{System, IsSystem}
 use Rattle.cxl_model.specs.Contents.{Contents, Holding, AreMediaOf}
 use Rattle.cxl_model.specs.Regions.{IsRegionIn}
+use Rattle.cxl_poison.proofs.Pieced.{WindowsThere}
 use Rattle.cxl_walk.specs.Keeping.{KeptFields, IsKeptOf}
 use Rattle.cxl_move.specs.Sides.{IsPieceAt}
 use Rattle.cxl_move.specs.Holdings.{told_in, AreHoldings}
@@ -30,7 +31,7 @@ use Rattle.cxl_session.specs.inner.Places.{StandsAt, HoldsAt}
 use Rattle.cxl_bytes.specs.Woven.{IsWovenIn, HasPieces}
 use Rattle.cxl_session.specs.inner.Answering.{IsWithin}
 use Rattle.cxl_live.proofs.Hosts.{host_from, host_below}
-use Rattle.cxl_session.proofs.Held.{WindowLaw, has_pieces}
+use Rattle.cxl_session.proofs.Held.{has_pieces}
 use Rattle.cxl_session.proofs.Within.{holds_host, holds_live, found_is, kept_is, name_is}
 
 -- media has the pieces of each region whose bytes it holds
@@ -79,7 +80,7 @@ module _ (session : SessionState) (m : Machine) (is : IsMachine m) (h len place 
   pub woven_within : (kept : KeptFields) (weave : WeaveFields) → slice_get session.kept place ≡ Some kept → weave ≡ kept.weave → IsWovenIn m.settled (region_window m.settled within.0.found) found weave
   woven_within kept weave kept_there = woven_at session m is place within.0 within.1 there found kept weave found_there kept_there
 
-module _ (law : WindowLaw) (hold : PiecesLaw) (session : SessionState) (m : Machine) (is : IsMachine m) (media : MediaState) (memory : HoldsMemory m media) (load : Load) (place : ℕ)
+module _ (law : WindowsThere) (hold : PiecesLaw) (session : SessionState) (m : Machine) (is : IsMachine m) (media : MediaState) (memory : HoldsMemory m media) (load : Load) (place : ℕ)
     (within : IsWithin session m load.h load.len (Ok place)) (found : Found) (found_there : slice_get session.founds place ≡ Some found) (weave : WeaveFields)
     (woven : IsWovenIn m.settled (region_window m.settled within.0.found) found weave) where
   pub loaded : (bytes : List ℕ)

@@ -1,8 +1,9 @@
 -- The rows of a region's decoders, found node by node.
-use Rattle.std.proofs.Common.{◌≡◌, ℕ, zero, suc, ◌+◌, ◌<◌, ◌≤◌, Bool, true, false, ◌||◌, List, [], ◌∷◌, length, drop, Option, Some, None, refl, ap, ◌∙◌, arith}
+use Rattle.std.proofs.Common.{◌≡◌, ℕ, zero, suc, ◌+◌, ◌<◌, ◌≤◌, Bool, true, false, List, [], ◌∷◌, length, drop, Option, Some, None, refl, ap, ◌∙◌, arith}
 use Rattle.std.specs.Prelude.{slice_get, option_map, option_and_then, position}
 use Rattle.std.specs.Option.{option_map_or}
 use Rattle.std.proofs.lemmas.Option.{none-some, same_Some, slice_get_past}
+use Rattle.cxl_enc.proofs.Tests.{or_true}
 use Rattle.cxl_regs.specs.declared.decoder.Decoder.{Decoder}
 use Rattle.cxl_regs.specs.declared.reading.Range.{Range}
 use Rattle.cxl_regs.specs.Reading.{has_range}
@@ -43,10 +44,6 @@ module _ (blocks : List Registers) (r : Range) (n : ℕ) where
         (position_none (has_range r) block.decoders none)
 
 -- ---- committed decoders behind a place
-
-or_true : (b : Bool) → (b || true) ≡ true
-or_true true = refl
-or_true false = refl
 
 pub some_behind : (ds : List Decoder) (from k : ℕ) (d : Decoder) → from ≤ k → slice_get ds k ≡ Some d → d.committed ≡ true → any_committed (drop from ds) ≡ true
 some_behind [] from k d low at is = absurd (none-some d at)

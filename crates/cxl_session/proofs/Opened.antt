@@ -1,11 +1,10 @@
 -- The session that opens on an image stands for the machine that opens.
-use Rattle.std.proofs.Common.{◌≡◌, ℕ, ◌+◌, ◌<◌, ◌≤◌, true, false, List, [], ◌∷◌, map, length, take, Option, Some, None, Result, Ok, Err, refl, sym, ap, ◌∙◌, subst, arith}
-use Rattle.std.specs.Prelude.{slice_get, All, Contains, sum_by, unwrap_or, option_map, is_err, OnOk, OnErr}
+use Rattle.std.proofs.Common.{◌≡◌, ℕ, ◌+◌, ◌<◌, ◌≤◌, List, [], ◌∷◌, map, length, take, Option, Some, None, Result, Ok, Err, refl, sym, ap, ◌∙◌, subst, arith}
+use Rattle.std.specs.Prelude.{All, Contains, sum_by, unwrap_or, option_map}
 use Rattle.std.specs.List.{AllZip, enumerate_from, range_with_len}
 use Rattle.std.specs.FinMap as finmap
 use Rattle.std.specs.FinMap.{get-empty, len-empty}
 use Rattle.std.specs.Ordering.{nat_cmp}
-use Rattle.std.proofs.lemmas.Bool.{false≢true}
 use Rattle.std.proofs.lemmas.List.{append-nil}
 use Rattle.std.proofs.lemmas.List.Elements.{All-map}
 use Rattle.std.proofs.lemmas.List.Sums.{sum_by-cons}
@@ -35,6 +34,7 @@ use Rattle.cxl_machine.specs.declared.fault.OpenFault.TheVariants as faults
 use Rattle.cxl_machine.specs.Copies.{pieces_of}
 use Rattle.cxl_machine.specs.Machine.{Live, Machine, region_window, absent_window, holding_of, kept_regions, pieces_held}
 use Rattle.cxl_model.specs.Listed.{region_limit}
+use Rattle.cxl_poison.proofs.Pieced.{WindowsThere}
 use Rattle.cxl_machine.specs.Sound.{IsMachine, Opens, auto_name, block_told, opened_region, enabled_blocks}
 use Rattle.cxl_session.specs.State.{SessionState}
 use Rattle.cxl_session.specs.Standing.{IsKeptIn, StandsFor, IsAt}
@@ -79,10 +79,6 @@ opens_so start frames regions can = record { accepted = can.accepted; regions = 
 abbrev pub OpensMachines : Type 0
 OpensMachines = (start : System) (frames : ℕ) (m : Machine) → IsSystem start → HasBytePorts start.nodes → 1 ≤ frames → frames ≤ frame_limit → Opens start frames m → IsMachine m
 
--- what is known of the window of a region
-abbrev pub LiesInWindow : Type 0
-LiesInWindow = (s : System) (w : WindowFields) (found : Found) → IsSystem s → IsRegionIn s w found → slice_get s.windows found.window ≡ Some w
-
 pub machine_is : OpensMachines → (start : System) (frames : ℕ) (regions : List Found) → CanOpen start regions → HasBytePorts start.nodes → AreFrames frames → IsMachine (opened_machine start frames regions)
 machine_is opens start frames regions can ports are =
     opens start frames (opened_machine start frames regions) can.system ports are.some are.few (opens_so start frames regions can)
@@ -98,13 +94,13 @@ module _ (start : System) (frames : ℕ) (regions : List Found) where
   pub regions_in : IsMachine m → All (IsRegion m.settled) regions
   regions_in is = subst (All (IsRegion m.settled)) live_founds is.regions.all.each
 
-  own_window : LiesInWindow → IsMachine m → (found : Found) → Contains regions found → IsRegionIn m.settled (region_window m.settled found) found
+  own_window : WindowsThere → IsMachine m → (found : Found) → Contains regions found → IsRegionIn m.settled (region_window m.settled found) found
   own_window lies is found (k, low, read) =
       let own : IsRegion m.settled found = subst (IsRegion m.settled) read (regions_in is k found low) in
       let window : region_window m.settled found ≡ own.0 = ap (λ (o : Option WindowFields). unwrap_or o absent_window) (lies m.settled own.0 found is.settled.system own.1) in
       subst (λ (w : WindowFields). IsRegionIn m.settled w found) (sym window) own.1
 
-  routes_kept : LiesInWindow → IsMachine m → (kepts : List KeptFields) → AreRoutesOf m.settled regions kepts → AllZip (λ (r : Live) kept. IsKeptIn m.settled r.found kept) m.live kepts
+  routes_kept : WindowsThere → IsMachine m → (kepts : List KeptFields) → AreRoutesOf m.settled regions kepts → AllZip (λ (r : Live) kept. IsKeptIn m.settled r.found kept) m.live kepts
   routes_kept lies is kepts routes =
       opened_routes (IsKeptIn m.settled) 0 regions kepts
       (zip_weaker (λ (found : Found) (kept : KeptFields). (w : WindowFields) → IsRegionIn m.settled w found → IsKept m.settled w found kept) (IsKeptIn m.settled) regions kepts
@@ -158,7 +154,7 @@ pub regions_are : (topo : Tree) (windows : List WindowFields) (start image : Lis
 regions_are topo windows start image regions is enabled =
     subst (λ (blocks : List Registers). All (IsRegion (system_of blocks topo windows)) regions) (sym enabled) (regions_in (system_of start topo windows) topo.frames regions is)
 
-pub opened_stands : (lies : LiesInWindow) (topo : Tree) (windows : List WindowFields) (start image : List Registers) (regions founds : List Found) (names : List (List ℕ)) (kepts : List KeptFields)
+pub opened_stands : (lies : WindowsThere) (topo : Tree) (windows : List WindowFields) (start image : List Registers) (regions founds : List Found) (names : List (List ℕ)) (kepts : List KeptFields)
     → IsMachine (opened_machine (system_of start topo windows) topo.frames regions) → image ≡ enabled_blocks start → names ≡ map auto_name (range_with_len 0 (length regions)) → founds ≡ regions
     → AreRoutesOf (system_of image topo windows) regions kepts
     → StandsFor (record { topo = topo; windows = windows; image = image; names = names; founds = founds; kept = kepts; job = None }) (opened_machine (system_of start topo windows) topo.frames regions)
@@ -176,14 +172,6 @@ opened_stands lies topo windows start image regions founds names kepts is enable
     }
 
 -- ---- on the bus
-
-pub at_ok : {T E : Type 0} (r : Result T E) (P : Type 0) → is_err r ≡ false → OnOk r P → P
-at_ok (Ok x) P fine so = so
-at_ok (Err e) P fine so = absurd (false≢true (sym fine))
-
-pub at_err : {T E : Type 0} (r : Result T E) (P : Type 0) → is_err r ≡ true → OnErr r P → P
-at_err (Ok x) P failed so = absurd (false≢true failed)
-at_err (Err e) P failed so = so
 
 pub trail_from_none : (old now : Option (List Sent)) (words : List Sent) → now ≡ option_map (λ _. []) old → trail_with now words ≡ option_map (λ _. words) old
 trail_from_none None now words is = ap (λ (t : Option (List Sent)). trail_with t words) is

@@ -15,7 +15,7 @@ use Rattle.cxl_machine.specs.Jobs.{total_of, live_when_undone, at_done, undone}
 use Rattle.cxl_machine.specs.Sound.{IsSound}
 use Rattle.cxl_machine.proofs.KeepingJobs.{undone_keeps}
 use Rattle.cxl_machine.proofs.KeepingOrder.{put_back}
-use Rattle.cxl_machine.proofs.KeepingSteps.{at_done_keeps}
+use Rattle.cxl_machine.proofs.KeepingSteps.{at_done_keeps, released_same}
 use Rattle.cxl_session.specs.State.{JobFields, SessionState}
 use Rattle.cxl_session.specs.Standing.{released_place, IsKeptIn, image_of_region, IsJobFor, HasSameJob, StandsFor}
 use Rattle.cxl_session.specs.inner.Regions.{taken_in, session_undone}
@@ -33,10 +33,6 @@ same_job m own o some None same = absurd (subst (λ (x : Option JobFields). HasS
 same_job m own o some (Some job) same = (job, refl, subst (λ (x : Option JobFields). HasSameJob m x (Some job)) some same)
 
 -- ---- regions and their order
-
-released_same : (job : RegionJob) (done : ℕ) (kind : JobKind) → region_released (record job { done = done }) kind ≡ region_released job kind
-released_same job done (Creates rows) = refl
-released_same job done (Releases place) = refl
 
 moved_back : (live : List Live) (job : RegionJob) (kind : JobKind) → IsPermutation (live ++ region_released job kind) (live_when_undone job kind live ++ [])
 moved_back live job (Creates rows) = IsPermutation-refl (live ++ [])

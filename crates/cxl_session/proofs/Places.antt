@@ -1,5 +1,5 @@
 -- A live region stands at one place of all lists that a session keeps.
-use Rattle.std.proofs.Common.{◌≡◌, ℕ, zero, suc, ◌+◌, ◌<◌, ◌≤◌, Bool, not, cond, ltb, List, [], ◌∷◌, map, length, Option, Some, None, MatchOption, inl, inr, refl, sym, ap, ◌∙◌, subst, arith}
+use Rattle.std.proofs.Common.{◌≡◌, ℕ, ◌+◌, ◌<◌, ◌≤◌, Bool, not, cond, ltb, List, [], ◌∷◌, map, length, Option, Some, None, MatchOption, inl, inr, refl, sym, ap, ◌∙◌, subst}
 use Rattle.std.specs.Prelude.{slice_get, find, position, option_map, IsSomeAnd}
 use Rattle.std.specs.List.{position_or_len}
 use Rattle.std.specs.Str.{bytes_eq}
@@ -8,6 +8,7 @@ use Rattle.std.proofs.lemmas.List.{length-map}
 use Rattle.std.proofs.lemmas.List.Folds.{find_at}
 use Rattle.std.proofs.lemmas.Option.{slice_get-map, slice_get_past}
 use Rattle.std.proofs.lemmas.Slice.Zip.{AllZip-left}
+use Rattle.cxl_enc.proofs.Lists.{item}
 use Rattle.cxl_model.specs.declared.found.Found.{Found}
 use Rattle.cxl_machine.specs.Machine.{Live, Machine, has_host}
 use Rattle.cxl_session.specs.State.{SessionState}
@@ -15,11 +16,6 @@ use Rattle.cxl_session.specs.Standing.{IsKeptIn, StandsFor}
 use Rattle.cxl_session.specs.inner.Places.{StandsAt, FindsAt, HoldsAt, IsNamedAt}
 
 -- ---- lists
-
-pub within : {A : Type 0} (xs : List A) (i : ℕ) → i < length xs → (x : A) × (slice_get xs i ≡ Some x)
-within [] i low = absurd (omega arith)
-within (x ∷ xs) zero low = (x, refl)
-within (x ∷ xs) (suc i) low = within xs i (omega arith)
 
 -- the place among the images of a list is that among its items
 pub position_or_len-map : {A B : Type 0} (f : A → B) (p : B → Bool) (xs : List A) → position_or_len p (map f xs) ≡ position_or_len (λ x. p (f x)) xs
@@ -75,7 +71,7 @@ module _ {B : Type 0} (session : SessionState) (m : Machine) (stands : StandsFor
 
   held : passed < length m.live → FindsAt session m (λ (r : Live). test (f r)) (Some passed)
   held low =
-      let at = within m.live passed low in
+      let at = item m.live passed low in
       (at.0, found_there ∙ at.1, stands_at session m passed at.0 stands at.1)
 
   unheld : length m.live ≤ passed → FindsAt session m (λ (r : Live). test (f r)) None

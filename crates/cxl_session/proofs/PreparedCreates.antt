@@ -15,8 +15,8 @@ use Rattle.cxl_apply.specs.declared.write.Write.{Write}
 use Rattle.cxl_apply.specs.Jobs.{AreCreateWrites, blocks_after_writes}
 use Rattle.cxl_machine.specs.Machine.{region_window}
 use Rattle.cxl_machine.specs.Sound.{IsSettled}
+use Rattle.cxl_machine.proofs.LiveRegions.{window_there}
 use Rattle.cxl_session.specs.Standing.{IsKeptIn}
-use Rattle.cxl_session.proofs.Holding.{window_there}
 
 -- what is known of the image behind all writes of a create
 pub record CommitLaws : Type 0 where

@@ -7,6 +7,7 @@ use Rattle.cxl_window.specs.Fields.{WindowFields}
 use Rattle.cxl_model.specs.declared.extent.Extent.{Extent}
 use Rattle.cxl_model.specs.declared.found.Found.{Found}
 use Rattle.cxl_model.specs.Regions.{IsRegionIn}
+use Rattle.cxl_poison.proofs.Pieced.{WindowsThere}
 use Rattle.cxl_range.specs.Extents.{extents_of, spread_of}
 use Rattle.cxl_reply.specs.declared.reply.Reply.TheVariants as replies
 use Rattle.cxl_machine.specs.Machine.{Live, Machine, absent_window, region_window}
@@ -17,7 +18,6 @@ use Rattle.cxl_machine.proofs.LiveRegions.{live_is_region}
 use Rattle.cxl_session.specs.State.{SessionState}
 use Rattle.cxl_session.specs.Standing.{StandsFor}
 use Rattle.cxl_session.specs.inner.Answering.{IsWithin}
-use Rattle.cxl_session.proofs.Held.{WindowLaw}
 use Rattle.cxl_session.proofs.Within.{holds_live, found_is}
 
 module _ (session : SessionState) (m : Machine) (stands : StandsFor session m) (is : IsMachine m) (reach : Reach) (place : ℕ) (within : IsWithin session m reach.h reach.len (Ok place)) (found : Found)
@@ -36,7 +36,7 @@ module _ (session : SessionState) (m : Machine) (stands : StandsFor session m) (
   unfolding region w
   here = live_is_region m is within.0 (holds_live m reach.h within.0 within.4)
 
-  pub window_within : WindowLaw → found.window < length session.windows
+  pub window_within : WindowsThere → found.window < length session.windows
   window_within law =
       let at : slice_get m.settled.windows region.found.window ≡ Some w = law m.settled w region.found is.settled.system here in
       let low : region.found.window < length m.settled.windows = slice_get_within m.settled.windows region.found.window w at in

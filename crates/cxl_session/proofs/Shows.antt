@@ -6,6 +6,7 @@ use Rattle.std.specs.List.{filter_map, range_with_len}
 use Rattle.std.proofs.lemmas.List.{take_more, take_more_set}
 use Rattle.std.proofs.lemmas.Option.{none-some, same_Some, slice_get_within, slice_get-get_or}
 use Rattle.cxl_enc.specs.Faults.{Rose, LeavesCount}
+use Rattle.cxl_enc.proofs.Lists.{contains_at}
 use Rattle.cxl_regs.specs.declared.decoder.Decoder.{Decoder}
 use Rattle.cxl_regs.specs.declared.reading.Range.{Range}
 use Rattle.cxl_regs.specs.Reading.{has_range}
@@ -13,6 +14,7 @@ use Rattle.cxl_regs.specs.Registers.{Registers}
 use Rattle.cxl_regs.specs.Words.{words_of, offset_of, HasWord}
 use Rattle.cxl_regs.specs.Blocks.{IsPlace, word_in}
 use Rattle.cxl_bus.specs.RegsState.{RegsState, IsUntouched}
+use Rattle.cxl_bus.proofs.Trails.{trail_nothing}
 use Rattle.cxl_media.specs.MediaState.{MediaState}
 use Rattle.cxl_script.specs.declared.command.Command.TheVariants as commands
 use Rattle.cxl_topo.specs.declared.node.Node.{Node}
@@ -34,15 +36,14 @@ use Rattle.cxl_machine.specs.Machine.{Live, Machine, live_named, present, image_
 use Rattle.cxl_machine.specs.Outcomes.{NoFault, ReadFailed}
 use Rattle.cxl_machine.specs.Replies.{stays}
 use Rattle.cxl_machine.specs.Reports.{shown, shown_row, show_answer}
-use Rattle.cxl_machine.proofs.Deciding.{contains_at}
+use Rattle.cxl_machine.proofs.Present.{StaysLaw}
 use Rattle.cxl_session.specs.State.{SessionState}
 use Rattle.cxl_session.specs.Standing.{StandsFor, IsAt}
 use Rattle.cxl_session.specs.inner.Answering.{IsTurnFor}
 use Rattle.cxl_session.specs.inner.Places.{StandsAt, IsNamedAt}
 use Rattle.cxl_session.specs.inner.Rows.{IsRowOf}
 use Rattle.cxl_session.proofs.AskedReleases.{name_at}
-use Rattle.cxl_session.proofs.LiveRegions.{StaysRegion}
-use Rattle.cxl_session.proofs.Turns.{still, no_words}
+use Rattle.cxl_session.proofs.Turns.{still}
 
 -- ---- a word of a row's decoder
 
@@ -151,7 +152,7 @@ pub record IsShown (session : SessionState) (name : List ℕ) (place : ℕ) (fou
   pub there : slice_get session.founds place ≡ Some found
   pub rows_are : rows ≡ rows_of (system_of session.image session.topo []) found
 
-module _ (law : StaysRegion) (session : SessionState) (name : List ℕ) (place : ℕ) (found : Found) (rows : List Row) (is : IsShown session name place found rows) (old new : RegsState) (media : MediaState) where
+module _ (law : StaysLaw) (session : SessionState) (name : List ℕ) (place : ℕ) (found : Found) (rows : List Row) (is : IsShown session name place found rows) (old new : RegsState) (media : MediaState) where
   module _ (m : Machine) (at : IsAt session old media m) where
     region : (r : Live) × (live_named m name ≡ Some r) × StandsAt session m place r
     region = is.named m at.stands
@@ -188,7 +189,7 @@ module _ (law : StaysRegion) (session : SessionState) (name : List ℕ) (place :
               ∙ ap (λ (f : Found). replies.Shown record { name = own.name; found = f; rows = map shown_row rows }) (sym (same_found m at))
               ∙ ap (λ (rs : List Row). replies.Shown record { name = own.name; found = own.found; rows = map shown_row rs }) (rows_same m at);
           at = at_again m at read.same;
-          words = read.same.trail ∙ no_words old.trail;
+          words = read.same.trail ∙ trail_nothing old.trail;
           faults = omega (arith, counts);
           alone = read.same.alone;
           unswallowed = λ _. read.unswallowed;
@@ -204,7 +205,7 @@ module _ (law : StaysRegion) (session : SessionState) (name : List ℕ) (place :
         record {
           told = refl;
           at = at_again m at same;
-          words = same.trail ∙ no_words old.trail;
+          words = same.trail ∙ trail_nothing old.trail;
           faults = cause;
           alone = same.alone;
           unswallowed = λ none. absurd (omega (arith, none));

@@ -27,7 +27,7 @@ use Rattle.cxl_machine.specs.Replies.{Answer, stays, becomes, ends_within, is_re
 use Rattle.cxl_machine.specs.Sound.{block_told}
 use Rattle.cxl_machine.proofs.KeepingBytes.{IsUncounted, uncounted}
 use Rattle.cxl_machine.proofs.KeepingLists.{changed, HaveOwnNames}
-use Rattle.cxl_machine.proofs.KeepingMachines.{TurnsLaw, live_there, store_keeps}
+use Rattle.cxl_machine.proofs.KeepingMachines.{TurnsLaw, live_there, store_keeps, kept_there}
 use Rattle.cxl_machine.proofs.KeepingOrder.{pairs_front, all_front}
 use Rattle.cxl_machine.proofs.LiveRegions.{live_is_region}
 use Rattle.cxl_session.specs.State.{SessionState}
@@ -36,7 +36,7 @@ use Rattle.cxl_session.specs.inner.Answering.{HoldsMachine, IsWrittenAs}
 use Rattle.cxl_bytes.specs.Puts.{need_at, IsPut, PutsOne, PutsTwo}
 use Rattle.cxl_bytes.specs.Puts as puts
 use Rattle.cxl_session.proofs.Fronts.{at_front, front_with, own_again, own_changed}
-use Rattle.cxl_session.proofs.Holding.{CountLaw, holdings_of, are_holdings, holdings_again, media_again, holds_next, contains_map, live_kept}
+use Rattle.cxl_session.proofs.Holding.{CountLaw, holdings_of, are_holdings, holdings_again, media_again, holds_next, contains_map}
 use Rattle.cxl_bytes.proofs.WrittenPieces.{put_over, written_one, written_two, one_new, two_new}
 use Rattle.cxl_session.proofs.Stays.{stands_with}
 
@@ -104,7 +104,7 @@ module _ (laws : StoreLaws) (session : SessionState) (old : MediaState) (m : Mac
   own_piece : fin.get old.blocks (ep, dpa / 256) ≡ fin.get region.contents number
   own_piece =
       laws.held m.settled (holdings_of m) (holding_of m.settled region) old.blocks number ep (dpa / 256) (are_holdings m (uncounted m holds.machine)) holds.memory
-      (contains_map (holding_of m.settled) (kept_regions m) region (live_kept m region live)) at_piece
+      (contains_map (holding_of m.settled) (kept_regions m) region (kept_there m region live)) at_piece
 
   pub need_is : need_at old ep dpa ≡ cond (fin.contains_key region.contents number) 0 1
   need_is = ap (λ (o : Option (List ℕ)). cond (is_some o) 0 1) own_piece

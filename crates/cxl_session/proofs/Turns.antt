@@ -1,12 +1,10 @@
 -- Turns that leave session, registers and media as they are.
-use Rattle.std.proofs.Common.{◌≡◌, true, false, List, [], Option, Some, None, Result, Ok, Err, refl, sym, ap, subst, arith}
+use Rattle.std.proofs.Common.{◌≡◌, true, false, [], Result, Ok, Err, refl, sym, subst, arith}
 use Rattle.std.specs.Prelude.{OnOk, OnErr}
 use Rattle.std.specs.Result.{is_ok, is_err}
 use Rattle.std.proofs.lemmas.Bool.{false≢true}
-use Rattle.std.proofs.lemmas.List.{append-nil}
-use Rattle.cxl_bus.specs.declared.sent.Sent.{Sent}
 use Rattle.cxl_bus.specs.RegsState.{RegsState}
-use Rattle.cxl_bus.specs.Trail.{trail_with}
+use Rattle.cxl_bus.proofs.Trails.{trail_nothing}
 use Rattle.cxl_media.specs.MediaState.{MediaState}
 use Rattle.cxl_script.specs.declared.command.Command.{Command}
 use Rattle.cxl_reply.specs.declared.reply.Reply.{Reply}
@@ -19,18 +17,13 @@ use Rattle.cxl_session.specs.State.{SessionState}
 use Rattle.cxl_session.specs.Standing.{IsAt}
 use Rattle.cxl_session.specs.inner.Answering.{IsTurnFor}
 
--- no word is sent
-pub no_words : (trail : Option (List Sent)) → trail ≡ trail_with trail []
-no_words None = refl
-no_words (Some sent) = ap Some (sym (append-nil sent))
-
 -- a turn at which nothing changes
 pub still : (session : SessionState) (regs : RegsState) (media : MediaState) (command : Command) (reply : Reply) → faults_of command NoFault ≡ 0
     → ((m : Machine) → IsAt session regs media m → Answers m command NoFault (stays m reply) × TrailOf m command NoFault []) → IsTurnFor session session regs regs media media command reply
 still session regs media command reply none given m at = (
   record { reply = reply; machine = m; faults = 0; trail = [] },
   (NoFault, (given m at).0, (given m at).1, sym none),
-  record { told = refl; at = at; words = no_words regs.trail; faults = omega arith; alone = refl; unswallowed = λ _ _. refl },
+  record { told = refl; at = at; words = trail_nothing regs.trail; faults = omega arith; alone = refl; unswallowed = λ _ _. refl },
 )
 
 -- ---- by the answer of the bus

@@ -3,6 +3,7 @@ use Rattle.std.proofs.Common.{◌≡◌, ℕ, ◌+◌, ◌<◌, ◌≤◌, List,
 use Rattle.std.specs.Prelude.{slice_get, Contains}
 use Rattle.std.proofs.lemmas.Bool.{cases_lt}
 use Rattle.std.proofs.lemmas.Option.{slice_get_within}
+use Rattle.cxl_enc.proofs.Lists.{item, contains_at}
 use Rattle.cxl_deal.specs.Weaves.{WeaveFields}
 use Rattle.cxl_window.specs.Fields.{WindowFields}
 use Rattle.cxl_model.specs.declared.found.Found.{Found}
@@ -14,12 +15,12 @@ use Rattle.cxl_reply.specs.declared.reply.Reply.TheVariants as replies
 use Rattle.cxl_machine.specs.Machine.{Live, Machine, region_window}
 use Rattle.cxl_machine.specs.Sound.{IsMachine}
 use Rattle.cxl_machine.specs.Accesses.{TellsHost, carried, unmapped}
-use Rattle.cxl_machine.proofs.Deciding.{contains_at, at_contains}
+use Rattle.cxl_machine.proofs.Deciding.{at_contains}
 use Rattle.cxl_session.specs.State.{SessionState}
 use Rattle.cxl_session.specs.Standing.{StandsFor}
 use Rattle.cxl_bytes.specs.Woven.{IsWovenIn}
 use Rattle.cxl_session.specs.inner.Places.{StandsAt}
-use Rattle.cxl_session.proofs.Places.{within, as_many, stands_at}
+use Rattle.cxl_session.proofs.Places.{as_many, stands_at}
 use Rattle.cxl_session.proofs.Within.{found_is, name_is}
 use Rattle.cxl_session.proofs.Loads.{woven_at}
 
@@ -30,7 +31,7 @@ NoneBefore m endpoint dpa n = (k : ℕ) (region : Live) → k < n → slice_get 
 module _ (session : SessionState) (m : Machine) (stands : StandsFor session m) where
   -- the region that stands at a place
   pub region_at : (place : ℕ) → place < length session.founds → (region : Live) × (slice_get m.live place ≡ Some region)
-  region_at place low = within m.live place (omega (arith, low, as_many session m stands))
+  region_at place low = item m.live place (omega (arith, low, as_many session m stands))
 
   pub woven_there : IsMachine m → (place : ℕ) (found : Found) (kept : KeptFields) (weave : WeaveFields) → slice_get session.founds place ≡ Some found → slice_get session.kept place ≡ Some kept
       → weave ≡ kept.weave → (s : System) × (w : WindowFields) × IsWovenIn s w found weave

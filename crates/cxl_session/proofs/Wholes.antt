@@ -1,11 +1,12 @@
 -- A job that was begun is carried out: it ends, is undone, or stays pending where that fails too.
-use Rattle.std.proofs.Common.{◌≡◌, ℕ, ◌<◌, ◌≤◌, List, [], ◌++◌, length, Option, Some, None, Result, Err, refl, sym, ap, ◌∙◌, subst, arith, append_assoc}
+use Rattle.std.proofs.Common.{◌≡◌, ℕ, ◌<◌, ◌≤◌, List, [], ◌++◌, length, Option, Some, None, Result, Err, refl, sym, ap, ◌∙◌, subst, arith}
 use Rattle.std.specs.Prelude.{slice_get}
 use Rattle.cxl_enc.specs.Faults.{Rose, LeavesCount}
 use Rattle.cxl_regs.specs.Registers.{Registers}
 use Rattle.cxl_bus.specs.declared.sent.Sent.{Sent}
 use Rattle.cxl_bus.specs.RegsState.{RegsState}
 use Rattle.cxl_bus.specs.Trail.{trail_with}
+use Rattle.cxl_bus.proofs.Trails.{trail_append}
 use Rattle.cxl_media.specs.MediaState.{MediaState}
 use Rattle.cxl_script.specs.declared.command.Command.TheVariants as commands
 use Rattle.cxl_model.specs.declared.found.Found.{Found}
@@ -41,10 +42,6 @@ use Rattle.cxl_session.proofs.Undoing.{insert-remove}
 pub own_job_for : (session : SessionState) (own : JobFields) → session.job ≡ Some own → (n : Machine) (job : RegionJob) → n.job ≡ Some job → HasSameJob n session.job n.job → IsJobFor n own job
 own_job_for session own here n job pending same =
     subst (λ (o : Option JobFields). HasSameJob n o (Some job)) here (subst (HasSameJob n session.job) pending same)
-
-trail_append : (trail : Option (List Sent)) (words more : List Sent) → trail_with (trail_with trail words) more ≡ trail_with trail (words ++ more)
-trail_append None words more = refl
-trail_append (Some sent) words more = ap Some (append_assoc sent words more)
 
 module _ (session : SessionState) (old mid : RegsState) (own : JobFields) (here : session.job ≡ Some own) (made : ℕ) (left : List Registers) (goes : IsMadeTo own made session.image left old mid) where
   module _ (media : MediaState) (m : Machine) (job : RegionJob) (at : IsAt session old media (begun job m)) (fresh : job.done ≡ 0) where

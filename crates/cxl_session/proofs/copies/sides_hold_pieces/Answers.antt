@@ -1,5 +1,5 @@
+use Rattle.cxl_enc.proofs.Lists.{contains_at}
 use Rattle.cxl_move.specs.Sides.{AreSides}
-use Rattle.cxl_machine.proofs.Deciding.{contains_at}
 use Rattle.cxl_session.proofs.Holding.{pieces_fit}
 use Rattle.cxl_session.proofs.Carrying.{side_of, of_sides, held_of, sides_stand}
 use Rattle.cxl_session.proofs.copies.sides_hold_pieces.Goals as goal

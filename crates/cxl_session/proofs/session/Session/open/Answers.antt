@@ -1,6 +1,7 @@
 use Rattle.std.proofs.Common.{◌≡◌, ℕ, List, Err, refl, sym, ap, subst, ◌∙◌, inl, inr}
 use Rattle.std.proofs.lemmas.Result.{err_from_is_err_and}
 use Rattle.std.proofs.Math.Nat.{le_refl, le_trans}
+use Rattle.cxl_enc.proofs.Options.{on_ok_at, on_err_at}
 use Rattle.cxl_media.specs.MediaState.{MediaState}
 use Rattle.cxl_window.specs.Fields.{WindowFields}
 use Rattle.cxl_window.specs.Windows.{AreMadeWith}
@@ -15,7 +16,7 @@ use Rattle.cxl_opening.specs.Opening.{endpoints_in, enabling, HasRegions}
 use Rattle.cxl_opening.specs.Opened.{opened_machine, CanOpen, StopsEnabling}
 use Rattle.cxl_session.proofs.Acts.{err_always}
 use Rattle.cxl_opening.proofs.Errors.{not_ok}
-use Rattle.cxl_session.proofs.Opened.{at_ok, at_err, opens_so, image_is, half_is, places_are, opened_is_at, same_fault, trail_from_none, memory_not_breach, memory_not_full, memory_not_bus, bus_not_breach, bus_not_full, bus_not_memory, ok_not_err, rose_after, uncrowded}
+use Rattle.cxl_session.proofs.Opened.{opens_so, image_is, half_is, places_are, opened_is_at, same_fault, trail_from_none, memory_not_breach, memory_not_full, memory_not_bus, bus_not_breach, bus_not_full, bus_not_memory, ok_not_err, rose_after, uncrowded}
 use Rattle.cxl_session.proofs.session.Session.open.Goals as goal
 
 pub returns-in_err-founds-clause-breach : goal.returns-in_err-founds-clause-breach
@@ -149,7 +150,7 @@ returns-then-is_err g c =
     let new = g.R.Regs.state c.enable_endpoints.new.regs in
     let on = c.in-Ok.ensures in
     let failed = sym c.is_err.ensures.value ∙ c.if-is_err.true in
-    let stops : StopsEnabling c.deref-3.result.now mid new = at_err c.enable_endpoints.result _ failed c.enable_endpoints.ensures.stopped in
+    let stops : StopsEnabling c.deref-3.result.now mid new = on_err_at c.enable_endpoints.result _ failed c.enable_endpoints.ensures.stopped in
     record {
       opened = tt;
       enabled = tt;
@@ -160,7 +161,7 @@ returns-then-is_err g c =
       full = λ n is. absurd (bus_not_full n is);
       filled = λ n has more. absurd (uncrowded (system_of c.args.start c.args.topo c.args.windows.items) c.in_ok-founds.founds.items can n has more);
       untouched = λ none. absurd none;
-      bus = λ _. rose_after old.faults mid.faults new.faults on.counts (at_err c.enable_endpoints.result _ failed c.enable_endpoints.ensures.cause);
+      bus = λ _. rose_after old.faults mid.faults new.faults on.counts (on_err_at c.enable_endpoints.result _ failed c.enable_endpoints.ensures.cause);
       half_enabled = λ _. (
         half_is c.args.topo c.args.windows.items c.args.start c.deref-3.result.now old mid new (c.deref-3.ensures.value ∙ on.endpoints) on.powered.0.0 on.powered.0.1 stops,
         on.powered.1,
@@ -183,8 +184,8 @@ returns g c =
     let on = c.in-Ok.ensures in
     let enabled = sym c.is_err.ensures.value ∙ c.if-is_err.false in
     let are : c.deref-3.result.now ≡ endpoints_in c.args.topo.nodes = c.deref-3.ensures.value ∙ on.endpoints in
-    let sent : new.blocks ≡ blocks_sent mid.blocks (enabling c.deref-3.result.now) = at_ok c.enable_endpoints.result _ enabled c.enable_endpoints.ensures.blocks in
-    let words : new.trail ≡ trail_with mid.trail (enabling c.deref-3.result.now) = at_ok c.enable_endpoints.result _ enabled c.enable_endpoints.ensures.words in
+    let sent : new.blocks ≡ blocks_sent mid.blocks (enabling c.deref-3.result.now) = on_ok_at c.enable_endpoints.result _ enabled c.enable_endpoints.ensures.blocks in
+    let words : new.trail ≡ trail_with mid.trail (enabling c.deref-3.result.now) = on_ok_at c.enable_endpoints.result _ enabled c.enable_endpoints.ensures.words in
     let all : new.blocks ≡ enabled_blocks c.args.start =
     image_is c.args.topo c.args.windows.items c.args.start new.blocks c.deref-3.result.now founds can are
     (sent ∙ ap (λ (bs : List Registers). blocks_sent bs (enabling c.deref-3.result.now)) on.powered.0.0) in
@@ -210,5 +211,5 @@ returns g c =
       counts = le_trans on.counts c.enable_endpoints.ensures.counts;
       alone = c.enable_endpoints.ensures.alone ∙ on.alone;
       unswallowed = λ counted.
-          at_ok c.enable_endpoints.result _ enabled c.enable_endpoints.ensures.unswallowed (on.alone ∙ counted) ∙ on.unswallowed counted;
+          on_ok_at c.enable_endpoints.result _ enabled c.enable_endpoints.ensures.unswallowed (on.alone ∙ counted) ∙ on.unswallowed counted;
     }
