@@ -14,6 +14,7 @@ use Rattle.cxl_script.specs.declared.command.Load.{Load}
 use Rattle.cxl_script.specs.declared.command.Pair.{Pair}
 use Rattle.cxl_script.specs.declared.command.Store.{Store}
 use Rattle.cxl_model.specs.Contents.{Contents, content_at}
+use Rattle.cxl_model.proofs.ImageLaws.{ShareLaw}
 use Rattle.cxl_reply.specs.declared.reply.Reply.{Reply}
 use Rattle.cxl_reply.specs.declared.reply.Reply.TheVariants as replies
 use Rattle.cxl_reply.specs.declared.details.Carried.{Carried}
@@ -25,10 +26,10 @@ use Rattle.cxl_machine.specs.Replies.{Answer, stays, becomes, ends_within}
 use Rattle.cxl_machine.specs.Scripts.{Asked, Turn, TakesTurn}
 use Rattle.cxl_machine.specs.Sound.{IsMachine}
 use Rattle.cxl_machine.proofs.AccessesLeave.{AreTwo, are_two}
-use Rattle.cxl_machine.proofs.KeepingLists.{changed}
+use Rattle.cxl_machine.proofs.KeepingLists.{changed, unchanged}
 use Rattle.cxl_machine.proofs.KeepingMachines.{live_there}
 use Rattle.cxl_flat.specs.Memory.{byte_of, HasBytes, LiesBeside, LieWithin, IsFlatLoad, IsFlatStore, AreNamed, HasBytesOf, IsFlatCopy, IsFlatMove, IsFlatAccess}
-use Rattle.cxl_flat.proofs.Addresses.{host_bounds, has_between, has_not, AreApart, ShareLaw, live_apart, changed_apart, unchanged, to_changed, found_at, byte_at, byte_inside, byte_outside}
+use Rattle.cxl_flat.proofs.Addresses.{host_bounds, has_between, has_not, AreApart, live_apart, changed_apart, to_changed, found_at, byte_at, byte_inside, byte_outside}
 use Rattle.cxl_flat.proofs.Bytes.{stored_there, others_stay}
 
 -- ---- replies

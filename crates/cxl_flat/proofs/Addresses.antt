@@ -3,20 +3,17 @@ use Rattle.std.proofs.Common.{◌≡◌, ◌≢◌, ℕ, zero, suc, ◌+◌, ◌
 use Rattle.std.specs.Prelude.{Contains, find, nat_le, nat_lt, ◌&&◌, option_map}
 use Rattle.std.specs.Str.{bytes_eq}
 use Rattle.std.proofs.lemmas.Bool.{and_parts, and_from, leb-true, ltb-true, le-leb, lt-ltb, lt-leb, le-ltb, false≢true}
-use Rattle.std.proofs.lemmas.List.{get_or-map, get_or_append_left, length-append, length-map}
+use Rattle.std.proofs.lemmas.List.{get_or-map, length-map}
 use Rattle.std.proofs.lemmas.Option.{none-some}
 use Rattle.std.proofs.lemmas.Slice.Eq.{bytes_eq-Decides}
-use Rattle.cxl_window.specs.Fields.{WindowFields}
 use Rattle.cxl_model.specs.declared.found.Found.{Found}
 use Rattle.cxl_model.specs.Contents.{Contents, content_at}
-use Rattle.cxl_model.specs.Regions.{IsRegionIn}
-use Rattle.cxl_model.specs.System.{System, IsSystem}
-use Rattle.cxl_machine.specs.Machine.{Live, Machine, has_host, live_at, region_window, kept_regions, under_release, with_contents}
+use Rattle.cxl_model.proofs.ImageLaws.{ShareLaw}
+use Rattle.cxl_machine.specs.Machine.{Live, Machine, has_host, live_at, region_window, kept_regions, with_contents}
 use Rattle.cxl_machine.specs.Accesses.{offset_in}
 use Rattle.cxl_machine.specs.Sound.{IsMachine}
-use Rattle.cxl_machine.proofs.KeepingBytes.{same_bytes}
-use Rattle.cxl_machine.proofs.KeepingLists.{changed, changed-found, changed-name, one_named}
-use Rattle.cxl_machine.proofs.KeepingMachines.{live_there}
+use Rattle.cxl_machine.proofs.KeepingLists.{changed, changed-found, changed-name, one_named, unchanged}
+use Rattle.cxl_machine.proofs.KeepingMachines.{live_there, kept_there}
 use Rattle.cxl_machine.proofs.LiveRegions.{live_is_region, same_live}
 use Rattle.cxl_flat.specs.Memory.{byte_of, LiesBeside}
 
@@ -84,12 +81,6 @@ pub record AreApart (m : Machine) : Type 0 where
   pub host : (region other : Live) (h : ℕ) → Contains m.live region → Contains m.live other → has_host region.found h ≡ true → has_host other.found h ≡ true → region ≡ other
   pub name : (region other : Live) → Contains m.live region → Contains m.live other → region.name ≡ other.name → region ≡ other
 
--- two regions of an image that share a host byte have the same spans
-abbrev pub ShareLaw : Type 0
-ShareLaw =
-    (s : System) (w v : WindowFields) (found other : Found) (h : ℕ) → IsSystem s → IsRegionIn s w found → IsRegionIn s v other → found.base ≤ h → h < found.base + found.size
-    → other.base ≤ h → h < other.base + other.size → found ≡ other
-
 pub live_apart : ShareLaw → (m : Machine) → IsMachine m → AreApart m
 live_apart law m is = record {
   host = λ region other h there here one two.
@@ -98,11 +89,8 @@ live_apart law m is = record {
       same_live m is region other there here
       (law m.settled (region_window m.settled region.found) (region_window m.settled other.found) region.found other.found h is.settled.system (live_is_region m is region there) (live_is_region m is other here)
       own.0 own.1 its.0 its.1);
-  name = λ region other there here same. one_named (kept_regions m) is.regions.names region other (kept_there region there) (kept_there other here) same;
+  name = λ region other there here same. one_named (kept_regions m) is.regions.names region other (kept_there m region there) (kept_there m other here) same;
 }
-  where
-    kept_there : (r : Live) → Contains m.live r → Contains (kept_regions m) r
-    kept_there r (k, below, read) = (k, omega (arith, below, length-append m.live (under_release m.job)), get_or_append_left m.live (under_release m.job) r k below ∙ read)
 
 -- they are apart, too, where a region holds other bytes
 pub changed_apart : (m : Machine) (name : List ℕ) (contents : Contents) → AreApart m → AreApart (with_contents name contents m)
@@ -120,14 +108,6 @@ changed_apart m name contents apart = record {
       let second : its.0.name ≡ other.name = sym (changed-name name contents its.0) ∙ ap (λ (r : Live). r.name) its.2 in
       sym own.2 ∙ ap (changed name contents) (apart.name own.0 its.0 own.1 its.1 (first ∙ same ∙ sym second)) ∙ its.2;
 }
-
--- a region of another name stays as it is
-pub unchanged : (name : List ℕ) (contents : Contents) (region : Live) → region.name ≢ name → changed name contents region ≡ region
-unchanged name contents region other = go (bytes_eq region.name name) refl
-  where
-    go : (b : Bool) → bytes_eq region.name name ≡ b → (if b then record region { contents = contents } else region) ≡ region
-    go true same = absurd (other (same_bytes region.name name same))
-    go false differ = refl
 
 module _ (m : Machine) (apart : AreApart m) where
   -- a live region is found at each of its addresses

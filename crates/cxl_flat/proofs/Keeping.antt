@@ -30,6 +30,7 @@ use Rattle.cxl_machine.proofs.CommandKinds.{by_kind}
 use Rattle.cxl_machine.proofs.KeepingBegun.{asked_is}
 use Rattle.cxl_machine.proofs.KeepingCommands.{none_named, asked_idle}
 use Rattle.cxl_machine.proofs.KeepingOrder.{put_back, put_last}
+use Rattle.cxl_machine.proofs.KeepingSteps.{released_same}
 use Rattle.cxl_flat.specs.Memory.{writes_bytes, IsNew, KeepsBytes}
 
 -- ---- from one machine to the next
@@ -49,17 +50,12 @@ keeps_on m n o one all two region there =
       | inr new ↦ inr (record { name = λ other here. new.name other (all other here); zeros = new.zeros })
     ]
 
--- a job at another number of writes has the same regions
-same_released : (job : RegionJob) (done : ℕ) (kind : JobKind) → region_released (record job { done = done }) kind ≡ region_released job kind
-same_released job done (Creates rows) = refl
-same_released job done (Releases place) = refl
-
 kept_with : (m : Machine) (job : RegionJob) → m.job ≡ Some job → m.live ++ region_released job job.kind ≡ kept_regions m
 kept_with m job pending = ap (λ (o : Option RegionJob). m.live ++ under_release o) (sym pending)
 
 at_done_keeps : (m : Machine) (job : RegionJob) (done : ℕ) → m.job ≡ Some job → KeepsBytes m (at_done job done m)
 at_done_keeps m job done pending region there =
-    inl (subst (λ (rs : List Live). Contains rs region) (ap (λ (rs : List Live). m.live ++ rs) (same_released job done job.kind) ∙ kept_with m job pending) there)
+    inl (subst (λ (rs : List Live). Contains rs region) (ap (λ (rs : List Live). m.live ++ rs) (released_same job done job.kind) ∙ kept_with m job pending) there)
 
 -- ---- a job ends
 

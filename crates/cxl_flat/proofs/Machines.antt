@@ -5,8 +5,7 @@ use Rattle.std.proofs.lemmas.List.Elements.{All-map, All-contains, Contains-get_
 use Rattle.cxl_window.specs.Fields.{WindowFields}
 use Rattle.cxl_model.specs.declared.found.Found.{Found}
 use Rattle.cxl_model.specs.Bytes.{LiesInSpan}
-use Rattle.cxl_model.specs.Changes.{HaveSameDecoders}
-use Rattle.cxl_model.specs.Regions.{region_range, IsRegion, IsRegionIn, Carries}
+use Rattle.cxl_model.specs.Regions.{IsRegion, IsRegionIn, Carries}
 use Rattle.cxl_model.specs.System.{System, IsSystem}
 use Rattle.cxl_reply.specs.declared.reply.Reply.{Reply}
 use Rattle.cxl_reply.specs.declared.reply.Reply.TheVariants as replies
@@ -15,14 +14,8 @@ use Rattle.cxl_machine.specs.Machine.{Live, RegionJob, Machine, live_at, live_na
 use Rattle.cxl_machine.specs.Accesses.{TellsHost, carried}
 use Rattle.cxl_machine.specs.Reports.{live_regions}
 use Rattle.cxl_machine.specs.Sound.{IsMachine}
+use Rattle.cxl_machine.proofs.Present.{StaysLaw}
 use Rattle.cxl_flat.specs.Flat.{IsUnmapped, IsFlat}
-
--- what is known of the live regions of a machine
-abbrev pub StaysLaw : Type 0
-StaysLaw =
-    (m : Machine) (region : Live) → IsMachine m → Contains m.live region
-    → IsRegionIn m.settled (region_window m.settled region.found) region.found × IsRegionIn (present m) (region_window m.settled region.found) region.found
-    × HaveSameDecoders m.settled (present m) (region_range region.found)
 
 -- each of their spans is that of a live region
 of_live : (m : Machine) (found : Found) → Contains (live_regions m) found → (region : Live) × Contains m.live region × (region.found ≡ found)
