@@ -1,0 +1,3 @@
+pub mod Protocol
+pub mod Pipe
+pub mod Peer
