@@ -1,6 +1,7 @@
 pub mod Machine
 pub mod Jobs
 pub mod Outcomes
+pub mod Memory
 pub mod Elsewhere
 pub mod Replies
 pub mod Accesses

@@ -48,8 +48,10 @@ pub fn powered_on<R: Regs, M: Media>(
         × ((M.state media.new ≡ M.state media.old) ⊎ (M.state media.new ≡ empty_media topo.now.frames))) }
     ensures counts { (R.state regs.old).faults ≤ (R.state regs.new).faults }
     ensures alone { (R.state regs.new).counts_failures_alone ≡ (R.state regs.old).counts_failures_alone }
-    // A fault is not swallowed.
+    // A fault is not swallowed, nor hidden in want of memory.
     ensures unswallowed { OnOk result
+        (LeavesCount (R.state regs.old).counts_failures_alone (R.state regs.old).faults (R.state regs.new).faults) }
+    ensures unhidden { OnErr result
         (LeavesCount (R.state regs.old).counts_failures_alone (R.state regs.old).faults (R.state regs.new).faults) }
 {
     let endpoints = endpoints_of(alloc, topo)?;

@@ -1,6 +1,6 @@
 -- The turn of one command, by what the part of the session that carries it out says.
 use Rattle.std.proofs.Common.{◌≡◌, [], Result, Ok, Err, refl, sym, ap, ◌∙◌, subst, arith}
-use Rattle.std.specs.Prelude.{IfOk, IfErr, OnErr}
+use Rattle.std.specs.Prelude.{true, false, IsOk, IfOk, IfErr, OnErr}
 use Rattle.cxl_enc.specs.declared.faults.Memory.{Memory}
 use Rattle.cxl_bus.specs.RegsState.{RegsState, IsUntouched}
 use Rattle.cxl_bus.proofs.Trails.{trail_nothing}
@@ -10,6 +10,7 @@ use Rattle.cxl_reply.specs.declared.reply.Reply.{Reply}
 use Rattle.cxl_machine.specs.Machine.{Machine}
 use Rattle.cxl_machine.specs.Answers.{Answers}
 use Rattle.cxl_machine.specs.Outcomes.{NoFault, faults_of}
+use Rattle.cxl_machine.specs.Memory.{takes_memory}
 use Rattle.cxl_machine.specs.Replies.{Answer, stays}
 use Rattle.cxl_machine.specs.Sound.{IsMachine}
 use Rattle.cxl_machine.specs.Trails.{TrailOf}
@@ -98,6 +99,10 @@ untouched_by old new same = record {
   trail = ap (λ (regs : RegsState). regs.trail) same;
   alone = ap (λ (regs : RegsState). regs.counts_failures_alone) same;
 }
+
+-- what takes memory owes no answer
+pub owes_none : (command other : Command) (result : Result Reply Memory) → command ≡ other → takes_memory other ≡ true → takes_memory command ≡ false → IsOk result
+owes_none command other result is takes none = let same = ap takes_memory is in absurd (cc)
 
 -- ---- what holds of each reply, or of each error
 

@@ -1,9 +1,10 @@
 //! How one command is carried out.
 
-ghost use Rattle.std.specs.Prelude.{◌≡◌, ◌≤◌, true, Ok, IfOk, OnErr};
+ghost use Rattle.std.specs.Prelude.{◌≡◌, ◌≤◌, true, false, Ok, IsOk, IfOk, OnErr};
 ghost use Rattle.cxl_enc.specs.Faults.{LeavesCount};
 ghost use Rattle.cxl_bus.specs.RegsState.{IsUntouched};
 ghost use Rattle.cxl_script.specs.Grammar.{IsRanged};
+ghost use Rattle.cxl_machine.specs.Memory.{takes_memory};
 ghost use Rattle.cxl_machine.specs.Replies.{is_refusal};
 ghost use Rattle.cxl_machine.specs.Scripts.{Turn, TakesTurn};
 ghost use Rattle.cxl_session.specs.Standing.{Stands, ForEachMachine, HasTaken};
@@ -42,6 +43,8 @@ impl Session {
         // Nor is a fault of the bus swallowed in it.
         ensures unswallowed { OnErr result (LeavesCount (R.state regs.old).counts_failures_alone
             (R.state regs.old).faults (R.state regs.new).faults) }
+        // A command that takes none is answered.
+        ensures ready { takes_memory command.now ≡ false → IsOk result }
         // Its image is the bus's, over the same host.
         ensures image { self.new.image ≡ (R.state regs.new).blocks }
         ensures host { (self.new.topo ≡ self.old.topo) × (self.new.windows ≡ self.old.windows) }

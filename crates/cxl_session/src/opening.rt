@@ -80,9 +80,11 @@ impl Session {
             × ((M.state media.new ≡ M.state media.old) ⊎ (M.state media.new ≡ empty_media topo.frames)) }
         ensures counts { (R.state regs.old).faults ≤ (R.state regs.new).faults }
         ensures alone { (R.state regs.new).counts_failures_alone ≡ (R.state regs.old).counts_failures_alone }
-        // A fault is not swallowed.
+        // A fault is not swallowed, nor hidden in want of memory.
         ensures unswallowed { OnOk result
             (LeavesCount (R.state regs.old).counts_failures_alone (R.state regs.old).faults (R.state regs.new).faults) }
+        ensures unhidden { result ≡ Err OpenFault.Memory
+            → LeavesCount (R.state regs.old).counts_failures_alone (R.state regs.old).faults (R.state regs.new).faults }
     {
         let founds = regions_to_open(alloc, &topo, &windows, &start)?;
         let Ok(endpoints) = powered_on(alloc, &topo, &start, regs, media) else {

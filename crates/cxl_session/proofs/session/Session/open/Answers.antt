@@ -72,6 +72,9 @@ returns-in_err-founds-clause-counts g c = le_refl (g.R.Regs.state c.args.regs.no
 pub returns-in_err-founds-clause-alone : goal.returns-in_err-founds-clause-alone
 returns-in_err-founds-clause-alone g c = refl
 
+pub returns-in_err-founds-clause-unhidden : goal.returns-in_err-founds-clause-unhidden
+returns-in_err-founds-clause-unhidden g c = λ _ _. refl
+
 pub returns-in_err-founds-clause-opened : goal.returns-in_err-founds-clause-opened
 returns-in_err-founds-clause-opened g c = not_ok _ c.from_residual.result _ c.from_residual.ensures.1
 
@@ -119,6 +122,7 @@ returns-in_default g c =
       counts = c.in_default.ensures.counts;
       alone = c.in_default.ensures.alone;
       unswallowed = tt;
+      unhidden = λ _. c.in_default.ensures.unhidden;
     }
 
 pub returns-in_default-over : goal.returns-in_default-over
@@ -140,6 +144,7 @@ returns-in_default-over g c =
       counts = c.in-Ok.ensures.counts;
       alone = c.in-Ok.ensures.alone;
       unswallowed = tt;
+      unhidden = λ _. c.in-Ok.ensures.unswallowed;
     }
 
 pub returns-then-is_err : goal.returns-then-is_err
@@ -170,6 +175,7 @@ returns-then-is_err g c =
       counts = le_trans on.counts c.enable_endpoints.ensures.counts;
       alone = c.enable_endpoints.ensures.alone ∙ on.alone;
       unswallowed = tt;
+      unhidden = λ is. absurd (bus_not_memory is);
     }
 
 pub returns : goal.returns
@@ -212,4 +218,5 @@ returns g c =
       alone = c.enable_endpoints.ensures.alone ∙ on.alone;
       unswallowed = λ counted.
           on_ok_at c.enable_endpoints.result _ enabled c.enable_endpoints.ensures.unswallowed (on.alone ∙ counted) ∙ on.unswallowed counted;
+      unhidden = λ is. absurd (ok_not_err c.in-Ok-over.session faults.Memory is);
     }
