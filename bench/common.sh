@@ -61,10 +61,13 @@ def cedt(records):
     return bytes(made)
 
 
+def window_over(base, size, uid, code=0):
+    return struct.pack("<BBHIQQBBHIHHI", 1, 0, 40, 0, base, size, 0, 0, 0, code, 0x0E, 0, uid)
+
+
 def table(bridges, windows):
-    """The bridges, and windows of one way of this base and these bytes, each over the bridge of this UID."""
-    front = b"".join(chbs(uid) for uid in range(bridges))
-    return cedt(front + b"".join(struct.pack("<BBHIQQBBHIHHI", 1, 0, 40, 0, base, size, 0, 0, 0, 0, 0x0E, 0, uid) for base, size, uid in windows))
+    """The bridges, and windows of one way of this base, these bytes, the bridge of this UID, and this granularity code or 0."""
+    return cedt(b"".join(chbs(uid) for uid in range(bridges)) + b"".join(window_over(*it) for it in windows))
 
 
 def tree(bridges, switches, ends):

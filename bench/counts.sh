@@ -3,7 +3,7 @@
 # size, allocations, and the most memory that is allocated at once in the run. A part of a job is the difference of two runs
 # that agree up to it.
 #
-# bench/counts.sh [JOB..]    these of the jobs `plan`, `check`, `tables` and `topology`, or all
+# bench/counts.sh [JOB..]    these of the jobs `plan`, `codes`, `creates`, `check`, `tables` and `topology`, or all
 #
 # It wants valgrind: callgrind counts the instructions, dhat the allocations and the bytes of them in use at once. The
 # files are made in a folder that it takes away again, and each answer is compared with one worked out here. README.md
@@ -43,6 +43,10 @@ class Counts:
     def without_toml(self):
         return Counts(self.instructions - self.toml, 0, self.allocations, self.memory)
 
+    def each(self, count):
+        """What one takes of so many that come one after another."""
+        return Counts(self.instructions // count, self.toml // count, self.allocations // count, self.memory)
+
 
 def files(*made):
     return [put(f"{WORK}/file{i}", it) for i, it in enumerate(made)]
@@ -52,8 +56,9 @@ def found(pattern, text):
     return int(re.search(pattern, text)[1].replace(",", ""))
 
 
-def valgrind(tool, words):
-    ran = subprocess.run(["valgrind", *tool, PROGRAM, *words], stdout=subprocess.DEVNULL, stderr=subprocess.PIPE, text=True)
+def valgrind(tool, words, script):
+    with open(script) as it:
+        ran = subprocess.run(["valgrind", *tool, PROGRAM, *words], stdin=it, stdout=subprocess.DEVNULL, stderr=subprocess.PIPE, text=True)
     return ran.stderr
 
 
@@ -72,15 +77,16 @@ def taken_by_toml(profile):
     return cost
 
 
-def counted(words, status, text):
-    """What a run takes that has to answer with this status and text."""
+def counted(words, status, text, script="/dev/null"):
+    """What a run takes that has to answer with this status and text, by this script."""
     wanted = (status, text if isinstance(text, bytes) else text.encode())
-    ran = subprocess.run([PROGRAM, *words], stdout=subprocess.PIPE, stderr=subprocess.DEVNULL)
+    with open(script) as it:
+        ran = subprocess.run([PROGRAM, *words], stdin=it, stdout=subprocess.PIPE, stderr=subprocess.DEVNULL)
     if (ran.returncode, ran.stdout) != wanted:
         sys.exit(f"{words}: {ran.returncode} {ran.stdout[:400]}, not {wanted[0]} {wanted[1][:400]}")
     profile = f"{WORK}/callgrind"
-    calls = valgrind(["--tool=callgrind", "--compress-pos=no", f"--callgrind-out-file={profile}"], words)
-    heap = valgrind(["--tool=dhat", f"--dhat-out-file={WORK}/dhat"], words)
+    calls = valgrind(["--tool=callgrind", "--compress-pos=no", f"--callgrind-out-file={profile}"], words, script)
+    heap = valgrind(["--tool=dhat", f"--dhat-out-file={WORK}/dhat"], words, script)
     with open(profile) as it:
         toml = taken_by_toml(it)
     return Counts(
@@ -96,18 +102,55 @@ def counted(words, status, text):
 WINDOWS = 64
 
 
-def plan(nodes):
+def below(n):
+    return (n + 1) * 2 * SIZE
+
+
+def host_of(nodes, code):
+    """A table and a topology, in which the last window is over the last group, which alone has memory of the kind. Window n has
+    the granularity code `code(n)`."""
     last = nodes // GROUP - 1
-    windows = [((n + 1) * 2 * SIZE, SIZE, n % last if n < WINDOWS - 1 else last) for n in range(WINDOWS)]
-    read = files(table(last + 1, windows), groups_of(nodes, lambda g: f"{'ram' if g == last else 'pmem'} = {UNIT}"))
-    rows = [f"plan r ram window {WINDOWS - 1} base {windows[-1][0]:#x} size {SIZE:#x} gran 256 ways {WAYS}"]
+    windows = [(below(n), SIZE, n % last if n < WINDOWS - 1 else last, code(n)) for n in range(WINDOWS)]
+    return last, files(table(last + 1, windows), groups_of(nodes, lambda g: f"{'ram' if g == last else 'pmem'} = {UNIT}"))
+
+
+def picked(nodes, name, code):
+    last, read = host_of(nodes, code)
+    rows = [f"plan r ram window {WINDOWS - 1} base {below(WINDOWS - 1):#x} size {SIZE:#x} gran 256 ways {WAYS}"]
     rows.append(f"row b{last} 0 ways {SWITCHES} gran 256 targets {','.join(map(str, range(SWITCHES)))}")
     ports = ",".join(map(str, range(ENDPOINTS)))
     rows += [f"row s{last}_{s} 0 ways {ENDPOINTS} gran 512 targets {ports}" for s in range(SWITCHES)]
     rows += [f"row e{last}_{s}_{e} 0 ways {WAYS} gran 256 skip 0x0" for s in range(SWITCHES) for e in range(ENDPOINTS)]
     refused = counted(["plan", *read, f"create r ram {SIZE:#x} nobody"], 8, "no such endpoint nobody\n")
     whole = counted(["plan", *read, f"create r ram {SIZE:#x} ways={WAYS}"], 0, "\n".join(rows) + "\n")
-    return [("plan ways=16: files", refused), ("plan ways=16: the pick", whole.past(refused))]
+    return [(f"{name}: files", refused), (f"{name}: the pick", whole.past(refused))]
+
+
+def plan(nodes):
+    return picked(nodes, "plan ways=16", lambda n: 0)
+
+
+# ---- codes: the same, where windows one after another have other codes, and the last has the first
+
+
+def codes(nodes):
+    return picked(nodes, "all codes", lambda n: n % 7)
+
+
+# ---- creates: a session's create and destroy over the same host
+
+
+def creates(nodes):
+    _, read = host_of(nodes, lambda n: 0)
+
+    def answered(ways, count):
+        # One way goes to an idle endpoint, and those are under the first bridge.
+        size, window = ways * UNIT, 0 if ways == 1 else WINDOWS - 1
+        script = put(f"{WORK}/script", f"create r ram {size:#x} ways={ways}\ndestroy r\n" * count)
+        made = f"created r window {window} base {below(window):#x} size {size:#x} gran 256 ways {ways}\ndestroyed r\n"
+        return counted(["run", *read], 0, made * count, script)
+
+    return [(f"a create, ways={ways}", answered(ways, 5).past(answered(ways, 1)).each(4)) for ways in (1, WAYS)]
 
 
 # ---- check: ten regions of sixteen ways in the window of each bridge
@@ -173,7 +216,7 @@ def topology(nodes):
 # ---- the jobs, each a function from a size to rows of a name and counts; new ones are named here
 
 NODES, BYTES = (128, 256, 512, 1024), (2**17, 2**18, 2**19, 2**20)
-JOBS = {"plan": (plan, NODES), "check": (check, NODES), "tables": (tables, BYTES), "topology": (topology, NODES)}
+JOBS = {"plan": (plan, NODES), "codes": (codes, NODES), "creates": (creates, NODES), "check": (check, NODES), "tables": (tables, BYTES), "topology": (topology, NODES)}
 
 unknown = [name for name in WANTED if name not in JOBS]
 if unknown:
