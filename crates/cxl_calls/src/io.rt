@@ -1,7 +1,8 @@
-//! Numbers, sinks and messages of `cxl_io`; its files and lines have modules of their own.
+//! Numbers, sinks and messages of `cxl_io`; its files, its lines, and what is outside have modules of their own.
 
 mod files;
 mod lines;
+mod outside;
 
 use crate::common::{list, prints, repeated, row_passes, shows};
 use cxl_io::{

@@ -25,6 +25,6 @@ pub use number::{NumFault, read_number};
 pub use print::{put_hex, put_number, write_hex};
 pub use sink::{Sink, write_all, writes_join};
 pub use source::Source;
-pub use std_fetch::StdFetch;
+pub use std_fetch::{StdFetch, whole_file};
 pub use std_sink::StdSink;
 pub use std_source::StdSource;

@@ -33,7 +33,11 @@ fn tells_six<S: Source>(reader: &mut LineReader, source: &mut S, text: &mut Vec<
 }
 
 /// Whether the first six answers begin so.
-fn gives<S: Source>(rt: &(impl Abort + AllocGlobal), source: &mut S, want: &str) -> bool {
+pub(super) fn gives<S: Source>(
+    rt: &(impl Abort + AllocGlobal),
+    source: &mut S,
+    want: &str,
+) -> bool {
     let mut reader = LineReader::new(rt.alloc()).expect(rt, "memory");
     let mut text = Vec::new(rt.alloc());
     tells_six(&mut reader, source, &mut text) && text.starts_with(want.as_bytes())
