@@ -5,6 +5,9 @@ use Rattle.std.proofs.lemmas.List.{map-append, reverse-append, take_more, drop_m
 use Rattle.std.proofs.lemmas.Option.{slice_get_within, get_or_from_slice_get}
 use Rattle.cxl_enc.specs.Faults.{LeavesCount}
 use Rattle.cxl_regs.specs.Registers.{Registers}
+use Rattle.cxl_bus.proofs.Failed.{fails_both, fails_nowhere}
+use Rattle.cxl_bus.specs.declared.sent.Sent.{Sent}
+use Rattle.cxl_bus.specs.Failed.{HasFailed}
 use Rattle.cxl_bus.specs.RegsState.{RegsState}
 use Rattle.cxl_bus.specs.Trail.{trail_with}
 use Rattle.cxl_bus.proofs.Trails.{trail_nothing, trail_more}
@@ -69,6 +72,7 @@ pub record GoesForward (upto : ℕ) (was now : JobState) (blocks left : List Reg
   pub counts : old.faults ≤ new.faults
   pub alone : new.counts_failures_alone ≡ old.counts_failures_alone
   pub unswallowed : LeavesCount old.counts_failures_alone old.faults new.faults
+  pub unfailed : HasFailed old new []
 
 pub forward_none : (upto : ℕ) (was : JobState) (blocks : List Registers) (old : RegsState) → was.done ≤ upto → HasWordsOf blocks was.writes → old.blocks ≡ blocks → GoesForward upto was was blocks blocks old old
 forward_none upto was blocks old order words same = record {
@@ -82,6 +86,7 @@ forward_none upto was blocks old order words same = record {
   counts = omega arith;
   alone = refl;
   unswallowed = λ alone. refl;
+  unfailed = fails_nowhere old;
 }
 
 -- one more
@@ -89,8 +94,8 @@ forward_more : (upto : ℕ) (was now next : JobState) (blocks left after : List 
     → MakesWrite now next left after mid new
     → ((start : List Registers) → left ≡ blocks_done start now.writes now.done → after ≡ blocks_done start next.writes next.done)
     → HasWordsOf after next.writes → new.blocks ≡ after → mid.faults ≤ new.faults → new.counts_failures_alone ≡ mid.counts_failures_alone
-    → LeavesCount mid.counts_failures_alone mid.faults new.faults → GoesForward upto was next blocks after old new
-forward_more upto was now next blocks left after old mid new so_far order makes on_way words same counts alone unswallowed =
+    → LeavesCount mid.counts_failures_alone mid.faults new.faults → HasFailed mid new [] → GoesForward upto was next blocks after old new
+forward_more upto was now next blocks left after old mid new so_far order makes on_way words same counts alone unswallowed unfailed =
     let write = makes.write in
     let writes : next.writes ≡ now.writes = ap (λ (j : JobState). j.writes) makes.counted in
     let done : next.done ≡ now.done + 1 = ap (λ (j : JobState). j.done) makes.counted in
@@ -110,18 +115,31 @@ forward_more upto was now next blocks left after old mid new so_far order makes 
       counts = omega arith;
       alone = alone ∙ so_far.alone;
       unswallowed = λ is. unswallowed (so_far.alone ∙ is) ∙ so_far.unswallowed is;
+      unfailed = fails_both old mid new (words_made was.writes was.done now.done) [] [] so_far.sent so_far.unfailed unfailed;
     }
 
 pub forward_on : (result : Stepped) (upto : ℕ) (was now next : JobState) (blocks left after : List Registers) (old mid new : RegsState) → GoesForward upto was now blocks left old mid → now.done < upto
     → MatchStepped result (MakesWrite now next left after mid new) (IsAsBefore now next left after mid new) → result ≢ BusFault
     → ((start : List Registers) → left ≡ blocks_done start now.writes now.done → after ≡ blocks_done start next.writes next.done)
     → HasWordsOf after next.writes → new.blocks ≡ after → mid.faults ≤ new.faults → new.counts_failures_alone ≡ mid.counts_failures_alone
-    → (result ≢ BusFault → LeavesCount mid.counts_failures_alone mid.faults new.faults) → GoesForward upto was next blocks after old new
-forward_on Done upto was now next blocks left after old mid new so_far order makes other on_way words same counts alone unswallowed =
-    forward_more upto was now next blocks left after old mid new so_far order makes on_way words same counts alone (unswallowed other)
-forward_on More upto was now next blocks left after old mid new so_far order makes other on_way words same counts alone unswallowed =
-    forward_more upto was now next blocks left after old mid new so_far order makes on_way words same counts alone (unswallowed other)
-forward_on BusFault upto was now next blocks left after old mid new so_far order fails other on_way words same counts alone unswallowed = absurd (other refl)
+    → (result ≢ BusFault → LeavesCount mid.counts_failures_alone mid.faults new.faults) → (result ≢ BusFault → HasFailed mid new []) → GoesForward upto was next blocks after old new
+forward_on Done upto was now next blocks left after old mid new so_far order makes other on_way words same counts alone unswallowed unfailed =
+    forward_more upto was now next blocks left after old mid new so_far order makes on_way words same counts alone (unswallowed other) (unfailed other)
+forward_on More upto was now next blocks left after old mid new so_far order makes other on_way words same counts alone unswallowed unfailed =
+    forward_more upto was now next blocks left after old mid new so_far order makes on_way words same counts alone (unswallowed other) (unfailed other)
+forward_on BusFault upto was now next blocks left after old mid new so_far order fails other on_way words same counts alone unswallowed unfailed = absurd (other refl)
+
+-- the next one fails
+pub forward_failed : (result : Stepped) (upto : ℕ) (was now next : JobState) (blocks left after : List Registers) (old mid new : RegsState) → GoesForward upto was now blocks left old mid
+    → MatchStepped result (MakesWrite now next left after mid new) (IsAsBefore now next left after mid new) → result ≡ BusFault → (result ≡ BusFault → HasFailed mid new (0 ∷ []))
+    → HasFailed old new (length (words_made was.writes was.done next.done) ∷ [])
+forward_failed Done upto was now next blocks left after old mid new so_far makes is fails = absurd (cc)
+forward_failed More upto was now next blocks left after old mid new so_far makes is fails = absurd (cc)
+forward_failed BusFault upto was now next blocks left after old mid new so_far stays is fails =
+    let words : List Sent = words_made was.writes was.done now.done in
+    let place : length words + 0 ≡ length (words_made was.writes was.done next.done) =
+    (let e : length words + 0 ≡ length words = omega arith in e) ∙ ap (λ (j : JobState). length (words_made was.writes was.done j.done)) (sym stays.job) in
+    subst (λ (n : ℕ). HasFailed old new (n ∷ [])) place (fails_both old mid new words [] (0 ∷ []) so_far.sent so_far.unfailed (fails is))
 
 -- ---- writes that are taken back
 
@@ -137,6 +155,7 @@ pub record GoesBack (downto : ℕ) (was now : JobState) (blocks left : List Regi
   pub counts : old.faults ≤ new.faults
   pub alone : new.counts_failures_alone ≡ old.counts_failures_alone
   pub unswallowed : LeavesCount old.counts_failures_alone old.faults new.faults
+  pub unfailed : HasFailed old new []
 
 pub back_none : (downto : ℕ) (was : JobState) (blocks : List Registers) (old : RegsState) → downto ≤ was.done → HasWordsOf blocks was.writes → old.blocks ≡ blocks → GoesBack downto was was blocks blocks old old
 back_none downto was blocks old order words same = record {
@@ -150,6 +169,7 @@ back_none downto was blocks old order words same = record {
   counts = omega arith;
   alone = refl;
   unswallowed = λ alone. refl;
+  unfailed = fails_nowhere old;
 }
 
 -- one more
@@ -157,8 +177,8 @@ back_more : (downto : ℕ) (was now next : JobState) (blocks left after : List R
     → TakesBack now next left after mid new
     → ((start : List Registers) → AreTakenBack start now.writes → left ≡ blocks_done start now.writes now.done → after ≡ blocks_done start next.writes next.done)
     → HasWordsOf after next.writes → new.blocks ≡ after → mid.faults ≤ new.faults → new.counts_failures_alone ≡ mid.counts_failures_alone
-    → LeavesCount mid.counts_failures_alone mid.faults new.faults → GoesBack downto was next blocks after old new
-back_more downto was now next blocks left after old mid new so_far order takes on_way words same counts alone unswallowed =
+    → LeavesCount mid.counts_failures_alone mid.faults new.faults → HasFailed mid new [] → GoesBack downto was next blocks after old new
+back_more downto was now next blocks left after old mid new so_far order takes on_way words same counts alone unswallowed unfailed =
     let write = takes.write in
     let writes : now.writes ≡ next.writes = ap (λ (j : JobState). j.writes) takes.counted in
     let done : now.done ≡ next.done + 1 = ap (λ (j : JobState). j.done) takes.counted in
@@ -179,15 +199,28 @@ back_more downto was now next blocks left after old mid new so_far order takes o
       counts = omega arith;
       alone = alone ∙ so_far.alone;
       unswallowed = λ is. unswallowed (so_far.alone ∙ is) ∙ so_far.unswallowed is;
+      unfailed = fails_both old mid new (words_taken_back was.writes now.done was.done) [] [] so_far.sent so_far.unfailed unfailed;
     }
 
 pub back_on : (result : Stepped) (downto : ℕ) (was now next : JobState) (blocks left after : List Registers) (old mid new : RegsState) → GoesBack downto was now blocks left old mid → downto < now.done
     → MatchStepped result (TakesBack now next left after mid new) (IsAsBefore now next left after mid new) → result ≢ BusFault
     → ((start : List Registers) → AreTakenBack start now.writes → left ≡ blocks_done start now.writes now.done → after ≡ blocks_done start next.writes next.done)
     → HasWordsOf after next.writes → new.blocks ≡ after → mid.faults ≤ new.faults → new.counts_failures_alone ≡ mid.counts_failures_alone
-    → (result ≢ BusFault → LeavesCount mid.counts_failures_alone mid.faults new.faults) → GoesBack downto was next blocks after old new
-back_on Done downto was now next blocks left after old mid new so_far order takes other on_way words same counts alone unswallowed =
-    back_more downto was now next blocks left after old mid new so_far order takes on_way words same counts alone (unswallowed other)
-back_on More downto was now next blocks left after old mid new so_far order takes other on_way words same counts alone unswallowed =
-    back_more downto was now next blocks left after old mid new so_far order takes on_way words same counts alone (unswallowed other)
-back_on BusFault downto was now next blocks left after old mid new so_far order fails other on_way words same counts alone unswallowed = absurd (other refl)
+    → (result ≢ BusFault → LeavesCount mid.counts_failures_alone mid.faults new.faults) → (result ≢ BusFault → HasFailed mid new []) → GoesBack downto was next blocks after old new
+back_on Done downto was now next blocks left after old mid new so_far order takes other on_way words same counts alone unswallowed unfailed =
+    back_more downto was now next blocks left after old mid new so_far order takes on_way words same counts alone (unswallowed other) (unfailed other)
+back_on More downto was now next blocks left after old mid new so_far order takes other on_way words same counts alone unswallowed unfailed =
+    back_more downto was now next blocks left after old mid new so_far order takes on_way words same counts alone (unswallowed other) (unfailed other)
+back_on BusFault downto was now next blocks left after old mid new so_far order fails other on_way words same counts alone unswallowed unfailed = absurd (other refl)
+
+-- the next one fails
+pub back_failed : (result : Stepped) (downto : ℕ) (was now next : JobState) (blocks left after : List Registers) (old mid new : RegsState) → GoesBack downto was now blocks left old mid
+    → MatchStepped result (TakesBack now next left after mid new) (IsAsBefore now next left after mid new) → result ≡ BusFault → (result ≡ BusFault → HasFailed mid new (0 ∷ []))
+    → HasFailed old new (length (words_taken_back was.writes next.done was.done) ∷ [])
+back_failed Done downto was now next blocks left after old mid new so_far takes is fails = absurd (cc)
+back_failed More downto was now next blocks left after old mid new so_far takes is fails = absurd (cc)
+back_failed BusFault downto was now next blocks left after old mid new so_far stays is fails =
+    let words : List Sent = words_taken_back was.writes now.done was.done in
+    let place : length words + 0 ≡ length (words_taken_back was.writes next.done was.done) =
+    (let e : length words + 0 ≡ length words = omega arith in e) ∙ ap (λ (j : JobState). length (words_taken_back was.writes j.done was.done)) (sym stays.job) in
+    subst (λ (n : ℕ). HasFailed old new (n ∷ [])) place (fails_both old mid new words [] (0 ∷ []) so_far.sent so_far.unfailed (fails is))

@@ -1,10 +1,15 @@
 -- One step of a job: what a word that was sent leaves.
-use Rattle.std.proofs.Common.{◌≡◌, ℕ, ◌+◌, ◌<◌, false, List, length, get_or, Result, Ok, Err, Some, refl, sym, ap, subst, ◌∙◌}
-use Rattle.std.specs.Prelude.{slice_get, OnOk}
+use Rattle.std.proofs.Common.{◌≡◌, ℕ, ◌+◌, ◌<◌, ◌≤◌, true, false, List, [], ◌∷◌, length, get_or, Result, Ok, Err, Some, refl, sym, ap, subst, ◌∙◌}
+use Rattle.std.specs.Prelude.{slice_get, OnOk, OnErr}
 use Rattle.std.specs.Result.{is_err}
 use Rattle.std.proofs.lemmas.Bool.{false≢true}
 use Rattle.std.proofs.lemmas.List.Sums.{fold_more}
 use Rattle.std.proofs.lemmas.Option.{slice_get_read}
+use Rattle.cxl_enc.proofs.Options.{on_err_at}
+use Rattle.cxl_bus.specs.ExactCounts.{CountsExactly}
+use Rattle.cxl_enc.specs.Faults.{HasCause, LeavesCount}
+use Rattle.cxl_bus.proofs.Failed.{fails_none, fails_once}
+use Rattle.cxl_bus.specs.Failed.{HasFailedAt, HasFailed}
 use Rattle.cxl_bus.specs.RegsState.{RegsState}
 use Rattle.cxl_regs.specs.Registers.{Registers}
 use Rattle.cxl_regs.specs.Blocks.{IsPlace, HasPlacesOf, blocks_after}
@@ -16,6 +21,16 @@ use Rattle.cxl_apply.specs.Steps.{HasWordsOf, IsSent, MakesWrite, TakesBack}
 pub at_ok : {T E : Type 0} (r : Result T E) (P : Type 0) → OnOk r P → is_err r ≡ false → P
 at_ok (Ok x) P fact fine = fact
 at_ok (Err e) P fact fine = absurd (false≢true (sym fine))
+
+-- where a write failed, and where none did
+module _ {T E : Type 0} (r : Result T E) (old new : RegsState) where
+  pub write_failed : OnErr r (HasFailedAt old new (0 ∷ [])) → HasCause r old.faults new.faults → new.counts_failures_alone ≡ old.counts_failures_alone
+      → OnErr r (CountsExactly 1 old.counts_failures_alone old.faults new.faults) → is_err r ≡ true → HasFailed old new (0 ∷ [])
+  write_failed at cause alone counted failed = fails_once old new (on_err_at r _ failed at) (on_err_at r _ failed cause) alone (on_err_at r _ failed counted)
+
+  pub write_sent : OnOk r (new.failed_at ≡ old.failed_at) → old.faults ≤ new.faults → new.counts_failures_alone ≡ old.counts_failures_alone
+      → OnOk r (LeavesCount old.counts_failures_alone old.faults new.faults) → is_err r ≡ false → HasFailed old new []
+  write_sent at counts alone left fine = fails_none old new (at_ok r _ at fine) counts alone (at_ok r _ left fine)
 
 -- the places of words stay
 pub keeps_words : ((blocks : List Registers) (node off v : ℕ) → HasPlacesOf blocks (blocks_after blocks node off v)) → (blocks left : List Registers) (ws : List Write) (node off v : ℕ)

@@ -1,4 +1,5 @@
-ghost use Rattle.std.specs.Prelude.{◌≡◌, ◌≢◌, ℕ, ◌<◌, ◌≤◌, ◌↔◌, List, length, drop, All, IfOk, OnOk, OnErr};
+ghost use Rattle.std.specs.Prelude.{◌≡◌, ◌≢◌, ℕ, ◌<◌, ◌≤◌, ◌↔◌, List, [], ◌∷◌, length, drop, All, IfOk, OnOk, OnErr};
+ghost use Rattle.cxl_bus.specs.Failed.{HasFailed};
 ghost use Rattle.cxl_bus.specs.Trail.{trail_with};
 ghost use Rattle.cxl_enc.specs.Faults.{Rose, HasCause, LeavesCount};
 ghost use Rattle.cxl_regs.specs.Registers.{Registers};
@@ -103,6 +104,9 @@ impl Job {
         // A fault is not swallowed.
         ensures unswallowed { (result ≢ Stepped.BusFault) → LeavesCount (R.state regs.old).counts_failures_alone
             (R.state regs.old).faults (R.state regs.new).faults }
+        // At a fault one call failed, behind all words sent so far; else none did.
+        ensures failed { result ≡ Stepped.BusFault → HasFailed (R.state regs.old) (R.state regs.new) (0 ∷ []) }
+        ensures unfailed { (result ≢ Stepped.BusFault) → HasFailed (R.state regs.old) (R.state regs.new) [] }
         // The image goes on from the one that the job was made for.
         ensures on_way { (start : List Registers) → image.old ≡ blocks_done start self.old.writes self.old.done
             → image.new ≡ blocks_done start self.new.writes self.new.done }
@@ -139,6 +143,9 @@ impl Job {
         // A fault is not swallowed.
         ensures unswallowed { (result ≢ Stepped.BusFault) → LeavesCount (R.state regs.old).counts_failures_alone
             (R.state regs.old).faults (R.state regs.new).faults }
+        // At a fault one call failed, behind all words sent so far; else none did.
+        ensures failed { result ≡ Stepped.BusFault → HasFailed (R.state regs.old) (R.state regs.new) (0 ∷ []) }
+        ensures unfailed { (result ≢ Stepped.BusFault) → HasFailed (R.state regs.old) (R.state regs.new) [] }
         // The image is again what it was before that write.
         ensures on_way { (start : List Registers) → AreTakenBack start self.old.writes
             → image.old ≡ blocks_done start self.old.writes self.old.done
@@ -160,7 +167,7 @@ impl Job {
         }
     }
 
-    /// Makes the next writes until so many are made, or the bus fails.
+    /// Makes the next writes until so many are made, or up to the first that fails: behind that one nothing is called.
     pub fn make_to<R: Regs>(
         &mut self,
         upto: u32,
@@ -188,6 +195,10 @@ impl Job {
         // A fault is not swallowed.
         ensures unswallowed { OnOk result (LeavesCount (R.state regs.old).counts_failures_alone
             (R.state regs.old).faults (R.state regs.new).faults) }
+        // At a fault one call failed, behind these words; else none did.
+        ensures failed { OnErr result (HasFailed (R.state regs.old) (R.state regs.new)
+            (length (words_made self.old.writes self.old.done self.new.done) ∷ [])) }
+        ensures unfailed { OnOk result (HasFailed (R.state regs.old) (R.state regs.new) []) }
     {
         while self.done() < upto {
             if self.step(image, regs) == Stepped::BusFault {
@@ -197,7 +208,8 @@ impl Job {
         Ok(())
     }
 
-    /// Takes writes back, the last one first, until so many are left, or the bus fails.
+    /// Takes writes back, the last one first, until so many are left, or up to the first that fails: behind that one nothing
+    /// is called.
     pub fn take_back_to<R: Regs>(
         &mut self,
         downto: u32,
@@ -225,6 +237,10 @@ impl Job {
         // A fault is not swallowed.
         ensures unswallowed { OnOk result (LeavesCount (R.state regs.old).counts_failures_alone
             (R.state regs.old).faults (R.state regs.new).faults) }
+        // At a fault one call failed, behind these words; else none did.
+        ensures failed { OnErr result (HasFailed (R.state regs.old) (R.state regs.new)
+            (length (words_taken_back self.old.writes self.new.done self.old.done) ∷ [])) }
+        ensures unfailed { OnOk result (HasFailed (R.state regs.old) (R.state regs.new) []) }
     {
         while downto < self.done() {
             if self.undo_step(image, regs) == Stepped::BusFault {

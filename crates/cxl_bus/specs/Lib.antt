@@ -1,3 +1,5 @@
 pub mod Trail
 pub mod RegsState
+pub mod ExactCounts
+pub mod Failed
 pub mod Failing

@@ -34,7 +34,13 @@ impl SimBus {
 }
 
 impl Regs for SimBus {
-    ghost state = { λ bus. record { blocks = bus; trail = None; faults = 0; counts_failures_alone = true } };
+    ghost state = { λ bus. record {
+      blocks = bus;
+      trail = None;
+      failed_at = Some [];
+      faults = 0;
+      counts_failures_alone = true;
+    } };
 
     fn power_on(&mut self, alloc: Global, start: &[Block]) -> Result<(), Memory> {
         self.blocks = copies(alloc, start)?;

@@ -16,7 +16,10 @@ fn set_bits<R: Regs>(regs: &mut R, node: u32, off: u32, bits: u32) -> Result<u32
     ensures ok { IfOk result (λ word.
         (R.state regs.new).blocks ≡ blocks_after (R.state regs.old).blocks node off word) }
     ensures err { OnErr result
-        (R.state regs.new ≡ record (R.state regs.old) { faults = (R.state regs.new).faults }) }
+        (R.state regs.new ≡ record (R.state regs.old) {
+          failed_at = (R.state regs.new).failed_at;
+          faults = (R.state regs.new).faults;
+        }) }
     ensures cause { HasCause result (R.state regs.old).faults (R.state regs.new).faults }
     ensures counts { (R.state regs.old).faults ≤ (R.state regs.new).faults }
 {
@@ -102,19 +105,21 @@ fn bus_over(rt: &impl Abort, alloc: Global, blocks: &[Block], fails: &[u64]) -> 
     bus
 }
 
-/// What is called on a bus over blocks after reset that fails at some calls, and which writes it is sent.
+/// What is called on a bus over blocks after reset that fails at some calls, which writes it is sent, and behind how many of
+/// these each call failed.
 struct Run {
     endpoints: &'static [bool],
     fails: &'static [u64],
     calls: &'static [Call],
     sent: &'static [Sent],
+    failed_at: &'static [usize],
 }
 
 fn is_sent(rt: &impl Abort, alloc: Global, run: &Run) -> bool {
     let blocks = blocks(rt, alloc, run.endpoints);
     let mut bus = bus_over(rt, alloc, &blocks, run.fails);
     are_answered(rt, &mut bus, &blocks, run.calls);
-    bus.trail() == run.sent
+    bus.trail() == run.sent && bus.failed_at() == run.failed_at
 }
 
 /// A port's global control drops the value, and the trail tells the write all the same.
@@ -188,6 +193,7 @@ const ON_A_PORT: Run = Run {
     fails: &[2, 4],
     calls: FAILING,
     sent: SENT,
+    failed_at: &[1, 1],
 };
 
 #[test]
@@ -286,6 +292,7 @@ const CREATE_AND_BACK: Run = Run {
     fails: &[5],
     calls: CREATE,
     sent: CREATE_SENT,
+    failed_at: &[4],
 };
 
 #[test]

@@ -9,11 +9,12 @@ use Rattle.cxl_script.specs.declared.command.Command.TheVariants as commands
 use Rattle.cxl_script.specs.Grammar.{IsRanged}
 use Rattle.cxl_machine.specs.Machine.{RegionJob, Machine, HasSameHost, image_of}
 use Rattle.cxl_machine.specs.Jobs.{at_done, begun}
-use Rattle.cxl_machine.specs.Outcomes.{BusOutcome, NoFault, Undone, LeftPending, ReadFailed, StoresBytes, faults_of_whole, faults_of_part, faults_of}
+use Rattle.cxl_machine.specs.Outcomes.{BusOutcome, NoFault, StoresBytes}
 use Rattle.cxl_machine.specs.Replies.{Answer, is_refusal}
 use Rattle.cxl_machine.specs.Answers.{Answers}
 use Rattle.cxl_machine.specs.Scripts.{Asked, Turn, answer_of, TakesTurn}
 use Rattle.cxl_machine.specs.Sound.{IsMachine}
+use Rattle.cxl_machine.proofs.Fails.{without_fault}
 use Rattle.cxl_machine.specs.Trails.{TrailOf, WorksOn, IsOnTheWay}
 use Rattle.cxl_machine.specs.Turns.{EachTurn, AreTurns, machine_after}
 use Rattle.cxl_flat.specs.Memory.{IsFlatAccess, writes_bytes, KeepsBytes}
@@ -36,24 +37,6 @@ pub record TurnLaws : Type 0 where
 stores : (command : Command) → IsRanged command → StoresBytes command
 stores (commands.Store store) is = is.2
 stores other is = tt
-
--- where no fault is told, no call of the bus failed
-of_whole : (outcome : BusOutcome) → faults_of_whole outcome ≡ 0 → outcome ≡ NoFault
-of_whole NoFault none = refl
-of_whole Undone none = absurd (omega (arith, none))
-of_whole (LeftPending done) none = absurd (omega (arith, none))
-of_whole ReadFailed none = absurd (omega (arith, none))
-
-of_part : (outcome : BusOutcome) → faults_of_part outcome ≡ 0 → outcome ≡ NoFault
-of_part NoFault none = refl
-of_part Undone none = absurd (omega (arith, none))
-of_part (LeftPending done) none = absurd (omega (arith, none))
-of_part ReadFailed none = absurd (omega (arith, none))
-
-without_fault : (command : Command) (outcome : BusOutcome) → faults_of command outcome ≡ 0 → outcome ≡ NoFault
-without_fault (commands.Create create) outcome none = of_whole outcome none
-without_fault (commands.Destroy name) outcome none = of_whole outcome none
-without_fault other outcome none = of_part outcome none
 
 same_host : (m : Machine) → HasSameHost m m
 same_host m = record { nodes = refl; windows = refl; frames = refl }
@@ -112,7 +95,7 @@ module _ (laws : TurnLaws) where
             };
         refused = λ refusal. laws.leaves m command outcome (answer_of turn) takes.1 refusal;
         silent = λ refusal none.
-            let whole = without_fault command outcome (sym takes.3 ∙ none) in
+            let whole = without_fault m command outcome turn.trail turn.failed takes.3 none in
             laws.quiet m command (answer_of turn) turn.trail
             (subst (λ (o : BusOutcome). Answers m command o (answer_of turn)) whole takes.1)
             refusal

@@ -70,4 +70,4 @@ pub record IsFlatTurn (m : Machine) (one : Asked) (turn : Turn) : Type 0 where
   pub between : (k : ℕ) → k < length turn.trail → PassesFlat m one (take k turn.trail)
   -- a refused command changes nothing, and where no call of the bus failed it sends no word
   pub refused : is_refusal turn.reply ≡ true → turn.machine ≡ m
-  pub silent : is_refusal turn.reply ≡ true → turn.faults ≡ 0 → turn.trail ≡ []
+  pub silent : is_refusal turn.reply ≡ true → turn.failed ≡ [] → turn.trail ≡ []

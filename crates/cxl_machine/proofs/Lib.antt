@@ -28,6 +28,7 @@ pub mod SameHost
 pub mod WordsSent
 pub mod PendingJobs
 pub mod Trails
+pub mod Fails
 pub mod TrailsPassing
 pub mod Present
 pub mod TellingRegions

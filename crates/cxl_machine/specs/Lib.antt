@@ -13,6 +13,7 @@ pub mod Answers
 pub mod Creating
 pub mod Sound
 pub mod Trails
+pub mod Fails
 pub mod Scripts
 pub mod Turns
 pub mod Goings

@@ -7,7 +7,8 @@ use Rattle.cxl_script.specs.Grammar.{asked_in}
 use Rattle.cxl_reply.specs.declared.reply.Reply.{Reply}
 use Rattle.cxl_reply.specs.declared.reply.Reply.TheVariants as replies
 use Rattle.cxl_machine.specs.Machine.{Machine}
-use Rattle.cxl_machine.specs.Outcomes.{BusOutcome, faults_of}
+use Rattle.cxl_machine.specs.Fails.{FailsOf}
+use Rattle.cxl_machine.specs.Outcomes.{BusOutcome}
 use Rattle.cxl_machine.specs.Replies.{Answer}
 use Rattle.cxl_machine.specs.Answers.{Answers}
 use Rattle.cxl_machine.specs.Trails.{TrailOf}
@@ -30,20 +31,20 @@ lines_asked (line ∷ lines) = asked_before (asked_in line) (lines_asked lines)
 
 -- ---- one turn
 
--- what was asked is answered by a reply, the machine after it, how many faults of the bus that tells of at the least, and the
--- words that were written
+-- what was asked is answered by a reply, the machine after it, the words that were written, and behind how many of these each
+-- call of the bus that failed did
 pub record Turn : Type 0 where
   pub reply : Reply
   pub machine : Machine
-  pub faults : ℕ
   pub trail : List Sent
+  pub failed : List ℕ
 
 abbrev pub answer_of : Turn → Answer
 answer_of turn = record { reply = turn.reply; machine = turn.machine }
 
 -- a line that asks for nothing is answered by its fault, and a command as the bus lets it go
 abbrev pub TakesTurn : Machine → Asked → Turn → Type 0
-TakesTurn m (Err fault) turn = turn ≡ record { reply = replies.BadLine fault; machine = m; faults = 0; trail = [] }
+TakesTurn m (Err fault) turn = turn ≡ record { reply = replies.BadLine fault; machine = m; trail = []; failed = [] }
 TakesTurn m (Ok command) turn =
     (outcome : BusOutcome) × Answers m command outcome (answer_of turn) × TrailOf m command outcome turn.trail
-    × (turn.faults ≡ faults_of command outcome)
+    × FailsOf m command outcome turn.trail turn.failed

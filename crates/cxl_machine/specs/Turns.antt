@@ -1,7 +1,8 @@
 -- What several turns come to: commands answered one after the other, and their replies as text (this project's rules).
-use Rattle.std.specs.Prelude.{ℕ, List, [], ◌∷◌, sum_by}
+use Rattle.std.specs.Prelude.{ℕ, List, [], ◌∷◌, ◌++◌, length}
 use Rattle.std.specs.List.{flat_map}
 use Rattle.cxl_bus.specs.declared.sent.Sent.{Sent}
+use Rattle.cxl_bus.specs.Failed.{behind}
 use Rattle.cxl_topo.specs.declared.node.Node.{Node}
 use Rattle.cxl_reply.specs.Replies.{reply_text}
 use Rattle.cxl_machine.specs.Machine.{Machine}
@@ -31,6 +32,7 @@ text_of nodes turns = flat_map (λ (turn : Turn). reply_text nodes turn.reply) t
 abbrev pub words_sent : List Turn → List Sent
 words_sent turns = flat_map (λ (turn : Turn). turn.trail) turns
 
--- how many faults of the bus the replies tell of at the least
-abbrev pub faults_told : List Turn → ℕ
-faults_told turns = sum_by (λ (turn : Turn). turn.faults) turns
+-- behind how many of these each call of the bus that failed did, in order
+abbrev pub failed_in : List Turn → List ℕ
+failed_in [] = []
+failed_in (turn ∷ turns) = turn.failed ++ behind (length turn.trail) (failed_in turns)

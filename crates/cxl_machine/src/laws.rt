@@ -1,6 +1,6 @@
 //! Laws of the answers, each the contract of a function that does nothing.
 
-ghost use Rattle.std.specs.Prelude.{◌≡◌, ℕ, ◌<◌, true, false, List, [], ◌∷◌, ◌++◌, AllPairs};
+ghost use Rattle.std.specs.Prelude.{◌≡◌, ℕ, ◌<◌, true, false, List, [], ◌∷◌, ◌++◌, length, AllPairs};
 ghost use Rattle.cxl_bus.specs.declared.sent.Sent.{Sent};
 ghost use Rattle.cxl_script.specs.declared.command.Command.{Command};
 ghost use Rattle.cxl_model.specs.declared.plan.Row.{Row};
@@ -11,7 +11,8 @@ ghost use Rattle.cxl_apply.specs.Releases.{rows_of};
 ghost use Rattle.cxl_reply.specs.Replies.{has_short_text};
 ghost use Rattle.cxl_machine.specs.Machine.{Live, Machine};
 ghost use Rattle.cxl_machine.specs.Jobs.{create_writes, release_writes};
-ghost use Rattle.cxl_machine.specs.Outcomes.{BusOutcome, NoFault, can_go};
+ghost use Rattle.cxl_machine.specs.Outcomes.{BusOutcome, NoFault, can_go, faults_of};
+ghost use Rattle.cxl_machine.specs.Fails.{FailsOf};
 ghost use Rattle.cxl_machine.specs.Goings.{CanGo};
 ghost use Rattle.cxl_machine.specs.Replies.{Answer, is_refusal};
 ghost use Rattle.cxl_machine.specs.Answers.{Answers};
@@ -63,6 +64,12 @@ pub fn refusals_write_nothing()
     ensures { (m : Machine) (command : Command) (answer : Answer) (trail : List Sent)
         → Answers m command NoFault answer → is_refusal answer.reply ≡ true
         → TrailOf m command NoFault trail → trail ≡ [] }
+{}
+
+/// A law of faults: as many calls of the bus fail in a command as the way in which it went tells of.
+pub fn failed_calls_are_numbered()
+    ensures { (m : Machine) (command : Command) (outcome : BusOutcome) (trail : List Sent) (failed : List ℕ)
+        → FailsOf m command outcome trail failed → length failed ≡ faults_of command outcome }
 {}
 
 /// A law of scripts: what is asked behind others is answered by the machine that they left, and lines behind others ask

@@ -21,8 +21,8 @@ pub use keeping::{
 };
 pub use laws::{
     commands_go_as_they_can, each_command_is_answered, each_outcome_is_answered,
-    jobs_have_one_list_of_writes, one_answer, only_short_replies_change, outcomes_show_in_replies,
-    refusals_leave_the_machine, refusals_write_nothing, scripts_go_on,
+    failed_calls_are_numbered, jobs_have_one_list_of_writes, one_answer, only_short_replies_change,
+    outcomes_show_in_replies, refusals_leave_the_machine, refusals_write_nothing, scripts_go_on,
 };
 pub use limits::REGION_LIMIT;
 pub use pending::{

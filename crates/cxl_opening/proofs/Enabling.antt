@@ -3,7 +3,7 @@ use Rattle.std.proofs.Common.{◌≡◌, ℕ, zero, suc, ◌+◌, ◌<◌, ◌�
 use Rattle.std.specs.Prelude.{slice_get, slice_set, filter, All, IsSomeAnd}
 use Rattle.std.specs.Option.{option_map_or}
 use Rattle.std.specs.List.{range_with_len}
-use Rattle.std.proofs.lemmas.List.{take_more, map-append, length-set}
+use Rattle.std.proofs.lemmas.List.{take_more, map-append, length-set, length-map, length-take-le}
 use Rattle.std.proofs.lemmas.List.Elements.{All-filter}
 use Rattle.std.proofs.lemmas.List.FromFn.{length-range_with_len, get_or-range_with_len}
 use Rattle.std.proofs.lemmas.List.Sums.{fold-append}
@@ -18,6 +18,8 @@ use Rattle.cxl_topo.specs.declared.node.Node.{Node}
 use Rattle.cxl_topo.specs.Kinds.{is_endpoint}
 use Rattle.cxl_topo.specs.Tree.{is_endpoint_at}
 use Rattle.cxl_bus.specs.declared.sent.Sent.{Sent}
+use Rattle.cxl_bus.proofs.Failed.{fails_both, fails_nowhere}
+use Rattle.cxl_bus.specs.Failed.{HasFailed}
 use Rattle.cxl_bus.specs.RegsState.{RegsState, IsUntouched}
 use Rattle.cxl_bus.specs.Trail.{trail_after, trail_with, blocks_sent}
 use Rattle.cxl_bus.proofs.Trails.{trail_nothing, trail_more}
@@ -185,6 +187,7 @@ pub record HasEnabled (endpoints : List ℕ) (n : ℕ) (old new : RegsState) : T
   pub counts : old.faults ≤ new.faults
   pub alone : new.counts_failures_alone ≡ old.counts_failures_alone
   pub unswallowed : LeavesCount old.counts_failures_alone old.faults new.faults
+  pub unfailed : HasFailed old new []
 
 pub enabled_none : (endpoints : List ℕ) (regs : RegsState) → HasEnabled endpoints 0 regs regs
 enabled_none endpoints regs = record {
@@ -194,13 +197,14 @@ enabled_none endpoints regs = record {
   counts = omega arith;
   alone = refl;
   unswallowed = λ is. refl;
+  unfailed = fails_nowhere regs;
 }
 
 pub enabled_more : (endpoints : List ℕ) (n : ℕ) (old now new : RegsState) → n < length endpoints → HasEnabled endpoints n old now → new.blocks ≡ blocks_after now.blocks (get_or endpoints n 0) 4 2
     → new.trail ≡ trail_after now.trail (get_or endpoints n 0) 4 2 → now.faults ≤ new.faults → new.counts_failures_alone ≡ now.counts_failures_alone
-    → LeavesCount now.counts_failures_alone now.faults new.faults → ((blocks : List Registers) (node off v : ℕ) → HasPlacesOf blocks (blocks_after blocks node off v))
+    → LeavesCount now.counts_failures_alone now.faults new.faults → HasFailed now new [] → ((blocks : List Registers) (node off v : ℕ) → HasPlacesOf blocks (blocks_after blocks node off v))
     → HasEnabled endpoints (n + 1) old new
-enabled_more endpoints n old now new low so_far blocks trail counts alone unswallowed keep =
+enabled_more endpoints n old now new low so_far blocks trail counts alone unswallowed unfailed keep =
     let upto = so_far.counts in
     record {
       blocks = blocks ∙ ap (λ (bs : List Registers). blocks_after bs (get_or endpoints n 0) 4 2) so_far.blocks ∙ sym (sent_more old.blocks endpoints n low);
@@ -211,13 +215,21 @@ enabled_more endpoints n old now new low so_far blocks trail counts alone unswal
       counts = omega arith;
       alone = alone ∙ so_far.alone;
       unswallowed = λ is. unswallowed (so_far.alone ∙ is) ∙ so_far.unswallowed is;
+      unfailed = fails_both old now new (enabling (take n endpoints)) [] [] so_far.words so_far.unfailed unfailed;
     }
 
 -- a write that failed changed nothing
-pub enabled_stops : (endpoints : List ℕ) (n : ℕ) (old now new : RegsState) → n < length endpoints → HasEnabled endpoints n old now → IsUntouched now new → StopsEnabling endpoints old new
-enabled_stops endpoints n old now new low so_far untouched = record {
+pub enabled_stops : (endpoints : List ℕ) (n : ℕ) (old now new : RegsState) → n < length endpoints → HasEnabled endpoints n old now → IsUntouched now new → HasFailed now new (0 ∷ [])
+    → StopsEnabling endpoints old new
+enabled_stops endpoints n old now new low so_far untouched fails = record {
   n = n;
   part = low;
   blocks = untouched.blocks ∙ so_far.blocks;
   words = untouched.trail ∙ so_far.words;
+  fails =
+      let words : List Sent = enabling (take n endpoints) in
+      let long = length-map (take n endpoints) enables in
+      let some = length-take-le n endpoints (omega (arith, low)) in
+      let place : length words + 0 ≡ n = omega (arith, long, some) in
+      subst (λ (k : ℕ). HasFailed old new (k ∷ [])) place (fails_both old now new words [] (0 ∷ []) so_far.words so_far.unfailed fails);
 }

@@ -1,6 +1,7 @@
 -- What a session opens on, and what it opens as.
-use Rattle.std.specs.Prelude.{◌≡◌, ℕ, ◌<◌, ◌≤◌, List, length, take, map, None}
+use Rattle.std.specs.Prelude.{◌≡◌, ℕ, ◌<◌, ◌≤◌, List, [], ◌∷◌, length, take, map, None}
 use Rattle.std.specs.List.{AllZip, enumerate_from}
+use Rattle.cxl_bus.specs.Failed.{HasFailed}
 use Rattle.cxl_bus.specs.RegsState.{RegsState}
 use Rattle.cxl_bus.specs.Trail.{blocks_sent, trail_with}
 use Rattle.cxl_window.specs.Fields.{WindowFields}
@@ -36,9 +37,11 @@ pub record CanOpen (start : System) (regions : List Found) : Type 0 where
 abbrev pub AreRoutesOf : System → List Found → List KeptFields → Type 0
 AreRoutesOf s founds kepts = AllZip (λ found kept. (w : WindowFields) → IsRegionIn s w found → IsKept s w found kept) founds kepts
 
--- the bus failed behind the first n endpoints, n below their number: these decode, and their words are sent
+-- the bus failed behind the first n endpoints, n below their number: these decode, their words are sent, and nothing is called
+-- behind the one that failed
 pub record StopsEnabling (endpoints : List ℕ) (old new : RegsState) : Type 0 where
   pub n : ℕ
   pub part : n < length endpoints
   pub blocks : new.blocks ≡ blocks_sent old.blocks (enabling (take n endpoints))
   pub words : new.trail ≡ trail_with old.trail (enabling (take n endpoints))
+  pub fails : HasFailed old new (n ∷ [])

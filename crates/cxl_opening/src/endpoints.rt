@@ -1,8 +1,9 @@
 //! The endpoints of a topology, and how they are let decode.
 
-ghost use Rattle.std.specs.Prelude.{◌≡◌, ◌⊎◌, ◌<◌, ◌≤◌, length, All, IfOk, OnOk, OnErr};
+ghost use Rattle.std.specs.Prelude.{◌≡◌, ◌⊎◌, ◌<◌, ◌≤◌, [], length, All, IfOk, OnOk, OnErr};
 ghost use Rattle.cxl_enc.specs.Faults.{HasCause, LeavesCount};
 ghost use Rattle.cxl_regs.specs.Blocks.{IsPlace};
+ghost use Rattle.cxl_bus.specs.Failed.{HasFailed, fresh};
 ghost use Rattle.cxl_bus.specs.Trail.{blocks_sent, trail_with};
 ghost use Rattle.cxl_opening.specs.Opening.{endpoints_in, enabling, ArePoweredOn, empty_media};
 ghost use Rattle.cxl_opening.specs.Opened.{StopsEnabling};
@@ -53,6 +54,7 @@ pub fn powered_on<R: Regs, M: Media>(
         (LeavesCount (R.state regs.old).counts_failures_alone (R.state regs.old).faults (R.state regs.new).faults) }
     ensures unhidden { OnErr result
         (LeavesCount (R.state regs.old).counts_failures_alone (R.state regs.old).faults (R.state regs.new).faults) }
+    ensures unfailed { OnOk result (HasFailed (fresh (R.state regs.old)) (R.state regs.new) []) }
 {
     let endpoints = endpoints_of(alloc, topo)?;
     regs.power_on(alloc, start.blocks())?;
@@ -83,6 +85,7 @@ pub fn enable_endpoints<R: Regs>(endpoints: &[u32], regs: &mut R) -> Result<(), 
     // A fault is not swallowed.
     ensures unswallowed { OnOk result
         (LeavesCount (R.state regs.old).counts_failures_alone (R.state regs.old).faults (R.state regs.new).faults) }
+    ensures unfailed { OnOk result (HasFailed (R.state regs.old) (R.state regs.new) []) }
 {
     writes_keep_places();
     for node in endpoints {

@@ -26,7 +26,7 @@ pub record Pipe : Type 0 where
 
 -- it tells no trail
 abbrev pub state_of : Pipe → RegsState
-state_of pipe = record { blocks = pipe.blocks; trail = None; faults = pipe.faults; counts_failures_alone = true }
+state_of pipe = record { blocks = pipe.blocks; trail = None; failed_at = None; faults = pipe.faults; counts_failures_alone = true }
 
 -- nothing but what goes over the pipes may differ
 pub record KeepsRegisters (old new : Pipe) : Type 0 where

@@ -18,7 +18,7 @@ use std::alloc::Global;
 use std::marker::Model;
 
 /// Registers of another program, the peer, which is asked line by line. It keeps the blocks as the write rules leave
-/// them, and holds each word that the peer tells against them. It tells no trail.
+/// them, and holds each word that the peer tells against them. It tells no trail, and no place of a fault.
 #[derive(Drop)]
 pub struct PipeBus<S: Source, K: Sink> {
     bus: SimBus,

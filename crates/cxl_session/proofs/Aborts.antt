@@ -1,7 +1,8 @@
 -- The turn of an abort: the pending job is undone, or some of its writes are not taken back.
-use Rattle.std.proofs.Common.{◌≡◌, ℕ, ◌≤◌, List, [], length, Option, Some, None, refl, sym, ap, ◌∙◌, subst, arith}
-use Rattle.cxl_enc.specs.Faults.{Rose, LeavesCount}
+use Rattle.std.proofs.Common.{◌≡◌, ℕ, ◌≤◌, List, [], ◌∷◌, length, Option, Some, None, refl, sym, ap, ◌∙◌, subst, arith}
 use Rattle.cxl_regs.specs.Registers.{Registers}
+use Rattle.cxl_bus.specs.declared.sent.Sent.{Sent}
+use Rattle.cxl_bus.specs.Failed.{HasFailed}
 use Rattle.cxl_bus.specs.RegsState.{RegsState}
 use Rattle.cxl_bus.specs.Trail.{trail_with}
 use Rattle.cxl_media.specs.MediaState.{MediaState}
@@ -32,7 +33,7 @@ BackLaw = (m : Machine) (job : RegionJob) → IsMachine m → m.job ≡ Some job
 -- ---- no job is pending
 
 pub none_aborted : (session : SessionState) (regs : RegsState) (media : MediaState) → session.job ≡ None → IsTurnFor session session regs regs media media commands.Abort replies.NothingPending
-none_aborted session regs media none = still session regs media commands.Abort replies.NothingPending refl
+none_aborted session regs media none = still session regs media commands.Abort replies.NothingPending
     (λ m at.
     let idle : m.job ≡ None = no_job m session.job none m.job at.stands.job in (
       subst (λ (o : Option RegionJob). OfPending m o NoFault (record { reply = replies.NothingPending; machine = m }) (λ job. Aborts m job NoFault (record { reply = replies.NothingPending; machine = m }))) (sym idle)
@@ -50,18 +51,20 @@ module _ (law : BackLaw) (session : SessionState) (old new : RegsState) (media :
         back.on_way m.settled.blocks (subst (AreTakenBack m.settled.blocks) (sym same.writes) (law m job at.sound.machine pending))
         (image_holds session m own job at.stands pending same)
 
+    same_words : words_taken_back own.writes kept own.done ≡ backward job kept job.done
+    same_words =
+        ap (λ (ws : List Write). words_taken_back ws kept own.done) same.writes ∙ ap (λ (n : ℕ). words_taken_back job.writes kept n) same.done
+
     words_are : new.trail ≡ trail_with old.trail (backward job kept job.done)
-    words_are =
-        back.sent ∙ ap (λ (ws : List Write). trail_with old.trail (words_taken_back ws kept own.done)) same.writes
-        ∙ ap (λ (n : ℕ). trail_with old.trail (words_taken_back job.writes kept n)) same.done
+    words_are = back.sent ∙ ap (trail_with old.trail) same_words
 
   -- some of its writes are not taken back
-  pub left_pending : 1 ≤ kept → kept ≤ own.done → Rose old.faults new.faults
+  pub left_pending : 1 ≤ kept → kept ≤ own.done → HasFailed old new (length (words_taken_back own.writes kept own.done) ∷ [])
       → IsTurnFor session (record session { image = left; job = Some (record own { done = kept }) }) old new media media commands.Abort
       (replies.BusPending record { name = own.name; done = kept; total = length own.writes })
-  left_pending some part cause m at =
+  left_pending some part fails m at =
       let (job, pending, same) = same_job m own session.job here m.job at.stands.job in
-      let turn : Turn = record { reply = pending_reply job kept; machine = at_done job kept m; faults = 1; trail = backward job kept job.done } in
+      let turn : Turn = record { reply = pending_reply job kept; machine = at_done job kept m; trail = backward job kept job.done; failed = length (backward job kept job.done) ∷ [] } in
       let below = part_of m job at.sound.machine pending in
       let few : kept ≤ job.done = (let done = same.done in omega (arith, part, done)) in
       let is = left_is m at job pending same in (
@@ -82,20 +85,17 @@ module _ (law : BackLaw) (session : SessionState) (old new : RegsState) (media :
             sound = at_done_sound session m own job at.stands pending same old.blocks new.blocks media at.sound kept (omega (arith, few, below)) (back.same ∙ is);
           };
           words = words_are m at job pending same;
-          faults = cause;
-          alone = back.alone;
-          unswallowed = λ none. absurd (omega (arith, none));
+          fails = subst (λ (words : List Sent). HasFailed old new (length words ∷ [])) (same_words m at job pending same) fails;
         },
       )
 
   -- all are
-  pub aborted : kept ≡ 0 → LeavesCount old.counts_failures_alone old.faults new.faults
+  pub aborted : kept ≡ 0 → HasFailed old new []
       → IsTurnFor session (session_undone own (record session { image = left; job = None })) old new media media commands.Abort (replies.Aborted own.name)
-  aborted all count m at =
+  aborted all fails m at =
       let (job, pending, same) = same_job m own session.job here m.job at.stands.job in
-      let turn : Turn = record { reply = replies.Aborted job.region.name; machine = undone job m; faults = 0; trail = backward job 0 job.done } in
-      let is : left ≡ m.settled.blocks = left_is m at job pending same ∙ ap (blocks_done m.settled.blocks own.writes) all in
-      let counts = back.counts in (
+      let turn : Turn = record { reply = replies.Aborted job.region.name; machine = undone job m; trail = backward job 0 job.done; failed = [] } in
+      let is : left ≡ m.settled.blocks = left_is m at job pending same ∙ ap (blocks_done m.settled.blocks own.writes) all in (
         turn,
         (
           NoFault,
@@ -110,8 +110,6 @@ module _ (law : BackLaw) (session : SessionState) (old new : RegsState) (media :
             sound = undone_sound session m own job at.stands pending same old.blocks new.blocks media at.sound (back.same ∙ is);
           };
           words = words_are m at job pending same ∙ ap (λ (n : ℕ). trail_with old.trail (backward job n job.done)) all;
-          faults = omega (arith, counts);
-          alone = back.alone;
-          unswallowed = λ _. count;
+          fails = fails;
         },
       )

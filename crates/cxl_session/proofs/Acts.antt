@@ -1,7 +1,8 @@
 -- The turn of one command, by what the part of the session that carries it out says.
-use Rattle.std.proofs.Common.{◌≡◌, [], Result, Ok, Err, refl, sym, ap, ◌∙◌, subst, arith}
+use Rattle.std.proofs.Common.{◌≡◌, [], Result, Ok, Err, sym, ap, ◌∙◌, subst}
 use Rattle.std.specs.Prelude.{true, false, IsOk, IfOk, IfErr, OnErr}
 use Rattle.cxl_enc.specs.declared.faults.Memory.{Memory}
+use Rattle.cxl_bus.proofs.Failed.{fails_nowhere}
 use Rattle.cxl_bus.specs.RegsState.{RegsState, IsUntouched}
 use Rattle.cxl_bus.proofs.Trails.{trail_nothing}
 use Rattle.cxl_media.specs.MediaState.{MediaState}
@@ -9,11 +10,12 @@ use Rattle.cxl_script.specs.declared.command.Command.{Command}
 use Rattle.cxl_reply.specs.declared.reply.Reply.{Reply}
 use Rattle.cxl_machine.specs.Machine.{Machine}
 use Rattle.cxl_machine.specs.Answers.{Answers}
-use Rattle.cxl_machine.specs.Outcomes.{NoFault, faults_of}
+use Rattle.cxl_machine.specs.Outcomes.{NoFault}
 use Rattle.cxl_machine.specs.Memory.{takes_memory}
 use Rattle.cxl_machine.specs.Replies.{Answer, stays}
 use Rattle.cxl_machine.specs.Sound.{IsMachine}
 use Rattle.cxl_machine.specs.Trails.{TrailOf}
+use Rattle.cxl_machine.proofs.Fails.{no_call_fails}
 use Rattle.cxl_session.specs.State.{SessionState}
 use Rattle.cxl_session.specs.Standing.{StandsFor, IsAt, HoldsMemory, Stands}
 use Rattle.cxl_session.specs.inner.Answering.{StandsSomehow, HoldsMachine, HoldsSome, IsWrittenFor, IsTurnFor}
@@ -48,11 +50,11 @@ module _ (session next : SessionState) (old new : RegsState) (media left : Media
 
 -- ---- turns without a call of the bus
 
-module _ (session : SessionState) (regs : RegsState) (command : Command) (none : faults_of command NoFault ≡ 0) (silent : (m : Machine) → TrailOf m command NoFault []) where
+module _ (session : SessionState) (regs : RegsState) (command : Command) (silent : (m : Machine) → TrailOf m command NoFault []) where
   -- a command that reads
   pub read_turn : (media : MediaState) (reply : Reply) → ((m : Machine) → StandsFor session m → IsMachine m → HoldsMemory m media → Answers m command NoFault (stays m reply))
       → IsTurnFor session session regs regs media media command reply
-  read_turn media reply given = still session regs media command reply none (λ m at. (given m at.stands at.sound.machine at.sound.memory, silent m))
+  read_turn media reply given = still session regs media command reply (λ m at. (given m at.stands at.sound.machine at.sound.memory, silent m))
 
   -- a command that writes media; the registers stay, and hold the next machine too
   pub write_turn : (old new : MediaState) (reply : Reply) (answer : Machine → Answer) → ((m : Machine) → Answers m command NoFault (answer m)) → IsWrittenFor session old new answer reply
@@ -60,8 +62,8 @@ module _ (session : SessionState) (regs : RegsState) (command : Command) (none :
   write_turn old new reply answer given written m at =
       let own = written m (holds_at session regs old m at) in
       let left = own.holds in (
-        record { reply = (answer m).reply; machine = (answer m).machine; faults = 0; trail = [] },
-        (NoFault, given m, silent m, sym none),
+        record { reply = (answer m).reply; machine = (answer m).machine; trail = []; failed = [] },
+        (NoFault, given m, silent m, no_call_fails m command [] (silent m)),
         record {
           told = sym own.told;
           at = record {
@@ -74,9 +76,7 @@ module _ (session : SessionState) (regs : RegsState) (command : Command) (none :
             };
           };
           words = trail_nothing regs.trail;
-          faults = omega arith;
-          alone = refl;
-          unswallowed = λ _ _. refl;
+          fails = fails_nowhere regs;
         },
       )
 

@@ -1,10 +1,11 @@
 -- A release begins: its region is no longer live, and no register is written.
-use Rattle.std.proofs.Common.{◌≡◌, ℕ, ◌<◌, List, [], ◌++◌, length, Ok, Err, Option, Some, None, refl, sym, ap, ◌∙◌, subst, arith}
+use Rattle.std.proofs.Common.{◌≡◌, ℕ, ◌<◌, List, [], ◌++◌, length, Ok, Err, Option, Some, None, refl, sym, ap, ◌∙◌, subst}
 use Rattle.std.specs.Prelude.{slice_get, remove, All, IsSomeAnd}
 use Rattle.std.specs.List.Sorted.{IsPermutation}
 use Rattle.std.proofs.lemmas.List.{append-nil}
 use Rattle.std.proofs.lemmas.Option.{slice_get_within, get_or_from_slice_get}
 use Rattle.cxl_regs.specs.Registers.{Registers}
+use Rattle.cxl_bus.proofs.Failed.{fails_nowhere}
 use Rattle.cxl_bus.specs.RegsState.{RegsState}
 use Rattle.cxl_bus.proofs.Trails.{trail_nothing}
 use Rattle.cxl_media.specs.MediaState.{MediaState}
@@ -140,7 +141,7 @@ module _ (release_law : ReleaseLaw) (begins_law : ReleaseBeginsLaw) (session nex
       let same : next ≡ session_begun own session = as_own.1 in
       let for_job : IsJobFor m own (release_job m.settled release.place is.region) = as_own.2 in
       let made : RegionJob = release_job m.settled release.place is.region in
-      let turn : Turn = record { reply = begun_reply made; machine = begun made m; faults = 0; trail = [] } in (
+      let turn : Turn = record { reply = begun_reply made; machine = begun made m; trail = []; failed = [] } in (
         turn,
         (NoFault, record { unfailing = refl; told = ap (begin_answer m) (sym is.asked) }, refl, refl),
         record {
@@ -149,16 +150,14 @@ module _ (release_law : ReleaseLaw) (begins_law : ReleaseBeginsLaw) (session nex
               ∙ ap (λ (n : List ℕ). replies.Begun record { name = n; writes = total_of made }) (sym is.named);
           at = begun_here m regs media at is;
           words = trail_nothing regs.trail;
-          faults = omega arith;
-          alone = refl;
-          unswallowed = λ _ _. refl;
+          fails = fails_nowhere regs;
         },
       )
 
 -- a release is refused
 pub begin_refused : (session : SessionState) (name : List ℕ) (refusal : Reply) (regs : RegsState) (media : MediaState)
     → ((m : Machine) → StandsFor session m → IsMachine m → asked_release m name ≡ Err refusal) → IsTurnFor session session regs regs media media (commands.BeginDestroy name) refusal
-begin_refused session name refusal regs media asked = still session regs media (commands.BeginDestroy name) refusal refl
+begin_refused session name refusal regs media asked = still session regs media (commands.BeginDestroy name) refusal
     (λ m at. (record { unfailing = refl; told = ap (begin_answer m) (sym (asked m at.stands at.sound.machine)) }, refl))
 
 -- ---- its rows

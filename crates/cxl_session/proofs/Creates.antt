@@ -1,7 +1,8 @@
 -- A create begins, with no register written; or it is carried out.
-use Rattle.std.proofs.Common.{◌≡◌, ℕ, List, [], ◌++◌, length, Ok, Err, Option, Some, None, refl, sym, ap, ◌∙◌, subst, arith}
+use Rattle.std.proofs.Common.{◌≡◌, ℕ, List, [], ◌++◌, length, Ok, Err, Option, Some, None, refl, sym, ap, ◌∙◌, subst}
 use Rattle.std.specs.List.Sorted.{IsPermutation}
 use Rattle.std.proofs.lemmas.List.Sorted.{IsPermutation-refl}
+use Rattle.cxl_bus.proofs.Failed.{fails_nowhere}
 use Rattle.cxl_bus.specs.RegsState.{RegsState}
 use Rattle.cxl_bus.proofs.Trails.{trail_nothing}
 use Rattle.cxl_media.specs.MediaState.{MediaState}
@@ -103,7 +104,7 @@ module _ (laws : BeginLaws) (session : SessionState) (create : Create) (own : Jo
     begin_turn regs media words many m at =
         let is = asked m at.stands at.sound.machine in
         let made : RegionJob = create_job m.settled is.plan in
-        let turn : Turn = record { reply = begun_reply made; machine = begun made m; faults = 0; trail = [] } in (
+        let turn : Turn = record { reply = begun_reply made; machine = begun made m; trail = []; failed = [] } in (
           turn,
           (NoFault, (Ok made, is.asked, record { unfailing = refl; told = refl }), refl, refl),
           record {
@@ -112,9 +113,7 @@ module _ (laws : BeginLaws) (session : SessionState) (create : Create) (own : Jo
                 ∙ ap (λ (n : List ℕ). replies.Begun record { name = n; writes = total_of made }) is.same.name;
             at = begun_at m is regs media at;
             words = trail_nothing regs.trail;
-            faults = omega arith;
-            alone = refl;
-            unswallowed = λ _ _. refl;
+            fails = fails_nowhere regs;
           },
         )
 
@@ -124,9 +123,9 @@ module _ (laws : BeginLaws) (session : SessionState) (create : Create) (own : Jo
     created next old new media left reply whole m at =
         let is = asked m at.stands at.sound.machine in
         let made : RegionJob = create_job m.settled is.plan in
-        let (turn, outcome, carries, sends, faults, taken) = whole m made (begun_at m is old media at) refl (made_again m is) in (
+        let (turn, outcome, carries, sends, fails, taken) = whole m made (begun_at m is old media at) refl (made_again m is) in (
           turn,
-          (outcome, (Ok made, is.asked, carries), (Ok made, is.asked, sends), faults),
+          (outcome, (Ok made, is.asked, carries), (Ok made, is.asked, sends), (Ok made, is.asked, fails)),
           taken,
         )
 
@@ -134,11 +133,11 @@ module _ (laws : BeginLaws) (session : SessionState) (create : Create) (own : Jo
 
 module _ (session : SessionState) (create : Create) (refusal : Reply) (asked : (m : Machine) → StandsFor session m → IsMachine m → AsksCreate m create (Err refusal)) (regs : RegsState) (media : MediaState) where
   pub begin_refused : IsTurnFor session session regs regs media media (commands.BeginCreate create) refusal
-  begin_refused = still session regs media (commands.BeginCreate create) refusal refl
+  begin_refused = still session regs media (commands.BeginCreate create) refusal
       (λ m at. ((Err refusal, asked m at.stands at.sound.machine, record { unfailing = refl; told = refl }), refl))
 
   pub create_refused : IsTurnFor session session regs regs media media (commands.Create create) refusal
-  create_refused = still session regs media (commands.Create create) refusal refl
+  create_refused = still session regs media (commands.Create create) refusal
       (λ m at.
       let is = asked m at.stands at.sound.machine in (
         (Err refusal, is, record { unfailing = refl; told = refl }),

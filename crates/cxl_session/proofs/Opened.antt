@@ -16,6 +16,8 @@ use Rattle.cxl_regs.specs.Blocks.{IsPlace}
 use Rattle.cxl_topo.specs.Frames.{AreFrames}
 use Rattle.cxl_topo.specs.Tree.{Tree}
 use Rattle.cxl_image.specs.Images.{HasCapsOf}
+use Rattle.cxl_bus.proofs.Failed.{fails_then}
+use Rattle.cxl_bus.specs.Failed.{HasFailed, fresh}
 use Rattle.cxl_bus.specs.RegsState.{RegsState}
 use Rattle.cxl_bus.specs.declared.sent.Sent.{Sent}
 use Rattle.cxl_bus.specs.Trail.{blocks_sent, trail_with}
@@ -179,14 +181,15 @@ trail_from_none (Some sent) now words is = ap (λ (t : Option (List Sent)). trai
 
 -- the bus failed behind the first of the endpoints
 pub half_is : (topo : Tree) (windows : List WindowFields) (start : List Registers) (endpoints : List ℕ) (old mid new : RegsState) → endpoints ≡ endpoints_in topo.nodes → mid.blocks ≡ start
-    → mid.trail ≡ option_map (λ _. []) old.trail → StopsEnabling endpoints mid new → IsHalfEnabled (system_of start topo windows) old new
-half_is topo windows start endpoints old mid new are holds empties stops =
+    → mid.trail ≡ option_map (λ _. []) old.trail → HasFailed (fresh old) mid [] → StopsEnabling endpoints mid new → IsHalfEnabled (system_of start topo windows) old new
+half_is topo windows start endpoints old mid new are holds empties unfailed stops =
     let same : StopsEnabling (endpoints_in topo.nodes) mid new = subst (λ (nodes : List ℕ). StopsEnabling nodes mid new) are stops in
     record {
       n = same.n;
       part = same.part;
       blocks = same.blocks ∙ ap (λ (blocks : List Registers). blocks_sent blocks (enabling (take same.n (endpoints_in topo.nodes)))) holds;
       words = same.words ∙ trail_from_none old.trail mid.trail (enabling (take same.n (endpoints_in topo.nodes))) empties;
+      fails = fails_then (fresh old) mid new (same.n ∷ []) empties unfailed same.fails;
     }
 
 -- all of them decode

@@ -5,7 +5,6 @@ use Rattle.std.specs.Option.{option_map_or, is_some}
 use Rattle.std.specs.List.{filter_map, range_with_len}
 use Rattle.std.proofs.lemmas.List.{take_more, take_more_set}
 use Rattle.std.proofs.lemmas.Option.{none-some, same_Some, slice_get_within, slice_get-get_or}
-use Rattle.cxl_enc.specs.Faults.{Rose, LeavesCount}
 use Rattle.cxl_enc.proofs.Lists.{contains_at}
 use Rattle.cxl_regs.specs.declared.decoder.Decoder.{Decoder}
 use Rattle.cxl_regs.specs.declared.reading.Range.{Range}
@@ -13,6 +12,8 @@ use Rattle.cxl_regs.specs.Reading.{has_range}
 use Rattle.cxl_regs.specs.Registers.{Registers}
 use Rattle.cxl_regs.specs.Words.{words_of, offset_of, HasWord}
 use Rattle.cxl_regs.specs.Blocks.{IsPlace, word_in}
+use Rattle.cxl_bus.proofs.Failed.{fails_then, fails_nowhere}
+use Rattle.cxl_bus.specs.Failed.{HasFailed}
 use Rattle.cxl_bus.specs.RegsState.{RegsState, IsUntouched}
 use Rattle.cxl_bus.proofs.Trails.{trail_nothing}
 use Rattle.cxl_media.specs.MediaState.{MediaState}
@@ -76,20 +77,24 @@ module _ (blocks : List Registers) (row : Row) (is : IsRowOf blocks row) where
 pub record HasRead (old new : RegsState) : Type 0 where
   pub same : IsUntouched old new
   pub counts : old.faults ≤ new.faults
-  pub unswallowed : LeavesCount old.counts_failures_alone old.faults new.faults
+  pub unfailed : HasFailed old new []
 
 pub read_none : (regs : RegsState) → HasRead regs regs
-read_none regs = record { same = record { blocks = refl; trail = refl; alone = refl }; counts = omega arith; unswallowed = λ _. refl }
+read_none regs = record { same = record { blocks = refl; trail = refl; alone = refl }; counts = omega arith; unfailed = fails_nowhere regs }
 
 pub untouched_more : (old mid new : RegsState) → IsUntouched old mid → IsUntouched mid new → IsUntouched old new
 untouched_more old mid new one more = record { blocks = more.blocks ∙ one.blocks; trail = more.trail ∙ one.trail; alone = more.alone ∙ one.alone }
 
-pub read_more : (old mid new : RegsState) → HasRead old mid → IsUntouched mid new → mid.faults ≤ new.faults → LeavesCount mid.counts_failures_alone mid.faults new.faults → HasRead old new
-read_more old mid new read same counts left = record {
+pub read_more : (old mid new : RegsState) → HasRead old mid → IsUntouched mid new → mid.faults ≤ new.faults → HasFailed mid new [] → HasRead old new
+read_more old mid new read same counts fails = record {
   same = untouched_more old mid new read.same same;
   counts = let before = read.counts in omega (arith, before, counts);
-  unswallowed = λ alone. left (read.same.alone ∙ alone) ∙ read.unswallowed alone;
+  unfailed = fails_then old mid new [] read.same.trail read.unfailed fails;
 }
+
+-- the next read failed
+pub read_stops : (old mid new : RegsState) → HasRead old mid → HasFailed mid new (0 ∷ []) → HasFailed old new (0 ∷ [])
+read_stops old mid new read fails = fails_then old mid new (0 ∷ []) read.same.trail read.unfailed fails
 
 -- so many words of a decoder are read
 pub record HasReadWords (row : Row) (place : ℕ) (words : List ℕ) (old new : RegsState) : Type 0 where
@@ -179,9 +184,8 @@ module _ (law : StaysLaw) (session : SessionState) (name : List ℕ) (place : �
   shown_turn read m at =
       let one = region m at in
       let own = one.0 in
-      let answer : show_answer m name ≡ stays m (replies.Shown (shown m own)) = ap (λ (o : Option Live). option_map_or (λ (r : Live). stays m (replies.Shown (shown m r))) o (stays m (replies.NoRegion name))) one.1 in
-      let counts = read.counts in (
-        record { reply = replies.Shown (shown m own); machine = m; faults = 0; trail = [] },
+      let answer : show_answer m name ≡ stays m (replies.Shown (shown m own)) = ap (λ (o : Option Live). option_map_or (λ (r : Live). stays m (replies.Shown (shown m r))) o (stays m (replies.NoRegion name))) one.1 in (
+        record { reply = replies.Shown (shown m own); machine = m; trail = []; failed = [] },
         (NoFault, sym answer, refl, refl),
         record {
           told =
@@ -190,30 +194,26 @@ module _ (law : StaysLaw) (session : SessionState) (name : List ℕ) (place : �
               ∙ ap (λ (rs : List Row). replies.Shown record { name = own.name; found = own.found; rows = map shown_row rs }) (rows_same m at);
           at = at_again m at read.same;
           words = read.same.trail ∙ trail_nothing old.trail;
-          faults = omega (arith, counts);
-          alone = read.same.alone;
-          unswallowed = λ _. read.unswallowed;
+          fails = read.unfailed;
         },
       )
 
   -- a read failed
-  pub unread_turn : IsUntouched old new → Rose old.faults new.faults → IsTurnFor session session old new media media (commands.Show name) replies.BusRead
-  unread_turn same cause m at =
+  pub unread_turn : IsUntouched old new → HasFailed old new (0 ∷ []) → IsTurnFor session session old new media media (commands.Show name) replies.BusRead
+  unread_turn same fails m at =
       let one = region m at in (
-        record { reply = replies.BusRead; machine = m; faults = 1; trail = [] },
+        record { reply = replies.BusRead; machine = m; trail = []; failed = 0 ∷ [] },
         (ReadFailed, (ap (λ (o : Option Live). is_some o) one.1, refl), refl, refl),
         record {
           told = refl;
           at = at_again m at same;
           words = same.trail ∙ trail_nothing old.trail;
-          faults = cause;
-          alone = same.alone;
-          unswallowed = λ none. absurd (omega (arith, none));
+          fails = fails;
         },
       )
 
 -- no region has the name
 pub unnamed_turn : (session : SessionState) (name : List ℕ) (regs : RegsState) (media : MediaState) → ((m : Machine) → StandsFor session m → IsNamedAt session m name None)
     → IsTurnFor session session regs regs media media (commands.Show name) (replies.NoRegion name)
-unnamed_turn session name regs media none = still session regs media (commands.Show name) (replies.NoRegion name) refl
+unnamed_turn session name regs media none = still session regs media (commands.Show name) (replies.NoRegion name)
     (λ m at. (sym (ap (λ (o : Option Live). option_map_or (λ (r : Live). stays m (replies.Shown (shown m r))) o (stays m (replies.NoRegion name))) (none m at.stands)), refl))

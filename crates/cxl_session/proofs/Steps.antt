@@ -1,9 +1,10 @@
 -- The turns of a step: the job ends, is pending with more writes made, or is left where the bus failed.
-use Rattle.std.proofs.Common.{◌≡◌, ℕ, ◌+◌, ◌<◌, ◌≤◌, min, Bool, true, false, if◌then◌else◌, List, [], length, Option, Some, None, refl, sym, ap, ◌∙◌, subst, arith}
+use Rattle.std.proofs.Common.{◌≡◌, ℕ, ◌+◌, ◌<◌, ◌≤◌, min, Bool, true, false, if◌then◌else◌, List, [], ◌∷◌, length, Option, Some, None, refl, sym, ap, ◌∙◌, subst, arith}
 use Rattle.std.specs.Prelude.{nat_le}
 use Rattle.std.proofs.lemmas.Bool.{le-leb, lt-leb, false≢true}
-use Rattle.cxl_enc.specs.Faults.{Rose, LeavesCount}
 use Rattle.cxl_regs.specs.Registers.{Registers}
+use Rattle.cxl_bus.specs.declared.sent.Sent.{Sent}
+use Rattle.cxl_bus.specs.Failed.{HasFailed}
 use Rattle.cxl_bus.specs.RegsState.{RegsState}
 use Rattle.cxl_bus.specs.Trail.{trail_with}
 use Rattle.cxl_media.specs.MediaState.{MediaState}
@@ -31,7 +32,7 @@ use Rattle.cxl_session.proofs.PendingJobs.{no_job, same_job, image_holds, at_don
 use Rattle.cxl_session.proofs.Turns.{still}
 
 pub none_stepped : (session : SessionState) (regs : RegsState) (media : MediaState) (steps : ℕ) → session.job ≡ None → IsTurnFor session session regs regs media media (commands.Step steps) replies.NothingPending
-none_stepped session regs media steps none = still session regs media (commands.Step steps) replies.NothingPending refl
+none_stepped session regs media steps none = still session regs media (commands.Step steps) replies.NothingPending
     (λ m at.
     let idle : m.job ≡ None = no_job m session.job none m.job at.stands.job in
     let same : Answer = record { reply = replies.NothingPending; machine = m } in (
@@ -57,21 +58,22 @@ module _ (session : SessionState) (old new : RegsState) (own : JobFields) (here 
     left_is : left ≡ blocks_done m.settled.blocks own.writes made
     left_is = goes.on_way m.settled.blocks (image_holds session m own job at.stands pending same)
 
+    same_words : words_made own.writes own.done made ≡ forward job job.done made
+    same_words = ap (λ (ws : List Write). words_made ws own.done made) same.writes ∙ ap (λ (n : ℕ). words_made job.writes n made) same.done
+
     words_are : new.trail ≡ trail_with old.trail (forward job job.done made)
-    words_are =
-        goes.sent ∙ ap (λ (ws : List Write). trail_with old.trail (words_made ws own.done made)) same.writes
-        ∙ ap (λ (n : ℕ). trail_with old.trail (words_made job.writes n made)) same.done
+    words_are = goes.sent ∙ ap (trail_with old.trail) same_words
 
     total_is : length own.writes ≡ total_of job
     total_is = ap (λ (ws : List Write). length ws) same.writes
 
   -- the bus failed before all of them were made
-  pub left_stepped : (media : MediaState) → own.done ≤ made → made < min (own.done + steps) (length own.writes) → Rose old.faults new.faults
+  pub left_stepped : (media : MediaState) → own.done ≤ made → made < min (own.done + steps) (length own.writes) → HasFailed old new (length (words_made own.writes own.done made) ∷ [])
       → IsTurnFor session (record session { image = left; job = Some (record own { done = made }) }) old new media media (commands.Step steps)
       (replies.BusPending record { name = own.name; done = made; total = length own.writes })
-  left_stepped media some part cause m at =
+  left_stepped media some part fails m at =
       let (job, pending, same) = same_job m own session.job here m.job at.stands.job in
-      let turn : Turn = record { reply = pending_reply job made; machine = at_done job made m; faults = 1; trail = forward job job.done made } in
+      let turn : Turn = record { reply = pending_reply job made; machine = at_done job made m; trail = forward job job.done made; failed = length (forward job job.done made) ∷ [] } in
       let total = total_is media m at job pending same in
       let done = same.done in
       let is = left_is media m at job pending same in (
@@ -92,22 +94,19 @@ module _ (session : SessionState) (old new : RegsState) (own : JobFields) (here 
             sound = at_done_sound session m own job at.stands pending same old.blocks new.blocks media at.sound made (omega (arith, part, total)) (goes.same ∙ is);
           };
           words = words_are media m at job pending same;
-          faults = cause;
-          alone = goes.alone;
-          unswallowed = λ none. absurd (omega (arith, none));
+          fails = subst (λ (words : List Sent). HasFailed old new (length words ∷ [])) (same_words media m at job pending same) fails;
         },
       )
 
   -- so many more are made, and not all
-  pub stepped : (media : MediaState) → made ≡ own.done + steps → made < length own.writes → LeavesCount old.counts_failures_alone old.faults new.faults
+  pub stepped : (media : MediaState) → made ≡ own.done + steps → made < length own.writes → HasFailed old new []
       → IsTurnFor session (record session { image = left; job = Some (record own { done = made }) }) old new media media (commands.Step steps)
       (replies.Stepped record { done = made; total = length own.writes })
-  stepped media all part count m at =
+  stepped media all part fails m at =
       let (job, pending, same) = same_job m own session.job here m.job at.stands.job in
-      let turn : Turn = record { reply = replies.Stepped record { done = made; total = total_of job }; machine = at_done job made m; faults = 0; trail = forward job job.done made } in
+      let turn : Turn = record { reply = replies.Stepped record { done = made; total = total_of job }; machine = at_done job made m; trail = forward job job.done made; failed = [] } in
       let total = total_is media m at job pending same in
       let done = same.done in
-      let counts = goes.counts in
       let is = left_is media m at job pending same in
       let upto : made ≡ job.done + steps = omega (arith, all, done) in
       let more : nat_le (total_of job) (job.done + steps) ≡ false = lt-leb (total_of job) (job.done + steps) (omega (arith, upto, part, total)) in
@@ -129,22 +128,19 @@ module _ (session : SessionState) (old new : RegsState) (own : JobFields) (here 
             sound = at_done_sound session m own job at.stands pending same old.blocks new.blocks media at.sound made (omega (arith, part, total)) (goes.same ∙ is);
           };
           words = words_are media m at job pending same;
-          faults = omega (arith, counts);
-          alone = goes.alone;
-          unswallowed = λ _. count;
+          fails = fails;
         },
       )
 
   -- all are made, and the job ends
-  pub ended : EndLaws → MediaLaws → (media after : MediaState) → made ≡ length own.writes → length own.writes ≤ own.done + steps → LeavesCount old.counts_failures_alone old.faults new.faults
+  pub ended : EndLaws → MediaLaws → (media after : MediaState) → made ≡ length own.writes → length own.writes ≤ own.done + steps → HasFailed old new []
       → IsLeftByEnd own media after
       → IsTurnFor session (session_finished own (record session { image = left; job = None })) old new media after (commands.Step steps) (finished_reply own)
-  ended laws media_laws media after all past count ends m at =
+  ended laws media_laws media after all past fails ends m at =
       let (job, pending, same) = same_job m own session.job here m.job at.stands.job in
-      let turn : Turn = record { reply = ended_reply job job.kind; machine = finished job m; faults = 0; trail = forward job job.done made } in
+      let turn : Turn = record { reply = ended_reply job job.kind; machine = finished job m; trail = forward job job.done made; failed = [] } in
       let total = total_is media m at job pending same in
       let done = same.done in
-      let counts = goes.counts in
       let is : left ≡ blocks_done m.settled.blocks own.writes (length own.writes) = left_is media m at job pending same ∙ ap (blocks_done m.settled.blocks own.writes) all in
       let last : nat_le (total_of job) (job.done + steps) ≡ true = le-leb (total_of job) (job.done + steps) (omega (arith, past, total, done)) in
       let settled : left ≡ (settled_by job job.kind m.settled).blocks = is ∙ ap (λ (ws : List Write). blocks_done m.settled.blocks ws (length ws)) same.writes ∙ laws.ends m job at.sound.machine pending in
@@ -168,9 +164,7 @@ module _ (session : SessionState) (old new : RegsState) (own : JobFields) (here 
                 (goes.same ∙ settled);
           };
           words = words_are media m at job pending same;
-          faults = omega (arith, counts);
-          alone = goes.alone;
-          unswallowed = λ _. count;
+          fails = fails;
         },
       )
 

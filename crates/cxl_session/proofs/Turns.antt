@@ -1,8 +1,9 @@
 -- Turns that leave session, registers and media as they are.
-use Rattle.std.proofs.Common.{◌≡◌, true, false, [], Result, Ok, Err, refl, sym, subst, arith}
+use Rattle.std.proofs.Common.{◌≡◌, true, false, [], Result, Ok, Err, refl, sym, subst}
 use Rattle.std.specs.Prelude.{OnOk, OnErr}
 use Rattle.std.specs.Result.{is_ok, is_err}
 use Rattle.std.proofs.lemmas.Bool.{false≢true}
+use Rattle.cxl_bus.proofs.Failed.{fails_nowhere}
 use Rattle.cxl_bus.specs.RegsState.{RegsState}
 use Rattle.cxl_bus.proofs.Trails.{trail_nothing}
 use Rattle.cxl_media.specs.MediaState.{MediaState}
@@ -10,20 +11,21 @@ use Rattle.cxl_script.specs.declared.command.Command.{Command}
 use Rattle.cxl_reply.specs.declared.reply.Reply.{Reply}
 use Rattle.cxl_machine.specs.Machine.{Machine}
 use Rattle.cxl_machine.specs.Answers.{Answers}
-use Rattle.cxl_machine.specs.Outcomes.{NoFault, faults_of}
+use Rattle.cxl_machine.specs.Outcomes.{NoFault}
 use Rattle.cxl_machine.specs.Replies.{stays}
 use Rattle.cxl_machine.specs.Trails.{TrailOf}
+use Rattle.cxl_machine.proofs.Fails.{no_call_fails}
 use Rattle.cxl_session.specs.State.{SessionState}
 use Rattle.cxl_session.specs.Standing.{IsAt}
 use Rattle.cxl_session.specs.inner.Answering.{IsTurnFor}
 
 -- a turn at which nothing changes
-pub still : (session : SessionState) (regs : RegsState) (media : MediaState) (command : Command) (reply : Reply) → faults_of command NoFault ≡ 0
+pub still : (session : SessionState) (regs : RegsState) (media : MediaState) (command : Command) (reply : Reply)
     → ((m : Machine) → IsAt session regs media m → Answers m command NoFault (stays m reply) × TrailOf m command NoFault []) → IsTurnFor session session regs regs media media command reply
-still session regs media command reply none given m at = (
-  record { reply = reply; machine = m; faults = 0; trail = [] },
-  (NoFault, (given m at).0, (given m at).1, sym none),
-  record { told = refl; at = at; words = trail_nothing regs.trail; faults = omega arith; alone = refl; unswallowed = λ _ _. refl },
+still session regs media command reply given m at = (
+  record { reply = reply; machine = m; trail = []; failed = [] },
+  (NoFault, (given m at).0, (given m at).1, no_call_fails m command [] (given m at).1),
+  record { told = refl; at = at; words = trail_nothing regs.trail; fails = fails_nowhere regs },
 )
 
 -- ---- by the answer of the bus

@@ -1,9 +1,10 @@
 -- A job that was begun is carried out: it ends, is undone, or stays pending where that fails too.
-use Rattle.std.proofs.Common.{◌≡◌, ℕ, ◌<◌, ◌≤◌, List, [], ◌++◌, length, Option, Some, None, Result, Err, refl, sym, ap, ◌∙◌, subst, arith}
+use Rattle.std.proofs.Common.{◌≡◌, ℕ, ◌+◌, ◌-◌, ◌<◌, ◌≤◌, List, [], ◌∷◌, ◌++◌, length, Option, Some, None, Result, Err, refl, sym, ap, ◌∙◌, subst, arith, length-append}
 use Rattle.std.specs.Prelude.{slice_get}
-use Rattle.cxl_enc.specs.Faults.{Rose, LeavesCount}
 use Rattle.cxl_regs.specs.Registers.{Registers}
 use Rattle.cxl_bus.specs.declared.sent.Sent.{Sent}
+use Rattle.cxl_bus.proofs.Failed.{fails_both}
+use Rattle.cxl_bus.specs.Failed.{HasFailed}
 use Rattle.cxl_bus.specs.RegsState.{RegsState}
 use Rattle.cxl_bus.specs.Trail.{trail_with}
 use Rattle.cxl_bus.proofs.Trails.{trail_append}
@@ -23,7 +24,9 @@ use Rattle.cxl_machine.specs.Replies.{stays}
 use Rattle.cxl_machine.specs.Requests.{asked_release}
 use Rattle.cxl_machine.specs.Sound.{IsMachine}
 use Rattle.cxl_machine.specs.Scripts.{Turn, answer_of}
-use Rattle.cxl_machine.specs.Trails.{forward, backward, SendsAsked}
+use Rattle.cxl_machine.specs.Fails.{FailsAsked}
+use Rattle.cxl_machine.specs.Trails.{forward, backward, GoesBackTo, SendsAsked}
+use Rattle.cxl_machine.proofs.WordsSent.{made_count}
 use Rattle.cxl_session.specs.State.{JobFields, SessionState}
 use Rattle.cxl_session.specs.Standing.{StandsFor, IsAt, IsJobFor, HasSameJob}
 use Rattle.cxl_session.specs.declared.requests.Release.{Release}
@@ -66,16 +69,15 @@ module _ (session : SessionState) (old mid : RegsState) (own : JobFields) (here 
         ∙ ap (λ (k : ℕ). trail_with old.trail (words_made job.writes k made)) done_is
 
   -- all writes are made
-  pub whole_ended : EndLaws → MediaLaws → (media after : MediaState) → made ≡ length own.writes → LeavesCount old.counts_failures_alone old.faults mid.faults → IsLeftByEnd own media after
+  pub whole_ended : EndLaws → MediaLaws → (media after : MediaState) → made ≡ length own.writes → HasFailed old mid [] → IsLeftByEnd own media after
       → IsWholeFor session (session_finished own (record session { image = left; job = None })) old mid media after (finished_reply own)
-  whole_ended laws media_laws media after all count ends m job at fresh again =
+  whole_ended laws media_laws media after all fails ends m job at fresh again =
       let own_same = same media m job at fresh in
       let total = total_is media m job at fresh in
-      let counts = goes.counts in
       let is : left ≡ blocks_done m.settled.blocks own.writes (length own.writes) = left_is media m job at fresh ∙ ap (blocks_done m.settled.blocks own.writes) all in
       let settled : left ≡ (settled_by job job.kind m.settled).blocks =
       is ∙ ap (λ (ws : List Write). blocks_done m.settled.blocks ws (length ws)) own_same.writes ∙ laws.ends (begun job m) job at.sound.machine refl in
-      let turn : Turn = record { reply = ended_reply job job.kind; machine = finished job (begun job m); faults = 0; trail = forward job 0 (total_of job) } in (
+      let turn : Turn = record { reply = ended_reply job job.kind; machine = finished job (begun job m); trail = forward job 0 (total_of job); failed = [] } in (
         turn,
         NoFault,
         refl,
@@ -91,14 +93,12 @@ module _ (session : SessionState) (old mid : RegsState) (own : JobFields) (here 
                 (goes.same ∙ settled);
           };
           words = words_are media m job at fresh ∙ ap (λ (k : ℕ). trail_with old.trail (forward job 0 k)) (all ∙ total);
-          faults = omega (arith, counts);
-          alone = goes.alone;
-          unswallowed = λ _. count;
+          fails = fails;
         },
       )
 
   -- the bus failed, and the writes that were made are taken back, all or down to so many
-  module _ (law : BackLaw) (new : RegsState) (kept : ℕ) (last : List Registers) (part : made < length own.writes) (cause : Rose old.faults mid.faults)
+  module _ (law : BackLaw) (new : RegsState) (kept : ℕ) (last : List Registers) (part : made < length own.writes) (stops : HasFailed old mid (length (words_made own.writes own.done made) ∷ []))
       (back : IsTakenBackTo (record own { done = made }) kept left last mid new) where
     module _ (media : MediaState) (m : Machine) (job : RegionJob) (at : IsAt session old media (begun job m)) (fresh : job.done ≡ 0) where
       last_is : last ≡ blocks_done m.settled.blocks own.writes kept
@@ -111,19 +111,38 @@ module _ (session : SessionState) (old mid : RegsState) (own : JobFields) (here 
           ∙ ap (λ (t : Option (List Sent)). trail_with t (backward job kept made)) (words_are media m job at fresh)
           ∙ trail_append old.trail (forward job 0 made) (backward job kept made)
 
-    pub whole_undone : (media : MediaState) → kept ≡ 0
+      -- the first write that was not made failed
+      stops_at : HasFailed old mid (made ∷ [])
+      stops_at =
+          let none = done_is media m job at fresh in
+          let long = made_count m.settled.blocks own.writes own.done made (omega (arith, part)) in
+          let place : length (words_made own.writes own.done made) ≡ made = omega (arith, long, none) in
+          subst (λ (n : ℕ). HasFailed old mid (n ∷ [])) place stops
+
+      undone_fails : HasFailed mid new [] → HasFailed old new (made ∷ [])
+      undone_fails = fails_both old mid new (forward job 0 made) (made ∷ []) [] (words_are media m job at fresh) stops_at
+
+      left_fails : HasFailed mid new (length (words_taken_back own.writes kept made) ∷ []) → HasFailed old new (made ∷ length (forward job 0 made ++ backward job kept made) ∷ [])
+      left_fails last_fails =
+          let place : length (forward job 0 made) + length (words_taken_back own.writes kept made) ≡ length (forward job 0 made ++ backward job kept made) =
+          ap (λ (ws : List Write). length (forward job 0 made) + length (words_taken_back ws kept made)) (same media m job at fresh).writes
+          ∙ sym (length-append (forward job 0 made) (backward job kept made)) in
+          subst (λ (n : ℕ). HasFailed old new (made ∷ n ∷ [])) place
+          (fails_both old mid new (forward job 0 made) (made ∷ []) (length (words_taken_back own.writes kept made) ∷ []) (words_are media m job at fresh) stops_at last_fails)
+
+    pub whole_undone : (media : MediaState) → kept ≡ 0 → HasFailed mid new []
         → IsWholeFor session (session_undone own (record session { image = last; job = None })) old new media media replies.BusUndone
-    whole_undone media all m job at fresh again =
+    whole_undone media all fails m job at fresh again =
         let own_same = same media m job at fresh in
         let total = total_is media m job at fresh in
-        let counts = back.counts in
         let is : last ≡ m.settled.blocks = last_is media m job at fresh ∙ ap (blocks_done m.settled.blocks own.writes) all in
-        let turn : Turn = record { reply = replies.BusUndone; machine = m; faults = 1; trail = forward job 0 made ++ backward job 0 made } in (
+        let turn : Turn = record { reply = replies.BusUndone; machine = m; trail = forward job 0 made ++ backward job 0 made; failed = made ∷ [] } in
+        let turns : GoesBackTo job 0 turn.trail = record { turn = made; some = omega arith; part = omega (arith, part, total); sent = refl } in (
           turn,
           Undone,
           refl,
-          record { turn = made; some = omega arith; part = omega (arith, part, total); sent = refl },
-          refl,
+          turns,
+          (turns, refl),
           record {
             told = refl;
             at =
@@ -132,9 +151,7 @@ module _ (session : SessionState) (old mid : RegsState) (own : JobFields) (here 
                   sound = undone_sound session (begun job m) own job at.stands refl own_same old.blocks new.blocks media at.sound (back.same ∙ is);
                 });
             words = both_words media m job at fresh ∙ ap (λ (k : ℕ). trail_with old.trail (forward job 0 made ++ backward job k made)) all;
-            faults = omega (arith, cause, counts);
-            alone = back.alone ∙ goes.alone;
-            unswallowed = λ none. absurd (omega (arith, none));
+            fails = undone_fails media m job at fresh fails;
           },
         )
 
@@ -148,19 +165,20 @@ module _ (session : SessionState) (old mid : RegsState) (own : JobFields) (here 
         let before : old.blocks ≡ m.settled.blocks = at.sound.registers ∙ ap (blocks_done m.settled.blocks job.writes) fresh in
         (ap (λ (blocks : List Registers). session_undone own (record session { image = blocks; job = None })) (is ∙ sym image), back.same ∙ is ∙ sym before)
 
-    pub whole_left : (media : MediaState) → 1 ≤ kept → kept ≤ made → Rose mid.faults new.faults
+    pub whole_left : (media : MediaState) → 1 ≤ kept → kept ≤ made → HasFailed mid new (length (words_taken_back own.writes kept made) ∷ [])
         → IsWholeFor session (record session { image = last; job = Some (record own { done = kept }) }) old new media media
         (replies.BusPending record { name = own.name; done = kept; total = length own.writes })
-    whole_left media some few again_cause m job at fresh again =
+    whole_left media some few fails m job at fresh again =
         let own_same = same media m job at fresh in
         let total = total_is media m job at fresh in
         let is = last_is media m job at fresh in
-        let turn : Turn = record { reply = pending_reply job kept; machine = at_done job kept (begun job m); faults = 2; trail = forward job 0 made ++ backward job kept made } in (
+        let turn : Turn = record { reply = pending_reply job kept; machine = at_done job kept (begun job m); trail = forward job 0 made ++ backward job kept made; failed = made ∷ length (forward job 0 made ++ backward job kept made) ∷ [] } in
+        let turns : GoesBackTo job kept turn.trail = record { turn = made; some = few; part = omega (arith, part, total); sent = refl } in (
           turn,
           LeftPending kept,
           (record { some = some; part = omega (arith, few, part, total) }, refl),
-          record { turn = made; some = few; part = omega (arith, part, total); sent = refl },
-          refl,
+          turns,
+          (turns, refl),
           record {
             told =
                 ap (λ (name : List ℕ). replies.BusPending record { name = name; done = kept; total = length own.writes }) own_same.name
@@ -170,9 +188,7 @@ module _ (session : SessionState) (old mid : RegsState) (own : JobFields) (here 
               sound = at_done_sound session (begun job m) own job at.stands refl own_same old.blocks new.blocks media at.sound kept (omega (arith, few, part, total)) (back.same ∙ is);
             };
             words = both_words media m job at fresh;
-            faults = omega (arith, cause, again_cause);
-            alone = back.alone ∙ goes.alone;
-            unswallowed = λ none. absurd (omega (arith, none));
+            fails = left_fails media m job at fresh fails;
           },
         )
 
@@ -193,20 +209,20 @@ pub destroyed : (session pending next : SessionState) (name : List ℕ) (release
 destroyed session pending next name release old new media left reply asked begins whole m at =
     let is : IsNamedRelease m name release = asked m at.stands at.sound.machine in
     let job : RegionJob = release_job m.settled release.place is.region in
-    let (turn, outcome, carries, sends, faults, taken) = whole m job (begins m at is) refl (released_again m release.place is.region is.idle is.there) in (
+    let (turn, outcome, carries, sends, fails, taken) = whole m job (begins m at is) refl (released_again m release.place is.region is.idle is.there) in (
       turn,
       (
         outcome,
         subst (λ (a : Result RegionJob Reply). AnswersWhole m a outcome (answer_of turn)) (sym is.asked) carries,
         subst (λ (a : Result RegionJob Reply). SendsAsked a outcome turn.trail) (sym is.asked) sends,
-        faults,
+        subst (λ (a : Result RegionJob Reply). FailsAsked a outcome turn.trail turn.failed) (sym is.asked) fails,
       ),
       taken,
     )
 
 pub destroy_refused : (session : SessionState) (name : List ℕ) (refusal : Reply) (regs : RegsState) (media : MediaState)
     → ((m : Machine) → StandsFor session m → IsMachine m → asked_release m name ≡ Err refusal) → IsTurnFor session session regs regs media media (commands.Destroy name) refusal
-destroy_refused session name refusal regs media asked = still session regs media (commands.Destroy name) refusal refl
+destroy_refused session name refusal regs media asked = still session regs media (commands.Destroy name) refusal
     (λ m at.
     let none = asked m at.stands at.sound.machine in (
       subst (λ (a : Result RegionJob Reply). AnswersWhole m a NoFault (stays m refusal)) (sym none) (record { unfailing = refl; told = refl }),

@@ -1,7 +1,7 @@
 -- For which machine a session stands, with registers and media (this project's rule).
 use Rattle.std.specs.Prelude.{◌≡◌, ℕ, map, Option, Some, None}
 use Rattle.std.specs.List.{AllZip}
-use Rattle.cxl_enc.specs.Faults.{RoseBy, LeavesCount}
+use Rattle.cxl_bus.specs.Failed.{HasFailed}
 use Rattle.cxl_bus.specs.RegsState.{RegsState}
 use Rattle.cxl_bus.specs.Trail.{trail_with}
 use Rattle.cxl_media.specs.MediaState.{MediaState}
@@ -78,12 +78,10 @@ Stands session regs media = (m : Machine) × IsAt session regs media m
 abbrev pub ForEachMachine : SessionState → RegsState → MediaState → (Machine → Type 0) → Type 0
 ForEachMachine session regs media P = (m : Machine) → IsAt session regs media m → P m
 
--- A turn is taken: this is its reply, all stand for its machine, its words are sent, and its faults are counted.
+-- A turn is taken: this is its reply, all stand for its machine, its words are sent, and its calls of the bus failed where it
+-- says, each of them counted, and no other.
 pub record HasTaken (turn : Turn) (reply : Reply) (session : SessionState) (old new : RegsState) (media : MediaState) : Type 0 where
   pub told : reply ≡ turn.reply
   pub at : IsAt session new media turn.machine
   pub words : new.trail ≡ trail_with old.trail turn.trail
-  pub faults : RoseBy turn.faults old.faults new.faults
-  -- no fault is swallowed
-  pub alone : new.counts_failures_alone ≡ old.counts_failures_alone
-  pub unswallowed : turn.faults ≡ 0 → LeavesCount old.counts_failures_alone old.faults new.faults
+  pub fails : HasFailed old new turn.failed

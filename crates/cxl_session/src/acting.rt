@@ -1,7 +1,7 @@
 //! How one command is carried out.
 
-ghost use Rattle.std.specs.Prelude.{◌≡◌, ◌≤◌, true, false, Ok, IsOk, IfOk, OnErr};
-ghost use Rattle.cxl_enc.specs.Faults.{LeavesCount};
+ghost use Rattle.std.specs.Prelude.{◌≡◌, ◌≤◌, true, false, [], Ok, IsOk, IfOk, OnErr};
+ghost use Rattle.cxl_bus.specs.Failed.{HasFailed};
 ghost use Rattle.cxl_bus.specs.RegsState.{IsUntouched};
 ghost use Rattle.cxl_script.specs.Grammar.{IsRanged};
 ghost use Rattle.cxl_machine.specs.Memory.{takes_memory};
@@ -30,7 +30,7 @@ impl Session {
         requires stands { Stands self.old (R.state regs.old) (M.state media.old) }
         requires ranged { IsRanged command.now }
 
-        // The reply, the next machine, the words and the faults are those of a turn of the machine.
+        // The reply, the next machine, the words and the calls that failed are those of a turn of the machine.
         ensures answer { IfOk result (λ reply. ForEachMachine self.old (R.state regs.old) (M.state media.old) (λ m.
             (turn : Turn) × TakesTurn m (Ok command.now) turn
             × HasTaken turn reply self.new (R.state regs.old) (R.state regs.new) (M.state media.new))) }
@@ -40,9 +40,8 @@ impl Session {
         // After want of memory nothing has changed, and nothing is sent.
         ensures memory { OnErr result ((self.new ≡ self.old) × IsUntouched (R.state regs.old) (R.state regs.new)
             × (M.state media.new ≡ M.state media.old)) }
-        // Nor is a fault of the bus swallowed in it.
-        ensures unswallowed { OnErr result (LeavesCount (R.state regs.old).counts_failures_alone
-            (R.state regs.old).faults (R.state regs.new).faults) }
+        // Nor did a call of the bus fail.
+        ensures unfailed { OnErr result (HasFailed (R.state regs.old) (R.state regs.new) []) }
         // A command that takes none is answered.
         ensures ready { takes_memory command.now ≡ false → IsOk result }
         // Its image is the bus's, over the same host.

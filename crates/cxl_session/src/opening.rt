@@ -1,8 +1,9 @@
 //! How a session opens on a register image.
 
-ghost use Rattle.std.specs.Prelude.{◌≡◌, ◌⊎◌, ℕ, ◌<◌, ◌≤◌, length, All, option_map, map, IfOk, IfErr, OnOk};
+ghost use Rattle.std.specs.Prelude.{◌≡◌, ◌⊎◌, ℕ, ◌<◌, ◌≤◌, [], length, All, option_map, map, IfOk, IfErr, OnOk};
 ghost use Rattle.std.specs.List.{range_with_len};
 ghost use Rattle.std.specs.Vec.{vec_capacity};
+ghost use Rattle.cxl_bus.specs.Failed.{HasFailed, fresh};
 ghost use Rattle.cxl_enc.specs.Faults.{Rose, LeavesCount};
 ghost use Rattle.cxl_image.specs.Images.{HasCapsOf};
 ghost use Rattle.cxl_window.specs.Windows.{AreMadeWith};
@@ -85,6 +86,8 @@ impl Session {
             (LeavesCount (R.state regs.old).counts_failures_alone (R.state regs.old).faults (R.state regs.new).faults) }
         ensures unhidden { result ≡ Err OpenFault.Memory
             → LeavesCount (R.state regs.old).counts_failures_alone (R.state regs.old).faults (R.state regs.new).faults }
+        // Nor did a call of the bus fail since it was powered on.
+        ensures unfailed { OnOk result (HasFailed (fresh (R.state regs.old)) (R.state regs.new) []) }
     {
         let founds = regions_to_open(alloc, &topo, &windows, &start)?;
         let Ok(endpoints) = powered_on(alloc, &topo, &start, regs, media) else {

@@ -1,11 +1,12 @@
 //! Regions that are made and ended: a job goes on, ends, or is undone.
 
 ghost use Rattle.std.specs.Prelude.{◌≡◌, ℕ, ◌<◌, ◌≤◌, true, length, insert, [], ◌∷◌, ◌++◌, Some, None, option_map, IfSome, IfOk, OnOk, OnErr};
-ghost use Rattle.cxl_enc.specs.Faults.{HasCause, LeavesCount};
+ghost use Rattle.cxl_bus.specs.Failed.{HasFailed};
 ghost use Rattle.cxl_bus.specs.RegsState.{RegsState};
 ghost use Rattle.cxl_media.specs.MediaState.{MediaState};
 ghost use Rattle.cxl_script.specs.declared.command.Command.TheVariants as commands;
 ghost use Rattle.cxl_apply.specs.Steps.{HasWordsOf};
+ghost use Rattle.cxl_apply.specs.WordsSent.{words_made, words_taken_back};
 ghost use Rattle.cxl_model.specs.System.{System, IsSystem};
 ghost use Rattle.cxl_model.specs.Regions.{IsRegion};
 ghost use Rattle.cxl_machine.specs.Machine.{RegionJob, Machine};
@@ -224,9 +225,10 @@ impl Session {
         ensures kept_words { HasWordsOf self.new.image pending.new.job.writes }
         ensures all { OnOk result (pending.new.job.done ≡ 0) }
         ensures part { OnErr result ((0 < pending.new.job.done) × (pending.new.job.done ≤ pending.old.job.done)) }
-        ensures cause { HasCause result (R.state regs.old).faults (R.state regs.new).faults }
-        ensures unswallowed { OnOk result (LeavesCount (R.state regs.old).counts_failures_alone
-            (R.state regs.old).faults (R.state regs.new).faults) }
+        // At a fault one call failed, behind these words; else none did.
+        ensures failed { OnErr result (HasFailed (R.state regs.old) (R.state regs.new)
+            (length (words_taken_back pending.old.job.writes pending.new.job.done pending.old.job.done) ∷ [])) }
+        ensures unfailed { OnOk result (HasFailed (R.state regs.old) (R.state regs.new) []) }
     {
         pending.job.take_back_to(0, &mut self.image, regs)
     }
@@ -251,9 +253,10 @@ impl Session {
         ensures kept_words { HasWordsOf self.new.image pending.new.job.writes }
         ensures all { OnOk result (pending.new.job.done ≡ upto) }
         ensures part { OnErr result ((pending.old.job.done ≤ pending.new.job.done) × (pending.new.job.done < upto)) }
-        ensures cause { HasCause result (R.state regs.old).faults (R.state regs.new).faults }
-        ensures unswallowed { OnOk result (LeavesCount (R.state regs.old).counts_failures_alone
-            (R.state regs.old).faults (R.state regs.new).faults) }
+        // At a fault one call failed, behind these words; else none did.
+        ensures failed { OnErr result (HasFailed (R.state regs.old) (R.state regs.new)
+            (length (words_made pending.old.job.writes pending.old.job.done pending.new.job.done) ∷ [])) }
+        ensures unfailed { OnOk result (HasFailed (R.state regs.old) (R.state regs.new) []) }
     {
         pending.job.make_to(upto, &mut self.image, regs)
     }

@@ -1,8 +1,8 @@
 //! A live region with its registers, as the bus has them.
 
-ghost use Rattle.std.specs.Prelude.{◌≡◌, ◌≤◌, [], length, map, All, IfOk, OnOk, OnErr};
+ghost use Rattle.std.specs.Prelude.{◌≡◌, ◌≤◌, [], ◌∷◌, length, map, All, IfOk, OnOk, OnErr};
 ghost use Rattle.std.specs.Vec.{vec_capacity};
-ghost use Rattle.cxl_enc.specs.Faults.{HasCause, LeavesCount};
+ghost use Rattle.cxl_bus.specs.Failed.{HasFailed};
 ghost use Rattle.cxl_bus.specs.RegsState.{IsUntouched};
 ghost use Rattle.cxl_media.specs.MediaState.{MediaState};
 ghost use Rattle.cxl_script.specs.declared.command.Command.TheVariants as commands;
@@ -77,10 +77,10 @@ fn read_rows<R: Regs>(
     requires room { length rows.now ≤ vec_capacity shown }
     ensures shown { IfOk result (λ shown. shown ≡ map shown_row rows.now) }
     ensures same { IsUntouched (R.state regs.old) (R.state regs.new) }
-    ensures cause { HasCause result (R.state regs.old).faults (R.state regs.new).faults }
+    // At a fault one call failed, and none behind it; else none did.
+    ensures failed { OnErr result (HasFailed (R.state regs.old) (R.state regs.new) (0 ∷ [])) }
+    ensures unfailed { OnOk result (HasFailed (R.state regs.old) (R.state regs.new) []) }
     ensures counts { (R.state regs.old).faults ≤ (R.state regs.new).faults }
-    ensures unswallowed { OnOk result
-        (LeavesCount (R.state regs.old).counts_failures_alone (R.state regs.old).faults (R.state regs.new).faults) }
 {
     for row in rows {
         let words = read_row(row, regs)?;
@@ -94,10 +94,10 @@ fn read_row<R: Regs>(row: &Row, regs: &mut R) -> Result<ShownRow, Failed>
     requires { IsRowOf (R.state regs.old).blocks row.now }
     ensures shown { IfOk result (λ shown. shown ≡ shown_row row.now) }
     ensures same { IsUntouched (R.state regs.old) (R.state regs.new) }
-    ensures cause { HasCause result (R.state regs.old).faults (R.state regs.new).faults }
+    // At a fault one call failed, and none behind it; else none did.
+    ensures failed { OnErr result (HasFailed (R.state regs.old) (R.state regs.new) (0 ∷ [])) }
+    ensures unfailed { OnOk result (HasFailed (R.state regs.old) (R.state regs.new) []) }
     ensures counts { (R.state regs.old).faults ≤ (R.state regs.new).faults }
-    ensures unswallowed { OnOk result
-        (LeavesCount (R.state regs.old).counts_failures_alone (R.state regs.old).faults (R.state regs.new).faults) }
 {
     let mut words = [0; 7];
     for place in 0..7 {

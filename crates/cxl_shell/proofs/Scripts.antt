@@ -1,13 +1,15 @@
 -- How a script ends: over an open session, over a host, and over the files of its form.
-use Rattle.std.proofs.Common.{◌≡◌, ◌≢◌, ◌⊎◌, ℕ, ◌<◌, ◌≤◌, true, Option, Some, None, option_map, List, [], ◌∷◌, ◌++◌, take, Result, Ok, Err, refl, sym, ap, subst, ◌∙◌, inl, inr, arith}
+use Rattle.std.proofs.Common.{◌≡◌, ◌≢◌, ◌⊎◌, ℕ, ◌<◌, ◌≤◌, true, Option, Some, None, option_map, List, [], ◌∷◌, ◌++◌, length, take, Result, Ok, Err, refl, sym, ap, subst, ◌∙◌, inl, inr, arith}
 use Rattle.std.proofs.lemmas.Bool.{cases_lt}
 use Rattle.std.proofs.lemmas.List.{append-nil}
+use Rattle.cxl_bus.proofs.Failed.{fails_both}
+use Rattle.cxl_bus.specs.Failed.{behind, HasFailed, fresh}
 use Rattle.cxl_bus.specs.RegsState.{RegsState}
 use Rattle.cxl_bus.specs.Trail.{trail_with}
 use Rattle.cxl_bus.specs.declared.sent.Sent.{Sent}
 use Rattle.cxl_cedt.specs.CedtFields.{CedtFields}
 use Rattle.cxl_check.specs.declared.fault.Breach.{Breach}
-use Rattle.cxl_enc.specs.Faults.{Rose, LeavesCount}
+use Rattle.cxl_enc.specs.Faults.{Rose}
 use Rattle.cxl_image.specs.Images.{reset_blocks}
 use Rattle.cxl_inputs.specs.Ends.{Ends, Finishes}
 use Rattle.cxl_inputs.specs.File.{AsksForSome}
@@ -29,7 +31,7 @@ use Rattle.cxl_machine.specs.Machine.{Machine}
 use Rattle.cxl_model.specs.Listed.{region_limit}
 use Rattle.cxl_machine.specs.Scripts.{Asked, Turn, lines_asked}
 use Rattle.cxl_machine.specs.Sound.{Opens}
-use Rattle.cxl_machine.specs.Turns.{text_of, words_sent}
+use Rattle.cxl_machine.specs.Turns.{text_of, words_sent, failed_in}
 use Rattle.cxl_machine.specs.declared.fault.OpenFault.{OpenFault}
 use Rattle.cxl_machine.specs.declared.fault.OpenFault.TheVariants as faults
 use Rattle.cxl_model.specs.Accepted.{IsAccepted}
@@ -112,21 +114,24 @@ words_behind : (old mid new : Option (List Sent)) (front words : List Sent) → 
 words_behind None mid new front words is then = then ∙ ap (λ t. trail_with t words) is
 words_behind (Some sent) mid new front words is then = then ∙ ap (λ t. trail_with t words) is
 
+words_fresh : (old mid : Option (List Sent)) (front : List Sent) → mid ≡ option_map (λ (sent : List Sent). front) old → mid ≡ trail_with (option_map (λ (sent : List Sent). []) old) front
+words_fresh None mid front is = is
+words_fresh (Some sent) mid front is = is
+
 pub carried-out : (start : System) (frames : ℕ) (first : Machine) (asked : List Asked) (turns : List Turn) (session : SessionState) (nodes : List Node) (mid : RegsState) (before after : Devices) → Opens start frames first → start.nodes ≡ nodes
-    → mid.trail ≡ option_map (λ (sent : List Sent). enabling (endpoints_in nodes)) before.regs.trail → before.regs.faults ≤ mid.faults
-    → mid.counts_failures_alone ≡ before.regs.counts_failures_alone → LeavesCount before.regs.counts_failures_alone before.regs.faults mid.faults
+    → mid.trail ≡ option_map (λ (sent : List Sent). enabling (endpoints_in nodes)) before.regs.trail → HasFailed (fresh before.regs) mid []
     → HasGoneOn first asked turns session mid after.regs after.media → HasCarriedOut first turns before after
-carried-out start frames first asked turns session nodes mid before after opens same enabled counts alone left gone =
+carried-out start frames first asked turns session nodes mid before after opens same enabled unfailed gone =
     let host : first.settled.nodes ≡ nodes = ap (λ (m : Machine). m.settled.nodes) opens.machine ∙ same in
-    let faults = gone.faults in
     record {
       holds = gone.at.sound;
       words =
           subst (λ ns. after.regs.trail ≡ option_map (λ (sent : List Sent). enabling (endpoints_in ns) ++ words_sent turns) before.regs.trail) (sym host)
           (words_behind before.regs.trail mid.trail after.regs.trail (enabling (endpoints_in nodes)) (words_sent turns) enabled gone.words);
-      faults = omega (arith, faults, counts);
-      alone = gone.alone ∙ alone;
-      unswallowed = λ none is. gone.unswallowed none (alone ∙ is) ∙ left is;
+      fails =
+          subst (λ ns. HasFailed (fresh before.regs) after.regs (behind (length (enabling (endpoints_in ns))) (failed_in turns))) (sym host)
+          (fails_both (fresh before.regs) mid after.regs (enabling (endpoints_in nodes)) [] (failed_in turns) (words_fresh before.regs.trail mid.trail (enabling (endpoints_in nodes)) enabled)
+          unfailed gone.fails);
     }
 
 -- ---- none opened

@@ -1,7 +1,8 @@
 -- How the commands of a session end: those of a script, and those of a generated system.
-use Rattle.std.specs.Prelude.{◌≡◌, ℕ, List, [], ◌∷◌, ◌++◌, take, option_map}
+use Rattle.std.specs.Prelude.{◌≡◌, ℕ, List, [], ◌∷◌, ◌++◌, length, take, option_map}
 use Rattle.cxl_bus.specs.declared.sent.Sent.{Sent}
-use Rattle.cxl_enc.specs.Faults.{RoseBy, LeavesCount}
+use Rattle.cxl_bus.specs.Failed.{behind, HasFailed, fresh}
+use Rattle.cxl_enc.specs.Faults.{LeavesCount}
 use Rattle.cxl_inputs.specs.Ends.{Ends}
 use Rattle.cxl_inputs.specs.declared.status.Status.{Status}
 use Rattle.cxl_inputs.specs.declared.status.Status.TheVariants.{Done, WriteFault, Memory}
@@ -10,7 +11,7 @@ use Rattle.cxl_io.specs.Source.{SourceState}
 use Rattle.cxl_machine.specs.Machine.{Machine, present}
 use Rattle.cxl_machine.specs.Scripts.{Asked, Turn, lines_asked}
 use Rattle.cxl_machine.specs.Sound.{IsSound}
-use Rattle.cxl_machine.specs.Turns.{machine_after, text_of, words_sent, faults_told}
+use Rattle.cxl_machine.specs.Turns.{machine_after, text_of, words_sent, failed_in}
 use Rattle.cxl_reply.specs.Replies.{reply_text}
 use Rattle.cxl_opening.specs.Opening.{endpoints_in, enabling}
 use Rattle.cxl_topo.specs.declared.node.Node.{Node}
@@ -25,15 +26,12 @@ use Rattle.cxl_commands.specs.declared.form.HostAsk.TheVariants as host_asks
 use Rattle.cxl_commands.specs.declared.form.ResetAsk.TheVariants as reset_asks
 use Rattle.cxl_commands.specs.declared.form.WordsAsk.TheVariants as plain_asks
 
--- From a first machine these turns were taken: registers and media hold the last one, the words behind the enabling ones are theirs, and the
--- bus had cause for each fault that they tell.
+-- From a first machine these turns were taken: registers and media hold the last one, the words behind the enabling ones are theirs, and
+-- calls of the bus failed where they say behind these, each of them counted, and no other since it was powered on.
 pub record HasCarriedOut (first : Machine) (turns : List Turn) (before after : Devices) : Type 0 where
   pub holds : IsSound (machine_after first turns) after.regs.blocks after.media
   pub words : after.regs.trail ≡ option_map (λ (sent : List Sent). enabling (endpoints_in first.settled.nodes) ++ words_sent turns) before.regs.trail
-  pub faults : RoseBy (faults_told turns) before.regs.faults after.regs.faults
-  -- no fault is swallowed
-  pub alone : after.regs.counts_failures_alone ≡ before.regs.counts_failures_alone
-  pub unswallowed : faults_told turns ≡ 0 → LeavesCount before.regs.counts_failures_alone before.regs.faults after.regs.faults
+  pub fails : HasFailed (fresh before.regs) after.regs (behind (length (enabling (endpoints_in first.settled.nodes))) (failed_in turns))
 
 -- ---- a script
 

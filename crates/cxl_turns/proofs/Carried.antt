@@ -1,7 +1,9 @@
 -- What one line comes to: it is answered, or cut short, or left.
-use Rattle.std.proofs.Common.{◌≡◌, ◌≢◌, ◌≤◌, false, Result, Ok, Err, List, [], ◌∷◌, refl, sym, ap, subst, ◌∙◌, arith}
+use Rattle.std.proofs.Common.{◌≡◌, ◌≢◌, false, Result, Ok, Err, List, [], ◌∷◌, refl, sym, ap, subst, ◌∙◌}
 use Rattle.std.specs.Prelude.{OnOk}
 use Rattle.cxl_enc.specs.Faults.{Rose, LeavesCount}
+use Rattle.cxl_bus.proofs.Failed.{fails_nowhere}
+use Rattle.cxl_bus.specs.Failed.{HasFailed}
 use Rattle.cxl_bus.specs.RegsState.{RegsState, IsUntouched}
 use Rattle.cxl_bus.specs.Trail.{trail_with}
 use Rattle.cxl_io.specs.Sink.{SinkState, Takes, TakesPrefix}
@@ -20,7 +22,7 @@ use Rattle.cxl_machine.proofs.WritingNothing.{quiet_words}
 use Rattle.cxl_session.specs.State.{SessionState}
 use Rattle.cxl_session.specs.Standing.{StandsFor, IsAt, HasTaken}
 use Rattle.cxl_turns.specs.inner.Carried.{IsAnswered, IsCutOff, IsLeft}
-use Rattle.cxl_turns.proofs.Going.{trail_with-nil, rose_none, text_one, gone_none, gone_one}
+use Rattle.cxl_turns.proofs.Going.{trail_with-nil, text_one, gone_none, gone_one, gone_same}
 use Rattle.cxl_turns.proofs.Silent.{silent_turn}
 
 pub takes_none : (before after : SinkState) → after ≡ before → Takes before after []
@@ -30,7 +32,7 @@ takes_none before after same = ap (λ (sink : SinkState). sink.taken) same ∙ s
 pub answered_none : (m : Machine) (session : SessionState) (regs : RegsState) (media : MediaState) (sink : SinkState) → IsAt session regs media m → IsAnswered m [] session regs regs media sink sink
 answered_none m session regs media sink at = record {
   turns = [];
-  gone = gone_none m session regs regs media at refl (omega arith) refl (λ _. refl);
+  gone = gone_same m session regs media at;
   told = takes_none sink sink refl;
   alone = refl;
   unswallowed = λ _. refl;
@@ -39,14 +41,14 @@ answered_none m session regs media sink at = record {
 -- memory ran out before anything was done
 pub left_as_it_was : (m : Machine) (session : SessionState) (regs : RegsState) (media : MediaState) (sink : SinkState) → IsAt session regs media m → IsLeft m session regs regs media sink sink
 left_as_it_was m session regs media sink at =
-    record { gone = gone_none m session regs regs media at refl (omega arith) refl (λ _. refl); told = takes_none sink sink refl }
+    record { gone = gone_same m session regs media at; told = takes_none sink sink refl }
 
 -- memory ran out within a command
 pub left_untouched : (m : Machine) (before session : SessionState) (old new : RegsState) (kept media : MediaState) (sink : SinkState) → IsAt before old kept m
-    → session ≡ before → IsUntouched old new → media ≡ kept → old.faults ≤ new.faults → LeavesCount old.counts_failures_alone old.faults new.faults
+    → session ≡ before → IsUntouched old new → media ≡ kept → HasFailed old new []
     → IsLeft m session old new media sink sink
-left_untouched m before session old new kept media sink at same untouched held rose left = record {
-  gone = gone_none m session old new media at_now untouched.trail rose untouched.alone left;
+left_untouched m before session old new kept media sink at same untouched held fails = record {
+  gone = gone_none m session old new media at_now untouched.trail fails;
   told = takes_none sink sink refl;
 }
   where
@@ -81,8 +83,8 @@ module _ (m : Machine) (one : Asked) (turn : Turn) (reply : Reply) (nodes : List
   }
 
   -- the reply has no short text, and tells of no fault: nothing has changed
-  pub left_one : has_short_text reply ≡ false → reply ≢ replies.BusRead → after ≡ before → old.faults ≤ new.faults → IsLeft m session old new media before after
-  left_one long other same_sink rose =
+  pub left_one : has_short_text reply ≡ false → reply ≢ replies.BusRead → after ≡ before → IsLeft m session old new media before after
+  left_one long other same_sink =
       let long_turn : has_short_text turn.reply ≡ false = ap has_short_text (sym taken.told) ∙ long in
       let none = silent_turn m one turn takes long_turn (λ is. other (taken.told ∙ is)) in
       let stays = quiet_turn m one turn takes long_turn in
@@ -91,13 +93,13 @@ module _ (m : Machine) (one : Asked) (turn : Turn) (reply : Reply) (nodes : List
             gone_none m session old new media
             (subst (λ n. IsAt session new media n) stays taken.at)
             (taken.words ∙ ap (trail_with old.trail) (quiet_words m one turn takes long_turn) ∙ trail_with-nil old.trail)
-            rose taken.alone (taken.unswallowed none);
+            (subst (HasFailed old new) none taken.fails);
         told = takes_none before after same_sink;
       }
 
 -- the turn of a line that asks for nothing
 abbrev pub bad_turn : Machine → BadLine → Turn
-bad_turn m fault = record { reply = replies.BadLine fault; machine = m; faults = 0; trail = [] }
+bad_turn m fault = record { reply = replies.BadLine fault; machine = m; trail = []; failed = [] }
 
 pub bad_taken : (m : Machine) (fault : BadLine) (session : SessionState) (regs : RegsState) (media : MediaState) → IsAt session regs media m
     → HasTaken (bad_turn m fault) (replies.BadLine fault) session regs regs media
@@ -105,9 +107,7 @@ bad_taken m fault session regs media at = record {
   told = refl;
   at = at;
   words = sym (trail_with-nil regs.trail);
-  faults = rose_none regs.faults regs.faults (omega arith);
-  alone = refl;
-  unswallowed = λ _ _. refl;
+  fails = fails_nowhere regs;
 }
 
 -- ---- what a call gives

@@ -1,9 +1,9 @@
 -- What goes on from where others went.
-use Rattle.std.proofs.Common.{◌≡◌, ℕ, ◌+◌, ◌≤◌, Option, Some, None, Ok, Err, List, [], ◌∷◌, ◌++◌, refl, sym, ap, subst, ◌∙◌, arith, append_assoc}
+use Rattle.std.proofs.Common.{◌≡◌, Option, Some, None, Ok, Err, List, [], ◌∷◌, ◌++◌, refl, sym, ap, subst, ◌∙◌, append_assoc}
 use Rattle.std.proofs.lemmas.Grind.{flat_map-append}
 use Rattle.std.proofs.lemmas.List.{append-nil}
-use Rattle.std.proofs.lemmas.List.Sums.{sum_by-append}
-use Rattle.cxl_enc.specs.Faults.{RoseBy, LeavesCount}
+use Rattle.cxl_bus.proofs.Failed.{fails_both, fails_nowhere}
+use Rattle.cxl_bus.specs.Failed.{HasFailed}
 use Rattle.cxl_bus.specs.RegsState.{RegsState}
 use Rattle.cxl_bus.specs.Trail.{trail_with}
 use Rattle.cxl_bus.specs.declared.sent.Sent.{Sent}
@@ -13,14 +13,15 @@ use Rattle.cxl_reply.specs.declared.reply.Reply.{Reply}
 use Rattle.cxl_reply.specs.Replies.{reply_text}
 use Rattle.cxl_machine.specs.Machine.{Machine}
 use Rattle.cxl_machine.specs.Scripts.{Asked, Turn, answer_of, TakesTurn}
-use Rattle.cxl_machine.specs.Turns.{AreTurns, machine_after, text_of, words_sent, faults_told}
+use Rattle.cxl_machine.specs.Turns.{AreTurns, machine_after, text_of, words_sent, failed_in}
+use Rattle.cxl_machine.proofs.Fails.{failed_both}
 use Rattle.cxl_machine.proofs.GoingOn.{after_both}
 use Rattle.cxl_machine.proofs.SameHost.{same_host}
 use Rattle.cxl_session.specs.State.{SessionState}
 use Rattle.cxl_session.specs.Standing.{IsAt, HasTaken}
 use Rattle.cxl_turns.specs.Going.{HasGoneOn}
 
--- ---- trails and counts
+-- ---- trails
 
 pub trail_with-nil : (trail : Option (List Sent)) → trail_with trail [] ≡ trail
 trail_with-nil None = refl
@@ -29,12 +30,6 @@ trail_with-nil (Some sent) = ap (λ words. Some words) (append-nil sent)
 trail_with-both : (trail : Option (List Sent)) (xs ys : List Sent) → trail_with (trail_with trail xs) ys ≡ trail_with trail (xs ++ ys)
 trail_with-both None xs ys = refl
 trail_with-both (Some sent) xs ys = ap (λ words. Some words) (append_assoc sent xs ys)
-
-rose_both : (n k a b c : ℕ) → RoseBy n a b → RoseBy k b c → RoseBy (n + k) a c
-rose_both n k a b c first second = omega (arith, first, second)
-
-pub rose_none : (a b : ℕ) → a ≤ b → RoseBy 0 a b
-rose_none a b rose = omega (arith, rose)
 
 -- ---- turns
 
@@ -67,16 +62,8 @@ text_one nodes turn = append-nil (reply_text nodes turn.reply)
 
 module _ (m : Machine) (session : SessionState) (old new : RegsState) (media : MediaState) where
   -- nothing is asked
-  pub gone_none : IsAt session new media m → new.trail ≡ old.trail → old.faults ≤ new.faults → new.counts_failures_alone ≡ old.counts_failures_alone
-      → LeavesCount old.counts_failures_alone old.faults new.faults → HasGoneOn m [] [] session old new media
-  gone_none at trail rose alone left = record {
-    answered = tt;
-    at = at;
-    words = trail ∙ sym (trail_with-nil old.trail);
-    faults = rose_none old.faults new.faults rose;
-    alone = alone;
-    unswallowed = λ _. left;
-  }
+  pub gone_none : IsAt session new media m → new.trail ≡ old.trail → HasFailed old new [] → HasGoneOn m [] [] session old new media
+  gone_none at trail fails = record { answered = tt; at = at; words = trail ∙ sym (trail_with-nil old.trail); fails = fails }
 
   -- one turn is taken
   pub gone_one : (one : Asked) (turn : Turn) (reply : Reply) → TakesTurn m one turn → HasTaken turn reply session old new media
@@ -85,33 +72,28 @@ module _ (m : Machine) (session : SessionState) (old new : RegsState) (media : M
     answered = (takes, tt);
     at = taken.at;
     words = taken.words ∙ ap (trail_with old.trail) (sym (append-nil turn.trail));
-    faults = let rose = taken.faults in omega (arith, rose);
-    alone = taken.alone;
-    unswallowed = λ none. taken.unswallowed (omega (arith, none));
+    fails = subst (HasFailed old new) (sym (append-nil turn.failed)) taken.fails;
   }
 
 -- some turns, and others behind them
 module _ (m : Machine) (asked more : List Asked) (turns others : List Turn) (mid session : SessionState) (old now new : RegsState) (between media : MediaState) where
   pub gone_both : HasGoneOn m asked turns mid old now between → HasGoneOn (machine_after m turns) more others session now new media
       → HasGoneOn m (asked ++ more) (turns ++ others) session old new media
-  gone_both first second =
-      let told = sum_by-append (λ (turn : Turn). turn.faults) turns others in
-      record {
-        answered = turns_both m asked more turns others first.answered second.answered;
-        at = subst (λ n. IsAt session new media n) (sym (after_both m turns others)) second.at;
-        words =
-            second.words ∙ ap (λ trail. trail_with trail (words_sent others)) first.words
-            ∙ trail_with-both old.trail (words_sent turns) (words_sent others)
-            ∙ ap (trail_with old.trail) (sym (flat_map-append (λ (turn : Turn). turn.trail) turns others));
-        faults = subst (λ n. RoseBy n old.faults new.faults) (sym told) (rose_both (faults_told turns) (faults_told others) old.faults now.faults new.faults first.faults second.faults);
-        alone = second.alone ∙ first.alone;
-        unswallowed = λ none alone.
-            second.unswallowed (omega (arith, none, told)) (first.alone ∙ alone) ∙ first.unswallowed (omega (arith, none, told)) alone;
-      }
+  gone_both first second = record {
+    answered = turns_both m asked more turns others first.answered second.answered;
+    at = subst (λ n. IsAt session new media n) (sym (after_both m turns others)) second.at;
+    words =
+        second.words ∙ ap (λ trail. trail_with trail (words_sent others)) first.words
+        ∙ trail_with-both old.trail (words_sent turns) (words_sent others)
+        ∙ ap (trail_with old.trail) (sym (flat_map-append (λ (turn : Turn). turn.trail) turns others));
+    fails =
+        subst (HasFailed old new) (sym (failed_both turns others))
+        (fails_both old now new (words_sent turns) (failed_in turns) (failed_in others) first.words first.fails second.fails);
+  }
 
 -- nothing is asked, and nothing has changed
 pub gone_same : (m : Machine) (session : SessionState) (regs : RegsState) (media : MediaState) → IsAt session regs media m → HasGoneOn m [] [] session regs regs media
-gone_same m session regs media at = gone_none m session regs regs media at refl (omega arith) refl (λ _. refl)
+gone_same m session regs media at = gone_none m session regs regs media at refl (fails_nowhere regs)
 
 -- nothing is asked behind some turns
 pub gone_still : (m : Machine) (asked : List Asked) (turns : List Turn) (mid session : SessionState) (old now new : RegsState) (between media : MediaState)

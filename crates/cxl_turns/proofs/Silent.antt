@@ -1,13 +1,15 @@
 -- Which replies tell of a fault of the bus: those with a short text, and that a read failed.
-use Rattle.std.proofs.Common.{◌≡◌, ◌≢◌, ℕ, true, false, Result, Ok, Err, Option, Some, None, List, refl, sym, ap, ◌∙◌, inl, inr, ◌⊎◌}
+use Rattle.std.proofs.Common.{◌≡◌, ◌≢◌, ℕ, true, false, Result, Ok, Err, Option, Some, None, List, [], refl, sym, ap, subst, ◌∙◌, inl, inr, ◌⊎◌}
 use Rattle.std.proofs.lemmas.Bool.{false≢true}
 use Rattle.cxl_script.specs.declared.command.Command.{Command}
 use Rattle.cxl_script.specs.declared.command.Command.TheVariants as commands
 use Rattle.cxl_reply.specs.declared.reply.Reply.{Reply}
 use Rattle.cxl_reply.specs.declared.reply.Reply.TheVariants as replies
 use Rattle.cxl_reply.specs.Replies.{has_short_text}
+use Rattle.cxl_machine.proofs.Fails.{none_failed}
+use Rattle.cxl_machine.specs.Fails.{FailsOf}
 use Rattle.cxl_machine.specs.Machine.{RegionJob, Machine}
-use Rattle.cxl_machine.specs.Outcomes.{BusOutcome, NoFault, Undone, LeftPending, ReadFailed, faults_of}
+use Rattle.cxl_machine.specs.Outcomes.{BusOutcome, NoFault, Undone, LeftPending, ReadFailed}
 use Rattle.cxl_machine.specs.Replies.{Answer}
 use Rattle.cxl_machine.specs.Reports.{AnswersShow}
 use Rattle.cxl_machine.specs.Requests.{asked_release}
@@ -67,16 +69,11 @@ module _ (m : Machine) where
       pending m.job outcome answer (λ job. Aborts m job outcome answer) (λ job. aborted job outcome answer) is
   told other outcome answer is = inl (answered_goes m other outcome answer is)
 
-  no_faults : (command : Command) → faults_of command NoFault ≡ 0
-  no_faults (commands.Create create) = refl
-  no_faults (commands.Destroy name) = refl
-  no_faults other = refl
-
-  -- a reply without a short text tells of no fault, unless a read failed
-  pub silent_turn : (one : Asked) (turn : Turn) → TakesTurn m one turn → has_short_text turn.reply ≡ false → turn.reply ≢ replies.BusRead → turn.faults ≡ 0
-  silent_turn (Err fault) turn is long other = ap (λ (t : Turn). t.faults) is
-  silent_turn (Ok command) turn (outcome, is, trail, faults) long other = elim (told command outcome (answer_of turn) is) [
-    | inl none ↦ faults ∙ ap (faults_of command) none ∙ no_faults command
+  -- behind a reply without a short text no call of the bus failed, unless a read did
+  pub silent_turn : (one : Asked) (turn : Turn) → TakesTurn m one turn → has_short_text turn.reply ≡ false → turn.reply ≢ replies.BusRead → turn.failed ≡ []
+  silent_turn (Err fault) turn is long other = ap (λ (t : Turn). t.failed) is
+  silent_turn (Ok command) turn (outcome, is, trail, fails) long other = elim (told command outcome (answer_of turn) is) [
+    | inl none ↦ none_failed m command turn.trail turn.failed (subst (λ (o : BusOutcome). FailsOf m command o turn.trail turn.failed) none fails)
     | inr (inl short) ↦ absurd (false≢true (sym long ∙ short))
     | inr (inr read) ↦ absurd (other read)
   ]

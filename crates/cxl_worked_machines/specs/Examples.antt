@@ -233,5 +233,5 @@ create_picked size ways = commands.Create record (create_named r0) { size = size
 -- a region that is not there, and a line without a known verb
 abbrev pub two_refusals : List Turn
 two_refusals =
-    record { reply = replies.NoRegion r0; machine = fresh; faults = 0; trail = [] }
-    ∷ record { reply = replies.BadLine record { at = 0; why = whys.Verb }; machine = fresh; faults = 0; trail = [] } ∷ []
+    record { reply = replies.NoRegion r0; machine = fresh; trail = []; failed = [] }
+    ∷ record { reply = replies.BadLine record { at = 0; why = whys.Verb }; machine = fresh; trail = []; failed = [] } ∷ []

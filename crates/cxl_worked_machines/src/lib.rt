@@ -13,5 +13,6 @@ pub use examples::{
 };
 pub use opening_examples::{machines_with_bytes_on_examples, openings_on_examples};
 pub use plan_examples::{
-    plan_faults_on_examples, poison_on_examples, scripts_on_examples, trails_on_examples,
+    faults_on_examples, plan_faults_on_examples, poison_on_examples, scripts_on_examples,
+    trails_on_examples,
 };

@@ -15,11 +15,12 @@ ghost use Rattle.cxl_machine.specs.Answers.{Answers};
 ghost use Rattle.cxl_machine.specs.Elsewhere.{Plans};
 ghost use Rattle.cxl_worked_machines.specs.Examples.{fresh, create_named, with_r0, releasing, r0, e0, hb0, poison_bytes, nothing, poison, two_refusals};
 ghost use Rattle.cxl_worked_machines.specs.ExamplePlans.{asks, asks_at, full_bridges, without_room, four_reset, three_reset};
-ghost use Rattle.cxl_machine.specs.Outcomes.{NoFault, Undone};
+ghost use Rattle.cxl_machine.specs.Outcomes.{NoFault, Undone, LeftPending, ReadFailed};
 ghost use Rattle.cxl_machine.specs.Replies.{stays};
 ghost use Rattle.cxl_machine.specs.Scripts.{lines_asked};
+ghost use Rattle.cxl_machine.specs.Fails.{FailsOf};
 ghost use Rattle.cxl_machine.specs.Trails.{TrailOf};
-ghost use Rattle.cxl_machine.specs.Turns.{AreTurns, machine_after, text_of, words_sent, faults_told};
+ghost use Rattle.cxl_machine.specs.Turns.{AreTurns, machine_after, text_of, words_sent, failed_in};
 
 use cxl_poison::cuts_lie_in_touched_stretches;
 
@@ -73,12 +74,29 @@ pub fn trails_on_examples()
     ensures refused { TrailOf fresh (commands.Destroy r0) NoFault [] }
 {}
 
+/// A law of faults: of a create that met one at its first or third write, of a step and an abort that met one behind one
+/// word, and of a read that failed, behind how many words each did.
+pub fn faults_on_examples()
+    ensures undone { FailsOf fresh (commands.Create (create_named r0)) Undone
+        (record { node = 3; off = 0x10; value = 0 } ∷ record { node = 3; off = 0x14; value = 1 }
+        ∷ record { node = 3; off = 0x14; value = 0 } ∷ record { node = 3; off = 0x10; value = 0 } ∷ []) (2 ∷ []) }
+    ensures at_once { FailsOf fresh (commands.Create (create_named r0)) Undone [] (0 ∷ []) }
+    ensures pending { FailsOf fresh (commands.Create (create_named r0)) (LeftPending 1)
+        (record { node = 3; off = 0x10; value = 0 } ∷ record { node = 3; off = 0x14; value = 1 }
+        ∷ record { node = 3; off = 0x14; value = 0 } ∷ []) (2 ∷ 3 ∷ []) }
+    ensures stepped { FailsOf (releasing nothing 0) (commands.Step 2) (LeftPending 1)
+        (record { node = 0; off = 0x20; value = 0x1000 } ∷ []) (1 ∷ []) }
+    ensures aborted { FailsOf (releasing nothing 1) commands.Abort (LeftPending 1) [] (0 ∷ []) }
+    ensures read { FailsOf (with_r0 nothing) (commands.Show r0) ReadFailed [] (0 ∷ []) }
+    ensures refused { FailsOf fresh (commands.Destroy r0) NoFault [] [] }
+{}
+
 /// A law of scripts: what the lines of one ask for, the turns that answer it, and what these come to.
 pub fn scripts_on_examples()
     ensures turns { AreTurns fresh (lines_asked (codes "# nothing" ∷ [] ∷ codes "destroy r0" ∷ codes "x" ∷ [])) two_refusals }
     ensures machine { machine_after fresh two_refusals ≡ fresh }
     ensures words { words_sent two_refusals ≡ [] }
-    ensures faults { faults_told two_refusals ≡ 0 }
+    ensures faults { failed_in two_refusals ≡ [] }
     ensures text { text_of fresh.settled.nodes two_refusals
         ≡ codes "no such region r0" ++ (10 ∷ []) ++ codes "bad line 0 verb" ++ (10 ∷ []) }
 {}

@@ -15,7 +15,8 @@ use Rattle.cxl_reply.specs.declared.reply.Reply.TheVariants as replies
 use Rattle.cxl_reply.specs.declared.details.Named.{Named}
 use Rattle.cxl_machine.specs.Machine.{RegionJob, Machine}
 use Rattle.cxl_machine.specs.Jobs.{begun, undone}
-use Rattle.cxl_machine.specs.Outcomes.{BusOutcome, faults_of_whole}
+use Rattle.cxl_machine.specs.Fails.{FailsWhole}
+use Rattle.cxl_machine.specs.Outcomes.{BusOutcome}
 use Rattle.cxl_machine.specs.Regions.{CarriesOutWhole}
 use Rattle.cxl_machine.specs.Scripts.{Turn, answer_of}
 use Rattle.cxl_machine.specs.Trails.{SendsWhole}
@@ -125,7 +126,7 @@ abbrev pub IsWholeFor : SessionState → SessionState → RegsState → RegsStat
 IsWholeFor session next old new media left reply =
     (m : Machine) (job : RegionJob) → IsAt session old media (begun job m) → job.done ≡ 0 → undone job (begun job m) ≡ m
     → (turn : Turn) × (outcome : BusOutcome) × CarriesOutWhole m job outcome (answer_of turn) × SendsWhole job outcome turn.trail
-    × (turn.faults ≡ faults_of_whole outcome) × HasTaken turn reply next old new left
+    × FailsWhole job outcome turn.trail turn.failed × HasTaken turn reply next old new left
 
 -- a job that was begun with no write made is undone whole, and leaves registers and media as they were
 abbrev pub LeavesUndone : SessionState → SessionState → RegsState → RegsState → MediaState → MediaState → Type 0

@@ -1,8 +1,10 @@
 use Rattle.std.proofs.Common.{◌<◌, List, ℕ, length, ap, ◌∙◌, arith}
 use Rattle.std.proofs.lemmas.List.{take_all}
+use Rattle.cxl_bus.proofs.Failed.{fails_none, fails_once}
 use Rattle.cxl_bus.specs.Trail.{blocks_sent, trail_with}
 use Rattle.cxl_opening.specs.Opening.{enabling}
-use Rattle.cxl_opening.proofs.Enabling.{enabled_none, enabled_more}
+use Rattle.cxl_opening.proofs.Enabling.{enabled_none, enabled_more, enabled_stops}
+use Rattle.cxl_opening.proofs.Errors.{at_any_err}
 use Rattle.cxl_opening.proofs.endpoints.enable_endpoints.Goals as goal
 
 pub loop-node-init : goal.loop-node-init
@@ -17,7 +19,8 @@ pub loop-node-preserved : goal.loop-node-preserved
 loop-node-preserved g c =
     let low : c.loop-node.node-index < length c.args.endpoints.now = omega arith in
     enabled_more c.args.endpoints.now c.loop-node.node-index (g.R.Regs.state c.args.regs.now) (g.R.Regs.state c.loop-node.regs) (g.R.Regs.state c.write32.new.self) low c.loop-node.invariant
-    c.in_ok-write32.ensures.written c.in_ok-write32.ensures.sent c.write32.ensures.counts c.write32.ensures.alone c.in_ok-write32.ensures.unswallowed c.writes_keep_places.ensures
+    c.in_ok-write32.ensures.written c.in_ok-write32.ensures.sent c.write32.ensures.counts c.write32.ensures.alone c.in_ok-write32.ensures.unswallowed
+    (fails_none (g.R.Regs.state c.loop-node.regs) (g.R.Regs.state c.write32.new.self) c.in_ok-write32.ensures.unfailed c.write32.ensures.counts c.write32.ensures.alone c.in_ok-write32.ensures.unswallowed) c.writes_keep_places.ensures
 
 pub returns-clause-blocks : goal.returns-clause-blocks
 returns-clause-blocks g c =
@@ -28,3 +31,12 @@ pub returns-clause-words : goal.returns-clause-words
 returns-clause-words g c =
     c.loop-node.invariant.words
     ∙ ap (λ (nodes : List ℕ). trail_with (g.R.Regs.state c.args.regs.now).trail (enabling nodes)) (take_all c.loop-node.node-index c.args.endpoints.now (omega arith))
+
+pub returns-in_err-write32-clause-stopped : goal.returns-in_err-write32-clause-stopped
+returns-in_err-write32-clause-stopped g c =
+    let low : c.loop-node.node-index < length c.args.endpoints.now = omega arith in
+    let now = g.R.Regs.state c.loop-node.regs in
+    let new = g.R.Regs.state c.write32.new.self in
+    at_any_err c.from_residual.result _
+    (enabled_stops c.args.endpoints.now c.loop-node.node-index (g.R.Regs.state c.args.regs.now) now new low c.loop-node.invariant c.in_err-write32.ensures.err
+    (fails_once now new c.in_err-write32.ensures.failed c.in_err-write32.ensures.cause c.write32.ensures.alone c.in_err-write32.ensures.counted))

@@ -5,11 +5,15 @@ use Rattle.std.proofs.lemmas.Grind.{common_steps}
 use Rattle.cxl_model.specs.declared.plan.Row.{Row}
 use Rattle.cxl_reply.specs.declared.details.ShownRow.{ShownRow}
 use Rattle.cxl_machine.specs.Reports.{shown_row}
-use Rattle.cxl_session.proofs.Shows.{untouched_more}
+use Rattle.cxl_opening.proofs.Errors.{at_any_err}
+use Rattle.cxl_session.proofs.Shows.{HasRead, read_more, read_stops, untouched_more}
 use Rattle.cxl_session.proofs.showing.read_rows.Goals as goal
 
 pub loop-row-preserved : goal.loop-row-preserved
-loop-row-preserved g c = grind (arith, common_steps)
+loop-row-preserved g c =
+    let read : HasRead (g.R.Regs.state c.args.regs.now) (g.R.Regs.state c.read_row.new.regs) =
+    read_more _ (g.R.Regs.state c.loop-row.regs) _ c.loop-row.invariant.rows.read c.read_row.ensures.same c.read_row.ensures.counts c.in_ok-words.ensures.unfailed in
+    grind (arith, common_steps)
 
 pub push_reserved-requires : goal.push_reserved-requires
 push_reserved-requires g c =
@@ -31,8 +35,13 @@ returns-clause-same g c = c.loop-row.invariant.rows.read.same
 pub returns-clause-counts : goal.returns-clause-counts
 returns-clause-counts g c = c.loop-row.invariant.rows.read.counts
 
-pub returns-clause-unswallowed : goal.returns-clause-unswallowed
-returns-clause-unswallowed g c = c.loop-row.invariant.rows.read.unswallowed
+pub returns-clause-unfailed : goal.returns-clause-unfailed
+returns-clause-unfailed g c = c.loop-row.invariant.rows.read.unfailed
+
+pub returns-in_err-words-clause-failed : goal.returns-in_err-words-clause-failed
+returns-in_err-words-clause-failed g c =
+    at_any_err c.from_residual.result _
+    (read_stops _ (g.R.Regs.state c.loop-row.regs) (g.R.Regs.state c.read_row.new.regs) c.loop-row.invariant.rows.read c.in_err-words.ensures.failed)
 
 pub returns-in_err-words-clause-same : goal.returns-in_err-words-clause-same
 returns-in_err-words-clause-same g c = untouched_more _ _ _ c.loop-row.invariant.rows.read.same c.read_row.ensures.same

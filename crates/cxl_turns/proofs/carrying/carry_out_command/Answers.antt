@@ -1,6 +1,6 @@
 use Rattle.std.proofs.Common.{Ok, sym, ap, ◌∙◌}
 use Rattle.cxl_topo.specs.Tree.{Tree}
-use Rattle.cxl_turns.proofs.Carried.{on_ok, answered_one, cut_one, left_one}
+use Rattle.cxl_turns.proofs.Carried.{on_ok, answered_one, cut_one, left_one, left_untouched}
 use Rattle.cxl_turns.proofs.carrying.carry_out_command.Goals as goal
 
 pub returns-clause-answered : goal.returns-clause-answered
@@ -22,4 +22,8 @@ returns-clause-left g c is m at =
     let one = c.in_ok-reply.ensures.answer m at in
     left_one m (Ok c.args.command.now) one.0 c.in_ok-reply.reply c.topo.result.now.nodes c.act.new.self _ _ _ _ _ one.1 one.2
     (at.stands.nodes ∙ sym (ap (λ (t : Tree). t.nodes) c.in_ok-reply.ensures.host.0) ∙ sym (ap (λ (t : Tree). t.nodes) c.topo.ensures)) (c.write_reply.ensures.long is) (c.write_reply.ensures.no_fault is)
-    (ap g.K.Sink.state (c.write_reply.ensures.left is)) c.in_ok-reply.ensures.counts
+    (ap g.K.Sink.state (c.write_reply.ensures.left is))
+
+pub returns-in_err-reply-clause-left : goal.returns-in_err-reply-clause-left
+returns-in_err-reply-clause-left g c is m at =
+    left_untouched m c.args.session.now c.act.new.self _ _ _ _ _ at c.in_err-reply.ensures.memory.0 c.in_err-reply.ensures.memory.1 c.in_err-reply.ensures.memory.2 c.in_err-reply.ensures.unfailed

@@ -1,7 +1,16 @@
 use Rattle.std.proofs.Common.{◌++◌, ◌∷◌, [], take, sym, ap, ◌∙◌, arith}
-use Rattle.std.proofs.lemmas.List.{take_more}
-use Rattle.cxl_turns.proofs.Counting.{one_counted, left_counted, stands_there, on_err}
+use Rattle.std.proofs.lemmas.List.{take_more, take_all}
+use Rattle.cxl_turns.proofs.Counting.{none_counted, one_counted, left_counted, all_counted, stands_there, on_err}
 use Rattle.cxl_turns.proofs.commands.carry_out_commands.Goals as goal
+
+pub loop-command-init : goal.loop-command-init
+loop-command-init g c = record {
+  each =
+      none_counted c.args.commands.now c.args.session.now (g.R.Regs.state c.args.regs.now) (g.M.Media.state c.args.media.now) c.none-counts.result
+      c.none-counts.ensures.counts;
+  within = c.none-counts.ensures.within;
+  bus = omega arith;
+}
 
 pub carry_out_counted-requires-clause-stands : goal.carry_out_counted-requires-clause-stands
 carry_out_counted-requires-clause-stands g c = stands_there _ _ _ _ _ _ _ _ _ c.loop-command.invariant.each c.requires.stands
@@ -28,3 +37,9 @@ loop-command-preserved g c = record {
   within = c.in_ok-carry_out_counted.ensures.within c.loop-command.command-index c.loop-command.invariant.within;
   bus = (let so_far = c.loop-command.invariant.bus in let more = c.in_ok-carry_out_counted.ensures.bus in omega (arith, so_far, more));
 }
+
+pub returns-clause-all : goal.returns-clause-all
+returns-clause-all g c =
+    all_counted c.loop-command.command-index c.args.commands.now c.args.session.now c.loop-command.session (g.R.Regs.state c.args.regs.now) (g.R.Regs.state c.loop-command.regs)
+    (g.M.Media.state c.args.media.now) (g.M.Media.state c.loop-command.media) c.loop-command.counts c.loop-command.invariant.each
+    (take_all c.loop-command.command-index c.args.commands.now (omega arith))

@@ -1,5 +1,6 @@
 use Rattle.std.proofs.Common.{◌<◌, Err, refl, ap, ◌∙◌, inl, inr, arith}
 use Rattle.cxl_io.specs.declared.line_reader.Taken.TheVariants as readers
+use Rattle.cxl_machine.specs.Turns.{machine_after}
 use Rattle.cxl_turns.specs.declared.stops.Stop.{Stop}
 use Rattle.cxl_turns.proofs.FirstLines.{still, falls}
 use Rattle.cxl_turns.proofs.Runs.{Stage, Took, took_one, on_ok_so, run_begins, none_run, reads_line, reads_long, took_so, took_more, took_cut, took_left, run_done, run_fails, run_too_much}
@@ -25,6 +26,11 @@ lines-init g c =
       script = g.S.Source.state c.args.script.now;
       sink = g.K.Sink.state c.args.out.now;
     })
+
+pub carry_out_line-carried-requires : goal.carry_out_line-carried-requires
+carry_out_line-carried-requires g c =
+    let answered = c.lines.invariant.each c.requires.0 c.requires.1 in
+    (machine_after c.requires.0 answered.turns, answered.gone.at)
 
 pub returns-in-End-clause-ends : goal.returns-in-End-clause-ends
 returns-in-End-clause-ends g c =

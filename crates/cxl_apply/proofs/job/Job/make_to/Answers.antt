@@ -1,14 +1,22 @@
-use Rattle.std.proofs.Common.{◌≢◌, ap, ◌∙◌, arith}
+use Rattle.std.proofs.Common.{◌≡◌, ◌≢◌, sym, ap, ◌∙◌, arith, rules}
 use Rattle.std.proofs.lemmas.Bool.{false≢true}
 use Rattle.cxl_apply.specs.contracts.write.Stepped.{the_type}
 use Rattle.cxl_apply.specs.declared.write.Stepped.{Stepped}
 use Rattle.cxl_apply.specs.declared.write.Stepped.TheVariants.{BusFault}
-use Rattle.cxl_apply.proofs.LoopJobs.{forward_on}
+use Rattle.cxl_apply.proofs.LoopJobs.{forward_none, forward_on, forward_failed}
 use Rattle.cxl_apply.proofs.job.Job.make_to.Goals as goal
-use denote.Enum.Bare.{sameb}
+use denote.Enum.Bare.{sameb, same_true}
+
+pub loop-self-init : goal.loop-self-init
+loop-self-init g c = forward_none c.args.upto c.args.self.now c.args.image.now (g.R.Regs.state c.args.regs.now) c.requires.ahead c.requires.words c.requires.same
 
 pub loop-self-preserved : goal.loop-self-preserved
 loop-self-preserved g c =
     let other : c.step.result ≢ BusFault = (λ e. false≢true (c.if-eq.ensures ∙ ap (λ (r : Stepped). sameb the_type r BusFault) e)) in
     forward_on c.step.result c.args.upto _ _ _ _ _ _ _ _ _ c.loop-self.invariant (let test = c.loop-self-test.true in let done = c.done.ensures.value in omega arith) c.step.ensures.event other c.step.ensures.on_way
-    c.step.ensures.kept_words c.step.ensures.kept_same c.step.ensures.counts c.step.ensures.alone c.step.ensures.unswallowed
+    c.step.ensures.kept_words c.step.ensures.kept_same c.step.ensures.counts c.step.ensures.alone c.step.ensures.unswallowed c.step.ensures.unfailed
+
+pub returns-then-eq-clause-failed : goal.returns-then-eq-clause-failed
+returns-then-eq-clause-failed g c =
+    let is : c.step.result ≡ BusFault = same_true the_type (search rules) _ _ (sym c.if-eq.ensures) in
+    forward_failed c.step.result c.args.upto _ _ _ _ _ _ _ _ _ c.loop-self.invariant c.step.ensures.event is c.step.ensures.failed

@@ -6,7 +6,7 @@ use Rattle.cxl_bus.specs.Trail.{trail_after}
 use Rattle.cxl_apply.specs.declared.write.Write.{Write}
 use Rattle.cxl_apply.specs.Jobs.{AreTakenBack, blocks_done}
 use Rattle.cxl_apply.specs.Steps.{JobState, HasWordsOf, IsSent, TakesBack}
-use Rattle.cxl_apply.proofs.OneStep.{at_ok, keeps_words, takes, taken_on_way}
+use Rattle.cxl_apply.proofs.OneStep.{at_ok, write_failed, write_sent, keeps_words, takes, taken_on_way}
 use Rattle.cxl_apply.proofs.job.Job.undo_step.Goals as goal
 use Rattle.cxl_apply.proofs.job.Job.undo_step.Goals.{then-self-eq0, else-self-eq0}
 
@@ -52,3 +52,13 @@ pub returns-clause-unswallowed : goal.returns-clause-unswallowed
 returns-clause-unswallowed g c = λ other.
     let fine : is_err c.write32.result ≡ false = sym c.is_err.ensures.value ∙ c.if-is_err.false in
     at_ok c.write32.result _ c.write32.ensures.unswallowed fine
+
+pub returns-then-is_err-clause-failed : goal.returns-then-is_err-clause-failed
+returns-then-is_err-clause-failed g c = λ is.
+    let wrote = c.write32.ensures in
+    write_failed c.write32.result (g.R.Regs.state c.args.regs.now) (g.R.Regs.state c.write32.new.self) wrote.failed wrote.cause wrote.alone wrote.counted (sym c.is_err.ensures.value ∙ c.if-is_err.true)
+
+pub returns-clause-unfailed : goal.returns-clause-unfailed
+returns-clause-unfailed g c = λ other.
+    let wrote = c.write32.ensures in
+    write_sent c.write32.result (g.R.Regs.state c.args.regs.now) (g.R.Regs.state c.write32.new.self) wrote.unfailed wrote.counts wrote.alone wrote.unswallowed (sym c.is_err.ensures.value ∙ c.if-is_err.false)

@@ -42,7 +42,7 @@ returns-then-is_err-clause-turn g c = λ media.
     ∙ ap (λ (j : JobFields). record session { image = left; job = Some j }) c.undo.ensures.job)
     (c.leave.ensures.reply ∙ ap (λ (j : JobFields). replies.BusPending record { name = j.name; done = c.undo.new.pending.job.done; total = length j.writes }) c.undo.ensures.job)
     (left_pending c.pending_jobs_settle.ensures.back session (g.R.Regs.state c.args.regs.now) (g.R.Regs.state c.undo.new.regs) media own c.in-Some.ensures.job c.undo.new.pending.job.done left back
-    part.0 part.1 (on_err c.undo.result failed c.undo.ensures.cause))
+    part.0 part.1 (on_err c.undo.result failed c.undo.ensures.failed))
 
 pub returns-clause-turn : goal.returns-clause-turn
 returns-clause-turn g c = λ media.
@@ -59,7 +59,7 @@ returns-clause-turn g c = λ media.
     ∙ ap (λ (j : JobFields). session_undone j (record session { image = left; job = None })) c.undo.ensures.job)
     (ap (λ (j : JobFields). replies.Aborted j.name) c.undo.ensures.job)
     (aborted c.pending_jobs_settle.ensures.back session (g.R.Regs.state c.args.regs.now) (g.R.Regs.state c.undo.new.regs) media own c.in-Some.ensures.job c.undo.new.pending.job.done left back
-    (on_ok c.undo.result made c.undo.ensures.all) (on_ok c.undo.result made c.undo.ensures.unswallowed))
+    (on_ok c.undo.result made c.undo.ensures.all) (on_ok c.undo.result made c.undo.ensures.unfailed))
 
 pub undo-requires-clause-idle : goal.undo-requires-clause-idle
 undo-requires-clause-idle g c = ap (λ (s : SessionState). s.job) c.take_job.ensures.taken

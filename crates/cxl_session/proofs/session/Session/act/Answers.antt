@@ -1,7 +1,7 @@
-use Rattle.std.proofs.Common.{refl, sym, ap, ◌∙◌, subst}
+use Rattle.std.proofs.Common.{refl, sym, ◌∙◌, subst}
 use Rattle.std.proofs.lemmas.Result.{IfOk-weaker, IfErr-weaker}
 use Rattle.std.proofs.Math.Nat.{le_refl}
-use Rattle.cxl_bus.specs.RegsState.{RegsState}
+use Rattle.cxl_bus.proofs.Failed.{fails_nowhere, fails_same}
 use Rattle.cxl_script.specs.Grammar.{IsRanged}
 use Rattle.cxl_script.specs.declared.command.Command.TheVariants as commands
 use Rattle.cxl_machine.specs.Accesses.{store_answer}
@@ -27,7 +27,7 @@ returns-in-Create g c =
           c.create.ensures.turn;
       refused = c.create.ensures.refused;
       memory = IfErr-weaker c.create.result _ _ (λ _ same. (same.0, untouched_by old new same.1, same.2)) c.create.ensures.memory;
-      unswallowed = IfErr-weaker c.create.result _ _ (λ _ same _. ap (λ (regs : RegsState). regs.faults) same.1) c.create.ensures.memory;
+      unfailed = IfErr-weaker c.create.result _ _ (λ _ same. fails_same old new same.1) c.create.ensures.memory;
       ready = owes_none c.args.command.now (commands.Create c.in-Create.create) c.create.result c.in-Create.is refl;
       image = image_after_result session next old new media left (commands.Create c.in-Create.create) c.create.result c.requires.stands c.create.ensures.turn (IfErr-weaker c.create.result _ _ (λ _ same. (same.0, same.1)) c.create.ensures.memory);
       host = c.create.ensures.host;
@@ -51,7 +51,7 @@ returns-in-Destroy g c =
           c.destroy.ensures.turn;
       refused = c.destroy.ensures.refused;
       memory = IfErr-weaker c.destroy.result _ _ (λ _ same. (same.0, untouched_by old new same.1, same.2)) c.destroy.ensures.memory;
-      unswallowed = IfErr-weaker c.destroy.result _ _ (λ _ same _. ap (λ (regs : RegsState). regs.faults) same.1) c.destroy.ensures.memory;
+      unfailed = IfErr-weaker c.destroy.result _ _ (λ _ same. fails_same old new same.1) c.destroy.ensures.memory;
       ready = owes_none c.args.command.now (commands.Destroy c.in-Destroy.name) c.destroy.result c.in-Destroy.is refl;
       image = image_after_result session next old new media left (commands.Destroy c.in-Destroy.name) c.destroy.result c.requires.stands c.destroy.ensures.turn (IfErr-weaker c.destroy.result _ _ (λ _ same. (same.0, same.1)) c.destroy.ensures.memory);
       host = c.destroy.ensures.host;
@@ -73,7 +73,7 @@ returns-in-Show g c =
           (IfOk-weaker c.show.result _ _ (λ _ turn. turn media) c.show.ensures.turn);
       refused = ok_always c.show.result _ (λ _ _. (refl, c.show.ensures.untouched.blocks, refl));
       memory = err_always c.show.result _ (λ _. (refl, c.show.ensures.untouched, refl));
-      unswallowed = IfErr-weaker c.show.result _ _ (λ _ same _. ap (λ (regs : RegsState). regs.faults) same) c.show.ensures.memory;
+      unfailed = IfErr-weaker c.show.result _ _ (λ _ same. fails_same old new same) c.show.ensures.memory;
       ready = owes_none c.args.command.now (commands.Show c.in-Show.name) c.show.result c.in-Show.is refl;
       image = image_held session old media c.requires.stands ∙ sym c.show.ensures.untouched.blocks;
       host = (refl, refl);
@@ -91,11 +91,11 @@ returns-in-Down g c =
     record {
       answer =
           of_command session session old old media media c.args.command.now (commands.Down c.in-Down.h) c.down.result c.in-Down.is
-          (read_turn session old (commands.Down c.in-Down.h) refl (λ m. refl) media c.down.result
+          (read_turn session old (commands.Down c.in-Down.h) (λ m. refl) media c.down.result
           (λ m stands is memory. record { unfailing = refl; told = sym (c.down.ensures m stands is) }));
       refused = λ _. (refl, refl, refl);
       memory = tt;
-      unswallowed = tt;
+      unfailed = tt;
       ready = λ _. refl;
       image = image_held session old media c.requires.stands;
       host = (refl, refl);
@@ -113,11 +113,11 @@ returns-in-Up g c =
     record {
       answer =
           of_command session session old old media media c.args.command.now (commands.Up c.in-Up.up) c.up.result c.in-Up.is
-          (read_turn session old (commands.Up c.in-Up.up) refl (λ m. refl) media c.up.result
+          (read_turn session old (commands.Up c.in-Up.up) (λ m. refl) media c.up.result
           (λ m stands is memory. (refl, c.up.ensures m stands is)));
       refused = λ _. (refl, refl, refl);
       memory = tt;
-      unswallowed = tt;
+      unfailed = tt;
       ready = λ _. refl;
       image = image_held session old media c.requires.stands;
       host = (refl, refl);
@@ -136,11 +136,11 @@ returns-in-Load g c =
     record {
       answer =
           of_result session session old old media media c.args.command.now (commands.Load c.in-Load.load) c.load.result c.in-Load.is
-          (IfOk-weaker c.load.result _ _ (λ reply reads. read_turn session old (commands.Load c.in-Load.load) refl (λ m. refl) media reply
+          (IfOk-weaker c.load.result _ _ (λ reply reads. read_turn session old (commands.Load c.in-Load.load) (λ m. refl) media reply
           (λ m stands is memory. record { unfailing = refl; told = sym (reads m stands is memory) })) c.load.ensures);
       refused = ok_always c.load.result _ (λ _ _. (refl, refl, refl));
       memory = err_always c.load.result _ (λ _. (refl, untouched_by old old refl, refl));
-      unswallowed = err_always c.load.result _ (λ _ _. refl);
+      unfailed = err_always c.load.result _ (λ _. fails_nowhere old);
       ready = owes_none c.args.command.now (commands.Load c.in-Load.load) c.load.result c.in-Load.is refl;
       image = image_held session old media c.requires.stands;
       host = (refl, refl);
@@ -159,11 +159,11 @@ returns-in-Store g c =
     record {
       answer =
           of_command session session old old media left c.args.command.now (commands.Store c.in-Store.store) c.store.result c.in-Store.is
-          (write_turn session old (commands.Store c.in-Store.store) refl (λ m. refl) media left c.store.result
+          (write_turn session old (commands.Store c.in-Store.store) (λ m. refl) media left c.store.result
           (λ m. store_answer m c.in-Store.store) (λ m. record { unfailing = refl; told = refl }) c.store.ensures.answer);
       refused = λ is. (refl, refl, c.store.ensures.refused is);
       memory = tt;
-      unswallowed = tt;
+      unfailed = tt;
       ready = λ _. refl;
       image = image_held session old media c.requires.stands;
       host = (refl, refl);
@@ -181,11 +181,11 @@ returns-in-Poison g c =
     record {
       answer =
           of_result session session old old media media c.args.command.now (commands.Poison c.in-Poison.poison) c.poison.result c.in-Poison.is
-          (IfOk-weaker c.poison.result _ _ (λ reply reads. read_turn session old (commands.Poison c.in-Poison.poison) refl (λ m. refl) media reply
+          (IfOk-weaker c.poison.result _ _ (λ reply reads. read_turn session old (commands.Poison c.in-Poison.poison) (λ m. refl) media reply
           (λ m stands is memory. (refl, reads m stands is))) c.poison.ensures);
       refused = ok_always c.poison.result _ (λ _ _. (refl, refl, refl));
       memory = err_always c.poison.result _ (λ _. (refl, untouched_by old old refl, refl));
-      unswallowed = err_always c.poison.result _ (λ _ _. refl);
+      unfailed = err_always c.poison.result _ (λ _. fails_nowhere old);
       ready = owes_none c.args.command.now (commands.Poison c.in-Poison.poison) c.poison.result c.in-Poison.is refl;
       image = image_held session old media c.requires.stands;
       host = (refl, refl);
@@ -208,7 +208,7 @@ returns-in-BeginCreate g c =
           turn;
       refused = IfOk-weaker c.begin_create.result _ _ (λ _ same is. (same is, refl, refl)) c.begin_create.ensures.refused;
       memory = IfErr-weaker c.begin_create.result _ _ (λ _ same. (same, untouched_by old old refl, refl)) c.begin_create.ensures.memory;
-      unswallowed = err_always c.begin_create.result _ (λ _ _. refl);
+      unfailed = err_always c.begin_create.result _ (λ _. fails_nowhere old);
       ready = owes_none c.args.command.now (commands.BeginCreate c.in-BeginCreate.create) c.begin_create.result c.in-BeginCreate.is refl;
       image = image_after_result session next old old media media (commands.BeginCreate c.in-BeginCreate.create) c.begin_create.result c.requires.stands turn (IfErr-weaker c.begin_create.result _ _ (λ _ same. (same, refl)) c.begin_create.ensures.memory);
       host = c.begin_create.ensures.host;
@@ -231,7 +231,7 @@ returns-in-BeginDestroy g c =
           turn;
       refused = IfOk-weaker c.begin_destroy.result _ _ (λ _ same is. (same is, refl, refl)) c.begin_destroy.ensures.refused;
       memory = IfErr-weaker c.begin_destroy.result _ _ (λ _ same. (same, untouched_by old old refl, refl)) c.begin_destroy.ensures.memory;
-      unswallowed = err_always c.begin_destroy.result _ (λ _ _. refl);
+      unfailed = err_always c.begin_destroy.result _ (λ _. fails_nowhere old);
       ready = owes_none c.args.command.now (commands.BeginDestroy c.in-BeginDestroy.name) c.begin_destroy.result c.in-BeginDestroy.is refl;
       image = image_after_result session next old old media media (commands.BeginDestroy c.in-BeginDestroy.name) c.begin_destroy.result c.requires.stands turn (IfErr-weaker c.begin_destroy.result _ _ (λ _ same. (same, refl)) c.begin_destroy.ensures.memory);
       host = c.begin_destroy.ensures.host;
@@ -255,7 +255,7 @@ returns-in-Step g c =
           c.step.ensures.turn;
       refused = c.step.ensures.refused;
       memory = tt;
-      unswallowed = tt;
+      unfailed = tt;
       ready = λ _. refl;
       image = image_after session next old new media left (commands.Step c.in-Step.steps) c.step.result c.requires.stands c.step.ensures.turn;
       host = c.step.ensures.host;
@@ -278,7 +278,7 @@ returns-in-Abort g c =
           (c.abort.ensures.turn media);
       refused = λ is. ((c.abort.ensures.refused is).0, (c.abort.ensures.refused is).1, refl);
       memory = tt;
-      unswallowed = tt;
+      unfailed = tt;
       ready = λ _. refl;
       image = image_after session next old new media media commands.Abort c.abort.result c.requires.stands (c.abort.ensures.turn media);
       host = c.abort.ensures.host;
@@ -297,11 +297,11 @@ returns-in-Range g c =
     record {
       answer =
           of_result session session old old media media c.args.command.now (commands.Range c.in-Range.reach) c.range.result c.in-Range.is
-          (IfOk-weaker c.range.result _ _ (λ reply reads. read_turn session old (commands.Range c.in-Range.reach) refl (λ m. refl) media reply
+          (IfOk-weaker c.range.result _ _ (λ reply reads. read_turn session old (commands.Range c.in-Range.reach) (λ m. refl) media reply
           (λ m stands is memory. record { unfailing = refl; told = sym (reads m stands is) })) c.range.ensures);
       refused = ok_always c.range.result _ (λ _ _. (refl, refl, refl));
       memory = err_always c.range.result _ (λ _. (refl, untouched_by old old refl, refl));
-      unswallowed = err_always c.range.result _ (λ _ _. refl);
+      unfailed = err_always c.range.result _ (λ _. fails_nowhere old);
       ready = owes_none c.args.command.now (commands.Range c.in-Range.reach) c.range.result c.in-Range.is refl;
       image = image_held session old media c.requires.stands;
       host = (refl, refl);
@@ -319,11 +319,11 @@ returns-in-Spread g c =
     record {
       answer =
           of_result session session old old media media c.args.command.now (commands.Spread c.in-Spread.reach) c.spread.result c.in-Spread.is
-          (IfOk-weaker c.spread.result _ _ (λ reply reads. read_turn session old (commands.Spread c.in-Spread.reach) refl (λ m. refl) media reply
+          (IfOk-weaker c.spread.result _ _ (λ reply reads. read_turn session old (commands.Spread c.in-Spread.reach) (λ m. refl) media reply
           (λ m stands is memory. record { unfailing = refl; told = sym (reads m stands is) })) c.spread.ensures);
       refused = ok_always c.spread.result _ (λ _ _. (refl, refl, refl));
       memory = err_always c.spread.result _ (λ _. (refl, untouched_by old old refl, refl));
-      unswallowed = err_always c.spread.result _ (λ _ _. refl);
+      unfailed = err_always c.spread.result _ (λ _. fails_nowhere old);
       ready = owes_none c.args.command.now (commands.Spread c.in-Spread.reach) c.spread.result c.in-Spread.is refl;
       image = image_held session old media c.requires.stands;
       host = (refl, refl);
@@ -342,11 +342,11 @@ returns-in-Copy g c =
     record {
       answer =
           of_result session session old old media left c.args.command.now (commands.Copy c.in-Copy.pair) c.copy_region.result c.in-Copy.is
-          (IfOk-weaker c.copy_region.result _ _ (λ reply written. write_turn session old (commands.Copy c.in-Copy.pair) refl (λ m. refl) media left reply
+          (IfOk-weaker c.copy_region.result _ _ (λ reply written. write_turn session old (commands.Copy c.in-Copy.pair) (λ m. refl) media left reply
           (λ m. copy_answer m c.in-Copy.pair) (λ m. record { unfailing = refl; told = refl }) written) c.copy_region.ensures.answer);
       refused = IfOk-weaker c.copy_region.result _ _ (λ _ same is. (refl, refl, same is)) c.copy_region.ensures.refused;
       memory = IfErr-weaker c.copy_region.result _ _ (λ _ same. (refl, untouched_by old old refl, same)) c.copy_region.ensures.memory;
-      unswallowed = err_always c.copy_region.result _ (λ _ _. refl);
+      unfailed = err_always c.copy_region.result _ (λ _. fails_nowhere old);
       ready = owes_none c.args.command.now (commands.Copy c.in-Copy.pair) c.copy_region.result c.in-Copy.is refl;
       image = image_held session old media c.requires.stands;
       host = (refl, refl);
@@ -365,11 +365,11 @@ returns-in-Move g c =
     record {
       answer =
           of_result session session old old media left c.args.command.now (commands.Move c.in-Move.pair) c.move_region.result c.in-Move.is
-          (IfOk-weaker c.move_region.result _ _ (λ reply written. write_turn session old (commands.Move c.in-Move.pair) refl (λ m. refl) media left reply
+          (IfOk-weaker c.move_region.result _ _ (λ reply written. write_turn session old (commands.Move c.in-Move.pair) (λ m. refl) media left reply
           (λ m. move_answer m c.in-Move.pair) (λ m. record { unfailing = refl; told = refl }) written) c.move_region.ensures.answer);
       refused = IfOk-weaker c.move_region.result _ _ (λ _ same is. (refl, refl, same is)) c.move_region.ensures.refused;
       memory = IfErr-weaker c.move_region.result _ _ (λ _ same. (refl, untouched_by old old refl, same)) c.move_region.ensures.memory;
-      unswallowed = err_always c.move_region.result _ (λ _ _. refl);
+      unfailed = err_always c.move_region.result _ (λ _. fails_nowhere old);
       ready = owes_none c.args.command.now (commands.Move c.in-Move.pair) c.move_region.result c.in-Move.is refl;
       image = image_held session old media c.requires.stands;
       host = (refl, refl);

@@ -1,8 +1,10 @@
-use Rattle.std.proofs.Common.{◌≡◌, ℕ, ◌<◌, ◌≤◌, List, Option, Some, None, length, refl, sym, ap, ◌∙◌, subst, arith}
+use Rattle.std.proofs.Common.{◌≡◌, ℕ, ◌<◌, ◌≤◌, List, [], ◌∷◌, Option, Some, None, length, refl, sym, ap, ◌∙◌, subst, arith}
 use Rattle.std.specs.Prelude.{IfSome}
 use Rattle.std.proofs.lemmas.Option.{none-some, same_Some}
 use Rattle.std.proofs.Math.Nat.{le_refl, le_trans}
 use Rattle.cxl_apply.specs.Steps.{HasWordsOf}
+use Rattle.cxl_apply.specs.WordsSent.{words_taken_back}
+use Rattle.cxl_bus.specs.Failed.{HasFailed}
 use Rattle.cxl_regs.specs.Registers.{Registers}
 use Rattle.cxl_model.specs.declared.found.Found.{Found}
 use Rattle.cxl_model.specs.System.{System, IsSystem}
@@ -68,7 +70,7 @@ returns-then-is_ok-clause-whole g c =
     ∙ ap (λ (j : JobFields). session_finished j (record session { image = left; job = None })) c.make.ensures.job)
     (c.finish.ensures.reply ∙ ap finished_reply c.make.ensures.job ∙ reply_same own made)
     (whole_ended session (g.R.Regs.state c.args.regs.now) (g.R.Regs.state c.make.new.regs) own c.in-Some.ensures.job made left goes laws media_laws
-    (g.M.Media.state c.args.media.now) (g.M.Media.state c.finish.new.media) (all ∙ total) (on_ok c.make.result went c.make.ensures.unswallowed)
+    (g.M.Media.state c.args.media.now) (g.M.Media.state c.finish.new.media) (all ∙ total) (on_ok c.make.result went c.make.ensures.unfailed)
     (subst (λ (j : JobFields). IsLeftByEnd j (g.M.Media.state c.args.media.now) (g.M.Media.state c.finish.new.media)) c.make.ensures.job c.finish.ensures.media))
 
 pub returns-then-is_err-clause-whole : goal.returns-then-is_err-clause-whole
@@ -98,8 +100,10 @@ returns-then-is_err-clause-whole g c =
     (c.leave.ensures.job ∙ ap (λ (s : SessionState). record s { job = Some (job_fields c.undo.new.pending) }) image_is ∙ ap (λ (j : JobFields). record session { image = last; job = Some j }) as_kept)
     (c.leave.ensures.reply ∙ ap (λ (j : JobFields). replies.BusPending record { name = j.name; done = kept; total = length j.writes }) as_kept)
     (whole_left session (g.R.Regs.state c.args.regs.now) (g.R.Regs.state c.make.new.regs) own c.in-Some.ensures.job made left goes c.pending_jobs_settle.ensures.back
-    (g.R.Regs.state c.undo.new.regs) kept last (omega (arith, part.1, total)) (on_err c.make.result failed c.make.ensures.cause) back (g.M.Media.state c.args.media.now)
-    some.0 some.1 (on_err c.undo.result failing c.undo.ensures.cause))
+    (g.R.Regs.state c.undo.new.regs) kept last (omega (arith, part.1, total)) (on_err c.make.result failed c.make.ensures.failed) back (g.M.Media.state c.args.media.now)
+    some.0 some.1
+    (subst (λ (j : JobFields). HasFailed (g.R.Regs.state c.make.new.regs) (g.R.Regs.state c.undo.new.regs) (length (words_taken_back j.writes kept j.done) ∷ [])) as_made
+    (on_err c.undo.result failing c.undo.ensures.failed)))
 
 pub returns-clause-whole : goal.returns-clause-whole
 returns-clause-whole g c =
@@ -128,8 +132,8 @@ returns-clause-whole g c =
     ∙ ap (λ (j : JobFields). session_undone j (record session { image = last; job = None })) as_kept)
     refl
     (whole_undone session (g.R.Regs.state c.args.regs.now) (g.R.Regs.state c.make.new.regs) own c.in-Some.ensures.job made left goes c.pending_jobs_settle.ensures.back
-    (g.R.Regs.state c.undo.new.regs) kept last (omega (arith, part.1, total)) (on_err c.make.result failed c.make.ensures.cause) back (g.M.Media.state c.args.media.now)
-    (on_ok c.undo.result taken c.undo.ensures.all))
+    (g.R.Regs.state c.undo.new.regs) kept last (omega (arith, part.1, total)) (on_err c.make.result failed c.make.ensures.failed) back (g.M.Media.state c.args.media.now)
+    (on_ok c.undo.result taken c.undo.ensures.all) (on_ok c.undo.result taken c.undo.ensures.unfailed))
 
 pub returns-in_default-clause-refused : goal.returns-in_default-clause-refused
 returns-in_default-clause-refused g c = λ refused own is none. absurd (none-some own (sym c.in_default.ensures.job ∙ is))
@@ -157,7 +161,7 @@ returns-clause-refused g c = λ refused other is none.
     let taken = sym c.is_err.ensures.value ∙ c.if-is_err.false in
     let same : other ≡ own = same_Some other own (sym is ∙ c.in-Some.ensures.job) in
     let again = whole_undone_again session (g.R.Regs.state c.args.regs.now) (g.R.Regs.state c.make.new.regs) own c.in-Some.ensures.job made left goes c.pending_jobs_settle.ensures.back
-    (g.R.Regs.state c.undo.new.regs) kept last (omega (arith, part.1, total)) (on_err c.make.result failed c.make.ensures.cause) back (g.M.Media.state c.args.media.now)
+    (g.R.Regs.state c.undo.new.regs) kept last (omega (arith, part.1, total)) (on_err c.make.result failed c.make.ensures.failed) back (g.M.Media.state c.args.media.now)
     c.requires.0 c.requires.1 c.requires.2 (ap (λ (j : JobFields). j.done) (sym same) ∙ none) (on_ok c.undo.result taken c.undo.ensures.all) in (
       c.restore.ensures ∙ ap (λ (s : SessionState). session_undone (job_fields c.undo.new.pending) s) image_is
           ∙ ap (λ (j : JobFields). session_undone j (record session { image = last; job = None })) as_kept ∙ again.0 ∙ ap (λ (j : JobFields). session_undone j session) (sym same),

@@ -1,4 +1,4 @@
-use Rattle.std.proofs.Common.{◌≡◌, ℕ, List, Err, refl, sym, ap, subst, ◌∙◌, inl, inr}
+use Rattle.std.proofs.Common.{◌≡◌, ℕ, List, [], Err, refl, sym, ap, subst, ◌∙◌, inl, inr}
 use Rattle.std.proofs.lemmas.Result.{err_from_is_err_and}
 use Rattle.std.proofs.Math.Nat.{le_refl, le_trans}
 use Rattle.cxl_enc.proofs.Options.{on_ok_at, on_err_at}
@@ -6,6 +6,8 @@ use Rattle.cxl_media.specs.MediaState.{MediaState}
 use Rattle.cxl_window.specs.Fields.{WindowFields}
 use Rattle.cxl_window.specs.Windows.{AreMadeWith}
 use Rattle.cxl_regs.specs.Registers.{Registers}
+use Rattle.cxl_bus.proofs.Failed.{fails_then}
+use Rattle.cxl_bus.specs.Failed.{fresh}
 use Rattle.cxl_bus.specs.Trail.{blocks_sent, trail_with}
 use Rattle.cxl_machine.specs.declared.fault.OpenFault.{OpenFault}
 use Rattle.cxl_machine.specs.declared.fault.OpenFault.TheVariants as faults
@@ -90,6 +92,9 @@ returns-in_err-founds-clause-image g c = not_ok _ c.from_residual.result _ c.fro
 pub returns-in_err-founds-clause-unswallowed : goal.returns-in_err-founds-clause-unswallowed
 returns-in_err-founds-clause-unswallowed g c = not_ok _ c.from_residual.result _ c.from_residual.ensures.1
 
+pub returns-in_err-founds-clause-unfailed : goal.returns-in_err-founds-clause-unfailed
+returns-in_err-founds-clause-unfailed g c = not_ok _ c.from_residual.result _ c.from_residual.ensures.1
+
 pub enable_endpoints-requires : goal.enable_endpoints-requires
 enable_endpoints-requires g c =
     let can = subst (λ (ws : List WindowFields). CanOpen (system_of c.args.start c.args.topo ws) c.in_ok-founds.founds.items) c.deref.ensures.value c.in_ok-founds.ensures.opens in
@@ -123,6 +128,7 @@ returns-in_default g c =
       alone = c.in_default.ensures.alone;
       unswallowed = tt;
       unhidden = λ _. c.in_default.ensures.unhidden;
+      unfailed = tt;
     }
 
 pub returns-in_default-over : goal.returns-in_default-over
@@ -145,6 +151,7 @@ returns-in_default-over g c =
       alone = c.in-Ok.ensures.alone;
       unswallowed = tt;
       unhidden = λ _. c.in-Ok.ensures.unswallowed;
+      unfailed = tt;
     }
 
 pub returns-then-is_err : goal.returns-then-is_err
@@ -168,7 +175,7 @@ returns-then-is_err g c =
       untouched = λ none. absurd none;
       bus = λ _. rose_after old.faults mid.faults new.faults on.counts (on_err_at c.enable_endpoints.result _ failed c.enable_endpoints.ensures.cause);
       half_enabled = λ _. (
-        half_is c.args.topo c.args.windows.items c.args.start c.deref-3.result.now old mid new (c.deref-3.ensures.value ∙ on.endpoints) on.powered.0.0 on.powered.0.1 stops,
+        half_is c.args.topo c.args.windows.items c.args.start c.deref-3.result.now old mid new (c.deref-3.ensures.value ∙ on.endpoints) on.powered.0.0 on.powered.0.1 on.unfailed stops,
         on.powered.1,
       );
       memory = λ is. absurd (bus_not_memory is);
@@ -176,6 +183,7 @@ returns-then-is_err g c =
       alone = c.enable_endpoints.ensures.alone ∙ on.alone;
       unswallowed = tt;
       unhidden = λ is. absurd (bus_not_memory is);
+      unfailed = tt;
     }
 
 pub returns : goal.returns
@@ -219,4 +227,5 @@ returns g c =
       unswallowed = λ counted.
           on_ok_at c.enable_endpoints.result _ enabled c.enable_endpoints.ensures.unswallowed (on.alone ∙ counted) ∙ on.unswallowed counted;
       unhidden = λ is. absurd (ok_not_err c.in-Ok-over.session faults.Memory is);
+      unfailed = fails_then (fresh old) mid new [] on.powered.0.1 on.unfailed (on_ok_at c.enable_endpoints.result _ enabled c.enable_endpoints.ensures.unfailed);
     }

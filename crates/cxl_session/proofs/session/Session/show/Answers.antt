@@ -34,7 +34,7 @@ returns-in-Ok-clause-turn g c = λ media.
       rows_are = c.deref.ensures.value ∙ c.in_ok-rows.ensures ∙ ap (λ (s : SessionState). rows_of (system_of s.image s.topo []) found) c.self.view_is;
     } in
     let read : HasRead (g.R.Regs.state c.args.regs.now) (g.R.Regs.state c.read_rows.new.regs) =
-    record { same = c.read_rows.ensures.same; counts = c.read_rows.ensures.counts; unswallowed = c.in-Ok.ensures.unswallowed } in
+    record { same = c.read_rows.ensures.same; counts = c.read_rows.ensures.counts; unfailed = c.in-Ok.ensures.unfailed } in
     subst (λ (shown : List ShownRow). IsTurnFor session session (g.R.Regs.state c.args.regs.now) (g.R.Regs.state c.read_rows.new.regs) media media (commands.Show c.args.name)
     (replies.Shown record { name = c.args.name; found = found; rows = shown })) (sym c.in-Ok.ensures.shown)
     (shown_turn c.live_regions_stay.ensures.region session c.args.name c.in-Some.place found rows is (g.R.Regs.state c.args.regs.now) (g.R.Regs.state c.read_rows.new.regs) media read)
@@ -50,7 +50,7 @@ returns-in-Err-clause-turn g c = λ media.
       rows_are = c.deref.ensures.value ∙ c.in_ok-rows.ensures ∙ ap (λ (s : SessionState). rows_of (system_of s.image s.topo []) found) c.self.view_is;
     } in
     unread_turn c.live_regions_stay.ensures.region session c.args.name c.in-Some.place found rows is (g.R.Regs.state c.args.regs.now) (g.R.Regs.state c.read_rows.new.regs) media
-    c.read_rows.ensures.same c.in-Err.ensures.cause
+    c.read_rows.ensures.same c.in-Err.ensures.failed
 
 pub returns-in_err-found-clause-turn : goal.returns-in_err-found-clause-turn
 returns-in_err-found-clause-turn g c = not_ok _ c.from_residual.result _ c.from_residual.ensures.1

@@ -53,7 +53,7 @@ returns-then-is_err-clause-turn g c =
     ∙ ap (λ (j : JobFields). record session { image = left; job = Some j }) c.make.ensures.job)
     (c.leave.ensures.reply ∙ ap (λ (j : JobFields). replies.BusPending record { name = j.name; done = made; total = length j.writes }) c.make.ensures.job)
     (left_stepped session (g.R.Regs.state c.args.regs.now) (g.R.Regs.state c.make.new.regs) own c.in-Some.ensures.job c.args.steps made left goes (g.M.Media.state c.args.media.now)
-    part.0 (omega (arith, part.1, few, done, within, total)) (on_err c.make.result failed c.make.ensures.cause))
+    part.0 (omega (arith, part.1, few, done, within, total)) (on_err c.make.result failed c.make.ensures.failed))
 
 pub returns-then-upto-total-clause-turn : goal.returns-then-upto-total-clause-turn
 returns-then-upto-total-clause-turn g c =
@@ -79,7 +79,7 @@ returns-then-upto-total-clause-turn g c =
     ∙ ap (λ (j : JobFields). record session { image = left; job = Some j }) c.make.ensures.job)
     (ap (λ (n : ℕ). replies.Stepped record { done = n; total = c.total-total.result }) (sym all) ∙ ap (λ (n : ℕ). replies.Stepped record { done = made; total = n }) total)
     (stepped session (g.R.Regs.state c.args.regs.now) (g.R.Regs.state c.make.new.regs) own c.in-Some.ensures.job c.args.steps made left goes (g.M.Media.state c.args.media.now)
-    (omega (arith, all, few, done, within, total, more)) (omega (arith, all, more, total)) (on_ok c.make.result went c.make.ensures.unswallowed))
+    (omega (arith, all, few, done, within, total, more)) (omega (arith, all, more, total)) (on_ok c.make.result went c.make.ensures.unfailed))
 
 pub finish-requires-clause-region : goal.finish-requires-clause-region
 finish-requires-clause-region g c =
@@ -125,7 +125,7 @@ returns-clause-turn g c =
     (c.finish.ensures.reply ∙ ap finished_reply c.make.ensures.job ∙ reply_same own made)
     (ended session (g.R.Regs.state c.args.regs.now) (g.R.Regs.state c.make.new.regs) own c.in-Some.ensures.job c.args.steps made left goes laws media_laws
     (g.M.Media.state c.args.media.now) (g.M.Media.state c.finish.new.media) (omega (arith, all, few, done, within, total, last)) (omega (arith, few, done, within, total, last))
-    (on_ok c.make.result went c.make.ensures.unswallowed)
+    (on_ok c.make.result went c.make.ensures.unfailed)
     (subst (λ (j : JobFields). IsLeftByEnd j (g.M.Media.state c.args.media.now) (g.M.Media.state c.finish.new.media)) c.make.ensures.job c.finish.ensures.media))
 
 pub make-requires : goal.make-requires

@@ -19,7 +19,7 @@ returns-in-Ok-clause-ends g c =
     let opens = c.in-Ok.ensures.opened in
     let gone = c.over_session.ensures.ends opens.0 opens.2 in
     opened opens.0 gone.0 gone.1 opens.1 opens.2.sound.machine gone.2.answered
-    (carried-out s host.topo.frames opens.0 gone.0 gone.1 c.over_session.new.session host.topo.nodes (g.R.Regs.state c.open.new.regs) before after opens.1 refl c.in-Ok.ensures.enabled c.in-Ok.ensures.counts c.in-Ok.ensures.alone c.in-Ok.ensures.unswallowed gone.2)
+    (carried-out s host.topo.frames opens.0 gone.0 gone.1 c.over_session.new.session host.topo.nodes (g.R.Regs.state c.open.new.regs) before after opens.1 refl c.in-Ok.ensures.enabled c.in-Ok.ensures.unfailed gone.2)
     gone.3
 
 pub returns-in-Err-clause-ends : goal.returns-in-Err-clause-ends
