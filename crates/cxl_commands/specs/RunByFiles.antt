@@ -1,11 +1,10 @@
 -- How a run comes to its end by its words and files alone.
-use Rattle.std.specs.Prelude.{◌≡◌, true, []}
-use Rattle.cxl_inputs.specs.Ends.{IsWritten, IsCutShort}
+use Rattle.std.specs.Prelude.{◌≡◌, true}
+use Rattle.cxl_inputs.specs.Ends.{IsWritten, IsCutShort, WritesNothing}
 use Rattle.cxl_inputs.specs.File.{AsksForSome}
 use Rattle.cxl_inputs.specs.Outcome.{Outcome}
 use Rattle.cxl_inputs.specs.declared.status.Status.{Status}
 use Rattle.cxl_inputs.specs.declared.status.Status.TheVariants.{Memory}
-use Rattle.cxl_io.specs.Sink.{Takes}
 use Rattle.cxl_commands.specs.Answers.{IsOutcomeOf}
 use Rattle.cxl_commands.specs.Stopped.{IsBehind}
 use Rattle.cxl_commands.specs.Form.{Form, own_files, takes_memory}
@@ -13,7 +12,7 @@ use Rattle.cxl_commands.specs.Outside.{Outside}
 
 -- Memory ran out: before there was an outcome, and nothing is written; or behind whole pieces of an outcome that answers.
 pub data RunsOut (form : Form) (old new : Outside) : Type 0 where
-  before : AsksForSome (own_files form) old.files new.files → Takes old.out new.out [] → RunsOut form old new
+  before : AsksForSome (own_files form) old.files new.files → WritesNothing old.out new.out → RunsOut form old new
   behind : (outcome : Outcome) → IsOutcomeOf form old new outcome → IsBehind outcome old.out new.out → RunsOut form old new
 
 -- How a run ends by its words and files alone: an outcome that answers the form is written; or the sink failed behind a part of its text; or memory

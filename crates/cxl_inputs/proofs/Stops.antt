@@ -1,6 +1,9 @@
 -- Commands that stop early.
-use Rattle.std.proofs.Common.{◌≡◌, List, ℕ, [], ◌∷◌, Result, Err, IfErr, sym, subst}
+use Rattle.std.proofs.Common.{◌≡◌, List, ℕ, [], ◌∷◌, Result, Err, IfErr, refl, sym, subst}
 use Rattle.cxl_io.specs.Fetch.{FetchState, AsksFor}
+use Rattle.cxl_io.specs.Sink.{SinkState}
+use Rattle.cxl_io.proofs.Writes.{told_with-nil}
+use Rattle.cxl_inputs.specs.Ends.{WritesNothing}
 use Rattle.cxl_inputs.specs.File.{AsksForSome}
 use Rattle.cxl_inputs.specs.Outcome.{Outcome}
 use Rattle.cxl_inputs.specs.Stop.{IsStop}
@@ -25,3 +28,7 @@ stopped-behind P Q M N answer reason e follows out is =
 -- all of one file's names are asked for
 pub asks_one : (file : List ℕ) (old new : FetchState) → AsksFor old new (file ∷ []) → AsksForSome (file ∷ []) old new
 asks_one file old new asks = record { count = 1; asks = asks }
+
+-- nothing is written where nothing happens to the sink
+pub writes_nothing : (sink : SinkState) → WritesNothing sink sink
+writes_nothing sink = record { taken = sym (told_with-nil sink.taken); unswallowed = λ _. refl }

@@ -1,6 +1,6 @@
 -- How a run ends that writes what a command comes to.
 use Rattle.std.specs.Prelude.{◌≡◌, ◌⊎◌, [], Result, Ok, Err}
-use Rattle.cxl_enc.specs.Faults.{Rose}
+use Rattle.cxl_enc.specs.Faults.{Rose, LeavesCount}
 use Rattle.cxl_io.specs.Sink.{SinkState, Takes, TakesPrefix}
 use Rattle.cxl_inputs.specs.Outcome.{Outcome, whole_text}
 use Rattle.cxl_inputs.specs.declared.status.Status.{Status}
@@ -8,10 +8,11 @@ use Rattle.cxl_inputs.specs.declared.status.Status.TheVariants.{WriteFault, Memo
 use Rattle.cxl_inputs.specs.declared.stop.Stop.{Stop}
 use Rattle.cxl_inputs.specs.declared.stop.Stop.TheVariants as stop
 
--- the outcome's status, and all its pieces are written
+-- the outcome's status, all its pieces are written, and no write failed
 pub record IsWritten (outcome : Outcome) (status : Status) (old new : SinkState) : Type 0 where
   pub status_is : status ≡ outcome.status
   pub taken : Takes old new (whole_text outcome)
+  pub unswallowed : LeavesCount old.counts_failures_alone old.faults new.faults
 
 -- the sink failed, which takes a fault there, behind a part of the text from the front
 pub record IsCutShort (outcome : Outcome) (status : Status) (old new : SinkState) : Type 0 where
@@ -22,8 +23,13 @@ pub record IsCutShort (outcome : Outcome) (status : Status) (old new : SinkState
 abbrev pub Ends : Outcome → Status → SinkState → SinkState → Type 0
 Ends outcome status old new = IsWritten outcome status old new ⊎ IsCutShort outcome status old new
 
+-- nothing is written, and no write failed
+pub record WritesNothing (old new : SinkState) : Type 0 where
+  pub taken : Takes old new []
+  pub unswallowed : LeavesCount old.counts_failures_alone old.faults new.faults
+
 -- what a command gives is written; where memory ran out, nothing is
 abbrev pub Finishes : Result Outcome Stop → Status → SinkState → SinkState → Type 0
 Finishes (Ok outcome) status old new = Ends outcome status old new
 Finishes (Err (stop.Outcome outcome)) status old new = Ends outcome status old new
-Finishes (Err stop.Memory) status old new = (status ≡ Memory) × Takes old new []
+Finishes (Err stop.Memory) status old new = (status ≡ Memory) × WritesNothing old new

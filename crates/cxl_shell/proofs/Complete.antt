@@ -88,7 +88,7 @@ module _ (old new : Outside) (before after : Devices) (status : Status) (files_w
   failed_to_open : (form : Form) (s : System) (frames : ℕ) → FailsToOpen s frames before after old.out new.out status → Completes form
   failed_to_open form s frames (bus starts rose half empty (inl written)) = inr (inl (written.status_is, rose))
   failed_to_open form s frames (bus starts rose half empty (inr cut)) = absurd (sink_well cut.rose)
-  failed_to_open form s frames (memory regs media is none) = inl is
+  failed_to_open form s frames (memory regs media unhidden is none) = inl is
 
   module _ (form : Form) (s : System) (frames : ℕ) (first : Machine) (asked : List Asked) (turns : List Turn) (start : IsStart form old.files.told s frames) (opens : Opens s frames first) (answered : AreTurns first asked turns) (carried : HasCarriedOut first turns before after) where
     read_whole : IsReadyScript before.script → EndsScript first.settled.nodes asked turns before.script after.script old.out new.out status → (status ≡ Memory) ⊎ ((status ≡ Done) × HasReadOut form endings.Done old new before after)
@@ -100,7 +100,7 @@ module _ (old new : Outside) (before after : Devices) (status : Status) (files_w
     read_whole ready (read_out endings.Memory lines is stops e text source sink) = absurd stops
     read_whole ready (ending_cut end lines is stops e cut) = absurd (sink_well cut.rose)
     read_whole ready (reply_cut lines earlier last is front e these cut) = absurd (sink_well cut.rose)
-    read_whole ready (runs_out lines is front e text) = inl is
+    read_whole ready (runs_out lines is front e text source sink) = inl is
 
   script_completes : (form : Form) → (IsScriptAnswered form old new before after status → IsAnsweredWhole form old new before after status) → (status ≡ Memory) ⊎ ((status ≡ Done) × HasReadOut form endings.Done old new before after) → Completes form
   script_completes form so (inl is) = inl is

@@ -8,10 +8,10 @@ use Rattle.std.proofs.lemmas.Option.{slice_get_within, get_or_from_slice_get}
 use Rattle.cxl_bus.specs.RegsState.{RegsState}
 use Rattle.cxl_cedt.specs.CedtFields.{CedtFields}
 use Rattle.cxl_check.specs.declared.fault.Breach.{Breach}
-use Rattle.cxl_enc.specs.Faults.{Rose}
+use Rattle.cxl_enc.specs.Faults.{Rose, LeavesCount}
 use Rattle.cxl_gen.specs.Made.{made_table, made_tree, made_commands}
 use Rattle.cxl_image.specs.Images.{reset_blocks}
-use Rattle.cxl_inputs.specs.Ends.{Finishes}
+use Rattle.cxl_inputs.specs.Ends.{Finishes, WritesNothing}
 use Rattle.cxl_inputs.specs.Outcome.{Outcome}
 use Rattle.cxl_inputs.specs.ResetHost.{reset_host_of}
 use Rattle.cxl_inputs.specs.declared.status.Status.{Status}
@@ -19,7 +19,7 @@ use Rattle.cxl_inputs.specs.declared.status.Status.TheVariants.{Memory}
 use Rattle.cxl_inputs.specs.declared.stop.Stop.{Stop}
 use Rattle.cxl_inputs.specs.declared.stop.Stop.TheVariants as stop
 use Rattle.cxl_io.specs.Fetch.{AsksFor}
-use Rattle.cxl_io.specs.Sink.{SinkState, Takes}
+use Rattle.cxl_io.specs.Sink.{SinkState}
 use Rattle.cxl_machine.specs.Machine.{Machine, present, image_of}
 use Rattle.cxl_model.specs.Listed.{region_limit}
 use Rattle.cxl_machine.specs.Scripts.{Turn}
@@ -110,18 +110,19 @@ module _ (n : ℕ) (s : System) (is : s ≡ made_host n) (accepted : IsAccepted 
       → (fault ≡ faults.Bus → Rose before.regs.faults after.regs.faults)
       → (fault ≡ faults.Bus → IsHalfEnabled s before.regs after.regs × (after.media ≡ empty_media frames))
       → (fault ≡ faults.Memory → ((after.regs ≡ before.regs) ⊎ ArePoweredOn s.blocks before.regs after.regs) × ((after.media ≡ before.media) ⊎ (after.media ≡ empty_media frames)))
+      → (fault ≡ faults.Memory → LeavesCount before.regs.counts_failures_alone before.regs.faults after.regs.faults)
       → (fault ≡ faults.Bus → answer ≡ Ok bus_failed) → (fault ≡ faults.Memory → answer ≡ Err stop.Memory)
       → Finishes answer status old new → FailsToOpen s frames before after old new status
-  fails-to_open (faults.Breach b) answer no_breach many rose half out tells_bus tells_memory finishes = absurd (no_breach b refl)
-  fails-to_open (faults.Full count) answer no_breach many rose half out tells_bus tells_memory finishes =
+  fails-to_open (faults.Breach b) answer no_breach many rose half out unhidden tells_bus tells_memory finishes = absurd (no_breach b refl)
+  fails-to_open (faults.Full count) answer no_breach many rose half out unhidden tells_bus tells_memory finishes =
       let has = many count refl in
       absurd (no_regions (made_table n) (made_tree n) count (subst (λ t. HasRegions t count) is has.0) has.1)
-  fails-to_open faults.Bus answer no_breach many rose half out tells_bus tells_memory finishes =
+  fails-to_open faults.Bus answer no_breach many rose half out unhidden tells_bus tells_memory finishes =
       bus (starts_session s accepted (λ count has more. no_regions (made_table n) (made_tree n) count (subst (λ t. HasRegions t count) is has) more))
       (rose refl) (half refl).0 (half refl).1 (subst (λ a. Finishes a status old new) (tells_bus refl) finishes)
-  fails-to_open faults.Memory answer no_breach many rose half out tells_bus tells_memory finishes =
-      let ends : (status ≡ Memory) × Takes old new [] = subst (λ a. Finishes a status old new) (tells_memory refl) finishes in
-      memory (out refl).0 (out refl).1 ends.0 ends.1
+  fails-to_open faults.Memory answer no_breach many rose half out unhidden tells_bus tells_memory finishes =
+      let ends : (status ≡ Memory) × WritesNothing old new = subst (λ a. Finishes a status old new) (tells_memory refl) finishes in
+      memory (out refl).0 (out refl).1 (unhidden refl) ends.0 ends.1
 
 -- ---- over no file
 

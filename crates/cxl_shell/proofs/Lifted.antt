@@ -49,7 +49,7 @@ late_of outcome status old new late other (inr cut) = record { late = ap is_of_f
 
 not_opened : (s : System) (frames : ℕ) (before after : Devices) (old new : SinkState) (status : Status) → FailsToOpen s frames before after old new status → IsLate status old new
 not_opened s frames before after old new status (bus starts rose half empty ends) = late_of bus_failed status old new refl (λ is. cc) ends
-not_opened s frames before after old new status (memory regs media is none) = record { late = ap is_of_files is; cut = λ other. absurd (cc) }
+not_opened s frames before after old new status (memory regs media unhidden is none) = record { late = ap is_of_files is; cut = λ other. absurd (cc) }
 
 module _ (old new : SinkState) (status : Status) where
   read_late : (end : Ending) (lines : List (List ℕ)) (before after : SourceState) → status ≡ status_of end → StopsReading end lines before after → IsLate status old new
@@ -63,7 +63,7 @@ module _ (old new : SinkState) (status : Status) where
   script_late nodes asked turns before after (read_out end lines is stops e text source sink) = read_late end lines before after is stops
   script_late nodes asked turns before after (ending_cut end lines is stops e cut) = record { late = ap is_of_files is; cut = λ other. cut.rose }
   script_late nodes asked turns before after (reply_cut lines earlier last is first e these cut) = record { late = ap is_of_files is; cut = λ other. cut.rose }
-  script_late nodes asked turns before after (runs_out lines is first e text) = record { late = ap is_of_files is; cut = λ other. absurd (cc) }
+  script_late nodes asked turns before after (runs_out lines is first e text source sink) = record { late = ap is_of_files is; cut = λ other. absurd (cc) }
 
   gen_late : (n : ℕ) (last : Machine) (asked : List Asked) (turns : List Turn) → EndsGen n last asked turns old new status → IsLate status old new
   gen_late n last asked turns (endings_of.told checked e found ends) = late_of (gen_told n turns checked) status old new refl (λ is. cc) ends

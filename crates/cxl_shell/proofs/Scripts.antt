@@ -11,7 +11,7 @@ use Rattle.cxl_cedt.specs.CedtFields.{CedtFields}
 use Rattle.cxl_check.specs.declared.fault.Breach.{Breach}
 use Rattle.cxl_enc.specs.Faults.{Rose}
 use Rattle.cxl_image.specs.Images.{reset_blocks}
-use Rattle.cxl_inputs.specs.Ends.{Ends, Finishes}
+use Rattle.cxl_inputs.specs.Ends.{Ends, Finishes, WritesNothing}
 use Rattle.cxl_inputs.specs.File.{AsksForSome}
 use Rattle.cxl_inputs.specs.Host.{AreRead, HasNoHost, host_of, no_host, by_host}
 use Rattle.cxl_inputs.specs.Outcome.{Outcome}
@@ -41,7 +41,7 @@ use Rattle.cxl_opening.specs.Opening.{endpoints_in, enabling, ArePoweredOn, empt
 use Rattle.cxl_session.specs.State.{SessionState}
 use Rattle.cxl_topo.specs.Tree.{Tree}
 use Rattle.cxl_topo.specs.declared.node.Node.{Node}
-use Rattle.cxl_turns.specs.Endings.{StopsReading, EndsLines}
+use Rattle.cxl_turns.specs.Endings.{StopsReading, MeetsNoFault, EndsLines}
 use Rattle.cxl_turns.specs.Endings as line_ends
 use Rattle.cxl_turns.specs.Going.{HasGoneOn}
 use Rattle.cxl_turns.specs.declared.endings.Ending.{Ending}
@@ -71,28 +71,28 @@ module _ (nodes : List Node) (asked : List Asked) (turns : List Turn) (before af
   -- nothing is told behind the replies
   pub script-done : (old new : SinkState) → EndsLines nodes asked turns before after old new endings.Done → EndsScript nodes asked turns before after old new Done
   script-done old new (line_ends.read_out lines stops e text source sink) =
-      read_out endings.Done lines refl stops e (subst (Takes old new) (sym (append-nil (text_of nodes turns))) text) (λ is. source refl) (λ is. sink)
+      read_out endings.Done lines refl stops e (subst (Takes old new) (sym (append-nil (text_of nodes turns))) text) (λ is. source refl) sink.unswallowed
   script-done old new (line_ends.reply_cut lines earlier last first e these cut is) = absurd (cc)
-  script-done old new (line_ends.runs_out lines first e is text) = absurd (cc)
+  script-done old new (line_ends.runs_out lines first e is text source sink) = absurd (cc)
 
   pub script-cut : (old new : SinkState) → EndsLines nodes asked turns before after old new endings.WriteFault → EndsScript nodes asked turns before after old new WriteFault
   script-cut old new (line_ends.read_out lines stops e text source sink) = absurd stops
   script-cut old new (line_ends.reply_cut lines earlier last first e these cut is) = reply_cut lines earlier last refl first e these cut
-  script-cut old new (line_ends.runs_out lines first e is text) = absurd (cc)
+  script-cut old new (line_ends.runs_out lines first e is text source sink) = absurd (cc)
 
   pub script-out : (old new : SinkState) → EndsLines nodes asked turns before after old new endings.Memory → EndsScript nodes asked turns before after old new Memory
   script-out old new (line_ends.read_out lines stops e text source sink) = absurd stops
   script-out old new (line_ends.reply_cut lines earlier last first e these cut is) = absurd (cc)
-  script-out old new (line_ends.runs_out lines first e is text) = runs_out lines refl first e text
+  script-out old new (line_ends.runs_out lines first e is text source sink) = runs_out lines refl first e text source sink
 
   -- why reading stopped is told behind them
   module _ (end : Ending) (status : Status) (early : status_of end ≢ Done) (old mid new : SinkState) (counts : old.faults ≤ mid.faults) where
-    told_behind : (lines : List (List ℕ)) → StopsReading end lines before after → asked ≡ lines_asked lines → Takes old mid (text_of nodes turns) → Ends (script_stopped end) status mid new → EndsScript nodes asked turns before after old new status
-    told_behind lines stops e text (inl written) =
+    told_behind : (lines : List (List ℕ)) → StopsReading end lines before after → asked ≡ lines_asked lines → Takes old mid (text_of nodes turns) → MeetsNoFault old mid → Ends (script_stopped end) status mid new → EndsScript nodes asked turns before after old new status
+    told_behind lines stops e text sink (inl written) =
         let more = subst (Takes mid new) (append-nil (ending_text end)) written.taken in
         read_out end lines written.status_is stops e (takes_both old mid new (text_of nodes turns) (ending_text end) text more)
-        (λ is. absurd (early (sym written.status_is ∙ is))) (λ is. absurd (early (sym written.status_is ∙ is)))
-    told_behind lines stops e text (inr cut) =
+        (λ is. absurd (early (sym written.status_is ∙ is))) (λ only. written.unswallowed (sink.alone ∙ only) ∙ sink.unswallowed only)
+    told_behind lines stops e text sink (inr cut) =
         let part = subst (TakesPrefix mid new) (append-nil (ending_text end)) cut.taken in
         let rose = cut.rose in
         ending_cut end lines cut.status_is stops e (record {
@@ -103,9 +103,9 @@ module _ (nodes : List Node) (asked : List Asked) (turns : List Turn) (before af
         })
 
     pub script-stopped : ends_reading end ≡ true → EndsLines nodes asked turns before after old mid end → Ends (script_stopped end) status mid new → EndsScript nodes asked turns before after old new status
-    script-stopped reads (line_ends.read_out lines stops e text source sink) ends = told_behind lines stops e text ends
+    script-stopped reads (line_ends.read_out lines stops e text source sink) ends = told_behind lines stops e text sink ends
     script-stopped reads (line_ends.reply_cut lines earlier last first e these cut is) ends = let own = ap ends_reading is in absurd (cc)
-    script-stopped reads (line_ends.runs_out lines first e is text) ends = let own = ap ends_reading is in absurd (cc)
+    script-stopped reads (line_ends.runs_out lines first e is text source sink) ends = let own = ap ends_reading is in absurd (cc)
 
 -- ---- a session opened
 
@@ -161,18 +161,19 @@ module _ (s : System) (frames : ℕ) (before after : Devices) (old new : SinkSta
       → (fault ≡ faults.Bus → StartsSession s) → (fault ≡ faults.Bus → Rose before.regs.faults after.regs.faults)
       → (fault ≡ faults.Bus → IsHalfEnabled s before.regs after.regs × (after.media ≡ empty_media frames))
       → (fault ≡ faults.Memory → ((after.regs ≡ before.regs) ⊎ ArePoweredOn s.blocks before.regs after.regs) × ((after.media ≡ before.media) ⊎ (after.media ≡ empty_media frames)))
+      → (fault ≡ faults.Memory → LeavesCount before.regs.counts_failures_alone before.regs.faults after.regs.faults)
       → ((n : ℕ) → fault ≡ faults.Full n → answer ≡ Ok too_many_regions) → (fault ≡ faults.Bus → answer ≡ Ok bus_failed) → (fault ≡ faults.Memory → answer ≡ Err stop.Memory)
       → Finishes answer status old new → EndsOver s frames before after old new status
-  not-opened (faults.Breach b) answer no_breach many untouched starts rose half out tells_many tells_bus tells_memory finishes = absurd (no_breach b refl)
-  not-opened (faults.Full n) answer no_breach many untouched starts rose half out tells_many tells_bus tells_memory finishes =
+  not-opened (faults.Breach b) answer no_breach many untouched starts rose half out unhidden tells_many tells_bus tells_memory finishes = absurd (no_breach b refl)
+  not-opened (faults.Full n) answer no_breach many untouched starts rose half out unhidden tells_many tells_bus tells_memory finishes =
       let left = untouched tt in
       let has = many n refl in
       over.full n has.0 has.1 (devices_left before after unread left.0 left.1) (subst (λ a. Finishes a status old new) (tells_many n refl) finishes)
-  not-opened faults.Bus answer no_breach many untouched starts rose half out tells_many tells_bus tells_memory finishes =
+  not-opened faults.Bus answer no_breach many untouched starts rose half out unhidden tells_many tells_bus tells_memory finishes =
       over.unready unread (bus (starts refl) (rose refl) (half refl).0 (half refl).1 (subst (λ a. Finishes a status old new) (tells_bus refl) finishes))
-  not-opened faults.Memory answer no_breach many untouched starts rose half out tells_many tells_bus tells_memory finishes =
-      let ends : (status ≡ Memory) × Takes old new [] = subst (λ a. Finishes a status old new) (tells_memory refl) finishes in
-      over.unready unread (memory (out refl).0 (out refl).1 ends.0 ends.1)
+  not-opened faults.Memory answer no_breach many untouched starts rose half out unhidden tells_many tells_bus tells_memory finishes =
+      let ends : (status ≡ Memory) × WritesNothing old new = subst (λ a. Finishes a status old new) (tells_memory refl) finishes in
+      over.unready unread (memory (out refl).0 (out refl).1 (unhidden refl) ends.0 ends.1)
 
 -- ---- over the files of a form
 

@@ -1,9 +1,9 @@
 -- How the commands of a session end: those of a script, and those of a generated system.
 use Rattle.std.specs.Prelude.{◌≡◌, ℕ, List, [], ◌∷◌, ◌++◌, length, take, option_map}
 use Rattle.cxl_bus.specs.declared.sent.Sent.{Sent}
-use Rattle.cxl_bus.specs.Failed.{behind, HasFailed, fresh}
 use Rattle.cxl_enc.specs.Faults.{LeavesCount}
-use Rattle.cxl_inputs.specs.Ends.{Ends}
+use Rattle.cxl_inputs.specs.Ends.{Ends, WritesNothing}
+use Rattle.cxl_bus.specs.Failed.{behind, HasFailed, fresh}
 use Rattle.cxl_inputs.specs.declared.status.Status.{Status}
 use Rattle.cxl_inputs.specs.declared.status.Status.TheVariants.{Done, WriteFault, Memory}
 use Rattle.cxl_io.specs.Sink.{SinkState, Takes}
@@ -37,11 +37,11 @@ pub record HasCarriedOut (first : Machine) (turns : List Turn) (before after : D
 
 -- How the commands of a script end. Each reply is written before the next line is carried out.
 pub data EndsScript (nodes : List Node) (asked : List Asked) (turns : List Turn) (before after : SourceState) (old new : SinkState) (status : Status) : Type 0 where
-  -- reading came to this end, and all is written; where it is the script's own end, no fault of source or sink is swallowed
+  -- reading came to this end, all is written, and no write failed; where it is the script's own end, no fault of the source is swallowed
   read_out : (end : Ending) (lines : List (List ℕ)) → status ≡ status_of end → StopsReading end lines before after → asked ≡ lines_asked lines
       → Takes old new (text_of nodes turns ++ ending_text end)
       → (status ≡ Done → LeavesCount before.counts_failures_alone before.faults after.faults)
-      → (status ≡ Done → LeavesCount old.counts_failures_alone old.faults new.faults)
+      → LeavesCount old.counts_failures_alone old.faults new.faults
       → EndsScript nodes asked turns before after old new status
   -- the sink failed in the text behind the last reply
   ending_cut : (end : Ending) (lines : List (List ℕ)) → status ≡ WriteFault → StopsReading end lines before after → asked ≡ lines_asked lines
@@ -50,9 +50,10 @@ pub data EndsScript (nodes : List Node) (asked : List Asked) (turns : List Turn)
   reply_cut : (lines : List (List ℕ)) (earlier : List Turn) (last : Turn) → status ≡ WriteFault → AreFirstLines lines before after
       → asked ≡ lines_asked lines → turns ≡ earlier ++ last ∷ []
       → IsCutBehind (text_of nodes earlier) (reply_text nodes last.reply) old new → EndsScript nodes asked turns before after old new status
-  -- memory ran out at the next line, or before its reply; all replies so far stand whole
+  -- memory ran out at the next line, or before its reply; all replies so far stand whole, and no fault of source or sink is hidden in it
   runs_out : (lines : List (List ℕ)) → status ≡ Memory → AreFirstLines lines before after → asked ≡ lines_asked lines
-      → Takes old new (text_of nodes turns) → EndsScript nodes asked turns before after old new status
+      → Takes old new (text_of nodes turns) → LeavesCount before.counts_failures_alone before.faults after.faults
+      → LeavesCount old.counts_failures_alone old.faults new.faults → EndsScript nodes asked turns before after old new status
 
 -- ---- a generated system
 
@@ -60,7 +61,7 @@ pub data EndsScript (nodes : List Node) (asked : List Asked) (turns : List Turn)
 pub data EndsGen (n : ℕ) (last : Machine) (asked : List Asked) (turns : List Turn) (old new : SinkState) (status : Status) : Type 0 where
   told : (checked : ℕ) → asked ≡ made_asked n → HasChecked (present last) checked → Ends (gen_told n turns checked) status old new
       → EndsGen n last asked turns old new status
-  runs_out : (count : ℕ) → asked ≡ take count (made_asked n) → status ≡ Memory → Takes old new [] → EndsGen n last asked turns old new status
+  runs_out : (count : ℕ) → asked ≡ take count (made_asked n) → status ≡ Memory → WritesNothing old new → EndsGen n last asked turns old new status
 
 -- ---- a form that works on a session
 

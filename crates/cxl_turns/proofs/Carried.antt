@@ -6,6 +6,7 @@ use Rattle.cxl_bus.proofs.Failed.{fails_nowhere}
 use Rattle.cxl_bus.specs.Failed.{HasFailed}
 use Rattle.cxl_bus.specs.RegsState.{RegsState, IsUntouched}
 use Rattle.cxl_bus.specs.Trail.{trail_with}
+use Rattle.cxl_bus.proofs.Trails.{trail_nothing}
 use Rattle.cxl_io.specs.Sink.{SinkState, Takes, TakesPrefix}
 use Rattle.cxl_io.proofs.Writes.{told_with-nil}
 use Rattle.cxl_media.specs.MediaState.{MediaState}
@@ -22,7 +23,7 @@ use Rattle.cxl_machine.proofs.WritingNothing.{quiet_words}
 use Rattle.cxl_session.specs.State.{SessionState}
 use Rattle.cxl_session.specs.Standing.{StandsFor, IsAt, HasTaken}
 use Rattle.cxl_turns.specs.inner.Carried.{IsAnswered, IsCutOff, IsLeft}
-use Rattle.cxl_turns.proofs.Going.{trail_with-nil, text_one, gone_none, gone_one, gone_same}
+use Rattle.cxl_turns.proofs.Going.{text_one, gone_none, gone_one, gone_same}
 use Rattle.cxl_turns.proofs.Silent.{silent_turn}
 
 pub takes_none : (before after : SinkState) → after ≡ before → Takes before after []
@@ -41,7 +42,7 @@ answered_none m session regs media sink at = record {
 -- memory ran out before anything was done
 pub left_as_it_was : (m : Machine) (session : SessionState) (regs : RegsState) (media : MediaState) (sink : SinkState) → IsAt session regs media m → IsLeft m session regs regs media sink sink
 left_as_it_was m session regs media sink at =
-    record { gone = gone_same m session regs media at; told = takes_none sink sink refl }
+    record { gone = gone_same m session regs media at; told = takes_none sink sink refl; unswallowed = λ _. refl }
 
 -- memory ran out within a command
 pub left_untouched : (m : Machine) (before session : SessionState) (old new : RegsState) (kept media : MediaState) (sink : SinkState) → IsAt before old kept m
@@ -50,6 +51,7 @@ pub left_untouched : (m : Machine) (before session : SessionState) (old new : Re
 left_untouched m before session old new kept media sink at same untouched held fails = record {
   gone = gone_none m session old new media at_now untouched.trail fails;
   told = takes_none sink sink refl;
+  unswallowed = λ _. refl;
 }
   where
     at_now : IsAt session new media m
@@ -92,9 +94,10 @@ module _ (m : Machine) (one : Asked) (turn : Turn) (reply : Reply) (nodes : List
         gone =
             gone_none m session old new media
             (subst (λ n. IsAt session new media n) stays taken.at)
-            (taken.words ∙ ap (trail_with old.trail) (quiet_words m one turn takes long_turn) ∙ trail_with-nil old.trail)
+            (taken.words ∙ ap (trail_with old.trail) (quiet_words m one turn takes long_turn) ∙ sym (trail_nothing old.trail))
             (subst (HasFailed old new) none taken.fails);
         told = takes_none before after same_sink;
+        unswallowed = λ _. ap (λ (sink : SinkState). sink.faults) same_sink;
       }
 
 -- the turn of a line that asks for nothing
@@ -106,7 +109,7 @@ pub bad_taken : (m : Machine) (fault : BadLine) (session : SessionState) (regs :
 bad_taken m fault session regs media at = record {
   told = refl;
   at = at;
-  words = sym (trail_with-nil regs.trail);
+  words = trail_nothing regs.trail;
   fails = fails_nowhere regs;
 }
 

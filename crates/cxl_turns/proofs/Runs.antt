@@ -84,7 +84,7 @@ run_begins start = record {
 -- memory ran out there
 pub none_run : (start : Stage) → End start start endings.Memory
 none_run start m at =
-    ([], [], gone_same m start.session start.regs start.media at, runs_out [] (no_first_lines start.script) refl refl (takes_none start.sink start.sink refl))
+    ([], [], gone_same m start.session start.regs start.media at, runs_out [] (no_first_lines start.script) refl refl (takes_none start.sink start.sink refl) (λ _. refl) (λ _. refl))
 
 -- ---- a line of more than 4,096 bytes
 
@@ -194,8 +194,9 @@ module _ (reader next : Reader) (start now later : Stage) (run : HaveRun reader 
       }
 
   -- memory ran out at it
-  pub run_left : EachFrom now (λ m. IsLeft m later.session now.regs later.regs later.media now.sink later.sink) → End start later endings.Memory
-  run_left each m at =
+  pub run_left : LeavesCount now.script.counts_failures_alone now.script.faults later.script.faults
+      → EachFrom now (λ m. IsLeft m later.session now.regs later.regs later.media now.sink later.sink) → End start later endings.Memory
+  run_left left each m at =
       let was = run.each m at in
       let more = each (machine_after m was.turns) was.gone.at in (
         lines_asked run.passed,
@@ -204,7 +205,8 @@ module _ (reader next : Reader) (start now later : Stage) (run : HaveRun reader 
         runs_out run.passed (first_but_last run.passed one.line start.script later.script (first_lines (run.passed ++ one.line ∷ []) start.script later.script next one.goes one.read))
             refl refl
             (subst (λ text. Takes start.sink later.sink text) (append-nil (text_of m.settled.nodes was.turns))
-            (Takes-append start.sink now.sink later.sink (text_of m.settled.nodes was.turns) [] was.told more.told)),
+            (Takes-append start.sink now.sink later.sink (text_of m.settled.nodes was.turns) [] was.told more.told))
+            (λ only. left (run.alone ∙ only) ∙ run.left only) (λ only. more.unswallowed (was.alone ∙ only) ∙ was.unswallowed only),
       )
 
 -- ---- what a line came to, by its result
@@ -271,8 +273,8 @@ module _ (reader next : Reader) (start now later : Stage) (result : Result (Unit
   pub took_cut : result ≡ Err stops.Sink → End start later endings.WriteFault
   took_cut is = run_cut reader next start now later run took.asked took.one took.source took.sink (took.cut is)
 
-  pub took_left : result ≡ Err stops.Memory → End start later endings.Memory
-  took_left is = run_left reader next start now later run took.asked took.one took.source took.sink (took.left is)
+  pub took_left : result ≡ Err stops.Memory → LeavesCount now.script.counts_failures_alone now.script.faults later.script.faults → End start later endings.Memory
+  took_left is left = run_left reader next start now later run took.asked took.one took.source took.sink left (took.left is)
 
 -- ---- the end of reading
 
@@ -290,7 +292,7 @@ module _ (reader next : Reader) (start now : Stage) (after : SourceState) (run :
       → End start later ending
   ends_so ending stops unswallowed m at =
       let was = run.each m at in
-      (lines_asked run.passed, was.turns, was.gone, read_out run.passed stops refl was.told unswallowed was.unswallowed)
+      (lines_asked run.passed, was.turns, was.gone, read_out run.passed stops refl was.told unswallowed (record { alone = was.alone; unswallowed = was.unswallowed }))
 
   stops_at : (answer : Taken) → (answer ≡ readers.End) ⊎ (answer ≡ readers.Fault) ⊎ (answer ≡ readers.TooMuch) → IsNext reader next now.script after answer → HasStopped answer run.passed start.script after
   stops_at answer ends is =

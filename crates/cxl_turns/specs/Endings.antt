@@ -34,16 +34,22 @@ pub record IsCutBehind (front text : List ℕ) (old new : SinkState) : Type 0 wh
   pub short : count < length text
   pub taken : Takes old new (front ++ take count text)
 
+-- no write failed, as the count tells of a sink that counts failures alone
+pub record MeetsNoFault (old new : SinkState) : Type 0 where
+  pub alone : new.counts_failures_alone ≡ old.counts_failures_alone
+  pub unswallowed : LeavesCount old.counts_failures_alone old.faults new.faults
+
 -- How the lines of a script end. Each reply is written before the next line is carried out.
 pub data EndsLines (nodes : List Node) (asked : List Asked) (turns : List Turn) (before after : SourceState) (old new : SinkState) (ending : Ending) : Type 0 where
-  -- reading came to its end, and all replies are written; where it is the script's own end, no fault of source or sink is swallowed
+  -- reading came to its end, all replies are written, and no write failed; where it is the script's own end, no fault of the source is swallowed
   read_out : (lines : List (List ℕ)) → StopsReading ending lines before after → asked ≡ lines_asked lines → Takes old new (text_of nodes turns)
       → (ending ≡ Done → LeavesCount before.counts_failures_alone before.faults after.faults)
-      → LeavesCount old.counts_failures_alone old.faults new.faults → EndsLines nodes asked turns before after old new ending
+      → MeetsNoFault old new → EndsLines nodes asked turns before after old new ending
   -- the sink failed in the last reply; all before it stand whole
   reply_cut : (lines : List (List ℕ)) (earlier : List Turn) (last : Turn) → AreFirstLines lines before after → asked ≡ lines_asked lines
       → turns ≡ earlier ++ last ∷ [] → IsCutBehind (text_of nodes earlier) (reply_text nodes last.reply) old new → ending ≡ WriteFault
       → EndsLines nodes asked turns before after old new ending
-  -- memory ran out at the next line, or before its reply; all replies so far stand whole
+  -- memory ran out at the next line, or before its reply; all replies so far stand whole, and no fault of source or sink is hidden in it
   runs_out : (lines : List (List ℕ)) → AreFirstLines lines before after → asked ≡ lines_asked lines → ending ≡ Memory
-      → Takes old new (text_of nodes turns) → EndsLines nodes asked turns before after old new ending
+      → Takes old new (text_of nodes turns) → LeavesCount before.counts_failures_alone before.faults after.faults
+      → LeavesCount old.counts_failures_alone old.faults new.faults → EndsLines nodes asked turns before after old new ending

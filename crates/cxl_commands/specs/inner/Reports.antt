@@ -1,10 +1,10 @@
 -- How writing what a check comes to ends.
-use Rattle.std.specs.Prelude.{◌≡◌, ℕ, []}
-use Rattle.cxl_inputs.specs.Ends.{Ends}
+use Rattle.std.specs.Prelude.{◌≡◌, ℕ}
+use Rattle.cxl_inputs.specs.Ends.{Ends, WritesNothing}
 use Rattle.cxl_inputs.specs.Outcome.{Outcome}
 use Rattle.cxl_inputs.specs.declared.status.Status.{Status}
 use Rattle.cxl_inputs.specs.declared.status.Status.TheVariants.{Memory}
-use Rattle.cxl_io.specs.Sink.{SinkState, Takes}
+use Rattle.cxl_io.specs.Sink.{SinkState}
 use Rattle.cxl_model.specs.Accepted.{IsFirstBreach}
 use Rattle.cxl_model.specs.System.{System}
 use Rattle.cxl_commands.specs.Stopped.{IsBehind}
@@ -22,4 +22,4 @@ pub record TellsBreach (s : System) (outcome : Outcome) : Type 0 where
 pub data IsReported (s : System) (status : Status) (old new : SinkState) : Type 0 where
   ended : (outcome : Outcome) → IsChecked s outcome → Ends outcome status old new → IsReported s status old new
   cut : (outcome : Outcome) → IsChecked s outcome → status ≡ Memory → IsBehind outcome old new → IsReported s status old new
-  unmade : status ≡ Memory → Takes old new [] → IsReported s status old new
+  unmade : status ≡ Memory → WritesNothing old new → IsReported s status old new

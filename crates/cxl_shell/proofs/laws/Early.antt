@@ -131,7 +131,7 @@ told_early status old new (inr short) = ap comes_early short.status_is
 
 pub unready_early : (s : System) (frames : ℕ) (before after : Devices) (old new : SinkState) (status : Status) → FailsToOpen s frames before after old new status → comes_early status ≡ true
 unready_early s frames before after old new status (bus starts rose half empty ends) = told_early status old new ends
-unready_early s frames before after old new status (memory regs media is none) = ap comes_early is
+unready_early s frames before after old new status (memory regs media unhidden is none) = ap comes_early is
 
 pub fails_early : (s : System) (frames : ℕ) (before after : Devices) (old new : SinkState) (status : Status) → FailsToOpen s frames before after old new status → EndsBeforeScript status
 fails_early s frames before after old new status fails = early status (unready_early s frames before after old new status fails)

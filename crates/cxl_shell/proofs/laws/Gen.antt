@@ -31,13 +31,13 @@ module _ (n : ℕ) (old new : Outside) (first_seen now : Devices) (status : Stat
   out_by_files : IsRunByFiles (Gen n) old new status → (status ≡ Memory) × Takes old.out new.out []
   out_by_files (writes outcome answers written) = absurd answers.0
   out_by_files (is_cut outcome answers short) = absurd answers.0
-  out_by_files (ways.runs_out takes is (before some none)) = (is, none)
+  out_by_files (ways.runs_out takes is (before some none)) = (is, none.taken)
   out_by_files (ways.runs_out takes is (behind outcome answers lines)) = absurd answers.0
 
   fails_so : (s : System) (frames : ℕ) → FailsToOpen s frames first_seen now old.out new.out status → (status ≡ BusFault) ⊎ (status ≡ WriteFault) ⊎ ((status ≡ Memory) × Takes old.out new.out [])
   fails_so s frames (bus starts rose half empty (inl written)) = inl written.status_is
   fails_so s frames (bus starts rose half empty (inr short)) = inr (inl short.status_is)
-  fails_so s frames (memory regs media is none) = inr (inr (is, none))
+  fails_so s frames (memory regs media unhidden is none) = inr (inr (is, none.taken))
 
   -- ---- in a session
 
@@ -61,7 +61,7 @@ module _ (n : ℕ) (old new : Outside) (first_seen now : Devices) (status : Stat
     some_made is (told checked e found (inl written)) = let own = written.status_is in absurd (cc)
     some_made is (told checked e found (inr short)) = let own = short.status_is in absurd (cc)
     some_made is (runs_out count e own none) =
-        (none, record { first = first; count = count; turns = turns; opens = opens_so; answered = subst (λ a. AreTurns first a turns) e answered; carried = carried })
+        (none.taken, record { first = first; count = count; turns = turns; opens = opens_so; answered = subst (λ a. AreTurns first a turns) e answered; carried = carried })
 
   -- ---- from a run
 

@@ -151,9 +151,9 @@ module _ (form : Form) (old new : Outside) (before after : Devices) (status : St
     read_to endings.Done reads is (reply_cut lines earlier last own front e these cut) = absurd (cc)
     read_to endings.ReadFault reads is (reply_cut lines earlier last own front e these cut) = absurd (cc)
     read_to endings.TooMuch reads is (reply_cut lines earlier last own front e these cut) = absurd (cc)
-    read_to endings.Done reads is (runs_out lines own front e text) = absurd (cc)
-    read_to endings.ReadFault reads is (runs_out lines own front e text) = absurd (cc)
-    read_to endings.TooMuch reads is (runs_out lines own front e text) = absurd (cc)
+    read_to endings.Done reads is (runs_out lines own front e text source sink) = absurd (cc)
+    read_to endings.ReadFault reads is (runs_out lines own front e text source sink) = absurd (cc)
+    read_to endings.TooMuch reads is (runs_out lines own front e text source sink) = absurd (cc)
 
     out_at : status ≡ Memory → EndsScript first.settled.nodes asked turns before.script after.script old.out new.out status → HasRunOut form old new before after
     out_at is (read_out endings.Done lines own stops e text source sink) = absurd (cc)
@@ -163,7 +163,7 @@ module _ (form : Form) (old new : Outside) (before after : Devices) (status : St
     out_at is (read_out endings.Memory lines own stops e text source sink) = absurd stops
     out_at is (ending_cut end lines own stops e cut) = absurd (cc)
     out_at is (reply_cut lines earlier last own front e these cut) = absurd (cc)
-    out_at is (runs_out lines own front e text) =
+    out_at is (runs_out lines own front e text source sink) =
         record { start = s; frames = frames; first = first; lines = lines; turns = turns; host = start; opens = opens; front = front; answered = subst (λ a. AreTurns first a turns) e answered; carried = carried; text = text }
 
   -- no reading of a script came to its end where no session opened
@@ -210,7 +210,7 @@ module _ (form : Form) (old new : Outside) (before after : Devices) (status : St
   source_rose nodes asked turns is (read_out endings.Memory lines own stops e text source sink) = absurd stops
   source_rose nodes asked turns is (ending_cut end lines own stops e cut) = absurd (cc)
   source_rose nodes asked turns is (reply_cut lines earlier last own front e these cut) = absurd (cc)
-  source_rose nodes asked turns is (runs_out lines own front e text) = absurd (cc)
+  source_rose nodes asked turns is (runs_out lines own front e text source sink) = absurd (cc)
 
   pub read_failed : status ≡ ReadFault → IsRun form old new before after status → Rose before.script.faults after.script.faults
   read_failed is (unopened (by_files left run)) = let none = without_devices old new form status run in let some = ap is_of_devices is in absurd (cc)
@@ -229,7 +229,7 @@ module _ (form : Form) (old new : Outside) (before after : Devices) (status : St
   past_limit nodes asked turns bytes is all (read_out endings.Memory lines own stops e text source sink) = absurd stops
   past_limit nodes asked turns bytes is all (ending_cut end lines own stops e cut) = absurd (cc)
   past_limit nodes asked turns bytes is all (reply_cut lines earlier last own front e these cut) = absurd (cc)
-  past_limit nodes asked turns bytes is all (runs_out lines own front e text) = absurd (cc)
+  past_limit nodes asked turns bytes is all (runs_out lines own front e text source sink) = absurd (cc)
 
   pub is_too_long : (bytes : List ℕ) → status ≡ TooMuch → before.script.left ≡ Some bytes → IsRun form old new before after status → script_limit < length bytes
   is_too_long bytes is all (unopened (by_files left run)) = let none = without_devices old new form status run in let some = ap is_of_devices is in absurd (cc)
@@ -256,7 +256,7 @@ module _ (form : Form) (old new : Outside) (before after : Devices) (status : St
   stops_long Other nodes asked turns bytes all more (read_out endings.Memory lines own stops e text source sink) = absurd stops
   stops_long Other nodes asked turns bytes all more (ending_cut end lines own stops e cut) = inr (inr (inl (own, cut.rose)))
   stops_long Other nodes asked turns bytes all more (reply_cut lines earlier last own front e these cut) = inr (inr (inl (own, cut.rose)))
-  stops_long Other nodes asked turns bytes all more (runs_out lines own front e text) = inr (inr (inr (inl own)))
+  stops_long Other nodes asked turns bytes all more (runs_out lines own front e text source sink) = inr (inr (inr (inl own)))
 
   pub only_long : (bytes : List ℕ) → reads_script form ≡ true → before.script.left ≡ Some bytes → script_limit < length bytes → IsRun form old new before after status → IsTooLongOr (IsUnopened form old new before after status)
   only_long bytes reads all more (unopened run) = inr (inr (inr (inr run)))
@@ -280,12 +280,12 @@ module _ (form : Form) (old new : Outside) (before after : Devices) (status : St
   script_not_bus nodes asked turns is (read_out endings.Memory lines own stops e text source sink) = absurd stops
   script_not_bus nodes asked turns is (ending_cut end lines own stops e cut) = absurd (cc)
   script_not_bus nodes asked turns is (reply_cut lines earlier last own front e these cut) = absurd (cc)
-  script_not_bus nodes asked turns is (runs_out lines own front e text) = absurd (cc)
+  script_not_bus nodes asked turns is (runs_out lines own front e text source sink) = absurd (cc)
 
   bus_unready : (s : System) (frames : ℕ) → IsStart form old.files.told s frames → after.script ≡ before.script → status ≡ BusFault → FailsToOpen s frames before after old.out new.out status
       → Rose before.regs.faults after.regs.faults × (after.script ≡ before.script) × IsHalfReady
   bus_unready s frames start unread is (bus starts rose half empty ends) = (rose, unread, (s, frames, start, half, empty))
-  bus_unready s frames start unread is (memory regs media own none) = absurd (cc)
+  bus_unready s frames start unread is (memory regs media unhidden own none) = absurd (cc)
 
   pub bus_rose : status ≡ BusFault → IsRun form old new before after status → Rose before.regs.faults after.regs.faults × (after.script ≡ before.script) × IsHalfReady
   bus_rose is (unopened (by_files left run)) = let none = without_devices old new form status run in let some = ap is_of_devices is in absurd (cc)
@@ -386,7 +386,7 @@ module _ (one : HaveOneReading) (not_both : (s : System) → IsAccepted s → Ha
   module _ (cedt topo image : List ℕ) (table : CedtFields) (tree : Tree) (blocks : List Registers) (outcome : Outcome) (known : AreKnown (ImageScript cedt topo image) old.files.told (ByHost table tree blocks)) (refused : IsRefusedStart (host_of table tree blocks) outcome) where
     refused_fails : (s : System) (frames : ℕ) → s ≡ host_of table tree blocks → FailsToOpen s frames before after old.out new.out status → (status ≡ Refused) ⊎ IsStopped status old new
     refused_fails s frames same (bus starts rose half empty ends) = absurd (refused_not_started not_both (host_of table tree blocks) outcome (subst StartsSession same starts) refused)
-    refused_fails s frames same (memory regs media is none) = inr (inr (inr is))
+    refused_fails s frames same (memory regs media unhidden is none) = inr (inr (inr is))
 
     told_refused : ((o : Outcome) × IsAnswerBy (ImageScript cedt topo image) (ByHost table tree blocks) o × IsWritten o status old.out new.out) ⊎ IsStopped status old new → (status ≡ Refused) ⊎ IsStopped status old new
     told_refused (inl some) = let written = some.2 in inl (written.status_is ∙ start_status (host_of table tree blocks) some.0 some.1)

@@ -1,15 +1,15 @@
 -- On which host a session starts, where none opens, and what is told where a script ends.
 use Rattle.std.specs.Prelude.{◌≡◌, ℕ, ◌≤◌, ◌⊎◌, Bool, true, false, List, [], codes}
 use Rattle.cxl_cedt.specs.CedtFields.{CedtFields}
-use Rattle.cxl_enc.specs.Faults.{Rose}
+use Rattle.cxl_enc.specs.Faults.{Rose, LeavesCount}
 use Rattle.cxl_gen.specs.Made.{made_table, made_tree}
-use Rattle.cxl_inputs.specs.Ends.{Ends}
+use Rattle.cxl_inputs.specs.Ends.{Ends, WritesNothing}
 use Rattle.cxl_inputs.specs.Host.{host_of, AreRead}
 use Rattle.cxl_inputs.specs.Outcome.{Outcome, one_piece}
 use Rattle.cxl_inputs.specs.ResetHost.{reset_host_of, AreBothRead}
 use Rattle.cxl_inputs.specs.declared.status.Status.{Status}
 use Rattle.cxl_inputs.specs.declared.status.Status.TheVariants.{Done, ReadFault, WriteFault, BusFault, Memory, TooMuch}
-use Rattle.cxl_io.specs.Sink.{SinkState, Takes}
+use Rattle.cxl_io.specs.Sink.{SinkState}
 use Rattle.cxl_io.specs.Told.{Told}
 use Rattle.cxl_model.specs.Listed.{region_limit}
 use Rattle.cxl_model.specs.Accepted.{IsAccepted}
@@ -52,10 +52,11 @@ pub data FailsToOpen (s : System) (frames : ℕ) (before after : Devices) (old n
   -- the bus failed, of an image that is not refused: the endpoints before the fault decode, media is empty, and that is told
   bus : StartsSession s → Rose before.regs.faults after.regs.faults → IsHalfEnabled s before.regs after.regs → after.media ≡ empty_media frames
       → Ends bus_failed status old new → FailsToOpen s frames before after old new status
-  -- memory ran out: each is as before, or as powering it on left it, and nothing is written
+  -- memory ran out: each is as before, or as powering it on left it, no fault of the bus is hidden in it, and nothing is written
   memory : (after.regs ≡ before.regs) ⊎ ArePoweredOn s.blocks before.regs after.regs
       → (after.media ≡ before.media) ⊎ (after.media ≡ empty_media frames)
-      → status ≡ Memory → Takes old new [] → FailsToOpen s frames before after old new status
+      → LeavesCount before.regs.counts_failures_alone before.regs.faults after.regs.faults
+      → status ≡ Memory → WritesNothing old new → FailsToOpen s frames before after old new status
 
 -- ---- how a script ends
 

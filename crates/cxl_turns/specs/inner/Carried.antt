@@ -26,7 +26,8 @@ pub record IsCutOff (m : Machine) (asked : List Asked) (session : SessionState) 
   pub rose : Rose before.faults after.faults
   pub cut : TakesPrefix before after (reply_text m.settled.nodes turn.reply)
 
--- memory ran out, and all is as it was
+-- memory ran out, all is as it was, and no write failed
 pub record IsLeft (m : Machine) (session : SessionState) (old new : RegsState) (media : MediaState) (before after : SinkState) : Type 0 where
   pub gone : HasGoneOn m [] [] session old new media
   pub told : Takes before after []
+  pub unswallowed : LeavesCount before.counts_failures_alone before.faults after.faults

@@ -1,10 +1,11 @@
 use Rattle.std.proofs.Common.{refl, ap, sym, subst}
+use Rattle.cxl_inputs.proofs.Stops.{writes_nothing}
 use Rattle.cxl_commands.specs.Form.{runs_session, IsRangedForm}
 use Rattle.cxl_commands.specs.RunByFiles.{runs_out, before}
 use Rattle.cxl_shell.specs.Run.{by_files, unopened}
 use Rattle.cxl_commands.specs.Words.{bytes_of}
 use Rattle.cxl_shell.proofs.RangedForms.{form_is_ranged}
-use Rattle.cxl_commands.proofs.Stops.{asks_nothing, told-nothing_more}
+use Rattle.cxl_commands.proofs.Stops.{asks_nothing}
 use Rattle.cxl_shell.proofs.shell.run.Goals as goal
 
 pub carry_out-requires : goal.carry_out-requires
@@ -29,7 +30,7 @@ returns-in-Ok-clause-route g c = λ file h asked done.
 pub returns-in-Err-clause-run : goal.returns-in-Err-clause-run
 returns-in-Err-clause-run g c =
     unopened (by_files refl (runs_out c.in-Err.ensures.memory refl
-    (before (record { count = 0; asks = asks_nothing (g.F.Fetch.state c.args.files.now) }) (told-nothing_more (g.K.Sink.state c.args.out.now).taken))))
+    (before (record { count = 0; asks = asks_nothing (g.F.Fetch.state c.args.files.now) }) (writes_nothing (g.K.Sink.state c.args.out.now)))))
 
 pub returns-in-Err-clause-headline : goal.returns-in-Err-clause-headline
 returns-in-Err-clause-headline g c = c.runs_are_flat.ensures _ _ _ _ _ _ (returns-in-Err-clause-run g c)

@@ -196,3 +196,7 @@ returns-in-Err-Memory-clause-ends g c =
     ] in
     let which = rw c.in-Err-Memory.is at c.in-Err-Memory.field-0-is in
     took_left c.lines.reader c.next.new.self start now later c.match-next.carried c.lines.invariant took (c.in-Err-Memory.is ∙ ap (λ (stop : Stop). Err stop) which)
+    (elim c.match-next.branch [
+      | in-Line w ↦ c.next.ensures.unswallowed (λ e. let is = w.in-Line.is in absurd (cc))
+      | in-Long w ↦ c.next.ensures.unswallowed (λ e. let is = w.in-Long.is in absurd (cc))
+    ])

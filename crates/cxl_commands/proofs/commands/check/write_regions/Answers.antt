@@ -1,5 +1,5 @@
 use Rattle.std.proofs.Common.{◌+◌, map, sym, subst, ◌∙◌, inl, inr, refl, arith}
-use Rattle.cxl_enc.specs.Faults.{Rose}
+use Rattle.cxl_enc.specs.Faults.{Rose, LeavesCount}
 use Rattle.cxl_io.specs.Sink.{Takes, TakesPrefix}
 use Rattle.cxl_reply.specs.Plans.{found_text}
 use Rattle.cxl_lines.specs.Blocks.{KeepsOrWrites}
@@ -15,6 +15,7 @@ returns-in_err-put_found-clause-behind g c =
       count = so_far.written;
       short = let few = so_far.few in let there = c.loop-region-test.true in omega (arith, length-region_lines c.args.topo.now.nodes c.args.regions.now);
       taken = so_far.taken;
+      unswallowed = c.loop-region.invariant.unswallowed;
     })
 
 pub returns-then-is_err-clause-ends : goal.returns-then-is_err-clause-ends
@@ -42,10 +43,13 @@ loop-region-preserved g c =
     let now = g.K.Sink.state l.out in
     let new = g.K.Sink.state c.line_done.new.out in
     let next = blocks-region c.args.topo.now.nodes c.args.regions.now l.region-index c.region-item.result c.loop-region-test.true c.region-item.is l.lines.block.items c.put_found.new.out.items old now c.in_ok-put_found.ensures.ok l.invariant.blocks in
+    let left : LeavesCount now.counts_failures_alone now.faults new.faults = on_ok_at c.line_done.result _ (sym c.is_err.ensures.value ∙ c.if-is_err.false) c.line_done.ensures.unswallowed in
     let flushed : KeepsOrWrites _ now new c.put_found.new.out.items c.line_done.new.self.block.items = on_ok_at c.line_done.result _ (sym c.is_err.ensures.value ∙ c.if-is_err.false) c.line_done.ensures.ok in
     record {
       blocks = blocks-flushed c.writes_join.ensures.both c.writes_join.ensures.first c.writes_join.ensures.second lines (l.region-index + 1) c.put_found.new.out.items c.line_done.new.self.block.items old now new next flushed;
       counts = let more = c.line_done.ensures.counts in let so_far = l.invariant.counts in omega arith;
+      alone = c.line_done.ensures.alone ∙ l.invariant.alone;
+      unswallowed = λ only. left (l.invariant.alone ∙ only) ∙ l.invariant.unswallowed only;
     }
 
 pub returns-then-is_err-2-clause-ends : goal.returns-then-is_err-2-clause-ends
@@ -72,9 +76,11 @@ returns-clause-ends g c =
     let now = g.K.Sink.state l.out in
     let new = g.K.Sink.state c.end.new.out in
     let taken : Takes now new l.lines.block.items = on_ok_at c.end.result _ (sym c.is_err-2.ensures.value ∙ c.if-is_err-2.false) c.end.ensures.ok in
+    let left : LeavesCount now.counts_failures_alone now.faults new.faults = on_ok_at c.end.result _ (sym c.is_err-2.ensures.value ∙ c.if-is_err-2.false) c.end.ensures.unswallowed in
     inl (record {
       status_is = refl;
       taken =
           subst (Takes old new) (all_regions c.args.topo.now.nodes c.args.regions.now l.region-index c.loop-region-test.false)
           (blocks-written c.writes_join.ensures.both c.writes_join.ensures.first c.writes_join.ensures.second lines l.region-index l.lines.block.items old now new l.invariant.blocks taken);
+      unswallowed = λ only. left (l.invariant.alone ∙ only) ∙ l.invariant.unswallowed only;
     })

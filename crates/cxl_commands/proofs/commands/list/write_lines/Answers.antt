@@ -1,5 +1,5 @@
 use Rattle.std.proofs.Common.{◌+◌, sym, subst, ◌∙◌, inl, inr, refl, arith}
-use Rattle.cxl_enc.specs.Faults.{Rose}
+use Rattle.cxl_enc.specs.Faults.{Rose, LeavesCount}
 use Rattle.cxl_io.specs.Sink.{Takes, TakesPrefix}
 use Rattle.cxl_lines.specs.Blocks.{KeepsOrWrites}
 use Rattle.cxl_commands.specs.commands.Lines.{list_lines}
@@ -19,6 +19,7 @@ returns-in_err-put_line-clause-behind g c =
       count = so_far.written;
       short = let few = so_far.few in let there = c.loop-item-test.true in omega (arith, length-list_lines c.args.records.now);
       taken = so_far.taken;
+      unswallowed = c.loop-item.invariant.unswallowed;
     })
 
 pub returns-then-is_err-clause-ends : goal.returns-then-is_err-clause-ends
@@ -44,12 +45,15 @@ loop-item-preserved g c =
     let now = g.K.Sink.state l.out in
     let new = g.K.Sink.state c.line_done.new.out in
     let next = blocks-line c.args.records.now c.args.windows.now c.requires l.item-index l.place l.invariant.place c.loop-item-test.true c.item-item.result c.item-item.is l.lines.block.items c.put_line.new.out.items old now c.in_ok-put_line.ensures l.invariant.blocks in
+    let left : LeavesCount now.counts_failures_alone now.faults new.faults = on_ok_at c.line_done.result _ (sym c.is_err.ensures.value ∙ c.if-is_err.false) c.line_done.ensures.unswallowed in
     let flushed : KeepsOrWrites _ now new c.put_line.new.out.items c.line_done.new.self.block.items = on_ok_at c.line_done.result _ (sym c.is_err.ensures.value ∙ c.if-is_err.false) c.line_done.ensures.ok in
     record {
       place = place-next c.args.records.now l.item-index c.item-item.result c.loop-item-test.true c.item-item.is l.place c.window_count-place.result l.invariant.place c.window_count-place.ensures.value;
       few = let one = c.window_count-place.ensures.few in let so_far = l.invariant.few in omega arith;
       blocks = blocks-flushed c.writes_join.ensures.both c.writes_join.ensures.first c.writes_join.ensures.second (list_lines c.args.records.now) (l.item-index + 1) c.put_line.new.out.items c.line_done.new.self.block.items old now new next flushed;
       counts = let more = c.line_done.ensures.counts in let so_far = l.invariant.counts in omega arith;
+      alone = c.line_done.ensures.alone ∙ l.invariant.alone;
+      unswallowed = λ only. left (l.invariant.alone ∙ only) ∙ l.invariant.unswallowed only;
     }
 
 pub returns-then-is_err-2-clause-ends : goal.returns-then-is_err-2-clause-ends
@@ -74,9 +78,11 @@ returns-clause-ends g c =
     let now = g.K.Sink.state l.out in
     let new = g.K.Sink.state c.end.new.out in
     let taken : Takes now new l.lines.block.items = on_ok_at c.end.result _ (sym c.is_err-2.ensures.value ∙ c.if-is_err-2.false) c.end.ensures.ok in
+    let left : LeavesCount now.counts_failures_alone now.faults new.faults = on_ok_at c.end.result _ (sym c.is_err-2.ensures.value ∙ c.if-is_err-2.false) c.end.ensures.unswallowed in
     inl (record {
       status_is = refl;
       taken =
           subst (Takes old new) (all_lines c.args.records.now l.item-index c.loop-item-test.false)
           (blocks-written c.writes_join.ensures.both c.writes_join.ensures.first c.writes_join.ensures.second (list_lines c.args.records.now) l.item-index l.lines.block.items old now new l.invariant.blocks taken);
+      unswallowed = λ only. left (l.invariant.alone ∙ only) ∙ l.invariant.unswallowed only;
     })

@@ -1,9 +1,9 @@
 use Rattle.std.proofs.Common.{inl, refl, subst}
+use Rattle.cxl_inputs.proofs.Stops.{writes_nothing}
 use Rattle.cxl_topo.specs.Tree.{Tree}
 use Rattle.cxl_shell.specs.Devices.{devices}
 use Rattle.cxl_shell.specs.commands.Script.{memory}
 use Rattle.cxl_shell.specs.inner.Generated.{made_host, EndsMade, unready}
-use Rattle.cxl_commands.proofs.Stops.{told-nothing_more}
 use Rattle.cxl_shell.proofs.commands.generated.generated.Goals as goal
 
 pub returns-in-Ok-clause-ends : goal.returns-in-Ok-clause-ends
@@ -17,4 +17,4 @@ returns-in-Ok-clause-ends g c = λ script.
     (subst (λ s. EndsMade c.args.n s host.topo.frames before after old new c.over_host.result) c.in-Ok.ensures.host_is (c.over_host.ensures.ends script))
 
 pub returns-in-Err-clause-ends : goal.returns-in-Err-clause-ends
-returns-in-Err-clause-ends g c = λ script. unready (memory (inl refl) (inl refl) refl (told-nothing_more _))
+returns-in-Err-clause-ends g c = λ script. unready (memory (inl refl) (inl refl) (λ _. refl) refl (writes_nothing _))

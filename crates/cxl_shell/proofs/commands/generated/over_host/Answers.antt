@@ -32,5 +32,5 @@ returns-in-Err-clause-ends g c = λ script.
     unready (fails-to_open c.args.n s c.requires.made.host_is c.requires.made.accepted host.topo.frames before after (g.K.Sink.state c.args.out.now) (g.K.Sink.state c.finish.new.out) c.finish.result c.in-Err.fault c.unopened.result
     (λ b is. c.accepted_or_breach.ensures.not_both s c.requires.made.accepted (b.rule, b.node, b.decoder, c.in-Err.ensures.breach b (ap Err is)))
     (λ n is. c.in-Err.ensures.full n (ap Err is))
-    (λ is. c.in-Err.ensures.bus (ap Err is)) (λ is. c.in-Err.ensures.half_enabled (ap Err is)) (λ is. c.in-Err.ensures.memory (ap Err is))
+    (λ is. c.in-Err.ensures.bus (ap Err is)) (λ is. c.in-Err.ensures.half_enabled (ap Err is)) (λ is. c.in-Err.ensures.memory (ap Err is)) (λ is. c.in-Err.ensures.unhidden (ap Err is))
     c.unopened.ensures.bus c.unopened.ensures.memory c.finish.ensures.finishes)

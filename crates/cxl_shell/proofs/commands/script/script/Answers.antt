@@ -33,5 +33,5 @@ returns-in-Err-clause-ends g c =
     (λ n is. c.in-Err.ensures.full n (ap Err is))
     (λ refused. let left = c.in-Err.ensures.untouched refused in (ap g.R.Regs.state left.0, ap g.M.Media.state left.1))
     (λ is. starts_session s c.requires.accepted (λ n has more. not_refused n (ap Err is) (c.in-Err.ensures.filled n has more)))
-    (λ is. c.in-Err.ensures.bus (ap Err is)) (λ is. c.in-Err.ensures.half_enabled (ap Err is)) (λ is. c.in-Err.ensures.memory (ap Err is))
+    (λ is. c.in-Err.ensures.bus (ap Err is)) (λ is. c.in-Err.ensures.half_enabled (ap Err is)) (λ is. c.in-Err.ensures.memory (ap Err is)) (λ is. c.in-Err.ensures.unhidden (ap Err is))
     c.unopened.ensures.full c.unopened.ensures.bus c.unopened.ensures.memory c.finish.ensures.finishes
