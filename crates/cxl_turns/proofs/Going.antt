@@ -1,12 +1,12 @@
 -- What goes on from where others went.
-use Rattle.std.proofs.Common.{◌≡◌, Option, Some, None, Ok, Err, List, [], ◌∷◌, ◌++◌, refl, sym, ap, subst, ◌∙◌, append_assoc}
+use Rattle.std.proofs.Common.{◌≡◌, Ok, Err, List, [], ◌∷◌, ◌++◌, refl, sym, ap, subst, ◌∙◌}
 use Rattle.std.proofs.lemmas.Grind.{flat_map-append}
 use Rattle.std.proofs.lemmas.List.{append-nil}
 use Rattle.cxl_bus.proofs.Failed.{fails_both, fails_nowhere}
 use Rattle.cxl_bus.specs.Failed.{HasFailed}
 use Rattle.cxl_bus.specs.RegsState.{RegsState}
 use Rattle.cxl_bus.specs.Trail.{trail_with}
-use Rattle.cxl_bus.specs.declared.sent.Sent.{Sent}
+use Rattle.cxl_bus.proofs.Trails.{trail_nothing, trail_append}
 use Rattle.cxl_media.specs.MediaState.{MediaState}
 use Rattle.cxl_topo.specs.declared.node.Node.{Node}
 use Rattle.cxl_reply.specs.declared.reply.Reply.{Reply}
@@ -20,16 +20,6 @@ use Rattle.cxl_machine.proofs.SameHost.{same_host}
 use Rattle.cxl_session.specs.State.{SessionState}
 use Rattle.cxl_session.specs.Standing.{IsAt, HasTaken}
 use Rattle.cxl_turns.specs.Going.{HasGoneOn}
-
--- ---- trails
-
-pub trail_with-nil : (trail : Option (List Sent)) → trail_with trail [] ≡ trail
-trail_with-nil None = refl
-trail_with-nil (Some sent) = ap (λ words. Some words) (append-nil sent)
-
-trail_with-both : (trail : Option (List Sent)) (xs ys : List Sent) → trail_with (trail_with trail xs) ys ≡ trail_with trail (xs ++ ys)
-trail_with-both None xs ys = refl
-trail_with-both (Some sent) xs ys = ap (λ words. Some words) (append_assoc sent xs ys)
 
 -- ---- turns
 
@@ -63,7 +53,7 @@ text_one nodes turn = append-nil (reply_text nodes turn.reply)
 module _ (m : Machine) (session : SessionState) (old new : RegsState) (media : MediaState) where
   -- nothing is asked
   pub gone_none : IsAt session new media m → new.trail ≡ old.trail → HasFailed old new [] → HasGoneOn m [] [] session old new media
-  gone_none at trail fails = record { answered = tt; at = at; words = trail ∙ sym (trail_with-nil old.trail); fails = fails }
+  gone_none at trail fails = record { answered = tt; at = at; words = trail ∙ trail_nothing old.trail; fails = fails }
 
   -- one turn is taken
   pub gone_one : (one : Asked) (turn : Turn) (reply : Reply) → TakesTurn m one turn → HasTaken turn reply session old new media
@@ -84,7 +74,7 @@ module _ (m : Machine) (asked more : List Asked) (turns others : List Turn) (mid
     at = subst (λ n. IsAt session new media n) (sym (after_both m turns others)) second.at;
     words =
         second.words ∙ ap (λ trail. trail_with trail (words_sent others)) first.words
-        ∙ trail_with-both old.trail (words_sent turns) (words_sent others)
+        ∙ trail_append old.trail (words_sent turns) (words_sent others)
         ∙ ap (trail_with old.trail) (sym (flat_map-append (λ (turn : Turn). turn.trail) turns others));
     fails =
         subst (HasFailed old new) (sym (failed_both turns others))
