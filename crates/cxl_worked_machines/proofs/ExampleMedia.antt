@@ -2,13 +2,12 @@
 use Rattle.std.proofs.Common.{◌≡◌, ℕ, zero, suc, ◌+◌, ◌*◌, Bool, true, false, cond, List, [], ◌∷◌, Some, None, refl, sym, ap, ◌∙◌, subst, arith}
 use Rattle.std.specs.Prelude.{Contains}
 use Rattle.std.specs.Ordering.{nat_cmp, eq_by_cmp}
-use Rattle.std.specs.Cmp.{IsTotalOrder, nat_cmp_total, Equal-is}
+use Rattle.std.specs.Cmp.{Equal-is}
 use Rattle.std.specs.FinMap as map
 use Rattle.std.specs.FinMap.{get-insert, get-empty, nat_cmp-IsAntisymmetric}
-use Rattle.std.proofs.lemmas.Cmp.{on_total, then_total}
-use Rattle.std.proofs.lemmas.Map.Lookups.{exact_pairs, exact_unsigned}
 use Rattle.std.proofs.lemmas.Option.{none-some, same_Some}
 use Rattle.cxl_media.specs.Blocks.{Key, key_cmp}
+use Rattle.cxl_media.proofs.Keys.{key_total, same_key}
 use Rattle.cxl_model.specs.Contents.{AreMediaOf, Holding, KeepsPieceAt}
 use Rattle.cxl_model.specs.Regions.{Carries}
 use Rattle.cxl_worked.specs.Examples.{two_bridges}
@@ -17,9 +16,6 @@ use Rattle.cxl_machine.specs.Machine.{holding_of, region_window}
 use Rattle.cxl_machine.specs.Sound.{block_told}
 use Rattle.cxl_worked_machines.specs.Examples.{first_byte, stored_piece, opened_region_with, one_block}
 use Rattle.cxl_worked_machines.proofs.ExampleBytes.{get-one_piece}
-
-key_total : IsTotalOrder key_cmp
-key_total = then_total (on_total (λ (k : Key). k.0) nat_cmp_total) (on_total (λ (k : Key). k.1) nat_cmp_total)
 
 told : (endpoint block : ℕ) → block_told one_block endpoint block ≡ cond (eq_by_cmp key_cmp (endpoint, block) (2, 0)) (Some stored_piece) None
 told endpoint block =
@@ -67,7 +63,7 @@ only endpoint block bytes there = go (eq_by_cmp key_cmp (endpoint, block) (2, 0)
     go : (b : Bool) → eq_by_cmp key_cmp (endpoint, block) (2, 0) ≡ b → cond b (Some stored_piece) None ≡ Some bytes
         → (other : Holding) × (n : ℕ) × Contains (holding ∷ []) other × KeepsPieceAt other n endpoint block bytes
     go true same is =
-        let keys : (endpoint, block) ≡ (2, 0) = exact_pairs nat_cmp nat_cmp exact_unsigned exact_unsigned (endpoint, block) (2, 0) ((Equal-is (key_cmp (endpoint, block) (2, 0))).0 same) in
+        let keys : (endpoint, block) ≡ (2, 0) = same_key (endpoint, block) (2, 0) same in
         let first : 2 ≡ endpoint = sym (ap (λ (k : Key). k.0) keys) in
         let second : 0 ≡ block = sym (ap (λ (k : Key). k.1) keys) in
         let own : IsCarriedAt 0 2 0 = record { from = omega arith; below = omega arith; place = (refl, refl) } in (
