@@ -1,36 +1,18 @@
 -- The first window that holds an address.
-use Rattle.std.proofs.Common.{◌≡◌, ℕ, suc, ◌+◌, ◌<◌, Bool, true, false, ◌&&◌, cond, ltb, leb, Some, None, List, [], ◌∷◌, ◌++◌, length, get_or, take, drop, refl, sym, ap, subst, ◌∙◌, drop-cons}
+use Rattle.std.proofs.Common.{◌≡◌, ℕ, suc, ◌+◌, ◌<◌, true, false, ◌&&◌, ltb, leb, Some, None, List, [], ◌∷◌, ◌++◌, length, get_or, take, drop, refl, sym, ap, subst, ◌∙◌, drop-cons}
 use Rattle.std.specs.List.{slice_get}
 use Rattle.std.proofs.lemmas.Bool.{and_parts, and_from, false≢true, leb-true, ltb-true, le-leb, lt-ltb}
 use Rattle.std.proofs.lemmas.List.{take-append-drop}
 use Rattle.std.proofs.lemmas.Option.{slice_get-get_or}
 use Rattle.std.proofs.lemmas.List.Elements.{All-head, All-tail, All-more}
+use Rattle.cxl_enc.proofs.Options.{some_if, none_if}
 use Rattle.cxl_window.specs.Fields.{WindowFields}
 use Rattle.cxl_window.specs.Position.{is_usable, holds, position_of, position_at}
-use Rattle.cxl_window.specs.declared.window.Verdict.{Verdict}
-use Rattle.cxl_window.specs.declared.window.Verdict.TheVariants.{Usable, Align, Size, TooHigh, Overlap, Target, Repeat, Maps}
+use Rattle.cxl_window.proofs.Usable.{usable_is}
 use Rattle.cxl_commands.specs.commands.Route.{Holds, IsNowhere, IsSelection}
 use Rattle.cxl_commands.specs.declared.commands.selection.Selection.{Selection}
 
 -- ---- one window
-
-usable-from_test : (verdict : Verdict) → is_usable verdict ≡ true → verdict ≡ Usable
-usable-from_test Usable e = refl
-usable-from_test Align e = absurd (false≢true e)
-usable-from_test Size e = absurd (false≢true e)
-usable-from_test TooHigh e = absurd (false≢true e)
-usable-from_test (Overlap i) e = absurd (false≢true e)
-usable-from_test (Target u) e = absurd (false≢true e)
-usable-from_test (Repeat u) e = absurd (false≢true e)
-usable-from_test Maps e = absurd (false≢true e)
-
-some_if : (b : Bool) (p q : ℕ) → cond b (Some p) None ≡ Some q → (b ≡ true) × (q ≡ p)
-some_if true p q e = (refl, cc)
-some_if false p q e = absurd (cc)
-
-none_if : (b : Bool) (p : ℕ) → cond b (Some p) None ≡ None → b ≡ false
-none_if true p e = cc
-none_if false p e = refl
 
 pub position-from_slot : (w : WindowFields) (h position : ℕ) → position_at w h ≡ Some position → position ≡ position_of w h
 position-from_slot w h position e = (some_if (is_usable w.verdict && holds w h) (position_of w h) position e).1
@@ -40,7 +22,7 @@ holds-from_slot w h position e =
     let tests = and_parts (is_usable w.verdict) (holds w h) (some_if (is_usable w.verdict && holds w h) (position_of w h) position e).0 in
     let ends = and_parts (leb w.base h) (ltb h (w.base + w.size)) tests.1 in
     record {
-      usable = usable-from_test w.verdict tests.0;
+      usable = usable_is w.verdict tests.0;
       from = leb-true w.base h ends.0;
       to = ltb-true h (w.base + w.size) ends.1;
     }

@@ -1,11 +1,12 @@
 use Rattle.std.proofs.Common.{◌+◌, map, sym, subst, ◌∙◌, inl, inr, refl, arith}
 use Rattle.cxl_enc.specs.Faults.{Rose, LeavesCount}
+use Rattle.cxl_enc.proofs.Options.{on_ok_at, on_err_at}
 use Rattle.cxl_io.specs.Sink.{Takes, TakesPrefix}
 use Rattle.cxl_reply.specs.Plans.{found_text}
 use Rattle.cxl_lines.specs.Blocks.{KeepsOrWrites}
 use Rattle.cxl_commands.proofs.InBlocks.{blocks-written, blocks-flushed, blocks-cut}
 use Rattle.cxl_commands.proofs.Regions.{blocks-region, length-region_lines, all_regions}
-use Rattle.cxl_commands.proofs.Results.{on_ok_at, on_err_at, on_err_from}
+use Rattle.cxl_commands.proofs.Results.{on_err_from}
 use Rattle.cxl_commands.proofs.commands.check.write_regions.Goals as goal
 
 pub returns-in_err-put_found-clause-behind : goal.returns-in_err-put_found-clause-behind

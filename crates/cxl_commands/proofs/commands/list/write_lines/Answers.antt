@@ -1,11 +1,12 @@
 use Rattle.std.proofs.Common.{◌+◌, sym, subst, ◌∙◌, inl, inr, refl, arith}
 use Rattle.cxl_enc.specs.Faults.{Rose, LeavesCount}
+use Rattle.cxl_enc.proofs.Options.{on_ok_at, on_err_at}
 use Rattle.cxl_io.specs.Sink.{Takes, TakesPrefix}
 use Rattle.cxl_lines.specs.Blocks.{KeepsOrWrites}
 use Rattle.cxl_commands.specs.commands.Lines.{list_lines}
 use Rattle.cxl_commands.proofs.InBlocks.{blocks-written, blocks-flushed, blocks-cut}
 use Rattle.cxl_commands.proofs.ListLines.{place-next, place_within, length-list_lines, blocks-line, all_lines}
-use Rattle.cxl_commands.proofs.Results.{on_ok_at, on_err_at, on_err_from}
+use Rattle.cxl_commands.proofs.Results.{on_err_from}
 use Rattle.cxl_commands.proofs.commands.list.write_lines.Goals as goal
 
 pub put_line-requires : goal.put_line-requires
