@@ -1,3 +1,5 @@
+//! Tables of the CEDT: what they are read as, their faults, and how they are written.
+
 use crate::common::row_passes;
 use byteorder::{ByteOrder, LittleEndian};
 use cxl_cedt::{Cedt, CedtFault, Cfmws, Chbs, Cxims, Head, Record, read, write};

@@ -1,3 +1,5 @@
+//! Trees of nodes: what they tell of a node, and the first fault of nodes that are no tree.
+
 use crate::common::row_passes;
 use cxl_topo::{Capacity, Name, Node, NodeKind, Parent, Path, Topo, TreeFault};
 use std::alloc::Global;

@@ -1,3 +1,5 @@
+//! Topology files: the tree that each stands for, and the fault of each that stands for none.
+
 use crate::common::{prints, row_passes};
 use cxl_topo::{Name, Topo};
 use cxl_topofile::read_topo;

@@ -1,3 +1,5 @@
+//! Windows of a table: their verdicts, and the positions of addresses among their targets.
+
 use crate::common::row_passes;
 use cxl_cedt::{Cedt, Cfmws, Chbs, Cxims, Head, Record};
 use cxl_enc::code_of;

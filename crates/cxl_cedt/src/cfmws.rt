@@ -1,3 +1,5 @@
+//! The record of a fixed memory window (CFMWS).
+
 ghost use Rattle.std.specs.Prelude.{◌≡◌, ◌≤◌, Some, length};
 ghost use Rattle.cxl_enc.specs.Codes.{ways_of};
 

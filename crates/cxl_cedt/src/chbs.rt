@@ -1,3 +1,5 @@
+//! The record of a host bridge (CHBS).
+
 /// A CXL host bridge structure.
 #[derive(Clone, Copy, PartialEq, Eq)]
 pub struct Chbs {

@@ -1,3 +1,5 @@
+//! Records that are counted by type as they are read, and kept.
+
 ghost use Rattle.std.specs.Prelude.{◌≡◌, ◌≤◌, [], ◌∷◌, ◌++◌, false, OnOk};
 ghost use Rattle.cxl_cedt.specs.Records.{kind_of, is_kind_full, HasFewOfEach};
 

@@ -1,3 +1,5 @@
+//! The record of a granularity's XOR maps (CXIMS).
+
 ghost use Rattle.std.specs.Prelude.{◌≡◌, ◌≤◌, length};
 
 use cxl_enc::FixedList;

@@ -1,3 +1,5 @@
+//! Why bytes are no table.
+
 ghost use Rattle.std.specs.Prelude.{◌≡◌};
 ghost use Rattle.cxl_cedt.specs.declared.fault.CedtFault.TheVariants as faults;
 

@@ -1,3 +1,5 @@
+//! A record of a type that is not judged, kept byte for byte.
+
 ghost use Rattle.std.specs.Prelude.{◌≡◌, ◌<◌, ◌≤◌, length};
 
 use cxl_enc::FixedList;

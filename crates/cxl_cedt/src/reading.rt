@@ -1,3 +1,5 @@
+//! The reader: the table that bytes spell, or their first fault.
+
 ghost use Rattle.std.specs.Prelude.{◌≡◌, ℕ, ◌⊎◌, ◌≤◌, List, length, None, Result, Ok, Err, IfOk, IfErr, OnOk};
 ghost use Rattle.cxl_enc.specs.Limits.{file_limit};
 ghost use Rattle.cxl_cedt.specs.CedtFields.{CedtFields};

@@ -1,3 +1,5 @@
+//! A table that stays the bytes that spell it: what is judged is read, and nothing is copied.
+
 ghost use Rattle.std.specs.Prelude.{◌≡◌, ◌≤◌, length, Ok, Err, IfOk, IfErr};
 ghost use Rattle.cxl_enc.specs.Limits.{file_limit};
 ghost use Rattle.cxl_cedt.specs.CedtFields.{CedtFields};

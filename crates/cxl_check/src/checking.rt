@@ -1,3 +1,5 @@
+//! The check: the regions of an image that is accepted, or its first breach.
+
 ghost use Rattle.std.specs.Prelude.{◌≡◌, length, All, IsErr, OnOk, IfOk, IfErr, IfSome, IfNone};
 ghost use Rattle.cxl_window.specs.Windows.{AreMadeWith};
 ghost use Rattle.cxl_model.specs.Hosts.{as_system};

@@ -1,3 +1,5 @@
+//! The first breach of an image, and why there are no regions to tell.
+
 ghost use Rattle.std.specs.Prelude.{◌≡◌};
 ghost use Rattle.cxl_check.specs.declared.fault.CheckFault.TheVariants as faults;
 

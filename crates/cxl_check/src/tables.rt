@@ -1,3 +1,5 @@
+//! What is looked up for many decoders: children, landings and the first endpoint of each range.
+
 ghost use Rattle.std.specs.Prelude.{IfOk};
 ghost use Rattle.cxl_model.specs.Hosts.{as_system};
 ghost use Rattle.cxl_check.specs.inner.Facts.{AreSystemTables};

@@ -1,3 +1,5 @@
+//! Poison lists: what the bytes of a device are read as, and which are refused.
+
 use cxl_poison::{PoisonFault, PoisonList, Said, read_list};
 use std::alloc::Global;
 use std::process::Abort;

@@ -1,3 +1,5 @@
+//! The weave of a region: base, granularity, ways and maps by which its bytes are dealt.
+
 ghost use Rattle.std.specs.Prelude.{◌≡◌, ℕ, ◌+◌, ◌/◌, ◌<◌, ◌≤◌};
 ghost use Rattle.cxl_enc.specs.Limits.{address_limit};
 ghost use Rattle.cxl_num.specs.Interleave.{chunk_size, ways_by};

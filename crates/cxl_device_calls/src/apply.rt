@@ -1,3 +1,5 @@
+//! Jobs over two endpoints: each register write of a create and a release, and their undoing.
+
 ghost use Rattle.std.specs.Prelude.{◌≡◌, ℕ, ◌<◌, true, false, None, Some, All, slice_get, IfSome, IfOk};
 ghost use Rattle.cxl_regs.specs.Rules.{first_broken_rule};
 ghost use Rattle.cxl_regs.specs.declared.decoder.Decoder.{Decoder};

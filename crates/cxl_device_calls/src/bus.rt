@@ -1,3 +1,5 @@
+//! The simulator's bus, and one that fails at some of its calls.
+
 ghost use Rattle.std.specs.Prelude.{◌≡◌, ◌≤◌, true, IfOk, OnErr};
 ghost use Rattle.cxl_enc.specs.Faults.{HasCause};
 ghost use Rattle.cxl_regs.specs.Blocks.{IsPlace, HasPlacesOf, blocks_after};

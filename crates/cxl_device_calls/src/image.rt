@@ -1,3 +1,5 @@
+//! Files of register images: how they are read and written, and which are refused.
+
 use crate::common::row_passes;
 use cxl_image::{Image, ImageFault, image_laws, one_image_reading, read_image, write_image};
 use cxl_regs::Effect;

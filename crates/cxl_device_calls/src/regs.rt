@@ -1,3 +1,5 @@
+//! Writes to a decoder block: what becomes of each, and the word that is read afterwards.
+
 use cxl_regs::CommitRule::{Codes, NotEnabled, Order, Rise, Select, ZeroSize};
 use cxl_regs::Effect::{Committed, Dropped, NotCommitted, Released, Written};
 use cxl_regs::{

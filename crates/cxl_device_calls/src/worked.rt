@@ -1,3 +1,5 @@
+//! A worked region over two endpoints: its window, its weave, and where its bytes are dealt.
+
 ghost use Rattle.std.specs.Prelude.{◌≡◌, [], ◌∷◌, Some, IfOk};
 ghost use Rattle.cxl_window.specs.Windows.{windows_of};
 ghost use Rattle.cxl_worked.specs.ExampleRegions.{region_of_two};

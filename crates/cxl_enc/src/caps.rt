@@ -1,3 +1,5 @@
+//! The two kinds of memory, and what a capability word states of a decoder block.
+
 ghost use Rattle.std.specs.Prelude.{◌≡◌, ◌*◌, ◌<◌, IsTrue};
 ghost use Rattle.cxl_enc.specs.Caps.{targets_of, has_bit, is_legal_cap, has_named_bits, has_own_bits, are_caps, bit_of, word_of};
 

@@ -1,3 +1,5 @@
+//! The codes of ways and of granularities, as registers and tables hold them.
+
 ghost use Rattle.std.specs.Prelude.{◌≡◌, ℕ, ◌*◌, ◌^◌, ◌<◌, ◌≤◌, Some, is_some, IsTrue, IfSome, if◌then◌else◌};
 ghost use Rattle.cxl_enc.specs.Codes.{ways_of, chunk_size, granularity_of, code_in_table, gran_code_in_table, is_ways, third_of, bits_of, log2_of};
 

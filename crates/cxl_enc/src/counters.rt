@@ -1,3 +1,5 @@
+//! Counters of an object in memory that is to fail at some of its calls.
+
 ghost use Rattle.std.specs.Prelude.{◌≡◌, ◌≤◌};
 ghost use Rattle.cxl_enc.specs.Counters.{next_count, fresh_counters, fails_next};
 

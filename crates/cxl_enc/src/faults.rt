@@ -1,3 +1,5 @@
+//! How a call says that it failed: for want of memory, or because the outside did.
+
 use std::alloc::{AllocError, AllocFailed};
 
 /// There was no memory left. The one answer that no contract ties to a cause.

@@ -1,3 +1,5 @@
+//! A list that stays as long as it was made.
+
 use std::marker::Model;
 
 /// A list that keeps the length with which it was made. Contracts see it as the list of its items, whatever

@@ -1,3 +1,5 @@
+//! The names of nodes and regions.
+
 ghost use Rattle.std.specs.Prelude.{◌≡◌, ◌↔◌, IsTrue, IsSome, IfSome};
 ghost use Rattle.std.specs.List.{list_all};
 ghost use Rattle.cxl_enc.specs.Name.{IsName, is_name, is_name_byte};

@@ -1,3 +1,5 @@
+//! Generated systems: a table, a topology and the commands that are given to it, by number.
+
 ghost use Rattle.std.specs.Prelude.{◌≡◌, ◌≤◌, IfOk};
 ghost use Rattle.cxl_gen.specs.Made.{made_table, made_tree, made_commands};
 

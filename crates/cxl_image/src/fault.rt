@@ -1,3 +1,5 @@
+//! Why bytes are no image of a topology's registers.
+
 ghost use Rattle.std.specs.Prelude.{◌≡◌};
 ghost use Rattle.cxl_image.specs.declared.fault.ImageFault.TheVariants as faults;
 

@@ -1,3 +1,5 @@
+//! The register image of a topology: a decoder block for each of its nodes.
+
 ghost use Rattle.std.specs.Prelude.{◌≡◌, ◌≢◌, ℕ, ◌<◌, List, length, slice_get, Some, IfOk, IsSomeAnd};
 ghost use Rattle.cxl_regs.specs.Registers.{IsBlock};
 ghost use Rattle.cxl_regs.specs.Blocks.{blocks_after};

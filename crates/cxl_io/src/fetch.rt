@@ -1,3 +1,5 @@
+//! The trait by which files are fetched by name.
+
 ghost use Rattle.std.specs.Prelude.{◌≡◌, ◌≢◌, ◌≤◌, ◌⊎◌, Err, [], ◌∷◌, IfOk};
 ghost use Rattle.cxl_enc.specs.Faults.{Rose, LeavesCount};
 ghost use Rattle.cxl_io.specs.Fetch.{FetchState, AsksFor, IsFile, IsTooLarge};

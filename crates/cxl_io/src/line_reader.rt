@@ -1,3 +1,5 @@
+//! The lines of a source, one after the other, read in blocks.
+
 ghost use Rattle.std.specs.Prelude.{◌≡◌, ◌≢◌, ℕ, ◌+◌, ◌<◌, ◌≤◌, ◌↔◌, ◌==◌, Some, List, [], ◌∷◌, ◌++◌, length, take, IsTrue, IfOk, OnErr, position, vec_len, vec_capacity};
 ghost use Rattle.std.specs.Bool.{OnTrue, OnFalse};
 ghost use Rattle.std.specs.Str.Lines.{strip_carriage_return};

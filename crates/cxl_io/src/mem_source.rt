@@ -1,3 +1,5 @@
+//! A source in memory, which can be told to fail.
+
 ghost use Rattle.std.specs.Prelude.{◌≡◌, ◌<◌, ◌≤◌, min, Some, [], length, take, IfOk, OnErr};
 ghost use Rattle.cxl_enc.specs.Counters.{fresh_counters};
 ghost use Rattle.cxl_enc.specs.Faults.{HasCause};

@@ -1,3 +1,5 @@
+//! Numbers in decimal and hexadecimal digits.
+
 ghost use Rattle.std.specs.Prelude.{◌≡◌, ◌+◌, ◌<◌, ◌≤◌, false, ◌++◌, length, take, drop, codes, decimal, Ok, OnOk, OnErr};
 ghost use Rattle.std.specs.Fmt.{digit_glyph};
 ghost use Rattle.cxl_io.specs.Printed.{hex_of, padded_hex};

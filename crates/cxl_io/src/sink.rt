@@ -1,3 +1,5 @@
+//! The trait by which bytes are written, and how all of a text are.
+
 ghost use Rattle.std.specs.Prelude.{◌≡◌, ◌<◌, ◌≤◌, List, ℕ, [], ◌++◌, length, take, IfOk, OnOk, OnErr};
 ghost use Rattle.cxl_enc.specs.Faults.{HasCause, LeavesCount};
 ghost use Rattle.cxl_io.specs.Sink.{SinkState, Takes, TakesPrefix};

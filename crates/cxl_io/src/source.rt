@@ -1,3 +1,5 @@
+//! The trait by which bytes are read.
+
 ghost use Rattle.std.specs.Prelude.{◌≡◌, ◌<◌, ◌≤◌, Some, [], length, take, IfOk, OnOk, OnErr};
 ghost use Rattle.cxl_enc.specs.Faults.{HasCause, LeavesCount};
 ghost use Rattle.cxl_io.specs.Source.{SourceState, GivesFront, IsAtEnd};

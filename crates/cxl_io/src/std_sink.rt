@@ -1,3 +1,5 @@
+//! Standard output, or another writer of std's, as a sink.
+
 ghost use Rattle.std.specs.Prelude.{◌≡◌, ◌<◌, ◌≤◌, true, length, take, IfOk, OnOk, OnErr};
 ghost use Rattle.std.specs.Io.KnownBytes.{WriteAppends};
 ghost use Rattle.cxl_enc.specs.Counters.{next_count};

@@ -1,3 +1,5 @@
+//! Standard input, or another reader of std's, as a source.
+
 ghost use Rattle.std.specs.Prelude.{◌≡◌, ◌<◌, ◌≤◌, true, Some, [], length, take, IfOk, OnOk, OnErr};
 ghost use Rattle.std.specs.Io.KnownBytes.{ReadConsumes};
 ghost use Rattle.cxl_enc.specs.Counters.{next_count};

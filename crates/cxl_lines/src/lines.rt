@@ -1,3 +1,5 @@
+//! Lines on their way to a sink, kept in a block until it is full.
+
 ghost use Rattle.std.specs.Prelude.{◌≡◌, ◌≤◌, [], OnOk, OnErr};
 ghost use Rattle.cxl_enc.specs.Faults.{HasCause, LeavesCount};
 ghost use Rattle.cxl_io.specs.Sink.{Takes, TakesPrefix};

@@ -1,3 +1,5 @@
+//! The bytes of a block, read and written from a place on.
+
 ghost use Rattle.std.specs.Prelude.{◌≡◌, ◌+◌, ◌%◌, ◌≤◌, length};
 ghost use Rattle.cxl_pool.specs.Pool.{zeros};
 ghost use Rattle.cxl_media.specs.Blocks.{bytes_from, overwritten, is_between};

@@ -1,3 +1,5 @@
+//! A cell of the index: a block and the frame that holds its bytes.
+
 ghost use Rattle.std.specs.Prelude.{◌≡◌, ◌↔◌, IsTrue};
 ghost use Rattle.cxl_media.specs.Table.{key_at};
 

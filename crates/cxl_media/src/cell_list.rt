@@ -1,3 +1,5 @@
+//! The cells of the index, each a number until a block stands there.
+
 ghost use Rattle.std.specs.Prelude.{◌≡◌, ◌≢◌, ℕ, ◌*◌, ◌<◌, ◌≤◌, [], None, Some, IfOk, length, replicate, slice_set, swap};
 ghost use Rattle.std.specs.Option.{option_copied};
 ghost use Rattle.std.specs.Vec.{vec_capacity};

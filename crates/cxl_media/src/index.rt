@@ -1,3 +1,5 @@
+//! Where the frame of each block is: an open-addressed table.
+
 ghost use Rattle.std.specs.Prelude.{◌≡◌, ◌≢◌, ℕ, ◌+◌, ◌*◌, ◌%◌, ◌<◌, ◌≤◌, Bool, [], None, IfOk, IsSome, Some, IfSome, IfNone, is_some, length, take, if◌then◌else◌};
 ghost use Rattle.std.specs.Option.{option_copied};
 ghost use Rattle.std.specs.FinMap as map;

@@ -1,3 +1,5 @@
+//! Media as a plain list of blocks, to compare the shipped one with.
+
 ghost use Rattle.std.specs.Prelude.{◌≡◌, ◌+◌, ◌%◌, ◌≤◌, ◌↔◌, IsTrue, None, IfSome, IfNone, length, filter, not, vec_capacity};
 ghost use Rattle.std.specs.FinMap.{find};
 ghost use Rattle.cxl_media.specs.Blocks.{key_cmp, overwritten, is_between};

@@ -1,3 +1,5 @@
+//! The trait of media: the memory of all endpoints, in blocks of 256 bytes.
+
 ghost use Rattle.std.specs.Prelude.{◌≡◌, ◌+◌, ◌%◌, ◌≤◌, ◌↔◌, IsErr, OnOk, OnErr, length};
 ghost use Rattle.std.specs.FinMap as map;
 ghost use Rattle.cxl_enc.specs.Limits.{frame_limit};

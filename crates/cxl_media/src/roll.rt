@@ -1,3 +1,5 @@
+//! The trait of media whose blocks can be gone through.
+
 ghost use Rattle.std.specs.Prelude.{◌≡◌, ◌<◌, List, Option, option_map, length};
 ghost use Rattle.cxl_media.specs.Blocks.{Key};
 ghost use Rattle.cxl_media.specs.Roll.{told_key, key_at_place, IsRoll};

@@ -1,3 +1,5 @@
+//! The ways and the address bits of a range's decoders above a node, together.
+
 /// The decoders of one range, or of one plan, in the ports on the way from a node up to its bridge, together.
 #[derive(Clone, Copy)]
 pub struct Above {

@@ -1,3 +1,5 @@
+//! The steps of an address on its way down, and where such a way can end.
+
 /// One step of an address on its way down: the entry of its target list to which a port's decoder sends
 /// it.
 #[derive(Clone, Copy, Debug, PartialEq, Eq)]

@@ -1,3 +1,5 @@
+//! An extent: host bytes in a row that lie on device bytes in a row.
+
 /// Host bytes that follow each other and lie on device bytes that do.
 #[derive(Clone, Copy, PartialEq, Eq)]
 pub struct Extent {

@@ -1,3 +1,5 @@
+//! A region of an image, and the place of each of its slots on a device.
+
 ghost use Rattle.std.specs.Prelude.{◌≡◌};
 ghost use Rattle.cxl_model.specs.System.{System};
 ghost use Rattle.cxl_model.specs.Hosts.{IsHost};

@@ -1,3 +1,5 @@
+//! Image, topology and windows of a host, as they are read together.
+
 use cxl_image::Image;
 use cxl_topo::Topo;
 use cxl_window::Window;

@@ -1,3 +1,5 @@
+//! The plan of a region, and why there is none.
+
 use crate::found::Found;
 use cxl_enc::{FixedList, Name};
 use cxl_regs::Decoder;

@@ -1,3 +1,5 @@
+//! A poison list, its records, and the pieces of regions that they touch.
+
 use cxl_enc::FixedList;
 
 /// A poison list. (CXL Get Poison List output.)

@@ -1,3 +1,5 @@
+//! What is asked of a plan.
+
 use cxl_enc::{FixedList, MemKind, Name};
 
 /// What is asked of a plan: a new region over these endpoints.

@@ -1,3 +1,5 @@
+//! A copy of a region's bytes to another region.
+
 ghost use Rattle.std.specs.Prelude.{◌≡◌, ◌≤◌, ℕ, ◌+◌, List, length};
 ghost use Rattle.cxl_media.specs.MediaState.{frame_count};
 ghost use Rattle.cxl_move.specs.Sides.{AreHeld, AreSides, IsCopied};

@@ -1,3 +1,5 @@
+//! Which pieces of a region media has.
+
 ghost use Rattle.std.specs.Prelude.{ℕ, ◌<◌, IfOk, IfSome, IfNone, length};
 ghost use Rattle.cxl_media.specs.Roll.{key_at_place};
 ghost use Rattle.cxl_model.specs.System.{System, IsSystem};

@@ -1,3 +1,5 @@
+//! A move of a region's bytes to another region, which leaves the first one zero.
+
 ghost use Rattle.std.specs.Prelude.{◌≡◌, ℕ, ◌+◌, List, length};
 ghost use Rattle.cxl_media.specs.MediaState.{frame_count};
 ghost use Rattle.cxl_move.specs.Sides.{AreHeld, AreSides, IsMoved};

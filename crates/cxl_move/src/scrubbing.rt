@@ -1,3 +1,5 @@
+//! The end of a region's bytes: its blocks leave media.
+
 ghost use Rattle.std.specs.Prelude.{◌≡◌};
 ghost use Rattle.cxl_media.specs.MediaState.{frame_count};
 ghost use Rattle.cxl_model.specs.System.{System, IsSystem};

@@ -1,3 +1,5 @@
+//! A region that bytes are carried from or to, with its window.
+
 use cxl_model::Found;
 use cxl_window::Window;
 

@@ -1,3 +1,5 @@
+//! The parity and the low bits of a word.
+
 ghost use Rattle.std.specs.Prelude.{◌≡◌, ◌%◌, ◌^◌, ◌<◌, ◌↔◌, IsTrue, count_ones};
 
 /// Whether the number of set bits is odd, as an XOR map asks of the address bits that it takes. (ACPI

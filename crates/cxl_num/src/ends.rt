@@ -1,3 +1,5 @@
+//! The end of a range of addresses.
+
 ghost use Rattle.std.specs.Prelude.{◌+◌, ◌^◌, ◌<◌, SomeIff};
 
 /// The end of the range of `size` bytes at the address `base`: the first address behind it. `None` where

@@ -1,3 +1,5 @@
+//! XOR maps: which can be used, and what an address comes to under them.
+
 ghost use Rattle.std.specs.Prelude.{◌≡◌, ◌<◌, ◌≤◌, ◌^◌, length};
 ghost use Rattle.cxl_num.specs.Maps.{is_usable_map, are_usable_maps, parity_under, parities, with_raw_bits};
 

@@ -1,3 +1,5 @@
+//! Numbers by their remainders modulo a power of two and modulo three.
+
 ghost use Rattle.std.specs.Prelude.{◌≡◌, ℕ, ◌*◌, ◌%◌, ◌^◌, ◌<◌, ◌≤◌};
 
 /// The one number below `3 * 2^k` with the remainders `bits` modulo `2^k` and `third` modulo 3, as a

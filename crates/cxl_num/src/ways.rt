@@ -1,3 +1,5 @@
+//! Ways by their factors, three and a power of two.
+
 ghost use Rattle.std.specs.Prelude.{◌≡◌, ◌≤◌};
 ghost use Rattle.cxl_num.specs.Interleave.{factor_of, ways_by};
 

@@ -1,3 +1,5 @@
+//! Why no endpoints are picked.
+
 use thiserror::Error;
 
 /// Why no endpoints are picked, in the order in which it is tried.

@@ -1,3 +1,5 @@
+//! The pick: endpoints for a region, window by window and bridge by bridge.
+
 ghost use Rattle.std.specs.Prelude.{◌≡◌, ◌≢◌, ◌≤◌, ◌<◌, ◌==◌, true, false, length, map, option_map, option_and_then, IfOk, IfErr, IfSome, OnOk, MatchOption, All, Ok, Err};
 ghost use Rattle.std.specs.List.{list_any};
 ghost use Rattle.cxl_enc.specs.Codes.{is_ways};

@@ -1,3 +1,5 @@
+//! What is wanted of a pick.
+
 use cxl_enc::MemKind;
 
 /// What is wanted of a pick: a region of so many ways, whatever its endpoints.

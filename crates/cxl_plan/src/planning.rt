@@ -1,3 +1,5 @@
+//! The planner: a legal plan in the first window that takes one, or why there is none.
+
 ghost use Rattle.std.specs.Prelude.{◌≡◌, ◌≢◌, ◌<◌, IfOk, IfErr, IfSome, IfNone, OnOk, Err, Some};
 ghost use Rattle.cxl_topo.specs.Tree.{bridge_uids};
 ghost use Rattle.cxl_window.specs.Windows.{AreMadeWith};

@@ -1,3 +1,5 @@
+//! Why bytes are no poison list.
+
 ghost use Rattle.std.specs.Prelude.{◌≡◌};
 ghost use Rattle.cxl_poison.specs.declared.fault.PoisonFault.TheVariants as faults;
 

@@ -1,3 +1,5 @@
+//! An HDM decoder block, as the words that are read and written of it.
+
 ghost use Rattle.std.specs.Prelude.{◌≡◌, ◌<◌, ◌≤◌, ◌+◌, ◌-◌, ◌*◌, ◌/◌, ◌%◌, ◌↔◌, true, IsTrue, IsSome, Some, length, IfOk, IfSome, slice_get};
 ghost use Rattle.cxl_enc.specs.Caps.{is_legal_cap};
 ghost use Rattle.cxl_regs.specs.Registers.{Registers, IsBlock, IsDecoder, IsSameShape, reset_block};

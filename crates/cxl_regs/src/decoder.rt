@@ -1,3 +1,5 @@
+//! The registers of one HDM decoder.
+
 /// One HDM decoder's registers.
 #[derive(Clone, Copy, PartialEq, Eq)]
 pub struct Decoder {

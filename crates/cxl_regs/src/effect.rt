@@ -1,3 +1,5 @@
+//! What becomes of a write to a register word.
+
 /// What became of a write to a register word.
 #[derive(Clone, Copy, PartialEq, Eq)]
 pub enum Effect {

@@ -1,3 +1,5 @@
+//! What a capability word lets a block's decoders commit.
+
 ghost use Rattle.std.specs.Prelude.{◌≡◌, ◌*◌, ◌%◌};
 ghost use Rattle.cxl_enc.specs.Caps.{decoders_code, decoders_of};
 ghost use Rattle.cxl_regs.specs.Rules.{port_ways_ok, endpoint_ways_ok, codes_ok, selects, select_ok, breaks_order, breaks_rise};

@@ -1,3 +1,5 @@
+//! The eight words of a decoder, both ways.
+
 ghost use Rattle.std.specs.Prelude.{◌≡◌, ◌<◌, ◌≤◌, ◌+◌, ◌*◌, ◌/◌, ◌%◌, ◌^◌, Bool, if◌then◌else◌};
 ghost use Rattle.cxl_enc.specs.Caps.{bit_of};
 ghost use Rattle.cxl_enc.specs.Limits.{unit};

@@ -1,3 +1,5 @@
+//! A decoder with one of its words written.
+
 ghost use Rattle.std.specs.Prelude.{◌≡◌, Bool};
 ghost use Rattle.cxl_regs.specs.Registers.{IsDecoder};
 ghost use Rattle.cxl_regs.specs.Writes.{with_low, with_high, with_word, with_control};

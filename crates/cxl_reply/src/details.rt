@@ -1,3 +1,5 @@
+//! What replies tell, a struct for each reply that tells more than one thing.
+
 use cxl_enc::{FixedList, Name};
 use cxl_model::{Extent, Found, PoisonList, Poisoned};
 

@@ -1,3 +1,5 @@
+//! The law that what is found of an accepted image has a text.
+
 ghost use Rattle.std.specs.Prelude.{◌≡◌, ℕ, ◌<◌, true, length};
 ghost use Rattle.cxl_model.specs.declared.found.Found.{Found};
 ghost use Rattle.cxl_model.specs.System.{System, IsSystem};

@@ -1,3 +1,5 @@
+//! The replies, a variant for each.
+
 use crate::details::{
     Begun, Carried, Counted, Downed, Extents, Lack, Named, Pending, Progress, Report, Shown, Sizes,
     Spot, Spread, Upped,

@@ -1,3 +1,5 @@
+//! Worked rows of `check`: images, topology files with a fault, and images of real machines.
+
 use crate::host_files::{
     AFTER_RESET, FIRST_REGION, FORWARDED, FORWARDED_DECODING, IN_THIRDS, THREE_ENDPOINTS,
     TWO_ENDPOINTS, TWO_ENDPOINTS_FORWARDED,

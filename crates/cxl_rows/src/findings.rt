@@ -1,4 +1,4 @@
-// What `check` has to print for the images of real machines.
+//! What `check` has to print for the images of real machines.
 
 pub(crate) const X2_BRIDGES_REGIONS: &str = "\
 region 0x110000000 size 0x20000000 window 0 gran 1024 ways 2 pmem

@@ -1,3 +1,5 @@
+//! Stores of a guest on real hosts: each leads to the device byte in which it was found.
+
 ghost use Rattle.cxl_image.specs.Images.{HasCapsOf};
 ghost use Rattle.cxl_model.specs.System.{bridge_uids};
 ghost use Rattle.cxl_window.specs.Windows.{AreMadeWith};

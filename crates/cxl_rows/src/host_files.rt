@@ -1,3 +1,5 @@
+//! The topologies of the worked hosts.
+
 /// Two bridges with an endpoint of 2 GiB of volatile memory each.
 pub(crate) const TWO_ENDPOINTS: &str = r#"
 [[bridge]]

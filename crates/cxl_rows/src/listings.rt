@@ -1,5 +1,5 @@
-// What `list` prints for the tables that other programs made. The fields were compared with what iasl
-// of ACPICA 20250404 takes them apart to.
+//! What `list` prints for the tables that other programs made. The fields were compared with what iasl
+//! of ACPICA 20250404 takes them apart to.
 
 pub(crate) const QEMU_TWO: &str = "\
 chbs 52 version 1 base 0x100000000 length 0x10000

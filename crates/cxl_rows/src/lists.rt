@@ -1,3 +1,5 @@
+//! Worked rows of `list` and `normal`: the verdicts of tables, and their normal forms.
+
 use crate::rows::{Row, answers, are_answered, bytes, changed, has_passed};
 use crate::tables::{TWO_BRIDGES, TWO_BRIDGES_XOR};
 use crate::{listings, real_tables};

@@ -1,3 +1,5 @@
+//! Worked rows of what lies outside: words, help, files that are not read, and sinks that fail.
+
 use crate::routes::repeated;
 use crate::rows::{
     ROOM, Row, are_answered, bytes, code_of_run, ends, files_of, has_passed, sink_of, table_file,

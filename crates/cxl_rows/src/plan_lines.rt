@@ -1,3 +1,5 @@
+//! Worked rows of `plan`: plans and refusals of a line.
+
 use crate::host_files::{
     FOUR_ENDPOINTS, NO_RAM_IN_THE_FIRST, TWO_ENDPOINTS, TWO_ENDPOINTS_FORWARDED,
 };

@@ -1,4 +1,4 @@
-// The tables and topologies of machines whose register images Linux 6.12 programmed under QEMU 10.
+//! The tables and topologies of machines whose register images Linux 6.12 programmed under QEMU 10.
 
 /// The table of two ways over two bridges.
 pub(crate) const X2_BRIDGES_TABLE: &str = "\

@@ -1,4 +1,4 @@
-// Register images that Linux 6.12 programmed under QEMU 10, in hexadecimal digits, and what they come to.
+//! Register images that Linux 6.12 programmed under QEMU 10, in hexadecimal digits, and what they come to.
 
 /// Two ways over two bridges.
 pub(crate) const X2_BRIDGES: &str = "\

@@ -1,4 +1,4 @@
-// The bytes of CEDT tables that other programs made, in hexadecimal digits.
+//! The bytes of CEDT tables that other programs made, in hexadecimal digits.
 
 /// By QEMU 10 (`-M q35,cxl=on`), as SeaBIOS placed it: two bridges, a two-way and two one-way windows.
 pub(crate) const QEMU_TWO: &str = "\

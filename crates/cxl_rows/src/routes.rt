@@ -1,3 +1,5 @@
+//! Worked rows of `route`: addresses in tables alone, and faults of tables.
+
 use crate::real_tables::{IASL_XOR, QEMU_EIGHT};
 use crate::rows::{Row, answers, are_answered, bytes};
 use crate::tables::{CXL_1_1_BRIDGE, HEADER_OF_MANY, TWO_BRIDGES, TWO_BRIDGES_XOR};

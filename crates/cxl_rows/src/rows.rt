@@ -1,3 +1,5 @@
+//! A worked row: its files, its words, and what the run comes to.
+
 use cxl_bus::SimBus;
 use cxl_io::{MemFetch, MemSink, MemSource, read_number};
 use cxl_media::SimMedia;

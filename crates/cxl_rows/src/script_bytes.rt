@@ -1,4 +1,4 @@
-// Bytes that scripts load and store, move and copy, and where they lie.
+//! Bytes that scripts load and store, move and copy, and where they lie.
 
 use crate::host_files::{FOUR_ENDPOINTS, ONE_FRAME, TWO_ENDPOINTS, TWO_FRAMES};
 use crate::scripts::{Script, come_to};

@@ -1,5 +1,5 @@
-// How scripts end where the outside fails, of which no clause speaks: how far a script is read ahead, and that a reply is
-// one write. And a region that is made and ended a thousand times.
+//! How scripts end where the outside fails, of which no clause speaks: how far a script is read ahead, and that a reply is
+//! one write. And a region that is made and ended a thousand times.
 
 use crate::host_files::{ONE_FRAME, TWO_ENDPOINTS};
 use crate::rows::{ROOM, bytes, files_of, has_passed, sink_of, words_of};

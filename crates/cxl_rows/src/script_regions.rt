@@ -1,4 +1,4 @@
-// Regions that scripts make and end, and why they cannot.
+//! Regions that scripts make and end, and why they cannot.
 
 use crate::host_files::{
     BOTH_KINDS, FOUR_ENDPOINTS, NO_RAM_IN_THE_FIRST, TWO_ENDPOINTS, TWO_OF_4_GIB,

@@ -1,4 +1,4 @@
-// What scripts find between two register writes, and over registers that fail.
+//! What scripts find between two register writes, and over registers that fail.
 
 use crate::host_files::{TWO_ENDPOINTS, TWO_ENDPOINTS_FORWARDED};
 use crate::scripts::{Script, come_to};

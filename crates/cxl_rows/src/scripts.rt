@@ -1,5 +1,5 @@
-// What scripts come to: hosts as a table, a topology and, where one is named, an image; the lines of a script; the exit
-// status, and all that is written. Each over a bus that fails at stated calls, and over both kinds of device memory.
+//! What scripts come to: hosts as a table, a topology and, where one is named, an image; the lines of a script; the exit
+//! status, and all that is written. Each over a bus that fails at stated calls, and over both kinds of device memory.
 
 use crate::acts::comes_to_by_commands;
 use crate::host_files::{

@@ -1,4 +1,4 @@
-// Where stores of a guest were found: the host address, and the device byte in QEMU's memory of the device.
+//! Where stores of a guest were found: the host address, and the device byte in QEMU's memory of the device.
 
 pub(crate) const X2_BRIDGES_STORES: &str = "\
 0x110000800 d1 0x400

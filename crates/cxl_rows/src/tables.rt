@@ -1,4 +1,4 @@
-// The bytes of CEDT tables that were made for the rows, in hexadecimal digits.
+//! The bytes of CEDT tables that were made for the rows, in hexadecimal digits.
 
 /// Bridges 0 and 1, and a window of 4 GiB at 4 GiB over both, two ways at 256 bytes.
 pub(crate) const TWO_BRIDGES: &str = "\

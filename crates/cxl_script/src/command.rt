@@ -1,3 +1,5 @@
+//! The commands of a script, a variant for each.
+
 use cxl_enc::{FixedList, MemKind, Name};
 
 /// What a line of a script asks for.

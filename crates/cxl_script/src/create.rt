@@ -1,3 +1,5 @@
+//! The words of a create line.
+
 ghost use Rattle.std.specs.Prelude.{◌≡◌};
 ghost use Rattle.cxl_io.specs.Numbers.{number_of};
 ghost use Rattle.cxl_script.specs.Reading.{IsUnlessMemory, GivesWithRest, ranged};

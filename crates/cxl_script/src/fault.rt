@@ -1,3 +1,5 @@
+//! Why a line of a script asks for nothing.
+
 use std::alloc::{AllocError, AllocFailed};
 
 /// Why a line asks for nothing.

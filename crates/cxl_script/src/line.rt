@@ -1,3 +1,5 @@
+//! What a line of a script asks for.
+
 ghost use Rattle.std.specs.Prelude.{◌≡◌};
 ghost use Rattle.cxl_script.specs.Reading.{IsUnlessMemory};
 ghost use Rattle.cxl_script.specs.Grammar.{asked_in, command_in, asked_of, begin_in, only_name_in, only_address_in, up_in, load_in, store_in, poison_in, step_in, reach_in, pair_in};

@@ -1,3 +1,5 @@
+//! How the words of a line are read: names, kinds, numbers and bytes.
+
 ghost use Rattle.std.specs.Prelude.{◌≡◌, ◌≤◌, Ok, Err, IfOk, MatchResult};
 ghost use Rattle.cxl_enc.specs.Codes.{gran_code_in_table};
 ghost use Rattle.cxl_io.specs.Numbers.{number_of};

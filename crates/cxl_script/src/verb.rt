@@ -1,3 +1,5 @@
+//! The verbs of a script.
+
 ghost use Rattle.std.specs.Prelude.{◌≡◌, ◌≢◌, length};
 ghost use Rattle.cxl_script.specs.Verbs.{verb_of};
 

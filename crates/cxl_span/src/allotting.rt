@@ -1,3 +1,5 @@
+//! The span of a new decoder on an endpoint's device, or why it gets none.
+
 ghost use Rattle.std.specs.Prelude.{◌≡◌, ◌+◌, ◌%◌, ◌^◌, ◌<◌, ◌≤◌, ◌⊎◌, ℕ, ◌↔◌, true, Result, IfOk, OnErr};
 ghost use Rattle.cxl_enc.specs.Limits.{unit, address_limit};
 ghost use Rattle.cxl_regs.specs.Registers.{IsBlock};

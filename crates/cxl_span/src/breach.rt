@@ -1,3 +1,5 @@
+//! The first of the rules K2 to K8 that a block breaks.
+
 ghost use Rattle.std.specs.Prelude.{ℕ, ◌+◌, ◌↔◌, IsNone, IfSome};
 ghost use Rattle.cxl_regs.specs.Registers.{Registers};
 ghost use Rattle.cxl_span.specs.Breaches.{BlockKeeps, IsFirstBlockBreach};

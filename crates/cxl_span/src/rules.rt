@@ -1,3 +1,5 @@
+//! The rules K2 to K8 at one decoder.
+
 ghost use Rattle.std.specs.Prelude.{◌≡◌, ◌^◌, ◌<◌};
 ghost use Rattle.cxl_span.specs.Partitions.{lies_in};
 ghost use Rattle.cxl_span.specs.Rules.{breaks_commit_order, breaks_flags, breaks_codes, breaks_select, breaks_size, breaks_base_order, breaks_capacity};

@@ -1,3 +1,5 @@
+//! Where the spans of an endpoint's decoders stand, and the device byte of a host address.
+
 ghost use Rattle.std.specs.Prelude.{◌≡◌, ◌+◌, ◌*◌, ◌/◌, ◌^◌, ◌<◌, ◌≤◌, if◌then◌else◌, length, take, sum_by};
 ghost use Rattle.cxl_span.specs.Spans.{span_step, span_start_of, endpoint_place_of};
 

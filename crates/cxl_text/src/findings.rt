@@ -1,3 +1,5 @@
+//! The texts of an image's regions, and of its first breach.
+
 ghost use Rattle.std.specs.Prelude.{◌≡◌, ◌+◌, ◌<◌, ◌≤◌, ◌++◌, length, OnOk, OnErr};
 ghost use Rattle.cxl_reply.specs.Plans.{found_range_text, found_ways_text, found_head_text, found_text, breach_text};
 ghost use Rattle.cxl_reply.specs.Conditions.{IsToldFound};

@@ -1,3 +1,5 @@
+//! The texts of places: where addresses go, extents, spreads and bytes.
+
 ghost use Rattle.std.specs.Prelude.{◌≡◌, ◌+◌, ◌<◌, ◌≤◌, ◌++◌, All, length, map, OnOk};
 ghost use Rattle.cxl_reply.specs.Words.{more_spaced};
 ghost use Rattle.cxl_reply.specs.Texts.{via_text, vias_text, down_head_text, down_end_text, down_text, up_text, loaded_text, extent_bytes_text, extent_text, extents_text, share_text, shares_text, spread_text};

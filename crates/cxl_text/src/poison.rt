@@ -1,3 +1,5 @@
+//! The text of a poison list, with what each record touches.
+
 ghost use Rattle.std.specs.Prelude.{◌≡◌, ◌+◌, ◌<◌, ◌≤◌, ◌++◌, All, codes, length, OnOk};
 ghost use Rattle.std.specs.List.{flat_map, zip};
 ghost use Rattle.cxl_model.specs.declared.poison.Part.TheVariants as parts;

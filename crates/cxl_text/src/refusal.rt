@@ -1,3 +1,5 @@
+//! The texts of refusals.
+
 ghost use Rattle.std.specs.Prelude.{◌≡◌, ◌+◌, ◌<◌, ◌≤◌, ◌++◌, All, codes, decimal, length, OnOk, OnErr};
 ghost use Rattle.cxl_reply.specs.Words.{line, hex_text, node_text};
 ghost use Rattle.std.specs.List.{flat_map, enumerate_from};

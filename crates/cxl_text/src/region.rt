@@ -1,3 +1,5 @@
+//! The text of a region with its registers and its slots.
+
 ghost use Rattle.std.specs.Prelude.{◌≡◌, ◌<◌, ◌≤◌, ◌++◌, All, codes, decimal, length, map, OnOk};
 ghost use Rattle.std.specs.List.{flat_map, enumerate_from};
 ghost use Rattle.cxl_reply.specs.Words.{line, kind_text, node_text, more_spaced};

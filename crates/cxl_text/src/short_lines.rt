@@ -1,3 +1,5 @@
+//! The texts of replies to what changed something, which take no memory.
+
 ghost use Rattle.std.specs.Prelude.{◌≡◌, ◌≤◌, ◌++◌, ◌∷◌, List, length, codes, is_some, IfSome};
 ghost use Rattle.cxl_reply.specs.Words.{line};
 ghost use Rattle.cxl_topo.specs.declared.node.Node.{Node};

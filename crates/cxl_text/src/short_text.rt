@@ -1,3 +1,5 @@
+//! A text of few bytes, put together without memory.
+
 ghost use Rattle.std.specs.Prelude.{◌≡◌, ◌+◌, ◌<◌, ◌≤◌, [], ◌∷◌, ◌++◌, length, decimal, Some};
 ghost use Rattle.cxl_enc.specs.Codes.{granularity_of};
 ghost use Rattle.cxl_reply.specs.Words.{hex_text, gran_text, node_text};

@@ -1,3 +1,5 @@
+//! The text of each reply.
+
 ghost use Rattle.std.specs.Prelude.{◌≡◌, ◌++◌, [], false, OnOk, OnErr};
 ghost use Rattle.cxl_reply.specs.Conditions.{IsTold, HasKnownCode};
 ghost use Rattle.cxl_reply.specs.Replies.{reply_text, has_short_text};

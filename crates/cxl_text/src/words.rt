@@ -1,3 +1,5 @@
+//! The words of texts that several replies share: addresses and granularities.
+
 ghost use Rattle.std.specs.Prelude.{◌≡◌, ◌≤◌, ◌++◌, length, OnOk, OnErr};
 ghost use Rattle.cxl_reply.specs.Words.{hex_text, gran_text, kind_text};
 

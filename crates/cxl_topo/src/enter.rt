@@ -1,3 +1,5 @@
+//! How a node is entered into the tables of a tree.
+
 ghost use Rattle.std.specs.Prelude.{◌≡◌, ◌<◌, ◌+◌, OnOk, length, take};
 ghost use Rattle.cxl_topo.specs.Tree.{bridge_uids};
 ghost use Rattle.cxl_topo.specs.Keys.{Enters};

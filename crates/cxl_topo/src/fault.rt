@@ -1,3 +1,5 @@
+//! Why nodes are no legal tree.
+
 ghost use Rattle.std.specs.Prelude.{◌≡◌};
 ghost use Rattle.cxl_topo.specs.declared.fault.TreeFault.TheVariants.{Memory};
 

@@ -1,3 +1,5 @@
+//! The judge of a tree: the first fault of the least node.
+
 ghost use Rattle.std.specs.Prelude.{◌≡◌, ◌+◌, ◌*◌, ◌<◌, ◌≤◌, ℕ, List, slice_get, length, take, IfNone, IfSome, IfOk, IfErr, OnOk, ◌≢◌, false};
 ghost use Rattle.cxl_enc.specs.Limits.{node_limit};
 ghost use Rattle.cxl_topo.specs.declared.node.Node.{Node};

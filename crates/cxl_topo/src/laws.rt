@@ -1,3 +1,5 @@
+//! Laws of legal trees, the contract of a function that does nothing.
+
 ghost use Rattle.std.specs.Prelude.{◌≡◌, ◌↔◌, List, false};
 ghost use Rattle.cxl_topo.specs.declared.node.Node.{Node};
 ghost use Rattle.cxl_topo.specs.declared.fault.TreeFault.{TreeFault};

@@ -1,3 +1,5 @@
+//! A node of the tree: a bridge, a switch or an endpoint.
+
 use cxl_enc::Name;
 
 /// A node of the tree: a host bridge, a switch or an endpoint.

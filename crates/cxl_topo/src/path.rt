@@ -1,3 +1,5 @@
+//! The way from a bridge down to a node.
+
 ghost use Rattle.std.specs.Prelude.{◌≤◌};
 
 /// The way from a bridge down to a node: the first `len` of `nodes`, the others being zero. It has at

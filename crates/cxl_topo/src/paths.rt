@@ -1,3 +1,5 @@
+//! Ways in a tree: down to a node, to the decoding parent above it, and to its landing.
+
 ghost use Rattle.std.specs.Prelude.{◌≡◌, ◌+◌, ◌-◌, ◌*◌, ◌<◌, ◌≤◌, length, take, drop, replicate, false, IfSome};
 ghost use Rattle.cxl_enc.specs.Limits.{node_limit};
 ghost use Rattle.cxl_topo.specs.Tree.{path_of, decoding_port_of, landing_of, forwards_at};

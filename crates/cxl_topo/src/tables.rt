@@ -1,3 +1,5 @@
+//! Where the nodes of a tree are found by name, by UID and by parent.
+
 ghost use Rattle.std.specs.Prelude.{◌≡◌, ◌+◌, ◌<◌, length, take, nat_eq, OnOk};
 ghost use Rattle.std.specs.Cmp.{partial_order_from_own_ties};
 ghost use Rattle.std.specs.Cmp.Rules.{comparing};

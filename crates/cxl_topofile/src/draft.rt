@@ -1,3 +1,5 @@
+//! The node that each table of a file states.
+
 ghost use Rattle.std.specs.Prelude.{◌≡◌, not, string_bytes};
 ghost use Rattle.std.specs.List.{list_any};
 ghost use Rattle.std.specs.BTreeMap.{keys};

@@ -1,3 +1,5 @@
+//! Why a file stands for no topology, with the place of the fault.
+
 ghost use Rattle.std.specs.Prelude.{◌≡◌};
 ghost use Rattle.cxl_topofile.specs.declared.fault.TopoFault.TheVariants.{Memory};
 

@@ -1,3 +1,5 @@
+//! The two kinds of nodes below others: switches and endpoints.
+
 ghost use Rattle.std.specs.Prelude.{◌≡◌};
 ghost use Rattle.toml.specs.View.{table_view};
 ghost use Rattle.cxl_topofile.specs.Groups.{section_of, draft_of};

@@ -1,3 +1,5 @@
+//! The keys of a topology file.
+
 ghost use Rattle.std.specs.Prelude.{◌≡◌};
 ghost use Rattle.cxl_topofile.specs.Keys.{key_text, shown_key, is_key};
 

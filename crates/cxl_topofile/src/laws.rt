@@ -1,3 +1,5 @@
+//! A law of topology files, the contract of a function that does nothing.
+
 ghost use Rattle.std.specs.Prelude.{◌≡◌, ◌≢◌, ℕ, List};
 ghost use Rattle.cxl_topo.specs.Tree.{Tree};
 ghost use Rattle.cxl_topofile.specs.File.{IsTopologyFile, IsFirstTopoFault};

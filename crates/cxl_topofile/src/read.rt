@@ -1,3 +1,5 @@
+//! The reader: the topology that a file stands for, or its first fault.
+
 ghost use Rattle.std.specs.Prelude.{◌≡◌, ◌+◌, ◌≤◌, Some, length, nat_lt, IfOk, IfErr, MatchResult};
 ghost use Rattle.cxl_enc.specs.Limits.{frame_limit, node_limit};
 ghost use Rattle.cxl_topo.specs.Tree.{Tree};

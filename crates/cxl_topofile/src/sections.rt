@@ -1,3 +1,5 @@
+//! The sections of a file, in the order in which their faults count.
+
 ghost use Rattle.std.specs.Prelude.{◌≡◌, ◌≤◌, ◌++◌, IsTrue, IfOk};
 ghost use Rattle.std.specs.List.{list_all};
 ghost use Rattle.cxl_enc.specs.Limits.{frame_limit};

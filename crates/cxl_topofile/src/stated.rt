@@ -1,3 +1,5 @@
+//! What a file states, before and after its tables are read.
+
 use crate::draft::Draft;
 use cxl_topo::Node;
 use toml::Value;

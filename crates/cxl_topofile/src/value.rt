@@ -1,3 +1,5 @@
+//! The values at the keys of a table.
+
 ghost use Rattle.std.specs.Prelude.{◌≡◌, ◌≤◌, None, option_map, IfOk, IsTrue};
 ghost use Rattle.cxl_enc.specs.Caps.{is_decoder_count, is_target_count};
 ghost use Rattle.cxl_enc.specs.Name.{is_name};

@@ -1,3 +1,5 @@
+//! Which decoder of a block holds an address.
+
 ghost use Rattle.std.specs.Prelude.{◌≡◌, ℕ, true, false, Some, slice_get, IfSome, IfNone, IsSomeAnd};
 ghost use Rattle.cxl_regs.specs.declared.decoder.Decoder.{Decoder};
 ghost use Rattle.cxl_regs.specs.Reading.{holds_address};

@@ -1,3 +1,5 @@
+//! What one node does with an address.
+
 ghost use Rattle.std.specs.Prelude.{◌≡◌, ◌+◌, ◌<◌, ◌≤◌, ◌^◌, [], true, false, length, slice_get, IfOk, IfErr, IsSomeAnd};
 ghost use Rattle.cxl_enc.specs.Limits.{address_limit};
 ghost use Rattle.cxl_topo.specs.Tree.{forwards_at};

@@ -1,3 +1,5 @@
+//! A route: the way of an address from its window down to a device byte.
+
 ghost use Rattle.std.specs.Prelude.{◌≤◌};
 
 use cxl_model::Step;

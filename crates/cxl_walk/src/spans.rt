@@ -1,3 +1,5 @@
+//! The span of a decoder that holds a device byte.
+
 ghost use Rattle.std.specs.Prelude.{◌≡◌, ℕ, ◌+◌, ◌<◌, ◌≤◌, true, length, IfSome, IfNone};
 ghost use Rattle.cxl_enc.specs.Limits.{address_limit};
 ghost use Rattle.cxl_regs.specs.declared.decoder.Decoder.{Decoder};

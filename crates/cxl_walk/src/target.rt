@@ -1,3 +1,5 @@
+//! The target of a window to which an address goes.
+
 ghost use Rattle.std.specs.Prelude.{◌≡◌, ℕ, Some, None, slice_get, IfSome, IfNone};
 ghost use Rattle.cxl_window.specs.Fields.{WindowFields};
 ghost use Rattle.cxl_window.specs.Position.{position_at};

@@ -1,3 +1,5 @@
+//! The host address that leads to a device byte, by registers.
+
 ghost use Rattle.std.specs.Prelude.{◌≡◌, ◌↔◌, ℕ, ◌+◌, ◌<◌, true, IsSome, IfSome, IfNone};
 ghost use Rattle.cxl_enc.specs.Limits.{address_limit};
 ghost use Rattle.cxl_topo.specs.Tree.{is_endpoint_at};

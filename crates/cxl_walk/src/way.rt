@@ -1,3 +1,5 @@
+//! The way of an address from a bridge down, node by node.
+
 ghost use Rattle.std.specs.Prelude.{◌≡◌, ◌-◌, ◌<◌, ◌≤◌, length, take, drop, replicate, IfOk, IfErr};
 ghost use Rattle.cxl_topo.specs.Faults.{IsTree};
 ghost use Rattle.cxl_image.specs.Images.{HasCapsOf};

@@ -1,3 +1,5 @@
+//! What is asked of a window's record by itself.
+
 ghost use Rattle.std.specs.Prelude.{◌≡◌, ◌==◌, ◌<◌, ◌+◌, ◌*◌, ◌%◌, ◌||◌, not, nat_lt, length, IsTrue, IfSome, [], position};
 ghost use Rattle.cxl_enc.specs.Codes.{is_ways};
 ghost use Rattle.cxl_enc.specs.Limits.{unit, address_limit};

@@ -1,3 +1,5 @@
+//! The judge of a table's windows: what each record is judged against.
+
 ghost use Rattle.std.specs.Prelude.{◌≡◌, ◌≤◌, length, IfOk, OnOk, find, unwrap_or, [], ◌++◌};
 ghost use Rattle.std.specs.Option.{option_copied};
 ghost use Rattle.cxl_window.specs.Fields.{IsWindow};

@@ -1,3 +1,5 @@
+//! The maps of a window, with zeros where it has fewer than four.
+
 ghost use Rattle.std.specs.Prelude.{◌≡◌, ◌≤◌, ◌-◌, ◌++◌, length, take, replicate};
 
 /// The first `bits` maps, or fewer where there are no more, and zeros behind them.

@@ -1,3 +1,5 @@
+//! The positions of addresses among a window's targets.
+
 ghost use Rattle.std.specs.Prelude.{◌≡◌, ◌<◌, ◌≤◌, ◌^◌, ◌%◌, ℕ, Some};
 ghost use Rattle.std.specs.Bool.{OnTrue, OnFalse};
 ghost use Rattle.cxl_enc.specs.Codes.{bits_of};

@@ -1,3 +1,5 @@
+//! A window and its verdict.
+
 ghost use Rattle.std.specs.Prelude.{◌≡◌, ◌≤◌, IsTrue, length};
 ghost use Rattle.cxl_enc.specs.Codes.{is_ways, bits_of};
 
