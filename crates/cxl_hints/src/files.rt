@@ -1,14 +1,17 @@
 //! What is wrong with a file.
 
 use crate::say;
+use crate::topology::{Sought, Spot, key_below, line_above, line_of_node};
 use cxl_cedt::CedtFault;
 use cxl_image::ImageFault;
 use cxl_io::{Fetch, StdFetch};
-use cxl_topofile::TopoFault;
+use cxl_topo::TreeFault;
+use cxl_topofile::{Key, Place, Section, TopoFault};
 use std::alloc::Global;
 use std::fs::{self, File};
 use std::io::{self, Eprint, ErrorKind};
 use std::rt::Files;
+use std::str;
 
 /// The first file of the command that cannot be read, and why.
 pub(crate) fn bad_file<R: Eprint + Files>(rt: &R, words: &[String]) -> io::Result<()> {
@@ -69,7 +72,7 @@ pub(crate) fn bad_table<R: Eprint + Files>(
     }
 }
 
-/// The fault of a topology with the file's name, and the parser's line where it is no TOML.
+/// The fault of a topology with the file's name, and the line where it lies.
 pub(crate) fn bad_topology<R: Eprint + Files>(
     rt: &R,
     alloc: Global,
@@ -80,7 +83,10 @@ pub(crate) fn bad_topology<R: Eprint + Files>(
     match fault {
         TopoFault::Toml => bad_toml(rt, alloc, name),
         TopoFault::Memory => say(rt, "", "memory ran out"),
-        _ => eprintln!(rt; "cxlplan: {name}: {fault} ({})", counted(fault)),
+        _ => match reread(rt, alloc, name) {
+            Some(bytes) => bad_tables(rt, alloc, name, bytes.as_slice(), fault),
+            None => eprintln!(rt; "cxlplan: {name}: {fault} ({})", counted(fault)),
+        },
     }
 }
 
@@ -89,6 +95,95 @@ fn counted(fault: TopoFault) -> &'static str {
     match fault {
         TopoFault::Tree(_) => "nodes count from 0: bridges, then switches, then endpoints",
         _ => "tables of a kind count from 0",
+    }
+}
+
+/// The fault of a topology by its text: a key that is unknown is named, and so is the line, where headers tell it.
+fn bad_tables<R: Eprint>(
+    rt: &R,
+    alloc: Global,
+    name: &str,
+    bytes: &[u8],
+    fault: TopoFault,
+) -> io::Result<()> {
+    let Ok(text) = str::from_utf8(bytes) else {
+        return eprintln!(rt; "cxlplan: {name}: {fault} ({})", counted(fault));
+    };
+    if let Some((spot, table)) = unknown_key(text, fault) {
+        let Spot { line, key } = spot;
+        return eprintln!(rt; "cxlplan: {name}, line {line}: {key} is no key of {table}");
+    }
+    match line_of_fault(alloc, text, fault)? {
+        Some(line) => eprintln!(rt;
+            "cxlplan: {name}, line {line}: {fault} ({})",
+            counted(fault)
+        ),
+        None => eprintln!(rt; "cxlplan: {name}: {fault} ({})", counted(fault)),
+    }
+}
+
+/// The key that is none of its table's, and what kind of table that is.
+fn unknown_key(text: &str, fault: TopoFault) -> Option<(Spot<'_>, &'static str)> {
+    let TopoFault::Key(place) = fault else {
+        return None;
+    };
+    if place.key != Key::Unknown {
+        return None;
+    }
+    let above = line_above(text, place.section, place.index)?;
+    let spot = key_below(text, above, Sought::Unknown(place.section))?;
+    Some((spot, table_name(place.section)))
+}
+
+fn table_name(section: Section) -> &'static str {
+    match section {
+        Section::Top => "the top table",
+        Section::Bridge => "a bridge",
+        Section::Switch => "a switch",
+        Section::Endpoint => "an endpoint",
+    }
+}
+
+/// The line of a fault's key, or where the key is missing, that of its table.
+fn line_of_fault(alloc: Global, text: &str, fault: TopoFault) -> io::Result<Option<usize>> {
+    match fault {
+        TopoFault::Key(place) | TopoFault::Kind(place) | TopoFault::Range(place) => {
+            line_of_place(alloc, text, place)
+        }
+        TopoFault::Tree(fault) => Ok(node_of(fault).and_then(|node| line_of_node(text, node))),
+        _ => Ok(None),
+    }
+}
+
+fn line_of_place(alloc: Global, text: &str, place: Place) -> io::Result<Option<usize>> {
+    let Some(above) = line_above(text, place.section, place.index) else {
+        return Ok(None);
+    };
+    let shown = format!(in alloc; "{place}")?;
+    // the text of a place ends with its key
+    let key = match shown.as_str().rsplit_once(' ') {
+        Some((_, key)) => key,
+        None => "",
+    };
+    match key_below(text, above, Sought::Named(key)) {
+        Some(spot) => Ok(Some(spot.line)),
+        None if above > 0 => Ok(Some(above)),
+        None => Ok(None),
+    }
+}
+
+/// The node that a fault of the tree names.
+fn node_of(fault: TreeFault) -> Option<u32> {
+    match fault {
+        TreeFault::NoParent(node)
+        | TreeFault::PortTaken(node)
+        | TreeFault::Forks(node)
+        | TreeFault::NameTaken(node)
+        | TreeFault::UidTaken(node)
+        | TreeFault::Depth(node)
+        | TreeFault::Caps(node)
+        | TreeFault::Capacity(node) => Some(node),
+        TreeFault::TooMany | TreeFault::Memory => None,
     }
 }
 

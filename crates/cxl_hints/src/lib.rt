@@ -2,6 +2,7 @@
 #![tactic(auto)]
 
 mod files;
+mod topology;
 mod words;
 
 use cxl_inputs::Status;
@@ -10,7 +11,7 @@ use std::io::{self, Eprint};
 use std::rt::Files;
 
 /// Says in one line what is wrong and what to do, by the words of the command and the status with which it ended. A command
-/// that was carried out, and one without an answer, has no such line. The error is that of standard error. (This project's
+/// that was carried out, one without an answer, and one whose reader is gone have no such line. The error is that of standard error. (This project's
 /// rule.) Takes memory.
 pub fn hint<R: Eprint + Files>(
     rt: &R,
@@ -24,6 +25,8 @@ pub fn hint<R: Eprint + Files>(
         Status::BadTable(fault) => files::bad_table(rt, alloc, words, fault),
         Status::BadTopo(fault) => files::bad_topology(rt, alloc, words, fault),
         Status::BadImage(fault) => files::bad_image(rt, words, fault),
+        // whoever read a pipe has enough
+        Status::WriteFault if is_pipe(rt, alloc) => Ok(()),
         _ => match cause(status) {
             Some(text) => say(rt, "", text),
             None => Ok(()),
@@ -34,6 +37,14 @@ pub fn hint<R: Eprint + Files>(
 /// One line: what it is about, as a file's name or a word, and what is to be said of it.
 fn say<R: Eprint>(rt: &R, about: &str, text: &str) -> io::Result<()> {
     eprintln!(rt; "cxlplan: {about}{text}")
+}
+
+/// Whether standard output is a pipe, whose writes fail only where nobody reads it any more.
+fn is_pipe<R: Files>(rt: &R, alloc: Global) -> bool {
+    match rt.read_link(alloc, "/proc/self/fd/1") {
+        Ok(name) => name.as_str().starts_with("pipe:"),
+        Err(_) => false,
+    }
 }
 
 /// What ended a command, where its status alone says that.

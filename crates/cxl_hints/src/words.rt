@@ -6,7 +6,7 @@ use cxl_script::{BadLine, LineFault, Why, read_command};
 use std::alloc::Global;
 use std::io::{self, Eprint};
 
-/// Names the word that cannot be read.
+/// Names the word that cannot be read, or the form of the command that is asked.
 pub(crate) fn bad_words<R: Eprint>(rt: &R, alloc: Global, words: &[String]) -> io::Result<()> {
     let Some((verb, operands)) = words.split_first() else {
         return say(
@@ -18,23 +18,43 @@ pub(crate) fn bad_words<R: Eprint>(rt: &R, alloc: Global, words: &[String]) -> i
     match (verb.as_str(), operands) {
         ("route", [_, address]) => bad_number(rt, address.as_str()),
         ("plan", [_, _, line]) => no_create(rt, alloc, line.as_str()),
-        (verb, _) => match operands_of(verb) {
-            Some(takes) => eprintln!(rt; "cxlplan: {verb} takes {takes}; see cxlplan --help"),
-            None => say(rt, verb, " is no command; see cxlplan --help"),
-        },
+        ("help" | "-h" | "--help", [verb]) => no_command(rt, verb.as_str()),
+        (verb, _) => no_command(rt, verb),
     }
 }
 
-/// The words that a command takes behind its own.
-fn operands_of(verb: &str) -> Option<&'static str> {
+/// The form of a command, or of the one that a word which is none stands for.
+fn no_command<R: Eprint>(rt: &R, verb: &str) -> io::Result<()> {
+    match (form_of(verb), meant_by(verb)) {
+        (Some(form), _) => eprintln!(rt; "cxlplan: the form is cxlplan {form}; see cxlplan --help"),
+        (None, Some(form)) => {
+            eprintln!(rt; "cxlplan: {verb} is no command; the form is cxlplan {form}")
+        }
+        (None, None) => say(rt, verb, " is no command; see cxlplan --help"),
+    }
+}
+
+/// A command with the words that it takes.
+fn form_of(verb: &str) -> Option<&'static str> {
     match verb {
-        "route" => Some("CEDT HPA"),
-        "list" | "normal" => Some("CEDT"),
-        "check" => Some("CEDT TOPO IMAGE"),
-        "plan" => Some("CEDT TOPO LINE, with LINE as one word in quotes"),
-        "run" => Some("CEDT TOPO or CEDT TOPO IMAGE"),
-        "gen" => Some("a number from 1 to 32"),
-        "--help" | "--version" => Some("no other word"),
+        "route" => Some("route CEDT HPA"),
+        "list" => Some("list CEDT"),
+        "normal" => Some("normal CEDT"),
+        "check" => Some("check CEDT TOPO IMAGE"),
+        "plan" => Some("plan CEDT TOPO LINE, with LINE as one word in quotes"),
+        "run" => Some("run CEDT TOPO or cxlplan run CEDT TOPO IMAGE"),
+        "gen" => Some("gen N, with N from 1 to 32"),
+        "--help" => Some("--help, with no other word"),
+        "--version" => Some("--version, with no other word"),
+        _ => None,
+    }
+}
+
+/// What other programs call so.
+fn meant_by(verb: &str) -> Option<&'static str> {
+    match verb {
+        "-h" | "-?" | "help" => Some("--help"),
+        "-v" | "-V" | "version" => Some("--version"),
         _ => None,
     }
 }

@@ -223,7 +223,7 @@ const OUTSIDE: &[Row] = &[
         table: "",
         changes: "",
         code: 0,
-        text: "cxlplan 0.1.0\n",
+        text: "cxlplan 1.0.0\n",
     },
     // A file that is not there.
     Row {
@@ -301,14 +301,14 @@ fn help_of_forms(rt: HostRuntime) {
 }
 
 const FORMS: [&str; 8] = [
-    "route CEDT HPA ",
-    "list CEDT ",
-    "normal CEDT ",
+    "route CEDT HPA\n",
+    "list CEDT\n",
+    "normal CEDT\n",
     "check CEDT TOPO IMAGE\n",
     "plan CEDT TOPO LINE\n",
-    "run CEDT TOPO ",
+    "run CEDT TOPO\n",
     "run CEDT TOPO IMAGE\n",
-    "gen N ",
+    "gen N\n",
 ];
 
 /// A line, the room of a sink, the number of the write that fails or 0, and what is written over the two-bridge

@@ -9,7 +9,7 @@ use Rattle.cxl_bus.specs.Trail.{trail_with}
 use Rattle.cxl_bus.specs.declared.sent.Sent.{Sent}
 use Rattle.cxl_cedt.specs.CedtFields.{CedtFields}
 use Rattle.cxl_check.specs.declared.fault.Breach.{Breach}
-use Rattle.cxl_enc.specs.Faults.{Rose}
+use Rattle.cxl_enc.specs.Faults.{Rose, LeavesCount}
 use Rattle.cxl_image.specs.Images.{reset_blocks}
 use Rattle.cxl_inputs.specs.Ends.{Ends, Finishes, WritesNothing}
 use Rattle.cxl_inputs.specs.File.{AsksForSome}

@@ -10,56 +10,78 @@ use cxl_inputs::{Outcome, Status};
 pub const HELP: &str = "\
 cxlplan plans, simulates and checks CXL memory regions.
 
-cxlplan route CEDT HPA    the window, the position and the bridge of a host address
+cxlplan route CEDT HPA
+        the window, the position and the bridge of a host address
     cxlplan route host.cedt 0x110000800
-cxlplan list CEDT         a line for each record of the table, windows with their verdicts
+cxlplan list CEDT
+        a line for each record of the table, windows with their verdicts
     cxlplan list host.cedt
-cxlplan normal CEDT       the table's bytes with its reserved fields zero
+cxlplan normal CEDT
+        the table's bytes with its reserved fields zero
     cxlplan normal host.cedt > normal.cedt
 cxlplan check CEDT TOPO IMAGE
-                          the regions of a register image, or the first rule that it breaks
+        the regions of a register image, or the first rule that it breaks
     cxlplan check host.cedt topo.toml image.bin
 cxlplan plan CEDT TOPO LINE
-                          the registers that make a new region after reset, or why none can
+        the registers that make a new region after reset, or why none can
     cxlplan plan host.cedt topo.toml 'create r0 pmem 0x40000000 ways=4'
-cxlplan run CEDT TOPO     the lines of standard input, each answered, on the host after reset; a
-                          refusal is an answer, too: it changes nothing, and the status is 0
+cxlplan run CEDT TOPO
+        the lines of standard input, each answered, on the host after reset; a
+        refusal is an answer, too: it changes nothing, and the status is 0
     printf 'create r0 ram 0x20000000 ways=2\\nload 0x110000000 4\\n' |
         cxlplan run host.cedt topo.toml
 cxlplan run CEDT TOPO IMAGE
-                          the same on the host with the registers of an image
+        the same on the host with the registers of an image
     cxlplan run host.cedt topo.toml image.bin < script
-cxlplan gen N             a generated system of 4 N endpoints, its regions used and checked
+cxlplan gen N
+        a generated system of 4 N endpoints, its regions used and checked
     cxlplan gen 32
-cxlplan --help            this text
-cxlplan --version         the version
+cxlplan --help
+        this text
+cxlplan --version
+        the version
 
-CEDT is a file with the bytes of a CEDT table, TOPO a topology in TOML, and IMAGE the registers of
-its decoders, each of 1,048,576 bytes at the most; a file may be /dev/stdin. HPA is a host physical
-address, in decimal digits, or in hexadecimal digits after 0x. LINE is one word: 'create NAME KIND
-SIZE [gran=G] EP..' over named endpoints, or 'create NAME KIND SIZE [gran=G] ways=N' over N that are
-picked, with KIND ram or pmem. NAME and EP have 1 to 15 letters, digits and _. SIZE and G are bytes:
-0x40000000 is 1 GiB, and G is 256 to 16384. N is from 1 to 16 for ways, and from 1 to 32 for gen.
+CEDT is a file with the bytes of a CEDT table, TOPO a topology in TOML, and
+IMAGE the registers of its decoders, each of 1,048,576 bytes at the most; a file
+may be /dev/stdin. HPA is a host physical address, in decimal digits, or in
+hexadecimal digits after 0x. LINE is one word: 'create NAME KIND SIZE [gran=G]
+EP..' over named endpoints, or 'create NAME KIND SIZE [gran=G] ways=N' over N
+that are picked, with KIND ram or pmem. NAME and EP have 1 to 15 letters, digits
+and _. SIZE and G are bytes: 0x40000000 is 1 GiB, and G is 256 to 16384. N is
+from 1 to 16 for ways, and from 1 to 32 for gen.
 
-A line of standard input is empty, a comment that begins with #, a LINE as above, or one of these:
-    destroy NAME       show NAME        down HPA         up EP DPA       load HPA LEN
-    store HPA HEX      range HPA LEN    spread HPA LEN   poison EP HEX   copy FROM TO
-    move FROM TO       begin LINE       begin destroy NAME               step N, abort
-It has 4,096 bytes at the most. LEN is in bytes: 1 to 256 for load, 1 to 65,536 for range. HEX is
-two digits a byte, the first byte first: 1 to 256 bytes for store. copy and move give the region TO
-the bytes of the region FROM. step makes N register writes, 1 to 1,000,000.
-Registers and device memory are the simulator's: no register of a machine is written.
+A line of standard input is empty, a comment that begins with #, a LINE as
+above, or one of these:
+    destroy NAME      show NAME          down HPA          up EP DPA
+    load HPA LEN      store HPA HEX      range HPA LEN     spread HPA LEN
+    copy FROM TO      move FROM TO       poison EP HEX     begin LINE
+    begin destroy NAME                   step N            abort
+It has 4,096 bytes at the most. LEN is in bytes: 1 to 256 for load, 1 to 65,536
+for range. HEX is two digits a byte, the first byte first: 1 to 256 bytes for
+store. copy and move give the region TO the bytes of the region FROM. step makes
+N register writes, 1 to 1,000,000. Registers and device memory are the
+simulator's: no register of a machine is written.
 
-Answers and faults are written to standard output, so look at the exit status first: 0 done, 1 the
-words are no command, 2 a file cannot be read, 3 the CEDT has a fault, 4 the topology has a fault,
-5 reading the script failed, 6 writing failed, 7 the bus failed before the first line, 8 no window
-that can be used holds the address, the image breaks a rule or has too many regions, or there is no
-plan, 9 out of memory, 10 the image file has a fault, 11 the script is too long, 12 a file is too
-large.
+Answers and faults are written to standard output, so look at the exit status
+first:
+     0  done
+     1  the words are no command
+     2  a file cannot be read
+     3  the CEDT has a fault
+     4  the topology has a fault
+     5  reading the script failed
+     6  writing failed
+     7  the bus failed before the first line
+     8  no window that can be used holds the address, the image breaks a rule or
+        has too many regions, or there is no plan
+     9  out of memory
+    10  the image file has a fault
+    11  the script is too long
+    12  a file is too large
 ";
 
 /// What `--version` writes.
-pub const VERSION: &str = "cxlplan 0.1.0\n";
+pub const VERSION: &str = "cxlplan 1.0.0\n";
 
 /// What the program can do. Takes no memory, as the two below.
 pub(crate) fn helped() -> Outcome
