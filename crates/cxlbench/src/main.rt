@@ -1,0 +1,149 @@
+//! Carries out a script as `cxlplan run` does, over registers of another program at the other end of two pipes.
+#![tactic(auto)]
+
+ghost use Rattle.std.specs.Prelude.{◌≡◌};
+ghost use Rattle.std.specs.Process.{exit_status};
+ghost use Rattle.cxl_inputs.specs.Exit.{exit_code};
+
+use cxl_hints::hint;
+use cxl_io::{Memory, StdFetch, StdSink, StdSource};
+use cxl_media::SimMedia;
+use cxl_pipe::PipeBus;
+use cxl_shell::{Status, run};
+use std::fs::{File, OpenOptions};
+use std::io::ErrorKind;
+use std::process::ExitCode;
+use std::rt::Env;
+use std::{env, io};
+
+/// What `--help` writes.
+const HELP: &str = "\
+cxlbench carries out a script as cxlplan run does, over registers of another program.
+
+cxlbench CEDT TOPO TO FROM
+        the lines of standard input, each answered, on the host after reset
+cxlbench CEDT TOPO IMAGE TO FROM
+        the same on the host with the registers of an image
+cxlbench --help
+        this text
+cxlbench --version
+        the version
+
+CEDT, TOPO, IMAGE, the lines, the replies and the exit statuses are those of
+cxlplan; see cxlplan --help. TO and FROM are pipes, as mkfifo makes them: TO is
+opened first. Each access of a register is a line to TO, which a line from FROM
+answers:
+    r NODE OFF         0x and the hexadecimal digits of the word, or failed
+    w NODE OFF VALUE   ok, or failed
+NODE is the number of a node in the topology, in decimal digits; OFF, a place in
+its HDM decoder registers, and VALUE are hexadecimal digits after 0x. Any other
+answer, and a word that is not the one that the writes before it leave, is a
+fault of the registers. Before the first line of the script each word is read
+once; where one differs, the status is 7.
+";
+
+/// What `--version` writes.
+const VERSION: &str = "cxlbench 1.0.0\n";
+
+fn main(rt: HostRuntime) -> ExitCode {
+    let words = match words(&rt) {
+        Ok(words) => words,
+        Err(e) if e.kind() == ErrorKind::OutOfMemory => return ended(Status::Memory),
+        // A word that is no text is in no command, and neither are no words.
+        Err(_) => Vec::new(rt.alloc()),
+    };
+    let first = match words.first() {
+        Some(word) => word.as_str(),
+        None => "",
+    };
+    ended(match (first, words.len()) {
+        ("--help" | "-h", 1) => told(&rt, HELP, Status::Done),
+        ("--version", 1) => told(&rt, VERSION, Status::Done),
+        (_, 4 | 5) => over_pipes(&rt, words),
+        _ => misused(&rt),
+    })
+}
+
+/// Writes a text.
+fn told(rt: &HostRuntime, text: &str, status: Status) -> Status {
+    match print!(rt; "{text}") {
+        Ok(()) => status,
+        Err(_) => Status::WriteFault,
+    }
+}
+
+/// The words are no command.
+fn misused(rt: &HostRuntime) -> Status {
+    // A hint that cannot be written changes nothing.
+    let _ = eprintln!(rt;
+        "cxlbench: it takes CEDT TOPO TO FROM or CEDT TOPO IMAGE TO FROM; see cxlbench --help"
+    );
+    told(rt, "usage\n", Status::Usage)
+}
+
+/// Carries out the script over the registers behind the two pipes that the last words name.
+fn over_pipes(rt: &HostRuntime, mut words: Vec<String>) -> Status {
+    let (Some(from), Some(to)) = (words.pop(), words.pop()) else {
+        return misused(rt);
+    };
+    let mut how = OpenOptions::new();
+    how.write(true);
+    let Ok(questions) = how.open(rt, to.as_str()) else {
+        return unopened(rt, to.as_str());
+    };
+    let Ok(answers) = File::open(rt, from.as_str()) else {
+        return unopened(rt, from.as_str());
+    };
+    match run_over(rt, words, questions, answers) {
+        Ok(status) => status,
+        Err(Memory) => Status::Memory,
+    }
+}
+
+/// A pipe cannot be opened.
+fn unopened(rt: &HostRuntime, pipe: &str) -> Status {
+    let _ = eprintln!(rt; "cxlbench: {pipe} cannot be opened; mkfifo makes a pipe");
+    match println!(rt; "error: cannot open {pipe}") {
+        Ok(()) => Status::FetchFault,
+        Err(_) => Status::WriteFault,
+    }
+}
+
+/// Carries out the script over files and registers, by the words of `run`.
+fn run_over(
+    rt: &HostRuntime,
+    mut words: Vec<String>,
+    questions: File,
+    answers: File,
+) -> Result<Status, Memory> {
+    let alloc = rt.alloc();
+    words.insert(0, String::from_str(alloc, "run")?)?;
+    let mut regs = PipeBus::new(alloc, StdSource::new(answers), StdSink::new(questions))?;
+    let mut files = StdFetch::new(rt);
+    let mut script = StdSource::new(rt.reader());
+    let mut out = StdSink::new(io::writer(rt));
+    let mut media = SimMedia::new(alloc);
+    let status = run(
+        alloc,
+        words.as_slice(),
+        &mut files,
+        &mut script,
+        &mut out,
+        &mut regs,
+        &mut media,
+    );
+    let _ = hint(rt, alloc, words.as_slice(), status);
+    Ok(status)
+}
+
+/// The exit status of the program is that of its run.
+fn ended(status: Status) -> ExitCode
+    ensures { exit_status result ≡ exit_code status }
+{
+    ExitCode::from(status.code())
+}
+
+/// The words of the command line without the name of the program.
+fn words(rt: &(impl Env + AllocGlobal)) -> io::Result<Vec<String>> {
+    Ok(env::args(rt)?.skip(1).collect(rt.alloc())?)
+}
