@@ -136,7 +136,7 @@ class Bench(unittest.TestCase):
     def test_words_that_are_no_command(self):
         for words in ([], ["--help", "more"], [CEDT], [CEDT, TOPO, IMAGE]):
             self.assertEqual(answer([CXLBENCH, *words], ""), (1, "usage\n"))
-        self.assertEqual(answer([CXLBENCH, "--version"], ""), (0, "cxlbench 0.1.0\n"))
+        self.assertEqual(answer([CXLBENCH, "--version"], ""), (0, "cxlbench 1.0.0\n"))
         self.assertEqual(answer([CXLBENCH, "-h"], ""), answer([CXLBENCH, "--help"], ""))
         self.assertEqual(answer([CXLBENCH, CEDT, TOPO, "nowhere", "nowhere"], ""), (2, "error: cannot open nowhere\n"))
 
