@@ -1,13 +1,10 @@
 -- Loads and stores, copies and moves are of one flat memory.
-use Rattle.std.proofs.Common.{◌≡◌, ℕ, ◌+◌, ◌/◌, ◌%◌, ◌<◌, ◌≤◌, ◌⊎◌, Bool, true, false, not, if◌then◌else◌, List, length, Option, Some, None, Ok, inl, inr, refl, sym, ap, ◌∙◌, subst, arith}
-use Rattle.std.specs.Prelude.{Contains, nat_lt, ◌==◌, slice_index, replicate, unwrap_or}
+use Rattle.std.proofs.Common.{◌≡◌, ℕ, ◌+◌, ◌<◌, ◌≤◌, ◌⊎◌, Bool, true, false, not, if◌then◌else◌, List, length, Option, Some, None, Ok, inl, inr, refl, sym, ap, ◌∙◌, subst, arith}
+use Rattle.std.specs.Prelude.{Contains, nat_lt, ◌==◌}
 use Rattle.std.specs.Option.{option_map_or}
 use Rattle.std.specs.FinMap as fin
-use Rattle.std.specs.FinMap.{get-empty}
-use Rattle.std.specs.Ordering.{nat_cmp}
 use Rattle.std.specs.Str.{bytes_eq}
 use Rattle.std.proofs.lemmas.Bool.{cases_Bool, leb-true, le-leb, le-ltb}
-use Rattle.std.proofs.lemmas.List.{get_or-replicate}
 use Rattle.std.proofs.lemmas.List.FromFn.{length-map-range_with_len, get_or-map-range_with_len}
 use Rattle.cxl_script.specs.declared.command.Command.TheVariants as commands
 use Rattle.cxl_script.specs.declared.command.Load.{Load}
@@ -30,26 +27,26 @@ use Rattle.cxl_machine.proofs.KeepingLists.{changed, unchanged}
 use Rattle.cxl_machine.proofs.KeepingMachines.{live_there}
 use Rattle.cxl_flat.specs.Memory.{byte_of, HasBytes, LiesBeside, LieWithin, IsFlatLoad, IsFlatStore, AreNamed, HasBytesOf, IsFlatCopy, IsFlatMove, IsFlatAccess}
 use Rattle.cxl_flat.proofs.Addresses.{host_bounds, has_between, has_not, AreApart, live_apart, changed_apart, to_changed, found_at, byte_at, byte_inside, byte_outside}
-use Rattle.cxl_flat.proofs.Bytes.{stored_there, others_stay}
+use Rattle.cxl_flat.proofs.Bytes.{zero_content, stored_there, others_stay}
 
 -- ---- replies
 
-loaded_same : (xs ys : List ℕ) → replies.Loaded xs ≡ replies.Loaded ys → xs ≡ ys
+pub loaded_same : (xs ys : List ℕ) → replies.Loaded xs ≡ replies.Loaded ys → xs ≡ ys
 loaded_same xs ys same = cc
 
-unmapped_loads : (xs : List ℕ) → replies.Unmapped ≡ replies.Loaded xs → ⊥
+pub unmapped_loads : (xs : List ℕ) → replies.Unmapped ≡ replies.Loaded xs → ⊥
 unmapped_loads xs same = cc
 
-crossing_loads : (xs : List ℕ) → replies.CrossesEnd ≡ replies.Loaded xs → ⊥
+pub crossing_loads : (xs : List ℕ) → replies.CrossesEnd ≡ replies.Loaded xs → ⊥
 crossing_loads xs same = cc
 
-unmapped_stores : (n : ℕ) → replies.Unmapped ≡ replies.Stored n → ⊥
+pub unmapped_stores : (n : ℕ) → replies.Unmapped ≡ replies.Stored n → ⊥
 unmapped_stores n same = cc
 
-crossing_stores : (n : ℕ) → replies.CrossesEnd ≡ replies.Stored n → ⊥
+pub crossing_stores : (n : ℕ) → replies.CrossesEnd ≡ replies.Stored n → ⊥
 crossing_stores n same = cc
 
-full_stores : (need free n : ℕ) → replies.Full record { need = need; free = free } ≡ replies.Stored n → ⊥
+pub full_stores : (need free n : ℕ) → replies.Full record { need = need; free = free } ≡ replies.Stored n → ⊥
 full_stores need free n same = cc
 
 module _ (m : Machine) (apart : AreApart m) where
@@ -282,10 +279,6 @@ module _ (m : Machine) (apart : AreApart m) where
   }
 
   -- ---- moves
-
-  zero_content : (i : ℕ) → content_at fin.empty i ≡ 0
-  zero_content i =
-      ap (λ (o : Option (List ℕ)). slice_index (unwrap_or o (replicate 256 0)) (i % 256)) (get-empty {X = List ℕ} nat_cmp (i / 256)) ∙ get_or-replicate 256 (i % 256) 0 0 (omega arith)
 
   module _ (from to : Live) (are : AreTwo m from to) where
     abbrev between : Machine

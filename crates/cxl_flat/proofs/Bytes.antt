@@ -1,16 +1,23 @@
--- The bytes of a region behind a store: those stored, and each other as it was.
+-- The bytes of a region that holds none, which are zeros, and those behind a store: those stored, and each other as it was.
 use Rattle.std.proofs.Common.{◌≡◌, ◌≢◌, ℕ, zero, suc, ◌+◌, ◌-◌, ◌*◌, ◌/◌, ◌%◌, ◌<◌, ◌≤◌, ◌⊎◌, Bool, true, false, cond, List, length, Option, Some, inl, inr, refl, sym, ap, ◌∙◌, subst, arith}
 use Rattle.std.specs.Prelude.{slice_index, unwrap_or, replicate, fold, nat_le, nat_lt, ◌&&◌}
 use Rattle.std.specs.List.{range_with_len}
 use Rattle.std.specs.Ordering.{nat_cmp, eq_by_cmp}
 use Rattle.std.specs.Cmp.{nat_cmp_total, Equal-is}
 use Rattle.std.specs.FinMap as fin
-use Rattle.std.specs.FinMap.{get-insert, nat_cmp-IsAntisymmetric}
+use Rattle.std.specs.FinMap.{get-empty, get-insert, nat_cmp-IsAntisymmetric}
 use Rattle.std.proofs.lemmas.Cmp.{eq_by_cmp_equiv}
 use Rattle.std.proofs.lemmas.Bool.{cases_lt, cond-true, cond-false, false≢true, lt-ltb, le-ltb, le-leb, lt-leb}
+use Rattle.std.proofs.lemmas.List.{get_or-replicate}
 use Rattle.std.proofs.lemmas.List.FromFn.{get_or-map-range_with_len}
 use Rattle.cxl_model.specs.Contents.{Contents, content_at}
 use Rattle.cxl_bytes.specs.Bytes.{byte_after, piece_after, written}
+
+-- ---- no piece
+
+pub zero_content : (i : ℕ) → content_at fin.empty i ≡ 0
+zero_content i =
+    ap (λ (o : Option (List ℕ)). slice_index (unwrap_or o (replicate 256 0)) (i % 256)) (get-empty {X = List ℕ} nat_cmp (i / 256)) ∙ get_or-replicate 256 (i % 256) 0 0 (omega arith)
 
 -- ---- a piece that is put
 

@@ -1,3 +1,4 @@
 pub mod ExampleBytes
 pub mod ExamplePieces
 pub mod ExampleMedia
+pub mod ExampleFlat

@@ -15,6 +15,7 @@ use Rattle.cxl_plan.specs.Planned.{stated_plan}
 use Rattle.cxl_model.specs.Contents.{Contents}
 use Rattle.cxl_worked.specs.Examples.{two_bridges, two_bridges_with, window_of_both, of_both, decoder, port_block, endpoint_block, endpoint_block_of_two, port_cap, endpoint_cap}
 use Rattle.cxl_worked.specs.ExampleRegions.{region_of_two}
+use Rattle.cxl_reply.specs.declared.reply.Reply.{Reply}
 use Rattle.cxl_reply.specs.declared.reply.Reply.TheVariants as replies
 use Rattle.cxl_reply.specs.declared.details.Named.{Named}
 use Rattle.cxl_reply.specs.declared.details.ShownRow.{ShownRow}
@@ -131,6 +132,10 @@ job_b = create_job two_bridges plan_b
 abbrev pub making_b : ℕ → Machine
 making_b done = at_done job_b done (with_r0 map.empty)
 
+-- a job that makes a region of this name at this place
+abbrev pub job_with : List ℕ → Found → RegionJob
+job_with name found = record job_b { region = record { name = name; found = found; contents = map.empty } }
+
 -- the first region is being made
 abbrev pub making_r0 : ℕ → Machine
 making_r0 done = at_done (create_job reset_system plan_r0) done fresh
@@ -229,6 +234,10 @@ abbrev pub create_picked : ℕ → ℕ → Command
 create_picked size ways = commands.Create record (create_named r0) { size = size; endpoints = []; ways = Some ways }
 
 -- ---- turns
+
+-- the bus let all go, and no word was sent
+abbrev pub quiet_turn : Machine → Reply → Turn
+quiet_turn m reply = record { reply = reply; machine = m; trail = []; failed = [] }
 
 -- a region that is not there, and a line without a known verb
 abbrev pub two_refusals : List Turn

@@ -1,4 +1,4 @@
-use Rattle.std.proofs.Common.{◌≡◌, ℕ, ◌+◌, ◌-◌, List, [], ◌∷◌, refl, sym, ap, ◌∙◌}
+use Rattle.std.proofs.Common.{◌≡◌, ℕ, List, [], ◌∷◌, refl, sym, ap, ◌∙◌}
 use Rattle.std.specs.Prelude.{nat_lt}
 use Rattle.cxl_bytes.specs.Bytes.{piece_after}
 use Rattle.cxl_machine.specs.Machine.{free_frames}
@@ -7,34 +7,15 @@ use Rattle.cxl_reply.specs.declared.reply.Reply.TheVariants as replies
 use Rattle.cxl_machine.specs.Replies.{stays}
 use Rattle.cxl_machine.specs.Accesses.{frames_wanted, store_into}
 use Rattle.cxl_worked_machines.specs.Examples.{with_r0, region_r0}
-use Rattle.cxl_worked_machines.proofs.ExampleBytes.{where_true, where_false, nothing, one_piece, get-nothing, len-nothing, get-one_piece, len-one_piece}
+use Rattle.cxl_worked_machines.proofs.ExampleBytes.{where_true, where_false, nothing, one_piece, get-nothing, get-one_piece, small, later, two_free, one_free, wants_one, wants_two_more}
 use Rattle.cxl_worked_machines.proofs.access_examples.bytes_on_examples.Goals as goal
-
--- two frames are free of a machine without bytes, and one of one with a piece
-two_free : free_frames (with_r0 nothing) ≡ 2
-two_free = ap (λ (n : ℕ). 2 - (0 + n)) len-nothing
-
-one_free : (piece : List ℕ) → free_frames (with_r0 (one_piece 0 piece)) ≡ 1
-one_free piece = ap (λ (n : ℕ). 2 - (0 + n)) (len-one_piece 0 piece)
-
-abbrev small : Store
-small = record { h = 0x100000000; bytes = 0x11 ∷ [] }
 
 abbrev wide : Store
 wide = record { h = 0x1000000fe; bytes = 0xaa ∷ 0xbb ∷ 0xcc ∷ 0xdd ∷ [] }
 
-abbrev later : Store
-later = record { h = 0x1000001ff; bytes = 0xaa ∷ 0xbb ∷ [] }
-
 -- each touched piece that is not in the map wants a frame
-wants_one : frames_wanted (region_r0 nothing) small ≡ 1
-wants_one = simp get-nothing refl
-
 wants_two : frames_wanted (region_r0 nothing) wide ≡ 2
 wants_two = simp get-nothing refl
-
-wants_two_more : (piece : List ℕ) → frames_wanted (region_r0 (one_piece 0 piece)) later ≡ 2
-wants_two_more piece = simp (get-one_piece 0 piece) refl
 
 pub returns-clause-stored : goal.returns-clause-stored
 returns-clause-stored c = record { unfailing = refl; told = sym (where_false _ _ _ (ap (λ (n : ℕ). nat_lt n (frames_wanted (region_r0 nothing) small)) two_free ∙ ap (nat_lt 2) wants_one)) }

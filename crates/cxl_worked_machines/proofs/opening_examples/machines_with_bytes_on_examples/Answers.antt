@@ -2,7 +2,6 @@ use Rattle.std.proofs.Common.{◌≡◌, ℕ, zero, suc, ◌+◌, ◌-◌, ◌<�
 use Rattle.std.specs.Prelude.{All, nat_lt}
 use Rattle.std.specs.Fmt.{digits}
 use Rattle.cxl_script.specs.declared.command.Command.TheVariants as commands
-use Rattle.cxl_script.specs.declared.command.Store.{Store}
 use Rattle.cxl_reply.specs.declared.reply.Reply.TheVariants as replies
 use Rattle.cxl_machine.specs.Accesses.{frames_wanted}
 use Rattle.cxl_machine.specs.Answers.{Answers}
@@ -11,14 +10,11 @@ use Rattle.cxl_machine.specs.Outcomes.{NoFault}
 use Rattle.cxl_machine.specs.Replies.{becomes}
 use Rattle.cxl_machine.specs.Sound.{IsMachine}
 use Rattle.cxl_worked_machines.specs.Examples.{auto, b, create_named, job_b, plan_b, first_byte, stored_piece, opened, opened_with, opened_region_with, making_beside, opened_releasing}
-use Rattle.cxl_worked_machines.proofs.ExampleBytes.{where_false, nothing, get-nothing, len-nothing, len-one_piece}
+use Rattle.cxl_worked_machines.proofs.ExampleBytes.{where_false, nothing, get-nothing, len-nothing, len-one_piece, small}
 use Rattle.cxl_worked_machines.proofs.ExampleMedia.{one_block_is}
 use Rattle.cxl_worked_machines.proofs.opening_examples.machines_with_bytes_on_examples.Goals as goal
 
 -- ---- the commands that lead there
-
-abbrev small : Store
-small = record { h = 0x100000000; bytes = 0x11 ∷ [] }
 
 two_free : free_frames opened ≡ 2
 two_free = ap (λ (n : ℕ). 2 - (0 + n)) len-nothing
