@@ -4,11 +4,11 @@ use Rattle.std.specs.List.{flat_map, enumerate_from, range_with_len}
 use Rattle.cxl_io.specs.Reader.{fresh_reader}
 use Rattle.cxl_regs.specs.Registers.{Registers}
 use Rattle.cxl_regs.specs.Words.{word_at}
-use Rattle.cxl_pipe.specs.Pipe.{Pipe, IsAnswered, IsUnanswered}
+use Rattle.cxl_pipe.specs.Pipe.{Pipe, HasAnswer, HasNoAnswer}
 use Rattle.cxl_pipe.specs.Protocol.{read_question, tells_word}
 
 -- a word of a node's block: where it stands, and what it is
-pub record Word : Type 0 where
+pub record PeerWord : Type 0 where
   pub node : ℕ
   pub off : ℕ
   pub value : ℕ
@@ -18,39 +18,39 @@ abbrev pub word_count : Registers → ℕ
 word_count block = 4 + 8 * length block.decoders
 
 -- the word at a place of a node's block
-abbrev pub word_here : ℕ → Registers → ℕ → Word
+abbrev pub word_here : ℕ → Registers → ℕ → PeerWord
 word_here node block place = record { node = node; off = 4 * place; value = unwrap_or (word_at block (4 * place)) 0 }
 
 -- the words of a node's block, in order
-abbrev pub words_of : ℕ → Registers → List Word
+abbrev pub words_of : ℕ → Registers → List PeerWord
 words_of node block = map (word_here node block) (range_with_len 0 (word_count block))
 
 -- the words of the blocks from a node on, in order
-abbrev pub words_from : ℕ → List Registers → List Word
+abbrev pub words_from : ℕ → List Registers → List PeerWord
 words_from node blocks = flat_map (λ (n, block). words_of n block) (enumerate_from node blocks)
 
 -- the words of all blocks
-abbrev pub all_words : List Registers → List Word
+abbrev pub all_words : List Registers → List PeerWord
 all_words blocks = words_from 0 blocks
 
 -- the peer was asked for a word, and told it
-abbrev pub IsTold : Word → Pipe → Pipe → Type 0
-IsTold word old new = IsAnswered (read_question word.node word.off) (tells_word word.value) old new
+abbrev pub IsTold : PeerWord → Pipe → Pipe → Type 0
+IsTold word old new = HasAnswer (read_question word.node word.off) (tells_word word.value) old new
 
 -- the peer was asked for a word, and did not tell it
-abbrev pub IsUntold : Word → Pipe → Pipe → Type 0
-IsUntold word old new = IsUnanswered (read_question word.node word.off) (tells_word word.value) old new
+abbrev pub IsUntold : PeerWord → Pipe → Pipe → Type 0
+IsUntold word old new = HasNoAnswer (read_question word.node word.off) (tells_word word.value) old new
 
 -- the peer was asked for these words, one after another, and told each
-abbrev pub AreTold : List Word → Pipe → Pipe → Type 0
+abbrev pub AreTold : List PeerWord → Pipe → Pipe → Type 0
 AreTold [] old new = new ≡ old
 AreTold (word ∷ words) old new = (mid : Pipe) × IsTold word old mid × AreTold words mid new
 
 -- the peer told some of these words from the front, and not the next one
-pub record StopsAmong (words : List Word) (old new : Pipe) : Type 0 where
-  pub told : List Word
-  pub word : Word
-  pub rest : List Word
+pub record StopsAmong (words : List PeerWord) (old new : Pipe) : Type 0 where
+  pub told : List PeerWord
+  pub word : PeerWord
+  pub rest : List PeerWord
   pub split : words ≡ told ++ word ∷ rest
   pub mid : Pipe
   pub before : AreTold told old mid

@@ -47,20 +47,20 @@ pub data IsUnheard (question : List ℕ) (old new : Pipe) : Type 0 where
   silent : (answer : Taken) → Takes old.to new.to question → IsNext old.reader new.reader old.from new.from answer → answer ≢ Line → IsUnheard question old new
 
 -- the line that came is one that is wanted
-pub record IsAnswered (question : List ℕ) (is_wanted : List ℕ → Bool) (old new : Pipe) : Type 0 where
+pub record HasAnswer (question : List ℕ) (is_wanted : List ℕ → Bool) (old new : Pipe) : Type 0 where
   pub heard : IsHeard question old new
   pub wanted : is_wanted new.reader.line ≡ true
   pub kept : KeepsRegisters old new
 
 -- no line came, or one that is not wanted
-pub record IsUnanswered (question : List ℕ) (is_wanted : List ℕ → Bool) (old new : Pipe) : Type 0 where
+pub record HasNoAnswer (question : List ℕ) (is_wanted : List ℕ → Bool) (old new : Pipe) : Type 0 where
   pub why : IsUnheard question old new ⊎ (IsHeard question old new × (is_wanted new.reader.line ≢ true))
   pub kept : KeepsRegisters old new
 
 -- an access failed, and the count rose by one: since the registers are strange, or for want of an answer
-pub data HasFailed (question : List ℕ) (is_wanted : List ℕ → Bool) (old new : Pipe) : Type 0 where
-  strange : old.strange ≡ true → new ≡ record old { faults = next_count old.faults } → HasFailed question is_wanted old new
-  missed : (mid : Pipe) → IsUnanswered question is_wanted old mid → new ≡ record mid { faults = next_count old.faults } → HasFailed question is_wanted old new
+pub data AccessFailed (question : List ℕ) (is_wanted : List ℕ → Bool) (old new : Pipe) : Type 0 where
+  strange : old.strange ≡ true → new ≡ record old { faults = next_count old.faults } → AccessFailed question is_wanted old new
+  missed : (mid : Pipe) → HasNoAnswer question is_wanted old mid → new ≡ record mid { faults = next_count old.faults } → AccessFailed question is_wanted old new
 
 -- the count behind an access: one more where it failed
 abbrev pub faults_after : {T : Type 0} → Result T Failed → ℕ → ℕ

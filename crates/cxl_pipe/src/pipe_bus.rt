@@ -6,7 +6,7 @@ ghost use Rattle.cxl_enc.specs.Faults.{HasCause};
 ghost use Rattle.cxl_io.specs.Reader.{fresh_reader};
 ghost use Rattle.cxl_regs.specs.Blocks.{IsPlace, word_in, blocks_after};
 ghost use Rattle.cxl_pipe.specs.Peer.{words_of, all_words, AreTold, StopsAmong, powered_on, HasPoweredOn};
-ghost use Rattle.cxl_pipe.specs.Pipe.{Pipe, state_of, KeepsRegisters, IsHeard, IsUnheard, IsAnswered, IsUnanswered, HasFailed, faults_after};
+ghost use Rattle.cxl_pipe.specs.Pipe.{Pipe, state_of, KeepsRegisters, IsHeard, IsUnheard, HasAnswer, HasNoAnswer, AccessFailed, faults_after};
 ghost use Rattle.cxl_pipe.specs.Protocol.{read_question, write_question, tells_word, says_taken};
 
 use crate::question::Question;
@@ -107,8 +107,8 @@ impl<S: Source, K: Sink> PipeBus<S, K> {
 
     /// Asks for a word, and says whether the peer told this one.
     fn tells(&mut self, node: u32, off: u32, word: u32) -> bool
-        ensures yes { OnTrue result (IsAnswered (read_question node off) (tells_word word) self.old self.new) }
-        ensures no { OnFalse result (IsUnanswered (read_question node off) (tells_word word) self.old self.new) }
+        ensures yes { OnTrue result (HasAnswer (read_question node off) (tells_word word) self.old self.new) }
+        ensures no { OnFalse result (HasNoAnswer (read_question node off) (tells_word word) self.old self.new) }
         ensures kept { KeepsRegisters self.old self.new }
     {
         if !self.hears(Question::read(node, off).bytes()) {
@@ -119,8 +119,8 @@ impl<S: Source, K: Sink> PipeBus<S, K> {
 
     /// Asks for a write, and says whether the peer took it.
     fn takes(&mut self, node: u32, off: u32, value: u32) -> bool
-        ensures yes { OnTrue result (IsAnswered (write_question node off value) says_taken self.old self.new) }
-        ensures no { OnFalse result (IsUnanswered (write_question node off value) says_taken self.old self.new) }
+        ensures yes { OnTrue result (HasAnswer (write_question node off value) says_taken self.old self.new) }
+        ensures no { OnFalse result (HasNoAnswer (write_question node off value) says_taken self.old self.new) }
         ensures kept { KeepsRegisters self.old self.new }
     {
         if !self.hears(Question::write(node, off, value).bytes()) {
@@ -218,9 +218,9 @@ impl<S: Source, K: Sink> Regs for PipeBus<S, K> {
         requires { IsPlace self.old.blocks node off }
         ensures word { IfOk result (λ word. word_in self.old.blocks node off ≡ Some word) }
         ensures told { IfOk result (λ word. (self.old.strange ≡ false)
-            × IsAnswered (read_question node off) (tells_word word) self.old self.new) }
+            × HasAnswer (read_question node off) (tells_word word) self.old self.new) }
         ensures failed { OnErr result ((word : ℕ) × (word_in self.old.blocks node off ≡ Some word)
-            × HasFailed (read_question node off) (tells_word word) self.old self.new) }
+            × AccessFailed (read_question node off) (tells_word word) self.old self.new) }
         ensures same { IsUntouched (state_of self.old) (state_of self.new) }
         // The count rises by one where it fails, and else stays.
         ensures faults { self.new.faults ≡ faults_after result self.old.faults }
@@ -240,9 +240,9 @@ impl<S: Source, K: Sink> Regs for PipeBus<S, K> {
     fn write32(&mut self, node: u32, off: u32, value: u32) -> Result<(), Failed>
         requires { IsPlace self.old.blocks node off }
         ensures taken { OnOk result ((self.old.strange ≡ false)
-            × ((mid : Pipe) × IsAnswered (write_question node off value) says_taken self.old mid
+            × ((mid : Pipe) × HasAnswer (write_question node off value) says_taken self.old mid
             × (self.new ≡ record mid { blocks = blocks_after self.old.blocks node off value }))) }
-        ensures failed { OnErr result (HasFailed (write_question node off value) says_taken self.old self.new) }
+        ensures failed { OnErr result (AccessFailed (write_question node off value) says_taken self.old self.new) }
         ensures written { OnOk result (self.new.blocks ≡ blocks_after self.old.blocks node off value) }
         ensures err { OnErr result (IsUntouched (state_of self.old) (state_of self.new)) }
         // The count rises by one where it fails, and else stays.

@@ -1,5 +1,5 @@
 use Rattle.std.proofs.Common.{true, false, ◌≡◌, sym, ap, subst, ◌∙◌, rules}
-use Rattle.cxl_pipe.specs.Pipe.{Pipe, IsAnswered}
+use Rattle.cxl_pipe.specs.Pipe.{Pipe, HasAnswer}
 use Rattle.cxl_pipe.specs.Protocol.{read_question, tells_word}
 use Rattle.cxl_pipe.proofs.Accesses.{failed_strange, failed_unanswered}
 use Rattle.cxl_pipe.proofs.pipe_bus.PipeBusRegs.read32.Goals as goal
@@ -16,4 +16,4 @@ returns-then-not-tells-clause-failed g c =
 pub returns-clause-told : goal.returns-clause-told
 returns-clause-told g c =
     let going : c.word.new.self.strange ≡ false = search rules in
-    (sym (ap (λ (p : Pipe). p.strange) c.in_ok-word.ensures.same) ∙ going, subst (λ (p : Pipe). IsAnswered (read_question c.args.node c.args.off) (tells_word c.in_ok-word.word) p c.tells.new.self) c.in_ok-word.ensures.same c.if-not-tells.ensures.yes)
+    (sym (ap (λ (p : Pipe). p.strange) c.in_ok-word.ensures.same) ∙ going, subst (λ (p : Pipe). HasAnswer (read_question c.args.node c.args.off) (tells_word c.in_ok-word.word) p c.tells.new.self) c.in_ok-word.ensures.same c.if-not-tells.ensures.yes)
