@@ -118,14 +118,34 @@ def files_of_definitions(crate):
     return below(specs, f"{specs}/Lib.antt") if os.path.exists(f"{specs}/Lib.antt") else iter(())
 
 
+FIELD = re.compile(r"  (?:pub )?(\S+) : ")
+
+
+class Definition:
+    """A public definition: the comment over it, and its fields or cases, each with the comment that stands over it or over the ones
+    before it."""
+
+    def __init__(self, name, said):
+        self.name, self.said, self.parts = name, said, []
+
+
 def definitions(path):
-    """The public definitions of a file, each with the comment that stands over it."""
-    said = []
+    """The public definitions of a file in its order."""
+    found, said, over, is_comment = [], [], [], False
     for line in read(path).split("\n"):
+        defines, field = DEFINES.match(line), FIELD.match(line)
         if line.startswith("-- "):
-            said.append(line[3:])
-            continue
-        defines = DEFINES.match(line)
-        if defines and defines[1] != "mod" and defines[1] != "use":
-            yield defines[1], " ".join(said)
-        said = []
+            said = said + [line[3:]]
+        elif defines and defines[1] not in ("mod", "use"):
+            found.append(Definition(defines[1], " ".join(said)))
+            over = []
+        elif line.startswith("  -- ") and found:
+            over = (over if is_comment else []) + [line[5:]]
+        elif field and found:
+            found[-1].parts.append((field[1], " ".join(over)))
+        elif not line.strip():
+            over = []
+        is_comment = line.startswith("  -- ")
+        if not line.startswith("-- "):
+            said = []
+    return found

@@ -47,6 +47,7 @@ pub record AreFalling (rows falling : List Row) : Type 0 where
   pub order : AllPairs (λ (row next : Row). next.node < row.node) falling
   pub same : (row : Row) → Contains rows row ↔ Contains falling row
 
+-- the writes of a create, row by row from the greatest node number to the least, each with the value that takes it back
 pub record AreCreateWrites (blocks : List Registers) (rows : List Row) (writes : List Write) : Type 0 where
   pub falling : List Row
   pub order : AreFalling rows falling
@@ -68,6 +69,7 @@ pub record AreRising (rows rising : List Row) : Type 0 where
   pub order : AllPairs (λ (row next : Row). row.node < next.node) rising
   pub same : (row : Row) → Contains rows row ↔ Contains rising row
 
+-- the writes of a release, one control word a row, from the least node on
 pub record AreReleaseWrites (rows : List Row) (writes : List Write) : Type 0 where
   pub rising : List Row
   pub order : AreRising rows rising

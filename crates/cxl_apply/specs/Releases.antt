@@ -44,7 +44,7 @@ abbrev pub blocks_without_row : List Registers → Row → List Registers
 blocks_without_row blocks row =
     option_map_or (λ block. slice_set blocks row.node (block_without_row row block)) (slice_get blocks row.node) blocks
 
--- the region's decoders released
+-- the region's decoders released: commit and committed clear, and all else as it was
 abbrev pub blocks_without : System → Found → List Registers
 blocks_without s found = fold blocks_without_row s.blocks (rows_of s found)
 

@@ -1,3 +1,5 @@
+//! A job: its register writes, made one after the other or taken back.
+
 ghost use Rattle.std.specs.Prelude.{◌≡◌, ◌≢◌, ℕ, ◌<◌, ◌≤◌, ◌↔◌, List, [], ◌∷◌, length, drop, All, IfOk, OnOk, OnErr};
 ghost use Rattle.cxl_bus.specs.Failed.{HasFailed};
 ghost use Rattle.cxl_bus.specs.Trail.{trail_with};

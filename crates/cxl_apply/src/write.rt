@@ -1,3 +1,5 @@
+//! One write of a job, and what a step of it came to.
+
 /// One register write of a job, and the value that takes it back.
 #[derive(Clone, Copy, PartialEq, Eq)]
 pub struct Write {

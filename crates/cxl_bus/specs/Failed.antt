@@ -12,7 +12,7 @@ place_limit = 65536
 abbrev pub behind : ℕ → List ℕ → List ℕ
 behind n places = map (λ place. n + place) places
 
--- the places that are told, and these behind them as long as there is room
+-- the places that are told, and these behind them as long as there is room: the first 65,536
 abbrev pub places_with : Option (List ℕ) → List ℕ → Option (List ℕ)
 places_with told more = option_map (λ places. places ++ take (place_limit - length places) more) told
 

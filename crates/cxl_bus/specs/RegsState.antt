@@ -3,6 +3,7 @@ use Rattle.std.specs.Prelude.{◌≡◌, ℕ, Bool, List, Option}
 use Rattle.cxl_regs.specs.Registers.{Registers}
 use Rattle.cxl_bus.specs.declared.sent.Sent.{Sent}
 
+-- what a bus holds, and what it tells
 pub record RegsState : Type 0 where
   -- a block a node, in node order
   pub blocks : List Registers

@@ -4,7 +4,7 @@ use Rattle.cxl_regs.specs.Registers.{Registers}
 use Rattle.cxl_regs.specs.Blocks.{blocks_after}
 use Rattle.cxl_bus.specs.declared.sent.Sent.{Sent}
 
--- the trail after one more write, where the trail is told
+-- the trail after one more write, where the trail is told, also of one that the block drops
 abbrev pub trail_after : Option (List Sent) → ℕ → ℕ → ℕ → Option (List Sent)
 trail_after trail node off value =
     option_map (λ sent. sent ++ record { node = node; off = off; value = value } ∷ []) trail

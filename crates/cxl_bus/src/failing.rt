@@ -1,3 +1,5 @@
+//! A bus that fails at stated calls, for tests and benches.
+
 ghost use Rattle.std.specs.Prelude.{◌≡◌, ◌<◌, ◌≤◌, true, [], length, Some, IfOk, OnOk, OnErr, is_err};
 ghost use Rattle.cxl_regs.specs.Blocks.{IsPlace, HasPlacesOf, word_in};
 ghost use Rattle.cxl_enc.specs.Counters.{fresh_counters, fails_next};
@@ -124,7 +126,9 @@ impl Regs for FailingBus {
 
     fn write32(&mut self, node: u32, off: u32, value: u32) -> Result<(), Failed>
         requires { IsPlace self.old.blocks node off }
-        // It fails at the calls of its list and where its trail is full, and nowhere else.
+        // It fails at the calls of its list and where its trail is full, and nowhere else. The trail has each write
+        // that was answered, in order, dropped values included; and of the first 65,536 faults it tells behind how
+        // many of these each came.
         ensures fails { is_err result ≡ is_write_failing self.old }
         ensures after { self.new ≡ after_write self.old node off value }
         ensures same_places { HasPlacesOf self.old.blocks self.new.blocks }

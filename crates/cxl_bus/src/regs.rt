@@ -1,3 +1,5 @@
+//! The trait behind which registers are reached, a word at a time.
+
 ghost use Rattle.std.specs.Prelude.{◌≡◌, ◌≤◌, [], ◌∷◌, Some, option_map, IfOk, OnOk, OnErr};
 ghost use Rattle.cxl_bus.specs.ExactCounts.{CountsExactly};
 ghost use Rattle.cxl_enc.specs.Faults.{HasCause, LeavesCount};

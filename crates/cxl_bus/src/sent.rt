@@ -1,3 +1,5 @@
+//! A write that a bus was sent, as its trail has it.
+
 /// A write that was answered `Ok`.
 #[derive(Clone, Copy, PartialEq, Eq)]
 pub struct Sent {

@@ -1,3 +1,5 @@
+//! The simulator's bus, over blocks in memory.
+
 ghost use Rattle.std.specs.Prelude.{◌≡◌, true, [], None, Some, IfOk, IsOk};
 ghost use Rattle.cxl_regs.specs.Blocks.{IsPlace, HasPlacesOf, word_in, blocks_after};
 
@@ -58,6 +60,7 @@ impl Regs for SimBus {
 
     fn write32(&mut self, node: u32, off: u32, value: u32) -> Result<(), Failed>
         requires { IsPlace self.old node off }
+        // It never fails.
         ensures never_fails { IsOk result }
         ensures written { self.new ≡ blocks_after self.old node off value }
         ensures same_places { HasPlacesOf self.old self.new }

@@ -71,7 +71,7 @@ pub fn device_byte(found: &Found, weave: &Weave, h: u64) -> DeviceByte
     }
 }
 
-/// The bytes of a region that a load asks for.
+/// The bytes of a region that a load asks for, as its contents have them. Takes memory.
 pub fn load_bytes<M: Media>(
     alloc: Global,
     media: &M,

@@ -8,7 +8,7 @@ use crate::parts::DeviceByte;
 use cxl_media::{Full, Media};
 use cxl_reply::{Lack, Reply};
 
-/// Puts bytes into one block, where the frame that it needs is free.
+/// Puts bytes into one block, where the frame that it needs is free; else nothing changes, and the lack is told.
 pub fn put_one<M: Media>(media: &mut M, byte: DeviceByte, bytes: &[u8]) -> Reply
     requires { IsInOneBlock byte.dpa (length bytes.now) }
     ensures { PutsOne byte.ep byte.dpa bytes.now (M.state media.old) (M.state media.new) result }
@@ -19,7 +19,7 @@ pub fn put_one<M: Media>(media: &mut M, byte: DeviceByte, bytes: &[u8]) -> Reply
     }
 }
 
-/// Puts bytes into two blocks, where the frames that both need are free.
+/// Puts bytes into two blocks, where the frames that both need are free; else nothing changes, and the lack is told.
 pub fn put_two<M: Media>(
     media: &mut M,
     first: DeviceByte,

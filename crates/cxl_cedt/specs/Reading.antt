@@ -30,5 +30,6 @@ first_records (suc n) (byte ∷ bytes) =
 abbrev pub records_in : List ℕ → List Record
 records_in text = first_records (length text) text
 
+-- the table that bytes spell, read from their front; a table that is read and not copied stands for it
 unfoldable pub table_in : List ℕ → CedtFields
 table_in bytes = record { head = head_in bytes; records = records_in (drop header_size bytes) }

@@ -82,6 +82,6 @@ spelling_with checksum c = header (table_length c.records) checksum c.head ++ fl
 abbrev pub checksum_for : ℕ → ℕ
 checksum_for total = (256 - total % 256) % 256
 
--- the table with its own checksum
+-- the one text of the table with reserved fields zero and its own checksum
 unfoldable pub spelling : CedtFields → List ℕ
 spelling c = spelling_with (checksum_for (sum (spelling_with 0 c))) c

@@ -40,6 +40,7 @@ pub record HasFrame (text : List ℕ) (kind size : ℕ) : Type 0 where
   pub length_said : field text length_place 2 ≡ size
   pub length_is : length text ≡ size
 
+-- the bytes spell a CHBS: its fields at their places; what is not named is reserved and may hold anything
 pub record IsChbsText (text : List ℕ) (c : chbs.Chbs) : Type 0 where
   pub frame : HasFrame text chbs_kind chbs_size
   pub uid : field text uid_place 4 ≡ c.uid
@@ -47,6 +48,7 @@ pub record IsChbsText (text : List ℕ) (c : chbs.Chbs) : Type 0 where
   pub base : field text register_base_place 8 ≡ c.base
   pub register_length : field text register_length_place 8 ≡ c.length
 
+-- the bytes spell a CFMWS: its fields at their places; what is not named is reserved and may hold anything
 pub record IsCfmwsText (text : List ℕ) (c : CfmwsFields) : Type 0 where
   pub frame : HasFrame text cfmws_kind (window_front_size + 4 * length c.targets)
   pub base : field text window_base_place 8 ≡ c.base
@@ -60,6 +62,7 @@ pub record IsCfmwsText (text : List ℕ) (c : CfmwsFields) : Type 0 where
   pub qtg : field text qtg_place 2 ≡ c.qtg
   pub targets : fields text window_front_size 4 (length c.targets) ≡ c.targets
 
+-- the bytes spell a CXIMS: its fields at their places; what is not named is reserved and may hold anything
 pub record IsCximsText (text : List ℕ) (c : CximsFields) : Type 0 where
   pub frame : HasFrame text cxims_kind (maps_front_size + 8 * length c.maps)
   pub gran : field text maps_gran_place 1 ≡ c.gran
@@ -87,7 +90,8 @@ AreRecordTexts text (r ∷ rs) = (first : List ℕ) × (rest : List ℕ) × (tex
 
 -- ---- the table
 
--- the bytes spell the table, each byte of them
+-- The bytes spell the table, each byte of them: a header with the signature, the true length and a sum of 0 modulo 256, and
+-- the texts of the records one after the other, with at most 64 of each judged type.
 pub record IsTableText (bytes : List ℕ) (c : CedtFields) : Type 0 where
   pub long : header_size ≤ length bytes
   pub signature : IsTrue (has_signature bytes)
@@ -168,7 +172,7 @@ pub record IsRecordFault (bytes : List ℕ) (fault : CedtFault) : Type 0 where
   pub more : 0 < length rest
   pub fault_is : record_fault before rest (header_size + length front) ≡ Some fault
 
--- the fault of the header, or else of the first record that has one
+-- the fault of the header, or else of the first record that has one, with the place at which that begins
 abbrev pub FirstTableFault : List ℕ → CedtFault → Type 0
 FirstTableFault bytes fault =
     (header_fault bytes ≡ Some fault) ⊎ ((header_fault bytes ≡ None) × IsRecordFault bytes fault)

@@ -133,7 +133,7 @@ abbrev pub gen_form : List (List ℕ) → Form
 gen_form (number ∷ []) = gen_of (number_of number)
 gen_form words = Unreadable
 
--- what the words ask for
+-- what the words ask for, in two parts: which files they name, and what is asked of these
 abbrev pub form_of : List (List ℕ) → Form
 form_of [] = Unreadable
 form_of (word ∷ words) =

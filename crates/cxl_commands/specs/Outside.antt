@@ -2,6 +2,7 @@
 use Rattle.cxl_io.specs.Fetch.{FetchState}
 use Rattle.cxl_io.specs.Sink.{SinkState}
 
+-- what files and sink hold at a moment
 pub record Outside : Type 0 where
   pub files : FetchState
   pub out : SinkState

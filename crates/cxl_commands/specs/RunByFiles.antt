@@ -15,8 +15,9 @@ pub data RunsOut (form : Form) (old new : Outside) : Type 0 where
   before : AsksForSome (own_files form) old.files new.files → WritesNothing old.out new.out → RunsOut form old new
   behind : (outcome : Outcome) → IsOutcomeOf form old new outcome → IsBehind outcome old.out new.out → RunsOut form old new
 
--- How a run ends by its words and files alone: an outcome that answers the form is written; or the sink failed behind a part of its text; or memory
--- ran out, in a form that takes any.
+-- How a run ends by its words and files alone: an outcome that answers the form is written; or the sink failed behind a part
+-- of its text; or memory ran out, in a form that takes any. A write that failed is told by the status in each case, of a
+-- sink that counts failures alone.
 pub data IsRunByFiles (form : Form) (old new : Outside) (status : Status) : Type 0 where
   writes : (outcome : Outcome) → IsOutcomeOf form old new outcome → IsWritten outcome status old.out new.out → IsRunByFiles form old new status
   is_cut : (outcome : Outcome) → IsOutcomeOf form old new outcome → IsCutShort outcome status old.out new.out → IsRunByFiles form old new status

@@ -1,3 +1,5 @@
+//! What the words of the command line ask for.
+
 ghost use Rattle.std.specs.Prelude.{◌≡◌, false, true, IfOk, OnErr};
 ghost use Rattle.cxl_io.specs.Numbers.{number_of};
 ghost use Rattle.cxl_commands.specs.Plain.{plain};

@@ -37,11 +37,12 @@ dealt_chunk w h = chunk_from w.base w.gran h
 abbrev pub dealt_low : WeaveFields → ℕ → ℕ
 dealt_low w h = low_by w.xor w.root_bits w.maps h (dealt_chunk w h)
 
--- the slot to which the address is dealt
+-- The slot to which the address is dealt. With c = (h - base) / granularity and w ways of which k are root bits it is (c mod
+-- w) - (c mod 2 ^ k) + low, with low as in a position among the targets.
 abbrev pub dealt_slot : WeaveFields → ℕ → ℕ
 dealt_slot w h = slot_by w.root_bits (weave_ways w) (dealt_low w h) (dealt_chunk w h)
 
--- how far into the slot's span it is dealt
+-- how far into the slot's span it is dealt: (c / w) * granularity + (h - base) mod granularity
 abbrev pub dealt_offset : WeaveFields → ℕ → ℕ
 dealt_offset w h = dealt_chunk w h / weave_ways w * chunk_size w.gran + (h - w.base) % chunk_size w.gran
 

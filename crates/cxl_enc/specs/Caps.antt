@@ -29,7 +29,8 @@ abbrev pub has_own_bits : ℕ → Bool → Bool
 has_own_bits cap endpoint =
     if endpoint then targets_of cap == 0 else is_target_count (targets_of cap) && nat_lt cap 2048
 
--- a word that a port's or an endpoint's block may have
+-- A word that a port's or an endpoint's block may have. That a port has no 3, 6, 12 and 16 ways, and that other bits are
+-- clear, is this project's rule.
 abbrev pub is_legal_cap : ℕ → Bool → Bool
 is_legal_cap cap endpoint = has_named_bits cap && has_own_bits cap endpoint
 

@@ -6,6 +6,7 @@ use Rattle.std.specs.List.{list_any}
 abbrev pub next_count : ℕ → ℕ
 next_count n = min (n + 1) (2 ^ 64 - 1)
 
+-- calls, faults, and the calls that are to fail, of an object in memory
 pub record Counters : Type 0 where
   -- the numbers of the calls that fail, counted from 1
   pub fails : List ℕ

@@ -1,4 +1,4 @@
--- Counts of faults: how each trait of the outside shows that it gave cause.
+-- Counts of faults: how each trait of the outside shows that it gave cause (this project's rules).
 use Rattle.std.specs.Prelude.{◌≡◌, ℕ, ◌+◌, ◌-◌, ◌^◌, ◌≤◌, min, Bool, true, Result, OnErr}
 
 -- the count rose in a call: a count that has reached 2 ^ 64 - 1 stays there, and is taken as risen

@@ -7,7 +7,7 @@ abbrev pub is_name_byte : ℕ → Bool
 is_name_byte b =
     (nat_le 48 b && nat_le b 57) || (nat_le 65 b && nat_le b 90) || (nat_le 97 b && nat_le b 122) || (b == 95)
 
--- 1 to 15 such bytes
+-- 1 to 15 such bytes (this project's rule)
 pub record IsName (bytes : List ℕ) : Type 0 where
   pub some : 0 < length bytes
   pub few : length bytes ≤ 15

@@ -103,7 +103,7 @@ pub struct Factors {
     pub bits: u8,
 }
 
-/// The two factors of a number of ways.
+/// The two factors of a number of ways, `t * 2^k`: t is 3 where 3 divides them, and else 1.
 pub fn split(ways: u8) -> Factors
     requires { IsTrue (is_ways ways) }
     ensures third { third_of ways ≡ (if result.third then 3 else 1) }

@@ -37,7 +37,8 @@ impl Model for Name {
 }
 
 impl Name {
-    /// The name of these bytes, `None` where they are none.
+    /// The name of these bytes: 1 to 15 ASCII letters, digits and `_`. `None` where they are none. (This project's
+    /// rule.)
     pub fn read(bytes: &[u8]) -> Option<Name>
         ensures name { IsSome result ↔ IsName bytes.now }
         ensures value { IfSome result (λ name. name ≡ bytes.now) }

@@ -51,7 +51,7 @@ abbrev pub PassesFlat : Machine → Asked → List Sent → Type 0
 PassesFlat m (Ok command) words = IsFlatWay m command words
 PassesFlat m (Err fault) words = ⊥
 
--- One command of a session.
+-- One command of a session behaves as on flat memory.
 pub record IsFlatTurn (m : Machine) (one : Asked) (turn : Turn) : Type 0 where
   -- it is answered by the machine, of which loads and stores read and write one flat memory
   pub answered : TakesTurn m one turn

@@ -43,6 +43,7 @@ made_endpoint i = record {
 abbrev pub made_nodes : ℕ → List Node
 made_nodes n = map made_bridge (range_with_len 0 (2 * n)) ++ map made_endpoint (range_with_len 0 (4 * n))
 
+-- and its topology
 abbrev pub made_tree : ℕ → Tree
 made_tree n = record { nodes = made_nodes n; frames = default_frames }
 
@@ -75,6 +76,7 @@ made_window j = records.Cfmws (record {
 abbrev pub made_records : ℕ → List Record
 made_records n = map made_chbs (range_with_len 0 (2 * n)) ++ map made_cxims (1 ∷ 3 ∷ 5 ∷ []) ++ map made_window (range_with_len 0 n)
 
+-- the table of a number
 abbrev pub made_table : ℕ → CedtFields
 made_table n = record {
   head = record { revision = 1; oem_id = replicate 6 0; oem_table = replicate 8 0; oem_revision = 0; creator = replicate 4 0; creator_revision = 0 };

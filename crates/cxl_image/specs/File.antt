@@ -54,7 +54,7 @@ pub record HasMore (bytes : List ℕ) (nodes : List Node) (at : ℕ) : Type 0 wh
   pub more : end_of nodes < length bytes
   pub agrees : AgreesUpTo bytes nodes (end_of nodes)
 
--- what a first fault says
+-- what a first fault says, from the front of the file
 abbrev pub IsFirstImageFault : List ℕ → List Node → ImageFault → Type 0
 IsFirstImageFault bytes nodes Magic = HasOtherMagic bytes
 IsFirstImageFault bytes nodes (Cut n) = IsCut bytes nodes n

@@ -23,7 +23,7 @@ pub record IsBlockOf (node : Node) (block : Registers) : Type 0 where
   pub cap : block.cap ≡ node.cap
   pub endpoint : block.endpoint ≡ is_endpoint node.kind
 
--- one block for each node
+-- one block for each node, with its capability word, and an endpoint's exactly where the node is an endpoint
 pub record HasCapsOf (blocks : List Registers) (nodes : List Node) : Type 0 where
   pub count : length blocks ≡ length nodes
   pub each : (i : ℕ) (block : Registers) (node : Node) → slice_get blocks i ≡ Some block → slice_get nodes i ≡ Some node → IsBlockOf node block

@@ -20,6 +20,6 @@ block_words block = head_words block ++ flat_map words_of block.decoders
 abbrev pub block_text : Registers → List ℕ
 block_text block = words_text (block_words block)
 
--- the magic, the number of nodes, and their blocks
+-- the magic, the number of nodes, and their blocks, with zero where nothing counts
 abbrev pub image_text : List Registers → List ℕ
 image_text blocks = codes "CXLHDM01" ++ word_bytes (length blocks) ++ flat_map block_text blocks

@@ -20,6 +20,7 @@ pub record IsCutShort (outcome : Outcome) (status : Status) (old new : SinkState
   pub rose : Rose old.faults new.faults
   pub taken : TakesPrefix old new (whole_text outcome)
 
+-- an outcome is written whole and no write failed, or the sink failed behind a part of its text
 abbrev pub Ends : Outcome → Status → SinkState → SinkState → Type 0
 Ends outcome status old new = IsWritten outcome status old new ⊎ IsCutShort outcome status old new
 

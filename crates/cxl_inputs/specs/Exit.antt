@@ -3,6 +3,7 @@ use Rattle.std.specs.Prelude.{ℕ}
 use Rattle.cxl_inputs.specs.declared.status.Status.{Status}
 use Rattle.cxl_inputs.specs.declared.status.Status.TheVariants.{Done, Usage, FetchFault, BadTable, BadTopo, ReadFault, WriteFault, BusFault, Refused, Memory, BadImage, TooMuch, TooLarge}
 
+-- the number of each status (this project's rule)
 abbrev pub exit_code : Status → ℕ
 exit_code Done = 0
 exit_code Usage = 1

@@ -1,3 +1,5 @@
+//! The line that names the first fault of a file.
+
 ghost use Rattle.std.specs.Prelude.{◌≡◌, ◌++◌, codes, IfOk};
 ghost use Rattle.cxl_reply.specs.Words.{line};
 ghost use Rattle.cxl_inputs.specs.Faults.{numbered};

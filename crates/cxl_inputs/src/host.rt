@@ -1,3 +1,5 @@
+//! The host that the files of a table, a topology and an image describe.
+
 ghost use Rattle.std.specs.Prelude.{◌≡◌, ◌≤◌, Some, [], ◌∷◌, IfOk, IfErr, OnOk};
 ghost use Rattle.cxl_cedt.specs.CedtFields.{CedtFields};
 ghost use Rattle.cxl_image.specs.Images.{HasCapsOf};

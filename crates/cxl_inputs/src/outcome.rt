@@ -1,3 +1,5 @@
+//! What a command comes to: how the run ends, and one piece of text.
+
 ghost use Rattle.std.specs.Prelude.{◌≡◌, ◌≤◌};
 ghost use Rattle.cxl_inputs.specs.Ends.{Ends};
 ghost use Rattle.cxl_inputs.specs.Outcome.{one_piece};
@@ -31,7 +33,7 @@ impl Model for Outcome {
 }
 
 impl Outcome {
-    /// Takes no memory.
+    /// This status with a text that is fixed. Takes no memory.
     pub fn fixed(status: Status, text: &'static str) -> Outcome
         ensures { result ≡ one_piece status text.now }
     {
@@ -41,6 +43,7 @@ impl Outcome {
         }
     }
 
+    /// This status with a text that was made.
     pub fn made(status: Status, text: Vec<u8>) -> Outcome
         ensures { result ≡ one_piece status text.items }
     {
@@ -50,7 +53,8 @@ impl Outcome {
         }
     }
 
-    /// Writes the text, and says how the run ends. Takes no memory.
+    /// Writes the text, and says how the run ends: it is written whole and no write failed, or the sink failed behind
+    /// a part of it, which has a status of its own. Takes no memory.
     pub fn write<K: Sink>(&self, out: &mut K) -> Status
         ensures ends { Ends self.now result (K.state out.old) (K.state out.new) }
         ensures counts { (K.state out.old).faults ≤ (K.state out.new).faults }

@@ -1,3 +1,5 @@
+//! The ways in which a run ends, each with its exit status.
+
 ghost use Rattle.std.specs.Prelude.{◌≡◌};
 
 use cxl_cedt::CedtFault;

@@ -1,3 +1,5 @@
+//! What ends a command early, and the end of each command.
+
 ghost use Rattle.std.specs.Prelude.{◌≡◌, ◌≤◌};
 ghost use Rattle.cxl_inputs.specs.Ends.{Finishes};
 ghost use Rattle.cxl_inputs.specs.Stop.{stop_of};
@@ -39,7 +41,8 @@ impl From<Memory> for Stop {
     }
 }
 
-/// Writes what a command comes to, and says how the run ends.
+/// Writes what a command comes to, and says how the run ends. Where memory ran out nothing is written, and no write
+/// failed.
 pub fn finish<K: Sink>(answer: Result<Outcome, Stop>, out: &mut K) -> Status
     ensures finishes { Finishes answer result (K.state out.old) (K.state out.new) }
     ensures counts { (K.state out.old).faults ≤ (K.state out.new).faults }

@@ -1,3 +1,5 @@
+//! The file of a table: its reading, or the text of its first fault.
+
 ghost use Rattle.std.specs.Prelude.{◌≡◌, ◌≢◌, ◌≤◌, Some, [], ◌∷◌, length, IfOk, IfErr, OnOk};
 ghost use Rattle.cxl_cedt.specs.declared.fault.CedtFault.{CedtFault};
 ghost use Rattle.cxl_io.specs.Fetch.{AsksFor};
@@ -14,7 +16,8 @@ use cxl_cedt::{Cedt, CedtFault, read};
 use cxl_io::{Fetch, Memory};
 use std::alloc::Global;
 
-/// The table of a command's first file. It stops where there is none.
+/// The table of a command's first file. Where there is none it stops with what is told of the file, or for want of
+/// memory, and no other file was asked for.
 pub fn fetch_table<F: Fetch>(alloc: Global, file: &str, files: &mut F) -> Result<Cedt, Stop>
     ensures table { IfOk result (IsTableOf ((F.state files.old).told file.now)) }
     ensures asked { OnOk result (AsksFor (F.state files.old) (F.state files.new) (file.now ∷ [])) }

@@ -1,3 +1,5 @@
+//! The file of a topology: its reading, or the text of its first fault.
+
 ghost use Rattle.std.specs.Prelude.{◌≡◌, ◌≢◌, ◌≤◌, [], ◌∷◌, ◌++◌, codes, IfOk, IfErr, OnOk};
 ghost use Rattle.cxl_io.specs.Fetch.{AsksFor};
 ghost use Rattle.cxl_reply.specs.Words.{line};

@@ -3,7 +3,7 @@ use Rattle.std.specs.Prelude.{◌≡◌, ℕ, ◌<◌, ◌≤◌, Bool, Option, 
 use Rattle.cxl_enc.specs.Limits.{file_limit}
 use Rattle.cxl_io.specs.Told.{told_with, Told, Untold, Absent, Bytes, AreTold}
 
--- names are bytes, too
+-- What files tell of a name: nothing, that there is no such file, or its bytes. Names are bytes, too.
 pub record FetchState : Type 0 where
   pub told : List ℕ → Told
   -- the names that were asked for, in order, where they are told

@@ -21,6 +21,8 @@ abbrev pub ended_in : List ℕ → List (List ℕ) → List (List ℕ)
 ended_in piece [] = []
 ended_in piece (next ∷ more) = strip_carriage_return piece ∷ ended_in next more
 
+-- the pieces that end with the byte 10, less that byte and a byte 13 before it, and a last piece that is not empty (this
+-- project's rule)
 abbrev pub lines_of : List ℕ → List (List ℕ)
 lines_of bytes = lines_in (first_piece bytes) (later_pieces bytes)
 

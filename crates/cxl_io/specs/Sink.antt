@@ -2,6 +2,7 @@
 use Rattle.std.specs.Prelude.{◌≡◌, ℕ, ◌<◌, Bool, Option, List, length, take}
 use Rattle.cxl_io.specs.Told.{told_with}
 
+-- what a sink took
 pub record SinkState : Type 0 where
   -- the bytes taken so far, where it tells them
   pub taken : Option (List ℕ)

@@ -2,6 +2,7 @@
 use Rattle.std.specs.Prelude.{◌≡◌, ℕ, Bool, Option, IfSome, List, []}
 use Rattle.cxl_io.specs.Told.{told_behind}
 
+-- what a source has left
 pub record SourceState : Type 0 where
   -- the bytes left, where it tells them
   pub left : Option (List ℕ)

@@ -94,8 +94,8 @@ impl LineReader {
         self.line.as_slice()
     }
 
-    /// The next line. `End`, `Fault` and `TooMuch` come for good, once every line is passed on that ended
-    /// before. Takes no memory.
+    /// The next line. `Long` comes of a line above 4,096 bytes, and `TooMuch` at the byte behind 16,777,216. `End`,
+    /// `Fault` and `TooMuch` come for good, once every line is passed on that ended before. Takes no memory.
     pub fn next<S: Source>(&mut self, source: &mut S) -> Taken
         ensures next { IsNext self.old self.new (S.state source.old) (S.state source.new) result }
         ensures counts { (S.state source.old).faults ≤ (S.state source.new).faults }

@@ -64,7 +64,8 @@ impl<R: Files> Fetch for StdFetch<R> {
     }
 }
 
-/// All that a reader has left, as a file. Takes memory; where it fails at any byte, nothing is given.
+/// All that a reader has left, as a file, refused above 1,048,576 bytes. Takes memory; where it fails at any byte,
+/// nothing is given.
 pub fn whole_file<F: Read + Drop>(alloc: Global, file: F) -> Result<Vec<u8>, FetchFault>
     ensures ok { IfOk result (λ bytes. IsFile (told_by (F.remaining file)) bytes.items) }
     ensures too_large { result ≡ Err FetchFault.TooLarge → IsTooLarge (told_by (F.remaining file)) }

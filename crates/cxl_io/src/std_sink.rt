@@ -41,7 +41,7 @@ impl<W: Write> Model for StdSink<W> {
 }
 
 impl<W: Write> StdSink<W> {
-    /// Writes to this writer, as `io::writer(&rt)`. Takes no memory.
+    /// Writes to this writer, as `io::writer(&rt)`, and tells what that tells from the first. Takes no memory.
     pub fn new(to: W) -> StdSink<W>
         ensures { result ≡ record { taken = W.contents to; faults = 0; counts_failures_alone = true } }
     {

@@ -41,7 +41,8 @@ impl<R: Read> Model for StdSource<R> {
 }
 
 impl<R: Read> StdSource<R> {
-    /// Reads from this reader, as `rt.reader()`. Takes no memory.
+    /// Reads from this reader, as `rt.reader()`, and tells what that tells from the first: no byte is lost, added or
+    /// told twice. Takes no memory.
     pub fn new(input: R) -> StdSource<R>
         ensures { result ≡ record { left = R.remaining input; faults = 0; counts_failures_alone = true } }
     {

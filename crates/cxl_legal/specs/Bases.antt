@@ -18,12 +18,14 @@ last_end s n =
 abbrev pub base_step : WindowFields → ℕ
 base_step w = if w.ways % 3 == 0 then 3 * unit else unit
 
--- at or above the window's base, and past all that is committed in the used nodes
+-- at or above the window's base, past all that is committed in the used nodes, and in steps of 256 MiB, or of 768 MiB where
+-- 3 divides the window's ways
 pub record IsBase (s : System) (request : Request) (w : WindowFields) (base : ℕ) : Type 0 where
   pub from : w.base ≤ base
   pub after : (n : ℕ) → is_used s request n ≡ true → last_end s n ≤ base
   pub step : (base - w.base) % base_step w ≡ 0
 
+-- the least such
 pub record IsLeastBase (s : System) (request : Request) (w : WindowFields) (base : ℕ) : Type 0 where
   pub can : IsBase s request w base
   pub least : (other : ℕ) → IsBase s request w other → base ≤ other

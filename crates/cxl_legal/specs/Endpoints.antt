@@ -67,6 +67,9 @@ HasRoom s request m = (span : Span) × IsLeastSpan (decoders_at s m) (ram_at s m
 
 -- ---- all of it
 
+-- The endpoints differ and are as many as some region has ways, and the size can be shared out. Used ports are 1, 2, 4 or 8
+-- and no more than the targets, each with as many requested endpoints as any other, and as many under each used bridge. Each
+-- used node has a decoder left, and each endpoint room.
 pub record FitsEndpoints (s : System) (request : Request) : Type 0 where
   pub distinct : AllPairs (λ a b. a ≢ b) request.endpoints
   pub ways : is_ways (request_ways request) ≡ true

@@ -95,6 +95,8 @@ pub record IsStatedPlace (s : System) (request : Request) (w : WindowFields) (sl
 
 -- ---- the plan
 
+-- One row for each used node that does not forward, in its first decoder that is not committed: used ports in rising order,
+-- or the skip to where the span starts.
 pub record IsStatedPlan (s : System) (request : Request) (w : WindowFields) (base : ℕ) (plan : Plan) : Type 0 where
   pub name : plan.name ≡ request.name
   pub starts : plan.found.base ≡ base
@@ -113,6 +115,7 @@ pub record IsStatedPlan (s : System) (request : Request) (w : WindowFields) (bas
 abbrev pub planned_range : Request → ℕ → Range
 planned_range request base = record { base = base; size = request.size }
 
+-- a request that keeps all this over an accepted image
 pub record Fits (s : System) (request : Request) (w : WindowFields) (base : ℕ) : Type 0 where
   pub system : IsSystem s
   pub ports : HasBytePorts s.nodes

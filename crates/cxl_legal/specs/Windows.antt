@@ -45,6 +45,8 @@ can_have_ways s request n =
     not (is_endpoint_at s.nodes n && is_used s request n)
     || option_map_or (endpoint_ways_ok (cap_at s n)) (code_in_table (request_ways request)) false
 
+-- The window can be used, permits the kind, has no fixed configuration, targets exactly the used bridges, and agrees with a
+-- stated granularity where it has several ways; and in its code each used node can select and each endpoint have the ways.
 pub record FitsWindow (s : System) (request : Request) (w : WindowFields) : Type 0 where
   pub there : slice_get s.windows w.index ≡ Some w
   pub usable : is_usable w.verdict ≡ true

@@ -30,12 +30,18 @@ use cxl_topo::tree_laws;
 /// A law of plans: where one is legal over an accepted image, the request keeps all that it has to, in its
 /// endpoints, in that window and at that base.
 pub fn legal_plans_fit()
+    // The endpoints differ, are 1, 2, 3, 4, 6, 8, 12 or 16, and lie evenly under used ports and bridges; each used
+    // node has a decoder left, and each endpoint room for its share.
     ensures endpoints { (s : System) (request : Request) (w : WindowFields) (plan : Plan) → IsSystem s
         → HasBytePorts s.nodes → IsAccepted s → AreEndpoints s request → IsLegalPlanIn s request w plan
         → FitsEndpoints s request }
+    // The window can be used, permits the kind, is open to plans, targets exactly the used bridges and agrees with a
+    // stated granularity; and each used node can select on the bits and have the ways that it would need.
     ensures window { (s : System) (request : Request) (w : WindowFields) (plan : Plan) → IsSystem s
         → HasBytePorts s.nodes → IsAccepted s → AreEndpoints s request → IsLegalPlanIn s request w plan
         → FitsWindow s request w }
+    // The base lies in the window at its step, past all that is committed in the used nodes, with the region's end
+    // inside.
     ensures base { (s : System) (request : Request) (w : WindowFields) (plan : Plan) → IsSystem s
         → HasBytePorts s.nodes → IsAccepted s → AreEndpoints s request → IsLegalPlanIn s request w plan
         → FitsBase s request w plan.found.base }

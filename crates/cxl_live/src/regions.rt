@@ -49,12 +49,14 @@ impl LiveRegions {
         })
     }
 
+    /// The regions, in their order.
     pub fn as_slice(&self) -> &[Found]
         ensures { result.now ≡ self.now }
     {
         self.founds.as_slice()
     }
 
+    /// How many there are.
     pub fn len(&self) -> usize
         ensures { result ≡ length self.now }
     {
@@ -69,7 +71,8 @@ impl LiveRegions {
         &self.founds[place]
     }
 
-    /// The place of the region that holds a host address: a search by base, where none holds the base of another.
+    /// The place of the region that holds a host address, `None` where none does: a search by base, where none holds
+    /// the base of another.
     pub fn holder(&self, h: u64) -> Option<usize>
         ensures { LieApart self.now → result ≡ position (λ found. has_host found h) self.now }
     {
@@ -86,7 +89,7 @@ impl LiveRegions {
         }
     }
 
-    /// A region is live, behind the others.
+    /// A region is live, behind the others. Takes no memory.
     pub fn push(&mut self, found: Found)
         requires { length self.old < region_limit }
         ensures { self.new ≡ self.old ++ found ∷ [] }
@@ -97,7 +100,7 @@ impl LiveRegions {
         let _found = self.founds.push(found);
     }
 
-    /// A region is live at this place, before those that stood there and behind.
+    /// A region is live at this place, before those that stood there and behind. Takes no memory.
     pub fn insert(&mut self, place: usize, found: Found)
         requires place { place ≤ length self.old }
         requires room { length self.old < region_limit }

@@ -12,6 +12,7 @@ use Rattle.cxl_machine.specs.Requests.{asked_release}
 use Rattle.cxl_machine.specs.Regions.{AnswersCreate, AnswersWhole, AnswersBeginCreate, begin_answer, AnswersStep, AnswersAbort}
 use Rattle.cxl_machine.specs.Copies.{copy_answer, move_answer}
 
+-- what a command is answered by a machine when the bus let it go so
 abbrev pub Answers : Machine → Command → BusOutcome → Answer → Type 0
 Answers m (commands.Create create) outcome answer = AnswersCreate m create outcome answer
 Answers m (commands.Destroy name) outcome answer = AnswersWhole m (asked_release m name) outcome answer

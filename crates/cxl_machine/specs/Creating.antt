@@ -26,7 +26,7 @@ pub record IsLegalJob (m : Machine) (create : Create) (job : RegionJob) : Type 0
 abbrev pub AsksLegally : Machine → Create → Type 0
 AsksLegally m create = (job : RegionJob) → AsksCreate m create (Ok job) → IsLegalJob m create job
 
--- what is asked for is one, where the command makes a region
+-- what is asked for is the job of a legal plan, under the name of the line, where the command makes a region
 abbrev pub CreatesLegally : Machine → Command → Type 0
 CreatesLegally m (commands.Create create) = AsksLegally m create
 CreatesLegally m (commands.BeginCreate create) = AsksLegally m create

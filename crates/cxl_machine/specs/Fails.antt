@@ -33,6 +33,8 @@ FailsLast Undone trail failed = ⊥
 FailsLast (LeftPending done) trail failed = failed ≡ length trail ∷ []
 FailsLast ReadFailed trail failed = failed ≡ length trail ∷ []
 
+-- Behind how many of its words each call of the bus fails that does. So nothing is called behind a fault but what undoes,
+-- and that is tried once.
 abbrev pub FailsOf : Machine → Command → BusOutcome → List Sent → List ℕ → Type 0
 FailsOf m (commands.Create create) outcome trail failed = FailsCreate m create outcome trail failed
 FailsOf m (commands.Destroy name) outcome trail failed = FailsAsked (asked_release m name) outcome trail failed

@@ -46,6 +46,7 @@ GoesRead region Undone = ⊥
 GoesRead region (LeftPending done) = ⊥
 GoesRead region ReadFailed = IsSome region
 
+-- how the bus can let the command of this machine go
 abbrev pub CanGo : Machine → Command → BusOutcome → Type 0
 CanGo m (commands.Create create) outcome = (asked : Result RegionJob Reply) × AsksCreate m create asked × GoesAsked asked outcome
 CanGo m (commands.Destroy name) outcome = GoesAsked (asked_release m name) outcome

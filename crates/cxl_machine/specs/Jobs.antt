@@ -65,14 +65,16 @@ settled_by job (Releases place) s = system_without s job.region.found
 abbrev pub at_done : RegionJob → ℕ → Machine → Machine
 at_done job done m = record m { job = Some (record job { done = done }) }
 
--- the job is begun
+-- The job is begun. A region that is being made is not there till the last write; one that is being ended is not live from
+-- here on.
 abbrev pub begun : RegionJob → Machine → Machine
 begun job m = at_done job job.done (record m { live = live_while job.kind m.live })
 
--- the job that is pending has made its last write
+-- the job that is pending has made its last write: the image is settled with the plan's rows committed, or with the region's
+-- decoders released
 abbrev pub finished : RegionJob → Machine → Machine
 finished job m = record m { settled = settled_by job job.kind m.settled; live = live_when_done job job.kind m.live; job = None }
 
--- the job that is pending is undone whole
+-- the job that is pending is undone whole: a region that was being ended is live again at its old place
 abbrev pub undone : RegionJob → Machine → Machine
 undone job m = record m { live = live_when_undone job job.kind m.live; job = None }

@@ -86,10 +86,11 @@ abbrev pub blocks_with : List Registers → Option RegionJob → List Registers
 blocks_with blocks None = blocks
 blocks_with blocks (Some job) = blocks_done blocks job.writes job.done
 
--- what the registers of a machine hold, and that image as a system
+-- what the registers of a machine hold
 abbrev pub image_of : Machine → List Registers
 image_of m = blocks_with m.settled.blocks m.job
 
+-- that image as a system
 abbrev pub present : Machine → System
 present m = record m.settled { blocks = image_of m }
 
@@ -108,6 +109,7 @@ abbrev pub region_released : RegionJob → JobKind → List Live
 region_released job (Creates rows) = []
 region_released job (Releases place) = job.region ∷ []
 
+-- the region that is being ended, if one is
 abbrev pub under_release : Option RegionJob → List Live
 under_release None = []
 under_release (Some job) = region_released job job.kind
@@ -120,6 +122,7 @@ kept_regions m = m.live ++ under_release m.job
 abbrev pub pieces_held : Machine → ℕ
 pieces_held m = sum_by (λ (region : Live). map.len region.contents) (kept_regions m)
 
+-- the frames that no piece has
 abbrev pub free_frames : Machine → ℕ
 free_frames m = m.frames - pieces_held m
 

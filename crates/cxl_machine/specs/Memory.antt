@@ -3,7 +3,7 @@ use Rattle.std.specs.Prelude.{Bool, true, false}
 use Rattle.cxl_script.specs.declared.command.Command.{Command}
 use Rattle.cxl_script.specs.declared.command.Command.TheVariants as commands
 
--- all but an address's two ways, a store, and what goes on with a pending job
+-- all but `down`, `up`, `store`, and what goes on with a pending job, `step` and `abort`
 abbrev pub takes_memory : Command → Bool
 takes_memory (commands.Down h) = false
 takes_memory (commands.Up up) = false

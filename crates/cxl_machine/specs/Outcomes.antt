@@ -5,6 +5,7 @@ use Rattle.cxl_script.specs.declared.command.Command.{Command}
 use Rattle.cxl_script.specs.declared.command.Command.TheVariants as commands
 use Rattle.cxl_bytes.specs.Bytes.{AreBytes}
 
+-- how the bus let a command go
 pub data BusOutcome : Type 0 where
   -- no call of the bus failed
   NoFault : BusOutcome
@@ -43,6 +44,7 @@ of_no_call Undone = false
 of_no_call (LeftPending done) = false
 of_no_call ReadFailed = false
 
+-- A `create` and a `destroy` can be undone or left pending, `step` and `abort` be left pending, and a read of `show` fail.
 abbrev pub can_go : Command → BusOutcome → Bool
 can_go (commands.Create create) = of_whole_job
 can_go (commands.Destroy name) = of_whole_job
@@ -83,6 +85,7 @@ faults_of_part Undone = 1
 faults_of_part (LeftPending done) = 1
 faults_of_part ReadFailed = 1
 
+-- how many faults that tells of: two where a `create` or a `destroy` is left pending, since an undo write failed too
 abbrev pub faults_of : Command → BusOutcome → ℕ
 faults_of (commands.Create create) = faults_of_whole
 faults_of (commands.Destroy name) = faults_of_whole

@@ -25,6 +25,7 @@ asked_before (Ok None) more = more
 asked_before (Ok (Some command)) more = Ok command ∷ more
 asked_before (Err fault) more = Err fault ∷ more
 
+-- what the lines of a script ask for
 abbrev pub lines_asked : List (List ℕ) → List Asked
 lines_asked [] = []
 lines_asked (line ∷ lines) = asked_before (asked_in line) (lines_asked lines)

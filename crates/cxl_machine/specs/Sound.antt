@@ -65,7 +65,9 @@ pub record IsSettled (s : System) : Type 0 where
   -- ports are bytes
   pub ports : HasBytePorts s.nodes
 
--- what a machine is by itself
+-- What a machine is by itself: its image is settled; the live regions and the one under release are each once the regions of
+-- that image, under different names, 256 at the most; its job is that of a legal plan under a name that is free, or the
+-- release of a region with no locked decoder and none committed above its own; and there is a frame for each piece.
 pub record IsMachine (m : Machine) : Type 0 where
   pub settled : IsSettled m.settled
   pub regions : AreKept m (kept_regions m)
@@ -78,7 +80,8 @@ pub record IsMachine (m : Machine) : Type 0 where
 abbrev pub block_told : MediaState → ℕ → ℕ → Option (List ℕ)
 block_told media endpoint block = finmap.get media.blocks (endpoint, block)
 
--- the machine, and what registers and media hold for it
+-- The machine, and what registers and media hold for it: the settled image after the writes that are made, exactly the
+-- pieces of those regions where they are carried to, and so many free frames.
 pub record IsSound (m : Machine) (blocks : List Registers) (media : MediaState) : Type 0 where
   pub machine : IsMachine m
   pub registers : blocks ≡ image_of m

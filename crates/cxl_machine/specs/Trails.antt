@@ -66,6 +66,9 @@ SendsPending (Some job) trail sends = sends job
 
 -- ---- each command
 
+-- Which words a command may write. A whole job all its writes in order; one that is undone the first so many, and then what
+-- takes them back, last first; one that is left pending the same, back to the writes that are left. A step the writes that
+-- it makes, an abort those that it takes back, and every other command none.
 abbrev pub TrailOf : Machine → Command → BusOutcome → List Sent → Type 0
 TrailOf m (commands.Create create) outcome trail = SendsCreate m create outcome trail
 TrailOf m (commands.Destroy name) outcome trail = SendsAsked (asked_release m name) outcome trail

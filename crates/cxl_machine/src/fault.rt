@@ -1,3 +1,5 @@
+//! Why no session opens on a host.
+
 use cxl_check::Breach;
 use thiserror::Error;
 

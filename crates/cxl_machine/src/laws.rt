@@ -66,7 +66,8 @@ pub fn refusals_write_nothing()
         → TrailOf m command NoFault trail → trail ≡ [] }
 {}
 
-/// A law of faults: as many calls of the bus fail in a command as the way in which it went tells of.
+/// A law of faults: as many calls of the bus fail in a command as the way in which it went tells of: two where a job
+/// that was begun is left pending, and one at any other fault.
 pub fn failed_calls_are_numbered()
     ensures { (m : Machine) (command : Command) (outcome : BusOutcome) (trail : List Sent) (failed : List ℕ)
         → FailsOf m command outcome trail failed → length failed ≡ faults_of command outcome }

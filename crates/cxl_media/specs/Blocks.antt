@@ -13,6 +13,7 @@ Key = ℕ × ℕ
 abbrev pub key_cmp : Key → Key → Ordering
 key_cmp a b = ordering_then (nat_cmp a.0 b.0) (nat_cmp a.1 b.1)
 
+-- 256 bytes by an endpoint and the number of a block
 abbrev pub Blocks : Type 0
 Blocks = map.FinMap key_cmp (List ℕ)
 

@@ -3,6 +3,7 @@ use Rattle.std.specs.Prelude.{ℕ, ◌+◌}
 use Rattle.std.specs.FinMap as map
 use Rattle.cxl_media.specs.Blocks.{Blocks}
 
+-- the map, and how many frames are free
 pub record MediaState : Type 0 where
   -- the bytes of each block in the map
   pub blocks : Blocks

@@ -19,7 +19,8 @@ pub trait Roll: Media {
     /// By place: the block that stands there, or `None`.
     ghost roll: { Self → List (Option Key) };
 
-    /// How many places there are. Takes no memory.
+    /// How many places there are. Each block of the map stands at exactly one of them, and no other block at any.
+    /// Takes no memory.
     fn places(&self) -> u32
         ensures count { result ≡ length (roll self.now) }
         ensures blocks { IsRoll (roll self.now) (Self.state self.now).blocks };

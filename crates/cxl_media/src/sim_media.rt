@@ -59,7 +59,8 @@ impl SimMedia {
         &self.pool
     }
 
-    /// The frame of the block of a device address, where it is in the map.
+    /// The frame of the block of a device address, where it is in the map: it has the bytes of that block, and of no
+    /// other.
     pub fn frame(&self, ep: u32, dpa: u64) -> Option<&Frame>
         ensures value { option_copied result ≡ map.get (frames_in self.now.cells) (key_of ep dpa) }
         ensures there { IsSome result ↔ IsTrue (map.contains_key (⟦<SimMedia as Media>⟧.state self.now).blocks (key_of ep dpa)) }

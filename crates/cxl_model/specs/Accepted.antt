@@ -46,6 +46,7 @@ pub record IsFirstBreach (s : System) (rule node decoder : ℕ) : Type 0 where
   pub nodes : (lower i : ℕ) → lower < node → breaks s rule lower i ≡ false
   pub decoders : (lower : ℕ) → lower < decoder → breaks s rule node lower ≡ false
 
+-- some rule is broken
 abbrev pub HasFirstBreach : System → Type 0
 HasFirstBreach s = (rule node decoder : ℕ) × IsFirstBreach s rule node decoder
 

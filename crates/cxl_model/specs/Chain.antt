@@ -20,12 +20,14 @@ pub record Arrival : Type 0 where
   pub base : ℕ
   pub dpa : ℕ
 
+-- where a walk ends
 pub data End : Type 0 where
   Arrives : (arrival : Arrival) → End
   Misses : (miss : Miss) → End
 
 -- ---- what one node does with an address
 
+-- what a node does with an address
 pub data Move : Type 0 where
   -- a node that forwards hands it on to its only child, and that is no step
   Forwards : (child : ℕ) → Move
@@ -44,6 +46,7 @@ pub record Chooses (s : System) (h n : ℕ) (d : Decoder) (entry : ℕ) (child :
   pub sends : entry ≡ entry_of d h
   pub listed : child_of s.nodes n (entry_at d entry) ≡ child
 
+-- A port hands the address on to the child at the listed port of the committed decoder that holds it.
 pub record IsStep (s : System) (h n : ℕ) (step : Step) (child : ℕ) : Type 0 where
   pub here : step.node ≡ n
   pub port : is_port_at s.nodes n ≡ true
@@ -56,6 +59,7 @@ pub record Places (s : System) (h n : ℕ) (arrival : Arrival) (d : Decoder) : T
   pub base : arrival.base ≡ d.base
   pub dpa : arrival.dpa ≡ endpoint_place_of (span_start_of (decoders_at s n) arrival.decoder) d h
 
+-- At an endpoint the address comes to a byte of the device.
 pub record IsArrival (s : System) (h n : ℕ) (arrival : Arrival) : Type 0 where
   pub here : arrival.endpoint ≡ n
   pub endpoint : is_endpoint_at s.nodes n ≡ true
@@ -83,15 +87,20 @@ pub record ListsNoChild (s : System) (h n : ℕ) : Type 0 where
   pub decodes : Decodes s n
   pub choice : (i entry : ℕ) × IsSomeAnd (decoder_at s n i) (λ d. Chooses s h n d entry None)
 
+-- no child is there to go to
 abbrev pub LacksChild : System → ℕ → ℕ → Type 0
 LacksChild s h n = ForwardsNowhere s n ⊎ ListsNoChild s h n
 
+-- The node is the place at which the address leads no further, by the first of these that holds: it forwards and has no
+-- child; its block breaks one of K2 to K8; none of its committed decoders holds the address; no child stands at the listed
+-- port.
 abbrev pub StopsAt : System → ℕ → ℕ → Miss → Type 0
 StopsAt s h n NoWindow = ⊥
 StopsAt s h n (BadBlock m) = (m ≡ n) × IsBadBlock s n
 StopsAt s h n (NoDecoder m) = (m ≡ n) × LacksDecoder s h n
 StopsAt s h n (NoChild m) = (m ≡ n) × LacksChild s h n
 
+-- what node n does with an address: it forwards, steps, arrives, or leads no further
 abbrev pub Moves : System → ℕ → ℕ → Move → Type 0
 Moves s h n (Forwards child) = (forwards_at s.nodes n ≡ true) × (least_child_of s.nodes n ≡ Some child)
 Moves s h n (Steps step child) = IsStep s h n step child
@@ -115,6 +124,7 @@ pub record Routing : Type 0 where
   pub steps : List Step
   pub arrival : Arrival
 
+-- a route, or a miss
 pub data ChainEnd : Type 0 where
   Routed : (routing : Routing) → ChainEnd
   Missed : (miss : Miss) → ChainEnd
@@ -131,7 +141,8 @@ pub record Targets (s : System) (h : ℕ) (w : WindowFields) (position bridge : 
   pub holds : position_at w h ≡ Some position
   pub target : IsSomeAnd (slice_get w.targets position) (λ uid. bridge_with s.nodes uid ≡ Some bridge)
 
--- the one route or the one miss of an address
+-- The one route or the one miss of an address: no usable window holds it, or the usable one that does, its target at the
+-- position, and the walk from there.
 pub data Chain (s : System) (h : ℕ) (outcome : ChainEnd) : Type 0 where
   unheld : ((i : ℕ) (w : WindowFields) → slice_get s.windows i ≡ Some w → position_at w h ≡ None) → outcome ≡ Missed NoWindow → Chain s h outcome
   held : (w : WindowFields) (position bridge : ℕ) (steps : List Step) (end : End) → Targets s h w position bridge → Walk s h bridge steps end → outcome ≡ chain_end_by w.index position steps end → Chain s h outcome

@@ -10,7 +10,7 @@ use Rattle.cxl_model.specs.Ranges.{IsCommittedRange}
 abbrev pub KeepsDecoders : System → System → Range → Type 0
 KeepsDecoders s t r = (n i j : ℕ) (d : Decoder) → decoder_at s n i ≡ Some d → has_range r d ≡ true → j ≤ i → decoder_at t n j ≡ decoder_at s n j
 
--- the same nodes and windows, and the same decoders of the range
+-- the same nodes and windows, and wherever a decoder of one image has the range, the same decoders up to it
 pub record HaveSameDecoders (s t : System) (r : Range) : Type 0 where
   pub nodes : t.nodes ≡ s.nodes
   pub windows : t.windows ≡ s.windows

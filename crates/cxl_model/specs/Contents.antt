@@ -6,7 +6,7 @@ use Rattle.cxl_window.specs.Fields.{WindowFields}
 use Rattle.cxl_model.specs.declared.found.Found.{Found}
 use Rattle.cxl_model.specs.Regions.{Carries}
 
--- piece n covers the offsets 256 * n to 256 * n + 255 from the region's base
+-- a region's bytes, zero where no piece is: piece n covers the offsets 256 * n to 256 * n + 255 from its base
 abbrev pub Contents : Type 0
 Contents = map.FinMap nat_cmp (List ℕ)
 

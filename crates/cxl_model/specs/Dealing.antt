@@ -23,7 +23,8 @@ slot_entry s w r slot n = slot / slots_an_entry s w r n % option_map_or decoder_
 abbrev pub slot_step : System → WindowFields → Range → ℕ → ℕ → Option Step
 slot_step s w r slot n = option_map (λ i. record { node = n; decoder = i; entry = slot_entry s w r slot n }) (index_for s r n)
 
--- the steps of a slot on the way from the bridge down to an endpoint
+-- the steps of a slot on the way from the bridge down to an endpoint, each by the decoder of the range and the entry to
+-- which the slot belongs
 abbrev pub slot_steps : System → WindowFields → Range → ℕ → ℕ → List Step
 slot_steps s w r slot endpoint = reverse (filter_map (λ parent. slot_step s w r slot parent.node) (ports_above s.nodes endpoint))
 

@@ -12,7 +12,7 @@ use Rattle.cxl_model.specs.System.{System, system_of}
 abbrev pub as_system : Host → System
 as_system host = system_of host.image.now host.topo.now host.windows.now
 
--- a legal tree, some blocks, and windows made with the tree's bridges
+-- A legal tree, some blocks, and windows made with the tree's bridges. With K1 it is a system.
 pub record IsHost (s : System) : Type 0 where
   pub tree : IsTree s.nodes
   pub blocks : All IsBlock s.blocks

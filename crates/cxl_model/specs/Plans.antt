@@ -63,7 +63,13 @@ plan_code request w ways =
 abbrev pub AgreesOnCode : Request → WindowFields → Type 0
 AgreesOnCode request w = 1 < w.ways → IfSome request.gran (λ code. code ≡ w.gran)
 
--- A plan for the request in this window. It says nothing of how one is found.
+-- A plan for the request in this window. No endpoint is asked for twice, and there is one row for each used node that does
+-- not forward (a node is used that stands on the path of a requested endpoint), in its first uncommitted decoder. With the
+-- rows committed and their blocks decoding the image is accepted and has one more range, of the size and kind that were
+-- asked for, in a window whose configuration is not fixed. The region's code is 0 at one way, the window's where that has
+-- more than one way, else the stated one, and the window's where none is stated; a stated code that differs from that of a
+-- window of several ways has no legal plan. Free are the window, the base, the order of a port's entries and the skips. It
+-- says nothing of how a plan is found.
 pub record IsLegalPlanIn (s : System) (request : Request) (w : WindowFields) (plan : Plan) : Type 0 where
   pub distinct : AllPairs (λ a b. a ≢ b) request.endpoints
   pub named : plan.name ≡ request.name
@@ -82,5 +88,6 @@ pub record IsLegalPlanIn (s : System) (request : Request) (w : WindowFields) (pl
   pub kind : plan.found.kind ≡ request.kind
   pub code : plan.found.gran ≡ plan_code request w plan.found.ways
 
+-- a plan for the request in some window
 abbrev pub IsLegalPlan : System → Request → Plan → Type 0
 IsLegalPlan s request plan = (w : WindowFields) × IsLegalPlanIn s request w plan

@@ -49,10 +49,11 @@ abbrev pub product : List ℕ → ℕ
 product [] = 1
 product (n ∷ ns) = n * product ns
 
--- the product of their ways, and the sum of the k of their ways
+-- of the ports above node n that serve the range, the product of their ways
 abbrev pub ways_above : System → Range → ℕ → ℕ
 ways_above s r n = product (map decoder_ways (ports_for s r n))
 
+-- and the sum of the k of their ways
 abbrev pub bits_above : System → Range → ℕ → ℕ
 bits_above s r n = sum_by (λ d. select_bits d.ways) (ports_for s r n)
 
@@ -78,9 +79,11 @@ same_kind Pmem Pmem = true
 abbrev pub first_decoder : System → Range → Option Decoder
 first_decoder s r = option_and_then (decoder_for s r) (first_endpoint s r)
 
+-- the ways of a range: those of its first endpoint
 abbrev pub range_ways : System → Range → ℕ
 range_ways s r = option_map_or decoder_ways (first_decoder s r) 1
 
+-- and its kind of memory: that of the first endpoint's span
 abbrev pub range_kind : System → Range → MemKind
 range_kind s r = option_map_or (λ n. option_map_or (span_kind s n) (index_for s r n) Ram) (first_endpoint s r) Ram
 

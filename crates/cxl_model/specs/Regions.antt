@@ -26,13 +26,14 @@ abbrev pub LeadsSlot : System → WindowFields → Range → ℕ → ℕ → ℕ
 LeadsSlot s w r slot n child =
     IsSomeAnd (decoder_for s r n) (λ d. child_of s.nodes n (entry_at d (slot / slots_an_entry s w r n % decoder_ways d)) ≡ Some child)
 
--- from node n on, a slot leads to this place of a device
+-- From node n on, a slot leads to this place of a device: past each node that forwards to its only child, and at each port
+-- of the range by the entry (slot / q) mod ways, q being 2 to the window's k times the ways of the ports above.
 pub data LeadsTo (s : System) (w : WindowFields) (r : Range) (slot : ℕ) : ℕ → Place → Type 0 where
   past_forwarding : (n child : ℕ) (place : Place) → forwards_at s.nodes n ≡ true → least_child_of s.nodes n ≡ Some child → LeadsTo s w r slot child place → LeadsTo s w r slot n place
   past_port : (n child : ℕ) (place : Place) → forwards_at s.nodes n ≡ false → is_port_at s.nodes n ≡ true → LeadsSlot s w r slot n child → LeadsTo s w r slot child place → LeadsTo s w r slot n place
   at_endpoint : (place : Place) → is_endpoint_at s.nodes place.endpoint ≡ true → IsSomeAnd (index_for s r place.endpoint) (λ i. place.start ≡ span_start_of (decoders_at s place.endpoint) i) → LeadsTo s w r slot place.endpoint place
 
--- the span of a slot, from the window's target down
+-- the span of a slot, from the window's target at the slot's position down
 pub record HasSpan (s : System) (w : WindowFields) (r : Range) (slot : ℕ) (place : Place) : Type 0 where
   pub bridge : ℕ
   pub target : IsSomeAnd (slice_get w.targets (target_position w slot)) (λ uid. bridge_with s.nodes uid ≡ Some bridge)
@@ -76,7 +77,7 @@ weave_fields found w = record {
   maps = w.maps;
 }
 
--- a region carries a host byte to this byte of this endpoint's device
+-- a region carries a host byte to this byte of this endpoint's device: the start of its slot, and the dealt offset behind it
 pub record Carries (found : Found) (w : WindowFields) (h endpoint dpa : ℕ) : Type 0 where
   pub from : found.base ≤ h
   pub below : h < found.base + found.size

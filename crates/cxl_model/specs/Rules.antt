@@ -93,7 +93,7 @@ abbrev pub keeps_port_code : System → WindowFields → ℕ → Decoder → Boo
 keeps_port_code s w n d =
     (decoder_ways d == 1) || (d.gran == range_code s w (range_of d) + bits_of w.ways + bits_above s (range_of d) n)
 
--- K12, in the range's window
+-- K12: ways, kind and granularity follow from the range's window
 abbrev pub keeps_ways : System → ℕ → ℕ → Decoder → Bool
 keeps_ways s n i d =
     option_map_or (λ w. if is_endpoint_at s.nodes n then keeps_endpoint_ways s w n i d else keeps_port_code s w n d)

@@ -23,7 +23,8 @@ pub record System : Type 0 where
 abbrev pub system_of : List Registers → Tree → List WindowFields → System
 system_of blocks tree windows = record { nodes = tree.nodes; blocks = blocks; windows = windows }
 
--- a legal tree, an image with its capability words, and windows made with its bridges
+-- a legal tree, an image with its capability words, and windows made with its bridges: what `down`, `check` and `plan` take
+-- for granted
 pub record IsSystem (s : System) : Type 0 where
   pub tree : IsTree s.nodes
   pub blocks : All IsBlock s.blocks

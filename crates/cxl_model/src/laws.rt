@@ -17,7 +17,8 @@ use cxl_span::ranges_rise;
 use cxl_topo::Topo;
 use cxl_window::Window;
 
-/// A law of chains: an address's chain has one end at the most.
+/// A law of chains: where windows are made with the tree's bridges, an address's chain has one end at the most. That
+/// it has one is what `down` of `cxl_walk` gives.
 pub fn chains_have_one_end()
     ensures { (s : System) (h : ℕ) (one other : ChainEnd)
         → AreMadeWith s.windows (bridge_uids s.nodes)

@@ -50,9 +50,10 @@ pub record IsCarriedOver (rest : Option (List ℕ) → Option (List ℕ)) (from 
   pub first : (n source place : ℕ) → IsPieceAt from v n source place → map.get new (source, place) ≡ rest (map.get old (source, place))
   pub others : (endpoint block : ℕ) → (LiesInSpan from endpoint (256 * block) → ⊥) → (LiesInSpan to endpoint (256 * block) → ⊥) → map.get new (endpoint, block) ≡ map.get old (endpoint, block)
 
--- the first is left without a piece, or with all of its own
+-- the second has the pieces of the first, which is left without any
 abbrev pub IsMoved : Found → WindowFields → Found → WindowFields → Blocks → Blocks → Type 0
 IsMoved from v to w old new = IsCarriedOver (λ piece. None) from v to w old new
 
+-- or with all of its own
 abbrev pub IsCopied : Found → WindowFields → Found → WindowFields → Blocks → Blocks → Type 0
 IsCopied from v to w old new = IsCarriedOver (λ piece. piece) from v to w old new

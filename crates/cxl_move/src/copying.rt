@@ -10,8 +10,8 @@ use crate::scrubbing::scrub_region;
 use crate::side::Side;
 use cxl_media::Media;
 
-/// Gives the second region the bytes of the first, too. `pieces` is what `held` answers for the first, and there are
-/// frames for them: those that are free, and those of the second region's pieces.
+/// Gives the second region the bytes of the first, too, and changes no other block. `pieces` is what `held` answers
+/// for the first, and there are frames for them: those that are free, and those of the second region's pieces.
 pub fn copy_bytes<M: Media>(media: &mut M, from: &Side<'_>, to: &Side<'_>, pieces: &[u64])
     requires sides { AreSides from.now.found.now from.now.window.now to.now.found.now to.now.window.now }
     requires held { AreHeld from.now.found.now from.now.window.now (M.state media.old).blocks pieces.now }

@@ -73,7 +73,8 @@ pub fn enabled(mut image: Image, endpoints: &[u32]) -> Image
     image
 }
 
-/// Lets these endpoints decode, one after the other, until the bus fails.
+/// Lets these endpoints decode, one after the other, each by one word; or until the bus fails, and then those before
+/// the fault decode.
 pub fn enable_endpoints<R: Regs>(endpoints: &[u32], regs: &mut R) -> Result<(), Failed>
     requires { All (λ node. IsPlace (R.state regs.old).blocks node 4) endpoints.now }
     ensures blocks { OnOk result ((R.state regs.new).blocks ≡ blocks_sent (R.state regs.old).blocks (enabling endpoints.now)) }

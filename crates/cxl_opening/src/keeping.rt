@@ -20,7 +20,7 @@ use cxl_walk::Kept;
 use cxl_window::Window;
 use std::alloc::Global;
 
-/// The names of so many regions. Takes memory.
+/// The names of so many regions, `auto0`, `auto1` and so on, with room for as many as may live. Takes memory.
 pub fn auto_names(alloc: Global, count: usize) -> Result<Vec<Name>, Memory>
     requires { count ≤ region_limit }
     ensures names { IfOk result (λ names. names.items ≡ map auto_name (range_with_len 0 count)) }
@@ -46,7 +46,7 @@ fn auto_name(alloc: Global, i: u32) -> Result<Name, Memory>
     }
 }
 
-/// The routes of regions of an image. Takes memory.
+/// The kept routes of regions of an image, in their order, with room for as many as may live. Takes memory.
 pub fn routes_of(
     alloc: Global,
     image: &Image,

@@ -19,7 +19,9 @@ use cxl_topo::Topo;
 use cxl_window::Window;
 use std::alloc::Global;
 
-/// The regions of an image, no more than may live; or why no session opens on it. Takes memory.
+/// The regions of an accepted image, no more than may live; or why no session opens on it. But for want of memory it
+/// is refused for a breach exactly where it has one, and then for the first, and for too many regions exactly where
+/// it has more than 256. Takes memory.
 pub fn regions_to_open(
     alloc: Global,
     topo: &Topo,

@@ -105,7 +105,8 @@ gives_within (suc k) s want w start n m =
     if is_endpoint_at s.nodes n then (if (m == 1) && can_serve_itself s want w start n then Some (n ∷ []) else None)
     else port_gives s want w start n m (λ u. filter_map (λ child. gives_within k s want w start child (m / u)) (children_of s n))
 
--- what node n gives for m endpoints
+-- What node n gives for m endpoints: an endpoint itself for one, where it is open, can have the ways and select, and has
+-- room; a port what the first u of its willing children give, with the greatest u of 8, 4, 2 and 1 by which it can serve.
 abbrev pub gives : System → Want → WindowFields → ℕ → ℕ → ℕ → Option (List ℕ)
 gives s want w start n m = gives_within (length s.nodes) s want w start n m
 
@@ -116,6 +117,7 @@ abbrev pub all_given : List (Option (List ℕ)) → Option (List ℕ)
 all_given [] = Some []
 all_given (given ∷ rest) = option_and_then (λ ns. option_map (λ ms. ns ++ ms) (all_given rest)) given
 
+-- what the target bridges of a window give for their shares
 abbrev pub given_in : System → Want → WindowFields → Option (List ℕ)
 given_in s want w =
     if can_take want w

@@ -11,6 +11,7 @@ use Rattle.cxl_io.specs.declared.line_reader.Taken.{Taken}
 use Rattle.cxl_io.specs.declared.line_reader.Taken.TheVariants.{Line}
 use Rattle.cxl_regs.specs.Registers.{Registers}
 
+-- what a bus over two pipes holds
 pub record Pipe : Type 0 where
   -- a block a node, as the write rules leave them
   pub blocks : List Registers

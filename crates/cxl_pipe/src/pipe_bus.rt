@@ -1,3 +1,5 @@
+//! The bus whose registers are another program's: each word is asked for and told in lines over two pipes.
+
 ghost use Rattle.std.specs.Prelude.{◌≡◌, ◌≤◌, ◌^◌, ◌⊎◌, ℕ, [], true, false, Some, length, IfOk, OnOk, OnErr, IsOk};
 ghost use Rattle.std.specs.Bool.{OnTrue, OnFalse};
 ghost use Rattle.cxl_bus.specs.RegsState.{IsUntouched};
@@ -147,6 +149,8 @@ impl<S: Source, K: Sink> PipeBus<S, K> {
     /// The word that the write rules left.
     fn word(&mut self, node: u32, off: u32) -> Result<u32, Failed>
         requires { IsPlace self.old.blocks node off }
+        // A word is given only where the question was sent and the next line tells this word, which is that of the
+        // write rules.
         ensures word { IfOk result (λ word. word_in self.old.blocks node off ≡ Some word) }
         ensures here { IsOk result }
         ensures same { self.new ≡ self.old }
@@ -200,7 +204,8 @@ impl<S: Source, K: Sink> PipeBus<S, K> {
 impl<S: Source, K: Sink> Regs for PipeBus<S, K> {
     ghost state = { state_of };
 
-    /// A fault has no answer here: where a word is not told, every later access fails.
+    /// The peer is asked for each word of the blocks, in order. A fault has no answer here: where a word is not told,
+    /// every later access fails.
     fn power_on(&mut self, alloc: Global, start: &[Block]) -> Result<(), Memory>
         ensures ok { OnOk result (HasPoweredOn start.now self.old self.new) }
         ensures holds { OnOk result (self.new.blocks ≡ start.now) }
@@ -219,6 +224,7 @@ impl<S: Source, K: Sink> Regs for PipeBus<S, K> {
         ensures word { IfOk result (λ word. word_in self.old.blocks node off ≡ Some word) }
         ensures told { IfOk result (λ word. (self.old.strange ≡ false)
             × HasAnswer (read_question node off) (tells_word word) self.old self.new) }
+        // A failure has a reason, and a read leaves the blocks.
         ensures failed { OnErr result ((word : ℕ) × (word_in self.old.blocks node off ≡ Some word)
             × AccessFailed (read_question node off) (tells_word word) self.old self.new) }
         ensures same { IsUntouched (state_of self.old) (state_of self.new) }
@@ -239,6 +245,8 @@ impl<S: Source, K: Sink> Regs for PipeBus<S, K> {
 
     fn write32(&mut self, node: u32, off: u32, value: u32) -> Result<(), Failed>
         requires { IsPlace self.old.blocks node off }
+        // `Ok` comes only where the write was sent and the next line says so; the blocks are then those of the write
+        // rules. A write that failed leaves them, and has a reason.
         ensures taken { OnOk result ((self.old.strange ≡ false)
             × ((mid : Pipe) × HasAnswer (write_question node off value) says_taken self.old mid
             × (self.new ≡ record mid { blocks = blocks_after self.old.blocks node off value }))) }

@@ -120,7 +120,9 @@ turn_of_fault (faults.Span m fault) = 5
 turn_of_fault (faults.NoWindow reasons) = 6
 turn_of_fault faults.Memory = 7
 
--- the fault holds of the request, and none that is tried before it does
+-- The fault holds of the request, and none that is tried before it does: the first endpoint that stands twice; a number of
+-- ways that no region has; the size; the least uneven node; the least node without a decoder left; the least endpoint
+-- without room; one reason for each window.
 pub record IsFirstPlanFault (s : System) (request : Request) (fault : PlanFault) : Type 0 where
   pub holds : SaysOfRequest s request fault
   pub first : (other : PlanFault) → SaysOfRequest s request other → turn_of_fault fault ≤ turn_of_fault other

@@ -140,6 +140,6 @@ abbrev pub unless_fault : System → Request → Option PlanFault → Result Pla
 unless_fault s request (Some fault) = Err fault
 unless_fault s request None = in_first_window s request (find (λ w. is_none (reason_of s request w)) s.windows)
 
--- what a request comes to
+-- what a request comes to: its first fault, or the stated plan in the first window without a reason, at the least base there
 abbrev pub planned : System → Request → Result Plan PlanFault
 planned s request = unless_fault s request (fault_before_windows s request)

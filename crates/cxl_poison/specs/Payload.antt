@@ -52,7 +52,9 @@ entries_from bytes n = map (λ i. entry_from bytes (payload_head + record_size *
 
 -- ---- a list
 
--- the bytes are this list; those behind the counted records may be any
+-- The bytes are this list: flags in byte 0, the time of an overflow in eight bytes at 2, the count in two at 10, and from 32
+-- on the records of 16 bytes, each an address (bits 63:6 are those of the device address, bits 2:0 the source) and a length
+-- in units of 64 bytes. Those behind the counted records may be any.
 pub record IsPoisonPayload (bytes : List ℕ) (list : PoisonList) : Type 0 where
   pub head : payload_head ≤ length bytes
   pub room : payload_head + record_size * records_said bytes ≤ length bytes
@@ -70,6 +72,7 @@ pub record LacksRecords (bytes : List ℕ) (said : Said) : Type 0 where
   pub counted : said.said ≡ records_said bytes
   pub roomy : said.room ≡ record_room bytes
 
+-- fewer than 32 bytes, or room for fewer records than are said to be there
 abbrev pub IsPoisonFault : List ℕ → PoisonFault → Type 0
 IsPoisonFault bytes Short = length bytes < payload_head
 IsPoisonFault bytes (Count said) = LacksRecords bytes said

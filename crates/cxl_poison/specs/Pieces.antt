@@ -29,6 +29,7 @@ record_end entry = entry.dpa + record_bytes entry
 abbrev pub touched_from : Entry → LiveSpan → ℕ
 touched_from entry span = entry.dpa - span.start
 
+-- and up to below this one
 abbrev pub touched_end : Entry → LiveSpan → ℕ
 touched_end entry span = min (record_end entry - span.start) span.len
 
@@ -55,7 +56,7 @@ stretch_size found span = if found.ways == 1 then span.len else chunk_size found
 abbrev pub cuts_between : ℕ → ℕ → ℕ → ℕ → List Cut
 cuts_between from end size len = filter_map (cut_at from end size) (range_with_len 0 (len / size))
 
--- the touched part of each stretch of the span
+-- the touched part of each stretch of the span, which in a region of one way is one, and ends in another at each chunk's end
 abbrev pub cuts_of : Entry → Found → LiveSpan → List Cut
 cuts_of entry found span = cuts_between (touched_from entry span) (touched_end entry span) (stretch_size found span) span.len
 
@@ -87,6 +88,8 @@ pub record IsWideOf (found : Found) (w : WindowFields) (endpoint : ℕ) (span : 
 abbrev pub run_limit : ℕ
 run_limit = 64
 
+-- one run for each cut of a span, and in place of more than 64 one wide piece with the first host bytes of the first and of
+-- the last, and their number
 pub data ArePartsOf (found : Found) (w : WindowFields) (endpoint : ℕ) (span : LiveSpan) (cuts : List Cut) : List Part → Type 0 where
   few : (runs : List Run) → length cuts ≤ run_limit → AreRunsOf found w endpoint span cuts runs → ArePartsOf found w endpoint span cuts (map parts.Run runs)
   many : (wide : Wide) → run_limit < length cuts → IsWideOf found w endpoint span cuts wide → ArePartsOf found w endpoint span cuts (parts.Wide wide ∷ [])
@@ -113,6 +116,7 @@ has_byte span dpa = nat_le span.start dpa && nat_lt dpa (span.start + span.len)
 abbrev pub is_unmapped : List LiveSpan → ℕ → Bool
 is_unmapped spans dpa = not (list_any (λ span. has_byte span dpa) spans)
 
+-- how many bytes of the record lie in no live span
 abbrev pub unmapped_count : Entry → List LiveSpan → ℕ
 unmapped_count entry spans = count_by (is_unmapped spans) (range_with_len entry.dpa (record_bytes entry))
 

@@ -143,7 +143,7 @@ impl Pool {
         self.frames[frame.number as usize].as_mut_slice()
     }
 
-    /// How many frames are free.
+    /// How many frames are free. These and those that are out are all; nothing takes memory after `new`.
     pub fn free(&self) -> u32
         ensures free { result ≡ free_count self.now }
         ensures rest { result + out_count self.now ≡ length self.now }

@@ -37,15 +37,16 @@ touched_chunks found w h len =
     let first = dealt_chunk (weave_fields found w) h in
     range_with_len first (dealt_chunk (weave_fields found w) (h + len - 1) + 1 - first)
 
--- in a region of one way all bytes of a range lie together, and in another those of each chunk
+-- in a region of one way a range lies in one extent, and in another in one for each chunk from that of the first byte to
+-- that of the last
 abbrev pub extents_of : Found → WindowFields → ℕ → ℕ → List Extent
 extents_of found w h len =
     if found.ways == 1 then extent_at found w h len ∷ [] else map (chunk_extent found w h len) (touched_chunks found w h len)
 
--- how many bytes of a range are dealt to a slot
+-- how many bytes of a range are dealt to a slot, counted one by one
 abbrev pub bytes_on : Found → WindowFields → ℕ → ℕ → ℕ → ℕ
 bytes_on found w h len slot = count_by (λ i. dealt_slot (weave_fields found w) i == slot) (range_with_len h len)
 
--- for each of sixteen slots
+-- so many for each of sixteen slots
 abbrev pub spread_of : Found → WindowFields → ℕ → ℕ → List ℕ
 spread_of found w h len = map (bytes_on found w h len) (range_with_len 0 16)

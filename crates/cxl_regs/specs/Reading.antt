@@ -40,7 +40,7 @@ committed_count decoders = prefix_len (λ d. d.committed) decoders
 
 -- ---- a port's
 
--- the entry of its target list to which it sends an address
+-- the entry of its target list to which it sends an address: ((h - base) / granularity) mod ways
 abbrev pub entry_of : Decoder → ℕ → ℕ
 entry_of d h = (h - d.base) / decoder_granularity d % decoder_ways d
 

@@ -46,7 +46,8 @@ breaks_order below = option_map_or (λ b. not b.committed) below false
 abbrev pub breaks_rise : Option Decoder → Decoder → Bool
 breaks_rise below d = option_map_or (λ b. nat_lt d.base (b.base + b.size)) below false
 
--- the first commit rule that decoder i would break with these registers
+-- The first commit rule that decoder i would break with these registers. That an endpoint has to decode, that a decoder has
+-- some bytes, the ways of ports and the select rule are this project's; the others are the standard's.
 abbrev pub first_broken_rule : Registers → ℕ → Decoder → Option CommitRule
 first_broken_rule block i d =
     if block.endpoint && not block.enabled then Some NotEnabled

@@ -90,7 +90,9 @@ after_word block off v =
     else (if nat_lt off head_size then (if (off == global_control) && block.endpoint then after_global block v else dropped block)
     else option_map_or (λ d. after_decoder block (index_at off) d (place_at off) v) (slice_get block.decoders (index_at off)) (dropped block))
 
--- a write of v at an offset turns one block into another, with this effect
+-- A write of v at an offset turns one block into another, with this effect, by the first rule that fits. Commit and lock are
+-- the standard's; releasing in falling order, and that words of a committed decoder drop every value, are this project's
+-- rules.
 pub record WritesWord (block : Registers) (off v : ℕ) (new : Registers) (effect : Effect) : Type 0 where
   pub left : new ≡ (after_word block off v).block
   pub told : effect ≡ (after_word block off v).effect

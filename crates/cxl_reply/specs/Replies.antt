@@ -7,6 +7,7 @@ use Rattle.cxl_reply.specs.Words.{line}
 use Rattle.cxl_reply.specs.Texts.{created_text, destroyed_text, shown_text, down_text, up_text, loaded_text, stored_text, report_text, begun_text, stepped_text, aborted_text, extents_text, spread_text, carried_text}
 use Rattle.cxl_reply.specs.Refusals.{bad_line_text, named_text, full_text, spot_text, sizes_text, plan_fault_text, count_text, pending_text}
 
+-- the text of each reply
 abbrev pub reply_text : List Node → Reply → List ℕ
 reply_text nodes (replies.Created named) = created_text named
 reply_text nodes (replies.Destroyed name) = destroyed_text name

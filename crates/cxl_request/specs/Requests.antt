@@ -67,7 +67,7 @@ abbrev pub plan_of_line : System → Create → Option ℕ → Result Plan Reply
 plan_of_line s create None = plan_unless_unknown s create (first_unknown s.nodes create.endpoints)
 plan_of_line s create (Some ways) = plan_over_pick s create (picked s (want_of create ways))
 
--- the plan that a create line asks for, or why there is none
+-- the plan that a create line asks for, or why there is none, before any rule of a session comes in
 abbrev pub asked_plan : System → Create → Result Plan Reply
 asked_plan s create = plan_of_line s create create.ways
 

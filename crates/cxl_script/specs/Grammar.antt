@@ -218,6 +218,7 @@ asked_in line =
 abbrev pub StatesGranCode : Create → Type 0
 StatesGranCode create = IfSome create.gran (λ code. code ≤ 6)
 
+-- a granularity that a region's line states is told by a code of the table
 abbrev pub StatesGranCodes : Command → Type 0
 StatesGranCodes (commands.Create create) = StatesGranCode create
 StatesGranCodes (commands.BeginCreate create) = StatesGranCode create

@@ -18,6 +18,8 @@ pub record JobFields : Type 0 where
   pub writes : List Write
   pub done : ℕ
 
+-- What a session keeps: topology, windows and register image; of each live region its name, its spans and its kept routes;
+-- and the job that is pending.
 pub record SessionState : Type 0 where
   pub topo : Tree
   pub windows : List WindowFields

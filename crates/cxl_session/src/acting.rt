@@ -30,7 +30,8 @@ impl Session {
         requires stands { Stands self.old (R.state regs.old) (M.state media.old) }
         requires ranged { IsRanged command.now }
 
-        // The reply, the next machine, the words and the calls that failed are those of a turn of the machine.
+        // The reply, the next machine, the words and the calls that failed, by number and by place, are those of a
+        // turn of the machine. So a command stops or undoes at its first fault, and an undo is tried once.
         ensures answer { IfOk result (λ reply. ForEachMachine self.old (R.state regs.old) (M.state media.old) (λ m.
             (turn : Turn) × TakesTurn m (Ok command.now) turn
             × HasTaken turn reply self.new (R.state regs.old) (R.state regs.new) (M.state media.new))) }
@@ -42,7 +43,7 @@ impl Session {
             × (M.state media.new ≡ M.state media.old)) }
         // Nor did a call of the bus fail.
         ensures unfailed { OnErr result (HasFailed (R.state regs.old) (R.state regs.new) []) }
-        // A command that takes none is answered.
+        // A command that takes none is answered, also where a store lacks a frame, or a job is pending.
         ensures ready { takes_memory command.now ≡ false → IsOk result }
         // Its image is the bus's, over the same host.
         ensures image { self.new.image ≡ (R.state regs.new).blocks }

@@ -1,3 +1,5 @@
+//! The job that is pending in a session.
+
 use cxl_apply::Job;
 use cxl_enc::Name;
 use cxl_model::Found;

@@ -1,3 +1,5 @@
+//! What a session keeps, and what it tells of that.
+
 ghost use Rattle.std.specs.Prelude.{◌≡◌, map, All};
 ghost use Rattle.std.specs.List.{AllZip};
 ghost use Rattle.cxl_window.specs.Fields.{WindowFields};

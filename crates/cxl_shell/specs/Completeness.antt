@@ -52,7 +52,8 @@ AreReady form files = AreReadyFiles form files
 abbrev pub IsReadyScript : SourceState → Type 0
 IsReadyScript script = IsSomeAnd script.left (λ bytes. length bytes ≤ script_limit)
 
--- the words ask for something, and files and script, where they are asked for, are known and have a reading
+-- the words ask for something, and files and script, where they are asked for, are known, have a reading and are within the
+-- limit
 abbrev pub IsReady : Form → FetchState → SourceState → Type 0
 IsReady form files script = AreReady form files × (reads_script form ≡ true → IsReadyScript script)
 

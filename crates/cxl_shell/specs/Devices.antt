@@ -3,6 +3,7 @@ use Rattle.cxl_bus.specs.RegsState.{RegsState}
 use Rattle.cxl_io.specs.Source.{SourceState}
 use Rattle.cxl_media.specs.MediaState.{MediaState}
 
+-- what script, registers and device memory hold at a moment
 pub record Devices : Type 0 where
   pub script : SourceState
   pub regs : RegsState

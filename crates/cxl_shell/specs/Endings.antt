@@ -35,7 +35,9 @@ pub record HasCarriedOut (first : Machine) (turns : List Turn) (before after : D
 
 -- ---- a script
 
--- How the commands of a script end. Each reply is written before the next line is carried out.
+-- How the commands of a script end. Each reply is written before the next line is carried out. Reading came to its end, all
+-- is written and no write failed; or the sink failed in the text behind the replies, or in the last reply; or memory ran
+-- out, in which no fault of source or sink is hidden.
 pub data EndsScript (nodes : List Node) (asked : List Asked) (turns : List Turn) (before after : SourceState) (old new : SinkState) (status : Status) : Type 0 where
   -- reading came to this end, all is written, and no write failed; where it is the script's own end, no fault of the source is swallowed
   read_out : (end : Ending) (lines : List (List ℕ)) → status ≡ status_of end → StopsReading end lines before after → asked ≡ lines_asked lines
@@ -65,6 +67,7 @@ pub data EndsGen (n : ℕ) (last : Machine) (asked : List Asked) (turns : List T
 
 -- ---- a form that works on a session
 
+-- the end that the form asks for
 abbrev pub EndsForm : Form → Machine → List Asked → List Turn → Outside → Outside → Devices → Devices → Status → Type 0
 EndsForm (OfResetHost cedt topo reset_asks.Script) first asked turns old new before after status =
     EndsScript first.settled.nodes asked turns before.script after.script old.out new.out status

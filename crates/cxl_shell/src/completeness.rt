@@ -1,3 +1,5 @@
+//! The law that a run which has all that it asks for is answered whole.
+
 ghost use Rattle.std.specs.Prelude.{◌≡◌, ◌⊎◌};
 ghost use Rattle.cxl_enc.specs.Faults.{Rose};
 ghost use Rattle.cxl_shell.specs.Completeness.{IsReady, IsAnsweredWhole};

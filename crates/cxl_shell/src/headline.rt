@@ -1,3 +1,5 @@
+//! The law that each run behaves as flat memory.
+
 ghost use Rattle.cxl_shell.specs.Headline.{BehavesAsFlatMemory};
 ghost use Rattle.cxl_shell.specs.Run.{EachRun};
 

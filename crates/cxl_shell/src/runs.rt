@@ -1,3 +1,5 @@
+//! Laws of how each run ends, and of what it leaves alone.
+
 ghost use Rattle.std.specs.Prelude.{◌≡◌, ◌≢◌, ℕ, ◌⊎◌, Some, false, true, List};
 ghost use Rattle.cxl_enc.specs.Faults.{Rose};
 ghost use Rattle.cxl_inputs.specs.Ends.{Ends, IsWritten};

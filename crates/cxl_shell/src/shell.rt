@@ -1,3 +1,5 @@
+//! The top call of the program: the words of a command line, carried out.
+
 ghost use Rattle.std.specs.Prelude.{◌≡◌, ℕ, ◌≤◌, ◌⊎◌, None, false, List};
 ghost use Rattle.cxl_enc.specs.Faults.{Rose};
 ghost use Rattle.cxl_io.specs.Sink.{Takes};

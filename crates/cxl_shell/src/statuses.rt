@@ -1,3 +1,5 @@
+//! Laws of the statuses of `run` and `gen`.
+
 ghost use Rattle.std.specs.Prelude.{◌≡◌, ℕ, ◌<◌, ◌⊎◌, Some, true, List, [], length};
 ghost use Rattle.cxl_cedt.specs.CedtFields.{CedtFields};
 ghost use Rattle.cxl_enc.specs.Faults.{Rose};

@@ -93,7 +93,7 @@ turn_of faults.Memory = 0
 abbrev pub NoneBefore : List Node → ℕ → Type 0
 NoneBefore nodes turn = (fault : TreeFault) → turn_of fault < turn → fits nodes fault ≡ false
 
--- what the fault says holds, and nothing that comes before
+-- what the fault says holds, and nothing that comes before: by node, and then in the order of `turn_of`
 pub record IsFirstTreeFault (nodes : List Node) (fault : TreeFault) : Type 0 where
   pub holds : IsTrue (fits nodes fault)
   pub first : NoneBefore nodes (turn_of fault)
@@ -105,7 +105,7 @@ pub record IsUnder (nodes : List Node) (i : ℕ) (parent : Parent) : Type 0 wher
   pub earlier : parent.node < i
   pub port : IsTrue (is_port_at nodes parent.node)
 
--- a legal tree
+-- a legal tree (which trees are legal is this project's rule)
 pub record IsTree (nodes : List Node) : Type 0 where
   pub few_nodes : length nodes ≤ node_limit
   pub few_bridges : count_by (λ node. is_bridge node.kind) nodes ≤ bridge_limit

@@ -11,6 +11,7 @@ abbrev pub name_number : List ℕ → ℕ
 name_number [] = 0
 name_number (byte ∷ bytes) = byte + 256 * name_number bytes
 
+-- a name as a key of a table: the number whose digits to the base 256 are its bytes, the first one lowest
 abbrev pub name_key : List ℕ → NameKey
 name_key name = record { 0 = name_number name }
 

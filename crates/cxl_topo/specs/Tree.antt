@@ -138,6 +138,7 @@ landing_within zero nodes n = None
 landing_within (suc k) nodes n =
     if forwards_at nodes n then option_and_then (landing_within k nodes) (least_child_of nodes n) else Some n
 
--- node n itself where it does not forward, else the landing of its only child, and nothing where it has no child
+-- node n itself where it does not forward, else the landing of its only child, and nothing where it has no child (this
+-- project's rule for host bridges and switches that pass every address on to a single port)
 abbrev pub landing_of : List Node → ℕ → Option ℕ
 landing_of nodes n = landing_within (length nodes) nodes n

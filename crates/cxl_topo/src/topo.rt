@@ -46,6 +46,7 @@ impl Topo {
         // Ok comes for legal trees, and for them nothing else but want of memory.
         ensures legal { IfOk result (λ _. IsTree nodes.items) }
         ensures only { IsTree nodes.items → IfErr result (λ fault. fault ≡ TreeFault.Memory) }
+        // Any other refusal is the first fault, by node and then in the order of the faults.
         ensures fault { IfErr result (λ fault. fault ≢ TreeFault.Memory → IsFirstTreeFault nodes.items fault) }
     {
         if are_too_many(&nodes) {
@@ -107,7 +108,7 @@ impl Topo {
         self.nodes[node as usize].forwards
     }
 
-    /// The child of a node at a port.
+    /// The child of a node at a port, `None` exactly where there is none.
     pub fn child(&self, node: u32, port: u8) -> Option<u32>
         requires { node < length self.now.nodes }
         ensures child { result ≡ child_of self.now.nodes node port }
@@ -149,7 +150,7 @@ impl Topo {
         &self.tables.uids
     }
 
-    /// The nodes from its bridge down to a node.
+    /// The nodes from its bridge down to a node, six at the most. The places past them are 0.
     pub fn path(&self, ep: u32) -> Path
         requires { ep < length self.now.nodes }
         ensures len { result.len ≡ length (path_of self.now.nodes ep) }

@@ -40,7 +40,7 @@ tree_of stated = record { nodes = attached stated.bridges stated.drafts; frames 
 
 -- ---- whole files
 
--- the bytes are a TOML document with this table
+-- the bytes are a TOML document with this table, by the contract of `toml`
 pub record IsDocument (bytes : List ℕ) (members : Members) : Type 0 where
   pub utf8 : IsUtf8 bytes
   pub text : parse_document bytes ≡ Some members

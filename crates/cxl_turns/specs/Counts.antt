@@ -25,7 +25,8 @@ abbrev pub loaded_sum : Reply → ℕ
 loaded_sum (replies.Loaded bytes) = sum bytes
 loaded_sum other = 0
 
--- what is counted of replies
+-- what is counted of replies: those of regions made, of stores, of loads and of accesses outside any region, and the sum of
+-- the bytes that were loaded
 abbrev pub counts_of : List Reply → Counts
 counts_of replies = record {
   regions = count_by is_created replies;

@@ -39,7 +39,8 @@ pub record MeetsNoFault (old new : SinkState) : Type 0 where
   pub alone : new.counts_failures_alone ≡ old.counts_failures_alone
   pub unswallowed : LeavesCount old.counts_failures_alone old.faults new.faults
 
--- How the lines of a script end. Each reply is written before the next line is carried out.
+-- How the lines of a script end. Each reply is written before the next line is carried out. Reading came to its end, and no
+-- write failed; or the sink failed in the last reply; or memory ran out, in which no fault of source or sink is hidden.
 pub data EndsLines (nodes : List Node) (asked : List Asked) (turns : List Turn) (before after : SourceState) (old new : SinkState) (ending : Ending) : Type 0 where
   -- reading came to its end, all replies are written, and no write failed; where it is the script's own end, no fault of the source is swallowed
   read_out : (lines : List (List ℕ)) → StopsReading ending lines before after → asked ≡ lines_asked lines → Takes old new (text_of nodes turns)

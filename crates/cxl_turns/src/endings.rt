@@ -1,3 +1,5 @@
+//! How the lines of a script come to their end.
+
 /// How the lines of a script came to their end. (This project's rule.)
 #[derive(Clone, Copy, PartialEq, Eq)]
 pub enum Ending {

@@ -37,6 +37,8 @@ pub fn carry_out_lines<S: Source, K: Sink, R: Regs, M: Roll>(
 ) -> Ending
     requires { Stands session.old (R.state regs.old) (M.state media.old) }
     // What the first lines of the script ask for was answered, line by line, and their replies are what is written.
+    // It ends at the script's end, where the source failed or had too much, where the sink failed in a reply, or
+    // where memory ran out, in which no fault of source or sink is hidden.
     ensures ends { ForEachMachine session.old (R.state regs.old) (M.state media.old) (λ m. (asked : List Asked) × (turns : List Turn)
         × HasGoneOn m asked turns session.new (R.state regs.old) (R.state regs.new) (M.state media.new)
         × EndsLines m.settled.nodes asked turns (S.state script.old) (S.state script.new)

@@ -1,3 +1,5 @@
+//! Why no further line of a script is carried out.
+
 use cxl_enc::{Failed, Memory};
 
 /// Why no further line is carried out.

@@ -16,9 +16,9 @@ use cxl_model::{Miss, chains_have_one_end};
 use cxl_topo::Topo;
 use cxl_window::Window;
 
-/// The way of a host address down to a byte of a device, or the first place on it that leads no further.
-/// (CXL HDM decoders; that a node with a single port may forward, and which place is named, is this
-/// project's rule.)
+/// The way of a host address down to a byte of a device, or the first place on it that leads no further. (CXL HDM
+/// decoders; that a node with a single port may forward, and which place is named, is this project's rule.) A route
+/// has five steps at the most, and the places past them are zero.
 pub fn down(image: &Image, topo: &Topo, windows: &[Window], h: u64) -> Result<Route, Miss>
     requires caps { HasCapsOf image.now topo.now.nodes }
     requires made { AreMadeWith windows.now (bridge_uids topo.now.nodes) }

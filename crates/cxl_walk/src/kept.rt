@@ -44,7 +44,7 @@ impl Model for Kept {
 }
 
 impl Kept {
-    /// The routes of a region of the image. Takes memory.
+    /// A region's weave and the route of each slot. Takes memory.
     pub fn new(
         alloc: Global,
         image: &Image,
@@ -85,8 +85,8 @@ impl Kept {
         self.routes.items()
     }
 
-    /// The route of a host byte of the region: that of its slot, so many bytes on. The condition says that the
-    /// region holds the address.
+    /// The route of a host byte of the region: that of its slot, so many bytes on. No register is read. The condition
+    /// says that the region holds the address.
     pub fn route(&self, h: u64) -> Route
         requires { IsKeptOf self.now h }
         ensures chain { (s : System) (w : WindowFields) (found : Found) → IsSystem s → IsRegionIn s w found
@@ -107,6 +107,7 @@ impl Kept {
 
 /// A law of changes: the kept routes of a region are those of any image in which it is a region by the same decoders,
 /// however all others change; so they are of an image that has the same decoders below these too, and keeps K1 to K8.
+/// (A skip below a decoder moves what stands above it.)
 pub fn kept_routes_stay()
     ensures own { (s t : System) (w : WindowFields) (found : Found) (kept : KeptFields) → IsSystem s → IsSystem t
         → HaveSameOwnDecoders s t (region_range found) → IsRegionIn s w found → IsRegionIn t w found

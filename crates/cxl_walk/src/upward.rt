@@ -34,8 +34,9 @@ pub struct Host {
     pub h: u64,
 }
 
-/// The least host address that leads to a byte of an endpoint's device, and `None` exactly where none does.
-/// (CXL HDM decoders; that the least is named where images lead several to one byte is this project's rule.)
+/// The least host address that leads to a byte of an endpoint's device, with the base of the endpoint's decoder, and
+/// `None` exactly where none does. (CXL HDM decoders; that the least is named where images lead several to one byte
+/// is this project's rule.)
 pub fn up(image: &Image, topo: &Topo, windows: &[Window], ep: u32, dpa: u64) -> Option<Host>
     requires caps { HasCapsOf image.now topo.now.nodes }
     requires made { AreMadeWith windows.now (bridge_uids topo.now.nodes) }

@@ -20,7 +20,9 @@ chunk_of w h = chunk_from w.base w.gran h
 abbrev pub low_of : WindowFields → ℕ → ℕ
 low_of w h = low_by w.xor (bits_of w.ways) w.maps h (chunk_of w h)
 
--- the position among the targets
+-- The position among the targets. With c = (h - base) / granularity it is low + 2 ^ k * ((c / 2 ^ k) mod t), where low is c
+-- mod 2 ^ k, or under XOR the sum of 2 ^ i times the parity of the bit places set in both h and map i. That c counts from
+-- the window's base, also for the remainder by three under XOR, is this project's rule.
 abbrev pub position_of : WindowFields → ℕ → ℕ
 position_of w h = position_by (bits_of w.ways) (third_of w.ways) (low_of w h) (chunk_of w h)
 

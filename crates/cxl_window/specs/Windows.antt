@@ -84,7 +84,8 @@ first_verdict overlapped missing maps c =
     (option_map_or Repeat (first_repeat [] c.targets)
     (if lacks_maps maps c then Maps else Usable)))))
 
--- of a window behind those before it in the table
+-- the first verdict that holds of a window behind those before it in the table (the verdicts and their order are this
+-- project's rule)
 abbrev pub verdict_of : List Record → Option (List ℕ) → List CfmwsFields → CfmwsFields → Verdict
 verdict_of records uids before c =
     first_verdict (position (overlaps c) before) (find (is_missing records uids) c.targets) (maps_in c.gran records) c
@@ -120,6 +121,7 @@ abbrev pub windows_from : List Record → Option (List ℕ) → List CfmwsFields
 windows_from records uids before [] = []
 windows_from records uids before (c ∷ cs) = window_of records uids before c ∷ windows_from records uids (before ++ c ∷ []) cs
 
+-- each window of a table, with its verdict
 abbrev pub windows_of : List Record → Option (List ℕ) → List WindowFields
 windows_of records uids = windows_from records uids [] (filter_map cfmws_in records)
 
@@ -131,6 +133,8 @@ AreApart w v =
     (h : ℕ) → w.verdict ≡ Usable → v.verdict ≡ Usable → w.base ≤ h → h < w.base + w.size
     → v.base ≤ h → h < v.base + v.size → w.index ≡ v.index
 
+-- Windows as they are made with a topology's bridges: each is a window; each usable one is aligned, below 2 ^ 52, without a
+-- repeated target and with its maps, its targets are bridges, and usable ones share no address.
 pub record AreMadeWith (windows : List WindowFields) (bridges : List ℕ) : Type 0 where
   pub each : All IsWindow windows
   pub indexed : (i : ℕ) (w : WindowFields) → slice_get windows i ≡ Some w → w.index ≡ i

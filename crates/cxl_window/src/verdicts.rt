@@ -20,6 +20,8 @@ pub fn windows(alloc: Global, cedt: &Cedt, uids: Option<&[u32]>) -> Result<Vec<W
         (λ ws. ws.items ≡ windows_of cedt.now.records (option_copied uids.entry)) }
     ensures one_each { IfOk result
         (λ ws. vec_len ws ≡ length (filter_map cfmws_in cedt.now.records)) }
+    // Made with a topology's bridges, usable ones are aligned, below 2^52 and apart from one another, and their
+    // targets are bridges.
     ensures made { IfOk result (λ ws. (bridges : List ℕ)
         → option_copied uids.entry ≡ Some bridges → AreMadeWith ws.items bridges) }
 {

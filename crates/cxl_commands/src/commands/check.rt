@@ -1,3 +1,5 @@
+//! The command `check`.
+
 ghost use Rattle.std.specs.Prelude.{◌≡◌, ℕ, ◌<◌, ◌≤◌, ◌⊎◌, List, All, length, IfOk, IfErr, OnOk, OnErr};
 ghost use Rattle.cxl_cedt.specs.CedtFields.{CedtFields};
 ghost use Rattle.cxl_inputs.specs.Ends.{Ends};

@@ -1,3 +1,5 @@
+//! The texts of `--help` and `--version`, and what words come to that are no command.
+
 ghost use Rattle.std.specs.Prelude.{◌≡◌, ◌⊎◌};
 ghost use Rattle.cxl_inputs.specs.Ends.{Ends};
 ghost use Rattle.cxl_commands.specs.Form.{NoCreate, Help, Version, Unreadable};

@@ -1,3 +1,5 @@
+//! The line of a record in what `list` writes.
+
 ghost use Rattle.std.specs.Prelude.{◌≡◌, ◌++◌, ◌<◌, IsSome, OnOk, length, codes, decimal};
 ghost use Rattle.cxl_commands.specs.commands.LinePlaces.{line_at};
 ghost use Rattle.cxl_commands.specs.commands.Lines.{more_targets_text, targets_text, more_maps_text, maps_text, verdict_text, bridge_text, registers_text, range_text, interleave_text, arithmetic_text, restrict_text, policy_text, use_text, chbs_line, window_line, cxims_line, other_line};

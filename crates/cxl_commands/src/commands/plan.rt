@@ -1,3 +1,5 @@
+//! The command `plan`.
+
 ghost use Rattle.std.specs.Prelude.{◌≡◌, ℕ, ◌≤◌, ◌⊎◌, List, IfOk};
 ghost use Rattle.cxl_cedt.specs.CedtFields.{CedtFields};
 ghost use Rattle.cxl_inputs.specs.ResetHost.{reset_host_of};

@@ -1,3 +1,5 @@
+//! The command `route`.
+
 ghost use Rattle.std.specs.Prelude.{◌≡◌, ℕ, ◌≤◌, ◌⊎◌, None, Ok, List, IfOk, IfSome};
 ghost use Rattle.cxl_cedt.specs.CedtFields.{CedtFields};
 ghost use Rattle.cxl_inputs.specs.Ends.{IsWritten};

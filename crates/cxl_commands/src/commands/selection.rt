@@ -1,3 +1,5 @@
+//! Which window of a table an address goes by, and to which bridge.
+
 ghost use Rattle.std.specs.Prelude.{MatchOption};
 ghost use Rattle.cxl_commands.specs.commands.Route.{IsNowhere, IsSelection};
 

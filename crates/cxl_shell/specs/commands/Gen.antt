@@ -27,6 +27,7 @@ gen_text n counts checked = line (codes "gen " ++ decimal n ++ codes " regions "
     ++ codes " unmapped " ++ decimal counts.unmapped ++ codes " sum " ++ decimal counts.sum
     ++ codes " checked " ++ decimal checked)
 
+-- the line that `gen` writes
 abbrev pub gen_told : ℕ → List Turn → ℕ → Outcome
 gen_told n turns checked = one_piece Done (gen_text n (counts_of (replies_of turns)) checked)
 

@@ -47,7 +47,8 @@ pub record StartsSession (s : System) : Type 0 where
 abbrev pub bus_failed : Outcome
 bus_failed = one_piece BusFault (line (codes "error: bus fault"))
 
--- No session opened while the devices were made ready.
+-- No session opened while the devices were made ready: the bus failed on such a host, or memory ran out, in which no fault
+-- of the bus is hidden.
 pub data FailsToOpen (s : System) (frames : ℕ) (before after : Devices) (old new : SinkState) (status : Status) : Type 0 where
   -- the bus failed, of an image that is not refused: the endpoints before the fault decode, media is empty, and that is told
   bus : StartsSession s → Rose before.regs.faults after.regs.faults → IsHalfEnabled s before.regs after.regs → after.media ≡ empty_media frames

@@ -1,3 +1,5 @@
+//! The command `gen`.
+
 ghost use Rattle.std.specs.Prelude.{◌≡◌, ℕ, ◌≤◌, List, take, map, IfOk, OnErr};
 ghost use Rattle.cxl_gen.specs.Made.{made_tree};
 ghost use Rattle.cxl_inputs.specs.Outcome.{one_piece};

@@ -1,3 +1,5 @@
+//! The command `run`.
+
 ghost use Rattle.std.specs.Prelude.{◌≡◌, ◌≢◌, ℕ, ◌≤◌, Ok, Err, List};
 ghost use Rattle.cxl_check.specs.declared.fault.Breach.{Breach};
 ghost use Rattle.cxl_machine.specs.Machine.{Machine};
