@@ -5,6 +5,7 @@ use Rattle.cxl_cedt.specs.declared.cedt.Head.{Head}
 use Rattle.cxl_cedt.specs.declared.cedt.Record.{Record}
 use Rattle.cxl_cedt.specs.Records.{HasFewOfEach, table_length}
 
+-- a table: its header, and its records in order
 pub record CedtFields : Type 0 where
   pub head : Head
   pub records : List Record

@@ -77,6 +77,7 @@ pub record IsOtherText (text : List ℕ) (c : OtherFields) : Type 0 where
   pub reserved : field text reserved_place 1 ≡ c.reserved
   pub body : drop frame_size text ≡ c.body
 
+-- the bytes spell the record
 abbrev pub IsRecordText : List ℕ → Record → Type 0
 IsRecordText text (Chbs c) = IsChbsText text c
 IsRecordText text (Cfmws c) = IsCfmwsText text c
@@ -121,6 +122,7 @@ header_fault bytes =
 abbrev pub kind_said : List ℕ → ℕ
 kind_said rest = field rest kind_place 1
 
+-- the length that a record states
 abbrev pub length_said : List ℕ → ℕ
 length_said rest = field rest length_place 2
 
@@ -144,6 +146,7 @@ has_other_length kind rest =
     ((kind == cfmws_kind) && not (length_said rest == window_front_size + 4 * unwrap_or (ways_said rest) 0))
     || ((kind == cxims_kind) && not (length_said rest == maps_front_size + 8 * field rest maps_count_place 1))
 
+-- a granularity code above 6
 unfoldable pub has_unknown_gran : ℕ → List ℕ → Bool
 has_unknown_gran kind rest =
     ((kind == cfmws_kind) && nat_lt 6 (field rest window_gran_place 4)) || ((kind == cxims_kind) && nat_lt 6 (field rest maps_gran_place 1))

@@ -16,6 +16,7 @@ use Rattle.cxl_commands.specs.declared.form.TableAsk.TheVariants as tables
 use Rattle.cxl_commands.specs.declared.form.WordsAsk.{WordsAsk}
 use Rattle.cxl_commands.specs.declared.form.WordsAsk.TheVariants as plains
 
+-- what the words ask for: something of these files
 pub data Form : Type 0 where
   -- something of the table in a file
   OfTable : (cedt : List ℕ) (ask : TableAsk) → Form

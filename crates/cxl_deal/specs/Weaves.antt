@@ -15,6 +15,7 @@ pub record WeaveFields : Type 0 where
   pub xor : Bool
   pub maps : List ℕ
 
+-- the ways of a weave
 abbrev pub weave_ways : WeaveFields → ℕ
 weave_ways w = ways_by w.third (w.root_bits + w.low_bits)
 

@@ -10,6 +10,7 @@ use Rattle.cxl_inputs.specs.declared.status.Status.TheVariants.{FetchFault, TooL
 abbrev pub unread : List ℕ → Outcome
 unread file = one_piece FetchFault (line (codes "error: cannot read " ++ file))
 
+-- the outcome where a file is too large
 abbrev pub too_large : List ℕ → Outcome
 too_large file = one_piece TooLarge (line (codes "error: " ++ file ++ codes " too large"))
 

@@ -39,6 +39,7 @@ image_fault_name fault = numbered (image_fault_word fault) (image_fault_number f
 abbrev pub image_fault_text : ImageFault → List ℕ
 image_fault_text fault = line (codes "error: image " ++ image_fault_name fault)
 
+-- the outcome where bytes are no image over the topology
 abbrev pub bad_image : ImageFault → Outcome
 bad_image fault = one_piece (BadImage fault) (image_fault_text fault)
 

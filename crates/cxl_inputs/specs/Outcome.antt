@@ -12,5 +12,6 @@ pub record Outcome : Type 0 where
 abbrev pub whole_text : Outcome → List ℕ
 whole_text outcome = concat outcome.pieces
 
+-- an outcome with one piece of text
 abbrev pub one_piece : Status → List ℕ → Outcome
 one_piece status text = record { status = status; pieces = text ∷ [] }

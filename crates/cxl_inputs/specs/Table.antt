@@ -45,6 +45,7 @@ fault_name fault = numbered (fault_word fault) (fault_place fault)
 abbrev pub table_fault_text : CedtFault → List ℕ
 table_fault_text fault = line (codes "error: table " ++ fault_name fault)
 
+-- the outcome where bytes spell no table
 abbrev pub bad_table : CedtFault → Outcome
 bad_table fault = one_piece (BadTable fault) (table_fault_text fault)
 

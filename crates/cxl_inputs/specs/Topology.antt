@@ -55,6 +55,7 @@ topology_fault_name faults.Memory = codes "memory"
 abbrev pub topology_fault_text : TopoFault → List ℕ
 topology_fault_text fault = line (codes "error: topology " ++ topology_fault_name fault)
 
+-- the outcome where bytes stand for no tree
 abbrev pub bad_topology : TopoFault → Outcome
 bad_topology fault = one_piece (BadTopo fault) (topology_fault_text fault)
 

@@ -4,6 +4,7 @@ use Rattle.cxl_enc.specs.declared.faults.Failed.{Failed}
 use Rattle.cxl_enc.specs.Counters.{Counters, fails_next, counters_after}
 use Rattle.cxl_io.specs.Sink.{SinkState}
 
+-- a sink in memory
 pub record MemorySink : Type 0 where
   -- those taken so far
   pub bytes : List ℕ

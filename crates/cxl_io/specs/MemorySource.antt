@@ -4,6 +4,7 @@ use Rattle.cxl_enc.specs.Counters.{Counters, fails_next, counters_after}
 use Rattle.cxl_enc.specs.declared.faults.Failed.{Failed}
 use Rattle.cxl_io.specs.Source.{SourceState}
 
+-- a source in memory
 pub record MemorySource : Type 0 where
   -- the bytes left
   pub left : List ℕ

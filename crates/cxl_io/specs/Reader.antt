@@ -14,6 +14,7 @@ line_limit = 4096
 abbrev pub script_limit : ℕ
 script_limit = 16777216
 
+-- how far lines of a source are read
 pub record Reader : Type 0 where
   -- how many bytes it took
   pub taken : ℕ
@@ -50,6 +51,7 @@ abbrev pub IsPassed : List ℕ → Reader → Taken → Type 0
 IsPassed line new answer =
     ((length line ≤ line_limit) × (new.line ≡ line) × (answer ≡ Line)) ⊎ ((line_limit < length line) × (answer ≡ Long))
 
+-- the next answer of a reader
 pub data IsNext (old new : Reader) (before after : SourceState) (answer : Taken) : Type 0 where
   -- the first line that ended
   ended : (taken line : List ℕ) → TakesFrom old new before after taken → IsFirstLine (next_bytes old taken) line new.held → new.stop ≡ None → IsPassed line new answer → IsNext old new before after answer

@@ -29,6 +29,7 @@ use Rattle.cxl_machine.specs.Replies.{Answer, stays, becomes, endpoint_named, at
 abbrev pub offset_in : Live → ℕ → ℕ
 offset_in region h = h - region.found.base
 
+-- a load tells the bytes, where all of its addresses are in one live region
 abbrev pub load_answer : Machine → Load → Answer
 load_answer m load =
     within_region m load.h load.len
@@ -38,6 +39,7 @@ load_answer m load =
 abbrev pub frames_wanted : Live → Store → ℕ
 frames_wanted region store = length (new_pieces region.contents (offset_in region store.h) (length store.bytes))
 
+-- a store into a region, where the frames that it needs are free
 abbrev pub store_into : Machine → Store → Live → Answer
 store_into m store region =
     if nat_lt (free_frames m) (frames_wanted region store)
@@ -45,11 +47,13 @@ store_into m store region =
     else becomes (with_contents region.name (written region.contents (offset_in region store.h) store.bytes) m)
     (replies.Stored (length store.bytes))
 
+-- a store puts its bytes, where all of its addresses are in one live region
 abbrev pub store_answer : Machine → Store → Answer
 store_answer m store = within_region m store.h (length store.bytes) (store_into m store)
 
 -- ---- the way down
 
+-- the slot to which a host byte of a region is dealt
 abbrev pub slot_of_host : Machine → Live → ℕ → ℕ
 slot_of_host m region h = dealt_slot (weave_of m.settled region.found) h
 
@@ -63,6 +67,7 @@ steps_to m region h =
     slot_steps m.settled (region_window m.settled region.found) (region_range region.found) (slot_of_host m region h)
     (slot_place region.found (slot_of_host m region h)).endpoint
 
+-- a step as a reply tells it
 abbrev pub via_of : Step → Via
 via_of step = record { node = step.node; decoder = step.decoder; entry = step.entry }
 
@@ -70,6 +75,7 @@ via_of step = record { node = step.node; decoder = step.decoder; entry = step.en
 abbrev pub five_vias : List Step → List Via
 five_vias steps = map via_of steps ++ replicate (5 - length steps) record { node = 0; decoder = 0; entry = 0 }
 
+-- what is told of the way of a host byte down
 abbrev pub downed : Machine → ℕ → Live → Downed
 downed m h region =
     let slot = slot_of_host m region h in
@@ -84,6 +90,7 @@ downed m h region =
       dpa = (slot_place region.found slot).start + dealt_offset (weave_of m.settled region.found) h;
     }
 
+-- the way of a host byte of a live region down to a byte of a device
 abbrev pub down_answer : Machine → ℕ → Answer
 down_answer m h = at_host m h (λ region. stays m (replies.Down (downed m h region)))
 
@@ -95,15 +102,18 @@ pub data TellsHost (m : Machine) (endpoint dpa : ℕ) (reply : Reply) : Type 0 w
   carried : (region : Live) (h : ℕ) → Contains m.live region → Carries region.found (region_window m.settled region.found) h endpoint dpa → reply ≡ replies.Up record { h = h; name = region.name } → TellsHost m endpoint dpa reply
   unmapped : ((region : Live) → Contains m.live region → ¬ (LiesInSpan region.found endpoint dpa)) → reply ≡ replies.Unmapped → TellsHost m endpoint dpa reply
 
+-- the host byte that a live region carries to a device byte, or that none does
 pub data AnswersUp (m : Machine) (up : Up) (answer : Answer) : Type 0 where
   no_endpoint : endpoint_named m.settled.nodes up.endpoint ≡ None → answer ≡ stays m (replies.NoEndpoint up.endpoint) → AnswersUp m up answer
   told : (endpoint : ℕ) (reply : Reply) → endpoint_named m.settled.nodes up.endpoint ≡ Some endpoint → TellsHost m endpoint up.dpa reply → answer ≡ stays m reply → AnswersUp m up answer
 
 -- ---- ranges
 
+-- the endpoint of each slot
 abbrev pub endpoints_by_slot : Found → List ℕ
 endpoints_by_slot found = map (λ place. place.endpoint) found.spans
 
+-- on which device bytes a range of one live region lies
 abbrev pub range_answer : Machine → Reach → Answer
 range_answer m reach =
     within_region m reach.h reach.len (λ region. stays m (replies.Extents record {
@@ -111,6 +121,7 @@ range_answer m reach =
       endpoints = endpoints_by_slot region.found;
     }))
 
+-- how many bytes of a range of one live region each slot has
 abbrev pub spread_answer : Machine → Reach → Answer
 spread_answer m reach =
     within_region m reach.h reach.len (λ region. stays m (replies.Spread record {

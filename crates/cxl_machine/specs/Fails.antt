@@ -23,6 +23,7 @@ abbrev pub FailsAsked : Result RegionJob Reply → BusOutcome → List Sent → 
 FailsAsked (Ok job) outcome trail failed = FailsWhole job outcome trail failed
 FailsAsked (Err refusal) outcome trail failed = (outcome ≡ NoFault) × (failed ≡ [])
 
+-- the calls of a create that fail
 abbrev pub FailsCreate : Machine → Create → BusOutcome → List Sent → List ℕ → Type 0
 FailsCreate m create outcome trail failed = (asked : Result RegionJob Reply) × AsksCreate m create asked × FailsAsked asked outcome trail failed
 

@@ -30,10 +30,12 @@ abbrev pub create_job : System → Plan → RegionJob
 create_job s plan =
     record { kind = Creates plan.rows; region = planned_region plan; writes = create_writes s plan.rows; done = 0 }
 
+-- the release of the region at this place, with no write made
 abbrev pub release_job : System → ℕ → Live → RegionJob
 release_job s place region =
     record { kind = Releases place; region = region; writes = release_writes s region; done = 0 }
 
+-- how many writes a job has
 abbrev pub total_of : RegionJob → ℕ
 total_of job = length job.writes
 

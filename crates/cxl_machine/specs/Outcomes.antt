@@ -32,12 +32,14 @@ of_steps Undone = false
 of_steps (LeftPending done) = true
 of_steps ReadFailed = false
 
+-- no write is sent, and a read may fail
 abbrev pub of_reads : BusOutcome → Bool
 of_reads NoFault = true
 of_reads Undone = false
 of_reads (LeftPending done) = false
 of_reads ReadFailed = true
 
+-- no call of the bus is made
 abbrev pub of_no_call : BusOutcome → Bool
 of_no_call NoFault = true
 of_no_call Undone = false
@@ -79,6 +81,7 @@ faults_of_whole Undone = 1
 faults_of_whole (LeftPending done) = 2
 faults_of_whole ReadFailed = 1
 
+-- one fault ends steps, an abort or a read
 abbrev pub faults_of_part : BusOutcome → ℕ
 faults_of_part NoFault = 0
 faults_of_part Undone = 1

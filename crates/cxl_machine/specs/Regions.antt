@@ -12,6 +12,7 @@ use Rattle.cxl_machine.specs.Replies.{Answer, stays, becomes, Gives}
 
 -- ---- the replies of a job
 
+-- what is told of a region
 abbrev pub named : Live → Named
 named region = record {
   name = region.name;
@@ -27,17 +28,21 @@ abbrev pub ended_reply : RegionJob → JobKind → Reply
 ended_reply job (Creates rows) = replies.Created (named job.region)
 ended_reply job (Releases place) = replies.Destroyed job.region.name
 
+-- a job that is begun, with the number of its writes
 abbrev pub begun_reply : RegionJob → Reply
 begun_reply job = replies.Begun record { name = job.region.name; writes = total_of job }
 
+-- a job that the bus left pending, with so many writes made
 abbrev pub pending_reply : RegionJob → ℕ → Reply
 pending_reply job done = replies.BusPending record { name = job.region.name; done = done; total = total_of job }
 
 -- ---- machines after part of a job, and after all of it
 
+-- the job is done
 abbrev pub ended_answer : RegionJob → Machine → Answer
 ended_answer job m = becomes (finished job m) (ended_reply job job.kind)
 
+-- the job is left pending
 abbrev pub pending_answer : RegionJob → ℕ → Machine → Answer
 pending_answer job done m = becomes (at_done job done m) (pending_reply job done)
 
@@ -60,9 +65,11 @@ abbrev pub begin_answer : Machine → Result RegionJob Reply → Answer
 begin_answer m (Ok job) = becomes (begun job m) (begun_reply job)
 begin_answer m (Err refusal) = stays m refusal
 
+-- a create: its job whole, or why there is none
 abbrev pub AnswersCreate : Machine → Create → BusOutcome → Answer → Type 0
 AnswersCreate m create outcome answer = (asked : Result RegionJob Reply) × AsksCreate m create asked × AnswersWhole m asked outcome answer
 
+-- a create that begins: no write of its job is made
 abbrev pub AnswersBeginCreate : Machine → Create → BusOutcome → Answer → Type 0
 AnswersBeginCreate m create outcome answer = (asked : Result RegionJob Reply) × AsksCreate m create asked × Gives outcome answer (begin_answer m asked)
 
@@ -74,12 +81,14 @@ stepped_answer m job steps =
     if nat_le (total_of job) (job.done + steps) then ended_answer job m
     else becomes (at_done job (job.done + steps) m) (replies.Stepped record { done = job.done + steps; total = total_of job })
 
+-- so many writes more of a pending job
 abbrev pub Steps : Machine → RegionJob → ℕ → BusOutcome → Answer → Type 0
 Steps m job steps NoFault answer = answer ≡ stepped_answer m job steps
 Steps m job steps Undone answer = ⊥
 Steps m job steps (LeftPending done) answer = IsLeftOfSteps job.done steps (total_of job) done × (answer ≡ pending_answer job done m)
 Steps m job steps ReadFailed answer = ⊥
 
+-- the writes of a pending job that are made are taken back
 abbrev pub Aborts : Machine → RegionJob → BusOutcome → Answer → Type 0
 Aborts m job NoFault answer = answer ≡ becomes (undone job m) (replies.Aborted job.region.name)
 Aborts m job Undone answer = ⊥
@@ -91,8 +100,10 @@ abbrev pub OfPending : Machine → Option RegionJob → BusOutcome → Answer �
 OfPending m None outcome answer goes = Gives outcome answer (stays m replies.NothingPending)
 OfPending m (Some job) outcome answer goes = goes job
 
+-- steps of the job that is pending
 abbrev pub AnswersStep : Machine → ℕ → BusOutcome → Answer → Type 0
 AnswersStep m steps outcome answer = OfPending m m.job outcome answer (λ job. Steps m job steps outcome answer)
 
+-- the end of the job that is pending, undone
 abbrev pub AnswersAbort : Machine → BusOutcome → Answer → Type 0
 AnswersAbort m outcome answer = OfPending m m.job outcome answer (λ job. Aborts m job outcome answer)

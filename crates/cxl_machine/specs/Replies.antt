@@ -8,6 +8,7 @@ pub use Rattle.cxl_request.specs.Endpoints.{endpoint_named}
 use Rattle.cxl_machine.specs.Machine.{Live, Machine, live_named, live_at}
 use Rattle.cxl_machine.specs.Outcomes.{BusOutcome, NoFault}
 
+-- a reply, and the next machine
 pub record Answer : Type 0 where
   pub reply : Reply
   pub machine : Machine

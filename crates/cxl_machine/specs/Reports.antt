@@ -31,6 +31,7 @@ abbrev pub shown : Machine → Live → Shown
 shown m region =
     record { name = region.name; found = region.found; rows = map shown_row (rows_of m.settled region.found) }
 
+-- a live region with the words of its decoders
 abbrev pub show_answer : Machine → List ℕ → Answer
 show_answer m name = at_name m name (λ region. stays m (replies.Shown (shown m region)))
 
@@ -47,6 +48,7 @@ AnswersShow m name ReadFailed answer = IsSome (live_named m name) × (answer ≡
 abbrev pub live_regions : Machine → List Found
 live_regions m = map (λ (region : Live). region.found) m.live
 
+-- the names of the live regions
 abbrev pub live_names : Machine → List (List ℕ)
 live_names m = map (λ (region : Live). region.name) m.live
 

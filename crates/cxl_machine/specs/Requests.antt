@@ -29,12 +29,15 @@ name_taken m name = option_map (λ (region : Live). replies.NameTaken name) (liv
 abbrev pub no_endpoint : Machine → List (List ℕ) → Option Reply
 no_endpoint m names = option_map replies.NoEndpoint (first_unknown m.settled.nodes names)
 
+-- as many regions are live as may be
 abbrev pub regions_full : Machine → Option Reply
 regions_full m = if nat_le region_limit (length m.live) then Some replies.RegionsFull else None
 
+-- no live region has the name
 abbrev pub no_region : Machine → List ℕ → Option Reply
 no_region m name = if is_none (live_named m name) then Some (replies.NoRegion name) else None
 
+-- the node and the decoder of a row
 abbrev pub spot_of : Row → Spot
 spot_of row = record { node = row.node; decoder = row.index }
 
@@ -64,6 +67,7 @@ job_of_plan m (Err refusal) = Err refusal
 abbrev pub AsksUnrefused : Machine → Create → Result RegionJob Reply → Type 0
 AsksUnrefused m create asked = (answer : Result Plan Reply) × AsksForPlan m.settled create answer × (asked ≡ job_of_plan m answer)
 
+-- a create asks for a job, unless something stands against it before a plan is sought
 abbrev pub AsksUnless : Machine → Create → Option Reply → Result RegionJob Reply → Type 0
 AsksUnless m create (Some refusal) asked = asked ≡ Err refusal
 AsksUnless m create None asked = AsksUnrefused m create asked
@@ -74,6 +78,7 @@ AsksCreate m create asked = AsksUnless m create (refusal_of_create m create) ask
 
 -- ---- a release
 
+-- the first of these that stands against a release
 abbrev pub refusal_of_release : Machine → List ℕ → Option Reply
 refusal_of_release m name = first_there (busy m ∷ no_region m name ∷ locked m name ∷ not_last m name ∷ [])
 
@@ -81,9 +86,11 @@ refusal_of_release m name = first_there (busy m ∷ no_region m name ∷ locked 
 abbrev pub release_at : Machine → ℕ → Option RegionJob
 release_at m place = option_map (release_job m.settled place) (slice_get m.live place)
 
+-- the release of the live region of a name
 abbrev pub release_named : Machine → List ℕ → Option RegionJob
 release_named m name = option_and_then (release_at m) (place_named m name)
 
+-- that, unless something stands against it
 abbrev pub job_unless : Machine → List ℕ → Option Reply → Result RegionJob Reply
 job_unless m name (Some refusal) = Err refusal
 job_unless m name None = option_map_or Ok (release_named m name) (Err (replies.NoRegion name))

@@ -40,6 +40,7 @@ pub record Turn : Type 0 where
   pub trail : List Sent
   pub failed : List ℕ
 
+-- a turn without its words
 abbrev pub answer_of : Turn → Answer
 answer_of turn = record { reply = turn.reply; machine = turn.machine }
 

@@ -37,6 +37,7 @@ pub record IsRelease (m : Machine) (job : RegionJob) (place : ℕ) : Type 0 wher
   pub last : first_not_last m.settled job.region.found ≡ None
   pub there : place ≤ length m.live
 
+-- the job is a create or a release, by its kind
 abbrev pub IsJobOf : Machine → RegionJob → JobKind → Type 0
 IsJobOf m job (Creates rows) = IsCreate m job
 IsJobOf m job (Releases place) = IsRelease m job place
@@ -94,6 +95,7 @@ pub record IsSound (m : Machine) (blocks : List Registers) (media : MediaState) 
 abbrev pub auto_name : ℕ → List ℕ
 auto_name i = codes "auto" ++ decimal i
 
+-- a region that an opening finds, without bytes
 abbrev pub opened_region : ℕ × Found → Live
 opened_region (i, found) = record { name = auto_name i; found = found; contents = finmap.empty }
 
@@ -101,6 +103,7 @@ opened_region (i, found) = record { name = auto_name i; found = found; contents 
 abbrev pub enabled_blocks : List Registers → List Registers
 enabled_blocks blocks = map (λ (block : Registers). record block { enabled = true }) blocks
 
+-- the image with decoding enabled in every block
 abbrev pub enabled_system : System → System
 enabled_system s = record s { blocks = enabled_blocks s.blocks }
 

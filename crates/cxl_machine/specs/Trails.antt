@@ -32,27 +32,32 @@ pub record GoesBackTo (job : RegionJob) (kept : ℕ) (trail : List Sent) : Type 
   pub part : turn < total_of job
   pub sent : trail ≡ forward job 0 turn ++ backward job kept turn
 
+-- a whole job: all its writes, or the first ones and what takes them back
 abbrev pub SendsWhole : RegionJob → BusOutcome → List Sent → Type 0
 SendsWhole job NoFault trail = trail ≡ forward job 0 (total_of job)
 SendsWhole job Undone trail = GoesBackTo job 0 trail
 SendsWhole job (LeftPending done) trail = GoesBackTo job done trail
 SendsWhole job ReadFailed trail = ⊥
 
+-- what is refused sends no word
 abbrev pub SendsAsked : Result RegionJob Reply → BusOutcome → List Sent → Type 0
 SendsAsked (Ok job) outcome trail = SendsWhole job outcome trail
 SendsAsked (Err refusal) outcome trail = trail ≡ []
 
+-- the words of a create
 abbrev pub SendsCreate : Machine → Create → BusOutcome → List Sent → Type 0
 SendsCreate m create outcome trail = (asked : Result RegionJob Reply) × AsksCreate m create asked × SendsAsked asked outcome trail
 
 -- ---- steps
 
+-- the words of steps
 abbrev pub SendsSteps : RegionJob → ℕ → BusOutcome → List Sent → Type 0
 SendsSteps job steps NoFault trail = trail ≡ forward job job.done (min (job.done + steps) (total_of job))
 SendsSteps job steps Undone trail = ⊥
 SendsSteps job steps (LeftPending done) trail = trail ≡ forward job job.done done
 SendsSteps job steps ReadFailed trail = ⊥
 
+-- the words of an abort
 abbrev pub SendsAbort : RegionJob → BusOutcome → List Sent → Type 0
 SendsAbort job NoFault trail = trail ≡ backward job 0 job.done
 SendsAbort job Undone trail = ⊥

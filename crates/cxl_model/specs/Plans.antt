@@ -29,6 +29,7 @@ block_with_row row block = record block { enabled = true; decoders = slice_set b
 abbrev pub blocks_with_row : List Registers → Row → List Registers
 blocks_with_row blocks row = option_map_or (λ block. slice_set blocks row.node (block_with_row row block)) (slice_get blocks row.node) blocks
 
+-- the system with the rows of a plan committed
 abbrev pub with_rows : System → List Row → System
 with_rows s rows = record s { blocks = fold blocks_with_row s.blocks rows }
 

@@ -15,13 +15,15 @@ use Rattle.cxl_window.specs.Fields.{WindowFields}
 use Rattle.cxl_window.specs.Position.{is_usable}
 use Rattle.cxl_model.specs.System.{System, decoders_at, decoder_at, ram_at, pmem_at}
 
--- node n has a committed decoder of the range, which one, and its number
+-- node n has a committed decoder of the range
 abbrev pub serves : System → Range → ℕ → Bool
 serves s r n = list_any (has_range r) (decoders_at s n)
 
+-- the committed decoder of node n that has the range
 abbrev pub decoder_for : System → Range → ℕ → Option Decoder
 decoder_for s r n = find (has_range r) (decoders_at s n)
 
+-- its number
 abbrev pub index_for : System → Range → ℕ → Option ℕ
 index_for s r n = position (has_range r) (decoders_at s n)
 

@@ -41,6 +41,7 @@ pub record HasSpan (s : System) (w : WindowFields) (r : Range) (slot : ℕ) (pla
 
 -- ---- a region
 
+-- the range of a region
 abbrev pub region_range : Found → Range
 region_range found = record { base = found.base; size = found.size }
 
@@ -56,6 +57,7 @@ pub record IsRegionIn (s : System) (w : WindowFields) (found : Found) : Type 0 w
   pub slots : length found.spans ≡ found.ways
   pub spans : (slot : ℕ) (place : Place) → slice_get found.spans slot ≡ Some place → HasSpan s w (region_range found) slot place
 
+-- a region of the image, in its window
 abbrev pub IsRegion : System → Found → Type 0
 IsRegion s found = (w : WindowFields) × IsRegionIn s w found
 

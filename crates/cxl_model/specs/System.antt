@@ -37,6 +37,7 @@ pub record IsSystem (s : System) : Type 0 where
 abbrev pub decoders_at : System → ℕ → List Decoder
 decoders_at s n = option_map_or (λ block. block.decoders) (slice_get s.blocks n) []
 
+-- decoder i of node n
 abbrev pub decoder_at : System → ℕ → ℕ → Option Decoder
 decoder_at s n i = slice_get (decoders_at s n) i
 
@@ -48,9 +49,11 @@ blocks_alone blocks = record { nodes = []; blocks = blocks; windows = [] }
 abbrev pub capacity_at : System → ℕ → Option Capacity
 capacity_at s n = device_at s.nodes n
 
+-- the bytes of volatile memory of a node's device
 abbrev pub ram_at : System → ℕ → ℕ
 ram_at s n = device_ram s.nodes n
 
+-- the bytes of persistent memory of a node's device
 abbrev pub pmem_at : System → ℕ → ℕ
 pmem_at s n = device_pmem s.nodes n
 

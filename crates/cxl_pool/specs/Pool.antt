@@ -9,15 +9,19 @@ Frames = List (Option (List ℕ))
 abbrev pub frame_bytes : Frames → ℕ → Option (List ℕ)
 frame_bytes pool number = slice_index_or pool number None
 
+-- the frame is out
 abbrev pub IsOut : Frames → ℕ → Type 0
 IsOut pool number = IsSome (frame_bytes pool number)
 
+-- the frame is free
 abbrev pub IsFree : Frames → ℕ → Type 0
 IsFree pool number = (number < length pool) × (frame_bytes pool number ≡ None)
 
+-- how many frames are free
 abbrev pub free_count : Frames → ℕ
 free_count pool = count_by is_none pool
 
+-- how many frames are out
 abbrev pub out_count : Frames → ℕ
 out_count pool = count_by is_some pool
 

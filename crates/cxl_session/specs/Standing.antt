@@ -42,6 +42,7 @@ pub record IsJobFor (m : Machine) (own : JobFields) (job : RegionJob) : Type 0 w
   -- its routes are ready, so that its end takes no memory
   pub kept : IsKeptIn (image_of_region job.kind m.settled) job.region.found own.kept
 
+-- the session has the job of the machine
 abbrev pub HasSameJob : Machine → Option JobFields → Option RegionJob → Type 0
 HasSameJob m None None = Unit {0}
 HasSameJob m (Some own) (Some job) = IsJobFor m own job

@@ -60,6 +60,7 @@ has_wrong_capacity node = option_map_or (λ c. not (is_capacity c)) (capacity_of
 
 -- ---- the first fault
 
+-- more nodes or bridges than a topology may have
 abbrev pub are_too_many : List Node → Bool
 are_too_many nodes = nat_lt node_limit (length nodes) || nat_lt bridge_limit (count_by (λ node. is_bridge node.kind) nodes)
 

@@ -13,9 +13,11 @@ no_step = record { node = 0; decoder = 0; entry = 0 }
 abbrev pub steps_of : Route → List Step
 steps_of route = take route.len route.steps
 
+-- what a route says of its end
 abbrev pub arrival_of : Route → Arrival
 arrival_of route = record { endpoint = route.endpoint; decoder = route.decoder; base = route.base; dpa = route.dpa }
 
+-- what a route says of the way of an address
 abbrev pub routing_of : Route → Routing
 routing_of route =
     record { window = route.window; position = route.position; steps = steps_of route; arrival = arrival_of route }

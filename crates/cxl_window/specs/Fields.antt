@@ -32,6 +32,7 @@ pub record IsUsable (w : WindowFields) : Type 0 where
   pub distinct : AreDistinct w.targets
   pub maps : IsTrue w.xor → IsTrue (are_usable_maps w.gran (bits_of w.ways) w.maps)
 
+-- what every window is
 pub record IsWindow (w : WindowFields) : Type 0 where
   pub ways_known : IsTrue (is_ways w.ways)
   pub gran_known : w.gran ≤ 6

@@ -26,6 +26,7 @@ low_of w h = low_by w.xor (bits_of w.ways) w.maps h (chunk_of w h)
 abbrev pub position_of : WindowFields → ℕ → ℕ
 position_of w h = position_by (bits_of w.ways) (third_of w.ways) (low_of w h) (chunk_of w h)
 
+-- the window holds the address
 abbrev pub holds : WindowFields → ℕ → Bool
 holds w h = nat_le w.base h && nat_lt h (w.base + w.size)
 

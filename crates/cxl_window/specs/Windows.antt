@@ -49,6 +49,7 @@ cfmws_ways c = unwrap_or (ways_of c.ways) 0
 abbrev pub ranges_meet : ℕ → ℕ → ℕ → ℕ → Bool
 ranges_meet base size other_base other_size = nat_lt (max base other_base) (min (base + size) (other_base + other_size))
 
+-- two windows share an address
 abbrev pub overlaps : CfmwsFields → CfmwsFields → Bool
 overlaps c d = ranges_meet c.base c.size d.base d.size
 
@@ -111,6 +112,7 @@ window_with index maps verdict c = record {
   verdict = verdict;
 }
 
+-- a window as it is told, behind those before it in the table
 abbrev pub window_of : List Record → Option (List ℕ) → List CfmwsFields → CfmwsFields → WindowFields
 window_of records uids before c =
     window_with (length before) (maps_of (maps_in c.gran records) c) (verdict_of records uids before c) c

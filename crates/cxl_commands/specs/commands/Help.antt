@@ -5,11 +5,14 @@ use Rattle.cxl_inputs.specs.declared.status.Status.TheVariants.{Done, Usage}
 use Rattle.cxl_reply.specs.Words.{line}
 use Rattle.cxl_commands.specs.declared.commands.help.TheConstants.{HELP, VERSION}
 
+-- what `--help` comes to
 abbrev pub helped : Outcome
 helped = one_piece Done HELP.now
 
+-- what `--version` comes to
 abbrev pub version_told : Outcome
 version_told = one_piece Done VERSION.now
 
+-- what words come to that are no command
 abbrev pub misused : Outcome
 misused = one_piece Usage (line (codes "usage"))
