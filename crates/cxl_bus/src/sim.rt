@@ -51,6 +51,7 @@ impl Regs for SimBus {
 
     fn read32(&mut self, node: u32, off: u32) -> Result<u32, Failed>
         requires { IsPlace self.old node off }
+        // It never fails, and a read changes nothing.
         ensures never_fails { IsOk result }
         ensures word { IfOk result (λ word. word_in self.old node off ≡ Some word) }
         ensures same { self.new ≡ self.old }

@@ -149,8 +149,6 @@ impl<S: Source, K: Sink> PipeBus<S, K> {
     /// The word that the write rules left.
     fn word(&mut self, node: u32, off: u32) -> Result<u32, Failed>
         requires { IsPlace self.old.blocks node off }
-        // A word is given only where the question was sent and the next line tells this word, which is that of the
-        // write rules.
         ensures word { IfOk result (λ word. word_in self.old.blocks node off ≡ Some word) }
         ensures here { IsOk result }
         ensures same { self.new ≡ self.old }
@@ -221,6 +219,8 @@ impl<S: Source, K: Sink> Regs for PipeBus<S, K> {
 
     fn read32(&mut self, node: u32, off: u32) -> Result<u32, Failed>
         requires { IsPlace self.old.blocks node off }
+        // A word is given only where the question was sent and the next line tells this word, which is that of the
+        // write rules.
         ensures word { IfOk result (λ word. word_in self.old.blocks node off ≡ Some word) }
         ensures told { IfOk result (λ word. (self.old.strange ≡ false)
             × HasAnswer (read_question node off) (tells_word word) self.old self.new) }
