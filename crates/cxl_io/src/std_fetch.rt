@@ -1,6 +1,6 @@
 //! The files of the system.
 
-ghost use Rattle.std.specs.Prelude.{◌≡◌, ◌≢◌, ◌+◌, ◌≤◌, true, None, Err, IfOk, IfSome, take};
+ghost use Rattle.std.specs.Prelude.{◌≡◌, ◌≢◌, ◌+◌, ◌<◌, ◌≤◌, true, false, None, Err, IfOk, IfSome, length, take};
 ghost use Rattle.cxl_enc.specs.Faults.{Rose};
 ghost use Rattle.cxl_enc.specs.Counters.{next_count};
 ghost use Rattle.cxl_enc.specs.Limits.{file_limit};
@@ -71,10 +71,18 @@ pub fn whole_file<F: Read + Drop>(alloc: Global, file: F) -> Result<Vec<u8>, Fet
     ensures too_large { result ≡ Err FetchFault.TooLarge → IsTooLarge (told_by (F.remaining file)) }
 {
     match read_to_limit(alloc, file) {
-        Ok(bytes) if bytes.len() > FILE_LIMIT => Err(FetchFault::TooLarge),
+        Ok(bytes) if is_too_large(&bytes) => Err(FetchFault::TooLarge),
         Ok(bytes) => Ok(bytes),
         Err(e) => Err(fault_of(&e)),
     }
+}
+
+/// More bytes than a file may have.
+fn is_too_large(bytes: &[u8]) -> bool
+    ensures yes { result ≡ true → file_limit < length bytes.now }
+    ensures no { result ≡ false → length bytes.now ≤ file_limit }
+{
+    bytes.len() > FILE_LIMIT
 }
 
 /// The bytes that a reader has left, up to one more than a file may have.

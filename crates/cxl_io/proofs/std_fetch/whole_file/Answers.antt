@@ -5,9 +5,9 @@ use Rattle.cxl_io.proofs.std_fetch.whole_file.Goals as goal
 pub returns-in-Ok-clause-too_large : goal.returns-in-Ok-clause-too_large
 returns-in-Ok-clause-too_large g c = λ _.
     let bytes = c.in-Ok.bytes in
-    over_limit (g.F.Read.remaining c.args.file) bytes.items c.in-Ok.ensures (let more = c.if-len-gt-FILE_LIMIT.true in let count = c.len.ensures in omega (arith, more, count, bytes.ok.0))
+    over_limit (g.F.Read.remaining c.args.file) bytes.items c.in-Ok.ensures (let more = c.is_too_large.ensures.yes c.if-is_too_large.true in omega (arith, more, bytes.ok.0))
 
 pub returns-in-Ok-2-clause-ok : goal.returns-in-Ok-2-clause-ok
 returns-in-Ok-2-clause-ok g c =
     let bytes = c.in-Ok.bytes in
-    within_limit (g.F.Read.remaining c.args.file) bytes.items c.in-Ok.ensures (let few = c.if-len-gt-FILE_LIMIT.false in let count = c.len.ensures in omega (arith, few, count, bytes.ok.0))
+    within_limit (g.F.Read.remaining c.args.file) bytes.items c.in-Ok.ensures (let few = c.is_too_large.ensures.no c.if-is_too_large.false in omega (arith, few, bytes.ok.0))
