@@ -8,6 +8,8 @@ mod acts;
 #[cfg(test)]
 mod checks;
 #[cfg(test)]
+mod counts;
+#[cfg(test)]
 mod findings;
 #[cfg(test)]
 mod guest_stores;
