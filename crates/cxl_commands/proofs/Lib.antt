@@ -5,6 +5,7 @@ pub mod Stops
 pub mod Planned
 pub mod InBlocks
 pub mod ListLines
+pub mod ListedTo
 pub mod Lists
 pub mod Regions
 pub mod Checks

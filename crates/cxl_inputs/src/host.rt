@@ -5,7 +5,7 @@ ghost use Rattle.cxl_cedt.specs.CedtFields.{CedtFields};
 ghost use Rattle.cxl_image.specs.Images.{HasCapsOf};
 ghost use Rattle.cxl_io.specs.Fetch.{AsksFor};
 ghost use Rattle.cxl_model.specs.System.{IsSystem, system_of, bridge_uids};
-ghost use Rattle.cxl_window.specs.Windows.{windows_of};
+ghost use Rattle.cxl_window.specs.Windows.{windows_of, AreMadeWith};
 ghost use Rattle.cxl_inputs.specs.File.{AsksForSome};
 ghost use Rattle.cxl_inputs.specs.Host.{AreRead, HasNoHost};
 ghost use Rattle.cxl_inputs.specs.Stop.{IsStop};
@@ -13,11 +13,11 @@ ghost use Rattle.cxl_inputs.specs.Stop.{IsStop};
 use crate::image::fetch_image;
 use crate::reset_host::fetch_both;
 use crate::stop::Stop;
-use cxl_cedt::Cedt;
+use cxl_cedt::{Cedt, TableText};
 use cxl_image::Image;
 use cxl_io::{Fetch, Memory};
 use cxl_topo::Topo;
-use cxl_window::{Window, windows};
+use cxl_window::{Window, text_windows, windows};
 use std::alloc::Global;
 
 /// What a command's three files describe: a topology, an image over it, and the table's windows as the
@@ -38,14 +38,40 @@ impl OwnedHost {
         ensures system { IfOk result (λ host. IsSystem (system_of image topo host.windows.items)) }
     {
         let windows = windows(alloc, table, Some(topo.uids()))?;
+        Ok(OwnedHost::over(topo, image, windows))
+    }
+
+    /// The host with this topology, an image over it, and the windows of this table, which is read and not copied.
+    pub fn of_text(
+        alloc: Global,
+        table: &TableText,
+        topo: Topo,
+        image: Image,
+    ) -> Result<OwnedHost, Memory>
+        requires { HasCapsOf image topo.nodes }
+        ensures parts { IfOk result (λ host. (host.topo ≡ topo) × (host.image ≡ image)) }
+        ensures windows { IfOk result (λ host. host.windows.items ≡ windows_of table.now.records (Some (bridge_uids topo.nodes))) }
+        ensures system { IfOk result (λ host. IsSystem (system_of image topo host.windows.items)) }
+    {
+        let windows = text_windows(alloc, table, Some(topo.uids()))?;
+        Ok(OwnedHost::over(topo, image, windows))
+    }
+
+    /// The host with this topology, an image over it, and windows that are made with its bridges.
+    fn over(topo: Topo, image: Image, windows: Vec<Window>) -> OwnedHost
+        requires caps { HasCapsOf image topo.nodes }
+        requires made { AreMadeWith windows.items (bridge_uids topo.nodes) }
+        ensures parts { (result.topo ≡ topo) × (result.image ≡ image) × (result.windows.items ≡ windows.items) }
+        ensures system { IsSystem (system_of image topo windows.items) }
+    {
         // what is known of a tree and of an image, by asking them
         let _nodes = topo.count();
         let _blocks = image.count();
-        Ok(OwnedHost {
+        OwnedHost {
             topo,
             image,
             windows,
-        })
+        }
     }
 }
 
@@ -70,6 +96,6 @@ pub fn fetch_host<F: Fetch>(
 {
     let (table, topo) = fetch_both(alloc, cedt, topo, files)?;
     let image = fetch_image(alloc, image, &topo, files)?;
-    let host = OwnedHost::of(alloc, &table, topo, image)?;
+    let host = OwnedHost::of_text(alloc, &table, topo, image)?;
     Ok(host)
 }

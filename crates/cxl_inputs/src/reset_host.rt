@@ -15,7 +15,7 @@ use crate::host::OwnedHost;
 use crate::stop::Stop;
 use crate::table::fetch_table;
 use crate::topology::fetch_topology;
-use cxl_cedt::Cedt;
+use cxl_cedt::TableText;
 use cxl_image::Image;
 use cxl_io::{Fetch, Memory};
 use cxl_model::reset_hosts_are_accepted;
@@ -28,7 +28,7 @@ pub(crate) fn fetch_both<F: Fetch>(
     cedt: &str,
     topo: &str,
     files: &mut F,
-) -> Result<(Cedt, Topo), Stop>
+) -> Result<(TableText, Topo), Stop>
     ensures read { IfOk result (λ both. AreBothRead (F.state files.old).told cedt.now topo.now both.0 both.1) }
     ensures asked { OnOk result (AsksFor (F.state files.old) (F.state files.new) (cedt.now ∷ topo.now ∷ [])) }
     ensures stops { IfErr result (IsStop (HasNoResetHost cedt.now topo.now (F.state files.old) (F.state files.new))
@@ -67,7 +67,7 @@ pub fn fetch_reset_host<F: Fetch>(
 }
 
 /// The host with this topology, its image after reset, and the windows of this table.
-fn after_reset(alloc: Global, table: &Cedt, topo: Topo) -> Result<OwnedHost, Memory>
+fn after_reset(alloc: Global, table: &TableText, topo: Topo) -> Result<OwnedHost, Memory>
     ensures topo { IfOk result (λ host. host.topo ≡ topo) }
     ensures windows { IfOk result (λ host. host.windows.items ≡ windows_of table.now.records (Some (bridge_uids host.topo.nodes))) }
     ensures reset { IfOk result (λ host. host.image ≡ reset_blocks host.topo.nodes) }
@@ -75,7 +75,7 @@ fn after_reset(alloc: Global, table: &Cedt, topo: Topo) -> Result<OwnedHost, Mem
     ensures accepted { IfOk result (λ host. IsAccepted (system_of host.image host.topo host.windows.items)) }
 {
     let image = Image::new(alloc, &topo)?;
-    let host = OwnedHost::of(alloc, table, topo, image)?;
+    let host = OwnedHost::of_text(alloc, table, topo, image)?;
     reset_hosts_are_accepted();
     Ok(host)
 }

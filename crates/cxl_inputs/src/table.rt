@@ -12,13 +12,13 @@ use crate::file::fetch_file;
 use crate::outcome::Outcome;
 use crate::status::Status;
 use crate::stop::Stop;
-use cxl_cedt::{Cedt, CedtFault, read};
+use cxl_cedt::{CedtFault, TableText, read_text};
 use cxl_io::{Fetch, Memory};
 use std::alloc::Global;
 
-/// The table of a command's first file. Where there is none it stops with what is told of the file, or for want of
-/// memory, and no other file was asked for.
-pub fn fetch_table<F: Fetch>(alloc: Global, file: &str, files: &mut F) -> Result<Cedt, Stop>
+/// The table of a command's first file, of which no record is copied but those that are judged. Where there is none it
+/// stops with what is told of the file, or for want of memory, and no other file was asked for.
+pub fn fetch_table<F: Fetch>(alloc: Global, file: &str, files: &mut F) -> Result<TableText, Stop>
     ensures table { IfOk result (IsTableOf ((F.state files.old).told file.now)) }
     ensures asked { OnOk result (AsksFor (F.state files.old) (F.state files.new) (file.now ∷ [])) }
     ensures stops { IfErr result (IsStop (HasNoTable file.now (F.state files.old) (F.state files.new))
@@ -27,7 +27,7 @@ pub fn fetch_table<F: Fetch>(alloc: Global, file: &str, files: &mut F) -> Result
     ensures stays { (F.state files.new).told ≡ (F.state files.old).told }
 {
     let bytes = fetch_file(alloc, file, files)?;
-    match read(alloc, bytes.as_slice()) {
+    match read_text(alloc, bytes) {
         Ok(table) => Ok(table),
         Err(fault) => Err(Stop::of(faulty(alloc, fault))),
     }

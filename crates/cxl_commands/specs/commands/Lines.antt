@@ -86,9 +86,12 @@ window_line w qtg = line (range_text w ++ interleave_text w ++ policy_text w.res
 abbrev pub cxims_line : CximsFields → List ℕ
 cxims_line c = line (codes "cxims gran " ++ gran_text c.gran ++ codes " maps " ++ maps_text c.maps)
 
--- the type, and the length of the whole record
+-- the type, and the length of the whole record, which has these bytes behind its length
+abbrev pub other_text : ℕ → List ℕ → List ℕ
+other_text kind body = line (codes "other " ++ decimal kind ++ codes " length " ++ decimal (4 + length body))
+
 abbrev pub other_line : OtherFields → List ℕ
-other_line c = line (codes "other " ++ decimal c.kind ++ codes " length " ++ decimal (4 + length c.body))
+other_line c = other_text c.kind c.body
 
 -- the line of a record of a table, `before` being the records before it: a window is judged behind the windows before it
 unfoldable pub record_line : List Record → List Record → Record → List ℕ

@@ -1,17 +1,33 @@
 //! The line of a record in what `list` writes.
 
 ghost use Rattle.std.specs.Prelude.{◌≡◌, ◌++◌, ◌<◌, IsSome, OnOk, length, codes, decimal};
+ghost use Rattle.cxl_cedt.specs.RecordTexts.{record_in};
 ghost use Rattle.cxl_commands.specs.commands.LinePlaces.{line_at};
-ghost use Rattle.cxl_commands.specs.commands.Lines.{more_targets_text, targets_text, more_maps_text, maps_text, verdict_text, bridge_text, registers_text, range_text, interleave_text, arithmetic_text, restrict_text, policy_text, use_text, chbs_line, window_line, cxims_line, other_line};
+ghost use Rattle.cxl_commands.specs.commands.Lines.{more_targets_text, targets_text, more_maps_text, maps_text, verdict_text, bridge_text, registers_text, range_text, interleave_text, arithmetic_text, restrict_text, policy_text, use_text, chbs_line, window_line, cxims_line, other_text};
 ghost use Rattle.cxl_window.specs.Windows.{cfmws_in};
 
-use cxl_cedt::{Chbs, Cxims, Other, Record};
+use cxl_cedt::{Chbs, Cxims, Record, RecordText};
 use cxl_io::{Memory, put_hex, put_number};
 use cxl_text::{put_address, put_gran};
 use cxl_window::{Verdict, Window};
 
 /// Appends the line of a record, before which so many of the windows stand.
 pub(crate) fn put_line(
+    out: &mut Vec<u8>,
+    item: &RecordText<'_>,
+    windows: &[Window],
+    place: usize,
+) -> Result<(), Memory>
+    requires { IsSome (cfmws_in (record_in item.now)) → place < length windows.now }
+    ensures { OnOk result (out.new.items ≡ out.old.items ++ line_at windows.now place (record_in item.now)) }
+{
+    match item {
+        RecordText::Judged(record) => put_record_line(out, record, windows, place),
+        RecordText::Other(other) => put_other_line(out, other.kind(), other.body()),
+    }
+}
+
+fn put_record_line(
     out: &mut Vec<u8>,
     item: &Record,
     windows: &[Window],
@@ -24,7 +40,7 @@ pub(crate) fn put_line(
         Record::Chbs(chbs) => put_chbs_line(out, chbs),
         Record::Cfmws(window) => put_window_line(out, &windows[place], window.qtg()),
         Record::Cxims(maps) => put_cxims_line(out, maps),
-        Record::Other(other) => put_other_line(out, other),
+        Record::Other(other) => put_other_line(out, other.kind(), other.body()),
     }
 }
 
@@ -172,13 +188,14 @@ fn put_cxims_line(out: &mut Vec<u8>, maps: &Cxims) -> Result<(), Memory>
     Ok(())
 }
 
-fn put_other_line(out: &mut Vec<u8>, other: &Other) -> Result<(), Memory>
-    ensures { OnOk result (out.new.items ≡ out.old.items ++ other_line other.now) }
+/// Appends the line of a record of this type, with these bytes behind its length.
+fn put_other_line(out: &mut Vec<u8>, kind: u8, body: &[u8]) -> Result<(), Memory>
+    ensures { OnOk result (out.new.items ≡ out.old.items ++ other_text kind body.now) }
 {
     out.extend_from_slice(b"other ")?;
-    put_number(out, u64::from(other.kind()))?;
+    put_number(out, u64::from(kind))?;
     out.extend_from_slice(b" length ")?;
-    put_number(out, 4 + other.body().len() as u64)?;
+    put_number(out, 4 + body.len() as u64)?;
     out.push(b'\n')?;
     Ok(())
 }

@@ -3,6 +3,7 @@
 ghost use Rattle.std.specs.Prelude.{◌≡◌, ℕ, ◌≤◌, ◌⊎◌, None, List, [], ◌∷◌, length, IfOk, IfErr, OnOk, OnErr};
 ghost use Rattle.std.specs.List.{filter_map};
 ghost use Rattle.cxl_cedt.specs.CedtFields.{CedtFields};
+ghost use Rattle.cxl_cedt.specs.RecordTexts.{record_in};
 ghost use Rattle.cxl_inputs.specs.Ends.{IsWritten, Ends};
 ghost use Rattle.cxl_inputs.specs.File.{AsksForSome};
 ghost use Rattle.cxl_inputs.specs.Stop.{IsStop};
@@ -19,11 +20,11 @@ ghost use Rattle.cxl_window.specs.Windows.{cfmws_in, windows_of};
 
 use crate::commands::BLOCK;
 use crate::commands::lines::put_line;
-use cxl_cedt::{Cedt, Record, one_reading};
+use cxl_cedt::{Record, RecordText, TableText, one_reading};
 use cxl_inputs::{Status, Stop, fetch_table, finish};
 use cxl_io::{Fetch, Memory, Sink, writes_join};
 use cxl_lines::Lines;
-use cxl_window::{Window, windows};
+use cxl_window::{Window, text_windows};
 use std::alloc::Global;
 
 /// Writes a line for each record of the table in a file. Lines go out in blocks, so that memory holds one
@@ -41,7 +42,7 @@ pub(crate) fn list<F: Fetch, K: Sink>(
     ensures told { (F.state files.new).told ≡ (F.state files.old).told }
 {
     match judged(alloc, file, files) {
-        Ok((table, windows)) => match write_lines(alloc, table.records(), &windows, out) {
+        Ok((table, windows)) => match write_lines(alloc, &table, &windows, out) {
             Ok(status) => status,
             Err(Memory) => Status::Memory,
         },
@@ -50,7 +51,11 @@ pub(crate) fn list<F: Fetch, K: Sink>(
 }
 
 /// The table in a file and its windows, which are judged without a topology.
-fn judged<F: Fetch>(alloc: Global, file: &str, files: &mut F) -> Result<(Cedt, Vec<Window>), Stop>
+fn judged<F: Fetch>(
+    alloc: Global,
+    file: &str,
+    files: &mut F,
+) -> Result<(TableText, Vec<Window>), Stop>
     ensures table { IfOk result (λ read. IsTableOf ((F.state files.old).told file.now) read.0) }
     ensures windows { IfOk result (λ read. read.1.items ≡ windows_of read.0.records None) }
     ensures asked { OnOk result (AsksFor (F.state files.old) (F.state files.new) (file.now ∷ [])) }
@@ -60,31 +65,32 @@ fn judged<F: Fetch>(alloc: Global, file: &str, files: &mut F) -> Result<(Cedt, V
     ensures stays { (F.state files.new).told ≡ (F.state files.old).told }
 {
     let table = fetch_table(alloc, file, files)?;
-    let windows = windows(alloc, &table, None)?;
+    let windows = text_windows(alloc, &table, None)?;
     Ok((table, windows))
 }
 
-/// Writes the lines of records, whose windows are these in order.
+/// Writes the lines of a table's records as they are walked. These are the table's windows in order.
 fn write_lines<K: Sink>(
     alloc: Global,
-    records: &[Record],
+    table: &TableText,
     windows: &[Window],
     out: &mut K,
 ) -> Result<Status, Memory>
-    requires { windows.now ≡ windows_of records.now None }
-    ensures ends { IfOk result (λ status. Ends (listed records.now) status (K.state out.old) (K.state out.new)) }
-    ensures behind { OnErr result (IsBehind (listed records.now) (K.state out.old) (K.state out.new)) }
+    requires { windows.now ≡ windows_of table.now.records None }
+    ensures ends { IfOk result (λ status. Ends (listed table.now.records) status (K.state out.old) (K.state out.new)) }
+    ensures behind { OnErr result (IsBehind (listed table.now.records) (K.state out.old) (K.state out.new)) }
     ensures counts { (K.state out.old).faults ≤ (K.state out.new).faults }
 {
     writes_join();
     let mut lines: Lines<BLOCK> = Lines::new(alloc);
     let mut place = 0;
-    for item in records {
-        put_line(&mut lines.block, item, windows, place)?;
+    let mut records = table.records();
+    while let Some(item) = records.next() {
+        put_line(&mut lines.block, &item, windows, place)?;
         if lines.line_done(out).is_err() {
             return Ok(Status::WriteFault);
         }
-        place += window_count(item);
+        place += window_count(&item);
     }
     if lines.end(out).is_err() {
         return Ok(Status::WriteFault);
@@ -93,12 +99,12 @@ fn write_lines<K: Sink>(
 }
 
 /// How many windows a record is: one or none.
-fn window_count(item: &Record) -> usize
-    ensures value { result ≡ length (filter_map cfmws_in (item.now ∷ [])) }
+fn window_count(item: &RecordText<'_>) -> usize
+    ensures value { result ≡ length (filter_map cfmws_in (record_in item.now ∷ [])) }
     ensures few { result ≤ 1 }
 {
     match item {
-        Record::Cfmws(_) => 1,
+        RecordText::Judged(Record::Cfmws(_)) => 1,
         _ => 0,
     }
 }

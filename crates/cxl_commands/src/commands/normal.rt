@@ -12,7 +12,7 @@ ghost use Rattle.cxl_commands.specs.Form.{Normal};
 ghost use Rattle.cxl_commands.specs.RunByFiles.{EachRunByFiles};
 ghost use Rattle.cxl_commands.specs.commands.Normal.{normalized, IsNormalText};
 
-use cxl_cedt::{one_reading, write};
+use cxl_cedt::one_reading;
 use cxl_inputs::{Outcome, Status, Stop, fetch_table};
 use cxl_io::Fetch;
 use std::alloc::Global;
@@ -24,7 +24,7 @@ pub(crate) fn normal<F: Fetch>(alloc: Global, file: &str, files: &mut F) -> Resu
     ensures stays { (F.state files.new).told ≡ (F.state files.old).told }
 {
     let table = fetch_table(alloc, file, files)?;
-    let text = write(alloc, &table)?;
+    let text = table.into_normal(alloc)?;
     Ok(Outcome::made(Status::Done, text))
 }
 

@@ -15,10 +15,10 @@ ghost use Rattle.cxl_commands.specs.commands.Route.{IsNowhere, IsRouted, IsRoute
 ghost use Rattle.cxl_window.specs.Windows.{windows_of};
 
 use crate::commands::selection::{Selection, select};
-use cxl_cedt::{Cedt, one_reading};
+use cxl_cedt::{TableText, one_reading};
 use cxl_inputs::{Outcome, Status, Stop, fetch_table};
 use cxl_io::{Fetch, Memory};
-use cxl_window::windows;
+use cxl_window::text_windows;
 use std::alloc::Global;
 
 /// Where a host address goes, by the table in a file.
@@ -37,10 +37,10 @@ pub(crate) fn route<F: Fetch>(
 }
 
 /// Where a host address goes, by a table. Its windows are judged without a topology.
-fn routed(alloc: Global, table: &Cedt, h: u64) -> Result<Outcome, Memory>
+fn routed(alloc: Global, table: &TableText, h: u64) -> Result<Outcome, Memory>
     ensures { IfOk result (IsRouted table.now h) }
 {
-    let windows = windows(alloc, table, None)?;
+    let windows = text_windows(alloc, table, None)?;
     answer(alloc, select(&windows, h))
 }
 
