@@ -6,8 +6,7 @@ use Rattle.std.proofs.lemmas.Bool.{false≢true}
 use Rattle.std.proofs.lemmas.List.Sums.{fold_more}
 use Rattle.std.proofs.lemmas.Option.{slice_get_read}
 use Rattle.cxl_enc.proofs.Options.{on_err_at}
-use Rattle.cxl_bus.specs.ExactCounts.{CountsExactly}
-use Rattle.cxl_enc.specs.Faults.{HasCause, LeavesCount}
+use Rattle.cxl_enc.specs.Faults.{HasCause, LeavesCount, CountsExactly}
 use Rattle.cxl_bus.proofs.Failed.{fails_none, fails_once}
 use Rattle.cxl_bus.specs.Failed.{HasFailedAt, HasFailed}
 use Rattle.cxl_bus.specs.RegsState.{RegsState}

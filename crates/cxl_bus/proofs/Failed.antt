@@ -3,8 +3,7 @@ use Rattle.std.proofs.Common.{◌≡◌, ℕ, zero, suc, ◌+◌, ◌-◌, ◌^�
 use Rattle.std.specs.Prelude.{IfSome}
 use Rattle.std.proofs.Math.Seq.{take-nil}
 use Rattle.std.proofs.lemmas.List.{append-nil, map-append, length-map}
-use Rattle.cxl_enc.specs.Faults.{Rose, RoseBy, LeavesCount}
-use Rattle.cxl_bus.specs.ExactCounts.{CountsExactly}
+use Rattle.cxl_enc.specs.Faults.{Rose, RoseBy, LeavesCount, CountsExactly}
 use Rattle.cxl_bus.specs.declared.sent.Sent.{Sent}
 use Rattle.cxl_bus.specs.Failed.{behind, place_limit, places_with, HasFailedAt, HasFailed, fresh}
 use Rattle.cxl_bus.specs.RegsState.{RegsState}

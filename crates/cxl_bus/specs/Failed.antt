@@ -1,7 +1,6 @@
 -- Where calls of a bus failed: behind how many of the words that were sent.
 use Rattle.std.specs.Prelude.{◌≡◌, ℕ, ◌+◌, ◌-◌, List, [], ◌++◌, map, take, length, Option, option_map, IfSome}
-use Rattle.cxl_enc.specs.Faults.{RoseBy}
-use Rattle.cxl_bus.specs.ExactCounts.{CountsExactly}
+use Rattle.cxl_enc.specs.Faults.{RoseBy, CountsExactly}
 use Rattle.cxl_bus.specs.RegsState.{RegsState}
 
 -- so many places are told, and no more

@@ -1,8 +1,7 @@
 //! The trait behind which registers are reached, a word at a time.
 
 ghost use Rattle.std.specs.Prelude.{◌≡◌, ◌≤◌, [], ◌∷◌, Some, option_map, IfOk, OnOk, OnErr};
-ghost use Rattle.cxl_bus.specs.ExactCounts.{CountsExactly};
-ghost use Rattle.cxl_enc.specs.Faults.{HasCause, LeavesCount};
+ghost use Rattle.cxl_enc.specs.Faults.{HasCause, LeavesCount, CountsExactly};
 ghost use Rattle.cxl_regs.specs.Blocks.{IsPlace, word_in, blocks_after};
 ghost use Rattle.cxl_bus.specs.Failed.{HasFailedAt};
 ghost use Rattle.cxl_bus.specs.RegsState.{RegsState, IsUntouched};

@@ -1,6 +1,6 @@
 -- The steps of a reader of lines within one answer.
 use Rattle.std.specs.Prelude.{◌≡◌, ℕ, ◌+◌, ◌-◌, ◌≤◌, nat_le, ◌==◌, if◌then◌else◌, List, [], ◌∷◌, ◌++◌, length, take, Result, IfOk, OnOk, OnErr}
-use Rattle.cxl_enc.specs.Faults.{HasCause, LeavesCount}
+use Rattle.cxl_enc.specs.Faults.{HasCause, LeavesCount, CountsExactly}
 use Rattle.cxl_enc.specs.declared.faults.Failed.{Failed}
 use Rattle.cxl_io.specs.Lines.{ended_lines}
 use Rattle.cxl_io.specs.Reader.{Reader, line_limit, script_limit}
@@ -37,6 +37,7 @@ pub record IsRead (result : Result ℕ Failed) (before after : SourceState) : Ty
   pub counts : before.faults ≤ after.faults
   pub alone : after.counts_failures_alone ≡ before.counts_failures_alone
   pub unswallowed : OnOk result (LeavesCount before.counts_failures_alone before.faults after.faults)
+  pub counted : OnErr result (CountsExactly 1 before.counts_failures_alone before.faults after.faults)
 
 -- so many bytes are taken
 pub record Refills (old new : Reader) (before after : SourceState) (count : ℕ) : Type 0 where

@@ -1,7 +1,7 @@
 //! The trait by which files are fetched by name.
 
 ghost use Rattle.std.specs.Prelude.{◌≡◌, ◌≢◌, ◌≤◌, ◌⊎◌, Err, [], ◌∷◌, IfOk};
-ghost use Rattle.cxl_enc.specs.Faults.{Rose, LeavesCount};
+ghost use Rattle.cxl_enc.specs.Faults.{Rose, LeavesCount, CountsExactly};
 ghost use Rattle.cxl_io.specs.Fetch.{FetchState, AsksFor, IsFile, IsTooLarge};
 ghost use Rattle.cxl_io.specs.declared.fetch.FetchFault.TheVariants.{Memory};
 
@@ -43,10 +43,13 @@ pub trait Fetch {
             → Rose (state self.old).faults (state self.new).faults }
         ensures counts { (state self.old).faults ≤ (state self.new).faults }
         ensures alone { (state self.new).counts_failures_alone ≡ (state self.old).counts_failures_alone }
+        ensures stays { (state self.new).told ≡ (state self.old).told }
         // A fault is not swallowed. A file that is too large and want of memory are none of the files'.
         ensures unswallowed { (result ≢ Err FetchFault.Failed)
             → LeavesCount (state self.old).counts_failures_alone (state self.old).faults (state self.new).faults }
-        ensures stays { (state self.new).told ≡ (state self.old).told }
+        // A call that failed is counted once.
+        ensures counted { result ≡ Err FetchFault.Failed
+            → CountsExactly 1 (state self.old).counts_failures_alone (state self.old).faults (state self.new).faults }
         // The name is asked for, unless memory ran out before.
         ensures asked { AsksFor (state self.old) (state self.new) (name.now ∷ [])
             ⊎ ((result ≡ Err FetchFault.Memory) × AsksFor (state self.old) (state self.new) []) };

@@ -1,9 +1,9 @@
 //! The lines of a source, one after the other, read in blocks.
 
-ghost use Rattle.std.specs.Prelude.{◌≡◌, ◌≢◌, ℕ, ◌+◌, ◌<◌, ◌≤◌, ◌↔◌, ◌==◌, Some, List, [], ◌∷◌, ◌++◌, length, take, IsTrue, IfOk, OnErr, position, vec_len, vec_capacity};
+ghost use Rattle.std.specs.Prelude.{◌≡◌, ◌≢◌, ℕ, ◌+◌, ◌<◌, ◌≤◌, ◌↔◌, ◌==◌, None, Some, List, [], ◌∷◌, ◌++◌, length, take, IsTrue, IfOk, OnErr, position, vec_len, vec_capacity};
 ghost use Rattle.std.specs.Bool.{OnTrue, OnFalse};
 ghost use Rattle.std.specs.Str.Lines.{strip_carriage_return};
-ghost use Rattle.cxl_enc.specs.Faults.{LeavesCount};
+ghost use Rattle.cxl_enc.specs.Faults.{LeavesCount, CountsExactly};
 ghost use Rattle.cxl_io.specs.Reader.{Reader, line_limit, script_limit, fresh_reader, IsNext, HoldsLine, HasRead, HasStopped};
 ghost use Rattle.cxl_io.specs.ReaderSteps.{kept_with, PassesBreak, PassesAll, IsRead, Refills, line_answer, last_answer};
 ghost use Rattle.cxl_io.specs.Source.{SourceState, GivesFront};
@@ -102,6 +102,9 @@ impl LineReader {
         ensures alone { (S.state source.new).counts_failures_alone ≡ (S.state source.old).counts_failures_alone }
         // A fault is not swallowed.
         ensures unswallowed { (result ≢ Taken.Fault) → LeavesCount (S.state source.old).counts_failures_alone
+            (S.state source.old).faults (S.state source.new).faults }
+        // The first read that fails is its last.
+        ensures counted { result ≡ Taken.Fault → self.old.stop ≡ None → CountsExactly 1 (S.state source.old).counts_failures_alone
             (S.state source.old).faults (S.state source.new).faults }
         // A line that is held is given before more is read.
         ensures held { HoldsLine self.old → S.state source.new ≡ S.state source.old }

@@ -1,7 +1,7 @@
 //! The trait by which bytes are written, and how all of a text are.
 
 ghost use Rattle.std.specs.Prelude.{◌≡◌, ◌<◌, ◌≤◌, List, ℕ, [], ◌++◌, length, take, IfOk, OnOk, OnErr};
-ghost use Rattle.cxl_enc.specs.Faults.{HasCause, LeavesCount};
+ghost use Rattle.cxl_enc.specs.Faults.{HasCause, LeavesCount, CountsExactly};
 ghost use Rattle.cxl_io.specs.Sink.{SinkState, Takes, TakesPrefix};
 
 use cxl_enc::Failed;
@@ -24,7 +24,10 @@ pub trait Sink {
         ensures alone { (state self.new).counts_failures_alone ≡ (state self.old).counts_failures_alone }
         // A fault is not swallowed.
         ensures unswallowed { OnOk result
-            (LeavesCount (state self.old).counts_failures_alone (state self.old).faults (state self.new).faults) };
+            (LeavesCount (state self.old).counts_failures_alone (state self.old).faults (state self.new).faults) }
+        // A call that failed is counted once.
+        ensures counted { OnErr result
+            (CountsExactly 1 (state self.old).counts_failures_alone (state self.old).faults (state self.new).faults) };
 }
 
 /// Writes all the bytes, in as many writes as the sink needs. After a failure some bytes from the front,
@@ -36,6 +39,9 @@ pub fn write_all<K: Sink>(sink: &mut K, bytes: &[u8]) -> Result<(), Failed>
     ensures counts { (K.state sink.old).faults ≤ (K.state sink.new).faults }
     ensures alone { (K.state sink.new).counts_failures_alone ≡ (K.state sink.old).counts_failures_alone }
     ensures unswallowed { OnOk result (LeavesCount (K.state sink.old).counts_failures_alone
+        (K.state sink.old).faults (K.state sink.new).faults) }
+    // The first write that fails ends it.
+    ensures counted { OnErr result (CountsExactly 1 (K.state sink.old).counts_failures_alone
         (K.state sink.old).faults (K.state sink.new).faults) }
 {
     let mut at = 0;

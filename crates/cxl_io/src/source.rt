@@ -1,7 +1,7 @@
 //! The trait by which bytes are read.
 
 ghost use Rattle.std.specs.Prelude.{◌≡◌, ◌<◌, ◌≤◌, Some, [], length, take, IfOk, OnOk, OnErr};
-ghost use Rattle.cxl_enc.specs.Faults.{HasCause, LeavesCount};
+ghost use Rattle.cxl_enc.specs.Faults.{HasCause, LeavesCount, CountsExactly};
 ghost use Rattle.cxl_io.specs.Source.{SourceState, GivesFront, IsAtEnd};
 
 use cxl_enc::Failed;
@@ -25,5 +25,8 @@ pub trait Source {
         ensures alone { (state self.new).counts_failures_alone ≡ (state self.old).counts_failures_alone }
         // A fault is not swallowed.
         ensures unswallowed { OnOk result
-            (LeavesCount (state self.old).counts_failures_alone (state self.old).faults (state self.new).faults) };
+            (LeavesCount (state self.old).counts_failures_alone (state self.old).faults (state self.new).faults) }
+        // A call that failed is counted once.
+        ensures counted { OnErr result
+            (CountsExactly 1 (state self.old).counts_failures_alone (state self.old).faults (state self.new).faults) };
 }

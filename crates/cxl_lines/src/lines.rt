@@ -1,7 +1,7 @@
 //! Lines on their way to a sink, kept in a block until it is full.
 
 ghost use Rattle.std.specs.Prelude.{◌≡◌, ◌≤◌, [], OnOk, OnErr};
-ghost use Rattle.cxl_enc.specs.Faults.{HasCause, LeavesCount};
+ghost use Rattle.cxl_enc.specs.Faults.{HasCause, LeavesCount, CountsExactly};
 ghost use Rattle.cxl_io.specs.Sink.{Takes, TakesPrefix};
 ghost use Rattle.cxl_lines.specs.Blocks.{KeepsOrWrites};
 
@@ -36,6 +36,8 @@ impl<const FROM: usize> Lines<FROM> {
         ensures alone { (K.state out.new).counts_failures_alone ≡ (K.state out.old).counts_failures_alone }
         ensures unswallowed { OnOk result (LeavesCount (K.state out.old).counts_failures_alone
             (K.state out.old).faults (K.state out.new).faults) }
+        ensures counted { OnErr result (CountsExactly 1 (K.state out.old).counts_failures_alone
+            (K.state out.old).faults (K.state out.new).faults) }
     {
         if self.block.len() < FROM {
             return Ok(());
@@ -53,6 +55,8 @@ impl<const FROM: usize> Lines<FROM> {
         ensures counts { (K.state out.old).faults ≤ (K.state out.new).faults }
         ensures alone { (K.state out.new).counts_failures_alone ≡ (K.state out.old).counts_failures_alone }
         ensures unswallowed { OnOk result (LeavesCount (K.state out.old).counts_failures_alone
+            (K.state out.old).faults (K.state out.new).faults) }
+        ensures counted { OnErr result (CountsExactly 1 (K.state out.old).counts_failures_alone
             (K.state out.old).faults (K.state out.new).faults) }
     {
         write_all(out, self.block.as_slice())
