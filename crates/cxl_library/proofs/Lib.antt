@@ -1,0 +1,3 @@
+mod FormWords
+mod Growing
+mod Runs
