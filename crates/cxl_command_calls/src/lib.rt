@@ -9,6 +9,8 @@ mod generated;
 #[cfg(test)]
 mod poison;
 #[cfg(test)]
+mod reads;
+#[cfg(test)]
 mod reply;
 #[cfg(test)]
 mod script;

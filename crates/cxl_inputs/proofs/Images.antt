@@ -1,12 +1,15 @@
 -- Reading an image that has a fault.
-use Rattle.std.proofs.Common.{◌≡◌, ◌≢◌, List, ℕ, [], ◌∷◌, Result, Ok, Err, IfOk, inl, inr}
+use Rattle.std.proofs.Common.{◌≡◌, ◌≢◌, ◌≤◌, List, ℕ, [], ◌∷◌, Result, Ok, Err, IfOk, length, inl, inr}
+use Rattle.std.specs.Prelude.{⊤}
 use Rattle.cxl_enc.specs.declared.faults.Memory.{Memory as NoMemory}
+use Rattle.cxl_enc.specs.Limits.{file_limit}
 use Rattle.cxl_image.specs.File.{IsFirstImageFault, IsImageFaultOf}
 use Rattle.cxl_image.specs.declared.fault.ImageFault.{ImageFault}
 use Rattle.cxl_image.specs.declared.fault.ImageFault.TheVariants.{Memory}
 use Rattle.cxl_io.specs.Fetch.{FetchState, AsksFor, IsFile}
 use Rattle.cxl_topo.specs.declared.node.Node.{Node}
 use Rattle.cxl_inputs.specs.File.{AsksForSome}
+use Rattle.cxl_inputs.specs.Given.{HoldNoImage}
 use Rattle.cxl_inputs.specs.Image.{bad_image, HasNoImage, not_sound}
 use Rattle.cxl_inputs.specs.Outcome.{Outcome}
 use Rattle.cxl_inputs.specs.Stop.{IsStop, stop_of}
@@ -21,3 +24,9 @@ pub bad_image-stops : (file : List ℕ) (nodes : List Node) (old new : FetchStat
 bad_image-stops file nodes old new bytes fault (Ok outcome) is asks of is_made =
     not_sound fault (record { bytes = bytes; told_so = is.same; faulty = record { within = is.within; first = first_fault bytes nodes fault of is_made.0 } }) asks is_made.1
 bad_image-stops file nodes old new bytes fault (Err e) is asks of is_made = asks_one file old new asks
+
+-- the same of bytes that are given
+pub bad_image-given : (file bytes : List ℕ) (nodes : List Node) (fault : ImageFault) (made : Result Outcome NoMemory) → length bytes ≤ file_limit → IsImageFaultOf bytes nodes fault → IfOk made (λ outcome. (fault ≢ Memory) × (outcome ≡ bad_image fault)) → IsStop (HoldNoImage file bytes nodes) ⊤ (stop_of made)
+bad_image-given file bytes nodes fault (Ok outcome) within of is_made =
+    inr (fault, record { within = within; first = first_fault bytes nodes fault of is_made.0 }, is_made.1)
+bad_image-given file bytes nodes fault (Err e) within of is_made = tt

@@ -10,3 +10,4 @@ pub mod Topology
 pub mod Image
 pub mod Host
 pub mod ResetHost
+pub mod Given

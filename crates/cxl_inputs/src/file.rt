@@ -1,13 +1,16 @@
 //! The bytes of a file, or the text that says why there are none.
 
-ghost use Rattle.std.specs.Prelude.{◌≡◌, ◌<◌, ◌≤◌, [], ◌∷◌, IfOk, IfErr, OnOk};
+ghost use Rattle.std.specs.Prelude.{◌≡◌, ◌<◌, ◌≤◌, ⊤, [], ◌∷◌, length, IfOk, IfErr, OnOk};
+ghost use Rattle.cxl_enc.specs.Limits.{file_limit};
 ghost use Rattle.cxl_io.specs.Fetch.{AsksFor, IsFile};
 ghost use Rattle.cxl_inputs.specs.File.{HasNoBytes, AsksForSome, unread, too_large};
+ghost use Rattle.cxl_inputs.specs.Given.{AreTooMany};
 ghost use Rattle.cxl_inputs.specs.Stop.{IsStop};
 
 use crate::outcome::Outcome;
 use crate::status::Status;
 use crate::stop::Stop;
+use cxl_enc::FILE_LIMIT;
 use cxl_io::{Fetch, FetchFault, Memory};
 use std::alloc::Global;
 
@@ -30,6 +33,17 @@ pub(crate) fn fetch_file<F: Fetch>(
         Err(FetchFault::TooLarge) => Err(Stop::of(too_large(alloc, file))),
         Err(FetchFault::Memory) => Err(Stop::Memory),
     }
+}
+
+/// Stops where the bytes of a file of this name are too many.
+pub(crate) fn within_limit(alloc: Global, file: &str, bytes: &[u8]) -> Result<(), Stop>
+    ensures within { OnOk result (length bytes.now ≤ file_limit) }
+    ensures stops { IfErr result (IsStop (AreTooMany file.now bytes.now) ⊤) }
+{
+    if bytes.len() > FILE_LIMIT {
+        return Err(Stop::of(too_large(alloc, file)));
+    }
+    Ok(())
 }
 
 /// The file of this name was not read.

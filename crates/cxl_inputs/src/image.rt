@@ -1,15 +1,16 @@
 //! The file of an image: its reading over a topology, or the text of its first fault.
 
-ghost use Rattle.std.specs.Prelude.{◌≡◌, ◌≢◌, ◌<◌, ◌≤◌, Some, [], ◌∷◌, IfOk, IfErr, OnOk};
+ghost use Rattle.std.specs.Prelude.{◌≡◌, ◌≢◌, ◌<◌, ◌≤◌, ⊤, Some, [], ◌∷◌, IfOk, IfErr, OnOk};
 ghost use Rattle.cxl_image.specs.Images.{HasCapsOf};
 ghost use Rattle.cxl_image.specs.declared.fault.ImageFault.{ImageFault};
 ghost use Rattle.cxl_io.specs.Fetch.{AsksFor};
 ghost use Rattle.cxl_inputs.specs.File.{AsksForSome};
-ghost use Rattle.cxl_inputs.specs.Image.{IsImageOf, HasNoImage, bad_image, image_fault_word, image_fault_number};
+ghost use Rattle.cxl_inputs.specs.Image.{IsImageOf, HasNoImage, bad_image, image_fault_word, image_fault_number, IsImageReading};
+ghost use Rattle.cxl_inputs.specs.Given.{HoldNoImage};
 ghost use Rattle.cxl_inputs.specs.Stop.{IsStop};
 
 use crate::faults::fault_line;
-use crate::file::fetch_file;
+use crate::file::{fetch_file, within_limit};
 use crate::outcome::Outcome;
 use crate::status::Status;
 use crate::stop::Stop;
@@ -35,6 +36,19 @@ pub(crate) fn fetch_image<F: Fetch>(
 {
     let bytes = fetch_file(alloc, file, files)?;
     match read_image(alloc, bytes.as_slice(), topo) {
+        Ok(image) => Ok(image),
+        Err(fault) => Err(Stop::of(faulty(alloc, fault))),
+    }
+}
+
+/// The image over a topology that the bytes of a file of this name hold. It stops where they hold none. Takes memory.
+pub fn given_image(alloc: Global, file: &str, bytes: &[u8], topo: &Topo) -> Result<Image, Stop>
+    ensures image { IfOk result (IsImageReading bytes.now topo.now.nodes) }
+    ensures caps { IfOk result (λ image. HasCapsOf image topo.now.nodes) }
+    ensures stops { IfErr result (IsStop (HoldNoImage file.now bytes.now topo.now.nodes) ⊤) }
+{
+    within_limit(alloc, file, bytes)?;
+    match read_image(alloc, bytes, topo) {
         Ok(image) => Ok(image),
         Err(fault) => Err(Stop::of(faulty(alloc, fault))),
     }

@@ -1,18 +1,19 @@
 //! The file of a table: its reading, or the text of its first fault.
 
-ghost use Rattle.std.specs.Prelude.{◌≡◌, ◌≢◌, ◌≤◌, Some, [], ◌∷◌, length, IfOk, IfErr, OnOk};
+ghost use Rattle.std.specs.Prelude.{◌≡◌, ◌≢◌, ◌≤◌, ⊤, Some, [], ◌∷◌, length, IfOk, IfErr, OnOk};
 ghost use Rattle.cxl_cedt.specs.declared.fault.CedtFault.{CedtFault};
 ghost use Rattle.cxl_io.specs.Fetch.{AsksFor};
 ghost use Rattle.cxl_inputs.specs.File.{AsksForSome};
 ghost use Rattle.cxl_inputs.specs.Stop.{IsStop};
-ghost use Rattle.cxl_inputs.specs.Table.{IsTableOf, HasNoTable, bad_table, fault_word, fault_place};
+ghost use Rattle.cxl_inputs.specs.Table.{IsTableOf, HasNoTable, bad_table, fault_word, fault_place, IsReading};
+ghost use Rattle.cxl_inputs.specs.Given.{SpellNoTable};
 
 use crate::faults::fault_line;
-use crate::file::fetch_file;
+use crate::file::{fetch_file, within_limit};
 use crate::outcome::Outcome;
 use crate::status::Status;
 use crate::stop::Stop;
-use cxl_cedt::{CedtFault, TableText, read_text};
+use cxl_cedt::{Cedt, CedtFault, TableText, read, read_text};
 use cxl_io::{Fetch, Memory};
 use std::alloc::Global;
 
@@ -28,6 +29,18 @@ pub fn fetch_table<F: Fetch>(alloc: Global, file: &str, files: &mut F) -> Result
 {
     let bytes = fetch_file(alloc, file, files)?;
     match read_text(alloc, bytes) {
+        Ok(table) => Ok(table),
+        Err(fault) => Err(Stop::of(faulty(alloc, fault))),
+    }
+}
+
+/// The table that the bytes of a file of this name spell. It stops where they spell none. Takes memory.
+pub fn given_table(alloc: Global, file: &str, bytes: &[u8]) -> Result<Cedt, Stop>
+    ensures table { IfOk result (IsReading bytes.now) }
+    ensures stops { IfErr result (IsStop (SpellNoTable file.now bytes.now) ⊤) }
+{
+    within_limit(alloc, file, bytes)?;
+    match read(alloc, bytes) {
         Ok(table) => Ok(table),
         Err(fault) => Err(Stop::of(faulty(alloc, fault))),
     }

@@ -1,16 +1,17 @@
 //! The file of a topology: its reading, or the text of its first fault.
 
-ghost use Rattle.std.specs.Prelude.{◌≡◌, ◌≢◌, ◌≤◌, [], ◌∷◌, ◌++◌, codes, IfOk, IfErr, OnOk};
+ghost use Rattle.std.specs.Prelude.{◌≡◌, ◌≢◌, ◌≤◌, ⊤, [], ◌∷◌, ◌++◌, codes, IfOk, IfErr, OnOk};
 ghost use Rattle.cxl_io.specs.Fetch.{AsksFor};
 ghost use Rattle.cxl_reply.specs.Words.{line};
 ghost use Rattle.cxl_topofile.specs.Places.{place_text};
 ghost use Rattle.cxl_topofile.specs.declared.fault.TopoFault.{TopoFault};
 ghost use Rattle.cxl_inputs.specs.File.{AsksForSome};
 ghost use Rattle.cxl_inputs.specs.Stop.{IsStop};
-ghost use Rattle.cxl_inputs.specs.Topology.{IsTreeOf, HasNoTree, bad_topology, tree_fault_word, tree_fault_node};
+ghost use Rattle.cxl_inputs.specs.Topology.{IsTreeOf, HasNoTree, bad_topology, tree_fault_word, tree_fault_node, IsTreeReading};
+ghost use Rattle.cxl_inputs.specs.Given.{StandForNoTree};
 
 use crate::faults::fault_line;
-use crate::file::fetch_file;
+use crate::file::{fetch_file, within_limit};
 use crate::outcome::Outcome;
 use crate::status::Status;
 use crate::stop::Stop;
@@ -34,6 +35,18 @@ pub(crate) fn fetch_topology<F: Fetch>(
 {
     let bytes = fetch_file(alloc, file, files)?;
     match read_topo(alloc, bytes.as_slice()) {
+        Ok(topo) => Ok(topo),
+        Err(fault) => Err(Stop::of(faulty(alloc, fault))),
+    }
+}
+
+/// The topology for which the bytes of a file of this name stand. It stops where they stand for none. Takes memory.
+pub fn given_topology(alloc: Global, file: &str, bytes: &[u8]) -> Result<Topo, Stop>
+    ensures tree { IfOk result (IsTreeReading bytes.now) }
+    ensures stops { IfErr result (IsStop (StandForNoTree file.now bytes.now) ⊤) }
+{
+    within_limit(alloc, file, bytes)?;
+    match read_topo(alloc, bytes) {
         Ok(topo) => Ok(topo),
         Err(fault) => Err(Stop::of(faulty(alloc, fault))),
     }

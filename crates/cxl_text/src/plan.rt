@@ -92,8 +92,8 @@ fn put_decoder(text: &mut ShortText, decoder: &Decoder)
     text.put_number(b" gran ", decoder.interleave_granularity());
 }
 
-/// Appends a port's target list, or an endpoint's skip.
-fn put_tail(out: &mut Vec<u8>, endpoint: bool, decoder: &Decoder) -> Result<(), Memory>
+/// Appends a port's target list, or an endpoint's skip, each behind its word. Takes memory.
+pub fn put_tail(out: &mut Vec<u8>, endpoint: bool, decoder: &Decoder) -> Result<(), Memory>
     ensures { OnOk result (out.new.items ≡ out.old.items ++ tail_text endpoint decoder.now) }
 {
     if endpoint {

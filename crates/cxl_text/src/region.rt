@@ -85,8 +85,8 @@ fn put_row_head(out: &mut Vec<u8>, row: &ShownRow, topo: &Topo) -> Result<(), Me
     put_whole_text(out, head.bytes())
 }
 
-/// Appends words of eight hexadecimal digits, with spaces between.
-fn put_words(out: &mut Vec<u8>, words: &[u32]) -> Result<(), Memory>
+/// Appends words of eight hexadecimal digits, with spaces between. Takes memory.
+pub fn put_words(out: &mut Vec<u8>, words: &[u32]) -> Result<(), Memory>
     ensures { OnOk result (out.new.items ≡ out.old.items ++ shown_words_text words.now) }
 {
     match words {

@@ -1,0 +1,162 @@
+//! What a host's files hold, as lines.
+
+use crate::common::passes;
+use cxl_io::MemSink;
+use cxl_reads::{Status, decoders, tree};
+use std::alloc::Global;
+use std::process::Abort;
+
+/// A bridge, a switch with one decoder and two targets, and an endpoint of 1 GiB.
+const TOPOLOGY: &[u8] = b"frames = 8
+[[bridge]]
+name = \"hb0\"
+uid = 7
+decoders = 2
+[[switch]]
+name = \"s0\"
+parent = \"hb0\"
+port = 0
+decoders = 1
+targets = 2
+high = false
+[[endpoint]]
+name = \"ep0\"
+parent = \"s0\"
+port = 1
+decoders = 1
+ram = 0x40000000
+";
+
+/// The words of an image behind its magic: the number of nodes, and the words of each block. The endpoint's decoder has a ways code
+/// that stands for nothing, and its last commit failed.
+const WORDS: [u32; 45] = [
+    3, // the bridge
+    0x381,
+    0,
+    0,
+    0, //
+    0x1000_0000,
+    1,
+    0x2000_0000,
+    0,
+    0x1611,
+    0x0300,
+    0,
+    0, //
+    0,
+    0,
+    0,
+    0,
+    0,
+    0,
+    0,
+    0, // the switch
+    0x120,
+    0,
+    0,
+    0, //
+    0,
+    0,
+    0,
+    0,
+    0x0003,
+    0x0201,
+    0,
+    0, // the endpoint
+    0x1b00,
+    2,
+    0,
+    0, //
+    0,
+    0,
+    0xf000_0000,
+    0,
+    0x0d7f,
+    0x1000_0000,
+    1,
+    0,
+];
+
+fn image_of(rt: &impl Abort, alloc: Global, words: &[u32]) -> Vec<u8> {
+    let mut bytes = Vec::from_slice(alloc, b"CXLHDM01").expect(rt, "memory");
+    for word in words {
+        bytes
+            .extend_from_slice(&word.to_le_bytes())
+            .expect(rt, "memory");
+    }
+    bytes
+}
+
+fn sink(rt: &impl Abort, alloc: Global, room: u32) -> MemSink {
+    MemSink::new(alloc, room, Vec::new(alloc)).expect(rt, "memory")
+}
+
+/// Whether the decoders of these files are told by this status, and in these lines.
+fn tells(rt: &impl Abort, alloc: Global, topo: &[u8], image: &[u8], code: u8, lines: &str) -> bool {
+    let mut out = sink(rt, alloc, 4096);
+    let status = decoders(alloc, topo, image, &mut out);
+    status.code() == code && out.bytes() == lines.as_bytes()
+}
+
+#[test]
+fn decoders_of_any_image(rt: HostRuntime) {
+    let image = image_of(&rt, rt.alloc(), &WORDS);
+    passes(
+        &rt,
+        tells(&rt, rt.alloc(), TOPOLOGY, &image, 0, BLOCKS),
+        "an image",
+    );
+    let cut = &image[..11];
+    passes(
+        &rt,
+        tells(&rt, rt.alloc(), TOPOLOGY, cut, 10, "error: image cut 11\n"),
+        "a cut image",
+    );
+    passes(
+        &rt,
+        tells(&rt, rt.alloc(), b"[", &image, 4, "error: topology toml\n"),
+        "no topology",
+    );
+    let long = image_of(&rt, rt.alloc(), &[0; 262_143]);
+    passes(
+        &rt,
+        tells(
+            &rt,
+            rt.alloc(),
+            TOPOLOGY,
+            &long,
+            12,
+            "error: image too large\n",
+        ),
+        "a long image",
+    );
+}
+
+const BLOCKS: &str = "\
+block 0 hb0 cap 0x381 control 0x0
+decoder hb0 0 base 0x110000000 size 0x20000000 ways 2 gran 512 codes 1 1 lock 0 commit 1 committed 1 error 0 host-only 1 targets 0,3 words 10000000 00000001 20000000 00000000 00001611 00000300 00000000 00000000
+decoder hb0 1 base 0x0 size 0x0 ways 1 gran 256 codes 0 0 lock 0 commit 0 committed 0 error 0 host-only 0 targets 0 words 00000000 00000000 00000000 00000000 00000000 00000000 00000000 00000000
+block 1 s0 cap 0x120 control 0x0
+decoder s0 0 base 0x0 size 0x0 ways 1 gran 2048 codes 0 3 lock 0 commit 0 committed 0 error 0 host-only 0 targets 1 words 00000000 00000000 00000000 00000000 00000003 00000201 00000000 00000000
+block 2 ep0 cap 0x1b00 control 0x2
+decoder ep0 0 base 0x0 size 0xf0000000 ways 1 gran 8388608 codes 7 15 lock 1 commit 0 committed 1 error 1 host-only 0 skip 0x110000000 words 00000000 00000000 f0000000 00000000 00000d7f 10000000 00000001 00000000
+";
+
+#[test]
+fn a_topology(rt: HostRuntime) {
+    let mut out = sink(&rt, rt.alloc(), 4096);
+    let status = tree(rt.alloc(), TOPOLOGY, &mut out);
+    passes(&rt, status.code() == 0, "status");
+    passes(&rt, out.bytes() == NODES.as_bytes(), "lines");
+    let mut short = sink(&rt, rt.alloc(), 4);
+    let status = tree(rt.alloc(), TOPOLOGY, &mut short);
+    passes(&rt, matches!(status, Status::WriteFault), "a short room");
+    passes(&rt, short.bytes() == b"fram".as_slice(), "what is taken");
+}
+
+const NODES: &str = "\
+frames 8
+node 0 hb0 bridge uid 7 cap 0x381 decoders 2 targets 8 low 1 high 1 ways3 0 ways16 0 passthrough 0
+node 1 s0 switch parent hb0 port 0 cap 0x120 decoders 1 targets 2 low 1 high 0 ways3 0 ways16 0 passthrough 0
+node 2 ep0 endpoint ram 0x40000000 pmem 0x0 parent s0 port 1 cap 0x1b00 decoders 1 targets 0 low 1 high 1 ways3 1 ways16 1 passthrough 0
+";
