@@ -1,0 +1,7 @@
+"""`python3 -m cxlplan` is cxldesk."""
+
+import sys
+
+from .desk.main import main
+
+sys.exit(main())

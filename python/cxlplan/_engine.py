@@ -1,0 +1,65 @@
+"""The one way to the proved calls: the library where it is found, else the program as a process.
+
+An engine answers each form of the program over bytes as (status, text), opens sessions, and tells trees, windows, decoders and
+breaches as facts. Nothing here works out what a form answers."""
+
+import os
+import shutil
+import threading
+from typing import Optional
+
+from .errors import NoEngine
+
+HOW = ("neither libcxlplan.so nor the program cxlplan is found: run ./prove in the repository, or ./install, or name one in "
+       "CXLPLAN_LIBRARY or CXLPLAN")
+HERE = os.path.dirname(os.path.realpath(__file__))
+TOP = os.path.dirname(os.path.dirname(HERE))  # the repository, where the package stands in one
+_kept = threading.local()
+
+
+def places(name: str, variable: str, folders: list) -> list:
+    """Where a file may be: what the variable names, alone, or else these folders."""
+    if os.environ.get(variable):
+        return [os.environ[variable]]
+    return [os.path.join(folder, name) for folder in folders]
+
+
+def library_file() -> Optional[str]:
+    """libcxlplan.so of a repository, of an install, or beside this package."""
+    above = os.path.dirname(os.path.dirname(TOP))
+    folders = [HERE, os.path.join(TOP, "crates", "cxl_library", "out"), os.path.join(TOP, "lib"), os.path.join(above, "lib"),
+               "/usr/local/lib", "/usr/lib"]
+    return next((file for file in places("libcxlplan.so", "CXLPLAN_LIBRARY", folders) if os.path.isfile(file)), None)
+
+
+def program_file(name: str = "cxlplan", variable: str = "CXLPLAN") -> Optional[str]:
+    """The proved program of a repository, of an install, or on the search path."""
+    above = os.path.dirname(os.path.dirname(TOP))
+    folders = [os.path.join(TOP, "crates", name, "out"), os.path.join(above, "bin")]
+    found = next((file for file in places(name, variable, folders) if os.path.isfile(file) and os.access(file, os.X_OK)), None)
+    return found or (None if os.environ.get(variable) else shutil.which(name))
+
+
+def engine():
+    """The engine of this thread, found once."""
+    if getattr(_kept, "engine", None) is None:
+        _kept.engine = find()
+    return _kept.engine
+
+
+def use(found) -> None:
+    """Has this thread use an engine, or with None look for one anew."""
+    _kept.engine = found
+
+
+def find():
+    """The library, else the program."""
+    file = library_file()
+    if file and os.environ.get("CXLPLAN_ENGINE", "library") == "library":
+        from ._by_library import LibraryEngine
+        return LibraryEngine(file)
+    program = program_file()
+    if program:
+        from ._by_program import ProgramEngine
+        return ProgramEngine(program, program_file("cxlbench", "CXLBENCH"))
+    raise NoEngine(HOW)

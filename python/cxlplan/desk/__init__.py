@@ -1,0 +1,1 @@
+"""cxldesk: every question about a machine, from one command."""

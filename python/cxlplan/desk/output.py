@@ -1,0 +1,119 @@
+"""What a subcommand prints: JSON, aligned text for people at a terminal, or plain lines of words, as the program's own are."""
+
+import json
+import os
+import sys
+from dataclasses import dataclass, field
+
+SCHEMA = "cxldesk/1"  # of python/cxlplan/schema.json; the number rises where a field changes its meaning or goes
+
+
+class Hex(int):
+    """An address, a size or a word of registers."""
+
+    def __str__(self) -> str:
+        return f"{int(self):#x}"
+
+
+class Size(Hex):
+    """A number of bytes: at a terminal in the largest unit that divides it."""
+
+
+def size_words(size: int) -> str:
+    """A number of bytes in the largest unit that divides it."""
+    for bits, unit in ((40, "TiB"), (30, "GiB"), (20, "MiB"), (10, "KiB")):
+        if size and size % (1 << bits) == 0:
+            return f"{size >> bits} {unit}"
+    return f"{int(size)} B"
+
+
+def shown(value, aligned: bool) -> str:
+    if value is None:
+        return "-"
+    if isinstance(value, bool):
+        return "yes" if value else "no"
+    if isinstance(value, Size) and aligned:
+        return size_words(value)
+    if isinstance(value, (tuple, list)):
+        return ",".join(shown(item, aligned) for item in value) or "none"
+    return str(value)
+
+
+@dataclass
+class Answer:
+    """What a subcommand has to say: facts for JSON, and parts of text. `status` is the exit status."""
+    facts: dict
+    status: int = 0
+    parts: list = field(default_factory=list)
+
+    def line(self, text: str = "") -> "Answer":
+        """A line as it stands, in both texts."""
+        self.parts.append(text)
+        return self
+
+    def rows(self, kind: str, rows: list) -> "Answer":
+        """Rows of one kind, each a dictionary from a field's name to its value."""
+        if rows:
+            self.parts.append((kind, rows))
+        return self
+
+    def text(self, aligned: bool) -> str:
+        lines: list = []
+        for part in self.parts:
+            if isinstance(part, str):
+                lines.append(part)
+            elif aligned:
+                lines += ([""] if lines and lines[-1] else []) + table_lines(*part) + [""]
+            else:
+                lines += [plain_line(part[0], row) for row in part[1]]
+        while lines and not lines[-1]:
+            lines.pop()
+        return "".join(line + "\n" for line in lines)
+
+
+def plain_line(kind: str, row: dict) -> str:
+    """A row as words: its kind, then each field's name and value. A name that is empty is left out."""
+    words = [kind]
+    for name, value in row.items():
+        if value not in (None, "", ()):
+            words += [name] * (not name.startswith(("_", kind))) + [shown(value, False)]
+    return " ".join(words)
+
+
+def table_lines(kind: str, rows: list) -> list:
+    """Rows under each other, with a line of headings."""
+    names = [name for name in rows[0] if any(row.get(name) not in (None, "") for row in rows)]
+    cells = [[name.lstrip("_") for name in names]] + [["" if row.get(name) in (None, "") else shown(row[name], True)
+                                                         for name in names] for row in rows]
+    right = [all(is_number(line[place]) for line in cells[1:]) for place in range(len(names))]
+    widths = [max(len(line[place]) for line in cells) for place in range(len(names))]
+    return [kind.capitalize() + "s"] + ["  " + "  ".join(
+        cell.rjust(width) if is_right else cell.ljust(width)
+        for cell, width, is_right in zip(line, widths, right)).rstrip() for line in cells]
+
+
+def is_number(text: str) -> bool:
+    return not text or text[0].isdigit() and text.split(" ")[-1] not in ("",)
+
+
+def tell(text: str) -> bool:
+    """Prints a text, and gives whether it could be; quietly, where the reader of a pipe is gone."""
+    try:
+        sys.stdout.write(text)
+        sys.stdout.flush()
+    except OSError as fault:
+        os.dup2(os.open(os.devnull, os.O_WRONLY), sys.stdout.fileno())  # else the rest is tried once more at the end
+        if not isinstance(fault, BrokenPipeError):
+            complain(f"standard output: {fault.strerror}")
+            raise SystemExit(6) from None
+        return False
+    return True
+
+
+def complain(text: str) -> None:
+    """A line on standard error."""
+    print("".join(sign if sign.isprintable() else "?" for sign in f"cxldesk: {text}"), file=sys.stderr)
+
+
+def as_json(command: str, facts: dict) -> str:
+    return json.dumps({"schema": SCHEMA, "command": command, **facts}, indent=1) + "\n"

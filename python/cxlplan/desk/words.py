@@ -1,0 +1,59 @@
+"""The words of the command line: which host is meant, and numbers."""
+
+import argparse
+import os
+import re
+from typing import NoReturn
+
+from ..errors import BadFile, BadWords
+from ..host import Host
+
+
+class Parser(argparse.ArgumentParser):
+    """A parser whose faults are one line, and exceptions."""
+
+    def error(self, message: str) -> NoReturn:
+        found = re.match(r"unrecognized arguments: (.*)", message)
+        if found:
+            options = [word for word in found[1].split() if word.startswith("-")]
+            message = f"unknown option {options[0]}" if options else f"{found[1].split()[0]}: one word too many"
+        found = re.match(r"argument \S+: invalid choice: '(.*?)' \(choose", message)
+        if found:
+            message = f"{found[1]} is no command"
+        raise BadWords(f"{message}; see {self.prog} --help", 1, "usage")
+
+
+def number(word: str) -> int:
+    """A decimal number, or a hexadecimal one after 0x, as the program reads them."""
+    if re.fullmatch("0x[0-9A-Fa-f]+|[0-9]+", word):
+        return int(word, 16) if word[:2] == "0x" else int(word)
+    hint = "; in hexadecimal 0x is missing" if re.fullmatch("[0-9A-Fa-f]+", word) else "; sizes are bytes, as 0x40000000 for 1 GiB"
+    raise BadWords(f"{word[:60]!r} is no number{hint}", 1, "number", word)
+
+
+def take_host(words: list, options) -> tuple:
+    """The host that the first words name, a folder or its files, and the words behind them."""
+    is_reset = getattr(options, "reset", False)
+    if not words:
+        raise BadWords(f"no HOST is named: a folder that cxl-capture made, or CEDT TOPO IMAGE; see cxldesk {options.command} --help",
+                       1, "missing")
+    if os.path.isdir(words[0]):
+        host = Host.from_folder(words[0])
+        if is_reset:
+            host = Host(host.table.data, host.topology.data, None, words[0])
+        return host, words[1:]
+    count = 2 if is_reset else 3
+    if not os.path.lexists(words[0]) and words[0] != "-":
+        raise BadFile(f"{words[0]}: No such file or directory", 2, "cannot read", words[0])
+    if len(words) < count:
+        raise BadWords(f"{words[0]} is no folder, and {' '.join(('CEDT', 'TOPO', 'IMAGE')[:count])} are {count} files; "
+                       f"see cxldesk {options.command} --help", 1, "missing")
+    return Host.from_files(*words[:count]), words[count:]
+
+
+def only_host(words: list, options) -> Host:
+    """The host, where no word stands behind it."""
+    host, rest = take_host(words, options)
+    if rest:
+        raise BadWords(f"{rest[0]}: one word too many; see cxldesk {options.command} --help", 1, "extra", rest[0])
+    return host

@@ -1,0 +1,210 @@
+"""A host: its table, its topology and its registers, with what is asked of them."""
+
+import os
+import sys
+from dataclasses import dataclass
+from functools import cached_property
+from typing import Optional
+
+from . import texts
+from ._engine import engine
+from .errors import BadFile, Breach, CxlError, Refusal, fault_of
+from .facts import Decoder, Down, Node, Place, Planned, Position, Region, Up, Window
+from .session import Session, create_line
+
+MOST_BYTES = 1 << 20  # of a file
+FILES = ("table.cedt", "topo.toml", "image.bin")  # of a folder that cxl-capture made
+
+
+def answered(pair: tuple) -> str:
+    """The text of an answer with status 0; else its fault, breach or refusal is raised."""
+    status, data = pair
+    text = data.decode("ascii", "replace")
+    if status == 0:
+        return text
+    if status != 8:
+        raise fault_of(status, text)
+    raise texts.breach(text) if text.startswith("breach ") else texts.refusal(text)
+
+
+def read_file(name: str) -> bytes:
+    """A file's bytes, or those of standard input for `-`."""
+    try:
+        with (open(sys.stdin.fileno(), "rb", closefd=False) if name == "-" else open(name, "rb")) as file:
+            data = file.read(MOST_BYTES + 1)
+    except OSError as fault:
+        why = "is a folder" if isinstance(fault, IsADirectoryError) else fault.strerror
+        raise BadFile(f"{name}: {why}", 2, "cannot read", name) from None
+    if len(data) > MOST_BYTES:
+        raise BadFile(f"{name}: more than {MOST_BYTES} bytes", 12, "too large", name)
+    return data
+
+
+@dataclass(frozen=True)
+class Table:
+    """An ACPI CEDT."""
+    data: bytes
+    name: str = "table"
+
+    @cached_property
+    def records(self) -> list:
+        """Bridges, windows, XOR maps and other records, in table order. Windows are judged by the table alone."""
+        return texts.records(answered(engine().listing(self.data)))
+
+    @property
+    def windows(self) -> list:
+        return [record for record in self.records if isinstance(record, Window)]
+
+    def route(self, hpa: int) -> Position:
+        """To which target of which window an address goes; with no window that can be used a refusal is raised."""
+        return texts.position(answered(engine().route(self.data, hpa)))
+
+    def normal(self) -> bytes:
+        """The table's bytes with reserved fields zero."""
+        status, data = engine().normal(self.data)
+        return data if status == 0 else answered((status, data)).encode()
+
+
+@dataclass(frozen=True)
+class Topology:
+    """Bridges, switches and endpoints, as a file of TOML states them."""
+    data: bytes
+    name: str = "topology"
+
+
+@dataclass(frozen=True)
+class Image:
+    """The decoder registers of all nodes."""
+    data: bytes
+    name: str = "image"
+
+
+class Host:
+    """A machine by its three files. Without an image it is as after reset."""
+
+    def __init__(self, table: bytes, topology: bytes, image: Optional[bytes] = None, name: str = "host", files: tuple = FILES) -> None:
+        self.name, self.table, self.topology = name, Table(table, files[0]), Topology(topology, files[1])
+        self.image = None if image is None else Image(image, files[2])
+
+    @classmethod
+    def from_files(cls, table: str, topology: str, image: Optional[str] = None) -> "Host":
+        """A host of three files, or of two as after reset; `-` is standard input."""
+        names = [name for name in (table, topology, image) if name is not None]
+        if names.count("-") > 1:
+            raise BadFile("-: standard input stands there twice", 1, "twice", "-")
+        return cls(*map(read_file, names), name=names[-1], files=(*names, FILES[2])[:3])
+
+    @classmethod
+    def from_folder(cls, folder: str) -> "Host":
+        """A host of a folder that cxl-capture made."""
+        if not os.path.isdir(folder):
+            why = "is no folder" if os.path.lexists(folder) else "No such file or directory"
+            raise BadFile(f"{folder}: {why}", 2, "no folder", folder)
+        names = [os.path.join(folder, file) for file in FILES]
+        for name in names:
+            if not os.path.isfile(name):
+                raise BadFile(f"{name}: is not there; cxl-capture makes {', '.join(FILES)}", 2, "missing", name)
+        return cls(*map(read_file, names), name=folder, files=tuple(names))
+
+    @property
+    def _bytes(self) -> tuple:
+        return self.table.data, self.topology.data
+
+    @property
+    def registers(self) -> Optional[bytes]:
+        return None if self.image is None else self.image.data
+
+    # ---- What stands there.
+
+    @cached_property
+    def nodes(self) -> list:
+        """Each Node: bridges, switches, endpoints."""
+        return engine().tree(*self._bytes)
+
+    def node(self, name: str) -> Node:
+        found = next((node for node in self.nodes if node.name == name), None)
+        if found is None:
+            raise Refusal(f"no such node {name}", "no such node", name)
+        return found
+
+    @property
+    def endpoints(self) -> list:
+        return [node for node in self.nodes if node.kind == "endpoint"]
+
+    @cached_property
+    def windows(self) -> list:
+        """Each Window, judged with the topology's bridges."""
+        return engine().windows(*self._bytes)
+
+    @cached_property
+    def decoders(self) -> list:
+        """Each Decoder of the image, whether it is sound or not; none without an image."""
+        return engine().decoders(*self._bytes, self.registers) if self.image else []
+
+    # ---- Whether it is sound.
+
+    def check(self) -> list:
+        """The Regions of the image by rising base; the first broken rule is raised as a Breach."""
+        return texts.regions(answered(engine().check(*self._bytes, self.registers))) if self.image else []
+
+    @cached_property
+    def breach(self) -> Optional[Breach]:
+        """The first broken rule, or None."""
+        try:
+            self.regions  # pylint: disable=pointless-statement
+        except Breach as found:
+            return found
+        return None
+
+    @cached_property
+    def regions(self) -> list:
+        """As `check`, asked once."""
+        return self.check()
+
+    @cached_property
+    def breaches(self) -> list:
+        """All places that break the first broken rule."""
+        return engine().breaches(*self._bytes, self.registers) if self.image else []
+
+    # ---- Where an address lies.
+
+    def session(self) -> Session:
+        """A session from the host's registers; those that are not sound are refused with their breach."""
+        return Session(engine().session(*self._bytes, self.registers))
+
+    def where(self, hpa: int) -> Down:
+        with self.session() as session:
+            return session.down(hpa)
+
+    def host_of(self, endpoint: str, dpa: int) -> Up:
+        with self.session() as session:
+            return session.up(endpoint, dpa)
+
+    # ---- What could be made.
+
+    def plan(self, line: str, with_writes: bool = False) -> Planned:
+        """The plan of `create NAME KIND SIZE ..` on the registers as they are; `create` may be left out. The register writes are told
+        where they are asked for."""
+        from .planning import plan
+        return plan(self, line if line.split()[:1] == ["create"] else f"create {line}", with_writes)
+
+    def pick(self, kind: str, size: int, ways: int, gran: Optional[int] = None, with_writes: bool = False) -> Planned:
+        """The plan of a region over as many endpoints as `ways` says, which are picked."""
+        return self.plan(create_line("r0", kind, size, ways=ways, gran=gran), with_writes)
+
+    def room(self):
+        """What is free, and the largest regions that have a plan."""
+        from .room import room_of
+        return room_of(self)
+
+    def places(self) -> list:
+        """All broken places, first that of `check`: as Place, or none."""
+        found = self.breach
+        return self.breaches or ([Place(found.rule, found.node, found.decoder)] if found else [])
+
+    def same_range(self, decoder: Decoder) -> list:
+        """The committed decoders of the same range, in the order of the topology."""
+        return [other for other in self.decoders if other.committed and other.range == decoder.range]
+
+
+__all__ = ["Host", "Image", "Table", "Topology", "CxlError", "Region"]

@@ -1,0 +1,152 @@
+"""Plans on a host's registers as they are, with their register writes, as texts for Linux and for firmware.
+
+A plan is a create in a session that is thrown away: so the answer, its refusals and its writes are the session's."""
+
+import re
+
+from .errors import BadWords
+from .facts import Planned, Released, WORD_NAMES
+
+GRAIN = 256 << 20  # bytes: Linux makes a root decoder of a window whose base and size are multiples of it
+
+
+def opened(host, with_writes: bool):
+    """A session, whose writes are told where they are asked for."""
+    return host.session().watch() if with_writes else host.session()
+
+
+def name_of(line: str) -> str:
+    words = line.split()
+    if len(words) < 2:
+        raise BadWords(f"{line!r} names no region", 1, "missing")
+    return words[1]
+
+
+def plan(host, line: str, with_writes: bool = True) -> Planned:
+    """The plan of a line `create NAME ..`; its refusal is raised."""
+    with opened(host, with_writes) as session:
+        session.ask(line)
+        writes, image = tuple(session.writes()), session.under.image()
+        region, rows = session.show(name_of(line))
+        session.ask(f"destroy {region.name}")
+        undo = tuple(session.writes())
+    decoders = type(host)(host.table.data, host.topology.data, image).decoders
+    made = {(row.node, row.decoder) for row in rows}
+    return Planned(region, tuple(it for it in decoders if (it.node, it.number) in made), writes, undo)
+
+
+def image_with(host, line: str) -> bytes:
+    """The image of the host with a region that is planned."""
+    with host.session() as session:
+        session.ask(line)
+        return session.under.image()
+
+
+def release(host, name: str, with_writes: bool = True) -> Released:
+    """What taking a region down would write, and what takes all but the last of these writes back; what refuses it is raised."""
+    with opened(host, with_writes) as session:
+        region, _ = session.show(name)
+        undo = taken_back(session, name)
+        session.ask(f"destroy {name}")
+        return Released(region, tuple(session.writes()), undo)
+
+
+def taken_back(session, name: str) -> tuple:
+    """The writes by which a release is taken back that was made but for its last write."""
+    count = int(session.ask(f"begin destroy {name}").split()[-1])
+    if count > 1:
+        session.ask(f"step {count - 1}")
+    session.ask("abort")
+    return tuple(session.writes())
+
+
+# ---- For Linux.
+
+def turns(host, line: str) -> list:
+    """For each slot of a planned region its endpoint, its position among the window's targets, and which of the devices there it is,
+    as the entries of the ports below the window say: all of it told by `down`."""
+    with host.session() as session:
+        session.ask(line)
+        region, _ = session.show(name_of(line))
+        image = session.under.image()
+        decoders = {(it.node, it.number): it for it in type(host)(host.table.data, host.topology.data, image).decoders}
+        found = {}
+        for chunk in range(region.ways):
+            way = session.down(region.base + chunk * region.gran)
+            rank, step = 0, 1
+            for via in way.via:
+                rank, step = rank + step * via.entry, step * decoders[via.node, via.decoder].ways
+            found[way.slot] = (way.endpoint, way.position, rank)
+    return [found[slot] for slot in range(region.ways)]
+
+
+def root_decoder(host, window: int) -> int:
+    """The number of the root decoder that Linux makes for a window: it passes over windows that it cannot use."""
+    uids = {node.uid for node in host.nodes if node.kind == "bridge"}
+    return sum(it.base % GRAIN == 0 == it.size % GRAIN and uids.issuperset(it.targets) for it in host.windows[:window])
+
+
+def linux_text(host, planned: Planned, line: str) -> str:
+    """The `cxl create-region` line of a plan, with comments. Linux takes the devices by the window's targets first."""
+    region = planned.region
+    window, number = host.windows[region.window], root_decoder(host, region.window)
+    slots = turns(host, line)
+    names = [name for name, _, _ in sorted(slots, key=lambda it: (it[2], it[1]))]
+    text = (f"# {region.name}: window {region.window} begins at {window.base:#x}, and so has decoder0.{number}/start. "
+            f"Linux chooses the base itself; here it is {region.base:#x}.\n")
+    if names != [name for name, _, _ in slots]:
+        text += f"# Linux counts the window's targets first. By slot the devices are: {' '.join(it[0] for it in slots)}\n"
+    if not all(re.fullmatch("mem[0-9]+", name) for name in names):
+        text += "# Put the kernel's name, memN, in the place of each device.\n"
+    return text + (f"cxl create-region -m -t {region.kind} -d decoder0.{number} -w {region.ways} -g {region.gran} "
+                   f"-s {region.size:#x} {' '.join(names)}\n")
+
+
+# ---- For firmware.
+
+def decoder_at(offset: int) -> tuple:
+    """The decoder to which an offset belongs, and the word of it: 0 is base low."""
+    return (offset - 0x10) // 0x20, (offset - 0x10) % 0x20 // 4
+
+
+def word_name(offset: int) -> str:
+    if offset < 0x10:
+        return ("capability", "global control", "reserved", "reserved")[offset // 4]
+    place = decoder_at(offset)[1]
+    return WORD_NAMES[place] if place < 7 else "reserved"
+
+
+def words_text(host, heading: str, writes) -> str:
+    """Register writes for people, in their order, under the decoder to which they go."""
+    nodes = {node.name: node for node in host.nodes}
+    text, last = f"# {heading}\n", None
+    for write in writes:
+        number, _ = decoder_at(write.offset)
+        if last != (write.node, number):
+            last = (write.node, number)
+            node = nodes[write.node]
+            at = f"UID {node.uid}" if node.kind == "bridge" else f"below port {node.port} of {node.parent}"
+            text += f"\n{node.kind} {node.name}, {at}, decoder {number}\n"
+        text += f"  {write.offset:#06x}  {write.value:#010x}  {word_name(write.offset)}{meaning(write)}\n"
+    return text
+
+
+def meaning(write) -> str:
+    """What a write of a control word does."""
+    if decoder_at(write.offset)[1] != 4:
+        return ""
+    return ", commit" if write.value >> 9 & 1 else ""
+
+
+def csv_text(writes) -> str:
+    return "node,offset,value\n" + "".join(f"{it.node},{it.offset:#06x},{it.value:#010x}\n" for it in writes)
+
+
+def c_text(name: str, writes, undo) -> str:
+    """Both lists of writes as constants of C."""
+    text = ("#include <stdint.h>\n\n/* Offsets are those in a node's HDM decoder capability structure. */\n"
+            "struct cxl_write { const char *node; uint16_t offset; uint32_t value; };\n")
+    for what, items in ((f"{name}_create", writes), (f"{name}_destroy", undo)):
+        text += f"\nstatic const struct cxl_write {what}[{len(items)}] = {{\n"
+        text += "".join(f'\t{{ "{it.node}", {it.offset:#06x}, {it.value:#010x} }},\n' for it in items) + "};\n"
+    return text

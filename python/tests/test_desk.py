@@ -1,0 +1,151 @@
+"""The subcommands that ask: their texts, statuses and faults."""
+
+import os
+import struct
+import subprocess
+import sys
+import unittest
+
+from here import FOUR, LOST, PYTHON, Case, asks_the_engine, machines, said, worked_hosts
+from cxlplan.desk.whereis import payloads
+
+CHECKED = """\
+region auto0 pmem window 0 base 0x110000000 size 0x40000000 gran 256 ways 4
+slot auto0 0 d1 from 0x0 bytes 0x10000000
+slot auto0 1 d2 from 0x0 bytes 0x10000000
+slot auto0 2 d3 from 0x0 bytes 0x10000000
+slot auto0 3 d4 from 0x0 bytes 0x10000000
+"""
+
+
+@asks_the_engine
+class Asked(Case):
+    def test_check(self):
+        self.assertEqual(said("check", *FOUR), (0, CHECKED, ""))
+        status, text, line = said("check", *LOST)
+        self.assertEqual((status, line, text.splitlines()[0]), (8, "", "breach K12 d4 0"))
+        self.assertIn("it has 4 ways of 512 bytes, and others of its kind in the range have 4 ways of 256 bytes", text)
+        self.assertEqual([row for row in text.splitlines() if "<-" in row],
+                         ["decoder d4 0 committed base 0x110000000 size 0x40000000 ways 4 gran 512 skip 0x0 <- broken, differs"])
+
+    def test_aligned(self):
+        """At a terminal columns stand under their names."""
+        _, text, _ = said("check", *FOUR, "--aligned")
+        self.assertEqual(text.splitlines()[:3], ["Regions", "  name   kind  window         base   size  gran  ways",
+                                                 "  auto0  pmem       0  0x110000000  1 GiB   256     4"])
+
+    def test_where(self):
+        for words, text in (
+                (["0x110000100"], "down 0x110000100 region auto0 slot 1 position 1 via hb32:0:0 endpoint d2 dpa 0x0\n"),
+                (["d2", "0x0"], "host 0x110000100 region auto0\n"),
+                (["0x1100000f0", "--length", "32"], "extent 0x1100000f0 16 d1 0xf0\nextent 0x110000100 16 d2 0x0\n"),
+                (["0x110000000", "--length", "0x100000"], "".join(f"slot {i} d{i + 1} 262144\n" for i in range(4))),
+                (["d2", "0xc0", "--length", "128"],
+                 "run 0x1100001c0 length 64 region auto0\nrun 0x110000500 length 64 region auto0\n")):
+            with self.subTest(words):
+                self.assertEqual(said("where", *FOUR, *words), (0, text, ""))
+        for words, status, line in (
+                (["0x0"], 8, "cxldesk: unmapped\n"), (["d9", "0"], 8, "cxldesk: no such endpoint d9\n"),
+                (["d2", "0x1", "--length", "64"], 1, "cxldesk: a range of device bytes begins at a multiple of 64 and has a multiple of 64 bytes\n"),
+                (["11000f"], 1, "cxldesk: '11000f' is no number; in hexadecimal 0x is missing\n"),
+                (["1G"], 1, "cxldesk: '1G' is no number; sizes are bytes, as 0x40000000 for 1 GiB\n")):
+            with self.subTest(words):
+                self.assertEqual(said("where", *FOUR, *words), (status, "", line))
+
+    def test_refusals(self):
+        """Behind a refusal stands what is in the way, and what to do."""
+        for words, wanted in (
+                ("r0 pmem 0x20000000 d1 d3", ["refused no-window", "window 0: its targets are not exactly the bridges of the endpoints, which are 16, 32"]),
+                ("r0 ram 0x20000000 d1 d2", ["refused span d1 no-room 0x0 0x0", "The endpoint has no room of this kind"]),
+                ("r0 pmem 0x10000000 d1 d2", ["refused size", "multiple of 256 MiB", "0x is missing"]),
+                ("r0 pmem 0x50000000 ways=5", ["refused ways 5", "1, 2, 3, 4, 6, 8, 12 or 16"]),
+                ("r0 pmem 20000000 d1 d2", ["refused size", "0x is missing"]),
+                ("r0 pmem 1G d1 d2", ["bad line 15 number"]), ("destroy auto0", ["no such region auto0"])):
+            with self.subTest(words):
+                status, text, line = said("plan", "--reset", *FOUR[:2], words)
+                self.assertEqual((status, line), (8, ""))
+                for part in wanted:
+                    self.assertIn(part, text)
+
+    def test_locked(self):
+        self.assertIn("locked hb16 0\nFirmware locked this decoder", said("plan", *FOUR, "destroy auto0")[1])
+
+    def test_diff(self):
+        self.assertEqual(said("diff", *FOUR, *LOST), (8, "~ decoder hb16 0 lock yes -> no\n~ decoder hb32 0 lock yes -> no\n"
+                                                      "~ decoder d1 0 lock yes -> no\n~ decoder d3 0 lock yes -> no\n"
+                                                      "~ decoder d2 0 lock yes -> no\n~ decoder d4 0 lock yes -> no gran 256 -> 512\n"
+                                                      "- region 0x110000000\n~ verdict check verdict sound, 1 regions -> breach K12 d4 0\n", ""))
+        self.assertEqual(said("diff", *FOUR, *FOUR), (0, "", ""))
+
+    def test_every_host(self):
+        """Each machine and each worked host goes through `show` and `check`; each broken one has words on what was found."""
+        folders = [self.captured(machine) for machine in machines.MACHINES + machines.HOLES + machines.NEWER]
+        folders += [self.folder(host.name, host) for host in worked_hosts()]
+        rules = set()
+        for folder in folders:
+            with self.subTest(folder):
+                self.assertEqual(said("show", folder)[::2], (0, ""))
+                status, text, line = said("check", folder)
+                self.assertEqual(line, "")
+                if status == 8:
+                    rules.add(text.split()[1])
+                    self.assertRegex(text, r"(?m)^At decoder \d+ of \w+: .+\.$")
+        self.assertGreater(len(rules), 2)
+
+
+class Poison(Case):
+    RECORD = struct.pack("<QII", 0x100 | 2, 1, 0)
+
+    def test_payloads(self):
+        """Any number of records in lists that a line takes; a list behind one that says there is more."""
+        head = struct.pack("<BxQH20x", 0, 0, 250)
+        self.assertEqual([struct.unpack_from("<H", it, 10)[0] for it in payloads(head + self.RECORD * 250)], [100, 100, 50])
+        more = struct.pack("<BxQH20x", 1, 0, 1) + self.RECORD
+        self.assertEqual(list(payloads(more + head[:10] + b"\1\0" + head[12:] + self.RECORD)),
+                         [more, head[:10] + b"\1\0" + head[12:] + self.RECORD])
+        self.assertEqual(list(payloads(bytes(31))), [bytes(31)])
+        self.assertEqual(list(payloads(bytes(32))), [bytes(32)])
+
+    @asks_the_engine
+    def test_file(self):
+        """A file of 250 records comes to as many runs; one that is cut is refused."""
+        data = struct.pack("<BxQH20x", 0, 0, 250) + b"".join(struct.pack("<QII", 64 * i | 3, 1, 0) for i in range(250))
+        status, text, line = said("where", *FOUR, "d2", "--poison", self.file("list", data))
+        self.assertEqual((status, line, text.count("\nrun "), text.count("record ")), (0, "", 250, 250))
+        self.assertEqual(text.splitlines()[-1], f"run {0x110000100 + 62 * 1024 + 64:#x} length 64 region auto0")
+        self.assertEqual(said("where", *FOUR, "d2", "--poison", self.file("cut", data[:40])), (8, "", "cxldesk: poison count 250 0\n"))
+        self.assertEqual(said("where", *FOUR, "d2", "--poison", self.file("none", b"")), (8, "", "cxldesk: bad line 10 missing\n"))
+
+
+class Words(Case):
+    def test_faults(self):
+        """One line that names what is wrong."""
+        for words, status, line in (
+                ("shwo x", 1, "shwo is no command; see cxldesk --help"), ("show --jsn x", 1, "unknown option --jsn; see cxldesk --help"),
+                ("show", 1, "no HOST is named: a folder that cxl-capture made, or CEDT TOPO IMAGE; see cxldesk show --help"),
+                (f"show {FOUR[0]}", 1, f"{FOUR[0]} is no folder, and CEDT TOPO IMAGE are 3 files; see cxldesk show --help"),
+                ("show /none", 2, "/none: No such file or directory"), (f"show {self.place}", 2,
+                 f"{self.place}/table.cedt: is not there; cxl-capture makes table.cedt, topo.toml, image.bin"),
+                (f"show {FOUR[0]} {self.place} {FOUR[2]}", 2, f"{self.place}: is a folder"),
+                (f"show {' '.join(FOUR)} more", 1, "more: one word too many; see cxldesk show --help"),
+                (f"fleet {FOUR[0]}", 2, f"{FOUR[0]}: is no folder"),
+                ("plan --words --csv x", 1, "argument --csv: not allowed with argument --words; see cxldesk plan --help")):
+            with self.subTest(words):
+                self.assertEqual(said(*words.split()), (status, "", f"cxldesk: {line}\n"))
+
+    def test_help(self):
+        """Each command has a help, and where the reader of a pipe is gone it ends quietly."""
+        self.assertEqual(said()[0], 0)
+        for command in ("", "show", "check", "where", "room", "plan", "diff", "report", "fleet", "shell", "image", "table"):
+            status, text, line = said(*command.split(), "--help")
+            self.assertEqual((status, line, text.splitlines()[0][:14]), (0, "", "usage: cxldesk"))
+        end, other = os.pipe()
+        os.close(end)
+        with open(other, "wb") as pipe, open("/dev/full", "wb") as full:
+            for output, status, line in ((pipe, 1, b""), (full, 6, b"cxldesk: standard output: No space left on device\n")):
+                ran = subprocess.run([sys.executable, os.path.join(PYTHON, "cxldesk"), "--help"], stdout=output, stderr=subprocess.PIPE, check=False)
+                self.assertEqual((ran.returncode, ran.stderr), (status, line))
+
+
+if __name__ == "__main__":
+    unittest.main()

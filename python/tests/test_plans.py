@@ -1,0 +1,171 @@
+"""Plans on registers as they are: their register writes word for word, their line for Linux, their images; and what is free."""
+
+import contextlib
+import io
+import re
+import unittest
+
+from here import FOUR, Case, asks_for_writes, asks_the_engine, machines, said, worked_hosts
+from cxlplan import Host, Refusal, texts
+from cxlplan._engine import engine
+from cxlplan.planning import image_with
+from cxlplan.room import table_with
+
+REGIONS = machines.load("cxl-regions")
+WAYS = (1, 2, 3, 4, 6, 8, 12, 16)
+
+
+def lines_of(ways):
+    return [f"create r0 {kind} {count << 28:#x} ways={count}" for count in ways for kind in ("ram", "pmem")]
+
+
+def takes(host):
+    """Each line of a picked region that a host takes."""
+    with host.session() as session:
+        return [line for line in lines_of(WAYS) if session.would(line) is None]
+
+
+class Peer(Case):
+    """Beside what cxl-regions says of the same replies, which is written by other hands over the same rules."""
+
+    def beside(self, *words, host, line):
+        """What cxl-regions says of the session's own `show`."""
+        with host.session() as session:
+            session.ask(line)
+            reply = self.file("reply", session.act("show r0"))
+        out = io.StringIO()
+        with contextlib.redirect_stdout(out):
+            status = REGIONS.main([*words, self.file("cedt", host.table.data), self.file("toml", host.topology.data), reply])
+        self.assertEqual(status, 0)
+        return out.getvalue()
+
+    def hosts(self):
+        """Captured machines and worked hosts, of those that are sound."""
+        found = [Host.from_folder(self.captured(machine)) for machine in machines.MACHINES + machines.NEWER]
+        return [host for host in found + list(worked_hosts()) if host.breach is None]
+
+
+@asks_for_writes
+class Writes(Peer):
+    def test_words(self):
+        """The writes of each plan on each worked host: those of the peer, node by node and word by word; what takes it down leaves the
+        registers as they were."""
+        count = 0
+        for host in self.hosts():
+            for line in takes(host):
+                with self.subTest(host.name, line=line):
+                    found = host.plan(line, with_writes=True)
+                    text = self.beside("--words", host=host, line=line)
+                    wanted = {}
+                    for part in text.split("\n\n")[1:]:
+                        name = part.split(",")[0].split()[-1]
+                        wanted[name] = [tuple(int(word, 16) for word in row.split()[:2]) for row in part.splitlines()[1:]]
+                    writes = {}
+                    for write in found.writes:
+                        writes.setdefault(write.node, []).append((write.offset, write.value))
+                    self.assertEqual({name: sorted(pairs) for name, pairs in writes.items()},
+                                     {name: sorted(pairs) for name, pairs in wanted.items()})
+                    self.assertEqual([pairs[-1] for pairs in writes.values()], [wanted[name][-1] for name in writes])
+                    self.assertEqual({it.node for it in found.undo}, set(writes))
+                    count += 1
+        self.assertGreater(count, 50)
+
+    def test_texts(self):
+        """The three forms of the writes."""
+        words = ["plan", "--reset", *FOUR[:2], "r0 pmem 0x20000000 d1 d2"]
+        _, text, _ = said(*words, "--words")
+        self.assertIn("r0: 32 writes of 32 bits make it.", text)
+        self.assertIn("endpoint d2, below port 0 of hb32, decoder 0\n  0x0010  0x10000000  base low\n", text)
+        _, rows, _ = said(*words, "--csv")
+        self.assertEqual(rows.count("\n"), 33)
+        _, code, _ = said(*words, "--c")
+        self.assertEqual([row.split(",")[0] for row in rows.splitlines()[1:]], re.findall('"(.*)"', code)[:32])
+        self.assertIn("static const struct cxl_write r0_create[32] = {", code)
+        self.assertIn("static const struct cxl_write r0_destroy[4] = {", code)
+
+    def test_release(self):
+        """A release that is tried: its writes, and those that take all but the last back."""
+        folder = self.captured("x4-pass-switch")
+        _, text, _ = said("plan", folder, "destroy auto0", "--csv")
+        self.assertEqual(len(text.splitlines()), 7)
+        self.assertTrue(all(int(row.split(",")[2], 16) & 0x200 == 0 for row in text.splitlines()[1:]))
+        _, text, _ = said("plan", folder, "destroy auto0", "--words")
+        self.assertIn("auto0: 6 writes take it down.", text)
+
+
+@asks_the_engine
+class Plans(Peer):
+    def test_linux(self):
+        """The line for Linux is that of cxl-regions, on each host and for each number of ways."""
+        taken = set()
+        for host in self.hosts():
+            folder = self.folder(f"host-{len(taken)}-{host.name}".replace("/", "_"), host)
+            for line in takes(host):
+                taken.add(line.split("=")[1])
+                with self.subTest(host.name, line=line):
+                    self.assertEqual(said("plan", folder, line, "--linux"), (0, self.beside(host=host, line=line), ""))
+        self.assertGreater(len(taken), 3)
+
+    def test_images(self):
+        """The image with a planned region is sound, and has it beside those that were there."""
+        for host in self.hosts():
+            for line in takes(host)[:3]:
+                with self.subTest(host.name, line=line):
+                    made = Host(host.table.data, host.topology.data, image_with(host, line))
+                    region = host.plan(line).region
+                    self.assertEqual(sorted([it.base for it in host.regions] + [region.base]), [it.base for it in made.regions])
+                    self.assertIn((region.base, region.size, region.slots), [(it.base, it.size, it.slots) for it in made.regions])
+
+    def test_plan_form(self):
+        """On registers after reset the plan is that of the program's form `plan`."""
+        host = Host.from_files(*FOUR[:2])
+        status, text = engine().plan(host.table.data, host.topology.data, "create r0 pmem 0x40000000 d1 d2 d3 d4")
+        self.assertEqual(status, 0)
+        rows = [line.split() for line in text.decode().splitlines()[1:]]
+        self.assertEqual([(row[1], int(row[2]), int(row[4]), int(row[6])) for row in rows],
+                         [(it.node, it.number, it.ways, it.gran) for it in host.plan("r0 pmem 0x40000000 d1 d2 d3 d4").decoders])
+
+    def test_image_file(self):
+        host, made = self.captured("x2-hb"), self.path("made")
+        self.assertEqual(said("plan", "--reset", host, "r0 pmem 0x20000000 ways=2", "--image", made), (0, "", ""))
+        self.assertIn("region auto0 pmem", said("check", f"{host}/table.cedt", f"{host}/topo.toml", made)[1])
+        self.assertEqual(said("plan", "--reset", host, "r0 pmem 0x20000000 ways=2", "--image", made), (1, "", f"cxldesk: {made}: there already\n"))
+        self.assertEqual(said("plan", "--reset", host, "r0 pmem 0x20000000 ways=2", "--image", self.place), (
+            1, "", f"cxldesk: {self.place}: is a folder\n"))
+        none = self.path("none/made")
+        self.assertEqual(said("plan", "--reset", host, "r0 pmem 0x20000000 ways=2", "--image", none), (
+            1, "", f"cxldesk: {none}: there is no folder {self.path('none')}\n"))
+
+
+@asks_the_engine
+class Room(Peer):
+    def test_largest(self):
+        """Each region that is told has a plan in its window, and the next larger one has none there."""
+        for host in self.hosts()[:16]:
+            room = host.room()
+            for region in room.largest:
+                with self.subTest(host.name, region=region):
+                    alone = Host(table_with(host.table.data, region.window), host.topology.data, host.registers)
+                    line = f"create r {region.kind} {{:#x}} ways={region.ways}"
+                    with alone.session() as session:
+                        self.assertIsNone(session.would(line.format(region.size)))
+                        self.assertIsInstance(session.would(line.format(region.size + (region.ways << 28))), Refusal)
+            self.assertEqual(sum(it.size for it in room.ranges), sum(it.size for it in host.windows if it.is_usable)
+                             - sum(it.size for it in host.regions))
+
+    def test_windows(self):
+        """A table in which all windows but one are of fixed configuration is the same but for that."""
+        for host in self.hosts():
+            for window in host.windows:
+                marked = texts.records(engine().listing(table_with(host.table.data, window.number))[1].decode())
+                for was, now in zip(host.table.records, marked):
+                    is_other = hasattr(was, "number") and was.number != window.number
+                    self.assertEqual({**was.as_dict(), **({"restrict": was.restrict | 16} if is_other else {})}, now.as_dict())
+
+    def test_text(self):
+        text = said("room", "--reset", *FOUR[:2])[1]
+        self.assertEqual(text.splitlines()[-1], "largest window 0 pmem ways 4 size 0x40000000 base 0x110000000 gran 256 over d1,d2,d3,d4")
+
+
+if __name__ == "__main__":
+    unittest.main()
