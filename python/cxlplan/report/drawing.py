@@ -19,7 +19,7 @@ def piece(left: float, width: float, it, title: str) -> str:
 
 
 def key(it) -> str:
-    return f'<span class="key {fill_of(it.number)}">{it.letter}</span>'
+    return f'<span class="key {fill_of(it.number)}"><b>{it.letter}</b></span>'
 
 
 def title_of(it) -> str:
@@ -31,11 +31,16 @@ def title_of(it) -> str:
 
 def windows_part(host, ranges: list) -> str:
     names = {node.uid: node.name for node in host.nodes if node.kind == "bridge"}
-    parts = [window_part(host, window, [it for it in ranges if window.base <= it.base < window.end], names) for window in host.windows]
-    outside = [it for it in ranges if not any(window.base <= it.base < window.end for window in host.windows)]
+    parts = [window_part(host, window, [it for it in ranges if is_in(it, window)], names) for window in host.windows]
+    outside = [it for it in ranges if not any(is_in(it, window) for window in host.windows)]
     if outside:
         parts.append("<p class=bad>In no window: " + ", ".join(f"{key(it)} {html.escape(title_of(it))}" for it in outside) + "</p>")
     return "".join(parts) or "<p>The table has no window.</p>"
+
+
+def is_in(it, window) -> bool:
+    """Whether a range is drawn in a window: in its own, or, where it has none, in each that holds its base."""
+    return it.window == window.number if it.window is not None else window.base <= it.base < window.end
 
 
 def window_part(host, window, inside: list, names: dict) -> str:

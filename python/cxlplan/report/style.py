@@ -32,7 +32,8 @@ color:#000;line-height:26px}
 .bar i.odd{outline:3px solid var(--bad);outline-offset:-3px}
 .memory{height:20px;max-width:100%;margin:.1rem 0}.memory i{line-height:18px}.memory u{position:absolute;top:0;bottom:0}
 .ram{background:var(--ram)}.pmem{background:var(--pmem)}
-.key{display:inline-block;min-width:1.6em;text-align:center;border:1px solid #000;color:#000;font-weight:bold;padding:0 .2em}
+.key{display:inline-block;min-width:1.8em;text-align:center;border:1px solid #000;color:#000;padding:0 .2em}.key b{background:#fff;
+padding:0 .15em}
 .list{margin:.2rem 0 .8rem;padding:0;list-style:none}.list li{margin:.15rem 0}
 .scroll{overflow-x:auto}
 table{border-collapse:collapse;margin:.4rem 0}td,th{border:1px solid var(--line);padding:.1rem .4rem;text-align:left;white-space:nowrap}
