@@ -44,7 +44,29 @@ _cxl_picture() {
     _cxl_files '--help'
 }
 
+# The commands of cxldesk, the options that each has, and files.
+_cxldesk() {
+    local words
+    case "${COMP_WORDS[1]-}" in
+    show) words='--json --aligned --reset --all --help' ;;
+    where) words='--json --aligned --reset --length --poison --help' ;;
+    room) words='--json --aligned --reset --kind --help' ;;
+    plan) words='--json --aligned --reset --linux --words --c --csv --image --help' ;;
+    report) words='--json --reset --help' ;;
+    fleet) words='--db --out --jobs --help' ;;
+    shell) words='--reset --stop --help' ;;
+    image | table) words='--json --reset --from --to --help' ;;
+    *) words='--json --aligned --help' ;;
+    esac
+    if ((COMP_CWORD == 1)); then
+        mapfile -t COMPREPLY < <(compgen -W 'show check where room plan diff report fleet shell image table --help --version' -- "${COMP_WORDS[1]}")
+    else
+        _cxl_files "$words"
+    fi
+}
+
 complete -F _cxlplan cxlplan
+complete -F _cxldesk cxldesk
 complete -F _cxl_capture cxl-capture
 complete -F _cxl_regions cxl-regions
 complete -F _cxl_picture cxl-picture

@@ -14,6 +14,7 @@ HOW = ("neither libcxlplan.so nor the program cxlplan is found: run ./prove in t
        "CXLPLAN_LIBRARY or CXLPLAN")
 HERE = os.path.dirname(os.path.realpath(__file__))
 TOP = os.path.dirname(os.path.dirname(HERE))  # the repository, where the package stands in one
+PREFIX = os.path.dirname(TOP)  # of an install, where it stands in share/cxlplan
 _kept = threading.local()
 
 
@@ -26,16 +27,13 @@ def places(name: str, variable: str, folders: list) -> list:
 
 def library_file() -> Optional[str]:
     """libcxlplan.so of a repository, of an install, or beside this package."""
-    above = os.path.dirname(os.path.dirname(TOP))
-    folders = [HERE, os.path.join(TOP, "crates", "cxl_library", "out"), os.path.join(TOP, "lib"), os.path.join(above, "lib"),
-               "/usr/local/lib", "/usr/lib"]
+    folders = [HERE, os.path.join(TOP, "crates", "cxl_library", "out"), os.path.join(PREFIX, "lib"), "/usr/local/lib", "/usr/lib"]
     return next((file for file in places("libcxlplan.so", "CXLPLAN_LIBRARY", folders) if os.path.isfile(file)), None)
 
 
 def program_file(name: str = "cxlplan", variable: str = "CXLPLAN") -> Optional[str]:
     """The proved program of a repository, of an install, or on the search path."""
-    above = os.path.dirname(os.path.dirname(TOP))
-    folders = [os.path.join(TOP, "crates", name, "out"), os.path.join(above, "bin")]
+    folders = [os.path.join(TOP, "crates", name, "out"), os.path.join(PREFIX, "bin")]
     found = next((file for file in places(name, variable, folders) if os.path.isfile(file) and os.access(file, os.X_OK)), None)
     return found or (None if os.environ.get(variable) else shutil.which(name))
 

@@ -109,11 +109,11 @@ def decoder_at(offset: int) -> tuple:
     return (offset - 0x10) // 0x20, (offset - 0x10) % 0x20 // 4
 
 
-def word_name(offset: int) -> str:
+def word_name(kind: str, offset: int) -> str:
+    """What stands at an offset: in an endpoint the tail is its skip, in a port the list of its targets."""
     if offset < 0x10:
         return ("capability", "global control", "reserved", "reserved")[offset // 4]
-    place = decoder_at(offset)[1]
-    return WORD_NAMES[place] if place < 7 else "reserved"
+    return (*WORD_NAMES, "reserved")[decoder_at(offset)[1]].replace("tail", "DPA skip" if kind == "endpoint" else "target list")
 
 
 def words_text(host, heading: str, writes) -> str:
@@ -121,13 +121,12 @@ def words_text(host, heading: str, writes) -> str:
     nodes = {node.name: node for node in host.nodes}
     text, last = f"# {heading}\n", None
     for write in writes:
-        number, _ = decoder_at(write.offset)
+        number, node = decoder_at(write.offset)[0], nodes[write.node]
         if last != (write.node, number):
             last = (write.node, number)
-            node = nodes[write.node]
             at = f"UID {node.uid}" if node.kind == "bridge" else f"below port {node.port} of {node.parent}"
             text += f"\n{node.kind} {node.name}, {at}, decoder {number}\n"
-        text += f"  {write.offset:#06x}  {write.value:#010x}  {word_name(write.offset)}{meaning(write)}\n"
+        text += f"  {write.offset:#06x}  {write.value:#010x}  {word_name(node.kind, write.offset)}{meaning(write)}\n"
     return text
 
 

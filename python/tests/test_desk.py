@@ -71,10 +71,9 @@ class Asked(Case):
         self.assertIn("locked hb16 0\nFirmware locked this decoder", said("plan", *FOUR, "destroy auto0")[1])
 
     def test_diff(self):
-        self.assertEqual(said("diff", *FOUR, *LOST), (8, "~ decoder hb16 0 lock yes -> no\n~ decoder hb32 0 lock yes -> no\n"
-                                                      "~ decoder d1 0 lock yes -> no\n~ decoder d3 0 lock yes -> no\n"
-                                                      "~ decoder d2 0 lock yes -> no\n~ decoder d4 0 lock yes -> no gran 256 -> 512\n"
-                                                      "- region 0x110000000\n~ verdict check verdict sound, 1 regions -> breach K12 d4 0\n", ""))
+        self.assertEqual(said("diff", *FOUR, *LOST), (8, "".join(f"~ decoder {name} 0 lock yes -> no\n" for name in ("hb16", "hb32", "d1", "d3", "d2"))
+                                                      + "~ decoder d4 0 lock yes -> no gran 256 -> 512\n- region 0x110000000\n"
+                                                      "~ verdict check verdict sound, 1 regions -> breach K12 d4 0\n", ""))
         self.assertEqual(said("diff", *FOUR, *FOUR), (0, "", ""))
 
     def test_every_host(self):

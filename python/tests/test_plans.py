@@ -68,7 +68,7 @@ class Writes(Peer):
                     self.assertEqual([pairs[-1] for pairs in writes.values()], [wanted[name][-1] for name in writes])
                     self.assertEqual({it.node for it in found.undo}, set(writes))
                     count += 1
-        self.assertGreater(count, 50)
+        self.assertGreater(count, 30)
 
     def test_texts(self):
         """The three forms of the writes."""

@@ -1,5 +1,9 @@
 """`diff`: what is another in one capture than in another, by window, node, decoder and region."""
 
+from dataclasses import fields
+
+from ..errors import BadWords
+from ..facts import Decoder, Region
 from ..host import Host
 from .output import Answer
 from .words import take_host
@@ -16,7 +20,6 @@ def answer(options) -> Answer:
     first, rest = take_host(options.words, options)
     second, rest = take_host(rest, options)
     if rest:
-        from ..errors import BadWords
         raise BadWords(f"{rest[0]}: one word too many; see cxldesk diff --help", 1, "extra", rest[0])
     changes = [change for part in PARTS for change in compared(first, second, *part)]
     verdicts = [host.breach.text if host.breach else f"sound, {len(host.regions)} regions" for host in (first, second)]
@@ -53,17 +56,27 @@ def compared(first: Host, second: Host, what: str, part: str, key) -> list:
         if name not in now or name not in was:
             change = "gone" if name not in now else "new"
             changes.append({"what": what, "name": shown, "change": change, "fields": []})
-        elif was[name] != now[name]:
-            changes.append({"what": what, "name": shown, "change": "changed", "fields": fields_of(was[name], now[name])})
+        else:
+            changed = fields_of(was[name], now[name])
+            changes += [{"what": what, "name": shown, "change": "changed", "fields": changed}] if changed else []
     return changes
 
 
 def fields_of(was, now) -> list:
     """The fields in which two facts differ; a decoder's words are told by its fields."""
     before, after = was.as_dict(), now.as_dict()
-    changed = [name for name in before if before[name] != after[name] and (name != "words" or len(before) == 1)]
-    names = [name for name in changed if name not in ("words", "slots", "name")] or changed
+    names = [name for name in looked_at(was, now) if before[name] != after[name]]
     return [{"field": name, "was": flat(before[name]), "is": flat(after[name])} for name in names]
+
+
+def looked_at(was, now) -> list:
+    """The fields that are compared: of a decoder that is not committed in both, whether it is; what it holds besides means nothing. A
+    region is known by its base, so its number is none."""
+    if isinstance(was, Decoder):
+        if not was.committed or not now.committed:
+            return ["committed", "commit", "error"]
+        return [it.name for it in fields(was) if it.name != "words"]
+    return [it.name for it in fields(was) if not (isinstance(was, Region) and it.name == "name")]
 
 
 def flat(value):

@@ -76,8 +76,8 @@ def writes_text(host: Host, name: str, writes: tuple, undo: tuple, options, is_r
         return csv_text(undo if is_release else writes)
     if options.c:
         return c_text(name, writes, undo)
-    makes = (f"{name}: {len(writes)} writes of 32 bits make it. Offsets are those in a node's HDM decoder capability structure. "
-             "Before them bit 1 of the word at 0x4 is set in each endpoint.")
+    makes = (f"{name}: {len(writes)} writes of 32 bits make it. Offsets are those in a node's HDM decoder capability structure.\n"
+             "# Before them bit 1 of the word at 0x4 is set in each endpoint.")
     ends = f"{name}: {len(undo)} writes take it down."
     if is_release:
         return words_text(host, ends, undo) + "\n" + words_text(host, f"{name}: {len(writes)} writes take back all but the last of "
