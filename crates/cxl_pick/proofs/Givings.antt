@@ -1,5 +1,5 @@
--- What is given in a window from the table of offers.
-use Rattle.std.proofs.Common.{◌≡◌, ℕ, suc, ◌+◌, ◌<◌, ◌≤◌, Bool, true, false, cond, List, [], ◌∷◌, ◌++◌, length, get_or, map, drop, Option, Some, None, Vec, Global, refl, sym, ap, ◌∙◌, subst, arith, append_assoc}
+-- What is given in a window, target by target, and in rising order.
+use Rattle.std.proofs.Common.{◌≡◌, ℕ, suc, ◌+◌, ◌<◌, ◌≤◌, Bool, true, false, cond, List, [], ◌∷◌, ◌++◌, length, get_or, map, drop, Option, Some, None, refl, sym, ap, ◌∙◌, subst, arith, append_assoc}
 use Rattle.std.specs.Prelude.{◌==◌, option_map, option_and_then, filter, All}
 use Rattle.std.specs.List.{range_with_len}
 use Rattle.std.proofs.Math.Seq.{drop-cons}
@@ -9,50 +9,38 @@ use Rattle.std.proofs.lemmas.List.Kept.{AllPairs-filter}
 use Rattle.std.proofs.lemmas.List.{append-nil}
 use Rattle.cxl_enc.proofs.Lists.{is_in, in_from, in_is, drop_all}
 use Rattle.cxl_enc.proofs.Numbers.{is_number, range_more, numbers_rise}
-use Rattle.cxl_topo.specs.declared.node.Node.{Node}
-use Rattle.cxl_topo.specs.Tree.{bridge_with}
-use Rattle.cxl_pick.specs.Picking.{gives, all_given, AreInOrder}
-use Rattle.cxl_pick.specs.inner.Offers.{some_of, listed_at}
+use Rattle.cxl_pick.specs.Picking.{all_given, AreInOrder}
 use Rattle.cxl_pick.proofs.Lists.{kept_in}
 
 -- ---- the targets, one by one
 
--- what the table has for the bridge of this UID
-abbrev pub at_uid : List Node → List (Vec ℕ Global) → ℕ → ℕ → Option (List ℕ)
-at_uid nodes table share uid = option_and_then (λ b. some_of (listed_at table (length nodes) b share)) (bridge_with nodes uid)
-
-next_uid : (nodes : List Node) (table : List (Vec ℕ Global)) (share i : ℕ) (uids : List ℕ) → i < length uids
-    → all_given (map (at_uid nodes table share) (drop i uids))
-    ≡ option_and_then (λ ns. option_map (λ ms. ns ++ ms) (all_given (map (at_uid nodes table share) (drop (i + 1) uids)))) (at_uid nodes table share (get_or uids i 0))
-next_uid nodes table share i uids within =
+next_uid : (f : ℕ → Option (List ℕ)) (i : ℕ) (uids : List ℕ) → i < length uids
+    → all_given (map f (drop i uids)) ≡ option_and_then (λ ns. option_map (λ ms. ns ++ ms) (all_given (map f (drop (i + 1) uids)))) (f (get_or uids i 0))
+next_uid f i uids within =
     let more : i + 1 ≡ suc i = omega arith in
-    ap (λ us. all_given (map (at_uid nodes table share) us)) (drop-cons uids i 0 within)
-    ∙ ap (λ (k : ℕ). option_and_then (λ ns. option_map (λ ms. ns ++ ms) (all_given (map (at_uid nodes table share) (drop k uids)))) (at_uid nodes table share (get_or uids i 0))) (sym more)
+    ap (λ us. all_given (map f us)) (drop-cons uids i 0 within)
+    ∙ ap (λ (k : ℕ). option_and_then (λ ns. option_map (λ ms. ns ++ ms) (all_given (map f (drop k uids)))) (f (get_or uids i 0))) (sym more)
 
 joined_twice : (xs ys : List ℕ) (o : Option (List ℕ)) → option_map (λ ms. (xs ++ ys) ++ ms) o ≡ option_map (λ ms. xs ++ ms) (option_map (λ ms. ys ++ ms) o)
 joined_twice xs ys None = refl
 joined_twice xs ys (Some ms) = ap Some (append_assoc xs ys ms)
 
-pub uid_step : (nodes : List Node) (table : List (Vec ℕ Global)) (share i : ℕ) (uids xs ys : List ℕ) (all : Option (List ℕ)) → i < length uids
-    → option_map (λ ms. xs ++ ms) (all_given (map (at_uid nodes table share) (drop i uids))) ≡ all → at_uid nodes table share (get_or uids i 0) ≡ Some ys
-    → option_map (λ ms. (xs ++ ys) ++ ms) (all_given (map (at_uid nodes table share) (drop (i + 1) uids))) ≡ all
-uid_step nodes table share i uids xs ys all within is gives =
-    joined_twice xs ys (all_given (map (at_uid nodes table share) (drop (i + 1) uids)))
-    ∙ ap (option_map (λ ms. xs ++ ms)) (sym (next_uid nodes table share i uids within
-    ∙ ap (option_and_then (λ ns. option_map (λ ms. ns ++ ms) (all_given (map (at_uid nodes table share) (drop (i + 1) uids))))) gives))
+pub uid_step : (f : ℕ → Option (List ℕ)) (i : ℕ) (uids xs ys : List ℕ) (all : Option (List ℕ)) → i < length uids
+    → option_map (λ ms. xs ++ ms) (all_given (map f (drop i uids))) ≡ all → f (get_or uids i 0) ≡ Some ys
+    → option_map (λ ms. (xs ++ ys) ++ ms) (all_given (map f (drop (i + 1) uids))) ≡ all
+uid_step f i uids xs ys all within is gives =
+    joined_twice xs ys (all_given (map f (drop (i + 1) uids)))
+    ∙ ap (option_map (λ ms. xs ++ ms)) (sym (next_uid f i uids within ∙ ap (option_and_then (λ ns. option_map (λ ms. ns ++ ms) (all_given (map f (drop (i + 1) uids))))) gives))
     ∙ is
 
-pub uid_none : (nodes : List Node) (table : List (Vec ℕ Global)) (share i : ℕ) (uids xs : List ℕ) (all : Option (List ℕ)) → i < length uids
-    → option_map (λ ms. xs ++ ms) (all_given (map (at_uid nodes table share) (drop i uids))) ≡ all → at_uid nodes table share (get_or uids i 0) ≡ None → None ≡ all
-uid_none nodes table share i uids xs all within is gives =
-    ap (option_map (λ ms. xs ++ ms)) (sym (next_uid nodes table share i uids within
-    ∙ ap (option_and_then (λ ns. option_map (λ ms. ns ++ ms) (all_given (map (at_uid nodes table share) (drop (i + 1) uids))))) gives))
+pub uid_none : (f : ℕ → Option (List ℕ)) (i : ℕ) (uids xs : List ℕ) (all : Option (List ℕ)) → i < length uids
+    → option_map (λ ms. xs ++ ms) (all_given (map f (drop i uids))) ≡ all → f (get_or uids i 0) ≡ None → None ≡ all
+uid_none f i uids xs all within is gives =
+    ap (option_map (λ ms. xs ++ ms)) (sym (next_uid f i uids within ∙ ap (option_and_then (λ ns. option_map (λ ms. ns ++ ms) (all_given (map f (drop (i + 1) uids))))) gives))
     ∙ is
 
-pub uid_end : (nodes : List Node) (table : List (Vec ℕ Global)) (share i : ℕ) (uids xs : List ℕ) (all : Option (List ℕ)) → length uids ≤ i
-    → option_map (λ ms. xs ++ ms) (all_given (map (at_uid nodes table share) (drop i uids))) ≡ all → Some xs ≡ all
-uid_end nodes table share i uids xs all past is =
-    ap Some (sym (append-nil xs)) ∙ sym (ap (λ us. option_map (λ ms. xs ++ ms) (all_given (map (at_uid nodes table share) us))) (drop_all uids i past)) ∙ is
+pub uid_end : (f : ℕ → Option (List ℕ)) (i : ℕ) (uids xs : List ℕ) (all : Option (List ℕ)) → length uids ≤ i → option_map (λ ms. xs ++ ms) (all_given (map f (drop i uids))) ≡ all → Some xs ≡ all
+uid_end f i uids xs all past is = ap Some (sym (append-nil xs)) ∙ sym (ap (λ us. option_map (λ ms. xs ++ ms) (all_given (map f us))) (drop_all uids i past)) ∙ is
 
 -- ---- in rising order
 

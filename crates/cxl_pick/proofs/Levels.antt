@@ -10,9 +10,8 @@ use Rattle.cxl_topo.proofs.Trees.{KnownTree, parent_within, parent_is_port}
 use Rattle.cxl_model.specs.System.{System}
 use Rattle.cxl_pick.specs.declared.want.Want.{Want}
 use Rattle.cxl_pick.specs.Picking.{can_serve_itself, children_of, port_gives, gives_within, gives}
-use Rattle.cxl_pick.specs.inner.Offers.{offered, some_of}
 use Rattle.cxl_pick.proofs.Giving.{at_endpoint, at_port}
-use Rattle.cxl_pick.proofs.Taking.{child_from, given_is}
+use Rattle.cxl_pick.proofs.Taking.{child_from}
 
 pub filter_map-same : {Y : Type 0} (f g : ℕ → Option Y) (xs : List ℕ) → ((x : ℕ) → is_in x xs ≡ true → f x ≡ g x) → filter_map f xs ≡ filter_map g xs
 filter_map-same f g [] same = refl
@@ -56,18 +55,3 @@ pub gives_at_endpoint : (s : System) → KnownTree s.nodes → (want : Want) (w 
 gives_at_endpoint s known want w start n m within endpoint =
     levels s known want w start (length s.nodes) (suc (length s.nodes)) n m within (omega arith) (omega arith)
     ∙ at_endpoint (length s.nodes) s want w start n m endpoint
-
--- a list that is given for some endpoints is not empty
-pub some_offered : (s : System) → KnownTree s.nodes → (want : Want) (w : WindowFields) (start n m : ℕ) → 0 < m → some_of (offered s want w start n m) ≡ gives s want w start n m
-unfolding offered
-some_offered s known want w start n m some = go (gives s want w start n m) refl
-  where
-    full : (xs : List ℕ) → 0 < length xs → some_of xs ≡ Some xs
-    full [] more = absurd (omega arith)
-    full (x ∷ xs) more = ap (λ (b : Bool). if b then None else Some (x ∷ xs)) (ne_eqb (length (x ∷ xs)) 0 (omega arith))
-
-    go : (o : Option (List ℕ)) → gives s want w start n m ≡ o → some_of (unwrap_or o []) ≡ o
-    go None at = refl
-    go (Some xs) at =
-        let long = (given_is s known (length s.nodes) want w start n m xs at).count in
-        full xs (subst (λ (k : ℕ). 0 < k) (sym long) some)

@@ -18,10 +18,10 @@ mod FittedWindows
 mod KeptBlocks
 mod Rooms
 mod Levels
-mod Tables
+mod Walking
 mod Offering
 mod Givings
+mod Known
 mod Settled
 mod Picks
 mod Computed
-mod Keeping

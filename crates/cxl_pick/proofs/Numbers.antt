@@ -9,7 +9,7 @@ use Rattle.cxl_enc.specs.Codes.{third_of, bits_of, log2_of, is_ways}
 use Rattle.cxl_enc.specs.Caps.{is_target_count}
 use Rattle.cxl_enc.proofs.Ways.{each_count, each_ways, some_ways}
 use Rattle.cxl_enc.proofs.Numbers.{some_factor}
-use Rattle.cxl_pick.specs.inner.Offers.{has_list}
+use Rattle.cxl_pick.specs.inner.Gifts.{has_gift}
 
 pub few_ways : (p : ℕ) → is_ways p ≡ true → p ≤ 16
 few_ways p is = each_ways (λ n. n ≤ 16) p is (omega arith) (omega arith) (omega arith) (omega arith) (omega arith) (omega arith) (omega arith) (omega arith)
@@ -23,30 +23,24 @@ count_split p is = each_count (λ n. 2 ^ bits_of n ≡ n) p is refl refl refl re
 pub some_count : (p : ℕ) → is_target_count p ≡ true → 0 < p
 some_count p is = each_count (λ n. 0 < n) p is (omega arith) (omega arith) (omega arith) (omega arith)
 
--- ---- numbers that the table has lists for
+-- ---- numbers for which a gift tells something
 
-pub each_listed : (P : ℕ → Type 0) (v : ℕ) → has_list v ≡ true → P 1 → P 2 → P 4 → P 8 → P 16 → P v
-each_listed P v is p1 p2 p4 p8 p16 =
+pub each_told : (P : ℕ → Type 0) (v : ℕ) → has_gift v ≡ true → P 1 → P 2 → P 4 → P 8 → P 16 → P v
+each_told P v is p1 p2 p4 p8 p16 =
     elim (or_cases (is_target_count v) (v == 16) is) [
       | inl count ↦ each_count P v count p1 p2 p4 p8
       | inr last ↦ subst P (sym (eqb-true v 16 last)) p16
     ]
 
-pub listed_power : (v : ℕ) → has_list v ≡ true → 2 ^ log2_of v ≡ v
-listed_power v is = each_listed (λ n. 2 ^ log2_of n ≡ n) v is refl refl refl refl refl
-
-pub listed_few : (v : ℕ) → has_list v ≡ true → log2_of v < 5
-listed_few v is = each_listed (λ n. log2_of n < 5) v is (omega arith) (omega arith) (omega arith) (omega arith) (omega arith)
-
 -- so many times as there are ports is one of them again, up to 16
-pub listed_product : (u v m : ℕ) → is_target_count u ≡ true → has_list v ≡ true → u * v ≡ m → m ≤ 16 → has_list m ≡ true
-listed_product u v m count is product few =
-    subst (λ (n : ℕ). has_list n ≡ true) product
-    (each_count (λ n. n * v ≤ 16 → has_list (n * v) ≡ true) u count
-    (each_listed (λ n. 1 * n ≤ 16 → has_list (1 * n) ≡ true) v is (λ l. refl) (λ l. refl) (λ l. refl) (λ l. refl) (λ l. refl))
-    (each_listed (λ n. 2 * n ≤ 16 → has_list (2 * n) ≡ true) v is (λ l. refl) (λ l. refl) (λ l. refl) (λ l. refl) (λ l. absurd (omega (arith, l))))
-    (each_listed (λ n. 4 * n ≤ 16 → has_list (4 * n) ≡ true) v is (λ l. refl) (λ l. refl) (λ l. refl) (λ l. absurd (omega (arith, l))) (λ l. absurd (omega (arith, l))))
-    (each_listed (λ n. 8 * n ≤ 16 → has_list (8 * n) ≡ true) v is (λ l. refl) (λ l. refl) (λ l. absurd (omega (arith, l))) (λ l. absurd (omega (arith, l))) (λ l. absurd (omega (arith, l))))
+pub told_product : (u v m : ℕ) → is_target_count u ≡ true → has_gift v ≡ true → u * v ≡ m → m ≤ 16 → has_gift m ≡ true
+told_product u v m count is product few =
+    subst (λ (n : ℕ). has_gift n ≡ true) product
+    (each_count (λ n. n * v ≤ 16 → has_gift (n * v) ≡ true) u count
+    (each_told (λ n. 1 * n ≤ 16 → has_gift (1 * n) ≡ true) v is (λ l. refl) (λ l. refl) (λ l. refl) (λ l. refl) (λ l. refl))
+    (each_told (λ n. 2 * n ≤ 16 → has_gift (2 * n) ≡ true) v is (λ l. refl) (λ l. refl) (λ l. refl) (λ l. refl) (λ l. absurd (omega (arith, l))))
+    (each_told (λ n. 4 * n ≤ 16 → has_gift (4 * n) ≡ true) v is (λ l. refl) (λ l. refl) (λ l. refl) (λ l. absurd (omega (arith, l))) (λ l. absurd (omega (arith, l))))
+    (each_told (λ n. 8 * n ≤ 16 → has_gift (8 * n) ≡ true) v is (λ l. refl) (λ l. refl) (λ l. absurd (omega (arith, l))) (λ l. absurd (omega (arith, l))) (λ l. absurd (omega (arith, l))))
     (subst (λ (n : ℕ). n ≤ 16) (sym product) few))
 
 -- ---- counts of ports that are tried

@@ -1,10 +1,13 @@
 //! Endpoints picked for a region of which only the number of ways is stated.
 #![tactic(auto)]
 
+mod asking;
+mod children;
 mod fault;
+mod gathering;
+mod gifts;
 mod laws;
 mod nodes;
-mod offers;
 mod picking;
 mod terms;
 mod want;

@@ -8,9 +8,10 @@ ghost use Rattle.cxl_regs.specs.Rules.{select_ok};
 ghost use Rattle.cxl_span.specs.Allotting.{all_committed};
 ghost use Rattle.cxl_model.specs.Hosts.{as_system};
 ghost use Rattle.cxl_model.specs.System.{decoders_at};
-ghost use Rattle.cxl_pick.specs.Picking.{is_open, has_room, can_serve_itself, can_serve_by};
+ghost use Rattle.cxl_pick.specs.Picking.{is_open, has_room, can_serve_itself};
 ghost use Rattle.cxl_model.specs.Accepted.{IsOrderlySystem};
 ghost use Rattle.cxl_pick.specs.inner.Wanted.{HasWaysAndSize};
+ghost use Rattle.cxl_pick.specs.inner.Gifts.{can_lead};
 
 use crate::terms::{port_code, share, wanted_code};
 use crate::want::Want;
@@ -73,27 +74,24 @@ fn has_room(host: &Host, want: &Want, node: u32) -> bool
 
 // ---- ports
 
-/// Whether a port could lead to `m` endpoints by `u` of its children, where so many have something to give.
-pub(crate) fn can_serve_by(
+/// Whether a port that is open could lead to `m` endpoints by `u` of its children, where so many have something to give.
+pub(crate) fn can_lead(
     host: &Host,
     want: &Want,
     w: &Window,
-    start: u64,
     node: u32,
     m: u8,
     willing: usize,
     u: u8,
 ) -> bool
-    requires ready { IsOrderlySystem (as_system host.now) }
     requires here { node < length host.now.topo.now.nodes }
     requires some { 0 < m }
     requires few { m ≤ 16 }
     requires count { is_target_count u ≡ true }
-    ensures { result ≡ can_serve_by (as_system host.now) want.now w.now start node m willing u }
+    ensures { result ≡ can_lead (as_system host.now) want.now w.now node m willing u }
 {
     let cap = host.topo.node(node).cap;
-    is_open(host, start, node)
-        && m % u == 0
+    m % u == 0
         && u <= target_count(cap)
         && usize::from(u) <= willing
         && (u == 1 || selects_among(cap, port_code(want, w, m), u))

@@ -1,6 +1,6 @@
 //! The pick: endpoints for a region, window by window and bridge by bridge.
 
-ghost use Rattle.std.specs.Prelude.{◌≡◌, ◌≢◌, ◌≤◌, ◌<◌, ◌==◌, true, false, length, map, option_map, option_and_then, IfOk, IfErr, IfSome, OnOk, MatchOption, All, Ok, Err};
+ghost use Rattle.std.specs.Prelude.{◌≡◌, ◌≢◌, ◌≤◌, ◌<◌, ◌==◌, ◌/◌, true, false, length, map, option_map, option_and_then, IfOk, IfErr, IfSome, OnOk, MatchOption, All, Ok, Err};
 ghost use Rattle.std.specs.List.{list_any};
 ghost use Rattle.cxl_enc.specs.Codes.{is_ways};
 ghost use Rattle.cxl_topo.specs.Tree.{is_endpoint_at, bridge_with};
@@ -9,16 +9,19 @@ ghost use Rattle.cxl_window.specs.Windows.{AreMadeWith};
 ghost use Rattle.cxl_model.specs.Hosts.{as_system};
 ghost use Rattle.cxl_model.specs.System.{IsSystem, system_of, bridge_uids};
 ghost use Rattle.cxl_model.specs.Accepted.{IsAccepted, IsOrderlySystem};
-ghost use Rattle.cxl_pick.specs.Picking.{IsWantedSize, given_in, all_given, AreInOrder, IsPicked, NothingGiven, TellsPickFault, FitsFirst, NothingFits, PlansFirst, NothingPlans};
+ghost use Rattle.cxl_pick.specs.Picking.{IsWantedSize, gives, given_in, all_given, AreInOrder, IsPicked, NothingGiven, TellsPickFault, FitsFirst, NothingFits, PlansFirst, NothingPlans};
 ghost use Rattle.cxl_pick.specs.Picked.{picked};
 ghost use Rattle.cxl_pick.specs.inner.Wanted.{HasWaysAndSize};
-ghost use Rattle.cxl_pick.specs.inner.Offers.{AreChildren, AreKeptOffers, some_of, listed_at};
+ghost use Rattle.cxl_pick.specs.inner.Gifts.{AreHighest, AreGifts, IsAsked};
 
+use crate::asking::ask;
+use crate::children::highest_ports;
 use crate::fault::PickFault;
+use crate::gathering::give;
+use crate::gifts::{Gifts, known_at, table_for};
 use crate::laws::{
     fitting_sets_are_given, fitting_sets_have_plans, given_sets_fit, wants_come_to_answers,
 };
-use crate::offers::{KeptOffers, children, gives, no_offers, offer_of, renew};
 use crate::terms::{can_take, latest_start};
 use crate::want::Want;
 use cxl_image::Image;
@@ -116,10 +119,10 @@ fn pick_first(alloc: Global, host: &Host, want: &Want) -> Result<Option<Vec<u32>
         (λ set. (w : WindowFields) × IsPicked (as_system host.now) want.now w set.items)) }
 {
     tree_laws();
-    let children = children(alloc, host.topo)?;
-    let mut kept = no_offers(alloc);
+    let highest = highest_ports(alloc, host.topo)?;
+    let mut tables = Vec::new(alloc);
     for w in host.windows {
-        match pick_in(&mut kept, alloc, host, want, w, &children)? {
+        match pick_in(&mut tables, alloc, host, want, w, &highest)? {
             Some(given) => {
                 let set = in_order(alloc, host.topo.count(), &given)?;
                 return Ok(Some(set));
@@ -132,18 +135,19 @@ fn pick_first(alloc: Global, host: &Host, want: &Want) -> Result<Option<Vec<u32>
 
 /// What the target bridges of a window give, where each gives something. Takes memory.
 fn pick_in(
-    kept: &mut KeptOffers,
+    tables: &mut Vec<Gifts>,
     alloc: Global,
     host: &Host,
     want: &Want,
     w: &Window,
-    children: &[Vec<u32>],
+    highest: &[u8],
 ) -> Result<Option<Vec<u32>>, AllocError>
     requires ready { IsOrderlySystem (as_system host.now) }
     requires sound { HasWaysAndSize want.now }
-    requires children { AreChildren host.now.topo.now.nodes children.now }
-    requires kept { AreKeptOffers (as_system host.now) want.now kept.old }
-    ensures kept { OnOk result (AreKeptOffers (as_system host.now) want.now kept.new) }
+    requires count { length highest.now ≡ length host.now.topo.now.nodes }
+    requires highest { AreHighest host.now.topo.now.nodes highest.now }
+    requires tables { All (AreGifts (as_system host.now) want.now) tables.old.items }
+    ensures tables { OnOk result (All (AreGifts (as_system host.now) want.now) tables.new.items) }
     ensures given { IfOk result
         (λ o. option_map (λ given. given.items) o ≡ given_in (as_system host.now) want.now w.now) }
 {
@@ -155,33 +159,49 @@ fn pick_in(
     let Some(start) = latest_start(want, w) else {
         return Ok(None);
     };
-    let share = want.ways / w.ways();
-    renew(kept, alloc, host, want, w, start, children)?;
-    all_given(alloc, host.topo, w.targets(), &kept.table, share)
+    let place = table_for(tables, alloc, host, want, w, start)?;
+    all_given(&mut tables[place], alloc, host, want, w, start, highest)
 }
 
-/// What the bridges of these UIDs give for `share` endpoints each, where each gives something. Takes memory.
+/// What the target bridges of a window that can take the region give for their shares, where each gives something. Takes
+/// memory.
 fn all_given(
+    gifts: &mut Gifts,
     alloc: Global,
-    topo: &Topo,
-    targets: &[u32],
-    table: &[Vec<u32>],
-    share: u8,
+    host: &Host,
+    want: &Want,
+    w: &Window,
+    start: u64,
+    highest: &[u8],
 ) -> Result<Option<Vec<u32>>, AllocError>
-    ensures { IfOk result (λ o. option_map (λ given. given.items) o
-        ≡ all_given (map (λ uid. option_and_then (λ b. some_of (listed_at table.now (length topo.now.nodes) b share))
-        (bridge_with topo.now.nodes uid)) targets.now)) }
+    requires ready { IsOrderlySystem (as_system host.now) }
+    requires sound { HasWaysAndSize want.now }
+    requires count { length highest.now ≡ length host.now.topo.now.nodes }
+    requires highest { AreHighest host.now.topo.now.nodes highest.now }
+    requires gifts { AreGifts (as_system host.now) want.now gifts.old }
+    requires asked { IsAsked want.now gifts.old w.now start }
+    ensures gifts { OnOk result (AreGifts (as_system host.now) want.now gifts.new) }
+    ensures given { IfOk result (λ o. option_map (λ given. given.items) o
+        ≡ all_given (map (λ uid. option_and_then
+        (λ b. gives (as_system host.now) want.now w.now start b (want.now.ways / w.now.ways))
+        (bridge_with host.now.topo.now.nodes uid)) w.now.targets)) }
 {
+    tree_laws();
+    let _count = host.topo.count();
+    let share = want.ways / w.ways();
+    let targets = w.targets();
     let mut given = Vec::new(alloc);
     for uid in targets {
-        let Some(bridge) = topo.bridge(*uid) else {
+        let Some(bridge) = host.topo.bridge(*uid) else {
             return Ok(None);
         };
-        let count = topo.count();
-        if !gives(count, table, bridge, share) {
+        ask(gifts, alloc, host, want, w, start, highest, bridge)?;
+        if known_at(gifts, bridge, share) == 0 {
             return Ok(None);
         }
-        given.extend_from_slice(offer_of(count, table, bridge, share))?;
+        give(
+            &mut given, alloc, gifts, host, want, w, start, highest, bridge, share,
+        )?;
     }
     Ok(Some(given))
 }

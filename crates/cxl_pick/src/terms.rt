@@ -1,6 +1,6 @@
 //! What is wanted of a pick, and what a window gives it.
 
-ghost use Rattle.std.specs.Prelude.{◌≡◌, ◌<◌, ◌≤◌, ◌+◌, ◌^◌, true};
+ghost use Rattle.std.specs.Prelude.{◌≡◌, ◌<◌, ◌≤◌, ◌+◌, true, IfSome};
 ghost use Rattle.cxl_enc.specs.Codes.{is_ways, log2_of};
 ghost use Rattle.cxl_enc.specs.Limits.{address_limit};
 ghost use Rattle.cxl_pick.specs.Picking.{can_take, latest_start, wanted_code, wanted_share, port_code};
@@ -34,7 +34,8 @@ pub(crate) fn can_take(want: &Want, w: &Window) -> bool
 /// The greatest base in a window from which the region still ends there.
 pub(crate) fn latest_start(want: &Want, w: &Window) -> Option<u64>
     requires { w.now.base + w.now.size ≤ address_limit }
-    ensures { result ≡ latest_start want.now w.now }
+    ensures start { result ≡ latest_start want.now w.now }
+    ensures low { IfSome result (λ start. start ≤ address_limit) }
 {
     if want.size > w.size() {
         return None;
@@ -70,7 +71,7 @@ pub(crate) fn port_code(want: &Want, w: &Window, m: u8) -> u32
 }
 
 /// The exponent of a power of two up to 16.
-pub(crate) fn log2_of(n: u8) -> u32
+fn log2_of(n: u8) -> u32
     ensures value { result ≡ log2_of n }
     ensures few { result ≤ 4 }
 {
@@ -80,21 +81,5 @@ pub(crate) fn log2_of(n: u8) -> u32
         4 => 2,
         2 => 1,
         _ => 0,
-    }
-}
-
-/// The power of two with this exponent.
-pub(crate) fn power(exponent: u8) -> u8
-    requires { exponent < 5 }
-    ensures value { result ≡ 2 ^ exponent }
-    ensures some { 0 < result }
-    ensures few { result ≤ 16 }
-{
-    match exponent {
-        0 => 1,
-        1 => 2,
-        2 => 4,
-        3 => 8,
-        _ => 16,
     }
 }

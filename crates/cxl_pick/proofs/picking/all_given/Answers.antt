@@ -1,56 +1,110 @@
-use Rattle.std.proofs.Common.{◌≡◌, ℕ, ◌+◌, Bool, true, false, not, ◌++◌, List, length, drop, map, Some, None, refl, sym, ap, ◌∙◌}
-use Rattle.std.specs.Prelude.{◌==◌, option_map, option_and_then, if◌then◌else◌}
-use Rattle.std.proofs.lemmas.Bool.{not-true}
-use Rattle.cxl_pick.specs.Picking.{all_given}
-use Rattle.cxl_pick.specs.inner.Offers.{some_of, listed_at}
-use Rattle.cxl_pick.proofs.Givings.{at_uid, uid_step, uid_none, uid_end}
+use Rattle.std.proofs.Common.{◌≡◌, ℕ, ◌+◌, ◌/◌, ◌<◌, ◌≤◌, ◌++◌, Bool, true, false, not, List, [], get_or, length, drop, map, Option, Some, None, Vec, Global, refl, sym, ap, subst, ◌∙◌, arith}
+use Rattle.std.specs.Prelude.{◌==◌, option_map, option_and_then, is_some, unwrap_or}
+use Rattle.std.proofs.Math.Nat.{div-le_self}
+use Rattle.std.proofs.lemmas.Bool.{ne_eqb}
+use Rattle.cxl_topo.proofs.Trees.{KnownTree}
+use Rattle.cxl_topo.specs.Tree.{bridge_with}
+use Rattle.cxl_model.specs.Hosts.{as_system}
+use Rattle.cxl_model.specs.System.{System}
+use Rattle.cxl_pick.specs.Picking.{all_given, gives}
+use Rattle.cxl_pick.proofs.Numbers.{few_ways}
+use Rattle.cxl_pick.proofs.Known.{known_some, nothing_given}
+use Rattle.cxl_pick.proofs.Walking.{some_list}
+use Rattle.cxl_pick.proofs.Givings.{uid_step, uid_none, uid_end}
+use Rattle.cxl_pick.proofs.Settled.{at_uid, target_within}
 use Rattle.cxl_pick.proofs.picking.all_given.Goals as goal
 
-not_false : (b : Bool) → not b ≡ false → b ≡ true
-not_false true is = refl
-not_false false is = sym is
+pub ask-requires-clause-here : goal.ask-requires-clause-here
+ask-requires-clause-here c =
+    let s : System = as_system c.args.host.now in
+    let known : KnownTree s.nodes = record { tree = c.requires.ready.system.tree; laws = c.tree_laws.ensures.laws s.nodes c.requires.ready.system.tree } in
+    target_within known (get_or c.targets-targets.result.now c.loop-uid.uid-index 0) c.in-Some.bridge (sym c.in-Some.ensures.bridge)
 
-pub returns-in_default : goal.returns-in_default
-returns-in_default c =
-    let nodes = c.args.topo.now.nodes in
-    let uids : List ℕ = c.args.targets.now in
+pub give-requires-clause-few : goal.give-requires-clause-few
+give-requires-clause-few c =
+    let most = few_ways c.args.want.now.ways c.requires.sound.ways in
+    let less = div-le_self c.args.want.now.ways c.ways.result in
+    omega (arith, most, less)
+
+pub returns-in_default-clause-given : goal.returns-in_default-clause-given
+returns-in_default-clause-given c =
+    let s : System = as_system c.args.host.now in
+    let want = c.args.want.now in
+    let w = c.args.w.now in
+    let f : ℕ → Option (List ℕ) = at_uid s want w c.args.start in
+    let uids : List ℕ = c.targets-targets.result.now in
     let i : ℕ = c.loop-uid.uid-index in
-    uid_none nodes c.args.table.now c.args.share i uids c.loop-uid.given.items (all_given (map (at_uid nodes c.args.table.now c.args.share) uids)) c.loop-uid-test.true c.loop-uid.invariant
-    (ap (option_and_then (λ b. some_of (listed_at c.args.table.now (length nodes) b c.args.share))) (sym c.in_default.ensures.bridge))
+    let all : Option (List ℕ) = all_given (map f uids) in
+    uid_none f i uids c.loop-uid.given.items all c.loop-uid-test.true c.loop-uid.invariant.2
+    (ap (option_and_then (λ b. gives s want w c.args.start b (want.ways / w.ways))) (sym c.in_default.ensures.bridge))
+    ∙ ap (λ (us : List ℕ). all_given (map f us)) c.targets-targets.ensures.value
 
-empty : (ns : List ℕ) (r : Bool) → r ≡ not (length ns == 0) → r ≡ false → some_of ns ≡ None
-empty ns r is told = ap (λ (b : Bool). if b then None else Some ns) (not_false (length ns == 0) (sym is ∙ told))
-
-full : (ns : List ℕ) (r : Bool) → r ≡ not (length ns == 0) → r ≡ true → some_of ns ≡ Some ns
-full ns r is told = ap (λ (b : Bool). if b then None else Some ns) (not-true (length ns == 0) (sym is ∙ told))
-
-pub returns-then-not-gives : goal.returns-then-not-gives
-returns-then-not-gives c =
-    let nodes = c.args.topo.now.nodes in
-    let uids : List ℕ = c.args.targets.now in
+pub returns-then-known_at-eq0-clause-given : goal.returns-then-known_at-eq0-clause-given
+returns-then-known_at-eq0-clause-given c =
+    let s : System = as_system c.args.host.now in
+    let want = c.args.want.now in
+    let w = c.args.w.now in
+    let f : ℕ → Option (List ℕ) = at_uid s want w c.args.start in
+    let uids : List ℕ = c.targets-targets.result.now in
     let i : ℕ = c.loop-uid.uid-index in
-    let all = c.count-count.ensures.count in
-    uid_none nodes c.args.table.now c.args.share i uids c.loop-uid.given.items (all_given (map (at_uid nodes c.args.table.now c.args.share) uids)) c.loop-uid-test.true c.loop-uid.invariant
-    (ap (option_and_then (λ b. some_of (listed_at c.args.table.now (length nodes) b c.args.share))) (sym c.in-Some.ensures.bridge)
-    ∙ ap (λ (k : ℕ). some_of (listed_at c.args.table.now k c.in-Some.bridge c.args.share)) (sym all)
-    ∙ empty (listed_at c.args.table.now c.count-count.result c.in-Some.bridge c.args.share) c.gives.result c.gives.ensures c.if-not-gives.true)
+    let all : Option (List ℕ) = all_given (map f uids) in
+    let known : KnownTree s.nodes = record { tree = c.requires.ready.system.tree; laws = c.tree_laws.ensures.laws s.nodes c.requires.ready.system.tree } in
+    let most = few_ways want.ways c.requires.sound.ways in
+    let less = div-le_self want.ways c.ways.result in
+    let share : ℕ = want.ways / c.ways.result in
+    let within = target_within known (get_or uids i 0) c.in-Some.bridge (sym c.in-Some.ensures.bridge) in
+    let at : f (get_or uids i 0) ≡ gives s want w c.args.start c.in-Some.bridge share =
+    ap (option_and_then (λ b. gives s want w c.args.start b (want.ways / w.ways))) (sym c.in-Some.ensures.bridge)
+    ∙ ap (λ (k : ℕ). gives s want w c.args.start c.in-Some.bridge (want.ways / k)) (sym c.ways.ensures.value) in
+    let none = nothing_given s known want w c.args.start c.in-Some.bridge share c.ask.new.gifts c.in_ok-ask.ensures.gifts c.in_ok-ask.ensures.asked within (omega (arith, most, less)) c.in_ok-ask.ensures.here (sym c.known_at.ensures ∙ c.if-known_at-eq0.true) in
+    uid_none f i uids c.loop-uid.given.items all c.loop-uid-test.true c.loop-uid.invariant.2 (at ∙ none) ∙ ap (λ (us : List ℕ). all_given (map f us)) c.targets-targets.ensures.value
 
 pub loop-uid-preserved : goal.loop-uid-preserved
 loop-uid-preserved c =
-    let nodes = c.args.topo.now.nodes in
-    let uids : List ℕ = c.args.targets.now in
+    let s : System = as_system c.args.host.now in
+    let want = c.args.want.now in
+    let w = c.args.w.now in
+    let f : ℕ → Option (List ℕ) = at_uid s want w c.args.start in
+    let uids : List ℕ = c.targets-targets.result.now in
     let i : ℕ = c.loop-uid.uid-index in
-    let all = c.count-count.ensures.count in
-    let own : List ℕ = listed_at c.args.table.now c.count-count.result c.in-Some.bridge c.args.share in
-    let items = c.in_ok-extend_from_slice.ensures.items ∙ ap (λ (ys : List ℕ). c.loop-uid.given.items ++ ys) c.offer_of.ensures in
-    (λ k. option_map (λ ms. items k ++ ms) (all_given (map (at_uid nodes c.args.table.now c.args.share) (drop (i + 1) uids))))
-    ∙ uid_step nodes c.args.table.now c.args.share i uids c.loop-uid.given.items own (all_given (map (at_uid nodes c.args.table.now c.args.share) uids)) c.loop-uid-test.true c.loop-uid.invariant
-    (ap (option_and_then (λ b. some_of (listed_at c.args.table.now (length nodes) b c.args.share))) (sym c.in-Some.ensures.bridge)
-    ∙ ap (λ (k : ℕ). some_of (listed_at c.args.table.now k c.in-Some.bridge c.args.share)) (sym all)
-    ∙ full own c.gives.result c.gives.ensures c.if-not-gives.false)
+    let all : Option (List ℕ) = all_given (map f uids) in
+    let known : KnownTree s.nodes = record { tree = c.requires.ready.system.tree; laws = c.tree_laws.ensures.laws s.nodes c.requires.ready.system.tree } in
+    let most = few_ways want.ways c.requires.sound.ways in
+    let less = div-le_self want.ways c.ways.result in
+    let share : ℕ = want.ways / c.ways.result in
+    let within = target_within known (get_or uids i 0) c.in-Some.bridge (sym c.in-Some.ensures.bridge) in
+    let at : f (get_or uids i 0) ≡ gives s want w c.args.start c.in-Some.bridge share =
+    ap (option_and_then (λ b. gives s want w c.args.start b (want.ways / w.ways))) (sym c.in-Some.ensures.bridge)
+    ∙ ap (λ (k : ℕ). gives s want w c.args.start c.in-Some.bridge (want.ways / k)) (sym c.ways.ensures.value) in
+    let some = known_some s known want w c.args.start c.in-Some.bridge share c.ask.new.gifts c.in_ok-ask.ensures.gifts c.in_ok-ask.ensures.asked within (omega (arith, most, less)) c.in_ok-ask.ensures.here in
+    let own : List ℕ = unwrap_or (gives s want w c.args.start c.in-Some.bridge share) [] in
+    let full = some_list (gives s want w c.args.start c.in-Some.bridge share) (sym some ∙ ap (λ (n : ℕ). not (n == 0)) (sym c.known_at.ensures) ∙ ap not (ne_eqb c.known_at.result 0 c.if-known_at-eq0.false)) in
+    let items : c.give.new.given.items ≡ c.loop-uid.given.items ++ own = c.in_ok-give.ensures in (
+      c.in_ok-ask.ensures.gifts,
+      c.in_ok-ask.ensures.asked,
+      (λ k. option_map (λ ms. items k ++ ms) (all_given (map f (drop (i + 1) uids)))) ∙ uid_step f i uids c.loop-uid.given.items own all c.loop-uid-test.true c.loop-uid.invariant.2 (at ∙ full),
+    )
 
-pub returns : goal.returns
-returns c =
-    let nodes = c.args.topo.now.nodes in
-    let uids : List ℕ = c.args.targets.now in
-    uid_end nodes c.args.table.now c.args.share c.loop-uid.uid-index uids c.loop-uid.given.items (all_given (map (at_uid nodes c.args.table.now c.args.share) uids)) c.loop-uid-test.false c.loop-uid.invariant
+pub loop-uid-init : goal.loop-uid-init
+loop-uid-init c =
+    let s : System = as_system c.args.host.now in
+    let f : ℕ → Option (List ℕ) = at_uid s c.args.want.now c.args.w.now c.args.start in (
+      c.requires.gifts,
+      c.requires.asked,
+      ap (λ (xs : List ℕ). option_map (λ ms. xs ++ ms) (all_given (map f c.targets-targets.result.now))) c.new-given.ensures.items ∙ nothing_before (all_given (map f c.targets-targets.result.now)),
+    )
+  where
+    nothing_before : (o : Option (List ℕ)) → option_map (λ ms. [] ++ ms) o ≡ o
+    nothing_before None = refl
+    nothing_before (Some ms) = refl
+
+pub returns-clause-given : goal.returns-clause-given
+returns-clause-given c =
+    let s : System = as_system c.args.host.now in
+    let want = c.args.want.now in
+    let w = c.args.w.now in
+    let f : ℕ → Option (List ℕ) = at_uid s want w c.args.start in
+    let uids : List ℕ = c.targets-targets.result.now in
+    let i : ℕ = c.loop-uid.uid-index in
+    let all : Option (List ℕ) = all_given (map f uids) in
+    uid_end f i uids c.loop-uid.given.items all c.loop-uid-test.false c.loop-uid.invariant.2 ∙ ap (λ (us : List ℕ). all_given (map f us)) c.targets-targets.ensures.value

@@ -45,7 +45,7 @@ returns-in-Some c =
 
 pub loop-w-preserved : goal.loop-w-preserved
 loop-w-preserved c = (
-  c.in_ok-given.ensures.kept,
+  c.in_ok-given.ensures.tables,
   λ k v less there.
       let s : System = as_system c.args.host.now in
       let want : Want = c.args.want.now in
@@ -67,5 +67,5 @@ returns c = λ place w at.
     let past = c.loop-w-test.false in
     c.loop-w.invariant.1 place w (omega (arith, within, past)) at
 
-pub pick_in-requires-clause-kept : goal.pick_in-requires-clause-kept
-pick_in-requires-clause-kept c = c.loop-w.invariant.0
+pub pick_in-requires-clause-tables : goal.pick_in-requires-clause-tables
+pick_in-requires-clause-tables c = c.loop-w.invariant.0

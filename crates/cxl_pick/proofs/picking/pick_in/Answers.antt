@@ -1,29 +1,37 @@
-use Rattle.std.proofs.Common.{◌≡◌, ℕ, ◌/◌, map, Vec, Global, sym, ◌∙◌}
-use Rattle.std.specs.Prelude.{option_map}
-use Rattle.cxl_topo.proofs.Trees.{KnownTree}
+use Rattle.std.proofs.Common.{◌≡◌, ℕ, ◌/◌, map, List, Vec, Global, sym, subst, ◌∙◌}
+use Rattle.std.specs.Prelude.{option_map, All}
+use Rattle.std.proofs.lemmas.List.Elements.{All-set}
 use Rattle.cxl_model.specs.Hosts.{as_system}
 use Rattle.cxl_model.specs.System.{System}
 use Rattle.cxl_pick.specs.Picking.{all_given, given_in}
-use Rattle.cxl_pick.proofs.Offering.{if_ok}
-use Rattle.cxl_pick.proofs.Givings.{at_uid}
-use Rattle.cxl_pick.proofs.Settled.{given_by_table}
+use Rattle.cxl_pick.specs.declared.gifts.Gifts.{Gifts}
+use Rattle.cxl_pick.specs.inner.Gifts.{AreGifts, IsAsked}
+use Rattle.cxl_pick.proofs.Settled.{at_uid, given_from, if_ok, on_ok, item_there}
 use Rattle.cxl_pick.proofs.picking.pick_in.Goals as goal
+
+pub all_given-requires-clause-gifts : goal.all_given-requires-clause-gifts
+all_given-requires-clause-gifts c =
+    let s : System = as_system c.args.host.now in
+    let at = item_there c.table_for.new.tables.items c.in_ok-place.place (λ gifts. IsAsked c.args.want.now gifts c.args.w.now c.in-Some.start) c.index_mut.result.now c.in_ok-place.ensures.asked in
+    subst (AreGifts s c.args.want.now) (sym c.index_mut.ensures.value) (c.in_ok-place.ensures.tables c.in_ok-place.place c.index_mut.result.now at.0)
+
+pub all_given-requires-clause-asked : goal.all_given-requires-clause-asked
+all_given-requires-clause-asked c =
+    let at = item_there c.table_for.new.tables.items c.in_ok-place.place (λ gifts. IsAsked c.args.want.now gifts c.args.w.now c.in-Some.start) c.index_mut.result.now c.in_ok-place.ensures.asked in
+    subst (λ (gifts : Gifts). IsAsked c.args.want.now gifts c.args.w.now c.in-Some.start) (sym c.index_mut.ensures.value) at.1
+
+pub returns-clause-tables : goal.returns-clause-tables
+returns-clause-tables c =
+    let s : System = as_system c.args.host.now in
+    on_ok c.all_given.result (AreGifts s c.args.want.now c.all_given.new.gifts) _
+    (λ own. All-set (AreGifts s c.args.want.now) c.table_for.new.tables.items c.in_ok-place.place c.all_given.new.gifts own c.in_ok-place.ensures.tables)
+    c.all_given.ensures.gifts
 
 pub returns-clause-given : goal.returns-clause-given
 returns-clause-given c =
     let s : System = as_system c.args.host.now in
-    let known : KnownTree s.nodes = record { tree = c.requires.ready.system.tree; laws = c.tree_laws.ensures.laws s.nodes c.requires.ready.system.tree } in
     let want = c.args.want.now in
     let w = c.args.w.now in
-    let table = c.renew.new.kept.table.items in
-    let read = c.deref.ensures.value in
-    let targets = c.targets.ensures.value in
-    let ways = c.ways.ensures.value in
-    let is : all_given (map (at_uid s.nodes table (want.ways / w.ways)) w.targets) ≡ given_in s want w =
-    given_by_table s known want w c.in-Some.start table c.in_ok-renew.ensures.offers c.in_ok-renew.ensures.count c.requires.sound.ways c.index-index.ensures.window.ways_known
-    (sym c.can_take.ensures ∙ c.if-not-can_take.false) (sym c.in-Some.ensures) in
-    if_ok c.all_given.result
-    (λ o. option_map (λ (given : Vec ℕ Global). given.items) o ≡ all_given (map (at_uid s.nodes c.deref.result.now (want.ways / c.ways.result)) c.targets.result.now))
-    (λ o. option_map (λ (given : Vec ℕ Global). given.items) o ≡ given_in s want w)
-    (λ o given. given ∙ (λ k. all_given (map (at_uid s.nodes (read k) (want.ways / ways k)) (targets k))) ∙ is)
-    c.all_given.ensures
+    if_ok c.all_given.result (λ o. option_map (λ (given : Vec ℕ Global). given.items) o ≡ all_given (map (at_uid s want w c.in-Some.start) w.targets)) (λ o. option_map (λ (given : Vec ℕ Global). given.items) o ≡ given_in s want w)
+    (λ o given. given ∙ given_from s want w c.in-Some.start (sym c.can_take.ensures ∙ c.if-not-can_take.false) (sym c.in-Some.ensures.start))
+    c.all_given.ensures.given
