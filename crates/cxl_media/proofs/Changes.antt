@@ -1,5 +1,5 @@
 -- A block is added to a table at the cell where its probe stops, or taken out of it.
-use Rattle.std.proofs.Common.{◌≡◌, ◌≢◌, ◌⊎◌, ℕ, suc, ◌+◌, ◌<◌, ◌≤◌, cond, length, set, Option, None, Some, IsSome, is_some, count_by, sym, ap, subst, ◌∙◌, inl, inr, arith}
+use Rattle.std.proofs.Common.{◌≡◌, ◌≢◌, ◌⊎◌, ℕ, suc, ◌+◌, ◌<◌, ◌≤◌, cond, length, set, Option, None, Some, IsSome, is_some, count_by, refl, sym, ap, subst, ◌∙◌, inl, inr, arith}
 use Rattle.std.proofs.lemmas.Bool.{cases_eq, false≢true, cond-true, cond-false}
 use Rattle.std.proofs.lemmas.List.{get_or-set_same, get_or-set_other, length-set}
 use Rattle.std.proofs.lemmas.List.Sums.{sum_by-set}
@@ -16,6 +16,38 @@ taken_is_some o p e = ap is_some e
 
 pub none_is_not : (o : Option Cell) → o ≡ None → IsSome o → ⊥
 none_is_not o e taken = false≢true (sym (ap is_some e) ∙ taken)
+
+-- a block stands in a table besides those of another
+pub frames_with : (old new : Cells) (p : Cell) → IsOnce old → IsOnce new → Stands new (key_at p) p → ((q : Key) (r : Cell) → Stands old q r → Stands new q r) → ((q : Key) (r : Cell) → Stands new q r → (q ≡ key_at p) ⊎ Stands old q r) → frames_in new ≡ fin.insert (frames_in old) (key_at p) p.frame
+frames_with old new p once still here kept back =
+    maps_alike (items_in new) _ (λ q.
+    elim (keys_cases q (key_at p)) [
+      | inl same ↦
+          find_stands new q p still (record { at = here.at; is = here.is; key = here.key ∙ sym same })
+          ∙ sym (cond-true _ (Some p.frame) (fin.get (frames_in old) q) (key_is q (key_at p) same))
+          ∙ sym (fin.get-insert key_total (frames_in old) (key_at p) p.frame q)
+      | inr other ↦
+          same_find old new q once still (kept q) (λ r s. elim (back q r s) [ inl same ↦ absurd (other same) | inr was ↦ was ])
+          ∙ sym (get_frames old q)
+          ∙ sym (cond-false _ (Some p.frame) (fin.get (frames_in old) q) (key_is_not q (key_at p) other))
+          ∙ sym (fin.get-insert key_total (frames_in old) (key_at p) p.frame q)
+    ])
+
+-- all blocks of a table stand in another but one
+pub frames_without : (old new : Cells) (p : Cell) → IsOnce old → IsOnce new → ((q : Key) (r : Cell) → Stands new q r → (q ≢ key_at p) × Stands old q r) → ((q : Key) (r : Cell) → q ≢ key_at p → Stands old q r → Stands new q r) → frames_in new ≡ fin.remove (frames_in old) (key_at p)
+frames_without old new p once still back kept =
+    maps_alike (items_in new) _ (λ q.
+    elim (keys_cases q (key_at p)) [
+      | inl same ↦
+          find_nowhere_stands new q (λ r s. (back q r s).0 same)
+          ∙ sym (cond-true _ None (fin.get (frames_in old) q) (key_is q (key_at p) same))
+          ∙ sym (fin.get-remove key_total (frames_in old) (key_at p) q)
+      | inr other ↦
+          same_find old new q once still (λ r s. kept q r other s) (λ r s. (back q r s).1)
+          ∙ sym (get_frames old q)
+          ∙ sym (cond-false _ None (fin.get (frames_in old) q) (key_is_not q (key_at p) other))
+          ∙ sym (fin.get-remove key_total (frames_in old) (key_at p) q)
+    ])
 
 -- what stands at each cell after one was written
 module _ (cells : Cells) (at : ℕ) (o : Option Cell) (within : at < length cells) where
@@ -86,23 +118,12 @@ module _ (home : Key → ℕ) (cells : Cells) (at : ℕ) (p : Cell) (table : IsT
 
   pub added_frames : frames_in (set cells at (Some p)) ≡ fin.insert (frames_in cells) (key_at p) p.frame
   added_frames =
-      maps_alike (items_in (set cells at (Some p))) _ (λ q.
-      let old = get_frames cells q in
-      elim (keys_cases q (key_at p)) [
-        | inl same ↦
-            find_stands (set cells at (Some p)) q p added_once (record { at = at; is = here cells at (Some p) within; key = sym same })
-            ∙ sym (cond-true _ (Some p.frame) (fin.get (frames_in cells) q) (key_is q (key_at p) same))
-            ∙ sym (fin.get-insert key_total (frames_in cells) (key_at p) p.frame q)
-        | inr other ↦
-            same_find cells (set cells at (Some p)) q table.once added_once
-            (λ r s. record { at = s.at; is = kept_cell s.at r s.is; key = s.key })
-            (λ r s. elim (new_cell s.at r s.is) [
-              | inl first ↦ absurd (other (sym s.key ∙ ap key_at first.1))
-              | inr first ↦ record { at = s.at; is = first.1; key = s.key }
-            ])
-            ∙ sym old
-            ∙ sym (cond-false _ (Some p.frame) (fin.get (frames_in cells) q) (key_is_not q (key_at p) other))
-            ∙ sym (fin.get-insert key_total (frames_in cells) (key_at p) p.frame q)
+      frames_with cells (set cells at (Some p)) p table.once added_once
+      (record { at = at; is = here cells at (Some p) within; key = refl })
+      (λ q r s. record { at = s.at; is = kept_cell s.at r s.is; key = s.key })
+      (λ q r s. elim (new_cell s.at r s.is) [
+        | inl first ↦ inl (sym s.key ∙ ap key_at first.1)
+        | inr first ↦ inr (record { at = s.at; is = first.1; key = s.key })
       ])
 
   pub added_count : count_by is_some (set cells at (Some p)) ≡ suc (count_by is_some cells)
@@ -135,21 +156,10 @@ module _ (home : Key → ℕ) (cells : Cells) (at : ℕ) (p : Cell) (table : IsT
 
   pub left_frames : frames_in (set cells at None) ≡ fin.remove (frames_in cells) (key_at p)
   left_frames =
-      maps_alike (items_in (set cells at None)) _ (λ q.
-      elim (keys_cases q (key_at p)) [
-        | inl same ↦
-            find_nowhere_stands (set cells at None) q (λ r s.
-            let found = left_cell s.at r s.is in
-            found.0 (table.once s.at at r p found.1 is_here (s.key ∙ same)))
-            ∙ sym (cond-true _ None (fin.get (frames_in cells) q) (key_is q (key_at p) same))
-            ∙ sym (fin.get-remove key_total (frames_in cells) (key_at p) q)
-        | inr other ↦
-            same_find cells (set cells at None) q table.once left_once
-            (λ r s.
-            let apart : s.at ≢ at = λ same. other (sym s.key ∙ ap key_at (same_some r p (sym s.is ∙ ap (cell_at cells) same ∙ is_here))) in
-            record { at = s.at; is = elsewhere cells at None within s.at apart ∙ s.is; key = s.key })
-            (λ r s. record { at = s.at; is = (left_cell s.at r s.is).1; key = s.key })
-            ∙ sym (get_frames cells q)
-            ∙ sym (cond-false _ None (fin.get (frames_in cells) q) (key_is_not q (key_at p) other))
-            ∙ sym (fin.get-remove key_total (frames_in cells) (key_at p) q)
-      ])
+      frames_without cells (set cells at None) p table.once left_once
+      (λ q r s.
+      let found = left_cell s.at r s.is in
+      (λ same. found.0 (table.once s.at at r p found.1 is_here (s.key ∙ same)), record { at = s.at; is = found.1; key = s.key }))
+      (λ q r other s.
+      let apart : s.at ≢ at = λ same. other (sym s.key ∙ ap key_at (same_some r p (sym s.is ∙ ap (cell_at cells) same ∙ is_here))) in
+      record { at = s.at; is = elsewhere cells at None within s.at apart ∙ s.is; key = s.key })

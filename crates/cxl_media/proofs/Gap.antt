@@ -1,17 +1,15 @@
 -- The cells after a hole are gone through, and blocks that a probe would not meet any more are moved down into it.
-use Rattle.std.proofs.Common.{◌≡◌, ◌≢◌, ◌⊎◌, ℕ, ◌+◌, ◌<◌, ◌≤◌, length, take, get_or, set, Bool, Option, None, Some, IsSome, refl, sym, ap, subst, ◌∙◌, inl, inr, arith}
-use Rattle.std.specs.Prelude.{swap, IfSome}
-use Rattle.std.specs.FinMap.{remove}
-use Rattle.std.proofs.lemmas.Bool.{cases_eq, cases_order, cases_lt, false≢true}
+use Rattle.std.proofs.Common.{◌≡◌, ◌≢◌, ◌⊎◌, ℕ, ◌+◌, ◌<◌, ◌≤◌, length, get_or, Option, None, Some, IsSome, refl, sym, ap, subst, ◌∙◌, inl, inr, arith}
+use Rattle.std.specs.Prelude.{swap}
+use Rattle.std.proofs.lemmas.Bool.{cases_eq, cases_order, cases_lt}
 use Rattle.std.proofs.lemmas.List.{get_or_past}
 use Rattle.std.proofs.lemmas.List.Edits.{Swapped, swapped_from_swap, length-swap}
 use Rattle.cxl_media.specs.declared.cell.Cell.{Cell}
 use Rattle.cxl_media.specs.Blocks.{Key}
-use Rattle.cxl_media.specs.Table.{key_at, Cells, cell_at, frames_in, IsOnce, IsTable, HasHole, NonePass}
+use Rattle.cxl_media.specs.Table.{key_at, Cells, cell_at, IsOnce, IsTable, HasHole}
 use Rattle.cxl_media.proofs.Keys.{not_none, same_some}
 use Rattle.cxl_media.proofs.Tables.{Stands}
-use Rattle.cxl_media.proofs.Below.{take-swap}
-use Rattle.cxl_media.proofs.Changes.{taken_is_some, none_is_not, elsewhere, left_hole, left_frames}
+use Rattle.cxl_media.proofs.Changes.{taken_is_some, none_is_not}
 
 -- the cells from the first hole up to `at` were gone through, and the hole is now here
 pub record IsClosing (home : Key → ℕ) (first cells : Cells) (from hole at : ℕ) : Type 0 where
@@ -26,9 +24,6 @@ pub record IsClosing (home : Key → ℕ) (first cells : Cells) (from hole at : 
   pub reach : (k : ℕ) (p : Cell) → cell_at cells k ≡ Some p → (m : ℕ) → home (key_at p) ≤ m → m < k → (m ≢ hole) ⊎ (k < at) → IsSome (cell_at cells m)
   pub kept : (q : Key) (p : Cell) → Stands first q p → Stands cells q p
   pub back : (q : Key) (p : Cell) → Stands cells q p → Stands first q p
-  pub below : take from cells ≡ take from first
-  -- what stands from the first hole on stood above it
-  pub later : (k : ℕ) (p : Cell) → from ≤ k → cell_at cells k ≡ Some p → (m : ℕ) × (from < m) × (cell_at first m ≡ Some p)
 
 pub closing_first : (home : Key → ℕ) (cells : Cells) (hole : ℕ) → HasHole home cells hole → IsClosing home cells cells hole hole (hole + 1)
 closing_first home cells hole has = record {
@@ -47,10 +42,6 @@ closing_first home cells hole has = record {
   ];
   kept = λ q p s. s;
   back = λ q p s. s;
-  later = λ k p from is.
-      let other : k ≢ hole = λ same. not_none p (sym is ∙ ap (cell_at cells) same ∙ has.empty) in
-      (k, omega arith, is);
-  below = refl;
 }
 
 -- a block stands within the table
@@ -112,8 +103,6 @@ module _ (home : Key → ℕ) (first cells : Cells) (from hole at : ℕ) (closin
       ];
       kept = closing.kept;
       back = closing.back;
-      later = closing.later;
-      below = closing.below;
     }
 
     -- the block at this cell goes into the hole
@@ -200,34 +189,4 @@ module _ (home : Key → ℕ) (first cells : Cells) (from hole at : ℕ) (closin
         reach = moved_reach;
         kept = λ q r s. moved_stands q r (closing.kept q r s);
         back = λ q r s. closing.back q r (stood q r s);
-        below = take-swap cells from hole at closing.low (omega (arith, closing.low, closing.high)) (omega (arith, closing.high, inside)) inside ∙ closing.below;
-        later = λ k q low is. elim (new_cell k q is) [
-          | inl one ↦
-              let found = closing.later at p (omega (arith, closing.low, closing.high)) is_here in
-              (found.0, found.1, found.2 ∙ ap (λ (x : Cell). Some x) (sym one.1))
-          | inr one ↦ closing.later k q low one.2
-        ];
       }
-
-pub some_of : (o : Option Cell) → IsSome o → (p : Cell) × (o ≡ Some p)
-some_of None taken = absurd (false≢true taken)
-some_of (Some p) taken = (p, refl)
-
--- a block was taken out
-module _ (home : Key → ℕ) (cells : Cells) (at : ℕ) (table : IsTable home cells) (taken : IsSome (cell_at cells at)) where
-  pub out_within : at < length cells
-  out_within = let found = some_of (cell_at cells at) taken in cell_within cells at found.0 found.1
-
-  pub out_hole : HasHole home (set cells at None) at
-  out_hole =
-      let found = some_of (cell_at cells at) taken in
-      left_hole home cells at found.0 table out_within found.1
-
-  pub out_frames : (o : Option Cell) → o ≡ cell_at cells at → IfSome o (λ p. frames_in (set cells at None) ≡ remove (frames_in cells) (key_at p))
-  out_frames None is = tt
-  out_frames (Some p) is = left_frames home cells at p table out_within (sym is)
-
-  pub out_later : (test : Key → Bool) → NonePass test cells (at + 1) → NonePass test (set cells at None) (at + 1)
-  out_later test later k p above is =
-      let other : k ≢ at = omega arith in
-      later k p above (sym (elsewhere cells at None out_within k other) ∙ is)

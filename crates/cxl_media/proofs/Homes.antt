@@ -1,13 +1,15 @@
 -- A probe from any home meets an empty cell.
-use Rattle.std.proofs.Common.{ℕ, zero, suc, ◌+◌, ◌*◌, ◌/◌, ◌^◌, ◌<◌, ◌≤◌, cond, [], ◌∷◌, length, Option, None, Some, IsSome, is_some, inl, inr, count_by, refl, arith}
+use Rattle.std.proofs.Common.{ℕ, zero, suc, ◌+◌, ◌*◌, ◌/◌, ◌^◌, ◌<◌, ◌≤◌, cond, [], ◌∷◌, length, Option, None, Some, IsSome, is_some, inl, inr, count_by, refl, ap, arith}
 use Rattle.std.proofs.Math.Nat.{div-lt_iff_lt-mul}
 use Rattle.std.proofs.lemmas.Bool.{cases_lt, false≢true}
 use Rattle.std.proofs.lemmas.List.Sums.{sum_by-cons}
+use Rattle.std.specs.FinMap.{len}
 use Rattle.cxl_media.specs.declared.cell.Cell.{Cell}
 use Rattle.cxl_media.specs.Blocks.{Key}
 use Rattle.cxl_media.specs.Table.{Cells, cell_at, AreTaken, StopsProbe, IsStop}
 use Rattle.cxl_media.specs.Hash.{mixed, home_of}
 use Rattle.cxl_media.specs.Index.{IsIndex}
+use Rattle.cxl_media.proofs.Tables.{len_frames}
 
 mixed_fits : (key : Key) → mixed key < 2 ^ 64
 unfolding mixed
@@ -39,12 +41,17 @@ pub passed_taken : (key : Key) (o : Option Cell) → ¬ (StopsProbe key o) → I
 passed_taken key None goes = absurd (goes tt)
 passed_taken key (Some p) goes = refl
 
+-- there are no more blocks than there is room for
+pub cells_few : (cells kept : Cells) (room : ℕ) → IsIndex cells kept room → count_by is_some cells ≤ room
+cells_few cells kept room index =
+    omega (arith, len_frames cells index.table.once, ap len index.same, len_frames kept index.once, index.whole, index.few)
+
 -- a probe meets the block or an empty cell
-pub stop_meets : (cells : Cells) (room : ℕ) (key : Key) (at : ℕ) → IsIndex cells room → IsStop cells (home_of (2 * room) key) key at → 0 < room → at < length cells
-stop_meets cells room key at index stop some =
+pub stop_meets : (cells kept : Cells) (room : ℕ) (key : Key) (at : ℕ) → IsIndex cells kept room → IsStop cells (home_of (2 * room) key) key at → 0 < room → at < length cells
+stop_meets cells kept room key at index stop some =
     elim (cases_lt at (length cells)) [
       | inl within ↦ within
       | inr past ↦
           let taken = taken_from cells (home_of (2 * room) key) (λ m low high. passed_taken key (cell_at cells m) (stop.passed m low (omega (arith, high, past)))) in
-          absurd (omega (arith, taken, home_below (2 * room) key (omega arith), index.few, index.size))
+          absurd (omega (arith, taken, home_below (2 * room) key (omega arith), cells_few cells kept room index, index.size))
     ]

@@ -3,10 +3,11 @@ pub mod Items
 pub mod Zeros
 pub mod Plain
 pub mod Tables
-pub mod Below
 pub mod Changes
 pub mod Gap
+pub mod Parts
 pub mod CellLists
+pub mod Kept
 pub mod Homes
 pub mod Indexed
 pub mod Values

@@ -76,7 +76,7 @@ plain_told blocks frames p i b view within read =
     (λ inside. item_told blocks i b (omega (arith, inside, length-map (items_of blocks) (λ (e : Key × List ℕ). Some e.0), length-map blocks item_of)) read)
     within
 
--- a place for each cell
+-- a place tells its block
 cell_told : (cells : Cells) (i : ℕ) (p : Cell) → cell_at cells i ≡ Some p → key_at_place (map (option_map key_at) cells) i ≡ Some (key_at p)
 cell_told cells i p is =
     get_or-map (option_map key_at) cells i None None (cell_within cells i p is) ∙ ap (option_map key_at) is

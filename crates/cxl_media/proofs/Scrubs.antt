@@ -1,128 +1,120 @@
--- The index is gone through from its last cell down, and each block that passes a test is taken out.
-use Rattle.std.proofs.Common.{◌≡◌, ◌≢◌, ℕ, ◌+◌, ◌-◌, ◌≤◌, Bool, true, false, cond, not, List, length, take, set, Option, None, Some, is_some, count_by, refl, sym, ap, subst, ◌∙◌, inl, inr, arith}
+-- Blocks that pass a test are taken out of the media one after the other.
+use Rattle.std.proofs.Common.{◌≡◌, ◌≢◌, ℕ, ◌+◌, ◌*◌, ◌/◌, ◌%◌, ◌<◌, ◌≤◌, Bool, true, false, cond, not, ◌&&◌, eqb, leb, ltb, List, length, set, Option, None, Some, refl, sym, ap, subst, ◌∙◌, inl, inr, arith}
 use Rattle.std.specs.Prelude.{IfSome}
 use Rattle.std.specs.Option.{option_map}
-use Rattle.std.proofs.lemmas.Bool.{cases_eq, cases_lt, cases_Bool, false≢true}
+use Rattle.std.proofs.lemmas.Bool.{cases_Bool, cond-true, cond-false, false≢true}
+use Rattle.std.proofs.lemmas.Bool.Decides.{nat_tests}
 use Rattle.std.proofs.lemmas.List.{length-set}
 use Rattle.std.specs.FinMap as fin
 use Rattle.cxl_pool.specs.Pool.{Frames, IsOut, free_count}
 use Rattle.cxl_media.specs.declared.cell.Cell.{Cell}
-use Rattle.cxl_media.specs.Blocks.{Key}
-use Rattle.cxl_media.specs.Table.{key_at, cell_at, frames_in, IsOnce, passes, NonePass}
+use Rattle.cxl_media.specs.Blocks.{Key, is_between}
+use Rattle.cxl_media.specs.Table.{Cells, key_at, cell_at, frames_in, passes, NonePass}
 use Rattle.cxl_media.specs.Index.{Table}
 use Rattle.cxl_media.specs.Sim.{Sim, sim_of, blocks_of, IsSim}
-use Rattle.cxl_media.proofs.Keys.{key_total, key_exact}
+use Rattle.cxl_media.proofs.Keys.{key_total, key_exact, key_is, key_is_not, keys_cases}
 use Rattle.cxl_media.proofs.Tables.{find_absent, get_frames}
-use Rattle.cxl_media.proofs.Gap.{cell_within}
-use Rattle.cxl_media.proofs.Below.{blocks_below, blocks_below-next, blocks_below-all, taken_below}
 use Rattle.cxl_media.proofs.Sims.{held_by, get_block, len_blocks, dropped_sim, dropped_other}
 
--- the cells from `at` on were gone through, and so many blocks are ahead
-pub record IsScrubbing (test : Key → Bool) (first : Sim) (pool : Frames) (table : Table) (at rest : ℕ) : Type 0 where
+-- a block that passes stands there
+pub passes_at : (test : Key → Bool) (o : Option Cell) → passes test o ≡ true → (p : Cell) × (o ≡ Some p) × (test (key_at p) ≡ true)
+passes_at test None passed = absurd (false≢true passed)
+passes_at test (Some p) passed = (p, refl, passed)
+
+-- a block between two device addresses, by its number
+pub between_here : (ep from to number : ℕ) → from % 256 ≡ 0 → from / 256 ≤ number → number < to / 256 → is_between ep from to (ep, number) ≡ true
+between_here ep from to number whole low high =
+    let above : from ≤ 256 * number = omega (arith, whole, low) in
+    let below : 256 * number < to = omega (arith, high) in
+    both ep (256 * number) above below
+  where
+    both : (e n : ℕ) → from ≤ n → n < to → (eqb e e && (leb from n && ltb n to)) ≡ true
+    both e n above below = grind (arith, nat_tests)
+
+pub record IsNumbered (ep from to : ℕ) (key : Key) : Type 0 where
+  pub its : key ≡ (ep, key.1)
+  pub low : from / 256 ≤ key.1
+  pub high : key.1 < to / 256
+
+pub between_numbers : (ep from to : ℕ) (key : Key) → to % 256 ≡ 0 → is_between ep from to key ≡ true → IsNumbered ep from to key
+between_numbers ep from to key whole passed =
+    let facts = told key.0 (256 * key.1) passed in
+    record {
+      its = ap (λ (e : ℕ). (e, key.1)) facts.0;
+      low = omega (arith, facts.1);
+      high = omega (arith, facts.2, whole);
+    }
+  where
+    told : (e n : ℕ) → (eqb e ep && (leb from n && ltb n to)) ≡ true → (e ≡ ep) × (from ≤ n) × (n < to)
+    told e n passed = (grind (arith, nat_tests), grind (arith, nat_tests), grind (arith, nat_tests))
+
+-- none but blocks that pass were taken out
+pub record IsScrubbed (test : Key → Bool) (first : Sim) (pool : Frames) (table : Table) : Type 0 where
   pub sim : IsSim (sim_of pool table.cells) table.room
   pub total : length pool ≡ length first.pool
   pub kept : (q : Key) → test q ≡ false → fin.get (blocks_of (sim_of pool table.cells)) q ≡ fin.get (blocks_of first) q
-  pub none : NonePass test table.cells at
-  pub ahead : blocks_below table.cells at ≡ rest
 
-pub scrubbing_first : (test : Key → Bool) (pool : Frames) (table : Table) (at ahead : ℕ) → IsSim (sim_of pool table.cells) table.room → IsOnce table.cells → at ≡ length table.cells → ahead ≡ length pool - free_count pool → IsScrubbing test (sim_of pool table.cells) pool table at ahead
-scrubbing_first test pool table at ahead sim once past rest = record {
-  sim = sim;
-  total = refl;
-  kept = λ q outside. refl;
-  none = λ k p low is. absurd (omega (arith, past, low, cell_within table.cells k p is));
-  ahead = ap (blocks_below table.cells) past ∙ blocks_below-all pool table.cells once sim.counted ∙ sym rest;
-}
+pub scrubbed_first : (test : Key → Bool) (pool : Frames) (table : Table) → IsSim (sim_of pool table.cells) table.room → IsScrubbed test (sim_of pool table.cells) pool table
+scrubbed_first test pool table sim = record { sim = sim; total = refl; kept = λ q outside. refl }
 
-module _ (test : Key → Bool) (first : Sim) (pool : Frames) (table : Table) (at ahead : ℕ) (before : IsScrubbing test first pool table (at + 1) ahead) where
-  -- one block fewer is ahead, where one stands here
-  one_fewer : (count : ℕ) → count ≡ cond (is_some (cell_at table.cells at)) 1 0 → blocks_below table.cells at ≡ ahead - count
-  one_fewer count is = omega (arith, is, before.ahead, blocks_below-next table.cells at)
+-- the block at a place is taken out, and its frame is given back
+module _ (test : Key → Bool) (first : Sim) (pool : Frames) (table : Table) (before : IsScrubbed test first pool table) (place n : ℕ) (p : Cell) (is_here : cell_at table.cells place ≡ Some p) (after : Table) (frame : IfSome (cell_at table.cells place) (λ q. fin.get (frames_in table.cells) (key_at q) ≡ Some n)) (removed : IfSome (cell_at table.cells place) (λ q. frames_in after.cells ≡ fin.remove (frames_in table.cells) (key_at q))) where
+  there : fin.get (frames_in table.cells) (key_at p) ≡ Some n
+  there = subst (λ (o : Option Cell). IfSome o (λ q. fin.get (frames_in table.cells) (key_at q) ≡ Some n)) is_here frame
 
-  pub counts_ahead : (count : ℕ) → count ≡ cond (is_some (cell_at table.cells at)) 1 0 → count ≤ ahead
-  counts_ahead count is = omega (arith, is, before.ahead, blocks_below-next table.cells at)
+  left : frames_in after.cells ≡ fin.remove (frames_in table.cells) (key_at p)
+  left = subst (λ (o : Option Cell). IfSome o (λ q. frames_in after.cells ≡ fin.remove (frames_in table.cells) (key_at q))) is_here removed
 
-  -- the block at this cell stays, or there is none
-  pub scrub_skips : (count : ℕ) → count ≡ cond (is_some (cell_at table.cells at)) 1 0 → passes test (cell_at table.cells at) ≡ false → IsScrubbing test first pool table at (ahead - count)
-  scrub_skips count is stays = record {
-    sim = before.sim;
-    total = before.total;
-    kept = before.kept;
-    none = λ k p low is. elim (cases_eq k at) [
-      | inl here ↦ ap (passes test) (sym is ∙ ap (cell_at table.cells) here) ∙ stays
-      | inr other ↦ before.none k p (omega arith) is
-    ];
-    ahead = one_fewer count is;
+  -- the frame that is given back is out
+  pub gone_out : IsOut pool n
+  gone_out = before.sim.out (key_at p) n there
+
+  whole : ◌≡◌ {A = Sim} (sim_of (set pool n None) after.cells) (record { pool = set pool n None; frames = fin.remove (frames_in table.cells) (key_at p) })
+  whole = λ i. record { pool = set pool n None; frames = left i }
+
+  pub scrub_drops : after.room ≡ table.room → test (key_at p) ≡ true → IsScrubbed test first (set pool n None) after
+  scrub_drops room tested = record {
+    sim =
+        subst (λ (s : Sim). IsSim s after.room) (sym whole)
+        (subst (λ (r : ℕ). IsSim (record { pool = set pool n None; frames = fin.remove (frames_in table.cells) (key_at p) }) r) (sym room)
+        (dropped_sim (sim_of pool table.cells) table.room before.sim (key_at p) n there));
+    total = length-set {A = Option (List ℕ)} pool n None ∙ before.total;
+    kept = λ q outside.
+        let other : q ≢ key_at p = λ same. false≢true (sym outside ∙ ap test same ∙ tested) in
+        ap (λ (s : Sim). fin.get (blocks_of s) q) whole
+        ∙ dropped_other (sim_of pool table.cells) table.room before.sim (key_at p) n there q other
+        ∙ before.kept q outside;
   }
 
-  -- it is taken out, and its frame is given back
-  module _ (goes : passes test (cell_at table.cells at) ≡ true) (n : ℕ) (after : Table) (frame : IfSome (cell_at table.cells at) (λ p. fin.get (frames_in table.cells) (key_at p) ≡ Some n)) (removed : IfSome (cell_at table.cells at) (λ p. frames_in after.cells ≡ fin.remove (frames_in table.cells) (key_at p))) (later : (test : Key → Bool) → NonePass test table.cells (at + 1) → NonePass test after.cells at) (room : after.room ≡ table.room) (below : take at after.cells ≡ take at table.cells) where
-    here : (p : Cell) × (cell_at table.cells at ≡ Some p)
-    here = by_case (cell_at table.cells at) refl goes
-      where
-        by_case : (o : Option Cell) → cell_at table.cells at ≡ o → passes test o ≡ true → (p : Cell) × (cell_at table.cells at ≡ Some p)
-        by_case None is passed = absurd (false≢true passed)
-        by_case (Some p) is passed = (p, is)
+  pub now_gone : (q : Key) → q ≡ key_at p → fin.get (frames_in after.cells) q ≡ None
+  now_gone q same =
+      ap (λ m. fin.get m q) left ∙ fin.get-remove key_total (frames_in table.cells) (key_at p) q
+      ∙ cond-true _ None (fin.get (frames_in table.cells) q) (key_is q (key_at p) same)
 
-    there : fin.get (frames_in table.cells) (key_at here.0) ≡ Some n
-    there = subst (λ (o : Option Cell). IfSome o (λ p. fin.get (frames_in table.cells) (key_at p) ≡ Some n)) here.1 frame
+  pub still_gone : (q : Key) → fin.get (frames_in table.cells) q ≡ None → fin.get (frames_in after.cells) q ≡ None
+  still_gone q gone =
+      elim (keys_cases q (key_at p)) [
+        | inl same ↦ now_gone q same
+        | inr other ↦
+            ap (λ m. fin.get m q) left ∙ fin.get-remove key_total (frames_in table.cells) (key_at p) q
+            ∙ cond-false _ None (fin.get (frames_in table.cells) q) (key_is_not q (key_at p) other) ∙ gone
+      ]
 
-    left : frames_in after.cells ≡ fin.remove (frames_in table.cells) (key_at here.0)
-    left = subst (λ (o : Option Cell). IfSome o (λ p. frames_in after.cells ≡ fin.remove (frames_in table.cells) (key_at p))) here.1 removed
+-- no block that passes stands at any place
+pub none_left : (test : Key → Bool) (cells : Cells) (at : ℕ) → NonePass test cells at → at ≤ 0 → (q : Key) → test q ≡ true → fin.get (frames_in cells) q ≡ None
+none_left test cells at none end q passed =
+    get_frames cells q
+    ∙ find_absent cells q (λ k p is same. false≢true (sym (none k p (omega (arith, end)) is) ∙ ap test same ∙ passed))
 
-    tested : test (key_at here.0) ≡ true
-    tested = sym (ap (passes test) here.1) ∙ goes
-
-    -- the frame that is given back is out
-    pub gone_out : IsOut pool n
-    gone_out = before.sim.out (key_at here.0) n there
-
-    whole : ◌≡◌ {A = Sim} (sim_of (set pool n None) after.cells) (record { pool = set pool n None; frames = fin.remove (frames_in table.cells) (key_at here.0) })
-    whole = λ i. record { pool = set pool n None; frames = left i }
-
-    pub scrub_drops : (count : ℕ) → count ≡ cond (is_some (cell_at table.cells at)) 1 0 → IsScrubbing test first (set pool n None) after at (ahead - count)
-    scrub_drops count is = record {
-      sim =
-          subst (λ (s : Sim). IsSim s after.room) (sym whole)
-          (subst (λ (r : ℕ). IsSim (record { pool = set pool n None; frames = fin.remove (frames_in table.cells) (key_at here.0) }) r) (sym room)
-          (dropped_sim (sim_of pool table.cells) table.room before.sim (key_at here.0) n there));
-      total = length-set {A = Option (List ℕ)} pool n None ∙ before.total;
-      kept = λ q outside.
-          let other : q ≢ key_at here.0 = λ same. false≢true (sym outside ∙ ap test same ∙ tested) in
-          ap (λ (s : Sim). fin.get (blocks_of s) q) whole
-          ∙ dropped_other (sim_of pool table.cells) table.room before.sim (key_at here.0) n there q other
-          ∙ before.kept q outside;
-      none = later test before.none;
-      ahead = ap (count_by is_some) below ∙ one_fewer count is;
-    }
-
--- no block is ahead, so the rest need not be gone through
-pub scrub_ends : (test : Key → Bool) (first : Sim) (pool : Frames) (table : Table) (at ahead : ℕ) → IsScrubbing test first pool table at ahead → ahead ≡ 0 → IsScrubbing test first pool table 0 0
-scrub_ends test first pool table at ahead before nothing = record {
-  sim = before.sim;
-  total = before.total;
-  kept = before.kept;
-  none = λ k p low is. elim (cases_lt k at) [
-    | inl below ↦ absurd (omega (arith, nothing, before.ahead, taken_below table.cells at k p is below))
-    | inr above ↦ before.none k p above is
-  ];
-  ahead = refl;
-}
-
--- all cells were gone through
-module _ (test : Key → Bool) (first : Sim) (pool : Frames) (table : Table) (ahead : ℕ) (done : IsScrubbing test first pool table 0 ahead) where
-  passing_gone : (q : Key) → test q ≡ true → fin.get (frames_in table.cells) q ≡ None
-  passing_gone q passed =
-      get_frames table.cells q
-      ∙ find_absent table.cells q (λ k p is same. false≢true (sym (done.none k p (omega arith) is) ∙ ap test same ∙ passed))
-
-  pub scrubbed_blocks : blocks_of (sim_of pool table.cells) ≡ fin.retain_keys (blocks_of first) (λ q. not (test q))
-  scrubbed_blocks =
+-- all blocks that pass were taken out
+module _ (test : Key → Bool) (first : Sim) (pool : Frames) (table : Table) (done : IsScrubbed test first pool table) where
+  pub scrubbed_blocks : ((q : Key) → test q ≡ true → fin.get (frames_in table.cells) q ≡ None) → blocks_of (sim_of pool table.cells) ≡ fin.retain_keys (blocks_of first) (λ q. not (test q))
+  scrubbed_blocks gone =
       fin.same_map key_total key_exact _ _ (λ q.
       let kept = fin.get-retain_keys (blocks_of first) (λ k. not (test k)) q (λ x tied. ap (λ k. not (test k)) (sym (key_exact q x tied))) in
       elim (cases_Bool (test q)) [
         | inl passed ↦
-            get_block (sim_of pool table.cells) q ∙ ap (option_map (held_by pool)) (passing_gone q passed)
+            get_block (sim_of pool table.cells) q ∙ ap (option_map (held_by pool)) (gone q passed)
             ∙ sym (ap (λ b. cond (not b) (fin.get (blocks_of first) q) None) passed) ∙ sym kept
         | inr outside ↦
             done.kept q outside

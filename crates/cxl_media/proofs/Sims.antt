@@ -56,10 +56,6 @@ out_within pool n out =
       | inr past ↦ absurd (false≢true (sym (ap is_some (get_or_past pool n None past)) ∙ out))
     ]
 
--- a frame that is free is no block's
-pub free_unused : (s : Sim) (room n : ℕ) → IsSim s room → IsFree s.pool n → (q : Key) → fin.get s.frames q ≢ Some n
-free_unused s room n sim free q is = false≢true (sym (ap is_some free.1) ∙ sim.out q n is)
-
 count-set : (pool : Frames) (n : ℕ) (o : Option (List ℕ)) → n < length pool → free_count (set pool n o) + cond (is_none (frame_bytes pool n)) 1 0 ≡ free_count pool + cond (is_none o) 1 0
 count-set pool n o within = sum_by-set (λ p. cond (is_none p) 1 0) pool n o None within
 

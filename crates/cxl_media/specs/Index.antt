@@ -3,10 +3,11 @@ use Rattle.std.specs.Prelude.{◌≡◌, ℕ, ◌*◌, ◌≤◌, length, count_
 use Rattle.std.specs.Coded.{Coded, code_by, coded×, coded_ℕ, coded_list, coded_option}
 use Rattle.cxl_enc.specs.Limits.{frame_limit}
 use Rattle.cxl_media.specs.declared.cell.Cell.{Cell}
-use Rattle.cxl_media.specs.Table.{Cells, IsTable}
+use Rattle.cxl_media.specs.Table.{Cells, frames_in, IsOnce, IsTable}
 use Rattle.cxl_media.specs.Hash.{home_of}
 
 pub record Table : Type 0 where
+  -- the blocks, each at its place
   pub cells : Cells
   -- how many blocks there is room for
   pub room : ℕ
@@ -27,9 +28,12 @@ coded_table =
     (λ p. record { cells = p.0; room = p.1 }) (λ _. refl)
 
 -- two homes for each block that there is room for, and one cell more for each, so that a probe from any home meets
--- an empty cell
-pub record IsIndex (cells : Cells) (room : ℕ) : Type 0 where
+-- an empty cell; and the cells have the blocks that are kept, each of which stands at one place
+pub record IsIndex (cells kept : Cells) (room : ℕ) : Type 0 where
   pub table : IsTable (home_of (2 * room)) cells
   pub size : length cells ≡ 3 * room
-  pub few : count_by is_some cells ≤ room
   pub small : room ≤ frame_limit
+  pub once : IsOnce kept
+  pub same : frames_in kept ≡ frames_in cells
+  pub whole : count_by is_some kept ≡ length kept
+  pub few : length kept ≤ room

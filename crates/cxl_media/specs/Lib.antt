@@ -6,4 +6,5 @@ pub mod Table
 pub mod Hash
 pub mod Index
 pub mod Sim
+pub mod Numbers
 pub mod CellList

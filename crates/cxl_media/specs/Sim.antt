@@ -1,4 +1,4 @@
--- What the shipped media holds: a frame pool, and the cells of its index.
+-- What the shipped media holds: a frame pool, and the blocks of its index.
 use Rattle.std.specs.Prelude.{◌≡◌, ℕ, ◌+◌, List, map, length, unwrap_or, Option, Some, refl}
 use Rattle.std.specs.Option.{option_map}
 use Rattle.std.specs.Coded.{Coded, code_by, coded×, coded_ℕ, coded_list, coded_option}
@@ -45,7 +45,7 @@ shipped_blocks s = blocks_of (sim_of s.pool s.cells)
 abbrev pub shipped_state : Shipped → MediaState
 shipped_state s = record { blocks = shipped_blocks s; free = free_count s.pool }
 
--- a place for each cell
+-- the place of each block
 abbrev pub shipped_roll : Shipped → List (Option Key)
 shipped_roll s = map (option_map key_at) s.cells
 

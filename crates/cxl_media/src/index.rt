@@ -1,6 +1,6 @@
 //! Where the frame of each block is: an open-addressed table.
 
-ghost use Rattle.std.specs.Prelude.{◌≡◌, ◌≢◌, ℕ, ◌+◌, ◌*◌, ◌%◌, ◌<◌, ◌≤◌, Bool, [], None, IfOk, IsSome, Some, IfSome, IfNone, is_some, length, take, if◌then◌else◌};
+ghost use Rattle.std.specs.Prelude.{◌≡◌, ℕ, ◌+◌, ◌*◌, ◌%◌, ◌<◌, ◌≤◌, Bool, [], None, IfOk, Some, IfSome, IfNone, length};
 ghost use Rattle.std.specs.Option.{option_copied};
 ghost use Rattle.std.specs.FinMap as map;
 ghost use Rattle.cxl_enc.specs.Limits.{frame_limit};
@@ -17,8 +17,9 @@ use cxl_pool::Frame;
 use std::alloc::Global;
 use std::marker::Model;
 
-/// Where the frame of each block is: an open-addressed table whose cells are made once. A block is sought from its
-/// home upwards, and its home is one of the lower two thirds of the cells.
+/// Where the frame of each block is: an open-addressed table whose cells are made once, and the blocks, each at a place
+/// of its own, without a gap. A block is sought from its home upwards, and its home is one of the lower two thirds of
+/// the cells.
 #[derive(Drop)]
 pub struct Index {
     cells: CellList,
@@ -34,13 +35,15 @@ impl Model for Index {
 
     ghost use Rattle.cxl_media.specs.Index.{IsIndex};
 
-    ghost view = { λ a. record { cells = a.cells; room = a.room } };
+    ghost view = { λ a. record { cells = a.cells.kept; room = a.room } };
 
-    ghost invariant = { λ a. IsIndex a.cells a.room };
+    ghost invariant = { λ a. IsIndex a.cells.cells a.cells.kept a.room };
 }
 
 impl Index {
-    /// An index without a cell. Takes no memory.
+    ghost use Rattle.cxl_media.specs.declared.cell.Cell.{Cell};
+
+    /// An index without a block. Takes no memory.
     pub fn empty(alloc: Global) -> Index
         ensures cells { result.cells ≡ [] }
         ensures room { result.room ≡ 0 }
@@ -65,88 +68,82 @@ impl Index {
     pub fn find(&self, ep: u32, number: u64) -> Option<&Frame>
         ensures { option_copied result ≡ map.get (frames_in self.now.cells) (ep, number) }
     {
-        match self.at(self.stop(ep, number)) {
+        match self.cells.at(stop(&self.cells, self.room, ep, number)) {
             Some(cell) => Some(&cell.frame),
             None => None,
         }
     }
 
-    // The cell at which a probe for a block stops. Where there is room for blocks at all, it meets one.
-    fn stop(&self, ep: u32, number: u64) -> usize
-        ensures stop { IsStop self.now.cells (home_of (2 * self.now.room) (ep, number)) (ep, number) result }
-        ensures found { IfSome (cell_at self.now.cells result) (λ cell. map.get (frames_in self.now.cells) (ep, number) ≡ Some cell.frame) }
-        ensures nothing { IfNone (cell_at self.now.cells result) (map.get (frames_in self.now.cells) (ep, number) ≡ None) }
-        ensures meets { 0 < self.now.room → result < length self.now.cells }
+    /// The place of a block.
+    pub fn place(&self, ep: u32, number: u64) -> Option<usize>
+        ensures there { IfSome result (λ place. (cell : Cell) × (cell_at self.now.cells place ≡ Some cell) × (key_at cell ≡ (ep, number))) }
+        ensures within { IfSome result (λ place. place < length self.now.cells) }
+        ensures none { IfNone result (map.get (frames_in self.now.cells) (ep, number) ≡ None) }
     {
-        seek(&self.cells, home(ep, number, 2 * self.room), ep, number)
+        let at = stop(&self.cells, self.room, ep, number);
+        if at == self.cells.len() {
+            return None;
+        }
+        self.cells.place_of(at)
     }
 
-    /// Adds a block that is not there, in a frame that no other has.
+    /// Adds a block that is not there, in a frame of its own.
     pub fn add(&mut self, ep: u32, number: u64, frame: Frame)
         requires absent { map.get (frames_in self.old.cells) (ep, number) ≡ None }
         requires room { map.len (frames_in self.old.cells) < self.old.room }
-        requires frame { frame < self.old.room }
-        requires own_frame { (key : Key) → map.get (frames_in self.old.cells) key ≢ Some frame }
         ensures frames { frames_in self.new.cells ≡ map.insert (frames_in self.old.cells) (ep, number) frame }
         ensures room { self.new.room ≡ self.old.room }
     {
-        let at = self.stop(ep, number);
+        let at = stop(&self.cells, self.room, ep, number);
         self.cells.put(at, Cell { ep, number, frame });
     }
 
-    /// How many cells there are.
-    pub fn cells(&self) -> usize
+    /// How many blocks there are. Each stands at one place, from 0 on.
+    pub fn len(&self) -> usize
         ensures count { result ≡ length self.now.cells }
-        ensures few { result ≤ 3 * frame_limit }
+        ensures few { result ≤ frame_limit }
         ensures once { IsOnce self.now.cells }
     {
-        self.cells.len()
+        self.cells.count()
     }
 
-    /// How many blocks stand at a cell: 1 or 0.
-    pub fn count_at(&self, at: usize) -> u32
-        ensures { result ≡ (if is_some (cell_at self.now.cells at) then 1 else 0) }
-    {
-        match self.at(at) {
-            Some(_) => 1,
-            None => 0,
-        }
-    }
-
-    /// Whether a block between two device addresses of an endpoint stands at a cell.
-    pub fn has_between(&self, at: usize, ep: u32, from: u64, to: u64) -> bool
+    /// Whether the block at a place is one between two device addresses of an endpoint.
+    pub fn has_between(&self, place: usize, ep: u32, from: u64, to: u64) -> bool
         requires from { from % 256 ≡ 0 }
         requires to { to % 256 ≡ 0 }
-        ensures { result ≡ passes (is_between ep from to) (cell_at self.now.cells at) }
+        ensures { result ≡ passes (is_between ep from to) (cell_at self.now.cells place) }
     {
-        match self.at(at) {
+        match self.at(place) {
             Some(cell) => is_between(cell.ep, cell.number, ep, from, to),
             None => false,
         }
     }
 
-    /// What stands at a cell, which is nothing past the last one.
-    pub fn at(&self, at: usize) -> Option<&Cell>
-        ensures { option_copied result ≡ cell_at self.now.cells at }
+    /// The block at a place, which is nothing past the last one.
+    pub fn at(&self, place: usize) -> Option<&Cell>
+        ensures { option_copied result ≡ cell_at self.now.cells place }
     {
-        self.cells.at(at)
+        self.cells.kept(place)
     }
 
-    /// Takes the block at a cell out, and gives back its frame.
-    pub fn remove(&mut self, at: usize) -> Frame
-        requires { IsSome (cell_at self.old.cells at) }
-        ensures frame { IfSome (cell_at self.old.cells at) (λ cell.
+    /// Takes the block at a place out, and gives back its frame. The last block takes its place.
+    pub fn remove(&mut self, place: usize) -> Frame
+        requires { place < length self.old.cells }
+        ensures frame { IfSome (cell_at self.old.cells place) (λ cell.
             map.get (frames_in self.old.cells) (key_at cell) ≡ Some result) }
-        ensures frames { IfSome (cell_at self.old.cells at) (λ cell.
+        ensures frames { IfSome (cell_at self.old.cells place) (λ cell.
             frames_in self.new.cells ≡ map.remove (frames_in self.old.cells) (key_at cell)) }
-        ensures later { (test : Key → Bool) → NonePass test self.old.cells (at + 1) → NonePass test self.new.cells at }
-        ensures below { take at self.new.cells ≡ take at self.old.cells }
-        ensures length { length self.new.cells ≡ length self.old.cells }
+        ensures later { (test : Key → Bool) → NonePass test self.old.cells (place + 1) → NonePass test self.new.cells place }
         ensures room { self.new.room ≡ self.old.room }
     {
-        match take_out(&mut self.cells, 2 * self.room, at) {
-            Some(cell) => cell.frame,
-            None => unreachable!(),
-        }
+        take_out(&mut self.cells, 2 * self.room, place).frame
     }
+}
+
+/// The cell at which a probe for a block stops.
+fn stop(cells: &CellList, room: u32, ep: u32, number: u64) -> usize
+    requires { room ≤ frame_limit }
+    ensures { IsStop cells.now.cells (home_of (2 * room) (ep, number)) (ep, number) result }
+{
+    seek(cells, home(ep, number, 2 * room), ep, number)
 }

@@ -8,6 +8,7 @@ mod cell_list;
 mod index;
 mod map_media;
 mod media;
+mod numbers;
 mod probe;
 mod roll;
 mod sim_media;

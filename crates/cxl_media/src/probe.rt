@@ -1,14 +1,13 @@
 //! How a block is sought among the cells, and how one is taken out.
 
-ghost use Rattle.std.specs.Prelude.{◌≡◌, ℕ, ◌+◌, ◌↔◌, Bool, IsTrue, IsSome, IfSome, length, take};
+ghost use Rattle.std.specs.Prelude.{◌≡◌, ◌<◌, ◌↔◌, IsTrue, Some, length, swap_remove};
 ghost use Rattle.std.specs.Option.{option_copied};
 ghost use Rattle.std.specs.FinMap.{remove};
-ghost use Rattle.cxl_media.specs.Blocks.{Key};
-ghost use Rattle.cxl_media.specs.Table.{key_at, cell_at, frames_in, StopsProbe, IsStop, IsTable, HasHole, NonePass};
+ghost use Rattle.cxl_media.specs.Table.{key_at, cell_at, frames_in, StopsProbe, IsStop, IsTable, HasHole};
 ghost use Rattle.cxl_media.specs.Hash.{home_of};
 
 use crate::cell::Cell;
-use crate::cell_list::CellList;
+use crate::cell_list::{CellList, Taken};
 
 /// The cell from which a block is sought. It is below `homes`, and 0 where that is.
 #[tactic(auto, unfolding(crate::specs::Hash::mixed))]
@@ -26,7 +25,7 @@ pub fn home(ep: u32, number: u64, homes: u32) -> usize
 
 /// The first cell from a block's home on that is of the block or is empty; past the last cell where none is.
 pub fn seek(cells: &CellList, home: usize, ep: u32, number: u64) -> usize
-    ensures { IsStop cells.now home (ep, number) result }
+    ensures { IsStop cells.now.cells home (ep, number) result }
 {
     for at in home..cells.len() {
         if stops(cells.at(at), ep, number) {
@@ -45,32 +44,30 @@ fn stops(cell: Option<&Cell>, ep: u32, number: u64) -> bool
     }
 }
 
-/// Takes the block at a cell out of a table. Blocks above it come down, so that a probe for each still meets it before
-/// an empty cell.
-pub fn take_out(cells: &mut CellList, homes: u32, at: usize) -> Option<Cell>
-    requires table { IsTable (home_of homes) cells.old }
-    requires taken { IsSome (cell_at cells.old at) }
-    ensures value { result ≡ cell_at cells.old at }
-    ensures table { IsTable (home_of homes) cells.new }
-    ensures frames { IfSome result (λ cell. frames_in cells.new ≡ remove (frames_in cells.old) (key_at cell)) }
-    ensures later { (test : Key → Bool) → NonePass test cells.old (at + 1) → NonePass test cells.new at }
-    ensures below { take at cells.new ≡ take at cells.old }
-    ensures length { length cells.new ≡ length cells.old }
+/// Takes the block at a place out of a table. Blocks above its cell come down, so that a probe for each still meets it
+/// before an empty cell.
+pub fn take_out(cells: &mut CellList, homes: u32, place: usize) -> Cell
+    requires table { IsTable (home_of homes) cells.old.cells }
+    requires within { place < length cells.old.kept }
+    ensures block { cell_at cells.old.kept place ≡ Some result }
+    ensures table { IsTable (home_of homes) cells.new.cells }
+    ensures frames { frames_in cells.new.cells ≡ remove (frames_in cells.old.cells) (key_at result) }
+    ensures kept { cells.new.kept ≡ swap_remove cells.old.kept place (Some result) }
+    ensures length { length cells.new.cells ≡ length cells.old.cells }
 {
-    let taken = cells.take(at);
+    let Taken { cell, at } = cells.take(place);
     close(cells, homes, at);
-    taken
+    cell
 }
 
 // Goes through the cells above a hole up to the next empty one, and moves down into the hole each block whose probe
 // crosses it.
 fn close(cells: &mut CellList, homes: u32, from: usize)
-    requires { HasHole (home_of homes) cells.old from }
-    ensures table { IsTable (home_of homes) cells.new }
-    ensures frames { frames_in cells.new ≡ frames_in cells.old }
-    ensures later { (test : Key → Bool) → NonePass test cells.old (from + 1) → NonePass test cells.new from }
-    ensures below { take from cells.new ≡ take from cells.old }
-    ensures length { length cells.new ≡ length cells.old }
+    requires { HasHole (home_of homes) cells.old.cells from }
+    ensures table { IsTable (home_of homes) cells.new.cells }
+    ensures frames { frames_in cells.new.cells ≡ frames_in cells.old.cells }
+    ensures kept { cells.new.kept ≡ cells.old.kept }
+    ensures length { length cells.new.cells ≡ length cells.old.cells }
 {
     let end = cells.len();
     let mut hole = from;
@@ -79,7 +76,7 @@ fn close(cells: &mut CellList, homes: u32, from: usize)
             return;
         };
         if home(cell.ep, cell.number, homes) <= hole {
-            cells.swap(hole, at);
+            cells.bring(hole, at);
             hole = at;
         }
     }

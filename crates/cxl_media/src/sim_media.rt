@@ -1,6 +1,6 @@
 //! The shipped media: blocks in the frames of a pool.
 
-ghost use Rattle.std.specs.Prelude.{◌≡◌, ℕ, ◌+◌, ◌↔◌, IsSome, IsTrue, Some, IfSome, length};
+ghost use Rattle.std.specs.Prelude.{◌≡◌, ℕ, ◌+◌, ◌%◌, ◌↔◌, IsSome, IsTrue, Some, IfSome, length};
 ghost use Rattle.std.specs.Option.{option_copied};
 ghost use Rattle.std.specs.FinMap as map;
 ghost use Rattle.cxl_pool.specs.Pool.{frame_bytes, free_count};
@@ -15,7 +15,7 @@ use cxl_pool::{Frame, Pool};
 use std::alloc::Global;
 use std::marker::Model;
 
-/// The shipped media: each block stands in a frame of a pool, which an index finds.
+/// The shipped media: each block stands in a frame of a pool, which an index finds. What was never put is not touched.
 #[derive(Drop)]
 pub struct SimMedia {
     pool: Pool,
@@ -38,6 +38,8 @@ impl SimMedia {
     ghost use Rattle.std.specs.FinMap as map;
     ghost use Rattle.cxl_media.specs.MediaState.{frame_count};
     ghost use Rattle.cxl_media.specs.Table.{frames_in};
+    ghost use Rattle.cxl_media.specs.Blocks.{scrubbed};
+    ghost use Rattle.cxl_media.specs.Sim.{shipped_blocks};
 
     /// Media without a block and without a frame, until it is powered on. Takes no memory.
     pub fn new(alloc: Global) -> SimMedia
@@ -47,6 +49,38 @@ impl SimMedia {
         SimMedia {
             pool: Pool::empty(alloc),
             index: Index::empty(alloc),
+        }
+    }
+
+    // Seeks each block between two device addresses of an endpoint, and takes out those that there are.
+    fn scrub_blocks(&mut self, ep: u32, from: u64, to: u64)
+        requires from { from % 256 ≡ 0 }
+        requires to { to % 256 ≡ 0 }
+        ensures blocks { shipped_blocks self.new ≡ scrubbed (shipped_blocks self.old) ep from to }
+        ensures frames { free_count self.new.pool + map.len (shipped_blocks self.new)
+            ≡ free_count self.old.pool + map.len (shipped_blocks self.old) }
+    {
+        for number in from / 256..to / 256 {
+            if let Some(place) = self.index.place(ep, number) {
+                let frame = self.index.remove(place);
+                self.pool.give(frame);
+            }
+        }
+    }
+
+    // Goes through all blocks, from the last place down, and takes out those between two device addresses of an endpoint.
+    fn scrub_places(&mut self, ep: u32, from: u64, to: u64)
+        requires from { from % 256 ≡ 0 }
+        requires to { to % 256 ≡ 0 }
+        ensures blocks { shipped_blocks self.new ≡ scrubbed (shipped_blocks self.old) ep from to }
+        ensures frames { free_count self.new.pool + map.len (shipped_blocks self.new)
+            ≡ free_count self.old.pool + map.len (shipped_blocks self.old) }
+    {
+        for place in (0..self.index.len()).rev() {
+            if self.index.has_between(place, ep, from, to) {
+                let frame = self.index.remove(place);
+                self.pool.give(frame);
+            }
         }
     }
 
@@ -115,20 +149,11 @@ impl Media for SimMedia {
     }
 
     fn scrub(&mut self, ep: u32, from: u64, to: u64) {
-        if from == to {
-            return;
-        }
-        // How many blocks stand in the cells that are still ahead.
-        let mut ahead = self.pool.total() - self.pool.free();
-        for at in (0..self.index.cells()).rev() {
-            if ahead == 0 {
-                return;
-            }
-            ahead -= self.index.count_at(at);
-            if self.index.has_between(at, ep, from, to) {
-                let frame = self.index.remove(at);
-                self.pool.give(frame);
-            }
+        // Whichever are fewer: the blocks that there are, or those that there could be between the addresses.
+        if (to - from) / 256 < self.index.len() as u64 {
+            self.scrub_blocks(ep, from, to);
+        } else {
+            self.scrub_places(ep, from, to);
         }
     }
 
@@ -143,7 +168,7 @@ impl Roll for SimMedia {
     ghost roll = { shipped_roll };
 
     fn places(&self) -> u32 {
-        self.index.cells() as u32
+        self.index.len() as u32
     }
 
     fn at(&self, i: u32) -> Option<At> {

@@ -1,24 +1,45 @@
-use Rattle.std.proofs.Common.{ℕ, suc, ◌<◌, Some, length, set, sym, ap, subst, ◌∙◌, add-one, arith}
+use Rattle.std.proofs.Common.{◌≡◌, ℕ, suc, ◌*◌, ◌<◌, List, [], ◌∷◌, ◌++◌, None, Some, length, set, sym, ap, ◌∙◌, subst, refl, arith}
+use Rattle.cxl_media.specs.declared.cell.Cell.{Cell}
+use Rattle.cxl_media.specs.declared.cell_list.Place.{Place}
 use Rattle.cxl_media.specs.Table.{cell_at}
-use Rattle.cxl_media.specs.CellList.{cells_of, AreOwnNumbers}
-use Rattle.cxl_media.proofs.CellLists.{length_of, put_cells, put_kept}
+use Rattle.cxl_media.specs.CellList.{Listed, kept_of, cells_of, ArePlaced}
+use Rattle.cxl_media.proofs.CellLists.{length_of, length_kept, put_cells, put_placed}
 use Rattle.cxl_media.proofs.cell_list.CellList.put.Goals as goal
 
-pub make_place-requires : goal.make_place-requires
-make_place-requires c =
-    omega (arith, c.requires.room, ap length c.self.view_is, length_of c.self.inside.numbers.items c.self.inside.kept.items, c.self.invariant.fits, c.number-number.ensures)
+-- in the words of the code: l is what contracts see
+module _ (numbers : List ℕ) (places : List Place) (room : ℕ) (l : Listed) (view : ◌≡◌ {A = Listed} (record { cells = cells_of numbers (kept_of places); kept = kept_of places }) l) (are : ArePlaced numbers places room) (at : ℕ) (cell : Cell) (within : at < length l.cells) (empty : cell_at l.cells at ≡ None) (more : 3 * length l.kept < length l.cells) (number : ℕ) (its : number ≡ suc (length places)) where
+  abbrev new_place : Place
+  new_place = record { cell = cell; at = at }
 
-pub returns : goal.returns
-returns c =
-    let within : c.args.at < length c.self.inside.numbers.items = omega (arith, c.requires.within, ap length c.self.view_is, length_of c.self.inside.numbers.items c.self.inside.kept.items) in
-    ap (λ n. cells_of (set c.self.inside.numbers.items c.args.at n) (set c.make_place.new.kept.items c.number-number.result (Some c.args.cell))) (add-one c.number-number.result)
-    ∙ put_cells _ _ _ c.self.invariant c.args.at c.number-number.result c.args.cell c.make_place.new.kept.items within c.number-number.ensures (λ k p is. c.requires.own_frame k p (sym (ap (λ cells. cell_at cells k) c.self.view_is) ∙ is)) c.make_place.ensures.there c.make_place.ensures.same
-    ∙ ap (λ cells. set cells c.args.at (Some c.args.cell)) c.self.view_is
+  inside : at < length numbers
+  inside = omega (arith, within, ap (λ (m : Listed). length m.cells) view, length_of numbers (kept_of places))
+
+  none : cell_at (cells_of numbers (kept_of places)) at ≡ None
+  none = ap (λ (m : Listed). cell_at m.cells at) view ∙ empty
+
+  room_left : 3 * length places < length numbers
+  room_left = omega (arith, more, ap (λ (m : Listed). length m.cells) view, ap (λ (m : Listed). length m.kept) view, length_of numbers (kept_of places), length_kept places)
+
+  pub placed : ArePlaced (set numbers at number) (places ++ (record { cell = cell; at = at }) ∷ []) room
+  placed =
+      subst (λ (n : ℕ). ArePlaced (set numbers at n) (places ++ new_place ∷ []) room) (sym its)
+      (put_placed numbers places room are at new_place inside none refl room_left)
+
+  pub cells : cells_of (set numbers at number) (kept_of (places ++ (record { cell = cell; at = at }) ∷ [])) ≡ set l.cells at (Some cell)
+  cells =
+      ap (λ n. cells_of (set numbers at n) (kept_of (places ++ new_place ∷ []))) its
+      ∙ put_cells numbers places room are at new_place inside none refl room_left
+      ∙ ap (λ (m : Listed). set m.cells at (Some cell)) view
 
 pub invariant_of-self : goal.invariant_of-self
 invariant_of-self c =
-    let within : c.args.at < length c.self.inside.numbers.items = omega (arith, c.requires.within, ap length c.self.view_is, length_of c.self.inside.numbers.items c.self.inside.kept.items) in
-    let kept = set c.make_place.new.kept.items c.number-number.result (Some c.args.cell) in
-    subst (λ (n : ℕ). AreOwnNumbers (set c.self.inside.numbers.items c.args.at n) kept c.make_place.new.kept.cap) (sym (add-one c.number-number.result))
-    (subst (λ (room : ℕ). AreOwnNumbers (set c.self.inside.numbers.items c.args.at (suc c.number-number.result)) kept room) (sym c.make_place.ensures.capacity)
-    (put_kept _ _ _ c.self.invariant c.args.at c.number-number.result c.args.cell c.make_place.new.kept.items within c.number-number.ensures (λ k p is. c.requires.own_frame k p (sym (ap (λ cells. cell_at cells k) c.self.view_is) ∙ is)) c.make_place.ensures.there c.make_place.ensures.same))
+    let its : c.len-number.result ≡ suc (length c.self.inside.kept.items) = omega (arith, c.len-number.ensures, c.push_reserved.ensures.len, c.self.inside.kept.ok.0) in
+    rw (c.set.ensures, c.push_reserved.ensures.items, c.push_reserved.ensures.capacity)
+    (placed _ _ _ _ c.self.view_is c.self.invariant c.args.at c.args.cell c.requires.within c.requires.empty c.requires.room c.len-number.result its)
+
+pub returns-clause-cells : goal.returns-clause-cells
+returns-clause-cells c =
+    let its : c.len-number.result ≡ suc (length c.self.inside.kept.items) = omega (arith, c.len-number.ensures, c.push_reserved.ensures.len, c.self.inside.kept.ok.0) in
+    ap (λ ns. cells_of ns (kept_of c.push_reserved.new.self.items)) c.set.ensures
+    ∙ ap (λ ps. cells_of (set c.self.inside.numbers c.args.at c.len-number.result) (kept_of ps)) c.push_reserved.ensures.items
+    ∙ cells _ _ _ _ c.self.view_is c.self.invariant c.args.at c.args.cell c.requires.within c.requires.empty c.requires.room c.len-number.result its

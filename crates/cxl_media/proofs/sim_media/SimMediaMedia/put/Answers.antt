@@ -7,7 +7,6 @@ use Rattle.cxl_media.specs.Sim.{shipped_blocks}
 use Rattle.cxl_media.proofs.Items.{put_counts}
 use Rattle.cxl_media.proofs.Zeros.{length-zeros}
 use Rattle.cxl_media.proofs.SimCalls.{sim_view, in_block, in_needed, out_block, rewrites_blocks, rewrites_free, adds_sim, adds_blocks, adds_free, fresh_bytes, full_where}
-use Rattle.cxl_media.proofs.Sims.{free_unused}
 use Rattle.cxl_media.proofs.sim_media.SimMediaMedia.put.Goals as goal
 
 pub returns-in-Some-clause-full : goal.returns-in-Some-clause-full
@@ -62,9 +61,3 @@ returns-in-Some-clause-frames c = put_counts _ _ _ _ _ _ (returns-in-Some-clause
 
 pub returns-clause-frames : goal.returns-clause-frames
 returns-clause-frames c = put_counts _ _ _ _ _ _ (returns-clause-blocks c) (returns-clause-free c)
-
-pub add-requires-clause-frame : goal.add-requires-clause-frame
-add-requires-clause-frame c = omega (arith, c.in-Some-take.ensures.was_free.0, c.self.invariant.size)
-
-pub add-requires-clause-own_frame : goal.add-requires-clause-own_frame
-add-requires-clause-own_frame c = free_unused _ _ _ c.self.invariant c.in-Some-take.ensures.was_free

@@ -6,4 +6,4 @@ use Rattle.cxl_media.proofs.sim_media.SimMediaRoll.places.Goals as goal
 
 pub returns-clause-blocks : goal.returns-clause-blocks
 returns-clause-blocks c =
-    subst (λ (s : Shipped). IsRoll (shipped_roll s) (shipped_blocks s)) c.self.view_is (shipped_lists c.self.inside.pool c.self.inside.index.cells c.cells.ensures.once)
+    subst (λ (s : Shipped). IsRoll (shipped_roll s) (shipped_blocks s)) c.self.view_is (shipped_lists c.self.inside.pool c.self.inside.index.cells c.len.ensures.once)
