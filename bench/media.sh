@@ -1,13 +1,80 @@
 #!/usr/bin/env bash
-# Measures the shipped media (`SimMedia`) as its frames fill up: the time of a put, a get and a scrub, and how many
-# places of its index a probe meets, counted outside of it with the same homes and the same rule.
+# Measures the shipped media (`SimMedia`): what commands take by the frames that the topology states, of which a block
+# or two are in use (instructions by callgrind, so it wants valgrind); and as the frames fill up the time of a put, a
+# get and a scrub, and how many cells of its index a probe meets, counted outside of it with the same homes and the
+# same rule.
 #
-# bench/media.sh [FRAMES..]    65536 and 1048576, unless other numbers of frames (100 to 1048576) are given
+# bench/media.sh commands      the commands alone, by the built program, or by that which CXLPLAN names
+# bench/media.sh [FRAMES..]    the rest, at 65536 and 1048576, unless other numbers of frames (100 to 1048576) are given
 #
-# It proves and builds a program of its own in a folder that it makes and takes away again. README.md says what the
-# columns mean.
+# For the second it proves and builds a program of its own in a folder that it makes and takes away again. README.md
+# says what the columns mean.
 set -euo pipefail
 source "$(dirname "${BASH_SOURCE[0]}")/common.sh"
+if [[ "$*" == commands ]]; then
+    needs_valgrind
+    with_program
+    cat >"$work/commands.py" <<'END'
+"""Counts what commands take by the frames that the topology states: instructions of the program's own, and time."""
+import os
+import re
+import resource
+import subprocess
+import sys
+
+from shared import UNIT, put, table
+
+PROGRAM, WORK = sys.argv[1:3]
+BASE = 2**36
+ROUNDS = 10
+os.chdir(WORK)
+FILES = [put("m.cedt", table(1, [(BASE, 4 * UNIT, 0)])), "m.toml"]
+MAKE = f"create a ram {UNIT} e0\ncreate b ram {UNIT} e0\nstore 0x{BASE:x} 5a\n"
+MADE = [f"created a window 0 base 0x{BASE:x} size 0x{UNIT:x} gran 256 ways 1\n",
+        f"created b window 0 base 0x{BASE + UNIT:x} size 0x{UNIT:x} gran 256 ways 1\n", "stored 1\n"]
+NEXT = BASE + 2 * UNIT
+# Each is carried out in pairs, and says as much.
+JOBS = {
+    "move of one piece": ("move a b\nmove b a\n", ["moved a b pieces 1\n", "moved b a pieces 1\n"]),
+    "create, store, destroy": (f"create c ram {UNIT} e0\nstore 0x{NEXT:x} 5a\ndestroy c\n" * 2,
+                               [f"created c window 0 base 0x{NEXT:x} size 0x{UNIT:x} gran 256 ways 1\n", "stored 1\n", "destroyed c\n"] * 2),
+    "load of 8 bytes, none there": (f"load 0x{BASE + 4096:x} 8\n" * 2, ["bytes 0000000000000000\n"] * 2),
+}
+
+
+def run(script, wanted):
+    """The processor time of a run whose answers are what they must be, in seconds."""
+    before = resource.getrusage(resource.RUSAGE_CHILDREN)
+    ran = subprocess.run([PROGRAM, "run", *FILES], input=script.encode(), stdout=subprocess.PIPE, check=False)
+    after = resource.getrusage(resource.RUSAGE_CHILDREN)
+    if ran.returncode or ran.stdout.decode() != "".join(wanted):
+        sys.exit("media.sh: another answer than was worked out")
+    return after.ru_utime + after.ru_stime - before.ru_utime - before.ru_stime, after.ru_minflt - before.ru_minflt
+
+
+def instructions(script):
+    ran = subprocess.run(["valgrind", "--tool=callgrind", f"--callgrind-out-file={WORK}/callgrind", PROGRAM, "run", *FILES],
+                         input=script.encode(), stdout=subprocess.DEVNULL, stderr=subprocess.PIPE, check=False)
+    return int(re.search(r"Collected : (\d+)", ran.stderr.decode())[1])
+
+
+print(f"{'frames':>8} {'':<28}{'instructions':>14}{'µs':>10}{'page faults of an empty script':>34}")
+for frames in (1000, 65536, 1048576):
+    put("m.toml", f'frames = {frames}\nbridge = [{{ name = "hb0", uid = 0, decoders = 10 }}]\n'
+        f'endpoint = [{{ name = "e0", parent = "hb0", port = 0, ram = {4 * UNIT}, decoders = 10 }}]\n')
+    faults = min(run("", [])[1] for _ in range(5))
+    base = instructions(MAKE)
+    alone = min(run(MAKE, MADE)[0] for _ in range(5))
+    for name, (lines, says) in JOBS.items():
+        script = MAKE + lines * ROUNDS
+        took = min(run(script, MADE + says * ROUNDS)[0] for _ in range(5)) - alone
+        each = (instructions(script) - base) / (2 * ROUNDS)
+        print(f"{frames:>8} {name:<28}{each:>14.0f}{max(took, 0) * 1e6 / (2 * ROUNDS):>10.1f}{faults:>34}")
+print()
+END
+    python3 "$work/commands.py" "$cxlplan" "$work"
+    exit
+fi
 [[ $# -gt 0 ]] || set -- 65536 1048576
 for frames in "$@"; do
     if [[ ! "$frames" =~ ^[1-9][0-9]{2,6}$ ]] || ((frames > 1048576)); then
@@ -280,9 +347,9 @@ for line in sys.stdin:
         took, gone = numbers
         if int(gone) != freed[what]:
             fail(line)
-        scrubs.append([frames, name, what, took, gone, f"{int(took) * 1000 / (3 * frames):.2f}"])
+        scrubs.append([frames, name, what, took, gone, f"{int(took) * 1000 / frames:.2f}"])
 print()
-show(["frames", "blocks", "scrub of", "µs", "freed", "ns/place"])
+show(["frames", "blocks", "scrub of", "µs", "freed", "ns/frame"])
 for words in scrubs:
     show(words)
 print()
