@@ -5,7 +5,7 @@ ghost use Rattle.cxl_machine.specs.Machine.{has_host};
 ghost use Rattle.cxl_model.specs.Listed.{region_limit};
 ghost use Rattle.cxl_live.specs.Apart.{LieApart};
 
-use crate::ordering::{BaseAt, bases_up_to, insert_by_base, order};
+use crate::ordering::{BaseAt, bases_up_to, insert_by_base, order, take_out};
 use cxl_enc::Memory;
 use cxl_machine::REGION_LIMIT;
 use cxl_model::Found;
@@ -116,8 +116,7 @@ impl LiveRegions {
         ensures items { self.new ≡ remove self.old place }
         ensures value { slice_get self.old place ≡ Some result }
     {
-        let found = self.founds.remove(place);
-        order(&mut self.bases, &self.founds);
-        found
+        take_out(&mut self.bases, place);
+        self.founds.remove(place)
     }
 }

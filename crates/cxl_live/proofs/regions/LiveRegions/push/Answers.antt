@@ -3,12 +3,12 @@ use Rattle.std.proofs.lemmas.List.{length-append}
 use Rattle.cxl_model.specs.declared.found.Found.{Found}
 use Rattle.cxl_live.specs.declared.ordering.BaseAt.{BaseAt}
 use Rattle.cxl_live.specs.ByBase.{base_at, AreByBase}
-use Rattle.cxl_live.proofs.Bases.{as_many, one_more}
+use Rattle.cxl_live.proofs.Bases.{one_more}
 use Rattle.cxl_live.proofs.regions.LiveRegions.push.Goals as goal
 
 pub insert_by_base-requires-clause-room : goal.insert_by_base-requires-clause-room
 insert_by_base-requires-clause-room c =
-    let many = as_many c.self.inside.founds.items c.self.inside.bases.items c.self.invariant.order in
+    let many = c.self.invariant.order.few in
     let same = ap length c.self.view_is in
     omega (arith, many, same, c.requires, c.self.invariant.bases_room)
 
