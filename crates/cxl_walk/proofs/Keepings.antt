@@ -166,7 +166,7 @@ span_low s found place tree inside =
 
 -- ---- the routes of a slot
 
-same_routing : (a b : Routing) → a.window ≡ b.window → a.position ≡ b.position → a.steps ≡ b.steps → a.arrival.endpoint ≡ b.arrival.endpoint → a.arrival.decoder ≡ b.arrival.decoder
+pub same_routing : (a b : Routing) → a.window ≡ b.window → a.position ≡ b.position → a.steps ≡ b.steps → a.arrival.endpoint ≡ b.arrival.endpoint → a.arrival.decoder ≡ b.arrival.decoder
     → a.arrival.base ≡ b.arrival.base → a.arrival.dpa ≡ b.arrival.dpa → a ≡ b
 same_routing a b window position steps endpoint decoder base dpa =
     let arrivals : record { endpoint = a.arrival.endpoint; decoder = a.arrival.decoder; base = a.arrival.base; dpa = a.arrival.dpa } ≡ b.arrival =

@@ -5,3 +5,6 @@ pub mod Targets
 pub mod Places
 pub mod Comings
 pub mod Keepings
+pub mod Slots
+pub mod OwnBlocks
+pub mod SlotRoutes

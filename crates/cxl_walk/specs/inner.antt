@@ -1,3 +1,4 @@
 -- Definitions that only the inner calls and the proofs speak of.
 pub mod Calls
 pub mod WaysUp
+pub mod Slots

@@ -12,27 +12,30 @@ ghost use Rattle.cxl_model.specs.Accepted.{KeepsBlocks};
 ghost use Rattle.cxl_model.specs.Regions.{IsRegion, IsRegionIn, region_range, weave_fields};
 ghost use Rattle.cxl_model.specs.Changes.{HaveSameDecoders, HaveSameOwnDecoders};
 ghost use Rattle.cxl_walk.specs.Routes.{routing_of, no_step};
-ghost use Rattle.cxl_walk.specs.Keeping.{KeptFields, IsSlotRoute, IsKept, IsKeptOf};
+ghost use Rattle.cxl_walk.specs.Keeping.{KeptFields, IsSlotRoute, IsKept, IsKeptOf, HasOwn, IsOwnIn};
 
-use crate::downward::down;
+use crate::above::steps_above;
+use crate::own::Own;
+use crate::owned::{own_at, own_in};
 use crate::route::Route;
-use cxl_deal::{Weave, deal, gather, region_fills_slots};
+use cxl_deal::{Weave, deal, region_fills_slots};
 use cxl_image::Image;
 use cxl_model::{
-    FixedList, Found, Memory, chain_is_the_dealing, chains_have_one_end, routes_stay,
-    slots_are_endpoints, weave_of, weaves_fill_their_regions,
+    FixedList, Found, Memory, chain_is_the_dealing, chains_have_one_end, regions_lie_in_windows,
+    routes_stay, slots_are_endpoints, weave_of, weaves_fill_their_regions,
 };
 use cxl_topo::Topo;
-use cxl_window::Window;
+use cxl_window::{Window, root_ways, target_position};
 use std::alloc::Global;
 use std::marker::Model;
 
 /// The routes of a region: one for each slot, from which that of each of its host bytes follows without
-/// reading registers.
+/// reading registers; and which decoders of which nodes are its own.
 #[derive(Drop)]
 pub struct Kept {
     weave: Weave,
     routes: FixedList<Route>,
+    own: FixedList<Own>,
 }
 
 impl Model for Kept {
@@ -40,7 +43,7 @@ impl Model for Kept {
 
     ghost Value = { KeptFields };
 
-    ghost view = { λ kept. record { weave = kept.weave; routes = kept.routes } };
+    ghost view = { λ kept. record { weave = kept.weave; routes = kept.routes; own = kept.own } };
 }
 
 impl Kept {
@@ -59,15 +62,40 @@ impl Kept {
             → IsRegionIn (system_of image.now topo.now windows.now) w found.now
             → IsKept (system_of image.now topo.now windows.now) w found.now kept) }
     {
-        let weave = weave_in(image, topo, windows, found);
-        let mut routes = Vec::new(alloc);
-        for slot in 0..weave.ways() {
-            let route = slot_route(image, topo, windows, found, &weave, slot);
-            routes.push(route)?;
+        let nodes = topo.count();
+        let blocks = image.count();
+        prove!(nodes == blocks);
+        let own = own_in(alloc, image, topo, found)?;
+        let kept = Kept::along(alloc, topo, windows, found, own)?;
+        Ok(kept)
+    }
+
+    /// The routes of a region by its own decoders. No register is read, so that they may be those of an image that is
+    /// yet to be made. Takes memory.
+    pub fn along(
+        alloc: Global,
+        topo: &Topo,
+        windows: &[Window],
+        found: &Found,
+        own: Vec<Own>,
+    ) -> Result<Kept, Memory>
+        requires { (s : System) × HasOwn s topo.now.nodes windows.now found.now own.items }
+        ensures { IfOk result (λ kept. (s : System) (w : WindowFields)
+            → HasOwn s topo.now.nodes windows.now found.now own.items → IsRegionIn s w found.now
+            → IsKept s w found.now kept) }
+    {
+        regions_lie_in_windows();
+        let window = &windows[found.window as usize];
+        let weave = weave_in(window, found);
+        let mut routes = Vec::with_capacity(alloc, usize::from(found.ways))?;
+        for slot in 0..found.ways {
+            let route = slot_route(topo, window, &own, found, slot);
+            routes.push_reserved(route);
         }
         Ok(Kept {
             weave,
             routes: FixedList::new(routes),
+            own: FixedList::new(own),
         })
     }
 
@@ -83,6 +111,13 @@ impl Kept {
         ensures { result.now ≡ self.now.routes }
     {
         self.routes.items()
+    }
+
+    /// The region's own decoders, in rising node order.
+    pub fn own(&self) -> &[Own]
+        ensures { result.now ≡ self.now.own }
+    {
+        self.own.items()
     }
 
     /// The route of a host byte of the region: that of its slot, so many bytes on. No register is read. The condition
@@ -119,47 +154,42 @@ pub fn kept_routes_stay()
     routes_stay();
 }
 
-/// The weave of a region of the image.
-fn weave_in(image: &Image, topo: &Topo, windows: &[Window], found: &Found) -> Weave
-    requires caps { HasCapsOf image.now topo.now.nodes }
-    requires made { AreMadeWith windows.now (bridge_uids topo.now.nodes) }
-    requires region { IsRegion (system_of image.now topo.now windows.now) found.now }
-    ensures weave { (w : WindowFields) → IsRegionIn (system_of image.now topo.now windows.now) w found.now
-        → result ≡ weave_fields found.now w }
+/// The weave of a region in its window.
+fn weave_in(window: &Window, found: &Found) -> Weave
+    requires { (s : System) × IsSystem s × IsRegionIn s window.now found.now }
+    ensures weave { result ≡ weave_fields found.now window.now }
     ensures ways { weave_ways result ≡ found.now.ways }
 {
     weaves_fill_their_regions();
-    let nodes = topo.count();
-    let blocks = image.count();
-    prove!(nodes == blocks);
-    weave_of(found, &windows[found.window as usize])
+    weave_of(found, window)
 }
 
-/// The route of the host byte that is dealt to a slot at offset 0.
-fn slot_route(
-    image: &Image,
-    topo: &Topo,
-    windows: &[Window],
-    found: &Found,
-    weave: &Weave,
-    slot: u8,
-) -> Route
-    requires caps { HasCapsOf image.now topo.now.nodes }
-    requires made { AreMadeWith windows.now (bridge_uids topo.now.nodes) }
-    requires region { IsRegion (system_of image.now topo.now windows.now) found.now }
-    requires weave { (w : WindowFields) → IsRegionIn (system_of image.now topo.now windows.now) w found.now
-        → weave.now ≡ weave_fields found.now w }
-    requires slot { slot < weave_ways weave.now }
-    ensures { (w : WindowFields) → IsRegionIn (system_of image.now topo.now windows.now) w found.now
-        → IsSlotRoute (system_of image.now topo.now windows.now) w found.now slot result }
+/// The route of the host byte that is dealt to a slot at offset 0: over the window's target and by the steps of the slot,
+/// to the first byte of its span.
+fn slot_route(topo: &Topo, window: &Window, own: &[Own], found: &Found, slot: u8) -> Route
+    requires region { (s : System) × IsOwnIn s topo.now.nodes window.now found.now own.now }
+    requires slot { slot < found.now.ways }
+    ensures { (s : System) → IsOwnIn s topo.now.nodes window.now found.now own.now
+        → IsSlotRoute s window.now found.now slot result }
 {
     weaves_fill_their_regions();
     region_fills_slots();
     chain_is_the_dealing();
-    let nodes = topo.count();
-    let blocks = image.count();
-    prove!(nodes == blocks);
-    let h = gather(weave, u32::from(slot), 0);
-    // The chain of each of the region's bytes is a route.
-    down(image, topo, windows, h).unwrap()
+    slots_are_endpoints();
+    let place = found.spans.items()[usize::from(slot)];
+    let count = topo.count();
+    prove!(place.endpoint < count);
+    let above = steps_above(topo, own, root_ways(window), slot, place.endpoint);
+    let steps = above.steps;
+    let last = own_at(own, place.endpoint).unwrap();
+    Route {
+        window: found.window,
+        position: u32::from(target_position(window, slot)),
+        base: found.base,
+        len: above.len,
+        steps,
+        endpoint: place.endpoint,
+        decoder: last.index,
+        dpa: place.start,
+    }
 }

@@ -1,13 +1,17 @@
 //! Where an address leads in a register image.
 #![tactic(auto)]
 
+mod above;
 mod carrying;
 mod decoding;
 mod downward;
 mod kept;
 mod moves;
+mod own;
+mod owned;
 mod route;
 mod spans;
+mod steps;
 mod target;
 mod upward;
 mod way;
@@ -16,5 +20,6 @@ pub use carrying::images_carry_their_regions;
 pub use cxl_model::{Miss, Step};
 pub use downward::down;
 pub use kept::{Kept, kept_routes_stay};
+pub use own::Own;
 pub use route::Route;
 pub use upward::{Host, up};

@@ -1,75 +1,73 @@
-use Rattle.std.proofs.Common.{◌≡◌, ◌+◌, ◌/◌, ◌≤◌, ◌^◌, Result, sym, subst, ◌∙◌}
-use Rattle.cxl_num.specs.Interleave.{chunk_size}
+use Rattle.std.proofs.Common.{◌≡◌, ℕ, ◌<◌, ◌≤◌, true, List, length, get_or, Option, Some, refl, sym, ap, subst, ◌∙◌, arith}
+use Rattle.std.specs.Prelude.{slice_get}
+use Rattle.std.specs.Option.{IsSome}
+use Rattle.std.proofs.lemmas.Bool.{and_parts}
+use Rattle.cxl_topo.specs.Tree.{is_endpoint_at}
 use Rattle.cxl_window.specs.Fields.{WindowFields}
-use Rattle.cxl_deal.specs.Weaves.{WeaveFields, turns_end, dealt_slot, dealt_offset}
-use Rattle.cxl_model.specs.declared.chain.Miss.{Miss}
-use Rattle.cxl_model.specs.System.{System, IsSystem, system_of}
-use Rattle.cxl_model.specs.Chain.{Chain}
-use Rattle.cxl_model.specs.Regions.{weave_fields}
-use Rattle.cxl_walk.specs.declared.route.Route.{Route}
-use Rattle.cxl_walk.specs.Routes.{chain_end_of}
-use Rattle.cxl_walk.proofs.Keepings.{facts, WeaveLaws, first_turn, first_below, RouteLaws, found_route}
+use Rattle.cxl_model.specs.declared.found.Place.{Place}
+use Rattle.cxl_model.specs.Counts.{is_endpoint_of}
+use Rattle.cxl_model.specs.Ranges.{serves}
+use Rattle.cxl_model.specs.Regions.{region_range, weave_fields}
+use Rattle.cxl_model.specs.System.{System}
+use Rattle.cxl_model.proofs.RangeRules.{served}
+use Rattle.cxl_walk.specs.declared.own.Own.{Own}
+use Rattle.cxl_walk.specs.Keeping.{IsOwnIn}
+use Rattle.cxl_walk.proofs.Keepings.{RouteLaws}
+use Rattle.cxl_walk.proofs.Slots.{own_found, own_index, own_there}
+use Rattle.cxl_walk.proofs.SlotRoutes.{HitLaws, slot_route_is, endpoint_inside, place_there}
 use Rattle.cxl_walk.proofs.kept.slot_route.Goals as goal
 
-pub gather-h-requires-clause-fits : goal.gather-h-requires-clause-fits
-gather-h-requires-clause-fits c =
-    let s : System = system_of c.args.image.now c.args.topo.now c.args.windows.now in
-    let system : IsSystem s = record { tree = c.count-nodes.ensures.tree; blocks = c.count-blocks.ensures.image.each; caps = c.requires.caps; made = c.requires.made } in
-    let region = c.requires.region in
-    let w : WindowFields = region.0 in
-    let laws : WeaveLaws s w c.args.found.now = record {
-      ways = c.weaves_fill_their_regions.ensures.ways s w c.args.found.now system region.1;
-      turns = c.weaves_fill_their_regions.ensures.turns s w c.args.found.now system region.1;
-      lands = c.region_fills_slots.ensures.lands (weave_fields c.args.found.now w);
-      within = c.region_fills_slots.ensures.within (weave_fields c.args.found.now w);
-    } in
-    subst (λ (v : WeaveFields). turns_end v (0 / chunk_size v.gran + 1) ≤ 2 ^ 52) (sym (c.requires.weave w region.1))
-    (first_turn s w c.args.found.now (facts s w c.args.found.now system region.1) laws)
+pub prove-unreachable-requires : goal.prove-unreachable-requires
+prove-unreachable-requires c =
+    let s : System = c.requires.region.0 in
+    let is : IsOwnIn s c.args.topo.now.nodes c.args.window.now c.args.found.now c.args.own.now = c.requires.region.1 in
+    let found = c.args.found.now in
+    let long = is.region.slots in
+    let place : Place = get_or c.items.result.now c.from.result (record { endpoint = 0; start = 0 }) in
+    let there : slice_get found.spans c.args.slot ≡ Some place = place_there found.spans c.items.result.now c.args.slot c.from.result (record { endpoint = 0; start = 0 }) c.items.ensures c.from.ensures (omega (arith, long, c.requires.slot)) in
+    let inside = endpoint_inside s (region_range found) place.endpoint (c.slots_are_endpoints.ensures.endpoint s c.args.window.now found c.args.slot place is.system is.region there) in
+    let count : length s.nodes ≡ length c.args.topo.now.nodes = ap length is.tree in
+    let many = c.count-count.ensures.count in
+    let past : c.count-count.result ≤ place.endpoint = c.if-prove.true in
+    omega (arith, inside, count, many, past)
 
-pub unwrap-requires : goal.unwrap-requires
-unwrap-requires c =
-    let s : System = system_of c.args.image.now c.args.topo.now c.args.windows.now in
-    let system : IsSystem s = record { tree = c.count-nodes.ensures.tree; blocks = c.count-blocks.ensures.image.each; caps = c.requires.caps; made = c.requires.made } in
-    let region = c.requires.region in
-    let w : WindowFields = region.0 in
-    let known = facts s w c.args.found.now system region.1 in
-    let laws : WeaveLaws s w c.args.found.now = record {
-      ways = c.weaves_fill_their_regions.ensures.ways s w c.args.found.now system region.1;
-      turns = c.weaves_fill_their_regions.ensures.turns s w c.args.found.now system region.1;
-      lands = c.region_fills_slots.ensures.lands (weave_fields c.args.found.now w);
-      within = c.region_fills_slots.ensures.within (weave_fields c.args.found.now w);
-    } in
-    let routes : RouteLaws s w c.args.found.now = record {
-      route = λ h. c.chain_is_the_dealing.ensures.route s w c.args.found.now h system region.1;
-      only = λ h outcome. c.chain_is_the_dealing.ensures.only s w c.args.found.now h outcome system region.1;
-    } in
-    let weave = c.requires.weave w region.1 in
-    let from = subst (λ (v : WeaveFields). v.base ≤ c.gather-h.result) weave c.gather-h.ensures.from in
-    let start = subst (λ (v : WeaveFields). dealt_offset v c.gather-h.result ≡ 0) weave c.gather-h.ensures.offset in
-    found_route s w c.args.found.now routes c.gather-h.result c.down.result from (first_below s w c.args.found.now known laws c.gather-h.result from start) c.down.ensures.chain
+pub unwrap-last-requires : goal.unwrap-last-requires
+unwrap-last-requires c =
+    let s : System = c.requires.region.0 in
+    let is : IsOwnIn s c.args.topo.now.nodes c.args.window.now c.args.found.now c.args.own.now = c.requires.region.1 in
+    let found = c.args.found.now in
+    let long = is.region.slots in
+    let place : Place = get_or c.items.result.now c.from.result (record { endpoint = 0; start = 0 }) in
+    let there : slice_get found.spans c.args.slot ≡ Some place = place_there found.spans c.items.result.now c.args.slot c.from.result (record { endpoint = 0; start = 0 }) c.items.ensures c.from.ensures (omega (arith, long, c.requires.slot)) in
+    let of_range = c.slots_are_endpoints.ensures.endpoint s c.args.window.now found c.args.slot place is.system is.region there in
+    let inside = endpoint_inside s (region_range found) place.endpoint of_range in
+    let serves_it = (and_parts (is_endpoint_at s.nodes place.endpoint) (serves s (region_range found) place.endpoint) of_range).1 in
+    let own = own_found s found c.args.own.now place.endpoint c.own_at.result inside is.are c.own_at.ensures in
+    subst IsSome (sym (own_there s (region_range found) place.endpoint (served s (region_range found) place.endpoint serves_it)) ∙ own) refl
 
 pub returns : goal.returns
-returns c = λ w is.
-    let s : System = system_of c.args.image.now c.args.topo.now c.args.windows.now in
-    let system : IsSystem s = record { tree = c.count-nodes.ensures.tree; blocks = c.count-blocks.ensures.image.each; caps = c.requires.caps; made = c.requires.made } in
-    let known = facts s w c.args.found.now system is in
-    let laws : WeaveLaws s w c.args.found.now = record {
-      ways = c.weaves_fill_their_regions.ensures.ways s w c.args.found.now system is;
-      turns = c.weaves_fill_their_regions.ensures.turns s w c.args.found.now system is;
-      lands = c.region_fills_slots.ensures.lands (weave_fields c.args.found.now w);
-      within = c.region_fills_slots.ensures.within (weave_fields c.args.found.now w);
+returns c = λ s is.
+    let found = c.args.found.now in
+    let w : WindowFields = c.args.window.now in
+    let long = is.region.slots in
+    let place : Place = get_or c.items.result.now c.from.result (record { endpoint = 0; start = 0 }) in
+    let there : slice_get found.spans c.args.slot ≡ Some place = place_there found.spans c.items.result.now c.args.slot c.from.result (record { endpoint = 0; start = 0 }) c.items.ensures c.from.ensures (omega (arith, long, c.requires.slot)) in
+    let of_range = c.slots_are_endpoints.ensures.endpoint s w found c.args.slot place is.system is.region there in
+    let inside = endpoint_inside s (region_range found) place.endpoint of_range in
+    let own = own_found s found c.args.own.now place.endpoint c.own_at.result inside is.are c.own_at.ensures in
+    let weave = c.weaves_fill_their_regions.ensures.kept s w found is.system is.region in
+    let hits : HitLaws s w found = record {
+      weave = weave;
+      ways = c.weaves_fill_their_regions.ensures.ways s w found is.system is.region;
+      turns = c.weaves_fill_their_regions.ensures.turns s w found is.system is.region;
+      hit = λ n slot offset low room. c.region_fills_slots.ensures.hit (weave_fields found w) n slot offset weave low room;
     } in
-    let weave = c.requires.weave w is in
-    let from = subst (λ (v : WeaveFields). v.base ≤ c.gather-h.result) weave c.gather-h.ensures.from in
-    let start = subst (λ (v : WeaveFields). dealt_offset v c.gather-h.result ≡ 0) weave c.gather-h.ensures.offset in
-    record {
-      first = c.gather-h.result;
-      is = record {
-        from = from;
-        below = first_below s w c.args.found.now known laws c.gather-h.result from start;
-        of_slot = subst (λ (v : WeaveFields). dealt_slot v c.gather-h.result ≡ c.from.result) weave c.gather-h.ensures.slot ∙ c.from.ensures;
-        at_start = start;
-      };
-      chain = subst (λ (o : Result Route Miss). Chain s c.gather-h.result (chain_end_of o)) c.unwrap.ensures c.down.ensures.chain;
-      zeros = rw c.unwrap.ensures at c.down.ensures.zeros;
-    }
+    let routes : RouteLaws s w found = record {
+      route = λ h. c.chain_is_the_dealing.ensures.route s w found h is.system is.region;
+      only = λ h outcome. c.chain_is_the_dealing.ensures.only s w found h outcome is.system is.region;
+    } in
+    slot_route_is s w found is.system is.region hits c.args.slot c.requires.slot routes place there _
+    refl (c.from-2.ensures ∙ c.target_position.ensures.value) refl
+    (c.steps_above-above.ensures.steps s w found is.tree is.are c.root_ways.ensures.value)
+    c.steps_above-above.ensures.zeros
+    refl (own_index s (region_range found) place.endpoint c.unwrap-last.result (own ∙ c.unwrap-last.ensures)) refl
