@@ -7,6 +7,7 @@ use Rattle.std.specs.Str.{bytes_eq}
 use Rattle.std.proofs.lemmas.Bool.{cases_lt, lt-ltb, ltb-true}
 use Rattle.std.proofs.lemmas.List.{length-map}
 use Rattle.std.proofs.lemmas.List.Folds.{find_at}
+use Rattle.std.proofs.lemmas.List.Quantifiers.{position-Some}
 use Rattle.std.proofs.lemmas.Option.{none-some, same_Some, cond_some, slice_get_past}
 use Rattle.std.proofs.lemmas.Slice.Eq.{bytes_eq-Decides}
 use Rattle.cxl_topo.specs.declared.node.Node.{Node}
@@ -188,6 +189,16 @@ found_unnamed session m name stands none past =
     unnamed_refused m name (no_job m session.job none m.job stands.job) (no_region_at m name (place_is session m name stands None past))
 
 -- the same by the fields of a session
+-- the region at a name's place
+pub found_among : (session : SessionState) (inside : Inside) → session_view inside ≡ session → length inside.founds ≡ length inside.names.items → (name : List ℕ) (place : ℕ) (names : List (List ℕ))
+    → Some place ≡ position (λ own. bytes_eq own name) names → names ≡ inside.names.items → (found : Found) × (slice_get session.founds place ≡ Some found)
+found_among session inside view long name place names named same =
+    let p = λ (own : List ℕ). bytes_eq own name in
+    let at : Some place ≡ position p inside.names.items = named ∙ ap (position p) same in
+    let low = (position-Some p inside.names.items place [] (sym at)).0 in
+    let count : length inside.founds ≡ length session.founds = ap (λ (s : SessionState). length s.founds) view in
+    item session.founds place (omega (arith, low, long, count))
+
 pub found_inside : (session : SessionState) (inside : Inside) → session_view inside ≡ session → inside.job ≡ None → (name : List ℕ) (place : ℕ) (names : List (List ℕ))
     → Some place ≡ position (λ own. bytes_eq own name) names → names ≡ inside.names.items → (found : Found) → slice_get session.founds place ≡ Some found
     → (rows : List Row) → rows ≡ rows_of (system_of inside.image inside.topo []) found → IsFound session name place found rows

@@ -33,6 +33,7 @@ pub mod Steps
 pub mod Wholes
 pub mod AskedPlans
 pub mod AskedCreates
+pub mod OwnAhead
 pub mod PreparedCreates
 pub mod Creates
 pub mod Undoing

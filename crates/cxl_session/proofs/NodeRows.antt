@@ -1,47 +1,54 @@
 -- The rows of a region's decoders, found node by node.
-use Rattle.std.proofs.Common.{◌≡◌, ℕ, zero, suc, ◌+◌, ◌<◌, ◌≤◌, Bool, true, false, List, [], ◌∷◌, length, drop, Option, Some, None, refl, ap, ◌∙◌, arith}
-use Rattle.std.specs.Prelude.{slice_get, option_map, option_and_then, position}
+use Rattle.std.proofs.Common.{◌≡◌, ℕ, zero, suc, ◌+◌, ◌<◌, ◌≤◌, Bool, true, false, List, [], ◌∷◌, length, drop, Option, Some, None, refl, sym, ap, ◌∙◌, inl, inr, arith}
+use Rattle.std.specs.Prelude.{slice_get, option_map, option_and_then}
+use Rattle.std.specs.List.{filter_map, cons_option, range_with_len}
+use Rattle.std.proofs.lemmas.Bool.{cases_Bool}
 use Rattle.std.specs.Option.{option_map_or}
 use Rattle.std.proofs.lemmas.Option.{none-some, same_Some, slice_get_past}
 use Rattle.cxl_enc.proofs.Tests.{or_true}
 use Rattle.cxl_regs.specs.declared.decoder.Decoder.{Decoder}
 use Rattle.cxl_regs.specs.declared.reading.Range.{Range}
-use Rattle.cxl_regs.specs.Reading.{has_range}
 use Rattle.cxl_regs.specs.Registers.{Registers}
 use Rattle.cxl_regs.specs.Writes.{any_committed}
 use Rattle.cxl_model.specs.declared.plan.Row.{Row}
-use Rattle.cxl_apply.specs.Releases.{row_for}
-use Rattle.cxl_model.specs.System.{blocks_alone}
-use Rattle.cxl_check.proofs.Searches.{position_is, position_none}
-use Rattle.cxl_session.specs.inner.Rows.{is_not_last}
+use Rattle.cxl_model.specs.declared.found.Found.{Found}
+use Rattle.cxl_model.specs.Ranges.{serves}
+use Rattle.cxl_model.specs.Regions.{region_range}
+use Rattle.cxl_model.proofs.RangeRules.{served}
+use Rattle.cxl_apply.specs.Releases.{row_for, rows_of}
+use Rattle.cxl_model.specs.System.{System, blocks_alone, decoder_at}
+use Rattle.cxl_walk.specs.declared.own.Own.{Own}
+use Rattle.cxl_walk.specs.Keeping.{own_for, own_decoders}
+use Rattle.cxl_walk.proofs.Slots.{own_there, own_nowhere, no_index}
+use Rattle.cxl_session.specs.inner.Rows.{is_not_last, row_at}
 
--- ---- a node's row
+-- ---- the rows of own decoders
 
-module _ (blocks : List Registers) (r : Range) (n : ℕ) where
-  abbrev row_in : List Decoder → Option Row
-  row_in ds = option_and_then (λ (i : ℕ). option_map (λ (d : Decoder). record { node = n; index = i; decoder = d }) (slice_get ds i)) (position (has_range r) ds)
+chained : (f : ℕ → Option Own) (g : Own → Option Row) (h : ℕ → Option Row) → ((n : ℕ) → h n ≡ option_and_then g (f n)) → (ns : List ℕ) → filter_map g (filter_map f ns) ≡ filter_map h ns
+chained f g h tells [] = refl
+chained f g h tells (n ∷ ns) = go (f n) refl (chained f g h tells ns)
+  where
+    go : (o : Option Own) → f n ≡ o → filter_map g (filter_map f ns) ≡ filter_map h ns → filter_map g (cons_option o (filter_map f ns)) ≡ cons_option (h n) (filter_map h ns)
+    go None is rest = rest ∙ ap (λ (o : Option Row). cons_option o (filter_map h ns)) (sym (tells n ∙ ap (option_and_then g) is))
+    go (Some one) is rest = ap (cons_option (g one)) rest ∙ ap (λ (o : Option Row). cons_option o (filter_map h ns)) (sym (tells n ∙ ap (option_and_then g) is))
 
-  of_block : (block : Registers) → slice_get blocks n ≡ Some block → row_for (blocks_alone blocks) r n ≡ row_in block.decoders
-  of_block block here = ap (λ (o : Option Registers). row_in (option_map_or (λ (b : Registers). b.decoders) o [])) here
+module _ (s : System) (found : Found) where
+  abbrev range : Range
+  range = region_range found
 
-  pub row_past : length blocks ≤ n → row_for (blocks_alone blocks) r n ≡ None
-  row_past past = ap (λ (o : Option Registers). row_in (option_map_or (λ (b : Registers). b.decoders) o [])) (slice_get_past blocks n past)
+  row_told : (n : ℕ) → row_for s range n ≡ option_and_then (row_at s.blocks) (own_for s range n)
+  row_told n = elim (cases_Bool (serves s range n)) [
+    | inl some ↦
+        let at = served s range n some in
+        ap (λ (o : Option ℕ). option_and_then (λ (i : ℕ). option_map (λ (d : Decoder). record { node = n; index = i; decoder = d }) (decoder_at s n i)) o) at.number
+        ∙ sym (ap (option_and_then (row_at s.blocks)) (own_there s range n at))
+    | inr none ↦
+        ap (λ (o : Option ℕ). option_and_then (λ (i : ℕ). option_map (λ (d : Decoder). record { node = n; index = i; decoder = d }) (decoder_at s n i)) o) (no_index s range n none)
+        ∙ sym (ap (option_and_then (row_at s.blocks)) (own_nowhere s range n none))
+  ]
 
-  module _ (block : Registers) (here : slice_get blocks n ≡ Some block) where
-    pub row_is : (i : ℕ) (d : Decoder) → slice_get block.decoders i ≡ Some d → has_range r d ≡ true
-        → ((k : ℕ) (other : Decoder) → k < i → slice_get block.decoders k ≡ Some other → has_range r other ≡ false)
-        → row_for (blocks_alone blocks) r n ≡ Some (record { node = n; index = i; decoder = d })
-    row_is i d at has before =
-        of_block block here
-        ∙ ap (λ (o : Option ℕ). option_and_then (λ (k : ℕ). option_map (λ (e : Decoder). record { node = n; index = k; decoder = e }) (slice_get block.decoders k)) o)
-        (position_is (has_range r) block.decoders i d at has before)
-        ∙ ap (option_map (λ (e : Decoder). record { node = n; index = i; decoder = e })) at
-
-    pub row_none : ((k : ℕ) (other : Decoder) → slice_get block.decoders k ≡ Some other → has_range r other ≡ false) → row_for (blocks_alone blocks) r n ≡ None
-    row_none none =
-        of_block block here
-        ∙ ap (λ (o : Option ℕ). option_and_then (λ (k : ℕ). option_map (λ (e : Decoder). record { node = n; index = k; decoder = e }) (slice_get block.decoders k)) o)
-        (position_none (has_range r) block.decoders none)
+  pub rows_are : (own : List Own) (rows : List Row) → own ≡ own_decoders s found → rows ≡ filter_map (row_at s.blocks) own → rows ≡ rows_of s found
+  rows_are own rows is are = are ∙ ap (filter_map (row_at s.blocks)) is ∙ chained (own_for s range) (row_at s.blocks) (row_for s range) row_told (range_with_len 0 (length s.nodes))
 
 -- ---- committed decoders behind a place
 

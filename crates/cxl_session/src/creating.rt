@@ -1,11 +1,10 @@
 //! Regions that a line asks to be made: what is asked for before the job begins, and the job itself.
 
-ghost use Rattle.std.specs.Prelude.{◌≡◌, ◌≤◌, true, None, IfOk, OnErr};
+ghost use Rattle.std.specs.Prelude.{◌≡◌, ◌≤◌, true, None, map, IfOk, OnErr};
 ghost use Rattle.cxl_bus.specs.RegsState.{RegsState};
 ghost use Rattle.cxl_media.specs.MediaState.{MediaState};
 ghost use Rattle.cxl_script.specs.Grammar.{StatesGranCode};
 ghost use Rattle.cxl_script.specs.declared.command.Command.TheVariants as commands;
-ghost use Rattle.cxl_apply.specs.Jobs.{AreCreateWrites};
 ghost use Rattle.cxl_apply.specs.Steps.{HasWordsOf};
 ghost use Rattle.cxl_model.specs.Hosts.{as_system};
 ghost use Rattle.cxl_model.specs.Plans.{IsLegalPlan, with_rows};
@@ -18,7 +17,7 @@ ghost use Rattle.cxl_session.specs.Inside.{job_fields};
 ghost use Rattle.cxl_session.specs.State.{image_in};
 ghost use Rattle.cxl_session.specs.Standing.{StandsFor, Stands, IsKeptIn};
 ghost use Rattle.cxl_session.specs.inner.Answering.{IsTurnFor};
-ghost use Rattle.cxl_session.specs.inner.Creating.{IsAskedPlan, IsPrepared, IsAskedCreate};
+ghost use Rattle.cxl_session.specs.inner.Creating.{own_of, IsAskedPlan, IsPrepared, IsAskedCreate};
 
 use crate::copies::place_among;
 use crate::pending::{Kind, PendingJob};
@@ -30,11 +29,11 @@ use cxl_machine::{
     REGION_LIMIT, asked_creates_begin_as_machines, creates_are_legal, jobs_have_one_list_of_writes,
 };
 use cxl_media::Media;
-use cxl_model::{Host, Plan};
+use cxl_model::{Host, Plan, Row};
 use cxl_reply::{Begun, Reply};
 use cxl_request::first_unknown;
 use cxl_script::Create;
-use cxl_walk::Kept;
+use cxl_walk::{Kept, Own};
 use std::alloc::Global;
 
 impl Session {
@@ -163,7 +162,7 @@ fn prepared(alloc: Global, host: &Host, plan: Plan) -> Result<PendingJob, Memory
     create_commits_its_rows();
     jobs_have_one_list_of_writes();
     let job = Job::create(alloc, host.image, plan.rows.items())?;
-    let kept = routes_ahead(alloc, host, &plan, &job)?;
+    let kept = routes_ahead(alloc, host, &plan)?;
     Ok(PendingJob {
         kind: Kind::Creates,
         name: plan.name,
@@ -173,18 +172,33 @@ fn prepared(alloc: Global, host: &Host, plan: Plan) -> Result<PendingJob, Memory
     })
 }
 
-/// The routes of a plan's region where the job has committed all rows. Takes memory.
-fn routes_ahead(alloc: Global, host: &Host, plan: &Plan, job: &Job) -> Result<Kept, Memory>
+/// The routes of a plan's region where all its rows are committed: by the rows, with no image made for it. Takes memory.
+fn routes_ahead(alloc: Global, host: &Host, plan: &Plan) -> Result<Kept, Memory>
     requires settled { IsSettled (as_system host.now) }
     requires legal { (request : Request) × IsLegalPlan (as_system host.now) request plan.now }
-    requires writes { AreCreateWrites host.now.image.now plan.now.rows job.now.writes }
-    requires none_done { job.now.done ≡ 0 }
-    requires words { HasWordsOf host.now.image.now job.now.writes }
     ensures { IfOk result (IsKeptIn (with_rows (as_system host.now) plan.now.rows) plan.now.found) }
 {
-    create_commits_its_rows();
     regions_stay_after_a_create();
-    let ahead = job.ahead(alloc, host.image)?;
-    let kept = Kept::new(alloc, &ahead, host.topo, host.windows, &plan.found)?;
+    let own = own_decoders(alloc, plan.rows.items())?;
+    let kept = Kept::along(alloc, host.topo, host.windows, &plan.found, own)?;
     Ok(kept)
+}
+
+/// The decoders that rows will be. Takes memory.
+fn own_decoders(alloc: Global, rows: &[Row]) -> Result<Vec<Own>, Memory>
+    ensures { IfOk result (λ own. own.items ≡ map own_of rows.now) }
+{
+    let own = rows.iter().map(|row| own_of(row)).collect(alloc)?;
+    Ok(own)
+}
+
+/// The decoder that a row will be.
+fn own_of(row: &Row) -> Own
+    ensures { result ≡ own_of row.now }
+{
+    Own {
+        node: row.node,
+        index: row.index,
+        ways: row.decoder.interleave_ways(),
+    }
 }

@@ -11,8 +11,10 @@ use crate::copies::place_among;
 use crate::rows::{first_locked, first_not_last, region_rows};
 use crate::session::Session;
 use cxl_enc::{Memory, Name};
+use cxl_machine::live_regions_stay;
 use cxl_model::Row;
 use cxl_reply::{Reply, Spot};
+use cxl_walk::kept_routes_stay;
 use std::alloc::Global;
 
 /// The region that is to be ended: its place among the live ones, and its decoders.
@@ -32,13 +34,15 @@ impl Session {
         ensures { IfOk result (λ asked. (m : Machine) → StandsFor self.now m → IsMachine m
             → IsAskedRelease m name asked) }
     {
+        live_regions_stay();
+        kept_routes_stay();
         if let Some(pending) = &self.job {
             return Ok(Err(Reply::Busy(pending.name)));
         }
         let Some(place) = place_among(&self.names, &name) else {
             return Ok(Err(Reply::NoRegion(name)));
         };
-        let rows = region_rows(alloc, &self.image, &self.topo, self.found_at(place))?;
+        let rows = region_rows(alloc, &self.image, self.kept_at(place).own())?;
         if let Some(row) = first_locked(&rows) {
             return Ok(Err(Reply::Locked(spot(&row))));
         }

@@ -1,34 +1,25 @@
-//! The decoders of a region in an image, a row a node, and why they can't be released.
+//! The own decoders of a region in an image, a row a node, and why they can't be released.
 
-ghost use Rattle.std.specs.Prelude.{◌≡◌, ◌+◌, ◌<◌, [], length, drop, find, slice_get, Some, IfOk};
+ghost use Rattle.std.specs.Prelude.{◌≡◌, ◌+◌, ◌<◌, length, drop, find, slice_get, Some, IfOk};
+ghost use Rattle.std.specs.List.{filter_map};
 ghost use Rattle.cxl_regs.specs.Writes.{any_committed};
-ghost use Rattle.cxl_model.specs.System.{system_of, blocks_alone};
-ghost use Rattle.cxl_model.specs.Regions.{region_range};
-ghost use Rattle.cxl_apply.specs.Releases.{row_for, rows_of};
-ghost use Rattle.cxl_session.specs.inner.Rows.{is_not_last, is_locked};
+ghost use Rattle.cxl_model.specs.System.{blocks_alone};
+ghost use Rattle.cxl_session.specs.inner.Rows.{is_not_last, is_locked, row_at};
 
 use cxl_enc::Memory;
 use cxl_image::Image;
-use cxl_model::{Found, Row};
-use cxl_regs::{Block, Range};
-use cxl_topo::Topo;
+use cxl_model::Row;
+use cxl_regs::Block;
+use cxl_walk::Own;
 use std::alloc::Global;
 
-/// The rows of a region's decoders, in rising node order. Takes memory.
-pub(crate) fn region_rows(
-    alloc: Global,
-    image: &Image,
-    topo: &Topo,
-    found: &Found,
-) -> Result<Vec<Row>, Memory>
-    ensures { IfOk result (λ rows. rows.items ≡ rows_of (system_of image.now topo.now []) found.now) }
+/// The rows of a region's own decoders, in their order. Takes memory.
+pub(crate) fn region_rows(alloc: Global, image: &Image, own: &[Own]) -> Result<Vec<Row>, Memory>
+    ensures { IfOk result (λ rows. rows.items ≡ filter_map (row_at image.now) own.now) }
 {
-    let range = Range {
-        base: found.base,
-        size: found.size,
-    };
-    let rows = (0..topo.count())
-        .filter_map(|node| row_for(image, &range, node))
+    let rows = own
+        .iter()
+        .filter_map(|own| row_at(image, own))
         .collect(alloc)?;
     Ok(rows)
 }
@@ -47,25 +38,22 @@ pub(crate) fn first_not_last(image: &Image, rows: &[Row]) -> Option<Row>
     rows.iter().copied().find(|row| is_not_last(image, row))
 }
 
-/// The row of a node's committed decoder that has the range. A node without a block has none.
-fn row_for(image: &Image, range: &Range, node: u32) -> Option<Row>
-    ensures { result ≡ row_for (blocks_alone image.now) range.now node }
+/// The row of a decoder, where it stands.
+fn row_at(image: &Image, own: &Own) -> Option<Row>
+    ensures { result ≡ row_at image.now own.now }
 {
-    if node >= image.count() {
+    if own.node >= image.count() {
         return None;
     }
-    let block = image.block(node);
-    for index in 0..block.count() {
-        let decoder = block.decoder(index);
-        if decoder.has_range(range) {
-            return Some(Row {
-                node,
-                index,
-                decoder,
-            });
-        }
+    let block = image.block(own.node);
+    if own.index >= block.count() {
+        return None;
     }
-    None
+    Some(Row {
+        node: own.node,
+        index: own.index,
+        decoder: block.decoder(own.index),
+    })
 }
 
 /// Whether another decoder above the row's is committed.

@@ -19,6 +19,7 @@ use cxl_machine::live_regions_stay;
 use cxl_model::{Found, Row};
 use cxl_regs::offset_of;
 use cxl_reply::{Reply, Shown, ShownRow};
+use cxl_walk::kept_routes_stay;
 use std::alloc::Global;
 
 impl Session {
@@ -37,11 +38,12 @@ impl Session {
         ensures counts { (R.state regs.old).faults ≤ (R.state regs.new).faults }
     {
         live_regions_stay();
+        kept_routes_stay();
         let Some(place) = self.place_of_name(&name) else {
             return Ok(Reply::NoRegion(name));
         };
         let found = copied_found(alloc, self.found_at(place))?;
-        let rows = region_rows(alloc, &self.image, &self.topo, &found)?;
+        let rows = region_rows(alloc, &self.image, self.kept_at(place).own())?;
         let room = Vec::with_capacity(alloc, rows.len())?;
         match read_rows(&rows, regs, room) {
             Ok(rows) => Ok(Reply::Shown(Shown { name, found, rows })),

@@ -2,7 +2,10 @@
 use Rattle.std.specs.Prelude.{◌≡◌, None, Result, Ok, Err}
 use Rattle.cxl_script.specs.declared.command.Create.{Create}
 use Rattle.cxl_reply.specs.declared.reply.Reply.{Reply}
+use Rattle.cxl_regs.specs.Reading.{decoder_ways}
+use Rattle.cxl_walk.specs.declared.own.Own.{Own}
 use Rattle.cxl_model.specs.declared.plan.Plan.{Plan}
+use Rattle.cxl_model.specs.declared.plan.Row.{Row}
 use Rattle.cxl_model.specs.Plans.{with_rows}
 use Rattle.cxl_model.specs.System.{System}
 use Rattle.cxl_machine.specs.Machine.{Machine}
@@ -12,6 +15,10 @@ use Rattle.cxl_session.specs.declared.pending.PendingJob.{PendingJob}
 use Rattle.cxl_session.specs.Inside.{job_fields}
 use Rattle.cxl_session.specs.State.{JobFields}
 use Rattle.cxl_session.specs.Standing.{IsKeptIn, IsJobFor}
+
+-- the decoder that a row will be
+abbrev pub own_of : Row → Own
+own_of row = record { node = row.node; index = row.index; ways = decoder_ways row.decoder }
 
 -- the plan that is sought where nothing stands against it, or why there is none
 abbrev pub IsAskedPlan : Machine → Create → Result Plan Reply → Type 0

@@ -11,9 +11,6 @@ create-requires-clause-each c =
     subst (All (CanCreate c.args.host.now.image.now)) (sym c.items.ensures)
     (c.create_commits_its_rows.ensures.rows (as_system c.args.host.now) c.requires.legal.0 c.args.plan c.requires.settled.accepted c.requires.legal.1)
 
-pub routes_ahead-requires-clause-writes : goal.routes_ahead-requires-clause-writes
-routes_ahead-requires-clause-writes c = subst (λ (rows : List Row). AreCreateWrites c.args.host.now.image.now rows c.in_ok-job.job.writes) c.items.ensures c.in_ok-job.ensures.writes
-
 pub returns-clause-pending : goal.returns-clause-pending
 returns-clause-pending c = record {
   place = refl;
@@ -47,12 +44,6 @@ routes_ahead-requires-clause-legal c = c.requires.legal
 
 pub routes_ahead-requires-clause-settled : goal.routes_ahead-requires-clause-settled
 routes_ahead-requires-clause-settled c = c.requires.settled
-
-pub routes_ahead-requires-clause-none_done : goal.routes_ahead-requires-clause-none_done
-routes_ahead-requires-clause-none_done c = c.in_ok-job.ensures.none_done
-
-pub routes_ahead-requires-clause-words : goal.routes_ahead-requires-clause-words
-routes_ahead-requires-clause-words c = c.in_ok-job.ensures.words
 
 pub returns-clause-words : goal.returns-clause-words
 returns-clause-words c = c.in_ok-job.ensures.words

@@ -12,26 +12,38 @@ use Rattle.cxl_session.specs.inner.Answering.{IsTurnFor}
 use Rattle.cxl_session.proofs.Acts.{untouched_by}
 use Rattle.cxl_opening.proofs.Errors.{not_ok, at_any_err}
 use Rattle.cxl_session.proofs.Shows.{IsShown, HasRead, rows_stand, shown_turn, unread_turn, unnamed_turn}
+use Rattle.cxl_session.proofs.LiveRegions.{own_there_in, place_in_kept}
+use Rattle.cxl_session.proofs.NodeRows.{rows_are}
 use Rattle.cxl_session.proofs.session.Session.show.Goals as goal
 
 pub returns-in_default-clause-turn : goal.returns-in_default-clause-turn
 returns-in_default-clause-turn g c = λ media. unnamed_turn c.args.self.now c.args.name (g.R.Regs.state c.args.regs.now) media c.in_default.ensures.named
 
+pub kept_at-requires : goal.kept_at-requires
+kept_at-requires g c = place_in_kept c.args.self.now c.self.inside c.self.view_is c.self.invariant.founds c.self.invariant.kepts c.in-Some.place c.in-Some.ensures.within
+
 pub read_rows-requires-clause-there : goal.read_rows-requires-clause-there
 read_rows-requires-clause-there g c =
     let at = c.requires.1.1 in
     let image : (g.R.Regs.state c.args.regs.now).blocks ≡ c.self.inside.image = at.sound.registers ∙ sym at.stands.image ∙ ap (λ (s : SessionState). s.image) (sym c.self.view_is) in
-    rows_stand (system_of c.self.inside.image c.self.inside.topo []) c.in_ok-found.found c.deref.result.now (g.R.Regs.state c.args.regs.now).blocks (c.deref.ensures.value ∙ c.in_ok-rows.ensures) image
+    let there = c.found_at.ensures ∙ ap (λ (f : Found). Some f) (sym c.in_ok-found.ensures) in
+    let own = own_there_in c.args.self.now c.self.inside c.self.view_is c.requires.1.0 at.stands c.live_regions_stay.ensures.system c.live_regions_stay.ensures.region c.kept_routes_stay.ensures.below at.sound.machine c.in-Some.place c.in_ok-found.found c.kept_at.result.now there c.kept_at.ensures c.own.result.now c.own.ensures in
+    let are = rows_are (system_of c.self.inside.image c.self.inside.topo []) c.in_ok-found.found c.own.result.now c.in_ok-rows.rows.items own c.in_ok-rows.ensures in
+    rows_stand (system_of c.self.inside.image c.self.inside.topo []) c.in_ok-found.found c.deref.result.now (g.R.Regs.state c.args.regs.now).blocks (c.deref.ensures.value ∙ are) image
 
 pub returns-in-Ok-clause-turn : goal.returns-in-Ok-clause-turn
 returns-in-Ok-clause-turn g c = λ media.
     let session : SessionState = c.args.self.now in
     let found : Found = c.in_ok-found.found in
     let rows : List Row = c.deref.result.now in
+    let at = c.requires.1.1 in
+    let there = c.found_at.ensures ∙ ap (λ (f : Found). Some f) (sym c.in_ok-found.ensures) in
+    let own = own_there_in c.args.self.now c.self.inside c.self.view_is c.requires.1.0 at.stands c.live_regions_stay.ensures.system c.live_regions_stay.ensures.region c.kept_routes_stay.ensures.below at.sound.machine c.in-Some.place c.in_ok-found.found c.kept_at.result.now there c.kept_at.ensures c.own.result.now c.own.ensures in
+    let are = rows_are (system_of c.self.inside.image c.self.inside.topo []) c.in_ok-found.found c.own.result.now c.in_ok-rows.rows.items own c.in_ok-rows.ensures in
     let is : IsShown session c.args.name c.in-Some.place found rows = record {
       named = c.in-Some.ensures.named;
-      there = c.found_at.ensures ∙ ap (λ (f : Found). Some f) (sym c.in_ok-found.ensures);
-      rows_are = c.deref.ensures.value ∙ c.in_ok-rows.ensures ∙ ap (λ (s : SessionState). rows_of (system_of s.image s.topo []) found) c.self.view_is;
+      there = there;
+      rows_are = c.deref.ensures.value ∙ are ∙ ap (λ (s : SessionState). rows_of (system_of s.image s.topo []) found) c.self.view_is;
     } in
     let read : HasRead (g.R.Regs.state c.args.regs.now) (g.R.Regs.state c.read_rows.new.regs) =
     record { same = c.read_rows.ensures.same; counts = c.read_rows.ensures.counts; unfailed = c.in-Ok.ensures.unfailed } in
@@ -44,10 +56,14 @@ returns-in-Err-clause-turn g c = λ media.
     let session : SessionState = c.args.self.now in
     let found : Found = c.in_ok-found.found in
     let rows : List Row = c.deref.result.now in
+    let at = c.requires.1.1 in
+    let there = c.found_at.ensures ∙ ap (λ (f : Found). Some f) (sym c.in_ok-found.ensures) in
+    let own = own_there_in c.args.self.now c.self.inside c.self.view_is c.requires.1.0 at.stands c.live_regions_stay.ensures.system c.live_regions_stay.ensures.region c.kept_routes_stay.ensures.below at.sound.machine c.in-Some.place c.in_ok-found.found c.kept_at.result.now there c.kept_at.ensures c.own.result.now c.own.ensures in
+    let are = rows_are (system_of c.self.inside.image c.self.inside.topo []) c.in_ok-found.found c.own.result.now c.in_ok-rows.rows.items own c.in_ok-rows.ensures in
     let is : IsShown session c.args.name c.in-Some.place found rows = record {
       named = c.in-Some.ensures.named;
-      there = c.found_at.ensures ∙ ap (λ (f : Found). Some f) (sym c.in_ok-found.ensures);
-      rows_are = c.deref.ensures.value ∙ c.in_ok-rows.ensures ∙ ap (λ (s : SessionState). rows_of (system_of s.image s.topo []) found) c.self.view_is;
+      there = there;
+      rows_are = c.deref.ensures.value ∙ are ∙ ap (λ (s : SessionState). rows_of (system_of s.image s.topo []) found) c.self.view_is;
     } in
     unread_turn c.live_regions_stay.ensures.region session c.args.name c.in-Some.place found rows is (g.R.Regs.state c.args.regs.now) (g.R.Regs.state c.read_rows.new.regs) media
     c.read_rows.ensures.same c.in-Err.ensures.failed
