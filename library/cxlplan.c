@@ -1,0 +1,144 @@
+/* What stands between C and the proved calls: it checks what those may take for granted of pointers. Nothing here is proved. */
+#include "cxlplan.h"
+
+/* The proved calls, exports of the crate cxl_c. They take no null pointer, and what they write overlaps nothing. */
+uint8_t cxlplan_proved_route(const uint8_t *, size_t, uint64_t, uint8_t *, size_t, size_t *);
+uint8_t cxlplan_proved_list(const uint8_t *, size_t, uint8_t *, size_t, size_t *);
+uint8_t cxlplan_proved_normal(const uint8_t *, size_t, uint8_t *, size_t, size_t *);
+uint8_t cxlplan_proved_check(const uint8_t *, size_t, const uint8_t *, size_t, const uint8_t *, size_t, uint8_t *, size_t, size_t *);
+uint8_t cxlplan_proved_plan(const uint8_t *, size_t, const uint8_t *, size_t, const uint8_t *, size_t, uint8_t *, size_t, size_t *);
+uint8_t cxlplan_proved_run(const uint8_t *, size_t, const uint8_t *, size_t, const uint8_t *, size_t, uint8_t *, size_t, size_t *);
+uint8_t cxlplan_proved_run_from(const uint8_t *, size_t, const uint8_t *, size_t, const uint8_t *, size_t, const uint8_t *, size_t,
+                                uint8_t *, size_t, size_t *);
+uint8_t cxlplan_proved_gen(uint32_t, uint8_t *, size_t, size_t *);
+uint8_t cxlplan_proved_version(uint8_t *, size_t, size_t *);
+
+/* Bytes to be read, and the room for an answer, as a caller passes them. */
+struct bytes {
+    const void *at;
+    size_t len;
+};
+struct room {
+    uint8_t *at;
+    size_t len;
+    size_t *written;
+    size_t untold; /* the count, where the caller asks for none */
+    uint8_t none;
+};
+
+/* Where no bytes are. */
+static const uint8_t nothing[1];
+
+/* No object has so many bytes, or lies there. */
+static int is_no_object(const void *at, size_t len)
+{
+    return len > PTRDIFF_MAX || (!at && len) || (uintptr_t)at > UINTPTR_MAX - len;
+}
+
+static int overlap(const void *a, size_t a_len, const void *b, size_t b_len)
+{
+    return a_len && b_len && (uintptr_t)a < (uintptr_t)b + b_len && (uintptr_t)b < (uintptr_t)a + a_len;
+}
+
+/* Makes what is passed fit for a proved call, which takes no null pointer, and answers whether it is. */
+static int is_fit(struct bytes *in, size_t count, struct room *room, void *out, size_t out_len, size_t *written)
+{
+    size_t told = written ? sizeof *written : 0;
+    int fit = !is_no_object(out, out_len) && !overlap(out, out_len, written, told);
+
+    room->at = out ? out : &room->none;
+    room->len = out_len;
+    room->written = written ? written : &room->untold;
+    *room->written = 0;
+    for (size_t i = 0; i < count; i++) {
+        fit = fit && !is_no_object(in[i].at, in[i].len) && !overlap(in[i].at, in[i].len, out, out_len)
+            && !overlap(in[i].at, in[i].len, written, told);
+        if (!in[i].at)
+            in[i].at = nothing;
+    }
+    return fit;
+}
+
+int cxlplan_route(const void *cedt, size_t cedt_len, uint64_t hpa, void *out, size_t out_len, size_t *written)
+{
+    struct bytes in[] = {{cedt, cedt_len}};
+    struct room room;
+
+    if (!is_fit(in, 1, &room, out, out_len, written))
+        return CXLPLAN_USAGE;
+    return cxlplan_proved_route(in[0].at, in[0].len, hpa, room.at, room.len, room.written);
+}
+
+int cxlplan_list(const void *cedt, size_t cedt_len, void *out, size_t out_len, size_t *written)
+{
+    struct bytes in[] = {{cedt, cedt_len}};
+    struct room room;
+
+    if (!is_fit(in, 1, &room, out, out_len, written))
+        return CXLPLAN_USAGE;
+    return cxlplan_proved_list(in[0].at, in[0].len, room.at, room.len, room.written);
+}
+
+int cxlplan_normal(const void *cedt, size_t cedt_len, void *out, size_t out_len, size_t *written)
+{
+    struct bytes in[] = {{cedt, cedt_len}};
+    struct room room;
+
+    if (!is_fit(in, 1, &room, out, out_len, written))
+        return CXLPLAN_USAGE;
+    return cxlplan_proved_normal(in[0].at, in[0].len, room.at, room.len, room.written);
+}
+
+int cxlplan_check(const void *cedt, size_t cedt_len, const void *topo, size_t topo_len, const void *image, size_t
+                  image_len, void *out, size_t out_len, size_t *written)
+{
+    struct bytes in[] = {{cedt, cedt_len}, {topo, topo_len}, {image, image_len}};
+    struct room room;
+
+    if (!is_fit(in, 3, &room, out, out_len, written))
+        return CXLPLAN_USAGE;
+    return cxlplan_proved_check(in[0].at, in[0].len, in[1].at, in[1].len, in[2].at, in[2].len, room.at, room.len, room.written);
+}
+
+int cxlplan_plan(const void *cedt, size_t cedt_len, const void *topo, size_t topo_len, const void *line, size_t
+                 line_len, void *out, size_t out_len, size_t *written)
+{
+    struct bytes in[] = {{cedt, cedt_len}, {topo, topo_len}, {line, line_len}};
+    struct room room;
+
+    if (!is_fit(in, 3, &room, out, out_len, written))
+        return CXLPLAN_USAGE;
+    return cxlplan_proved_plan(in[0].at, in[0].len, in[1].at, in[1].len, in[2].at, in[2].len, room.at, room.len, room.written);
+}
+
+int cxlplan_run(const void *cedt, size_t cedt_len, const void *topo, size_t topo_len, const void *image, size_t image_len,
+                const void *script, size_t script_len, void *out, size_t out_len, size_t *written)
+{
+    struct bytes in[] = {{cedt, cedt_len}, {topo, topo_len}, {image, image_len}, {script, script_len}};
+    struct room room;
+
+    if (!is_fit(in, 4, &room, out, out_len, written))
+        return CXLPLAN_USAGE;
+    if (!image)
+        return cxlplan_proved_run(in[0].at, in[0].len, in[1].at, in[1].len, in[3].at, in[3].len, room.at, room.len, room.written);
+    return cxlplan_proved_run_from(in[0].at, in[0].len, in[1].at, in[1].len, in[2].at, in[2].len, in[3].at, in[3].len,
+                                   room.at, room.len, room.written);
+}
+
+int cxlplan_gen(uint32_t number, void *out, size_t out_len, size_t *written)
+{
+    struct room room;
+
+    if (!is_fit(NULL, 0, &room, out, out_len, written))
+        return CXLPLAN_USAGE;
+    return cxlplan_proved_gen(number, room.at, room.len, room.written);
+}
+
+int cxlplan_version(void *out, size_t out_len, size_t *written)
+{
+    struct room room;
+
+    if (!is_fit(NULL, 0, &room, out, out_len, written))
+        return CXLPLAN_USAGE;
+    return cxlplan_proved_version(room.at, room.len, room.written);
+}

@@ -1,0 +1,100 @@
+/*
+ * libcxlplan: plans, simulates and checks CXL memory regions. The calls below answer what the command line of cxlplan
+ * answers, over bytes in memory in place of files.
+ *
+ * What is proved. Each function checks its pointers in C and then makes one call of proved code. Of that
+ * call it is proved, for each input, that status and text are those of the command that is named, over these bytes (a clause
+ * `answered` of the crate cxl_c; docs/PROVED.md says what that means for each command); that `*written` is at most `out_len`
+ * (`within`); that status 6 comes only where the room is full (`full`); and that nothing beyond the room, and nothing that the
+ * caller passed to be read, is written. Sentences marked (C) below are none of these: they rest on the C file cxlplan.c and on
+ * what you owe.
+ *
+ * What goes in. Bytes with their length, which are read during the call and never kept. A null pointer stands for no bytes, and
+ * is allowed with length 0 alone (C). Lengths are the lengths of what is really there: nothing can check that.
+ *
+ * What comes out. The text goes into `out`, a room of `out_len` bytes of yours, without a byte 0 behind it. `*written` is how many
+ * bytes were put there; `written` may be null, then that is not told (C). `out` may overlap neither what is read nor `*written`,
+ * nor these each other; where they do the status is 1, and 0 bytes are written (C).
+ *
+ * What comes back. The exit status of the command, below. Where the room is too small it is CXLPLAN_WRITE_FAULT, the room is full
+ * of the text's front, and the call can be made again with a larger one: no call keeps anything from one to the next.
+ *
+ * Where it runs. From any thread, also from several at once, each with rooms of its own; not from a signal handler, and not in the
+ * forked child of a process with threads, since calls use malloc, realloc and free (C). No call takes more than CXLPLAN_STACK
+ * bytes of stack; that is measured and not proved. Memory that a call takes is given back before it returns (C: it was tried under
+ * valgrind and AddressSanitizer).
+ */
+#ifndef CXLPLAN_H
+#define CXLPLAN_H
+
+#include <stddef.h>
+#include <stdint.h>
+
+#ifdef __cplusplus
+extern "C" {
+#endif
+
+/* What a call comes to: the exit status of the command (clause `answered`). */
+enum cxlplan_status {
+    CXLPLAN_DONE = 0,        /* it was carried out, and all its text is in the room */
+    CXLPLAN_USAGE = 1,       /* a line or a number asks for nothing; or, before any proved code runs: a null pointer with a
+                                length, a length that no object has, or rooms that overlap (C) */
+    CXLPLAN_FETCH_FAULT = 2, /* never from these calls: all bytes are there */
+    CXLPLAN_BAD_TABLE = 3,   /* the table has a fault; the text says which and where */
+    CXLPLAN_BAD_TOPO = 4,    /* the topology has a fault; the text says which */
+    CXLPLAN_READ_FAULT = 5,  /* never from these calls: reading a script in memory does not fail */
+    CXLPLAN_WRITE_FAULT = 6, /* the room is too small; it is full (clause `full`) */
+    CXLPLAN_BUS_FAULT = 7,   /* never from these calls: the simulator's registers do not fail */
+    CXLPLAN_REFUSED = 8,     /* the command has no answer; the text says why */
+    CXLPLAN_NO_MEMORY = 9,   /* memory ran out */
+    CXLPLAN_BAD_IMAGE = 10,  /* the image has a fault; the text says which and where */
+    CXLPLAN_TOO_MUCH = 11,   /* the script has more than 16,777,216 bytes; its lines within them are answered */
+    CXLPLAN_TOO_LARGE = 12   /* table, topology or image has more than 1,048,576 bytes */
+};
+
+/* The version of this header: the first number is that of libcxlplan.so. */
+#define CXLPLAN_VERSION "1.0.0"
+
+/* Stack that a call may take, in bytes, as it was measured, with as much again to spare. */
+#define CXLPLAN_STACK 262144
+
+/* Where a host address goes: its window, position and host bridge, as `cxlplan route CEDT HPA` tells them.
+   Statuses 0, 1, 3, 6, 8, 9, 12. */
+int cxlplan_route(const void *cedt, size_t cedt_len, uint64_t hpa, void *out, size_t out_len, size_t *written);
+
+/* A line for each record of a table, as `cxlplan list CEDT` writes them. Statuses 0, 1, 3, 6, 9, 12. */
+int cxlplan_list(const void *cedt, size_t cedt_len, void *out, size_t out_len, size_t *written);
+
+/* The table's own bytes with its reserved fields zero, as `cxlplan normal CEDT` writes them: no text. As many as the table has.
+   Statuses 0, 1, 3, 6, 9, 12. */
+int cxlplan_normal(const void *cedt, size_t cedt_len, void *out, size_t out_len, size_t *written);
+
+/* The regions of a register image, or the first rule that it breaks (status 8), as `cxlplan check CEDT TOPO IMAGE` tells them.
+   Statuses 0, 1, 3, 4, 6, 8, 9, 10, 12. */
+int cxlplan_check(const void *cedt, size_t cedt_len, const void *topo, size_t topo_len, const void *image, size_t image_len,
+                  void *out, size_t out_len, size_t *written);
+
+/* The registers that make a region on the host after reset, or why there is none (status 8), as `cxlplan plan CEDT TOPO LINE`
+   tells them. The line asks for a region, as `create r0 pmem 0x20000000 d1 d2` does. Statuses 0, 1, 3, 4, 6, 8, 9, 12. */
+int cxlplan_plan(const void *cedt, size_t cedt_len, const void *topo, size_t topo_len, const void *line, size_t line_len,
+                 void *out, size_t out_len, size_t *written);
+
+/* What the lines of a script are answered, each in turn, as `cxlplan run CEDT TOPO [IMAGE] < SCRIPT` answers them: on the host
+   after reset where `image` is null and its length 0 (C), or else on the host with the registers of the image. A line that asks
+   for nothing is answered by its fault, and the status is still 0. With status 8 the image is refused, and no line was carried out.
+   Statuses 0, 1, 3, 4, 6, 8, 9, 10, 11, 12. */
+int cxlplan_run(const void *cedt, size_t cedt_len, const void *topo, size_t topo_len, const void *image, size_t image_len,
+                const void *script, size_t script_len, void *out, size_t out_len, size_t *written);
+
+/* The generated system of 4 * number endpoints, for a number from 1 to 32, carried out, as `cxlplan gen N` tells it.
+   Statuses 0, 1, 6, 9. */
+int cxlplan_gen(uint32_t number, void *out, size_t out_len, size_t *written);
+
+/* The version of the library, a line, as `cxlplan --version` tells it. Statuses 0, 1, 6, 9. */
+int cxlplan_version(void *out, size_t out_len, size_t *written);
+
+#ifdef __cplusplus
+}
+#endif
+
+#endif

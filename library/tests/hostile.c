@@ -1,0 +1,131 @@
+/* What a careless caller passes: rooms of every size, null, lengths that nothing has, rooms that overlap. Says what is wrong, and
+   ends with 0 where nothing is. */
+#include <cxlplan.h>
+#include <stdio.h>
+#include <stdlib.h>
+#include <string.h>
+
+enum { FENCE = 64, MARK = 0xa5 };
+
+static int faults;
+
+static void expect(int holds, const char *what, size_t at)
+{
+    if (!holds && ++faults < 20)
+        printf("%s, at %zu\n", what, at);
+}
+
+static void *read_file(const char *name, size_t *len)
+{
+    FILE *from = fopen(name, "rb");
+    void *bytes = malloc(1 << 20);
+
+    if (!from || !bytes)
+        exit(70);
+    *len = fread(bytes, 1, 1 << 20, from);
+    fclose(from);
+    return realloc(bytes, *len ? *len : 1);
+}
+
+static void *cedt, *topo, *image;
+static size_t cedt_len, topo_len, image_len;
+
+static int check_into(void *out, size_t out_len, size_t *written)
+{
+    return cxlplan_check(cedt, cedt_len, topo, topo_len, image, image_len, out, out_len, written);
+}
+
+/* A room of each size up to what the text needs: its front stands there, and the bytes behind the room are as they were. */
+static void rooms(void)
+{
+    static unsigned char whole[65536], part[65536];
+    size_t need = 0, written = 0;
+    int status = check_into(whole, sizeof whole, &need);
+
+    expect(status == CXLPLAN_DONE && need > 0, "the whole text", need);
+    for (size_t room = 0; room <= need + 2; room++) {
+        memset(part, MARK, sizeof part);
+        written = 77;
+        status = check_into(part + FENCE, room, &written);
+        expect(status == (room < need ? CXLPLAN_WRITE_FAULT : CXLPLAN_DONE), "the status of a room", room);
+        expect(written == (room < need ? room : need), "the count of a room", room);
+        expect(!memcmp(part + FENCE, whole, written), "the text of a room", room);
+        for (size_t i = 0; i < FENCE; i++)
+            expect(part[i] == MARK && part[FENCE + room + i] == MARK, "a byte beside the room", room);
+    }
+    expect(check_into(NULL, 0, NULL) == CXLPLAN_WRITE_FAULT, "no room at all", 0);
+}
+
+static void nulls(void)
+{
+    static unsigned char out[4096];
+    size_t written = 77;
+
+    expect(cxlplan_list(NULL, 1, out, sizeof out, &written) == CXLPLAN_USAGE && written == 0, "null with a length", 1);
+    expect(cxlplan_list(cedt, cedt_len, NULL, 1, &written) == CXLPLAN_USAGE && written == 0, "a null room with a length", 1);
+    expect(cxlplan_list(NULL, 0, out, sizeof out, &written) == CXLPLAN_BAD_TABLE && written > 0, "no table", 0);
+    expect(cxlplan_check(NULL, 0, NULL, 0, NULL, 0, out, sizeof out, NULL) == CXLPLAN_BAD_TABLE, "no files", 0);
+    expect(cxlplan_run(cedt, cedt_len, topo, topo_len, NULL, 0, NULL, 0, out, sizeof out, &written) == CXLPLAN_DONE && written == 0,
+           "an empty script", 0);
+    expect(cxlplan_run(cedt, cedt_len, topo, topo_len, "", 0, "down 0", 6, out, sizeof out, &written) == CXLPLAN_BAD_IMAGE,
+           "an empty image", 0);
+    expect(cxlplan_plan(cedt, cedt_len, topo, topo_len, "\xff", 1, out, sizeof out, &written) == CXLPLAN_USAGE, "no UTF-8", 0);
+    expect(cxlplan_plan(cedt, cedt_len, topo, topo_len, NULL, 0, out, sizeof out, &written) == CXLPLAN_USAGE, "no line", 0);
+    expect(cxlplan_gen(0, out, sizeof out, &written) == CXLPLAN_USAGE, "system 0", 0);
+    expect(cxlplan_gen(33, out, sizeof out, &written) == CXLPLAN_USAGE, "system 33", 33);
+    expect(cxlplan_gen(UINT32_MAX, out, sizeof out, &written) == CXLPLAN_USAGE, "the last system", UINT32_MAX);
+}
+
+static void lengths(void)
+{
+    static unsigned char out[4096];
+    size_t written = 77, one_more = 1048577;
+    unsigned char *large = calloc(one_more, 1);
+
+    for (size_t len = SIZE_MAX; len > PTRDIFF_MAX; len -= SIZE_MAX / 16) {
+        expect(cxlplan_list(cedt, len, out, sizeof out, &written) == CXLPLAN_USAGE && written == 0, "a length", len);
+        expect(cxlplan_list(cedt, cedt_len, out, len, &written) == CXLPLAN_USAGE && written == 0, "the length of a room", len);
+    }
+    expect(large && cxlplan_list(large, one_more, out, sizeof out, &written) == CXLPLAN_TOO_LARGE, "a file that is too large", one_more);
+    expect(large && cxlplan_list(large, one_more - 1, out, sizeof out, &written) == CXLPLAN_BAD_TABLE, "a table of zeros", one_more - 1);
+    free(large);
+    /* each front of each file: an answer, whatever it is */
+    for (size_t len = 0; len <= cedt_len; len++)
+        expect(cxlplan_check(cedt, len, topo, topo_len, image, image_len, out, sizeof out, &written) <= CXLPLAN_TOO_LARGE, "a table", len);
+    for (size_t len = 0; len <= topo_len; len += 3)
+        expect(cxlplan_check(cedt, cedt_len, topo, len, image, image_len, out, sizeof out, &written) <= CXLPLAN_TOO_LARGE, "a topology", len);
+    for (size_t len = 0; len <= image_len; len += 5)
+        expect(cxlplan_check(cedt, cedt_len, topo, topo_len, image, len, out, sizeof out, &written) <= CXLPLAN_TOO_LARGE, "an image", len);
+}
+
+static void overlaps(void)
+{
+    static union {
+        size_t count;
+        unsigned char bytes[4096];
+    } all;
+    size_t written = 77;
+
+    memcpy(all.bytes, cedt, cedt_len);
+    expect(cxlplan_list(all.bytes, cedt_len, all.bytes, sizeof all, &written) == CXLPLAN_USAGE && written == 0, "the same bytes", 0);
+    expect(cxlplan_list(all.bytes, cedt_len, all.bytes + cedt_len - 1, 64, &written) == CXLPLAN_USAGE, "one byte of them", 0);
+    expect(!memcmp(all.bytes, cedt, cedt_len), "bytes that were to be read", 0);
+    expect(cxlplan_list(cedt, cedt_len, all.bytes, sizeof all, &all.count) == CXLPLAN_USAGE, "the count in the room", 0);
+}
+
+int main(int count, char **words)
+{
+    if (count != 4)
+        return 70;
+    cedt = read_file(words[1], &cedt_len);
+    topo = read_file(words[2], &topo_len);
+    image = read_file(words[3], &image_len);
+    rooms();
+    nulls();
+    lengths();
+    overlaps();
+    free(cedt);
+    free(topo);
+    free(image);
+    return faults ? 1 : 0;
+}

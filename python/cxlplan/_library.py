@@ -1,0 +1,153 @@
+"""libcxlplan by ctypes: one function a call of the library, which answers (status, bytes).
+
+The library is the one that the variable CXLPLAN_LIBRARY names, or else the one that ./prove --library built in the checkout around
+this file, or the one that ./install put below the prefix that this file was installed under, or the system's. Bytes go in as
+bytes, bytearray or memoryview, text as str, which is passed as UTF-8. Where the room is too small for an answer (status 6) the call
+is made again with a larger one. The calls are proved (cxlplan.h says what of them); this module is not."""
+import ctypes
+import os
+
+_NAME = "libcxlplan.so.1"
+_HERE = os.path.dirname(os.path.realpath(__file__))
+# Rooms that are tried one after the other, in bytes: each is freed before the next is taken.
+_FIRST_ROOM, _LAST_ROOM = 1 << 16, 1 << 31
+
+# What the functions answer as status.
+DONE, USAGE, FETCH_FAULT, BAD_TABLE, BAD_TOPO, READ_FAULT, WRITE_FAULT = range(7)
+BUS_FAULT, REFUSED, NO_MEMORY, BAD_IMAGE, TOO_MUCH, TOO_LARGE = range(7, 13)
+
+_BYTES = [ctypes.c_void_p, ctypes.c_size_t]
+_ROOM = [ctypes.c_void_p, ctypes.c_size_t, ctypes.POINTER(ctypes.c_size_t)]
+# What each function of the header takes before the room.
+_TAKES = {
+    "route": [*_BYTES, ctypes.c_uint64],
+    "list": _BYTES,
+    "normal": _BYTES,
+    "check": _BYTES * 3,
+    "plan": _BYTES * 3,
+    "run": _BYTES * 4,
+    "gen": [ctypes.c_uint32],
+    "version": [],
+}
+
+
+class LibraryMissing(OSError):
+    """There is no libcxlplan where it is looked for, or it lacks a call."""
+
+
+def places():
+    """Where the library is looked for, in this order; the last is a name for the system's loader."""
+    named = os.environ.get("CXLPLAN_LIBRARY")
+    if named:
+        return [named]
+    top = os.path.dirname(os.path.dirname(_HERE))
+    # of PREFIX/share/cxlplan/python/cxlplan the library is in PREFIX/lib
+    prefix = os.path.dirname(os.path.dirname(top))
+    return [f"{top}/crates/cxl_c/out/{_NAME}", f"{prefix}/lib/{_NAME}", _NAME]
+
+
+def _load():
+    said = []
+    for place in places():
+        if "/" in place and not os.path.exists(place):
+            continue
+        try:
+            found = ctypes.CDLL(place)
+        except OSError as fault:
+            said.append(str(fault))
+            continue
+        for name, takes in _TAKES.items():
+            try:
+                call = getattr(found, f"cxlplan_{name}")
+            except AttributeError:
+                raise LibraryMissing(f"{place} has no cxlplan_{name}") from None
+            call.argtypes, call.restype = [*takes, *_ROOM], ctypes.c_int
+        return found
+    raise LibraryMissing("; ".join(said) or f"there is no {_NAME} at {', '.join(places())}")
+
+
+_LOADED = []
+
+
+def library():
+    """The library, loaded at the first call."""
+    if not _LOADED:
+        _LOADED.append(_load())
+    return _LOADED[0]
+
+
+def _passed(data):
+    """Bytes as what ctypes passes for them: their address, which stays while the bytes do, and their number."""
+    if data is None:
+        return None, 0, None
+    if isinstance(data, str):
+        data = data.encode()
+    if not isinstance(data, bytes):
+        data = bytes(data)
+    return ctypes.cast(ctypes.c_char_p(data), ctypes.c_void_p), len(data), data
+
+
+def _answer(call, words):
+    """What a call answers with a room that is large enough, or with the largest that is tried."""
+    room = _FIRST_ROOM
+    while True:
+        out, written = ctypes.create_string_buffer(room), ctypes.c_size_t(0)
+        status = call(*words, out, room, ctypes.byref(written))
+        if status != WRITE_FAULT or room >= _LAST_ROOM:
+            return status, ctypes.string_at(out, written.value)
+        del out
+        room *= 8
+
+
+def _call(name, *data, more=()):
+    # the bytes are held here until the call is over
+    held = [_passed(it) for it in data]
+    words = [word for at, size, _ in held for word in (at, size)]
+    return _answer(getattr(library(), f"cxlplan_{name}"), [*words, *more])
+
+
+def _number(number, bits):
+    """A number that fits, since ctypes would cut off what does not."""
+    if not 0 <= number < 1 << bits:
+        raise ValueError(f"{number} is no number of {bits} bits")
+    return number
+
+
+def route(cedt, address):
+    """Where a host address goes: its window, position and host bridge."""
+    return _call("route", cedt, more=[_number(address, 64)])
+
+
+def list_(cedt):
+    """A line for each record of a table."""
+    return _call("list", cedt)
+
+
+def normal(cedt):
+    """The table's bytes with its reserved fields zero."""
+    return _call("normal", cedt)
+
+
+def check(cedt, topo, image):
+    """The regions of a register image, or the first rule that it breaks (status 8)."""
+    return _call("check", cedt, topo, image)
+
+
+def plan(cedt, topo, line):
+    """The registers that make the region of a create line after reset, or why there is none (status 8)."""
+    return _call("plan", cedt, topo, line)
+
+
+def run(cedt, topo, script, image=None):
+    """What the lines of a script are answered, on the host after reset, or with the registers of an image."""
+    return _call("run", cedt, topo, image, script)
+
+
+def gen(number):
+    """The generated system of 4 * number endpoints, for a number from 1 to 32, carried out."""
+    return _call("gen", more=[_number(number, 32)])
+
+
+def version():
+    """The version, as a line."""
+    return _call("version")
