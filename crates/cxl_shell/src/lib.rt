@@ -9,6 +9,7 @@ mod runs;
 mod shell;
 mod statuses;
 
+pub use commands::script::{over_session, unopened};
 pub use completeness::runs_are_complete;
 pub use cxl_commands::{
     HELP, VERSION, check_statuses, help_statuses, list_statuses, normal_statuses, plan_statuses,

@@ -81,8 +81,9 @@ pub(crate) fn script<S: Source, K: Sink, R: Regs, M: Roll>(
     }
 }
 
-/// Carries out the commands of a script over an open session, and tells where reading it stopped before its end.
-fn over_session<S: Source, K: Sink, R: Regs, M: Roll>(
+/// Carries out the commands of a script over an open session, and tells where reading it stopped before its end. Registers and
+/// media hold what the last call on this session left in them. (This project's rule.) Takes memory.
+pub fn over_session<S: Source, K: Sink, R: Regs, M: Roll>(
     alloc: Global,
     session: &mut Session,
     source: &mut S,
@@ -108,8 +109,8 @@ fn over_session<S: Source, K: Sink, R: Regs, M: Roll>(
     }
 }
 
-/// What it comes to that no session opens on an accepted image. Takes no memory, as the four below.
-pub(crate) fn unopened(fault: OpenFault) -> Result<Outcome, Stop>
+/// What it comes to that no session opens on an accepted image. (This project's rule.) Takes no memory, as the four below.
+pub fn unopened(fault: OpenFault) -> Result<Outcome, Stop>
     requires { (b : Breach) → fault ≢ OpenFault.Breach b }
     ensures full { (n : ℕ) → fault ≡ OpenFault.Full n → result ≡ Ok too_many_regions }
     ensures bus { fault ≡ OpenFault.Bus → result ≡ Ok bus_failed }

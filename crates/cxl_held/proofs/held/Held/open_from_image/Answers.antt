@@ -1,0 +1,23 @@
+use Rattle.std.proofs.Common.{Some, refl}
+use Rattle.cxl_model.specs.System.{system_of}
+use Rattle.cxl_held.proofs.Hosts.{host_is, opened_over, refused_over, stopped}
+use Rattle.cxl_held.proofs.held.Held.open_from_image.Goals as goal
+
+pub returns-in-Ok-clause-opened : goal.returns-in-Ok-clause-opened
+returns-in-Ok-clause-opened g c =
+    let host = c.in-Ok.host in
+    let read = c.in-Ok.ensures.read in
+    opened_over c.args.cedt.now c.args.topo.now (Some c.args.image.now) (g.F.Fetch.state c.args.files.now) (g.F.Fetch.state c.fetch_host.new.files) (g.K.Sink.state c.args.out.now) (g.K.Sink.state c.open_checked.new.out)
+    (system_of host.image host.topo host.windows.items) host.topo.frames (read.0, host.topo, host.image, read.1, host_is read.0 host.topo host.image host.windows.items read.2, refl) c.open_checked.result c.open_checked.ensures.opened
+
+pub returns-in-Ok-clause-unopened : goal.returns-in-Ok-clause-unopened
+returns-in-Ok-clause-unopened g c =
+    let host = c.in-Ok.host in
+    let read = c.in-Ok.ensures.read in
+    refused_over c.args.cedt.now c.args.topo.now (Some c.args.image.now) (g.F.Fetch.state c.args.files.now) (g.F.Fetch.state c.fetch_host.new.files) (g.K.Sink.state c.args.out.now) (g.K.Sink.state c.open_checked.new.out)
+    (system_of host.image host.topo host.windows.items) host.topo.frames (read.0, host.topo, host.image, read.1, host_is read.0 host.topo host.image host.windows.items read.2, refl) c.open_checked.result c.open_checked.ensures.refused
+
+pub returns-in-Err-clause-unopened : goal.returns-in-Err-clause-unopened
+returns-in-Err-clause-unopened g c =
+    stopped c.args.cedt.now c.args.topo.now (Some c.args.image.now) (g.F.Fetch.state c.args.files.now) (g.F.Fetch.state c.fetch_host.new.files) (g.K.Sink.state c.args.out.now) (g.K.Sink.state c.finish.new.out)
+    _ c.in-Err.stop c.finish.result c.in-Err.ensures.stops c.finish.ensures.finishes

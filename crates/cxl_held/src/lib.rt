@@ -1,0 +1,12 @@
+//! A session that a program keeps over the simulator, with its registers and its device memory.
+#![tactic(auto)]
+
+mod acting;
+mod held;
+mod opening;
+mod trail_bus;
+
+pub use cxl_bus::Sent;
+pub use cxl_inputs::Status;
+pub use held::Held;
+pub use trail_bus::TrailBus;
