@@ -14,7 +14,7 @@ static struct file read_file(const char *name)
 {
     struct file file = {NULL, 0};
     FILE *from = fopen(name, "rb");
-    size_t room = 1 << 21;
+    size_t room = 1 << 25;
 
     file.bytes = malloc(room);
     if (!from || !file.bytes) {

@@ -1,0 +1,227 @@
+"""The library beside the program: each row is answered by both, byte for byte, through C, Python and Rust. The program is the one
+that the variable CXLPLAN names, or else crates/cxlplan/out/cxlplan; the libraries are in the folder that CXLPLAN_LIBRARIES names, or
+else in crates/cxl_c/out. What the machine lacks, a compiler or valgrind, is skipped."""
+
+import os
+import re
+import shutil
+import subprocess
+import sys
+import tempfile
+import unittest
+
+sys.dont_write_bytecode = True
+HERE = os.path.dirname(os.path.abspath(__file__))
+TOP = os.path.dirname(os.path.dirname(HERE))
+PROGRAM = os.path.realpath(os.environ.get("CXLPLAN", f"{TOP}/crates/cxlplan/out/cxlplan"))
+BUILT = os.path.realpath(os.environ.get("CXLPLAN_LIBRARIES", f"{TOP}/crates/cxl_c/out"))
+STATIC, SHARED = f"{BUILT}/libcxlplan.a", f"{BUILT}/libcxlplan.so.1"
+HOST = [f"{TOP}/examples/four-endpoints.{it}" for it in ("cedt", "toml", "image")]
+DATA = f"{HERE}/data"
+STRICT = ["-std=c99", "-Wall", "-Wextra", "-Werror", "-pedantic", "-O1", "-g", f"-I{TOP}/library"]
+FILES = {"route": 1, "list": 1, "normal": 1, "plan": 2, "check": 3}
+SECONDS = 300
+
+os.environ.setdefault("CXLPLAN_LIBRARY", SHARED)
+sys.path.insert(0, f"{TOP}/python/cxlplan")
+import _library  # noqa: E402 pylint: disable=wrong-import-position
+
+
+def read(path):
+    with open(path, "rb") as file:
+        return file.read()
+
+
+def write(path, data):
+    with open(path, "wb") as file:
+        file.write(data)
+    return path
+
+
+def images():
+    """The real images: each with its table and its topology, and the lines `down` of the stores that were seen of it."""
+    for name in sorted(os.listdir(DATA)):
+        if os.path.isdir(f"{DATA}/{name}"):
+            yield name, [f"{DATA}/{name}/{it}" for it in ("table.cedt", "topo.toml", "image.bin")]
+
+
+def rows(folder):
+    """The rows: words of a command line, a script as a file behind its two files, then the image, where it has one."""
+    for name in sorted(it for it in os.listdir(DATA) if it.endswith(".cedt")):
+        table = f"{DATA}/{name}"
+        yield from (["list", table], ["normal", table])
+        yield from (["route", table, hex(at)] for at in (0, 0x110004500, 0x280004500, 0x310004500, 0x350004500, 2**64 - 1))
+    for name, files in images():
+        yield ["check", *files]
+        script = "".join(f"show r{n}\nload r{n} 0 16\n" for n in range(3)) + "poison 00\n"
+        if os.path.exists(f"{DATA}/{name}/stores.txt"):
+            script += "".join(f"down {line.split()[0]}\n" for line in read(f"{DATA}/{name}/stores.txt").decode().splitlines())
+        yield ["run", *files[:2], write(f"{folder}/{name}.script", script.encode()), files[2]]
+    for name in ("first", "session", "steps", "firmware"):
+        yield ["run", *HOST[:2], f"{TOP}/examples/{name}.script"]
+        yield ["run", *HOST[:2], f"{TOP}/examples/{name}.script", HOST[2]]
+    for line in ("create r0 pmem 0x20000000 d1 d2", "create r0 pmem 0x20000000 d2", "create r0 pmem 0x1 d1", "show r0", "", "nonsense"):
+        yield ["plan", *HOST[:2], line]
+    yield from (["gen", str(n)] for n in (0, 1, 3, 32, 33))
+    yield ["version"]
+    # what is no table, no topology, no image, or too large
+    cut = [write(f"{folder}/cut.{n}", read(path)[:-3]) for n, path in enumerate(HOST)]
+    large = write(f"{folder}/large", bytes(1048577))
+    for bad in (*cut, large, write(f"{folder}/empty", b"")):
+        yield ["list", bad]
+        yield from (["check", *HOST[:at], bad, *HOST[at + 1:]] for at in range(3))
+    yield ["run", *HOST[:2], write(f"{folder}/long", b"down 0\n" * 2396746)]
+    yield ["run", *HOST[:2], write(f"{folder}/odd", b"\0\xff\n" + b"x" * 5000 + b"\r\n\n load")]
+
+
+def by_program(row):
+    """What the program answers to a row, over files with the names that the library tells of them."""
+    names = ["cedt", "topology", "image"]
+    with tempfile.TemporaryDirectory() as folder:
+        words, script = list(row), b""
+        if row[0] == "run":
+            script = read(words.pop(3))
+        for at, name in enumerate(names[:FILES.get(row[0], len(words) - 1 if row[0] == "run" else 0)], 1):
+            shutil.copyfile(words[at], f"{folder}/{name}")
+            words[at] = name
+        ran = subprocess.run([PROGRAM, *(["--version"] if row == ["version"] else words)], input=script, stdout=subprocess.PIPE,
+                             stderr=subprocess.DEVNULL, timeout=SECONDS, check=False, cwd=folder)
+    return ran.returncode, ran.stdout
+
+
+def by_python(row):
+    files = [read(it) for it in row[1:1 + FILES.get(row[0], 3 if row[0] == "run" else 0)]]
+    if row[0] == "run":
+        return _library.run(*files, read(row[4]) if len(row) > 4 else None)
+    if row[0] == "route":
+        return _library.route(*files, int(row[2], 0))
+    if row[0] == "plan":
+        return _library.plan(*files, row[3])
+    if row[0] == "gen":
+        return _library.gen(int(row[1]))
+    return getattr(_library, {"list": "list_"}.get(row[0], row[0]))(*files)
+
+
+def by_driver(words, all_rows, **how):
+    """What a driver answers to all rows."""
+    given = "".join("\t".join(row) + "\n" for row in all_rows).encode()
+    ran = subprocess.run(words, input=given, stdout=subprocess.PIPE, stderr=subprocess.PIPE, timeout=SECONDS, check=False, **how)
+    if ran.returncode:
+        raise AssertionError(f"{words[0]} ended with {ran.returncode}: {ran.stderr.decode(errors='replace')[-2000:]}")
+    found, rest = [], ran.stdout
+    while rest:
+        head, _, rest = rest.partition(b"\n")
+        status, size = map(int, head.split())
+        found.append((status, rest[:size]))
+        rest = rest[size:]
+    return found
+
+
+@unittest.skipUnless(os.path.exists(SHARED) and os.access(PROGRAM, os.X_OK), "there is no built library, or no program")
+class Library(unittest.TestCase):
+    """Each caller, over the same rows."""
+
+    @classmethod
+    def setUpClass(cls):
+        cls.folder = tempfile.mkdtemp()
+        cls.rows = list(rows(cls.folder))
+        # the C driver cuts rows at tabs, and takes an empty word for none
+        cls.worded = [row for row in cls.rows if "" not in row]
+        cls.wanted = {tuple(row): by_program(row) for row in cls.rows}
+
+    @classmethod
+    def tearDownClass(cls):
+        shutil.rmtree(cls.folder)
+
+    def compare(self, row, found):
+        wanted = self.wanted[tuple(row)]
+        if found != wanted:
+            self.fail(f"{' '.join(row)}: {found[0]} {found[1][:200]} .. and not {wanted[0]} {wanted[1][:200]} ..")
+
+    def compare_all(self, found):
+        self.assertEqual(len(found), len(self.worded))
+        for row, one in zip(self.worded, found):
+            self.compare(row, one)
+
+    def compiled(self, source, *flags):
+        if not shutil.which("cc"):
+            self.skipTest("there is no C compiler here")
+        made = f"{self.folder}/{os.path.basename(source)}.made"
+        subprocess.run(["cc", *STRICT, "-o", made, source, *flags], check=True)
+        return made
+
+    def under_valgrind(self, made):
+        if not shutil.which("valgrind"):
+            self.skipTest("there is no valgrind here")
+        return ["valgrind", "-q", "--error-exitcode=99", "--leak-check=full", made]
+
+    def test_rows(self):
+        """All statuses but 2, 5, 7 and 9 come, so that the rows say something."""
+        self.assertEqual({status for status, _ in self.wanted.values()}, {0, 1, 3, 4, 8, 10, 11, 12})
+
+    def test_python(self):
+        for row in self.rows:
+            self.compare(row, by_python(row))
+
+    def test_c_with_sanitizers(self):
+        self.compare_all(by_driver([self.compiled(f"{HERE}/answers.c", "-fsanitize=address,undefined", STATIC)], self.worded))
+
+    def test_c_under_valgrind(self):
+        made = self.compiled(f"{HERE}/answers.c", SHARED, f"-Wl,-rpath,{BUILT}")
+        few = [row for row in self.worded if row[0] != "gen" and not row[-1].endswith("long")]
+        found = by_driver(self.under_valgrind(made), few)
+        for row, one in zip(few, found):
+            self.compare(row, one)
+
+    def test_hostile(self):
+        made = self.compiled(f"{HERE}/hostile.c", "-fsanitize=address,undefined", STATIC)
+        ran = subprocess.run([made, *HOST], stdout=subprocess.PIPE, stderr=subprocess.STDOUT, timeout=SECONDS, check=False)
+        self.assertEqual((ran.returncode, ran.stdout), (0, b""))
+        made = self.compiled(f"{HERE}/hostile.c", SHARED, f"-Wl,-rpath,{BUILT}")
+        ran = subprocess.run([*self.under_valgrind(made), *HOST], stdout=subprocess.PIPE, stderr=subprocess.STDOUT, timeout=SECONDS,
+                             check=False)
+        self.assertEqual((ran.returncode, ran.stdout), (0, b""))
+
+    def test_rust(self):
+        if not shutil.which("rustc"):
+            self.skipTest("there is no Rust compiler here")
+        strict = ["rustc", "--edition", "2021", "-O", "-D", "warnings"]
+        crate = f"{self.folder}/libcxlplan.rlib"
+        subprocess.run([*strict, "--crate-type", "rlib", "--crate-name", "cxlplan", "-o", crate, f"-Lnative={BUILT}", "-lstatic=cxlplan",
+                        f"{TOP}/examples/rust/src/lib.rs"], check=True)
+        for source in (f"{HERE}/answers.rs", f"{TOP}/examples/rust/src/bin/check.rs"):
+            made = f"{self.folder}/{os.path.basename(source)}.made"
+            subprocess.run([*strict, "--extern", f"cxlplan={crate}", f"-Lnative={BUILT}", "-o", made, source], check=True)
+        self.compare_all(by_driver([f"{self.folder}/answers.rs.made"], self.worded))
+        self.check_is_the_same(f"{self.folder}/check.rs.made")
+
+    def test_example(self):
+        self.check_is_the_same(self.compiled(f"{TOP}/examples/c/check.c", SHARED, f"-Wl,-rpath,{BUILT}"))
+
+    def check_is_the_same(self, made):
+        """A program that checks an image answers as the program does."""
+        for _, files in images():
+            ran = subprocess.run([made, *files], stdout=subprocess.PIPE, timeout=SECONDS, check=False)
+            self.compare(["check", *files], (ran.returncode, ran.stdout))
+
+    def test_cpp(self):
+        if not shutil.which("c++"):
+            self.skipTest("there is no C++ compiler here")
+        source = write(f"{self.folder}/version.cc", b"#include <cxlplan.h>\nint main() { return cxlplan_version(nullptr, 0, nullptr); }\n")
+        made = f"{self.folder}/version.made"
+        subprocess.run(["c++", "-Wall", "-Wextra", "-Werror", f"-I{TOP}/library", "-o", made, source, STATIC], check=True)
+        self.assertEqual(subprocess.run([made], check=False).returncode, 6)
+
+    def test_names(self):
+        """Header, shared library and Python module have the same calls, and the library shows no other name."""
+        declared = set(re.findall(r"^int (cxlplan_\w+)\(", read(f"{TOP}/library/cxlplan.h").decode(), re.M))
+        self.assertEqual(declared, {f"cxlplan_{it}" for it in _library._TAKES})
+        if shutil.which("nm"):
+            said = subprocess.run(["nm", "-D", "--defined-only", SHARED], stdout=subprocess.PIPE, check=True).stdout.decode()
+            self.assertEqual({line.split()[-1] for line in said.splitlines()}, declared)
+        version = re.search(r'CXLPLAN_VERSION "(.*)"', read(f"{TOP}/library/cxlplan.h").decode()).group(1)
+        self.assertEqual(_library.version(), (0, f"cxlplan {version}\n".encode()))
+
+
+if __name__ == "__main__":
+    unittest.main()
