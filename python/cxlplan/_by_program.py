@@ -7,6 +7,7 @@ from typing import Optional
 
 from . import _retold, texts
 from ._bench import Bench
+from ._retold import Retelling
 from .errors import Broken, NoEngine, fault_of
 
 SENTINEL = b"step\n"  # a line that changes nothing, and is always answered ANSWER
@@ -34,7 +35,7 @@ class Files:
         self.place.cleanup()
 
 
-class ProgramEngine:
+class ProgramEngine(Retelling):
     """The forms of the program, each a run of it."""
 
     kind = "program"
@@ -74,31 +75,6 @@ class ProgramEngine:
 
     def version(self) -> str:
         return self.call("--version")[1].decode().strip()
-
-    # ---- What the program has no form for: told anew from the files that it has read.
-
-    def tree(self, cedt: bytes, topo: bytes) -> list:
-        return _retold.nodes_of(topo, self.read(cedt, topo, b""))
-
-    def windows(self, cedt: bytes, topo: bytes) -> list:
-        status, text = self.listing(cedt)
-        if status:
-            raise fault_of(status, text.decode())
-        return _retold.windows_with(texts.records(text.decode()), self.tree(cedt, topo))
-
-    def decoders(self, cedt: bytes, topo: bytes, image: bytes) -> list:
-        return _retold.decoders_of(image, _retold.nodes_of(topo, self.read(cedt, topo, image)))
-
-    def breaches(self, cedt: bytes, topo: bytes, image: bytes) -> list:
-        """The first place alone, which is all that the program tells."""
-        status, text = self.check(cedt, topo, image)
-        return texts.places(text.decode()) if status == 8 else []
-
-    def read(self, cedt: bytes, topo: bytes, image: bytes) -> None:
-        """Has the program read the files, so that only what it takes is told."""
-        status, text = self.check(cedt, topo, image)
-        if status not in (0, 8) and not (status == 10 and not image):
-            raise fault_of(status, text.decode())
 
     def session(self, cedt: bytes, topo: bytes, image: Optional[bytes]) -> "ProgramSession":
         return ProgramSession(self, cedt, topo, image)

@@ -14,7 +14,7 @@ HOW = ("neither libcxlplan.so nor the program cxlplan is found: run ./prove in t
        "CXLPLAN_LIBRARY or CXLPLAN")
 HERE = os.path.dirname(os.path.realpath(__file__))
 TOP = os.path.dirname(os.path.dirname(HERE))  # the repository, where the package stands in one
-PREFIX = os.path.dirname(TOP)  # of an install, where it stands in share/cxlplan
+PREFIX = os.path.dirname(os.path.dirname(TOP))  # of an install, where it stands in share/cxlplan/python
 _kept = threading.local()
 
 
@@ -25,10 +25,14 @@ def places(name: str, variable: str, folders: list) -> list:
     return [os.path.join(folder, name) for folder in folders]
 
 
-def library_file() -> Optional[str]:
-    """libcxlplan.so of a repository, of an install, or beside this package."""
-    folders = [HERE, os.path.join(TOP, "crates", "cxl_library", "out"), os.path.join(PREFIX, "lib"), "/usr/local/lib", "/usr/lib"]
-    return next((file for file in places("libcxlplan.so", "CXLPLAN_LIBRARY", folders) if os.path.isfile(file)), None)
+def library():
+    """The module over libcxlplan.so, where that is found."""
+    try:
+        from . import _library
+        _library.library()
+    except (ImportError, OSError):
+        return None
+    return _library
 
 
 def program_file(name: str = "cxlplan", variable: str = "CXLPLAN") -> Optional[str]:
@@ -51,13 +55,14 @@ def use(found) -> None:
 
 
 def find():
-    """The library, else the program."""
-    file = library_file()
-    if file and os.environ.get("CXLPLAN_ENGINE", "library") == "library":
+    """The library, else the program. CXLPLAN_ENGINE=program passes over the library."""
+    from ._by_program import ProgramEngine
+    name = program_file()
+    program = ProgramEngine(name, program_file("cxlbench", "CXLBENCH")) if name else None
+    found = library() if os.environ.get("CXLPLAN_ENGINE") != "program" else None
+    if found:
         from ._by_library import LibraryEngine
-        return LibraryEngine(file)
-    program = program_file()
-    if program:
-        from ._by_program import ProgramEngine
-        return ProgramEngine(program, program_file("cxlbench", "CXLBENCH"))
-    raise NoEngine(HOW)
+        return LibraryEngine(found, program)
+    if program is None:
+        raise NoEngine(HOW)
+    return program

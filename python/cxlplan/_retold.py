@@ -4,7 +4,8 @@ What it has not read and taken is not told. With the library nothing of this is 
 import struct
 from typing import Optional
 
-from .errors import NoEngine
+from . import texts
+from .errors import NoEngine, fault_of
 from .facts import Decoder, Node, Window
 
 try:
@@ -108,3 +109,30 @@ def decoder_of(node: Node, number: int, words) -> Decoder:
                    256 << (control & 15) if control & 15 < 7 else None,
                    None if is_end else tuple((tail >> 8 * i) & 255 for i in range(min(ways or 8, 8))), tail if is_end else None,
                    tuple(words[:7]))
+
+
+class Retelling:
+    """The calls of an engine that its program has no form for, over its `check` and its `listing`."""
+
+    def tree(self, cedt: bytes, topo: bytes) -> list:
+        return nodes_of(topo, self.read(cedt, topo, b""))
+
+    def windows(self, cedt: bytes, topo: bytes) -> list:
+        status, text = self.listing(cedt)
+        if status:
+            raise fault_of(status, text.decode())
+        return windows_with(texts.records(text.decode()), self.tree(cedt, topo))
+
+    def decoders(self, cedt: bytes, topo: bytes, image: bytes) -> list:
+        return decoders_of(image, nodes_of(topo, self.read(cedt, topo, image)))
+
+    def breaches(self, cedt: bytes, topo: bytes, image: bytes) -> list:
+        """The first place alone, which is all that the program tells."""
+        status, text = self.check(cedt, topo, image)
+        return texts.places(text.decode()) if status == 8 else []
+
+    def read(self, cedt: bytes, topo: bytes, image: bytes) -> None:
+        """Has the program read the files, so that only what it takes is told."""
+        status, text = self.check(cedt, topo, image)
+        if status not in (0, 8) and not (status == 10 and not image):
+            raise fault_of(status, text.decode())
