@@ -1,10 +1,9 @@
-"""The library in this process. What an older library has no call for is asked of the program, or told anew."""
+"""The library in this process. Sessions are the program's, and what the library has no call for is told anew."""
 
 from typing import Optional
 
 from . import _retold, texts
 from .errors import NoEngine, fault_of
-from .facts import Write
 
 
 def told(pair: tuple) -> str:
@@ -72,47 +71,7 @@ class LibraryEngine(_retold.Retelling):
         return texts.places(told(self.library.breaches(cedt, topo, image)))
 
     def session(self, cedt: bytes, topo: bytes, image: Optional[bytes]):
-        if hasattr(self.library, "Session"):
-            return LibrarySession(self, cedt, topo, image)
+        """A run of the program: the library keeps no sessions."""
         if self.program is None:
-            raise NoEngine("this libcxlplan.so keeps no sessions: name the program in CXLPLAN")
+            raise NoEngine("libcxlplan.so keeps no sessions: name the program in CXLPLAN, or put it on the search path")
         return self.program.session(cedt, topo, image)
-
-
-class LibrarySession:
-    """A session that the library keeps."""
-
-    def __init__(self, engine: LibraryEngine, cedt: bytes, topo: bytes, image: Optional[bytes]) -> None:
-        self.engine, self.host = engine, (cedt, topo)
-        self.session = engine.library.Session()
-        status, data = self.session.open(cedt, topo, image)
-        if status:
-            text = data.decode("ascii", "replace")
-            raise (texts.breach(text) if text.startswith("breach ") else texts.refusal(text) if status == 8 else fault_of(status, text))
-        self.names: list = []
-
-    def act(self, line: str) -> str:
-        """What the session replies to a line; nothing to a comment or a blank line."""
-        sent = line.encode()
-        if b"\n" in sent:
-            raise ValueError("a line of a session has no line feed within it")
-        status, data = self.session.act(sent + b"\n")
-        if status:
-            raise fault_of(status, data.decode("ascii", "replace"))
-        return data.decode()
-
-    def watch(self) -> None:
-        """The words of writes are always told."""
-
-    def words(self) -> list:
-        """The register writes that the last line sent."""
-        if not self.names:
-            self.names = [node.name for node in self.engine.tree(*self.host)]
-        return [Write(self.names[node], offset, value) for node, offset, value in self.session.words()]
-
-    def image(self) -> bytes:
-        """The registers as they stand."""
-        return self.session.image()
-
-    def close(self) -> None:
-        self.session.close()

@@ -11,7 +11,10 @@ from .facts import Decoder, Node, Window
 try:
     import tomllib
 except ImportError:  # before Python 3.11
-    tomllib = None
+    try:
+        import tomli as tomllib
+    except ImportError:
+        tomllib = None
 
 COUNTS = (1, 2, 4, 6, 8, 10)
 WAYS = {0: 1, 1: 2, 2: 4, 3: 8, 4: 16, 8: 3, 9: 6, 10: 12}
@@ -22,7 +25,7 @@ LOCK, COMMIT, COMMITTED, ERROR, HOST_ONLY = (1 << bit for bit in range(8, 13))
 def nodes_of(topo: bytes, _taken: None) -> list:
     """The nodes of a topology that the program has taken: bridges, switches, endpoints."""
     if tomllib is None:
-        raise NoEngine("the tree is told by libcxlplan.so, or with Python 3.11 or later: name the library in CXLPLAN_LIBRARY")
+        raise NoEngine("the tree is told with Python 3.11 or later, or with the package tomli; there is neither")
     top, nodes = tomllib.loads(topo.decode()), []
     for kind in ("bridge", "switch", "endpoint"):
         for table in top.get(kind, []):

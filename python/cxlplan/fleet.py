@@ -4,6 +4,7 @@
 
 import json
 import os
+import signal
 import sqlite3
 from concurrent.futures import FIRST_COMPLETED, ProcessPoolExecutor, wait
 from typing import Iterable, Iterator, Optional
@@ -172,13 +173,23 @@ def judged(shares: list, decoders: bool, jobs: int) -> Iterator[list]:
     if jobs < 2 or len(shares) < 2:
         yield from (judge_all(share, decoders) for share in shares)
         return
-    with ProcessPoolExecutor(jobs) as pool:
-        waiting, rest = set(), iter(shares)
-        for share in rest:
-            waiting.add(pool.submit(judge_all, share, decoders))
-            if len(waiting) > 2 * jobs:
-                ready, waiting = wait(waiting, return_when=FIRST_COMPLETED)
-                yield from (it.result() for it in ready)
-        while waiting:
+    # a stop by the keyboard is this process's to take: what workers have begun is ended, and no more is
+    with ProcessPoolExecutor(jobs, initializer=signal.signal, initargs=(signal.SIGINT, signal.SIG_IGN)) as pool:
+        try:
+            yield from gathered(pool, shares, decoders, jobs)
+        except BaseException:
+            pool.shutdown(wait=True, cancel_futures=True)
+            raise
+
+
+def gathered(pool, shares: list, decoders: bool, jobs: int) -> Iterator[list]:
+    """The verdicts of each share, of which a few wait for a worker at a time."""
+    waiting: set = set()
+    for share in shares:
+        waiting.add(pool.submit(judge_all, share, decoders))
+        if len(waiting) > 2 * jobs:
             ready, waiting = wait(waiting, return_when=FIRST_COMPLETED)
             yield from (it.result() for it in ready)
+    while waiting:
+        ready, waiting = wait(waiting, return_when=FIRST_COMPLETED)
+        yield from (it.result() for it in ready)

@@ -163,7 +163,7 @@ class Host:
 
     @cached_property
     def breaches(self) -> list:
-        """All places that break the first broken rule."""
+        """The places that break the first broken rule, as far as the proved calls tell them: the first of all comes first."""
         return engine().breaches(*self._bytes, self.registers) if self.image else []
 
     # ---- Where an address lies.
@@ -198,7 +198,7 @@ class Host:
         return room_of(self)
 
     def places(self) -> list:
-        """All broken places, first that of `check`: as Place, or none."""
+        """The broken places, first that of `check`; none of sound registers."""
         found = self.breach
         return self.breaches or ([Place(found.rule, found.node, found.decoder)] if found else [])
 

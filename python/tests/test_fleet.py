@@ -2,10 +2,14 @@
 
 import json
 import os
+import signal
 import sqlite3
+import subprocess
+import sys
+import time
 import unittest
 
-from here import FOUR, LOST, SCHEMA, Case, asks_the_engine, faults, machines, said
+from here import FOUR, LOST, PYTHON, SCHEMA, Case, asks_the_engine, faults, machines, said
 from cxlplan import Host
 from cxlplan.fleet import Lines, folders_in, judge
 
@@ -77,6 +81,31 @@ class Fleet(Case):
                 os.link(os.path.join(machine, name), self.path(f"many/{number}/{name}"))
         one, two = (sorted(said("fleet", self.path("many"), "--jobs", jobs)[1].splitlines()) for jobs in ("1", "3"))
         self.assertEqual((one, len(one)), (two, 250))
+
+    def test_stopped(self):
+        """Stopped by the keyboard it ends in one line, and goes on with what is left: each host has one verdict in the end."""
+        machine = self.captured("x4-pass-switch")
+        for number in range(1500):
+            os.makedirs(self.path(f"many/{number}"))
+            for name in ("table.cedt", "topo.toml", "image.bin"):
+                os.link(os.path.join(machine, name), self.path(f"many/{number}/{name}"))
+        out = self.path("out.jsonl")
+        words = [sys.executable, os.path.join(PYTHON, "cxldesk"), "fleet", self.path("many"), "--out", out, "--jobs", "2"]
+        ran = subprocess.Popen(words, stderr=subprocess.PIPE, stdout=subprocess.DEVNULL, start_new_session=True)
+        while ran.poll() is None and not (os.path.exists(out) and os.path.getsize(out)):
+            time.sleep(0.01)
+        if ran.poll() is None:
+            os.killpg(ran.pid, signal.SIGINT)
+        line = ran.communicate(timeout=120)[1]
+        self.assertIn((ran.returncode, line.decode().splitlines()[-1]), (
+            (130, "cxldesk: interrupted"), (0, "cxldesk: 1500 hosts: 1500 sound, 0 broken, 0 not read")))
+        done = len(Lines.kept(out))
+        status, _, line = said("fleet", self.path("many"), "--out", out)
+        self.assertEqual(status, 0)
+        self.assertTrue(line.startswith(f"cxldesk: {1500 - done} hosts: {1500 - done} sound"), line)
+        with open(out, encoding="utf-8") as file:
+            hosts = [json.loads(row)["host"] for row in file]
+        self.assertEqual((len(hosts), len(set(hosts))), (1500, 1500))
 
     def test_judge(self):
         """One host, as another engine would ask."""

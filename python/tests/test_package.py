@@ -133,6 +133,25 @@ class Hosts(Case):
 
 
 class Engines(Case):
+    def test_read_only_calls(self):
+        """A library that has read-only calls is asked by them; a fault of one is raised."""
+        from cxlplan._by_library import LibraryEngine
+
+        class Library:
+            """As the module over such a library."""
+            tree = staticmethod(lambda topo: (0, Texts.TREE.encode()))
+            decoders = staticmethod(lambda topo, image: (0, Texts.DECODERS.encode()) if image else (10, b"error: image cut 0\n"))
+            windows = staticmethod(lambda cedt, topo: (0, b"chbs 1 version 1 base 0x0 length 0x0\nwindow 0 base 0x0 size 0x0 ways 1 gran 256 "
+                                                          b"modulo restrict 0x0000 qtg 0 targets 1 size\n"))
+            breaches = staticmethod(lambda cedt, topo, image: (0, b"breach K12 d4 0\nbreach K12 d5 0\n"))
+        found = LibraryEngine(Library)
+        self.assertEqual([it.name for it in found.tree(b"", b"")], ["hb16", "p1", "e0"])
+        self.assertEqual([it.node for it in found.decoders(b"", b"", b"x")], ["hb16", "e0"])
+        self.assertEqual([it.verdict for it in found.windows(b"", b"")], ["size"])
+        self.assertEqual([it.node for it in found.breaches(b"", b"", b"")], ["d4", "d5"])
+        self.assertRaises(BadImage, found.decoders, b"", b"", b"")
+        self.assertRaises(NoEngine, found.session, b"", b"", None)
+
     def test_none(self):
         """Where neither is found, one line says how to get it."""
         environment = {**os.environ, "CXLPLAN": "/none", "CXLPLAN_LIBRARY": "/none", "PATH": "/none"}

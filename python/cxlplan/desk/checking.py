@@ -1,5 +1,5 @@
-"""`check`: the regions of sound registers; else each place that breaks the first broken rule, what was found there, what the rule wants
-and why, and the other decoders of the range beside it."""
+"""`check`: the regions of sound registers; else where the first broken rule is broken, what was found there, what the rule wants and why,
+and the other decoders of the range beside it."""
 
 from ..explain import RULES
 from ..found import found_at

@@ -10,7 +10,7 @@ from .words import Parser
 # By the word of the command: where its words are said, and where it is carried out.
 COMMANDS = {
     "show": (showing, "windows, tree, decoders and regions, also of registers that are refused"),
-    "check": (checking, "whether the registers are sound; else each broken place, what was found, what is wanted and why"),
+    "check": (checking, "whether the registers are sound; else which rule is broken where, what was found, what is wanted and why"),
     "where": (whereis, "host addresses to device bytes and back, ranges of both, poison lists to host ranges"),
     "room": (rooms, "what is free, and the largest regions that have a plan"),
     "plan": (planned, "what a new region needs, or what stands in its way; what taking one down would write"),

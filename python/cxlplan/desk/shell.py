@@ -108,7 +108,7 @@ class Shell:
             if said[0] == "created":
                 self.names.append(said[1])
             elif said[0] == "destroyed":
-                self.names.remove(said[1])
+                self.names = [name for name in self.names if name != said[1]]
         if not texts.is_refusal(reply):
             return True
         self.explain(texts.refusal(reply))
