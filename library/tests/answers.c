@@ -14,18 +14,16 @@ static struct file read_file(const char *name)
 {
     struct file file = {NULL, 0};
     FILE *from = fopen(name, "rb");
-    size_t room = 1 << 25;
+    long len;
 
-    file.bytes = malloc(room);
-    if (!from || !file.bytes) {
+    if (!from || fseek(from, 0, SEEK_END) || (len = ftell(from)) < 0 || fseek(from, 0, SEEK_SET)) {
         perror(name);
         exit(70);
     }
-    file.len = fread(file.bytes, 1, room, from);
-    fclose(from);
     /* no byte more than there is, so that a read behind them is seen */
-    if (file.len)
-        file.bytes = realloc(file.bytes, file.len);
+    file.bytes = malloc(len ? len : 1);
+    file.len = file.bytes ? fread(file.bytes, 1, len, from) : 0;
+    fclose(from);
     return file;
 }
 
@@ -68,7 +66,7 @@ static void answer(char *row)
     char *words[8] = {0}, *out = NULL;
     struct file files[8] = {{0}};
     int count = 0, status;
-    size_t room = 64, written = 0;
+    size_t room = 8192, written = 0;
 
     for (char *word = strtok(row, "\t\n"); word && count < 8; word = strtok(NULL, "\t\n"))
         words[count++] = word;
@@ -76,7 +74,7 @@ static void answer(char *row)
         if (is_file(words, i))
             files[i] = read_file(words[i]);
     do {
-        room *= 4;
+        room *= 8;
         free(out);
         out = malloc(room);
         status = out ? call(count, words, files, out, room, &written) : CXLPLAN_NO_MEMORY;

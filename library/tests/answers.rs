@@ -38,9 +38,9 @@ fn main() {
             _ => 0,
         };
         let files: Vec<Vec<u8>> = words[1..1 + count].iter().map(|name| read(name)).collect();
-        let mut size = 64;
+        let mut size = 8192;
         loop {
-            size *= 4;
+            size *= 8;
             let mut room = vec![0; size];
             let answer = answer(&words, &files, &mut room);
             if answer.status == cxlplan::WRITE_FAULT {
