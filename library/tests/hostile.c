@@ -1,6 +1,7 @@
 /* What a careless caller passes: rooms of every size, null, lengths that nothing has, rooms that overlap. Says what is wrong, and
    ends with 0 where nothing is. */
 #include <cxlplan.h>
+#include <pthread.h>
 #include <stdio.h>
 #include <stdlib.h>
 #include <string.h>
@@ -113,6 +114,38 @@ static void overlaps(void)
     expect(cxlplan_list(cedt, cedt_len, all.bytes, sizeof all, &all.count) == CXLPLAN_USAGE, "the count in the room", 0);
 }
 
+/* A topology whose tables lie within each other as deep as the reader lets them: a dotted key of 80 parts, and 80 braces of such. */
+static void *deep_topology(void *status)
+{
+    static char text[32768], out[4096];
+    size_t len = 0;
+
+    for (int table = 0; table <= 80; table++) {
+        for (int part = 0; part < 80; part++)
+            len += sprintf(text + len, part ? ".a" : "a");
+        len += sprintf(text + len, table < 80 ? " = {" : " = 1");
+    }
+    for (int table = 0; table < 80; table++)
+        text[len++] = '}';
+    text[len++] = '\n';
+    *(int *)status = cxlplan_check(cedt, cedt_len, text, len, image, image_len, out, sizeof out, NULL);
+    return NULL;
+}
+
+/* The stack that the header names is enough. */
+static void stack(void)
+{
+    pthread_attr_t attributes;
+    pthread_t thread;
+    int status = -1;
+
+    if (pthread_attr_init(&attributes) || pthread_attr_setstacksize(&attributes, CXLPLAN_STACK)
+        || pthread_create(&thread, &attributes, deep_topology, &status) || pthread_join(thread, NULL))
+        exit(70);
+    pthread_attr_destroy(&attributes);
+    expect(status == CXLPLAN_BAD_TOPO, "a deep topology", status);
+}
+
 int main(int count, char **words)
 {
     if (count != 4)
@@ -124,6 +157,7 @@ int main(int count, char **words)
     nulls();
     lengths();
     overlaps();
+    stack();
     free(cedt);
     free(topo);
     free(image);

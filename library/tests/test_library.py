@@ -174,10 +174,10 @@ class Library(unittest.TestCase):
             self.compare(row, one)
 
     def test_hostile(self):
-        made = self.compiled(f"{HERE}/hostile.c", "-fsanitize=address,undefined", STATIC)
+        made = self.compiled(f"{HERE}/hostile.c", "-pthread", "-fsanitize=address,undefined", STATIC)
         ran = subprocess.run([made, *HOST], stdout=subprocess.PIPE, stderr=subprocess.STDOUT, timeout=SECONDS, check=False)
         self.assertEqual((ran.returncode, ran.stdout), (0, b""))
-        made = self.compiled(f"{HERE}/hostile.c", SHARED, f"-Wl,-rpath,{BUILT}")
+        made = self.compiled(f"{HERE}/hostile.c", "-pthread", SHARED, f"-Wl,-rpath,{BUILT}")
         ran = subprocess.run([*self.under_valgrind(made), *HOST], stdout=subprocess.PIPE, stderr=subprocess.STDOUT, timeout=SECONDS,
                              check=False)
         self.assertEqual((ran.returncode, ran.stdout), (0, b""))
