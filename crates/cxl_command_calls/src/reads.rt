@@ -106,6 +106,7 @@ fn decoders_of_any_image(rt: HostRuntime) {
         tells(&rt, rt.alloc(), TOPOLOGY, &image, 0, BLOCKS),
         "an image",
     );
+    assert!(&rt; image.len() >= 11);
     let cut = &image[..11];
     passes(
         &rt,
