@@ -19,7 +19,7 @@ use Rattle.cxl_io.specs.Sink.{SinkState}
 use Rattle.cxl_machine.specs.Machine.{Machine}
 use Rattle.cxl_machine.specs.Sound.{Opens}
 use Rattle.cxl_model.specs.System.{System, system_of, bridge_uids}
-use Rattle.cxl_held.specs.Sessions.{IsHeldAt, IsHostOf, IsOpened, IsRefused, HasNoFiles, IsUnopened, no_host, refused, unread}
+use Rattle.cxl_held.specs.Sessions.{IsHeldAt, IsKept, IsHostOf, IsOpened, IsRefused, HasNoFiles, IsUnopened, no_host, refused, unread}
 use Rattle.cxl_held.specs.declared.held.Held.{Held}
 
 module _ (table : CedtFields) (tree : Tree) (blocks : List Registers) (windows : List WindowFields) (are : windows ≡ windows_of table.records (Some (bridge_uids tree.nodes))) where
@@ -44,3 +44,9 @@ module _ (cedt topo : List ℕ) (image : Option (List ℕ)) (before after : Fetc
       → IsUnopened cedt topo image before after status old new
   stopped X (stop.Outcome outcome) status is ends = no_host outcome is ends
   stopped X stop.Memory status is ends = unread ends.0 ends.1
+
+-- a session that opened is one that is kept
+pub kept_over : (s : System) (frames : ℕ) (result : Result Held Status)
+    → IfOk result (λ held. (m : Machine) × Opens s frames m × IsHeldAt held m) → IfOk result IsKept
+kept_over s frames (Ok held) is = (is.0, is.2)
+kept_over s frames (Err status) is = tt

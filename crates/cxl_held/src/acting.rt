@@ -18,8 +18,8 @@ use cxl_shell::over_session;
 use std::alloc::Global;
 
 impl Held {
-    /// Carries out the lines of a script, one line or more, and writes their replies as `run` does. After status 9 it is as the lines before
-    /// the one that met want of memory left it. (This project's rule.) Takes memory.
+    /// Carries out the lines of a script, one line or more, and writes their replies as `run` does. After status 9 it is as
+    /// the lines before the one that met want of memory left it. (This project's rule.) Takes memory.
     #[tactic(auto, using(crate::proofs::Keeping::at_emptied, crate::proofs::Keeping::stands_emptied))]
     pub fn act<S: Source, K: Sink>(&mut self, alloc: Global, lines: &mut S, out: &mut K) -> Status
         requires kept { IsKept self.old }
@@ -27,7 +27,8 @@ impl Held {
         // Whatever machine it is at, the lines are answered from there on, by the turns of that machine; and it ends as a script does.
         ensures answered { (m : Machine) → IsHeldAt self.old m → (asked : List Asked) × (turns : List Turn)
             × HasAnswered m asked turns self.old self.new
-            × EndsScript m.settled.nodes asked turns (S.state lines.old) (S.state lines.new) (K.state out.old) (K.state out.new) result }
+            × EndsScript m.settled.nodes asked turns (S.state lines.old) (S.state lines.new)
+            (K.state out.old) (K.state out.new) result }
         ensures source { (S.state lines.old).faults ≤ (S.state lines.new).faults }
         ensures sink { (K.state out.old).faults ≤ (K.state out.new).faults }
     {
@@ -42,7 +43,8 @@ impl Held {
         )
     }
 
-    /// The register words that the last call of `act` sent, in order; before the first such call those that opening it sent. Takes no memory.
+    /// The register words that the last call of `act` sent, in order; before the first such call those that opening it
+    /// sent. Takes no memory.
     pub fn words(&self) -> &[Sent]
         ensures { result.now ≡ self.now.regs.trail }
     {

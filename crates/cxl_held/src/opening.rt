@@ -5,7 +5,7 @@ ghost use Rattle.cxl_machine.specs.Machine.{Machine};
 ghost use Rattle.cxl_machine.specs.Sound.{Opens};
 ghost use Rattle.cxl_model.specs.System.{IsSystem, system_of};
 ghost use Rattle.cxl_model.specs.Accepted.{IsAccepted};
-ghost use Rattle.cxl_held.specs.Sessions.{IsHeldAt, IsOpened, IsRefused, IsUnopened};
+ghost use Rattle.cxl_held.specs.Sessions.{IsHeldAt, IsKept, IsOpened, IsRefused, IsUnopened};
 
 use crate::held::Held;
 use crate::trail_bus::TrailBus;
@@ -19,8 +19,8 @@ use cxl_shell::unopened;
 use std::alloc::Global;
 
 impl Held {
-    /// Opens a session as `run` does, over the host of a table and a topology after reset. Where none opens, the text that `run` writes is
-    /// written, and its status is the answer. (This project's rule.) Takes memory.
+    /// Opens a session as `run` does, over the host of a table and a topology after reset. Where none opens, the text that
+    /// `run` writes is written, and its status is the answer. (This project's rule.) Takes memory.
     pub fn open_from_reset<F: Fetch, K: Sink>(
         alloc: Global,
         cedt: &str,
@@ -30,6 +30,7 @@ impl Held {
     ) -> Result<Held, Status>
         // It is at the machine that the host of the files opens with, and nothing is written.
         ensures opened { IfOk result (IsOpened (F.state files.old).told cedt.now topo.now None) }
+        ensures kept { IfOk result IsKept }
         ensures quiet { OnOk result (out.new ≡ out.old) }
         // Or none opens, for a cause of which the text is written.
         ensures unopened { IfErr result (λ status. IsUnopened cedt.now topo.now None
@@ -44,8 +45,8 @@ impl Held {
         }
     }
 
-    /// Opens a session as `run` does, over the host of a table and a topology with the registers of an image. Where none opens, the text
-    /// that `run` writes is written, and its status is the answer. (This project's rule.) Takes memory.
+    /// Opens a session as `run` does, over the host of a table and a topology with the registers of an image. Where none
+    /// opens, the text that `run` writes is written, and its status is the answer. (This project's rule.) Takes memory.
     pub fn open_from_image<F: Fetch, K: Sink>(
         alloc: Global,
         cedt: &str,
@@ -56,6 +57,7 @@ impl Held {
     ) -> Result<Held, Status>
         // It is at the machine that the host of the files opens with, and nothing is written.
         ensures opened { IfOk result (IsOpened (F.state files.old).told cedt.now topo.now (Some image.now)) }
+        ensures kept { IfOk result IsKept }
         ensures quiet { OnOk result (out.new ≡ out.old) }
         // Or none opens, for a cause of which the text is written.
         ensures unopened { IfErr result (λ status. IsUnopened cedt.now topo.now (Some image.now)

@@ -1,6 +1,6 @@
 use Rattle.std.proofs.Common.{None, refl}
 use Rattle.cxl_model.specs.System.{system_of}
-use Rattle.cxl_held.proofs.Hosts.{reset_is, opened_over, refused_over, stopped}
+use Rattle.cxl_held.proofs.Hosts.{reset_is, opened_over, kept_over, refused_over, stopped}
 use Rattle.cxl_held.proofs.held.Held.open_from_reset.Goals as goal
 
 pub returns-in-Ok-clause-opened : goal.returns-in-Ok-clause-opened
@@ -21,3 +21,8 @@ pub returns-in-Err-clause-unopened : goal.returns-in-Err-clause-unopened
 returns-in-Err-clause-unopened g c =
     stopped c.args.cedt.now c.args.topo.now None (g.F.Fetch.state c.args.files.now) (g.F.Fetch.state c.fetch_reset_host.new.files) (g.K.Sink.state c.args.out.now) (g.K.Sink.state c.finish.new.out)
     _ c.in-Err.stop c.finish.result c.in-Err.ensures.stops c.finish.ensures.finishes
+
+pub returns-in-Ok-clause-kept : goal.returns-in-Ok-clause-kept
+returns-in-Ok-clause-kept g c =
+    let host = c.in-Ok.host in
+    kept_over (system_of host.image host.topo host.windows.items) host.topo.frames c.open_accepted.result c.open_accepted.ensures.opened

@@ -1,0 +1,133 @@
+//! A session that is kept, from its opening on.
+
+use cxl_held::Held;
+use cxl_io::{MemFetch, MemSink, MemSource};
+use std::alloc::Global;
+use std::process::Abort;
+
+/// Two bridges, and a window of two ways over them, in chunks of 256 bytes.
+const TABLE: [u8; 144] = [
+    0x43, 0x45, 0x44, 0x54, 0x90, 0x00, 0x00, 0x00, 0x01, 0xca, 0x00, 0x00, 0x00, 0x00, 0x00, 0x00,
+    0x00, 0x00, 0x00, 0x00, 0x00, 0x00, 0x00, 0x00, 0x00, 0x00, 0x00, 0x00, 0x00, 0x00, 0x00, 0x00,
+    0x00, 0x00, 0x00, 0x00, 0x00, 0x00, 0x20, 0x00, 0x00, 0x00, 0x00, 0x00, 0x01, 0x00, 0x00, 0x00,
+    0x00, 0x00, 0x00, 0x00, 0x00, 0x00, 0x00, 0x80, 0x00, 0x00, 0x00, 0x00, 0x00, 0x00, 0x01, 0x00,
+    0x00, 0x00, 0x00, 0x00, 0x00, 0x00, 0x20, 0x00, 0x01, 0x00, 0x00, 0x00, 0x01, 0x00, 0x00, 0x00,
+    0x00, 0x00, 0x00, 0x00, 0x00, 0x00, 0x01, 0x80, 0x00, 0x00, 0x00, 0x00, 0x00, 0x00, 0x01, 0x00,
+    0x00, 0x00, 0x00, 0x00, 0x01, 0x00, 0x2c, 0x00, 0x00, 0x00, 0x00, 0x00, 0x00, 0x00, 0x00, 0x00,
+    0x01, 0x00, 0x00, 0x00, 0x00, 0x00, 0x00, 0x00, 0x01, 0x00, 0x00, 0x00, 0x01, 0x00, 0x00, 0x00,
+    0x00, 0x00, 0x00, 0x00, 0x0e, 0x00, 0x00, 0x00, 0x00, 0x00, 0x00, 0x00, 0x01, 0x00, 0x00, 0x00,
+];
+
+/// An endpoint of 2 GiB below each bridge.
+const TOPOLOGY: &[u8] = b"
+[[bridge]]
+name = \"hb0\"
+uid = 0
+[[bridge]]
+name = \"hb1\"
+uid = 1
+[[endpoint]]
+name = \"e0\"
+parent = \"hb0\"
+port = 0
+ram = 0x80000000
+[[endpoint]]
+name = \"e1\"
+parent = \"hb1\"
+port = 0
+ram = 0x80000000
+";
+
+fn put(
+    rt: &impl Abort,
+    alloc: Global,
+    files: &mut Vec<(String, Vec<u8>)>,
+    name: &str,
+    bytes: &[u8],
+) {
+    let name = String::from_str(alloc, name).expect(rt, "memory");
+    let bytes = Vec::from_slice(alloc, bytes).expect(rt, "memory");
+    files.push((name, bytes)).expect(rt, "memory");
+}
+
+/// The table, the topology, and an image of these bytes.
+fn files(rt: &impl Abort, alloc: Global, image: &[u8]) -> MemFetch {
+    let mut files = Vec::new(alloc);
+    put(rt, alloc, &mut files, "cedt", &TABLE);
+    put(rt, alloc, &mut files, "topo", TOPOLOGY);
+    put(rt, alloc, &mut files, "image", image);
+    MemFetch::new(files, Vec::new(alloc))
+}
+
+fn sink(rt: &impl Abort, alloc: Global) -> MemSink {
+    MemSink::new(alloc, 4096, Vec::new(alloc)).expect(rt, "memory")
+}
+
+fn lines(rt: &impl Abort, alloc: Global, text: &str) -> MemSource {
+    let bytes = Vec::from_slice(alloc, text.as_bytes()).expect(rt, "memory");
+    MemSource::new(bytes, Vec::new(alloc))
+}
+
+const CREATED: &str = "created r0 window 0 base 0x100000000 size 0x20000000 gran 256 ways 2\n";
+
+#[test]
+fn a_session_is_kept(rt: HostRuntime) {
+    let alloc = rt.alloc();
+    let mut out = sink(&rt, alloc);
+    let opened = Held::open_from_reset(
+        alloc,
+        "cedt",
+        "topo",
+        &mut files(&rt, alloc, b""),
+        &mut out,
+    );
+    let Ok(mut held) = opened else {
+        assert!(rt; false, "it opens");
+        return;
+    };
+    assert!(rt; held.words().len() == 2, "a word lets each endpoint decode");
+    let status = held.act(
+        alloc,
+        &mut lines(&rt, alloc, "create r0 ram 0x20000000 e0 e1\n"),
+        &mut out,
+    );
+    assert!(rt; status.code() == 0, "status");
+    assert!(rt; out.bytes() == CREATED.as_bytes(), "the reply");
+    assert!(rt; held.words().len() == 32, "eight words a decoder");
+    assert!(rt; held.words()[0].off == 0x10, "a base comes first");
+    let image = held.image(alloc).expect(&rt, "memory");
+    let status = held.act(
+        alloc,
+        &mut lines(&rt, alloc, "load 0x100000000 1\n"),
+        &mut out,
+    );
+    assert!(rt; status.code() == 0, "status of a load");
+    assert!(rt; held.words().is_empty(), "a load sends no word");
+    opens_again(&rt, alloc, &image);
+}
+
+/// A session opens on the image that another left: its region is there.
+fn opens_again(rt: &impl Abort, alloc: Global, image: &[u8]) {
+    let mut out = sink(rt, alloc);
+    let mut files = files(rt, alloc, image);
+    let opened = Held::open_from_image(alloc, "cedt", "topo", "image", &mut files, &mut out);
+    let Ok(mut held) = opened else {
+        assert!(rt; false, "it opens on an image");
+        return;
+    };
+    let status = held.act(alloc, &mut lines(rt, alloc, "down 0x100000100\n"), &mut out);
+    assert!(rt; status.code() == 0, "status of a way down");
+    let told = b"down 0x100000100 region auto0 slot 1 position 1 via hb1:0:0 endpoint e1 dpa 0x0\n";
+    assert!(rt; out.bytes() == told.as_slice(), "the way down");
+}
+
+#[test]
+fn a_faulty_table_is_told(rt: HostRuntime) {
+    let alloc = rt.alloc();
+    let mut out = sink(&rt, alloc);
+    let mut files = MemFetch::new(Vec::new(alloc), Vec::new(alloc));
+    match Held::open_from_reset(alloc, "cedt", "topo", &mut files, &mut out) {
+        Ok(_) => assert!(rt; false, "there is no table"),
+        Err(status) => assert!(rt; status.code() == 2, "status"),
+    }
+}
