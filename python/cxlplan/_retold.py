@@ -2,6 +2,7 @@
 What it has not read and taken is not told. With the library nothing of this is used."""
 
 import struct
+from functools import lru_cache
 from typing import Optional
 
 from . import texts
@@ -22,6 +23,7 @@ PLACEHOLDER = 0x10  # the capability word of a node that passes all on
 LOCK, COMMIT, COMMITTED, ERROR, HOST_ONLY = (1 << bit for bit in range(8, 13))
 
 
+@lru_cache(maxsize=64)  # machines of a fleet are often alike
 def nodes_of(topo: bytes, _taken: None) -> list:
     """The nodes of a topology that the program has taken: bridges, switches, endpoints."""
     if tomllib is None:

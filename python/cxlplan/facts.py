@@ -1,19 +1,27 @@
 """What is known of a machine: records of its table, its nodes, decoders and regions, with the names that the field has for them.
 Addresses, sizes and granularities are bytes; words are registers of 32 bits."""
 
-from dataclasses import dataclass, fields, is_dataclass
+from dataclasses import dataclass, fields
 from typing import Optional
 
+PLAIN = (int, str, bool, type(None))
 WORD_NAMES = ("base low", "base high", "size low", "size high", "control", "tail low", "tail high")
+
+
+_names: dict = {}  # of the fields of each class of facts
 
 
 def plain(value):
     """A value as numbers, texts, lists and dictionaries, as JSON has them."""
-    if is_dataclass(value):
-        return {part.name: plain(getattr(value, part.name)) for part in fields(value)}
-    if isinstance(value, (list, tuple)):
+    kind = type(value)
+    if kind in PLAIN:
+        return value
+    if kind is tuple or kind is list:
         return [plain(item) for item in value]
-    return value
+    names = _names.get(kind)
+    if names is None:
+        names = _names[kind] = tuple(part.name for part in fields(kind))
+    return {name: plain(getattr(value, name)) for name in names}
 
 
 class Fact:

@@ -54,7 +54,8 @@ def stamp_of(folder: str) -> int:
 
 
 def judge(folder: str, decoders: bool = False) -> dict:
-    """What is to be said of the host in a folder: `verdict` is sound, breach or fault."""
+    """What is to be said of the host in a folder: `verdict` is sound, breach or fault. Of its decoders those are told that are committed,
+    or were to be."""
     said = {"schema": SCHEMA, "host": folder, "verdict": "fault", "status": 2, "text": "", "regions": [], "breaches": [],
             "stamp": stamp_of(folder)}
     try:
@@ -70,7 +71,7 @@ def judge(folder: str, decoders: bool = False) -> dict:
         else:
             raise fault_of(status, text)
         if decoders:
-            said["decoders"] = [it.as_dict() for it in engine().decoders(*files)]
+            said["decoders"] = [it.as_dict() for it in engine().decoders(*files) if it.committed or it.commit or it.error]
     except CxlError as fault:
         said.update(status=fault.status, text=fault.text)
     return said
