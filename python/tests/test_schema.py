@@ -3,6 +3,11 @@
 import json
 import unittest
 
+try:
+    import jsonschema  # Debian: python3-jsonschema; what is validated by it, too, where it is there
+except ImportError:
+    jsonschema = None
+
 from here import FOUR, LOST, SCHEMA, Case, asks_the_engine, faults, machines, said
 
 TAKEN = {"anyOf", "const", "enum", "type", "required", "properties", "additionalProperties", "items", "$ref", "$defs", "$schema", "$id",
@@ -46,6 +51,8 @@ class Commands(Case):
         self.assertEqual((found, line), (status, ""), words)
         value = json.loads(text)
         self.assertEqual(list(faults(value, SCHEMA)), [], words)
+        if jsonschema:
+            jsonschema.validate(value, SCHEMA)
         return value
 
     def test_each(self):
