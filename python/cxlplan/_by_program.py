@@ -145,7 +145,7 @@ class ProgramSession:
     def watch(self) -> None:
         """Has the words of writes told from now on. What was sent before is not told, so it comes before the first line."""
         if not self.engine.bench:
-            raise NoEngine("register writes are told by libcxlplan.so, or by cxlbench: name one in CXLPLAN_LIBRARY or CXLBENCH")
+            raise NoEngine("register writes are told by cxlbench: name it in CXLBENCH, or put it on the search path")
         cedt, topo, image = self.host
         self.bench = Bench(self.engine.bench, cedt, topo, image, self.engine.tree(cedt, topo))
 
@@ -156,7 +156,7 @@ class ProgramSession:
     def image(self) -> bytes:
         """The registers as they stand: those of the beginning, with the words that `show` tells of each region made since."""
         if self.has_released:
-            raise NoEngine("registers behind a release are told by libcxlplan.so alone: name it in CXLPLAN_LIBRARY")
+            raise NoEngine("what registers hold behind the release of a region of the image, no call tells")
         cedt, topo, opening = self.host
         nodes = self.engine.tree(cedt, topo)
         blocks = [list(block) for block in _retold.words_at_start(nodes, opening)]

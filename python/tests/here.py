@@ -27,23 +27,18 @@ FOUR = [os.path.join(EXAMPLES, "four-endpoints." + end) for end in ("cedt", "tom
 LOST = FOUR[:2] + [os.path.join(EXAMPLES, "lost-bytes.image")]
 
 
-def has_engine() -> bool:
+def program():
+    """The engine over the program, which keeps the sessions; None where it is not built."""
     try:
-        _engine.engine()
+        found = _engine.engine()
     except NoEngine:
-        return False
-    return True
+        return None
+    return found if found.kind == "program" else found.program
 
 
-# For tests that ask the proved calls: they are skipped where neither the library nor the program is built.
-asks_the_engine = unittest.skipUnless(has_engine(), "./prove builds the program")
-
-
-def has_writes() -> bool:
-    return has_engine() and (_engine.engine().kind == "library" or _engine.engine().bench is not None)
-
-
-asks_for_writes = unittest.skipUnless(has_writes(), "neither the library nor cxlbench is built")
+# For tests that ask the proved calls: they are skipped where the program is not built.
+asks_the_engine = unittest.skipUnless(program(), "./prove builds the program")
+asks_for_writes = unittest.skipUnless(program() and program().bench, "cxlbench is not built")
 
 
 class Case(unittest.TestCase):

@@ -61,10 +61,6 @@ def tree_order(nodes: list) -> list:
     return order
 
 
-class Indented(str):
-    """A name that stands deeper, at a terminal."""
-
-
 def node_row(node: Node, depth: int) -> dict:
     lacks = [name for name, has in (("low", node.low), ("high", node.high), ("ways3", node.ways3), ("ways16", node.ways16))
              if has is False and not node.passthrough]
