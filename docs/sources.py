@@ -73,15 +73,16 @@ def calls(crate):
         for line in read(path).split("\n"):
             bare = line.strip()
             head = re.match(r"(?:pub(?:\(crate\))? )?(impl|trait)\b(?:<[^>]*>+)? (?:[\w:<>, ]+ for )?(\w+)", line)
-            start = re.match(r"\s*(pub )?(?:const )?fn (\w+)", line)
+            start = re.match(r"\s*(pub )?(?:const )?(extern \"C\" )?fn (\w+)", line)
             clause = re.match(r"\s*ensures (?:(\w+) )?\{", line)
             if head:
                 owner, is_trait = head[2], head[1] == "trait" or " for " in line
             elif line == "}":
                 owner, call = None, None
             if start:
-                is_open = (start[1] or is_trait) and (owner or start[2]) in shown
-                name = f"{owner}::{start[2]}" if owner else start[2]
+                # an export for C is open wherever it stands
+                is_open = start[2] or (start[1] or is_trait) and (owner or start[3]) in shown
+                name = f"{owner}::{start[3]}" if owner else start[3]
                 call, over = (found.setdefault(name, Call(name, " ".join(said))) if is_open else None), []
             elif call and clause:
                 call.clauses.append((clause[1] or "", " ".join(over)))
