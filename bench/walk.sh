@@ -13,8 +13,8 @@ if [[ ! "$calls" =~ ^[1-9][0-9]{3,7}$ ]] || ((calls > 10000000)); then
     echo "walk.sh: $calls is no number of calls from 1000 to 10000000" >&2
     exit 2
 fi
-begin_program walk_bench "cxl_check cxl_walk cxl_model cxl_image cxl_window cxl_cedt cxl_topo cxl_enc" \
-    cxl_enc cxl_num cxl_cedt cxl_window cxl_deal cxl_topo cxl_regs cxl_span cxl_image cxl_model cxl_walk cxl_check
+begin_program walk_bench "cxl_check cxl_walk cxl_model cxl_image cxl_window cxl_cedt cxl_table cxl_topo cxl_enc" \
+    cxl_enc cxl_num cxl_table cxl_cedt cxl_window cxl_deal cxl_topo cxl_regs cxl_span cxl_image cxl_model cxl_walk cxl_check
 mkdir -p "$program/specs" "$program/proofs/commit" "$program/proofs/commit_all" "$program/proofs/kept_of"
 
 cat >"$program/src/main.rt" <<'END'

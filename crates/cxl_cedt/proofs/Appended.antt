@@ -2,9 +2,9 @@
 use Rattle.std.proofs.Common.{◌≡◌, ℕ, ◌+◌, ◌*◌, ◌<◌, List, [], ◌∷◌, ◌++◌, length, take, slice_index, codes, Result, Ok, Err, OnOk, ap, sym, ◌∙◌, append_assoc}
 use Rattle.std.proofs.lemmas.Grind.{flat_map-append}
 use Rattle.std.proofs.lemmas.List.{append-nil, take_more}
-use Rattle.cxl_cedt.specs.declared.chbs.Chbs as chbs
-use Rattle.cxl_cedt.specs.declared.cedt.Head.{Head}
-use Rattle.cxl_cedt.specs.Fields.{CximsFields}
+use Rattle.cxl_table.specs.declared.chbs.Chbs as chbs
+use Rattle.cxl_table.specs.declared.cedt.Head.{Head}
+use Rattle.cxl_table.specs.Fields.{CximsFields}
 use Rattle.cxl_cedt.specs.Spelling.{number_bytes, numbers_bytes, frame, chbs_spelling, cxims_spelling, header}
 
 -- and what holds anyway

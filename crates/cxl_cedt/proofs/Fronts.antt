@@ -3,8 +3,8 @@ use Rattle.std.proofs.Common.{◌≡◌, ℕ, ◌+◌, ◌*◌, ◌≤◌, false
 use Rattle.std.proofs.lemmas.List.{take_at, drop_at, take-append-drop, append-nil, length-take-le}
 use Rattle.std.specs.Prelude.{unwrap_or}
 use Rattle.cxl_enc.specs.Codes.{ways_of}
-use Rattle.cxl_cedt.specs.declared.cedt.Record.{Record}
-use Rattle.cxl_cedt.specs.Records.{kind_of, is_kind_full}
+use Rattle.cxl_table.specs.declared.cedt.Record.{Record}
+use Rattle.cxl_table.specs.Records.{kind_of, is_kind_full}
 use Rattle.cxl_cedt.specs.Table.{field, IsRecordText, AreRecordTexts, kind_said, length_said, ways_said, record_fault}
 use Rattle.cxl_cedt.specs.inner.Decoding.{known_ways, IsSoundText, record_of}
 use Rattle.cxl_cedt.proofs.Places.{field_front}

@@ -4,11 +4,11 @@ use Rattle.std.specs.Prelude.{sum_by}
 use Rattle.std.proofs.lemmas.Bool.{eqb-true, le-leb, lt-leb, leb-true, cases_Bool, false≢true}
 use Rattle.std.proofs.lemmas.List.Elements.{filter-append}
 use Rattle.std.proofs.lemmas.List.Sums.{sum_by-cons}
-use Rattle.cxl_cedt.specs.declared.cedt.Record.{Record}
+use Rattle.cxl_table.specs.declared.cedt.Record.{Record}
 use Rattle.cxl_cedt.specs.declared.counted.Others.{Others}
 use Rattle.cxl_cedt.specs.declared.counted.Others.TheVariants.{Kept, PassedOver}
-use Rattle.cxl_cedt.specs.Judged.{is_judged, judged_of, judged_places}
-use Rattle.cxl_cedt.specs.Records.{kind_of, count_of, record_length, is_kind_full}
+use Rattle.cxl_table.specs.Judged.{is_judged, judged_of, judged_places}
+use Rattle.cxl_table.specs.Records.{kind_of, count_of, record_length, is_kind_full}
 use Rattle.cxl_cedt.specs.Table.{record_fault, kind_said}
 use Rattle.cxl_cedt.specs.inner.Decoding.{IsSoundText, record_of}
 use Rattle.cxl_cedt.specs.inner.Kept.{kept_of, IsKeptOf}

@@ -1,11 +1,11 @@
 -- What is kept of the records up to a place: one record further, the first fault, and the end.
 use Rattle.std.proofs.Common.{◌≡◌, ℕ, ◌+◌, ◌<◌, ◌≤◌, List, [], ◌∷◌, ◌++◌, length, take, drop, Some, None, refl, sym, ap, ◌∙◌, arith}
 use Rattle.std.specs.Prelude.{sum_by}
-use Rattle.cxl_cedt.specs.declared.cedt.Record.{Record}
+use Rattle.cxl_table.specs.declared.cedt.Record.{Record}
 use Rattle.cxl_cedt.specs.declared.counted.Others.{Others}
 use Rattle.cxl_cedt.specs.declared.fault.CedtFault.{CedtFault}
-use Rattle.cxl_cedt.specs.Judged.{judged_places}
-use Rattle.cxl_cedt.specs.Records.{record_length}
+use Rattle.cxl_table.specs.Judged.{judged_places}
+use Rattle.cxl_table.specs.Records.{record_length}
 use Rattle.cxl_cedt.specs.Table.{length_said, record_fault, IsRecordFault}
 use Rattle.cxl_cedt.specs.inner.Decoding.{record_of}
 use Rattle.cxl_cedt.specs.inner.Kept.{kept_of, IsKeptTo, IsKeptIn}

@@ -5,13 +5,13 @@ use Rattle.std.specs.List.{flat_map}
 use Rattle.std.proofs.lemmas.Bool.{cases_Bool, lt-leb}
 use Rattle.std.proofs.lemmas.List.{take_at, drop_at, length-take-le, take-append-drop}
 use Rattle.std.proofs.lemmas.List.Sums.{sum_by-cons}
-use Rattle.cxl_cedt.specs.declared.cedt.Head.{Head}
-use Rattle.cxl_cedt.specs.declared.cedt.Record.{Record}
-use Rattle.cxl_cedt.specs.declared.cedt.Record.TheVariants.{Chbs, Cfmws, Cxims, Other}
-use Rattle.cxl_cedt.specs.Fields.{OtherFields}
-use Rattle.cxl_cedt.specs.Judged.{is_judged, judged_of, judged_places}
+use Rattle.cxl_table.specs.declared.cedt.Head.{Head}
+use Rattle.cxl_table.specs.declared.cedt.Record.{Record}
+use Rattle.cxl_table.specs.declared.cedt.Record.TheVariants.{Chbs, Cfmws, Cxims, Other}
+use Rattle.cxl_table.specs.Fields.{OtherFields}
+use Rattle.cxl_table.specs.Judged.{is_judged, judged_of, judged_places}
 use Rattle.cxl_cedt.specs.Reading.{table_in}
-use Rattle.cxl_cedt.specs.Records.{record_length, table_length}
+use Rattle.cxl_table.specs.Records.{record_length, table_length}
 use Rattle.cxl_cedt.specs.Table.{field, some_bytes, IsOtherText, IsRecordText, AreRecordTexts}
 use Rattle.cxl_cedt.specs.Spelling.{number_bytes, numbers_bytes, window_range, window_codes, record_spelling, header, spelling_with}
 use Rattle.cxl_cedt.specs.inner.Kept.{IsTextOf}

@@ -2,10 +2,10 @@
 use Rattle.std.proofs.Common.{◌≡◌, ℕ, ◌+◌, ◌*◌, ◌<◌, ◌≤◌, Bool, true, false, cond, eqb, ltb, not, ◌&&◌, List, length, Option, Some, None, refl, sym, ap, inl, inr, arith}
 use Rattle.std.specs.Prelude.{is_none, is_some, unwrap_or}
 use Rattle.std.proofs.lemmas.Bool.{eqb-true, eq-eqb, le-ltb, ltb-false, cases_Bool, or_parts, or_left, or_from, not-false, not_from_true, false≢true}
-use Rattle.cxl_cedt.specs.declared.cedt.Record.{Record}
+use Rattle.cxl_table.specs.declared.cedt.Record.{Record}
 use Rattle.cxl_cedt.specs.declared.fault.CedtFault.{CedtFault}
 use Rattle.cxl_cedt.specs.declared.fault.CedtFault.TheVariants.{RecordLength}
-use Rattle.cxl_cedt.specs.Records.{is_kind_full}
+use Rattle.cxl_table.specs.Records.{is_kind_full}
 use Rattle.cxl_cedt.specs.Table.{field, kind_said, length_said, ways_said, is_cut, has_short_length, has_other_length, has_unknown_gran, record_fault}
 use Rattle.cxl_cedt.proofs.Counts.{room_from}
 

@@ -1,9 +1,9 @@
 -- One record further, the first fault, and the end.
 use Rattle.std.proofs.Common.{◌≡◌, ℕ, ◌+◌, ◌<◌, ◌≤◌, false, List, [], ◌∷◌, ◌++◌, length, take, drop, Some, refl, sym, ap, subst, ◌∙◌, append_assoc, arith, length-append, length-drop}
 use Rattle.std.proofs.lemmas.List.{take-append-drop, append-nil, length-take-le}
-use Rattle.cxl_cedt.specs.declared.cedt.Record.{Record}
+use Rattle.cxl_table.specs.declared.cedt.Record.{Record}
 use Rattle.cxl_cedt.specs.declared.fault.CedtFault.{CedtFault}
-use Rattle.cxl_cedt.specs.Records.{kind_of, is_kind_full}
+use Rattle.cxl_table.specs.Records.{kind_of, is_kind_full}
 use Rattle.cxl_cedt.specs.Table.{IsRecordText, AreRecordTexts, length_said, record_fault, IsRecordFault}
 use Rattle.cxl_cedt.specs.inner.Decoding.{IsSoundText, record_of}
 use Rattle.cxl_cedt.specs.inner.Scan.{AreReadTo}

@@ -3,11 +3,11 @@ use Rattle.std.proofs.Common.{◌≡◌, ℕ, zero, suc, ◌+◌, ◌*◌, ◌<�
 use Rattle.std.specs.Prelude.{unwrap_or}
 use Rattle.std.proofs.lemmas.Bool.{eq-eqb, ne_eqb}
 use Rattle.cxl_enc.specs.Codes.{ways_of}
-use Rattle.cxl_cedt.specs.declared.chbs.Chbs as chbs
-use Rattle.cxl_cedt.specs.declared.cedt.Record.{Record}
-use Rattle.cxl_cedt.specs.declared.cedt.Record.TheVariants.{Chbs, Cfmws, Cxims, Other}
-use Rattle.cxl_cedt.specs.Fields.{CfmwsFields, CximsFields, OtherFields}
-use Rattle.cxl_cedt.specs.Records.{kind_of, record_length}
+use Rattle.cxl_table.specs.declared.chbs.Chbs as chbs
+use Rattle.cxl_table.specs.declared.cedt.Record.{Record}
+use Rattle.cxl_table.specs.declared.cedt.Record.TheVariants.{Chbs, Cfmws, Cxims, Other}
+use Rattle.cxl_table.specs.Fields.{CfmwsFields, CximsFields, OtherFields}
+use Rattle.cxl_table.specs.Records.{kind_of, record_length}
 use Rattle.cxl_cedt.specs.Table.{field, fields, HasFrame, IsChbsText, IsCfmwsText, IsCximsText, IsOtherText, IsRecordText, kind_said, length_said, ways_said}
 use Rattle.cxl_cedt.specs.inner.Decoding.{known_ways, IsSoundText, IsSoundWindow, chbs_of, cfmws_of, cxims_of, other_of, record_of}
 use Rattle.cxl_cedt.proofs.Places.{length-fields}

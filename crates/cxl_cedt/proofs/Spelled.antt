@@ -10,15 +10,16 @@ use Rattle.std.specs.List.{flat_map}
 use Rattle.cxl_enc.specs.Codes.{ways_of}
 use Rattle.byteorder.specs.Numbers.{little_number-reads_back, length-bytes_low_first}
 use Rattle.cxl_enc.specs.Limits.{file_limit}
-use Rattle.cxl_cedt.specs.declared.chbs.Chbs as chbs
-use Rattle.cxl_cedt.specs.declared.cedt.Head.{Head}
-use Rattle.cxl_cedt.specs.declared.cedt.Record.{Record}
-use Rattle.cxl_cedt.specs.declared.cedt.Record.TheVariants.{Chbs, Cfmws, Cxims, Other}
-use Rattle.cxl_cedt.specs.CedtFields.{CedtFields}
-use Rattle.cxl_cedt.specs.Fields.{CfmwsFields, CximsFields, OtherFields}
-use Rattle.cxl_cedt.specs.Records.{table_length}
+use Rattle.cxl_table.specs.declared.chbs.Chbs as chbs
+use Rattle.cxl_table.specs.declared.cedt.Head.{Head}
+use Rattle.cxl_table.specs.declared.cedt.Record.{Record}
+use Rattle.cxl_table.specs.declared.cedt.Record.TheVariants.{Chbs, Cfmws, Cxims, Other}
+use Rattle.cxl_table.specs.CedtFields.{CedtFields}
+use Rattle.cxl_table.specs.Fields.{CfmwsFields, CximsFields, OtherFields}
+use Rattle.cxl_table.specs.Records.{table_length}
 use Rattle.cxl_cedt.specs.Table.{field, fields, some_bytes, IsChbsText, IsCfmwsText, IsCximsText, IsOtherText, IsRecordText, AreRecordTexts, IsTableText}
 use Rattle.cxl_cedt.specs.Spelling.{number_bytes, numbers_bytes, chbs_spelling, window_range, window_codes, window_front, cfmws_spelling, maps_front, cxims_spelling, other_spelling, record_spelling, header, spelling_with, checksum_for, spelling}
+use Rattle.cxl_enc.proofs.Ways.{ways_few}
 use Rattle.cxl_cedt.specs.inner.Widths.{AreBelow, HeadFits, ChbsFits, CfmwsFits, CximsFits, OtherFits, RecordFits, HasText}
 use Rattle.cxl_cedt.proofs.Scanning.{texts_push}
 use Rattle.cxl_cedt.proofs.Laws.{texts_length}
@@ -68,26 +69,6 @@ spelled_chbs c fits = record {
   base = little_number-reads_back 8 c.base [] fits.base;
   register_length = little_number-reads_back 8 c.length [] fits.register_length;
 }
-
--- a code stands for 16 ways at the most
-pub ways_few : (code n : ℕ) → ways_of code ≡ Some n → n ≤ 16
-ways_few code n e =
-    elim (cases_Bool (ltb code 5)) [
-      | inl low ↦
-          let is : 2 ^ code ≡ n = same_Some (2 ^ code) n (rw low at e) in
-          let le : code ≤ 4 = omega (arith, ltb-true code 5 low) in
-          let top : 2 ^ code ≤ 2 ^ 4 = pow_mono le in
-          omega arith
-      | inr high ↦ elim (cases_Bool (leb 8 code && ltb code 11)) [
-        | inl there ↦
-            let is : 3 * 2 ^ (code - 8) ≡ n = same_Some (3 * 2 ^ (code - 8)) n (rw (high, there) at e) in
-            let below = ltb-true code 11 (and_parts (leb 8 code) (ltb code 11) there).1 in
-            let le : code - 8 ≤ 2 = omega arith in
-            let top : 2 ^ (code - 8) ≤ 2 ^ 2 = pow_mono le in
-            omega arith
-        | inr none ↦ absurd (none-some n (rw (high, none) at e))
-      ]
-    ]
 
 spelled_cfmws : (c : CfmwsFields) → CfmwsFits c → IsCfmwsText (cfmws_spelling c) c
 unfolding number_bytes window_range window_codes

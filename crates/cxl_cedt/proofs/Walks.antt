@@ -3,14 +3,14 @@ use Rattle.std.proofs.Common.{◌≡◌, ℕ, zero, suc, ◌+◌, ◌<◌, ◌�
 use Rattle.std.proofs.lemmas.Bool.{eqb-true, eqb-false, le-leb, lt-leb}
 use Rattle.std.proofs.lemmas.List.{take_at, drop_at}
 use Rattle.cxl_enc.specs.Limits.{file_limit}
-use Rattle.cxl_cedt.specs.declared.cedt.Record.{Record}
-use Rattle.cxl_cedt.specs.declared.cedt.Record.TheVariants.{Other}
+use Rattle.cxl_table.specs.declared.cedt.Record.{Record}
+use Rattle.cxl_table.specs.declared.cedt.Record.TheVariants.{Other}
 use Rattle.cxl_cedt.specs.declared.counted.Others.TheVariants.{PassedOver}
-use Rattle.cxl_cedt.specs.Judged.{is_judged, judged_of}
+use Rattle.cxl_table.specs.Judged.{is_judged, judged_of}
 use Rattle.cxl_cedt.specs.Reading.{head_in, first_records, records_in, table_in}
-use Rattle.cxl_cedt.specs.Records.{kind_of}
+use Rattle.cxl_table.specs.Records.{kind_of}
 use Rattle.cxl_cedt.specs.Table.{IsRecordText, AreRecordTexts, IsTableText, kind_said, length_said, header_fault}
-use Rattle.cxl_cedt.specs.CedtFields.{CedtFields}
+use Rattle.cxl_table.specs.CedtFields.{CedtFields}
 use Rattle.cxl_cedt.specs.inner.Decoding.{IsSoundText, record_of, other_of}
 use Rattle.cxl_cedt.specs.inner.Kept.{IsKeptOf, IsKeptIn, IsTextOf}
 use Rattle.cxl_cedt.specs.inner.KeptRecords.{KeptRecords}

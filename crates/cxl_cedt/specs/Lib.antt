@@ -1,8 +1,3 @@
-pub mod Layout
-pub mod Fields
-pub mod Records
-pub mod Judged
-pub mod CedtFields
 pub mod Table
 pub mod Spelling
 pub mod Reading

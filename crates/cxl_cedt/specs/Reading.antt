@@ -1,9 +1,9 @@
 -- The table that bytes without fault spell, read from their front.
 use Rattle.std.specs.Prelude.{ℕ, zero, suc, List, [], ◌∷◌, length, take, drop}
-use Rattle.cxl_cedt.specs.Layout.{revision_place, oem_id_place, oem_table_place, oem_revision_place, creator_place, creator_revision_place, header_size}
-use Rattle.cxl_cedt.specs.declared.cedt.Head.{Head}
-use Rattle.cxl_cedt.specs.declared.cedt.Record.{Record}
-use Rattle.cxl_cedt.specs.CedtFields.{CedtFields}
+use Rattle.cxl_table.specs.Layout.{revision_place, oem_id_place, oem_table_place, oem_revision_place, creator_place, creator_revision_place, header_size}
+use Rattle.cxl_table.specs.declared.cedt.Head.{Head}
+use Rattle.cxl_table.specs.declared.cedt.Record.{Record}
+use Rattle.cxl_table.specs.CedtFields.{CedtFields}
 use Rattle.cxl_cedt.specs.Table.{field, some_bytes, length_said}
 use Rattle.cxl_cedt.specs.inner.Decoding.{record_of}
 

@@ -1,6 +1,6 @@
 -- A record of a table that is read and not copied, as it stands in the table.
-use Rattle.cxl_cedt.specs.declared.cedt.Record.{Record}
-use Rattle.cxl_cedt.specs.declared.cedt.Record.TheVariants as kinds
+use Rattle.cxl_table.specs.declared.cedt.Record.{Record}
+use Rattle.cxl_table.specs.declared.cedt.Record.TheVariants as kinds
 use Rattle.cxl_cedt.specs.declared.records.RecordText.{RecordText}
 use Rattle.cxl_cedt.specs.declared.records.RecordText.TheVariants.{Judged, Other}
 

@@ -1,17 +1,17 @@
 -- Which bytes spell a table (ACPI CEDT: CHBS, CFMWS and CXIMS), and the first fault of bytes that spell none.
 use Rattle.std.specs.Prelude.{◌≡◌, ℕ, zero, suc, ◌+◌, ◌*◌, ◌%◌, ◌<◌, ◌≤◌, nat_lt, ◌==◌, ◌&&◌, ◌||◌, not, Bool, IsTrue, nat_eq, if◌then◌else◌, List, [], ◌∷◌, ◌++◌, length, take, drop, sum, codes, Option, Some, None, is_none, unwrap_or, Result, Err, IfOk, IfErr, ◌⊎◌}
-use Rattle.cxl_cedt.specs.Layout.{chbs_kind, cfmws_kind, cxims_kind, table_length_place, revision_place, oem_id_place, oem_table_place, oem_revision_place, creator_place, creator_revision_place, header_size, kind_place, reserved_place, length_place, frame_size, uid_place, version_place, register_base_place, register_length_place, chbs_size, window_base_place, window_size_place, ways_place, arithmetic_place, window_gran_place, restrict_place, qtg_place, window_front_size, maps_gran_place, maps_count_place, maps_front_size}
+use Rattle.cxl_table.specs.Layout.{chbs_kind, cfmws_kind, cxims_kind, table_length_place, revision_place, oem_id_place, oem_table_place, oem_revision_place, creator_place, creator_revision_place, header_size, kind_place, reserved_place, length_place, frame_size, uid_place, version_place, register_base_place, register_length_place, chbs_size, window_base_place, window_size_place, ways_place, arithmetic_place, window_gran_place, restrict_place, qtg_place, window_front_size, maps_gran_place, maps_count_place, maps_front_size}
 use Rattle.cxl_enc.specs.Codes.{ways_of}
 use Rattle.byteorder.specs.Endian.{little_number}
-use Rattle.cxl_cedt.specs.declared.chbs.Chbs as chbs
-use Rattle.cxl_cedt.specs.declared.cedt.Record.{Record}
-use Rattle.cxl_cedt.specs.declared.cedt.Record.TheVariants.{Chbs, Cfmws, Cxims, Other}
+use Rattle.cxl_table.specs.declared.chbs.Chbs as chbs
+use Rattle.cxl_table.specs.declared.cedt.Record.{Record}
+use Rattle.cxl_table.specs.declared.cedt.Record.TheVariants.{Chbs, Cfmws, Cxims, Other}
 use Rattle.cxl_cedt.specs.declared.fault.CedtFault.{CedtFault}
 use Rattle.cxl_cedt.specs.declared.fault.CedtFault.TheVariants.{Short, Signature, Length, Checksum, RecordCut, RecordLength, WaysCode, GranCode, Arithmetic, TooMany, Memory}
 use Rattle.std.specs.List.{starts_with}
-use Rattle.cxl_cedt.specs.CedtFields.{CedtFields}
-use Rattle.cxl_cedt.specs.Fields.{CfmwsFields, CximsFields, OtherFields}
-use Rattle.cxl_cedt.specs.Records.{is_kind_full, HasFewOfEach}
+use Rattle.cxl_table.specs.CedtFields.{CedtFields}
+use Rattle.cxl_table.specs.Fields.{CfmwsFields, CximsFields, OtherFields}
+use Rattle.cxl_table.specs.Records.{is_kind_full, HasFewOfEach}
 
 -- ---- places in a text
 

@@ -1,12 +1,11 @@
 //! Records that are counted by type as they are read, and kept.
 
 ghost use Rattle.std.specs.Prelude.{◌≡◌, ◌≤◌, [], ◌∷◌, ◌++◌, false, OnOk};
-ghost use Rattle.cxl_cedt.specs.Records.{kind_of, is_kind_full, HasFewOfEach};
+ghost use Rattle.cxl_table.specs.Records.{kind_of, is_kind_full, HasFewOfEach};
 
-use crate::cedt::Record;
 use crate::layout::{CFMWS_KIND, CHBS_KIND, CXIMS_KIND, KIND_LIMIT};
-use crate::other::Other;
 use cxl_enc::Memory;
+use cxl_table::{Other, Record, kind_of};
 use std::alloc::Global;
 use std::marker::Model;
 
@@ -104,16 +103,5 @@ impl CountedRecords {
             counts: _,
         } = self;
         records
-    }
-}
-
-pub fn kind_of(item: &Record) -> u8
-    ensures { result ≡ kind_of item.now }
-{
-    match item {
-        Record::Chbs(_) => CHBS_KIND,
-        Record::Cfmws(_) => CFMWS_KIND,
-        Record::Cxims(_) => CXIMS_KIND,
-        Record::Other(other) => other.kind(),
     }
 }

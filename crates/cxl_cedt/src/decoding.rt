@@ -1,17 +1,13 @@
 //! The record that a text without fault spells.
 
 ghost use Rattle.std.specs.Prelude.{◌≡◌, ◌<◌, ◌≤◌, [], ◌∷◌, ◌++◌, length, false, IfOk, OnOk};
-ghost use Rattle.cxl_cedt.specs.Records.{kind_of, is_kind_full};
+ghost use Rattle.cxl_table.specs.Records.{kind_of, is_kind_full};
 ghost use Rattle.cxl_cedt.specs.Table.{kind_said};
-ghost use Rattle.cxl_cedt.specs.Judged.{judged_places};
+ghost use Rattle.cxl_table.specs.Judged.{judged_places};
 ghost use Rattle.cxl_cedt.specs.inner.Kept.{kept_of};
 ghost use Rattle.cxl_cedt.specs.inner.Decoding.{IsSoundText, IsSoundWindow, AreSoundMaps, chbs_of, cfmws_of, cxims_of, other_of, record_of};
 
-use crate::cedt::Record;
-use crate::cfmws::Cfmws;
-use crate::chbs::Chbs;
 use crate::counted::{CountedRecords, Others};
-use crate::cxims::Cxims;
 use crate::layout::{
     ARITHMETIC_PLACE, CFMWS_KIND, CHBS_KIND, CXIMS_KIND, FRAME_SIZE, KIND_PLACE, MAPS_COUNT_PLACE,
     MAPS_FRONT_SIZE, MAPS_GRAN_PLACE, QTG_PLACE, REGISTER_BASE_PLACE, REGISTER_LENGTH_PLACE,
@@ -19,8 +15,8 @@ use crate::layout::{
     WINDOW_FRONT_SIZE, WINDOW_GRAN_PLACE, WINDOW_SIZE_PLACE,
 };
 use crate::numbers::{u8_at, u16_at, u32_at, u32s_at, u64_at, u64s_at};
-use crate::other::Other;
 use cxl_enc::{Memory, ways_of};
+use cxl_table::{Cfmws, Chbs, Cxims, Other, Record};
 use std::alloc::Global;
 
 /// Adds the record of a text, which begins at byte `at`, to those that are kept, unless it is of another type and those

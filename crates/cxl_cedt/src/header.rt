@@ -1,16 +1,16 @@
 //! The header: its first fault and its fields.
 
 ghost use Rattle.std.specs.Prelude.{◌≡◌, ◌≤◌, ◌%◌, length, sum, IfNone};
-ghost use Rattle.cxl_cedt.specs.Layout.{header_size, revision_place, oem_id_place, oem_table_place, oem_revision_place, creator_place, creator_revision_place};
+ghost use Rattle.cxl_table.specs.Layout.{header_size, revision_place, oem_id_place, oem_table_place, oem_revision_place, creator_place, creator_revision_place};
 ghost use Rattle.cxl_cedt.specs.Table.{header_fault, has_signature, field, some_bytes};
 
-use crate::cedt::Head;
 use crate::fault::CedtFault;
 use crate::layout::{
     CREATOR_PLACE, CREATOR_REVISION_PLACE, HEADER_SIZE, OEM_ID_PLACE, OEM_REVISION_PLACE,
     OEM_TABLE_PLACE, REVISION_PLACE, TABLE_LENGTH_PLACE,
 };
 use crate::numbers::{u8_at, u32_at};
+use cxl_table::Head;
 
 /// The first fault of the header.
 #[tactic(auto, unfolding(crate::specs::Table::header_fault))]

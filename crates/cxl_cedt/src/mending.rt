@@ -3,18 +3,18 @@
 ghost use Rattle.std.specs.Prelude.{◌≡◌, ◌+◌, ◌≤◌, length, IfOk, OnOk};
 ghost use Rattle.cxl_enc.specs.Limits.{file_limit};
 ghost use Rattle.cxl_cedt.specs.Reading.{table_in};
-ghost use Rattle.cxl_cedt.specs.Records.{record_length};
+ghost use Rattle.cxl_table.specs.Records.{record_length};
 ghost use Rattle.cxl_cedt.specs.Spelling.{record_spelling, spelling_with, spelling};
 ghost use Rattle.cxl_cedt.specs.inner.Kept.{IsTextOf};
 ghost use Rattle.cxl_cedt.specs.inner.Mending.{with_part, mended, FitIn};
 ghost use Rattle.cxl_cedt.specs.inner.Widths.{AreBelow};
 
-use crate::cedt::Record;
 use crate::counted::CountedRecords;
 use crate::header::{checksum, head_of};
 use crate::layout::CHECKSUM_PLACE;
 use crate::writing::{put_header, spell_record};
 use cxl_enc::Memory;
+use cxl_table::Record;
 use std::alloc::Global;
 
 /// The bytes of a table of which these records are judged, as `write` gives them: a record of another type stays as it is,

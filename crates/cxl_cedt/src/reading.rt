@@ -2,19 +2,19 @@
 
 ghost use Rattle.std.specs.Prelude.{◌≡◌, ℕ, ◌⊎◌, ◌≤◌, List, length, None, Result, Ok, Err, IfOk, IfErr, OnOk};
 ghost use Rattle.cxl_enc.specs.Limits.{file_limit};
-ghost use Rattle.cxl_cedt.specs.CedtFields.{CedtFields};
-ghost use Rattle.cxl_cedt.specs.Layout.{header_size};
+ghost use Rattle.cxl_table.specs.CedtFields.{CedtFields};
+ghost use Rattle.cxl_table.specs.Layout.{header_size};
 ghost use Rattle.cxl_cedt.specs.inner.Kept.{IsKeptIn};
 ghost use Rattle.cxl_cedt.specs.declared.fault.CedtFault.{CedtFault};
 ghost use Rattle.cxl_cedt.specs.Table.{IsTableText, header_fault, IsRecordFault, FirstTableFault, HasTable, HasFault, IsFaultOf, IsAnswer, IsReadAs};
 
-use crate::cedt::Cedt;
 use crate::counted::{CountedRecords, Others};
 use crate::decoding::add_record;
 use crate::fault::CedtFault;
 use crate::header::{head_of, header_fault};
 use crate::layout::HEADER_SIZE;
 use crate::record_faults::{length_said, record_fault};
+use cxl_table::Cedt;
 use std::alloc::Global;
 
 /// The table that the bytes spell, or their first fault: of the header in the order of `CedtFault`, and

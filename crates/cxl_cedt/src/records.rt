@@ -1,12 +1,12 @@
 //! The records of a table that is read and not copied, one after the other.
 
 ghost use Rattle.std.specs.Prelude.{◌≡◌, ◌≤◌, ◌<◌, [], ◌∷◌, length, MatchOption};
-ghost use Rattle.cxl_cedt.specs.Layout.{cxims_kind};
+ghost use Rattle.cxl_table.specs.Layout.{cxims_kind};
 
-use crate::cedt::Record;
 use crate::layout::{CXIMS_KIND, FRAME_SIZE, KIND_PLACE, RESERVED_PLACE};
 use crate::numbers::u8_at;
 use crate::record_faults::length_said;
+use cxl_table::Record;
 use std::marker::Model;
 
 /// A record of another type than the three that are judged, in the table's bytes.
@@ -17,7 +17,7 @@ pub struct OtherText<'a> {
 
 impl<'a> Model for OtherText<'a> {
     ghost use Rattle.std.specs.Prelude.{◌<◌, ◌≤◌, length};
-    ghost use Rattle.cxl_cedt.specs.Fields.{OtherFields};
+    ghost use Rattle.cxl_table.specs.Fields.{OtherFields};
     ghost use Rattle.cxl_cedt.specs.inner.Decoding.{other_of};
     ghost use Rattle.cxl_cedt.specs.inner.Walk.{IsOtherIn};
 
@@ -75,7 +75,7 @@ pub struct Records<'a> {
 
 impl<'a> Model for Records<'a> {
     ghost use Rattle.std.specs.Prelude.{List};
-    ghost use Rattle.cxl_cedt.specs.declared.cedt.Record.{Record};
+    ghost use Rattle.cxl_table.specs.declared.cedt.Record.{Record};
     ghost use Rattle.cxl_cedt.specs.Reading.{records_in};
     ghost use Rattle.cxl_cedt.specs.inner.Walk.{IsWalk};
 

@@ -2,12 +2,11 @@
 
 ghost use Rattle.std.specs.Prelude.{◌≡◌, ◌≤◌, length, Ok, Err, IfOk, IfErr};
 ghost use Rattle.cxl_enc.specs.Limits.{file_limit};
-ghost use Rattle.cxl_cedt.specs.CedtFields.{CedtFields};
+ghost use Rattle.cxl_table.specs.CedtFields.{CedtFields};
 ghost use Rattle.cxl_cedt.specs.declared.fault.CedtFault.{CedtFault};
 ghost use Rattle.cxl_cedt.specs.Spelling.{spelling};
 ghost use Rattle.cxl_cedt.specs.Table.{IsTableText, FirstTableFault, IsFaultOf, IsAnswer};
 
-use crate::cedt::Record;
 use crate::counted::{CountedRecords, Others};
 use crate::fault::CedtFault;
 use crate::layout::HEADER_SIZE;
@@ -15,6 +14,7 @@ use crate::mending::normal_of;
 use crate::reading::judged;
 use crate::records::Records;
 use cxl_enc::Memory;
+use cxl_table::Record;
 use std::alloc::Global;
 use std::marker::Model;
 
@@ -27,7 +27,7 @@ pub struct TableText {
 }
 
 impl Model for TableText {
-    ghost use Rattle.cxl_cedt.specs.CedtFields.{CedtFields};
+    ghost use Rattle.cxl_table.specs.CedtFields.{CedtFields};
     ghost use Rattle.cxl_cedt.specs.Reading.{table_in};
     ghost use Rattle.cxl_cedt.specs.inner.Kept.{IsTextOf};
 
@@ -39,8 +39,8 @@ impl Model for TableText {
 }
 
 impl TableText {
-    ghost use Rattle.cxl_cedt.specs.Judged.{judged_of};
-    ghost use Rattle.cxl_cedt.specs.Records.{HasFewOfEach};
+    ghost use Rattle.cxl_table.specs.Judged.{judged_of};
+    ghost use Rattle.cxl_table.specs.Records.{HasFewOfEach};
 
     /// The records of the three types that are judged, in table order.
     pub fn judged(&self) -> &[Record]

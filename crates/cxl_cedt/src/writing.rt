@@ -3,25 +3,21 @@
 ghost use Rattle.std.specs.Prelude.{◌≡◌, ◌++◌, ◌∷◌, [], ◌≤◌, ◌<◌, length, codes, IfOk, OnOk};
 ghost use Rattle.std.specs.List.{flat_map};
 ghost use Rattle.cxl_enc.specs.Limits.{file_limit};
-ghost use Rattle.cxl_cedt.specs.CedtFields.{CedtFields};
-ghost use Rattle.cxl_cedt.specs.Records.{table_length};
+ghost use Rattle.cxl_table.specs.CedtFields.{CedtFields};
+ghost use Rattle.cxl_table.specs.Records.{table_length};
 ghost use Rattle.cxl_cedt.specs.Table.{IsTableText, AreRecordTexts};
 ghost use Rattle.cxl_cedt.specs.Spelling.{number_bytes, frame, chbs_spelling, window_range, window_codes, cfmws_spelling, cxims_spelling, other_spelling, record_spelling, header, spelling_with, spelling};
 ghost use Rattle.cxl_cedt.specs.inner.Widths.{HeadFits, ChbsFits, CfmwsFits, CximsFits, OtherFits, RecordFits, HasText};
 
-use crate::cedt::{Cedt, Head, Record};
-use crate::cfmws::Cfmws;
-use crate::chbs::Chbs;
-use crate::cxims::Cxims;
 use crate::header::checksum;
 use crate::layout::{
     CFMWS_KIND, CHBS_KIND, CHBS_SIZE, CHECKSUM_PLACE, CXIMS_KIND, FRAME_SIZE, MAPS_FRONT_SIZE,
     WINDOW_FRONT_SIZE,
 };
 use crate::numbers::{put_u16, put_u32, put_u32s, put_u64, put_u64s};
-use crate::other::Other;
 use byteorder::{ByteOrder, LittleEndian};
 use cxl_enc::Memory;
+use cxl_table::{Cedt, Cfmws, Chbs, Cxims, Head, Other, Record};
 use std::alloc::Global;
 
 /// The bytes of the table, with its true length and checksum, and with reserved fields zero; a record of

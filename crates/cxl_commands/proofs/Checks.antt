@@ -1,6 +1,6 @@
 -- How a run of `check` ends.
 use Rattle.std.proofs.Common.{◌≡◌, Some, List, ℕ, [], ◌∷◌, Err, refl, subst}
-use Rattle.cxl_cedt.specs.CedtFields.{CedtFields}
+use Rattle.cxl_table.specs.CedtFields.{CedtFields}
 use Rattle.cxl_inputs.specs.Ends.{Finishes}
 use Rattle.cxl_inputs.specs.File.{AsksForSome}
 use Rattle.cxl_inputs.specs.Host.{host_of, AreRead, HasNoHost, no_host, by_host}

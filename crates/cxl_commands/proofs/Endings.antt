@@ -1,6 +1,6 @@
 -- How a run ends, whatever it was asked: what is written where memory ran out, and outcomes that are fixed.
 use Rattle.std.proofs.Common.{◌≡◌, ◌⊎◌, false, List, ℕ, subst, inl, inr}
-use Rattle.cxl_cedt.specs.CedtFields.{CedtFields}
+use Rattle.cxl_table.specs.CedtFields.{CedtFields}
 use Rattle.cxl_inputs.specs.Ends.{IsWritten, IsCutShort, Ends}
 use Rattle.cxl_inputs.specs.Host.{host_of}
 use Rattle.cxl_inputs.specs.Host as hosts

@@ -4,7 +4,7 @@ use Rattle.std.specs.List.{concat, filter_map}
 use Rattle.std.proofs.Math.Seq.{take-append_seam}
 use Rattle.std.proofs.lemmas.List.{append-nil}
 use Rattle.std.proofs.lemmas.List.Elements.{filter_map-append}
-use Rattle.cxl_cedt.specs.declared.cedt.Record.{Record}
+use Rattle.cxl_table.specs.declared.cedt.Record.{Record}
 use Rattle.cxl_io.specs.Sink.{SinkState, Takes}
 use Rattle.cxl_window.specs.Fields.{WindowFields}
 use Rattle.cxl_window.proofs.WindowLists.{length-windows_of}

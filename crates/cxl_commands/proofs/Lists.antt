@@ -1,6 +1,6 @@
 -- How a run of `list` ends.
 use Rattle.std.proofs.Common.{◌≡◌, List, ℕ, [], ◌∷◌, Err, refl}
-use Rattle.cxl_cedt.specs.CedtFields.{CedtFields}
+use Rattle.cxl_table.specs.CedtFields.{CedtFields}
 use Rattle.cxl_inputs.specs.Ends.{Ends, Finishes}
 use Rattle.cxl_inputs.specs.File.{AsksForSome}
 use Rattle.cxl_inputs.specs.Stop.{IsStop}

@@ -1,6 +1,6 @@
 -- What a create line comes to, from what it is answered.
 use Rattle.std.proofs.Common.{◌≡◌, ℕ, Some, List, [], ◌∷◌, Result, Ok, Err, IfOk, subst}
-use Rattle.cxl_cedt.specs.CedtFields.{CedtFields}
+use Rattle.cxl_table.specs.CedtFields.{CedtFields}
 use Rattle.cxl_enc.specs.declared.faults.Memory.{Memory}
 use Rattle.cxl_image.specs.Images.{reset_blocks}
 use Rattle.cxl_inputs.specs.Outcome.{Outcome}

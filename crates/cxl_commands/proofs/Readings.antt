@@ -1,7 +1,7 @@
 -- What comes where the bytes of a form's files are known.
 use Rattle.std.proofs.Common.{◌≡◌, ◌≢◌, ℕ, ◌⊎◌, Some, None, List, [], ◌∷◌, inl, inr, sym, ap, subst, ◌∙◌}
 use Rattle.cxl_enc.specs.Faults.{Rose}
-use Rattle.cxl_cedt.specs.CedtFields.{CedtFields}
+use Rattle.cxl_table.specs.CedtFields.{CedtFields}
 use Rattle.cxl_cedt.specs.Table.{IsTableText, FirstTableFault}
 use Rattle.cxl_cedt.specs.declared.fault.CedtFault.{CedtFault}
 use Rattle.cxl_image.specs.File.{IsImageFile, IsFirstImageFault}

@@ -2,7 +2,7 @@
 use Rattle.std.proofs.Common.{◌≡◌, ◌≢◌, ℕ, true, ◌⊎◌, Some, List, [], ◌∷◌, ◌++◌, refl, sym, ap, subst, ◌∙◌, inl, inr, arith}
 use Rattle.std.specs.List.{Contains}
 use Rattle.cxl_enc.specs.Faults.{Rose}
-use Rattle.cxl_cedt.specs.CedtFields.{CedtFields}
+use Rattle.cxl_table.specs.CedtFields.{CedtFields}
 use Rattle.cxl_cedt.specs.declared.fault.CedtFault.{CedtFault}
 use Rattle.cxl_image.specs.declared.fault.ImageFault.{ImageFault}
 use Rattle.cxl_inputs.specs.Ends.{IsWritten, IsCutShort}

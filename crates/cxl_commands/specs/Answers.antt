@@ -1,6 +1,6 @@
 -- Which outcome answers a form, by what the outside holds before it and after it.
 use Rattle.std.specs.Prelude.{◌≡◌, List, [], ◌∷◌, Result, Ok, Err}
-use Rattle.cxl_cedt.specs.CedtFields.{CedtFields}
+use Rattle.cxl_table.specs.CedtFields.{CedtFields}
 use Rattle.cxl_inputs.specs.File.{AsksForSome}
 use Rattle.cxl_inputs.specs.Host.{host_of, IsByHost}
 use Rattle.cxl_inputs.specs.Outcome.{Outcome}

@@ -1,6 +1,6 @@
 -- What the files of a form are read as, where their bytes are known.
 use Rattle.std.specs.Prelude.{◌≡◌, ℕ, Some, None, List}
-use Rattle.cxl_cedt.specs.CedtFields.{CedtFields}
+use Rattle.cxl_table.specs.CedtFields.{CedtFields}
 use Rattle.cxl_inputs.specs.Image.{IsImageReading}
 use Rattle.cxl_inputs.specs.Table.{IsReading}
 use Rattle.cxl_inputs.specs.Topology.{IsTreeReading}

@@ -1,7 +1,9 @@
 -- Numbers of ways that stand in the table.
-use Rattle.std.proofs.Common.{◌≡◌, ℕ, true, false, if◌then◌else◌, Option, Some, refl, sym, subst, None, ◌<◌, arith, Bool, inl, inr, ◌∙◌, ◌%◌, eqb}
+use Rattle.std.proofs.Common.{◌≡◌, ℕ, true, false, if◌then◌else◌, Option, Some, refl, sym, subst, None, ◌<◌, ◌≤◌, ◌-◌, ◌*◌, ◌^◌, ◌&&◌, arith, Bool, inl, inr, ◌∙◌, ◌%◌, eqb, ltb, leb}
 use Rattle.std.specs.Prelude.{◌==◌, IsTrue, is_some, nat_lt, nat_le}
-use Rattle.std.proofs.lemmas.Bool.{eqb-true, false≢true, agree_below_at, cases_lt, le-ltb, le-leb, cases_eq, ne_eqb, cond_both}
+use Rattle.std.proofs.lemmas.Bool.{eqb-true, false≢true, agree_below_at, cases_lt, le-ltb, le-leb, cases_eq, ne_eqb, cond_both, cases_Bool, ltb-true, and_parts}
+use Rattle.std.proofs.lemmas.Option.{none-some, same_Some}
+use Rattle.std.proofs.Math.Pow.{pow_mono}
 use Rattle.std.specs.Option.{unwrap_or}
 use Rattle.cxl_enc.specs.Codes.{is_ways, ways_of, third_of}
 use Rattle.cxl_enc.specs.Caps.{is_target_count}
@@ -63,3 +65,23 @@ count_is_ways p known = each_count (λ n. is_ways n ≡ true) p known refl refl 
 
 pub some_third : (n : ℕ) → 0 < third_of n
 some_third n = cond_both (eqb (n % 3) 0) 3 1 (λ third. 0 < third) (λ e. omega arith) (λ e. omega arith)
+
+-- a code stands for 16 ways at the most
+pub ways_few : (code n : ℕ) → ways_of code ≡ Some n → n ≤ 16
+ways_few code n e =
+    elim (cases_Bool (ltb code 5)) [
+      | inl low ↦
+          let is : 2 ^ code ≡ n = same_Some (2 ^ code) n (rw low at e) in
+          let le : code ≤ 4 = omega (arith, ltb-true code 5 low) in
+          let top : 2 ^ code ≤ 2 ^ 4 = pow_mono le in
+          omega arith
+      | inr high ↦ elim (cases_Bool (leb 8 code && ltb code 11)) [
+        | inl there ↦
+            let is : 3 * 2 ^ (code - 8) ≡ n = same_Some (3 * 2 ^ (code - 8)) n (rw (high, there) at e) in
+            let below = ltb-true code 11 (and_parts (leb 8 code) (ltb code 11) there).1 in
+            let le : code - 8 ≤ 2 = omega arith in
+            let top : 2 ^ (code - 8) ≤ 2 ^ 2 = pow_mono le in
+            omega arith
+        | inr none ↦ absurd (none-some n (rw (high, none) at e))
+      ]
+    ]

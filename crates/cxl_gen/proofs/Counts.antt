@@ -4,8 +4,8 @@ use Rattle.std.specs.Prelude.{map, sum_by}
 use Rattle.std.specs.List.{range_with_len}
 use Rattle.std.proofs.lemmas.List.Sums.{sum_by-append, sum_by-cons}
 use Rattle.cxl_enc.specs.Limits.{file_limit}
-use Rattle.cxl_cedt.specs.declared.cedt.Record.{Record}
-use Rattle.cxl_cedt.specs.Records.{kind_of, record_length, table_length, HasFewOfEach}
+use Rattle.cxl_table.specs.declared.cedt.Record.{Record}
+use Rattle.cxl_table.specs.Records.{kind_of, record_length, table_length, HasFewOfEach}
 use Rattle.cxl_gen.specs.Made.{made_chbs, made_cxims, made_window, made_records}
 
 -- a sum over items that all add the same

@@ -4,9 +4,9 @@ use Rattle.std.specs.List.{range_with_len, flat_map, list_all}
 use Rattle.cxl_enc.specs.declared.caps.MemKind.TheVariants.{Ram}
 use Rattle.cxl_enc.specs.Caps.{word_of}
 use Rattle.cxl_enc.specs.Name.{is_name_byte}
-use Rattle.cxl_cedt.specs.CedtFields.{CedtFields}
-use Rattle.cxl_cedt.specs.declared.cedt.Record.{Record}
-use Rattle.cxl_cedt.specs.declared.cedt.Record.TheVariants as records
+use Rattle.cxl_table.specs.CedtFields.{CedtFields}
+use Rattle.cxl_table.specs.declared.cedt.Record.{Record}
+use Rattle.cxl_table.specs.declared.cedt.Record.TheVariants as records
 use Rattle.cxl_script.specs.declared.command.Command.{Command}
 use Rattle.cxl_script.specs.declared.command.Command.TheVariants as commands
 use Rattle.cxl_topo.specs.Tree.{Tree}

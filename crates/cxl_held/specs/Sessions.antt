@@ -1,6 +1,6 @@
 -- A session with its registers and its device memory, and what it comes to where none opens.
 use Rattle.std.specs.Prelude.{◌≡◌, ℕ, ◌<◌, Option, Some, None, List}
-use Rattle.cxl_cedt.specs.CedtFields.{CedtFields}
+use Rattle.cxl_table.specs.CedtFields.{CedtFields}
 use Rattle.cxl_commands.specs.commands.RefusedStart.{too_many_regions}
 use Rattle.cxl_commands.specs.inner.Reports.{TellsBreach}
 use Rattle.cxl_inputs.specs.Ends.{Ends, WritesNothing}

@@ -1,7 +1,7 @@
 //! Worked hosts: their nodes, their tables, and images that are made by register writes.
 
 ghost use Rattle.std.specs.Prelude.{◌≡◌, ◌≤◌, ◌*◌, List, length, sum_by, IsTrue};
-ghost use Rattle.cxl_cedt.specs.Records.{record_length};
+ghost use Rattle.cxl_table.specs.Records.{record_length};
 ghost use Rattle.cxl_topo.specs.declared.node.Node.{Node};
 ghost use Rattle.cxl_window.specs.Windows.{AreMadeWith};
 ghost use Rattle.cxl_image.specs.Images.{HasCapsOf};

@@ -1,6 +1,6 @@
 -- What reading a host comes to: a table, a topology and an image, each read before the next is asked for.
 use Rattle.std.specs.Prelude.{ℕ, Some, List, [], ◌∷◌}
-use Rattle.cxl_cedt.specs.CedtFields.{CedtFields}
+use Rattle.cxl_table.specs.CedtFields.{CedtFields}
 use Rattle.cxl_io.specs.Fetch.{FetchState}
 use Rattle.cxl_io.specs.Told.{Told}
 use Rattle.cxl_model.specs.System.{System, system_of, bridge_uids}

@@ -1,6 +1,6 @@
 -- What reading a host after reset comes to: a table and a topology, each read before the next is asked for.
 use Rattle.std.specs.Prelude.{ℕ, List, [], ◌∷◌}
-use Rattle.cxl_cedt.specs.CedtFields.{CedtFields}
+use Rattle.cxl_table.specs.CedtFields.{CedtFields}
 use Rattle.cxl_image.specs.Images.{reset_blocks}
 use Rattle.cxl_io.specs.Fetch.{FetchState}
 use Rattle.cxl_io.specs.Told.{Told}

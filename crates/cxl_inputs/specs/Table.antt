@@ -1,6 +1,6 @@
 -- What reading a table from a file comes to.
 use Rattle.std.specs.Prelude.{◌≡◌, ℕ, ◌≤◌, Option, None, Some, List, [], ◌∷◌, ◌++◌, length, codes}
-use Rattle.cxl_cedt.specs.CedtFields.{CedtFields}
+use Rattle.cxl_table.specs.CedtFields.{CedtFields}
 use Rattle.cxl_cedt.specs.Table.{IsTableText, FirstTableFault}
 use Rattle.cxl_cedt.specs.declared.fault.CedtFault.{CedtFault}
 use Rattle.cxl_cedt.specs.declared.fault.CedtFault.TheVariants.{Short, Signature, Length, Checksum, RecordCut, RecordLength, WaysCode, GranCode, Arithmetic, TooMany, Memory}

@@ -1,7 +1,7 @@
 //! The host that the files of a table, a topology and an image describe.
 
 ghost use Rattle.std.specs.Prelude.{◌≡◌, ◌≤◌, Some, [], ◌∷◌, IfOk, IfErr, OnOk};
-ghost use Rattle.cxl_cedt.specs.CedtFields.{CedtFields};
+ghost use Rattle.cxl_table.specs.CedtFields.{CedtFields};
 ghost use Rattle.cxl_image.specs.Images.{HasCapsOf};
 ghost use Rattle.cxl_io.specs.Fetch.{AsksFor};
 ghost use Rattle.cxl_model.specs.System.{IsSystem, system_of, bridge_uids};
@@ -13,11 +13,12 @@ ghost use Rattle.cxl_inputs.specs.Stop.{IsStop};
 use crate::image::fetch_image;
 use crate::reset_host::fetch_both;
 use crate::stop::Stop;
+use crate::table_windows::text_windows;
 use cxl_cedt::{Cedt, TableText};
 use cxl_image::Image;
 use cxl_io::{Fetch, Memory};
 use cxl_topo::Topo;
-use cxl_window::{Window, text_windows, windows};
+use cxl_window::{Window, windows};
 use std::alloc::Global;
 
 /// What a command's three files describe: a topology, an image over it, and the table's windows as the

@@ -10,6 +10,7 @@ mod reset_host;
 mod status;
 mod stop;
 mod table;
+mod table_windows;
 mod topology;
 
 pub use host::{OwnedHost, fetch_host};
@@ -19,4 +20,5 @@ pub use reset_host::fetch_reset_host;
 pub use status::Status;
 pub use stop::{Stop, finish};
 pub use table::{fetch_table, given_table};
+pub use table_windows::text_windows;
 pub use topology::given_topology;

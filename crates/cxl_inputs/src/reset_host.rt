@@ -1,7 +1,7 @@
 //! The host that the files of a table and a topology describe, after reset.
 
 ghost use Rattle.std.specs.Prelude.{◌≡◌, ◌≤◌, Some, [], ◌∷◌, IfOk, IfErr, OnOk};
-ghost use Rattle.cxl_cedt.specs.CedtFields.{CedtFields};
+ghost use Rattle.cxl_table.specs.CedtFields.{CedtFields};
 ghost use Rattle.cxl_image.specs.Images.{reset_blocks};
 ghost use Rattle.cxl_io.specs.Fetch.{AsksFor};
 ghost use Rattle.cxl_model.specs.Accepted.{IsAccepted};

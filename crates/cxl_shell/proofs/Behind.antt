@@ -1,7 +1,7 @@
 -- What the files say of a run that left them behind: each has a reading.
 use Rattle.std.proofs.Common.{◌≡◌, ℕ, Some, List, length, sym, subst}
 use Rattle.std.proofs.Math.Seq.{take-length}
-use Rattle.cxl_cedt.specs.CedtFields.{CedtFields}
+use Rattle.cxl_table.specs.CedtFields.{CedtFields}
 use Rattle.cxl_cedt.specs.declared.fault.CedtFault.{CedtFault}
 use Rattle.cxl_image.specs.declared.fault.ImageFault.{ImageFault}
 use Rattle.cxl_inputs.specs.File.{AsksForSome}

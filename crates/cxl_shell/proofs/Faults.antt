@@ -1,6 +1,6 @@
 -- Want of memory is no fault of a table.
 use Rattle.std.proofs.Common.{◌≢◌, ℕ, ◌+◌, Some, List, length, inl, inr, ap, ◌∙◌, arith}
-use Rattle.cxl_cedt.specs.declared.cedt.Record.{Record}
+use Rattle.cxl_table.specs.declared.cedt.Record.{Record}
 use Rattle.cxl_cedt.specs.declared.fault.CedtFault.{CedtFault}
 use Rattle.cxl_cedt.specs.declared.fault.CedtFault.TheVariants.{Memory}
 use Rattle.cxl_cedt.specs.Table.{header_fault, record_fault, IsRecordFault, FirstTableFault}

@@ -7,7 +7,7 @@ use Rattle.cxl_bus.specs.Failed.{behind, HasFailed, fresh}
 use Rattle.cxl_bus.specs.RegsState.{RegsState}
 use Rattle.cxl_bus.specs.Trail.{trail_with}
 use Rattle.cxl_bus.specs.declared.sent.Sent.{Sent}
-use Rattle.cxl_cedt.specs.CedtFields.{CedtFields}
+use Rattle.cxl_table.specs.CedtFields.{CedtFields}
 use Rattle.cxl_check.specs.declared.fault.Breach.{Breach}
 use Rattle.cxl_enc.specs.Faults.{Rose, LeavesCount}
 use Rattle.cxl_image.specs.Images.{reset_blocks}

@@ -1,7 +1,7 @@
 //! Laws of the statuses of `run` and `gen`.
 
 ghost use Rattle.std.specs.Prelude.{◌≡◌, ℕ, ◌<◌, ◌⊎◌, Some, true, List, [], length};
-ghost use Rattle.cxl_cedt.specs.CedtFields.{CedtFields};
+ghost use Rattle.cxl_table.specs.CedtFields.{CedtFields};
 ghost use Rattle.cxl_enc.specs.Faults.{Rose};
 ghost use Rattle.cxl_inputs.specs.Ends.{IsWritten, IsCutShort};
 ghost use Rattle.cxl_inputs.specs.Host.{host_of};

@@ -3,10 +3,10 @@ use Rattle.std.proofs.Common.{◌≡◌, ℕ, ◌+◌, Bool, true, false, List, 
 use Rattle.std.specs.Prelude.{find, position, ◌||◌, not}
 use Rattle.std.specs.List.{filter_map, list_any}
 use Rattle.std.proofs.lemmas.Bool.{cases_Bool}
-use Rattle.cxl_cedt.specs.Fields.{CfmwsFields, CximsFields}
-use Rattle.cxl_cedt.specs.Judged.{is_judged, judged_of}
-use Rattle.cxl_cedt.specs.declared.cedt.Record.{Record}
-use Rattle.cxl_cedt.specs.declared.cedt.Record.TheVariants.{Chbs, Cfmws, Cxims, Other}
+use Rattle.cxl_table.specs.Fields.{CfmwsFields, CximsFields}
+use Rattle.cxl_table.specs.Judged.{is_judged, judged_of}
+use Rattle.cxl_table.specs.declared.cedt.Record.{Record}
+use Rattle.cxl_table.specs.declared.cedt.Record.TheVariants.{Chbs, Cfmws, Cxims, Other}
 use Rattle.cxl_window.specs.Fields.{WindowFields}
 use Rattle.cxl_window.specs.Windows.{cfmws_in, cxims_in, is_cxl2_bridge, first_maps, maps_in, maps_of, topology_has, is_missing, overlaps, first_verdict, window_with, window_of, windows_from, windows_of}
 use Rattle.cxl_window.proofs.WindowLists.{find-agree}

@@ -7,7 +7,7 @@ use Rattle.std.proofs.lemmas.Bool.{false≢true, eqb-true, eqb-false, ltb-false,
 use Rattle.std.proofs.lemmas.List.{append-nil}
 use Rattle.std.proofs.lemmas.List.Quantifiers.{all_pairs_push}
 use Rattle.cxl_enc.specs.Codes.{bits_of}
-use Rattle.cxl_cedt.specs.Fields.{CfmwsFields}
+use Rattle.cxl_table.specs.Fields.{CfmwsFields}
 use Rattle.cxl_window.specs.declared.window.Verdict.TheVariants.{Usable, Align, Size, TooHigh, Overlap, Target, Repeat, Maps}
 use Rattle.cxl_enc.specs.Limits.{unit, address_limit}
 use Rattle.cxl_enc.proofs.Lists.{not_among}

@@ -6,10 +6,10 @@ use Rattle.std.specs.Borrow.{Bor}
 use Rattle.std.proofs.lemmas.List.{append-nil, length-append, length-map, take-append-drop, take_all, take-map, map_more}
 use Rattle.std.proofs.lemmas.List.Sums.{sum_by-cons}
 use Rattle.std.proofs.lemmas.Iterator.Adapters.{position_from-zero}
-use Rattle.cxl_cedt.specs.Fields.{CfmwsFields, CximsFields}
-use Rattle.cxl_cedt.specs.Records.{kind_of, count_of}
-use Rattle.cxl_cedt.specs.declared.cedt.Record.{Record}
-use Rattle.cxl_cedt.specs.declared.cedt.Record.TheVariants.{Chbs, Cfmws, Cxims, Other}
+use Rattle.cxl_table.specs.Fields.{CfmwsFields, CximsFields}
+use Rattle.cxl_table.specs.Records.{kind_of, count_of}
+use Rattle.cxl_table.specs.declared.cedt.Record.{Record}
+use Rattle.cxl_table.specs.declared.cedt.Record.TheVariants.{Chbs, Cfmws, Cxims, Other}
 use Rattle.cxl_window.specs.Fields.{WindowFields, IsWindow}
 use Rattle.cxl_window.specs.Judging.{is_no_bridge, windows_behind}
 use Rattle.cxl_window.specs.Windows.{cfmws_in, cxims_in, first_maps, maps_in, maps_of, overlaps, first_verdict, ranges_meet, is_missing, window_with, window_of, windows_from, windows_of}

@@ -3,9 +3,9 @@ use Rattle.std.specs.Prelude.{◌≡◌, ℕ, ◌+◌, ◌-◌, ◌*◌, ◌%◌
 use Rattle.std.specs.List.{filter_map, list_any}
 use Rattle.std.specs.Option.{option_map, option_map_or}
 use Rattle.cxl_enc.specs.Codes.{ways_of, bits_of}
-use Rattle.cxl_cedt.specs.Fields.{CfmwsFields, CximsFields}
-use Rattle.cxl_cedt.specs.declared.cedt.Record.{Record}
-use Rattle.cxl_cedt.specs.declared.cedt.Record.TheVariants.{Chbs, Cfmws, Cxims, Other}
+use Rattle.cxl_table.specs.Fields.{CfmwsFields, CximsFields}
+use Rattle.cxl_table.specs.declared.cedt.Record.{Record}
+use Rattle.cxl_table.specs.declared.cedt.Record.TheVariants.{Chbs, Cfmws, Cxims, Other}
 use Rattle.cxl_window.specs.declared.window.Verdict.{Verdict}
 use Rattle.cxl_window.specs.declared.window.Verdict.TheVariants.{Usable, Align, Size, TooHigh, Overlap, Target, Repeat, Maps}
 use Rattle.cxl_enc.specs.Limits.{unit, address_limit}

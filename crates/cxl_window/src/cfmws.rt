@@ -6,7 +6,7 @@ ghost use Rattle.cxl_enc.specs.Limits.{unit, address_limit};
 ghost use Rattle.cxl_window.specs.Windows.{cfmws_ways, ranges_meet, first_repeat};
 
 use crate::window::Window;
-use cxl_cedt::Cfmws;
+use cxl_table::Cfmws;
 use cxl_enc::{ADDRESS_LIMIT, UNIT, ways_of};
 use cxl_num::checked_end;
 

@@ -11,7 +11,7 @@ use crate::cfmws::{
 };
 use crate::padding::padded_maps;
 use crate::window::{Verdict, Window};
-use cxl_cedt::{Cfmws, Chbs, Cxims, Record};
+use cxl_table::{Cfmws, Chbs, Cxims, Record};
 use cxl_enc::{Memory, split};
 use cxl_num::are_usable_maps;
 use std::alloc::Global;

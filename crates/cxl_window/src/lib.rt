@@ -12,5 +12,5 @@ mod window;
 pub use cxl_enc::{FixedList, Memory};
 pub use position::{positions, root_ways, slot_of, target_position, unxor};
 pub use restrictions::{is_fixed, permits};
-pub use verdicts::{text_windows, windows};
+pub use verdicts::{windows, windows_by};
 pub use window::{Verdict, Window};

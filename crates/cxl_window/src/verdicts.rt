@@ -3,14 +3,14 @@
 ghost use Rattle.std.specs.Prelude.{◌≡◌, ◌≤◌, List, ℕ, Some, length, vec_len, IfOk};
 ghost use Rattle.std.specs.List.{filter_map};
 ghost use Rattle.std.specs.Option.{option_copied};
-ghost use Rattle.cxl_cedt.specs.Layout.{cfmws_kind, kind_limit};
-ghost use Rattle.cxl_cedt.specs.Records.{count_of};
+ghost use Rattle.cxl_table.specs.Layout.{cfmws_kind, kind_limit};
+ghost use Rattle.cxl_table.specs.Records.{count_of};
 ghost use Rattle.cxl_window.specs.Windows.{cfmws_in, windows_of, AreMadeWith};
 
 use crate::judge::Judge;
 use crate::window::Window;
-use cxl_cedt::{Cedt, Record, TableText};
 use cxl_enc::Memory;
+use cxl_table::{Cedt, Record};
 use std::alloc::Global;
 
 /// The windows of a table in its order, each with its verdict. `uids` are the bridges of the topology,
@@ -28,24 +28,9 @@ pub fn windows(alloc: Global, cedt: &Cedt, uids: Option<&[u32]>) -> Result<Vec<W
     windows_by(alloc, cedt.records(), uids)
 }
 
-/// The windows of a table that is read and not copied, as `windows` gives them.
-pub fn text_windows(
-    alloc: Global,
-    table: &TableText,
-    uids: Option<&[u32]>,
-) -> Result<Vec<Window>, Memory>
-    ensures windows { IfOk result
-        (λ ws. ws.items ≡ windows_of table.now.records (option_copied uids.entry)) }
-    ensures one_each { IfOk result
-        (λ ws. vec_len ws ≡ length (filter_map cfmws_in table.now.records)) }
-    ensures made { IfOk result (λ ws. (bridges : List ℕ)
-        → option_copied uids.entry ≡ Some bridges → AreMadeWith ws.items bridges) }
-{
-    windows_by(alloc, table.judged(), uids)
-}
-
-/// The windows by some records of a table, among which are all that are judged by their types.
-fn windows_by(
+/// The windows by some records of a table, among which are all that are judged by their types, in its order. `uids` are
+/// the bridges of the topology, where there is one.
+pub fn windows_by(
     alloc: Global,
     records: &[Record],
     uids: Option<&[u32]>,

@@ -4,7 +4,7 @@ ghost use Rattle.std.specs.Prelude.{◌≡◌, ◌≤◌, IsTrue, length};
 ghost use Rattle.cxl_enc.specs.Codes.{is_ways, bits_of};
 
 use crate::cfmws::cfmws_ways;
-use cxl_cedt::Cfmws;
+use cxl_table::Cfmws;
 use cxl_enc::{FixedList, Memory};
 use std::alloc::Global;
 use std::marker::Model;

@@ -2,7 +2,7 @@
 //! contract of a function that does nothing.
 
 ghost use Rattle.std.specs.Prelude.{ℕ, List, [], ◌∷◌, codes, None, Some};
-ghost use Rattle.cxl_cedt.specs.CedtFields.{CedtFields};
+ghost use Rattle.cxl_table.specs.CedtFields.{CedtFields};
 ghost use Rattle.cxl_commands.specs.Form.{Check, Script, Gen, Help};
 ghost use Rattle.cxl_gen.specs.Made.{made_table, made_tree};
 ghost use Rattle.cxl_inputs.specs.Host.{host_of, AreRead};

@@ -1,10 +1,10 @@
 -- The record that a text without fault spells, field by field.
 use Rattle.std.specs.Prelude.{◌≡◌, ℕ, ◌+◌, ◌*◌, ◌≤◌, ◌==◌, if◌then◌else◌, List, length, drop, Some, unwrap_or}
-use Rattle.cxl_cedt.specs.Layout.{chbs_kind, cfmws_kind, cxims_kind, reserved_place, frame_size, uid_place, version_place, register_base_place, register_length_place, chbs_size, window_base_place, window_size_place, ways_place, arithmetic_place, window_gran_place, restrict_place, qtg_place, window_front_size, maps_gran_place, maps_count_place, maps_front_size}
-use Rattle.cxl_cedt.specs.declared.chbs.Chbs as chbs
-use Rattle.cxl_cedt.specs.declared.cedt.Record.{Record}
-use Rattle.cxl_cedt.specs.declared.cedt.Record.TheVariants.{Chbs, Cfmws, Cxims, Other}
-use Rattle.cxl_cedt.specs.Fields.{CfmwsFields, CximsFields, OtherFields}
+use Rattle.cxl_table.specs.Layout.{chbs_kind, cfmws_kind, cxims_kind, reserved_place, frame_size, uid_place, version_place, register_base_place, register_length_place, chbs_size, window_base_place, window_size_place, ways_place, arithmetic_place, window_gran_place, restrict_place, qtg_place, window_front_size, maps_gran_place, maps_count_place, maps_front_size}
+use Rattle.cxl_table.specs.declared.chbs.Chbs as chbs
+use Rattle.cxl_table.specs.declared.cedt.Record.{Record}
+use Rattle.cxl_table.specs.declared.cedt.Record.TheVariants.{Chbs, Cfmws, Cxims, Other}
+use Rattle.cxl_table.specs.Fields.{CfmwsFields, CximsFields, OtherFields}
 use Rattle.cxl_cedt.specs.Table.{field, fields, kind_said, length_said, ways_said}
 
 -- the ways of a window's code, 0 where it is unknown

@@ -1,12 +1,12 @@
 -- What a reader keeps of the records that it has read.
 use Rattle.std.specs.Prelude.{◌≡◌, ℕ, ◌≤◌, List, length, drop}
 use Rattle.cxl_enc.specs.Limits.{file_limit}
-use Rattle.cxl_cedt.specs.Layout.{header_size}
-use Rattle.cxl_cedt.specs.declared.cedt.Record.{Record}
+use Rattle.cxl_table.specs.Layout.{header_size}
+use Rattle.cxl_table.specs.declared.cedt.Record.{Record}
 use Rattle.cxl_cedt.specs.declared.counted.Others.{Others}
 use Rattle.cxl_cedt.specs.declared.counted.Others.TheVariants.{Kept, PassedOver}
-use Rattle.cxl_cedt.specs.Judged.{judged_of, judged_places}
-use Rattle.cxl_cedt.specs.Records.{HasFewOfEach}
+use Rattle.cxl_table.specs.Judged.{judged_of, judged_places}
+use Rattle.cxl_table.specs.Records.{HasFewOfEach}
 use Rattle.cxl_cedt.specs.Table.{AreRecordTexts, IsTableText}
 use Rattle.cxl_cedt.specs.Reading.{table_in}
 use Rattle.cxl_cedt.specs.inner.Scan.{AreReadTo}

@@ -1,6 +1,6 @@
 -- The records that are kept, and where those of them begin that are judged by their types.
 use Rattle.std.specs.Prelude.{ℕ, List}
-use Rattle.cxl_cedt.specs.declared.cedt.Record.{Record}
+use Rattle.cxl_table.specs.declared.cedt.Record.{Record}
 
 pub record KeptRecords : Type 0 where
   pub records : List Record

@@ -1,7 +1,7 @@
 -- What is written over the bytes of a table.
 use Rattle.std.specs.Prelude.{ℕ, ◌+◌, ◌≤◌, List, [], ◌∷◌, ◌++◌, length, take, drop, ⊤}
-use Rattle.cxl_cedt.specs.declared.cedt.Record.{Record}
-use Rattle.cxl_cedt.specs.Records.{record_length}
+use Rattle.cxl_table.specs.declared.cedt.Record.{Record}
+use Rattle.cxl_table.specs.Records.{record_length}
 use Rattle.cxl_cedt.specs.Spelling.{record_spelling}
 
 -- the bytes with a part in the place of those from place `at` on

@@ -1,8 +1,8 @@
 -- How far a table was read.
 use Rattle.std.specs.Prelude.{◌≡◌, ℕ, ◌+◌, List, ◌++◌, length, drop}
-use Rattle.cxl_cedt.specs.Layout.{header_size}
-use Rattle.cxl_cedt.specs.declared.cedt.Record.{Record}
-use Rattle.cxl_cedt.specs.Records.{HasFewOfEach}
+use Rattle.cxl_table.specs.Layout.{header_size}
+use Rattle.cxl_table.specs.declared.cedt.Record.{Record}
+use Rattle.cxl_table.specs.Records.{HasFewOfEach}
 use Rattle.cxl_cedt.specs.Table.{AreRecordTexts}
 
 -- behind the header stand the texts of these records, and then from byte `at` on the rest

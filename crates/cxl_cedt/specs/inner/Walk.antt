@@ -1,8 +1,8 @@
 -- What is left of a table's text, and what is kept of the records in it.
 use Rattle.std.specs.Prelude.{◌≡◌, ℕ, ◌<◌, ◌≤◌, List, length}
-use Rattle.cxl_cedt.specs.Layout.{cxims_kind}
-use Rattle.cxl_cedt.specs.declared.cedt.Record.{Record}
-use Rattle.cxl_cedt.specs.Judged.{judged_of}
+use Rattle.cxl_table.specs.Layout.{cxims_kind}
+use Rattle.cxl_table.specs.declared.cedt.Record.{Record}
+use Rattle.cxl_table.specs.Judged.{judged_of}
 use Rattle.cxl_cedt.specs.Reading.{records_in}
 use Rattle.cxl_cedt.specs.Table.{AreRecordTexts, kind_said}
 use Rattle.cxl_cedt.specs.inner.Decoding.{IsSoundText}

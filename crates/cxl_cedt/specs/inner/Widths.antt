@@ -1,16 +1,16 @@
 -- What fits the fields that it is written to.
 use Rattle.std.specs.Prelude.{◌≡◌, ℕ, ◌^◌, ◌<◌, ◌≤◌, List, length, slice_index, Some}
-use Rattle.cxl_cedt.specs.Layout.{cxims_kind}
+use Rattle.cxl_table.specs.Layout.{cxims_kind}
 use Rattle.cxl_enc.specs.Codes.{ways_of}
 use Rattle.cxl_enc.specs.Limits.{file_limit}
-use Rattle.cxl_cedt.specs.declared.chbs.Chbs as chbs
-use Rattle.cxl_cedt.specs.declared.cedt.Head.{Head}
-use Rattle.cxl_cedt.specs.declared.cedt.Record.{Record}
-use Rattle.cxl_cedt.specs.declared.cedt.Record.TheVariants.{Chbs, Cfmws, Cxims, Other}
+use Rattle.cxl_table.specs.declared.chbs.Chbs as chbs
+use Rattle.cxl_table.specs.declared.cedt.Head.{Head}
+use Rattle.cxl_table.specs.declared.cedt.Record.{Record}
+use Rattle.cxl_table.specs.declared.cedt.Record.TheVariants.{Chbs, Cfmws, Cxims, Other}
 use Rattle.std.specs.List.{flat_map}
-use Rattle.cxl_cedt.specs.CedtFields.{CedtFields}
-use Rattle.cxl_cedt.specs.Fields.{CfmwsFields, CximsFields, OtherFields}
-use Rattle.cxl_cedt.specs.Records.{table_length, HasFewOfEach}
+use Rattle.cxl_table.specs.CedtFields.{CedtFields}
+use Rattle.cxl_table.specs.Fields.{CfmwsFields, CximsFields, OtherFields}
+use Rattle.cxl_table.specs.Records.{table_length, HasFewOfEach}
 use Rattle.cxl_cedt.specs.Table.{AreRecordTexts}
 use Rattle.cxl_cedt.specs.Spelling.{record_spelling}
 

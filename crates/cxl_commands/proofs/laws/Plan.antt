@@ -1,6 +1,6 @@
 -- What a run of `plan` comes to.
 use Rattle.std.proofs.Common.{◌≡◌, ℕ, ◌⊎◌, List, refl, ap, subst, ◌∙◌, inl, inr}
-use Rattle.cxl_cedt.specs.CedtFields.{CedtFields}
+use Rattle.cxl_table.specs.CedtFields.{CedtFields}
 use Rattle.cxl_inputs.specs.Ends.{IsWritten}
 use Rattle.cxl_inputs.specs.Outcome.{Outcome}
 use Rattle.cxl_inputs.specs.ResetHost.{reset_host_of, AreBothRead}

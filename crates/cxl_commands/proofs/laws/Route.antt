@@ -1,6 +1,6 @@
 -- What a run of `route` comes to.
 use Rattle.std.proofs.Common.{◌≡◌, ℕ, ◌⊎◌, None, List, refl, sym, subst, inl, inr}
-use Rattle.cxl_cedt.specs.CedtFields.{CedtFields}
+use Rattle.cxl_table.specs.CedtFields.{CedtFields}
 use Rattle.cxl_inputs.specs.Ends.{IsWritten}
 use Rattle.cxl_inputs.specs.Table.{IsTableOf}
 use Rattle.cxl_inputs.specs.declared.status.Status.{Status}

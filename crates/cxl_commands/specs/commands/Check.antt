@@ -1,7 +1,7 @@
 -- What `check` comes to.
 use Rattle.std.specs.Prelude.{◌≡◌, ℕ, List, map, take}
 use Rattle.std.specs.List.{concat}
-use Rattle.cxl_cedt.specs.CedtFields.{CedtFields}
+use Rattle.cxl_table.specs.CedtFields.{CedtFields}
 use Rattle.cxl_inputs.specs.Host.{host_of, AreRead}
 use Rattle.cxl_inputs.specs.Outcome.{Outcome, one_piece}
 use Rattle.cxl_inputs.specs.declared.status.Status.TheVariants.{Done, Refused}

@@ -1,7 +1,7 @@
 -- The line of a record, by the windows of its table in order.
 use Rattle.std.specs.Prelude.{ℕ, Option, Some, None, List, [], slice_get}
-use Rattle.cxl_cedt.specs.declared.cedt.Record.{Record}
-use Rattle.cxl_cedt.specs.declared.cedt.Record.TheVariants.{Chbs, Cfmws, Cxims, Other}
+use Rattle.cxl_table.specs.declared.cedt.Record.{Record}
+use Rattle.cxl_table.specs.declared.cedt.Record.TheVariants.{Chbs, Cfmws, Cxims, Other}
 use Rattle.cxl_window.specs.Fields.{WindowFields}
 use Rattle.cxl_commands.specs.commands.Lines.{chbs_line, window_line, cxims_line, other_line}
 

@@ -1,10 +1,10 @@
 -- The text of `list`: a line for each record of a table, in table order.
 use Rattle.std.specs.Prelude.{ℕ, ◌+◌, Bool, if◌then◌else◌, None, List, [], ◌∷◌, ◌++◌, length, codes, decimal}
 use Rattle.std.specs.List.{filter_map, flat_map}
-use Rattle.cxl_cedt.specs.declared.chbs.Chbs as chbs
-use Rattle.cxl_cedt.specs.declared.cedt.Record.{Record}
-use Rattle.cxl_cedt.specs.declared.cedt.Record.TheVariants.{Chbs, Cfmws, Cxims, Other}
-use Rattle.cxl_cedt.specs.Fields.{CximsFields, OtherFields}
+use Rattle.cxl_table.specs.declared.chbs.Chbs as chbs
+use Rattle.cxl_table.specs.declared.cedt.Record.{Record}
+use Rattle.cxl_table.specs.declared.cedt.Record.TheVariants.{Chbs, Cfmws, Cxims, Other}
+use Rattle.cxl_table.specs.Fields.{CximsFields, OtherFields}
 use Rattle.cxl_io.specs.Printed.{padded_hex}
 use Rattle.cxl_window.specs.Fields.{WindowFields}
 use Rattle.cxl_window.specs.Windows.{cfmws_in, window_of}

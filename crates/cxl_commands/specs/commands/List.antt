@@ -1,8 +1,8 @@
 -- What `list` comes to.
 use Rattle.std.specs.Prelude.{◌≡◌, ℕ, List, take}
 use Rattle.std.specs.List.{concat}
-use Rattle.cxl_cedt.specs.CedtFields.{CedtFields}
-use Rattle.cxl_cedt.specs.declared.cedt.Record.{Record}
+use Rattle.cxl_table.specs.CedtFields.{CedtFields}
+use Rattle.cxl_table.specs.declared.cedt.Record.{Record}
 use Rattle.cxl_inputs.specs.Outcome.{Outcome}
 use Rattle.cxl_inputs.specs.Table.{IsTableOf}
 use Rattle.cxl_inputs.specs.declared.status.Status.TheVariants.{Done}

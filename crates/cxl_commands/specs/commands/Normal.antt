@@ -1,6 +1,6 @@
 -- What `normal` comes to.
 use Rattle.std.specs.Prelude.{◌≡◌, ℕ, List}
-use Rattle.cxl_cedt.specs.CedtFields.{CedtFields}
+use Rattle.cxl_table.specs.CedtFields.{CedtFields}
 use Rattle.cxl_cedt.specs.Spelling.{spelling}
 use Rattle.cxl_inputs.specs.Outcome.{Outcome, one_piece}
 use Rattle.cxl_inputs.specs.Table.{IsTableOf}

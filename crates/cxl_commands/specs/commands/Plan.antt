@@ -1,6 +1,6 @@
 -- What `plan` comes to.
 use Rattle.std.specs.Prelude.{◌≡◌, ℕ, List}
-use Rattle.cxl_cedt.specs.CedtFields.{CedtFields}
+use Rattle.cxl_table.specs.CedtFields.{CedtFields}
 use Rattle.cxl_inputs.specs.Outcome.{Outcome, one_piece}
 use Rattle.cxl_inputs.specs.ResetHost.{reset_host_of, AreBothRead}
 use Rattle.cxl_inputs.specs.declared.status.Status.TheVariants.{Done, Refused}

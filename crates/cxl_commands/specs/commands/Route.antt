@@ -1,6 +1,6 @@
 -- Where a host address goes.
 use Rattle.std.specs.Prelude.{◌≡◌, ℕ, ◌+◌, ◌<◌, ◌≤◌, Some, None, List, ◌∷◌, ◌++◌, All, slice_get, codes, decimal}
-use Rattle.cxl_cedt.specs.CedtFields.{CedtFields}
+use Rattle.cxl_table.specs.CedtFields.{CedtFields}
 use Rattle.cxl_inputs.specs.Outcome.{Outcome, one_piece}
 use Rattle.cxl_inputs.specs.Table.{IsTableOf}
 use Rattle.cxl_inputs.specs.declared.status.Status.TheVariants.{Done, Refused}

@@ -1,7 +1,7 @@
 //! The command `check`.
 
 ghost use Rattle.std.specs.Prelude.{◌≡◌, ℕ, ◌<◌, ◌≤◌, ◌⊎◌, List, All, length, IfOk, IfErr, OnOk, OnErr};
-ghost use Rattle.cxl_cedt.specs.CedtFields.{CedtFields};
+ghost use Rattle.cxl_table.specs.CedtFields.{CedtFields};
 ghost use Rattle.cxl_inputs.specs.Ends.{Ends};
 ghost use Rattle.cxl_inputs.specs.Host.{host_of};
 ghost use Rattle.cxl_io.specs.Sink.{Takes};

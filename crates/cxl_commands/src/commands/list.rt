@@ -2,7 +2,7 @@
 
 ghost use Rattle.std.specs.Prelude.{◌≡◌, ℕ, ◌≤◌, ◌⊎◌, None, List, [], ◌∷◌, length, IfOk, IfErr, OnOk, OnErr};
 ghost use Rattle.std.specs.List.{filter_map};
-ghost use Rattle.cxl_cedt.specs.CedtFields.{CedtFields};
+ghost use Rattle.cxl_table.specs.CedtFields.{CedtFields};
 ghost use Rattle.cxl_cedt.specs.RecordTexts.{record_in};
 ghost use Rattle.cxl_inputs.specs.Ends.{IsWritten, Ends};
 ghost use Rattle.cxl_inputs.specs.File.{AsksForSome};
@@ -21,10 +21,10 @@ ghost use Rattle.cxl_window.specs.Windows.{cfmws_in, windows_of};
 use crate::commands::BLOCK;
 use crate::commands::lines::put_line;
 use cxl_cedt::{Record, RecordText, TableText, one_reading};
-use cxl_inputs::{Status, Stop, fetch_table, finish};
+use cxl_inputs::{Status, Stop, fetch_table, finish, text_windows};
 use cxl_io::{Fetch, Memory, Sink, writes_join};
 use cxl_lines::Lines;
-use cxl_window::{Window, text_windows};
+use cxl_window::Window;
 use std::alloc::Global;
 
 /// Writes a line for each record of the table in a file. Lines go out in blocks, so that memory holds one

@@ -1,7 +1,7 @@
 //! The command `normal`.
 
 ghost use Rattle.std.specs.Prelude.{◌≡◌, ℕ, ◌≤◌, ◌⊎◌, List};
-ghost use Rattle.cxl_cedt.specs.CedtFields.{CedtFields};
+ghost use Rattle.cxl_table.specs.CedtFields.{CedtFields};
 ghost use Rattle.cxl_inputs.specs.Ends.{IsWritten};
 ghost use Rattle.cxl_inputs.specs.Table.{IsReading};
 ghost use Rattle.cxl_io.specs.Sink.{Takes};

@@ -1,7 +1,7 @@
 //! The command `plan`.
 
 ghost use Rattle.std.specs.Prelude.{◌≡◌, ℕ, ◌≤◌, ◌⊎◌, List, IfOk};
-ghost use Rattle.cxl_cedt.specs.CedtFields.{CedtFields};
+ghost use Rattle.cxl_table.specs.CedtFields.{CedtFields};
 ghost use Rattle.cxl_inputs.specs.ResetHost.{reset_host_of};
 ghost use Rattle.cxl_io.specs.Sink.{Takes};
 ghost use Rattle.cxl_model.specs.Accepted.{IsAccepted};

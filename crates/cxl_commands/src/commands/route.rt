@@ -1,7 +1,7 @@
 //! The command `route`.
 
 ghost use Rattle.std.specs.Prelude.{◌≡◌, ℕ, ◌≤◌, ◌⊎◌, None, Ok, List, IfOk, IfSome};
-ghost use Rattle.cxl_cedt.specs.CedtFields.{CedtFields};
+ghost use Rattle.cxl_table.specs.CedtFields.{CedtFields};
 ghost use Rattle.cxl_inputs.specs.Ends.{IsWritten};
 ghost use Rattle.cxl_inputs.specs.Outcome.{Outcome};
 ghost use Rattle.cxl_inputs.specs.Table.{IsReading, IsTableOf};
@@ -16,9 +16,8 @@ ghost use Rattle.cxl_window.specs.Windows.{windows_of};
 
 use crate::commands::selection::{Selection, select};
 use cxl_cedt::{TableText, one_reading};
-use cxl_inputs::{Outcome, Status, Stop, fetch_table};
+use cxl_inputs::{Outcome, Status, Stop, fetch_table, text_windows};
 use cxl_io::{Fetch, Memory};
-use cxl_window::text_windows;
 use std::alloc::Global;
 
 /// Where a host address goes, by the table in a file.

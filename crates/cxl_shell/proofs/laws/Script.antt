@@ -1,6 +1,6 @@
 -- What a run of a script comes to.
 use Rattle.std.proofs.Common.{◌≡◌, ◌⊎◌, ℕ, ◌+◌, ◌<◌, ◌≤◌, true, false, Option, Some, None, List, [], ◌++◌, length, IfSome, refl, sym, ap, subst, ◌∙◌, inl, inr, arith, length-append}
-use Rattle.cxl_cedt.specs.CedtFields.{CedtFields}
+use Rattle.cxl_table.specs.CedtFields.{CedtFields}
 use Rattle.cxl_enc.specs.Faults.{Rose}
 use Rattle.cxl_inputs.specs.Ends.{IsWritten}
 use Rattle.cxl_inputs.specs.Host.{host_of, AreRead}

@@ -1,6 +1,6 @@
 -- On which host a session starts, where none opens, and what is told where a script ends.
 use Rattle.std.specs.Prelude.{◌≡◌, ℕ, ◌≤◌, ◌⊎◌, Bool, true, false, List, [], codes}
-use Rattle.cxl_cedt.specs.CedtFields.{CedtFields}
+use Rattle.cxl_table.specs.CedtFields.{CedtFields}
 use Rattle.cxl_enc.specs.Faults.{Rose, LeavesCount}
 use Rattle.cxl_gen.specs.Made.{made_table, made_tree}
 use Rattle.cxl_inputs.specs.Ends.{Ends, WritesNothing}

@@ -1,5 +1,5 @@
 use Rattle.std.proofs.Common.{ap, arith}
-use Rattle.cxl_cedt.specs.Records.{kind_of}
+use Rattle.cxl_table.specs.Records.{kind_of}
 use Rattle.cxl_cedt.proofs.Keeping.{said_by}
 use Rattle.cxl_cedt.proofs.decoding.add_judged.Goals as goal
 

@@ -1,6 +1,6 @@
 use Rattle.std.proofs.Common.{◌≤◌, sym, subst}
 use Rattle.cxl_enc.specs.Limits.{file_limit}
-use Rattle.cxl_cedt.specs.Records.{table_length, HasFewOfEach}
+use Rattle.cxl_table.specs.Records.{table_length, HasFewOfEach}
 use Rattle.cxl_gen.proofs.Counts.{few_records, few_bytes}
 use Rattle.cxl_gen.proofs.table.made_table.Goals as goal
 

@@ -1,5 +1,5 @@
 use Rattle.std.proofs.Common.{◌≤◌, ◌*◌, take, sum_by}
-use Rattle.cxl_cedt.specs.Records.{record_length}
+use Rattle.cxl_table.specs.Records.{record_length}
 use Rattle.cxl_hosts.proofs.hosts.are_short.Given as goal
 
 abbrev pub invariant-loop-item : goal.invariant-loop-item

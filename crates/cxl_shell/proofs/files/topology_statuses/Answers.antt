@@ -1,5 +1,5 @@
 use Rattle.std.proofs.Common.{refl}
-use Rattle.cxl_cedt.specs.CedtFields.{CedtFields}
+use Rattle.cxl_table.specs.CedtFields.{CedtFields}
 use Rattle.cxl_cedt.specs.declared.fault.CedtFault.{CedtFault}
 use Rattle.cxl_inputs.specs.Table.{IsReading, IsFaulty}
 use Rattle.cxl_inputs.specs.Topology.{IsTreeReading, IsFaultyTree}

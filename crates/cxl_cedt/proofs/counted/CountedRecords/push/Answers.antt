@@ -1,6 +1,6 @@
 use Rattle.std.proofs.Common.{◌≡◌, List, false, sym, ap, subst, ◌∙◌, arith}
-use Rattle.cxl_cedt.specs.declared.cedt.Record.{Record}
-use Rattle.cxl_cedt.specs.Records.{kind_of, is_kind_full}
+use Rattle.cxl_table.specs.declared.cedt.Record.{Record}
+use Rattle.cxl_table.specs.Records.{kind_of, is_kind_full}
 use Rattle.cxl_cedt.proofs.Counts.{counted_push}
 use Rattle.cxl_cedt.proofs.counted.CountedRecords.push.Goals as goal
 

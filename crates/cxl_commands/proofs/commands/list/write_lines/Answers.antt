@@ -3,7 +3,7 @@ use Rattle.std.specs.List.{filter_map}
 use Rattle.cxl_enc.specs.Faults.{Rose, LeavesCount}
 use Rattle.cxl_enc.proofs.Options.{on_ok_at, on_err_at}
 use Rattle.cxl_cedt.specs.RecordTexts.{record_in}
-use Rattle.cxl_cedt.specs.declared.cedt.Record.{Record}
+use Rattle.cxl_table.specs.declared.cedt.Record.{Record}
 use Rattle.cxl_io.specs.Sink.{Takes, TakesPrefix}
 use Rattle.cxl_lines.specs.Blocks.{KeepsOrWrites}
 use Rattle.cxl_window.specs.Windows.{cfmws_in}

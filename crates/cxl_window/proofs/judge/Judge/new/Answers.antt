@@ -1,7 +1,7 @@
 use Rattle.std.proofs.Common.{List, [], ◌++◌, ℕ, sym, ap, ◌∙◌}
 use Rattle.std.specs.List.{cons_option}
 use Rattle.std.specs.Option.{option_copied}
-use Rattle.cxl_cedt.specs.Fields.{CfmwsFields, CximsFields}
+use Rattle.cxl_table.specs.Fields.{CfmwsFields, CximsFields}
 use Rattle.cxl_window.specs.Judging.{bridges_in}
 use Rattle.cxl_window.specs.Windows.{cfmws_in, cxims_in}
 use Rattle.cxl_window.proofs.FilterMaps.{filter_map_more, flat_map_one_more}

@@ -2,7 +2,7 @@
 
 ghost use Rattle.std.specs.Prelude.{◌≡◌, ◌≤◌, length};
 ghost use Rattle.cxl_enc.specs.Limits.{file_limit};
-ghost use Rattle.cxl_cedt.specs.Records.{table_length, HasFewOfEach};
+ghost use Rattle.cxl_table.specs.Records.{table_length, HasFewOfEach};
 
 use crate::cfmws::Cfmws;
 use crate::chbs::Chbs;
@@ -43,7 +43,7 @@ pub struct Cedt {
 }
 
 impl Model for Cedt {
-    ghost use Rattle.cxl_cedt.specs.CedtFields.{CedtFields, IsSizedCedt};
+    ghost use Rattle.cxl_table.specs.CedtFields.{CedtFields, IsSizedCedt};
 
     ghost Value = { CedtFields };
 
@@ -55,7 +55,7 @@ impl Model for Cedt {
 impl Cedt {
     ghost use Rattle.std.specs.Prelude.{◌↔◌, IsTrue};
     ghost use Rattle.std.specs.Bool.{OnTrue};
-    ghost use Rattle.cxl_cedt.specs.CedtFields.{IsCedt};
+    ghost use Rattle.cxl_table.specs.CedtFields.{IsCedt};
 
     /// Whether a table may have these records: no more than 64 of each of the three types, and a text of
     /// at most 1,048,576 bytes. (This project's rule.)
@@ -81,8 +81,8 @@ impl Cedt {
         Cedt::of_size(head, records, size)
     }
 
-    /// The table of these records in order, which so many bytes spell. Takes no memory.
-    pub(crate) fn of_size(head: Head, records: Vec<Record>, size: u32) -> Cedt
+    /// The table of these records in order, which `size` bytes spell. Takes no memory.
+    pub fn of_size(head: Head, records: Vec<Record>, size: u32) -> Cedt
         requires few { HasFewOfEach records.items }
         requires fits { table_length records.items ≤ file_limit }
         requires size { size ≡ table_length records.items }
@@ -96,7 +96,7 @@ impl Cedt {
     }
 
     /// How many bytes spell the table.
-    pub(crate) fn size(&self) -> u32
+    pub fn size(&self) -> u32
         ensures { result ≡ table_length self.now.records }
     {
         self.size

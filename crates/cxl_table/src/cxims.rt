@@ -13,7 +13,7 @@ pub struct Cxims {
 }
 
 impl Model for Cxims {
-    ghost use Rattle.cxl_cedt.specs.Fields.{CximsFields, IsCxims};
+    ghost use Rattle.cxl_table.specs.Fields.{CximsFields, IsCxims};
 
     ghost Value = { CximsFields };
 

@@ -1,6 +1,6 @@
 -- What the records of a table hold, and what each of them keeps.
 use Rattle.std.specs.Prelude.{◌≡◌, ℕ, ◌<◌, ◌≤◌, Bool, List, length, Some}
-use Rattle.cxl_cedt.specs.Layout.{cxims_kind}
+use Rattle.cxl_table.specs.Layout.{cxims_kind}
 use Rattle.cxl_enc.specs.Codes.{ways_of}
 
 -- a fixed memory window; ways and granularity are codes

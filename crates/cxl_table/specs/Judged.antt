@@ -1,9 +1,9 @@
 -- The records of a table that are judged by its types: which of a list they are, and where they begin.
 use Rattle.std.specs.Prelude.{ℕ, ◌+◌, nat_le, Bool, if◌then◌else◌, List, [], ◌∷◌}
 use Rattle.std.specs.List.{filter}
-use Rattle.cxl_cedt.specs.Layout.{cxims_kind}
-use Rattle.cxl_cedt.specs.declared.cedt.Record.{Record}
-use Rattle.cxl_cedt.specs.Records.{kind_of, record_length}
+use Rattle.cxl_table.specs.Layout.{cxims_kind}
+use Rattle.cxl_table.specs.declared.cedt.Record.{Record}
+use Rattle.cxl_table.specs.Records.{kind_of, record_length}
 
 -- it is of one of the three types that are judged
 abbrev pub is_judged : Record → Bool

@@ -2,10 +2,10 @@
 
 ghost use Rattle.std.specs.Prelude.{◌≡◌, ◌≤◌, nat_le, if◌then◌else◌, Some, None};
 ghost use Rattle.cxl_enc.specs.Limits.{file_limit};
-ghost use Rattle.cxl_cedt.specs.Records.{record_length, table_length, count_of};
+ghost use Rattle.cxl_table.specs.Records.{record_length, table_length, count_of};
 
 use crate::cedt::Record;
-use crate::counted::kind_of;
+use crate::kinds::kind_of;
 use crate::layout::{CHBS_SIZE, FRAME_SIZE, HEADER_SIZE, MAPS_FRONT_SIZE, WINDOW_FRONT_SIZE};
 use cxl_enc::FILE_LIMIT;
 

@@ -14,7 +14,7 @@ pub struct Other {
 }
 
 impl Model for Other {
-    ghost use Rattle.cxl_cedt.specs.Fields.{OtherFields, IsOther};
+    ghost use Rattle.cxl_table.specs.Fields.{OtherFields, IsOther};
 
     ghost Value = { OtherFields };
 

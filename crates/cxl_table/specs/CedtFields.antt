@@ -1,9 +1,9 @@
 -- What a table holds, and what it keeps.
 use Rattle.std.specs.Prelude.{◌≡◌, ℕ, ◌≤◌, List}
 use Rattle.cxl_enc.specs.Limits.{file_limit}
-use Rattle.cxl_cedt.specs.declared.cedt.Head.{Head}
-use Rattle.cxl_cedt.specs.declared.cedt.Record.{Record}
-use Rattle.cxl_cedt.specs.Records.{HasFewOfEach, table_length}
+use Rattle.cxl_table.specs.declared.cedt.Head.{Head}
+use Rattle.cxl_table.specs.declared.cedt.Record.{Record}
+use Rattle.cxl_table.specs.Records.{HasFewOfEach, table_length}
 
 -- a table: its header, and its records in order
 pub record CedtFields : Type 0 where

@@ -21,7 +21,7 @@ pub struct Cfmws {
 }
 
 impl Model for Cfmws {
-    ghost use Rattle.cxl_cedt.specs.Fields.{CfmwsFields, IsCfmws};
+    ghost use Rattle.cxl_table.specs.Fields.{CfmwsFields, IsCfmws};
 
     ghost Value = { CfmwsFields };
 

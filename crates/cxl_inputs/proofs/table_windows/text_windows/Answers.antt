@@ -4,7 +4,7 @@ use Rattle.std.specs.Option.{option_copied}
 use Rattle.cxl_window.specs.Fields.{WindowFields}
 use Rattle.cxl_window.specs.Windows.{cfmws_in, windows_of}
 use Rattle.cxl_window.proofs.JudgedRecords.{windows_judged, windows_of_judged}
-use Rattle.cxl_window.proofs.verdicts.text_windows.Goals as goal
+use Rattle.cxl_inputs.proofs.table_windows.text_windows.Goals as goal
 
 pub windows_by-requires : goal.windows_by-requires
 windows_by-requires c = record { few = rw c.judged.ensures.value c.judged.ensures.few.cfmws }

@@ -1,8 +1,8 @@
 -- Records in a row: their types, their lengths, and how many of each type there are.
 use Rattle.std.specs.Prelude.{ℕ, ◌+◌, ◌*◌, ◌≤◌, nat_le, ◌==◌, ◌&&◌, Bool, List, length, sum_by, count_by}
-use Rattle.cxl_cedt.specs.Layout.{chbs_kind, cfmws_kind, cxims_kind, kind_limit, header_size, frame_size, chbs_size, window_front_size, maps_front_size}
-use Rattle.cxl_cedt.specs.declared.cedt.Record.{Record}
-use Rattle.cxl_cedt.specs.declared.cedt.Record.TheVariants.{Chbs, Cfmws, Cxims, Other}
+use Rattle.cxl_table.specs.Layout.{chbs_kind, cfmws_kind, cxims_kind, kind_limit, header_size, frame_size, chbs_size, window_front_size, maps_front_size}
+use Rattle.cxl_table.specs.declared.cedt.Record.{Record}
+use Rattle.cxl_table.specs.declared.cedt.Record.TheVariants.{Chbs, Cfmws, Cxims, Other}
 
 -- the type of a record
 abbrev pub kind_of : Record → ℕ
