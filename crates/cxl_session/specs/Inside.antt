@@ -9,10 +9,12 @@ use Rattle.cxl_session.specs.declared.pending.PendingJob.{PendingJob}
 use Rattle.cxl_session.specs.declared.session.Session.TheInside.{Inside}
 use Rattle.cxl_session.specs.State.{JobFields, SessionState}
 
+-- the place of the region that a release takes away; a create has none
 abbrev pub place_in : Kind → Option ℕ
 place_in kinds.Creates = None
 place_in (kinds.Releases place) = Some place
 
+-- a pending job: what it makes or takes away, its words, and how many of them are written
 abbrev pub job_fields : PendingJob → JobFields
 job_fields pending = record {
   place = place_in pending.kind;
@@ -23,6 +25,7 @@ job_fields pending = record {
   done = pending.job.done;
 }
 
+-- what contracts see of the fields of a session
 abbrev pub session_view : Inside → SessionState
 session_view session = record {
   topo = session.topo;

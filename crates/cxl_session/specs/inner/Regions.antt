@@ -100,6 +100,7 @@ pub record IsMadeTo (own : JobFields) (made : ℕ) (blocks left : List Registers
 
 -- ---- the end of a job
 
+-- a region with its name, as a reply tells it
 abbrev pub named_region : List ℕ → Found → Named
 named_region name found = record { name = name; window = found.window; base = found.base; size = found.size; gran = found.gran; ways = found.ways }
 
@@ -108,6 +109,7 @@ abbrev pub ended_as : Option ℕ → JobFields → Reply
 ended_as None own = replies.Created (named_region own.name own.found)
 ended_as (Some place) own = replies.Destroyed own.name
 
+-- what a job is answered that came to its end
 abbrev pub finished_reply : JobFields → Reply
 finished_reply own = ended_as own.place own
 
@@ -116,6 +118,7 @@ abbrev pub IsLeftBy : Option ℕ → Found → MediaState → MediaState → Typ
 IsLeftBy None found old new = new ≡ old
 IsLeftBy (Some place) found old new = IsCleared found old.blocks new.blocks × (frame_count new ≡ frame_count old)
 
+-- media is left by a job that came to its end
 abbrev pub IsLeftByEnd : JobFields → MediaState → MediaState → Type 0
 IsLeftByEnd own old new = IsLeftBy own.place own.found old new
 

@@ -6,6 +6,7 @@ use Rattle.cxl_model.specs.declared.plan.Row.{Row}
 use Rattle.cxl_walk.specs.declared.own.Own.{Own}
 use Rattle.cxl_model.specs.System.{System, decoders_at, decoder_at, blocks_alone}
 
+-- the row's decoder is locked
 abbrev pub is_locked : Row → Bool
 is_locked row = row.decoder.lock
 
