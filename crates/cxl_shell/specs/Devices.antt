@@ -9,5 +9,6 @@ pub record Devices : Type 0 where
   pub regs : RegsState
   pub media : MediaState
 
+-- of these three, what they hold at a moment
 abbrev pub devices : SourceState → RegsState → MediaState → Devices
 devices script regs media = record { script = script; regs = regs; media = media }
