@@ -62,9 +62,11 @@ Gen n = OfWords (plains.Gen n)
 abbrev pub NoCreate : Form
 NoCreate = OfWords plains.NoCreate
 
+-- what the forms are
 abbrev pub Help : Form
 Help = OfWords plains.Help
 
+-- which release of the program it is
 abbrev pub Version : Form
 Version = OfWords plains.Version
 
@@ -74,6 +76,7 @@ Unreadable = OfWords plains.Unreadable
 
 -- ---- words
 
+-- a route to what was read as the address, where it is a number
 abbrev pub route_to : List ℕ → Result ℕ NumFault → Form
 route_to file (Ok h) = Route file h
 route_to file (Err fault) = Unreadable
@@ -88,6 +91,7 @@ abbrev pub list_form : List (List ℕ) → Form
 list_form (file ∷ []) = Listing file
 list_form words = Unreadable
 
+-- the word after `normal`: a file
 abbrev pub normal_form : List (List ℕ) → Form
 normal_form (file ∷ []) = Normal file
 normal_form words = Unreadable
@@ -97,6 +101,7 @@ abbrev pub check_form : List (List ℕ) → Form
 check_form (cedt ∷ topo ∷ image ∷ []) = Check cedt topo image
 check_form words = Unreadable
 
+-- the create command among what a line may be read as
 abbrev pub create_asked : Result (Option Command) BadLine → Option Create
 create_asked (Ok (Some (commands.Create create))) = Some create
 create_asked asked = None
@@ -105,6 +110,7 @@ create_asked asked = None
 abbrev pub create_on_line : List ℕ → Option Create
 create_on_line line = create_asked (asked_in line)
 
+-- a plan over the files of a table and a topology, where a region is asked for
 abbrev pub plan_form_over : List ℕ → List ℕ → Option Create → Form
 plan_form_over cedt topo (Some create) = Plan cedt topo create
 plan_form_over cedt topo None = NoCreate
@@ -130,6 +136,7 @@ abbrev pub gen_of : Result ℕ NumFault → Form
 gen_of (Ok n) = if nat_le 1 n && nat_le n 32 then Gen n else Unreadable
 gen_of (Err fault) = Unreadable
 
+-- the word after `gen`
 abbrev pub gen_form : List (List ℕ) → Form
 gen_form (number ∷ []) = gen_of (number_of number)
 gen_form words = Unreadable

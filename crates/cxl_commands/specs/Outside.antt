@@ -7,5 +7,6 @@ pub record Outside : Type 0 where
   pub files : FetchState
   pub out : SinkState
 
+-- of these two, what they hold at a moment
 abbrev pub outside : FetchState → SinkState → Outside
 outside files out = record { files = files; out = out }

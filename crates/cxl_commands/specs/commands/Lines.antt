@@ -32,6 +32,7 @@ abbrev pub maps_text : List ℕ → List ℕ
 maps_text [] = codes "none"
 maps_text (map ∷ maps) = hex_text map ++ more_maps_text maps
 
+-- whether a window interleaves by XOR or modulo
 abbrev pub arithmetic_text : Bool → List ℕ
 arithmetic_text xor = if xor then codes "xor" else codes "modulo"
 
@@ -76,6 +77,7 @@ use_text w = codes " targets " ++ targets_text w.targets ++ codes " " ++ verdict
 
 -- ---- the line of a record
 
+-- a host bridge with its registers
 abbrev pub chbs_line : chbs.Chbs → List ℕ
 chbs_line c = line (bridge_text c ++ registers_text c)
 
@@ -83,6 +85,7 @@ chbs_line c = line (bridge_text c ++ registers_text c)
 abbrev pub window_line : WindowFields → ℕ → List ℕ
 window_line w qtg = line (range_text w ++ interleave_text w ++ policy_text w.restrict qtg ++ use_text w)
 
+-- XOR maps with the granularity that they are for
 abbrev pub cxims_line : CximsFields → List ℕ
 cxims_line c = line (codes "cxims gran " ++ gran_text c.gran ++ codes " maps " ++ maps_text c.maps)
 
@@ -90,6 +93,7 @@ cxims_line c = line (codes "cxims gran " ++ gran_text c.gran ++ codes " maps " +
 abbrev pub other_text : ℕ → List ℕ → List ℕ
 other_text kind body = line (codes "other " ++ decimal kind ++ codes " length " ++ decimal (4 + length body))
 
+-- a record of a type that is not read
 abbrev pub other_line : OtherFields → List ℕ
 other_line c = other_text c.kind c.body
 

@@ -17,9 +17,11 @@ use Rattle.cxl_topo.specs.declared.node.Node.{Node}
 
 -- ---- what it comes to
 
+-- the lines of the plan, and a good status
 abbrev pub plan_outcome : List Node → Plan → Outcome
 plan_outcome nodes plan = one_piece Done (plan_text nodes plan)
 
+-- the line of the reply, and the status of a refusal
 abbrev pub refusal_outcome : List Node → Reply → Outcome
 refusal_outcome nodes reply = one_piece Refused (reply_text nodes reply)
 

@@ -45,6 +45,7 @@ abbrev pub route_text : Selection → List ℕ
 route_text s =
     line (codes "window " ++ decimal s.window ++ codes " position " ++ decimal s.position ++ codes " bridge " ++ decimal s.bridge)
 
+-- its line, and a good status
 abbrev pub routed : Selection → Outcome
 routed selection = one_piece Done (route_text selection)
 
