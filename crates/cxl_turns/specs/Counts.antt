@@ -4,18 +4,22 @@ use Rattle.cxl_reply.specs.declared.reply.Reply.{Reply}
 use Rattle.cxl_reply.specs.declared.reply.Reply.TheVariants as replies
 use Rattle.cxl_turns.specs.declared.counts.Counts.{Counts}
 
+-- a region is made
 abbrev pub is_created : Reply → Bool
 is_created (replies.Created named) = true
 is_created other = false
 
+-- bytes are stored
 abbrev pub is_stored : Reply → Bool
 is_stored (replies.Stored len) = true
 is_stored other = false
 
+-- bytes are loaded
 abbrev pub is_loaded : Reply → Bool
 is_loaded (replies.Loaded bytes) = true
 is_loaded other = false
 
+-- an access is answered that no live region holds
 abbrev pub is_unmapped_reply : Reply → Bool
 is_unmapped_reply replies.Unmapped = true
 is_unmapped_reply other = false
@@ -36,6 +40,7 @@ counts_of replies = record {
   sum = sum_by loaded_sum replies;
 }
 
+-- one where it is true, and else none
 abbrev pub one_if : Bool → ℕ
 one_if true = 1
 one_if false = 0
