@@ -39,6 +39,7 @@ stated_tail s request n =
     if is_endpoint_at s.nodes n then stated_start s request n - cursor_of (decoders_at s n)
     else targets_word (used_ports s request n)
 
+-- what node n's decoder of the request holds at this base in this window
 abbrev pub stated_decoder : System → Request → WindowFields → ℕ → ℕ → Decoder
 stated_decoder s request w base n = record {
   base = base;

@@ -56,10 +56,11 @@ abbrev pub planned_ways : System → Request → ℕ → ℕ
 planned_ways s request n =
     if is_endpoint_at s.nodes n then request_ways request else length (used_ports s request n)
 
--- the product of the ways of the ports above node n, and the sum of the k of their ways
+-- the product of the ways of the ports above node n
 abbrev pub planned_ways_above : System → Request → ℕ → ℕ
 planned_ways_above s request n = product (map (λ parent. planned_ways s request parent.node) (ports_above s.nodes n))
 
+-- the sum of the k of the ways of the ports above node n
 abbrev pub planned_bits_above : System → Request → ℕ → ℕ
 planned_bits_above s request n = sum_by (λ parent. bits_of (planned_ways s request parent.node)) (ports_above s.nodes n)
 
