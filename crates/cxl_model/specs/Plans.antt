@@ -26,6 +26,7 @@ committed_row row = record (row.decoder) { commit = true; committed = true }
 abbrev pub block_with_row : Row → Registers → Registers
 block_with_row row block = record block { enabled = true; decoders = slice_set block.decoders row.index (committed_row row) }
 
+-- the blocks in which the row's node has its decoder in place
 abbrev pub blocks_with_row : List Registers → Row → List Registers
 blocks_with_row blocks row = option_map_or (λ block. slice_set blocks row.node (block_with_row row block)) (slice_get blocks row.node) blocks
 

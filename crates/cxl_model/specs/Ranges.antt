@@ -47,6 +47,7 @@ window_for s r = find (lies_within r) s.windows
 abbrev pub ports_for : System → Range → ℕ → List Decoder
 ports_for s r n = filter_map (λ parent. decoder_for s r parent.node) (ports_above s.nodes n)
 
+-- all of them multiplied
 abbrev pub product : List ℕ → ℕ
 product [] = 1
 product (n ∷ ns) = n * product ns
@@ -71,6 +72,7 @@ span_kind s n i =
     if lies_in Ram (ram_at s n) (pmem_at s n) (span_start_of (decoders_at s n) i) (option_map_or span_length (decoder_at s n i) 0)
     then Ram else Pmem
 
+-- both are volatile, or both persistent
 abbrev pub same_kind : MemKind → MemKind → Bool
 same_kind Ram Ram = true
 same_kind Ram Pmem = false
