@@ -15,6 +15,7 @@ use Rattle.cxl_reply.specs.declared.details.Extents.{Extents}
 use Rattle.cxl_reply.specs.declared.details.Report.{Report}
 use Rattle.cxl_reply.specs.declared.details.Shown.{Shown}
 
+-- it is the number of a node
 abbrev pub IsNode : List Node → ℕ → Type 0
 IsNode nodes n = n < length nodes
 
@@ -23,10 +24,12 @@ pub record IsToldFound (nodes : List Node) (found : Found) : Type 0 where
   pub gran : found.gran ≤ 6
   pub endpoints : All (λ place. IsNode nodes place.endpoint) found.spans
 
+-- a region with its decoders can be told: each stands in a node
 pub record IsToldShown (nodes : List Node) (shown : Shown) : Type 0 where
   pub found : IsToldFound nodes shown.found
   pub rows : All (λ row. IsNode nodes row.node) shown.rows
 
+-- a way down can be told: it has at most five ports, each of which is a node
 pub record IsToldDown (nodes : List Node) (downed : Downed) : Type 0 where
   pub few : downed.len ≤ 5
   pub ports : All (λ via. IsNode nodes via.node) (take downed.len downed.via)
@@ -43,10 +46,12 @@ pub record AreToldSlots (nodes : List Node) (endpoints : List ℕ) : Type 0 wher
   pub few : length endpoints ≤ 16
   pub each : All (IsNode nodes) endpoints
 
+-- extents can be told: each is in one of the slots
 pub record IsToldExtents (nodes : List Node) (extents : Extents) : Type 0 where
   pub slots : AreToldSlots nodes extents.endpoints
   pub each : All (λ extent. extent.slot < length extents.endpoints) extents.extents
 
+-- a reason can be told: the node that it names is one
 abbrev pub IsToldReason : List Node → Reason → Type 0
 IsToldReason nodes (reasons.Select node) = IsNode nodes node
 IsToldReason nodes (reasons.WaysCap node) = IsNode nodes node

@@ -14,6 +14,7 @@ use Rattle.cxl_reply.specs.Conditions.{IsNode}
 
 -- ---- plans
 
+-- the region of a plan, with its range and its layout
 abbrev pub plan_head_text : Plan → List ℕ
 plan_head_text plan =
     line (codes "plan " ++ plan.name ++ codes " " ++ kind_text plan.found.kind ++ codes " "
@@ -32,14 +33,17 @@ ports_text (port ∷ ports) = decimal port ++ more_ports_text ports
 abbrev pub tail_text : Bool → Decoder → List ℕ
 tail_text endpoint d = if endpoint then codes " skip " ++ hex_text d.tail else codes " targets " ++ ports_text (entries_of d)
 
+-- the ways of a decoder, and its granularity
 abbrev pub decoder_text : Decoder → List ℕ
 decoder_text d = codes " ways " ++ decimal (decoder_ways d) ++ codes " gran " ++ decimal (decoder_granularity d)
 
+-- the decoder of a node, as planned
 abbrev pub planned_text : List Node → Row → List ℕ
 planned_text nodes row =
     line (codes "row " ++ node_text nodes row.node ++ codes " " ++ decimal row.index ++ decoder_text row.decoder
     ++ tail_text (is_endpoint_at nodes row.node) row.decoder)
 
+-- the region of a plan, and a line for each of its decoders
 abbrev pub plan_text : List Node → Plan → List ℕ
 plan_text nodes plan = plan_head_text plan ++ flat_map (planned_text nodes) plan.rows
 
@@ -48,6 +52,7 @@ pub record IsToldRow (nodes : List Node) (row : Row) : Type 0 where
   pub node : IsNode nodes row.node
   pub gran : row.decoder.gran < 16
 
+-- a plan can be told: its granularity has a code, and its decoders stand in nodes
 pub record IsToldPlan (nodes : List Node) (plan : Plan) : Type 0 where
   pub gran : plan.found.gran ≤ 6
   pub rows : All (IsToldRow nodes) plan.rows
@@ -63,6 +68,7 @@ found_range_text found =
 unfoldable pub found_ways_text : Found → List ℕ
 found_ways_text found = codes " gran " ++ gran_text found.gran ++ codes " ways " ++ decimal found.ways
 
+-- a region of an image, with its range and its layout
 abbrev pub found_head_text : Found → List ℕ
 found_head_text found = line (found_range_text found ++ found_ways_text found ++ codes " " ++ kind_text found.kind)
 

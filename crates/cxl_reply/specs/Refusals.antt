@@ -21,6 +21,7 @@ use Rattle.cxl_reply.specs.Texts.{progress_text}
 
 -- ---- lines
 
+-- the word for why a line is bad
 abbrev pub why_text : Why → List ℕ
 why_text whys.Verb = codes "verb"
 why_text whys.Missing = codes "missing"
@@ -32,22 +33,27 @@ why_text whys.Range = codes "range"
 why_text whys.Hex = codes "hex"
 why_text whys.Long = codes "long"
 
+-- a bad line: at which byte, and why
 abbrev pub bad_line_text : BadLine → List ℕ
 bad_line_text fault = line (codes "bad line " ++ decimal fault.at ++ codes " " ++ why_text fault.why)
 
 -- ---- words and a name
 
+-- words, and the name that they are about
 abbrev pub named_text : List ℕ → List ℕ → List ℕ
 named_text words name = line (words ++ codes " " ++ name)
 
 -- ---- limits and order
 
+-- device memory has too few frames
 abbrev pub full_text : Lack → List ℕ
 full_text lack = line (codes "full need " ++ decimal lack.need ++ codes " free " ++ decimal lack.free)
 
+-- words, and the decoder that they are about
 abbrev pub spot_text : List ℕ → List Node → Spot → List ℕ
 spot_text words nodes spot = line (words ++ codes " " ++ node_text nodes spot.node ++ codes " " ++ decimal spot.decoder)
 
+-- two regions of different size
 abbrev pub sizes_text : Sizes → List ℕ
 sizes_text sizes = line (codes "sizes differ " ++ hex_text sizes.from ++ codes " " ++ hex_text sizes.to)
 
@@ -59,6 +65,7 @@ span_text span_faults.NoDecoder = codes "no-decoder"
 span_text (span_faults.PastRam cursor) = codes "past-ram " ++ hex_text cursor
 span_text (span_faults.NoRoom room) = codes "no-room " ++ hex_text room.start ++ codes " " ++ hex_text room.limit
 
+-- why a window cannot take a request
 abbrev pub reason_text : List Node → Reason → List ℕ
 reason_text nodes reasons.Unusable = codes "unusable"
 reason_text nodes reasons.Kind = codes "kind"
@@ -87,8 +94,10 @@ plan_fault_text nodes plan_faults.Memory = []
 
 -- ---- poison and the bus
 
+-- a poison list says that it has so many records, and has room for so many
 abbrev pub count_text : Counted → List ℕ
 count_text counted = line (codes "poison count " ++ decimal counted.said ++ codes " " ++ decimal counted.room)
 
+-- a job stays pending behind a fault of the bus
 abbrev pub pending_text : Pending → List ℕ
 pending_text pending = line (codes "bus fault pending " ++ pending.name ++ codes " " ++ progress_text pending.done pending.total)

@@ -12,6 +12,7 @@ use Rattle.cxl_topo.specs.Tree.{name_at}
 abbrev pub line : List ℕ → List ℕ
 line text = text ++ 10 ∷ []
 
+-- a number in hexadecimal digits
 abbrev pub hex_text : ℕ → List ℕ
 hex_text n = codes "0x" ++ hex_of n
 
@@ -19,6 +20,7 @@ hex_text n = codes "0x" ++ hex_of n
 abbrev pub gran_text : ℕ → List ℕ
 gran_text code = decimal (256 * 2 ^ code)
 
+-- the word for a kind of memory
 abbrev pub kind_text : MemKind → List ℕ
 kind_text Ram = codes "ram"
 kind_text Pmem = codes "pmem"
