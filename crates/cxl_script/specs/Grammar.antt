@@ -28,9 +28,11 @@ use Rattle.cxl_script.specs.Reading.{Read, ◌>>=◌, bad, next_word_in, ends, n
 abbrev pub access_limit : ℕ
 access_limit = 256
 
+-- the most bytes of which the extents are told
 abbrev pub range_limit : ℕ
 range_limit = 65536
 
+-- the most register writes of one step
 abbrev pub step_limit : ℕ
 step_limit = 1000000
 
@@ -45,10 +47,12 @@ abbrev pub gran_of_bytes : ℕ → Option ℕ → Result (Option ℕ) BadLine
 gran_of_bytes at None = bad at whys.Range
 gran_of_bytes at (Some code) = Ok (Some code)
 
+-- the code of a number that was read as a granularity in bytes
 abbrev pub gran_of_number : ℕ → Result ℕ BadLine → Result (Option ℕ) BadLine
 gran_of_number at (Ok bytes) = gran_of_bytes at (gran_code_in_table bytes)
 gran_of_number at (Err fault) = Err fault
 
+-- the granularity in the word behind `gran`, where that comes next
 abbrev pub gran_read : List Word → Option (Word × List Word) → Read (Option ℕ)
 gran_read words None = Ok (None, words)
 gran_read words (Some next) =
@@ -58,6 +62,7 @@ gran_read words (Some next) =
 abbrev pub gran_in : List Word → Read (Option ℕ)
 gran_in words = gran_read words (behind (codes "gran=") words)
 
+-- a name before those that were read behind it
 abbrev pub name_onto : List ℕ → Result (List (List ℕ)) BadLine → Result (List (List ℕ)) BadLine
 name_onto name (Ok names) = Ok (name ∷ names)
 name_onto name (Err fault) = Err fault
@@ -76,14 +81,17 @@ head_in len words = do
   gran ← gran_in size.1
   Ok (record { name = name.0; kind = kind.0; size = size.0; gran = gran.0 }, gran.1)
 
+-- the create of a head, over these endpoints or so many
 abbrev pub create_over : Head → List (List ℕ) → Option ℕ → Create
 create_over head endpoints ways =
     record { name = head.name; kind = head.kind; size = head.size; gran = head.gran; endpoints = endpoints; ways = ways }
 
+-- a create over as many endpoints as its ways, where the line ends there
 abbrev pub over_ways : Head → Result ℕ BadLine → List Word → Result Create BadLine
 over_ways head (Ok ways) words = ends (create_over head [] (Some ways)) words
 over_ways head (Err fault) words = Err fault
 
+-- a create over the endpoints of these names
 abbrev pub over_names : Head → Result (List (List ℕ)) BadLine → Result Create BadLine
 over_names head (Ok names) = Ok (create_over head names None)
 over_names head (Err fault) = Err fault
@@ -92,6 +100,7 @@ over_names head (Err fault) = Err fault
 abbrev pub some_names_in : ℕ → List Word → Result (List (List ℕ)) BadLine
 some_names_in len words = next_word_in len words >>= λ first. names_in words
 
+-- a create by the word behind `ways`, where that comes next, and else by names
 abbrev pub over_read : ℕ → Head → List Word → Option (Word × List Word) → Result Create BadLine
 over_read len head words None = over_names head (some_names_in len words)
 over_read len head words (Some next) = over_ways head (ranged next.0.at 1 ways_limit (number_of next.0.text)) next.1
@@ -100,29 +109,35 @@ over_read len head words (Some next) = over_ways head (ranged next.0.at 1 ways_l
 abbrev pub names_or_ways_in : ℕ → Head → List Word → Result Create BadLine
 names_or_ways_in len head words = over_read len head words (behind (codes "ways=") words)
 
+-- what is asked behind `create`
 abbrev pub create_in : ℕ → List Word → Result Create BadLine
 create_in len words = head_in len words >>= λ head. names_or_ways_in len head.0 head.1
 
 -- ---- the words behind the other verbs
 
+-- a name, and no word behind it
 abbrev pub only_name_in : ℕ → List Word → Result (List ℕ) BadLine
 only_name_in len words = name_in len words >>= λ name. ends name.0 name.1
 
+-- a host address, and no word behind it
 abbrev pub only_address_in : ℕ → List Word → Result ℕ BadLine
 only_address_in len words = address_in len words >>= λ h. ends h.0 h.1
 
+-- what is asked behind `up`: an endpoint and an address of its device
 abbrev pub up_in : ℕ → List Word → Result Up BadLine
 up_in len words = do
   endpoint ← name_in len words
   dpa ← address_in len endpoint.1
   ends (record { endpoint = endpoint.0; dpa = dpa.0 }) dpa.1
 
+-- what is asked behind `load`: a host address and how many bytes
 abbrev pub load_in : ℕ → List Word → Result Load BadLine
 load_in len words = do
   h ← address_in len words
   bytes ← ranged_in 1 access_limit len h.1
   ends (record { h = h.0; len = bytes.0 }) bytes.1
 
+-- what is asked behind `store`: a host address and its bytes
 abbrev pub store_in : ℕ → List Word → Result Store BadLine
 store_in len words = do
   h ← address_in len words
@@ -136,6 +151,7 @@ poison_in len words = do
   bytes ← hex_bytes_in line_limit len endpoint.1
   ends (record { endpoint = endpoint.0; bytes = bytes.0 }) bytes.1
 
+-- what is asked behind `step`: how many register writes
 abbrev pub step_in : ℕ → List Word → Result ℕ BadLine
 step_in len words = ranged_in 1 step_limit len words >>= λ n. ends n.0 n.1
 
@@ -146,6 +162,7 @@ reach_in most len words = do
   bytes ← ranged_in 1 most len h.1
   ends (record { h = h.0; len = bytes.0 }) bytes.1
 
+-- what is asked behind `copy` and `move`: the names of two regions
 abbrev pub pair_in : ℕ → List Word → Result Pair BadLine
 pair_in len words = do
   from ← name_in len words
@@ -154,6 +171,7 @@ pair_in len words = do
 
 -- ---- verbs
 
+-- what was read as a command of its kind
 abbrev pub as_command : {A : Type 0} → (A → Command) → Result A BadLine → Result Command BadLine
 as_command command (Ok a) = Ok (command a)
 as_command command (Err fault) = Err fault
@@ -164,6 +182,7 @@ begin_of (Some verbs.Create) at len words = as_command commands.BeginCreate (cre
 begin_of (Some verbs.Destroy) at len words = as_command commands.BeginDestroy (only_name_in len words)
 begin_of other at len words = bad at whys.Verb
 
+-- what is asked behind `begin`: a create or a destroy
 abbrev pub begin_in : ℕ → List Word → Result Command BadLine
 begin_in len words = next_word_in len words >>= λ word. begin_of (verb_of word.0.text) word.0.at len word.1
 
@@ -187,6 +206,7 @@ asked_of verbs.Move len words = as_command commands.Move (pair_in len words)
 
 -- ---- a line
 
+-- the command of a verb; a word that is no verb is bad
 abbrev pub command_of : Option Verb → ℕ → ℕ → List Word → Result Command BadLine
 command_of None at len words = bad at whys.Verb
 command_of (Some verb) at len words = asked_of verb len words
@@ -195,9 +215,11 @@ command_of (Some verb) at len words = asked_of verb len words
 abbrev pub command_in : ℕ → Word → List Word → Result Command BadLine
 command_in len first words = command_of (verb_of first.text) first.at len words
 
+-- the word begins a comment
 abbrev pub begins_comment : List ℕ → Bool
 begins_comment text = starts_with nat_eq text (codes "#")
 
+-- a line that asks for something
 abbrev pub some_command : Result Command BadLine → Result (Option Command) BadLine
 some_command (Ok command) = Ok (Some command)
 some_command (Err fault) = Err fault

@@ -20,10 +20,12 @@ abbrev pub Read : Type 0 → Type 0
 Read A = Result (A × List Word) BadLine
 
 infixl 10 ◌>>=◌
+-- what is read behind a part that was read; else its fault
 abbrev pub ◌>>=◌ : {A B : Type 0} → Read A → (A × List Word → Result B BadLine) → Result B BadLine
 (Ok x) >>= f = f x
 (Err fault) >>= f = Err fault
 
+-- the line is bad at this byte, for this reason
 abbrev pub bad : {A : Type 0} → ℕ → Why → Result A BadLine
 bad at why = Err (record { at = at; why = why })
 
@@ -58,9 +60,11 @@ abbrev pub ends : {A : Type 0} → A → List Word → Result A BadLine
 ends a [] = Ok a
 ends a (word ∷ words) = bad word.at whys.Extra
 
+-- the word as a name
 abbrev pub word_as_name : Word → Result (List ℕ) BadLine
 word_as_name word = if is_name word.text then Ok word.text else bad word.at whys.Name
 
+-- the word as a kind of memory
 abbrev pub word_as_kind : Word → Result MemKind BadLine
 word_as_kind word =
     if bytes_eq word.text (codes "ram") then Ok Ram
@@ -72,12 +76,15 @@ abbrev pub with_rest : {A : Type 0} → Result A BadLine → List Word → Read 
 with_rest (Ok a) words = Ok (a, words)
 with_rest (Err fault) words = Err fault
 
+-- the next word, read so, and the words behind it
 abbrev pub read_in : {A : Type 0} → (Word → Result A BadLine) → ℕ → List Word → Read A
 read_in read len words = next_word_in len words >>= λ word. with_rest (read word.0) word.1
 
+-- the next word as a name
 abbrev pub name_in : ℕ → List Word → Read (List ℕ)
 name_in len words = read_in word_as_name len words
 
+-- the next word as a kind of memory
 abbrev pub kind_in : ℕ → List Word → Read MemKind
 kind_in len words = read_in word_as_kind len words
 
@@ -96,6 +103,7 @@ abbrev pub ranged : ℕ → ℕ → ℕ → Result ℕ NumFault → Result ℕ B
 ranged at least most (Ok n) = if nat_le least n && nat_le n most then Ok n else bad at whys.Range
 ranged at least most (Err fault) = bad at whys.Number
 
+-- the next word as a number from the least to the most
 abbrev pub ranged_in : ℕ → ℕ → ℕ → List Word → Read ℕ
 ranged_in least most len words = read_in (λ word. ranged word.at least most (number_of word.text)) len words
 
@@ -105,6 +113,7 @@ address_in len words = ranged_in 0 0xffffffffffffffff len words
 
 -- ---- bytes
 
+-- hexadecimal digits, two for each byte
 abbrev pub is_hex : List ℕ → Bool
 is_hex text = list_all (λ b. is_digit b 16) text && (length text % 2 == 0)
 
@@ -118,8 +127,10 @@ hex_bytes (high ∷ low ∷ digits) = (16 * digit_value high + digit_value low) 
 abbrev pub few_bytes : ℕ → ℕ → List ℕ → Result (List ℕ) BadLine
 few_bytes at most bytes = if nat_lt most (length bytes) then bad at whys.Range else Ok bytes
 
+-- the word as no more than so many bytes
 abbrev pub word_as_bytes : ℕ → Word → Result (List ℕ) BadLine
 word_as_bytes most word = if is_hex word.text then few_bytes word.at most (hex_bytes word.text) else bad word.at whys.Hex
 
+-- the next word as no more than so many bytes
 abbrev pub hex_bytes_in : ℕ → ℕ → List Word → Read (List ℕ)
 hex_bytes_in most len words = read_in (word_as_bytes most) len words

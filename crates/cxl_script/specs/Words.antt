@@ -26,5 +26,6 @@ line_words_from at begun [] = ended at begun
 line_words_from at begun (b ∷ bs) =
     if is_blank b then ended at begun ++ line_words_from (at + 1) [] bs else line_words_from (at + 1) (begun ++ b ∷ []) bs
 
+-- the words of a line
 abbrev pub line_words : List ℕ → List Word
 line_words line = line_words_from 0 [] line
