@@ -9,9 +9,11 @@ use Rattle.cxl_worked.specs.ExampleRegions.{region_of_two}
 abbrev pub last_two : List ℕ
 last_two = replicate 254 0 ++ 0xaa ∷ 0xbb ∷ []
 
+-- the second piece: its first two bytes, and zeros
 abbrev pub first_two : List ℕ
 first_two = 0xcc ∷ 0xdd ∷ replicate 254 0
 
+-- four bytes, two on each side of a piece's end
 abbrev pub four_bytes : Contents
 four_bytes = map.insert (map.insert map.empty 0 last_two) 1 first_two
 

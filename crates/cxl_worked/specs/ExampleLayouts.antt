@@ -17,6 +17,7 @@ use Rattle.cxl_worked.specs.ExampleRegions.{region, with_map}
 
 -- ---- one bridge with two endpoints, under a window of the bridge alone
 
+-- a window over one bridge
 abbrev pub window_of_one : WindowFields
 window_of_one = window 0x100000000 1 (0 ∷ [])
 
@@ -34,6 +35,7 @@ below_one_bridge first second control targets =
 abbrev pub one_bridge : System
 one_bridge = below_one_bridge 0 1 0x1612 0x100
 
+-- a region of two endpoints below one bridge
 abbrev pub region_below_one : Found
 region_below_one = record (region 0x100000000 0x20000000 2 (1 ∷ 2 ∷ [])) { gran = 2 }
 
@@ -41,11 +43,13 @@ region_below_one = record (region 0x100000000 0x20000000 2 (1 ∷ 2 ∷ [])) { g
 abbrev pub ports_out_of_order : System
 ports_out_of_order = below_one_bridge 1 3 0x1610 0x103
 
+-- the same with its endpoints the other way round
 abbrev pub region_out_of_order : Found
 region_out_of_order = region 0x100000000 0x20000000 2 (2 ∷ 1 ∷ [])
 
 -- ---- six bridges with two endpoints each, under a window of all six, and a region of all twelve
 
+-- a window over six bridges, for a region of twelve ways
 abbrev pub window_of_twelve : WindowFields
 window_of_twelve = window 0xc0000000 6 (0 ∷ 1 ∷ 2 ∷ 3 ∷ 4 ∷ 5 ∷ [])
 
@@ -72,6 +76,7 @@ region_of_twelve = region 0x100000000 0xc0000000 12 (6 ∷ 8 ∷ 11 ∷ 13 ∷ 1
 
 -- ---- two bridges, and a switch with one port between the first and its endpoint
 
+-- a switch below a bridge
 abbrev pub switch : Node
 switch = record {
   name = 115 ∷ 48 ∷ [];
@@ -91,11 +96,13 @@ with_switch = record {
   windows = window_of_both ∷ [];
 }
 
+-- a region of two endpoints, past a switch
 abbrev pub region_past_switch : Found
 region_past_switch = region 0x100000000 0x20000000 2 (3 ∷ 4 ∷ [])
 
 -- ---- one bridge with one endpoint of both kinds of memory, 1 GiB of each
 
+-- an endpoint with memory of both kinds
 abbrev pub endpoint_of_both_kinds : Node
 endpoint_of_both_kinds = record (endpoint two_gib 0 0 0) { kind = Endpoint record { ram = 0x40000000; pmem = 0x40000000 } }
 
@@ -103,9 +110,11 @@ endpoint_of_both_kinds = record (endpoint two_gib 0 0 0) { kind = Endpoint recor
 abbrev pub in_ram : Decoder
 in_ram = decoder 0x100000000 0x10000000 0x1600 0
 
+-- a decoder that skips so many bytes, up to persistent memory
 abbrev pub in_pmem : ℕ → Decoder
 in_pmem tail = decoder 0x110000000 0x10000000 0x1600 tail
 
+-- a region in each kind of memory of one endpoint
 abbrev pub both_kinds : System
 both_kinds = record {
   nodes = bridge 0 ∷ endpoint_of_both_kinds ∷ [];
@@ -115,6 +124,7 @@ both_kinds = record {
   windows = window_of_one ∷ [];
 }
 
+-- the region in persistent memory
 abbrev pub region_of_pmem : Found
 region_of_pmem = record {
   base = 0x110000000;
@@ -132,11 +142,13 @@ without_pmem = record both_kinds { windows = record window_of_one { restrict = 0
 
 -- ---- two bridges whose window chooses by a map
 
+-- a region of two bridges, dealt by a map
 abbrev pub two_by_map : System
 two_by_map = record two_bridges { windows = with_map window_of_both ∷ [] }
 
 -- ---- two bridges that forward, of which only the first one's endpoint has the range
 
+-- two bridges that forward, of which only the first one's endpoint has the range
 abbrev pub forwarding_alone : System
 forwarding_alone = record forwarding_bridges {
   blocks =

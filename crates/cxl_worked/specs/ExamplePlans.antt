@@ -35,5 +35,6 @@ row_of_both node control = record { node = node; index = 0; decoder = of_both co
 abbrev pub rows_of_two : List Row
 rows_of_two = row_of_both 0 0x1000 ∷ row_of_both 1 0x1000 ∷ row_of_both 2 0x1010 ∷ row_of_both 3 0x1010 ∷ []
 
+-- the plan of two rows
 abbrev pub plan_of_two : Request → Plan
 plan_of_two request = record { name = request.name; found = region_of_two; rows = rows_of_two }

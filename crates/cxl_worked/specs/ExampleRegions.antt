@@ -23,6 +23,7 @@ region base size ways endpoints = record {
 abbrev pub region_of_two : Found
 region_of_two = region 0x100000000 0x20000000 2 (2 ∷ 3 ∷ [])
 
+-- a region of four ways
 abbrev pub region_of_four : Found
 region_of_four = region 0x100000000 0x40000000 4 (2 ∷ 4 ∷ 3 ∷ 5 ∷ [])
 
@@ -30,6 +31,7 @@ region_of_four = region 0x100000000 0x40000000 4 (2 ∷ 4 ∷ 3 ∷ 5 ∷ [])
 abbrev pub region_of_six : Found
 region_of_six = region 0x100000000 0x60000000 6 (3 ∷ 6 ∷ 7 ∷ 4 ∷ 5 ∷ 8 ∷ [])
 
+-- a window over three bridges
 abbrev pub window_of_three : WindowFields
 window_of_three = window 0x60000000 3 (0 ∷ 1 ∷ 2 ∷ [])
 
@@ -37,9 +39,11 @@ window_of_three = window 0x60000000 3 (0 ∷ 1 ∷ 2 ∷ [])
 abbrev pub region_by_map : Found
 region_by_map = region 0x100000000 0x60000000 6 (6 ∷ 7 ∷ 8 ∷ 9 ∷ 10 ∷ 11 ∷ [])
 
+-- a window with XOR arithmetic by one map
 abbrev pub with_map : WindowFields → WindowFields
 with_map w = record w { xor = true; maps = 0x404100 ∷ 0 ∷ 0 ∷ 0 ∷ [] }
 
+-- a window over six bridges
 abbrev pub window_of_six : WindowFields
 window_of_six = window 0x60000000 6 (0 ∷ 1 ∷ 2 ∷ 3 ∷ 4 ∷ 5 ∷ [])
 

@@ -16,6 +16,7 @@ use Rattle.cxl_model.specs.System.{System}
 abbrev pub port_cap : ℕ
 port_cap = 0x382
 
+-- the capability word of an endpoint's block: four decoders
 abbrev pub endpoint_cap : ℕ
 endpoint_cap = 0x1b02
 
@@ -60,9 +61,11 @@ decoder base size control tail = record {
 abbrev pub port_block : Decoder → Registers
 port_block d = record { cap = port_cap; endpoint = false; enabled = true; decoders = d ∷ replicate 3 reset_decoder }
 
+-- an endpoint's block with one decoder in use
 abbrev pub endpoint_block : Decoder → Registers
 endpoint_block d = record { cap = endpoint_cap; endpoint = true; enabled = true; decoders = d ∷ replicate 3 reset_decoder }
 
+-- an endpoint's block with two decoders in use
 abbrev pub endpoint_block_of_two : Decoder → Decoder → Registers
 endpoint_block_of_two d e = record { cap = endpoint_cap; endpoint = true; enabled = true; decoders = d ∷ e ∷ replicate 2 reset_decoder }
 
@@ -87,9 +90,11 @@ window size ways targets = record {
 abbrev pub of_both : ℕ → Decoder
 of_both control = decoder 0x100000000 0x20000000 control 0
 
+-- two bridges with an endpoint each
 abbrev pub two_nodes_each : List Node
 two_nodes_each = bridge 0 ∷ bridge 1 ∷ endpoint two_gib 0 0 0 ∷ endpoint two_gib 1 1 0 ∷ []
 
+-- a window over both bridges
 abbrev pub window_of_both : WindowFields
 window_of_both = window 0x100000000 2 (0 ∷ 1 ∷ [])
 
@@ -97,6 +102,7 @@ window_of_both = window 0x100000000 2 (0 ∷ 1 ∷ [])
 abbrev pub two_bridges_with : Registers → Registers → Registers → Registers → System
 two_bridges_with hb0 hb1 e0 e1 = record { nodes = two_nodes_each; blocks = hb0 ∷ hb1 ∷ e0 ∷ e1 ∷ []; windows = window_of_both ∷ [] }
 
+-- one region over two bridges, an endpoint each
 abbrev pub two_bridges : System
 two_bridges =
     two_bridges_with (port_block (of_both 0x1600)) (port_block (of_both 0x1600)) (endpoint_block (of_both 0x1610)) (endpoint_block (of_both 0x1610))
@@ -132,6 +138,7 @@ with_untargeted_bridge = record two_bridges { windows = window 0x100000000 1 (0 
 
 -- ---- the same with bridges that forward
 
+-- the same where both bridges forward, with this block in their place
 abbrev pub forwarding_with : Registers → System
 forwarding_with placeholder = record {
   nodes = forwarding_bridge 0 ∷ forwarding_bridge 1 ∷ endpoint two_gib 0 0 0 ∷ endpoint two_gib 1 1 0 ∷ [];
@@ -139,6 +146,7 @@ forwarding_with placeholder = record {
   windows = window_of_both ∷ [];
 }
 
+-- both bridges forward, with placeholders in their place
 abbrev pub forwarding_bridges : System
 forwarding_bridges = forwarding_with (reset_block placeholder_cap false)
 
@@ -162,6 +170,7 @@ off_thirds =
 
 -- ---- three bridges, each with two endpoints, and a region of all six
 
+-- one region of six ways
 abbrev pub six_ways : System
 six_ways =
     let port = port_block (decoder 0x100000000 0x60000000 0x1610 0x100) in
@@ -192,6 +201,7 @@ four_ways_with control targets =
 abbrev pub four_ways : System
 four_ways = four_ways_with 0x1611 0x100
 
+-- a region of four ways whose bridges have the code of the window
 abbrev pub with_window_code : System
 with_window_code = four_ways_with 0x1610 0x100
 
