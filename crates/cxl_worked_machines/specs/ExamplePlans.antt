@@ -13,6 +13,7 @@ use Rattle.cxl_worked_machines.specs.Examples.{r0, enabled_endpoint}
 abbrev pub asks : ℕ → List ℕ → Request
 asks size endpoints = record { name = r0; kind = Ram; size = size; gran = None; endpoints = endpoints }
 
+-- a request with a granularity
 abbrev pub asks_at : ℕ → ℕ → List ℕ → Request
 asks_at code size endpoints = record (asks size endpoints) { gran = Some code }
 
@@ -20,6 +21,7 @@ asks_at code size endpoints = record (asks size endpoints) { gran = Some code }
 abbrev pub full_bridge : Registers
 full_bridge = record { cap = port_cap; endpoint = false; enabled = true; decoders = replicate 4 (of_both 0x1600) }
 
+-- two bridges whose decoders are all in use
 abbrev pub full_bridges : System
 full_bridges = two_bridges_with full_bridge full_bridge (endpoint_block (of_both 0x1610)) (endpoint_block (of_both 0x1610))
 
@@ -42,6 +44,7 @@ four_reset = record {
 abbrev pub plain_endpoint : ℕ → ℕ → Node
 plain_endpoint name node = record (endpoint two_gib name node 0) { cap = 0x1302 }
 
+-- three bridges with an endpoint each, and no region
 abbrev pub three_reset : System
 three_reset = record {
   nodes = bridge 0 ∷ bridge 1 ∷ bridge 2 ∷ plain_endpoint 0 0 ∷ plain_endpoint 1 1 ∷ plain_endpoint 2 2 ∷ [];

@@ -29,15 +29,19 @@ use Rattle.cxl_machine.specs.Sound.{auto_name}
 
 -- ---- names
 
+-- the name of a region
 abbrev pub r0 : List ℕ
 r0 = codes "r0"
 
+-- the name of another
 abbrev pub b : List ℕ
 b = codes "b"
 
+-- the name of an endpoint
 abbrev pub e0 : List ℕ
 e0 = codes "e0"
 
+-- the name of another
 abbrev pub e1 : List ℕ
 e1 = codes "e1"
 
@@ -45,6 +49,7 @@ e1 = codes "e1"
 abbrev pub auto : List ℕ
 auto = auto_name 0
 
+-- the name of a bridge
 abbrev pub hb0 : List ℕ
 hb0 = codes "hb0"
 
@@ -54,6 +59,7 @@ hb0 = codes "hb0"
 abbrev pub enabled_endpoint : Registers
 enabled_endpoint = record (reset_block endpoint_cap true) { enabled = true }
 
+-- two bridges with an endpoint each, and no region
 abbrev pub reset_system : System
 reset_system = two_bridges_with (reset_block port_cap false) (reset_block port_cap false) enabled_endpoint enabled_endpoint
 
@@ -68,6 +74,7 @@ abbrev pub create_named : List ℕ → Create
 create_named name =
     record { name = name; kind = Ram; size = 0x20000000; gran = None; endpoints = e0 ∷ e1 ∷ []; ways = None }
 
+-- the live region of two ways with these contents
 abbrev pub region_r0 : Contents → Live
 region_r0 contents = record { name = r0; found = region_of_two; contents = contents }
 
@@ -83,6 +90,7 @@ named_at name base = record { name = name; window = 0; base = base; size = 0x200
 abbrev pub plan_r0 : Plan
 plan_r0 = stated_plan reset_system (request_for (create_named r0) (2 ∷ 3 ∷ [])) window_of_both 0x100000000
 
+-- the plan of a second region behind it
 abbrev pub plan_b : Plan
 plan_b = stated_plan two_bridges (request_for (create_named b) (2 ∷ 3 ∷ [])) window_of_both 0x120000000
 
@@ -92,20 +100,24 @@ plan_b = stated_plan two_bridges (request_for (create_named b) (2 ∷ 3 ∷ []))
 abbrev pub second : ℕ → Decoder
 second control = decoder 0x120000000 0x20000000 control 0
 
+-- a port's block with two decoders in use
 abbrev pub port_block_of_two : Decoder → Decoder → Registers
 port_block_of_two d e = record { cap = port_cap; endpoint = false; enabled = true; decoders = d ∷ e ∷ replicate 2 reset_decoder }
 
+-- two bridges with an endpoint each, and two regions over them
 abbrev pub two_regions : System
 two_regions =
     two_bridges_with (port_block_of_two (of_both 0x1600) (second 0x1600)) (port_block_of_two (of_both 0x1600) (second 0x1600))
     (endpoint_block_of_two (of_both 0x1610) (second 0x1610)) (endpoint_block_of_two (of_both 0x1610) (second 0x1610))
 
+-- the second region as the image has it
 abbrev pub found_b : Found
 found_b = record region_of_two {
   base = 0x120000000;
   spans = record { endpoint = 2; start = 0x10000000 } ∷ record { endpoint = 3; start = 0x10000000 } ∷ [];
 }
 
+-- the second live region with these contents
 abbrev pub region_b : Contents → Live
 region_b contents = record { name = b; found = found_b; contents = contents }
 
@@ -116,10 +128,12 @@ with_both frames first second =
 
 -- ---- a region that firmware locked
 
+-- one region whose decoders are locked
 abbrev pub locked_bridges : System
 locked_bridges =
     two_bridges_with (port_block (of_both 0x1700)) (port_block (of_both 0x1700)) (endpoint_block (of_both 0x1710)) (endpoint_block (of_both 0x1710))
 
+-- a machine with that region
 abbrev pub with_locked : Machine
 with_locked = record (with_r0 map.empty) { settled = locked_bridges }
 
@@ -129,6 +143,7 @@ with_locked = record (with_r0 map.empty) { settled = locked_bridges }
 abbrev pub job_b : RegionJob
 job_b = create_job two_bridges plan_b
 
+-- the second region is being made, with so many writes done
 abbrev pub making_b : ℕ → Machine
 making_b done = at_done job_b done (with_r0 map.empty)
 
@@ -144,6 +159,7 @@ making_r0 done = at_done (create_job reset_system plan_r0) done fresh
 abbrev pub job_of_release : Contents → RegionJob
 job_of_release contents = release_job two_bridges 0 (region_r0 contents)
 
+-- the first region is being released, with so many writes done
 abbrev pub releasing : Contents → ℕ → Machine
 releasing contents done = at_done (job_of_release contents) done (record (with_r0 contents) { live = [] })
 
@@ -179,14 +195,17 @@ poison_bytes said =
 abbrev pub opened_region_with : Contents → Live
 opened_region_with contents = record { name = auto_name 0; found = region_of_two; contents = contents }
 
+-- a machine that opened on an image with one region, which holds these contents
 abbrev pub opened_with : Contents → Machine
 opened_with contents = record fresh { settled = two_bridges; live = opened_region_with contents ∷ [] }
 
+-- the same with none stored
 abbrev pub opened : Machine
 opened = opened_with map.empty
 
 -- ---- bytes and commands
 
+-- no byte was stored
 abbrev pub nothing : Contents
 nothing = map.empty
 
@@ -198,6 +217,7 @@ first_byte = written nothing 0 (0x11 ∷ [])
 abbrev pub stored_piece : List ℕ
 stored_piece = piece_after nothing 0 (0x11 ∷ []) 0
 
+-- media with one block, and one frame free
 abbrev pub one_block : MediaState
 one_block = record { blocks = map.insert map.empty (2, 0) stored_piece; free = 1 }
 
@@ -205,24 +225,31 @@ one_block = record { blocks = map.insert map.empty (2, 0) stored_piece; free = 1
 abbrev pub making_beside : ℕ → Machine
 making_beside done = at_done job_b done (opened_with first_byte)
 
+-- the region that was there at the opening is being released, with so many writes done
 abbrev pub opened_releasing : ℕ → Machine
 opened_releasing done = at_done (release_job two_bridges 0 (opened_region_with first_byte)) done (record (opened_with first_byte) { live = [] })
 
+-- so many bytes are asked for
 abbrev pub load : ℕ → ℕ → Command
 load h len = commands.Load record { h = h; len = len }
 
+-- bytes are to be stored
 abbrev pub store : ℕ → List ℕ → Command
 store h bytes = commands.Store record { h = h; bytes = bytes }
 
+-- the host address of a device byte is asked for
 abbrev pub up : List ℕ → ℕ → Command
 up endpoint dpa = commands.Up record { endpoint = endpoint; dpa = dpa }
 
+-- the host bytes of a poison list are asked for
 abbrev pub poison : List ℕ → List ℕ → Command
 poison endpoint bytes = commands.Poison record { endpoint = endpoint; bytes = bytes }
 
+-- a region is to be given the bytes of another
 abbrev pub copy : List ℕ → List ℕ → Command
 copy from to = commands.Copy record { from = from; to = to }
 
+-- the same, and the other is to be left zero
 abbrev pub move : List ℕ → List ℕ → Command
 move from to = commands.Move record { from = from; to = to }
 
@@ -230,6 +257,7 @@ move from to = commands.Move record { from = from; to = to }
 abbrev pub create_of : ℕ → Command
 create_of size = commands.Create record (create_named r0) { size = size }
 
+-- a region of so many endpoints is asked for, which are to be picked
 abbrev pub create_picked : ℕ → ℕ → Command
 create_picked size ways = commands.Create record (create_named r0) { size = size; endpoints = []; ways = Some ways }
 
