@@ -20,9 +20,11 @@ use Rattle.cxl_topofile.specs.Groups.{default_frames}
 abbrev pub port_word : ℕ
 port_word = word_of (record { decoders = 4; targets = 8; low = true; high = true; ways3 = false; ways16 = false })
 
+-- the capability word of an endpoint
 abbrev pub endpoint_word : ℕ
 endpoint_word = word_of (record { decoders = 4; targets = 0; low = true; high = true; ways3 = true; ways16 = true })
 
+-- bridge i
 abbrev pub made_bridge : ℕ → Node
 made_bridge i = record { name = codes "hb" ++ decimal i; kind = Bridge i; parent = None; cap = port_word; forwards = false }
 
@@ -40,6 +42,7 @@ made_endpoint i = record {
   forwards = false;
 }
 
+-- the bridges, and then the endpoints
 abbrev pub made_nodes : ℕ → List Node
 made_nodes n = map made_bridge (range_with_len 0 (2 * n)) ++ map made_endpoint (range_with_len 0 (4 * n))
 
@@ -57,6 +60,7 @@ made_chbs i = records.Chbs (record { uid = i; version = 1; base = 0x80000000 + 0
 abbrev pub made_cxims : ℕ → Record
 made_cxims code = records.Cxims (record { gran = code; maps = (2 ^ (code + 8) + 2 ^ (code + 14)) ∷ [] })
 
+-- where window j starts
 abbrev pub window_base : ℕ → ℕ
 window_base j = 0x1000000000 * (j + 1)
 
@@ -73,6 +77,7 @@ made_window j = records.Cfmws (record {
   targets = (2 * j) ∷ (2 * j + 1) ∷ [];
 })
 
+-- the records of the table: bridges, maps and windows
 abbrev pub made_records : ℕ → List Record
 made_records n = map made_chbs (range_with_len 0 (2 * n)) ++ map made_cxims (1 ∷ 3 ∷ 5 ∷ []) ++ map made_window (range_with_len 0 n)
 
@@ -100,12 +105,15 @@ made_create j = commands.Create (record {
 abbrev pub eight_bytes : ℕ → List ℕ
 eight_bytes i = map (λ k. i / 256 ^ k % 256) (range_with_len 0 8)
 
+-- the host address of the i-th access in window j
 abbrev pub store_place : ℕ → ℕ → ℕ
 store_place j i = window_base j + 0x1010 * i
 
+-- the i-th store in window j
 abbrev pub made_store : ℕ → ℕ → Command
 made_store j i = commands.Store (record { h = store_place j i; bytes = eight_bytes i })
 
+-- the i-th load in window j
 abbrev pub made_load : ℕ → ℕ → Command
 made_load j i = commands.Load (record { h = store_place j i; len = 8 })
 
@@ -113,6 +121,7 @@ made_load j i = commands.Load (record { h = store_place j i; len = 8 })
 abbrev pub made_stores : ℕ → List Command
 made_stores j = map (made_store j) (range_with_len 0 1000)
 
+-- a thousand loads in window j
 abbrev pub made_loads : ℕ → List Command
 made_loads j = map (made_load j) (range_with_len 0 1000)
 
