@@ -33,9 +33,11 @@ image_fault_number (Caps node) = Some node
 image_fault_number (Trailing at) = Some at
 image_fault_number other = None
 
+-- the word for a fault of the image, and its number
 abbrev pub image_fault_name : ImageFault → List ℕ
 image_fault_name fault = numbered (image_fault_word fault) (image_fault_number fault)
 
+-- the line of a fault of the image
 abbrev pub image_fault_text : ImageFault → List ℕ
 image_fault_text fault = line (codes "error: image " ++ image_fault_name fault)
 

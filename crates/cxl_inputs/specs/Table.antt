@@ -39,9 +39,11 @@ fault_place (Arithmetic at) = Some at
 fault_place (TooMany at) = Some at
 fault_place other = None
 
+-- the word for a fault of the table, and its place
 abbrev pub fault_name : CedtFault → List ℕ
 fault_name fault = numbered (fault_word fault) (fault_place fault)
 
+-- the line of a fault of the table
 abbrev pub table_fault_text : CedtFault → List ℕ
 table_fault_text fault = line (codes "error: table " ++ fault_name fault)
 

@@ -52,6 +52,7 @@ topology_fault_name (faults.Range place) = codes "range " ++ place_text place
 topology_fault_name (faults.Tree fault) = numbered (tree_fault_word fault) (tree_fault_node fault)
 topology_fault_name faults.Memory = codes "memory"
 
+-- the line of a fault of the topology
 abbrev pub topology_fault_text : TopoFault → List ℕ
 topology_fault_text fault = line (codes "error: topology " ++ topology_fault_name fault)
 
