@@ -11,10 +11,11 @@ use Rattle.cxl_model.specs.declared.plan.Row.{Row}
 use Rattle.cxl_model.specs.System.{System}
 use Rattle.cxl_apply.specs.declared.write.Write.{Write}
 
--- a decoder with no bit that tells of a commit, and with the one that asks for it
+-- a decoder with no bit that tells of a commit or asks for one
 abbrev pub unmarked : Decoder → Decoder
 unmarked d = record d { commit = false; committed = false; error = false }
 
+-- the same with the bit that asks for a commit
 abbrev pub with_commit : Decoder → Decoder
 with_commit d = record (unmarked d) { commit = true }
 
@@ -110,6 +111,7 @@ pub record IsTopRow (blocks : List Registers) (row : Row) : Type 0 where
   pub top : IsSomeAnd (slice_get blocks row.node) (λ block.
       (i : ℕ) (d : Decoder) → row.index < i → slice_get block.decoders i ≡ Some d → d.committed ≡ false)
 
+-- no two rows are of one node
 abbrev pub AreOfDifferentNodes : List Row → Type 0
 AreOfDifferentNodes rows = AllPairs (λ (row next : Row). row.node ≢ next.node) rows
 

@@ -37,9 +37,11 @@ first_not_last s found = find (λ (row : Row). any_committed (drop (row.index + 
 abbrev pub released : Decoder → Decoder
 released d = record d { commit = false; committed = false }
 
+-- the block in which the row's decoder is released
 abbrev pub block_without_row : Row → Registers → Registers
 block_without_row row block = record block { decoders = slice_set block.decoders row.index (released row.decoder) }
 
+-- the blocks in which the row's decoder is released
 abbrev pub blocks_without_row : List Registers → Row → List Registers
 blocks_without_row blocks row =
     option_map_or (λ block. slice_set blocks row.node (block_without_row row block)) (slice_get blocks row.node) blocks

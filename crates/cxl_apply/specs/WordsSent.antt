@@ -7,6 +7,7 @@ use Rattle.cxl_apply.specs.declared.write.Write.{Write}
 abbrev pub made : Write → Sent
 made write = record { node = write.node; off = write.off; value = write.value }
 
+-- the word that takes a write back
 abbrev pub taken_back : Write → Sent
 taken_back write = record { node = write.node; off = write.off; value = write.back }
 
