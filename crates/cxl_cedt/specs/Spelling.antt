@@ -25,6 +25,7 @@ numbers_bytes width numbers = flat_map (number_bytes width) numbers
 abbrev pub frame : ℕ → ℕ → ℕ → List ℕ
 frame kind second size = kind ∷ second ∷ number_bytes 2 size
 
+-- the bytes of a host bridge's record
 abbrev pub chbs_spelling : chbs.Chbs → List ℕ
 chbs_spelling c =
     frame chbs_kind 0 chbs_size ++ number_bytes 4 c.uid ++ number_bytes 4 c.version ++ number_bytes 4 0
@@ -45,6 +46,7 @@ window_front c =
     window_range (length c.targets) c.base c.size ++ window_codes c.ways c.xor c.gran
     ++ number_bytes 2 c.restrict ++ number_bytes 2 c.qtg
 
+-- the bytes of a window's record
 abbrev pub cfmws_spelling : CfmwsFields → List ℕ
 cfmws_spelling c = window_front c ++ numbers_bytes 4 c.targets
 
@@ -52,6 +54,7 @@ cfmws_spelling c = window_front c ++ numbers_bytes 4 c.targets
 abbrev pub maps_front : CximsFields → List ℕ
 maps_front c = frame cxims_kind 0 (maps_front_size + 8 * length c.maps) ++ number_bytes 2 0 ++ c.gran ∷ [] ++ length c.maps ∷ []
 
+-- the bytes of a record of XOR maps
 abbrev pub cxims_spelling : CximsFields → List ℕ
 cxims_spelling c = maps_front c ++ numbers_bytes 8 c.maps
 
@@ -59,6 +62,7 @@ cxims_spelling c = maps_front c ++ numbers_bytes 8 c.maps
 abbrev pub other_spelling : OtherFields → List ℕ
 other_spelling c = frame c.kind c.reserved (frame_size + length c.body) ++ c.body
 
+-- the bytes of a record
 abbrev pub record_spelling : Record → List ℕ
 record_spelling (Chbs c) = chbs_spelling c
 record_spelling (Cfmws c) = cfmws_spelling c
