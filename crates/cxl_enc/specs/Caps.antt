@@ -14,9 +14,11 @@ decoders_of code = if code == 0 then 1 else 2 * code
 abbrev pub targets_of : ℕ → ℕ
 targets_of cap = cap / 16 % 16
 
+-- a block can have so many decoders
 abbrev pub is_decoder_count : ℕ → Bool
 is_decoder_count n = (n == 1) || (n == 2) || (n == 4) || (n == 6) || (n == 8) || (n == 10)
 
+-- a port can have so many targets
 abbrev pub is_target_count : ℕ → Bool
 is_target_count n = (n == 1) || (n == 2) || (n == 4) || (n == 8)
 

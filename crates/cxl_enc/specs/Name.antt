@@ -21,6 +21,7 @@ is_name bytes = nat_le 1 (length bytes) && nat_le (length bytes) 15 && list_all 
 abbrev pub padded : List ℕ → List ℕ
 padded bytes = bytes ++ replicate (15 - length bytes) 0
 
+-- the first bytes are a name of this length
 pub record IsPadded (len : ℕ) (room : List ℕ) : Type 0 where
   pub name : IsName (take len room)
   pub fits : len ≤ 15
