@@ -17,6 +17,7 @@ words_text words = flat_map word_bytes words
 abbrev pub block_words : Registers → List ℕ
 block_words block = head_words block ++ flat_map words_of block.decoders
 
+-- the bytes of a block's words
 abbrev pub block_text : Registers → List ℕ
 block_text block = words_text (block_words block)
 
