@@ -29,6 +29,7 @@ plain_roll p = map (λ item. Some item.0) p.items
 abbrev pub item_of : Block → Key × List ℕ
 item_of block = ((block.ep, block.number), block.bytes)
 
+-- the blocks, each under its key
 abbrev pub items_of : List Block → List (Key × List ℕ)
 items_of blocks = map item_of blocks
 

@@ -10,6 +10,7 @@ use Rattle.cxl_media.specs.MediaState.{MediaState}
 use Rattle.cxl_media.specs.Table.{Cells, key_at, frames_in}
 use Rattle.cxl_media.specs.Index.{coded_cells}
 
+-- the frames of the pool, and the cells that name those with a block
 pub record Shipped : Type 0 where
   pub pool : Frames
   pub cells : Cells
@@ -28,6 +29,7 @@ pub record Sim : Type 0 where
   pub pool : Frames
   pub frames : FinMap key_cmp ℕ
 
+-- the pool and the blocks in its frames
 abbrev pub sim_of : Frames → Cells → Sim
 sim_of pool cells = record { pool = pool; frames = frames_in cells }
 
@@ -39,9 +41,11 @@ map_values f m = fin.from_sorted (map (λ e. (e.0, f e.1)) (fin.entries m))
 abbrev pub blocks_of : Sim → Blocks
 blocks_of s = map_values (λ n. unwrap_or (frame_bytes s.pool n) zeros) s.frames
 
+-- the blocks that it holds
 abbrev pub shipped_blocks : Shipped → Blocks
 shipped_blocks s = blocks_of (sim_of s.pool s.cells)
 
+-- its blocks, and how many frames are free
 abbrev pub shipped_state : Shipped → MediaState
 shipped_state s = record { blocks = shipped_blocks s; free = free_count s.pool }
 

@@ -4,12 +4,15 @@ use Rattle.std.specs.FinMap.{FinMap, from_entries}
 use Rattle.cxl_media.specs.Blocks.{Key, key_cmp}
 use Rattle.cxl_media.specs.declared.cell.Cell.{Cell}
 
+-- the endpoint and the number of the block in a cell
 abbrev pub key_at : Cell → Key
 key_at cell = (cell.ep, cell.number)
 
+-- cells, each of which holds a block or none
 abbrev pub Cells : Type 0
 Cells = List (Option Cell)
 
+-- what the cell at a place holds
 abbrev pub cell_at : Cells → ℕ → Option Cell
 cell_at cells at = slice_index_or cells at None
 
