@@ -14,6 +14,7 @@ are_usable_from gran k i zero maps = true
 are_usable_from gran k i (suc n) [] = false
 are_usable_from gran k i (suc n) (map ∷ maps) = is_usable_map gran k i map && are_usable_from gran k (suc i) n maps
 
+-- there are k maps that can be used at this granularity
 abbrev pub are_usable_maps : ℕ → ℕ → List ℕ → Bool
 are_usable_maps gran k maps = are_usable_from gran k 0 k maps
 
