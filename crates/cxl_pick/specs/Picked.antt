@@ -14,6 +14,7 @@ use Rattle.cxl_pick.specs.Picking.{given_in}
 abbrev pub in_rising_order : System → List ℕ → List ℕ
 in_rising_order s given = filter (λ n. list_any (λ m. m == n) given) (range_with_len 0 (length s.nodes))
 
+-- the endpoints that are given, in rising order, or that there is no set
 abbrev pub set_or_none : System → Option (List ℕ) → Result (List ℕ) PickFault
 set_or_none s None = Err faults.NoSet
 set_or_none s (Some given) = Ok (in_rising_order s given)
