@@ -16,6 +16,7 @@ use Rattle.cxl_poison.specs.declared.fault.Said.{Said}
 abbrev pub payload_head : ℕ
 payload_head = 32
 
+-- the bytes of a record
 abbrev pub record_size : ℕ
 record_size = 16
 
@@ -92,5 +93,6 @@ IsPoisonAnswer result answer = (result ≡ answer) ⊎ (result ≡ Err Memory)
 abbrev pub HasList : List ℕ → Type 0
 HasList bytes = (list : PoisonList) × IsPoisonPayload bytes list
 
+-- the payload has a fault
 abbrev pub HasPoisonFault : List ℕ → Type 0
 HasPoisonFault bytes = (fault : PoisonFault) × IsPoisonFault bytes fault

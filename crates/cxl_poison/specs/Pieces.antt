@@ -21,6 +21,7 @@ use Rattle.cxl_poison.specs.Live.{AreLiveSpans}
 abbrev pub record_bytes : Entry → ℕ
 record_bytes entry = 64 * entry.units
 
+-- where the device bytes of a record end
 abbrev pub record_end : Entry → ℕ
 record_end entry = entry.dpa + record_bytes entry
 
@@ -110,9 +111,11 @@ pub data ArePartsInAll (entry : Entry) (endpoint : ℕ) (live : List Found) (win
 
 -- ---- the bytes that no region has
 
+-- the device byte lies in the span
 abbrev pub has_byte : LiveSpan → ℕ → Bool
 has_byte span dpa = nat_le span.start dpa && nat_lt dpa (span.start + span.len)
 
+-- the device byte lies in no span
 abbrev pub is_unmapped : List LiveSpan → ℕ → Bool
 is_unmapped spans dpa = not (list_any (λ span. has_byte span dpa) spans)
 
