@@ -4,6 +4,7 @@ use Rattle.std.specs.Prelude.{◌≡◌, ℕ, ◌-◌, ◌^◌, ◌<◌, ◌≤�
 use Rattle.cxl_pool.specs.Pool.{Frames, free_count}
 use Rattle.cxl_pool.specs.Chain.{chain, AreNumbers, marked_from}
 
+-- the frames that were taken so far, of which those given back are free
 abbrev pub frames_of : List (List ℕ) → ℕ → ℕ → Frames
 frames_of frames given first = marked_from 0 (chain frames given first) frames
 
