@@ -23,6 +23,7 @@ select_bits ways = option_map_or bits_of (ways_of ways) 0
 
 -- ---- the range
 
+-- the base and the size of a decoder
 abbrev pub range_of : Decoder → Range
 range_of d = record { base = d.base; size = d.size }
 

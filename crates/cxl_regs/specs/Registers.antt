@@ -33,6 +33,7 @@ pub record IsBlock (block : Registers) : Type 0 where
   pub count : length block.decoders ≡ decoders_of (decoders_code block.cap)
   pub each : All (IsDecoder block.endpoint) block.decoders
 
+-- a decoder after reset
 abbrev pub reset_decoder : Decoder
 reset_decoder =
     record { base = 0; size = 0; ways = 0; gran = 0; lock = false; commit = false; committed = false; error = false; host_only = false; tail = 0 }

@@ -9,6 +9,7 @@ use Rattle.cxl_regs.specs.Registers.{Registers}
 abbrev pub low_half : ℕ → ℕ
 low_half n = n % 2 ^ 32
 
+-- the upper 32 bits
 abbrev pub high_half : ℕ → ℕ
 high_half n = n / 2 ^ 32
 
@@ -51,6 +52,7 @@ decoder_of words endpoint =
 abbrev pub head_size : ℕ
 head_size = 0x10
 
+-- the bytes of a decoder's registers
 abbrev pub decoder_size : ℕ
 decoder_size = 0x20
 
@@ -62,24 +64,31 @@ global_control = 4
 abbrev pub base_low : ℕ
 base_low = 0
 
+-- the place of the upper half of the base
 abbrev pub base_high : ℕ
 base_high = 1
 
+-- the place of the lower half of the size
 abbrev pub size_low : ℕ
 size_low = 2
 
+-- the place of the upper half of the size
 abbrev pub size_high : ℕ
 size_high = 3
 
+-- the place of the control word
 abbrev pub control : ℕ
 control = 4
 
+-- the place of the lower half of a port's targets or an endpoint's skip
 abbrev pub tail_low : ℕ
 tail_low = 5
 
+-- the place of the upper half of these
 abbrev pub tail_high : ℕ
 tail_high = 6
 
+-- the place of the word that is reserved
 abbrev pub reserved : ℕ
 reserved = 7
 
@@ -91,6 +100,7 @@ offset_of i place = head_size + decoder_size * i + 4 * place
 abbrev pub index_at : ℕ → ℕ
 index_at off = (off - head_size) / decoder_size
 
+-- the place of the word at an offset among those of its decoder
 abbrev pub place_at : ℕ → ℕ
 place_at off = (off - head_size) % decoder_size / 4
 

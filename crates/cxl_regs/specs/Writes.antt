@@ -17,6 +17,7 @@ pub record AfterWrite : Type 0 where
   pub block : Registers
   pub effect : Effect
 
+-- a write that changes nothing
 abbrev pub dropped : Registers → AfterWrite
 dropped block = record { block = block; effect = Dropped }
 
@@ -24,6 +25,7 @@ dropped block = record { block = block; effect = Dropped }
 abbrev pub with_decoder : Registers → ℕ → Decoder → Registers
 with_decoder block i d = record block { decoders = slice_set block.decoders i d }
 
+-- one of them is committed
 abbrev pub any_committed : List Decoder → Bool
 any_committed ds = list_any (λ d. d.committed) ds
 
@@ -31,6 +33,7 @@ any_committed ds = list_any (λ d. d.committed) ds
 abbrev pub with_low : ℕ → ℕ → ℕ
 with_low n v = n / 2 ^ 32 * 2 ^ 32 + v
 
+-- the number with this upper half
 abbrev pub with_high : ℕ → ℕ → ℕ
 with_high n v = v * 2 ^ 32 + n % 2 ^ 32
 
