@@ -3,10 +3,12 @@ use Rattle.std.specs.Prelude.{ℕ, ◌+◌, nat_le, Bool, ◌&&◌}
 use Rattle.cxl_enc.specs.declared.caps.MemKind.{MemKind}
 use Rattle.cxl_enc.specs.declared.caps.MemKind.TheVariants.{Ram, Pmem}
 
+-- where the partition of a kind of memory starts
 abbrev pub partition_start : MemKind → ℕ → ℕ
 partition_start Ram ram = 0
 partition_start Pmem ram = ram
 
+-- where it ends
 abbrev pub partition_end : MemKind → ℕ → ℕ → ℕ
 partition_end Ram ram pmem = ram
 partition_end Pmem ram pmem = ram + pmem
