@@ -4,16 +4,19 @@ use Rattle.cxl_topo.specs.declared.node.NodeKind.{NodeKind}
 use Rattle.cxl_topo.specs.declared.node.NodeKind.TheVariants.{Bridge, Switch, Endpoint}
 use Rattle.cxl_topo.specs.declared.node.Capacity.{Capacity}
 
+-- it is a host bridge
 abbrev pub is_bridge : NodeKind → Bool
 is_bridge (Bridge uid) = true
 is_bridge Switch = false
 is_bridge (Endpoint capacity) = false
 
+-- it is a switch
 abbrev pub is_switch : NodeKind → Bool
 is_switch (Bridge uid) = false
 is_switch Switch = true
 is_switch (Endpoint capacity) = false
 
+-- it is an endpoint
 abbrev pub is_endpoint : NodeKind → Bool
 is_endpoint (Bridge uid) = false
 is_endpoint Switch = false

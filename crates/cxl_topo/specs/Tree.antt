@@ -17,15 +17,19 @@ pub record Tree : Type 0 where
 abbrev pub holds_at : List Node → ℕ → (Node → Bool) → Bool
 holds_at nodes i test = option_map_or test (slice_get nodes i) false
 
+-- node i forwards
 abbrev pub forwards_at : List Node → ℕ → Bool
 forwards_at nodes i = holds_at nodes i (λ node. node.forwards)
 
+-- node i is a host bridge
 abbrev pub is_bridge_at : List Node → ℕ → Bool
 is_bridge_at nodes i = holds_at nodes i (λ node. is_bridge node.kind)
 
+-- node i is a switch
 abbrev pub is_switch_at : List Node → ℕ → Bool
 is_switch_at nodes i = holds_at nodes i (λ node. is_switch node.kind)
 
+-- node i is an endpoint
 abbrev pub is_endpoint_at : List Node → ℕ → Bool
 is_endpoint_at nodes i = holds_at nodes i (λ node. is_endpoint node.kind)
 
@@ -33,6 +37,7 @@ is_endpoint_at nodes i = holds_at nodes i (λ node. is_endpoint node.kind)
 abbrev pub is_port_at : List Node → ℕ → Bool
 is_port_at nodes i = holds_at nodes i (λ node. not (is_endpoint node.kind))
 
+-- the name of node i
 abbrev pub name_at : List Node → ℕ → Option (List ℕ)
 name_at nodes i = option_map (λ node. node.name) (slice_get nodes i)
 
@@ -44,10 +49,11 @@ uid_at nodes i = option_and_then (λ node. uid_of node.kind) (slice_get nodes i)
 abbrev pub device_at : List Node → ℕ → Option Capacity
 device_at nodes i = option_and_then (λ node. capacity_of node.kind) (slice_get nodes i)
 
--- the bytes of ram and of pmem of its device; a port has none
+-- the bytes of volatile memory of its device; a port has none
 abbrev pub device_ram : List Node → ℕ → ℕ
 device_ram nodes i = option_map_or (λ c. c.ram) (device_at nodes i) 0
 
+-- the bytes of persistent memory of its device; a port has none
 abbrev pub device_pmem : List Node → ℕ → ℕ
 device_pmem nodes i = option_map_or (λ c. c.pmem) (device_at nodes i) 0
 
@@ -57,6 +63,7 @@ parent_of nodes i = option_and_then (λ node. node.parent) (slice_get nodes i)
 
 -- ---- finding a node
 
+-- the node has this name
 abbrev pub is_named : List ℕ → Node → Bool
 is_named name node = bytes_eq node.name name
 
@@ -64,6 +71,7 @@ is_named name node = bytes_eq node.name name
 abbrev pub node_named : List Node → List ℕ → Option ℕ
 node_named nodes name = position (is_named name) nodes
 
+-- the node is the bridge of this UID
 abbrev pub is_bridge_with : ℕ → Node → Bool
 is_bridge_with uid node = option_map_or (λ own. own == uid) (uid_of node.kind) false
 
