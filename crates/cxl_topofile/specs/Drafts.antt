@@ -22,9 +22,11 @@ known_in table allowed = if has_unknown table allowed then Err (missing keys.Unk
 abbrev pub bridge_keys : List Key
 bridge_keys = keys.Name ∷ keys.Uid ∷ keys.Decoders ∷ keys.Targets ∷ keys.Low ∷ keys.High ∷ keys.Passthrough ∷ []
 
+-- the keys of a switch
 abbrev pub switch_keys : List Key
 switch_keys = keys.Name ∷ keys.Parent ∷ keys.Port ∷ keys.Decoders ∷ keys.Targets ∷ keys.Low ∷ keys.High ∷ keys.Passthrough ∷ []
 
+-- the keys of an endpoint
 abbrev pub endpoint_keys : List Key
 endpoint_keys =
     keys.Name ∷ keys.Parent ∷ keys.Port ∷ keys.Decoders ∷ keys.Low ∷ keys.High ∷ keys.Ways3 ∷ keys.Ways16 ∷ keys.Ram ∷ keys.Pmem ∷ []
@@ -54,6 +56,7 @@ endpoint_cap_of table = do
 abbrev pub port_of : Members → Result ℕ Wrong
 port_of table = number_at table keys.Port None (is_within 0 255)
 
+-- the bridge of a table, or its first fault
 unfoldable pub bridge_of : Members → Result Node Wrong
 bridge_of table = do
   known ← known_in table bridge_keys
@@ -62,6 +65,7 @@ bridge_of table = do
   caps ← port_caps_of table
   Ok (record { name = name; kind = kinds.Bridge uid; parent = None; cap = caps.cap; forwards = caps.forwards })
 
+-- the switch of a table, or its first fault
 unfoldable pub switch_of : Members → Result Draft Wrong
 switch_of table = do
   known ← known_in table switch_keys
@@ -71,6 +75,7 @@ switch_of table = do
   caps ← port_caps_of table
   Ok (record { name = name; kind = kinds.Switch; parent = parent; port = port; cap = caps.cap; forwards = caps.forwards })
 
+-- the endpoint of a table, or its first fault
 unfoldable pub endpoint_of : Members → Result Draft Wrong
 endpoint_of table = do
   known ← known_in table endpoint_keys

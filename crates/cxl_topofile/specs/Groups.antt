@@ -22,14 +22,17 @@ use Rattle.cxl_topofile.specs.Drafts.{known_in, bridge_of, switch_of, endpoint_o
 
 -- ---- faults with their places
 
+-- the fault of its cause at this place
 abbrev pub by_cause : Cause → Place → TopoFault
 by_cause causes.Missing place = faults.Key place
 by_cause causes.Kind place = faults.Kind place
 by_cause causes.Range place = faults.Range place
 
+-- what is wrong in the table at this index of a section, as a fault
 abbrev pub fault_at : Section → ℕ → Wrong → TopoFault
 fault_at section index wrong = by_cause wrong.cause (record { section = section; index = index; key = wrong.key })
 
+-- what was read, or the fault at its place
 abbrev pub placed : {A : Type 0} → Section → ℕ → Result A Wrong → Result A TopoFault
 placed section index (Ok x) = Ok x
 placed section index (Err wrong) = Err (fault_at section index wrong)
@@ -39,16 +42,19 @@ abbrev pub FailsAs : {A : Type 0} → TopoFault → Result A TopoFault → Type 
 FailsAs faults.Memory read = Unit {0}
 FailsAs fault read = read ≡ Err fault
 
+-- it is read as this is, seen so; or with a fault that is told as this one
 abbrev pub Reads : {A B : Type 0} → (A → B) → Result A TopoFault → Result B TopoFault → Type 0
 Reads view (Ok x) read = read ≡ Ok (view x)
 Reads view (Err fault) read = FailsAs fault read
 
 -- ---- the tables of one kind
 
+-- the section in which a group stands
 abbrev pub section_of : Group → Section
 section_of groups.Switches = sections.Switch
 section_of groups.Endpoints = sections.Endpoint
 
+-- a node of a group, as its table says it
 abbrev pub draft_of : Group → Members → Result Draft Wrong
 draft_of groups.Switches = switch_of
 draft_of groups.Endpoints = endpoint_of
@@ -63,6 +69,7 @@ all_of section read index (first ∷ others) = do
 
 -- ---- the top table
 
+-- each of them is a table
 abbrev pub are_tables : Items → Bool
 are_tables no_items = true
 are_tables (item value rest) = is_some (as_table value) && are_tables rest
@@ -79,6 +86,7 @@ tables_at top key = do
   items ← value_at as_array top key (Some no_items)
   if are_tables items then Ok items else Err (of_other_kind key)
 
+-- the keys of the file
 abbrev pub top_keys : List Key
 top_keys = keys.Frames ∷ keys.Bridge ∷ keys.Switch ∷ keys.Endpoint ∷ []
 
@@ -86,12 +94,14 @@ top_keys = keys.Frames ∷ keys.Bridge ∷ keys.Switch ∷ keys.Endpoint ∷ []
 abbrev pub default_frames : ℕ
 default_frames = 65536
 
+-- what stands under the keys of the file
 pub record Top : Type 0 where
   pub frames : ℕ
   pub bridges : Items
   pub switches : Items
   pub endpoints : Items
 
+-- what stands under the keys of the file, or its first fault
 unfoldable pub top_of : Members → Result Top Wrong
 top_of top = do
   known ← known_in top top_keys

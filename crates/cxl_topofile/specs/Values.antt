@@ -11,6 +11,7 @@ use Rattle.cxl_topofile.specs.Keys.{key_text}
 use Rattle.cxl_topofile.specs.Wrongs.{missing, of_other_kind, out_of_range}
 
 infixl 10 ◌>>=◌
+-- what is read by a value that was read; else its fault
 abbrev pub ◌>>=◌ : {A B E : Type 0} → Result A E → (A → Result B E) → Result B E
 (Ok x) >>= f = f x
 (Err e) >>= f = Err e
@@ -25,6 +26,7 @@ abbrev pub taken_or : {A : Type 0} → (Data → Option A) → Key → Option A 
 taken_or take key default None = ok_or default (missing key)
 taken_or take key default (Some value) = ok_or (take value) (of_other_kind key)
 
+-- the value of a key, or its default where the key is missing and has one
 abbrev pub value_at : {A : Type 0} → (Data → Option A) → Members → Key → Option A → Result A Wrong
 value_at take table key default = taken_or take key default (get_member (key_text key) table)
 
@@ -32,10 +34,12 @@ value_at take table key default = taken_or take key default (get_member (key_tex
 abbrev pub within : {A : Type 0} → Key → (A → Bool) → A → Result A Wrong
 within key test x = if test x then Ok x else Err (out_of_range key)
 
+-- a number that is not negative
 abbrev pub natural : Key → ℤ → Result ℕ Wrong
 natural key (pos n) = Ok n
 natural key (negsuc n) = Err (out_of_range key)
 
+-- it lies between these two, both included
 abbrev pub is_within : ℕ → ℕ → ℕ → Bool
 is_within low high n = nat_le low n && nat_le n high
 
