@@ -45,5 +45,6 @@ verdict_by judge before c =
     first_verdict (position (λ w. ranges_meet c.base c.size w.base w.size) before)
     (find (is_no_bridge judge.bridges.items) c.targets) (maps_known judge c.gran) c
 
+-- a window as the judge sees it, behind those before it
 abbrev pub window_by : Judge → List WindowFields → CfmwsFields → WindowFields
 window_by judge before c = window_with (length before) (maps_of (maps_known judge c.gran) c) (verdict_by judge before c) c

@@ -30,6 +30,7 @@ position_of w h = position_by (bits_of w.ways) (third_of w.ways) (low_of w h) (c
 abbrev pub holds : WindowFields → ℕ → Bool
 holds w h = nat_le w.base h && nat_lt h (w.base + w.size)
 
+-- the window can be used
 abbrev pub is_usable : Verdict → Bool
 is_usable Usable = true
 is_usable Align = false

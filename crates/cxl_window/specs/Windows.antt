@@ -14,6 +14,7 @@ use Rattle.cxl_window.specs.Fields.{WindowFields, IsWindow, IsUsable}
 
 -- ---- the table's records
 
+-- the window's record, where it is one
 abbrev pub cfmws_in : Record → Option CfmwsFields
 cfmws_in (Chbs c) = None
 cfmws_in (Cfmws c) = Some c
@@ -27,6 +28,7 @@ is_cxl2_bridge uid (Cfmws c) = false
 is_cxl2_bridge uid (Cxims c) = false
 is_cxl2_bridge uid (Other c) = false
 
+-- the record of XOR maps, where it is one
 abbrev pub cxims_in : Record → Option CximsFields
 cxims_in (Chbs c) = None
 cxims_in (Cfmws c) = None
@@ -37,11 +39,13 @@ cxims_in (Other c) = None
 abbrev pub first_maps : ℕ → List CximsFields → Option (List ℕ)
 first_maps gran tables = option_map (λ c. c.maps) (find (λ c. c.gran == gran) tables)
 
+-- the maps of the first record for this granularity
 abbrev pub maps_in : ℕ → List Record → Option (List ℕ)
 maps_in gran records = first_maps gran (filter_map cxims_in records)
 
 -- ---- one window
 
+-- the ways of a window's record
 abbrev pub cfmws_ways : CfmwsFields → ℕ
 cfmws_ways c = unwrap_or (ways_of c.ways) 0
 
@@ -119,6 +123,7 @@ window_of records uids before c =
 
 -- ---- the windows in table order
 
+-- the windows of records, behind those before them
 abbrev pub windows_from : List Record → Option (List ℕ) → List CfmwsFields → List CfmwsFields → List WindowFields
 windows_from records uids before [] = []
 windows_from records uids before (c ∷ cs) = window_of records uids before c ∷ windows_from records uids (before ++ c ∷ []) cs
