@@ -19,7 +19,7 @@ use Rattle.cxl_io.specs.Sink.{SinkState}
 use Rattle.cxl_machine.specs.Machine.{Machine}
 use Rattle.cxl_machine.specs.Sound.{Opens}
 use Rattle.cxl_model.specs.System.{System, system_of, bridge_uids}
-use Rattle.cxl_held.specs.Sessions.{IsHeldAt, IsKept, IsHostOf, IsOpened, IsRefused, HasNoFiles, IsUnopened, no_host, refused, unread}
+use Rattle.cxl_held.specs.Sessions.{IsHeldAt, IsKept, IsHostOf, IsOpened, IsRefused, HasNoFiles, OpensNone, no_host, refused, unread}
 use Rattle.cxl_held.specs.declared.held.Held.{Held}
 
 module _ (table : CedtFields) (tree : Tree) (blocks : List Registers) (windows : List WindowFields) (are : windows ≡ windows_of table.records (Some (bridge_uids tree.nodes))) where
@@ -36,12 +36,12 @@ module _ (cedt topo : List ℕ) (image : Option (List ℕ)) (before after : Fetc
   opened_over s frames host (Err status) is = tt
 
   pub refused_over : (s : System) (frames : ℕ) → IsHostOf before.told cedt topo image s frames → (result : Result Held Status)
-      → IfErr result (λ status. IsRefused s status old new) → IfErr result (λ status. IsUnopened cedt topo image before after status old new)
+      → IfErr result (λ status. IsRefused s status old new) → IfErr result (λ status. OpensNone cedt topo image before after status old new)
   refused_over s frames host (Ok held) is = tt
   refused_over s frames host (Err status) is = refused s frames host is
 
   pub stopped : (X : Type 0) (why : Stop) (status : Status) → IsStop (HasNoFiles cedt topo image before after) X why → Finishes (Err why) status old new
-      → IsUnopened cedt topo image before after status old new
+      → OpensNone cedt topo image before after status old new
   stopped X (stop.Outcome outcome) status is ends = no_host outcome is ends
   stopped X stop.Memory status is ends = unread ends.0 ends.1
 

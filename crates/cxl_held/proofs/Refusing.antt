@@ -13,20 +13,18 @@ use Rattle.cxl_machine.specs.declared.fault.OpenFault.TheVariants as faults
 use Rattle.cxl_model.specs.Listed.{region_limit}
 use Rattle.cxl_model.specs.System.{System}
 use Rattle.cxl_opening.specs.Opening.{HasRegions}
-use Rattle.cxl_shell.specs.commands.Script.{bus_failed}
-use Rattle.cxl_held.specs.Sessions.{IsRefused, full, bus, unmade}
+use Rattle.cxl_held.specs.Sessions.{IsRefused, full, unmade}
 
 module _ (s : System) (old new : SinkState) (status : Status) where
   pub refused_by : (fault : OpenFault) (answer : Result Outcome Stop) → ((b : Breach) → fault ≡ faults.Breach b → ⊥)
       → ((n : ℕ) → fault ≡ faults.Full n → HasRegions s n × (region_limit < n))
       → ((n : ℕ) → fault ≡ faults.Full n → answer ≡ Ok too_many_regions)
-      → (fault ≡ faults.Bus → answer ≡ Ok bus_failed)
+      → (fault ≡ faults.Bus → ⊥)
       → (fault ≡ faults.Memory → answer ≡ Err stop.Memory)
       → Finishes answer status old new → IsRefused s status old new
-  refused_by (faults.Breach b) answer whole many told failed out ends = absurd (whole b refl)
-  refused_by (faults.Full n) answer whole many told failed out ends =
+  refused_by (faults.Breach b) answer whole many told never out ends = absurd (whole b refl)
+  refused_by (faults.Full n) answer whole many told never out ends =
       full n (many n refl).0 (many n refl).1 (subst (λ (a : Result Outcome Stop). Finishes a status old new) (told n refl) ends)
-  refused_by faults.Bus answer whole many told failed out ends =
-      bus (subst (λ (a : Result Outcome Stop). Finishes a status old new) (failed refl) ends)
-  refused_by faults.Memory answer whole many told failed out ends =
+  refused_by faults.Bus answer whole many told never out ends = absurd (never refl)
+  refused_by faults.Memory answer whole many told never out ends =
       let written = subst (λ (a : Result Outcome Stop). Finishes a status old new) (out refl) ends in unmade written.0 written.1

@@ -21,7 +21,6 @@ use Rattle.cxl_model.specs.System.{System}
 use Rattle.cxl_opening.specs.Opening.{HasRegions}
 use Rattle.cxl_regs.specs.Registers.{Registers}
 use Rattle.cxl_session.specs.Standing.{IsAt}
-use Rattle.cxl_shell.specs.commands.Script.{bus_failed}
 use Rattle.cxl_topo.specs.Tree.{Tree}
 use Rattle.cxl_turns.specs.Going.{HasGoneOn}
 use Rattle.cxl_held.specs.Trails.{trailed_state, emptied}
@@ -44,12 +43,12 @@ HasAnswered m asked turns old new =
 
 -- ---- where none opens
 
--- Over this host no session opened: its image has a breach, or more regions than may live; or its registers failed; each is
--- told, or the sink failed; or memory ran out, and nothing is written.
+-- Over this host no session opened: its image has a breach, or more regions than may live, which is told, or the sink
+-- failed; or memory ran out, and nothing is written. Its registers never fail so early: their trail has room for what opening
+-- sends.
 pub data IsRefused (s : System) (status : Status) (old new : SinkState) : Type 0 where
   breach : (outcome : Outcome) → TellsBreach s outcome → Ends outcome status old new → IsRefused s status old new
   full : (n : ℕ) → HasRegions s n → region_limit < n → Ends too_many_regions status old new → IsRefused s status old new
-  bus : Ends bus_failed status old new → IsRefused s status old new
   unmade : status ≡ Memory → WritesNothing old new → IsRefused s status old new
 
 -- the files are read as this host: after reset, or with the image of a file
@@ -71,9 +70,9 @@ HasNoFiles cedt topo None old new outcome = HasNoResetHost cedt topo old new out
 HasNoFiles cedt topo (Some image) old new outcome = HasNoHost cedt topo image old new outcome
 
 -- No session opened: a file has no reading, which is told; or none opened over the host of the files; or memory ran out.
-pub data IsUnopened (cedt topo : List ℕ) (image : Option (List ℕ)) (before after : FetchState) (status : Status) (old new : SinkState) : Type 0 where
+pub data OpensNone (cedt topo : List ℕ) (image : Option (List ℕ)) (before after : FetchState) (status : Status) (old new : SinkState) : Type 0 where
   no_host : (outcome : Outcome) → HasNoFiles cedt topo image before after outcome → Ends outcome status old new
-      → IsUnopened cedt topo image before after status old new
+      → OpensNone cedt topo image before after status old new
   refused : (s : System) (frames : ℕ) → IsHostOf before.told cedt topo image s frames → IsRefused s status old new
-      → IsUnopened cedt topo image before after status old new
-  unread : status ≡ Memory → WritesNothing old new → IsUnopened cedt topo image before after status old new
+      → OpensNone cedt topo image before after status old new
+  unread : status ≡ Memory → WritesNothing old new → OpensNone cedt topo image before after status old new

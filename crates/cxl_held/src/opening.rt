@@ -5,7 +5,7 @@ ghost use Rattle.cxl_machine.specs.Machine.{Machine};
 ghost use Rattle.cxl_machine.specs.Sound.{Opens};
 ghost use Rattle.cxl_model.specs.System.{IsSystem, system_of};
 ghost use Rattle.cxl_model.specs.Accepted.{IsAccepted};
-ghost use Rattle.cxl_held.specs.Sessions.{IsHeldAt, IsKept, IsOpened, IsRefused, IsUnopened};
+ghost use Rattle.cxl_held.specs.Sessions.{IsHeldAt, IsKept, IsOpened, IsRefused, OpensNone};
 
 use crate::held::Held;
 use crate::trail_bus::TrailBus;
@@ -33,7 +33,7 @@ impl Held {
         ensures kept { IfOk result IsKept }
         ensures quiet { OnOk result (out.new ≡ out.old) }
         // Or none opens, for a cause of which the text is written.
-        ensures unopened { IfErr result (λ status. IsUnopened cedt.now topo.now None
+        ensures unopened { IfErr result (λ status. OpensNone cedt.now topo.now None
             (F.state files.old) (F.state files.new) status (K.state out.old) (K.state out.new)) }
         ensures files { (F.state files.old).faults ≤ (F.state files.new).faults }
         ensures sink { (K.state out.old).faults ≤ (K.state out.new).faults }
@@ -60,7 +60,7 @@ impl Held {
         ensures kept { IfOk result IsKept }
         ensures quiet { OnOk result (out.new ≡ out.old) }
         // Or none opens, for a cause of which the text is written.
-        ensures unopened { IfErr result (λ status. IsUnopened cedt.now topo.now (Some image.now)
+        ensures unopened { IfErr result (λ status. OpensNone cedt.now topo.now (Some image.now)
             (F.state files.old) (F.state files.new) status (K.state out.old) (K.state out.new)) }
         ensures files { (F.state files.old).faults ≤ (F.state files.new).faults }
         ensures sink { (K.state out.old).faults ≤ (K.state out.new).faults }

@@ -1,8 +1,10 @@
 //! The simulator's bus with the words that it was sent.
 
-ghost use Rattle.std.specs.Prelude.{◌≡◌, ◌<◌, ◌≤◌, true, false, [], length, Some, None, IfOk, OnOk, OnErr, is_err};
+ghost use Rattle.std.specs.Prelude.{◌≡◌, ◌+◌, ◌<◌, ◌≤◌, min, false, [], ◌∷◌, length, Some, IfOk, OnOk, OnErr, is_err};
+ghost use Rattle.cxl_bus.specs.Failed.{place_limit, HasFailedAt};
+ghost use Rattle.cxl_enc.specs.Counters.{next_count};
 ghost use Rattle.cxl_regs.specs.Blocks.{IsPlace, HasPlacesOf, word_in};
-ghost use Rattle.cxl_held.specs.Trails.{emptied, is_full, after_write};
+ghost use Rattle.cxl_held.specs.Trails.{emptied, is_full, after_write, trailed_state};
 
 use cxl_bus::{Regs, Sent, SimBus};
 use cxl_enc::{Failed, Memory};
@@ -13,12 +15,16 @@ use std::marker::Model;
 /// How many words the trail has room for.
 const ROOM: usize = 65_536;
 
+/// How many writes that found the trail full are counted by place.
+const PLACES: usize = 65_536;
+
 /// The simulator's bus, which tells the words that it was sent since its trail was last emptied. It fails at a write
-/// behind 65,536 of them, and nowhere else; it tells no place of a fault.
+/// behind 65,536 of them, and nowhere else; of the first 65,536 calls that failed it tells that it was there.
 #[derive(Drop)]
 pub struct TrailBus {
     bus: SimBus,
     trail: Vec<Sent>,
+    overruns: usize,
     faults: u64,
 }
 
@@ -29,20 +35,22 @@ impl Model for TrailBus {
 
     ghost Value = { Trailed };
 
-    ghost view = { λ b. record { blocks = b.bus; trail = b.trail.items; faults = b.faults } };
+    ghost view = { λ b. record { blocks = b.bus; trail = b.trail.items; overruns = b.overruns; faults = b.faults } };
 
-    // Where there are blocks to read and write, the trail has all its room.
-    ghost invariant = { λ b. 0 < length b.bus → 65536 ≤ vec_capacity b.trail };
+    // Where there are blocks to read and write, the trail has all its room; and neither it nor the count goes past that.
+    ghost invariant = { λ b. (0 < length b.bus → 65536 ≤ vec_capacity b.trail)
+        × (length b.trail.items ≤ 65536) × (b.overruns ≤ 65536) };
 }
 
 impl TrailBus {
     /// A bus with no block. Takes no memory.
     pub fn new(alloc: Global) -> TrailBus
-        ensures { result ≡ record { blocks = []; trail = []; faults = 0 } }
+        ensures { result ≡ record { blocks = []; trail = []; overruns = 0; faults = 0 } }
     {
         TrailBus {
             bus: SimBus::new(alloc),
             trail: Vec::new(alloc),
+            overruns: 0,
             faults: 0,
         }
     }
@@ -59,6 +67,15 @@ impl TrailBus {
         ensures { self.new ≡ emptied self.old }
     {
         self.trail.clear();
+        self.overruns = 0;
+    }
+
+    /// Counts a fault, and that it was behind all the words that there is room for.
+    fn overrun(&mut self)
+        ensures { self.new ≡ record self.old { overruns = min (self.old.overruns + 1) place_limit; faults = next_count self.old.faults } }
+    {
+        self.faults = self.faults.saturating_add(1);
+        self.overruns = (self.overruns + 1).min(PLACES);
     }
 }
 
@@ -68,12 +85,13 @@ impl Regs for TrailBus {
     ghost state = { trailed_state };
 
     fn power_on(&mut self, alloc: Global, start: &[Block]) -> Result<(), Memory>
-        ensures ok { OnOk result (self.new ≡ record self.old { blocks = start.now; trail = [] }) }
+        ensures ok { OnOk result (self.new ≡ record (emptied self.old) { blocks = start.now }) }
         ensures as_before { OnErr result (self.new ≡ self.old) }
     {
         let trail = Vec::with_capacity(alloc, ROOM)?;
         self.bus.power_on(alloc, start)?;
         self.trail = trail;
+        self.overruns = 0;
         Ok(())
     }
 
@@ -93,9 +111,11 @@ impl Regs for TrailBus {
         ensures after { self.new ≡ after_write self.old node off value }
         ensures same_places { HasPlacesOf self.old.blocks self.new.blocks }
         ensures counts { self.old.faults ≤ self.new.faults }
+        // A call that failed failed behind all the words that were sent, which are as many as there is room for.
+        ensures failed { OnErr result (HasFailedAt (trailed_state self.old) (trailed_state self.new) (0 ∷ [])) }
     {
         if self.trail.len() >= ROOM {
-            self.faults = self.faults.saturating_add(1);
+            self.overrun();
             return Err(Failed);
         }
         self.bus.write32(node, off, value)?;

@@ -1,6 +1,7 @@
 use Rattle.std.proofs.Common.{Err, ap}
 use Rattle.cxl_model.specs.System.{system_of}
 use Rattle.cxl_held.proofs.Refusing.{refused_by}
+use Rattle.cxl_held.proofs.TrailRoom.{never_full}
 use Rattle.cxl_held.proofs.opening.open_accepted.Goals as goal
 
 pub unopened-requires : goal.unopened-requires
@@ -15,4 +16,5 @@ returns-in-Err-clause-refused g c =
     refused_by s (g.K.Sink.state c.args.out.now) (g.K.Sink.state c.finish.new.out) c.finish.result c.in-Err.fault c.unopened.result
     (λ b is. c.accepted_or_breach.ensures.not_both s c.requires.accepted (b.rule, b.node, b.decoder, c.in-Err.ensures.breach b (ap Err is)))
     (λ n is. c.in-Err.ensures.full n (ap Err is))
-    c.unopened.ensures.full c.unopened.ensures.bus c.unopened.ensures.memory c.finish.ensures.finishes
+    c.unopened.ensures.full (λ is. never_full s _ _ c.requires.system (c.in-Err.ensures.half_enabled (ap Err is)).0)
+    c.unopened.ensures.memory c.finish.ensures.finishes
