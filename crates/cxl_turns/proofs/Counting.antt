@@ -1,6 +1,6 @@
 -- Commands that were carried out and counted so far, and one more.
-use Rattle.std.proofs.Common.{◌≡◌, ℕ, ◌+◌, Bool, true, false, Result, Ok, Err, List, [], ◌∷◌, ◌++◌, take, refl, sym, ap, subst, ◌∙◌, arith, if◌then◌else◌}
-use Rattle.std.specs.Prelude.{map, sum_by, count_by, OnErr}
+use Rattle.std.proofs.Common.{◌≡◌, ℕ, ◌+◌, Bool, true, false, Ok, List, [], ◌∷◌, ◌++◌, take, refl, sym, ap, subst, ◌∙◌, arith, if◌then◌else◌}
+use Rattle.std.specs.Prelude.{map, sum_by, count_by}
 use Rattle.std.proofs.lemmas.List.{map-append}
 use Rattle.std.proofs.lemmas.List.Sums.{sum_by-append}
 use Rattle.cxl_bus.specs.RegsState.{RegsState}
@@ -87,7 +87,3 @@ pub stands_there : (n : ℕ) (commands : List Command) (start mid : SessionState
     → AreCounted n commands start mid old now before between counts → Stands start old before → Stands mid now between
 stands_there n commands start mid old now before between counts so_far (m, at) =
     let (turns, gone, is) = so_far.each m at in (machine_after m turns, gone.at)
-
-pub on_err : {T E : Type 0} (P : Type 0) (result : Result T E) → P → OnErr result P
-on_err P (Ok done) holds = tt
-on_err P (Err failed) holds = holds

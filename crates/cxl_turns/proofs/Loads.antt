@@ -38,7 +38,7 @@ use Rattle.cxl_machine.specs.Accesses.{offset_in, store_into, frames_wanted, Ans
 use Rattle.cxl_machine.specs.Reports.{AnswersShow, AnswersPoison, TellsPoison}
 use Rattle.cxl_machine.specs.Reports as reports
 use Rattle.cxl_machine.specs.Requests as requests
-use Rattle.cxl_machine.specs.Requests.{busy, name_taken, regions_full, no_region, locked, not_last, spot_of, refusal_of_create, refusal_of_release, release_named, job_unless, asked_release, job_of_plan, AsksUnrefused, AsksUnless, AsksCreate}
+use Rattle.cxl_machine.specs.Requests.{busy, name_taken, regions_full, no_region, locked, not_last, spot_of, refusal_of_create, refusal_of_release, release_named, job_unless, asked_release, AsksUnrefused, AsksUnless, AsksCreate}
 use Rattle.cxl_machine.specs.Regions.{CarriesOutWhole, AnswersWhole, begin_answer, ended_reply, ended_answer, stepped_answer, Steps, Aborts, OfPending}
 use Rattle.cxl_machine.specs.Copies.{for_two, copy_between, frames_for, pieces_of}
 use Rattle.cxl_machine.specs.Answers.{Answers}

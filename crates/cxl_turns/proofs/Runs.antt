@@ -29,8 +29,8 @@ use Rattle.cxl_session.specs.State.{SessionState}
 use Rattle.cxl_session.specs.Standing.{ForEachMachine}
 use Rattle.cxl_turns.specs.declared.endings.Ending.{Ending}
 use Rattle.cxl_turns.specs.declared.endings.Ending.TheVariants as endings
-use Rattle.cxl_turns.specs.declared.stops.Stop.{Stop}
-use Rattle.cxl_turns.specs.declared.stops.Stop.TheVariants as stops
+use Rattle.cxl_turns.specs.declared.stops.LineStop.{LineStop}
+use Rattle.cxl_turns.specs.declared.stops.LineStop.TheVariants as stops
 use Rattle.cxl_turns.specs.Going.{HasGoneOn}
 use Rattle.cxl_turns.specs.Endings.{StopsReading, IsCutBehind, EndsLines, read_out, reply_cut, runs_out}
 use Rattle.cxl_turns.specs.inner.Carried.{IsAnswered, IsCutOff, IsLeft}
@@ -212,7 +212,7 @@ module _ (reader next : Reader) (start now later : Stage) (run : HaveRun reader 
 -- ---- what a line came to, by its result
 
 -- the reader has passed on one line more, and this is what it came to
-pub record Took (passed : List (List ℕ)) (next : Reader) (start now later : Stage) (result : Result (Unit {0}) Stop) : Type 0 where
+pub record Took (passed : List (List ℕ)) (next : Reader) (start now later : Stage) (result : Result (Unit {0}) LineStop) : Type 0 where
   pub asked : List Asked
   pub one : ReadsOne passed next start.script later.script asked
   pub answered : OnOk result (EachFrom now (λ m. IsAnswered m asked later.session now.regs later.regs later.media now.sink later.sink))
@@ -223,7 +223,7 @@ pub record Took (passed : List (List ℕ)) (next : Reader) (start now later : St
   pub bus : now.regs.faults ≤ later.regs.faults
 
 -- the same where all is known by other names
-pub took_so : (passed : List (List ℕ)) (next : Reader) (start now : Stage) (script : SourceState) (session session' : SessionState) (regs regs' : RegsState) (media media' : MediaState) (sink sink' : SinkState) (result result' : Result (Unit {0}) Stop)
+pub took_so : (passed : List (List ℕ)) (next : Reader) (start now : Stage) (script : SourceState) (session session' : SessionState) (regs regs' : RegsState) (media media' : MediaState) (sink sink' : SinkState) (result result' : Result (Unit {0}) LineStop)
     → session' ≡ session → regs' ≡ regs → media' ≡ media → sink' ≡ sink → result' ≡ result
     → Took passed next start now record { session = session; regs = regs; media = media; script = script; sink = sink } result
     → Took passed next start now record { session = session'; regs = regs'; media = media'; script = script; sink = sink' } result'
@@ -235,14 +235,14 @@ took_so passed next start now script session session' regs regs' media media' si
     (subst (λ s. Took passed next start now record { session = s; regs = regs; media = media; script = script; sink = sink } result) (sym es) took))))
 
 -- what `carry_out_line` and `tell_bad_line` say of one
-pub record Carries (now : Stage) (session : SessionState) (regs : RegsState) (media : MediaState) (told : SinkState) (asked : List Asked) (result : Result (Unit {0}) Stop) : Type 0 where
+pub record Carries (now : Stage) (session : SessionState) (regs : RegsState) (media : MediaState) (told : SinkState) (asked : List Asked) (result : Result (Unit {0}) LineStop) : Type 0 where
   pub answered : OnOk result (EachFrom now (λ m. IsAnswered m asked session now.regs regs media now.sink told))
   pub cut : result ≡ Err stops.Sink → EachFrom now (λ m. IsCutOff m asked session now.regs regs media now.sink told)
   pub left : result ≡ Err stops.Memory → EachFrom now (λ m. IsLeft m session now.regs regs media now.sink told)
   pub sink : now.sink.faults ≤ told.faults
   pub bus : now.regs.faults ≤ regs.faults
 
-pub took_one : (passed : List (List ℕ)) (next : Reader) (start now : Stage) (script : SourceState) (session : SessionState) (regs : RegsState) (media : MediaState) (sink : SinkState) (asked : List Asked) (result : Result (Unit {0}) Stop)
+pub took_one : (passed : List (List ℕ)) (next : Reader) (start now : Stage) (script : SourceState) (session : SessionState) (regs : RegsState) (media : MediaState) (sink : SinkState) (asked : List Asked) (result : Result (Unit {0}) LineStop)
     → ReadsOne passed next start.script script asked → now.script.faults ≤ script.faults → Carries now session regs media sink asked result
     → Took passed next start now record { session = session; regs = regs; media = media; script = script; sink = sink } result
 took_one passed next start now script session regs media sink asked result one source carries = record {
@@ -256,15 +256,15 @@ took_one passed next start now script session regs media sink asked result one s
   bus = carries.bus;
 }
 
-pub on_ok_so : (P Q : Type 0) (result : Result (Unit {0}) Stop) → OnOk result P → (P → Q) → OnOk result Q
+pub on_ok_so : (P Q : Type 0) (result : Result (Unit {0}) LineStop) → OnOk result P → (P → Q) → OnOk result Q
 on_ok_so P Q (Ok done) holds so = so holds
 on_ok_so P Q (Err stop) holds so = tt
 
-ok_of : (P : Type 0) (result : Result (Unit {0}) Stop) (done : Unit {0}) → OnOk result P → result ≡ Ok done → P
+ok_of : (P : Type 0) (result : Result (Unit {0}) LineStop) (done : Unit {0}) → OnOk result P → result ≡ Ok done → P
 ok_of P (Ok done) other holds is = holds
 ok_of P (Err stop) other holds is = absurd (cc)
 
-module _ (reader next : Reader) (start now later : Stage) (result : Result (Unit {0}) Stop) (run : HaveRun reader start now) (took : Took run.passed next start now later result) where
+module _ (reader next : Reader) (start now later : Stage) (result : Result (Unit {0}) LineStop) (run : HaveRun reader start now) (took : Took run.passed next start now later result) where
   pub took_more : (done : Unit {0}) → result ≡ Ok done → later.script.counts_failures_alone ≡ now.script.counts_failures_alone
       → LeavesCount now.script.counts_failures_alone now.script.faults later.script.faults → HaveRun next start later
   took_more done is alone left =

@@ -7,11 +7,11 @@ ghost use Rattle.cxl_script.specs.Grammar.{IsRanged};
 ghost use Rattle.cxl_machine.specs.Machine.{Machine};
 ghost use Rattle.cxl_machine.specs.Scripts.{lines_asked};
 ghost use Rattle.cxl_session.specs.Standing.{IsAt, Stands, ForEachMachine};
-ghost use Rattle.cxl_turns.specs.declared.stops.Stop.TheVariants as stops;
+ghost use Rattle.cxl_turns.specs.declared.stops.LineStop.TheVariants as stops;
 ghost use Rattle.cxl_turns.specs.inner.Carried.{IsAnswered, IsCutOff, IsLeft};
 
 use crate::replies::write_reply;
-use crate::stops::Stop;
+use crate::stops::LineStop;
 use cxl_bus::Regs;
 use cxl_io::Sink;
 use cxl_lines::Lines;
@@ -31,7 +31,7 @@ pub(crate) fn carry_out_line<K: Sink, R: Regs, M: Roll>(
     out: &mut K,
     regs: &mut R,
     media: &mut M,
-) -> Result<(), Stop>
+) -> Result<(), LineStop>
     requires { Stands session.old (R.state regs.old) (M.state media.old) }
     ensures answered { OnOk result (ForEachMachine session.old (R.state regs.old) (M.state media.old) (λ m.
         IsAnswered m (lines_asked (line.now ∷ [])) session.new (R.state regs.old) (R.state regs.new) (M.state media.new)
@@ -49,7 +49,7 @@ pub(crate) fn carry_out_line<K: Sink, R: Regs, M: Roll>(
         Ok(None) => Ok(()),
         Ok(Some(command)) => carry_out_command(alloc, session, &command, lines, out, regs, media),
         Err(LineFault::Bad(fault)) => tell_bad_line(fault, session, lines, out),
-        Err(LineFault::Memory) => Err(Stop::Memory),
+        Err(LineFault::Memory) => Err(LineStop::Memory),
     }
 }
 
@@ -62,7 +62,7 @@ fn carry_out_command<K: Sink, R: Regs, M: Roll>(
     out: &mut K,
     regs: &mut R,
     media: &mut M,
-) -> Result<(), Stop>
+) -> Result<(), LineStop>
     requires stands { Stands session.old (R.state regs.old) (M.state media.old) }
     requires ranged { IsRanged command.now }
     ensures answered { OnOk result (ForEachMachine session.old (R.state regs.old) (M.state media.old) (λ m.
@@ -87,7 +87,7 @@ pub(crate) fn tell_bad_line<K: Sink>(
     session: &Session,
     lines: &mut Lines<0>,
     out: &mut K,
-) -> Result<(), Stop>
+) -> Result<(), LineStop>
     ensures answered { OnOk result ((m : Machine) (regs : RegsState) (media : MediaState) → IsAt session.now regs media m
         → IsAnswered m (Err fault ∷ []) session.now regs regs media (K.state out.old) (K.state out.new)) }
     ensures cut { result ≡ Err stops.Sink → (m : Machine) (regs : RegsState) (media : MediaState) → IsAt session.now regs media m

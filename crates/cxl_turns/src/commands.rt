@@ -1,10 +1,10 @@
-//! Commands, carried out one after the other.
+//! A command, carried out and counted.
 
-ghost use Rattle.std.specs.Prelude.{◌≡◌, ℕ, ◌+◌, ◌-◌, ◌^◌, ◌<◌, ◌≤◌, Ok, List, [], ◌∷◌, map, length, take, All, IfOk, OnOk, OnErr};
+ghost use Rattle.std.specs.Prelude.{◌≡◌, ℕ, ◌+◌, ◌-◌, ◌^◌, ◌<◌, ◌≤◌, Ok, [], ◌∷◌, OnOk, OnErr};
 ghost use Rattle.cxl_script.specs.Grammar.{IsRanged};
 ghost use Rattle.cxl_machine.specs.Scripts.{Turn};
 ghost use Rattle.cxl_session.specs.Standing.{Stands, ForEachMachine};
-ghost use Rattle.cxl_turns.specs.Counts.{counts_of, counted, AreWithin};
+ghost use Rattle.cxl_turns.specs.Counts.{counted, AreWithin};
 ghost use Rattle.cxl_turns.specs.Going.{HasGoneOn};
 
 use crate::counts::{Counts, count};
@@ -14,37 +14,6 @@ use cxl_media::Roll;
 use cxl_script::Command;
 use cxl_session::Session;
 use std::alloc::Global;
-
-/// Carries out commands one after the other, and counts what they are answered. Registers and media hold what the last call on
-/// this session left in them. After `Memory` they are as the command left them before the one that met it. (This project's
-/// rule.) Takes memory.
-pub fn carry_out_commands<R: Regs, M: Roll>(
-    alloc: Global,
-    session: &mut Session,
-    commands: &[Command],
-    regs: &mut R,
-    media: &mut M,
-) -> Result<Counts, Memory>
-    requires stands { Stands session.old (R.state regs.old) (M.state media.old) }
-    requires ranged { All IsRanged commands.now }
-    // So many can be counted.
-    requires few { length commands.now < 2 ^ 32 }
-    // All of them are answered, one after the other, and these are counted.
-    ensures all { IfOk result (λ counts. ForEachMachine session.old (R.state regs.old) (M.state media.old) (λ m. (turns : List Turn)
-        × HasGoneOn m (map (λ command. Ok command) commands.now) turns session.new (R.state regs.old) (R.state regs.new) (M.state media.new)
-        × (counts ≡ counts_of (map (λ (turn : Turn). turn.reply) turns)))) }
-    // Or those before the one that met want of memory.
-    ensures some { OnErr result (ForEachMachine session.old (R.state regs.old) (M.state media.old) (λ m. (count : ℕ) × (turns : List Turn)
-        × HasGoneOn m (map (λ command. Ok command) (take count commands.now)) turns
-        session.new (R.state regs.old) (R.state regs.new) (M.state media.new))) }
-    ensures bus { (R.state regs.old).faults ≤ (R.state regs.new).faults }
-{
-    let mut counts = Counts::none();
-    for command in commands {
-        carry_out_counted(alloc, session, command, &mut counts, regs, media)?;
-    }
-    Ok(counts)
-}
 
 /// Carries out a command, and counts what it is answered, with the counts of those before it. Registers and media hold what the
 /// last call on this session left in them. After `Memory` they are as they were. (This project's rule.) Takes memory.

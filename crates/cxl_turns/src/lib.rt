@@ -1,4 +1,4 @@
-//! Lines of a script and lists of commands, carried out over an open session.
+//! Lines of a script, and commands that are counted, carried out over an open session.
 #![tactic(auto)]
 
 mod carrying;
@@ -9,7 +9,7 @@ mod lines;
 mod replies;
 mod stops;
 
-pub use commands::{carry_out_commands, carry_out_counted};
+pub use commands::carry_out_counted;
 pub use counts::Counts;
 pub use cxl_enc::Memory;
 pub use endings::Ending;

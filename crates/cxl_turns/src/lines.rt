@@ -8,7 +8,7 @@ ghost use Rattle.cxl_turns.specs.Going.{HasGoneOn};
 
 use crate::carrying::{carry_out_line, tell_bad_line};
 use crate::endings::Ending;
-use crate::stops::Stop;
+use crate::stops::LineStop;
 use cxl_bus::Regs;
 use cxl_io::{LineReader, Sink, Source, Taken};
 use cxl_lines::Lines;
@@ -70,8 +70,8 @@ pub fn carry_out_lines<S: Source, K: Sink, R: Regs, M: Roll>(
         };
         match carried {
             Ok(()) => {}
-            Err(Stop::Sink) => return Ending::WriteFault,
-            Err(Stop::Memory) => return Ending::Memory,
+            Err(LineStop::Sink) => return Ending::WriteFault,
+            Err(LineStop::Memory) => return Ending::Memory,
         }
     }
 }

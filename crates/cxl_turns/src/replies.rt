@@ -7,9 +7,9 @@ ghost use Rattle.cxl_topo.specs.declared.node.Node.{Node};
 ghost use Rattle.cxl_reply.specs.declared.reply.Reply.TheVariants as replies;
 ghost use Rattle.cxl_reply.specs.Replies.{reply_text, has_short_text};
 ghost use Rattle.cxl_reply.specs.Conditions.{IsTold};
-ghost use Rattle.cxl_turns.specs.declared.stops.Stop.TheVariants as stops;
+ghost use Rattle.cxl_turns.specs.declared.stops.LineStop.TheVariants as stops;
 
-use crate::stops::Stop;
+use crate::stops::LineStop;
 use cxl_io::{Sink, write_all};
 use cxl_lines::Lines;
 use cxl_reply::Reply;
@@ -23,7 +23,7 @@ pub(crate) fn write_reply<K: Sink>(
     topo: &Topo,
     lines: &mut Lines<0>,
     out: &mut K,
-) -> Result<(), Stop>
+) -> Result<(), LineStop>
     requires { IsTold topo.now.nodes reply.now }
     ensures written { OnOk result (Takes (K.state out.old) (K.state out.new) (reply_text topo.now.nodes reply.now)) }
     ensures unswallowed { OnOk result (LeavesCount (K.state out.old).counts_failures_alone

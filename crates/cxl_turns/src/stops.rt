@@ -4,30 +4,30 @@ use cxl_enc::{Failed, Memory};
 
 /// Why no further line is carried out.
 #[derive(Clone, Copy, PartialEq, Eq)]
-pub(crate) enum Stop {
+pub(crate) enum LineStop {
     /// The sink failed.
     Sink,
     Memory,
 }
 
-impl From<Memory> for Stop {
+impl From<Memory> for LineStop {
     ghost use Rattle.std.specs.Prelude.{◌≡◌};
-    ghost use Rattle.cxl_turns.specs.declared.stops.Stop.TheVariants as stops;
+    ghost use Rattle.cxl_turns.specs.declared.stops.LineStop.TheVariants as stops;
 
     ghost from_gives = { λ _ stop. stop ≡ stops.Memory };
 
-    fn from(_memory: Memory) -> Stop {
-        Stop::Memory
+    fn from(_memory: Memory) -> LineStop {
+        LineStop::Memory
     }
 }
 
-impl From<Failed> for Stop {
+impl From<Failed> for LineStop {
     ghost use Rattle.std.specs.Prelude.{◌≡◌};
-    ghost use Rattle.cxl_turns.specs.declared.stops.Stop.TheVariants as stops;
+    ghost use Rattle.cxl_turns.specs.declared.stops.LineStop.TheVariants as stops;
 
     ghost from_gives = { λ _ stop. stop ≡ stops.Sink };
 
-    fn from(_failed: Failed) -> Stop {
-        Stop::Sink
+    fn from(_failed: Failed) -> LineStop {
+        LineStop::Sink
     }
 }

@@ -1,7 +1,7 @@
 use Rattle.std.proofs.Common.{◌<◌, Err, refl, ap, ◌∙◌, inl, inr, arith}
 use Rattle.cxl_io.specs.declared.line_reader.Taken.TheVariants as readers
 use Rattle.cxl_machine.specs.Turns.{machine_after}
-use Rattle.cxl_turns.specs.declared.stops.Stop.{Stop}
+use Rattle.cxl_turns.specs.declared.stops.LineStop.{LineStop}
 use Rattle.cxl_turns.proofs.FirstLines.{still, falls}
 use Rattle.cxl_turns.proofs.Runs.{Stage, Took, took_one, on_ok_so, run_begins, none_run, reads_line, reads_long, took_so, took_more, took_cut, took_left, run_done, run_fails, run_too_much}
 use Rattle.cxl_turns.proofs.lines.carry_out_lines.Goals as goal
@@ -147,7 +147,7 @@ returns-in-Err-Sink-clause-ends g c =
           })
     ] in
     let which = rw c.in-Err-Sink.is at c.in-Err-Sink.field-0-is in
-    took_cut c.lines.reader c.next.new.self start now later c.match-next.carried c.lines.invariant took (c.in-Err-Sink.is ∙ ap (λ (stop : Stop). Err stop) which)
+    took_cut c.lines.reader c.next.new.self start now later c.match-next.carried c.lines.invariant took (c.in-Err-Sink.is ∙ ap (λ (stop : LineStop). Err stop) which)
 
 pub returns-in-Err-Memory-clause-ends : goal.returns-in-Err-Memory-clause-ends
 returns-in-Err-Memory-clause-ends g c =
@@ -195,7 +195,7 @@ returns-in-Err-Memory-clause-ends g c =
           })
     ] in
     let which = rw c.in-Err-Memory.is at c.in-Err-Memory.field-0-is in
-    took_left c.lines.reader c.next.new.self start now later c.match-next.carried c.lines.invariant took (c.in-Err-Memory.is ∙ ap (λ (stop : Stop). Err stop) which)
+    took_left c.lines.reader c.next.new.self start now later c.match-next.carried c.lines.invariant took (c.in-Err-Memory.is ∙ ap (λ (stop : LineStop). Err stop) which)
     (elim c.match-next.branch [
       | in-Line w ↦ c.next.ensures.unswallowed (λ e. let is = w.in-Line.is in absurd (cc))
       | in-Long w ↦ c.next.ensures.unswallowed (λ e. let is = w.in-Long.is in absurd (cc))
