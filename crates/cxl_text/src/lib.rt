@@ -3,6 +3,7 @@
 
 mod digits;
 mod findings;
+mod fixed;
 mod places;
 mod plan;
 mod poison;
@@ -17,9 +18,10 @@ pub use cxl_enc::Memory;
 pub use cxl_model::Found;
 pub use cxl_reply::Reply;
 pub use findings::{put_breach, put_found};
+pub use fixed::fixed_text;
 pub use plan::{put_plan, put_tail};
 pub use region::put_words;
 pub use short_lines::short;
 pub use short_text::ShortText;
-pub use text::put_reply;
+pub use text::{put_long, put_reply};
 pub use words::{put_address, put_gran};

@@ -4,6 +4,7 @@ ghost use Rattle.std.specs.Prelude.{◌≡◌, ◌++◌, [], false, OnOk, OnErr}
 ghost use Rattle.cxl_reply.specs.Conditions.{IsTold, HasKnownCode};
 ghost use Rattle.cxl_reply.specs.Replies.{reply_text, has_short_text};
 
+use crate::fixed::put_fixed;
 use crate::places::{put_down, put_extents, put_loaded, put_spread, put_up};
 use crate::poison::put_report;
 use crate::refusal::{
@@ -57,8 +58,9 @@ fn put_first(out: &mut Vec<u8>, reply: &Reply, topo: &Topo) -> Result<(), Memory
     put
 }
 
-/// Appends the text of a reply that has no short text.
-fn put_long(out: &mut Vec<u8>, reply: &Reply, topo: &Topo) -> Result<(), Memory>
+/// Appends the text of a reply that has no short text. After `Memory` a part of it may be appended. (This project's rule.)
+/// Takes memory.
+pub fn put_long(out: &mut Vec<u8>, reply: &Reply, topo: &Topo) -> Result<(), Memory>
     requires told { IsTold topo.now.nodes reply.now }
     requires long { has_short_text reply.now ≡ false }
     ensures { OnOk result (out.new.items ≡ out.old.items ++ reply_text topo.now.nodes reply.now) }
@@ -83,13 +85,13 @@ fn put_long(out: &mut Vec<u8>, reply: &Reply, topo: &Topo) -> Result<(), Memory>
         Reply::Full(lack) => put_full(out, lack),
         Reply::SizesDiffer(sizes) => put_sizes(out, sizes),
         Reply::PoisonCount(counted) => put_count(out, counted),
-        Reply::RegionsFull => put_whole_text(out, b"regions full\n"),
-        Reply::Unmapped => put_whole_text(out, b"unmapped\n"),
-        Reply::CrossesEnd => put_whole_text(out, b"crosses end\n"),
-        Reply::NoSet => put_whole_text(out, b"refused no-set\n"),
-        Reply::PoisonShort => put_whole_text(out, b"poison short\n"),
-        Reply::BusRead => put_whole_text(out, b"bus fault read\n"),
-        Reply::NothingPending => put_whole_text(out, b"nothing pending\n"),
+        Reply::RegionsFull
+        | Reply::Unmapped
+        | Reply::CrossesEnd
+        | Reply::NoSet
+        | Reply::PoisonShort
+        | Reply::BusRead
+        | Reply::NothingPending => put_fixed(out, reply),
         Reply::Created(_)
         | Reply::Destroyed(_)
         | Reply::Stored(_)

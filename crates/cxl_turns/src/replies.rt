@@ -1,9 +1,8 @@
 //! How a reply is written.
 
-ghost use Rattle.std.specs.Prelude.{◌≡◌, ◌≢◌, ◌≤◌, List, IfSome, IsSome, Err, false, OnOk};
+ghost use Rattle.std.specs.Prelude.{◌≡◌, ◌≢◌, ◌≤◌, Err, false, OnOk};
 ghost use Rattle.cxl_enc.specs.Faults.{Rose, LeavesCount};
 ghost use Rattle.cxl_io.specs.Sink.{Takes, TakesPrefix};
-ghost use Rattle.cxl_topo.specs.declared.node.Node.{Node};
 ghost use Rattle.cxl_reply.specs.declared.reply.Reply.TheVariants as replies;
 ghost use Rattle.cxl_reply.specs.Replies.{reply_text, has_short_text};
 ghost use Rattle.cxl_reply.specs.Conditions.{IsTold};
@@ -13,7 +12,7 @@ use crate::stops::LineStop;
 use cxl_io::{Sink, write_all};
 use cxl_lines::Lines;
 use cxl_reply::Reply;
-use cxl_text::{put_reply, short};
+use cxl_text::{fixed_text, put_long, short};
 use cxl_topo::Topo;
 
 /// Writes the text of a reply in one write, with the block of `lines` as the place for it. A reply to a command that changed something, or
@@ -45,25 +44,7 @@ pub(crate) fn write_reply<K: Sink>(
         return Ok(());
     }
     lines.block.clear();
-    put_reply(reply, topo, &mut lines.block)?;
+    put_long(&mut lines.block, reply, topo)?;
     lines.line_done(out)?;
     Ok(())
-}
-
-/// The text of a reply that names nothing, where it has no short text.
-fn fixed_text(reply: &Reply) -> Option<&'static [u8]>
-    ensures text { (nodes : List Node) → IfSome result (λ text. text.now ≡ reply_text nodes reply.now) }
-    // That a read failed is told without memory.
-    ensures bus_read { reply.now ≡ replies.BusRead → IsSome result }
-{
-    match reply {
-        Reply::Unmapped => Some(b"unmapped\n"),
-        Reply::CrossesEnd => Some(b"crosses end\n"),
-        Reply::RegionsFull => Some(b"regions full\n"),
-        Reply::NoSet => Some(b"refused no-set\n"),
-        Reply::PoisonShort => Some(b"poison short\n"),
-        Reply::BusRead => Some(b"bus fault read\n"),
-        Reply::NothingPending => Some(b"nothing pending\n"),
-        _ => None,
-    }
 }
