@@ -6,7 +6,7 @@ use Rattle.std.proofs.lemmas.List.{same_lists, length-map, length-append, length
 use Rattle.std.proofs.lemmas.List.Edits.{swap_is}
 use Rattle.std.proofs.Math.ListN as seq
 use Rattle.cxl_media.specs.declared.cell.Cell.{Cell}
-use Rattle.cxl_media.specs.declared.cell_list.Place.{Place}
+use Rattle.cxl_media.specs.declared.cell_list.KeptBlock.{KeptBlock}
 use Rattle.cxl_media.specs.Table.{Cells, cell_at}
 use Rattle.cxl_media.specs.CellList.{kept_of, block_named, cells_of, place_at, ArePlaced}
 use Rattle.cxl_media.proofs.Keys.{not_none, same_some}
@@ -18,8 +18,8 @@ cell_here numbers kept i = seq.get_or-map (block_named kept) numbers i 0
 pub length_of : (numbers : List ℕ) (kept : Cells) → length (cells_of numbers kept) ≡ length numbers
 length_of numbers kept = length-map numbers (block_named kept)
 
-pub length_kept : (places : List Place) → length (kept_of places) ≡ length places
-length_kept places = length-map places (λ (p : Place). Some p.cell)
+pub length_kept : (places : List KeptBlock) → length (kept_of places) ≡ length places
+length_kept places = length-map places (λ (p : KeptBlock). Some p.cell)
 
 -- a number above 0 names what is kept one below
 pub named_below : (kept : Cells) (number : ℕ) → number ≢ 0 → block_named kept number ≡ cell_at kept (number - 1)
@@ -52,48 +52,48 @@ number_within numbers i n is =
     ]
 
 -- a place keeps its block
-pub kept_at : (places : List Place) (n : ℕ) (p : Place) → place_at places n ≡ Some p → cell_at (kept_of places) n ≡ Some p.cell
+pub kept_at : (places : List KeptBlock) (n : ℕ) (p : KeptBlock) → place_at places n ≡ Some p → cell_at (kept_of places) n ≡ Some p.cell
 kept_at [] n p is = absurd (not_none p (sym is))
-kept_at (x ∷ rest) zero p is = ap (λ (y : Place). Some y.cell) (same_some x p is)
+kept_at (x ∷ rest) zero p is = ap (λ (y : KeptBlock). Some y.cell) (same_some x p is)
 kept_at (x ∷ rest) (suc n) p is = kept_at rest n p is
 
-pub place_within : (places : List Place) (n : ℕ) (p : Place) → place_at places n ≡ Some p → n < length places
+pub place_within : (places : List KeptBlock) (n : ℕ) (p : KeptBlock) → place_at places n ≡ Some p → n < length places
 place_within [] n p is = absurd (not_none p (sym is))
 place_within (x ∷ rest) zero p is = omega arith
 place_within (x ∷ rest) (suc n) p is = omega (arith, place_within rest n p is)
 
-pub place_read : (places : List Place) (n : ℕ) (d : Place) → n < length places → place_at places n ≡ Some (get_or places n d)
-place_read places n d within = get_or-map (λ (p : Place). Some p) places n d None within
+pub place_read : (places : List KeptBlock) (n : ℕ) (d : KeptBlock) → n < length places → place_at places n ≡ Some (get_or places n d)
+place_read places n d within = get_or-map (λ (p : KeptBlock). Some p) places n d None within
 
-kept_read : (places : List Place) (n : ℕ) (d : Place) → n < length places → cell_at (kept_of places) n ≡ Some (get_or places n d).cell
-kept_read places n d within = get_or-map (λ (p : Place). Some p.cell) places n d None within
+kept_read : (places : List KeptBlock) (n : ℕ) (d : KeptBlock) → n < length places → cell_at (kept_of places) n ≡ Some (get_or places n d).cell
+kept_read places n d within = get_or-map (λ (p : KeptBlock). Some p.cell) places n d None within
 
 -- a place more
-place_more : (places : List Place) (new : Place) (n : ℕ) (p : Place) → place_at places n ≡ Some p → place_at (places ++ new ∷ []) n ≡ Some p
+place_more : (places : List KeptBlock) (new : KeptBlock) (n : ℕ) (p : KeptBlock) → place_at places n ≡ Some p → place_at (places ++ new ∷ []) n ≡ Some p
 place_more [] new n p is = absurd (not_none p (sym is))
 place_more (x ∷ rest) new zero p is = is
 place_more (x ∷ rest) new (suc n) p is = place_more rest new n p is
 
-place_last : (places : List Place) (new : Place) → place_at (places ++ new ∷ []) (length places) ≡ Some new
+place_last : (places : List KeptBlock) (new : KeptBlock) → place_at (places ++ new ∷ []) (length places) ≡ Some new
 place_last [] new = refl
 place_last (x ∷ rest) new = place_last rest new
 
-place_fewer : (places : List Place) (new : Place) (n : ℕ) (p : Place) → place_at (places ++ new ∷ []) n ≡ Some p → n ≢ length places → place_at places n ≡ Some p
+place_fewer : (places : List KeptBlock) (new : KeptBlock) (n : ℕ) (p : KeptBlock) → place_at (places ++ new ∷ []) n ≡ Some p → n ≢ length places → place_at places n ≡ Some p
 place_fewer [] new zero p is other = absurd (other refl)
 place_fewer [] new (suc n) p is other = absurd (not_none p (sym is))
 place_fewer (x ∷ rest) new zero p is other = is
 place_fewer (x ∷ rest) new (suc n) p is other = place_fewer rest new n p is (λ same. other (ap suc same))
 
 -- what is put at a place
-set_here : (places : List Place) (n : ℕ) (new : Place) → n < length places → place_at (set places n new) n ≡ Some new
+set_here : (places : List KeptBlock) (n : ℕ) (new : KeptBlock) → n < length places → place_at (set places n new) n ≡ Some new
 set_here places n new within =
-    ap (λ os. get_or os n None) (map-set (λ (p : Place). Some p) places n new)
-    ∙ get_or-set_same (map (λ (p : Place). Some p) places) n (Some new) None (omega (arith, within, length-map places (λ (p : Place). Some p)))
+    ap (λ os. get_or os n None) (map-set (λ (p : KeptBlock). Some p) places n new)
+    ∙ get_or-set_same (map (λ (p : KeptBlock). Some p) places) n (Some new) None (omega (arith, within, length-map places (λ (p : KeptBlock). Some p)))
 
-set_beside : (places : List Place) (n m : ℕ) (new : Place) → m ≢ n → place_at (set places n new) m ≡ place_at places m
+set_beside : (places : List KeptBlock) (n m : ℕ) (new : KeptBlock) → m ≢ n → place_at (set places n new) m ≡ place_at places m
 set_beside places n m new other =
-    ap (λ os. get_or os m None) (map-set (λ (p : Place). Some p) places n new)
-    ∙ get_or-set_other (map (λ (p : Place). Some p) places) n m (Some new) None other
+    ap (λ os. get_or os m None) (map-set (λ (p : KeptBlock). Some p) places n new)
+    ∙ get_or-set_other (map (λ (p : KeptBlock). Some p) places) n m (Some new) None other
 
 -- the block of a cell was taken out, and that of the last place has this one: so the numbers are then
 pub record Renamed (numbers : List ℕ) (cell place last : ℕ) (new : List ℕ) : Type 0 where
@@ -103,16 +103,16 @@ pub record Renamed (numbers : List ℕ) (cell place last : ℕ) (new : List ℕ)
   pub long : length new ≡ length numbers
 
 -- the last block takes the place of one that is taken out
-pub swapped_kept : (places : List Place) (i : ℕ) (out : Place) → kept_of (swap_remove places i out) ≡ swap_remove (kept_of places) i (Some out.cell)
+pub swapped_kept : (places : List KeptBlock) (i : ℕ) (out : KeptBlock) → kept_of (swap_remove places i out) ≡ swap_remove (kept_of places) i (Some out.cell)
 swapped_kept places i out =
-    let f = λ (p : Place). Some p.cell in
+    let f = λ (p : KeptBlock). Some p.cell in
     let last = length places - 1 in
     sym (take-map f last (set places i (get_or places last out)))
     ∙ ap (take last) (map-set f places i (get_or places last out))
     ∙ ap (λ o. take last (set (kept_of places) i o)) (sym (seq.get_or-map f places last out))
     ∙ ap (λ n. take (n - 1) (set (kept_of places) i (get_or (kept_of places) (n - 1) (Some out.cell)))) (sym (length_kept places))
 
-module _ (numbers : List ℕ) (places : List Place) (room : ℕ) (are : ArePlaced numbers places room) where
+module _ (numbers : List ℕ) (places : List KeptBlock) (room : ℕ) (are : ArePlaced numbers places room) where
   pub filled : (i n : ℕ) → get_or numbers i 0 ≡ suc n → n < length places
   filled i n is = let found = are.own i n is in place_within places n found.0 found.1
 
@@ -121,7 +121,7 @@ module _ (numbers : List ℕ) (places : List Place) (room : ℕ) (are : ArePlace
   one_cell i j n a b =
       let one = are.own i n a in
       let two = are.own j n b in
-      sym one.2 ∙ ap (λ (p : Place). p.at) (same_some one.0 two.0 (sym one.1 ∙ two.1)) ∙ two.2
+      sym one.2 ∙ ap (λ (p : KeptBlock). p.at) (same_some one.0 two.0 (sym one.1 ∙ two.1)) ∙ two.2
 
   -- an empty cell has the number 0, and one that is taken another
   pub empty_number : (at : ℕ) → cell_at (cells_of numbers (kept_of places)) at ≡ None → get_or numbers at 0 ≡ 0
@@ -138,9 +138,9 @@ module _ (numbers : List ℕ) (places : List Place) (room : ℕ) (are : ArePlace
       false≢true (sym (ap is_some (cell_here numbers (kept_of places) at ∙ ap (block_named (kept_of places)) none)) ∙ taken)
 
   -- a block is put into an empty cell, and kept behind the others
-  module _ (at : ℕ) (new : Place) (within : at < length numbers) (empty : cell_at (cells_of numbers (kept_of places)) at ≡ None) (its : new.at ≡ at) (more : 3 * length places < length numbers) where
+  module _ (at : ℕ) (new : KeptBlock) (within : at < length numbers) (empty : cell_at (cells_of numbers (kept_of places)) at ≡ None) (its : new.at ≡ at) (more : 3 * length places < length numbers) where
     pub put_kept : kept_of (places ++ new ∷ []) ≡ kept_of places ++ Some new.cell ∷ []
-    put_kept = map-append (λ (p : Place). Some p.cell) places (new ∷ [])
+    put_kept = map-append (λ (p : KeptBlock). Some p.cell) places (new ∷ [])
 
     -- no cell has its number yet
     unused : (i : ℕ) → get_or numbers i 0 ≢ suc (length places)
@@ -179,7 +179,7 @@ module _ (numbers : List ℕ) (places : List Place) (room : ℕ) (are : ArePlace
       named = λ n p there. elim (cases_eq n (length places)) [
         | inl last ↦
             let same : p ≡ new = same_some p new (sym there ∙ ap (place_at (places ++ new ∷ [])) last ∙ place_last places new) in
-            let cell : p.at ≡ at = ap (λ (q : Place). q.at) same ∙ its in
+            let cell : p.at ≡ at = ap (λ (q : KeptBlock). q.at) same ∙ its in
             ap (λ k. get_or (set numbers at (suc (length places))) k 0) cell ∙ get_or-set_same numbers at (suc (length places)) 0 within ∙ sym (ap suc last)
         | inr low ↦
             let was = are.named n p (place_fewer places new n p there low) in
@@ -194,10 +194,10 @@ module _ (numbers : List ℕ) (places : List Place) (room : ℕ) (are : ArePlace
     }
 
   -- the block at a place is taken out, and the last one takes its place: so the places are then
-  module _ (place : ℕ) (out : Place) (there : place_at places place ≡ Some out) (left : List Place) (fewer : length left + 1 ≡ length places) (moved : (d : Place) → place + 1 < length places → get_or left place d ≡ get_or places (length places - 1) d) (others : (k : ℕ) (d : Place) → k ≢ place → k + 1 < length places → get_or left k d ≡ get_or places k d) where
+  module _ (place : ℕ) (out : KeptBlock) (there : place_at places place ≡ Some out) (left : List KeptBlock) (fewer : length left + 1 ≡ length places) (moved : (d : KeptBlock) → place + 1 < length places → get_or left place d ≡ get_or places (length places - 1) d) (others : (k : ℕ) (d : KeptBlock) → k ≢ place → k + 1 < length places → get_or left k d ≡ get_or places k d) where
     -- the last block, where it is moved
     moved_last : place < length left → place_at places (length places - 1) ≡ Some (get_or left place out)
-    moved_last within = place_read places (length places - 1) out (omega (arith, within, fewer)) ∙ ap (λ (p : Place). Some p) (sym (moved out (omega (arith, within, fewer))))
+    moved_last within = place_read places (length places - 1) out (omega (arith, within, fewer)) ∙ ap (λ (p : KeptBlock). Some p) (sym (moved out (omega (arith, within, fewer))))
 
     pub moved_number : place < length left → get_or numbers (get_or left place out).at 0 ≡ suc (length places - 1)
     moved_number within = are.named (length places - 1) (get_or left place out) (moved_last within)
@@ -249,7 +249,7 @@ module _ (numbers : List ℕ) (places : List Place) (room : ℕ) (are : ArePlace
         ]
 
   -- and the numbers
-  module _ (place : ℕ) (out : Place) (there : place_at places place ≡ Some out) (left : List Place) (fewer : length left + 1 ≡ length places) (moved : (d : Place) → place + 1 < length places → get_or left place d ≡ get_or places (length places - 1) d) (others : (k : ℕ) (d : Place) → k ≢ place → k + 1 < length places → get_or left k d ≡ get_or places k d) (new : List ℕ) (so : Renamed numbers out.at place (length places - 1) new) where
+  module _ (place : ℕ) (out : KeptBlock) (there : place_at places place ≡ Some out) (left : List KeptBlock) (fewer : length left + 1 ≡ length places) (moved : (d : KeptBlock) → place + 1 < length places → get_or left place d ≡ get_or places (length places - 1) d) (others : (k : ℕ) (d : KeptBlock) → k ≢ place → k + 1 < length places → get_or left k d ≡ get_or places k d) (new : List ℕ) (so : Renamed numbers out.at place (length places - 1) new) where
     -- another cell has another number
     elsewhere : (i n : ℕ) → i ≢ out.at → get_or numbers i 0 ≡ suc n → n ≢ place
     elsewhere i n other is same = other (one_cell i out.at n is (are.named place out there ∙ ap suc (sym same)))
@@ -262,12 +262,12 @@ module _ (numbers : List ℕ) (places : List Place) (room : ℕ) (are : ArePlace
     -- what is left at the place was last, and elsewhere what was there
     left_moved : place < length left → place_at left place ≡ place_at places (length places - 1)
     left_moved within =
-        place_read left place out within ∙ ap (λ (p : Place). Some p) (moved out (omega (arith, within, fewer)))
+        place_read left place out within ∙ ap (λ (p : KeptBlock). Some p) (moved out (omega (arith, within, fewer)))
         ∙ sym (place_read places (length places - 1) out (omega (arith, within, fewer)))
 
     left_other : (k : ℕ) → k ≢ place → k < length left → place_at left k ≡ place_at places k
     left_other k other within =
-        place_read left k out within ∙ ap (λ (p : Place). Some p) (others k out other (omega (arith, within, fewer)))
+        place_read left k out within ∙ ap (λ (p : KeptBlock). Some p) (others k out other (omega (arith, within, fewer)))
         ∙ sym (place_read places k out (omega (arith, within, fewer)))
 
     -- where a cell's block is then
@@ -367,7 +367,7 @@ module _ (numbers : List ℕ) (places : List Place) (room : ℕ) (are : ArePlace
     }
 
   -- a block stands at an empty cell in place of its own
-  module _ (empty from n : ℕ) (p : Place) (within : empty < length numbers) (none : get_or numbers empty 0 ≡ 0) (number : get_or numbers from 0 ≡ suc n) (there : place_at places n ≡ Some p) (from_within : from < length numbers) where
+  module _ (empty from n : ℕ) (p : KeptBlock) (within : empty < length numbers) (none : get_or numbers empty 0 ≡ 0) (number : get_or numbers from 0 ≡ suc n) (there : place_at places n ≡ Some p) (from_within : from < length numbers) where
     pub apart : empty ≢ from
     apart same =
         let both : 0 ≡ suc n = sym none ∙ ap (λ k. get_or numbers k 0) same ∙ number in
@@ -375,7 +375,7 @@ module _ (numbers : List ℕ) (places : List Place) (room : ℕ) (are : ArePlace
 
     pub brought_kept : kept_of (set places n (record p { at = empty })) ≡ kept_of places
     brought_kept =
-        map-set (λ (q : Place). Some q.cell) places n (record p { at = empty })
+        map-set (λ (q : KeptBlock). Some q.cell) places n (record p { at = empty })
         ∙ ap (set (kept_of places) n) (sym (kept_at places n p there))
         ∙ set-get_or (kept_of places) n None
 
@@ -424,7 +424,7 @@ module _ (numbers : List ℕ) (places : List Place) (room : ℕ) (are : ArePlace
       named = λ m q is. elim (cases_eq m n) [
         | inl same ↦
             let one : q ≡ record p { at = empty } = same_some q (record p { at = empty }) (sym is ∙ ap (place_at (set places n (record p { at = empty }))) same ∙ set_here places n (record p { at = empty }) (place_within places n p there)) in
-            ap (λ (r : Place). get_or (set (set numbers empty (suc n)) from 0) r.at 0) one ∙ at_empty ∙ ap suc (sym same)
+            ap (λ (r : KeptBlock). get_or (set (set numbers empty (suc n)) from 0) r.at 0) one ∙ at_empty ∙ ap suc (sym same)
         | inr other ↦
             let was = are.named m q (sym (set_beside places n m (record p { at = empty }) other) ∙ is) in
             let not_empty : q.at ≢ empty = λ same.

@@ -4,7 +4,7 @@ use Rattle.std.proofs.Common.{zero, suc}
 use Rattle.std.specs.Coded.{Coded, code_by, coded×}
 use Rattle.cxl_enc.specs.Limits.{frame_limit}
 use Rattle.cxl_media.specs.declared.cell.Cell.{Cell}
-use Rattle.cxl_media.specs.declared.cell_list.Place.{Place}
+use Rattle.cxl_media.specs.declared.cell_list.KeptBlock.{KeptBlock}
 use Rattle.cxl_media.specs.Table.{Cells, cell_at}
 use Rattle.cxl_media.specs.Index.{coded_cells}
 
@@ -20,7 +20,7 @@ coded_listed =
     (λ p. record { cells = p.0; kept = p.1 }) (λ _. refl)
 
 -- the block at each place
-abbrev pub kept_of : List Place → Cells
+abbrev pub kept_of : List KeptBlock → Cells
 kept_of places = map (λ place. Some place.cell) places
 
 -- the block that a number names, of those that are kept
@@ -33,13 +33,13 @@ abbrev pub cells_of : List ℕ → Cells → Cells
 cells_of numbers kept = map (block_named kept) numbers
 
 -- a block at its place, with its cell; None past the last one
-abbrev pub place_at : List Place → ℕ → Option Place
+abbrev pub place_at : List KeptBlock → ℕ → Option KeptBlock
 place_at places n = slice_index_or (map (λ place. Some place) places) n None
 
 -- each number names a place that names its cell, each place's cell names it, and there is room for all blocks
-pub record ArePlaced (numbers : List ℕ) (places : List Place) (room : ℕ) : Type 0 where
-  pub own : (i n : ℕ) → slice_index numbers i ≡ suc n → (p : Place) × (place_at places n ≡ Some p) × (p.at ≡ i)
-  pub named : (n : ℕ) (p : Place) → place_at places n ≡ Some p → slice_index numbers p.at ≡ suc n
+pub record ArePlaced (numbers : List ℕ) (places : List KeptBlock) (room : ℕ) : Type 0 where
+  pub own : (i n : ℕ) → slice_index numbers i ≡ suc n → (p : KeptBlock) × (place_at places n ≡ Some p) × (p.at ≡ i)
+  pub named : (n : ℕ) (p : KeptBlock) → place_at places n ≡ Some p → slice_index numbers p.at ≡ suc n
   pub fits : length numbers ≤ 3 * room
   pub small : length numbers ≤ 3 * frame_limit
   pub few : length places ≤ frame_limit

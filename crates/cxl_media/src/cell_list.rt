@@ -3,7 +3,7 @@
 ghost use Rattle.std.specs.Prelude.{◌≡◌, ℕ, ◌+◌, ◌*◌, ◌<◌, ◌≤◌, [], ◌∷◌, ◌++◌, None, Some, IfOk, IfSome, IfNone, IsSome, length, replicate, slice_index_or, slice_set, swap, swap_remove};
 ghost use Rattle.std.specs.Option.{option_copied};
 ghost use Rattle.cxl_enc.specs.Limits.{frame_limit};
-ghost use Rattle.cxl_media.specs.declared.cell_list.Place.{Place};
+ghost use Rattle.cxl_media.specs.declared.cell_list.KeptBlock.{KeptBlock};
 ghost use Rattle.cxl_media.specs.Table.{cell_at};
 ghost use Rattle.cxl_media.specs.CellList.{kept_of, block_named};
 
@@ -20,19 +20,19 @@ use std::marker::Model;
 pub struct CellList {
     numbers: Numbers,
     // There is room for all.
-    kept: Vec<Place>,
+    kept: Vec<KeptBlock>,
 }
 
 /// A block that is kept, and the cell that names its place.
 #[derive(Drop)]
-pub struct Place {
+pub struct KeptBlock {
     cell: Cell,
     at: usize,
 }
 
 /// A block that was taken out, and the cell that named it.
 #[derive(Drop)]
-pub struct Taken {
+pub struct TakenBlock {
     pub cell: Cell,
     pub at: usize,
 }
@@ -131,23 +131,23 @@ impl CellList {
         ensures cells { self.new.cells ≡ slice_set self.old.cells at (Some cell) }
         ensures kept { self.new.kept ≡ self.old.kept ++ Some cell ∷ [] }
     {
-        self.kept.push_reserved(Place { cell, at });
+        self.kept.push_reserved(KeptBlock { cell, at });
         let number = self.kept.len() as u32;
         self.numbers.set(at, number);
     }
 
     /// Takes out the block at a place. The last block takes its place.
-    pub fn take(&mut self, place: usize) -> Taken
+    pub fn take(&mut self, place: usize) -> TakenBlock
         requires { place < length self.old.kept }
         ensures block { cell_at self.old.kept place ≡ Some result.cell }
         ensures there { cell_at self.old.cells result.at ≡ Some result.cell }
         ensures cells { self.new.cells ≡ slice_set self.old.cells result.at None }
         ensures kept { self.new.kept ≡ swap_remove self.old.kept place (Some result.cell) }
     {
-        let Place { cell, at } = self.kept.swap_remove(place);
+        let KeptBlock { cell, at } = self.kept.swap_remove(place);
         self.numbers.set(at, 0);
         name_place(&mut self.numbers, &self.kept, place);
-        Taken { cell, at }
+        TakenBlock { cell, at }
     }
 
     /// Lets a block stand at an empty cell in place of its own.
@@ -165,7 +165,7 @@ impl CellList {
     }
 }
 
-impl Place {
+impl KeptBlock {
     fn cell_of(&self) -> usize
         ensures { result ≡ self.now.at }
     {
@@ -180,10 +180,10 @@ impl Place {
 }
 
 /// Lets the cell of the block at a place, where there is one, name that place.
-fn name_place(numbers: &mut Numbers, kept: &[Place], place: usize)
+fn name_place(numbers: &mut Numbers, kept: &[KeptBlock], place: usize)
     requires few { length kept.now ≤ frame_limit }
-    requires within { (d : Place) → place < length kept.now → (slice_index_or kept.now place d).at < length numbers.old }
-    ensures there { (d : Place) → place < length kept.now
+    requires within { (d : KeptBlock) → place < length kept.now → (slice_index_or kept.now place d).at < length numbers.old }
+    ensures there { (d : KeptBlock) → place < length kept.now
         → numbers.new ≡ slice_set numbers.old (slice_index_or kept.now place d).at (place + 1) }
     ensures none { length kept.now ≤ place → numbers.new ≡ numbers.old }
 {
@@ -193,7 +193,7 @@ fn name_place(numbers: &mut Numbers, kept: &[Place], place: usize)
 }
 
 /// The block that a number names.
-fn block_named(kept: &[Place], number: u32) -> Option<&Cell>
+fn block_named(kept: &[KeptBlock], number: u32) -> Option<&Cell>
     ensures { option_copied result ≡ block_named (kept_of kept.now) number }
 {
     if number == 0 {
@@ -203,7 +203,7 @@ fn block_named(kept: &[Place], number: u32) -> Option<&Cell>
 }
 
 /// The block at a place, which is nothing past the last one.
-fn kept_at(kept: &[Place], place: usize) -> Option<&Cell>
+fn kept_at(kept: &[KeptBlock], place: usize) -> Option<&Cell>
     ensures { option_copied result ≡ cell_at (kept_of kept.now) place }
 {
     if place < kept.len() {

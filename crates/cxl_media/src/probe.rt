@@ -7,7 +7,7 @@ ghost use Rattle.cxl_media.specs.Table.{key_at, cell_at, frames_in, StopsProbe, 
 ghost use Rattle.cxl_media.specs.Hash.{home_of};
 
 use crate::cell::Cell;
-use crate::cell_list::{CellList, Taken};
+use crate::cell_list::{CellList, TakenBlock};
 
 /// The cell from which a block is sought. It is below `homes`, and 0 where that is.
 #[tactic(auto, unfolding(crate::specs::Hash::mixed))]
@@ -55,7 +55,7 @@ pub fn take_out(cells: &mut CellList, homes: u32, place: usize) -> Cell
     ensures kept { cells.new.kept ≡ swap_remove cells.old.kept place (Some result) }
     ensures length { length cells.new.cells ≡ length cells.old.cells }
 {
-    let Taken { cell, at } = cells.take(place);
+    let TakenBlock { cell, at } = cells.take(place);
     close(cells, homes, at);
     cell
 }

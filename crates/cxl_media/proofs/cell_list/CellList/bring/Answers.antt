@@ -1,13 +1,13 @@
 use Rattle.std.proofs.Common.{◌≡◌, ℕ, suc, ◌-◌, ◌<◌, List, None, Some, IsSome, length, get_or, set, sym, ap, ◌∙◌, subst, arith}
 use Rattle.std.specs.Prelude.{swap}
-use Rattle.cxl_media.specs.declared.cell_list.Place.{Place}
+use Rattle.cxl_media.specs.declared.cell_list.KeptBlock.{KeptBlock}
 use Rattle.cxl_media.specs.Table.{cell_at}
 use Rattle.cxl_media.specs.CellList.{Listed, kept_of, cells_of, place_at, ArePlaced}
 use Rattle.cxl_media.proofs.CellLists.{length_of, number_within, place_read, filled, empty_number, taken_number, brought_kept, brought_cells, brought_placed}
 use Rattle.cxl_media.proofs.cell_list.CellList.bring.Goals as goal
 
 -- in the words of the code: l is what contracts see
-module _ (numbers : List ℕ) (places : List Place) (room : ℕ) (l : Listed) (view : ◌≡◌ {A = Listed} (record { cells = cells_of numbers (kept_of places); kept = kept_of places }) l) (are : ArePlaced numbers places room) (empty from number : ℕ) (within : empty < length l.cells) (none : cell_at l.cells empty ≡ None) (taken : IsSome (cell_at l.cells from)) (read : number ≡ get_or numbers from 0) where
+module _ (numbers : List ℕ) (places : List KeptBlock) (room : ℕ) (l : Listed) (view : ◌≡◌ {A = Listed} (record { cells = cells_of numbers (kept_of places); kept = kept_of places }) l) (are : ArePlaced numbers places room) (empty from number : ℕ) (within : empty < length l.cells) (none : cell_at l.cells empty ≡ None) (taken : IsSome (cell_at l.cells from)) (read : number ≡ get_or numbers from 0) where
   above : number ≡ suc (number - 1)
   above =
       let some = taken_number numbers places room are from (subst (λ (m : Listed). IsSome (cell_at m.cells from)) (sym view) taken) in
@@ -25,9 +25,9 @@ module _ (numbers : List ℕ) (places : List Place) (room : ℕ) (l : Listed) (v
   nothing : get_or numbers empty 0 ≡ 0
   nothing = empty_number numbers places room are empty (ap (λ (m : Listed). cell_at m.cells empty) view ∙ none)
 
-  module _ (p : Place) (is : p ≡ get_or places (number - 1) p) where
+  module _ (p : KeptBlock) (is : p ≡ get_or places (number - 1) p) where
     there : place_at places (number - 1) ≡ Some p
-    there = place_read places (number - 1) p bring_filled ∙ ap (λ (q : Place). Some q) (sym is)
+    there = place_read places (number - 1) p bring_filled ∙ ap (λ (q : KeptBlock). Some q) (sym is)
 
     pub placed : ArePlaced (set (set numbers empty number) from 0) (set places (number - 1) (record p { at = empty })) room
     placed =

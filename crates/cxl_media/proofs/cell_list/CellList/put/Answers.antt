@@ -1,14 +1,14 @@
 use Rattle.std.proofs.Common.{◌≡◌, ℕ, suc, ◌*◌, ◌<◌, List, [], ◌∷◌, ◌++◌, None, Some, length, set, sym, ap, ◌∙◌, subst, refl, arith}
 use Rattle.cxl_media.specs.declared.cell.Cell.{Cell}
-use Rattle.cxl_media.specs.declared.cell_list.Place.{Place}
+use Rattle.cxl_media.specs.declared.cell_list.KeptBlock.{KeptBlock}
 use Rattle.cxl_media.specs.Table.{cell_at}
 use Rattle.cxl_media.specs.CellList.{Listed, kept_of, cells_of, ArePlaced}
 use Rattle.cxl_media.proofs.CellLists.{length_of, length_kept, put_cells, put_placed}
 use Rattle.cxl_media.proofs.cell_list.CellList.put.Goals as goal
 
 -- in the words of the code: l is what contracts see
-module _ (numbers : List ℕ) (places : List Place) (room : ℕ) (l : Listed) (view : ◌≡◌ {A = Listed} (record { cells = cells_of numbers (kept_of places); kept = kept_of places }) l) (are : ArePlaced numbers places room) (at : ℕ) (cell : Cell) (within : at < length l.cells) (empty : cell_at l.cells at ≡ None) (more : 3 * length l.kept < length l.cells) (number : ℕ) (its : number ≡ suc (length places)) where
-  abbrev new_place : Place
+module _ (numbers : List ℕ) (places : List KeptBlock) (room : ℕ) (l : Listed) (view : ◌≡◌ {A = Listed} (record { cells = cells_of numbers (kept_of places); kept = kept_of places }) l) (are : ArePlaced numbers places room) (at : ℕ) (cell : Cell) (within : at < length l.cells) (empty : cell_at l.cells at ≡ None) (more : 3 * length l.kept < length l.cells) (number : ℕ) (its : number ≡ suc (length places)) where
+  abbrev new_place : KeptBlock
   new_place = record { cell = cell; at = at }
 
   inside : at < length numbers
