@@ -3,6 +3,8 @@ pub mod Trees
 pub mod Tables
 pub mod PlannedWays
 pub mod UsedItems
+pub mod Rising
+pub mod Counting
 pub mod UnevenNodes
 pub mod KeptBlocks
 pub mod Reasons

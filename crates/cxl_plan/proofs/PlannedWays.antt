@@ -1,8 +1,7 @@
 -- The ways and codes that used nodes would have, one node up at a time.
-use Rattle.std.proofs.Common.{◌≡◌, ℕ, zero, suc, ◌+◌, ◌*◌, ◌/◌, ◌<◌, ◌≤◌, Bool, true, false, List, length, get_or, map, Vec, Global, Some, None, refl, sym, ap, ◌∙◌, inl, inr, arith, if◌then◌else◌}
-use Rattle.std.specs.Prelude.{slice_get, sum_by, ◌==◌}
+use Rattle.std.proofs.Common.{◌≡◌, ℕ, zero, suc, ◌+◌, ◌*◌, ◌/◌, ◌<◌, ◌≤◌, Bool, true, false, List, length, map, Some, None, refl, sym, ap, ◌∙◌, inl, inr, arith, if◌then◌else◌}
+use Rattle.std.specs.Prelude.{sum_by, ◌==◌}
 use Rattle.std.proofs.lemmas.Bool.{cases_Bool, cases_lt, eq-eqb, ne_eqb, false≢true}
-use Rattle.std.proofs.lemmas.Option.{slice_get-get_or}
 use Rattle.std.proofs.lemmas.List.Sums.{sum_by-cons}
 use Rattle.cxl_enc.specs.Codes.{is_ways, bits_of, third_of, log2_of}
 use Rattle.cxl_enc.proofs.Numbers.{sixteens, times, some_product}
@@ -15,7 +14,7 @@ use Rattle.cxl_model.specs.declared.request.Request.{Request}
 use Rattle.cxl_model.specs.Ranges.{product}
 use Rattle.cxl_model.specs.Plans.{plan_code}
 use Rattle.cxl_legal.specs.Used.{request_ways, is_used, used_ports, planned_ways}
-use Rattle.cxl_plan.specs.inner.Uses.{tree_alone, ports_at, ways_at, ways_above_at, bits_above_at, code_at, HasWays, ArePorts}
+use Rattle.cxl_plan.specs.inner.Uses.{tree_alone, ports_at, ways_at, ways_above_at, bits_above_at, code_at, HasWays}
 use Rattle.cxl_plan.proofs.Trees.{parent_used}
 
 -- ---- numbers of ways
@@ -160,12 +159,3 @@ module _ (nodes : List Node) (request : Request) (w : WindowFields) where
   unfolding choose_code
   code_port n many is =
       code_is n ∙ ap (λ (b : Bool). choose_code n b (is_endpoint_at nodes n)) (ne_eqb (ways_at nodes request n) 1 many) ∙ ap (choose_code n false) is
-
--- ---- what the tables give
-
-pub count_of_ports : (nodes : List Node) (request : Request) (ports : List (Vec ℕ Global)) → ArePorts nodes request ports → (n : ℕ) → n < length nodes → (own : Vec ℕ Global) → own ≡ get_or ports n own
-    → is_endpoint_at nodes n ≡ false → length own.items ≡ ways_at nodes request n
-count_of_ports nodes request ports known n below own is not_endpoint =
-    let count = known.count in
-    let there : slice_get ports n ≡ Some own = slice_get-get_or ports n own (omega arith) ∙ ap Some (sym is) in
-    ap length (known.each n own there) ∙ sym (port_ways nodes request n not_endpoint)

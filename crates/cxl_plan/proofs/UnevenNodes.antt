@@ -6,7 +6,8 @@ use Rattle.std.specs.List.{All, list_all}
 use Rattle.std.proofs.lemmas.Bool.{cases_Bool, and_parts, false≢true}
 use Rattle.cxl_enc.specs.Caps.{targets_of, is_target_count}
 use Rattle.cxl_topo.specs.declared.node.Node.{Node}
-use Rattle.cxl_topo.specs.Tree.{is_port_at, is_bridge_at}
+use Rattle.cxl_topo.specs.Tree.{is_endpoint_at, is_port_at, is_bridge_at}
+use Rattle.cxl_topo.proofs.Trees.{port_no_endpoint}
 use Rattle.cxl_model.specs.declared.request.Request.{Request}
 use Rattle.cxl_legal.specs.Used.{is_used, is_port_used, count_under, count_at_port}
 use Rattle.cxl_legal.specs.Endpoints.{cap_at, has_bridge_share, first_bridge}
@@ -40,6 +41,15 @@ module _ (nodes : List Node) (request : Request) (n : ℕ) where
   uneven_used uneven =
       let parts = and_parts (is_port_at nodes n && is_used (tree_alone nodes) request n) (not (even_at nodes request n && same_at nodes request n && has_bridge_share (tree_alone nodes) request n)) (sym uneven_is ∙ uneven) in
       (and_parts (is_port_at nodes n) (is_used (tree_alone nodes) request n) parts.0).1
+
+  -- an endpoint is not
+  pub uneven_endpoint : is_endpoint_at nodes n ≡ true → uneven_at nodes request n ≡ false
+  unfolding uneven_parts
+  uneven_endpoint endpoint =
+      elim (cases_Bool (is_port_at nodes n)) [
+        | inl port ↦ absurd (false≢true (sym (port_no_endpoint nodes n port) ∙ endpoint))
+        | inr other ↦ uneven_is ∙ ap (λ (b : Bool). uneven_parts b (is_used (tree_alone nodes) request n) (even_at nodes request n) (same_at nodes request n) (has_bridge_share (tree_alone nodes) request n)) other
+      ]
 
   with_true : (p : Bool) → p ≡ (p && true)
   with_true true = refl

@@ -66,7 +66,7 @@ stands_later a m xs low at = record { place = suc at.place; within = let w = at.
     before zero within less = absurd (omega arith)
     before (suc i) within less = let rest = at.before i (omega arith) less in omega arith
 
-stands : (q : ℕ → Bool) (a k m : ℕ) → a ≤ m → m < a + k → q m ≡ true → StandsAt (filter q (range_with_len a k)) m
+pub stands : (q : ℕ → Bool) (a k m : ℕ) → a ≤ m → m < a + k → q m ≡ true → StandsAt (filter q (range_with_len a k)) m
 stands q a zero m from below passes = absurd (omega arith)
 stands q a (suc k) m from below passes =
     elim (cases_eq a m) [

@@ -12,7 +12,7 @@ ghost use Rattle.cxl_legal.specs.Endpoints.{first_bridge, lacks_decoder};
 ghost use Rattle.cxl_plan.specs.inner.Uses.{tree_alone, AreUses};
 ghost use Rattle.cxl_plan.specs.inner.Judging.{uneven_at, without_windows};
 
-use crate::used::{Uses, counts_at_ports};
+use crate::used::{Uses, count_of, counts_at_ports, ports_of};
 use cxl_enc::target_count;
 use cxl_image::Image;
 use cxl_legal::is_full;
@@ -51,7 +51,7 @@ fn first_share(topo: &Topo, request: &Request, uses: &Uses) -> Option<u8>
     ensures { result ≡ option_map (count_under (tree_alone topo.now.nodes) request.now) (first_bridge (tree_alone topo.now.nodes) request.now) }
 {
     let bridge = first_bridge(topo, request, uses)?;
-    Some(uses.counts.as_slice()[bridge as usize])
+    Some(count_of(topo, request, uses, bridge))
 }
 
 /// The used bridge that has the least number.
@@ -59,6 +59,7 @@ fn first_bridge(topo: &Topo, request: &Request, uses: &Uses) -> Option<u32>
     requires { AreUses topo.now.nodes request.now uses.now }
     ensures first { result ≡ first_bridge (tree_alone topo.now.nodes) request.now }
     ensures inside { IfSome result (λ n. n < length topo.now.nodes) }
+    ensures used { IfSome result (λ n. is_used (tree_alone topo.now.nodes) request.now n ≡ true) }
 {
     for node in &uses.nodes {
         if topo.node(*node).is_bridge() {
@@ -77,24 +78,24 @@ fn is_uneven(topo: &Topo, request: &Request, uses: &Uses, share: Option<u8>, nod
     requires share { share ≡ option_map (count_under (tree_alone topo.now.nodes) request.now) (first_bridge (tree_alone topo.now.nodes) request.now) }
     ensures { result ≡ uneven_at topo.now.nodes request.now node }
 {
+    if topo.is_endpoint(node) {
+        return false;
+    }
     let own = topo.node(node);
-    let ports = uses.ports[node as usize].as_slice();
-    let at = counts_at_ports(topo, &uses.counts, &uses.nodes, node);
+    let ports = ports_of(topo, request, uses, node);
+    let at = counts_at_ports(topo, request, uses, node);
     let even = has_even_ports(ports, own.cap);
     let same = are_same(&at, ports);
-    let shared = has_share(
-        own.is_bridge(),
-        uses.counts.as_slice()[node as usize],
-        share,
-    );
-    lacks_any(topo.is_port(node), even, same, shared)
+    let count = count_of(topo, request, uses, node);
+    let shared = has_share(own.is_bridge(), count, share);
+    lacks_any(even, same, shared)
 }
 
 /// Whether a port lacks one of these.
-fn lacks_any(port: bool, even: bool, same: bool, shared: bool) -> bool
-    ensures { result ≡ (port && not (even && same && shared)) }
+fn lacks_any(even: bool, same: bool, shared: bool) -> bool
+    ensures { result ≡ not (even && same && shared) }
 {
-    port && !(even && same && shared)
+    !(even && same && shared)
 }
 
 /// Whether the used ports of a node are 1, 2, 4 or 8, and no more than its targets.

@@ -8,7 +8,7 @@ ghost use Rattle.cxl_model.specs.System.{System, system_of};
 ghost use Rattle.cxl_model.specs.Accepted.{IsAccepted};
 ghost use Rattle.cxl_model.specs.Plans.{IsLegalPlan};
 ghost use Rattle.cxl_model.specs.declared.plan.Plan.{Plan};
-ghost use Rattle.cxl_legal.specs.Used.{AreEndpoints, HasBytePorts};
+ghost use Rattle.cxl_legal.specs.Used.{AreEndpoints};
 ghost use Rattle.cxl_legal.specs.Endpoints.{FitsEndpoints};
 ghost use Rattle.cxl_legal.specs.Stated.{IsStatedPlan};
 ghost use Rattle.cxl_plan.specs.Faults.{IsFirstPlanFault, IsFirstPlan, IsLeastPlan};
@@ -81,7 +81,6 @@ pub fn plan(
 fn plan_ready(alloc: Global, host: &Host, request: &Request) -> Result<Plan, PlanFault>
     requires ready { AsksOrderlySystem (as_system host.now) request.now }
     requires early { IsEarly request.now }
-    requires ports { HasBytePorts host.now.topo.now.nodes }
     ensures fault { IfErr result (λ fault. fault ≢ PlanFault.Memory
         → IsFirstPlanFault (as_system host.now) request.now fault) }
     ensures endpoints { OnOk result (FitsEndpoints (as_system host.now) request.now) }

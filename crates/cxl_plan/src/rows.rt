@@ -9,7 +9,7 @@ ghost use Rattle.cxl_plan.specs.inner.Judging.{IsTakenBy};
 ghost use Rattle.cxl_plan.specs.inner.Planned.{tail_at, row_at, rows_at};
 
 use crate::room::span_of;
-use crate::used::Uses;
+use crate::used::{Uses, ports_of};
 use crate::ways::{planned_code, planned_ways};
 use cxl_enc::code_of;
 use cxl_model::{Host, Request, Row};
@@ -74,7 +74,7 @@ fn tail(host: &Host, request: &Request, uses: &Uses, w: &Window, node: u32) -> u
     if host.topo.is_endpoint(node) {
         span_of(host, request, node).unwrap().skip
     } else {
-        targets_word(uses.ports[node as usize].as_slice())
+        targets_word(ports_of(host.topo, request, uses, node))
     }
 }
 

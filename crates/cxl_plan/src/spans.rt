@@ -12,7 +12,7 @@ ghost use Rattle.cxl_plan.specs.inner.Judging.{IsTakenBy};
 ghost use Rattle.cxl_plan.specs.inner.Planned.{ReachesAt};
 
 use crate::room::span_of;
-use crate::used::Uses;
+use crate::used::{Uses, ports_of};
 use crate::ways::{planned_ways, used_above};
 use cxl_model::{Host, Place, Request};
 use cxl_topo::{Topo, tree_laws};
@@ -87,7 +87,7 @@ fn port_of(topo: &Topo, request: &Request, uses: &Uses, w: &Window, slot: u8, no
     ensures port { slice_get (ports_at topo.now.nodes request.now node)
         (slot / (2 ^ bits_of w.now.ways * ways_above_at topo.now.nodes request.now node) % ways_at topo.now.nodes request.now node) ≡ Some result }
 {
-    let ports = uses.ports[node as usize].as_slice();
+    let ports = ports_of(topo, request, uses, node);
     let ways = u32::from(planned_ways(topo, request, uses, node));
     let shared = root_ways(w) * used_above(topo, request, uses, node).ways;
     ports[(u32::from(slot) / shared % ways) as usize]

@@ -6,7 +6,7 @@ ghost use Rattle.cxl_model.specs.Plans.{plan_code};
 ghost use Rattle.cxl_legal.specs.Used.{request_ways, is_used};
 ghost use Rattle.cxl_plan.specs.inner.Uses.{tree_alone, AreUses, HasWays, ways_at, ways_above_at, bits_above_at, code_at};
 
-use crate::used::Uses;
+use crate::used::{Uses, ports_of};
 use cxl_enc::split;
 use cxl_model::{Above, Request};
 use cxl_topo::{Topo, tree_laws};
@@ -24,7 +24,7 @@ pub(crate) fn planned_ways(topo: &Topo, request: &Request, uses: &Uses, node: u3
     if topo.is_endpoint(node) {
         request.endpoints.items().len() as u8
     } else {
-        uses.ports[node as usize].as_slice().len() as u8
+        ports_of(topo, request, uses, node).len() as u8
     }
 }
 

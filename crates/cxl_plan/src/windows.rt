@@ -121,7 +121,7 @@ fn is_used_bridge(topo: &Topo, request: &Request, uses: &Uses, uid: u32) -> bool
     tree_laws();
     let _count = topo.count();
     match topo.bridge(uid) {
-        Some(bridge) => uses.counts.as_slice()[bridge as usize] > 0,
+        Some(bridge) => uses.nodes.contains(&bridge),
         None => false,
     }
 }

@@ -1,14 +1,13 @@
 -- What is known of the tables of used nodes and ports.
-use Rattle.std.specs.Prelude.{◌≡◌, ℕ, ◌<◌, Bool, true, false, Vec, List, [], length, filter, slice_get, slice_index_or, Some}
+use Rattle.std.specs.Prelude.{◌≡◌, ℕ, ◌<◌, nat_lt, min, true, Vec, List, [], length, filter, slice_get, slice_index_or, Some}
 use Rattle.std.specs.Global.{Global}
-use Rattle.std.specs.List.{range_with_len, list_any}
+use Rattle.std.specs.List.{range_with_len}
 use Rattle.cxl_enc.specs.Codes.{is_ways}
 use Rattle.cxl_topo.specs.declared.node.Node.{Node}
 use Rattle.cxl_window.specs.Fields.{WindowFields}
 use Rattle.cxl_model.specs.declared.request.Request.{Request}
 use Rattle.cxl_model.specs.System.{System}
-use Rattle.cxl_model.specs.Counts.{is_under}
-use Rattle.cxl_legal.specs.Used.{is_used, used_ports, planned_ways, planned_ways_above, planned_bits_above, planned_code}
+use Rattle.cxl_legal.specs.Used.{is_used, count_under, used_ports, planned_ways, planned_ways_above, planned_bits_above, planned_code}
 use Rattle.cxl_plan.specs.declared.used.Uses.{Uses}
 
 -- nodes alone, for what speaks of no block and no window
@@ -38,25 +37,26 @@ bits_above_at nodes request n = planned_bits_above (tree_alone nodes) request n
 unfoldable pub code_at : List Node → Request → WindowFields → ℕ → ℕ
 code_at nodes request w n = planned_code (tree_alone nodes) request w n
 
--- the nodes on the paths of the endpoints
-pub record AreMarks (nodes : List Node) (endpoints : List ℕ) (marks : List Bool) : Type 0 where
-  pub count : length marks ≡ length nodes
-  pub each : (n : ℕ) → n < length nodes → slice_index_or marks n false ≡ list_any (is_under nodes n) endpoints
-
--- how many of the endpoints lie under each node
-pub record AreCounts (nodes : List Node) (endpoints : List ℕ) (counts : List ℕ) : Type 0 where
+-- each number below the limit that f counts something at, in rising order, with what it counts there
+pub record AreCounted (f : ℕ → ℕ) (limit : ℕ) (nodes counts : List ℕ) : Type 0 where
+  pub listed : nodes ≡ filter (λ n. nat_lt 0 (f n)) (range_with_len 0 limit)
   pub count : length counts ≡ length nodes
-  pub each : (n : ℕ) → n < length nodes → slice_index_or counts n 0 ≡ length (filter (is_under nodes n) endpoints)
+  pub each : (k : ℕ) → k < length nodes → slice_index_or counts k 0 ≡ min (f (slice_index_or nodes k 0)) 255
 
--- the used ports of each node
-pub record ArePorts (nodes : List Node) (request : Request) (ports : List (Vec ℕ Global)) : Type 0 where
-  pub count : length ports ≡ length nodes
-  pub each : (n : ℕ) (own : Vec ℕ Global) → slice_get ports n ≡ Some own → own.items ≡ ports_at nodes request n
+-- how many of the endpoints lie under each of the used nodes
+pub record AreCounts (nodes : List Node) (request : Request) (used counts : List ℕ) : Type 0 where
+  pub count : length counts ≡ length used
+  pub each : (k : ℕ) → k < length used → slice_index_or counts k 0 ≡ count_under (tree_alone nodes) request (slice_index_or used k 0)
+
+-- the used ports of each of the used nodes
+pub record ArePorts (nodes : List Node) (request : Request) (used : List ℕ) (ports : List (Vec ℕ Global)) : Type 0 where
+  pub count : length ports ≡ length used
+  pub each : (k : ℕ) (own : Vec ℕ Global) → slice_get ports k ≡ Some own → own.items ≡ ports_at nodes request (slice_index_or used k 0)
 
 pub record AreUses (nodes : List Node) (request : Request) (uses : Uses) : Type 0 where
-  pub counts : AreCounts nodes request.endpoints uses.counts.items
   pub listed : uses.nodes.items ≡ used_nodes nodes request
-  pub ports : ArePorts nodes request uses.ports.items
+  pub counts : AreCounts nodes request uses.nodes.items uses.counts.items
+  pub ports : ArePorts nodes request uses.nodes.items uses.ports.items
 
 -- each used node would have a number of ways that a decoder can have
 abbrev pub HasWays : List Node → Request → Type 0

@@ -24,6 +24,9 @@ returns-then-is_bridge-clause-first c =
 pub returns-then-is_bridge-clause-inside : goal.returns-then-is_bridge-clause-inside
 returns-then-is_bridge-clause-inside c = item_inside c.args.topo.now.nodes c.args.request.now c.deref-node-items.result.now (c.deref-node-items.ensures.value ∙ c.requires.listed) c.loop-node.node-index (omega arith)
 
+pub returns-then-is_bridge-clause-used : goal.returns-then-is_bridge-clause-used
+returns-then-is_bridge-clause-used c = item_used c.args.topo.now.nodes c.args.request.now c.deref-node-items.result.now (c.deref-node-items.ensures.value ∙ c.requires.listed) c.loop-node.node-index (omega arith)
+
 pub returns-clause-first : goal.returns-clause-first
 returns-clause-first c =
     let nodes = c.args.topo.now.nodes in

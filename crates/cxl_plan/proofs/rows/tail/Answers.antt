@@ -1,11 +1,8 @@
-use Rattle.std.proofs.Common.{◌≡◌, ℕ, ◌≤◌, Vec, Global, List, Ok, length, refl, sym, ap, subst, ◌∙◌, arith}
-use Rattle.std.specs.Prelude.{slice_get, Some}
-use Rattle.std.proofs.lemmas.Option.{slice_get-get_or}
+use Rattle.std.proofs.Common.{ℕ, ◌≤◌, List, Ok, length, refl, sym, ap, subst, ◌∙◌}
 use Rattle.cxl_model.specs.Hosts.{as_system}
 use Rattle.cxl_model.specs.System.{decoders_at, ram_at, pmem_at}
 use Rattle.cxl_legal.specs.Endpoints.{share_of}
 use Rattle.cxl_legal.specs.Stated.{targets_word}
-use Rattle.cxl_plan.specs.inner.Uses.{ports_at}
 use Rattle.cxl_plan.proofs.StatedRows.{skip_is, tail_endpoint, tail_port}
 use Rattle.cxl_plan.proofs.FaultOrder.{few_ports}
 use Rattle.std.specs.Result.{IsOk}
@@ -25,15 +22,8 @@ unwrap-requires c =
 pub targets_word-requires : goal.targets_word-requires
 targets_word-requires c =
     let s = as_system c.args.host.now in
-    let tables = c.args.uses.now.ports.items in
-    let node = c.args.node in
-    let own : Vec ℕ Global = c.index.result.now in
-    let counted = c.requires.settled.tables.ports.count in
-    let here = c.requires.here in
-    let there : slice_get tables node ≡ Some own = slice_get-get_or tables node own (omega arith) ∙ ap Some (sym c.index.ensures) in
-    let is : c.as_slice.result.now ≡ ports_at s.nodes c.args.request.now node = c.as_slice.ensures.value ∙ c.requires.settled.tables.ports.each node own there in
-    let few = few_ports s c.args.request.now c.requires.settled.endpoints node c.requires.used here (sym c.is_endpoint.ensures ∙ c.if-is_endpoint.false) in
-    subst (λ (xs : List ℕ). length xs ≤ 8) (sym is) few
+    let few = few_ports s c.args.request.now c.requires.settled.endpoints c.args.node c.requires.used c.requires.here (sym c.is_endpoint.ensures ∙ c.if-is_endpoint.false) in
+    subst (λ (xs : List ℕ). length xs ≤ 8) (sym c.ports_of.ensures) few
 
 pub returns-then-is_endpoint : goal.returns-then-is_endpoint
 returns-then-is_endpoint c =
@@ -46,12 +36,5 @@ returns-then-is_endpoint c =
 
 pub returns-else-is_endpoint : goal.returns-else-is_endpoint
 returns-else-is_endpoint c =
-    let s = as_system c.args.host.now in
-    let tables = c.args.uses.now.ports.items in
-    let node = c.args.node in
-    let own : Vec ℕ Global = c.index.result.now in
-    let counted = c.requires.settled.tables.ports.count in
-    let here = c.requires.here in
-    let there : slice_get tables node ≡ Some own = slice_get-get_or tables node own (omega arith) ∙ ap Some (sym c.index.ensures) in
-    let is : c.as_slice.result.now ≡ ports_at s.nodes c.args.request.now node = c.as_slice.ensures.value ∙ c.requires.settled.tables.ports.each node own there in
-    c.targets_word.ensures.value ∙ ap targets_word is ∙ sym (tail_port s.nodes c.args.host.now.image.now c.args.request.now node (sym c.is_endpoint.ensures ∙ c.if-is_endpoint.false))
+    c.targets_word.ensures.value ∙ ap targets_word c.ports_of.ensures
+    ∙ sym (tail_port c.args.host.now.topo.now.nodes c.args.host.now.image.now c.args.request.now c.args.node (sym c.is_endpoint.ensures ∙ c.if-is_endpoint.false))

@@ -1,11 +1,11 @@
 use Rattle.cxl_enc.specs.Codes.{bits_of}
-use Rattle.std.proofs.Common.{◌≡◌, ℕ, ◌/◌, ◌*◌, ◌%◌, ◌^◌, ◌<◌, Vec, Global, List, true, length, get_or, sym, ap, subst, ◌∙◌, arith}
+use Rattle.std.proofs.Common.{◌≡◌, ℕ, ◌/◌, ◌*◌, ◌%◌, ◌^◌, ◌<◌, List, true, length, get_or, sym, ap, subst, ◌∙◌, arith}
 use Rattle.std.specs.Prelude.{slice_get, Some}
 use Rattle.std.specs.List.{All}
 use Rattle.std.proofs.lemmas.Option.{slice_get-get_or}
 use Rattle.cxl_legal.specs.Used.{is_port_used}
 use Rattle.cxl_plan.specs.inner.Uses.{tree_alone, ports_at, ways_at, ways_above_at}
-use Rattle.cxl_plan.proofs.PlannedWays.{count_of_ports, some_ways}
+use Rattle.cxl_plan.proofs.PlannedWays.{port_ways, some_ways}
 use Rattle.cxl_plan.proofs.Leading.{ports_used}
 use Rattle.cxl_plan.proofs.spans.port_of.Goals as goal
 
@@ -13,9 +13,7 @@ pub bounds-ports-from : goal.bounds-ports-from
 bounds-ports-from c =
     let nodes = c.args.topo.now.nodes in
     let request = c.args.request.now in
-    let own : Vec ℕ Global = c.index.result.now in
-    let count : length own.items ≡ ways_at nodes request c.args.node = count_of_ports nodes request c.args.uses.now.ports.items c.requires.uses.ports c.args.node c.requires.here own c.index.ensures c.requires.port in
-    let slice : length c.as_slice-ports.result.now ≡ length own.items = ap length c.as_slice-ports.ensures.value in
+    let count : length c.ports_of-ports.result.now ≡ ways_at nodes request c.args.node = ap length c.ports_of-ports.ensures ∙ sym (port_ways nodes request c.args.node c.requires.port) in
     let ways : c.from-ways.result ≡ ways_at nodes request c.args.node = c.from-ways.ensures ∙ c.planned_ways.ensures.value in
     let some : 0 < ways_at nodes request c.args.node = some_ways (ways_at nodes request c.args.node) (c.requires.ways c.args.node c.requires.used) in
     omega arith
@@ -24,40 +22,26 @@ pub returns-clause-used : goal.returns-clause-used
 returns-clause-used c =
     let nodes = c.args.topo.now.nodes in
     let request = c.args.request.now in
-    let own : Vec ℕ Global = c.index.result.now in
-    let tables = c.args.uses.now.ports.items in
-    let counted = c.requires.uses.ports.count in
-    let here = c.requires.here in
-    let there : slice_get tables c.args.node ≡ Some own = slice_get-get_or tables c.args.node own (omega arith) ∙ ap Some (sym c.index.ensures) in
-    let count : length own.items ≡ ways_at nodes request c.args.node = count_of_ports nodes request tables c.requires.uses.ports c.args.node here own c.index.ensures c.requires.port in
-    let slice : length c.as_slice-ports.result.now ≡ length own.items = ap length c.as_slice-ports.ensures.value in
+    let count : length c.ports_of-ports.result.now ≡ ways_at nodes request c.args.node = ap length c.ports_of-ports.ensures ∙ sym (port_ways nodes request c.args.node c.requires.port) in
     let ways : c.from-ways.result ≡ ways_at nodes request c.args.node = c.from-ways.ensures ∙ c.planned_ways.ensures.value in
     let some : 0 < ways_at nodes request c.args.node = some_ways (ways_at nodes request c.args.node) (c.requires.ways c.args.node c.requires.used) in
-    let inside : c.from.result / (c.root_ways.result * c.used_above.result.ways) % c.from-ways.result < length c.as_slice-ports.result.now = omega arith in
-    let is : c.as_slice-ports.result.now ≡ ports_at nodes request c.args.node = c.as_slice-ports.ensures.value ∙ c.requires.uses.ports.each c.args.node own there in
-    subst (λ (xs : List ℕ). All (λ p. is_port_used (tree_alone nodes) request c.args.node p ≡ true) xs) (sym is) (ports_used nodes request c.args.node) _ 0 inside
+    let inside : c.from.result / (c.root_ways.result * c.used_above.result.ways) % c.from-ways.result < length c.ports_of-ports.result.now = omega arith in
+    subst (λ (xs : List ℕ). All (λ p. is_port_used (tree_alone nodes) request c.args.node p ≡ true) xs) (sym c.ports_of-ports.ensures) (ports_used nodes request c.args.node) _ 0 inside
 
 pub returns-clause-port : goal.returns-clause-port
 returns-clause-port c =
     let nodes = c.args.topo.now.nodes in
     let request = c.args.request.now in
-    let own : Vec ℕ Global = c.index.result.now in
-    let tables = c.args.uses.now.ports.items in
-    let counted = c.requires.uses.ports.count in
-    let here = c.requires.here in
-    let there : slice_get tables c.args.node ≡ Some own = slice_get-get_or tables c.args.node own (omega arith) ∙ ap Some (sym c.index.ensures) in
-    let count : length own.items ≡ ways_at nodes request c.args.node = count_of_ports nodes request tables c.requires.uses.ports c.args.node here own c.index.ensures c.requires.port in
-    let slice : length c.as_slice-ports.result.now ≡ length own.items = ap length c.as_slice-ports.ensures.value in
+    let count : length c.ports_of-ports.result.now ≡ ways_at nodes request c.args.node = ap length c.ports_of-ports.ensures ∙ sym (port_ways nodes request c.args.node c.requires.port) in
     let ways : c.from-ways.result ≡ ways_at nodes request c.args.node = c.from-ways.ensures ∙ c.planned_ways.ensures.value in
     let some : 0 < ways_at nodes request c.args.node = some_ways (ways_at nodes request c.args.node) (c.requires.ways c.args.node c.requires.used) in
-    let inside : c.from.result / (c.root_ways.result * c.used_above.result.ways) % c.from-ways.result < length c.as_slice-ports.result.now = omega arith in
-    let is : c.as_slice-ports.result.now ≡ ports_at nodes request c.args.node = c.as_slice-ports.ensures.value ∙ c.requires.uses.ports.each c.args.node own there in
+    let inside : c.from.result / (c.root_ways.result * c.used_above.result.ways) % c.from-ways.result < length c.ports_of-ports.result.now = omega arith in
     let k = c.from.result / (c.root_ways.result * c.used_above.result.ways) % c.from-ways.result in
-    let read : slice_get c.as_slice-ports.result.now k ≡ Some (get_or c.as_slice-ports.result.now k 0) = slice_get-get_or c.as_slice-ports.result.now k 0 inside in
+    let read : slice_get c.ports_of-ports.result.now k ≡ Some (get_or c.ports_of-ports.result.now k 0) = slice_get-get_or c.ports_of-ports.result.now k 0 inside in
     let above = c.used_above.ensures.ways in
     let place : k ≡ c.args.slot / (2 ^ bits_of c.args.w.now.ways * ways_above_at nodes request c.args.node) % ways_at nodes request c.args.node =
     ap (λ (n : ℕ). n / (c.root_ways.result * c.used_above.result.ways) % c.from-ways.result) c.from.ensures
     ∙ ap (λ (n : ℕ). c.args.slot / (n * c.used_above.result.ways) % c.from-ways.result) c.root_ways.ensures.value
     ∙ ap (λ (n : ℕ). c.args.slot / (2 ^ bits_of c.args.w.now.ways * n) % c.from-ways.result) above
     ∙ ap (λ (n : ℕ). c.args.slot / (2 ^ bits_of c.args.w.now.ways * ways_above_at nodes request c.args.node) % n) ways in
-    ap (slice_get (ports_at nodes request c.args.node)) (sym place) ∙ ap (λ (xs : List ℕ). slice_get xs k) (sym is) ∙ read
+    ap (slice_get (ports_at nodes request c.args.node)) (sym place) ∙ ap (λ (xs : List ℕ). slice_get xs k) (sym c.ports_of-ports.ensures) ∙ read

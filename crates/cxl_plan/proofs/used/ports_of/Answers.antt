@@ -1,17 +1,15 @@
-use Rattle.std.proofs.Common.{sym, ◌∙◌}
-use Rattle.cxl_topo.proofs.Trees.{KnownTree}
+use Rattle.std.proofs.Common.{◌≡◌, ℕ, Vec, Global, Some, sym, ap, ◌∙◌, arith}
+use Rattle.std.specs.Prelude.{slice_get}
+use Rattle.std.proofs.lemmas.Option.{slice_get-get_or}
 use Rattle.cxl_plan.specs.inner.Uses.{ports_at}
-use Rattle.cxl_plan.proofs.Tables.{ports_listed, no_ports, not_counted, then_ok}
 use Rattle.cxl_plan.proofs.used.ports_of.Goals as goal
 
-pub returns-then-counts-node-eq0 : goal.returns-then-counts-node-eq0
-returns-then-counts-node-eq0 c request bytes known listed =
-    let nodes = c.args.topo.now.nodes in
-    let tree : KnownTree nodes = record { tree = c.count-count.ensures.tree; laws = c.tree_laws.ensures.laws nodes c.count-count.ensures.tree } in
-    c.new.ensures.items ∙ sym (no_ports nodes tree request c.args.node (not_counted nodes request c.args.counts.now c.args.node known c.requires.here c.if-counts-node-eq0.true))
-
 pub returns : goal.returns
-returns c request bytes known listed =
-    let nodes = c.args.topo.now.nodes in
-    then_ok c.ports_with_count.result _ (ports_at nodes request c.args.node) c.ports_with_count.ensures.listed
-    (ports_listed nodes request c.args.node c.counts_at_ports.result c.ports_with_count.ensures.sized (λ port below. c.counts_at_ports.ensures request port below known listed))
+returns c =
+    let tables = c.args.uses.now.ports.items in
+    let own : Vec ℕ Global = c.index.result.now in
+    let place : ℕ = c.place_of.result in
+    let count = c.requires.uses.ports.count in
+    let within = c.place_of.ensures.within in
+    let there : slice_get tables place ≡ Some own = slice_get-get_or tables place own (omega (arith, count, within)) ∙ ap Some (sym c.index.ensures) in
+    c.as_slice.ensures.value ∙ c.requires.uses.ports.each place own there ∙ ap (ports_at c.args.topo.now.nodes c.args.request.now) c.place_of.ensures.node

@@ -1,15 +1,24 @@
-use Rattle.std.proofs.Common.{length, ap, ◌∙◌, arith}
-use Rattle.cxl_plan.proofs.Tables.{ports_more, length_end}
+use Rattle.std.proofs.Common.{ℕ, List, Vec, Global, length, get_or, ap, subst, ◌∙◌, arith}
+use Rattle.cxl_plan.specs.inner.AtPorts.{ArePortsOf}
+use Rattle.cxl_plan.proofs.Tables.{ports_more, length_end, ports_listed}
 use Rattle.cxl_plan.proofs.used.used_ports.Goals as goal
+
+pub ports_under-requires-clause-here : goal.ports_under-requires-clause-here
+ports_under-requires-clause-here c = c.requires c.loop-node.node-index 0 (omega arith)
 
 pub loop-node-preserved : goal.loop-node-preserved
 loop-node-preserved c =
-    let longer = ap length c.in_ok-push.ensures.items ∙ length_end c.loop-node.ports.items c.in_ok-ports_of.field-0 in
-    let before = c.loop-node.invariant.0 in (
+    let nodes = c.args.topo.now.nodes in
+    let own : Vec ℕ Global = c.in_ok-ports_under.field-0 in
+    let i : ℕ = c.loop-node.node-index in
+    let longer = ap length c.in_ok-push.ensures.items ∙ length_end c.loop-node.ports.items own in
+    let before = c.loop-node.invariant.0 in
+    let laws = c.tree_laws.ensures.laws nodes c.count-count.ensures.tree in (
       omega (arith, longer, before),
-      λ request bytes known listed. ports_more c.args.topo.now.nodes request c.loop-node.ports.items c.push.new.self.items c.loop-node.node c.in_ok-ports_of.field-0 before (c.loop-node.invariant.1 request bytes known listed) c.in_ok-push.ensures.items (c.in_ok-ports_of.ensures request bytes known listed),
+      λ request listed. ports_more nodes request c.args.nodes.now c.loop-node.ports.items c.push.new.self.items i own before (c.loop-node.invariant.1 request listed) c.in_ok-push.ensures.items
+          (ports_listed nodes laws request (get_or c.args.nodes.now i 0) own.items (subst (λ (xs : List ℕ). ArePortsOf nodes xs (get_or c.args.nodes.now i 0) own.items) listed c.in_ok-ports_under.ensures)),
     )
 
 pub returns : goal.returns
-returns c request bytes known listed = let before = c.loop-node.invariant.0 in
-    record { count = omega (arith, before, c.count-node-end.ensures.count); each = c.loop-node.invariant.1 request bytes known listed }
+returns c request listed = let before = c.loop-node.invariant.0 in
+    record { count = omega (arith, before); each = c.loop-node.invariant.1 request listed }

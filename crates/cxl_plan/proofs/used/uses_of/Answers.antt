@@ -1,26 +1,30 @@
-use Rattle.std.proofs.Common.{◌≡◌, ℕ, ◌<◌, List, length, filter, get_or, sym, ap, subst, ◌∙◌}
-use Rattle.std.specs.Prelude.{nat_lt}
-use Rattle.std.specs.List.{All, range_with_len}
-use Rattle.cxl_plan.specs.inner.Uses.{AreCounts, used_nodes}
-use Rattle.cxl_plan.proofs.Tables.{used_by_count, used_within}
+use Rattle.std.proofs.Common.{◌≡◌, ℕ, ◌<◌, List, length, filter, sym, subst, ◌∙◌}
+use Rattle.std.specs.List.{All}
+use Rattle.cxl_model.specs.Counts.{is_under}
+use Rattle.cxl_plan.specs.inner.Uses.{used_nodes, AreCounted, ArePorts}
+use Rattle.cxl_plan.proofs.Tables.{used_within}
+use Rattle.cxl_plan.proofs.Counting.{all_listed, all_counted}
 use Rattle.cxl_plan.proofs.used.uses_of.Goals as goal
 
-pub used_ports-requires-clause-inside : goal.used_ports-requires-clause-inside
-used_ports-requires-clause-inside c =
+pub used_ports-requires : goal.used_ports-requires
+used_ports-requires c =
     let nodes = c.args.topo.now.nodes in
-    let known : AreCounts nodes c.args.request.now.endpoints c.in_ok-counts.counts.items = subst (λ (es : List ℕ). AreCounts nodes es c.in_ok-counts.counts.items) c.items-2.ensures c.in_ok-counts.ensures in
-    let listed : c.in_ok-nodes.nodes.items ≡ used_nodes nodes c.args.request.now =
-    c.in_ok-nodes.ensures ∙ ap (λ (cs : List ℕ). filter (λ n. nat_lt 0 (get_or cs n 0)) (range_with_len 0 (length nodes))) c.deref-2.ensures.value ∙ used_by_count nodes c.args.request.now c.in_ok-counts.counts.items known in
-    subst (λ (xs : List ℕ). All (λ n. n < length nodes) xs) (sym (c.deref-4.ensures.value ∙ listed)) (used_within nodes c.args.request.now)
+    let request = c.args.request.now in
+    let listed : List ℕ = c.count_all.new.nodes.items in
+    let counts : List ℕ = c.count_all.new.counts.items in
+    let known : AreCounted (λ n. length (filter (is_under nodes n) request.endpoints)) (length nodes) listed counts = subst (λ (es : List ℕ). AreCounted (λ n. length (filter (is_under nodes n) es)) (length nodes) listed counts) c.items.ensures c.in_ok-count_all.ensures in
+    subst (λ (xs : List ℕ). All (λ n. n < length nodes) xs) (sym (c.deref.ensures.value ∙ all_listed nodes request listed counts known)) (used_within nodes request)
 
 pub returns : goal.returns
 returns c =
     let nodes = c.args.topo.now.nodes in
-    let known : AreCounts nodes c.args.request.now.endpoints c.in_ok-counts.counts.items = subst (λ (es : List ℕ). AreCounts nodes es c.in_ok-counts.counts.items) c.items-2.ensures c.in_ok-counts.ensures in
-    let listed : c.in_ok-nodes.nodes.items ≡ used_nodes nodes c.args.request.now =
-    c.in_ok-nodes.ensures ∙ ap (λ (cs : List ℕ). filter (λ n. nat_lt 0 (get_or cs n 0)) (range_with_len 0 (length nodes))) c.deref-2.ensures.value ∙ used_by_count nodes c.args.request.now c.in_ok-counts.counts.items known in
+    let request = c.args.request.now in
+    let listed : List ℕ = c.count_all.new.nodes.items in
+    let counts : List ℕ = c.count_all.new.counts.items in
+    let known : AreCounted (λ n. length (filter (is_under nodes n) request.endpoints)) (length nodes) listed counts = subst (λ (es : List ℕ). AreCounted (λ n. length (filter (is_under nodes n) es)) (length nodes) listed counts) c.items.ensures c.in_ok-count_all.ensures in
+    let is : listed ≡ used_nodes nodes request = all_listed nodes request listed counts known in
     record {
-      counts = known;
-      listed = listed;
-      ports = c.in_ok-ports.ensures c.args.request.now c.requires.ports (subst (λ (cs : List ℕ). AreCounts nodes c.args.request.now.endpoints cs) (sym c.deref-3.ensures.value) known) (c.deref-4.ensures.value ∙ listed);
+      listed = is;
+      counts = all_counted nodes request listed counts known c.requires.few;
+      ports = subst (λ (xs : List ℕ). ArePorts nodes request xs c.in_ok-ports.ports.items) c.deref.ensures.value (c.in_ok-ports.ensures request (c.deref.ensures.value ∙ is));
     }

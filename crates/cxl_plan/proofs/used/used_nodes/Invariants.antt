@@ -1,7 +1,0 @@
-use Rattle.std.proofs.Common.{◌≡◌, filter, get_or}
-use Rattle.std.specs.Prelude.{nat_lt}
-use Rattle.std.specs.List.{range_with_len}
-use Rattle.cxl_plan.proofs.used.used_nodes.Given as goal
-
-abbrev pub invariant-loop-node : goal.invariant-loop-node
-invariant-loop-node l = l.nodes.items ≡ filter (λ n. nat_lt 0 (get_or l.counts n 0)) (range_with_len 0 l.node)
