@@ -1,7 +1,6 @@
 -- The tables of used nodes and ports, one entry at a time.
-use Rattle.std.proofs.Common.{◌≡◌, ℕ, zero, suc, ◌+◌, ◌<◌, ◌≤◌, Bool, true, false, ◌||◌, ◌&&◌, List, [], ◌∷◌, ◌++◌, length, get_or, take, filter, replicate, Option, Some, None, refl, sym, ap, ◌∙◌, inl, inr, arith, if◌then◌else◌}
-use Rattle.std.specs.Prelude.{Vec, slice_get, ◌==◌, nat_lt, Result, Ok, Err, OnOk}
-use Rattle.std.specs.Global.{Global}
+use Rattle.std.proofs.Common.{◌≡◌, ℕ, zero, suc, ◌+◌, ◌<◌, ◌≤◌, Bool, true, false, ◌||◌, ◌&&◌, List, [], ◌∷◌, ◌++◌, length, get_or, take, filter, replicate, Option, Some, None, refl, sym, ap, subst, ◌∙◌, inl, inr, arith, if◌then◌else◌}
+use Rattle.std.specs.Prelude.{slice_get, ◌==◌, nat_lt, Result, Ok, Err, OnOk}
 use Rattle.std.specs.Option.{option_map_or}
 use Rattle.std.specs.List.{list_any, range_with_len, All}
 use Rattle.std.proofs.lemmas.Bool.{and_parts, and_from, cases_Bool, cases_eq, cases_lt, eq-eqb, eqb-true, ne_eqb, lt-ltb, false≢true, or_right}
@@ -265,18 +264,18 @@ pub length_end : {X : Type 0} (xs : List X) (x : X) → length (xs ++ x ∷ []) 
 length_end [] x = refl
 length_end (y ∷ xs) x = ap suc (length_end xs x)
 
-pub ports_more : (nodes : List Node) (request : Request) (used : List ℕ) (old new : List (Vec ℕ Global)) (i : ℕ) (own : Vec ℕ Global) → length old ≡ i
-    → ((k : ℕ) (it : Vec ℕ Global) → slice_get old k ≡ Some it → it.items ≡ ports_at nodes request (get_or used k 0)) → new ≡ old ++ own ∷ [] → own.items ≡ ports_at nodes request (get_or used i 0)
-    → (k : ℕ) (it : Vec ℕ Global) → slice_get new k ≡ Some it → it.items ≡ ports_at nodes request (get_or used k 0)
-ports_more nodes request used old new i own count known is here k it there =
+-- what holds of each item by its place, holds with one more at the end
+pub each_more : {X : Type 0} (P : ℕ → X → Type 0) (old new : List X) (i : ℕ) (own : X) → length old ≡ i → ((k : ℕ) (it : X) → slice_get old k ≡ Some it → P k it) → new ≡ old ++ own ∷ [] → P i own
+    → (k : ℕ) (it : X) → slice_get new k ≡ Some it → P k it
+each_more {X} P old new i own count known is here k it there =
     elim (cases_lt k (length old)) [
-      | inl before ↦ known k it (sym (slice_get_front old (own ∷ []) k before) ∙ ap (λ (xs : List (Vec ℕ Global)). slice_get xs k) (sym is) ∙ there)
+      | inl before ↦ known k it (sym (slice_get_front old (own ∷ []) k before) ∙ ap (λ (xs : List X). slice_get xs k) (sym is) ∙ there)
       | inr past ↦
           let within = slice_get_within new k it there in
           let longer : length new ≡ suc (length old) = ap length is ∙ length_end old own in
           let same : k ≡ length old = omega arith in
-          let one : own ≡ it = same_Some own it (sym (get_last old own) ∙ ap (λ (m : ℕ). slice_get (old ++ own ∷ []) m) (sym same) ∙ ap (λ (xs : List (Vec ℕ Global)). slice_get xs k) (sym is) ∙ there) in
-          ap (λ (v : Vec ℕ Global). v.items) (sym one) ∙ here ∙ ap (λ (m : ℕ). ports_at nodes request (get_or used m 0)) (sym count ∙ sym same)
+          let one : own ≡ it = same_Some own it (sym (get_last old own) ∙ ap (λ (m : ℕ). slice_get (old ++ own ∷ []) m) (sym same) ∙ ap (λ (xs : List X). slice_get xs k) (sym is) ∙ there) in
+          subst (λ (m : ℕ). P m it) (sym count ∙ sym same) (subst (P i) one here)
     ]
 
 pub used_inside : (p : ℕ → Bool) (a n : ℕ) → All (λ k. k < a + n) (filter p (range_with_len a n))

@@ -7,6 +7,7 @@ ghost use Rattle.cxl_plan.specs.inner.Judging.{AsksOrderlySystem, HasLowShare};
 ghost use Rattle.cxl_plan.specs.inner.Choices.{IsChoice};
 
 use crate::base::floor;
+use crate::stages::stages;
 use crate::used::Uses;
 use crate::windows::base_in;
 use cxl_model::{Host, Reason, Request};
@@ -35,10 +36,11 @@ pub(crate) fn choose(
     ensures { IfOk result (IsChoice (as_system host.now) request.now) }
 {
     let floor = floor(host, request, uses);
+    let stages = stages(alloc, host.topo, request, uses)?;
     let windows = host.windows;
     let mut reasons = Vec::with_capacity(alloc, windows.len())?;
     for (i, w) in windows.iter().enumerate() {
-        match base_in(host.topo, request, uses, floor, w) {
+        match base_in(host.topo, request, uses, &stages, floor, w) {
             Ok(base) => return Ok(Choice::Found(i, base)),
             Err(reason) => reasons.push(reason)?,
         }

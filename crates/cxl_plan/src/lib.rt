@@ -10,6 +10,7 @@ mod planning;
 mod room;
 mod rows;
 mod spans;
+mod stages;
 mod used;
 mod ways;
 mod windows;

@@ -9,8 +9,9 @@ ghost use Rattle.cxl_plan.specs.inner.Judging.{IsTakenBy};
 ghost use Rattle.cxl_plan.specs.inner.Planned.{tail_at, row_at, rows_at};
 
 use crate::room::span_of;
+use crate::stages::planned_code;
 use crate::used::{Uses, ports_of};
-use crate::ways::{planned_code, planned_ways};
+use crate::ways::planned_ways;
 use cxl_enc::code_of;
 use cxl_model::{Host, Request, Row};
 use cxl_regs::Decoder;

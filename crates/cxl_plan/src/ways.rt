@@ -1,10 +1,10 @@
-//! The ways and the code that a used node's decoder would have.
+//! The ways that a used node's decoder would have, and the code of the region.
 
 ghost use Rattle.std.specs.Prelude.{◌≡◌, ◌<◌, ◌≤◌, ◌^◌, true, length, IsTrue};
 ghost use Rattle.cxl_enc.specs.Codes.{is_ways};
 ghost use Rattle.cxl_model.specs.Plans.{plan_code};
 ghost use Rattle.cxl_legal.specs.Used.{request_ways, is_used};
-ghost use Rattle.cxl_plan.specs.inner.Uses.{tree_alone, AreUses, HasWays, ways_at, ways_above_at, bits_above_at, code_at};
+ghost use Rattle.cxl_plan.specs.inner.Uses.{tree_alone, AreUses, HasWays, ways_at, ways_above_at, bits_above_at};
 
 use crate::used::{Uses, ports_of};
 use cxl_enc::split;
@@ -68,28 +68,4 @@ pub(crate) fn plan_code(request: &Request, w: &Window) -> u8
         Some(code) => code,
         None => w.gran(),
     }
-}
-
-/// The code that a used node's decoder would have in a window. It may be one that no granularity has.
-pub(crate) fn planned_code(
-    topo: &Topo,
-    request: &Request,
-    uses: &Uses,
-    w: &Window,
-    node: u32,
-) -> u32
-    requires uses { AreUses topo.now.nodes request.now uses.now }
-    requires ways { HasWays topo.now.nodes request.now }
-    requires here { node < length topo.now.nodes }
-    requires used { is_used (tree_alone topo.now.nodes) request.now node ≡ true }
-    ensures { result ≡ code_at topo.now.nodes request.now w.now node }
-{
-    if planned_ways(topo, request, uses, node) == 1 {
-        return 0;
-    }
-    let code = u32::from(plan_code(request, w));
-    if topo.is_endpoint(node) {
-        return code;
-    }
-    code + u32::from(split(w.ways()).bits) + used_above(topo, request, uses, node).bits
 }

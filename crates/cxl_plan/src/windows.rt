@@ -1,25 +1,26 @@
 //! Why a window does not take a request, or the least base where it does.
 
-ghost use Rattle.std.specs.Prelude.{◌≡◌, ◌<◌, ◌≤◌, ◌+◌, ◌&&◌, ◌||◌, not, nat_le, true, false, List, length, find, slice_get, Some, IfOk, IfErr, IfSome, IfNone};
+ghost use Rattle.std.specs.Prelude.{◌≡◌, ℕ, ◌<◌, ◌≤◌, ◌+◌, ◌&&◌, ◌||◌, not, nat_le, true, false, List, length, find, slice_get, Some, IfOk, IfErr, IfSome, IfNone};
 ghost use Rattle.std.specs.Option.{option_map_or};
 ghost use Rattle.std.specs.List.{list_all, range_with_len, All};
 ghost use Rattle.cxl_enc.specs.Codes.{is_ways, code_in_table};
 ghost use Rattle.cxl_enc.specs.Limits.{address_limit};
 ghost use Rattle.cxl_regs.specs.Registers.{Registers};
 ghost use Rattle.cxl_regs.specs.Rules.{select_ok, endpoint_ways_ok};
+ghost use Rattle.cxl_topo.specs.declared.node.Node.{Node};
 ghost use Rattle.cxl_topo.specs.Tree.{is_endpoint_at, is_bridge_at};
 ghost use Rattle.cxl_window.specs.Fields.{WindowFields};
 ghost use Rattle.cxl_legal.specs.Used.{request_ways, is_used};
 ghost use Rattle.cxl_legal.specs.Windows.{has_used_bridges, is_used_bridge, is_target, can_have_ways};
 ghost use Rattle.cxl_plan.specs.Faults.{Takes, IsReason};
-ghost use Rattle.cxl_plan.specs.inner.Uses.{tree_alone, AreUses, HasWays};
+ghost use Rattle.cxl_plan.specs.inner.Uses.{tree_alone, AreUses};
+ghost use Rattle.cxl_plan.specs.inner.Stages.{stage_at, AreStages};
 ghost use Rattle.cxl_plan.specs.inner.Judging.{over, selects_at, KeepsWindow};
 ghost use Rattle.cxl_plan.specs.inner.Floors.{IsFloor};
 
 use crate::base::least_base;
+use crate::stages::{Stage, stage_code};
 use crate::used::Uses;
-use crate::ways::{planned_code, planned_ways};
-use cxl_enc::split;
 use cxl_legal::{agrees_on_gran, can_have_ways};
 use cxl_model::{Reason, Request, Room};
 use cxl_regs::select_ok;
@@ -31,11 +32,12 @@ pub(crate) fn base_in(
     topo: &Topo,
     request: &Request,
     uses: &Uses,
+    stages: &[Stage],
     floor: u64,
     w: &Window,
 ) -> Result<u64, Reason>
     requires uses { AreUses topo.now.nodes request.now uses.now }
-    requires ways { HasWays topo.now.nodes request.now }
+    requires stages { AreStages topo.now.nodes request.now uses.now.nodes.items stages.now }
     requires known { is_ways (request_ways request.now) ≡ true }
     requires named { All (λ m. is_endpoint_at topo.now.nodes m ≡ true) request.now.endpoints }
     requires size { request.now.size ≤ address_limit }
@@ -47,7 +49,7 @@ pub(crate) fn base_in(
 {
     tree_laws();
     let _count = topo.count();
-    if let Some(reason) = first_reason(topo, request, uses, w) {
+    if let Some(reason) = first_reason(topo, request, uses, stages, w) {
         return Err(reason);
     }
     // A window that can be used ends where an address may.
@@ -61,9 +63,15 @@ pub(crate) fn base_in(
 }
 
 /// The first reason that does not speak of room.
-fn first_reason(topo: &Topo, request: &Request, uses: &Uses, w: &Window) -> Option<Reason>
+fn first_reason(
+    topo: &Topo,
+    request: &Request,
+    uses: &Uses,
+    stages: &[Stage],
+    w: &Window,
+) -> Option<Reason>
     requires uses { AreUses topo.now.nodes request.now uses.now }
-    requires ways { HasWays topo.now.nodes request.now }
+    requires stages { AreStages topo.now.nodes request.now uses.now.nodes.items stages.now }
     requires known { is_ways (request_ways request.now) ≡ true }
     ensures none { IfNone result (KeepsWindow topo.now.nodes request.now w.now) }
     ensures some { IfSome result (λ reason. (blocks : List Registers) (windows : List WindowFields)
@@ -84,7 +92,7 @@ fn first_reason(topo: &Topo, request: &Request, uses: &Uses, w: &Window) -> Opti
     if !agrees_on_gran(request.gran, w) {
         return Some(Reason::Gran);
     }
-    if let Some(node) = first_not_selecting(topo, request, uses, w) {
+    if let Some(node) = first_not_selecting(topo, request, uses, stages, w) {
         return Some(Reason::Select(node));
     }
     if let Some(node) = first_without_ways(topo, request, uses) {
@@ -98,9 +106,7 @@ fn has_used_bridges(topo: &Topo, request: &Request, uses: &Uses, w: &Window) -> 
     requires { AreUses topo.now.nodes request.now uses.now }
     ensures { result ≡ has_used_bridges (tree_alone topo.now.nodes) request.now w.now }
 {
-    let all_used = are_used(topo, request, uses, w);
-    let all_targets = are_targets(topo, request, uses, w);
-    all_used && all_targets
+    are_used(topo, request, uses, w) && are_targets(topo, request, uses, w)
 }
 
 /// Whether each target of a window is a used bridge.
@@ -151,30 +157,32 @@ fn is_other_or_target(topo: &Topo, w: &Window, node: u32) -> bool
 }
 
 /// The least used node that could not select as it would have to.
-fn first_not_selecting(topo: &Topo, request: &Request, uses: &Uses, w: &Window) -> Option<u32>
+fn first_not_selecting(
+    topo: &Topo,
+    request: &Request,
+    uses: &Uses,
+    stages: &[Stage],
+    w: &Window,
+) -> Option<u32>
     requires uses { AreUses topo.now.nodes request.now uses.now }
-    requires ways { HasWays topo.now.nodes request.now }
+    requires stages { AreStages topo.now.nodes request.now uses.now.nodes.items stages.now }
     ensures { result ≡ find (λ m. not (selects_at topo.now.nodes request.now w.now m)) (range_with_len 0 (length topo.now.nodes)) }
 {
-    for node in &uses.nodes {
-        if !can_select(topo, request, uses, w, *node) {
-            return Some(*node);
+    let nodes = uses.nodes.as_slice();
+    for place in 0..nodes.len() {
+        if !can_select(&stages[place], request, w) {
+            return Some(nodes[place]);
         }
     }
     None
 }
 
-/// Whether a used node could select as it would have to.
-fn can_select(topo: &Topo, request: &Request, uses: &Uses, w: &Window, node: u32) -> bool
-    requires uses { AreUses topo.now.nodes request.now uses.now }
-    requires ways { HasWays topo.now.nodes request.now }
-    requires here { node < length topo.now.nodes }
-    requires used { is_used (tree_alone topo.now.nodes) request.now node ≡ true }
-    ensures { result ≡ selects_at topo.now.nodes request.now w.now node }
+/// Whether a used node could select as it would have to, by its stage.
+fn can_select(stage: &Stage, request: &Request, w: &Window) -> bool
+    ensures { (nodes : List Node) (n : ℕ) → is_used (tree_alone nodes) request.now n ≡ true
+        → stage.now ≡ stage_at nodes request.now n → result ≡ selects_at nodes request.now w.now n }
 {
-    let code = planned_code(topo, request, uses, w, node);
-    let bits = split(planned_ways(topo, request, uses, node)).bits;
-    selects(topo.node(node).cap, code, bits)
+    selects(stage.cap, stage_code(stage, request, w), stage.bits)
 }
 
 fn selects(cap: u32, code: u32, bits: u8) -> bool

@@ -1,6 +1,7 @@
-use Rattle.std.proofs.Common.{ℕ, List, Vec, Global, length, get_or, ap, subst, ◌∙◌, arith}
+use Rattle.std.proofs.Common.{◌≡◌, ℕ, List, Vec, Global, length, get_or, ap, subst, ◌∙◌, arith}
+use Rattle.cxl_plan.specs.inner.Uses.{ports_at}
 use Rattle.cxl_plan.specs.inner.AtPorts.{ArePortsOf}
-use Rattle.cxl_plan.proofs.Tables.{ports_more, length_end, ports_listed}
+use Rattle.cxl_plan.proofs.Tables.{each_more, length_end, ports_listed}
 use Rattle.cxl_plan.proofs.used.used_ports.Goals as goal
 
 pub ports_under-requires-clause-here : goal.ports_under-requires-clause-here
@@ -15,7 +16,7 @@ loop-node-preserved c =
     let before = c.loop-node.invariant.0 in
     let laws = c.tree_laws.ensures.laws nodes c.count-count.ensures.tree in (
       omega (arith, longer, before),
-      λ request listed. ports_more nodes request c.args.nodes.now c.loop-node.ports.items c.push.new.self.items i own before (c.loop-node.invariant.1 request listed) c.in_ok-push.ensures.items
+      λ request listed. each_more (λ k (it : Vec ℕ Global). it.items ≡ ports_at nodes request (get_or c.args.nodes.now k 0)) c.loop-node.ports.items c.push.new.self.items i own before (c.loop-node.invariant.1 request listed) c.in_ok-push.ensures.items
           (ports_listed nodes laws request (get_or c.args.nodes.now i 0) own.items (subst (λ (xs : List ℕ). ArePortsOf nodes xs (get_or c.args.nodes.now i 0) own.items) listed c.in_ok-ports_under.ensures)),
     )
 
