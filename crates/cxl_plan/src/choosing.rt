@@ -2,12 +2,13 @@
 
 ghost use Rattle.std.specs.Prelude.{IfOk};
 ghost use Rattle.cxl_model.specs.Hosts.{as_system};
-ghost use Rattle.cxl_plan.specs.inner.Uses.{AreUses, HasWays};
+ghost use Rattle.cxl_plan.specs.inner.Uses.{AreUses};
+ghost use Rattle.cxl_plan.specs.inner.Stages.{AreStages};
 ghost use Rattle.cxl_plan.specs.inner.Judging.{AsksOrderlySystem, HasLowShare};
 ghost use Rattle.cxl_plan.specs.inner.Choices.{IsChoice};
 
 use crate::base::floor;
-use crate::stages::stages;
+use crate::stages::Stage;
 use crate::used::Uses;
 use crate::windows::base_in;
 use cxl_model::{Host, Reason, Request};
@@ -28,19 +29,19 @@ pub(crate) fn choose(
     host: &Host,
     request: &Request,
     uses: &Uses,
+    stages: &[Stage],
 ) -> Result<Choice, AllocError>
     requires ready { AsksOrderlySystem (as_system host.now) request.now }
     requires sound { HasLowShare request.now }
     requires uses { AreUses host.now.topo.now.nodes request.now uses.now }
-    requires ways { HasWays host.now.topo.now.nodes request.now }
+    requires stages { AreStages host.now.topo.now.nodes request.now uses.now.nodes.items stages.now }
     ensures { IfOk result (IsChoice (as_system host.now) request.now) }
 {
     let floor = floor(host, request, uses);
-    let stages = stages(alloc, host.topo, request, uses)?;
     let windows = host.windows;
     let mut reasons = Vec::with_capacity(alloc, windows.len())?;
     for (i, w) in windows.iter().enumerate() {
-        match base_in(host.topo, request, uses, &stages, floor, w) {
+        match base_in(host.topo, request, uses, stages, floor, w) {
             Ok(base) => return Ok(Choice::Found(i, base)),
             Err(reason) => reasons.push(reason)?,
         }

@@ -14,6 +14,7 @@ ghost use Rattle.cxl_legal.specs.Stated.{IsStatedPlan};
 ghost use Rattle.cxl_plan.specs.Faults.{IsFirstPlanFault, IsFirstPlan, IsLeastPlan};
 ghost use Rattle.cxl_plan.specs.Planned.{planned};
 ghost use Rattle.cxl_plan.specs.inner.Uses.{tree_alone, AreUses};
+ghost use Rattle.cxl_plan.specs.inner.Stages.{AreStages};
 ghost use Rattle.cxl_plan.specs.inner.Judging.{AsksOrderlySystem, IsEarly, IsTakenBy};
 
 use crate::choosing::{Choice, choose};
@@ -22,6 +23,7 @@ use crate::laws::requests_come_to_answers;
 use crate::room::first_refused;
 use crate::rows::rows;
 use crate::spans::places;
+use crate::stages::{Stage, stages};
 use crate::used::{Uses, uses_of};
 use crate::ways::plan_code;
 use cxl_enc::FixedList;
@@ -111,12 +113,44 @@ fn plan_fitting(
     ensures endpoints { OnOk result (FitsEndpoints (as_system host.now) request.now) }
     ensures plan { IfOk result (λ plan. IsFirstPlan (as_system host.now) request.now plan) }
 {
+    let Ok(stages) = stages(alloc, host.topo, request, uses) else {
+        return Err(PlanFault::Memory);
+    };
+    plan_staged(alloc, host, request, uses, &stages)
+}
+
+/// The same, with the stages of the used nodes.
+fn plan_staged(
+    alloc: Global,
+    host: &Host,
+    request: &Request,
+    uses: &Uses,
+    stages: &[Stage],
+) -> Result<Plan, PlanFault>
+    requires ready { AsksOrderlySystem (as_system host.now) request.now }
+    requires early { IsEarly request.now }
+    requires uses { AreUses host.now.topo.now.nodes request.now uses.now }
+    requires fits { FitsEndpoints (as_system host.now) request.now }
+    requires stages { AreStages host.now.topo.now.nodes request.now uses.now.nodes.items stages.now }
+    ensures fault { IfErr result (λ fault. fault ≢ PlanFault.Memory
+        → IsFirstPlanFault (as_system host.now) request.now fault) }
+    ensures endpoints { OnOk result (FitsEndpoints (as_system host.now) request.now) }
+    ensures plan { IfOk result (λ plan. IsFirstPlan (as_system host.now) request.now plan) }
+{
     let windows = host.windows;
-    let Ok(choice) = choose(alloc, host, request, uses) else {
+    let Ok(choice) = choose(alloc, host, request, uses, stages) else {
         return Err(PlanFault::Memory);
     };
     match choice {
-        Choice::Found(i, base) => match plan_at(alloc, host, request, uses, &windows[i], base) {
+        Choice::Found(i, base) => match plan_at(
+            alloc,
+            host,
+            request,
+            uses,
+            stages,
+            &windows[i],
+            base,
+        ) {
             Ok(plan) => Ok(plan),
             Err(_) => Err(PlanFault::Memory),
         },
@@ -170,14 +204,16 @@ fn plan_at(
     host: &Host,
     request: &Request,
     uses: &Uses,
+    stages: &[Stage],
     w: &Window,
     base: u64,
 ) -> Result<Plan, AllocError>
-    requires { IsTakenBy (as_system host.now) request.now uses.now w.now }
+    requires settled { IsTakenBy (as_system host.now) request.now uses.now w.now }
+    requires stages { AreStages host.now.topo.now.nodes request.now uses.now.nodes.items stages.now }
     ensures { IfOk result (λ plan. IsStatedPlan (as_system host.now) request.now w.now base plan) }
 {
     let spans = places(alloc, host, request, uses, w)?;
-    let rows = rows(alloc, host, request, uses, w, base)?;
+    let rows = rows(alloc, host, request, uses, stages, w, base)?;
     Ok(Plan {
         name: request.name,
         found: Found {

@@ -5,11 +5,12 @@ ghost use Rattle.cxl_model.specs.Hosts.{as_system};
 ghost use Rattle.cxl_legal.specs.Used.{is_used};
 ghost use Rattle.cxl_plan.specs.inner.Uses.{tree_alone};
 ghost use Rattle.cxl_legal.specs.Stated.{targets_word};
+ghost use Rattle.cxl_plan.specs.inner.Stages.{AreStages};
 ghost use Rattle.cxl_plan.specs.inner.Judging.{IsTakenBy};
 ghost use Rattle.cxl_plan.specs.inner.Planned.{tail_at, row_at, rows_at};
 
 use crate::room::span_of;
-use crate::stages::planned_code;
+use crate::stages::{Stage, planned_code};
 use crate::used::{Uses, ports_of};
 use crate::ways::planned_ways;
 use cxl_enc::code_of;
@@ -24,24 +25,35 @@ pub(crate) fn rows(
     host: &Host,
     request: &Request,
     uses: &Uses,
+    stages: &[Stage],
     w: &Window,
     base: u64,
 ) -> Result<Vec<Row>, AllocError>
-    requires { IsTakenBy (as_system host.now) request.now uses.now w.now }
+    requires settled { IsTakenBy (as_system host.now) request.now uses.now w.now }
+    requires stages { AreStages host.now.topo.now.nodes request.now uses.now.nodes.items stages.now }
     ensures { IfOk result (λ rows. rows.items ≡ rows_at host.now.topo.now.nodes host.now.image.now request.now w.now base) }
 {
     let mut rows = Vec::with_capacity(alloc, uses.nodes.len())?;
     for node in &uses.nodes {
         if !host.topo.forwards(*node) {
-            rows.push(row(host, request, uses, w, base, *node))?;
+            rows.push(row(host, request, uses, stages, w, base, *node))?;
         }
     }
     Ok(rows)
 }
 
 /// The row of one node: its first decoder that is not committed.
-fn row(host: &Host, request: &Request, uses: &Uses, w: &Window, base: u64, node: u32) -> Row
+fn row(
+    host: &Host,
+    request: &Request,
+    uses: &Uses,
+    stages: &[Stage],
+    w: &Window,
+    base: u64,
+    node: u32,
+) -> Row
     requires settled { IsTakenBy (as_system host.now) request.now uses.now w.now }
+    requires stages { AreStages host.now.topo.now.nodes request.now uses.now.nodes.items stages.now }
     requires here { node < length host.now.topo.now.nodes }
     requires used { is_used (tree_alone host.now.topo.now.nodes) request.now node ≡ true }
     ensures { result ≡ row_at host.now.topo.now.nodes host.now.image.now request.now w.now base node }
@@ -54,7 +66,7 @@ fn row(host: &Host, request: &Request, uses: &Uses, w: &Window, base: u64, node:
             base,
             size: request.size,
             ways: code_of(ways).unwrap(),
-            gran: planned_code(host.topo, request, uses, w, node) as u8,
+            gran: planned_code(host.topo, request, uses, stages, w, node) as u8,
             lock: false,
             commit: false,
             committed: false,

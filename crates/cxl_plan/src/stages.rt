@@ -6,7 +6,7 @@ ghost use Rattle.cxl_legal.specs.Used.{is_used};
 ghost use Rattle.cxl_plan.specs.inner.Uses.{tree_alone, AreUses, HasWays, code_at};
 ghost use Rattle.cxl_plan.specs.inner.Stages.{stage_at, AreStages};
 
-use crate::used::Uses;
+use crate::used::{Uses, place_of};
 use crate::ways::{plan_code, planned_ways, used_above};
 use cxl_enc::split;
 use cxl_model::Request;
@@ -94,14 +94,15 @@ pub(crate) fn planned_code(
     topo: &Topo,
     request: &Request,
     uses: &Uses,
+    stages: &[Stage],
     w: &Window,
     node: u32,
 ) -> u32
     requires uses { AreUses topo.now.nodes request.now uses.now }
-    requires ways { HasWays topo.now.nodes request.now }
+    requires stages { AreStages topo.now.nodes request.now uses.now.nodes.items stages.now }
     requires here { node < length topo.now.nodes }
     requires used { is_used (tree_alone topo.now.nodes) request.now node ≡ true }
     ensures { result ≡ code_at topo.now.nodes request.now w.now node }
 {
-    stage_code(&stage_of(topo, request, uses, node), request, w)
+    stage_code(&stages[place_of(topo, request, uses, node)], request, w)
 }

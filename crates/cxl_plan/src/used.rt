@@ -185,7 +185,7 @@ fn add_port(ports: &mut Vec<u8>, port: u8) -> Result<(), AllocError>
 }
 
 /// Where a used node stands among the used ones.
-fn place_of(topo: &Topo, request: &Request, uses: &Uses, node: u32) -> usize
+pub(crate) fn place_of(topo: &Topo, request: &Request, uses: &Uses, node: u32) -> usize
     requires uses { AreUses topo.now.nodes request.now uses.now }
     requires here { node < length topo.now.nodes }
     requires used { is_used (tree_alone topo.now.nodes) request.now node ≡ true }

@@ -1,10 +1,8 @@
-use Rattle.std.proofs.Common.{◌≡◌, List, Some, length, sym, ap, subst, ◌∙◌, arith}
+use Rattle.std.proofs.Common.{◌≡◌, Some, length, sym, ap, ◌∙◌, arith}
 use Rattle.std.specs.Prelude.{slice_get}
 use Rattle.std.proofs.lemmas.Option.{slice_get-get_or}
 use Rattle.cxl_window.specs.Fields.{WindowFields}
 use Rattle.cxl_model.specs.Hosts.{as_system}
-use Rattle.cxl_plan.specs.declared.stages.Stage.{Stage}
-use Rattle.cxl_plan.specs.inner.Stages.{AreStages}
 use Rattle.cxl_plan.proofs.Choices.{no_reasons, one_reason_more, all_reasons, found_first}
 use Rattle.cxl_plan.proofs.choosing.choose.Goals as goal
 
@@ -55,11 +53,5 @@ base_in-requires-clause-size c = c.requires.sound.low
 pub base_in-requires-clause-floor : goal.base_in-requires-clause-floor
 base_in-requires-clause-floor c = c.floor-floor.ensures.low
 
-pub stages-requires-clause-uses : goal.stages-requires-clause-uses
-stages-requires-clause-uses c = c.requires.uses
-
-pub stages-requires-clause-ways : goal.stages-requires-clause-ways
-stages-requires-clause-ways c = c.requires.ways
-
 pub base_in-requires-clause-stages : goal.base_in-requires-clause-stages
-base_in-requires-clause-stages c = subst (λ (stages : List Stage). AreStages c.args.host.now.topo.now.nodes c.args.request.now c.args.uses.now.nodes.items stages) (sym c.deref.ensures.value) c.in_ok-stages.ensures
+base_in-requires-clause-stages c = c.requires.stages

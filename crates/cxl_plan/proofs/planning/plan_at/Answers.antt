@@ -19,7 +19,10 @@ returns c = record {
 }
 
 pub places-requires : goal.places-requires
-places-requires c = c.requires
+places-requires c = c.requires.settled
 
-pub rows-requires : goal.rows-requires
-rows-requires c = c.requires
+pub rows-requires-clause-settled : goal.rows-requires-clause-settled
+rows-requires-clause-settled c = c.requires.settled
+
+pub rows-requires-clause-stages : goal.rows-requires-clause-stages
+rows-requires-clause-stages c = c.requires.stages

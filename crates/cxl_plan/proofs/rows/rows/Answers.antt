@@ -7,13 +7,13 @@ use Rattle.cxl_plan.proofs.UsedItems.{item_inside, item_used}
 use Rattle.cxl_plan.proofs.rows.rows.Goals as goal
 
 pub forwards-requires : goal.forwards-requires
-forwards-requires c = item_inside c.args.host.now.topo.now.nodes c.args.request.now c.deref-node-items.result.now (c.deref-node-items.ensures.value ∙ c.requires.tables.listed) c.loop-node.node-index (omega arith)
+forwards-requires c = item_inside c.args.host.now.topo.now.nodes c.args.request.now c.deref-node-items.result.now (c.deref-node-items.ensures.value ∙ c.requires.settled.tables.listed) c.loop-node.node-index (omega arith)
 
 pub row-requires-clause-here : goal.row-requires-clause-here
-row-requires-clause-here c = item_inside c.args.host.now.topo.now.nodes c.args.request.now c.deref-node-items.result.now (c.deref-node-items.ensures.value ∙ c.requires.tables.listed) c.loop-node.node-index (omega arith)
+row-requires-clause-here c = item_inside c.args.host.now.topo.now.nodes c.args.request.now c.deref-node-items.result.now (c.deref-node-items.ensures.value ∙ c.requires.settled.tables.listed) c.loop-node.node-index (omega arith)
 
 pub row-requires-clause-used : goal.row-requires-clause-used
-row-requires-clause-used c = item_used c.args.host.now.topo.now.nodes c.args.request.now c.deref-node-items.result.now (c.deref-node-items.ensures.value ∙ c.requires.tables.listed) c.loop-node.node-index (omega arith)
+row-requires-clause-used c = item_used c.args.host.now.topo.now.nodes c.args.request.now c.deref-node-items.result.now (c.deref-node-items.ensures.value ∙ c.requires.settled.tables.listed) c.loop-node.node-index (omega arith)
 
 pub loop-node-init : goal.loop-node-init
 loop-node-init c = first_rows c.args.host.now.topo.now.nodes c.args.host.now.image.now c.args.request.now c.args.w.now c.args.base _ c.in_ok-rows.ensures.items
@@ -37,4 +37,4 @@ returns c =
     let items : List ℕ = c.deref-node-items.result.now in
     let past : length items ≤ c.loop-node.node-index = omega arith in
     last_rows nodes c.args.host.now.image.now c.args.request.now c.args.w.now c.args.base items c.loop-node.node-index c.loop-node.rows.items (take_all c.loop-node.node-index items past) c.loop-node.invariant
-    ∙ all_rows nodes c.args.host.now.image.now c.args.request.now c.args.w.now c.args.base items (c.deref-node-items.ensures.value ∙ c.requires.tables.listed)
+    ∙ all_rows nodes c.args.host.now.image.now c.args.request.now c.args.w.now c.args.base items (c.deref-node-items.ensures.value ∙ c.requires.settled.tables.listed)

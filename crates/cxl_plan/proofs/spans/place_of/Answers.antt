@@ -48,6 +48,21 @@ reached-endpoint-requires-clause-used c =
     let same : bridge.0 ≡ c.unwrap-bridge.result = same_Some bridge.0 c.unwrap-bridge.result (sym bridge.1 ∙ sym c.bridge.ensures.bridge ∙ c.unwrap-bridge.ensures) in
     subst (λ (n : ℕ). is_used (tree_alone nodes) request n ≡ true) same bridge.2
 
+pub used_above-above-requires-clause-used : goal.used_above-above-requires-clause-used
+used_above-above-requires-clause-used c =
+    let nodes = c.args.host.now.topo.now.nodes in
+    let request = c.args.request.now in
+    let targets : List ℕ = c.targets.result.now in
+    let all : list_all (is_used_bridge (tree_alone nodes) request) targets ≡ true =
+    ap (list_all (is_used_bridge (tree_alone nodes) request)) c.targets.ensures.value ∙ (and_parts (list_all (is_used_bridge (tree_alone nodes) request) c.args.w.now.targets) _ c.requires.settled.window.bridges).0 in
+    let long = ap length c.targets.ensures.value in
+    let each = c.targets.ensures.each_way in
+    let within = c.target_position.ensures.within in
+    let from = c.from.ensures in
+    let bridge = used_bridge nodes request (get_or targets c.from.result 0) (target_at nodes request targets c.from.result all (omega arith)) in
+    let same : bridge.0 ≡ c.unwrap-bridge.result = same_Some bridge.0 c.unwrap-bridge.result (sym bridge.1 ∙ sym c.bridge.ensures.bridge ∙ c.unwrap-bridge.ensures) in
+    subst (λ (n : ℕ). is_used (tree_alone nodes) request n ≡ true) same bridge.2
+
 pub unwrap-requires : goal.unwrap-requires
 unwrap-requires c =
     let nodes = c.args.host.now.topo.now.nodes in
