@@ -1,5 +1,5 @@
 -- A number that is printed is read as the same number.
-use Rattle.std.proofs.Common.{◌≡◌, ℕ, zero, suc, ◌+◌, ◌-◌, ◌/◌, ◌%◌, ◌^◌, ◌<◌, Bool, false, not, cond, List, [], ◌∷◌, ◌++◌, length, drop, replicate, Ok, None, refl, ap, ◌∙◌, arith, eq-eqb}
+use Rattle.std.proofs.Common.{◌≡◌, ◌≢◌, ℕ, zero, suc, ◌+◌, ◌-◌, ◌/◌, ◌%◌, ◌^◌, ◌<◌, ◌≤◌, Bool, false, not, cond, List, [], ◌∷◌, ◌++◌, length, drop, replicate, Ok, None, refl, ap, ◌∙◌, arith, eq-eqb, ne_eqb}
 use Rattle.std.specs.Prelude.{codes, decimal}
 use Rattle.std.specs.List.{prefix_len}
 use Rattle.std.specs.Char.{is_digit}
@@ -29,14 +29,38 @@ decimal_word [] all = refl
 decimal_word (a ∷ []) all = grind arith
 decimal_word (a ∷ b ∷ ds) all = let h = all.1.0 in grind arith
 
+-- the first digit, before those that are written
+digits_onto-one : (k n : ℕ) (rest : List ℕ) → n < 10 → digits_onto (suc k) 10 false n rest ≡ (48 + n) ∷ rest
+digits_onto-one k n rest one =
+    let none : n / 10 ≡ 0 = omega arith in
+    let glyph : digit_glyph false (n % 10) ≡ 48 + n = grind (arith, nat_tests) in
+    ap (λ (b : Bool). cond b (digit_glyph false (n % 10) ∷ rest) (digits_onto k 10 false (n / 10) (digit_glyph false (n % 10) ∷ rest))) (eq-eqb _ 0 none)
+    ∙ ap (λ d. d ∷ rest) glyph
+
+-- one digit of several, before those that are written
+digits_onto-more : (k n : ℕ) (rest : List ℕ) → 10 ≤ n → digits_onto (suc k) 10 false n rest ≡ digits_onto k 10 false (n / 10) ((48 + n % 10) ∷ rest)
+digits_onto-more k n rest more =
+    let some : n / 10 ≢ 0 = omega arith in
+    let glyph : digit_glyph false (n % 10) ≡ 48 + n % 10 = grind (arith, nat_tests) in
+    ap (λ (b : Bool). cond b (digit_glyph false (n % 10) ∷ rest) (digits_onto k 10 false (n / 10) (digit_glyph false (n % 10) ∷ rest))) (ne_eqb _ 0 some)
+    ∙ ap (λ d. digits_onto k 10 false (n / 10) (d ∷ rest)) glyph
+
 -- a number of one digit
 pub decimal-one : (n : ℕ) → n < 10 → decimal n ≡ (48 + n) ∷ []
 unfolding digits
-decimal-one n one =
-    let none : n / 10 ≡ 0 = omega arith in
-    let glyph : digit_glyph false (n % 10) ≡ 48 + n = grind (arith, nat_tests) in
-    ap (λ (b : Bool). cond b (digit_glyph false (n % 10) ∷ []) (digits_onto 63 10 false (n / 10) (digit_glyph false (n % 10) ∷ []))) (eq-eqb _ 0 none)
-    ∙ ap (λ d. d ∷ []) glyph
+decimal-one n one = digits_onto-one 63 n [] one
+
+-- a number of two digits
+pub decimal-two : (n : ℕ) → 10 ≤ n → n < 100 → decimal n ≡ (48 + n / 10) ∷ (48 + n % 10) ∷ []
+unfolding digits
+decimal-two n some few = digits_onto-more 63 n [] some ∙ digits_onto-one 62 (n / 10) _ (omega arith)
+
+-- a number of three digits
+pub decimal-three : (n : ℕ) → 100 ≤ n → n < 1000 → decimal n ≡ (48 + n / 10 / 10) ∷ (48 + n / 10 % 10) ∷ (48 + n % 10) ∷ []
+unfolding digits
+decimal-three n some few =
+    digits_onto-more 63 n [] (omega arith) ∙ digits_onto-more 62 (n / 10) _ (omega arith)
+    ∙ digits_onto-one 61 (n / 10 / 10) _ (omega arith)
 
 pub number_of-decimal : (n : ℕ) → n < 2 ^ 64 → number_of (decimal n) ≡ Ok n
 number_of-decimal n fits =

@@ -15,14 +15,43 @@ pub fn put_number(out: &mut Vec<u8>, n: u64) -> Result<(), Memory>
     // What is printed is read as the same number.
     ensures read_back { number_of (decimal n) ≡ Ok n }
 {
-    // Most of them have one digit.
+    // Most of them have few digits.
     if n < 10 {
         out.push(b'0' + n as u8)?;
+        return Ok(());
+    }
+    if n < 100 {
+        out.extend_from_slice(&two_digits(n))?;
+        return Ok(());
+    }
+    if n < 1_000 {
+        out.extend_from_slice(&three_digits(n))?;
         return Ok(());
     }
     let mut buffer = Buffer::new();
     out.extend_from_slice(buffer.format(n).as_bytes())?;
     Ok(())
+}
+
+fn two_digits(n: u64) -> [u8; 2]
+    requires some { 10 ≤ n }
+    requires few { n < 100 }
+    ensures { result ≡ decimal n }
+{
+    [b'0' + (n / 10) as u8, b'0' + (n % 10) as u8]
+}
+
+fn three_digits(n: u64) -> [u8; 3]
+    requires some { 100 ≤ n }
+    requires few { n < 1000 }
+    ensures { result ≡ decimal n }
+{
+    let tens = n / 10;
+    [
+        b'0' + (tens / 10) as u8,
+        b'0' + (tens % 10) as u8,
+        b'0' + (n % 10) as u8,
+    ]
 }
 
 /// Appends the lower-case hexadecimal digits of a number, with leading zeros up to `width` digits, and

@@ -17,3 +17,15 @@ returns-in_err-extend_from_slice-clause-read_back c = number_of-decimal c.args.n
 
 pub returns-clause-read_back : goal.returns-clause-read_back
 returns-clause-read_back c = number_of-decimal c.args.n (omega arith)
+
+pub returns-then-n-lt100-clause-read_back : goal.returns-then-n-lt100-clause-read_back
+returns-then-n-lt100-clause-read_back c = number_of-decimal c.args.n (omega arith)
+
+pub returns-then-n-lt1000-clause-read_back : goal.returns-then-n-lt1000-clause-read_back
+returns-then-n-lt1000-clause-read_back c = number_of-decimal c.args.n (omega arith)
+
+pub returns-in_err-extend_from_slice-2-clause-read_back : goal.returns-in_err-extend_from_slice-2-clause-read_back
+returns-in_err-extend_from_slice-2-clause-read_back c = number_of-decimal c.args.n (omega arith)
+
+pub returns-in_err-extend_from_slice-3-clause-read_back : goal.returns-in_err-extend_from_slice-3-clause-read_back
+returns-in_err-extend_from_slice-3-clause-read_back c = number_of-decimal c.args.n (omega arith)
