@@ -12,6 +12,9 @@ use cxl_enc::Memory;
 use cxl_model::Found;
 use cxl_topo::Topo;
 
+/// Room for the lines of a region of sixteen slots, so that its text is not moved as it grows.
+const ROOM: usize = 1_024;
+
 /// Appends a region of an image and its slots, a line each. After `Memory` the text is as before. (This
 /// project's rule.) Takes memory.
 pub fn put_found(out: &mut Vec<u8>, found: &Found, topo: &Topo) -> Result<(), Memory>
@@ -19,7 +22,7 @@ pub fn put_found(out: &mut Vec<u8>, found: &Found, topo: &Topo) -> Result<(), Me
     ensures ok { OnOk result (out.new.items ≡ out.old.items ++ found_text topo.now.nodes found.now) }
     ensures err { OnErr result (out.new.items ≡ out.old.items) }
 {
-    let mut text = Vec::new(*out.allocator());
+    let mut text = Vec::with_capacity(*out.allocator(), ROOM)?;
     put_found_lines(&mut text, found, topo)?;
     put_whole_text(out, &text)
 }

@@ -21,7 +21,7 @@ pub use findings::{put_breach, put_found};
 pub use fixed::fixed_text;
 pub use plan::{put_plan, put_tail};
 pub use region::put_words;
-pub use short_lines::short;
+pub use short_lines::{has_short_text, short};
 pub use short_text::ShortText;
 pub use text::{put_long, put_reply};
 pub use words::{put_address, put_gran};

@@ -38,6 +38,25 @@ pub fn short(reply: &Reply) -> Option<ShortText>
     }
 }
 
+/// Whether a reply has a short text, which `short` gives. Takes no memory.
+pub fn has_short_text(reply: &Reply) -> bool
+    ensures { result ≡ has_short_text reply.now }
+{
+    match reply {
+        Reply::Created(_)
+        | Reply::Destroyed(_)
+        | Reply::Stored(_)
+        | Reply::Begun(_)
+        | Reply::Stepped(_)
+        | Reply::Aborted(_)
+        | Reply::Copied(_)
+        | Reply::Moved(_)
+        | Reply::BusUndone
+        | Reply::BusPending(_) => true,
+        _ => false,
+    }
+}
+
 #[inline(never)]
 fn created(named: &Named) -> ShortText
     requires { named.now.gran ≤ 6 }

@@ -84,8 +84,12 @@ impl ShortText {
         ensures text { self.new ≡ self.old ++ words.now ++ decimal number }
         ensures len { length self.new ≤ length self.old + length words.now + 10 }
     {
-        let mut buffer = Buffer::new();
         self.put(words);
+        if number < 10 {
+            self.put_digit(number as u8);
+            return;
+        }
+        let mut buffer = Buffer::new();
         self.put(buffer.format(number).as_bytes());
     }
 
@@ -95,9 +99,23 @@ impl ShortText {
         ensures text { self.new ≡ self.old ++ words.now ++ decimal number }
         ensures len { length self.new ≤ length self.old + length words.now + 20 }
     {
-        let mut buffer = Buffer::new();
         self.put(words);
+        if number < 10 {
+            self.put_digit(number as u8);
+            return;
+        }
+        let mut buffer = Buffer::new();
         self.put(buffer.format(number).as_bytes());
+    }
+
+    /// A number of one digit.
+    fn put_digit(&mut self, number: u8)
+        requires room { length self.old < short_limit }
+        requires digit { number < 10 }
+        ensures text { self.new ≡ self.old ++ decimal number }
+        ensures len { length self.new ≡ length self.old + 1 }
+    {
+        self.put(&[b'0' + number]);
     }
 
     /// Words, and a number behind them in hexadecimal digits, behind `0x`.

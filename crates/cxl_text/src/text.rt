@@ -12,7 +12,7 @@ use crate::refusal::{
     put_whole_text,
 };
 use crate::region::put_shown;
-use crate::short_lines::short;
+use crate::short_lines::{has_short_text, short};
 use cxl_enc::Memory;
 use cxl_reply::Reply;
 use cxl_topo::Topo;
@@ -24,10 +24,17 @@ pub fn put_reply(reply: &Reply, topo: &Topo, out: &mut Vec<u8>) -> Result<(), Me
     ensures ok { OnOk result (out.new.items ≡ out.old.items ++ reply_text topo.now.nodes reply.now) }
     ensures err { OnErr result (out.new.items ≡ out.old.items) }
 {
-    match short(reply) {
-        Some(text) => put_whole_text(out, text.bytes()),
-        None if out.is_empty() => put_first(out, reply, topo),
-        None => put_behind(out, reply, topo),
+    // Asked for by its kind first, since the place for a short text is dear to clear.
+    if has_short_text(reply) {
+        return match short(reply) {
+            Some(text) => put_whole_text(out, text.bytes()),
+            None => unreachable!(),
+        };
+    }
+    if out.is_empty() {
+        put_first(out, reply, topo)
+    } else {
+        put_behind(out, reply, topo)
     }
 }
 
