@@ -83,5 +83,10 @@ fn value_of(base: u64, digits: &[u8]) -> Option<u64>
 fn digit_of(byte: u8) -> u64
     ensures { result ≡ digit_value byte }
 {
-    u64::from(char::from(byte).to_digit(36).unwrap_or(36))
+    match byte {
+        b'0'..=b'9' => u64::from(byte - b'0'),
+        b'a'..=b'z' => 10 + u64::from(byte - b'a'),
+        b'A'..=b'Z' => 10 + u64::from(byte - b'A'),
+        _ => 36,
+    }
 }
