@@ -8,3 +8,4 @@ pub mod Keepings
 pub mod Slots
 pub mod OwnBlocks
 pub mod SlotRoutes
+pub mod Marks

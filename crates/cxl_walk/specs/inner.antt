@@ -2,3 +2,4 @@
 pub mod Calls
 pub mod WaysUp
 pub mod Slots
+pub mod Marks

@@ -6,6 +6,7 @@ mod carrying;
 mod decoding;
 mod downward;
 mod kept;
+mod marking;
 mod moves;
 mod own;
 mod owned;

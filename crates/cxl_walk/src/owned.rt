@@ -1,14 +1,18 @@
 //! Which decoders are a region's own.
 
-ghost use Rattle.std.specs.Prelude.{◌≡◌, ◌==◌, ◌<◌, ◌≤◌, [], find, IfOk};
+ghost use Rattle.std.specs.Prelude.{◌≡◌, ◌==◌, ◌<◌, ◌≤◌, [], length, find, IfOk};
+ghost use Rattle.std.specs.List.{filter_map, range_with_len};
 ghost use Rattle.cxl_model.specs.System.{system_of, blocks_alone};
+ghost use Rattle.cxl_model.specs.Regions.{region_range};
 ghost use Rattle.cxl_walk.specs.Keeping.{own_for, own_decoders};
+ghost use Rattle.cxl_walk.specs.inner.Marks.{own_where, IsRegionOver};
 
+use crate::marking::marked_ways;
 use crate::own::Own;
 use cxl_image::Image;
-use cxl_model::{Found, Memory};
+use cxl_model::{Found, Memory, endpoints_lie_evenly, slots_are_endpoints};
 use cxl_regs::Range;
-use cxl_topo::Topo;
+use cxl_topo::{Topo, tree_laws};
 use std::alloc::Global;
 
 /// The decoder that stands in a node.
@@ -19,22 +23,56 @@ pub(crate) fn own_at(own: &[Own], node: u32) -> Option<Own>
 }
 
 /// The own decoders of a region of the image, in rising node order. Takes memory.
+///
+/// None stands beside the ways to the region's endpoints, so the nodes there are not asked.
 pub(crate) fn own_in(
     alloc: Global,
     image: &Image,
     topo: &Topo,
     found: &Found,
 ) -> Result<Vec<Own>, Memory>
+    requires { IsRegionOver image.now topo.now found.now }
     ensures { IfOk result (λ own. own.items ≡ own_decoders (system_of image.now topo.now []) found.now) }
+{
+    tree_laws();
+    endpoints_lie_evenly();
+    slots_are_endpoints();
+    let marks = marked_ways(alloc, topo, found.spans.items())?;
+    let own = own_at_marks(alloc, image, topo, found, &marks)?;
+    Ok(own)
+}
+
+/// The decoders of a region's range in the nodes that are marked. Takes memory.
+fn own_at_marks(
+    alloc: Global,
+    image: &Image,
+    topo: &Topo,
+    found: &Found,
+    marks: &[bool],
+) -> Result<Vec<Own>, Memory>
+    ensures { IfOk result (λ own. own.items ≡ filter_map (own_where marks.now (blocks_alone image.now) (region_range found.now))
+        (range_with_len 0 (length topo.now.nodes))) }
 {
     let range = Range {
         base: found.base,
         size: found.size,
     };
     let own = (0..topo.count())
-        .filter_map(|node| own_for(image, &range, node))
+        .filter_map(|node| own_where(image, &range, marks, node))
         .collect(alloc)?;
     Ok(own)
+}
+
+/// The decoder of a range in a node, where that is marked.
+fn own_where(image: &Image, range: &Range, marks: &[bool], node: u32) -> Option<Own>
+    ensures { result ≡ own_where marks.now (blocks_alone image.now) range.now node }
+{
+    let place = node as usize;
+    if place < marks.len() && marks[place] {
+        own_for(image, range, node)
+    } else {
+        None
+    }
 }
 
 /// The decoder of a range in a node.
