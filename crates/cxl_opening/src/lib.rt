@@ -9,4 +9,4 @@ mod regions;
 pub use cxl_machine::OpenFault;
 pub use endpoints::{enable_endpoints, enabled, powered_on};
 pub use keeping::{auto_names, routes_of};
-pub use regions::regions_to_open;
+pub use regions::{few_to_open, regions_to_open};

@@ -1,11 +1,11 @@
 //! The regions of an image with which a session opens, or why none does.
 
-ghost use Rattle.std.specs.Prelude.{◌≡◌, ◌⊎◌, ℕ, ◌<◌, IfOk};
+ghost use Rattle.std.specs.Prelude.{◌≡◌, ◌⊎◌, ℕ, ◌<◌, length, IfOk, IfErr};
 ghost use Rattle.cxl_window.specs.Windows.{AreMadeWith};
 ghost use Rattle.cxl_check.specs.declared.fault.Breach.{Breach};
-ghost use Rattle.cxl_model.specs.Accepted.{IsFirstBreach, HasFirstBreach};
-ghost use Rattle.cxl_model.specs.Listed.{region_limit};
-ghost use Rattle.cxl_model.specs.System.{system_of, bridge_uids};
+ghost use Rattle.cxl_model.specs.Accepted.{IsAccepted, IsFirstBreach, HasFirstBreach};
+ghost use Rattle.cxl_model.specs.Listed.{AreRegionsByBase, region_limit};
+ghost use Rattle.cxl_model.specs.System.{System, IsSystem, system_of, bridge_uids};
 ghost use Rattle.cxl_opening.specs.Opening.{HasRegions};
 ghost use Rattle.cxl_opening.specs.Opened.{CanOpen};
 
@@ -41,14 +41,29 @@ pub fn regions_to_open(
     ensures no_bus { result ≡ Err OpenFault.Bus → ⊥ }
 {
     accepted_or_breach();
-    regions_are_listed();
-    regions_lie_in_windows();
     let founds = match check(alloc, start, topo, windows) {
         Ok(founds) => founds,
         Err(CheckFault::Breach(breach)) => return Err(OpenFault::Breach(breach)),
         Err(CheckFault::Memory) => return Err(OpenFault::Memory),
     };
     accepted_image_is_system(start, topo, windows);
+    few_to_open(founds)
+}
+
+/// The regions of an accepted image, by rising base, where no more are than may live; else how many there are.
+pub fn few_to_open(founds: Vec<Found>) -> Result<Vec<Found>, OpenFault>
+    requires { (s : System) × IsSystem s × IsAccepted s × AreRegionsByBase s founds.items }
+    ensures opens { (s : System) → IsSystem s → IsAccepted s → AreRegionsByBase s founds.items
+        → IfOk result (λ regions. CanOpen s regions.items) }
+    ensures full { (s : System) (n : ℕ) → IsSystem s → IsAccepted s → AreRegionsByBase s founds.items
+        → result ≡ Err (OpenFault.Full n) → HasRegions s n × (region_limit < n) }
+    ensures filled { (s : System) (n : ℕ) → IsSystem s → AreRegionsByBase s founds.items
+        → HasRegions s n → region_limit < n → result ≡ Err (OpenFault.Full n) }
+    ensures only { IfErr result (λ fault. fault ≡ OpenFault.Full (length founds.items)) }
+{
+    accepted_or_breach();
+    regions_are_listed();
+    regions_lie_in_windows();
     if founds.len() > REGION_LIMIT {
         return Err(OpenFault::Full(founds.len() as u32));
     }

@@ -1,6 +1,6 @@
 -- The session that opens on an image stands for the machine that opens.
 use Rattle.std.proofs.Common.{◌≡◌, ℕ, ◌+◌, ◌<◌, ◌≤◌, List, [], ◌∷◌, map, length, take, Option, Some, None, Result, Ok, Err, refl, sym, ap, ◌∙◌, subst, arith}
-use Rattle.std.specs.Prelude.{All, Contains, sum_by, unwrap_or, option_map}
+use Rattle.std.specs.Prelude.{All, Contains, IfErr, sum_by, unwrap_or, option_map}
 use Rattle.std.specs.List.{AllZip, enumerate_from, range_with_len}
 use Rattle.std.specs.FinMap as finmap
 use Rattle.std.specs.FinMap.{get-empty, len-empty}
@@ -40,7 +40,7 @@ use Rattle.cxl_poison.proofs.Pieced.{WindowsThere}
 use Rattle.cxl_machine.specs.Sound.{IsMachine, Opens, auto_name, block_told, opened_region, enabled_blocks}
 use Rattle.cxl_session.specs.State.{SessionState}
 use Rattle.cxl_session.specs.Standing.{IsKeptIn, StandsFor, IsAt}
-use Rattle.cxl_opening.specs.Opening.{endpoints_in, enabling, IsHalfEnabled, HasRegions}
+use Rattle.cxl_opening.specs.Opening.{endpoints_in, enabling, IsHalfEnabled, HasRegions, IsRefusedImage}
 use Rattle.cxl_opening.specs.Opened.{opened_machine, CanOpen, AreRoutesOf, StopsEnabling}
 use Rattle.cxl_opening.proofs.Enabling.{enabled_all, endpoints_there, places_there}
 use Rattle.cxl_opening.proofs.Zipped.{zip_weaker}
@@ -218,6 +218,15 @@ same_fault {T} {E} x y r one two = ap (λ (s : Result T E). err_or s x) (sym one
 -- an image that can open has no more regions than may live
 pub uncrowded : (start : System) (regions : List Found) → CanOpen start regions → (n : ℕ) → HasRegions start n → region_limit < n → ⊥
 uncrowded start regions can n has more = let least = can.uncrowded n has in omega (arith, least, more)
+
+-- ---- a result is no refusal of the image
+
+pub none_refused : {T : Type 0} (r : Result T OpenFault) (fault : OpenFault) → IfErr r (λ f. IsRefusedImage f → ⊥) → r ≡ Err fault → IsRefusedImage fault → ⊥
+none_refused {T} r fault none is = subst (λ (x : Result T OpenFault). IfErr x (λ f. IsRefusedImage f → ⊥)) is none
+
+pub nothing_refused : {T : Type 0} (r : Result T OpenFault) (P : Type 0) → IfErr r (λ f. IsRefusedImage f → ⊥) → IfErr r (λ f. IsRefusedImage f → P)
+nothing_refused (Ok x) P none = tt
+nothing_refused (Err f) P none = λ refused. absurd (none refused)
 
 -- ---- a result is no other
 

@@ -8,10 +8,10 @@ ghost use Rattle.cxl_enc.specs.Faults.{Rose, LeavesCount};
 ghost use Rattle.cxl_image.specs.Images.{HasCapsOf};
 ghost use Rattle.cxl_window.specs.Windows.{AreMadeWith};
 ghost use Rattle.cxl_check.specs.declared.fault.Breach.{Breach};
-ghost use Rattle.cxl_model.specs.Accepted.{IsFirstBreach, HasFirstBreach};
-ghost use Rattle.cxl_model.specs.Listed.{region_limit};
+ghost use Rattle.cxl_model.specs.Accepted.{IsAccepted, IsFirstBreach, HasFirstBreach};
+ghost use Rattle.cxl_model.specs.Listed.{AreRegionsByBase, region_limit};
 ghost use Rattle.cxl_model.specs.Regions.{IsRegion};
-ghost use Rattle.cxl_model.specs.System.{system_of, bridge_uids};
+ghost use Rattle.cxl_model.specs.System.{IsSystem, system_of, bridge_uids};
 ghost use Rattle.cxl_machine.specs.Machine.{Machine};
 ghost use Rattle.cxl_machine.specs.Sound.{IsMachine, Opens, auto_name, enabled_blocks};
 ghost use Rattle.cxl_opening.specs.Opening.{endpoints_in, enabling, ArePoweredOn, empty_media, IsHalfEnabled, IsRefusedImage, HasRegions};
@@ -27,7 +27,9 @@ use cxl_live::LiveRegions;
 use cxl_machine::{OpenFault, openings_are_machines};
 use cxl_media::Roll;
 use cxl_model::{Found, regions_lie_in_windows};
-use cxl_opening::{auto_names, enable_endpoints, enabled, powered_on, regions_to_open, routes_of};
+use cxl_opening::{
+    auto_names, enable_endpoints, enabled, few_to_open, powered_on, regions_to_open, routes_of,
+};
 use cxl_topo::Topo;
 use cxl_walk::Kept;
 use cxl_window::Window;
@@ -90,6 +92,99 @@ impl Session {
         ensures unfailed { OnOk result (HasFailed (fresh (R.state regs.old)) (R.state regs.new) []) }
     {
         let founds = regions_to_open(alloc, &topo, &windows, &start)?;
+        Session::over_regions(alloc, topo, windows, start, founds, regs, media)
+    }
+
+    /// Starts a session from an accepted register image and the regions that it has, as `open` does, but does not judge the
+    /// image again. (This project's rule.)
+    pub fn open_accepted<R: Regs, M: Roll>(
+        alloc: Global,
+        topo: Topo,
+        windows: Vec<Window>,
+        start: Image,
+        regions: Vec<Found>,
+        regs: &mut R,
+        media: &mut M,
+    ) -> Result<Session, OpenFault>
+        requires system { IsSystem (system_of start topo windows.items) }
+        requires accepted { IsAccepted (system_of start topo windows.items) }
+        requires listed { AreRegionsByBase (system_of start topo windows.items) regions.items }
+
+        // The image's machine opens, and session, registers and media stand for it.
+        ensures opened { IfOk result (λ session. (m : Machine) × Opens (system_of start topo windows.items) topo.frames m
+            × IsAt session (R.state regs.new) (M.state media.new) m) }
+        // The words sent are those that let the endpoints decode.
+        ensures enabled { OnOk result ((R.state regs.new).trail
+            ≡ option_map (λ _. enabling (endpoints_in topo.nodes)) (R.state regs.old).trail) }
+        // It keeps what it was handed, and its image is the bus's.
+        ensures handed { IfOk result (λ session. (session.topo ≡ topo) × (session.windows ≡ windows.items)) }
+        ensures image { IfOk result (λ session. session.image ≡ (R.state regs.new).blocks) }
+
+        // It is refused for no breach; for too many regions exactly where they are more than may live.
+        ensures breach { (b : Breach) → result ≡ Err (OpenFault.Breach b) → ⊥ }
+        ensures full { (n : ℕ) → result ≡ Err (OpenFault.Full n)
+            → HasRegions (system_of start topo windows.items) n × (region_limit < n) }
+        ensures filled { (n : ℕ) → HasRegions (system_of start topo windows.items) n → region_limit < n
+            → result ≡ Err (OpenFault.Full n) }
+        // That comes before anything is touched.
+        ensures untouched { IfErr result (λ fault. IsRefusedImage fault → (regs.new ≡ regs.old) × (media.new ≡ media.old)) }
+
+        // The bus failed only with cause: then media is empty, and the endpoints before the fault decode.
+        ensures bus { result ≡ Err OpenFault.Bus → Rose (R.state regs.old).faults (R.state regs.new).faults }
+        ensures half_enabled { result ≡ Err OpenFault.Bus
+            → IsHalfEnabled (system_of start topo windows.items) (R.state regs.old) (R.state regs.new)
+            × (M.state media.new ≡ empty_media topo.frames) }
+        // After want of memory each is as before, or as powering it on left it.
+        ensures memory { result ≡ Err OpenFault.Memory
+            → ((R.state regs.new ≡ R.state regs.old) ⊎ ArePoweredOn start (R.state regs.old) (R.state regs.new))
+            × ((M.state media.new ≡ M.state media.old) ⊎ (M.state media.new ≡ empty_media topo.frames)) }
+        ensures counts { (R.state regs.old).faults ≤ (R.state regs.new).faults }
+        ensures alone { (R.state regs.new).counts_failures_alone ≡ (R.state regs.old).counts_failures_alone }
+        // A fault is not swallowed, nor hidden in want of memory.
+        ensures unswallowed { OnOk result
+            (LeavesCount (R.state regs.old).counts_failures_alone (R.state regs.old).faults (R.state regs.new).faults) }
+        ensures unhidden { result ≡ Err OpenFault.Memory
+            → LeavesCount (R.state regs.old).counts_failures_alone (R.state regs.old).faults (R.state regs.new).faults }
+        // Nor did a call of the bus fail since it was powered on.
+        ensures unfailed { OnOk result (HasFailed (fresh (R.state regs.old)) (R.state regs.new) []) }
+    {
+        let founds = few_to_open(regions)?;
+        Session::over_regions(alloc, topo, windows, start, founds, regs, media)
+    }
+
+    /// The same over regions that are no more than may live.
+    fn over_regions<R: Regs, M: Roll>(
+        alloc: Global,
+        topo: Topo,
+        windows: Vec<Window>,
+        start: Image,
+        founds: Vec<Found>,
+        regs: &mut R,
+        media: &mut M,
+    ) -> Result<Session, OpenFault>
+        requires { CanOpen (system_of start topo windows.items) founds.items }
+        ensures opened { IfOk result (λ session. (m : Machine) × Opens (system_of start topo windows.items) topo.frames m
+            × IsAt session (R.state regs.new) (M.state media.new) m) }
+        ensures enabled { OnOk result ((R.state regs.new).trail
+            ≡ option_map (λ _. enabling (endpoints_in topo.nodes)) (R.state regs.old).trail) }
+        ensures handed { IfOk result (λ session. (session.topo ≡ topo) × (session.windows ≡ windows.items)) }
+        ensures image { IfOk result (λ session. session.image ≡ (R.state regs.new).blocks) }
+        ensures refused { IfErr result (λ fault. IsRefusedImage fault → ⊥) }
+        ensures bus { result ≡ Err OpenFault.Bus → Rose (R.state regs.old).faults (R.state regs.new).faults }
+        ensures half_enabled { result ≡ Err OpenFault.Bus
+            → IsHalfEnabled (system_of start topo windows.items) (R.state regs.old) (R.state regs.new)
+            × (M.state media.new ≡ empty_media topo.frames) }
+        ensures memory { result ≡ Err OpenFault.Memory
+            → ((R.state regs.new ≡ R.state regs.old) ⊎ ArePoweredOn start (R.state regs.old) (R.state regs.new))
+            × ((M.state media.new ≡ M.state media.old) ⊎ (M.state media.new ≡ empty_media topo.frames)) }
+        ensures counts { (R.state regs.old).faults ≤ (R.state regs.new).faults }
+        ensures alone { (R.state regs.new).counts_failures_alone ≡ (R.state regs.old).counts_failures_alone }
+        ensures unswallowed { OnOk result
+            (LeavesCount (R.state regs.old).counts_failures_alone (R.state regs.old).faults (R.state regs.new).faults) }
+        ensures unhidden { result ≡ Err OpenFault.Memory
+            → LeavesCount (R.state regs.old).counts_failures_alone (R.state regs.old).faults (R.state regs.new).faults }
+        ensures unfailed { OnOk result (HasFailed (fresh (R.state regs.old)) (R.state regs.new) []) }
+    {
         let Ok(endpoints) = powered_on(alloc, &topo, &start, regs, media) else {
             return Err(OpenFault::Memory);
         };

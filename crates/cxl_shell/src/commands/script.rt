@@ -5,6 +5,7 @@ ghost use Rattle.cxl_check.specs.declared.fault.Breach.{Breach};
 ghost use Rattle.cxl_machine.specs.Machine.{Machine};
 ghost use Rattle.cxl_machine.specs.Scripts.{Asked, Turn};
 ghost use Rattle.cxl_model.specs.Accepted.{IsAccepted};
+ghost use Rattle.cxl_model.specs.Listed.{AreRegionsByBase};
 ghost use Rattle.cxl_model.specs.System.{IsSystem, system_of};
 ghost use Rattle.cxl_session.specs.Standing.{Stands, ForEachMachine};
 ghost use Rattle.cxl_turns.specs.Going.{HasGoneOn};
@@ -19,7 +20,7 @@ use cxl_commands::checked;
 use cxl_inputs::{Outcome, OwnedHost, Status, Stop, finish};
 use cxl_io::{Memory, Sink, Source};
 use cxl_media::Roll;
-use cxl_model::accepted_or_breach;
+use cxl_model::{Found, accepted_or_breach};
 use cxl_session::{OpenFault, Session};
 use cxl_turns::{Ending, carry_out_lines};
 use std::alloc::Global;
@@ -44,7 +45,7 @@ pub(crate) fn script_from_image<S: Source, K: Sink, R: Regs, M: Roll>(
     ensures bus { (R.state regs.old).faults ≤ (R.state regs.new).faults }
 {
     match checked(alloc, &host) {
-        Ok(Ok(_)) => script(alloc, host, source, out, regs, media),
+        Ok(Ok(regions)) => script_over_regions(alloc, host, regions, source, out, regs, media),
         Ok(Err(broken)) => broken.write(out),
         Err(Memory) => Status::Memory,
     }
@@ -76,6 +77,38 @@ pub(crate) fn script<S: Source, K: Sink, R: Regs, M: Roll>(
         windows,
     } = host;
     match Session::open(alloc, topo, windows, image, regs, media) {
+        Ok(mut session) => over_session(alloc, &mut session, source, out, regs, media),
+        Err(fault) => finish(unopened(fault), out),
+    }
+}
+
+/// The same over a host whose image is accepted and has these regions, so that it is not judged again.
+fn script_over_regions<S: Source, K: Sink, R: Regs, M: Roll>(
+    alloc: Global,
+    host: OwnedHost,
+    regions: Vec<Found>,
+    source: &mut S,
+    out: &mut K,
+    regs: &mut R,
+    media: &mut M,
+) -> Status
+    requires system { IsSystem (system_of host.image host.topo host.windows.items) }
+    requires accepted { IsAccepted (system_of host.image host.topo host.windows.items) }
+    requires listed { AreRegionsByBase (system_of host.image host.topo host.windows.items) regions.items }
+    ensures ends { EndsOver (system_of host.image host.topo host.windows.items) host.topo.frames
+        (devices (S.state source.old) (R.state regs.old) (M.state media.old))
+        (devices (S.state source.new) (R.state regs.new) (M.state media.new))
+        (K.state out.old) (K.state out.new) result }
+    ensures source { (S.state source.old).faults ≤ (S.state source.new).faults }
+    ensures sink { (K.state out.old).faults ≤ (K.state out.new).faults }
+    ensures bus { (R.state regs.old).faults ≤ (R.state regs.new).faults }
+{
+    let OwnedHost {
+        topo,
+        image,
+        windows,
+    } = host;
+    match Session::open_accepted(alloc, topo, windows, image, regions, regs, media) {
         Ok(mut session) => over_session(alloc, &mut session, source, out, regs, media),
         Err(fault) => finish(unopened(fault), out),
     }
