@@ -1,3 +1,4 @@
 pub mod Hosts
 pub mod Bases
 pub mod Holders
+pub mod OnDevices

@@ -1,3 +1,4 @@
 pub mod Apart
 pub mod ByBase
+pub mod OnDevices
 pub mod Inside
