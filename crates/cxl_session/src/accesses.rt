@@ -1,6 +1,6 @@
 //! Where host bytes lie, and the bytes themselves: by the kept routes and the weaves of the live regions, and media.
 
-ghost use Rattle.std.specs.Prelude.{◌≡◌, ℕ, ◌≤◌, true, length, map, IfOk};
+ghost use Rattle.std.specs.Prelude.{◌≡◌, ℕ, ◌≤◌, true, length, map, IfOk, IfSome, IfNone};
 ghost use Rattle.cxl_script.specs.Grammar.{access_limit, range_limit};
 ghost use Rattle.cxl_model.specs.System.{IsSystem};
 ghost use Rattle.cxl_model.specs.Regions.{IsRegionIn};
@@ -11,6 +11,7 @@ ghost use Rattle.cxl_machine.specs.Replies.{stays};
 ghost use Rattle.cxl_machine.specs.Accesses.{down_answer, downed, load_answer, range_answer, spread_answer, AnswersUp, TellsHost, via_of};
 ghost use Rattle.cxl_session.specs.Standing.{StandsFor, IsKeptIn};
 ghost use Rattle.cxl_session.specs.inner.Answering.{StandsSomehow, IsReadFor};
+ghost use Rattle.cxl_session.specs.inner.Places.{HasNoneOf};
 
 use crate::endpoints::endpoints_by_slot;
 use crate::session::Session;
@@ -18,7 +19,10 @@ use cxl_bytes::{carried_address, load_bytes};
 use cxl_deal::deal;
 use cxl_enc::{FixedList, Memory, Name};
 use cxl_media::Media;
-use cxl_model::{Step, chain_is_the_dealing, regions_lie_in_windows};
+use cxl_model::{
+    Step, chain_is_the_dealing, regions_lie_in_windows, regions_share_no_byte,
+    weaves_fill_their_regions,
+};
 use cxl_move::blocks_hold_their_pieces;
 use cxl_range::{extents, spread};
 use cxl_reply::{Downed, Extents, Reply, Spread, Upped, Via};
@@ -120,19 +124,36 @@ impl Session {
         }
     }
 
-    /// What a byte of an endpoint's device is answered.
+    /// What a byte of an endpoint's device is answered, by the regions on that device.
     fn told_host(&self, endpoint: u32, dpa: u64) -> Reply
         requires { (m : Machine) × StandsFor self.now m × IsMachine m }
         ensures { (m : Machine) → StandsFor self.now m → IsMachine m → TellsHost m endpoint dpa result }
     {
-        for place in 0..self.founds.len() {
-            let weave = self.kept_at(place).weave();
-            if let Some(h) = carried_address(self.found_at(place), weave, endpoint, dpa) {
-                let name = self.name_at(place);
-                return Reply::Up(Upped { h, name });
+        weaves_fill_their_regions();
+        let those = self.founds.on_device(endpoint);
+        for own in those {
+            if let Some(reply) = self.told_by(own.base, endpoint, dpa) {
+                return reply;
             }
         }
         Reply::Unmapped
+    }
+
+    /// What a byte of an endpoint's device is answered by the region of this base, where that carries a host byte there.
+    fn told_by(&self, base: u64, endpoint: u32, dpa: u64) -> Option<Reply>
+        requires { (m : Machine) × StandsFor self.now m × IsMachine m }
+        ensures some { IfSome result (λ reply. (m : Machine) → StandsFor self.now m → IsMachine m
+            → TellsHost m endpoint dpa reply) }
+        ensures none { IfNone result ((m : Machine) → StandsFor self.now m → IsMachine m
+            → HasNoneOf m base endpoint dpa) }
+    {
+        regions_lie_in_windows();
+        regions_share_no_byte();
+        let place = self.place_of_host(base)?;
+        let weave = self.kept_at(place).weave();
+        let h = carried_address(self.found_at(place), weave, endpoint, dpa)?;
+        let name = self.name_at(place);
+        Some(Reply::Up(Upped { h, name }))
     }
 }
 

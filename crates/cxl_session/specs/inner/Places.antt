@@ -1,6 +1,7 @@
 -- A live region at its place among what a session keeps.
-use Rattle.std.specs.Prelude.{◌≡◌, ℕ, Bool, List, Option, Some, None, find, slice_get, IsSomeAnd}
+use Rattle.std.specs.Prelude.{◌≡◌, ℕ, Bool, List, Option, Some, None, find, slice_get, Contains, IsSomeAnd}
 use Rattle.std.specs.Str.{bytes_eq}
+use Rattle.cxl_model.specs.Bytes.{LiesInSpan}
 use Rattle.cxl_machine.specs.Machine.{Live, Machine, has_host}
 use Rattle.cxl_session.specs.State.{SessionState}
 use Rattle.cxl_session.specs.Standing.{IsKeptIn}
@@ -24,3 +25,8 @@ HoldsAt session m h place = FindsAt session m (λ (region : Live). has_host regi
 -- the region of a name stands at this place, or none has it
 abbrev pub IsNamedAt : SessionState → Machine → List ℕ → Option ℕ → Type 0
 IsNamedAt session m name place = FindsAt session m (λ (region : Live). bytes_eq region.name name) place
+
+-- no live region of this base has the byte of the endpoint's device in a span
+abbrev pub HasNoneOf : Machine → ℕ → ℕ → ℕ → Type 0
+HasNoneOf m base endpoint dpa =
+    (region : Live) → Contains m.live region → region.found.base ≡ base → LiesInSpan region.found endpoint dpa → ⊥
