@@ -1,5 +1,5 @@
 -- K1, node by node.
-use Rattle.std.proofs.Common.{◌≡◌, ℕ, ◌+◌, ◌<◌, false, length, Some, refl, ◌∙◌, inl, inr, arith}
+use Rattle.std.proofs.Common.{◌≡◌, ℕ, ◌+◌, ◌<◌, ◌≤◌, true, false, not, length, Some, refl, ◌∙◌, inl, inr, arith}
 use Rattle.std.specs.Prelude.{slice_get, ◌==◌}
 use Rattle.std.proofs.lemmas.Bool.{eq-eqb, ne_eqb, cases_lt}
 use Rattle.std.proofs.lemmas.Option.{slice_get_past}
@@ -11,7 +11,7 @@ use Rattle.cxl_model.specs.Accepted.{breaks, breaks_caps}
 use Rattle.cxl_check.specs.Spots.{Keeps, IsFirstSpot}
 
 module _ (s : System) where
-  as_caps : (n i : ℕ) → breaks s 1 n i ≡ breaks_caps s n i
+  pub as_caps : (n i : ℕ) → breaks s 1 n i ≡ breaks_caps s n i
   unfolding breaks
   as_caps n i = refl
 
@@ -29,7 +29,7 @@ module _ (s : System) where
     word_kept n i block node here there same =
         rw (eq-eqb (length s.blocks) (length s.nodes) count, here, there, eq-eqb block.cap node.cap same) (and_false (i == 0))
 
-    past : (n i : ℕ) → length s.nodes < n + 1 → breaks_caps s n i ≡ false
+    pub past : (n i : ℕ) → length s.nodes < n + 1 → breaks_caps s n i ≡ false
     past n i beyond =
         rw (eq-eqb (length s.blocks) (length s.nodes) count, slice_get_past s.nodes n (omega arith), slice_get_past s.blocks n (omega arith)) (and_false (i == 0))
 
@@ -44,3 +44,17 @@ module _ (s : System) where
       nodes = λ lower i below. as_caps lower i ∙ before lower i below;
       decoders = λ lower below. absurd (omega arith);
     }
+
+    -- it breaks the rule exactly where it is another
+    pub word_is : (n : ℕ) (block : Registers) (node : Node) → slice_get s.blocks n ≡ Some block → slice_get s.nodes n ≡ Some node → not (block.cap == node.cap) ≡ breaks_caps s n 0
+    word_is n block node here there = rw (eq-eqb (length s.blocks) (length s.nodes) count, here, there) refl
+
+  -- decoder 0 alone is named, and node 0 alone where the number of blocks is another
+  pub first_decoder : (n i : ℕ) → 1 ≤ i → breaks_caps s n i ≡ false
+  first_decoder n i other = rw (ne_eqb i 0 (omega arith)) refl
+
+  pub first_node : (length s.blocks ≡ length s.nodes → ⊥) → (n i : ℕ) → 1 ≤ n → breaks_caps s n i ≡ false
+  first_node differ n i other = rw (ne_eqb (length s.blocks) (length s.nodes) differ, ne_eqb n 0 (omega arith)) (and_false (i == 0))
+
+  pub first_of_all : (length s.blocks ≡ length s.nodes → ⊥) → true ≡ breaks_caps s 0 0
+  first_of_all differ = rw (ne_eqb (length s.blocks) (length s.nodes) differ) refl

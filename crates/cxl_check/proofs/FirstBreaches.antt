@@ -25,18 +25,18 @@ module _ (s : System) where
       go (Some block) = no_other_rule rule block (ram_at s n) (pmem_at s n) i far
 
   -- and there is none past the nodes
-  block_past : (rule n i : ℕ) → length s.blocks ≤ n → breaks_block s rule n i ≡ false
+  pub block_past : (rule n i : ℕ) → length s.blocks ≤ n → breaks_block s rule n i ≡ false
   block_past rule n i past = rw (slice_get_past s.blocks n past) refl
 
   zero_keeps : (n i : ℕ) → breaks s 0 n i ≡ false
   zero_keeps n i = block_rule s 0 n i (λ same. omega arith) (omega arith) ∙ block_keeps 0 n i (λ k from to same. omega arith)
 
   -- a broken rule of blocks is one of K2 to K8
-  record IsBlockRule (rule : ℕ) : Type 0 where
-    from : 2 ≤ rule
-    to : rule < 9
+  pub record IsBlockRule (rule : ℕ) : Type 0 where
+    pub from : 2 ≤ rule
+    pub to : rule < 9
 
-  block_rule_of : (rule n i : ℕ) → breaks_block s rule n i ≡ true → IsBlockRule rule
+  pub block_rule_of : (rule n i : ℕ) → breaks_block s rule n i ≡ true → IsBlockRule rule
   block_rule_of rule n i broken =
       elim (cases_lt rule 2) [
         | inl low ↦ absurd (false≢true (sym (block_keeps rule n i (λ k from to same. omega arith)) ∙ broken))

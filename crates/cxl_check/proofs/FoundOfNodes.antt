@@ -9,7 +9,7 @@ use Rattle.cxl_model.specs.Accepted.{breaks_block}
 use Rattle.cxl_check.specs.inner.Found.{IsFoundOfNode}
 
 module _ (s : System) (n : ℕ) (block : Registers) (ram pmem : ℕ) (here : slice_get s.blocks n ≡ Some block) (ram_is : ram ≡ ram_at s n) (pmem_is : pmem ≡ pmem_at s n) where
-  of_block : (rule i : ℕ) → breaks_block s rule n i ≡ breaks rule block ram pmem i
+  pub of_block : (rule i : ℕ) → breaks_block s rule n i ≡ breaks rule block ram pmem i
   of_block rule i = rw (here, ram_is, pmem_is) refl
 
   pub found_of_node : (found : Option BlockBreach) → IsNone found ↔ BlockKeeps block ram pmem → IfSome found (λ b. IsFirstBlockBreach block ram pmem b.rule b.decoder) → IsFoundOfNode (breaks_block s) n found

@@ -13,3 +13,5 @@ pub mod Wholes
 pub mod FirstBreaches
 pub mod Keys
 pub mod Listing
+pub mod Spots
+pub mod FirstOfRule

@@ -55,7 +55,7 @@ module _ (s : System) (rule : ℕ) (from : 9 ≤ rule) (to : rule < 13) where
   breaks_none : (n i : ℕ) → decoder_at s n i ≡ None → breaks s rule n i ≡ false
   breaks_none n i none = as_test n i ∙ rw none refl
 
-  past_decoders : (n i : ℕ) → length (decoders_at s n) ≤ i → breaks s rule n i ≡ false
+  pub past_decoders : (n i : ℕ) → length (decoders_at s n) ≤ i → breaks s rule n i ≡ false
   past_decoders n i past = breaks_none n i (slice_get_past (decoders_at s n) i past)
 
   pub past_nodes : (n i : ℕ) → length s.blocks ≤ n → breaks s rule n i ≡ false

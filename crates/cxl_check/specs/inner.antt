@@ -9,3 +9,4 @@ pub mod Facts
 pub mod Known
 pub mod Slots
 pub mod Listing
+pub mod Listed

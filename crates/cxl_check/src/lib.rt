@@ -1,4 +1,4 @@
-//! Whether a register image is accepted, with its regions, and else the first breach of it.
+//! Whether a register image is accepted, with its regions, and else its first breach, or all places that break the same rule.
 #![tactic(auto)]
 
 mod above;
@@ -14,6 +14,7 @@ mod kind;
 mod known;
 mod landings;
 mod least;
+mod places;
 mod ranges;
 mod reach;
 mod regions;
@@ -26,3 +27,4 @@ mod window;
 pub use checking::check;
 pub use cxl_model::{Found, Place};
 pub use fault::{Breach, CheckFault};
+pub use places::breaches;

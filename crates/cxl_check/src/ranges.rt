@@ -59,7 +59,7 @@ fn node_breach(met: &mut Vec<Known>, host: &Host, tables: &Tables, node: u32) ->
 }
 
 /// The least of the rules K9 to K12 that a decoder breaks.
-fn least_broken(
+pub(crate) fn least_broken(
     met: &mut Vec<Known>,
     host: &Host,
     tables: &Tables,

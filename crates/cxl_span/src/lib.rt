@@ -7,6 +7,7 @@ mod breach;
 mod laws;
 mod rules;
 mod spans;
+mod testing;
 
 pub use allotting::{Room, Span, SpanFault, allot};
 pub use breach::{BlockBreach, block_breach};
@@ -15,3 +16,4 @@ pub use laws::{
     spans_follow, spans_lie_in_partitions,
 };
 pub use spans::{endpoint_place_of, start_of};
+pub use testing::breaks_at;

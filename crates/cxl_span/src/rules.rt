@@ -45,13 +45,13 @@ pub(crate) fn least_rule(
     None
 }
 
-fn breaks_commit_order(block: &Block, below: Option<Decoder>, d: &Decoder) -> bool
+pub(crate) fn breaks_commit_order(block: &Block, below: Option<Decoder>, d: &Decoder) -> bool
     ensures { result ≡ breaks_commit_order block.now below d.now }
 {
     d.committed && (breaks_order(below) || !block.enabled())
 }
 
-fn breaks_flags(d: &Decoder) -> bool
+pub(crate) fn breaks_flags(d: &Decoder) -> bool
     ensures { result ≡ breaks_flags d.now }
 {
     d.error
@@ -62,19 +62,19 @@ fn breaks_flags(d: &Decoder) -> bool
         }
 }
 
-fn breaks_codes(block: &Block, d: &Decoder) -> bool
+pub(crate) fn breaks_codes(block: &Block, d: &Decoder) -> bool
     ensures { result ≡ breaks_codes block.now d.now }
 {
     d.committed && !codes_ok(block.cap(), block.endpoint(), d)
 }
 
-fn breaks_select(block: &Block, d: &Decoder) -> bool
+pub(crate) fn breaks_select(block: &Block, d: &Decoder) -> bool
     ensures { result ≡ breaks_select block.now d.now }
 {
     d.committed && !select_ok(block.cap(), d.gran, d.select_bits())
 }
 
-fn breaks_size(block: &Block, d: &Decoder) -> bool
+pub(crate) fn breaks_size(block: &Block, d: &Decoder) -> bool
     ensures { result ≡ breaks_size block.now d.now }
 {
     d.committed
@@ -83,13 +83,13 @@ fn breaks_size(block: &Block, d: &Decoder) -> bool
             || (block.endpoint() && d.size % (UNIT * u64::from(d.interleave_ways())) != 0))
 }
 
-fn breaks_base_order(below: Option<Decoder>, d: &Decoder) -> bool
+pub(crate) fn breaks_base_order(below: Option<Decoder>, d: &Decoder) -> bool
     ensures { result ≡ breaks_base_order below d.now }
 {
     d.committed && breaks_rise(below, d)
 }
 
-fn breaks_capacity(block: &Block, ram: u64, pmem: u64, start: u128, d: &Decoder) -> bool
+pub(crate) fn breaks_capacity(block: &Block, ram: u64, pmem: u64, start: u128, d: &Decoder) -> bool
     requires { start < 2 ^ 100 }
     ensures { result ≡ breaks_capacity block.now ram pmem start d.now }
 {
