@@ -6,7 +6,7 @@ ghost use Rattle.cxl_model.specs.System.{bridge_uids};
 use crate::host_texts::{OVER_TWO, TWO_BY_ONE, TWO_FORWARDING, TWO_WAYS, TWO_WAYS_BELOW};
 use crate::hosts::{Worked, host_of};
 use crate::rows::{as_word, at, has_passed, numbers};
-use cxl_check::{Breach, CheckFault, Found, check};
+use cxl_check::{Breach, CheckFault, Found, breaches, check};
 use cxl_enc::MemKind;
 use cxl_image::{Image, read_image, write_image};
 use cxl_model::Place;
@@ -76,11 +76,12 @@ fn is_breach(rt: &impl Abort, alloc: Global, row: &Row) -> bool {
         node: row.node,
         decoder: row.decoder,
     };
-    breaks(alloc, &host, &image, breach)
+    let all = breaches(alloc, &image, &host.topo, &host.windows).expect(rt, "memory");
+    breaks(alloc, &host, &image, breach) && all.first() == Some(&breach)
 }
 
 #[test]
-fn breaches(rt: HostRuntime) {
+fn first_breaches(rt: HostRuntime) {
     for (i, row) in ROWS.iter().enumerate() {
         has_passed(&rt, i, is_breach(&rt, rt.alloc(), row));
     }
@@ -252,3 +253,82 @@ fn no_breach(rt: HostRuntime) {
     let none = regions_of(&rt, rt.alloc(), "");
     assert!(rt; none.is_empty());
 }
+
+/// Two bridges that cannot select on address bits 14:12.
+const BOTH_WITHOUT_LOW_BITS: &str =
+    "0x182, 0x182, 0x1b02 0 0 0x80000000 0, 0x1b02 1 0 0x80000000 0";
+
+/// Where an image over two bridges breaks its first broken rule: the nodes of the host, other words of the image, the rule, and
+/// node and decoder of each place.
+struct Places {
+    nodes: &'static str,
+    words: &'static str,
+    rule: u8,
+    places: &'static str,
+}
+
+fn are_places(rt: &impl Abort, alloc: Global, row: &Places) -> bool {
+    let host = host_of(rt, alloc, row.nodes, OVER_TWO, "");
+    let own = host_of(rt, alloc, TWO_BY_ONE, OVER_TWO, TWO_WAYS);
+    let image = changed(rt, alloc, &own, row.words);
+    let all = breaches(alloc, &image, &host.topo, &host.windows).expect(rt, "memory");
+    let places = numbers(rt, alloc, row.places);
+    all.len() == places.len() / 2
+        && all.iter().enumerate().all(|(i, breach)| {
+            breach.rule == row.rule
+                && u64::from(breach.node) == at(rt, &places, 2 * i)
+                && u64::from(breach.decoder) == at(rt, &places, 2 * i + 1)
+        })
+}
+
+#[test]
+fn all_places(rt: HostRuntime) {
+    for (i, row) in PLACES.iter().enumerate() {
+        has_passed(&rt, i, are_places(&rt, rt.alloc(), row));
+    }
+}
+
+/// As above; a node's second decoder has its control word 32 bytes behind that of the first.
+const PLACES: [Places; 6] = [
+    Places {
+        nodes: TWO_BY_ONE,
+        words: "",
+        rule: 0,
+        places: "",
+    },
+    Places {
+        nodes: BOTH_WITHOUT_LOW_BITS,
+        words: "332 0x1670",
+        rule: 1,
+        places: "0 0 1 0",
+    },
+    // Another number of blocks is told once.
+    Places {
+        nodes: SECOND_WITHOUT_ENDPOINT,
+        words: "332 0x1670",
+        rule: 1,
+        places: "0 0",
+    },
+    // An error bit in a decoder that is not committed, and a range that is not for the host alone; a code that K4 forbids is
+    // no breach of the first broken rule.
+    Places {
+        nodes: TWO_BY_ONE,
+        words: "364 0x800 396 0x800 476 0x610 188 0x1670",
+        rule: 3,
+        places: "2 1 2 2 3 0",
+    },
+    // A granularity code that is not the window's.
+    Places {
+        nodes: TWO_BY_ONE,
+        words: "332 0x1611 476 0x1611",
+        rule: 12,
+        places: "2 0 3 0",
+    },
+    // A range at which no window is.
+    Places {
+        nodes: TWO_BY_ONE,
+        words: "176 2 464 2",
+        rule: 9,
+        places: "1 0 3 0",
+    },
+];

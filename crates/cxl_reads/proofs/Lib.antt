@@ -1,3 +1,4 @@
 mod Endings
 mod Steps
 mod Parents
+mod Places

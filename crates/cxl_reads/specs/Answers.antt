@@ -39,3 +39,7 @@ topology_name = codes "topology"
 -- and that of an image
 abbrev pub image_name : List ℕ
 image_name = codes "image"
+
+-- and that of a table
+abbrev pub table_name : List ℕ
+table_name = codes "cedt"

@@ -1,3 +1,4 @@
 pub mod Answers
 pub mod Decoders
 pub mod Tree
+pub mod Breaches

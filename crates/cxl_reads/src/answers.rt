@@ -9,6 +9,8 @@ use cxl_inputs::{Outcome, Status};
 
 pub(crate) const TOPOLOGY: &str = "topology";
 
+pub(crate) const TABLE: &str = "cedt";
+
 pub(crate) const IMAGE: &str = "image";
 
 /// The outcome of a text that is told.

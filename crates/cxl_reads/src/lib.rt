@@ -1,12 +1,15 @@
-//! What the files of a host hold, told as lines over their bytes: the decoders of any image, and the tree of a topology.
+//! What the files of a host hold, told as lines over their bytes: the decoders of any image, the places that break its first broken
+//! rule, and the tree of a topology.
 #![tactic(auto)]
 
 mod answers;
 mod blocks;
 mod decoder_lines;
 mod of_images;
+mod of_places;
 mod of_topologies;
 
 pub use cxl_inputs::Status;
 pub use of_images::decoders;
+pub use of_places::breaches;
 pub use of_topologies::tree;
