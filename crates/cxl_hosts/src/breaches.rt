@@ -5,7 +5,7 @@ ghost use Rattle.cxl_model.specs.System.{bridge_uids};
 
 use crate::host_texts::{OVER_TWO, TWO_BY_ONE, TWO_FORWARDING, TWO_WAYS, TWO_WAYS_BELOW};
 use crate::hosts::{Worked, host_of};
-use crate::rows::{as_word, at, has_passed, numbers};
+use crate::rows::{are_written, as_word, at, has_passed, numbers};
 use cxl_check::{Breach, CheckFault, Found, breaches, check};
 use cxl_enc::MemKind;
 use cxl_image::{Image, read_image, write_image};
@@ -77,7 +77,7 @@ fn is_breach(rt: &impl Abort, alloc: Global, row: &Row) -> bool {
         decoder: row.decoder,
     };
     let all = breaches(alloc, &image, &host.topo, &host.windows).expect(rt, "memory");
-    breaks(alloc, &host, &image, breach) && all.first() == Some(&breach)
+    breaks(alloc, &host, &image, breach) && all.first().copied() == Some(breach)
 }
 
 #[test]
@@ -272,13 +272,15 @@ fn are_places(rt: &impl Abort, alloc: Global, row: &Places) -> bool {
     let own = host_of(rt, alloc, TWO_BY_ONE, OVER_TWO, TWO_WAYS);
     let image = changed(rt, alloc, &own, row.words);
     let all = breaches(alloc, &image, &host.topo, &host.windows).expect(rt, "memory");
-    let places = numbers(rt, alloc, row.places);
-    all.len() == places.len() / 2
-        && all.iter().enumerate().all(|(i, breach)| {
-            breach.rule == row.rule
-                && u64::from(breach.node) == at(rt, &places, 2 * i)
-                && u64::from(breach.decoder) == at(rt, &places, 2 * i + 1)
-        })
+    let mut told = Vec::new(alloc);
+    for breach in &all {
+        if breach.rule != row.rule {
+            return false;
+        }
+        told.push(u64::from(breach.node)).expect(rt, "memory");
+        told.push(u64::from(breach.decoder)).expect(rt, "memory");
+    }
+    are_written(rt, alloc, &told, row.places)
 }
 
 #[test]
