@@ -10,6 +10,8 @@ uint8_t cxlplan_proved_plan(const uint8_t *, size_t, const uint8_t *, size_t, co
 uint8_t cxlplan_proved_run(const uint8_t *, size_t, const uint8_t *, size_t, const uint8_t *, size_t, uint8_t *, size_t, size_t *);
 uint8_t cxlplan_proved_run_from(const uint8_t *, size_t, const uint8_t *, size_t, const uint8_t *, size_t, const uint8_t *, size_t,
                                 uint8_t *, size_t, size_t *);
+uint8_t cxlplan_proved_tree(const uint8_t *, size_t, uint8_t *, size_t, size_t *);
+uint8_t cxlplan_proved_decoders(const uint8_t *, size_t, const uint8_t *, size_t, uint8_t *, size_t, size_t *);
 uint8_t cxlplan_proved_gen(uint32_t, uint8_t *, size_t, size_t *);
 uint8_t cxlplan_proved_version(uint8_t *, size_t, size_t *);
 
@@ -89,8 +91,8 @@ int cxlplan_normal(const void *cedt, size_t cedt_len, void *out, size_t out_len,
     return cxlplan_proved_normal(in[0].at, in[0].len, room.at, room.len, room.written);
 }
 
-int cxlplan_check(const void *cedt, size_t cedt_len, const void *topo, size_t topo_len, const void *image, size_t
-                  image_len, void *out, size_t out_len, size_t *written)
+int cxlplan_check(const void *cedt, size_t cedt_len, const void *topo, size_t topo_len, const void *image, size_t image_len,
+                  void *out, size_t out_len, size_t *written)
 {
     struct bytes in[] = {{cedt, cedt_len}, {topo, topo_len}, {image, image_len}};
     struct room room;
@@ -100,8 +102,8 @@ int cxlplan_check(const void *cedt, size_t cedt_len, const void *topo, size_t to
     return cxlplan_proved_check(in[0].at, in[0].len, in[1].at, in[1].len, in[2].at, in[2].len, room.at, room.len, room.written);
 }
 
-int cxlplan_plan(const void *cedt, size_t cedt_len, const void *topo, size_t topo_len, const void *line, size_t
-                 line_len, void *out, size_t out_len, size_t *written)
+int cxlplan_plan(const void *cedt, size_t cedt_len, const void *topo, size_t topo_len, const void *line, size_t line_len,
+                 void *out, size_t out_len, size_t *written)
 {
     struct bytes in[] = {{cedt, cedt_len}, {topo, topo_len}, {line, line_len}};
     struct room room;
@@ -123,6 +125,27 @@ int cxlplan_run(const void *cedt, size_t cedt_len, const void *topo, size_t topo
         return cxlplan_proved_run(in[0].at, in[0].len, in[1].at, in[1].len, in[3].at, in[3].len, room.at, room.len, room.written);
     return cxlplan_proved_run_from(in[0].at, in[0].len, in[1].at, in[1].len, in[2].at, in[2].len, in[3].at, in[3].len,
                                    room.at, room.len, room.written);
+}
+
+int cxlplan_tree(const void *topo, size_t topo_len, void *out, size_t out_len, size_t *written)
+{
+    struct bytes in[] = {{topo, topo_len}};
+    struct room room;
+
+    if (!is_fit(in, 1, &room, out, out_len, written))
+        return CXLPLAN_USAGE;
+    return cxlplan_proved_tree(in[0].at, in[0].len, room.at, room.len, room.written);
+}
+
+int cxlplan_decoders(const void *topo, size_t topo_len, const void *image, size_t image_len, void *out, size_t out_len,
+                     size_t *written)
+{
+    struct bytes in[] = {{topo, topo_len}, {image, image_len}};
+    struct room room;
+
+    if (!is_fit(in, 2, &room, out, out_len, written))
+        return CXLPLAN_USAGE;
+    return cxlplan_proved_decoders(in[0].at, in[0].len, in[1].at, in[1].len, room.at, room.len, room.written);
 }
 
 int cxlplan_gen(uint32_t number, void *out, size_t out_len, size_t *written)

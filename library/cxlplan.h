@@ -2,12 +2,12 @@
  * libcxlplan: plans, simulates and checks CXL memory regions. The calls below answer what the command line of cxlplan
  * answers, over bytes in memory in place of files.
  *
- * What is proved. Each function checks its pointers in C and then makes one call of proved code. Of that
- * call it is proved, for each input, that status and text are those of the command that is named, over these bytes (a clause
- * `answered` of the crate cxl_c; docs/PROVED.md says what that means for each command); that `*written` is at most `out_len`
- * (`within`); that status 6 comes only where the room is full (`full`); and that nothing beyond the room, and nothing that the
- * caller passed to be read, is written. Sentences marked (C) below are none of these: they rest on the C file cxlplan.c and on
- * what you owe.
+ * What is proved. Each function checks its pointers in C and then makes one call of proved code. Of that call it is proved, for
+ * each input, that status and text are those of the command that is named, or, where no command is, those that the function's
+ * comment tells, over these bytes (a clause `answered` of the crate cxl_c; docs/PROVED.md says what that means for each); that
+ * `*written` is at most `out_len` (`within`); that status 6 comes only where the room is full (`full`); and that nothing beyond
+ * the room, and nothing that the caller passed to be read, is written. Sentences marked (C) below are none of these: they rest on
+ * the C file cxlplan.c and on what you owe.
  *
  * What goes in. Bytes with their length, which are read during the call and never kept. A null pointer stands for no bytes, and
  * is allowed with length 0 alone (C). Lengths are the lengths of what is really there: nothing can check that.
@@ -85,6 +85,24 @@ int cxlplan_plan(const void *cedt, size_t cedt_len, const void *topo, size_t top
    Statuses 0, 1, 3, 4, 6, 8, 9, 10, 11, 12. */
 int cxlplan_run(const void *cedt, size_t cedt_len, const void *topo, size_t topo_len, const void *image, size_t image_len,
                 const void *script, size_t script_len, void *out, size_t out_len, size_t *written);
+
+/* A topology as lines, which no command tells: first `frames N`, then each node by number, one of
+     node N NAME bridge uid UID ..
+     node N NAME switch parent NAME port PORT ..
+     node N NAME endpoint ram BYTES pmem BYTES parent NAME port PORT ..
+   and for `..` each time, also where the file leaves it to a default,
+     cap WORD decoders N targets N low BIT high BIT ways3 BIT ways16 BIT passthrough BIT
+   Statuses 0, 1, 4, 6, 9, 12. */
+int cxlplan_tree(const void *topo, size_t topo_len, void *out, size_t out_len, size_t *written);
+
+/* The decoder blocks of any image, also of one that breaks a rule, which no command tells: for each node, by number,
+     block N NAME cap WORD control WORD
+   and behind it each of its decoders, with `targets PORT,..` where it is a port's and `skip BYTES` where it is an endpoint's,
+     decoder NAME N base ADDRESS size BYTES ways N gran BYTES codes WAYS GRAN lock BIT commit BIT committed BIT error BIT
+     host-only BIT targets PORT,.. words WORD WORD WORD WORD WORD WORD WORD WORD
+   on one line. A ways code that stands for nothing counts as one way. Statuses 0, 1, 4, 6, 9, 10, 12. */
+int cxlplan_decoders(const void *topo, size_t topo_len, const void *image, size_t image_len, void *out, size_t out_len,
+                     size_t *written);
 
 /* The generated system of 4 * number endpoints, for a number from 1 to 32, carried out, as `cxlplan gen N` tells it.
    Statuses 0, 1, 6, 9. */

@@ -37,8 +37,8 @@ int main(int count, char **words)
         room *= 8;
         free(out);
         out = malloc(room);
-        status = out ? cxlplan_check(cedt.bytes, cedt.len, topo.bytes, topo.len, image.bytes, image.len,
-                                     out, room, &written)
+        status = out ? cxlplan_check(cedt.bytes, cedt.len, topo.bytes, topo.len, image.bytes,
+                                     image.len, out, room, &written)
                      : CXLPLAN_NO_MEMORY;
     } while (status == CXLPLAN_WRITE_FAULT);
     fwrite(out, 1, written, stdout);

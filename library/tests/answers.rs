@@ -20,6 +20,8 @@ fn answer<'a>(words: &[&str], files: &[Vec<u8>], room: &'a mut [u8]) -> cxlplan:
         "check" => cxlplan::check(&files[0], &files[1], &files[2], room),
         "plan" => cxlplan::plan(&files[0], &files[1], words[3], room),
         "run" => cxlplan::run(&files[0], &files[1], files.get(3).map(|image| &image[..]), &files[2], room),
+        "tree" => cxlplan::tree(&files[0], room),
+        "decoders" => cxlplan::decoders(&files[0], &files[1], room),
         "gen" => cxlplan::gen(number(words[1]) as u32, room),
         _ => cxlplan::version(room),
     }
@@ -31,8 +33,8 @@ fn main() {
         let row = row.expect("a row");
         let words: Vec<&str> = row.split('\t').collect();
         let count = match words[0] {
-            "route" | "list" | "normal" => 1,
-            "plan" => 2,
+            "route" | "list" | "normal" | "tree" => 1,
+            "plan" | "decoders" => 2,
             "check" => 3,
             "run" => words.len() - 1,
             _ => 0,

@@ -31,30 +31,43 @@ static void *read_file(const char *name, size_t *len)
 static void *cedt, *topo, *image;
 static size_t cedt_len, topo_len, image_len;
 
+/* A call with files of its own, into a room. */
+typedef int into(void *out, size_t out_len, size_t *written);
+
 static int check_into(void *out, size_t out_len, size_t *written)
 {
     return cxlplan_check(cedt, cedt_len, topo, topo_len, image, image_len, out, out_len, written);
 }
 
+static int tree_into(void *out, size_t out_len, size_t *written)
+{
+    return cxlplan_tree(topo, topo_len, out, out_len, written);
+}
+
+static int decoders_into(void *out, size_t out_len, size_t *written)
+{
+    return cxlplan_decoders(topo, topo_len, image, image_len, out, out_len, written);
+}
+
 /* A room of each size up to what the text needs: its front stands there, and the bytes behind the room are as they were. */
-static void rooms(void)
+static void rooms(into *call)
 {
     static unsigned char whole[65536], part[65536];
     size_t need = 0, written = 0;
-    int status = check_into(whole, sizeof whole, &need);
+    int status = call(whole, sizeof whole, &need);
 
     expect(status == CXLPLAN_DONE && need > 0, "the whole text", need);
     for (size_t room = 0; room <= need + 2; room++) {
-        memset(part, MARK, sizeof part);
+        memset(part, MARK, room + 2 * FENCE);
         written = 77;
-        status = check_into(part + FENCE, room, &written);
+        status = call(part + FENCE, room, &written);
         expect(status == (room < need ? CXLPLAN_WRITE_FAULT : CXLPLAN_DONE), "the status of a room", room);
         expect(written == (room < need ? room : need), "the count of a room", room);
         expect(!memcmp(part + FENCE, whole, written), "the text of a room", room);
         for (size_t i = 0; i < FENCE; i++)
             expect(part[i] == MARK && part[FENCE + room + i] == MARK, "a byte beside the room", room);
     }
-    expect(check_into(NULL, 0, NULL) == CXLPLAN_WRITE_FAULT, "no room at all", 0);
+    expect(call(NULL, 0, NULL) == CXLPLAN_WRITE_FAULT, "no room at all", 0);
 }
 
 static void nulls(void)
@@ -66,6 +79,10 @@ static void nulls(void)
     expect(cxlplan_list(cedt, cedt_len, NULL, 1, &written) == CXLPLAN_USAGE && written == 0, "a null room with a length", 1);
     expect(cxlplan_list(NULL, 0, out, sizeof out, &written) == CXLPLAN_BAD_TABLE && written > 0, "no table", 0);
     expect(cxlplan_check(NULL, 0, NULL, 0, NULL, 0, out, sizeof out, NULL) == CXLPLAN_BAD_TABLE, "no files", 0);
+    expect(cxlplan_tree(NULL, 1, out, sizeof out, &written) == CXLPLAN_USAGE && written == 0, "null for a topology", 1);
+    expect(cxlplan_tree(NULL, 0, out, sizeof out, &written) == CXLPLAN_DONE && written > 0, "no topology", 0);
+    expect(cxlplan_decoders(topo, topo_len, NULL, 1, out, sizeof out, &written) == CXLPLAN_USAGE && written == 0, "null for an image", 1);
+    expect(cxlplan_decoders(topo, topo_len, NULL, 0, out, sizeof out, &written) == CXLPLAN_BAD_IMAGE && written > 0, "no image", 0);
     expect(cxlplan_run(cedt, cedt_len, topo, topo_len, NULL, 0, NULL, 0, out, sizeof out, &written) == CXLPLAN_DONE && written == 0,
            "an empty script", 0);
     expect(cxlplan_run(cedt, cedt_len, topo, topo_len, "", 0, "down 0", 6, out, sizeof out, &written) == CXLPLAN_BAD_IMAGE,
@@ -93,10 +110,14 @@ static void lengths(void)
     /* each front of each file: an answer, whatever it is */
     for (size_t len = 0; len <= cedt_len; len++)
         expect(cxlplan_check(cedt, len, topo, topo_len, image, image_len, out, sizeof out, &written) <= CXLPLAN_TOO_LARGE, "a table", len);
-    for (size_t len = 0; len <= topo_len; len += 3)
+    for (size_t len = 0; len <= topo_len; len += 3) {
         expect(cxlplan_check(cedt, cedt_len, topo, len, image, image_len, out, sizeof out, &written) <= CXLPLAN_TOO_LARGE, "a topology", len);
-    for (size_t len = 0; len <= image_len; len += 5)
+        expect(cxlplan_tree(topo, len, out, sizeof out, &written) <= CXLPLAN_TOO_LARGE, "a tree", len);
+    }
+    for (size_t len = 0; len <= image_len; len += 5) {
         expect(cxlplan_check(cedt, cedt_len, topo, topo_len, image, len, out, sizeof out, &written) <= CXLPLAN_TOO_LARGE, "an image", len);
+        expect(cxlplan_decoders(topo, topo_len, image, len, out, sizeof out, &written) <= CXLPLAN_TOO_LARGE, "decoders", len);
+    }
 }
 
 static void overlaps(void)
@@ -112,6 +133,8 @@ static void overlaps(void)
     expect(cxlplan_list(all.bytes, cedt_len, all.bytes + cedt_len - 1, 64, &written) == CXLPLAN_USAGE, "one byte of them", 0);
     expect(!memcmp(all.bytes, cedt, cedt_len), "bytes that were to be read", 0);
     expect(cxlplan_list(cedt, cedt_len, all.bytes, sizeof all, &all.count) == CXLPLAN_USAGE, "the count in the room", 0);
+    expect(cxlplan_decoders(topo, topo_len, all.bytes, cedt_len, all.bytes, sizeof all, &written) == CXLPLAN_USAGE && written == 0,
+           "an image in the room", 0);
 }
 
 /* A topology whose tables lie within each other as deep as the reader lets them: a dotted key of 80 parts, and 80 braces of such. */
@@ -153,7 +176,9 @@ int main(int count, char **words)
     cedt = read_file(words[1], &cedt_len);
     topo = read_file(words[2], &topo_len);
     image = read_file(words[3], &image_len);
-    rooms();
+    rooms(check_into);
+    rooms(tree_into);
+    rooms(decoders_into);
     nulls();
     lengths();
     overlaps();

@@ -1,6 +1,7 @@
-"""The library beside the program: each row is answered by both, byte for byte, through C, Python and Rust. The program is the one
-that the variable CXLPLAN names, or else crates/cxlplan/out/cxlplan; the libraries are in the folder that CXLPLAN_LIBRARIES names, or
-else in crates/cxl_c/out. What the machine lacks, a compiler or valgrind, is skipped."""
+"""The library beside the program: each row is answered by both, byte for byte, through C, Python and Rust. What no command tells
+is held against the same lines made in Python (told.py). The program is the one that the variable CXLPLAN names, or else
+crates/cxlplan/out/cxlplan; the libraries are in the folder that CXLPLAN_LIBRARIES names, or else in crates/cxl_c/out. What the
+machine lacks, a compiler or valgrind, is skipped."""
 
 import os
 import re
@@ -19,12 +20,13 @@ STATIC, SHARED = f"{BUILT}/libcxlplan.a", f"{BUILT}/libcxlplan.so.1"
 HOST = [f"{TOP}/examples/four-endpoints.{it}" for it in ("cedt", "toml", "image")]
 DATA = f"{HERE}/data"
 STRICT = ["-std=c99", "-Wall", "-Wextra", "-Werror", "-pedantic", "-O1", "-g", f"-I{TOP}/library"]
-FILES = {"route": 1, "list": 1, "normal": 1, "plan": 2, "check": 3}
+FILES = {"route": 1, "list": 1, "normal": 1, "tree": 1, "plan": 2, "decoders": 2, "check": 3}
 SECONDS = 300
 
 os.environ.setdefault("CXLPLAN_LIBRARY", SHARED)
-sys.path.insert(0, f"{TOP}/python/cxlplan")
-import _library  # noqa: E402 pylint: disable=wrong-import-position
+sys.path[:0] = [HERE, f"{TOP}/python"]
+import told  # noqa: E402 pylint: disable=wrong-import-position
+from cxlplan import _by_library, _library, _retold  # noqa: E402 pylint: disable=wrong-import-position
 
 
 def read(path):
@@ -52,7 +54,7 @@ def rows(folder):
         yield from (["list", table], ["normal", table])
         yield from (["route", table, hex(at)] for at in (0, 0x110004500, 0x280004500, 0x310004500, 0x350004500, 2**64 - 1))
     for name, files in images():
-        yield ["check", *files]
+        yield from (["check", *files], ["tree", files[1]], ["decoders", *files[1:]])
         script = "".join(f"show r{n}\nload r{n} 0 16\n" for n in range(3)) + "poison 00\n"
         if os.path.exists(f"{DATA}/{name}/stores.txt"):
             script += "".join(f"down {line.split()[0]}\n" for line in read(f"{DATA}/{name}/stores.txt").decode().splitlines())
@@ -70,12 +72,18 @@ def rows(folder):
     for bad in (*cut, large, write(f"{folder}/empty", b"")):
         yield ["list", bad]
         yield from (["check", *HOST[:at], bad, *HOST[at + 1:]] for at in range(3))
+        yield from (["tree", bad], ["decoders", bad, HOST[2]], ["decoders", HOST[1], bad])
     yield ["run", *HOST[:2], write(f"{folder}/long", b"down 0\n" * 2396746)]
     yield ["run", *HOST[:2], write(f"{folder}/odd", b"\0\xff\n" + b"x" * 5000 + b"\r\n\n load")]
 
 
 def by_program(row):
-    """What the program answers to a row, over files with the names that the library tells of them."""
+    """What the program answers to a row, over files with the names that the library tells of them; where it has no command, what it says
+    of files that it does not take, and else what is told anew."""
+    if row[0] in ("tree", "decoders"):
+        status, text = by_program(["check", HOST[0], row[1], row[2] if len(row) > 2 else os.devnull])
+        is_taken = status in (0, 8) or status == 10 and len(row) == 2
+        return (0, told.TELLS[row[0]](*map(read, row[1:]))) if is_taken else (status, text)
     names = ["cedt", "topology", "image"]
     with tempfile.TemporaryDirectory() as folder:
         words, script = list(row), b""
@@ -124,7 +132,7 @@ class Library(unittest.TestCase):
     @classmethod
     def setUpClass(cls):
         cls.folder = tempfile.mkdtemp()
-        cls.rows = list(rows(cls.folder))
+        cls.rows = [row for row in rows(cls.folder) if row[0] in told.TELLS or row[0] not in ("tree", "decoders")]
         # the C driver cuts rows at tabs, and takes an empty word for none
         cls.worded = [row for row in cls.rows if "" not in row]
         cls.wanted = {tuple(row): by_program(row) for row in cls.rows}
@@ -162,6 +170,17 @@ class Library(unittest.TestCase):
     def test_python(self):
         for row in self.rows:
             self.compare(row, by_python(row))
+
+    @unittest.skipUnless(told.TELLS, "there is no reader of TOML here")
+    def test_facts(self):
+        """The package reads of the library's lines what it tells anew where there is no library."""
+        found = _by_library.LibraryEngine(_library)
+        for name, files in [*images(), ("host", HOST)]:
+            cedt, topo, image = map(read, files)
+            with self.subTest(name):
+                nodes = _retold.nodes_of(topo, None)
+                self.assertEqual(found.tree(cedt, topo), nodes)
+                self.assertEqual(found.decoders(cedt, topo, image), _retold.decoders_of(image, nodes))
 
     def test_c_with_sanitizers(self):
         self.compare_all(by_driver([self.compiled(f"{HERE}/answers.c", "-fsanitize=address,undefined", STATIC)], self.worded))

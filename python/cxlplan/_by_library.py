@@ -68,7 +68,8 @@ class LibraryEngine(_retold.Retelling):
     def breaches(self, cedt: bytes, topo: bytes, image: bytes) -> list:
         if not hasattr(self.library, "breaches"):
             return super().breaches(cedt, topo, image)
-        return texts.places(told(self.library.breaches(cedt, topo, image)))
+        status, data = self.library.breaches(cedt, topo, image)
+        return texts.places(told((0 if status == 8 else status, data)))
 
     def session(self, cedt: bytes, topo: bytes, image: Optional[bytes]):
         """A run of the program: the library keeps no sessions."""

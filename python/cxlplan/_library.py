@@ -26,6 +26,8 @@ _TAKES = {
     "check": _BYTES * 3,
     "plan": _BYTES * 3,
     "run": _BYTES * 4,
+    "tree": _BYTES,
+    "decoders": _BYTES * 2,
     "gen": [ctypes.c_uint32],
     "version": [],
 }
@@ -141,6 +143,16 @@ def plan(cedt, topo, line):
 def run(cedt, topo, script, image=None):
     """What the lines of a script are answered, on the host after reset, or with the registers of an image."""
     return _call("run", cedt, topo, image, script)
+
+
+def tree(topo):
+    """A topology as lines: its frames and each node, also with what the file leaves to a default."""
+    return _call("tree", topo)
+
+
+def decoders(topo, image):
+    """The decoder blocks of any image as lines, also of one that breaks a rule."""
+    return _call("decoders", topo, image)
 
 
 def gen(number):

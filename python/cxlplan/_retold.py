@@ -1,5 +1,5 @@
 """Trees, windows and decoders told anew in Python, where the program is there and the library is not: the program has no form for them.
-What it has not read and taken is not told. With the library nothing of this is used."""
+What it has not read and taken is not told."""
 
 import struct
 from functools import lru_cache
@@ -112,7 +112,7 @@ def decoder_of(node: Node, number: int, words) -> Decoder:
     return Decoder(node.name, number, bool(control & COMMITTED), bool(control & COMMIT), bool(control & ERROR), bool(control & LOCK),
                    bool(control & HOST_ONLY), words[0] | words[1] << 32, words[2] | words[3] << 32, ways,
                    256 << (control & 15) if control & 15 < 7 else None,
-                   None if is_end else tuple((tail >> 8 * i) & 255 for i in range(min(ways or 8, 8))), tail if is_end else None,
+                   None if is_end else tuple((tail >> 8 * i) & 255 for i in range(min(ways or 1, 8))), tail if is_end else None,
                    tuple(words[:7]))
 
 

@@ -52,6 +52,9 @@ def position(text: str) -> Position:
 
 # ---- Trees and decoders, as the library's read-only calls tell them.
 
+WAYS_CODES, GRAN_CODES = (0, 1, 2, 3, 4, 8, 9, 10), range(7)  # that stand for something
+
+
 def pairs(words: list) -> dict:
     return dict(zip(words[::2], words[1::2]))
 
@@ -77,13 +80,13 @@ def decoders(text: str) -> list:
 
 
 def decoder(line: str) -> Decoder:
-    front, _, words = line.partition(" words ")
+    front, _, words = line.rpartition(" words ")
     parts = front.split(" ")
-    said = pairs(parts[3:])
-    targets = said.get("targets")
+    at = parts.index("codes", 3)  # the codes of ways and granularity, which may stand for nothing
+    ways, gran, said = int(parts[at + 1]), int(parts[at + 2]), pairs(parts[3:at] + parts[at + 3:])
     return Decoder(parts[1], int(parts[2]), said["committed"] == "1", said["commit"] == "1", said["error"] == "1", said["lock"] == "1",
-                   said["host-only"] == "1", int(said["base"], 16), int(said["size"], 16), int(said["ways"]) or None,
-                   int(said["gran"]) or None, None if targets is None else numbers(targets) if targets else (),
+                   said["host-only"] == "1", int(said["base"], 16), int(said["size"], 16), int(said["ways"]) if ways in WAYS_CODES else None,
+                   int(said["gran"]) if gran in GRAN_CODES else None, numbers(said["targets"])[:8] if "targets" in said else None,
                    int(said["skip"], 16) if "skip" in said else None, tuple(int(word, 16) for word in words.split(" ")[:7]))
 
 

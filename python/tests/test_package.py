@@ -21,10 +21,10 @@ node 2 e0 endpoint ram 0x0 pmem 0x10000000 parent p1 port 0 cap 0x1b02 decoders 
 """
     DECODERS = """\
 block 0 hb16 cap 0x382 control 0x0
-decoder hb16 0 base 0x110000000 size 0x40000000 ways 2 gran 512 ways-code 1 gran-code 1 lock 0 commit 1 committed 1 error 0 host-only 1 \
+decoder hb16 0 base 0x110000000 size 0x40000000 ways 2 gran 512 codes 1 1 lock 0 commit 1 committed 1 error 0 host-only 1 \
 targets 0,1 words 10000000 00000001 40000000 00000000 00001611 00000100 00000000 00000000
 block 2 e0 cap 0x1b02 control 0x2
-decoder e0 0 base 0x0 size 0x0 ways 0 gran 0 ways-code 15 gran-code 9 lock 0 commit 0 committed 0 error 0 host-only 0 skip 0x10000000 \
+decoder e0 0 base 0x0 size 0x0 ways 1 gran 131072 codes 15 9 lock 0 commit 0 committed 0 error 0 host-only 0 skip 0x10000000 \
 words 00000000 00000000 00000000 00000000 000000f9 10000000 00000000 00000000
 """
 
@@ -143,7 +143,7 @@ class Engines(Case):
             decoders = staticmethod(lambda topo, image: (0, Texts.DECODERS.encode()) if image else (10, b"error: image cut 0\n"))
             windows = staticmethod(lambda cedt, topo: (0, b"chbs 1 version 1 base 0x0 length 0x0\nwindow 0 base 0x0 size 0x0 ways 1 gran 256 "
                                                           b"modulo restrict 0x0000 qtg 0 targets 1 size\n"))
-            breaches = staticmethod(lambda cedt, topo, image: (0, b"breach K12 d4 0\nbreach K12 d5 0\n"))
+            breaches = staticmethod(lambda cedt, topo, image: (8, b"breach K12 d4 0\nbreach K12 d5 0\n"))
         found = LibraryEngine(Library)
         self.assertEqual([it.name for it in found.tree(b"", b"")], ["hb16", "p1", "e0"])
         self.assertEqual([it.node for it in found.decoders(b"", b"", b"x")], ["hb16", "e0"])

@@ -1,3 +1,4 @@
 mod FormWords
 mod Growing
 mod Runs
+mod Marks

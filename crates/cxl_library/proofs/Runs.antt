@@ -20,7 +20,7 @@ use Rattle.cxl_library.specs.Slices.{Slices, files_of, source_of}
 use Rattle.cxl_library.specs.declared.room.Room.{Room}
 use Rattle.cxl_library.proofs.Growing.{HasGrown, run_grows}
 
-abbrev first_of : Option (List ℕ) → ℕ
+abbrev pub first_of : Option (List ℕ) → ℕ
 first_of None = 0
 first_of (Some []) = 0
 first_of (Some (mark ∷ bytes)) = mark

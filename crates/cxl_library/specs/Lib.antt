@@ -1,3 +1,4 @@
 pub mod Slices
 pub mod Rooms
 pub mod Answered
+pub mod Reads

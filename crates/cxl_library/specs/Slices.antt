@@ -3,6 +3,7 @@ use Rattle.std.specs.Prelude.{ℕ, true, None, Some, List, codes, bytes_eq, if�
 use Rattle.cxl_io.specs.Fetch.{FetchState}
 use Rattle.cxl_io.specs.Source.{SourceState}
 use Rattle.cxl_io.specs.Told.{Told, Bytes}
+use Rattle.cxl_reads.specs.Answers.{topology_name}
 
 -- a table, a topology and an image
 pub record Slices : Type 0 where
@@ -18,18 +19,10 @@ slices cedt topo image = record { cedt = cedt; topo = topo; image = image }
 abbrev pub cedt_name : List ℕ
 cedt_name = codes "cedt"
 
--- and the topology
-abbrev pub topo_name : List ℕ
-topo_name = codes "topology"
-
--- and the image
-abbrev pub image_name : List ℕ
-image_name = codes "image"
-
 -- the bytes of the three files; each name but the first two is the image's
 abbrev pub told_in : Slices → List ℕ → Told
 told_in files name =
-    if bytes_eq name cedt_name then Bytes files.cedt else (if bytes_eq name topo_name then Bytes files.topo else Bytes files.image)
+    if bytes_eq name cedt_name then Bytes files.cedt else (if bytes_eq name topology_name then Bytes files.topo else Bytes files.image)
 
 -- the files that are told so; they never fail
 abbrev pub files_of : Slices → FetchState

@@ -4,7 +4,8 @@
 ghost use Rattle.std.specs.Prelude.{◌≡◌, ◌≤◌, None, Some, Ok, [], length, take, IsUtf8};
 ghost use Rattle.cxl_commands.specs.Form.{Route, Listing, Normal, Check, Script, Version, plan_form_over, create_on_line, gen_of, Unreadable};
 ghost use Rattle.cxl_library.specs.Answered.{IsAnswered};
-ghost use Rattle.cxl_library.specs.Slices.{slices, cedt_name, topo_name, image_name};
+ghost use Rattle.cxl_library.specs.Slices.{slices, cedt_name};
+ghost use Rattle.cxl_reads.specs.Answers.{topology_name, image_name};
 
 use crate::running::answered;
 use crate::slices::Slices;
@@ -54,7 +55,7 @@ pub fn check(
     out: &mut [u8],
     written: &mut usize,
 ) -> Status
-    ensures answered { IsAnswered (Check cedt_name topo_name image_name) (slices cedt.now topo.now image.now) [] result (take written.new out.new) }
+    ensures answered { IsAnswered (Check cedt_name topology_name image_name) (slices cedt.now topo.now image.now) [] result (take written.new out.new) }
     ensures within { written.new ≤ length out.new }
     ensures full { result ≡ Status.WriteFault → written.new ≡ length out.new }
 {
@@ -71,7 +72,7 @@ pub fn plan(
     out: &mut [u8],
     written: &mut usize,
 ) -> Status
-    ensures answered { IsUtf8 line.now → IsAnswered (plan_form_over cedt_name topo_name (create_on_line line.now))
+    ensures answered { IsUtf8 line.now → IsAnswered (plan_form_over cedt_name topology_name (create_on_line line.now))
         (slices cedt.now topo.now []) [] result (take written.new out.new) }
     ensures no_text { ¬ (IsUtf8 line.now) → IsAnswered Unreadable (slices cedt.now topo.now []) [] result (take written.new out.new) }
     ensures within { written.new ≤ length out.new }
@@ -93,7 +94,7 @@ pub fn run_from_reset(
     out: &mut [u8],
     written: &mut usize,
 ) -> Status
-    ensures answered { IsAnswered (Script cedt_name topo_name None) (slices cedt.now topo.now []) script.now result (take written.new out.new) }
+    ensures answered { IsAnswered (Script cedt_name topology_name None) (slices cedt.now topo.now []) script.now result (take written.new out.new) }
     ensures within { written.new ≤ length out.new }
     ensures full { result ≡ Status.WriteFault → written.new ≡ length out.new }
 {
@@ -111,7 +112,7 @@ pub fn run_from_image(
     out: &mut [u8],
     written: &mut usize,
 ) -> Status
-    ensures answered { IsAnswered (Script cedt_name topo_name (Some image_name)) (slices cedt.now topo.now image.now) script.now result (take written.new out.new) }
+    ensures answered { IsAnswered (Script cedt_name topology_name (Some image_name)) (slices cedt.now topo.now image.now) script.now result (take written.new out.new) }
     ensures within { written.new ≤ length out.new }
     ensures full { result ≡ Status.WriteFault → written.new ≡ length out.new }
 {

@@ -1,3 +1,4 @@
+pub mod Statuses
 mod Endings
 mod Steps
 mod Parents

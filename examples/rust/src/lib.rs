@@ -22,6 +22,11 @@ pub mod raw {
             cedt: *const c_void, cedt_len: usize, topo: *const c_void, topo_len: usize, image: *const c_void, image_len: usize,
             script: *const c_void, script_len: usize, out: *mut c_void, out_len: usize, written: *mut usize,
         ) -> c_int;
+        pub fn cxlplan_tree(topo: *const c_void, topo_len: usize, out: *mut c_void, out_len: usize, written: *mut usize) -> c_int;
+        pub fn cxlplan_decoders(
+            topo: *const c_void, topo_len: usize, image: *const c_void, image_len: usize,
+            out: *mut c_void, out_len: usize, written: *mut usize,
+        ) -> c_int;
         pub fn cxlplan_gen(number: u32, out: *mut c_void, out_len: usize, written: *mut usize) -> c_int;
         pub fn cxlplan_version(out: *mut c_void, out_len: usize, written: *mut usize) -> c_int;
     }
@@ -96,6 +101,20 @@ pub fn run<'a>(cedt: &[u8], topo: &[u8], image: Option<&[u8]>, script: &[u8], ou
     let (i, i_len) = image.map_or((core::ptr::null(), 0), |image| bytes!(image));
     // SAFETY: as in `route`; null with length 0 stands for no image.
     answer(out, |at, len, written| unsafe { raw::cxlplan_run(c, c_len, t, t_len, i, i_len, s, s_len, at, len, written) })
+}
+
+/// A topology as lines: its frames and each node, also with what the file leaves to a default.
+pub fn tree<'a>(topo: &[u8], out: &'a mut [u8]) -> Answer<'a> {
+    let (t, t_len) = bytes!(topo);
+    // SAFETY: as in `route`.
+    answer(out, |at, len, written| unsafe { raw::cxlplan_tree(t, t_len, at, len, written) })
+}
+
+/// The decoder blocks of any image as lines, also of one that breaks a rule.
+pub fn decoders<'a>(topo: &[u8], image: &[u8], out: &'a mut [u8]) -> Answer<'a> {
+    let ((t, t_len), (i, i_len)) = (bytes!(topo), bytes!(image));
+    // SAFETY: as in `route`.
+    answer(out, |at, len, written| unsafe { raw::cxlplan_decoders(t, t_len, i, i_len, at, len, written) })
 }
 
 /// The generated system of 4 * number endpoints, for a number from 1 to 32, carried out.
