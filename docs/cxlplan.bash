@@ -1,4 +1,4 @@
-# Completion for bash: the commands and options of cxlplan, and the files that each command reads.
+# Completion for bash: the commands and options of cxlplan and of what stands beside it, and the files that they read.
 _cxlplan() {
     local word="${COMP_WORDS[COMP_CWORD]}" verb="${COMP_WORDS[1]-}"
     COMPREPLY=()
@@ -30,6 +30,10 @@ _cxl_files() {
     -*) mapfile -t COMPREPLY < <(compgen -W "$1" -- "$word") ;;
     *) mapfile -t COMPREPLY < <(compgen -f -- "$word") ;;
     esac
+}
+
+_cxlbench() {
+    _cxl_files '--help --version'
 }
 
 _cxl_capture() {
@@ -67,6 +71,7 @@ _cxldesk() {
 
 complete -F _cxlplan cxlplan
 complete -F _cxldesk cxldesk
+complete -F _cxlbench cxlbench
 complete -F _cxl_capture cxl-capture
 complete -F _cxl_regions cxl-regions
 complete -F _cxl_picture cxl-picture

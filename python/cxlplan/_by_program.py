@@ -145,7 +145,7 @@ class ProgramSession:
     def watch(self) -> None:
         """Has the words of writes told from now on. What was sent before is not told, so it comes before the first line."""
         if not self.engine.bench:
-            raise NoEngine("register writes are told by cxlbench: name it in CXLBENCH, or put it on the search path")
+            raise NoEngine("register writes are told by cxlbench: run ./prove --bench in the repository, or name it in CXLBENCH")
         cedt, topo, image = self.host
         self.bench = Bench(self.engine.bench, cedt, topo, image, self.engine.tree(cedt, topo))
 

@@ -96,7 +96,7 @@ def over_lines(*lines: str) -> tuple:
         return answer([CXLBENCH, CEDT, TOPO, to, back], CREATE)
 
 
-@unittest.skipUnless(os.access(CXLBENCH, os.X_OK), "./prove cxlbench builds the program")
+@unittest.skipUnless(os.access(CXLBENCH, os.X_OK), "./prove --bench builds the program")
 class Bench(unittest.TestCase):
     @unittest.skipUnless(os.access(CXLPLAN, os.X_OK), "./prove builds the program")
     def test_replies_are_those_of_run(self):
