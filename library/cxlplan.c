@@ -12,6 +12,7 @@ uint8_t cxlplan_proved_run_from(const uint8_t *, size_t, const uint8_t *, size_t
                                 uint8_t *, size_t, size_t *);
 uint8_t cxlplan_proved_tree(const uint8_t *, size_t, uint8_t *, size_t, size_t *);
 uint8_t cxlplan_proved_decoders(const uint8_t *, size_t, const uint8_t *, size_t, uint8_t *, size_t, size_t *);
+uint8_t cxlplan_proved_breaches(const uint8_t *, size_t, const uint8_t *, size_t, const uint8_t *, size_t, uint8_t *, size_t, size_t *);
 uint8_t cxlplan_proved_gen(uint32_t, uint8_t *, size_t, size_t *);
 uint8_t cxlplan_proved_version(uint8_t *, size_t, size_t *);
 
@@ -146,6 +147,17 @@ int cxlplan_decoders(const void *topo, size_t topo_len, const void *image, size_
     if (!is_fit(in, 2, &room, out, out_len, written))
         return CXLPLAN_USAGE;
     return cxlplan_proved_decoders(in[0].at, in[0].len, in[1].at, in[1].len, room.at, room.len, room.written);
+}
+
+int cxlplan_breaches(const void *cedt, size_t cedt_len, const void *topo, size_t topo_len, const void *image, size_t image_len,
+                     void *out, size_t out_len, size_t *written)
+{
+    struct bytes in[] = {{cedt, cedt_len}, {topo, topo_len}, {image, image_len}};
+    struct room room;
+
+    if (!is_fit(in, 3, &room, out, out_len, written))
+        return CXLPLAN_USAGE;
+    return cxlplan_proved_breaches(in[0].at, in[0].len, in[1].at, in[1].len, in[2].at, in[2].len, room.at, room.len, room.written);
 }
 
 int cxlplan_gen(uint32_t number, void *out, size_t out_len, size_t *written)

@@ -104,6 +104,12 @@ int cxlplan_tree(const void *topo, size_t topo_len, void *out, size_t out_len, s
 int cxlplan_decoders(const void *topo, size_t topo_len, const void *image, size_t image_len, void *out, size_t out_len,
                      size_t *written);
 
+/* All places that break the rule which an image breaks first, which no command tells: with status 8 a line for each, as
+   `cxlplan check CEDT TOPO IMAGE` tells the first of them, and with status 0 no text, where no rule is broken.
+   Statuses 0, 1, 3, 4, 6, 8, 9, 10, 12. */
+int cxlplan_breaches(const void *cedt, size_t cedt_len, const void *topo, size_t topo_len, const void *image, size_t image_len,
+                     void *out, size_t out_len, size_t *written);
+
 /* The generated system of 4 * number endpoints, for a number from 1 to 32, carried out, as `cxlplan gen N` tells it.
    Statuses 0, 1, 6, 9. */
 int cxlplan_gen(uint32_t number, void *out, size_t out_len, size_t *written);

@@ -22,6 +22,7 @@ fn answer<'a>(words: &[&str], files: &[Vec<u8>], room: &'a mut [u8]) -> cxlplan:
         "run" => cxlplan::run(&files[0], &files[1], files.get(3).map(|image| &image[..]), &files[2], room),
         "tree" => cxlplan::tree(&files[0], room),
         "decoders" => cxlplan::decoders(&files[0], &files[1], room),
+        "breaches" => cxlplan::breaches(&files[0], &files[1], &files[2], room),
         "gen" => cxlplan::gen(number(words[1]) as u32, room),
         _ => cxlplan::version(room),
     }
@@ -35,7 +36,7 @@ fn main() {
         let count = match words[0] {
             "route" | "list" | "normal" | "tree" => 1,
             "plan" | "decoders" => 2,
-            "check" => 3,
+            "check" | "breaches" => 3,
             "run" => words.len() - 1,
             _ => 0,
         };

@@ -28,8 +28,8 @@ static void *read_file(const char *name, size_t *len)
     return realloc(bytes, *len ? *len : 1);
 }
 
-static void *cedt, *topo, *image;
-static size_t cedt_len, topo_len, image_len;
+static void *cedt, *topo, *image, *broken;
+static size_t cedt_len, topo_len, image_len, broken_len;
 
 /* A call with files of its own, into a room. */
 typedef int into(void *out, size_t out_len, size_t *written);
@@ -49,19 +49,24 @@ static int decoders_into(void *out, size_t out_len, size_t *written)
     return cxlplan_decoders(topo, topo_len, image, image_len, out, out_len, written);
 }
 
+static int breaches_into(void *out, size_t out_len, size_t *written)
+{
+    return cxlplan_breaches(cedt, cedt_len, topo, topo_len, broken, broken_len, out, out_len, written);
+}
+
 /* A room of each size up to what the text needs: its front stands there, and the bytes behind the room are as they were. */
 static void rooms(into *call)
 {
     static unsigned char whole[65536], part[65536];
     size_t need = 0, written = 0;
-    int status = call(whole, sizeof whole, &need);
+    int status = call(whole, sizeof whole, &need), end = status;
 
-    expect(status == CXLPLAN_DONE && need > 0, "the whole text", need);
+    expect((end == CXLPLAN_DONE || end == CXLPLAN_REFUSED) && need > 0, "the whole text", need);
     for (size_t room = 0; room <= need + 2; room++) {
         memset(part, MARK, room + 2 * FENCE);
         written = 77;
         status = call(part + FENCE, room, &written);
-        expect(status == (room < need ? CXLPLAN_WRITE_FAULT : CXLPLAN_DONE), "the status of a room", room);
+        expect(status == (room < need ? CXLPLAN_WRITE_FAULT : end), "the status of a room", room);
         expect(written == (room < need ? room : need), "the count of a room", room);
         expect(!memcmp(part + FENCE, whole, written), "the text of a room", room);
         for (size_t i = 0; i < FENCE; i++)
@@ -83,6 +88,10 @@ static void nulls(void)
     expect(cxlplan_tree(NULL, 0, out, sizeof out, &written) == CXLPLAN_DONE && written > 0, "no topology", 0);
     expect(cxlplan_decoders(topo, topo_len, NULL, 1, out, sizeof out, &written) == CXLPLAN_USAGE && written == 0, "null for an image", 1);
     expect(cxlplan_decoders(topo, topo_len, NULL, 0, out, sizeof out, &written) == CXLPLAN_BAD_IMAGE && written > 0, "no image", 0);
+    expect(cxlplan_breaches(cedt, cedt_len, NULL, 1, image, image_len, out, sizeof out, &written) == CXLPLAN_USAGE && written == 0,
+           "null beside an image", 1);
+    expect(cxlplan_breaches(cedt, cedt_len, topo, topo_len, image, image_len, NULL, 0, &written) == CXLPLAN_DONE && written == 0,
+           "no place, and no room", 0);
     expect(cxlplan_run(cedt, cedt_len, topo, topo_len, NULL, 0, NULL, 0, out, sizeof out, &written) == CXLPLAN_DONE && written == 0,
            "an empty script", 0);
     expect(cxlplan_run(cedt, cedt_len, topo, topo_len, "", 0, "down 0", 6, out, sizeof out, &written) == CXLPLAN_BAD_IMAGE,
@@ -171,14 +180,16 @@ static void stack(void)
 
 int main(int count, char **words)
 {
-    if (count != 4)
+    if (count != 5)
         return 70;
     cedt = read_file(words[1], &cedt_len);
     topo = read_file(words[2], &topo_len);
     image = read_file(words[3], &image_len);
+    broken = read_file(words[4], &broken_len);
     rooms(check_into);
     rooms(tree_into);
     rooms(decoders_into);
+    rooms(breaches_into);
     nulls();
     lengths();
     overlaps();
@@ -186,5 +197,6 @@ int main(int count, char **words)
     free(cedt);
     free(topo);
     free(image);
+    free(broken);
     return faults ? 1 : 0;
 }

@@ -18,9 +18,10 @@ PROGRAM = os.path.realpath(os.environ.get("CXLPLAN", f"{TOP}/crates/cxlplan/out/
 BUILT = os.path.realpath(os.environ.get("CXLPLAN_LIBRARIES", f"{TOP}/crates/cxl_c/out"))
 STATIC, SHARED = f"{BUILT}/libcxlplan.a", f"{BUILT}/libcxlplan.so.1"
 HOST = [f"{TOP}/examples/four-endpoints.{it}" for it in ("cedt", "toml", "image")]
+LOST = f"{TOP}/examples/lost-bytes.image"
 DATA = f"{HERE}/data"
 STRICT = ["-std=c99", "-Wall", "-Wextra", "-Werror", "-pedantic", "-O1", "-g", f"-I{TOP}/library"]
-FILES = {"route": 1, "list": 1, "normal": 1, "tree": 1, "plan": 2, "decoders": 2, "check": 3}
+FILES = {"route": 1, "list": 1, "normal": 1, "tree": 1, "plan": 2, "decoders": 2, "check": 3, "breaches": 3}
 SECONDS = 300
 
 os.environ.setdefault("CXLPLAN_LIBRARY", SHARED)
@@ -54,7 +55,7 @@ def rows(folder):
         yield from (["list", table], ["normal", table])
         yield from (["route", table, hex(at)] for at in (0, 0x110004500, 0x280004500, 0x310004500, 0x350004500, 2**64 - 1))
     for name, files in images():
-        yield from (["check", *files], ["tree", files[1]], ["decoders", *files[1:]])
+        yield from (["check", *files], ["tree", files[1]], ["decoders", *files[1:]], ["breaches", *files])
         script = "".join(f"show r{n}\nload r{n} 0 16\n" for n in range(3)) + "poison 00\n"
         if os.path.exists(f"{DATA}/{name}/stores.txt"):
             script += "".join(f"down {line.split()[0]}\n" for line in read(f"{DATA}/{name}/stores.txt").decode().splitlines())
@@ -71,7 +72,7 @@ def rows(folder):
     large = write(f"{folder}/large", bytes(1048577))
     for bad in (*cut, large, write(f"{folder}/empty", b"")):
         yield ["list", bad]
-        yield from (["check", *HOST[:at], bad, *HOST[at + 1:]] for at in range(3))
+        yield from ([form, *HOST[:at], bad, *HOST[at + 1:]] for at in range(3) for form in ("check", "breaches"))
         yield from (["tree", bad], ["decoders", bad, HOST[2]], ["decoders", HOST[1], bad])
     yield ["run", *HOST[:2], write(f"{folder}/long", b"down 0\n" * 2396746)]
     yield ["run", *HOST[:2], write(f"{folder}/odd", b"\0\xff\n" + b"x" * 5000 + b"\r\n\n load")]
@@ -79,7 +80,10 @@ def rows(folder):
 
 def by_program(row):
     """What the program answers to a row, over files with the names that the library tells of them; where it has no command, what it says
-    of files that it does not take, and else what is told anew."""
+    of files that it does not take, and else what is told anew; of the broken places it tells the first."""
+    if row[0] == "breaches":
+        status, text = by_program(["check", *row[1:]])
+        return status, text if status else b""
     if row[0] in ("tree", "decoders"):
         status, text = by_program(["check", HOST[0], row[1], row[2] if len(row) > 2 else os.devnull])
         is_taken = status in (0, 8) or status == 10 and len(row) == 2
@@ -125,6 +129,14 @@ def by_driver(words, all_rows, **how):
     return found
 
 
+def places_of(row, text):
+    """The lines of a text of broken places, of those of one rule at decoders that there are, each once and in order."""
+    rules = sorted({line.split()[1] for line in text.splitlines()})
+    every = [b"breach %s %s %d" % (rule, node.name.encode(), i)
+             for rule in rules[:1] for node in _retold.nodes_of(read(row[2]), None) for i in range(node.decoders)]
+    return [line for line in every if line in text.splitlines()]
+
+
 @unittest.skipUnless(os.path.exists(SHARED) and os.access(PROGRAM, os.X_OK), "there is no built library, or no program")
 class Library(unittest.TestCase):
     """Each caller, over the same rows."""
@@ -132,7 +144,7 @@ class Library(unittest.TestCase):
     @classmethod
     def setUpClass(cls):
         cls.folder = tempfile.mkdtemp()
-        cls.rows = [row for row in rows(cls.folder) if row[0] in told.TELLS or row[0] not in ("tree", "decoders")]
+        cls.rows = [row for row in rows(cls.folder) if told.TELLS or row[0] not in ("tree", "decoders", "breaches")]
         # the C driver cuts rows at tabs, and takes an empty word for none
         cls.worded = [row for row in cls.rows if "" not in row]
         cls.wanted = {tuple(row): by_program(row) for row in cls.rows}
@@ -143,6 +155,9 @@ class Library(unittest.TestCase):
 
     def compare(self, row, found):
         wanted = self.wanted[tuple(row)]
+        if row[0] == "breaches" and wanted[0] == 8:
+            self.assertEqual(places_of(row, found[1]), found[1].splitlines())
+            found = found[0], found[1][:len(wanted[1])]
         if found != wanted:
             self.fail(f"{' '.join(row)}: {found[0]} {found[1][:200]} .. and not {wanted[0]} {wanted[1][:200]} ..")
 
@@ -194,10 +209,10 @@ class Library(unittest.TestCase):
 
     def test_hostile(self):
         made = self.compiled(f"{HERE}/hostile.c", "-pthread", "-fsanitize=address,undefined", STATIC)
-        ran = subprocess.run([made, *HOST], stdout=subprocess.PIPE, stderr=subprocess.STDOUT, timeout=SECONDS, check=False)
+        ran = subprocess.run([made, *HOST, LOST], stdout=subprocess.PIPE, stderr=subprocess.STDOUT, timeout=SECONDS, check=False)
         self.assertEqual((ran.returncode, ran.stdout), (0, b""))
         made = self.compiled(f"{HERE}/hostile.c", "-pthread", SHARED, f"-Wl,-rpath,{BUILT}")
-        ran = subprocess.run([*self.under_valgrind(made), *HOST], stdout=subprocess.PIPE, stderr=subprocess.STDOUT, timeout=SECONDS,
+        ran = subprocess.run([*self.under_valgrind(made), *HOST, LOST], stdout=subprocess.PIPE, stderr=subprocess.STDOUT, timeout=SECONDS,
                              check=False)
         self.assertEqual((ran.returncode, ran.stdout), (0, b""))
 

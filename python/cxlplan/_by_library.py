@@ -50,8 +50,6 @@ class LibraryEngine(_retold.Retelling):
     # ---- Read-only calls.
 
     def tree(self, cedt: bytes, topo: bytes) -> list:
-        if not hasattr(self.library, "tree"):
-            return super().tree(cedt, topo)
         return texts.tree(told(self.library.tree(topo)))
 
     def windows(self, cedt: bytes, topo: bytes) -> list:
@@ -61,13 +59,9 @@ class LibraryEngine(_retold.Retelling):
         return [it for it in records if hasattr(it, "verdict")]
 
     def decoders(self, cedt: bytes, topo: bytes, image: bytes) -> list:
-        if not hasattr(self.library, "decoders"):
-            return super().decoders(cedt, topo, image)
         return texts.decoders(told(self.library.decoders(topo, image)))
 
     def breaches(self, cedt: bytes, topo: bytes, image: bytes) -> list:
-        if not hasattr(self.library, "breaches"):
-            return super().breaches(cedt, topo, image)
         status, data = self.library.breaches(cedt, topo, image)
         return texts.places(told((0 if status == 8 else status, data)))
 

@@ -28,6 +28,7 @@ _TAKES = {
     "run": _BYTES * 4,
     "tree": _BYTES,
     "decoders": _BYTES * 2,
+    "breaches": _BYTES * 3,
     "gen": [ctypes.c_uint32],
     "version": [],
 }
@@ -153,6 +154,11 @@ def tree(topo):
 def decoders(topo, image):
     """The decoder blocks of any image as lines, also of one that breaks a rule."""
     return _call("decoders", topo, image)
+
+
+def breaches(cedt, topo, image):
+    """All places that break the first broken rule of an image (status 8); no text where none is broken."""
+    return _call("breaches", cedt, topo, image)
 
 
 def gen(number):

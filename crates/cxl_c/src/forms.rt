@@ -3,8 +3,8 @@
 ghost use Rattle.std.specs.Prelude.{◌≡◌, ◌≤◌, None, Some, Ok, [], length, take, IsUtf8};
 ghost use Rattle.cxl_commands.specs.Form.{Route, Listing, Normal, Check, Script, Version, plan_form_over, create_on_line, gen_of, Unreadable};
 ghost use Rattle.cxl_library.specs.Answered.{IsTold};
-ghost use Rattle.cxl_library.specs.Slices.{slices, cedt_name};
-ghost use Rattle.cxl_reads.specs.Answers.{topology_name, image_name};
+ghost use Rattle.cxl_library.specs.Slices.{slices};
+ghost use Rattle.cxl_reads.specs.Answers.{table_name, topology_name, image_name};
 
 use std::alloc::Global;
 
@@ -18,7 +18,7 @@ pub extern "C" fn cxlplan_proved_route(
     out: &mut [u8],
     written: &mut usize,
 ) -> u8
-    ensures answered { IsTold (Route cedt_name hpa) (slices cedt.now [] []) [] result (take written.new out.new) }
+    ensures answered { IsTold (Route table_name hpa) (slices cedt.now [] []) [] result (take written.new out.new) }
     ensures within { written.new ≤ length out.new }
     ensures full { result ≡ 6 → written.new ≡ length out.new }
 {
@@ -34,7 +34,7 @@ pub extern "C" fn cxlplan_proved_list(
     out: &mut [u8],
     written: &mut usize,
 ) -> u8
-    ensures answered { IsTold (Listing cedt_name) (slices cedt.now [] []) [] result (take written.new out.new) }
+    ensures answered { IsTold (Listing table_name) (slices cedt.now [] []) [] result (take written.new out.new) }
     ensures within { written.new ≤ length out.new }
     ensures full { result ≡ 6 → written.new ≡ length out.new }
 {
@@ -50,7 +50,7 @@ pub extern "C" fn cxlplan_proved_normal(
     out: &mut [u8],
     written: &mut usize,
 ) -> u8
-    ensures answered { IsTold (Normal cedt_name) (slices cedt.now [] []) [] result (take written.new out.new) }
+    ensures answered { IsTold (Normal table_name) (slices cedt.now [] []) [] result (take written.new out.new) }
     ensures within { written.new ≤ length out.new }
     ensures full { result ≡ 6 → written.new ≡ length out.new }
 {
@@ -68,7 +68,7 @@ pub extern "C" fn cxlplan_proved_check(
     out: &mut [u8],
     written: &mut usize,
 ) -> u8
-    ensures answered { IsTold (Check cedt_name topology_name image_name) (slices cedt.now topo.now image.now) [] result (take written.new out.new) }
+    ensures answered { IsTold (Check table_name topology_name image_name) (slices cedt.now topo.now image.now) [] result (take written.new out.new) }
     ensures within { written.new ≤ length out.new }
     ensures full { result ≡ 6 → written.new ≡ length out.new }
 {
@@ -86,7 +86,7 @@ pub extern "C" fn cxlplan_proved_plan(
     out: &mut [u8],
     written: &mut usize,
 ) -> u8
-    ensures answered { IsUtf8 line.now → IsTold (plan_form_over cedt_name topology_name (create_on_line line.now)) (slices cedt.now topo.now []) [] result (take written.new out.new) }
+    ensures answered { IsUtf8 line.now → IsTold (plan_form_over table_name topology_name (create_on_line line.now)) (slices cedt.now topo.now []) [] result (take written.new out.new) }
     ensures no_text { ¬ (IsUtf8 line.now) → IsTold Unreadable (slices cedt.now topo.now []) [] result (take written.new out.new) }
     ensures within { written.new ≤ length out.new }
     ensures full { result ≡ 6 → written.new ≡ length out.new }
@@ -105,7 +105,7 @@ pub extern "C" fn cxlplan_proved_run(
     out: &mut [u8],
     written: &mut usize,
 ) -> u8
-    ensures answered { IsTold (Script cedt_name topology_name None) (slices cedt.now topo.now []) script.now result (take written.new out.new) }
+    ensures answered { IsTold (Script table_name topology_name None) (slices cedt.now topo.now []) script.now result (take written.new out.new) }
     ensures within { written.new ≤ length out.new }
     ensures full { result ≡ 6 → written.new ≡ length out.new }
 {
@@ -124,7 +124,7 @@ pub extern "C" fn cxlplan_proved_run_from(
     out: &mut [u8],
     written: &mut usize,
 ) -> u8
-    ensures answered { IsTold (Script cedt_name topology_name (Some image_name)) (slices cedt.now topo.now image.now) script.now result (take written.new out.new) }
+    ensures answered { IsTold (Script table_name topology_name (Some image_name)) (slices cedt.now topo.now image.now) script.now result (take written.new out.new) }
     ensures within { written.new ≤ length out.new }
     ensures full { result ≡ 6 → written.new ≡ length out.new }
 {

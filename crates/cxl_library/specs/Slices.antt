@@ -1,9 +1,9 @@
 -- The files and the script of a caller, as bytes in memory.
-use Rattle.std.specs.Prelude.{ℕ, true, None, Some, List, codes, bytes_eq, if◌then◌else◌}
+use Rattle.std.specs.Prelude.{ℕ, true, None, Some, List, bytes_eq, if◌then◌else◌}
 use Rattle.cxl_io.specs.Fetch.{FetchState}
 use Rattle.cxl_io.specs.Source.{SourceState}
 use Rattle.cxl_io.specs.Told.{Told, Bytes}
-use Rattle.cxl_reads.specs.Answers.{topology_name}
+use Rattle.cxl_reads.specs.Answers.{table_name, topology_name}
 
 -- a table, a topology and an image
 pub record Slices : Type 0 where
@@ -15,14 +15,10 @@ pub record Slices : Type 0 where
 abbrev pub slices : List ℕ → List ℕ → List ℕ → Slices
 slices cedt topo image = record { cedt = cedt; topo = topo; image = image }
 
--- under which name the table is asked for
-abbrev pub cedt_name : List ℕ
-cedt_name = codes "cedt"
-
 -- the bytes of the three files; each name but the first two is the image's
 abbrev pub told_in : Slices → List ℕ → Told
 told_in files name =
-    if bytes_eq name cedt_name then Bytes files.cedt else (if bytes_eq name topology_name then Bytes files.topo else Bytes files.image)
+    if bytes_eq name table_name then Bytes files.cedt else (if bytes_eq name topology_name then Bytes files.topo else Bytes files.image)
 
 -- the files that are told so; they never fail
 abbrev pub files_of : Slices → FetchState

@@ -4,8 +4,8 @@
 ghost use Rattle.std.specs.Prelude.{◌≡◌, ◌≤◌, None, Some, Ok, [], length, take, IsUtf8};
 ghost use Rattle.cxl_commands.specs.Form.{Route, Listing, Normal, Check, Script, Version, plan_form_over, create_on_line, gen_of, Unreadable};
 ghost use Rattle.cxl_library.specs.Answered.{IsAnswered};
-ghost use Rattle.cxl_library.specs.Slices.{slices, cedt_name};
-ghost use Rattle.cxl_reads.specs.Answers.{topology_name, image_name};
+ghost use Rattle.cxl_library.specs.Slices.{slices};
+ghost use Rattle.cxl_reads.specs.Answers.{table_name, topology_name, image_name};
 
 use crate::running::answered;
 use crate::slices::Slices;
@@ -18,7 +18,7 @@ use std::alloc::Global;
 
 /// The window, the position and the bridge of a host address, as the form `route` tells them.
 pub fn route(alloc: Global, cedt: &[u8], hpa: u64, out: &mut [u8], written: &mut usize) -> Status
-    ensures answered { IsAnswered (Route cedt_name hpa) (slices cedt.now [] []) [] result (take written.new out.new) }
+    ensures answered { IsAnswered (Route table_name hpa) (slices cedt.now [] []) [] result (take written.new out.new) }
     ensures within { written.new ≤ length out.new }
     ensures full { result ≡ Status.WriteFault → written.new ≡ length out.new }
 {
@@ -28,7 +28,7 @@ pub fn route(alloc: Global, cedt: &[u8], hpa: u64, out: &mut [u8], written: &mut
 
 /// A line for each record of a table, as the form `list` tells them.
 pub fn list(alloc: Global, cedt: &[u8], out: &mut [u8], written: &mut usize) -> Status
-    ensures answered { IsAnswered (Listing cedt_name) (slices cedt.now [] []) [] result (take written.new out.new) }
+    ensures answered { IsAnswered (Listing table_name) (slices cedt.now [] []) [] result (take written.new out.new) }
     ensures within { written.new ≤ length out.new }
     ensures full { result ≡ Status.WriteFault → written.new ≡ length out.new }
 {
@@ -38,7 +38,7 @@ pub fn list(alloc: Global, cedt: &[u8], out: &mut [u8], written: &mut usize) -> 
 
 /// The table's bytes with its reserved fields zero, as the form `normal` gives them.
 pub fn normal(alloc: Global, cedt: &[u8], out: &mut [u8], written: &mut usize) -> Status
-    ensures answered { IsAnswered (Normal cedt_name) (slices cedt.now [] []) [] result (take written.new out.new) }
+    ensures answered { IsAnswered (Normal table_name) (slices cedt.now [] []) [] result (take written.new out.new) }
     ensures within { written.new ≤ length out.new }
     ensures full { result ≡ Status.WriteFault → written.new ≡ length out.new }
 {
@@ -55,7 +55,7 @@ pub fn check(
     out: &mut [u8],
     written: &mut usize,
 ) -> Status
-    ensures answered { IsAnswered (Check cedt_name topology_name image_name) (slices cedt.now topo.now image.now) [] result (take written.new out.new) }
+    ensures answered { IsAnswered (Check table_name topology_name image_name) (slices cedt.now topo.now image.now) [] result (take written.new out.new) }
     ensures within { written.new ≤ length out.new }
     ensures full { result ≡ Status.WriteFault → written.new ≡ length out.new }
 {
@@ -72,7 +72,7 @@ pub fn plan(
     out: &mut [u8],
     written: &mut usize,
 ) -> Status
-    ensures answered { IsUtf8 line.now → IsAnswered (plan_form_over cedt_name topology_name (create_on_line line.now))
+    ensures answered { IsUtf8 line.now → IsAnswered (plan_form_over table_name topology_name (create_on_line line.now))
         (slices cedt.now topo.now []) [] result (take written.new out.new) }
     ensures no_text { ¬ (IsUtf8 line.now) → IsAnswered Unreadable (slices cedt.now topo.now []) [] result (take written.new out.new) }
     ensures within { written.new ≤ length out.new }
@@ -94,7 +94,7 @@ pub fn run_from_reset(
     out: &mut [u8],
     written: &mut usize,
 ) -> Status
-    ensures answered { IsAnswered (Script cedt_name topology_name None) (slices cedt.now topo.now []) script.now result (take written.new out.new) }
+    ensures answered { IsAnswered (Script table_name topology_name None) (slices cedt.now topo.now []) script.now result (take written.new out.new) }
     ensures within { written.new ≤ length out.new }
     ensures full { result ≡ Status.WriteFault → written.new ≡ length out.new }
 {
@@ -112,7 +112,7 @@ pub fn run_from_image(
     out: &mut [u8],
     written: &mut usize,
 ) -> Status
-    ensures answered { IsAnswered (Script cedt_name topology_name (Some image_name)) (slices cedt.now topo.now image.now) script.now result (take written.new out.new) }
+    ensures answered { IsAnswered (Script table_name topology_name (Some image_name)) (slices cedt.now topo.now image.now) script.now result (take written.new out.new) }
     ensures within { written.new ≤ length out.new }
     ensures full { result ≡ Status.WriteFault → written.new ≡ length out.new }
 {

@@ -14,7 +14,7 @@ pub use cxl_inputs::Status;
 pub use forms::{
     check, generate, list, normal, plan, route, run_from_image, run_from_reset, version,
 };
-pub use reads::{decoders, tree};
+pub use reads::{breaches, decoders, tree};
 pub use room::Room;
 pub use slice_source::SliceSource;
 pub use slices::Slices;

@@ -3,8 +3,7 @@
 ghost use Rattle.std.specs.Prelude.{◌≡◌, ◌++◌, ◌∷◌, [], None, Some, Ok, IfOk};
 ghost use Rattle.cxl_commands.specs.Form.{Route, Listing, Normal, Check, Script, Version, plan_form_over, create_on_line, gen_of, Unreadable, form_of};
 ghost use Rattle.cxl_commands.specs.Words.{bytes_of};
-ghost use Rattle.cxl_library.specs.Slices.{cedt_name};
-ghost use Rattle.cxl_reads.specs.Answers.{topology_name, image_name};
+ghost use Rattle.cxl_reads.specs.Answers.{table_name, topology_name, image_name};
 
 use crate::slices::{CEDT, IMAGE, TOPOLOGY};
 use cxl_enc::Memory;
@@ -12,7 +11,7 @@ use std::alloc::Global;
 
 /// The words of `route`.
 pub(crate) fn route_words(alloc: Global, hpa: u64) -> Result<Vec<String>, Memory>
-    ensures { IfOk result (λ words. form_of (bytes_of words.items) ≡ Route cedt_name hpa) }
+    ensures { IfOk result (λ words. form_of (bytes_of words.items) ≡ Route table_name hpa) }
 {
     let address = format!(in alloc; "{hpa}")?;
     let words = three(alloc, "route", CEDT, address.as_str())?;
@@ -21,21 +20,21 @@ pub(crate) fn route_words(alloc: Global, hpa: u64) -> Result<Vec<String>, Memory
 
 /// The words of `list`.
 pub(crate) fn list_words(alloc: Global) -> Result<Vec<String>, Memory>
-    ensures { IfOk result (λ words. form_of (bytes_of words.items) ≡ Listing cedt_name) }
+    ensures { IfOk result (λ words. form_of (bytes_of words.items) ≡ Listing table_name) }
 {
     two(alloc, "list", CEDT)
 }
 
 /// The words of `normal`.
 pub(crate) fn normal_words(alloc: Global) -> Result<Vec<String>, Memory>
-    ensures { IfOk result (λ words. form_of (bytes_of words.items) ≡ Normal cedt_name) }
+    ensures { IfOk result (λ words. form_of (bytes_of words.items) ≡ Normal table_name) }
 {
     two(alloc, "normal", CEDT)
 }
 
 /// The words of `check`.
 pub(crate) fn check_words(alloc: Global) -> Result<Vec<String>, Memory>
-    ensures { IfOk result (λ words. form_of (bytes_of words.items) ≡ Check cedt_name topology_name image_name) }
+    ensures { IfOk result (λ words. form_of (bytes_of words.items) ≡ Check table_name topology_name image_name) }
 {
     let words = three(alloc, "check", CEDT, TOPOLOGY)?;
     with_word(alloc, words, IMAGE)
@@ -44,7 +43,7 @@ pub(crate) fn check_words(alloc: Global) -> Result<Vec<String>, Memory>
 /// The words of `plan`.
 pub(crate) fn plan_words(alloc: Global, line: &str) -> Result<Vec<String>, Memory>
     ensures { IfOk result (λ words.
-        form_of (bytes_of words.items) ≡ plan_form_over cedt_name topology_name (create_on_line line.now)) }
+        form_of (bytes_of words.items) ≡ plan_form_over table_name topology_name (create_on_line line.now)) }
 {
     let words = three(alloc, "plan", CEDT, TOPOLOGY)?;
     with_word(alloc, words, line)
@@ -52,14 +51,14 @@ pub(crate) fn plan_words(alloc: Global, line: &str) -> Result<Vec<String>, Memor
 
 /// The words of `run` from reset.
 pub(crate) fn reset_words(alloc: Global) -> Result<Vec<String>, Memory>
-    ensures { IfOk result (λ words. form_of (bytes_of words.items) ≡ Script cedt_name topology_name None) }
+    ensures { IfOk result (λ words. form_of (bytes_of words.items) ≡ Script table_name topology_name None) }
 {
     three(alloc, "run", CEDT, TOPOLOGY)
 }
 
 /// The words of `run` from an image.
 pub(crate) fn image_words(alloc: Global) -> Result<Vec<String>, Memory>
-    ensures { IfOk result (λ words. form_of (bytes_of words.items) ≡ Script cedt_name topology_name (Some image_name)) }
+    ensures { IfOk result (λ words. form_of (bytes_of words.items) ≡ Script table_name topology_name (Some image_name)) }
 {
     let words = three(alloc, "run", CEDT, TOPOLOGY)?;
     with_word(alloc, words, IMAGE)

@@ -31,7 +31,7 @@ def broken(host: Host) -> Answer:
     said.line(f"{host.breach.rule} wants: {wants}.").line(f"Else: {why}.").line(f"To do: {advice}.")
     for place in places:
         said.line(f"At decoder {place['decoder']} of {place['node']}: {place['found']}.")
-    for decoder in {place["range"] for place in places if place["range"]}:
+    for decoder in dict.fromkeys(place["range"] for place in places if place["range"]):
         add_range(said, host, decoder, places)
     return said
 
