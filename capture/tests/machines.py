@@ -16,6 +16,7 @@ sys.dont_write_bytecode = True  # leaves no compiled file beside the program
 HERE = os.path.dirname(os.path.abspath(__file__))
 TOP = os.path.dirname(os.path.dirname(HERE))
 TOOLS = os.path.dirname(HERE)
+sys.path.insert(0, os.path.join(TOP, "python"))  # where the package cxlplan is
 MACHINES = ["x2-hb", "x4-pass-switch", "ram-and-pmem", "single-rp", "x6", "odd-ids"]
 HOLES = ["uncommitted-below", "destroyed-below", "destroy-failed"]  # hosts with a decoder released below others
 NEWER = ["two-regions", "x4-hb-rp"]  # under a newer Linux

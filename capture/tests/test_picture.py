@@ -15,7 +15,9 @@ import unittest
 import xml.dom.minidom
 
 import machines
+import peer
 import worked
+from program import asks_the_program
 
 PICTURE = machines.load("cxl-picture")
 CHROMIUM = shutil.which("chromium") or shutil.which("chromium-browser") or shutil.which("google-chrome")
@@ -107,6 +109,7 @@ WIDE = [WIDE_NODES, [[0x1000000000, 1024 * GRAIN, 2, 0, 0xe, 0, 1, 2, 3], [0x800
         + [(0x8000000000 + GRAIN * i, GRAIN, 1, 256, "pmem", [20 + i % 8], GRAIN * (9 + i // 8)) for i in range(24)]]
 
 
+@asks_the_program
 class Pictures(unittest.TestCase):
     def setUp(self):
         place = tempfile.TemporaryDirectory()
@@ -162,10 +165,23 @@ class Pictures(unittest.TestCase):
                 self.assertEqual(opened.read(), picture, name)
 
     def test_turns(self):
-        """Under XOR the first turn follows the parities, from a base where they are not the chunk's bits."""
-        window = PICTURE.regions_of.Window(0x100000000, GRAIN, True, 256, [0, 1], [0x404100])
+        """Under XOR the first turn follows the parities, from a base where they are not the chunk's bits; and the peer's does."""
+        window = peer.Window(0x100000000, GRAIN, True, 256, [0, 1], [0x404100])
         chunks = [0x100000000, 0x100000100, 0x100004000, 0x100004100]
-        self.assertEqual([PICTURE.slot_of(window, 2, at >> 8 & 1, at) for at in chunks], [0, 1, 1, 0])
+        self.assertEqual([peer.slot_of(window, 2, at >> 8 & 1, at) for at in chunks], [0, 1, 1, 0])
+        nodes = [[0x382], [0x382], [0x1b02, 0, 0, 4 * GRAIN, 0], [0x1b02, 1, 0, 4 * GRAIN, 0]]
+        table = bytearray(worked.table_of(nodes, [[0x100000000, 8 * GRAIN, 0, 1, 0xe, 0, 1]]))
+        table[-8:], table[9] = (0x10000100).to_bytes(8, "little"), 0
+        table[9] = -sum(table) % 256
+        files = [machines.save(data, os.path.join(self.place, name)) for name, data in (
+            ("table", bytes(table)), ("nodes", worked.topology_of(nodes)), ("reply", checked(
+                [(0x110000000, 2 * GRAIN, 0, 256, "ram", [2, 3], 0)], ["n0", "n1", "n2", "n3"]).encode()))]
+        self.assertEqual(PICTURE.main([*files, os.path.join(self.place, "out")]), 0)
+        with open(os.path.join(self.place, "out.svg"), encoding="utf-8") as opened:
+            turn = re.findall(">0x110000[01]00</text>\\n<text[^>]*>(n[0-9])", opened.read())
+        self.assertEqual(turn, ["n3", "n2"])
+        _, windows, regions = peer.read_host(files)
+        self.assertEqual(peer.first_turn(regions[0], windows), [1, 0])
 
     def test_bad_input(self):
         """One line, status 1 and no file."""

@@ -12,8 +12,10 @@ import unittest
 from unittest import mock
 
 import machines
+import peer
 import worked
 from program import asks_the_program, cxlplan
+from cxlplan import Host, files, planning, regions
 
 CAPTURE, REGIONS = machines.load("cxl-capture"), machines.load("cxl-regions")
 FOUR = [os.path.join(machines.TOP, "examples", "four-endpoints." + end) for end in ("cedt", "toml")]
@@ -88,6 +90,7 @@ class Case(unittest.TestCase):
         return [os.path.join(folder, file) for file in ("table.cedt", "topo.toml", "image.bin")]
 
 
+@asks_the_program
 class Texts(Case):
     def test_plan_and_show(self):
         """A plan, the same region shown, and a script's whole reply come to the same command, writes and image."""
@@ -106,19 +109,28 @@ class Texts(Case):
         self.assertEqual(len(images), 1)
 
     def test_three_ways(self):
-        """Below three targets Linux counts the first device of each, and then the second."""
-        window = REGIONS.Window(0, 0, False, 256, [7, 8, 9])
+        """Below three targets Linux counts the first device of each, and then the second; and the peer does, too."""
+        window = peer.Window(0, 0, False, 256, [7, 8, 9])
         self.assertEqual([window.target_of(slot) for slot in range(6)], [0, 1, 2, 0, 1, 2])
         self.assertEqual([window.position_of(slot, 6) for slot in range(6)], [0, 4, 2, 3, 1, 5])
-        window = REGIONS.Window(0, 0, False, 256, list(range(6)))
+        window = peer.Window(0, 0, False, 256, list(range(6)))
         self.assertEqual([window.position_of(slot, 12) for slot in range(12)], [0, 1, 8, 9, 4, 5, 6, 7, 2, 3, 10, 11])
+        for bridges, below in ((3, 2), (6, 2), (3, 4), (3, 1), (6, 1), (12, 1)):
+            nodes = [[0x382]] * bridges + [[0x1b05, bridge, port, 0, 1 << 28] for bridge in range(bridges) for port in range(below)]
+            host = [self.file("table", worked.table_of(nodes, [[0x300000000, 12 << 28, 0, 0, 0xe, *range(bridges)]])),
+                    self.file("nodes", worked.topology_of(nodes))]
+            status, plan = cxlplan("plan", *host, f"create r0 pmem {bridges * below << 28:#x} ways={bridges * below}")
+            self.assertEqual(status, 0, plan)
+            ends = [f"n{bridges + below * bridge + port}" for port in range(below) for bridge in range(bridges)]
+            self.assertEqual(self.said(*host, self.file("reply", plan))[1].split()[-len(ends):], ends)
 
     def test_root_decoders(self):
         """Linux numbers the windows that it takes: not one of half a size, nor one over a bridge that is not there."""
-        nodes = REGIONS.read_topology(FOUR[1])
-        windows = [REGIONS.Window(number << 32, size, False, 256, targets) for number, (size, targets) in enumerate((
-            (1 << 28, [16]), (1 << 27, [16]), (1 << 28, [16, 48]), (1 << 28, [32, 16])))]
-        self.assertEqual([REGIONS.decoder_of(number, windows, nodes) for number in (0, 3)], [0, 1])
+        nodes = [[0x382], [0x382]]
+        windows = [[number << 32, size, 0, 0, 0xe, *targets] for number, (size, targets) in enumerate((
+            (1 << 28, [0]), (1 << 27, [0]), (1 << 28, [0, 2]), (1 << 28, [1, 0])))]
+        host = Host(worked.table_of(nodes, windows), worked.topology_of(nodes))
+        self.assertEqual([planning.root_decoder(host, number) for number in (0, 3)], [0, 1])
 
     def test_bad_input(self):
         """One line, status 1 and nothing written."""
@@ -132,20 +144,20 @@ class Texts(Case):
             (FOUR[0], FOUR[1], PLAN.replace("row d4", "row d9"), "line 7: 'd9' does not fit the host"),
             (FOUR[0], FOUR[1], PLAN.replace("d4 0", "d4 4"), "line 7: decoder 4 of d4 does not fit the host"),
             (FOUR[0], FOUR[1], PLAN.replace("hb32 0 ways 2 gran 512 targets 0,1", "hb32 0 ways 2 gran 512 targets 0,7"),
-             "the rows of r0 do not lead to slot 3 on this host"),
+             "the rows of r0 do not lead to its slots on this host"),
             (FOUR[0], FOUR[1], SHOW.replace("1 d2", "1 d3").replace("2 d3", "2 d2"), "do not lead to its slots"),
             (FOUR[0], FOUR[1], SHOW.replace("slot 2", "slot 3", 1), "line 10: slot 3 does not fit the host"),
             (FOUR[0], FOUR[1], PLAN.replace("window 0", "window 3"), "line 1: list index out of range"),
             (FOUR[0], FOUR[1], PLAN.replace("ways 4", "ways 3"), "line 1: window 0 does not fit the host"),
             (FOUR[0], FOUR[1], PLAN.replace("base 0x1", "base 0x9"), "line 1: base 0x910000000 size 0x40000000"),
             (FOUR[0], FOUR[1], PLAN.replace("gran 512", "gran 500"), "line 2: 500 is not in list"),
-            (FOUR[0], self.file("topology", topology.replace('name = "d1"', 'name = "d2"')), PLAN, "or stands twice"),
-            (FOUR[0], self.file("cut", topology + "[[endpoint"), PLAN, "stands where"),
-            (FOUR[0], self.file("odd", topology + "\n?"), PLAN, "is not understood"),
+            (FOUR[0], self.file("topology", topology.replace('name = "d1"', 'name = "d2"')), PLAN, "topology: no topology: "),
+            (FOUR[0], self.file("cut", topology + "[[endpoint"), PLAN, "cut: no topology: toml"),
+            (FOUR[0], self.file("odd", topology + "\n?"), PLAN, "odd: no topology: toml"),
             (FOUR[0], self.file("kind", "bridge = 7"), PLAN, "no topology"),
-            (FOUR[0], self.file("range", topology + "high = 3"), PLAN, "endpoint d4: high = 3"),
+            (FOUR[0], self.file("range", topology + "high = 3"), PLAN, "range: no topology: kind endpoint 3 high"),
             (FOUR[0], FOUR[1], PLAN.replace("skip 0x0", "skip 0x40000000"), "the share of d1 ends past its memory"),
-            (FOUR[0], self.file("key", "[[bridge]]\nuid = 1"), PLAN, "no topology: KeyError 'name'"),
+            (FOUR[0], self.file("key", "[[bridge]]\nuid = 1"), PLAN, "no topology: key bridge 0 name"),
             (FOUR[1], FOUR[1], PLAN, "no whole CEDT"),
             (FOUR[0] + "x", FOUR[1], PLAN, "No such file or directory"),
             (FOUR[0], FOUR[1], b"\0" * (1 << 20) + b"\0", "more than 1048576 bytes"),
@@ -174,7 +186,7 @@ class Texts(Case):
         }.items():
             with self.subTest(words):
                 self.assertEqual(self.said(*words.split()), (1, "", f"cxl-regions: {why}; see cxl-regions --help\n"))
-        self.assertEqual(self.said("--help"), (0, REGIONS.__doc__ + "\n", ""))
+        self.assertEqual(self.said("--help"), (0, regions.__doc__ + "\n", ""))
         reply = self.file("reply", PLAN)
         self.assertEqual(self.said(FOUR[0], "--words", FOUR[1], reply), self.said("--words", *FOUR, reply))
 
@@ -184,7 +196,7 @@ class Texts(Case):
             1, "", f"cxl-regions: {none}: No such file or directory\n"))
         out = os.path.join(self.place, "out")
         fault = OSError(30, "Read-only file system", os.path.join(self.place, ".cxl-regions-1"))
-        with mock.patch.object(REGIONS.tempfile, "TemporaryDirectory", side_effect=fault):
+        with mock.patch.object(files, "TemporaryDirectory", side_effect=fault):
             self.assertEqual(self.said("--image", out, *FOUR, reply), (
                 1, "", f"cxl-regions: {out}: Read-only file system\n"))
         self.assertEqual(os.listdir(self.place), ["reply"])
@@ -212,7 +224,7 @@ class Circle(Case):
             _, checked = cxlplan("check", table, topology, image)
             with open(image, "rb") as opened:
                 image = opened.read()
-            names = [node.name for node in REGIONS.read_topology(topology)]
+            names = [node.name for node in peer.read_topology(topology)]
             shown = worked.shown(checked, image, names)
             made = self.image(table, topology, shown)
             with self.subTest(machine):
@@ -266,19 +278,22 @@ class Circle(Case):
             f"region {words[6]} size {words[8]} window {words[4]} gran {words[10]} ways {words[12]} {words[2]}"]))
         by_plan, by_check = (self.said(table, topology, self.file("reply", reply))[1] for reply in (plan, checked))
         self.assertEqual(by_plan.splitlines()[-1], by_check.splitlines()[-1])
+        host = (table, topology, self.file("reply", plan))
+        self.assertEqual((by_plan, made), (peer.commands(*host), peer.image(*host)))
+        self.assertEqual(self.said("--words", *host)[1], peer.words(*host))
 
     def test_written_images(self):
         """Images that are written out, most of them Linux's: the same regions are found in what is made."""
         count = 0
         for table, topology, image in worked.written():
-            files = [self.file("table", table), self.file("nodes", topology)]
-            status, checked = cxlplan("check", *files, self.file("image", image))
+            host = [self.file("table", table), self.file("nodes", topology)]
+            status, checked = cxlplan("check", *host, self.file("image", image))
             if status == 0 and checked:
                 count += 1
-                names = [node.name for node in REGIONS.read_topology(files[1])]
-                made = self.file("made", self.image(*files, worked.shown(checked, image, names)))
+                names = [node.name for node in peer.read_topology(host[1])]
+                made = self.file("made", self.image(*host, worked.shown(checked, image, names)))
                 with self.subTest(checked):
-                    self.assertEqual(cxlplan("check", *files, made), (0, checked))
+                    self.assertEqual(cxlplan("check", *host, made), (0, checked))
         self.assertGreater(count, 7)
 
     def test_worked_images(self):
@@ -286,12 +301,12 @@ class Circle(Case):
         count = 0
         for nodes, windows, ranges in worked.rows():
             image, names = worked.image_of(nodes, ranges), [f"n{number}" for number in range(len(nodes))]
-            files = [self.file("table", worked.table_of(nodes, windows)), self.file("nodes", worked.topology_of(nodes))]
-            status, checked = cxlplan("check", *files, self.file("image", image))
+            host = [self.file("table", worked.table_of(nodes, windows)), self.file("nodes", worked.topology_of(nodes))]
+            status, checked = cxlplan("check", *host, self.file("image", image))
             if status == 0 and checked:
                 count += 1
                 with self.subTest(nodes=nodes, ranges=ranges):
-                    self.assertEqual(self.image(*files, worked.shown(checked, image, names)), image)
+                    self.assertEqual(self.image(*host, worked.shown(checked, image, names)), image)
         self.assertGreater(count, 10)
 
 

@@ -119,8 +119,13 @@ def decoder_of(node: Node, number: int, words) -> Decoder:
 class Retelling:
     """The calls of an engine that its program has no form for, over its `check` and its `listing`."""
 
+    taken: dict = {}  # a table and a topology that the program has taken
+
     def tree(self, cedt: bytes, topo: bytes) -> list:
-        return nodes_of(topo, self.read(cedt, topo, b""))
+        if (cedt, topo) not in self.taken:
+            self.read(cedt, topo, b"")
+            self.taken = {**(self.taken if len(self.taken) < 64 else {}), (cedt, topo): True}
+        return nodes_of(topo, None)
 
     def windows(self, cedt: bytes, topo: bytes) -> list:
         status, text = self.listing(cedt)

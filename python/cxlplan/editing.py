@@ -96,13 +96,40 @@ def image_of(host: Host, text: str) -> bytes:
             raise fault(number, f"there is no decoder {place[1]} of {place[0]}")
         if place in made:
             raise fault(number, f"decoder {place[1]} of {place[0]} stands there twice")
-        made[place] = words_of(number, pairs_of(number, words[3:], DECODER_FIELDS))
-        struct.pack_into("<8I", image, places[place], *made[place], 0)
-    told = {(it.node, it.number): it.words for it in Host(host.table.data, host.topology.data, bytes(image)).decoders}
-    for (node, number), words in made.items():
-        if told[node, number] != words:
-            raise Broken(f"decoder {number} of {node}: the registers keep other words than the text says", 10, "words", node)
+        made[place] = pairs_of(number, words[3:], DECODER_FIELDS)
+        struct.pack_into("<8I", image, places[place], *words_of(number, made[place]), 0)
+    compare(host, bytes(image), made, {place: struct.unpack_from("<7I", image, places[place]) for place in made})
     return bytes(image)
+
+
+def compare(host: Host, image: bytes, made: dict, words: dict) -> None:
+    """Holds an image that was made against what the proved calls tell of it: each decoder of the text has to hold the fields that the text
+    says, and nothing besides, and each other one what it held."""
+    before = {(it.node, it.number): it.words for it in host.decoders}
+    for it in Host(host.table.data, host.topology.data, image).decoders:
+        place = it.node, it.number
+        if it.words != words.get(place, before.get(place, it.words)):
+            raise Broken(f"decoder {it.number} of {it.node}: the registers keep other words than the text says", 10, "words", it.node)
+        for name, value in held(it).items() if place in made else ():
+            if value != wanted(name, made[place], value):
+                raise Broken(f"decoder {it.number} of {it.node}: {name} would be {value}", 10, name, it.node)
+
+
+def held(decoder: Decoder) -> dict:
+    """What the proved calls tell of a decoder, by the names of a text's fields."""
+    flags = {name: int(getattr(decoder, name.replace("-", "_"))) for name in FLAGS}
+    tail = {"skip": decoder.skip} if decoder.targets is None else {"targets": decoder.targets}
+    return {"base": decoder.base, "size": decoder.size, "ways": decoder.ways, "gran": decoder.gran, **flags, **tail}
+
+
+def wanted(name: str, fields: dict, told):
+    """What a text says of a field; of ways and granularity by their codes what is told."""
+    if name in ("ways", "gran"):
+        return texts.number(fields[name].lower()) if name in fields else told
+    if name == "targets":
+        ports = [texts.number(it.lower()) for it in fields.get(name, "0").split(",")]
+        return tuple((ports + [0] * 8)[:len(told)])
+    return texts.number(fields.get(name, "0").lower())
 
 
 def words_of(number: int, fields: dict) -> tuple:

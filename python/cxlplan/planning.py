@@ -3,6 +3,7 @@
 A plan is a create in a session that is thrown away: so the answer, its refusals and its writes are the session's."""
 
 import re
+from dataclasses import dataclass
 
 from .errors import BadWords
 from .facts import Planned, Released, WORD_NAMES
@@ -62,22 +63,27 @@ def taken_back(session, name: str) -> tuple:
 
 # ---- For Linux.
 
-def turns(host, line: str) -> list:
-    """For each slot of a planned region its endpoint, its position among the window's targets, and which of the devices there it is,
-    as the entries of the ports below the window say: all of it told by `down`."""
-    with host.session() as session:
-        session.ask(line)
-        region, _ = session.show(name_of(line))
-        image = session.under.image()
-        decoders = {(it.node, it.number): it for it in type(host)(host.table.data, host.topology.data, image).decoders}
-        found = {}
-        for chunk in range(region.ways):
-            way = session.down(region.base + chunk * region.gran)
-            rank, step = 0, 1
-            for via in way.via:
-                rank, step = rank + step * via.entry, step * decoders[via.node, via.decoder].ways
-            found[way.slot] = (way.endpoint, way.position, rank)
-    return [found[slot] for slot in range(region.ways)]
+@dataclass(frozen=True)
+class Turn:
+    """A chunk of a region's first turn: its slot, its position among the window's targets, and which of the devices there it goes to, as
+    the entries of the ports below the window say."""
+    slot: int
+    position: int
+    rank: int
+
+
+def turns(session, host, region) -> list:
+    """Each Turn of a region that stands in a session: all of it told by `down`."""
+    image = session.under.image()
+    decoders = {(it.node, it.number): it for it in type(host)(host.table.data, host.topology.data, image).decoders}
+    found = []
+    for chunk in range(region.ways):
+        way = session.down(region.base + chunk * region.gran)
+        rank, step = 0, 1
+        for via in way.via:
+            rank, step = rank + step * via.entry, step * decoders[via.node, via.decoder].ways
+        found.append(Turn(way.slot, way.position, rank))
+    return found
 
 
 def root_decoder(host, window: int) -> int:
@@ -87,15 +93,21 @@ def root_decoder(host, window: int) -> int:
 
 
 def linux_text(host, planned: Planned, line: str) -> str:
-    """The `cxl create-region` line of a plan, with comments. Linux takes the devices by the window's targets first."""
-    region = planned.region
+    """The `cxl create-region` line of a plan, with comments."""
+    with host.session() as session:
+        session.ask(line)
+        return create_text(host, planned.region, turns(session, host, planned.region))
+
+
+def create_text(host, region, found: list) -> str:
+    """The `cxl create-region` line of a region, with comments. Linux takes the devices by the window's targets first."""
     window, number = host.windows[region.window], root_decoder(host, region.window)
-    slots = turns(host, line)
-    names = [name for name, _, _ in sorted(slots, key=lambda it: (it[2], it[1]))]
+    by_slot = [slot.endpoint for slot in region.slots]
+    names = [by_slot[it.slot] for it in sorted(found, key=lambda it: (it.rank, it.position))]
     text = (f"# {region.name}: window {region.window} begins at {window.base:#x}, and so has decoder0.{number}/start. "
             f"Linux chooses the base itself; here it is {region.base:#x}.\n")
-    if names != [name for name, _, _ in slots]:
-        text += f"# Linux counts the window's targets first. By slot the devices are: {' '.join(it[0] for it in slots)}\n"
+    if names != by_slot:
+        text += f"# Linux counts the window's targets first. By slot the devices are: {' '.join(by_slot)}\n"
     if not all(re.fullmatch("mem[0-9]+", name) for name in names):
         text += "# Put the kernel's name, memN, in the place of each device.\n"
     return text + (f"cxl create-region -m -t {region.kind} -d decoder0.{number} -w {region.ways} -g {region.gran} "

@@ -107,18 +107,21 @@ def line_of(kind: str, ways: int, shares: int) -> str:
     return f"create {PROBE} {kind} {GRAIN * ways * shares:#x} ways={ways}"
 
 
-def table_with(table: bytes, number: int) -> bytes:
-    """The table with each window but one marked as of fixed configuration."""
+def table_with(table: bytes, number: int, only: Optional[tuple] = None) -> bytes:
+    """The table with each window but one marked as of fixed configuration; that one may be given another base and size, and then it is
+    not of fixed configuration."""
     made, at, window = bytearray(table), 36, 0
     while at < len(made):
         kind, length = struct.unpack_from("<BxH", made, at)
         if kind == 1:
+            restrict = struct.unpack_from("<H", made, at + 32)[0]
             if window != number:
-                struct.pack_into("<H", made, at + 32, struct.unpack_from("<H", made, at + 32)[0] | FIXED)
+                struct.pack_into("<H", made, at + 32, restrict | FIXED)
+            elif only is not None:
+                struct.pack_into("<QQ", made, at + 8, *only)
+                struct.pack_into("<H", made, at + 32, restrict & ~FIXED)
             window += 1
         at += length
     made[9] = 0
     made[9] = -sum(made) % 256
     return bytes(made)
-
-

@@ -18,8 +18,9 @@ for folder in (PYTHON, os.path.join(TOP, "capture", "tests")):
     sys.path.insert(0, folder)
 
 import machines  # noqa: E402 pylint: disable=wrong-import-position
+import peer  # noqa: E402,F401 pylint: disable=wrong-import-position,unused-import
 import worked  # noqa: E402 pylint: disable=wrong-import-position
-from cxlplan import Host, NoEngine, _engine  # noqa: E402 pylint: disable=wrong-import-position
+from cxlplan import CxlError, Host, NoEngine, _engine  # noqa: E402 pylint: disable=wrong-import-position
 from cxlplan.desk.main import main  # noqa: E402 pylint: disable=wrong-import-position
 
 EXAMPLES = os.path.join(TOP, "examples")
@@ -85,6 +86,17 @@ def worked_hosts():
     """The hosts of the worked rows: table, topology and image."""
     for number, (nodes, windows, ranges) in enumerate(worked.rows()):
         yield Host(worked.table_of(nodes, windows), worked.topology_of(nodes), worked.image_of(nodes, ranges), f"worked{number}")
+
+
+def written_hosts():
+    """The hosts that the worked rows write out with an image which the program reads; most of them are Linux's."""
+    for number, (table, topology, image) in enumerate(worked.written()):
+        host = Host(table, topology, image, f"written{number}")
+        try:
+            host.breach  # pylint: disable=pointless-statement
+        except CxlError:
+            continue
+        yield host
 
 
 def every_image():

@@ -6,7 +6,7 @@ import subprocess
 import sys
 import unittest
 
-from here import FOUR, LOST, PYTHON, Case, asks_the_engine, machines, said, worked_hosts
+from here import FOUR, LOST, PYTHON, Case, asks_the_engine, machines, said, worked_hosts, written_hosts
 from cxlplan.desk.whereis import payloads
 
 CHECKED = """\
@@ -79,7 +79,9 @@ class Asked(Case):
     def test_every_host(self):
         """Each machine and each worked host goes through `show` and `check`; each broken one has words on what was found."""
         folders = [self.captured(machine) for machine in machines.MACHINES + machines.HOLES + machines.NEWER]
-        folders += [self.folder(host.name, host) for host in worked_hosts()]
+        written = list(written_hosts())
+        self.assertGreater(len(written), 10)
+        folders += [self.folder(host.name, host) for host in [*worked_hosts(), *written]]
         rules = set()
         for folder in folders:
             with self.subTest(folder):

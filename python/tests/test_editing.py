@@ -2,9 +2,10 @@
 
 import os
 import unittest
+from unittest import mock
 
 from here import EXAMPLES, FOUR, Case, asks_the_engine, machines, said, worked_hosts
-from cxlplan import BadTable, BadWords, Host, Table
+from cxlplan import BadTable, BadWords, Broken, Host, Table, editing
 from cxlplan.editing import image_of, image_text, table_of, table_text
 
 
@@ -40,6 +41,15 @@ class Images(Case):
             with self.subTest(text), self.assertRaises(BadWords) as raised:
                 image_of(host, text)
             self.assertIn(line, raised.exception.text)
+
+    def test_told(self):
+        """What is made is what the proved calls tell of it, or nothing is made."""
+        host = Host.from_files(*FOUR)
+        for name, codes in (("WAYS_CODES", {**editing.WAYS_CODES, 4: 3}), ("FLAGS", {**editing.FLAGS, "lock": 12, "host-only": 8})):
+            with mock.patch.object(editing, name, codes), self.assertRaises(Broken):
+                image_of(host, "decoder d1 0 base 0x110000000 size 0x40000000 ways 4 gran 256 lock 1 commit 1 committed 1")
+        with mock.patch.object(editing, "places_of", lambda _: {("d1", 0): 12 + 16}), self.assertRaises(Broken):
+            image_of(host, "decoder d1 0 base 0x110000000 size 0x40000000 ways 4")
 
     def test_dropped_bits(self):
         """Bits that registers do not keep are refused, and not dropped unsaid."""

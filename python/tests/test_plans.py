@@ -5,13 +5,12 @@ import io
 import re
 import unittest
 
-from here import FOUR, Case, asks_for_writes, asks_the_engine, machines, said, worked_hosts
-from cxlplan import Host, Refusal, texts
+from here import FOUR, Case, asks_for_writes, asks_the_engine, machines, peer, said, worked_hosts
+from cxlplan import Host, Refusal, regions, texts
 from cxlplan._engine import engine
 from cxlplan.planning import image_with
 from cxlplan.room import table_with
 
-REGIONS = machines.load("cxl-regions")
 WAYS = (1, 2, 3, 4, 6, 8, 12, 16)
 
 
@@ -25,19 +24,15 @@ def takes(host):
         return [line for line in lines_of(WAYS) if session.would(line) is None]
 
 
-class Peer(Case):
-    """Beside what cxl-regions says of the same replies, which is written by other hands over the same rules."""
+class Beside(Case):
+    """Beside what a peer works out of the same replies, which is written by other hands over the same rules."""
 
-    def beside(self, *words, host, line):
-        """What cxl-regions says of the session's own `show`."""
+    def beside(self, ask, host, line):
+        """What the peer says of the session's own `show`."""
         with host.session() as session:
             session.ask(line)
             reply = self.file("reply", session.act("show r0"))
-        out = io.StringIO()
-        with contextlib.redirect_stdout(out):
-            status = REGIONS.main([*words, self.file("cedt", host.table.data), self.file("toml", host.topology.data), reply])
-        self.assertEqual(status, 0)
-        return out.getvalue()
+        return ask(self.file("cedt", host.table.data), self.file("toml", host.topology.data), reply)
 
     def hosts(self):
         """Captured machines and worked hosts, of those that are sound."""
@@ -46,7 +41,7 @@ class Peer(Case):
 
 
 @asks_for_writes
-class Writes(Peer):
+class Writes(Beside):
     def test_words(self):
         """The writes of each plan on each worked host: those of the peer, node by node and word by word; what takes it down leaves the
         registers as they were."""
@@ -55,7 +50,7 @@ class Writes(Peer):
             for line in takes(host):
                 with self.subTest(host.name, line=line):
                     found = host.plan(line, with_writes=True)
-                    text = self.beside("--words", host=host, line=line)
+                    text = self.beside(peer.words, host, line)
                     wanted = {}
                     for part in text.split("\n\n")[1:]:
                         name = part.split(",")[0].split()[-1]
@@ -67,8 +62,25 @@ class Writes(Peer):
                                      {name: sorted(pairs) for name, pairs in wanted.items()})
                     self.assertEqual([pairs[-1] for pairs in writes.values()], [wanted[name][-1] for name in writes])
                     self.assertEqual({it.node for it in found.undo}, set(writes))
+                    self.assertEqual(self.told(host, line), [(it.node, it.offset, it.value) for it in found.writes])
                     count += 1
         self.assertGreater(count, 30)
+
+    def told(self, host, line):
+        """What `cxl-regions --words` tells of the session's `show`."""
+        def asked(*names):
+            out = io.StringIO()
+            with contextlib.redirect_stdout(out):
+                self.assertEqual(regions.main(["--words", *names]), 0)
+            return out.getvalue()
+
+        found, node = [], ""
+        for row in self.beside(asked, host, line).splitlines():
+            if row.startswith("  0x"):
+                found.append((node, *(int(word, 16) for word in row.split()[:2])))
+            elif row and not row.startswith("#"):
+                node = row.split(",")[0].split()[-1]
+        return found
 
     def test_texts(self):
         """The three forms of the writes."""
@@ -94,16 +106,16 @@ class Writes(Peer):
 
 
 @asks_the_engine
-class Plans(Peer):
+class Plans(Beside):
     def test_linux(self):
-        """The line for Linux is that of cxl-regions, on each host and for each number of ways."""
+        """The line for Linux is the peer's, on each host and for each number of ways."""
         taken = set()
         for host in self.hosts():
             folder = self.folder(f"host-{len(taken)}-{host.name}".replace("/", "_"), host)
             for line in takes(host):
                 taken.add(line.split("=")[1])
                 with self.subTest(host.name, line=line):
-                    self.assertEqual(said("plan", folder, line, "--linux"), (0, self.beside(host=host, line=line), ""))
+                    self.assertEqual(said("plan", folder, line, "--linux"), (0, self.beside(peer.commands, host, line), ""))
         self.assertGreater(len(taken), 3)
 
     def test_images(self):
@@ -138,7 +150,7 @@ class Plans(Peer):
 
 
 @asks_the_engine
-class Room(Peer):
+class Room(Beside):
     def test_largest(self):
         """Each region that is told has a plan in its window, and the next larger one has none there."""
         for host in self.hosts()[:16]:

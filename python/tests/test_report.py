@@ -10,7 +10,7 @@ import shutil
 import subprocess
 import unittest
 
-from here import FOUR, LOST, Case, asks_the_engine, machines, said, worked, worked_hosts
+from here import FOUR, LOST, Case, asks_the_engine, machines, said, worked, worked_hosts, written_hosts
 from cxlplan import Host
 from cxlplan.report import page_of
 from cxlplan.report.ranges import letter_of
@@ -119,7 +119,7 @@ class Pages(Case):
     def test_every_host(self):
         """Each captured machine and worked host has a page, which fetches nothing and has no script."""
         hosts = [Host.from_folder(self.captured(machine)) for machine in machines.MACHINES + machines.HOLES + machines.NEWER]
-        for host in [*hosts, *worked_hosts()]:
+        for host in [*hosts, *worked_hosts(), *written_hosts()]:
             with self.subTest(host.name):
                 page = page_of(host)
                 self.assertNotRegex(page, r"<script|\son[a-z]+=|https?:|src=|@import|url\((?!data)")

@@ -1,10 +1,10 @@
 """`plan`: what a new region needs on the registers as they are, or what stands in its way; and what taking one down would write."""
 
 import os
-import tempfile
 
 from ..errors import BadFile, BadWords, Refusal
 from ..explain import reason_words, refusal_words
+from ..files import write_whole
 from ..host import Host
 from ..planning import c_text, csv_text, image_with, linux_text, name_of, plan, release, words_text
 from .output import Answer
@@ -112,13 +112,4 @@ def write_file(file: str, data: bytes) -> None:
     beside = os.path.dirname(os.path.abspath(file))
     if not os.path.isdir(beside):
         raise BadFile(f"{file}: there is no folder {beside}", 1, "no folder", file)
-    try:
-        with tempfile.TemporaryDirectory(prefix=".cxldesk-", dir=beside) as work:
-            made_at = os.path.join(work, "made")
-            with open(made_at, "wb") as opened:
-                opened.write(data)
-            os.rename(made_at, file)
-    except OSError as fault:
-        raise BadFile(f"{file}: {fault.strerror}", 1, "cannot write", file) from None
-
-
+    write_whole(file, data)
