@@ -67,6 +67,12 @@ class Asked(Case):
                 for part in wanted:
                     self.assertIn(part, text)
 
+    def test_options_anywhere(self):
+        """Options may stand between the words."""
+        self.assertEqual(said("plan", "--reset", *FOUR[:2], "r0", "pmem", "--linux", "0x20000000", "d1", "d2"),
+                         said("plan", "--reset", "--linux", *FOUR[:2], "r0 pmem 0x20000000 d1 d2"))
+        self.assertEqual(said("where", *FOUR, "--json", "0x110000100"), said("where", "--json", *FOUR, "0x110000100"))
+
     def test_locked(self):
         self.assertIn("locked hb16 0\nFirmware locked this decoder", said("plan", *FOUR, "destroy auto0")[1])
 
@@ -129,7 +135,9 @@ class Words(Case):
                  f"{self.place}/table.cedt: is not there; cxl-capture makes table.cedt, topo.toml, image.bin"),
                 (f"show {FOUR[0]} {self.place} {FOUR[2]}", 2, f"{self.place}: is a folder"),
                 (f"show {' '.join(FOUR)} more", 1, "more: one word too many; see cxldesk show --help"),
-                (f"fleet {FOUR[0]}", 2, f"{FOUR[0]}: is no folder"),
+                (f"fleet {FOUR[0]}", 2, f"{FOUR[0]}: is no folder"), ("fleet x --job 3", 1, "unknown option --job; see cxldesk --help"),
+                (f"fleet {self.place} --out {self.place}", 1, f"{self.place}: is a folder"),
+                (f"fleet {self.place} --db {self.place}", 1, f"{self.place}: is a folder"),
                 ("plan --words --csv x", 1, "argument --csv: not allowed with argument --words; see cxldesk plan --help")):
             with self.subTest(words):
                 self.assertEqual(said(*words.split()), (status, "", f"cxldesk: {line}\n"))

@@ -43,7 +43,8 @@ def keeper_of(options):
         return Database(options.db) if options.db else Lines(options.out, sys.stdout)
     except (OSError, sqlite3.Error, ValueError, KeyError) as fault:
         file = options.db or options.out
-        raise BadFile(f"{file}: {getattr(fault, 'strerror', None) or fault}", 1, "cannot write", file) from None
+        why = "is a folder" if os.path.isdir(file) else getattr(fault, "strerror", None) or fault
+        raise BadFile(f"{file}: {why}", 1, "cannot write", file) from None
 
 
 def judge_into(keeper, places: list, jobs: int) -> int:

@@ -26,11 +26,12 @@ HOST = """HOST is a folder that cxl-capture made, or three files: CEDT TOPO IMAG
 
 
 def parser_of() -> Parser:
-    parser = Parser(prog="cxldesk", description="Every question about a machine's CXL memory, from one command.", epilog=HOST)
+    parser = Parser(prog="cxldesk", description="Every question about a machine's CXL memory, from one command.", epilog=HOST,
+                    allow_abbrev=False)
     parser.add_argument("--version", action="store_true", help="the version of the package and of the proved calls")
     commands = parser.add_subparsers(dest="command", metavar="COMMAND")
     for name, (module, about) in COMMANDS.items():
-        sub = commands.add_parser(name, help=about, description=f"{about[0].upper()}{about[1:]}.", epilog=HOST)
+        sub = commands.add_parser(name, help=about, description=f"{about[0].upper()}{about[1:]}.", epilog=HOST, allow_abbrev=False)
         sub.add_argument("--json", action="store_true", help="JSON, by python/cxlplan/schema.json")
         sub.add_argument("--aligned", action="store_true", help="aligned columns, also where standard output is no terminal")
         module.arguments(sub)
@@ -59,7 +60,7 @@ def carried_out(words: list) -> int:
     parser = parser_of()
     if {"-h", "--help"} & {*words}:
         return 0 if tell(help_of(parser, words)) else 1
-    options = parser.parse_args(words)
+    options = parser.read(words)
     if options.version:
         return 0 if tell(version()) else 1
     if not options.command:

@@ -13,14 +13,22 @@ class Parser(argparse.ArgumentParser):
     """A parser whose faults are one line, and exceptions."""
 
     def error(self, message: str) -> NoReturn:
-        found = re.match(r"unrecognized arguments: (.*)", message)
-        if found:
-            options = [word for word in found[1].split() if word.startswith("-")]
-            message = f"unknown option {options[0]}" if options else f"{found[1].split()[0]}: one word too many"
         found = re.match(r"argument \S+: invalid choice: '(.*?)' \(choose", message)
         if found:
             message = f"{found[1]} is no command"
         raise BadWords(f"{message}; see {self.prog} --help", 1, "usage")
+
+    def read(self, words: list) -> argparse.Namespace:
+        """What is said. Options may stand anywhere, also between words."""
+        said, rest = self.parse_known_args(words)
+        options = [word for word in rest if word.startswith("-") and word != "-"]
+        if options:
+            self.error(f"unknown option {options[0]}")
+        if rest and not hasattr(said, "words"):
+            self.error(f"{rest[0]}: one word too many")
+        if rest:
+            said.words = said.words + rest
+        return said
 
 
 def number(word: str) -> int:
