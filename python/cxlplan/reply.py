@@ -163,7 +163,7 @@ class Reply:
             self.as_shown(region)
         else:
             with self.made(region, [slot.endpoint for slot in region.slots]) as session:
-                region.turns = turns(session, self.host, session.show(region.name)[0])
+                region.turns = turns(session, self.host, region)
 
     def has_memory(self, region: Told, starts: list) -> None:
         for name, start in starts:
@@ -185,6 +185,10 @@ class Reply:
             if region.rows:
                 self.lead_elsewhere(region, refused)
             self.bad(f"{region.name} has no plan on this host: {refused.text.splitlines()[0]}")
+        found = session.show(region.name)[0]
+        if meaning(found)[:-1] != meaning(region)[:-1]:
+            session.close()
+            self.lead_elsewhere(region)
         return session
 
     def as_planned(self, region: Told) -> None:
@@ -193,7 +197,7 @@ class Reply:
         with self.made(region, ends) as session:
             found, rows = session.show(region.name)
             decoders = Host(self.host.table.data, self.host.topology.data, session.under.image()).decoders
-            region.turns = turns(session, self.host, found)
+            region.turns = turns(session, self.host, region)
         places = {(row.node, row.decoder) for row in rows}
         region.decoders = {it.node: it for it in decoders if (it.node, it.number) in places}
         planned = {it.node: PlanRow(it.node, it.number, it.ways, it.gran, it.targets, it.skip) for it in region.decoders.values()}

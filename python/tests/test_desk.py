@@ -7,7 +7,9 @@ import sys
 import unittest
 
 from here import FOUR, LOST, PYTHON, Case, asks_the_engine, machines, said, worked_hosts, written_hosts
+from cxlplan import Host
 from cxlplan.desk.whereis import payloads
+from cxlplan.editing import image_of, image_text
 
 CHECKED = """\
 region auto0 pmem window 0 base 0x110000000 size 0x40000000 gran 256 ways 4
@@ -72,6 +74,14 @@ class Asked(Case):
         self.assertEqual(said("plan", "--reset", *FOUR[:2], "r0", "pmem", "--linux", "0x20000000", "d1", "d2"),
                          said("plan", "--reset", "--linux", *FOUR[:2], "r0 pmem 0x20000000 d1 d2"))
         self.assertEqual(said("where", *FOUR, "--json", "0x110000100"), said("where", "--json", *FOUR, "0x110000100"))
+
+    def test_no_base(self):
+        """Where a region could start at the window's end alone, the higher one has to go first."""
+        host = Host.from_files(*FOUR)
+        text = image_text(host).replace("0x110000000", "0x1d0000000")
+        high = Host(host.table.data, host.topology.data.replace(b"pmem = 0x10000000", b"pmem = 0x40000000"), image_of(host, text))
+        self.assertIn("window 0: it would start at 0x210000000 at the least, and end past 0x210000000, the window's end. To do: end the region "
+                      "that lies highest below these nodes first.\n", said("plan", self.folder("high", high), "r1 pmem 0x20000000 d1 d2")[1])
 
     def test_locked(self):
         self.assertIn("locked hb16 0\nFirmware locked this decoder", said("plan", *FOUR, "destroy auto0")[1])

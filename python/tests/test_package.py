@@ -1,5 +1,6 @@
 """The objects of the package: hosts, what is asked of them, and errors."""
 
+import ast
 import os
 import subprocess
 import sys
@@ -158,6 +159,18 @@ class Engines(Case):
         ran = subprocess.run([sys.executable, os.path.join(PYTHON, "cxldesk"), "check", *FOUR], env=environment, capture_output=True,
                              text=True, check=False)
         self.assertEqual((ran.returncode, ran.stdout, ran.stderr), (1, "", f"cxldesk: {_engine.HOW}\n"))
+
+    def test_python_3_9_alone(self):
+        """The package is of Python 3.9, and imports nothing but the standard library."""
+        files = [os.path.join(place, name) for place, _, names in os.walk(os.path.join(PYTHON, "cxlplan")) for name in names]
+        files += [os.path.join(PYTHON, "cxldesk"), *(os.path.join(machines.TOOLS, it) for it in ("cxl-regions", "cxl-picture"))]
+        for name in [it for it in files if not it.endswith((".json", ".pyc"))]:
+            with open(name, encoding="utf-8") as file:
+                tree = ast.parse(file.read(), feature_version=(3, 9))
+            imported = [it.name for node in ast.walk(tree) if isinstance(node, ast.Import) for it in node.names]
+            imported += [node.module for node in ast.walk(tree) if isinstance(node, ast.ImportFrom) and not node.level]
+            known = getattr(sys, "stdlib_module_names", imported)
+            self.assertEqual([it for it in imported if it.split(".")[0] not in (*known, "cxlplan", "tomli")], [], name)
 
     def test_named(self):
         self.assertTrue(issubclass(NoEngine, Exception))

@@ -174,6 +174,14 @@ class Room(Beside):
                     is_other = hasattr(was, "number") and was.number != window.number
                     self.assertEqual({**was.as_dict(), **({"restrict": was.restrict | 16} if is_other else {})}, now.as_dict())
 
+    def test_one_region(self):
+        """A table in which a window is as large as a region: only the window's base and size are others."""
+        table = Host.from_files(*FOUR).table.data
+        for base, size in ((0x120000000, 1 << 29), (0x110000000, 1 << 32)):
+            was, now = (texts.records(engine().listing(it)[1].decode()) for it in (table, table_with(table, 0, (base, size))))
+            self.assertEqual([it.as_dict() for it in now], [{**it.as_dict(), **({"base": base, "size": size} if hasattr(it, "qtg") else {})}
+                                                            for it in was])
+
     def test_text(self):
         text = said("room", "--reset", *FOUR[:2])[1]
         self.assertEqual(text.splitlines()[-1], "largest window 0 pmem ways 4 size 0x40000000 base 0x110000000 gran 256 over d1,d2,d3,d4")
