@@ -279,8 +279,12 @@ class Circle(Case):
         by_plan, by_check = (self.said(table, topology, self.file("reply", reply))[1] for reply in (plan, checked))
         self.assertEqual(by_plan.splitlines()[-1], by_check.splitlines()[-1])
         host = (table, topology, self.file("reply", plan))
-        self.assertEqual((by_plan, made), (peer.commands(*host), peer.image(*host)))
-        self.assertEqual(self.said("--words", *host)[1], peer.words(*host))
+        self.assertEqual(made, peer.image(*host))
+        self.beside(*host)
+
+    def beside(self, *host):
+        """The commands and the writes of a reply are those of the peer."""
+        self.assertEqual((self.said(*host)[1], self.said("--words", *host)[1]), (peer.commands(*host), peer.words(*host)))
 
     def test_written_images(self):
         """Images that are written out, most of them Linux's: the same regions are found in what is made."""
@@ -291,9 +295,11 @@ class Circle(Case):
             if status == 0 and checked:
                 count += 1
                 names = [node.name for node in peer.read_topology(host[1])]
-                made = self.file("made", self.image(*host, worked.shown(checked, image, names)))
+                shown = worked.shown(checked, image, names)
+                made = self.file("made", self.image(*host, shown))
                 with self.subTest(checked):
                     self.assertEqual(cxlplan("check", *host, made), (0, checked))
+                    self.beside(*host, self.file("reply", shown))
         self.assertGreater(count, 7)
 
     def test_worked_images(self):
@@ -305,8 +311,10 @@ class Circle(Case):
             status, checked = cxlplan("check", *host, self.file("image", image))
             if status == 0 and checked:
                 count += 1
+                shown = worked.shown(checked, image, names)
                 with self.subTest(nodes=nodes, ranges=ranges):
-                    self.assertEqual(self.image(*host, worked.shown(checked, image, names)), image)
+                    self.assertEqual(self.image(*host, shown), image)
+                    self.beside(*host, self.file("reply", shown))
         self.assertGreater(count, 10)
 
 
