@@ -69,4 +69,4 @@ class LibraryEngine(_retold.Retelling):
         """A run of the program: the library keeps no sessions."""
         if self.program is None:
             raise NoEngine("libcxlplan.so keeps no sessions: name the program in CXLPLAN, or put it on the search path")
-        return self.program.session(cedt, topo, image)
+        return self.program.session(cedt, topo, image, self)

@@ -76,16 +76,17 @@ class ProgramEngine(Retelling):
     def version(self) -> str:
         return self.call("--version")[1].decode().strip()
 
-    def session(self, cedt: bytes, topo: bytes, image: Optional[bytes]) -> "ProgramSession":
-        return ProgramSession(self, cedt, topo, image)
+    def session(self, cedt: bytes, topo: bytes, image: Optional[bytes], teller=None) -> "ProgramSession":
+        """A session, whose nodes another engine may tell."""
+        return ProgramSession(self, cedt, topo, image, teller or self)
 
 
 class ProgramSession:
     """A run of the program that is given one line at a time. Where the words of writes are asked for, a second run over pipes sends
     them: it is given each line that writes."""
 
-    def __init__(self, engine: ProgramEngine, cedt: bytes, topo: bytes, image: Optional[bytes]) -> None:
-        self.engine, self.files = engine, Files(cedt, topo, image)
+    def __init__(self, engine: ProgramEngine, cedt: bytes, topo: bytes, image: Optional[bytes], teller) -> None:
+        self.engine, self.teller, self.files = engine, teller, Files(cedt, topo, image)
         self.host, self.bench = (cedt, topo, image), None
         self.made: list = []  # the regions that were made here
         self.has_released = False  # one of the image: the program does not tell what its decoders hold then
@@ -147,7 +148,7 @@ class ProgramSession:
         if not self.engine.bench:
             raise NoEngine("register writes are told by cxlbench: run ./prove --bench in the repository, or name it in CXLBENCH")
         cedt, topo, image = self.host
-        self.bench = Bench(self.engine.bench, cedt, topo, image, self.engine.tree(cedt, topo))
+        self.bench = Bench(self.engine.bench, cedt, topo, image, self.teller.tree(cedt, topo))
 
     def words(self) -> list:
         """The register writes that the last line sent."""
@@ -158,7 +159,7 @@ class ProgramSession:
         if self.has_released:
             raise NoEngine("what registers hold behind the release of a region of the image, no call tells")
         cedt, topo, opening = self.host
-        nodes = self.engine.tree(cedt, topo)
+        nodes = self.teller.tree(cedt, topo)
         blocks = [list(block) for block in _retold.words_at_start(nodes, opening)]
         numbers = {node.name: node.number for node in nodes}
         for block, node in zip(blocks, nodes):
