@@ -12,7 +12,7 @@ use crate::stops::LineStop;
 use cxl_io::{Sink, write_all};
 use cxl_lines::Lines;
 use cxl_reply::Reply;
-use cxl_text::{fixed_text, put_long, short};
+use cxl_text::{fixed_text, has_short_text, put_long, short};
 use cxl_topo::Topo;
 
 /// Writes the text of a reply in one write, with the block of `lines` as the place for it. A reply to a command that changed something, or
@@ -35,9 +35,11 @@ pub(crate) fn write_reply<K: Sink>(
     ensures counts { (K.state out.old).faults ≤ (K.state out.new).faults }
     ensures alone { (K.state out.new).counts_failures_alone ≡ (K.state out.old).counts_failures_alone }
 {
-    if let Some(short) = short(reply) {
-        write_all(out, short.bytes())?;
-        return Ok(());
+    if has_short_text(reply) {
+        return match short(reply) {
+            Some(short) => Ok(write_all(out, short.bytes())?),
+            None => unreachable!(),
+        };
     }
     if let Some(fixed) = fixed_text(reply) {
         write_all(out, fixed)?;
