@@ -6,9 +6,9 @@ ghost use Rattle.cxl_enc.specs.Limits.{unit, address_limit};
 ghost use Rattle.cxl_window.specs.Windows.{cfmws_ways, ranges_meet, first_repeat};
 
 use crate::window::Window;
-use cxl_table::Cfmws;
 use cxl_enc::{ADDRESS_LIMIT, UNIT, ways_of};
 use cxl_num::checked_end;
+use cxl_table::Cfmws;
 
 /// The number of ways.
 pub(crate) fn cfmws_ways(cfmws: &Cfmws) -> u8

@@ -11,9 +11,9 @@ use crate::cfmws::{
 };
 use crate::padding::padded_maps;
 use crate::window::{Verdict, Window};
-use cxl_table::{Cfmws, Chbs, Cxims, Record};
 use cxl_enc::{Memory, split};
 use cxl_num::are_usable_maps;
+use cxl_table::{Cfmws, Chbs, Cxims, Record};
 use std::alloc::Global;
 
 /// The records of windows, and what they are judged against.

@@ -4,8 +4,8 @@ ghost use Rattle.std.specs.Prelude.{◌≡◌, ◌≤◌, IsTrue, length};
 ghost use Rattle.cxl_enc.specs.Codes.{is_ways, bits_of};
 
 use crate::cfmws::cfmws_ways;
-use cxl_table::Cfmws;
 use cxl_enc::{FixedList, Memory};
+use cxl_table::Cfmws;
 use std::alloc::Global;
 use std::marker::Model;
 
