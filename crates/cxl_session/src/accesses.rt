@@ -33,7 +33,6 @@ use std::alloc::Global;
 
 impl Session {
     /// Where a host address goes.
-    #[inline(never)]
     pub(crate) fn down(&self, h: u64) -> Reply
         requires { (m : Machine) × StandsFor self.now m × IsMachine m }
         ensures { (m : Machine) → StandsFor self.now m → IsMachine m → down_answer m h ≡ stays m result }
@@ -45,7 +44,6 @@ impl Session {
     }
 
     /// The bytes from a host address on. Takes memory for these alone.
-    #[inline(never)]
     pub(crate) fn load<M: Media>(
         &self,
         alloc: Global,
@@ -70,7 +68,6 @@ impl Session {
     }
 
     /// The device bytes on which a range of host bytes lies. Takes memory.
-    #[inline(never)]
     pub(crate) fn range(&self, alloc: Global, reach: Reach) -> Result<Reply, Memory>
         requires stands { (m : Machine) × StandsFor self.now m × IsMachine m }
         requires some { 1 ≤ reach.len }
@@ -94,7 +91,6 @@ impl Session {
     }
 
     /// How many bytes of a range lie on each slot. Takes memory for the slots' endpoints alone.
-    #[inline(never)]
     pub(crate) fn spread(&self, alloc: Global, reach: Reach) -> Result<Reply, Memory>
         requires stands { (m : Machine) × StandsFor self.now m × IsMachine m }
         requires some { 1 ≤ reach.len }
@@ -113,7 +109,6 @@ impl Session {
     }
 
     /// Which host address goes to a byte of a device: the one that a live region carries there.
-    #[inline(never)]
     pub(crate) fn up(&self, up: Up) -> Reply
         requires { (m : Machine) × StandsFor self.now m × IsMachine m }
         ensures { (m : Machine) → StandsFor self.now m → IsMachine m → AnswersUp m up (stays m result) }

@@ -50,7 +50,6 @@ impl Session {
         ensures host { (self.new.topo ≡ self.old.topo) × (self.new.windows ≡ self.old.windows) }
         ensures counts { (R.state regs.old).faults ≤ (R.state regs.new).faults }
     {
-        // Each of these stays a function of its own, so that a reply is written where it is wanted, and passes through no join of all.
         match command {
             Command::Create(create) => self.create(alloc, create, regs, media),
             Command::Destroy(name) => self.destroy(alloc, *name, regs, media),

@@ -33,7 +33,6 @@ use std::alloc::Global;
 
 impl Session {
     /// Gives a region the bytes of another, and leaves that one zero. Takes memory, all of it before the first write.
-    #[inline(never)]
     pub(crate) fn move_region<M: Roll>(
         &self,
         alloc: Global,
@@ -60,7 +59,6 @@ impl Session {
     }
 
     /// Gives a region the bytes of another. Takes memory, all of it before the first write.
-    #[inline(never)]
     pub(crate) fn copy_region<M: Roll>(
         &self,
         alloc: Global,

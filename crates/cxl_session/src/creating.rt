@@ -39,7 +39,6 @@ use std::alloc::Global;
 impl Session {
     /// Makes a region. Where the bus fails all is undone, and where that fails too the job stays pending. Takes memory, all
     /// of it before the first write.
-    #[inline(never)]
     pub(crate) fn create<R: Regs, M: Media>(
         &mut self,
         alloc: Global,
@@ -68,7 +67,6 @@ impl Session {
     }
 
     /// Begins to make a region, with no register written yet. Takes memory.
-    #[inline(never)]
     pub(crate) fn begin_create(&mut self, alloc: Global, create: &Create) -> Result<Reply, Memory>
         requires stands { (regs : RegsState) × (media : MediaState) × Stands self.old regs media }
         requires code { StatesGranCode create.now }

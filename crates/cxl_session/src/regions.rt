@@ -38,7 +38,6 @@ use std::alloc::Global;
 
 impl Session {
     /// Undoes the job that is pending. Where the bus fails it stays pending.
-    #[inline(never)]
     pub(crate) fn abort<R: Regs>(&mut self, regs: &mut R) -> Reply
         requires { (media : MediaState) × Stands self.old (R.state regs.old) media }
         ensures turn { (media : MediaState)
@@ -61,7 +60,6 @@ impl Session {
     }
 
     /// Makes the next writes of the job that is pending: so many, or all that are left.
-    #[inline(never)]
     pub(crate) fn step<R: Regs, M: Media>(
         &mut self,
         steps: u32,
@@ -102,7 +100,6 @@ impl Session {
 
     /// Ends a region. Where the bus fails all is undone, and where that fails too the job stays pending. Takes memory, all
     /// of it before the first write.
-    #[inline(never)]
     pub(crate) fn destroy<R: Regs, M: Media>(
         &mut self,
         alloc: Global,
@@ -165,7 +162,6 @@ impl Session {
     }
 
     /// Begins to end a region, with no register written yet. Takes memory.
-    #[inline(never)]
     pub(crate) fn begin_destroy(&mut self, alloc: Global, name: Name) -> Result<Reply, Memory>
         requires { (regs : RegsState) × (media : MediaState) × Stands self.old regs media }
         ensures turn { IfOk result (λ reply. (regs : RegsState) (media : MediaState)

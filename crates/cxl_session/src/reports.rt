@@ -23,7 +23,6 @@ use std::alloc::Global;
 
 impl Session {
     /// What the records of an endpoint's poison list touch. Takes memory.
-    #[inline(never)]
     pub(crate) fn poison(&self, alloc: Global, poison: &Poison) -> Result<Reply, Memory>
         requires { (m : Machine) × StandsFor self.now m × IsMachine m }
         ensures { IfOk result (λ reply. (m : Machine) → StandsFor self.now m → IsMachine m

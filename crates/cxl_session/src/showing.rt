@@ -24,7 +24,6 @@ use std::alloc::Global;
 
 impl Session {
     /// A live region with its registers, which are read on the bus. Takes memory, all of it before the first read.
-    #[inline(never)]
     pub(crate) fn show<R: Regs>(
         &self,
         alloc: Global,

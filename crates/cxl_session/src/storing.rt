@@ -32,7 +32,6 @@ use cxl_script::Store;
 
 impl Session {
     /// Writes bytes from a host address on. Takes no memory.
-    #[inline(never)]
     pub(crate) fn store<M: Media>(&self, store: &Store, media: &mut M) -> Reply
         requires holds { HoldsSome self.now (M.state media.old) }
         requires ranged { IsRanged (commands.Store store.now) }
