@@ -1,5 +1,5 @@
 -- The rows of a legal plan are its region's own decoders where all of them are committed.
-use Rattle.std.proofs.Common.{◌≡◌, ◌≢◌, ℕ, zero, suc, ◌+◌, ◌<◌, ◌≤◌, ◌⊎◌, Bool, true, false, List, [], ◌∷◌, length, get_or, map, Option, Some, None, refl, sym, ap, subst, ◌∙◌, inl, inr, arith}
+use Rattle.std.proofs.Common.{◌≡◌, ◌≢◌, ℕ, zero, suc, ◌+◌, ◌<◌, ◌≤◌, ◌⊎◌, List, [], ◌∷◌, length, get_or, map, Option, Some, None, refl, sym, ap, subst, ◌∙◌, inl, inr, arith}
 use Rattle.std.specs.Prelude.{All, AllPairs, Contains, option_map}
 use Rattle.std.specs.Option.{option_and_then}
 use Rattle.std.specs.List.{filter_map, cons_option, range_with_len}
@@ -10,7 +10,7 @@ use Rattle.cxl_regs.specs.Reading.{decoder_ways}
 use Rattle.cxl_model.specs.declared.plan.Plan.{Plan}
 use Rattle.cxl_model.specs.declared.plan.Row.{Row}
 use Rattle.cxl_model.specs.declared.request.Request.{Request}
-use Rattle.cxl_model.specs.Plans.{IsLegalPlan, IsLegalPlanIn, with_rows}
+use Rattle.cxl_model.specs.Plans.{IsLegalPlan, with_rows}
 use Rattle.cxl_model.specs.Ranges.{decoder_for}
 use Rattle.cxl_model.specs.Regions.{region_range}
 use Rattle.cxl_model.specs.System.{System, IsSystem}

@@ -1,5 +1,5 @@
 -- Two regions by their names, and what the names are answered.
-use Rattle.std.proofs.Common.{eq-eqb, ◌≡◌, ℕ, true, false, not, if◌then◌else◌, List, Option, Some, None, refl, sym, ap, ◌∙◌}
+use Rattle.std.proofs.Common.{eq-eqb, ◌≡◌, ℕ, true, false, not, if◌then◌else◌, Option, Some, None, refl, sym, ap, ◌∙◌}
 use Rattle.std.specs.Prelude.{◌==◌}
 use Rattle.std.specs.Option.{option_map_or}
 use Rattle.std.specs.Str.{bytes_eq}
@@ -10,8 +10,7 @@ use Rattle.cxl_reply.specs.declared.reply.Reply.TheVariants as replies
 use Rattle.cxl_machine.specs.Copies.{for_two}
 use Rattle.cxl_machine.specs.Machine.{Live, Machine, live_named}
 use Rattle.cxl_machine.specs.Replies.{Answer, stays}
-use Rattle.cxl_machine.proofs.KeepingBytes.{same_bytes}
-use Rattle.cxl_machine.proofs.KeepingMachines.{live_there}
+use Rattle.cxl_session.proofs.AskedReleases.{name_at}
 use Rattle.cxl_session.specs.State.{SessionState}
 use Rattle.cxl_session.specs.inner.Pairs.{AreTwo}
 use Rattle.cxl_session.specs.inner.Places.{StandsAt}
@@ -57,14 +56,11 @@ module _ (m : Machine) (pair : Pair) (answer : Live → Live → Answer) where
       ∙ cond-false (bytes_eq pair.from pair.to) (stays m (replies.SameRegion pair.from)) (of_sizes from to) apart
       ∙ cond-false (not (from.found.size == to.found.size)) (stays m (replies.SizesDiffer record { from = from.found.size; to = to.found.size })) (answer from to) (ap not alike)
 
-named : (m : Machine) (name : List ℕ) (region : Live) → live_named m name ≡ Some region → region.name ≡ name
-named m name region there = same_bytes region.name name (live_there m (λ (r : Live). bytes_eq r.name name) region there).1
-
 pub are_two : (session : SessionState) (m : Machine) (pair : Pair) (first second : ℕ) (from to : Live) → live_named m pair.from ≡ Some from → live_named m pair.to ≡ Some to
     → StandsAt session m first from → StandsAt session m second to → bytes_eq pair.from pair.to ≡ false → from.found.size ≡ to.found.size → AreTwo session m pair first second
 are_two session m pair first second from to some other here there apart size =
-    let one : from.name ≡ pair.from = named m pair.from from some in
-    let two : to.name ≡ pair.to = named m pair.to to other in
+    let one : from.name ≡ pair.from = name_at m pair.from from some in
+    let two : to.name ≡ pair.to = name_at m pair.to to other in
     record {
       from = from;
       to = to;

@@ -1,5 +1,5 @@
 -- The create of a legal plan is made ready: where all its rows are committed its region is one, and the routes of that are kept.
-use Rattle.std.proofs.Common.{◌≡◌, List, refl, sym, ap, ◌∙◌, subst}
+use Rattle.std.proofs.Common.{◌≡◌, List, refl, sym, subst}
 use Rattle.cxl_window.specs.Fields.{WindowFields}
 use Rattle.cxl_model.specs.declared.plan.Plan.{Plan}
 use Rattle.cxl_model.specs.declared.request.Request.{Request}
@@ -12,7 +12,6 @@ use Rattle.cxl_machine.specs.Machine.{region_window}
 use Rattle.cxl_machine.specs.Sound.{IsSettled}
 use Rattle.cxl_machine.proofs.LiveRegions.{window_there}
 use Rattle.cxl_session.specs.Standing.{IsKeptIn}
-use Rattle.cxl_session.proofs.OwnAhead.{own_ahead}
 
 module _ (s : System) (settled : IsSettled s) (request : Request) (plan : Plan) (legal : IsLegalPlan s request plan) (after : IsSystem (with_rows s plan.rows)) where
   module _ (own : List Own) (are : own ≡ own_decoders (with_rows s plan.rows) plan.found) where

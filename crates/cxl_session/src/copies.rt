@@ -46,7 +46,7 @@ impl Session {
         ensures memory { OnErr result (M.state media.new ≡ M.state media.old) }
     {
         sides_hold_pieces();
-        carried_pieces_are_answers();
+        copied_pieces_are_answers();
         let (first, second) = match self.two_places(pair) {
             Ok(places) => places,
             Err(refusal) => return Ok(refusal),
@@ -72,7 +72,7 @@ impl Session {
         ensures memory { OnErr result (M.state media.new ≡ M.state media.old) }
     {
         sides_hold_pieces();
-        carried_pieces_are_answers();
+        copied_pieces_are_answers();
         let (first, second) = match self.two_places(pair) {
             Ok(places) => places,
             Err(refusal) => return Ok(refusal),
@@ -171,9 +171,9 @@ fn sides_hold_pieces()
     blocks_are_pieces();
 }
 
-/// A law of copies and moves: where the pieces of one region are carried over to another, session and media hold the machine
+/// A law of copies and moves: where the pieces of one region are copied to another, session and media hold the machine
 /// that the names are answered by.
-fn carried_pieces_are_answers()
+fn copied_pieces_are_answers()
     ensures moved { (session : SessionState) (old new : MediaState) (m : Machine) (pair : Pair) (first second : ℕ)
         (from to : Found) (v w : WindowFields) (pieces : List ℕ) → HoldsMachine session old m
         → AreTwo session m pair first second → IsSideAt session first from v → IsSideAt session second to w

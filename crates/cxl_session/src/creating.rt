@@ -103,7 +103,7 @@ impl Session {
         if let Some(refusal) = self.refusal_of_create(create) {
             return Ok(Err(refusal));
         }
-        let plan = match self.asked_plan(alloc, create)? {
+        let plan = match self.plan_sought(alloc, create)? {
             Ok(plan) => plan,
             Err(refusal) => return Ok(Err(refusal)),
         };
@@ -131,7 +131,7 @@ impl Session {
     }
 
     /// The plan that a line asks for over the session's image, or why there is none. Takes memory.
-    fn asked_plan(&self, alloc: Global, create: &Create) -> Result<Result<Plan, Reply>, Memory>
+    fn plan_sought(&self, alloc: Global, create: &Create) -> Result<Result<Plan, Reply>, Memory>
         requires settled { IsSettled (image_in self.now) }
         requires code { StatesGranCode create.now }
         ensures { IfOk result (λ answer. (m : Machine) → m.settled ≡ image_in self.now

@@ -11,8 +11,8 @@ use Rattle.cxl_session.specs.inner.Creating.{IsAskedPlan, IsPrepared}
 use Rattle.cxl_session.proofs.AskedCreates.{unrefused, legal_here, create_here, refused_here}
 use Rattle.cxl_session.proofs.session.Session.asked_create.Goals as goal
 
-pub asked_plan-requires-clause-settled : goal.asked_plan-requires-clause-settled
-asked_plan-requires-clause-settled c =
+pub plan_sought-requires-clause-settled : goal.plan_sought-requires-clause-settled
+plan_sought-requires-clause-settled c =
     let (m, stands, is) = c.requires.stands in
     subst IsSettled (sym (unrefused c.args.self.now m stands c.args.create.now (c.in_default.ensures m stands))) is.settled
 

@@ -95,7 +95,7 @@ returns-then-len-free-clause-answer g c = λ m holds.
     let old : MediaState = g.M.Media.state c.args.media.now in
     let short : old.free + length others < length pieces = omega (arith, c.len.ensures, c.len-2.ensures, c.free.ensures) in
     let written =
-    c.carried_pieces_are_answers.ensures.full c.args.self.now old m c.args.pair.now c.in-Ok.places.0 c.in-Ok.places.1
+    c.copied_pieces_are_answers.ensures.full c.args.self.now old m c.args.pair.now c.in-Ok.places.0 c.in-Ok.places.1
     c.side-from.result.found.now c.side-to.result.found.now c.side-from.result.window.now c.side-to.result.window.now pieces others holds two c.side-from.ensures c.side-to.ensures c.in_ok-pieces.ensures
     c.in_ok-others.ensures short in
     let need : length pieces ≡ c.len-then-len-free.result = omega (arith, c.len-then-len-free.ensures) in
@@ -110,7 +110,7 @@ returns-clause-answer g c = λ m holds.
     let old : MediaState = g.M.Media.state c.args.media.now in
     let room : length pieces ≤ old.free + length others = omega (arith, c.len.ensures, c.len-2.ensures, c.free.ensures) in
     let written =
-    c.carried_pieces_are_answers.ensures.copied c.args.self.now old (g.M.Media.state c.copy_bytes.new.media) m c.args.pair.now c.in-Ok.places.0 c.in-Ok.places.1
+    c.copied_pieces_are_answers.ensures.copied c.args.self.now old (g.M.Media.state c.copy_bytes.new.media) m c.args.pair.now c.in-Ok.places.0 c.in-Ok.places.1
     c.side-from.result.found.now c.side-to.result.found.now c.side-from.result.window.now c.side-to.result.window.now pieces others holds two c.side-from.ensures c.side-to.ensures c.in_ok-pieces.ensures
     c.in_ok-others.ensures room c.copy_bytes.ensures.copied c.copy_bytes.ensures.frames in
     let told : record { from = c.args.pair.now.from; to = c.args.pair.now.to; pieces = length pieces } ≡ c.pair_details.result =

@@ -45,7 +45,7 @@ returns-clause-answer g c = λ m holds.
     let two = c.in-Ok.ensures m holds.stands in
     let pieces : List ℕ = c.in_ok-pieces.pieces.items in
     let written =
-    c.carried_pieces_are_answers.ensures.moved c.args.self.now (g.M.Media.state c.args.media.now) (g.M.Media.state c.move_bytes.new.media) m c.args.pair.now c.in-Ok.places.0 c.in-Ok.places.1
+    c.copied_pieces_are_answers.ensures.moved c.args.self.now (g.M.Media.state c.args.media.now) (g.M.Media.state c.move_bytes.new.media) m c.args.pair.now c.in-Ok.places.0 c.in-Ok.places.1
     c.side-from.result.found.now c.side-to.result.found.now c.side-from.result.window.now c.side-to.result.window.now pieces holds two c.side-from.ensures c.side-to.ensures c.in_ok-pieces.ensures
     c.move_bytes.ensures.moved c.move_bytes.ensures.frames in
     let told : record { from = c.args.pair.now.from; to = c.args.pair.now.to; pieces = length pieces } ≡ c.pair_details.result =

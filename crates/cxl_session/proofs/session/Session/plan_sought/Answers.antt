@@ -10,7 +10,7 @@ use Rattle.cxl_machine.specs.Machine.{Machine}
 use Rattle.cxl_session.specs.State.{image_in}
 use Rattle.cxl_session.specs.inner.Creating.{IsAskedPlan}
 use Rattle.cxl_session.proofs.AskedPlans.{sought, if_ok-map}
-use Rattle.cxl_session.proofs.session.Session.asked_plan.Goals as goal
+use Rattle.cxl_session.proofs.session.Session.plan_sought.Goals as goal
 
 pub asked_plan-requires-clause-made : goal.asked_plan-requires-clause-made
 asked_plan-requires-clause-made c = subst (λ (s : System). AreMadeWith s.windows (bridge_uids s.nodes)) (sym c.host.ensures) c.requires.settled.system.made

@@ -2,7 +2,7 @@ use Rattle.cxl_model.specs.declared.found.Found.{Found}
 use Rattle.cxl_window.specs.Fields.{WindowFields}
 use Rattle.cxl_move.specs.Sides.{IsMoved, IsCopied}
 use Rattle.cxl_session.proofs.Carrying.{CopyLaws, side_of, of_regions, held_of, is_moved, is_copied, is_full}
-use Rattle.cxl_session.proofs.copies.carried_pieces_are_answers.Goals as goal
+use Rattle.cxl_session.proofs.copies.copied_pieces_are_answers.Goals as goal
 
 pub returns-clause-moved : goal.returns-clause-moved
 returns-clause-moved c = λ session old new m pair first second from to v w pieces holds two one other held over count.
