@@ -1,6 +1,6 @@
 -- How a session opens over the host of files, or why none does.
 use Rattle.std.proofs.Common.{◌≡◌, ◌∙◌, ap, ℕ, List, Option, Some, Result, Ok, Err}
-use Rattle.std.specs.Prelude.{IfOk, IfErr}
+use Rattle.std.specs.Prelude.{IfOk, IfErr, OnOk}
 use Rattle.cxl_table.specs.CedtFields.{CedtFields}
 use Rattle.cxl_image.specs.Images.{reset_blocks}
 use Rattle.cxl_inputs.specs.Host.{host_of}
@@ -50,3 +50,8 @@ pub kept_over : (s : System) (frames : ℕ) (result : Result Held Status)
     → IfOk result (λ held. (m : Machine) × Opens s frames m × IsHeldAt held m) → IfOk result IsKept
 kept_over s frames (Ok held) is = (is.0, is.2)
 kept_over s frames (Err status) is = tt
+
+-- what holds whether a session opens or not
+pub asked_over : (result : Result Held Status) (P : Type 0) → P → OnOk result P
+asked_over (Ok held) P p = p
+asked_over (Err status) P p = tt

@@ -1,6 +1,7 @@
 //! How a session to be kept opens.
 
-ghost use Rattle.std.specs.Prelude.{◌≡◌, ◌≤◌, Some, None, IfOk, IfErr, OnOk};
+ghost use Rattle.std.specs.Prelude.{◌≡◌, ◌≤◌, Some, None, [], ◌∷◌, IfOk, IfErr, OnOk};
+ghost use Rattle.cxl_io.specs.Fetch.{AsksFor};
 ghost use Rattle.cxl_machine.specs.Machine.{Machine};
 ghost use Rattle.cxl_machine.specs.Sound.{Opens};
 ghost use Rattle.cxl_model.specs.System.{IsSystem, system_of};
@@ -32,6 +33,8 @@ impl Held {
         ensures opened { IfOk result (IsOpened (F.state files.old).told cedt.now topo.now None) }
         ensures kept { IfOk result IsKept }
         ensures quiet { OnOk result (out.new ≡ out.old) }
+        // Each file is asked for once, in the order of their names, and none again.
+        ensures asked { OnOk result (AsksFor (F.state files.old) (F.state files.new) (cedt.now ∷ topo.now ∷ [])) }
         // Or none opens, for a cause of which the text is written.
         ensures unopened { IfErr result (λ status. OpensNone cedt.now topo.now None
             (F.state files.old) (F.state files.new) status (K.state out.old) (K.state out.new)) }
@@ -59,6 +62,8 @@ impl Held {
         ensures opened { IfOk result (IsOpened (F.state files.old).told cedt.now topo.now (Some image.now)) }
         ensures kept { IfOk result IsKept }
         ensures quiet { OnOk result (out.new ≡ out.old) }
+        // Each file is asked for once, in the order of their names, and none again.
+        ensures asked { OnOk result (AsksFor (F.state files.old) (F.state files.new) (cedt.now ∷ topo.now ∷ image.now ∷ [])) }
         // Or none opens, for a cause of which the text is written.
         ensures unopened { IfErr result (λ status. OpensNone cedt.now topo.now (Some image.now)
             (F.state files.old) (F.state files.new) status (K.state out.old) (K.state out.new)) }

@@ -1,6 +1,6 @@
 use Rattle.std.proofs.Common.{Some, refl}
 use Rattle.cxl_model.specs.System.{system_of}
-use Rattle.cxl_held.proofs.Hosts.{host_is, opened_over, kept_over, refused_over, stopped}
+use Rattle.cxl_held.proofs.Hosts.{host_is, opened_over, kept_over, refused_over, stopped, asked_over}
 use Rattle.cxl_held.proofs.held.Held.open_from_image.Goals as goal
 
 pub returns-in-Ok-clause-opened : goal.returns-in-Ok-clause-opened
@@ -14,7 +14,7 @@ pub returns-in-Ok-clause-unopened : goal.returns-in-Ok-clause-unopened
 returns-in-Ok-clause-unopened g c =
     let host = c.in-Ok.host in
     let read = c.in-Ok.ensures.read in
-    refused_over c.args.cedt.now c.args.topo.now (Some c.args.image.now) (g.F.Fetch.state c.args.files.now) (g.F.Fetch.state c.fetch_host.new.files) (g.K.Sink.state c.args.out.now) (g.K.Sink.state c.open_checked.new.out)
+    refused_over c.args.cedt.now c.args.topo.now (Some c.args.image.now) (g.F.Fetch.state c.args.files.now) _ (g.K.Sink.state c.args.out.now) (g.K.Sink.state c.open_checked.new.out)
     (system_of host.image host.topo host.windows.items) host.topo.frames (read.0, host.topo, host.image, read.1, host_is read.0 host.topo host.image host.windows.items read.2, refl) c.open_checked.result c.open_checked.ensures.refused
 
 pub returns-in-Err-clause-unopened : goal.returns-in-Err-clause-unopened
@@ -26,3 +26,6 @@ pub returns-in-Ok-clause-kept : goal.returns-in-Ok-clause-kept
 returns-in-Ok-clause-kept g c =
     let host = c.in-Ok.host in
     kept_over (system_of host.image host.topo host.windows.items) host.topo.frames c.open_checked.result c.open_checked.ensures.opened
+
+pub returns-in-Ok-clause-asked : goal.returns-in-Ok-clause-asked
+returns-in-Ok-clause-asked g c = asked_over c.open_checked.result _ c.in-Ok.ensures.asked
