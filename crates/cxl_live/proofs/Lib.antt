@@ -1,4 +1,3 @@
 pub mod Hosts
 pub mod Bases
 pub mod Holders
-pub mod OnDevices

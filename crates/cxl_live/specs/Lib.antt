@@ -1,4 +1,3 @@
 pub mod Apart
 pub mod ByBase
-pub mod OnDevices
 pub mod Inside

@@ -1,14 +1,10 @@
-//! The live regions of a session, in the order in which they were made, and found by address and by endpoint.
+//! The live regions of a session, in the order in which they were made, and found by address.
 
-ghost use Rattle.std.specs.Prelude.{◌≡◌, ℕ, ◌<◌, ◌≤◌, [], ◌∷◌, ◌++◌, length, insert, remove, position, slice_get, Contains, Some, IfOk};
+ghost use Rattle.std.specs.Prelude.{◌≡◌, ℕ, ◌<◌, ◌≤◌, [], ◌∷◌, ◌++◌, length, insert, remove, position, slice_get, Some, IfOk};
 ghost use Rattle.cxl_machine.specs.Machine.{has_host};
 ghost use Rattle.cxl_model.specs.Listed.{region_limit};
-ghost use Rattle.cxl_model.specs.declared.found.Found.{Found};
-ghost use Rattle.cxl_model.specs.declared.found.Place.{Place};
 ghost use Rattle.cxl_live.specs.Apart.{LieApart};
-ghost use Rattle.cxl_live.specs.OnDevices.{on_device, way_limit};
 
-use crate::devices::{OnDevice, WAY_LIMIT, put_all, put_region, take_region, those_of};
 use crate::ordering::{BaseAt, bases_up_to, insert_by_base, order, take_out};
 use cxl_enc::Memory;
 use cxl_machine::REGION_LIMIT;
@@ -22,8 +18,6 @@ pub struct LiveRegions {
     founds: Vec<Found>,
     // Their bases, rising, by which a host address finds its region.
     bases: Vec<BaseAt>,
-    // Them by endpoint and base, rising by endpoint.
-    devices: Vec<OnDevice>,
 }
 
 impl Model for LiveRegions {
@@ -49,12 +43,9 @@ impl LiveRegions {
         roomy.append(&mut founds)?;
         let mut bases = Vec::with_capacity(alloc, REGION_LIMIT)?;
         order(&mut bases, &roomy);
-        let mut devices = Vec::with_capacity(alloc, WAY_LIMIT * REGION_LIMIT)?;
-        put_all(&mut devices, &roomy);
         Ok(LiveRegions {
             founds: roomy,
             bases,
-            devices,
         })
     }
 
@@ -98,15 +89,6 @@ impl LiveRegions {
         }
     }
 
-    /// The regions on the device of an endpoint, each by its base.
-    pub fn on_device(&self, endpoint: u32) -> &[OnDevice]
-        ensures { (found : Found) (slot : ℕ) (place : Place) → Contains self.now found
-            → slice_get found.spans slot ≡ Some place → slot < way_limit → place.endpoint ≡ endpoint
-            → Contains result.now (on_device found place) }
-    {
-        those_of(&self.devices, endpoint)
-    }
-
     /// A region is live, behind the others. Takes no memory.
     pub fn push(&mut self, found: Found)
         requires { length self.old < region_limit }
@@ -114,7 +96,6 @@ impl LiveRegions {
     {
         let base = found.base;
         let place = self.founds.len();
-        put_region(&mut self.devices, &found);
         insert_by_base(&mut self.bases, BaseAt { base, place });
         let _found = self.founds.push(found);
     }
@@ -125,7 +106,6 @@ impl LiveRegions {
         requires room { length self.old < region_limit }
         ensures { self.new ≡ insert self.old place found }
     {
-        put_region(&mut self.devices, &found);
         let _found = self.founds.insert(place, found);
         order(&mut self.bases, &self.founds);
     }
@@ -136,8 +116,8 @@ impl LiveRegions {
         ensures items { self.new ≡ remove self.old place }
         ensures value { slice_get self.old place ≡ Some result }
     {
-        take_region(&mut self.devices, &self.founds[place]);
-        take_out(&mut self.bases, place);
+        let base = self.founds[place].base;
+        take_out(&mut self.bases, base, place);
         self.founds.remove(place)
     }
 }

@@ -10,7 +10,9 @@ pub mod Downs
 pub mod Within
 pub mod Loads
 pub mod Ranges
+pub mod Served
 pub mod Ups
+pub mod OnDevice
 pub mod Poisons
 pub mod Stores
 pub mod Sites

@@ -47,7 +47,7 @@ system_with nodes blocks windows = record { nodes = nodes; blocks = blocks; wind
 
 module _ (session : SessionState) (m : Machine) (stands : StandsFor session m) where
   -- the image that the registers of the machine hold is the session's
-  present_is : present m ≡ image_in session
+  pub present_is : present m ≡ image_in session
   present_is =
       ap (λ nodes. system_with nodes (image_of m) m.settled.windows) stands.nodes
       ∙ ap (λ blocks. system_with session.topo.nodes blocks m.settled.windows) (sym stands.image)

@@ -23,6 +23,8 @@ use Rattle.cxl_machine.specs.Sound.{IsMachine}
 use Rattle.cxl_machine.proofs.LiveRegions.{are_live}
 use Rattle.cxl_session.specs.State.{SessionState}
 use Rattle.cxl_session.specs.Standing.{StandsFor}
+use Rattle.cxl_session.specs.inner.OnDevice.{ArePlaces, ArePlacesOn, StandsThere, IsToldAt}
+use Rattle.cxl_session.proofs.OnDevice.{those_live, all_told}
 
 module _ (session : SessionState) (m : Machine) (stands : StandsFor session m) where
   pub live_founds : IsMachine m → AreLive session.windows session.founds
@@ -35,16 +37,26 @@ module _ (session : SessionState) (m : Machine) (stands : StandsFor session m) w
       let P : List Found → List WindowFields → Type 0 = λ fs ws. AllZip (λ (entry : Entry) (poisoned : Poisoned). ArePoisonedPieces entry endpoint fs ws poisoned) records pieces in
       subst (λ (ws : List WindowFields). P (live_regions m) ws) (sym stands.windows) (subst (λ (fs : List Found). P fs session.windows) stands.founds all)
 
-  pub live_given : IsMachine m → (ws : List WindowFields) (fs : List Found) → ws ≡ session.windows → fs ≡ session.founds → AreLive ws fs
-  live_given is ws fs windows founds =
-      subst (λ (given : List WindowFields). AreLive given fs) (sym windows) (subst (AreLive session.windows) (sym founds) (live_founds is))
+  -- the live regions at these places are live regions of one image
+  pub those_given : IsMachine m → (ws : List WindowFields) (those given : List Found) (places asked : List ℕ) → ws ≡ session.windows → given ≡ those → asked ≡ places → ArePlaces session places
+      → AllZip (StandsThere session) those asked → AreLive ws given
+  those_given is ws those given places asked windows same alike are together =
+      subst (AreLive ws) (sym same)
+      (subst (λ (xs : List WindowFields). AreLive xs those) (sym windows)
+      (those_live session.founds those places session.windows (subst (AllZip (StandsThere session) those) alike together) (live_founds is) are.once))
 
-  pub touched_given : (endpoint : ℕ) (records given : List Entry) (ws : List WindowFields) (fs : List Found) (pieces : List Poisoned) → given ≡ records → ws ≡ session.windows → fs ≡ session.founds
-      → AllZip (λ entry poisoned. ArePoisonedPieces entry endpoint fs ws poisoned) given pieces → AllZip (TouchesLive m endpoint) records pieces
-  touched_given endpoint records given ws fs pieces same windows founds all =
-      let P : List Found → List WindowFields → List Entry → Type 0 = λ fs ws es. AllZip (λ (entry : Entry) (poisoned : Poisoned). ArePoisonedPieces entry endpoint fs ws poisoned) es pieces in
+  -- what is told of those on a device is told of all
+  pub told_given : (endpoint : ℕ) (records given : List Entry) (ws : List WindowFields) (those fs : List Found) (places asked others : List ℕ) (pieces : List Poisoned) → given ≡ records → ws ≡ session.windows
+      → fs ≡ those → asked ≡ places → others ≡ places → ArePlacesOn session endpoint places → AllZip (StandsThere session) those asked → AllZip (IsToldAt others endpoint fs ws) given pieces
+      → AllZip (TouchesLive m endpoint) records pieces
+  told_given endpoint records given ws those fs places asked others pieces same windows are_those alike also on together told =
+      let P : List WindowFields → List Found → List ℕ → List Entry → Type 0 = λ xs found_there ps es. AllZip (IsToldAt ps endpoint found_there xs) es pieces in
+      let one : P session.windows fs others given = subst (λ (xs : List WindowFields). P xs fs others given) windows told in
+      let two : P session.windows those others given = subst (λ (found_there : List Found). P session.windows found_there others given) are_those one in
+      let three : P session.windows those places given = subst (λ (ps : List ℕ). P session.windows those ps given) also two in
       touches endpoint records pieces
-      (subst (P session.founds session.windows) same (subst (λ (xs : List WindowFields). P session.founds xs given) windows (subst (λ (xs : List Found). P xs ws given) founds all)))
+      (all_told session.founds those places session.windows (subst (AllZip (StandsThere session) those) alike together) endpoint on.all records pieces
+      (subst (P session.windows those places) same three))
 
   -- the endpoint of a name, by the tree that a session keeps
   pub endpoint_there : (tree : Tree) (name : List ℕ) (endpoint : ℕ) → tree ≡ session.topo → Some endpoint ≡ endpoint_named tree.nodes name → endpoint_named m.settled.nodes name ≡ Some endpoint

@@ -1,62 +1,45 @@
 -- What a device byte is told, by what a session keeps of the live regions.
-use Rattle.std.proofs.Common.{◌≡◌, ℕ, ◌+◌, ◌<◌, ◌≤◌, Bool, true, false, List, length, get_or, Some, None, refl, sym, ap, ◌∙◌, subst, inl, inr, arith}
-use Rattle.std.specs.Prelude.{slice_get, find, Contains}
-use Rattle.std.specs.List.{position_or_len}
-use Rattle.std.proofs.lemmas.Bool.{cases_lt, false≢true}
-use Rattle.std.proofs.lemmas.List.Folds.{find_at}
-use Rattle.std.proofs.lemmas.List.Sums.{fails_before_first}
-use Rattle.std.proofs.lemmas.Option.{slice_get_within, slice_get-get_or, same_Some}
+use Rattle.std.proofs.Common.{◌≡◌, ℕ, ◌+◌, ◌<◌, ◌≤◌, true, List, length, Option, Some, None, refl, sym, ap, ◌∙◌, subst, inl, inr, arith}
+use Rattle.std.specs.Prelude.{slice_get, find, Contains, IfNone}
+use Rattle.std.proofs.lemmas.Bool.{cases_lt}
+use Rattle.std.proofs.lemmas.Option.{slice_get_within, same_Some}
 use Rattle.cxl_enc.proofs.Lists.{item, contains_at}
-use Rattle.cxl_deal.specs.Weaves.{WeaveFields, IsWeave, weave_ways}
+use Rattle.cxl_deal.specs.Weaves.{WeaveFields}
+use Rattle.cxl_regs.specs.declared.decoder.Decoder.{Decoder}
 use Rattle.cxl_window.specs.Fields.{WindowFields}
 use Rattle.cxl_model.specs.declared.found.Found.{Found}
-use Rattle.cxl_model.specs.declared.found.Place.{Place}
 use Rattle.cxl_model.specs.Bytes.{LiesInSpan}
-use Rattle.cxl_model.specs.Regions.{Carries, IsRegionIn, weave_fields}
-use Rattle.cxl_model.specs.System.{System, IsSystem}
+use Rattle.cxl_model.specs.Regions.{Carries}
+use Rattle.cxl_model.specs.System.{System, decoders_at}
 use Rattle.cxl_model.proofs.ImageLaws.{ShareLaw}
 use Rattle.cxl_walk.specs.Keeping.{KeptFields}
 use Rattle.cxl_reply.specs.declared.reply.Reply.TheVariants as replies
 use Rattle.cxl_machine.specs.Machine.{Live, Machine, has_host, region_window}
 use Rattle.cxl_machine.specs.Sound.{IsMachine}
 use Rattle.cxl_machine.specs.Accesses.{TellsHost, carried, unmapped}
-use Rattle.cxl_machine.proofs.Deciding.{at_contains}
 use Rattle.cxl_machine.proofs.KeepingMachines.{live_there}
 use Rattle.cxl_machine.proofs.LiveRegions.{live_is_region}
-use Rattle.cxl_live.specs.declared.devices.OnDevice.{OnDevice}
-use Rattle.cxl_live.specs.OnDevices.{on_device, way_limit}
+use Rattle.cxl_machine.proofs.Present.{StaysLaw}
 use Rattle.cxl_live.proofs.Hosts.{host_from, host_below, host_within}
-use Rattle.cxl_session.specs.State.{SessionState}
+use Rattle.cxl_session.specs.State.{SessionState, image_in}
 use Rattle.cxl_session.specs.Standing.{StandsFor}
 use Rattle.cxl_bytes.specs.Woven.{IsWovenIn}
 use Rattle.cxl_session.specs.inner.Places.{StandsAt, HasNoneOf}
 use Rattle.cxl_session.proofs.Apart.{SizeLaw}
+use Rattle.cxl_session.proofs.LiveRegions.{StaysSystem}
+use Rattle.cxl_session.proofs.Served.{IndexLaw, ServesBase, served, none_passes}
 use Rattle.cxl_session.proofs.Places.{as_many, stands_at}
 use Rattle.cxl_session.proofs.Within.{found_is, name_is}
 use Rattle.cxl_session.proofs.Loads.{woven_at}
 
--- where none is found, none passes
-none_passes : {X : Type 0} (p : X → Bool) (xs : List X) (x : X) → find p xs ≡ None → Contains xs x → p x ≡ true → ⊥
-none_passes p xs x none (k, low, is) passes =
-    elim (cases_lt (position_or_len p xs) (length xs)) [
-      | inl within ↦
-          let some : find p xs ≡ Some (get_or xs (position_or_len p xs) x) = find_at p xs ∙ slice_get-get_or xs (position_or_len p xs) x within in
-          cc (none, some)
-      | inr past ↦
-          let fails : p (get_or xs k x) ≡ false = fails_before_first p xs k x (omega (arith, low, past)) in
-          false≢true (sym fails ∙ ap p is ∙ passes)
-    ]
+-- what is known where there is none
+pub if_none : {X : Type 0} (o : Option X) (P Q : Type 0) → (P → Q) → IfNone o P → IfNone o Q
+if_none None P Q weaker is = weaker is
+if_none (Some x) P Q weaker is = is
 
--- a region has sixteen ways at the most
-abbrev pub KeptLaw : Type 0
-KeptLaw = (s : System) (w : WindowFields) (found : Found) → IsSystem s → IsRegionIn s w found → IsWeave (weave_fields found w)
-
-abbrev pub WaysLaw : Type 0
-WaysLaw = (s : System) (w : WindowFields) (found : Found) → IsSystem s → IsRegionIn s w found → weave_ways (weave_fields found w) ≡ found.ways
-
--- what has none of a byte: the regions of the first entries
-abbrev pub NoneBefore : Machine → List OnDevice → ℕ → ℕ → ℕ → Type 0
-NoneBefore m entries endpoint dpa n = (k : ℕ) (own : OnDevice) → k < n → slice_get entries k ≡ Some own → HasNoneOf m own.base endpoint dpa
+-- what has none of a byte: the regions that the first decoders serve
+abbrev pub NoneBefore : Machine → List Decoder → ℕ → ℕ → ℕ → Type 0
+NoneBefore m decoders endpoint dpa n = (k : ℕ) (d : Decoder) → k < n → slice_get decoders k ≡ Some d → d.committed ≡ true → HasNoneOf m d.base endpoint dpa
 
 module _ (session : SessionState) (m : Machine) (stands : StandsFor session m) where
   -- the region that stands at a place
@@ -73,34 +56,26 @@ module _ (session : SessionState) (m : Machine) (stands : StandsFor session m) w
       )
 
   module _ (endpoint dpa : ℕ) where
-    pub none_more : (entries : List OnDevice) (n : ℕ) (own : OnDevice) → slice_get entries n ≡ Some own → HasNoneOf m own.base endpoint dpa → NoneBefore m entries endpoint dpa n → NoneBefore m entries endpoint dpa (n + 1)
-    none_more entries n own there none before k other below at =
+    pub none_more : (decoders : List Decoder) (n : ℕ) (own : Decoder) → slice_get decoders n ≡ Some own → (own.committed ≡ true → HasNoneOf m own.base endpoint dpa) → NoneBefore m decoders endpoint dpa n
+        → NoneBefore m decoders endpoint dpa (n + 1)
+    none_more decoders n own there none before k other below at =
         elim (cases_lt k n) [
           | inl low ↦ before k other low at
           | inr past ↦
               let same : n ≡ k = omega (arith, below, past) in
-              let alike : own ≡ other = same_Some own other (sym there ∙ ap (slice_get entries) same ∙ at) in
-              subst (λ (x : OnDevice). HasNoneOf m x.base endpoint dpa) alike none
+              let alike : own ≡ other = same_Some own other (sym there ∙ ap (slice_get decoders) same ∙ at) in
+              subst (λ (x : Decoder). x.committed ≡ true → HasNoneOf m x.base endpoint dpa) alike none
         ]
 
-    -- all that are on the endpoint's device are told
-    pub none_there : KeptLaw → WaysLaw → IsMachine m → (entries : List OnDevice)
-        → ((found : Found) (slot : ℕ) (place : Place) → Contains session.founds found → slice_get found.spans slot ≡ Some place → slot < way_limit → place.endpoint ≡ endpoint → Contains entries (on_device found place))
-        → (n : ℕ) → length entries ≤ n → NoneBefore m entries endpoint dpa n → TellsHost m endpoint dpa replies.Unmapped
-    none_there kept ways is entries all n long before =
+    -- all that the endpoint's decoders serve are told
+    pub none_there : StaysSystem → StaysLaw → IndexLaw → IsMachine m → (decoders : List Decoder) → decoders ≡ decoders_at (image_in session) endpoint → (n : ℕ) → length decoders ≤ n
+        → NoneBefore m decoders endpoint dpa n → TellsHost m endpoint dpa replies.Unmapped
+    none_there system stays index is decoders are n long before =
         unmapped (λ region inside lies.
-        let w : WindowFields = region_window m.settled region.found in
-        let own : IsRegionIn m.settled w region.found = live_is_region m is region inside in
-        let few = (kept m.settled w region.found is.settled.system own).few_ways in
-        let same = ways m.settled w region.found is.settled.system own in
-        let within = slice_get_within region.found.spans lies.slot lies.place lies.there in
-        let slots = own.slots in
-        let (place, there) = at_contains m.live region inside in
-        let at = stands_at session m place region stands there in
-        let (k, low, read) = all region.found lies.slot lies.place (contains_at session.founds place region.found at.found) lies.there (omega (arith, few, same, within, slots)) lies.here in
-        let entry : OnDevice = on_device region.found lies.place in
-        let found_there : slice_get entries k ≡ Some entry = slice_get-get_or entries k entry low ∙ ap Some read in
-        before k entry (omega (arith, low, long)) found_there region inside refl lies) refl
+        let own : ServesBase decoders region.found.base =
+        subst (λ (ds : List Decoder). ServesBase ds region.found.base) (sym are) (served session m stands system stays index is endpoint region inside lies.slot lies.place lies.there lies.here) in
+        let low = own.low in
+        before own.i own.d (omega (arith, low, long)) own.there own.committed region inside (sym own.same) lies) refl
 
     module _ (share : ShareLaw) (some : SizeLaw) (is : IsMachine m) where
       -- a live region holds its base

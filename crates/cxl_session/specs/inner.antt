@@ -1,4 +1,5 @@
 pub mod Places
+pub mod OnDevice
 pub mod Answering
 pub mod Pairs
 pub mod Regions

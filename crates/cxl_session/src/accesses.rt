@@ -18,13 +18,14 @@ use crate::session::Session;
 use cxl_bytes::{carried_address, load_bytes};
 use cxl_deal::deal;
 use cxl_enc::{FixedList, Memory, Name};
+use cxl_machine::live_regions_stay;
 use cxl_media::Media;
 use cxl_model::{
-    Step, chain_is_the_dealing, regions_lie_in_windows, regions_share_no_byte,
-    weaves_fill_their_regions,
+    Step, chain_is_the_dealing, regions_lie_in_windows, regions_share_no_byte, slots_are_endpoints,
 };
 use cxl_move::blocks_hold_their_pieces;
 use cxl_range::{extents, spread};
+use cxl_regs::Decoder;
 use cxl_reply::{Downed, Extents, Reply, Spread, Upped, Via};
 use cxl_request::endpoint_named;
 use cxl_script::{Load, Reach, Up};
@@ -119,19 +120,38 @@ impl Session {
         }
     }
 
-    /// What a byte of an endpoint's device is answered, by the regions on that device.
+    /// What a byte of an endpoint's device is answered, by the live regions that its decoders serve.
     fn told_host(&self, endpoint: u32, dpa: u64) -> Reply
         requires { (m : Machine) × StandsFor self.now m × IsMachine m }
         ensures { (m : Machine) → StandsFor self.now m → IsMachine m → TellsHost m endpoint dpa result }
     {
-        weaves_fill_their_regions();
-        let those = self.founds.on_device(endpoint);
-        for own in those {
-            if let Some(reply) = self.told_by(own.base, endpoint, dpa) {
+        live_regions_stay();
+        slots_are_endpoints();
+        if endpoint >= self.image.count() {
+            return Reply::Unmapped;
+        }
+        let block = self.image.block(endpoint);
+        for i in 0..block.count() {
+            if let Some(reply) = self.told_through(block.decoder(i), endpoint, dpa) {
                 return reply;
             }
         }
         Reply::Unmapped
+    }
+
+    /// What a byte of an endpoint's device is answered by the live region that a decoder serves, where that carries a
+    /// host byte there.
+    fn told_through(&self, decoder: Decoder, endpoint: u32, dpa: u64) -> Option<Reply>
+        requires { (m : Machine) × StandsFor self.now m × IsMachine m }
+        ensures some { IfSome result (λ reply. (m : Machine) → StandsFor self.now m → IsMachine m
+            → TellsHost m endpoint dpa reply) }
+        ensures none { IfNone result ((m : Machine) → StandsFor self.now m → IsMachine m
+            → decoder.committed ≡ true → HasNoneOf m decoder.base endpoint dpa) }
+    {
+        if !decoder.committed {
+            return None;
+        }
+        self.told_by(decoder.base, endpoint, dpa)
     }
 
     /// What a byte of an endpoint's device is answered by the region of this base, where that carries a host byte there.

@@ -7,6 +7,7 @@ mod copies;
 mod creating;
 mod endpoints;
 mod located;
+mod on_device;
 mod opening;
 mod pending;
 mod regions;

@@ -53,7 +53,7 @@ impl Session {
 }
 
 /// Takes memory.
-fn copied_found(alloc: Global, found: &Found) -> Result<Found, Memory>
+pub(crate) fn copied_found(alloc: Global, found: &Found) -> Result<Found, Memory>
     ensures { IfOk result (λ copy. copy ≡ found.now) }
 {
     let spans = Vec::from_slice(alloc, found.spans.items())?;

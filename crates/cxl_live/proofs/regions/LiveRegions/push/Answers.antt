@@ -3,9 +3,7 @@ use Rattle.std.proofs.lemmas.List.{length-append}
 use Rattle.cxl_model.specs.declared.found.Found.{Found}
 use Rattle.cxl_live.specs.declared.ordering.BaseAt.{BaseAt}
 use Rattle.cxl_live.specs.ByBase.{base_at, AreByBase}
-use Rattle.cxl_live.specs.OnDevices.{AreOnDevices}
 use Rattle.cxl_live.proofs.Bases.{one_more}
-use Rattle.cxl_live.proofs.OnDevices.{at_most, with_last}
 use Rattle.cxl_live.proofs.regions.LiveRegions.push.Goals as goal
 
 pub insert_by_base-requires-clause-room : goal.insert_by_base-requires-clause-room
@@ -13,15 +11,6 @@ insert_by_base-requires-clause-room c =
     let many = c.self.invariant.order.few in
     let same = ap length c.self.view_is in
     omega (arith, many, same, c.requires, c.self.invariant.bases_room)
-
-pub put_region-requires-clause-rising : goal.put_region-requires-clause-rising
-put_region-requires-clause-rising c = c.self.invariant.on_devices.rising
-
-pub put_region-requires-clause-room : goal.put_region-requires-clause-room
-put_region-requires-clause-room c =
-    let many = at_most c.self.inside.founds.items c.self.inside.devices.items c.self.invariant.on_devices in
-    let same = ap length c.self.view_is in
-    omega (arith, many, same, c.requires, c.self.invariant.devices_room)
 
 pub invariant_of-self : goal.invariant_of-self
 invariant_of-self c =
@@ -41,10 +30,6 @@ invariant_of-self c =
       few = omega (arith, many, same, c.requires);
       founds_room = omega (arith, room, c.push-found.ensures.capacity);
       bases_room = omega (arith, c.self.invariant.bases_room, c.insert_by_base.ensures.capacity);
-      devices_room = omega (arith, c.self.invariant.devices_room, c.put_region.ensures.capacity);
-      on_devices =
-          subst (λ (fs : List Found). AreOnDevices fs c.put_region.new.entries.items) (sym items)
-          (with_last founds c.self.inside.devices.items c.self.invariant.on_devices c.args.found c.put_region.new.entries.items c.put_region.ensures.same c.put_region.ensures.rising);
       order =
           subst (λ (fs : List Found). AreByBase fs c.insert_by_base.new.bases.items) (sym items)
           (one_more founds bases c.self.invariant.order c.args.found entry c.insert_by_base.new.bases.items last c.insert_by_base.ensures.same c.insert_by_base.ensures.rising);

@@ -1,11 +1,10 @@
-use Rattle.std.proofs.Common.{◌≡◌, Option, Some, None, subst}
-use Rattle.std.specs.Prelude.{find, IfSome, IfNone}
+use Rattle.std.proofs.Common.{Some, None, subst}
+use Rattle.std.specs.Prelude.{IfSome, IfNone}
 use Rattle.cxl_window.specs.Fields.{WindowFields}
 use Rattle.cxl_model.specs.declared.found.Found.{Found}
 use Rattle.cxl_model.specs.Bytes.{LiesInSpan}
 use Rattle.cxl_model.specs.Regions.{Carries}
 use Rattle.cxl_model.specs.System.{System}
-use Rattle.cxl_machine.specs.Machine.{Live, has_host}
 use Rattle.cxl_bytes.specs.Woven.{IsWovenIn}
 use Rattle.cxl_session.specs.State.{SessionState}
 use Rattle.cxl_session.specs.inner.Places.{HoldsAt}
