@@ -13,6 +13,7 @@ uint8_t cxlplan_proved_run_from(const uint8_t *, size_t, const uint8_t *, size_t
 uint8_t cxlplan_proved_tree(const uint8_t *, size_t, uint8_t *, size_t, size_t *);
 uint8_t cxlplan_proved_decoders(const uint8_t *, size_t, const uint8_t *, size_t, uint8_t *, size_t, size_t *);
 uint8_t cxlplan_proved_breaches(const uint8_t *, size_t, const uint8_t *, size_t, const uint8_t *, size_t, uint8_t *, size_t, size_t *);
+uint8_t cxlplan_proved_windows(const uint8_t *, size_t, const uint8_t *, size_t, uint8_t *, size_t, size_t *);
 uint8_t cxlplan_proved_gen(uint32_t, uint8_t *, size_t, size_t *);
 uint8_t cxlplan_proved_version(uint8_t *, size_t, size_t *);
 
@@ -158,6 +159,16 @@ int cxlplan_breaches(const void *cedt, size_t cedt_len, const void *topo, size_t
     if (!is_fit(in, 3, &room, out, out_len, written))
         return CXLPLAN_USAGE;
     return cxlplan_proved_breaches(in[0].at, in[0].len, in[1].at, in[1].len, in[2].at, in[2].len, room.at, room.len, room.written);
+}
+
+int cxlplan_windows(const void *cedt, size_t cedt_len, const void *topo, size_t topo_len, void *out, size_t out_len, size_t *written)
+{
+    struct bytes in[] = {{cedt, cedt_len}, {topo, topo_len}};
+    struct room room;
+
+    if (!is_fit(in, 2, &room, out, out_len, written))
+        return CXLPLAN_USAGE;
+    return cxlplan_proved_windows(in[0].at, in[0].len, in[1].at, in[1].len, room.at, room.len, room.written);
 }
 
 int cxlplan_gen(uint32_t number, void *out, size_t out_len, size_t *written)

@@ -110,6 +110,23 @@ int cxlplan_decoders(const void *topo, size_t topo_len, const void *image, size_
 int cxlplan_breaches(const void *cedt, size_t cedt_len, const void *topo, size_t topo_len, const void *image, size_t image_len,
                      void *out, size_t out_len, size_t *written);
 
+/* The windows of a table as a topology lets them be used, which no command tells: for each, in the table's order,
+     window N base ADDRESS size BYTES ways N gran BYTES xor BIT restrict BITS qtg GROUP targets UID,.. verdict VERDICT
+   on one line. VERDICT is what a check or a plan over this topology finds: `usable`, or the first of
+     align                  the base is no multiple of 256 MiB
+     size                   the size is 0, or no multiple of 256 MiB for each way
+     too-high               the end exceeds 2^52
+     overlap N              an earlier window, of number N, has one of its addresses
+     target UID no-chbs     the table has no host bridge of this UID
+     target UID no-cxl2     it has one, but none of CXL 2.0
+     target UID no-bridge   it has one, but the topology has no bridge of this UID
+     repeat UID             the target stands in the list twice
+     maps no-cxims          the table has no XOR maps of this granularity
+     maps few HAVE NEED     it has so many, and the ways need more
+     maps unfit             of those that the ways need, one is of no use
+   Statuses 0, 1, 3, 4, 6, 9, 12. */
+int cxlplan_windows(const void *cedt, size_t cedt_len, const void *topo, size_t topo_len, void *out, size_t out_len, size_t *written);
+
 /* The generated system of 4 * number endpoints, for a number from 1 to 32, carried out, as `cxlplan gen N` tells it.
    Statuses 0, 1, 6, 9. */
 int cxlplan_gen(uint32_t number, void *out, size_t out_len, size_t *written);

@@ -23,6 +23,7 @@ fn answer<'a>(words: &[&str], files: &[Vec<u8>], room: &'a mut [u8]) -> cxlplan:
         "tree" => cxlplan::tree(&files[0], room),
         "decoders" => cxlplan::decoders(&files[0], &files[1], room),
         "breaches" => cxlplan::breaches(&files[0], &files[1], &files[2], room),
+        "windows" => cxlplan::windows(&files[0], &files[1], room),
         "gen" => cxlplan::gen(number(words[1]) as u32, room),
         _ => cxlplan::version(room),
     }
@@ -35,7 +36,7 @@ fn main() {
         let words: Vec<&str> = row.split('\t').collect();
         let count = match words[0] {
             "route" | "list" | "normal" | "tree" => 1,
-            "plan" | "decoders" => 2,
+            "plan" | "decoders" | "windows" => 2,
             "check" | "breaches" => 3,
             "run" => words.len() - 1,
             _ => 0,

@@ -54,6 +54,11 @@ static int breaches_into(void *out, size_t out_len, size_t *written)
     return cxlplan_breaches(cedt, cedt_len, topo, topo_len, broken, broken_len, out, out_len, written);
 }
 
+static int windows_into(void *out, size_t out_len, size_t *written)
+{
+    return cxlplan_windows(cedt, cedt_len, topo, topo_len, out, out_len, written);
+}
+
 /* A room of each size up to what the text needs: its front stands there, and the bytes behind the room are as they were. */
 static void rooms(into *call)
 {
@@ -92,6 +97,9 @@ static void nulls(void)
            "null beside an image", 1);
     expect(cxlplan_breaches(cedt, cedt_len, topo, topo_len, image, image_len, NULL, 0, &written) == CXLPLAN_DONE && written == 0,
            "no place, and no room", 0);
+    expect(cxlplan_windows(NULL, 1, topo, topo_len, out, sizeof out, &written) == CXLPLAN_USAGE && written == 0, "null beside a topology",
+           1);
+    expect(cxlplan_windows(cedt, cedt_len, NULL, 0, out, sizeof out, &written) == CXLPLAN_DONE && written > 0, "windows of no topology", 0);
     expect(cxlplan_run(cedt, cedt_len, topo, topo_len, NULL, 0, NULL, 0, out, sizeof out, &written) == CXLPLAN_DONE && written == 0,
            "an empty script", 0);
     expect(cxlplan_run(cedt, cedt_len, topo, topo_len, "", 0, "down 0", 6, out, sizeof out, &written) == CXLPLAN_BAD_IMAGE,
@@ -117,8 +125,10 @@ static void lengths(void)
     expect(large && cxlplan_list(large, one_more - 1, out, sizeof out, &written) == CXLPLAN_BAD_TABLE, "a table of zeros", one_more - 1);
     free(large);
     /* each front of each file: an answer, whatever it is */
-    for (size_t len = 0; len <= cedt_len; len++)
+    for (size_t len = 0; len <= cedt_len; len++) {
         expect(cxlplan_check(cedt, len, topo, topo_len, image, image_len, out, sizeof out, &written) <= CXLPLAN_TOO_LARGE, "a table", len);
+        expect(cxlplan_windows(cedt, len, topo, topo_len, out, sizeof out, &written) <= CXLPLAN_TOO_LARGE, "windows", len);
+    }
     for (size_t len = 0; len <= topo_len; len += 3) {
         expect(cxlplan_check(cedt, cedt_len, topo, len, image, image_len, out, sizeof out, &written) <= CXLPLAN_TOO_LARGE, "a topology", len);
         expect(cxlplan_tree(topo, len, out, sizeof out, &written) <= CXLPLAN_TOO_LARGE, "a tree", len);
@@ -190,6 +200,7 @@ int main(int count, char **words)
     rooms(tree_into);
     rooms(decoders_into);
     rooms(breaches_into);
+    rooms(windows_into);
     nulls();
     lengths();
     overlaps();

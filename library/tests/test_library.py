@@ -1,5 +1,5 @@
 """The library beside the program: each row is answered by both, byte for byte, through C, Python and Rust. What no command tells
-is held against the same lines made in Python (told.py). The program is the one that the variable CXLPLAN names, or else
+is held against the same lines worked out in Python (told.py). The program is the one that the variable CXLPLAN names, or else
 crates/cxlplan/out/cxlplan; the libraries are in the folder that CXLPLAN_LIBRARIES names, or else in crates/cxl_c/out. What the
 machine lacks, a compiler or valgrind, is skipped."""
 
@@ -21,13 +21,14 @@ HOST = [f"{TOP}/examples/four-endpoints.{it}" for it in ("cedt", "toml", "image"
 LOST = f"{TOP}/examples/lost-bytes.image"
 DATA = f"{HERE}/data"
 STRICT = ["-std=c99", "-Wall", "-Wextra", "-Werror", "-pedantic", "-O1", "-g", f"-I{TOP}/library"]
-FILES = {"route": 1, "list": 1, "normal": 1, "tree": 1, "plan": 2, "decoders": 2, "check": 3, "breaches": 3}
+FILES = {"route": 1, "list": 1, "normal": 1, "tree": 1, "plan": 2, "decoders": 2, "windows": 2, "check": 3, "breaches": 3}
 SECONDS = 300
 
 os.environ.setdefault("CXLPLAN_LIBRARY", SHARED)
 sys.path[:0] = [HERE, f"{TOP}/python"]
 import told  # noqa: E402 pylint: disable=wrong-import-position
-from cxlplan import _by_library, _library, _retold  # noqa: E402 pylint: disable=wrong-import-position
+import window_tables  # noqa: E402 pylint: disable=wrong-import-position
+from cxlplan import _by_library, _library  # noqa: E402 pylint: disable=wrong-import-position
 
 
 def read(path):
@@ -55,11 +56,12 @@ def rows(folder):
         yield from (["list", table], ["normal", table])
         yield from (["route", table, hex(at)] for at in (0, 0x110004500, 0x280004500, 0x310004500, 0x350004500, 2**64 - 1))
     for name, files in images():
-        yield from (["check", *files], ["tree", files[1]], ["decoders", *files[1:]], ["breaches", *files])
+        yield from (["check", *files], ["tree", files[1]], ["decoders", *files[1:]], ["breaches", *files], ["windows", *files[:2]])
         script = "".join(f"show r{n}\nload r{n} 0 16\n" for n in range(3)) + "poison 00\n"
         if os.path.exists(f"{DATA}/{name}/stores.txt"):
             script += "".join(f"down {line.split()[0]}\n" for line in read(f"{DATA}/{name}/stores.txt").decode().splitlines())
         yield ["run", *files[:2], write(f"{folder}/{name}.script", script.encode()), files[2]]
+    yield from windows_rows(folder)
     for name in ("first", "session", "steps", "firmware"):
         yield ["run", *HOST[:2], f"{TOP}/examples/{name}.script"]
         yield ["run", *HOST[:2], f"{TOP}/examples/{name}.script", HOST[2]]
@@ -73,9 +75,16 @@ def rows(folder):
     for bad in (*cut, large, write(f"{folder}/empty", b"")):
         yield ["list", bad]
         yield from ([form, *HOST[:at], bad, *HOST[at + 1:]] for at in range(3) for form in ("check", "breaches"))
-        yield from (["tree", bad], ["decoders", bad, HOST[2]], ["decoders", HOST[1], bad])
+        yield from (["tree", bad], ["decoders", bad, HOST[2]], ["decoders", HOST[1], bad], ["windows", bad, HOST[1]], ["windows", HOST[0], bad])
     yield ["run", *HOST[:2], write(f"{folder}/long", b"down 0\n" * 2396746)]
     yield ["run", *HOST[:2], write(f"{folder}/odd", b"\0\xff\n" + b"x" * 5000 + b"\r\n\n load")]
+
+
+def windows_rows(folder):
+    """Windows of each verdict, and the tables at hand with a topology that lacks most of their bridges."""
+    topology = write(f"{folder}/bridges", window_tables.topology().encode())
+    tables = [f"{DATA}/{name}" for name in sorted(os.listdir(DATA)) if name.endswith(".cedt")]
+    yield from (["windows", table, topology] for table in [write(f"{folder}/verdicts", window_tables.each_verdict()), *tables])
 
 
 def by_program(row):
@@ -84,9 +93,10 @@ def by_program(row):
     if row[0] == "breaches":
         status, text = by_program(["check", *row[1:]])
         return status, text if status else b""
-    if row[0] in ("tree", "decoders"):
-        status, text = by_program(["check", HOST[0], row[1], row[2] if len(row) > 2 else os.devnull])
-        is_taken = status in (0, 8) or status == 10 and len(row) == 2
+    if row[0] in ("tree", "decoders", "windows"):
+        files = {"tree": [HOST[0], row[1], os.devnull], "decoders": [HOST[0], *row[1:]], "windows": [*row[1:], os.devnull]}[row[0]]
+        status, text = by_program(["check", *files])
+        is_taken = status in (0, 8) or status == 10 and row[0] != "decoders"
         return (0, told.TELLS[row[0]](*map(read, row[1:]))) if is_taken else (status, text)
     names = ["cedt", "topology", "image"]
     with tempfile.TemporaryDirectory() as folder:
@@ -133,7 +143,7 @@ def places_of(row, text):
     """The lines of a text of broken places, of those of one rule at decoders that there are, each once and in order."""
     rules = sorted({line.split()[1] for line in text.splitlines()})
     every = [b"breach %s %s %d" % (rule, node.name.encode(), i)
-             for rule in rules[:1] for node in _retold.nodes_of(read(row[2]), None) for i in range(node.decoders)]
+             for rule in rules[:1] for node in told.nodes_of(read(row[2])) for i in range(node.decoders)]
     return [line for line in every if line in text.splitlines()]
 
 
@@ -144,7 +154,7 @@ class Library(unittest.TestCase):
     @classmethod
     def setUpClass(cls):
         cls.folder = tempfile.mkdtemp()
-        cls.rows = [row for row in rows(cls.folder) if told.TELLS or row[0] not in ("tree", "decoders", "breaches")]
+        cls.rows = [row for row in rows(cls.folder) if told.TELLS or row[0] not in ("tree", "decoders", "windows", "breaches")]
         # the C driver cuts rows at tabs, and takes an empty word for none
         cls.worded = [row for row in cls.rows if "" not in row]
         cls.wanted = {tuple(row): by_program(row) for row in cls.rows}
@@ -182,20 +192,30 @@ class Library(unittest.TestCase):
         """All statuses but 2, 5, 7 and 9 come, so that the rows say something."""
         self.assertEqual({status for status, _ in self.wanted.values()}, {0, 1, 3, 4, 8, 10, 11, 12})
 
+    @unittest.skipUnless(told.TELLS, "there is no reader of TOML here")
+    def test_verdicts(self):
+        """Each window of the table that has one of each verdict has the one that is written beside it."""
+        text = told.windows(window_tables.each_verdict(), window_tables.topology().encode()).decode()
+        self.assertEqual([line.partition(" verdict ")[2] for line in text.splitlines()], [row[-1] for row in window_tables.WINDOWS])
+
     def test_python(self):
         for row in self.rows:
             self.compare(row, by_python(row))
 
     @unittest.skipUnless(told.TELLS, "there is no reader of TOML here")
     def test_facts(self):
-        """The package reads of the library's lines what it tells anew where there is no library."""
+        """The package reads the library's lines whole."""
         found = _by_library.LibraryEngine(_library)
         for name, files in [*images(), ("host", HOST)]:
             cedt, topo, image = map(read, files)
             with self.subTest(name):
-                nodes = _retold.nodes_of(topo, None)
+                nodes = told.nodes_of(topo)
                 self.assertEqual(found.tree(cedt, topo), nodes)
-                self.assertEqual(found.decoders(cedt, topo, image), _retold.decoders_of(image, nodes))
+                words = {node.name: block[4:] for node, block in zip(nodes, told.words_of(nodes, image))}
+                self.assertEqual([it.words for it in found.decoders(cedt, topo, image)],
+                                 [tuple(words[node.name][8 * i:8 * i + 7]) for node in nodes for i in range(node.decoders)])
+                self.assertEqual([" ".join([it.verdict, it.cause]).strip() for it in found.windows(cedt, topo)],
+                                 [line.partition(" verdict ")[2] for line in told.windows(cedt, topo).decode().splitlines()])
 
     def test_c_with_sanitizers(self):
         self.compare_all(by_driver([self.compiled(f"{HERE}/answers.c", "-fsanitize=address,undefined", STATIC)], self.worded))

@@ -1,8 +1,8 @@
-"""The library in this process. Sessions are the program's, and what the library has no call for is told anew."""
+"""The library in this process. Sessions are the program's."""
 
 from typing import Optional
 
-from . import _retold, texts
+from . import texts
 from .errors import NoEngine, fault_of
 
 
@@ -15,7 +15,7 @@ def told(pair: tuple) -> str:
     return text
 
 
-class LibraryEngine(_retold.Retelling):
+class LibraryEngine:
     """The forms of the program as calls, through the module `_library`."""
 
     kind = "library"
@@ -53,10 +53,7 @@ class LibraryEngine(_retold.Retelling):
         return texts.tree(told(self.library.tree(topo)))
 
     def windows(self, cedt: bytes, topo: bytes) -> list:
-        if not hasattr(self.library, "windows"):
-            return super().windows(cedt, topo)
-        records = texts.records(told(self.library.windows(cedt, topo)))
-        return [it for it in records if hasattr(it, "verdict")]
+        return texts.windows(told(self.library.windows(cedt, topo)))
 
     def decoders(self, cedt: bytes, topo: bytes, image: bytes) -> list:
         return texts.decoders(told(self.library.decoders(topo, image)))

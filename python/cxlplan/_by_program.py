@@ -7,12 +7,13 @@ from typing import Optional
 
 from . import _retold, texts
 from ._bench import Bench
-from ._retold import Retelling
 from .errors import Broken, NoEngine, fault_of
 
 SENTINEL = b"step\n"  # a line that changes nothing, and is always answered ANSWER
 ANSWER = b"bad line 4 missing\n"
 NAMES = ("table", "topology", "image")
+NO_LIBRARY = ("windows, trees, decoders and all places of a broken rule are told by libcxlplan.so, which is not found: run ./prove --library "
+              "in the repository, or ./install, or name it in CXLPLAN_LIBRARY")
 WRITING = (b"create", b"destroy", b"begin", b"step", b"abort")  # the lines that may write registers
 
 
@@ -35,8 +36,8 @@ class Files:
         self.place.cleanup()
 
 
-class ProgramEngine(Retelling):
-    """The forms of the program, each a run of it."""
+class ProgramEngine:
+    """The forms of the program, each a run of it. For what the library alone tells it has none."""
 
     kind = "program"
 
@@ -75,6 +76,18 @@ class ProgramEngine(Retelling):
 
     def version(self) -> str:
         return self.call("--version")[1].decode().strip()
+
+    def tree(self, cedt: bytes, topo: bytes) -> list:
+        raise NoEngine(NO_LIBRARY)
+
+    def windows(self, cedt: bytes, topo: bytes) -> list:
+        raise NoEngine(NO_LIBRARY)
+
+    def decoders(self, cedt: bytes, topo: bytes, image: bytes) -> list:
+        raise NoEngine(NO_LIBRARY)
+
+    def breaches(self, cedt: bytes, topo: bytes, image: bytes) -> list:
+        raise NoEngine(NO_LIBRARY)
 
     def session(self, cedt: bytes, topo: bytes, image: Optional[bytes], teller=None) -> "ProgramSession":
         """A session, whose nodes another engine may tell."""

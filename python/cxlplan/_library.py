@@ -29,6 +29,7 @@ _TAKES = {
     "tree": _BYTES,
     "decoders": _BYTES * 2,
     "breaches": _BYTES * 3,
+    "windows": _BYTES * 2,
     "gen": [ctypes.c_uint32],
     "version": [],
 }
@@ -159,6 +160,11 @@ def decoders(topo, image):
 def breaches(cedt, topo, image):
     """All places that break the first broken rule of an image (status 8); no text where none is broken."""
     return _call("breaches", cedt, topo, image)
+
+
+def windows(cedt, topo):
+    """The windows of a table as lines, each with its verdict by the bridges of a topology."""
+    return _call("windows", cedt, topo)
 
 
 def gen(number):

@@ -1,5 +1,7 @@
 """What rules, refusals, verdicts and faults say, in words, and what to do. The words are those of the guide's tables."""
 
+from .errors import NoEngine
+
 RULES = {
     "K1": ("the image has a block for each node, and in it the node's capability word",
            "the file is of another topology", "capture table, topology and image together"),
@@ -85,34 +87,27 @@ VERDICTS = {
 }
 
 
-def verdict_words(window, nodes: list, records: list) -> str:
+CAUSES = {
+    "no-chbs": "no CHBS of the table has the target {what}",
+    "no-cxl2": "the target {what} is no bridge of CXL 2.0",
+    "no-bridge": "the target {what} is no bridge of the topology",
+    "no-cxims": "there is no CXIMS of {gran} bytes, which XOR needs",
+    "few": "the CXIMS of {gran} bytes has {have} maps, and {ways} ways need {need}",
+    "unfit": "of the maps of the CXIMS of {gran} bytes that {ways} ways need, one cannot be used",
+}
+
+
+def verdict_words(window) -> str:
     """Why a window has its verdict."""
-    word, _, what = window.verdict.partition(" ")
-    if word == "target":
-        versions = {it.uid: it.version for it in records if hasattr(it, "uid")}
-        if int(what) not in versions:
-            return f"no CHBS of the table has the target {what}"
-        if versions[int(what)] != 1:
-            return f"the target {what} is a bridge of CXL 1.1"
-        return f"the target {what} is no bridge of the topology"
+    (word, _, what), (cause, *counts) = window.verdict.partition(" "), window.cause.split(" ")
+    if cause in CAUSES:
+        have, need = counts or ("", "")
+        return CAUSES[cause].format(what=what, gran=window.gran, ways=window.ways, have=have, need=need)
     if word == "overlap":
         return f"it shares an address with window {what}"
     if word == "repeat":
         return f"the target {what} stands in its list twice"
-    if word == "maps":
-        return maps_words(window, records)
     return VERDICTS.get(word, word)
-
-
-def maps_words(window, records: list) -> str:
-    """Which of the causes of `maps` it is: no CXIMS, too few maps, or one that cannot be used."""
-    found = next((it for it in records if hasattr(it, "maps") and it.gran == window.gran), None)
-    if found is None:
-        return f"there is no CXIMS of {window.gran} bytes, which XOR needs"
-    wanted = (window.ways & -window.ways).bit_length() - 1
-    if len(found.maps) < wanted:
-        return f"the CXIMS of {window.gran} bytes has {len(found.maps)} maps, and {window.ways} ways need {wanted}"
-    return f"one of the first {wanted} maps of the CXIMS of {window.gran} bytes cannot be used"
 
 
 def refusal_words(refusal) -> tuple:
@@ -125,16 +120,23 @@ def refusal_words(refusal) -> tuple:
     return REFUSALS.get(refusal.cause, ("", ""))
 
 
-def reason_words(reason, windows: list) -> tuple:
-    """What is in the way in one window, and what to do."""
-    said, advice = REASONS.get(reason.cause, (reason.cause, ""))
-    window = windows[reason.window]
+def window_words(said: str, reason, window) -> str:
+    """What is in the way, with what the window has of it."""
     if reason.cause == "unusable":
-        said = f"the window cannot be used: {window.verdict}"
-    elif reason.cause == "bridges":
-        said += f", which are {', '.join(map(str, window.targets))}"
-    elif reason.cause == "gran":
-        said += f": it has {window.gran}"
+        return f"{said}: {verdict_words(window)}"
+    if reason.cause == "bridges":
+        return f"{said}, which are {', '.join(map(str, window.targets))}"
+    return f"{said}: it has {window.gran}" if reason.cause == "gran" else said
+
+
+def reason_words(reason, host) -> tuple:
+    """What is in the way in one window, and what to do. Where there is no library, the window is not told."""
+    said, advice = REASONS.get(reason.cause, (reason.cause, ""))
+    if reason.cause in ("unusable", "bridges", "gran"):
+        try:
+            said = window_words(said, reason, host.windows[reason.window])
+        except NoEngine:
+            pass
     elif reason.cause in ("select", "ways-cap"):
         said = f"{reason.place}: {said}"
     elif reason.cause == "no-base":

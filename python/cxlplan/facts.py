@@ -45,7 +45,8 @@ class Bridge(Fact):
 
 @dataclass(frozen=True)
 class Window(Fact):
-    """A CFMWS record: a range of host addresses and the bridges over which it is dealt. `verdict` is `usable`, or what is in the way."""
+    """A CFMWS record: a range of host addresses and the bridges over which it is dealt. `verdict` is `usable`, or what is in the way.
+    Judged with a topology, `cause` says which of its causes `target` and `maps` have."""
     number: int
     base: int
     size: int
@@ -56,6 +57,7 @@ class Window(Fact):
     qtg: int
     targets: tuple  # UIDs
     verdict: str
+    cause: str = ""
 
     @property
     def end(self) -> int:

@@ -11,7 +11,7 @@ from typing import Iterable, Iterator, Optional
 
 from . import texts
 from ._engine import engine
-from .errors import CxlError, fault_of
+from .errors import CxlError, NoEngine, fault_of
 from .host import FILES, read_file
 
 SCHEMA = "cxldesk/1"
@@ -67,14 +67,24 @@ def judge(folder: str, decoders: bool = False) -> dict:
             said["verdict"], said["regions"] = "sound", [it.as_dict() for it in texts.regions(text)]
         elif status == 8:
             said["verdict"], said["text"] = "breach", text.rstrip("\n")
-            said["breaches"] = [it.as_dict() for it in engine().breaches(*files) or texts.places(text)]
+            said["breaches"] = [it.as_dict() for it in places_of(files) or texts.places(text)]
         else:
             raise fault_of(status, text)
         if decoders:
             said["decoders"] = [it.as_dict() for it in engine().decoders(*files) if it.committed or it.commit or it.error]
+    except NoEngine:
+        raise  # it is none of this host
     except CxlError as fault:
         said.update(status=fault.status, text=fault.text)
     return said
+
+
+def places_of(files: list) -> list:
+    """The broken places, where there is the library, which tells them all."""
+    try:
+        return engine().breaches(*files)
+    except NoEngine:
+        return []
 
 
 def judge_all(folders: list, decoders: bool) -> list:

@@ -8,7 +8,7 @@ from typing import Optional
 
 from . import texts
 from ._engine import engine
-from .errors import BadFile, Breach, CxlError, Refusal, fault_of
+from .errors import BadFile, Breach, CxlError, NoEngine, Refusal, fault_of
 from .facts import Decoder, Down, Node, Place, Planned, Position, Region, Up, Window
 from .session import Session, create_line
 
@@ -163,7 +163,7 @@ class Host:
 
     @cached_property
     def breaches(self) -> list:
-        """The places that break the first broken rule, as far as the proved calls tell them: the first of all comes first."""
+        """The places that break the first broken rule, the first of all first."""
         return engine().breaches(*self._bytes, self.registers) if self.image else []
 
     # ---- Where an address lies.
@@ -198,9 +198,14 @@ class Host:
         return room_of(self)
 
     def places(self) -> list:
-        """The broken places, first that of `check`; none of sound registers."""
+        """The broken places, first that of `check`, which is the only one where there is no library; none of sound registers."""
         found = self.breach
-        return self.breaches or ([Place(found.rule, found.node, found.decoder)] if found else [])
+        if found is None:
+            return []
+        try:
+            return self.breaches
+        except NoEngine:
+            return [Place(found.rule, found.node, found.decoder)]
 
     def same_range(self, decoder: Decoder) -> list:
         """The committed decoders of the same range, in the order of the topology."""

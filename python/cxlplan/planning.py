@@ -5,7 +5,7 @@ A plan is a create in a session that is thrown away: so the answer, its refusals
 import re
 from dataclasses import dataclass
 
-from .errors import BadWords
+from .errors import BadWords, NoEngine
 from .facts import Planned, Released, WORD_NAMES
 
 GRAIN = 256 << 20  # bytes: Linux makes a root decoder of a window whose base and size are multiples of it
@@ -27,13 +27,22 @@ def plan(host, line: str, with_writes: bool = True) -> Planned:
     """The plan of a line `create NAME ..`; its refusal is raised."""
     with opened(host, with_writes) as session:
         session.ask(line)
-        writes, image = tuple(session.writes()), session.under.image()
+        writes = tuple(session.writes())
         region, rows = session.show(name_of(line))
+        decoders = decoders_of(host, session, rows)
         session.ask(f"destroy {region.name}")
         undo = tuple(session.writes())
-    decoders = type(host)(host.table.data, host.topology.data, image).decoders
+    return Planned(region, decoders, writes, undo)
+
+
+def decoders_of(host, session, rows: list) -> tuple:
+    """The decoders of these rows as they stand in a session; none where there is no library, which tells them."""
+    try:
+        decoders = type(host)(host.table.data, host.topology.data, session.under.image()).decoders
+    except NoEngine:
+        return ()
     made = {(row.node, row.decoder) for row in rows}
-    return Planned(region, tuple(it for it in decoders if (it.node, it.number) in made), writes, undo)
+    return tuple(it for it in decoders if (it.node, it.number) in made)
 
 
 def image_with(host, line: str) -> bytes:

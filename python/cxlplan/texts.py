@@ -50,13 +50,32 @@ def position(text: str) -> Position:
     return Position(int(words[1]), int(words[3]), int(words[5]))
 
 
-# ---- Trees and decoders, as the library's read-only calls tell them.
+# ---- Windows, trees and decoders, as the library's read-only calls tell them.
 
 WAYS_CODES, GRAN_CODES = (0, 1, 2, 3, 4, 8, 9, 10), range(7)  # that stand for something
 
 
 def pairs(words: list) -> dict:
     return dict(zip(words[::2], words[1::2]))
+
+
+def windows(text: str) -> list:
+    """Lines `window N base ..`, each with its verdict by a topology."""
+    return [window(line) for line in lines_of(text)]
+
+
+def window(line: str) -> Window:
+    front, _, found = line.partition(" verdict ")
+    said, (verdict, cause) = pairs(front.split(" ")), verdict_of(found.split(" "))
+    return Window(int(said["window"]), number(said["base"]), number(said["size"]), int(said["ways"]), int(said["gran"]),
+                  "xor" if said["xor"] == "1" else "modulo", number(said["restrict"]), int(said["qtg"]), numbers(said["targets"]),
+                  verdict, cause)
+
+
+def verdict_of(words: list) -> tuple:
+    """A verdict with what it names, and behind it which of its causes it is."""
+    named = 2 if words[0] in ("overlap", "target", "repeat") else 1
+    return " ".join(words[:named]), " ".join(words[named:])
 
 
 def tree(text: str) -> list:

@@ -14,7 +14,7 @@ sys.dont_write_bytecode = True  # leaves no compiled file in the repository
 HERE = os.path.dirname(os.path.abspath(__file__))
 PYTHON = os.path.dirname(HERE)
 TOP = os.path.dirname(PYTHON)
-for folder in (PYTHON, os.path.join(TOP, "capture", "tests")):
+for folder in (PYTHON, os.path.join(TOP, "capture", "tests"), os.path.join(TOP, "library", "tests")):
     sys.path.insert(0, folder)
 
 import machines  # noqa: E402 pylint: disable=wrong-import-position
@@ -37,9 +37,10 @@ def program():
     return found if found.kind == "program" else found.program
 
 
-# For tests that ask the proved calls: they are skipped where the program is not built.
-asks_the_engine = unittest.skipUnless(program(), "./prove builds the program")
-asks_for_writes = unittest.skipUnless(program() and program().bench, "cxlbench is not built")
+# For tests that ask the proved calls: they are skipped where program and library are not built.
+HAS_BOTH = program() and _engine.engine().kind == "library"
+asks_the_engine = unittest.skipUnless(HAS_BOTH, "./prove and ./prove --library build what is asked")
+asks_for_writes = unittest.skipUnless(HAS_BOTH and program().bench, "cxlbench is not built")
 
 
 class Case(unittest.TestCase):

@@ -1,5 +1,6 @@
 """The subcommands that ask: their texts, statuses and faults."""
 
+import json
 import os
 import struct
 import subprocess
@@ -10,6 +11,7 @@ from here import FOUR, LOST, PYTHON, Case, asks_the_engine, machines, said, work
 from cxlplan import Host
 from cxlplan.desk.whereis import payloads
 from cxlplan.editing import image_of, image_text
+import window_tables
 
 CHECKED = """\
 region auto0 pmem window 0 base 0x110000000 size 0x40000000 gran 256 ways 4
@@ -29,6 +31,20 @@ class Asked(Case):
         self.assertIn("it has 4 ways of 512 bytes, and others of its kind in the range have 4 ways of 256 bytes", text)
         self.assertEqual([row for row in text.splitlines() if "<-" in row],
                          ["decoder d4 0 committed base 0x110000000 size 0x40000000 ways 4 gran 512 skip 0x0 <- broken, differs"])
+
+    def test_windows(self):
+        """A window of each verdict: which of its causes it is, and why in words."""
+        files = [self.file("table", window_tables.each_verdict()), self.file("topology", window_tables.topology())]
+        status, text, _ = said("show", "--reset", *files, "--json")
+        windows = json.loads(text)["windows"]
+        self.assertEqual((status, [f"{it['verdict']} {it['cause']}".strip() for it in windows]),
+                         (0, [row[-1] for row in window_tables.WINDOWS]))
+        self.assertEqual([it["why"] for it in windows if it["cause"]], [
+            "no CHBS of the table has the target 3", "the target 4 is no bridge of CXL 2.0", "the target 7 is no bridge of CXL 2.0",
+            "the target 5 is no bridge of the topology", "there is no CXIMS of 1024 bytes, which XOR needs",
+            "of the maps of the CXIMS of 2048 bytes that 2 ways need, one cannot be used",
+            "of the maps of the CXIMS of 4096 bytes that 2 ways need, one cannot be used",
+            "the CXIMS of 8192 bytes has 0 maps, and 2 ways need 1"])
 
     def test_aligned(self):
         """At a terminal columns stand under their names."""

@@ -6,13 +6,15 @@ import subprocess
 import sys
 import unittest
 
-from here import FOUR, LOST, PYTHON, Case, asks_the_engine, machines, worked_hosts
+from here import FOUR, LOST, PYTHON, Case, asks_the_engine, machines, said, worked_hosts
+from cxlplan._by_program import NO_LIBRARY
+from cxlplan.explain import verdict_words
 from cxlplan import (BadFile, BadImage, BadTable, BadTopology, Breach, Host, NoEngine, Refusal, Table, _engine, texts)
-from cxlplan._retold import words_at_start
+import told
 
 
 class Texts(unittest.TestCase):
-    """What the library's read-only calls tell is read as what the program's files are told anew as."""
+    """What the library's read-only calls tell."""
 
     TREE = """\
 frames 65536
@@ -40,6 +42,22 @@ words 00000000 00000000 00000000 00000000 000000f9 10000000 00000000 00000000
         self.assertEqual((port.node, port.base, port.ways, port.gran, port.targets, port.skip, port.committed), ("hb16", 0x110000000, 2, 512, (0, 1), None, True))
         self.assertEqual((end.ways, end.gran, end.targets, end.skip, end.words[4]), (None, None, None, 0x10000000, 0xf9))
         self.assertEqual(port.as_dict()["words"][4], 0x1611)
+
+    WINDOWS = """\
+window 0 base 0x100000000 size 0x20000000 ways 2 gran 256 xor 1 restrict 0x6 qtg 3 targets 1,2 verdict usable
+window 1 base 0x0 size 0x0 ways 1 gran 512 xor 0 restrict 0x0 qtg 0 targets 7 verdict target 7 no-cxl2
+window 2 base 0x0 size 0x0 ways 4 gran 512 xor 1 restrict 0x0 qtg 0 targets 1,2,3,4 verdict maps few 1 2
+window 3 base 0x0 size 0x0 ways 1 gran 512 xor 0 restrict 0x0 qtg 0 targets 1 verdict overlap 0
+"""
+
+    def test_windows(self):
+        first, *others = texts.windows(self.WINDOWS)
+        self.assertEqual((first.number, first.base, first.size, first.ways, first.gran, first.arithmetic, first.restrict, first.qtg,
+                          first.targets, first.verdict, first.cause), (0, 1 << 32, 1 << 29, 2, 256, "xor", 6, 3, (1, 2), "usable", ""))
+        self.assertEqual([(it.verdict, it.cause, verdict_words(it)) for it in others], [
+            ("target 7", "no-cxl2", "the target 7 is no bridge of CXL 2.0"),
+            ("maps", "few 1 2", "the CXIMS of 512 bytes has 1 maps, and 4 ways need 2"),
+            ("overlap 0", "", "it shares an address with window 0")])
 
     def test_refusals(self):
         refused = texts.refusal("refused no-window\nwindow 0 bridges\nwindow 1 no-base 0x1 0x2\n")
@@ -116,12 +134,11 @@ class Hosts(Case):
         self.assertRaises(BadFile, Host.from_files, "-", "-")
 
     def test_worked(self):
-        """Each worked host: what is told anew of its image agrees with the words that it was made of, and its regions' decoders with
-        `show`."""
+        """Each worked host: what is told of its image agrees with the words that it was made of, and its regions' decoders with `show`."""
         count = 0
         for host in worked_hosts():
             self.assertEqual([it.words for it in host.decoders],
-                             [tuple(block[at:at + 7]) for block in words_at_start(host.nodes, host.registers) for at in range(4, len(block), 8)])
+                             [tuple(block[at:at + 7]) for block in told.words_of(host.nodes, host.registers) for at in range(4, len(block), 8)])
             if host.breach is None and host.regions:
                 count += 1
                 with host.session() as session:
@@ -142,13 +159,12 @@ class Engines(Case):
             """As the module over such a library."""
             tree = staticmethod(lambda topo: (0, Texts.TREE.encode()))
             decoders = staticmethod(lambda topo, image: (0, Texts.DECODERS.encode()) if image else (10, b"error: image cut 0\n"))
-            windows = staticmethod(lambda cedt, topo: (0, b"chbs 1 version 1 base 0x0 length 0x0\nwindow 0 base 0x0 size 0x0 ways 1 gran 256 "
-                                                          b"modulo restrict 0x0000 qtg 0 targets 1 size\n"))
+            windows = staticmethod(lambda cedt, topo: (0, Texts.WINDOWS.encode()))
             breaches = staticmethod(lambda cedt, topo, image: (8, b"breach K12 d4 0\nbreach K12 d5 0\n"))
         found = LibraryEngine(Library)
         self.assertEqual([it.name for it in found.tree(b"", b"")], ["hb16", "p1", "e0"])
         self.assertEqual([it.node for it in found.decoders(b"", b"", b"x")], ["hb16", "e0"])
-        self.assertEqual([it.verdict for it in found.windows(b"", b"")], ["size"])
+        self.assertEqual([it.number for it in found.windows(b"", b"")], [0, 1, 2, 3])
         self.assertEqual([it.node for it in found.breaches(b"", b"", b"")], ["d4", "d5"])
         self.assertRaises(BadImage, found.decoders, b"", b"", b"")
         self.assertRaises(NoEngine, found.session, b"", b"", None)
@@ -159,6 +175,28 @@ class Engines(Case):
         ran = subprocess.run([sys.executable, os.path.join(PYTHON, "cxldesk"), "check", *FOUR], env=environment, capture_output=True,
                              text=True, check=False)
         self.assertEqual((ran.returncode, ran.stdout, ran.stderr), (1, "", f"cxldesk: {_engine.HOW}\n"))
+
+    @asks_the_engine
+    def test_without_the_library(self):
+        """What the program answers alone is answered by it; of what the library tells one line says how to get it."""
+        def told_by_program(*words):
+            environment = {**os.environ, "CXLPLAN_LIBRARY": "/none"}
+            ran = subprocess.run([sys.executable, os.path.join(PYTHON, "cxldesk"), *words], env=environment, capture_output=True, text=True,
+                                 check=False)
+            return ran.returncode, ran.stdout.splitlines(), ran.stderr
+        self.assertEqual(told_by_program("check", *FOUR)[:2], (0, said("check", *FOUR)[1].splitlines()))
+        status, lines, _ = told_by_program("check", *LOST)
+        self.assertEqual((status, lines[0], lines[4]), (8, "breach K12 d4 0", f"At decoder 0 of d4: {NO_LIBRARY}."))
+        self.assertEqual(told_by_program("where", *FOUR, "0x110000100")[1], said("where", *FOUR, "0x110000100")[1].splitlines())
+        status, lines, _ = told_by_program("plan", "--reset", *FOUR[:2], "r0 pmem 0x40000000 ways=4")
+        self.assertEqual((status, lines[0][:9], lines[-1][:10]), (0, "region r0", "No library"))
+        status, lines, _ = told_by_program("plan", "--reset", *FOUR[:2], "r0 pmem 0x20000000 d1 d3")
+        self.assertEqual((status, lines[0], lines[-1]), (8, "refused no-window", "window 0: its targets are not exactly the bridges of the "
+                                                         "endpoints. To do: name endpoints below exactly its targets."))
+        for words in (("show", *FOUR), ("room", *FOUR), ("report", *FOUR, self.path("page")), ("diff", *FOUR, *LOST),
+                      ("plan", "--reset", *FOUR[:2], "r0 pmem 0x40000000 ways=4", "--linux")):
+            with self.subTest(words[0]):
+                self.assertEqual(told_by_program(*words), (1, [], f"cxldesk: {NO_LIBRARY}\n"))
 
     def test_python_3_9_alone(self):
         """The package is of Python 3.9, and imports nothing but the standard library."""

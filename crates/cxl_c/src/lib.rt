@@ -3,3 +3,4 @@
 
 mod forms;
 mod reads;
+mod windows;

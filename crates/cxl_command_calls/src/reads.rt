@@ -6,6 +6,8 @@ use cxl_reads::{Status, breaches, decoders, tree};
 use std::alloc::Global;
 use std::process::Abort;
 
+mod windows;
+
 /// A bridge, a switch with one decoder and two targets, and an endpoint of 1 GiB.
 const TOPOLOGY: &[u8] = b"frames = 8
 [[bridge]]

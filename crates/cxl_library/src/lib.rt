@@ -8,6 +8,7 @@ mod room;
 mod running;
 mod slice_source;
 mod slices;
+mod window_reads;
 mod words;
 
 pub use cxl_inputs::Status;
@@ -18,3 +19,4 @@ pub use reads::{breaches, decoders, tree};
 pub use room::Room;
 pub use slice_source::SliceSource;
 pub use slices::Slices;
+pub use window_reads::windows;

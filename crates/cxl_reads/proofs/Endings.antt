@@ -1,5 +1,5 @@
 -- How a call ends.
-use Rattle.std.proofs.Common.{◌≡◌, Result, Ok, Err, inl, inr, refl, sym, subst}
+use Rattle.std.proofs.Common.{◌≡◌, Result, Ok, Err, inl, inr, sym, subst}
 use Rattle.std.specs.Prelude.{⊤}
 use Rattle.cxl_io.specs.Sink.{SinkState}
 use Rattle.cxl_inputs.specs.Ends.{Finishes}

@@ -3,3 +3,4 @@ mod Endings
 mod Steps
 mod Parents
 mod Places
+mod Groups

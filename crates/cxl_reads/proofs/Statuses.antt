@@ -16,6 +16,8 @@ use Rattle.cxl_reads.specs.Breaches as places
 use Rattle.cxl_reads.specs.Decoders.{AreDecoders, no_tree, no_image, blocks}
 use Rattle.cxl_reads.specs.Tree.{IsTreeTold}
 use Rattle.cxl_reads.specs.Tree as trees
+use Rattle.cxl_reads.specs.Windows.{AreWindows}
+use Rattle.cxl_reads.specs.Windows as seen
 
 -- no outcome of this kind has the status of a sink that failed
 abbrev pub AreNoWriteFaults : (Outcome → Type 0) → Type 0
@@ -68,3 +70,8 @@ breaches_faults cedt topo image outcome (places.no_tree table read none) = no_tr
 breaches_faults cedt topo image outcome (places.no_image table tree of_table of_tree none) = no_image_faults image_name image tree.nodes outcome none
 breaches_faults cedt topo image outcome (places.places table tree image_blocks given tells) =
     other_code outcome _ tells.told (verdict_code tells.breaches)
+
+pub windows_faults : (cedt topo : List ℕ) → AreNoWriteFaults (AreWindows cedt topo)
+windows_faults cedt topo outcome (seen.no_table none) = no_table_faults table_name cedt outcome none
+windows_faults cedt topo outcome (seen.no_tree table read none) = no_tree_faults topology_name topo outcome none
+windows_faults cedt topo outcome (seen.windows table tree of_table of_tree told) = other_code outcome _ told (λ (e : 0 ≡ 6). omega (arith, e))

@@ -1,5 +1,5 @@
 -- The decoder blocks of an image as lines: one for each block, and one for each decoder behind that of its block (this project's rule).
-use Rattle.std.specs.Prelude.{◌≡◌, ℕ, Bool, if◌then◌else◌, List, [], ◌++◌, codes, decimal, slice_index}
+use Rattle.std.specs.Prelude.{◌≡◌, ℕ, Bool, if◌then◌else◌, List, ◌++◌, codes, decimal, slice_index}
 use Rattle.std.specs.List.{flat_map, enumerate_from}
 use Rattle.cxl_topo.specs.declared.node.Node.{Node}
 use Rattle.cxl_topo.specs.Tree.{Tree}

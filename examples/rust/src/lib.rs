@@ -31,6 +31,10 @@ pub mod raw {
             cedt: *const c_void, cedt_len: usize, topo: *const c_void, topo_len: usize, image: *const c_void, image_len: usize,
             out: *mut c_void, out_len: usize, written: *mut usize,
         ) -> c_int;
+        pub fn cxlplan_windows(
+            cedt: *const c_void, cedt_len: usize, topo: *const c_void, topo_len: usize,
+            out: *mut c_void, out_len: usize, written: *mut usize,
+        ) -> c_int;
         pub fn cxlplan_gen(number: u32, out: *mut c_void, out_len: usize, written: *mut usize) -> c_int;
         pub fn cxlplan_version(out: *mut c_void, out_len: usize, written: *mut usize) -> c_int;
     }
@@ -126,6 +130,13 @@ pub fn breaches<'a>(cedt: &[u8], topo: &[u8], image: &[u8], out: &'a mut [u8]) -
     let ((c, c_len), (t, t_len), (i, i_len)) = (bytes!(cedt), bytes!(topo), bytes!(image));
     // SAFETY: as in `route`.
     answer(out, |at, len, written| unsafe { raw::cxlplan_breaches(c, c_len, t, t_len, i, i_len, at, len, written) })
+}
+
+/// The windows of a table as lines, each with its verdict by the bridges of a topology.
+pub fn windows<'a>(cedt: &[u8], topo: &[u8], out: &'a mut [u8]) -> Answer<'a> {
+    let ((c, c_len), (t, t_len)) = (bytes!(cedt), bytes!(topo));
+    // SAFETY: as in `route`.
+    answer(out, |at, len, written| unsafe { raw::cxlplan_windows(c, c_len, t, t_len, at, len, written) })
 }
 
 /// The generated system of 4 * number endpoints, for a number from 1 to 32, carried out.

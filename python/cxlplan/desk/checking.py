@@ -1,6 +1,7 @@
 """`check`: the regions of sound registers; else where the first broken rule is broken, what was found there, what the rule wants and why,
 and the other decoders of the range beside it."""
 
+from ..errors import NoEngine
 from ..explain import RULES
 from ..found import found_at
 from ..host import Host
@@ -37,8 +38,11 @@ def broken(host: Host) -> Answer:
 
 
 def place_facts(host: Host, place) -> dict:
-    """A broken place with what was found there, and the decoders of its range."""
-    decoder = next((it for it in host.decoders if (it.node, it.number) == (place.node, place.decoder)), None)
+    """A broken place with what was found there, and the decoders of its range; or how to get what tells that."""
+    try:
+        decoder = next((it for it in host.decoders if (it.node, it.number) == (place.node, place.decoder)), None)
+    except NoEngine as missing:
+        return {"node": place.node, "decoder": place.decoder, "found": missing.text, "range": None, "beside": []}
     beside = host.same_range(decoder) if decoder and decoder.size else []
     differs = odd_ones(beside, host)
     return {"node": place.node, "decoder": place.decoder, "found": found_at(host, place, decoder), "range": decoder and decoder.range,

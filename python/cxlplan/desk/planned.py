@@ -52,6 +52,8 @@ def made(host: Host, line: str, options) -> Answer:
     if wants_writes:
         return add_text(said, writes_text(host, found.region.name, found.writes, found.undo, options))
     region_rows(said, [found.region])
+    if not found.decoders:
+        return said.line("No library tells its decoders: run ./prove --library in the repository, or ./install.")
     return said.rows("decoder", [decoder_row(it) for it in found.decoders])
 
 
@@ -94,8 +96,8 @@ def add_text(said: Answer, text: str) -> Answer:
 def refused_answer(host: Host, refused: Refusal) -> Answer:
     """A refusal with what stands in the way, by window and node."""
     means, advice = refusal_words(refused)
-    reasons = [{**it.as_dict(), "means": reason_words(it, host.windows)[0], "advice": reason_words(it, host.windows)[1]}
-               for it in refused.reasons]
+    words = [reason_words(it, host) for it in refused.reasons]
+    reasons = [{**it.as_dict(), "means": told[0], "advice": told[1]} for it, told in zip(refused.reasons, words)]
     said = Answer({"host": host.name, "refused": {**refused.as_dict(), "means": means, "advice": advice, "reasons": reasons}}, 8)
     said.line(refused.text.split("\n")[0])
     if means:

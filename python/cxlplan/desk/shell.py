@@ -122,7 +122,7 @@ class Shell:
         means, advice = refusal_words(refused)
         said = [f"  {means}. To do: {advice}."] if means else []
         for reason in refused.reasons:
-            said.append(f"  window {reason.window}: " + ". To do: ".join(reason_words(reason, self.host.windows)) + ".")
+            said.append(f"  window {reason.window}: " + ". To do: ".join(reason_words(reason, self.host)) + ".")
         tell("".join(line + "\n" for line in said))
 
     # ---- Words of its own.

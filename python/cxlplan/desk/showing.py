@@ -36,7 +36,7 @@ def breach_facts(breach) -> dict:
 
 
 def window_facts(window: Window, host: Host) -> dict:
-    why = "" if window.is_usable else verdict_words(window, host.nodes, host.table.records)
+    why = "" if window.is_usable else verdict_words(window)
     return {**window.as_dict(), "why": why}
 
 

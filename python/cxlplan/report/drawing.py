@@ -49,7 +49,7 @@ def window_part(host, window, inside: list, names: dict) -> str:
     ways = f"{window.ways} ways of {window.gran} B" + (", XOR" if window.arithmetic == "xor" else "") if window.ways > 1 else "one way"
     kinds = " and ".join(kind for kind in ("ram", "pmem") if window.takes(kind)) or "no memory"
     why = "" if window.is_usable else (f' <span class=bad>Not usable: '
-                                       f'{html.escape(verdict_words(window, host.nodes, host.table.records))}.</span>')
+                                       f'{html.escape(verdict_words(window))}.</span>')
     pieces = "".join(piece((it.base - window.base) * scale, it.size * scale, it, title_of(it)) for it in inside)
     listed = "".join(f"<li>{key(it)} {html.escape(title_of(it)[len(it.letter) + 1:])}</li>" for it in inside)
     return (f'<div class=window><h3>window {window.number}: <code>{window.base:#x}</code> to <code>{window.end:#x}</code></h3>'

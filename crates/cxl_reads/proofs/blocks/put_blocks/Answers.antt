@@ -1,5 +1,4 @@
-use Rattle.std.proofs.Common.{arith, length}
-use Rattle.std.specs.List.{flat_map, enumerate_from}
+use Rattle.std.proofs.Common.{arith}
 use Rattle.cxl_reads.specs.Decoders.{block_lines}
 use Rattle.cxl_reads.proofs.Steps.{item_line, all_lines}
 use Rattle.cxl_reads.proofs.blocks.put_blocks.Goals as goal

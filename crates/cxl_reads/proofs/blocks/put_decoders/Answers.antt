@@ -1,4 +1,4 @@
-use Rattle.std.proofs.Common.{arith, length}
+use Rattle.std.proofs.Common.{arith}
 use Rattle.cxl_reads.specs.Decoders.{decoder_line}
 use Rattle.cxl_reads.proofs.Steps.{item_line, all_lines}
 use Rattle.cxl_reads.proofs.blocks.put_decoders.Goals as goal
