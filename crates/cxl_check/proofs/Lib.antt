@@ -15,3 +15,5 @@ pub mod Keys
 pub mod Listing
 pub mod Spots
 pub mod FirstOfRule
+pub mod Entering
+pub mod Worked

@@ -5,6 +5,7 @@ pub mod Found
 pub mod Landings
 pub mod Children
 pub mod Firsts
+pub mod DecoderFacts
 pub mod Facts
 pub mod Known
 pub mod Slots

@@ -1,8 +1,8 @@
 //! The children of nodes at their first eight ports, which are as many as a port's decoder has entries.
 
-ghost use Rattle.std.specs.Prelude.{◌≡◌, ◌<◌, length, IfOk};
+ghost use Rattle.std.specs.Prelude.{◌≡◌, ◌+◌, ◌<◌, length, IfOk};
 ghost use Rattle.cxl_topo.specs.Tree.{child_of};
-ghost use Rattle.cxl_check.specs.inner.Children.{AreAllChildren};
+ghost use Rattle.cxl_check.specs.inner.Children.{AreAllChildren, AreEntered};
 
 use cxl_topo::{Topo, tree_laws};
 use std::alloc::{AllocError, Global};
@@ -11,26 +11,30 @@ use std::alloc::{AllocError, Global};
 pub(crate) fn all_children(alloc: Global, topo: &Topo) -> Result<Vec<Option<u32>>, AllocError>
     ensures { IfOk result (λ children. AreAllChildren topo.now.nodes children.items) }
 {
+    tree_laws();
     let count = 8 * topo.count();
-    let mut children = Vec::with_capacity(alloc, count as usize)?;
-    for place in 0..count {
-        children.push(sought_child(topo, place / 8, (place % 8) as u8))?;
+    let mut children = vec![in alloc; None; count as usize]?;
+    for node in 0..topo.count() {
+        enter_child(topo, &mut children, node);
     }
     Ok(children)
 }
 
-/// The child of a node at a port, which is sought for a port's node alone.
-fn sought_child(topo: &Topo, node: u32, port: u8) -> Option<u32>
-    requires { node < length topo.now.nodes }
-    ensures { result ≡ child_of topo.now.nodes node port }
+/// Enters a node as the child of its parent, where it stands at one of the first eight ports.
+fn enter_child(topo: &Topo, children: &mut Vec<Option<u32>>, node: u32)
+    requires here { node < length topo.now.nodes }
+    requires entered { AreEntered topo.now.nodes node children.old.items }
+    ensures { AreEntered topo.now.nodes (node + 1) children.new.items }
 {
     tree_laws();
     let _count = topo.count();
-    if topo.is_endpoint(node) {
-        None
-    } else {
-        topo.child(node, port)
+    let Some(parent) = topo.node(node).parent else {
+        return;
+    };
+    if parent.port >= 8 {
+        return;
     }
+    children[8 * parent.node as usize + usize::from(parent.port)] = Some(node);
 }
 
 /// The child of a node at a port, from the table of them.

@@ -20,13 +20,23 @@ pub(crate) fn span_kind(host: &Host, node: u32, i: u8) -> MemKind
     requires committed { IsSomeAnd (decoder_at (as_system host.now) node i) (λ d. d.committed ≡ true) }
     ensures { result ≡ span_kind (as_system host.now) node i }
 {
+    kind_from(host, node, i, span_start(host, node, i))
+}
+
+/// The same by where that span starts.
+pub(crate) fn kind_from(host: &Host, node: u32, i: u8, start: u64) -> MemKind
+    requires ready { IsOrderlySystem (as_system host.now) }
+    requires endpoint { is_endpoint_at host.now.topo.now.nodes node ≡ true }
+    requires committed { IsSomeAnd (decoder_at (as_system host.now) node i) (λ d. d.committed ≡ true) }
+    requires start { start ≡ span_start_of (decoders_at (as_system host.now) node) i }
+    ensures { result ≡ span_kind (as_system host.now) node i }
+{
     spans_lie_in_partitions();
     let block = host.image.block(node);
     let capacity = capacity_at(host.topo, node);
     if capacity.pmem == 0 {
         return MemKind::Ram;
     }
-    let start = span_start(host, node, i);
     if start + block.decoder(i).span_length() <= capacity.ram {
         MemKind::Ram
     } else {

@@ -27,9 +27,10 @@ pub struct Known {
     pub facts: RangeFacts,
 }
 
-/// Places for as many ranges as there are, with none met yet. Takes memory.
+/// Places for ranges, with none met yet. Takes memory.
 ///
-/// The number of places is odd, so that ranges which lie apart by some power of two have places of their own.
+/// There are four times as many, so that few ranges share a place; and the number of places is odd, so that ranges which lie
+/// apart by some power of two have places of their own.
 pub(crate) fn none_met(
     alloc: Global,
     host: &Host,
@@ -40,7 +41,7 @@ pub(crate) fn none_met(
     ensures { IfOk result (λ met. All (IsKnown (as_system host.now)) met.items) }
 {
     let known = learn(host, firsts, &Range { base: 0, size: 0 });
-    let count = firsts.len() | 1;
+    let count = firsts.len().saturating_mul(4) | 1;
     vec![in alloc; known; count]
 }
 

@@ -6,6 +6,7 @@ mod blocks;
 mod caps;
 mod checking;
 mod children;
+mod decoder_facts;
 mod decoders;
 mod facts;
 mod fault;

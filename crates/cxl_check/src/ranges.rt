@@ -6,10 +6,12 @@ ghost use Rattle.cxl_model.specs.System.{decoder_at};
 ghost use Rattle.cxl_model.specs.Accepted.{breaks, IsAccepted, IsFirstBreach, IsOrderlySystem};
 ghost use Rattle.cxl_check.specs.inner.Ready.{IsCommitted};
 ghost use Rattle.cxl_regs.specs.Reading.{range_of};
+ghost use Rattle.cxl_check.specs.inner.DecoderFacts.{AreDecoderFacts};
 ghost use Rattle.cxl_check.specs.inner.Facts.{AreSystemTables, keeps_rule};
 ghost use Rattle.cxl_check.specs.inner.Found.{IsLeastBrokenAt, IsFoundOfNode};
 ghost use Rattle.cxl_check.specs.inner.Known.{IsKnown, IsKnownAs};
 
+use crate::decoder_facts::{DecoderFacts, facts_at};
 use crate::fault::Breach;
 use crate::known::{Known, known_of};
 use crate::least::{earlier_among_nodes, earlier_in_node};
@@ -79,13 +81,15 @@ pub(crate) fn least_broken(
         return None;
     }
     let known = known_of(met, host, &tables.firsts, &d.range());
-    broken_rule(host, &known, tables, node, i, d)
+    let facts = facts_at(host, &tables.decoders, node, i, d);
+    broken_rule(host, &known, &facts, tables, node, i, d)
 }
 
-/// The same of a committed decoder, by what is known of its range.
+/// The same of a committed decoder, by what is known of its range and worked out of itself.
 fn broken_rule(
     host: &Host,
     known: &Known,
+    facts: &DecoderFacts,
     tables: &Tables,
     node: u32,
     i: u8,
@@ -96,9 +100,10 @@ fn broken_rule(
     requires tables { AreSystemTables (as_system host.now) tables.now }
     requires here { node < length host.now.topo.now.nodes }
     requires committed { IsCommitted (as_system host.now) node i d.now }
+    requires facts { AreDecoderFacts (as_system host.now) node i d.now facts.now }
     ensures { IsLeastBrokenAt (breaks (as_system host.now)) node i result }
 {
-    if !keeps_window(host, known, node, i, d) {
+    if !keeps_window(host, known, facts, node, i, d) {
         return Some(9);
     }
     if !keeps_targets(host, known, tables, node, i, d) {
@@ -107,7 +112,7 @@ fn broken_rule(
     if !keeps_reach(host, known, node, i, d) {
         return Some(11);
     }
-    if !keeps_ways(host, known, node, i, d) {
+    if !keeps_ways(host, known, facts, node, i, d) {
         return Some(12);
     }
     None

@@ -139,7 +139,16 @@ fn spans_of(
     let first = first_target(host.topo, w);
     let mut spans = Vec::with_capacity(alloc, usize::from(ways))?;
     for slot in 0..ways {
-        spans.push(place_of_slot(host, &tables.children, range, w, &first, slot, likely))?;
+        spans.push(place_of_slot(
+            host,
+            &tables.children,
+            &tables.decoders,
+            range,
+            w,
+            &first,
+            slot,
+            likely,
+        ))?;
     }
     Ok(spans)
 }

@@ -11,12 +11,13 @@ ghost use Rattle.cxl_model.specs.Ranges.{decoder_for};
 ghost use Rattle.cxl_model.specs.Regions.{LeadsTo, HasSpan};
 ghost use Rattle.cxl_model.specs.Accepted.{IsOrderlySystem};
 ghost use Rattle.cxl_check.specs.inner.Children.{AreAllChildren};
+ghost use Rattle.cxl_check.specs.inner.DecoderFacts.{AreAllFacts};
 ghost use Rattle.cxl_check.specs.inner.Slots.{AreWaysAbove, child_of_slot, next_of};
 
 use crate::above::ports_above;
 use crate::children::child_at;
+use crate::decoder_facts::{DecoderFacts, facts_at, start_of};
 use crate::decoders::{decoder_for, index_for};
-use crate::kind::span_start;
 use cxl_model::{Host, Place};
 use cxl_regs::{Decoder, Range};
 use cxl_topo::{Topo, tree_laws};
@@ -56,6 +57,7 @@ fn target_with(topo: &Topo, first: &Target, uid: u32) -> Option<u32>
 pub(crate) fn place_of_slot(
     host: &Host,
     children: &[Option<u32>],
+    all: &[DecoderFacts],
     range: &Range,
     w: &Window,
     first: &Target,
@@ -64,6 +66,7 @@ pub(crate) fn place_of_slot(
 ) -> Place
     requires ready { IsOrderlySystem (as_system host.now) }
     requires children { AreAllChildren host.now.topo.now.nodes children.now }
+    requires all { AreAllFacts (as_system host.now) all.now }
     requires first { first.now.bridge ≡ bridge_with host.now.topo.now.nodes first.now.uid }
     requires some { (place : Place) × HasSpan (as_system host.now) w.now range.now slot place }
     requires slot { slot < 16 }
@@ -72,13 +75,14 @@ pub(crate) fn place_of_slot(
     let uid = w.targets()[usize::from(target_position(w, slot))];
     let bridge = target_with(host.topo, first, uid).unwrap();
     let above = ports_above(host, range, bridge, likely).ways;
-    place_below(host, children, range, w, slot, bridge, above, likely)
+    place_below(host, children, all, range, w, slot, bridge, above, likely)
 }
 
 /// The place of a device to which a slot leads from a node on, above which the ports have so many ways together.
 fn place_below(
     host: &Host,
     children: &[Option<u32>],
+    all: &[DecoderFacts],
     range: &Range,
     w: &Window,
     slot: u8,
@@ -88,6 +92,7 @@ fn place_below(
 ) -> Place
     requires ready { IsOrderlySystem (as_system host.now) }
     requires children { AreAllChildren host.now.topo.now.nodes children.now }
+    requires all { AreAllFacts (as_system host.now) all.now }
     requires above { AreWaysAbove (as_system host.now) range.now node above }
     requires some { (place : Place) × LeadsTo (as_system host.now) w.now range.now slot node place }
     ensures { LeadsTo (as_system host.now) w.now range.now slot node result }
@@ -97,15 +102,17 @@ fn place_below(
     let _count = host.topo.count();
     if host.topo.is_endpoint(node) {
         let i = index_for(host, range, node, likely).unwrap();
+        let d = host.image.block(node).decoder(i);
+        let facts = facts_at(host, all, node, i, &d);
         return Place {
             endpoint: node,
-            start: span_start(host, node, i),
+            start: start_of(host, &facts, node, i, &d),
         };
     }
     let d = decoder_for(host, range, node, likely);
     let child = next_of(host, children, range, w, slot, node, above, &d).unwrap();
     let above = ways_with(above, &d);
-    place_below(host, children, range, w, slot, child, above, likely)
+    place_below(host, children, all, range, w, slot, child, above, likely)
 }
 
 /// Where a slot goes on from a node that is no endpoint.

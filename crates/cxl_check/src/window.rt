@@ -5,12 +5,11 @@ ghost use Rattle.cxl_topo.specs.Tree.{is_endpoint_at};
 ghost use Rattle.cxl_model.specs.Hosts.{as_system};
 ghost use Rattle.cxl_model.specs.Ranges.{lies_within, span_kind};
 ghost use Rattle.cxl_model.specs.Rules.{starts_in_thirds, keeps_window};
-ghost use Rattle.cxl_model.specs.Accepted.{IsOrderlySystem};
 ghost use Rattle.cxl_regs.specs.Reading.{range_of};
+ghost use Rattle.cxl_check.specs.inner.DecoderFacts.{AreDecoderFacts};
 ghost use Rattle.cxl_check.specs.inner.Known.{IsKnownAs};
-ghost use Rattle.cxl_check.specs.inner.Ready.{IsCommitted};
 
-use crate::kind::span_kind;
+use crate::decoder_facts::{DecoderFacts, kind_of};
 use crate::known::{Known, window_of};
 use cxl_enc::UNIT;
 use cxl_model::Host;
@@ -19,11 +18,17 @@ use cxl_window::{Window, permits};
 
 /// K9 of a committed decoder: its range lies in a usable window, in thirds where it must, and an endpoint's span is of a
 /// kind that the window permits.
-pub(crate) fn keeps_window(host: &Host, known: &Known, node: u32, i: u8, d: &Decoder) -> bool
-    requires ready { IsOrderlySystem (as_system host.now) }
+pub(crate) fn keeps_window(
+    host: &Host,
+    known: &Known,
+    facts: &DecoderFacts,
+    node: u32,
+    i: u8,
+    d: &Decoder,
+) -> bool
     requires known { IsKnownAs (as_system host.now) (range_of d.now) known.now }
     requires here { node < length host.now.topo.now.nodes }
-    requires committed { IsCommitted (as_system host.now) node i d.now }
+    requires facts { AreDecoderFacts (as_system host.now) node i d.now facts.now }
     ensures { result ≡ keeps_window (as_system host.now) node i d.now }
 {
     let range = d.range();
@@ -31,7 +36,7 @@ pub(crate) fn keeps_window(host: &Host, known: &Known, node: u32, i: u8, d: &Dec
         return false;
     };
     starts_in_thirds(w, &range)
-        && (!host.topo.is_endpoint(node) || permits(w, span_kind(host, node, i)))
+        && (!host.topo.is_endpoint(node) || permits(w, kind_of(host, facts, node, i, d)))
 }
 
 /// The number of the usable window in which a range lies, or how many windows there are where there is none.

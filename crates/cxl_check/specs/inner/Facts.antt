@@ -7,6 +7,7 @@ use Rattle.cxl_regs.specs.Reading.{decoder_ways}
 use Rattle.cxl_check.specs.declared.facts.RangeFacts.{RangeFacts}
 use Rattle.cxl_check.specs.declared.tables.Tables.{Tables}
 use Rattle.cxl_check.specs.inner.Children.{AreAllChildren}
+use Rattle.cxl_check.specs.inner.DecoderFacts.{AreAllFacts}
 use Rattle.cxl_check.specs.inner.Firsts.{ListsFirsts, AreLandings}
 use Rattle.std.specs.Prelude.{length}
 use Rattle.cxl_model.specs.System.{System}
@@ -36,3 +37,4 @@ pub record AreSystemTables (s : System) (tables : Tables) : Type 0 where
   pub children : AreAllChildren s.nodes tables.children.items
   pub landings : AreLandings s.nodes tables.landings.items
   pub firsts : ListsFirsts s (length s.nodes) tables.firsts
+  pub decoders : AreAllFacts s tables.decoders.items

@@ -3,7 +3,7 @@ use Rattle.std.proofs.lemmas.Option.{same_Some}
 use Rattle.cxl_topo.specs.Tree.{is_endpoint_at}
 use Rattle.cxl_span.specs.Spans.{span_start_of}
 use Rattle.cxl_model.specs.Hosts.{as_system}
-use Rattle.cxl_model.specs.System.{decoders_at}
+use Rattle.cxl_model.specs.System.{decoders_at, decoder_at}
 use Rattle.cxl_model.specs.Ranges.{index_for, ways_above}
 use Rattle.cxl_model.specs.Regions.{LeadsTo, at_endpoint}
 use Rattle.cxl_model.specs.declared.found.Place.{Place}
@@ -24,11 +24,12 @@ pub next_of-requires-clause-here : goal.next_of-requires-clause-here
 next_of-requires-clause-here t c =
     within (as_system c.args.host.now) c.args.w.now c.args.range.now c.args.slot c.count-count.ensures.tree c.args.node c.requires.some.0 c.requires.some.1
 
-pub span_start-requires-clause-committed : goal.span_start-requires-clause-committed
-span_start-requires-clause-committed t c =
+pub facts_at-facts-requires-clause-committed : goal.facts_at-facts-requires-clause-committed
+facts_at-facts-requires-clause-committed t c =
     let s = as_system c.args.host.now in
     let at : index_for s c.args.range.now c.args.node ≡ Some c.unwrap-i.result = sym c.index_for.ensures ∙ c.unwrap-i.ensures in
-    is_committed s c.args.range.now c.args.node c.unwrap-i.result at
+    let there : decoder_at s c.args.node c.unwrap-i.result ≡ Some c.decoder-d.result = rw c.block.ensures.value c.decoder-d.ensures.value in
+    record { there = there; committed = rw there at (is_committed s c.args.range.now c.args.node c.unwrap-i.result at) }
 
 pub unwrap-i-requires : goal.unwrap-i-requires
 unwrap-i-requires t c =
@@ -38,15 +39,15 @@ unwrap-i-requires t c =
     let i = some_and (index_for s c.args.range.now c.args.node) (λ (i : ℕ). c.requires.some.0.start ≡ span_start_of (decoders_at s c.args.node) i) ends.start in
     rw (c.index_for.ensures ∙ i.1) refl
 
-pub span_start-requires-clause-endpoint : goal.span_start-requires-clause-endpoint
-span_start-requires-clause-endpoint t c = sym c.is_endpoint.ensures ∙ c.if-is_endpoint.true
+pub start_of-requires-clause-endpoint : goal.start_of-requires-clause-endpoint
+start_of-requires-clause-endpoint t c = sym c.is_endpoint.ensures ∙ c.if-is_endpoint.true
 
 pub returns-then-is_endpoint : goal.returns-then-is_endpoint
 returns-then-is_endpoint t c =
     let s = as_system c.args.host.now in
-    let place : Place = record { endpoint = c.args.node; start = c.span_start.result } in
+    let place : Place = record { endpoint = c.args.node; start = c.start_of.result } in
     let at : index_for s c.args.range.now c.args.node ≡ Some c.unwrap-i.result = sym c.index_for.ensures ∙ c.unwrap-i.ensures in
-    at_endpoint place (sym c.is_endpoint.ensures ∙ c.if-is_endpoint.true) (rw at c.span_start.ensures)
+    at_endpoint place (sym c.is_endpoint.ensures ∙ c.if-is_endpoint.true) (rw at c.start_of.ensures)
 
 pub unwrap-child-requires : goal.unwrap-child-requires
 unwrap-child-requires t c =
@@ -72,7 +73,7 @@ place_below-requires t c =
     ∙ ways_below s c.args.range.now c.args.node c.unwrap-child.result parent.0 ((c.tree_laws.ensures.laws s.nodes tree).ports c.unwrap-child.result) parent.1 parent.2 in
     let few = ways_few_up s c.args.range.now c.unwrap-child.result ((c.tree_laws.ensures.laws s.nodes tree).few_ports c.unwrap-child.result) in
     let above : AreWaysAbove s c.args.range.now c.unwrap-child.result c.ways_with-above.result = record { is = ways; some = c.ways_with-above.ensures.some; few = omega (arith, ways, few) } in
-    (omega (arith, c.decreases), (c.requires.ready, (c.requires.children, (above, (c.requires.some.0, subst (λ (n : ℕ). LeadsTo s c.args.w.now c.args.range.now c.args.slot n c.requires.some.0) same goes.leads)))))
+    (omega (arith, c.decreases), (c.requires.ready, (c.requires.children, (c.requires.all, (above, (c.requires.some.0, subst (λ (n : ℕ). LeadsTo s c.args.w.now c.args.range.now c.args.slot n c.requires.some.0) same goes.leads))))))
 
 pub returns : goal.returns
 returns t c =

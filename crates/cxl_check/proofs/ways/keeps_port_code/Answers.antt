@@ -8,5 +8,5 @@ use Rattle.cxl_check.proofs.ways.keeps_port_code.Goals as goal
 pub returns-else-interleave_ways-eq1 : goal.returns-else-interleave_ways-eq1
 returns-else-interleave_ways-eq1 c =
     let many : (decoder_ways c.args.d.now == 1) ≡ false = ne_eqb (decoder_ways c.args.d.now) 1 (λ one. c.if-interleave_ways-eq1.false (c.interleave_ways.ensures.value ∙ one)) in
-    let level = (rw c.range.ensures at c.port_level-level.ensures) (as_system c.args.host.now) c.requires.facts in
+    let level = c.port_level-level.ensures (as_system c.args.host.now) c.requires.facts in
     rw (many, c.from.ensures, level) refl

@@ -1,0 +1,109 @@
+-- What is worked out of decoders, one after the other.
+use Rattle.std.proofs.Common.{◌≡◌, ℕ, ◌+◌, ◌*◌, ◌<◌, ◌≤◌, true, false, List, length, get_or, set, Some, sym, ap, subst, ◌∙◌, inl, inr, arith}
+use Rattle.std.specs.Prelude.{◌&&◌, ◌==◌}
+use Rattle.std.proofs.lemmas.Bool.{cases_lt, cases_eq, false≢true, and_parts}
+use Rattle.std.proofs.lemmas.List.{get_or-set_same, get_or-set_other, length-set}
+use Rattle.std.proofs.lemmas.Option.{same_Some, slice_get_within}
+use Rattle.cxl_regs.specs.declared.decoder.Decoder.{Decoder}
+use Rattle.cxl_regs.specs.declared.reading.Range.{Range}
+use Rattle.cxl_regs.specs.Reading.{has_range, range_of}
+use Rattle.cxl_model.specs.System.{System, decoders_at, decoder_at}
+use Rattle.cxl_model.specs.Ranges.{decoder_for, index_for, ways_above, bits_above}
+use Rattle.cxl_check.specs.declared.decoder_facts.DecoderFacts.{DecoderFacts}
+use Rattle.cxl_check.specs.inner.DecoderFacts.{AreDecoderFacts, AreFactsBefore}
+use Rattle.cxl_check.proofs.FirstFacts.{range_is}
+use Rattle.cxl_check.proofs.Searches.{find_by_position, passes_at}
+
+-- what is worked out of the parent's decoder of a range
+pub record AreParentFacts (s : System) (r : Range) (p i : ℕ) (all : List DecoderFacts) : Type 0 where
+  pub d : Decoder
+  pub there : decoder_at s p i ≡ Some d
+  pub has : decoder_for s r p ≡ Some d
+  pub ways : (other : DecoderFacts) → (get_or all (10 * p + i) other).ways ≡ ways_above s r p
+  pub bits : (other : DecoderFacts) → (get_or all (10 * p + i) other).bits ≡ bits_above s r p
+
+module _ (s : System) where
+  -- no decoder stands before the first place
+  pub none_worked : (all : List DecoderFacts) → length all ≡ 10 * length s.nodes → AreFactsBefore s 0 all
+  none_worked all long = record { count = long; each = λ n i d other below. absurd (omega (arith, below)) }
+
+  -- a decoder is that of its place
+  one_place : (m j n i : ℕ) (e d : Decoder) → 10 * m + j ≡ 10 * n + i → j < 10 → i < 10 → decoder_at s m j ≡ Some e → decoder_at s n i ≡ Some d → (m ≡ n) × (j ≡ i) × (e ≡ d)
+  one_place m j n i e d same low few here there =
+      let node : m ≡ n = omega (arith, same, low, few) in
+      let number : j ≡ i = omega (arith, same, low, few) in
+      (node, number, same_Some e d (sym here ∙ ap (λ (k : ℕ). decoder_at s k j) node ∙ ap (λ (k : ℕ). decoder_at s n k) number ∙ there))
+
+  module _ (n i : ℕ) (d : Decoder) (few : i < 10) (there : decoder_at s n i ≡ Some d) where
+    -- of one that is not committed nothing is worked out
+    pub idle_more : (all : List DecoderFacts) → d.committed ≡ false → AreFactsBefore s (10 * n + i) all → AreFactsBefore s (10 * n + (i + 1)) all
+    idle_more all idle before = record {
+      count = before.count;
+      each = λ m j e other below low here committed.
+          elim (cases_lt (10 * m + j) (10 * n + i)) [
+            | inl earlier ↦ before.each m j e other earlier low here committed
+            | inr at ↦
+                let one = one_place m j n i e d (omega (arith, below, at)) low few here there in
+                absurd (false≢true (sym idle ∙ ap (λ (x : Decoder). x.committed) (sym one.2) ∙ committed))
+          ];
+    }
+
+    -- another is entered at its place
+    pub one_worked : (old new : List DecoderFacts) (facts : DecoderFacts) → n < length s.nodes → AreDecoderFacts s n i d facts → AreFactsBefore s (10 * n + i) old → new ≡ set old (10 * n + i) facts
+        → AreFactsBefore s (10 * n + (i + 1)) new
+    one_worked old new facts inside are before is = record {
+      count = ap length is ∙ length-set old (10 * n + i) facts ∙ before.count;
+      each = λ m j e other below low here committed.
+          subst (λ (xs : List DecoderFacts). AreDecoderFacts s m j e (get_or xs (10 * m + j) other)) (sym is) (at m j e other below low here committed);
+    }
+      where
+        own : (m j : ℕ) (e : Decoder) → m ≡ n → j ≡ i → e ≡ d → AreDecoderFacts s m j e facts
+        own m j e node number one =
+            subst (λ (k : ℕ). AreDecoderFacts s k j e facts) (sym node)
+            (subst (λ (k : ℕ). AreDecoderFacts s n k e facts) (sym number)
+            (subst (λ (x : Decoder). AreDecoderFacts s n i x facts) (sym one) are))
+
+        at : (m j : ℕ) (e : Decoder) (other : DecoderFacts) → 10 * m + j < 10 * n + (i + 1) → j < 10 → decoder_at s m j ≡ Some e → e.committed ≡ true
+            → AreDecoderFacts s m j e (get_or (set old (10 * n + i) facts) (10 * m + j) other)
+        at m j e other below low here committed =
+            elim (cases_eq (10 * m + j) (10 * n + i)) [
+              | inl same ↦
+                  let one = one_place m j n i e d same low few here there in
+                  let wide : 10 * n + i < length old = omega (arith, before.count, inside, few) in
+                  let read : get_or (set old (10 * n + i) facts) (10 * m + j) other ≡ facts =
+                  ap (λ (k : ℕ). get_or (set old (10 * n + i) facts) k other) same ∙ get_or-set_same old (10 * n + i) facts other wide in
+                  subst (λ (f : DecoderFacts). AreDecoderFacts s m j e f) (sym read) (own m j e one.0 one.1 one.2)
+              | inr apart ↦
+                  subst (λ (f : DecoderFacts). AreDecoderFacts s m j e f) (sym (get_or-set_other old (10 * n + i) (10 * m + j) facts other apart))
+                  (before.each m j e other (omega (arith, below, apart)) low here committed)
+            ]
+
+  -- past its decoders a node has none
+  pub node_worked : (n k : ℕ) (all : List DecoderFacts) → length (decoders_at s n) ≤ k → AreFactsBefore s (10 * n + k) all → AreFactsBefore s (10 * (n + 1)) all
+  node_worked n k all past before = record {
+    count = before.count;
+    each = λ m j e other below low here committed.
+        elim (cases_lt (10 * m + j) (10 * n + k)) [
+          | inl earlier ↦ before.each m j e other earlier low here committed
+          | inr at ↦
+              let node : m ≡ n = omega (arith, below, at, low) in
+              let within = slice_get_within (decoders_at s m) j e here in
+              let long = ap (λ (k : ℕ). length (decoders_at s k)) node in
+              absurd (omega (arith, below, at, low, node, within, long, past))
+        ];
+  }
+
+  -- what is worked out of a parent's decoder of a range speaks of that range
+  pub parent_worked : (r : Range) (place : ℕ) (all : List DecoderFacts) (p i : ℕ) → AreFactsBefore s place all → 10 * p + i < place → i < 10 → index_for s r p ≡ Some i → AreParentFacts s r p i all
+  parent_worked r place all p i before below few at =
+      let found = passes_at (has_range r) (decoders_at s p) i at in
+      let d = found.0 in
+      let committed : d.committed ≡ true = (and_parts d.committed (d.base == r.base) (and_parts (d.committed && (d.base == r.base)) (d.size == r.size) found.2).0).0 in
+      let range : range_of d ≡ r = range_is r d found.2 in
+      record {
+        d = d;
+        there = found.1;
+        has = find_by_position (has_range r) (decoders_at s p) ∙ rw at found.1;
+        ways = λ other. (before.each p i d other below few found.1 committed).ways ∙ ap (λ (q : Range). ways_above s q p) range;
+        bits = λ other. (before.each p i d other below few found.1 committed).bits ∙ ap (λ (q : Range). bits_above s q p) range;
+      }

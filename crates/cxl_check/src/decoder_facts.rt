@@ -1,0 +1,183 @@
+//! What is worked out once of each committed decoder: what the ports above its node come to for its range, from what those
+//! above its parent do, and where an endpoint's span starts and of which kind it is.
+
+ghost use Rattle.std.specs.Prelude.{◌≡◌, ◌+◌, ◌*◌, ◌^◌, ◌<◌, ◌≤◌, true, Some, length, IfOk};
+ghost use Rattle.cxl_topo.specs.Tree.{is_endpoint_at};
+ghost use Rattle.cxl_regs.specs.Reading.{decoder_ways, select_bits, range_of};
+ghost use Rattle.cxl_span.specs.Spans.{span_start_of};
+ghost use Rattle.cxl_model.specs.Hosts.{as_system};
+ghost use Rattle.cxl_model.specs.Accepted.{IsOrderlySystem};
+ghost use Rattle.cxl_model.specs.Ranges.{ways_above, bits_above, span_kind};
+ghost use Rattle.cxl_model.specs.System.{decoders_at, decoder_at};
+ghost use Rattle.cxl_check.specs.inner.DecoderFacts.{AreDecoderFacts, AreFactsBefore, AreAllFacts};
+ghost use Rattle.cxl_check.specs.inner.Ready.{IsCommitted};
+
+use crate::above::ports_above;
+use crate::decoders::index_for;
+use crate::kind::{kind_from, span_start};
+use cxl_enc::MemKind;
+use cxl_model::{Above, Host};
+use cxl_regs::{Decoder, Range};
+use cxl_topo::tree_laws;
+use std::alloc::{AllocError, Global};
+
+/// What is worked out of a committed decoder.
+#[derive(Clone, Copy)]
+pub struct DecoderFacts {
+    /// The device address at which an endpoint's span starts.
+    pub start: u64,
+    /// The ways of the decoders of the range in the ports above, multiplied.
+    pub ways: u32,
+    /// How many address bits those select on.
+    pub bits: u8,
+    /// Of which kind of memory an endpoint's span is.
+    pub kind: MemKind,
+}
+
+const NONE: DecoderFacts = DecoderFacts {
+    start: 0,
+    ways: 1,
+    bits: 0,
+    kind: MemKind::Ram,
+};
+
+/// What is worked out of all committed decoders: of decoder i of node n at place 10 * n + i. Takes memory.
+pub(crate) fn all_decoder_facts(alloc: Global, host: &Host) -> Result<Vec<DecoderFacts>, AllocError>
+    requires ready { IsOrderlySystem (as_system host.now) }
+    ensures { IfOk result (λ all. AreAllFacts (as_system host.now) all.items) }
+{
+    let count = 10 * host.topo.count();
+    let mut all = vec![in alloc; NONE; count as usize]?;
+    for node in 0..host.topo.count() {
+        enter_node(&mut all, host, node);
+    }
+    Ok(all)
+}
+
+/// Enters what is worked out of a node's committed decoders. A parent stands before its children, so its own are entered.
+fn enter_node(all: &mut Vec<DecoderFacts>, host: &Host, node: u32)
+    requires ready { IsOrderlySystem (as_system host.now) }
+    requires here { node < length host.now.topo.now.nodes }
+    requires before { AreFactsBefore (as_system host.now) (10 * node) all.old.items }
+    ensures { AreFactsBefore (as_system host.now) (10 * (node + 1)) all.new.items }
+{
+    let block = host.image.block(node);
+    for i in 0..block.count() {
+        enter_decoder(all, host, node, i, &block.decoder(i));
+    }
+}
+
+/// Enters what is worked out of a decoder, where it is committed.
+fn enter_decoder(all: &mut Vec<DecoderFacts>, host: &Host, node: u32, i: u8, d: &Decoder)
+    requires ready { IsOrderlySystem (as_system host.now) }
+    requires here { node < length host.now.topo.now.nodes }
+    requires few { i < 10 }
+    requires there { decoder_at (as_system host.now) node i ≡ Some d.now }
+    requires before { AreFactsBefore (as_system host.now) (10 * node + i) all.old.items }
+    ensures { AreFactsBefore (as_system host.now) (10 * node + (i + 1)) all.new.items }
+{
+    if !d.committed {
+        return;
+    }
+    let facts = worked_out(host, all, node, i, d);
+    all[10 * node as usize + usize::from(i)] = facts;
+}
+
+/// What is worked out of a committed decoder, from what is of those of nodes before.
+fn worked_out(host: &Host, all: &[DecoderFacts], node: u32, i: u8, d: &Decoder) -> DecoderFacts
+    requires ready { IsOrderlySystem (as_system host.now) }
+    requires here { node < length host.now.topo.now.nodes }
+    requires committed { IsCommitted (as_system host.now) node i d.now }
+    requires before { AreFactsBefore (as_system host.now) (10 * node + i) all.now }
+    ensures { AreDecoderFacts (as_system host.now) node i d.now result }
+{
+    let above = above_by_parent(host, all, &d.range(), node, i);
+    if !host.topo.is_endpoint(node) {
+        return DecoderFacts {
+            start: 0,
+            ways: above.ways,
+            bits: above.bits as u8,
+            kind: MemKind::Ram,
+        };
+    }
+    let start = span_start(host, node, i);
+    DecoderFacts {
+        start,
+        ways: above.ways,
+        bits: above.bits as u8,
+        kind: kind_from(host, node, i, start),
+    }
+}
+
+/// The decoders of a range in the ports above a node, together, by what is worked out of its parent's where that has one.
+fn above_by_parent(host: &Host, all: &[DecoderFacts], range: &Range, node: u32, likely: u8) -> Above
+    requires ready { IsOrderlySystem (as_system host.now) }
+    requires here { node < length host.now.topo.now.nodes }
+    requires before { AreFactsBefore (as_system host.now) (10 * node + likely) all.now }
+    ensures ways { result.ways ≡ ways_above (as_system host.now) range.now node }
+    ensures bits { result.bits ≡ bits_above (as_system host.now) range.now node }
+    ensures few_ways { result.ways ≤ 2 ^ 20 }
+    ensures few_bits { result.bits ≤ 20 }
+{
+    tree_laws();
+    let _count = host.topo.count();
+    let Some(parent) = host.topo.node(node).parent else {
+        return Above { ways: 1, bits: 0 };
+    };
+    let Some(i) = index_for(host, range, parent.node, likely) else {
+        return ports_above(host, range, node, likely);
+    };
+    let block = host.image.block(parent.node);
+    let _decoders = block.count();
+    let above = all[10 * parent.node as usize + usize::from(i)];
+    with_port(&block.decoder(i), &above)
+}
+
+/// A port's decoder with those in the ports above it.
+fn with_port(d: &Decoder, above: &DecoderFacts) -> Above
+    requires few_ways { above.now.ways ≤ 2 ^ 20 }
+    requires few_bits { above.now.bits ≤ 16 }
+    ensures ways { result.ways ≡ decoder_ways d.now * above.now.ways }
+    ensures bits { result.bits ≡ select_bits d.now.ways + above.now.bits }
+    ensures few_bits { result.bits ≤ 20 }
+{
+    Above {
+        ways: u32::from(d.interleave_ways()) * above.ways,
+        bits: u32::from(d.select_bits()) + u32::from(above.bits),
+    }
+}
+
+/// What is worked out of a committed decoder, from the table.
+pub(crate) fn facts_at(
+    host: &Host,
+    all: &[DecoderFacts],
+    node: u32,
+    i: u8,
+    d: &Decoder,
+) -> DecoderFacts
+    requires here { node < length host.now.topo.now.nodes }
+    requires committed { IsCommitted (as_system host.now) node i d.now }
+    requires all { AreAllFacts (as_system host.now) all.now }
+    ensures { AreDecoderFacts (as_system host.now) node i d.now result }
+{
+    let _decoders = host.image.block(node).count();
+    all[10 * node as usize + usize::from(i)]
+}
+
+/// Of which kind the span of an endpoint's committed decoder is, by what is worked out of it.
+pub(crate) fn kind_of(host: &Host, facts: &DecoderFacts, node: u32, i: u8, d: &Decoder) -> MemKind
+    requires facts { AreDecoderFacts (as_system host.now) node i d.now facts.now }
+    requires endpoint { is_endpoint_at host.now.topo.now.nodes node ≡ true }
+    ensures { result ≡ span_kind (as_system host.now) node i }
+{
+    facts.kind
+}
+
+/// The device address at which that span starts.
+pub(crate) fn start_of(host: &Host, facts: &DecoderFacts, node: u32, i: u8, d: &Decoder) -> u64
+    requires facts { AreDecoderFacts (as_system host.now) node i d.now facts.now }
+    requires endpoint { is_endpoint_at host.now.topo.now.nodes node ≡ true }
+    ensures { result ≡ span_start_of (decoders_at (as_system host.now) node) i }
+{
+    facts.start
+}
