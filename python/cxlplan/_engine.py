@@ -1,7 +1,7 @@
 """The one way to the proved calls: the library where it is found, else the program as a process.
 
-An engine answers each form of the program over bytes as (status, text), opens sessions, and tells trees, windows, decoders and
-breaches as facts. Nothing here works out what a form answers."""
+An engine answers each form of the program over bytes as (status, text), and opens sessions, which are the program's. Trees, windows,
+decoders and all places of a broken rule the library alone tells, as facts. Nothing here works out what a form answers."""
 
 import os
 import shutil

@@ -208,7 +208,7 @@ class Engines(Case):
             imported = [it.name for node in ast.walk(tree) if isinstance(node, ast.Import) for it in node.names]
             imported += [node.module for node in ast.walk(tree) if isinstance(node, ast.ImportFrom) and not node.level]
             known = getattr(sys, "stdlib_module_names", [it.split(".")[0] for it in imported])
-            self.assertEqual([it for it in imported if it.split(".")[0] not in (*known, "cxlplan", "tomli")], [], name)
+            self.assertEqual([it for it in imported if it.split(".")[0] not in (*known, "cxlplan")], [], name)
 
     def test_named(self):
         self.assertTrue(issubclass(NoEngine, Exception))
