@@ -10,8 +10,8 @@ ghost use Rattle.cxl_inputs.specs.File.{AsksForSome};
 ghost use Rattle.cxl_inputs.specs.Host.{AreRead, HasNoHost};
 ghost use Rattle.cxl_inputs.specs.Stop.{IsStop};
 
+use crate::both::fetch_both;
 use crate::image::fetch_image;
-use crate::reset_host::fetch_both;
 use crate::stop::Stop;
 use crate::table_windows::text_windows;
 use cxl_cedt::{Cedt, TableText};

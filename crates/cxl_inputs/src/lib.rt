@@ -1,6 +1,7 @@
 //! The files that commands read, and how a command ends, early or well.
 #![tactic(auto)]
 
+mod both;
 mod faults;
 mod file;
 mod host;

@@ -11,35 +11,15 @@ ghost use Rattle.cxl_inputs.specs.File.{AsksForSome};
 ghost use Rattle.cxl_inputs.specs.ResetHost.{AreBothRead, HasNoResetHost};
 ghost use Rattle.cxl_inputs.specs.Stop.{IsStop};
 
+use crate::both::fetch_both;
 use crate::host::OwnedHost;
 use crate::stop::Stop;
-use crate::table::fetch_table;
-use crate::topology::fetch_topology;
 use cxl_cedt::TableText;
 use cxl_image::Image;
 use cxl_io::{Fetch, Memory};
 use cxl_model::reset_hosts_are_accepted;
 use cxl_topo::Topo;
 use std::alloc::Global;
-
-/// A table, and a topology that is asked for behind it. It stops at the first that has no reading.
-pub(crate) fn fetch_both<F: Fetch>(
-    alloc: Global,
-    cedt: &str,
-    topo: &str,
-    files: &mut F,
-) -> Result<(TableText, Topo), Stop>
-    ensures read { IfOk result (λ both. AreBothRead (F.state files.old).told cedt.now topo.now both.0 both.1) }
-    ensures asked { OnOk result (AsksFor (F.state files.old) (F.state files.new) (cedt.now ∷ topo.now ∷ [])) }
-    ensures stops { IfErr result (IsStop (HasNoResetHost cedt.now topo.now (F.state files.old) (F.state files.new))
-        (AsksForSome (cedt.now ∷ topo.now ∷ []) (F.state files.old) (F.state files.new))) }
-    ensures counts { (F.state files.old).faults ≤ (F.state files.new).faults }
-    ensures stays { (F.state files.new).told ≡ (F.state files.old).told }
-{
-    let table = fetch_table(alloc, cedt, files)?;
-    let topo = fetch_topology(alloc, topo, files)?;
-    Ok((table, topo))
-}
 
 /// The host of a table and a topology after reset; the table is read before the topology is asked for. It
 /// stops at the first that has no reading.

@@ -6,7 +6,7 @@ use Rattle.cxl_inputs.specs.Table.{HasNoTable}
 use Rattle.cxl_inputs.specs.Topology.{HasNoTree}
 use Rattle.cxl_inputs.proofs.Hosts.{asks_behind, tree_behind, first_of_two, second_of_two}
 use Rattle.cxl_inputs.proofs.Stops.{stopped-behind}
-use Rattle.cxl_inputs.proofs.reset_host.fetch_both.Goals as goal
+use Rattle.cxl_inputs.proofs.both.fetch_both.Goals as goal
 
 pub returns-in_err-table-clause-stops : goal.returns-in_err-table-clause-stops
 returns-in_err-table-clause-stops g c =
