@@ -6,7 +6,7 @@ use Rattle.cxl_table.specs.CedtFields.{CedtFields}
 use Rattle.cxl_cedt.specs.declared.fault.CedtFault.{CedtFault}
 use Rattle.cxl_image.specs.declared.fault.ImageFault.{ImageFault}
 use Rattle.cxl_inputs.specs.Ends.{IsWritten, IsCutShort}
-use Rattle.cxl_inputs.specs.File.{HasNoBytes, not_read, not_small, AsksForSome, HasFailed}
+use Rattle.cxl_inputs.specs.File.{HasNoBytes, not_read, not_small, AsksForSome, HasFailedFetch}
 use Rattle.cxl_inputs.specs.Host.{host_of, AreRead}
 use Rattle.cxl_inputs.specs.Host as hosts
 use Rattle.cxl_inputs.specs.Image.{IsFaultyImageFile}
@@ -139,7 +139,7 @@ module _ (old new : Outside) where
   pub data Came (form : Form) : Status → Type 0 where
     misused : (form ≡ Unreadable) ⊎ (form ≡ NoCreate) → Came form Usage
     helped : (ask : WordsAsk) → form ≡ OfWords ask → AsksFor old.files new.files [] → Came form Done
-    unread : HasFailed (own_files form) old.files new.files → Came form FetchFault
+    unread : HasFailedFetch (own_files form) old.files new.files → Came form FetchFault
     large : (file : List ℕ) → Contains (own_files form) file → IsTooLarge (old.files.told file) → Came form TooLarge
     faulty : (file : List ℕ) (fault : CedtFault) → table_file form ≡ Some file → IsFaultyFile (old.files.told file) fault → Came form (BadTable fault)
     faulty_tree : (file : List ℕ) (fault : TopoFault) → topology_file form ≡ Some file → IsFaultyTreeFile (old.files.told file) fault → Came form (BadTopo fault)
@@ -300,7 +300,7 @@ module _ (old new : Outside) where
   pub usage_asked : (form : Form) → Came form Usage → (form ≡ Unreadable) ⊎ (form ≡ NoCreate)
   usage_asked form (misused is) = is
 
-  pub fetch_failed : (form : Form) → Came form FetchFault → HasFailed (own_files form) old.files new.files
+  pub fetch_failed : (form : Form) → Came form FetchFault → HasFailedFetch (own_files form) old.files new.files
   fetch_failed form (unread failed) = failed
 
   pub large_told : (form : Form) → Came form TooLarge → (file : List ℕ) × Contains (own_files form) file × IsTooLarge (old.files.told file)

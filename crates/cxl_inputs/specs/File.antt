@@ -25,7 +25,7 @@ pub record AsksForSome (names : List (List ℕ)) (old new : FetchState) : Type 0
   pub asks : AsksFor old new (take count names)
 
 -- one of these names is the last that is asked for, and that failed
-pub record HasFailed (names : List (List ℕ)) (old new : FetchState) : Type 0 where
+pub record HasFailedFetch (names : List (List ℕ)) (old new : FetchState) : Type 0 where
   pub before : List (List ℕ)
   pub file : List ℕ
   pub after : List (List ℕ)

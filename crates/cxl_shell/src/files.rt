@@ -11,7 +11,7 @@ ghost use Rattle.cxl_enc.specs.Limits.{file_limit};
 ghost use Rattle.cxl_image.specs.File.{HasImage};
 ghost use Rattle.cxl_image.specs.Images.{IsImage, HasCapsOf};
 ghost use Rattle.cxl_image.specs.declared.fault.ImageFault.{ImageFault};
-ghost use Rattle.cxl_inputs.specs.File.{AsksForSome, HasFailed};
+ghost use Rattle.cxl_inputs.specs.File.{AsksForSome, HasFailedFetch};
 ghost use Rattle.cxl_inputs.specs.Image.{IsFaultyImage, IsFaultyImageFile};
 ghost use Rattle.cxl_inputs.specs.Table.{IsFaulty, IsFaultyFile};
 ghost use Rattle.cxl_inputs.specs.Topology.{IsFaultyTree, IsFaultyTreeFile, HasTree};
@@ -41,7 +41,7 @@ pub fn file_statuses()
     // Status 2 comes only where asking for one of the command's own files failed. A first file that is
     // known not to be there gives it, unless that is not written.
     ensures fetch_fault { EachRun (λ form old new before after status. status ≡ Status.FetchFault
-        → HasFailed (own_files form) old.files new.files) }
+        → HasFailedFetch (own_files form) old.files new.files) }
     ensures absent { EachRun (λ form old new before after status. (file : List ℕ) (others : List (List ℕ))
         → own_files form ≡ file ∷ others → old.files.told file ≡ Absent
         → (status ≡ Status.FetchFault) ⊎ IsUnwritten status old.out new.out) }

@@ -2,6 +2,6 @@ pub mod FirstLines
 pub mod Silent
 pub mod Loads
 pub mod Going
-pub mod Carried
+pub mod CarriedOut
 pub mod Runs
 pub mod Counting

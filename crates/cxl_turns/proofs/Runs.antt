@@ -33,10 +33,10 @@ use Rattle.cxl_turns.specs.declared.stops.LineStop.{LineStop}
 use Rattle.cxl_turns.specs.declared.stops.LineStop.TheVariants as stops
 use Rattle.cxl_turns.specs.Going.{HasGoneOn}
 use Rattle.cxl_turns.specs.Endings.{StopsReading, IsCutBehind, EndsLines, read_out, reply_cut, runs_out}
-use Rattle.cxl_turns.specs.inner.Carried.{IsAnswered, IsCutOff, IsLeft}
+use Rattle.cxl_turns.specs.inner.CarriedOut.{IsAnswered, IsCutOff, IsLeft}
 use Rattle.cxl_turns.proofs.FirstLines.{GoesOnOrEnds, first_lines, first_but_last, no_first_lines, goes_on_or_ends, fault_rose}
 use Rattle.cxl_turns.proofs.Going.{nodes_after, text_both, gone_same, gone_still, gone_both}
-use Rattle.cxl_turns.proofs.Carried.{answered_none, takes_none}
+use Rattle.cxl_turns.proofs.CarriedOut.{answered_none, takes_none}
 
 -- what all have come to
 pub record Stage : Type 0 where

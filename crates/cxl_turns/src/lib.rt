@@ -1,7 +1,7 @@
 //! Lines of a script, and commands that are counted, carried out over an open session.
 #![tactic(auto)]
 
-mod carrying;
+mod carrying_out;
 mod commands;
 mod counts;
 mod endings;

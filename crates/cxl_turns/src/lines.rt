@@ -6,7 +6,7 @@ ghost use Rattle.cxl_session.specs.Standing.{Stands, ForEachMachine};
 ghost use Rattle.cxl_turns.specs.Endings.{EndsLines};
 ghost use Rattle.cxl_turns.specs.Going.{HasGoneOn};
 
-use crate::carrying::{carry_out_line, tell_bad_line};
+use crate::carrying_out::{carry_out_line, tell_bad_line};
 use crate::endings::Ending;
 use crate::stops::LineStop;
 use cxl_bus::Regs;

@@ -22,7 +22,7 @@ use Rattle.cxl_machine.proofs.Leaving.{quiet_turn}
 use Rattle.cxl_machine.proofs.WritingNothing.{quiet_words}
 use Rattle.cxl_session.specs.State.{SessionState}
 use Rattle.cxl_session.specs.Standing.{StandsFor, IsAt, HasTaken}
-use Rattle.cxl_turns.specs.inner.Carried.{IsAnswered, IsCutOff, IsLeft}
+use Rattle.cxl_turns.specs.inner.CarriedOut.{IsAnswered, IsCutOff, IsLeft}
 use Rattle.cxl_turns.proofs.Going.{text_one, gone_none, gone_one, gone_same}
 use Rattle.cxl_turns.proofs.Silent.{silent_turn}
 

@@ -8,7 +8,7 @@ ghost use Rattle.cxl_machine.specs.Machine.{Machine};
 ghost use Rattle.cxl_machine.specs.Scripts.{lines_asked};
 ghost use Rattle.cxl_session.specs.Standing.{IsAt, Stands, ForEachMachine};
 ghost use Rattle.cxl_turns.specs.declared.stops.LineStop.TheVariants as stops;
-ghost use Rattle.cxl_turns.specs.inner.Carried.{IsAnswered, IsCutOff, IsLeft};
+ghost use Rattle.cxl_turns.specs.inner.CarriedOut.{IsAnswered, IsCutOff, IsLeft};
 
 use crate::replies::write_reply;
 use crate::stops::LineStop;

@@ -1,8 +1,8 @@
 use Rattle.std.proofs.Common.{[], sym, ap, subst}
 use Rattle.cxl_machine.specs.Scripts.{asked_before}
-use Rattle.cxl_turns.specs.inner.Carried.{IsAnswered}
-use Rattle.cxl_turns.proofs.Carried.{answered_none}
-use Rattle.cxl_turns.proofs.carrying.carry_out_line.Goals as goal
+use Rattle.cxl_turns.specs.inner.CarriedOut.{IsAnswered}
+use Rattle.cxl_turns.proofs.CarriedOut.{answered_none}
+use Rattle.cxl_turns.proofs.carrying_out.carry_out_line.Goals as goal
 
 pub returns-in-Ok-None-clause-answered : goal.returns-in-Ok-None-clause-answered
 returns-in-Ok-None-clause-answered g c = λ m at.

@@ -1,7 +1,7 @@
 use Rattle.std.proofs.Common.{Ok, sym, ap, ◌∙◌}
 use Rattle.cxl_topo.specs.Tree.{Tree}
-use Rattle.cxl_turns.proofs.Carried.{on_ok, answered_one, cut_one, left_one, left_untouched}
-use Rattle.cxl_turns.proofs.carrying.carry_out_command.Goals as goal
+use Rattle.cxl_turns.proofs.CarriedOut.{on_ok, answered_one, cut_one, left_one, left_untouched}
+use Rattle.cxl_turns.proofs.carrying_out.carry_out_command.Goals as goal
 
 pub returns-clause-answered : goal.returns-clause-answered
 returns-clause-answered g c =

@@ -1,8 +1,8 @@
 use Rattle.std.proofs.Common.{Err, refl, sym, ap, ◌∙◌}
 use Rattle.cxl_topo.specs.Tree.{Tree}
 use Rattle.cxl_reply.specs.declared.reply.Reply.TheVariants as replies
-use Rattle.cxl_turns.proofs.Carried.{on_ok, answered_one, bad_turn, bad_taken}
-use Rattle.cxl_turns.proofs.carrying.tell_bad_line.Goals as goal
+use Rattle.cxl_turns.proofs.CarriedOut.{on_ok, answered_one, bad_turn, bad_taken}
+use Rattle.cxl_turns.proofs.carrying_out.tell_bad_line.Goals as goal
 
 pub returns-clause-answered : goal.returns-clause-answered
 returns-clause-answered g c =
