@@ -1,9 +1,12 @@
--- What is told of an accepted image over which no session opens.
+-- What is told of an image over which no session opens.
 use Rattle.std.proofs.Common.{◌≡◌, ℕ, ◌<◌, Result, Ok, Err, refl, subst}
+use Rattle.std.specs.Prelude.{⊤}
 use Rattle.cxl_check.specs.declared.fault.Breach.{Breach}
 use Rattle.cxl_commands.specs.commands.RefusedStart.{too_many_regions}
+use Rattle.cxl_commands.specs.inner.Reports.{TellsBreach}
 use Rattle.cxl_inputs.specs.Ends.{Finishes}
 use Rattle.cxl_inputs.specs.Outcome.{Outcome}
+use Rattle.cxl_inputs.specs.Stop.{IsStop}
 use Rattle.cxl_inputs.specs.declared.status.Status.{Status}
 use Rattle.cxl_inputs.specs.declared.stop.Stop.{Stop}
 use Rattle.cxl_inputs.specs.declared.stop.Stop.TheVariants as stop
@@ -13,7 +16,7 @@ use Rattle.cxl_machine.specs.declared.fault.OpenFault.TheVariants as faults
 use Rattle.cxl_model.specs.Listed.{region_limit}
 use Rattle.cxl_model.specs.System.{System}
 use Rattle.cxl_opening.specs.Opening.{HasRegions}
-use Rattle.cxl_held.specs.Sessions.{IsRefused, full, unmade}
+use Rattle.cxl_held.specs.Sessions.{IsRefused, breach, full, unmade}
 
 module _ (s : System) (old new : SinkState) (status : Status) where
   pub refused_by : (fault : OpenFault) (answer : Result Outcome Stop) → ((b : Breach) → fault ≡ faults.Breach b → ⊥)
@@ -28,3 +31,8 @@ module _ (s : System) (old new : SinkState) (status : Status) where
   refused_by faults.Bus answer whole many told never out ends = absurd (never refl)
   refused_by faults.Memory answer whole many told never out ends =
       let written = subst (λ (a : Result Outcome Stop). Finishes a status old new) (out refl) ends in unmade written.0 written.1
+
+  -- the check of the image stopped
+  pub refused_unchecked : (reason : Stop) → IsStop (TellsBreach s) ⊤ reason → Finishes (Err reason) status old new → IsRefused s status old new
+  refused_unchecked (stop.Outcome outcome) tells ends = breach outcome tells ends
+  refused_unchecked stop.Memory out ends = unmade ends.0 ends.1

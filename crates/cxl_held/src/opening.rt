@@ -11,8 +11,8 @@ ghost use Rattle.cxl_held.specs.Sessions.{IsHeldAt, IsKept, IsOpened, IsRefused,
 use crate::held::Held;
 use crate::trail_bus::TrailBus;
 use cxl_commands::checked;
-use cxl_inputs::{OwnedHost, Status, Stop, fetch_host, fetch_reset_host, finish};
-use cxl_io::{Fetch, Memory, Sink};
+use cxl_inputs::{OwnedHost, Status, fetch_host, fetch_reset_host, finish};
+use cxl_io::{Fetch, Sink};
 use cxl_media::SimMedia;
 use cxl_model::accepted_or_breach;
 use cxl_session::Session;
@@ -89,9 +89,8 @@ fn open_checked<K: Sink>(alloc: Global, host: OwnedHost, out: &mut K) -> Result<
     ensures sink { (K.state out.old).faults ≤ (K.state out.new).faults }
 {
     match checked(alloc, &host) {
-        Ok(Ok(_)) => open_accepted(alloc, host, out),
-        Ok(Err(broken)) => Err(broken.write(out)),
-        Err(Memory) => Err(finish(Err(Stop::Memory), out)),
+        Ok(_) => open_accepted(alloc, host, out),
+        Err(breach) => Err(finish(Err(breach), out)),
     }
 }
 

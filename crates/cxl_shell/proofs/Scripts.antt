@@ -1,5 +1,6 @@
 -- How a script ends: over an open session, over a host, and over the files of its form.
 use Rattle.std.proofs.Common.{◌≡◌, ◌≢◌, ◌⊎◌, ℕ, ◌<◌, ◌≤◌, true, Option, Some, None, option_map, List, [], ◌∷◌, ◌++◌, length, take, Result, Ok, Err, refl, sym, ap, subst, ◌∙◌, inl, inr, arith}
+use Rattle.std.specs.Prelude.{⊤}
 use Rattle.std.proofs.lemmas.Bool.{cases_lt}
 use Rattle.std.proofs.lemmas.List.{append-nil}
 use Rattle.cxl_bus.proofs.Failed.{fails_both}
@@ -56,6 +57,7 @@ use Rattle.cxl_commands.specs.Outside.{Outside}
 use Rattle.cxl_commands.specs.RunByFiles.{IsRunByFiles}
 use Rattle.cxl_shell.specs.Run.{by_files, unready, unopened, opened, IsRun}
 use Rattle.cxl_commands.specs.commands.RefusedStart.{breach_told, many_told, too_many_regions}
+use Rattle.cxl_commands.specs.inner.Reports.{TellsBreach}
 use Rattle.cxl_shell.specs.commands.Script.{StartsSession, bus, memory, bus_failed, status_of, ends_reading, ending_text, script_stopped}
 use Rattle.cxl_shell.specs.inner.Scripts.{EndsOver, EndsFromImage}
 use Rattle.cxl_shell.specs.inner.Scripts as over
@@ -174,6 +176,11 @@ module _ (s : System) (frames : ℕ) (before after : Devices) (old new : SinkSta
   not-opened faults.Memory answer no_breach many untouched starts rose half out unhidden tells_many tells_bus tells_memory finishes =
       let ends : (status ≡ Memory) × WritesNothing old new = subst (λ a. Finishes a status old new) (tells_memory refl) finishes in
       over.unready unread (memory (out refl).0 (out refl).1 (unhidden refl) ends.0 ends.1)
+
+-- no session opened, since the check of the host stopped
+pub not-checked : (s : System) (frames : ℕ) (before : Devices) (old new : SinkState) (status : Status) (reason : Stop) → IsStop (TellsBreach s) ⊤ reason → Finishes (Err reason) status old new → EndsFromImage s frames before before old new status
+not-checked s frames before old new status (stop.Outcome outcome) tells ends = over.broken outcome tells refl ends
+not-checked s frames before old new status stop.Memory out ends = over.whole (over.unready refl (memory (inl refl) (inl refl) (λ alone. refl) ends.0 ends.1))
 
 -- ---- over the files of a form
 

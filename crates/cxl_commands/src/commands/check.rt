@@ -1,9 +1,10 @@
 //! The command `check`.
 
-ghost use Rattle.std.specs.Prelude.{◌≡◌, ℕ, ◌<◌, ◌≤◌, ◌⊎◌, List, All, length, IfOk, IfErr, OnOk, OnErr};
+ghost use Rattle.std.specs.Prelude.{◌≡◌, ℕ, ◌<◌, ◌≤◌, ◌⊎◌, ⊤, List, All, length, IfOk, IfErr, OnOk, OnErr};
 ghost use Rattle.cxl_table.specs.CedtFields.{CedtFields};
 ghost use Rattle.cxl_inputs.specs.Ends.{Ends};
 ghost use Rattle.cxl_inputs.specs.Host.{host_of};
+ghost use Rattle.cxl_inputs.specs.Stop.{IsStop};
 ghost use Rattle.cxl_io.specs.Sink.{Takes};
 ghost use Rattle.cxl_model.specs.Accepted.{IsAccepted, HasFirstBreach};
 ghost use Rattle.cxl_model.specs.Listed.{AreRegionsByBase};
@@ -23,7 +24,7 @@ use crate::commands::BLOCK;
 use cxl_cedt::one_reading;
 use cxl_check::{Breach, CheckFault, Found};
 use cxl_image::one_image_reading;
-use cxl_inputs::{Outcome, OwnedHost, Status, fetch_host, finish};
+use cxl_inputs::{Outcome, OwnedHost, Status, Stop, fetch_host, finish};
 use cxl_io::{Fetch, Memory, Sink, writes_join};
 use cxl_lines::Lines;
 use cxl_model::accepted_or_breach;
@@ -63,31 +64,32 @@ fn report<K: Sink>(alloc: Global, host: &OwnedHost, out: &mut K) -> Status
     ensures counts { (K.state out.old).faults ≤ (K.state out.new).faults }
 {
     match checked(alloc, host) {
-        Ok(Ok(regions)) => match write_regions(alloc, &regions, &host.topo, out) {
+        Ok(regions) => match write_regions(alloc, &regions, &host.topo, out) {
             Ok(status) => status,
             Err(Memory) => Status::Memory,
         },
-        Ok(Err(broken)) => broken.write(out),
-        Err(Memory) => Status::Memory,
+        Err(stop) => finish(Err(stop), out),
     }
 }
 
-/// The regions of the host's image by rising base, or what its first breach comes to.
-pub fn checked(alloc: Global, host: &OwnedHost) -> Result<Result<Vec<Found>, Outcome>, Memory>
+/// The regions of the host's image by rising base; it stops at its first breach. Takes memory.
+pub fn checked(alloc: Global, host: &OwnedHost) -> Result<Vec<Found>, Stop>
     requires { IsSystem (system_of host.now.image host.now.topo host.now.windows.items) }
-    ensures accepted { IfOk result (λ found. OnOk found
-        (IsAccepted (system_of host.now.image host.now.topo host.now.windows.items))) }
-    ensures regions { IfOk result (λ found. IfOk found (λ regions.
-        AreRegionsByBase (system_of host.now.image host.now.topo host.now.windows.items) regions.items)) }
-    ensures told { IfOk result (λ found. IfOk found (λ regions. All (IsToldFound host.now.topo.nodes) regions.items)) }
-    ensures breach { IfOk result (λ found. IfErr found
-        (TellsBreach (system_of host.now.image host.now.topo host.now.windows.items))) }
+    ensures accepted { OnOk result (IsAccepted (system_of host.now.image host.now.topo host.now.windows.items)) }
+    ensures regions { IfOk result (λ regions.
+        AreRegionsByBase (system_of host.now.image host.now.topo host.now.windows.items) regions.items) }
+    ensures told { IfOk result (λ regions. All (IsToldFound host.now.topo.nodes) regions.items) }
+    ensures breach { IfErr result (IsStop (TellsBreach
+        (system_of host.now.image host.now.topo host.now.windows.items)) ⊤) }
 {
     findings_are_told();
     match cxl_check::check(alloc, &host.image, &host.topo, &host.windows) {
-        Ok(regions) => Ok(Ok(regions)),
-        Err(CheckFault::Breach(breach)) => Ok(Err(broken(alloc, breach, &host.topo)?)),
-        Err(CheckFault::Memory) => Err(Memory),
+        Ok(regions) => Ok(regions),
+        Err(CheckFault::Breach(breach)) => {
+            let broken = broken(alloc, breach, &host.topo)?;
+            Err(Stop::Outcome(broken))
+        }
+        Err(CheckFault::Memory) => Err(Stop::Memory),
     }
 }
 

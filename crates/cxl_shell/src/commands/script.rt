@@ -18,7 +18,7 @@ ghost use Rattle.cxl_shell.specs.inner.Scripts.{EndsOver, EndsFromImage};
 use cxl_bus::Regs;
 use cxl_commands::checked;
 use cxl_inputs::{Outcome, OwnedHost, Status, Stop, finish};
-use cxl_io::{Memory, Sink, Source};
+use cxl_io::{Sink, Source};
 use cxl_media::Roll;
 use cxl_model::{Found, accepted_or_breach};
 use cxl_session::{OpenFault, Session};
@@ -45,9 +45,8 @@ pub(crate) fn script_from_image<S: Source, K: Sink, R: Regs, M: Roll>(
     ensures bus { (R.state regs.old).faults ≤ (R.state regs.new).faults }
 {
     match checked(alloc, &host) {
-        Ok(Ok(regions)) => script_over_regions(alloc, host, regions, source, out, regs, media),
-        Ok(Err(broken)) => broken.write(out),
-        Err(Memory) => Status::Memory,
+        Ok(regions) => script_over_regions(alloc, host, regions, source, out, regs, media),
+        Err(stop) => finish(Err(stop), out),
     }
 }
 
