@@ -60,10 +60,10 @@ fn groups_of(alloc: Global, records: &[Record]) -> Result<Vec<u16>, Memory>
 }
 
 /// Adds the throttling group of a record that is a window's.
-fn add_group(groups: &mut Vec<u16>, record: &Record) -> Result<(), Memory>
-    ensures { OnOk result (groups.new.items ≡ groups.old.items ++ cons_option (group_in record.now) []) }
+fn add_group(groups: &mut Vec<u16>, item: &Record) -> Result<(), Memory>
+    ensures { OnOk result (groups.new.items ≡ groups.old.items ++ cons_option (group_in item.now) []) }
 {
-    match record {
+    match item {
         Record::Cfmws(window) => Ok(groups.push(window.qtg())?),
         _ => Ok(()),
     }

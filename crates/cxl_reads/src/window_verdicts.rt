@@ -77,19 +77,19 @@ fn has_bridge(records: &[Record], uid: u32) -> bool
     records.iter().any(|record| is_bridge_of(record, uid))
 }
 
-fn is_cxl2_bridge(record: &Record, uid: u32) -> bool
-    ensures { result ≡ is_cxl2_bridge uid record.now }
+fn is_cxl2_bridge(item: &Record, uid: u32) -> bool
+    ensures { result ≡ is_cxl2_bridge uid item.now }
 {
-    match record {
+    match item {
         Record::Chbs(chbs) => chbs.uid == uid && chbs.version == 1,
         _ => false,
     }
 }
 
-fn is_bridge_of(record: &Record, uid: u32) -> bool
-    ensures { result ≡ is_bridge_of uid record.now }
+fn is_bridge_of(item: &Record, uid: u32) -> bool
+    ensures { result ≡ is_bridge_of uid item.now }
 {
-    match record {
+    match item {
         Record::Chbs(chbs) => chbs.uid == uid,
         _ => false,
     }
