@@ -150,8 +150,10 @@ module _ (session : SessionState) (decoder : Decoder) where
   pub adds_one : (places : List ℕ) (place : ℕ) → place < length session.founds → (Contains places place → ⊥)
       → ((other : ℕ) (found : Found) → slice_get session.founds other ≡ Some found → found.base ≡ decoder.base → other ≡ place) → AddsServed session decoder places (places ++ place ∷ [])
   adds_one places place low absent alone = record {
-    are = λ are. record { each = All-append (λ (n : ℕ). n < length session.founds) places (place ∷ []) are.each (All-cons (λ (n : ℕ). n < length session.founds) place [] low (All-nil (λ (n : ℕ). n < length session.founds)));
-      once = once_more places place are.once absent };
+    are = λ are. record {
+      each = All-append (λ (n : ℕ). n < length session.founds) places (place ∷ []) are.each (All-cons (λ (n : ℕ). n < length session.founds) place [] low (All-nil (λ (n : ℕ). n < length session.founds)));
+      once = once_more places place are.once absent;
+    };
     kept = contains_front places place;
     served = λ other found at committed same. subst (Contains (places ++ place ∷ [])) (sym (alone other found at same)) (contains_last places place);
   }

@@ -127,7 +127,7 @@ fn part_at(part: &Part, places: &[u32]) -> Part
     }
 }
 
-/// The place of the region that is so far behind these.
+/// The place at an index of these, or 0 past them.
 fn place_of(places: &[u32], k: u32) -> u32
     ensures { result ≡ place_of places.now k }
 {

@@ -52,7 +52,7 @@ impl Session {
     }
 }
 
-/// Takes memory.
+/// The same region. Takes memory.
 pub(crate) fn copied_found(alloc: Global, found: &Found) -> Result<Found, Memory>
     ensures { IfOk result (λ copy. copy ≡ found.now) }
 {
