@@ -74,17 +74,16 @@ const CREATED: &str = "created r0 window 0 base 0x100000000 size 0x20000000 gran
 fn a_session_is_kept(rt: HostRuntime) {
     let alloc = rt.alloc();
     let mut out = sink(&rt, alloc);
-    let opened = Held::open_from_reset(
-        alloc,
-        "cedt",
-        "topo",
-        &mut files(&rt, alloc, b""),
-        &mut out,
-    );
+    let mut files = files(&rt, alloc, b"");
+    let opened = Held::open_from_reset(alloc, "cedt", "topo", &mut files, &mut out);
     let Ok(mut held) = opened else {
         assert!(rt; false, "it opens");
         return;
     };
+    assert!(rt;
+        files.asked().len() == 2,
+        "each of two files is asked for once"
+    );
     assert!(rt; held.words().len() == 2, "a word lets each endpoint decode");
     let status = held.act(
         alloc,
@@ -115,6 +114,10 @@ fn opens_again(rt: &impl Abort, alloc: Global, image: &[u8]) {
         assert!(rt; false, "it opens on an image");
         return;
     };
+    assert!(rt;
+        files.asked().len() == 3,
+        "each of three files is asked for once"
+    );
     let status = held.act(alloc, &mut lines(rt, alloc, "down 0x100000100\n"), &mut out);
     assert!(rt; status.code() == 0, "status of a way down");
     let told = b"down 0x100000100 region auto0 slot 1 position 1 via hb1:0:0 endpoint e1 dpa 0x0\n";
