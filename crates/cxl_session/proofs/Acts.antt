@@ -1,6 +1,6 @@
 -- The turn of one command, by what the part of the session that carries it out says.
 use Rattle.std.proofs.Common.{◌≡◌, [], Result, Ok, Err, sym, ap, ◌∙◌, subst}
-use Rattle.std.specs.Prelude.{true, false, IsOk, IfOk, IfErr, OnErr}
+use Rattle.std.specs.Prelude.{true, false, IsOk, IfOk, IfErr, OnOk, OnErr}
 use Rattle.cxl_enc.specs.declared.faults.Memory.{Memory}
 use Rattle.cxl_bus.proofs.Failed.{fails_nowhere}
 use Rattle.cxl_bus.specs.RegsState.{RegsState, IsUntouched}
@@ -101,7 +101,7 @@ untouched_by old new same = record {
 }
 
 -- what takes memory owes no answer
-pub owes_none : (command other : Command) (result : Result Reply Memory) → command ≡ other → takes_memory other ≡ true → takes_memory command ≡ false → IsOk result
+pub owes_none : {T : Type 0} (command other : Command) (result : Result T Memory) → command ≡ other → takes_memory other ≡ true → takes_memory command ≡ false → IsOk result
 owes_none command other result is takes none = let same = ap takes_memory is in absurd (cc)
 
 -- ---- what holds of each reply, or of each error
@@ -110,6 +110,10 @@ module _ {T E : Type 0} where
   pub ok_always : (result : Result T E) (P : T → Type 0) → ((x : T) → P x) → IfOk result P
   ok_always (Ok x) P all = all x
   ok_always (Err e) P all = tt
+
+  pub on_ok_always : (result : Result T E) {P : Type 0} → P → OnOk result P
+  on_ok_always (Ok x) all = all
+  on_ok_always (Err e) all = tt
 
   pub err_always : (result : Result T E) (P : E → Type 0) → ((e : E) → P e) → IfErr result P
   err_always (Ok x) P all = tt

@@ -18,6 +18,7 @@ use Rattle.cxl_walk.specs.Keeping.{KeptFields, IsKeptOf}
 use Rattle.cxl_move.specs.Sides.{IsPieceAt}
 use Rattle.cxl_move.specs.Holdings.{told_in, AreHoldings}
 use Rattle.cxl_reply.specs.declared.details.Downed.{Downed}
+use Rattle.cxl_reply.specs.declared.reply.Reply.{Reply}
 use Rattle.cxl_reply.specs.declared.reply.Reply.TheVariants as replies
 use Rattle.cxl_machine.specs.Machine.{Live, Machine, has_host, region_window}
 use Rattle.cxl_machine.specs.Sound.{IsMachine}
@@ -83,10 +84,10 @@ module _ (session : SessionState) (m : Machine) (is : IsMachine m) (h len place 
 module _ (law : WindowsThere) (hold : PiecesLaw) (session : SessionState) (m : Machine) (is : IsMachine m) (media : MediaState) (memory : HoldsMemory m media) (load : Load) (place : ℕ)
     (within : IsWithin session m load.h load.len (Ok place)) (found : Found) (found_there : slice_get session.founds place ≡ Some found) (weave : WeaveFields)
     (woven : IsWovenIn m.settled (region_window m.settled within.0.found) found weave) where
-  pub loaded : (bytes : List ℕ)
-      → ((s : System) (w : WindowFields) (contents : Contents) → IsWovenIn s w found weave → HasPieces found w contents media.blocks → bytes ≡ bytes_at contents (load.h - found.base) load.len)
-      → load_answer m load ≡ stays m (replies.Loaded bytes)
-  loaded bytes read =
+  pub loaded : (reply : Reply)
+      → ((s : System) (w : WindowFields) (contents : Contents) → IsWovenIn s w found weave → HasPieces found w contents media.blocks → reply ≡ replies.Loaded (bytes_at contents (load.h - found.base) load.len))
+      → load_answer m load ≡ stays m reply
+  loaded reply read =
       let region : Live = within.0 in
       let alike : found ≡ region.found = found_is session m place region within.1 found found_there in
       let pieces = has_pieces law m is hold media memory region (holds_live m load.h region within.4) in
@@ -94,7 +95,7 @@ module _ (law : WindowsThere) (hold : PiecesLaw) (session : SessionState) (m : M
       subst (λ (f : Found). HasPieces f (region_window m.settled region.found) region.contents media.blocks) (sym alike) pieces in
       within.3 (λ (r : Live). stays m (replies.Loaded (bytes_at r.contents (offset_in r load.h) load.len)))
       ∙ ap (λ (f : Found). stays m (replies.Loaded (bytes_at region.contents (load.h - f.base) load.len))) (sym alike)
-      ∙ ap (λ (xs : List ℕ). stays m (replies.Loaded xs)) (sym (read m.settled (region_window m.settled region.found) region.contents woven here))
+      ∙ ap (stays m) (sym (read m.settled (region_window m.settled region.found) region.contents woven here))
 
 -- ---- the way down
 

@@ -1,10 +1,16 @@
 //! Where host bytes lie, and the bytes themselves: by the kept routes and the weaves of the live regions, and media.
 
-ghost use Rattle.std.specs.Prelude.{◌≡◌, ℕ, ◌≤◌, true, length, map, IfOk, IfSome, IfNone};
+ghost use Rattle.std.specs.Prelude.{◌≡◌, ℕ, ◌+◌, ◌-◌, ◌≤◌, true, length, map, IfOk, OnOk, IfSome, IfNone};
 ghost use Rattle.cxl_script.specs.Grammar.{access_limit, range_limit};
-ghost use Rattle.cxl_model.specs.System.{IsSystem};
+ghost use Rattle.cxl_window.specs.Fields.{WindowFields};
+ghost use Rattle.cxl_media.specs.Blocks.{IsInOneBlock};
+ghost use Rattle.cxl_model.specs.System.{System, IsSystem};
+ghost use Rattle.cxl_model.specs.Contents.{Contents};
 ghost use Rattle.cxl_model.specs.Regions.{IsRegionIn};
 ghost use Rattle.cxl_walk.specs.Keeping.{IsKeptOf};
+ghost use Rattle.cxl_bytes.specs.Bytes.{bytes_at};
+ghost use Rattle.cxl_bytes.specs.Woven.{IsWovenIn, IsWovenSomewhere, HasPieces};
+ghost use Rattle.cxl_reply.specs.declared.reply.Reply.TheVariants as replies;
 ghost use Rattle.cxl_machine.specs.Machine.{Live, Machine, has_host, region_window};
 ghost use Rattle.cxl_machine.specs.Sound.{IsMachine};
 ghost use Rattle.cxl_machine.specs.Replies.{stays};
@@ -15,13 +21,14 @@ ghost use Rattle.cxl_session.specs.inner.Places.{HasNoneOf};
 
 use crate::endpoints::endpoints_by_slot;
 use crate::session::Session;
-use cxl_bytes::{carried_address, load_bytes};
-use cxl_deal::deal;
+use cxl_bytes::{bytes_lie_in_pieces, carried_address, device_byte, first_part, load_bytes};
+use cxl_deal::{Weave, deal};
 use cxl_enc::{FixedList, Memory, Name};
 use cxl_machine::live_regions_stay;
 use cxl_media::Media;
 use cxl_model::{
-    Step, chain_is_the_dealing, regions_lie_in_windows, regions_share_no_byte, slots_are_endpoints,
+    Found, Step, chain_is_the_dealing, regions_lie_in_windows, regions_share_no_byte,
+    slots_are_endpoints,
 };
 use cxl_move::blocks_hold_their_pieces;
 use cxl_range::{extents, spread};
@@ -44,28 +51,41 @@ impl Session {
         }
     }
 
-    /// The bytes from a host address on. Takes memory for these alone.
+    /// Makes a reply that of the bytes from a host address on. Takes memory for these alone, and none where the reply was one of
+    /// as many and they lie in one piece.
     pub(crate) fn load<M: Media>(
         &self,
         alloc: Global,
         load: Load,
         media: &M,
-    ) -> Result<Reply, Memory>
+        reply: &mut Reply,
+    ) -> Result<(), Memory>
         requires stands { StandsSomehow self.now (M.state media.now) }
         requires some { 1 ≤ load.len }
         requires few { load.len ≤ access_limit }
-        ensures { IfOk result (λ reply. IsReadFor self.now (M.state media.now)
-            (λ m answer. load_answer m load ≡ answer) reply) }
+        ensures { OnOk result (IsReadFor self.now (M.state media.now)
+            (λ m answer. load_answer m load ≡ answer) reply.new) }
     {
         regions_lie_in_windows();
         blocks_hold_their_pieces();
         let place = match self.place_within(load.h, u64::from(load.len)) {
             Ok(place) => place,
-            Err(refusal) => return Ok(refusal),
+            Err(refusal) => {
+                *reply = refusal;
+                return Ok(());
+            }
         };
         let weave = self.kept_at(place).weave();
-        let bytes = load_bytes(alloc, media, self.found_at(place), weave, load)?;
-        Ok(Reply::Loaded(bytes))
+        put_loaded(alloc, media, self.found_at(place), weave, load, reply)
+    }
+
+    /// Makes a reply that of where a host address goes, in a function that stays one, so that a load clears no room for it.
+    #[inline(never)]
+    pub(crate) fn put_down(&self, h: u64, reply: &mut Reply)
+        requires { (m : Machine) × StandsFor self.now m × IsMachine m }
+        ensures { (m : Machine) → StandsFor self.now m → IsMachine m → down_answer m h ≡ stays m reply.new }
+    {
+        *reply = self.down(h);
     }
 
     /// The device bytes on which a range of host bytes lies. Takes memory.
@@ -120,6 +140,15 @@ impl Session {
         }
     }
 
+    /// Makes a reply that of which host address goes to a byte of a device, in a function that stays one, as above.
+    #[inline(never)]
+    pub(crate) fn put_up(&self, up: Up, reply: &mut Reply)
+        requires { (m : Machine) × StandsFor self.now m × IsMachine m }
+        ensures { (m : Machine) → StandsFor self.now m → IsMachine m → AnswersUp m up (stays m reply.new) }
+    {
+        *reply = self.up(up);
+    }
+
     /// What a byte of an endpoint's device is answered, by the live regions that its decoders serve.
     fn told_host(&self, endpoint: u32, dpa: u64) -> Reply
         requires { (m : Machine) × StandsFor self.now m × IsMachine m }
@@ -170,6 +199,70 @@ impl Session {
         let name = self.name_at(place);
         Some(Reply::Up(Upped { h, name }))
     }
+}
+
+/// Makes a reply that of the bytes of a region that a load asks for: in its list, where that has as many and they lie in one
+/// piece, or else in one of their own, for which it takes memory.
+fn put_loaded<M: Media>(
+    alloc: Global,
+    media: &M,
+    found: &Found,
+    weave: &Weave,
+    load: Load,
+    reply: &mut Reply,
+) -> Result<(), Memory>
+    requires region { IsWovenSomewhere found.now weave.now }
+    requires some { 1 ≤ load.len }
+    requires few { load.len ≤ access_limit }
+    requires from { found.now.base ≤ load.h }
+    requires ends { load.h + load.len ≤ found.now.base + found.now.size }
+    ensures { OnOk result ((s : System) (w : WindowFields) (contents : Contents)
+        → IsWovenIn s w found.now weave.now → HasPieces found.now w contents (M.state media.now).blocks
+        → reply.new ≡ replies.Loaded (bytes_at contents (load.h - found.now.base) load.len)) }
+{
+    if let Reply::Loaded(bytes) = reply {
+        let len = load.len as usize;
+        if bytes.items().len() == len && first_part(load.h - found.base, len) == len {
+            refill(media, found, weave, load, bytes);
+            return Ok(());
+        }
+    }
+    let bytes = load_bytes(alloc, media, found, weave, load)?;
+    *reply = Reply::Loaded(bytes);
+    Ok(())
+}
+
+/// Puts the bytes that a load asks for, of one of a region's pieces, in the place of as many.
+fn refill<M: Media>(media: &M, found: &Found, weave: &Weave, load: Load, bytes: &mut FixedList<u8>)
+    requires region { IsWovenSomewhere found.now weave.now }
+    requires same { length bytes.old ≡ load.len }
+    requires few { load.len ≤ access_limit }
+    requires from { found.now.base ≤ load.h }
+    requires ends { load.h + load.len ≤ found.now.base + found.now.size }
+    requires piece { IsInOneBlock (load.h - found.now.base) load.len }
+    ensures { (s : System) (w : WindowFields) (contents : Contents)
+        → IsWovenIn s w found.now weave.now → HasPieces found.now w contents (M.state media.now).blocks
+        → bytes.new ≡ bytes_at contents (load.h - found.now.base) load.len }
+{
+    let mut room = [0; 256];
+    let part = &mut room[..load.len as usize];
+    read_piece(media, found, weave, load.h, part);
+    bytes.replace_all(part);
+}
+
+/// Reads bytes of one of a region's pieces.
+fn read_piece<M: Media>(media: &M, found: &Found, weave: &Weave, h: u64, into: &mut [u8])
+    requires region { IsWovenSomewhere found.now weave.now }
+    requires from { found.now.base ≤ h }
+    requires ends { h + length into.old ≤ found.now.base + found.now.size }
+    requires piece { IsInOneBlock (h - found.now.base) (length into.old) }
+    ensures { (s : System) (w : WindowFields) (contents : Contents)
+        → IsWovenIn s w found.now weave.now → HasPieces found.now w contents (M.state media.now).blocks
+        → into.new ≡ bytes_at contents (h - found.now.base) (length into.old) }
+{
+    bytes_lie_in_pieces();
+    let byte = device_byte(found, weave, h);
+    media.get(byte.ep, byte.dpa, into);
 }
 
 /// What a host byte of the region of this name is answered.

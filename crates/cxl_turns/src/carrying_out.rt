@@ -22,11 +22,12 @@ use cxl_script::{BadLine, Command, LineFault, asked_commands_are_ranged, read_co
 use cxl_session::Session;
 use std::alloc::Global;
 
-/// Carries out a line, and writes its reply, where it asks for something.
+/// Carries out a line, and writes its reply, where it asks for something. The reply is put in the place of an earlier one.
 pub(crate) fn carry_out_line<K: Sink, R: Regs, M: Roll>(
     alloc: Global,
     session: &mut Session,
     line: &[u8],
+    reply: &mut Reply,
     lines: &mut Lines<0>,
     out: &mut K,
     regs: &mut R,
@@ -47,7 +48,9 @@ pub(crate) fn carry_out_line<K: Sink, R: Regs, M: Roll>(
     asked_commands_are_ranged();
     match read_command(alloc, line) {
         Ok(None) => Ok(()),
-        Ok(Some(command)) => carry_out_command(alloc, session, &command, lines, out, regs, media),
+        Ok(Some(command)) => {
+            carry_out_command(alloc, session, &command, reply, lines, out, regs, media)
+        }
         Err(LineFault::Bad(fault)) => tell_bad_line(fault, session, lines, out),
         Err(LineFault::Memory) => Err(LineStop::Memory),
     }
@@ -58,6 +61,7 @@ fn carry_out_command<K: Sink, R: Regs, M: Roll>(
     alloc: Global,
     session: &mut Session,
     command: &Command,
+    reply: &mut Reply,
     lines: &mut Lines<0>,
     out: &mut K,
     regs: &mut R,
@@ -77,8 +81,8 @@ fn carry_out_command<K: Sink, R: Regs, M: Roll>(
     ensures bus { (R.state regs.old).faults ≤ (R.state regs.new).faults }
 {
     answers_are_told();
-    let reply = session.act(alloc, command, regs, media)?;
-    write_reply(&reply, session.topo(), lines, out)
+    session.act_into(alloc, command, reply, regs, media)?;
+    write_reply(reply, session.topo(), lines, out)
 }
 
 /// Writes the reply to a line that asks for nothing.

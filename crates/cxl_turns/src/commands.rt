@@ -11,16 +11,19 @@ use crate::counts::{Counts, count};
 use cxl_bus::Regs;
 use cxl_enc::Memory;
 use cxl_media::Roll;
+use cxl_reply::Reply;
 use cxl_script::Command;
 use cxl_session::Session;
 use std::alloc::Global;
 
-/// Carries out a command, and counts what it is answered, with the counts of those before it. Registers and media hold what the
-/// last call on this session left in them. After `Memory` they are as they were. (This project's rule.) Takes memory.
+/// Carries out a command, and counts what it is answered, with the counts of those before it. The reply is put in the place of
+/// an earlier one, whatever that was. Registers and media hold what the last call on this session left in them. After `Memory`
+/// they are as they were. (This project's rule.) Takes memory.
 pub fn carry_out_counted<R: Regs, M: Roll>(
     alloc: Global,
     session: &mut Session,
     command: &Command,
+    reply: &mut Reply,
     counts: &mut Counts,
     regs: &mut R,
     media: &mut M,
@@ -40,7 +43,7 @@ pub fn carry_out_counted<R: Regs, M: Roll>(
         HasGoneOn m [] [] session.new (R.state regs.old) (R.state regs.new) (M.state media.new))) }
     ensures bus { (R.state regs.old).faults ≤ (R.state regs.new).faults }
 {
-    let reply = session.act(alloc, command, regs, media)?;
-    count(counts, &reply);
+    session.act_into(alloc, command, reply, regs, media)?;
+    count(counts, reply);
     Ok(())
 }

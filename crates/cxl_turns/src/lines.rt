@@ -13,6 +13,7 @@ use cxl_bus::Regs;
 use cxl_io::{LineReader, Sink, Source, Taken};
 use cxl_lines::Lines;
 use cxl_media::Roll;
+use cxl_reply::Reply;
 use cxl_script::{BadLine, LINE_LIMIT, Why};
 use cxl_session::Session;
 use std::alloc::Global;
@@ -51,6 +52,7 @@ pub fn carry_out_lines<S: Source, K: Sink, R: Regs, M: Roll>(
         Ok(reader) => reader,
         Err(_memory) => return Ending::Memory,
     };
+    let mut reply = Reply::NothingPending;
     let mut replies = Lines::new(alloc);
     'lines: loop {
         let carried = match reader.next(script) {
@@ -58,6 +60,7 @@ pub fn carry_out_lines<S: Source, K: Sink, R: Regs, M: Roll>(
                 alloc,
                 session,
                 reader.line(),
+                &mut reply,
                 &mut replies,
                 out,
                 regs,

@@ -1,8 +1,9 @@
 -- What the parts of a session answer, for whatever machine it stands.
-use Rattle.std.specs.Prelude.{◌≡◌, ℕ, ◌+◌, true, Some, Result, Ok, Err}
+use Rattle.std.specs.Prelude.{◌≡◌, ℕ, ◌+◌, Bool, true, false, Some, Result, Ok, Err}
 use Rattle.cxl_bus.specs.RegsState.{RegsState}
 use Rattle.cxl_media.specs.MediaState.{MediaState}
 use Rattle.cxl_script.specs.declared.command.Command.{Command}
+use Rattle.cxl_script.specs.declared.command.Command.TheVariants as commands
 use Rattle.cxl_reply.specs.declared.reply.Reply.{Reply}
 use Rattle.cxl_machine.specs.Machine.{Live, Machine, live_at, pieces_held}
 use Rattle.cxl_machine.specs.Replies.{Answer, stays, within_region, ends_within}
@@ -11,6 +12,14 @@ use Rattle.cxl_machine.specs.Sound.{IsMachine}
 use Rattle.cxl_session.specs.State.{SessionState}
 use Rattle.cxl_session.specs.Standing.{StandsFor, HoldsMemory, HasTaken, ForEachMachine}
 use Rattle.cxl_session.specs.inner.Places.{StandsAt}
+
+-- a command that reads bytes or writes them, or asks where an address goes
+abbrev pub is_access : Command → Bool
+is_access (commands.Load load) = true
+is_access (commands.Store store) = true
+is_access (commands.Down h) = true
+is_access (commands.Up up) = true
+is_access command = false
 
 -- ---- reading
 

@@ -29,6 +29,7 @@ use cxl_inputs::{Outcome, OwnedHost, Status, finish};
 use cxl_io::{Memory, Sink};
 use cxl_media::Roll;
 use cxl_model::{accepted_or_breach, reset_hosts_are_accepted};
+use cxl_reply::Reply;
 use cxl_session::Session;
 use cxl_turns::{Counts, carry_out_counted};
 use std::alloc::Global;
@@ -170,9 +171,18 @@ fn carry_out_made<R: Regs, M: Roll>(
     made_systems_are_sound();
     let mut counts = Counts::none();
     let mut command = Command::Abort;
+    let mut reply = Reply::NothingPending;
     for k in 0..command_count(n) {
         make_command(alloc, n, k, &mut command)?;
-        carry_out_counted(alloc, session, &command, &mut counts, regs, media)?;
+        carry_out_counted(
+            alloc,
+            session,
+            &command,
+            &mut reply,
+            &mut counts,
+            regs,
+            media,
+        )?;
     }
     Ok(counts)
 }

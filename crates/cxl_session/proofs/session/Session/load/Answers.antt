@@ -1,4 +1,5 @@
 use Rattle.std.proofs.Common.{ℕ, Ok, subst}
+use Rattle.std.proofs.lemmas.Result.{on_ok_weaker}
 use Rattle.cxl_machine.specs.Machine.{region_window}
 use Rattle.cxl_session.specs.inner.Answering.{IsWithin}
 use Rattle.cxl_session.proofs.Within.{found_within, kept_within}
@@ -17,8 +18,8 @@ found_at-requires g c =
     let within = c.in-Ok.ensures m stands is in
     found_within c.args.self.now m c.in-Ok.place within.0 within.1
 
-pub load_bytes-requires-clause-region : goal.load_bytes-requires-clause-region
-load_bytes-requires-clause-region g c =
+pub put_loaded-requires-clause-region : goal.put_loaded-requires-clause-region
+put_loaded-requires-clause-region g c =
     let (m, stands, is, memory) = c.requires.stands in
     let within : IsWithin c.args.self.now m c.args.load.h c.args.load.len (Ok c.in-Ok.place) =
     subst (λ (n : ℕ). IsWithin c.args.self.now m c.args.load.h n (Ok c.in-Ok.place)) c.from.ensures (c.in-Ok.ensures m stands is) in (
@@ -27,16 +28,16 @@ load_bytes-requires-clause-region g c =
       woven_within c.args.self.now m is c.args.load.h c.args.load.len c.in-Ok.place within c.found_at.result.now c.found_at.ensures c.kept_at.result.now c.weave-weave.result.now c.kept_at.ensures c.weave-weave.ensures,
     )
 
-pub load_bytes-requires-clause-from : goal.load_bytes-requires-clause-from
-load_bytes-requires-clause-from g c =
+pub put_loaded-requires-clause-from : goal.put_loaded-requires-clause-from
+put_loaded-requires-clause-from g c =
     let (m, stands, is, memory) = c.requires.stands in
     lies_from c.args.self.now m is c.args.load.h c.args.load.len c.in-Ok.place
     (subst (λ (n : ℕ). IsWithin c.args.self.now m c.args.load.h n (Ok c.in-Ok.place)) c.from.ensures (c.in-Ok.ensures m stands is)) c.found_at.result.now c.found_at.ensures
 
 pub returns : goal.returns
-returns g c = λ m stands is memory.
+returns g c = on_ok_weaker c.put_loaded.result (λ reads m stands is memory.
     let within : IsWithin c.args.self.now m c.args.load.h c.args.load.len (Ok c.in-Ok.place) =
     subst (λ (n : ℕ). IsWithin c.args.self.now m c.args.load.h n (Ok c.in-Ok.place)) c.from.ensures (c.in-Ok.ensures m stands is) in
     loaded c.regions_lie_in_windows.ensures.there c.blocks_hold_their_pieces.ensures c.args.self.now m is (g.M.Media.state c.args.media.now) memory c.args.load c.in-Ok.place within c.found_at.result.now c.found_at.ensures c.weave-weave.result.now
     (woven_within c.args.self.now m is c.args.load.h c.args.load.len c.in-Ok.place within c.found_at.result.now c.found_at.ensures c.kept_at.result.now c.weave-weave.result.now c.kept_at.ensures c.weave-weave.ensures)
-    c.in_ok-bytes.bytes c.in_ok-bytes.ensures
+    c.put_loaded.new.reply reads) c.put_loaded.ensures

@@ -4,11 +4,10 @@ use Rattle.std.proofs.Math.Nat.{le_refl}
 use Rattle.cxl_bus.proofs.Failed.{fails_nowhere, fails_same}
 use Rattle.cxl_script.specs.Grammar.{IsRanged}
 use Rattle.cxl_script.specs.declared.command.Command.TheVariants as commands
-use Rattle.cxl_machine.specs.Accesses.{store_answer}
 use Rattle.cxl_machine.specs.Copies.{copy_answer, move_answer}
 use Rattle.cxl_session.specs.inner.Answering.{IsTurnFor}
-use Rattle.cxl_session.proofs.Acts.{of_command, of_result, read_turn, write_turn, image_held, some_machine, somehow, holds_some, image_after, image_after_result, untouched_by, owes_none, ok_always, err_always}
-use Rattle.cxl_session.proofs.session.Session.act.Goals as goal
+use Rattle.cxl_session.proofs.Acts.{of_command, of_result, read_turn, write_turn, image_held, some_machine, holds_some, image_after, image_after_result, untouched_by, owes_none, ok_always, err_always}
+use Rattle.cxl_session.proofs.session.Session.act_on_regions.Goals as goal
 
 pub create-requires : goal.create-requires
 create-requires g c = record { stands = c.requires.stands; code = subst IsRanged c.in-Create.is c.requires.ranged }
@@ -78,96 +77,6 @@ returns-in-Show g c =
       image = image_held session old media c.requires.stands ∙ sym c.show.ensures.untouched.blocks;
       host = (refl, refl);
       counts = c.show.ensures.counts;
-    }
-
-pub down-requires : goal.down-requires
-down-requires g c = some_machine c.args.self.now (g.R.Regs.state c.args.regs.now) (g.M.Media.state c.args.media.now) c.requires.stands
-
-pub returns-in-Down : goal.returns-in-Down
-returns-in-Down g c =
-    let session = c.args.self.now in
-    let old = g.R.Regs.state c.args.regs.now in
-    let media = g.M.Media.state c.args.media.now in
-    record {
-      answer =
-          of_command session session old old media media c.args.command.now (commands.Down c.in-Down.h) c.down.result c.in-Down.is
-          (read_turn session old (commands.Down c.in-Down.h) (λ m. refl) media c.down.result
-          (λ m stands is memory. record { unfailing = refl; told = sym (c.down.ensures m stands is) }));
-      refused = λ _. (refl, refl, refl);
-      memory = tt;
-      unfailed = tt;
-      ready = λ _. refl;
-      image = image_held session old media c.requires.stands;
-      host = (refl, refl);
-      counts = le_refl old.faults;
-    }
-
-pub up-requires : goal.up-requires
-up-requires g c = some_machine c.args.self.now (g.R.Regs.state c.args.regs.now) (g.M.Media.state c.args.media.now) c.requires.stands
-
-pub returns-in-Up : goal.returns-in-Up
-returns-in-Up g c =
-    let session = c.args.self.now in
-    let old = g.R.Regs.state c.args.regs.now in
-    let media = g.M.Media.state c.args.media.now in
-    record {
-      answer =
-          of_command session session old old media media c.args.command.now (commands.Up c.in-Up.up) c.up.result c.in-Up.is
-          (read_turn session old (commands.Up c.in-Up.up) (λ m. refl) media c.up.result
-          (λ m stands is memory. (refl, c.up.ensures m stands is)));
-      refused = λ _. (refl, refl, refl);
-      memory = tt;
-      unfailed = tt;
-      ready = λ _. refl;
-      image = image_held session old media c.requires.stands;
-      host = (refl, refl);
-      counts = le_refl old.faults;
-    }
-
-pub load-requires : goal.load-requires
-load-requires g c =
-    let ranged = subst IsRanged c.in-Load.is c.requires.ranged in record { stands = somehow c.args.self.now (g.R.Regs.state c.args.regs.now) (g.M.Media.state c.args.media.now) c.requires.stands; some = ranged.0; few = ranged.1 }
-
-pub returns-in-Load : goal.returns-in-Load
-returns-in-Load g c =
-    let session = c.args.self.now in
-    let old = g.R.Regs.state c.args.regs.now in
-    let media = g.M.Media.state c.args.media.now in
-    record {
-      answer =
-          of_result session session old old media media c.args.command.now (commands.Load c.in-Load.load) c.load.result c.in-Load.is
-          (IfOk-weaker c.load.result _ _ (λ reply reads. read_turn session old (commands.Load c.in-Load.load) (λ m. refl) media reply
-          (λ m stands is memory. record { unfailing = refl; told = sym (reads m stands is memory) })) c.load.ensures);
-      refused = ok_always c.load.result _ (λ _ _. (refl, refl, refl));
-      memory = err_always c.load.result _ (λ _. (refl, untouched_by old old refl, refl));
-      unfailed = err_always c.load.result _ (λ _. fails_nowhere old);
-      ready = owes_none c.args.command.now (commands.Load c.in-Load.load) c.load.result c.in-Load.is refl;
-      image = image_held session old media c.requires.stands;
-      host = (refl, refl);
-      counts = le_refl old.faults;
-    }
-
-pub store-requires : goal.store-requires
-store-requires g c = record { holds = holds_some c.args.self.now (g.R.Regs.state c.args.regs.now) (g.M.Media.state c.args.media.now) c.requires.stands; ranged = subst IsRanged c.in-Store.is c.requires.ranged }
-
-pub returns-in-Store : goal.returns-in-Store
-returns-in-Store g c =
-    let session = c.args.self.now in
-    let old = g.R.Regs.state c.args.regs.now in
-    let media = g.M.Media.state c.args.media.now in
-    let left = g.M.Media.state c.store.new.media in
-    record {
-      answer =
-          of_command session session old old media left c.args.command.now (commands.Store c.in-Store.store) c.store.result c.in-Store.is
-          (write_turn session old (commands.Store c.in-Store.store) (λ m. refl) media left c.store.result
-          (λ m. store_answer m c.in-Store.store) (λ m. record { unfailing = refl; told = refl }) c.store.ensures.answer);
-      refused = λ is. (refl, refl, c.store.ensures.refused is);
-      memory = tt;
-      unfailed = tt;
-      ready = λ _. refl;
-      image = image_held session old media c.requires.stands;
-      host = (refl, refl);
-      counts = le_refl old.faults;
     }
 
 pub poison-requires : goal.poison-requires
