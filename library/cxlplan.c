@@ -10,6 +10,12 @@ uint8_t cxlplan_proved_plan(const uint8_t *, size_t, const uint8_t *, size_t, co
 uint8_t cxlplan_proved_run(const uint8_t *, size_t, const uint8_t *, size_t, const uint8_t *, size_t, uint8_t *, size_t, size_t *);
 uint8_t cxlplan_proved_run_from(const uint8_t *, size_t, const uint8_t *, size_t, const uint8_t *, size_t, const uint8_t *, size_t,
                                 uint8_t *, size_t, size_t *);
+uint8_t cxlplan_proved_words(const uint8_t *, size_t, const uint8_t *, size_t, const uint8_t *, size_t, uint8_t *, size_t, size_t *);
+uint8_t cxlplan_proved_words_from(const uint8_t *, size_t, const uint8_t *, size_t, const uint8_t *, size_t, const uint8_t *, size_t,
+                                  uint8_t *, size_t, size_t *);
+uint8_t cxlplan_proved_image(const uint8_t *, size_t, const uint8_t *, size_t, const uint8_t *, size_t, uint8_t *, size_t, size_t *);
+uint8_t cxlplan_proved_image_from(const uint8_t *, size_t, const uint8_t *, size_t, const uint8_t *, size_t, const uint8_t *, size_t,
+                                  uint8_t *, size_t, size_t *);
 uint8_t cxlplan_proved_tree(const uint8_t *, size_t, uint8_t *, size_t, size_t *);
 uint8_t cxlplan_proved_decoders(const uint8_t *, size_t, const uint8_t *, size_t, uint8_t *, size_t, size_t *);
 uint8_t cxlplan_proved_breaches(const uint8_t *, size_t, const uint8_t *, size_t, const uint8_t *, size_t, uint8_t *, size_t, size_t *);
@@ -127,6 +133,34 @@ int cxlplan_run(const void *cedt, size_t cedt_len, const void *topo, size_t topo
         return cxlplan_proved_run(in[0].at, in[0].len, in[1].at, in[1].len, in[3].at, in[3].len, room.at, room.len, room.written);
     return cxlplan_proved_run_from(in[0].at, in[0].len, in[1].at, in[1].len, in[2].at, in[2].len, in[3].at, in[3].len,
                                    room.at, room.len, room.written);
+}
+
+int cxlplan_words(const void *cedt, size_t cedt_len, const void *topo, size_t topo_len, const void *image, size_t image_len,
+                  const void *script, size_t script_len, void *out, size_t out_len, size_t *written)
+{
+    struct bytes in[] = {{cedt, cedt_len}, {topo, topo_len}, {image, image_len}, {script, script_len}};
+    struct room room;
+
+    if (!is_fit(in, 4, &room, out, out_len, written))
+        return CXLPLAN_USAGE;
+    if (!image)
+        return cxlplan_proved_words(in[0].at, in[0].len, in[1].at, in[1].len, in[3].at, in[3].len, room.at, room.len, room.written);
+    return cxlplan_proved_words_from(in[0].at, in[0].len, in[1].at, in[1].len, in[2].at, in[2].len, in[3].at, in[3].len,
+                                     room.at, room.len, room.written);
+}
+
+int cxlplan_image(const void *cedt, size_t cedt_len, const void *topo, size_t topo_len, const void *image, size_t image_len,
+                  const void *script, size_t script_len, void *out, size_t out_len, size_t *written)
+{
+    struct bytes in[] = {{cedt, cedt_len}, {topo, topo_len}, {image, image_len}, {script, script_len}};
+    struct room room;
+
+    if (!is_fit(in, 4, &room, out, out_len, written))
+        return CXLPLAN_USAGE;
+    if (!image)
+        return cxlplan_proved_image(in[0].at, in[0].len, in[1].at, in[1].len, in[3].at, in[3].len, room.at, room.len, room.written);
+    return cxlplan_proved_image_from(in[0].at, in[0].len, in[1].at, in[1].len, in[2].at, in[2].len, in[3].at, in[3].len,
+                                     room.at, room.len, room.written);
 }
 
 int cxlplan_tree(const void *topo, size_t topo_len, void *out, size_t out_len, size_t *written)

@@ -55,7 +55,7 @@ enum cxlplan_status {
 /* The version of this header: the first number is that of libcxlplan.so. */
 #define CXLPLAN_VERSION "1.0.0"
 
-/* Stack that a call may take, in bytes. Measured were 20,000, and 1,600,000 for a topology of 13 KB that is made to be hard to read. */
+/* Stack that a call may take, in bytes. Measured were 25,000, and 1,600,000 for a topology of 13 KB that is made to be hard to read. */
 #define CXLPLAN_STACK 2097152
 
 /* Where a host address goes: its window, position and host bridge, as `cxlplan route CEDT HPA` tells them.
@@ -85,6 +85,22 @@ int cxlplan_plan(const void *cedt, size_t cedt_len, const void *topo, size_t top
    Statuses 0, 1, 3, 4, 6, 8, 9, 10, 11, 12. */
 int cxlplan_run(const void *cedt, size_t cedt_len, const void *topo, size_t topo_len, const void *image, size_t image_len,
                 const void *script, size_t script_len, void *out, size_t out_len, size_t *written);
+
+/* The register words that the last line of a script sends, which no command tells: a line for each, in their order,
+     w NODE OFFSET VALUE
+   with the node by its number, as cxlplan_tree tells it. The session opens and the lines are carried out as by cxlplan_run, whose
+   replies are told by that alone; a line that is refused sends nothing and ends nothing. So `create r0 ram 0x20000000 e0 e1` has the
+   words that make the region, and `destroy r0` in a line behind it those that take it down. A last line that is blank or a comment
+   sends none, and an empty script has the words with which each session opens: they let the endpoints decode. Status 9 also where
+   one line sends 65,536 words, which none is known to do. Statuses and `image` as of cxlplan_run, but with status 11 no line is
+   carried out. */
+int cxlplan_words(const void *cedt, size_t cedt_len, const void *topo, size_t topo_len, const void *image, size_t image_len,
+                  const void *script, size_t script_len, void *out, size_t out_len, size_t *written);
+
+/* The register image behind a script, which no command tells: the bytes of an image file, as cxlplan_check takes them, and no text.
+   Statuses and `image` as of cxlplan_words. */
+int cxlplan_image(const void *cedt, size_t cedt_len, const void *topo, size_t topo_len, const void *image, size_t image_len,
+                  const void *script, size_t script_len, void *out, size_t out_len, size_t *written);
 
 /* A topology as lines, which no command tells: first `frames N`, then each node by number, one of
      node N NAME bridge uid UID ..

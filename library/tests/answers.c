@@ -1,6 +1,6 @@
 /* Answers the rows of its standard input by the library, each as its status, the number of its bytes, and these. A row has the words
-   of a command line, with tabs between: run CEDT TOPO SCRIPT [IMAGE], tree TOPO, decoders TOPO IMAGE, breaches CEDT TOPO IMAGE,
-   windows CEDT TOPO, and else as the program has them. */
+   of a command line, with tabs between: run, words or image CEDT TOPO SCRIPT [IMAGE], tree TOPO, decoders TOPO IMAGE,
+   breaches CEDT TOPO IMAGE, windows CEDT TOPO, and else as the program has them. */
 #include <cxlplan.h>
 #include <stdio.h>
 #include <stdlib.h>
@@ -47,6 +47,12 @@ static int call(int count, char **words, struct file *files, char *out, size_t r
     if (!strcmp(words[0], "run"))
         return cxlplan_run(files[1].bytes, files[1].len, files[2].bytes, files[2].len, image.bytes, image.len, files[3].bytes,
                            files[3].len, out, room, written);
+    if (!strcmp(words[0], "words"))
+        return cxlplan_words(files[1].bytes, files[1].len, files[2].bytes, files[2].len, image.bytes, image.len, files[3].bytes,
+                             files[3].len, out, room, written);
+    if (!strcmp(words[0], "image"))
+        return cxlplan_image(files[1].bytes, files[1].len, files[2].bytes, files[2].len, image.bytes, image.len, files[3].bytes,
+                             files[3].len, out, room, written);
     if (!strcmp(words[0], "tree"))
         return cxlplan_tree(files[1].bytes, files[1].len, out, room, written);
     if (!strcmp(words[0], "decoders"))
@@ -64,7 +70,7 @@ static int call(int count, char **words, struct file *files, char *out, size_t r
 /* Whether this word of a command is the name of a file. */
 static int is_file(char **words, int at)
 {
-    static const char *forms[] = {"", "route list normal tree", "plan decoders windows", "check breaches", "run"};
+    static const char *forms[] = {"", "route list normal tree", "plan decoders windows", "check breaches", "run words image"};
 
     for (int count = 1; count < 5; count++)
         if (strstr(forms[count], words[0]))

@@ -20,6 +20,8 @@ fn answer<'a>(words: &[&str], files: &[Vec<u8>], room: &'a mut [u8]) -> cxlplan:
         "check" => cxlplan::check(&files[0], &files[1], &files[2], room),
         "plan" => cxlplan::plan(&files[0], &files[1], words[3], room),
         "run" => cxlplan::run(&files[0], &files[1], files.get(3).map(|image| &image[..]), &files[2], room),
+        "words" => cxlplan::words(&files[0], &files[1], files.get(3).map(|image| &image[..]), &files[2], room),
+        "image" => cxlplan::image(&files[0], &files[1], files.get(3).map(|image| &image[..]), &files[2], room),
         "tree" => cxlplan::tree(&files[0], room),
         "decoders" => cxlplan::decoders(&files[0], &files[1], room),
         "breaches" => cxlplan::breaches(&files[0], &files[1], &files[2], room),
@@ -38,7 +40,7 @@ fn main() {
             "route" | "list" | "normal" | "tree" => 1,
             "plan" | "decoders" | "windows" => 2,
             "check" | "breaches" => 3,
-            "run" => words.len() - 1,
+            "run" | "words" | "image" => words.len() - 1,
             _ => 0,
         };
         let files: Vec<Vec<u8>> = words[1..1 + count].iter().map(|name| read(name)).collect();

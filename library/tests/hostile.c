@@ -39,6 +39,20 @@ static int check_into(void *out, size_t out_len, size_t *written)
     return cxlplan_check(cedt, cedt_len, topo, topo_len, image, image_len, out, out_len, written);
 }
 
+/* A region that the host after reset takes, and the line that takes it down. */
+static const char script[] = "create r0 pmem 0x20000000 d1 d2\ndestroy r0\n";
+enum { CREATE = 32 };
+
+static int words_into(void *out, size_t out_len, size_t *written)
+{
+    return cxlplan_words(cedt, cedt_len, topo, topo_len, NULL, 0, script, CREATE, out, out_len, written);
+}
+
+static int image_into(void *out, size_t out_len, size_t *written)
+{
+    return cxlplan_image(cedt, cedt_len, topo, topo_len, image, image_len, script, sizeof script - 1, out, out_len, written);
+}
+
 static int tree_into(void *out, size_t out_len, size_t *written)
 {
     return cxlplan_tree(topo, topo_len, out, out_len, written);
@@ -104,6 +118,11 @@ static void nulls(void)
            "an empty script", 0);
     expect(cxlplan_run(cedt, cedt_len, topo, topo_len, "", 0, "down 0", 6, out, sizeof out, &written) == CXLPLAN_BAD_IMAGE,
            "an empty image", 0);
+    expect(cxlplan_words(cedt, cedt_len, topo, topo_len, NULL, 1, script, CREATE, out, sizeof out, &written) == CXLPLAN_USAGE
+               && written == 0,
+           "null for the image of words", 1);
+    expect(cxlplan_image(cedt, cedt_len, topo, topo_len, "", 0, NULL, 0, out, sizeof out, &written) == CXLPLAN_BAD_IMAGE,
+           "an empty image behind nothing", 0);
     expect(cxlplan_plan(cedt, cedt_len, topo, topo_len, "\xff", 1, out, sizeof out, &written) == CXLPLAN_USAGE, "no UTF-8", 0);
     expect(cxlplan_plan(cedt, cedt_len, topo, topo_len, NULL, 0, out, sizeof out, &written) == CXLPLAN_USAGE, "no line", 0);
     expect(cxlplan_gen(0, out, sizeof out, &written) == CXLPLAN_USAGE, "system 0", 0);
@@ -197,6 +216,8 @@ int main(int count, char **words)
     image = read_file(words[3], &image_len);
     broken = read_file(words[4], &broken_len);
     rooms(check_into);
+    rooms(words_into);
+    rooms(image_into);
     rooms(tree_into);
     rooms(decoders_into);
     rooms(breaches_into);

@@ -3,6 +3,8 @@ is held against the same lines worked out in Python (told.py). The program is th
 crates/cxlplan/out/cxlplan; the libraries are in the folder that CXLPLAN_LIBRARIES names, or else in crates/cxl_c/out. What the
 machine lacks, a compiler or valgrind, is skipped."""
 
+import contextlib
+import itertools
 import os
 import re
 import shutil
@@ -21,13 +23,17 @@ HOST = [f"{TOP}/examples/four-endpoints.{it}" for it in ("cedt", "toml", "image"
 LOST = f"{TOP}/examples/lost-bytes.image"
 DATA = f"{HERE}/data"
 STRICT = ["-std=c99", "-Wall", "-Wextra", "-Werror", "-pedantic", "-O1", "-g", f"-I{TOP}/library"]
+BENCH = os.path.realpath(os.environ.get("CXLBENCH", f"{TOP}/crates/cxlbench/out/cxlbench"))
+HELD = ("words", "image")
 FILES = {"route": 1, "list": 1, "normal": 1, "tree": 1, "plan": 2, "decoders": 2, "windows": 2, "check": 3, "breaches": 3}
 SECONDS = 300
 
 os.environ.setdefault("CXLPLAN_LIBRARY", SHARED)
-sys.path[:0] = [HERE, f"{TOP}/python"]
+sys.path[:0] = [HERE, f"{TOP}/python", f"{TOP}/python/tests", f"{TOP}/examples/pipe"]
+import registers  # noqa: E402 pylint: disable=wrong-import-position
 import told  # noqa: E402 pylint: disable=wrong-import-position
 import window_tables  # noqa: E402 pylint: disable=wrong-import-position
+from pipe_session import PipeSession, image_of, words_at_start  # noqa: E402 pylint: disable=wrong-import-position
 from cxlplan import _by_library, _library  # noqa: E402 pylint: disable=wrong-import-position
 
 
@@ -87,12 +93,55 @@ def windows_rows(folder):
     yield from (["windows", table, topology] for table in [write(f"{folder}/verdicts", window_tables.each_verdict()), *tables])
 
 
+def held_rows(folder):
+    """Scripts whose last line's words are told, and the image behind them."""
+    made = b"create r0 pmem 0x20000000 d1 d2\n"
+    for number, script in enumerate((b"", made, made[:-1], made + b"destroy r0\n", made + b"create r1 pmem 0x1 d1\n", made + b"# none\n",
+                                     made + b"\n", made + b"store 0x110000000 00\nload 0x110000000 1\n", b"nonsense\r\n" + made[:-1] + b"\r\n",
+                                     b"begin create r0 pmem 0x20000000 d2 d1\nstep 5\n", made + b"begin destroy r0\nstep 3\nabort\n")):
+        name = write(f"{folder}/held.{number}", script)
+        yield from ([form, *HOST[:2], name, *image] for form in HELD for image in ([], HOST[2:]))
+    name = write(f"{folder}/held.destroy", b"destroy auto0\n")
+    for _, files in images():
+        yield from ([form, *files[:2], it, files[2]] for form in HELD for it in (name, f"{folder}/held.0"))
+    # more words than a session keeps of one call, of which the last line's are told, and all are in the image
+    many = write(f"{folder}/held.many", (made + b"destroy r0\n") * 1900 + made)
+    long = write(f"{folder}/held.long", b"down 0\n" * 2396746)
+    for form in HELD:
+        yield from ([form, *HOST[:at], f"{folder}/held.0", *HOST[at + 1:2], f"{folder}/held.1", HOST[2]] for at in range(2))
+        yield from ([form, *HOST[:2], f"{folder}/held.1", f"{folder}/held.0"], [form, *HOST[:2], many], [form, *HOST[:2], long])
+
+
+def by_bench(row):
+    """What cxlbench sends for the last line of a script, or the image of a plain model of registers (examples/pipe) that is sent the words
+    of all lines; where no session opens, what the program tells."""
+    status, text = by_program(["run", *row[1:]])
+    if status:
+        return status, text if status != 11 else text.splitlines(True)[-1]
+    files, nodes = [read(it) for it in row[1:]], told.nodes_of(read(row[2]))
+    image, numbers = files[3] if len(files) > 3 else None, {node.name: node.number for node in nodes}
+    sent = [[(node.number, 4, 2) for node in nodes if node.kind == "endpoint"]]
+    with contextlib.closing(PipeSession(BENCH, *files[:2], image, nodes)) as session:
+        for line in files[2].splitlines():
+            session.act(line.decode())
+            sent.append([(numbers[it.node], it.offset, it.value) for it in session.writes])
+    if row[0] == "words":
+        return 0, b"".join(b"w %d %#x %#x\n" % it for it in sent[-1])
+    blocks = [registers.Block(list(words)) for words in words_at_start(nodes, image)]
+    for number, offset, value in itertools.chain(*sent):
+        blocks[number].write(offset, value)
+    return 0, image_of([[block.read(4 * at) for at in range(4 + 8 * len(block.decoders))] for block in blocks])
+
+
 def by_program(row):
     """What the program answers to a row, over files with the names that the library tells of them; where it has no command, what it says
     of files that it does not take, and else what is told anew; of the broken places it tells the first."""
     if row[0] == "breaches":
         status, text = by_program(["check", *row[1:]])
         return status, text if status else b""
+    if row[0] in HELD:
+        # behind many creates and releases all is as behind one create
+        return by_bench([it.replace("held.many", "held.1") for it in row])
     if row[0] in ("tree", "decoders", "windows"):
         files = {"tree": [HOST[0], row[1], os.devnull], "decoders": [HOST[0], *row[1:]], "windows": [*row[1:], os.devnull]}[row[0]]
         status, text = by_program(["check", *files])
@@ -112,9 +161,9 @@ def by_program(row):
 
 
 def by_python(row):
-    files = [read(it) for it in row[1:1 + FILES.get(row[0], 3 if row[0] == "run" else 0)]]
-    if row[0] == "run":
-        return _library.run(*files, read(row[4]) if len(row) > 4 else None)
+    files = [read(it) for it in row[1:1 + FILES.get(row[0], 3 if row[0] in ("run", *HELD) else 0)]]
+    if row[0] in ("run", *HELD):
+        return getattr(_library, row[0])(*files, read(row[4]) if len(row) > 4 else None)
     if row[0] == "route":
         return _library.route(*files, int(row[2], 0))
     if row[0] == "plan":
@@ -155,6 +204,8 @@ class Library(unittest.TestCase):
     def setUpClass(cls):
         cls.folder = tempfile.mkdtemp()
         cls.rows = [row for row in rows(cls.folder) if told.TELLS or row[0] not in ("tree", "decoders", "windows", "breaches")]
+        if told.TELLS and os.access(BENCH, os.X_OK):
+            cls.rows += held_rows(cls.folder)
         # the C driver cuts rows at tabs, and takes an empty word for none
         cls.worded = [row for row in cls.rows if "" not in row]
         cls.wanted = {tuple(row): by_program(row) for row in cls.rows}

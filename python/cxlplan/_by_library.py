@@ -1,4 +1,4 @@
-"""The library in this process. Sessions are the program's."""
+"""The library in this process. Sessions are the program's, with writes and images of the library."""
 
 from typing import Optional
 
@@ -61,6 +61,17 @@ class LibraryEngine:
     def breaches(self, cedt: bytes, topo: bytes, image: bytes) -> list:
         status, data = self.library.breaches(cedt, topo, image)
         return texts.places(told((0 if status == 8 else status, data)))
+
+    # ---- Behind a script.
+
+    def words(self, cedt: bytes, topo: bytes, image: Optional[bytes], script: bytes) -> list:
+        """The register writes that the last line of a script sends."""
+        return texts.writes(told(self.library.words(cedt, topo, script, image)), self.tree(cedt, topo))
+
+    def image(self, cedt: bytes, topo: bytes, image: Optional[bytes], script: bytes) -> bytes:
+        """The register image behind a script."""
+        status, data = self.library.image(cedt, topo, script, image)
+        return data if status == 0 else told((status, data)).encode()
 
     def session(self, cedt: bytes, topo: bytes, image: Optional[bytes]):
         """A run of the program: the library keeps no sessions."""

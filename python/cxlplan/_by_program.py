@@ -5,15 +5,14 @@ import subprocess
 import tempfile
 from typing import Optional
 
-from . import _retold, texts
-from ._bench import Bench
+from . import texts
 from .errors import Broken, NoEngine, fault_of
 
 SENTINEL = b"step\n"  # a line that changes nothing, and is always answered ANSWER
 ANSWER = b"bad line 4 missing\n"
 NAMES = ("table", "topology", "image")
-NO_LIBRARY = ("windows, trees, decoders and all places of a broken rule are told by libcxlplan.so, which is not found: run ./prove --library "
-              "in the repository, or ./install, or name it in CXLPLAN_LIBRARY")
+NO_LIBRARY = ("windows, trees, decoders, all places of a broken rule and register writes are told by libcxlplan.so, which is not found: run "
+              "./prove --library in the repository, or ./install, or name it in CXLPLAN_LIBRARY")
 WRITING = (b"create", b"destroy", b"begin", b"step", b"abort")  # the lines that may write registers
 
 
@@ -41,8 +40,8 @@ class ProgramEngine:
 
     kind = "program"
 
-    def __init__(self, program: str, bench: Optional[str] = None) -> None:
-        self.program, self.bench = os.path.realpath(program), bench and os.path.realpath(bench)
+    def __init__(self, program: str) -> None:
+        self.program = os.path.realpath(program)
 
     def call(self, *words: str, contents: tuple = (), behind: tuple = (), script: bytes = b"") -> tuple:
         """The status and the text of `cxlplan WORDS.. FILES.. BEHIND..`."""
@@ -89,23 +88,26 @@ class ProgramEngine:
     def breaches(self, cedt: bytes, topo: bytes, image: bytes) -> list:
         raise NoEngine(NO_LIBRARY)
 
+    def words(self, cedt: bytes, topo: bytes, image: Optional[bytes], script: bytes) -> list:
+        raise NoEngine(NO_LIBRARY)
+
+    def image(self, cedt: bytes, topo: bytes, image: Optional[bytes], script: bytes) -> bytes:
+        raise NoEngine(NO_LIBRARY)
+
     def session(self, cedt: bytes, topo: bytes, image: Optional[bytes], teller=None) -> "ProgramSession":
         """A session, whose nodes another engine may tell."""
         return ProgramSession(self, cedt, topo, image, teller or self)
 
 
 class ProgramSession:
-    """A run of the program that is given one line at a time. Where the words of writes are asked for, a second run over pipes sends
-    them: it is given each line that writes."""
+    """A run of the program that is given one line at a time. Register writes and images are told by the engine that tells the nodes."""
 
     def __init__(self, engine: ProgramEngine, cedt: bytes, topo: bytes, image: Optional[bytes], teller) -> None:
         self.engine, self.teller, self.files = engine, teller, Files(cedt, topo, image)
-        self.host, self.bench = (cedt, topo, image), None
-        self.made: list = []  # the regions that were made here
-        self.has_released = False  # one of the image: the program does not tell what its decoders hold then
+        self.host = (cedt, topo, image)
+        self.lines, self.writing = b"", b""  # all that were sent, and those up to the last that may write
         self.process = subprocess.Popen([engine.program, "run", *self.files.names], cwd=self.files.place.name,
                                         stdin=subprocess.PIPE, stdout=subprocess.PIPE, stderr=subprocess.DEVNULL)
-        self.writes: list = []
         self.send(SENTINEL)
         self.reply(True)
 
@@ -132,18 +134,10 @@ class ProgramSession:
         is_passed_over = len(sent) <= 4096 and (not words or words[0].startswith(b"#"))
         self.send(sent + b"\n" + SENTINEL)
         reply = self.reply(is_passed_over)
-        if self.bench and words[:1] and words[0] in WRITING:
-            self.writes = self.bench.act(sent, reply)
-        self.note(reply.decode().split())
+        self.lines += sent + b"\n"
+        if words[:1] and words[0] in WRITING:
+            self.writing = self.lines
         return reply.decode()
-
-    def note(self, words: list) -> None:
-        """Notes which regions were made here."""
-        if words[:1] == ["created"]:
-            self.made.append(words[1])
-        elif words[:1] == ["destroyed"]:
-            self.has_released |= words[1] not in self.made
-            self.made = [name for name in self.made if name != words[1]]
 
     def reply(self, is_passed_over: bool) -> bytes:
         """The lines up to the answer of the sentinel. A line that is not passed over has one line of reply at the least."""
@@ -157,30 +151,16 @@ class ProgramSession:
             reply += text
 
     def watch(self) -> None:
-        """Has the words of writes told from now on. What was sent before is not told, so it comes before the first line."""
-        if not self.engine.bench:
-            raise NoEngine("register writes are told by cxlbench: run ./prove --bench in the repository, or name it in CXLBENCH")
-        cedt, topo, image = self.host
-        self.bench = Bench(self.engine.bench, cedt, topo, image, self.teller.tree(cedt, topo))
+        """Where nothing tells the words of writes, that is said at once."""
+        self.teller.words(*self.host, b"")
 
     def words(self) -> list:
-        """The register writes that the last line sent."""
-        return self.writes
+        """The register writes that the last line sent that may write."""
+        return self.teller.words(*self.host, self.writing) if self.writing else []
 
     def image(self) -> bytes:
-        """The registers as they stand: those of the beginning, with the words that `show` tells of each region made since."""
-        if self.has_released:
-            raise NoEngine("what registers hold behind the release of a region of the image, no call tells")
-        cedt, topo, opening = self.host
-        nodes = self.teller.tree(cedt, topo)
-        blocks = [list(block) for block in _retold.words_at_start(nodes, opening)]
-        numbers = {node.name: node.number for node in nodes}
-        for block, node in zip(blocks, nodes):
-            block[1] = 2 if node.kind == "endpoint" else 0  # a session lets all endpoints decode
-        for name in self.made:
-            for row in texts.shown(self.act(f"show {name}"))[1]:
-                blocks[numbers[row.node]][4 + 8 * row.decoder:11 + 8 * row.decoder] = row.words
-        return _retold.image_of(blocks)
+        """The registers as they stand."""
+        return self.teller.image(*self.host, self.lines)
 
     def close(self) -> None:
         if self.process.poll() is None:
@@ -192,6 +172,4 @@ class ProgramSession:
                 pipe.close()
             except BrokenPipeError:
                 pass
-        if self.bench:
-            self.bench.close()
         self.files.__exit__()

@@ -58,7 +58,7 @@ def find():
     """The library, else the program. CXLPLAN_ENGINE=program passes over the library."""
     from ._by_program import ProgramEngine
     name = program_file()
-    program = ProgramEngine(name, program_file("cxlbench", "CXLBENCH")) if name else None
+    program = ProgramEngine(name) if name else None
     found = library() if os.environ.get("CXLPLAN_ENGINE") != "program" else None
     if found:
         from ._by_library import LibraryEngine

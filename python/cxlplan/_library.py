@@ -26,6 +26,8 @@ _TAKES = {
     "check": _BYTES * 3,
     "plan": _BYTES * 3,
     "run": _BYTES * 4,
+    "words": _BYTES * 4,
+    "image": _BYTES * 4,
     "tree": _BYTES,
     "decoders": _BYTES * 2,
     "breaches": _BYTES * 3,
@@ -145,6 +147,16 @@ def plan(cedt, topo, line):
 def run(cedt, topo, script, image=None):
     """What the lines of a script are answered, on the host after reset, or with the registers of an image."""
     return _call("run", cedt, topo, image, script)
+
+
+def words(cedt, topo, script, image=None):
+    """The register words that the last line of a script sends, a line each: `w NODE OFFSET VALUE`."""
+    return _call("words", cedt, topo, image, script)
+
+
+def image(cedt, topo, script, image=None):  # pylint: disable=redefined-outer-name
+    """The register image behind a script, as the bytes of its file."""
+    return _call("image", cedt, topo, image, script)
 
 
 def tree(topo):

@@ -17,11 +17,14 @@ Bad input gives one line on standard error and status 1.
 import sys
 from typing import Optional
 
+from ._engine import engine
 from .errors import BadFile, BadWords, Breach
 from .files import write_new
 from .host import Host
-from .planning import create_text
+from .planning import create_text, decoder_at
 from .reply import Reply, Told, meaning
+from .room import table_with
+from .session import create_line
 from .tools import Words, carried_out, host_of, tell
 
 COMMIT, COMMITTED, ANSWERS = 1 << 9, 1 << 10, 7 << 9  # of a control word: the last are those that a write does not set
@@ -30,20 +33,37 @@ COMMIT, COMMITTED, ANSWERS = 1 << 9, 1 << 10, 7 << 9  # of a control word: the l
 # ---- For firmware.
 
 def writes_text(region: Told, host: Host) -> str:
-    """The writes of a region's words. Children come before their parents, so from the last node of the topology to the first; commit
-    comes last."""
-    text = (f"# {region.name}: {8 * len(region.rows)} writes of 32 bits. Offsets are those in a node's HDM decoder "
-            f"capability structure.\n# Before them bit 1 of the word at 0x4 is set in each endpoint.\n")
-    for node in reversed(host.nodes):
-        if node.name in region.rows:
+    """The writes of a region's words, in their order."""
+    text, last = (f"# {region.name}: {8 * len(region.rows)} writes of 32 bits. Offsets are those in a node's HDM decoder "
+                  f"capability structure.\n# Before them bit 1 of the word at 0x4 is set in each endpoint.\n"), ""
+    nodes = {node.name: node for node in host.nodes}
+    for name, place, commits in order_of(region, host):
+        if name != last:
+            last, node, row = name, nodes[name], region.rows[name]
             at = f"UID {node.uid}" if node.kind == "bridge" else f"below port {node.port} of {node.parent}"
-            text += f"\n{node.kind} {node.name}, {at}, decoder {region.rows[node.name].decoder}\n"
-            text += row_text(region, region.rows[node.name], region.decoders[node.name])
+            text += f"\n{node.kind} {name}, {at}, decoder {row.decoder}\n"
+            said = row_texts(region, row, region.decoders[name])
+        text += said[place, commits]
     return text
 
 
-def row_text(region: Told, row, held) -> str:
-    """The eight writes of a row's words; `held` are its fields."""
+def order_of(region: Told, host: Host) -> list:
+    """Of each write its node, the word of the decoder, and whether it commits: those of the region made alone, which have the same order.
+    Of a region that is not planned so, children come before their parents, and commit comes last."""
+    table = table_with(host.table.data, region.window, (region.base, region.size))
+    line = create_line(region.name, region.kind, region.size, *[it.endpoint for it in region.slots], gran=region.gran)
+    found = []
+    for write in engine().words(table, host.topology.data, None, line.encode()):
+        place = decoder_at(write.offset)[1]
+        found.append((write.node, place, place == 4 and bool(write.value & COMMIT)))
+    if {name for name, _, _ in found} == set(region.rows):
+        return found
+    return [(node.name, place, commits) for node in reversed(host.nodes) if node.name in region.rows
+            for place, commits in ((0, False), (1, False), (2, False), (3, False), (5, False), (6, False), (4, False), (4, True))]
+
+
+def row_texts(region: Told, row, held) -> dict:
+    """The lines of a row's writes, by word and by whether they commit; `held` are its fields."""
     base_low, base_high, size_low, size_high, control, tail_low, tail_high = row.words
     control &= ~ANSWERS
     if held.targets is None:
@@ -52,11 +72,13 @@ def row_text(region: Told, row, held) -> str:
         tail, said = "target list", "entries " + ", ".join(map(str, held.targets))
     ways = f"{held.ways} ways of {held.gran} bytes" if held.ways > 1 else "one way"
     flags = ", host-only memory" * held.host_only + ", lock on commit" * held.lock
-    rows = ((0x00, base_low, "base low"), (0x04, base_high, f"base high: from {region.base:#x}"),
-            (0x08, size_low, "size low"), (0x0c, size_high, f"size high: {region.size:#x} bytes"),
-            (0x14, tail_low, f"{tail} low"), (0x18, tail_high, f"{tail} high: {said}"), (0x10, control, f"control: {ways}{flags}"),
-            (0x10, control | COMMIT, f"control with commit; reads {control | COMMIT | COMMITTED:#010x} when done"))
-    return "".join(f"  {0x10 + 0x20 * row.decoder + place:#06x}  {value:#010x}  {what}\n" for place, value, what in rows)
+    rows = {(0, False): (base_low, "base low"), (1, False): (base_high, f"base high: from {region.base:#x}"),
+            (2, False): (size_low, "size low"), (3, False): (size_high, f"size high: {region.size:#x} bytes"),
+            (5, False): (tail_low, f"{tail} low"), (6, False): (tail_high, f"{tail} high: {said}"),
+            (4, False): (control, f"control: {ways}{flags}"),
+            (4, True): (control | COMMIT, f"control with commit; reads {control | COMMIT | COMMITTED:#010x} when done")}
+    return {(place, commits): f"  {0x10 + 0x20 * row.decoder + 4 * place:#06x}  {value:#010x}  {what}\n"
+            for (place, commits), (value, what) in rows.items()}
 
 
 def image_of(reply: Reply) -> bytes:

@@ -2,7 +2,7 @@
 
 from .errors import Breach, Broken, Refusal
 from .facts import (Bridge, Decoder, Down, Extent, Maps, Node, Other, Piece, Place, Poison, Position, Reason, Region, ShownRow, Slot,
-                    Spread, Up, Via, Window)
+                    Spread, Up, Via, Window, Write)
 
 
 def number(word: str) -> int:
@@ -48,6 +48,21 @@ def records(text: str) -> list:
 def position(text: str) -> Position:
     words = text.split()
     return Position(int(words[1]), int(words[3]), int(words[5]))
+
+
+# ---- Register writes.
+
+def write(line: str, nodes: list) -> Write:
+    """A register write, whose node is told by its number."""
+    words = line.split(" ")
+    try:
+        return Write(nodes[int(words[1])].name, number(words[2]), number(words[3]))
+    except (ValueError, IndexError):
+        raise broken(line) from None
+
+
+def writes(text: str, nodes: list) -> list:
+    return [write(line, nodes) for line in lines_of(text)]
 
 
 # ---- Windows, trees and decoders, as the library's read-only calls tell them.

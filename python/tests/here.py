@@ -39,8 +39,8 @@ def program():
 
 # For tests that ask the proved calls: they are skipped where program and library are not built.
 HAS_BOTH = program() and _engine.engine().kind == "library"
+BENCH = _engine.program_file("cxlbench", "CXLBENCH")
 asks_the_engine = unittest.skipUnless(HAS_BOTH, "./prove and ./prove --library build what is asked")
-asks_for_writes = unittest.skipUnless(HAS_BOTH and program().bench, "cxlbench is not built")
 
 
 class Case(unittest.TestCase):

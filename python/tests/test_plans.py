@@ -5,11 +5,12 @@ import io
 import re
 import unittest
 
-from here import FOUR, Case, asks_for_writes, asks_the_engine, machines, peer, said, worked_hosts
+from here import BENCH, FOUR, Case, asks_the_engine, machines, peer, said, worked_hosts
 from cxlplan import Host, Refusal, regions, texts
 from cxlplan._engine import engine
 from cxlplan.planning import image_with
 from cxlplan.room import table_with
+from pipe_session import PipeSession
 
 WAYS = (1, 2, 3, 4, 6, 8, 12, 16)
 
@@ -22,6 +23,19 @@ def takes(host):
     """Each line of a picked region that a host takes."""
     with host.session() as session:
         return [line for line in lines_of(WAYS) if session.would(line) is None]
+
+
+def written(text, name):
+    """The node, the offset and the value of each write in a text of `--words`: of each part that begins with the region's name."""
+    parts, node = [], ""
+    for row in text.splitlines():
+        if row.startswith(f"# {name}: "):
+            parts.append([])
+        elif row.startswith("  0x"):
+            parts[-1].append((node, *(int(word, 16) for word in row.split()[:2])))
+        elif row and not row.startswith("#"):
+            node = row.split(",")[0].split()[-1]
+    return parts
 
 
 class Beside(Case):
@@ -40,7 +54,7 @@ class Beside(Case):
         return [host for host in found + list(worked_hosts()) if host.breach is None]
 
 
-@asks_for_writes
+@asks_the_engine
 class Writes(Beside):
     def test_words(self):
         """The writes of each plan on each worked host: those of the peer, node by node and word by word; what takes it down leaves the
@@ -74,13 +88,27 @@ class Writes(Beside):
                 self.assertEqual(regions.main(["--words", *names]), 0)
             return out.getvalue()
 
-        found, node = [], ""
-        for row in self.beside(asked, host, line).splitlines():
-            if row.startswith("  0x"):
-                found.append((node, *(int(word, 16) for word in row.split()[:2])))
-            elif row and not row.startswith("#"):
-                node = row.split(",")[0].split()[-1]
-        return found
+        return written(self.beside(asked, host, line), "r0")[0]
+
+    def sent(self, host, *lines):
+        """What cxlbench sends for each of these lines."""
+        with contextlib.closing(PipeSession(BENCH, host.table.data, host.topology.data, host.registers, host.nodes)) as session:
+            return [[(it.node, it.offset, it.value) for it in session.writes] for line in lines if session.act(line) is not None]
+
+    @unittest.skipUnless(BENCH, "cxlbench is not built")
+    def test_by_pipe(self):
+        """On each host `--words` tells what a session sends over the pipe of cxlbench, word for word."""
+        for number, host in enumerate(self.hosts()):
+            folder = self.folder(f"host{number}", host)
+            for line in takes(host):
+                with self.subTest(host.name, line=line):
+                    status, text, _ = said("plan", folder, line, "--words")
+                    self.assertEqual((status, written(text, "r0")), (0, self.sent(host, line, "destroy r0")))
+            for name in [f"auto{at}" for at in range(len(host.regions))]:
+                with self.subTest(host.name, name=name):
+                    status, text, _ = said("plan", folder, f"destroy {name}", "--words")
+                    if status == 0:
+                        self.assertEqual(written(text, name)[0], self.sent(host, f"destroy {name}")[0])
 
     def test_texts(self):
         """The three forms of the writes."""

@@ -2,5 +2,6 @@
 #![tactic(auto)]
 
 mod forms;
+mod held;
 mod reads;
 mod windows;

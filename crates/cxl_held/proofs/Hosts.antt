@@ -5,6 +5,7 @@ use Rattle.cxl_table.specs.CedtFields.{CedtFields}
 use Rattle.cxl_image.specs.Images.{reset_blocks}
 use Rattle.cxl_inputs.specs.Host.{host_of}
 use Rattle.cxl_inputs.specs.ResetHost.{reset_host_of}
+use Rattle.cxl_opening.specs.Opening.{endpoints_in, enabling}
 use Rattle.cxl_regs.specs.Registers.{Registers}
 use Rattle.cxl_topo.specs.Tree.{Tree}
 use Rattle.cxl_window.specs.Fields.{WindowFields}
@@ -31,8 +32,8 @@ module _ (table : CedtFields) (tree : Tree) (blocks : List Registers) (windows :
 
 module _ (cedt topo : List ℕ) (image : Option (List ℕ)) (before after : FetchState) (old new : SinkState) where
   pub opened_over : (s : System) (frames : ℕ) → IsHostOf before.told cedt topo image s frames → (result : Result Held Status)
-      → IfOk result (λ held. (m : Machine) × Opens s frames m × IsHeldAt held m) → IfOk result (IsOpened before.told cedt topo image)
-  opened_over s frames host (Ok held) is = (s, frames, is.0, host, is.1, is.2)
+      → IfOk result (λ held. (m : Machine) × Opens s frames m × IsHeldAt held m × (held.regs.trail ≡ enabling (endpoints_in s.nodes))) → IfOk result (IsOpened before.told cedt topo image)
+  opened_over s frames host (Ok held) is = (s, frames, is.0, host, is.1, is.2, is.3)
   opened_over s frames host (Err status) is = tt
 
   pub refused_over : (s : System) (frames : ℕ) → IsHostOf before.told cedt topo image s frames → (result : Result Held Status)
@@ -47,7 +48,7 @@ module _ (cedt topo : List ℕ) (image : Option (List ℕ)) (before after : Fetc
 
 -- a session that opened is one that is kept
 pub kept_over : (s : System) (frames : ℕ) (result : Result Held Status)
-    → IfOk result (λ held. (m : Machine) × Opens s frames m × IsHeldAt held m) → IfOk result IsKept
+    → IfOk result (λ held. (m : Machine) × Opens s frames m × IsHeldAt held m × (held.regs.trail ≡ enabling (endpoints_in s.nodes))) → IfOk result IsKept
 kept_over s frames (Ok held) is = (is.0, is.2)
 kept_over s frames (Err status) is = tt
 

@@ -1,5 +1,5 @@
 -- A session with its registers and its device memory, and what it comes to where none opens.
-use Rattle.std.specs.Prelude.{◌≡◌, ℕ, ◌<◌, Option, Some, None, List}
+use Rattle.std.specs.Prelude.{◌≡◌, ℕ, ◌<◌, Option, Some, None, List, []}
 use Rattle.cxl_table.specs.CedtFields.{CedtFields}
 use Rattle.cxl_commands.specs.commands.RefusedStart.{too_many_regions}
 use Rattle.cxl_commands.specs.inner.Reports.{TellsBreach}
@@ -15,10 +15,11 @@ use Rattle.cxl_io.specs.Told.{Told}
 use Rattle.cxl_machine.specs.Machine.{Machine}
 use Rattle.cxl_machine.specs.Scripts.{Asked, Turn}
 use Rattle.cxl_machine.specs.Sound.{Opens}
+use Rattle.cxl_machine.specs.Turns.{AreTurns, machine_after, failed_in}
 use Rattle.cxl_media.specs.Sim.{shipped_state}
 use Rattle.cxl_model.specs.Listed.{region_limit}
 use Rattle.cxl_model.specs.System.{System}
-use Rattle.cxl_opening.specs.Opening.{HasRegions}
+use Rattle.cxl_opening.specs.Opening.{HasRegions, endpoints_in, enabling}
 use Rattle.cxl_regs.specs.Registers.{Registers}
 use Rattle.cxl_session.specs.Standing.{IsAt}
 use Rattle.cxl_topo.specs.Tree.{Tree}
@@ -41,6 +42,13 @@ abbrev pub HasAnswered : Machine → List Asked → List Turn → Held → Held 
 HasAnswered m asked turns old new =
     HasGoneOn m asked turns new.session (trailed_state (emptied old.regs)) (trailed_state new.regs) (shipped_state new.media)
 
+-- from this machine on it was asked this and answered so, no call of its registers failed, and its trail is empty
+pub record HasPassedOver (m : Machine) (asked : List Asked) (turns : List Turn) (new : Held) : Type 0 where
+  pub answered : AreTurns m asked turns
+  pub at : IsHeldAt new (machine_after m turns)
+  pub unfailed : failed_in turns ≡ []
+  pub words : new.regs.trail ≡ []
+
 -- ---- where none opens
 
 -- Over this host no session opened: its image has a breach, or more regions than may live, which is told, or the sink
@@ -59,10 +67,11 @@ IsHostOf told cedt topo (Some image) s frames =
     (table : CedtFields) × (tree : Tree) × (blocks : List Registers) × AreRead told cedt topo image table tree blocks
     × (s ≡ host_of table tree blocks) × (frames ≡ tree.frames)
 
--- a session is at the machine that the host of the files opens with
+-- a session is at the machine that the host of the files opens with, and its trail has the words that let the endpoints decode
 abbrev pub IsOpened : (List ℕ → Told) → List ℕ → List ℕ → Option (List ℕ) → Held → Type 0
 IsOpened told cedt topo image held =
     (s : System) × (frames : ℕ) × (m : Machine) × IsHostOf told cedt topo image s frames × Opens s frames m × IsHeldAt held m
+    × (held.regs.trail ≡ enabling (endpoints_in s.nodes))
 
 -- a file has no reading
 abbrev pub HasNoFiles : List ℕ → List ℕ → Option (List ℕ) → FetchState → FetchState → Outcome → Type 0

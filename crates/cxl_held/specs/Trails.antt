@@ -20,6 +20,10 @@ pub record Trailed : Type 0 where
 abbrev pub room : ℕ
 room = 65536
 
+-- these blocks with an empty trail
+abbrev pub untrailed : List Registers → Trailed
+untrailed blocks = record { blocks = blocks; trail = []; overruns = 0; faults = 0 }
+
 -- with the trail emptied
 abbrev pub emptied : Trailed → Trailed
 emptied bus = record bus { trail = []; overruns = 0 }

@@ -1,11 +1,12 @@
 //! The calls on a session that is kept.
 
-ghost use Rattle.std.specs.Prelude.{◌≡◌, ◌≤◌, List, IfOk};
+ghost use Rattle.std.specs.Prelude.{◌≡◌, ◌<◌, ◌≤◌, List, length, IfOk};
 ghost use Rattle.cxl_image.specs.File.{IsImageFile};
 ghost use Rattle.cxl_machine.specs.Machine.{Machine};
 ghost use Rattle.cxl_machine.specs.Scripts.{Asked, Turn};
 ghost use Rattle.cxl_shell.specs.Endings.{EndsScript};
 ghost use Rattle.cxl_held.specs.Sessions.{IsKept, IsHeldAt, HasAnswered};
+ghost use Rattle.cxl_held.specs.Trails.{room};
 
 use crate::held::Held;
 use cxl_bus::Sent;
@@ -29,18 +30,22 @@ impl Held {
             × HasAnswered m asked turns self.old self.new
             × EndsScript m.settled.nodes asked turns (S.state lines.old) (S.state lines.new)
             (K.state out.old) (K.state out.new) result }
+        // Where these sent fewer words than there is room for, no call of the registers failed.
+        ensures unfailed { length self.new.regs.trail < room → self.new.regs.overruns ≡ 0 }
         ensures source { (S.state lines.old).faults ≤ (S.state lines.new).faults }
         ensures sink { (K.state out.old).faults ≤ (K.state out.new).faults }
     {
         self.regs.empty_trail();
-        over_session(
+        let status = over_session(
             alloc,
             &mut self.session,
             lines,
             out,
             &mut self.regs,
             &mut self.media,
-        )
+        );
+        let _words = self.regs.trail();
+        status
     }
 
     /// The register words that the last call of `act` sent, in order; before the first such call those that opening it

@@ -4,9 +4,10 @@
 mod acting;
 mod held;
 mod opening;
+mod passing;
 mod trail_bus;
 
 pub use cxl_bus::Sent;
 pub use cxl_inputs::Status;
 pub use held::Held;
-pub use trail_bus::TrailBus;
+pub use trail_bus::{ROOM, TrailBus};

@@ -6,6 +6,7 @@ ghost use Rattle.cxl_machine.specs.Machine.{Machine};
 ghost use Rattle.cxl_machine.specs.Sound.{Opens};
 ghost use Rattle.cxl_model.specs.System.{IsSystem, system_of};
 ghost use Rattle.cxl_model.specs.Accepted.{IsAccepted};
+ghost use Rattle.cxl_opening.specs.Opening.{endpoints_in, enabling};
 ghost use Rattle.cxl_held.specs.Sessions.{IsHeldAt, IsKept, IsOpened, IsRefused, OpensNone};
 
 use crate::held::Held;
@@ -29,7 +30,8 @@ impl Held {
         files: &mut F,
         out: &mut K,
     ) -> Result<Held, Status>
-        // It is at the machine that the host of the files opens with, and nothing is written.
+        // It is at the machine that the host of the files opens with, its words are those that let the endpoints decode, and
+        // nothing is written.
         ensures opened { IfOk result (IsOpened (F.state files.old).told cedt.now topo.now None) }
         ensures kept { IfOk result IsKept }
         ensures quiet { OnOk result (out.new ≡ out.old) }
@@ -58,7 +60,8 @@ impl Held {
         files: &mut F,
         out: &mut K,
     ) -> Result<Held, Status>
-        // It is at the machine that the host of the files opens with, and nothing is written.
+        // It is at the machine that the host of the files opens with, its words are those that let the endpoints decode, and
+        // nothing is written.
         ensures opened { IfOk result (IsOpened (F.state files.old).told cedt.now topo.now (Some image.now)) }
         ensures kept { IfOk result IsKept }
         ensures quiet { OnOk result (out.new ≡ out.old) }
@@ -82,7 +85,8 @@ impl Held {
 fn open_checked<K: Sink>(alloc: Global, host: OwnedHost, out: &mut K) -> Result<Held, Status>
     requires { IsSystem (system_of host.image host.topo host.windows.items) }
     ensures opened { IfOk result (λ held. (m : Machine)
-        × Opens (system_of host.image host.topo host.windows.items) host.topo.frames m × IsHeldAt held m) }
+        × Opens (system_of host.image host.topo host.windows.items) host.topo.frames m × IsHeldAt held m
+        × (held.regs.trail ≡ enabling (endpoints_in host.topo.nodes))) }
     ensures quiet { OnOk result (out.new ≡ out.old) }
     ensures refused { IfErr result (λ status. IsRefused (system_of host.image host.topo host.windows.items) status
         (K.state out.old) (K.state out.new)) }
@@ -99,7 +103,8 @@ fn open_accepted<K: Sink>(alloc: Global, host: OwnedHost, out: &mut K) -> Result
     requires system { IsSystem (system_of host.image host.topo host.windows.items) }
     requires accepted { IsAccepted (system_of host.image host.topo host.windows.items) }
     ensures opened { IfOk result (λ held. (m : Machine)
-        × Opens (system_of host.image host.topo host.windows.items) host.topo.frames m × IsHeldAt held m) }
+        × Opens (system_of host.image host.topo host.windows.items) host.topo.frames m × IsHeldAt held m
+        × (held.regs.trail ≡ enabling (endpoints_in host.topo.nodes))) }
     ensures quiet { OnOk result (out.new ≡ out.old) }
     ensures refused { IfErr result (λ status. IsRefused (system_of host.image host.topo host.windows.items) status
         (K.state out.old) (K.state out.new)) }

@@ -4,7 +4,7 @@ ghost use Rattle.std.specs.Prelude.{◌≡◌, ◌+◌, ◌<◌, ◌≤◌, min,
 ghost use Rattle.cxl_bus.specs.Failed.{place_limit, HasFailedAt};
 ghost use Rattle.cxl_enc.specs.Counters.{next_count};
 ghost use Rattle.cxl_regs.specs.Blocks.{IsPlace, HasPlacesOf, word_in};
-ghost use Rattle.cxl_held.specs.Trails.{emptied, is_full, after_write, trailed_state};
+ghost use Rattle.cxl_held.specs.Trails.{room, untrailed, emptied, is_full, after_write, trailed_state};
 
 use cxl_bus::{Regs, Sent, SimBus};
 use cxl_enc::{Failed, Memory};
@@ -13,7 +13,7 @@ use std::alloc::Global;
 use std::marker::Model;
 
 /// How many words the trail has room for.
-const ROOM: usize = 65_536;
+pub const ROOM: usize = 65_536;
 
 /// How many writes that found the trail full are counted by place.
 const PLACES: usize = 65_536;
@@ -37,9 +37,10 @@ impl Model for TrailBus {
 
     ghost view = { λ b. record { blocks = b.bus; trail = b.trail.items; overruns = b.overruns; faults = b.faults } };
 
-    // Where there are blocks to read and write, the trail has all its room; and neither it nor the count goes past that.
+    // Where there are blocks to read and write, the trail has all its room; neither it nor the count goes past that; and only a
+    // full one is overrun.
     ghost invariant = { λ b. (0 < length b.bus → 65536 ≤ vec_capacity b.trail)
-        × (length b.trail.items ≤ 65536) × (b.overruns ≤ 65536) };
+        × (length b.trail.items ≤ 65536) × (b.overruns ≤ 65536) × (0 < b.overruns → 65536 ≤ length b.trail.items) };
 }
 
 impl TrailBus {
@@ -55,9 +56,32 @@ impl TrailBus {
         }
     }
 
+    /// A bus over these blocks, with an empty trail. Takes memory for that.
+    pub(crate) fn over(alloc: Global, bus: SimBus) -> Result<TrailBus, Memory>
+        ensures { IfOk result (λ made. made ≡ untrailed bus) }
+    {
+        let trail = Vec::with_capacity(alloc, ROOM)?;
+        Ok(TrailBus {
+            bus,
+            trail,
+            overruns: 0,
+            faults: 0,
+        })
+    }
+
+    /// Its blocks, without its trail.
+    pub(crate) fn into_bus(self) -> SimBus
+        ensures { result ≡ self.blocks }
+    {
+        let TrailBus { bus, .. } = self;
+        bus
+    }
+
     /// The words that it was sent since its trail was last emptied, in order.
     pub fn trail(&self) -> &[Sent]
-        ensures { result.now ≡ self.now.trail }
+        ensures words { result.now ≡ self.now.trail }
+        // Where there is room for more, no call failed since then.
+        ensures unfailed { length result.now < room → self.now.overruns ≡ 0 }
     {
         &self.trail
     }
@@ -72,6 +96,7 @@ impl TrailBus {
 
     /// Counts a fault, and that it was behind all the words that there is room for.
     fn overrun(&mut self)
+        requires { room ≤ length self.old.trail }
         ensures { self.new ≡ record self.old { overruns = min (self.old.overruns + 1) place_limit; faults = next_count self.old.faults } }
     {
         self.faults = self.faults.saturating_add(1);

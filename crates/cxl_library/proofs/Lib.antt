@@ -2,3 +2,5 @@ mod FormWords
 mod Growing
 mod Runs
 mod Marks
+mod Telling
+mod LastLine

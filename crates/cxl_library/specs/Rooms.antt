@@ -1,5 +1,5 @@
 -- A room of the caller as a sink.
-use Rattle.std.specs.Prelude.{ℕ, true, Some, List, ◌∷◌, take}
+use Rattle.std.specs.Prelude.{ℕ, true, Some, None, List, ◌∷◌, take}
 use Rattle.cxl_io.specs.Sink.{SinkState}
 use Rattle.cxl_library.specs.declared.room.Room.{Room}
 
@@ -15,3 +15,7 @@ room_state room = record {
   faults = room.faults;
   counts_failures_alone = true;
 }
+
+-- a sink that tells nothing, and never failed
+abbrev pub untold : SinkState
+untold = record { taken = None; faults = 0; counts_failures_alone = true }

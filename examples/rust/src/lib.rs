@@ -22,6 +22,14 @@ pub mod raw {
             cedt: *const c_void, cedt_len: usize, topo: *const c_void, topo_len: usize, image: *const c_void, image_len: usize,
             script: *const c_void, script_len: usize, out: *mut c_void, out_len: usize, written: *mut usize,
         ) -> c_int;
+        pub fn cxlplan_words(
+            cedt: *const c_void, cedt_len: usize, topo: *const c_void, topo_len: usize, image: *const c_void, image_len: usize,
+            script: *const c_void, script_len: usize, out: *mut c_void, out_len: usize, written: *mut usize,
+        ) -> c_int;
+        pub fn cxlplan_image(
+            cedt: *const c_void, cedt_len: usize, topo: *const c_void, topo_len: usize, image: *const c_void, image_len: usize,
+            script: *const c_void, script_len: usize, out: *mut c_void, out_len: usize, written: *mut usize,
+        ) -> c_int;
         pub fn cxlplan_tree(topo: *const c_void, topo_len: usize, out: *mut c_void, out_len: usize, written: *mut usize) -> c_int;
         pub fn cxlplan_decoders(
             topo: *const c_void, topo_len: usize, image: *const c_void, image_len: usize,
@@ -109,6 +117,22 @@ pub fn run<'a>(cedt: &[u8], topo: &[u8], image: Option<&[u8]>, script: &[u8], ou
     let (i, i_len) = image.map_or((core::ptr::null(), 0), |image| bytes!(image));
     // SAFETY: as in `route`; null with length 0 stands for no image.
     answer(out, |at, len, written| unsafe { raw::cxlplan_run(c, c_len, t, t_len, i, i_len, s, s_len, at, len, written) })
+}
+
+/// The register words that the last line of a script sends, a line each: `w NODE OFFSET VALUE`.
+pub fn words<'a>(cedt: &[u8], topo: &[u8], image: Option<&[u8]>, script: &[u8], out: &'a mut [u8]) -> Answer<'a> {
+    let ((c, c_len), (t, t_len), (s, s_len)) = (bytes!(cedt), bytes!(topo), bytes!(script));
+    let (i, i_len) = image.map_or((core::ptr::null(), 0), |image| bytes!(image));
+    // SAFETY: as in `run`.
+    answer(out, |at, len, written| unsafe { raw::cxlplan_words(c, c_len, t, t_len, i, i_len, s, s_len, at, len, written) })
+}
+
+/// The register image behind a script, as the bytes of its file.
+pub fn image<'a>(cedt: &[u8], topo: &[u8], image: Option<&[u8]>, script: &[u8], out: &'a mut [u8]) -> Answer<'a> {
+    let ((c, c_len), (t, t_len), (s, s_len)) = (bytes!(cedt), bytes!(topo), bytes!(script));
+    let (i, i_len) = image.map_or((core::ptr::null(), 0), |image| bytes!(image));
+    // SAFETY: as in `run`.
+    answer(out, |at, len, written| unsafe { raw::cxlplan_image(c, c_len, t, t_len, i, i_len, s, s_len, at, len, written) })
 }
 
 /// A topology as lines: its frames and each node, also with what the file leaves to a default.

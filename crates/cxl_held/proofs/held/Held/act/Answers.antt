@@ -11,11 +11,11 @@ use Rattle.cxl_held.proofs.held.Held.act.Goals as goal
 pub returns-clause-answered : goal.returns-clause-answered
 returns-clause-answered g c = λ m at.
     let held = c.args.self.now in
-    let now = c.over_session.new in
+    let now = c.over_session-status.new in
     subst (λ (bus : Trailed). (asked : List Asked) × (turns : List Turn)
     × HasGoneOn m asked turns now.session (trailed_state bus) (trailed_state now.regs) (shipped_state now.media)
-    × EndsScript m.settled.nodes asked turns (g.S.Source.state c.args.lines.now) (g.S.Source.state now.source) (g.K.Sink.state c.args.out.now) (g.K.Sink.state now.out) c.over_session.result)
+    × EndsScript m.settled.nodes asked turns (g.S.Source.state c.args.lines.now) (g.S.Source.state now.source) (g.K.Sink.state c.args.out.now) (g.K.Sink.state now.out) c.over_session-status.result)
     c.empty_trail.ensures
-    (c.over_session.ensures.ends m
+    (c.over_session-status.ensures.ends m
     (subst (λ (bus : Trailed). IsAt held.session (trailed_state bus) (shipped_state held.media) m) (sym c.empty_trail.ensures)
     (at_emptied held.session held.regs (shipped_state held.media) m at)))
