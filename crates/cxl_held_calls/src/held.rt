@@ -105,6 +105,28 @@ fn a_session_is_kept(rt: HostRuntime) {
     opens_again(&rt, alloc, &image);
 }
 
+#[test]
+fn lines_are_passed(rt: HostRuntime) {
+    let alloc = rt.alloc();
+    let mut out = sink(&rt, alloc);
+    let mut files = files(&rt, alloc, b"");
+    let opened = Held::open_from_reset(alloc, "cedt", "topo", &mut files, &mut out);
+    let Ok(held) = opened else {
+        assert!(rt; false, "it opens");
+        return;
+    };
+    let mut create = lines(&rt, alloc, "create r0 ram 0x20000000 e0 e1\n");
+    let Ok(mut held) = held.pass(alloc, &mut create, &mut out) else {
+        assert!(rt; false, "it comes to its end");
+        return;
+    };
+    assert!(rt; out.bytes() == CREATED.as_bytes(), "the reply");
+    assert!(rt; held.words().is_empty(), "no word is told");
+    let status = held.act(alloc, &mut lines(&rt, alloc, "destroy r0\n"), &mut out);
+    assert!(rt; status.code() == 0, "status");
+    assert!(rt; held.words().len() == 4, "a word a decoder");
+}
+
 /// A session opens on the image that another left: its region is there.
 fn opens_again(rt: &impl Abort, alloc: Global, image: &[u8]) {
     let mut out = sink(rt, alloc);
