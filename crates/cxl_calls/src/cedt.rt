@@ -25,14 +25,14 @@ const ONE_MAP: [u8; 16] = [
     0x02, 0, 0x10, 0, 0, 0, 0, 0x01, 0, 0x41, 0x40, 0, 0, 0, 0, 0,
 ];
 
-/// A record of another type.
-const OTHER: [u8; 8] = [0x04, 0, 0x08, 0, 0xaa, 0xbb, 0xcc, 0xdd];
+/// A record of another type, whose reserved byte is kept.
+const OTHER: [u8; 8] = [0x04, 0x03, 0x08, 0, 0xaa, 0xbb, 0xcc, 0xdd];
 
 /// The changes of the two bridges' table for a window under XOR, and for one record more of 16 bytes.
 const FOR_XOR: &[(usize, u8)] = &[(4, 0xa0), (9, 0x25), (125, 0x01)];
 
 /// The changes for one record more of the other type.
-const FOR_OTHER: &[(usize, u8)] = &[(4, 0x98), (9, 0xa8)];
+const FOR_OTHER: &[(usize, u8)] = &[(4, 0x98), (9, 0xa5)];
 
 /// The two bridges' table with some bytes changed, and with more behind it.
 fn changed(rt: &impl Abort, alloc: Global, changes: &[(usize, u8)], more: &[u8]) -> Vec<u8> {
@@ -144,7 +144,7 @@ fn have_other(records: &[Record]) -> bool {
     let [_, _, _, Record::Other(other)] = records else {
         return false;
     };
-    other.kind() == 4 && other.reserved() == 0 && other.body() == &OTHER[4..]
+    other.kind() == 4 && other.reserved() == 3 && other.body() == &OTHER[4..]
 }
 
 /// The head of all tables here.

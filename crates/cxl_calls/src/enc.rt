@@ -183,7 +183,7 @@ const LEGAL: &[CapWord] = &[
         endpoint: false,
         legal: true,
     },
-    // An endpoint with targets, a port with none, bit 10, and decoder count code 6.
+    // An endpoint with targets, a port with none, bit 10, a port of sixteen ways, and decoder count code 6.
     CapWord {
         word: 0x382,
         endpoint: true,
@@ -196,6 +196,11 @@ const LEGAL: &[CapWord] = &[
     },
     CapWord {
         word: 0x782,
+        endpoint: false,
+        legal: false,
+    },
+    CapWord {
+        word: 0x1382,
         endpoint: false,
         legal: false,
     },
@@ -215,8 +220,11 @@ fn legal_words(rt: HostRuntime) {
 
 #[test]
 fn lists_and_calls(rt: HostRuntime) {
-    let items = FixedList::new(list(&rt, b"\x03\x01\x02"));
+    let mut items = FixedList::new(list(&rt, b"\x03\x01\x02"));
     assert!(rt; items.items() == b"\x03\x01\x02".as_slice());
+    assert!(rt; items.items().len() == 3);
+    items.replace_all(b"\x04\x06\x05".as_slice());
+    assert!(rt; items.items() == b"\x04\x06\x05".as_slice());
     assert!(rt; begins(&mut FailingCalls::new(list(&rt, &[2, 4]))));
 }
 

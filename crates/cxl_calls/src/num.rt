@@ -42,11 +42,15 @@ fn counts_set_bits(rt: HostRuntime) {
     }
 }
 
-/// The map of the worked XOR window takes the bits 8, 14 and 22.
+/// The map of the worked XOR window takes the bits 8, 14 and 22. No map takes bit 52, and the first map tells the lowest bit.
 fn takes_parities() -> bool {
     let maps = [0x40_4100, 0, 0, 0];
+    let high = [0x40_4100 | 1 << 52, 0, 0, 0];
+    let two = [0x100, 0x200, 0, 0];
     are_usable_maps(0, 1, &maps)
         && !are_usable_maps(1, 1, &maps)
+        && !are_usable_maps(0, 1, &high)
+        && parities(&two, 2, 0x100) == 1
         && parities(&maps, 1, 0x1_0000_4000) == 1
         && parities(&maps, 1, 0x1_0000_4100) == 0
 }

@@ -64,6 +64,7 @@ const FORWARDING: [Row; 4] = [
         ..OTHER_BRIDGE
     },
     Row {
+        parent: Some(Parent { node: 0, port: 1 }),
         cap: 0x10,
         forwards: true,
         ..SWITCH
@@ -162,7 +163,7 @@ fn are_passed(topo: &Topo) -> bool {
     }
     let landings = (topo.landing(0), topo.landing(1), topo.landing(2));
     let ports = (topo.decoding_port(0), topo.decoding_port(3));
-    landings == (Some(0), None, Some(3)) && ports == (None, Some(Parent { node: 0, port: 0 }))
+    landings == (Some(0), None, Some(3)) && ports == (None, Some(Parent { node: 0, port: 1 }))
 }
 
 #[test]
