@@ -25,7 +25,12 @@ impl Held {
     /// fails, however many these are. A session that does not come to the end of its lines is let go. (This project's rule.) Takes
     /// memory.
     #[tactic(auto, using(crate::proofs::Untrailed::stands_sim))]
-    pub fn pass<S: Source, K: Sink>(self, alloc: Global, lines: &mut S, out: &mut K) -> Result<Held, Status>
+    pub fn pass<S: Source, K: Sink>(
+        self,
+        alloc: Global,
+        lines: &mut S,
+        out: &mut K,
+    ) -> Result<Held, Status>
         requires kept { IsKept self }
         ensures kept { IfOk result IsKept }
         // Whatever machine it is at, the lines are answered from there on, by the turns of that machine, and no call failed.

@@ -17,7 +17,7 @@ returns-in-Done-clause-answered g c =
       ended.0,
       ended.1,
       passed_over held now.session now.regs m ended.0 ended.1 c.into_bus-bus.result made.0 made.1
-      (subst (λ media. HasGoneOn m ended.0 ended.1 now.session (sim c.into_bus-bus.result) (sim now.regs) (shipped_state media)) (sym made.2) ended.2),
+          (subst (λ media. HasGoneOn m ended.0 ended.1 now.session (sim c.into_bus-bus.result) (sim now.regs) (shipped_state media)) (sym made.2) ended.2),
       subst (λ (status : Status). EndsScript m.settled.nodes ended.0 ended.1 (g.S.Source.state c.args.lines.now) (g.S.Source.state now.source) (g.K.Sink.state c.args.out.now) (g.K.Sink.state now.out) status) c.in-Done.is ended.3,
     )) c.held_over.ensures.made
 
@@ -27,9 +27,11 @@ returns-in-Done-clause-kept g c =
     let self = c.args.self in
     let now = c.over_session.new in
     let m = c.requires.kept.0 in
-    let ended = c.over_session.ensures.ends m (at_sim self.session self.regs c.into_bus-bus.result (shipped_state self.media) c.into_bus-bus.ensures m c.requires.kept.1) in
-    (machine_after m ended.1, (passed_over held now.session now.regs m ended.0 ended.1 c.into_bus-bus.result made.0 made.1
-    (subst (λ media. HasGoneOn m ended.0 ended.1 now.session (sim c.into_bus-bus.result) (sim now.regs) (shipped_state media)) (sym made.2) ended.2)).at)) c.held_over.ensures.made
+    let ended = c.over_session.ensures.ends m (at_sim self.session self.regs c.into_bus-bus.result (shipped_state self.media) c.into_bus-bus.ensures m c.requires.kept.1) in (
+      machine_after m ended.1,
+      (passed_over held now.session now.regs m ended.0 ended.1 c.into_bus-bus.result made.0 made.1
+          (subst (λ media. HasGoneOn m ended.0 ended.1 now.session (sim c.into_bus-bus.result) (sim now.regs) (shipped_state media)) (sym made.2) ended.2)).at,
+    )) c.held_over.ensures.made
 
 pub returns-in_default-clause-stopped : goal.returns-in_default-clause-stopped
 returns-in_default-clause-stopped g c = inr (λ m at.
