@@ -106,6 +106,7 @@ class ProgramSession:
         self.engine, self.teller, self.files = engine, teller, Files(cedt, topo, image)
         self.host = (cedt, topo, image)
         self.lines, self.writing = b"", b""  # all that were sent, and those up to the last that may write
+        self.is_watched = False
         self.process = subprocess.Popen([engine.program, "run", *self.files.names], cwd=self.files.place.name,
                                         stdin=subprocess.PIPE, stdout=subprocess.PIPE, stderr=subprocess.DEVNULL)
         self.send(SENTINEL)
@@ -151,12 +152,13 @@ class ProgramSession:
             reply += text
 
     def watch(self) -> None:
-        """Where nothing tells the words of writes, that is said at once."""
+        """Has the words of writes told. Where nothing tells them, that is said at once."""
         self.teller.words(*self.host, b"")
+        self.is_watched = True
 
     def words(self) -> list:
-        """The register writes that the last line sent that may write."""
-        return self.teller.words(*self.host, self.writing) if self.writing else []
+        """The register writes that the last line sent that may write; none where they are not watched."""
+        return self.teller.words(*self.host, self.writing) if self.is_watched and self.writing else []
 
     def image(self) -> bytes:
         """The registers as they stand."""
