@@ -7,15 +7,12 @@ uint8_t cxlplan_proved_list(const uint8_t *, size_t, uint8_t *, size_t, size_t *
 uint8_t cxlplan_proved_normal(const uint8_t *, size_t, uint8_t *, size_t, size_t *);
 uint8_t cxlplan_proved_check(const uint8_t *, size_t, const uint8_t *, size_t, const uint8_t *, size_t, uint8_t *, size_t, size_t *);
 uint8_t cxlplan_proved_plan(const uint8_t *, size_t, const uint8_t *, size_t, const uint8_t *, size_t, uint8_t *, size_t, size_t *);
-uint8_t cxlplan_proved_run(const uint8_t *, size_t, const uint8_t *, size_t, const uint8_t *, size_t, uint8_t *, size_t, size_t *);
-uint8_t cxlplan_proved_run_from(const uint8_t *, size_t, const uint8_t *, size_t, const uint8_t *, size_t, const uint8_t *, size_t,
-                                uint8_t *, size_t, size_t *);
-uint8_t cxlplan_proved_words(const uint8_t *, size_t, const uint8_t *, size_t, const uint8_t *, size_t, uint8_t *, size_t, size_t *);
-uint8_t cxlplan_proved_words_from(const uint8_t *, size_t, const uint8_t *, size_t, const uint8_t *, size_t, const uint8_t *, size_t,
-                                  uint8_t *, size_t, size_t *);
-uint8_t cxlplan_proved_image(const uint8_t *, size_t, const uint8_t *, size_t, const uint8_t *, size_t, uint8_t *, size_t, size_t *);
-uint8_t cxlplan_proved_image_from(const uint8_t *, size_t, const uint8_t *, size_t, const uint8_t *, size_t, const uint8_t *, size_t,
-                                  uint8_t *, size_t, size_t *);
+/* Calls over a script: on the registers after reset, and on those of an image, which comes before the script. */
+typedef uint8_t after_reset(const uint8_t *, size_t, const uint8_t *, size_t, const uint8_t *, size_t, uint8_t *, size_t, size_t *);
+typedef uint8_t from_image(const uint8_t *, size_t, const uint8_t *, size_t, const uint8_t *, size_t, const uint8_t *, size_t,
+                           uint8_t *, size_t, size_t *);
+after_reset cxlplan_proved_run, cxlplan_proved_words, cxlplan_proved_image;
+from_image cxlplan_proved_run_from, cxlplan_proved_words_from, cxlplan_proved_image_from;
 uint8_t cxlplan_proved_tree(const uint8_t *, size_t, uint8_t *, size_t, size_t *);
 uint8_t cxlplan_proved_decoders(const uint8_t *, size_t, const uint8_t *, size_t, uint8_t *, size_t, size_t *);
 uint8_t cxlplan_proved_breaches(const uint8_t *, size_t, const uint8_t *, size_t, const uint8_t *, size_t, uint8_t *, size_t, size_t *);
@@ -121,46 +118,42 @@ int cxlplan_plan(const void *cedt, size_t cedt_len, const void *topo, size_t top
     return cxlplan_proved_plan(in[0].at, in[0].len, in[1].at, in[1].len, in[2].at, in[2].len, room.at, room.len, room.written);
 }
 
-int cxlplan_run(const void *cedt, size_t cedt_len, const void *topo, size_t topo_len, const void *image, size_t image_len,
-                const void *script, size_t script_len, void *out, size_t out_len, size_t *written)
+/* Table, topology, image and script by one of two proved calls: where the image is null, by that on the registers after reset. */
+static int over_script(after_reset *reset, from_image *with_image, struct bytes *in, void *out, size_t out_len, size_t *written)
 {
-    struct bytes in[] = {{cedt, cedt_len}, {topo, topo_len}, {image, image_len}, {script, script_len}};
+    int has_image = in[2].at != NULL;
     struct room room;
 
     if (!is_fit(in, 4, &room, out, out_len, written))
         return CXLPLAN_USAGE;
-    if (!image)
-        return cxlplan_proved_run(in[0].at, in[0].len, in[1].at, in[1].len, in[3].at, in[3].len, room.at, room.len, room.written);
-    return cxlplan_proved_run_from(in[0].at, in[0].len, in[1].at, in[1].len, in[2].at, in[2].len, in[3].at, in[3].len,
-                                   room.at, room.len, room.written);
+    if (!has_image)
+        return reset(in[0].at, in[0].len, in[1].at, in[1].len, in[3].at, in[3].len, room.at, room.len, room.written);
+    return with_image(in[0].at, in[0].len, in[1].at, in[1].len, in[2].at, in[2].len, in[3].at, in[3].len,
+                      room.at, room.len, room.written);
+}
+
+int cxlplan_run(const void *cedt, size_t cedt_len, const void *topo, size_t topo_len, const void *image, size_t image_len,
+                const void *script, size_t script_len, void *out, size_t out_len, size_t *written)
+{
+    struct bytes in[] = {{cedt, cedt_len}, {topo, topo_len}, {image, image_len}, {script, script_len}};
+
+    return over_script(cxlplan_proved_run, cxlplan_proved_run_from, in, out, out_len, written);
 }
 
 int cxlplan_words(const void *cedt, size_t cedt_len, const void *topo, size_t topo_len, const void *image, size_t image_len,
                   const void *script, size_t script_len, void *out, size_t out_len, size_t *written)
 {
     struct bytes in[] = {{cedt, cedt_len}, {topo, topo_len}, {image, image_len}, {script, script_len}};
-    struct room room;
 
-    if (!is_fit(in, 4, &room, out, out_len, written))
-        return CXLPLAN_USAGE;
-    if (!image)
-        return cxlplan_proved_words(in[0].at, in[0].len, in[1].at, in[1].len, in[3].at, in[3].len, room.at, room.len, room.written);
-    return cxlplan_proved_words_from(in[0].at, in[0].len, in[1].at, in[1].len, in[2].at, in[2].len, in[3].at, in[3].len,
-                                     room.at, room.len, room.written);
+    return over_script(cxlplan_proved_words, cxlplan_proved_words_from, in, out, out_len, written);
 }
 
 int cxlplan_image(const void *cedt, size_t cedt_len, const void *topo, size_t topo_len, const void *image, size_t image_len,
                   const void *script, size_t script_len, void *out, size_t out_len, size_t *written)
 {
     struct bytes in[] = {{cedt, cedt_len}, {topo, topo_len}, {image, image_len}, {script, script_len}};
-    struct room room;
 
-    if (!is_fit(in, 4, &room, out, out_len, written))
-        return CXLPLAN_USAGE;
-    if (!image)
-        return cxlplan_proved_image(in[0].at, in[0].len, in[1].at, in[1].len, in[3].at, in[3].len, room.at, room.len, room.written);
-    return cxlplan_proved_image_from(in[0].at, in[0].len, in[1].at, in[1].len, in[2].at, in[2].len, in[3].at, in[3].len,
-                                     room.at, room.len, room.written);
+    return over_script(cxlplan_proved_image, cxlplan_proved_image_from, in, out, out_len, written);
 }
 
 int cxlplan_tree(const void *topo, size_t topo_len, void *out, size_t out_len, size_t *written)
