@@ -3,7 +3,7 @@ use Rattle.std.proofs.Common.{◌≡◌, ℕ, ◌+◌, ◌≤◌, List, [], ◌�
 use Rattle.std.specs.List.{concat}
 use Rattle.std.proofs.lemmas.List.{take-append-drop, append-nil}
 use Rattle.cxl_io.specs.Sink.{SinkState, Takes, TakesPrefix}
-use Rattle.cxl_lines.specs.Blocks.{KeepsOrWrites}
+use Rattle.cxl_io.specs.Blocks.{KeepsOrWrites}
 
 pub concat-append : (xs ys : List (List ℕ)) → concat (xs ++ ys) ≡ concat xs ++ concat ys
 concat-append [] ys = refl

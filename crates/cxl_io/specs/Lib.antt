@@ -10,3 +10,4 @@ pub mod MemorySource
 pub mod Lines
 pub mod Reader
 pub mod ReaderSteps
+pub mod Blocks

@@ -4,6 +4,7 @@
 
 mod fetch;
 mod line_reader;
+mod lines;
 mod mem_fetch;
 mod mem_sink;
 mod mem_source;
@@ -18,6 +19,7 @@ mod std_source;
 pub use cxl_enc::{Failed, Memory, Name};
 pub use fetch::{Fetch, FetchFault};
 pub use line_reader::{LINE_LIMIT, LineReader, SCRIPT_LIMIT, Taken, reader_goes_on};
+pub use lines::Lines;
 pub use mem_fetch::MemFetch;
 pub use mem_sink::MemSink;
 pub use mem_source::MemSource;

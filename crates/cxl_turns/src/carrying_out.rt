@@ -13,8 +13,7 @@ ghost use Rattle.cxl_turns.specs.inner.CarriedOut.{IsAnswered, IsCutOff, IsLeft}
 use crate::replies::write_reply;
 use crate::stops::LineStop;
 use cxl_bus::Regs;
-use cxl_io::Sink;
-use cxl_lines::Lines;
+use cxl_io::{Lines, Sink};
 use cxl_machine::answers_are_told;
 use cxl_media::Roll;
 use cxl_reply::Reply;

@@ -9,8 +9,7 @@ ghost use Rattle.cxl_reply.specs.Conditions.{IsTold};
 ghost use Rattle.cxl_turns.specs.declared.stops.LineStop.TheVariants as stops;
 
 use crate::stops::LineStop;
-use cxl_io::{Sink, write_all};
-use cxl_lines::Lines;
+use cxl_io::{Lines, Sink, write_all};
 use cxl_reply::Reply;
 use cxl_text::{fixed_text, has_short_text, put_long, short};
 use cxl_topo::Topo;

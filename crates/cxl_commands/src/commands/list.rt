@@ -22,8 +22,7 @@ use crate::commands::BLOCK;
 use crate::commands::lines::put_line;
 use cxl_cedt::{Record, RecordText, TableText, one_reading};
 use cxl_inputs::{Status, Stop, fetch_table, finish, text_windows};
-use cxl_io::{Fetch, Memory, Sink, writes_join};
-use cxl_lines::Lines;
+use cxl_io::{Fetch, Lines, Memory, Sink, writes_join};
 use cxl_window::Window;
 use std::alloc::Global;
 

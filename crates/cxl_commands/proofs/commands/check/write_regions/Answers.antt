@@ -3,7 +3,7 @@ use Rattle.cxl_enc.specs.Faults.{Rose, LeavesCount}
 use Rattle.cxl_enc.proofs.Options.{on_ok_at, on_err_at}
 use Rattle.cxl_io.specs.Sink.{Takes, TakesPrefix}
 use Rattle.cxl_reply.specs.Plans.{found_text}
-use Rattle.cxl_lines.specs.Blocks.{KeepsOrWrites}
+use Rattle.cxl_io.specs.Blocks.{KeepsOrWrites}
 use Rattle.cxl_commands.proofs.InBlocks.{blocks-written, blocks-flushed, blocks-cut}
 use Rattle.cxl_commands.proofs.Regions.{blocks-region, length-region_lines, all_regions}
 use Rattle.cxl_commands.proofs.Results.{on_err_from}

@@ -5,7 +5,7 @@ use Rattle.cxl_enc.proofs.Options.{on_ok_at, on_err_at}
 use Rattle.cxl_cedt.specs.RecordTexts.{record_in}
 use Rattle.cxl_table.specs.declared.cedt.Record.{Record}
 use Rattle.cxl_io.specs.Sink.{Takes, TakesPrefix}
-use Rattle.cxl_lines.specs.Blocks.{KeepsOrWrites}
+use Rattle.cxl_io.specs.Blocks.{KeepsOrWrites}
 use Rattle.cxl_window.specs.Windows.{cfmws_in}
 use Rattle.cxl_commands.specs.commands.Lines.{list_lines}
 use Rattle.cxl_commands.proofs.InBlocks.{blocks-written, blocks-flushed, blocks-cut}

@@ -3,9 +3,9 @@
 ghost use Rattle.std.specs.Prelude.{◌≡◌, ◌≤◌, [], OnOk, OnErr};
 ghost use Rattle.cxl_enc.specs.Faults.{HasCause, LeavesCount, CountsExactly};
 ghost use Rattle.cxl_io.specs.Sink.{Takes, TakesPrefix};
-ghost use Rattle.cxl_lines.specs.Blocks.{KeepsOrWrites};
+ghost use Rattle.cxl_io.specs.Blocks.{KeepsOrWrites};
 
-use cxl_io::{Failed, Sink, write_all};
+use crate::{Failed, Sink, write_all};
 use std::alloc::Global;
 
 /// Lines on their way to a sink. They are kept in a block, which is written once it has `FROM` bytes, and at the end:
