@@ -8,6 +8,7 @@ use Rattle.cxl_model.specs.Accepted.{breaks, IsAccepted, IsFirstBreach}
 abbrev pub StandsBefore : ℕ → ℕ → ℕ → ℕ → Type 0
 StandsBefore m i n k = (m < n) ⊎ ((m ≡ n) × (i < k))
 
+-- one breach stands before another
 abbrev pub Precedes : Breach → Breach → Type 0
 Precedes a b = StandsBefore a.node a.decoder b.node b.decoder
 

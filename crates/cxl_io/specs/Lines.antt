@@ -17,6 +17,7 @@ abbrev pub lines_in : List ℕ → List (List ℕ) → List (List ℕ)
 lines_in piece [] = if length piece == 0 then [] else piece ∷ []
 lines_in piece (next ∷ more) = strip_carriage_return piece ∷ lines_in next more
 
+-- of these the ones that ended
 abbrev pub ended_in : List ℕ → List (List ℕ) → List (List ℕ)
 ended_in piece [] = []
 ended_in piece (next ∷ more) = strip_carriage_return piece ∷ ended_in next more

@@ -19,6 +19,7 @@ pub record MemoryFiles : Type 0 where
 abbrev pub files_of : List (String Global × Vec ℕ Global) → List (List ℕ × List ℕ)
 files_of files = map (λ file. (string_bytes file.0, file.1.items)) files
 
+-- these names as bytes
 abbrev pub names_of : List (String Global) → List (List ℕ)
 names_of names = map string_bytes names
 
@@ -32,6 +33,7 @@ abbrev pub told_of : Option (List ℕ) → Told
 told_of None = Absent
 told_of (Some bytes) = Bytes bytes
 
+-- what files in memory tell and were asked for
 abbrev pub state_of : MemoryFiles → FetchState
 state_of memory = record {
   told = λ name. told_of (file_of memory.files name);

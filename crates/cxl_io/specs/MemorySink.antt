@@ -16,6 +16,7 @@ pub record MemorySink : Type 0 where
 abbrev pub state_of : MemorySink → SinkState
 state_of sink = record { taken = Some sink.bytes; faults = sink.counters.faults; counts_failures_alone = true }
 
+-- how many bytes it still takes
 abbrev pub room_left : MemorySink → ℕ
 room_left sink = sink.room - length sink.bytes
 

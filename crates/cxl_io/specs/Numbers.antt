@@ -20,6 +20,7 @@ abbrev pub number_in : ℕ → ℕ → List ℕ → Result ℕ NumFault
 number_in base start digits =
     if length digits == 0 then Err Empty else value_or_fault start (first_bad_place base digits) (digits_value base digits)
 
+-- a word that begins with `0x` is in base 16
 abbrev pub is_hexadecimal : List ℕ → Bool
 is_hexadecimal word = starts_with nat_eq word (codes "0x")
 

@@ -6,6 +6,7 @@ use Rattle.cxl_model.specs.Listed.{region_limit}
 use Rattle.cxl_live.specs.declared.regions.LiveRegions.TheInside.{Inside}
 use Rattle.cxl_live.specs.ByBase.{AreByBase}
 
+-- the live regions, each at its place
 abbrev pub founds_of : Inside → List Found
 founds_of regions = regions.founds.items
 

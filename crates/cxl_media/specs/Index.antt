@@ -6,6 +6,7 @@ use Rattle.cxl_media.specs.declared.cell.Cell.{Cell}
 use Rattle.cxl_media.specs.Table.{Cells, frames_in, IsOnce, IsTable}
 use Rattle.cxl_media.specs.Hash.{home_of}
 
+-- the index: cells, and its room
 pub record Table : Type 0 where
   -- the blocks, each at its place
   pub cells : Cells
@@ -18,6 +19,7 @@ coded_cell =
     code_by (ℕ × (ℕ × ℕ)) (coded× coded_ℕ (coded× coded_ℕ coded_ℕ)) (λ p. (p.ep, (p.number, p.frame)))
     (λ t. record { ep = t.0; number = t.1.0; frame = t.1.1 }) (λ _. refl)
 
+-- cells as a list of triples
 abbrev pub coded_cells : Coded Cells
 coded_cells = coded_list (coded_option coded_cell)
 

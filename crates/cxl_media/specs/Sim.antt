@@ -15,6 +15,7 @@ pub record Shipped : Type 0 where
   pub pool : Frames
   pub cells : Cells
 
+-- frames as a list of lists
 abbrev pub coded_frames : Coded Frames
 coded_frames = coded_list (coded_option (coded_list coded_ℕ))
 

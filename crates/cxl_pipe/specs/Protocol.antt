@@ -21,6 +21,7 @@ write_question node off value =
 abbrev pub says_taken : List ℕ → Bool
 says_taken line = bytes_eq line (codes "ok")
 
+-- what a word was read as is this number
 abbrev pub is_number : ℕ → Result ℕ NumFault → Bool
 is_number word (Ok n) = n == word
 is_number word (Err fault) = false

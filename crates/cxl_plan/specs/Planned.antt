@@ -136,6 +136,7 @@ abbrev pub in_first_window : System → Request → Option WindowFields → Resu
 in_first_window s request None = Err (faults.NoWindow (filter_map (reason_of s request) s.windows))
 in_first_window s request (Some w) = Ok (stated_plan s request w (least_base s request w))
 
+-- a fault that comes before all windows, or what the windows come to
 abbrev pub unless_fault : System → Request → Option PlanFault → Result Plan PlanFault
 unless_fault s request (Some fault) = Err fault
 unless_fault s request None = in_first_window s request (find (λ w. is_none (reason_of s request w)) s.windows)

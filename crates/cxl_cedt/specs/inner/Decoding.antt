@@ -11,12 +11,14 @@ use Rattle.cxl_cedt.specs.Table.{field, fields, kind_said, length_said, ways_sai
 abbrev pub known_ways : List ℕ → ℕ
 known_ways text = unwrap_or (ways_said text) 0
 
+-- a window's text without fault: its ways are known, and it is as long as they ask
 pub record IsSoundWindow (text : List ℕ) : Type 0 where
   pub ways : ways_said text ≡ Some (known_ways text)
   pub size : length text ≡ window_front_size + 4 * known_ways text
   pub gran : field text window_gran_place 4 ≤ 6
   pub arithmetic : field text arithmetic_place 1 ≤ 1
 
+-- a text of XOR maps without fault: it is as long as their number asks
 pub record AreSoundMaps (text : List ℕ) : Type 0 where
   pub size : length text ≡ maps_front_size + 8 * field text maps_count_place 1
   pub gran : field text maps_gran_place 1 ≤ 6
@@ -29,6 +31,7 @@ pub record IsSoundText (text : List ℕ) : Type 0 where
   pub window : kind_said text ≡ cfmws_kind → IsSoundWindow text
   pub maps : kind_said text ≡ cxims_kind → AreSoundMaps text
 
+-- the CHBS that a text spells
 unfoldable pub chbs_of : List ℕ → chbs.Chbs
 chbs_of text = record {
   uid = field text uid_place 4;
@@ -37,6 +40,7 @@ chbs_of text = record {
   length = field text register_length_place 8;
 }
 
+-- the CFMWS that a text spells
 unfoldable pub cfmws_of : List ℕ → CfmwsFields
 cfmws_of text = record {
   base = field text window_base_place 8;
@@ -49,12 +53,14 @@ cfmws_of text = record {
   targets = fields text window_front_size 4 (known_ways text);
 }
 
+-- the CXIMS that a text spells
 unfoldable pub cxims_of : List ℕ → CximsFields
 cxims_of text = record {
   gran = field text maps_gran_place 1;
   maps = fields text maps_front_size 8 (field text maps_count_place 1);
 }
 
+-- the record of another type that a text spells
 unfoldable pub other_of : List ℕ → OtherFields
 other_of text = record {
   kind = kind_said text;
@@ -62,6 +68,7 @@ other_of text = record {
   body = drop frame_size text;
 }
 
+-- the record that a text spells, by its type
 unfoldable pub record_of : List ℕ → Record
 record_of text =
     if kind_said text == chbs_kind then Chbs (chbs_of text)

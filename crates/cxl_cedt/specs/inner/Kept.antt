@@ -22,6 +22,7 @@ pub record IsKeptOf (others : Others) (all : List Record) (kept : KeptRecords) :
   pub records : kept.records ≡ kept_of others all
   pub places : kept.places ≡ judged_places header_size all
 
+-- these are kept of the records before byte `at`, and these bytes are left
 pub record IsKeptTo (others : Others) (bytes : List ℕ) (kept : KeptRecords) (rest : List ℕ) (at : ℕ) : Type 0 where
   pub all : List Record
   pub read_to : AreReadTo bytes all rest at

@@ -2,6 +2,7 @@
 use Rattle.std.specs.Prelude.{ℕ, List}
 use Rattle.cxl_table.specs.declared.cedt.Record.{Record}
 
+-- the kept records, and the places of the judged ones
 pub record KeptRecords : Type 0 where
   pub records : List Record
   pub places : List ℕ

@@ -18,6 +18,7 @@ use Rattle.cxl_cedt.specs.Spelling.{record_spelling}
 abbrev pub AreBelow : ℕ → List ℕ → Type 0
 AreBelow limit numbers = (i : ℕ) → slice_index numbers i < limit
 
+-- a header's fields fit their widths
 pub record HeadFits (head : Head) : Type 0 where
   pub revision : head.revision < 256
   pub oem_id : length head.oem_id ≡ 6
@@ -26,12 +27,14 @@ pub record HeadFits (head : Head) : Type 0 where
   pub creator : length head.creator ≡ 4
   pub creator_revision : head.creator_revision < 2 ^ 32
 
+-- the fields of a CHBS fit
 pub record ChbsFits (c : chbs.Chbs) : Type 0 where
   pub uid : c.uid < 2 ^ 32
   pub version : c.version < 2 ^ 32
   pub base : c.base < 2 ^ 64
   pub register_length : c.length < 2 ^ 64
 
+-- the fields of a CFMWS fit, and its targets are as many as its ways
 pub record CfmwsFits (c : CfmwsFields) : Type 0 where
   pub base : c.base < 2 ^ 64
   pub size : c.size < 2 ^ 64
@@ -41,15 +44,18 @@ pub record CfmwsFits (c : CfmwsFields) : Type 0 where
   pub qtg : c.qtg < 2 ^ 16
   pub targets : AreBelow (2 ^ 32) c.targets
 
+-- the fields of a CXIMS fit
 pub record CximsFits (c : CximsFields) : Type 0 where
   pub gran : c.gran ≤ 6
   pub few : length c.maps ≤ 255
   pub maps : AreBelow (2 ^ 64) c.maps
 
+-- the fields of a record of another type fit, and its type is no known one
 pub record OtherFits (c : OtherFields) : Type 0 where
   pub kind : cxims_kind < c.kind
   pub few : length c.body ≤ 65531
 
+-- a record's fields fit, by its type
 abbrev pub RecordFits : Record → Type 0
 RecordFits (Chbs c) = ChbsFits c
 RecordFits (Cfmws c) = CfmwsFits c

@@ -16,6 +16,7 @@ use Rattle.cxl_model.specs.Rules.{is_bridge_landing}
 abbrev pub key_cmp : RangeKey → RangeKey → Ordering
 key_cmp = then_cmp (on (λ key. key.base) nat_cmp) (on (λ key. key.size) nat_cmp)
 
+-- the range of a key
 abbrev pub range_at : RangeKey → Range
 range_at key = record { base = key.base; size = key.size }
 

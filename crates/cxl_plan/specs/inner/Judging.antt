@@ -24,9 +24,11 @@ use Rattle.cxl_plan.specs.inner.Uses.{tree_alone, AreUses, HasWays}
 unfoldable pub uneven_at : List Node → Request → ℕ → Bool
 uneven_at nodes request n = is_uneven (tree_alone nodes) request n
 
+-- the used ports of node n are 1, 2, 4 or 8, and no more than its targets
 unfoldable pub even_at : List Node → Request → ℕ → Bool
 even_at nodes request n = has_even_ports (tree_alone nodes) request n
 
+-- each used port of node n leads to as many requested endpoints as any other
 unfoldable pub same_at : List Node → Request → ℕ → Bool
 same_at nodes request n = has_even_children (tree_alone nodes) request n
 

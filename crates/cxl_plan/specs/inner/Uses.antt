@@ -30,6 +30,7 @@ ways_at nodes request n = planned_ways (tree_alone nodes) request n
 unfoldable pub ways_above_at : List Node → Request → ℕ → ℕ
 ways_above_at nodes request n = planned_ways_above (tree_alone nodes) request n
 
+-- the sum of the k of the ways above node n
 unfoldable pub bits_above_at : List Node → Request → ℕ → ℕ
 bits_above_at nodes request n = planned_bits_above (tree_alone nodes) request n
 
@@ -53,6 +54,7 @@ pub record ArePorts (nodes : List Node) (request : Request) (used : List ℕ) (p
   pub count : length ports ≡ length used
   pub each : (k : ℕ) (own : Vec ℕ Global) → slice_get ports k ≡ Some own → own.items ≡ ports_at nodes request (slice_index_or used k 0)
 
+-- the used nodes, how many of the endpoints lie under each, and its used ports
 pub record AreUses (nodes : List Node) (request : Request) (uses : Uses) : Type 0 where
   pub listed : uses.nodes.items ≡ used_nodes nodes request
   pub counts : AreCounts nodes request uses.nodes.items uses.counts.items

@@ -33,13 +33,15 @@ pub record HasTouched (span : LiveSpan) (touched : Touched) : Type 0 where
   pub is : IsTouched span touched
   pub any : touched.from < touched.end
 
+-- the cuts of a span's touched bytes
 abbrev pub touched_cuts : Touched → LiveSpan → List Cut
 touched_cuts touched span = cuts_between touched.from touched.end touched.size span.len
 
--- the first and the last stretch with touched bytes
+-- the first stretch with touched bytes
 abbrev pub first_stretch : Touched → ℕ
 first_stretch touched = touched.from / touched.size
 
+-- the last stretch with touched bytes
 abbrev pub last_stretch : Touched → ℕ
 last_stretch touched = (touched.end - 1) / touched.size
 
@@ -59,6 +61,7 @@ pub record AddsRuns (found : Found) (w : WindowFields) (endpoint : ℕ) (span : 
   pub added : new ≡ old ++ map parts.Run runs
   pub are : AreRunsOf found w endpoint span cuts runs
 
+-- parts of any form, behind those that were there before
 pub record AddsParts (found : Found) (w : WindowFields) (endpoint : ℕ) (span : LiveSpan) (cuts : List Cut) (old new : List Part) : Type 0 where
   pub own : List Part
   pub added : new ≡ old ++ own

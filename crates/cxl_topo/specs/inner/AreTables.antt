@@ -5,6 +5,7 @@ use Rattle.cxl_topo.specs.declared.tables.Tables.{Tables}
 use Rattle.cxl_topo.specs.Tree.{bridge_uids}
 use Rattle.cxl_topo.specs.inner.Tables.{ListsChildren, ListsLeastChildren, ListsNames, ListsBridges}
 
+-- each table lists what a search over the nodes would find
 pub record AreTables (nodes : List Node) (tables : Tables) : Type 0 where
   pub children : ListsChildren nodes tables.children
   pub least_children : ListsLeastChildren nodes tables.least_children

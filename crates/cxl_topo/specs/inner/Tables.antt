@@ -18,11 +18,14 @@ port_cmp = then_cmp (on (λ parent. parent.node) nat_cmp) (on (λ parent. parent
 abbrev pub ListsChildren : List Node → BTreeMap Parent ℕ → Type 0
 ListsChildren nodes table = (parent : Parent) → get port_cmp table parent ≡ child_of nodes parent.node parent.port
 
+-- so does that of least children
 abbrev pub ListsLeastChildren : List Node → BTreeMap ℕ ℕ → Type 0
 ListsLeastChildren nodes table = (n : ℕ) → get nat_cmp table n ≡ least_child_of nodes n
 
+-- and that of names
 abbrev pub ListsNames : List Node → BTreeMap NameKey ℕ → Type 0
 ListsNames nodes table = (name : List ℕ) → IsName name → get name_cmp table (name_key name) ≡ node_named nodes name
 
+-- and that of the bridges' UIDs
 abbrev pub ListsBridges : List Node → BTreeMap ℕ ℕ → Type 0
 ListsBridges nodes table = (uid : ℕ) → get nat_cmp table uid ≡ bridge_with nodes uid

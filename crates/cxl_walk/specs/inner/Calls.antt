@@ -19,6 +19,7 @@ use Rattle.cxl_model.specs.System.{system_of}
 
 -- ---- one node
 
+-- a device byte as an arrival there
 abbrev pub reached : DeviceByte → Arrival
 reached byte = record { endpoint = byte.endpoint; decoder = byte.decoder; base = byte.base; dpa = byte.dpa }
 
@@ -27,6 +28,7 @@ abbrev pub byte_at : Registers → ℕ → ℕ → ℕ → Decoder → DeviceByt
 byte_at block h n i d =
     record { endpoint = n; decoder = i; base = d.base; dpa = endpoint_place_of (span_start_of block.decoders i) d h }
 
+-- what a call tells of the next node as a move
 abbrev pub move_of : Next → Move
 move_of (Forwards child) = chain.Forwards child
 move_of (Steps step child) = chain.Steps step child
