@@ -101,12 +101,13 @@ fn first_reason(
     None
 }
 
-/// Whether the targets of a window are exactly the used bridges.
+/// Whether the targets of a window are exactly the used bridges. These are asked first, since most windows target none
+/// of them and no bridge is sought for that.
 fn has_used_bridges(topo: &Topo, request: &Request, uses: &Uses, w: &Window) -> bool
     requires { AreUses topo.now.nodes request.now uses.now }
     ensures { result ≡ has_used_bridges (tree_alone topo.now.nodes) request.now w.now }
 {
-    are_used(topo, request, uses, w) && are_targets(topo, request, uses, w)
+    are_targets(topo, request, uses, w) && are_used(topo, request, uses, w)
 }
 
 /// Whether each target of a window is a used bridge.
