@@ -194,8 +194,20 @@ fn put_other_line(out: &mut Vec<u8>, kind: u8, body: &[u8]) -> Result<(), Memory
 {
     out.extend_from_slice(b"other ")?;
     put_number(out, u64::from(kind))?;
+    put_length(out, 4 + body.len() as u64)
+}
+
+/// Appends the length of a record, and the end of its line. Of the shortest records a table has the most.
+fn put_length(out: &mut Vec<u8>, len: u64) -> Result<(), Memory>
+    ensures { OnOk result (out.new.items ≡ out.old.items ++ (codes " length " ++ decimal len ++ codes "\n")) }
+{
+    if len < 10 {
+        let digit = b'0' + len as u8;
+        out.extend_from_slice(&[b' ', b'l', b'e', b'n', b'g', b't', b'h', b' ', digit, b'\n'])?;
+        return Ok(());
+    }
     out.extend_from_slice(b" length ")?;
-    put_number(out, 4 + body.len() as u64)?;
+    put_number(out, len)?;
     out.push(b'\n')?;
     Ok(())
 }
