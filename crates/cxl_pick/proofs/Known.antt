@@ -326,9 +326,6 @@ set_there xs x i within =
     let long = length-set xs i x in
     slice_get-get_or (set xs i x) i x (omega (arith, long, within)) ∙ ap (λ y. Some y) (get_or-set_same xs i x x within)
 
-pub there : {X : Type 0} (o : Option X) (x : X) (P : X → Type 0) → o ≡ Some x → P x → IsSomeAnd o P
-there o x P is holds = subst (λ p. IsSomeAnd p P) (sym is) holds
-
 pub of_there : {X : Type 0} (o : Option X) (x : X) (P : X → Type 0) → o ≡ Some x → IsSomeAnd o P → P x
 of_there o x P is holds = subst (λ p. IsSomeAnd p P) is holds
 

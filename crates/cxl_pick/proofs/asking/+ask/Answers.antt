@@ -1,9 +1,9 @@
-use Rattle.std.proofs.Common.{◌≡◌, ℕ, ◌<◌, ◌≤◌, true, List, get_or, length, sym, ap, subst, ◌∙◌, inl, inr, arith}
+use Rattle.std.proofs.Common.{◌≡◌, ℕ, ◌≤◌, true, get_or, sym, subst, inl, inr, arith}
 use Rattle.std.proofs.lemmas.Bool.{cases_eq}
 use Rattle.cxl_topo.proofs.Trees.{KnownTree}
 use Rattle.cxl_model.specs.Hosts.{as_system}
 use Rattle.cxl_model.specs.System.{System}
-use Rattle.cxl_pick.specs.inner.Gifts.{AreChildrenOf, AreChildrenKnown, is_known}
+use Rattle.cxl_pick.specs.inner.Gifts.{AreChildrenOf, is_known}
 use Rattle.cxl_pick.proofs.Known.{child_at, all_known}
 use Rattle.cxl_pick.proofs.asking.+ask.Goals as goal
 

@@ -1,11 +1,12 @@
-use Rattle.std.proofs.Common.{◌≡◌, ℕ, ◌<◌, List, [], ◌∷◌, ◌++◌, length, set, Some, sym, ap, ◌∙◌, subst, arith}
+use Rattle.std.proofs.Common.{◌≡◌, ℕ, ◌<◌, List, [], ◌∷◌, length, set, Some, sym, ap, ◌∙◌, subst, arith}
 use Rattle.std.specs.Prelude.{All, slice_get, IsSomeAnd}
 use Rattle.std.proofs.lemmas.List.Elements.{All-append, All-set}
 use Rattle.std.proofs.lemmas.Option.{slice_get-get_or}
+use Rattle.cxl_enc.proofs.Options.{and_some}
 use Rattle.cxl_model.specs.Hosts.{as_system}
 use Rattle.cxl_pick.specs.declared.gifts.Gifts.{Gifts}
 use Rattle.cxl_pick.specs.inner.Gifts.{AreGifts, IsAsked}
-use Rattle.cxl_pick.proofs.Known.{All-one, pushed_there, set_there, there, of_there}
+use Rattle.cxl_pick.proofs.Known.{All-one, pushed_there, set_there, of_there}
 use Rattle.cxl_pick.proofs.gifts.table_for.Goals as goal
 
 pub returns-then-place-len-clause-tables : goal.returns-then-place-len-clause-tables
@@ -16,7 +17,7 @@ returns-then-place-len-clause-tables c =
 
 pub returns-then-place-len-clause-asked : goal.returns-then-place-len-clause-asked
 returns-then-place-len-clause-asked c =
-    there (slice_get c.push.new.self.items c.place_for-place.result) c.in_ok-made.made (λ gifts. IsAsked c.args.want.now gifts c.args.w.now c.args.start)
+    and_some (slice_get c.push.new.self.items c.place_for-place.result) (λ gifts. IsAsked c.args.want.now gifts c.args.w.now c.args.start) c.in_ok-made.made
     (ap (λ (l : List Gifts). slice_get l c.place_for-place.result) c.in_ok-push.ensures.items ∙ pushed_there c.args.tables.now.items c.in_ok-made.made c.place_for-place.result (let read = c.len.ensures in let same = c.if-place-len.true in omega (arith, read, same)))
     (c.in_ok-made.ensures.asked c.args.want.now c.args.w.now c.args.start (sym c.wanted_code-code.ensures) (sym c.third_of-third.ensures) c.requires.low)
 
@@ -27,7 +28,7 @@ returns-in_ok-made-2-clause-tables c =
 
 pub returns-in_ok-made-2-clause-asked : goal.returns-in_ok-made-2-clause-asked
 returns-in_ok-made-2-clause-asked c =
-    there (slice_get (set c.args.tables.now.items c.place_for-place.result c.in_ok-made-2.made) c.place_for-place.result) c.in_ok-made-2.made (λ gifts. IsAsked c.args.want.now gifts c.args.w.now c.args.start)
+    and_some (slice_get (set c.args.tables.now.items c.place_for-place.result c.in_ok-made-2.made) c.place_for-place.result) (λ gifts. IsAsked c.args.want.now gifts c.args.w.now c.args.start) c.in_ok-made-2.made
     (set_there c.args.tables.now.items c.in_ok-made-2.made c.place_for-place.result
     (let within = c.place_for-place.ensures.within in
     let other = c.if-place-len.false in
@@ -51,7 +52,7 @@ returns-else-not-is_among-clause-asked c =
     let found = subst (λ (l : List Gifts). IsSomeAnd (slice_get l place) (λ gifts. (gifts.code ≡ c.wanted_code-code.result) × (gifts.third ≡ c.third_of-third.result))) read (c.place_for-place.ensures.found (omega (arith, long, within))) in
     let at : slice_get tables place ≡ Some c.index.result.now = slice_get-get_or tables place c.index.result.now within ∙ ap (λ (x : Gifts). Some x) (sym c.index.ensures) in
     let own = of_there (slice_get tables place) c.index.result.now (λ gifts. (gifts.code ≡ c.wanted_code-code.result) × (gifts.third ≡ c.third_of-third.result)) at found in
-    there (slice_get tables place) c.index.result.now (λ gifts. IsAsked c.args.want.now gifts c.args.w.now c.args.start) at
+    and_some (slice_get tables place) (λ gifts. IsAsked c.args.want.now gifts c.args.w.now c.args.start) c.index.result.now at
     record {
       code = sym (own.0 ∙ c.wanted_code-code.ensures);
       third = sym (own.1 ∙ c.third_of-third.ensures);

@@ -5,7 +5,8 @@ use Rattle.cxl_span.specs.Allotting.{all_committed}
 use Rattle.cxl_span.specs.Breaches.{BlockKeeps}
 use Rattle.cxl_model.specs.Hosts.{as_system}
 use Rattle.cxl_model.specs.System.{decoders_at, ram_at}
-use Rattle.cxl_pick.proofs.KeptBlocks.{kept_block, endpoint_at}
+use Rattle.cxl_model.proofs.RangeRules.{block_keeps}
+use Rattle.cxl_pick.proofs.KeptBlocks.{endpoint_at}
 use Rattle.cxl_pick.proofs.Rooms.{is_roomy, roomy_where_allotted, full_where_refused}
 use Rattle.cxl_pick.proofs.nodes.has_room.Goals as goal
 
@@ -18,7 +19,7 @@ allot-requires-clause-keeps c =
     let s = as_system c.args.host.now in
     let block = c.block.result.now in
     subst (λ (r : ℕ). BlockKeeps block r c.capacity_at-capacity.result.pmem) (sym c.capacity_at-capacity.ensures.ram)
-    (subst (λ (p : ℕ). BlockKeeps block (ram_at s c.args.node) p) (sym c.capacity_at-capacity.ensures.pmem) (kept_block s c.requires.ready c.args.node block c.block.ensures.value))
+    (subst (λ (p : ℕ). BlockKeeps block (ram_at s c.args.node) p) (sym c.capacity_at-capacity.ensures.pmem) (block_keeps s c.requires.ready.blocks c.args.node block c.block.ensures.value))
 
 pub returns-in-Ok : goal.returns-in-Ok
 returns-in-Ok c =

@@ -1,10 +1,10 @@
 use Rattle.cxl_model.specs.Hosts.{as_system}
 use Rattle.cxl_model.specs.System.{ram_at, pmem_at}
-use Rattle.cxl_pick.proofs.KeptBlocks.{kept_block}
+use Rattle.cxl_model.proofs.RangeRules.{block_keeps}
 use Rattle.cxl_pick.proofs.nodes.is_open.Goals as goal
 
 pub last_end-requires : goal.last_end-requires
 last_end-requires c =
     let s = as_system c.args.host.now in
     let n = c.args.node in
-    (ram_at s n, pmem_at s n, kept_block s c.requires.ready n c.block-block.result.now c.block-block.ensures.value)
+    (ram_at s n, pmem_at s n, block_keeps s c.requires.ready.blocks n c.block-block.result.now c.block-block.ensures.value)

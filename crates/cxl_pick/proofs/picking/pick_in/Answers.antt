@@ -1,12 +1,13 @@
-use Rattle.std.proofs.Common.{◌≡◌, ℕ, ◌/◌, map, List, Vec, Global, sym, subst, ◌∙◌}
-use Rattle.std.specs.Prelude.{option_map, All}
+use Rattle.std.proofs.Common.{◌≡◌, ℕ, map, Vec, Global, sym, subst, ◌∙◌}
+use Rattle.std.specs.Prelude.{option_map}
 use Rattle.std.proofs.lemmas.List.Elements.{All-set}
+use Rattle.cxl_enc.proofs.Options.{on_ok}
 use Rattle.cxl_model.specs.Hosts.{as_system}
 use Rattle.cxl_model.specs.System.{System}
 use Rattle.cxl_pick.specs.Picking.{all_given, given_in}
 use Rattle.cxl_pick.specs.declared.gifts.Gifts.{Gifts}
 use Rattle.cxl_pick.specs.inner.Gifts.{AreGifts, IsAsked}
-use Rattle.cxl_pick.proofs.Settled.{at_uid, given_from, if_ok, on_ok, item_there}
+use Rattle.cxl_pick.proofs.Settled.{at_uid, given_from, if_ok, item_there}
 use Rattle.cxl_pick.proofs.picking.pick_in.Goals as goal
 
 pub all_given-requires-clause-gifts : goal.all_given-requires-clause-gifts
@@ -23,9 +24,8 @@ all_given-requires-clause-asked c =
 pub returns-clause-tables : goal.returns-clause-tables
 returns-clause-tables c =
     let s : System = as_system c.args.host.now in
-    on_ok c.all_given.result (AreGifts s c.args.want.now c.all_given.new.gifts) _
+    on_ok c.all_given.result (AreGifts s c.args.want.now c.all_given.new.gifts) _ c.all_given.ensures.gifts
     (λ own. All-set (AreGifts s c.args.want.now) c.table_for.new.tables.items c.in_ok-place.place c.all_given.new.gifts own c.in_ok-place.ensures.tables)
-    c.all_given.ensures.gifts
 
 pub returns-clause-given : goal.returns-clause-given
 returns-clause-given c =
