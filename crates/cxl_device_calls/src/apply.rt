@@ -43,7 +43,7 @@ fn enable_node<R: Regs>(image: &mut Image, regs: &mut R, node: u32)
 /// The first decoder of a node of a region of 512 MiB over both endpoints, to be made or committed.
 fn wanted(node: u32, committed: bool) -> Decoder {
     Decoder {
-        base: 0x1_0000_0000,
+        base: 0x1_1000_0000,
         size: 0x2000_0000,
         host_only: true,
         ways: if node < 2 { 0 } else { 1 },
@@ -313,7 +313,7 @@ const TRAIL: [Sent; 6] = [
     Sent {
         node: 3,
         off: 0x10,
-        value: 0,
+        value: 0x1000_0000,
     },
     Sent {
         node: 3,

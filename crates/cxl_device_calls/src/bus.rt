@@ -50,6 +50,21 @@ fn is_place(blocks: &[Block], node: u32, off: u32) -> bool
     }
 }
 
+/// Whether a node of the simulator's bus has a word once that is written.
+fn keeps_word(bus: &mut SimBus, blocks: &[Block], node: u32, off: u32, value: u32) -> bool
+    requires { HasPlacesOf blocks.now bus.old }
+    ensures { HasPlacesOf blocks.now bus.new }
+{
+    if !is_place(blocks, node, off) {
+        return false;
+    }
+    let written = bus.write32(node, off, value).is_ok();
+    match bus.read32(node, off) {
+        Ok(word) => written && word == value,
+        Err(_) => false,
+    }
+}
+
 #[test]
 fn the_simulators_bus(rt: HostRuntime) {
     let blocks = blocks(&rt, rt.alloc(), &[true, false]);
@@ -57,6 +72,7 @@ fn the_simulators_bus(rt: HostRuntime) {
     bus.power_on(rt.alloc(), &blocks).expect(&rt, "memory");
     let place = is_place(&blocks, 0, 0x04);
     assert!(rt; place);
+    assert!(rt; keeps_word(&mut bus, &blocks, 1, 0x18, 0x1000_0000));
     let written = bus.write32(0, 0x04, 0x2).is_ok();
     let word = set_bits(&mut bus, 0, 0x04, 0x0);
     assert!(rt; written && matches!(word, Ok(0x2)));

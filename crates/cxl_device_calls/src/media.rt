@@ -354,6 +354,61 @@ fn both_media_answer_alike(rt: HostRuntime) {
     assert!(rt; answers_twice(&rt, alloc, &mut SimMedia::new(alloc)));
 }
 
+/// Puts a byte into each of eight blocks.
+fn puts_eight<M: Media>(media: &mut M) -> bool {
+    let mut right = true;
+    for block in 0..8 {
+        right = puts(media, 7, 256 * block, "x") == Some(Ok(())) && right;
+    }
+    right
+}
+
+/// Scrubs every second of them.
+fn scrubs_four<M: Media>(media: &mut M) -> bool {
+    let mut right = true;
+    for pair in 0..4 {
+        right = scrubs(media, 7, 512 * pair, 512 * pair + 256) && right;
+    }
+    right
+}
+
+/// Whether these are gone, and the others have their bytes.
+fn keeps_four<M: Media>(media: &M) -> bool {
+    let mut right = media.free() == 4;
+    for pair in 0..4 {
+        right = gets(media, 7, 512 * pair, "\0") && right;
+        right = gets(media, 7, 512 * pair + 256, "x") && right;
+    }
+    right
+}
+
+/// Whether each of these is told.
+fn tells_four<M: Roll>(media: &M) -> bool {
+    let mut right = true;
+    for pair in 0..4 {
+        right = is_told(media, 7, 2 * pair + 1) && right;
+    }
+    right
+}
+
+/// Over eight frames, all of which are free in the end.
+fn keeps_others<M: Roll>(alloc: Global, media: &mut M) -> bool {
+    media.power_on(alloc, 8).is_ok()
+        && puts_eight(media)
+        && scrubs_four(media)
+        && keeps_four(media)
+        && tells_four(media)
+        && scrubs(media, 7, 0, 1 << 62)
+        && media.free() == 8
+}
+
+#[test]
+fn every_second_block_is_scrubbed(rt: HostRuntime) {
+    let alloc = rt.alloc();
+    assert!(rt; keeps_others(alloc, &mut MapMedia::new(alloc)));
+    assert!(rt; keeps_others(alloc, &mut SimMedia::new(alloc)));
+}
+
 /// The bytes of a block are those of its frame in the pool.
 fn stands_in_frame(media: &SimMedia) -> bool {
     match media.frame(7, 511) {

@@ -4,6 +4,8 @@
 ghost use Rattle.std.specs.Prelude.{◌≡◌, [], ◌∷◌, Some, IfOk};
 ghost use Rattle.cxl_enc.specs.declared.caps.MemKind.TheVariants.{Ram, Pmem};
 ghost use Rattle.cxl_window.specs.Windows.{windows_of};
+ghost use Rattle.cxl_model.specs.System.{System, IsSystem};
+ghost use Rattle.cxl_model.specs.Regions.{IsRegion};
 ghost use Rattle.cxl_move.specs.Sides.{AreSides, AreHeld};
 ghost use Rattle.cxl_worked.specs.ExampleRegions.{region};
 ghost use Rattle.cxl_worked.specs.ExampleLayouts.{region_of_pmem, window_of_one};
@@ -11,7 +13,7 @@ ghost use Rattle.cxl_worked.specs.ExampleLayouts.{region_of_pmem, window_of_one}
 use cxl_cedt::{Cedt, Cfmws, Chbs, Head, Record};
 use cxl_media::{MapMedia, Roll, SimMedia};
 use cxl_model::{FixedList, Found, MemKind, Place, accepted_where_whole, regions_share_no_byte};
-use cxl_move::{Side, copy_bytes, held, move_bytes};
+use cxl_move::{Side, copy_bytes, held, move_bytes, span_byte};
 use cxl_window::{Window, windows};
 use cxl_worked::{layouts_are_systems, regions_on_layouts, rules_on_layouts};
 use std::alloc::{AllocError, Global};
@@ -184,11 +186,28 @@ fn is_copied<M: Roll>(alloc: Global, media: &mut M, ram: &Side<'_>, pmem: &Side<
         && media.free() == 0
 }
 
+/// A copy takes the place of all that the other region had, of which one piece has no counterpart. The block behind its
+/// span stays.
+fn is_all_it_has<M: Roll>(alloc: Global, media: &mut M, ram: &Side<'_>, pmem: &Side<'_>) -> bool
+    requires { AreSides ram.now.found.now ram.now.window.now pmem.now.found.now pmem.now.window.now }
+{
+    media.power_on(alloc, 3).is_ok()
+        && stores(media, 0x1ff, 0x33)
+        && stores(media, 0x4000_03ff, 0x44)
+        && stores(media, 0x5000_0000, 0x55)
+        && pieces_copied(alloc, media, ram, pmem) == Some(1)
+        && loads(media, 0x4000_01ff, 0x33)
+        && loads(media, 0x4000_03ff, 0)
+        && loads(media, 0x5000_0000, 0x55)
+}
+
 fn carries<M: Roll>(alloc: Global, media: &mut M, ram: &Side<'_>, pmem: &Side<'_>) -> bool
     requires ram { AreSides ram.now.found.now ram.now.window.now pmem.now.found.now pmem.now.window.now }
     requires pmem { AreSides pmem.now.found.now pmem.now.window.now ram.now.found.now ram.now.window.now }
 {
-    goes_over_and_back(alloc, media, ram, pmem) && is_copied(alloc, media, ram, pmem)
+    goes_over_and_back(alloc, media, ram, pmem)
+        && is_copied(alloc, media, ram, pmem)
+        && is_all_it_has(alloc, media, ram, pmem)
 }
 
 /// Over both media.
@@ -198,6 +217,18 @@ fn both_carry(alloc: Global, ram: &Side<'_>, pmem: &Side<'_>) -> bool
 {
     carries(alloc, &mut MapMedia::new(alloc), ram, pmem)
         && carries(alloc, &mut SimMedia::new(alloc), ram, pmem)
+}
+
+/// Whether the bytes of a region's slot are all those of its span, here the 256 MiB from 1 GiB on.
+fn is_as_long_as_its_span(found: &Found) -> bool
+    requires { (s : System) × IsSystem s × IsRegion s found.now }
+{
+    let before = span_byte(found, 1, 0x3fff_ffff).is_none();
+    let behind = span_byte(found, 1, 0x5000_0000).is_none();
+    match span_byte(found, 1, 0x4fff_ffff) {
+        Some(last) => before && behind && last.slot == 0 && last.offset == 0x0fff_ffff,
+        None => false,
+    }
 }
 
 /// Whether the bytes of one region of the window are carried to the other.
@@ -212,7 +243,7 @@ fn are_carried(alloc: Global, window: &Window, ram: &Found, pmem: &Found) -> boo
         found: pmem,
         window,
     };
-    both_carry(alloc, &ram, &pmem)
+    is_as_long_as_its_span(pmem.found) && both_carry(alloc, &ram, &pmem)
 }
 
 #[test]

@@ -26,6 +26,23 @@ fn takes_two(pool: &mut Pool) -> bool {
     written && zeroed && full
 }
 
+/// Whether two frames that are taken have bytes of their own; they are given back.
+fn keeps_apart(pool: &mut Pool) -> bool {
+    let Some(one) = pool.take() else {
+        return false;
+    };
+    let Some(other) = pool.take() else {
+        return false;
+    };
+    pool.bytes_mut(&one)[..5].copy_from_slice(b"first");
+    pool.bytes_mut(&other)[..6].copy_from_slice(b"second");
+    let kept = &pool.bytes(&one)[..6] == b"first\0".as_slice();
+    let written = &pool.bytes(&other)[..6] == b"second".as_slice();
+    pool.give(one);
+    pool.give(other);
+    kept && written
+}
+
 /// Takes a frame, which is zeroed.
 fn takes_zeroed(pool: &mut Pool) -> bool {
     match pool.take() {
@@ -42,6 +59,15 @@ fn two_frames(rt: HostRuntime) {
     assert!(rt; takes_two(&mut pool));
     assert!(rt; has(&pool, 1, 2));
     assert!(rt; takes_zeroed(&mut pool));
+}
+
+/// Two frames never share a byte, neither those taken first nor those that were given back.
+#[test]
+fn frames_of_their_own(rt: HostRuntime) {
+    let mut pool = Pool::new(rt.alloc(), 2).expect(&rt, "memory");
+    assert!(rt; keeps_apart(&mut pool));
+    assert!(rt; keeps_apart(&mut pool));
+    assert!(rt; has(&pool, 2, 2));
 }
 
 #[test]

@@ -30,7 +30,7 @@ fn endpoint() -> Block {
     Block::new(0x1b02, true)
 }
 
-const TO_AN_ENDPOINT: [Write; 16] = [
+const TO_AN_ENDPOINT: [Write; 18] = [
     (0x20, 0x1200, NotCommitted(NotEnabled), 0x1a00),
     (0x04, 0x2, Written, 0x2),
     (0x20, 0x1200, NotCommitted(ZeroSize), 0x1a00),
@@ -38,6 +38,8 @@ const TO_AN_ENDPOINT: [Write; 16] = [
     (0x38, 0x1000_0000, Written, 0x1000_0000),
     (0x40, 0x1200, NotCommitted(Order), 0x1a00),
     (0x20, 0x1200, Committed, 0x1600),
+    (0x10, 0x2000_0000, Dropped, 0x0),
+    (0x14, 0x1, Dropped, 0x0),
     (0x18, 0x2000_0000, Dropped, 0x1000_0000),
     (0x40, 0x1200, NotCommitted(Rise), 0x1a00),
     (0x30, 0x1000_0000, Written, 0x1000_0000),
@@ -73,6 +75,9 @@ fn is_reset(block: &Block) -> bool {
         && !block.enabled()
         && block.read32(0x90).is_none()
         && block.read32(0x8e).is_none()
+        && has_word(block, 0x00, 0x1b02)
+        && has_word(block, 0x08, 0)
+        && has_word(block, 0x0c, 0)
         && has_word(block, 0x8c, 0)
 }
 

@@ -7,7 +7,7 @@ use crate::common::row_passes;
 use cxl_enc::{MemKind, UNIT};
 use cxl_regs::{Block, Decoder, decoder_of};
 use cxl_span::{
-    BlockBreach, Room, Span, SpanFault, allot, block_breach, committed_stand_first,
+    BlockBreach, Room, Span, SpanFault, allot, block_breach, breaks_at, committed_stand_first,
     endpoint_place_of, one_holder, ranges_rise, spans_are_whole, spans_follow,
     spans_lie_in_partitions, start_of,
 };
@@ -266,7 +266,10 @@ fn breaks(block: &Block, rule: u8, decoder: u8) -> bool {
 fn is_broken(row: &Row) -> bool {
     let first = changed(row.first, row.first_place, row.first_word);
     let second = changed(row.second, row.second_place, row.second_word);
-    breaks(&endpoint(true, &first, &second), row.rule, row.decoder)
+    let block = endpoint(true, &first, &second);
+    row.decoder < block.count()
+        && breaks_at(&block, GIB, GIB, row.rule, row.decoder) == (row.rule != 0)
+        && breaks(&block, row.rule, row.decoder)
 }
 
 #[test]
