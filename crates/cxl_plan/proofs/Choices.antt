@@ -8,7 +8,7 @@ use Rattle.cxl_window.specs.Fields.{WindowFields}
 use Rattle.cxl_model.specs.declared.request.Request.{Request}
 use Rattle.cxl_model.specs.declared.plan.Reason.{Reason}
 use Rattle.cxl_model.specs.System.{System}
-use Rattle.cxl_plan.specs.Faults.{Takes, TakesFirst, IsReason, AreReasons}
+use Rattle.cxl_plan.specs.Faults.{TakesRequest, TakesFirst, IsReason, AreReasons}
 use Rattle.cxl_plan.proofs.Tables.{slice_get_front, length_end}
 
 -- reasons of the windows before the place i
@@ -44,7 +44,7 @@ one_reason_more s request i w old new reason here known is own = record {
               subst (λ (x : WindowFields). IsReason s request x other) window (subst (IsReason s request w) one own)
         ]
 
-pub found_first : (s : System) (request : Request) (i : ℕ) (w : WindowFields) (reasons : List Reason) (base : ℕ) → w.index ≡ i → AreReasonsBelow s request i reasons → Takes s request w base → TakesFirst s request w base
+pub found_first : (s : System) (request : Request) (i : ℕ) (w : WindowFields) (reasons : List Reason) (base : ℕ) → w.index ≡ i → AreReasonsBelow s request i reasons → TakesRequest s request w base → TakesFirst s request w base
 found_first s request i w reasons base index known takes = record { takes = takes; before = before }
   where
     reason_at : (j : ℕ) → j < length reasons → (reason : Reason) × (slice_get reasons j ≡ Some reason)

@@ -19,7 +19,7 @@ use Rattle.cxl_model.specs.Rules.{permits}
 use Rattle.cxl_model.specs.System.{System}
 use Rattle.cxl_legal.specs.Firsts.{first_there}
 use Rattle.cxl_legal.specs.Windows.{has_used_bridges, agrees_on_gran, can_select, can_have_ways}
-use Rattle.cxl_plan.specs.Faults.{SaysOfWindow, turn_of_reason, IsReason, Takes, TakesFirst, AreReasons, least}
+use Rattle.cxl_plan.specs.Faults.{SaysOfWindow, turn_of_reason, IsReason, TakesRequest, TakesFirst, AreReasons, least}
 use Rattle.cxl_plan.specs.Planned.{reason_of, room_in, least_base}
 use Rattle.cxl_plan.proofs.LegalPlans.{no_reason}
 use Rattle.cxl_plan.proofs.FirstThere.{past_none, at_some, some_then, none_then, find_at, find_nothing, answers_of}
@@ -191,11 +191,11 @@ module _ (s : System) (known : KnownTree s.nodes) (request : Request) (named : A
     reason_told (reasons.NoBase room) is = after_7 7 is.first (omega arith) ∙ at_some part_7 [] (reasons.NoBase room) (room_told room is.holds)
 
     -- a window that takes the request has none
-    pub none_told : (base : ℕ) → Takes s request w base → reason_of s request w ≡ None
+    pub none_told : (base : ℕ) → TakesRequest s request w base → reason_of s request w ≡ None
     none_told base takes =
         after_all 8 (λ other says. absurd (no_reason s request w base takes.window record { can = takes.least.can; inside = takes.inside } other says)) (omega arith)
 
-    pub base_told : (base : ℕ) → Takes s request w base → least_base s request w ≡ base
+    pub base_told : (base : ℕ) → TakesRequest s request w base → least_base s request w ≡ base
     base_told base takes = one_least (least_base_known s known request named w) takes.least
 
   -- ---- all windows

@@ -1,8 +1,8 @@
--- What K1 to K8 give of one node.
-use Rattle.std.proofs.Common.{◌≡◌, ℕ, ◌+◌, ◌%◌, ◌^◌, ◌<◌, ◌≤◌, ◌&&◌, true, false, length, Option, Some, None, refl, sym, ◌∙◌, inl, inr, arith}
+-- What is known of an endpoint's node.
+use Rattle.std.proofs.Common.{◌≡◌, ℕ, ◌+◌, ◌%◌, ◌^◌, ◌<◌, ◌≤◌, ◌&&◌, true, false, length, Option, Some, None, refl, ◌∙◌, arith}
 use Rattle.std.specs.Prelude.{slice_get, ◌==◌}
 use Rattle.std.specs.Option.{option_map_or, option_and_then}
-use Rattle.std.proofs.lemmas.Bool.{and_parts, leb-true, cases_lt, cases_eq, false≢true}
+use Rattle.std.proofs.lemmas.Bool.{and_parts, leb-true, false≢true}
 use Rattle.std.proofs.lemmas.Option.{slice_get_within}
 use Rattle.cxl_topo.specs.declared.node.Node.{Node}
 use Rattle.cxl_enc.specs.Limits.{address_limit}
@@ -10,29 +10,11 @@ use Rattle.cxl_topo.specs.declared.node.Capacity.{Capacity}
 use Rattle.cxl_topo.specs.Kinds.{is_endpoint, capacity_of}
 use Rattle.cxl_topo.specs.Tree.{is_endpoint_at}
 use Rattle.cxl_regs.specs.Registers.{Registers}
-use Rattle.cxl_span.specs.Breaches.{breaks as block_breaks, BlockKeeps}
-use Rattle.cxl_span.proofs.RulesBroken.{no_other_rule}
 use Rattle.cxl_model.specs.System.{System, ram_at, pmem_at}
 use Rattle.cxl_model.specs.declared.request.Request.{Request}
-use Rattle.cxl_model.proofs.OtherBlocks.{block_rule}
 use Rattle.cxl_plan.specs.inner.Judging.{AsksOrderlySystem}
 
 module _ (s : System) (request : Request) (ready : AsksOrderlySystem s request) where
-  pub kept_block : (n : ℕ) (block : Registers) → slice_get s.blocks n ≡ Some block → BlockKeeps block (ram_at s n) (pmem_at s n)
-  kept_block n block here = record { each = each }
-    where
-      each : (rule i : ℕ) → block_breaks rule block (ram_at s n) (pmem_at s n) i ≡ false
-      each rule i =
-          elim (cases_lt rule 9) [
-            | inr high ↦ no_other_rule rule block (ram_at s n) (pmem_at s n) i (λ k from to same. omega arith)
-            | inl low ↦ elim (cases_eq rule 1) [
-              | inl one ↦ no_other_rule rule block (ram_at s n) (pmem_at s n) i (λ k from to same. omega arith)
-              | inr other ↦
-                  let kept = sym (block_rule s rule n i other low) ∙ ready.blocks rule n i low in
-                  rw here at kept
-            ]
-          ]
-
   endpoint_node : (n : ℕ) → is_endpoint_at s.nodes n ≡ true → (node : Node) × (slice_get s.nodes n ≡ Some node) × (is_endpoint node.kind ≡ true)
   endpoint_node n endpoint = go (slice_get s.nodes n) refl endpoint
     where

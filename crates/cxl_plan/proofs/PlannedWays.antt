@@ -5,6 +5,7 @@ use Rattle.std.proofs.lemmas.Bool.{cases_Bool, cases_lt, eq-eqb, ne_eqb, false�
 use Rattle.std.proofs.lemmas.List.Sums.{sum_by-cons}
 use Rattle.cxl_enc.specs.Codes.{is_ways, bits_of, third_of, log2_of}
 use Rattle.cxl_enc.proofs.Numbers.{sixteens, times, some_product}
+use Rattle.cxl_enc.proofs.Ways.{some_ways}
 use Rattle.cxl_topo.specs.declared.node.Node.{Node}
 use Rattle.cxl_topo.specs.declared.node.Parent.{Parent}
 use Rattle.cxl_topo.specs.Tree.{is_endpoint_at, parent_of, ports_above}
@@ -29,10 +30,6 @@ few_ways n known =
       | inl past ↦ absurd (false≢true (sym (past_table n past) ∙ known))
       | inr few ↦ few
     ]
-
-pub some_ways : (n : ℕ) → is_ways n ≡ true → 0 < n
-some_ways zero known = absurd (false≢true known)
-some_ways (suc n) known = omega arith
 
 -- ---- the ways of a node
 

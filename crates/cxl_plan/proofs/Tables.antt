@@ -1,6 +1,6 @@
 -- The tables of used nodes and ports, one entry at a time.
 use Rattle.std.proofs.Common.{◌≡◌, ℕ, zero, suc, ◌+◌, ◌<◌, ◌≤◌, Bool, true, false, ◌||◌, ◌&&◌, List, [], ◌∷◌, ◌++◌, length, get_or, take, filter, replicate, Option, Some, None, refl, sym, ap, subst, ◌∙◌, inl, inr, arith, if◌then◌else◌}
-use Rattle.std.specs.Prelude.{slice_get, ◌==◌, nat_lt, Result, Ok, Err, OnOk}
+use Rattle.std.specs.Prelude.{slice_get, ◌==◌, nat_lt}
 use Rattle.std.specs.Option.{option_map_or}
 use Rattle.std.specs.List.{list_any, range_with_len, All}
 use Rattle.std.proofs.lemmas.Bool.{and_parts, and_from, cases_Bool, cases_eq, cases_lt, eq-eqb, eqb-true, ne_eqb, lt-ltb, false≢true, or_right}
@@ -293,8 +293,3 @@ used_inside p a (suc n) =
 
 pub used_within : (nodes : List Node) (request : Request) → All (λ n. n < length nodes) (used_nodes nodes request)
 used_within nodes request k d below = let lower = used_inside (is_used (tree_alone nodes) request) 0 (length nodes) k d below in omega arith
-
--- what follows where there was no error
-pub on_ok : {T E : Type 0} (result : Result T E) (P Q : Type 0) → (P → Q) → OnOk result P → OnOk result Q
-on_ok (Ok v) P Q to is = to is
-on_ok (Err e) P Q to is = is

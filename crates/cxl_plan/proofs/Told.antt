@@ -27,7 +27,7 @@ use Rattle.cxl_legal.specs.Used.{AreEndpoints, HasBytePorts, request_ways}
 use Rattle.cxl_legal.specs.Endpoints.{FitsEndpoints, is_uneven, lacks_decoder}
 use Rattle.cxl_legal.specs.Windows.{has_used_bridges, agrees_on_gran, can_select, can_have_ways}
 use Rattle.cxl_legal.specs.Stated.{IsStatedPlan, Fits}
-use Rattle.cxl_plan.specs.Faults.{IsFirstPlan, IsFirstPlanFault, IsReason, SaysOfWindow, Takes, TakesFirst, turn_of_reason, least}
+use Rattle.cxl_plan.specs.Faults.{IsFirstPlan, IsFirstPlanFault, IsReason, SaysOfWindow, TakesRequest, TakesFirst, turn_of_reason, least}
 use Rattle.cxl_plan.specs.Planned.{reason_of, room_in, least_base, span_fault}
 use Rattle.cxl_plan.specs.inner.Judging.{IsEarly, KeepsWindow, uneven_at, selects_at}
 use Rattle.cxl_plan.proofs.FaultOrder.{faults_1, faults_2, faults_3, faults_4, faults_5, faults_6, fits_endpoints}
@@ -82,7 +82,7 @@ module _ (s : System) (request : Request) (system : IsSystem s) (laws : AreTreeL
   HasReason w = (reason : Reason) × IsReason s request w reason
 
   abbrev TakesAt : WindowFields → Type 0
-  TakesAt w = Takes s request w (least_base s request w)
+  TakesAt w = TakesRequest s request w (least_base s request w)
 
   module _ (w : WindowFields) (there : slice_get s.windows w.index ≡ Some w) where
     reasoned : (reason : Reason) → SaysOfWindow s request w reason → ((other : Reason) → SaysOfWindow s request w other → turn_of_reason reason ≤ turn_of_reason other) → HasReason w ⊎ TakesAt w

@@ -37,7 +37,7 @@ pub record LacksRoom (s : System) (request : Request) (w : WindowFields) (room :
   pub short : room.limit < room.start + request.size
 
 -- the window takes the request from this base on, the least that it can have there
-pub record Takes (s : System) (request : Request) (w : WindowFields) (base : ℕ) : Type 0 where
+pub record TakesRequest (s : System) (request : Request) (w : WindowFields) (base : ℕ) : Type 0 where
   pub window : FitsWindow s request w
   pub least : IsLeastBase s request w base
   pub inside : base + request.size ≤ w.base + w.size
@@ -71,7 +71,7 @@ pub record IsReason (s : System) (request : Request) (w : WindowFields) (reason 
 
 -- and it is the first of the table that does: each before it has a reason
 pub record TakesFirst (s : System) (request : Request) (w : WindowFields) (base : ℕ) : Type 0 where
-  pub takes : Takes s request w base
+  pub takes : TakesRequest s request w base
   pub before : (v : WindowFields) → slice_get s.windows v.index ≡ Some v → v.index < w.index → (reason : Reason) × IsReason s request v reason
 
 -- the plan is that which is stated in the first window that takes the request, at the least base there

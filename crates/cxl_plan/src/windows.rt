@@ -12,7 +12,7 @@ ghost use Rattle.cxl_topo.specs.Tree.{is_endpoint_at, is_bridge_at};
 ghost use Rattle.cxl_window.specs.Fields.{WindowFields};
 ghost use Rattle.cxl_legal.specs.Used.{request_ways, is_used};
 ghost use Rattle.cxl_legal.specs.Windows.{has_used_bridges, is_used_bridge, is_target, can_have_ways};
-ghost use Rattle.cxl_plan.specs.Faults.{Takes, IsReason};
+ghost use Rattle.cxl_plan.specs.Faults.{TakesRequest, IsReason};
 ghost use Rattle.cxl_plan.specs.inner.Uses.{tree_alone, AreUses};
 ghost use Rattle.cxl_plan.specs.inner.Stages.{stage_at, AreStages};
 ghost use Rattle.cxl_plan.specs.inner.Judging.{over, selects_at, KeepsWindow};
@@ -43,7 +43,7 @@ pub(crate) fn base_in(
     requires size { request.now.size ≤ address_limit }
     requires floor { floor ≤ address_limit }
     ensures takes { (blocks : List Registers) (windows : List WindowFields) → IsFloor topo.now.nodes blocks request.now floor
-        → slice_get windows w.now.index ≡ Some w.now → IfOk result (Takes (over topo.now.nodes blocks windows) request.now w.now) }
+        → slice_get windows w.now.index ≡ Some w.now → IfOk result (TakesRequest (over topo.now.nodes blocks windows) request.now w.now) }
     ensures reason { (blocks : List Registers) (windows : List WindowFields) → IsFloor topo.now.nodes blocks request.now floor
         → IfErr result (IsReason (over topo.now.nodes blocks windows) request.now w.now) }
 {

@@ -5,7 +5,7 @@ use Rattle.cxl_model.specs.Hosts.{as_system}
 use Rattle.cxl_model.specs.System.{ram_at, pmem_at}
 use Rattle.cxl_legal.specs.Bases.{last_end}
 use Rattle.cxl_plan.specs.inner.Judging.{without_windows}
-use Rattle.cxl_plan.proofs.KeptBlocks.{kept_block}
+use Rattle.cxl_model.proofs.RangeRules.{block_keeps}
 use Rattle.cxl_plan.proofs.UsedItems.{item_inside, item_used, used_stands, floor_more}
 use Rattle.cxl_plan.proofs.base.floor.Goals as goal
 
@@ -18,7 +18,7 @@ pub last_end-requires : goal.last_end-requires
 last_end-requires c =
     let s = as_system c.args.host.now in
     let n = get_or c.deref-node-items.result.now c.loop-node.node-index 0 in
-    (ram_at s n, pmem_at s n, kept_block s c.args.request.now c.requires.ready n c.block.result.now c.block.ensures.value)
+    (ram_at s n, pmem_at s n, block_keeps s c.requires.ready.blocks n c.block.result.now c.block.ensures.value)
 
 pub loop-node-preserved : goal.loop-node-preserved
 loop-node-preserved c =

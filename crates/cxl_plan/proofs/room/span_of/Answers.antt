@@ -3,7 +3,8 @@ use Rattle.cxl_topo.proofs.Trees.{endpoint_within}
 use Rattle.cxl_span.specs.Breaches.{BlockKeeps}
 use Rattle.cxl_model.specs.Hosts.{as_system}
 use Rattle.cxl_model.specs.System.{ram_at}
-use Rattle.cxl_plan.proofs.KeptBlocks.{kept_block, endpoint_at, node_inside}
+use Rattle.cxl_model.proofs.RangeRules.{block_keeps}
+use Rattle.cxl_plan.proofs.KeptBlocks.{endpoint_at, node_inside}
 use Rattle.cxl_plan.proofs.room.span_of.Goals as goal
 
 pub allot-requires-clause-endpoint : goal.allot-requires-clause-endpoint
@@ -15,7 +16,7 @@ allot-requires-clause-keeps c =
     let s = as_system c.args.host.now in
     let block = c.block.result.now in
     subst (λ (r : ℕ). BlockKeeps block r c.capacity_at-capacity.result.pmem) (sym c.capacity_at-capacity.ensures.ram)
-    (subst (λ (p : ℕ). BlockKeeps block (ram_at s c.args.endpoint) p) (sym c.capacity_at-capacity.ensures.pmem) (kept_block s c.args.request.now c.requires.ready c.args.endpoint block c.block.ensures.value))
+    (subst (λ (p : ℕ). BlockKeeps block (ram_at s c.args.endpoint) p) (sym c.capacity_at-capacity.ensures.pmem) (block_keeps s c.requires.ready.blocks c.args.endpoint block c.block.ensures.value))
 
 pub block-requires : goal.block-requires
 block-requires c = node_inside (as_system c.args.host.now) c.args.request.now c.requires.ready c.args.endpoint c.requires.endpoint

@@ -3,9 +3,10 @@ use Rattle.std.proofs.Common.{◌≡◌, ℕ, ◌/◌, ◌*◌, ◌%◌, ◌^◌
 use Rattle.std.specs.Prelude.{slice_get, Some}
 use Rattle.std.specs.List.{All}
 use Rattle.std.proofs.lemmas.Option.{slice_get-get_or}
+use Rattle.cxl_enc.proofs.Ways.{some_ways}
 use Rattle.cxl_legal.specs.Used.{is_port_used}
 use Rattle.cxl_plan.specs.inner.Uses.{tree_alone, ports_at, ways_at, ways_above_at}
-use Rattle.cxl_plan.proofs.PlannedWays.{port_ways, some_ways}
+use Rattle.cxl_plan.proofs.PlannedWays.{port_ways}
 use Rattle.cxl_plan.proofs.Leading.{ports_used}
 use Rattle.cxl_plan.proofs.spans.port_of.Goals as goal
 
