@@ -1,4 +1,4 @@
-pub mod Unknowns
+pub mod Fielding
 pub mod Turns
 pub mod Attaching
 pub mod Whole

@@ -2,3 +2,4 @@
 pub mod Seen
 pub mod Answers
 pub mod Ports
+pub mod Fields

@@ -1,14 +1,15 @@
 //! The node that each table of a file states.
 
-ghost use Rattle.std.specs.Prelude.{◌≡◌, not, string_bytes};
-ghost use Rattle.std.specs.List.{list_any};
-ghost use Rattle.std.specs.BTreeMap.{keys};
+ghost use Rattle.std.specs.Prelude.{◌≡◌, Ok, Err, if◌then◌else◌};
 ghost use Rattle.toml.specs.View.{table_view};
-ghost use Rattle.cxl_topofile.specs.Keys.{is_key, has_unknown};
-ghost use Rattle.cxl_topofile.specs.Drafts.{port_caps_of, port_of, bridge_of, switch_of, endpoint_cap_of, endpoint_of, known_in};
+ghost use Rattle.cxl_topofile.specs.declared.key.Key.TheVariants.{Unknown};
+ghost use Rattle.cxl_topofile.specs.Wrongs.{missing};
+ghost use Rattle.cxl_topofile.specs.Drafts.{port_caps_of, port_of, bridge_of, switch_of, endpoint_cap_of, endpoint_of};
+ghost use Rattle.cxl_topofile.specs.inner.Fields.{members_of, AreFields};
 
 use crate::fault::Wrong;
-use crate::key::{Key, is_key};
+use crate::fields::{Fields, values_of};
+use crate::key::Key;
 use crate::value::{decoders, flag, name, number, targets};
 use cxl_enc::{ADDRESS_LIMIT, PLACEHOLDER_CAP};
 use cxl_topo::{Capacity, Caps, Name, Node, NodeKind, cap_word};
@@ -72,37 +73,26 @@ pub(crate) struct PortCaps {
     pub forwards: bool,
 }
 
-/// Refuses a table that has a key beside these.
-pub(crate) fn known(table: &Table, allowed: &[Key]) -> Result<(), Wrong>
-    ensures { result ≡ known_in (table_view table.now) allowed.now }
+/// Refuses a table that has other keys.
+pub(crate) fn known(others: bool) -> Result<(), Wrong>
+    ensures { result ≡ (if others then Err (missing Unknown) else Ok tt) }
 {
-    if has_unknown(table, allowed) {
+    if others {
         return Err(Wrong::missing(Key::Unknown));
     }
     Ok(())
 }
 
-fn has_unknown(table: &Table, allowed: &[Key]) -> bool
-    ensures { result ≡ has_unknown (table_view table.now) allowed.now }
-{
-    has_other(table, allowed)
-}
-
-fn has_other(table: &Table, allowed: &[Key]) -> bool
-    ensures { result ≡ list_any (λ key. not (is_key (string_bytes key) allowed.now)) (keys table.now) }
-{
-    table.keys().any(|key| !is_key(key.as_str(), allowed))
-}
-
 #[tactic(auto, unfolding(crate::specs::Drafts::port_caps_of))]
-fn read_port_caps(table: &Table) -> Result<PortCaps, Wrong>
-    ensures { result ≡ port_caps_of (table_view table.now) }
+fn read_port_caps(fields: &Fields<'_>) -> Result<PortCaps, Wrong>
+    requires { AreFields fields.now }
+    ensures { result ≡ port_caps_of (members_of fields.now) }
 {
-    let decoders = decoders(table)?;
-    let targets = targets(table)?;
-    let low = flag(table, Key::Low, true)?;
-    let high = flag(table, Key::High, true)?;
-    let forwards = flag(table, Key::Passthrough, false)?;
+    let decoders = decoders(fields)?;
+    let targets = targets(fields)?;
+    let low = flag(fields, Key::Low, true)?;
+    let high = flag(fields, Key::High, true)?;
+    let forwards = flag(fields, Key::Passthrough, false)?;
     let caps = Caps {
         decoders,
         targets,
@@ -119,10 +109,11 @@ fn read_port_caps(table: &Table) -> Result<PortCaps, Wrong>
     Ok(PortCaps { cap, forwards })
 }
 
-fn read_port(table: &Table) -> Result<u8, Wrong>
-    ensures { result ≡ port_of (table_view table.now) }
+fn read_port(fields: &Fields<'_>) -> Result<u8, Wrong>
+    requires { AreFields fields.now }
+    ensures { result ≡ port_of (members_of fields.now) }
 {
-    let port = number(table, Key::Port, None, 0, MAX_PORT)?;
+    let port = number(fields, Key::Port, None, 0, MAX_PORT)?;
     Ok(port as u8)
 }
 
@@ -131,10 +122,12 @@ fn read_port(table: &Table) -> Result<u8, Wrong>
 pub(crate) fn read_bridge(table: &Table) -> Result<Node, Wrong>
     ensures { result ≡ bridge_of (table_view table.now) }
 {
-    known(table, &BRIDGE_KEYS)?;
-    let name = name(table, Key::Name)?;
-    let uid = number(table, Key::Uid, None, 0, MAX_UID)?;
-    let caps = read_port_caps(table)?;
+    let (values, others) = values_of(table, &BRIDGE_KEYS);
+    known(others)?;
+    let fields = Fields { table, values };
+    let name = name(&fields, Key::Name)?;
+    let uid = number(&fields, Key::Uid, None, 0, MAX_UID)?;
+    let caps = read_port_caps(&fields)?;
     Ok(Node {
         name,
         kind: NodeKind::Bridge(uid as u32),
@@ -149,11 +142,13 @@ pub(crate) fn read_bridge(table: &Table) -> Result<Node, Wrong>
 pub(crate) fn read_switch(table: &Table) -> Result<Draft, Wrong>
     ensures { result ≡ switch_of (table_view table.now) }
 {
-    known(table, &SWITCH_KEYS)?;
-    let own = name(table, Key::Name)?;
-    let parent = name(table, Key::Parent)?;
-    let port = read_port(table)?;
-    let caps = read_port_caps(table)?;
+    let (values, others) = values_of(table, &SWITCH_KEYS);
+    known(others)?;
+    let fields = Fields { table, values };
+    let own = name(&fields, Key::Name)?;
+    let parent = name(&fields, Key::Parent)?;
+    let port = read_port(&fields)?;
+    let caps = read_port_caps(&fields)?;
     Ok(Draft {
         name: own,
         kind: NodeKind::Switch,
@@ -165,16 +160,17 @@ pub(crate) fn read_switch(table: &Table) -> Result<Draft, Wrong>
 }
 
 #[tactic(auto, unfolding(crate::specs::Drafts::endpoint_cap_of))]
-fn read_endpoint_cap(table: &Table) -> Result<u32, Wrong>
-    ensures { result ≡ endpoint_cap_of (table_view table.now) }
+fn read_endpoint_cap(fields: &Fields<'_>) -> Result<u32, Wrong>
+    requires { AreFields fields.now }
+    ensures { result ≡ endpoint_cap_of (members_of fields.now) }
 {
     let caps = Caps {
-        decoders: decoders(table)?,
+        decoders: decoders(fields)?,
         targets: 0,
-        low: flag(table, Key::Low, true)?,
-        high: flag(table, Key::High, true)?,
-        ways3: flag(table, Key::Ways3, true)?,
-        ways16: flag(table, Key::Ways16, true)?,
+        low: flag(fields, Key::Low, true)?,
+        high: flag(fields, Key::High, true)?,
+        ways3: flag(fields, Key::Ways3, true)?,
+        ways16: flag(fields, Key::Ways16, true)?,
     };
     Ok(cap_word(&caps))
 }
@@ -184,13 +180,15 @@ fn read_endpoint_cap(table: &Table) -> Result<u32, Wrong>
 pub(crate) fn read_endpoint(table: &Table) -> Result<Draft, Wrong>
     ensures { result ≡ endpoint_of (table_view table.now) }
 {
-    known(table, &ENDPOINT_KEYS)?;
-    let own = name(table, Key::Name)?;
-    let parent = name(table, Key::Parent)?;
-    let port = read_port(table)?;
-    let cap = read_endpoint_cap(table)?;
-    let ram = number(table, Key::Ram, Some(0), 0, ADDRESS_LIMIT)?;
-    let pmem = number(table, Key::Pmem, Some(0), 0, ADDRESS_LIMIT)?;
+    let (values, others) = values_of(table, &ENDPOINT_KEYS);
+    known(others)?;
+    let fields = Fields { table, values };
+    let own = name(&fields, Key::Name)?;
+    let parent = name(&fields, Key::Parent)?;
+    let port = read_port(&fields)?;
+    let cap = read_endpoint_cap(&fields)?;
+    let ram = number(&fields, Key::Ram, Some(0), 0, ADDRESS_LIMIT)?;
+    let pmem = number(&fields, Key::Pmem, Some(0), 0, ADDRESS_LIMIT)?;
     Ok(Draft {
         name: own,
         kind: NodeKind::Endpoint(Capacity { ram, pmem }),

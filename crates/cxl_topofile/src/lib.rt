@@ -4,6 +4,7 @@
 mod attach;
 mod draft;
 mod fault;
+mod fields;
 mod group;
 mod key;
 mod laws;

@@ -10,13 +10,15 @@ ghost use Rattle.cxl_topofile.specs.Drafts.{bridge_of};
 ghost use Rattle.cxl_topofile.specs.Groups.{Reads, section_of, draft_of, all_of, are_tables, tables_of, tables_at, top_of, stated_of};
 ghost use Rattle.cxl_topofile.specs.inner.Seen.{seen_top, seen_stated, is_table, IsTop, AddsTable};
 ghost use Rattle.std.specs.Prelude.{Some};
+ghost use Rattle.cxl_topofile.specs.inner.Fields.{members_of, AreFields};
 
 use crate::draft::{Draft, known, read_bridge};
 use crate::fault::{Section, TopoFault, Wrong};
+use crate::fields::{Fields, found, values_of};
 use crate::group::Group;
 use crate::key::Key;
 use crate::stated::{Stated, Top};
-use crate::value::{found, number};
+use crate::value::number;
 use cxl_enc::FRAME_LIMIT;
 use cxl_topo::Node;
 use std::alloc::Global;
@@ -53,17 +55,19 @@ fn read_top(table: &Table) -> Result<Top<'_>, Wrong>
     ensures top { Gives seen_top result (top_of (table_view table.now)) }
     ensures sound { IfOk result IsTop }
 {
-    known(table, &TOP_KEYS)?;
+    let (values, others) = values_of(table, &TOP_KEYS);
+    known(others)?;
+    let fields = Fields { table, values };
     let frames = number(
-        table,
+        &fields,
         Key::Frames,
         Some(DEFAULT_FRAMES),
         1,
         u64::from(FRAME_LIMIT),
     )?;
-    let bridges = tables(table, Key::Bridge)?;
-    let switches = tables(table, Key::Switch)?;
-    let endpoints = tables(table, Key::Endpoint)?;
+    let bridges = tables(&fields, Key::Bridge)?;
+    let switches = tables(&fields, Key::Switch)?;
+    let endpoints = tables(&fields, Key::Endpoint)?;
     Ok(Top {
         frames: frames as u32,
         bridges,
@@ -73,21 +77,23 @@ fn read_top(table: &Table) -> Result<Top<'_>, Wrong>
 }
 
 #[tactic(auto, unfolding(crate::specs::Groups::tables_at))]
-fn tables(table: &Table, key: Key) -> Result<&[Value], Wrong>
-    ensures tables { Gives (λ values. items_view values.now) result (tables_at (table_view table.now) key) }
+fn tables<'a>(fields: &Fields<'a>, key: Key) -> Result<&'a [Value], Wrong>
+    requires { AreFields fields.now }
+    ensures tables { Gives (λ values. items_view values.now) result (tables_at (members_of fields.now) key) }
     ensures each { IfOk result (λ values. IsTrue (are_tables (items_view values.now))) }
 {
-    let values = array(table, key)?;
+    let values = array(fields, key)?;
     if !are_tables(values) {
         return Err(Wrong::of_other_kind(key));
     }
     Ok(values)
 }
 
-fn array(table: &Table, key: Key) -> Result<&[Value], Wrong>
-    ensures { Gives (λ values. items_view values.now) result (value_at as_array (table_view table.now) key (Some no_items)) }
+fn array<'a>(fields: &Fields<'a>, key: Key) -> Result<&'a [Value], Wrong>
+    requires { AreFields fields.now }
+    ensures { Gives (λ values. items_view values.now) result (value_at as_array (members_of fields.now) key (Some no_items)) }
 {
-    match found(table, key) {
+    match found(fields, key) {
         Some(value) => match value.as_array() {
             Some(array) => Ok(array.as_slice()),
             None => Err(Wrong::of_other_kind(key)),

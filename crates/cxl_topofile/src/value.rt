@@ -1,48 +1,43 @@
 //! The values at the keys of a table.
 
-ghost use Rattle.std.specs.Prelude.{◌≡◌, ◌≤◌, None, option_map, IfOk, IsTrue};
+ghost use Rattle.std.specs.Prelude.{◌≡◌, ◌≤◌, None, IfOk, IsTrue};
 ghost use Rattle.cxl_enc.specs.Caps.{is_decoder_count, is_target_count};
 ghost use Rattle.cxl_enc.specs.Name.{is_name};
-ghost use Rattle.toml.specs.Data.{get_member, as_integer, as_bool, as_str};
-ghost use Rattle.toml.specs.View.{view, table_view};
-ghost use Rattle.cxl_topofile.specs.Keys.{key_text};
+ghost use Rattle.toml.specs.Data.{as_integer, as_bool, as_str};
 ghost use Rattle.cxl_topofile.specs.Values.{value_at, number_at, natural, is_within, within, flag_at, stated_name, stated_decoders, stated_targets, Gives};
+ghost use Rattle.cxl_topofile.specs.inner.Fields.{members_of, AreFields};
 
 use crate::fault::Wrong;
+use crate::fields::{Fields, found};
 use crate::key::Key;
 use cxl_enc::Name;
-use toml::{Table, Value};
 
-/// What stands at a key.
-pub(crate) fn found(table: &Table, key: Key) -> Option<&Value>
-    ensures { option_map (λ value. view value.now) result ≡ get_member (key_text key) (table_view table.now) }
+fn integer(fields: &Fields<'_>, key: Key, default: Option<i64>) -> Result<i64, Wrong>
+    requires { AreFields fields.now }
+    ensures { result ≡ value_at as_integer (members_of fields.now) key default }
 {
-    table.get(key.text())
-}
-
-fn integer(table: &Table, key: Key, default: Option<i64>) -> Result<i64, Wrong>
-    ensures { result ≡ value_at as_integer (table_view table.now) key default }
-{
-    match found(table, key) {
+    match found(fields, key) {
         Some(value) => value.as_integer().ok_or(Wrong::of_other_kind(key)),
         None => default.ok_or(Wrong::missing(key)),
     }
 }
 
 /// The boolean at a key.
-pub(crate) fn flag(table: &Table, key: Key, default: bool) -> Result<bool, Wrong>
-    ensures { result ≡ flag_at (table_view table.now) key default }
+pub(crate) fn flag(fields: &Fields<'_>, key: Key, default: bool) -> Result<bool, Wrong>
+    requires { AreFields fields.now }
+    ensures { result ≡ flag_at (members_of fields.now) key default }
 {
-    match found(table, key) {
+    match found(fields, key) {
         Some(value) => value.as_bool().ok_or(Wrong::of_other_kind(key)),
         None => Ok(default),
     }
 }
 
-fn text(table: &Table, key: Key) -> Result<&str, Wrong>
-    ensures { Gives (λ text. text.now) result (value_at as_str (table_view table.now) key None) }
+fn text<'a>(fields: &Fields<'a>, key: Key) -> Result<&'a str, Wrong>
+    requires { AreFields fields.now }
+    ensures { Gives (λ text. text.now) result (value_at as_str (members_of fields.now) key None) }
 {
-    match found(table, key) {
+    match found(fields, key) {
         Some(value) => value.as_str().ok_or(Wrong::of_other_kind(key)),
         None => Err(Wrong::missing(key)),
     }
@@ -50,10 +45,11 @@ fn text(table: &Table, key: Key) -> Result<&str, Wrong>
 
 /// The name at a key.
 #[tactic(auto, unfolding(crate::specs::Values::stated_name))]
-pub(crate) fn name(table: &Table, key: Key) -> Result<Name, Wrong>
-    ensures { result ≡ stated_name (table_view table.now) key }
+pub(crate) fn name(fields: &Fields<'_>, key: Key) -> Result<Name, Wrong>
+    requires { AreFields fields.now }
+    ensures { result ≡ stated_name (members_of fields.now) key }
 {
-    read_name(key, text(table, key)?)
+    read_name(key, text(fields, key)?)
 }
 
 fn read_name(key: Key, text: &str) -> Result<Name, Wrong>
@@ -85,28 +81,30 @@ fn within(key: Key, n: u64, low: u64, high: u64) -> Result<u64, Wrong>
 /// The integer at a key, from `low` to `high`.
 #[tactic(auto, unfolding(crate::specs::Values::number_at))]
 pub(crate) fn number(
-    table: &Table,
+    fields: &Fields<'_>,
     key: Key,
     default: Option<i64>,
     low: u64,
     high: u64,
 ) -> Result<u64, Wrong>
-    ensures number { result ≡ number_at (table_view table.now) key default (is_within low high) }
+    requires { AreFields fields.now }
+    ensures number { result ≡ number_at (members_of fields.now) key default (is_within low high) }
     ensures range { IfOk result (λ n. (low ≤ n) × (n ≤ high)) }
 {
-    let z = integer(table, key, default)?;
+    let z = integer(fields, key, default)?;
     let n = natural(key, z)?;
     within(key, n, low, high)
 }
 
 /// The number of decoders.
 #[tactic(auto, unfolding(crate::specs::Values::number_at))]
-pub(crate) fn decoders(table: &Table) -> Result<u8, Wrong>
-    ensures decoders { result ≡ stated_decoders (table_view table.now) }
+pub(crate) fn decoders(fields: &Fields<'_>) -> Result<u8, Wrong>
+    requires { AreFields fields.now }
+    ensures decoders { result ≡ stated_decoders (members_of fields.now) }
     ensures count { IfOk result (λ n. IsTrue (is_decoder_count n)) }
 {
     let key = Key::Decoders;
-    let z = integer(table, key, Some(4))?;
+    let z = integer(fields, key, Some(4))?;
     let n = natural(key, z)?;
     if matches!(n, 1 | 2 | 4 | 6 | 8 | 10) {
         Ok(n as u8)
@@ -117,12 +115,13 @@ pub(crate) fn decoders(table: &Table) -> Result<u8, Wrong>
 
 /// The number of targets.
 #[tactic(auto, unfolding(crate::specs::Values::number_at))]
-pub(crate) fn targets(table: &Table) -> Result<u8, Wrong>
-    ensures targets { result ≡ stated_targets (table_view table.now) }
+pub(crate) fn targets(fields: &Fields<'_>) -> Result<u8, Wrong>
+    requires { AreFields fields.now }
+    ensures targets { result ≡ stated_targets (members_of fields.now) }
     ensures count { IfOk result (λ n. IsTrue (is_target_count n)) }
 {
     let key = Key::Targets;
-    let z = integer(table, key, Some(8))?;
+    let z = integer(fields, key, Some(8))?;
     let n = natural(key, z)?;
     if matches!(n, 1 | 2 | 4 | 8) {
         Ok(n as u8)
