@@ -10,7 +10,7 @@ ghost use Rattle.cxl_io.specs.Told.{Untold, told_by};
 use crate::fetch::{Fetch, FetchFault};
 use cxl_enc::FILE_LIMIT;
 use std::alloc::Global;
-use std::fs::File;
+use std::fs::{File, OpenFile};
 use std::io;
 use std::io::{ErrorKind, Read};
 use std::marker::Model;
@@ -54,7 +54,10 @@ impl<R: Files> Fetch for StdFetch<R> {
         ensures kept { (result ≢ Err FetchFault.Failed) → self.new ≡ self.old }
     {
         let answer = match File::open(&self.rt, name) {
-            Ok(file) => whole_file(alloc, file),
+            Ok(file) => {
+                let room = room_for(&file);
+                file_within(alloc, file, room)
+            }
             Err(e) => Err(fault_of(&e)),
         };
         if let Err(FetchFault::Failed) = &answer {
@@ -70,7 +73,23 @@ pub fn whole_file<F: Read + Drop>(alloc: Global, file: F) -> Result<Vec<u8>, Fet
     ensures ok { IfOk result (λ bytes. IsFile (told_by (F.remaining file)) bytes.items) }
     ensures too_large { result ≡ Err FetchFault.TooLarge → IsTooLarge (told_by (F.remaining file)) }
 {
-    match read_to_limit(alloc, file) {
+    file_within(alloc, file, 0)
+}
+
+/// As much room as a file wants by its length, and a byte more, by which its end is seen. None where that is not told.
+fn room_for<F: OpenFile>(file: &F) -> usize {
+    match file.metadata() {
+        Ok(metadata) => metadata.len().min(FILE_LIMIT as u64 + 1) as usize + 1,
+        Err(_) => 0,
+    }
+}
+
+/// What a reader has left, as a file, with room for so many bytes before the first is read.
+fn file_within<F: Read + Drop>(alloc: Global, file: F, room: usize) -> Result<Vec<u8>, FetchFault>
+    ensures ok { IfOk result (λ bytes. IsFile (told_by (F.remaining file)) bytes.items) }
+    ensures too_large { result ≡ Err FetchFault.TooLarge → IsTooLarge (told_by (F.remaining file)) }
+{
+    match read_to_limit(alloc, file, room) {
         Ok(bytes) if is_too_large(&bytes) => Err(FetchFault::TooLarge),
         Ok(bytes) => Ok(bytes),
         Err(e) => Err(fault_of(&e)),
@@ -86,10 +105,10 @@ fn is_too_large(bytes: &[u8]) -> bool
 }
 
 /// The bytes that a reader has left, up to one more than a file may have.
-fn read_to_limit<F: Read + Drop>(alloc: Global, file: F) -> io::Result<Vec<u8>>
+fn read_to_limit<F: Read + Drop>(alloc: Global, file: F, room: usize) -> io::Result<Vec<u8>>
     ensures { IfOk result (λ bytes. IfSome (F.remaining file) (λ left. bytes.items ≡ take (file_limit + 1) left)) }
 {
-    let mut bytes = Vec::new(alloc);
+    let mut bytes = Vec::with_capacity(alloc, room)?;
     file.take(FILE_LIMIT as u64 + 1).read_to_end(&mut bytes)?;
     Ok(bytes)
 }
