@@ -1,5 +1,5 @@
 -- What is kept of records: one record more, and what the tests of the next one say of those that are kept.
-use Rattle.std.proofs.Common.{◌≡◌, ℕ, ◌+◌, ◌<◌, ◌≤◌, Bool, true, false, cond, eqb, leb, ◌&&◌, List, [], ◌∷◌, ◌++◌, length, refl, sym, ap, ◌∙◌, inl, inr, arith}
+use Rattle.std.proofs.Common.{◌≡◌, ℕ, ◌+◌, ◌<◌, ◌≤◌, Bool, true, false, cond, eqb, leb, List, [], ◌∷◌, ◌++◌, refl, sym, ap, ◌∙◌, inl, inr, arith}
 use Rattle.std.specs.Prelude.{sum_by}
 use Rattle.std.proofs.lemmas.Bool.{eqb-true, le-leb, lt-leb, leb-true, cases_Bool, false≢true}
 use Rattle.std.proofs.lemmas.List.Elements.{filter-append}
@@ -11,7 +11,7 @@ use Rattle.cxl_table.specs.Judged.{is_judged, judged_of, judged_places}
 use Rattle.cxl_table.specs.Records.{kind_of, count_of, record_length, is_kind_full}
 use Rattle.cxl_cedt.specs.Table.{record_fault, kind_said}
 use Rattle.cxl_cedt.specs.inner.Decoding.{IsSoundText, record_of}
-use Rattle.cxl_cedt.specs.inner.Kept.{kept_of, IsKeptOf}
+use Rattle.cxl_cedt.specs.inner.Kept.{kept_of, AreKeptOf}
 use Rattle.cxl_cedt.specs.inner.KeptRecords.{KeptRecords}
 use Rattle.cxl_cedt.proofs.Counts.{one_of}
 use Rattle.cxl_cedt.proofs.Sound.{spelled, said_kind}
@@ -75,12 +75,12 @@ places_more at at' (s ∷ all) r is =
     ap (λ ps. cond (is_judged s) (at ∷ ps) ps) (places_more (at + record_length s) at' all r (omega (arith, is, sum_by-cons record_length s all)))
     ∙ place_first (is_judged s) at (judged_places (at + record_length s) all) (judged_places at' (r ∷ []))
 
-pub kept_none : (others : Others) (kept : KeptRecords) → kept ≡ record { records = []; places = [] } → IsKeptOf others [] kept
+pub kept_none : (others : Others) (kept : KeptRecords) → kept ≡ record { records = []; places = [] } → AreKeptOf others [] kept
 kept_none Kept kept is = record { records = ap (λ k. k.records) is; places = ap (λ k. k.places) is }
 kept_none PassedOver kept is = record { records = ap (λ k. k.records) is; places = ap (λ k. k.places) is }
 
-pub kept_next : (others : Others) (all : List Record) (r : Record) (at : ℕ) (kept new : KeptRecords) → at ≡ 36 + sum_by record_length all → IsKeptOf others all kept → new.records ≡ kept.records ++ kept_of others (r ∷ []) → new.places ≡ kept.places ++ judged_places at (r ∷ [])
-    → IsKeptOf others (all ++ r ∷ []) new
+pub kept_next : (others : Others) (all : List Record) (r : Record) (at : ℕ) (kept new : KeptRecords) → at ≡ 36 + sum_by record_length all → AreKeptOf others all kept → new.records ≡ kept.records ++ kept_of others (r ∷ []) → new.places ≡ kept.places ++ judged_places at (r ∷ [])
+    → AreKeptOf others (all ++ r ∷ []) new
 kept_next others all r at kept new at-is so_far records places = record {
   records = records ∙ ap (λ rs. rs ++ kept_of others (r ∷ [])) so_far.records ∙ sym (kept_more others all r);
   places = places ∙ ap (λ ps. ps ++ judged_places at (r ∷ [])) so_far.places ∙ sym (places_more 36 at all r at-is);

@@ -1,8 +1,8 @@
 -- The bytes of a table with the spelling of each judged record in its place are its spelling.
-use Rattle.std.proofs.Common.{◌≡◌, ℕ, zero, suc, ◌+◌, ◌*◌, ◌%◌, ◌/◌, ◌<◌, ◌≤◌, true, false, cond, List, [], ◌∷◌, ◌++◌, length, take, drop, get_or, slice_index, refl, sym, ap, subst, ◌∙◌, inl, inr, append_assoc, arith, drop-cons, length-append, length-drop, add-one}
+use Rattle.std.proofs.Common.{◌≡◌, ℕ, zero, suc, ◌+◌, ◌<◌, ◌≤◌, false, List, [], ◌∷◌, ◌++◌, length, take, drop, get_or, slice_index, refl, sym, ap, subst, ◌∙◌, inl, inr, append_assoc, arith, drop-cons, length-append, length-drop, add-one}
 use Rattle.std.specs.Prelude.{sum_by}
 use Rattle.std.specs.List.{flat_map}
-use Rattle.std.proofs.lemmas.Bool.{cases_Bool, lt-leb}
+use Rattle.std.proofs.lemmas.Bool.{cases_Bool}
 use Rattle.std.proofs.lemmas.List.{take_at, drop_at, length-take-le, take-append-drop}
 use Rattle.std.proofs.lemmas.List.Sums.{sum_by-cons}
 use Rattle.cxl_table.specs.declared.cedt.Head.{Head}
@@ -13,7 +13,7 @@ use Rattle.cxl_table.specs.Judged.{is_judged, judged_of, judged_places}
 use Rattle.cxl_cedt.specs.Reading.{table_in}
 use Rattle.cxl_table.specs.Records.{record_length, table_length}
 use Rattle.cxl_cedt.specs.Table.{field, some_bytes, IsOtherText, IsRecordText, AreRecordTexts}
-use Rattle.cxl_cedt.specs.Spelling.{number_bytes, numbers_bytes, window_range, window_codes, record_spelling, header, spelling_with}
+use Rattle.cxl_cedt.specs.Spelling.{number_bytes, window_range, window_codes, record_spelling, header, spelling_with}
 use Rattle.cxl_cedt.specs.inner.Kept.{IsTextOf}
 use Rattle.cxl_cedt.specs.inner.KeptRecords.{KeptRecords}
 use Rattle.cxl_cedt.specs.inner.Mending.{with_part, mended, FitIn}

@@ -1,5 +1,5 @@
 -- The records of a text, read from its front.
-use Rattle.std.proofs.Common.{◌≡◌, ℕ, zero, suc, ◌+◌, ◌<◌, ◌≤◌, true, false, eqb, List, [], ◌∷◌, ◌++◌, length, take, drop, None, refl, sym, ap, subst, ◌∙◌, arith, length-append, length-drop}
+use Rattle.std.proofs.Common.{◌≡◌, ℕ, zero, suc, ◌<◌, ◌≤◌, true, false, eqb, List, [], ◌∷◌, length, take, drop, None, refl, sym, ap, subst, ◌∙◌, arith, length-append, length-drop}
 use Rattle.std.proofs.lemmas.Bool.{eqb-true, eqb-false, le-leb, lt-leb}
 use Rattle.std.proofs.lemmas.List.{take_at, drop_at}
 use Rattle.cxl_enc.specs.Limits.{file_limit}
@@ -12,7 +12,7 @@ use Rattle.cxl_table.specs.Records.{kind_of}
 use Rattle.cxl_cedt.specs.Table.{IsRecordText, AreRecordTexts, IsTableText, kind_said, length_said, header_fault}
 use Rattle.cxl_table.specs.CedtFields.{CedtFields}
 use Rattle.cxl_cedt.specs.inner.Decoding.{IsSoundText, record_of, other_of}
-use Rattle.cxl_cedt.specs.inner.Kept.{IsKeptOf, IsKeptIn, IsTextOf}
+use Rattle.cxl_cedt.specs.inner.Kept.{AreKeptOf, IsKeptIn, IsTextOf}
 use Rattle.cxl_cedt.specs.inner.KeptRecords.{KeptRecords}
 use Rattle.cxl_cedt.specs.inner.Walk.{IsWalk}
 use Rattle.cxl_cedt.proofs.Fronts.{length_seen}
@@ -204,5 +204,5 @@ text_kept bytes kept short none h =
     record {
       short = short;
       spells = text_is bytes table.0 table.1;
-      judged_are = subst (λ (rs : List Record). IsKeptOf PassedOver rs kept) all h.kept_are;
+      judged_are = subst (λ (rs : List Record). AreKeptOf PassedOver rs kept) all h.kept_are;
     }

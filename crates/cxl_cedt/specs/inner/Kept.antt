@@ -18,7 +18,7 @@ kept_of Kept records = records
 kept_of PassedOver records = judged_of records
 
 -- these are kept of all records, which are read up to byte `at`
-pub record IsKeptOf (others : Others) (all : List Record) (kept : KeptRecords) : Type 0 where
+pub record AreKeptOf (others : Others) (all : List Record) (kept : KeptRecords) : Type 0 where
   pub records : kept.records ≡ kept_of others all
   pub places : kept.places ≡ judged_places header_size all
 
@@ -26,17 +26,17 @@ pub record IsKeptOf (others : Others) (all : List Record) (kept : KeptRecords) :
 pub record IsKeptTo (others : Others) (bytes : List ℕ) (kept : KeptRecords) (rest : List ℕ) (at : ℕ) : Type 0 where
   pub all : List Record
   pub read_to : AreReadTo bytes all rest at
-  pub kept_are : IsKeptOf others all kept
+  pub kept_are : AreKeptOf others all kept
 
 -- and these of all records that stand behind the header
 pub record IsKeptIn (others : Others) (bytes : List ℕ) (kept : KeptRecords) : Type 0 where
   pub all : List Record
   pub texts : AreRecordTexts (drop header_size bytes) all
   pub few : HasFewOfEach all
-  pub kept_are : IsKeptOf others all kept
+  pub kept_are : AreKeptOf others all kept
 
 -- the bytes spell a table, and these are its judged records
 pub record IsTextOf (bytes : List ℕ) (judged : KeptRecords) : Type 0 where
   pub short : length bytes ≤ file_limit
   pub spells : IsTableText bytes (table_in bytes)
-  pub judged_are : IsKeptOf PassedOver (table_in bytes).records judged
+  pub judged_are : AreKeptOf PassedOver (table_in bytes).records judged

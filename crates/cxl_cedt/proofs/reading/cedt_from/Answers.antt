@@ -1,7 +1,3 @@
-use Rattle.std.proofs.Common.{◌≡◌, List, sym, ap, subst, ◌∙◌}
-use Rattle.cxl_table.specs.declared.cedt.Record.{Record}
-use Rattle.cxl_table.specs.Records.{HasFewOfEach}
-use Rattle.cxl_cedt.specs.Table.{AreRecordTexts}
 use Rattle.cxl_cedt.proofs.Laws.{header_from, size_from, fits_from}
 use Rattle.cxl_cedt.proofs.reading.cedt_from.Goals as goal
 

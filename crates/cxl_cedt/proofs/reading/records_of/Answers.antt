@@ -1,7 +1,6 @@
-use Rattle.std.proofs.Common.{◌<◌, length, [], inr, sym, ap, ◌∙◌, arith}
+use Rattle.std.proofs.Common.{◌<◌, length, [], inr, sym, arith}
 use Rattle.std.proofs.lemmas.Bool.Decides.{nat_tests}
 use Rattle.std.proofs.lemmas.List.{take_rest}
-use Rattle.cxl_cedt.specs.inner.Decoding.{record_of}
 use Rattle.cxl_cedt.proofs.Fronts.{has_record}
 use Rattle.cxl_cedt.proofs.Keeping.{kept_none}
 use Rattle.cxl_cedt.proofs.Kept.{kept_more_read, kept_fault}

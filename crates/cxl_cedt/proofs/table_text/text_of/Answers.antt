@@ -1,4 +1,3 @@
-use Rattle.std.proofs.Common.{ap}
 use Rattle.cxl_cedt.proofs.Walks.{text_kept}
 use Rattle.cxl_cedt.proofs.table_text.text_of.Goals as goal
 
