@@ -7,7 +7,7 @@ use Rattle.cxl_io.specs.Sink.{SinkState, Takes}
 use Rattle.cxl_reads.specs.Answers.{IsAnswered}
 use Rattle.cxl_library.specs.Reads.{IsReadOver}
 use Rattle.cxl_library.specs.Rooms.{sink_of, room_state}
-use Rattle.cxl_library.specs.declared.room.Room.{Room}
+use Rattle.cxl_library.specs.declared.room.TextRoom.{TextRoom}
 use Rattle.cxl_library.proofs.Runs.{first_of}
 
 writes : (outcome : Outcome) (status : Status) (old new : SinkState) → Ends outcome status old new → (text : List ℕ) × Takes old new text
@@ -19,7 +19,7 @@ answer_writes : (IsOutcome : Outcome → Type 0) (status : Status) (old new : Si
 answer_writes IsOutcome status old new (inl told) = writes told.outcome status old new told.ends
 answer_writes IsOutcome status old new (inr out) = ([], out.nothing.taken)
 
-module _ (IsOutcome : Outcome → Type 0) (status : Status) (mark : ℕ) (room : Room) where
+module _ (IsOutcome : Outcome → Type 0) (status : Status) (mark : ℕ) (room : TextRoom) where
   pub reads_same_room : IsAnswered IsOutcome status (sink_of (mark ∷ [])) (room_state room) → room.bytes.ghost_name ≡ mark
   reads_same_room answer = ap first_of (answer_writes IsOutcome status (sink_of (mark ∷ [])) (room_state room) answer).1
 

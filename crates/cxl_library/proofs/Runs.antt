@@ -17,7 +17,7 @@ use Rattle.cxl_shell.specs.Run.{IsRun}
 use Rattle.cxl_library.specs.Answered.{IsRunFrom, IsRunOver, devices_of, off_regs}
 use Rattle.cxl_library.specs.Rooms.{sink_of, room_state}
 use Rattle.cxl_library.specs.Slices.{Slices, files_of, source_of}
-use Rattle.cxl_library.specs.declared.room.Room.{Room}
+use Rattle.cxl_library.specs.declared.room.TextRoom.{TextRoom}
 use Rattle.cxl_library.proofs.Growing.{HasGrown, run_grows}
 
 abbrev pub first_of : Option (List ℕ) → ℕ
@@ -60,7 +60,7 @@ pub room_grows : (form : Form) (files : Slices) (before : Devices) (status : Sta
     → HasGrown status old new
 room_grows form files before status old new run = subst (HasGrown status old) run.out_is (run_grows form _ _ before run.after status run.run)
 
-module _ (form : Form) (files : Slices) (script : List ℕ) (status : Status) (mark : ℕ) (room : Room) where
+module _ (form : Form) (files : Slices) (script : List ℕ) (status : Status) (mark : ℕ) (room : TextRoom) where
   -- a run into a room that had taken nothing is one into the same room
   pub same_room : HasGrown status (sink_of (mark ∷ [])) (room_state room) → room.bytes.ghost_name ≡ mark
   same_room grown = ap first_of grown.taken

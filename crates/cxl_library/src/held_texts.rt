@@ -8,7 +8,7 @@ ghost use Rattle.cxl_library.specs.Rooms.{sink_of, room_state};
 ghost use Rattle.cxl_library.specs.Slices.{slices};
 
 use crate::behind::{HeldText, told_from_image, told_from_reset};
-use crate::room::Room;
+use crate::room::TextRoom;
 use crate::slices::Slices;
 use cxl_inputs::Status;
 use std::alloc::Global;
@@ -28,7 +28,7 @@ pub fn held_from_reset(
     ensures within { written.new ≤ length out.new }
     ensures full { result ≡ Status.WriteFault → written.new ≡ length out.new }
 {
-    let mut room = Room::new(out);
+    let mut room = TextRoom::new(out);
     let files = Slices::new(cedt, topo, &[]);
     let status = reset_into(alloc, of, files, script, &mut room);
     *written = room.taken();
@@ -50,7 +50,7 @@ pub fn held_from_image(
     ensures within { written.new ≤ length out.new }
     ensures full { result ≡ Status.WriteFault → written.new ≡ length out.new }
 {
-    let mut room = Room::new(out);
+    let mut room = TextRoom::new(out);
     let files = Slices::new(cedt, topo, image);
     let status = image_into(alloc, of, files, script, &mut room);
     *written = room.taken();
@@ -63,7 +63,7 @@ fn reset_into(
     of: HeldText,
     files: Slices<'_>,
     script: &[u8],
-    room: &mut Room<'_>,
+    room: &mut TextRoom<'_>,
 ) -> Status
     requires fresh { room_state room.old ≡ sink_of (room.old.bytes.ghost_name ∷ []) }
     ensures same_reference { room.new.bytes.ghost_name ≡ room.old.bytes.ghost_name }
@@ -79,7 +79,7 @@ fn image_into(
     of: HeldText,
     files: Slices<'_>,
     script: &[u8],
-    room: &mut Room<'_>,
+    room: &mut TextRoom<'_>,
 ) -> Status
     requires fresh { room_state room.old ≡ sink_of (room.old.bytes.ghost_name ∷ []) }
     ensures same_reference { room.new.bytes.ghost_name ≡ room.old.bytes.ghost_name }

@@ -23,7 +23,7 @@ pub use forms::{
 };
 pub use held_texts::{held_from_image, held_from_reset};
 pub use reads::{breaches, decoders, tree};
-pub use room::Room;
+pub use room::TextRoom;
 pub use slice_source::SliceSource;
 pub use slices::Slices;
 pub use window_reads::windows;

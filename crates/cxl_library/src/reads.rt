@@ -7,7 +7,7 @@ ghost use Rattle.cxl_reads.specs.Tree.{IsTreeTold};
 ghost use Rattle.cxl_library.specs.Reads.{IsReadOver};
 ghost use Rattle.cxl_library.specs.Rooms.{sink_of, room_state};
 
-use crate::room::Room;
+use crate::room::TextRoom;
 use cxl_inputs::Status;
 use std::alloc::Global;
 
@@ -17,7 +17,7 @@ pub fn tree(alloc: Global, topo: &[u8], out: &mut [u8], written: &mut usize) -> 
     ensures within { written.new ≤ length out.new }
     ensures full { result ≡ Status.WriteFault → written.new ≡ length out.new }
 {
-    let mut room = Room::new(out);
+    let mut room = TextRoom::new(out);
     let status = tree_into(alloc, topo, &mut room);
     *written = room.taken();
     status
@@ -35,7 +35,7 @@ pub fn decoders(
     ensures within { written.new ≤ length out.new }
     ensures full { result ≡ Status.WriteFault → written.new ≡ length out.new }
 {
-    let mut room = Room::new(out);
+    let mut room = TextRoom::new(out);
     let status = decoders_into(alloc, topo, image, &mut room);
     *written = room.taken();
     status
@@ -54,14 +54,14 @@ pub fn breaches(
     ensures within { written.new ≤ length out.new }
     ensures full { result ≡ Status.WriteFault → written.new ≡ length out.new }
 {
-    let mut room = Room::new(out);
+    let mut room = TextRoom::new(out);
     let status = breaches_into(alloc, cedt, topo, image, &mut room);
     *written = room.taken();
     status
 }
 
 /// The same, into a room that has taken nothing. It fills the bytes that it filled before.
-fn tree_into(alloc: Global, topo: &[u8], room: &mut Room<'_>) -> Status
+fn tree_into(alloc: Global, topo: &[u8], room: &mut TextRoom<'_>) -> Status
     requires fresh { room_state room.old ≡ sink_of (room.old.bytes.ghost_name ∷ []) }
     ensures same_reference { room.new.bytes.ghost_name ≡ room.old.bytes.ghost_name }
     ensures answered { IsReadOver (IsTreeTold topo.now) result (take room.new.taken room.new.bytes.now) }
@@ -71,7 +71,7 @@ fn tree_into(alloc: Global, topo: &[u8], room: &mut Room<'_>) -> Status
 }
 
 /// The same, into a room that has taken nothing. It fills the bytes that it filled before.
-fn decoders_into(alloc: Global, topo: &[u8], image: &[u8], room: &mut Room<'_>) -> Status
+fn decoders_into(alloc: Global, topo: &[u8], image: &[u8], room: &mut TextRoom<'_>) -> Status
     requires fresh { room_state room.old ≡ sink_of (room.old.bytes.ghost_name ∷ []) }
     ensures same_reference { room.new.bytes.ghost_name ≡ room.old.bytes.ghost_name }
     ensures answered { IsReadOver (AreDecoders topo.now image.now) result (take room.new.taken room.new.bytes.now) }
@@ -86,7 +86,7 @@ fn breaches_into(
     cedt: &[u8],
     topo: &[u8],
     image: &[u8],
-    room: &mut Room<'_>,
+    room: &mut TextRoom<'_>,
 ) -> Status
     requires fresh { room_state room.old ≡ sink_of (room.old.bytes.ghost_name ∷ []) }
     ensures same_reference { room.new.bytes.ghost_name ≡ room.old.bytes.ghost_name }

@@ -10,7 +10,7 @@ use cxl_io::Sink;
 /// A sink that puts text into bytes of the caller, from the front on, and tells what it took. It takes no memory. Where no room is
 /// left it fails.
 #[derive(Drop)]
-pub struct Room<'a> {
+pub struct TextRoom<'a> {
     bytes: &'a mut [u8],
     taken: usize,
     faults: u64,
@@ -19,16 +19,16 @@ pub struct Room<'a> {
     ghost full: { 0 < faults → taken ≡ length bytes.now },
 }
 
-impl<'a> Room<'a> {
+impl<'a> TextRoom<'a> {
     ghost use Rattle.std.specs.Prelude.{◌≡◌, ◌≤◌, ◌∷◌, [], length};
     ghost use Rattle.cxl_library.specs.Rooms.{sink_of, room_state};
 
     /// All of these bytes, of which none is taken.
-    pub fn new(bytes: &'a mut [u8]) -> Room<'a>
+    pub fn new(bytes: &'a mut [u8]) -> TextRoom<'a>
         ensures same_reference { result.bytes.ghost_name ≡ bytes.entry.ghost_name }
         ensures fresh { room_state result ≡ sink_of (result.bytes.ghost_name ∷ []) }
     {
-        Room {
+        TextRoom {
             bytes,
             taken: 0,
             faults: 0,
@@ -44,7 +44,7 @@ impl<'a> Room<'a> {
     }
 }
 
-impl Sink for Room<'_> {
+impl Sink for TextRoom<'_> {
     ghost use Rattle.cxl_library.specs.Rooms.{room_state};
 
     ghost state = { room_state };

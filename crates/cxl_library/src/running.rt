@@ -6,7 +6,7 @@ ghost use Rattle.cxl_commands.specs.Words.{bytes_of};
 ghost use Rattle.cxl_library.specs.Answered.{IsRunOver, IsAnswered};
 ghost use Rattle.cxl_library.specs.Rooms.{sink_of, room_state};
 
-use crate::room::Room;
+use crate::room::TextRoom;
 use crate::slice_source::SliceSource;
 use crate::slices::Slices;
 use cxl_bus::SimBus;
@@ -53,7 +53,7 @@ fn run_over(
     ensures within { written.new ≤ length out.new }
     ensures full { result ≡ Status.WriteFault → written.new ≡ length out.new }
 {
-    let mut room = Room::new(out);
+    let mut room = TextRoom::new(out);
     let status = run_into(alloc, words, files, script, &mut room);
     *written = room.taken();
     status
@@ -65,7 +65,7 @@ fn run_into(
     words: &[String],
     files: Slices<'_>,
     script: &[u8],
-    room: &mut Room<'_>,
+    room: &mut TextRoom<'_>,
 ) -> Status
     requires fresh { room_state room.old ≡ sink_of (room.old.bytes.ghost_name ∷ []) }
     ensures same_reference { room.new.bytes.ghost_name ≡ room.old.bytes.ghost_name }

@@ -1,9 +1,9 @@
-use Rattle.std.proofs.Common.{[], ◌∷◌, subst, ap, arith}
+use Rattle.std.proofs.Common.{subst, ap, arith}
 use Rattle.cxl_io.specs.Sink.{SinkState}
 use Rattle.cxl_reads.specs.Answers.{IsAnswered}
 use Rattle.cxl_reads.specs.Tree.{IsTreeTold}
 use Rattle.cxl_reads.proofs.Statuses.{write_fault_rose, tree_faults}
-use Rattle.cxl_library.specs.Rooms.{sink_of, room_state}
+use Rattle.cxl_library.specs.Rooms.{room_state}
 use Rattle.cxl_library.proofs.Marks as marks
 use Rattle.cxl_library.proofs.reads.tree_into.Goals as goal
 
