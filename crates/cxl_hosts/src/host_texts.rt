@@ -16,6 +16,11 @@ pub(crate) const TWO_BY_TWO: &str = "0x382, 0x382, \
     0x1b02 0 0 0x4000000000 0, 0x1b02 0 1 0x4000000000 0, \
     0x1b02 1 0 0x4000000000 0, 0x1b02 1 1 0x4000000000 0";
 
+/// A bridge with two switches, and two endpoints of 1 GiB below each.
+pub(crate) const BELOW_TWO_SWITCHES: &str = "0x382, 0x382 0 0, 0x382 0 1, \
+    0x1b02 1 0 0x40000000 0, 0x1b02 1 1 0x40000000 0, \
+    0x1b02 2 0 0x40000000 0, 0x1b02 2 1 0x40000000 0";
+
 /// Three bridges with an endpoint of 256 MiB each.
 pub(crate) const THREE_BY_ONE: &str = "0x382, 0x382, 0x382, \
     0x1b02 0 0 0x10000000 0, 0x1b02 1 0 0x10000000 0, 0x1b02 2 0 0x10000000 0";

@@ -4,7 +4,7 @@ ghost use Rattle.std.specs.Prelude.{◌≤◌, IfSome};
 ghost use Rattle.cxl_model.specs.System.{bridge_uids};
 ghost use Rattle.cxl_window.specs.Windows.{AreMadeWith};
 
-use crate::host_texts::{FOUR_WAYS, OVER_TWO_LONG, TWO_BY_TWO};
+use crate::host_texts::{BELOW_TWO_SWITCHES, FOUR_WAYS, OVER_TWO_LONG, TWO_BY_TWO};
 use crate::hosts::{Worked, host_of};
 use crate::rows::{has_passed, shows};
 use cxl_check::check;
@@ -73,16 +73,54 @@ const OVER_ONE_SHORT: &str = "0x1000000000 0x40000000 0 0 0x000e 0";
 /// A bridge with two endpoints, the first of which has one decoder.
 const FIRST_WITH_ONE_DECODER: &str = "0x382, 0x1b00 0 0 0x40000000 0, 0x1b02 0 1 0x40000000 0";
 
-/// Two switches with two endpoints each.
-const BELOW_TWO_SWITCHES: &str = "0x382, 0x382 0 0, 0x382 0 1, \
-    0x1b02 1 0 0x40000000 0, 0x1b02 1 1 0x40000000 0, \
-    0x1b02 2 0 0x40000000 0, 0x1b02 2 1 0x40000000 0";
-
 /// A bridge that forwards leads to all by one port.
 const BELOW_ONE_PORT: &str = "0x10, 0x382 0 3, \
     0x1b02 1 5 0x40000000 0, 0x1b02 1 2 0x40000000 0, 0x1b02 1 7 0x40000000 0";
 
-const ROWS: [Row; 14] = [
+/// A bridge with one endpoint, and two windows over it.
+const ONE_BY_ONE: &str = "0x382, 0x1b02 0 0 0x80000000 0";
+
+const OVER_ONE_TWICE: &str =
+    "0x100000000 0x20000000 0 0 0x000e 0, 0x200000000 0x20000000 0 0 0x000e 0";
+
+/// Three bridges with two switches each, and two endpoints below each switch.
+const THREE_BY_TWO_BY_TWO: &str = "0x382, 0x382, 0x382, \
+    0x382 0 0, 0x382 0 1, 0x382 1 0, 0x382 1 1, 0x382 2 0, 0x382 2 1, \
+    0x1b02 3 0 0x10000000 0, 0x1b02 3 1 0x10000000 0, \
+    0x1b02 4 0 0x10000000 0, 0x1b02 4 1 0x10000000 0, \
+    0x1b02 5 0 0x10000000 0, 0x1b02 5 1 0x10000000 0, \
+    0x1b02 6 0 0x10000000 0, 0x1b02 6 1 0x10000000 0, \
+    0x1b02 7 0 0x10000000 0, 0x1b02 7 1 0x10000000 0, \
+    0x1b02 8 0 0x10000000 0, 0x1b02 8 1 0x10000000 0";
+
+const ROWS: [Row; 17] = [
+    // The end of the first window is taken, and the second is behind it.
+    Row {
+        nodes: ONE_BY_ONE,
+        windows: OVER_ONE_TWICE,
+        ranges: "0 2 0 0x110000000 0x10000000 0 0",
+        size: 0x1000_0000,
+        ways: 1,
+        picked: "Ok([1])",
+    },
+    // Twelve ways from three: a switch selects above the three bridges and the two switches, at twice the granularity, of which
+    // 16 KiB are the most.
+    Row {
+        nodes: THREE_BY_TWO_BY_TWO,
+        windows: "0x100000000 0xc0000000 5 0 0x000e 0 1 2",
+        ranges: "",
+        size: 0xc000_0000,
+        ways: 12,
+        picked: "Ok([9, 10, 11, 12, 13, 14, 15, 16, 17, 18, 19, 20])",
+    },
+    Row {
+        nodes: THREE_BY_TWO_BY_TWO,
+        windows: "0x100000000 0xc0000000 6 0 0x000e 0 1 2",
+        ranges: "",
+        size: 0xc000_0000,
+        ways: 12,
+        picked: "Err(NoSet)",
+    },
     Row {
         nodes: TWO_BY_TWO,
         windows: OVER_TWO_AND_ONE,

@@ -6,8 +6,9 @@ ghost use Rattle.cxl_topo.specs.Tree.{is_endpoint_at};
 ghost use Rattle.cxl_window.specs.Windows.{AreMadeWith};
 
 use crate::host_texts::{
-    FOUR_WAYS, ONE_OF_BOTH_KINDS, OVER_ONE, OVER_TWO, OVER_TWO_LONG, RAM_THEN_PMEM, THREE_BY_ONE,
-    TWO_BY_ONE, TWO_BY_TWO, TWO_FORWARDING,
+    BELOW_TWO_SWITCHES, FOUR_WAYS, ONE_OF_BOTH_KINDS, OVER_ONE, OVER_THREE_LONG, OVER_TWO,
+    OVER_TWO_LONG, RAM_THEN_PMEM, THREE_BY_ONE, THREE_BY_TWO, TWO_BY_ONE, TWO_BY_TWO,
+    TWO_FORWARDING,
 };
 use crate::hosts::{Worked, host_of};
 use crate::rows::{are_written, has_passed, numbers, shows};
@@ -169,7 +170,7 @@ const OVER_THREE_TWICE: &str =
 
 const RAM: MemKind = MemKind::Ram;
 
-const ANSWERS: [Answer; 20] = [
+const ANSWERS: [Answer; 21] = [
     Answer {
         nodes: TWO_BY_TWO,
         windows: OVER_TWO_LONG,
@@ -209,6 +210,16 @@ const ANSWERS: [Answer; 20] = [
         gran: None,
         endpoints: "2 3 4",
         plan: "Uneven(1)",
+    },
+    Answer {
+        nodes: BELOW_TWO_SWITCHES,
+        windows: OVER_ONE,
+        ranges: "",
+        kind: RAM,
+        size: 0x3000_0000,
+        gran: None,
+        endpoints: "3 4 5",
+        plan: "Uneven(0)",
     },
     Answer {
         nodes: TWO_BY_TWO,
@@ -435,7 +446,7 @@ fn rows(rt: HostRuntime) {
     }
 }
 
-const ROWS: [RowsWanted; 3] = [
+const ROWS: [RowsWanted; 4] = [
     // Below bridges that decode, and below bridges that forward.
     RowsWanted {
         nodes: TWO_BY_ONE,
@@ -453,6 +464,19 @@ const ROWS: [RowsWanted; 3] = [
         endpoints: "2 3",
         rows: "2 0 1 0 0x100000000 0x20000000 0  3 0 1 0 0x100000000 0x20000000 0",
         spans: "2 0 3 0",
+    },
+    // Six ways from three bridges.
+    RowsWanted {
+        nodes: THREE_BY_TWO,
+        windows: OVER_THREE_LONG,
+        size: 0x6000_0000,
+        endpoints: "3 4 5 6 7 8",
+        rows: "0 0 1 0 0x100000000 0x60000000 0x0100  1 0 1 0 0x100000000 0x60000000 0x0100 \
+         2 0 1 0 0x100000000 0x60000000 0x0100 \
+         3 0 9 0 0x100000000 0x60000000 0       4 0 9 0 0x100000000 0x60000000 0 \
+         5 0 9 0 0x100000000 0x60000000 0       6 0 9 0 0x100000000 0x60000000 0 \
+         7 0 9 0 0x100000000 0x60000000 0       8 0 9 0 0x100000000 0x60000000 0",
+        spans: "3 0 6 0 7 0 4 0 5 0 8 0",
     },
     // The target lists of bridges with two endpoints each.
     RowsWanted {
