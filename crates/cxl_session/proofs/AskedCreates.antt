@@ -1,5 +1,5 @@
 -- What is refused before a create begins, in its order, and the create that is asked for.
-use Rattle.std.proofs.Common.{◌≡◌, ℕ, ◌<◌, ◌≤◌, Bool, true, false, List, [], ◌∷◌, length, Result, Ok, Err, Option, Some, None, is_some, refl, sym, ap, ◌∙◌, subst}
+use Rattle.std.proofs.Common.{◌≡◌, ◌⊎◌, ℕ, ◌<◌, ◌≤◌, Bool, true, false, List, [], ◌∷◌, length, Result, Ok, Err, Option, Some, None, is_some, refl, sym, ap, ◌∙◌, subst, inl, inr}
 use Rattle.std.specs.Prelude.{find, position, option_map, is_none, nat_le, if◌then◌else◌}
 use Rattle.std.specs.Str.{bytes_eq}
 use Rattle.std.proofs.lemmas.Bool.{false≢true, le-leb, lt-leb}
@@ -22,11 +22,13 @@ use Rattle.cxl_model.specs.Listed.{region_limit}
 use Rattle.cxl_machine.specs.Creating.{AsksLegally}
 use Rattle.cxl_machine.specs.Jobs.{create_job}
 use Rattle.cxl_machine.specs.Replies.{endpoint_named}
-use Rattle.cxl_machine.specs.Requests.{busy, name_taken, no_endpoint, regions_full, refusal_of_create, AsksUnless, AsksCreate}
-use Rattle.cxl_machine.proofs.KeepingBegun.{none_there, idle}
+use Rattle.cxl_request.specs.Endpoints.{first_unknown}
+use Rattle.cxl_request.specs.Requests.{plan_of_line, plan_unless_unknown}
+use Rattle.cxl_machine.specs.Requests.{busy, name_taken, no_endpoint, regions_full, refusal_of_create, job_of_plan, AsksUnrefused, AsksUnless, AsksCreate}
+use Rattle.cxl_machine.proofs.KeepingBegun.{idle}
 use Rattle.cxl_session.specs.State.{JobFields, SessionState, image_in}
 use Rattle.cxl_session.specs.Standing.{StandsFor}
-use Rattle.cxl_session.specs.inner.Creating.{IsAskedPlan, IsPrepared, IsKeptCreate}
+use Rattle.cxl_session.specs.inner.Creating.{IsEarlyRefusal, IsSought, IsAskedPlan, IsPrepared, IsKeptCreate}
 use Rattle.cxl_session.proofs.AskedReleases.{place_is, region_at, no_region_at}
 use Rattle.cxl_session.proofs.PendingJobs.{no_job, same_job}
 
@@ -41,6 +43,11 @@ refused_by m create a b c d one two three four =
     ∙ ap (λ (o : Option Reply). first_there (a ∷ o ∷ no_endpoint m create.endpoints ∷ regions_full m ∷ [])) two
     ∙ ap (λ (o : Option Reply). first_there (a ∷ b ∷ o ∷ regions_full m ∷ [])) three
     ∙ ap (λ (o : Option Reply). first_there (a ∷ b ∷ c ∷ o ∷ [])) four)
+
+-- what is refused of a line that states ways, while there is room
+pub early : (m : Machine) (create : Create) (unknown : Option Reply) → busy m ≡ None → name_taken m create.name ≡ None → unknown ≡ no_endpoint m create.endpoints → regions_full m ≡ None → IsEarlyRefusal m create unknown
+early m create (Some refusal) idle free is room = sym (refused_by m create None None (Some refusal) None idle free (sym is) room)
+early m create None idle free is room = record { idle = idle; free = free; known = inr (sym is); room = room }
 
 module _ (session : SessionState) (m : Machine) (stands : StandsFor session m) where
   pub busy_is : (own : JobFields) → session.job ≡ Some own → busy m ≡ Some (replies.Busy own.name)
@@ -97,14 +104,25 @@ module _ (session : SessionState) (m : Machine) (stands : StandsFor session m) w
       ∙ ap (λ (blocks : List Registers). host m.settled.nodes blocks session.windows) (stands.image ∙ ap (blocks_with m.settled.blocks) none)
       ∙ ap (host m.settled.nodes m.settled.blocks) (sym stands.windows)
 
-  pub unrefused : (create : Create) → None ≡ refusal_of_create m create → image_in session ≡ m.settled
-  unrefused create none =
-      settled_is (idle m (none_there (busy m) (name_taken m create.name) (no_endpoint m create.endpoints) (regions_full m) (sym none)).0)
+  pub unrefused : (create : Create) → IsSought m create → image_in session ≡ m.settled
+  unrefused create first = settled_is (idle m first.idle)
 
 -- ---- the plan that is sought
 
-pub asked_as : (m : Machine) (create : Create) (asked : Result RegionJob Reply) → None ≡ refusal_of_create m create → AsksUnless m create None asked → AsksCreate m create asked
-asked_as m create asked none asks = subst (λ (o : Option Reply). AsksUnless m create o asked) none asks
+-- what is answered is what the create asks for: a name that no endpoint has is the plan's refusal too
+pub asked_as : (m : Machine) (create : Create) (asked : Result RegionJob Reply) → IsSought m create → AsksUnrefused m create asked → AsksCreate m create asked
+asked_as m create asked first (answer, answers, same) = go (first_unknown m.settled.nodes create.endpoints) refl first.known
+  where
+    by : (o : Option Reply) → no_endpoint m create.endpoints ≡ o → first_there (None ∷ None ∷ o ∷ None ∷ []) ≡ refusal_of_create m create
+    by o is = refused_by m create None None o None first.idle first.free is first.room
+
+    go : (o : Option (List ℕ)) → first_unknown m.settled.nodes create.endpoints ≡ o → (create.ways ≡ None) ⊎ (no_endpoint m create.endpoints ≡ None) → AsksCreate m create asked
+    go None is known = subst (λ (r : Option Reply). AsksUnless m create r asked) (by None (ap (option_map replies.NoEndpoint) is)) (answer, answers, same)
+    go (Some name) is (inl by_name) =
+        let refused : answer ≡ Err (replies.NoEndpoint name) =
+        answers ∙ ap (plan_of_line m.settled create) by_name ∙ ap (plan_unless_unknown m.settled create) is in
+        subst (λ (r : Option Reply). AsksUnless m create r asked) (by (Some (replies.NoEndpoint name)) (ap (option_map replies.NoEndpoint) is)) (same ∙ ap (job_of_plan m) refused)
+    go (Some name) is (inr none) = let own = sym (ap (option_map replies.NoEndpoint) is) ∙ none in absurd (cc)
 
 rows_in : JobKind → List Row
 rows_in (Creates rows) = rows
@@ -135,19 +153,19 @@ is_create m create plan own asks is = record {
 }
 
 -- the create that a line asks for of an idle session
-module _ (session : SessionState) (m : Machine) (stands : StandsFor session m) (create : Create) (none : None ≡ refusal_of_create m create) where
+module _ (session : SessionState) (m : Machine) (stands : StandsFor session m) (create : Create) (first : IsSought m create) where
   module _ (plan : Plan) (sought : IsAskedPlan m create (Ok plan)) (legally : AsksLegally m create) where
     asks : AsksCreate m create (Ok (create_job m.settled plan))
-    asks = asked_as m create (Ok (create_job m.settled plan)) none sought
+    asks = asked_as m create (Ok (create_job m.settled plan)) first sought
 
     -- it is that of a legal plan over the session's image
     pub legal_here : (request : Request) × IsLegalPlan (image_in session) request plan
     legal_here =
         let legal = asks_legal m create plan legally asks in
-        (legal.0, subst (λ (s : System). IsLegalPlan s legal.0 plan) (sym (unrefused session m stands create none)) legal.1)
+        (legal.0, subst (λ (s : System). IsLegalPlan s legal.0 plan) (sym (unrefused session m stands create first)) legal.1)
 
     pub create_here : (own : JobFields) → IsPrepared (image_in session) plan own → IsKeptCreate m create own
-    create_here own is = is_create m create plan own asks (subst (λ (s : System). IsPrepared s plan own) (unrefused session m stands create none) is)
+    create_here own is = is_create m create plan own asks (subst (λ (s : System). IsPrepared s plan own) (unrefused session m stands create first) is)
 
   pub refused_here : (refusal : Reply) → IsAskedPlan m create (Err refusal) → AsksCreate m create (Err refusal)
-  refused_here refusal sought = asked_as m create (Err refusal) none sought
+  refused_here refusal sought = asked_as m create (Err refusal) first sought

@@ -11,13 +11,13 @@ ghost use Rattle.cxl_model.specs.Plans.{IsLegalPlan, with_rows};
 ghost use Rattle.cxl_model.specs.declared.request.Request.{Request};
 ghost use Rattle.cxl_machine.specs.Machine.{Machine};
 ghost use Rattle.cxl_machine.specs.Replies.{is_refusal};
-ghost use Rattle.cxl_machine.specs.Requests.{refusal_of_create};
+ghost use Rattle.cxl_machine.specs.Requests.{no_endpoint};
 ghost use Rattle.cxl_machine.specs.Sound.{IsMachine, IsSettled};
 ghost use Rattle.cxl_session.specs.Inside.{job_fields};
 ghost use Rattle.cxl_session.specs.State.{image_in};
 ghost use Rattle.cxl_session.specs.Standing.{StandsFor, Stands, IsKeptIn};
 ghost use Rattle.cxl_session.specs.inner.Answering.{IsTurnFor};
-ghost use Rattle.cxl_session.specs.inner.Creating.{own_of, IsAskedPlan, IsPrepared, IsAskedCreate};
+ghost use Rattle.cxl_session.specs.inner.Creating.{own_of, IsEarlyRefusal, IsAskedPlan, IsPrepared, IsAskedCreate};
 
 use crate::copies::place_among;
 use crate::pending::{Kind, PendingJob};
@@ -100,7 +100,7 @@ impl Session {
         ensures words { IfOk result (λ asked. IfOk asked (λ pending. HasWordsOf self.now.image pending.job.writes)) }
     {
         creates_are_legal();
-        if let Some(refusal) = self.refusal_of_create(create) {
+        if let Some(refusal) = self.early_refusal(create) {
             return Ok(Err(refusal));
         }
         let plan = match self.plan_sought(alloc, create)? {
@@ -111,9 +111,9 @@ impl Session {
         Ok(Ok(pending))
     }
 
-    /// Why a create is refused before a plan is sought.
-    fn refusal_of_create(&self, create: &Create) -> Option<Reply>
-        ensures { (m : Machine) → StandsFor self.now m → result ≡ refusal_of_create m create.now }
+    /// Why a create is refused before a plan is sought. A name that no endpoint has is left to the plan where that asks for it.
+    fn early_refusal(&self, create: &Create) -> Option<Reply>
+        ensures { (m : Machine) → StandsFor self.now m → IsEarlyRefusal m create.now result }
     {
         if let Some(pending) = &self.job {
             return Some(Reply::Busy(pending.name));
@@ -121,13 +121,26 @@ impl Session {
         if place_among(&self.names, &create.name).is_some() {
             return Some(Reply::NameTaken(create.name));
         }
-        if let Some(name) = first_unknown(&self.topo, create.endpoints.items()) {
-            return Some(Reply::NoEndpoint(name));
+        if self.names.len() < REGION_LIMIT {
+            return match create.ways {
+                Some(_) => self.unknown_endpoint(create),
+                None => None,
+            };
         }
-        if self.names.len() >= REGION_LIMIT {
-            return Some(Reply::RegionsFull);
+        match self.unknown_endpoint(create) {
+            Some(refusal) => Some(refusal),
+            None => Some(Reply::RegionsFull),
         }
-        None
+    }
+
+    /// The refusal of the first name on a line that no endpoint has.
+    fn unknown_endpoint(&self, create: &Create) -> Option<Reply>
+        ensures { (m : Machine) → StandsFor self.now m → result ≡ no_endpoint m create.now.endpoints }
+    {
+        match first_unknown(&self.topo, create.endpoints.items()) {
+            Some(name) => Some(Reply::NoEndpoint(name)),
+            None => None,
+        }
     }
 
     /// The plan that a line asks for over the session's image, or why there is none. Takes memory.

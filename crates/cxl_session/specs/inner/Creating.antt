@@ -1,5 +1,5 @@
 -- What is asked for before a create begins.
-use Rattle.std.specs.Prelude.{◌≡◌, None, Result, Ok, Err}
+use Rattle.std.specs.Prelude.{◌≡◌, ◌⊎◌, Option, Some, None, Result, Ok, Err}
 use Rattle.cxl_script.specs.declared.command.Create.{Create}
 use Rattle.cxl_reply.specs.declared.reply.Reply.{Reply}
 use Rattle.cxl_regs.specs.Reading.{decoder_ways}
@@ -10,7 +10,7 @@ use Rattle.cxl_model.specs.Plans.{with_rows}
 use Rattle.cxl_model.specs.System.{System}
 use Rattle.cxl_machine.specs.Machine.{Machine}
 use Rattle.cxl_machine.specs.Jobs.{create_job, create_writes}
-use Rattle.cxl_machine.specs.Requests.{AsksUnrefused, AsksCreate}
+use Rattle.cxl_machine.specs.Requests.{busy, name_taken, no_endpoint, regions_full, refusal_of_create, AsksUnrefused, AsksCreate}
 use Rattle.cxl_session.specs.declared.pending.PendingJob.{PendingJob}
 use Rattle.cxl_session.specs.Inside.{job_fields}
 use Rattle.cxl_session.specs.State.{JobFields}
@@ -19,6 +19,18 @@ use Rattle.cxl_session.specs.Standing.{IsKeptIn, IsJobFor}
 -- the decoder that a row will be
 abbrev pub own_of : Row → Own
 own_of row = record { node = row.node; index = row.index; ways = decoder_ways row.decoder }
+
+-- a plan is sought: nothing stands against it, but maybe a name that no endpoint has, on a line that states no ways
+pub record IsSought (m : Machine) (create : Create) : Type 0 where
+  pub idle : busy m ≡ None
+  pub free : name_taken m create.name ≡ None
+  pub known : (create.ways ≡ None) ⊎ (no_endpoint m create.endpoints ≡ None)
+  pub room : regions_full m ≡ None
+
+-- what is refused before a plan is sought
+abbrev pub IsEarlyRefusal : Machine → Create → Option Reply → Type 0
+IsEarlyRefusal m create (Some refusal) = refusal_of_create m create ≡ Some refusal
+IsEarlyRefusal m create None = IsSought m create
 
 -- the plan that is sought where nothing stands against it, or why there is none
 abbrev pub IsAskedPlan : Machine → Create → Result Plan Reply → Type 0

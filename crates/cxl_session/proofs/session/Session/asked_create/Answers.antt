@@ -32,7 +32,7 @@ prepared-requires-clause-legal c =
 
 pub returns-in-Some-clause-asked : goal.returns-in-Some-clause-asked
 returns-in-Some-clause-asked c = λ m stands is.
-    subst (λ (o : Option Reply). AsksUnless m c.args.create.now o (Err c.in-Some.refusal)) (c.in-Some.ensures m stands) refl
+    subst (λ (o : Option Reply). AsksUnless m c.args.create.now o (Err c.in-Some.refusal)) (sym (c.in-Some.ensures m stands)) refl
 
 pub returns-in-Err-clause-asked : goal.returns-in-Err-clause-asked
 returns-in-Err-clause-asked c = λ m stands is.
