@@ -1,6 +1,6 @@
 -- The endpoint of a name is the node of that name, where that is one; and those that a line names are endpoints.
-use Rattle.std.proofs.Common.{◌≡◌, ℕ, ◌↔◌, true, false, ◌&&◌, List, [], ◌∷◌, Option, Some, None, option_map, is_some, refl, sym, ap, ◌∙◌}
-use Rattle.std.specs.Prelude.{All, slice_get}
+use Rattle.std.proofs.Common.{◌≡◌, ℕ, suc, ◌≤◌, ◌↔◌, true, false, ◌&&◌, if◌then◌else◌, List, [], ◌∷◌, length, Option, Some, None, option_map, is_some, refl, sym, ap, ◌∙◌, arith}
+use Rattle.std.specs.Prelude.{All, slice_get, is_none}
 use Rattle.std.specs.Option.{option_map_or}
 use Rattle.std.specs.List.{filter_map, cons_option}
 use Rattle.std.proofs.lemmas.List.Elements.{All-nil, All-cons}
@@ -11,7 +11,7 @@ use Rattle.cxl_topo.specs.declared.node.Node.{Node}
 use Rattle.cxl_topo.specs.Kinds.{is_endpoint}
 use Rattle.cxl_topo.specs.Tree.{is_endpoint_at, is_named, name_at}
 use Rattle.cxl_topo.proofs.Earlier.{finds, found}
-use Rattle.cxl_request.specs.Endpoints.{endpoint_named}
+use Rattle.cxl_request.specs.Endpoints.{endpoint_named, endpoints_named, first_unknown}
 
 module _ (nodes : List Node) (name : List ℕ) where
   -- a node of this name
@@ -89,3 +89,24 @@ pub are_endpoints : (nodes : List Node) (names : List (List ℕ)) → All (λ m.
 are_endpoints nodes [] = All-nil (λ k. is_endpoint_at nodes k ≡ true)
 are_endpoints nodes (name ∷ names) =
     cons_named nodes (endpoint_named nodes name) (filter_map (endpoint_named nodes) names) (some_named nodes name) (are_endpoints nodes names)
+
+-- ---- the names of a line
+
+-- there are no more of them than names
+few_named : (nodes : List Node) (names : List (List ℕ)) → length (endpoints_named nodes names) ≤ length names
+few_named nodes [] = omega arith
+few_named nodes (name ∷ names) = step (endpoint_named nodes name) (few_named nodes names)
+  where
+    step : (called : Option ℕ) → length (endpoints_named nodes names) ≤ length names → length (cons_option called (endpoints_named nodes names)) ≤ suc (length names)
+    step None few = omega (arith, few)
+    step (Some m) few = omega (arith, few)
+
+-- where there are as many, each name is an endpoint's
+pub none_unknown : (nodes : List Node) (names : List (List ℕ)) → length (endpoints_named nodes names) ≡ length names → None ≡ first_unknown nodes names
+none_unknown nodes [] as_many = refl
+none_unknown nodes (name ∷ names) as_many = step (endpoint_named nodes name) (few_named nodes names) (λ long. none_unknown nodes names long) as_many
+  where
+    step : (called : Option ℕ) → length (endpoints_named nodes names) ≤ length names → (length (endpoints_named nodes names) ≡ length names → None ≡ first_unknown nodes names)
+        → length (cons_option called (endpoints_named nodes names)) ≡ suc (length names) → None ≡ (if is_none called then Some name else first_unknown nodes names)
+    step None few rest long = absurd (omega (arith, few, long))
+    step (Some m) few rest long = rest (omega (arith, long))

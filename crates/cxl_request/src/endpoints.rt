@@ -47,3 +47,15 @@ pub(crate) fn endpoints_named(
         .collect(alloc)?;
     Ok(endpoints)
 }
+
+/// The first of these names that no endpoint has, beside the endpoints that have one of them: it is sought only where
+/// these are fewer.
+pub(crate) fn unknown_beside(topo: &Topo, names: &[Name], endpoints: &[u32]) -> Option<Name>
+    requires { endpoints.now ≡ endpoints_named topo.now.nodes names.now }
+    ensures { result ≡ first_unknown topo.now.nodes names.now }
+{
+    if endpoints.len() == names.len() {
+        return None;
+    }
+    first_unknown(topo, names)
+}

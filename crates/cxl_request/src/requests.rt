@@ -13,7 +13,7 @@ ghost use Rattle.cxl_script.specs.Grammar.{StatesGranCode};
 ghost use Rattle.cxl_request.specs.Plans.{IsPlanFor, IsRefusal};
 ghost use Rattle.cxl_request.specs.Requests.{request_for, want_of, pick_reply, plan_over, plan_unless_unknown, plan_of_line, AsksForPlan};
 
-use crate::endpoints::{endpoints_named, first_unknown};
+use crate::endpoints::{endpoints_named, unknown_beside};
 use crate::laws::{answered_lines_can_be_told, answers_hold_of_lines};
 use cxl_enc::{FixedList, Memory};
 use cxl_legal::ports_are_bytes;
@@ -72,12 +72,10 @@ fn plan_by_name(alloc: Global, create: &Create, host: &Host) -> Result<Result<Pl
     ensures { IfOk result (λ answer. answer ≡ plan_of_line (as_system host.now) create.now None) }
 {
     let names = create.endpoints.items();
-    match first_unknown(host.topo, names) {
+    let endpoints = endpoints_named(alloc, host.topo, names)?;
+    match unknown_beside(host.topo, names, &endpoints) {
         Some(name) => Ok(Err(Reply::NoEndpoint(name))),
-        None => {
-            let endpoints = endpoints_named(alloc, host.topo, names)?;
-            plan_over(alloc, create, endpoints, host)
-        }
+        None => plan_over(alloc, create, endpoints, host),
     }
 }
 

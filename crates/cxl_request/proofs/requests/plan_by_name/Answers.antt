@@ -9,5 +9,5 @@ use Rattle.cxl_request.proofs.requests.plan_by_name.Goals as goal
 pub plan_over-requires-clause-named : goal.plan_over-requires-clause-named
 plan_over-requires-clause-named c =
     let nodes : List Node = c.args.host.now.topo.now.nodes in
-    subst (All (λ m. is_endpoint_at nodes m ≡ true)) (sym (c.in_ok-endpoints-in-None.ensures.endpoints ∙ ap (endpoints_named nodes) c.items-names.ensures))
+    subst (All (λ m. is_endpoint_at nodes m ≡ true)) (sym (c.in_ok-endpoints.ensures.endpoints ∙ ap (endpoints_named nodes) c.items-names.ensures))
     (are_endpoints nodes c.args.create.now.endpoints)
