@@ -2,7 +2,7 @@
 
 use crate::common::row_passes;
 use byteorder::{ByteOrder, LittleEndian};
-use cxl_cedt::{Cedt, CedtFault, Cfmws, Chbs, Cxims, Head, Record, read, write};
+use cxl_cedt::{Cedt, CedtFault, Cfmws, Chbs, Cxims, Head, Other, Record, read, write};
 use std::alloc::Global;
 use std::process::Abort;
 use std::test::*;
@@ -295,5 +295,57 @@ fn made(rt: HostRuntime) {
     let records = parts(&rt, rt.alloc());
     assert!(rt; Cedt::can_hold(&records));
     let cedt = Cedt::new(HEAD, records);
+    assert!(rt; cedt.size() == 160);
     assert!(rt; is_written_changed(&rt, rt.alloc(), &cedt, FOR_XOR, &ONE_MAP));
+}
+
+/// So many windows, and tables of one map.
+fn windows_and_maps(rt: &impl Abort, alloc: Global, windows: u32, maps: u32) -> Vec<Record> {
+    let mut records = Vec::new(alloc);
+    for i in 0..128 {
+        if i < windows {
+            records.push(window(rt, alloc)).expect(rt, "memory");
+        }
+        if i < maps {
+            records.push(one_map(rt, alloc)).expect(rt, "memory");
+        }
+    }
+    records
+}
+
+/// How many windows and tables of maps there are, and whether a table may hold them: at most 64 are of one type.
+const MANY: [(u32, u32, bool); 3] = [(64, 64, true), (65, 0, false), (0, 65, false)];
+
+#[test]
+fn many_windows_and_maps(rt: HostRuntime) {
+    for (i, (windows, maps, held)) in MANY.iter().enumerate() {
+        let records = windows_and_maps(&rt, rt.alloc(), *windows, *maps);
+        row_passes(&rt, i, Cedt::can_hold(&records) == *held);
+    }
+}
+
+/// A record of another type with so many bytes behind its length.
+fn other(rt: &impl Abort, alloc: Global, len: usize) -> Record {
+    assert!(rt; len <= 65_531);
+    let body = Vec::from_elem(alloc, 0, len).expect(rt, "memory");
+    Record::Other(Other::new(4, 0, body))
+}
+
+/// Fifteen of the longest records, and one with so many bytes behind its length.
+fn sixteen_records(rt: &impl Abort, alloc: Global, last: usize) -> Vec<Record> {
+    let mut records = Vec::new(alloc);
+    for _ in 0..15 {
+        records.push(other(rt, alloc, 65_531)).expect(rt, "memory");
+    }
+    records.push(other(rt, alloc, last)).expect(rt, "memory");
+    records
+}
+
+/// A table may have 1,048,576 bytes and no more: a header of 36, and the records, each with four before its body.
+#[test]
+fn tables_at_the_limit(rt: HostRuntime) {
+    let full = sixteen_records(&rt, rt.alloc(), 65_511);
+    assert!(rt; Cedt::can_hold(&full));
+    let over = sixteen_records(&rt, rt.alloc(), 65_512);
+    assert!(rt; !Cedt::can_hold(&over));
 }

@@ -1,7 +1,7 @@
 //! Topology files: the tree that each stands for, and the fault of each that stands for none.
 
 use crate::common::{prints, row_passes};
-use cxl_topo::{Name, Topo};
+use cxl_topo::{Capacity, Name, NodeKind, Topo};
 use cxl_topofile::read_topo;
 use std::alloc::Global;
 
@@ -62,10 +62,16 @@ fn finds(topo: &Topo, name: &str, node: u32) -> bool {
     }
 }
 
+/// Whether a node is an endpoint with so many bytes of each kind.
+fn has_memory(topo: &Topo, node: u32, ram: u64, pmem: u64) -> bool {
+    node < topo.count() && topo.node(node).kind == NodeKind::Endpoint(Capacity { ram, pmem })
+}
+
 /// Whether a tree is that of the plain text.
 fn is_plain(topo: &Topo) -> bool {
     are_caps(topo, [0x382, 0x382, 0x1b02, 0x1b02])
         && is_path(topo, 2, 2, [0, 2, 0, 0, 0, 0])
+        && has_memory(topo, 3, 0x8000_0000, 0)
         && topo.frames() == 65_536
         && topo.bridge(1) == Some(1)
         && topo.count() == 4
@@ -83,6 +89,7 @@ fn plain(rt: HostRuntime) {
 fn is_inline(topo: &Topo) -> bool {
     are_caps(topo, [0x10, 0x220, 0x185, 0x302])
         && is_path(topo, 3, 4, [0, 1, 2, 3, 0, 0])
+        && has_memory(topo, 3, 0, 0x1000_0000)
         && topo.frames() == 2
         && topo.bridge(4_294_967_295) == Some(0)
 }

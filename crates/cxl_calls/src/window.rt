@@ -2,8 +2,8 @@
 
 use crate::common::row_passes;
 use cxl_cedt::{Cedt, Cfmws, Chbs, Cxims, Head, Record};
-use cxl_enc::code_of;
-use cxl_window::{Verdict, Window, positions, slot_of, unxor, windows};
+use cxl_enc::{MemKind, code_of};
+use cxl_window::{Verdict, Window, is_fixed, permits, positions, slot_of, unxor, windows};
 use std::alloc::Global;
 use std::process::Abort;
 
@@ -25,6 +25,7 @@ struct Row {
     size: u64,
     gran: u8,
     xor: bool,
+    restrict: u16,
     targets: &'static [u32],
     verdict: Verdict,
 }
@@ -35,6 +36,7 @@ const TWO: Row = Row {
     size: 0x1_0000_0000,
     gran: 0,
     xor: false,
+    restrict: 0x000e,
     targets: &[0, 1],
     verdict: Verdict::Usable,
 };
@@ -64,7 +66,14 @@ fn window(rt: &impl Abort, alloc: Global, row: &Row) -> Record {
     let ways = code_of(row.targets.len() as u8).expect(rt, "a number of ways");
     let targets = Vec::from_slice(alloc, row.targets).expect(rt, "memory");
     Record::Cfmws(Cfmws::new(
-        row.base, row.size, ways, row.xor, row.gran, 0x000e, 0, targets,
+        row.base,
+        row.size,
+        ways,
+        row.xor,
+        row.gran,
+        row.restrict,
+        0,
+        targets,
     ))
 }
 
@@ -351,6 +360,74 @@ fn keeps_fields_and_undoes_parities(rt: HostRuntime) {
     let window = two_by_xor(&rt, rt.alloc());
     assert!(rt; is_two_by_xor(&window));
     assert!(rt; undoes(&window));
+}
+
+/// Restrictions of a window, which kinds of memory they permit, and whether it is fixed.
+struct Restricted {
+    restrict: u16,
+    ram: bool,
+    pmem: bool,
+    fixed: bool,
+}
+
+/// Bit 0 is of device coherent memory and bit 1 of host-only coherent memory, bit 2 of volatile and bit 3 of persistent memory;
+/// bit 4 fixes a window, and bit 5 is of back invalidation.
+const RESTRICTED: &[Restricted] = &[
+    Restricted {
+        restrict: 0x000e,
+        ram: true,
+        pmem: true,
+        fixed: false,
+    },
+    Restricted {
+        restrict: 0x0006,
+        ram: true,
+        pmem: false,
+        fixed: false,
+    },
+    Restricted {
+        restrict: 0x000a,
+        ram: false,
+        pmem: true,
+        fixed: false,
+    },
+    Restricted {
+        restrict: 0x000d,
+        ram: false,
+        pmem: false,
+        fixed: false,
+    },
+    Restricted {
+        restrict: 0x001e,
+        ram: true,
+        pmem: true,
+        fixed: true,
+    },
+    Restricted {
+        restrict: 0x002e,
+        ram: true,
+        pmem: true,
+        fixed: false,
+    },
+];
+
+/// Whether the restrictions of a window say so.
+fn is_restricted(rt: &impl Abort, alloc: Global, row: &Restricted) -> bool {
+    let two = Row {
+        restrict: row.restrict,
+        ..TWO
+    };
+    let window = only(rt, alloc, two, None);
+    permits(&window, MemKind::Ram) == row.ram
+        && permits(&window, MemKind::Pmem) == row.pmem
+        && is_fixed(&window) == row.fixed
+}
+
+#[test]
+fn permits_by_restrictions(rt: HostRuntime) {
+    for (i, row) in RESTRICTED.iter().enumerate() {
+        row_passes(&rt, i, is_restricted(&rt, rt.alloc(), row));
+    }
 }
 
 #[test]

@@ -94,8 +94,8 @@ fn empty_tray(alloc: Global, room: usize, fails: bool) -> Tray {
 }
 
 /// Whether a text is written, where it is to be, and these bytes are taken.
-fn takes(mut tray: Tray, whole: bool, want: &str) -> bool {
-    let written = write_all(&mut StdSink::new(&mut tray), b"window 0").is_ok();
+fn takes(mut tray: Tray, text: &str, whole: bool, want: &str) -> bool {
+    let written = write_all(&mut StdSink::new(&mut tray), text.as_bytes()).is_ok();
     written == whole && tray.taken.as_slice() == want.as_bytes()
 }
 
@@ -109,15 +109,16 @@ fn writers_that_take_a_part(rt: HostRuntime) {
             Ok(3)
         )
     );
-    assert!(rt; takes(empty_tray(alloc, 64, true), true, "window 0"));
+    assert!(rt; takes(empty_tray(alloc, 64, true), "window 0", true, "window 0"));
+    assert!(rt; takes(empty_tray(alloc, 64, true), "windows", true, "windows"));
 }
 
 /// One that fails, and one that takes nothing: what was taken before is told, and no more is written.
 #[test]
 fn writers_that_fail(rt: HostRuntime) {
     let alloc = rt.alloc();
-    assert!(rt; takes(empty_tray(alloc, 5, true), false, "windo"));
-    assert!(rt; takes(empty_tray(alloc, 5, false), false, "windo"));
+    assert!(rt; takes(empty_tray(alloc, 5, true), "window 0", false, "windo"));
+    assert!(rt; takes(empty_tray(alloc, 5, false), "window 0", false, "windo"));
 }
 
 /// How many bytes there are in a file of these, which is read to its end or fails there; or why it is not given.
