@@ -22,12 +22,11 @@ use Rattle.cxl_inputs.specs.declared.status.Status.{Status}
 use Rattle.cxl_inputs.specs.declared.status.Status.TheVariants.{Done, WriteFault, Memory}
 use Rattle.cxl_inputs.specs.declared.stop.Stop.{Stop}
 use Rattle.cxl_inputs.specs.declared.stop.Stop.TheVariants as stop
-use Rattle.cxl_inputs.proofs.Hosts.{told_twice}
 use Rattle.cxl_inputs.proofs.Stops.{stop-weaker}
 use Rattle.cxl_io.specs.Fetch.{AsksFor}
 use Rattle.cxl_io.specs.Sink.{SinkState, Takes, TakesPrefix}
 use Rattle.cxl_io.specs.Source.{SourceState}
-use Rattle.cxl_io.specs.Told.{told_with}
+use Rattle.cxl_io.proofs.Writes.{Takes-append}
 use Rattle.cxl_machine.specs.Machine.{Machine}
 use Rattle.cxl_model.specs.Listed.{region_limit}
 use Rattle.cxl_machine.specs.Scripts.{Asked, Turn, lines_asked}
@@ -66,9 +65,6 @@ use Rattle.cxl_commands.proofs.Stops.{run-ended, run-finished}
 
 -- ---- over an open session
 
-takes_both : (old mid new : SinkState) (xs ys : List ℕ) → Takes old mid xs → Takes mid new ys → Takes old new (xs ++ ys)
-takes_both old mid new xs ys first then = then ∙ ap (λ t. told_with t ys) first ∙ told_twice old.taken xs ys
-
 module _ (nodes : List Node) (asked : List Asked) (turns : List Turn) (before after : SourceState) where
   -- nothing is told behind the replies
   pub script-done : (old new : SinkState) → EndsLines nodes asked turns before after old new endings.Done → EndsScript nodes asked turns before after old new Done
@@ -92,7 +88,7 @@ module _ (nodes : List Node) (asked : List Asked) (turns : List Turn) (before af
     told_behind : (lines : List (List ℕ)) → StopsReading end lines before after → asked ≡ lines_asked lines → Takes old mid (text_of nodes turns) → MeetsNoFault old mid → Ends (script_stopped end) status mid new → EndsScript nodes asked turns before after old new status
     told_behind lines stops e text sink (inl written) =
         let more = subst (Takes mid new) (append-nil (ending_text end)) written.taken in
-        read_out end lines written.status_is stops e (takes_both old mid new (text_of nodes turns) (ending_text end) text more)
+        read_out end lines written.status_is stops e (Takes-append old mid new (text_of nodes turns) (ending_text end) text more)
         (λ is. absurd (early (sym written.status_is ∙ is))) (λ only. written.unswallowed (sink.alone ∙ only) ∙ sink.unswallowed only)
     told_behind lines stops e text sink (inr cut) =
         let part = subst (TakesPrefix mid new) (append-nil (ending_text end)) cut.taken in
@@ -101,7 +97,7 @@ module _ (nodes : List Node) (asked : List Asked) (turns : List Turn) (before af
           rose = omega (arith, rose, counts);
           count = part.count;
           short = part.short;
-          taken = takes_both old mid new (text_of nodes turns) (take part.count (ending_text end)) text part.taken;
+          taken = Takes-append old mid new (text_of nodes turns) (take part.count (ending_text end)) text part.taken;
         })
 
     pub script-stopped : ends_reading end ≡ true → EndsLines nodes asked turns before after old mid end → Ends (script_stopped end) status mid new → EndsScript nodes asked turns before after old new status
