@@ -18,60 +18,74 @@ use crate::steps::StepsAbove;
 use cxl_model::Step;
 use cxl_topo::{Topo, tree_laws};
 
-const NO_STEP: Step = Step {
-    node: 0,
-    decoder: 0,
-    entry: 0,
-};
+/// No step yet of a slot of which so much is left.
+pub(crate) fn no_steps(rest: u32) -> StepsAbove
+    ensures len { result.len ≡ 0 }
+    ensures steps { result.steps ≡ replicate 5 no_step }
+    ensures rest { result.rest ≡ rest }
+{
+    let none = Step {
+        node: 0,
+        decoder: 0,
+        entry: 0,
+    };
+    StepsAbove {
+        len: 0,
+        steps: [none; 5],
+        rest,
+    }
+}
 
-/// The steps of a slot above a node. `root` are the ways of the window, but for a factor of three.
-pub(crate) fn steps_above(topo: &Topo, own: &[Own], root: u32, slot: u8, node: u32) -> StepsAbove
+/// Puts the steps of a slot above a node behind none. What is left of the slot is at first its number over `root`, the ways of
+/// the window but for a factor of three.
+pub(crate) fn put_steps(
+    above: &mut StepsAbove,
+    topo: &Topo,
+    own: &[Own],
+    root: u32,
+    slot: u8,
+    node: u32,
+)
     requires here { node < length topo.now.nodes }
-    requires root { 0 < root }
     requires own { (s : System) × (found : Found) × (own.now ≡ own_decoders s found) × (s.nodes ≡ topo.now.nodes) }
-    ensures few { result.len ≤ length (ports_above topo.now.nodes node) }
-    ensures room { result.len ≤ 5 }
-    ensures long { length result.steps ≡ 5 }
-    ensures zeros { drop result.len result.steps ≡ replicate (5 - result.len) no_step }
+    requires none { above.old.len ≡ 0 }
+    requires empty { above.old.steps ≡ replicate 5 no_step }
+    requires whole { above.old.rest ≡ slot / root }
+    ensures few { above.new.len ≤ length (ports_above topo.now.nodes node) }
+    ensures room { above.new.len ≤ 5 }
+    ensures long { length above.new.steps ≡ 5 }
+    ensures zeros { drop above.new.len above.new.steps ≡ replicate (5 - above.new.len) no_step }
     ensures steps { (s : System) (w : WindowFields) (found : Found) → s.nodes ≡ topo.now.nodes
         → own.now ≡ own_decoders s found → root ≡ 2 ^ bits_of w.ways
-        → take result.len result.steps ≡ slot_steps s w (region_range found) slot node }
+        → take above.new.len above.new.steps ≡ slot_steps s w (region_range found) slot node }
     ensures rest { (s : System) (w : WindowFields) (found : Found) → s.nodes ≡ topo.now.nodes
         → own.now ≡ own_decoders s found → root ≡ 2 ^ bits_of w.ways
-        → result.rest ≡ slot / slots_an_entry s w (region_range found) node }
+        → above.new.rest ≡ slot / slots_an_entry s w (region_range found) node }
 {
     tree_laws();
     let _count = topo.count();
     let Some(parent) = topo.node(node).parent else {
-        return StepsAbove {
-            len: 0,
-            steps: [NO_STEP; 5],
-            rest: u32::from(slot) / root,
-        };
+        return;
     };
-    let above = steps_above(topo, own, root, slot, parent.node);
+    put_steps(above, topo, own, root, slot, parent.node);
     match own_at(own, parent.node) {
-        Some(port) => with_step(above, port),
-        None => above,
+        Some(port) => put_step(above, port),
+        None => {}
     }
 }
 
-/// One step more, at a port.
-fn with_step(above: StepsAbove, port: Own) -> StepsAbove
-    requires room { above.len < 5 }
+/// Puts one step more, at a port.
+fn put_step(above: &mut StepsAbove, port: Own)
+    requires room { above.old.len < 5 }
     requires some { 0 < port.ways }
-    ensures { result ≡ stepped above port }
+    ensures { above.new ≡ stepped above.old port }
 {
-    let mut steps = above.steps;
     let ways = u32::from(port.ways);
-    steps[above.len as usize] = Step {
+    above.steps[above.len as usize] = Step {
         node: port.node,
         decoder: port.index,
         entry: (above.rest % ways) as u8,
     };
-    StepsAbove {
-        len: above.len + 1,
-        steps,
-        rest: above.rest / ways,
-    }
+    above.len += 1;
+    above.rest /= ways;
 }

@@ -14,7 +14,7 @@ ghost use Rattle.cxl_model.specs.Changes.{HaveSameDecoders, HaveSameOwnDecoders}
 ghost use Rattle.cxl_walk.specs.Routes.{routing_of, no_step};
 ghost use Rattle.cxl_walk.specs.Keeping.{KeptFields, IsSlotRoute, IsKept, IsKeptOf, HasOwn, IsOwnIn};
 
-use crate::above::steps_above;
+use crate::above::{no_steps, put_steps};
 use crate::own::Own;
 use crate::owned::{own_at, own_in};
 use crate::route::Route;
@@ -179,7 +179,9 @@ fn slot_route(topo: &Topo, window: &Window, own: &[Own], found: &Found, slot: u8
     let place = found.spans.items()[usize::from(slot)];
     let count = topo.count();
     prove!(place.endpoint < count);
-    let above = steps_above(topo, own, root_ways(window), slot, place.endpoint);
+    let root = root_ways(window);
+    let mut above = no_steps(u32::from(slot) / root);
+    put_steps(&mut above, topo, own, root, slot, place.endpoint);
     let steps = above.steps;
     let last = own_at(own, place.endpoint).unwrap();
     Route {

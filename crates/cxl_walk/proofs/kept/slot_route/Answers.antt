@@ -67,7 +67,7 @@ returns c = λ s is.
       only = λ h outcome. c.chain_is_the_dealing.ensures.only s w found h outcome is.system is.region;
     } in
     slot_route_is s w found is.system is.region hits c.args.slot c.requires.slot routes place there _
-    refl (c.from-2.ensures ∙ c.target_position.ensures.value) refl
-    (c.steps_above-above.ensures.steps s w found is.tree is.are c.root_ways.ensures.value)
-    c.steps_above-above.ensures.zeros
+    refl (c.from-3.ensures ∙ c.target_position.ensures.value) refl
+    (c.put_steps.ensures.steps s w found is.tree is.are c.root_ways-root.ensures.value)
+    c.put_steps.ensures.zeros
     refl (own_index s (region_range found) place.endpoint c.unwrap-last.result (own ∙ c.unwrap-last.ensures)) refl

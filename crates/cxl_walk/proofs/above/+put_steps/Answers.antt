@@ -11,7 +11,7 @@ use Rattle.cxl_walk.specs.Routes.{no_step}
 use Rattle.cxl_walk.proofs.Slots.{IsAbove, own_found, own_ways, top_steps, top_entry, past_steps, past_entry, more_steps, less_rest, step_behind, zeros_behind}
 use Rattle.cxl_walk.specs.declared.steps.StepsAbove.{StepsAbove}
 use Rattle.cxl_walk.specs.inner.Slots.{stepped, step_at}
-use Rattle.cxl_walk.proofs.above.+steps_above.Goals as goal
+use Rattle.cxl_walk.proofs.above.+put_steps.Goals as goal
 
 -- the tree of a system over these nodes is known
 known_as : (nodes other : List Node) → KnownTree nodes → other ≡ nodes → KnownTree other
@@ -31,8 +31,8 @@ room_below nodes tree n p up len few =
     let ports = ap length (ports_some tree n p up) in
     omega (arith, tree.laws.few_ports n, ports)
 
-pub with_step-requires-clause-some : goal.with_step-requires-clause-some
-with_step-requires-clause-some t c =
+pub put_step-requires-clause-some : goal.put_step-requires-clause-some
+put_step-requires-clause-some t c =
     let nodes = c.args.topo.now.nodes in
     let tree : KnownTree nodes = record { tree = c.count-count.ensures.tree; laws = c.tree_laws.ensures.laws nodes c.count-count.ensures.tree } in
     let up = parent_there nodes c.args.node c.node.result.now (Some c.in-Some.parent) c.node.ensures c.in-Some.is in
@@ -47,9 +47,9 @@ returns-in-Some-own_at-clause-zeros t c =
     let nodes = c.args.topo.now.nodes in
     let tree : KnownTree nodes = record { tree = c.count-count.ensures.tree; laws = c.tree_laws.ensures.laws nodes c.count-count.ensures.tree } in
     let up = parent_there nodes c.args.node c.node.result.now (Some c.in-Some.parent) c.node.ensures c.in-Some.is in
-    let above : StepsAbove = c.steps_above-above.result in
-    subst (λ (a : StepsAbove). drop a.len a.steps ≡ replicate (5 - a.len) no_step) (sym c.with_step.ensures)
-    (zeros_behind above (step_at c.in-Some-own_at.port above.rest) c.steps_above-above.ensures.long (room_below nodes tree c.args.node c.in-Some.parent up above.len c.steps_above-above.ensures.few) c.steps_above-above.ensures.zeros)
+    let above : StepsAbove = c.put_steps.new.above in
+    subst (λ (a : StepsAbove). drop a.len a.steps ≡ replicate (5 - a.len) no_step) (sym c.put_step.ensures)
+    (zeros_behind above (step_at c.in-Some-own_at.port above.rest) c.put_steps.ensures.long (room_below nodes tree c.args.node c.in-Some.parent up above.len c.put_steps.ensures.few) c.put_steps.ensures.zeros)
 
 pub returns-in-Some-own_at-clause-steps : goal.returns-in-Some-own_at-clause-steps
 returns-in-Some-own_at-clause-steps t c = λ s w found same are root.
@@ -57,12 +57,12 @@ returns-in-Some-own_at-clause-steps t c = λ s w found same are root.
     let tree : KnownTree nodes = record { tree = c.count-count.ensures.tree; laws = c.tree_laws.ensures.laws nodes c.count-count.ensures.tree } in
     let up = parent_there nodes c.args.node c.node.result.now (Some c.in-Some.parent) c.node.ensures c.in-Some.is in
     let before = (parent_is_port tree c.args.node c.in-Some.parent up).0 in
-    let above : StepsAbove = c.steps_above-above.result in
+    let above : StepsAbove = c.put_steps.new.above in
     let p = c.in-Some.parent in
-    let is : IsAbove s w (region_range found) c.args.slot p.node above = record { steps = c.steps_above-above.ensures.steps s w found same are root; rest = c.steps_above-above.ensures.rest s w found same are root } in
+    let is : IsAbove s w (region_range found) c.args.slot p.node above = record { steps = c.put_steps.ensures.steps s w found same are root; rest = c.put_steps.ensures.rest s w found same are root } in
     let own = own_found s found c.args.own.now p.node (Some c.in-Some-own_at.port) (within_in nodes s.nodes p.node c.args.node before c.requires.here same) are c.in-Some-own_at.ensures in
-    subst (λ (a : StepsAbove). take a.len a.steps ≡ slot_steps s w (region_range found) c.args.slot c.args.node) (sym c.with_step.ensures)
-    (step_behind above c.in-Some-own_at.port c.steps_above-above.ensures.long (room_below nodes tree c.args.node p up above.len c.steps_above-above.ensures.few)
+    subst (λ (a : StepsAbove). take a.len a.steps ≡ slot_steps s w (region_range found) c.args.slot c.args.node) (sym c.put_step.ensures)
+    (step_behind above c.in-Some-own_at.port c.put_steps.ensures.long (room_below nodes tree c.args.node p up above.len c.put_steps.ensures.few)
     ∙ sym (more_steps s w (region_range found) (known_as nodes s.nodes tree same) c.args.slot c.args.node p (up_in nodes s.nodes c.args.node (Some p) up same) c.in-Some-own_at.port own above is))
 
 pub returns-in-Some-own_at-clause-rest : goal.returns-in-Some-own_at-clause-rest
@@ -71,11 +71,11 @@ returns-in-Some-own_at-clause-rest t c = λ s w found same are root.
     let tree : KnownTree nodes = record { tree = c.count-count.ensures.tree; laws = c.tree_laws.ensures.laws nodes c.count-count.ensures.tree } in
     let up = parent_there nodes c.args.node c.node.result.now (Some c.in-Some.parent) c.node.ensures c.in-Some.is in
     let before = (parent_is_port tree c.args.node c.in-Some.parent up).0 in
-    let above : StepsAbove = c.steps_above-above.result in
+    let above : StepsAbove = c.put_steps.new.above in
     let p = c.in-Some.parent in
-    let is : IsAbove s w (region_range found) c.args.slot p.node above = record { steps = c.steps_above-above.ensures.steps s w found same are root; rest = c.steps_above-above.ensures.rest s w found same are root } in
+    let is : IsAbove s w (region_range found) c.args.slot p.node above = record { steps = c.put_steps.ensures.steps s w found same are root; rest = c.put_steps.ensures.rest s w found same are root } in
     let own = own_found s found c.args.own.now p.node (Some c.in-Some-own_at.port) (within_in nodes s.nodes p.node c.args.node before c.requires.here same) are c.in-Some-own_at.ensures in
-    ap (λ (a : StepsAbove). a.rest) c.with_step.ensures
+    ap (λ (a : StepsAbove). a.rest) c.put_step.ensures
     ∙ less_rest s w (region_range found) (known_as nodes s.nodes tree same) c.args.slot c.args.node p (up_in nodes s.nodes c.args.node (Some p) up same) c.in-Some-own_at.port own above is
 
 pub returns-in-None-clause-steps : goal.returns-in-None-clause-steps
@@ -86,7 +86,7 @@ returns-in-None-clause-steps t c = λ s w found same are root.
     let before = (parent_is_port tree c.args.node c.in-Some.parent up).0 in
     let p = c.in-Some.parent in
     let none = own_found s found c.args.own.now p.node None (within_in nodes s.nodes p.node c.args.node before c.requires.here same) are c.in-None.ensures in
-    c.steps_above-above.ensures.steps s w found same are root
+    c.put_steps.ensures.steps s w found same are root
     ∙ sym (past_steps s w (region_range found) (known_as nodes s.nodes tree same) c.args.slot c.args.node p (up_in nodes s.nodes c.args.node (Some p) up same) none)
 
 pub returns-in-None-clause-rest : goal.returns-in-None-clause-rest
@@ -97,5 +97,5 @@ returns-in-None-clause-rest t c = λ s w found same are root.
     let before = (parent_is_port tree c.args.node c.in-Some.parent up).0 in
     let p = c.in-Some.parent in
     let none = own_found s found c.args.own.now p.node None (within_in nodes s.nodes p.node c.args.node before c.requires.here same) are c.in-None.ensures in
-    c.steps_above-above.ensures.rest s w found same are root
+    c.put_steps.ensures.rest s w found same are root
     ∙ ap (λ (k : ℕ). c.args.slot / k) (sym (past_entry s w (region_range found) (known_as nodes s.nodes tree same) c.args.slot c.args.node p (up_in nodes s.nodes c.args.node (Some p) up same) none))
