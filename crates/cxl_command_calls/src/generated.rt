@@ -1,7 +1,7 @@
 //! Generated systems: the bytes of a table, how many commands there are, and the first and last of each part.
 
 use cxl_cedt::{Cedt, write};
-use cxl_gen::{Made, make};
+use cxl_gen::{Made, command_count, make, make_command};
 use cxl_script::Command;
 use std::alloc::Global;
 use std::process::Abort;
@@ -96,6 +96,29 @@ fn fewest_windows(rt: HostRuntime) {
 #[test]
 fn most_windows(rt: HostRuntime) {
     assert!(rt; is_made(&rt, &MOST_WINDOWS));
+}
+
+/// Whether the command behind so many others, made in the place of the one before it, asks for this.
+fn is_made_in_place(
+    alloc: Global,
+    number: u32,
+    place: u32,
+    asked: (&'static str, u64, u64),
+) -> bool {
+    if number > 32 || place == 0 || place >= command_count(number) {
+        return false;
+    }
+    let mut command = Command::Abort;
+    make_command(alloc, number, place - 1, &mut command).is_ok()
+        && make_command(alloc, number, place, &mut command).is_ok()
+        && numbers(Some(&command)) == asked
+}
+
+#[test]
+fn one_behind_the_other(rt: HostRuntime) {
+    let last_store = ("store", 0x10_003e_ae70, 999);
+    assert!(rt; is_made_in_place(rt.alloc(), 1, 1_000, last_store));
+    assert!(rt; is_made_in_place(rt.alloc(), 1, 1_001, ("load", 0x10_0000_0000, 8)));
 }
 
 const FEWEST_WINDOWS: System = System {

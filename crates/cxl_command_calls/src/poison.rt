@@ -17,7 +17,8 @@ fn payload(flags: u8, count: u8, address: [u8; 8], length: u8) -> [u8; 48] {
     bytes
 }
 
-const ADDRESS: [u8; 8] = [0xc2, 0xff, 0xff, 0x0f, 0, 0, 0, 0];
+/// A device address with a source in its lowest bits, and those between that are reserved.
+const ADDRESS: [u8; 8] = [0xfa, 0xff, 0xff, 0x0f, 0, 0, 0, 0];
 
 /// Whether a list says this besides its records.
 fn says(list: &PoisonList, more: bool, overflow: Option<u64>, scanning: bool) -> bool {

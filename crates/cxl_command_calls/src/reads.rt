@@ -24,7 +24,7 @@ high = false
 [[endpoint]]
 name = \"ep0\"
 parent = \"s0\"
-port = 1
+port = 2
 decoders = 1
 ram = 0x40000000
 ";
@@ -177,7 +177,7 @@ const NODES: &str = "\
 frames 8
 node 0 hb0 bridge uid 7 cap 0x381 decoders 2 targets 8 low 1 high 1 ways3 0 ways16 0 passthrough 0
 node 1 s0 switch parent hb0 port 0 cap 0x120 decoders 1 targets 2 low 1 high 0 ways3 0 ways16 0 passthrough 0
-node 2 ep0 endpoint ram 0x40000000 pmem 0x0 parent s0 port 1 cap 0x1b00 decoders 1 targets 0 low 1 high 1 ways3 1 ways16 1 passthrough 0
+node 2 ep0 endpoint ram 0x40000000 pmem 0x0 parent s0 port 2 cap 0x1b00 decoders 1 targets 0 low 1 high 1 ways3 1 ways16 1 passthrough 0
 ";
 
 /// Whether the places that break the first broken rule of these files are told by this status, and in these lines.
