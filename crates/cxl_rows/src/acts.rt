@@ -8,10 +8,10 @@ ghost use Rattle.cxl_script.specs.Grammar.{IsRanged};
 ghost use Rattle.cxl_session.specs.Standing.{Stands, StandsFor};
 
 use crate::guest_stores::windows_of;
-use crate::host_files::ONE_FRAME;
+use crate::host_files::{ONE_FRAME, TWO_ENDPOINTS};
 use crate::rows::{changed, has_passed, numbers};
 use crate::scripts::Script;
-use crate::tables::TWO_BRIDGES;
+use crate::tables::{TWO_BRIDGES, TWO_WINDOWS};
 use cxl_bus::{FailingBus, Regs, SimBus};
 use cxl_image::{Image, read_image, write_image};
 use cxl_machine::{OpenFault, answers_are_told, live_regions_stay};
@@ -376,6 +376,66 @@ fn all_keep_over_each(rt: &impl Abort, alloc: Global, rows: &[Keeping]) {
 #[test]
 fn kept_routes(rt: HostRuntime) {
     all_keep_over_each(&rt, rt.alloc(), &KEEPING);
+}
+
+// ---- the places of regions
+
+/// Two bridges with an endpoint and a window each, after reset.
+const APART: Script = Script {
+    table: TWO_WINDOWS,
+    topology: TWO_ENDPOINTS,
+    image: "",
+    changes: "",
+    fails: "",
+    lines: "",
+    code: 0,
+    text: "",
+};
+
+/// Whether two regions live, with these bases, in this order.
+fn are_live(session: &Session, first: u64, second: u64) -> bool {
+    match session.live() {
+        [one, other] => one.base == first && other.base == second,
+        _ => false,
+    }
+}
+
+/// Whether a region whose end is undone stands before the one that was made behind it, and behind that where it is made anew.
+fn stand_in_order<R: Regs, M: Roll>(
+    rt: &impl Abort,
+    alloc: Global,
+    regs: &mut R,
+    media: &mut M,
+) -> bool {
+    let mut session = opened(rt, alloc, &APART, regs, media).expect(rt, "a session");
+    let lines = "\
+create a ram 0x10000000 e0\n\
+create b ram 0x10000000 e1\n\
+begin destroy a\n\
+abort";
+    replies(rt, alloc, &mut session, lines, regs, media);
+    are_live(&session, 0x1_0000_0000, 0x2_0000_0000)
+        && is_answered(rt, alloc, &mut session, AFRESH, ANSWERED, regs, media)
+        && are_live(&session, 0x2_0000_0000, 0x1_0000_0000)
+}
+
+const AFRESH: &str = "\
+destroy a\n\
+load 0x200000000 1\n\
+create a ram 0x10000000 e0\n\
+load 0x100000000 1";
+
+const ANSWERED: &str = "\
+destroyed a\n\
+bytes 00\n\
+created a window 0 base 0x100000000 size 0x10000000 gran 256 ways 1\n\
+bytes 00\n";
+
+#[test]
+fn regions_stand_in_order(rt: HostRuntime) {
+    let alloc = rt.alloc();
+    let mut regs = SimBus::new(alloc);
+    assert!(rt; stand_in_order(&rt, alloc, &mut regs, &mut SimMedia::new(alloc)));
 }
 
 // ---- the image behind a command that meets a fault

@@ -5,7 +5,7 @@ use crate::rows::{
     ROOM, Row, are_answered, bytes, code_of_run, ends, files_of, has_passed, sink_of, table_file,
     words_of,
 };
-use crate::tables::{HEADER_OF_OTHERS, TWO_BRIDGES};
+use crate::tables::{HEADER_OF_OTHERS, HEADER_OF_WHOLE_BLOCK, TWO_BRIDGES};
 use cxl_io::MemFetch;
 use cxl_shell::{HELP, Status};
 use std::alloc::Global;
@@ -349,6 +349,13 @@ const SINKS: &[SinkRow] = &[
         fail: 1,
         text: "",
     },
+    // A text that is fixed.
+    SinkRow {
+        line: "route",
+        room: ROOM,
+        fail: 1,
+        text: "",
+    },
     // A list with room for its first line and five bytes of the second, and one whose first write fails.
     SinkRow {
         line: "list table",
@@ -378,7 +385,24 @@ fn writes_so_many(rt: &impl Abort, alloc: Global, fail: u64, code: u8, count: us
 #[test]
 fn blocks_of_lines(rt: HostRuntime) {
     assert!(rt; writes_so_many(&rt, rt.alloc(), 0, 0, 17 * 5_000));
+    assert!(rt; writes_so_many(&rt, rt.alloc(), 1, 6, 0));
     assert!(rt; writes_so_many(&rt, rt.alloc(), 2, 6, 17 * 3_856));
+}
+
+/// How many bytes are written of a list of one line of 18 bytes and 4,854 of 17, whose second write fails.
+fn written_of_whole_block(rt: &impl Abort, alloc: Global) -> usize {
+    let words = words_of(rt, alloc, "list table");
+    let table = repeated(rt, alloc, HEADER_OF_WHOLE_BLOCK, "04000400", 4_854);
+    let mut files = table_file(rt, alloc, table);
+    let mut sink = sink_of(rt, alloc, ROOM, 2);
+    code_of_run(alloc, &words, &mut files, &mut sink);
+    sink.bytes().len()
+}
+
+/// A block that has 65,536 bytes goes out as it is.
+#[test]
+fn a_block_of_whole_lines(rt: HostRuntime) {
+    assert!(rt; written_of_whole_block(&rt, rt.alloc()) == 65_536);
 }
 
 /// Whether the file of this name is asked for, and no other.

@@ -9,7 +9,7 @@ fn bytes_by_host(rt: HostRuntime) {
     come_to(&rt, &BYTES_BY_HOST);
 }
 
-const BYTES_BY_HOST: [Script; 8] = [
+const BYTES_BY_HOST: [Script; 9] = [
     // Bytes over two devices.
     Script {
         table: TWO_BRIDGES,
@@ -21,6 +21,7 @@ const BYTES_BY_HOST: [Script; 8] = [
 create r0 ram 0x20000000 e0 e1\n\
 store 0x1000000fe aabbccdd\n\
 load 0x1000000fe 4\n\
+load 0x100000100 2\n\
 down 0x100000100\n\
 load 0x1000000fc 2\n",
         code: 0,
@@ -28,6 +29,7 @@ load 0x1000000fc 2\n",
 created r0 window 0 base 0x100000000 size 0x20000000 gran 256 ways 2\n\
 stored 4\n\
 bytes aabbccdd\n\
+bytes ccdd\n\
 down 0x100000100 region r0 slot 1 position 1 via hb1:0:0 endpoint e1 dpa 0x0\n\
 bytes 0000\n",
     },
@@ -43,14 +45,16 @@ create r0 ram 0x20000000 e0 e1\n\
 store 0x100000000 11\n\
 store 0x1000001ff aabb\n\
 load 0x1000001ff 1\n\
-load 0x100000000 1\n",
+load 0x100000000 1\n\
+load 0x1000001ff 1\n",
         code: 0,
         text: "\
 created r0 window 0 base 0x100000000 size 0x20000000 gran 256 ways 2\n\
 stored 1\n\
 full need 2 free 1\n\
 bytes 00\n\
-bytes 11\n",
+bytes 11\n\
+bytes 00\n",
     },
     // The ends of a region.
     Script {
@@ -171,6 +175,7 @@ unmapped\n",
 create r0 ram 0x20000000 e0 e1\n\
 create r1 ram 0x20000000 e0 e1\n\
 store 0x100000000 11\n\
+store 0x120000000 22\n\
 move r0 r1\n\
 load 0x120000000 1\n\
 load 0x100000000 1\n\
@@ -183,6 +188,7 @@ copy r0 r2\n",
 created r0 window 0 base 0x100000000 size 0x20000000 gran 256 ways 2\n\
 created r1 window 0 base 0x120000000 size 0x20000000 gran 256 ways 2\n\
 stored 1\n\
+full need 1 free 0\n\
 moved r0 r1 pieces 1\n\
 bytes 11\n\
 bytes 00\n\
@@ -190,6 +196,31 @@ full need 1 free 0\n\
 same region r1\n\
 no such region r2\n\
 no such region r2\n",
+    },
+    // A copy takes the frames of what it takes the place of.
+    Script {
+        table: TWO_BRIDGES,
+        topology: TWO_FRAMES,
+        image: "",
+        changes: "",
+        fails: "",
+        lines: "\
+create r0 ram 0x20000000 e0 e1\n\
+create r1 ram 0x20000000 e0 e1\n\
+store 0x100000000 11\n\
+store 0x120000100 22\n\
+copy r0 r1\n\
+load 0x120000000 1\n\
+load 0x120000100 1\n",
+        code: 0,
+        text: "\
+created r0 window 0 base 0x100000000 size 0x20000000 gran 256 ways 2\n\
+created r1 window 0 base 0x120000000 size 0x20000000 gran 256 ways 2\n\
+stored 1\n\
+stored 1\n\
+copied r0 r1 pieces 1\n\
+bytes 11\n\
+bytes 00\n",
     },
     // A move between regions of four ways and of two.
     Script {

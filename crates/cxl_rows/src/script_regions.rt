@@ -11,7 +11,7 @@ fn made_and_ended(rt: HostRuntime) {
     come_to(&rt, &REGIONS);
 }
 
-const REGIONS: [Script; 8] = [
+const REGIONS: [Script; 9] = [
     // Both kinds of memory in one endpoint.
     Script {
         table: ONE_BRIDGE,
@@ -69,6 +69,23 @@ no such region a\n",
         lines: "",
         code: 0,
         text: "",
+    },
+    // Lines that ask for nothing, and one whose first word is no verb.
+    Script {
+        table: TWO_BRIDGES,
+        topology: TWO_ENDPOINTS,
+        image: "",
+        changes: "",
+        fails: "",
+        lines: "\
+\n\
+make a\n\
+\n\
+create a ram 0x20000000 e0 e1\n",
+        code: 0,
+        text: "\
+bad line 0 verb\n\
+created a window 0 base 0x100000000 size 0x20000000 gran 256 ways 2\n",
     },
     // A name of fifteen bytes, and one of sixteen.
     Script {

@@ -1,8 +1,8 @@
 //! What scripts find between two register writes, and over registers that fail.
 
-use crate::host_files::{TWO_ENDPOINTS, TWO_ENDPOINTS_FORWARDED};
+use crate::host_files::{BOTH_KINDS, TWO_ENDPOINTS, TWO_ENDPOINTS_FORWARDED};
 use crate::scripts::{Script, come_to};
-use crate::tables::TWO_BRIDGES;
+use crate::tables::{ONE_BRIDGE, TWO_BRIDGES};
 
 #[test]
 fn between_words(rt: HostRuntime) {
@@ -119,7 +119,7 @@ fn failing_buses(rt: HostRuntime) {
     come_to(&rt, &FAILING_BUSES);
 }
 
-const FAILING_BUSES: [Script; 10] = [
+const FAILING_BUSES: [Script; 11] = [
     // A write fails, and the first is taken back.
     Script {
         table: TWO_BRIDGES,
@@ -172,6 +172,19 @@ error: bus fault\n",
         fails: "2",
         lines: "\
 create r0 ram 0x20000000 e0 e1\n",
+        code: 7,
+        text: "\
+error: bus fault\n",
+    },
+    // The only endpoint cannot be enabled.
+    Script {
+        table: ONE_BRIDGE,
+        topology: BOTH_KINDS,
+        image: "",
+        changes: "",
+        fails: "1",
+        lines: "\
+create a ram 0x10000000 e0\n",
         code: 7,
         text: "\
 error: bus fault\n",

@@ -288,7 +288,7 @@ fn poisoned(rt: HostRuntime) {
     come_to(&rt, &POISONED);
 }
 
-const POISONED: [Script; 2] = [
+const POISONED: [Script; 3] = [
     // A record past the end of a span, one of no length, a false count, and a list that is cut.
     Script {
         table: TWO_BRIDGES,
@@ -315,6 +315,26 @@ record 0xfffffc0 length 0 source internal\n\
 poison count 2 1\n\
 poison short\n\
 no such endpoint e2\n",
+    },
+    // A record over the end of one region and the start of the next.
+    Script {
+        table: TWO_BRIDGES,
+        topology: TWO_ENDPOINTS,
+        image: "",
+        changes: "",
+        fails: "",
+        lines: "\
+create a ram 0x20000000 e0 e1\n\
+create b ram 0x20000000 e0 e1\n\
+poison e0 0000000000000000000001000000000000000000000000000000000000000000c2ffff0f000000000200000000000000\n",
+        code: 0,
+        text: "\
+created a window 0 base 0x100000000 size 0x20000000 gran 256 ways 2\n\
+created b window 0 base 0x120000000 size 0x20000000 gran 256 ways 2\n\
+poison e0 records 1\n\
+record 0xfffffc0 length 128 source internal\n\
+run 0x11ffffec0 64 region a\n\
+run 0x120000000 64 region b\n",
     },
     // A record over two chunks of a region of six ways.
     Script {
