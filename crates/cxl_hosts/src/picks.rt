@@ -83,9 +83,9 @@ const ONE_BY_ONE: &str = "0x382, 0x1b02 0 0 0x80000000 0";
 const OVER_ONE_TWICE: &str =
     "0x100000000 0x20000000 0 0 0x000e 0, 0x200000000 0x20000000 0 0 0x000e 0";
 
-/// Three bridges with two switches each, and two endpoints below each switch.
+/// Three bridges with two switches each, which cannot select on address bits 14:12, and two endpoints below each switch.
 const THREE_BY_TWO_BY_TWO: &str = "0x382, 0x382, 0x382, \
-    0x382 0 0, 0x382 0 1, 0x382 1 0, 0x382 1 1, 0x382 2 0, 0x382 2 1, \
+    0x182 0 0, 0x182 0 1, 0x182 1 0, 0x182 1 1, 0x182 2 0, 0x182 2 1, \
     0x1b02 3 0 0x10000000 0, 0x1b02 3 1 0x10000000 0, \
     0x1b02 4 0 0x10000000 0, 0x1b02 4 1 0x10000000 0, \
     0x1b02 5 0 0x10000000 0, 0x1b02 5 1 0x10000000 0, \
@@ -103,11 +103,10 @@ const ROWS: [Row; 17] = [
         ways: 1,
         picked: "Ok([1])",
     },
-    // Twelve ways from three: a switch selects above the three bridges and the two switches, at twice the granularity, of which
-    // 16 KiB are the most.
+    // Twelve ways from three, at 1,024 bytes and at 2,048: a switch selects at twice the granularity, by bit 11 and by bit 12.
     Row {
         nodes: THREE_BY_TWO_BY_TWO,
-        windows: "0x100000000 0xc0000000 5 0 0x000e 0 1 2",
+        windows: "0x100000000 0xc0000000 2 0 0x000e 0 1 2",
         ranges: "",
         size: 0xc000_0000,
         ways: 12,
@@ -115,7 +114,7 @@ const ROWS: [Row; 17] = [
     },
     Row {
         nodes: THREE_BY_TWO_BY_TWO,
-        windows: "0x100000000 0xc0000000 6 0 0x000e 0 1 2",
+        windows: "0x100000000 0xc0000000 3 0 0x000e 0 1 2",
         ranges: "",
         size: 0xc000_0000,
         ways: 12,
