@@ -17,7 +17,7 @@ use crate::hosts::{Worked, host_of};
 use crate::rows::{as_byte, as_word, at, has_passed, numbers, shows};
 use cxl_check::{Breach, check};
 use cxl_model::{Found, Step};
-use cxl_walk::{Host, Kept, Route, down, up};
+use cxl_walk::{HostByte, Kept, Route, down, up};
 use std::alloc::Global;
 use std::process::Abort;
 
@@ -63,7 +63,7 @@ fn step_of(rt: &impl Abort, numbers: &[u64], i: u8) -> Step {
 }
 
 /// The address that leads to the byte, where the node is an endpoint.
-fn up_from(host: &Worked, node: u32, dpa: u64) -> Option<Host>
+fn up_from(host: &Worked, node: u32, dpa: u64) -> Option<HostByte>
     requires caps { HasCapsOf host.now.image host.now.topo.nodes }
     requires made { AreMadeWith host.now.windows.items (bridge_uids host.now.topo.nodes) }
 {
@@ -128,7 +128,7 @@ fn comes_back(host: &Worked, node: u32, dpa: u64, base: u64, h: u64) -> bool
     requires caps { HasCapsOf host.now.image host.now.topo.nodes }
     requires made { AreMadeWith host.now.windows.items (bridge_uids host.now.topo.nodes) }
 {
-    up_from(host, node, dpa) == Some(Host { base, h })
+    up_from(host, node, dpa) == Some(HostByte { base, h })
 }
 
 /// A host, an address, and where it goes: a route, or the miss.

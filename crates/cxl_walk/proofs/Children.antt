@@ -1,13 +1,14 @@
 -- A child comes after its parent, with one more port above it.
-use Rattle.std.proofs.Common.{◌≡◌, ℕ, suc, ◌<◌, Bool, true, false, List, [], ◌∷◌, length, Option, Some, None, refl, sym, ap, ◌∙◌, arith}
-use Rattle.std.specs.Prelude.{slice_get, option_map}
-use Rattle.std.specs.Option.{option_map_or, option_and_then}
-use Rattle.std.proofs.lemmas.Option.{none-some, same_Some, slice_get_within}
+use Rattle.std.proofs.Common.{◌≡◌, ℕ, suc, ◌<◌, true, List, [], ◌∷◌, length, Option, Some, None, refl, ap, ◌∙◌, arith}
+use Rattle.std.specs.Prelude.{option_map}
+use Rattle.std.specs.Option.{option_map_or}
+use Rattle.std.proofs.lemmas.Option.{none-some, same_Some}
 use Rattle.cxl_topo.specs.declared.node.Node.{Node}
 use Rattle.cxl_topo.specs.declared.node.Parent.{Parent}
-use Rattle.cxl_topo.specs.Tree.{is_bridge_at, forwards_at, parent_of, child_of, least_child_of, ports_above}
+use Rattle.cxl_topo.specs.Tree.{forwards_at, parent_of, child_of, least_child_of, ports_above}
 use Rattle.cxl_topo.specs.Faults.{IsTree}
 use Rattle.cxl_topo.specs.Laws.{AreTreeLaws}
+use Rattle.cxl_topo.proofs.Trees.{parent_within, parent_is_port}
 
 -- node c stands under node n
 pub record IsChild (nodes : List Node) (n c : ℕ) : Type 0 where
@@ -16,32 +17,14 @@ pub record IsChild (nodes : List Node) (n c : ℕ) : Type 0 where
   pub deeper : length (ports_above nodes c) ≡ suc (length (ports_above nodes n))
 
 module _ (nodes : List Node) (tree : IsTree nodes) (laws : AreTreeLaws nodes) where
-  there : (c : ℕ) (parent : Parent) → parent_of nodes c ≡ Some parent → c < length nodes
-  there c parent is = go (slice_get nodes c) refl
-    where
-      go : (o : Option Node) → slice_get nodes c ≡ o → c < length nodes
-      go None e = absurd (none-some parent (sym (ap (option_and_then (λ (node : Node). node.parent)) e) ∙ is))
-      go (Some node) e = slice_get_within nodes c node e
-
-  no_bridge : (c : ℕ) (parent : Parent) → parent_of nodes c ≡ Some parent → is_bridge_at nodes c ≡ false
-  no_bridge c parent is = go (is_bridge_at nodes c) refl
-    where
-      go : (b : Bool) → is_bridge_at nodes c ≡ b → b ≡ false
-      go true e = absurd (none-some parent (sym (tree.bridges c e) ∙ is))
-      go false e = refl
-
   stands : (n c : ℕ) (parent : Parent) → parent_of nodes c ≡ Some parent → parent.node ≡ n → IsChild nodes n c
   stands n c parent is same =
-      let below = there c parent is in
-      let up = tree.others c below (no_bridge c parent is) in
-      let one : up.0 ≡ parent = same_Some up.0 parent (sym up.1 ∙ is) in
-      let at : up.0.node ≡ n = ap (λ (p : Parent). p.node) one ∙ same in
-      let earlier = up.2.earlier in
+      let earlier : parent.node < c = (parent_is_port (record { tree = tree; laws = laws }) c parent is).0 in
       let ports : ports_above nodes c ≡ parent ∷ ports_above nodes parent.node =
       laws.ports c ∙ ap (λ (o : Option Parent). option_map_or (λ p. p ∷ ports_above nodes p.node) o []) is in
       record {
-        later = omega arith;
-        below = below;
+        later = omega (arith, earlier, same);
+        below = parent_within nodes c parent is;
         deeper = ap length ports ∙ ap (λ (m : ℕ). suc (length (ports_above nodes m))) same;
       }
 

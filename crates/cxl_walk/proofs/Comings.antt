@@ -18,7 +18,7 @@ use Rattle.cxl_model.specs.declared.chain.Miss.{Miss}
 use Rattle.cxl_model.specs.System.{System, decoders_at, decoder_at, ram_at, pmem_at}
 use Rattle.cxl_model.specs.Chain.{Arrival, Places, IsArrival, Routing, Routed, Missed}
 use Rattle.cxl_model.proofs.DealingRanges.{arrives}
-use Rattle.cxl_walk.specs.declared.upward.Host.{Host}
+use Rattle.cxl_walk.specs.declared.upward.HostByte.{HostByte}
 use Rattle.cxl_walk.specs.declared.spans.SpanByte.{SpanByte}
 use Rattle.cxl_walk.specs.Hosts.{ComesTo, HasNoHost, IsLeastHost}
 use Rattle.cxl_walk.specs.inner.WaysUp.{IsSpanByte, way_address, IsFirstWay}
@@ -190,7 +190,7 @@ module _ (s : System) (ep dpa : ℕ) (block : Registers) (there : slice_get s.bl
         let own = way_of first h comes in
         none own.0 first own.2 (subst (λ (a : ℕ). ComesTo s ep dpa first a) own.1 comes)
 
-    least_of : (host : Host) → IsFirstWay s ep dpa byte host → IsLeastHost s ep dpa host
+    least_of : (host : HostByte) → IsFirstWay s ep dpa byte host → IsLeastHost s ep dpa host
     least_of host is = record {
       comes = is.comes;
       least = λ first h comes.
@@ -203,10 +203,10 @@ module _ (s : System) (ep dpa : ℕ) (block : Registers) (there : slice_get s.bl
           ];
     }
 
-    pub least_host : (o : Option Host) → IfSome o (IsFirstWay s ep dpa byte) → IfSome o (IsLeastHost s ep dpa)
+    pub least_host : (o : Option HostByte) → IfSome o (IsFirstWay s ep dpa byte) → IfSome o (IsLeastHost s ep dpa)
     least_host None is = tt
     least_host (Some host) is = least_of host is
 
-    pub none_at_all : (o : Option Host) → IfNone o ((k first : ℕ) → k < decoder_ways byte.decoder → ComesTo s ep dpa first (way_address byte.decoder byte.along k) → ⊥) → IfNone o (HasNoHost s ep dpa)
+    pub none_at_all : (o : Option HostByte) → IfNone o ((k first : ℕ) → k < decoder_ways byte.decoder → ComesTo s ep dpa first (way_address byte.decoder byte.along k) → ⊥) → IfNone o (HasNoHost s ep dpa)
     none_at_all None none = no_way none
     none_at_all (Some host) none = tt

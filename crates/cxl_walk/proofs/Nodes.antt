@@ -1,10 +1,11 @@
 -- What a node that does not forward does with an address.
-use Rattle.std.proofs.Common.{◌≡◌, ℕ, zero, suc, ◌<◌, true, false, not, List, [], ◌∷◌, length, Option, Some, None, refl, sym, ap, subst, ◌∙◌, inr, arith}
+use Rattle.std.proofs.Common.{◌≡◌, ℕ, true, false, not, List, [], Option, Some, None, refl, sym, ap, subst, ◌∙◌, inr, arith}
 use Rattle.std.specs.Prelude.{slice_get, IsNone, is_some, ◌↔◌}
 use Rattle.std.specs.Option.{option_map_or}
 use Rattle.std.proofs.lemmas.Bool.{false≢true}
 use Rattle.std.proofs.lemmas.Option.{slice_get_within}
 use Rattle.cxl_enc.proofs.Options.{and_some}
+use Rattle.cxl_enc.proofs.Lists.{item}
 use Rattle.cxl_topo.specs.declared.node.Node.{Node}
 use Rattle.cxl_topo.specs.Kinds.{is_endpoint}
 use Rattle.cxl_topo.specs.Tree.{Tree, forwards_at, is_port_at, is_endpoint_at, child_of}
@@ -25,11 +26,6 @@ none_then o P says none = says.0 none
 pub some_not : {A : Type 0} (o : Option A) (P : Type 0) → IsNone o ↔ P → is_some o ≡ true → P → ⊥
 some_not o P says some p = false≢true (sym (says.1 p) ∙ some)
 
-node_there : (nodes : List Node) (n : ℕ) → n < length nodes → (node : Node) × (slice_get nodes n ≡ Some node)
-node_there [] n lt = absurd (omega arith)
-node_there (node ∷ nodes) zero lt = (node, refl)
-node_there (node ∷ nodes) (suc n) lt = node_there nodes n (omega arith)
-
 -- the block of a node that does not forward, and the bytes of the node's device
 pub record IsHere (nodes : List Node) (blocks : List Registers) (n : ℕ) (block : Registers) (ram pmem : ℕ) : Type 0 where
   pub own : forwards_at nodes n ≡ false
@@ -45,7 +41,7 @@ pub here : (nodes : List Node) (blocks : List Registers) (n : ℕ) (block : Regi
 here nodes blocks n block ram pmem caps own there ram_same pmem_same =
     let within = slice_get_within blocks n block there in
     let count = caps.count in
-    let node = node_there nodes n (omega arith) in
+    let node = item nodes n (omega arith) in
     let kind = (caps.each n block node.0 there node.1).endpoint in
     record {
       own = own;

@@ -1,12 +1,12 @@
 -- The way of a slot down the tree is told by a region's own decoders.
-use Rattle.std.proofs.Common.{◌≡◌, ℕ, zero, suc, ◌+◌, ◌-◌, ◌*◌, ◌/◌, ◌%◌, ◌^◌, ◌<◌, ◌≤◌, Bool, true, false, cond, List, [], ◌∷◌, ◌++◌, length, take, drop, replicate, reverse, Option, Some, None, refl, sym, ap, subst, ◌∙◌, inl, inr, arith}
+use Rattle.std.proofs.Common.{◌≡◌, ℕ, zero, suc, ◌+◌, ◌-◌, ◌*◌, ◌/◌, ◌%◌, ◌^◌, ◌<◌, ◌≤◌, Bool, false, cond, List, [], ◌∷◌, ◌++◌, length, take, drop, replicate, reverse, Option, Some, None, refl, sym, ap, ◌∙◌, inl, inr, arith}
 use Rattle.std.specs.Prelude.{find, ◌==◌, option_map}
 use Rattle.std.specs.Option.{option_and_then, option_map_or}
 use Rattle.std.specs.List.{filter_map, cons_option, range_with_len}
 use Rattle.std.proofs.Math.Nat.{div-div-eq-div-mul}
 use Rattle.std.proofs.Math.ListN.{set}
 use Rattle.std.proofs.lemmas.Bool.{cases_Bool, cases_lt, eq-eqb, ne_eqb}
-use Rattle.std.proofs.lemmas.List.{reverse-append, length-set, take_more_set, drop-set-lt, drop-drop, drop-replicate}
+use Rattle.std.proofs.lemmas.List.{reverse-append, take_more_set, drop-set-lt, drop-drop, drop-replicate}
 use Rattle.std.proofs.lemmas.Option.{none-some, same_Some}
 use Rattle.std.proofs.lemmas.Map.Keys.{any_passes_from_place}
 use Rattle.cxl_enc.specs.Codes.{bits_of}
@@ -24,7 +24,7 @@ use Rattle.cxl_model.specs.declared.found.Found.{Found}
 use Rattle.cxl_model.specs.System.{System, decoders_at}
 use Rattle.cxl_model.specs.Ranges.{serves, decoder_for, index_for, ways_above}
 use Rattle.cxl_model.specs.Regions.{region_range, slots_an_entry}
-use Rattle.cxl_model.specs.Changes.{HaveSameDecoders, HaveSameOwnDecoders}
+use Rattle.cxl_model.specs.Changes.{HaveSameOwnDecoders}
 use Rattle.cxl_model.proofs.Staying.{firsts}
 use Rattle.cxl_model.specs.Dealing.{slot_entry, slot_step, slot_steps}
 use Rattle.cxl_model.proofs.RangeRules.{ServesAt, served, no_decoder}
@@ -34,7 +34,7 @@ use Rattle.cxl_walk.specs.declared.own.Own.{Own}
 use Rattle.cxl_walk.specs.declared.steps.StepsAbove.{StepsAbove}
 use Rattle.cxl_walk.specs.Keeping.{own_for, own_decoders}
 use Rattle.cxl_walk.specs.Routes.{no_step}
-use Rattle.cxl_walk.specs.inner.Slots.{step_at, stepped}
+use Rattle.cxl_walk.specs.inner.Slots.{step_at}
 
 -- ---- finding by node
 
@@ -223,11 +223,3 @@ pub own_stays : (s t : System) (found : Found) → HaveSameOwnDecoders s t (regi
 own_stays s t found same =
     let nodes = same.nodes in
     λ k. own_by (λ n. (firsts s t (region_range found) same n).found k) (λ n. (firsts s t (region_range found) same n).place k) (length (nodes k))
-
--- the same decoders are the same own ones
-pub own_of_same : (s t : System) (r : Range) → HaveSameDecoders s t r → HaveSameOwnDecoders s t r
-own_of_same s t r same = record {
-  nodes = same.nodes;
-  there = λ n i d at has. same.there n i i d at has (omega arith) ∙ at;
-  back = λ n i d at has. same.back n i i d at has (omega arith) ∙ at;
-}

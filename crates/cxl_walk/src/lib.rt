@@ -23,4 +23,4 @@ pub use downward::down;
 pub use kept::{Kept, kept_routes_stay};
 pub use own::Own;
 pub use route::Route;
-pub use upward::{Host, up};
+pub use upward::{HostByte, up};

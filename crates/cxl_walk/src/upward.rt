@@ -28,7 +28,7 @@ use cxl_window::Window;
 
 /// A host address that leads to a device byte.
 #[derive(Clone, Copy, PartialEq, Eq)]
-pub struct Host {
+pub struct HostByte {
     /// The first host address of the endpoint's decoder.
     pub base: u64,
     pub h: u64,
@@ -37,7 +37,7 @@ pub struct Host {
 /// The least host address that leads to a byte of an endpoint's device, with the base of the endpoint's decoder, and
 /// `None` exactly where none does. (CXL HDM decoders; that the least is named where images lead several to one byte
 /// is this project's rule.)
-pub fn up(image: &Image, topo: &Topo, windows: &[Window], ep: u32, dpa: u64) -> Option<Host>
+pub fn up(image: &Image, topo: &Topo, windows: &[Window], ep: u32, dpa: u64) -> Option<HostByte>
     requires caps { HasCapsOf image.now topo.now.nodes }
     requires made { AreMadeWith windows.now (bridge_uids topo.now.nodes) }
     requires endpoint { is_endpoint_at topo.now.nodes ep ≡ true }
@@ -66,7 +66,7 @@ pub fn up(image: &Image, topo: &Topo, windows: &[Window], ep: u32, dpa: u64) -> 
 }
 
 /// The same, by the spans of the endpoint's decoders.
-fn least(image: &Image, topo: &Topo, windows: &[Window], ep: u32, dpa: u64) -> Option<Host>
+fn least(image: &Image, topo: &Topo, windows: &[Window], ep: u32, dpa: u64) -> Option<HostByte>
     requires caps { HasCapsOf image.now topo.now.nodes }
     requires made { AreMadeWith windows.now (bridge_uids topo.now.nodes) }
     requires endpoint { is_endpoint_at topo.now.nodes ep ≡ true }
@@ -97,7 +97,7 @@ fn first_way(
     ep: u32,
     dpa: u64,
     byte: &SpanByte,
-) -> Option<Host>
+) -> Option<HostByte>
     requires caps { HasCapsOf image.now topo.now.nodes }
     requires made { AreMadeWith windows.now (bridge_uids topo.now.nodes) }
     requires gran { byte.now.decoder.gran < 16 }
@@ -137,7 +137,7 @@ fn leads_to(
     ep: u32,
     dpa: u64,
     h: u64,
-) -> Option<Host>
+) -> Option<HostByte>
     requires caps { HasCapsOf image.now topo.now.nodes }
     requires made { AreMadeWith windows.now (bridge_uids topo.now.nodes) }
     ensures same { IfSome result (λ host. host.h ≡ h) }
@@ -145,7 +145,7 @@ fn leads_to(
     ensures none { IfNone result ((first : ℕ) → ComesTo (system_of image.now topo.now windows.now) ep dpa first h → ⊥) }
 {
     match down(image, topo, windows, h) {
-        Ok(route) if route.endpoint == ep && route.dpa == dpa => Some(Host {
+        Ok(route) if route.endpoint == ep && route.dpa == dpa => Some(HostByte {
             base: route.base,
             h,
         }),

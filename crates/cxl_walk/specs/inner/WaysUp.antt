@@ -6,7 +6,7 @@ use Rattle.cxl_regs.specs.Reading.{decoder_ways, decoder_granularity, span_lengt
 use Rattle.cxl_span.specs.Spans.{span_start_of}
 use Rattle.cxl_model.specs.System.{System}
 use Rattle.cxl_walk.specs.Hosts.{ComesTo}
-use Rattle.cxl_walk.specs.declared.upward.Host.{Host}
+use Rattle.cxl_walk.specs.declared.upward.HostByte.{HostByte}
 use Rattle.cxl_walk.specs.declared.spans.SpanByte.{SpanByte}
 
 -- decoder i is committed, and its span holds the byte, so far from where it starts
@@ -23,7 +23,7 @@ way_address d along way =
     d.base + (along / gran * decoder_ways d + way) * gran + along % gran
 
 -- the address of the first way by which one comes to the byte
-pub record IsFirstWay (s : System) (ep dpa : ℕ) (byte : SpanByte) (host : Host) : Type 0 where
+pub record IsFirstWay (s : System) (ep dpa : ℕ) (byte : SpanByte) (host : HostByte) : Type 0 where
   pub way : ℕ
   pub address : host.h ≡ way_address byte.decoder byte.along way
   pub comes : ComesTo s ep dpa host.base host.h

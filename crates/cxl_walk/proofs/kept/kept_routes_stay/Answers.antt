@@ -5,8 +5,9 @@ use Rattle.cxl_model.specs.System.{System}
 use Rattle.cxl_model.specs.Chain.{ChainEnd, Routed, Chain}
 use Rattle.cxl_walk.specs.Routes.{routing_of}
 use Rattle.cxl_model.specs.Regions.{region_range}
+use Rattle.cxl_model.proofs.Staying.{own_decoders as same_own}
 use Rattle.cxl_walk.specs.Keeping.{KeptFields, IsSlotRoute, IsKept, own_decoders}
-use Rattle.cxl_walk.proofs.Slots.{own_stays, own_of_same}
+use Rattle.cxl_walk.proofs.Slots.{own_stays}
 use Rattle.cxl_walk.proofs.kept.kept_routes_stay.Goals as goal
 
 -- the chain of each host byte of a region is the same in both images
@@ -31,6 +32,6 @@ returns-clause-own c = λ s t w found kept system other same is also. (
 
 pub returns-clause-below : goal.returns-clause-below
 returns-clause-below c = λ s t w found kept system other same keeps is. (
-  stays s t w found kept (λ h outcome from below. (c.routes_stay.ensures.chain s t w found h outcome system other same keeps is from below).0) (sym (own_stays s t found (own_of_same s t (region_range found) same))),
-  stays t s w found kept (λ h outcome from below. (c.routes_stay.ensures.chain s t w found h outcome system other same keeps is from below).1) (own_stays s t found (own_of_same s t (region_range found) same)),
+  stays s t w found kept (λ h outcome from below. (c.routes_stay.ensures.chain s t w found h outcome system other same keeps is from below).0) (sym (own_stays s t found (same_own s t (region_range found) same))),
+  stays t s w found kept (λ h outcome from below. (c.routes_stay.ensures.chain s t w found h outcome system other same keeps is from below).1) (own_stays s t found (same_own s t (region_range found) same)),
 )

@@ -4,21 +4,21 @@ use Rattle.cxl_window.specs.Fields.{WindowFields}
 use Rattle.cxl_model.specs.declared.found.Found.{Found}
 use Rattle.cxl_model.specs.System.{System, IsSystem, system_of}
 use Rattle.cxl_model.specs.Regions.{Carries}
-use Rattle.cxl_walk.specs.declared.upward.Host.{Host}
+use Rattle.cxl_walk.specs.declared.upward.HostByte.{HostByte}
 use Rattle.cxl_walk.specs.Hosts.{ComesTo, HasNoHost, IsLeastHost}
 use Rattle.cxl_walk.proofs.upward.up.Goals as goal
 
-some_of : (s : System) (ep dpa : ℕ) (o : Option Host) → IfNone o (HasNoHost s ep dpa) → (first h : ℕ) → ComesTo s ep dpa first h → IsSome o
+some_of : (s : System) (ep dpa : ℕ) (o : Option HostByte) → IfNone o (HasNoHost s ep dpa) → (first h : ℕ) → ComesTo s ep dpa first h → IsSome o
 some_of s ep dpa None none first h comes = absurd (none first h comes)
 some_of s ep dpa (Some host) none first h comes = refl
 
-each_of : (s : System) (ep dpa : ℕ) (o : Option Host) → IfSome o (IsLeastHost s ep dpa)
+each_of : (s : System) (ep dpa : ℕ) (o : Option HostByte) → IfSome o (IsLeastHost s ep dpa)
     → ((a first b other : ℕ) → ComesTo s ep dpa first a → ComesTo s ep dpa other b → a ≡ b)
     → IfSome o (λ host. (first h : ℕ) → ComesTo s ep dpa first h → h ≡ host.h)
 each_of s ep dpa None is one = tt
 each_of s ep dpa (Some host) is one = λ first h comes. one h first host.h host.base comes is.comes
 
-host_of : (s : System) (ep dpa : ℕ) (o : Option Host) → IfSome o (IsLeastHost s ep dpa) → IsSome o → (host : Host) × IsLeastHost s ep dpa host
+host_of : (s : System) (ep dpa : ℕ) (o : Option HostByte) → IfSome o (IsLeastHost s ep dpa) → IsSome o → (host : HostByte) × IsLeastHost s ep dpa host
 host_of s ep dpa None is some = cc
 host_of s ep dpa (Some host) is some = (host, is)
 
