@@ -1,7 +1,8 @@
 -- Reading one file behind others.
-use Rattle.std.proofs.Common.{◌≡◌, ◌≤◌, ◌⊎◌, ℕ, zero, suc, Option, Some, None, List, [], ◌∷◌, ◌++◌, take, refl, ap, subst, ◌∙◌, inl, inr, arith, append_assoc}
+use Rattle.std.proofs.Common.{◌≡◌, ◌≤◌, ◌⊎◌, ℕ, zero, suc, List, [], ◌∷◌, ◌++◌, take, refl, ap, subst, ◌∙◌, inl, inr, arith}
 use Rattle.cxl_io.specs.Fetch.{FetchState, AsksFor, IsTooLarge}
 use Rattle.cxl_io.specs.Told.{Told, told_with}
+use Rattle.cxl_io.proofs.Writes.{told_with-told_with}
 use Rattle.cxl_topo.specs.declared.node.Node.{Node}
 use Rattle.cxl_inputs.specs.File.{HasNoBytes, not_read, not_small, AsksForSome}
 use Rattle.cxl_inputs.specs.Host.{HasNoHost}
@@ -13,10 +14,6 @@ use Rattle.cxl_inputs.specs.ResetHost.{HasNoResetHost}
 use Rattle.cxl_inputs.specs.ResetHost as reset
 use Rattle.cxl_inputs.specs.Topology.{IsFaultyTreeFile, HasNoTree}
 use Rattle.cxl_inputs.specs.Topology as trees
-
-pub told_twice : {A : Type 0} (told : Option (List A)) (xs ys : List A) → told_with (told_with told xs) ys ≡ told_with told (xs ++ ys)
-told_twice None xs ys = refl
-told_twice (Some told) xs ys = ap (λ t. Some t) (append_assoc told xs ys)
 
 take_none : (count : ℕ) → take {A = List ℕ} count [] ≡ []
 take_none zero = refl
@@ -32,7 +29,7 @@ one_or_none file old new some = at some.count some.asks
 
 module _ (old mid new : FetchState) (names : List (List ℕ)) (asks : AsksFor old mid names) (told : mid.told ≡ old.told) (counts : old.faults ≤ mid.faults) where
   pub asks_behind : (more : List (List ℕ)) → AsksFor mid new more → AsksFor old new (names ++ more)
-  asks_behind more then = then ∙ ap (λ t. told_with t more) asks ∙ told_twice old.asked names more
+  asks_behind more then = then ∙ ap (λ t. told_with t more) asks ∙ told_with-told_with old.asked names more
 
   bytes_behind : (file : List ℕ) (outcome : Outcome) → HasNoBytes [] file mid new outcome → HasNoBytes names file old new outcome
   bytes_behind file outcome (not_read rose then e) = not_read (omega (arith, rose, counts)) (asks_behind (file ∷ []) then) e
