@@ -49,10 +49,7 @@ module _ (s : System) where
     pub word_is : (n : ℕ) (block : Registers) (node : Node) → slice_get s.blocks n ≡ Some block → slice_get s.nodes n ≡ Some node → not (block.cap == node.cap) ≡ breaks_caps s n 0
     word_is n block node here there = rw (eq-eqb (length s.blocks) (length s.nodes) count, here, there) refl
 
-  -- decoder 0 alone is named, and node 0 alone where the number of blocks is another
-  pub first_decoder : (n i : ℕ) → 1 ≤ i → breaks_caps s n i ≡ false
-  first_decoder n i other = rw (ne_eqb i 0 (omega arith)) refl
-
+  -- node 0 alone is named where the number of blocks is another
   pub first_node : (length s.blocks ≡ length s.nodes → ⊥) → (n i : ℕ) → 1 ≤ n → breaks_caps s n i ≡ false
   first_node differ n i other = rw (ne_eqb (length s.blocks) (length s.nodes) differ, ne_eqb n 0 (omega arith)) (and_false (i == 0))
 

@@ -1,8 +1,8 @@
 -- What K1 to K8 give of one node.
-use Rattle.std.proofs.Common.{◌≡◌, ℕ, ◌+◌, ◌%◌, ◌^◌, ◌<◌, ◌≤◌, ◌&&◌, Bool, true, false, List, length, Option, Some, None, refl, sym, ◌∙◌, inl, inr, if◌then◌else◌, arith}
+use Rattle.std.proofs.Common.{◌≡◌, ℕ, ◌+◌, ◌%◌, ◌^◌, ◌<◌, ◌≤◌, ◌&&◌, Bool, true, false, List, length, Option, Some, None, refl, sym, ◌∙◌, if◌then◌else◌, arith}
 use Rattle.std.specs.Prelude.{slice_get, IsSomeAnd, ◌==◌, nat_le}
 use Rattle.std.specs.Option.{option_map_or, option_and_then}
-use Rattle.std.proofs.lemmas.Bool.{and_parts, leb-true, le-leb, lt-leb, cases_lt, cases_eq, false≢true}
+use Rattle.std.proofs.lemmas.Bool.{and_parts, leb-true, le-leb, lt-leb, false≢true}
 use Rattle.std.proofs.lemmas.Option.{slice_get_within}
 use Rattle.cxl_topo.specs.declared.node.Node.{Node}
 use Rattle.cxl_enc.specs.Limits.{address_limit}
@@ -14,14 +14,14 @@ use Rattle.cxl_topo.specs.Tree.{is_endpoint_at}
 use Rattle.cxl_regs.specs.declared.decoder.Decoder.{Decoder}
 use Rattle.cxl_regs.specs.Registers.{Registers}
 use Rattle.cxl_regs.specs.declared.reading.Range.{Range}
-use Rattle.cxl_regs.specs.Reading.{has_range, span_length}
+use Rattle.cxl_regs.specs.Reading.{span_length}
 use Rattle.cxl_span.specs.Spans.{span_start_of}
-use Rattle.cxl_span.specs.Breaches.{breaks as block_breaks, BlockKeeps}
-use Rattle.cxl_span.proofs.RulesBroken.{no_other_rule}
+use Rattle.cxl_span.specs.Breaches.{BlockKeeps}
 use Rattle.cxl_model.specs.System.{System, decoders_at, decoder_at, ram_at, pmem_at}
 use Rattle.cxl_model.specs.Ranges.{span_kind}
 use Rattle.cxl_model.specs.Accepted.{IsOrderlySystem}
-use Rattle.cxl_model.proofs.OtherBlocks.{block_rule}
+use Rattle.cxl_model.proofs.RangeRules.{block_keeps}
+use Rattle.cxl_model.proofs.SpansCommitted.{OneHolder}
 use Rattle.cxl_check.specs.inner.Holders.{HasOneHolder}
 
 -- what is said of the ends of spans
@@ -29,12 +29,6 @@ abbrev pub SpansEnd : Type 0
 SpansEnd =
     (block : Registers) (ram pmem i : ℕ) (d : Decoder) → BlockKeeps block ram pmem → block.endpoint ≡ true → slice_get block.decoders i ≡ Some d → d.committed ≡ true
     → span_start_of block.decoders i + span_length d ≤ ram + pmem
-
--- what is said of the decoders with a range
-abbrev pub OneHolds : Type 0
-OneHolds =
-    (block : Registers) (ram pmem i j : ℕ) (r : Range) (d e : Decoder) → BlockKeeps block ram pmem → slice_get block.decoders i ≡ Some d → slice_get block.decoders j ≡ Some e
-    → has_range r d ≡ true → has_range r e ≡ true → i ≡ j
 
 -- the node of an endpoint, which is there
 endpoint_there : (nodes : List Node) (n : ℕ) → is_endpoint_at nodes n ≡ true → (node : Node) × (slice_get nodes n ≡ Some node) × (is_endpoint node.kind ≡ true)
@@ -67,24 +61,9 @@ module _ (s : System) (n i start : ℕ) (block : Registers) (d : Decoder) (ram :
   pmem_span above = sym (kind_by false (lt-leb (start + span_length d) ram above))
 
 module _ (s : System) (ready : IsOrderlySystem s) where
-  pub kept_block : (n : ℕ) (block : Registers) → slice_get s.blocks n ≡ Some block → BlockKeeps block (ram_at s n) (pmem_at s n)
-  kept_block n block here = record { each = each }
-    where
-      each : (rule i : ℕ) → block_breaks rule block (ram_at s n) (pmem_at s n) i ≡ false
-      each rule i =
-          elim (cases_lt rule 9) [
-            | inr high ↦ no_other_rule rule block (ram_at s n) (pmem_at s n) i (λ k from to same. omega arith)
-            | inl low ↦ elim (cases_eq rule 1) [
-              | inl one ↦ no_other_rule rule block (ram_at s n) (pmem_at s n) i (λ k from to same. omega arith)
-              | inr other ↦
-                  let kept = sym (block_rule s rule n i other low) ∙ ready.blocks rule n i low in
-                  rw here at kept
-            ]
-          ]
-
   -- a range is that of one decoder of a block at the most
-  pub holder : OneHolds → (n : ℕ) (block : Registers) (r : Range) → slice_get s.blocks n ≡ Some block → HasOneHolder r block.decoders
-  holder one n block r here = λ i j d e. one block (ram_at s n) (pmem_at s n) i j r d e (kept_block n block here)
+  pub holder : OneHolder → (n : ℕ) (block : Registers) (r : Range) → slice_get s.blocks n ≡ Some block → HasOneHolder r block.decoders
+  holder one n block r here = λ i j d e. one block (ram_at s n) (pmem_at s n) i j r d e (block_keeps s ready.blocks n block here)
 
   -- a block of an endpoint is an endpoint's
   pub endpoint_at : (n : ℕ) (block : Registers) → is_endpoint_at s.nodes n ≡ true → slice_get s.blocks n ≡ Some block → block.endpoint ≡ true
@@ -119,7 +98,7 @@ module _ (s : System) (ready : IsOrderlySystem s) where
   pub span_few : SpansEnd → (n i : ℕ) (block : Registers) (d : Decoder) → is_endpoint_at s.nodes n ≡ true → slice_get s.blocks n ≡ Some block → slice_get block.decoders i ≡ Some d → d.committed ≡ true
       → span_start_of block.decoders i + span_length d ≤ address_limit
   span_few ends n i block d endpoint here there committed =
-      let inside = ends block (ram_at s n) (pmem_at s n) i d (kept_block n block here) (endpoint_at n block endpoint here) there committed in
+      let inside = ends block (ram_at s n) (pmem_at s n) i d (block_keeps s ready.blocks n block here) (endpoint_at n block endpoint here) there committed in
       let few = capacity_few n in
       omega arith
 
@@ -127,5 +106,5 @@ module _ (s : System) (ready : IsOrderlySystem s) where
   pub ram_only : SpansEnd → (n i : ℕ) (block : Registers) (d : Decoder) → is_endpoint_at s.nodes n ≡ true → slice_get s.blocks n ≡ Some block → slice_get block.decoders i ≡ Some d → d.committed ≡ true
       → pmem_at s n ≡ 0 → Ram ≡ span_kind s n i
   ram_only ends n i block d endpoint here there committed none =
-      let inside = ends block (ram_at s n) (pmem_at s n) i d (kept_block n block here) (endpoint_at n block endpoint here) there committed in
+      let inside = ends block (ram_at s n) (pmem_at s n) i d (block_keeps s ready.blocks n block here) (endpoint_at n block endpoint here) there committed in
       ram_span s n i (span_start_of block.decoders i) block d (ram_at s n) here there (rw here refl) refl (omega (arith, inside, none))

@@ -2,7 +2,7 @@
 use Rattle.std.proofs.Common.{◌≡◌, ◌⊎◌, ℕ, ◌/◌, ◌%◌, ◌<◌, Bool, true, false, not, List, length, Option, Some, None, refl, sym, subst, ◌∙◌, inl, inr}
 use Rattle.std.specs.Prelude.{slice_get, IsSomeAnd, option_and_then, option_map}
 use Rattle.std.specs.Option.{option_map_or}
-use Rattle.std.proofs.lemmas.Bool.{cases_Bool, not-true, false≢true}
+use Rattle.std.proofs.lemmas.Bool.{cases_Bool, false≢true}
 use Rattle.std.proofs.lemmas.Option.{none-some, same_Some, slice_get_within}
 use Rattle.cxl_enc.proofs.Options.{some_and}
 use Rattle.cxl_enc.proofs.Lists.{item}
@@ -12,6 +12,7 @@ use Rattle.cxl_topo.specs.Kinds as kinds
 use Rattle.cxl_topo.specs.Tree.{forwards_at, is_port_at, is_endpoint_at, parent_of, child_of, holds_at}
 use Rattle.cxl_topo.specs.Faults.{IsTree}
 use Rattle.cxl_topo.specs.Laws.{AreTreeLaws}
+use Rattle.cxl_topo.proofs.Trees.{port_no_endpoint}
 use Rattle.cxl_regs.specs.declared.decoder.Decoder.{Decoder}
 use Rattle.cxl_regs.specs.declared.reading.Range.{Range}
 use Rattle.cxl_regs.specs.Reading.{decoder_ways, entry_at}
@@ -69,16 +70,11 @@ module _ (s : System) (w : WindowFields) (r : Range) (slot : ℕ) where
         let node = holding s.nodes n (λ node. node.forwards) forwards in
         rw node.1 (tree.placeholders n node.0 node.1 node.2).1
 
-    port_other : (n : ℕ) → is_port_at s.nodes n ≡ true → is_endpoint_at s.nodes n ≡ false
-    port_other n port =
-        let node = holding s.nodes n (λ node. not (kinds.is_endpoint node.kind)) port in
-        rw node.1 (not-true (kinds.is_endpoint node.0.kind) node.2)
-
     pub goes_or_ends : (n : ℕ) (place : Place) → LeadsTo s w r slot n place → Goes n place ⊎ Ends n place
     goes_or_ends _ _ (past_forwarding n child place forwards next leads) =
         inl (record { child = child; next = rw forwards next; within = inside s.nodes n (λ node. node.forwards) forwards; other = no_endpoint n forwards; leads = leads })
     goes_or_ends _ _ (past_port n child place own port leads_slot leads) =
-        inl (record { child = child; next = rw own (slot_child n child leads_slot); within = inside s.nodes n (λ node. not (kinds.is_endpoint node.kind)) port; other = port_other n port; leads = leads })
+        inl (record { child = child; next = rw own (slot_child n child leads_slot); within = inside s.nodes n (λ node. not (kinds.is_endpoint node.kind)) port; other = port_no_endpoint s.nodes n port; leads = leads })
     goes_or_ends _ _ (at_endpoint place endpoint start) = inr (record { here = refl; endpoint = endpoint; start = start })
 
     -- a slot leads to a node that there is

@@ -28,7 +28,7 @@ use Rattle.cxl_model.proofs.ImageLaws.{AcceptedLaw, ShareLaw}
 use Rattle.cxl_check.specs.declared.firsts.RangeKey.{RangeKey}
 use Rattle.cxl_check.specs.inner.Firsts.{key_cmp, range_at, ListsFirsts}
 use Rattle.cxl_check.specs.inner.Listing.{AreListed, IsWholeKey}
-use Rattle.cxl_check.proofs.Kept.{kept_block}
+use Rattle.cxl_model.proofs.RangeRules.{block_keeps}
 use Rattle.cxl_check.proofs.Keys.{lookup_place, mapped_at, filter_none, same_key, key_rises}
 use Rattle.cxl_check.proofs.Numbers.{found}
 use Rattle.cxl_check.proofs.WaysUp.{range_ways_some}
@@ -122,7 +122,7 @@ module _ (s : System) (ready : IsOrderlySystem s) (accepted : IsAccepted s) (fir
           let there : slice_get block.decoders at.0 ≡ Some d = slice_get_read block.decoders (length block.decoders) at.0 d refl at.2 (sym at.3) in
           let parts = and_parts (d.committed && (d.base == r.base)) (d.size == r.size) at.4 in
           let size : d.size ≡ r.size = eqb-true d.size r.size parts.1 in
-          let some = bytes block (ram_at s committed.0) (pmem_at s committed.0) at.0 d (kept_block s ready committed.0 block e) there (and_parts d.committed (d.base == r.base) parts.0).0 in
+          let some = bytes block (ram_at s committed.0) (pmem_at s committed.0) at.0 d (block_keeps s ready.blocks committed.0 block e) there (and_parts d.committed (d.base == r.base) parts.0).0 in
           omega arith
 
   -- the key of a region

@@ -1,15 +1,15 @@
 -- Where nodes stand.
 use Rattle.std.proofs.Common.{◌≡◌, ℕ, zero, suc, ◌<◌, Bool, true, false, List, [], ◌∷◌, length, Option, Some, None, refl, sym, ap, subst, ◌∙◌, inl, inr, arith}
-use Rattle.std.specs.Prelude.{slice_get, position}
+use Rattle.std.specs.Prelude.{position}
 use Rattle.std.proofs.lemmas.Bool.{cases_Bool, false≢true}
-use Rattle.std.proofs.lemmas.Option.{none-some, same_Some, slice_get_within, option_and_then_some}
+use Rattle.std.proofs.lemmas.Option.{none-some, same_Some, option_and_then_some}
 use Rattle.std.proofs.lemmas.List.Quantifiers.{position-Some}
 use Rattle.cxl_topo.specs.declared.node.Node.{Node}
 use Rattle.cxl_topo.specs.declared.node.Parent.{Parent}
 use Rattle.cxl_topo.specs.Tree.{is_bridge_at, is_endpoint_at, is_port_at, forwards_at, parent_of, child_of, least_child_of, landing_within}
 use Rattle.cxl_topo.specs.Faults.{IsTree}
 use Rattle.cxl_topo.specs.Laws.{AreTreeLaws}
-use Rattle.cxl_topo.proofs.Trees.{port_no_endpoint}
+use Rattle.cxl_topo.proofs.Trees.{port_no_endpoint, parent_within}
 
 -- a first place lies inside the list
 pub position_below : {X : Type 0} (p : X → Bool) (xs : List X) (i : ℕ) → position p xs ≡ Some i → i < length xs
@@ -35,9 +35,6 @@ pub record IsBelow (nodes : List Node) (n c : ℕ) : Type 0 where
   pub inside : c < length nodes
 
 module _ (nodes : List Node) (tree : IsTree nodes) where
-  there : (c : ℕ) (parent : Parent) → parent_of nodes c ≡ Some parent → c < length nodes
-  there c parent is = option_and_then_some (λ (node : Node). node.parent) (slice_get nodes c) parent is (λ node here _. slice_get_within nodes c node here)
-
   no_bridge : (c : ℕ) (parent : Parent) → parent_of nodes c ≡ Some parent → is_bridge_at nodes c ≡ false
   no_bridge c parent is =
       elim (cases_Bool (is_bridge_at nodes c)) [
@@ -47,7 +44,7 @@ module _ (nodes : List Node) (tree : IsTree nodes) where
 
   pub below_parent : (c : ℕ) (parent : Parent) → parent_of nodes c ≡ Some parent → IsBelow nodes parent.node c
   below_parent c parent is =
-      let inside = there c parent is in
+      let inside = parent_within nodes c parent is in
       let up = tree.others c inside (no_bridge c parent is) in
       let one : up.0 ≡ parent = same_Some up.0 parent (sym up.1 ∙ is) in
       let at : up.0.node ≡ parent.node = ap (λ (p : Parent). p.node) one in
@@ -62,6 +59,6 @@ module _ (nodes : List Node) (tree : IsTree nodes) where
       go None e = e
       go (Some c) e =
           let stands = (laws.children n port c).0 e in
-          let up = tree.others c (there c _ stands) (no_bridge c _ stands) in
+          let up = tree.others c (parent_within nodes c _ stands) (no_bridge c _ stands) in
           let one : up.0.node ≡ n = ap (λ (p : Parent). p.node) (same_Some up.0 _ (sym up.1 ∙ stands)) in
           absurd (false≢true (sym (port_no_endpoint nodes n (subst (λ (m : ℕ). is_port_at nodes m ≡ true) one up.2.port)) ∙ endpoint))
