@@ -70,6 +70,15 @@ fn lines(rt: &impl Abort, alloc: Global, text: &str) -> MemSource {
 
 const CREATED: &str = "created r0 window 0 base 0x100000000 size 0x20000000 gran 256 ways 2\n";
 
+const SHOWN: &str = "\
+region r0 ram window 0 base 0x100000000 size 0x20000000 gran 256 ways 2\n\
+node hb0 0 00000000 00000001 20000000 00000000 00001600 00000000 00000000\n\
+node hb1 0 00000000 00000001 20000000 00000000 00001600 00000000 00000000\n\
+node e0 0 00000000 00000001 20000000 00000000 00001610 00000000 00000000\n\
+node e1 0 00000000 00000001 20000000 00000000 00001610 00000000 00000000\n\
+slot 0 e0 0x0\n\
+slot 1 e1 0x0\n";
+
 #[test]
 fn a_session_is_kept(rt: HostRuntime) {
     let alloc = rt.alloc();
@@ -94,6 +103,10 @@ fn a_session_is_kept(rt: HostRuntime) {
     assert!(rt; out.bytes() == CREATED.as_bytes(), "the reply");
     assert!(rt; held.words().len() == 32, "eight words a decoder");
     assert!(rt; held.words()[0].off == 0x10, "a base comes first");
+    assert!(rt;
+        held.words()[1].off == 0x14 && held.words()[1].value == 1,
+        "it is 4 GiB"
+    );
     let image = held.image(alloc).expect(&rt, "memory");
     let status = held.act(
         alloc,
@@ -122,6 +135,10 @@ fn lines_are_passed(rt: HostRuntime) {
     };
     assert!(rt; out.bytes() == CREATED.as_bytes(), "the reply");
     assert!(rt; held.words().is_empty(), "no word is told");
+    let mut shown = sink(&rt, alloc);
+    let status = held.act(alloc, &mut lines(&rt, alloc, "show r0\n"), &mut shown);
+    assert!(rt; status.code() == 0, "status of a show");
+    assert!(rt; shown.bytes() == SHOWN.as_bytes(), "its registers");
     let status = held.act(alloc, &mut lines(&rt, alloc, "destroy r0\n"), &mut out);
     assert!(rt; status.code() == 0, "status");
     assert!(rt; held.words().len() == 4, "a word a decoder");
@@ -144,6 +161,56 @@ fn opens_again(rt: &impl Abort, alloc: Global, image: &[u8]) {
     assert!(rt; status.code() == 0, "status of a way down");
     let told = b"down 0x100000100 region auto0 slot 1 position 1 via hb1:0:0 endpoint e1 dpa 0x0\n";
     assert!(rt; out.bytes() == told.as_slice(), "the way down");
+}
+
+/// The image with a granularity code of the first endpoint's decoder that is not the window's.
+fn broken(rt: &impl Abort, alloc: Global, image: &[u8]) -> Vec<u8> {
+    let mut bytes = Vec::from_slice(alloc, image).expect(rt, "memory");
+    *bytes.get_mut(332).expect(rt, "a control word") = 0x11;
+    bytes
+}
+
+#[test]
+fn a_breach_is_told(rt: HostRuntime) {
+    let alloc = rt.alloc();
+    let mut out = sink(&rt, alloc);
+    let mut reset = files(&rt, alloc, b"");
+    let opened = Held::open_from_reset(alloc, "cedt", "topo", &mut reset, &mut out);
+    let Ok(mut held) = opened else {
+        assert!(rt; false, "it opens");
+        return;
+    };
+    let mut create = lines(&rt, alloc, "create r0 ram 0x20000000 e0 e1\n");
+    let _ = held.act(alloc, &mut create, &mut out);
+    let image = held.image(alloc).expect(&rt, "memory");
+    let mut files = files(&rt, alloc, &broken(&rt, alloc, &image));
+    let mut out = sink(&rt, alloc);
+    match Held::open_from_image(alloc, "cedt", "topo", "image", &mut files, &mut out) {
+        Ok(_) => assert!(rt; false, "the image has a breach"),
+        Err(status) => assert!(rt; status.code() == 8, "status"),
+    }
+    assert!(rt;
+        out.bytes() == b"breach K12 e0 0\n".as_slice(),
+        "the breach"
+    );
+}
+
+#[test]
+fn lines_that_fail_are_not_passed(rt: HostRuntime) {
+    let alloc = rt.alloc();
+    let mut out = sink(&rt, alloc);
+    let mut files = files(&rt, alloc, b"");
+    let opened = Held::open_from_reset(alloc, "cedt", "topo", &mut files, &mut out);
+    let Ok(held) = opened else {
+        assert!(rt; false, "it opens");
+        return;
+    };
+    let fails = Vec::from_slice(alloc, &[1]).expect(&rt, "memory");
+    let mut unread = MemSource::new(Vec::new(alloc), fails);
+    match held.pass(alloc, &mut unread, &mut out) {
+        Ok(_) => assert!(rt; false, "reading fails"),
+        Err(status) => assert!(rt; status.code() == 5, "status"),
+    }
 }
 
 #[test]
