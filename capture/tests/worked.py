@@ -21,7 +21,7 @@ def threes():
     texts, found = {}, []
     for file in sorted(os.path.join(folder, file) for folder in ROWS for file in os.listdir(folder)):
         with open(file, encoding="utf-8") as opened:
-            texts[file] = opened.read()
+            texts[file] = re.sub(r"(?m)^use [^;]*;", "", opened.read())  # three imported names are no row
     named = {file: dict(re.findall(rf"const ([A-Z0-9_]+): &str =\s*({TEXT});", text)) for file, text in texts.items()}
     everywhere = {name: text for names in named.values() for name, text in names.items()}
     for file, text in texts.items():
