@@ -1,5 +1,5 @@
 -- A table that is entered with one more node lists it too.
-use Rattle.std.proofs.Common.{◌≡◌, ℕ, suc, ◌+◌, ◌<◌, Bool, false, ◌&&◌, ◌==◌, cond, List, [], ◌∷◌, ◌++◌, length, get_or, take, Option, Some, None, refl, sym, ap, zero-add, ◌∙◌, inl, inr, arith}
+use Rattle.std.proofs.Common.{◌≡◌, ℕ, suc, ◌+◌, ◌<◌, Bool, true, false, ◌&&◌, ◌==◌, cond, List, [], ◌∷◌, ◌++◌, length, get_or, take, Option, Some, None, refl, sym, ap, zero-add, ◌∙◌, inl, inr, arith}
 use Rattle.std.specs.Prelude.{position}
 use Rattle.std.specs.List.{position_from, cons_option}
 use Rattle.std.specs.Option.{option_or, unwrap_or}
@@ -9,7 +9,9 @@ use Rattle.std.specs.Ordering.{is_eq, nat_cmp, ordering_then}
 use Rattle.std.specs.Cmp.{IsTotalOrder, Equal-is, unsigned_ties}
 use Rattle.std.specs.Map.{lookup}
 use Rattle.std.specs.BTreeMap.{BTreeMap, Updates, get, is_at}
-use Rattle.std.proofs.lemmas.Bool.{cases_Bool}
+use Rattle.std.specs.HashMap.{HashMap}
+use Rattle.std.specs.HashMap as hash
+use Rattle.std.proofs.lemmas.Bool.{cases_Bool, eqb-true}
 use Rattle.std.proofs.lemmas.List.{take_more, length-take}
 use Rattle.std.proofs.lemmas.List.Elements.{filter_map-append}
 use Rattle.std.proofs.lemmas.Iterator.Adapters.{position_from-zero}
@@ -17,11 +19,12 @@ use Rattle.cxl_enc.specs.Name.{IsName}
 use Rattle.cxl_topo.specs.declared.node.Node.{Node}
 use Rattle.cxl_topo.specs.declared.node.NodeKind.TheVariants.{Bridge}
 use Rattle.cxl_topo.specs.declared.node.Parent.{Parent}
+use Rattle.cxl_topo.specs.declared.tables.NameKey.{NameKey}
 use Rattle.cxl_topo.specs.Kinds.{uid_of}
 use Rattle.cxl_topo.specs.Tree.{stands_at, stands_under, is_bridge_with, is_named, bridge_uids}
-use Rattle.cxl_topo.specs.Keys.{Enters, name_key, name_cmp}
-use Rattle.cxl_topo.specs.inner.Tables.{port_cmp}
-use Rattle.cxl_topo.proofs.NameKeys.{name_ties}
+use Rattle.cxl_topo.specs.Keys.{Enters, name_key, name_eq}
+use Rattle.cxl_topo.specs.inner.Tables.{port_cmp, ListsNames}
+use Rattle.cxl_topo.proofs.NameKeys.{name_same}
 
 -- ---- the first number under a key stays
 
@@ -104,8 +107,29 @@ stands_under-own node own is n = rw is (unsigned_ties own.node n)
 pub is_bridge_with-own : (node : Node) (own : ℕ) → node.kind ≡ Bridge own → (uid : ℕ) → is_bridge_with uid node ≡ is_at (nat_cmp own) uid
 is_bridge_with-own node own is uid = rw is (unsigned_ties own uid)
 
-pub is_named-own : (node : Node) (name : List ℕ) → IsName node.name → IsName name → is_named name node ≡ is_at (name_cmp (name_key node.name)) (name_key name)
-is_named-own node name own is = name_ties node.name name own is
+-- ---- a name is entered
+
+-- equal keys are one
+one_key : (a b : NameKey) → name_eq a b ≡ true → a ≡ b
+one_key a b same = let numbers : a.0 ≡ b.0 = eqb-true a.0 b.0 same in λ i. record { 0 = numbers i }
+
+module _ {S : Type 0} (nodes : List Node) (i : ℕ) (node : Node) (lt : i < length nodes) (is : node ≡ get_or nodes i node) (own : IsName node.name) (old new : HashMap NameKey ℕ S) (before : ListsNames (take i nodes) old) where
+  -- the number stands under the node's name, which no earlier node has
+  pub name_entered : hash.get name_eq old (name_key node.name) ≡ None → ((q : NameKey) → hash.get name_eq new q ≡ cond (name_eq (name_key node.name) q) (Some i) (hash.get name_eq old q)) → ListsNames (take (i + 1) nodes) new
+  name_entered none updates name is_name = updates (name_key name) ∙ go ∙ sym (position_more (is_named name) nodes i node lt ∙ rw (← is))
+    where
+      fits : is_named name node ≡ name_eq (name_key node.name) (name_key name)
+      fits = name_same node.name name own is_name
+
+      left : (o : Option ℕ) → o ≡ option_or o None
+      left None = refl
+      left (Some j) = refl
+
+      go : cond (name_eq (name_key node.name) (name_key name)) (Some i) (hash.get name_eq old (name_key name)) ≡ option_or (position (is_named name) (take i nodes)) (cond (is_named name node) (Some i) None)
+      go = elim (cases_Bool (name_eq (name_key node.name) (name_key name))) [
+        | inl e ↦ rw (fits, e) (ap (λ (o : Option ℕ). option_or o (Some i)) (sym (sym (before name is_name) ∙ ap (hash.get name_eq old) (sym (one_key (name_key node.name) (name_key name) e)) ∙ none)))
+        | inr e ↦ rw (fits, e) (before name is_name ∙ left (position (is_named name) (take i nodes)))
+      ]
 
 -- ---- the UIDs of the bridges
 

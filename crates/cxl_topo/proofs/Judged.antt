@@ -1,6 +1,6 @@
 -- What the tests of a node say, one after another.
 use Rattle.std.proofs.Common.{◌≡◌, ℕ, zero, suc, ◌+◌, ◌*◌, ◌<◌, ◌≤◌, Bool, true, false, List, [], ◌∷◌, length, get_or, Option, Some, None, refl, sym, ap, ◌∙◌, inl, inr, arith}
-use Rattle.std.specs.Prelude.{slice_get, nat_le, nat_lt, IfSome, IfNone, if◌then◌else◌}
+use Rattle.std.specs.Prelude.{slice_get, nat_le, nat_lt, if◌then◌else◌}
 use Rattle.std.specs.Option.{option_map_or}
 use Rattle.std.proofs.lemmas.Bool.{cases_lt}
 use Rattle.std.proofs.lemmas.Option.{get_or_from_slice_get}
@@ -146,22 +146,12 @@ module _ (nodes : List Node) (i : ℕ) (node : Node) (here : slice_get nodes i �
         first = rw turn (none_up_to none one.place (omega arith) one.first);
       }
 
--- ---- both answers, for a caller
-
-pub none_from : (nodes : List Node) (i : ℕ) (node : Node) (result : Option TreeFault) → slice_get nodes i ≡ Some node → NoneBefore nodes (8 * i + 1) → result ≡ first_of (tests_of nodes i node) → IfNone result (NoneBefore nodes (8 * i + 9))
-none_from nodes i node None here none e = none_at nodes i node here none (sym e)
-none_from nodes i node (Some fault) here none e = tt
-
-pub some_from : (nodes : List Node) (i : ℕ) (node : Node) (result : Option TreeFault) → slice_get nodes i ≡ Some node → NoneBefore nodes (8 * i + 1) → result ≡ first_of (tests_of nodes i node) → IfSome result (λ fault. IsFirstTreeFault nodes fault)
-some_from nodes i node None here none e = tt
-some_from nodes i node (Some fault) here none e = some_at nodes i node here none fault (sym e)
-
 -- a test that holds gives its fault
-pub holds : {test : Bool} (fault others : Option TreeFault) → test ≡ true → fault ≡ if test then fault else others
+pub holds : {test : Bool} (fault others : Option TreeFault) → test ≡ true → (if test then fault else others) ≡ fault
 holds fault others is = rw is
 
 -- a test that does not leaves the answer to the others
-pub passes : {test : Bool} (fault others : Option TreeFault) {result : Option TreeFault} → test ≡ false → result ≡ others → result ≡ if test then fault else others
+pub passes : {test : Bool} (fault others : Option TreeFault) {result : Option TreeFault} → test ≡ false → others ≡ result → (if test then fault else others) ≡ result
 passes fault others is answer = rw is answer
 
 pub node_is : (nodes : List Node) (i : ℕ) (node own : Node) → i < length nodes → own ≡ get_or nodes i own → slice_get nodes i ≡ Some node → node ≡ own

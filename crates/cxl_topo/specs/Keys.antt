@@ -1,5 +1,5 @@
 -- Names as keys of a table, and what it is to enter a number under a key.
-use Rattle.std.specs.Prelude.{◌≡◌, ℕ, ◌+◌, ◌*◌, List, [], ◌∷◌, Some, None, if◌then◌else◌}
+use Rattle.std.specs.Prelude.{◌≡◌, ℕ, ◌+◌, ◌*◌, Bool, nat_eq, List, [], ◌∷◌, Some, None, if◌then◌else◌}
 use Rattle.std.specs.Option.{option_or}
 use Rattle.std.specs.declared.cmp.Ordering.{Ordering}
 use Rattle.std.specs.Ordering.{nat_cmp, on}
@@ -14,6 +14,10 @@ name_number (byte ∷ bytes) = byte + 256 * name_number bytes
 -- a name as a key of a table: the number whose digits to the base 256 are its bytes, the first one lowest
 abbrev pub name_key : List ℕ → NameKey
 name_key name = record { 0 = name_number name }
+
+-- two keys are equal where their numbers are
+abbrev pub name_eq : NameKey → NameKey → Bool
+name_eq = on (λ key. key.0) nat_eq
 
 -- the order of names as keys: by their numbers
 abbrev pub name_cmp : NameKey → NameKey → Ordering

@@ -1,14 +1,16 @@
 //! How a node is entered into the tables of a tree.
 
-ghost use Rattle.std.specs.Prelude.{◌≡◌, ◌<◌, ◌+◌, OnOk, length, take};
+ghost use Rattle.std.specs.Prelude.{◌≡◌, ◌<◌, ◌+◌, false, IfOk, OnOk, length, take, slice_get, Some};
 ghost use Rattle.cxl_topo.specs.Tree.{bridge_uids};
+ghost use Rattle.cxl_topo.specs.Faults.{has_taken_name};
 ghost use Rattle.cxl_topo.specs.Keys.{Enters};
 ghost use Rattle.cxl_topo.specs.inner.Tables.{ListsChildren, ListsLeastChildren, ListsNames, ListsBridges};
 
 use crate::node::{Node, NodeKind, Parent};
 use crate::tables::NameKey;
 use std::alloc::AllocError;
-use std::collections::BTreeMap;
+use std::collections::hash_map::Entry;
+use std::collections::{BTreeMap, HashMap};
 
 /// Enters the number of a node under a key, unless an earlier node has that key.
 pub fn enter_first<K: Ord + Copy>(
@@ -56,18 +58,26 @@ pub(crate) fn enter_least_child(
     }
 }
 
-/// Enters node `i` under its name.
+/// Enters node `i` under its name, unless an earlier node has that name, and tells whether one has.
 pub(crate) fn enter_name(
-    table: &mut BTreeMap<NameKey, u32>,
+    table: &mut HashMap<NameKey, u32>,
     nodes: &[Node],
     i: u32,
-) -> Result<(), AllocError>
+    node: &Node,
+) -> Result<bool, AllocError>
     requires below { i < length nodes.now }
+    requires here { slice_get nodes.now i ≡ Some node.now }
     requires listed { ListsNames (take i nodes.now) table.old }
-    ensures { OnOk result (ListsNames (take (i + 1) nodes.now) table.new) }
+    ensures taken { IfOk result (λ taken. taken ≡ has_taken_name (take i nodes.now) node.now) }
+    ensures entered { IfOk result (λ taken. taken ≡ false → ListsNames (take (i + 1) nodes.now) table.new) }
 {
-    let node = &nodes[i as usize];
-    enter_first(table, NameKey::of(&node.name), i)
+    match table.entry(NameKey::of(&node.name))? {
+        Entry::Occupied(_) => Ok(true),
+        Entry::Vacant(place) => {
+            place.insert(i);
+            Ok(false)
+        }
+    }
 }
 
 /// Enters node `i` under its UID, where it is a bridge.

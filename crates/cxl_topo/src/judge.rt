@@ -1,18 +1,19 @@
 //! The judge of a tree: the first fault of the least node.
 
-ghost use Rattle.std.specs.Prelude.{◌≡◌, ◌+◌, ◌*◌, ◌<◌, ◌≤◌, ℕ, List, slice_get, length, take, IfNone, IfSome, IfOk, IfErr, OnOk, ◌≢◌, false};
+ghost use Rattle.std.specs.Prelude.{◌≡◌, ◌+◌, ◌*◌, ◌<◌, ◌≤◌, ℕ, List, slice_get, length, take, IfOk, IfErr, OnOk, Some, None, ◌≢◌, false};
 ghost use Rattle.cxl_enc.specs.Limits.{node_limit};
 ghost use Rattle.cxl_topo.specs.declared.node.Node.{Node};
 ghost use Rattle.cxl_topo.specs.Tree.{is_port_at, forwards_at};
-ghost use Rattle.cxl_topo.specs.Faults.{are_too_many, lacks_parent, has_taken_port, forks, has_taken_name, has_taken_uid, is_too_deep, has_wrong_caps, has_wrong_capacity, is_capacity, NoneBefore, IsFirstTreeFault};
-ghost use Rattle.cxl_topo.specs.inner.Tables.{ListsChildren, ListsLeastChildren, ListsNames, ListsBridges};
+ghost use Rattle.cxl_topo.specs.Faults.{are_too_many, lacks_parent, has_taken_port, forks, has_taken_uid, is_too_deep, has_wrong_caps, has_wrong_capacity, is_capacity, NoneBefore, IsFirstTreeFault};
+ghost use Rattle.cxl_topo.specs.inner.Tables.{ListsChildren, ListsLeastChildren, ListsBridges};
 ghost use Rattle.cxl_topo.specs.inner.AreTables.{AreTables};
 ghost use Rattle.cxl_topo.specs.inner.Judging.{first_of, tests_of};
 
+use crate::enter::enter_name;
 use crate::fault::TreeFault;
 use crate::node::{Capacity, Node, NodeKind};
 use crate::paths::path_to;
-use crate::tables::{NameKey, Tables};
+use crate::tables::Tables;
 use cxl_enc::{ADDRESS_LIMIT, BRIDGE_LIMIT, NODE_LIMIT, PLACEHOLDER_CAP, UNIT, legal_cap};
 use std::alloc::Global;
 
@@ -33,62 +34,64 @@ pub(crate) fn tables_or_fault(alloc: Global, nodes: &[Node]) -> Result<Tables, T
     ensures none { OnOk result (NoneBefore nodes.now (8 * length nodes.now + 1)) }
     ensures fault { IfErr result (λ fault. fault ≢ TreeFault.Memory → IsFirstTreeFault nodes.now fault) }
 {
-    let mut tables = Tables::new(alloc);
+    let mut tables = Tables::new(alloc, nodes.len())?;
     for i in 0..nodes.len() as u32 {
-        if let Some(fault) = judge(nodes, i, &tables) {
-            return Err(fault);
-        }
-        tables.add(nodes, i)?;
+        judge(nodes, i, &mut tables)?;
     }
     Ok(tables)
 }
 
-/// The first fault of node `i`, where the earlier nodes have none.
-pub(crate) fn judge(nodes: &[Node], i: u32, tables: &Tables) -> Option<TreeFault>
+/// Enters node `i` after the earlier ones, or tells its first fault, where these have none.
+pub(crate) fn judge(nodes: &[Node], i: u32, tables: &mut Tables) -> Result<(), TreeFault>
     requires below { i < length nodes.now }
     requires few { length nodes.now ≤ node_limit }
     requires earlier { NoneBefore nodes.now (8 * i + 1) }
-    requires tables { AreTables (take i nodes.now) tables.now }
-    ensures none { IfNone result (NoneBefore nodes.now (8 * i + 9)) }
-    ensures some { IfSome result (λ fault. IsFirstTreeFault nodes.now fault) }
+    requires tables { AreTables (take i nodes.now) tables.old }
+    ensures tables { OnOk result (AreTables (take (i + 1) nodes.now) tables.new) }
+    ensures none { OnOk result (NoneBefore nodes.now (8 * i + 9)) }
+    ensures fault { IfErr result (λ fault. fault ≢ TreeFault.Memory → IsFirstTreeFault nodes.now fault) }
 {
-    first_fault(nodes, i, &nodes[i as usize], tables)
+    admit(nodes, i, &nodes[i as usize], tables)
 }
 
-fn first_fault(nodes: &[Node], i: u32, node: &Node, tables: &Tables) -> Option<TreeFault>
+// A name is looked for and entered at once; the rest of a node is entered when it has no fault.
+fn admit(nodes: &[Node], i: u32, node: &Node, tables: &mut Tables) -> Result<(), TreeFault>
     requires below { i < length nodes.now }
     requires few { length nodes.now ≤ node_limit }
     requires here { slice_get nodes.now i ≡ Some node.now }
     requires earlier { NoneBefore nodes.now (8 * i + 1) }
-    requires tables { AreTables (take i nodes.now) tables.now }
-    ensures { result ≡ first_of (tests_of nodes.now i node.now) }
+    requires tables { AreTables (take i nodes.now) tables.old }
+    ensures tables { OnOk result (AreTables (take (i + 1) nodes.now) tables.new) }
+    ensures none { OnOk result (first_of (tests_of nodes.now i node.now) ≡ None) }
+    ensures fault { IfErr result (λ fault. fault ≢ TreeFault.Memory → first_of (tests_of nodes.now i node.now) ≡ Some fault) }
 {
     let earlier = &nodes[..i as usize];
     if lacks_parent(earlier, node) {
-        return Some(TreeFault::NoParent(i));
+        return Err(TreeFault::NoParent(i));
     }
     if has_taken_port(tables, node) {
-        return Some(TreeFault::PortTaken(i));
+        return Err(TreeFault::PortTaken(i));
     }
     if forks(earlier, tables, node) {
-        return Some(TreeFault::Forks(i));
+        return Err(TreeFault::Forks(i));
     }
-    if has_taken_name(tables, node) {
-        return Some(TreeFault::NameTaken(i));
+    let name_taken = enter_name(&mut tables.names, nodes, i, node)?;
+    if name_taken {
+        return Err(TreeFault::NameTaken(i));
     }
     if has_taken_uid(tables, node) {
-        return Some(TreeFault::UidTaken(i));
+        return Err(TreeFault::UidTaken(i));
     }
     if is_too_deep(nodes, i, node) {
-        return Some(TreeFault::Depth(i));
+        return Err(TreeFault::Depth(i));
     }
     if has_wrong_caps(node) {
-        return Some(TreeFault::Caps(i));
+        return Err(TreeFault::Caps(i));
     }
     if has_wrong_capacity(node) {
-        return Some(TreeFault::Capacity(i));
+        return Err(TreeFault::Capacity(i));
     }
-    None
+    Ok(tables.add(nodes, i)?)
 }
 
 fn lacks_parent(earlier: &[Node], node: &Node) -> bool
@@ -135,12 +138,6 @@ fn forwards(nodes: &[Node], i: u32) -> bool
         Some(node) => node.forwards,
         None => false,
     }
-}
-
-fn has_taken_name(tables: &Tables, node: &Node) -> bool
-    ensures { (earlier : List Node) → ListsNames earlier tables.now.names → result ≡ has_taken_name earlier node.now }
-{
-    tables.names.get(&NameKey::of(&node.name)).is_some()
 }
 
 fn has_taken_uid(tables: &Tables, node: &Node) -> bool

@@ -1,17 +1,19 @@
 //! Where the nodes of a tree are found by name, by UID and by parent.
 
-ghost use Rattle.std.specs.Prelude.{◌≡◌, ◌+◌, ◌<◌, length, take, nat_eq, OnOk};
+ghost use Rattle.std.specs.Prelude.{◌≡◌, ◌+◌, ◌<◌, length, take, nat_eq, IfOk, OnOk};
 ghost use Rattle.std.specs.Cmp.{partial_order_from_own_ties};
-ghost use Rattle.std.specs.Cmp.Rules.{comparing};
+ghost use Rattle.std.specs.Cmp.Rules.{comparing, hashing};
+ghost use Rattle.std.specs.Hash as fed;
 ghost use Rattle.std.specs.Ordering.{nat_cmp, on, as_partial_cmp};
 ghost use Rattle.std.proofs.Common.{rules};
 
-use crate::enter::{add_uid, enter_bridge, enter_child, enter_least_child, enter_name};
+use crate::enter::{add_uid, enter_bridge, enter_child, enter_least_child};
 use crate::node::{Node, Parent};
 use cxl_enc::Name;
 use std::alloc::{AllocError, Global};
 use std::cmp::Ordering;
-use std::collections::BTreeMap;
+use std::collections::{BTreeMap, HashMap};
+use std::hash::{Hash, Hasher};
 
 /// A name as a key of a table: the number whose digits to the base 256 are its bytes, the first one
 /// lowest, so that one comparison tells two names apart.
@@ -30,6 +32,16 @@ impl PartialEq for NameKey {
 
 impl Eq for NameKey {
     ghost laws = { Prim.search (comparing, rules) };
+}
+
+impl Hash for NameKey {
+    ghost hash_input = { λ key. fed.u128 key.0 };
+
+    ghost respects_eq = { Prim.search (hashing, rules) };
+
+    fn hash<H: Hasher>(&self, state: &mut H) {
+        state.write_u128(self.0);
+    }
 }
 
 impl PartialOrd for NameKey {
@@ -88,37 +100,43 @@ impl NameKey {
 pub(crate) struct Tables {
     pub(crate) children: BTreeMap<Parent, u32>,
     pub(crate) least_children: BTreeMap<u32, u32>,
-    pub(crate) names: BTreeMap<NameKey, u32>,
+    pub(crate) names: HashMap<NameKey, u32>,
     pub(crate) bridges: BTreeMap<u32, u32>,
     pub(crate) uids: Vec<u32>,
 }
 
 impl Tables {
+    ghost use Rattle.cxl_topo.specs.Tree.{bridge_uids};
     ghost use Rattle.cxl_topo.specs.inner.AreTables.{AreTables};
+    ghost use Rattle.cxl_topo.specs.inner.Tables.{ListsChildren, ListsLeastChildren, ListsNames, ListsBridges};
     ghost use Rattle.std.specs.Prelude.{[]};
 
-    /// The tables of no nodes.
-    pub(crate) fn new(alloc: Global) -> Tables
-        ensures { AreTables [] result }
+    /// The tables of no nodes, with room for the names of so many.
+    pub(crate) fn new(alloc: Global, count: usize) -> Result<Tables, AllocError>
+        ensures { IfOk result (AreTables []) }
     {
-        Tables {
+        let names = HashMap::with_capacity(alloc, count)?;
+        Ok(Tables {
             children: BTreeMap::new(alloc),
             least_children: BTreeMap::new(alloc),
-            names: BTreeMap::new(alloc),
+            names,
             bridges: BTreeMap::new(alloc),
             uids: Vec::new(alloc),
-        }
+        })
     }
 
-    /// Enters node `i` after the earlier ones.
+    /// Enters node `i`, whose name is entered, after the earlier ones.
     pub(crate) fn add(&mut self, nodes: &[Node], i: u32) -> Result<(), AllocError>
         requires below { i < length nodes.now }
-        requires earlier { AreTables (take i nodes.now) self.old }
+        requires children { ListsChildren (take i nodes.now) self.old.children }
+        requires least_children { ListsLeastChildren (take i nodes.now) self.old.least_children }
+        requires names { ListsNames (take (i + 1) nodes.now) self.old.names }
+        requires bridges { ListsBridges (take i nodes.now) self.old.bridges }
+        requires uids { self.old.uids.items ≡ bridge_uids (take i nodes.now) }
         ensures { OnOk result (AreTables (take (i + 1) nodes.now) self.new) }
     {
         enter_child(&mut self.children, nodes, i)?;
         enter_least_child(&mut self.least_children, nodes, i)?;
-        enter_name(&mut self.names, nodes, i)?;
         enter_bridge(&mut self.bridges, nodes, i)?;
         add_uid(&mut self.uids, nodes, i)
     }

@@ -1,12 +1,17 @@
-use Rattle.std.proofs.lemmas.Result.{on_ok_weaker}
-use Rattle.cxl_topo.specs.Tree.{is_named}
-use Rattle.cxl_topo.specs.Keys.{name_key, name_cmp}
-use Rattle.cxl_topo.proofs.Entering.{entered_at, is_named-own}
+use Rattle.std.proofs.Common.{◌≡◌, cond, None, Some, sym, subst, arith}
+use Rattle.std.specs.HashMap as hash
+use Rattle.std.specs.HashMap.Entry.{map_with_value}
+use Rattle.std.proofs.lemmas.Option.{get_or_from_slice_get}
+use Rattle.cxl_topo.specs.declared.tables.NameKey.{NameKey}
+use Rattle.cxl_topo.specs.Keys.{name_eq, name_key}
+use Rattle.cxl_topo.proofs.Entering.{name_entered}
 use Rattle.cxl_topo.proofs.enter.enter_name.Goals as goal
 
-pub returns : goal.returns
-returns c =
-    let nodes = c.args.nodes.now in
-    let node = c.index-nodes-i in
-    let own = c.of.ensures.name in
-    on_ok_weaker c.enter_first.result (λ enters name is. entered_at name_cmp (λ key. is_named name) nodes c.args.i node.result c.requires.below node.is c.args.table.now c.enter_first.new.table (name_key node.result.name) (name_key name) (c.requires.listed name is) (is_named-own node.result name own is) (rw c.of.ensures.key at enters)) c.enter_first.ensures
+pub returns-in-Vacant-clause-entered : goal.returns-in-Vacant-clause-entered
+returns-in-Vacant-clause-entered c = λ _ name is.
+    let entry = c.in_ok-table.field-0 in
+    let node = c.args.node.now in
+    let none : hash.get name_eq c.args.table.now (name_key node.name) ≡ None = rw (← c.of.ensures.key) (rw c.in-Vacant.is at c.in_ok-table.ensures.found) in
+    let updates = subst (λ (key : NameKey). (q : NameKey) → hash.get name_eq (map_with_value entry c.args.i) q ≡ cond (name_eq key q) (Some c.args.i) (hash.get name_eq c.args.table.now q)) c.of.ensures.key (c.in_ok-table.ensures.update.0 c.args.i).0 in
+    let entered = name_entered c.args.nodes.now c.args.i node c.requires.below (sym (get_or_from_slice_get c.args.nodes.now c.args.i node node c.requires.here)) c.of.ensures.name c.args.table.now (map_with_value entry c.args.i) c.requires.listed none updates name is in
+    grind (arith, entered)

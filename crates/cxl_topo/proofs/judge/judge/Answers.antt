@@ -1,16 +1,25 @@
-use Rattle.std.proofs.Common.{◌∙◌, ap, Some}
-use Rattle.cxl_topo.proofs.Judged.{none_from, some_from, node_is}
+use Rattle.std.proofs.Common.{◌≡◌, ◌≢◌, ◌∙◌, ap, Some}
+use Rattle.std.proofs.lemmas.Result.{on_ok_weaker, IfErr-weaker}
+use Rattle.cxl_topo.specs.declared.fault.TreeFault.TheVariants.{Memory}
+use Rattle.cxl_topo.specs.Faults.{IsFirstTreeFault}
+use Rattle.cxl_topo.specs.inner.Judging.{first_of, tests_of}
+use Rattle.cxl_topo.proofs.Judged.{none_at, some_at, node_is}
 use Rattle.cxl_topo.proofs.There.{node_there}
 use Rattle.cxl_topo.proofs.judge.judge.Goals as goal
 
 pub returns-clause-none : goal.returns-clause-none
 returns-clause-none c =
-    let there = node_there c.args.nodes.now c.args.i c.requires.below in
-    let same = node_is c.args.nodes.now c.args.i there.0 c.index-nodes-i.result c.requires.below c.index-nodes-i.is there.1 in
-    none_from c.args.nodes.now c.args.i c.index-nodes-i.result c.first_fault.result (there.1 ∙ ap Some same) c.requires.earlier c.first_fault.ensures
+    let nodes = c.args.nodes.now in
+    let node = c.index-nodes-i in
+    let there = node_there nodes c.args.i c.requires.below in
+    let same = node_is nodes c.args.i there.0 node.result c.requires.below node.is there.1 in
+    on_ok_weaker c.admit.result (none_at nodes c.args.i node.result (there.1 ∙ ap Some same) c.requires.earlier) c.admit.ensures.none
 
-pub returns-clause-some : goal.returns-clause-some
-returns-clause-some c =
-    let there = node_there c.args.nodes.now c.args.i c.requires.below in
-    let same = node_is c.args.nodes.now c.args.i there.0 c.index-nodes-i.result c.requires.below c.index-nodes-i.is there.1 in
-    some_from c.args.nodes.now c.args.i c.index-nodes-i.result c.first_fault.result (there.1 ∙ ap Some same) c.requires.earlier c.first_fault.ensures
+pub returns-clause-fault : goal.returns-clause-fault
+returns-clause-fault c =
+    let nodes = c.args.nodes.now in
+    let node = c.index-nodes-i in
+    let there = node_there nodes c.args.i c.requires.below in
+    let same = node_is nodes c.args.i there.0 node.result c.requires.below node.is there.1 in
+    IfErr-weaker c.admit.result (λ fault. fault ≢ Memory → first_of (tests_of nodes c.args.i node.result) ≡ Some fault) (λ fault. fault ≢ Memory → IsFirstTreeFault nodes fault)
+    (λ fault holds other. some_at nodes c.args.i node.result (there.1 ∙ ap Some same) c.requires.earlier fault (holds other)) c.admit.ensures.fault

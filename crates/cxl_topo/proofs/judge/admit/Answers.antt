@@ -1,73 +1,73 @@
 use Rattle.std.proofs.Common.{refl, sym, ◌∙◌, take}
 use Rattle.cxl_topo.proofs.Judged.{holds, passes}
-use Rattle.cxl_topo.proofs.judge.first_fault.Goals as goal
+use Rattle.cxl_topo.proofs.judge.admit.Goals as goal
 
-pub returns-then-lacks_parent : goal.returns-then-lacks_parent
-returns-then-lacks_parent c =
+pub returns-then-lacks_parent-clause-fault : goal.returns-then-lacks_parent-clause-fault
+returns-then-lacks_parent-clause-fault c = λ _.
     holds _ _ (sym c.lacks_parent.ensures ∙ c.if-lacks_parent.true)
 
-pub returns-then-has_taken_port : goal.returns-then-has_taken_port
-returns-then-has_taken_port c =
+pub returns-then-has_taken_port-clause-fault : goal.returns-then-has_taken_port-clause-fault
+returns-then-has_taken_port-clause-fault c = λ _.
     passes _ _ (sym c.lacks_parent.ensures ∙ c.if-lacks_parent.false) (
     holds _ _ (sym (c.has_taken_port.ensures (take c.args.i c.args.nodes.now) c.requires.tables.children) ∙ c.if-has_taken_port.true))
 
-pub returns-then-forks : goal.returns-then-forks
-returns-then-forks c =
+pub returns-then-forks-clause-fault : goal.returns-then-forks-clause-fault
+returns-then-forks-clause-fault c = λ _.
     passes _ _ (sym c.lacks_parent.ensures ∙ c.if-lacks_parent.false) (
     passes _ _ (sym (c.has_taken_port.ensures (take c.args.i c.args.nodes.now) c.requires.tables.children) ∙ c.if-has_taken_port.false) (
     holds _ _ (sym (c.forks.ensures c.requires.tables.least_children) ∙ c.if-forks.true)))
 
-pub returns-then-has_taken_name : goal.returns-then-has_taken_name
-returns-then-has_taken_name c =
+pub returns-then-name_taken-clause-fault : goal.returns-then-name_taken-clause-fault
+returns-then-name_taken-clause-fault c = λ _.
     passes _ _ (sym c.lacks_parent.ensures ∙ c.if-lacks_parent.false) (
     passes _ _ (sym (c.has_taken_port.ensures (take c.args.i c.args.nodes.now) c.requires.tables.children) ∙ c.if-has_taken_port.false) (
     passes _ _ (sym (c.forks.ensures c.requires.tables.least_children) ∙ c.if-forks.false) (
-    holds _ _ (sym (c.has_taken_name.ensures (take c.args.i c.args.nodes.now) c.requires.tables.names) ∙ c.if-has_taken_name.true))))
+    holds _ _ (sym c.in_ok-name_taken.ensures.taken ∙ c.if-name_taken.true))))
 
-pub returns-then-has_taken_uid : goal.returns-then-has_taken_uid
-returns-then-has_taken_uid c =
+pub returns-then-has_taken_uid-clause-fault : goal.returns-then-has_taken_uid-clause-fault
+returns-then-has_taken_uid-clause-fault c = λ _.
     passes _ _ (sym c.lacks_parent.ensures ∙ c.if-lacks_parent.false) (
     passes _ _ (sym (c.has_taken_port.ensures (take c.args.i c.args.nodes.now) c.requires.tables.children) ∙ c.if-has_taken_port.false) (
     passes _ _ (sym (c.forks.ensures c.requires.tables.least_children) ∙ c.if-forks.false) (
-    passes _ _ (sym (c.has_taken_name.ensures (take c.args.i c.args.nodes.now) c.requires.tables.names) ∙ c.if-has_taken_name.false) (
+    passes _ _ (sym c.in_ok-name_taken.ensures.taken ∙ c.if-name_taken.false) (
     holds _ _ (sym (c.has_taken_uid.ensures (take c.args.i c.args.nodes.now) c.requires.tables.bridges) ∙ c.if-has_taken_uid.true)))))
 
-pub returns-then-is_too_deep : goal.returns-then-is_too_deep
-returns-then-is_too_deep c =
+pub returns-then-is_too_deep-clause-fault : goal.returns-then-is_too_deep-clause-fault
+returns-then-is_too_deep-clause-fault c = λ _.
     passes _ _ (sym c.lacks_parent.ensures ∙ c.if-lacks_parent.false) (
     passes _ _ (sym (c.has_taken_port.ensures (take c.args.i c.args.nodes.now) c.requires.tables.children) ∙ c.if-has_taken_port.false) (
     passes _ _ (sym (c.forks.ensures c.requires.tables.least_children) ∙ c.if-forks.false) (
-    passes _ _ (sym (c.has_taken_name.ensures (take c.args.i c.args.nodes.now) c.requires.tables.names) ∙ c.if-has_taken_name.false) (
+    passes _ _ (sym c.in_ok-name_taken.ensures.taken ∙ c.if-name_taken.false) (
     passes _ _ (sym (c.has_taken_uid.ensures (take c.args.i c.args.nodes.now) c.requires.tables.bridges) ∙ c.if-has_taken_uid.false) (
     holds _ _ (sym c.is_too_deep.ensures ∙ c.if-is_too_deep.true))))))
 
-pub returns-then-has_wrong_caps : goal.returns-then-has_wrong_caps
-returns-then-has_wrong_caps c =
+pub returns-then-has_wrong_caps-clause-fault : goal.returns-then-has_wrong_caps-clause-fault
+returns-then-has_wrong_caps-clause-fault c = λ _.
     passes _ _ (sym c.lacks_parent.ensures ∙ c.if-lacks_parent.false) (
     passes _ _ (sym (c.has_taken_port.ensures (take c.args.i c.args.nodes.now) c.requires.tables.children) ∙ c.if-has_taken_port.false) (
     passes _ _ (sym (c.forks.ensures c.requires.tables.least_children) ∙ c.if-forks.false) (
-    passes _ _ (sym (c.has_taken_name.ensures (take c.args.i c.args.nodes.now) c.requires.tables.names) ∙ c.if-has_taken_name.false) (
+    passes _ _ (sym c.in_ok-name_taken.ensures.taken ∙ c.if-name_taken.false) (
     passes _ _ (sym (c.has_taken_uid.ensures (take c.args.i c.args.nodes.now) c.requires.tables.bridges) ∙ c.if-has_taken_uid.false) (
     passes _ _ (sym c.is_too_deep.ensures ∙ c.if-is_too_deep.false) (
     holds _ _ (sym c.has_wrong_caps.ensures ∙ c.if-has_wrong_caps.true)))))))
 
-pub returns-then-has_wrong_capacity : goal.returns-then-has_wrong_capacity
-returns-then-has_wrong_capacity c =
+pub returns-then-has_wrong_capacity-clause-fault : goal.returns-then-has_wrong_capacity-clause-fault
+returns-then-has_wrong_capacity-clause-fault c = λ _.
     passes _ _ (sym c.lacks_parent.ensures ∙ c.if-lacks_parent.false) (
     passes _ _ (sym (c.has_taken_port.ensures (take c.args.i c.args.nodes.now) c.requires.tables.children) ∙ c.if-has_taken_port.false) (
     passes _ _ (sym (c.forks.ensures c.requires.tables.least_children) ∙ c.if-forks.false) (
-    passes _ _ (sym (c.has_taken_name.ensures (take c.args.i c.args.nodes.now) c.requires.tables.names) ∙ c.if-has_taken_name.false) (
+    passes _ _ (sym c.in_ok-name_taken.ensures.taken ∙ c.if-name_taken.false) (
     passes _ _ (sym (c.has_taken_uid.ensures (take c.args.i c.args.nodes.now) c.requires.tables.bridges) ∙ c.if-has_taken_uid.false) (
     passes _ _ (sym c.is_too_deep.ensures ∙ c.if-is_too_deep.false) (
     passes _ _ (sym c.has_wrong_caps.ensures ∙ c.if-has_wrong_caps.false) (
     holds _ _ (sym c.has_wrong_capacity.ensures ∙ c.if-has_wrong_capacity.true))))))))
 
-pub returns : goal.returns
-returns c =
+pub returns-clause-none : goal.returns-clause-none
+returns-clause-none c =
     passes _ _ (sym c.lacks_parent.ensures ∙ c.if-lacks_parent.false) (
     passes _ _ (sym (c.has_taken_port.ensures (take c.args.i c.args.nodes.now) c.requires.tables.children) ∙ c.if-has_taken_port.false) (
     passes _ _ (sym (c.forks.ensures c.requires.tables.least_children) ∙ c.if-forks.false) (
-    passes _ _ (sym (c.has_taken_name.ensures (take c.args.i c.args.nodes.now) c.requires.tables.names) ∙ c.if-has_taken_name.false) (
+    passes _ _ (sym c.in_ok-name_taken.ensures.taken ∙ c.if-name_taken.false) (
     passes _ _ (sym (c.has_taken_uid.ensures (take c.args.i c.args.nodes.now) c.requires.tables.bridges) ∙ c.if-has_taken_uid.false) (
     passes _ _ (sym c.is_too_deep.ensures ∙ c.if-is_too_deep.false) (
     passes _ _ (sym c.has_wrong_caps.ensures ∙ c.if-has_wrong_caps.false) (
