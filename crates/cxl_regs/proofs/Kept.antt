@@ -1,17 +1,17 @@
 -- A write keeps what every block is.
-use Rattle.std.proofs.Common.{◌≡◌, ℕ, ◌+◌, ◌%◌, ◌^◌, ◌<◌, ◌==◌, Bool, true, false, cond, ◌&&◌, ◌||◌, not, ltb, drop, Option, Some, None, refl, sym, ◌∙◌, subst, arith}
+use Rattle.std.proofs.Common.{◌≡◌, ℕ, ◌+◌, ◌%◌, ◌^◌, ◌<◌, ◌==◌, Bool, true, false, cond, ◌&&◌, ◌||◌, not, ltb, List, length, drop, get_or, Option, Some, None, refl, sym, ◌∙◌, subst, arith}
 use Rattle.std.proofs.lemmas.Bool.{false≢true}
 use Rattle.std.proofs.lemmas.List.{length-set}
 use Rattle.std.proofs.lemmas.List.Elements.{All-set}
-use Rattle.std.proofs.lemmas.Option.{slice_get_within, get_or_from_slice_get}
-use Rattle.std.specs.Prelude.{slice_get}
+use Rattle.std.proofs.lemmas.Option.{slice_get_within, slice_get-get_or, get_or_from_slice_get}
+use Rattle.std.specs.Prelude.{slice_get, slice_set}
 use Rattle.std.specs.Option.{option_map_or}
 use Rattle.cxl_enc.proofs.Tests.{and_false}
 use Rattle.cxl_regs.specs.declared.decoder.Decoder.{Decoder}
 use Rattle.cxl_regs.specs.declared.effect.CommitRule.{CommitRule}
 use Rattle.cxl_regs.specs.declared.effect.Effect.{Effect}
 use Rattle.cxl_regs.specs.declared.effect.Effect.TheVariants.{Written, Committed, Released, NotCommitted}
-use Rattle.cxl_regs.specs.Registers.{Registers, IsAligned, IsDecoder, IsBlock}
+use Rattle.cxl_regs.specs.Registers.{Registers, IsAligned, IsDecoder, IsBlock, reset_decoder}
 use Rattle.cxl_regs.specs.Words.{has_bit, top_bits, index_at, place_at}
 use Rattle.cxl_regs.specs.Rules.{first_broken_rule}
 use Rattle.cxl_regs.specs.Writes.{AfterWrite, dropped, any_committed, with_decoder, with_low, with_high, with_word, with_control, after_global, after_commit, after_control, after_release, after_decoder, after_word}
@@ -82,6 +82,15 @@ put_sound block i d effect is decoder = record {
     each = All-set (IsDecoder block.endpoint) block.decoders i d decoder is.each;
   };
 }
+
+-- a word of the decoder at a place, which is what `put_word` leaves
+pub word_block : (block : Registers) (i place v : ℕ) (new : List Decoder) → IsBlock block → v < 2 ^ 32 → i < length block.decoders
+    → ((d : Decoder) → slice_get block.decoders i ≡ Some d → new ≡ slice_set block.decoders i (with_word block.endpoint d place v)) → IsBlock (record block { decoders = new })
+word_block block i place v new is lt within written =
+    let d = get_or block.decoders i reset_decoder in
+    let is_new = written d (slice_get-get_or block.decoders i reset_decoder within) in
+    let decoder : IsDecoder block.endpoint d = is.each i reset_decoder within in
+    rw is_new (put_sound block i (with_word block.endpoint d place v) Written is (word_decoder block.endpoint d place v lt decoder)).block
 
 commit_sound : (block : Registers) (i : ℕ) (d : Decoder) (rule : Option CommitRule) → IsBlock block → IsDecoder block.endpoint d → IsSound (after_commit block i d rule)
 commit_sound block i d None is decoder = put_sound block i _ Committed is ((marks block.endpoint d decoder).marked true true false)

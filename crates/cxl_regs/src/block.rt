@@ -2,11 +2,12 @@
 
 ghost use Rattle.std.specs.Prelude.{◌≡◌, ◌<◌, ◌≤◌, ◌+◌, ◌-◌, ◌*◌, ◌/◌, ◌%◌, ◌↔◌, true, IsTrue, IsSome, Some, length, IfOk, IfSome, slice_get};
 ghost use Rattle.cxl_enc.specs.Caps.{is_legal_cap};
+ghost use Rattle.cxl_regs.specs.declared.decoder.Decoder.{Decoder};
 ghost use Rattle.cxl_regs.specs.Registers.{Registers, IsBlock, IsDecoder, IsSameShape, reset_block};
-ghost use Rattle.cxl_regs.specs.Words.{head_words, word_at, HasWord};
+ghost use Rattle.cxl_regs.specs.Words.{control, head_words, word_at, HasWord};
 ghost use Rattle.cxl_regs.specs.Rules.{first_broken_rule, before};
 ghost use Rattle.cxl_regs.specs.Reading.{committed_count};
-ghost use Rattle.cxl_regs.specs.Writes.{WritesWord, any_committed, with_decoder, after_global, after_decoder, after_release, after_control, after_commit};
+ghost use Rattle.cxl_regs.specs.Writes.{WritesWord, any_committed, with_decoder, with_word, after_global, after_decoder, after_release, after_control, after_commit};
 
 use crate::decoder::Decoder;
 use crate::decoders::Decoders;
@@ -14,7 +15,7 @@ use crate::effect::{CommitRule, Effect};
 use crate::offsets::{CONTROL, GLOBAL_CONTROL, HEAD_SIZE, RESERVED, index_at, place_at};
 use crate::rules::{breaks_order, breaks_rise, codes_ok, decoder_count, select_ok};
 use crate::words::words_of;
-use crate::writing::{with_control, with_word};
+use crate::writing::with_control;
 use cxl_enc::{Memory, has_bit};
 use std::alloc::Global;
 use std::marker::Model;
@@ -180,10 +181,10 @@ impl Block {
             return Effect::Dropped;
         }
         let index = index_at(off);
-        match self.find(index) {
-            Some(d) => self.write_decoder(index, d, place_at(off), value),
-            None => Effect::Dropped,
+        if index >= usize::from(self.decoders.count()) {
+            return Effect::Dropped;
         }
+        self.write_decoder(index, place_at(off), value)
     }
 
     fn find(&self, index: usize) -> Option<Decoder>
@@ -211,23 +212,49 @@ impl Block {
         Effect::Written
     }
 
-    /// A write to a word of a decoder.
-    fn write_decoder(&mut self, index: usize, d: Decoder, place: u32, value: u32) -> Effect
+    /// A write to a word of a decoder. One that is not its control is written in place.
+    fn write_decoder(&mut self, index: usize, place: u32, value: u32) -> Effect
         requires here { index < length self.old.decoders }
-        requires decoder { IsDecoder self.old.endpoint d }
-        ensures left { self.new ≡ (after_decoder self.old index d place value).block }
-        ensures told { result ≡ (after_decoder self.old index d place value).effect }
+        ensures left { (d : Decoder) → slice_get self.old.decoders index ≡ Some d
+            → self.new ≡ (after_decoder self.old index d place value).block }
+        ensures told { (d : Decoder) → slice_get self.old.decoders index ≡ Some d
+            → result ≡ (after_decoder self.old index d place value).effect }
     {
         match place {
             RESERVED => Effect::Dropped,
-            CONTROL if d.committed => self.release(index, d, value),
-            CONTROL => self.configure(index, d, value),
-            _ if d.committed => Effect::Dropped,
+            CONTROL => self.write_control(index, value),
+            _ if self.at(index).committed => Effect::Dropped,
             _ => {
-                self.put(index, with_word(d, self.endpoint, place, value));
+                self.put_word(index, place, value);
                 Effect::Written
             }
         }
+    }
+
+    /// A write to the control of a decoder. It stays a call, so that a write of another word saves no registers for it.
+    #[inline(never)]
+    fn write_control(&mut self, index: usize, value: u32) -> Effect
+        requires here { index < length self.old.decoders }
+        ensures left { (d : Decoder) → slice_get self.old.decoders index ≡ Some d
+            → self.new ≡ (after_decoder self.old index d control value).block }
+        ensures told { (d : Decoder) → slice_get self.old.decoders index ≡ Some d
+            → result ≡ (after_decoder self.old index d control value).effect }
+    {
+        let d = self.at(index);
+        if d.committed {
+            self.release(index, d, value)
+        } else {
+            self.configure(index, d, value)
+        }
+    }
+
+    /// The registers of a decoder.
+    fn at(&self, index: usize) -> Decoder
+        requires here { index < length self.now.decoders }
+        ensures value { slice_get self.now.decoders index ≡ Some result }
+        ensures decoder { IsDecoder self.now.endpoint result }
+    {
+        self.decoders.as_slice()[index]
     }
 
     /// A write to the control of a committed decoder.
@@ -326,6 +353,15 @@ impl Block {
             return None;
         }
         Some(self.decoders.as_slice()[index - 1])
+    }
+
+    /// Gives a word of a decoder, but not its control, the bits of `value` that count.
+    fn put_word(&mut self, index: usize, place: u32, value: u32)
+        requires here { index < length self.old.decoders }
+        ensures { (d : Decoder) → slice_get self.old.decoders index ≡ Some d
+            → self.new ≡ with_decoder self.old index (with_word self.old.endpoint d place value) }
+    {
+        self.decoders.put_word(index, self.endpoint, place, value);
     }
 
     /// Gives the decoder these registers.

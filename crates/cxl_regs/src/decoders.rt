@@ -1,9 +1,12 @@
 //! The decoders of one block, in place.
 
-ghost use Rattle.std.specs.Prelude.{◌≡◌, ◌<◌, ◌≤◌, length, replicate, slice_set};
+ghost use Rattle.std.specs.Prelude.{◌≡◌, ◌<◌, ◌≤◌, Some, length, replicate, slice_get, slice_set};
+ghost use Rattle.cxl_regs.specs.declared.decoder.Decoder.{Decoder};
 ghost use Rattle.cxl_regs.specs.Registers.{reset_decoder};
+ghost use Rattle.cxl_regs.specs.Writes.{with_word};
 
 use crate::decoder::Decoder;
+use crate::writing::write_word;
 use std::marker::Model;
 
 /// How many decoders a block has at the most. (CXL HDM decoder capability.)
@@ -84,5 +87,14 @@ impl Decoders {
     {
         let all = &mut self.all;
         all[index] = d;
+    }
+
+    /// Gives a word of a decoder, but not its control, the bits of `value` that count.
+    pub fn put_word(&mut self, index: usize, endpoint: bool, place: u32, value: u32)
+        requires { index < length self.old }
+        ensures { (d : Decoder) → slice_get self.old index ≡ Some d → self.new ≡ slice_set self.old index (with_word endpoint d place value) }
+    {
+        let all = &mut self.all;
+        write_word(&mut all[index], endpoint, place, value);
     }
 }

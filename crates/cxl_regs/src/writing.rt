@@ -9,36 +9,19 @@ use crate::offsets::{BASE_HIGH, BASE_LOW, SIZE_HIGH, SIZE_LOW, TAIL_LOW};
 use crate::words::{high_half, joined, low_half, top_bits};
 use cxl_enc::has_bit;
 
-/// The decoder whose word `place`, but not its control, took the bits of `value` that count.
-pub fn with_word(d: Decoder, endpoint: bool, place: u32, value: u32) -> Decoder
-    ensures value { result ≡ with_word endpoint d place value }
-    ensures decoder { IsDecoder endpoint d → IsDecoder endpoint result }
+/// Gives the decoder's word `place`, but not its control, the bits of `value` that count. No other register is touched.
+pub fn write_word(d: &mut Decoder, endpoint: bool, place: u32, value: u32)
+    ensures { d.new ≡ with_word endpoint d.old place value }
 {
     match place {
-        BASE_LOW => Decoder {
-            base: with_low(d.base, top_bits(value)),
-            ..d
-        },
-        BASE_HIGH => Decoder {
-            base: with_high(d.base, value),
-            ..d
-        },
-        SIZE_LOW => Decoder {
-            size: with_low(d.size, top_bits(value)),
-            ..d
-        },
-        SIZE_HIGH => Decoder {
-            size: with_high(d.size, value),
-            ..d
-        },
-        TAIL_LOW => Decoder {
-            tail: with_low(d.tail, if endpoint { top_bits(value) } else { value }),
-            ..d
-        },
-        _ => Decoder {
-            tail: with_high(d.tail, value),
-            ..d
-        },
+        BASE_LOW => d.base = with_low(d.base, top_bits(value)),
+        BASE_HIGH => d.base = with_high(d.base, value),
+        SIZE_LOW => d.size = with_low(d.size, top_bits(value)),
+        SIZE_HIGH => d.size = with_high(d.size, value),
+        TAIL_LOW => {
+            d.tail = with_low(d.tail, if endpoint { top_bits(value) } else { value });
+        }
+        _ => d.tail = with_high(d.tail, value),
     }
 }
 
