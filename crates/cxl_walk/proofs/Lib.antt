@@ -9,3 +9,4 @@ pub mod Slots
 pub mod OwnBlocks
 pub mod SlotRoutes
 pub mod Marks
+mod RegionLists

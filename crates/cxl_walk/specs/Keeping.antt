@@ -1,6 +1,7 @@
 -- The routes that are kept of a region: one for each slot, from which those of all its host bytes follow.
-use Rattle.std.specs.Prelude.{◌≡◌, ℕ, ◌+◌, ◌-◌, ◌<◌, ◌≤◌, List, length, drop, replicate, slice_get, Option, Some, option_map}
-use Rattle.std.specs.List.{filter_map, range_with_len}
+use Rattle.std.specs.Prelude.{◌≡◌, ℕ, ◌+◌, ◌-◌, ◌<◌, ◌≤◌, Vec, List, length, drop, replicate, slice_get, Option, Some, option_map}
+use Rattle.std.specs.Global.{Global}
+use Rattle.std.specs.List.{AllZip, filter_map, range_with_len}
 use Rattle.std.specs.Option.{option_and_then}
 use Rattle.cxl_topo.specs.declared.node.Node.{Node}
 use Rattle.cxl_regs.specs.declared.reading.Range.{Range}
@@ -26,6 +27,10 @@ own_for s r n =
 -- those of a region, in rising node order
 abbrev pub own_decoders : System → Found → List Own
 own_decoders s found = filter_map (own_for s (region_range found)) (range_with_len 0 (length s.nodes))
+
+-- these lists are those of each region
+abbrev pub AreOwnOfEach : System → List Found → List (Vec Own Global) → Type 0
+AreOwnOfEach s founds owns = AllZip (λ found own. own.items ≡ own_decoders s found) founds owns
 
 -- ---- what is kept
 

@@ -3,3 +3,4 @@ pub mod Calls
 pub mod WaysUp
 pub mod Slots
 pub mod Marks
+pub mod Gathering
