@@ -1,3 +1,4 @@
 pub mod Lines
 pub mod Codes
 pub mod DigitGlyphs
+pub mod Room

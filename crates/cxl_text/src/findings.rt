@@ -5,8 +5,8 @@ ghost use Rattle.cxl_reply.specs.Plans.{found_range_text, found_ways_text, found
 ghost use Rattle.cxl_reply.specs.Conditions.{IsToldFound};
 
 use crate::refusal::{put_short_line, put_whole_text};
-use crate::region::put_slots;
 use crate::short_text::ShortText;
+use crate::slots::put_slots;
 use crate::words::kind_text;
 use cxl_enc::Memory;
 use cxl_model::Found;

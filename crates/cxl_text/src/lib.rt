@@ -11,6 +11,7 @@ mod refusal;
 mod region;
 mod short_lines;
 mod short_text;
+mod slots;
 mod text;
 mod words;
 

@@ -1,17 +1,18 @@
 //! The text of a region with its registers and its slots.
 
 ghost use Rattle.std.specs.Prelude.{◌≡◌, ◌<◌, ◌≤◌, ◌++◌, All, codes, decimal, length, map, OnOk};
-ghost use Rattle.std.specs.List.{flat_map, enumerate_from};
+ghost use Rattle.std.specs.List.{flat_map};
 ghost use Rattle.cxl_reply.specs.Words.{line, kind_text, node_text, more_spaced};
-ghost use Rattle.cxl_reply.specs.Texts.{shown_head_text, layout_text, row_text, word_text, shown_words_text, slot_text, slots_text, shown_text};
+ghost use Rattle.cxl_reply.specs.Texts.{shown_head_text, layout_text, row_text, word_text, shown_words_text, shown_text};
 ghost use Rattle.cxl_reply.specs.Conditions.{IsToldFound, IsToldShown};
 
 use crate::refusal::{put_short_line, put_whole_text};
 use crate::short_text::ShortText;
+use crate::slots::put_slots;
 use crate::words::kind_text;
 use cxl_enc::{Memory, Name};
 use cxl_io::put_hex;
-use cxl_model::{Found, Place};
+use cxl_model::Found;
 use cxl_reply::{Shown, ShownRow};
 use cxl_topo::Topo;
 
@@ -107,26 +108,4 @@ fn put_more_words(out: &mut Vec<u8>, words: &[u32]) -> Result<(), Memory>
         put_hex(out, u64::from(*word), 8)?;
     }
     Ok(())
-}
-
-/// Appends a line for each slot.
-pub(crate) fn put_slots(out: &mut Vec<u8>, places: &[Place], topo: &Topo) -> Result<(), Memory>
-    requires { All (λ place. place.endpoint < length topo.now.nodes) places.now }
-    ensures { OnOk result (out.new.items ≡ out.old.items ++ slots_text topo.now.nodes places.now) }
-{
-    for (slot, place) in places.iter().enumerate() {
-        put_slot(out, slot, place, topo)?;
-    }
-    Ok(())
-}
-
-fn put_slot(out: &mut Vec<u8>, slot: usize, place: &Place, topo: &Topo) -> Result<(), Memory>
-    requires { place.now.endpoint < length topo.now.nodes }
-    ensures { OnOk result (out.new.items ≡ out.old.items ++ slot_text topo.now.nodes (slot, place.now)) }
-{
-    let mut line = ShortText::new();
-    line.put_long_number(b"slot ", slot as u64);
-    line.put_node(b" ", place.endpoint, topo);
-    line.put_hex(b" ", place.start);
-    put_short_line(out, &mut line)
 }
