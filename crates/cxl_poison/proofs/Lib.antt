@@ -11,3 +11,5 @@ pub mod SpanListing
 pub mod SomeTelling
 pub mod Named
 pub mod RunBytes
+pub mod SpansAt
+pub mod Untouched

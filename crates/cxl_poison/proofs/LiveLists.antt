@@ -24,6 +24,7 @@ use Rattle.cxl_model.specs.Regions.{IsRegion, IsRegionIn}
 use Rattle.cxl_model.specs.Bytes.{slot_length, LiesInSpan}
 use Rattle.cxl_poison.specs.declared.live.LiveSpan.{LiveSpan}
 use Rattle.cxl_poison.specs.Live.{IsSpanOf, IsLiveSpan, AreLiveSpans}
+use Rattle.cxl_poison.specs.inner.Spans.{AreSomeSpans}
 
 -- ---- what the laws say of the regions of one image
 
@@ -57,7 +58,7 @@ once_at xs i j x once at_i at_j =
 made : ℕ → ℕ → ℕ → ℕ → LiveSpan
 made region slot start len = record { region = region; slot = slot; start = start; len = len }
 
-abbrev region_of : LiveSpan → ℕ
+abbrev pub region_of : LiveSpan → ℕ
 region_of span = span.region
 
 same_span : (a b : LiveSpan) → a.region ≡ b.region → a.slot ≡ b.slot → a.start ≡ b.start → a.len ≡ b.len → a ≡ b
@@ -223,18 +224,17 @@ one_more live endpoint n spans found span one known there at here =
 
 -- ---- in the order of the device's bytes
 
-pub in_order : (live : List Found) (endpoint : ℕ) (spans sorted : List LiveSpan) → SharesNoByte live endpoint → AreSpansTo live endpoint (length live) spans
-    → IsPermutation spans sorted → IsNonDecreasingBy (λ (span : LiveSpan). span.start) sorted → AreLiveSpans live endpoint sorted
-in_order live endpoint spans sorted shares known moved up =
-    let each : All (IsLiveSpan live endpoint) sorted = All-permutation (IsLiveSpan live endpoint) spans sorted moved known.each in
+-- spans of regions that differ, put in order
+pub put_in_order : (live : List Found) (endpoint : ℕ) (spans sorted : List LiveSpan) → SharesNoByte live endpoint → All (IsLiveSpan live endpoint) spans → AllPairs (λ a b. a ≢ b) (map region_of spans)
+    → IsPermutation spans sorted → IsNonDecreasingBy (λ (span : LiveSpan). span.start) sorted → AreSomeSpans live endpoint sorted
+put_in_order live endpoint spans sorted shares known differ moved up =
+    let each : All (IsLiveSpan live endpoint) sorted = All-permutation (IsLiveSpan live endpoint) spans sorted moved known in
     let region : LiveSpan → ℕ = region_of in
-    let differ : AllPairs (λ a b. a ≢ b) (map region spans) = regions_differ spans known.rising in
     let still : AllPairs (λ a b. a ≢ b) (map region sorted) =
     AllPairs-from_IsDistinct Decides-eqb (map region sorted)
     (IsDistinct-IsPermutation nat_eq nat_eq_equiv.symm (map region spans) (map region sorted) (IsPermutation-map region spans sorted moved) (IsDistinct-from_AllPairs Decides-eqb (map region spans) differ)) in
     record {
       each = each;
-      all = λ span is. Contains-permutation spans sorted span moved (known.all span is (slice_get_within live span.region is.found is.there));
       rising = λ i j d less within.
           let a : LiveSpan = get_or sorted i d in
           let b : LiveSpan = get_or sorted j d in
@@ -253,4 +253,14 @@ in_order live endpoint spans sorted shares known moved up =
                 let b_some = shares.some b b_is in
                 absurd (other (shares.region a.start a b a_is b_is (omega arith) (omega (arith, a_some)) (omega (arith, starts)) (omega (arith, starts, b_some))))
           ];
+    }
+
+pub in_order : (live : List Found) (endpoint : ℕ) (spans sorted : List LiveSpan) → SharesNoByte live endpoint → AreSpansTo live endpoint (length live) spans
+    → IsPermutation spans sorted → IsNonDecreasingBy (λ (span : LiveSpan). span.start) sorted → AreLiveSpans live endpoint sorted
+in_order live endpoint spans sorted shares known moved up =
+    let some = put_in_order live endpoint spans sorted shares known.each (regions_differ spans known.rising) moved up in
+    record {
+      each = some.each;
+      all = λ span is. Contains-permutation spans sorted span moved (known.all span is (slice_get_within live span.region is.found is.there));
+      rising = some.rising;
     }

@@ -19,26 +19,26 @@ use Rattle.cxl_poison.proofs.Pieced.{WindowsThere, region_in}
 
 -- ---- the spans in order
 
-abbrev Rises : List LiveSpan → Type 0
+abbrev pub Rises : List LiveSpan → Type 0
 Rises spans = AllPairs (λ a b. a.start < b.start) spans
 
-rest_rises : (x : LiveSpan) (xs : List LiveSpan) → Rises (x ∷ xs) → Rises xs
+pub rest_rises : (x : LiveSpan) (xs : List LiveSpan) → Rises (x ∷ xs) → Rises xs
 rest_rises x xs rises i j d less within = rises (suc i) (suc j) d (omega arith) (omega arith)
 
-first_below : (x : LiveSpan) (xs : List LiveSpan) (z : LiveSpan) → Rises (x ∷ xs) → Contains xs z → x.start < z.start
+pub first_below : (x : LiveSpan) (xs : List LiveSpan) (z : LiveSpan) → Rises (x ∷ xs) → Contains xs z → x.start < z.start
 first_below x xs z rises at = subst (λ (y : LiveSpan). x.start < y.start) at.2 (rises 0 (suc at.0) z (omega arith) (let within = at.1 in omega arith))
 
-in_either : (x : LiveSpan) (xs : List LiveSpan) (z : LiveSpan) → Contains (x ∷ xs) z → (x ≡ z) ⊎ Contains xs z
+pub in_either : (x : LiveSpan) (xs : List LiveSpan) (z : LiveSpan) → Contains (x ∷ xs) z → (x ≡ z) ⊎ Contains xs z
 in_either x xs z at = go at.0 at.1 at.2
   where
     go : (k : ℕ) → k < length (x ∷ xs) → get_or (x ∷ xs) k z ≡ z → (x ≡ z) ⊎ Contains xs z
     go zero within is = inl is
     go (suc k) within is = inr (k, omega arith, is)
 
-at_first : (x : LiveSpan) (xs : List LiveSpan) → Contains (x ∷ xs) x
+pub at_first : (x : LiveSpan) (xs : List LiveSpan) → Contains (x ∷ xs) x
 at_first x xs = (0, omega arith, refl)
 
-in_rest : (x : LiveSpan) (xs : List LiveSpan) (z : LiveSpan) → Contains xs z → Contains (x ∷ xs) z
+pub in_rest : (x : LiveSpan) (xs : List LiveSpan) (z : LiveSpan) → Contains xs z → Contains (x ∷ xs) z
 in_rest x xs z at = let within = at.1 in (suc at.0, omega arith, at.2)
 
 -- the first spans of two lists of the same spans are one
@@ -55,7 +55,7 @@ same_first x y xs ys x_rises y_rises x_in y_in = elim (in_either y ys x x_in) [
 ]
 
 -- a span of the rest is none of the first
-rest_in : (x y : LiveSpan) (xs ys : List LiveSpan) → x ≡ y → Rises (x ∷ xs) → ((z : LiveSpan) → Contains (x ∷ xs) z → Contains (y ∷ ys) z) → (z : LiveSpan) → Contains xs z → Contains ys z
+pub rest_in : (x y : LiveSpan) (xs ys : List LiveSpan) → x ≡ y → Rises (x ∷ xs) → ((z : LiveSpan) → Contains (x ∷ xs) z → Contains (y ∷ ys) z) → (z : LiveSpan) → Contains xs z → Contains ys z
 rest_in x y xs ys same rises to z at = elim (in_either y ys z (to z (in_rest x xs z at))) [
   | inr there ↦ there
   | inl first ↦

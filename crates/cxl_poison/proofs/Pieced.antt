@@ -14,9 +14,10 @@ use Rattle.cxl_model.specs.System.{System, IsSystem}
 use Rattle.cxl_model.specs.Regions.{IsRegion, IsRegionIn}
 use Rattle.cxl_poison.specs.declared.live.LiveSpan.{LiveSpan}
 use Rattle.cxl_poison.specs.declared.cutting.Touched.{Touched}
-use Rattle.cxl_poison.specs.Live.{AreLive, IsSpanOf, IsLiveSpan, AreLiveSpans}
+use Rattle.cxl_poison.specs.Live.{AreLive, IsSpanOf, IsLiveSpan}
 use Rattle.cxl_poison.specs.Pieces.{touched_from, touched_end, stretch_size, cuts_between, cuts_of, has_byte, unmapped_count, ArePartsIn, ArePartsInAll, none, next}
 use Rattle.cxl_poison.specs.inner.Cuts.{IsSpanIn, touched_cuts}
+use Rattle.cxl_poison.specs.inner.Spans.{AreSomeSpans}
 use Rattle.cxl_poison.proofs.Unmapped.{LiesApart, one_mapped}
 
 -- ---- the region of a span, and its window
@@ -80,10 +81,10 @@ pub record Apart (live : List Found) (endpoint : ℕ) : Type 0 where
   pub bytes : (dpa : ℕ) (a b : LiveSpan) → IsLiveSpan live endpoint a → IsLiveSpan live endpoint b → a.start ≤ dpa → dpa < a.start + a.len → b.start ≤ dpa → dpa < b.start + b.len → a.region ≡ b.region
 
 -- a byte of a span, as numbers
-in_bytes : (span : LiveSpan) (dpa : ℕ) → has_byte span dpa ≡ true → (span.start ≤ dpa) × (dpa < span.start + span.len)
+pub in_bytes : (span : LiveSpan) (dpa : ℕ) → has_byte span dpa ≡ true → (span.start ≤ dpa) × (dpa < span.start + span.len)
 in_bytes span dpa is = let parts = and_parts (nat_le span.start dpa) (nat_lt dpa (span.start + span.len)) is in (leb-true span.start dpa parts.0, ltb-true dpa (span.start + span.len) parts.1)
 
-pub lies_apart : (live : List Found) (endpoint : ℕ) (spans : List LiveSpan) (k : ℕ) (x : LiveSpan) → Apart live endpoint → AreLiveSpans live endpoint spans → k < length spans → get_or spans k x ≡ x → LiesApart (take k spans) x
+pub lies_apart : (live : List Found) (endpoint : ℕ) (spans : List LiveSpan) (k : ℕ) (x : LiveSpan) → Apart live endpoint → AreSomeSpans live endpoint spans → k < length spans → get_or spans k x ≡ x → LiesApart (take k spans) x
 lies_apart live endpoint spans k x apart are within is dpa has =
     elim (cases_Bool (list_any (λ span. has_byte span dpa) (take k spans))) [
       | inr out ↦ out
@@ -106,7 +107,7 @@ lies_apart live endpoint spans k x apart are within is dpa has =
     ]
 
 -- of the bytes that lie in none of the first spans, the next one takes those that the record touches of it
-pub next_mapped : (entry : Entry) (live : List Found) (endpoint : ℕ) (spans : List LiveSpan) (k : ℕ) (d : LiveSpan) → Apart live endpoint → AreLiveSpans live endpoint spans → k < length spans
+pub next_mapped : (entry : Entry) (live : List Found) (endpoint : ℕ) (spans : List LiveSpan) (k : ℕ) (d : LiveSpan) → Apart live endpoint → AreSomeSpans live endpoint spans → k < length spans
     → unmapped_count entry (take k spans) ≡ unmapped_count entry (take (k + 1) spans) + (touched_end entry (get_or spans k d) - touched_from entry (get_or spans k d))
 next_mapped entry live endpoint spans k d apart are within =
     let x : LiveSpan = get_or spans k d in

@@ -16,7 +16,7 @@ use Rattle.cxl_poison.specs.inner.Cuts.{HasTouched, touched_cuts, first_stretch,
 
 -- ---- lists of numbers
 
-none_of : {X : Type 0} (f : ℕ → Option X) (a n : ℕ) → ((k : ℕ) → a ≤ k → k < a + n → f k ≡ None) → filter_map f (range_with_len a n) ≡ []
+pub none_of : {X : Type 0} (f : ℕ → Option X) (a n : ℕ) → ((k : ℕ) → a ≤ k → k < a + n → f k ≡ None) → filter_map f (range_with_len a n) ≡ []
 none_of f a zero none = refl
 none_of f a (suc n) none = rw (none a (omega arith) (omega arith)) (none_of f (a + 1) n (λ k from below. none k (omega arith) (omega arith)))
 
@@ -76,7 +76,7 @@ module _ (from end size len : ℕ) (some : 0 < size) (whole : len / size * size 
 
 -- ---- the cuts
 
-empty_cut : (from end : ℕ) → end ≤ from → cut_between from end ≡ None
+pub empty_cut : (from end : ℕ) → end ≤ from → cut_between from end ≡ None
 empty_cut from end past = rw (le-ltb from end past) refl
 
 some_cut : (from end : ℕ) → from < end → cut_between from end ≡ Some (record { from = from; len = end - from })

@@ -82,6 +82,16 @@ one_mapped entry spans x apart =
     count_split (is_unmapped spans) (is_unmapped (spans ++ x ∷ [])) (has_byte x) split (range_with_len entry.dpa (record_bytes entry))
     ∙ ap (λ (n : ℕ). unmapped_count entry (spans ++ x ∷ []) + n) (count_in x entry.dpa (record_bytes entry))
 
+-- tests that agree on a range count as many of it
+pub count_same : (p q : ℕ → Bool) (a n : ℕ) → ((x : ℕ) → a ≤ x → x < a + n → p x ≡ q x) → count_by p (range_with_len a n) ≡ count_by q (range_with_len a n)
+count_same p q a zero same = refl
+count_same p q a (suc n) same =
+    let one = counted p a (range_with_len (a + 1) n) in
+    let other = counted q a (range_with_len (a + 1) n) in
+    let own = weight (p a) (q a) (same a (omega arith) (omega arith)) in
+    let rest = count_same p q (a + 1) n (λ x from below. same x (omega (arith, from)) (omega (arith, below))) in
+    omega (arith, one, other, own, rest)
+
 count_any : (xs : List ℕ) → count_by (λ x. true) xs ≡ length xs
 count_any [] = refl
 count_any (x ∷ xs) = counted (λ x. true) x xs ∙ (let rest = count_any xs in omega (arith, rest))

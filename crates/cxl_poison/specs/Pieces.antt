@@ -1,6 +1,6 @@
 -- Which host bytes a poison record touches, and how they are told (CXL media error record; that they are told in runs
 -- and wide pieces is this project's rule).
-use Rattle.std.specs.Prelude.{◌≡◌, ℕ, ◌+◌, ◌-◌, ◌*◌, ◌/◌, ◌<◌, ◌≤◌, ◌==◌, nat_lt, nat_le, ◌&&◌, not, max, min, if◌then◌else◌, Bool, List, [], ◌∷◌, ◌++◌, length, map, count_by, slice_get, Option, Some, None, IsSomeAnd}
+use Rattle.std.specs.Prelude.{◌≡◌, ℕ, ◌+◌, ◌-◌, ◌*◌, ◌/◌, ◌<◌, ◌≤◌, ◌==◌, nat_lt, nat_le, ◌&&◌, ◌≢◌, not, max, min, if◌then◌else◌, Bool, List, [], ◌∷◌, ◌++◌, length, map, count_by, slice_get, Option, Some, None, IsSomeAnd, All, AllPairs, Contains}
 use Rattle.std.specs.List.{range_with_len, filter_map, list_any}
 use Rattle.cxl_num.specs.Interleave.{chunk_size}
 use Rattle.cxl_window.specs.Fields.{WindowFields}
@@ -13,7 +13,7 @@ use Rattle.cxl_model.specs.declared.poison.Part.TheVariants as parts
 use Rattle.cxl_model.specs.declared.poison.Poisoned.{Poisoned}
 use Rattle.cxl_model.specs.Regions.{Carries}
 use Rattle.cxl_poison.specs.declared.live.LiveSpan.{LiveSpan}
-use Rattle.cxl_poison.specs.Live.{AreLiveSpans}
+use Rattle.cxl_poison.specs.Live.{IsLiveSpan, AreLiveSpans}
 
 -- ---- the record's bytes in a span
 
@@ -131,3 +131,15 @@ pub record ArePoisonedPieces (entry : Entry) (endpoint : ℕ) (live : List Found
   pub listed : AreLiveSpans live endpoint spans
   pub are : ArePartsInAll entry endpoint live windows spans poisoned.parts
   pub unmapped : poisoned.unmapped ≡ unmapped_count entry spans
+
+-- ---- the regions to look at
+
+-- the record touches some byte of the span
+abbrev pub Touches : Entry → LiveSpan → Type 0
+Touches entry span = touched_from entry span < touched_end entry span
+
+-- places of live regions, each once, with those of all whose span of the device the record touches
+pub record AreTouchedPlaces (entry : Entry) (endpoint : ℕ) (live : List Found) (places : List ℕ) : Type 0 where
+  pub each : All (λ place. place < length live) places
+  pub once : AllPairs (λ a b. a ≢ b) places
+  pub all : (span : LiveSpan) → IsLiveSpan live endpoint span → Touches entry span → Contains places span.region

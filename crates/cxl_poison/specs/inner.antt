@@ -1,2 +1,3 @@
 -- Definitions that only the inner calls and the proofs speak of.
 pub mod Cuts
+pub mod Spans

@@ -16,4 +16,4 @@ pub use laws::{
     records_are_told_in_one_way, runs_carry_the_touched_bytes,
 };
 pub use list::read_list;
-pub use touching::pieces;
+pub use touching::{pieces, pieces_at};

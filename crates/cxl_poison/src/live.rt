@@ -1,11 +1,12 @@
 //! The live spans of a device.
 
-ghost use Rattle.std.specs.Prelude.{◌≡◌, List, IfOk, IfSome, IfNone};
+ghost use Rattle.std.specs.Prelude.{◌≡◌, ◌≢◌, ◌<◌, List, length, All, AllPairs, IfOk, IfSome, IfNone};
 ghost use Rattle.cxl_window.specs.Fields.{WindowFields};
 ghost use Rattle.cxl_model.specs.System.{System, IsSystem};
 ghost use Rattle.cxl_model.specs.Regions.{IsRegion};
 ghost use Rattle.cxl_poison.specs.declared.live.LiveSpan.{LiveSpan};
 ghost use Rattle.cxl_poison.specs.Live.{AreLive, IsSpanOf, AreLiveSpans};
+ghost use Rattle.cxl_poison.specs.inner.Spans.{AreSpansAt};
 
 use crate::apart::live_spans_are_apart;
 use cxl_model::{Found, Memory, slot_on};
@@ -36,6 +37,29 @@ pub(crate) fn live_spans(
     let mut spans = Vec::new(alloc);
     for (region, found) in live.iter().enumerate() {
         if let Some(span) = span_on(found, region as u32, endpoint) {
+            spans.push(span)?;
+        }
+    }
+    spans.sort_by_key(|span| span.start)?;
+    Ok(spans)
+}
+
+/// The spans that the live regions at these places have of the endpoint's device, in the order of its bytes. Takes memory.
+pub(crate) fn spans_at(
+    alloc: Global,
+    endpoint: u32,
+    live: &[Found],
+    places: &[u32],
+) -> Result<Vec<LiveSpan>, Memory>
+    requires live { (windows : List WindowFields) × AreLive windows live.now }
+    requires each { All (λ place. place < length live.now) places.now }
+    requires once { AllPairs (λ a b. a ≢ b) places.now }
+    ensures { IfOk result (λ spans. AreSpansAt live.now endpoint places.now spans.items) }
+{
+    live_spans_are_apart();
+    let mut spans = Vec::new(alloc);
+    for place in places {
+        if let Some(span) = span_on(&live[*place as usize], *place, endpoint) {
             spans.push(span)?;
         }
     }

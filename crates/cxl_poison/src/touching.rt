@@ -2,13 +2,14 @@
 
 ghost use Rattle.std.specs.Prelude.{◌≡◌, ℕ, ◌+◌, ◌-◌, ◌<◌, ◌≤◌, length, All, IfOk};
 ghost use Rattle.cxl_model.specs.Poison.{region_of};
-ghost use Rattle.cxl_poison.specs.Live.{AreLive, IsLiveSpan, AreLiveSpans};
-ghost use Rattle.cxl_poison.specs.Pieces.{touched_from, touched_end, stretch_size, ArePoisonedPieces};
+ghost use Rattle.cxl_poison.specs.Live.{AreLive, IsLiveSpan};
+ghost use Rattle.cxl_poison.specs.Pieces.{touched_from, touched_end, stretch_size, ArePoisonedPieces, AreTouchedPlaces};
 ghost use Rattle.cxl_poison.specs.inner.Cuts.{IsSpanIn, IsTouched, AddsTouched};
+ghost use Rattle.cxl_poison.specs.inner.Spans.{AreTouchedSpans};
 
 use crate::apart::live_spans_are_apart;
 use crate::cutting::{Touched, put_span};
-use crate::live::{LiveSpan, live_spans};
+use crate::live::{LiveSpan, live_spans, spans_at};
 use cxl_enc::chunk_size;
 use cxl_model::{
     Entry, FixedList, Found, Memory, Part, Poisoned, regions_lie_in_windows,
@@ -37,7 +38,26 @@ pub fn pieces(
     pieces_in(alloc, entry, endpoint, live, windows, &spans)
 }
 
-/// What the record touches of the device's live spans.
+/// The same where it is known which live regions the record can touch: those at these places of the live ones. No other
+/// is looked at. Takes memory.
+pub fn pieces_at(
+    alloc: Global,
+    entry: &Entry,
+    endpoint: u32,
+    live: &[Found],
+    places: &[u32],
+    windows: &[Window],
+) -> Result<Poisoned, Memory>
+    requires live { AreLive windows.now live.now }
+    requires places { AreTouchedPlaces entry.now endpoint live.now places.now }
+    ensures pieces { IfOk result (λ poisoned. ArePoisonedPieces entry.now endpoint live.now windows.now poisoned) }
+    ensures regions { IfOk result (λ poisoned. All (λ part. region_of part < length live.now) poisoned.parts) }
+{
+    let spans = spans_at(alloc, endpoint, live, places)?;
+    pieces_in(alloc, entry, endpoint, live, windows, &spans)
+}
+
+/// What the record touches of the device's live spans, of which these are all that it touches, and maybe others.
 fn pieces_in(
     alloc: Global,
     entry: &Entry,
@@ -47,11 +67,12 @@ fn pieces_in(
     spans: &[LiveSpan],
 ) -> Result<Poisoned, Memory>
     requires live { AreLive windows.now live.now }
-    requires spans { AreLiveSpans live.now endpoint spans.now }
+    requires spans { AreTouchedSpans entry.now endpoint live.now spans.now }
     ensures pieces { IfOk result (λ poisoned. ArePoisonedPieces entry.now endpoint live.now windows.now poisoned) }
     ensures regions { IfOk result (λ poisoned. All (λ part. region_of part < length live.now) poisoned.parts) }
 {
     live_spans_are_apart();
+    regions_lie_in_windows();
     let mut parts = Vec::new(alloc);
     let mut unmapped = 64 * u64::from(entry.units);
     for span in spans {

@@ -1,0 +1,10 @@
+use Rattle.std.proofs.Common.{List, sym, subst}
+use Rattle.cxl_poison.specs.declared.live.LiveSpan.{LiveSpan}
+use Rattle.cxl_poison.specs.inner.Spans.{AreTouchedSpans}
+use Rattle.cxl_poison.proofs.touching.pieces.Goals as goal
+
+pub pieces_in-requires-clause-spans : goal.pieces_in-requires-clause-spans
+pieces_in-requires-clause-spans c =
+    let spans = c.in_ok-spans.ensures in
+    subst (λ (xs : List LiveSpan). AreTouchedSpans c.args.entry.now c.args.endpoint c.args.live.now xs) (sym c.deref.ensures.value)
+    (record { some = record { each = spans.each; rising = spans.rising }; all = λ span is _. spans.all span is })
