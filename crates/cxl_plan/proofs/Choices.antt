@@ -1,14 +1,26 @@
 -- One window after the other.
-use Rattle.std.proofs.Common.{◌≡◌, ℕ, zero, suc, ◌+◌, ◌<◌, List, [], ◌∷◌, ◌++◌, length, Some, refl, sym, ap, subst, ◌∙◌, inl, inr, arith}
-use Rattle.std.specs.Prelude.{slice_get}
-use Rattle.std.proofs.lemmas.Bool.{cases_lt}
+use Rattle.std.proofs.Common.{◌≡◌, ℕ, ◌+◌, ◌<◌, Bool, false, not, ◌&&◌, ◌||◌, List, [], ◌∷◌, ◌++◌, length, Option, Some, refl, sym, ap, subst, ◌∙◌, inl, inr, arith}
+use Rattle.std.specs.Prelude.{slice_get, ◌==◌}
+use Rattle.std.specs.Option.{option_map_or}
+use Rattle.std.specs.List.{list_all, list_any}
+use Rattle.std.proofs.lemmas.Bool.{cases_Bool, cases_eq, cases_lt}
 use Rattle.std.proofs.lemmas.Option.{none-some, same_Some, slice_get_within}
 use Rattle.cxl_enc.proofs.Lists.{get_last}
+use Rattle.cxl_enc.proofs.Tests.{and_false}
+use Rattle.cxl_topo.specs.Tree.{is_bridge_at}
+use Rattle.cxl_regs.specs.Words.{has_bit}
 use Rattle.cxl_window.specs.Fields.{WindowFields}
+use Rattle.cxl_window.specs.Position.{is_usable}
 use Rattle.cxl_model.specs.declared.request.Request.{Request}
 use Rattle.cxl_model.specs.declared.plan.Reason.{Reason}
+use Rattle.cxl_model.specs.declared.plan.Reason.TheVariants as reasons
 use Rattle.cxl_model.specs.System.{System}
+use Rattle.cxl_model.specs.Rules.{permits}
+use Rattle.cxl_legal.specs.Used.{is_used}
+use Rattle.cxl_legal.specs.Windows.{has_used_bridges, is_used_bridge, is_target}
 use Rattle.cxl_plan.specs.Faults.{TakesRequest, TakesFirst, IsReason, AreReasons}
+use Rattle.cxl_plan.specs.inner.Choices.{IsUsedUid, HasReason}
+use Rattle.cxl_plan.proofs.Reasons.{from_1, from_2, from_3, all_fails}
 use Rattle.cxl_plan.proofs.Tables.{slice_get_front, length_end}
 
 -- reasons of the windows before the place i
@@ -44,22 +56,45 @@ one_reason_more s request i w old new reason here known is own = record {
               subst (λ (x : WindowFields). IsReason s request x other) window (subst (IsReason s request w) one own)
         ]
 
-pub found_first : (s : System) (request : Request) (i : ℕ) (w : WindowFields) (reasons : List Reason) (base : ℕ) → w.index ≡ i → AreReasonsBelow s request i reasons → TakesRequest s request w base → TakesFirst s request w base
-found_first s request i w reasons base index known takes = record { takes = takes; before = before }
-  where
-    reason_at : (j : ℕ) → j < length reasons → (reason : Reason) × (slice_get reasons j ≡ Some reason)
-    reason_at = item reasons
-      where
-        item : (xs : List Reason) (k : ℕ) → k < length xs → (x : Reason) × (slice_get xs k ≡ Some x)
-        item [] k lt = absurd (omega arith)
-        item (x ∷ xs) zero lt = (x, refl)
-        item (x ∷ xs) (suc k) lt = item xs k (omega arith)
+pub found_first : (s : System) (request : Request) (i : ℕ) (w : WindowFields) (base : ℕ) → w.index ≡ i → ((j : ℕ) (v : WindowFields) → j < i → slice_get s.windows j ≡ Some v → HasReason s request v)
+    → TakesRequest s request w base → TakesFirst s request w base
+found_first s request i w base index known takes = record { takes = takes; before = λ v there less. known v.index v (omega arith) there }
 
-    before : (v : WindowFields) → slice_get s.windows v.index ≡ Some v → v.index < w.index → (reason : Reason) × IsReason s request v reason
-    before v there less =
-        let count = known.count in
-        let at = reason_at v.index (omega arith) in
-        (at.0, known.each v.index v at.0 there at.1)
+-- one window more has a reason
+pub one_without_more : (s : System) (request : Request) (i : ℕ) (w : WindowFields) → slice_get s.windows i ≡ Some w → ((j : ℕ) (v : WindowFields) → j < i → slice_get s.windows j ≡ Some v → HasReason s request v) → HasReason s request w
+    → (j : ℕ) (v : WindowFields) → j < i + 1 → slice_get s.windows j ≡ Some v → HasReason s request v
+one_without_more s request i w here known own j v below there =
+    elim (cases_eq j i) [
+      | inl same ↦ subst (HasReason s request) (same_Some w v (sym here ∙ ap (slice_get s.windows) (sym same) ∙ there)) own
+      | inr other ↦ known j v (omega arith) there
+    ]
+
+-- a window that does not target some used bridge does not take the request
+pub passed_over : (s : System) (request : Request) (w : WindowFields) (uid : ℕ) → IsUsedUid s.nodes request uid → list_any (λ target. target == uid) w.targets ≡ false → HasReason s request w
+passed_over s request w uid is none =
+    elim (cases_Bool (is_usable w.verdict)) [
+      | inr unusable ↦ (reasons.Unusable, record { holds = unusable; first = λ other says. omega arith })
+      | inl usable ↦ elim (cases_Bool (permits w request.kind)) [
+        | inr kind ↦ (reasons.Kind, record { holds = kind; first = from_1 s request w usable })
+        | inl kind ↦ elim (cases_Bool (has_bit w.restrict 4)) [
+          | inl fixed ↦ (reasons.Fixed, record { holds = fixed; first = from_2 s request w usable kind })
+          | inr open_to ↦ (reasons.Bridges, record { holds = bridges; first = from_3 s request w usable kind open_to })
+        ]
+      ]
+    ]
+  where
+    untargeted : is_target s w is.node ≡ false
+    untargeted = ap (λ (o : Option ℕ). option_map_or (λ uid. list_any (λ target. target == uid) w.targets) o false) is.own ∙ none
+
+    fails : (not (is_bridge_at s.nodes is.node && is_used s request is.node) || is_target s w is.node) ≡ false
+    fails = rw (is.bridge, is.used, untargeted) refl
+
+    bridges : has_used_bridges s request w ≡ false
+    bridges =
+        let inside = is.inside in
+        ap (λ (all : Bool). list_all (is_used_bridge s request) w.targets && all)
+        (all_fails (λ n. not (is_bridge_at s.nodes n && is_used s request n) || is_target s w n) 0 (length s.nodes) is.node (omega arith) (omega arith) fails)
+        ∙ and_false (list_all (is_used_bridge s request) w.targets)
 
 pub all_reasons : (s : System) (request : Request) (i : ℕ) (reasons : List Reason) → i ≡ length s.windows → AreReasonsBelow s request i reasons → AreReasons s request reasons
 all_reasons s request i reasons whole known = record { count = known.count ∙ whole; each = known.each }

@@ -77,9 +77,17 @@ module _ (s : System) (request : Request) (w : WindowFields) where
   none_6 kept (reasons.WaysCap n) e says = none-some n (sym kept ∙ says)
   none_6 kept other e says = absurd (omega arith)
 
+  pub from_1 : is_usable w.verdict ≡ true → AllFrom 1
+  from_1 usable = onward 0 (λ other says. omega arith) (none_0 usable)
+
+  pub from_2 : is_usable w.verdict ≡ true → permits w request.kind ≡ true → AllFrom 2
+  from_2 usable kind = onward 1 (from_1 usable) (none_1 kind)
+
+  pub from_3 : is_usable w.verdict ≡ true → permits w request.kind ≡ true → has_bit w.restrict 4 ≡ false → AllFrom 3
+  from_3 usable kind open_to = onward 2 (from_2 usable kind) (none_2 open_to)
+
   pub from_5 : is_usable w.verdict ≡ true → permits w request.kind ≡ true → has_bit w.restrict 4 ≡ false → has_used_bridges s request w ≡ true → agrees_on_gran request.gran w ≡ true → AllFrom 5
-  from_5 usable kind open_to bridges gran =
-      onward 4 (onward 3 (onward 2 (onward 1 (onward 0 (λ other says. omega arith) (none_0 usable)) (none_1 kind)) (none_2 open_to)) (none_3 bridges)) (none_4 gran)
+  from_5 usable kind open_to bridges gran = onward 4 (onward 3 (from_3 usable kind open_to) (none_3 bridges)) (none_4 gran)
 
   pub from_6 : AllFrom 5 → least s (λ m. not (can_select s request w m)) ≡ None → AllFrom 6
   from_6 before selects = onward 5 before (none_5 selects)

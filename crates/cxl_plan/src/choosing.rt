@@ -1,17 +1,23 @@
 //! The first window that takes a request.
 
-ghost use Rattle.std.specs.Prelude.{IfOk};
+ghost use Rattle.std.specs.Prelude.{◌≡◌, ◌<◌, true, length, slice_get, Some, IfOk, IfSome, IfNone};
+ghost use Rattle.cxl_topo.specs.Tree.{is_bridge_at, uid_at};
+ghost use Rattle.cxl_window.specs.Fields.{WindowFields};
 ghost use Rattle.cxl_model.specs.Hosts.{as_system};
 ghost use Rattle.cxl_plan.specs.inner.Uses.{AreUses};
 ghost use Rattle.cxl_plan.specs.inner.Stages.{AreStages};
 ghost use Rattle.cxl_plan.specs.inner.Judging.{AsksOrderlySystem, HasLowShare};
-ghost use Rattle.cxl_plan.specs.inner.Choices.{IsChoice};
+ghost use Rattle.cxl_plan.specs.Faults.{TakesRequest, TakesFirst, IsReason, AreReasons};
+ghost use Rattle.cxl_plan.specs.inner.Floors.{IsFloor};
+ghost use Rattle.cxl_plan.specs.inner.Choices.{IsChoice, IsUsedUid, HasReason, NoneTakes};
 
 use crate::base::floor;
 use crate::stages::Stage;
 use crate::used::Uses;
-use crate::windows::base_in;
+use crate::windows::{base_in, has_target};
 use cxl_model::{Host, Reason, Request};
+use cxl_topo::{NodeKind, Topo};
+use cxl_window::Window;
 use std::alloc::{AllocError, Global};
 
 /// Where a region may stand.
@@ -23,7 +29,8 @@ pub enum Choice {
     Nowhere(Vec<Reason>),
 }
 
-/// The first window that takes the request, with the least base there, or why none does. Takes memory.
+/// The first window that takes the request, with the least base there, or why none does. Why not is asked only where
+/// none does, so that a region that has its place takes no memory for it. Takes memory.
 pub(crate) fn choose(
     alloc: Global,
     host: &Host,
@@ -38,13 +45,141 @@ pub(crate) fn choose(
     ensures { IfOk result (IsChoice (as_system host.now) request.now) }
 {
     let floor = floor(host, request, uses);
+    if let Some((i, base)) = first_taking(host, request, uses, stages, floor) {
+        return Ok(Choice::Found(i, base));
+    }
+    let reasons = reasons(alloc, host, request, uses, stages, floor)?;
+    Ok(Choice::Nowhere(reasons))
+}
+
+/// The first window that takes the request, and the least base there. Windows that do not target one used bridge are
+/// passed over by that alone.
+fn first_taking(
+    host: &Host,
+    request: &Request,
+    uses: &Uses,
+    stages: &[Stage],
+    floor: u64,
+) -> Option<(usize, u64)>
+    requires ready { AsksOrderlySystem (as_system host.now) request.now }
+    requires sound { HasLowShare request.now }
+    requires uses { AreUses host.now.topo.now.nodes request.now uses.now }
+    requires stages { AreStages host.now.topo.now.nodes request.now uses.now.nodes.items stages.now }
+    requires floor { IsFloor host.now.topo.now.nodes host.now.image.now request.now floor }
+    ensures taken { IfSome result (λ at. (w : WindowFields) × (slice_get host.now.windows.now at.0 ≡ Some w)
+        × TakesFirst (as_system host.now) request.now w at.1) }
+    ensures none { IfNone result (NoneTakes (as_system host.now) request.now) }
+{
     let windows = host.windows;
-    let mut reasons = Vec::with_capacity(alloc, windows.len())?;
+    let uid = used_uid(host.topo, request, uses);
     for (i, w) in windows.iter().enumerate() {
-        match base_in(host.topo, request, uses, stages, floor, w) {
-            Ok(base) => return Ok(Choice::Found(i, base)),
-            Err(reason) => reasons.push(reason)?,
+        if let Some(base) = base_where(host, request, uses, stages, floor, uid, w) {
+            return Some((i, base));
         }
     }
-    Ok(Choice::Nowhere(reasons))
+    None
+}
+
+/// The UID of a used bridge.
+fn used_uid(topo: &Topo, request: &Request, uses: &Uses) -> Option<u32>
+    requires { AreUses topo.now.nodes request.now uses.now }
+    ensures { IfSome result (IsUsedUid topo.now.nodes request.now) }
+{
+    for node in &uses.nodes {
+        if let Some(uid) = bridge_uid(topo, *node) {
+            return Some(uid);
+        }
+    }
+    None
+}
+
+/// The UID of a node that is a bridge.
+fn bridge_uid(topo: &Topo, node: u32) -> Option<u32>
+    requires { node < length topo.now.nodes }
+    ensures uid { result ≡ uid_at topo.now.nodes node }
+    ensures bridge { IfSome result (λ _. is_bridge_at topo.now.nodes node ≡ true) }
+{
+    match topo.node(node).kind {
+        NodeKind::Bridge(uid) => Some(uid),
+        NodeKind::Switch | NodeKind::Endpoint(_) => None,
+    }
+}
+
+/// The least base in a window that takes the request. `uid` is that of a used bridge.
+fn base_where(
+    host: &Host,
+    request: &Request,
+    uses: &Uses,
+    stages: &[Stage],
+    floor: u64,
+    uid: Option<u32>,
+    w: &Window,
+) -> Option<u64>
+    requires ready { AsksOrderlySystem (as_system host.now) request.now }
+    requires sound { HasLowShare request.now }
+    requires uses { AreUses host.now.topo.now.nodes request.now uses.now }
+    requires stages { AreStages host.now.topo.now.nodes request.now uses.now.nodes.items stages.now }
+    requires floor { IsFloor host.now.topo.now.nodes host.now.image.now request.now floor }
+    requires uid { IfSome uid (IsUsedUid host.now.topo.now.nodes request.now) }
+    ensures taken { IfSome result (λ base. slice_get host.now.windows.now w.now.index ≡ Some w.now
+        → TakesRequest (as_system host.now) request.now w.now base) }
+    ensures none { IfNone result (HasReason (as_system host.now) request.now w.now) }
+{
+    if let Some(uid) = uid {
+        if !has_target(w, uid) {
+            return None;
+        }
+    }
+    match base_in(host.topo, request, uses, stages, floor, w) {
+        Ok(base) => Some(base),
+        Err(_) => None,
+    }
+}
+
+/// Why each window does not take a request that none takes, in table order. Takes memory.
+fn reasons(
+    alloc: Global,
+    host: &Host,
+    request: &Request,
+    uses: &Uses,
+    stages: &[Stage],
+    floor: u64,
+) -> Result<Vec<Reason>, AllocError>
+    requires ready { AsksOrderlySystem (as_system host.now) request.now }
+    requires sound { HasLowShare request.now }
+    requires uses { AreUses host.now.topo.now.nodes request.now uses.now }
+    requires stages { AreStages host.now.topo.now.nodes request.now uses.now.nodes.items stages.now }
+    requires floor { IsFloor host.now.topo.now.nodes host.now.image.now request.now floor }
+    requires none { NoneTakes (as_system host.now) request.now }
+    ensures { IfOk result (λ reasons. AreReasons (as_system host.now) request.now reasons.items) }
+{
+    let windows = host.windows;
+    let mut reasons = Vec::with_capacity(alloc, windows.len())?;
+    for w in windows {
+        reasons.push(reason_in(host, request, uses, stages, floor, w))?;
+    }
+    Ok(reasons)
+}
+
+/// Why the window at a place does not take a request that it does not take.
+fn reason_in(
+    host: &Host,
+    request: &Request,
+    uses: &Uses,
+    stages: &[Stage],
+    floor: u64,
+    w: &Window,
+) -> Reason
+    requires ready { AsksOrderlySystem (as_system host.now) request.now }
+    requires sound { HasLowShare request.now }
+    requires uses { AreUses host.now.topo.now.nodes request.now uses.now }
+    requires stages { AreStages host.now.topo.now.nodes request.now uses.now.nodes.items stages.now }
+    requires floor { IsFloor host.now.topo.now.nodes host.now.image.now request.now floor }
+    requires here { slice_get host.now.windows.now w.now.index ≡ Some w.now }
+    requires none { HasReason (as_system host.now) request.now w.now }
+    ensures { IsReason (as_system host.now) request.now w.now result }
+{
+    base_in(host.topo, request, uses, stages, floor, w)
+        .err()
+        .unwrap()
 }

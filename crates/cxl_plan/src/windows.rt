@@ -1,8 +1,8 @@
 //! Why a window does not take a request, or the least base where it does.
 
-ghost use Rattle.std.specs.Prelude.{◌≡◌, ℕ, ◌<◌, ◌≤◌, ◌+◌, ◌&&◌, ◌||◌, not, nat_le, true, false, List, length, find, slice_get, Some, IfOk, IfErr, IfSome, IfNone};
+ghost use Rattle.std.specs.Prelude.{◌≡◌, ℕ, ◌<◌, ◌≤◌, ◌+◌, ◌==◌, ◌&&◌, ◌||◌, not, nat_le, true, false, List, length, find, slice_get, Some, IfOk, IfErr, IfSome, IfNone};
 ghost use Rattle.std.specs.Option.{option_map_or};
-ghost use Rattle.std.specs.List.{list_all, range_with_len, All};
+ghost use Rattle.std.specs.List.{list_all, list_any, range_with_len, All};
 ghost use Rattle.cxl_enc.specs.Codes.{is_ways, code_in_table};
 ghost use Rattle.cxl_enc.specs.Limits.{address_limit};
 ghost use Rattle.cxl_regs.specs.Registers.{Registers};
@@ -152,9 +152,16 @@ fn is_other_or_target(topo: &Topo, w: &Window, node: u32) -> bool
     ensures { result ≡ (not (is_bridge_at topo.now.nodes node) || is_target (tree_alone topo.now.nodes) w.now node) }
 {
     match topo.node(node).kind {
-        NodeKind::Bridge(uid) => w.targets().contains(&uid),
+        NodeKind::Bridge(uid) => has_target(w, uid),
         NodeKind::Switch | NodeKind::Endpoint(_) => true,
     }
+}
+
+/// Whether a bridge of this UID is a target of a window. These are few, so that they are met one by one.
+pub(crate) fn has_target(w: &Window, uid: u32) -> bool
+    ensures { result ≡ list_any (λ target. target == uid) w.now.targets }
+{
+    w.targets().iter().any(|target| *target == uid)
 }
 
 /// The least used node that could not select as it would have to.
