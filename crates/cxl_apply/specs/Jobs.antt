@@ -1,6 +1,6 @@
 -- The register writes that make or end a region, each with the value that takes it back, and what they leave (that a
 -- region is made from its endpoints up, and ended from its bridges down, is this project's rule).
-use Rattle.std.specs.Prelude.{◌≡◌, ◌≢◌, ℕ, ◌+◌, ◌*◌, ◌^◌, ◌<◌, ◌↔◌, true, false, List, [], ◌∷◌, ◌++◌, length, map, fold, take, slice_index, slice_get, Some, None, Contains, AllPairs, IsSomeAnd, unwrap_or}
+use Rattle.std.specs.Prelude.{◌≡◌, ◌≢◌, ℕ, ◌+◌, ◌^◌, ◌<◌, ◌↔◌, true, false, List, [], ◌∷◌, ◌++◌, length, map, fold, take, slice_index, slice_get, Some, None, Contains, AllPairs, IsSomeAnd, unwrap_or}
 use Rattle.std.specs.List.{flat_map}
 use Rattle.cxl_regs.specs.declared.decoder.Decoder.{Decoder}
 use Rattle.cxl_regs.specs.Registers.{Registers, IsAligned}
@@ -29,6 +29,10 @@ word_write blocks row place = record {
   value = slice_index (words_of (unmarked row.decoder)) place;
   back = unwrap_or (word_in blocks row.node (offset_of row.index place)) 0;
 }
+
+-- the eight words that the decoder in the row's place has in these blocks
+abbrev pub AreWordsBefore : List Registers → Row → List ℕ → Type 0
+AreWordsBefore blocks row words = (place : ℕ) → place < 8 → unwrap_or (word_in blocks row.node (offset_of row.index place)) 0 ≡ slice_index words place
 
 -- the control word with commit, and without it
 abbrev pub commit_write : Row → Write
