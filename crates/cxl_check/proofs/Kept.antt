@@ -1,5 +1,5 @@
 -- What K1 to K8 give of one node.
-use Rattle.std.proofs.Common.{◌≡◌, ℕ, ◌+◌, ◌%◌, ◌^◌, ◌<◌, ◌≤◌, ◌&&◌, Bool, true, false, List, length, Option, Some, None, refl, sym, ◌∙◌, if◌then◌else◌, arith}
+use Rattle.std.proofs.Common.{◌≡◌, ℕ, ◌+◌, ◌%◌, ◌^◌, ◌<◌, ◌≤◌, ◌&&◌, Bool, true, false, List, length, take, sum_by, Option, Some, None, refl, sym, ap, ◌∙◌, if◌then◌else◌, arith}
 use Rattle.std.specs.Prelude.{slice_get, IsSomeAnd, ◌==◌, nat_le}
 use Rattle.std.specs.Option.{option_map_or, option_and_then}
 use Rattle.std.proofs.lemmas.Bool.{and_parts, leb-true, le-leb, lt-leb, false≢true}
@@ -15,12 +15,13 @@ use Rattle.cxl_regs.specs.declared.decoder.Decoder.{Decoder}
 use Rattle.cxl_regs.specs.Registers.{Registers}
 use Rattle.cxl_regs.specs.declared.reading.Range.{Range}
 use Rattle.cxl_regs.specs.Reading.{span_length}
-use Rattle.cxl_span.specs.Spans.{span_start_of}
+use Rattle.cxl_span.specs.Spans.{span_step, span_start_of}
 use Rattle.cxl_span.specs.Breaches.{BlockKeeps}
 use Rattle.cxl_model.specs.System.{System, decoders_at, decoder_at, ram_at, pmem_at}
 use Rattle.cxl_model.specs.Ranges.{span_kind}
 use Rattle.cxl_model.specs.Accepted.{IsOrderlySystem}
 use Rattle.cxl_model.proofs.RangeRules.{block_keeps}
+use Rattle.cxl_model.proofs.RangeServers.{in_block}
 use Rattle.cxl_model.proofs.SpansCommitted.{OneHolder}
 use Rattle.cxl_check.specs.inner.Holders.{HasOneHolder}
 
@@ -45,20 +46,25 @@ decoder_inside s n i block here committed =
     let d = some_and (slice_get block.decoders i) (λ (d : Decoder). d.committed ≡ true) there in
     slice_get_within block.decoders i d.0 d.1
 
--- of which kind the span of a decoder is
-module _ (s : System) (n i start : ℕ) (block : Registers) (d : Decoder) (ram : ℕ) (here : slice_get s.blocks n ≡ Some block) (there : slice_get block.decoders i ≡ Some d)
-    (start_is : start ≡ span_start_of (decoders_at s n) i) (ram_is : ram ≡ ram_at s n) where
-  kind_by : (b : Bool) → nat_le (start + span_length d) ram ≡ b → span_kind s n i ≡ (if b then Ram else Pmem)
+-- of which kind the span of a committed decoder is, by where it ends
+module _ (s : System) (n i end : ℕ) (d : Decoder) (there : decoder_at s n i ≡ Some d) (end_is : end ≡ span_start_of (decoders_at s n) i + span_length d) where
+  kind_by : (b : Bool) → nat_le end (ram_at s n) ≡ b → span_kind s n i ≡ (if b then Ram else Pmem)
   kind_by b e =
-      let length_is : option_map_or span_length (decoder_at s n i) 0 ≡ span_length d = rw here (rw there refl) in
+      let start : ℕ = span_start_of (decoders_at s n) i in
+      let length_is : option_map_or span_length (decoder_at s n i) 0 ≡ span_length d = rw there refl in
       let from : nat_le 0 start ≡ true = le-leb 0 start (omega arith) in
-      rw (sym ram_is, sym start_is, length_is, from, e) refl
+      let within : nat_le (start + span_length d) (ram_at s n) ≡ b = ap (λ (k : ℕ). nat_le k (ram_at s n)) (sym end_is) ∙ e in
+      rw (length_is, from, within) refl
 
-  pub ram_span : start + span_length d ≤ ram → Ram ≡ span_kind s n i
-  ram_span below = sym (kind_by true (le-leb (start + span_length d) ram below))
+  pub ram_span : end ≤ ram_at s n → Ram ≡ span_kind s n i
+  ram_span below = sym (kind_by true (le-leb end (ram_at s n) below))
 
-  pub pmem_span : ram < start + span_length d → Pmem ≡ span_kind s n i
-  pmem_span above = sym (kind_by false (lt-leb (start + span_length d) ram above))
+  pub pmem_span : ram_at s n < end → Pmem ≡ span_kind s n i
+  pmem_span above = sym (kind_by false (lt-leb end (ram_at s n) above))
+
+-- where the span of a decoder starts, and what it and those before it skip and take
+pub starts_behind : (s : System) (n i : ℕ) (d : Decoder) → decoder_at s n i ≡ Some d → span_start_of (decoders_at s n) i ≡ sum_by span_step (take i (decoders_at s n)) + d.tail
+starts_behind s n i d there = rw there refl
 
 module _ (s : System) (ready : IsOrderlySystem s) where
   -- a range is that of one decoder of a block at the most
@@ -102,9 +108,18 @@ module _ (s : System) (ready : IsOrderlySystem s) where
       let few = capacity_few n in
       omega arith
 
+  -- the same by the decoder alone
+  pub span_ends : SpansEnd → (n i : ℕ) (d : Decoder) → is_endpoint_at s.nodes n ≡ true → decoder_at s n i ≡ Some d → d.committed ≡ true
+      → span_start_of (decoders_at s n) i + span_length d ≤ address_limit
+  span_ends ends n i d endpoint there committed =
+      let own = in_block s n i d there in
+      rw own.at (span_few ends n i own.block d endpoint own.at own.there committed)
+
   -- the span of a committed decoder of an endpoint without pmem lies in ram
-  pub ram_only : SpansEnd → (n i : ℕ) (block : Registers) (d : Decoder) → is_endpoint_at s.nodes n ≡ true → slice_get s.blocks n ≡ Some block → slice_get block.decoders i ≡ Some d → d.committed ≡ true
-      → pmem_at s n ≡ 0 → Ram ≡ span_kind s n i
-  ram_only ends n i block d endpoint here there committed none =
-      let inside = ends block (ram_at s n) (pmem_at s n) i d (block_keeps s ready.blocks n block here) (endpoint_at n block endpoint here) there committed in
-      ram_span s n i (span_start_of block.decoders i) block d (ram_at s n) here there (rw here refl) refl (omega (arith, inside, none))
+  pub ram_only : SpansEnd → (n i end : ℕ) (d : Decoder) → is_endpoint_at s.nodes n ≡ true → decoder_at s n i ≡ Some d → d.committed ≡ true
+      → end ≡ span_start_of (decoders_at s n) i + span_length d → pmem_at s n ≡ 0 → Ram ≡ span_kind s n i
+  ram_only ends n i end d endpoint there committed end_is none =
+      let own = in_block s n i d there in
+      let inside = ends own.block (ram_at s n) (pmem_at s n) i d (block_keeps s ready.blocks n own.block own.at) (endpoint_at n own.block endpoint own.at) own.there committed in
+      let start : span_start_of (decoders_at s n) i ≡ span_start_of own.block.decoders i = rw own.at refl in
+      ram_span s n i end d there end_is (omega (arith, inside, none, end_is, start))

@@ -1,18 +1,29 @@
 -- What is worked out of decoders, one after the other.
 use Rattle.std.proofs.Common.{◌≡◌, ℕ, ◌+◌, ◌*◌, ◌<◌, ◌≤◌, true, false, List, length, get_or, set, Some, sym, ap, subst, ◌∙◌, inl, inr, arith}
-use Rattle.std.specs.Prelude.{◌&&◌, ◌==◌}
+use Rattle.std.specs.Prelude.{◌&&◌, ◌==◌, slice_get}
 use Rattle.std.proofs.lemmas.Bool.{cases_lt, cases_eq, false≢true, and_parts}
 use Rattle.std.proofs.lemmas.List.{get_or-set_same, get_or-set_other, length-set}
 use Rattle.std.proofs.lemmas.Option.{same_Some, slice_get_within}
 use Rattle.cxl_regs.specs.declared.decoder.Decoder.{Decoder}
 use Rattle.cxl_regs.specs.declared.reading.Range.{Range}
+use Rattle.cxl_regs.specs.Registers.{Registers}
 use Rattle.cxl_regs.specs.Reading.{has_range, range_of}
-use Rattle.cxl_model.specs.System.{System, decoders_at, decoder_at}
+use Rattle.cxl_span.specs.Breaches.{BlockKeeps}
+use Rattle.cxl_model.specs.System.{System, decoders_at, decoder_at, ram_at, pmem_at}
+use Rattle.cxl_model.specs.Accepted.{IsOrderlySystem}
 use Rattle.cxl_model.specs.Ranges.{decoder_for, index_for, ways_above, bits_above}
+use Rattle.cxl_model.proofs.RangeRules.{block_keeps, at_in_block}
+use Rattle.cxl_model.proofs.RangeServers.{in_block}
 use Rattle.cxl_check.specs.declared.decoder_facts.DecoderFacts.{DecoderFacts}
 use Rattle.cxl_check.specs.inner.DecoderFacts.{AreDecoderFacts, AreFactsBefore}
 use Rattle.cxl_check.proofs.FirstFacts.{range_is}
 use Rattle.cxl_check.proofs.Searches.{find_by_position, passes_at}
+
+-- what is said of the decoders before a committed one
+abbrev pub StandFirst : Type 0
+StandFirst =
+    (block : Registers) (ram pmem i j : ℕ) (d e : Decoder) → BlockKeeps block ram pmem → slice_get block.decoders i ≡ Some d → slice_get block.decoders j ≡ Some e
+    → i < j → e.committed ≡ true → d.committed ≡ true
 
 -- what is worked out of the parent's decoder of a range
 pub record AreParentFacts (s : System) (r : Range) (p i : ℕ) (all : List DecoderFacts) : Type 0 where
@@ -35,19 +46,6 @@ module _ (s : System) where
       (node, number, same_Some e d (sym here ∙ ap (λ (k : ℕ). decoder_at s k j) node ∙ ap (λ (k : ℕ). decoder_at s n k) number ∙ there))
 
   module _ (n i : ℕ) (d : Decoder) (few : i < 10) (there : decoder_at s n i ≡ Some d) where
-    -- of one that is not committed nothing is worked out
-    pub idle_more : (all : List DecoderFacts) → d.committed ≡ false → AreFactsBefore s (10 * n + i) all → AreFactsBefore s (10 * n + (i + 1)) all
-    idle_more all idle before = record {
-      count = before.count;
-      each = λ m j e other below low here committed.
-          elim (cases_lt (10 * m + j) (10 * n + i)) [
-            | inl earlier ↦ before.each m j e other earlier low here committed
-            | inr at ↦
-                let one = one_place m j n i e d (omega (arith, below, at)) low few here there in
-                absurd (false≢true (sym idle ∙ ap (λ (x : Decoder). x.committed) (sym one.2) ∙ committed))
-          ];
-    }
-
     -- another is entered at its place
     pub one_worked : (old new : List DecoderFacts) (facts : DecoderFacts) → n < length s.nodes → AreDecoderFacts s n i d facts → AreFactsBefore s (10 * n + i) old → new ≡ set old (10 * n + i) facts
         → AreFactsBefore s (10 * n + (i + 1)) new
@@ -92,6 +90,32 @@ module _ (s : System) where
               absurd (omega (arith, below, at, low, node, within, long, past))
         ];
   }
+
+  -- behind one that is not committed none is, and nothing is worked out
+  pub idle_rest : StandFirst → IsOrderlySystem s → (n i : ℕ) (d : Decoder) (all : List DecoderFacts) → decoder_at s n i ≡ Some d → d.committed ≡ false
+      → AreFactsBefore s (10 * n + i) all → AreFactsBefore s (10 * (n + 1)) all
+  idle_rest first ready n i d all there idle before = record {
+    count = before.count;
+    each = λ m j e other below low here committed.
+        elim (cases_lt (10 * m + j) (10 * n + i)) [
+          | inl earlier ↦ before.each m j e other earlier low here committed
+          | inr at ↦
+              let node : m ≡ n = omega (arith, below, at, low) in
+              let past : i ≤ j = omega (arith, below, at, low) in
+              absurd (false≢true (sym idle ∙ behind j e past (ap (λ (k : ℕ). decoder_at s k j) (sym node) ∙ here) committed))
+        ];
+  }
+    where
+      behind : (j : ℕ) (e : Decoder) → i ≤ j → decoder_at s n j ≡ Some e → e.committed ≡ true → d.committed ≡ true
+      behind j e past here committed =
+          elim (cases_eq i j) [
+            | inl same ↦
+                let one : d ≡ e = same_Some d e (sym there ∙ ap (decoder_at s n) same ∙ here) in
+                ap (λ (x : Decoder). x.committed) one ∙ committed
+            | inr apart ↦
+                let own = in_block s n i d there in
+                first own.block (ram_at s n) (pmem_at s n) i j d e (block_keeps s ready.blocks n own.block own.at) own.there (at_in_block s n own.block own.at j e here) (omega (arith, past, apart)) committed
+          ]
 
   -- what is worked out of a parent's decoder of a range speaks of that range
   pub parent_worked : (r : Range) (place : ℕ) (all : List DecoderFacts) (p i : ℕ) → AreFactsBefore s place all → 10 * p + i < place → i < 10 → index_for s r p ≡ Some i → AreParentFacts s r p i all

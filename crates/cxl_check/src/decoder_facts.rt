@@ -1,7 +1,7 @@
 //! What is worked out once of each committed decoder: what the ports above its node come to for its range, from what those
 //! above its parent do, and where an endpoint's span starts and of which kind it is.
 
-ghost use Rattle.std.specs.Prelude.{◌≡◌, ◌+◌, ◌*◌, ◌^◌, ◌<◌, ◌≤◌, true, Some, length, IfOk};
+ghost use Rattle.std.specs.Prelude.{◌≡◌, ◌+◌, ◌*◌, ◌^◌, ◌<◌, ◌≤◌, true, false, Some, length, IfOk};
 ghost use Rattle.cxl_topo.specs.Tree.{is_endpoint_at};
 ghost use Rattle.cxl_regs.specs.Reading.{decoder_ways, select_bits, range_of};
 ghost use Rattle.cxl_span.specs.Spans.{span_start_of};
@@ -14,11 +14,12 @@ ghost use Rattle.cxl_check.specs.inner.Ready.{IsCommitted};
 
 use crate::above::ports_above;
 use crate::decoders::index_for;
-use crate::kind::{kind_from, span_start};
+use crate::kind::span_behind;
 use cxl_enc::MemKind;
 use cxl_model::{Above, Host};
 use cxl_regs::{Decoder, Range};
-use cxl_topo::tree_laws;
+use cxl_span::committed_stand_first;
+use cxl_topo::{capacity_at, tree_laws};
 use std::alloc::{AllocError, Global};
 
 /// What is worked out of a committed decoder.
@@ -61,52 +62,82 @@ fn enter_node(all: &mut Vec<DecoderFacts>, host: &Host, node: u32)
     requires before { AreFactsBefore (as_system host.now) (10 * node) all.old.items }
     ensures { AreFactsBefore (as_system host.now) (10 * (node + 1)) all.new.items }
 {
-    let block = host.image.block(node);
-    for i in 0..block.count() {
-        enter_decoder(all, host, node, i, &block.decoder(i));
+    if host.topo.is_endpoint(node) {
+        enter_endpoint(all, host, node);
+    } else {
+        enter_port(all, host, node);
     }
 }
 
-/// Enters what is worked out of a decoder, where it is committed.
-fn enter_decoder(all: &mut Vec<DecoderFacts>, host: &Host, node: u32, i: u8, d: &Decoder)
+/// Enters what is worked out of a port's committed decoders, which stand before the others.
+fn enter_port(all: &mut Vec<DecoderFacts>, host: &Host, node: u32)
+    requires ready { IsOrderlySystem (as_system host.now) }
+    requires here { node < length host.now.topo.now.nodes }
+    requires port { is_endpoint_at host.now.topo.now.nodes node ≡ false }
+    requires before { AreFactsBefore (as_system host.now) (10 * node) all.old.items }
+    ensures { AreFactsBefore (as_system host.now) (10 * (node + 1)) all.new.items }
+{
+    committed_stand_first();
+    let block = host.image.block(node);
+    for i in 0..block.count() {
+        let d = block.decoder(i);
+        if !d.committed {
+            return;
+        }
+        enter_decoder(all, host, node, i, &d, 0, MemKind::Ram);
+    }
+}
+
+/// Enters what is worked out of an endpoint's committed decoders. Each span starts past all that those before it skip and take.
+fn enter_endpoint(all: &mut Vec<DecoderFacts>, host: &Host, node: u32)
+    requires ready { IsOrderlySystem (as_system host.now) }
+    requires here { node < length host.now.topo.now.nodes }
+    requires endpoint { is_endpoint_at host.now.topo.now.nodes node ≡ true }
+    requires before { AreFactsBefore (as_system host.now) (10 * node) all.old.items }
+    ensures { AreFactsBefore (as_system host.now) (10 * (node + 1)) all.new.items }
+{
+    committed_stand_first();
+    let block = host.image.block(node);
+    let capacity = capacity_at(host.topo, node);
+    let mut taken = 0;
+    for i in 0..block.count() {
+        let d = block.decoder(i);
+        if !d.committed {
+            return;
+        }
+        let span = span_behind(host, node, i, &d, &capacity, taken);
+        enter_decoder(all, host, node, i, &d, span.start, span.kind);
+        taken = span.end;
+    }
+}
+
+/// Enters what is worked out of a committed decoder, from what is of those of nodes before, and where an endpoint's span starts.
+fn enter_decoder(
+    all: &mut Vec<DecoderFacts>,
+    host: &Host,
+    node: u32,
+    i: u8,
+    d: &Decoder,
+    start: u64,
+    kind: MemKind,
+)
     requires ready { IsOrderlySystem (as_system host.now) }
     requires here { node < length host.now.topo.now.nodes }
     requires few { i < 10 }
-    requires there { decoder_at (as_system host.now) node i ≡ Some d.now }
+    requires committed { IsCommitted (as_system host.now) node i d.now }
+    requires start { is_endpoint_at host.now.topo.now.nodes node ≡ true → start ≡ span_start_of (decoders_at (as_system host.now) node) i }
+    requires kind { is_endpoint_at host.now.topo.now.nodes node ≡ true → kind ≡ span_kind (as_system host.now) node i }
     requires before { AreFactsBefore (as_system host.now) (10 * node + i) all.old.items }
     ensures { AreFactsBefore (as_system host.now) (10 * node + (i + 1)) all.new.items }
 {
-    if !d.committed {
-        return;
-    }
-    let facts = worked_out(host, all, node, i, d);
-    all[10 * node as usize + usize::from(i)] = facts;
-}
-
-/// What is worked out of a committed decoder, from what is of those of nodes before.
-fn worked_out(host: &Host, all: &[DecoderFacts], node: u32, i: u8, d: &Decoder) -> DecoderFacts
-    requires ready { IsOrderlySystem (as_system host.now) }
-    requires here { node < length host.now.topo.now.nodes }
-    requires committed { IsCommitted (as_system host.now) node i d.now }
-    requires before { AreFactsBefore (as_system host.now) (10 * node + i) all.now }
-    ensures { AreDecoderFacts (as_system host.now) node i d.now result }
-{
     let above = above_by_parent(host, all, &d.range(), node, i);
-    if !host.topo.is_endpoint(node) {
-        return DecoderFacts {
-            start: 0,
-            ways: above.ways,
-            bits: above.bits as u8,
-            kind: MemKind::Ram,
-        };
-    }
-    let start = span_start(host, node, i);
-    DecoderFacts {
+    let facts = DecoderFacts {
         start,
         ways: above.ways,
         bits: above.bits as u8,
-        kind: kind_from(host, node, i, start),
-    }
+        kind,
+    };
+    all[10 * node as usize + usize::from(i)] = facts;
 }
 
 /// The decoders of a range in the ports above a node, together, by what is worked out of its parent's where that has one.

@@ -1,17 +1,54 @@
 //! Of which kind of memory a span is.
 
-ghost use Rattle.std.specs.Prelude.{◌≡◌, ◌<◌, true, length, IsSomeAnd};
+ghost use Rattle.std.specs.Prelude.{◌≡◌, ◌+◌, ◌<◌, true, length, take, sum_by, IsSomeAnd};
 ghost use Rattle.cxl_topo.specs.Tree.{is_endpoint_at};
-ghost use Rattle.cxl_span.specs.Spans.{span_start_of};
+ghost use Rattle.cxl_regs.specs.Reading.{span_length};
+ghost use Rattle.cxl_span.specs.Spans.{span_step, span_start_of};
 ghost use Rattle.cxl_model.specs.Hosts.{as_system};
-ghost use Rattle.cxl_model.specs.System.{decoders_at, decoder_at};
+ghost use Rattle.cxl_model.specs.System.{decoders_at, decoder_at, ram_at, pmem_at};
 ghost use Rattle.cxl_model.specs.Ranges.{span_kind};
 ghost use Rattle.cxl_model.specs.Accepted.{IsOrderlySystem};
+ghost use Rattle.cxl_check.specs.inner.Ready.{IsCommitted};
 
 use cxl_enc::MemKind;
 use cxl_model::Host;
+use cxl_regs::Decoder;
 use cxl_span::{spans_lie_in_partitions, start_of};
-use cxl_topo::capacity_at;
+use cxl_topo::{Capacity, capacity_at};
+
+/// Where the span of an endpoint's decoder starts and ends, and of which kind of memory it is.
+#[derive(Clone, Copy)]
+pub struct EndpointSpan {
+    pub start: u64,
+    pub end: u64,
+    pub kind: MemKind,
+}
+
+/// The span of an endpoint's committed decoder, where those before it skip and take so many bytes of a device of this capacity.
+pub(crate) fn span_behind(
+    host: &Host,
+    node: u32,
+    i: u8,
+    d: &Decoder,
+    capacity: &Capacity,
+    taken: u64,
+) -> EndpointSpan
+    requires ready { IsOrderlySystem (as_system host.now) }
+    requires endpoint { is_endpoint_at host.now.topo.now.nodes node ≡ true }
+    requires committed { IsCommitted (as_system host.now) node i d.now }
+    requires ram { capacity.now.ram ≡ ram_at (as_system host.now) node }
+    requires pmem { capacity.now.pmem ≡ pmem_at (as_system host.now) node }
+    requires taken { taken ≡ sum_by span_step (take i (decoders_at (as_system host.now) node)) }
+    ensures start { result.start ≡ span_start_of (decoders_at (as_system host.now) node) i }
+    ensures end { result.end ≡ sum_by span_step (take (i + 1) (decoders_at (as_system host.now) node)) }
+    ensures kind { result.kind ≡ span_kind (as_system host.now) node i }
+{
+    spans_lie_in_partitions();
+    let start = taken + d.tail;
+    let end = start + d.span_length();
+    let kind = kind_by_end(host, node, i, d, capacity, end);
+    EndpointSpan { start, end, kind }
+}
 
 /// The kind of memory of the span of an endpoint's committed decoder.
 pub(crate) fn span_kind(host: &Host, node: u32, i: u8) -> MemKind
@@ -20,24 +57,28 @@ pub(crate) fn span_kind(host: &Host, node: u32, i: u8) -> MemKind
     requires committed { IsSomeAnd (decoder_at (as_system host.now) node i) (λ d. d.committed ≡ true) }
     ensures { result ≡ span_kind (as_system host.now) node i }
 {
-    kind_from(host, node, i, span_start(host, node, i))
+    spans_lie_in_partitions();
+    let d = host.image.block(node).decoder(i);
+    let capacity = capacity_at(host.topo, node);
+    let end = span_start(host, node, i) + d.span_length();
+    kind_by_end(host, node, i, &d, &capacity, end)
 }
 
-/// The same by where that span starts.
-pub(crate) fn kind_from(host: &Host, node: u32, i: u8, start: u64) -> MemKind
+/// The same by where that span ends on a device of this capacity.
+fn kind_by_end(host: &Host, node: u32, i: u8, d: &Decoder, capacity: &Capacity, end: u64) -> MemKind
     requires ready { IsOrderlySystem (as_system host.now) }
     requires endpoint { is_endpoint_at host.now.topo.now.nodes node ≡ true }
-    requires committed { IsSomeAnd (decoder_at (as_system host.now) node i) (λ d. d.committed ≡ true) }
-    requires start { start ≡ span_start_of (decoders_at (as_system host.now) node) i }
+    requires committed { IsCommitted (as_system host.now) node i d.now }
+    requires ram { capacity.now.ram ≡ ram_at (as_system host.now) node }
+    requires pmem { capacity.now.pmem ≡ pmem_at (as_system host.now) node }
+    requires end { end ≡ span_start_of (decoders_at (as_system host.now) node) i + span_length d.now }
     ensures { result ≡ span_kind (as_system host.now) node i }
 {
     spans_lie_in_partitions();
-    let block = host.image.block(node);
-    let capacity = capacity_at(host.topo, node);
     if capacity.pmem == 0 {
         return MemKind::Ram;
     }
-    if start + block.decoder(i).span_length() <= capacity.ram {
+    if end <= capacity.ram {
         MemKind::Ram
     } else {
         MemKind::Pmem
