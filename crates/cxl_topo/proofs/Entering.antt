@@ -21,7 +21,7 @@ use Rattle.cxl_topo.specs.declared.node.NodeKind.TheVariants.{Bridge}
 use Rattle.cxl_topo.specs.declared.node.Parent.{Parent}
 use Rattle.cxl_topo.specs.declared.tables.NameKey.{NameKey}
 use Rattle.cxl_topo.specs.Kinds.{uid_of}
-use Rattle.cxl_topo.specs.Tree.{stands_at, stands_under, is_bridge_with, is_named, bridge_uids}
+use Rattle.cxl_topo.specs.Tree.{stands_at, is_bridge_with, is_named, bridge_uids}
 use Rattle.cxl_topo.specs.Keys.{Enters, name_key, name_eq}
 use Rattle.cxl_topo.specs.inner.Tables.{port_cmp, ListsNames}
 use Rattle.cxl_topo.proofs.NameKeys.{name_same}
@@ -100,9 +100,6 @@ both_equal a b Greater s first second = rw first
 
 pub stands_at-own : (node : Node) (own : Parent) → node.parent ≡ Some own → (key : Parent) → stands_at key.node key.port node ≡ is_at (port_cmp own) key
 stands_at-own node own is key = rw is (both_equal (own.node == key.node) (own.port == key.port) (nat_cmp own.node key.node) (nat_cmp own.port key.port) (unsigned_ties own.node key.node) (unsigned_ties own.port key.port))
-
-pub stands_under-own : (node : Node) (own : Parent) → node.parent ≡ Some own → (n : ℕ) → stands_under n node ≡ is_at (nat_cmp own.node) n
-stands_under-own node own is n = rw is (unsigned_ties own.node n)
 
 pub is_bridge_with-own : (node : Node) (own : ℕ) → node.kind ≡ Bridge own → (uid : ℕ) → is_bridge_with uid node ≡ is_at (nat_cmp own) uid
 is_bridge_with-own node own is uid = rw is (unsigned_ties own uid)

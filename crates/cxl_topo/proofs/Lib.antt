@@ -1,6 +1,7 @@
 pub mod Trees
 pub mod NameKeys
 pub mod Entering
+mod ChildPlaces
 pub mod PathsUp
 pub mod Sound
 pub mod PathSteps

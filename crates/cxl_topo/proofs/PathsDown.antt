@@ -1,7 +1,7 @@
 -- The way from a node that forwards down to its landing.
 use Rattle.std.proofs.Common.{◌≡◌, ℕ, zero, suc, ◌+◌, ◌<◌, ◌≤◌, true, false, cond, List, length, get_or, Option, Some, None, refl, sym, ap, ◌∙◌, inl, inr, arith}
 use Rattle.std.specs.Option.{option_and_then, option_map_or}
-use Rattle.std.proofs.lemmas.Bool.{cases_Bool}
+use Rattle.std.proofs.lemmas.Bool.{cases_Bool, cases_lt}
 use Rattle.std.proofs.lemmas.Option.{slice_get_within, slice_get-get_or}
 use Rattle.cxl_topo.specs.declared.node.Node.{Node}
 use Rattle.cxl_topo.specs.declared.fault.TreeFault.TheVariants as faults
@@ -26,6 +26,21 @@ module _ (nodes : List Node) (tree : IsTree nodes) where
       let up = (parent_under nodes child own.0 (tree_fits nodes tree (faults.NoParent child)) parent).1 in
       let earlier = up.earlier in
       record { later = omega (arith, own.2); below = slice_get_within nodes child at.node at.there }
+
+  -- what has no child past the last node is the least child
+  pub least_or_none : (n : ℕ) (answer : Option ℕ) → (n < length nodes → answer ≡ least_child_of nodes n) → (length nodes ≤ n → answer ≡ None) → answer ≡ least_child_of nodes n
+  least_or_none n answer within beyond = elim (cases_lt n (length nodes)) [
+    | inl here ↦ within here
+    | inr past ↦ beyond past ∙ none past (least_child_of nodes n) refl
+  ]
+    where
+      none : length nodes ≤ n → (o : Option ℕ) → least_child_of nodes n ≡ o → None ≡ o
+      none past None e = refl
+      none past (Some child) e =
+          let one = child_later n child e in
+          let later = one.later in
+          let below = one.below in
+          absurd (omega arith)
 
   -- enough steps are enough
   landing_enough : (f g n : ℕ) → n < length nodes → length nodes ≤ n + f → length nodes ≤ n + g → landing_within f nodes n ≡ landing_within g nodes n

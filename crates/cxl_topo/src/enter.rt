@@ -4,9 +4,9 @@ ghost use Rattle.std.specs.Prelude.{◌≡◌, ◌<◌, ◌+◌, false, IfOk, On
 ghost use Rattle.cxl_topo.specs.Tree.{bridge_uids};
 ghost use Rattle.cxl_topo.specs.Faults.{has_taken_name};
 ghost use Rattle.cxl_topo.specs.Keys.{Enters};
-ghost use Rattle.cxl_topo.specs.inner.Tables.{ListsChildren, ListsLeastChildren, ListsNames, ListsBridges};
+ghost use Rattle.cxl_topo.specs.inner.Tables.{ListsNames, ListsBridges};
 
-use crate::node::{Node, NodeKind, Parent};
+use crate::node::{Node, NodeKind};
 use crate::tables::NameKey;
 use std::alloc::AllocError;
 use std::collections::hash_map::Entry;
@@ -22,40 +22,6 @@ pub fn enter_first<K: Ord + Copy>(
 {
     table.entry(key)?.or_insert(i);
     Ok(())
-}
-
-/// Enters node `i` as the child at its parent's port.
-pub(crate) fn enter_child(
-    table: &mut BTreeMap<Parent, u32>,
-    nodes: &[Node],
-    i: u32,
-) -> Result<(), AllocError>
-    requires below { i < length nodes.now }
-    requires listed { ListsChildren (take i nodes.now) table.old }
-    ensures { OnOk result (ListsChildren (take (i + 1) nodes.now) table.new) }
-{
-    let node = &nodes[i as usize];
-    match node.parent {
-        Some(parent) => enter_first(table, parent, i),
-        None => Ok(()),
-    }
-}
-
-/// Enters node `i` as the least child of its parent, unless there is an earlier one.
-pub(crate) fn enter_least_child(
-    table: &mut BTreeMap<u32, u32>,
-    nodes: &[Node],
-    i: u32,
-) -> Result<(), AllocError>
-    requires below { i < length nodes.now }
-    requires listed { ListsLeastChildren (take i nodes.now) table.old }
-    ensures { OnOk result (ListsLeastChildren (take (i + 1) nodes.now) table.new) }
-{
-    let node = &nodes[i as usize];
-    match node.parent {
-        Some(parent) => enter_first(table, parent.node, i),
-        None => Ok(()),
-    }
 }
 
 /// Enters node `i` under its name, unless an earlier node has that name, and tells whether one has.

@@ -5,7 +5,7 @@ ghost use Rattle.cxl_enc.specs.Limits.{node_limit};
 ghost use Rattle.cxl_topo.specs.declared.node.Node.{Node};
 ghost use Rattle.cxl_topo.specs.Tree.{is_port_at, forwards_at};
 ghost use Rattle.cxl_topo.specs.Faults.{are_too_many, lacks_parent, has_taken_port, forks, has_taken_uid, is_too_deep, has_wrong_caps, has_wrong_capacity, is_capacity, NoneBefore, IsFirstTreeFault};
-ghost use Rattle.cxl_topo.specs.inner.Tables.{ListsChildren, ListsLeastChildren, ListsBridges};
+ghost use Rattle.cxl_topo.specs.inner.Tables.{ListsChildren, ListsBridges};
 ghost use Rattle.cxl_topo.specs.inner.AreTables.{AreTables};
 ghost use Rattle.cxl_topo.specs.inner.Judging.{first_of, tests_of};
 
@@ -30,7 +30,7 @@ pub(crate) fn are_too_many(nodes: &[Node]) -> bool
 /// The tables of the nodes, or their first fault, where they are not too many.
 pub(crate) fn tables_or_fault(alloc: Global, nodes: &[Node]) -> Result<Tables, TreeFault>
     requires { are_too_many nodes.now ≡ false }
-    ensures tables { IfOk result (λ tables. AreTables nodes.now tables) }
+    ensures tables { IfOk result (λ tables. AreTables (length nodes.now) nodes.now tables) }
     ensures none { OnOk result (NoneBefore nodes.now (8 * length nodes.now + 1)) }
     ensures fault { IfErr result (λ fault. fault ≢ TreeFault.Memory → IsFirstTreeFault nodes.now fault) }
 {
@@ -46,8 +46,8 @@ pub(crate) fn judge(nodes: &[Node], i: u32, tables: &mut Tables) -> Result<(), T
     requires below { i < length nodes.now }
     requires few { length nodes.now ≤ node_limit }
     requires earlier { NoneBefore nodes.now (8 * i + 1) }
-    requires tables { AreTables (take i nodes.now) tables.old }
-    ensures tables { OnOk result (AreTables (take (i + 1) nodes.now) tables.new) }
+    requires tables { AreTables (length nodes.now) (take i nodes.now) tables.old }
+    ensures tables { OnOk result (AreTables (length nodes.now) (take (i + 1) nodes.now) tables.new) }
     ensures none { OnOk result (NoneBefore nodes.now (8 * i + 9)) }
     ensures fault { IfErr result (λ fault. fault ≢ TreeFault.Memory → IsFirstTreeFault nodes.now fault) }
 {
@@ -60,8 +60,8 @@ fn admit(nodes: &[Node], i: u32, node: &Node, tables: &mut Tables) -> Result<(),
     requires few { length nodes.now ≤ node_limit }
     requires here { slice_get nodes.now i ≡ Some node.now }
     requires earlier { NoneBefore nodes.now (8 * i + 1) }
-    requires tables { AreTables (take i nodes.now) tables.old }
-    ensures tables { OnOk result (AreTables (take (i + 1) nodes.now) tables.new) }
+    requires tables { AreTables (length nodes.now) (take i nodes.now) tables.old }
+    ensures tables { OnOk result (AreTables (length nodes.now) (take (i + 1) nodes.now) tables.new) }
     ensures none { OnOk result (first_of (tests_of nodes.now i node.now) ≡ None) }
     ensures fault { IfErr result (λ fault. fault ≢ TreeFault.Memory → first_of (tests_of nodes.now i node.now) ≡ Some fault) }
 {
@@ -113,20 +113,20 @@ fn is_port(nodes: &[Node], i: u32) -> bool
 }
 
 fn has_taken_port(tables: &Tables, node: &Node) -> bool
-    ensures { (earlier : List Node) → ListsChildren earlier tables.now.children → result ≡ has_taken_port earlier node.now }
+    ensures { (count : ℕ) (earlier : List Node) → ListsChildren count earlier tables.now.children → length earlier ≤ count → lacks_parent earlier node.now ≡ false → result ≡ has_taken_port earlier node.now }
 {
     match node.parent {
-        Some(parent) => tables.children.get(&parent).is_some(),
+        Some(parent) => tables.children.at(&parent).is_some(),
         None => false,
     }
 }
 
 fn forks(earlier: &[Node], tables: &Tables, node: &Node) -> bool
-    ensures { ListsLeastChildren earlier.now tables.now.least_children → result ≡ forks earlier.now node.now }
+    ensures { (count : ℕ) → ListsChildren count earlier.now tables.now.children → length earlier.now ≤ count → lacks_parent earlier.now node.now ≡ false → result ≡ forks earlier.now node.now }
 {
     match node.parent {
         Some(parent) => forwards(earlier, parent.node)
-            && tables.least_children.get(&parent.node).is_some(),
+            && tables.children.least(parent.node).is_some(),
         None => false,
     }
 }

@@ -2,6 +2,7 @@
 //! one.
 #![tactic(auto)]
 
+mod children;
 mod device;
 mod enter;
 mod fault;

@@ -3,12 +3,12 @@
 ghost use Rattle.std.specs.Prelude.{◌≡◌, ◌+◌, ◌-◌, ◌*◌, ◌<◌, ◌≤◌, length, take, drop, replicate, false, IfSome};
 ghost use Rattle.cxl_enc.specs.Limits.{node_limit};
 ghost use Rattle.cxl_topo.specs.Tree.{path_of, decoding_port_of, landing_of, forwards_at};
-ghost use Rattle.cxl_topo.specs.inner.Tables.{ListsLeastChildren};
+ghost use Rattle.cxl_topo.specs.inner.Tables.{ListsChildren};
 ghost use Rattle.cxl_topo.specs.Faults.{NoneBefore, IsTree};
 
+use crate::children::Children;
 use crate::node::{Node, Parent};
 use crate::path::Path;
-use std::collections::BTreeMap;
 
 /// The way down to node `i`, where nothing is wrong with it and the earlier nodes.
 pub(crate) fn path_to(nodes: &[Node], i: u32) -> Path
@@ -50,15 +50,15 @@ pub(crate) fn decoding_port(nodes: &[Node], i: u32) -> Option<Parent>
 }
 
 /// The first node at or below node `i` that does not forward.
-pub(crate) fn landing(nodes: &[Node], least_children: &BTreeMap<u32, u32>, i: u32) -> Option<u32>
+pub(crate) fn landing(nodes: &[Node], children: &Children, i: u32) -> Option<u32>
     requires below { i < length nodes.now }
     requires tree { IsTree nodes.now }
-    requires listed { ListsLeastChildren nodes.now least_children.now }
+    requires listed { ListsChildren (length nodes.now) nodes.now children.now }
     ensures { result ≡ landing_of nodes.now i }
 {
     let mut at = i;
     while nodes[at as usize].forwards {
-        at = *least_children.get(&at)?;
+        at = children.least(at)?;
     }
     Some(at)
 }

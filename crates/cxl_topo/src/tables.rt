@@ -1,14 +1,15 @@
 //! Where the nodes of a tree are found by name, by UID and by parent.
 
-ghost use Rattle.std.specs.Prelude.{◌≡◌, ◌+◌, ◌<◌, length, take, nat_eq, IfOk, OnOk};
+ghost use Rattle.std.specs.Prelude.{◌≡◌, ◌+◌, ◌<◌, ◌≤◌, length, take, nat_eq, Some, None, IfOk, OnOk};
 ghost use Rattle.std.specs.Cmp.{partial_order_from_own_ties};
 ghost use Rattle.std.specs.Cmp.Rules.{comparing, hashing};
 ghost use Rattle.std.specs.Hash as fed;
 ghost use Rattle.std.specs.Ordering.{nat_cmp, on, as_partial_cmp};
 ghost use Rattle.std.proofs.Common.{rules};
 
-use crate::enter::{add_uid, enter_bridge, enter_child, enter_least_child};
-use crate::node::{Node, Parent};
+use crate::children::Children;
+use crate::enter::{add_uid, enter_bridge};
+use crate::node::Node;
 use cxl_enc::Name;
 use std::alloc::{AllocError, Global};
 use std::cmp::Ordering;
@@ -98,27 +99,29 @@ impl NameKey {
 /// Where to find the nodes of a tree, so that no search goes over all of them, and the UIDs of its bridges.
 #[derive(Drop)]
 pub(crate) struct Tables {
-    pub(crate) children: BTreeMap<Parent, u32>,
-    pub(crate) least_children: BTreeMap<u32, u32>,
+    pub(crate) children: Children,
     pub(crate) names: HashMap<NameKey, u32>,
     pub(crate) bridges: BTreeMap<u32, u32>,
     pub(crate) uids: Vec<u32>,
 }
 
 impl Tables {
-    ghost use Rattle.cxl_topo.specs.Tree.{bridge_uids};
+    ghost use Rattle.cxl_enc.specs.Limits.{node_limit};
+    ghost use Rattle.cxl_topo.specs.declared.node.Parent.{Parent};
+    ghost use Rattle.cxl_topo.specs.Tree.{parent_of, child_of, bridge_uids};
     ghost use Rattle.cxl_topo.specs.inner.AreTables.{AreTables};
-    ghost use Rattle.cxl_topo.specs.inner.Tables.{ListsChildren, ListsLeastChildren, ListsNames, ListsBridges};
+    ghost use Rattle.cxl_topo.specs.inner.Tables.{ListsChildren, ListsNames, ListsBridges};
     ghost use Rattle.std.specs.Prelude.{[]};
 
-    /// The tables of no nodes, with room for the names of so many.
+    /// The tables of no nodes, with room for so many.
     pub(crate) fn new(alloc: Global, count: usize) -> Result<Tables, AllocError>
-        ensures { IfOk result (AreTables []) }
+        requires { count ≤ node_limit }
+        ensures { IfOk result (AreTables count []) }
     {
+        let children = Children::new(alloc, count)?;
         let names = HashMap::with_capacity(alloc, count)?;
         Ok(Tables {
-            children: BTreeMap::new(alloc),
-            least_children: BTreeMap::new(alloc),
+            children,
             names,
             bridges: BTreeMap::new(alloc),
             uids: Vec::new(alloc),
@@ -128,15 +131,15 @@ impl Tables {
     /// Enters node `i`, whose name is entered, after the earlier ones.
     pub(crate) fn add(&mut self, nodes: &[Node], i: u32) -> Result<(), AllocError>
         requires below { i < length nodes.now }
-        requires children { ListsChildren (take i nodes.now) self.old.children }
-        requires least_children { ListsLeastChildren (take i nodes.now) self.old.least_children }
+        requires within { (parent : Parent) → parent_of nodes.now i ≡ Some parent → parent.node < length nodes.now }
+        requires free { (parent : Parent) → parent_of nodes.now i ≡ Some parent → child_of (take i nodes.now) parent.node parent.port ≡ None }
+        requires children { ListsChildren (length nodes.now) (take i nodes.now) self.old.children }
         requires names { ListsNames (take (i + 1) nodes.now) self.old.names }
         requires bridges { ListsBridges (take i nodes.now) self.old.bridges }
         requires uids { self.old.uids.items ≡ bridge_uids (take i nodes.now) }
-        ensures { OnOk result (AreTables (take (i + 1) nodes.now) self.new) }
+        ensures { OnOk result (AreTables (length nodes.now) (take (i + 1) nodes.now) self.new) }
     {
-        enter_child(&mut self.children, nodes, i)?;
-        enter_least_child(&mut self.least_children, nodes, i)?;
+        self.children.enter(nodes, i)?;
         enter_bridge(&mut self.bridges, nodes, i)?;
         add_uid(&mut self.uids, nodes, i)
     }

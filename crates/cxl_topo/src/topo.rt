@@ -115,7 +115,7 @@ impl Topo {
         ensures stands { (c : ℕ) → (result ≡ Some c) ↔ StandsAt self.now.nodes node port c }
     {
         let place = Parent { node, port };
-        self.tables.children.get(&place).copied()
+        self.tables.children.at(&place)
     }
 
     /// The child of a node that has the least number: the only child of one that forwards.
@@ -124,7 +124,7 @@ impl Topo {
         ensures below { IfSome result (λ c. StandsBelow self.now.nodes node c) }
         ensures least { (c : ℕ) → StandsBelow self.now.nodes node c → IsSomeAnd result (λ least. least ≤ c) }
     {
-        self.tables.least_children.get(&node).copied()
+        self.tables.children.least(node)
     }
 
     /// The node with a name.
@@ -191,6 +191,6 @@ impl Topo {
         requires { node < length self.now.nodes }
         ensures { result ≡ landing_of self.now.nodes node }
     {
-        landing(&self.nodes, &self.tables.least_children, node)
+        landing(&self.nodes, &self.tables.children, node)
     }
 }

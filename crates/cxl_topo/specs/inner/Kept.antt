@@ -1,5 +1,5 @@
 -- What every topology keeps.
-use Rattle.std.specs.Prelude.{ℕ, List}
+use Rattle.std.specs.Prelude.{ℕ, List, length}
 use Rattle.cxl_topo.specs.declared.node.Node.{Node}
 use Rattle.cxl_topo.specs.declared.tables.Tables.{Tables}
 use Rattle.cxl_topo.specs.Faults.{IsTree}
@@ -10,4 +10,4 @@ use Rattle.cxl_topo.specs.inner.AreTables.{AreTables}
 pub record IsKeptTree (nodes : List Node) (frames : ℕ) (tables : Tables) : Type 0 where
   pub tree : IsTree nodes
   pub few : AreFrames frames
-  pub listed : AreTables nodes tables
+  pub listed : AreTables (length nodes) nodes tables
