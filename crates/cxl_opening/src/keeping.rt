@@ -1,6 +1,6 @@
 //! What a session keeps of the regions with which it opens, with room for as many as may live: their names and routes.
 
-ghost use Rattle.std.specs.Prelude.{◌≡◌, ◌<◌, ◌≤◌, length, All, map, IfOk};
+ghost use Rattle.std.specs.Prelude.{◌≡◌, ◌≢◌, ℕ, ◌<◌, ◌≤◌, Some, length, slice_get, All, AllPairs, map, IfOk};
 ghost use Rattle.std.specs.List.{range_with_len};
 ghost use Rattle.std.specs.Vec.{vec_capacity};
 ghost use Rattle.cxl_image.specs.Images.{HasCapsOf};
@@ -16,9 +16,10 @@ use cxl_image::Image;
 use cxl_machine::REGION_LIMIT;
 use cxl_model::Found;
 use cxl_topo::Topo;
-use cxl_walk::Kept;
+use cxl_walk::{Kept, Own, own_of_each};
 use cxl_window::Window;
 use std::alloc::Global;
+use std::mem;
 
 /// The names of so many regions, `auto0`, `auto1` and so on, with room for as many as may live. Takes memory.
 pub fn auto_names(alloc: Global, count: usize) -> Result<Vec<Name>, Memory>
@@ -46,7 +47,8 @@ fn auto_name(alloc: Global, i: u32) -> Result<Name, Memory>
     }
 }
 
-/// The kept routes of regions of an image, in their order, with room for as many as may live. Takes memory.
+/// The kept routes of regions of an image, which rise by base, in their order, with room for as many as may live. Takes
+/// memory.
 pub fn routes_of(
     alloc: Global,
     image: &Image,
@@ -57,14 +59,34 @@ pub fn routes_of(
     requires caps { HasCapsOf image.now topo.now.nodes }
     requires made { AreMadeWith windows.now (bridge_uids topo.now.nodes) }
     requires regions { All (IsRegion (system_of image.now topo.now windows.now)) founds.now }
+    requires rising { AllPairs (λ a b. a.base < b.base) founds.now }
     requires few { length founds.now ≤ region_limit }
     ensures routes { IfOk result (λ kepts. AreRoutesOf (system_of image.now topo.now windows.now) founds.now kepts.items) }
     ensures room { IfOk result (λ kepts. region_limit ≤ vec_capacity kepts) }
 {
     let mut kepts = Vec::with_capacity(alloc, REGION_LIMIT)?;
-    for found in founds {
-        let kept = Kept::new(alloc, image, topo, windows, found)?;
+    if founds.is_empty() {
+        return Ok(kepts);
+    }
+    let nodes = topo.count();
+    let blocks = image.count();
+    prove!(nodes == blocks);
+    let mut owns = own_of_each(alloc, image, topo, founds)?;
+    for place in 0..founds.len() {
+        let found = &founds[place];
+        let own = take_own(alloc, &mut owns, place);
+        let kept = Kept::along(alloc, topo, windows, found, own)?;
         kepts.push_reserved(kept);
     }
     Ok(kepts)
+}
+
+/// Takes the own decoders of one region out of those of all.
+fn take_own(alloc: Global, owns: &mut Vec<Vec<Own>>, place: usize) -> Vec<Own>
+    requires { place < length owns.old.items }
+    ensures own { slice_get owns.old.items place ≡ Some result }
+    ensures long { length owns.new.items ≡ length owns.old.items }
+    ensures others { (k : ℕ) → k ≢ place → slice_get owns.new.items k ≡ slice_get owns.old.items k }
+{
+    mem::replace(&mut owns[place], Vec::new(alloc))
 }

@@ -1,6 +1,6 @@
 //! How a session opens on a register image.
 
-ghost use Rattle.std.specs.Prelude.{◌≡◌, ◌⊎◌, ℕ, ◌<◌, ◌≤◌, [], length, All, option_map, map, IfOk, IfErr, OnOk};
+ghost use Rattle.std.specs.Prelude.{◌≡◌, ◌⊎◌, ℕ, ◌<◌, ◌≤◌, [], length, All, AllPairs, option_map, map, IfOk, IfErr, OnOk};
 ghost use Rattle.std.specs.List.{range_with_len};
 ghost use Rattle.std.specs.Vec.{vec_capacity};
 ghost use Rattle.cxl_bus.specs.Failed.{HasFailed, fresh};
@@ -241,7 +241,7 @@ struct OpenedRegions {
     kepts: Vec<Kept>,
 }
 
-/// Regions of an image, with their names and routes. Takes memory.
+/// Regions of an image, which rise by base, with their names and routes. Takes memory.
 fn opened_regions(
     alloc: Global,
     image: &Image,
@@ -252,6 +252,7 @@ fn opened_regions(
     requires caps { HasCapsOf image.now topo.now.nodes }
     requires made { AreMadeWith windows.now (bridge_uids topo.now.nodes) }
     requires regions { All (IsRegion (system_of image.now topo.now windows.now)) founds.items }
+    requires rising { AllPairs (λ a b. a.base < b.base) founds.items }
     requires few { length founds.items ≤ region_limit }
     ensures founds { IfOk result (λ live. live.founds ≡ founds.items) }
     ensures names { IfOk result (λ live. live.names.items ≡ map auto_name (range_with_len 0 (length founds.items))) }

@@ -1,5 +1,5 @@
-use Rattle.std.proofs.Common.{◌≡◌, ◌≤◌, ℕ, List, length, map, sym, ap, subst, ◌∙◌, arith}
-use Rattle.std.specs.Prelude.{All}
+use Rattle.std.proofs.Common.{◌≡◌, ◌<◌, ◌≤◌, ℕ, List, length, map, sym, ap, subst, ◌∙◌, arith}
+use Rattle.std.specs.Prelude.{All, AllPairs}
 use Rattle.std.specs.List.{range_with_len}
 use Rattle.cxl_machine.specs.Sound.{auto_name}
 use Rattle.cxl_model.specs.Listed.{region_limit}
@@ -22,6 +22,7 @@ routes_of-requires c = record {
   caps = c.requires.caps;
   made = c.requires.made;
   regions = subst (All (IsRegion (system_of c.args.image.now c.args.topo.now c.args.windows.now))) (sym c.deref.ensures.value) c.requires.regions;
+  rising = subst (AllPairs (λ (a b : Found). a.base < b.base)) (sym c.deref.ensures.value) c.requires.rising;
   few = subst (λ (founds : List Found). length founds ≤ region_limit) (sym c.deref.ensures.value) c.requires.few;
 }
 

@@ -32,6 +32,7 @@ opened_regions-requires c =
       regions =
           subst (λ (ws : List WindowFields). All (IsRegion (system_of c.enabled-image.result c.args.topo ws)) founds) (sym c.deref.ensures.value)
           (regions_are c.args.topo c.args.windows.items c.args.start c.enabled-image.result founds machine image);
+      rising = c.requires.opens.listed.rising;
       few = c.requires.opens.few;
     }
 
