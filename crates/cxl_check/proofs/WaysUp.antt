@@ -9,12 +9,14 @@ use Rattle.cxl_enc.specs.Codes.{ways_of}
 use Rattle.cxl_enc.proofs.Numbers.{sixteens, times}
 use Rattle.cxl_topo.specs.declared.node.Node.{Node}
 use Rattle.cxl_topo.specs.declared.node.Parent.{Parent}
-use Rattle.cxl_topo.specs.Tree.{parent_of, ports_above}
+use Rattle.cxl_topo.specs.Tree.{parent_of, ports_above, bridge_with}
+use Rattle.cxl_topo.proofs.Trees.{KnownTree, uid_top}
 use Rattle.cxl_regs.specs.declared.decoder.Decoder.{Decoder}
 use Rattle.cxl_regs.specs.declared.reading.Range.{Range}
 use Rattle.cxl_regs.specs.Reading.{decoder_ways, select_bits}
 use Rattle.cxl_model.specs.System.{System}
 use Rattle.cxl_model.specs.Ranges.{decoder_for, product, ways_above, bits_above, first_decoder, range_ways}
+use Rattle.cxl_check.specs.inner.Slots.{AreWaysAbove}
 
 -- ---- one decoder
 
@@ -138,6 +140,13 @@ module _ (s : System) (r : Range) (n : ℕ) where
 
     pub same_bits : decoder_for s r parent.node ≡ None → bits_above s r n ≡ bits_above s r parent.node
     same_bits lacks = rw ports (rw lacks refl)
+
+-- no port stands above a bridge
+pub above_bridge : (s : System) (r : Range) → KnownTree s.nodes → (uid b : ℕ) → bridge_with s.nodes uid ≡ Some b → AreWaysAbove s r b 1
+above_bridge s r known uid b is =
+    let top : parent_of s.nodes b ≡ None = (uid_top known b uid ((known.laws.bridges uid b).0 is)).1 in
+    let ports : ports_above s.nodes b ≡ [] = known.laws.ports b ∙ ap (λ (o : Option Parent). option_map_or (λ (p : Parent). p ∷ ports_above s.nodes p.node) o []) top in
+    record { is = sym (top_ways s r b ports); some = omega arith; few = omega arith }
 
 -- the ways above a child, from those above the port and the port's own
 pub ways_below : (s : System) (r : Range) (n c : ℕ) (parent : Parent) → PortsAbove s.nodes c → parent_of s.nodes c ≡ Some parent → parent.node ≡ n

@@ -1,7 +1,7 @@
 //! What is worked out once of each committed decoder: what the ports above its node come to for its range, from what those
 //! above its parent do, and where an endpoint's span starts and of which kind it is.
 
-ghost use Rattle.std.specs.Prelude.{◌≡◌, ◌+◌, ◌*◌, ◌^◌, ◌<◌, ◌≤◌, true, false, Some, length, IfOk};
+ghost use Rattle.std.specs.Prelude.{◌≡◌, ◌+◌, ◌*◌, ◌^◌, ◌<◌, ◌≤◌, true, Some, length, IfOk};
 ghost use Rattle.cxl_topo.specs.Tree.{is_endpoint_at};
 ghost use Rattle.cxl_regs.specs.Reading.{decoder_ways, select_bits, range_of};
 ghost use Rattle.cxl_span.specs.Spans.{span_start_of};
@@ -9,12 +9,12 @@ ghost use Rattle.cxl_model.specs.Hosts.{as_system};
 ghost use Rattle.cxl_model.specs.Accepted.{IsOrderlySystem};
 ghost use Rattle.cxl_model.specs.Ranges.{ways_above, bits_above, span_kind};
 ghost use Rattle.cxl_model.specs.System.{decoders_at, decoder_at};
-ghost use Rattle.cxl_check.specs.inner.DecoderFacts.{AreDecoderFacts, AreFactsBefore, AreAllFacts};
+ghost use Rattle.cxl_check.specs.inner.DecoderFacts.{AreDecoderFacts, AreFactsBefore, AreAllFacts, IsSpanOf};
 ghost use Rattle.cxl_check.specs.inner.Ready.{IsCommitted};
 
 use crate::above::ports_above;
 use crate::decoders::index_for;
-use crate::kind::span_behind;
+use crate::kind::{DeviceSpan, span_behind};
 use cxl_enc::MemKind;
 use cxl_model::{Above, Host};
 use cxl_regs::{Decoder, Range};
@@ -55,44 +55,11 @@ pub(crate) fn all_decoder_facts(alloc: Global, host: &Host) -> Result<Vec<Decode
     Ok(all)
 }
 
-/// Enters what is worked out of a node's committed decoders. A parent stands before its children, so its own are entered.
+/// Enters what is worked out of a node's committed decoders, which stand before the others. A parent stands before its
+/// children, so its own are entered. Each span starts past all that those before it skip and take.
 fn enter_node(all: &mut Vec<DecoderFacts>, host: &Host, node: u32)
     requires ready { IsOrderlySystem (as_system host.now) }
     requires here { node < length host.now.topo.now.nodes }
-    requires before { AreFactsBefore (as_system host.now) (10 * node) all.old.items }
-    ensures { AreFactsBefore (as_system host.now) (10 * (node + 1)) all.new.items }
-{
-    if host.topo.is_endpoint(node) {
-        enter_endpoint(all, host, node);
-    } else {
-        enter_port(all, host, node);
-    }
-}
-
-/// Enters what is worked out of a port's committed decoders, which stand before the others.
-fn enter_port(all: &mut Vec<DecoderFacts>, host: &Host, node: u32)
-    requires ready { IsOrderlySystem (as_system host.now) }
-    requires here { node < length host.now.topo.now.nodes }
-    requires port { is_endpoint_at host.now.topo.now.nodes node ≡ false }
-    requires before { AreFactsBefore (as_system host.now) (10 * node) all.old.items }
-    ensures { AreFactsBefore (as_system host.now) (10 * (node + 1)) all.new.items }
-{
-    committed_stand_first();
-    let block = host.image.block(node);
-    for i in 0..block.count() {
-        let d = block.decoder(i);
-        if !d.committed {
-            return;
-        }
-        enter_decoder(all, host, node, i, &d, 0, MemKind::Ram);
-    }
-}
-
-/// Enters what is worked out of an endpoint's committed decoders. Each span starts past all that those before it skip and take.
-fn enter_endpoint(all: &mut Vec<DecoderFacts>, host: &Host, node: u32)
-    requires ready { IsOrderlySystem (as_system host.now) }
-    requires here { node < length host.now.topo.now.nodes }
-    requires endpoint { is_endpoint_at host.now.topo.now.nodes node ≡ true }
     requires before { AreFactsBefore (as_system host.now) (10 * node) all.old.items }
     ensures { AreFactsBefore (as_system host.now) (10 * (node + 1)) all.new.items }
 {
@@ -106,36 +73,34 @@ fn enter_endpoint(all: &mut Vec<DecoderFacts>, host: &Host, node: u32)
             return;
         }
         let span = span_behind(host, node, i, &d, &capacity, taken);
-        enter_decoder(all, host, node, i, &d, span.start, span.kind);
+        enter_decoder(all, host, node, i, &d, &span);
         taken = span.end;
     }
 }
 
-/// Enters what is worked out of a committed decoder, from what is of those of nodes before, and where an endpoint's span starts.
+/// Enters what is worked out of a committed decoder, from what is of those of nodes before, and its span.
 fn enter_decoder(
     all: &mut Vec<DecoderFacts>,
     host: &Host,
     node: u32,
     i: u8,
     d: &Decoder,
-    start: u64,
-    kind: MemKind,
+    span: &DeviceSpan,
 )
     requires ready { IsOrderlySystem (as_system host.now) }
     requires here { node < length host.now.topo.now.nodes }
     requires few { i < 10 }
     requires committed { IsCommitted (as_system host.now) node i d.now }
-    requires start { is_endpoint_at host.now.topo.now.nodes node ≡ true → start ≡ span_start_of (decoders_at (as_system host.now) node) i }
-    requires kind { is_endpoint_at host.now.topo.now.nodes node ≡ true → kind ≡ span_kind (as_system host.now) node i }
+    requires span { IsSpanOf (as_system host.now) node i span.now }
     requires before { AreFactsBefore (as_system host.now) (10 * node + i) all.old.items }
     ensures { AreFactsBefore (as_system host.now) (10 * node + (i + 1)) all.new.items }
 {
     let above = above_by_parent(host, all, &d.range(), node, i);
     let facts = DecoderFacts {
-        start,
+        start: span.start,
         ways: above.ways,
         bits: above.bits as u8,
-        kind,
+        kind: span.kind,
     };
     all[10 * node as usize + usize::from(i)] = facts;
 }

@@ -1,13 +1,14 @@
 //! Of which kind of memory a span is.
 
-ghost use Rattle.std.specs.Prelude.{◌≡◌, ◌+◌, ◌<◌, true, length, take, sum_by, IsSomeAnd};
+ghost use Rattle.std.specs.Prelude.{◌≡◌, ◌+◌, ◌<◌, true, length, IsSomeAnd};
 ghost use Rattle.cxl_topo.specs.Tree.{is_endpoint_at};
 ghost use Rattle.cxl_regs.specs.Reading.{span_length};
-ghost use Rattle.cxl_span.specs.Spans.{span_step, span_start_of};
+ghost use Rattle.cxl_span.specs.Spans.{span_start_of};
 ghost use Rattle.cxl_model.specs.Hosts.{as_system};
 ghost use Rattle.cxl_model.specs.System.{decoders_at, decoder_at, ram_at, pmem_at};
 ghost use Rattle.cxl_model.specs.Ranges.{span_kind};
 ghost use Rattle.cxl_model.specs.Accepted.{IsOrderlySystem};
+ghost use Rattle.cxl_check.specs.inner.DecoderFacts.{IsTaken, IsSpanOf};
 ghost use Rattle.cxl_check.specs.inner.Ready.{IsCommitted};
 
 use cxl_enc::MemKind;
@@ -16,15 +17,15 @@ use cxl_regs::Decoder;
 use cxl_span::{spans_lie_in_partitions, start_of};
 use cxl_topo::{Capacity, capacity_at};
 
-/// Where the span of an endpoint's decoder starts and ends, and of which kind of memory it is.
+/// Where the span of an endpoint's decoder starts and ends, and of which kind of memory it is; a port's has none.
 #[derive(Clone, Copy)]
-pub struct EndpointSpan {
+pub struct DeviceSpan {
     pub start: u64,
     pub end: u64,
     pub kind: MemKind,
 }
 
-/// The span of an endpoint's committed decoder, where those before it skip and take so many bytes of a device of this capacity.
+/// The span of a committed decoder, where those before it skip and take so many bytes of a device of this capacity.
 pub(crate) fn span_behind(
     host: &Host,
     node: u32,
@@ -32,22 +33,27 @@ pub(crate) fn span_behind(
     d: &Decoder,
     capacity: &Capacity,
     taken: u64,
-) -> EndpointSpan
+) -> DeviceSpan
     requires ready { IsOrderlySystem (as_system host.now) }
-    requires endpoint { is_endpoint_at host.now.topo.now.nodes node ≡ true }
+    requires here { node < length host.now.topo.now.nodes }
     requires committed { IsCommitted (as_system host.now) node i d.now }
     requires ram { capacity.now.ram ≡ ram_at (as_system host.now) node }
     requires pmem { capacity.now.pmem ≡ pmem_at (as_system host.now) node }
-    requires taken { taken ≡ sum_by span_step (take i (decoders_at (as_system host.now) node)) }
-    ensures start { result.start ≡ span_start_of (decoders_at (as_system host.now) node) i }
-    ensures end { result.end ≡ sum_by span_step (take (i + 1) (decoders_at (as_system host.now) node)) }
-    ensures kind { result.kind ≡ span_kind (as_system host.now) node i }
+    requires taken { IsTaken (as_system host.now) node i taken }
+    ensures { IsSpanOf (as_system host.now) node i result }
 {
     spans_lie_in_partitions();
+    if !host.topo.is_endpoint(node) {
+        return DeviceSpan {
+            start: 0,
+            end: 0,
+            kind: MemKind::Ram,
+        };
+    }
     let start = taken + d.tail;
     let end = start + d.span_length();
     let kind = kind_by_end(host, node, i, d, capacity, end);
-    EndpointSpan { start, end, kind }
+    DeviceSpan { start, end, kind }
 }
 
 /// The kind of memory of the span of an endpoint's committed decoder.

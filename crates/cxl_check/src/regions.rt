@@ -26,7 +26,7 @@ use cxl_model::{
 };
 use cxl_regs::Range;
 use cxl_span::ranges_rise;
-use cxl_window::Window;
+use cxl_window::{Window, root_ways};
 use std::alloc::{AllocError, Global};
 use std::collections::BTreeMap;
 
@@ -137,6 +137,7 @@ fn spans_of(
 {
     let likely = likely_index(host, &tables.firsts, range);
     let first = first_target(host.topo, w);
+    let root = root_ways(w);
     let mut spans = Vec::with_capacity(alloc, usize::from(ways))?;
     for slot in 0..ways {
         spans.push(place_of_slot(
@@ -145,6 +146,7 @@ fn spans_of(
             &tables.decoders,
             range,
             w,
+            root,
             &first,
             slot,
             likely,

@@ -12,16 +12,15 @@ ghost use Rattle.cxl_model.specs.Regions.{LeadsTo, HasSpan};
 ghost use Rattle.cxl_model.specs.Accepted.{IsOrderlySystem};
 ghost use Rattle.cxl_check.specs.inner.Children.{AreAllChildren};
 ghost use Rattle.cxl_check.specs.inner.DecoderFacts.{AreAllFacts};
-ghost use Rattle.cxl_check.specs.inner.Slots.{AreWaysAbove, child_of_slot, next_of};
+ghost use Rattle.cxl_check.specs.inner.Slots.{AreRootWays, AreWaysAbove, child_of_slot, next_of};
 
-use crate::above::ports_above;
 use crate::children::child_at;
 use crate::decoder_facts::{DecoderFacts, facts_at, start_of};
 use crate::decoders::{decoder_for, index_for};
 use cxl_model::{Host, Place};
 use cxl_regs::{Decoder, Range};
 use cxl_topo::{Topo, tree_laws};
-use cxl_window::{Window, root_ways, target_position};
+use cxl_window::{Window, target_position};
 
 /// The bridge with a UID, where there is one.
 #[derive(Clone, Copy)]
@@ -60,6 +59,7 @@ pub(crate) fn place_of_slot(
     all: &[DecoderFacts],
     range: &Range,
     w: &Window,
+    root: u32,
     first: &Target,
     slot: u8,
     likely: u8,
@@ -67,15 +67,18 @@ pub(crate) fn place_of_slot(
     requires ready { IsOrderlySystem (as_system host.now) }
     requires children { AreAllChildren host.now.topo.now.nodes children.now }
     requires all { AreAllFacts (as_system host.now) all.now }
+    requires root { AreRootWays w.now root }
     requires first { first.now.bridge ≡ bridge_with host.now.topo.now.nodes first.now.uid }
     requires some { (place : Place) × HasSpan (as_system host.now) w.now range.now slot place }
     requires slot { slot < 16 }
     ensures { HasSpan (as_system host.now) w.now range.now slot result }
 {
+    // No port stands above a bridge.
+    tree_laws();
+    let _count = host.topo.count();
     let uid = w.targets()[usize::from(target_position(w, slot))];
     let bridge = target_with(host.topo, first, uid).unwrap();
-    let above = ports_above(host, range, bridge, likely).ways;
-    place_below(host, children, all, range, w, slot, bridge, above, likely)
+    place_below(host, children, all, range, w, root, slot, bridge, 1, likely)
 }
 
 /// The place of a device to which a slot leads from a node on, above which the ports have so many ways together.
@@ -85,6 +88,7 @@ fn place_below(
     all: &[DecoderFacts],
     range: &Range,
     w: &Window,
+    root: u32,
     slot: u8,
     node: u32,
     above: u32,
@@ -93,6 +97,7 @@ fn place_below(
     requires ready { IsOrderlySystem (as_system host.now) }
     requires children { AreAllChildren host.now.topo.now.nodes children.now }
     requires all { AreAllFacts (as_system host.now) all.now }
+    requires root { AreRootWays w.now root }
     requires above { AreWaysAbove (as_system host.now) range.now node above }
     requires some { (place : Place) × LeadsTo (as_system host.now) w.now range.now slot node place }
     ensures { LeadsTo (as_system host.now) w.now range.now slot node result }
@@ -110,9 +115,11 @@ fn place_below(
         };
     }
     let d = decoder_for(host, range, node, likely);
-    let child = next_of(host, children, range, w, slot, node, above, &d).unwrap();
+    let child = next_of(host, children, range, w, root, slot, node, above, &d).unwrap();
     let above = ways_with(above, &d);
-    place_below(host, children, all, range, w, slot, child, above, likely)
+    place_below(
+        host, children, all, range, w, root, slot, child, above, likely,
+    )
 }
 
 /// Where a slot goes on from a node that is no endpoint.
@@ -121,12 +128,14 @@ fn next_of(
     children: &[Option<u32>],
     range: &Range,
     w: &Window,
+    root: u32,
     slot: u8,
     node: u32,
     above: u32,
     d: &Option<Decoder>,
 ) -> Option<u32>
     requires here { node < length host.now.topo.now.nodes }
+    requires root { AreRootWays w.now root }
     requires above { AreWaysAbove (as_system host.now) range.now node above }
     requires own { d.now ≡ decoder_for (as_system host.now) range.now node }
     requires children { AreAllChildren host.now.topo.now.nodes children.now }
@@ -135,7 +144,7 @@ fn next_of(
     if host.topo.forwards(node) {
         host.topo.least_child(node)
     } else {
-        child_of_slot(host, children, range, w, slot, node, above, d)
+        child_of_slot(host, children, range, w, root, slot, node, above, d)
     }
 }
 
@@ -145,12 +154,14 @@ fn child_of_slot(
     children: &[Option<u32>],
     range: &Range,
     w: &Window,
+    root: u32,
     slot: u8,
     node: u32,
     above: u32,
     d: &Option<Decoder>,
 ) -> Option<u32>
     requires here { node < length host.now.topo.now.nodes }
+    requires root { AreRootWays w.now root }
     requires above { AreWaysAbove (as_system host.now) range.now node above }
     requires own { d.now ≡ decoder_for (as_system host.now) range.now node }
     requires children { AreAllChildren host.now.topo.now.nodes children.now }
@@ -158,7 +169,7 @@ fn child_of_slot(
 {
     match d {
         Some(d) => {
-            let entry = entry_of_slot(w, slot, above, d);
+            let entry = entry_of_slot(w, root, slot, above, d);
             child_at(host.topo, children, node, d.entry_at(entry))
         }
         None => None,
@@ -166,12 +177,13 @@ fn child_of_slot(
 }
 
 /// The entry of its decoder to which a port leads a slot, by the ways of the ports above it.
-fn entry_of_slot(w: &Window, slot: u8, above: u32, d: &Decoder) -> u8
+fn entry_of_slot(w: &Window, root: u32, slot: u8, above: u32, d: &Decoder) -> u8
+    requires root { AreRootWays w.now root }
     requires some { 0 < above }
     requires few { above ≤ 2 ^ 20 }
     ensures { result ≡ slot / (2 ^ bits_of w.now.ways * above) % decoder_ways d.now }
 {
-    let shared = root_ways(w) * above;
+    let shared = root * above;
     (u32::from(slot) / shared % u32::from(d.interleave_ways())) as u8
 }
 

@@ -1,5 +1,6 @@
 -- Where a slot goes on from a node that is no endpoint.
 use Rattle.std.specs.Prelude.{◌≡◌, ℕ, ◌^◌, ◌/◌, ◌%◌, ◌<◌, ◌≤◌, Option, option_and_then, if◌then◌else◌}
+use Rattle.cxl_enc.specs.Codes.{bits_of}
 use Rattle.cxl_topo.specs.Tree.{forwards_at, child_of, least_child_of}
 use Rattle.cxl_regs.specs.declared.reading.Range.{Range}
 use Rattle.cxl_regs.specs.Reading.{decoder_ways, entry_at}
@@ -16,6 +17,12 @@ child_of_slot s w r slot n =
 -- the only child of a node that forwards, or that child
 abbrev pub next_of : System → WindowFields → Range → ℕ → ℕ → Option ℕ
 next_of s w r slot n = if forwards_at s.nodes n then least_child_of s.nodes n else child_of_slot s w r slot n
+
+-- a window's ways but for a factor of three
+pub record AreRootWays (w : WindowFields) (root : ℕ) : Type 0 where
+  pub is : root ≡ 2 ^ bits_of w.ways
+  pub some : 0 < root
+  pub few : root ≤ 16
 
 -- the ports above a node have so many ways together, some and no more than five ports can have
 pub record AreWaysAbove (s : System) (r : Range) (n above : ℕ) : Type 0 where

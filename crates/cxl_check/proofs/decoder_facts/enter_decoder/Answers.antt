@@ -12,15 +12,15 @@ pub returns : goal.returns
 returns c =
     let s : System = as_system c.args.host.now in
     let above = c.above_by_parent-above.ensures in
-    let facts : DecoderFacts = record { start = c.args.start; ways = c.above_by_parent-above.result.ways; bits = c.above_by_parent-above.result.bits; kind = c.args.kind } in
+    let facts : DecoderFacts = record { start = c.args.span.now.start; ways = c.above_by_parent-above.result.ways; bits = c.above_by_parent-above.result.bits; kind = c.args.span.now.kind } in
     let are : AreDecoderFacts s c.args.node c.args.i c.args.d.now facts =
     record {
       ways = above.ways ∙ ap (λ (r : Range). ways_above s r c.args.node) c.range.ensures;
       few_ways = above.few_ways;
       bits = above.bits ∙ ap (λ (r : Range). bits_above s r c.args.node) c.range.ensures;
       few_bits = above.few_bits;
-      start = c.requires.start;
-      kind = c.requires.kind;
+      start = c.requires.span.start;
+      kind = c.requires.span.kind;
     } in
     one_worked s c.args.node c.args.i c.args.d.now c.requires.few c.requires.committed.there c.args.all.now.items _ facts
     c.requires.here are c.requires.before

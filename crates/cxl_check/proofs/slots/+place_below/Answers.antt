@@ -73,7 +73,7 @@ place_below-requires t c =
     ∙ ways_below s c.args.range.now c.args.node c.unwrap-child.result parent.0 ((c.tree_laws.ensures.laws s.nodes tree).ports c.unwrap-child.result) parent.1 parent.2 in
     let few = ways_few_up s c.args.range.now c.unwrap-child.result ((c.tree_laws.ensures.laws s.nodes tree).few_ports c.unwrap-child.result) in
     let above : AreWaysAbove s c.args.range.now c.unwrap-child.result c.ways_with-above.result = record { is = ways; some = c.ways_with-above.ensures.some; few = omega (arith, ways, few) } in
-    (omega (arith, c.decreases), (c.requires.ready, (c.requires.children, (c.requires.all, (above, (c.requires.some.0, subst (λ (n : ℕ). LeadsTo s c.args.w.now c.args.range.now c.args.slot n c.requires.some.0) same goes.leads))))))
+    (omega (arith, c.decreases), (c.requires.ready, (c.requires.children, (c.requires.all, (c.requires.root, (above, (c.requires.some.0, subst (λ (n : ℕ). LeadsTo s c.args.w.now c.args.range.now c.args.slot n c.requires.some.0) same goes.leads)))))))
 
 pub returns : goal.returns
 returns t c =

@@ -5,6 +5,7 @@ use Rattle.cxl_enc.proofs.Options.{some_and}
 use Rattle.cxl_topo.specs.Tree.{bridge_with}
 use Rattle.cxl_model.specs.Hosts.{as_system}
 use Rattle.cxl_model.specs.Regions.{target_position, LeadsTo}
+use Rattle.cxl_check.proofs.WaysUp.{above_bridge}
 use Rattle.cxl_check.proofs.slots.place_of_slot.Goals as goal
 
 pub offset_bounds-targets-from : goal.offset_bounds-targets-from
@@ -42,6 +43,13 @@ place_below-requires-clause-some c =
     let bridge : bridge_with nodes uid.0 ≡ Some c.unwrap-bridge.result = ap (bridge_with nodes) (sym read) ∙ sym c.target_with.ensures ∙ c.unwrap-bridge.ensures in
     let same : span.bridge ≡ c.unwrap-bridge.result = same_Some span.bridge c.unwrap-bridge.result (sym uid.2 ∙ bridge) in
     (c.requires.some.0, subst (λ (n : ℕ). LeadsTo (as_system c.args.host.now) w c.args.range.now c.args.slot n c.requires.some.0) same span.leads)
+
+pub place_below-requires-clause-above : goal.place_below-requires-clause-above
+place_below-requires-clause-above c =
+    let s = as_system c.args.host.now in
+    let tree = c.count-count.ensures.tree in
+    above_bridge s c.args.range.now (record { tree = tree; laws = c.tree_laws.ensures.laws s.nodes tree })
+    (get_or c.targets.result.now c.from.result 0) c.unwrap-bridge.result (sym c.target_with.ensures ∙ c.unwrap-bridge.ensures)
 
 pub returns : goal.returns
 returns c =

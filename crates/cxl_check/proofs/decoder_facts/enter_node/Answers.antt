@@ -1,20 +1,23 @@
-use Rattle.std.proofs.Common.{◌≡◌, ℕ, ◌+◌, ◌*◌, ◌≤◌, length, subst, arith}
+use Rattle.std.proofs.Common.{◌≡◌, ℕ, ◌+◌, ◌*◌, ◌≤◌, length, refl, subst, arith}
 use Rattle.cxl_model.specs.Hosts.{as_system}
 use Rattle.cxl_check.specs.inner.DecoderFacts.{AreFactsBefore}
 use Rattle.cxl_check.proofs.Worked.{idle_rest, node_worked}
-use Rattle.cxl_check.proofs.decoder_facts.enter_port.Goals as goal
+use Rattle.cxl_check.proofs.decoder_facts.enter_node.Goals as goal
 
 pub loop-i-init : goal.loop-i-init
 loop-i-init c =
     let same : 10 * c.args.node ≡ 10 * c.args.node + 0 = omega arith in
-    subst (λ (k : ℕ). AreFactsBefore (as_system c.args.host.now) k c.args.all.now.items) same c.requires.before
+    record {
+      before = subst (λ (k : ℕ). AreFactsBefore (as_system c.args.host.now) k c.args.all.now.items) same c.requires.before;
+      taken = λ _. refl;
+    }
 
 pub returns-then-not-d : goal.returns-then-not-d
 returns-then-not-d c =
     idle_rest (as_system c.args.host.now) c.committed_stand_first.ensures.before c.requires.ready c.args.node c.loop-i.i c.decoder-d.result c.loop-i.all.items
-    (rw c.block-block.ensures.value c.decoder-d.ensures.value) c.if-not-d.true c.loop-i.invariant
+    (rw c.block-block.ensures.value c.decoder-d.ensures.value) c.if-not-d.true c.loop-i.invariant.before
 
 pub returns : goal.returns
 returns c =
     let all : length c.block-block.result.now.decoders ≤ c.loop-i.i = omega (arith, c.count-i-end.ensures.value) in
-    node_worked (as_system c.args.host.now) c.args.node c.loop-i.i c.loop-i.all.items (rw c.block-block.ensures.value all) c.loop-i.invariant
+    node_worked (as_system c.args.host.now) c.args.node c.loop-i.i c.loop-i.all.items (rw c.block-block.ensures.value all) c.loop-i.invariant.before
