@@ -1,5 +1,5 @@
 -- The least rule that a decoder breaks, and the first breach of all decoders.
-use Rattle.std.proofs.Common.{◌≡◌, ℕ, ◌+◌, ◌<◌, ◌≤◌, Bool, true, false, take, length, Option, Some, None, sum_by, refl, ◌∙◌, inl, inr, arith, ◌↔◌, eqb}
+use Rattle.std.proofs.Common.{◌≡◌, ℕ, ◌+◌, ◌<◌, ◌≤◌, Bool, true, false, take, length, Option, Some, None, sum_by, refl, sym, subst, ◌∙◌, inl, inr, arith, ◌↔◌, eqb}
 use Rattle.std.specs.Prelude.{slice_get, ◌==◌, if◌then◌else◌, IsNone, IfSome}
 use Rattle.std.proofs.lemmas.Bool.{cases_Bool, cases_lt, eqb-true}
 use Rattle.cxl_regs.specs.declared.decoder.Decoder.{Decoder}
@@ -63,6 +63,16 @@ least_here block ram pmem i d below taken at below_is taken_is =
     at below_is taken_is refl)
     (least_is (breaks_commit_order block below d) (breaks_flags d) (breaks_codes block d) (breaks_select block d) (breaks_size block d)
     (breaks_base_order below d) (breaks_capacity block ram pmem (taken + d.tail) d))
+
+-- at decoder i of a port, which has no span, wherever one would start
+pub least_of_port : (block : Registers) (ram pmem i : ℕ) (d : Decoder) (below : Option Decoder) (start : ℕ) → block.endpoint ≡ false
+    → slice_get block.decoders i ≡ Some d → below ≡ before block.decoders i → IsLeastAt block ram pmem i (least_rule block ram pmem below start d)
+least_of_port block ram pmem i d below start port at below_is =
+    let taken : ℕ = sum_by span_step (take i block.decoders) in
+    let none : breaks_capacity block ram pmem (taken + d.tail) d ≡ false = rw port refl in
+    let other : breaks_capacity block ram pmem start d ≡ false = rw port refl in
+    subst (λ (b : Bool). IsLeastAt block ram pmem i (least_of (breaks_commit_order block below d) (breaks_flags d) (breaks_codes block d) (breaks_select block d) (breaks_size block d) (breaks_base_order below d) b))
+    (none ∙ sym other) (least_here block ram pmem i d below taken at below_is refl)
 
 -- of all decoders, where there are no others
 pub none_of_all : (block : Registers) (ram pmem n : ℕ) (o : Option BlockBreach) → length block.decoders ≤ n → IsFoundBelow block ram pmem n o

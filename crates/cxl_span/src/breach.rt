@@ -1,12 +1,12 @@
 //! The first of the rules K2 to K8 that a block breaks.
 
-ghost use Rattle.std.specs.Prelude.{ℕ, ◌+◌, ◌↔◌, IsNone, IfSome};
+ghost use Rattle.std.specs.Prelude.{◌≡◌, ℕ, ◌+◌, ◌↔◌, true, IsNone, IfSome};
 ghost use Rattle.cxl_regs.specs.Registers.{Registers};
+ghost use Rattle.cxl_regs.specs.Reading.{span_length};
 ghost use Rattle.cxl_span.specs.Breaches.{BlockKeeps, IsFirstBlockBreach};
 ghost use Rattle.cxl_span.specs.inner.Least.{IsLeastAt, IsFoundBelow};
 
 use crate::rules::least_rule;
-use crate::spans::span_step;
 use cxl_regs::{Block, Decoder};
 
 /// The rule that a block breaks, from 2 to 8 for K2 to K8, and the decoder that breaks it.
@@ -22,17 +22,27 @@ pub fn block_breach(block: &Block, ram: u64, pmem: u64) -> Option<BlockBreach>
     ensures none { IsNone result ↔ BlockKeeps block.now ram pmem }
     ensures first { IfSome result (λ breach. IsFirstBlockBreach block.now ram pmem breach.rule breach.decoder) }
 {
+    let endpoint = block.endpoint();
     let mut first = None;
     let mut taken = 0;
     let mut below: Option<Decoder> = None;
     for i in 0..block.count() {
         let d = block.decoder(i);
+        let len = span_bytes(endpoint, &d);
         let start = taken + u128::from(d.tail);
-        first = earlier(first, i, least_rule(block, ram, pmem, below, start, &d));
-        taken += span_step(&d);
+        let rule = least_rule(block, ram, pmem, below, start, len, &d);
+        first = earlier(first, i, rule);
+        taken = start + u128::from(len);
         below = Some(d);
     }
     first
+}
+
+/// How many bytes of its device an endpoint's decoder takes; a port's takes none.
+fn span_bytes(endpoint: bool, d: &Decoder) -> u64
+    ensures { endpoint ≡ true → result ≡ span_length d.now }
+{
+    if endpoint { d.span_length() } else { 0 }
 }
 
 /// The first breach of the decoders up to this one, from that of the decoders before and the least rule that it breaks

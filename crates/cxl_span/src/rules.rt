@@ -1,6 +1,7 @@
 //! The rules K2 to K8 at one decoder.
 
-ghost use Rattle.std.specs.Prelude.{◌≡◌, ◌^◌, ◌<◌};
+ghost use Rattle.std.specs.Prelude.{◌≡◌, ◌^◌, ◌<◌, true};
+ghost use Rattle.cxl_regs.specs.Reading.{span_length};
 ghost use Rattle.cxl_span.specs.Partitions.{lies_in};
 ghost use Rattle.cxl_span.specs.Rules.{breaks_commit_order, breaks_flags, breaks_codes, breaks_select, breaks_size, breaks_base_order, breaks_capacity};
 ghost use Rattle.cxl_span.specs.inner.Least.{least_rule};
@@ -8,17 +9,19 @@ ghost use Rattle.cxl_span.specs.inner.Least.{least_rule};
 use cxl_enc::{ADDRESS_LIMIT, MemKind, UNIT};
 use cxl_regs::{Block, Decoder, breaks_order, breaks_rise, codes_ok, select_ok};
 
-/// The least rule, from 2 to 8 for K2 to K8, that a decoder breaks with this one before it and with a span that starts
-/// there.
+/// The least rule, from 2 to 8 for K2 to K8, that a decoder breaks with this one before it and with a span of so many bytes
+/// that starts there; a port's has no span.
 pub(crate) fn least_rule(
     block: &Block,
     ram: u64,
     pmem: u64,
     below: Option<Decoder>,
     start: u128,
+    len: u64,
     d: &Decoder,
 ) -> Option<u8>
-    requires { start < 2 ^ 100 }
+    requires start { start < 2 ^ 100 }
+    requires len { block.now.endpoint ≡ true → len ≡ span_length d.now }
     ensures { result ≡ least_rule block.now ram pmem below start d.now }
 {
     if breaks_commit_order(block, below, d) {
@@ -39,7 +42,7 @@ pub(crate) fn least_rule(
     if breaks_base_order(below, d) {
         return Some(7);
     }
-    if breaks_capacity(block, ram, pmem, start, d) {
+    if breaks_capacity_with(block, ram, pmem, start, len, d) {
         return Some(8);
     }
     None
@@ -93,7 +96,22 @@ pub(crate) fn breaks_capacity(block: &Block, ram: u64, pmem: u64, start: u128, d
     requires { start < 2 ^ 100 }
     ensures { result ≡ breaks_capacity block.now ram pmem start d.now }
 {
-    let len = d.span_length();
+    breaks_capacity_with(block, ram, pmem, start, d.span_length(), d)
+}
+
+/// The same by how many bytes the span has.
+fn breaks_capacity_with(
+    block: &Block,
+    ram: u64,
+    pmem: u64,
+    start: u128,
+    len: u64,
+    d: &Decoder,
+) -> bool
+    requires start { start < 2 ^ 100 }
+    requires len { block.now.endpoint ≡ true → len ≡ span_length d.now }
+    ensures { result ≡ breaks_capacity block.now ram pmem start d.now }
+{
     block.endpoint()
         && d.committed
         && !(lies_in(MemKind::Ram, ram, pmem, start, len)
