@@ -1,9 +1,9 @@
 -- One window after the other.
-use Rattle.std.proofs.Common.{◌≡◌, ℕ, ◌+◌, ◌<◌, Bool, false, not, ◌&&◌, ◌||◌, List, [], ◌∷◌, ◌++◌, length, Option, Some, refl, sym, ap, subst, ◌∙◌, inl, inr, arith}
-use Rattle.std.specs.Prelude.{slice_get, ◌==◌}
+use Rattle.std.proofs.Common.{◌≡◌, ℕ, ◌+◌, ◌<◌, Bool, false, not, ◌&&◌, ◌||◌, List, [], ◌∷◌, ◌++◌, length, Option, Some, None, true, refl, sym, ap, subst, ◌∙◌, inl, inr, arith}
+use Rattle.std.specs.Prelude.{slice_get, ◌==◌, IfSome}
 use Rattle.std.specs.Option.{option_map_or}
 use Rattle.std.specs.List.{list_all, list_any}
-use Rattle.std.proofs.lemmas.Bool.{cases_Bool, cases_eq, cases_lt}
+use Rattle.std.proofs.lemmas.Bool.{cases_Bool, cases_eq, cases_lt, false≢true, not-true}
 use Rattle.std.proofs.lemmas.Option.{none-some, same_Some, slice_get_within}
 use Rattle.cxl_enc.proofs.Lists.{get_last}
 use Rattle.cxl_enc.proofs.Tests.{and_false}
@@ -70,8 +70,8 @@ one_without_more s request i w here known own j v below there =
     ]
 
 -- a window that does not target some used bridge does not take the request
-pub passed_over : (s : System) (request : Request) (w : WindowFields) (uid : ℕ) → IsUsedUid s.nodes request uid → list_any (λ target. target == uid) w.targets ≡ false → HasReason s request w
-passed_over s request w uid is none =
+untargeted : (s : System) (request : Request) (w : WindowFields) (uid : ℕ) → IsUsedUid s.nodes request uid → list_any (λ target. target == uid) w.targets ≡ false → HasReason s request w
+untargeted s request w uid is none =
     elim (cases_Bool (is_usable w.verdict)) [
       | inr unusable ↦ (reasons.Unusable, record { holds = unusable; first = λ other says. omega arith })
       | inl usable ↦ elim (cases_Bool (permits w request.kind)) [
@@ -83,11 +83,11 @@ passed_over s request w uid is none =
       ]
     ]
   where
-    untargeted : is_target s w is.node ≡ false
-    untargeted = ap (λ (o : Option ℕ). option_map_or (λ uid. list_any (λ target. target == uid) w.targets) o false) is.own ∙ none
+    no_target : is_target s w is.node ≡ false
+    no_target = ap (λ (o : Option ℕ). option_map_or (λ uid. list_any (λ target. target == uid) w.targets) o false) is.own ∙ none
 
     fails : (not (is_bridge_at s.nodes is.node && is_used s request is.node) || is_target s w is.node) ≡ false
-    fails = rw (is.bridge, is.used, untargeted) refl
+    fails = rw (is.bridge, is.used, no_target) refl
 
     bridges : has_used_bridges s request w ≡ false
     bridges =
@@ -95,6 +95,11 @@ passed_over s request w uid is none =
         ap (λ (all : Bool). list_all (is_used_bridge s request) w.targets && all)
         (all_fails (λ n. not (is_bridge_at s.nodes n && is_used s request n) || is_target s w n) 0 (length s.nodes) is.node (omega arith) (omega arith) fails)
         ∙ and_false (list_all (is_used_bridge s request) w.targets)
+
+pub passed_over : (s : System) (request : Request) (w : WindowFields) (uid : Option ℕ) → IfSome uid (IsUsedUid s.nodes request) → option_map_or (λ uid. not (list_any (λ target. target == uid) w.targets)) uid false ≡ true
+    → HasReason s request w
+passed_over s request w None is lacks = absurd (false≢true lacks)
+passed_over s request w (Some uid) is lacks = untargeted s request w uid is (not-true _ lacks)
 
 pub all_reasons : (s : System) (request : Request) (i : ℕ) (reasons : List Reason) → i ≡ length s.windows → AreReasonsBelow s request i reasons → AreReasons s request reasons
 all_reasons s request i reasons whole known = record { count = known.count ∙ whole; each = known.each }

@@ -1,13 +1,15 @@
 //! The first window that takes a request.
 
-ghost use Rattle.std.specs.Prelude.{◌≡◌, ◌<◌, true, length, slice_get, Some, IfOk, IfSome, IfNone};
+ghost use Rattle.std.specs.Prelude.{◌≡◌, ◌<◌, ◌==◌, not, true, false, length, slice_get, Some, IfOk, IfSome, IfNone};
+ghost use Rattle.std.specs.Option.{option_map_or};
+ghost use Rattle.std.specs.List.{list_any};
 ghost use Rattle.cxl_topo.specs.Tree.{is_bridge_at, uid_at};
 ghost use Rattle.cxl_window.specs.Fields.{WindowFields};
 ghost use Rattle.cxl_model.specs.Hosts.{as_system};
 ghost use Rattle.cxl_plan.specs.inner.Uses.{AreUses};
 ghost use Rattle.cxl_plan.specs.inner.Stages.{AreStages};
 ghost use Rattle.cxl_plan.specs.inner.Judging.{AsksOrderlySystem, HasLowShare};
-ghost use Rattle.cxl_plan.specs.Faults.{TakesRequest, TakesFirst, IsReason, AreReasons};
+ghost use Rattle.cxl_plan.specs.Faults.{TakesFirst, IsReason, AreReasons};
 ghost use Rattle.cxl_plan.specs.inner.Floors.{IsFloor};
 ghost use Rattle.cxl_plan.specs.inner.Choices.{IsChoice, IsUsedUid, HasReason, NoneTakes};
 
@@ -53,7 +55,8 @@ pub(crate) fn choose(
 }
 
 /// The first window that takes the request, and the least base there. Windows that do not target one used bridge are
-/// passed over by that alone.
+/// passed over by that alone, and the function stays one, so that this loop keeps its registers.
+#[inline(never)]
 fn first_taking(
     host: &Host,
     request: &Request,
@@ -73,7 +76,10 @@ fn first_taking(
     let windows = host.windows;
     let uid = used_uid(host.topo, request, uses);
     for (i, w) in windows.iter().enumerate() {
-        if let Some(base) = base_where(host, request, uses, stages, floor, uid, w) {
+        if lacks(w, uid) {
+            continue;
+        }
+        if let Ok(base) = base_in(host.topo, request, uses, stages, floor, w) {
             return Some((i, base));
         }
     }
@@ -105,34 +111,13 @@ fn bridge_uid(topo: &Topo, node: u32) -> Option<u32>
     }
 }
 
-/// The least base in a window that takes the request. `uid` is that of a used bridge.
-fn base_where(
-    host: &Host,
-    request: &Request,
-    uses: &Uses,
-    stages: &[Stage],
-    floor: u64,
-    uid: Option<u32>,
-    w: &Window,
-) -> Option<u64>
-    requires ready { AsksOrderlySystem (as_system host.now) request.now }
-    requires sound { HasLowShare request.now }
-    requires uses { AreUses host.now.topo.now.nodes request.now uses.now }
-    requires stages { AreStages host.now.topo.now.nodes request.now uses.now.nodes.items stages.now }
-    requires floor { IsFloor host.now.topo.now.nodes host.now.image.now request.now floor }
-    requires uid { IfSome uid (IsUsedUid host.now.topo.now.nodes request.now) }
-    ensures taken { IfSome result (λ base. slice_get host.now.windows.now w.now.index ≡ Some w.now
-        → TakesRequest (as_system host.now) request.now w.now base) }
-    ensures none { IfNone result (HasReason (as_system host.now) request.now w.now) }
+/// Whether a window does not target the bridge of this UID, where there is one.
+fn lacks(w: &Window, uid: Option<u32>) -> bool
+    ensures { result ≡ option_map_or (λ uid. not (list_any (λ target. target == uid) w.now.targets)) uid false }
 {
-    if let Some(uid) = uid {
-        if !has_target(w, uid) {
-            return None;
-        }
-    }
-    match base_in(host.topo, request, uses, stages, floor, w) {
-        Ok(base) => Some(base),
-        Err(_) => None,
+    match uid {
+        Some(uid) => !has_target(w, uid),
+        None => false,
     }
 }
 
