@@ -1,6 +1,6 @@
 //! The first fault of an image file.
 
-ghost use Rattle.std.specs.Prelude.{◌≡◌, ◌+◌, ◌<◌, ◌≤◌, length, slice_get, Some, IfSome, IfNone};
+ghost use Rattle.std.specs.Prelude.{◌≡◌, ◌+◌, ◌<◌, ◌≤◌, length, IfSome, IfNone};
 ghost use Rattle.cxl_topo.specs.Faults.{IsTree};
 ghost use Rattle.cxl_image.specs.Fields.{start_of, end_of, has_magic};
 ghost use Rattle.cxl_image.specs.File.{AgreesUpTo, IsFirstImageFault};

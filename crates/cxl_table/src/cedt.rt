@@ -1,6 +1,6 @@
 //! A table as its header and the list of its records.
 
-ghost use Rattle.std.specs.Prelude.{◌≡◌, ◌≤◌, length};
+ghost use Rattle.std.specs.Prelude.{◌≡◌, ◌≤◌};
 ghost use Rattle.cxl_enc.specs.Limits.{file_limit};
 ghost use Rattle.cxl_table.specs.Records.{table_length, HasFewOfEach};
 

@@ -1,6 +1,6 @@
 //! The positions of addresses among a window's targets.
 
-ghost use Rattle.std.specs.Prelude.{◌≡◌, ◌<◌, ◌≤◌, ◌^◌, ◌%◌, ℕ, Some};
+ghost use Rattle.std.specs.Prelude.{◌≡◌, ◌<◌, ◌≤◌, ◌^◌, ℕ, Some};
 ghost use Rattle.std.specs.Bool.{OnTrue, OnFalse};
 ghost use Rattle.cxl_enc.specs.Codes.{bits_of};
 ghost use Rattle.cxl_num.specs.Maps.{with_raw_bits};

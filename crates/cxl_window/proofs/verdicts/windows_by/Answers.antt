@@ -2,9 +2,8 @@ use Rattle.std.proofs.Common.{◌≡◌, List, [], length, take, Some, sym, ap, 
 use Rattle.std.specs.Prelude.{All}
 use Rattle.std.proofs.lemmas.List.Elements.{All-push}
 use Rattle.std.specs.Option.{option_copied}
-use Rattle.cxl_table.specs.declared.cedt.Record.{Record}
 use Rattle.cxl_window.specs.Fields.{WindowFields, IsWindow}
-use Rattle.cxl_window.specs.Judging.{IsJudgeOf, tables_behind, windows_behind}
+use Rattle.cxl_window.specs.Judging.{tables_behind, windows_behind}
 use Rattle.cxl_window.specs.Windows.{windows_of, AreMadeWith}
 use Rattle.cxl_window.proofs.BridgeLists.{no_bridge_missing}
 use Rattle.cxl_window.proofs.WindowLists.{windows_from-next, length-windows_from, window_of-judged, few_taken, behind_more, windows_at_end, length-windows_of}
