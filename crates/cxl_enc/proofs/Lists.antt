@@ -52,6 +52,16 @@ drop_all [] (suc i) past = refl
 drop_all (x ∷ xs) zero past = absurd (omega arith)
 drop_all (x ∷ xs) (suc i) past = drop_all xs i (omega arith)
 
+-- lists with the same element at each place are one
+pub same_by_get : {X : Type 0} (xs ys : List X) → ((k : ℕ) → slice_get xs k ≡ slice_get ys k) → xs ≡ ys
+same_by_get [] [] same = refl
+same_by_get [] (y ∷ ys) same = absurd (none-some y (same zero))
+same_by_get (x ∷ xs) [] same = absurd (none-some x (sym (same zero)))
+same_by_get (x ∷ xs) (y ∷ ys) same =
+    let first : x ≡ y = same_Some x y (same zero) in
+    let rest : xs ≡ ys = same_by_get xs ys (λ k. same (suc k)) in
+    λ i. first i ∷ rest i
+
 -- ---- an element set
 
 pub get_same : {X : Type 0} (xs : List X) (i : ℕ) (x : X) → i < length xs → slice_get (slice_set xs i x) i ≡ Some x

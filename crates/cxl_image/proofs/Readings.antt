@@ -1,8 +1,8 @@
 -- Bytes are a file of one image or have one first fault, and never both.
-use Rattle.std.proofs.Common.{◌≡◌, ℕ, suc, ◌+◌, ◌<◌, ◌≤◌, List, [], ◌∷◌, length, Some, Result, Ok, Err, IfOk, IfErr, refl, sym, ap, ◌∙◌, inl, inr, arith}
+use Rattle.std.proofs.Common.{◌≡◌, ℕ, ◌+◌, ◌<◌, ◌≤◌, List, length, Result, Ok, Err, IfOk, IfErr, refl, sym, ap, ◌∙◌, inl, inr, arith}
 use Rattle.std.proofs.lemmas.Bool.{cases_lt, false≢true}
-use Rattle.std.proofs.lemmas.Option.{none-some, slice_get_cases, slice_get_past}
-use Rattle.std.specs.Prelude.{slice_get}
+use Rattle.std.proofs.lemmas.Option.{slice_get_cases, slice_get_past}
+use Rattle.cxl_enc.proofs.Lists.{same_by_get}
 use Rattle.cxl_regs.specs.Registers.{Registers}
 use Rattle.cxl_topo.specs.declared.node.Node.{Node}
 use Rattle.cxl_image.specs.declared.fault.ImageFault.{ImageFault}
@@ -15,17 +15,8 @@ use Rattle.cxl_image.proofs.Blocks.{file_caps}
 
 -- ---- one image
 
-same_blocks : (xs ys : List Registers) → ((k : ℕ) → slice_get xs k ≡ slice_get ys k) → xs ≡ ys
-same_blocks [] [] h = refl
-same_blocks [] (y ∷ ys) h = absurd (none-some y (h 0))
-same_blocks (x ∷ xs) [] h = absurd (none-some x (sym (h 0)))
-same_blocks (x ∷ xs) (y ∷ ys) h =
-    let first : Some x ≡ Some y = h 0 in
-    let others : xs ≡ ys = same_blocks xs ys (λ k. h (suc k)) in
-    cc
-
 pub one_image : (bytes : List ℕ) (nodes : List Node) (image other : List Registers) → IsImageFile bytes nodes image → IsImageFile bytes nodes other → image ≡ other
-one_image bytes nodes image other h k = same_blocks image other (λ i. elim (slice_get_cases nodes i).1 [
+one_image bytes nodes image other h k = same_by_get image other (λ i. elim (slice_get_cases nodes i).1 [
   | inl here ↦ h.each i here.0 here.2 ∙ sym (k.each i here.0 here.2)
   | inr past ↦
       let beyond = past.0 in
