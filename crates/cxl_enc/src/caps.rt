@@ -3,6 +3,8 @@
 ghost use Rattle.std.specs.Prelude.{◌≡◌, ◌*◌, ◌<◌, IsTrue};
 ghost use Rattle.cxl_enc.specs.Caps.{targets_of, has_bit, is_legal_cap, has_named_bits, has_own_bits, are_caps, bit_of, word_of};
 
+use crate::bits::{CAP_HIGH, CAP_LOW, CAP_WAYS3, CAP_WAYS16};
+
 /// The two kinds of device memory: volatile and persistent.
 #[derive(Clone, Copy, PartialEq, Eq)]
 pub enum MemKind {
@@ -54,7 +56,7 @@ pub fn legal_cap(cap: u32, endpoint: bool) -> bool
 fn has_named_bits(cap: u32) -> bool
     ensures { result ≡ has_named_bits cap }
 {
-    cap % 16 <= 5 && cap / 1_024 % 2 == 0 && cap < 8_192
+    cap % 16 <= 5 && cap / 1_024 % 2 == 0 && cap < 2 << CAP_WAYS16
 }
 
 fn has_own_bits(cap: u32, endpoint: bool) -> bool
@@ -64,7 +66,7 @@ fn has_own_bits(cap: u32, endpoint: bool) -> bool
     if endpoint {
         return targets == 0;
     }
-    matches!(targets, 1 | 2 | 4 | 8) && cap < 2_048
+    matches!(targets, 1 | 2 | 4 | 8) && cap < 1 << CAP_WAYS3
 }
 
 /// The capability word with these fields. (CXL HDM decoder capability.)
@@ -77,10 +79,10 @@ pub fn cap_word(caps: &Caps) -> u32
     let targets = 16 * u32::from(caps.targets);
     count
         + targets
-        + bit(caps.low, 256)
-        + bit(caps.high, 512)
-        + bit(caps.ways3, 2_048)
-        + bit(caps.ways16, 4_096)
+        + bit(caps.low, 1 << CAP_LOW)
+        + bit(caps.high, 1 << CAP_HIGH)
+        + bit(caps.ways3, 1 << CAP_WAYS3)
+        + bit(caps.ways16, 1 << CAP_WAYS16)
 }
 
 fn bit(flag: bool, weight: u32) -> u32

@@ -1,8 +1,9 @@
 //! What every crate of `cxlplan` speaks in: the codes of ways and granularity, names, capability
-//! words, limits, lists that stay as they were made, how a call says that it failed, and calls that are to
+//! words, the bits of words, limits, lists that stay as they were made, how a call says that it failed, and calls that are to
 //! fail.
 #![tactic(auto)]
 
+mod bits;
 mod caps;
 mod codes;
 mod counters;
@@ -11,6 +12,11 @@ mod fixed_list;
 mod limits;
 mod name;
 
+pub use bits::{
+    CAP_HIGH, CAP_LOW, CAP_WAYS3, CAP_WAYS16, CONTROL_COMMIT, CONTROL_COMMITTED, CONTROL_ERROR,
+    CONTROL_HOST_ONLY, CONTROL_LOCK, GLOBAL_ENABLE, WINDOW_FIXED, WINDOW_HOST_ONLY, WINDOW_PMEM,
+    WINDOW_RAM,
+};
 pub use caps::{Caps, MemKind, cap_word, has_bit, legal_cap, target_count};
 pub use codes::{Factors, chunk_size, code_of, gran_code, gran_of, split, ways_of};
 pub use counters::FailingCalls;

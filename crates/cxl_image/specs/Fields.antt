@@ -3,6 +3,7 @@
 use Rattle.std.specs.Prelude.{ℕ, ◌+◌, ◌*◌, ◌/◌, ◌%◌, ◌^◌, Bool, not, ◌||◌, nat_eq, List, length, map, take, drop, sum_by, codes}
 use Rattle.std.specs.List.{starts_with, range_with_len}
 use Rattle.byteorder.specs.Endian.{little_number}
+use Rattle.cxl_enc.specs.Bits.{global_enable}
 use Rattle.cxl_enc.specs.Caps.{decoders_code, decoders_of}
 use Rattle.cxl_enc.specs.Limits.{node_limit}
 use Rattle.cxl_regs.specs.declared.decoder.Decoder.{Decoder}
@@ -64,6 +65,6 @@ abbrev pub block_from : List ℕ → ℕ → Node → Registers
 block_from bytes at node = record {
   cap = node.cap;
   endpoint = is_endpoint node.kind;
-  enabled = not (is_endpoint node.kind) || has_bit (word_from bytes (at + 4)) 1;
+  enabled = not (is_endpoint node.kind) || has_bit (word_from bytes (at + 4)) global_enable;
   decoders = map (λ i. decoder_from bytes (is_endpoint node.kind) (at + 16 + 32 * i)) (range_with_len 0 (decoder_count node));
 }

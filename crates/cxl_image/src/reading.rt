@@ -2,6 +2,7 @@
 
 ghost use Rattle.std.specs.Prelude.{◌≡◌, ◌+◌, ◌*◌, ◌≤◌, IsTrue, not, ◌||◌, List, length, map, take, All, Ok, Err, IfOk, IfErr};
 ghost use Rattle.std.specs.List.{range_with_len};
+ghost use Rattle.cxl_enc.specs.Bits.{global_enable};
 ghost use Rattle.cxl_enc.specs.Caps.{is_legal_cap};
 ghost use Rattle.cxl_regs.specs.Registers.{Registers, IsBlock, IsDecoder};
 ghost use Rattle.cxl_regs.specs.Words.{has_bit};
@@ -16,7 +17,7 @@ use crate::image::Image;
 use crate::judging::{HEAD, first_image_fault};
 use crate::nodes::block_size;
 use crate::words::{decoder_words, word_from};
-use cxl_enc::Memory;
+use cxl_enc::{GLOBAL_ENABLE, Memory, has_bit};
 use cxl_regs::{Block, Decoder, MOST_DECODERS, decoder_count, decoder_of};
 use cxl_topo::{Node, Topo};
 use std::alloc::Global;
@@ -79,9 +80,9 @@ fn block_from(bytes: &[u8], at: usize, node: &Node) -> Block
 /// Whether the block that begins at byte place `at` decodes.
 fn decodes(bytes: &[u8], at: usize, endpoint: bool) -> bool
     requires { at + 8 ≤ length bytes.now }
-    ensures { result ≡ (not endpoint || has_bit (word_from bytes.now (at + 4)) 1) }
+    ensures { result ≡ (not endpoint || has_bit (word_from bytes.now (at + 4)) global_enable) }
 {
-    !endpoint || (word_from(bytes, at + 4) >> 1) & 1 == 1
+    !endpoint || has_bit(word_from(bytes, at + 4), GLOBAL_ENABLE)
 }
 
 /// So many decoders, of which the first begins at byte place `at`, and others after reset behind them.

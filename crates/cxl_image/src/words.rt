@@ -5,7 +5,7 @@ ghost use Rattle.cxl_image.specs.Fields.{word_from, words_from, named_bits};
 ghost use Rattle.cxl_image.specs.Text.{word_bytes, words_text};
 
 use byteorder::{ByteOrder, LittleEndian};
-use cxl_enc::Memory;
+use cxl_enc::{CAP_WAYS3, Memory};
 
 /// The word at a byte place.
 #[tactic(auto, unfolding(crate::specs::Fields::word_from))]
@@ -32,8 +32,8 @@ pub fn named_bits(cap: u32) -> u32
     ensures { result ≡ named_bits cap }
 {
     let low = cap & 0x3ff;
-    let ways = (cap >> 11) & 0x3;
-    low + (ways << 11)
+    let ways = (cap >> CAP_WAYS3) & 0x3;
+    low + (ways << CAP_WAYS3)
 }
 
 /// Appends a word.

@@ -3,6 +3,7 @@
 use Rattle.std.specs.Prelude.{ℕ, ◌+◌, ◌-◌, ◌^◌, ◌==◌, nat_lt, nat_le, Bool, false, not, ◌&&◌, ◌||◌, if◌then◌else◌, List, Option, Some, None, slice_get}
 use Rattle.std.specs.Option.{option_map_or}
 use Rattle.std.specs.List.{list_all, range_with_len}
+use Rattle.cxl_enc.specs.Bits.{cap_low, cap_high, cap_ways3, cap_ways16}
 use Rattle.cxl_enc.specs.Caps.{targets_of}
 use Rattle.cxl_regs.specs.declared.decoder.Decoder.{Decoder}
 use Rattle.cxl_regs.specs.declared.effect.CommitRule.{CommitRule}
@@ -18,7 +19,7 @@ port_ways_ok cap ways = nat_le ways 3 && nat_le (2 ^ ways) (targets_of cap)
 -- an endpoint's ways are 1, 2, 4 or 8, with bit 12 also 16, and with bit 11 also 3, 6 and 12
 abbrev pub endpoint_ways_ok : ℕ → ℕ → Bool
 endpoint_ways_ok cap ways =
-    nat_le ways 3 || ((ways == 4) && has_bit cap 12) || (nat_le 8 ways && nat_le ways 10 && has_bit cap 11)
+    nat_le ways 3 || ((ways == 4) && has_bit cap cap_ways16) || (nat_le 8 ways && nat_le ways 10 && has_bit cap cap_ways3)
 
 -- codes that the block can commit
 abbrev pub codes_ok : ℕ → Bool → Decoder → Bool
@@ -28,7 +29,7 @@ codes_ok cap endpoint d =
 -- an address bit that the block can select on: 11:8 with bit 8 of its capability, 14:12 with bit 9
 abbrev pub selects : ℕ → ℕ → Bool
 selects cap bit =
-    (nat_le 8 bit && nat_le bit 11 && has_bit cap 8) || (nat_le 12 bit && nat_le bit 14 && has_bit cap 9)
+    (nat_le 8 bit && nat_le bit 11 && has_bit cap cap_low) || (nat_le 12 bit && nat_le bit 14 && has_bit cap cap_high)
 
 -- the address bits from gran + 8 on, so many of them
 abbrev pub select_ok : ℕ → ℕ → ℕ → Bool

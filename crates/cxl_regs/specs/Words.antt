@@ -2,6 +2,7 @@
 use Rattle.std.specs.Prelude.{◌≡◌, ℕ, ◌+◌, ◌-◌, ◌*◌, ◌/◌, ◌%◌, ◌^◌, ◌<◌, ◌==◌, nat_lt, Bool, ◌&&◌, if◌then◌else◌, List, [], ◌∷◌, length, slice_get, slice_index, Option, None, option_and_then}
 pub use Rattle.cxl_enc.specs.Caps.{has_bit}
 use Rattle.cxl_enc.specs.Caps.{bit_of}
+use Rattle.cxl_enc.specs.Bits.{control_lock, control_commit, control_committed, control_error, control_host_only}
 use Rattle.cxl_regs.specs.declared.decoder.Decoder.{Decoder}
 use Rattle.cxl_regs.specs.Registers.{Registers}
 
@@ -38,11 +39,11 @@ decoder_of words endpoint =
       size = at 3 * 2 ^ 32 + top_bits (at 2);
       gran = at 4 % 16;
       ways = at 4 / 16 % 16;
-      lock = has_bit (at 4) 8;
-      commit = has_bit (at 4) 9;
-      committed = has_bit (at 4) 10;
-      error = has_bit (at 4) 11;
-      host_only = has_bit (at 4) 12;
+      lock = has_bit (at 4) control_lock;
+      commit = has_bit (at 4) control_commit;
+      committed = has_bit (at 4) control_committed;
+      error = has_bit (at 4) control_error;
+      host_only = has_bit (at 4) control_host_only;
       tail = at 6 * 2 ^ 32 + (if endpoint then top_bits (at 5) else at 5);
     }
 

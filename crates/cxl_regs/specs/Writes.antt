@@ -4,6 +4,7 @@
 use Rattle.std.specs.Prelude.{◌≡◌, ℕ, ◌+◌, ◌*◌, ◌/◌, ◌%◌, ◌^◌, ◌==◌, nat_lt, Bool, true, false, not, ◌&&◌, ◌||◌, if◌then◌else◌, List, drop, slice_get, slice_set, Option, Some, None}
 use Rattle.std.specs.Option.{option_map_or}
 use Rattle.std.specs.List.{list_any}
+use Rattle.cxl_enc.specs.Bits.{global_enable, control_lock, control_commit, control_host_only}
 use Rattle.cxl_regs.specs.declared.decoder.Decoder.{Decoder}
 use Rattle.cxl_regs.specs.declared.effect.CommitRule.{CommitRule}
 use Rattle.cxl_regs.specs.declared.effect.Effect.{Effect}
@@ -50,19 +51,19 @@ with_word endpoint d place v =
 -- granularity, ways, lock and host-only are those of v
 abbrev pub with_control : Decoder → ℕ → Decoder
 with_control d v =
-    record d { gran = v % 16; ways = v / 16 % 16; lock = has_bit v 8; host_only = has_bit v 12 }
+    record d { gran = v % 16; ways = v / 16 % 16; lock = has_bit v control_lock; host_only = has_bit v control_host_only }
 
 -- the global control of an endpoint: decoding ends only while no decoder is committed
 abbrev pub after_global : Registers → ℕ → AfterWrite
 after_global block v =
-    if has_bit v 1 then record { block = record block { enabled = true }; effect = Written }
+    if has_bit v global_enable then record { block = record block { enabled = true }; effect = Written }
     else (if any_committed block.decoders then dropped block
     else record { block = record block { enabled = false }; effect = Written })
 
 -- the control of a committed decoder: the last committed one is released, unless it is locked
 abbrev pub after_release : Registers → ℕ → Decoder → ℕ → AfterWrite
 after_release block i d v =
-    if d.lock || has_bit v 9 || any_committed (drop (i + 1) block.decoders) then dropped block
+    if d.lock || has_bit v control_commit || any_committed (drop (i + 1) block.decoders) then dropped block
     else record { block = with_decoder block i (record d { commit = false; committed = false }); effect = Released }
 
 -- decoder i is committed with these registers, or the first rule that it breaks is answered
@@ -75,7 +76,7 @@ after_commit block i d (Some rule) =
 -- the control of a decoder that is not committed
 abbrev pub after_control : Registers → ℕ → Decoder → ℕ → AfterWrite
 after_control block i d v =
-    if has_bit v 9 then after_commit block i (with_control d v) (first_broken_rule block i (with_control d v))
+    if has_bit v control_commit then after_commit block i (with_control d v) (first_broken_rule block i (with_control d v))
     else record { block = with_decoder block i (record (with_control d v) { commit = false; error = false }); effect = Written }
 
 -- a word of decoder i: its reserved word and all words of a committed decoder but its control drop the value

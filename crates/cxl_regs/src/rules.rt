@@ -5,7 +5,7 @@ ghost use Rattle.cxl_enc.specs.Caps.{decoders_code, decoders_of};
 ghost use Rattle.cxl_regs.specs.Rules.{port_ways_ok, endpoint_ways_ok, codes_ok, selects, select_ok, breaks_order, breaks_rise};
 
 use crate::decoder::Decoder;
-use cxl_enc::{has_bit, target_count};
+use cxl_enc::{CAP_HIGH, CAP_LOW, CAP_WAYS3, CAP_WAYS16, has_bit, target_count};
 
 /// How many decoders a capability word states. (CXL HDM decoder capability.)
 pub fn decoder_count(cap: u32) -> u8
@@ -41,8 +41,8 @@ fn endpoint_ways_ok(cap: u32, ways: u8) -> bool
 {
     match ways {
         0..=3 => true,
-        4 => has_bit(cap, 12),
-        8..=10 => has_bit(cap, 11),
+        4 => has_bit(cap, CAP_WAYS16),
+        8..=10 => has_bit(cap, CAP_WAYS3),
         _ => false,
     }
 }
@@ -60,8 +60,8 @@ fn selects(cap: u32, bit: u32) -> bool
     ensures { result ≡ selects cap bit }
 {
     match bit {
-        8..=11 => has_bit(cap, 8),
-        12..=14 => has_bit(cap, 9),
+        8..=11 => has_bit(cap, CAP_LOW),
+        12..=14 => has_bit(cap, CAP_HIGH),
         _ => false,
     }
 }

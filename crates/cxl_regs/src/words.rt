@@ -1,14 +1,15 @@
 //! The eight words of a decoder, both ways.
 
-ghost use Rattle.std.specs.Prelude.{◌≡◌, ◌<◌, ◌≤◌, ◌+◌, ◌*◌, ◌/◌, ◌%◌, ◌^◌, Bool, if◌then◌else◌};
-ghost use Rattle.cxl_enc.specs.Caps.{bit_of};
+ghost use Rattle.std.specs.Prelude.{◌≡◌, ◌<◌, ◌+◌, ◌*◌, ◌%◌, ◌^◌, Bool};
 ghost use Rattle.cxl_enc.specs.Limits.{unit};
 ghost use Rattle.cxl_regs.specs.declared.decoder.Decoder.{Decoder};
 ghost use Rattle.cxl_regs.specs.Registers.{IsDecoder};
 ghost use Rattle.cxl_regs.specs.Words.{words_of, control_of, low_half, high_half, top_bits, decoder_of};
 
 use crate::decoder::Decoder;
-use cxl_enc::has_bit;
+use cxl_enc::{
+    CONTROL_COMMIT, CONTROL_COMMITTED, CONTROL_ERROR, CONTROL_HOST_ONLY, CONTROL_LOCK, has_bit,
+};
 
 /// The eight words of a decoder, from base low on. (CXL HDM decoder registers.)
 pub fn words_of(d: &Decoder) -> [u32; 8]
@@ -43,11 +44,11 @@ pub fn decoder_of(words: &[u32; 8], endpoint: bool) -> Decoder
         size: joined(top_bits(words[2]), words[3]),
         ways: (control / 16 % 16) as u8,
         gran: (control % 16) as u8,
-        lock: has_bit(control, 8),
-        commit: has_bit(control, 9),
-        committed: has_bit(control, 10),
-        error: has_bit(control, 11),
-        host_only: has_bit(control, 12),
+        lock: has_bit(control, CONTROL_LOCK),
+        commit: has_bit(control, CONTROL_COMMIT),
+        committed: has_bit(control, CONTROL_COMMITTED),
+        error: has_bit(control, CONTROL_ERROR),
+        host_only: has_bit(control, CONTROL_HOST_ONLY),
         tail: joined(
             if endpoint {
                 top_bits(words[5])
@@ -71,11 +72,11 @@ fn control_of(d: &Decoder) -> u32
 {
     u32::from(d.gran)
         + 16 * u32::from(d.ways)
-        + (u32::from(d.lock) << 8)
-        + (u32::from(d.commit) << 9)
-        + (u32::from(d.committed) << 10)
-        + (u32::from(d.error) << 11)
-        + (u32::from(d.host_only) << 12)
+        + (u32::from(d.lock) << CONTROL_LOCK)
+        + (u32::from(d.commit) << CONTROL_COMMIT)
+        + (u32::from(d.committed) << CONTROL_COMMITTED)
+        + (u32::from(d.error) << CONTROL_ERROR)
+        + (u32::from(d.host_only) << CONTROL_HOST_ONLY)
 }
 
 pub fn low_half(n: u64) -> u32
