@@ -73,6 +73,22 @@ const OVER_ONE_SHORT: &str = "0x1000000000 0x40000000 0 0 0x000e 0";
 /// A bridge with two endpoints, the first of which has one decoder.
 const FIRST_WITH_ONE_DECODER: &str = "0x382, 0x1b00 0 0 0x40000000 0, 0x1b02 0 1 0x40000000 0";
 
+/// A bridge with one decoder.
+const BELOW_ONE_DECODER: &str = "0x380, 0x1b02 0 0 0x40000000 0";
+
+/// Two bridges that forward, with an endpoint each; and a window for each of them, and behind these one more of the first.
+const BELOW_FORWARDING: &str = "0x10, 0x10, 0x1b02 0 0 0x40000000 0, 0x1b02 1 0 0x40000000 0";
+
+const THE_FIRST_TWICE: &str = "0x100000000 0x20000000 0 0 0x000e 0, \
+    0x200000000 0x20000000 0 0 0x000e 1, 0x300000000 0x20000000 0 0 0x000e 0";
+
+/// Two bridges with eight endpoints each, which can have 16 ways and none that is a multiple of three.
+const SIXTEEN_WITHOUT_THIRDS: &str = "0x382, 0x382, \
+    0x1302 0 0 0x10000000 0, 0x1302 0 1 0x10000000 0, 0x1302 0 2 0x10000000 0, 0x1302 0 3 0x10000000 0, \
+    0x1302 0 4 0x10000000 0, 0x1302 0 5 0x10000000 0, 0x1302 0 6 0x10000000 0, 0x1302 0 7 0x10000000 0, \
+    0x1302 1 0 0x10000000 0, 0x1302 1 1 0x10000000 0, 0x1302 1 2 0x10000000 0, 0x1302 1 3 0x10000000 0, \
+    0x1302 1 4 0x10000000 0, 0x1302 1 5 0x10000000 0, 0x1302 1 6 0x10000000 0, 0x1302 1 7 0x10000000 0";
+
 /// A bridge that forwards leads to all by one port.
 const BELOW_ONE_PORT: &str = "0x10, 0x382 0 3, \
     0x1b02 1 5 0x40000000 0, 0x1b02 1 2 0x40000000 0, 0x1b02 1 7 0x40000000 0";
@@ -93,7 +109,7 @@ const THREE_BY_TWO_BY_TWO: &str = "0x382, 0x382, 0x382, \
     0x1b02 7 0 0x10000000 0, 0x1b02 7 1 0x10000000 0, \
     0x1b02 8 0 0x10000000 0, 0x1b02 8 1 0x10000000 0";
 
-const ROWS: [Row; 17] = [
+const ROWS: [Row; 20] = [
     // The end of the first window is taken, and the second is behind it.
     Row {
         nodes: ONE_BY_ONE,
@@ -200,6 +216,32 @@ const ROWS: [Row; 17] = [
         size: 0x1000_0000,
         ways: 1,
         picked: "Ok([2])",
+    },
+    // So is that of the bridge.
+    Row {
+        nodes: BELOW_ONE_DECODER,
+        windows: OVER_ONE_SHORT,
+        ranges: "0 2 0 0x1000000000 0x10000000 0 0",
+        size: 0x1000_0000,
+        ways: 1,
+        picked: "Err(NoSet)",
+    },
+    // The first endpoint has a region behind the end of the first window.
+    Row {
+        nodes: BELOW_FORWARDING,
+        windows: THE_FIRST_TWICE,
+        ranges: "2 3 0 0x300000000 0x10000000 0 0",
+        size: 0x1000_0000,
+        ways: 1,
+        picked: "Ok([3])",
+    },
+    Row {
+        nodes: SIXTEEN_WITHOUT_THIRDS,
+        windows: OVER_TWO_LONG,
+        ranges: "",
+        size: 0x1_0000_0000,
+        ways: 16,
+        picked: "Ok([2, 3, 4, 5, 6, 7, 8, 9, 10, 11, 12, 13, 14, 15, 16, 17])",
     },
     // As many ports as can be are used, each for as few endpoints as can be.
     Row {

@@ -5,7 +5,7 @@ use crate::host_files::{
     TWO_ENDPOINTS, TWO_ENDPOINTS_FORWARDED,
 };
 use crate::rows::{bytes, changed, ends, files_of, has_passed, words_of};
-use crate::tables::{THREE_BRIDGES, TWO_BRIDGES};
+use crate::tables::{THREE_BRIDGES, TWO_BRIDGES, TWO_WINDOWS};
 use crate::{findings, real_hosts, real_images};
 use std::alloc::Global;
 use std::process::Abort;
@@ -50,7 +50,7 @@ fn images(rt: HostRuntime) {
     are_checked(&rt, &IMAGES);
 }
 
-const IMAGES: [Row; 19] = [
+const IMAGES: [Row; 20] = [
     // The first region, and with other words.
     Row {
         table: TWO_BRIDGES,
@@ -135,6 +135,16 @@ const IMAGES: [Row; 19] = [
         fail: 0,
         code: 8,
         text: "breach K9 hb0 0\n",
+    },
+    // A region of one way has no granularity, whatever code its decoder has.
+    Row {
+        table: TWO_WINDOWS,
+        topology: TWO_ENDPOINTS,
+        image: FIRST_REGION,
+        changes: "176 0 180 0 188 0 332 0x1602 464 0 468 0 476 0",
+        fail: 0,
+        code: 0,
+        text: "region 0x100000000 size 0x20000000 window 0 gran 256 ways 1 ram\nslot 0 e0 0x0\n",
     },
     // Each fault of an image file.
     Row {

@@ -20,6 +20,8 @@ mod listings;
 #[cfg(test)]
 mod lists;
 #[cfg(test)]
+mod many_regions;
+#[cfg(test)]
 mod messages;
 #[cfg(test)]
 mod outside;

@@ -9,7 +9,7 @@ use crate::host_files::{
 use crate::rows::{ROOM, bytes, changed, files_of, has_passed, numbers, sink_of, words_of};
 use crate::tables::{
     ONE_BRIDGE, SERVER, SIX_BRIDGES, SIX_BRIDGES_XOR, THREE_BRIDGES, THREE_BRIDGES_SMALL,
-    TWO_BRIDGES, TWO_BRIDGES_XOR,
+    TWO_BRIDGES, TWO_BRIDGES_XOR, TWO_WINDOWS,
 };
 use cxl_bus::FailingBus;
 use cxl_io::{MemFetch, MemSource};
@@ -231,7 +231,7 @@ fn firmware(rt: HostRuntime) {
     come_to(&rt, &FIRMWARE);
 }
 
-const FIRMWARE: [Script; 3] = [
+const FIRMWARE: [Script; 4] = [
     // Locked decoders.
     Script {
         table: TWO_BRIDGES,
@@ -267,6 +267,31 @@ destroy auto0\n",
         code: 0,
         text: "\
 destroyed auto0\n",
+    },
+    // Two regions of one way: each is found in its own decoders.
+    Script {
+        table: TWO_WINDOWS,
+        topology: TWO_ENDPOINTS,
+        image: FIRST_REGION,
+        changes: "176 2 188 0x1600 332 0x1600 464 2 476 0x1600",
+        fails: "",
+        lines: "\
+down 0x200000000\n\
+show auto1\n\
+destroy auto1\n\
+show auto0\n",
+        code: 0,
+        text: "\
+down 0x200000000 region auto1 slot 0 position 0 via hb1:0:0 endpoint e1 dpa 0x0\n\
+region auto1 ram window 1 base 0x200000000 size 0x20000000 gran 256 ways 1\n\
+node hb1 0 00000000 00000002 20000000 00000000 00001600 00000000 00000000\n\
+node e1 0 00000000 00000002 20000000 00000000 00001600 00000000 00000000\n\
+slot 0 e1 0x0\n\
+destroyed auto1\n\
+region auto0 ram window 0 base 0x100000000 size 0x20000000 gran 256 ways 1\n\
+node hb0 0 00000000 00000001 20000000 00000000 00001600 00000000 00000000\n\
+node e0 0 00000000 00000001 20000000 00000000 00001600 00000000 00000000\n\
+slot 0 e0 0x0\n",
     },
     // An image with a breach.
     Script {
