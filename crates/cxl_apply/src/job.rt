@@ -10,7 +10,7 @@ ghost use Rattle.cxl_apply.specs.Steps.{HasWordsOf, MakesWrite, TakesBack, IsAsB
 ghost use Rattle.cxl_apply.specs.WordsSent.{words_made, words_taken_back};
 
 use crate::laws::writes_are_taken_back;
-use crate::rows::{create_writes, falling, release_writes, rising};
+use crate::rows::{create_writes, release_writes, rising};
 use crate::write::{Stepped, Write};
 use cxl_bus::Regs;
 use cxl_enc::Failed;
@@ -49,11 +49,8 @@ impl Job {
         ensures undone { IfOk result (λ job. AreTakenBack image.now job.writes) }
     {
         writes_are_taken_back();
-        let rows = falling(alloc, rows)?;
-        // No node stands twice.
-        let few = rows.len() <= image.count() as usize;
-        prove!(few);
-        let writes = create_writes(alloc, image, &rows)?;
+        let _count = image.count();
+        let writes = create_writes(alloc, image, rows)?;
         Ok(Job { writes, done: 0 })
     }
 
