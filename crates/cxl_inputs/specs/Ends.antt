@@ -1,6 +1,6 @@
 -- How a run ends that writes what a command comes to.
 use Rattle.std.specs.Prelude.{◌≡◌, ◌⊎◌, [], Result, Ok, Err}
-use Rattle.cxl_enc.specs.Faults.{Rose, LeavesCount}
+use Rattle.cxl_enc.specs.Faults.{Rose, LeavesCount, CountsExactly}
 use Rattle.cxl_io.specs.Sink.{SinkState, Takes, TakesPrefix}
 use Rattle.cxl_inputs.specs.Outcome.{Outcome, whole_text}
 use Rattle.cxl_inputs.specs.declared.status.Status.{Status}
@@ -14,11 +14,12 @@ pub record IsWritten (outcome : Outcome) (status : Status) (old new : SinkState)
   pub taken : Takes old new (whole_text outcome)
   pub unswallowed : LeavesCount old.counts_failures_alone old.faults new.faults
 
--- the sink failed, which takes a fault there, behind a part of the text from the front
+-- the sink failed, which takes a fault there, behind a part of the text from the front; and no write is tried behind that one
 pub record IsCutShort (outcome : Outcome) (status : Status) (old new : SinkState) : Type 0 where
   pub status_is : status ≡ WriteFault
   pub rose : Rose old.faults new.faults
   pub taken : TakesPrefix old new (whole_text outcome)
+  pub counted : CountsExactly 1 old.counts_failures_alone old.faults new.faults
 
 -- an outcome is written whole and no write failed, or the sink failed behind a part of its text
 abbrev pub Ends : Outcome → Status → SinkState → SinkState → Type 0

@@ -10,7 +10,7 @@ use Rattle.cxl_bus.specs.Trail.{trail_with}
 use Rattle.cxl_bus.specs.declared.sent.Sent.{Sent}
 use Rattle.cxl_table.specs.CedtFields.{CedtFields}
 use Rattle.cxl_check.specs.declared.fault.Breach.{Breach}
-use Rattle.cxl_enc.specs.Faults.{Rose, LeavesCount}
+use Rattle.cxl_enc.specs.Faults.{Rose, LeavesCount, CountsExactly}
 use Rattle.cxl_image.specs.Images.{reset_blocks}
 use Rattle.cxl_inputs.specs.Ends.{Ends, Finishes, WritesNothing}
 use Rattle.cxl_inputs.specs.File.{AsksForSome}
@@ -98,6 +98,7 @@ module _ (nodes : List Node) (asked : List Asked) (turns : List Turn) (before af
           count = part.count;
           short = part.short;
           taken = Takes-append old mid new (text_of nodes turns) (take part.count (ending_text end)) text part.taken;
+          counted = λ only. subst (λ n. CountsExactly 1 true n new.faults) (sink.unswallowed only) (λ _. cut.counted (sink.alone ∙ only)) refl;
         })
 
     pub script-stopped : ends_reading end ≡ true → EndsLines nodes asked turns before after old mid end → Ends (script_stopped end) status mid new → EndsScript nodes asked turns before after old new status

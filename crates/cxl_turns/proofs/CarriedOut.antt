@@ -1,7 +1,7 @@
 -- What one line comes to: it is answered, or cut short, or left.
 use Rattle.std.proofs.Common.{◌≡◌, ◌≢◌, false, Result, Ok, Err, List, [], ◌∷◌, refl, sym, ap, subst, ◌∙◌}
 use Rattle.std.specs.Prelude.{OnOk}
-use Rattle.cxl_enc.specs.Faults.{Rose, LeavesCount}
+use Rattle.cxl_enc.specs.Faults.{Rose, LeavesCount, CountsExactly}
 use Rattle.cxl_bus.proofs.Failed.{fails_nowhere}
 use Rattle.cxl_bus.specs.Failed.{HasFailed}
 use Rattle.cxl_bus.specs.RegsState.{RegsState, IsUntouched}
@@ -76,12 +76,14 @@ module _ (m : Machine) (one : Asked) (turn : Turn) (reply : Reply) (nodes : List
     unswallowed = left;
   }
 
-  pub cut_one : TakesPrefix before after (reply_text nodes reply) → Rose before.faults after.faults → IsCutOff m (one ∷ []) session old new media before after
-  cut_one cut rose = record {
+  pub cut_one : TakesPrefix before after (reply_text nodes reply) → Rose before.faults after.faults → CountsExactly 1 before.counts_failures_alone before.faults after.faults
+      → IsCutOff m (one ∷ []) session old new media before after
+  cut_one cut rose once = record {
     turn = turn;
     gone = gone_one m session old new media one turn reply takes taken;
     rose = rose;
     cut = subst (λ text. TakesPrefix before after text) told_text cut;
+    counted = once;
   }
 
   -- the reply has no short text, and tells of no fault: nothing has changed

@@ -1,9 +1,9 @@
 -- The lines of a script that were carried out so far, one more of them, and how they end.
-use Rattle.std.proofs.Common.{◌≡◌, ◌≢◌, ℕ, ◌<◌, ◌≤◌, ◌⊎◌, Result, Ok, Err, List, [], ◌∷◌, ◌++◌, length, take, refl, sym, ap, subst, ◌∙◌, inl, inr, arith, if◌then◌else◌}
+use Rattle.std.proofs.Common.{◌≡◌, ◌≢◌, ℕ, ◌<◌, ◌≤◌, ◌⊎◌, Result, Ok, Err, List, [], ◌∷◌, ◌++◌, length, take, refl, sym, ap, subst, ◌∙◌, inl, inr, arith, true, if◌then◌else◌}
 use Rattle.std.specs.Prelude.{OnOk}
 use Rattle.std.proofs.lemmas.Bool.{lt-ltb}
 use Rattle.std.proofs.lemmas.List.{append-nil}
-use Rattle.cxl_enc.specs.Faults.{Rose, LeavesCount}
+use Rattle.cxl_enc.specs.Faults.{Rose, LeavesCount, CountsExactly}
 use Rattle.cxl_bus.specs.RegsState.{RegsState}
 use Rattle.cxl_io.specs.Reader.{Reader, line_limit, fresh_reader, IsNext, HasStopped, HasRead}
 use Rattle.cxl_io.specs.Sink.{SinkState, Takes, TakesPrefix}
@@ -181,16 +181,19 @@ module _ (reader next : Reader) (start now later : Stage) (run : HaveRun reader 
             (gone_both m (lines_asked run.passed) asked was.turns (more.turn ∷ []) now.session later.session start.regs now.regs later.regs now.media later.media was.gone more.gone),
         reply_cut (run.passed ++ one.line ∷ []) was.turns more.turn (first_lines (run.passed ++ one.line ∷ []) start.script later.script next one.goes one.read) refl refl
             (cut_behind m.settled.nodes (text_of m.settled.nodes was.turns) more.turn.reply was.told
-            (subst (λ nodes. TakesPrefix now.sink later.sink (reply_text nodes more.turn.reply)) (nodes_after m (lines_asked run.passed) was.turns was.gone.answered) more.cut) more.rose) refl,
+            (subst (λ nodes. TakesPrefix now.sink later.sink (reply_text nodes more.turn.reply)) (nodes_after m (lines_asked run.passed) was.turns was.gone.answered) more.cut) more.rose
+            (λ only. subst (λ n. CountsExactly 1 true n later.sink.faults) (was.unswallowed only) (λ _. more.counted (was.alone ∙ only)) refl)) refl,
       )
     where
       cut_behind : (nodes : List Node) (front : List ℕ) (reply : Reply) → Takes start.sink now.sink front → TakesPrefix now.sink later.sink (reply_text nodes reply)
-          → Rose now.sink.faults later.sink.faults → IsCutBehind front (reply_text nodes reply) start.sink later.sink
-      cut_behind nodes front reply first cut rose = record {
+          → Rose now.sink.faults later.sink.faults → CountsExactly 1 start.sink.counts_failures_alone start.sink.faults later.sink.faults
+          → IsCutBehind front (reply_text nodes reply) start.sink later.sink
+      cut_behind nodes front reply first cut rose once = record {
         rose = (let so_far = run.sink in omega (arith, so_far, rose));
         count = cut.count;
         short = cut.short;
         taken = Takes-append start.sink now.sink later.sink front (take cut.count (reply_text nodes reply)) first cut.taken;
+        counted = once;
       }
 
   -- memory ran out at it

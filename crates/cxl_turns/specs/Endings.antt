@@ -1,6 +1,6 @@
 -- How the lines of a script come to their end (this project's rule).
 use Rattle.std.specs.Prelude.{◌≡◌, ℕ, ◌<◌, List, [], ◌∷◌, ◌++◌, length, take, IfSome}
-use Rattle.cxl_enc.specs.Faults.{Rose, LeavesCount}
+use Rattle.cxl_enc.specs.Faults.{Rose, LeavesCount, CountsExactly}
 use Rattle.cxl_io.specs.Lines.{lines_of}
 use Rattle.cxl_io.specs.Reader.{HasStopped}
 use Rattle.cxl_io.specs.Sink.{SinkState, Takes}
@@ -27,12 +27,14 @@ StopsReading TooMuch lines before after = HasStopped readers.TooMuch lines befor
 StopsReading WriteFault lines before after = ⊥
 StopsReading Memory lines before after = ⊥
 
--- this text whole, and then part of the other one from the front, for which the sink had cause
+-- this text whole, and then part of the other one from the front, for which the sink had cause; and no write is tried behind the one
+-- that failed
 pub record IsCutBehind (front text : List ℕ) (old new : SinkState) : Type 0 where
   pub rose : Rose old.faults new.faults
   pub count : ℕ
   pub short : count < length text
   pub taken : Takes old new (front ++ take count text)
+  pub counted : CountsExactly 1 old.counts_failures_alone old.faults new.faults
 
 -- no write failed, as the count tells of a sink that counts failures alone
 pub record MeetsNoFault (old new : SinkState) : Type 0 where

@@ -1,7 +1,7 @@
 //! How a reply is written.
 
 ghost use Rattle.std.specs.Prelude.{◌≡◌, ◌≢◌, ◌≤◌, Err, false, OnOk};
-ghost use Rattle.cxl_enc.specs.Faults.{Rose, LeavesCount};
+ghost use Rattle.cxl_enc.specs.Faults.{Rose, LeavesCount, CountsExactly};
 ghost use Rattle.cxl_io.specs.Sink.{Takes, TakesPrefix};
 ghost use Rattle.cxl_reply.specs.declared.reply.Reply.TheVariants as replies;
 ghost use Rattle.cxl_reply.specs.Replies.{reply_text, has_short_text};
@@ -29,6 +29,8 @@ pub(crate) fn write_reply<K: Sink>(
     ensures cut { result ≡ Err stops.Sink → TakesPrefix (K.state out.old) (K.state out.new) (reply_text topo.now.nodes reply.now) }
     ensures cause { result ≡ Err stops.Sink → Rose (K.state out.old).faults (K.state out.new).faults }
     ensures long { result ≡ Err stops.Memory → has_short_text reply.now ≡ false }
+    ensures counted { result ≡ Err stops.Sink → CountsExactly 1 (K.state out.old).counts_failures_alone
+        (K.state out.old).faults (K.state out.new).faults }
     ensures no_fault { result ≡ Err stops.Memory → reply.now ≢ replies.BusRead }
     ensures left { result ≡ Err stops.Memory → out.new ≡ out.old }
     ensures counts { (K.state out.old).faults ≤ (K.state out.new).faults }

@@ -14,6 +14,7 @@ pub fn cuts_on_examples()
     ensures not_in_first { ¬ (IsCutBehind (codes "ab") (codes "cde") (sink [] 0) (sink (codes "a") 1)) }
     ensures not_another { ¬ (IsCutBehind (codes "ab") (codes "cde") (sink [] 0) (sink (codes "abd") 1)) }
     ensures not_without_fault { ¬ (IsCutBehind (codes "ab") (codes "cde") (sink [] 0) (sink (codes "abc") 0)) }
+    ensures not_past_fault { ¬ (IsCutBehind (codes "ab") (codes "cde") (sink [] 0) (sink (codes "abc") 2)) }
 {}
 
 /// A law of scripts: how one of a single line, which is refused, comes to its end, and how not.

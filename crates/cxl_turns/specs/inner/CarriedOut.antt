@@ -1,6 +1,6 @@
 -- What one line of a script, or one command, comes to.
 use Rattle.std.specs.Prelude.{◌≡◌, List, [], ◌∷◌}
-use Rattle.cxl_enc.specs.Faults.{Rose, LeavesCount}
+use Rattle.cxl_enc.specs.Faults.{Rose, LeavesCount, CountsExactly}
 use Rattle.cxl_bus.specs.RegsState.{RegsState}
 use Rattle.cxl_io.specs.Sink.{SinkState, Takes, TakesPrefix}
 use Rattle.cxl_media.specs.MediaState.{MediaState}
@@ -19,12 +19,13 @@ pub record IsAnswered (m : Machine) (asked : List Asked) (session : SessionState
   pub alone : after.counts_failures_alone ≡ before.counts_failures_alone
   pub unswallowed : LeavesCount before.counts_failures_alone before.faults after.faults
 
--- it is answered, and the sink failed in the reply
+-- it is answered, and the sink failed in the reply, behind which no write is tried
 pub record IsCutOff (m : Machine) (asked : List Asked) (session : SessionState) (old new : RegsState) (media : MediaState) (before after : SinkState) : Type 0 where
   pub turn : Turn
   pub gone : HasGoneOn m asked (turn ∷ []) session old new media
   pub rose : Rose before.faults after.faults
   pub cut : TakesPrefix before after (reply_text m.settled.nodes turn.reply)
+  pub counted : CountsExactly 1 before.counts_failures_alone before.faults after.faults
 
 -- memory ran out, all is as it was, and no write failed
 pub record IsLeft (m : Machine) (session : SessionState) (old new : RegsState) (media : MediaState) (before after : SinkState) : Type 0 where

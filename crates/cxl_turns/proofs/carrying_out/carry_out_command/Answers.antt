@@ -16,6 +16,7 @@ returns-clause-cut g c is m at =
     let one = c.in_ok-act_into.ensures.answer m at in
     cut_one m (Ok c.args.command.now) one.0 c.act_into.new.reply c.topo.result.now.nodes c.act_into.new.self _ _ _ _ _ one.1 one.2
     (at.stands.nodes ∙ sym (ap (λ (t : Tree). t.nodes) c.in_ok-act_into.ensures.host.0) ∙ sym (ap (λ (t : Tree). t.nodes) c.topo.ensures)) (c.write_reply.ensures.cut is) (c.write_reply.ensures.cause is)
+    (c.write_reply.ensures.counted is)
 
 pub returns-clause-left : goal.returns-clause-left
 returns-clause-left g c is m at =

@@ -4,13 +4,13 @@ use Rattle.std.proofs.lemmas.Option.{same_Some}
 use Rattle.cxl_worked_runs.proofs.ends.cuts_on_examples.Goals as goal
 
 pub returns-clause-cut : goal.returns-clause-cut
-returns-clause-cut c = record { rose = omega arith; count = 1; short = omega arith; taken = refl }
+returns-clause-cut c = record { rose = omega arith; count = 1; short = omega arith; taken = refl; counted = λ alone. refl }
 
 pub returns-clause-at_once : goal.returns-clause-at_once
-returns-clause-at_once c = record { rose = omega arith; count = 0; short = omega arith; taken = refl }
+returns-clause-at_once c = record { rose = omega arith; count = 0; short = omega arith; taken = refl; counted = λ alone. refl }
 
 pub returns-clause-before_last : goal.returns-clause-before_last
-returns-clause-before_last c = record { rose = omega arith; count = 2; short = omega arith; taken = refl }
+returns-clause-before_last c = record { rose = omega arith; count = 2; short = omega arith; taken = refl; counted = λ alone. refl }
 
 -- the text is none that such a cut leaves
 abbrev Leaves : List ℕ → ℕ → Type 0
@@ -47,3 +47,6 @@ returns-clause-not_another c cut = not_another cut.count cut.short cut.taken
 
 pub returns-clause-not_without_fault : goal.returns-clause-not_without_fault
 returns-clause-not_without_fault c cut = let wrong : 1 ≤ 0 = cut.rose in omega (arith, wrong)
+
+pub returns-clause-not_past_fault : goal.returns-clause-not_past_fault
+returns-clause-not_past_fault c cut = let wrong : 2 ≡ 1 = cut.counted refl in omega (arith, wrong)

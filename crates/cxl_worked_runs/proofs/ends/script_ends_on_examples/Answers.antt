@@ -33,10 +33,10 @@ returns-clause-read_fault c =
     (λ alone. refl)
 
 pub returns-clause-cut : goal.returns-clause-cut
-returns-clause-cut c = reply_cut lines [] refusal refl first_line refl refl (record { rose = omega arith; count = 7; short = omega arith; taken = refl })
+returns-clause-cut c = reply_cut lines [] refusal refl first_line refl refl (record { rose = omega arith; count = 7; short = omega arith; taken = refl; counted = λ alone. refl })
 
 pub returns-clause-cut_behind : goal.returns-clause-cut_behind
-returns-clause-cut_behind c = ending_cut endings.ReadFault lines refl fails refl (record { rose = omega arith; count = 5; short = omega arith; taken = refl })
+returns-clause-cut_behind c = ending_cut endings.ReadFault lines refl fails refl (record { rose = omega arith; count = 5; short = omega arith; taken = refl; counted = λ alone. refl })
 
 pub returns-clause-memory : goal.returns-clause-memory
 returns-clause-memory c = runs_out lines refl first_line refl refl (λ alone. refl) (λ alone. refl)

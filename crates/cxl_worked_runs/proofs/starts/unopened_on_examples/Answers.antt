@@ -31,7 +31,7 @@ returns-clause-bus c starts = bus starts (omega arith) first_half refl (inl (rec
 
 pub returns-clause-cut : goal.returns-clause-cut
 returns-clause-cut c starts =
-    bus starts (omega arith) first_half refl (inr (record { status_is = refl; rose = omega arith; taken = record { count = 5; short = omega arith; taken = refl } }))
+    bus starts (omega arith) first_half refl (inr (record { status_is = refl; rose = omega arith; taken = record { count = 5; short = omega arith; taken = refl }; counted = λ alone. refl }))
 
 unwritten : WritesNothing (sink [] 0) (sink [] 0)
 unwritten = record { taken = refl; unswallowed = λ alone. refl }

@@ -1,12 +1,12 @@
 use Rattle.std.proofs.Common.{◌+◌, map, sym, subst, ◌∙◌, inl, inr, refl, arith}
-use Rattle.cxl_enc.specs.Faults.{Rose, LeavesCount}
+use Rattle.cxl_enc.specs.Faults.{Rose, LeavesCount, CountsExactly}
 use Rattle.cxl_enc.proofs.Options.{on_ok_at, on_err_at}
 use Rattle.cxl_io.specs.Sink.{Takes, TakesPrefix}
 use Rattle.cxl_reply.specs.Plans.{found_text}
 use Rattle.cxl_io.specs.Blocks.{KeepsOrWrites}
 use Rattle.cxl_commands.proofs.InBlocks.{blocks-written, blocks-flushed, blocks-cut}
 use Rattle.cxl_commands.proofs.Regions.{blocks-region, length-region_lines, all_regions}
-use Rattle.cxl_commands.proofs.Results.{on_err_from}
+use Rattle.cxl_commands.proofs.Results.{on_err_from, counted_on}
 use Rattle.cxl_commands.proofs.commands.check.write_regions.Goals as goal
 
 pub returns-in_err-put_found-clause-behind : goal.returns-in_err-put_found-clause-behind
@@ -30,10 +30,12 @@ returns-then-is_err-clause-ends g c =
     let failed = sym c.is_err.ensures.value ∙ c.if-is_err.true in
     let part : TakesPrefix now new c.put_found.new.out.items = on_err_at c.line_done.result _ failed c.line_done.ensures.failed in
     let rose : Rose now.faults new.faults = on_err_at c.line_done.result _ failed c.line_done.ensures.cause in
+    let once : CountsExactly 1 now.counts_failures_alone now.faults new.faults = on_err_at c.line_done.result _ failed c.line_done.ensures.counted in
     inr (record {
       status_is = refl;
       rose = let so_far = l.invariant.counts in omega (arith, rose, so_far);
       taken = blocks-cut c.writes_join.ensures.both c.writes_join.ensures.first c.writes_join.ensures.second lines (l.region-index + 1) c.put_found.new.out.items old now new next part;
+      counted = λ only. counted_on old.faults now.faults new.faults (l.invariant.unswallowed only) (once (l.invariant.alone ∙ only));
     })
 
 pub loop-region-preserved : goal.loop-region-preserved
@@ -63,10 +65,12 @@ returns-then-is_err-2-clause-ends g c =
     let failed = sym c.is_err-2.ensures.value ∙ c.if-is_err-2.true in
     let part : TakesPrefix now new l.lines.block.items = on_err_at c.end.result _ failed c.end.ensures.failed in
     let rose : Rose now.faults new.faults = on_err_at c.end.result _ failed c.end.ensures.cause in
+    let once : CountsExactly 1 now.counts_failures_alone now.faults new.faults = on_err_at c.end.result _ failed c.end.ensures.counted in
     inr (record {
       status_is = refl;
       rose = let so_far = l.invariant.counts in omega (arith, rose, so_far);
       taken = blocks-cut c.writes_join.ensures.both c.writes_join.ensures.first c.writes_join.ensures.second lines l.region-index l.lines.block.items old now new l.invariant.blocks part;
+      counted = λ only. counted_on old.faults now.faults new.faults (l.invariant.unswallowed only) (once (l.invariant.alone ∙ only));
     })
 
 pub returns-clause-ends : goal.returns-clause-ends

@@ -1,6 +1,6 @@
 use Rattle.std.proofs.Common.{◌≡◌, ◌+◌, List, [], ◌∷◌, ◌++◌, length, sym, ap, subst, ◌∙◌, inl, inr, refl, arith}
 use Rattle.std.specs.List.{filter_map}
-use Rattle.cxl_enc.specs.Faults.{Rose, LeavesCount}
+use Rattle.cxl_enc.specs.Faults.{Rose, LeavesCount, CountsExactly}
 use Rattle.cxl_enc.proofs.Options.{on_ok_at, on_err_at}
 use Rattle.cxl_cedt.specs.RecordTexts.{record_in}
 use Rattle.cxl_table.specs.declared.cedt.Record.{Record}
@@ -11,7 +11,7 @@ use Rattle.cxl_commands.specs.commands.Lines.{list_lines}
 use Rattle.cxl_commands.proofs.InBlocks.{blocks-written, blocks-flushed, blocks-cut}
 use Rattle.cxl_commands.proofs.ListLines.{length-list_lines}
 use Rattle.cxl_commands.proofs.ListedTo.{IsListedTo, stands_next, stands_within, place_there, place_left, listed_next, listed_none, listed_all}
-use Rattle.cxl_commands.proofs.Results.{on_err_from}
+use Rattle.cxl_commands.proofs.Results.{on_err_from, counted_on}
 use Rattle.cxl_commands.proofs.commands.list.write_lines.Goals as goal
 
 pub loop-item-init : goal.loop-item-init
@@ -63,10 +63,12 @@ returns-then-is_err-clause-ends g c =
     let failed = sym c.is_err.ensures.value ∙ c.if-is_err.true in
     let part : TakesPrefix now new c.put_line.new.out.items = on_err_at c.line_done.result _ failed c.line_done.ensures.failed in
     let rose : Rose now.faults new.faults = on_err_at c.line_done.result _ failed c.line_done.ensures.cause in
+    let once : CountsExactly 1 now.counts_failures_alone now.faults new.faults = on_err_at c.line_done.result _ failed c.line_done.ensures.counted in
     inr (record {
       status_is = refl;
       rose = let before = l.invariant.counts in omega (arith, rose, before);
       taken = blocks-cut c.writes_join.ensures.both c.writes_join.ensures.first c.writes_join.ensures.second (list_lines table) (length next.before) c.put_line.new.out.items old now new next.blocks part;
+      counted = λ only. counted_on old.faults now.faults new.faults (l.invariant.unswallowed only) (once (l.invariant.alone ∙ only));
     })
 
 pub loop-item-preserved : goal.loop-item-preserved
@@ -105,10 +107,12 @@ returns-then-is_err-2-clause-ends g c =
     let failed = sym c.is_err-2.ensures.value ∙ c.if-is_err-2.true in
     let part : TakesPrefix now new l.lines.block.items = on_err_at c.end.result _ failed c.end.ensures.failed in
     let rose : Rose now.faults new.faults = on_err_at c.end.result _ failed c.end.ensures.cause in
+    let once : CountsExactly 1 now.counts_failures_alone now.faults new.faults = on_err_at c.end.result _ failed c.end.ensures.counted in
     inr (record {
       status_is = refl;
       rose = let before = l.invariant.counts in omega (arith, rose, before);
       taken = blocks-cut c.writes_join.ensures.both c.writes_join.ensures.first c.writes_join.ensures.second (list_lines c.args.table.now.records) (length so_far.before) l.lines.block.items old now new so_far.blocks part;
+      counted = λ only. counted_on old.faults now.faults new.faults (l.invariant.unswallowed only) (once (l.invariant.alone ∙ only));
     })
 
 pub returns-clause-ends : goal.returns-clause-ends
