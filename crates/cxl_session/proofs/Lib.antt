@@ -12,7 +12,6 @@ pub mod Loads
 pub mod Ranges
 pub mod Served
 pub mod Ups
-pub mod OnDevice
 pub mod Poisons
 pub mod Stores
 pub mod Sites

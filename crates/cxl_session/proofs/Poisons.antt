@@ -1,6 +1,8 @@
 -- What a poison list touches, over the regions that a session keeps.
-use Rattle.std.proofs.Common.{◌≡◌, ℕ, List, Some, inl, inr, sym, ap, ◌∙◌, subst}
+use Rattle.std.proofs.Common.{◌≡◌, ℕ, ◌+◌, ◌<◌, true, List, length, get_or, Some, refl, inl, inr, sym, ap, ◌∙◌, subst, arith}
 use Rattle.std.specs.List.{AllZip}
+use Rattle.std.proofs.lemmas.Bool.{lt-ltb}
+use Rattle.std.proofs.lemmas.List.Folds.{list_any_at}
 use Rattle.cxl_topo.specs.declared.node.Node.{Node}
 use Rattle.cxl_topo.specs.Tree.{Tree}
 use Rattle.cxl_window.specs.Fields.{WindowFields}
@@ -8,12 +10,13 @@ use Rattle.cxl_model.specs.declared.found.Found.{Found}
 use Rattle.cxl_model.specs.declared.poison.Entry.{Entry}
 use Rattle.cxl_model.specs.declared.poison.Poisoned.{Poisoned}
 use Rattle.cxl_model.specs.declared.poison.PoisonList.{PoisonList}
+use Rattle.cxl_model.specs.Bytes.{slot_length}
 use Rattle.cxl_poison.specs.declared.fault.Said.{Said}
 use Rattle.cxl_poison.specs.declared.fault.PoisonFault.{PoisonFault}
 use Rattle.cxl_poison.specs.declared.fault.PoisonFault.TheVariants.{Short, Count, Memory}
 use Rattle.cxl_poison.specs.Payload.{IsPoisonFault, IsPoisonFaultOf}
-use Rattle.cxl_poison.specs.Live.{AreLive}
-use Rattle.cxl_poison.specs.Pieces.{ArePoisonedPieces}
+use Rattle.cxl_poison.specs.Live.{AreLive, SpanFields}
+use Rattle.cxl_poison.specs.Pieces.{record_end, ArePoisonedPieces, Touches, AreTouchedPlaces}
 use Rattle.cxl_reply.specs.declared.reply.Reply.{Reply}
 use Rattle.cxl_reply.specs.declared.reply.Reply.TheVariants as replies
 use Rattle.cxl_machine.specs.Machine.{Machine}
@@ -23,8 +26,25 @@ use Rattle.cxl_machine.specs.Sound.{IsMachine}
 use Rattle.cxl_machine.proofs.LiveRegions.{are_live}
 use Rattle.cxl_session.specs.State.{SessionState}
 use Rattle.cxl_session.specs.Standing.{StandsFor}
-use Rattle.cxl_session.specs.inner.OnDevice.{ArePlaces, ArePlacesOn, StandsThere, IsToldAt}
-use Rattle.cxl_session.proofs.OnDevice.{those_live, all_told}
+use Rattle.cxl_session.specs.inner.OnDevice.{names_byte, ArePlacesNamed}
+
+-- a record that touches bytes of a span names one of them
+names_touched : (entry : Entry) (span : SpanFields) (len : ℕ) → span.len ≡ len → Touches entry span → names_byte span.start (span.start + len) entry ≡ true
+names_touched entry span len long touches =
+    let below : entry.dpa < span.start + len = omega (arith, long, touches) in
+    let past : span.start < record_end entry = omega (arith, long, touches) in
+    rw (lt-ltb entry.dpa (span.start + len) below, lt-ltb span.start (record_end entry) past) refl
+
+-- the places of all of which the records name bytes are those of all that one of them touches
+pub places_given : (session : SessionState) (endpoint : ℕ) (records : List Entry) (places : List ℕ) → ArePlacesNamed session endpoint records places → (k : ℕ) (d : Entry) → k < length records
+    → AreTouchedPlaces (get_or records k d) endpoint session.founds places
+places_given session endpoint records places on k d low = record {
+  each = on.are.each;
+  once = on.are.once;
+  all = λ span is touches.
+      on.all span.region span.slot is.found (record { endpoint = endpoint; start = span.start }) is.there is.here.place refl
+      (list_any_at (names_byte span.start (span.start + slot_length is.found)) records k d low (names_touched (get_or records k d) span (slot_length is.found) is.here.len touches));
+}
 
 module _ (session : SessionState) (m : Machine) (stands : StandsFor session m) where
   pub live_founds : IsMachine m → AreLive session.windows session.founds
@@ -37,26 +57,13 @@ module _ (session : SessionState) (m : Machine) (stands : StandsFor session m) w
       let P : List Found → List WindowFields → Type 0 = λ fs ws. AllZip (λ (entry : Entry) (poisoned : Poisoned). ArePoisonedPieces entry endpoint fs ws poisoned) records pieces in
       subst (λ (ws : List WindowFields). P (live_regions m) ws) (sym stands.windows) (subst (λ (fs : List Found). P fs session.windows) stands.founds all)
 
-  -- the live regions at these places are live regions of one image
-  pub those_given : IsMachine m → (ws : List WindowFields) (those given : List Found) (places asked : List ℕ) → ws ≡ session.windows → given ≡ those → asked ≡ places → ArePlaces session places
-      → AllZip (StandsThere session) those asked → AreLive ws given
-  those_given is ws those given places asked windows same alike are together =
-      subst (AreLive ws) (sym same)
-      (subst (λ (xs : List WindowFields). AreLive xs those) (sym windows)
-      (those_live session.founds those places session.windows (subst (AllZip (StandsThere session) those) alike together) (live_founds is) are.once))
-
-  -- what is told of those on a device is told of all
-  pub told_given : (endpoint : ℕ) (records given : List Entry) (ws : List WindowFields) (those fs : List Found) (places asked others : List ℕ) (pieces : List Poisoned) → given ≡ records → ws ≡ session.windows
-      → fs ≡ those → asked ≡ places → others ≡ places → ArePlacesOn session endpoint places → AllZip (StandsThere session) those asked → AllZip (IsToldAt others endpoint fs ws) given pieces
-      → AllZip (TouchesLive m endpoint) records pieces
-  told_given endpoint records given ws those fs places asked others pieces same windows are_those alike also on together told =
-      let P : List WindowFields → List Found → List ℕ → List Entry → Type 0 = λ xs found_there ps es. AllZip (IsToldAt ps endpoint found_there xs) es pieces in
-      let one : P session.windows fs others given = subst (λ (xs : List WindowFields). P xs fs others given) windows told in
-      let two : P session.windows those others given = subst (λ (found_there : List Found). P session.windows found_there others given) are_those one in
-      let three : P session.windows those places given = subst (λ (ps : List ℕ). P session.windows those ps given) also two in
+  -- so of each record, told over the regions and the windows that a session keeps
+  pub told_given : (endpoint : ℕ) (records given : List Entry) (ws : List WindowFields) (fs : List Found) (pieces : List Poisoned) → given ≡ records → ws ≡ session.windows → fs ≡ session.founds
+      → AllZip (λ entry poisoned. ArePoisonedPieces entry endpoint fs ws poisoned) given pieces → AllZip (TouchesLive m endpoint) records pieces
+  told_given endpoint records given ws fs pieces same windows live told =
+      let P : List WindowFields → List Found → List Entry → Type 0 = λ xs found_there es. AllZip (λ (entry : Entry) (poisoned : Poisoned). ArePoisonedPieces entry endpoint found_there xs poisoned) es pieces in
       touches endpoint records pieces
-      (all_told session.founds those places session.windows (subst (AllZip (StandsThere session) those) alike together) endpoint on.all records pieces
-      (subst (P session.windows those places) same three))
+      (subst (λ (found_there : List Found). P session.windows found_there records) live (subst (λ (xs : List WindowFields). P xs fs records) windows (subst (P ws fs) same told)))
 
   -- the endpoint of a name, by the tree that a session keeps
   pub endpoint_there : (tree : Tree) (name : List ℕ) (endpoint : ℕ) → tree ≡ session.topo → Some endpoint ≡ endpoint_named tree.nodes name → endpoint_named m.settled.nodes name ≡ Some endpoint

@@ -8,7 +8,7 @@ use Rattle.cxl_deal.specs.Weaves.{WeaveFields}
 use Rattle.cxl_regs.specs.declared.decoder.Decoder.{Decoder}
 use Rattle.cxl_window.specs.Fields.{WindowFields}
 use Rattle.cxl_model.specs.declared.found.Found.{Found}
-use Rattle.cxl_model.specs.Bytes.{LiesInSpan}
+use Rattle.cxl_model.specs.Bytes.{slot_length, LiesInSpan}
 use Rattle.cxl_model.specs.Regions.{Carries}
 use Rattle.cxl_model.specs.System.{System, decoders_at}
 use Rattle.cxl_model.proofs.ImageLaws.{ShareLaw}
@@ -27,7 +27,7 @@ use Rattle.cxl_bytes.specs.Woven.{IsWovenIn}
 use Rattle.cxl_session.specs.inner.Places.{StandsAt, HasNoneOf}
 use Rattle.cxl_session.proofs.Apart.{SizeLaw}
 use Rattle.cxl_session.proofs.LiveRegions.{StaysSystem}
-use Rattle.cxl_session.proofs.Served.{IndexLaw, ServesBase, served, none_passes}
+use Rattle.cxl_session.proofs.Served.{IndexLaw, EndpointLaw, ServesSlot, served, none_passes}
 use Rattle.cxl_session.proofs.Places.{as_many, stands_at}
 use Rattle.cxl_session.proofs.Within.{found_is, name_is}
 use Rattle.cxl_session.proofs.Loads.{woven_at}
@@ -68,14 +68,15 @@ module _ (session : SessionState) (m : Machine) (stands : StandsFor session m) w
         ]
 
     -- all that the endpoint's decoders serve are told
-    pub none_there : StaysSystem → StaysLaw → IndexLaw → IsMachine m → (decoders : List Decoder) → decoders ≡ decoders_at (image_in session) endpoint → (n : ℕ) → length decoders ≤ n
+    pub none_there : StaysSystem → StaysLaw → IndexLaw → EndpointLaw → IsMachine m → (decoders : List Decoder) → decoders ≡ decoders_at (image_in session) endpoint → (n : ℕ) → length decoders ≤ n
         → NoneBefore m decoders endpoint dpa n → TellsHost m endpoint dpa replies.Unmapped
-    none_there system stays index is decoders are n long before =
+    none_there system stays index of is decoders are n long before =
         unmapped (λ region inside lies.
-        let own : ServesBase decoders region.found.base =
-        subst (λ (ds : List Decoder). ServesBase ds region.found.base) (sym are) (served session m stands system stays index is endpoint region inside lies.slot lies.place lies.there lies.here) in
+        let own : ServesSlot decoders region.found.base lies.place.start (slot_length region.found) =
+        subst (λ (ds : List Decoder). ServesSlot ds region.found.base lies.place.start (slot_length region.found)) (sym are)
+        (served session m stands system stays index of is endpoint region inside lies.slot lies.place lies.there lies.here) in
         let low = own.low in
-        before own.i own.d (omega (arith, low, long)) own.there own.committed region inside (sym own.same) lies) refl
+        before own.i own.d (omega (arith, low, long)) own.there own.committed region inside own.same lies) refl
 
     module _ (share : ShareLaw) (some : SizeLaw) (is : IsMachine m) where
       -- a live region holds its base

@@ -1,35 +1,46 @@
-//! The live regions on a device, for what is told of its poison list.
+//! The live regions on a device of which its poison list names bytes.
 
-ghost use Rattle.std.specs.Prelude.{◌≡◌, ◌==◌, ◌<◌, length, All, IfOk, OnOk};
-ghost use Rattle.std.specs.List.{list_any, AllZip};
+ghost use Rattle.std.specs.Prelude.{◌≡◌, ◌==◌, IfOk, OnOk};
+ghost use Rattle.std.specs.List.{list_any};
 ghost use Rattle.cxl_machine.specs.Machine.{Machine};
 ghost use Rattle.cxl_machine.specs.Sound.{IsMachine};
 ghost use Rattle.cxl_session.specs.Standing.{StandsFor};
-ghost use Rattle.cxl_session.specs.inner.OnDevice.{with_place, ArePlacesOn, AddsServed, StandsThere};
+ghost use Rattle.cxl_session.specs.inner.OnDevice.{with_place, names_byte, is_named, ArePlacesNamed, AddsServed};
 
 use crate::session::Session;
-use crate::showing::copied_found;
 use cxl_enc::Memory;
 use cxl_machine::live_regions_stay;
-use cxl_model::{Found, regions_lie_in_windows, regions_share_no_byte, slots_are_endpoints};
+use cxl_model::{Entry, regions_lie_in_windows, regions_share_no_byte, slots_are_endpoints};
 use cxl_regs::Decoder;
 use std::alloc::Global;
 
 impl Session {
-    /// The places of the live regions that the decoders of an endpoint serve, each once. Takes memory.
-    pub(crate) fn places_on(&self, alloc: Global, endpoint: u32) -> Result<Vec<u32>, Memory>
+    /// The places of the live regions that the decoders of an endpoint serve, each once, where one of these records names a
+    /// byte of the decoder's span. Takes memory.
+    pub(crate) fn places_named(
+        &self,
+        alloc: Global,
+        endpoint: u32,
+        records: &[Entry],
+    ) -> Result<Vec<u32>, Memory>
         requires { (m : Machine) × StandsFor self.now m × IsMachine m }
-        ensures { IfOk result (λ places. ArePlacesOn self.now endpoint places.items) }
+        ensures { IfOk result (λ places. ArePlacesNamed self.now endpoint records.now places.items) }
     {
         live_regions_stay();
         slots_are_endpoints();
+        let mut places = Vec::new(alloc);
         if endpoint >= self.image.count() {
-            return Ok(Vec::new(alloc));
+            return Ok(places);
         }
         let block = self.image.block(endpoint);
-        let mut places = Vec::with_capacity(alloc, usize::from(block.count()))?;
+        let mut taken = 0;
         for i in 0..block.count() {
-            self.put_served(block.decoder(i), &mut places)?;
+            let decoder = block.decoder(i);
+            let start = taken + u128::from(decoder.tail);
+            taken = start + u128::from(decoder.span_length());
+            if is_named(records, start, taken) {
+                self.put_served(decoder, &mut places)?;
+            }
         }
         Ok(places)
     }
@@ -51,19 +62,6 @@ impl Session {
         };
         put_place(places, place as u32)
     }
-
-    /// Copies of the live regions at these places. Takes memory.
-    pub(crate) fn founds_at(&self, alloc: Global, places: &[u32]) -> Result<Vec<Found>, Memory>
-        requires { All (λ place. place < length self.now.founds) places.now }
-        ensures { IfOk result (λ founds. AllZip (StandsThere self.now) founds.items places.now) }
-    {
-        let mut founds = Vec::with_capacity(alloc, places.len())?;
-        for place in places {
-            let found = copied_found(alloc, self.found_at(*place as usize))?;
-            founds.push(found)?;
-        }
-        Ok(founds)
-    }
 }
 
 /// Puts a place behind these, where it is not among them. Takes memory.
@@ -82,4 +80,19 @@ fn is_among(places: &[u32], place: u32) -> bool
     ensures { result ≡ list_any (λ n. n == place) places.now }
 {
     places.contains(&place)
+}
+
+/// Whether one of the records names a byte of the device from one on up to below another.
+fn is_named(records: &[Entry], from: u128, end: u128) -> bool
+    ensures { result ≡ is_named records.now from end }
+{
+    records.iter().any(|record| names_byte(record, from, end))
+}
+
+/// Whether a record does.
+fn names_byte(record: &Entry, from: u128, end: u128) -> bool
+    ensures { result ≡ names_byte from end record.now }
+{
+    let first = u128::from(record.dpa);
+    first < end && from < first + 64 * u128::from(record.units)
 }

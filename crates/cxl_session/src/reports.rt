@@ -1,20 +1,20 @@
 //! What a device's poison list touches of the live regions.
 
-ghost use Rattle.std.specs.Prelude.{◌≡◌, List, map, IfOk};
+ghost use Rattle.std.specs.Prelude.{◌≡◌, List, All, IfOk};
 ghost use Rattle.std.specs.List.{AllZip};
 ghost use Rattle.cxl_model.specs.declared.poison.Poisoned.{Poisoned};
 ghost use Rattle.cxl_poison.specs.Live.{AreLive};
+ghost use Rattle.cxl_poison.specs.Pieces.{ArePoisonedPieces, AreTouchedPlaces};
 ghost use Rattle.cxl_machine.specs.Machine.{Machine};
 ghost use Rattle.cxl_machine.specs.Sound.{IsMachine};
 ghost use Rattle.cxl_machine.specs.Replies.{stays};
 ghost use Rattle.cxl_machine.specs.Reports.{AnswersPoison, TouchesLive, poison_reply};
 ghost use Rattle.cxl_session.specs.Standing.{StandsFor};
-ghost use Rattle.cxl_session.specs.inner.OnDevice.{part_at, place_of, placed, IsToldAt};
 
 use crate::session::Session;
 use cxl_enc::{FixedList, Memory, Name};
-use cxl_model::{Entry, Found, Part, PoisonList, Poisoned, Run, Wide};
-use cxl_poison::{PoisonFault, pieces, read_list};
+use cxl_model::{Entry, Found, PoisonList, Poisoned};
+use cxl_poison::{PoisonFault, pieces_at, read_list};
 use cxl_reply::{Counted, Reply, Report};
 use cxl_request::endpoint_named;
 use cxl_script::Poison;
@@ -49,15 +49,15 @@ impl Session {
             → (pieces : List Poisoned) × AllZip (TouchesLive m endpoint) list.records pieces
             × (reply ≡ poison_reply m endpoint list pieces)) }
     {
-        let places = self.places_on(alloc, endpoint)?;
-        let those = self.founds_at(alloc, &places)?;
+        let records = list.records.items();
+        let places = self.places_named(alloc, endpoint, records)?;
         let pieces = touched_by_records(
             alloc,
-            list.records.items(),
+            records,
             endpoint,
-            &those,
+            self.live(),
             &places,
-            &self.windows,
+            self.windows(),
         )?;
         let names = copied_names(alloc, &self.names)?;
         Ok(Reply::Poison(Report {
@@ -69,69 +69,25 @@ impl Session {
     }
 }
 
-/// What each of the records touches of these live regions, with the places that they have. Takes memory.
+/// What each of the records touches of the live regions, which are at these places among all. Takes memory.
 fn touched_by_records(
     alloc: Global,
     records: &[Entry],
     endpoint: u32,
-    those: &[Found],
+    live: &[Found],
     places: &[u32],
     windows: &[Window],
 ) -> Result<FixedList<Poisoned>, Memory>
-    requires { AreLive windows.now those.now }
-    ensures { IfOk result (AllZip (IsToldAt places.now endpoint those.now windows.now) records.now) }
+    requires live { AreLive windows.now live.now }
+    requires places { All (λ entry. AreTouchedPlaces entry endpoint live.now places.now) records.now }
+    ensures { IfOk result (AllZip (λ entry poisoned. ArePoisonedPieces entry endpoint live.now windows.now poisoned) records.now) }
 {
-    let mut all = Vec::new(alloc);
+    let mut all = Vec::with_capacity(alloc, records.len())?;
     for record in records {
-        let told = pieces(alloc, record, endpoint, those, windows)?;
-        all.push(placed(alloc, &told, places)?)?;
+        let told = pieces_at(alloc, record, endpoint, live, places, windows)?;
+        all.push_reserved(told);
     }
     Ok(FixedList::new(all))
-}
-
-/// What is told of a record, with the places that its regions have among the live ones. Takes memory.
-fn placed(alloc: Global, told: &Poisoned, places: &[u32]) -> Result<Poisoned, Memory>
-    ensures { IfOk result (λ poisoned. poisoned ≡ placed places.now told.now) }
-{
-    let moved = parts_at(alloc, told.parts.items(), places)?;
-    Ok(Poisoned {
-        parts: FixedList::new(moved),
-        unmapped: told.unmapped,
-    })
-}
-
-/// Parts with the places that their regions have among the live ones. Takes memory.
-fn parts_at(alloc: Global, parts: &[Part], places: &[u32]) -> Result<Vec<Part>, Memory>
-    ensures { IfOk result (λ moved. moved.items ≡ map (part_at places.now) parts.now) }
-{
-    let moved = parts
-        .iter()
-        .map(|part| part_at(part, places))
-        .collect(alloc)?;
-    Ok(moved)
-}
-
-/// A part with the place that its region has among the live ones.
-fn part_at(part: &Part, places: &[u32]) -> Part
-    ensures { result ≡ part_at places.now part.now }
-{
-    match part {
-        Part::Run(run) => Part::Run(Run {
-            region: place_of(places, run.region),
-            ..*run
-        }),
-        Part::Wide(wide) => Part::Wide(Wide {
-            region: place_of(places, wide.region),
-            ..*wide
-        }),
-    }
-}
-
-/// The place at an index of these, or 0 past them.
-fn place_of(places: &[u32], k: u32) -> u32
-    ensures { result ≡ place_of places.now k }
-{
-    places.get(k as usize).copied().unwrap_or(0)
 }
 
 /// Takes memory.

@@ -53,7 +53,7 @@ impl Session {
 }
 
 /// The same region. Takes memory.
-pub(crate) fn copied_found(alloc: Global, found: &Found) -> Result<Found, Memory>
+fn copied_found(alloc: Global, found: &Found) -> Result<Found, Memory>
     ensures { IfOk result (λ copy. copy ≡ found.now) }
 {
     let spans = Vec::from_slice(alloc, found.spans.items())?;

@@ -1,19 +1,30 @@
-use Rattle.std.proofs.Common.{◌+◌, sym, subst, ◌++◌, ◌∷◌, [], List, take, get_or}
+use Rattle.std.proofs.Common.{ℕ, ◌+◌, sym, subst, ap, ◌∙◌, ◌++◌, ◌∷◌, [], List, length, take, get_or, arith}
 use Rattle.std.specs.List.{AllZip}
-use Rattle.std.proofs.lemmas.List.{take_more}
+use Rattle.std.proofs.lemmas.List.{take_more, length-append}
 use Rattle.std.proofs.lemmas.Slice.Zip.{all_zipped_more}
 use Rattle.cxl_model.specs.declared.poison.Entry.{Entry}
 use Rattle.cxl_model.specs.declared.poison.Poisoned.{Poisoned}
-use Rattle.cxl_session.specs.inner.OnDevice.{IsToldAt}
+use Rattle.cxl_poison.specs.Pieces.{ArePoisonedPieces}
 use Rattle.cxl_session.proofs.reports.touched_by_records.Goals as goal
+
+pub pieces_at-requires-clause-places : goal.pieces_at-requires-clause-places
+pieces_at-requires-clause-places c = c.requires.places c.loop-record.record-index (record { dpa = 0; units = 0; source = 0 }) c.loop-record-test.true
 
 pub loop-record-preserved : goal.loop-record-preserved
 loop-record-preserved c =
     let none : Entry = record { dpa = 0; units = 0; source = 0 } in
-    let R = IsToldAt c.args.places.now c.args.endpoint c.args.those.now c.args.windows.now in
+    let R : Entry → Poisoned → Type 0 = λ entry poisoned. ArePoisonedPieces entry c.args.endpoint c.args.live.now c.args.windows.now poisoned in
     let records : List Entry = c.args.records.now in
+    let k : ℕ = c.loop-record.record-index in
     let all : List Poisoned = c.loop-record.all.items in
-    let told : R (get_or records c.loop-record.record-index none) c.in_ok-placed.field-0 = record { own = c.in_ok-told.told; are = c.in_ok-told.ensures.pieces; is = c.in_ok-placed.ensures } in
-    let on = all_zipped_more R (take c.loop-record.record-index records) all (get_or records c.loop-record.record-index none) c.in_ok-placed.field-0 c.loop-record.invariant told in
-    subst (λ (items : List Poisoned). AllZip R (take (c.loop-record.record-index + 1) records) items) (sym c.in_ok-push.ensures.items)
-    (subst (λ (front : List Entry). AllZip R front (all ++ c.in_ok-placed.field-0 ∷ [])) (sym (take_more records c.loop-record.record-index none c.loop-record-test.true)) on)
+    let on = all_zipped_more R (take k records) all (get_or records k none) c.in_ok-told.told c.loop-record.invariant.told c.in_ok-told.ensures.pieces in
+    let long = length-append all (c.in_ok-told.told ∷ []) in
+    let count = c.loop-record.invariant.count in
+    let items = c.push_reserved.ensures.items in
+    record {
+      told =
+          subst (λ (xs : List Poisoned). AllZip R (take (k + 1) records) xs) (sym items)
+          (subst (λ (front : List Entry). AllZip R front (all ++ c.in_ok-told.told ∷ [])) (sym (take_more records k none c.loop-record-test.true)) on);
+      count = ap (λ (xs : List Poisoned). length xs) items ∙ omega (arith, long, count);
+      room = omega (arith, c.push_reserved.ensures.capacity, c.loop-record.invariant.room);
+    }
