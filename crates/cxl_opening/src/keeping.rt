@@ -72,10 +72,11 @@ pub fn routes_of(
     let blocks = image.count();
     prove!(nodes == blocks);
     let mut owns = own_of_each(alloc, image, topo, founds)?;
+    let mut likely = vec![in alloc; 0; nodes as usize]?;
     for place in 0..founds.len() {
         let found = &founds[place];
         let own = take_own(alloc, &mut owns, place);
-        let kept = Kept::along(alloc, topo, windows, found, own)?;
+        let kept = Kept::along_by(alloc, topo, windows, found, own, &mut likely)?;
         kepts.push_reserved(kept);
     }
     Ok(kepts)

@@ -1,6 +1,6 @@
 -- The way of a slot down the tree is told by a region's own decoders.
 use Rattle.std.proofs.Common.{◌≡◌, ℕ, zero, suc, ◌+◌, ◌-◌, ◌*◌, ◌/◌, ◌%◌, ◌^◌, ◌<◌, ◌≤◌, Bool, false, cond, List, [], ◌∷◌, ◌++◌, length, take, drop, replicate, reverse, Option, Some, None, refl, sym, ap, ◌∙◌, inl, inr, arith}
-use Rattle.std.specs.Prelude.{find, ◌==◌, option_map}
+use Rattle.std.specs.Prelude.{find, ◌==◌, option_map, slice_get}
 use Rattle.std.specs.Option.{option_and_then, option_map_or}
 use Rattle.std.specs.List.{filter_map, cons_option, range_with_len}
 use Rattle.std.proofs.Math.Nat.{div-div-eq-div-mul}
@@ -41,6 +41,12 @@ use Rattle.cxl_walk.specs.inner.Slots.{step_at}
 abbrev pub is_of : ℕ → Own → Bool
 is_of n one = one.node == n
 
+-- one that was gathered at its node, which is among so many from one on
+record IsGatheredAt (f : ℕ → Option Own) (from k : ℕ) (one : Own) : Type 0 where
+  is : f one.node ≡ Some one
+  low : from ≤ one.node
+  below : one.node < from + k
+
 module _ (f : ℕ → Option Own) (named : (n : ℕ) (one : Own) → f n ≡ Some one → one.node ≡ n) where
   -- nothing earlier is found
   none_later : (from k n : ℕ) → n < from → find (is_of n) (filter_map f (range_with_len from k)) ≡ None
@@ -73,6 +79,29 @@ module _ (f : ℕ → Option Own) (named : (n : ℕ) (one : Own) → f n ≡ Som
           let own = named from one some in
           ap (λ (b : Bool). cond b (Some one) (find (is_of n) (filter_map f (range_with_len (from + 1) k)))) (eq-eqb one.node n (omega (arith, own, same)))
           ∙ sym some ∙ ap f same
+
+  -- whatever stands among the gathered was gathered at its node
+  gathered_at : (from k p : ℕ) (x : Own) → slice_get (filter_map f (range_with_len from k)) p ≡ Some x → IsGatheredAt f from k x
+  gathered_at from zero p x at = absurd (none-some x at)
+  gathered_at from (suc k) p x at = go (f from) refl p at (λ (q : ℕ). gathered_at (from + 1) k q x)
+    where
+      later : IsGatheredAt f (from + 1) k x → IsGatheredAt f from (suc k) x
+      later rest = record { is = rest.is; low = (let low = rest.low in omega (arith, low)); below = (let below = rest.below in omega (arith, below)) }
+
+      go : (o : Option Own) → f from ≡ o → (q : ℕ) → slice_get (cons_option o (filter_map f (range_with_len (from + 1) k))) q ≡ Some x
+          → ((r : ℕ) → slice_get (filter_map f (range_with_len (from + 1) k)) r ≡ Some x → IsGatheredAt f (from + 1) k x) → IsGatheredAt f from (suc k) x
+      go None is q it rest = later (rest q it)
+      go (Some one) is zero it rest =
+          let same : one ≡ x = same_Some one x it in
+          let node : x.node ≡ from = ap (λ (o : Own). o.node) (sym same) ∙ named from one is in
+          record { is = ap f node ∙ is ∙ it; low = omega (arith, node); below = omega (arith, node) }
+      go (Some one) is (suc q) it rest = later (rest q it)
+
+  -- so it is what is found at its node
+  pub found_there : (k p : ℕ) (x : Own) → slice_get (filter_map f (range_with_len 0 k)) p ≡ Some x → find (is_of x.node) (filter_map f (range_with_len 0 k)) ≡ Some x
+  found_there k p x at =
+      let it = gathered_at 0 k p x at in
+      found_by_node 0 k x.node it.low it.below ∙ it.is
 
 -- ---- a node's own decoder
 
@@ -199,6 +228,13 @@ zeros_behind above step long room zeros =
 pub own_found : (s : System) (found : Found) (own : List Own) (n : ℕ) (o : Option Own) → n < length s.nodes → own ≡ own_decoders s found → o ≡ find (is_of n) own
     → own_for s (region_range found) n ≡ o
 own_found s found own n o below are is = sym (is ∙ ap (find (is_of n)) are ∙ own_is s found n below)
+
+-- a decoder among a region's own ones is what stands in its node
+pub own_at_place : (s : System) (found : Found) (own : List Own) (place n : ℕ) (one : Own) → own ≡ own_decoders s found → slice_get own place ≡ Some one → one.node ≡ n
+    → find (is_of n) own ≡ Some one
+own_at_place s found own place n one are at node =
+    ap (λ (m : ℕ). find (is_of m) own) (sym node) ∙ ap (find (is_of one.node)) are
+    ∙ found_there (own_for s (region_range found)) (own_named s (region_range found)) (length s.nodes) place one (ap (λ (xs : List Own). slice_get xs place) (sym are) ∙ at)
 
 pub own_ways : (s : System) (r : Range) (n : ℕ) (one : Own) → own_for s r n ≡ Some one → 0 < one.ways
 own_ways s r n one is =

@@ -42,6 +42,7 @@ pub(crate) fn put_steps(
     above: &mut StepsAbove,
     topo: &Topo,
     own: &[Own],
+    likely: &[usize],
     root: u32,
     slot: u8,
     node: u32,
@@ -67,8 +68,8 @@ pub(crate) fn put_steps(
     let Some(parent) = topo.node(node).parent else {
         return;
     };
-    put_steps(above, topo, own, root, slot, parent.node);
-    match own_at(own, parent.node) {
+    put_steps(above, topo, own, likely, root, slot, parent.node);
+    match own_at(own, likely, parent.node) {
         Some(port) => put_step(above, port),
         None => {}
     }

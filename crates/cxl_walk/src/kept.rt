@@ -16,7 +16,7 @@ ghost use Rattle.cxl_walk.specs.Keeping.{KeptFields, IsSlotRoute, IsKept, IsKept
 
 use crate::above::{no_steps, put_steps};
 use crate::own::Own;
-use crate::owned::{own_at, own_in};
+use crate::owned::{own_at, own_in, put_likely};
 use crate::route::Route;
 use cxl_deal::{Weave, deal, region_fills_slots};
 use cxl_image::Image;
@@ -84,12 +84,34 @@ impl Kept {
             → HasOwn s topo.now.nodes windows.now found.now own.items → IsRegionIn s w found.now
             → IsKept s w found.now kept) }
     {
+        let mut none = Vec::new(alloc);
+        let kept = Kept::along_by(alloc, topo, windows, found, own, &mut none)?;
+        Ok(kept)
+    }
+
+    /// The same, with a table of likely places by node, where its decoder is sought first. The table may hold anything, so that
+    /// one serves all regions in turn. Takes memory.
+    pub fn along_by(
+        alloc: Global,
+        topo: &Topo,
+        windows: &[Window],
+        found: &Found,
+        own: Vec<Own>,
+        likely: &mut Vec<usize>,
+    ) -> Result<Kept, Memory>
+        requires { (s : System) × HasOwn s topo.now.nodes windows.now found.now own.items }
+        ensures kept { IfOk result (λ kept. (s : System) (w : WindowFields)
+            → HasOwn s topo.now.nodes windows.now found.now own.items → IsRegionIn s w found.now
+            → IsKept s w found.now kept) }
+        ensures long { length likely.new.items ≡ length likely.old.items }
+    {
         regions_lie_in_windows();
+        put_likely(likely, &own);
         let window = &windows[found.window as usize];
         let weave = weave_in(window, found);
         let mut routes = Vec::with_capacity(alloc, usize::from(found.ways))?;
         for slot in 0..found.ways {
-            let route = slot_route(topo, window, &own, found, slot);
+            let route = slot_route(topo, window, &own, likely, found, slot);
             routes.push_reserved(route);
         }
         Ok(Kept {
@@ -166,7 +188,14 @@ fn weave_in(window: &Window, found: &Found) -> Weave
 
 /// The route of the host byte that is dealt to a slot at offset 0: over the window's target and by the steps of the slot,
 /// to the first byte of its span.
-fn slot_route(topo: &Topo, window: &Window, own: &[Own], found: &Found, slot: u8) -> Route
+fn slot_route(
+    topo: &Topo,
+    window: &Window,
+    own: &[Own],
+    likely: &[usize],
+    found: &Found,
+    slot: u8,
+) -> Route
     requires region { (s : System) × IsOwnIn s topo.now.nodes window.now found.now own.now }
     requires slot { slot < found.now.ways }
     ensures { (s : System) → IsOwnIn s topo.now.nodes window.now found.now own.now
@@ -181,9 +210,9 @@ fn slot_route(topo: &Topo, window: &Window, own: &[Own], found: &Found, slot: u8
     prove!(place.endpoint < count);
     let root = root_ways(window);
     let mut above = no_steps(u32::from(slot) / root);
-    put_steps(&mut above, topo, own, root, slot, place.endpoint);
+    put_steps(&mut above, topo, own, likely, root, slot, place.endpoint);
     let steps = above.steps;
-    let last = own_at(own, place.endpoint).unwrap();
+    let last = own_at(own, likely, place.endpoint).unwrap();
     Route {
         window: found.window,
         position: u32::from(target_position(window, slot)),

@@ -1,8 +1,9 @@
 //! Which decoders are a region's own.
 
-ghost use Rattle.std.specs.Prelude.{◌≡◌, ◌==◌, ◌<◌, ◌≤◌, [], length, find, IfOk};
+ghost use Rattle.std.specs.Prelude.{◌≡◌, ◌==◌, ℕ, ◌<◌, ◌≤◌, [], length, find, slice_get, Some, IfOk, IfSome};
 ghost use Rattle.std.specs.List.{filter_map, range_with_len};
-ghost use Rattle.cxl_model.specs.System.{system_of, blocks_alone};
+ghost use Rattle.cxl_model.specs.declared.found.Found.{Found};
+ghost use Rattle.cxl_model.specs.System.{System, system_of, blocks_alone};
 ghost use Rattle.cxl_model.specs.Regions.{region_range};
 ghost use Rattle.cxl_walk.specs.Keeping.{own_for, own_decoders};
 ghost use Rattle.cxl_walk.specs.inner.Marks.{own_where, IsRegionOver};
@@ -15,11 +16,36 @@ use cxl_regs::Range;
 use cxl_topo::{Topo, tree_laws};
 use std::alloc::Global;
 
-/// The decoder that stands in a node.
-pub(crate) fn own_at(own: &[Own], node: u32) -> Option<Own>
+/// The decoder of a region that stands in a node, by its own ones. Its likely place is tried first, whatever that is.
+pub(crate) fn own_at(own: &[Own], likely: &[usize], node: u32) -> Option<Own>
+    requires { (s : System) × (found : Found) × (own.now ≡ own_decoders s found) }
     ensures { result ≡ find (λ (one : Own). one.node == node) own.now }
 {
-    own.iter().copied().find(|one| one.node == node)
+    match likely_own(own, likely, node) {
+        Some(one) => Some(one),
+        None => own.iter().copied().find(|one| one.node == node),
+    }
+}
+
+/// The decoder at the place that is likely for a node, where it stands in that node.
+fn likely_own(own: &[Own], likely: &[usize], node: u32) -> Option<Own>
+    ensures { IfSome result (λ one. (place : ℕ) × (slice_get own.now place ≡ Some one) × (one.node ≡ node)) }
+{
+    let place = *likely.get(node as usize)?;
+    let one = *own.get(place)?;
+    if one.node == node { Some(one) } else { None }
+}
+
+/// Puts the place of each of these decoders as the likely one of its node. Those of other nodes stay.
+pub(crate) fn put_likely(likely: &mut Vec<usize>, own: &[Own])
+    ensures { length likely.new.items ≡ length likely.old.items }
+{
+    for (place, one) in own.iter().enumerate() {
+        let node = one.node as usize;
+        if node < likely.len() {
+            likely[node] = place;
+        }
+    }
 }
 
 /// The own decoders of a region of the image, in rising node order. Takes memory.

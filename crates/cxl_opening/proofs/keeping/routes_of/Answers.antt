@@ -37,8 +37,8 @@ loop-place-init c =
 pub take_own-own-requires : goal.take_own-own-requires
 take_own-own-requires c = omega (arith, c.loop-place.invariant.long, c.loop-place-test.true)
 
-pub along-requires : goal.along-requires
-along-requires c =
+pub along_by-requires : goal.along_by-requires
+along_by-requires c =
     let s : System = system_of c.args.image.now c.args.topo.now c.args.windows.now in
     let system : IsSystem s = record { tree = c.count-nodes.ensures.tree; blocks = c.count-blocks.ensures.image.each; caps = c.requires.caps; made = c.requires.made } in
     let i : ℕ = c.loop-place.place in
@@ -75,7 +75,7 @@ loop-place-preserved c =
     let more : take (i + 1) founds ≡ take i founds ++ found ∷ [] = take_more founds i found low ∙ ap (λ (f : Found). take i founds ++ f ∷ []) (sym is) in
     let R : Found → KeptFields → Type 0 = λ f kept. (w : WindowFields) → IsRegionIn s w f → IsKept s w f kept in
     let all = zip_push R (take i founds) c.loop-place.kepts.items found c.in_ok-kept.kept c.loop-place.invariant.routes
-    (λ w region. c.in_ok-kept.ensures s w (has_own s w found own.items system region are) region) in
+    (λ w region. c.in_ok-kept.ensures.kept s w (has_own s w found own.items system region are) region) in
     let room = c.loop-place.invariant.room in
     let stays = c.push_reserved.ensures.capacity in
     record {

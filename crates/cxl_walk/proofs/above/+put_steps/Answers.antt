@@ -31,6 +31,9 @@ room_below nodes tree n p up len few =
     let ports = ap length (ports_some tree n p up) in
     omega (arith, tree.laws.few_ports n, ports)
 
+pub own_at-requires : goal.own_at-requires
+own_at-requires t c = (c.requires.own.0, c.requires.own.1, c.requires.own.2)
+
 pub put_step-requires-clause-some : goal.put_step-requires-clause-some
 put_step-requires-clause-some t c =
     let nodes = c.args.topo.now.nodes in

@@ -31,6 +31,9 @@ prove-unreachable-requires c =
     let past : c.count-count.result ≤ place.endpoint = c.if-prove.true in
     omega (arith, inside, count, many, past)
 
+pub own_at-requires : goal.own_at-requires
+own_at-requires c = (c.requires.region.0, c.args.found.now, c.requires.region.1.are)
+
 pub unwrap-last-requires : goal.unwrap-last-requires
 unwrap-last-requires c =
     let s : System = c.requires.region.0 in

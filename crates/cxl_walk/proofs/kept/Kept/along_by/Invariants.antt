@@ -4,7 +4,7 @@ use Rattle.std.specs.Vec.{vec_capacity}
 use Rattle.cxl_model.specs.System.{System}
 use Rattle.cxl_walk.specs.declared.route.Route.{Route}
 use Rattle.cxl_walk.specs.Keeping.{IsSlotRoute, IsOwnIn}
-use Rattle.cxl_walk.proofs.kept.Kept.along.Given as goal
+use Rattle.cxl_walk.proofs.kept.Kept.along_by.Given as goal
 
 abbrev pub invariant-loop-slot : goal.invariant-loop-slot
 invariant-loop-slot l = record {

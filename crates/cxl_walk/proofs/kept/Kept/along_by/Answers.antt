@@ -7,7 +7,7 @@ use Rattle.cxl_walk.specs.declared.route.Route.{Route}
 use Rattle.cxl_walk.specs.Keeping.{IsSlotRoute, IsOwnIn}
 use Rattle.cxl_walk.proofs.Keepings.{one_more}
 use Rattle.cxl_walk.proofs.SlotRoutes.{window_at}
-use Rattle.cxl_walk.proofs.kept.Kept.along.Goals as goal
+use Rattle.cxl_walk.proofs.kept.Kept.along_by.Goals as goal
 
 pub loop-slot-preserved : goal.loop-slot-preserved
 loop-slot-preserved c =
@@ -22,11 +22,11 @@ loop-slot-preserved c =
           subst (λ (xs : List Route). (k : ℕ) (route : Route) → slice_get xs k ≡ Some route → IsSlotRoute s w found k route) (sym items)
           (one_more (λ (k : ℕ) (route : Route). IsSlotRoute s w found k route) c.loop-slot.routes.items c.slot_route-route.result (c.loop-slot.invariant.each s is)
           (subst (λ (k : ℕ). IsSlotRoute s w found k c.slot_route-route.result) (sym c.loop-slot.invariant.count)
-          (c.slot_route-route.ensures s (subst (λ (own : List Own). IsOwnIn s c.args.topo.now.nodes w found own) (sym c.deref.ensures.value) is))));
+          (c.slot_route-route.ensures s (subst (λ (own : List Own). IsOwnIn s c.args.topo.now.nodes w found own) (sym c.deref-in-loop-slot.ensures.value) is))));
     }
 
-pub returns : goal.returns
-returns c = λ s w has region.
+pub returns-clause-kept : goal.returns-clause-kept
+returns-clause-kept c = λ s w has region.
     let found = c.args.found.now in
     let v : WindowFields = c.index-windows-found.result in
     let same : v ≡ w = window_at s w v found has.is.system region (c.index-windows-found.is ∙ ap (λ (ws : List WindowFields). get_or ws found.window v) (sym has.among)) in
