@@ -51,3 +51,5 @@ mod scripts;
 mod stores;
 #[cfg(test)]
 mod tables;
+#[cfg(test)]
+mod undone;
