@@ -1,7 +1,6 @@
 //! The line of a window: its fields, and how a topology lets it be used.
 
 ghost use Rattle.std.specs.Prelude.{◌≡◌, ◌++◌, OnOk, codes, decimal};
-ghost use Rattle.cxl_reply.specs.Plans.{more_ports_text, ports_text};
 ghost use Rattle.cxl_reply.specs.Words.{hex_text};
 ghost use Rattle.cxl_reads.specs.Windows.{span_text, dealing_text, policy_text, use_text, seen_line};
 
@@ -10,7 +9,7 @@ use crate::window_verdicts::put_verdict;
 use cxl_enc::Memory;
 use cxl_io::put_number;
 use cxl_table::Record;
-use cxl_text::{put_address, put_gran};
+use cxl_text::{put_address, put_gran, put_targets};
 use cxl_window::Window;
 
 /// Appends the line of a window of a table, whose record has this throttling group.
@@ -83,28 +82,4 @@ fn put_use(out: &mut Vec<u8>, records: &[Record], window: &Window) -> Result<(),
     put_targets(out, window.targets())?;
     out.extend_from_slice(b" verdict ")?;
     put_verdict(out, records, window)
-}
-
-/// Appends UIDs, with a comma between.
-fn put_targets(out: &mut Vec<u8>, uids: &[u32]) -> Result<(), Memory>
-    ensures { OnOk result (out.new.items ≡ out.old.items ++ ports_text uids.now) }
-{
-    match uids {
-        [] => Ok(()),
-        [first, others @ ..] => {
-            put_number(out, u64::from(*first))?;
-            put_more_targets(out, others)
-        }
-    }
-}
-
-/// Appends UIDs, each behind a comma.
-fn put_more_targets(out: &mut Vec<u8>, uids: &[u32]) -> Result<(), Memory>
-    ensures { OnOk result (out.new.items ≡ out.old.items ++ more_ports_text uids.now) }
-{
-    for uid in uids {
-        out.push(b',')?;
-        put_number(out, u64::from(*uid))?;
-    }
-    Ok(())
 }

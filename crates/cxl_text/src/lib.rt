@@ -12,6 +12,7 @@ mod region;
 mod short_lines;
 mod short_text;
 mod slots;
+mod targets;
 mod text;
 mod words;
 
@@ -24,5 +25,6 @@ pub use plan::{put_plan, put_tail};
 pub use region::put_words;
 pub use short_lines::{has_short_text, short};
 pub use short_text::ShortText;
+pub use targets::put_targets;
 pub use text::{put_long, put_reply};
 pub use words::{put_address, put_gran};

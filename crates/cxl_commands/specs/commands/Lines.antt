@@ -10,18 +10,10 @@ use Rattle.cxl_window.specs.Fields.{WindowFields}
 use Rattle.cxl_window.specs.Windows.{cfmws_in, window_of}
 use Rattle.cxl_window.specs.declared.window.Verdict.{Verdict}
 use Rattle.cxl_window.specs.declared.window.Verdict.TheVariants.{Usable, Align, Size, TooHigh, Overlap, Target, Repeat, Maps}
+use Rattle.cxl_reply.specs.Plans.{ports_text}
 use Rattle.cxl_reply.specs.Words.{line, hex_text, gran_text}
 
 -- ---- parts of lines
-
--- UIDs, each behind a comma
-abbrev pub more_targets_text : List ℕ → List ℕ
-more_targets_text uids = flat_map (λ uid. codes "," ++ decimal uid) uids
-
--- UIDs, separated by commas
-abbrev pub targets_text : List ℕ → List ℕ
-targets_text [] = []
-targets_text (uid ∷ uids) = decimal uid ++ more_targets_text uids
 
 -- XOR maps, each behind a comma
 abbrev pub more_maps_text : List ℕ → List ℕ
@@ -73,7 +65,7 @@ policy_text restrict qtg = codes " restrict " ++ restrict_text restrict ++ codes
 
 -- the targets, and whether the window can be used
 unfoldable pub use_text : WindowFields → List ℕ
-use_text w = codes " targets " ++ targets_text w.targets ++ codes " " ++ verdict_text w.verdict
+use_text w = codes " targets " ++ ports_text w.targets ++ codes " " ++ verdict_text w.verdict
 
 -- ---- the line of a record
 

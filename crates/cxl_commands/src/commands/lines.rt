@@ -3,12 +3,12 @@
 ghost use Rattle.std.specs.Prelude.{◌≡◌, ◌++◌, ◌<◌, IsSome, OnOk, length, codes, decimal};
 ghost use Rattle.cxl_cedt.specs.RecordTexts.{record_in};
 ghost use Rattle.cxl_commands.specs.commands.LinePlaces.{line_at};
-ghost use Rattle.cxl_commands.specs.commands.Lines.{more_targets_text, targets_text, more_maps_text, maps_text, verdict_text, bridge_text, registers_text, range_text, interleave_text, arithmetic_text, restrict_text, policy_text, use_text, chbs_line, window_line, cxims_line, other_text};
+ghost use Rattle.cxl_commands.specs.commands.Lines.{more_maps_text, maps_text, verdict_text, bridge_text, registers_text, range_text, interleave_text, arithmetic_text, restrict_text, policy_text, use_text, chbs_line, window_line, cxims_line, other_text};
 ghost use Rattle.cxl_window.specs.Windows.{cfmws_in};
 
 use cxl_cedt::{Chbs, Cxims, Record, RecordText};
 use cxl_io::{Memory, put_hex, put_number};
-use cxl_text::{put_address, put_gran};
+use cxl_text::{put_address, put_gran, put_targets};
 use cxl_window::{Verdict, Window};
 
 /// Appends the line of a record, before which so many of the windows stand.
@@ -209,30 +209,6 @@ fn put_length(out: &mut Vec<u8>, len: u64) -> Result<(), Memory>
     out.extend_from_slice(b" length ")?;
     put_number(out, len)?;
     out.push(b'\n')?;
-    Ok(())
-}
-
-/// Appends UIDs, separated by commas.
-fn put_targets(out: &mut Vec<u8>, uids: &[u32]) -> Result<(), Memory>
-    ensures { OnOk result (out.new.items ≡ out.old.items ++ targets_text uids.now) }
-{
-    match uids {
-        [] => Ok(()),
-        [first, others @ ..] => {
-            put_number(out, u64::from(*first))?;
-            put_more_targets(out, others)
-        }
-    }
-}
-
-/// Appends UIDs, each behind a comma.
-fn put_more_targets(out: &mut Vec<u8>, uids: &[u32]) -> Result<(), Memory>
-    ensures { OnOk result (out.new.items ≡ out.old.items ++ more_targets_text uids.now) }
-{
-    for uid in uids {
-        out.push(b',')?;
-        put_number(out, u64::from(*uid))?;
-    }
     Ok(())
 }
 
