@@ -4,8 +4,8 @@ use crate::say;
 use crate::topology::{Sought, Spot, key_below, line_above, line_of_node};
 use cxl_cedt::CedtFault;
 use cxl_image::ImageFault;
+use cxl_inputs::fault_node;
 use cxl_io::{Fetch, StdFetch};
-use cxl_topo::TreeFault;
 use cxl_topofile::{Key, Place, Section, TopoFault};
 use std::alloc::Global;
 use std::fs::{self, File};
@@ -150,7 +150,7 @@ fn line_of_fault(alloc: Global, text: &str, fault: TopoFault) -> io::Result<Opti
         TopoFault::Key(place) | TopoFault::Kind(place) | TopoFault::Range(place) => {
             line_of_place(alloc, text, place)
         }
-        TopoFault::Tree(fault) => Ok(node_of(fault).and_then(|node| line_of_node(text, node))),
+        TopoFault::Tree(fault) => Ok(fault_node(fault).and_then(|node| line_of_node(text, node))),
         _ => Ok(None),
     }
 }
@@ -169,21 +169,6 @@ fn line_of_place(alloc: Global, text: &str, place: Place) -> io::Result<Option<u
         Some(spot) => Ok(Some(spot.line)),
         None if above > 0 => Ok(Some(above)),
         None => Ok(None),
-    }
-}
-
-/// The node that a fault of the tree names.
-fn node_of(fault: TreeFault) -> Option<u32> {
-    match fault {
-        TreeFault::NoParent(node)
-        | TreeFault::PortTaken(node)
-        | TreeFault::Forks(node)
-        | TreeFault::NameTaken(node)
-        | TreeFault::UidTaken(node)
-        | TreeFault::Depth(node)
-        | TreeFault::Caps(node)
-        | TreeFault::Capacity(node) => Some(node),
-        TreeFault::TooMany | TreeFault::Memory => None,
     }
 }
 

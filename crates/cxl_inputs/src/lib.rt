@@ -22,4 +22,4 @@ pub use status::Status;
 pub use stop::{Stop, finish};
 pub use table::{fetch_table, given_table};
 pub use table_windows::text_windows;
-pub use topology::given_topology;
+pub use topology::{fault_node, given_topology};

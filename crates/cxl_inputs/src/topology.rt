@@ -95,8 +95,8 @@ fn fault_word(fault: TreeFault) -> &'static str
     }
 }
 
-/// The node that has the fault.
-fn fault_node(fault: TreeFault) -> Option<u32>
+/// The node that has the fault, where it is one of a node.
+pub fn fault_node(fault: TreeFault) -> Option<u32>
     ensures { result ≡ tree_fault_node fault }
 {
     match fault {
