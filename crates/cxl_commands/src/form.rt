@@ -1,6 +1,6 @@
 //! What the words of the command line ask for.
 
-ghost use Rattle.std.specs.Prelude.{◌≡◌, false, true, IfOk, OnErr};
+ghost use Rattle.std.specs.Prelude.{◌≡◌, true, IfOk, OnErr};
 ghost use Rattle.cxl_io.specs.Numbers.{number_of};
 ghost use Rattle.cxl_commands.specs.Plain.{plain};
 ghost use Rattle.cxl_commands.specs.Form.{route_form, list_form, normal_form, check_form, plan_form, create_on_line, run_form, gen_of, gen_form, alone, takes_memory, form_of};

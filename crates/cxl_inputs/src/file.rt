@@ -1,6 +1,6 @@
 //! The bytes of a file, or the text that says why there are none.
 
-ghost use Rattle.std.specs.Prelude.{◌≡◌, ◌<◌, ◌≤◌, ⊤, [], ◌∷◌, length, IfOk, IfErr, OnOk};
+ghost use Rattle.std.specs.Prelude.{◌≡◌, ◌≤◌, ⊤, [], ◌∷◌, length, IfOk, IfErr, OnOk};
 ghost use Rattle.cxl_enc.specs.Limits.{file_limit};
 ghost use Rattle.cxl_io.specs.Fetch.{AsksFor, IsFile};
 ghost use Rattle.cxl_inputs.specs.File.{HasNoBytes, AsksForSome, unread, too_large};

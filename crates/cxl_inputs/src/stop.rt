@@ -7,7 +7,6 @@ ghost use Rattle.cxl_inputs.specs.Stop.{stop_of};
 use crate::outcome::Outcome;
 use crate::status::Status;
 use cxl_io::{Memory, Sink};
-use std::alloc::AllocError;
 
 /// What ends a command early.
 #[derive(Drop)]

@@ -1,6 +1,6 @@
 //! The line of a decoder: its place, its fields and its words.
 
-ghost use Rattle.std.specs.Prelude.{◌≡◌, ◌++◌, ◌<◌, OnOk, length, codes, decimal};
+ghost use Rattle.std.specs.Prelude.{◌≡◌, ◌++◌, ◌<◌, OnOk, length};
 ghost use Rattle.cxl_regs.specs.Registers.{IsDecoder};
 ghost use Rattle.cxl_reply.specs.Plans.{decoder_text};
 ghost use Rattle.cxl_reads.specs.Decoders.{place_text, range_text, codes_text, commit_text, state_text, words_text, decoder_line};

@@ -1,6 +1,6 @@
 //! The decoders of any image, also of one that breaks a rule.
 
-ghost use Rattle.std.specs.Prelude.{◌≡◌, ◌≤◌};
+ghost use Rattle.std.specs.Prelude.{◌≤◌};
 ghost use Rattle.cxl_reads.specs.Answers.{ComesTo, IsAnswered};
 ghost use Rattle.cxl_reads.specs.Decoders.{AreDecoders};
 

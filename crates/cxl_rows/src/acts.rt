@@ -1,7 +1,7 @@
 //! The worked scripts command by command: each line as a call of `act` over an open session, with the text of its reply. Which
 //! routes are kept behind each command.
 
-ghost use Rattle.std.specs.Prelude.{◌≡◌, ◌<◌, IfOk};
+ghost use Rattle.std.specs.Prelude.{IfOk};
 ghost use Rattle.cxl_machine.specs.Machine.{Machine};
 ghost use Rattle.cxl_machine.specs.Sound.{IsMachine};
 ghost use Rattle.cxl_script.specs.Grammar.{IsRanged};
