@@ -107,7 +107,7 @@ is_bridge_with-own node own is uid = rw is (unsigned_ties own uid)
 -- ---- a name is entered
 
 -- equal keys are one
-one_key : (a b : NameKey) → name_eq a b ≡ true → a ≡ b
+pub one_key : (a b : NameKey) → name_eq a b ≡ true → a ≡ b
 one_key a b same = let numbers : a.0 ≡ b.0 = eqb-true a.0 b.0 same in λ i. record { 0 = numbers i }
 
 module _ {S : Type 0} (nodes : List Node) (i : ℕ) (node : Node) (lt : i < length nodes) (is : node ≡ get_or nodes i node) (own : IsName node.name) (old new : HashMap NameKey ℕ S) (before : ListsNames (take i nodes) old) where

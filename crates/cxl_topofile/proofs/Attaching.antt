@@ -1,14 +1,15 @@
 -- Nodes under earlier ones, one after another, and the table of those that others may stand under.
-use Rattle.std.proofs.Common.{not, true, ◌≡◌, ℕ, ◌+◌, ◌<◌, ◌≤◌, List, [], ◌∷◌, ◌++◌, length, get_or, drop, sym, ap, ◌∙◌, arith}
-use Rattle.std.specs.Prelude.{nat_lt, count_by}
-use Rattle.std.specs.BTreeMap.{BTreeMap, is_at}
-use Rattle.std.proofs.lemmas.Bool.{lt-ltb, or_left}
+use Rattle.std.proofs.Common.{not, true, ◌≡◌, ℕ, ◌+◌, ◌<◌, ◌≤◌, List, [], ◌∷◌, ◌++◌, length, get_or, drop, cond, Option, Some, None, inl, inr, refl, sym, ap, ◌∙◌, arith}
+use Rattle.std.specs.Prelude.{nat_lt, count_by, position}
+use Rattle.std.specs.Option.{option_or, unwrap_or}
+use Rattle.std.specs.HashMap.{HashMap, get}
+use Rattle.std.proofs.lemmas.Bool.{cases_Bool, lt-ltb, or_left}
 use Rattle.std.proofs.lemmas.List.{drop_more, drop_all, length_push}
 use Rattle.cxl_enc.specs.Name.{IsName}
-use Rattle.cxl_topo.proofs.Entering.{position_push}
-use Rattle.cxl_topo.proofs.NameKeys.{name_ties}
+use Rattle.cxl_topo.proofs.Entering.{position_push, one_key}
+use Rattle.cxl_topo.proofs.NameKeys.{name_same}
 use Rattle.cxl_topo.specs.Kinds.{is_bridge, is_endpoint}
-use Rattle.cxl_topo.specs.Keys.{Enters, name_key, name_cmp}
+use Rattle.cxl_topo.specs.Keys.{name_key, name_eq}
 use Rattle.cxl_topo.specs.declared.tables.NameKey.{NameKey}
 use Rattle.cxl_topo.specs.Faults.{IsTree, IsFirstTreeFault}
 use Rattle.cxl_topo.specs.declared.node.Node.{Node}
@@ -48,10 +49,25 @@ no_tree nodes drafts lt tree =
 
 -- ---- the table of ports by name
 
-module _ (nodes : List Node) (node : Node) (old : BTreeMap NameKey ℕ) (before : ListsPorts nodes old) where
-  -- a bridge or a switch is entered under its name
-  pub port_entered : (new : BTreeMap NameKey ℕ) → IsName node.name → not (is_endpoint node.kind) ≡ true → Enters name_cmp old new (name_key node.name) (length nodes) → ListsPorts (nodes ++ node ∷ []) new
-  port_entered new own port enters name is = enters (name_key name) ∙ rw (before name is, ← fits) (sym (position_push (is_port_named name) nodes node))
+module _ {S : Type 0} (nodes : List Node) (node : Node) (old : HashMap NameKey ℕ S) (before : ListsPorts nodes old) where
+  -- a bridge or a switch is entered under its name, unless an earlier one has it
+  pub port_entered : (new : HashMap NameKey ℕ S) (value : ℕ) → IsName node.name → not (is_endpoint node.kind) ≡ true → value ≡ unwrap_or (get name_eq old (name_key node.name)) (length nodes)
+      → ((q : NameKey) → get name_eq new q ≡ cond (name_eq (name_key node.name) q) (Some value) (get name_eq old q)) → ListsPorts (nodes ++ node ∷ []) new
+  port_entered new value own port is_value updates name is = updates (name_key name) ∙ go ∙ sym (position_push (is_port_named name) nodes node)
     where
-      fits : is_port_named name node ≡ is_at (name_cmp (name_key node.name)) (name_key name)
-      fits = rw port (name_ties node.name name own is)
+      fits : is_port_named name node ≡ name_eq (name_key node.name) (name_key name)
+      fits = rw port (name_same node.name name own is)
+
+      kept : (o : Option ℕ) → Some (unwrap_or o (length nodes)) ≡ option_or o (Some (length nodes))
+      kept None = refl
+      kept (Some j) = refl
+
+      left : (o : Option ℕ) → o ≡ option_or o None
+      left None = refl
+      left (Some j) = refl
+
+      go : cond (name_eq (name_key node.name) (name_key name)) (Some value) (get name_eq old (name_key name)) ≡ option_or (position (is_port_named name) nodes) (cond (is_port_named name node) (Some (length nodes)) None)
+      go = elim (cases_Bool (name_eq (name_key node.name) (name_key name))) [
+        | inl e ↦ rw (fits, e) (ap Some is_value ∙ kept (get name_eq old (name_key node.name)) ∙ ap (λ (o : Option ℕ). option_or o (Some (length nodes))) (ap (get name_eq old) (one_key (name_key node.name) (name_key name) e) ∙ before name is))
+        | inr e ↦ rw (fits, e) (before name is ∙ left (position (is_port_named name) nodes))
+      ]

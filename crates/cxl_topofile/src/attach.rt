@@ -8,9 +8,9 @@ ghost use Rattle.cxl_topofile.specs.File.{node_under, attached};
 ghost use Rattle.cxl_topofile.specs.inner.Ports.{ListsPorts};
 
 use crate::draft::Draft;
-use cxl_topo::{NameKey, Node, Parent, enter_first};
+use cxl_topo::{NameKey, Node, Parent};
 use std::alloc::{AllocError, Global};
-use std::collections::BTreeMap;
+use std::collections::HashMap;
 
 /// The bridges, and after them the others, each under the first earlier bridge or switch with its
 /// parent's name. Takes memory.
@@ -22,8 +22,8 @@ pub(crate) fn attach(
     requires { length bridges.now + length drafts.now ≤ node_limit }
     ensures { IfOk result (λ nodes. nodes.items ≡ attached bridges.now drafts.now) }
 {
-    let mut nodes = Vec::new(alloc);
-    let mut ports = BTreeMap::new(alloc);
+    let mut nodes = Vec::with_capacity(alloc, bridges.len() + drafts.len())?;
+    let mut ports = HashMap::with_capacity(alloc, bridges.len())?;
     add_bridge_nodes(&mut nodes, &mut ports, bridges)?;
     add_drafts(&mut nodes, &mut ports, drafts)?;
     Ok(nodes)
@@ -32,7 +32,7 @@ pub(crate) fn attach(
 /// Adds the bridges, the first nodes.
 fn add_bridge_nodes(
     nodes: &mut Vec<Node>,
-    ports: &mut BTreeMap<NameKey, u32>,
+    ports: &mut HashMap<NameKey, u32>,
     bridges: &[Node],
 ) -> Result<(), AllocError>
     requires few { length bridges.now ≤ node_limit }
@@ -50,7 +50,7 @@ fn add_bridge_nodes(
 /// Adds the nodes of the drafts, each under one of the nodes before it.
 fn add_drafts(
     nodes: &mut Vec<Node>,
-    ports: &mut BTreeMap<NameKey, u32>,
+    ports: &mut HashMap<NameKey, u32>,
     drafts: &[Draft],
 ) -> Result<(), AllocError>
     requires few { length nodes.old.items + length drafts.now ≤ node_limit }
@@ -67,7 +67,7 @@ fn add_drafts(
 /// Adds a node, and enters it among the bridges and switches by name where it is one.
 fn add_node(
     nodes: &mut Vec<Node>,
-    ports: &mut BTreeMap<NameKey, u32>,
+    ports: &mut HashMap<NameKey, u32>,
     node: Node,
 ) -> Result<(), AllocError>
     requires few { length nodes.old.items < node_limit }
@@ -80,7 +80,7 @@ fn add_node(
 }
 
 /// The node of a draft, under the first bridge or switch with its parent's name.
-fn node_under(ports: &BTreeMap<NameKey, u32>, draft: &Draft) -> Node
+fn node_under(ports: &HashMap<NameKey, u32>, draft: &Draft) -> Node
     ensures { (nodes : List Node) → ListsPorts nodes ports.now → result ≡ node_under nodes draft.now }
 {
     let parent = match ports.get(&NameKey::of(&draft.parent)).copied() {
@@ -108,7 +108,7 @@ fn may_be_parent(node: &Node) -> bool
 
 /// Enters a node behind the earlier ones, unless it is an endpoint or one of them has its name.
 fn enter_port(
-    ports: &mut BTreeMap<NameKey, u32>,
+    ports: &mut HashMap<NameKey, u32>,
     earlier: &[Node],
     node: &Node,
 ) -> Result<(), AllocError>
@@ -119,5 +119,7 @@ fn enter_port(
     if !may_be_parent(node) {
         return Ok(());
     }
-    enter_first(ports, NameKey::of(&node.name), earlier.len() as u32)
+    let entry = ports.entry(NameKey::of(&node.name))?;
+    entry.or_insert(earlier.len() as u32);
+    Ok(())
 }
