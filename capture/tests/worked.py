@@ -8,16 +8,16 @@ import machines
 
 ROWS = [os.path.join(machines.TOP, "crates", crate, "src") for crate in ("cxl_rows", "cxl_hosts")]
 
-# ---- What their rows write in threes: texts, or the names of texts.
+# ---- What their rows write in threes behind their own name: texts, or the names of texts.
 
 TEXT = r'"(?:[^"\\]|\\\n)*"|r#"[^#]*"#'
 PART = rf"({TEXT}|(?:[a-z_]+::)?[A-Z][A-Z0-9_]*)"
 FIELD = rf"(?:[a-z_]+:\s*)?{PART}"
-THREE = re.compile(rf"[({{]\s*{FIELD},\s*{FIELD},\s*{FIELD},")
+THREE = re.compile(rf"[({{]\s*(?:name:\s*)?(?:{TEXT}),\s*{FIELD},\s*{FIELD},\s*{FIELD},")
 
 
 def threes():
-    """Each three texts that begin a row."""
+    """Each three texts that begin a row, behind its name."""
     texts, found = {}, []
     for file in sorted(os.path.join(folder, file) for folder in ROWS for file in os.listdir(folder)):
         with open(file, encoding="utf-8") as opened:

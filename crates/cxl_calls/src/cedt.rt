@@ -28,18 +28,31 @@ const ONE_MAP: [u8; 16] = [
 /// A record of another type, whose reserved byte is kept.
 const OTHER: [u8; 8] = [0x04, 0x03, 0x08, 0, 0xaa, 0xbb, 0xcc, 0xdd];
 
+/// The byte that a table gets at a place.
+struct Change {
+    at: usize,
+    byte: u8,
+}
+
 /// The changes of the two bridges' table for a window under XOR, and for one record more of 16 bytes.
-const FOR_XOR: &[(usize, u8)] = &[(4, 0xa0), (9, 0x25), (125, 0x01)];
+const FOR_XOR: &[Change] = &[
+    Change { at: 4, byte: 0xa0 },
+    Change { at: 9, byte: 0x25 },
+    Change {
+        at: 125,
+        byte: 0x01,
+    },
+];
 
 /// The changes for one record more of the other type.
-const FOR_OTHER: &[(usize, u8)] = &[(4, 0x98), (9, 0xa5)];
+const FOR_OTHER: &[Change] = &[Change { at: 4, byte: 0x98 }, Change { at: 9, byte: 0xa5 }];
 
 /// The two bridges' table with some bytes changed, and with more behind it.
-fn changed(rt: &impl Abort, alloc: Global, changes: &[(usize, u8)], more: &[u8]) -> Vec<u8> {
+fn changed(rt: &impl Abort, alloc: Global, changes: &[Change], more: &[u8]) -> Vec<u8> {
     let mut bytes = TWO_BRIDGES.to_vec(alloc).expect(rt, "memory");
-    for (at, byte) in changes {
-        if *at < bytes.len() {
-            bytes[*at] = *byte;
+    for change in changes {
+        if change.at < bytes.len() {
+            bytes[change.at] = change.byte;
         }
     }
     bytes.extend_from_slice(more).expect(rt, "memory");
@@ -55,7 +68,7 @@ fn table(alloc: Global, bytes: &[u8]) -> Option<Cedt> {
 }
 
 /// The two bridges' table with some bytes changed, and with more behind it, as it is read.
-fn changed_table(rt: &impl Abort, alloc: Global, changes: &[(usize, u8)], more: &[u8]) -> Cedt {
+fn changed_table(rt: &impl Abort, alloc: Global, changes: &[Change], more: &[u8]) -> Cedt {
     let bytes = changed(rt, alloc, changes, more);
     table(alloc, &bytes).expect(rt, "a table")
 }
@@ -72,7 +85,7 @@ fn is_fault(alloc: Global, bytes: &[u8], want: CedtFault) -> bool {
 }
 
 /// Whether the two bridges' table with some bytes changed has this fault.
-fn is_refused(rt: &impl Abort, alloc: Global, changes: &[(usize, u8)], want: CedtFault) -> bool {
+fn is_refused(rt: &impl Abort, alloc: Global, changes: &[Change], want: CedtFault) -> bool {
     is_fault(alloc, &changed(rt, alloc, changes, &[]), want)
 }
 
@@ -89,7 +102,7 @@ fn is_written_changed(
     rt: &impl Abort,
     alloc: Global,
     cedt: &Cedt,
-    changes: &[(usize, u8)],
+    changes: &[Change],
     more: &[u8],
 ) -> bool {
     is_written(alloc, cedt, &changed(rt, alloc, changes, more))
@@ -163,28 +176,123 @@ fn two_bridges(rt: HostRuntime) {
     assert!(rt; *cedt.head() == HEAD && are_two_bridges(cedt.records()));
 }
 
-/// Changes of the two bridges' table, by places and bytes, each with its fault.
-const FAULTS: &[(&[(usize, u8)], CedtFault)] = &[
-    (&[(0, 0x44)], CedtFault::Signature),
-    (&[(4, 0x91)], CedtFault::Length),
-    (&[(9, 0xcb)], CedtFault::Checksum),
-    (&[(102, 0x2d), (9, 0xc9)], CedtFault::RecordCut(100)),
-    (&[(38, 0x21), (9, 0xc9)], CedtFault::RecordLength(36)),
-    (&[(102, 0x28), (9, 0xce)], CedtFault::RecordLength(100)),
-    (&[(124, 0x05), (9, 0xc6)], CedtFault::WaysCode(100)),
-    (&[(128, 0x07), (9, 0xc3)], CedtFault::GranCode(100)),
-    (&[(125, 0x02), (9, 0xc8)], CedtFault::Arithmetic(100)),
-    (
-        &[(128, 0x07), (125, 0x02), (124, 0x05), (9, 0xbd)],
-        CedtFault::WaysCode(100),
-    ),
+/// Changes of the two bridges' table, and the fault that it then has.
+struct FaultRow {
+    name: &'static str,
+    changes: &'static [Change],
+    fault: CedtFault,
+}
+
+const FAULTS: &[FaultRow] = &[
+    FaultRow {
+        name: "another signature",
+        changes: &[Change { at: 0, byte: 0x44 }],
+        fault: CedtFault::Signature,
+    },
+    FaultRow {
+        name: "another length",
+        changes: &[Change { at: 4, byte: 0x91 }],
+        fault: CedtFault::Length,
+    },
+    FaultRow {
+        name: "another checksum",
+        changes: &[Change { at: 9, byte: 0xcb }],
+        fault: CedtFault::Checksum,
+    },
+    FaultRow {
+        name: "a window that ends behind the table",
+        changes: &[
+            Change {
+                at: 102,
+                byte: 0x2d,
+            },
+            Change { at: 9, byte: 0xc9 },
+        ],
+        fault: CedtFault::RecordCut(100),
+    },
+    FaultRow {
+        name: "a bridge of 33 bytes",
+        changes: &[Change { at: 38, byte: 0x21 }, Change { at: 9, byte: 0xc9 }],
+        fault: CedtFault::RecordLength(36),
+    },
+    FaultRow {
+        name: "a window without its second target",
+        changes: &[
+            Change {
+                at: 102,
+                byte: 0x28,
+            },
+            Change { at: 9, byte: 0xce },
+        ],
+        fault: CedtFault::RecordLength(100),
+    },
+    FaultRow {
+        name: "a ways code that stands for nothing",
+        changes: &[
+            Change {
+                at: 124,
+                byte: 0x05,
+            },
+            Change { at: 9, byte: 0xc6 },
+        ],
+        fault: CedtFault::WaysCode(100),
+    },
+    FaultRow {
+        name: "a granularity code that stands for nothing",
+        changes: &[
+            Change {
+                at: 128,
+                byte: 0x07,
+            },
+            Change { at: 9, byte: 0xc3 },
+        ],
+        fault: CedtFault::GranCode(100),
+    },
+    FaultRow {
+        name: "an arithmetic code that stands for nothing",
+        changes: &[
+            Change {
+                at: 125,
+                byte: 0x02,
+            },
+            Change { at: 9, byte: 0xc8 },
+        ],
+        fault: CedtFault::Arithmetic(100),
+    },
+    FaultRow {
+        name: "a ways code before an arithmetic and a granularity code",
+        changes: &[
+            Change {
+                at: 128,
+                byte: 0x07,
+            },
+            Change {
+                at: 125,
+                byte: 0x02,
+            },
+            Change {
+                at: 124,
+                byte: 0x05,
+            },
+            Change { at: 9, byte: 0xbd },
+        ],
+        fault: CedtFault::WaysCode(100),
+    },
 ];
+
+fn are_refused(rt: &(impl Abort + AllocGlobal), rows: &[FaultRow]) {
+    for row in rows {
+        row_passes(
+            rt,
+            row.name,
+            is_refused(rt, rt.alloc(), row.changes, row.fault),
+        );
+    }
+}
 
 #[test]
 fn faults(rt: HostRuntime) {
-    for (i, (changes, fault)) in FAULTS.iter().enumerate() {
-        row_passes(&rt, i, is_refused(&rt, rt.alloc(), *changes, *fault));
-    }
+    are_refused(&rt, FAULTS);
 }
 
 /// Without its end the table is too short for a header, or its length is wrong.
@@ -258,10 +366,13 @@ fn many_bridges(rt: HostRuntime) {
     assert!(rt; is_fault(rt.alloc(), &more, CedtFault::TooMany(2_084)));
 }
 
+/// The changes for a reserved field of the first bridge.
+const RESERVED: &[Change] = &[Change { at: 37, byte: 0x05 }, Change { at: 9, byte: 0xc5 }];
+
 /// Reserved fields are written as zero, and the checksum anew.
 #[test]
 fn written_again(rt: HostRuntime) {
-    let cedt = changed_table(&rt, rt.alloc(), &[(37, 0x05), (9, 0xc5)], &[]);
+    let cedt = changed_table(&rt, rt.alloc(), RESERVED, &[]);
     assert!(rt; is_written(rt.alloc(), &cedt, &TWO_BRIDGES));
 }
 
@@ -314,14 +425,48 @@ fn windows_and_maps(rt: &impl Abort, alloc: Global, windows: u32, maps: u32) -> 
 }
 
 /// How many windows and tables of maps there are, and whether a table may hold them: at most 64 are of one type.
-const MANY: [(u32, u32, bool); 3] = [(64, 64, true), (65, 0, false), (0, 65, false)];
+struct CountRow {
+    name: &'static str,
+    windows: u32,
+    maps: u32,
+    held: bool,
+}
+
+const COUNTS: &[CountRow] = &[
+    CountRow {
+        name: "the most of both",
+        windows: 64,
+        maps: 64,
+        held: true,
+    },
+    CountRow {
+        name: "a window too many",
+        windows: 65,
+        maps: 0,
+        held: false,
+    },
+    CountRow {
+        name: "a table of maps too many",
+        windows: 0,
+        maps: 65,
+        held: false,
+    },
+];
+
+fn is_held(rt: &impl Abort, alloc: Global, row: &CountRow) -> bool {
+    let records = windows_and_maps(rt, alloc, row.windows, row.maps);
+    Cedt::can_hold(&records) == row.held
+}
+
+fn are_held(rt: &(impl Abort + AllocGlobal), rows: &[CountRow]) {
+    for row in rows {
+        row_passes(rt, row.name, is_held(rt, rt.alloc(), row));
+    }
+}
 
 #[test]
 fn many_windows_and_maps(rt: HostRuntime) {
-    for (i, (windows, maps, held)) in MANY.iter().enumerate() {
-        let records = windows_and_maps(&rt, rt.alloc(), *windows, *maps);
-        row_passes(&rt, i, Cedt::can_hold(&records) == *held);
-    }
+    are_held(&rt, COUNTS);
 }
 
 /// A record of another type with so many bytes behind its length.

@@ -44,7 +44,7 @@ pub fn prints<T: Display>(alloc: Global, value: &T, want: &str) -> bool {
     }
 }
 
-/// Checks that the row at this place is right.
-pub fn row_passes(rt: &impl Abort, place: usize, right: bool) {
-    assert!(rt; right, "row {place}");
+/// Checks that the row of this name is right.
+pub fn row_passes(rt: &impl Abort, name: &str, right: bool) {
+    assert!(rt; right, "row {name}");
 }

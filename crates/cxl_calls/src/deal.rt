@@ -7,10 +7,12 @@ use cxl_deal::{
 };
 use cxl_enc::{Factors, UNIT};
 use cxl_num::{are_usable_maps, ways_by};
+use std::process::Abort;
 
 /// A weave's base, root bits, factor three, low bits and first two maps, where the first is 0 under modulo arithmetic; then
 /// an address, and the slot and the offset to which it is dealt. The granularity is 256 bytes.
 struct Row {
+    name: &'static str,
     base: u64,
     root_bits: u8,
     third: bool,
@@ -22,9 +24,9 @@ struct Row {
     offset: u64,
 }
 
-const ROWS: [Row; 11] = [
-    // Modulo arithmetic, where the ways have the factor three.
+const ROWS: &[Row] = &[
     Row {
+        name: "three ways, a last byte",
         base: 0x1_0000_0000,
         root_bits: 0,
         third: true,
@@ -36,6 +38,7 @@ const ROWS: [Row; 11] = [
         offset: 0xfff_ffff,
     },
     Row {
+        name: "twelve ways, the twelfth chunk",
         base: 0x1_0000_0000,
         root_bits: 1,
         third: true,
@@ -47,6 +50,7 @@ const ROWS: [Row; 11] = [
         offset: 0,
     },
     Row {
+        name: "six ways, the fifth chunk",
         base: 0x1_0000_0000,
         root_bits: 0,
         third: true,
@@ -58,6 +62,7 @@ const ROWS: [Row; 11] = [
         offset: 0,
     },
     Row {
+        name: "six ways, the seventh chunk",
         base: 0x1_0000_0000,
         root_bits: 0,
         third: true,
@@ -69,6 +74,7 @@ const ROWS: [Row; 11] = [
         offset: 0x100,
     },
     Row {
+        name: "six ways, the eleventh chunk",
         base: 0x1_0000_0000,
         root_bits: 0,
         third: true,
@@ -79,8 +85,8 @@ const ROWS: [Row; 11] = [
         slot: 4,
         offset: 0x100,
     },
-    // The same where they are a power of two.
     Row {
+        name: "sixteen ways, the twelfth chunk",
         base: 0x1_0000_0000,
         root_bits: 0,
         third: false,
@@ -92,6 +98,7 @@ const ROWS: [Row; 11] = [
         offset: 0,
     },
     Row {
+        name: "four ways, the last byte of 1 TiB",
         base: 0x10_0000_0000,
         root_bits: 1,
         third: false,
@@ -102,8 +109,9 @@ const ROWS: [Row; 11] = [
         slot: 3,
         offset: 0x3f_ffff_ffff,
     },
-    // XOR arithmetic, whose map takes the bits 8, 14 and 22.
+    // The map takes the bits 8, 14 and 22.
     Row {
+        name: "two ways by XOR, bit 14",
         base: 0x1_0000_0000,
         root_bits: 1,
         third: false,
@@ -115,6 +123,7 @@ const ROWS: [Row; 11] = [
         offset: 0x2000,
     },
     Row {
+        name: "six ways by XOR, the bits 9 and 14",
         base: 0x1_0000_0000,
         root_bits: 1,
         third: true,
@@ -127,6 +136,7 @@ const ROWS: [Row; 11] = [
     },
     // By hand: map 0 takes the bits 8 and 13 and gives the slot's bit 0, map 1 the bits 9 and 12.
     Row {
+        name: "four ways by XOR, bit 13 of map 0",
         base: 0x1_0000_0000,
         root_bits: 2,
         third: false,
@@ -138,6 +148,7 @@ const ROWS: [Row; 11] = [
         offset: 0x800,
     },
     Row {
+        name: "four ways by XOR, bit 12 of map 1",
         base: 0x1_0000_0000,
         root_bits: 2,
         third: false,
@@ -190,11 +201,15 @@ fn is_dealt(row: &Row) -> bool {
     }
 }
 
+fn are_dealt(rt: &impl Abort, rows: &[Row]) {
+    for row in rows {
+        row_passes(rt, row.name, is_dealt(row));
+    }
+}
+
 #[test]
 fn deals_addresses(rt: HostRuntime) {
-    for (i, row) in ROWS.iter().enumerate() {
-        row_passes(&rt, i, is_dealt(row));
-    }
+    are_dealt(&rt, ROWS);
 }
 
 /// Whether a weave of six ways is told as it was made.

@@ -5,9 +5,11 @@ use cxl_enc::{
     Caps, Factors, FailingCalls, FixedList, Name, cap_word, code_of, gran_code, gran_of, legal_cap,
     split, ways_of,
 };
+use std::process::Abort;
 
 /// A code of the CXL HDM decoder control, with its number of ways and its granularity, where 0 is none.
 struct Code {
+    name: &'static str,
     code: u8,
     ways: u8,
     bytes: u32,
@@ -15,61 +17,73 @@ struct Code {
 
 const CODES: &[Code] = &[
     Code {
+        name: "one way, 256 bytes",
         code: 0,
         ways: 1,
         bytes: 256,
     },
     Code {
+        name: "two ways, 512 bytes",
         code: 1,
         ways: 2,
         bytes: 512,
     },
     Code {
+        name: "four ways, 1 KiB",
         code: 2,
         ways: 4,
         bytes: 1_024,
     },
     Code {
+        name: "eight ways, 2 KiB",
         code: 3,
         ways: 8,
         bytes: 2_048,
     },
     Code {
+        name: "sixteen ways, 4 KiB",
         code: 4,
         ways: 16,
         bytes: 4_096,
     },
     Code {
+        name: "no ways, 8 KiB",
         code: 5,
         ways: 0,
         bytes: 8_192,
     },
     Code {
+        name: "no ways, 16 KiB",
         code: 6,
         ways: 0,
         bytes: 16_384,
     },
     Code {
+        name: "code 7 of nothing",
         code: 7,
         ways: 0,
         bytes: 0,
     },
     Code {
+        name: "three ways",
         code: 8,
         ways: 3,
         bytes: 0,
     },
     Code {
+        name: "six ways",
         code: 9,
         ways: 6,
         bytes: 0,
     },
     Code {
+        name: "twelve ways",
         code: 10,
         ways: 12,
         bytes: 0,
     },
     Code {
+        name: "code 11 of nothing",
         code: 11,
         ways: 0,
         bytes: 0,
@@ -94,15 +108,19 @@ fn stands_for_bytes(code: u8, bytes: u32) -> bool {
     }
 }
 
-#[test]
-fn codes(rt: HostRuntime) {
-    for (i, row) in CODES.iter().enumerate() {
+fn stand_for(rt: &impl Abort, rows: &[Code]) {
+    for row in rows {
         row_passes(
-            &rt,
-            i,
+            rt,
+            row.name,
             stands_for(row.code, row.ways) && stands_for_bytes(row.code, row.bytes),
         );
     }
+}
+
+#[test]
+fn codes(rt: HostRuntime) {
+    stand_for(&rt, CODES);
 }
 
 #[test]
@@ -122,19 +140,50 @@ fn is_name(word: &str) -> bool {
     }
 }
 
-const WORDS: [(&str, bool); 5] = [
-    ("e_15", true),
-    ("abcdefghijklmno", true),
-    ("abcdefghijklmnop", false),
-    ("", false),
-    ("a-b", false),
+/// A word, and whether it is a name.
+struct Word {
+    name: &'static str,
+    word: &'static str,
+    named: bool,
+}
+
+const WORDS: &[Word] = &[
+    Word {
+        name: "an underscore and digits",
+        word: "e_15",
+        named: true,
+    },
+    Word {
+        name: "fifteen letters",
+        word: "abcdefghijklmno",
+        named: true,
+    },
+    Word {
+        name: "sixteen letters",
+        word: "abcdefghijklmnop",
+        named: false,
+    },
+    Word {
+        name: "an empty word",
+        word: "",
+        named: false,
+    },
+    Word {
+        name: "a hyphen",
+        word: "a-b",
+        named: false,
+    },
 ];
+
+fn are_names(rt: &impl Abort, rows: &[Word]) {
+    for row in rows {
+        row_passes(rt, row.name, is_name(row.word) == row.named);
+    }
+}
 
 #[test]
 fn names(rt: HostRuntime) {
-    for (i, (word, want)) in WORDS.iter().enumerate() {
-        row_passes(&rt, i, is_name(*word) == *want);
-    }
+    are_names(&rt, WORDS);
     assert!(rt; Name::read(b"e_15") == Name::read(b"e_15"));
 }
 
@@ -161,61 +210,72 @@ fn capability_words(rt: HostRuntime) {
 
 /// A capability word, whether it is an endpoint's, and whether it is legal.
 struct CapWord {
+    name: &'static str,
     word: u32,
     endpoint: bool,
     legal: bool,
 }
 
 const LEGAL: &[CapWord] = &[
-    // A port, an endpoint, and one decoder with one target.
     CapWord {
+        name: "a port",
         word: 0x382,
         endpoint: false,
         legal: true,
     },
     CapWord {
+        name: "an endpoint",
         word: 0x1b02,
         endpoint: true,
         legal: true,
     },
     CapWord {
+        name: "one decoder with one target",
         word: 0x10,
         endpoint: false,
         legal: true,
     },
-    // An endpoint with targets, a port with none, bit 10, a port of sixteen ways, and decoder count code 6.
     CapWord {
+        name: "an endpoint with targets",
         word: 0x382,
         endpoint: true,
         legal: false,
     },
     CapWord {
+        name: "a port without targets",
         word: 0x1b02,
         endpoint: false,
         legal: false,
     },
     CapWord {
+        name: "bit 10 that no capability has",
         word: 0x782,
         endpoint: false,
         legal: false,
     },
     CapWord {
+        name: "a port of sixteen ways",
         word: 0x1382,
         endpoint: false,
         legal: false,
     },
     CapWord {
+        name: "decoder count code 6",
         word: 0x386,
         endpoint: false,
         legal: false,
     },
 ];
 
+fn are_legal(rt: &impl Abort, rows: &[CapWord]) {
+    for row in rows {
+        row_passes(rt, row.name, legal_cap(row.word, row.endpoint) == row.legal);
+    }
+}
+
 #[test]
 fn legal_words(rt: HostRuntime) {
-    for (i, row) in LEGAL.iter().enumerate() {
-        row_passes(&rt, i, legal_cap(row.word, row.endpoint) == row.legal);
-    }
+    are_legal(&rt, LEGAL);
 }
 
 #[test]

@@ -1,5 +1,6 @@
-//! Numbers, sinks and messages of `cxl_io`; its files, its lines, and what is outside have modules of their own.
+//! Numbers, sinks and messages of `cxl_io`; its blocks, its files, its lines, and what is outside have modules of their own.
 
+mod blocks;
 mod files;
 mod lines;
 mod outside;
@@ -12,7 +13,7 @@ use std::io;
 use std::process::Abort;
 
 /// Words, and the numbers that they stand for, as debug text.
-const WORDS: [(&str, &str); 15] = [
+const WORDS: &[(&str, &str)] = &[
     ("", "Err(Empty)"),
     ("0x", "Err(Empty)"),
     ("0", "Ok(0)"),
@@ -30,15 +31,19 @@ const WORDS: [(&str, &str); 15] = [
     ("99999999999999999999 ", "Err(BadDigit(20))"),
 ];
 
-#[test]
-fn numbers_read(rt: HostRuntime) {
-    for (i, (word, want)) in WORDS.iter().enumerate() {
+fn are_read(rt: &(impl Abort + AllocGlobal), rows: &[(&str, &str)]) {
+    for (word, want) in rows {
         row_passes(
-            &rt,
-            i,
+            rt,
+            *word,
             shows(rt.alloc(), &read_number(word.as_bytes()), *want),
         );
     }
+}
+
+#[test]
+fn numbers_read(rt: HostRuntime) {
+    are_read(&rt, WORDS);
 }
 
 /// The number of a word of a million of one digit and then others.
@@ -138,11 +143,15 @@ fn are_put(rt: &(impl Abort + AllocGlobal), row: &Row) -> bool {
     puts(&mut text, row.number, row.width) && text.as_slice() == row.text.as_bytes()
 }
 
+fn are_printed(rt: &(impl Abort + AllocGlobal), rows: &[Row]) {
+    for row in rows {
+        row_passes(rt, row.text, are_put(rt, row));
+    }
+}
+
 #[test]
 fn numbers_printed(rt: HostRuntime) {
-    for (i, row) in PRINTED.iter().enumerate() {
-        row_passes(&rt, i, are_put(&rt, row));
-    }
+    are_printed(&rt, PRINTED);
 }
 
 /// Whether a text is written.

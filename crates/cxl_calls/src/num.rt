@@ -7,6 +7,7 @@ use cxl_num::{
     parities_tell_raw_bits, parity, raw_bits_are_replaced, remainders_keep_digits, ways_by,
     with_raw_bits,
 };
+use std::process::Abort;
 
 #[test]
 fn joins_thirds_and_keeps_low_bits(rt: HostRuntime) {
@@ -24,22 +25,56 @@ fn joins_thirds_and_keeps_low_bits(rt: HostRuntime) {
     assert!(rt; kept == [0x34, 0, 0x7fff_ffff_ffff_ffff]);
 }
 
-/// Words, and whether the number of their set bits is odd. The last is an address under an XOR map, by the worked example
-/// of XOR windows.
-const PARITIES: [(u64, bool); 6] = [
-    (0, false),
-    (1, true),
-    (3, false),
-    (1 << 63, true),
-    (u64::MAX, false),
-    (0x1_0000_4000 & 0x40_4100, true),
+/// A word, and whether the number of its set bits is odd.
+struct Parity {
+    name: &'static str,
+    word: u64,
+    odd: bool,
+}
+
+const PARITIES: &[Parity] = &[
+    Parity {
+        name: "no bit",
+        word: 0,
+        odd: false,
+    },
+    Parity {
+        name: "the lowest bit",
+        word: 1,
+        odd: true,
+    },
+    Parity {
+        name: "two bits",
+        word: 3,
+        odd: false,
+    },
+    Parity {
+        name: "the highest bit",
+        word: 1 << 63,
+        odd: true,
+    },
+    Parity {
+        name: "all bits",
+        word: u64::MAX,
+        odd: false,
+    },
+    // By the worked example of XOR windows.
+    Parity {
+        name: "an address under an XOR map",
+        word: 0x1_0000_4000 & 0x40_4100,
+        odd: true,
+    },
 ];
+
+fn have_parities(rt: &impl Abort, rows: &[Parity]) {
+    for row in rows {
+        row_passes(rt, row.name, parity(row.word) == row.odd);
+    }
+}
 
 #[test]
 fn counts_set_bits(rt: HostRuntime) {
-    for (i, (word, odd)) in PARITIES.iter().enumerate() {
-        row_passes(&rt, i, parity(*word) == *odd);
-    }
+    have_parities(&rt, PARITIES);
 }
 
 /// The map of the worked XOR window takes the bits 8, 14 and 22. No map takes bit 52, and the first map tells the lowest bit.
@@ -76,6 +111,7 @@ fn parities_and_factors(rt: HostRuntime) {
 
 /// A base, a size, and the end or 1 where it is not below 2^64.
 struct Row {
+    name: &'static str,
     base: u64,
     size: u64,
     end: u64,
@@ -83,26 +119,31 @@ struct Row {
 
 const ENDS: &[Row] = &[
     Row {
+        name: "512 MiB at 4 GiB",
         base: 0x1_0000_0000,
         size: 0x2000_0000,
         end: 0x1_2000_0000,
     },
     Row {
+        name: "nothing at 0",
         base: 0,
         size: 0,
         end: 0,
     },
     Row {
+        name: "nothing at the last address",
         base: u64::MAX,
         size: 0,
         end: u64::MAX,
     },
     Row {
+        name: "one byte at the last address",
         base: u64::MAX,
         size: 1,
         end: 1,
     },
     Row {
+        name: "the upper half",
         base: 1 << 63,
         size: 1 << 63,
         end: 1,
@@ -116,11 +157,15 @@ fn ends(base: u64, size: u64, want: u64) -> bool {
     }
 }
 
+fn have_ends(rt: &impl Abort, rows: &[Row]) {
+    for row in rows {
+        row_passes(rt, row.name, ends(row.base, row.size, row.end));
+    }
+}
+
 #[test]
 fn ends_below_2_64(rt: HostRuntime) {
-    for (i, row) in ENDS.iter().enumerate() {
-        row_passes(&rt, i, ends(row.base, row.size, row.end));
-    }
+    have_ends(&rt, ENDS);
 }
 
 #[test]

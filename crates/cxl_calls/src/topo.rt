@@ -174,7 +174,7 @@ fn passes_what_forwards(rt: HostRuntime) {
 
 /// What is changed of a node of the plain tree.
 #[derive(Clone, Copy)]
-enum Change {
+enum NodeChange {
     Name(&'static str),
     Parent(u32, u8),
     Uid(u32),
@@ -184,22 +184,25 @@ enum Change {
 }
 
 impl Row {
-    fn with(self, change: Change) -> Row {
+    fn with(self, change: NodeChange) -> Row {
         let mut row = self;
         match change {
-            Change::Name(name) => row.name = name,
-            Change::Parent(node, port) => row.parent = Some(Parent { node, port }),
-            Change::Uid(uid) => row.kind = NodeKind::Bridge(uid),
-            Change::Cap(cap) => row.cap = cap,
-            Change::Forwards => row.forwards = true,
-            Change::Capacity(ram, pmem) => row.kind = NodeKind::Endpoint(Capacity { ram, pmem }),
+            NodeChange::Name(name) => row.name = name,
+            NodeChange::Parent(node, port) => row.parent = Some(Parent { node, port }),
+            NodeChange::Uid(uid) => row.kind = NodeKind::Bridge(uid),
+            NodeChange::Cap(cap) => row.cap = cap,
+            NodeChange::Forwards => row.forwards = true,
+            NodeChange::Capacity(ram, pmem) => row.kind = NodeKind::Endpoint(Capacity {
+                ram,
+                pmem,
+            }),
         }
         row
     }
 }
 
 /// The plain tree with a node changed.
-fn changed(place: usize, change: Change) -> [Row; 4] {
+fn changed(place: usize, change: NodeChange) -> [Row; 4] {
     let mut rows = PLAIN;
     if place < 4 {
         rows[place] = rows[place].with(change);
@@ -209,74 +212,88 @@ fn changed(place: usize, change: Change) -> [Row; 4] {
 
 /// The place of a node that is changed, its change, and the first fault.
 struct FirstFault {
+    name: &'static str,
     place: usize,
-    change: Change,
+    change: NodeChange,
     fault: TreeFault,
 }
 
 const CHANGED: &[FirstFault] = &[
     FirstFault {
+        name: "a bridge under another node",
         place: 1,
-        change: Change::Parent(0, 1),
+        change: NodeChange::Parent(0, 1),
         fault: TreeFault::NoParent(1),
     },
     FirstFault {
+        name: "a switch under a later node",
         place: 2,
-        change: Change::Parent(3, 0),
+        change: NodeChange::Parent(3, 0),
         fault: TreeFault::NoParent(2),
     },
     FirstFault {
+        name: "a port that is taken",
         place: 3,
-        change: Change::Parent(0, 0),
+        change: NodeChange::Parent(0, 0),
         fault: TreeFault::PortTaken(3),
     },
     FirstFault {
+        name: "a name that is taken",
         place: 3,
-        change: Change::Name("hb1"),
+        change: NodeChange::Name("hb1"),
         fault: TreeFault::NameTaken(3),
     },
     FirstFault {
+        name: "a UID that is taken",
         place: 1,
-        change: Change::Uid(0),
+        change: NodeChange::Uid(0),
         fault: TreeFault::UidTaken(1),
     },
     FirstFault {
+        name: "a bridge with the capability word of an endpoint",
         place: 0,
-        change: Change::Cap(0x1b02),
+        change: NodeChange::Cap(0x1b02),
         fault: TreeFault::Caps(0),
     },
     FirstFault {
+        name: "an endpoint that forwards",
         place: 3,
-        change: Change::Forwards,
+        change: NodeChange::Forwards,
         fault: TreeFault::Caps(3),
     },
     FirstFault {
+        name: "a capacity of no multiple of 256 MiB",
         place: 3,
-        change: Change::Capacity(0x1800_0000, 0),
+        change: NodeChange::Capacity(0x1800_0000, 0),
         fault: TreeFault::Capacity(3),
     },
     FirstFault {
+        name: "a capacity above 2^52 bytes",
         place: 3,
-        change: Change::Capacity(1 << 52, 0x1000_0000),
+        change: NodeChange::Capacity(1 << 52, 0x1000_0000),
         fault: TreeFault::Capacity(3),
     },
 ];
 
-#[test]
-fn first_faults(rt: HostRuntime) {
-    for (i, row) in CHANGED.iter().enumerate() {
+fn have_first_faults(rt: &(impl Abort + AllocGlobal), rows: &[FirstFault]) {
+    for row in rows {
         row_passes(
-            &rt,
-            i,
-            is_fault(&rt, rt.alloc(), &changed(row.place, row.change), row.fault),
+            rt,
+            row.name,
+            is_fault(rt, rt.alloc(), &changed(row.place, row.change), row.fault),
         );
     }
+}
+
+#[test]
+fn first_faults(rt: HostRuntime) {
+    have_first_faults(&rt, CHANGED);
 }
 
 /// A name that is taken comes before a UID that is.
 #[test]
 fn name_before_uid(rt: HostRuntime) {
-    let mut rows = changed(1, Change::Uid(0));
+    let mut rows = changed(1, NodeChange::Uid(0));
     rows[1].name = "hb0";
     assert!(rt; is_fault(&rt, rt.alloc(), &rows, TreeFault::NameTaken(1)));
 }
@@ -284,7 +301,7 @@ fn name_before_uid(rt: HostRuntime) {
 /// An endpoint may have 2^52 bytes.
 #[test]
 fn full_endpoint(rt: HostRuntime) {
-    let rows = changed(3, Change::Capacity(1 << 51, 1 << 51));
+    let rows = changed(3, NodeChange::Capacity(1 << 51, 1 << 51));
     assert!(rt; is_tree(&rt, rt.alloc(), &rows, 4));
 }
 

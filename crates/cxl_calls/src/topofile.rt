@@ -4,6 +4,7 @@ use crate::common::{prints, row_passes};
 use cxl_topo::{Capacity, Name, NodeKind, Topo};
 use cxl_topofile::read_topo;
 use std::alloc::Global;
+use std::process::Abort;
 
 /// Two bridges with an endpoint each.
 const PLAIN: &str = "[[bridge]]
@@ -106,70 +107,99 @@ fn no_nodes(rt: HostRuntime) {
     assert!(rt; topo.count() == 0);
 }
 
-/// Texts and what is wrong with each.
-const FAULTS: [(&str, &str); 17] = [
-    ("frames = ", "no TOML document"),
-    ("frames = 0", "a value is out of range: top frames"),
-    (
-        "speed = 1\nframes = 0",
-        "a key is missing or unknown: top unknown",
-    ),
-    (
-        "endpoint = 1\nbridge = [{}]",
-        "a value is of the wrong kind: top endpoint",
-    ),
-    (
-        "bridge = [{ uid = 0 }]",
-        "a key is missing or unknown: bridge 0 name",
-    ),
-    (
-        "bridge = [{ name = \"a-b\", uid = 0 }]",
-        "a value is out of range: bridge 0 name",
-    ),
-    (
-        "bridge = [{ name = \"a\", uid = 4294967296 }]",
-        "a value is out of range: bridge 0 uid",
-    ),
-    (
-        "bridge = [{ name = \"a\", uid = 0, passthrough = true, decoders = 5 }]",
-        "a value is out of range: bridge 0 decoders",
-    ),
-    (
-        "bridge = [{ name = \"a\", uid = 0 }, { name = 1, speed = 1 }]",
-        "a key is missing or unknown: bridge 1 unknown",
-    ),
-    (
-        "switch = [{ name = \"s\", parent = 0, port = 0 }]",
-        "a value is of the wrong kind: switch 0 parent",
-    ),
-    (
-        "switch = [{ name = \"s\", parent = \"a\", port = 256 }]",
-        "a value is out of range: switch 0 port",
-    ),
-    (
-        "endpoint = [{ name = \"e\", parent = \"a\", port = 0, ways3 = 3 }]",
-        "a value is of the wrong kind: endpoint 0 ways3",
-    ),
-    (
-        "endpoint = [{ name = \"e\", parent = \"a\", port = 0, ram = -1, pmem = [] }]",
-        "a value is out of range: endpoint 0 ram",
-    ),
-    (
-        "endpoint = [{ name = \"e\", parent = \"a\", port = 0 }, { name = \"f\", parent = \"a\", port = 0, uid = 1 }]",
-        "a key is missing or unknown: endpoint 1 unknown",
-    ),
-    (
-        "endpoint = [{ name = \"e\", parent = \"a\", port = 0 }]",
-        "the nodes are no legal tree: node 0 does not stand under an earlier bridge or switch, or is a bridge under another node",
-    ),
-    (
-        "bridge = [{ name = \"a\", uid = 0 }]\nswitch = [{ name = \"s\", parent = \"t\", port = 0 }, { name = \"t\", parent = \"a\", port = 0 }]",
-        "the nodes are no legal tree: node 1 does not stand under an earlier bridge or switch, or is a bridge under another node",
-    ),
-    (
-        "bridge = [{ name = \"a\", uid = 0, passthrough = true }]\nendpoint = [{ name = \"e\", parent = \"a\", port = 0 }, { name = \"f\", parent = \"a\", port = 1 }]",
-        "the nodes are no legal tree: the parent of node 2 forwards, and has an earlier child",
-    ),
+/// A text, and what is wrong with it.
+struct FaultRow {
+    name: &'static str,
+    text: &'static str,
+    want: &'static str,
+}
+
+const FAULTS: &[FaultRow] = &[
+    FaultRow {
+        name: "no TOML",
+        text: "frames = ",
+        want: "no TOML document",
+    },
+    FaultRow {
+        name: "no frames",
+        text: "frames = 0",
+        want: "a value is out of range: top frames",
+    },
+    FaultRow {
+        name: "a key of no name before another fault",
+        text: "speed = 1\nframes = 0",
+        want: "a key is missing or unknown: top unknown",
+    },
+    FaultRow {
+        name: "the kind of a section before a key of another",
+        text: "endpoint = 1\nbridge = [{}]",
+        want: "a value is of the wrong kind: top endpoint",
+    },
+    FaultRow {
+        name: "a bridge without a name",
+        text: "bridge = [{ uid = 0 }]",
+        want: "a key is missing or unknown: bridge 0 name",
+    },
+    FaultRow {
+        name: "a name with a hyphen",
+        text: "bridge = [{ name = \"a-b\", uid = 0 }]",
+        want: "a value is out of range: bridge 0 name",
+    },
+    FaultRow {
+        name: "a UID above 32 bits",
+        text: "bridge = [{ name = \"a\", uid = 4294967296 }]",
+        want: "a value is out of range: bridge 0 uid",
+    },
+    FaultRow {
+        name: "five decoders of a bridge that forwards",
+        text: "bridge = [{ name = \"a\", uid = 0, passthrough = true, decoders = 5 }]",
+        want: "a value is out of range: bridge 0 decoders",
+    },
+    FaultRow {
+        name: "a key of no name in the second section",
+        text: "bridge = [{ name = \"a\", uid = 0 }, { name = 1, speed = 1 }]",
+        want: "a key is missing or unknown: bridge 1 unknown",
+    },
+    FaultRow {
+        name: "a parent that is no text",
+        text: "switch = [{ name = \"s\", parent = 0, port = 0 }]",
+        want: "a value is of the wrong kind: switch 0 parent",
+    },
+    FaultRow {
+        name: "a port above 255",
+        text: "switch = [{ name = \"s\", parent = \"a\", port = 256 }]",
+        want: "a value is out of range: switch 0 port",
+    },
+    FaultRow {
+        name: "ways that are no truth value",
+        text: "endpoint = [{ name = \"e\", parent = \"a\", port = 0, ways3 = 3 }]",
+        want: "a value is of the wrong kind: endpoint 0 ways3",
+    },
+    FaultRow {
+        name: "a negative capacity before one of another kind",
+        text: "endpoint = [{ name = \"e\", parent = \"a\", port = 0, ram = -1, pmem = [] }]",
+        want: "a value is out of range: endpoint 0 ram",
+    },
+    FaultRow {
+        name: "a UID of an endpoint",
+        text: "endpoint = [{ name = \"e\", parent = \"a\", port = 0 }, { name = \"f\", parent = \"a\", port = 0, uid = 1 }]",
+        want: "a key is missing or unknown: endpoint 1 unknown",
+    },
+    FaultRow {
+        name: "a parent that no node has",
+        text: "endpoint = [{ name = \"e\", parent = \"a\", port = 0 }]",
+        want: "the nodes are no legal tree: node 0 does not stand under an earlier bridge or switch, or is a bridge under another node",
+    },
+    FaultRow {
+        name: "a parent in a later section",
+        text: "bridge = [{ name = \"a\", uid = 0 }]\nswitch = [{ name = \"s\", parent = \"t\", port = 0 }, { name = \"t\", parent = \"a\", port = 0 }]",
+        want: "the nodes are no legal tree: node 1 does not stand under an earlier bridge or switch, or is a bridge under another node",
+    },
+    FaultRow {
+        name: "a second child of a bridge that forwards",
+        text: "bridge = [{ name = \"a\", uid = 0, passthrough = true }]\nendpoint = [{ name = \"e\", parent = \"a\", port = 0 }, { name = \"f\", parent = \"a\", port = 1 }]",
+        want: "the nodes are no legal tree: the parent of node 2 forwards, and has an earlier child",
+    },
 ];
 
 /// Whether this is said of a text's fault.
@@ -180,9 +210,13 @@ fn is_fault(alloc: Global, text: &str, want: &str) -> bool {
     }
 }
 
+fn have_first_faults(rt: &(impl Abort + AllocGlobal), rows: &[FaultRow]) {
+    for row in rows {
+        row_passes(rt, row.name, is_fault(rt.alloc(), row.text, row.want));
+    }
+}
+
 #[test]
 fn first_faults(rt: HostRuntime) {
-    for (i, (text, want)) in FAULTS.iter().enumerate() {
-        row_passes(&rt, i, is_fault(rt.alloc(), *text, *want));
-    }
+    have_first_faults(&rt, FAULTS);
 }

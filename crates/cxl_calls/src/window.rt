@@ -21,6 +21,7 @@ const BASE: u64 = 0x1_0000_0000;
 /// A window of a table, and its verdict.
 #[derive(Clone, Copy)]
 struct Row {
+    name: &'static str,
     base: u64,
     size: u64,
     gran: u8,
@@ -32,6 +33,7 @@ struct Row {
 
 /// Two ways over the bridges 0 and 1.
 const TWO: Row = Row {
+    name: "two ways",
     base: BASE,
     size: 0x1_0000_0000,
     gran: 0,
@@ -136,32 +138,38 @@ fn only(rt: &impl Abort, alloc: Global, row: Row, uids: Option<&[u32]>) -> Windo
     judged(rt, alloc, &[row], uids).pop().expect(rt, "a window")
 }
 
-/// Whether windows have the verdicts of their rows.
-fn are_verdicts(found: &[Window], rows: &[Row]) -> bool {
+/// Windows have the verdicts of their rows.
+fn have_verdicts(rt: &impl Abort, found: &[Window], rows: &[Row]) {
     for (window, row) in found.iter().zip(rows) {
-        if window.verdict() != row.verdict {
-            return false;
-        }
+        row_passes(rt, row.name, window.verdict() == row.verdict);
     }
-    found.len() == rows.len()
+    assert!(rt; found.len() == rows.len());
+}
+
+fn are_judged(rt: &(impl Abort + AllocGlobal), rows: &[Row]) {
+    let found = judged(rt, rt.alloc(), rows, None);
+    have_verdicts(rt, &found, rows);
 }
 
 /// Each verdict, in the order of the causes.
 const JUDGED: &[Row] = &[
     TWO,
     Row {
+        name: "a base between multiples of 256 MiB",
         base: 0x2_0800_0000,
         size: 0x2000_0000,
         verdict: Verdict::Align,
         ..TWO
     },
     Row {
+        name: "256 MiB for two ways",
         base: 0x2_0000_0000,
         size: 0x1000_0000,
         verdict: Verdict::Size,
         ..TWO
     },
     Row {
+        name: "a size of 0",
         base: 0x2_0000_0000,
         size: 0,
         targets: &[0],
@@ -169,6 +177,7 @@ const JUDGED: &[Row] = &[
         ..TWO
     },
     Row {
+        name: "an end above 2^52",
         base: 0xf_ffff_f000_0000,
         size: 0x2000_0000,
         targets: &[0],
@@ -176,14 +185,16 @@ const JUDGED: &[Row] = &[
         ..TWO
     },
     Row {
+        name: "a range in that of an earlier window",
         base: 0x1_f000_0000,
         size: 0x1000_0000,
         targets: &[0],
         verdict: Verdict::Overlap(0),
         ..TWO
     },
-    // The earlier window cannot be used, and this one ends at 2^52.
+    // It ends at 2^52.
     Row {
+        name: "a range in that of an earlier window that cannot be used",
         base: 0xf_ffff_f000_0000,
         size: 0x1000_0000,
         targets: &[0],
@@ -191,6 +202,7 @@ const JUDGED: &[Row] = &[
         ..TWO
     },
     Row {
+        name: "a target of no bridge",
         base: 0x3_0000_0000,
         size: 0x2000_0000,
         targets: &[0, 8],
@@ -198,6 +210,7 @@ const JUDGED: &[Row] = &[
         ..TWO
     },
     Row {
+        name: "a target of CXL 1.1",
         base: 0x4_0000_0000,
         size: 0x1000_0000,
         targets: &[9],
@@ -205,14 +218,15 @@ const JUDGED: &[Row] = &[
         ..TWO
     },
     Row {
+        name: "a target that repeats",
         base: 0x5_0000_0000,
         size: 0x4000_0000,
         targets: &[5, 7, 7, 5],
         verdict: Verdict::Repeat(7),
         ..TWO
     },
-    // No table of maps, too few maps, and a map with another lowest bit.
     Row {
+        name: "no table of maps",
         base: 0x6_0000_0000,
         size: 0x2000_0000,
         gran: 3,
@@ -220,6 +234,7 @@ const JUDGED: &[Row] = &[
         ..TWO_XOR
     },
     Row {
+        name: "too few maps",
         base: 0x7_0000_0000,
         size: 0x4000_0000,
         gran: 1,
@@ -228,14 +243,15 @@ const JUDGED: &[Row] = &[
         ..TWO_XOR
     },
     Row {
+        name: "a map with another lowest bit",
         base: 0x8_0000_0000,
         size: 0x2000_0000,
         gran: 2,
         verdict: Verdict::Maps,
         ..TWO_XOR
     },
-    // One way needs no map.
     Row {
+        name: "one way by XOR without a map",
         base: 0x9_0000_0000,
         size: 0x1000_0000,
         gran: 3,
@@ -246,8 +262,7 @@ const JUDGED: &[Row] = &[
 
 #[test]
 fn judges_windows(rt: HostRuntime) {
-    let found = judged(&rt, rt.alloc(), JUDGED, None);
-    assert!(rt; are_verdicts(&found, JUDGED));
+    are_judged(&rt, JUDGED);
 }
 
 /// The verdict of a table's only window where the topology has these bridges.
@@ -280,6 +295,7 @@ fn is_two_by_xor(window: &Window) -> bool {
 
 /// A window, an address, and its position there.
 struct Position {
+    name: &'static str,
     row: Row,
     h: u64,
     position: Option<u32>,
@@ -294,57 +310,70 @@ fn is_position(rt: &impl Abort, alloc: Global, at: &Position) -> bool {
 /// Positions of two, three and six ways, without XOR and with it.
 const POSITIONS: &[Position] = &[
     Position {
+        name: "two ways, the first byte",
         row: TWO,
         h: 0x1_0000_0000,
         position: Some(0),
     },
     Position {
+        name: "two ways, the last byte",
         row: TWO,
         h: 0x1_ffff_ffff,
         position: Some(1),
     },
     Position {
+        name: "two ways, behind the last byte",
         row: TWO,
         h: 0x2_0000_0000,
         position: None,
     },
     Position {
+        name: "two ways by XOR, bit 14",
         row: TWO_XOR,
         h: 0x1_0000_4000,
         position: Some(1),
     },
     Position {
+        name: "three ways, the last byte of the first half",
         row: THREE,
         h: 0x1_2fff_ffff,
         position: Some(2),
     },
     Position {
+        name: "three ways, the fifth chunk",
         row: THREE,
         h: 0x1_0000_0400,
         position: Some(1),
     },
     Position {
+        name: "three ways, the seventh chunk",
         row: THREE,
         h: 0x1_0000_0600,
         position: Some(0),
     },
     Position {
+        name: "six ways, the twelfth chunk",
         row: SIX,
         h: 0x1_0000_0b00,
         position: Some(5),
     },
     Position {
+        name: "six ways by XOR, the bits 9 and 14",
         row: SIX_XOR,
         h: 0x1_0000_4200,
         position: Some(1),
     },
 ];
 
+fn are_positions(rt: &(impl Abort + AllocGlobal), rows: &[Position]) {
+    for row in rows {
+        row_passes(rt, row.name, is_position(rt, rt.alloc(), row));
+    }
+}
+
 #[test]
 fn gives_positions(rt: HostRuntime) {
-    for (i, at) in POSITIONS.iter().enumerate() {
-        row_passes(&rt, i, is_position(&rt, rt.alloc(), at));
-    }
+    are_positions(&rt, POSITIONS);
 }
 
 /// Whether these are the raw bits with which an address has its parities.
@@ -364,6 +393,7 @@ fn keeps_fields_and_undoes_parities(rt: HostRuntime) {
 
 /// Restrictions of a window, which kinds of memory they permit, and whether it is fixed.
 struct Restricted {
+    name: &'static str,
     restrict: u16,
     ram: bool,
     pmem: bool,
@@ -374,36 +404,42 @@ struct Restricted {
 /// bit 4 fixes a window, and bit 5 is of back invalidation.
 const RESTRICTED: &[Restricted] = &[
     Restricted {
+        name: "both kinds of memory",
         restrict: 0x000e,
         ram: true,
         pmem: true,
         fixed: false,
     },
     Restricted {
+        name: "volatile memory alone",
         restrict: 0x0006,
         ram: true,
         pmem: false,
         fixed: false,
     },
     Restricted {
+        name: "persistent memory alone",
         restrict: 0x000a,
         ram: false,
         pmem: true,
         fixed: false,
     },
     Restricted {
+        name: "device coherent memory",
         restrict: 0x000d,
         ram: false,
         pmem: false,
         fixed: false,
     },
     Restricted {
+        name: "a fixed window",
         restrict: 0x001e,
         ram: true,
         pmem: true,
         fixed: true,
     },
     Restricted {
+        name: "back invalidation",
         restrict: 0x002e,
         ram: true,
         pmem: true,
@@ -423,11 +459,15 @@ fn is_restricted(rt: &impl Abort, alloc: Global, row: &Restricted) -> bool {
         && is_fixed(&window) == row.fixed
 }
 
+fn are_restricted(rt: &(impl Abort + AllocGlobal), rows: &[Restricted]) {
+    for row in rows {
+        row_passes(rt, row.name, is_restricted(rt, rt.alloc(), row));
+    }
+}
+
 #[test]
 fn permits_by_restrictions(rt: HostRuntime) {
-    for (i, row) in RESTRICTED.iter().enumerate() {
-        row_passes(&rt, i, is_restricted(&rt, rt.alloc(), row));
-    }
+    are_restricted(&rt, RESTRICTED);
 }
 
 #[test]

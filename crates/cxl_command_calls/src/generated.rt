@@ -1,7 +1,8 @@
 //! Generated systems: the bytes of a table, how many commands there are, and the first and last of each part.
 
+use crate::common::row_passes;
 use cxl_cedt::{Cedt, write};
-use cxl_gen::{Made, command_count, make, make_command};
+use cxl_gen::{command_count, make, make_command};
 use cxl_script::Command;
 use std::alloc::Global;
 use std::process::Abort;
@@ -41,6 +42,7 @@ fn is_region(command: Option<&Command>, name: &str, last: &str) -> bool {
 
 /// A place among the commands, and what the command there asks for, as `numbers` tells it.
 struct Row {
+    name: &'static str,
     place: usize,
     verb: &'static str,
     first: u64,
@@ -53,7 +55,7 @@ fn stands_there(commands: &[Command], row: &Row) -> bool {
 
 fn stand_there(rt: &impl Abort, commands: &[Command], rows: &[Row]) {
     for row in rows {
-        assert!(rt; stands_there(commands, row), "at {}", row.place);
+        row_passes(rt, row.name, stands_there(commands, row));
     }
 }
 
@@ -68,13 +70,13 @@ fn is_table(alloc: Global, cedt: &Cedt, want: Option<&[u8]>) -> bool {
     }
 }
 
-/// A generated system: its number, its table where it is told, the place of a region's command, with the region's name and
+/// A generated system: its number, its table where it is told, the place of a region's command, with that region and its
 /// last endpoint, and what other commands ask for.
 struct System {
     number: u32,
     table: Option<&'static [u8]>,
     place: usize,
-    name: &'static str,
+    region: &'static str,
     last: &'static str,
     rows: &'static [Row],
 }
@@ -84,7 +86,7 @@ fn is_made(rt: &(impl Abort + AllocGlobal), system: &System) -> bool {
     let made = make(rt.alloc(), system.number).expect(rt, "memory");
     let commands = made.commands.items();
     stand_there(rt, commands, system.rows);
-    is_region(commands.get(system.place), system.name, system.last)
+    is_region(commands.get(system.place), system.region, system.last)
         && is_table(rt.alloc(), &made.cedt, system.table)
 }
 
@@ -125,7 +127,7 @@ const FEWEST_WINDOWS: System = System {
     number: 1,
     table: Some(&TABLE),
     place: 0,
-    name: "r0",
+    region: "r0",
     last: "e3",
     rows: FEWEST,
 };
@@ -134,43 +136,49 @@ const MOST_WINDOWS: System = System {
     number: 32,
     table: None,
     place: 31_031,
-    name: "r31",
+    region: "r31",
     last: "e127",
     rows: MOST,
 };
 
 const FEWEST: &[Row] = &[
     Row {
+        name: "the region",
         place: 0,
         verb: "create",
         first: 0x1_0000_0000,
         second: 4,
     },
     Row {
+        name: "the first store",
         place: 1,
         verb: "store",
         first: 0x10_0000_0000,
         second: 0,
     },
     Row {
+        name: "the last store",
         place: 1_000,
         verb: "store",
         first: 0x10_003e_ae70,
         second: 999,
     },
     Row {
+        name: "the first load",
         place: 1_001,
         verb: "load",
         first: 0x10_0000_0000,
         second: 8,
     },
     Row {
+        name: "the last load",
         place: 2_000,
         verb: "load",
         first: 0x10_003e_ae70,
         second: 8,
     },
     Row {
+        name: "behind the last command",
         place: 2_001,
         verb: "",
         first: 0,
@@ -180,36 +188,42 @@ const FEWEST: &[Row] = &[
 
 const MOST: &[Row] = &[
     Row {
+        name: "the second region",
         place: 1_001,
         verb: "create",
         first: 0x1_0000_0000,
         second: 4,
     },
     Row {
+        name: "the first store to it",
         place: 1_002,
         verb: "store",
         first: 0x20_0000_0000,
         second: 0,
     },
     Row {
+        name: "the last store",
         place: 32_031,
         verb: "store",
         first: 0x200_003e_ae70,
         second: 999,
     },
     Row {
+        name: "the first load",
         place: 32_032,
         verb: "load",
         first: 0x10_0000_0000,
         second: 8,
     },
     Row {
+        name: "the last load",
         place: 64_031,
         verb: "load",
         first: 0x200_003e_ae70,
         second: 8,
     },
     Row {
+        name: "behind the last command",
         place: 64_032,
         verb: "",
         first: 0,

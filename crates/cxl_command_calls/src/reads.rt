@@ -1,6 +1,6 @@
 //! What a host's files hold, as lines.
 
-use crate::common::passes;
+use crate::common::row_passes;
 use cxl_io::MemSink;
 use cxl_reads::{Status, breaches, decoders, tree};
 use std::alloc::Global;
@@ -119,26 +119,27 @@ fn tells(rt: &impl Abort, alloc: Global, topo: &[u8], image: &[u8], code: u8, li
 #[test]
 fn decoders_of_any_image(rt: HostRuntime) {
     let image = image_of(&rt, rt.alloc(), &WORDS);
-    passes(
+    row_passes(
         &rt,
-        tells(&rt, rt.alloc(), TOPOLOGY, &image, 0, BLOCKS),
         "an image",
+        tells(&rt, rt.alloc(), TOPOLOGY, &image, 0, BLOCKS),
     );
     assert!(&rt; image.len() >= 11);
     let cut = &image[..11];
-    passes(
+    row_passes(
         &rt,
-        tells(&rt, rt.alloc(), TOPOLOGY, cut, 10, "error: image cut 11\n"),
         "a cut image",
+        tells(&rt, rt.alloc(), TOPOLOGY, cut, 10, "error: image cut 11\n"),
     );
-    passes(
+    row_passes(
         &rt,
-        tells(&rt, rt.alloc(), b"[", &image, 4, "error: topology toml\n"),
         "no topology",
+        tells(&rt, rt.alloc(), b"[", &image, 4, "error: topology toml\n"),
     );
     let long = image_of(&rt, rt.alloc(), &[0; 262_143]);
-    passes(
+    row_passes(
         &rt,
+        "a long image",
         tells(
             &rt,
             rt.alloc(),
@@ -147,7 +148,6 @@ fn decoders_of_any_image(rt: HostRuntime) {
             12,
             "error: image too large\n",
         ),
-        "a long image",
     );
 }
 
@@ -165,12 +165,24 @@ decoder ep0 0 base 0x0 size 0xf0000000 ways 1 gran 8388608 codes 7 15 lock 1 com
 fn a_topology(rt: HostRuntime) {
     let mut out = sink(&rt, rt.alloc(), 4096);
     let status = tree(rt.alloc(), TOPOLOGY, &mut out);
-    passes(&rt, status.code() == 0, "status");
-    passes(&rt, out.bytes() == NODES.as_bytes(), "lines");
+    row_passes(&rt, "the status of a topology", status.code() == 0);
+    row_passes(
+        &rt,
+        "the lines of a topology",
+        out.bytes() == NODES.as_bytes(),
+    );
     let mut short = sink(&rt, rt.alloc(), 4);
     let status = tree(rt.alloc(), TOPOLOGY, &mut short);
-    passes(&rt, matches!(status, Status::WriteFault), "a short room");
-    passes(&rt, short.bytes() == b"fram".as_slice(), "what is taken");
+    row_passes(
+        &rt,
+        "the status in a short room",
+        matches!(status, Status::WriteFault),
+    );
+    row_passes(
+        &rt,
+        "what a short room takes",
+        short.bytes() == b"fram".as_slice(),
+    );
 }
 
 const NODES: &str = "\
@@ -200,30 +212,30 @@ fn places_of_an_image(rt: HostRuntime) {
     words[17] = 0x0800; // the bridge's second decoder has an error
     words[29] = 0x0203; // the switch's is asked to commit
     let broken = image_of(&rt, rt.alloc(), &words);
-    passes(
+    row_passes(
         &rt,
-        tells_places(&rt, rt.alloc(), &TABLE, &broken, 8, PLACES),
         "a broken image",
+        tells_places(&rt, rt.alloc(), &TABLE, &broken, 8, PLACES),
     );
     words[9] = 0;
     words[17] = 0;
     words[29] = 0;
     words[41] = 0;
     let idle = image_of(&rt, rt.alloc(), &words);
-    passes(
+    row_passes(
         &rt,
-        tells_places(&rt, rt.alloc(), &TABLE, &idle, 0, ""),
         "an accepted image",
+        tells_places(&rt, rt.alloc(), &TABLE, &idle, 0, ""),
     );
-    passes(
+    row_passes(
         &rt,
-        tells_places(&rt, rt.alloc(), b"CEDT", b"", 3, "error: table short\n"),
         "no table",
+        tells_places(&rt, rt.alloc(), b"CEDT", b"", 3, "error: table short\n"),
     );
-    passes(
+    row_passes(
         &rt,
-        tells_places(&rt, rt.alloc(), &TABLE, b"", 10, "error: image cut 0\n"),
         "no image",
+        tells_places(&rt, rt.alloc(), &TABLE, b"", 10, "error: image cut 0\n"),
     );
 }
 

@@ -3,7 +3,7 @@
 ghost use Rattle.std.specs.Prelude.{◌≡◌, length};
 ghost use Rattle.cxl_reply.specs.Conditions.{IsTold, HasKnownCode};
 
-use crate::common::passes;
+use crate::common::row_passes;
 use cxl_enc::Name;
 use cxl_reply::{
     BadLine, Begun, Carried, Counted, Lack, Named, Pending, Progress, Reply, Sizes, Spot, Why,
@@ -94,12 +94,12 @@ fn is_printed(
 
 /// The reply has this text, and no short one.
 fn prints(rt: &(impl Abort + AllocGlobal), reply: Reply, want: &str) {
-    passes(rt, is_printed(rt, reply, want, None), want);
+    row_passes(rt, want, is_printed(rt, reply, want, None));
 }
 
 /// The reply has this text, which is its short one, too.
 fn tells(rt: &(impl Abort + AllocGlobal), reply: Reply, want: &str) {
-    passes(rt, is_printed(rt, reply, want, Some(true)), want);
+    row_passes(rt, want, is_printed(rt, reply, want, Some(true)));
 }
 
 #[test]

@@ -1,8 +1,8 @@
 //! What the lines of a script ask for, and their faults.
 
-use crate::common::passes;
+use crate::common::row_passes;
 use cxl_enc::{MemKind, Name};
-use cxl_script::{BadLine, Command, Create, LINE_LIMIT, LineFault, Why, read_command};
+use cxl_script::{Command, Create, LineFault, read_command};
 use std::process::Abort;
 
 mod faults;
@@ -65,10 +65,10 @@ struct NumbersRow {
 #[test]
 fn numbers_of_commands(rt: HostRuntime) {
     for row in NUMBERS {
-        passes(
+        row_passes(
             &rt,
-            asks_for(&rt, row.line.as_bytes(), Wanted::Numbers(row)),
             row.line,
+            asks_for(&rt, row.line.as_bytes(), Wanted::Numbers(row)),
         );
     }
 }
@@ -183,10 +183,10 @@ fn has_names(read: &Read, row: &NamesRow) -> bool {
 #[test]
 fn names_of_commands(rt: HostRuntime) {
     for row in NAMES {
-        passes(
+        row_passes(
             &rt,
-            asks_for(&rt, row.line.as_bytes(), Wanted::Names(row)),
             row.line,
+            asks_for(&rt, row.line.as_bytes(), Wanted::Names(row)),
         );
     }
 }
@@ -282,10 +282,10 @@ fn creates(rt: &(impl Abort + AllocGlobal), read: &Read, row: &RegionRow) -> boo
 #[test]
 fn created_regions(rt: HostRuntime) {
     for row in CREATED {
-        passes(
+        row_passes(
             &rt,
-            asks_for(&rt, row.line.as_bytes(), Wanted::Region(row)),
             row.line,
+            asks_for(&rt, row.line.as_bytes(), Wanted::Region(row)),
         );
     }
 }
@@ -347,10 +347,10 @@ fn granularity(read: &Read) -> Option<u8> {
 #[test]
 fn granularities(rt: HostRuntime) {
     for (line, code) in &GRANULARITIES {
-        passes(
+        row_passes(
             &rt,
-            asks_for(&rt, line.as_bytes(), Wanted::Granularity(*code)),
             *line,
+            asks_for(&rt, line.as_bytes(), Wanted::Granularity(*code)),
         );
     }
 }

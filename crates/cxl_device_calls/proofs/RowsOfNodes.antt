@@ -1,6 +1,6 @@
 -- Rows that are made one after the other, of rising nodes.
-use Rattle.std.proofs.Common.{◌≡◌, ◌≢◌, ℕ, ◌+◌, ◌<◌, List, [], ◌∷◌, ◌++◌, sym, subst, arith}
-use Rattle.std.specs.Prelude.{All, Option, Some, IsSomeAnd}
+use Rattle.std.proofs.Common.{◌≡◌, ◌≢◌, ℕ, ◌+◌, ◌<◌, List, [], ◌∷◌, ◌++◌, arith}
+use Rattle.std.specs.Prelude.{All}
 use Rattle.std.proofs.lemmas.List.Elements.{All-push, All-weaker}
 use Rattle.std.proofs.lemmas.List.Quantifiers.{all_pairs_push}
 use Rattle.cxl_model.specs.declared.plan.Row.{Row}
@@ -20,6 +20,3 @@ one_more P rows next row so_far here is = record {
   below = All-push (λ (row : Row). row.node < next + 1) rows row
       (All-weaker (λ (row : Row). row.node < next) (λ (row : Row). row.node < next + 1) (λ x h. omega arith) rows so_far.below) (omega arith);
 }
-
-pub there_is : {X : Type 0} (o : Option X) (P : X → Type 0) (x : X) → o ≡ Some x → P x → IsSomeAnd o P
-there_is o P x is holds = subst (λ p. IsSomeAnd p P) (sym is) holds

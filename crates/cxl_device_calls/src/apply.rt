@@ -3,7 +3,6 @@
 ghost use Rattle.std.specs.Prelude.{◌≡◌, ℕ, ◌<◌, true, false, None, Some, All, slice_get, IfSome, IfOk};
 ghost use Rattle.cxl_regs.specs.Rules.{first_broken_rule};
 ghost use Rattle.cxl_regs.specs.declared.decoder.Decoder.{Decoder};
-ghost use Rattle.cxl_model.specs.declared.plan.Row.{Row};
 ghost use Rattle.cxl_apply.specs.Jobs.{CanCreate, CanRelease, AreOfDifferentNodes};
 ghost use Rattle.cxl_apply.specs.Steps.{HasWordsOf};
 

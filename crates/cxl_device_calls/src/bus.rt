@@ -80,6 +80,7 @@ fn the_simulators_bus(rt: HostRuntime) {
 
 /// Whether a call writes or reads, the node and the offset, the value that is written or read, and whether the call fails.
 struct Call {
+    name: &'static str,
     writes: bool,
     node: u32,
     off: u32,
@@ -108,8 +109,8 @@ fn is_answered(bus: &mut FailingBus, blocks: &[Block], call: &Call) -> bool
 fn are_answered(rt: &impl Abort, bus: &mut FailingBus, blocks: &[Block], calls: &[Call])
     requires { HasPlacesOf blocks.now bus.old.blocks }
 {
-    for (i, call) in calls.iter().enumerate() {
-        row_passes(rt, i, is_answered(bus, blocks, call));
+    for call in calls {
+        row_passes(rt, call.name, is_answered(bus, blocks, call));
     }
 }
 
@@ -143,6 +144,7 @@ fn is_sent(rt: &impl Abort, alloc: Global, run: &Run) -> bool {
 /// A port's global control drops the value, and the trail tells the write all the same.
 const FAILING: &[Call] = &[
     Call {
+        name: "the global control is written",
         writes: true,
         node: 0,
         off: 0x04,
@@ -150,6 +152,7 @@ const FAILING: &[Call] = &[
         fails: false,
     },
     Call {
+        name: "a read that fails",
         writes: false,
         node: 0,
         off: 0x00,
@@ -157,6 +160,7 @@ const FAILING: &[Call] = &[
         fails: true,
     },
     Call {
+        name: "the same read anew",
         writes: false,
         node: 0,
         off: 0x00,
@@ -164,6 +168,7 @@ const FAILING: &[Call] = &[
         fails: false,
     },
     Call {
+        name: "a write that fails",
         writes: true,
         node: 0,
         off: 0x18,
@@ -171,6 +176,7 @@ const FAILING: &[Call] = &[
         fails: true,
     },
     Call {
+        name: "a read of what was not written",
         writes: false,
         node: 0,
         off: 0x18,
@@ -178,6 +184,7 @@ const FAILING: &[Call] = &[
         fails: false,
     },
     Call {
+        name: "a size is written",
         writes: true,
         node: 0,
         off: 0x18,
@@ -185,6 +192,7 @@ const FAILING: &[Call] = &[
         fails: false,
     },
     Call {
+        name: "the size is read",
         writes: false,
         node: 0,
         off: 0x18,
@@ -222,6 +230,7 @@ fn calls_that_fail(rt: HostRuntime) {
 /// The writes of a create of which the fifth fails, and those that take it back.
 const CREATE: &[Call] = &[
     Call {
+        name: "the first endpoint is enabled",
         writes: true,
         node: 2,
         off: 0x04,
@@ -229,6 +238,7 @@ const CREATE: &[Call] = &[
         fails: false,
     },
     Call {
+        name: "the second endpoint is enabled",
         writes: true,
         node: 3,
         off: 0x04,
@@ -236,6 +246,7 @@ const CREATE: &[Call] = &[
         fails: false,
     },
     Call {
+        name: "the base's low half",
         writes: true,
         node: 3,
         off: 0x10,
@@ -243,6 +254,7 @@ const CREATE: &[Call] = &[
         fails: false,
     },
     Call {
+        name: "the base's high half",
         writes: true,
         node: 3,
         off: 0x14,
@@ -250,6 +262,7 @@ const CREATE: &[Call] = &[
         fails: false,
     },
     Call {
+        name: "the size, which fails",
         writes: true,
         node: 3,
         off: 0x18,
@@ -257,6 +270,7 @@ const CREATE: &[Call] = &[
         fails: true,
     },
     Call {
+        name: "the base's high half is taken back",
         writes: true,
         node: 3,
         off: 0x14,
@@ -264,6 +278,7 @@ const CREATE: &[Call] = &[
         fails: false,
     },
     Call {
+        name: "the base's low half is taken back",
         writes: true,
         node: 3,
         off: 0x10,

@@ -3,7 +3,7 @@
 
 use std::process::Abort;
 
-/// Checks that the row at this place is right.
-pub fn row_passes(rt: &impl Abort, place: usize, right: bool) {
-    assert!(rt; right, "row {place}");
+/// Checks that the row of this name is right.
+pub fn row_passes(rt: &impl Abort, name: &str, right: bool) {
+    assert!(rt; right, "row {name}");
 }

@@ -121,7 +121,7 @@ fn the_reset_file(rt: HostRuntime) {
     let whole = reset_file(&rt, rt.alloc(), &topo);
     assert!(rt; is_reset_file(&whole));
     assert!(rt; is_written(&rt, rt.alloc(), &topo, &whole, &whole));
-    drops_what_does_not_count(&rt, rt.alloc(), &topo, &whole);
+    drops_what_does_not_count(&rt, rt.alloc(), &topo, &whole, DROPPED);
 }
 
 #[test]
@@ -139,6 +139,7 @@ fn laws() {
 
 /// The place of a byte that is changed, the byte, and the first fault.
 struct FirstFault {
+    name: &'static str,
     at: usize,
     byte: u8,
     fault: ImageFault,
@@ -156,49 +157,63 @@ fn is_refused_with(
     is_refused(alloc, topo, &bytes, row.fault)
 }
 
-fn have_first_faults(rt: &impl Abort, alloc: Global, topo: &Topo, whole: &[u8]) {
-    for (i, row) in FIRST_FAULTS.iter().enumerate() {
-        row_passes(rt, i, is_refused_with(rt, alloc, topo, whole, row));
+fn have_first_faults(
+    rt: &impl Abort,
+    alloc: Global,
+    topo: &Topo,
+    whole: &[u8],
+    rows: &[FirstFault],
+) {
+    for row in rows {
+        row_passes(rt, row.name, is_refused_with(rt, alloc, topo, whole, row));
     }
 }
 
 const FIRST_FAULTS: &[FirstFault] = &[
     FirstFault {
+        name: "the magic's first letter",
         at: 0,
         byte: 0x63,
         fault: ImageFault::Magic,
     },
     FirstFault {
+        name: "the magic's last digit",
         at: 7,
         byte: 0x32,
         fault: ImageFault::Magic,
     },
     FirstFault {
+        name: "five nodes",
         at: 8,
         byte: 0x05,
         fault: ImageFault::Nodes(5),
     },
     FirstFault {
+        name: "more than 2^24 nodes",
         at: 11,
         byte: 0x01,
         fault: ImageFault::Nodes(0x0100_0004),
     },
     FirstFault {
+        name: "a bridge's decoder count",
         at: 12,
         byte: 0x83,
         fault: ImageFault::Caps(0),
     },
     FirstFault {
+        name: "a bridge of three ways",
         at: 13,
         byte: 0x0b,
         fault: ImageFault::Caps(0),
     },
     FirstFault {
+        name: "the other bridge of sixteen ways",
         at: 157,
         byte: 0x13,
         fault: ImageFault::Caps(1),
     },
     FirstFault {
+        name: "an endpoint with a target",
         at: 444,
         byte: 0x12,
         fault: ImageFault::Caps(3),
@@ -207,6 +222,7 @@ const FIRST_FAULTS: &[FirstFault] = &[
 
 /// Another number of nodes.
 const OTHER_NODES: FirstFault = FirstFault {
+    name: "another number of nodes",
     at: 8,
     byte: 5,
     fault: ImageFault::Nodes(5),
@@ -244,41 +260,76 @@ fn each_prefix_is_cut(rt: &impl Abort, alloc: Global, topo: &Topo, whole: &[u8])
 fn faults(rt: HostRuntime) {
     let topo = topology(&rt, rt.alloc(), false);
     let whole = reset_file(&rt, rt.alloc(), &topo);
-    have_first_faults(&rt, rt.alloc(), &topo, &whole);
+    have_first_faults(&rt, rt.alloc(), &topo, &whole, FIRST_FAULTS);
     assert!(rt; earlier_field_comes_first(&rt, rt.alloc(), &topo, &whole));
     assert!(rt; byte_too_many_comes_last(&rt, rt.alloc(), &topo, &whole));
     each_prefix_is_cut(&rt, rt.alloc(), &topo, &whole);
 }
 
-/// Bytes of the reset file that are read as the reset image: an unnamed bit of a capability word, a port's word 0x4, a
-/// word that is reserved, the low bits of a base, a bit of a control that is reserved, a decoder's last word, and the low
-/// bits of an endpoint's skip.
-const DROPPED: [(usize, u8); 8] = [
-    (13, 0x07),
-    (15, 0x80),
-    (16, 0x02),
-    (20, 0xff),
-    (28, 0xff),
-    (46, 0x01),
-    (56, 0xff),
-    (336, 0xff),
+/// A byte of the reset file that is read as the reset image, and its place.
+struct Dropped {
+    name: &'static str,
+    at: usize,
+    byte: u8,
+}
+
+const DROPPED: &[Dropped] = &[
+    Dropped {
+        name: "bit 10 of a capability word",
+        at: 13,
+        byte: 0x07,
+    },
+    Dropped {
+        name: "bit 31 of a capability word",
+        at: 15,
+        byte: 0x80,
+    },
+    Dropped {
+        name: "a port's word 0x4",
+        at: 16,
+        byte: 0x02,
+    },
+    Dropped {
+        name: "a word that is reserved",
+        at: 20,
+        byte: 0xff,
+    },
+    Dropped {
+        name: "the low bits of a base",
+        at: 28,
+        byte: 0xff,
+    },
+    Dropped {
+        name: "a bit of a control that is reserved",
+        at: 46,
+        byte: 0x01,
+    },
+    Dropped {
+        name: "a decoder's last word",
+        at: 56,
+        byte: 0xff,
+    },
+    Dropped {
+        name: "the low bits of an endpoint's skip",
+        at: 336,
+        byte: 0xff,
+    },
 ];
 
-fn is_dropped(
+fn is_dropped(rt: &impl Abort, alloc: Global, topo: &Topo, whole: &[u8], row: &Dropped) -> bool {
+    let bytes = with_byte(rt, alloc, whole, row.at, row.byte);
+    is_written(rt, alloc, topo, &bytes, whole)
+}
+
+fn drops_what_does_not_count(
     rt: &impl Abort,
     alloc: Global,
     topo: &Topo,
     whole: &[u8],
-    at: usize,
-    byte: u8,
-) -> bool {
-    let bytes = with_byte(rt, alloc, whole, at, byte);
-    is_written(rt, alloc, topo, &bytes, whole)
-}
-
-fn drops_what_does_not_count(rt: &impl Abort, alloc: Global, topo: &Topo, whole: &[u8]) {
-    for (i, (at, byte)) in DROPPED.iter().enumerate() {
-        row_passes(rt, i, is_dropped(rt, alloc, topo, whole, *at, *byte));
+    rows: &[Dropped],
+) {
+    for row in rows {
+        row_passes(rt, row.name, is_dropped(rt, alloc, topo, whole, row));
     }
 }
 

@@ -29,6 +29,7 @@ enum Call {
 /// A call, an endpoint's number, a device address, the bytes that are put or read, and the number that is answered or the
 /// address up to which blocks are scrubbed.
 struct Row {
+    name: &'static str,
     call: Call,
     ep: u32,
     dpa: u64,
@@ -79,6 +80,7 @@ fn answers<M: Media>(media: &mut M, row: &Row) -> bool {
 /// Over two frames: a block with bytes in two places.
 const CALLS: &[Row] = &[
     Row {
+        name: "two frames are free",
         call: Call::Free,
         ep: 0,
         dpa: 0,
@@ -86,6 +88,7 @@ const CALLS: &[Row] = &[
         number: 2,
     },
     Row {
+        name: "a first block needs a frame",
         call: Call::Need,
         ep: 7,
         dpa: 0,
@@ -93,6 +96,7 @@ const CALLS: &[Row] = &[
         number: 1,
     },
     Row {
+        name: "what was never put is zeros",
         call: Call::Get,
         ep: 7,
         dpa: 250,
@@ -100,6 +104,7 @@ const CALLS: &[Row] = &[
         number: 0,
     },
     Row {
+        name: "the end of a block is put",
         call: Call::Put,
         ep: 7,
         dpa: 250,
@@ -107,6 +112,7 @@ const CALLS: &[Row] = &[
         number: 0,
     },
     Row {
+        name: "the block needs no frame",
         call: Call::Need,
         ep: 7,
         dpa: 0,
@@ -114,6 +120,7 @@ const CALLS: &[Row] = &[
         number: 0,
     },
     Row {
+        name: "one frame is free",
         call: Call::Free,
         ep: 0,
         dpa: 0,
@@ -121,6 +128,7 @@ const CALLS: &[Row] = &[
         number: 1,
     },
     Row {
+        name: "zeros stand before what was put",
         call: Call::Get,
         ep: 7,
         dpa: 248,
@@ -128,6 +136,7 @@ const CALLS: &[Row] = &[
         number: 0,
     },
     Row {
+        name: "the start of the block is put",
         call: Call::Put,
         ep: 7,
         dpa: 0,
@@ -135,6 +144,7 @@ const CALLS: &[Row] = &[
         number: 0,
     },
     Row {
+        name: "the start takes no frame",
         call: Call::Free,
         ep: 0,
         dpa: 0,
@@ -142,6 +152,7 @@ const CALLS: &[Row] = &[
         number: 1,
     },
     Row {
+        name: "zeros stand behind the start",
         call: Call::Get,
         ep: 7,
         dpa: 0,
@@ -149,14 +160,15 @@ const CALLS: &[Row] = &[
         number: 0,
     },
     Row {
+        name: "the end is there beside the start",
         call: Call::Get,
         ep: 7,
         dpa: 250,
         bytes: "abcdef",
         number: 0,
     },
-    // A second block, after which the media are full.
     Row {
+        name: "a second block is put",
         call: Call::Put,
         ep: 8,
         dpa: 0,
@@ -164,6 +176,7 @@ const CALLS: &[Row] = &[
         number: 0,
     },
     Row {
+        name: "no frame is free",
         call: Call::Free,
         ep: 0,
         dpa: 0,
@@ -171,6 +184,7 @@ const CALLS: &[Row] = &[
         number: 0,
     },
     Row {
+        name: "a third block finds the media full",
         call: Call::PutFull,
         ep: 7,
         dpa: 256,
@@ -178,6 +192,7 @@ const CALLS: &[Row] = &[
         number: 0,
     },
     Row {
+        name: "the third block needs a frame",
         call: Call::Need,
         ep: 7,
         dpa: 256,
@@ -185,6 +200,7 @@ const CALLS: &[Row] = &[
         number: 1,
     },
     Row {
+        name: "the third block is zeros",
         call: Call::Get,
         ep: 7,
         dpa: 256,
@@ -192,6 +208,7 @@ const CALLS: &[Row] = &[
         number: 0,
     },
     Row {
+        name: "a byte more of the second block is put",
         call: Call::Put,
         ep: 8,
         dpa: 5,
@@ -199,14 +216,15 @@ const CALLS: &[Row] = &[
         number: 0,
     },
     Row {
+        name: "the second block has both",
         call: Call::Get,
         ep: 8,
         dpa: 0,
         bytes: "other!",
         number: 0,
     },
-    // The first block is scrubbed, and the second not.
     Row {
+        name: "the first block is scrubbed",
         call: Call::Scrub,
         ep: 7,
         dpa: 0,
@@ -214,6 +232,7 @@ const CALLS: &[Row] = &[
         number: 256,
     },
     Row {
+        name: "the first block's frame is free",
         call: Call::Free,
         ep: 0,
         dpa: 0,
@@ -221,6 +240,7 @@ const CALLS: &[Row] = &[
         number: 1,
     },
     Row {
+        name: "the first block is zeros",
         call: Call::Get,
         ep: 7,
         dpa: 250,
@@ -228,6 +248,7 @@ const CALLS: &[Row] = &[
         number: 0,
     },
     Row {
+        name: "the second block stays",
         call: Call::Get,
         ep: 8,
         dpa: 0,
@@ -235,6 +256,7 @@ const CALLS: &[Row] = &[
         number: 0,
     },
     Row {
+        name: "all behind the second block is scrubbed",
         call: Call::Scrub,
         ep: 8,
         dpa: 256,
@@ -242,6 +264,7 @@ const CALLS: &[Row] = &[
         number: 1 << 62,
     },
     Row {
+        name: "no byte of the second block is scrubbed",
         call: Call::Scrub,
         ep: 8,
         dpa: 0,
@@ -249,6 +272,7 @@ const CALLS: &[Row] = &[
         number: 0,
     },
     Row {
+        name: "the second block keeps its frame",
         call: Call::Free,
         ep: 0,
         dpa: 0,
@@ -256,6 +280,7 @@ const CALLS: &[Row] = &[
         number: 1,
     },
     Row {
+        name: "the last byte of a block is put",
         call: Call::Put,
         ep: 7,
         dpa: 511,
@@ -263,6 +288,7 @@ const CALLS: &[Row] = &[
         number: 0,
     },
     Row {
+        name: "all blocks of the first endpoint are scrubbed",
         call: Call::Scrub,
         ep: 7,
         dpa: 0,
@@ -270,6 +296,7 @@ const CALLS: &[Row] = &[
         number: 1 << 62,
     },
     Row {
+        name: "their frame is free",
         call: Call::Free,
         ep: 0,
         dpa: 0,
@@ -277,6 +304,7 @@ const CALLS: &[Row] = &[
         number: 1,
     },
     Row {
+        name: "they need a frame",
         call: Call::Need,
         ep: 7,
         dpa: 511,
@@ -284,6 +312,7 @@ const CALLS: &[Row] = &[
         number: 1,
     },
     Row {
+        name: "the other endpoint's block stays",
         call: Call::Get,
         ep: 8,
         dpa: 0,
@@ -293,9 +322,9 @@ const CALLS: &[Row] = &[
 ];
 
 /// Checks each call.
-fn answers_all<M: Media>(rt: &impl Abort, media: &mut M) {
-    for (i, row) in CALLS.iter().enumerate() {
-        row_passes(rt, i, answers(media, row));
+fn answers_all<M: Media>(rt: &impl Abort, media: &mut M, rows: &[Row]) {
+    for row in rows {
+        row_passes(rt, row.name, answers(media, row));
     }
 }
 
@@ -334,24 +363,27 @@ fn tells_one_block<M: Roll>(media: &M) -> bool {
 }
 
 /// From two free frames on.
-fn answers_anew<M: Roll>(rt: &impl Abort, alloc: Global, media: &mut M) -> bool {
+fn answers_anew<M: Roll>(rt: &impl Abort, alloc: Global, media: &mut M, rows: &[Row]) -> bool {
     let powered = media.power_on(alloc, 2).is_ok();
-    answers_all(rt, media);
+    answers_all(rt, media, rows);
     powered && tells_one_block(media)
 }
 
 /// Full before it is powered on, and then twice the same.
-fn answers_twice<M: Roll>(rt: &impl Abort, alloc: Global, media: &mut M) -> bool {
+fn answers_twice<M: Roll>(rt: &impl Abort, alloc: Global, media: &mut M, rows: &[Row]) -> bool {
     puts(media, 7, 0, "x") == Some(Err(Full))
-        && answers_anew(rt, alloc, media)
-        && answers_anew(rt, alloc, media)
+        && answers_anew(rt, alloc, media, rows)
+        && answers_anew(rt, alloc, media, rows)
+}
+
+fn answer_alike(rt: &impl Abort, alloc: Global, rows: &[Row]) {
+    assert!(rt; answers_twice(rt, alloc, &mut MapMedia::new(alloc), rows));
+    assert!(rt; answers_twice(rt, alloc, &mut SimMedia::new(alloc), rows));
 }
 
 #[test]
 fn both_media_answer_alike(rt: HostRuntime) {
-    let alloc = rt.alloc();
-    assert!(rt; answers_twice(&rt, alloc, &mut MapMedia::new(alloc)));
-    assert!(rt; answers_twice(&rt, alloc, &mut SimMedia::new(alloc)));
+    answer_alike(&rt, rt.alloc(), CALLS);
 }
 
 /// Puts a byte into each of eight blocks.

@@ -1,5 +1,6 @@
 //! Writes to a decoder block: what becomes of each, and the word that is read afterwards.
 
+use crate::common::row_passes;
 use cxl_regs::CommitRule::{Codes, NotEnabled, Order, Rise, Select, ZeroSize};
 use cxl_regs::Effect::{Committed, Dropped, NotCommitted, Released, Written};
 use cxl_regs::{
@@ -7,19 +8,27 @@ use cxl_regs::{
     decoder_of, offset_of, select_ok, words_of, words_stand_for_decoder, write_laws,
     writes_keep_places,
 };
+use std::process::Abort;
 use std::test::*;
 
 /// The offset and the value of a write, what becomes of it, and the word that is read there afterwards.
-type Write = (u32, u32, Effect, u32);
+struct Write {
+    name: &'static str,
+    off: u32,
+    value: u32,
+    effect: Effect,
+    word: u32,
+}
 
-/// Whether each write has its effect and leaves its word.
-fn are_carried_out(block: &mut Block, writes: &[Write]) -> bool {
-    for (off, value, effect, word) in writes {
-        if block.write32(*off, *value) != *effect || !has_word(block, *off, *word) {
-            return false;
-        }
+/// Whether a write has its effect and leaves its word.
+fn is_carried_out(block: &mut Block, write: &Write) -> bool {
+    block.write32(write.off, write.value) == write.effect && has_word(block, write.off, write.word)
+}
+
+fn are_carried_out(rt: &impl Abort, block: &mut Block, writes: &[Write]) {
+    for write in writes {
+        row_passes(rt, write.name, is_carried_out(block, write));
     }
-    true
 }
 
 fn has_word(block: &Block, off: u32, word: u32) -> bool {
@@ -30,42 +39,162 @@ fn endpoint() -> Block {
     Block::new(0x1b02, true)
 }
 
-const TO_AN_ENDPOINT: [Write; 18] = [
-    (0x20, 0x1200, NotCommitted(NotEnabled), 0x1a00),
-    (0x04, 0x2, Written, 0x2),
-    (0x20, 0x1200, NotCommitted(ZeroSize), 0x1a00),
-    (0x18, 0x1fff_ffff, Written, 0x1000_0000),
-    (0x38, 0x1000_0000, Written, 0x1000_0000),
-    (0x40, 0x1200, NotCommitted(Order), 0x1a00),
-    (0x20, 0x1200, Committed, 0x1600),
-    (0x10, 0x2000_0000, Dropped, 0x0),
-    (0x14, 0x1, Dropped, 0x0),
-    (0x18, 0x2000_0000, Dropped, 0x1000_0000),
-    (0x40, 0x1200, NotCommitted(Rise), 0x1a00),
-    (0x30, 0x1000_0000, Written, 0x1000_0000),
-    (0x40, 0x1247, NotCommitted(Codes), 0x1a47),
-    (0x40, 0x1226, NotCommitted(Select), 0x1a26),
-    (0x40, 0x1216, Committed, 0x1616),
-    (0x20, 0x1000, Dropped, 0x1600),
-    (0x40, 0x1000, Released, 0x1016),
-    (0x04, 0x0, Dropped, 0x2),
+const TO_AN_ENDPOINT: &[Write] = &[
+    Write {
+        name: "a commit while disabled",
+        off: 0x20,
+        value: 0x1200,
+        effect: NotCommitted(NotEnabled),
+        word: 0x1a00,
+    },
+    Write {
+        name: "the block is enabled",
+        off: 0x04,
+        value: 0x2,
+        effect: Written,
+        word: 0x2,
+    },
+    Write {
+        name: "a commit of size 0",
+        off: 0x20,
+        value: 0x1200,
+        effect: NotCommitted(ZeroSize),
+        word: 0x1a00,
+    },
+    Write {
+        name: "a size and low bits",
+        off: 0x18,
+        value: 0x1fff_ffff,
+        effect: Written,
+        word: 0x1000_0000,
+    },
+    Write {
+        name: "the second decoder's size",
+        off: 0x38,
+        value: 0x1000_0000,
+        effect: Written,
+        word: 0x1000_0000,
+    },
+    Write {
+        name: "the second decoder's commit before the first's",
+        off: 0x40,
+        value: 0x1200,
+        effect: NotCommitted(Order),
+        word: 0x1a00,
+    },
+    Write {
+        name: "the first decoder's commit",
+        off: 0x20,
+        value: 0x1200,
+        effect: Committed,
+        word: 0x1600,
+    },
+    Write {
+        name: "the low half of a committed base",
+        off: 0x10,
+        value: 0x2000_0000,
+        effect: Dropped,
+        word: 0x0,
+    },
+    Write {
+        name: "the high half of a committed base",
+        off: 0x14,
+        value: 0x1,
+        effect: Dropped,
+        word: 0x0,
+    },
+    Write {
+        name: "a committed size",
+        off: 0x18,
+        value: 0x2000_0000,
+        effect: Dropped,
+        word: 0x1000_0000,
+    },
+    Write {
+        name: "the second decoder's commit at the first's base",
+        off: 0x40,
+        value: 0x1200,
+        effect: NotCommitted(Rise),
+        word: 0x1a00,
+    },
+    Write {
+        name: "the second decoder's base",
+        off: 0x30,
+        value: 0x1000_0000,
+        effect: Written,
+        word: 0x1000_0000,
+    },
+    Write {
+        name: "a commit of granularity code 7",
+        off: 0x40,
+        value: 0x1247,
+        effect: NotCommitted(Codes),
+        word: 0x1a47,
+    },
+    Write {
+        name: "a commit of select bits that it lacks",
+        off: 0x40,
+        value: 0x1226,
+        effect: NotCommitted(Select),
+        word: 0x1a26,
+    },
+    Write {
+        name: "the second decoder's commit",
+        off: 0x40,
+        value: 0x1216,
+        effect: Committed,
+        word: 0x1616,
+    },
+    Write {
+        name: "the first decoder's release before the second's",
+        off: 0x20,
+        value: 0x1000,
+        effect: Dropped,
+        word: 0x1600,
+    },
+    Write {
+        name: "the second decoder's release",
+        off: 0x40,
+        value: 0x1000,
+        effect: Released,
+        word: 0x1016,
+    },
+    Write {
+        name: "the block is disabled while a decoder is committed",
+        off: 0x04,
+        value: 0x0,
+        effect: Dropped,
+        word: 0x2,
+    },
 ];
 
 #[test]
 fn writes_to_an_endpoint(rt: HostRuntime) {
     let mut block = endpoint();
-    assert!(rt; are_carried_out(&mut block, &TO_AN_ENDPOINT));
+    are_carried_out(&rt, &mut block, TO_AN_ENDPOINT);
 }
 
-const TO_A_PORT: [Write; 2] = [
-    (0x04, 0x2, Dropped, 0x0),
-    (0x20, 0x1200, NotCommitted(ZeroSize), 0x1a00),
+const TO_A_PORT: &[Write] = &[
+    Write {
+        name: "a port is not enabled",
+        off: 0x04,
+        value: 0x2,
+        effect: Dropped,
+        word: 0x0,
+    },
+    Write {
+        name: "a commit of size 0",
+        off: 0x20,
+        value: 0x1200,
+        effect: NotCommitted(ZeroSize),
+        word: 0x1a00,
+    },
 ];
 
 #[test]
 fn writes_to_a_port(rt: HostRuntime) {
     let mut block = Block::new(0x382, false);
-    assert!(rt; are_carried_out(&mut block, &TO_A_PORT));
+    are_carried_out(&rt, &mut block, TO_A_PORT);
 }
 
 fn is_reset(block: &Block) -> bool {
@@ -88,11 +217,35 @@ fn a_block_after_reset(rt: HostRuntime) {
 }
 
 /// With these an endpoint's first decoder is committed.
-const TO_COMMIT: [Write; 4] = [
-    (0x04, 0x2, Written, 0x2),
-    (0x1c, 0x1, Written, 0x1),
-    (0x18, 0x4000_0000, Written, 0x4000_0000),
-    (0x20, 0x1210, Committed, 0x1610),
+const TO_COMMIT: &[Write] = &[
+    Write {
+        name: "the block is enabled",
+        off: 0x04,
+        value: 0x2,
+        effect: Written,
+        word: 0x2,
+    },
+    Write {
+        name: "the high half of a size",
+        off: 0x1c,
+        value: 0x1,
+        effect: Written,
+        word: 0x1,
+    },
+    Write {
+        name: "the low half of a size",
+        off: 0x18,
+        value: 0x4000_0000,
+        effect: Written,
+        word: 0x4000_0000,
+    },
+    Write {
+        name: "a commit of two ways",
+        off: 0x20,
+        value: 0x1210,
+        effect: Committed,
+        word: 0x1610,
+    },
 ];
 
 /// Whether a block's first decoder alone is committed, and has the words of it.
@@ -111,7 +264,7 @@ fn is_committed(block: &Block) -> bool {
 #[test]
 fn a_block_and_its_words(rt: HostRuntime) {
     let mut block = endpoint();
-    assert!(rt; are_carried_out(&mut block, &TO_COMMIT));
+    are_carried_out(&rt, &mut block, TO_COMMIT);
     let copy = block.copy();
     assert!(rt; is_committed(&copy));
 }

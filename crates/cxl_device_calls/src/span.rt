@@ -5,12 +5,13 @@ ghost use Rattle.cxl_enc.specs.Limits.{address_limit};
 
 use crate::common::row_passes;
 use cxl_enc::{MemKind, UNIT};
-use cxl_regs::{Block, Decoder, decoder_of};
+use cxl_regs::{BASE_HIGH, BASE_LOW, Block, CONTROL, Decoder, SIZE_LOW, TAIL_LOW, decoder_of};
 use cxl_span::{
     BlockBreach, Room, Span, SpanFault, allot, block_breach, breaks_at, committed_stand_first,
     endpoint_place_of, one_holder, ranges_rise, spans_are_whole, spans_follow,
     spans_lie_in_partitions, start_of,
 };
+use std::process::Abort;
 
 const GIB: u64 = 0x4000_0000;
 
@@ -31,7 +32,7 @@ enum Plain {
 }
 
 /// Its words, from base low to the reserved one.
-fn words(plain: Plain) -> [u32; 8] {
+fn register_words(plain: Plain) -> [u32; 8] {
     match plain {
         Plain::Reset => [0; 8],
         Plain::First => [0, 1, 0x1000_0000, 0, 0x1600, 0, 0, 0],
@@ -42,11 +43,19 @@ fn words(plain: Plain) -> [u32; 8] {
     }
 }
 
-/// The same where the word at a place has this value, and at place 8 none is changed.
-fn changed(plain: Plain, place: usize, word: u32) -> [u32; 8] {
-    let mut words = words(plain);
-    if place < 8 {
-        words[place] = word;
+/// The word that a decoder gets at a place among its words.
+struct Change {
+    at: u32,
+    word: u32,
+}
+
+/// The same with some words changed.
+fn changed(plain: Plain, changes: &[Change]) -> [u32; 8] {
+    let mut words = register_words(plain);
+    for change in changes {
+        if change.at < 8 {
+            words[change.at as usize] = change.word;
+        }
     }
     words
 }
@@ -59,199 +68,191 @@ fn endpoint(enabled: bool, first: &[u32; 8], second: &[u32; 8]) -> Block {
     Block::with_decoders(0x1b02, true, enabled, &[first, second, reset, reset])
 }
 
-/// A block's first two decoders, each with a word's place and value, and the rule that the block breaks first, at which
-/// decoder, or rule 0.
+/// A block's first two decoders with their changes, and the rule that the block breaks first, at which decoder, or rule 0.
 struct Row {
+    name: &'static str,
     first: Plain,
-    first_place: usize,
-    first_word: u32,
+    first_changes: &'static [Change],
     second: Plain,
-    second_place: usize,
-    second_word: u32,
+    second_changes: &'static [Change],
     rule: u8,
     decoder: u8,
 }
 
-const BLOCKS: [Row; 18] = [
+/// The first and the second keep the rules.
+const KEPT: Row = Row {
+    name: "two decoders that keep the rules",
+    first: Plain::First,
+    first_changes: &[],
+    second: Plain::Second,
+    second_changes: &[],
+    rule: 0,
+    decoder: 0,
+};
+
+const BLOCKS: &[Row] = &[
+    KEPT,
     Row {
-        first: Plain::First,
-        first_place: 8,
-        first_word: 0,
-        second: Plain::Second,
-        second_place: 8,
-        second_word: 0,
-        rule: 0,
-        decoder: 0,
-    },
-    Row {
+        name: "no decoder committed",
         first: Plain::Reset,
-        first_place: 8,
-        first_word: 0,
         second: Plain::Reset,
-        second_place: 8,
-        second_word: 0,
-        rule: 0,
-        decoder: 0,
+        ..KEPT
     },
     Row {
-        first: Plain::First,
-        first_place: 8,
-        first_word: 0,
-        second: Plain::Second,
-        second_place: 5,
-        second_word: 0x2000_0000,
-        rule: 0,
-        decoder: 0,
+        name: "a span up to the end of the ram",
+        second_changes: &[Change {
+            at: TAIL_LOW,
+            word: 0x2000_0000,
+        }],
+        ..KEPT
     },
     Row {
-        first: Plain::First,
-        first_place: 8,
-        first_word: 0,
-        second: Plain::Second,
-        second_place: 2,
-        second_word: 0x2000_0000,
-        rule: 0,
-        decoder: 0,
+        name: "a span of 512 MiB in the pmem",
+        second_changes: &[Change {
+            at: SIZE_LOW,
+            word: 0x2000_0000,
+        }],
+        ..KEPT
     },
     Row {
-        first: Plain::First,
-        first_place: 4,
-        first_word: 0x1000,
-        second: Plain::Second,
-        second_place: 8,
-        second_word: 0,
+        name: "a first decoder that is not committed",
+        first_changes: &[Change {
+            at: CONTROL,
+            word: 0x1000,
+        }],
         rule: 2,
         decoder: 1,
+        ..KEPT
     },
     Row {
-        first: Plain::First,
-        first_place: 4,
-        first_word: 0x1e00,
-        second: Plain::Second,
-        second_place: 8,
-        second_word: 0,
+        name: "an error of the first decoder",
+        first_changes: &[Change {
+            at: CONTROL,
+            word: 0x1e00,
+        }],
         rule: 3,
         decoder: 0,
+        ..KEPT
     },
     Row {
-        first: Plain::First,
-        first_place: 8,
-        first_word: 0,
+        name: "an error of a decoder that is not committed",
         second: Plain::Reset,
-        second_place: 4,
-        second_word: 0x0a00,
+        second_changes: &[Change {
+            at: CONTROL,
+            word: 0x0a00,
+        }],
         rule: 3,
         decoder: 1,
+        ..KEPT
     },
     Row {
-        first: Plain::First,
-        first_place: 8,
-        first_word: 0,
-        second: Plain::Second,
-        second_place: 4,
-        second_word: 0x0600,
+        name: "a decoder that is not host-only",
+        second_changes: &[Change {
+            at: CONTROL,
+            word: 0x0600,
+        }],
         rule: 3,
         decoder: 1,
+        ..KEPT
     },
     Row {
-        first: Plain::First,
-        first_place: 8,
-        first_word: 0,
-        second: Plain::Second,
-        second_place: 4,
-        second_word: 0x1650,
+        name: "a ways code that stands for nothing",
+        second_changes: &[Change {
+            at: CONTROL,
+            word: 0x1650,
+        }],
         rule: 4,
         decoder: 1,
+        ..KEPT
     },
     Row {
-        first: Plain::First,
-        first_place: 8,
-        first_word: 0,
-        second: Plain::Second,
-        second_place: 4,
-        second_word: 0x1626,
+        name: "select bits that the block lacks",
+        second_changes: &[Change {
+            at: CONTROL,
+            word: 0x1626,
+        }],
         rule: 5,
         decoder: 1,
+        ..KEPT
     },
     Row {
-        first: Plain::First,
-        first_place: 8,
-        first_word: 0,
-        second: Plain::Second,
-        second_place: 4,
-        second_word: 0x1610,
+        name: "256 MiB for two ways",
+        second_changes: &[Change {
+            at: CONTROL,
+            word: 0x1610,
+        }],
         rule: 6,
         decoder: 1,
+        ..KEPT
     },
     Row {
-        first: Plain::First,
-        first_place: 2,
-        first_word: 0,
-        second: Plain::Second,
-        second_place: 8,
-        second_word: 0,
+        name: "a size of 0",
+        first_changes: &[Change {
+            at: SIZE_LOW,
+            word: 0,
+        }],
         rule: 6,
         decoder: 0,
+        ..KEPT
     },
     Row {
-        first: Plain::First,
-        first_place: 8,
-        first_word: 0,
-        second: Plain::Second,
-        second_place: 1,
-        second_word: 0x10_0000,
+        name: "a base above 2^52",
+        second_changes: &[Change {
+            at: BASE_HIGH,
+            word: 0x10_0000,
+        }],
         rule: 6,
         decoder: 1,
+        ..KEPT
     },
     Row {
-        first: Plain::First,
-        first_place: 8,
-        first_word: 0,
-        second: Plain::Second,
-        second_place: 0,
-        second_word: 0,
+        name: "a range at the first decoder's base",
+        second_changes: &[Change {
+            at: BASE_LOW,
+            word: 0,
+        }],
         rule: 7,
         decoder: 1,
+        ..KEPT
     },
     Row {
-        first: Plain::First,
-        first_place: 5,
-        first_word: 0x4000_0000,
-        second: Plain::Second,
-        second_place: 8,
-        second_word: 0,
+        name: "a second span behind the device",
+        first_changes: &[Change {
+            at: TAIL_LOW,
+            word: 0x4000_0000,
+        }],
         rule: 8,
         decoder: 1,
+        ..KEPT
     },
     Row {
-        first: Plain::First,
-        first_place: 8,
-        first_word: 0,
+        name: "a span over the end of the ram",
         second: Plain::Long,
-        second_place: 5,
-        second_word: 0x2000_0000,
+        second_changes: &[Change {
+            at: TAIL_LOW,
+            word: 0x2000_0000,
+        }],
         rule: 8,
         decoder: 1,
+        ..KEPT
     },
     Row {
+        name: "a first span behind the device",
         first: Plain::Late,
-        first_place: 8,
-        first_word: 0,
-        second: Plain::Second,
-        second_place: 8,
-        second_word: 0,
         rule: 8,
         decoder: 0,
+        ..KEPT
     },
     Row {
+        name: "an error before a first span behind the device",
         first: Plain::Late,
-        first_place: 8,
-        first_word: 0,
-        second: Plain::Second,
-        second_place: 4,
-        second_word: 0x1e00,
+        second_changes: &[Change {
+            at: CONTROL,
+            word: 0x1e00,
+        }],
         rule: 3,
         decoder: 1,
+        ..KEPT
     },
 ];
 
@@ -264,24 +265,32 @@ fn breaks(block: &Block, rule: u8, decoder: u8) -> bool {
 }
 
 fn is_broken(row: &Row) -> bool {
-    let first = changed(row.first, row.first_place, row.first_word);
-    let second = changed(row.second, row.second_place, row.second_word);
+    let first = changed(row.first, row.first_changes);
+    let second = changed(row.second, row.second_changes);
     let block = endpoint(true, &first, &second);
     row.decoder < block.count()
         && breaks_at(&block, GIB, GIB, row.rule, row.decoder) == (row.rule != 0)
         && breaks(&block, row.rule, row.decoder)
 }
 
+fn are_broken(rt: &impl Abort, rows: &[Row]) {
+    for row in rows {
+        row_passes(rt, row.name, is_broken(row));
+    }
+}
+
 #[test]
 fn breaches(rt: HostRuntime) {
-    for (i, row) in BLOCKS.iter().enumerate() {
-        row_passes(&rt, i, is_broken(row));
-    }
+    are_broken(&rt, BLOCKS);
 }
 
 /// The block of the first and the second.
 fn plain_block(enabled: bool) -> Block {
-    endpoint(enabled, &words(Plain::First), &words(Plain::Second))
+    endpoint(
+        enabled,
+        &register_words(Plain::First),
+        &register_words(Plain::Second),
+    )
 }
 
 #[test]
@@ -317,6 +326,7 @@ fn allots(block: &Block, ram: u64, kind: MemKind, len: u64) -> Option<Result<Spa
 /// A block's first two decoders, the device's ram, and what is asked for; then the answer. The device has as much pmem where
 /// its ram is 1 GiB, and else none.
 struct Asked {
+    name: &'static str,
     first: Plain,
     second: Plain,
     ram: u64,
@@ -325,9 +335,9 @@ struct Asked {
     answer: Result<Span, SpanFault>,
 }
 
-const SPANS: [Asked; 6] = [
-    // Ram, then pmem, then neither fits.
+const SPANS: &[Asked] = &[
     Asked {
+        name: "ram of a block after reset",
         first: Plain::Reset,
         second: Plain::Reset,
         ram: GIB,
@@ -340,6 +350,7 @@ const SPANS: [Asked; 6] = [
         }),
     },
     Asked {
+        name: "pmem behind a span of ram",
         first: Plain::First,
         second: Plain::Reset,
         ram: GIB,
@@ -352,6 +363,7 @@ const SPANS: [Asked; 6] = [
         }),
     },
     Asked {
+        name: "ram behind a span of pmem",
         first: Plain::First,
         second: Plain::Second,
         ram: GIB,
@@ -360,6 +372,7 @@ const SPANS: [Asked; 6] = [
         answer: Err(SpanFault::PastRam(0x5000_0000)),
     },
     Asked {
+        name: "pmem without room",
         first: Plain::First,
         second: Plain::Second,
         ram: GIB,
@@ -371,6 +384,7 @@ const SPANS: [Asked; 6] = [
         })),
     },
     Asked {
+        name: "pmem up to its end",
         first: Plain::First,
         second: Plain::Second,
         ram: GIB,
@@ -382,8 +396,8 @@ const SPANS: [Asked; 6] = [
             len: 3 * UNIT,
         }),
     },
-    // Half of 4 GiB over two ways.
     Asked {
+        name: "ram behind half of 4 GiB over two ways",
         first: Plain::Shared,
         second: Plain::Reset,
         ram: 4 * GIB,
@@ -398,21 +412,29 @@ const SPANS: [Asked; 6] = [
 ];
 
 fn is_answered(asked: &Asked) -> bool {
-    let block = endpoint(true, &words(asked.first), &words(asked.second));
+    let block = endpoint(
+        true,
+        &register_words(asked.first),
+        &register_words(asked.second),
+    );
     allots(&block, asked.ram, asked.kind, asked.len) == Some(asked.answer)
+}
+
+fn are_answered(rt: &impl Abort, rows: &[Asked]) {
+    for row in rows {
+        row_passes(rt, row.name, is_answered(row));
+    }
 }
 
 #[test]
 fn spans(rt: HostRuntime) {
-    for (i, asked) in SPANS.iter().enumerate() {
-        row_passes(&rt, i, is_answered(asked));
-    }
+    are_answered(&rt, SPANS);
 }
 
 /// A block with no decoder left.
 #[test]
 fn a_full_block(rt: HostRuntime) {
-    let decoders = [decoder_of(&words(Plain::First), true)];
+    let decoders = [decoder_of(&register_words(Plain::First), true)];
     let block = Block::with_decoders(0x1b00, true, true, &decoders);
     assert!(rt; allots(&block, GIB, MemKind::Ram, UNIT) == Some(Err(SpanFault::NoDecoder)));
 }

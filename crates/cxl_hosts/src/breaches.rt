@@ -3,9 +3,11 @@
 ghost use Rattle.cxl_window.specs.Windows.{AreMadeWith};
 ghost use Rattle.cxl_model.specs.System.{bridge_uids};
 
-use crate::host_texts::{OVER_TWO, TWO_BY_ONE, TWO_FORWARDING, TWO_WAYS, TWO_WAYS_BELOW};
+use crate::host_texts::{
+    OVER_ONE, OVER_TWO, TWO_BY_ONE, TWO_BY_TWO, TWO_FORWARDING, TWO_WAYS, TWO_WAYS_BELOW,
+};
 use crate::hosts::{Worked, host_of};
-use crate::rows::{are_written, as_word, at, has_passed, numbers};
+use crate::rows::{are_written, has_passed};
 use cxl_check::{Breach, CheckFault, Found, breaches, check};
 use cxl_enc::MemKind;
 use cxl_image::{Image, read_image, write_image};
@@ -24,19 +26,21 @@ const SECOND_WITHOUT_ENDPOINT: &str = "0x382, 0x382, 0x1b02 0 0 0x80000000 0";
 const TWO_WAYS_BELOW_AND_FIRST: &str =
     "2 4 0 0x100000000 0x20000000 0x10 0, 0 1 0 0x100000000 0x20000000 0 0";
 
-/// The host's image with other words, each at its byte place in the image's file.
-fn changed(rt: &impl Abort, alloc: Global, host: &Worked, words: &str) -> Image {
+/// A bridge of two ways over endpoints of one way that have the granularity code 3.
+const ONE_WAY_BELOW_TWO: &str =
+    "0 1 0 0x100000000 0x20000000 0x10 0x0100, 2 4 0 0x100000000 0x20000000 0x03 0";
+
+/// A byte place in the file of an image, and the word that begins there.
+struct Word(usize, u32);
+
+/// The host's image with other words.
+fn changed(rt: &impl Abort, alloc: Global, host: &Worked, words: &[Word]) -> Image {
     let mut bytes = write_image(alloc, &host.image).expect(rt, "memory");
-    put_words(rt, &mut bytes, &numbers(rt, alloc, words));
+    for Word(place, word) in words {
+        put_word(rt, &mut bytes, *place, *word);
+    }
     assert!(rt; bytes.len() < 0x1_0000_0000);
     read_image(alloc, &bytes, &host.topo).expect(rt, "an image")
-}
-
-fn put_words(rt: &impl Abort, bytes: &mut [u8], words: &[u64]) {
-    for i in 0..words.len() / 2 {
-        let place = at(rt, words, 2 * i) as usize;
-        put_word(rt, bytes, place, as_word(rt, words, 2 * i + 1));
-    }
 }
 
 fn put_word(rt: &impl Abort, bytes: &mut [u8], place: usize, word: u32) {
@@ -51,25 +55,27 @@ pub(crate) fn breaks(alloc: Global, host: &Worked, image: &Image, breach: Breach
     check(alloc, image, &host.topo, &host.windows).err() == Some(CheckFault::Breach(breach))
 }
 
-/// The nodes of the host and those of the image, the decoders that are committed in this, other words of its file, and the
-/// rule, node and decoder of the breach.
+/// A name, the nodes of the host and those of the image, the windows over both, the decoders that are committed in the image,
+/// other words of its file, and the rule, node and decoder of the breach.
 struct Row {
+    name: &'static str,
     nodes: &'static str,
     own: &'static str,
+    windows: &'static str,
     ranges: &'static str,
-    words: &'static str,
+    words: &'static [Word],
     rule: u8,
     node: u32,
     decoder: u8,
 }
 
 fn image_of(rt: &impl Abort, alloc: Global, row: &Row) -> Image {
-    let other = host_of(rt, alloc, row.own, OVER_TWO, row.ranges);
+    let other = host_of(rt, alloc, row.own, row.windows, row.ranges);
     changed(rt, alloc, &other, row.words)
 }
 
 fn is_breach(rt: &impl Abort, alloc: Global, row: &Row) -> bool {
-    let host = host_of(rt, alloc, row.nodes, OVER_TWO, "");
+    let host = host_of(rt, alloc, row.nodes, row.windows, "");
     let image = image_of(rt, alloc, row);
     let breach = Breach {
         rule: row.rule,
@@ -82,140 +88,182 @@ fn is_breach(rt: &impl Abort, alloc: Global, row: &Row) -> bool {
 
 #[test]
 fn first_breaches(rt: HostRuntime) {
-    for (i, row) in ROWS.iter().enumerate() {
-        has_passed(&rt, i, is_breach(&rt, rt.alloc(), row));
+    for row in ROWS.iter() {
+        has_passed(&rt, row.name, is_breach(&rt, rt.alloc(), row));
     }
 }
 
 /// The blocks of four nodes begin at bytes 12, 156, 300 and 444, and their first decoder 16 bytes further.
-const ROWS: [Row; 14] = [
-    // A bridge that cannot select on the bits that its decoder selects on.
+const ROWS: [Row; 15] = [
     Row {
+        name: "a bridge that cannot select on its decoder's bits",
         nodes: SECOND_WITHOUT_LOW_BITS,
         own: TWO_BY_ONE,
+        windows: OVER_TWO,
         ranges: TWO_WAYS,
-        words: "",
+        words: &[],
         rule: 1,
         node: 1,
         decoder: 0,
     },
-    // Three blocks over four nodes.
     Row {
+        name: "three blocks over four nodes",
         nodes: TWO_BY_ONE,
         own: SECOND_WITHOUT_ENDPOINT,
+        windows: OVER_TWO,
         ranges: "",
-        words: "",
+        words: &[],
         rule: 1,
         node: 0,
         decoder: 0,
     },
     Row {
+        name: "an endpoint that does not decode",
         nodes: TWO_BY_ONE,
         own: TWO_BY_ONE,
+        windows: OVER_TWO,
         ranges: TWO_WAYS,
-        words: "304 0",
+        words: &[Word(304, 0)],
         rule: 2,
         node: 2,
         decoder: 0,
     },
     Row {
+        name: "a decoder with its error bit set",
         nodes: TWO_BY_ONE,
         own: TWO_BY_ONE,
+        windows: OVER_TWO,
         ranges: TWO_WAYS,
-        words: "476 0x1e10",
+        words: &[Word(476, 0x1e10)],
         rule: 3,
         node: 3,
         decoder: 0,
     },
     Row {
+        name: "an unknown code of ways",
         nodes: TWO_BY_ONE,
         own: TWO_BY_ONE,
+        windows: OVER_TWO,
         ranges: TWO_WAYS,
-        words: "332 0x1670",
+        words: &[Word(332, 0x1670)],
         rule: 4,
         node: 2,
         decoder: 0,
     },
     Row {
+        name: "an endpoint that cannot select on its decoder's bits",
         nodes: TWO_BY_ONE,
         own: TWO_BY_ONE,
+        windows: OVER_TWO,
         ranges: TWO_WAYS,
-        words: "332 0x1626",
+        words: &[Word(332, 0x1626)],
         rule: 5,
         node: 2,
         decoder: 0,
     },
     Row {
+        name: "shares that are no multiple of 256 MiB",
         nodes: TWO_BY_ONE,
         own: TWO_BY_ONE,
+        windows: OVER_TWO,
         ranges: TWO_WAYS,
-        words: "324 0x10000000",
+        words: &[Word(324, 0x1000_0000)],
         rule: 6,
         node: 2,
         decoder: 0,
     },
     Row {
+        name: "a second decoder at the base of the first",
         nodes: TWO_BY_ONE,
         own: TWO_BY_ONE,
+        windows: OVER_TWO,
         ranges: TWO_WAYS,
-        words: "352 1 356 0x20000000 364 0x1610",
+        words: &[Word(352, 1), Word(356, 0x2000_0000), Word(364, 0x1610)],
         rule: 7,
         node: 2,
         decoder: 1,
     },
     Row {
+        name: "a share larger than the endpoint's memory",
         nodes: TWO_BY_ONE,
         own: TWO_BY_ONE,
+        windows: OVER_TWO,
         ranges: TWO_WAYS,
-        words: "324 0 328 2",
+        words: &[Word(324, 0), Word(328, 2)],
         rule: 8,
         node: 2,
         decoder: 0,
     },
     Row {
+        name: "a range in no window",
         nodes: TWO_BY_ONE,
         own: TWO_BY_ONE,
+        windows: OVER_TWO,
         ranges: TWO_WAYS,
-        words: "320 2",
+        words: &[Word(320, 2)],
         rule: 9,
         node: 2,
         decoder: 0,
     },
     Row {
+        name: "a bridge of the window without the range",
         nodes: TWO_BY_ONE,
         own: TWO_BY_ONE,
+        windows: OVER_TWO,
         ranges: TWO_WAYS,
-        words: "188 0x1000",
+        words: &[Word(188, 0x1000)],
         rule: 10,
         node: 0,
         decoder: 0,
     },
     Row {
+        name: "a range to which no bridge leads",
         nodes: TWO_BY_ONE,
         own: TWO_BY_ONE,
+        windows: OVER_TWO,
         ranges: TWO_WAYS,
-        words: "348 0x20000000 352 1 356 0x20000000 364 0x1610",
+        words: &[
+            Word(348, 0x2000_0000),
+            Word(352, 1),
+            Word(356, 0x2000_0000),
+            Word(364, 0x1610),
+        ],
         rule: 11,
         node: 2,
         decoder: 1,
     },
     Row {
+        name: "another granularity than the window's",
         nodes: TWO_BY_ONE,
         own: TWO_BY_ONE,
+        windows: OVER_TWO,
         ranges: TWO_WAYS,
-        words: "332 0x1611",
+        words: &[Word(332, 0x1611)],
         rule: 12,
         node: 2,
         decoder: 0,
     },
-    // A bridge that forwards decodes nothing itself.
     Row {
+        name: "a bridge that forwards and decodes",
         nodes: TWO_FORWARDING,
         own: TWO_FORWARDING,
+        windows: OVER_TWO,
         ranges: TWO_WAYS_BELOW_AND_FIRST,
-        words: "",
+        words: &[],
         rule: 11,
         node: 0,
+        decoder: 0,
+    },
+    // The code of a range is 0 where its first endpoint has one way, so the bridge keeps it, and the endpoint has too few ways.
+    Row {
+        name: "endpoints of one way below a bridge of two",
+        nodes: TWO_BY_TWO,
+        own: TWO_BY_TWO,
+        windows: OVER_ONE,
+        ranges: ONE_WAY_BELOW_TWO,
+        words: &[],
+        rule: 12,
+        node: 2,
         decoder: 0,
     },
 ];
@@ -258,11 +306,12 @@ fn no_breach(rt: HostRuntime) {
 const BOTH_WITHOUT_LOW_BITS: &str =
     "0x182, 0x182, 0x1b02 0 0 0x80000000 0, 0x1b02 1 0 0x80000000 0";
 
-/// Where an image over two bridges breaks its first broken rule: the nodes of the host, other words of the image, the rule, and
-/// node and decoder of each place.
+/// Where an image over two bridges breaks its first broken rule: a name, the nodes of the host, other words of the image, the
+/// rule, and node and decoder of each place.
 struct Places {
+    name: &'static str,
     nodes: &'static str,
-    words: &'static str,
+    words: &'static [Word],
     rule: u8,
     places: &'static str,
 }
@@ -285,51 +334,59 @@ fn are_places(rt: &impl Abort, alloc: Global, row: &Places) -> bool {
 
 #[test]
 fn all_places(rt: HostRuntime) {
-    for (i, row) in PLACES.iter().enumerate() {
-        has_passed(&rt, i, are_places(&rt, rt.alloc(), row));
+    for row in PLACES.iter() {
+        has_passed(&rt, row.name, are_places(&rt, rt.alloc(), row));
     }
 }
 
 /// As above; a node's second decoder has its control word 32 bytes behind that of the first.
 const PLACES: [Places; 6] = [
     Places {
+        name: "no breach",
         nodes: TWO_BY_ONE,
-        words: "",
+        words: &[],
         rule: 0,
         places: "",
     },
     Places {
+        name: "two bridges that cannot select on low bits",
         nodes: BOTH_WITHOUT_LOW_BITS,
-        words: "332 0x1670",
+        words: &[Word(332, 0x1670)],
         rule: 1,
         places: "0 0 1 0",
     },
-    // Another number of blocks is told once.
     Places {
+        name: "another number of blocks, told once",
         nodes: SECOND_WITHOUT_ENDPOINT,
-        words: "332 0x1670",
+        words: &[Word(332, 0x1670)],
         rule: 1,
         places: "0 0",
     },
     // An error bit in a decoder that is not committed, and a range that is not for the host alone; a code that K4 forbids is
     // no breach of the first broken rule.
     Places {
+        name: "flags of three decoders",
         nodes: TWO_BY_ONE,
-        words: "364 0x800 396 0x800 476 0x610 188 0x1670",
+        words: &[
+            Word(364, 0x800),
+            Word(396, 0x800),
+            Word(476, 0x610),
+            Word(188, 0x1670),
+        ],
         rule: 3,
         places: "2 1 2 2 3 0",
     },
-    // A granularity code that is not the window's.
     Places {
+        name: "a granularity code that is not the window's",
         nodes: TWO_BY_ONE,
-        words: "332 0x1611 476 0x1611",
+        words: &[Word(332, 0x1611), Word(476, 0x1611)],
         rule: 12,
         places: "2 0 3 0",
     },
-    // A range at which no window is.
     Places {
+        name: "a range at which no window is",
         nodes: TWO_BY_ONE,
-        words: "176 2 464 2",
+        words: &[Word(176, 2), Word(464, 2)],
         rule: 9,
         places: "1 0 3 0",
     },

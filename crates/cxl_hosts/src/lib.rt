@@ -11,6 +11,8 @@ mod hosts;
 #[cfg(test)]
 mod picks;
 #[cfg(test)]
+mod plan_rows;
+#[cfg(test)]
 mod plans;
 #[cfg(test)]
 mod poison;

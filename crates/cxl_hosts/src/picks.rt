@@ -24,8 +24,9 @@ fn picked(rt: &impl Abort, alloc: Global, host: &Worked, want: &Want) -> Result<
     }
 }
 
-/// A host; how many bytes of ram are wanted in how many ways; and the endpoints that are picked for them, or the fault.
+/// A name; a host; how many bytes of ram are wanted in how many ways; and the endpoints that are picked for them, or the fault.
 struct Row {
+    name: &'static str,
     nodes: &'static str,
     windows: &'static str,
     ranges: &'static str,
@@ -47,8 +48,8 @@ fn is_picked(rt: &impl Abort, alloc: Global, row: &Row) -> bool {
 
 #[test]
 fn picks(rt: HostRuntime) {
-    for (i, row) in ROWS.iter().enumerate() {
-        has_passed(&rt, i, is_picked(&rt, rt.alloc(), row));
+    for row in ROWS.iter() {
+        has_passed(&rt, row.name, is_picked(&rt, rt.alloc(), row));
     }
 }
 
@@ -110,8 +111,8 @@ const THREE_BY_TWO_BY_TWO: &str = "0x382, 0x382, 0x382, \
     0x1b02 8 0 0x10000000 0, 0x1b02 8 1 0x10000000 0";
 
 const ROWS: [Row; 20] = [
-    // The end of the first window is taken, and the second is behind it.
     Row {
+        name: "the second window, where the end of the first is taken",
         nodes: ONE_BY_ONE,
         windows: OVER_ONE_TWICE,
         ranges: "0 2 0 0x110000000 0x10000000 0 0",
@@ -121,6 +122,7 @@ const ROWS: [Row; 20] = [
     },
     // Twelve ways from three, at 1,024 bytes and at 2,048: a switch selects at twice the granularity, by bit 11 and by bit 12.
     Row {
+        name: "twelve ways from three at 1,024 bytes",
         nodes: THREE_BY_TWO_BY_TWO,
         windows: "0x100000000 0xc0000000 2 0 0x000e 0 1 2",
         ranges: "",
@@ -129,6 +131,7 @@ const ROWS: [Row; 20] = [
         picked: "Ok([9, 10, 11, 12, 13, 14, 15, 16, 17, 18, 19, 20])",
     },
     Row {
+        name: "twelve ways from three at 2,048 bytes",
         nodes: THREE_BY_TWO_BY_TWO,
         windows: "0x100000000 0xc0000000 3 0 0x000e 0 1 2",
         ranges: "",
@@ -137,6 +140,7 @@ const ROWS: [Row; 20] = [
         picked: "Err(NoSet)",
     },
     Row {
+        name: "four ways of four endpoints",
         nodes: TWO_BY_TWO,
         windows: OVER_TWO_AND_ONE,
         ranges: "",
@@ -145,6 +149,7 @@ const ROWS: [Row; 20] = [
         picked: "Ok([2, 3, 4, 5])",
     },
     Row {
+        name: "two ways behind a region of four",
         nodes: TWO_BY_TWO,
         windows: OVER_TWO_AND_ONE,
         ranges: FOUR_WAYS,
@@ -153,6 +158,7 @@ const ROWS: [Row; 20] = [
         picked: "Ok([2, 4])",
     },
     Row {
+        name: "three ways of two bridges",
         nodes: TWO_BY_TWO,
         windows: OVER_TWO_AND_ONE,
         ranges: FOUR_WAYS_AND_TWO,
@@ -161,6 +167,7 @@ const ROWS: [Row; 20] = [
         picked: "Err(NoSet)",
     },
     Row {
+        name: "five ways",
         nodes: TWO_BY_TWO,
         windows: OVER_TWO_AND_ONE,
         ranges: FOUR_WAYS_AND_TWO,
@@ -169,6 +176,7 @@ const ROWS: [Row; 20] = [
         picked: "Err(Ways(5))",
     },
     Row {
+        name: "a size that two ways do not share",
         nodes: TWO_BY_TWO,
         windows: OVER_TWO_AND_ONE,
         ranges: FOUR_WAYS_AND_TWO,
@@ -177,6 +185,7 @@ const ROWS: [Row; 20] = [
         picked: "Err(Size)",
     },
     Row {
+        name: "no bytes",
         nodes: TWO_BY_TWO,
         windows: OVER_TWO_AND_ONE,
         ranges: FOUR_WAYS_AND_TWO,
@@ -185,6 +194,7 @@ const ROWS: [Row; 20] = [
         picked: "Err(Size)",
     },
     Row {
+        name: "one way in the window of one bridge",
         nodes: TWO_BY_TWO,
         windows: OVER_TWO_AND_ONE,
         ranges: FOUR_WAYS_AND_TWO,
@@ -193,6 +203,7 @@ const ROWS: [Row; 20] = [
         picked: "Ok([2])",
     },
     Row {
+        name: "two ways where the first endpoint has no ram",
         nodes: FIRST_WITHOUT_RAM,
         windows: OVER_TWO_LONG,
         ranges: "",
@@ -201,6 +212,7 @@ const ROWS: [Row; 20] = [
         picked: "Ok([3, 4])",
     },
     Row {
+        name: "four ways where the first endpoint has no ram",
         nodes: FIRST_WITHOUT_RAM,
         windows: OVER_TWO_LONG,
         ranges: "",
@@ -208,8 +220,8 @@ const ROWS: [Row; 20] = [
         ways: 4,
         picked: "Err(NoSet)",
     },
-    // The only decoder of the first endpoint is committed.
     Row {
+        name: "an endpoint whose only decoder is committed",
         nodes: FIRST_WITH_ONE_DECODER,
         windows: OVER_ONE_SHORT,
         ranges: "0 2 0 0x1000000000 0x10000000 0 0",
@@ -217,8 +229,8 @@ const ROWS: [Row; 20] = [
         ways: 1,
         picked: "Ok([2])",
     },
-    // So is that of the bridge.
     Row {
+        name: "a bridge whose only decoder is committed",
         nodes: BELOW_ONE_DECODER,
         windows: OVER_ONE_SHORT,
         ranges: "0 2 0 0x1000000000 0x10000000 0 0",
@@ -226,8 +238,8 @@ const ROWS: [Row; 20] = [
         ways: 1,
         picked: "Err(NoSet)",
     },
-    // The first endpoint has a region behind the end of the first window.
     Row {
+        name: "a first endpoint with a region behind the first window",
         nodes: BELOW_FORWARDING,
         windows: THE_FIRST_TWICE,
         ranges: "2 3 0 0x300000000 0x10000000 0 0",
@@ -236,6 +248,7 @@ const ROWS: [Row; 20] = [
         picked: "Ok([3])",
     },
     Row {
+        name: "sixteen ways without thirds",
         nodes: SIXTEEN_WITHOUT_THIRDS,
         windows: OVER_TWO_LONG,
         ranges: "",
@@ -245,6 +258,7 @@ const ROWS: [Row; 20] = [
     },
     // As many ports as can be are used, each for as few endpoints as can be.
     Row {
+        name: "two ways below two switches",
         nodes: BELOW_TWO_SWITCHES,
         windows: OVER_ONE_SHORT,
         ranges: "",
@@ -253,6 +267,7 @@ const ROWS: [Row; 20] = [
         picked: "Ok([3, 5])",
     },
     Row {
+        name: "two ways below one port",
         nodes: BELOW_ONE_PORT,
         windows: OVER_ONE_SHORT,
         ranges: "",
@@ -261,6 +276,7 @@ const ROWS: [Row; 20] = [
         picked: "Ok([2, 3])",
     },
     Row {
+        name: "one way below one port",
         nodes: BELOW_ONE_PORT,
         windows: OVER_ONE_SHORT,
         ranges: "",
@@ -269,6 +285,7 @@ const ROWS: [Row; 20] = [
         picked: "Ok([3])",
     },
     Row {
+        name: "four ways of three endpoints",
         nodes: BELOW_ONE_PORT,
         windows: OVER_ONE_SHORT,
         ranges: "",

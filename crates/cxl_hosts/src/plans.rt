@@ -6,15 +6,14 @@ ghost use Rattle.cxl_topo.specs.Tree.{is_endpoint_at};
 ghost use Rattle.cxl_window.specs.Windows.{AreMadeWith};
 
 use crate::host_texts::{
-    BELOW_TWO_SWITCHES, FOUR_WAYS, ONE_OF_BOTH_KINDS, OVER_ONE, OVER_THREE_LONG, OVER_TWO,
-    OVER_TWO_LONG, RAM_THEN_PMEM, THREE_BY_ONE, THREE_BY_TWO, TWO_BY_ONE, TWO_BY_TWO,
-    TWO_FORWARDING,
+    BELOW_TWO_SWITCHES, FOUR_WAYS, ONE_OF_BOTH_KINDS, OVER_ONE, OVER_TWO, OVER_TWO_LONG,
+    RAM_THEN_PMEM, THREE_BY_ONE, TWO_BY_TWO,
 };
 use crate::hosts::{Worked, host_of};
 use crate::rows::{are_written, has_passed, numbers, shows};
 use cxl_check::check;
 use cxl_enc::{FixedList, MemKind, Name};
-use cxl_model::{Place, Plan, PlanFault, Request, Row};
+use cxl_model::{Plan, PlanFault, Request};
 use cxl_plan::plan;
 use cxl_topo::Topo;
 use std::alloc::Global;
@@ -22,11 +21,11 @@ use std::process::Abort;
 
 /// What is asked for: a kind, a size, a granularity code, where one is stated, and endpoints.
 #[derive(Drop)]
-struct Asked {
-    kind: MemKind,
-    size: u64,
-    gran: Option<u8>,
-    endpoints: &'static str,
+pub(crate) struct Asked {
+    pub(crate) kind: MemKind,
+    pub(crate) size: u64,
+    pub(crate) gran: Option<u8>,
+    pub(crate) endpoints: &'static str,
 }
 
 fn request_of(rt: &impl Abort, alloc: Global, asked: &Asked) -> Request {
@@ -76,7 +75,8 @@ fn planned(
     }
 }
 
-fn planned_over(
+/// The same over a host that is written in three texts.
+pub(crate) fn planned_over(
     rt: &impl Abort,
     alloc: Global,
     nodes: &str,
@@ -88,8 +88,9 @@ fn planned_over(
     planned(rt, alloc, &host, &request_of(rt, alloc, asked))
 }
 
-/// A host, what is asked for, and the plan's window, base, granularity code and ways, or the fault.
+/// A name, a host, what is asked for, and the plan's window, base, granularity code and ways, or the fault.
 struct Answer {
+    name: &'static str,
     nodes: &'static str,
     windows: &'static str,
     ranges: &'static str,
@@ -126,8 +127,8 @@ fn is_plan(rt: &impl Abort, alloc: Global, plan: &Plan, text: &str) -> bool {
 
 #[test]
 fn answers(rt: HostRuntime) {
-    for (i, row) in ANSWERS.iter().enumerate() {
-        has_passed(&rt, i, is_answer(&rt, rt.alloc(), row));
+    for row in ANSWERS.iter() {
+        has_passed(&rt, row.name, is_answer(&rt, rt.alloc(), row));
     }
 }
 
@@ -172,6 +173,7 @@ const RAM: MemKind = MemKind::Ram;
 
 const ANSWERS: [Answer; 21] = [
     Answer {
+        name: "four ways of four endpoints",
         nodes: TWO_BY_TWO,
         windows: OVER_TWO_LONG,
         ranges: "",
@@ -182,6 +184,7 @@ const ANSWERS: [Answer; 21] = [
         plan: "0 0x1000000000 0 4",
     },
     Answer {
+        name: "four ways, named in another order",
         nodes: TWO_BY_TWO,
         windows: OVER_TWO_LONG,
         ranges: "",
@@ -192,6 +195,7 @@ const ANSWERS: [Answer; 21] = [
         plan: "0 0x1000000000 0 4",
     },
     Answer {
+        name: "an endpoint named twice",
         nodes: TWO_BY_TWO,
         windows: OVER_TWO_LONG,
         ranges: "",
@@ -202,6 +206,7 @@ const ANSWERS: [Answer; 21] = [
         plan: "Repeat(2)",
     },
     Answer {
+        name: "three endpoints, uneven over two bridges",
         nodes: TWO_BY_TWO,
         windows: OVER_TWO_LONG,
         ranges: "",
@@ -212,6 +217,7 @@ const ANSWERS: [Answer; 21] = [
         plan: "Uneven(1)",
     },
     Answer {
+        name: "three endpoints, uneven over two switches",
         nodes: BELOW_TWO_SWITCHES,
         windows: OVER_ONE,
         ranges: "",
@@ -222,6 +228,7 @@ const ANSWERS: [Answer; 21] = [
         plan: "Uneven(0)",
     },
     Answer {
+        name: "two endpoints below one bridge of two",
         nodes: TWO_BY_TWO,
         windows: OVER_TWO_LONG,
         ranges: "",
@@ -232,6 +239,7 @@ const ANSWERS: [Answer; 21] = [
         plan: "NoWindow(FixedList { vec: [Bridges] })",
     },
     Answer {
+        name: "two ways behind a region of four",
         nodes: TWO_BY_TWO,
         windows: OVER_TWO_LONG,
         ranges: FOUR_WAYS,
@@ -242,6 +250,7 @@ const ANSWERS: [Answer; 21] = [
         plan: "0 0x1040000000 0 2",
     },
     Answer {
+        name: "two ways beside an endpoint without memory",
         nodes: FIRST_WITHOUT_MEMORY,
         windows: OVER_TWO_LONG,
         ranges: "",
@@ -252,6 +261,7 @@ const ANSWERS: [Answer; 21] = [
         plan: "0 0x1000000000 0 2",
     },
     Answer {
+        name: "four ways with an endpoint without memory",
         nodes: FIRST_WITHOUT_MEMORY,
         windows: OVER_TWO_LONG,
         ranges: "",
@@ -262,6 +272,7 @@ const ANSWERS: [Answer; 21] = [
         plan: "Span(2, NoRoom(Room { start: 0, limit: 0 }))",
     },
     Answer {
+        name: "ram behind persistent memory",
         nodes: ONE_OF_BOTH_KINDS,
         windows: OVER_ONE,
         ranges: RAM_THEN_PMEM,
@@ -272,6 +283,7 @@ const ANSWERS: [Answer; 21] = [
         plan: "Span(1, PastRam(1342177280))",
     },
     Answer {
+        name: "more persistent memory than is left",
         nodes: ONE_OF_BOTH_KINDS,
         windows: OVER_ONE,
         ranges: RAM_THEN_PMEM,
@@ -282,6 +294,7 @@ const ANSWERS: [Answer; 21] = [
         plan: "Span(1, NoRoom(Room { start: 1342177280, limit: 2147483648 }))",
     },
     Answer {
+        name: "no bytes",
         nodes: ONE_OF_BOTH_KINDS,
         windows: OVER_ONE,
         ranges: RAM_THEN_PMEM,
@@ -292,6 +305,7 @@ const ANSWERS: [Answer; 21] = [
         plan: "Size",
     },
     Answer {
+        name: "persistent memory behind ram",
         nodes: ONE_OF_BOTH_KINDS,
         windows: OVER_ONE,
         ranges: "0 2 0 0x100000000 0x10000000 0 0",
@@ -301,8 +315,8 @@ const ANSWERS: [Answer; 21] = [
         endpoints: "1",
         plan: "0 0x110000000 0 1",
     },
-    // All of the window is taken.
     Answer {
+        name: "a window that is all taken",
         nodes: TWO_BY_ONE_LARGER,
         windows: OVER_TWO,
         ranges: "0 2 0 0x100000000 0x100000000 0 0, 2 4 0 0x100000000 0x100000000 0x10 0",
@@ -312,8 +326,8 @@ const ANSWERS: [Answer; 21] = [
         endpoints: "2 3",
         plan: "NoWindow(FixedList { vec: [NoBase(Room { start: 8589934592, limit: 8589934592 })] })",
     },
-    // The only decoder of a bridge is committed.
     Answer {
+        name: "a bridge whose only decoder is committed",
         nodes: SECOND_WITH_ONE_DECODER,
         windows: OVER_TWO,
         ranges: "0 2 0 0x100000000 0x20000000 0 0, 2 4 0 0x100000000 0x20000000 0x10 0",
@@ -324,6 +338,7 @@ const ANSWERS: [Answer; 21] = [
         plan: "NoDecoder(1)",
     },
     Answer {
+        name: "five ways",
         nodes: ONE_BY_FIVE,
         windows: OVER_ONE,
         ranges: "",
@@ -334,6 +349,7 @@ const ANSWERS: [Answer; 21] = [
         plan: "Ways(5)",
     },
     Answer {
+        name: "two of five endpoints",
         nodes: ONE_BY_FIVE,
         windows: OVER_ONE,
         ranges: "",
@@ -344,6 +360,7 @@ const ANSWERS: [Answer; 21] = [
         plan: "0 0x100000000 0 2",
     },
     Answer {
+        name: "each reason of a window",
         nodes: TWO_BY_TWO_PMEM,
         windows: EACH_REASON,
         ranges: "",
@@ -354,6 +371,7 @@ const ANSWERS: [Answer; 21] = [
         plan: REASONS,
     },
     Answer {
+        name: "the first window that takes two ways",
         nodes: TWO_BY_TWO_PMEM,
         windows: EACH_REASON,
         ranges: "",
@@ -364,6 +382,7 @@ const ANSWERS: [Answer; 21] = [
         plan: "5 0x240000000 6 2",
     },
     Answer {
+        name: "three ways, named in another order",
         nodes: THREE_BY_ONE,
         windows: OVER_THREE_TWICE,
         ranges: "",
@@ -374,6 +393,7 @@ const ANSWERS: [Answer; 21] = [
         plan: "0 0x100000000 0 3",
     },
     Answer {
+        name: "an endpoint that cannot have three ways",
         nodes: SECOND_WITHOUT_THREE_WAYS,
         windows: OVER_THREE_TWICE,
         ranges: "",
@@ -382,111 +402,5 @@ const ANSWERS: [Answer; 21] = [
         gran: None,
         endpoints: "5 3 4",
         plan: "NoWindow(FixedList { vec: [WaysCap(4), WaysCap(4)] })",
-    },
-];
-
-/// Whether a text writes the node, the decoder's number, the codes of ways and granularity, base, size and tail of each row.
-fn are_rows(rt: &impl Abort, alloc: Global, rows: &[Row], text: &str) -> bool {
-    let mut numbers = Vec::new(alloc);
-    for row in rows {
-        let own = [
-            u64::from(row.node),
-            u64::from(row.index),
-            u64::from(row.decoder.ways),
-            u64::from(row.decoder.gran),
-            row.decoder.base,
-            row.decoder.size,
-            row.decoder.tail,
-        ];
-        numbers.extend_from_slice(&own).expect(rt, "memory");
-    }
-    are_written(rt, alloc, &numbers, text)
-}
-
-/// Whether a text writes the endpoint and the start of each span.
-fn are_spans(rt: &impl Abort, alloc: Global, spans: &[Place], text: &str) -> bool {
-    let mut numbers = Vec::new(alloc);
-    for place in spans {
-        let own = [u64::from(place.endpoint), place.start];
-        numbers.extend_from_slice(&own).expect(rt, "memory");
-    }
-    are_written(rt, alloc, &numbers, text)
-}
-
-/// A host after reset, the size and the endpoints of a region of ram, and the plan's rows and spans.
-struct RowsWanted {
-    nodes: &'static str,
-    windows: &'static str,
-    size: u64,
-    endpoints: &'static str,
-    rows: &'static str,
-    spans: &'static str,
-}
-
-fn has_rows(rt: &impl Abort, alloc: Global, row: &RowsWanted) -> bool {
-    let asked = Asked {
-        kind: MemKind::Ram,
-        size: row.size,
-        gran: None,
-        endpoints: row.endpoints,
-    };
-    match planned_over(rt, alloc, row.nodes, row.windows, "", &asked) {
-        Ok(plan) => {
-            are_rows(rt, alloc, plan.rows.items(), row.rows)
-                && are_spans(rt, alloc, plan.found.spans.items(), row.spans)
-        }
-        Err(_) => false,
-    }
-}
-
-#[test]
-fn rows(rt: HostRuntime) {
-    for (i, row) in ROWS.iter().enumerate() {
-        has_passed(&rt, i, has_rows(&rt, rt.alloc(), row));
-    }
-}
-
-const ROWS: [RowsWanted; 4] = [
-    // Below bridges that decode, and below bridges that forward.
-    RowsWanted {
-        nodes: TWO_BY_ONE,
-        windows: OVER_TWO,
-        size: 0x2000_0000,
-        endpoints: "2 3",
-        rows: "0 0 0 0 0x100000000 0x20000000 0  1 0 0 0 0x100000000 0x20000000 0 \
-         2 0 1 0 0x100000000 0x20000000 0  3 0 1 0 0x100000000 0x20000000 0",
-        spans: "2 0 3 0",
-    },
-    RowsWanted {
-        nodes: TWO_FORWARDING,
-        windows: OVER_TWO,
-        size: 0x2000_0000,
-        endpoints: "2 3",
-        rows: "2 0 1 0 0x100000000 0x20000000 0  3 0 1 0 0x100000000 0x20000000 0",
-        spans: "2 0 3 0",
-    },
-    // Six ways from three bridges.
-    RowsWanted {
-        nodes: THREE_BY_TWO,
-        windows: OVER_THREE_LONG,
-        size: 0x6000_0000,
-        endpoints: "3 4 5 6 7 8",
-        rows: "0 0 1 0 0x100000000 0x60000000 0x0100  1 0 1 0 0x100000000 0x60000000 0x0100 \
-         2 0 1 0 0x100000000 0x60000000 0x0100 \
-         3 0 9 0 0x100000000 0x60000000 0       4 0 9 0 0x100000000 0x60000000 0 \
-         5 0 9 0 0x100000000 0x60000000 0       6 0 9 0 0x100000000 0x60000000 0 \
-         7 0 9 0 0x100000000 0x60000000 0       8 0 9 0 0x100000000 0x60000000 0",
-        spans: "3 0 6 0 7 0 4 0 5 0 8 0",
-    },
-    // The target lists of bridges with two endpoints each.
-    RowsWanted {
-        nodes: TWO_BY_TWO,
-        windows: OVER_TWO_LONG,
-        size: 0x4000_0000,
-        endpoints: "2 3 4 5",
-        rows: "0 0 1 1 0x1000000000 0x40000000 0x0100  1 0 1 1 0x1000000000 0x40000000 0x0100 \
-         2 0 2 0 0x1000000000 0x40000000 0       3 0 2 0 0x1000000000 0x40000000 0 \
-         4 0 2 0 0x1000000000 0x40000000 0       5 0 2 0 0x1000000000 0x40000000 0",
-        spans: "2 0 4 0 3 0 5 0",
     },
 ];

@@ -40,10 +40,11 @@ fn pieces_found(
     }
 }
 
-/// A host; a record's endpoint, device address and count of units; the parts of regions that it touches, each run as its
-/// first address, its length and its region, and many runs as the first addresses of the first and of the last, their count
+/// A name; a host; a record's endpoint, device address and count of units; the parts of regions that it touches, each run as
+/// its first address, its length and its region, and many runs as the first addresses of the first and of the last, their count
 /// and their region; and how many more bytes it touches that no region has.
 struct Row {
+    name: &'static str,
     nodes: &'static str,
     windows: &'static str,
     ranges: &'static str,
@@ -106,14 +107,14 @@ fn is_told_over(rt: &impl Abort, alloc: Global, host: &Worked, row: &Row) -> boo
 
 #[test]
 fn poison(rt: HostRuntime) {
-    for (i, row) in ROWS.iter().enumerate() {
-        has_passed(&rt, i, is_told(&rt, rt.alloc(), row));
+    for row in ROWS.iter() {
+        has_passed(&rt, row.name, is_told(&rt, rt.alloc(), row));
     }
 }
 
 const ROWS: [Row; 7] = [
-    // The last 64 bytes of a span, and 64 behind it.
     Row {
+        name: "the last 64 bytes of a span, and 64 behind it",
         nodes: TWO_BY_ONE,
         windows: OVER_TWO,
         ranges: TWO_WAYS,
@@ -124,6 +125,7 @@ const ROWS: [Row; 7] = [
         unmapped: 64,
     },
     Row {
+        name: "a record of no length",
         nodes: TWO_BY_ONE,
         windows: OVER_TWO,
         ranges: TWO_WAYS,
@@ -133,8 +135,8 @@ const ROWS: [Row; 7] = [
         parts: "",
         unmapped: 0,
     },
-    // A part of one chunk, a whole one and a part of the next.
     Row {
+        name: "a part of one chunk, a whole one and a part of the next",
         nodes: TWO_BY_ONE,
         windows: OVER_TWO,
         ranges: TWO_WAYS,
@@ -144,8 +146,8 @@ const ROWS: [Row; 7] = [
         parts: "0x1000000c0 64 0  0x100000200 256 0  0x100000400 64 0",
         unmapped: 0,
     },
-    // More than 64 chunks.
     Row {
+        name: "more than 64 chunks",
         nodes: TWO_BY_ONE,
         windows: OVER_TWO,
         ranges: TWO_WAYS,
@@ -155,8 +157,8 @@ const ROWS: [Row; 7] = [
         parts: "0x1000000c0 0x100008000 65 0",
         unmapped: 0,
     },
-    // As much as a record can name, from the last device address on.
     Row {
+        name: "as much as a record can name, from the last device address on",
         nodes: TWO_BY_ONE,
         windows: OVER_TWO,
         ranges: TWO_WAYS,
@@ -166,8 +168,8 @@ const ROWS: [Row; 7] = [
         parts: "",
         unmapped: 0x3f_ffff_ffc0,
     },
-    // Six ways.
     Row {
+        name: "six ways",
         nodes: THREE_BY_TWO,
         windows: OVER_THREE_LONG,
         ranges: SIX_WAYS_FROM_THREE,
@@ -179,6 +181,7 @@ const ROWS: [Row; 7] = [
     },
     // One run of each region, in the order of the device addresses, and the bytes between them.
     Row {
+        name: "a run of each of two regions",
         nodes: ONE_OF_BOTH_KINDS,
         windows: OVER_ONE,
         ranges: RAM_THEN_PMEM,

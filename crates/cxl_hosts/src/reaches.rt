@@ -75,9 +75,10 @@ fn told_in(alloc: Global, host: &Worked, region: &Found, h: u64, len: u64) -> Op
     Some(Told { extents, spread })
 }
 
-/// A host; a range of host bytes; its extents, none for a long range, each as its host address, its length, its slot and its
-/// device address; and how many of the bytes each of the first slots has.
+/// A name; a host; a range of host bytes; its extents, none for a long range, each as its host address, its length, its slot
+/// and its device address; and how many of the bytes each of the first slots has.
 struct Row {
+    name: &'static str,
     nodes: &'static str,
     windows: &'static str,
     ranges: &'static str,
@@ -129,8 +130,8 @@ fn is_told(rt: &impl Abort, alloc: Global, row: &Row) -> bool {
 
 #[test]
 fn reaches(rt: HostRuntime) {
-    for (i, row) in ROWS.iter().enumerate() {
-        has_passed(&rt, i, is_told(&rt, rt.alloc(), row));
+    for row in ROWS.iter() {
+        has_passed(&rt, row.name, is_told(&rt, rt.alloc(), row));
     }
 }
 
@@ -139,6 +140,7 @@ const ONE_OF_2_GIB: &str = "0x382, 0x1b02 0 0 0x80000000 0";
 
 const ROWS: [Row; 8] = [
     Row {
+        name: "two chunks over three of four slots",
         nodes: TWO_BY_TWO,
         windows: OVER_TWO_LONG,
         ranges: FOUR_WAYS_LONG,
@@ -148,6 +150,7 @@ const ROWS: [Row; 8] = [
         spread: "128 256 128 0",
     },
     Row {
+        name: "seven chunks over four slots",
         nodes: TWO_BY_TWO,
         windows: OVER_TWO_LONG,
         ranges: FOUR_WAYS_LONG,
@@ -159,8 +162,8 @@ const ROWS: [Row; 8] = [
          0x1000000600 256 2 0x100  0x1000000700 128 3 0x100",
         spread: "384 512 512 384",
     },
-    // The whole region.
     Row {
+        name: "a whole region of four ways",
         nodes: TWO_BY_TWO,
         windows: OVER_TWO_LONG,
         ranges: FOUR_WAYS_LONG,
@@ -170,6 +173,7 @@ const ROWS: [Row; 8] = [
         spread: "274877906944 274877906944 274877906944 274877906944",
     },
     Row {
+        name: "three ways",
         nodes: THREE_BY_ONE,
         windows: OVER_THREE,
         ranges: THREE_WAYS,
@@ -178,8 +182,8 @@ const ROWS: [Row; 8] = [
         extents: "0x10000017f 0x81 1 0x7f  0x100000200 0x100 2 0  0x100000300 0x100 0 0x100",
         spread: "0x100 0x81 0x100",
     },
-    // One way: the second of two regions, behind the first one's span.
     Row {
+        name: "one way, the second region of its endpoint",
         nodes: ONE_OF_2_GIB,
         windows: "0x100000000 0x80000000 0 0 0x000e 0",
         ranges: "0 2 0 0x100000000 0x10000000 0 0, 0 2 1 0x110000000 0x10000000 0 0",
@@ -188,8 +192,8 @@ const ROWS: [Row; 8] = [
         extents: "0x1100000ff 0x1000 0 0x100000ff",
         spread: "0x1000",
     },
-    // By parities.
     Row {
+        name: "two ways by parities",
         nodes: TWO_BY_ONE,
         windows: OVER_TWO_XOR,
         ranges: TWO_WAYS,
@@ -199,6 +203,7 @@ const ROWS: [Row; 8] = [
         spread: "0x40 0x140",
     },
     Row {
+        name: "six ways by parities",
         nodes: SIX_BY_ONE,
         windows: OVER_SIX_XOR,
         ranges: SIX_WAYS,
@@ -208,6 +213,7 @@ const ROWS: [Row; 8] = [
         spread: "0 0 0 0x80 0x80 0x100",
     },
     Row {
+        name: "six ways but for the first byte and the last",
         nodes: SIX_BY_ONE,
         windows: OVER_SIX_XOR,
         ranges: SIX_WAYS,

@@ -45,7 +45,7 @@ pub(crate) fn shows<T: Debug>(alloc: Global, value: &T, text: &str) -> bool {
     }
 }
 
-/// Checks that the row at this place is right.
-pub(crate) fn has_passed(rt: &impl Abort, place: usize, right: bool) {
-    assert!(rt; right, "row {place}");
+/// Checks that the row of this name is right.
+pub(crate) fn has_passed(rt: &impl Abort, name: &str, right: bool) {
+    assert!(rt; right, "row {name}");
 }

@@ -131,8 +131,9 @@ fn comes_back(host: &Worked, node: u32, dpa: u64, base: u64, h: u64) -> bool
     up_from(host, node, dpa) == Some(HostByte { base, h })
 }
 
-/// A host, an address, and where it goes: a route, or the miss.
+/// A name, a host, an address, and where it goes: a route, or the miss.
 struct Row {
+    name: &'static str,
     nodes: &'static str,
     windows: &'static str,
     ranges: &'static str,
@@ -148,8 +149,8 @@ fn is_routed(rt: &impl Abort, alloc: Global, row: &Row) -> bool {
 
 #[test]
 fn routes(rt: HostRuntime) {
-    for (i, row) in ROUTES.iter().enumerate() {
-        has_passed(&rt, i, is_routed(&rt, rt.alloc(), row));
+    for row in ROUTES.iter() {
+        has_passed(&rt, row.name, is_routed(&rt, rt.alloc(), row));
     }
 }
 
@@ -181,16 +182,16 @@ const SIXTEEN_WAYS: &str = "0 1 0 0x100000000 0x100000000 0 0, \
     16 32 0 0x100000000 0x100000000 0x40 0";
 
 const ROUTES: [Row; 11] = [
-    // Two ways.
     Row {
+        name: "two ways",
         nodes: TWO_BY_ONE,
         windows: OVER_TWO,
         ranges: TWO_WAYS,
         h: 0x1_0000_0100,
         way: "1 0x100000000 3 0 0  1 0 0",
     },
-    // Three ways.
     Row {
+        name: "three ways",
         nodes: THREE_BY_ONE,
         windows: OVER_THREE,
         ranges: THREE_WAYS,
@@ -198,6 +199,7 @@ const ROUTES: [Row; 11] = [
         way: "2 0x100000000 5 0 0xfffffff  2 0 0",
     },
     Row {
+        name: "six ways from three, the second bridge",
         nodes: THREE_BY_TWO,
         windows: OVER_THREE_LONG,
         ranges: SIX_WAYS_FROM_THREE,
@@ -205,22 +207,23 @@ const ROUTES: [Row; 11] = [
         way: "1 0x100000000 5 0 0  1 0 0",
     },
     Row {
+        name: "six ways from three, the first bridge",
         nodes: THREE_BY_TWO,
         windows: OVER_THREE_LONG,
         ranges: SIX_WAYS_FROM_THREE,
         h: 0x1_0000_0600,
         way: "0 0x100000000 3 0 0x100  0 0 0",
     },
-    // Twelve ways from six.
     Row {
+        name: "twelve ways from six",
         nodes: SIX_BY_TWO,
         windows: "0x100000000 0xc0000000 0 0 0x000e 0 1 2 3 4 5",
         ranges: "0 6 0 0x100000000 0xc0000000 0x11 0x0100, 6 18 0 0x100000000 0xc0000000 0xa0 0",
         h: 0x1_0000_0b00,
         way: "5 0x100000000 17 0 0  5 0 1",
     },
-    // Two and six ways under XOR.
     Row {
+        name: "two ways under XOR",
         nodes: TWO_BY_ONE,
         windows: OVER_TWO_XOR,
         ranges: TWO_WAYS,
@@ -228,38 +231,39 @@ const ROUTES: [Row; 11] = [
         way: "1 0x100000000 3 0 0x2000  1 0 0",
     },
     Row {
+        name: "six ways under XOR",
         nodes: SIX_BY_ONE,
         windows: OVER_SIX_XOR,
         ranges: SIX_WAYS,
         h: 0x1_0000_4200,
         way: "1 0x100000000 7 0 0xb00  1 0 0",
     },
-    // The last byte of 1 TiB.
     Row {
+        name: "the last byte of 1 TiB",
         nodes: TWO_BY_TWO,
         windows: OVER_TWO_LONG,
         ranges: FOUR_WAYS_LONG,
         h: 0x10f_ffff_ffff,
         way: "1 0x1000000000 5 0 0x3fffffffff  1 0 1",
     },
-    // The second decoders, over a skip into persistent memory.
     Row {
+        name: "the second decoders, over a skip into persistent memory",
         nodes: ONE_OF_BOTH_KINDS,
         windows: OVER_ONE,
         ranges: RAM_THEN_PMEM,
         h: 0x1_1000_0000,
         way: "0 0x110000000 1 1 0x40000000  0 1 0",
     },
-    // Bridges that forward make no step.
     Row {
+        name: "bridges that forward make no step",
         nodes: TWO_FORWARDING,
         windows: OVER_TWO,
         ranges: TWO_WAYS_BELOW,
         h: 0x1_0000_0100,
         way: "1 0x100000000 3 0 0",
     },
-    // Five steps.
     Row {
+        name: "five steps",
         nodes: FIVE_LEVELS,
         windows: OVER_ONE,
         ranges: SIXTEEN_WAYS,
@@ -276,8 +280,8 @@ fn is_missed(rt: &impl Abort, alloc: Global, row: &Row) -> bool {
 
 #[test]
 fn misses(rt: HostRuntime) {
-    for (i, row) in MISSES.iter().enumerate() {
-        has_passed(&rt, i, is_missed(&rt, rt.alloc(), row));
+    for row in MISSES.iter() {
+        has_passed(&rt, row.name, is_missed(&rt, rt.alloc(), row));
     }
 }
 
@@ -285,6 +289,7 @@ const BRIDGES_ALONE: &str = "0 2 0 0x100000000 0x20000000 0 0";
 
 const MISSES: [Row; 7] = [
     Row {
+        name: "an address in no window",
         nodes: TWO_BY_ONE,
         windows: OVER_TWO,
         ranges: "",
@@ -292,6 +297,7 @@ const MISSES: [Row; 7] = [
         way: "Err(NoWindow)",
     },
     Row {
+        name: "a bridge that decodes nothing",
         nodes: TWO_BY_ONE,
         windows: OVER_TWO,
         ranges: "",
@@ -299,6 +305,7 @@ const MISSES: [Row; 7] = [
         way: "Err(NoDecoder(1))",
     },
     Row {
+        name: "an endpoint that decodes nothing",
         nodes: TWO_BY_ONE,
         windows: OVER_TWO,
         ranges: BRIDGES_ALONE,
@@ -306,6 +313,7 @@ const MISSES: [Row; 7] = [
         way: "Err(NoDecoder(2))",
     },
     Row {
+        name: "an address behind the bridges' range",
         nodes: TWO_BY_ONE,
         windows: OVER_TWO,
         ranges: BRIDGES_ALONE,
@@ -313,14 +321,15 @@ const MISSES: [Row; 7] = [
         way: "Err(NoDecoder(0))",
     },
     Row {
+        name: "a port at which no child stands",
         nodes: TWO_BY_ONE,
         windows: OVER_TWO,
         ranges: "0 2 0 0x100000000 0x20000000 0 7",
         h: 0x1_0000_0000,
         way: "Err(NoChild(0))",
     },
-    // Bridges that forward, with nothing below.
     Row {
+        name: "bridges that forward, with nothing below",
         nodes: "0x10, 0x10",
         windows: OVER_TWO,
         ranges: "",
@@ -328,6 +337,7 @@ const MISSES: [Row; 7] = [
         way: "Err(NoChild(1))",
     },
     Row {
+        name: "a committed decoder of no bytes",
         nodes: TWO_BY_ONE,
         windows: OVER_TWO,
         ranges: "0 2 0 0x100000000 0 0 0",
@@ -336,8 +346,10 @@ const MISSES: [Row; 7] = [
     },
 ];
 
-/// Committed decoders of two bridges, a byte of the second endpoint's device, and the host address that comes back from it.
+/// A name, committed decoders of two bridges, a byte of the second endpoint's device, and the host address that comes back from
+/// it.
 struct Back {
+    name: &'static str,
     ranges: &'static str,
     dpa: u64,
     h: Option<u64>,
@@ -353,28 +365,32 @@ fn is_back(rt: &impl Abort, alloc: Global, row: &Back) -> bool {
 
 #[test]
 fn ways_back(rt: HostRuntime) {
-    for (i, row) in BACK.iter().enumerate() {
-        has_passed(&rt, i, is_back(&rt, rt.alloc(), row));
+    for row in BACK.iter() {
+        has_passed(&rt, row.name, is_back(&rt, rt.alloc(), row));
     }
 }
 
 const BACK: [Back; 4] = [
     Back {
+        name: "the first byte",
         ranges: TWO_WAYS,
         dpa: 0,
         h: Some(0x1_0000_0100),
     },
     Back {
+        name: "the last byte of the share",
         ranges: TWO_WAYS,
         dpa: 0xfff_ffff,
         h: Some(0x1_1fff_ffff),
     },
     Back {
+        name: "the byte behind the share",
         ranges: TWO_WAYS,
         dpa: 0x1000_0000,
         h: None,
     },
     Back {
+        name: "an endpoint that decodes nothing",
         ranges: "",
         dpa: 0,
         h: None,

@@ -9,7 +9,7 @@ ghost use Rattle.cxl_session.specs.Standing.{Stands, StandsFor};
 
 use crate::guest_stores::windows_of;
 use crate::host_files::ONE_FRAME;
-use crate::rows::{changed, has_passed, numbers};
+use crate::rows::{changed, has_passed};
 use crate::scripts::Script;
 use crate::tables::TWO_BRIDGES;
 use cxl_bus::{FailingBus, Regs, SimBus};
@@ -34,7 +34,7 @@ fn start_image(rt: &impl Abort, alloc: Global, script: &Script, topo: &Topo) -> 
     if script.image.is_empty() {
         return Image::new(alloc, topo).expect(rt, "memory");
     }
-    let image = changed(rt, alloc, script.image, script.changes, 4);
+    let image = changed(rt, alloc, script.image, script.changes);
     read_image(alloc, &image, topo).expect(rt, "an image")
 }
 
@@ -175,7 +175,8 @@ fn comes_to<R: Regs, M: Roll>(
 
 /// The same over a bus that fails at the script's calls; and over the simulators' bus, where none is to fail.
 fn comes_to_over<M: Roll>(rt: &impl Abort, alloc: Global, script: &Script, media: &mut M) -> bool {
-    let mut failing = FailingBus::new(alloc, numbers(rt, alloc, script.fails));
+    let fails = Vec::from_slice(alloc, script.fails).expect(rt, "memory");
+    let mut failing = FailingBus::new(alloc, fails);
     let mut sim = SimBus::new(alloc);
     comes_to(rt, alloc, script, &mut failing, media)
         && (!script.fails.is_empty() || comes_to(rt, alloc, script, &mut sim, media))
@@ -192,11 +193,12 @@ pub(crate) fn comes_to_by_commands(rt: &impl Abort, alloc: Global, script: &Scri
 
 /// Two bridges with an endpoint each, after reset, and one frame.
 pub(crate) const HOST: Script = Script {
+    name: "two bridges",
     table: TWO_BRIDGES,
     topology: ONE_FRAME,
     image: "",
-    changes: "",
-    fails: "",
+    changes: &[],
+    fails: &[],
     lines: "",
     code: 0,
     text: "",
@@ -360,9 +362,9 @@ fn all_keep<R: Regs, M: Roll>(
     media: &mut M,
 ) {
     let mut session = opened(rt, alloc, &HOST, regs, media).expect(rt, "a session");
-    for (i, row) in rows.iter().enumerate() {
+    for row in rows {
         replies(rt, alloc, &mut session, row.line, regs, media);
-        has_passed(rt, i, keeps(&session, row));
+        has_passed(rt, row.line, keeps(&session, row));
     }
 }
 

@@ -1,12 +1,12 @@
-//! Worked rows of `check`: images, topology files with a fault, and images of real machines.
+//! Worked rows of `check`: images, and topology files with a fault.
 
 use crate::host_files::{
     AFTER_RESET, FIRST_REGION, FORWARDED, FORWARDED_DECODING, IN_THIRDS, THREE_ENDPOINTS,
     TWO_ENDPOINTS, TWO_ENDPOINTS_FORWARDED,
 };
+use crate::rows::Change::{self, Len, Word};
 use crate::rows::{bytes, changed, ends, files_of, has_passed, words_of};
 use crate::tables::{THREE_BRIDGES, TWO_BRIDGES, TWO_WINDOWS};
-use crate::{findings, real_hosts, real_images};
 use std::alloc::Global;
 use std::process::Abort;
 
@@ -16,30 +16,32 @@ slot 0 e0 0x0
 slot 1 e1 0x0
 ";
 
-/// The digits of a table, a topology, the digits of an image and changes of its words, the number of the fetch that
+/// A name, the digits of a table, a topology, the digits of an image and changes of it, the number of the fetch that
 /// fails or 0, the exit status and the text.
-struct Row {
-    table: &'static str,
-    topology: &'static str,
-    image: &'static str,
-    changes: &'static str,
-    fail: u64,
-    code: u8,
-    text: &'static str,
+pub(crate) struct Row {
+    pub(crate) name: &'static str,
+    pub(crate) table: &'static str,
+    pub(crate) topology: &'static str,
+    pub(crate) image: &'static str,
+    pub(crate) changes: &'static [Change],
+    pub(crate) fail: u64,
+    pub(crate) code: u8,
+    pub(crate) text: &'static str,
 }
 
 /// Whether `check` ends with this exit status and this text over a table, a topology and an image.
 fn is_checked(rt: &impl Abort, alloc: Global, row: &Row) -> bool {
-    let image = changed(rt, alloc, row.image, row.changes, 4);
+    let image = changed(rt, alloc, row.image, row.changes);
     let table = bytes(rt, alloc, row.table);
     let mut files = files_of(rt, alloc, table, row.topology, image, row.fail);
     let words = words_of(rt, alloc, "check table topology image");
     ends(rt, alloc, &words, &mut files, row.code, row.text.as_bytes())
 }
 
-fn are_checked(rt: &(impl Abort + AllocGlobal), rows: &[Row]) {
-    for (i, row) in rows.iter().enumerate() {
-        has_passed(rt, i, is_checked(rt, rt.alloc(), row));
+/// Checks each row.
+pub(crate) fn are_checked(rt: &(impl Abort + AllocGlobal), rows: &[Row]) {
+    for row in rows {
+        has_passed(rt, row.name, is_checked(rt, rt.alloc(), row));
     }
 }
 
@@ -51,189 +53,218 @@ fn images(rt: HostRuntime) {
 }
 
 const IMAGES: [Row; 20] = [
-    // The first region, and with other words.
     Row {
+        name: "the first region",
         table: TWO_BRIDGES,
         topology: TWO_ENDPOINTS,
         image: FIRST_REGION,
-        changes: "",
+        changes: &[],
         fail: 0,
         code: 0,
         text: FIRST_REGION_TEXT,
     },
     Row {
+        name: "a bridge of the window without the range",
         table: TWO_BRIDGES,
         topology: TWO_ENDPOINTS,
         image: FIRST_REGION,
-        changes: "188 0x1000",
+        changes: &[Word(188, 0x1000)],
         fail: 0,
         code: 8,
         text: "breach K10 hb0 0\n",
     },
     Row {
+        name: "another granularity than the window's",
         table: TWO_BRIDGES,
         topology: TWO_ENDPOINTS,
         image: FIRST_REGION,
-        changes: "332 0x1611",
+        changes: &[Word(332, 0x1611)],
         fail: 0,
         code: 8,
         text: "breach K12 e0 0\n",
     },
     Row {
+        name: "a range to which no bridge leads",
         table: TWO_BRIDGES,
         topology: TWO_ENDPOINTS,
         image: FIRST_REGION,
-        changes: "348 0x20000000 352 1 356 0x20000000 364 0x1610",
+        changes: &[
+            Word(348, 0x2000_0000),
+            Word(352, 1),
+            Word(356, 0x2000_0000),
+            Word(364, 0x1610),
+        ],
         fail: 0,
         code: 8,
         text: "breach K11 e0 1\n",
     },
     Row {
+        name: "a decoder with its error bit set",
         table: TWO_BRIDGES,
         topology: TWO_ENDPOINTS,
         image: FIRST_REGION,
-        changes: "476 0x1e10",
+        changes: &[Word(476, 0x1e10)],
         fail: 0,
         code: 8,
         text: "breach K3 e1 0\n",
     },
-    // An image after reset has no region.
     Row {
+        name: "an image after reset",
         table: TWO_BRIDGES,
         topology: TWO_ENDPOINTS,
         image: AFTER_RESET,
-        changes: "",
+        changes: &[],
         fail: 0,
         code: 0,
         text: "",
     },
-    // Bridges that forward decode nothing: with a committed decoder they break a rule.
     Row {
+        name: "bridges that forward",
         table: TWO_BRIDGES,
         topology: TWO_ENDPOINTS_FORWARDED,
         image: FORWARDED,
-        changes: "",
+        changes: &[],
         fail: 0,
         code: 0,
         text: FIRST_REGION_TEXT,
     },
     Row {
+        name: "a bridge that forwards and decodes",
         table: TWO_BRIDGES,
         topology: TWO_ENDPOINTS_FORWARDED,
         image: FORWARDED_DECODING,
-        changes: "",
+        changes: &[],
         fail: 0,
         code: 8,
         text: "breach K11 hb0 0\n",
     },
-    // A region of three ways whose base is no multiple of 768 MiB from the window's.
     Row {
+        name: "three ways at no multiple of 768 MiB from the window's base",
         table: THREE_BRIDGES,
         topology: THREE_ENDPOINTS,
         image: IN_THIRDS,
-        changes: "",
+        changes: &[],
         fail: 0,
         code: 8,
         text: "breach K9 hb0 0\n",
     },
     // A region of one way has no granularity, whatever code its decoder has.
     Row {
+        name: "one way with another granularity code",
         table: TWO_WINDOWS,
         topology: TWO_ENDPOINTS,
         image: FIRST_REGION,
-        changes: "176 0 180 0 188 0 332 0x1602 464 0 468 0 476 0",
+        changes: &[
+            Word(176, 0),
+            Word(180, 0),
+            Word(188, 0),
+            Word(332, 0x1602),
+            Word(464, 0),
+            Word(468, 0),
+            Word(476, 0),
+        ],
         fail: 0,
         code: 0,
         text: "region 0x100000000 size 0x20000000 window 0 gran 256 ways 1 ram\nslot 0 e0 0x0\n",
     },
     // Each fault of an image file.
     Row {
+        name: "an image that is cut",
         table: TWO_BRIDGES,
         topology: TWO_ENDPOINTS,
         image: FIRST_REGION,
-        changes: "11",
+        changes: &[Len(11)],
         fail: 0,
         code: 10,
         text: "error: image cut 11\n",
     },
     Row {
+        name: "another magic",
         table: TWO_BRIDGES,
         topology: TWO_ENDPOINTS,
         image: FIRST_REGION,
-        changes: "0 0",
+        changes: &[Word(0, 0)],
         fail: 0,
         code: 10,
         text: "error: image magic\n",
     },
     Row {
+        name: "an image of five nodes",
         table: TWO_BRIDGES,
         topology: TWO_ENDPOINTS,
         image: FIRST_REGION,
-        changes: "8 5",
+        changes: &[Word(8, 5)],
         fail: 0,
         code: 10,
         text: "error: image nodes 5\n",
     },
     Row {
+        name: "another capability word",
         table: TWO_BRIDGES,
         topology: TWO_ENDPOINTS,
         image: FIRST_REGION,
-        changes: "300 0x1b03",
+        changes: &[Word(300, 0x1b03)],
         fail: 0,
         code: 10,
         text: "error: image caps 2\n",
     },
     Row {
+        name: "a byte behind the last block",
         table: TWO_BRIDGES,
         topology: TWO_ENDPOINTS,
         image: FIRST_REGION,
-        changes: "589",
+        changes: &[Len(589)],
         fail: 0,
         code: 10,
         text: "error: image trailing 588\n",
     },
     // The files are asked for in the order of the words, each once it is known that those before have a reading.
     Row {
+        name: "a table that cannot be read",
         table: TWO_BRIDGES,
         topology: TWO_ENDPOINTS,
         image: FIRST_REGION,
-        changes: "",
+        changes: &[],
         fail: 1,
         code: 2,
         text: "error: cannot read table\n",
     },
     Row {
+        name: "a topology that cannot be read",
         table: TWO_BRIDGES,
         topology: TWO_ENDPOINTS,
         image: FIRST_REGION,
-        changes: "",
+        changes: &[],
         fail: 2,
         code: 2,
         text: "error: cannot read topology\n",
     },
     Row {
+        name: "an image that cannot be read",
         table: TWO_BRIDGES,
         topology: TWO_ENDPOINTS,
         image: FIRST_REGION,
-        changes: "",
+        changes: &[],
         fail: 3,
         code: 2,
         text: "error: cannot read image\n",
     },
     Row {
+        name: "a short table before a topology that cannot be read",
         table: "00",
         topology: "[[bridge",
         image: FIRST_REGION,
-        changes: "",
+        changes: &[],
         fail: 2,
         code: 3,
         text: "error: table short\n",
     },
     Row {
+        name: "an image that is too large",
         table: TWO_BRIDGES,
         topology: TWO_ENDPOINTS,
         image: FIRST_REGION,
-        changes: "1048577",
+        changes: &[Len(1_048_577)],
         fail: 0,
         code: 12,
         text: "error: image too large\n",
@@ -248,252 +279,143 @@ fn topologies(rt: HostRuntime) {
 
 const TOPOLOGIES: [Row; 14] = [
     Row {
+        name: "no TOML document",
         table: TWO_BRIDGES,
         topology: "[[bridge",
         image: FIRST_REGION,
-        changes: "",
+        changes: &[],
         fail: 0,
         code: 4,
         text: "error: topology toml\n",
     },
     Row {
+        name: "an unknown key",
         table: TWO_BRIDGES,
         topology: "speed = 3",
         image: FIRST_REGION,
-        changes: "",
+        changes: &[],
         fail: 0,
         code: 4,
         text: "error: topology key top unknown\n",
     },
     Row {
+        name: "no frames",
         table: TWO_BRIDGES,
         topology: "frames = 0",
         image: FIRST_REGION,
-        changes: "",
+        changes: &[],
         fail: 0,
         code: 4,
         text: "error: topology range top frames\n",
     },
     Row {
+        name: "a number in place of endpoints",
         table: TWO_BRIDGES,
         topology: "endpoint = 5",
         image: FIRST_REGION,
-        changes: "",
+        changes: &[],
         fail: 0,
         code: 4,
         text: "error: topology kind top endpoint\n",
     },
     Row {
+        name: "three decoders",
         table: TWO_BRIDGES,
         topology: "bridge = [{ name = 'hb0', uid = 0, decoders = 3 }]",
         image: FIRST_REGION,
-        changes: "",
+        changes: &[],
         fail: 0,
         code: 4,
         text: "error: topology range bridge 0 decoders\n",
     },
     Row {
+        name: "a switch without a parent",
         table: TWO_BRIDGES,
         topology: "switch = [{ name = 's0' }]",
         image: FIRST_REGION,
-        changes: "",
+        changes: &[],
         fail: 0,
         code: 4,
         text: "error: topology key switch 0 parent\n",
     },
     Row {
+        name: "a text in place of a port",
         table: TWO_BRIDGES,
         topology: "bridge = [{ name = 'b', uid = 0 }]\nendpoint = [{ name = 'e', parent = 'b', port = 0 }, { name = 'f', parent = 'b', port = 'x' }]",
         image: FIRST_REGION,
-        changes: "",
+        changes: &[],
         fail: 0,
         code: 4,
         text: "error: topology kind endpoint 1 port\n",
     },
     Row {
+        name: "a parent that is not there",
         table: TWO_BRIDGES,
         topology: "endpoint = [{ name = 'e', parent = 'b', port = 0 }]",
         image: FIRST_REGION,
-        changes: "",
+        changes: &[],
         fail: 0,
         code: 4,
         text: "error: topology no-parent 0\n",
     },
     Row {
+        name: "two endpoints at one port",
         table: TWO_BRIDGES,
         topology: "bridge = [{ name = 'b', uid = 0 }]\nendpoint = [{ name = 'e', parent = 'b', port = 0 }, { name = 'f', parent = 'b', port = 0 }]",
         image: FIRST_REGION,
-        changes: "",
+        changes: &[],
         fail: 0,
         code: 4,
         text: "error: topology port-taken 2\n",
     },
     Row {
+        name: "two endpoints below a bridge that forwards",
         table: TWO_BRIDGES,
         topology: "bridge = [{ name = 'a', uid = 0, passthrough = true }, { name = 'b', uid = 1 }]\nendpoint = [{ name = 'e', parent = 'a', port = 0 }, { name = 'f', parent = 'a', port = 1 }]",
         image: FIRST_REGION,
-        changes: "",
+        changes: &[],
         fail: 0,
         code: 4,
         text: "error: topology forks 3\n",
     },
     Row {
+        name: "a name twice",
         table: TWO_BRIDGES,
         topology: "bridge = [{ name = 'a', uid = 0 }, { name = 'a', uid = 1 }]",
         image: FIRST_REGION,
-        changes: "",
+        changes: &[],
         fail: 0,
         code: 4,
         text: "error: topology name-taken 1\n",
     },
     Row {
+        name: "a UID twice",
         table: TWO_BRIDGES,
         topology: "bridge = [{ name = 'a', uid = 7 }, { name = 'b', uid = 7 }]",
         image: FIRST_REGION,
-        changes: "",
+        changes: &[],
         fail: 0,
         code: 4,
         text: "error: topology uid-taken 1\n",
     },
     Row {
+        name: "five levels of switches",
         table: TWO_BRIDGES,
         topology: "bridge = [{ name = 'b', uid = 0 }]\nswitch = [{ name = 's', parent = 'b', port = 0 }, { name = 't', parent = 's', port = 0 }, { name = 'u', parent = 't', port = 0 }, { name = 'v', parent = 'u', port = 0 }, { name = 'w', parent = 'v', port = 0 }]",
         image: FIRST_REGION,
-        changes: "",
+        changes: &[],
         fail: 0,
         code: 4,
         text: "error: topology depth 5\n",
     },
     Row {
+        name: "a capacity of one byte",
         table: TWO_BRIDGES,
         topology: "bridge = [{ name = 'b', uid = 0 }]\nendpoint = [{ name = 'e', parent = 'b', port = 0, ram = 1 }]",
         image: FIRST_REGION,
-        changes: "",
+        changes: &[],
         fail: 0,
         code: 4,
         text: "error: topology capacity 1\n",
-    },
-];
-
-/// What Linux programmed under QEMU: each is accepted, with these regions. And images made from the last one by other
-/// words, as byte places and values: Linux commits the first two, and bytes are then lost; it refuses the others, too.
-#[test]
-fn real_images(rt: HostRuntime) {
-    are_checked(&rt, &REAL);
-}
-
-const REAL: [Row; 12] = [
-    Row {
-        table: real_hosts::X2_BRIDGES_TABLE,
-        topology: real_hosts::X2_BRIDGES_TOPOLOGY,
-        image: real_images::X2_BRIDGES,
-        changes: "",
-        fail: 0,
-        code: 0,
-        text: findings::X2_BRIDGES_REGIONS,
-    },
-    Row {
-        table: real_hosts::X4_SWITCHES_TABLE,
-        topology: real_hosts::X4_SWITCHES_TOPOLOGY,
-        image: real_images::X4_SWITCHES,
-        changes: "",
-        fail: 0,
-        code: 0,
-        text: findings::X4_SWITCHES_REGIONS,
-    },
-    Row {
-        table: real_hosts::X8_TWO_WINDOWS_TABLE,
-        topology: real_hosts::X8_TWO_WINDOWS_TOPOLOGY,
-        image: real_images::X8_TWO_WINDOWS,
-        changes: "",
-        fail: 0,
-        code: 0,
-        text: findings::X8_TWO_WINDOWS_REGIONS,
-    },
-    Row {
-        table: real_hosts::X6_THREE_WAYS_TABLE,
-        topology: real_hosts::X6_THREE_WAYS_TOPOLOGY,
-        image: real_images::X6_THREE_WAYS,
-        changes: "",
-        fail: 0,
-        code: 0,
-        text: findings::X6_THREE_WAYS_REGIONS,
-    },
-    Row {
-        table: real_hosts::RAM_AND_PMEM_TABLE,
-        topology: real_hosts::RAM_AND_PMEM_TOPOLOGY,
-        image: real_images::RAM_AND_PMEM,
-        changes: "",
-        fail: 0,
-        code: 0,
-        text: findings::RAM_AND_PMEM_REGIONS,
-    },
-    Row {
-        table: real_hosts::SINGLE_PORTS_TABLE,
-        topology: real_hosts::SINGLE_PORTS_TOPOLOGY,
-        image: real_images::SINGLE_PORTS,
-        changes: "",
-        fail: 0,
-        code: 0,
-        text: findings::SINGLE_PORTS_REGIONS,
-    },
-    Row {
-        table: real_hosts::LOCKED_TABLE,
-        topology: real_hosts::LOCKED_TOPOLOGY,
-        image: real_images::LOCKED,
-        changes: "",
-        fail: 0,
-        code: 0,
-        text: findings::LOCKED_REGIONS,
-    },
-    // The endpoints interleave by 512 bytes below bridges by 1,024.
-    Row {
-        table: real_hosts::LOCKED_TABLE,
-        topology: real_hosts::LOCKED_TOPOLOGY,
-        image: real_images::LOCKED,
-        changes: "44 0x1612 188 0x1612 332 0x1621 476 0x1621 620 0x1621 764 0x1621",
-        fail: 0,
-        code: 8,
-        text: "breach K12 hb16 0\n",
-    },
-    // One endpoint interleaves by other bytes than the others.
-    Row {
-        table: real_hosts::LOCKED_TABLE,
-        topology: real_hosts::LOCKED_TOPOLOGY,
-        image: real_images::LOCKED,
-        changes: "44 0x1611 188 0x1611 332 0x1620 476 0x1620 620 0x1620 764 0x1621",
-        fail: 0,
-        code: 8,
-        text: "breach K12 d4 0\n",
-    },
-    // The second decoder of an endpoint, and not the first.
-    Row {
-        table: real_hosts::LOCKED_TABLE,
-        topology: real_hosts::LOCKED_TOPOLOGY,
-        image: real_images::LOCKED,
-        changes: "44 0x1611 188 0x1611 316 0x0 320 0x0 324 0x0 332 0x0 348 0x10000000 352 0x1 356 0x40000000 364 0x1620 476 0x1620 620 0x1620 764 0x1620",
-        fail: 0,
-        code: 8,
-        text: "breach K2 d1 1\n",
-    },
-    // A bridge lists one port twice.
-    Row {
-        table: real_hosts::LOCKED_TABLE,
-        topology: real_hosts::LOCKED_TOPOLOGY,
-        image: real_images::LOCKED,
-        changes: "44 0x1611 48 0x0 188 0x1611 332 0x1620 476 0x1620 620 0x1620 764 0x1620",
-        fail: 0,
-        code: 8,
-        text: "breach K10 hb16 0\n",
-    },
-    // The skip of an endpoint leads past its memory.
-    Row {
-        table: real_hosts::LOCKED_TABLE,
-        topology: real_hosts::LOCKED_TOPOLOGY,
-        image: real_images::LOCKED,
-        changes: "44 0x1611 188 0x1611 332 0x1620 336 0x10000000 476 0x1620 620 0x1620 764 0x1620",
-        fail: 0,
-        code: 8,
-        text: "breach K8 d1 0\n",
     },
 ];

@@ -42,8 +42,9 @@ impl Regs for CountingBus {
     }
 }
 
-/// A script over two bridges with an endpoint each, and how often its run reads registers and writes them.
+/// A name, a script over two bridges with an endpoint each, and how often its run reads registers and writes them.
 struct Count {
+    name: &'static str,
     script: &'static str,
     read: u32,
     written: u32,
@@ -52,33 +53,39 @@ struct Count {
 const COUNTS: [Count; 6] = [
     // A word enables each endpoint.
     Count {
+        name: "no line",
         script: "",
         read: 0,
         written: 2,
     },
     Count {
+        name: "a create",
         script: "create r0 ram 0x20000000 e0 e1\n",
         read: 0,
         written: 34,
     },
     // A step reads no word before it writes it.
     Count {
+        name: "five steps of a create",
         script: "begin create r0 ram 0x20000000 e0 e1\nstep 5\n",
         read: 0,
         written: 7,
     },
     Count {
+        name: "five steps that are taken back",
         script: "begin create r0 ram 0x20000000 e0 e1\nstep 5\nabort\n",
         read: 0,
         written: 12,
     },
     // Seven words of each of four decoders are shown, each read once.
     Count {
+        name: "a create that is shown",
         script: "create r0 ram 0x20000000 e0 e1\nshow r0\n",
         read: 28,
         written: 34,
     },
     Count {
+        name: "a create, a store, a load and a destroy",
         script: "create r0 ram 0x20000000 e0 e1\nstore 0x100000000 11\nload 0x100000000 1\ndestroy r0\n",
         read: 0,
         written: 38,
@@ -114,7 +121,7 @@ fn counts(rt: &impl Abort, alloc: Global, row: &Count) -> bool {
 
 #[test]
 fn calls_of_the_bus(rt: HostRuntime) {
-    for (i, row) in COUNTS.iter().enumerate() {
-        has_passed(&rt, i, counts(&rt, rt.alloc(), row));
+    for row in COUNTS.iter() {
+        has_passed(&rt, row.name, counts(&rt, rt.alloc(), row));
     }
 }

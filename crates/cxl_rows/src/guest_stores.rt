@@ -42,8 +42,9 @@ fn image_of(rt: &impl Abort, alloc: Global, digits: &str, topo: &Topo) -> Image
     }
 }
 
-/// The digits of a table, a topology, the digits of an image, and stores of a guest in lines.
+/// A name, the digits of a table, a topology, the digits of an image, and stores of a guest in lines.
 struct Row {
+    name: &'static str,
     table: &'static str,
     topology: &'static str,
     image: &'static str,
@@ -118,8 +119,8 @@ fn are_led(rt: &impl Abort, alloc: Global, row: &Row) -> bool {
 
 /// Checks each row.
 fn all_are_led(rt: &(impl Abort + AllocGlobal), rows: &[Row]) {
-    for (i, row) in rows.iter().enumerate() {
-        has_passed(rt, i, are_led(rt, rt.alloc(), row));
+    for row in rows {
+        has_passed(rt, row.name, are_led(rt, rt.alloc(), row));
     }
 }
 
@@ -130,36 +131,42 @@ fn real_stores(rt: HostRuntime) {
 
 const ROWS: [Row; 6] = [
     Row {
+        name: "two bridges",
         table: real_hosts::X2_BRIDGES_TABLE,
         topology: real_hosts::X2_BRIDGES_TOPOLOGY,
         image: real_images::X2_BRIDGES,
         stores: stores::X2_BRIDGES_STORES,
     },
     Row {
+        name: "four ways through switches",
         table: real_hosts::X4_SWITCHES_TABLE,
         topology: real_hosts::X4_SWITCHES_TOPOLOGY,
         image: real_images::X4_SWITCHES,
         stores: stores::X4_SWITCHES_STORES,
     },
     Row {
+        name: "two windows and eight ways",
         table: real_hosts::X8_TWO_WINDOWS_TABLE,
         topology: real_hosts::X8_TWO_WINDOWS_TOPOLOGY,
         image: real_images::X8_TWO_WINDOWS,
         stores: stores::X8_TWO_WINDOWS_STORES,
     },
     Row {
+        name: "six ways from three",
         table: real_hosts::X6_THREE_WAYS_TABLE,
         topology: real_hosts::X6_THREE_WAYS_TOPOLOGY,
         image: real_images::X6_THREE_WAYS,
         stores: stores::X6_THREE_WAYS_STORES,
     },
     Row {
+        name: "ram and pmem on the same devices",
         table: real_hosts::RAM_AND_PMEM_TABLE,
         topology: real_hosts::RAM_AND_PMEM_TOPOLOGY,
         image: real_images::RAM_AND_PMEM,
         stores: stores::RAM_AND_PMEM_STORES,
     },
     Row {
+        name: "bridges with one root port",
         table: real_hosts::SINGLE_PORTS_TABLE,
         topology: real_hosts::SINGLE_PORTS_TOPOLOGY,
         image: real_images::SINGLE_PORTS,

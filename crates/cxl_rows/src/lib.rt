@@ -28,6 +28,8 @@ mod outside;
 #[cfg(test)]
 mod plan_lines;
 #[cfg(test)]
+mod real_checks;
+#[cfg(test)]
 mod real_hosts;
 #[cfg(test)]
 mod real_images;

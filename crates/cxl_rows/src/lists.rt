@@ -1,6 +1,7 @@
 //! Worked rows of `list` and `normal`: the verdicts of tables, and their normal forms.
 
-use crate::rows::{Row, answers, are_answered, bytes, changed, has_passed};
+use crate::rows::Change::{self, Byte, Len};
+use crate::rows::{Row, answers, are_answered, bytes, changed, has_passed, has_passed_at};
 use crate::tables::{TWO_BRIDGES, TWO_BRIDGES_XOR};
 use crate::{listings, real_tables};
 use std::alloc::Global;
@@ -36,198 +37,232 @@ fn lists(rt: HostRuntime) {
 }
 
 const LISTS: &[Row] = &[
-    // The two-bridge table with a record of type 4 behind it.
     Row {
+        name: "two bridges and a record of type 4",
         line: LIST,
         table: TWO_BRIDGES,
-        changes: "152 4 0x98 9 0xa8 144 4 146 8 148 0xaa 149 0xbb 150 0xcc 151 0xdd",
+        changes: &[
+            Len(152),
+            Byte(4, 0x98),
+            Byte(9, 0xa8),
+            Byte(144, 4),
+            Byte(146, 8),
+            Byte(148, 0xaa),
+            Byte(149, 0xbb),
+            Byte(150, 0xcc),
+            Byte(151, 0xdd),
+        ],
         code: 0,
         text: RECORDS,
     },
-    // XOR arithmetic, with no map and with one.
     Row {
+        name: "XOR arithmetic with no map",
         line: LIST,
         table: TWO_BRIDGES,
-        changes: "125 0x01 9 0xc9",
+        changes: &[Byte(125, 0x01), Byte(9, 0xc9)],
         code: 0,
         text: NO_MAP,
     },
     Row {
+        name: "XOR arithmetic with one map",
         line: LIST,
         table: TWO_BRIDGES_XOR,
-        changes: "",
+        changes: &[],
         code: 0,
         text: ONE_MAP,
     },
     // The tables that other programs made.
     Row {
+        name: "by QEMU, two bridges",
         line: LIST,
         table: real_tables::QEMU_TWO,
-        changes: "",
+        changes: &[],
         code: 0,
         text: listings::QEMU_TWO,
     },
     Row {
+        name: "by QEMU, one bridge",
         line: LIST,
         table: real_tables::QEMU_SWITCH,
-        changes: "",
+        changes: &[],
         code: 0,
         text: listings::QEMU_SWITCH,
     },
     Row {
+        name: "by QEMU, three bridges",
         line: LIST,
         table: real_tables::QEMU_THREE,
-        changes: "",
+        changes: &[],
         code: 0,
         text: listings::QEMU_THREE,
     },
     Row {
+        name: "by QEMU, eight bridges",
         line: LIST,
         table: real_tables::QEMU_EIGHT,
-        changes: "",
+        changes: &[],
         code: 0,
         text: listings::QEMU_EIGHT,
     },
     Row {
+        name: "by QEMU, repeated targets",
         line: LIST,
         table: real_tables::QEMU_SAME_TARGET,
-        changes: "",
+        changes: &[],
         code: 0,
         text: listings::QEMU_SAME_TARGET,
     },
     Row {
+        name: "by iasl, XOR arithmetic",
         line: LIST,
         table: real_tables::IASL_XOR,
-        changes: "",
+        changes: &[],
         code: 0,
         text: listings::IASL_XOR,
     },
     Row {
+        name: "by iasl, records in mixed order",
         line: LIST,
         table: real_tables::IASL_MIXED_ORDER,
-        changes: "",
+        changes: &[],
         code: 0,
         text: listings::IASL_MIXED_ORDER,
     },
     Row {
+        name: "by iasl, a CXL 1.1 bridge",
         line: LIST,
         table: real_tables::IASL_CXL_1_1,
-        changes: "",
+        changes: &[],
         code: 0,
         text: listings::IASL_CXL_1_1,
     },
     Row {
+        name: "list, a window longer than its ways demand",
         line: LIST,
         table: real_tables::LONG_WINDOW,
-        changes: "",
+        changes: &[],
         code: 3,
         text: listings::LONG_WINDOW,
     },
     Row {
+        name: "normal, a window longer than its ways demand",
         line: NORMAL,
         table: real_tables::LONG_WINDOW,
-        changes: "",
+        changes: &[],
         code: 3,
         text: listings::LONG_WINDOW,
     },
     // Faults.
     Row {
+        name: "list, another sum",
         line: LIST,
         table: TWO_BRIDGES,
-        changes: "9 0xcb",
+        changes: &[Byte(9, 0xcb)],
         code: 3,
         text: "error: table checksum\n",
     },
     Row {
+        name: "normal, another sum",
         line: NORMAL,
         table: TWO_BRIDGES,
-        changes: "9 0xcb",
+        changes: &[Byte(9, 0xcb)],
         code: 3,
         text: "error: table checksum\n",
     },
     Row {
+        name: "list, an unknown ways code",
         line: LIST,
         table: TWO_BRIDGES,
-        changes: "124 0x05 9 0xc6",
+        changes: &[Byte(124, 0x05), Byte(9, 0xc6)],
         code: 3,
         text: "error: table ways-code 100\n",
     },
     Row {
+        name: "normal, an unknown ways code",
         line: NORMAL,
         table: TWO_BRIDGES,
-        changes: "124 0x05 9 0xc6",
+        changes: &[Byte(124, 0x05), Byte(9, 0xc6)],
         code: 3,
         text: "error: table ways-code 100\n",
     },
 ];
 
-/// The digits of a table, changes of its bytes, and the digits of its normal form.
+/// A name, the digits of a table, changes of it, and the digits of its normal form.
 struct NormalForm {
+    name: &'static str,
     table: &'static str,
-    changes: &'static str,
+    changes: &'static [Change],
     normal: &'static str,
 }
 
 /// Whether the table with these changes has the other as its normal form.
 fn is_normal(rt: &impl Abort, alloc: Global, row: &NormalForm) -> bool {
-    let table = changed(rt, alloc, row.table, row.changes, 1);
+    let table = changed(rt, alloc, row.table, row.changes);
     let normal = bytes(rt, alloc, row.normal);
     answers(rt, alloc, NORMAL, table, 0, &normal)
 }
 
 #[test]
 fn normal_forms(rt: HostRuntime) {
-    for (i, row) in NORMAL_FORMS.iter().enumerate() {
-        has_passed(&rt, i, is_normal(&rt, rt.alloc(), row));
+    for row in NORMAL_FORMS.iter() {
+        has_passed(&rt, row.name, is_normal(&rt, rt.alloc(), row));
     }
 }
 
 const NORMAL_FORMS: &[NormalForm] = &[
     // The reserved fields of real tables are zero, so that each is its own normal form.
     NormalForm {
+        name: "by QEMU, two bridges",
         table: real_tables::QEMU_TWO,
-        changes: "",
+        changes: &[],
         normal: real_tables::QEMU_TWO,
     },
     NormalForm {
+        name: "by QEMU, one bridge",
         table: real_tables::QEMU_SWITCH,
-        changes: "",
+        changes: &[],
         normal: real_tables::QEMU_SWITCH,
     },
     NormalForm {
+        name: "by QEMU, three bridges",
         table: real_tables::QEMU_THREE,
-        changes: "",
+        changes: &[],
         normal: real_tables::QEMU_THREE,
     },
     NormalForm {
+        name: "by QEMU, eight bridges",
         table: real_tables::QEMU_EIGHT,
-        changes: "",
+        changes: &[],
         normal: real_tables::QEMU_EIGHT,
     },
     NormalForm {
+        name: "by QEMU, repeated targets",
         table: real_tables::QEMU_SAME_TARGET,
-        changes: "",
+        changes: &[],
         normal: real_tables::QEMU_SAME_TARGET,
     },
     NormalForm {
+        name: "by iasl, XOR arithmetic",
         table: real_tables::IASL_XOR,
-        changes: "",
+        changes: &[],
         normal: real_tables::IASL_XOR,
     },
     NormalForm {
+        name: "by iasl, records in mixed order",
         table: real_tables::IASL_MIXED_ORDER,
-        changes: "",
+        changes: &[],
         normal: real_tables::IASL_MIXED_ORDER,
     },
     NormalForm {
+        name: "by iasl, a CXL 1.1 bridge",
         table: real_tables::IASL_CXL_1_1,
-        changes: "",
+        changes: &[],
         normal: real_tables::IASL_CXL_1_1,
     },
-    // A reserved byte of the first bridge is 5.
     NormalForm {
+        name: "a reserved byte of the first bridge is 5",
         table: TWO_BRIDGES,
-        changes: "37 0x05 9 0xc5",
+        changes: &[Byte(37, 0x05), Byte(9, 0xc5)],
         normal: TWO_BRIDGES,
     },
 ];
@@ -251,6 +286,6 @@ fn is_front(rt: &impl Abort, alloc: Global, n: usize) -> bool {
 #[test]
 fn fronts(rt: HostRuntime) {
     for n in 0..144 {
-        has_passed(&rt, n, is_front(&rt, rt.alloc(), n));
+        has_passed_at(&rt, "front of length", n, is_front(&rt, rt.alloc(), n));
     }
 }

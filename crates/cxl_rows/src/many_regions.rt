@@ -1,7 +1,8 @@
 //! Images with as many regions as may live, and with one more.
 
 use crate::routes::repeated;
-use crate::rows::{bytes, change, ends, files_of, has_passed, words_of};
+use crate::rows::Change::{Byte, Word};
+use crate::rows::{bytes, ends, files_of, has_passed, put_changes, words_of};
 use std::alloc::Global;
 use std::process::Abort;
 
@@ -28,20 +29,16 @@ fn table(rt: &impl Abort, alloc: Global) -> Vec<u8> {
     let mut table = repeated(rt, alloc, HEADER, BRIDGE, BRIDGES);
     let windows = repeated(rt, alloc, "", WINDOW, BRIDGES);
     table.extend_from_slice(&windows).expect(rt, "memory");
-    for n in 0..u64::from(BRIDGES) {
-        let bridge = 36 + 32 * n;
-        let window = 868 + 40 * n;
+    for n in 0..BRIDGES as u8 {
+        let bridge = 36 + 32 * usize::from(n);
+        let window = 868 + 40 * usize::from(n);
         let changes = [
-            bridge + 4,
-            n,
-            bridge + 18,
-            n,
-            window + 12,
-            n + 1,
-            window + 36,
-            n,
+            Byte(bridge + 4, n),
+            Byte(bridge + 18, n),
+            Byte(window + 12, n + 1),
+            Byte(window + 36, n),
         ];
-        change(rt, &mut table, &changes, 1);
+        put_changes(rt, &mut table, &changes);
     }
     table
 }
@@ -69,20 +66,16 @@ fn image(rt: &impl Abort, alloc: Global, regions: u16) -> Vec<u8> {
     let endpoints = repeated(rt, alloc, "", ENDPOINT_BLOCK, BRIDGES);
     image.extend_from_slice(&endpoints).expect(rt, "memory");
     for r in 0..regions {
-        let n = u64::from(r / 10);
-        let i = u64::from(r % 10);
-        let base = 1276 + 336 * n + 32 * i;
+        let n = r / 10;
+        let i = r % 10;
+        let base = 1276 + 336 * usize::from(n) + 32 * usize::from(i);
         let changes = [
-            base,
-            0x1000_0000 * i,
-            base + 4,
-            n + 1,
-            base + 8,
-            0x1000_0000,
-            base + 16,
-            0x1600,
+            Word(base, 0x1000_0000 * u32::from(i)),
+            Word(base + 4, u32::from(n) + 1),
+            Word(base + 8, 0x1000_0000),
+            Word(base + 16, 0x1600),
         ];
-        change(rt, &mut image, &changes, 4);
+        put_changes(rt, &mut image, &changes);
     }
     image
 }
@@ -90,10 +83,10 @@ fn image(rt: &impl Abort, alloc: Global, regions: u16) -> Vec<u8> {
 /// A session opens on 256 regions, and on no more.
 #[test]
 fn openings(rt: HostRuntime) {
-    for (i, (regions, code, text)) in [(256, 0, ""), (257, 8, "regions full\n")]
-        .into_iter()
-        .enumerate()
-    {
+    for (name, regions, code, text) in [
+        ("as many regions as may live", 256, 0, ""),
+        ("one region more", 257, 8, "regions full\n"),
+    ] {
         let alloc = rt.alloc();
         let topology = topology(&rt, alloc);
         let image = image(&rt, alloc, regions);
@@ -101,7 +94,7 @@ fn openings(rt: HostRuntime) {
         let words = words_of(&rt, alloc, "run table topology image");
         has_passed(
             &rt,
-            i,
+            name,
             ends(&rt, alloc, &words, &mut files, code, text.as_bytes()),
         );
     }

@@ -4,11 +4,11 @@ use crate::rows::has_passed;
 use cxl_cedt::CedtFault;
 use cxl_image::ImageFault;
 use cxl_topo::TreeFault;
-use cxl_topofile::{Key, Place, Section, TopoFault};
+use cxl_topofile::{Key, Section, TableKey, TopoFault};
 use std::alloc::Global;
 use std::fmt::Display;
 
-const SPEED: Place = Place {
+const SPEED: TableKey = TableKey {
     section: Section::Endpoint,
     index: 1,
     key: Key::Unknown,
@@ -24,8 +24,8 @@ fn is_said<T: Display>(alloc: Global, fault: &T, text: &str) -> bool {
 
 #[test]
 fn of_tables(rt: HostRuntime) {
-    for (i, (fault, text)) in OF_TABLES.iter().enumerate() {
-        has_passed(&rt, i, is_said(rt.alloc(), fault, *text));
+    for (fault, text) in OF_TABLES.iter() {
+        has_passed(&rt, *text, is_said(rt.alloc(), fault, *text));
     }
 }
 
@@ -66,8 +66,8 @@ const OF_TABLES: [(CedtFault, &str); 11] = [
 
 #[test]
 fn of_images(rt: HostRuntime) {
-    for (i, (fault, text)) in OF_IMAGES.iter().enumerate() {
-        has_passed(&rt, i, is_said(rt.alloc(), fault, *text));
+    for (fault, text) in OF_IMAGES.iter() {
+        has_passed(&rt, *text, is_said(rt.alloc(), fault, *text));
     }
 }
 
@@ -91,8 +91,8 @@ const OF_IMAGES: [(ImageFault, &str); 6] = [
 
 #[test]
 fn of_topologies(rt: HostRuntime) {
-    for (i, (fault, text)) in OF_TOPOLOGIES.iter().enumerate() {
-        has_passed(&rt, i, is_said(rt.alloc(), fault, *text));
+    for (fault, text) in OF_TOPOLOGIES.iter() {
+        has_passed(&rt, *text, is_said(rt.alloc(), fault, *text));
     }
 }
 

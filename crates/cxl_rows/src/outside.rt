@@ -21,237 +21,269 @@ const USAGE: &str = "usage\n";
 const OUTSIDE: &[Row] = &[
     // Words that are none of the forms, or whose address is no number.
     Row {
+        name: "an empty word",
         line: "",
         table: TWO_BRIDGES,
-        changes: "",
+        changes: &[],
         code: 1,
         text: USAGE,
     },
     Row {
+        name: "route alone",
         line: "route",
         table: TWO_BRIDGES,
-        changes: "",
+        changes: &[],
         code: 1,
         text: USAGE,
     },
     Row {
+        name: "route without an address",
         line: "route table",
         table: TWO_BRIDGES,
-        changes: "",
+        changes: &[],
         code: 1,
         text: USAGE,
     },
     Row {
+        name: "route with a word too many",
         line: "route table 0x100000000 0",
         table: TWO_BRIDGES,
-        changes: "",
+        changes: &[],
         code: 1,
         text: USAGE,
     },
     Row {
+        name: "a word like route",
         line: "routes table 0x100000000",
         table: TWO_BRIDGES,
-        changes: "",
+        changes: &[],
         code: 1,
         text: USAGE,
     },
     Row {
+        name: "route, no digits",
         line: "route table 0x",
         table: TWO_BRIDGES,
-        changes: "",
+        changes: &[],
         code: 1,
         text: USAGE,
     },
     Row {
+        name: "route, a digit that is none",
         line: "route table 0x10000000g",
         table: TWO_BRIDGES,
-        changes: "",
+        changes: &[],
         code: 1,
         text: USAGE,
     },
     Row {
+        name: "route, 2^64",
         line: "route table 18446744073709551616",
         table: TWO_BRIDGES,
-        changes: "",
+        changes: &[],
         code: 1,
         text: USAGE,
     },
     Row {
+        name: "list alone",
         line: "list",
         table: TWO_BRIDGES,
-        changes: "",
+        changes: &[],
         code: 1,
         text: USAGE,
     },
     Row {
+        name: "list with a word too many",
         line: "list table table",
         table: TWO_BRIDGES,
-        changes: "",
+        changes: &[],
         code: 1,
         text: USAGE,
     },
     Row {
+        name: "a word like list",
         line: "lists table",
         table: TWO_BRIDGES,
-        changes: "",
+        changes: &[],
         code: 1,
         text: USAGE,
     },
     Row {
+        name: "normal alone",
         line: "normal",
         table: TWO_BRIDGES,
-        changes: "",
+        changes: &[],
         code: 1,
         text: USAGE,
     },
     Row {
+        name: "normal with a word too many",
         line: "normal table 0",
         table: TWO_BRIDGES,
-        changes: "",
+        changes: &[],
         code: 1,
         text: USAGE,
     },
     Row {
+        name: "check alone",
         line: "check",
         table: TWO_BRIDGES,
-        changes: "",
+        changes: &[],
         code: 1,
         text: USAGE,
     },
     Row {
+        name: "check without an image",
         line: "check table table",
         table: TWO_BRIDGES,
-        changes: "",
+        changes: &[],
         code: 1,
         text: USAGE,
     },
     Row {
+        name: "check with a word too many",
         line: "check table table table table",
         table: TWO_BRIDGES,
-        changes: "",
+        changes: &[],
         code: 1,
         text: USAGE,
     },
     Row {
+        name: "run without a topology",
         line: "run table",
         table: TWO_BRIDGES,
-        changes: "",
+        changes: &[],
         code: 1,
         text: USAGE,
     },
     Row {
+        name: "run with a word too many",
         line: "run table table table table",
         table: TWO_BRIDGES,
-        changes: "",
+        changes: &[],
         code: 1,
         text: USAGE,
     },
     Row {
+        name: "gen alone",
         line: "gen",
         table: "",
-        changes: "",
+        changes: &[],
         code: 1,
         text: USAGE,
     },
     Row {
+        name: "gen, 0",
         line: "gen 0",
         table: "",
-        changes: "",
+        changes: &[],
         code: 1,
         text: USAGE,
     },
     Row {
+        name: "gen, 33",
         line: "gen 33",
         table: "",
-        changes: "",
+        changes: &[],
         code: 1,
         text: USAGE,
     },
     Row {
+        name: "gen, no digits",
         line: "gen 0x",
         table: "",
-        changes: "",
+        changes: &[],
         code: 1,
         text: USAGE,
     },
     Row {
+        name: "gen with a word too many",
         line: "gen 1 1",
         table: "",
-        changes: "",
+        changes: &[],
         code: 1,
         text: USAGE,
     },
     // Generated systems.
     Row {
+        name: "gen, 1",
         line: "gen 1",
         table: "",
-        changes: "",
+        changes: &[],
         code: 0,
         text: "gen 1 regions 1 stores 1000 loads 1000 unmapped 0 sum 126180 checked 1\n",
     },
     Row {
+        name: "gen, 32",
         line: "gen 32",
         table: "",
-        changes: "",
+        changes: &[],
         code: 0,
         text: "gen 32 regions 32 stores 32000 loads 32000 unmapped 0 sum 4037760 checked 32\n",
     },
     Row {
+        name: "help with a word too many",
         line: "--help route",
         table: TWO_BRIDGES,
-        changes: "",
+        changes: &[],
         code: 1,
         text: USAGE,
     },
     Row {
+        name: "version with a word too many",
         line: "--version 0",
         table: TWO_BRIDGES,
-        changes: "",
+        changes: &[],
         code: 1,
         text: USAGE,
     },
     // Help and version.
     Row {
+        name: "help",
         line: "--help",
         table: "",
-        changes: "",
+        changes: &[],
         code: 0,
         text: HELP,
     },
     Row {
+        name: "version",
         line: "--version",
         table: "",
-        changes: "",
+        changes: &[],
         code: 0,
         text: "cxlplan 1.0.0\n",
     },
-    // A file that is not there.
     Row {
+        name: "a file that is not there",
         line: "route missing.cedt 0x100000000",
         table: TWO_BRIDGES,
-        changes: "",
+        changes: &[],
         code: 2,
         text: "error: cannot read missing.cedt\n",
     },
     // A file of 1,048,577 bytes.
     Row {
+        name: "route, a table that is too large",
         line: "route table 0x100000000",
         table: "0x100001",
-        changes: "",
+        changes: &[],
         code: 12,
         text: "error: table too large\n",
     },
     Row {
+        name: "list, a table that is too large",
         line: "list table",
         table: "0x100001",
-        changes: "",
+        changes: &[],
         code: 12,
         text: "error: table too large\n",
     },
     Row {
+        name: "normal, a table that is too large",
         line: "normal table",
         table: "0x100001",
-        changes: "",
+        changes: &[],
         code: 12,
         text: "error: table too large\n",
     },
@@ -295,8 +327,8 @@ fn unread_file(rt: HostRuntime) {
 
 #[test]
 fn help_of_forms(rt: HostRuntime) {
-    for (i, form) in FORMS.iter().enumerate() {
-        has_passed(&rt, i, HELP.contains(*form));
+    for form in FORMS.iter() {
+        has_passed(&rt, *form, HELP.contains(*form));
     }
 }
 
@@ -311,9 +343,10 @@ const FORMS: [&str; 8] = [
     "gen N\n",
 ];
 
-/// A line, the room of a sink, the number of the write that fails or 0, and what is written over the two-bridge
+/// A name, a line, the room of a sink, the number of the write that fails or 0, and what is written over the two-bridge
 /// table.
 struct SinkRow {
+    name: &'static str,
     line: &'static str,
     room: u32,
     fail: u64,
@@ -330,40 +363,42 @@ fn fails_behind(rt: &impl Abort, alloc: Global, row: &SinkRow) -> bool {
 
 #[test]
 fn sinks(rt: HostRuntime) {
-    for (i, row) in SINKS.iter().enumerate() {
-        has_passed(&rt, i, fails_behind(&rt, rt.alloc(), row));
+    for row in SINKS.iter() {
+        has_passed(&rt, row.name, fails_behind(&rt, rt.alloc(), row));
     }
 }
 
 const SINKS: &[SinkRow] = &[
-    // A sink with room for five bytes, and one whose first write fails.
     SinkRow {
+        name: "route, a sink with room for five bytes",
         line: "route table 0x100000000",
         room: 5,
         fail: 0,
         text: "windo",
     },
     SinkRow {
+        name: "route, the first write fails",
         line: "route table 0x100000000",
         room: ROOM,
         fail: 1,
         text: "",
     },
-    // A text that is fixed.
     SinkRow {
+        name: "usage, the first write fails",
         line: "route",
         room: ROOM,
         fail: 1,
         text: "",
     },
-    // A list with room for its first line and five bytes of the second, and one whose first write fails.
     SinkRow {
+        name: "list, a sink with room for one line and five bytes",
         line: "list table",
         room: 53,
         fail: 0,
         text: "chbs 0 version 1 base 0x80000000 length 0x10000\nchbs ",
     },
     SinkRow {
+        name: "list, the first write fails",
         line: "list table",
         room: ROOM,
         fail: 1,

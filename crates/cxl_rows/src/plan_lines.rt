@@ -3,6 +3,7 @@
 use crate::host_files::{
     FOUR_ENDPOINTS, NO_RAM_IN_THE_FIRST, TWO_ENDPOINTS, TWO_ENDPOINTS_FORWARDED,
 };
+use crate::rows::Change::{self, Len};
 use crate::rows::{changed, ends, files_of, has_passed, put_word, words_of};
 use crate::tables::{
     FOUR_WINDOWS, ONE_BRIDGE, SERVER, THREE_BRIDGES, TWO_BRIDGES, TWO_BRIDGES_WIDE,
@@ -103,9 +104,10 @@ row e0 0 ways 2 gran 512 skip 0x0
 row e1 0 ways 2 gran 512 skip 0x0
 ";
 
-/// The digits of a table, a topology, a line that asks for a region, the exit status and the text of the plan.
+/// A name, the digits of a table, a topology, a line that asks for a region, the exit status and the text of the plan.
 #[derive(Drop)]
 struct Row {
+    name: &'static str,
     table: &'static str,
     topology: &'static str,
     line: &'static str,
@@ -115,8 +117,8 @@ struct Row {
 
 /// Whether `plan` with this line ends with this exit status and this text, where the table is changed and the fetch of
 /// this number fails.
-fn is_planned(rt: &impl Abort, alloc: Global, row: &Row, changes: &str, fail: u64) -> bool {
-    let table = changed(rt, alloc, row.table, changes, 1);
+fn is_planned(rt: &impl Abort, alloc: Global, row: &Row, changes: &[Change], fail: u64) -> bool {
+    let table = changed(rt, alloc, row.table, changes);
     let mut files = files_of(rt, alloc, table, row.topology, Vec::new(alloc), fail);
     let mut words = words_of(rt, alloc, "plan table topology");
     put_word(rt, alloc, &mut words, row.line);
@@ -124,8 +126,8 @@ fn is_planned(rt: &impl Abort, alloc: Global, row: &Row, changes: &str, fail: u6
 }
 
 fn are_planned(rt: &(impl Abort + AllocGlobal), rows: &[Row]) {
-    for (i, row) in rows.iter().enumerate() {
-        has_passed(rt, i, is_planned(rt, rt.alloc(), row, "", 0));
+    for row in rows {
+        has_passed(rt, row.name, is_planned(rt, rt.alloc(), row, &[], 0));
     }
 }
 
@@ -138,6 +140,7 @@ fn named_endpoints(rt: HostRuntime) {
 const NAMED: &[Row] = &[
     // Plans over hosts after reset.
     Row {
+        name: "two ways below bridges that decode",
         table: TWO_BRIDGES,
         topology: TWO_ENDPOINTS,
         line: "create r0 ram 0x20000000 e0 e1",
@@ -145,6 +148,7 @@ const NAMED: &[Row] = &[
         text: FIRST_PLAN,
     },
     Row {
+        name: "two ways below bridges that forward",
         table: TWO_BRIDGES,
         topology: TWO_ENDPOINTS_FORWARDED,
         line: "create r0 ram 0x20000000 e0 e1",
@@ -152,6 +156,7 @@ const NAMED: &[Row] = &[
         text: FORWARDED_PLAN,
     },
     Row {
+        name: "four ways over a whole window",
         table: SERVER,
         topology: FOUR_ENDPOINTS,
         line: "create r0 ram 0x10000000000 e3 e1 e0 e2",
@@ -159,6 +164,7 @@ const NAMED: &[Row] = &[
         text: SERVER_PLAN,
     },
     Row {
+        name: "persistent memory of one endpoint",
         table: ONE_BRIDGE,
         topology: FIVE_ENDPOINTS,
         line: "create b pmem 0x10000000 gran=4096 e2",
@@ -167,6 +173,7 @@ const NAMED: &[Row] = &[
     },
     // Names that are no endpoint's, and the faults of requests.
     Row {
+        name: "a name that is no endpoint's",
         table: TWO_BRIDGES,
         topology: TWO_ENDPOINTS,
         line: "create x ram 0x10000000 e9",
@@ -174,6 +181,7 @@ const NAMED: &[Row] = &[
         text: "no such endpoint e9\n",
     },
     Row {
+        name: "a bridge's name, and one that is no endpoint's",
         table: TWO_BRIDGES,
         topology: TWO_ENDPOINTS,
         line: "create x ram 0x10000000 e0 hb1 e9",
@@ -181,6 +189,7 @@ const NAMED: &[Row] = &[
         text: "no such endpoint hb1\n",
     },
     Row {
+        name: "an endpoint named twice",
         table: SERVER,
         topology: FOUR_ENDPOINTS,
         line: "create x ram 0x10000000 e0 e0",
@@ -188,6 +197,7 @@ const NAMED: &[Row] = &[
         text: "refused repeat e0\n",
     },
     Row {
+        name: "five ways",
         table: ONE_BRIDGE,
         topology: FIVE_ENDPOINTS,
         line: "create x ram 0x50000000 e0 e1 e2 e3 e4",
@@ -195,6 +205,7 @@ const NAMED: &[Row] = &[
         text: "refused ways 5\n",
     },
     Row {
+        name: "a size that two ways do not share",
         table: TWO_BRIDGES,
         topology: TWO_ENDPOINTS,
         line: "create x ram 0x10000000 e0 e1",
@@ -202,6 +213,7 @@ const NAMED: &[Row] = &[
         text: "refused size\n",
     },
     Row {
+        name: "three endpoints, uneven over two bridges",
         table: SERVER,
         topology: FOUR_ENDPOINTS,
         line: "create x ram 0x30000000 e0 e1 e2",
@@ -209,6 +221,7 @@ const NAMED: &[Row] = &[
         text: "refused uneven hb1\n",
     },
     Row {
+        name: "more persistent memory than there is",
         table: ONE_BRIDGE,
         topology: FIVE_ENDPOINTS,
         line: "create d pmem 0x50000000 e0",
@@ -217,6 +230,7 @@ const NAMED: &[Row] = &[
     },
     // Why windows take no region.
     Row {
+        name: "two endpoints below one bridge of two",
         table: SERVER,
         topology: FOUR_ENDPOINTS,
         line: "create x ram 0x20000000 e0 e1",
@@ -224,6 +238,7 @@ const NAMED: &[Row] = &[
         text: "refused no-window\nwindow 0 bridges\n",
     },
     Row {
+        name: "bits on which a bridge cannot select",
         table: TWO_BRIDGES_WIDE,
         topology: FOUR_ENDPOINTS,
         line: "create x ram 0x40000000 e0 e1 e2 e3",
@@ -231,6 +246,7 @@ const NAMED: &[Row] = &[
         text: "refused no-window\nwindow 0 select hb0\n",
     },
     Row {
+        name: "an endpoint that cannot have three ways",
         table: THREE_BRIDGES,
         topology: NO_THREE_WAYS,
         line: "create t ram 0x30000000 e0 e1 e2",
@@ -238,6 +254,7 @@ const NAMED: &[Row] = &[
         text: "refused no-window\nwindow 0 ways-cap e1\n",
     },
     Row {
+        name: "a window that is too short",
         table: TWO_BRIDGES,
         topology: FOUR_ENDPOINTS,
         line: "create b ram 0x200000000 e0 e2",
@@ -245,6 +262,7 @@ const NAMED: &[Row] = &[
         text: "refused no-window\nwindow 0 no-base 0x100000000 0x200000000\n",
     },
     Row {
+        name: "four windows, each for a reason of its own",
         table: FOUR_WINDOWS,
         topology: FIVE_ENDPOINTS,
         line: "create x pmem 0x20000000 e0",
@@ -252,6 +270,7 @@ const NAMED: &[Row] = &[
         text: "refused no-window\nwindow 0 kind\nwindow 1 fixed\nwindow 2 unusable\nwindow 3 no-base 0x400000000 0x410000000\n",
     },
     Row {
+        name: "a granularity that is not the window's",
         table: FOUR_WINDOWS,
         topology: TWO_ENDPOINTS,
         line: "create x ram 0x20000000 gran=256 e0 e1",
@@ -269,6 +288,7 @@ fn picked_endpoints(rt: HostRuntime) {
 const PICKED: &[Row] = &[
     // Plans.
     Row {
+        name: "four ways",
         table: SERVER,
         topology: FOUR_ENDPOINTS,
         line: "create a ram 0x40000000 ways=4",
@@ -276,6 +296,7 @@ const PICKED: &[Row] = &[
         text: PICKED_FOUR,
     },
     Row {
+        name: "two ways at a stated granularity",
         table: SERVER,
         topology: FOUR_ENDPOINTS,
         line: "create b ram 0x20000000 gran=256 ways=2",
@@ -283,6 +304,7 @@ const PICKED: &[Row] = &[
         text: PICKED_TWO,
     },
     Row {
+        name: "two ways where the first endpoint has no ram",
         table: SERVER,
         topology: NO_RAM_IN_THE_FIRST,
         line: "create b ram 0x20000000 ways=2",
@@ -290,6 +312,7 @@ const PICKED: &[Row] = &[
         text: PICKED_BESIDE,
     },
     Row {
+        name: "persistent memory at a stated granularity",
         table: ONE_BRIDGE,
         topology: FIVE_ENDPOINTS,
         line: "create p pmem 0x20000000 gran=4096 ways=2",
@@ -297,6 +320,7 @@ const PICKED: &[Row] = &[
         text: PICKED_WIDE,
     },
     Row {
+        name: "two ways in the third window",
         table: FOUR_WINDOWS,
         topology: TWO_ENDPOINTS,
         line: "create x ram 0x20000000 ways=2",
@@ -305,6 +329,7 @@ const PICKED: &[Row] = &[
     },
     // Why none are picked.
     Row {
+        name: "three ways of two bridges",
         table: SERVER,
         topology: FOUR_ENDPOINTS,
         line: "create c ram 0x30000000 ways=3",
@@ -312,6 +337,7 @@ const PICKED: &[Row] = &[
         text: "refused no-set\n",
     },
     Row {
+        name: "five ways",
         table: SERVER,
         topology: FOUR_ENDPOINTS,
         line: "create c ram 0x50000000 ways=5",
@@ -319,6 +345,7 @@ const PICKED: &[Row] = &[
         text: "refused ways 5\n",
     },
     Row {
+        name: "a size that two ways do not share",
         table: SERVER,
         topology: FOUR_ENDPOINTS,
         line: "create c ram 0x10000000 ways=2",
@@ -326,6 +353,7 @@ const PICKED: &[Row] = &[
         text: "refused size\n",
     },
     Row {
+        name: "persistent memory where there is none",
         table: SERVER,
         topology: FOUR_ENDPOINTS,
         line: "create c pmem 0x20000000 ways=2",
@@ -333,6 +361,7 @@ const PICKED: &[Row] = &[
         text: "refused no-set\n",
     },
     Row {
+        name: "a granularity that is not the window's",
         table: SERVER,
         topology: FOUR_ENDPOINTS,
         line: "create c ram 0x40000000 gran=512 ways=4",
@@ -340,6 +369,7 @@ const PICKED: &[Row] = &[
         text: "refused no-set\n",
     },
     Row {
+        name: "four ways where the first endpoint has no ram",
         table: SERVER,
         topology: NO_RAM_IN_THE_FIRST,
         line: "create c ram 0x40000000 ways=4",
@@ -351,40 +381,51 @@ const PICKED: &[Row] = &[
 /// Whether a line asks for no region: no file is asked for, so that it is no matter that the first fetch fails.
 fn asks_for_none(rt: &impl Abort, alloc: Global, line: &'static str) -> bool {
     let row = Row {
+        name: "no create",
         table: "",
         topology: "",
         line,
         code: 1,
         text: "usage\n",
     };
-    is_planned(rt, alloc, &row, "", 1)
+    is_planned(rt, alloc, &row, &[], 1)
 }
 
 #[test]
 fn lines(rt: HostRuntime) {
-    for (i, line) in NO_CREATE.iter().enumerate() {
-        has_passed(&rt, i, asks_for_none(&rt, rt.alloc(), *line));
+    for (name, line) in NO_CREATE.iter() {
+        has_passed(&rt, *name, asks_for_none(&rt, rt.alloc(), *line));
     }
 }
 
-const NO_CREATE: [&str; 11] = [
-    "",
-    "# create x ram 0x20000000 e0 e1",
-    "create x ram 0x20000000",
-    "create abcdefghijklmnop ram 0x20000000 e0 e1",
-    "begin create x ram 0x20000000 e0 e1",
-    "destroy x",
-    "create x ram 0x20000000 ways=0",
-    "create x ram 0x20000000 ways=17",
-    "create x ram 0x20000000 ways=2 e0",
-    "create x ram 0x20000000 e0 ways=2",
-    "begin create x ram 0x20000000 ways=2",
+const NO_CREATE: [(&str, &str); 11] = [
+    ("an empty line", ""),
+    ("a comment", "# create x ram 0x20000000 e0 e1"),
+    ("no endpoint", "create x ram 0x20000000"),
+    (
+        "a name of sixteen bytes",
+        "create abcdefghijklmnop ram 0x20000000 e0 e1",
+    ),
+    ("a create in steps", "begin create x ram 0x20000000 e0 e1"),
+    ("another verb", "destroy x"),
+    ("no ways", "create x ram 0x20000000 ways=0"),
+    ("17 ways", "create x ram 0x20000000 ways=17"),
+    (
+        "ways before an endpoint",
+        "create x ram 0x20000000 ways=2 e0",
+    ),
+    (
+        "ways behind an endpoint",
+        "create x ram 0x20000000 e0 ways=2",
+    ),
+    ("ways in steps", "begin create x ram 0x20000000 ways=2"),
 ];
 
-/// A topology, changes of the table, the number of the fetch that fails or 0, the exit status and the text.
+/// A name, a topology, changes of the table, the number of the fetch that fails or 0, the exit status and the text.
 struct FileFault {
+    name: &'static str,
     topology: &'static str,
-    changes: &'static str,
+    changes: &'static [Change],
     fail: u64,
     code: u8,
     text: &'static str,
@@ -393,6 +434,7 @@ struct FileFault {
 /// Whether a plan over these files ends with this fault.
 fn ends_with_fault(rt: &impl Abort, alloc: Global, fault: &FileFault) -> bool {
     let row = Row {
+        name: fault.name,
         table: TWO_BRIDGES,
         topology: fault.topology,
         line: "create x ram 0x20000000 e0 e1",
@@ -405,43 +447,48 @@ fn ends_with_fault(rt: &impl Abort, alloc: Global, fault: &FileFault) -> bool {
 /// A file that cannot be read or has no reading; the table comes first.
 #[test]
 fn files_in_order(rt: HostRuntime) {
-    for (i, fault) in IN_ORDER.iter().enumerate() {
-        has_passed(&rt, i, ends_with_fault(&rt, rt.alloc(), fault));
+    for fault in IN_ORDER.iter() {
+        has_passed(&rt, fault.name, ends_with_fault(&rt, rt.alloc(), fault));
     }
 }
 
 const IN_ORDER: &[FileFault] = &[
     FileFault {
+        name: "a table that cannot be read",
         topology: "",
-        changes: "",
+        changes: &[],
         fail: 1,
         code: 2,
         text: "error: cannot read table\n",
     },
     FileFault {
+        name: "a topology that cannot be read",
         topology: "",
-        changes: "",
+        changes: &[],
         fail: 2,
         code: 2,
         text: "error: cannot read topology\n",
     },
     FileFault {
+        name: "a table that is cut, before a topology that cannot be read",
         topology: "[[bridge",
-        changes: "143",
+        changes: &[Len(143)],
         fail: 2,
         code: 3,
         text: "error: table length\n",
     },
     FileFault {
+        name: "a topology that is no TOML document",
         topology: "[[bridge",
-        changes: "",
+        changes: &[],
         fail: 0,
         code: 4,
         text: "error: topology toml\n",
     },
     FileFault {
+        name: "a table that is too large",
         topology: "",
-        changes: "1048577",
+        changes: &[Len(1_048_577)],
         fail: 0,
         code: 12,
         text: "error: table too large\n",

@@ -1,6 +1,7 @@
 //! Worked rows of `route`: addresses in tables alone, and faults of tables.
 
 use crate::real_tables::{IASL_XOR, QEMU_EIGHT};
+use crate::rows::Change::Byte;
 use crate::rows::{Row, answers, are_answered, bytes};
 use crate::tables::{CXL_1_1_BRIDGE, HEADER_OF_MANY, TWO_BRIDGES, TWO_BRIDGES_XOR};
 use std::alloc::Global;
@@ -15,128 +16,143 @@ fn routes(rt: HostRuntime) {
 }
 
 const ROUTES: &[Row] = &[
-    // The first chunk of the two-bridge table, its last byte, the byte behind it, and one that is written in
-    // decimal digits.
     Row {
+        name: "the first chunk",
         line: FIRST,
         table: TWO_BRIDGES,
-        changes: "",
+        changes: &[],
         code: 0,
         text: "window 0 position 0 bridge 0\n",
     },
     Row {
+        name: "the last byte",
         line: "route table 0x1ffffffff",
         table: TWO_BRIDGES,
-        changes: "",
+        changes: &[],
         code: 0,
         text: "window 0 position 1 bridge 1\n",
     },
     Row {
+        name: "the byte behind the window",
         line: "route table 0x200000000",
         table: TWO_BRIDGES,
-        changes: "",
+        changes: &[],
         code: 8,
         text: "no window\n",
     },
     Row {
+        name: "an address in decimal digits",
         line: "route table 4294967296",
         table: TWO_BRIDGES,
-        changes: "",
+        changes: &[],
         code: 0,
         text: "window 0 position 0 bridge 0\n",
     },
     // Under XOR the chunk's lowest bit is 0 and the parity is 1.
     Row {
+        name: "XOR arithmetic",
         line: "route table 0x100004000",
         table: TWO_BRIDGES_XOR,
-        changes: "",
+        changes: &[],
         code: 0,
         text: "window 0 position 1 bridge 1\n",
     },
     // Tables that other programs made.
     Row {
+        name: "by QEMU, eight ways",
         line: "route table 0x110004500",
         table: QEMU_EIGHT,
-        changes: "",
+        changes: &[],
         code: 0,
         text: "window 0 position 5 bridge 48\n",
     },
     Row {
+        name: "by QEMU, four ways",
         line: "route table 0x310004500",
         table: QEMU_EIGHT,
-        changes: "",
+        changes: &[],
         code: 0,
         text: "window 1 position 2 bridge 56\n",
     },
     Row {
+        name: "by QEMU, an unusable window",
         line: "route table 0x350004500",
         table: QEMU_EIGHT,
-        changes: "",
+        changes: &[],
         code: 8,
         text: "no window\n",
     },
     Row {
+        name: "by iasl, XOR arithmetic",
         line: "route table 0x280004500",
         table: IASL_XOR,
-        changes: "",
+        changes: &[],
         code: 0,
         text: "window 1 position 0 bridge 0\n",
     },
     // Each fault of the two-bridge table, made by a few bytes: the second of them keeps the sum, which stands at
     // byte 9.
     Row {
+        name: "another signature",
         line: FIRST,
         table: TWO_BRIDGES,
-        changes: "0 0x44 9 0xc9",
+        changes: &[Byte(0, 0x44), Byte(9, 0xc9)],
         code: 3,
         text: "error: table signature\n",
     },
     Row {
+        name: "another length",
         line: FIRST,
         table: TWO_BRIDGES,
-        changes: "4 0x91 9 0xc9",
+        changes: &[Byte(4, 0x91), Byte(9, 0xc9)],
         code: 3,
         text: "error: table length\n",
     },
     Row {
+        name: "another sum",
         line: FIRST,
         table: TWO_BRIDGES,
-        changes: "9 0xcb",
+        changes: &[Byte(9, 0xcb)],
         code: 3,
         text: "error: table checksum\n",
     },
     Row {
+        name: "a record that passes the end",
         line: FIRST,
         table: TWO_BRIDGES,
-        changes: "102 0x2d 9 0xc9",
+        changes: &[Byte(102, 0x2d), Byte(9, 0xc9)],
         code: 3,
         text: "error: table record-cut 100\n",
     },
     Row {
+        name: "a record of 31 bytes",
         line: FIRST,
         table: TWO_BRIDGES,
-        changes: "38 0x1f 9 0xcb",
+        changes: &[Byte(38, 0x1f), Byte(9, 0xcb)],
         code: 3,
         text: "error: table record-length 36\n",
     },
     Row {
+        name: "an unknown ways code",
         line: FIRST,
         table: TWO_BRIDGES,
-        changes: "124 0x05 9 0xc6",
+        changes: &[Byte(124, 0x05), Byte(9, 0xc6)],
         code: 3,
         text: "error: table ways-code 100\n",
     },
     Row {
+        name: "an unknown granularity code",
         line: FIRST,
         table: TWO_BRIDGES,
-        changes: "128 0x07 9 0xc3",
+        changes: &[Byte(128, 0x07), Byte(9, 0xc3)],
         code: 3,
         text: "error: table gran-code 100\n",
     },
     Row {
+        name: "an unknown arithmetic",
         line: FIRST,
         table: TWO_BRIDGES,
-        changes: "125 0x02 9 0xc8",
+        changes: &[Byte(125, 0x02), Byte(9, 0xc8)],
         code: 3,
         text: "error: table arithmetic 100\n",
     },

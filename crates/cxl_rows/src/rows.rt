@@ -10,25 +10,6 @@ use std::process::Abort;
 /// How much a sink takes where a row says nothing of it.
 pub(crate) const ROOM: u32 = 1_048_576;
 
-// ---- rows are plain texts and numbers
-
-/// The numbers that a text writes, with spaces between them.
-pub(crate) fn numbers(rt: &impl Abort, alloc: Global, text: &str) -> Vec<u64> {
-    let mut numbers = Vec::new(alloc);
-    for word in text.split(' ') {
-        if !word.is_empty() {
-            let number = read_number(word.as_bytes()).expect(rt, "a number");
-            numbers.push(number).expect(rt, "memory");
-        }
-    }
-    numbers
-}
-
-/// The number at a place, which has to be there.
-pub(crate) fn at(rt: &impl Abort, numbers: &[u64], i: usize) -> u64 {
-    *numbers.get(i).expect(rt, "a number")
-}
-
 // ---- files
 
 /// The bytes that words of hexadecimal digits write; a word such as `0x6c` is so many zero bytes.
@@ -51,36 +32,41 @@ fn put_digits(rt: &impl Abort, alloc: Global, bytes: &mut Vec<u8>, word: &str) {
     }
 }
 
-/// The same with changes. Each two numbers are a byte place and the value there, which has so many bytes; where the
-/// count of the numbers is odd, the first is how many bytes the file is given before.
-pub(crate) fn changed(
-    rt: &impl Abort,
-    alloc: Global,
-    text: &str,
-    changes: &str,
-    width: usize,
-) -> Vec<u8> {
+/// A change of a file.
+#[derive(Drop)]
+pub(crate) enum Change {
+    /// It has so many bytes, and zeros behind its own.
+    Len(usize),
+    /// The byte at a place.
+    Byte(usize, u8),
+    /// The word that begins at a byte place.
+    Word(usize, u32),
+}
+
+/// The bytes that a text writes, with changes.
+pub(crate) fn changed(rt: &impl Abort, alloc: Global, text: &str, changes: &[Change]) -> Vec<u8> {
     let mut file = bytes(rt, alloc, text);
-    let changes = numbers(rt, alloc, changes);
-    change(rt, &mut file, &changes, width);
+    put_changes(rt, &mut file, changes);
     file
 }
 
-pub(crate) fn change(rt: &impl Abort, file: &mut Vec<u8>, changes: &[u64], width: usize) {
-    let odd = changes.len() % 2;
-    if odd == 1 {
-        file.resize(at(rt, changes, 0) as usize, 0)
-            .expect(rt, "memory");
-    }
-    for i in 0..changes.len() / 2 {
-        let place = at(rt, changes, odd + 2 * i) as usize;
-        put_value(rt, file, place, at(rt, changes, odd + 2 * i + 1), width);
+pub(crate) fn put_changes(rt: &impl Abort, file: &mut Vec<u8>, changes: &[Change]) {
+    for item in changes {
+        put_change(rt, file, item);
     }
 }
 
-fn put_value(rt: &impl Abort, file: &mut [u8], place: usize, value: u64, width: usize) {
-    assert!(rt; width <= 8 && place <= file.len() && width <= file.len() - place);
-    file[place..place + width].copy_from_slice(&value.to_le_bytes()[..width]);
+fn put_change(rt: &impl Abort, file: &mut Vec<u8>, item: &Change) {
+    match item {
+        Change::Len(len) => file.resize(*len, 0).expect(rt, "memory"),
+        Change::Byte(place, byte) => put(rt, file, *place, &[*byte]),
+        Change::Word(place, word) => put(rt, file, *place, &word.to_le_bytes()),
+    }
+}
+
+fn put(rt: &impl Abort, file: &mut [u8], place: usize, bytes: &[u8]) {
+    assert!(rt; place <= file.len() && bytes.len() <= file.len() - place);
+    file[place..place + bytes.len()].copy_from_slice(bytes);
 }
 
 /// The files of a host in memory, and the number of the fetch that fails, or 0.
@@ -187,28 +173,34 @@ pub(crate) fn answers(
     ends(rt, alloc, &words, &mut files, code, bytes)
 }
 
-/// A line, the digits of a table and changes of its bytes, the exit status and the text.
+/// A name, a line, the digits of a table and changes of it, the exit status and the text.
 pub(crate) struct Row {
+    pub(crate) name: &'static str,
     pub(crate) line: &'static str,
     pub(crate) table: &'static str,
-    pub(crate) changes: &'static str,
+    pub(crate) changes: &'static [Change],
     pub(crate) code: u8,
     pub(crate) text: &'static str,
 }
 
 fn is_answered(rt: &impl Abort, alloc: Global, row: &Row) -> bool {
-    let table = changed(rt, alloc, row.table, row.changes, 1);
+    let table = changed(rt, alloc, row.table, row.changes);
     answers(rt, alloc, row.line, table, row.code, row.text.as_bytes())
 }
 
-/// Checks that the row at this place is right.
-pub(crate) fn has_passed(rt: &impl Abort, place: usize, right: bool) {
-    assert!(rt; right, "row {place}");
+/// Checks that the row of this name is right.
+pub(crate) fn has_passed(rt: &impl Abort, name: &str, right: bool) {
+    assert!(rt; right, "row {name}");
+}
+
+/// The same of a row that is one of many alike, by its number.
+pub(crate) fn has_passed_at(rt: &impl Abort, name: &str, number: usize, right: bool) {
+    assert!(rt; right, "row {name} {number}");
 }
 
 /// Checks each row.
 pub(crate) fn are_answered(rt: &(impl Abort + AllocGlobal), rows: &[Row]) {
-    for (i, row) in rows.iter().enumerate() {
-        has_passed(rt, i, is_answered(rt, rt.alloc(), row));
+    for row in rows {
+        has_passed(rt, row.name, is_answered(rt, rt.alloc(), row));
     }
 }

@@ -10,13 +10,13 @@ fn bytes_by_host(rt: HostRuntime) {
 }
 
 const BYTES_BY_HOST: [Script; 9] = [
-    // Bytes over two devices.
     Script {
+        name: "bytes over two devices",
         table: TWO_BRIDGES,
         topology: TWO_ENDPOINTS,
         image: "",
-        changes: "",
-        fails: "",
+        changes: &[],
+        fails: &[],
         lines: "\
 create r0 ram 0x20000000 e0 e1\n\
 store 0x1000000fe aabbccdd\n\
@@ -33,13 +33,13 @@ bytes ccdd\n\
 down 0x100000100 region r0 slot 1 position 1 via hb1:0:0 endpoint e1 dpa 0x0\n\
 bytes 0000\n",
     },
-    // Two frames.
     Script {
+        name: "two frames",
         table: TWO_BRIDGES,
         topology: TWO_FRAMES,
         image: "",
-        changes: "",
-        fails: "",
+        changes: &[],
+        fails: &[],
         lines: "\
 create r0 ram 0x20000000 e0 e1\n\
 store 0x100000000 11\n\
@@ -56,13 +56,13 @@ bytes 00\n\
 bytes 11\n\
 bytes 00\n",
     },
-    // The ends of a region.
     Script {
+        name: "the ends of a region",
         table: TWO_BRIDGES,
         topology: TWO_ENDPOINTS,
         image: "",
-        changes: "",
-        fails: "",
+        changes: &[],
+        fails: &[],
         lines: "\
 create r0 ram 0x20000000 e0 e1\n\
 load 0x11fffffff 1\n\
@@ -89,13 +89,13 @@ unmapped\n\
 unmapped\n\
 crosses end\n",
     },
-    // A region that is ended leaves no byte.
     Script {
+        name: "a region that is ended leaves no byte",
         table: TWO_BRIDGES,
         topology: TWO_ENDPOINTS,
         image: "",
-        changes: "",
-        fails: "",
+        changes: &[],
+        fails: &[],
         lines: "\
 create r0 ram 0x20000000 e0 e1\n\
 store 0x100000000 11\n\
@@ -110,13 +110,13 @@ destroyed r0\n\
 created r0 window 0 base 0x100000000 size 0x20000000 gran 256 ways 2\n\
 bytes 00\n",
     },
-    // A region of a terabyte is ended.
     Script {
+        name: "a region of a terabyte is ended",
         table: SERVER,
         topology: FOUR_ENDPOINTS,
         image: "",
-        changes: "",
-        fails: "",
+        changes: &[],
+        fails: &[],
         lines: "\
 create r0 ram 0x10000000000 e0 e1 e2 e3\n\
 store 0x1000000000 11\n\
@@ -131,13 +131,13 @@ destroyed r0\n\
 created r0 window 0 base 0x1000000000 size 0x10000000000 gran 256 ways 4\n\
 bytes 00\n",
     },
-    // Ranges and spreads.
     Script {
+        name: "ranges and spreads",
         table: SERVER,
         topology: FOUR_ENDPOINTS,
         image: "",
-        changes: "",
-        fails: "",
+        changes: &[],
+        fails: &[],
         lines: "\
 create r0 ram 0x10000000000 e0 e1 e2 e3\n\
 range 0x1000000080 512\n\
@@ -164,13 +164,13 @@ crosses end\n\
 bad line 19 range\n\
 unmapped\n",
     },
-    // Moves and copies with one frame.
     Script {
+        name: "moves and copies with one frame",
         table: TWO_BRIDGES,
         topology: ONE_FRAME,
         image: "",
-        changes: "",
-        fails: "",
+        changes: &[],
+        fails: &[],
         lines: "\
 create r0 ram 0x20000000 e0 e1\n\
 create r1 ram 0x20000000 e0 e1\n\
@@ -197,13 +197,13 @@ same region r1\n\
 no such region r2\n\
 no such region r2\n",
     },
-    // A copy takes the frames of what it takes the place of.
     Script {
+        name: "a copy takes the frames of what it takes the place of",
         table: TWO_BRIDGES,
         topology: TWO_FRAMES,
         image: "",
-        changes: "",
-        fails: "",
+        changes: &[],
+        fails: &[],
         lines: "\
 create r0 ram 0x20000000 e0 e1\n\
 create r1 ram 0x20000000 e0 e1\n\
@@ -222,13 +222,13 @@ copied r0 r1 pieces 1\n\
 bytes 11\n\
 bytes 00\n",
     },
-    // A move between regions of four ways and of two.
     Script {
+        name: "a move between regions of four ways and of two",
         table: SERVER,
         topology: FOUR_ENDPOINTS,
         image: "",
-        changes: "",
-        fails: "",
+        changes: &[],
+        fails: &[],
         lines: "\
 create a ram 0x40000000 e0 e1 e2 e3\n\
 create b ram 0x40000000 e0 e2\n\

@@ -12,13 +12,13 @@ fn made_and_ended(rt: HostRuntime) {
 }
 
 const REGIONS: [Script; 9] = [
-    // Both kinds of memory in one endpoint.
     Script {
+        name: "both kinds of memory in one endpoint",
         table: ONE_BRIDGE,
         topology: BOTH_KINDS,
         image: "",
-        changes: "",
-        fails: "",
+        changes: &[],
+        fails: &[],
         lines: "\
 create a ram 0x10000000 e0\n\
 create b pmem 0x10000000 e0\n\
@@ -36,13 +36,13 @@ node hb0 1 10000000 00000001 10000000 00000000 00001600 00000000 00000000\n\
 node e0 1 10000000 00000001 10000000 00000000 00001600 30000000 00000000\n\
 slot 0 e0 0x40000000\n",
     },
-    // Regions end in falling order.
     Script {
+        name: "regions end in falling order",
         table: TWO_BRIDGES,
         topology: TWO_ENDPOINTS,
         image: "",
-        changes: "",
-        fails: "",
+        changes: &[],
+        fails: &[],
         lines: "\
 create a ram 0x20000000 e0 e1\n\
 create b ram 0x20000000 e0 e1\n\
@@ -59,24 +59,24 @@ destroyed b\n\
 destroyed a\n\
 no such region a\n",
     },
-    // No command.
     Script {
+        name: "no command",
         table: TWO_BRIDGES,
         topology: TWO_ENDPOINTS,
         image: "",
-        changes: "",
-        fails: "",
+        changes: &[],
+        fails: &[],
         lines: "",
         code: 0,
         text: "",
     },
-    // Lines that ask for nothing, and one whose first word is no verb.
     Script {
+        name: "lines that ask for nothing, and one whose first word is no verb",
         table: TWO_BRIDGES,
         topology: TWO_ENDPOINTS,
         image: "",
-        changes: "",
-        fails: "",
+        changes: &[],
+        fails: &[],
         lines: "\
 \n\
 make a\n\
@@ -87,13 +87,13 @@ create a ram 0x20000000 e0 e1\n",
 bad line 0 verb\n\
 created a window 0 base 0x100000000 size 0x20000000 gran 256 ways 2\n",
     },
-    // A name of fifteen bytes, and one of sixteen.
     Script {
+        name: "a name of fifteen bytes, and one of sixteen",
         table: TWO_BRIDGES,
         topology: TWO_ENDPOINTS,
         image: "",
-        changes: "",
-        fails: "",
+        changes: &[],
+        fails: &[],
         lines: "\
 create abcdefghijklmno ram 0x20000000 e0 e1\n\
 create abcdefghijklmnop ram 0x20000000 e0 e1\n",
@@ -102,13 +102,13 @@ create abcdefghijklmnop ram 0x20000000 e0 e1\n",
 created abcdefghijklmno window 0 base 0x100000000 size 0x20000000 gran 256 ways 2\n\
 bad line 7 name\n",
     },
-    // A name twice, and names of no endpoint.
     Script {
+        name: "a name twice, and names of no endpoint",
         table: TWO_BRIDGES,
         topology: TWO_ENDPOINTS,
         image: "",
-        changes: "",
-        fails: "",
+        changes: &[],
+        fails: &[],
         lines: "\
 create r0 ram 0x20000000 e0 e1\n\
 create r0 ram 0x20000000 e0 e1\n\
@@ -123,13 +123,13 @@ no such endpoint hb0\n\
 refused repeat e0\n\
 refused size\n",
     },
-    // A window that is full.
     Script {
+        name: "a window that is full",
         table: TWO_BRIDGES,
         topology: TWO_OF_4_GIB,
         image: "",
-        changes: "",
-        fails: "",
+        changes: &[],
+        fails: &[],
         lines: "\
 create a ram 0x100000000 e0 e1\n\
 create b ram 0x20000000 e0 e1\n",
@@ -139,13 +139,13 @@ created a window 0 base 0x100000000 size 0x100000000 gran 256 ways 2\n\
 refused no-window\n\
 window 0 no-base 0x200000000 0x200000000\n",
     },
-    // Picked endpoints.
     Script {
+        name: "picked endpoints",
         table: SERVER,
         topology: FOUR_ENDPOINTS,
         image: "",
-        changes: "",
-        fails: "",
+        changes: &[],
+        fails: &[],
         lines: "\
 create a ram 0x40000000 ways=4\n\
 create b ram 0x20000000 ways=2\n\
@@ -166,13 +166,13 @@ slot 1 e2 0x10000000\n\
 refused no-set\n\
 refused ways 5\n",
     },
-    // Picked endpoints, where the first has no volatile memory.
     Script {
+        name: "picked endpoints, where the first has no volatile memory",
         table: SERVER,
         topology: NO_RAM_IN_THE_FIRST,
         image: "",
-        changes: "",
-        fails: "",
+        changes: &[],
+        fails: &[],
         lines: "\
 create b ram 0x20000000 ways=2\n\
 down 0x1000000000\n\

@@ -10,13 +10,13 @@ fn between_words(rt: HostRuntime) {
 }
 
 const BETWEEN_WORDS: [Script; 4] = [
-    // A region that is pending.
     Script {
+        name: "a region that is pending",
         table: TWO_BRIDGES,
         topology: TWO_ENDPOINTS,
         image: "",
-        changes: "",
-        fails: "",
+        changes: &[],
+        fails: &[],
         lines: "\
 create r0 ram 0x20000000 e0 e1\n\
 begin create b ram 0x20000000 e0 e1\n\
@@ -49,13 +49,13 @@ nothing pending\n\
 begun b writes 32\n\
 created b window 0 base 0x120000000 size 0x20000000 gran 256 ways 2\n",
     },
-    // A region that is being ended.
     Script {
+        name: "a region that is being ended",
         table: TWO_BRIDGES,
         topology: TWO_ENDPOINTS,
         image: "",
-        changes: "",
-        fails: "",
+        changes: &[],
+        fails: &[],
         lines: "\
 create r0 ram 0x20000000 e0 e1\n\
 store 0x100000000 11\n\
@@ -82,13 +82,13 @@ begun r0 writes 4\n\
 destroyed r0\n\
 nothing pending\n",
     },
-    // Bridges that forward have no words.
     Script {
+        name: "bridges that forward have no words",
         table: TWO_BRIDGES,
         topology: TWO_ENDPOINTS_FORWARDED,
         image: "",
-        changes: "",
-        fails: "",
+        changes: &[],
+        fails: &[],
         lines: "\
 begin create r0 ram 0x20000000 e0 e1\n\
 step 16\n",
@@ -97,13 +97,13 @@ step 16\n",
 begun r0 writes 16\n\
 created r0 window 0 base 0x100000000 size 0x20000000 gran 256 ways 2\n",
     },
-    // A script that ends with a job pending, with no byte behind its last line.
     Script {
+        name: "a job pending at the end, with no byte behind the last line",
         table: TWO_BRIDGES,
         topology: TWO_ENDPOINTS,
         image: "",
-        changes: "",
-        fails: "",
+        changes: &[],
+        fails: &[],
         lines: "\
 begin create r0 ram 0x20000000 e0 e1\n\
 step 3",
@@ -120,13 +120,13 @@ fn failing_buses(rt: HostRuntime) {
 }
 
 const FAILING_BUSES: [Script; 11] = [
-    // A write fails, and the first is taken back.
     Script {
+        name: "a write fails, and the first is taken back",
         table: TWO_BRIDGES,
         topology: TWO_ENDPOINTS,
         image: "",
-        changes: "",
-        fails: "5",
+        changes: &[],
+        fails: &[5],
         lines: "\
 create r0 ram 0x20000000 e0 e1\n\
 create r0 ram 0x20000000 e0 e1\n",
@@ -135,13 +135,13 @@ create r0 ram 0x20000000 e0 e1\n",
 bus fault undone\n\
 created r0 window 0 base 0x100000000 size 0x20000000 gran 256 ways 2\n",
     },
-    // That fails, too.
     Script {
+        name: "a write fails, and so does the one that takes the first back",
         table: TWO_BRIDGES,
         topology: TWO_ENDPOINTS,
         image: "",
-        changes: "",
-        fails: "5 6",
+        changes: &[],
+        fails: &[5, 6],
         lines: "\
 create r0 ram 0x20000000 e0 e1\n\
 abort\n",
@@ -150,52 +150,52 @@ abort\n",
 bus fault pending r0 2 of 32\n\
 aborted r0\n",
     },
-    // The blocks cannot be enabled.
     Script {
+        name: "the blocks cannot be enabled",
         table: TWO_BRIDGES,
         topology: TWO_ENDPOINTS,
         image: "",
-        changes: "",
-        fails: "1",
+        changes: &[],
+        fails: &[1],
         lines: "\
 create r0 ram 0x20000000 e0 e1\n",
         code: 7,
         text: "\
 error: bus fault\n",
     },
-    // The second block cannot be enabled.
     Script {
+        name: "the second block cannot be enabled",
         table: TWO_BRIDGES,
         topology: TWO_ENDPOINTS,
         image: "",
-        changes: "",
-        fails: "2",
+        changes: &[],
+        fails: &[2],
         lines: "\
 create r0 ram 0x20000000 e0 e1\n",
         code: 7,
         text: "\
 error: bus fault\n",
     },
-    // The only endpoint cannot be enabled.
     Script {
+        name: "the only endpoint cannot be enabled",
         table: ONE_BRIDGE,
         topology: BOTH_KINDS,
         image: "",
-        changes: "",
-        fails: "1",
+        changes: &[],
+        fails: &[1],
         lines: "\
 create a ram 0x10000000 e0\n",
         code: 7,
         text: "\
 error: bus fault\n",
     },
-    // A write of a step fails.
     Script {
+        name: "a write of a step fails",
         table: TWO_BRIDGES,
         topology: TWO_ENDPOINTS,
         image: "",
-        changes: "",
-        fails: "4",
+        changes: &[],
+        fails: &[4],
         lines: "\
 begin create b ram 0x20000000 e0 e1\n\
 step 5\n\
@@ -206,13 +206,13 @@ begun b writes 32\n\
 bus fault pending b 1 of 32\n\
 created b window 0 base 0x100000000 size 0x20000000 gran 256 ways 2\n",
     },
-    // A read fails.
     Script {
+        name: "a read fails",
         table: TWO_BRIDGES,
         topology: TWO_ENDPOINTS,
         image: "",
-        changes: "",
-        fails: "35",
+        changes: &[],
+        fails: &[35],
         lines: "\
 create r0 ram 0x20000000 e0 e1\n\
 show r0\n\
@@ -229,13 +229,13 @@ node e1 0 00000000 00000001 20000000 00000000 00001610 00000000 00000000\n\
 slot 0 e0 0x0\n\
 slot 1 e1 0x0\n",
     },
-    // The second write of a release fails.
     Script {
+        name: "the second write of a release fails",
         table: TWO_BRIDGES,
         topology: TWO_ENDPOINTS,
         image: "",
-        changes: "",
-        fails: "36",
+        changes: &[],
+        fails: &[36],
         lines: "\
 create r0 ram 0x20000000 e0 e1\n\
 destroy r0\n\
@@ -246,13 +246,13 @@ created r0 window 0 base 0x100000000 size 0x20000000 gran 256 ways 2\n\
 bus fault undone\n\
 destroyed r0\n",
     },
-    // The first write of a release fails.
     Script {
+        name: "the first write of a release fails",
         table: TWO_BRIDGES,
         topology: TWO_ENDPOINTS,
         image: "",
-        changes: "",
-        fails: "35",
+        changes: &[],
+        fails: &[35],
         lines: "\
 create r0 ram 0x20000000 e0 e1\n\
 destroy r0\n\
@@ -263,13 +263,13 @@ created r0 window 0 base 0x100000000 size 0x20000000 gran 256 ways 2\n\
 bus fault undone\n\
 destroyed r0\n",
     },
-    // The third write of a release fails.
     Script {
+        name: "the third write of a release fails",
         table: TWO_BRIDGES,
         topology: TWO_ENDPOINTS,
         image: "",
-        changes: "",
-        fails: "37",
+        changes: &[],
+        fails: &[37],
         lines: "\
 create r0 ram 0x20000000 e0 e1\n\
 destroy r0\n\
@@ -280,13 +280,13 @@ created r0 window 0 base 0x100000000 size 0x20000000 gran 256 ways 2\n\
 bus fault undone\n\
 destroyed r0\n",
     },
-    // The last write of a release fails.
     Script {
+        name: "the last write of a release fails",
         table: TWO_BRIDGES,
         topology: TWO_ENDPOINTS,
         image: "",
-        changes: "",
-        fails: "38",
+        changes: &[],
+        fails: &[38],
         lines: "\
 create r0 ram 0x20000000 e0 e1\n\
 destroy r0\n\

@@ -6,7 +6,8 @@ use crate::host_files::{
     FIRST_REGION, FIVE_LEVELS, FOUR_ENDPOINTS, SIX_ENDPOINTS, SIX_ON_SIX, THREE_SMALL_ENDPOINTS,
     TWELVE_ENDPOINTS, TWO_ENDPOINTS, TWO_ENDPOINTS_FORWARDED,
 };
-use crate::rows::{ROOM, bytes, changed, files_of, has_passed, numbers, sink_of, words_of};
+use crate::rows::Change::{self, Word};
+use crate::rows::{ROOM, bytes, changed, files_of, has_passed, sink_of, words_of};
 use crate::tables::{
     ONE_BRIDGE, SERVER, SIX_BRIDGES, SIX_BRIDGES_XOR, THREE_BRIDGES, THREE_BRIDGES_SMALL,
     TWO_BRIDGES, TWO_BRIDGES_XOR, TWO_WINDOWS,
@@ -18,14 +19,15 @@ use cxl_shell::run;
 use std::alloc::Global;
 use std::process::Abort;
 
-/// A host, the calls of the bus that fail (the endpoints' blocks are enabled by the first of them), a script, and what it
-/// comes to. Places and values of bytes are changes of the image.
+/// A name, a host with changes of its image, the calls of the bus that fail (the endpoints' blocks are enabled by the first of
+/// them), a script, and what it comes to.
 pub(crate) struct Script {
+    pub(crate) name: &'static str,
     pub(crate) table: &'static str,
     pub(crate) topology: &'static str,
     pub(crate) image: &'static str,
-    pub(crate) changes: &'static str,
-    pub(crate) fails: &'static str,
+    pub(crate) changes: &'static [Change],
+    pub(crate) fails: &'static [u64],
     pub(crate) lines: &'static str,
     pub(crate) code: u8,
     pub(crate) text: &'static str,
@@ -43,7 +45,7 @@ fn words_of_run(rt: &impl Abort, alloc: Global, script: &Script) -> Vec<String> 
 /// The files of a script's host.
 fn files_of_host(rt: &impl Abort, alloc: Global, script: &Script) -> MemFetch {
     let table = bytes(rt, alloc, script.table);
-    let image = changed(rt, alloc, script.image, script.changes, 4);
+    let image = changed(rt, alloc, script.image, script.changes);
     files_of(rt, alloc, table, script.topology, image, 0)
 }
 
@@ -58,7 +60,8 @@ fn comes_to<M: Roll>(rt: &impl Abort, alloc: Global, script: &Script, media: &mu
     let mut files = files_of_host(rt, alloc, script);
     let mut source = source_of(rt, alloc, script);
     let mut sink = sink_of(rt, alloc, ROOM, 0);
-    let mut regs = FailingBus::new(alloc, numbers(rt, alloc, script.fails));
+    let fails = Vec::from_slice(alloc, script.fails).expect(rt, "memory");
+    let mut regs = FailingBus::new(alloc, fails);
     let status = run(
         alloc,
         &words,
@@ -73,12 +76,16 @@ fn comes_to<M: Roll>(rt: &impl Abort, alloc: Global, script: &Script, media: &mu
 
 /// Checks each script, as a run and command by command.
 pub(crate) fn come_to(rt: &(impl Abort + AllocGlobal), scripts: &[Script]) {
-    for (i, script) in scripts.iter().enumerate() {
-        has_passed(rt, i, comes_to_by_commands(rt, rt.alloc(), script));
+    for script in scripts {
+        has_passed(
+            rt,
+            script.name,
+            comes_to_by_commands(rt, rt.alloc(), script),
+        );
         let mut sim = SimMedia::new(rt.alloc());
-        has_passed(rt, i, comes_to(rt, rt.alloc(), script, &mut sim));
+        has_passed(rt, script.name, comes_to(rt, rt.alloc(), script, &mut sim));
         let mut map = MapMedia::new(rt.alloc());
-        has_passed(rt, i, comes_to(rt, rt.alloc(), script, &mut map));
+        has_passed(rt, script.name, comes_to(rt, rt.alloc(), script, &mut map));
     }
 }
 
@@ -88,13 +95,13 @@ fn ways(rt: HostRuntime) {
 }
 
 const WAYS: [Script; 8] = [
-    // Three ways.
     Script {
+        name: "three ways",
         table: THREE_BRIDGES_SMALL,
         topology: THREE_SMALL_ENDPOINTS,
         image: "",
-        changes: "",
-        fails: "",
+        changes: &[],
+        fails: &[],
         lines: "\
 create t ram 0x30000000 e0 e1 e2\n\
 down 0x12fffffff\n",
@@ -103,13 +110,13 @@ down 0x12fffffff\n",
 created t window 0 base 0x100000000 size 0x30000000 gran 256 ways 3\n\
 down 0x12fffffff region t slot 2 position 2 via hb2:0:0 endpoint e2 dpa 0xfffffff\n",
     },
-    // Six ways, two below each of three bridges.
     Script {
+        name: "six ways, two below each of three bridges",
         table: THREE_BRIDGES,
         topology: SIX_ENDPOINTS,
         image: "",
-        changes: "",
-        fails: "",
+        changes: &[],
+        fails: &[],
         lines: "\
 create t ram 0x60000000 e0 e1 e2 e3 e4 e5\n\
 down 0x100000400\n\
@@ -120,13 +127,13 @@ created t window 0 base 0x100000000 size 0x60000000 gran 256 ways 6\n\
 down 0x100000400 region t slot 4 position 1 via hb1:0:0 endpoint e2 dpa 0x0\n\
 down 0x100000600 region t slot 0 position 0 via hb0:0:0 endpoint e0 dpa 0x100\n",
     },
-    // Twelve ways, two below each of six bridges.
     Script {
+        name: "twelve ways, two below each of six bridges",
         table: SIX_BRIDGES,
         topology: TWELVE_ENDPOINTS,
         image: "",
-        changes: "",
-        fails: "",
+        changes: &[],
+        fails: &[],
         lines: "\
 create t ram 0xc0000000 e0 e1 e2 e3 e4 e5 e6 e7 e8 e9 e10 e11\n\
 down 0x100000b00\n",
@@ -135,13 +142,13 @@ down 0x100000b00\n",
 created t window 0 base 0x100000000 size 0xc0000000 gran 256 ways 12\n\
 down 0x100000b00 region t slot 11 position 5 via hb5:0:1 endpoint e11 dpa 0x0\n",
     },
-    // Two ways by XOR.
     Script {
+        name: "two ways by XOR",
         table: TWO_BRIDGES_XOR,
         topology: TWO_ENDPOINTS,
         image: "",
-        changes: "",
-        fails: "",
+        changes: &[],
+        fails: &[],
         lines: "\
 create r0 ram 0x20000000 e0 e1\n\
 down 0x100004000\n\
@@ -152,13 +159,13 @@ created r0 window 0 base 0x100000000 size 0x20000000 gran 256 ways 2\n\
 down 0x100004000 region r0 slot 1 position 1 via hb1:0:0 endpoint e1 dpa 0x2000\n\
 host 0x100004000 region r0\n",
     },
-    // Six ways by XOR.
     Script {
+        name: "six ways by XOR",
         table: SIX_BRIDGES_XOR,
         topology: SIX_ON_SIX,
         image: "",
-        changes: "",
-        fails: "",
+        changes: &[],
+        fails: &[],
         lines: "\
 create t ram 0x60000000 e0 e1 e2 e3 e4 e5\n\
 down 0x100004200\n",
@@ -167,13 +174,13 @@ down 0x100004200\n",
 created t window 0 base 0x100000000 size 0x60000000 gran 256 ways 6\n\
 down 0x100004200 region t slot 1 position 1 via hb1:0:0 endpoint e1 dpa 0xb00\n",
     },
-    // Sixteen ways below five levels of ports.
     Script {
+        name: "sixteen ways below five levels of ports",
         table: ONE_BRIDGE,
         topology: FIVE_LEVELS,
         image: "",
-        changes: "",
-        fails: "",
+        changes: &[],
+        fails: &[],
         lines: "\
 create d ram 0x100000000 e0 e1 e2 e3 e4 e5 e6 e7 e8 e9 e10 e11 e12 e13 e14 e15\n\
 down 0x100000b00\n",
@@ -182,13 +189,13 @@ down 0x100000b00\n",
 created d window 0 base 0x100000000 size 0x100000000 gran 256 ways 16\n\
 down 0x100000b00 region d slot 11 position 0 via hb0:0:0 s0:0:1 s2:0:1 s6:0:0 s13:0:1 endpoint e13 dpa 0x0\n",
     },
-    // Two ways below bridges that forward.
     Script {
+        name: "two ways below bridges that forward",
         table: TWO_BRIDGES,
         topology: TWO_ENDPOINTS_FORWARDED,
         image: "",
-        changes: "",
-        fails: "",
+        changes: &[],
+        fails: &[],
         lines: "\
 create r0 ram 0x20000000 e0 e1\n\
 down 0x100000100\n",
@@ -197,13 +204,13 @@ down 0x100000100\n",
 created r0 window 0 base 0x100000000 size 0x20000000 gran 256 ways 2\n\
 down 0x100000100 region r0 slot 1 position 1 via - endpoint e1 dpa 0x0\n",
     },
-    // Four ways over a whole window of 1 TiB.
     Script {
+        name: "four ways over a whole window of 1 TiB",
         table: SERVER,
         topology: FOUR_ENDPOINTS,
         image: "",
-        changes: "",
-        fails: "",
+        changes: &[],
+        fails: &[],
         lines: "\
 create r0 ram 0x10000000000 e0 e1 e2 e3\n\
 down 0x10fffffffff\n\
@@ -232,13 +239,18 @@ fn firmware(rt: HostRuntime) {
 }
 
 const FIRMWARE: [Script; 4] = [
-    // Locked decoders.
     Script {
+        name: "locked decoders",
         table: TWO_BRIDGES,
         topology: TWO_ENDPOINTS,
         image: FIRST_REGION,
-        changes: "44 0x1700 188 0x1700 332 0x1710 476 0x1710",
-        fails: "",
+        changes: &[
+            Word(44, 0x1700),
+            Word(188, 0x1700),
+            Word(332, 0x1710),
+            Word(476, 0x1710),
+        ],
+        fails: &[],
         lines: "\
 destroy auto0\n\
 load 0x100000000 1\n\
@@ -255,26 +267,32 @@ created b window 0 base 0x120000000 size 0x20000000 gran 256 ways 2\n\
 locked hb0 0\n\
 destroyed b\n",
     },
-    // Decoders that are not locked.
     Script {
+        name: "decoders that are not locked",
         table: TWO_BRIDGES,
         topology: TWO_ENDPOINTS,
         image: FIRST_REGION,
-        changes: "",
-        fails: "",
+        changes: &[],
+        fails: &[],
         lines: "\
 destroy auto0\n",
         code: 0,
         text: "\
 destroyed auto0\n",
     },
-    // Two regions of one way: each is found in its own decoders.
     Script {
+        name: "two regions of one way, each in its own decoders",
         table: TWO_WINDOWS,
         topology: TWO_ENDPOINTS,
         image: FIRST_REGION,
-        changes: "176 2 188 0x1600 332 0x1600 464 2 476 0x1600",
-        fails: "",
+        changes: &[
+            Word(176, 2),
+            Word(188, 0x1600),
+            Word(332, 0x1600),
+            Word(464, 2),
+            Word(476, 0x1600),
+        ],
+        fails: &[],
         lines: "\
 down 0x200000000\n\
 show auto1\n\
@@ -293,13 +311,18 @@ node hb0 0 00000000 00000001 20000000 00000000 00001600 00000000 00000000\n\
 node e0 0 00000000 00000001 20000000 00000000 00001600 00000000 00000000\n\
 slot 0 e0 0x0\n",
     },
-    // An image with a breach.
     Script {
+        name: "an image with a breach",
         table: TWO_BRIDGES,
         topology: TWO_ENDPOINTS,
         image: FIRST_REGION,
-        changes: "348 0x20000000 352 1 356 0x20000000 364 0x1610",
-        fails: "",
+        changes: &[
+            Word(348, 0x2000_0000),
+            Word(352, 1),
+            Word(356, 0x2000_0000),
+            Word(364, 0x1610),
+        ],
+        fails: &[],
         lines: "\
 destroy auto0\n",
         code: 8,
@@ -316,11 +339,12 @@ fn poisoned(rt: HostRuntime) {
 const POISONED: [Script; 3] = [
     // A record past the end of a span, one of no length, a false count, and a list that is cut.
     Script {
+        name: "a record past the end of a span, and lists with a fault",
         table: TWO_BRIDGES,
         topology: TWO_ENDPOINTS,
         image: "",
-        changes: "",
-        fails: "",
+        changes: &[],
+        fails: &[],
         lines: "\
 create r0 ram 0x20000000 e0 e1\n\
 poison e0 0000000000000000000001000000000000000000000000000000000000000000c2ffff0f000000000200000000000000\n\
@@ -341,13 +365,13 @@ poison count 2 1\n\
 poison short\n\
 no such endpoint e2\n",
     },
-    // A record over the end of one region and the start of the next.
     Script {
+        name: "a record over the end of one region and the start of the next",
         table: TWO_BRIDGES,
         topology: TWO_ENDPOINTS,
         image: "",
-        changes: "",
-        fails: "",
+        changes: &[],
+        fails: &[],
         lines: "\
 create a ram 0x20000000 e0 e1\n\
 create b ram 0x20000000 e0 e1\n\
@@ -361,13 +385,13 @@ record 0xfffffc0 length 128 source internal\n\
 run 0x11ffffec0 64 region a\n\
 run 0x120000000 64 region b\n",
     },
-    // A record over two chunks of a region of six ways.
     Script {
+        name: "a record over two chunks of a region of six ways",
         table: THREE_BRIDGES,
         topology: SIX_ENDPOINTS,
         image: "",
-        changes: "",
-        fails: "",
+        changes: &[],
+        fails: &[],
         lines: "\
 create t ram 0x60000000 e0 e1 e2 e3 e4 e5\n\
 poison e2 000000000000000000000100000000000000000000000000000000000000000002000000000000000800000000000000\n",

@@ -4,7 +4,7 @@ ghost use Rattle.cxl_session.specs.Standing.{Stands};
 
 use crate::acts::{HOST, is_answered, opened, replies};
 use crate::host_files::TWO_ENDPOINTS;
-use crate::rows::has_passed;
+use crate::rows::has_passed_at;
 use crate::scripts::Script;
 use crate::tables::TWO_WINDOWS;
 use cxl_bus::{FailingBus, Regs, SimBus};
@@ -18,11 +18,12 @@ use std::process::Abort;
 
 /// Two bridges with an endpoint and a window each, after reset.
 const APART: Script = Script {
+    name: "two windows",
     table: TWO_WINDOWS,
     topology: TWO_ENDPOINTS,
     image: "",
-    changes: "",
-    fails: "",
+    changes: &[],
+    fails: &[],
     lines: "",
     code: 0,
     text: "",
@@ -76,9 +77,10 @@ fn regions_stand_in_order(rt: HostRuntime) {
 
 // ---- the image behind a command that meets a fault
 
-/// A command that writes registers: the lines before it and its own; the line that begins it, to be made in steps; the number
-/// of its first call of the bus and of its writes; and what it is answered.
+/// A command that writes registers: a name of its writes; the lines before it and its own; the line that begins it, to be made
+/// in steps; the number of its first call of the bus and of its writes; and what it is answered.
 struct Writing {
+    name: &'static str,
     before: &'static str,
     line: &'static str,
     begin: &'static str,
@@ -88,6 +90,7 @@ struct Writing {
 }
 
 const CREATE: Writing = Writing {
+    name: "write of a create",
     before: "",
     line: "create r0 ram 0x20000000 e0 e1",
     begin: "begin create r0 ram 0x20000000 e0 e1",
@@ -97,6 +100,7 @@ const CREATE: Writing = Writing {
 };
 
 const RELEASE: Writing = Writing {
+    name: "write of a release",
     before: "create r0 ram 0x20000000 e0 e1",
     line: "destroy r0",
     begin: "begin destroy r0",
@@ -258,8 +262,9 @@ fn is_left_pending_in<R: Regs, M: Roll>(
 fn fails_at_each<M: Roll>(rt: &impl Abort, alloc: Global, writing: &Writing, media: &mut M) {
     for write in 0..writing.writes {
         let left = write == 0 || is_left_pending(rt, alloc, writing, write, media);
-        has_passed(
+        has_passed_at(
             rt,
+            writing.name,
             write as usize,
             left && is_undone(rt, alloc, writing, write, media),
         );

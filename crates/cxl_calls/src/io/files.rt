@@ -1,6 +1,6 @@
 //! Files in memory and of the system.
 
-use crate::common::{list, repeated, shows};
+use crate::common::{list, repeated, row_passes, shows};
 use cxl_io::{Fetch, FetchFault, MemFetch, StdFetch};
 use std::alloc::Global;
 use std::process::Abort;
@@ -75,28 +75,55 @@ fn files(rt: &(impl Abort + AllocGlobal)) -> MemFetch {
     MemFetch::new(files, list(rt, &[4]))
 }
 
-/// The fetches after the first, and what they tell.
-const FETCHES: [(&str, &str); 5] = [
-    ("full", "Ok(1048576)"),
-    ("over", "Err(TooLarge)"),
-    ("table", "Err(Failed)"),
-    ("image", "Err(Failed)"),
-    ("table", "Ok(4)"),
+/// A fetch of a file, and what it tells.
+struct Row {
+    name: &'static str,
+    file: &'static str,
+    told: &'static str,
+}
+
+/// The fetches after the first.
+const FETCHES: &[Row] = &[
+    Row {
+        name: "the most bytes of a file",
+        file: "full",
+        told: "Ok(1048576)",
+    },
+    Row {
+        name: "a byte more",
+        file: "over",
+        told: "Err(TooLarge)",
+    },
+    Row {
+        name: "the fourth fetch",
+        file: "table",
+        told: "Err(Failed)",
+    },
+    Row {
+        name: "a name of no file",
+        file: "image",
+        told: "Err(Failed)",
+    },
+    Row {
+        name: "the first file of a name",
+        file: "table",
+        told: "Ok(4)",
+    },
 ];
 
-fn give<F: Fetch>(alloc: Global, memory: &mut F) -> bool {
-    let mut right = gives(alloc, memory, "table", "CEDT");
-    for (name, want) in &FETCHES {
-        right = tells(alloc, memory, *name, *want) && right;
+fn tell<F: Fetch>(rt: &impl Abort, alloc: Global, memory: &mut F, rows: &[Row]) {
+    for row in rows {
+        row_passes(rt, row.name, tells(alloc, memory, row.file, row.told));
     }
-    right
 }
 
 /// The first file of a name counts, a file may have 1,048,576 bytes, and the fourth fetch is one that
 /// fails.
 #[test]
 fn files_in_memory(rt: HostRuntime) {
-    assert!(rt; give(rt.alloc(), &mut files(&rt)));
+    let mut memory = files(&rt);
+    assert!(rt; gives(rt.alloc(), &mut memory, "table", "CEDT"));
+    tell(&rt, rt.alloc(), &mut memory, FETCHES);
 }
 
 /// Two names are asked for.

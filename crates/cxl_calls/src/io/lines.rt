@@ -45,6 +45,7 @@ pub(super) fn gives<S: Source>(
 
 /// A text, so many letters and a text, the read that fails or 0, and the answers up to the end, which comes twice.
 struct Row {
+    name: &'static str,
     front: &'static str,
     letters: usize,
     rest: &'static str,
@@ -53,8 +54,8 @@ struct Row {
 }
 
 const SOURCES: &[Row] = &[
-    // Lines that end with 0x0a, with 0x0d 0x0a and with the source.
     Row {
+        name: "no byte",
         front: "",
         letters: 0,
         rest: "",
@@ -62,6 +63,7 @@ const SOURCES: &[Row] = &[
         answers: ".|.|",
     },
     Row {
+        name: "an empty line",
         front: "\n",
         letters: 0,
         rest: "",
@@ -69,6 +71,7 @@ const SOURCES: &[Row] = &[
         answers: "|.|.|",
     },
     Row {
+        name: "a line that ends with the source",
         front: "show a",
         letters: 0,
         rest: "",
@@ -76,6 +79,7 @@ const SOURCES: &[Row] = &[
         answers: "show a|.|.|",
     },
     Row {
+        name: "lines that end with 0x0a and with 0x0d 0x0a",
         front: "show a\n",
         letters: 0,
         rest: "down 0x0\r\n",
@@ -83,6 +87,7 @@ const SOURCES: &[Row] = &[
         answers: "show a|down 0x0|.|.|",
     },
     Row {
+        name: "0x0d before an ending and before the end",
         front: "a\r\r\n\r\n\nb\r",
         letters: 0,
         rest: "",
@@ -90,6 +95,7 @@ const SOURCES: &[Row] = &[
         answers: "a\r|||b\r|.|.|",
     },
     Row {
+        name: "an empty line behind another",
         front: "a\n\n",
         letters: 0,
         rest: "",
@@ -98,6 +104,7 @@ const SOURCES: &[Row] = &[
     },
     // A read that fails is final.
     Row {
+        name: "the first read fails",
         front: "a\nb",
         letters: 0,
         rest: "",
@@ -105,6 +112,7 @@ const SOURCES: &[Row] = &[
         answers: "!|!|",
     },
     Row {
+        name: "the second read fails",
         front: "a\nb",
         letters: 0,
         rest: "",
@@ -113,6 +121,7 @@ const SOURCES: &[Row] = &[
     },
     // A line of 4,097 bytes is passed over, one of 4,096 with its ending of two bytes is given.
     Row {
+        name: "a line of 4,097 bytes",
         front: "",
         letters: 4_097,
         rest: "\nend",
@@ -120,6 +129,7 @@ const SOURCES: &[Row] = &[
         answers: "-|end|.|.|",
     },
     Row {
+        name: "a line of 20,000 bytes",
         front: "",
         letters: 20_000,
         rest: "\nend",
@@ -127,6 +137,7 @@ const SOURCES: &[Row] = &[
         answers: "-|end|.|.|",
     },
     Row {
+        name: "a line of 4,096 bytes",
         front: "",
         letters: 4_096,
         rest: "\r\n",
@@ -135,6 +146,7 @@ const SOURCES: &[Row] = &[
     },
     // A script of 16,777,216 bytes is read to its end; one byte more is too much.
     Row {
+        name: "a script of 16,777,216 bytes",
         front: "\n",
         letters: 16_777_215,
         rest: "",
@@ -142,6 +154,7 @@ const SOURCES: &[Row] = &[
         answers: "|-|.|.|",
     },
     Row {
+        name: "a script of a byte more",
         front: "\n",
         letters: 16_777_216,
         rest: "",
@@ -157,11 +170,15 @@ fn is_read(rt: &(impl Abort + AllocGlobal), row: &Row) -> bool {
     gives(rt, &mut MemSource::new(bytes, fails), row.answers)
 }
 
+fn are_read(rt: &(impl Abort + AllocGlobal), rows: &[Row]) {
+    for row in rows {
+        row_passes(rt, row.name, is_read(rt, row));
+    }
+}
+
 #[test]
 fn lines(rt: HostRuntime) {
-    for (i, row) in SOURCES.iter().enumerate() {
-        row_passes(&rt, i, is_read(&rt, row));
-    }
+    are_read(&rt, SOURCES);
 }
 
 /// A reader of the system's interface, here over bytes in memory.

@@ -1,7 +1,7 @@
 //! The windows of a table as a topology lets them be used.
 
 use super::{TABLE, TOPOLOGY, sink};
-use crate::common::passes;
+use crate::common::row_passes;
 use cxl_reads::{Status, windows};
 use std::alloc::Global;
 use std::process::Abort;
@@ -47,16 +47,16 @@ fn tells(rt: &impl Abort, alloc: Global, cedt: &[u8], topo: &[u8], code: u8, lin
 #[test]
 fn windows_of_a_topology(rt: HostRuntime) {
     let told = tells(&rt, rt.alloc(), &TABLE, TOPOLOGY, 0, NO_BRIDGE);
-    passes(&rt, told, "a bridge that the topology lacks");
+    row_passes(&rt, "a bridge that the topology lacks", told);
     let mut table = TABLE;
     table[9] = 0x12;
     table[76] = 0; // the second bridge's version
     let told = tells(&rt, rt.alloc(), &table, TOPOLOGY, 0, NO_CXL2);
-    passes(&rt, told, "a bridge of CXL 1.1");
+    row_passes(&rt, "a bridge of CXL 1.1", told);
     table[76] = 1;
     table[72] = 8; // its UID
     let told = tells(&rt, rt.alloc(), &table, TOPOLOGY, 0, NO_CHBS);
-    passes(&rt, told, "a bridge that the table lacks");
+    row_passes(&rt, "a bridge that the table lacks", told);
     let told = tells(
         &rt,
         rt.alloc(),
@@ -65,31 +65,39 @@ fn windows_of_a_topology(rt: HostRuntime) {
         3,
         "error: table short\n",
     );
-    passes(&rt, told, "no table");
+    row_passes(&rt, "no table", told);
     let told = tells(&rt, rt.alloc(), &TABLE, b"[", 4, "error: topology toml\n");
-    passes(&rt, told, "no topology");
+    row_passes(&rt, "no topology", told);
     let mut short = sink(&rt, rt.alloc(), 6);
     let status = windows(rt.alloc(), &TABLE, TOPOLOGY, &mut short);
-    passes(&rt, matches!(status, Status::WriteFault), "a short room");
-    passes(&rt, short.bytes() == b"window".as_slice(), "what is taken");
+    row_passes(
+        &rt,
+        "the status in a short room",
+        matches!(status, Status::WriteFault),
+    );
+    row_passes(
+        &rt,
+        "what a short room takes",
+        short.bytes() == b"window".as_slice(),
+    );
 }
 
 #[test]
 fn windows_by_xor(rt: HostRuntime) {
     let told = tells(&rt, rt.alloc(), &MAPS, BRIDGES, 0, USABLE);
-    passes(&rt, told, "a map");
+    row_passes(&rt, "a map", told);
     let mut table = MAPS;
     table[9] = 0x2d;
     table[150] = 1;
     let told = tells(&rt, rt.alloc(), &table, BRIDGES, 0, NO_CXIMS);
-    passes(&rt, told, "a map of another granularity");
+    row_passes(&rt, "a map of another granularity", told);
     table[9] = 0x2d;
     table[150] = 0;
     table[153] = 0x42; // bit 9 is the lowest, and not bit 8
     let told = tells(&rt, rt.alloc(), &table, BRIDGES, 0, UNFIT);
-    passes(&rt, told, "a map of another bit");
+    row_passes(&rt, "a map of another bit", told);
     let told = tells(&rt, rt.alloc(), &NO_MAPS, BRIDGES, 0, FEW);
-    passes(&rt, told, "too few maps");
+    row_passes(&rt, "too few maps", told);
 }
 
 const NO_BRIDGE: &str = "\

@@ -1,6 +1,5 @@
 //! Plans: why there is none, and what one has.
 
-ghost use Rattle.std.specs.Prelude.{◌≡◌, All, length, IsTrue};
 ghost use Rattle.cxl_reply.specs.Plans.{IsToldPlan};
 
 use super::regions::places;

@@ -1,6 +1,7 @@
 //! Words that are missing or left over, which of two faults counts, and long lines.
 
 use super::*;
+use cxl_script::{BadLine, LINE_LIMIT, Why};
 
 /// The line has this first fault, at this place.
 fn is_bad(rt: &impl AllocGlobal, line: &[u8], at: u32, why: Why) -> bool {
@@ -16,10 +17,10 @@ pub(super) struct FaultRow {
 
 pub(super) fn are_bad(rt: &(impl Abort + AllocGlobal), rows: &[FaultRow]) {
     for row in rows {
-        passes(
+        row_passes(
             rt,
-            is_bad(rt, row.line.as_bytes(), row.at, row.why),
             row.line,
+            is_bad(rt, row.line.as_bytes(), row.at, row.why),
         );
     }
 }
@@ -474,7 +475,7 @@ fn is_long(rt: &(impl Abort + AllocGlobal), first: &str, len: usize) -> bool {
 #[test]
 fn long_lines(rt: HostRuntime) {
     for first in &["#", "abort", "bring"] {
-        passes(&rt, !is_long(&rt, *first, LINE_LIMIT), *first);
-        passes(&rt, is_long(&rt, *first, LINE_LIMIT + 1), *first);
+        row_passes(&rt, *first, !is_long(&rt, *first, LINE_LIMIT));
+        row_passes(&rt, *first, is_long(&rt, *first, LINE_LIMIT + 1));
     }
 }

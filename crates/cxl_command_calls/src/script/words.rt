@@ -2,6 +2,7 @@
 
 use super::faults::{FaultRow, are_bad};
 use super::*;
+use cxl_script::Why;
 
 /// The word after the size is a granularity only in its own place, and so is a number of ways.
 const NAMES_AND_KINDS: &[FaultRow] = &[

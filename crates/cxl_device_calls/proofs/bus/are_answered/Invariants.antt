@@ -1,5 +1,5 @@
 use Rattle.cxl_regs.specs.Blocks.{HasPlacesOf}
 use Rattle.cxl_device_calls.proofs.bus.are_answered.Given as goal
 
-abbrev pub invariant-loop-i : goal.invariant-loop-i
-invariant-loop-i g l = HasPlacesOf l.blocks l.bus.blocks
+abbrev pub invariant-loop-call : goal.invariant-loop-call
+invariant-loop-call g l = HasPlacesOf l.blocks l.bus.blocks

@@ -1,4 +1,3 @@
-use Rattle.std.proofs.Common.{refl}
 use Rattle.cxl_worked.specs.Examples.{two_bridges}
 use Rattle.cxl_device_calls.proofs.worked.weave_of_two.Goals as goal
 
